@@ -1,0 +1,3 @@
+pub mod TwosComplement
+pub mod Names
+pub mod Inputs

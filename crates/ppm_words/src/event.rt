@@ -1,0 +1,11 @@
+//! What a watcher is told.
+
+/// One event of a run: at the step `step`, the processor at `place` made `value` of the word `word`.
+/// Steps, places and words count from 0.
+#[derive(Clone, Copy, Debug, PartialEq, Eq)]
+pub struct Event {
+    pub step: u32,
+    pub place: u32,
+    pub word: u32,
+    pub value: u64,
+}

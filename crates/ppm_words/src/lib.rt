@@ -1,0 +1,26 @@
+//! Words of 64 bits, and the types that several layers speak of.
+//! Model: a name is the list of its bytes, `Items` and `Input` are lists; a word stands for a signed number (`specs/TwosComplement.antt`).
+//! Contract: a signed number goes into a word and comes back as it was; a name and an input keep their limits.
+//! Stands on `std`; all layers above stand on it.
+//! After two's complement for the words; the limits are the language's.
+#![tactic(auto)]
+
+mod event;
+mod input;
+mod items;
+mod name;
+mod named_array;
+mod no_memory;
+mod outcome;
+mod trap;
+mod value;
+
+pub use event::Event;
+pub use input::Input;
+pub use items::Items;
+pub use name::Name;
+pub use named_array::NamedArray;
+pub use no_memory::NoMemory;
+pub use outcome::Outcome;
+pub use trap::Trap;
+pub use value::{of_word, to_word};
