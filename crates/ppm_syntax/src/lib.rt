@@ -1,0 +1,15 @@
+//! The language's front end: from the bytes of a text to an admitted tree.
+//! Model: a text is cut into tokens (`specs/Cutting.antt`), a tree is derived from them (`specs/Grammar.antt`), within
+//! limits (`specs/Limits.antt`) and by the rules of regions (`specs/Rules.antt`); `specs/Meaning.antt` says what it does.
+//! Contract: `read_source` answers a text's one tree, or refuses exactly the texts that have none.
+//! Stands on `ppm_words`; `ppm_top` reads, compiles and judges by it.
+#![tactic(auto)]
+
+mod reading;
+mod source;
+mod token;
+mod tree;
+
+pub use reading::{SourceError, read_source};
+pub use source::{Admitted, Source};
+pub use tree::{Array, Expr, Mode, Operator, Param, Proc, Stmt, Tree};

@@ -1,0 +1,102 @@
+//! A source's tree within the limits, and an admitted one.
+ghost use Rattle.std.specs.Prelude.{◌≡◌};
+ghost use Rattle.ppm_syntax.specs.Tree.{tree_of};
+ghost use Rattle.ppm_syntax.specs.Limits.{IsWithin};
+ghost use Rattle.ppm_syntax.specs.Rules.{IsAdmitted};
+ghost use Rattle.ppm_syntax.specs.Meaning.{opening};
+
+use crate::tree::Tree;
+use ppm_words::Input;
+use std::marker::Model;
+
+/// A tree that passes none of the limits: 64 arrays, 4,194,304 array words, one procedure, 12 parameters, 48 nodes
+/// in the expressions of a statement, literals to 2^63 - 1.
+#[derive(Drop)]
+pub struct Source {
+    tree: Tree,
+}
+
+impl Model for Source {
+    ghost use Rattle.std.specs.Coded.{codes};
+    ghost use Rattle.ppm_syntax.specs.declared.tree.Tree.{Tree};
+    ghost use Rattle.ppm_syntax.specs.contracts.tree.Expr as expr;
+    ghost use Rattle.ppm_syntax.specs.Tree.{tree_of};
+    ghost use Rattle.ppm_syntax.specs.Limits.{IsWithin};
+
+    ghost Value = { Tree };
+
+    ghost coded = { Prim.hlevel (codes, expr.the_row.coded) };
+
+    ghost view = { λ s. s.tree };
+
+    ghost invariant = { λ s. IsWithin (tree_of s.tree) };
+}
+
+impl Source {
+    /// The source with this tree.
+    pub fn from_tree(tree: Tree) -> Self
+        requires { IsWithin (tree_of tree) }
+        ensures { result ≡ tree }
+    {
+        Source { tree }
+    }
+
+    /// Its tree.
+    pub fn tree(&self) -> &Tree
+        ensures value { result.now ≡ self.now }
+        ensures limits { IsWithin (tree_of self.now) }
+    {
+        &self.tree
+    }
+}
+
+/// A source that keeps the rules of names and regions, with the arrays that it starts with.
+#[derive(Drop)]
+pub struct Admitted {
+    source: Source,
+    input: Input,
+}
+
+impl Model for Admitted {
+    ghost use Rattle.std.specs.Prelude.{◌≡◌};
+    ghost use Rattle.std.specs.Coded.{codes};
+    ghost use Rattle.ppm_syntax.specs.declared.tree.Tree.{Tree};
+    ghost use Rattle.ppm_syntax.specs.contracts.tree.Expr as expr;
+    ghost use Rattle.ppm_syntax.specs.Tree.{tree_of};
+    ghost use Rattle.ppm_syntax.specs.Rules.{IsAdmitted};
+    ghost use Rattle.ppm_syntax.specs.Meaning.{opening};
+
+    ghost Value = { Tree };
+
+    ghost coded = { Prim.hlevel (codes, expr.the_row.coded) };
+
+    ghost view = { λ a. a.source };
+
+    ghost invariant = { λ a. IsAdmitted (tree_of a.source) × (a.input ≡ opening (tree_of a.source)) };
+}
+
+impl Admitted {
+    /// The source with its arrays.
+    pub(crate) fn from_parts(source: Source, input: Input) -> Self
+        requires admitted { IsAdmitted (tree_of source) }
+        requires input { input ≡ opening (tree_of source) }
+        ensures { result ≡ source }
+    {
+        Admitted { source, input }
+    }
+
+    /// The source that was admitted.
+    pub fn source(&self) -> &Source
+        ensures value { result.now ≡ self.now }
+        ensures admitted { IsAdmitted (tree_of self.now) }
+    {
+        &self.source
+    }
+
+    /// Its arrays with the values that they start with.
+    pub fn input(&self) -> &Input
+        ensures value { result.now ≡ opening (tree_of self.now) }
+    {
+        &self.input
+    }
+}
