@@ -1,5 +1,5 @@
 -- What a source means, run serially: the arrays in the end, or the first trap.
-use Rattle.std.specs.Prelude.{ℕ, zero, suc, ◌+◌, ◌^◌, ℤ, pos, negsuc, ◌+ℤ◌, Bool, List, [], ◌∷◌, map, length, replicate, Option, Some, None, Result, Ok, Err, nat_lt, get_or, set, codes, if◌then◌else◌}
+use Rattle.std.specs.Prelude.{◌≡◌, ◌≢◌, ℕ, zero, suc, ◌+◌, ◌^◌, ℤ, pos, negsuc, ◌+ℤ◌, Bool, List, [], ◌∷◌, map, length, replicate, Option, Some, None, Result, Ok, Err, nat_lt, get_or, set, codes, if◌then◌else◌}
 use Rattle.std.specs.Str.{bytes_eq}
 use Rattle.ppm_words.specs.declared.named_array.NamedArray.{NamedArray}
 use Rattle.ppm_words.specs.declared.outcome.Outcome.{Outcome}
@@ -158,3 +158,11 @@ outcome_of arrays OutOfTurns = outcome.NotWithin
 -- the serial meaning of a source, within so many turns
 abbrev pub serial : ℕ → SourceTree → Outcome
 serial turns t = outcome_of (opening t) (run_main t.arrays (procedure_named t.procs (codes "main")) (values_of (opening t)) turns)
+
+-- the outcome of a source: what its run comes to within some number of turns
+abbrev pub IsOutcome : SourceTree → Outcome → Type 0
+IsOutcome t o = (turns : ℕ) × (serial turns t ≡ o) × (o ≢ outcome.NotWithin)
+
+-- more turns never change an outcome that is there
+abbrev pub MoreTurnsKeep : Type 0
+MoreTurnsKeep = (turns more : ℕ) (t : SourceTree) → serial turns t ≢ outcome.NotWithin → serial (turns + more) t ≡ serial turns t
