@@ -4,4 +4,5 @@ pub mod Grammar
 pub mod Limits
 pub mod Rules
 pub mod Meaning
+pub mod Parsing
 pub mod Correct
