@@ -1,1 +1,5 @@
 pub mod Unique
+pub mod GrammarLemmas
+pub mod Refusals
+pub mod ExpressionLemmas
+pub mod OperandLemmas

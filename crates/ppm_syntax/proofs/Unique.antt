@@ -59,7 +59,7 @@ no_comma [] h = tt
 no_comma (t ∷ ts) h = λ is. cc
 
 -- no operator, so no more
-stopped : (n : ℕ) (t : Token) (ts : List Token) (o : Operator) → NoOperator (suc n) (t ∷ ts) → operator_at (suc n) t.kind ≡ Some o → ⊥
+pub stopped : (n : ℕ) (t : Token) (ts : List Token) (o : Operator) → NoOperator (suc n) (t ∷ ts) → operator_at (suc n) t.kind ≡ Some o → ⊥
 stopped n t ts o h is = let none = h (suc n) (omega arith) in cc
 
 -- the node and what is left

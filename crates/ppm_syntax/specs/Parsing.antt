@@ -1,15 +1,15 @@
 -- What the parser's functions answer: how far a part goes, and which readings a refusal rules out.
-use Rattle.std.specs.Prelude.{◌≡◌, ℕ, ◌+◌, ◌≤◌, List, [], ◌∷◌, length, None}
+use Rattle.std.specs.Prelude.{◌≡◌, ℕ, suc, ◌+◌, ◌≤◌, List, [], ◌∷◌, length, None}
 use Rattle.std.specs.List.{All}
 use Rattle.ppm_syntax.specs.declared.token.Keyword.{Keyword}
 use Rattle.ppm_syntax.specs.declared.token.Sign.{Sign}
 use Rattle.ppm_syntax.specs.declared.token.Sign.TheVariants as sign
 use Rattle.ppm_syntax.specs.declared.token.Token.{Token}
 use Rattle.ppm_syntax.specs.declared.tree.Param.{Param}
-use Rattle.ppm_syntax.specs.declared.reading.SourceError.{SourceError}
-use Rattle.ppm_syntax.specs.declared.reading.SourceError.TheVariants as error
+use Rattle.ppm_syntax.specs.declared.syntax_error.SyntaxError.{SyntaxError}
+use Rattle.ppm_syntax.specs.declared.syntax_error.SyntaxError.TheVariants as error
 use Rattle.ppm_syntax.specs.Tree.{Expression, Statement, Procedure}
-use Rattle.ppm_syntax.specs.Grammar.{Part, Level, More, OneStatement, Statements, Block, Parameter, Parameters, MoreParameters, Source, Node, Derives, operator_at, IsName, IsKeyword, IsSign}
+use Rattle.ppm_syntax.specs.Grammar.{Part, Level, More, OneStatement, Statements, Block, Parameter, Parameters, MoreParameters, Source, Node, Derives, operator_at, top, IsName, IsNumber, IsKeyword, IsSign, expression}
 use Rattle.ppm_syntax.specs.Grammar as grammar
 use Rattle.ppm_syntax.specs.Limits.{nodes_of, HasLiterals, IsSmallStatement, parameter_limit}
 
@@ -17,6 +17,16 @@ use Rattle.ppm_syntax.specs.Limits.{nodes_of, HasLiterals, IsSmallStatement, par
 abbrev pub NoOperator : ℕ → List Token → Type 0
 NoOperator n [] = Unit {0}
 NoOperator n (t ∷ ts) = (m : ℕ) → m ≤ n → operator_at m t.kind ≡ None
+
+-- no operator of the level stands in front
+abbrev pub NoOperatorOf : ℕ → List Token → Type 0
+NoOperatorOf n [] = Unit {0}
+NoOperatorOf n (t ∷ ts) = operator_at n t.kind ≡ None
+
+-- no number stands in front
+abbrev pub NoNumber : List Token → Type 0
+NoNumber [] = Unit {0}
+NoNumber (t ∷ ts) = (n : ℕ) → IsNumber t n → ⊥
 
 -- no name stands in front
 abbrev pub NoName : List Token → Type 0
@@ -32,6 +42,12 @@ HasSign s (t ∷ ts) = IsSign t s
 abbrev pub NoSign : Sign → List Token → Type 0
 NoSign s [] = Unit {0}
 NoSign s (t ∷ ts) = IsSign t s → ⊥
+
+-- a token with the property stands in front
+pub record InFront (P : Token → Type 0) (ts rest : List Token) : Type 0 where
+  pub token : Token
+  pub shape : ts ≡ token ∷ rest
+  pub has : P token
 
 -- what stands in front of the rest cannot go on with the part
 abbrev pub Ends : Part → List Token → Type 0
@@ -49,3 +65,48 @@ Ends Source rest = Unit {0}
 pub record Reads (d : ℕ) (p : Part) (ts : List Token) (node : Node) (rest : List Token) : Type 0 where
   pub derived : Derives d p ts node rest
   pub ends : Ends p rest
+
+-- an error of the parser: a refusal has this reason, and memory can always be refused
+abbrev pub IsRefused : Type 0 → SyntaxError → Type 0
+IsRefused P error.Refused = P
+IsRefused P error.NoMemory = Unit {0}
+
+-- the nodes of the expression that a part begins with
+abbrev pub nodes_before : Part → ℕ
+nodes_before (More n a) = nodes_of a
+nodes_before _ = 0
+
+-- an expression is read, and of the nodes that were left it leaves so many
+pub record ReadsExpression (d room : ℕ) (p : Part) (ts : List Token) (e : Expression) (left : ℕ) (rest : List Token) : Type 0 where
+  pub reads : Reads d p ts (expression e) rest
+  pub nodes : nodes_of e + left ≡ nodes_before p + room
+  pub literals : HasLiterals e
+
+-- no expression of literals with at most so many further nodes can be read
+pub record HasNoExpression (d room : ℕ) (p : Part) (ts : List Token) : Type 0 where
+  pub none : (e : Expression) (rest : List Token) → Reads d p ts (expression e) rest → nodes_of e ≤ nodes_before p + room → HasLiterals e → ⊥
+
+-- the tokens begin with a name and an index in brackets
+pub record IsIndexed (d : ℕ) (ts : List Token) (x : List ℕ) (line : ℕ) (i : Expression) (rest : List Token) : Type 0 where
+  pub inner : ℕ
+  pub deep : d ≡ suc inner
+  pub name : Token
+  pub opened : Token
+  pub closed : Token
+  pub inside : List Token
+  pub shape : ts ≡ name ∷ opened ∷ inside
+  pub is_name : IsName name x
+  pub at : name.line ≡ line
+  pub is_opened : IsSign opened sign.OpenBracket
+  pub index : Derives inner (Level top) inside (expression i) (closed ∷ rest)
+  pub is_closed : IsSign closed sign.CloseBracket
+
+-- a name and an index are read, and of the nodes that were left the index leaves so many
+pub record ReadsIndexed (d room : ℕ) (ts : List Token) (x : List ℕ) (line : ℕ) (i : Expression) (left : ℕ) (rest : List Token) : Type 0 where
+  pub reads : IsIndexed d ts x line i rest
+  pub nodes : nodes_of i + left ≡ room
+  pub literals : HasLiterals i
+
+-- no name and index of at most so many nodes can be read
+pub record HasNoIndexed (d room : ℕ) (ts : List Token) : Type 0 where
+  pub none : (x : List ℕ) (line : ℕ) (i : Expression) (rest : List Token) → IsIndexed d ts x line i rest → nodes_of i ≤ room → HasLiterals i → ⊥

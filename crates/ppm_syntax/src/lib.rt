@@ -5,8 +5,11 @@
 //! Stands on `ppm_words`; `ppm_top` reads, compiles and judges by it.
 #![tactic(auto)]
 
+mod expression;
+mod front;
 mod reading;
 mod source;
+mod syntax_error;
 mod token;
 mod tree;
 
