@@ -15,7 +15,7 @@ use Rattle.ppm_syntax.specs.Grammar.{binary_of, of_level, operator_at, top, IsNa
 use Rattle.ppm_syntax.specs.Grammar as g
 use Rattle.ppm_syntax.specs.Parsing.{NoOperator, NoOperatorOf, NoName, NoNumber, NoSign, InFront, Ends, Reads, ReadsExpression, HasNoExpression, IsIndexed, ReadsIndexed, HasNoIndexed}
 use Rattle.ppm_syntax.proofs.Unique.{stopped, operand_ends, ends_at_close, one_reading}
-use Rattle.ppm_syntax.proofs.GrammarLemmas.{has_node, more_nodes, more_literals}
+use Rattle.ppm_syntax.proofs.GrammarLemmas.{more_nodes, more_literals}
 
 -- no operator has level 0
 no_level : (k : Kind) → of_level 0 (binary_of k) ≡ None

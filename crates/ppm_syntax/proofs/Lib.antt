@@ -3,3 +3,4 @@ pub mod GrammarLemmas
 pub mod Refusals
 pub mod ExpressionLemmas
 pub mod OperandLemmas
+pub mod StatementLemmas

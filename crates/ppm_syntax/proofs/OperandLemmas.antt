@@ -9,13 +9,7 @@ use Rattle.ppm_syntax.specs.Grammar.{top, IsName, IsNumber, IsSign, Part, Level,
 use Rattle.ppm_syntax.specs.Grammar as g
 use Rattle.ppm_syntax.specs.Parsing.{NoName, NoNumber, NoSign, InFront, Reads, ReadsExpression, HasNoExpression, IsIndexed, ReadsIndexed, HasNoIndexed}
 use Rattle.ppm_syntax.proofs.Unique.{ends_at_close, one_reading}
-use Rattle.ppm_syntax.proofs.GrammarLemmas.{has_node}
 use Rattle.ppm_syntax.proofs.ExpressionLemmas.{operand_stops}
-
--- a number in front is the operand
-number_only : {d n : ℕ} {t : Token} {ts rest : List Token} {e : Expression} → IsNumber t n → Derives d (Level 0) (t ∷ ts) (expression e) rest → e ≡ tree.Number (pos n)
-number_only is (g.number is') = cc
-number_only is (g.element is' o i c) = cc
 
 -- an operand that is no number is a name with an index
 record Found (d : ℕ) (ts : List Token) (e : Expression) (rest : List Token) : Type 0 where
@@ -32,9 +26,6 @@ found (g.element {d = d} {n = n} {o = o} {c = c} {x = x} {i = i} {ts = ts} is o_
       shape = refl; is_name = is; at = refl; is_opened = o_is; index = r; is_closed = c_is } }
 
 module _ (d room : ℕ) (ts : List Token) where
-  pub operand_no_room : room ≡ 0 → HasNoExpression d room (Level 0) ts
-  operand_no_room is = record { none = λ e rest r few literals. absurd (omega (arith, has_node e)) }
-
   module _ (some : 0 < room) where
     pub number_read : (n : ℕ) (z : ℤ) (rest : List Token) → InFront (λ t. IsNumber t n) ts rest → z ≡ pos n → n < 2 ^ 63 → ReadsExpression d room (Level 0) ts (tree.Number z) (room - 1) rest
     number_read n z rest front is small = rw (is, front.shape) (record {
@@ -53,17 +44,8 @@ module _ (d room : ℕ) (ts : List Token) where
         let s = found r.derived no_number in
         h.none s.region s.line s.index rest s.indexed (let few' = rw s.is at few in omega arith) (rw s.is at literals) }
 
-  pub number_too_big : (n : ℕ) (rest : List Token) → InFront (λ t. IsNumber t n) ts rest → 2 ^ 63 ≤ n → HasNoExpression d room (Level 0) ts
-  number_too_big n rest front big = record { none = λ e rest' r few literals.
-      let only = number_only front.has (rw front.shape at r.derived) in
-      let small : n < 2 ^ 63 = rw only at literals in
-      absurd (omega arith) }
-
 -- a name and an opened bracket stand in front
 module _ (d room : ℕ) (ts behind inside : List Token) (x : List ℕ) (line : ℕ) (name : InFront (λ t. IsName t x × (t.line ≡ line)) ts behind) (opened : InFront (λ t. IsSign t sign.OpenBracket) behind inside) where
-  pub index_too_deep : d ≡ 0 → HasNoIndexed d room ts
-  index_too_deep is = record { none = λ x' line' i rest r few literals. absurd (omega (arith, r.deep)) }
-
   module _ (some : 0 < d) where
     -- what any reading has inside of the brackets
     inside_of : {x' : List ℕ} {line' : ℕ} {i : Expression} {rest : List Token} (r : IsIndexed d ts x' line' i rest) → Reads (d - 1) (Level top) inside (expression i) (r.closed ∷ rest)
@@ -81,11 +63,3 @@ module _ (d room : ℕ) (ts behind inside : List Token) (x : List ℕ) (line : �
       pub close_refused : NoSign sign.CloseBracket end → HasNoIndexed d room ts
       close_refused none = record { none = λ x' line' i' rest r few literals.
           let o = one_reading index.reads (inside_of r) in (rw o.1 at none) r.is_closed }
-
-      pub indexed_read : (rest : List Token) → InFront (λ t. IsSign t sign.CloseBracket) end rest → ReadsIndexed d room ts x line i left rest
-      indexed_read rest closed = record {
-        reads = record { inner = d - 1; deep = omega arith; name = name.token; opened = opened.token; closed = closed.token; inside = inside;
-          shape = cc (name.shape, opened.shape); is_name = name.has.0; at = name.has.1; is_opened = opened.has;
-          index = rw closed.shape at index.reads.derived; is_closed = closed.has };
-        nodes = omega (arith, index.nodes);
-        literals = index.literals }

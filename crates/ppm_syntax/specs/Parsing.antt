@@ -9,7 +9,7 @@ use Rattle.ppm_syntax.specs.declared.tree.Param.{Param}
 use Rattle.ppm_syntax.specs.declared.syntax_error.SyntaxError.{SyntaxError}
 use Rattle.ppm_syntax.specs.declared.syntax_error.SyntaxError.TheVariants as error
 use Rattle.ppm_syntax.specs.Tree.{Expression, Statement, Procedure}
-use Rattle.ppm_syntax.specs.Grammar.{Part, Level, More, OneStatement, Statements, Block, Parameter, Parameters, MoreParameters, Source, Node, Derives, operator_at, top, IsName, IsNumber, IsKeyword, IsSign, expression}
+use Rattle.ppm_syntax.specs.Grammar.{Part, Level, More, OneStatement, Statements, Block, Parameter, Parameters, MoreParameters, Source, Node, Derives, operator_at, top, IsName, IsNumber, IsKeyword, IsSign, expression, statement, statements}
 use Rattle.ppm_syntax.specs.Grammar as grammar
 use Rattle.ppm_syntax.specs.Limits.{nodes_of, HasLiterals, IsSmallStatement, parameter_limit}
 
@@ -110,3 +110,21 @@ pub record ReadsIndexed (d room : ℕ) (ts : List Token) (x : List ℕ) (line : 
 -- no name and index of at most so many nodes can be read
 pub record HasNoIndexed (d room : ℕ) (ts : List Token) : Type 0 where
   pub none : (x : List ℕ) (line : ℕ) (i : Expression) (rest : List Token) → IsIndexed d ts x line i rest → nodes_of i ≤ room → HasLiterals i → ⊥
+
+-- a statement within the limits is read
+pub record ReadsStatement (d : ℕ) (ts : List Token) (s : Statement) (rest : List Token) : Type 0 where
+  pub reads : Derives d OneStatement ts (statement s) rest
+  pub small : IsSmallStatement s
+
+-- no statement within the limits can be read
+pub record HasNoStatement (d : ℕ) (ts : List Token) : Type 0 where
+  pub none : (s : Statement) (rest : List Token) → Derives d OneStatement ts (statement s) rest → IsSmallStatement s → ⊥
+
+-- statements within the limits are read
+pub record ReadsStatements (d : ℕ) (p : Part) (ts : List Token) (b : List Statement) (rest : List Token) : Type 0 where
+  pub reads : Reads d p ts (statements b) rest
+  pub small : All IsSmallStatement b
+
+-- no statements within the limits can be read
+pub record HasNoStatements (d : ℕ) (p : Part) (ts : List Token) : Type 0 where
+  pub none : (b : List Statement) (rest : List Token) → Reads d p ts (statements b) rest → All IsSmallStatement b → ⊥

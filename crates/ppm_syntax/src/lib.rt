@@ -9,6 +9,7 @@ mod expression;
 mod front;
 mod reading;
 mod source;
+mod statement;
 mod syntax_error;
 mod token;
 mod tree;

@@ -6,7 +6,7 @@ use Rattle.ppm_syntax.specs.Tree.{expression_of}
 use Rattle.ppm_syntax.proofs.GrammarLemmas.{shorter}
 use Rattle.ppm_syntax.proofs.Refusals.{refused_by, exit_by, exit_for}
 use Rattle.ppm_syntax.proofs.ExpressionLemmas.{first_refused, level_read, level_refused, stop_read, no_room, right_refused, again_read, again_refused}
-use Rattle.ppm_syntax.proofs.OperandLemmas.{number_read, number_too_big, operand_no_room, element_read, element_refused, index_refused, close_refused, indexed_read}
+use Rattle.ppm_syntax.proofs.OperandLemmas.{number_read, element_read, element_refused, index_refused, close_refused}
 use Rattle.ppm_syntax.proofs.expression.+expression.Goals as goal
 
 -- no index can be read behind the bracket
