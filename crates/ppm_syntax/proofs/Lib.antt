@@ -4,3 +4,5 @@ pub mod Refusals
 pub mod ExpressionLemmas
 pub mod OperandLemmas
 pub mod StatementLemmas
+pub mod ParameterLemmas
+pub mod DeclarationLemmas

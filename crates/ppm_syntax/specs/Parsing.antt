@@ -2,16 +2,18 @@
 use Rattle.std.specs.Prelude.{◌≡◌, ℕ, suc, ◌+◌, ◌≤◌, List, [], ◌∷◌, length, None}
 use Rattle.std.specs.List.{All}
 use Rattle.ppm_syntax.specs.declared.token.Keyword.{Keyword}
+use Rattle.ppm_syntax.specs.declared.token.Keyword.TheVariants as keyword
 use Rattle.ppm_syntax.specs.declared.token.Sign.{Sign}
 use Rattle.ppm_syntax.specs.declared.token.Sign.TheVariants as sign
 use Rattle.ppm_syntax.specs.declared.token.Token.{Token}
 use Rattle.ppm_syntax.specs.declared.tree.Param.{Param}
+use Rattle.ppm_syntax.specs.declared.tree.Array.{Array}
 use Rattle.ppm_syntax.specs.declared.syntax_error.SyntaxError.{SyntaxError}
 use Rattle.ppm_syntax.specs.declared.syntax_error.SyntaxError.TheVariants as error
 use Rattle.ppm_syntax.specs.Tree.{Expression, Statement, Procedure}
-use Rattle.ppm_syntax.specs.Grammar.{Part, Level, More, OneStatement, Statements, Block, Parameter, Parameters, MoreParameters, Source, Node, Derives, operator_at, top, IsName, IsNumber, IsKeyword, IsSign, expression, statement, statements}
+use Rattle.ppm_syntax.specs.Grammar.{Part, Level, More, OneStatement, Statements, Block, Parameter, Parameters, MoreParameters, Source, Node, Derives, operator_at, top, IsName, IsNumber, IsKeyword, IsSign, expression, statement, statements, parameter, parameters}
 use Rattle.ppm_syntax.specs.Grammar as grammar
-use Rattle.ppm_syntax.specs.Limits.{nodes_of, HasLiterals, IsSmallStatement, parameter_limit}
+use Rattle.ppm_syntax.specs.Limits.{nodes_of, HasLiterals, IsSmallStatement, IsSmall, parameter_limit}
 
 -- no operator of a level up to n stands in front
 abbrev pub NoOperator : ℕ → List Token → Type 0
@@ -32,6 +34,16 @@ NoNumber (t ∷ ts) = (n : ℕ) → IsNumber t n → ⊥
 abbrev pub NoName : List Token → Type 0
 NoName [] = Unit {0}
 NoName (t ∷ ts) = (x : List ℕ) → IsName t x → ⊥
+
+-- no keyword stands in front
+abbrev pub NoKeyword : List Token → Type 0
+NoKeyword [] = Unit {0}
+NoKeyword (t ∷ ts) = (k : Keyword) → IsKeyword t k → ⊥
+
+-- the keyword doesn't stand in front
+abbrev pub NoWord : Keyword → List Token → Type 0
+NoWord k [] = Unit {0}
+NoWord k (t ∷ ts) = IsKeyword t k → ⊥
 
 -- the sign stands in front
 abbrev pub HasSign : Sign → List Token → Type 0
@@ -128,3 +140,62 @@ pub record ReadsStatements (d : ℕ) (p : Part) (ts : List Token) (b : List Stat
 -- no statements within the limits can be read
 pub record HasNoStatements (d : ℕ) (p : Part) (ts : List Token) : Type 0 where
   pub none : (b : List Statement) (rest : List Token) → Reads d p ts (statements b) rest → All IsSmallStatement b → ⊥
+
+-- no parameter can be read
+pub record HasNoParameter (ts : List Token) : Type 0 where
+  pub none : (p : Param) (rest : List Token) → Derives 0 Parameter ts (parameter p) rest → ⊥
+
+-- parameters within the limit are read, up to the parenthesis that closes them; they have no openings
+pub record ReadsParameters (ts : List Token) (ps : List Param) (rest : List Token) : Type 0 where
+  pub closed : Token
+  pub reads : Reads 0 Parameters ts (parameters ps) (closed ∷ rest)
+  pub few : length ps ≤ parameter_limit
+
+-- no parameters within the limit can be read
+pub record HasNoParameters (ts : List Token) : Type 0 where
+  pub none : (ps : List Param) (rest : List Token) → Reads 0 Parameters ts (parameters ps) rest → length ps ≤ parameter_limit → ⊥
+
+-- the tokens begin with the keyword, a name and the sign
+pub record IsHead (w : Keyword) (s : Sign) (ts : List Token) (x : List ℕ) (line : ℕ) (rest : List Token) : Type 0 where
+  pub word : Token
+  pub name : Token
+  pub opened : Token
+  pub shape : ts ≡ word ∷ name ∷ opened ∷ rest
+  pub is_word : IsKeyword word w
+  pub is_name : IsName name x
+  pub at : name.line ≡ line
+  pub is_opened : IsSign opened s
+
+-- they don't
+pub record HasNoHead (w : Keyword) (s : Sign) (ts : List Token) : Type 0 where
+  pub none : (x : List ℕ) (line : ℕ) (rest : List Token) → IsHead w s ts x line rest → ⊥
+
+-- the tokens begin with the declaration of an array
+pub record IsArray (ts : List Token) (a : Array) (rest : List Token) : Type 0 where
+  pub number : Token
+  pub closed : Token
+  pub semicolon : Token
+  pub head : IsHead keyword.Array sign.OpenBracket ts a.name a.line (number ∷ closed ∷ semicolon ∷ rest)
+  pub is_number : IsNumber number a.length
+  pub is_closed : IsSign closed sign.CloseBracket
+  pub is_semicolon : IsSign semicolon sign.Semicolon
+
+-- no declaration of an array of at most so many words can be read
+pub record HasNoArray (words : ℕ) (ts : List Token) : Type 0 where
+  pub none : (a : Array) (rest : List Token) → IsArray ts a rest → a.length ≤ words → ⊥
+
+-- the tokens begin with a procedure
+pub record IsProcedure (d : ℕ) (ts : List Token) (p : Procedure) (rest : List Token) : Type 0 where
+  pub inner : ℕ
+  pub deep : d ≡ suc inner
+  pub closed : Token
+  pub inside : List Token
+  pub behind : List Token
+  pub head : IsHead keyword.Proc sign.OpenParen ts p.name p.line inside
+  pub params : Derives inner Parameters inside (parameters p.params) (closed ∷ behind)
+  pub is_closed : IsSign closed sign.CloseParen
+  pub body : Derives d Block behind (statements p.body) rest
+
+-- no procedure within the limits can be read
+pub record HasNoProcedure (d : ℕ) (ts : List Token) : Type 0 where
+  pub none : (p : Procedure) (rest : List Token) → IsProcedure d ts p rest → IsSmall p → ⊥

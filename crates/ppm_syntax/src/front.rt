@@ -1,10 +1,10 @@
 //! What stands in front of some tokens.
 ghost use Rattle.std.specs.Prelude.{◌≡◌, MatchOption, MatchResult};
-ghost use Rattle.ppm_syntax.specs.Grammar.{IsName, IsNumber, IsSign, operator_at};
-ghost use Rattle.ppm_syntax.specs.Parsing.{InFront, NoName, NoNumber, NoSign, NoOperatorOf};
+ghost use Rattle.ppm_syntax.specs.Grammar.{IsName, IsNumber, IsKeyword, IsSign, operator_at};
+ghost use Rattle.ppm_syntax.specs.Parsing.{InFront, NoName, NoNumber, NoKeyword, NoWord, NoSign, NoOperatorOf, IsHead, HasNoHead};
 
 use crate::syntax_error::SyntaxError;
-use crate::token::{Kind, Sign, Token};
+use crate::token::{Keyword, Kind, Sign, Token};
 use crate::tree::Operator;
 use ppm_words::Name;
 
@@ -26,6 +26,38 @@ pub fn name(tokens: &[Token]) -> Result<(&Name, u32, &[Token]), SyntaxError>
         [Token { kind: Kind::Name(name), line, .. }, rest @ ..] => Ok((name, *line, rest)),
         _ => Err(SyntaxError::Refused),
     }
+}
+
+/// The keyword in front, and the tokens behind it.
+pub fn keyword(tokens: &[Token]) -> Result<(Keyword, &[Token]), SyntaxError>
+    ensures { MatchResult result (λ r. InFront (λ t. IsKeyword t r.0) tokens.now r.1.now) (λ _. NoKeyword tokens.now) }
+{
+    match tokens {
+        [Token { kind: Kind::Keyword(word), .. }, rest @ ..] => Ok((*word, rest)),
+        _ => Err(SyntaxError::Refused),
+    }
+}
+
+/// The tokens behind the keyword.
+fn take_word(tokens: &[Token], word: Keyword) -> Result<&[Token], SyntaxError>
+    ensures { MatchResult result (λ r. InFront (λ t. IsKeyword t word) tokens.now r.now) (λ _. NoWord word tokens.now) }
+{
+    match tokens {
+        [Token { kind: Kind::Keyword(k), .. }, rest @ ..] if *k == word => Ok(rest),
+        _ => Err(SyntaxError::Refused),
+    }
+}
+
+/// The name in front between the keyword and the sign with its line, and the tokens behind them.
+pub fn head(tokens: &[Token], word: Keyword, sign: Sign) -> Result<(&Name, u32, &[Token]), SyntaxError>
+    ensures { MatchResult result
+        (λ r. IsHead word sign tokens.now r.0.now r.1 r.2.now)
+        (λ _. HasNoHead word sign tokens.now) }
+{
+    let behind = take_word(tokens, word)?;
+    let (name, line, end) = name(behind)?;
+    let rest = take(end, sign)?;
+    Ok((name, line, rest))
 }
 
 /// The number in front, and the tokens behind it.

@@ -5,8 +5,10 @@
 //! Stands on `ppm_words`; `ppm_top` reads, compiles and judges by it.
 #![tactic(auto)]
 
+mod declaration;
 mod expression;
 mod front;
+mod parameter;
 mod reading;
 mod source;
 mod statement;
