@@ -132,9 +132,11 @@ one_reading r r' = same r.derived r.ends r'.derived r'.ends
 tree_with : List Array → List Procedure → SourceTree
 tree_with arrays procs = record { arrays = arrays; procs = procs }
 
+-- two trees with the same parts
+pub same_tree : (t u : SourceTree) → t.arrays ≡ u.arrays → t.procs ≡ u.procs → t ≡ u
+unfolding tree_with
+same_tree t u arrays procs = let e : tree_with t.arrays t.procs ≡ tree_with u.arrays u.procs = cc in e
+
 -- tokens have one tree at most
 pub one_tree : {d e : ℕ} {ts : List Token} (t u : SourceTree) → DerivesTree d ts t → DerivesTree e ts u → t ≡ u
-unfolding tree_with
-one_tree t u r r' =
-    let s = same r tt r' tt in
-    let joined : tree_with t.arrays t.procs ≡ tree_with u.arrays u.procs = cc s.0 in joined
+one_tree t u r r' = let s = same r tt r' tt in same_tree t u (cc s.0) (cc s.0)

@@ -9,6 +9,7 @@ mod declaration;
 mod expression;
 mod front;
 mod parameter;
+mod parsing;
 mod reading;
 mod source;
 mod statement;
