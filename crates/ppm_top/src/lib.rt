@@ -5,4 +5,5 @@
 //! The machine and its capsules are after Blelloch, Gibbons, Gu, McGuffey and Shun, SPAA 2018.
 #![tactic(auto)]
 
+mod code;
 mod outcome;

@@ -1,0 +1,2 @@
+pub mod ArraysInWords
+pub mod ExpressionRuns
