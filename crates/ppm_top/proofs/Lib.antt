@@ -1,2 +1,4 @@
 pub mod ArraysInWords
 pub mod ExpressionRuns
+pub mod StatementRuns
+pub mod NamesResolve
