@@ -2,3 +2,5 @@ pub mod ArraysInWords
 pub mod ExpressionRuns
 pub mod StatementRuns
 pub mod NamesResolve
+pub mod BodyRuns
+pub mod WholeRun
