@@ -54,3 +54,9 @@ get_or-bases_from (n ∷ lengths) (suc a) b k h = let rest = get_or-bases_from l
 pub total_of-lengths_of : (arrays : List Array) → total_of (lengths_of arrays) ≡ words_of arrays
 total_of-lengths_of [] = refl
 total_of-lengths_of (a ∷ arrays) = ap (λ n. a.length + n) (total_of-lengths_of arrays)
+
+-- an array has no more words than it and all behind it
+pub length_within : (arrays : List Array) (i : ℕ) (d : Array) → i < length arrays → (get_or arrays i d).length ≤ total_of (lengths_of (drop i arrays))
+length_within [] i d h = absurd (omega arith)
+length_within (a ∷ arrays) zero d h = omega arith
+length_within (a ∷ arrays) (suc i) d h = length_within arrays i d (omega arith)

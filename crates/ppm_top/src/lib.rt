@@ -6,4 +6,8 @@
 #![tactic(auto)]
 
 mod code;
+mod cut;
+mod image;
+mod layout;
+mod machine;
 mod outcome;
