@@ -2,7 +2,7 @@
 ghost use Rattle.std.specs.Prelude.{◌≡◌, ◌<◌, ◌≤◌, ◌+◌, IfOk, get_or};
 ghost use Rattle.ppm_syntax.specs.Limits.{words_of, word_limit};
 ghost use Rattle.ppm_syntax.specs.Meaning.{word_at};
-ghost use Rattle.ppm_top.specs.Machine.{lengths_of, base_of, total_of, address_of};
+ghost use Rattle.ppm_top.specs.Machine.{lengths_of, base_of, total_of, whole, address_of};
 
 use ppm_syntax::Array;
 use ppm_words::{NoMemory, Trap};
@@ -28,16 +28,11 @@ impl Model for Layout {
     ghost invariant = { λ l. (l.bases.items ≡ bases_from 0 l.lengths.items) × (total_of l.lengths.items ≤ word_limit) };
 }
 
-/// The word of a whole array that an index names, from 0; a trap in this line where there is none.
-fn word_at(line: u32, length: u32, index: i64) -> Result<usize, (Trap, u32)>
-    ensures word { result ≡ word_at line (record { array = 0; start = 0; length = length }) index }
-    ensures within { IfOk result (λ k. k < length) }
+/// A number of a table; 0 past its end.
+fn number_at(table: &[u32], place: u32) -> u32
+    ensures { result ≡ get_or table.now place 0 }
 {
-    if index >= 0 && index < length as i64 {
-        Ok(index as usize)
-    } else {
-        Err((Trap::Index, line))
-    }
+    table.get(place as usize).copied().unwrap_or(0)
 }
 
 impl Layout {
@@ -57,6 +52,19 @@ impl Layout {
         Ok(Layout { lengths, bases })
     }
 
+    /// The word of an array that an index names, from 0; a trap in this line where there is none.
+    fn word_at(&self, array: u32, line: u32, index: i64) -> Result<usize, (Trap, u32)>
+        ensures word { result ≡ word_at line (whole self.now array) index }
+        ensures within { IfOk result (λ word. word < get_or self.now array 0) }
+    {
+        let length = number_at(&self.lengths, array);
+        if index >= 0 && index < length as i64 {
+            Ok(index as usize)
+        } else {
+            Err((Trap::Index, line))
+        }
+    }
+
     /// Where an array begins that has such a word.
     fn base(&self, array: u32, word: usize) -> u32
         requires has { word < get_or self.now array 0 }
@@ -65,7 +73,7 @@ impl Layout {
         ensures few { total_of self.now ≤ word_limit }
     {
         let _ = word;
-        self.bases.get(array as usize).copied().unwrap_or(0)
+        number_at(&self.bases, array)
     }
 
     /// The place of an element; a trap in this line where the index is outside the array.
@@ -73,8 +81,7 @@ impl Layout {
         ensures place { result ≡ address_of self.now array line index }
         ensures within { IfOk result (λ place. place < total_of self.now) }
     {
-        let length = self.lengths.get(array as usize).copied().unwrap_or(0);
-        let word = word_at(line, length, index)?;
+        let word = self.word_at(array, line, index)?;
         Ok(self.base(array, word) as usize + word)
     }
 }
