@@ -4,3 +4,4 @@ pub mod StatementRuns
 pub mod NamesResolve
 pub mod BodyRuns
 pub mod WholeRun
+pub mod NameSearch

@@ -15,7 +15,7 @@ use Rattle.ppm_syntax.specs.Tree.{Statement, Procedure, SourceTree}
 use Rattle.ppm_syntax.specs.Limits.{IsSmall, IsWithin}
 use Rattle.ppm_syntax.specs.Rules.{KeepsRules, IsMain, IsLawful, IsAdmitted}
 use Rattle.ppm_syntax.specs.Meaning.{Stop, Frame, Ending, main_frame, procedure_named, run_main, run_statements, at_once, opening, values_of, with_names, outcome_of, serial, IsOutcome}
-use Rattle.ppm_top.specs.Code.{code_of}
+use Rattle.ppm_top.specs.Code.{code_of, IsAlone}
 use Rattle.ppm_top.specs.Machine.{State, run_capsules, lengths_of, total_of, arrays_of, named_arrays, words_from}
 use Rattle.ppm_top.proofs.StatementRuns.{IsSound, Becomes}
 use Rattle.ppm_top.proofs.BodyRuns.{after_all, run_statements-after_all, body_right}
@@ -60,10 +60,6 @@ with_names-arrays_of [] words = refl
 with_names-arrays_of (a ∷ arrays) words =
     let first : NamedArray = record { name = a.name; values = map value_of (take a.length words) } in
     ap (λ rest. first ∷ rest) (with_names-arrays_of arrays (drop a.length words))
-
--- the source has this procedure alone
-abbrev pub IsAlone : SourceTree → Procedure → Type 0
-IsAlone t main = t.procs ≡ main ∷ []
 
 -- the machine before a run: two slots, and the words of the input
 pub record IsStart (t : SourceTree) (s : State) : Type 0 where

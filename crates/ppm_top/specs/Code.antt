@@ -1,9 +1,9 @@
 -- The code of a procedure's body: two capsules for each assignment, and one that ends the run.
-use Rattle.std.specs.Prelude.{ℕ, ◌+◌, List, [], ◌∷◌, ◌++◌, max}
+use Rattle.std.specs.Prelude.{◌≡◌, ℕ, ◌+◌, List, [], ◌∷◌, ◌++◌, max}
 use Rattle.std.specs.List.{flat_map}
 use Rattle.ppm_syntax.specs.declared.tree.Operator.{Operator}
 use Rattle.ppm_syntax.specs.declared.tree.Operator.TheVariants as operator
-use Rattle.ppm_syntax.specs.Tree.{Expression, Statement}
+use Rattle.ppm_syntax.specs.Tree.{Expression, Statement, Procedure, SourceTree}
 use Rattle.ppm_syntax.specs.Tree as tree
 use Rattle.ppm_syntax.specs.Meaning.{Frame, region_of}
 use Rattle.ppm_top.specs.declared.code.Instr.{Instr}
@@ -57,3 +57,7 @@ abbrev pub reach : ℕ → Expression → ℕ
 reach d (tree.Number z) = d + 1
 reach d (tree.Element x line index) = reach d index
 reach d (tree.Binary o line left right) = max (reach d left) (max (d + 2) (reach (d + 1) right))
+
+-- the source has this procedure alone
+abbrev pub IsAlone : SourceTree → Procedure → Type 0
+IsAlone t main = t.procs ≡ main ∷ []
