@@ -15,8 +15,9 @@ use Rattle.ppm_syntax.specs.Tree.{Statement, Procedure, SourceTree}
 use Rattle.ppm_syntax.specs.Limits.{IsSmall, IsWithin}
 use Rattle.ppm_syntax.specs.Rules.{KeepsRules, IsMain, IsLawful, IsAdmitted}
 use Rattle.ppm_syntax.specs.Meaning.{Stop, Frame, Ending, main_frame, procedure_named, run_main, run_statements, at_once, opening, values_of, with_names, outcome_of, serial, IsOutcome}
+use Rattle.ppm_top.specs.declared.code.Capsule.{Capsule}
 use Rattle.ppm_top.specs.Code.{code_of, IsAlone}
-use Rattle.ppm_top.specs.Machine.{State, run_capsules, lengths_of, total_of, arrays_of, named_arrays, words_from}
+use Rattle.ppm_top.specs.Machine.{State, run_capsules, lengths_of, total_of, arrays_of, named_arrays, words_from, IsStart}
 use Rattle.ppm_top.proofs.StatementRuns.{IsSound, Becomes}
 use Rattle.ppm_top.proofs.BodyRuns.{after_all, run_statements-after_all, body_right}
 use Rattle.ppm_top.proofs.NamesResolve.{HasArray, NamesWhole, names_whole}
@@ -60,11 +61,6 @@ with_names-arrays_of [] words = refl
 with_names-arrays_of (a ∷ arrays) words =
     let first : NamedArray = record { name = a.name; values = map value_of (take a.length words) } in
     ap (λ rest. first ∷ rest) (with_names-arrays_of arrays (drop a.length words))
-
--- the machine before a run: two slots, and the words of the input
-pub record IsStart (t : SourceTree) (s : State) : Type 0 where
-  pub slots : length s.slots ≡ 2
-  pub words : s.words ≡ words_from (opening t)
 
 start_words : (t : SourceTree) (s : State) → IsStart t s → s.words ≡ replicate (total_of (lengths_of t.arrays)) 0
 start_words t s start = start.words ∙ words_from-opened t.arrays
@@ -154,3 +150,22 @@ run_stops t main s stop within admitted alone start e = (
   go : (r : Result (List (List ℤ)) Stop) → Becomes lengths (run_capsules lengths (code_of (main_frame t.arrays main.params) main.body) s) r → r ≡ Err stop
   go (Ok arrays) h = cc (h.1, e)
   go (Err other) h = let same : other ≡ stop = cc (h, e) in ap (λ x. Err x) same
+
+-- the words of a start are enough for the arrays
+pub start_enough : (t : SourceTree) (s : State) (layout : List ℕ) → IsStart t s → layout ≡ lengths_of t.arrays → total_of layout ≤ length s.words
+start_enough t s layout start e = subst (λ lengths. total_of lengths ≤ length s.words) (sym e) (start_sound t s start).enough
+
+-- the same of a run as it was carried out: what it leaves
+pub whole_ends : (t : SourceTree) (main : Procedure) (layout : List ℕ) (code : List Capsule) (s u : State) → IsWithin t → IsAdmitted t → IsAlone t main → IsStart t s → layout ≡ lengths_of t.arrays → code ≡ code_of (main_frame t.arrays main.params) main.body → run_capsules layout code s ≡ Ok u → (arrays : List Array) (words : List ℕ) (result : List NamedArray) → arrays ≡ t.arrays → words ≡ u.words → result ≡ named_arrays arrays words → IsOutcome t (outcome.Ended result)
+whole_ends t main layout code s u within admitted alone start el ec e arrays words result ea ew er =
+    let meant = code_of (main_frame t.arrays main.params) main.body in
+    let run : run_capsules (lengths_of t.arrays) meant s ≡ Ok u = ap (λ lengths. run_capsules lengths meant s) (sym el) ∙ ap (λ is. run_capsules layout is s) (sym ec) ∙ e in
+    let same : result ≡ named_arrays t.arrays u.words = er ∙ ap (λ a. named_arrays a words) ea ∙ ap (named_arrays t.arrays) ew in
+    subst (λ named. IsOutcome t (outcome.Ended named)) (sym same) (run_ends t main s u within admitted alone start run)
+
+-- and where it stops
+pub whole_stops : (t : SourceTree) (main : Procedure) (layout : List ℕ) (code : List Capsule) (s : State) (stop : Stop) → IsWithin t → IsAdmitted t → IsAlone t main → IsStart t s → layout ≡ lengths_of t.arrays → code ≡ code_of (main_frame t.arrays main.params) main.body → run_capsules layout code s ≡ Err stop → IsOutcome t (outcome.Trapped stop.0 stop.1)
+whole_stops t main layout code s stop within admitted alone start el ec e =
+    let meant = code_of (main_frame t.arrays main.params) main.body in
+    let run : run_capsules (lengths_of t.arrays) meant s ≡ Err stop = ap (λ lengths. run_capsules lengths meant s) (sym el) ∙ ap (λ is. run_capsules layout is s) (sym ec) ∙ e in
+    run_stops t main s stop within admitted alone start run

@@ -1,11 +1,12 @@
 -- The machine over plain words: registers, two slots, and the arrays one after the other.
-use Rattle.std.specs.Prelude.{◌≡◌, ℕ, zero, suc, ◌+◌, ℤ, pos, List, [], ◌∷◌, map, take, drop, get_or, set, replicate, Result, Ok, Err}
+use Rattle.std.specs.Prelude.{◌≡◌, ℕ, zero, suc, ◌+◌, ℤ, pos, List, [], ◌∷◌, length, map, take, drop, get_or, set, replicate, Result, Ok, Err}
 use Rattle.std.specs.List.{flat_map}
 use Rattle.ppm_words.specs.TwosComplement.{word_of, value_of}
 use Rattle.ppm_words.specs.declared.named_array.NamedArray.{NamedArray}
 use Rattle.ppm_syntax.specs.declared.tree.Operator.TheVariants as operator
 use Rattle.ppm_syntax.specs.declared.tree.Array.{Array}
-use Rattle.ppm_syntax.specs.Meaning.{Stop, Region, then_with, applied, word_at}
+use Rattle.ppm_syntax.specs.Tree.{SourceTree}
+use Rattle.ppm_syntax.specs.Meaning.{opening, Stop, Region, then_with, applied, word_at}
 use Rattle.ppm_top.specs.declared.code.Instr.{Instr}
 use Rattle.ppm_top.specs.declared.code.Instr.TheVariants.{Const, Add, Get, Put, LoadSlot, StoreCur}
 use Rattle.ppm_top.specs.declared.code.Exit.{Exit}
@@ -105,6 +106,11 @@ abbrev pub run_capsules : List ℕ → List Capsule → State → Result State S
 run_capsules lengths [] s = Ok s
 run_capsules lengths (c ∷ code) s =
     then_with (steps lengths c.body (cleared s)) (λ t. go_on c.exit (λ u. run_capsules lengths code u) t)
+
+-- the machine before a run of a source: two slots, and the words of its arrays
+pub record IsStart (t : SourceTree) (s : State) : Type 0 where
+  pub slots : length s.slots ≡ 2
+  pub words : s.words ≡ words_from (opening t)
 
 -- a call that changes the state did what a definition says
 abbrev pub Did : Result Unit Stop → Result State Stop → State → Type 0

@@ -4,6 +4,7 @@ ghost use Rattle.ppm_syntax.specs.Tree.{procedure_of, tree_of};
 ghost use Rattle.ppm_syntax.specs.Meaning.{main_frame, IsOutcome};
 ghost use Rattle.ppm_top.specs.Bounds.{FitsCode};
 ghost use Rattle.ppm_top.specs.Code.{code_of, IsAlone};
+ghost use Rattle.ppm_top.specs.Machine.{IsStart};
 
 use crate::code::Capsule;
 use crate::cut::{CutError, cut};
@@ -37,7 +38,15 @@ impl From<NoMemory> for OutcomeError {
     }
 }
 
-/// The outcome of a code, run from the words of the source's arrays.
+/// The machine before a run of the source.
+fn start(alloc: Global, admitted: &Admitted) -> Result<Machine, NoMemory>
+    ensures start { IfOk result (IsStart (tree_of admitted.now)) }
+{
+    let words = to_words(alloc, admitted.input().arrays())?;
+    Ok(Machine::new(words))
+}
+
+/// The outcome of the source, whose code this is.
 fn run(alloc: Global, admitted: &Admitted, main: &Proc, code: &[Capsule]) -> Result<Outcome, NoMemory>
     requires alone { IsAlone (tree_of admitted.now) (procedure_of main.now) }
     requires code { code.now ≡ code_of (main_frame admitted.now.arrays main.now.params) (procedure_of main.now).body }
@@ -45,7 +54,7 @@ fn run(alloc: Global, admitted: &Admitted, main: &Proc, code: &[Capsule]) -> Res
 {
     let arrays = admitted.source().tree().arrays.as_slice();
     let layout = Layout::from_arrays(alloc, arrays)?;
-    let mut machine = Machine::new(to_words(alloc, admitted.input().arrays())?);
+    let mut machine = start(alloc, admitted)?;
     match machine.run(&layout, code) {
         Ok(()) => {
             let named = to_arrays(alloc, arrays, machine.words())?;
