@@ -40,8 +40,8 @@ pub body_right : (lengths : List ℕ) (frame : Frame) (body : List Statement) (s
 body_right lengths frame [] s sound small names = (cleared s, refl, (refl, record { slots = sound.slots; enough = sound.enough; fits = sound.fits }))
 body_right lengths frame (tree.Put x line index value ∷ body) s sound small names =
     go (λ t sound. body_right lengths frame body t sound (All-tail IsSmallStatement put body small) (All-tail (NamesWhole lengths frame) put body names))
-        (after frame (arrays_of lengths s.words) put)
-        (pair_right lengths frame x line index value s sound room_i room_v own.literals.0 own.literals.1 name.0 name.1 name.2)
+    (after frame (arrays_of lengths s.words) put)
+    (pair_right lengths frame x line index value s sound room_i room_v own.literals.0 own.literals.1 name.0 name.1 name.2)
   where
     put : Statement
     put = tree.Put x line index value

@@ -136,7 +136,7 @@ expression_right lengths frame (tree.Element x line index) d s room enough reads
     (λ z t l.
     let within : d < length t.registers = omega (arith, l.size) in
     subst (λ w. Ends lengths (Get d a d line ∷ []) t s d (then_with w (λ k. Ok (get_or (array_at (arrays_of lengths s.words) a) k (pos 0)))))
-        (sym (ap (λ r. word_at line r z) reads.0)) (get_right lengths s t a d line z enough within l))
+    (sym (ap (λ r. word_at line r z) reads.0)) (get_right lengths s t a d line z enough within l))
 expression_right lengths frame (tree.Binary o line left right) d s room enough reads =
     let all : max (reach d left) (max (d + 2) (reach (d + 1) right)) ≤ length s.registers = room in
     let room_left : reach d left ≤ length s.registers = omega arith in
@@ -148,5 +148,5 @@ expression_right lengths frame (tree.Binary o line left right) d s room enough r
     let enough_right : total_of lengths ≤ length t.words = rw l.words enough in
     then_right lengths (expression_code frame (d + 1) right) last t t s (d + 1) d _ _
     (subst (λ ws. Ends lengths (expression_code frame (d + 1) right) t t (d + 1) (evaluate frame (arrays_of lengths ws) right)) l.words
-        (expression_right lengths frame right (d + 1) t room_right enough_right reads.1))
+    (expression_right lengths frame right (d + 1) t room_right enough_right reads.1))
     (λ w u m. let within : d < length u.registers = omega (arith, l.size, m.size) in operation_right lengths s t u o d line v w within l m))

@@ -165,7 +165,12 @@ fn push_statement(
 }
 
 /// The code of a body.
-fn code_of(alloc: Global, arrays: &[Array], params: &[Param], body: &[Stmt]) -> Result<Vec<Capsule>, NoMemory>
+fn code_of(
+    alloc: Global,
+    arrays: &[Array],
+    params: &[Param],
+    body: &[Stmt],
+) -> Result<Vec<Capsule>, NoMemory>
     requires few { length arrays.now ≤ array_limit }
     requires small { All IsSmallStatement (map statement_of body.now) }
     ensures code { IfOk result (λ code. code.items

@@ -40,7 +40,11 @@ fn to_values(alloc: Global, words: &[u64]) -> Result<Vec<i64>, NoMemory>
 }
 
 /// The arrays, with their names, that words stand for. `Err` only where memory is refused.
-pub fn to_arrays(alloc: Global, arrays: &[Array], words: &[u64]) -> Result<Vec<NamedArray>, NoMemory>
+pub fn to_arrays(
+    alloc: Global,
+    arrays: &[Array],
+    words: &[u64],
+) -> Result<Vec<NamedArray>, NoMemory>
     requires enough { total_of (lengths_of arrays.now) ≤ length words.now }
     ensures { IfOk result (λ named. named.items ≡ named_arrays arrays.now words.now) }
 {

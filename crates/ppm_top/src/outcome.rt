@@ -47,7 +47,12 @@ fn start(alloc: Global, admitted: &Admitted) -> Result<Machine, NoMemory>
 }
 
 /// The outcome of the source, whose code this is.
-fn run(alloc: Global, admitted: &Admitted, main: &Proc, code: &[Capsule]) -> Result<Outcome, NoMemory>
+fn run(
+    alloc: Global,
+    admitted: &Admitted,
+    main: &Proc,
+    code: &[Capsule],
+) -> Result<Outcome, NoMemory>
     requires alone { IsAlone (tree_of admitted.now) (procedure_of main.now) }
     requires code { code.now ≡ code_of (main_frame admitted.now.arrays main.now.params) (procedure_of main.now).body }
     ensures outcome { IfOk result (IsOutcome (tree_of admitted.now)) }

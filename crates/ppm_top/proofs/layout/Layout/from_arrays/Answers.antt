@@ -18,8 +18,7 @@ overflow_add-base c =
 -- after the last array all are placed
 placed : (arrays : List Array) (lengths bases : List ℕ) (i next : ℕ) → length arrays ≤ i → words_of arrays ≤ word_limit → lengths ≡ lengths_of (take i arrays) → bases ++ bases_from next (lengths_of (drop i arrays)) ≡ bases_from 0 (lengths_of arrays) → (bases ≡ bases_from 0 lengths) × (total_of lengths ≤ word_limit)
 placed arrays lengths bases i next past few el eb =
-    let e : lengths ≡ lengths_of arrays = el ∙ ap lengths_of (take_all i arrays past) in
-    (
+    let e : lengths ≡ lengths_of arrays = el ∙ ap lengths_of (take_all i arrays past) in (
       sym (append-nil bases) ∙ ap (λ rest. bases ++ bases_from next (lengths_of rest)) (sym (drop_all i arrays past)) ∙ eb ∙ ap (bases_from 0) (sym e),
       rw e (omega (arith, total_of-lengths_of arrays)),
     )
