@@ -1,7 +1,7 @@
 -- Arrays in a row of words: their lengths, an element, and a write of one.
-use Rattle.std.proofs.Common.{◌≡◌, ℕ, zero, suc, ◌+◌, ◌-◌, ◌<◌, ◌≤◌, List, [], ◌∷◌, length, map, take, drop, get_or, set, refl, sym, ap, ◌∙◌, arith, length-drop}
-use Rattle.std.specs.Prelude.{ℤ, pos}
-use Rattle.std.proofs.lemmas.List.{length-take-le, length-map, get_or-take, get_or-map, get_or-drop, map-set, drop-set-lt, drop-set-add, take-set-le}
+use Rattle.std.proofs.Common.{◌≡◌, ℕ, zero, suc, ◌+◌, ◌<◌, ◌≤◌, List, [], ◌∷◌, length, take, drop, get_or, set, refl, ap, ◌∙◌, arith, length-drop}
+use Rattle.std.specs.Prelude.{pos}
+use Rattle.std.proofs.lemmas.List.{length-take-le, get_or-take, get_or-map, get_or-drop, map-set, drop-set-lt, drop-set-add, take-set-le}
 use Rattle.std.proofs.Math.Seq.{take-set-lt}
 use Rattle.ppm_words.specs.TwosComplement.{value_of}
 use Rattle.ppm_syntax.specs.declared.tree.Array.{Array}
@@ -10,7 +10,8 @@ use Rattle.ppm_syntax.specs.Meaning.{array_at}
 use Rattle.ppm_top.specs.Machine.{base_of, bases_from, total_of, arrays_of, lengths_of}
 
 -- an element is the value of its word
-pub get_or-array_at : (lengths words : List ℕ) (a k : ℕ) → total_of lengths ≤ length words → k < get_or lengths a 0 → get_or (array_at (arrays_of lengths words) a) k (pos 0) ≡ value_of (get_or words (base_of lengths a + k) 0)
+pub get_or-array_at : (lengths words : List ℕ) (a k : ℕ) → total_of lengths ≤ length words → k < get_or lengths a 0 →
+    get_or (array_at (arrays_of lengths words) a) k (pos 0) ≡ value_of (get_or words (base_of lengths a + k) 0)
 get_or-array_at [] words a k h l = absurd (omega arith)
 get_or-array_at (n ∷ lengths) words zero k h l =
     let all : n + total_of lengths ≤ length words = h in
@@ -26,7 +27,8 @@ get_or-array_at (n ∷ lengths) words (suc a) k h l =
     ∙ ap (λ j. value_of (get_or words j 0)) (omega arith)
 
 -- a write of an element's word writes the element
-pub arrays_of-set : (lengths words : List ℕ) (a k w : ℕ) → total_of lengths ≤ length words → k < get_or lengths a 0 → arrays_of lengths (set words (base_of lengths a + k) w) ≡ set (arrays_of lengths words) a (set (array_at (arrays_of lengths words) a) k (value_of w))
+pub arrays_of-set : (lengths words : List ℕ) (a k w : ℕ) → total_of lengths ≤ length words → k < get_or lengths a 0 →
+    arrays_of lengths (set words (base_of lengths a + k) w) ≡ set (arrays_of lengths words) a (set (array_at (arrays_of lengths words) a) k (value_of w))
 arrays_of-set [] words a k w h l = absurd (omega arith)
 arrays_of-set (n ∷ lengths) words zero k w h l =
     let at : 0 + k ≡ k = omega arith in

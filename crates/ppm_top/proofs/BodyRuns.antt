@@ -1,14 +1,13 @@
 -- The code of a body does what the body means, and takes one turn a statement.
-use Rattle.std.proofs.Common.{◌≡◌, ℕ, zero, suc, ◌+◌, ◌*◌, ◌<◌, ◌≤◌, List, [], ◌∷◌, ◌++◌, length, max, Result, Ok, Err, refl, sym, ap, ◌∙◌, subst, arith, length-append}
-use Rattle.std.specs.Prelude.{ℤ, pos}
-use Rattle.std.specs.List.{All, flat_map}
+use Rattle.std.proofs.Common.{◌≡◌, ℕ, ◌+◌, ◌*◌, ◌<◌, ◌≤◌, List, [], ◌∷◌, length, Result, Ok, Err, refl, sym, ap, ◌∙◌, subst, arith}
+use Rattle.std.specs.Prelude.{ℤ}
+use Rattle.std.specs.List.{All}
 use Rattle.std.proofs.lemmas.List.Elements.{All-head, All-tail}
 use Rattle.ppm_syntax.specs.Tree.{Expression, Statement}
 use Rattle.ppm_syntax.specs.Tree as tree
 use Rattle.ppm_syntax.specs.Limits.{nodes_of, IsSmallStatement}
-use Rattle.ppm_syntax.specs.Meaning.{Stop, Frame, Ending, then_with, after, then_on, at_once, run_statement, run_statements}
-use Rattle.ppm_top.specs.declared.code.Capsule.{Capsule}
-use Rattle.ppm_top.specs.Code.{register_count, array_of, keep_capsule, put_capsule, end_capsule, statement_code, code_of, reach}
+use Rattle.ppm_syntax.specs.Meaning.{Stop, Frame, then_with, after, then_on, at_once, run_statements}
+use Rattle.ppm_top.specs.Code.{register_count, array_of, keep_capsule, put_capsule, code_of, reach}
 use Rattle.ppm_top.specs.Machine.{State, steps, cleared, run_capsules, arrays_of}
 use Rattle.ppm_top.proofs.StatementRuns.{then_assoc, IsSound, Becomes, pair_run, pair_right}
 use Rattle.ppm_top.proofs.NamesResolve.{NamesWhole}
@@ -19,10 +18,13 @@ after_all frame arrays [] = Ok arrays
 after_all frame arrays (s ∷ body) = then_with (after frame arrays s) (λ now. after_all frame now body)
 
 -- a body with a turn for each statement ends as its statements do
-pub run_statements-after_all : (frame : Frame) (body : List Statement) (arrays : List (List ℤ)) → run_statements frame body arrays (length body) ≡ at_once 0 (after_all frame arrays body)
+pub run_statements-after_all : (frame : Frame) (body : List Statement) (arrays : List (List ℤ)) →
+    run_statements frame body arrays (length body) ≡ at_once 0 (after_all frame arrays body)
 run_statements-after_all frame [] arrays = refl
 run_statements-after_all frame (tree.Put x line index value ∷ body) arrays = go (after frame arrays (tree.Put x line index value)) (λ now. run_statements-after_all frame body now) where
-  go : (r : Result (List (List ℤ)) Stop) → ((now : List (List ℤ)) → run_statements frame body now (length body) ≡ at_once 0 (after_all frame now body)) → then_on (at_once (length body) r) (λ now left. run_statements frame body now left) ≡ at_once 0 (then_with r (λ now. after_all frame now body))
+  go : (r : Result (List (List ℤ)) Stop) →
+      ((now : List (List ℤ)) → run_statements frame body now (length body) ≡ at_once 0 (after_all frame now body)) →
+      then_on (at_once (length body) r) (λ now left. run_statements frame body now left) ≡ at_once 0 (then_with r (λ now. after_all frame now body))
   go (Ok now) rest = rest now
   go (Err stop) rest = refl
 
@@ -36,7 +38,9 @@ reach_small (tree.Binary o line left right) d =
     (omega arith, omega arith)
 
 -- the code of a body does what the body means
-pub body_right : (lengths : List ℕ) (frame : Frame) (body : List Statement) (s : State) → IsSound lengths s → All IsSmallStatement body → All (NamesWhole lengths frame) body → Becomes lengths (run_capsules lengths (code_of frame body) s) (after_all frame (arrays_of lengths s.words) body)
+pub body_right : (lengths : List ℕ) (frame : Frame) (body : List Statement) (s : State) → IsSound lengths s → All IsSmallStatement body →
+    All (NamesWhole lengths frame) body →
+    Becomes lengths (run_capsules lengths (code_of frame body) s) (after_all frame (arrays_of lengths s.words) body)
 body_right lengths frame [] s sound small names = (cleared s, refl, (refl, record { slots = sound.slots; enough = sound.enough; fits = sound.fits }))
 body_right lengths frame (tree.Put x line index value ∷ body) s sound small names =
     go (λ t sound. body_right lengths frame body t sound (All-tail IsSmallStatement put body small) (All-tail (NamesWhole lengths frame) put body names))
@@ -67,7 +71,9 @@ body_right lengths frame (tree.Put x line index value ∷ body) s sound small na
     both : run_capsules lengths (code_of frame (put ∷ body)) s ≡ then_with (pair_run lengths frame x line index value s) rest_run
     both = sym (then_assoc (steps lengths (keep_capsule frame index value).body (cleared s)) first rest_run)
 
-    go : ((t : State) → IsSound lengths t → Becomes lengths (rest_run t) (after_all frame (arrays_of lengths t.words) body)) → (r : Result (List (List ℤ)) Stop) → Becomes lengths (pair_run lengths frame x line index value s) r → Becomes lengths (run_capsules lengths (code_of frame (put ∷ body)) s) (then_with r (λ now. after_all frame now body))
+    go : ((t : State) → IsSound lengths t → Becomes lengths (rest_run t) (after_all frame (arrays_of lengths t.words) body)) →
+        (r : Result (List (List ℤ)) Stop) → Becomes lengths (pair_run lengths frame x line index value s) r →
+        Becomes lengths (run_capsules lengths (code_of frame (put ∷ body)) s) (then_with r (λ now. after_all frame now body))
     go rest (Err stop) h = both ∙ ap (λ r. then_with r rest_run) h
     go rest (Ok now) h =
         subst (λ m. Becomes lengths m (after_all frame now body)) (sym (both ∙ ap (λ r. then_with r rest_run) h.1))

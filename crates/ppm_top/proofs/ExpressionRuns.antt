@@ -1,5 +1,5 @@
 -- The code of an expression leaves the expression's value in its register.
-use Rattle.std.proofs.Common.{◌≡◌, ◌≢◌, ℕ, zero, suc, ◌+◌, ◌<◌, ◌≤◌, Bool, true, false, List, [], ◌∷◌, ◌++◌, length, get_or, set, max, Result, Ok, Err, refl, sym, ap, ◌∙◌, subst, arith, cond, nat_lt}
+use Rattle.std.proofs.Common.{◌≡◌, ◌≢◌, ℕ, ◌+◌, ◌<◌, ◌≤◌, Bool, true, false, List, [], ◌∷◌, ◌++◌, length, get_or, max, Result, Ok, Err, refl, sym, ap, ◌∙◌, subst, arith, cond, nat_lt}
 use Rattle.std.specs.Prelude.{ℤ, pos, negsuc}
 use Rattle.std.proofs.lemmas.List.{get_or-set_same, get_or-set_other, length-set}
 use Rattle.ppm_words.specs.TwosComplement.{value_of}
@@ -10,7 +10,7 @@ use Rattle.ppm_syntax.specs.Tree.{Expression}
 use Rattle.ppm_syntax.specs.Tree as tree
 use Rattle.ppm_syntax.specs.Meaning.{Stop, Frame, Region, region_of, then_with, applied, word_at, array_at, evaluate}
 use Rattle.ppm_top.specs.declared.code.Instr.{Instr}
-use Rattle.ppm_top.specs.declared.code.Instr.TheVariants.{Const, Add, Get}
+use Rattle.ppm_top.specs.declared.code.Instr.TheVariants.{Add, Get}
 use Rattle.ppm_top.specs.Code.{operation, array_of, expression_code, reach}
 use Rattle.ppm_top.specs.Machine.{State, register, with_register, step, steps, base_of, total_of, arrays_of, whole}
 use Rattle.ppm_top.proofs.ArraysInWords.{get_or-array_at}
@@ -26,10 +26,12 @@ ReadsWhole lengths frame (tree.Element x line index) = IsWhole lengths (region_o
 ReadsWhole lengths frame (tree.Binary o line left right) = ReadsWhole lengths frame left × ReadsWhole lengths frame right
 
 -- the steps of two stretches are those of the one and then of the other
-pub steps-append : (lengths : List ℕ) (a b : List Instr) (s : State) → steps lengths (a ++ b) s ≡ then_with (steps lengths a s) (λ t. steps lengths b t)
+pub steps-append : (lengths : List ℕ) (a b : List Instr) (s : State) →
+    steps lengths (a ++ b) s ≡ then_with (steps lengths a s) (λ t. steps lengths b t)
 steps-append lengths [] b s = refl
 steps-append lengths (i ∷ a) b s = go (λ t. steps-append lengths a b t) (step lengths i s) where
-  go : ((t : State) → steps lengths (a ++ b) t ≡ then_with (steps lengths a t) (λ u. steps lengths b u)) → (r : Result State Stop) → then_with r (λ t. steps lengths (a ++ b) t) ≡ then_with (then_with r (λ t. steps lengths a t)) (λ t. steps lengths b t)
+  go : ((t : State) → steps lengths (a ++ b) t ≡ then_with (steps lengths a t) (λ u. steps lengths b u)) → (r : Result State Stop) →
+      then_with r (λ t. steps lengths (a ++ b) t) ≡ then_with (then_with r (λ t. steps lengths a t)) (λ t. steps lengths b t)
   go rest (Ok t) = rest t
   go rest (Err stop) = refl
 
@@ -47,7 +49,9 @@ Ends lengths code s base d (Ok z) = (t : State) × (steps lengths code s ≡ Ok 
 Ends lengths code s base d (Err stop) = steps lengths code s ≡ Err stop
 
 -- one stretch after another, where the second goes on from what the first leaves
-pub then_right : (lengths : List ℕ) (a b : List Instr) (s base base' : State) (d d' : ℕ) (r : Result ℤ Stop) (f : ℤ → Result ℤ Stop) → Ends lengths a s base d r → ((z : ℤ) (t : State) → Leaves d z base t → Ends lengths b t base' d' (f z)) → Ends lengths (a ++ b) s base' d' (then_with r f)
+pub then_right : (lengths : List ℕ) (a b : List Instr) (s base base' : State) (d d' : ℕ) (r : Result ℤ Stop) (f : ℤ → Result ℤ Stop) →
+    Ends lengths a s base d r → ((z : ℤ) (t : State) → Leaves d z base t → Ends lengths b t base' d' (f z)) →
+    Ends lengths (a ++ b) s base' d' (then_with r f)
 then_right lengths a b s base base' d d' (Err stop) f h go = steps-append lengths a b s ∙ ap (λ r. then_with r (λ t. steps lengths b t)) h
 then_right lengths a b s base base' d d' (Ok z) f h go = from (f z) (go z h.0 h.2) where
   start : steps lengths (a ++ b) s ≡ steps lengths b h.0
@@ -58,7 +62,8 @@ then_right lengths a b s base base' d d' (Ok z) f h go = from (f z) (go z h.0 h.
   from (Err stop) e = start ∙ e
 
 -- a write to register d, where what lies below is as it was
-set_leaves : (s t : State) (d : ℕ) (z : ℤ) → d < length t.registers → ((k : ℕ) → k < d → register t k ≡ register s k) → length t.registers ≡ length s.registers → t.slots ≡ s.slots → t.words ≡ s.words → Leaves d z s (with_register t d z)
+set_leaves : (s t : State) (d : ℕ) (z : ℤ) → d < length t.registers → ((k : ℕ) → k < d → register t k ≡ register s k) →
+    length t.registers ≡ length s.registers → t.slots ≡ s.slots → t.words ≡ s.words → Leaves d z s (with_register t d z)
 set_leaves s t d z within below size slots words = record {
   value = get_or-set_same t.registers d z (pos 0) within;
   below = λ k h. let other : k ≢ d = omega arith in get_or-set_other t.registers d k z (pos 0) other ∙ below k h;
@@ -79,7 +84,9 @@ word_within lengths a line k (pos i) e = go (nat_lt i (get_or lengths a 0)) refl
 word_within lengths a line k (negsuc i) e = cc
 
 -- the load of an element
-get_right : (lengths : List ℕ) (s t : State) (a d line : ℕ) (z : ℤ) → total_of lengths ≤ length s.words → d < length t.registers → Leaves d z s t → Ends lengths (Get d a d line ∷ []) t s d (then_with (word_at line (whole lengths a) z) (λ k. Ok (get_or (array_at (arrays_of lengths s.words) a) k (pos 0))))
+get_right : (lengths : List ℕ) (s t : State) (a d line : ℕ) (z : ℤ) → total_of lengths ≤ length s.words → d < length t.registers →
+    Leaves d z s t →
+    Ends lengths (Get d a d line ∷ []) t s d (then_with (word_at line (whole lengths a) z) (λ k. Ok (get_or (array_at (arrays_of lengths s.words) a) k (pos 0))))
 get_right lengths s t a d line z enough within l = go (word_at line (whole lengths a) z) refl where
   v : ℕ → ℤ
   v j = value_of (get_or t.words j 0)
@@ -90,7 +97,8 @@ get_right lengths s t a d line z enough within l = go (word_at line (whole lengt
   here : (r : Result ℕ Stop) → word_at line (whole lengths a) z ≡ r → steps lengths (Get d a d line ∷ []) t ≡ load r
   here r e = ap (λ x. load (word_at line (whole lengths a) x)) l.value ∙ ap load e
 
-  go : (r : Result ℕ Stop) → word_at line (whole lengths a) z ≡ r → Ends lengths (Get d a d line ∷ []) t s d (then_with r (λ k. Ok (get_or (array_at (arrays_of lengths s.words) a) k (pos 0))))
+  go : (r : Result ℕ Stop) → word_at line (whole lengths a) z ≡ r →
+      Ends lengths (Get d a d line ∷ []) t s d (then_with r (λ k. Ok (get_or (array_at (arrays_of lengths s.words) a) k (pos 0))))
   go (Err stop) e = here (Err stop) e
   go (Ok k) e = (
     with_register t d (get_or (array_at (arrays_of lengths s.words) a) k (pos 0)),
@@ -100,7 +108,8 @@ get_right lengths s t a d line z enough within l = go (word_at line (whole lengt
   )
 
 -- an operation on two registers
-operation_right : (lengths : List ℕ) (s t u : State) (o : Operator) (d line : ℕ) (x y : ℤ) → d < length u.registers → Leaves d x s t → Leaves (d + 1) y t u → Ends lengths (operation o d d (d + 1) line ∷ []) u s d (applied o line x y)
+operation_right : (lengths : List ℕ) (s t u : State) (o : Operator) (d line : ℕ) (x y : ℤ) → d < length u.registers → Leaves d x s t →
+    Leaves (d + 1) y t u → Ends lengths (operation o d d (d + 1) line ∷ []) u s d (applied o line x y)
 operation_right lengths s t u operator.Add d line x y within l m = go (applied operator.Add line x y) refl where
   left : register u d ≡ x
   left = let h : d < d + 1 = omega arith in m.below d h ∙ l.value
@@ -125,7 +134,9 @@ reach_above (tree.Element x line index) d = reach_above index d
 reach_above (tree.Binary o line left right) d = let h = reach_above left d in omega arith
 
 -- an expression's code leaves its value
-pub expression_right : (lengths : List ℕ) (frame : Frame) (e : Expression) (d : ℕ) (s : State) → reach d e ≤ length s.registers → total_of lengths ≤ length s.words → ReadsWhole lengths frame e → Ends lengths (expression_code frame d e) s s d (evaluate frame (arrays_of lengths s.words) e)
+pub expression_right : (lengths : List ℕ) (frame : Frame) (e : Expression) (d : ℕ) (s : State) → reach d e ≤ length s.registers →
+    total_of lengths ≤ length s.words → ReadsWhole lengths frame e →
+    Ends lengths (expression_code frame d e) s s d (evaluate frame (arrays_of lengths s.words) e)
 expression_right lengths frame (tree.Number z) d s room enough reads =
     let within : d < length s.registers = omega arith in
     (with_register s d z, refl, set_leaves s s d z within (λ k h. refl) refl refl refl)

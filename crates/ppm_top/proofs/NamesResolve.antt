@@ -1,5 +1,5 @@
 -- In an admitted source each name before a `[` stands for a whole array.
-use Rattle.std.proofs.Common.{◌≡◌, ℕ, zero, suc, ◌+◌, ◌<◌, Bool, true, false, List, [], ◌∷◌, length, map, get_or, cond, refl, sym, ap, ◌∙◌, subst, arith}
+use Rattle.std.proofs.Common.{◌≡◌, ℕ, zero, suc, ◌+◌, ◌<◌, Bool, true, false, List, [], ◌∷◌, length, map, get_or, cond, sym, ap, ◌∙◌, arith}
 use Rattle.std.specs.List.{All, Contains}
 use Rattle.std.specs.Str.{bytes_eq}
 use Rattle.std.proofs.lemmas.List.Elements.{All-head, All-tail}
@@ -28,7 +28,8 @@ same_bytes x y e = (bytes_eq-Decides x y).1 e
 abbrev FindsWhole : ℕ → List Array → List ℕ → Type 0
 FindsWhole b arrays x = (a : ℕ) × (whole_from b arrays x ≡ record { array = b + a; start = 0; length = get_or (lengths_of arrays) a 0 })
 
-found : (arrays : List Array) (b j : ℕ) (x : List ℕ) → j < length (map (λ a. a.name) arrays) → get_or (map (λ a. a.name) arrays) j x ≡ x → FindsWhole b arrays x
+found : (arrays : List Array) (b j : ℕ) (x : List ℕ) → j < length (map (λ a. a.name) arrays) → get_or (map (λ a. a.name) arrays) j x ≡ x →
+    FindsWhole b arrays x
 found [] b j x h e = absurd (omega arith)
 found (q ∷ arrays) b zero x h e = (
   0,
@@ -38,7 +39,8 @@ found (q ∷ arrays) b (suc j) x h e = go (bytes_eq q.name x) (found arrays (suc
   here : Region
   here = record { array = b; start = 0; length = q.length }
 
-  go : (t : Bool) → FindsWhole (suc b) arrays x → (a : ℕ) × (cond t here (whole_from (suc b) arrays x) ≡ record { array = b + a; start = 0; length = get_or (lengths_of (q ∷ arrays)) a 0 })
+  go : (t : Bool) → FindsWhole (suc b) arrays x →
+      (a : ℕ) × (cond t here (whole_from (suc b) arrays x) ≡ record { array = b + a; start = 0; length = get_or (lengths_of (q ∷ arrays)) a 0 })
   go true rest = (0, ap (λ n. record { array = n; start = 0; length = q.length }) (omega arith))
   go false rest = (suc rest.0, rest.1 ∙ ap (λ n. record { array = n; start = 0; length = get_or (lengths_of arrays) rest.0 0 }) (omega arith))
 
@@ -51,7 +53,8 @@ array_whole arrays x h =
     e ∙ ap (whole (lengths_of arrays)) (sym (ap (λ r. r.array) e))
 
 -- so does a parameter's
-param_whole : (arrays : List Array) (params : List Param) (j : ℕ) (d : Param) (x : List ℕ) → All (HasArray arrays) params → j < length params → (get_or params j d).name ≡ x → IsWhole (lengths_of arrays) (region_of (main_frame arrays params) x)
+param_whole : (arrays : List Array) (params : List Param) (j : ℕ) (d : Param) (x : List ℕ) → All (HasArray arrays) params →
+    j < length params → (get_or params j d).name ≡ x → IsWhole (lengths_of arrays) (region_of (main_frame arrays params) x)
 param_whole arrays [] j d x named h e = absurd (omega arith)
 param_whole arrays (q ∷ params) zero d x named h e =
     rw (same_bytes q.name x e) (array_whole arrays q.name (All-head (HasArray arrays) q params named))
@@ -68,16 +71,19 @@ param_whole arrays (q ∷ params) (suc j) d x named h e =
     go true r = array_whole arrays q.name (All-head (HasArray arrays) q params named)
     go false r = r
 
-declared_whole : (arrays : List Array) (params : List Param) (P : Param → Type 0) (x : List ℕ) → All (HasArray arrays) params → Declares params P x → IsWhole (lengths_of arrays) (region_of (main_frame arrays params) x)
+declared_whole : (arrays : List Array) (params : List Param) (P : Param → Type 0) (x : List ℕ) → All (HasArray arrays) params →
+    Declares params P x → IsWhole (lengths_of arrays) (region_of (main_frame arrays params) x)
 declared_whole arrays params P x named h = param_whole arrays params h.1.0 h.0 x named h.1.1 (ap (λ q. q.name) h.1.2 ∙ h.2)
 
-reads_whole : (arrays : List Array) (params : List Param) (e : Expression) → All (HasArray arrays) params → ReadsRegions params e → ReadsWhole (lengths_of arrays) (main_frame arrays params) e
+reads_whole : (arrays : List Array) (params : List Param) (e : Expression) → All (HasArray arrays) params → ReadsRegions params e →
+    ReadsWhole (lengths_of arrays) (main_frame arrays params) e
 reads_whole arrays params (tree.Number z) named h = tt
 reads_whole arrays params (tree.Element x line index) named h = (declared_whole arrays params _ x named h.0, reads_whole arrays params index named h.1)
 reads_whole arrays params (tree.Binary o line left right) named h = (reads_whole arrays params left named h.0, reads_whole arrays params right named h.1)
 
 -- a statement that keeps the rules names whole arrays
-pub names_whole : (arrays : List Array) (params : List Param) → All (HasArray arrays) params → (s : Statement) → KeepsRules params s → NamesWhole (lengths_of arrays) (main_frame arrays params) s
+pub names_whole : (arrays : List Array) (params : List Param) → All (HasArray arrays) params → (s : Statement) → KeepsRules params s →
+    NamesWhole (lengths_of arrays) (main_frame arrays params) s
 names_whole arrays params named (tree.Put x line index value) h = (
   declared_whole arrays params _ x named h.0,
   reads_whole arrays params index named h.1,

@@ -1,5 +1,5 @@
 -- The two capsules of an assignment do what the assignment means.
-use Rattle.std.proofs.Common.{◌≡◌, ◌≢◌, ℕ, zero, suc, ◌+◌, ◌<◌, ◌≤◌, ◌^◌, Bool, true, false, List, [], ◌∷◌, ◌++◌, length, get_or, set, replicate, Result, Ok, Err, refl, sym, ap, ◌∙◌, subst, arith, cond, nat_lt, lit<}
+use Rattle.std.proofs.Common.{◌≡◌, ◌≢◌, ℕ, zero, suc, ◌+◌, ◌<◌, ◌≤◌, ◌^◌, Bool, true, false, List, [], ◌∷◌, ◌++◌, length, get_or, set, replicate, Result, Ok, Err, refl, sym, ap, ◌∙◌, subst, arith, cond, lit<}
 use Rattle.std.specs.Prelude.{ℤ, pos, negsuc, ◌+ℤ◌, FitsSigned}
 use Rattle.std.specs.Int.{w64}
 use Rattle.std.proofs.lemmas.List.{get_or-set_same, get_or-set_other, length-set, length-replicate}
@@ -13,7 +13,7 @@ use Rattle.ppm_syntax.specs.Tree as tree
 use Rattle.ppm_syntax.specs.Limits.{HasLiterals, IsLiteral}
 use Rattle.ppm_syntax.specs.Meaning.{Stop, Frame, region_of, then_with, fits, in_range, applied, word_at, array_at, evaluate, after, stored}
 use Rattle.ppm_top.specs.declared.code.Instr.{Instr}
-use Rattle.ppm_top.specs.declared.code.Instr.TheVariants.{Put, LoadSlot, StoreCur}
+use Rattle.ppm_top.specs.declared.code.Instr.TheVariants.{StoreCur}
 use Rattle.ppm_top.specs.Code.{register_count, array_of, expression_code, keep_capsule, put_capsule, reach}
 use Rattle.ppm_top.specs.Machine.{State, register, steps, cleared, base_of, total_of, arrays_of, whole}
 use Rattle.ppm_top.proofs.ArraysInWords.{get_or-array_at, arrays_of-set}
@@ -23,7 +23,8 @@ then_ok : {A B : Type 0} (r : Result A Stop) (f : A → Result B Stop) (z : B) �
 then_ok (Ok x) f z e = (x, refl, e)
 then_ok (Err stop) f z e = cc
 
-pub then_assoc : {A B C : Type 0} (r : Result A Stop) (f : A → Result B Stop) (g : B → Result C Stop) → then_with (then_with r f) g ≡ then_with r (λ x. then_with (f x) g)
+pub then_assoc : {A B C : Type 0} (r : Result A Stop) (f : A → Result B Stop) (g : B → Result C Stop) →
+    then_with (then_with r f) g ≡ then_with r (λ x. then_with (f x) g)
 then_assoc (Ok x) f g = refl
 then_assoc (Err stop) f g = refl
 
@@ -55,7 +56,8 @@ pub record IsSound (lengths : List ℕ) (s : State) : Type 0 where
   pub fits : (k : ℕ) → get_or s.words k 0 < 2 ^ 64
 
 -- an expression has a value of the language
-value_fits : (lengths : List ℕ) (frame : Frame) (s : State) (e : Expression) (z : ℤ) → IsSound lengths s → HasLiterals e → ReadsWhole lengths frame e → evaluate frame (arrays_of lengths s.words) e ≡ Ok z → FitsSigned w64 z
+value_fits : (lengths : List ℕ) (frame : Frame) (s : State) (e : Expression) (z : ℤ) → IsSound lengths s → HasLiterals e →
+    ReadsWhole lengths frame e → evaluate frame (arrays_of lengths s.words) e ≡ Ok z → FitsSigned w64 z
 value_fits lengths frame s (tree.Number x) z sound literals reads e = let same : x ≡ z = cc in subst (λ v. FitsSigned w64 v) same (literal_fits x literals)
 value_fits lengths frame s (tree.Element x line index) z sound literals reads e =
     let arrays = arrays_of lengths s.words in
@@ -77,7 +79,9 @@ abbrev pub Becomes : List ℕ → Result State Stop → Result (List (List ℤ))
 Becomes lengths run (Ok arrays) = (t : State) × (run ≡ Ok t) × ((arrays_of lengths t.words ≡ arrays) × IsSound lengths t)
 Becomes lengths run (Err stop) = run ≡ Err stop
 
-then_becomes : (lengths : List ℕ) (a : List Instr) (s base : State) (d : ℕ) (r : Result ℤ Stop) (f : ℤ → Result (List (List ℤ)) Stop) (next : State → Result State Stop) → Ends lengths a s base d r → ((z : ℤ) (t : State) → r ≡ Ok z → Leaves d z base t → Becomes lengths (next t) (f z)) → Becomes lengths (then_with (steps lengths a s) next) (then_with r f)
+then_becomes : (lengths : List ℕ) (a : List Instr) (s base : State) (d : ℕ) (r : Result ℤ Stop) (f : ℤ → Result (List (List ℤ)) Stop) (next : State → Result State Stop) →
+    Ends lengths a s base d r → ((z : ℤ) (t : State) → r ≡ Ok z → Leaves d z base t → Becomes lengths (next t) (f z)) →
+    Becomes lengths (then_with (steps lengths a s) next) (then_with r f)
 then_becomes lengths a s base d (Err stop) f next h go = ap (λ r. then_with r next) h
 then_becomes lengths a s base d (Ok z) f next h go = subst (λ m. Becomes lengths m (f z)) (sym (ap (λ r. then_with r next) h.1)) (go z h.0 refl h.2)
 
@@ -100,7 +104,9 @@ abbrev put_on : List ℕ → ℕ → ℕ → State → Result State Stop
 put_on lengths a line u = then_with (steps lengths stores u) (λ t. steps lengths (put_capsule a line).body (cleared t))
 
 -- the second capsule puts the value that the first one kept
-put_right : (lengths : List ℕ) (u : State) (a line : ℕ) (i v : ℤ) → IsSound lengths u → FitsSigned w64 i → FitsSigned w64 v → register u 0 ≡ i → register u 1 ≡ v → Becomes lengths (put_on lengths a line u) (then_with (word_at line (whole lengths a) i) (λ k. Ok (stored (arrays_of lengths u.words) a k v)))
+put_right : (lengths : List ℕ) (u : State) (a line : ℕ) (i v : ℤ) → IsSound lengths u → FitsSigned w64 i → FitsSigned w64 v →
+    register u 0 ≡ i → register u 1 ≡ v →
+    Becomes lengths (put_on lengths a line u) (then_with (word_at line (whole lengths a) i) (λ k. Ok (stored (arrays_of lengths u.words) a k v)))
 put_right lengths u a line i v sound fits_i fits_v first second = go (word_at line (whole lengths a) i) refl where
   zeros : List ℤ
   zeros = replicate register_count (pos 0)
@@ -144,7 +150,8 @@ put_right lengths u a line i v sound fits_i fits_v first second = go (word_at li
   here : (r : Result ℕ Stop) → word_at line (whole lengths a) i ≡ r → put_on lengths a line u ≡ put r v
   here r e = ap (λ x. put (word_at line (whole lengths a) x) (get_or loaded 1 (pos 0))) read_first ∙ ap (put (word_at line (whole lengths a) i)) read_second ∙ ap (λ r. put r v) e
 
-  go : (r : Result ℕ Stop) → word_at line (whole lengths a) i ≡ r → Becomes lengths (put_on lengths a line u) (then_with r (λ k. Ok (stored (arrays_of lengths u.words) a k v)))
+  go : (r : Result ℕ Stop) → word_at line (whole lengths a) i ≡ r →
+      Becomes lengths (put_on lengths a line u) (then_with r (λ k. Ok (stored (arrays_of lengths u.words) a k v)))
   go (Err stop) e = here (Err stop) e
   go (Ok k) e = (
     next v (base_of lengths a + k),
@@ -169,7 +176,8 @@ pair_run lengths frame x line index value s =
     then_with (steps lengths (keep_capsule frame index value).body (cleared s)) (λ t. steps lengths (put_capsule (array_of frame x) line).body (cleared t))
 
 -- the first capsule in its three stretches
-pair_parts : (lengths : List ℕ) (frame : Frame) (x : List ℕ) (line : ℕ) (index value : Expression) (s : State) → pair_run lengths frame x line index value s ≡ then_with (steps lengths (expression_code frame 0 index) (cleared s)) (λ t. then_with (steps lengths (expression_code frame 1 value) t) (put_on lengths (array_of frame x) line))
+pair_parts : (lengths : List ℕ) (frame : Frame) (x : List ℕ) (line : ℕ) (index value : Expression) (s : State) →
+    pair_run lengths frame x line index value s ≡ then_with (steps lengths (expression_code frame 0 index) (cleared s)) (λ t. then_with (steps lengths (expression_code frame 1 value) t) (put_on lengths (array_of frame x) line))
 pair_parts lengths frame x line index value s =
     ap (λ r. then_with r put) (steps-append lengths (expression_code frame 0 index) (expression_code frame 1 value ++ stores) (cleared s))
     ∙ then_assoc (steps lengths (expression_code frame 0 index) (cleared s)) (λ t. steps lengths (expression_code frame 1 value ++ stores) t) put
@@ -178,15 +186,20 @@ pair_parts lengths frame x line index value s =
     put : State → Result State Stop
     put t = steps lengths (put_capsule (array_of frame x) line).body (cleared t)
 
-    at : (t : State) → then_with (steps lengths (expression_code frame 1 value ++ stores) t) put ≡ then_with (steps lengths (expression_code frame 1 value) t) (put_on lengths (array_of frame x) line)
+    at : (t : State) →
+        then_with (steps lengths (expression_code frame 1 value ++ stores) t) put ≡ then_with (steps lengths (expression_code frame 1 value) t) (put_on lengths (array_of frame x) line)
     at t = ap (λ r. then_with r put) (steps-append lengths (expression_code frame 1 value) stores t) ∙ then_assoc (steps lengths (expression_code frame 1 value) t) (λ u. steps lengths stores u) put
 
-    from : (r : Result State Stop) → then_with r (λ t. then_with (steps lengths (expression_code frame 1 value ++ stores) t) put) ≡ then_with r (λ t. then_with (steps lengths (expression_code frame 1 value) t) (put_on lengths (array_of frame x) line))
+    from : (r : Result State Stop) →
+        then_with r (λ t. then_with (steps lengths (expression_code frame 1 value ++ stores) t) put) ≡ then_with r (λ t. then_with (steps lengths (expression_code frame 1 value) t) (put_on lengths (array_of frame x) line))
     from (Ok t) = at t
     from (Err stop) = refl
 
 -- an assignment's capsules do what it means
-pub pair_right : (lengths : List ℕ) (frame : Frame) (x : List ℕ) (line : ℕ) (index value : Expression) (s : State) → IsSound lengths s → reach 0 index ≤ register_count → reach 1 value ≤ register_count → HasLiterals index → HasLiterals value → IsWhole lengths (region_of frame x) → ReadsWhole lengths frame index → ReadsWhole lengths frame value → Becomes lengths (pair_run lengths frame x line index value s) (after frame (arrays_of lengths s.words) (tree.Put x line index value))
+pub pair_right : (lengths : List ℕ) (frame : Frame) (x : List ℕ) (line : ℕ) (index value : Expression) (s : State) → IsSound lengths s →
+    reach 0 index ≤ register_count → reach 1 value ≤ register_count → HasLiterals index → HasLiterals value →
+    IsWhole lengths (region_of frame x) → ReadsWhole lengths frame index → ReadsWhole lengths frame value →
+    Becomes lengths (pair_run lengths frame x line index value s) (after frame (arrays_of lengths s.words) (tree.Put x line index value))
 pair_right lengths frame x line index value s sound room_i room_v literals_i literals_v whole_x reads_i reads_v =
     let a = array_of frame x in
     let many : length (cleared s).registers ≡ register_count = length-replicate register_count (pos 0) in

@@ -7,7 +7,8 @@ use Rattle.ppm_syntax.specs.Limits.{IsSmallStatement}
 use Rattle.ppm_top.proofs.cut.code_of.Goals as goal
 
 -- each statement of the body is small
-small : (body : List Stmt) (i : ℕ) (s : Stmt) → i < length body → s ≡ get_or body i s → All IsSmallStatement (map statement_of body) → IsSmallStatement (statement_of s)
+small : (body : List Stmt) (i : ℕ) (s : Stmt) → i < length body → s ≡ get_or body i s → All IsSmallStatement (map statement_of body) →
+    IsSmallStatement (statement_of s)
 small body i s h is all =
     let within : i < length (map statement_of body) = omega (arith, length-map body statement_of) in
     subst IsSmallStatement (get_or-map statement_of body i s (statement_of s) h ∙ ap statement_of (sym is)) (all i (statement_of s) within)

@@ -1,4 +1,4 @@
-use Rattle.std.proofs.Common.{◌≡◌, ◌≤◌, length, ap, ◌∙◌, subst, arith}
+use Rattle.std.proofs.Common.{length, ap, ◌∙◌, subst, arith}
 use Rattle.ppm_syntax.specs.Tree.{tree_of, procedure_of}
 use Rattle.ppm_syntax.specs.Limits.{IsWithin}
 use Rattle.ppm_top.specs.Machine.{lengths_of}

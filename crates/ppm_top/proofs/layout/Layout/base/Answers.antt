@@ -4,7 +4,8 @@ use Rattle.ppm_top.proofs.ArraysInWords.{base_within, get_or-bases_from}
 use Rattle.ppm_top.proofs.layout.Layout.base.Goals as goal
 
 -- the table has the base of an array that has a word
-from_table : (lengths same bases table : List ℕ) (a k b : ℕ) → bases ≡ bases_from 0 lengths → lengths ≡ same → table ≡ bases → k < get_or same a 0 → b ≡ get_or table a 0 → b ≡ base_of same a
+from_table : (lengths same bases table : List ℕ) (a k b : ℕ) → bases ≡ bases_from 0 lengths → lengths ≡ same → table ≡ bases →
+    k < get_or same a 0 → b ≡ get_or table a 0 → b ≡ base_of same a
 from_table lengths same bases table a k b whole view at h e =
     let zero_on : 0 + base_of same a ≡ base_of same a = omega arith in
     e ∙ ap (λ t. get_or t a 0) (at ∙ whole ∙ ap (bases_from 0) view) ∙ get_or-bases_from same a 0 k h ∙ zero_on

@@ -1,4 +1,4 @@
-use Rattle.std.proofs.Common.{◌≡◌, ◌<◌, ◌≤◌, ◌+◌, ◌++◌, ℕ, length, get_or, List, [], drop, take, sym, ap, ◌∙◌, arith}
+use Rattle.std.proofs.Common.{◌≡◌, ◌≤◌, ◌++◌, ℕ, length, List, drop, take, sym, ap, ◌∙◌, arith}
 use Rattle.std.proofs.lemmas.List.{take_all, drop_all, append-nil}
 use Rattle.ppm_syntax.specs.declared.tree.Array.{Array}
 use Rattle.ppm_syntax.specs.Limits.{words_of, word_limit}
@@ -16,7 +16,9 @@ overflow_add-base c =
     omega (arith, c.loop-array.invariant.rest)
 
 -- after the last array all are placed
-placed : (arrays : List Array) (lengths bases : List ℕ) (i next : ℕ) → length arrays ≤ i → words_of arrays ≤ word_limit → lengths ≡ lengths_of (take i arrays) → bases ++ bases_from next (lengths_of (drop i arrays)) ≡ bases_from 0 (lengths_of arrays) → (bases ≡ bases_from 0 lengths) × (total_of lengths ≤ word_limit)
+placed : (arrays : List Array) (lengths bases : List ℕ) (i next : ℕ) → length arrays ≤ i → words_of arrays ≤ word_limit →
+    lengths ≡ lengths_of (take i arrays) → bases ++ bases_from next (lengths_of (drop i arrays)) ≡ bases_from 0 (lengths_of arrays) →
+    (bases ≡ bases_from 0 lengths) × (total_of lengths ≤ word_limit)
 placed arrays lengths bases i next past few el eb =
     let e : lengths ≡ lengths_of arrays = el ∙ ap lengths_of (take_all i arrays past) in (
       sym (append-nil bases) ∙ ap (λ rest. bases ++ bases_from next (lengths_of rest)) (sym (drop_all i arrays past)) ∙ eb ∙ ap (bases_from 0) (sym e),
