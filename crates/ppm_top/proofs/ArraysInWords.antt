@@ -38,7 +38,8 @@ arrays_of-set (n ∷ lengths) words (suc a) k w h l =
     let rest : total_of lengths ≤ length (drop n words) = omega (arith, length-drop n words) in
     let at : n + base_of lengths a + k ≡ n + (base_of lengths a + k) = omega arith in
     let past : n ≤ n + (base_of lengths a + k) = omega arith in
-    rw (at, take-set-le n words (n + (base_of lengths a + k)) w past, drop-set-add n words (base_of lengths a + k) w, arrays_of-set lengths (drop n words) a k w rest l) refl
+    rw (at, take-set-le n words (n + (base_of lengths a + k)) w past, drop-set-add n words (base_of lengths a + k) w)
+    (rw (arrays_of-set lengths (drop n words) a k w rest l) refl)
 
 -- an element lies among the words
 pub base_within : (lengths : List ℕ) (a k : ℕ) → k < get_or lengths a 0 → base_of lengths a + k < total_of lengths

@@ -21,12 +21,14 @@ after_all frame arrays (s ∷ body) = then_with (after frame arrays s) (λ now. 
 pub run_statements-after_all : (frame : Frame) (body : List Statement) (arrays : List (List ℤ)) →
     run_statements frame body arrays (length body) ≡ at_once 0 (after_all frame arrays body)
 run_statements-after_all frame [] arrays = refl
-run_statements-after_all frame (tree.Put x line index value ∷ body) arrays = go (after frame arrays (tree.Put x line index value)) (λ now. run_statements-after_all frame body now) where
-  go : (r : Result (List (List ℤ)) Stop) →
-      ((now : List (List ℤ)) → run_statements frame body now (length body) ≡ at_once 0 (after_all frame now body)) →
-      then_on (at_once (length body) r) (λ now left. run_statements frame body now left) ≡ at_once 0 (then_with r (λ now. after_all frame now body))
-  go (Ok now) rest = rest now
-  go (Err stop) rest = refl
+run_statements-after_all frame (tree.Put x line index value ∷ body) arrays =
+    go (after frame arrays (tree.Put x line index value)) (λ now. run_statements-after_all frame body now)
+  where
+    go : (r : Result (List (List ℤ)) Stop) →
+        ((now : List (List ℤ)) → run_statements frame body now (length body) ≡ at_once 0 (after_all frame now body)) →
+        then_on (at_once (length body) r) (λ now left. run_statements frame body now left) ≡ at_once 0 (then_with r (λ now. after_all frame now body))
+    go (Ok now) rest = rest now
+    go (Err stop) rest = refl
 
 -- an expression takes no more registers than it has nodes
 pub reach_small : (e : Expression) (d : ℕ) → (reach d e ≤ d + nodes_of e) × (0 < nodes_of e)

@@ -1,5 +1,6 @@
 -- The code of an expression leaves the expression's value in its register.
-use Rattle.std.proofs.Common.{◌≡◌, ◌≢◌, ℕ, ◌+◌, ◌<◌, ◌≤◌, Bool, true, false, List, [], ◌∷◌, ◌++◌, length, get_or, max, Result, Ok, Err, refl, sym, ap, ◌∙◌, subst, arith, cond, nat_lt}
+use Rattle.std.proofs.Common.{◌≡◌, ◌≢◌, ℕ, ◌+◌, ◌<◌, ◌≤◌, Bool, true, false, List, [], ◌∷◌, ◌++◌, length}
+use Rattle.std.proofs.Common.{get_or, max, Result, Ok, Err, refl, sym, ap, ◌∙◌, subst, arith, cond, nat_lt}
 use Rattle.std.specs.Prelude.{ℤ, pos, negsuc}
 use Rattle.std.proofs.lemmas.List.{get_or-set_same, get_or-set_other, length-set}
 use Rattle.ppm_words.specs.TwosComplement.{value_of}
@@ -72,6 +73,7 @@ set_leaves s t d z within below size slots words = record {
   words = words;
 }
 
+-- the test of an index, by its answer
 abbrev tested_word : Bool → ℕ → ℕ → Result ℕ Stop
 tested_word b i line = cond b (Ok (0 + i)) (Err (trap.Index, line))
 
@@ -86,7 +88,8 @@ word_within lengths a line k (negsuc i) e = cc
 -- the load of an element
 get_right : (lengths : List ℕ) (s t : State) (a d line : ℕ) (z : ℤ) → total_of lengths ≤ length s.words → d < length t.registers →
     Leaves d z s t →
-    Ends lengths (Get d a d line ∷ []) t s d (then_with (word_at line (whole lengths a) z) (λ k. Ok (get_or (array_at (arrays_of lengths s.words) a) k (pos 0))))
+    Ends lengths (Get d a d line ∷ []) t s d
+    (then_with (word_at line (whole lengths a) z) (λ k. Ok (get_or (array_at (arrays_of lengths s.words) a) k (pos 0))))
 get_right lengths s t a d line z enough within l = go (word_at line (whole lengths a) z) refl where
   v : ℕ → ℤ
   v j = value_of (get_or t.words j 0)
@@ -103,7 +106,9 @@ get_right lengths s t a d line z enough within l = go (word_at line (whole lengt
   go (Ok k) e = (
     with_register t d (get_or (array_at (arrays_of lengths s.words) a) k (pos 0)),
     here (Ok k) e
-        ∙ ap (λ x. Ok (with_register t d x)) (ap (λ ws. value_of (get_or ws (base_of lengths a + k) 0)) l.words ∙ sym (get_or-array_at lengths s.words a k enough (word_within lengths a line k z e))),
+        ∙ ap (λ x. Ok (with_register t d x))
+        (ap (λ ws. value_of (get_or ws (base_of lengths a + k) 0)) l.words
+        ∙ sym (get_or-array_at lengths s.words a k enough (word_within lengths a line k z e))),
     set_leaves s t d _ within l.below l.size l.slots l.words,
   )
 
@@ -125,9 +130,11 @@ operation_right lengths s t u operator.Add d line x y within l m = go (applied o
   go (Ok z) e = (
     with_register u d z,
     here ∙ ap put e,
-    set_leaves s u d z within (λ k h. let h' : k < d + 1 = omega arith in m.below k h' ∙ l.below k h) (m.size ∙ l.size) (m.slots ∙ l.slots) (m.words ∙ l.words),
+    set_leaves s u d z within (λ k h. let h' : k < d + 1 = omega arith in m.below k h' ∙ l.below k h)
+        (m.size ∙ l.size) (m.slots ∙ l.slots) (m.words ∙ l.words),
   )
 
+-- an expression takes the register for its value
 reach_above : (e : Expression) (d : ℕ) → d < reach d e
 reach_above (tree.Number z) d = omega arith
 reach_above (tree.Element x line index) d = reach_above index d

@@ -12,18 +12,21 @@ use Rattle.ppm_syntax.specs.Meaning.{region_of, whole_from, main_frame}
 pub bytes_eq-test : (r : Bool) (n x : List ℕ) → IsTrue r ↔ (n ≡ x) → bytes_eq n x ≡ r
 bytes_eq-test r n x h = one_answer (bytes_eq n x) r (bytes_eq-Decides n x) h
 
+-- past an array with another name
 array_step : (arrays : List Array) (b i : ℕ) (d : Array) (x : List ℕ) → i < length arrays → bytes_eq (get_or arrays i d).name x ≡ false →
     whole_from (suc b) (drop (suc i) arrays) x ≡ whole_from b (drop i arrays) x
 array_step [] b i d x h e = absurd (omega arith)
 array_step (a ∷ arrays) b zero d x h e = rw e refl
 array_step (a ∷ arrays) b (suc i) d x h e = array_step arrays b i d x (omega arith) e
 
+-- at the array with the name
 array_hit : (arrays : List Array) (b i : ℕ) (d : Array) (x : List ℕ) → i < length arrays → bytes_eq (get_or arrays i d).name x ≡ true →
     (whole_from b (drop i arrays) x).array ≡ b
 array_hit [] b i d x h e = absurd (omega arith)
 array_hit (a ∷ arrays) b zero d x h e = rw e refl
 array_hit (a ∷ arrays) b (suc i) d x h e = array_hit arrays b i d x (omega arith) e
 
+-- past a parameter with another name
 param_step : (arrays : List Array) (params : List Param) (i : ℕ) (d : Param) (x : List ℕ) → i < length params →
     bytes_eq (get_or params i d).name x ≡ false →
     region_of (main_frame arrays (drop (suc i) params)) x ≡ region_of (main_frame arrays (drop i params)) x
@@ -31,6 +34,7 @@ param_step arrays [] i d x h e = absurd (omega arith)
 param_step arrays (q ∷ params) zero d x h e = rw e refl
 param_step arrays (q ∷ params) (suc i) d x h e = param_step arrays params i d x (omega arith) e
 
+-- at the parameter with the name
 param_hit : (arrays : List Array) (params : List Param) (i : ℕ) (d : Param) (x : List ℕ) → i < length params →
     bytes_eq (get_or params i d).name x ≡ true →
     region_of (main_frame arrays (drop i params)) x ≡ whole_from 0 arrays (get_or params i d).name

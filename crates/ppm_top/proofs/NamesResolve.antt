@@ -21,6 +21,7 @@ NamesWhole lengths frame (tree.Put x line index value) = IsWhole lengths (region
 abbrev pub HasArray : List Array → Param → Type 0
 HasArray arrays q = Contains (map (λ a. a.name) arrays) q.name
 
+-- equal names pass the test
 same_bytes : (x y : List ℕ) → x ≡ y → bytes_eq x y ≡ true
 same_bytes x y e = (bytes_eq-Decides x y).1 e
 
@@ -28,6 +29,7 @@ same_bytes x y e = (bytes_eq-Decides x y).1 e
 abbrev FindsWhole : ℕ → List Array → List ℕ → Type 0
 FindsWhole b arrays x = (a : ℕ) × (whole_from b arrays x ≡ record { array = b + a; start = 0; length = get_or (lengths_of arrays) a 0 })
 
+-- the search for the name of an array finds one of them whole
 found : (arrays : List Array) (b j : ℕ) (x : List ℕ) → j < length (map (λ a. a.name) arrays) → get_or (map (λ a. a.name) arrays) j x ≡ x →
     FindsWhole b arrays x
 found [] b j x h e = absurd (omega arith)
@@ -49,7 +51,8 @@ array_whole : (arrays : List Array) (x : List ℕ) → Contains (map (λ a. a.na
 array_whole arrays x h =
     let f = found arrays 0 h.0 x h.1 h.2 in
     let at : 0 + f.0 ≡ f.0 = omega arith in
-    let e : whole_from 0 arrays x ≡ whole (lengths_of arrays) f.0 = f.1 ∙ ap (λ n. record { array = n; start = 0; length = get_or (lengths_of arrays) f.0 0 }) at in
+    let e : whole_from 0 arrays x ≡ whole (lengths_of arrays) f.0 =
+    f.1 ∙ ap (λ n. record { array = n; start = 0; length = get_or (lengths_of arrays) f.0 0 }) at in
     e ∙ ap (whole (lengths_of arrays)) (sym (ap (λ r. r.array) e))
 
 -- so does a parameter's
@@ -71,10 +74,12 @@ param_whole arrays (q ∷ params) (suc j) d x named h e =
     go true r = array_whole arrays q.name (All-head (HasArray arrays) q params named)
     go false r = r
 
+-- a declared name stands for a whole array
 declared_whole : (arrays : List Array) (params : List Param) (P : Param → Type 0) (x : List ℕ) → All (HasArray arrays) params →
     Declares params P x → IsWhole (lengths_of arrays) (region_of (main_frame arrays params) x)
 declared_whole arrays params P x named h = param_whole arrays params h.1.0 h.0 x named h.1.1 (ap (λ q. q.name) h.1.2 ∙ h.2)
 
+-- so does each name in an expression that reads regions
 reads_whole : (arrays : List Array) (params : List Param) (e : Expression) → All (HasArray arrays) params → ReadsRegions params e →
     ReadsWhole (lengths_of arrays) (main_frame arrays params) e
 reads_whole arrays params (tree.Number z) named h = tt

@@ -1,5 +1,6 @@
 -- The two capsules of an assignment do what the assignment means.
-use Rattle.std.proofs.Common.{◌≡◌, ◌≢◌, ℕ, zero, suc, ◌+◌, ◌<◌, ◌≤◌, ◌^◌, Bool, true, false, List, [], ◌∷◌, ◌++◌, length, get_or, set, replicate, Result, Ok, Err, refl, sym, ap, ◌∙◌, subst, arith, cond, lit<}
+use Rattle.std.proofs.Common.{◌≡◌, ◌≢◌, ℕ, zero, suc, ◌+◌, ◌<◌, ◌≤◌, ◌^◌, Bool, true, false, List, [], ◌∷◌, ◌++◌}
+use Rattle.std.proofs.Common.{length, get_or, set, replicate, Result, Ok, Err, refl, sym, ap, ◌∙◌, subst, arith, cond, lit<}
 use Rattle.std.specs.Prelude.{ℤ, pos, negsuc, ◌+ℤ◌, FitsSigned}
 use Rattle.std.specs.Int.{w64}
 use Rattle.std.proofs.lemmas.List.{get_or-set_same, get_or-set_other, length-set, length-replicate}
@@ -19,10 +20,12 @@ use Rattle.ppm_top.specs.Machine.{State, register, steps, cleared, base_of, tota
 use Rattle.ppm_top.proofs.ArraysInWords.{get_or-array_at, arrays_of-set}
 use Rattle.ppm_top.proofs.ExpressionRuns.{IsWhole, ReadsWhole, steps-append, Leaves, Ends, word_within, expression_right}
 
+-- what goes on to a value had one
 then_ok : {A B : Type 0} (r : Result A Stop) (f : A → Result B Stop) (z : B) → then_with r f ≡ Ok z → (x : A) × (r ≡ Ok x) × (f x ≡ Ok z)
 then_ok (Ok x) f z e = (x, refl, e)
 then_ok (Err stop) f z e = cc
 
+-- going on twice, one way or the other
 pub then_assoc : {A B C : Type 0} (r : Result A Stop) (f : A → Result B Stop) (g : B → Result C Stop) →
     then_with (then_with r f) g ≡ then_with r (λ x. then_with (f x) g)
 then_assoc (Ok x) f g = refl
@@ -33,19 +36,23 @@ fits_from_test : (z : ℤ) → fits z ≡ true → FitsSigned w64 z
 fits_from_test (pos n) e = grind arith
 fits_from_test (negsuc n) e = grind arith
 
+-- a literal is a value
 literal_fits : (z : ℤ) → IsLiteral z → FitsSigned w64 z
 literal_fits (pos n) h = record { sfits = h }
 literal_fits (negsuc n) h = absurd h
 
+-- the test of a result, by its answer
 abbrev tested_sum : Bool → ℤ → ℕ → Result ℤ Stop
 tested_sum b z line = cond b (Ok z) (Err (trap.Overflow, line))
 
+-- a result in range is a value
 in_range_fits : (line : ℕ) (x z : ℤ) → in_range line x ≡ Ok z → FitsSigned w64 z
 in_range_fits line x z e = go (fits x) refl e where
   go : (b : Bool) → fits x ≡ b → tested_sum b x line ≡ Ok z → FitsSigned w64 z
   go true t h = let same : x ≡ z = cc in subst (λ v. FitsSigned w64 v) same (fits_from_test x t)
   go false t h = cc
 
+-- what an operation gives is a value
 applied_fits : (o : Operator) (line : ℕ) (x y z : ℤ) → applied o line x y ≡ Ok z → FitsSigned w64 z
 applied_fits operator.Add line x y z e = in_range_fits line (x +ℤ y) z e
 
@@ -67,7 +74,9 @@ value_fits lengths frame s (tree.Element x line index) z sound literals reads e 
     let k = then_ok (word_at line (region_of frame x) i.0) (λ k. Ok (found k)) z i.2 in
     let within = word_within lengths a line k.0 i.0 (sym (ap (λ r. word_at line r i.0) reads.0) ∙ k.1) in
     let same : found k.0 ≡ z = cc (k.2) in
-    subst (λ v. FitsSigned w64 v) (sym (get_or-array_at lengths s.words a k.0 sound.enough within) ∙ same) (value_of-fits _ (sound.fits (base_of lengths a + k.0)))
+    subst (λ v. FitsSigned w64 v)
+    (sym (get_or-array_at lengths s.words a k.0 sound.enough within) ∙ same)
+    (value_of-fits _ (sound.fits (base_of lengths a + k.0)))
 value_fits lengths frame s (tree.Binary o line left right) z sound literals reads e =
     let arrays = arrays_of lengths s.words in
     let v = then_ok (evaluate frame arrays left) (λ v. then_with (evaluate frame arrays right) (λ w. applied o line v w)) z e in
@@ -79,7 +88,9 @@ abbrev pub Becomes : List ℕ → Result State Stop → Result (List (List ℤ))
 Becomes lengths run (Ok arrays) = (t : State) × (run ≡ Ok t) × ((arrays_of lengths t.words ≡ arrays) × IsSound lengths t)
 Becomes lengths run (Err stop) = run ≡ Err stop
 
-then_becomes : (lengths : List ℕ) (a : List Instr) (s base : State) (d : ℕ) (r : Result ℤ Stop) (f : ℤ → Result (List (List ℤ)) Stop) (next : State → Result State Stop) →
+-- an expression, and then what goes on from its value
+then_becomes : (lengths : List ℕ) (a : List Instr) (s base : State) (d : ℕ) (r : Result ℤ Stop)
+    (f : ℤ → Result (List (List ℤ)) Stop) (next : State → Result State Stop) →
     Ends lengths a s base d r → ((z : ℤ) (t : State) → r ≡ Ok z → Leaves d z base t → Becomes lengths (next t) (f z)) →
     Becomes lengths (then_with (steps lengths a s) next) (then_with r f)
 then_becomes lengths a s base d (Err stop) f next h go = ap (λ r. then_with r next) h
@@ -93,9 +104,11 @@ set_fits (x ∷ words) zero w h f (suc k) = h (suc k)
 set_fits (x ∷ words) (suc j) w h f zero = h zero
 set_fits (x ∷ words) (suc j) w h f (suc k) = set_fits words j w (λ q. h (suc q)) f k
 
+-- the lower of two places is not the higher
 different : (i j : ℕ) → i < j → i ≢ j
 different i j h = omega arith
 
+-- the end of the first capsule
 abbrev stores : List Instr
 stores = StoreCur 0 0 ∷ StoreCur 1 1 ∷ []
 
@@ -148,7 +161,10 @@ put_right lengths u a line i v sound fits_i fits_v first second = go (word_at li
   put r x = then_with (then_with (then_with r (λ k. Ok (base_of lengths a + k))) (λ j. Ok (next x j))) (λ t. Ok t)
 
   here : (r : Result ℕ Stop) → word_at line (whole lengths a) i ≡ r → put_on lengths a line u ≡ put r v
-  here r e = ap (λ x. put (word_at line (whole lengths a) x) (get_or loaded 1 (pos 0))) read_first ∙ ap (put (word_at line (whole lengths a) i)) read_second ∙ ap (λ r. put r v) e
+  here r e =
+      ap (λ x. put (word_at line (whole lengths a) x) (get_or loaded 1 (pos 0))) read_first
+      ∙ ap (put (word_at line (whole lengths a) i)) read_second
+      ∙ ap (λ r. put r v) e
 
   go : (r : Result ℕ Stop) → word_at line (whole lengths a) i ≡ r →
       Becomes lengths (put_on lengths a line u) (then_with r (λ k. Ok (stored (arrays_of lengths u.words) a k v)))
@@ -167,6 +183,7 @@ put_right lengths u a line i v sound fits_i fits_v first second = go (word_at li
     ),
   )
 
+-- a state with the same slots and words is as sound
 kept_sound : (lengths : List ℕ) (s t : State) → IsSound lengths s → t.slots ≡ s.slots → t.words ≡ s.words → IsSound lengths t
 kept_sound lengths s t sound slots words = record { slots = ap length slots ∙ sound.slots; enough = rw words sound.enough; fits = rw words sound.fits }
 
@@ -177,7 +194,9 @@ pair_run lengths frame x line index value s =
 
 -- the first capsule in its three stretches
 pair_parts : (lengths : List ℕ) (frame : Frame) (x : List ℕ) (line : ℕ) (index value : Expression) (s : State) →
-    pair_run lengths frame x line index value s ≡ then_with (steps lengths (expression_code frame 0 index) (cleared s)) (λ t. then_with (steps lengths (expression_code frame 1 value) t) (put_on lengths (array_of frame x) line))
+    pair_run lengths frame x line index value s
+    ≡ then_with (steps lengths (expression_code frame 0 index) (cleared s))
+    (λ t. then_with (steps lengths (expression_code frame 1 value) t) (put_on lengths (array_of frame x) line))
 pair_parts lengths frame x line index value s =
     ap (λ r. then_with r put) (steps-append lengths (expression_code frame 0 index) (expression_code frame 1 value ++ stores) (cleared s))
     ∙ then_assoc (steps lengths (expression_code frame 0 index) (cleared s)) (λ t. steps lengths (expression_code frame 1 value ++ stores) t) put
@@ -187,11 +206,15 @@ pair_parts lengths frame x line index value s =
     put t = steps lengths (put_capsule (array_of frame x) line).body (cleared t)
 
     at : (t : State) →
-        then_with (steps lengths (expression_code frame 1 value ++ stores) t) put ≡ then_with (steps lengths (expression_code frame 1 value) t) (put_on lengths (array_of frame x) line)
-    at t = ap (λ r. then_with r put) (steps-append lengths (expression_code frame 1 value) stores t) ∙ then_assoc (steps lengths (expression_code frame 1 value) t) (λ u. steps lengths stores u) put
+        then_with (steps lengths (expression_code frame 1 value ++ stores) t) put
+        ≡ then_with (steps lengths (expression_code frame 1 value) t) (put_on lengths (array_of frame x) line)
+    at t =
+        ap (λ r. then_with r put) (steps-append lengths (expression_code frame 1 value) stores t)
+        ∙ then_assoc (steps lengths (expression_code frame 1 value) t) (λ u. steps lengths stores u) put
 
     from : (r : Result State Stop) →
-        then_with r (λ t. then_with (steps lengths (expression_code frame 1 value ++ stores) t) put) ≡ then_with r (λ t. then_with (steps lengths (expression_code frame 1 value) t) (put_on lengths (array_of frame x) line))
+        then_with r (λ t. then_with (steps lengths (expression_code frame 1 value ++ stores) t) put)
+        ≡ then_with r (λ t. then_with (steps lengths (expression_code frame 1 value) t) (put_on lengths (array_of frame x) line))
     from (Ok t) = at t
     from (Err stop) = refl
 
@@ -204,18 +227,23 @@ pair_right lengths frame x line index value s sound room_i room_v literals_i lit
     let a = array_of frame x in
     let many : length (cleared s).registers ≡ register_count = length-replicate register_count (pos 0) in
     let room : reach 0 index ≤ length (cleared s).registers = omega arith in
-    subst (λ m. Becomes lengths m (after frame (arrays_of lengths s.words) (tree.Put x line index value))) (sym (pair_parts lengths frame x line index value s))
-    (then_becomes lengths (expression_code frame 0 index) (cleared s) (cleared s) 0 _ _ _ (expression_right lengths frame index 0 (cleared s) room sound.enough reads_i)
+    subst (λ m. Becomes lengths m (after frame (arrays_of lengths s.words) (tree.Put x line index value)))
+    (sym (pair_parts lengths frame x line index value s))
+    (then_becomes lengths (expression_code frame 0 index) (cleared s) (cleared s) 0 _ _ _
+    (expression_right lengths frame index 0 (cleared s) room sound.enough reads_i)
     (λ i t ei l.
     let sound_t : IsSound lengths t = kept_sound lengths s t sound l.slots l.words in
     let room_t : reach 1 value ≤ length t.registers = omega (arith, l.size) in
-    subst (λ ws. Becomes lengths (then_with (steps lengths (expression_code frame 1 value) t) (put_on lengths a line)) (then_with (evaluate frame (arrays_of lengths ws) value) (λ v. then_with (word_at line (region_of frame x) i) (λ k. Ok (stored (arrays_of lengths ws) a k v))))) l.words
+    let rest = then_with (steps lengths (expression_code frame 1 value) t) (put_on lengths a line) in
+    let put = λ (ws : List ℕ) (v : ℤ). then_with (word_at line (region_of frame x) i) (λ k. Ok (stored (arrays_of lengths ws) a k v)) in
+    subst (λ ws. Becomes lengths rest (then_with (evaluate frame (arrays_of lengths ws) value) (put ws))) l.words
     (then_becomes lengths (expression_code frame 1 value) t t 1 _ _ _ (expression_right lengths frame value 1 t room_t sound_t.enough reads_v)
     (λ v u ev m.
     let sound_u : IsSound lengths u = kept_sound lengths t u sound_t m.slots m.words in
     let fits_i = value_fits lengths frame s index i sound literals_i reads_i ei in
     let fits_v = value_fits lengths frame t value v sound_t literals_v reads_v ev in
     let zero_below : 0 < 1 = omega arith in
-    subst (λ ws. Becomes lengths (put_on lengths a line u) (then_with (word_at line (region_of frame x) i) (λ k. Ok (stored (arrays_of lengths ws) a k v)))) m.words
-    (subst (λ w. Becomes lengths (put_on lengths a line u) (then_with w (λ k. Ok (stored (arrays_of lengths u.words) a k v)))) (sym (ap (λ r. word_at line r i) whole_x))
+    subst (λ ws. Becomes lengths (put_on lengths a line u) (put ws v)) m.words
+    (subst (λ w. Becomes lengths (put_on lengths a line u) (then_with w (λ k. Ok (stored (arrays_of lengths u.words) a k v))))
+    (sym (ap (λ r. word_at line r i) whole_x))
     (put_right lengths u a line i v sound_u fits_i fits_v (m.below 0 zero_below ∙ l.value) m.value))))))

@@ -1,5 +1,6 @@
 -- The code of an admitted source, run by the machine from the words of its input, comes to the source's serial meaning.
-use Rattle.std.proofs.Common.{◌≡◌, ℕ, zero, suc, ◌+◌, ◌-◌, ◌<◌, ◌≤◌, ◌^◌, List, [], ◌∷◌, length, map, take, drop, get_or, replicate, Result, Ok, Err, refl, sym, ap, ◌∙◌, subst, arith, cond, true}
+use Rattle.std.proofs.Common.{◌≡◌, ℕ, zero, suc, ◌+◌, ◌-◌, ◌<◌, ◌≤◌, ◌^◌, List, [], ◌∷◌, length, map, take}
+use Rattle.std.proofs.Common.{drop, get_or, replicate, Result, Ok, Err, refl, sym, ap, ◌∙◌, subst, arith, cond, true}
 use Rattle.std.specs.Prelude.{ℤ, pos, codes, Some, None}
 use Rattle.std.specs.List.{All, Contains}
 use Rattle.std.specs.Str.{bytes_eq}
@@ -13,7 +14,8 @@ use Rattle.ppm_syntax.specs.declared.tree.Array.{Array}
 use Rattle.ppm_syntax.specs.Tree.{Procedure, SourceTree}
 use Rattle.ppm_syntax.specs.Limits.{IsSmall, IsWithin}
 use Rattle.ppm_syntax.specs.Rules.{IsMain, IsLawful, IsAdmitted}
-use Rattle.ppm_syntax.specs.Meaning.{Stop, Frame, main_frame, procedure_named, run_main, at_once, opening, values_of, with_names, outcome_of, serial, IsOutcome}
+use Rattle.ppm_syntax.specs.Meaning.{Stop, Frame, main_frame, procedure_named, run_main, at_once}
+use Rattle.ppm_syntax.specs.Meaning.{opening, values_of, with_names, outcome_of, serial, IsOutcome}
 use Rattle.ppm_top.specs.declared.code.Capsule.{Capsule}
 use Rattle.ppm_top.specs.Code.{code_of, IsAlone}
 use Rattle.ppm_top.specs.Machine.{State, run_capsules, lengths_of, total_of, arrays_of, named_arrays, words_from, IsStart}
@@ -25,6 +27,7 @@ use Rattle.ppm_top.proofs.NamesResolve.{NamesWhole, names_whole}
 abbrev opened : List Array → List NamedArray
 opened arrays = map (λ a. record { name = a.name; values = replicate a.length (pos 0) }) arrays
 
+-- the word of 0 is 0
 map-zeros : (n : ℕ) → map word_of (replicate n (pos 0)) ≡ replicate n 0
 map-zeros zero = refl
 map-zeros (suc n) = ap (λ xs. 0 ∷ xs) (map-zeros n)
@@ -34,25 +37,31 @@ pub words_from-opened : (arrays : List Array) → words_from (opened arrays) ≡
 words_from-opened [] = refl
 words_from-opened (a ∷ arrays) = rw (map-zeros a.length, words_from-opened arrays) (replicate-append-replicate a.length (total_of (lengths_of arrays)) 0)
 
+-- 0 is a word
 zeros_fit : (n k : ℕ) → get_or (replicate n 0) k 0 < 2 ^ 64
 zeros_fit zero k = omega arith
 zeros_fit (suc n) zero = omega arith
 zeros_fit (suc n) (suc k) = zeros_fit n k
 
+-- the value of the word 0 is 0
 map-value_of-zeros : (n : ℕ) → map value_of (replicate n 0) ≡ replicate n (pos 0)
 map-value_of-zeros zero = refl
 map-value_of-zeros (suc n) = ap (λ xs. pos 0 ∷ xs) (map-value_of-zeros n)
 
+-- the first of the zeros
 take-zeros : (n m : ℕ) → take {A = ℕ} n (replicate (n + m) 0) ≡ replicate n 0
 take-zeros n m = let h : n ≤ n + m = omega arith in take-replicate n (n + m) 0 h
 
+-- the zeros behind them
 drop-zeros : (n m : ℕ) → drop {A = ℕ} n (replicate (n + m) 0) ≡ replicate m 0
 drop-zeros n m = let e : n + m - n ≡ m = omega arith in drop-replicate n (n + m) 0 ∙ ap (λ k. replicate k 0) e
 
 -- words that are 0 stand for the arrays that a source starts with
 opened_arrays : (arrays : List Array) → arrays_of (lengths_of arrays) (replicate (total_of (lengths_of arrays)) 0) ≡ values_of (opened arrays)
 opened_arrays [] = refl
-opened_arrays (a ∷ arrays) = rw (take-zeros a.length (total_of (lengths_of arrays)), drop-zeros a.length (total_of (lengths_of arrays)), map-value_of-zeros a.length, opened_arrays arrays) refl
+opened_arrays (a ∷ arrays) =
+    let rest = total_of (lengths_of arrays) in
+    rw (take-zeros a.length rest, drop-zeros a.length rest, map-value_of-zeros a.length, opened_arrays arrays) refl
 
 -- the arrays with their names
 pub with_names-arrays_of : (arrays : List Array) (words : List ℕ) →
@@ -62,9 +71,11 @@ with_names-arrays_of (a ∷ arrays) words =
     let first : NamedArray = record { name = a.name; values = map value_of (take a.length words) } in
     ap (λ rest. first ∷ rest) (with_names-arrays_of arrays (drop a.length words))
 
+-- a run starts with words that are 0
 start_words : (t : SourceTree) (s : State) → IsStart t s → s.words ≡ replicate (total_of (lengths_of t.arrays)) 0
 start_words t s start = start.words ∙ words_from-opened t.arrays
 
+-- a run starts in a sound state
 start_sound : (t : SourceTree) (s : State) → IsStart t s → IsSound (lengths_of t.arrays) s
 start_sound t s start =
     let e = start_words t s start in
@@ -77,7 +88,9 @@ start_sound t s start =
 -- `main` alone is what the rules want of it
 alone_main : (arrays : List Array) (procs : List Procedure) (main : Procedure) → procs ≡ main ∷ [] → (p : Procedure) → Contains procs p →
     IsMain arrays p → IsMain arrays main
-alone_main arrays procs main e p has h = subst (IsMain arrays) (All-contains (λ q. q ≡ main) procs p (subst (All (λ q. q ≡ main)) (sym e) (All-from_recursion (λ q. q ≡ main) (main ∷ []) (refl, tt))) has) h
+alone_main arrays procs main e p has h =
+    let all : All (λ q. q ≡ main) procs = subst (All (λ q. q ≡ main)) (sym e) (All-from_recursion (λ q. q ≡ main) (main ∷ []) (refl, tt)) in
+    subst (IsMain arrays) (All-contains (λ q. q ≡ main) procs p all has) h
 
 -- where the machine's run comes to, said of the body
 abbrev pub BodyEnds : SourceTree → Procedure → Result (List (List ℤ)) Stop → Type 0
@@ -99,7 +112,8 @@ serial_is t main r admitted alone ends =
 
 -- the machine's run does what the body means
 run_right : (t : SourceTree) (main : Procedure) (s : State) → IsWithin t → IsAdmitted t → IsAlone t main → IsStart t s →
-    Becomes (lengths_of t.arrays) (run_capsules (lengths_of t.arrays) (code_of (main_frame t.arrays main.params) main.body) s) (after_all (main_frame t.arrays main.params) (values_of (opening t)) main.body)
+    Becomes (lengths_of t.arrays) (run_capsules (lengths_of t.arrays) (code_of (main_frame t.arrays main.params) main.body) s)
+    (after_all (main_frame t.arrays main.params) (values_of (opening t)) main.body)
 run_right t main s within admitted alone start =
     subst (λ arrays. Becomes lengths (run_capsules lengths (code_of frame main.body) s) (after_all frame arrays main.body)) begin
     (body_right lengths frame main.body s (start_sound t s start) small.body names)
@@ -172,7 +186,8 @@ pub whole_ends : (t : SourceTree) (main : Procedure) (layout : List ℕ) (code :
     words ≡ u.words → result ≡ named_arrays arrays words → IsOutcome t (outcome.Ended result)
 whole_ends t main layout code s u within admitted alone start el ec e arrays words result ea ew er =
     let meant = code_of (main_frame t.arrays main.params) main.body in
-    let run : run_capsules (lengths_of t.arrays) meant s ≡ Ok u = ap (λ lengths. run_capsules lengths meant s) (sym el) ∙ ap (λ is. run_capsules layout is s) (sym ec) ∙ e in
+    let run : run_capsules (lengths_of t.arrays) meant s ≡ Ok u =
+    ap (λ lengths. run_capsules lengths meant s) (sym el) ∙ ap (λ is. run_capsules layout is s) (sym ec) ∙ e in
     let same : result ≡ named_arrays t.arrays u.words = er ∙ ap (λ a. named_arrays a words) ea ∙ ap (named_arrays t.arrays) ew in
     subst (λ named. IsOutcome t (outcome.Ended named)) (sym same) (run_ends t main s u within admitted alone start run)
 
@@ -183,5 +198,6 @@ pub whole_stops : (t : SourceTree) (main : Procedure) (layout : List ℕ) (code 
     IsOutcome t (outcome.Trapped stop.0 stop.1)
 whole_stops t main layout code s stop within admitted alone start el ec e =
     let meant = code_of (main_frame t.arrays main.params) main.body in
-    let run : run_capsules (lengths_of t.arrays) meant s ≡ Err stop = ap (λ lengths. run_capsules lengths meant s) (sym el) ∙ ap (λ is. run_capsules layout is s) (sym ec) ∙ e in
+    let run : run_capsules (lengths_of t.arrays) meant s ≡ Err stop =
+    ap (λ lengths. run_capsules lengths meant s) (sym el) ∙ ap (λ is. run_capsules layout is s) (sym ec) ∙ e in
     run_stops t main s stop within admitted alone start run

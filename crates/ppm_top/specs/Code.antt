@@ -45,6 +45,7 @@ put_capsule a line = record { body = LoadSlot 0 0 ∷ LoadSlot 1 1 ∷ Put a 0 1
 abbrev pub end_capsule : Capsule
 end_capsule = record { body = []; exit = End }
 
+-- the capsules of a statement
 abbrev pub statement_code : Frame → Statement → List Capsule
 statement_code frame (tree.Put x line index value) = keep_capsule frame index value ∷ put_capsule (array_of frame x) line ∷ []
 

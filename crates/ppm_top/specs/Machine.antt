@@ -63,15 +63,19 @@ pub record State : Type 0 where
   pub slots : List ℕ
   pub words : List ℕ
 
+-- the number in a register
 abbrev pub register : State → ℕ → ℤ
 register s r = get_or s.registers r (pos 0)
 
+-- the state with a number in a register
 abbrev pub with_register : State → ℕ → ℤ → State
 with_register s r z = record { registers = set s.registers r z; slots = s.slots; words = s.words }
 
+-- the state with a word in a slot
 abbrev pub with_slot : State → ℕ → ℕ → State
 with_slot s i w = record { registers = s.registers; slots = set s.slots i w; words = s.words }
 
+-- the state with a word at a place
 abbrev pub with_word : State → ℕ → ℕ → State
 with_word s j w = record { registers = s.registers; slots = s.slots; words = set s.words j w }
 

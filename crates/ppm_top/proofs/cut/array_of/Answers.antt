@@ -6,10 +6,14 @@ use Rattle.ppm_top.proofs.cut.array_of.Goals as goal
 pub returns-then-is : goal.returns-then-is
 returns-then-is c =
     c.array_named.ensures
-    ∙ ap (λ r. r.array) (sym (param_found c.args.arrays.now c.args.params.now c.loop-param.param-index c.param-item.result c.args.name.now c.is.result c.loop-param-test.true c.param-item.is c.is.ensures c.if-is.true) ∙ c.loop-param.invariant)
+    ∙ ap (λ r. r.array)
+    (sym (param_found c.args.arrays.now c.args.params.now c.loop-param.param-index c.param-item.result c.args.name.now c.is.result
+    c.loop-param-test.true c.param-item.is c.is.ensures c.if-is.true)
+    ∙ c.loop-param.invariant)
 
 -- the search passes over a parameter with another name
 pub loop-param-preserved : goal.loop-param-preserved
 loop-param-preserved c =
-    param_missed c.args.arrays.now c.args.params.now c.loop-param.param-index c.param-item.result c.args.name.now c.is.result c.loop-param-test.true c.param-item.is c.is.ensures c.if-is.false
+    param_missed c.args.arrays.now c.args.params.now c.loop-param.param-index c.param-item.result c.args.name.now c.is.result
+    c.loop-param-test.true c.param-item.is c.is.ensures c.if-is.false
     ∙ c.loop-param.invariant

@@ -26,4 +26,5 @@ placed arrays lengths bases i next past few el eb =
     )
 
 pub invariant_of-result : goal.invariant_of-result
-invariant_of-result c = placed c.args.arrays.now _ _ _ c.loop-array.base c.loop-array-test.false c.requires.few c.loop-array.invariant.lengths c.loop-array.invariant.bases
+invariant_of-result c =
+    placed c.args.arrays.now _ _ _ c.loop-array.base c.loop-array-test.false c.requires.few c.loop-array.invariant.lengths c.loop-array.invariant.bases
