@@ -5,3 +5,4 @@ pub mod Limits
 pub mod Rules
 pub mod Meaning
 pub mod Correct
+pub mod Deciding

@@ -5,7 +5,9 @@
 //! Stands on `ppm_words`; `ppm_top` reads, compiles and judges by it.
 #![tactic(auto)]
 
+mod named;
 mod reading;
+mod rules;
 mod source;
 mod token;
 mod tree;
