@@ -1,2 +1,4 @@
 pub mod Elements
 pub mod RulesLemmas
+pub mod OpeningLemmas
+pub mod MeaningLemmas

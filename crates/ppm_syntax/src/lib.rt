@@ -5,13 +5,16 @@
 //! Stands on `ppm_words`; `ppm_top` reads, compiles and judges by it.
 #![tactic(auto)]
 
+mod laws;
 mod named;
+mod opening;
 mod reading;
 mod rules;
 mod source;
 mod token;
 mod tree;
 
+pub use laws::more_turns_keep;
 pub use reading::{SourceError, read_source};
 pub use source::{Admitted, Source};
 pub use tree::{Array, Expr, Mode, Operator, Param, Proc, Stmt, Tree};
