@@ -1,5 +1,5 @@
 -- A source and a sink in memory, and what one call does.
-use Rattle.std.specs.Prelude.{◌≡◌, ◌⊎◌, ℕ, ◌-◌, ◌<◌, ◌≤◌, min, List, ◌++◌, length, take, drop, Result, MatchResult, Contains}
+use Rattle.std.specs.Prelude.{◌≡◌, ◌⊎◌, ℕ, ◌-◌, ◌<◌, ◌≤◌, min, List, [], ◌++◌, length, take, drop, Result, MatchResult, Contains}
 use Rattle.ppm_ports.specs.Causes.{one_up}
 
 -- a source: what is left, the most bytes of one call, the calls that fail, how many calls there were, and the count of faults
@@ -9,6 +9,10 @@ pub record SourceState : Type 0 where
   pub failing : List ℕ
   pub calls : ℕ
   pub faults : ℕ
+
+-- a source of these bytes, before any call
+abbrev pub new_source : List ℕ → ℕ → List ℕ → SourceState
+new_source bytes most failing = record { rest = bytes; most = most; failing = failing; calls = 0; faults = 0 }
 
 -- the source after a call that gave n bytes
 abbrev pub after_read : SourceState → ℕ → SourceState
@@ -32,6 +36,10 @@ pub record SinkState : Type 0 where
   pub failing : List ℕ
   pub calls : ℕ
   pub faults : ℕ
+
+-- an empty sink, before any call
+abbrev pub new_sink : ℕ → ℕ → List ℕ → SinkState
+new_sink room most failing = record { bytes = []; room = room; most = most; failing = failing; calls = 0; faults = 0 }
 
 -- the sink after a call that took these bytes
 abbrev pub after_write : SinkState → List ℕ → SinkState

@@ -1,9 +1,9 @@
 //! A sink in memory, which fails where it is asked to and where it is full.
-ghost use Rattle.std.specs.Prelude.{◌≡◌, ◌<◌, ◌↔◌, [], Some, IfOk, IsTrue, length};
+ghost use Rattle.std.specs.Prelude.{◌≡◌, ◌<◌, ◌↔◌, Some, IfOk, IsTrue, length};
 ghost use Rattle.std.specs.Io.{WritesAtMost};
 ghost use Rattle.std.specs.Io.KnownBytes.{WriteAppends};
 ghost use Rattle.ppm_ports.specs.Causes.{HasCause};
-ghost use Rattle.ppm_ports.specs.Memory.{MemoryWrites, Refuses};
+ghost use Rattle.ppm_ports.specs.Memory.{MemoryWrites, Refuses, new_sink};
 
 use crate::failed::Failed;
 use crate::memory_source::is_listed;
@@ -12,8 +12,8 @@ use ppm_words::NoMemory;
 use std::alloc::Global;
 use std::marker::Model;
 
-/// A sink that keeps up to `room` bytes, takes at most `most` in a call, and fails at listed calls and where it is full.
-/// Calls count from 0.
+/// A sink that keeps up to `room` bytes, takes at most `most` in a call, and fails at listed calls
+/// and where it is full. Calls count from 0.
 #[derive(Debug, Drop)]
 pub struct MemorySink {
     bytes: Vec<u8>,
@@ -30,16 +30,23 @@ impl Model for MemorySink {
 
     ghost Value = { SinkState };
 
-    ghost view = { λ s. record { bytes = s.bytes.items; room = s.room; most = s.most; failing = s.failing.items; calls = s.calls; faults = s.faults } };
+    ghost view = { λ s. record {
+      bytes = s.bytes.items;
+      room = s.room;
+      most = s.most;
+      failing = s.failing.items;
+      calls = s.calls;
+      faults = s.faults;
+    } };
 
     ghost invariant = { λ s. (length s.bytes.items ≤ s.room) × (s.room ≤ vec_capacity s.bytes) × (0 < s.most) };
 }
 
 impl MemorySink {
-    /// An empty sink. It takes the memory for `room` bytes at once, and `Err` comes only where that is refused.
+    /// An empty sink. It takes the memory for `room` bytes at once; `Err` only where that is refused.
     pub fn new(alloc: Global, room: usize, most: usize, failing: Vec<u64>) -> Result<Self, NoMemory>
         requires { 0 < most }
-        ensures { IfOk result (λ s. s ≡ record { bytes = []; room = room; most = most; failing = failing.items; calls = 0; faults = 0 }) }
+        ensures { IfOk result (λ s. s ≡ new_sink room most failing.items) }
     {
         let bytes = Vec::with_capacity(alloc, room)?;
         Ok(MemorySink {

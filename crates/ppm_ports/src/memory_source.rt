@@ -3,13 +3,14 @@ ghost use Rattle.std.specs.Prelude.{◌≡◌, ◌<◌, ◌↔◌, Some, IsTrue,
 ghost use Rattle.std.specs.Io.{ReadsAtMost};
 ghost use Rattle.std.specs.Io.KnownBytes.{ReadConsumes};
 ghost use Rattle.ppm_ports.specs.Causes.{HasCause};
-ghost use Rattle.ppm_ports.specs.Memory.{MemoryReads};
+ghost use Rattle.ppm_ports.specs.Memory.{MemoryReads, new_source};
 
 use crate::failed::Failed;
 use crate::source::Source;
 use std::marker::Model;
 
-/// A source that gives bytes of its own, at most `most` in a call, and fails at listed calls. Calls count from 0.
+/// A source that gives bytes of its own, at most `most` in a call, and fails at listed calls.
+/// Calls count from 0.
 #[derive(Debug, Drop)]
 pub struct MemorySource {
     bytes: Vec<u8>,
@@ -26,16 +27,23 @@ impl Model for MemorySource {
 
     ghost Value = { SourceState };
 
-    ghost view = { λ s. record { rest = drop s.at s.bytes.items; most = s.most; failing = s.failing.items; calls = s.calls; faults = s.faults } };
+    ghost view = { λ s. record {
+      rest = drop s.at s.bytes.items;
+      most = s.most;
+      failing = s.failing.items;
+      calls = s.calls;
+      faults = s.faults;
+    } };
 
     ghost invariant = { λ s. (s.at ≤ length s.bytes.items) × (0 < s.most) };
 }
 
 impl MemorySource {
-    /// A source of these bytes, which gives at most `most` of them in a call and fails at the calls in `failing`.
+    /// A source of these bytes, which gives at most `most` of them in a call and fails at the calls
+    /// in `failing`.
     pub fn new(bytes: Vec<u8>, most: usize, failing: Vec<u64>) -> Self
         requires { 0 < most }
-        ensures { result ≡ record { rest = bytes.items; most = most; failing = failing.items; calls = 0; faults = 0 } }
+        ensures { result ≡ new_source bytes.items most failing.items }
     {
         MemorySource {
             bytes,

@@ -11,7 +11,7 @@ use std::alloc::Global;
 const PIECE: usize = 4096;
 
 /// Reads to the end, or `limit` bytes and one: then there are too many.
-/// `Failed` comes only where the source's count of faults rose. At `Err` the bytes that were read are gone.
+/// `Failed` comes only where the source's count of faults rose. At `Err` what was read is gone.
 pub fn read_whole<S: Source>(
     alloc: Global,
     source: &mut S,
@@ -19,7 +19,8 @@ pub fn read_whole<S: Source>(
 ) -> Result<Vec<u8>, ReadError>
     ensures bytes { IfOk result (λ text. ReadsTo limit (S.left source.old) (S.left source.new) text.items) }
     ensures front { ReadsFront limit (S.left source.old) (S.left source.new) }
-    ensures cause { IsErrOf result ReadError.Failed → Rose (S.fault_count source.old) (S.fault_count source.new) }
+    ensures cause { IsErrOf result ReadError.Failed
+        → Rose (S.fault_count source.old) (S.fault_count source.new) }
     ensures later { S.fault_count source.old ≤ S.fault_count source.new }
 {
     let mut text = Vec::new(alloc);

@@ -6,7 +6,8 @@ use ppm_words::{Event, NoMemory};
 use std::alloc::Global;
 use std::marker::Model;
 
-/// A watcher that keeps the events that it is told, the oldest first. It refuses one where memory is refused.
+/// A watcher that keeps the events that it is told, the oldest first. It refuses one where memory
+/// is refused.
 #[derive(Debug, Drop)]
 pub struct Recorder {
     events: Vec<Event>,

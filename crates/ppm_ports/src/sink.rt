@@ -19,7 +19,7 @@ pub trait Sink {
         ensures { result ≡ fault_count self.now };
 
     /// Appends the first bytes of `bytes`, at least one where there is one, and answers how many.
-    /// `Failed` comes only where the count of faults rose in this call, and then no byte was appended.
+    /// `Failed` comes only where the count of faults rose in this call; then no byte was appended.
     fn write(&mut self, bytes: &[u8]) -> Result<usize, Failed>
         ensures bound { WritesAtMost result bytes.now }
         ensures progress { 0 < length bytes.now → IfOk result (λ n. 0 < n) }

@@ -18,8 +18,9 @@ pub trait Source {
     fn faults(&self) -> u64
         ensures { result ≡ fault_count self.now };
 
-    /// Moves the next bytes into the front of `buf`, and answers how many. `Ok(0)` at a buffer that is not empty is the end.
-    /// `Failed` comes only where the count of faults rose in this call, and then no byte was moved.
+    /// Moves the next bytes into the front of `buf`, and answers how many.
+    /// `Ok(0)` at a buffer that is not empty is the end.
+    /// `Failed` comes only where the count of faults rose in this call; then no byte was moved.
     fn read(&mut self, buf: &mut [u8]) -> Result<usize, Failed>
         ensures bound { ReadsAtMost result buf.new }
         ensures bytes { ReadConsumes (left self.old) (left self.new) result buf.new }

@@ -1,5 +1,8 @@
 //! Any reader as a source.
 ghost use Rattle.std.specs.Prelude.{◌≡◌};
+ghost use Rattle.std.specs.Io.{ReadsAtMost};
+ghost use Rattle.std.specs.Io.KnownBytes.{ReadConsumes};
+ghost use Rattle.ppm_ports.specs.Causes.{Counts, HasCause};
 
 use crate::failed::Failed;
 use crate::source::Source;
@@ -31,7 +34,15 @@ impl<R: Read + Drop> Source for StdSource<R> {
         self.faults
     }
 
-    fn read(&mut self, buf: &mut [u8]) -> Result<usize, Failed> {
+    fn read(&mut self, buf: &mut [u8]) -> Result<usize, Failed>
+        ensures bound { ReadsAtMost result buf.new }
+        ensures bytes { let left = ⟦<StdSource<R> as Source>⟧.left in
+            ReadConsumes (left self.old) (left self.new) result buf.new }
+        ensures cause { let faults = ⟦<StdSource<R> as Source>⟧.fault_count in
+            HasCause (faults self.old) (faults self.new) result }
+        ensures counted { let faults = ⟦<StdSource<R> as Source>⟧.fault_count in
+            Counts (faults self.old) (faults self.new) result }
+    {
         match self.reader.read(buf) {
             Ok(count) => Ok(count),
             Err(_) => {

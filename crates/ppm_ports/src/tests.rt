@@ -28,7 +28,7 @@ fn a_source_gives_pieces(rt: HostRuntime) -> Result<(), Fail> {
         assert_eq!(rt; source.read(&mut buf), answer);
     }
     assert_eq!(rt; source.faults(), 1);
-    assert_eq!(rt; buf.as_slice(), b"edcd".as_slice());
+    assert_eq!(rt; buf.as_slice(), b"ed\0\0".as_slice());
     Ok(())
 }
 
