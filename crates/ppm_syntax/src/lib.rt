@@ -5,8 +5,12 @@
 //! Stands on `ppm_words`; `ppm_top` reads, compiles and judges by it.
 #![tactic(auto)]
 
+mod byte_class;
 mod reading;
+mod scan;
 mod source;
+mod spelling;
+mod text_error;
 mod token;
 mod tree;
 
