@@ -1,5 +1,8 @@
 pub mod Tree
+pub mod Bytes
+pub mod Spelling
 pub mod Cutting
+pub mod Scanning
 pub mod Grammar
 pub mod Limits
 pub mod Rules

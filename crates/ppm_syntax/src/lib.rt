@@ -5,12 +5,16 @@
 //! Stands on `ppm_words`; `ppm_top` reads, compiles and judges by it.
 #![tactic(auto)]
 
+mod byte_class;
 mod laws;
 mod named;
 mod opening;
 mod reading;
 mod rules;
+mod scan;
 mod source;
+mod spelling;
+mod text_error;
 mod token;
 mod tree;
 
