@@ -6,3 +6,4 @@ pub mod BytesLemmas
 pub mod SpellingLemmas
 pub mod CuttingLemmas
 pub mod ScanLemmas
+pub mod Unique
