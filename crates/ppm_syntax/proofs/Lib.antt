@@ -7,3 +7,4 @@ pub mod SpellingLemmas
 pub mod CuttingLemmas
 pub mod ScanLemmas
 pub mod Unique
+pub mod ReadingLemmas

@@ -18,7 +18,7 @@ mod text_error;
 mod token;
 mod tree;
 
-pub use laws::more_turns_keep;
+pub use laws::{have_one_tree, more_turns_keep};
 pub use reading::{SourceError, read_source};
 pub use source::{Admitted, Source};
 pub use tree::{Array, Expr, Mode, Operator, Param, Proc, Stmt, Tree};
