@@ -229,3 +229,6 @@ pub fn tokens(alloc: Global, text: &[u8]) -> Result<Vec<Token>, TextError>
     }
     Ok(all)
 }
+
+#[cfg(test)]
+mod tests;
