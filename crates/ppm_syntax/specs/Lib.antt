@@ -7,4 +7,6 @@ pub mod Grammar
 pub mod Limits
 pub mod Rules
 pub mod Meaning
+pub mod Parsing
 pub mod Correct
+pub mod Deciding

@@ -1,5 +1,5 @@
 -- What a source means, run serially: the arrays in the end, or the first trap.
-use Rattle.std.specs.Prelude.{ℕ, zero, suc, ◌+◌, ◌^◌, ℤ, pos, negsuc, ◌+ℤ◌, Bool, List, [], ◌∷◌, map, length, replicate, Option, Some, None, Result, Ok, Err, nat_lt, get_or, set, codes, if◌then◌else◌}
+use Rattle.std.specs.Prelude.{◌≡◌, ◌≢◌, ℕ, zero, suc, ◌+◌, ◌^◌, ℤ, pos, negsuc, ◌+ℤ◌, Bool, List, [], ◌∷◌, map, length, replicate, Option, Some, None, Result, Ok, Err, nat_lt, get_or, set, codes, if◌then◌else◌}
 use Rattle.std.specs.Str.{bytes_eq}
 use Rattle.ppm_words.specs.declared.named_array.NamedArray.{NamedArray}
 use Rattle.ppm_words.specs.declared.outcome.Outcome.{Outcome}
@@ -137,9 +137,13 @@ abbrev pub run_main : List Array → Option Procedure → Arrays → ℕ → End
 run_main arrays None values left = Done values left
 run_main arrays (Some main) values left = run_procedure (main_frame arrays main.params) main values left
 
--- the arrays that a source starts with: each word is 0
+-- an array as it starts: each word is 0
+abbrev pub opening_array : Array → NamedArray
+opening_array a = record { name = a.name; values = replicate a.length (pos 0) }
+
+-- the arrays that a source starts with
 abbrev pub opening : SourceTree → List NamedArray
-opening t = map (λ a. record { name = a.name; values = replicate a.length (pos 0) }) t.arrays
+opening t = map opening_array t.arrays
 
 abbrev pub values_of : List NamedArray → Arrays
 values_of arrays = map (λ a. a.values) arrays
@@ -158,3 +162,11 @@ outcome_of arrays OutOfTurns = outcome.NotWithin
 -- the serial meaning of a source, within so many turns
 abbrev pub serial : ℕ → SourceTree → Outcome
 serial turns t = outcome_of (opening t) (run_main t.arrays (procedure_named t.procs (codes "main")) (values_of (opening t)) turns)
+
+-- the outcome of a source: what its run comes to within some number of turns
+abbrev pub IsOutcome : SourceTree → Outcome → Type 0
+IsOutcome t o = (turns : ℕ) × (serial turns t ≡ o) × (o ≢ outcome.NotWithin)
+
+-- more turns never change an outcome that is there
+abbrev pub MoreTurnsKeep : Type 0
+MoreTurnsKeep = (turns more : ℕ) (t : SourceTree) → serial turns t ≢ outcome.NotWithin → serial (turns + more) t ≡ serial turns t

@@ -6,7 +6,11 @@
 #![tactic(auto)]
 
 mod byte_class;
+mod laws;
+mod named;
+mod opening;
 mod reading;
+mod rules;
 mod scan;
 mod source;
 mod spelling;
@@ -14,6 +18,7 @@ mod text_error;
 mod token;
 mod tree;
 
+pub use laws::{have_one_tree, more_turns_keep};
 pub use reading::{SourceError, read_source};
 pub use source::{Admitted, Source};
 pub use tree::{Array, Expr, Mode, Operator, Param, Proc, Stmt, Tree};
