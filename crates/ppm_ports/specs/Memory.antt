@@ -22,10 +22,14 @@ after_read s n = record s { rest = drop n s.rest; calls = one_up s.calls }
 abbrev pub after_failed_read : SourceState → SourceState
 after_failed_read s = record s { calls = one_up s.calls; faults = one_up s.faults }
 
--- A call fails exactly where it is listed. Else it gives the next bytes: as many as the buffer holds, one call gives and there are.
+-- how many bytes a call gives: as many as the buffer holds, one call gives and there are
+abbrev pub given_count : SourceState → ℕ → ℕ
+given_count s room = min (min room s.most) (length s.rest)
+
+-- a call fails exactly where it is listed, and else gives the next bytes
 abbrev pub MemoryReads : {E : Type 0} → SourceState → SourceState → Result ℕ E → List ℕ → Type 0
 MemoryReads old new r buf = MatchResult r
-    (λ n. (¬ Contains old.failing old.calls) × (n ≡ min (min (length buf) old.most) (length old.rest)) × (take n buf ≡ take n old.rest) × (new ≡ after_read old n))
+    (λ n. (¬ Contains old.failing old.calls) × (n ≡ given_count old (length buf)) × (take n buf ≡ take n old.rest) × (new ≡ after_read old n))
     (λ _. Contains old.failing old.calls × (new ≡ after_failed_read old))
 
 -- a sink: what was written, for how many bytes it has room, and the rest as for a source
@@ -53,8 +57,12 @@ after_failed_write s = record s { calls = one_up s.calls; faults = one_up s.faul
 abbrev pub Refuses : SinkState → List ℕ → Type 0
 Refuses s piece = Contains s.failing s.calls ⊎ ((0 < length piece) × (s.room ≤ length s.bytes))
 
--- A call fails exactly where it is refused. Else it takes a front of the piece: as much as there is, one call takes and there is room for.
+-- how many bytes of a piece a call takes: as many as there are, one call takes and there is room for
+abbrev pub taken_count : SinkState → List ℕ → ℕ
+taken_count s piece = min (min (length piece) s.most) (s.room - length s.bytes)
+
+-- a call fails exactly where it is refused, and else takes a front of the piece
 abbrev pub MemoryWrites : {E : Type 0} → SinkState → SinkState → Result ℕ E → List ℕ → Type 0
 MemoryWrites old new r piece = MatchResult r
-    (λ n. (¬ Refuses old piece) × (n ≡ min (min (length piece) old.most) (old.room - length old.bytes)) × (new ≡ after_write old (take n piece)))
+    (λ n. (¬ Refuses old piece) × (n ≡ taken_count old piece) × (new ≡ after_write old (take n piece)))
     (λ _. Refuses old piece × (new ≡ after_failed_write old))

@@ -39,11 +39,13 @@ impl Model for MemorySink {
       faults = s.faults;
     } };
 
-    ghost invariant = { λ s. (length s.bytes.items ≤ s.room) × (s.room ≤ vec_capacity s.bytes) × (0 < s.most) };
+    ghost invariant = { λ s. (length s.bytes.items ≤ s.room)
+        × (s.room ≤ vec_capacity s.bytes)
+        × (0 < s.most) };
 }
 
 impl MemorySink {
-    /// An empty sink. It takes the memory for `room` bytes at once; `Err` only where that is refused.
+    /// An empty sink. It takes the memory for `room` bytes at once; `Err` only if that is refused.
     pub fn new(alloc: Global, room: usize, most: usize, failing: Vec<u64>) -> Result<Self, NoMemory>
         requires { 0 < most }
         ensures { IfOk result (λ s. s ≡ new_sink room most failing.items) }

@@ -17,7 +17,8 @@ pub fn read_whole<S: Source>(
     source: &mut S,
     limit: usize,
 ) -> Result<Vec<u8>, ReadError>
-    ensures bytes { IfOk result (λ text. ReadsTo limit (S.left source.old) (S.left source.new) text.items) }
+    ensures bytes { IfOk result (λ text.
+        ReadsTo limit (S.left source.old) (S.left source.new) text.items) }
     ensures front { ReadsFront limit (S.left source.old) (S.left source.new) }
     ensures cause { IsErrOf result ReadError.Failed
         → Rose (S.fault_count source.old) (S.fault_count source.new) }
