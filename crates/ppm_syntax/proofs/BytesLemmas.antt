@@ -1,10 +1,9 @@
 -- Runs of bytes, and the classes of bytes.
-use Rattle.std.proofs.Common.{◌≡◌, ℕ, zero, suc, ◌+◌, ◌*◌, ◌-◌, ◌<◌, ◌≤◌, Bool, true, false, List, [], ◌∷◌, length, take, drop, get_or, arith, refl, cond}
+use Rattle.std.proofs.Common.{◌≡◌, ℕ, zero, suc, ◌+◌, ◌*◌, ◌-◌, ◌≤◌, Bool, true, false, List, [], ◌∷◌, length, take, arith, refl, cond}
 use Rattle.std.specs.List.{prefix_len, All, AllPass}
-use Rattle.ppm_words.specs.Names.{is_letter, is_digit, is_name_byte, IsName}
-use Rattle.ppm_syntax.specs.declared.byte_class.ByteClass.{ByteClass}
-use Rattle.ppm_syntax.specs.declared.byte_class.ByteClass.TheVariants.{Letter, Digit, LineFeed, Blank, Hash, Mark, High}
-use Rattle.ppm_syntax.specs.Bytes.{class_of, is_blank, value_from}
+use Rattle.ppm_words.specs.Names.{is_letter, is_digit, is_name_byte}
+use Rattle.ppm_syntax.specs.declared.byte_class.ByteClass.TheVariants.{Letter, Digit}
+use Rattle.ppm_syntax.specs.Bytes.{class_of, value_from}
 
 -- a number only grows by further digits
 pub value_grows : (n : ℕ) (bs : List ℕ) → n ≤ value_from n bs

@@ -1,14 +1,15 @@
 -- A text is cut in one way, and a text with a fault in none.
-use Rattle.std.proofs.Common.{◌≡◌, ℕ, zero, suc, ◌+◌, ◌-◌, ◌<◌, ◌≤◌, ◌^◌, List, [], ◌∷◌, ◌++◌, length, take, drop, arith, refl, ap, ◌⊎◌, inl, inr, subst, sym, length-drop}
-use Rattle.std.specs.List.{All, prefix_len}
+use Rattle.std.proofs.Common.{◌≡◌, ℕ, zero, suc, ◌+◌, ◌-◌, ◌<◌, ◌≤◌, ◌^◌, List, [], ◌∷◌, ◌++◌, length, take, drop}
+use Rattle.std.proofs.Common.{arith, refl, ap, inl, inr, subst, length-drop}
+use Rattle.std.specs.List.{All}
 use Rattle.ppm_syntax.specs.declared.byte_class.ByteClass.{ByteClass}
 use Rattle.ppm_syntax.specs.declared.byte_class.ByteClass.TheVariants.{Letter, Digit, LineFeed, Blank, Hash, Mark, High}
 use Rattle.ppm_syntax.specs.declared.token.Kind.{Kind}
 use Rattle.ppm_syntax.specs.declared.token.Kind.TheVariants as kind
 use Rattle.ppm_syntax.specs.declared.token.Token.{Token}
 use Rattle.ppm_syntax.specs.declared.text_error.TextError.{TextError}
-use Rattle.ppm_syntax.specs.Bytes.{class_of, is_comment_byte, BeginsWith}
-use Rattle.ppm_syntax.specs.Spelling.{Spells, Longest, IsInRange}
+use Rattle.ppm_syntax.specs.Bytes.{class_of, is_comment_byte}
+use Rattle.ppm_syntax.specs.Spelling.{Longest, IsInRange}
 use Rattle.ppm_syntax.specs.Cutting.{Skips, line_feed, blank, comment, located, Cuts, here, skip, token, IsTextOf, StandsIn}
 use Rattle.ppm_syntax.specs.Cutting.{IsFault, not_ascii, bad_char, number_too_big, name_too_long, FaultsAt}
 use Rattle.ppm_syntax.proofs.BytesLemmas.{prefix_le, all_cons}

@@ -1,6 +1,6 @@
 -- What the functions of the scanner find is what the definitions say.
-use Rattle.std.proofs.Common.{◌≡◌, ℕ, zero, suc, ◌+◌, ◌<◌, ◌≤◌, ◌^◌, List, [], ◌∷◌, ◌++◌, length, take, drop, Some, None}
-use Rattle.std.proofs.Common.{arith, refl, inl, inr, subst, sym, ◌∙◌, append-nil}
+use Rattle.std.proofs.Common.{◌≡◌, ℕ, ◌+◌, ◌<◌, ◌≤◌, ◌^◌, List, [], ◌∷◌, ◌++◌, length, take, drop, Some, None}
+use Rattle.std.proofs.Common.{arith, inl, inr, subst, sym, ◌∙◌, append-nil}
 use Rattle.std.proofs.lemmas.List.{length-take-le}
 use Rattle.std.specs.List.{prefix_len}
 use Rattle.ppm_words.specs.Names.{is_digit, is_name_byte, IsName}
@@ -12,8 +12,8 @@ use Rattle.ppm_syntax.specs.declared.token.Token.{Token}
 use Rattle.ppm_syntax.specs.declared.text_error.TextError.{TextError}
 use Rattle.ppm_syntax.specs.declared.text_error.TextError.TheVariants as error
 use Rattle.ppm_syntax.specs.Limits.{text_limit}
-use Rattle.ppm_syntax.specs.Bytes.{class_of, is_comment_byte, BeginsWith, value_from}
-use Rattle.ppm_syntax.specs.Spelling.{keyword_of, sign_of, IsWord, IsDigits, Spells, a_keyword, a_name, a_number, Longest, IsInRange}
+use Rattle.ppm_syntax.specs.Bytes.{is_comment_byte, BeginsWith, value_from}
+use Rattle.ppm_syntax.specs.Spelling.{keyword_of, IsWord, IsDigits, a_keyword, a_name, a_number, Longest, IsInRange}
 use Rattle.ppm_syntax.specs.Cutting.{Skips, line_feed, blank, comment, located, Cuts, here, skip, token, IsRefused, faulty, no_memory}
 use Rattle.ppm_syntax.specs.Cutting.{IsFault, not_ascii, bad_char, number_too_big, name_too_long}
 use Rattle.ppm_syntax.specs.Scanning.{IsNoSign, Stops, Advances}
@@ -99,7 +99,7 @@ front_nothing place [] begins none neither = absurd begins
 front_nothing place (b ∷ bs) begins none neither = bad_char begins (no_token (b ∷ bs) begins none neither)
 
 -- a blank or a comment is taken off the front
-pub skipped_off : (place line n f : ℕ) (bytes : List ℕ) (old new : List Token) → Skips bytes n f → new ≡ old → Advances place line bytes old new n (line + f)
+pub skipped_off : (place line n f : ℕ) (bytes : List ℕ) (old new : List Token) → Skips bytes n f → new ≡ old → Advances place line bytes old new (n, line + f)
 skipped_off place line n f bytes old new s same = record {
   tokens = [];
   added = same ∙ sym (append-nil old);
@@ -111,7 +111,7 @@ skipped_off place line n f bytes old new s same = record {
 
 -- a token is taken off the front
 pub token_off : (place line n : ℕ) (k : Kind) (bytes : List ℕ) (old new : List Token) → Longest bytes n k → IsInRange k
-    → new ≡ old ++ (located k place line ∷ []) → Advances place line bytes old new n line
+    → new ≡ old ++ (located k place line ∷ []) → Advances place line bytes old new (n, line)
 token_off place line n k bytes old new t fits added = record {
   tokens = located k place line ∷ [];
   added = added;

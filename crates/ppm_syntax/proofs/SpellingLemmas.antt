@@ -1,21 +1,20 @@
 -- A token has one spelling, and bytes have one longest token in front.
-use Rattle.std.proofs.Common.{◌≡◌, ℕ, zero, suc, ◌+◌, ◌<◌, ◌≤◌, Bool, true, false, cond, nat_le, ◌&&◌, List, [], ◌∷◌, length, take, Option, Some, None}
+use Rattle.std.proofs.Common.{◌≡◌, ℕ, zero, suc, ◌<◌, ◌≤◌, Bool, true, false, cond, nat_le, ◌&&◌, List, [], ◌∷◌, length, take, Some}
 use Rattle.std.proofs.Common.{arith, refl, ◌⊎◌, inl, inr, subst}
 use Rattle.std.proofs.lemmas.Bool.{leb-true}
 use Rattle.std.proofs.lemmas.List.{length-take-le}
 use Rattle.std.proofs.lemmas.Slice.Eq.{bytes_eq-Decides}
 use Rattle.std.specs.Bool.{Decides}
-use Rattle.std.specs.List.{prefix_len, AllPass}
+use Rattle.std.specs.List.{prefix_len}
 use Rattle.std.specs.Str.{bytes_eq}
 use Rattle.ppm_words.specs.Names.{is_digit, is_name_byte, IsName}
 use Rattle.ppm_syntax.specs.declared.byte_class.ByteClass.{ByteClass}
 use Rattle.ppm_syntax.specs.declared.byte_class.ByteClass.TheVariants.{Letter, Digit, LineFeed, Blank, Hash, Mark, High}
-use Rattle.ppm_syntax.specs.declared.token.Keyword.{Keyword}
 use Rattle.ppm_syntax.specs.declared.token.Sign.{Sign}
 use Rattle.ppm_syntax.specs.declared.token.Kind.{Kind}
 use Rattle.ppm_syntax.specs.declared.token.Kind.TheVariants as kind
 use Rattle.ppm_syntax.specs.Bytes.{class_of, BeginsWith}
-use Rattle.ppm_syntax.specs.Spelling.{spelled, signs, keyword_of, sign_of, IsWord, IsDigits}
+use Rattle.ppm_syntax.specs.Spelling.{spelled, signs, sign_of, IsWord, IsDigits}
 use Rattle.ppm_syntax.specs.Spelling.{Spells, a_keyword, a_name, a_number, a_sign, NoneLonger, BeginsNoToken, Longest}
 use Rattle.ppm_syntax.specs.Scanning.{IsSignOf, IsNoSign}
 use Rattle.ppm_syntax.proofs.BytesLemmas.{prefix_first, all_taken, run_beyond, letter_byte, digit_byte, name_byte, prefix_le}

@@ -1,5 +1,5 @@
 -- What the functions of the scanner answer.
-use Rattle.std.specs.Prelude.{◌≡◌, ℕ, ◌+◌, ◌<◌, ◌≤◌, ◌⊎◌, List, [], ◌∷◌, ◌++◌, length, take, drop, Some, None}
+use Rattle.std.specs.Prelude.{◌≡◌, ℕ, ◌+◌, ◌<◌, ◌≤◌, ◌⊎◌, List, ◌++◌, length, take, drop, Some, None}
 use Rattle.ppm_syntax.specs.declared.scan.Piece.{Piece}
 use Rattle.ppm_syntax.specs.declared.scan.Piece.TheVariants as piece
 use Rattle.ppm_syntax.specs.declared.token.Sign.{Sign}
@@ -26,11 +26,11 @@ IsInFront bytes (piece.Token kind n) = Longest bytes n kind × IsInRange kind
 abbrev pub Stops : ℕ → List ℕ → TextError → Type 0
 Stops place bytes e = (e ≡ error.NoMemory) ⊎ IsFault place bytes e
 
--- the bytes in front are cut into the new tokens, up to the place and the line behind them
-pub record Advances (place line : ℕ) (bytes : List ℕ) (old new : List Token) (n line' : ℕ) : Type 0 where
+-- so many bytes in front are cut into the tokens that are new, up to the line behind them
+pub record Advances (place line : ℕ) (bytes : List ℕ) (old new : List Token) (behind : ℕ × ℕ) : Type 0 where
   pub tokens : List Token
   pub added : new ≡ old ++ tokens
-  pub cut : Cuts place line bytes tokens (place + n) line' (drop n bytes)
-  pub moves : 0 < n
-  pub within : n ≤ length bytes
-  pub lines : line' ≤ line + n
+  pub cut : Cuts place line bytes tokens (place + behind.0) behind.1 (drop behind.0 bytes)
+  pub moves : 0 < behind.0
+  pub within : behind.0 ≤ length bytes
+  pub lines : behind.1 ≤ line + behind.0

@@ -194,7 +194,7 @@ fn take_piece(
 ) -> Result<(usize, u32), TextError>
     requires some { 0 < length bytes.now }
     requires line { line < 2 ^ 32 - 1 }
-    ensures ok { IfOk result (λ r. Advances place line bytes.now all.old.items all.new.items r.0 r.1) }
+    ensures ok { IfOk result (Advances place line bytes.now all.old.items all.new.items) }
     ensures err { IfErr result (Stops place bytes.now) }
 {
     match front_piece(alloc, place, bytes)? {
@@ -206,8 +206,8 @@ fn take_piece(
     }
 }
 
-/// The tokens of a text of at most 1,048,576 bytes, in their order. An error names the first place at which none, no
-/// blank and no comment is read.
+/// The tokens of a text, in their order. A text of more than 1,048,576 bytes is `TooLong`, whatever is in it; any other
+/// error names the place at which the longest-token rule comes to no token, blank or comment that the limits allow.
 pub fn tokens(alloc: Global, text: &[u8]) -> Result<Vec<Token>, TextError>
     ensures read { IfOk result (λ all. IsTextOf text.now all.items) }
     ensures stand { IfOk result (λ all. All (StandsIn text.now) all.items) }

@@ -1,6 +1,4 @@
 use Rattle.std.proofs.Common.{inr}
-use Rattle.ppm_syntax.specs.declared.byte_class.ByteClass.{ByteClass}
-use Rattle.ppm_syntax.specs.Bytes.{BeginsWith}
 use Rattle.ppm_syntax.proofs.ScanLemmas.{front_line_feed, front_blank, front_comment, front_high}
 use Rattle.ppm_syntax.proofs.scan.front_piece.Goals as goal
 

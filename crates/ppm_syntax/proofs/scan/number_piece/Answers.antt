@@ -1,4 +1,4 @@
-use Rattle.std.proofs.Common.{rules, inr}
+use Rattle.std.proofs.Common.{inr}
 use Rattle.ppm_syntax.proofs.ScanLemmas.{front_number, front_big_number}
 use Rattle.ppm_syntax.proofs.scan.number_piece.Goals as goal
 

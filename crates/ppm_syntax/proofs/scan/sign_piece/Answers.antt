@@ -1,4 +1,4 @@
-use Rattle.std.proofs.Common.{rules, arith, inr}
+use Rattle.std.proofs.Common.{inr}
 use Rattle.ppm_syntax.proofs.SpellingLemmas.{longest_two, longest_one}
 use Rattle.ppm_syntax.proofs.ScanLemmas.{front_nothing}
 use Rattle.ppm_syntax.proofs.scan.sign_piece.Goals as goal

@@ -1,4 +1,4 @@
-use Rattle.std.proofs.Common.{◌+◌, ◌≤◌, arith, rules, refl}
+use Rattle.std.proofs.Common.{arith, rules, refl}
 use Rattle.ppm_syntax.proofs.CuttingLemmas.{skips_bounds}
 use Rattle.ppm_syntax.proofs.ScanLemmas.{skipped_off, token_off}
 use Rattle.ppm_syntax.proofs.scan.take_piece.Goals as goal

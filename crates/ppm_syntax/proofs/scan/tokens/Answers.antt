@@ -1,6 +1,6 @@
-use Rattle.std.proofs.Common.{rules, arith, ◌≡◌, ◌+◌, [], length, length-drop}
+use Rattle.std.proofs.Common.{arith, length-drop}
 use Rattle.std.proofs.lemmas.Result.{err_from_is_err_and}
-use Rattle.ppm_syntax.specs.Cutting.{Cuts, here, too_long}
+use Rattle.ppm_syntax.specs.Cutting.{here, too_long}
 use Rattle.ppm_syntax.proofs.CuttingLemmas.{joined, cut_stands}
 use Rattle.ppm_syntax.proofs.ScanLemmas.{stop_refuses}
 use Rattle.ppm_syntax.proofs.scan.tokens.Goals as goal

@@ -1,4 +1,4 @@
-use Rattle.std.proofs.Common.{◌≡◌, ◌≤◌, ◌<◌, ◌+◌, length}
+use Rattle.std.proofs.Common.{◌≡◌, ◌≤◌, ◌+◌, length}
 use Rattle.ppm_syntax.specs.Cutting.{Cuts}
 use Rattle.ppm_syntax.specs.Limits.{text_limit}
 use Rattle.ppm_syntax.proofs.scan.tokens.Given as goal

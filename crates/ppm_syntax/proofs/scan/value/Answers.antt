@@ -1,5 +1,4 @@
-use Rattle.std.proofs.Common.{rules, arith, ◌≡◌, ◌≤◌, ◌<◌, ◌^◌, ◌+◌, ◌*◌, ◌-◌, ◌∷◌, drop, drop-cons, get_or, length, suc}
-use Rattle.ppm_syntax.specs.Bytes.{value_from}
+use Rattle.std.proofs.Common.{rules, arith, ◌<◌, ◌+◌, ◌*◌, ◌-◌, drop, drop-cons, get_or, length, suc}
 use Rattle.ppm_syntax.proofs.BytesLemmas.{value_grows}
 use Rattle.ppm_syntax.proofs.scan.value.Goals as goal
 
