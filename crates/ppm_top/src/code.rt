@@ -29,8 +29,9 @@ pub enum Exit {
     End,
 }
 
-/// A capsule: instructions that begin with all registers 0, and what follows. It reads no word behind an instruction
-/// of its own that writes the word, so it may be run in part and then again from its start.
+/// A capsule: instructions that begin with all registers 0, and what follows. `cut` makes two kinds with a body: one
+/// reads array words and writes slots, the other reads slots and writes an array word. So none reads what it writes,
+/// and each can be run in part and then again from its start.
 #[derive(Drop)]
 pub struct Capsule {
     pub body: Items<Instr>,
