@@ -12,6 +12,8 @@ mod name;
 mod named_array;
 mod no_memory;
 mod outcome;
+#[cfg(test)]
+mod tests;
 mod trap;
 mod value;
 
