@@ -5,11 +5,20 @@
 //! Stands on `ppm_words`; `ppm_top` reads, compiles and judges by it.
 #![tactic(auto)]
 
+mod byte_class;
+mod laws;
+mod named;
+mod opening;
 mod reading;
+mod rules;
+mod scan;
 mod source;
+mod spelling;
+mod text_error;
 mod token;
 mod tree;
 
+pub use laws::{have_one_tree, more_turns_keep};
 pub use reading::{SourceError, read_source};
 pub use source::{Admitted, Source};
 pub use tree::{Array, Expr, Mode, Operator, Param, Proc, Stmt, Tree};
