@@ -7,7 +7,7 @@ ghost use Rattle.ppm_top.specs.Judging.{TextMay};
 use crate::answer::Answer;
 use crate::outcome::{OutcomeError, outcome_of};
 use ppm_ports::{ReadError, Source, read_whole};
-use ppm_syntax::{SourceError, read_source};
+use ppm_syntax::{SourceError, have_one_tree, read_source};
 use ppm_words::Outcome;
 use std::alloc::Global;
 
@@ -38,7 +38,10 @@ fn text_answer(alloc: Global, text: &[u8]) -> Answer
         Ok(Outcome::Ended(arrays)) => Answer::Ended(arrays),
         Ok(Outcome::Trapped(trap, line)) => Answer::Trapped(trap, line),
         Ok(Outcome::NotWithin) => unreachable!(),
-        Err(OutcomeError::TooManyCapsules) => Answer::SourceRefused,
+        Err(OutcomeError::TooManyCapsules) => {
+            have_one_tree();
+            Answer::SourceRefused
+        }
         Err(OutcomeError::NoMemory) => Answer::NoMemory,
     }
 }
