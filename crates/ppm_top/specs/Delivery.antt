@@ -1,5 +1,5 @@
 -- An answer on its way out.
-use Rattle.std.specs.Prelude.{◌≡◌, ◌≢◌, ◌⊎◌, List, []}
+use Rattle.std.specs.Prelude.{◌≡◌, ◌≢◌, ◌⊎◌, []}
 use Rattle.ppm_ports.specs.Ports.{Port, Gets, FailsAt}
 use Rattle.ppm_ports.specs.Whole.{WritesFront}
 use Rattle.ppm_top.specs.declared.answer.Answer.{Answer}
