@@ -11,12 +11,13 @@ use std::test::Fail;
 const TEXT: &[u8] = b"abcde";
 
 fn source(alloc: Global, most: usize, failing: &[u64]) -> Result<MemorySource, Fail> {
-    Ok(MemorySource::new(TEXT.to_vec(alloc)?, most, failing.to_vec(alloc)?))
+    let bytes = TEXT.to_vec(alloc)?;
+    Ok(MemorySource::new(bytes, most.max(1), failing.to_vec(alloc)?))
 }
 
 fn sink(alloc: Global, room: usize, most: usize, failing: &[u64]) -> Result<MemorySink, Fail> {
     let failing = failing.to_vec(alloc)?;
-    Ok(MemorySink::new(alloc, room, most, failing).map_err(|_| "memory")?)
+    Ok(MemorySink::new(alloc, room, most.max(1), failing).map_err(|_| "memory")?)
 }
 
 #[test]
@@ -36,28 +37,26 @@ fn a_source_gives_pieces(rt: HostRuntime) -> Result<(), Fail> {
 fn an_input_is_read_whole(rt: HostRuntime) -> Result<(), Fail> {
     let alloc = rt.alloc();
     let cases = [
-        (1, 9, 5),
-        (1, 5, 5),
-        (3, 5, 5),
-        (1, 4, 5),
-        (3, 3, 4),
-        (9, 0, 1),
+        (1, 9, "abcde"),
+        (1, 5, "abcde"),
+        (3, 5, "abcde"),
+        (1, 4, "abcde"),
+        (3, 3, "abcd"),
+        (9, 0, "a"),
     ];
-    for (most, limit, len) in cases {
+    for (most, limit, want) in cases {
         let text = read_whole(alloc, &mut source(alloc, most, &[])?, limit)?;
         assert_eq!(rt;
             text.as_slice(),
-            &TEXT[..len],
+            want.as_bytes(),
             "{most} a call, limit {limit}"
         );
     }
     for call in 0..6 {
-        let mut source = source(alloc, 1, &[call])?;
-        assert_eq!(rt;
-            read_whole(alloc, &mut source, 9).map(|_| ()),
-            Err(ReadError::Failed)
-        );
-        assert_eq!(rt; source.faults(), 1);
+        let mut failing = source(alloc, 1, &[call])?;
+        let answer = read_whole(alloc, &mut failing, 9).map(|_| ());
+        assert_eq!(rt; answer, Err(ReadError::Failed), "call {call}");
+        assert_eq!(rt; failing.faults(), 1);
     }
     Ok(())
 }
@@ -68,15 +67,16 @@ fn an_output_is_written_whole(rt: HostRuntime) -> Result<(), Fail> {
     let mut whole = sink(alloc, 5, 1, &[])?;
     assert_eq!(rt; write_whole(&mut whole, TEXT), Ok(()));
     assert_eq!(rt; whole.bytes(), TEXT);
-    for call in 0..5usize {
-        let mut part = sink(alloc, 5, 1, &[call as u64])?;
-        assert_eq!(rt; write_whole(&mut part, TEXT), Err(Failed));
-        assert_eq!(rt; part.bytes(), &TEXT[..call]);
+    let cases = [(0, ""), (1, "a"), (2, "ab"), (3, "abc"), (4, "abcd")];
+    for (call, front) in cases {
+        let mut part = sink(alloc, 5, 1, &[call])?;
+        assert_eq!(rt; write_whole(&mut part, TEXT), Err(Failed), "call {call}");
+        assert_eq!(rt; part.bytes(), front.as_bytes());
         assert_eq!(rt; part.faults(), 1);
     }
     let mut full = sink(alloc, 3, 2, &[])?;
     assert_eq!(rt; write_whole(&mut full, TEXT), Err(Failed));
-    assert_eq!(rt; full.bytes(), &TEXT[..3]);
+    assert_eq!(rt; full.bytes(), b"abc".as_slice());
     Ok(())
 }
 

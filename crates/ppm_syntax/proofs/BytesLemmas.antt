@@ -1,6 +1,6 @@
 -- Runs of bytes, and the classes of bytes.
 use Rattle.std.proofs.Common.{◌≡◌, ℕ, zero, suc, ◌+◌, ◌*◌, ◌-◌, ◌<◌, ◌≤◌, Bool, true, false, List, [], ◌∷◌, length, take, drop, get_or, arith, refl, cond}
-use Rattle.std.specs.List.{prefix_len, AllPass}
+use Rattle.std.specs.List.{prefix_len, All, AllPass}
 use Rattle.ppm_words.specs.Names.{is_letter, is_digit, is_name_byte, IsName}
 use Rattle.ppm_syntax.specs.declared.byte_class.ByteClass.{ByteClass}
 use Rattle.ppm_syntax.specs.declared.byte_class.ByteClass.TheVariants.{Letter, Digit, LineFeed, Blank, Hash, Mark, High}
@@ -24,10 +24,10 @@ prefix_le p (x ∷ xs) = go (p x) (prefix_le p xs)
 pub prefix_first : (p : ℕ → Bool) (x : ℕ) (xs : List ℕ) → p x ≡ true → prefix_len p (x ∷ xs) ≡ suc (prefix_len p xs)
 prefix_first p x xs h = rw h (omega arith)
 
--- one more byte that passes in front
-pub all_more : (p : ℕ → Bool) (x : ℕ) (xs : List ℕ) → p x ≡ true → AllPass p xs → AllPass p (x ∷ xs)
-all_more p x xs is all zero d h = is
-all_more p x xs is all (suc k) d h = all k d (omega arith)
+-- a fact of the first and of each other is one of all
+pub all_cons : {X : Type 0} (P : X → Type 0) (x : X) (xs : List X) → P x → All P xs → All P (x ∷ xs)
+all_cons P x xs is all zero d h = is
+all_cons P x xs is all (suc k) d h = all k d (omega arith)
 
 -- each byte of a run passes
 pub all_taken : (p : ℕ → Bool) (xs : List ℕ) → AllPass p (take (prefix_len p xs) xs)
@@ -35,7 +35,7 @@ all_taken p [] = λ k d h. absurd (omega arith)
 all_taken p (x ∷ xs) = go (p x) refl (all_taken p xs)
   where
     go : (v : Bool) → p x ≡ v → AllPass p (take (prefix_len p xs) xs) → AllPass p (take (cond v (1 + prefix_len p xs) 0) (x ∷ xs))
-    go true is h = let one : 1 + prefix_len p xs ≡ suc (prefix_len p xs) = omega arith in rw one (all_more p x _ is h)
+    go true is h = let one : 1 + prefix_len p xs ≡ suc (prefix_len p xs) = omega arith in rw one (all_cons (λ b. p b ≡ true) x _ is h)
     go false is h = λ k d h. absurd (omega arith)
 
 -- bytes in front that all pass are within the run

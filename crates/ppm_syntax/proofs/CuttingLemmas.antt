@@ -1,6 +1,6 @@
 -- A text is cut in one way, and a text with a fault in none.
-use Rattle.std.proofs.Common.{◌≡◌, ℕ, zero, suc, ◌+◌, ◌<◌, ◌≤◌, ◌^◌, List, [], ◌∷◌, ◌++◌, length, take, drop, arith, refl, ap, ◌⊎◌, inl, inr, subst, sym}
-use Rattle.std.specs.List.{prefix_len}
+use Rattle.std.proofs.Common.{◌≡◌, ℕ, zero, suc, ◌+◌, ◌-◌, ◌<◌, ◌≤◌, ◌^◌, List, [], ◌∷◌, ◌++◌, length, take, drop, arith, refl, ap, ◌⊎◌, inl, inr, subst, sym, length-drop}
+use Rattle.std.specs.List.{All, prefix_len}
 use Rattle.ppm_syntax.specs.declared.byte_class.ByteClass.{ByteClass}
 use Rattle.ppm_syntax.specs.declared.byte_class.ByteClass.TheVariants.{Letter, Digit, LineFeed, Blank, Hash, Mark, High}
 use Rattle.ppm_syntax.specs.declared.token.Kind.{Kind}
@@ -9,8 +9,9 @@ use Rattle.ppm_syntax.specs.declared.token.Token.{Token}
 use Rattle.ppm_syntax.specs.declared.text_error.TextError.{TextError}
 use Rattle.ppm_syntax.specs.Bytes.{class_of, is_comment_byte, BeginsWith}
 use Rattle.ppm_syntax.specs.Spelling.{Spells, Longest, IsInRange}
-use Rattle.ppm_syntax.specs.Cutting.{Skips, line_feed, blank, comment, located, Cuts, here, skip, token, IsTextOf, IsFault, not_ascii, bad_char, number_too_big, name_too_long, FaultsAt}
-use Rattle.ppm_syntax.proofs.BytesLemmas.{prefix_le}
+use Rattle.ppm_syntax.specs.Cutting.{Skips, line_feed, blank, comment, located, Cuts, here, skip, token, IsTextOf, StandsIn}
+use Rattle.ppm_syntax.specs.Cutting.{IsFault, not_ascii, bad_char, number_too_big, name_too_long, FaultsAt}
+use Rattle.ppm_syntax.proofs.BytesLemmas.{prefix_le, all_cons}
 use Rattle.ppm_syntax.proofs.SpellingLemmas.{spells_something, spells_class, one_longest}
 
 -- one cutting after the other
@@ -144,3 +145,38 @@ fault_stops {p = p} {l = l} {bs = bs} (token {n = n} {k = k} t fits c) fault (to
 -- a text with a fault is cut into no tokens
 pub fault_refuses : {text : List ℕ} {e : TextError} → FaultsAt text e → (us : List Token) → IsTextOf text us → ⊥
 fault_refuses fault us cut = fault_stops fault.cut fault.fault cut.1 refl
+
+-- where the tokens of a cutting stand: at places between its ends, in lines that grow no faster than the places
+record Stands (p l size : ℕ) (t : Token) : Type 0 where
+  in_range : IsInRange t.kind
+  above : p ≤ t.place
+  below : t.place < p + size
+  first_line : l ≤ t.line
+  line : t.line + p ≤ l + t.place
+
+-- the tokens behind a piece of n bytes and at most one line stand behind its place
+stands_on : (p l n l' size : ℕ) (t : Token) → 0 < n → n ≤ size → l ≤ l' → l' ≤ l + 1 → Stands (p + n) l' (size - n) t → Stands p l size t
+stands_on p l n l' size t some within above lines s = record {
+  in_range = s.in_range;
+  above = omega (arith, s.above);
+  below = omega (arith, s.below);
+  first_line = omega (arith, s.first_line);
+  line = omega (arith, s.line);
+}
+
+-- each token of a cutting stands so
+tokens_stand : {p l : ℕ} {bs : List ℕ} {ts : List Token} {q m : ℕ} {rest : List ℕ} → Cuts p l bs ts q m rest → All (Stands p l (length bs)) ts
+tokens_stand here = λ k d h. absurd (omega arith)
+tokens_stand {p = p} {l = l} {bs = bs} (skip {n = n} {f = f} s c) =
+    let b = skips_bounds s in
+    λ k d h. stands_on p l n (l + f) (length bs) _ b.0 b.1 (omega arith) (omega (arith, b.2)) (rw length-drop at (tokens_stand c k d h))
+tokens_stand {p = p} {l = l} {bs = bs} (token {n = n} {k = kind} {ts = ts} t fits c) =
+    all_cons (Stands p l (length bs)) (located kind p l) ts
+    (record { in_range = fits; above = omega arith; below = omega (arith, longest_something t, t.within); first_line = omega arith; line = omega arith })
+    (λ k d h. stands_on p l n l (length bs) _ (longest_something t) t.within (omega arith) (omega arith) (rw length-drop at (tokens_stand c k d h)))
+
+-- each token that a text is cut into stands in it
+pub cut_stands : {text : List ℕ} {ts : List Token} {place line : ℕ} {rest : List ℕ} → Cuts 0 1 text ts place line rest → All (StandsIn text) ts
+cut_stands cut k d h =
+    let s = tokens_stand cut k d h in
+    record { in_range = s.in_range; place = omega (arith, s.below); first_line = s.first_line; line = omega (arith, s.line) }

@@ -1,5 +1,6 @@
 -- What the functions of the scanner find is what the definitions say.
-use Rattle.std.proofs.Common.{◌≡◌, ℕ, zero, suc, ◌+◌, ◌<◌, ◌≤◌, ◌^◌, List, [], ◌∷◌, ◌++◌, length, take, drop, arith, refl, ap, ◌⊎◌, inl, inr, subst, sym, ◌∙◌, append-nil, Option, Some, None}
+use Rattle.std.proofs.Common.{◌≡◌, ℕ, zero, suc, ◌+◌, ◌<◌, ◌≤◌, ◌^◌, List, [], ◌∷◌, ◌++◌, length, take, drop, Some, None}
+use Rattle.std.proofs.Common.{arith, refl, inl, inr, subst, sym, ◌∙◌, append-nil}
 use Rattle.std.proofs.lemmas.List.{length-take-le}
 use Rattle.std.specs.List.{prefix_len}
 use Rattle.ppm_words.specs.Names.{is_digit, is_name_byte, IsName}
@@ -13,8 +14,9 @@ use Rattle.ppm_syntax.specs.declared.text_error.TextError.TheVariants as error
 use Rattle.ppm_syntax.specs.Limits.{text_limit}
 use Rattle.ppm_syntax.specs.Bytes.{class_of, is_comment_byte, BeginsWith, value_from}
 use Rattle.ppm_syntax.specs.Spelling.{keyword_of, sign_of, IsWord, IsDigits, Spells, a_keyword, a_name, a_number, Longest, IsInRange}
-use Rattle.ppm_syntax.specs.Cutting.{Skips, line_feed, blank, comment, located, Cuts, here, skip, token, IsFault, not_ascii, bad_char, number_too_big, name_too_long, IsRefused, faulty, no_memory}
-use Rattle.ppm_syntax.specs.Scanning.{Stops, Advances}
+use Rattle.ppm_syntax.specs.Cutting.{Skips, line_feed, blank, comment, located, Cuts, here, skip, token, IsRefused, faulty, no_memory}
+use Rattle.ppm_syntax.specs.Cutting.{IsFault, not_ascii, bad_char, number_too_big, name_too_long}
+use Rattle.ppm_syntax.specs.Scanning.{IsNoSign, Stops, Advances}
 use Rattle.ppm_syntax.proofs.BytesLemmas.{prefix_le}
 use Rattle.ppm_syntax.proofs.SpellingLemmas.{run_is_word, run_is_number, word_is_name, longest_word, longest_number, no_token}
 use Rattle.ppm_syntax.proofs.CuttingLemmas.{skips_bounds, longest_something}
@@ -91,8 +93,8 @@ pub front_big_number : (place : ℕ) (bytes : List ℕ) (n : ℕ) → BeginsWith
 front_big_number place bytes n begins len big = number_too_big (front_digits bytes n begins len) big
 
 -- a mark in front that begins no sign
-pub front_nothing : (place : ℕ) (bytes : List ℕ) → BeginsWith Mark bytes → (2 ≤ length bytes → sign_of (take 2 bytes) ≡ None)
-    → (1 ≤ length bytes → sign_of (take 1 bytes) ≡ None) → IsFault place bytes (error.BadChar place)
+pub front_nothing : (place : ℕ) (bytes : List ℕ) → BeginsWith Mark bytes → IsNoSign bytes 2
+    → IsNoSign bytes 1 → IsFault place bytes (error.BadChar place)
 front_nothing place [] begins none neither = absurd begins
 front_nothing place (b ∷ bs) begins none neither = bad_char begins (no_token (b ∷ bs) begins none neither)
 

@@ -1,5 +1,7 @@
 -- A token has one spelling, and bytes have one longest token in front.
-use Rattle.std.proofs.Common.{◌≡◌, ℕ, zero, suc, ◌+◌, ◌<◌, ◌≤◌, Bool, true, false, List, [], ◌∷◌, length, take, arith, refl, cond, ap, ◌⊎◌, inl, inr, Option, Some, None, subst, sym, codes, lit≤}
+use Rattle.std.proofs.Common.{◌≡◌, ℕ, zero, suc, ◌+◌, ◌<◌, ◌≤◌, Bool, true, false, cond, nat_le, ◌&&◌, List, [], ◌∷◌, length, take, Option, Some, None}
+use Rattle.std.proofs.Common.{arith, refl, ◌⊎◌, inl, inr, subst}
+use Rattle.std.proofs.lemmas.Bool.{leb-true}
 use Rattle.std.proofs.lemmas.List.{length-take-le}
 use Rattle.std.proofs.lemmas.Slice.Eq.{bytes_eq-Decides}
 use Rattle.std.specs.Bool.{Decides}
@@ -7,83 +9,77 @@ use Rattle.std.specs.List.{prefix_len, AllPass}
 use Rattle.std.specs.Str.{bytes_eq}
 use Rattle.ppm_words.specs.Names.{is_digit, is_name_byte, IsName}
 use Rattle.ppm_syntax.specs.declared.byte_class.ByteClass.{ByteClass}
-use Rattle.ppm_syntax.specs.declared.byte_class.ByteClass.TheVariants.{Letter, Digit, Mark}
+use Rattle.ppm_syntax.specs.declared.byte_class.ByteClass.TheVariants.{Letter, Digit, LineFeed, Blank, Hash, Mark, High}
 use Rattle.ppm_syntax.specs.declared.token.Keyword.{Keyword}
 use Rattle.ppm_syntax.specs.declared.token.Sign.{Sign}
 use Rattle.ppm_syntax.specs.declared.token.Kind.{Kind}
 use Rattle.ppm_syntax.specs.declared.token.Kind.TheVariants as kind
 use Rattle.ppm_syntax.specs.Bytes.{class_of, BeginsWith}
-use Rattle.ppm_syntax.specs.Spelling.{spelled, signs, keyword_of, sign_of, IsWord, IsDigits, Spells, a_keyword, a_name, a_number, a_sign, Longest}
+use Rattle.ppm_syntax.specs.Spelling.{spelled, signs, keyword_of, sign_of, IsWord, IsDigits}
+use Rattle.ppm_syntax.specs.Spelling.{Spells, a_keyword, a_name, a_number, a_sign, NoneLonger, BeginsNoToken, Longest}
+use Rattle.ppm_syntax.specs.Scanning.{IsSignOf, IsNoSign}
 use Rattle.ppm_syntax.proofs.BytesLemmas.{prefix_first, all_taken, run_beyond, letter_byte, digit_byte, name_byte, prefix_le}
 
--- a fact of each spelling in a table
-abbrev Each : {K : Type 0} → (List ℕ → Type 0) → List (List ℕ × K) → Type 0
-Each P [] = Unit {0}
-Each P (row ∷ rows) = P row.0 × Each P rows
+-- both parts of a test that holds
+both_hold : (a b : Bool) → (a && b) ≡ true → (a ≡ true) × (b ≡ true)
+both_hold true true h = (refl, refl)
+both_hold true false h = absurd (cc)
+both_hold false b h = absurd (cc)
 
--- what is found in a table has the fact
-row_holds : {K : Type 0} (P : List ℕ → Type 0) (rows : List (List ℕ × K)) → Each P rows → (bytes : List ℕ) (found : K) → spelled rows bytes ≡ Some found → P bytes
-row_holds P [] each bytes found is = absurd (cc)
-row_holds {K} P (row ∷ rows) each bytes found is = go (bytes_eq row.0 bytes) (bytes_eq-Decides row.0 bytes) is (row_holds P rows each.1 bytes found)
+-- each spelling in a table passes
+abbrev each_row : {K : Type 0} → (List ℕ → Bool) → List (List ℕ × K) → Bool
+each_row test [] = true
+each_row test (row ∷ rows) = test row.0 && each_row test rows
+
+-- what is found in a table passes
+row_passes : {K : Type 0} (test : List ℕ → Bool) (rows : List (List ℕ × K)) → each_row test rows ≡ true
+    → (bytes : List ℕ) (found : K) → spelled rows bytes ≡ Some found → test bytes ≡ true
+row_passes test [] each bytes found is = absurd (cc)
+row_passes {K} test (row ∷ rows) each bytes found is =
+    let passes = both_hold (test row.0) (each_row test rows) each in
+    go (bytes_eq row.0 bytes) (bytes_eq-Decides row.0 bytes) is passes.0 (row_passes test rows passes.1 bytes found)
   where
-    go : (same : Bool) → Decides same (row.0 ≡ bytes) → cond same (Some row.1) (spelled rows bytes) ≡ Some found → (spelled rows bytes ≡ Some found → P bytes) → P bytes
-    go true d e next = subst P (d.0 refl) each.0
-    go false d e next = next e
+    go : (same : Bool) → Decides same (row.0 ≡ bytes) → cond same (Some row.1) (spelled rows bytes) ≡ Some found
+        → test row.0 ≡ true → (spelled rows bytes ≡ Some found → test bytes ≡ true) → test bytes ≡ true
+    go true d e first next = subst (λ (w : List ℕ). test w ≡ true) (d.0 refl) first
+    go false d e first next = next e
 
 -- one or two bytes, of which the first is a mark
 abbrev IsMark : List ℕ → Type 0
 IsMark [] = ⊥
 IsMark (b ∷ bs) = (class_of b ≡ Mark) × (length bs ≤ 1)
 
+-- whether a class is that of the marks
+abbrev is_mark_class : ByteClass → Bool
+is_mark_class Letter = false
+is_mark_class Digit = false
+is_mark_class LineFeed = false
+is_mark_class Blank = false
+is_mark_class Hash = false
+is_mark_class Mark = true
+is_mark_class High = false
+
+-- the test is right
+mark_class : (class : ByteClass) → is_mark_class class ≡ true → class ≡ Mark
+mark_class Mark h = refl
+mark_class _ h = absurd (cc)
+
+-- the same as a test
+abbrev is_mark : List ℕ → Bool
+is_mark [] = false
+is_mark (b ∷ bs) = is_mark_class (class_of b) && nat_le (length bs) 1
+
+-- the test is right
+mark_passes : (bytes : List ℕ) → is_mark bytes ≡ true → IsMark bytes
+mark_passes [] h = absurd (cc)
+mark_passes (b ∷ bs) h =
+    let passes = both_hold (is_mark_class (class_of b)) (nat_le (length bs) 1) h in
+    (mark_class (class_of b) passes.0, leb-true (length bs) 1 passes.1)
+
 -- a sign is one or two bytes, of which the first is a mark
 sign_is_mark : (bytes : List ℕ) (found : Sign) → sign_of bytes ≡ Some found → IsMark bytes
 unfolding sign_of
-sign_is_mark bytes found is =
-    let one : (Mark ≡ Mark) × (0 ≤ 1) = (refl, lit≤ tt) in
-    let two : (Mark ≡ Mark) × (1 ≤ 1) = (refl, lit≤ tt) in
-    row_holds IsMark signs (
-      one,
-      (
-        one,
-        (
-          one,
-          (
-            one,
-            (
-              one,
-              (
-                one,
-                (
-                  one,
-                  (
-                    one,
-                    (
-                      one,
-                      (
-                        one,
-                        (
-                          one,
-                          (
-                            one,
-                            (
-                              one,
-                              (
-                                one,
-                                (two, (two, (one, (two, (one, (two, (two, (two, tt)))))))),
-                              ),
-                            ),
-                          ),
-                        ),
-                      ),
-                    ),
-                  ),
-                ),
-              ),
-            ),
-          ),
-        ),
-      ),
-    ) bytes found is
+sign_is_mark bytes found is = mark_passes bytes (row_passes is_mark signs refl bytes found is)
 
 -- nothing is spelled by no bytes
 pub spells_something : {bytes : List ℕ} {k : Kind} → Spells bytes k → bytes ≡ [] → ⊥
@@ -177,7 +173,7 @@ word_is_name [] word short = word
 word_is_name (b ∷ bs) word short = (letter_byte b word.0, word.1, omega arith)
 
 -- no word in front is longer than the run
-word_within : (bytes : List ℕ) → BeginsWith Letter bytes → (m : ℕ) (other : Kind) → m ≤ length bytes → Spells (take m bytes) other → m ≤ prefix_len is_name_byte bytes
+word_within : (bytes : List ℕ) → BeginsWith Letter bytes → NoneLonger bytes (prefix_len is_name_byte bytes)
 word_within [] begins m other within spells = absurd begins
 word_within (b ∷ bs) begins zero other within spells = omega arith
 word_within (b ∷ bs) begins (suc m) other within spells =
@@ -185,7 +181,7 @@ word_within (b ∷ bs) begins (suc m) other within spells =
     omega (arith, run_beyond is_name_byte m bs (omega arith) word.1, prefix_first is_name_byte b bs (name_byte b begins))
 
 -- no number in front is longer than the run
-number_within : (bytes : List ℕ) → BeginsWith Digit bytes → (m : ℕ) (other : Kind) → m ≤ length bytes → Spells (take m bytes) other → m ≤ prefix_len is_digit bytes
+number_within : (bytes : List ℕ) → BeginsWith Digit bytes → NoneLonger bytes (prefix_len is_digit bytes)
 number_within [] begins m other within spells = absurd begins
 number_within (b ∷ bs) begins zero other within spells = omega arith
 number_within (b ∷ bs) begins (suc m) other within spells =
@@ -193,7 +189,8 @@ number_within (b ∷ bs) begins (suc m) other within spells =
     omega (arith, run_beyond is_digit m bs (omega arith) digits.1, prefix_first is_digit b bs (digit_byte b begins))
 
 -- the run of name bytes is the longest token in front
-pub longest_word : (bytes : List ℕ) (n : ℕ) (k : Kind) → BeginsWith Letter bytes → n ≡ prefix_len is_name_byte bytes → Spells (take n bytes) k → Longest bytes n k
+pub longest_word : (bytes : List ℕ) (n : ℕ) (k : Kind) → BeginsWith Letter bytes → n ≡ prefix_len is_name_byte bytes
+    → Spells (take n bytes) k → Longest bytes n k
 longest_word bytes n k begins len spells = record {
   within = omega (arith, prefix_le is_name_byte bytes);
   spells = spells;
@@ -201,7 +198,8 @@ longest_word bytes n k begins len spells = record {
 }
 
 -- the run of digits is the longest token in front
-pub longest_number : (bytes : List ℕ) (n : ℕ) (k : Kind) → BeginsWith Digit bytes → n ≡ prefix_len is_digit bytes → Spells (take n bytes) k → Longest bytes n k
+pub longest_number : (bytes : List ℕ) (n : ℕ) (k : Kind) → BeginsWith Digit bytes → n ≡ prefix_len is_digit bytes
+    → Spells (take n bytes) k → Longest bytes n k
 longest_number bytes n k begins len spells = record {
   within = omega (arith, prefix_le is_digit bytes);
   spells = spells;
@@ -209,7 +207,8 @@ longest_number bytes n k begins len spells = record {
 }
 
 -- a token in front of a mark is a sign, of one or two bytes
-pub sign_within : (bytes : List ℕ) → BeginsWith Mark bytes → (m : ℕ) (other : Kind) → m ≤ length bytes → Spells (take m bytes) other → (0 < m) × (m ≤ 2) × ((found : Sign) × (sign_of (take m bytes) ≡ Some found))
+pub sign_within : (bytes : List ℕ) → BeginsWith Mark bytes → (m : ℕ) (other : Kind) → m ≤ length bytes → Spells (take m bytes) other
+    → (0 < m) × (m ≤ 2) × ((found : Sign) × (sign_of (take m bytes) ≡ Some found))
 sign_within [] begins m other within spells = absurd begins
 sign_within (b ∷ bs) begins zero other within spells = absurd (spells_something spells refl)
 sign_within (b ∷ bs) begins (suc m) other within spells =
@@ -218,15 +217,16 @@ sign_within (b ∷ bs) begins (suc m) other within spells =
     (omega arith, omega (arith, mark.1, length-take-le m bs (omega arith)), found)
 
 -- a sign of two bytes is the longest token in front
-pub longest_two : (bytes : List ℕ) (found : Sign) → BeginsWith Mark bytes → 2 ≤ length bytes → sign_of (take 2 bytes) ≡ Some found → Longest bytes 2 (kind.Sign found)
-longest_two bytes found begins within is = record {
-  within = within;
-  spells = a_sign is;
+pub longest_two : (bytes : List ℕ) (found : Sign) → BeginsWith Mark bytes → IsSignOf bytes 2 found → Longest bytes 2 (kind.Sign found)
+longest_two bytes found begins is = record {
+  within = is.0;
+  spells = a_sign is.1;
   longest = λ m other inside there. (sign_within bytes begins m other inside there).1;
 }
 
 -- where the first two bytes are no sign, no token in front has two
-only_one : (bytes : List ℕ) → BeginsWith Mark bytes → (2 ≤ length bytes → sign_of (take 2 bytes) ≡ None) → (m : ℕ) (other : Kind) → m ≤ length bytes → Spells (take m bytes) other → m ≡ 1
+only_one : (bytes : List ℕ) → BeginsWith Mark bytes → IsNoSign bytes 2
+    → (m : ℕ) (other : Kind) → m ≤ length bytes → Spells (take m bytes) other → m ≡ 1
 only_one bytes begins none zero other within there = absurd (omega (arith, (sign_within bytes begins 0 other within there).0))
 only_one bytes begins none (suc zero) other within there = refl
 only_one bytes begins none (suc (suc zero)) other within there =
@@ -235,15 +235,15 @@ only_one bytes begins none (suc (suc (suc m))) other within there =
     absurd (omega (arith, (sign_within bytes begins (suc (suc (suc m))) other within there).1))
 
 -- a sign of one byte is the longest token in front where the first two bytes are no sign
-pub longest_one : (bytes : List ℕ) (found : Sign) → BeginsWith Mark bytes → (2 ≤ length bytes → sign_of (take 2 bytes) ≡ None) → 1 ≤ length bytes → sign_of (take 1 bytes) ≡ Some found → Longest bytes 1 (kind.Sign found)
-longest_one bytes found begins none within is = record {
-  within = within;
-  spells = a_sign is;
+pub longest_one : (bytes : List ℕ) (found : Sign) → BeginsWith Mark bytes → IsNoSign bytes 2 → IsSignOf bytes 1 found → Longest bytes 1 (kind.Sign found)
+longest_one bytes found begins none is = record {
+  within = is.0;
+  spells = a_sign is.1;
   longest = λ m other inside there. omega (arith, only_one bytes begins none m other inside there);
 }
 
 -- where neither the first byte nor the first two are a sign, nothing in front is a token
-pub no_token : (bytes : List ℕ) → BeginsWith Mark bytes → (2 ≤ length bytes → sign_of (take 2 bytes) ≡ None) → (1 ≤ length bytes → sign_of (take 1 bytes) ≡ None) → (m : ℕ) (other : Kind) → m ≤ length bytes → Spells (take m bytes) other → ⊥
+pub no_token : (bytes : List ℕ) → BeginsWith Mark bytes → IsNoSign bytes 2 → IsNoSign bytes 1 → BeginsNoToken bytes
 no_token bytes begins none neither m other within there =
     let one : m ≡ 1 = only_one bytes begins none m other within there in
     let inside : 1 ≤ length bytes = omega arith in

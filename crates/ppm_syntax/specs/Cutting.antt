@@ -1,5 +1,5 @@
 -- How a text is cut into tokens, and where it cannot be.
-use Rattle.std.specs.Prelude.{◌≡◌, ℕ, ◌+◌, ◌<◌, ◌≤◌, ◌^◌, List, [], ◌∷◌, length, take, drop}
+use Rattle.std.specs.Prelude.{◌≡◌, ℕ, ◌+◌, ◌<◌, ◌≤◌, ◌^◌, List, [], ◌∷◌, length, drop}
 use Rattle.std.specs.List.{prefix_len}
 use Rattle.ppm_syntax.specs.declared.byte_class.ByteClass.TheVariants.{LineFeed, Blank, Hash, Mark, High}
 use Rattle.ppm_syntax.specs.declared.token.Kind.{Kind}
@@ -9,7 +9,7 @@ use Rattle.ppm_syntax.specs.declared.text_error.TextError.{TextError}
 use Rattle.ppm_syntax.specs.declared.text_error.TextError.TheVariants as error
 use Rattle.ppm_syntax.specs.Bytes.{class_of, is_comment_byte}
 use Rattle.ppm_syntax.specs.Limits.{text_limit}
-use Rattle.ppm_syntax.specs.Spelling.{Spells, Longest, IsInRange}
+use Rattle.ppm_syntax.specs.Spelling.{Longest, BeginsNoToken, IsInRange}
 
 -- the bytes begin with a blank or a comment of n bytes, which ends so many lines; a comment goes up to a line feed or the end
 pub data Skips : List ℕ → ℕ → ℕ → Type 0 where
@@ -33,11 +33,17 @@ pub data Cuts : ℕ → ℕ → List ℕ → List Token → ℕ → ℕ → List
 abbrev pub IsTextOf : List ℕ → List Token → Type 0
 IsTextOf text tokens = (line : ℕ) × Cuts 0 1 text tokens (length text) line []
 
+-- a token keeps the limits, and stands in the text: its place is below the length, its line at most one more than its place
+pub record StandsIn (text : List ℕ) (t : Token) : Type 0 where
+  pub in_range : IsInRange t.kind
+  pub place : t.place < length text
+  pub first_line : 1 ≤ t.line
+  pub line : t.line ≤ t.place + 1
+
 -- the bytes at the place begin with the fault
 pub data IsFault : ℕ → List ℕ → TextError → Type 0 where
   not_ascii : {p b : ℕ} {bs : List ℕ} → class_of b ≡ High → IsFault p (b ∷ bs) (error.NotAscii p)
-  bad_char : {p b : ℕ} {bs : List ℕ}
-      → class_of b ≡ Mark → ((n : ℕ) (k : Kind) → n ≤ length (b ∷ bs) → Spells (take n (b ∷ bs)) k → ⊥) → IsFault p (b ∷ bs) (error.BadChar p)
+  bad_char : {p b : ℕ} {bs : List ℕ} → class_of b ≡ Mark → BeginsNoToken (b ∷ bs) → IsFault p (b ∷ bs) (error.BadChar p)
   number_too_big : {p n value : ℕ} {bs : List ℕ}
       → Longest bs n (kind.Number value) → 2 ^ 63 ≤ value → IsFault p bs (error.NumberTooBig p)
   name_too_long : {p n : ℕ} {bs name : List ℕ}

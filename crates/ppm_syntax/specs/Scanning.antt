@@ -1,12 +1,21 @@
 -- What the functions of the scanner answer.
-use Rattle.std.specs.Prelude.{◌≡◌, ℕ, ◌+◌, ◌<◌, ◌≤◌, ◌⊎◌, List, [], ◌∷◌, ◌++◌, length, drop}
+use Rattle.std.specs.Prelude.{◌≡◌, ℕ, ◌+◌, ◌<◌, ◌≤◌, ◌⊎◌, List, [], ◌∷◌, ◌++◌, length, take, drop, Some, None}
 use Rattle.ppm_syntax.specs.declared.scan.Piece.{Piece}
 use Rattle.ppm_syntax.specs.declared.scan.Piece.TheVariants as piece
+use Rattle.ppm_syntax.specs.declared.token.Sign.{Sign}
 use Rattle.ppm_syntax.specs.declared.token.Token.{Token}
 use Rattle.ppm_syntax.specs.declared.text_error.TextError.{TextError}
 use Rattle.ppm_syntax.specs.declared.text_error.TextError.TheVariants as error
-use Rattle.ppm_syntax.specs.Spelling.{Longest, IsInRange}
+use Rattle.ppm_syntax.specs.Spelling.{sign_of, Longest, IsInRange}
 use Rattle.ppm_syntax.specs.Cutting.{Skips, Cuts, IsFault}
+
+-- the first n bytes are this sign
+abbrev pub IsSignOf : List ℕ → ℕ → Sign → Type 0
+IsSignOf bytes n mark = (n ≤ length bytes) × (sign_of (take n bytes) ≡ Some mark)
+
+-- so many bytes do not stand there, or they are no sign
+abbrev pub IsNoSign : List ℕ → ℕ → Type 0
+IsNoSign bytes n = n ≤ length bytes → sign_of (take n bytes) ≡ None
 
 -- the bytes begin with the piece
 abbrev pub IsInFront : List ℕ → Piece → Type 0

@@ -61,11 +61,19 @@ pub data Spells : List ℕ → Kind → Type 0 where
   a_number : {bytes : List ℕ} → IsDigits bytes → Spells bytes (kind.Number (value_from 0 bytes))
   a_sign : {bytes : List ℕ} {found : Sign} → sign_of bytes ≡ Some found → Spells bytes (kind.Sign found)
 
--- the bytes begin with this token of n bytes, and with none that is longer
+-- no token in front of the bytes has more than n of them
+abbrev pub NoneLonger : List ℕ → ℕ → Type 0
+NoneLonger bytes n = (m : ℕ) (other : Kind) → m ≤ length bytes → Spells (take m bytes) other → m ≤ n
+
+-- no token begins the bytes
+abbrev pub BeginsNoToken : List ℕ → Type 0
+BeginsNoToken bytes = (m : ℕ) (other : Kind) → m ≤ length bytes → Spells (take m bytes) other → ⊥
+
+-- the longest token in front of the bytes is this one, of n bytes
 pub record Longest (bytes : List ℕ) (n : ℕ) (token : Kind) : Type 0 where
   pub within : n ≤ length bytes
   pub spells : Spells (take n bytes) token
-  pub longest : (m : ℕ) (other : Kind) → m ≤ length bytes → Spells (take m bytes) other → m ≤ n
+  pub longest : NoneLonger bytes n
 
 -- what the language allows: names of 32 bytes, numbers below 2^63
 abbrev pub IsInRange : Kind → Type 0

@@ -1,13 +1,13 @@
 //! Cuts a text into tokens.
-ghost use Rattle.std.specs.Prelude.{◌≡◌, ◌+◌, ◌-◌, ◌<◌, ◌≤◌, ◌^◌, [], length, take, drop, IfOk, IfErr, OnOk, MatchResult, MatchOption};
-ghost use Rattle.std.specs.List.{prefix_len};
+ghost use Rattle.std.specs.Prelude.{◌≡◌, ◌+◌, ◌-◌, ◌<◌, ◌≤◌, ◌^◌, length, take, drop};
+ghost use Rattle.std.specs.Prelude.{IfOk, IfErr, OnOk, IfSome, IfNone, MatchResult};
+ghost use Rattle.std.specs.List.{All, prefix_len};
 ghost use Rattle.ppm_words.specs.Names.{is_digit, is_name_byte, IsName};
 ghost use Rattle.ppm_syntax.specs.declared.byte_class.ByteClass.TheVariants.{Letter, Digit, Mark};
 ghost use Rattle.ppm_syntax.specs.Limits.{text_limit};
 ghost use Rattle.ppm_syntax.specs.Bytes.{BeginsWith, is_comment_byte, value_from};
-ghost use Rattle.ppm_syntax.specs.Spelling.{sign_of};
-ghost use Rattle.ppm_syntax.specs.Cutting.{IsTextOf, IsRefused};
-ghost use Rattle.ppm_syntax.specs.Scanning.{IsInFront, Stops, Advances};
+ghost use Rattle.ppm_syntax.specs.Cutting.{IsTextOf, StandsIn, IsRefused};
+ghost use Rattle.ppm_syntax.specs.Scanning.{IsSignOf, IsNoSign, IsInFront, Stops, Advances};
 
 use crate::byte_class::{ByteClass, class, is_digit_byte, is_letter_byte};
 use crate::spelling::{keyword, sign};
@@ -84,7 +84,8 @@ fn comment_len(bytes: &[u8]) -> usize
 
 /// The number that the digits stand for, below 2^63.
 fn value(digits: &[u8]) -> Option<u64>
-    ensures { MatchOption result (2 ^ 63 ≤ value_from 0 digits.now) (λ n. (n ≡ value_from 0 digits.now) × (n < 2 ^ 63)) }
+    ensures some { IfSome result (λ n. (n ≡ value_from 0 digits.now) × (n < 2 ^ 63)) }
+    ensures none { IfNone result (2 ^ 63 ≤ value_from 0 digits.now) }
 {
     let mut n: u64 = 0;
     for d in digits {
@@ -106,11 +107,11 @@ fn name(alloc: Global, bytes: &[u8]) -> Result<Name, AllocError>
 }
 
 /// The class of the first byte.
-fn front_class(bytes: &[u8]) -> Option<ByteClass>
-    ensures { MatchOption result (bytes.now ≡ []) (λ class. BeginsWith class bytes.now) }
+fn front_class(bytes: &[u8]) -> ByteClass
+    requires { 0 < length bytes.now }
+    ensures { BeginsWith result bytes.now }
 {
-    let (first, _) = bytes.split_first()?;
-    Some(class(*first))
+    class(bytes[0])
 }
 
 /// The name or keyword in front.
@@ -143,7 +144,8 @@ fn number_piece(place: u32, bytes: &[u8]) -> Result<Piece, TextError>
 
 /// The sign that the first n bytes are.
 fn front_sign(bytes: &[u8], n: usize) -> Option<Sign>
-    ensures { MatchOption result (n ≤ length bytes.now → sign_of (take n bytes.now) ≡ None) (λ mark. (n ≤ length bytes.now) × (sign_of (take n bytes.now) ≡ Some mark)) }
+    ensures some { IfSome result (IsSignOf bytes.now n) }
+    ensures none { IfNone result (IsNoSign bytes.now n) }
 {
     if n <= bytes.len() {
         sign(&bytes[..n])
@@ -166,17 +168,12 @@ fn sign_piece(place: u32, bytes: &[u8]) -> Result<Piece, TextError>
     }
 }
 
-/// The piece in front of bytes that begin with this class.
-fn front_piece(
-    alloc: Global,
-    place: u32,
-    class: ByteClass,
-    bytes: &[u8],
-) -> Result<Piece, TextError>
-    requires { BeginsWith class bytes.now }
+/// The piece in front.
+fn front_piece(alloc: Global, place: u32, bytes: &[u8]) -> Result<Piece, TextError>
+    requires { 0 < length bytes.now }
     ensures { MatchResult result (IsInFront bytes.now) (Stops place bytes.now) }
 {
-    match class {
+    match front_class(bytes) {
         ByteClass::Letter => word_piece(alloc, place, bytes),
         ByteClass::Digit => number_piece(place, bytes),
         ByteClass::Mark => sign_piece(place, bytes),
@@ -187,20 +184,20 @@ fn front_piece(
     }
 }
 
-/// Cuts one piece off the front, and adds its token; the number of its bytes, and the line behind it.
-fn cut_piece(
+/// Takes the piece in front, and adds its token; the number of its bytes, and the line behind it.
+fn take_piece(
     alloc: Global,
     all: &mut Vec<Token>,
     place: u32,
     line: u32,
-    class: ByteClass,
     bytes: &[u8],
 ) -> Result<(usize, u32), TextError>
-    requires class { BeginsWith class bytes.now }
+    requires some { 0 < length bytes.now }
     requires line { line < 2 ^ 32 - 1 }
-    ensures { MatchResult result (λ r. Advances place line bytes.now all.old.items all.new.items r.0 r.1) (Stops place bytes.now) }
+    ensures ok { IfOk result (λ r. Advances place line bytes.now all.old.items all.new.items r.0 r.1) }
+    ensures err { IfErr result (Stops place bytes.now) }
 {
-    match front_piece(alloc, place, class, bytes)? {
+    match front_piece(alloc, place, bytes)? {
         Piece::Skipped(len, lines) => Ok((len, line + lines)),
         Piece::Token(kind, len) => {
             all.push(Token { kind, place, line })?;
@@ -209,9 +206,11 @@ fn cut_piece(
     }
 }
 
-/// The tokens of a text, in their order.
+/// The tokens of a text of at most 1,048,576 bytes, in their order. An error names the first place at which none, no
+/// blank and no comment is read.
 pub fn tokens(alloc: Global, text: &[u8]) -> Result<Vec<Token>, TextError>
     ensures read { IfOk result (λ all. IsTextOf text.now all.items) }
+    ensures stand { IfOk result (λ all. All (StandsIn text.now) all.items) }
     ensures within { OnOk result (length text.now ≤ text_limit) }
     ensures refused { IfErr result (IsRefused text.now) }
 {
@@ -222,11 +221,14 @@ pub fn tokens(alloc: Global, text: &[u8]) -> Result<Vec<Token>, TextError>
     let mut place: u32 = 0;
     let mut line: u32 = 1;
     let mut rest = text;
-    while let Some(class) = front_class(rest) {
-        let (len, next) = cut_piece(alloc, &mut all, place, line, class, rest)?;
+    while !rest.is_empty() {
+        let (len, next) = take_piece(alloc, &mut all, place, line, rest)?;
         place += len as u32;
         line = next;
         rest = behind(rest, len);
     }
     Ok(all)
 }
+
+#[cfg(test)]
+mod tests;

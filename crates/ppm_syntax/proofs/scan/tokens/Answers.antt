@@ -1,7 +1,7 @@
-use Rattle.std.proofs.Common.{rules, arith, ◌≡◌, ◌≤◌, ◌<◌, ◌+◌, ap, drop, length, refl, length-drop, ◌++◌}
+use Rattle.std.proofs.Common.{rules, arith, ◌≡◌, ◌+◌, [], length, length-drop}
 use Rattle.std.proofs.lemmas.Result.{err_from_is_err_and}
 use Rattle.ppm_syntax.specs.Cutting.{Cuts, here, too_long}
-use Rattle.ppm_syntax.proofs.CuttingLemmas.{joined}
+use Rattle.ppm_syntax.proofs.CuttingLemmas.{joined, cut_stands}
 use Rattle.ppm_syntax.proofs.ScanLemmas.{stop_refuses}
 use Rattle.ppm_syntax.proofs.scan.tokens.Goals as goal
 
@@ -10,22 +10,27 @@ pub returns-then-text-gt-TEXT_LIMIT-clause-refused : goal.returns-then-text-gt-T
 returns-then-text-gt-TEXT_LIMIT-clause-refused c = too_long (omega arith)
 
 -- nothing is cut yet
-pub loop-class-init : goal.loop-class-init
-loop-class-init c = record { cut = rw c.new-all.ensures.items here; place = omega arith; line = omega arith; within = omega arith }
+pub loop-rest-init : goal.loop-rest-init
+loop-rest-init c = record { cut = rw c.new-all.ensures.items here; place = omega arith; line = omega arith; within = omega arith }
 
 -- the text is cut up to here, and here it stops
 pub returns-in_err-len-clause-refused : goal.returns-in_err-len-clause-refused
 returns-in_err-len-clause-refused c =
     let p = err_from_is_err_and c.from_residual.result c.from_residual.ensures.1 in
-    rw (p.1, p.2) (stop_refuses c.args.text.now c.loop-class.all.items c.loop-class.place c.loop-class.line c.loop-class.rest.now _ c.loop-class.invariant.within c.loop-class.invariant.cut c.in_err-len.ensures)
+    let so_far = c.loop-rest.invariant in
+    rw (p.1, p.2) (stop_refuses c.args.text.now _ _ _ _ _ so_far.within so_far.cut c.in_err-len.ensures.err)
 
 -- the piece joins what is cut
-pub loop-class-preserved : goal.loop-class-preserved
-loop-class-preserved c =
-    let piece = c.in_ok-len.ensures in
+pub loop-rest-preserved : goal.loop-rest-preserved
+loop-rest-preserved c =
+    let piece = c.in_ok-len.ensures.ok in
     record {
-      cut = rw (piece.added, c.behind-rest.ensures) (joined c.loop-class.invariant.cut piece.cut);
+      cut = rw (piece.added, c.behind-rest.ensures) (joined c.loop-rest.invariant.cut piece.cut);
       place = rw (c.behind-rest.ensures, length-drop) (omega (arith, piece.within));
       line = omega (arith, piece.lines);
-      within = c.loop-class.invariant.within;
+      within = c.loop-rest.invariant.within;
     }
+
+-- the whole text is cut, so its tokens stand in it
+pub returns-clause-stand : goal.returns-clause-stand
+returns-clause-stand c = cut_stands c.loop-rest.invariant.cut
