@@ -6,3 +6,5 @@ pub mod Delivery
 pub mod Causes
 pub mod Rows
 pub mod Judging
+pub mod Code
+pub mod Machine

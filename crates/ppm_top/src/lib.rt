@@ -6,8 +6,13 @@
 #![tactic(auto)]
 
 mod answer;
+mod code;
 mod command;
+mod cut;
 mod deliver;
+mod image;
+mod layout;
+mod machine;
 mod outcome;
 mod run;
 mod status;
