@@ -1,3 +1,5 @@
+pub mod CausesLemmas
+pub mod RowsLemmas
 pub mod ArraysInWords
 pub mod ExpressionRuns
 pub mod StatementRuns
