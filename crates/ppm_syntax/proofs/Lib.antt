@@ -8,3 +8,10 @@ pub mod CuttingLemmas
 pub mod ScanLemmas
 pub mod Unique
 pub mod ReadingLemmas
+pub mod GrammarLemmas
+pub mod Refusals
+pub mod ExpressionLemmas
+pub mod OperandLemmas
+pub mod StatementLemmas
+pub mod ParameterLemmas
+pub mod DeclarationLemmas

@@ -47,10 +47,10 @@ operand_ends (g.no_more {n = n} {ts = ts}) h = ends_below _ ts h
 operand_ends (g.more {n = n} {t = t} {o = o} {ts = ts} is r s) h = ends_at_operator n t ts o is
 
 -- in front of a statement stands a name, of a parameter a keyword
-begins_with_name : {d : ℕ} {s : Statement} {ts rest : List Token} → Derives d OneStatement ts (statement s) rest → NoName ts → ⊥
+pub begins_with_name : {d : ℕ} {s : Statement} {ts rest : List Token} → Derives d OneStatement ts (statement s) rest → NoName ts → ⊥
 begins_with_name (g.put {x = x} n_is o_is i c_is q_is v s_is) h = h x n_is
 
-begins_with_keyword : {d : ℕ} {p : Param} {ts rest : List Token} → Derives d Parameter ts (parameter p) rest → HasSign sign.CloseParen ts → ⊥
+pub begins_with_keyword : {d : ℕ} {p : Param} {ts rest : List Token} → Derives d Parameter ts (parameter p) rest → HasSign sign.CloseParen ts → ⊥
 begins_with_keyword (g.param m_is how n_is) h = cc
 
 -- a list of parameters ends where it is closed
@@ -59,14 +59,14 @@ no_comma [] h = tt
 no_comma (t ∷ ts) h = λ is. cc
 
 -- no operator, so no more
-stopped : (n : ℕ) (t : Token) (ts : List Token) (o : Operator) → NoOperator (suc n) (t ∷ ts) → operator_at (suc n) t.kind ≡ Some o → ⊥
+pub stopped : (n : ℕ) (t : Token) (ts : List Token) (o : Operator) → NoOperator (suc n) (t ∷ ts) → operator_at (suc n) t.kind ≡ Some o → ⊥
 stopped n t ts o h is = let none = h (suc n) (omega arith) in cc
 
 -- the node and what is left
 abbrev pub Same : Node → List Token → Node → List Token → Type 0
 Same e rest e' rest' = (e ≡ e') × (rest ≡ rest')
 
-same : {d d' : ℕ} {p : Part} {ts : List Token} {e e' : Node} {rest rest' : List Token} → Derives d p ts e rest → Ends p rest → Derives d' p ts e' rest' → Ends p rest' → Same e rest e' rest'
+pub same : {d d' : ℕ} {p : Part} {ts : List Token} {e e' : Node} {rest rest' : List Token} → Derives d p ts e rest → Ends p rest → Derives d' p ts e' rest' → Ends p rest' → Same e rest e' rest'
 same (g.number is) h (g.number is') h' = (cc, refl)
 same (g.number is) h (g.element is' o' i' c') h' = absurd (cc)
 same (g.element is o i c) h (g.number is') h' = absurd (cc)

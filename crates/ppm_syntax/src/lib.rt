@@ -6,14 +6,20 @@
 #![tactic(auto)]
 
 mod byte_class;
+mod declaration;
+mod expression;
+mod front;
 mod laws;
 mod named;
 mod opening;
+mod parameter;
 mod reading;
 mod rules;
 mod scan;
 mod source;
 mod spelling;
+mod statement;
+mod syntax_error;
 mod text_error;
 mod token;
 mod tree;
