@@ -1,8 +1,12 @@
 pub mod Tree
+pub mod Bytes
+pub mod Spelling
 pub mod Cutting
+pub mod Scanning
 pub mod Grammar
 pub mod Limits
 pub mod Rules
 pub mod Meaning
 pub mod Parsing
 pub mod Correct
+pub mod Deciding

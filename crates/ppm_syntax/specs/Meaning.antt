@@ -137,9 +137,13 @@ abbrev pub run_main : List Array → Option Procedure → Arrays → ℕ → End
 run_main arrays None values left = Done values left
 run_main arrays (Some main) values left = run_procedure (main_frame arrays main.params) main values left
 
--- the arrays that a source starts with: each word is 0
+-- an array as it starts: each word is 0
+abbrev pub opening_array : Array → NamedArray
+opening_array a = record { name = a.name; values = replicate a.length (pos 0) }
+
+-- the arrays that a source starts with
 abbrev pub opening : SourceTree → List NamedArray
-opening t = map (λ a. record { name = a.name; values = replicate a.length (pos 0) }) t.arrays
+opening t = map opening_array t.arrays
 
 abbrev pub values_of : List NamedArray → Arrays
 values_of arrays = map (λ a. a.values) arrays

@@ -5,18 +5,27 @@
 //! Stands on `ppm_words`; `ppm_top` reads, compiles and judges by it.
 #![tactic(auto)]
 
+mod byte_class;
 mod declaration;
 mod expression;
 mod front;
+mod laws;
+mod named;
+mod opening;
 mod parameter;
 mod parsing;
 mod reading;
+mod rules;
+mod scan;
 mod source;
+mod spelling;
 mod statement;
 mod syntax_error;
+mod text_error;
 mod token;
 mod tree;
 
+pub use laws::{have_one_tree, more_turns_keep};
 pub use reading::{SourceError, read_source};
 pub use source::{Admitted, Source};
 pub use tree::{Array, Expr, Mode, Operator, Param, Proc, Stmt, Tree};

@@ -1,5 +1,5 @@
 -- How many capsules a source may take.
-use Rattle.std.specs.Prelude.{ℕ, ◌+◌, ◌*◌, ◌≤◌, List, length, map}
+use Rattle.std.specs.Prelude.{ℕ, ◌+◌, ◌*◌, ◌≤◌, length, map}
 use Rattle.std.specs.List.{sum}
 use Rattle.ppm_syntax.specs.Tree.{SourceTree}
 

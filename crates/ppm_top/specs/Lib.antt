@@ -1,1 +1,10 @@
 pub mod Bounds
+pub mod Texts
+pub mod Statuses
+pub mod Words
+pub mod Delivery
+pub mod Causes
+pub mod Rows
+pub mod Judging
+pub mod Code
+pub mod Machine

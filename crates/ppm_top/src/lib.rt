@@ -5,4 +5,21 @@
 //! The machine and its capsules are after Blelloch, Gibbons, Gu, McGuffey and Shun, SPAA 2018.
 #![tactic(auto)]
 
+mod answer;
+mod code;
+mod command;
+mod cut;
+mod deliver;
+mod image;
+mod layout;
+mod machine;
 mod outcome;
+mod run;
+mod status;
+mod texts;
+mod top;
+
+pub use answer::Answer;
+pub use command::Command;
+pub use status::Status;
+pub use top::ppm;

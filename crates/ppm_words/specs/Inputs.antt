@@ -1,5 +1,5 @@
 -- The arrays that a run starts from, and their limits.
-use Rattle.std.specs.Prelude.{ℕ, ◌≤◌, ◌^◌, List, length, map}
+use Rattle.std.specs.Prelude.{ℕ, ◌≤◌, List, length, map}
 use Rattle.std.specs.List.{sum}
 use Rattle.ppm_words.specs.declared.named_array.NamedArray.{NamedArray}
 

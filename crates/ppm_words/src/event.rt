@@ -1,6 +1,6 @@
 //! What a watcher is told.
 
-/// One event of a run: at the step `step`, the processor at `place` made `value` of the word `word`.
+/// One event of a run: at a step, the processor at a place made a value of a word.
 /// Steps, places and words count from 0.
 #[derive(Clone, Copy, Debug, PartialEq, Eq)]
 pub struct Event {

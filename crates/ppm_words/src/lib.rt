@@ -1,6 +1,6 @@
 //! Words of 64 bits, and the types that several layers speak of.
-//! Model: a name is the list of its bytes, `Items` and `Input` are lists; a word stands for a signed number (`specs/TwosComplement.antt`).
-//! Contract: a signed number goes into a word and comes back as it was; a name and an input keep their limits.
+//! Model: names, items and inputs are lists; words stand for numbers (`specs/TwosComplement`).
+//! Contract: a number goes into a word and comes back; names and inputs keep their limits.
 //! Stands on `std`; all layers above stand on it.
 //! After two's complement for the words; the limits are the language's.
 #![tactic(auto)]
@@ -12,6 +12,8 @@ mod name;
 mod named_array;
 mod no_memory;
 mod outcome;
+#[cfg(test)]
+mod tests;
 mod trap;
 mod value;
 

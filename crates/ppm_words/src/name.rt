@@ -6,7 +6,8 @@ use crate::no_memory::NoMemory;
 use std::alloc::Global;
 use std::marker::Model;
 
-/// A name: 1 to 32 bytes, a letter or `_`, then letters, digits and `_`, all of ASCII. Keywords are not told apart here.
+/// A name: 1 to 32 bytes, a letter or `_`, then letters, digits and `_`, all of ASCII.
+/// Keywords are not told apart here.
 #[derive(Debug, Drop)]
 pub struct Name {
     bytes: Vec<u8>,

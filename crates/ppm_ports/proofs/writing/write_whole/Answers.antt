@@ -1,0 +1,11 @@
+use Rattle.std.proofs.Common.{arith}
+use Rattle.ppm_ports.proofs.WholeLemmas.{Appends-take}
+use Rattle.ppm_ports.proofs.writing.write_whole.Goals as goal
+
+-- the next piece stands behind the front
+pub loop-at-preserved : goal.loop-at-preserved
+loop-at-preserved g c = record {
+  within = omega (arith, c.in_ok-at.ensures.bound);
+  front = Appends-take _ _ _ _ _ _ c.loop-at.invariant.front c.in_ok-at.ensures.bytes;
+  later = omega (arith, c.in_ok-at.ensures.cause.later);
+}

@@ -1,0 +1,5 @@
+pub mod Causes
+pub mod Told
+pub mod Memory
+pub mod Whole
+pub mod Ports

@@ -1,0 +1,5 @@
+use Rattle.ppm_syntax.proofs.ReadingLemmas.{have_one_tree}
+use Rattle.ppm_syntax.proofs.laws.have_one_tree.Goals as goal
+
+pub returns : goal.returns
+returns c = record { law = have_one_tree }

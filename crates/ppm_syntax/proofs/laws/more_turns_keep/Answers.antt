@@ -1,0 +1,5 @@
+use Rattle.ppm_syntax.proofs.MeaningLemmas.{more_turns}
+use Rattle.ppm_syntax.proofs.laws.more_turns_keep.Goals as goal
+
+pub returns : goal.returns
+returns c = record { law = more_turns }

@@ -1,0 +1,10 @@
+use Rattle.std.proofs.Common.{rules, subst, sym, ap, map, ◌≡◌, ◌∙◌}
+use Rattle.ppm_words.specs.Inputs.{IsInput}
+use Rattle.ppm_syntax.specs.Tree.{tree_of}
+use Rattle.ppm_syntax.specs.Meaning.{opening_array}
+use Rattle.ppm_syntax.proofs.OpeningLemmas.{zeros_are_input}
+use Rattle.ppm_syntax.proofs.opening.opening_input.Goals as goal
+
+-- the source is within the limits of an input
+pub from_vec-requires : goal.from_vec-requires
+from_vec-requires c = zeros_are_input c.args.source.now _ _ c.tree-tree.ensures.limits (c.as_slice.ensures ∙ ap (λ t. t.arrays) c.tree-tree.ensures.value) c.in_ok-arrays.ensures

@@ -1,0 +1,19 @@
+-- What the tests of the rules answer.
+use Rattle.std.specs.Prelude.{◌≡◌, ℕ, List}
+use Rattle.std.specs.List.{Contains}
+use Rattle.ppm_syntax.specs.declared.tree.Array.{Array}
+use Rattle.ppm_syntax.specs.declared.tree.Param.{Param}
+use Rattle.ppm_syntax.specs.Rules.{IsRegion}
+
+-- some element is such a one
+abbrev pub HasOne : {A : Type 0} → (A → Type 0) → List A → Type 0
+HasOne {A} P xs = (x : A) × Contains xs x × P x
+
+-- some element has the name
+abbrev pub HasNamed : {A : Type 0} → (A → List ℕ) → List A → List ℕ → Type 0
+HasNamed {A} name xs n = (x : A) × Contains xs x × (name x ≡ n)
+
+-- a parameter of `main` is a region with the name of an array
+pub record IsMainParam (arrays : List Array) (q : Param) : Type 0 where
+  pub region : IsRegion q
+  pub named : HasNamed (λ a. a.name) arrays q.name

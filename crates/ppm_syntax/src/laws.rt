@@ -1,0 +1,13 @@
+//! What is true of every text and every run, shown by calls that do nothing.
+ghost use Rattle.ppm_syntax.specs.Correct.{HaveOneTree};
+ghost use Rattle.ppm_syntax.specs.Meaning.{MoreTurnsKeep};
+
+/// A text has at most one tree.
+pub fn have_one_tree()
+    ensures law { HaveOneTree }
+{}
+
+/// More turns never change an outcome that is there.
+pub fn more_turns_keep()
+    ensures law { MoreTurnsKeep }
+{}

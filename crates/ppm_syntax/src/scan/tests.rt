@@ -1,0 +1,85 @@
+//! The scanner at values that the language's rules give.
+use super::tokens;
+use crate::text_error::TextError;
+use crate::token::{Kind, Token};
+use std::alloc::Global;
+use std::test::Fail;
+
+/// A token as text, with its place and its line.
+fn shown(alloc: Global, token: &Token) -> Result<String, Fail> {
+    let place = token.place;
+    let line = token.line;
+    let text = match &token.kind {
+        Kind::Name(name) => {
+            let bytes = str::from_utf8(name.as_bytes())?;
+            format!(in alloc; "name {bytes} {place}:{line};")?
+        }
+        Kind::Number(n) => format!(in alloc; "{n} {place}:{line};")?,
+        Kind::Keyword(keyword) => format!(in alloc; "{keyword:?} {place}:{line};")?,
+        Kind::Sign(sign) => format!(in alloc; "{sign:?} {place}:{line};")?,
+    };
+    Ok(text)
+}
+
+/// The tokens of a text, as text.
+fn cut(alloc: Global, text: &[u8]) -> Result<String, Fail> {
+    let all = tokens(alloc, text)?;
+    let mut shown_all = String::new(alloc);
+    for token in &all {
+        shown_all.push_str(&shown(alloc, token)?)?;
+    }
+    Ok(shown_all)
+}
+
+#[test]
+fn cuts_texts(rt: HostRuntime) -> Result<(), Fail> {
+    let cases: [(&[u8], &str); 9] = [
+        (b"a == b", "name a 0:1;Equal 2:1;name b 5:1;"),
+        (b"a=b", "name a 0:1;Assign 1:1;name b 2:1;"),
+        (b"===", "Equal 0:1;Assign 2:1;"),
+        (b"1a", "1 0:1;name a 1:1;"),
+        (b"# c\n\r\tlet _x", "Let 6:2;name _x 10:2;"),
+        (b"in int into# end", "In 0:1;Int 3:1;Into 7:1;"),
+        (
+            b"abcdefghijklmnopqrstuvwxyz_ABC12",
+            "name abcdefghijklmnopqrstuvwxyz_ABC12 0:1;",
+        ),
+        (b"0009223372036854775807", "9223372036854775807 0:1;"),
+        (b"", ""),
+    ];
+    for (text, want) in cases {
+        assert_eq!(rt; cut(rt.alloc(), text)?.as_str(), want);
+    }
+    Ok(())
+}
+
+#[test]
+fn refuses_at_the_fault(rt: HostRuntime) {
+    let cases: [(&[u8], TextError); 7] = [
+        (b"a 9223372036854775808", TextError::NumberTooBig(2)),
+        (
+            b"\nabcdefghijklmnopqrstuvwxyz_ABC123",
+            TextError::NameTooLong(1),
+        ),
+        (b"a # \xC8", TextError::NotAscii(4)),
+        (b"a\xC8", TextError::NotAscii(1)),
+        (b"a & b", TextError::BadChar(2)),
+        (b"!a", TextError::BadChar(0)),
+        (b"&&|", TextError::BadChar(2)),
+    ];
+    for (text, want) in cases {
+        assert_eq!(rt; tokens(rt.alloc(), text).err(), Some(want));
+    }
+}
+
+#[test]
+fn keeps_the_limit(rt: HostRuntime) -> Result<(), Fail> {
+    let mut text = vec![in rt.alloc(); b'\n'; 1_048_576]?;
+    assert_eq!(rt; tokens(rt.alloc(), &text)?.len(), 0);
+    text.push(b'\n')?;
+    assert_eq!(rt;
+        tokens(rt.alloc(), &text).err(),
+        Some(TextError::TooLong(1_048_576))
+    );
+    Ok(())
+}

@@ -1,0 +1,249 @@
+-- The two capsules of an assignment do what the assignment means.
+use Rattle.std.proofs.Common.{◌≡◌, ◌≢◌, ℕ, zero, suc, ◌+◌, ◌<◌, ◌≤◌, ◌^◌, Bool, true, false, List, [], ◌∷◌, ◌++◌}
+use Rattle.std.proofs.Common.{length, get_or, set, replicate, Result, Ok, Err, refl, sym, ap, ◌∙◌, subst, arith, cond, lit<}
+use Rattle.std.specs.Prelude.{ℤ, pos, negsuc, ◌+ℤ◌, FitsSigned}
+use Rattle.std.specs.Int.{w64}
+use Rattle.std.proofs.lemmas.List.{get_or-set_same, get_or-set_other, length-set, length-replicate}
+use Rattle.ppm_words.specs.TwosComplement.{word_of, value_of}
+use Rattle.ppm_words.proofs.TwosComplementLemmas.{value_of-word_of, word_of-below, value_of-fits}
+use Rattle.ppm_words.specs.declared.trap.Trap.TheVariants as trap
+use Rattle.ppm_syntax.specs.declared.tree.Operator.{Operator}
+use Rattle.ppm_syntax.specs.declared.tree.Operator.TheVariants as operator
+use Rattle.ppm_syntax.specs.Tree.{Expression, Statement}
+use Rattle.ppm_syntax.specs.Tree as tree
+use Rattle.ppm_syntax.specs.Limits.{HasLiterals, IsLiteral}
+use Rattle.ppm_syntax.specs.Meaning.{Stop, Frame, region_of, then_with, fits, in_range, applied, word_at, array_at, evaluate, after, stored}
+use Rattle.ppm_top.specs.declared.code.Instr.{Instr}
+use Rattle.ppm_top.specs.declared.code.Instr.TheVariants.{StoreCur}
+use Rattle.ppm_top.specs.Code.{register_count, array_of, expression_code, keep_capsule, put_capsule, reach}
+use Rattle.ppm_top.specs.Machine.{State, register, steps, cleared, base_of, total_of, arrays_of, whole}
+use Rattle.ppm_top.proofs.ArraysInWords.{get_or-array_at, arrays_of-set}
+use Rattle.ppm_top.proofs.ExpressionRuns.{IsWhole, ReadsWhole, steps-append, Leaves, Ends, word_within, expression_right}
+
+-- what goes on to a value had one
+then_ok : {A B : Type 0} (r : Result A Stop) (f : A → Result B Stop) (z : B) → then_with r f ≡ Ok z → (x : A) × (r ≡ Ok x) × (f x ≡ Ok z)
+then_ok (Ok x) f z e = (x, refl, e)
+then_ok (Err stop) f z e = cc
+
+-- going on twice, one way or the other
+pub then_assoc : {A B C : Type 0} (r : Result A Stop) (f : A → Result B Stop) (g : B → Result C Stop) →
+    then_with (then_with r f) g ≡ then_with r (λ x. then_with (f x) g)
+then_assoc (Ok x) f g = refl
+then_assoc (Err stop) f g = refl
+
+-- a number that passes the test is a value
+fits_from_test : (z : ℤ) → fits z ≡ true → FitsSigned w64 z
+fits_from_test (pos n) e = grind arith
+fits_from_test (negsuc n) e = grind arith
+
+-- a literal is a value
+literal_fits : (z : ℤ) → IsLiteral z → FitsSigned w64 z
+literal_fits (pos n) h = record { sfits = h }
+literal_fits (negsuc n) h = absurd h
+
+-- the test of a result, by its answer
+abbrev tested_sum : Bool → ℤ → ℕ → Result ℤ Stop
+tested_sum b z line = cond b (Ok z) (Err (trap.Overflow, line))
+
+-- a result in range is a value
+in_range_fits : (line : ℕ) (x z : ℤ) → in_range line x ≡ Ok z → FitsSigned w64 z
+in_range_fits line x z e = go (fits x) refl e where
+  go : (b : Bool) → fits x ≡ b → tested_sum b x line ≡ Ok z → FitsSigned w64 z
+  go true t h = let same : x ≡ z = cc in subst (λ v. FitsSigned w64 v) same (fits_from_test x t)
+  go false t h = cc
+
+-- what an operation gives is a value
+applied_fits : (o : Operator) (line : ℕ) (x y z : ℤ) → applied o line x y ≡ Ok z → FitsSigned w64 z
+applied_fits operator.Add line x y z e = in_range_fits line (x +ℤ y) z e
+
+-- the machine's state is one that a capsule may begin in
+pub record IsSound (lengths : List ℕ) (s : State) : Type 0 where
+  pub slots : length s.slots ≡ 2
+  pub enough : total_of lengths ≤ length s.words
+  pub fits : (k : ℕ) → get_or s.words k 0 < 2 ^ 64
+
+-- an expression has a value of the language
+value_fits : (lengths : List ℕ) (frame : Frame) (s : State) (e : Expression) (z : ℤ) → IsSound lengths s → HasLiterals e →
+    ReadsWhole lengths frame e → evaluate frame (arrays_of lengths s.words) e ≡ Ok z → FitsSigned w64 z
+value_fits lengths frame s (tree.Number x) z sound literals reads e = let same : x ≡ z = cc in subst (λ v. FitsSigned w64 v) same (literal_fits x literals)
+value_fits lengths frame s (tree.Element x line index) z sound literals reads e =
+    let arrays = arrays_of lengths s.words in
+    let a = array_of frame x in
+    let found = λ (k : ℕ). get_or (array_at arrays a) k (pos 0) in
+    let i = then_ok (evaluate frame arrays index) (λ i. then_with (word_at line (region_of frame x) i) (λ k. Ok (found k))) z e in
+    let k = then_ok (word_at line (region_of frame x) i.0) (λ k. Ok (found k)) z i.2 in
+    let within = word_within lengths a line k.0 i.0 (sym (ap (λ r. word_at line r i.0) reads.0) ∙ k.1) in
+    let same : found k.0 ≡ z = cc (k.2) in
+    subst (λ v. FitsSigned w64 v)
+    (sym (get_or-array_at lengths s.words a k.0 sound.enough within) ∙ same)
+    (value_of-fits _ (sound.fits (base_of lengths a + k.0)))
+value_fits lengths frame s (tree.Binary o line left right) z sound literals reads e =
+    let arrays = arrays_of lengths s.words in
+    let v = then_ok (evaluate frame arrays left) (λ v. then_with (evaluate frame arrays right) (λ w. applied o line v w)) z e in
+    let w = then_ok (evaluate frame arrays right) (λ w. applied o line v.0 w) z v.2 in
+    applied_fits o line v.0 w.0 z w.2
+
+-- a run of the machine leaves these arrays, or stops
+abbrev pub Becomes : List ℕ → Result State Stop → Result (List (List ℤ)) Stop → Type 0
+Becomes lengths run (Ok arrays) = (t : State) × (run ≡ Ok t) × ((arrays_of lengths t.words ≡ arrays) × IsSound lengths t)
+Becomes lengths run (Err stop) = run ≡ Err stop
+
+-- an expression, and then what goes on from its value
+then_becomes : (lengths : List ℕ) (a : List Instr) (s base : State) (d : ℕ) (r : Result ℤ Stop)
+    (f : ℤ → Result (List (List ℤ)) Stop) (next : State → Result State Stop) →
+    Ends lengths a s base d r → ((z : ℤ) (t : State) → r ≡ Ok z → Leaves d z base t → Becomes lengths (next t) (f z)) →
+    Becomes lengths (then_with (steps lengths a s) next) (then_with r f)
+then_becomes lengths a s base d (Err stop) f next h go = ap (λ r. then_with r next) h
+then_becomes lengths a s base d (Ok z) f next h go = subst (λ m. Becomes lengths m (f z)) (sym (ap (λ r. then_with r next) h.1)) (go z h.0 refl h.2)
+
+-- each word of a list fits, also where one that fits is written
+set_fits : (words : List ℕ) (j w : ℕ) → ((k : ℕ) → get_or words k 0 < 2 ^ 64) → w < 2 ^ 64 → (k : ℕ) → get_or (set words j w) k 0 < 2 ^ 64
+set_fits [] j w h f k = h k
+set_fits (x ∷ words) zero w h f zero = f
+set_fits (x ∷ words) zero w h f (suc k) = h (suc k)
+set_fits (x ∷ words) (suc j) w h f zero = h zero
+set_fits (x ∷ words) (suc j) w h f (suc k) = set_fits words j w (λ q. h (suc q)) f k
+
+-- the lower of two places is not the higher
+different : (i j : ℕ) → i < j → i ≢ j
+different i j h = omega arith
+
+-- the end of the first capsule
+abbrev stores : List Instr
+stores = StoreCur 0 0 ∷ StoreCur 1 1 ∷ []
+
+-- the rest of the two capsules, once index and value are in registers 0 and 1
+abbrev put_on : List ℕ → ℕ → ℕ → State → Result State Stop
+put_on lengths a line u = then_with (steps lengths stores u) (λ t. steps lengths (put_capsule a line).body (cleared t))
+
+-- the second capsule puts the value that the first one kept
+put_right : (lengths : List ℕ) (u : State) (a line : ℕ) (i v : ℤ) → IsSound lengths u → FitsSigned w64 i → FitsSigned w64 v →
+    register u 0 ≡ i → register u 1 ≡ v →
+    Becomes lengths (put_on lengths a line u) (then_with (word_at line (whole lengths a) i) (λ k. Ok (stored (arrays_of lengths u.words) a k v)))
+put_right lengths u a line i v sound fits_i fits_v first second = go (word_at line (whole lengths a) i) refl where
+  zeros : List ℤ
+  zeros = replicate register_count (pos 0)
+
+  first_kept : List ℕ
+  first_kept = set u.slots 0 (word_of (register u 0))
+
+  kept : List ℕ
+  kept = set first_kept 1 (word_of (register u 1))
+
+  first_loaded : List ℤ
+  first_loaded = set zeros 0 (value_of (get_or kept 0 0))
+
+  loaded : List ℤ
+  loaded = set first_loaded 1 (value_of (get_or kept 1 0))
+
+  next : ℤ → ℕ → State
+  next x j = record { registers = loaded; slots = kept; words = set u.words j (word_of x) }
+
+  read_first : get_or loaded 0 (pos 0) ≡ i
+  read_first =
+      let two : 0 < length u.slots = omega (arith, sound.slots) in
+      let many : 0 < length zeros = omega (arith, length-replicate {A = ℤ}) in
+      let other = different 0 1 (lit< tt) in
+      get_or-set_other first_loaded 1 0 (value_of (get_or kept 1 0)) (pos 0) other
+      ∙ get_or-set_same zeros 0 (value_of (get_or kept 0 0)) (pos 0) many
+      ∙ ap value_of (get_or-set_other first_kept 1 0 (word_of (register u 1)) 0 other ∙ get_or-set_same u.slots 0 (word_of (register u 0)) 0 two)
+      ∙ ap (λ x. value_of (word_of x)) first ∙ value_of-word_of i fits_i
+
+  read_second : get_or loaded 1 (pos 0) ≡ v
+  read_second =
+      let two : 1 < length first_kept = omega (arith, sound.slots, length-set u.slots 0 (word_of (register u 0))) in
+      let many : 1 < length first_loaded = omega (arith, length-replicate {A = ℤ}, length-set zeros 0 (value_of (get_or kept 0 0))) in
+      get_or-set_same first_loaded 1 (value_of (get_or kept 1 0)) (pos 0) many
+      ∙ ap value_of (get_or-set_same first_kept 1 (word_of (register u 1)) 0 two)
+      ∙ ap (λ x. value_of (word_of x)) second ∙ value_of-word_of v fits_v
+
+  put : Result ℕ Stop → ℤ → Result State Stop
+  put r x = then_with (then_with (then_with r (λ k. Ok (base_of lengths a + k))) (λ j. Ok (next x j))) (λ t. Ok t)
+
+  here : (r : Result ℕ Stop) → word_at line (whole lengths a) i ≡ r → put_on lengths a line u ≡ put r v
+  here r e =
+      ap (λ x. put (word_at line (whole lengths a) x) (get_or loaded 1 (pos 0))) read_first
+      ∙ ap (put (word_at line (whole lengths a) i)) read_second
+      ∙ ap (λ r. put r v) e
+
+  go : (r : Result ℕ Stop) → word_at line (whole lengths a) i ≡ r →
+      Becomes lengths (put_on lengths a line u) (then_with r (λ k. Ok (stored (arrays_of lengths u.words) a k v)))
+  go (Err stop) e = here (Err stop) e
+  go (Ok k) e = (
+    next v (base_of lengths a + k),
+    here (Ok k) e,
+    (
+      arrays_of-set lengths u.words a k (word_of v) sound.enough (word_within lengths a line k i e)
+          ∙ ap (λ x. stored (arrays_of lengths u.words) a k x) (value_of-word_of v fits_v),
+      record {
+        slots = length-set first_kept 1 (word_of (register u 1)) ∙ length-set u.slots 0 (word_of (register u 0)) ∙ sound.slots;
+        enough = omega (arith, sound.enough, length-set u.words (base_of lengths a + k) (word_of v));
+        fits = set_fits u.words (base_of lengths a + k) (word_of v) sound.fits (word_of-below v fits_v);
+      },
+    ),
+  )
+
+-- a state with the same slots and words is as sound
+kept_sound : (lengths : List ℕ) (s t : State) → IsSound lengths s → t.slots ≡ s.slots → t.words ≡ s.words → IsSound lengths t
+kept_sound lengths s t sound slots words = record { slots = ap length slots ∙ sound.slots; enough = rw words sound.enough; fits = rw words sound.fits }
+
+-- the two capsules of an assignment, one after the other
+abbrev pub pair_run : List ℕ → Frame → List ℕ → ℕ → Expression → Expression → State → Result State Stop
+pair_run lengths frame x line index value s =
+    then_with (steps lengths (keep_capsule frame index value).body (cleared s)) (λ t. steps lengths (put_capsule (array_of frame x) line).body (cleared t))
+
+-- the first capsule in its three stretches
+pair_parts : (lengths : List ℕ) (frame : Frame) (x : List ℕ) (line : ℕ) (index value : Expression) (s : State) →
+    pair_run lengths frame x line index value s
+    ≡ then_with (steps lengths (expression_code frame 0 index) (cleared s))
+    (λ t. then_with (steps lengths (expression_code frame 1 value) t) (put_on lengths (array_of frame x) line))
+pair_parts lengths frame x line index value s =
+    ap (λ r. then_with r put) (steps-append lengths (expression_code frame 0 index) (expression_code frame 1 value ++ stores) (cleared s))
+    ∙ then_assoc (steps lengths (expression_code frame 0 index) (cleared s)) (λ t. steps lengths (expression_code frame 1 value ++ stores) t) put
+    ∙ from (steps lengths (expression_code frame 0 index) (cleared s))
+  where
+    put : State → Result State Stop
+    put t = steps lengths (put_capsule (array_of frame x) line).body (cleared t)
+
+    at : (t : State) →
+        then_with (steps lengths (expression_code frame 1 value ++ stores) t) put
+        ≡ then_with (steps lengths (expression_code frame 1 value) t) (put_on lengths (array_of frame x) line)
+    at t =
+        ap (λ r. then_with r put) (steps-append lengths (expression_code frame 1 value) stores t)
+        ∙ then_assoc (steps lengths (expression_code frame 1 value) t) (λ u. steps lengths stores u) put
+
+    from : (r : Result State Stop) →
+        then_with r (λ t. then_with (steps lengths (expression_code frame 1 value ++ stores) t) put)
+        ≡ then_with r (λ t. then_with (steps lengths (expression_code frame 1 value) t) (put_on lengths (array_of frame x) line))
+    from (Ok t) = at t
+    from (Err stop) = refl
+
+-- an assignment's capsules do what it means
+pub pair_right : (lengths : List ℕ) (frame : Frame) (x : List ℕ) (line : ℕ) (index value : Expression) (s : State) → IsSound lengths s →
+    reach 0 index ≤ register_count → reach 1 value ≤ register_count → HasLiterals index → HasLiterals value →
+    IsWhole lengths (region_of frame x) → ReadsWhole lengths frame index → ReadsWhole lengths frame value →
+    Becomes lengths (pair_run lengths frame x line index value s) (after frame (arrays_of lengths s.words) (tree.Put x line index value))
+pair_right lengths frame x line index value s sound room_i room_v literals_i literals_v whole_x reads_i reads_v =
+    let a = array_of frame x in
+    let many : length (cleared s).registers ≡ register_count = length-replicate register_count (pos 0) in
+    let room : reach 0 index ≤ length (cleared s).registers = omega arith in
+    subst (λ m. Becomes lengths m (after frame (arrays_of lengths s.words) (tree.Put x line index value)))
+    (sym (pair_parts lengths frame x line index value s))
+    (then_becomes lengths (expression_code frame 0 index) (cleared s) (cleared s) 0 _ _ _
+    (expression_right lengths frame index 0 (cleared s) room sound.enough reads_i)
+    (λ i t ei l.
+    let sound_t : IsSound lengths t = kept_sound lengths s t sound l.slots l.words in
+    let room_t : reach 1 value ≤ length t.registers = omega (arith, l.size) in
+    let rest = then_with (steps lengths (expression_code frame 1 value) t) (put_on lengths a line) in
+    let put = λ (ws : List ℕ) (v : ℤ). then_with (word_at line (region_of frame x) i) (λ k. Ok (stored (arrays_of lengths ws) a k v)) in
+    subst (λ ws. Becomes lengths rest (then_with (evaluate frame (arrays_of lengths ws) value) (put ws))) l.words
+    (then_becomes lengths (expression_code frame 1 value) t t 1 _ _ _ (expression_right lengths frame value 1 t room_t sound_t.enough reads_v)
+    (λ v u ev m.
+    let sound_u : IsSound lengths u = kept_sound lengths t u sound_t m.slots m.words in
+    let fits_i = value_fits lengths frame s index i sound literals_i reads_i ei in
+    let fits_v = value_fits lengths frame t value v sound_t literals_v reads_v ev in
+    let zero_below : 0 < 1 = omega arith in
+    subst (λ ws. Becomes lengths (put_on lengths a line u) (put ws v)) m.words
+    (subst (λ w. Becomes lengths (put_on lengths a line u) (then_with w (λ k. Ok (stored (arrays_of lengths u.words) a k v))))
+    (sym (ap (λ r. word_at line r i) whole_x))
+    (put_right lengths u a line i v sound_u fits_i fits_v (m.below 0 zero_below ∙ l.value) m.value))))))

@@ -1,0 +1,25 @@
+-- The status of each answer, and the number of each status.
+use Rattle.std.specs.Prelude.{ℕ}
+use Rattle.ppm_top.specs.declared.answer.Answer.{Answer}
+use Rattle.ppm_top.specs.declared.answer.Answer.TheVariants as answers
+use Rattle.ppm_top.specs.declared.status.Status.{Status}
+use Rattle.ppm_top.specs.declared.status.Status.TheVariants as statuses
+
+-- the status of an answer whose texts are written
+abbrev pub status_of : Answer → Status
+status_of (answers.Ended arrays) = statuses.Ended
+status_of (answers.Trapped t line) = statuses.Trapped
+status_of answers.SourceRefused = statuses.SourceRefused
+status_of answers.WordsRefused = statuses.WordsRefused
+status_of answers.ReadFault = statuses.ReadFault
+status_of answers.NoMemory = statuses.NoMemory
+
+-- the number that the program ends with
+abbrev pub number_of : Status → ℕ
+number_of statuses.Ended = 0
+number_of statuses.Trapped = 1
+number_of statuses.SourceRefused = 2
+number_of statuses.WordsRefused = 3
+number_of statuses.ReadFault = 7
+number_of statuses.WriteFault = 8
+number_of statuses.NoMemory = 9

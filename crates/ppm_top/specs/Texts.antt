@@ -1,0 +1,58 @@
+-- The text of each answer on out and on err.
+use Rattle.std.specs.Prelude.{ℕ, ℤ, List, [], ◌∷◌, ◌++◌, codes, decimal}
+use Rattle.std.specs.List.{flat_map}
+use Rattle.std.specs.Fmt.{signed_decimal}
+use Rattle.ppm_words.specs.declared.named_array.NamedArray.{NamedArray}
+use Rattle.ppm_words.specs.declared.trap.Trap.{Trap}
+use Rattle.ppm_words.specs.declared.trap.Trap.TheVariants as trap
+use Rattle.ppm_top.specs.declared.answer.Answer.{Answer}
+use Rattle.ppm_top.specs.declared.answer.Answer.TheVariants as answers
+
+-- the text and a line feed
+abbrev pub line_of : List ℕ → List ℕ
+line_of text = text ++ 10 ∷ []
+
+-- a space and the value in decimal
+abbrev pub value_text : ℤ → List ℕ
+value_text z = 32 ∷ signed_decimal z
+
+-- a line with the array's name and its values
+abbrev pub array_text : NamedArray → List ℕ
+array_text a = line_of (a.name ++ flat_map value_text a.values)
+
+-- the arrays, a line each
+abbrev pub arrays_text : List NamedArray → List ℕ
+arrays_text arrays = flat_map array_text arrays
+
+-- the word for a trap
+abbrev pub trap_word : Trap → List ℕ
+trap_word trap.Overflow = codes "overflow"
+trap_word trap.DivZero = codes "divzero"
+trap_word trap.Index = codes "index"
+trap_word trap.Split = codes "split"
+
+-- a line with the trap and its line in the source
+abbrev pub trap_text : Trap → ℕ → List ℕ
+trap_text t line = line_of (codes "trap " ++ trap_word t ++ codes " line " ++ decimal line)
+
+-- what is written on out
+abbrev pub out_text : Answer → List ℕ
+out_text (answers.Ended arrays) = arrays_text arrays
+out_text (answers.Trapped t line) = trap_text t line
+out_text answers.SourceRefused = []
+out_text answers.WordsRefused = []
+out_text answers.ReadFault = []
+out_text answers.NoMemory = []
+
+-- what is written on err
+abbrev pub err_text : Answer → List ℕ
+err_text (answers.Ended arrays) = []
+err_text (answers.Trapped t line) = []
+err_text answers.SourceRefused = line_of (codes "source refused")
+err_text answers.WordsRefused = line_of (codes "words refused")
+err_text answers.ReadFault = line_of (codes "read fault")
+err_text answers.NoMemory = line_of (codes "out of memory")
+
+-- what is written on err where out failed
+abbrev pub write_fault_text : List ℕ
+write_fault_text = line_of (codes "write fault")

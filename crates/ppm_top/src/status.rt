@@ -1,0 +1,31 @@
+//! How the program ends.
+ghost use Rattle.std.specs.Prelude.{◌≡◌};
+ghost use Rattle.ppm_top.specs.Statuses.{number_of};
+
+/// How the program ends, by the number that it hands to its caller.
+#[derive(Clone, Copy, Debug, PartialEq, Eq)]
+pub enum Status {
+    /// The run ended, and its arrays are on out.
+    Ended = 0,
+    /// The run ended by a trap, which is told on out.
+    Trapped = 1,
+    /// The source is refused.
+    SourceRefused = 2,
+    /// The words give no command.
+    WordsRefused = 3,
+    /// The source of bytes failed.
+    ReadFault = 7,
+    /// Out or err failed, and may have a front of its text.
+    WriteFault = 8,
+    /// Memory was refused.
+    NoMemory = 9,
+}
+
+impl Status {
+    /// The number that the program ends with, from 0 to 9.
+    pub fn number(self) -> u8
+        ensures { result ≡ number_of self }
+    {
+        self as u8
+    }
+}

@@ -1,0 +1,88 @@
+//! The texts of answers.
+ghost use Rattle.std.specs.Prelude.{◌≡◌, ◌++◌, IfOk, OnOk};
+ghost use Rattle.std.specs.List.{flat_map};
+ghost use Rattle.ppm_top.specs.Texts.{out_text, err_text, arrays_text, array_text, value_text, trap_text, trap_word};
+
+use crate::answer::Answer;
+use ppm_words::{NamedArray, Trap};
+use std::alloc::{AllocError, Global};
+
+/// What is written on out.
+pub fn out_text_of(alloc: Global, answer: &Answer) -> Result<Vec<u8>, AllocError>
+    ensures { IfOk result (λ text. text.items ≡ out_text answer.now) }
+{
+    let mut text = Vec::new(alloc);
+    match answer {
+        Answer::Ended(arrays) => push_arrays(alloc, &mut text, arrays.as_slice())?,
+        Answer::Trapped(trap, line) => push_trap(alloc, &mut text, *trap, *line)?,
+        Answer::SourceRefused | Answer::WordsRefused | Answer::ReadFault | Answer::NoMemory => {}
+    }
+    Ok(text)
+}
+
+/// What is written on err.
+pub fn err_text_of(answer: &Answer) -> &'static [u8]
+    ensures { result.now ≡ err_text answer.now }
+{
+    match answer {
+        Answer::Ended(_) | Answer::Trapped(_, _) => b"",
+        Answer::SourceRefused => b"source refused\n",
+        Answer::WordsRefused => b"words refused\n",
+        Answer::ReadFault => b"read fault\n",
+        Answer::NoMemory => b"out of memory\n",
+    }
+}
+
+/// Appends the arrays, a line each.
+fn push_arrays(alloc: Global, text: &mut Vec<u8>, arrays: &[NamedArray]) -> Result<(), AllocError>
+    ensures { OnOk result (text.new.items ≡ text.old.items ++ arrays_text arrays.now) }
+{
+    for array in arrays {
+        push_array(alloc, text, array)?;
+    }
+    Ok(())
+}
+
+/// Appends an array's name, its values and a line feed.
+fn push_array(alloc: Global, text: &mut Vec<u8>, array: &NamedArray) -> Result<(), AllocError>
+    ensures { OnOk result (text.new.items ≡ text.old.items ++ array_text array.now) }
+{
+    text.extend_from_slice(array.name.as_bytes())?;
+    push_values(alloc, text, array.values.as_slice())?;
+    text.push(b'\n')?;
+    Ok(())
+}
+
+/// Appends a space and the value for each of the values.
+fn push_values(alloc: Global, text: &mut Vec<u8>, values: &[i64]) -> Result<(), AllocError>
+    ensures { OnOk result (text.new.items ≡ text.old.items ++ flat_map value_text values.now) }
+{
+    for value in values {
+        text.push(b' ')?;
+        let digits = value.to_string(alloc)?;
+        text.extend_from_slice(digits.as_bytes())?;
+    }
+    Ok(())
+}
+
+/// Appends a trap and its line in the source.
+fn push_trap(alloc: Global, text: &mut Vec<u8>, trap: Trap, line: u32) -> Result<(), AllocError>
+    ensures { OnOk result (text.new.items ≡ text.old.items ++ trap_text trap line) }
+{
+    let word = word_of(trap);
+    let told = format!(in alloc; "trap {word} line {line}\n")?;
+    text.extend_from_slice(told.as_bytes())?;
+    Ok(())
+}
+
+/// The word for a trap.
+fn word_of(trap: Trap) -> &'static str
+    ensures { result.now ≡ trap_word trap }
+{
+    match trap {
+        Trap::Overflow => "overflow",
+        Trap::DivZero => "divzero",
+        Trap::Index => "index",
+        Trap::Split => "split",
+    }
+}
