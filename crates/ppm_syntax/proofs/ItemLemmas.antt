@@ -31,13 +31,13 @@ item_before : (d : ℕ) (i : Item) {ts behind : List Token} {xs : List Array} {p
 item_before d (an_array a) {ts = ts} {xs = xs} {ps = ps} r m =
     let h = r.head in
     rw h.shape (subst (λ l. Derives (suc d) Source (h.word ∷ h.name ∷ h.opened ∷ r.number ∷ r.closed ∷ r.semicolon ∷ _) (source (record { name = a.name; line = l; length = a.length } ∷ xs) ps) []) h.at
-      (g.array h.is_word h.is_name h.is_opened r.is_number r.is_closed r.is_semicolon m))
+    (g.array h.is_word h.is_name h.is_opened r.is_number r.is_closed r.is_semicolon m))
 item_before d (a_procedure p) {ts = ts} {xs = xs} {ps = ps} r m =
     let h = r.head in
     let inner : r.inner ≡ d = omega (arith, r.deep) in
     let params = rw inner at r.params in
     rw h.shape (subst (λ l. Derives (suc d) Source (h.word ∷ h.name ∷ h.opened ∷ r.inside) (source xs (record { name = p.name; line = l; params = p.params; body = p.body } ∷ ps)) []) h.at
-      (g.proc h.is_word h.is_name h.is_opened params r.is_closed r.body m))
+    (g.proc h.is_word h.is_name h.is_opened params r.is_closed r.body m))
 
 -- a source of some tokens is a declaration and a source behind it
 record Declares (d : ℕ) (ts : List Token) (xs : List Array) (ps : List Procedure) : Type 0 where
@@ -52,13 +52,43 @@ record Declares (d : ℕ) (ts : List Token) (xs : List Array) (ps : List Procedu
 
 declares : {d : ℕ} {t : Token} {ts : List Token} {xs : List Array} {ps : List Procedure} → Derives d Source (t ∷ ts) (source xs ps) [] → Declares d (t ∷ ts) xs ps
 declares (g.array {d = d} {z = z} {w = w} {n = n} {o = o} {l = l} {c = c} {s = s} {x = x} {xs = xs} {ps = ps} {ts = ts} w_is n_is o_is l_is c_is s_is m) = record {
-    item = an_array (record { name = x; line = n.line; length = z }); behind = ts; arrays = xs; procs = ps; arrays_are = refl; procs_are = refl; more = m;
-    reads = record { number = l; closed = c; semicolon = s; is_number = l_is; is_closed = c_is; is_semicolon = s_is;
-      head = record { word = w; name = n; opened = o; shape = refl; is_word = w_is; is_name = n_is; at = refl; is_opened = o_is } } }
+  item = an_array (record { name = x; line = n.line; length = z });
+  behind = ts;
+  arrays = xs;
+  procs = ps;
+  arrays_are = refl;
+  procs_are = refl;
+  more = m;
+  reads = record {
+    number = l;
+    closed = c;
+    semicolon = s;
+    is_number = l_is;
+    is_closed = c_is;
+    is_semicolon = s_is;
+    head = record { word = w; name = n; opened = o; shape = refl; is_word = w_is; is_name = n_is; at = refl; is_opened = o_is };
+  };
+}
 declares (g.proc {d = d} {w = w} {n = n} {o = o} {c = c} {x = x} {qs = qs} {b = b} {xs = xs} {ps = ps} {ts = ts} {mid = mid} {rest = rest} w_is n_is o_is q c_is b_r m) = record {
-    item = a_procedure (record { name = x; line = n.line; params = qs; body = b }); behind = rest; arrays = xs; procs = ps; arrays_are = refl; procs_are = refl; more = m;
-    reads = record { inner = d; deep = refl; closed = c; inside = ts; behind = mid; params = q; is_closed = c_is; body = b_r;
-      head = record { word = w; name = n; opened = o; shape = refl; is_word = w_is; is_name = n_is; at = refl; is_opened = o_is } } }
+  item = a_procedure (record { name = x; line = n.line; params = qs; body = b });
+  behind = rest;
+  arrays = xs;
+  procs = ps;
+  arrays_are = refl;
+  procs_are = refl;
+  more = m;
+  reads = record {
+    inner = d;
+    deep = refl;
+    closed = c;
+    inside = ts;
+    behind = mid;
+    params = q;
+    is_closed = c_is;
+    body = b_r;
+    head = record { word = w; name = n; opened = o; shape = refl; is_word = w_is; is_name = n_is; at = refl; is_opened = o_is };
+  };
+}
 
 declares_at : {d : ℕ} (ts : List Token) (t : Token) (more : List Token) {xs : List Array} {ps : List Procedure} → ts ≡ t ∷ more → Derives d Source ts (source xs ps) [] → Declares d ts xs ps
 declares_at ts t more shape m = rw shape (declares (rw shape at m))
@@ -131,8 +161,8 @@ front_of (t ∷ ts) h = (t, ts, refl)
 module _ (ts : List Token) (t : SourceTree) (rest : List Token) (leads : LeadsTo ts t rest) where
   pub leads_next : (i : Item) (behind : List Token) (u : SourceTree) → IsItem depth_limit rest i behind → u ≡ with_item t i → LeadsTo ts u behind
   leads_next i behind u r is = record {
-      forth = λ xs ps m. rw (is, arrays_after t i xs, procs_after t i ps) (leads.forth (arrays_with i xs) (procs_with i ps) (item_before 31 i r m));
-      back = λ xs ps m.
+    forth = λ xs ps m. rw (is, arrays_after t i xs, procs_after t i ps) (leads.forth (arrays_with i xs) (procs_with i ps) (item_before 31 i r m));
+    back = λ xs ps m.
         let w = leads.back xs ps m in
         let f = item_front depth_limit rest behind i r in
         let s = declares_at rest f.0 f.1 f.2 w.4 in
@@ -140,7 +170,8 @@ module _ (ts : List Token) (t : SourceTree) (rest : List Token) (leads : LeadsTo
         let more = subst (λ u. Derives depth_limit Source u (source s.arrays s.procs) []) o.1 s.more in
         let arrays : xs ≡ t.arrays ++ arrays_with i s.arrays = cc (w.2, s.arrays_are, o.0) in
         let procs : ps ≡ t.procs ++ procs_with i s.procs = cc (w.3, s.procs_are, o.0) in
-        (s.arrays, s.procs, rw (is, arrays_after t i s.arrays) arrays, rw (is, procs_after t i s.procs) procs, more) }
+        (s.arrays, s.procs, rw (is, arrays_after t i s.arrays) arrays, rw (is, procs_after t i s.procs) procs, more);
+  }
 
   pub tree_read : length rest ≡ 0 → DerivesTree depth_limit ts t
   tree_read none =
@@ -155,4 +186,4 @@ module _ (ts : List Token) (t : SourceTree) (rest : List Token) (leads : LeadsTo
       let arrays : v.arrays ≡ t.arrays ++ arrays_with s.item s.arrays = cc (w.2, s.arrays_are) in
       let procs : v.procs ≡ t.procs ++ procs_with s.item s.procs = cc (w.3, s.procs_are) in
       h.none s.item s.behind s.reads
-        (within_front (with_item t s.item) v s.arrays s.procs (rw (arrays_after t s.item s.arrays) arrays) (rw (procs_after t s.item s.procs) procs) within)
+      (within_front (with_item t s.item) v s.arrays s.procs (rw (arrays_after t s.item s.arrays) arrays) (rw (procs_after t s.item s.procs) procs) within)

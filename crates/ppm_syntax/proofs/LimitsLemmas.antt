@@ -21,7 +21,8 @@ all_front P (x ∷ xs) ys h = All-cons P x xs (All-head P x (xs ++ ys) h) (all_f
 
 pub within_front : (t v : SourceTree) (xs : List Array) (ps : List Procedure) → v.arrays ≡ t.arrays ++ xs → v.procs ≡ t.procs ++ ps → IsWithin v → IsWithin t
 within_front t v xs ps arrays procs h = record {
-    arrays = omega (arith, h.arrays, ap length arrays, length-append t.arrays xs);
-    words = omega (arith, h.words, ap words_of arrays, words-append t.arrays xs);
-    procedures = omega (arith, h.procedures, ap length procs, length-append t.procs ps);
-    small = all_front IsSmall t.procs ps (rw procs at h.small) }
+  arrays = omega (arith, h.arrays, ap length arrays, length-append t.arrays xs);
+  words = omega (arith, h.words, ap words_of arrays, words-append t.arrays xs);
+  procedures = omega (arith, h.procedures, ap length procs, length-append t.procs ps);
+  small = all_front IsSmall t.procs ps (rw procs at h.small);
+}

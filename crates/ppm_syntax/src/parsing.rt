@@ -32,40 +32,74 @@ struct Declared {
 }
 
 /// What is declared with the array in front, and the tokens behind it.
-fn add_array(alloc: Global, declared: Declared, tokens: &[Token]) -> Result<(Declared, &[Token]), SyntaxError>
+fn add_array(
+    alloc: Global,
+    declared: Declared,
+    tokens: &[Token],
+) -> Result<(Declared, &[Token]), SyntaxError>
     requires { IsSoFar declared }
     ensures { MatchResult result
         (λ r. AddsItem tokens.now declared r.0 r.1.now)
         (IsRefused (HasNoFurtherArray tokens.now (tree_so_far declared))) }
 {
-    let Declared { mut arrays, procs, words } = declared;
+    let Declared {
+        mut arrays,
+        procs,
+        words,
+    } = declared;
     if arrays.len() == ARRAY_LIMIT {
         return Err(SyntaxError::Refused);
     }
     let (found, rest) = array(alloc, words, tokens)?;
     let words = words - found.length;
     arrays.push(found)?;
-    Ok((Declared { arrays, procs, words }, rest))
+    Ok((
+        Declared {
+            arrays,
+            procs,
+            words,
+        },
+        rest,
+    ))
 }
 
 /// What is declared with the procedure in front, and the tokens behind it.
-fn add_procedure(alloc: Global, declared: Declared, tokens: &[Token]) -> Result<(Declared, &[Token]), SyntaxError>
+fn add_procedure(
+    alloc: Global,
+    declared: Declared,
+    tokens: &[Token],
+) -> Result<(Declared, &[Token]), SyntaxError>
     requires { IsSoFar declared }
     ensures { MatchResult result
         (λ r. AddsItem tokens.now declared r.0 r.1.now)
         (IsRefused (HasNoFurtherProcedure tokens.now (tree_so_far declared))) }
 {
-    let Declared { arrays, mut procs, words } = declared;
+    let Declared {
+        arrays,
+        mut procs,
+        words,
+    } = declared;
     if procs.len() == PROCEDURE_LIMIT {
         return Err(SyntaxError::Refused);
     }
     let (found, rest) = procedure(alloc, tokens)?;
     procs.push(found)?;
-    Ok((Declared { arrays, procs, words }, rest))
+    Ok((
+        Declared {
+            arrays,
+            procs,
+            words,
+        },
+        rest,
+    ))
 }
 
 /// What is declared with the declaration in front, and the tokens behind it.
-fn add_item(alloc: Global, declared: Declared, tokens: &[Token]) -> Result<(Declared, &[Token]), SyntaxError>
+fn add_item(
+    alloc: Global,
+    declared: Declared,
+    tokens: &[Token],
+) -> Result<(Declared, &[Token]), SyntaxError>
     requires { IsSoFar declared }
     ensures { MatchResult result
         (λ r. AddsItem tokens.now declared r.0 r.1.now)
@@ -82,13 +116,20 @@ pub fn parse(alloc: Global, tokens: &[Token]) -> Result<Source, SyntaxError>
     ensures tree { IfOk result (λ s. DerivesTree depth_limit tokens.now (tree_of s)) }
     ensures refused { result ≡ Err SyntaxError.Refused → (t : SourceTree) → DerivesTree depth_limit tokens.now t → IsWithin t → ⊥ }
 {
-    let mut declared = Declared { arrays: Vec::new(alloc), procs: Vec::new(alloc), words: WORD_LIMIT };
+    let mut declared = Declared {
+        arrays: Vec::new(alloc),
+        procs: Vec::new(alloc),
+        words: WORD_LIMIT,
+    };
     let mut rest = tokens;
     'items: while !rest.is_empty() {
         let (more, behind) = add_item(alloc, declared, rest)?;
         declared = more;
         rest = behind;
     }
-    let tree = Tree { arrays: Items::from_vec(declared.arrays), procs: Items::from_vec(declared.procs) };
+    let tree = Tree {
+        arrays: Items::from_vec(declared.arrays),
+        procs: Items::from_vec(declared.procs),
+    };
     Ok(Source::from_tree(tree))
 }

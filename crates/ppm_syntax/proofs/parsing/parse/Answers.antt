@@ -18,8 +18,9 @@ items-smaller c = let h = item_shorter _ _ _ _ c.in_ok-more.ensures.reads in sea
 
 pub items-preserved : goal.items-preserved
 items-preserved c = record {
-    leads = leads_next c.args.tokens.now _ c.items.rest.now c.items.invariant.leads c.in_ok-more.ensures.item c.in_ok-more.behind.now _ c.in_ok-more.ensures.reads c.in_ok-more.ensures.tree;
-    so_far = c.in_ok-more.ensures.so_far }
+  leads = leads_next c.args.tokens.now _ c.items.rest.now c.items.invariant.leads c.in_ok-more.ensures.item c.in_ok-more.behind.now _ c.in_ok-more.ensures.reads c.in_ok-more.ensures.tree;
+  so_far = c.in_ok-more.ensures.so_far;
+}
 
 pub returns-clause-tree : goal.returns-clause-tree
 returns-clause-tree c = rw (c.from_tree.ensures, c.from_vec.ensures, c.from_vec-2.ensures) (tree_read c.args.tokens.now (tree_so_far c.items.declared) c.items.rest.now c.items.invariant.leads (eqb-true _ _ (sym c.items-test.ensures)))
