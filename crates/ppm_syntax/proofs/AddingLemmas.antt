@@ -1,14 +1,14 @@
 -- From a declaration that is read to what is declared with it, and the same for what cannot be read.
-use Rattle.std.proofs.Common.{◌≡◌, ℕ, ◌+◌, ◌≤◌, ◌<◌, List, [], ◌∷◌, ◌++◌, length, map, refl, sym, ap, arith, length-append}
+use Rattle.std.proofs.Common.{◌≡◌, ◌+◌, ◌<◌, List, [], ◌∷◌, ◌++◌, length, map, ap, arith, length-append}
 use Rattle.std.proofs.lemmas.List.{map-append, length-map}
 use Rattle.std.proofs.lemmas.List.Elements.{All-head, All-push}
 use Rattle.ppm_syntax.specs.declared.token.Token.{Token}
 use Rattle.ppm_syntax.specs.declared.tree.Array.{Array}
 use Rattle.ppm_syntax.specs.declared.tree.Proc.{Proc}
 use Rattle.ppm_syntax.specs.declared.parsing.Declared.{Declared}
-use Rattle.ppm_syntax.specs.Tree.{Procedure, SourceTree, procedure_of}
-use Rattle.ppm_syntax.specs.Limits.{depth_limit, array_limit, word_limit, procedure_limit, words_of, IsSmall}
-use Rattle.ppm_syntax.specs.Parsing.{Item, an_array, a_procedure, with_item, IsArray, HasNoArray, IsProcedure, HasNoProcedure, tree_so_far, IsSoFar, AddsItem, HasNoFurtherArray, HasNoFurtherProcedure}
+use Rattle.ppm_syntax.specs.Tree.{procedure_of}
+use Rattle.ppm_syntax.specs.Limits.{depth_limit, array_limit, procedure_limit, IsSmall}
+use Rattle.ppm_syntax.specs.Parsing.{an_array, a_procedure, with_item, IsArray, HasNoArray, IsProcedure, HasNoProcedure, tree_so_far, IsSoFar, AddsItem, HasNoFurtherArray, HasNoFurtherProcedure}
 use Rattle.ppm_syntax.proofs.Unique.{same_tree}
 use Rattle.ppm_syntax.proofs.LimitsLemmas.{words-append, all_behind}
 

@@ -1,8 +1,6 @@
 -- From the declarations that are read to the tree of a source, and the same for what cannot be read.
-use Rattle.std.proofs.Common.{◌≡◌, ℕ, suc, ◌+◌, ◌-◌, ◌≤◌, ◌<◌, List, [], ◌∷◌, ◌++◌, length, map, refl, sym, ap, subst, arith, append_assoc, length-append}
+use Rattle.std.proofs.Common.{◌≡◌, ℕ, suc, ◌<◌, List, [], ◌∷◌, ◌++◌, length, refl, sym, ap, subst, arith, append_assoc}
 use Rattle.std.proofs.lemmas.List.{append-nil}
-use Rattle.ppm_syntax.specs.declared.token.Keyword.TheVariants as keyword
-use Rattle.ppm_syntax.specs.declared.token.Sign.TheVariants as sign
 use Rattle.ppm_syntax.specs.declared.token.Token.{Token}
 use Rattle.ppm_syntax.specs.declared.tree.Param.{Param}
 use Rattle.ppm_syntax.specs.declared.tree.Array.{Array}
@@ -10,7 +8,7 @@ use Rattle.ppm_syntax.specs.Tree.{Statement, Procedure, SourceTree}
 use Rattle.ppm_syntax.specs.Limits.{depth_limit, IsWithin}
 use Rattle.ppm_syntax.specs.Grammar.{Source, source, Derives, DerivesTree, Block, statements, Parameters, parameters}
 use Rattle.ppm_syntax.specs.Grammar as g
-use Rattle.ppm_syntax.specs.Parsing.{Item, an_array, a_procedure, IsItem, with_item, IsArray, IsProcedure, HasNoFurtherItem}
+use Rattle.ppm_syntax.specs.Parsing.{Item, an_array, a_procedure, IsItem, with_item, HasNoFurtherItem}
 use Rattle.ppm_syntax.proofs.Unique.{same}
 use Rattle.ppm_syntax.proofs.GrammarLemmas.{shorter}
 use Rattle.ppm_syntax.proofs.DeclarationLemmas.{one_head}

@@ -1,15 +1,9 @@
 -- Tokens have one tree at most: what a part reads as far as it goes is determined by the tokens.
-use Rattle.std.proofs.Common.{◌≡◌, ℕ, zero, suc, ◌+◌, ◌≤◌, ◌<◌, List, [], ◌∷◌, refl, sym, ◌∙◌, ap, subst, arith, pos}
-use Rattle.std.specs.Prelude.{Option, Some, None, ◌==◌, cond}
-use Rattle.ppm_syntax.specs.declared.token.Keyword.{Keyword}
-use Rattle.ppm_syntax.specs.declared.token.Keyword.TheVariants as word
-use Rattle.ppm_syntax.specs.declared.token.Sign.{Sign}
+use Rattle.std.proofs.Common.{◌≡◌, ℕ, suc, ◌<◌, List, [], ◌∷◌, refl, sym, subst, arith}
+use Rattle.std.specs.Prelude.{Option, Some, None}
 use Rattle.ppm_syntax.specs.declared.token.Sign.TheVariants as sign
-use Rattle.ppm_syntax.specs.declared.token.Kind.{Kind}
-use Rattle.ppm_syntax.specs.declared.token.Kind.TheVariants as kind
 use Rattle.ppm_syntax.specs.declared.token.Token.{Token}
 use Rattle.ppm_syntax.specs.declared.tree.Operator.{Operator}
-use Rattle.ppm_syntax.specs.declared.tree.Mode.{Mode}
 use Rattle.ppm_syntax.specs.declared.tree.Param.{Param}
 use Rattle.ppm_syntax.specs.declared.tree.Array.{Array}
 use Rattle.ppm_syntax.specs.Tree.{Expression, Statement, Procedure, SourceTree}

@@ -1,4 +1,4 @@
-use Rattle.std.proofs.Common.{rules, arith, ◌≡◌}
+use Rattle.std.proofs.Common.{arith}
 use Rattle.ppm_syntax.proofs.Refusals.{exit_by, exit_for}
 use Rattle.ppm_syntax.proofs.DeclarationLemmas.{procedure_head_refused, params_refused, body_refused, procedure_read}
 use Rattle.ppm_syntax.specs.Limits.{depth_limit}

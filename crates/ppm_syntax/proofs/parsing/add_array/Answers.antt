@@ -1,4 +1,4 @@
-use Rattle.std.proofs.Common.{rules, arith, ◌≡◌, refl}
+use Rattle.std.proofs.Common.{arith, refl}
 use Rattle.ppm_syntax.proofs.Refusals.{exit_by}
 use Rattle.ppm_syntax.proofs.AddingLemmas.{array_refused, array_added}
 use Rattle.ppm_syntax.proofs.parsing.add_array.Goals as goal

@@ -1,4 +1,4 @@
-use Rattle.std.proofs.Common.{rules, arith, ◌≡◌, refl}
+use Rattle.std.proofs.Common.{arith, refl}
 use Rattle.std.proofs.lemmas.List.{length-map}
 use Rattle.ppm_syntax.proofs.Refusals.{exit_by}
 use Rattle.ppm_syntax.proofs.AddingLemmas.{procedure_refused, procedure_added}

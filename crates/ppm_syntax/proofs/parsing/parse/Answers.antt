@@ -1,4 +1,4 @@
-use Rattle.std.proofs.Common.{rules, arith, ◌≡◌, length, sym}
+use Rattle.std.proofs.Common.{rules, arith, ◌≡◌, sym}
 use Rattle.std.proofs.lemmas.Bool.{eqb-true}
 use Rattle.std.proofs.lemmas.Result.{err_from_is_err_and}
 use Rattle.ppm_syntax.specs.declared.syntax_error.SyntaxError.TheVariants as error
