@@ -8,7 +8,8 @@ use Rattle.ppm_syntax.specs.declared.tree.Proc.{Proc}
 use Rattle.ppm_syntax.specs.declared.parsing.Declared.{Declared}
 use Rattle.ppm_syntax.specs.Tree.{procedure_of}
 use Rattle.ppm_syntax.specs.Limits.{depth_limit, array_limit, procedure_limit, IsSmall}
-use Rattle.ppm_syntax.specs.Parsing.{an_array, a_procedure, with_item, IsArray, HasNoArray, IsProcedure, HasNoProcedure, tree_so_far, IsSoFar, AddsItem, HasNoFurtherArray, HasNoFurtherProcedure}
+use Rattle.ppm_syntax.specs.Parsing.{an_array, a_procedure, with_item, IsArray, HasNoArray, IsProcedure, HasNoProcedure, tree_so_far, IsSoFar, AddsItem}
+use Rattle.ppm_syntax.specs.Parsing.{HasNoFurtherArray, HasNoFurtherProcedure}
 use Rattle.ppm_syntax.proofs.Unique.{same_tree}
 use Rattle.ppm_syntax.proofs.LimitsLemmas.{words-append, all_behind}
 
@@ -19,7 +20,8 @@ module _ (ts : List Token) (old : Declared) (so_far : IsSoFar old) where
         h.none a rest r (omega (arith, so_far.words, rw words-append at within.words));
   }
 
-  pub array_added : (a : Array) (rest : List Token) (new : Declared) → IsArray ts a rest → length old.arrays.items < array_limit → a.length + new.words ≡ old.words →
+  pub array_added : (a : Array) (rest : List Token) (new : Declared) → IsArray ts a rest → length old.arrays.items < array_limit →
+      a.length + new.words ≡ old.words →
       new.arrays.items ≡ old.arrays.items ++ (a ∷ []) → new.procs.items ≡ old.procs.items → AddsItem ts old new rest
   array_added a rest new r few words arrays procs =
       let tree = same_tree (tree_so_far new) (with_item (tree_so_far old) (an_array a)) arrays (ap (λ w. map procedure_of w) procs) in
@@ -44,7 +46,8 @@ module _ (ts : List Token) (old : Declared) (so_far : IsSoFar old) where
         h.none p rest r (All-head IsSmall p [] (all_behind IsSmall (map procedure_of old.procs.items) (p ∷ []) within.small));
   }
 
-  pub procedure_added : (p : Proc) (rest : List Token) (new : Declared) → IsProcedure depth_limit ts (procedure_of p) rest → IsSmall (procedure_of p) → length old.procs.items < procedure_limit →
+  pub procedure_added : (p : Proc) (rest : List Token) (new : Declared) → IsProcedure depth_limit ts (procedure_of p) rest →
+      IsSmall (procedure_of p) → length old.procs.items < procedure_limit →
       new.words ≡ old.words → new.arrays.items ≡ old.arrays.items → new.procs.items ≡ old.procs.items ++ (p ∷ []) → AddsItem ts old new rest
   procedure_added p rest new r small few words arrays procs =
       let mapped = rw map-append at (ap (λ w. map procedure_of w) procs) in

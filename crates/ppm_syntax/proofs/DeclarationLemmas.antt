@@ -9,12 +9,14 @@ use Rattle.ppm_syntax.specs.declared.tree.Param.{Param}
 use Rattle.ppm_syntax.specs.Tree.{Statement, Procedure}
 use Rattle.ppm_syntax.specs.Limits.{IsSmall}
 use Rattle.ppm_syntax.specs.Grammar.{IsKeyword, Parameters, Block, parameters, statements, Derives}
-use Rattle.ppm_syntax.specs.Parsing.{NoName, InFront, Reads, ReadsParameters, HasNoParameters, ReadsStatements, HasNoStatements, IsHead, HasNoHead, HasNoArray, IsProcedure, HasNoProcedure}
+use Rattle.ppm_syntax.specs.Parsing.{NoName, InFront, Reads, ReadsParameters, HasNoParameters, ReadsStatements, HasNoStatements, IsHead, HasNoHead, HasNoArray}
+use Rattle.ppm_syntax.specs.Parsing.{IsProcedure, HasNoProcedure}
 use Rattle.ppm_syntax.proofs.Unique.{same}
 use Rattle.ppm_syntax.proofs.ParameterLemmas.{parameters_at}
 
 -- a head is determined by the tokens
-pub one_head : {w w' : Keyword} {s s' : Sign} {ts rest rest' : List Token} {x x' : List ℕ} {line line' : ℕ} → IsHead w s ts x line rest → IsHead w' s' ts x' line' rest' →
+pub one_head : {w w' : Keyword} {s s' : Sign} {ts rest rest' : List Token} {x x' : List ℕ} {line line' : ℕ} → IsHead w s ts x line rest →
+    IsHead w' s' ts x' line' rest' →
     (w ≡ w') × (x ≡ x') × (line ≡ line') × (rest ≡ rest')
 one_head h h' =
     let words : h.word ≡ h'.word = cc (h.shape, h'.shape) in

@@ -51,7 +51,8 @@ module _ (d room n m : ℕ) (ts : List Token) (above : n ≡ suc m) where
   })
 
   module _ (a : Expression) (left : ℕ) (mid : List Token) (first : ReadsExpression d room (Level m) ts a left mid) where
-    pub level_read : (e : Expression) (left' : ℕ) (rest : List Token) → ReadsExpression d left (More n a) mid e left' rest → ReadsExpression d room (Level n) ts e left' rest
+    pub level_read : (e : Expression) (left' : ℕ) (rest : List Token) → ReadsExpression d left (More n a) mid e left' rest →
+        ReadsExpression d room (Level n) ts e left' rest
     level_read e left' rest more = let more' = rw above at more in rw above (record {
       reads = record { derived = g.level first.reads.derived more'.reads.derived; ends = more'.reads.ends };
       nodes = omega (arith, first.nodes, more'.nodes);
@@ -116,7 +117,8 @@ module _ (d room n m : ℕ) (a : Expression) (ts : List Token) (above : n ≡ su
       })
 
       module _ (b : Expression) (left : ℕ) (mid : List Token) (right : ReadsExpression d (room - 1) (Level m) behind b left mid) where
-        pub again_read : (e : Expression) (left' : ℕ) (rest : List Token) → ReadsExpression d left (More n (tree.Binary o line a b)) mid e left' rest → ReadsExpression d room (More n a) ts e left' rest
+        pub again_read : (e : Expression) (left' : ℕ) (rest : List Token) →
+            ReadsExpression d left (More n (tree.Binary o line a b)) mid e left' rest → ReadsExpression d room (More n a) ts e left' rest
         again_read e left' rest more =
             let more' = rw above at more in
             let is = rw above at front.has.0 in

@@ -24,17 +24,20 @@ procs_with (an_array a) ps = ps
 procs_with (a_procedure p) ps = p ∷ ps
 
 -- a declaration and a source behind it are a source
-item_before : (d : ℕ) (i : Item) {ts behind : List Token} {xs : List Array} {ps : List Procedure} → IsItem (suc d) ts i behind → Derives (suc d) Source behind (source xs ps) [] →
+item_before : (d : ℕ) (i : Item) {ts behind : List Token} {xs : List Array} {ps : List Procedure} → IsItem (suc d) ts i behind →
+    Derives (suc d) Source behind (source xs ps) [] →
     Derives (suc d) Source ts (source (arrays_with i xs) (procs_with i ps)) []
 item_before d (an_array a) {ts = ts} {xs = xs} {ps = ps} r m =
     let h = r.head in
-    rw h.shape (subst (λ l. Derives (suc d) Source (h.word ∷ h.name ∷ h.opened ∷ r.number ∷ r.closed ∷ r.semicolon ∷ _) (source (record { name = a.name; line = l; length = a.length } ∷ xs) ps) []) h.at
+    rw h.shape (subst (λ l. Derives (suc d) Source (h.word ∷ h.name ∷ h.opened ∷ r.number ∷ r.closed ∷ r.semicolon ∷ _)
+    (source (record { name = a.name; line = l; length = a.length } ∷ xs) ps) []) h.at
     (g.array h.is_word h.is_name h.is_opened r.is_number r.is_closed r.is_semicolon m))
 item_before d (a_procedure p) {ts = ts} {xs = xs} {ps = ps} r m =
     let h = r.head in
     let inner : r.inner ≡ d = omega (arith, r.deep) in
     let params = rw inner at r.params in
-    rw h.shape (subst (λ l. Derives (suc d) Source (h.word ∷ h.name ∷ h.opened ∷ r.inside) (source xs (record { name = p.name; line = l; params = p.params; body = p.body } ∷ ps)) []) h.at
+    rw h.shape (subst (λ l. Derives (suc d) Source (h.word ∷ h.name ∷ h.opened ∷ r.inside)
+    (source xs (record { name = p.name; line = l; params = p.params; body = p.body } ∷ ps)) []) h.at
     (g.proc h.is_word h.is_name h.is_opened params r.is_closed r.body m))
 
 -- a source of some tokens is a declaration and a source behind it
@@ -48,47 +51,51 @@ record Declares (d : ℕ) (ts : List Token) (xs : List Array) (ps : List Procedu
   procs_are : ps ≡ procs_with item procs
   more : Derives d Source behind (source arrays procs) []
 
-declares : {d : ℕ} {t : Token} {ts : List Token} {xs : List Array} {ps : List Procedure} → Derives d Source (t ∷ ts) (source xs ps) [] → Declares d (t ∷ ts) xs ps
-declares (g.array {d = d} {z = z} {w = w} {n = n} {o = o} {l = l} {c = c} {s = s} {x = x} {xs = xs} {ps = ps} {ts = ts} w_is n_is o_is l_is c_is s_is m) = record {
-  item = an_array (record { name = x; line = n.line; length = z });
-  behind = ts;
-  arrays = xs;
-  procs = ps;
-  arrays_are = refl;
-  procs_are = refl;
-  more = m;
-  reads = record {
-    number = l;
-    closed = c;
-    semicolon = s;
-    is_number = l_is;
-    is_closed = c_is;
-    is_semicolon = s_is;
-    head = record { word = w; name = n; opened = o; shape = refl; is_word = w_is; is_name = n_is; at = refl; is_opened = o_is };
-  };
-}
-declares (g.proc {d = d} {w = w} {n = n} {o = o} {c = c} {x = x} {qs = qs} {b = b} {xs = xs} {ps = ps} {ts = ts} {mid = mid} {rest = rest} w_is n_is o_is q c_is b_r m) = record {
-  item = a_procedure (record { name = x; line = n.line; params = qs; body = b });
-  behind = rest;
-  arrays = xs;
-  procs = ps;
-  arrays_are = refl;
-  procs_are = refl;
-  more = m;
-  reads = record {
-    inner = d;
-    deep = refl;
-    closed = c;
-    inside = ts;
-    behind = mid;
-    params = q;
-    is_closed = c_is;
-    body = b_r;
-    head = record { word = w; name = n; opened = o; shape = refl; is_word = w_is; is_name = n_is; at = refl; is_opened = o_is };
-  };
-}
+declares : {d : ℕ} {t : Token} {ts : List Token} {xs : List Array} {ps : List Procedure} → Derives d Source (t ∷ ts) (source xs ps) [] →
+    Declares d (t ∷ ts) xs ps
+declares (g.array {d = d} {z = z} {w = w} {n = n} {o = o} {l = l} {c = c} {s = s} {x = x} {xs = xs} {ps = ps} {ts = ts} w_is n_is o_is l_is c_is s_is
+    m) = record {
+      item = an_array (record { name = x; line = n.line; length = z });
+      behind = ts;
+      arrays = xs;
+      procs = ps;
+      arrays_are = refl;
+      procs_are = refl;
+      more = m;
+      reads = record {
+        number = l;
+        closed = c;
+        semicolon = s;
+        is_number = l_is;
+        is_closed = c_is;
+        is_semicolon = s_is;
+        head = record { word = w; name = n; opened = o; shape = refl; is_word = w_is; is_name = n_is; at = refl; is_opened = o_is };
+      };
+    }
+declares (g.proc {d = d} {w = w} {n = n} {o = o} {c = c} {x = x} {qs = qs} {b = b} {xs = xs} {ps = ps} {ts = ts} {mid = mid} {rest = rest} w_is n_is
+    o_is q c_is b_r m) = record {
+      item = a_procedure (record { name = x; line = n.line; params = qs; body = b });
+      behind = rest;
+      arrays = xs;
+      procs = ps;
+      arrays_are = refl;
+      procs_are = refl;
+      more = m;
+      reads = record {
+        inner = d;
+        deep = refl;
+        closed = c;
+        inside = ts;
+        behind = mid;
+        params = q;
+        is_closed = c_is;
+        body = b_r;
+        head = record { word = w; name = n; opened = o; shape = refl; is_word = w_is; is_name = n_is; at = refl; is_opened = o_is };
+      };
+    }
 
-declares_at : {d : ℕ} (ts : List Token) (t : Token) (more : List Token) {xs : List Array} {ps : List Procedure} → ts ≡ t ∷ more → Derives d Source ts (source xs ps) [] → Declares d ts xs ps
+declares_at : {d : ℕ} (ts : List Token) (t : Token) (more : List Token) {xs : List Array} {ps : List Procedure} → ts ≡ t ∷ more →
+    Derives d Source ts (source xs ps) [] → Declares d ts xs ps
 declares_at ts t more shape m = rw shape (declares (rw shape at m))
 
 -- two arrays with the same parts, and two procedures
@@ -133,7 +140,8 @@ item_shorter d ts rest (a_procedure p) r = omega (arith, ap length r.head.shape,
 
 -- what was declared, and a source behind it, are a source of the whole, and there is no other
 pub record LeadsTo (ts : List Token) (t : SourceTree) (rest : List Token) : Type 0 where
-  pub forth : (xs : List Array) (ps : List Procedure) → Derives depth_limit Source rest (source xs ps) [] → Derives depth_limit Source ts (source (t.arrays ++ xs) (t.procs ++ ps)) []
+  pub forth : (xs : List Array) (ps : List Procedure) → Derives depth_limit Source rest (source xs ps) [] →
+      Derives depth_limit Source ts (source (t.arrays ++ xs) (t.procs ++ ps)) []
   pub back : (xs : List Array) (ps : List Procedure) → Derives depth_limit Source ts (source xs ps) [] →
       (ys : List Array) × (qs : List Procedure) × (xs ≡ t.arrays ++ ys) × (ps ≡ t.procs ++ qs) × Derives depth_limit Source rest (source ys qs) []
 

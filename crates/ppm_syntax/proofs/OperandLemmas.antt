@@ -44,14 +44,16 @@ found (g.element {d = d} {n = n} {o = o} {c = c} {x = x} {i = i} {ts = ts} is o_
 
 module _ (d room : ℕ) (ts : List Token) where
   module _ (some : 0 < room) where
-    pub number_read : (n : ℕ) (z : ℤ) (rest : List Token) → InFront (λ t. IsNumber t n) ts rest → z ≡ pos n → n < 2 ^ 63 → ReadsExpression d room (Level 0) ts (tree.Number z) (room - 1) rest
+    pub number_read : (n : ℕ) (z : ℤ) (rest : List Token) → InFront (λ t. IsNumber t n) ts rest → z ≡ pos n → n < 2 ^ 63 →
+        ReadsExpression d room (Level 0) ts (tree.Number z) (room - 1) rest
     number_read n z rest front is small = rw (is, front.shape) (record {
       reads = record { derived = g.number front.has; ends = operand_stops rest };
       nodes = omega arith;
       literals = small;
     })
 
-    pub element_read : (x : List ℕ) (line : ℕ) (i : Expression) (left : ℕ) (rest : List Token) → ReadsIndexed d (room - 1) ts x line i left rest → ReadsExpression d room (Level 0) ts (tree.Element x line i) left rest
+    pub element_read : (x : List ℕ) (line : ℕ) (i : Expression) (left : ℕ) (rest : List Token) → ReadsIndexed d (room - 1) ts x line i left rest →
+        ReadsExpression d room (Level 0) ts (tree.Element x line i) left rest
     element_read x line i left rest r = let q = r.reads in rw (q.deep, q.shape, ← q.at) (record {
       reads = record { derived = g.element q.is_name q.is_opened q.index q.is_closed; ends = operand_stops rest };
       nodes = omega (arith, r.nodes);
@@ -66,10 +68,12 @@ module _ (d room : ℕ) (ts : List Token) where
     }
 
 -- a name and an opened bracket stand in front
-module _ (d room : ℕ) (ts behind inside : List Token) (x : List ℕ) (line : ℕ) (name : InFront (λ t. IsName t x × (t.line ≡ line)) ts behind) (opened : InFront (λ t. IsSign t sign.OpenBracket) behind inside) where
+module _ (d room : ℕ) (ts behind inside : List Token) (x : List ℕ) (line : ℕ) (name : InFront (λ t. IsName t x × (t.line ≡ line)) ts behind)
+    (opened : InFront (λ t. IsSign t sign.OpenBracket) behind inside) where
   module _ (some : 0 < d) where
     -- what any reading has inside of the brackets
-    inside_of : {x' : List ℕ} {line' : ℕ} {i : Expression} {rest : List Token} (r : IsIndexed d ts x' line' i rest) → Reads (d - 1) (Level top) inside (expression i) (r.closed ∷ rest)
+    inside_of : {x' : List ℕ} {line' : ℕ} {i : Expression} {rest : List Token} (r : IsIndexed d ts x' line' i rest) →
+        Reads (d - 1) (Level top) inside (expression i) (r.closed ∷ rest)
     inside_of {i = i} {rest = rest} r =
         let same : r.inside ≡ inside = cc (r.shape, name.shape, opened.shape) in
         let depth : r.inner ≡ d - 1 = omega (arith, r.deep) in

@@ -17,37 +17,44 @@ use Rattle.ppm_syntax.proofs.Unique.{same}
 parameter_at : {d : ℕ} (e : ℕ) {p : Param} {ts rest : List Token} → Derives d Parameter ts (parameter p) rest → Derives e Parameter ts (parameter p) rest
 parameter_at e (g.param m k n) = g.param m k n
 
-more_at : {d : ℕ} (e : ℕ) {ps : List Param} {ts rest : List Token} → Derives d MoreParameters ts (parameters ps) rest → Derives e MoreParameters ts (parameters ps) rest
+more_at : {d : ℕ} (e : ℕ) {ps : List Param} {ts rest : List Token} → Derives d MoreParameters ts (parameters ps) rest →
+    Derives e MoreParameters ts (parameters ps) rest
 more_at e g.last_parameter = g.last_parameter
 more_at e (g.next_parameter is r m) = g.next_parameter is (parameter_at e r) (more_at e m)
 
-pub parameters_at : {d : ℕ} (e : ℕ) {ps : List Param} {ts rest : List Token} → Derives d Parameters ts (parameters ps) rest → Derives e Parameters ts (parameters ps) rest
+pub parameters_at : {d : ℕ} (e : ℕ) {ps : List Param} {ts rest : List Token} → Derives d Parameters ts (parameters ps) rest →
+    Derives e Parameters ts (parameters ps) rest
 parameters_at e g.no_parameter = g.no_parameter
 parameters_at e (g.first_parameter r m) = g.first_parameter (parameter_at e r) (more_at e m)
 
 pub parameter_shorter : {d : ℕ} {p : Param} {ts rest : List Token} → Derives d Parameter ts (parameter p) rest → length rest < length ts
 parameter_shorter (g.param m k n) = omega arith
 
-pub parameter_read : (ts behind rest : List Token) (k : Keyword) (how : Mode) (x : List ℕ) (line : ℕ) → InFront (λ t. IsKeyword t k) ts behind → Some how ≡ mode_of k →
+pub parameter_read : (ts behind rest : List Token) (k : Keyword) (how : Mode) (x : List ℕ) (line : ℕ) → InFront (λ t. IsKeyword t k) ts behind →
+    Some how ≡ mode_of k →
     InFront (λ t. IsName t x × (t.line ≡ line)) behind rest → Derives 0 Parameter ts (parameter (record { mode = how; name = x; line = line })) rest
 parameter_read ts behind rest k how x line word is name = rw (word.shape, name.shape, ← name.has.1) (g.param word.has (sym is) name.has.0)
 
 -- the parameters that were read, and any that follow, are the parameters of the whole, and there are no others
 pub record LeadsTo (ts : List Token) (all : List Param) (rest : List Token) : Type 0 where
-  pub forth : (more : List Param) (end : List Token) → Derives 0 MoreParameters rest (parameters more) end → Derives 0 Parameters ts (parameters (all ++ more)) end
+  pub forth : (more : List Param) (end : List Token) → Derives 0 MoreParameters rest (parameters more) end →
+      Derives 0 Parameters ts (parameters (all ++ more)) end
   pub back : (ps : List Param) (end : List Token) → Derives 0 Parameters ts (parameters ps) end → HasSign sign.CloseParen end →
       (more : List Param) × (ps ≡ all ++ more) × Derives 0 MoreParameters rest (parameters more) end
 
 -- a list of parameters that is no empty one has a first parameter
 first_of : {ts end : List Token} {ps : List Param} → NoSign sign.CloseParen ts → Derives 0 Parameters ts (parameters ps) end → HasSign sign.CloseParen end →
-    (p : Param) × (more : List Param) × (mid : List Token) × (ps ≡ p ∷ more) × Derives 0 Parameter ts (parameter p) mid × Derives 0 MoreParameters mid (parameters more) end
+    (p : Param) × (more : List Param) × (mid : List Token) × (ps ≡ p ∷ more) × Derives 0 Parameter ts (parameter p) mid × Derives 0 MoreParameters mid
+    (parameters more) end
 first_of none (g.no_parameter {ts = []}) ends = absurd ends
 first_of none (g.no_parameter {ts = t ∷ ts}) ends = absurd (none ends)
 first_of none (g.first_parameter {p = p} {ps = ps} {mid = mid} r m) ends = (p, ps, mid, refl, r, m)
 
 -- behind a comma comes a parameter
-next_of : {t : Token} {ts end : List Token} {ps : List Param} → IsSign t sign.Comma → Derives 0 MoreParameters (t ∷ ts) (parameters ps) end → HasSign sign.CloseParen end →
-    (p : Param) × (more : List Param) × (mid : List Token) × (ps ≡ p ∷ more) × Derives 0 Parameter ts (parameter p) mid × Derives 0 MoreParameters mid (parameters more) end
+next_of : {t : Token} {ts end : List Token} {ps : List Param} → IsSign t sign.Comma → Derives 0 MoreParameters (t ∷ ts) (parameters ps) end →
+    HasSign sign.CloseParen end →
+    (p : Param) × (more : List Param) × (mid : List Token) × (ps ≡ p ∷ more) × Derives 0 Parameter ts (parameter p) mid × Derives 0 MoreParameters mid
+    (parameters more) end
 next_of is g.last_parameter ends = absurd (cc)
 next_of is (g.next_parameter {p = p} {ps = ps} {mid = mid} is' r m) ends = (p, ps, mid, refl, r, m)
 

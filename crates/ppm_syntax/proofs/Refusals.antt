@@ -17,7 +17,8 @@ refused_for error.Refused h = h
 refused_for error.NoMemory h = tt
 
 -- the exit of a `?` behind a call whose refusal has a reason
-pub exit_by : {T P Q : Type 0} (A : T → Type 0) (e : SyntaxError) (r : Result T SyntaxError) → IsErrAnd r (λ y. y ≡ e) → (P → Q) → IsRefused P e → MatchResult r A (IsRefused Q)
+pub exit_by : {T P Q : Type 0} (A : T → Type 0) (e : SyntaxError) (r : Result T SyntaxError) → IsErrAnd r (λ y. y ≡ e) → (P → Q) → IsRefused P e →
+    MatchResult r A (IsRefused Q)
 exit_by A e r is f h = let p = err_from_is_err_and r is in rw (p.1, p.2) (refused_by e f h)
 
 -- the exit of a `?`, where the reason holds

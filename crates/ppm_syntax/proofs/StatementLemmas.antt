@@ -49,7 +49,21 @@ assignment (g.put {d = d} {n = n} {o = o} {c = c} {q = q} {s = e} {x = x} {i = i
       equals = q;
       semicolon = e;
       behind = us;
-      target = record { inner = d; deep = refl; name = n; opened = o; closed = c; inside = ts; shape = refl; is_name = n_is; at = refl; is_opened = o_is; index = i_r; is_closed = c_is };
+      target = record {
+        inner = d;
+        deep = refl;
+        name = n;
+        opened = o;
+        closed = c;
+        inside = ts;
+        shape = refl;
+        is_name = n_is;
+        at = refl;
+        is_opened =
+            o_is;
+        index = i_r;
+        is_closed = c_is;
+      };
       is_equals = q_is;
       reads = record { derived = v_r; ends = ends_at_semicolon top e rest s_is };
       is_semicolon = s_is;
@@ -111,11 +125,14 @@ module _ (d : ℕ) (ts : List Token) where
 
 -- the statements that were read, and any that follow, are the statements of the whole, and there are no others
 pub record LeadsTo (d : ℕ) (ts : List Token) (all : List Statement) (rest : List Token) : Type 0 where
-  pub forth : (more : List Statement) (end : List Token) → Derives d Statements rest (statements more) end → Derives d Statements ts (statements (all ++ more)) end
-  pub back : (b : List Statement) (end : List Token) → Reads d Statements ts (statements b) end → (more : List Statement) × (b ≡ all ++ more) × Reads d Statements rest (statements more) end
+  pub forth : (more : List Statement) (end : List Token) → Derives d Statements rest (statements more) end →
+      Derives d Statements ts (statements (all ++ more)) end
+  pub back : (b : List Statement) (end : List Token) → Reads d Statements ts (statements b) end →
+      (more : List Statement) × (b ≡ all ++ more) × Reads d Statements rest (statements more) end
 
 -- the first of the statements, and those behind it
-another_of : {d : ℕ} {ts rest end : List Token} {s : Statement} {b : List Statement} → Derives d OneStatement ts (statement s) rest → Derives d Statements ts (statements b) end → NoName end →
+another_of : {d : ℕ} {ts rest end : List Token} {s : Statement} {b : List Statement} → Derives d OneStatement ts (statement s) rest →
+    Derives d Statements ts (statements b) end → NoName end →
     (more : List Statement) × (b ≡ s ∷ more) × Reads d Statements rest (statements more) end
 another_of r g.no_statement ends = absurd (begins_with_name r ends)
 another_of r (g.another {d = d} {b = b} {rest = end} r' m) ends =
@@ -123,7 +140,8 @@ another_of r (g.another {d = d} {b = b} {rest = end} r' m) ends =
     (b, cc o.0, record { derived = subst (λ w. Derives d Statements w (statements b) end) (sym o.1) m; ends = ends })
 
 -- statements with a name in front of them have a first one
-first_of_name : {d : ℕ} {t : Token} {x : List ℕ} {ts end : List Token} {b : List Statement} → IsName t x → Derives d Statements (t ∷ ts) (statements b) end → NoName end →
+first_of_name : {d : ℕ} {t : Token} {x : List ℕ} {ts end : List Token} {b : List Statement} → IsName t x →
+    Derives d Statements (t ∷ ts) (statements b) end → NoName end →
     (s : Statement) × (more : List Statement) × (mid : List Token) × (b ≡ s ∷ more) × Derives d OneStatement (t ∷ ts) (statement s) mid
 first_of_name is g.no_statement ends = absurd (ends _ is)
 first_of_name is (g.another {s = s} {b = b} {mid = mid} r m) ends = (s, b, mid, refl, r)
@@ -149,7 +167,8 @@ module _ (d : ℕ) (ts : List Token) (all : List Statement) (rest : List Token) 
         (n.0, rw append_assoc (cc (w.1, n.1)), n.2);
   }
 
-  pub next_refused : (x : List ℕ) (line : ℕ) (more : List Token) → InFront (λ t. IsName t x × (t.line ≡ line)) rest more → HasNoStatement d rest → HasNoStatements d Statements ts
+  pub next_refused : (x : List ℕ) (line : ℕ) (more : List Token) → InFront (λ t. IsName t x × (t.line ≡ line)) rest more → HasNoStatement d rest →
+      HasNoStatements d Statements ts
   next_refused x line more name h = record {
     none = λ b end r small.
         let w = leads.back b end r in
@@ -192,4 +211,11 @@ module _ (d : ℕ) (ts inside : List Token) (opened : InFront (λ t. IsSign t si
         let deep : d ≡ suc (d - 1) = omega arith in
         let inner = rw closed.shape at read.reads.derived in
         let whole : Derives (suc (d - 1)) Block (opened.token ∷ inside) (statements b) rest = g.block opened.has inner closed.has in
-        record { reads = record { derived = rw opened.shape (subst (λ k. Derives k Block (opened.token ∷ inside) (statements b) rest) (sym deep) whole); ends = tt }; small = read.small }
+        record {
+          reads = record {
+            derived = rw opened.shape (subst (λ k. Derives k Block (opened.token ∷ inside) (statements b) rest) (sym deep)
+                whole);
+            ends = tt;
+          };
+          small = read.small;
+        }

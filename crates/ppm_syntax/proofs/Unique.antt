@@ -36,7 +36,8 @@ pub ends_at_semicolon : (n : ℕ) (c : Token) (rest : List Token) → IsSign c s
 ends_at_semicolon n c rest is m h = rw is refl
 
 -- behind a first operand of a level it ends
-pub operand_ends : {d n : ℕ} {a e : Expression} {mid rest : List Token} → Derives d (More (suc n) a) mid (expression e) rest → NoOperator (suc n) rest → NoOperator n mid
+pub operand_ends : {d n : ℕ} {a e : Expression} {mid rest : List Token} → Derives d (More (suc n) a) mid (expression e) rest →
+    NoOperator (suc n) rest → NoOperator n mid
 operand_ends (g.no_more {n = n} {ts = ts}) h = ends_below _ ts h
 operand_ends (g.more {n = n} {t = t} {o = o} {ts = ts} is r s) h = ends_at_operator n t ts o is
 
@@ -60,7 +61,8 @@ stopped n t ts o h is = let none = h (suc n) (omega arith) in cc
 abbrev pub Same : Node → List Token → Node → List Token → Type 0
 Same e rest e' rest' = (e ≡ e') × (rest ≡ rest')
 
-pub same : {d d' : ℕ} {p : Part} {ts : List Token} {e e' : Node} {rest rest' : List Token} → Derives d p ts e rest → Ends p rest → Derives d' p ts e' rest' → Ends p rest' → Same e rest e' rest'
+pub same : {d d' : ℕ} {p : Part} {ts : List Token} {e e' : Node} {rest rest' : List Token} → Derives d p ts e rest → Ends p rest →
+    Derives d' p ts e' rest' → Ends p rest' → Same e rest e' rest'
 same (g.number is) h (g.number is') h' = (cc, refl)
 same (g.number is) h (g.element is' o' i' c') h' = absurd (cc)
 same (g.element is o i c) h (g.number is') h' = absurd (cc)
@@ -81,10 +83,12 @@ same (g.more {n = n} {a = a} {b = b} {t = t} {o = o} is r m) h (g.more {d = d'} 
     let m1 = subst (λ q. Derives d' (More (suc n) (tree.Binary q t.line a b')) mid' (expression e') rest') one m' in
     let m2 = subst (λ q. Derives d' (More (suc n) (tree.Binary o t.line a q)) mid' (expression e') rest') two m1 in
     same m h (subst (λ w. Derives d' (More (suc n) (tree.Binary o t.line a b)) w (expression e') rest') (sym s.1) m2) h'
-same (g.put {c = c1} {q = q1} {s = s1} {us = us} {rest = rest} n o i c q v s) h (g.put {d = d'} {c = c2} {q = q2} {s = s2} {v = v2} {us = us'} {rest = rest'} n' o' i' c' q' v' s') h' =
+same (g.put {c = c1} {q = q1} {s = s1} {us = us} {rest = rest} n o i c q v s) h
+    (g.put {d = d'} {c = c2} {q = q2} {s = s2} {v = v2} {us = us'} {rest = rest'} n' o' i' c' q' v' s') h' =
     let e = same i (ends_at_close top c1 (q1 ∷ us) c) i' (ends_at_close top c2 (q2 ∷ us') c') in
     let behind : us' ≡ us = cc e.1 in
-    let w = same v (ends_at_semicolon top s1 rest s) (subst (λ u. Derives (suc d') (Level top) u (expression v2) (s2 ∷ rest')) behind v') (ends_at_semicolon top s2 rest' s') in
+    let w = same v (ends_at_semicolon top s1 rest s) (subst (λ u. Derives (suc d') (Level top) u (expression v2) (s2 ∷ rest')) behind v')
+    (ends_at_semicolon top s2 rest' s') in
     (cc (e.0, w.0), cc w.1)
 same g.no_statement h g.no_statement h' = (refl, refl)
 same g.no_statement h (g.another r' m') h' = absurd (begins_with_name r' h)
@@ -112,7 +116,8 @@ same g.end h g.end h' = (refl, refl)
 same (g.array w n o l c s r) h (g.array w' n' o' l' c' s' r') h' = let t = same r tt r' tt in (cc t.0, refl)
 same (g.array w n o l c s r) h (g.proc w' n' o' q' c' b' r') h' = absurd (cc)
 same (g.proc w n o q c b r) h (g.array w' n' o' l' c' s' r') h' = absurd (cc)
-same (g.proc {c = c1} {b = b1} {xs = xs} {mid = mid} {rest = rest} w n o q c b r) h (g.proc {d = d'} {c = c2} {b = b2} {xs = xs'} {ps = ps'} {mid = mid'} {rest = rest'} w' n' o' q' c' b' r') h' =
+same (g.proc {c = c1} {b = b1} {xs = xs} {mid = mid} {rest = rest} w n o q c b r) h
+    (g.proc {d = d'} {c = c2} {b = b2} {xs = xs'} {ps = ps'} {mid = mid'} {rest = rest'} w' n' o' q' c' b' r') h' =
     let s = same q c q' c' in
     let behind : mid' ≡ mid = cc s.1 in
     let t = same b tt (subst (λ u. Derives (suc d') Block u (statements b2) rest') behind b') tt in
@@ -120,7 +125,8 @@ same (g.proc {c = c1} {b = b1} {xs = xs} {mid = mid} {rest = rest} w n o q c b r
     (cc (s.0, t.0, u.0), refl)
 
 -- what a part reads as far as it goes is determined by the tokens
-pub one_reading : {d d' : ℕ} {p : Part} {ts : List Token} {e e' : Node} {rest rest' : List Token} → Reads d p ts e rest → Reads d' p ts e' rest' → Same e rest e' rest'
+pub one_reading : {d d' : ℕ} {p : Part} {ts : List Token} {e e' : Node} {rest rest' : List Token} → Reads d p ts e rest → Reads d' p ts e' rest' →
+    Same e rest e' rest'
 one_reading r r' = same r.derived r.ends r'.derived r'.ends
 
 tree_with : List Array → List Procedure → SourceTree

@@ -12,7 +12,8 @@ use Rattle.ppm_syntax.specs.declared.syntax_error.SyntaxError.{SyntaxError}
 use Rattle.ppm_syntax.specs.declared.syntax_error.SyntaxError.TheVariants as error
 use Rattle.ppm_syntax.specs.declared.parsing.Declared.{Declared}
 use Rattle.ppm_syntax.specs.Tree.{Expression, Statement, Procedure, SourceTree, procedure_of}
-use Rattle.ppm_syntax.specs.Grammar.{Part, Level, More, OneStatement, Statements, Block, Parameter, Parameters, MoreParameters, Source, Node, Derives, operator_at, top, IsName, IsNumber, IsKeyword, IsSign, expression, statement, statements, parameter, parameters}
+use Rattle.ppm_syntax.specs.Grammar.{Part, Level, More, OneStatement, Statements, Block, Parameter, Parameters, MoreParameters, Source, Node, Derives}
+use Rattle.ppm_syntax.specs.Grammar.{operator_at, top, IsName, IsNumber, IsKeyword, IsSign, expression, statement, statements, parameter, parameters}
 use Rattle.ppm_syntax.specs.Limits.{nodes_of, HasLiterals, IsSmallStatement, IsSmall, IsWithin, words_of, parameter_limit, word_limit, depth_limit}
 
 -- no operator of a level up to n stands in front

@@ -2,7 +2,8 @@
 ghost use Rattle.std.specs.Prelude.{◌≡◌, ◌≤◌, MatchResult};
 ghost use Rattle.ppm_syntax.specs.Tree.{procedure_of};
 ghost use Rattle.ppm_syntax.specs.Limits.{IsSmall, depth_limit};
-ghost use Rattle.ppm_syntax.specs.Parsing.{IsArray, HasNoArray, IsProcedure, HasNoProcedure, IsRefused};
+ghost use Rattle.ppm_syntax.specs.Parsing.{IsArray, HasNoArray, IsProcedure, HasNoProcedure};
+ghost use Rattle.ppm_syntax.specs.Parsing.{IsRefused};
 
 use crate::front::{head, number, take};
 use crate::parameter::parameters;

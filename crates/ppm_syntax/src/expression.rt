@@ -3,7 +3,8 @@ ghost use Rattle.std.specs.Prelude.{◌≡◌, ◌-◌, ◌≤◌, MatchResult};
 ghost use Rattle.ppm_syntax.specs.Tree.{expression_of};
 ghost use Rattle.ppm_syntax.specs.Limits.{HasLiterals};
 ghost use Rattle.ppm_syntax.specs.Grammar.{Level, More};
-ghost use Rattle.ppm_syntax.specs.Parsing.{ReadsExpression, HasNoExpression, ReadsIndexed, HasNoIndexed, IsRefused, NoOperator};
+ghost use Rattle.ppm_syntax.specs.Parsing.{ReadsExpression, HasNoExpression, ReadsIndexed};
+ghost use Rattle.ppm_syntax.specs.Parsing.{HasNoIndexed, IsRefused, NoOperator};
 
 use crate::front::{name, number, operator, take};
 use crate::syntax_error::SyntaxError;

@@ -1,7 +1,8 @@
 //! What stands in front of some tokens.
 ghost use Rattle.std.specs.Prelude.{◌≡◌, MatchOption, MatchResult};
 ghost use Rattle.ppm_syntax.specs.Grammar.{IsName, IsNumber, IsKeyword, IsSign, operator_at};
-ghost use Rattle.ppm_syntax.specs.Parsing.{InFront, NoName, NoNumber, NoKeyword, NoWord, NoSign, NoOperatorOf, IsHead, HasNoHead};
+ghost use Rattle.ppm_syntax.specs.Parsing.{InFront, NoName, NoNumber, NoKeyword, NoWord, NoSign};
+ghost use Rattle.ppm_syntax.specs.Parsing.{NoOperatorOf, IsHead, HasNoHead};
 
 use crate::syntax_error::SyntaxError;
 use crate::token::{Keyword, Kind, Sign, Token};

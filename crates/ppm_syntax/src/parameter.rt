@@ -1,7 +1,8 @@
 //! From tokens to the parameters of a procedure.
 ghost use Rattle.std.specs.Prelude.{◌≡◌, MatchResult};
 ghost use Rattle.ppm_syntax.specs.Grammar.{Derives, Parameter, parameter, mode_of};
-ghost use Rattle.ppm_syntax.specs.Parsing.{HasNoParameter, ReadsParameters, HasNoParameters, IsRefused};
+ghost use Rattle.ppm_syntax.specs.Parsing.{HasNoParameter, ReadsParameters, HasNoParameters};
+ghost use Rattle.ppm_syntax.specs.Parsing.{IsRefused};
 
 use crate::front::{keyword, name, take};
 use crate::syntax_error::SyntaxError;

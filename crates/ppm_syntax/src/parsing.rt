@@ -3,7 +3,8 @@ ghost use Rattle.std.specs.Prelude.{◌≡◌, ◌+◌, MatchResult, IfOk};
 ghost use Rattle.ppm_syntax.specs.Tree.{SourceTree, tree_of};
 ghost use Rattle.ppm_syntax.specs.Limits.{IsWithin, depth_limit};
 ghost use Rattle.ppm_syntax.specs.Grammar.{DerivesTree};
-ghost use Rattle.ppm_syntax.specs.Parsing.{tree_so_far, IsSoFar, AddsItem, HasNoFurtherArray, HasNoFurtherProcedure, HasNoFurtherItem, IsRefused};
+ghost use Rattle.ppm_syntax.specs.Parsing.{tree_so_far, IsSoFar, AddsItem, HasNoFurtherArray};
+ghost use Rattle.ppm_syntax.specs.Parsing.{HasNoFurtherProcedure, HasNoFurtherItem, IsRefused};
 
 use crate::declaration::{array, procedure};
 use crate::front::take_word;

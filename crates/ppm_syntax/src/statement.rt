@@ -2,7 +2,8 @@
 ghost use Rattle.std.specs.Prelude.{map, MatchResult};
 ghost use Rattle.ppm_syntax.specs.Tree.{statement_of};
 ghost use Rattle.ppm_syntax.specs.Grammar.{Block, Statements};
-ghost use Rattle.ppm_syntax.specs.Parsing.{ReadsStatement, HasNoStatement, ReadsStatements, HasNoStatements, IsRefused};
+ghost use Rattle.ppm_syntax.specs.Parsing.{ReadsStatement, HasNoStatement, ReadsStatements};
+ghost use Rattle.ppm_syntax.specs.Parsing.{HasNoStatements, IsRefused};
 
 use crate::expression::{Room, TOP, indexed, level};
 use crate::front::{name, take};

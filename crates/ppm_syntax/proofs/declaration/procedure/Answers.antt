@@ -19,7 +19,10 @@ returns-in_err-params c =
 pub returns-in_err-body : goal.returns-in_err-body
 returns-in_err-body c =
     exit_by _ _ c.from_residual-in_err-body.result c.from_residual-in_err-body.ensures.1
-    (body_refused depth_limit c.args.tokens.now c.in_ok-name.inside.now _ _ c.in_ok-name.ensures _ c.in_ok-params.behind.now c.in_ok-params.ensures) c.in_err-body.ensures
+    (body_refused depth_limit c.args.tokens.now c.in_ok-name.inside.now _ _ c.in_ok-name.ensures _ c.in_ok-params.behind.now c.in_ok-params.ensures)
+    c.in_err-body.ensures
 
 pub returns : goal.returns
-returns c = rw (c.from_vec.ensures, c.from_vec-2.ensures, c.in_ok-name-2.ensures) (procedure_read depth_limit c.args.tokens.now c.in_ok-name.inside.now _ _ c.in_ok-name.ensures _ c.in_ok-params.behind.now c.in_ok-params.ensures (omega arith) _ c.in_ok-body.rest.now c.in_ok-body.ensures)
+returns c = rw (c.from_vec.ensures, c.from_vec-2.ensures, c.in_ok-name-2.ensures)
+    (procedure_read depth_limit c.args.tokens.now c.in_ok-name.inside.now _ _ c.in_ok-name.ensures _ c.in_ok-params.behind.now c.in_ok-params.ensures
+    (omega arith) _ c.in_ok-body.rest.now c.in_ok-body.ensures)

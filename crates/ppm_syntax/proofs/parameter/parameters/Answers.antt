@@ -16,7 +16,10 @@ returns-in_err-first c =
 pub commas-init : goal.commas-init
 commas-init c =
     let pushed = c.in_ok-push.ensures.items ∙ ap (λ w. w ++ (c.in_ok-first.first ∷ [])) c.new-all.ensures.items in
-    rw pushed (record { leads = leads_first c.args.tokens.now c.in_ok-first.first c.in_ok-first.rest.now c.in_default.ensures c.in_ok-first.ensures; few = omega arith })
+    rw pushed (record {
+      leads = leads_first c.args.tokens.now c.in_ok-first.first c.in_ok-first.rest.now c.in_default.ensures c.in_ok-first.ensures;
+      few = omega arith;
+    })
 
 -- a parameter would be the thirteenth
 pub returns-then-len-eq-PARAMETER_LIMIT : goal.returns-then-len-eq-PARAMETER_LIMIT
@@ -30,7 +33,8 @@ returns-in_err-next c =
 
 pub commas-preserved : goal.commas-preserved
 commas-preserved c = record {
-  leads = rw c.in_ok-push-2.ensures.items (leads_next c.args.tokens.now _ c.commas.rest.now c.commas.invariant.leads _ c.in-Ok-take.ensures c.in_ok-next.next c.in_ok-next.after.now c.in_ok-next.ensures);
+  leads = rw c.in_ok-push-2.ensures.items (leads_next c.args.tokens.now _ c.commas.rest.now c.commas.invariant.leads _ c.in-Ok-take.ensures
+      c.in_ok-next.next c.in_ok-next.after.now c.in_ok-next.ensures);
   few = rw (c.in_ok-push-2.ensures.items, length-append) (omega arith);
 }
 

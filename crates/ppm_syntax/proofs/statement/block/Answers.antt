@@ -13,7 +13,9 @@ returns-in_err-all c =
 pub returns-in_err-end : goal.returns-in_err-end
 returns-in_err-end c =
     exit_for _ _ c.from_residual-in_err-end.result c.from_residual-in_err-end.ensures.1
-    (brace_refused c.args.depth c.args.tokens.now c.in_ok-inside.inside.now c.in_ok-inside.ensures _ c.in_ok-all.rest.now c.in_ok-all.ensures c.in_err-end.ensures)
+    (brace_refused c.args.depth c.args.tokens.now c.in_ok-inside.inside.now c.in_ok-inside.ensures _ c.in_ok-all.rest.now c.in_ok-all.ensures
+    c.in_err-end.ensures)
 
 pub returns : goal.returns
-returns c = block_read c.args.depth c.args.tokens.now c.in_ok-inside.inside.now c.in_ok-inside.ensures _ c.in_ok-all.rest.now c.in_ok-all.ensures (omega arith) c.in_ok-end.end.now c.in_ok-end.ensures
+returns c = block_read c.args.depth c.args.tokens.now c.in_ok-inside.inside.now c.in_ok-inside.ensures _ c.in_ok-all.rest.now c.in_ok-all.ensures
+    (omega arith) c.in_ok-end.end.now c.in_ok-end.ensures

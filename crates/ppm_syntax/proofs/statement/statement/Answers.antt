@@ -25,8 +25,10 @@ returns-in_err-value c =
 pub returns-in_err-rest : goal.returns-in_err-rest
 returns-in_err-rest c =
     exit_for _ _ c.from_residual-in_err-rest.result c.from_residual-in_err-rest.ensures.1
-    (semicolon_refused c.args.depth c.args.tokens.now _ _ _ _ _ c.in_ok-target.ensures c.in_ok-behind.behind.now c.in_ok-behind.ensures _ _ _ c.in_ok-value.ensures c.in_err-rest.ensures)
+    (semicolon_refused c.args.depth c.args.tokens.now _ _ _ _ _ c.in_ok-target.ensures c.in_ok-behind.behind.now c.in_ok-behind.ensures _ _ _
+    c.in_ok-value.ensures c.in_err-rest.ensures)
 
 pub returns : goal.returns
 returns c =
-    assignment_read c.args.depth c.args.tokens.now _ _ _ _ _ c.in_ok-target.ensures c.in_ok-behind.behind.now c.in_ok-behind.ensures _ _ _ c.in_ok-value.ensures c.in_ok-rest.rest.now c.in_ok-rest.ensures
+    assignment_read c.args.depth c.args.tokens.now _ _ _ _ _ c.in_ok-target.ensures c.in_ok-behind.behind.now c.in_ok-behind.ensures _ _ _
+    c.in_ok-value.ensures c.in_ok-rest.rest.now c.in_ok-rest.ensures

@@ -6,7 +6,10 @@ use Rattle.ppm_syntax.proofs.StatementLemmas.{LeadsTo}
 use Rattle.ppm_syntax.proofs.statement.statements.Given as goal
 
 abbrev pub invariant-statements : goal.invariant-statements
-invariant-statements l = record { leads : LeadsTo l.fn.depth l.fn.tokens (map statement_of l.all.items) l.rest; small : All IsSmallStatement (map statement_of l.all.items) }
+invariant-statements l = record {
+  leads : LeadsTo l.fn.depth l.fn.tokens (map statement_of l.all.items) l.rest;
+  small : All IsSmallStatement (map statement_of l.all.items);
+}
 
 abbrev pub decreases-statements : goal.decreases-statements
 decreases-statements l = length l.rest
