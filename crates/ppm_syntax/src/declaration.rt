@@ -46,7 +46,8 @@ pub fn array(alloc: Global, words: u32, tokens: &[Token]) -> Result<(Array, &[To
 /// The procedure in front, and the tokens behind it.
 pub fn procedure(alloc: Global, tokens: &[Token]) -> Result<(Proc, &[Token]), SyntaxError>
     ensures { MatchResult result
-        (λ r. IsProcedure depth_limit tokens.now (procedure_of r.0) r.1.now × IsSmall (procedure_of r.0))
+        (λ r. IsProcedure depth_limit tokens.now (procedure_of r.0) r.1.now
+        × IsSmall (procedure_of r.0))
         (IsRefused (HasNoProcedure depth_limit tokens.now)) }
 {
     let (name, line, inside) = head(tokens, Keyword::Proc, Sign::OpenParen)?;

@@ -42,7 +42,8 @@ fn operand(
     tokens: &[Token],
 ) -> Result<(Expr, u32, &[Token]), SyntaxError>
     ensures { MatchResult result
-        (λ r. ReadsExpression room.depth room.nodes (Level 0) tokens.now (expression_of r.0) r.1 r.2.now)
+        (λ r. ReadsExpression room.depth room.nodes (Level 0) tokens.now
+        (expression_of r.0) r.1 r.2.now)
         (IsRefused (HasNoExpression room.depth room.nodes (Level 0) tokens.now)) }
 {
     if room.nodes == 0 {
@@ -72,7 +73,8 @@ pub fn indexed(
     tokens: &[Token],
 ) -> Result<(NameWithIndex, u32, &[Token]), SyntaxError>
     ensures { MatchResult result
-        (λ r. ReadsIndexed room.depth room.nodes tokens.now r.0.name r.0.line (expression_of r.0.index) r.1 r.2.now)
+        (λ r. ReadsIndexed room.depth room.nodes tokens.now r.0.name r.0.line
+        (expression_of r.0.index) r.1 r.2.now)
         (IsRefused (HasNoIndexed room.depth room.nodes tokens.now)) }
 {
     let (name, line, rest) = name(tokens)?;
@@ -99,7 +101,8 @@ pub fn level(
     tokens: &[Token],
 ) -> Result<(Expr, u32, &[Token]), SyntaxError>
     ensures { MatchResult result
-        (λ r. ReadsExpression room.depth room.nodes (Level n) tokens.now (expression_of r.0) r.1 r.2.now)
+        (λ r. ReadsExpression room.depth room.nodes (Level n) tokens.now
+        (expression_of r.0) r.1 r.2.now)
         (IsRefused (HasNoExpression room.depth room.nodes (Level n) tokens.now)) }
 {
     if n == 0 {
@@ -127,7 +130,8 @@ fn more(
     requires ends { NoOperator (n - 1) tokens.now }
     requires literals { HasLiterals (expression_of first) }
     ensures { MatchResult result
-        (λ r. ReadsExpression room.depth room.nodes (More n (expression_of first)) tokens.now (expression_of r.0) r.1 r.2.now)
+        (λ r. ReadsExpression room.depth room.nodes (More n (expression_of first)) tokens.now
+        (expression_of r.0) r.1 r.2.now)
         (IsRefused (HasNoExpression room.depth room.nodes (More n (expression_of first)) tokens.now)) }
 {
     let Some((operator, line, rest)) = operator(n, tokens) else {

@@ -11,7 +11,9 @@ use ppm_words::Name;
 
 /// The tokens behind the sign.
 pub fn take(tokens: &[Token], sign: Sign) -> Result<&[Token], SyntaxError>
-    ensures { MatchResult result (λ r. InFront (λ t. IsSign t sign) tokens.now r.now) (λ _. NoSign sign tokens.now) }
+    ensures { MatchResult result
+        (λ r. InFront (λ t. IsSign t sign) tokens.now r.now)
+        (λ _. NoSign sign tokens.now) }
 {
     match tokens {
         [
@@ -27,7 +29,9 @@ pub fn take(tokens: &[Token], sign: Sign) -> Result<&[Token], SyntaxError>
 
 /// The name in front with its line, and the tokens behind it.
 pub fn name(tokens: &[Token]) -> Result<(&Name, u32, &[Token]), SyntaxError>
-    ensures { MatchResult result (λ r. InFront (λ t. IsName t r.0.now × (t.line ≡ r.1)) tokens.now r.2.now) (λ _. NoName tokens.now) }
+    ensures { MatchResult result
+        (λ r. InFront (λ t. IsName t r.0.now × (t.line ≡ r.1)) tokens.now r.2.now)
+        (λ _. NoName tokens.now) }
 {
     match tokens {
         [
@@ -44,7 +48,9 @@ pub fn name(tokens: &[Token]) -> Result<(&Name, u32, &[Token]), SyntaxError>
 
 /// The keyword in front, and the tokens behind it.
 pub fn keyword(tokens: &[Token]) -> Result<(Keyword, &[Token]), SyntaxError>
-    ensures { MatchResult result (λ r. InFront (λ t. IsKeyword t r.0) tokens.now r.1.now) (λ _. NoKeyword tokens.now) }
+    ensures { MatchResult result
+        (λ r. InFront (λ t. IsKeyword t r.0) tokens.now r.1.now)
+        (λ _. NoKeyword tokens.now) }
 {
     match tokens {
         [
@@ -60,7 +66,9 @@ pub fn keyword(tokens: &[Token]) -> Result<(Keyword, &[Token]), SyntaxError>
 
 /// The tokens behind the keyword.
 pub fn take_word(tokens: &[Token], word: Keyword) -> Result<&[Token], SyntaxError>
-    ensures { MatchResult result (λ r. InFront (λ t. IsKeyword t word) tokens.now r.now) (λ _. NoWord word tokens.now) }
+    ensures { MatchResult result
+        (λ r. InFront (λ t. IsKeyword t word) tokens.now r.now)
+        (λ _. NoWord word tokens.now) }
 {
     match tokens {
         [
@@ -92,7 +100,9 @@ pub fn head(
 
 /// The number in front, and the tokens behind it.
 pub fn number(tokens: &[Token]) -> Option<(u64, &[Token])>
-    ensures { MatchOption result (NoNumber tokens.now) (λ r. InFront (λ t. IsNumber t r.0) tokens.now r.1.now) }
+    ensures { MatchOption result
+        (NoNumber tokens.now)
+        (λ r. InFront (λ t. IsNumber t r.0) tokens.now r.1.now) }
 {
     match tokens {
         [
@@ -108,7 +118,9 @@ pub fn number(tokens: &[Token]) -> Option<(u64, &[Token])>
 
 /// The operator of the level in front with its line, and the tokens behind it.
 pub fn operator(level: u32, tokens: &[Token]) -> Option<(Operator, u32, &[Token])>
-    ensures { MatchOption result (NoOperatorOf level tokens.now) (λ r. InFront (λ t. (operator_at level t.kind ≡ Some r.0) × (t.line ≡ r.1)) tokens.now r.2.now) }
+    ensures { MatchOption result
+        (NoOperatorOf level tokens.now)
+        (λ r. InFront (λ t. (operator_at level t.kind ≡ Some r.0) × (t.line ≡ r.1)) tokens.now r.2.now) }
 {
     match tokens {
         [

@@ -115,7 +115,8 @@ fn add_item(
 /// The tree of the tokens. `Refused` exactly where they have none within the limits.
 pub fn parse(alloc: Global, tokens: &[Token]) -> Result<Source, SyntaxError>
     ensures tree { IfOk result (λ s. DerivesTree depth_limit tokens.now (tree_of s)) }
-    ensures refused { result ≡ Err SyntaxError.Refused → (t : SourceTree) → DerivesTree depth_limit tokens.now t → IsWithin t → ⊥ }
+    ensures refused { result ≡ Err SyntaxError.Refused →
+        (t : SourceTree) → DerivesTree depth_limit tokens.now t → IsWithin t → ⊥ }
 {
     let mut declared = Declared {
         arrays: Vec::new(alloc),
