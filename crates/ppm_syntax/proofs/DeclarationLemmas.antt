@@ -24,8 +24,10 @@ one_head h h' =
 
 -- a name is missing
 pub name_refused : (w : Keyword) (s : Sign) (ts behind : List Token) → InFront (λ t. IsKeyword t w) ts behind → NoName behind → HasNoHead w s ts
-name_refused w s ts behind front none = record { none = λ x line rest h.
-    let shape : behind ≡ h.name ∷ h.opened ∷ rest = cc (front.shape, h.shape) in (rw shape at none) x h.is_name }
+name_refused w s ts behind front none = record {
+  none = λ x line rest h.
+      let shape : behind ≡ h.name ∷ h.opened ∷ rest = cc (front.shape, h.shape) in (rw shape at none) x h.is_name;
+}
 
 pub array_head_refused : (words : ℕ) (ts : List Token) → HasNoHead keyword.Array sign.OpenBracket ts → HasNoArray words ts
 array_head_refused words ts h = record { none = λ a rest r small. h.none a.name a.line _ r.head }
@@ -46,15 +48,27 @@ module _ (d : ℕ) (ts inside : List Token) (x : List ℕ) (line : ℕ) (head : 
 
   module _ (ps : List Param) (behind : List Token) (params : ReadsParameters inside ps behind) where
     pub body_refused : HasNoStatements d Block behind → HasNoProcedure d ts
-    body_refused h = record { none = λ p rest r small.
-        let q = params_of r in
-        let o = same params.reads.derived params.reads.ends q.derived q.ends in
-        let mid : r.behind ≡ behind = cc o.1 in
-        h.none p.body rest (record { derived = subst (λ w. Derives d Block w (statements p.body) rest) mid r.body; ends = tt }) small.body }
+    body_refused h = record {
+      none = λ p rest r small.
+          let q = params_of r in
+          let o = same params.reads.derived params.reads.ends q.derived q.ends in
+          let mid : r.behind ≡ behind = cc o.1 in
+          h.none p.body rest (record { derived = subst (λ w. Derives d Block w (statements p.body) rest) mid r.body; ends = tt }) small.body;
+    }
 
     pub procedure_read : 0 < d → (b : List Statement) (rest : List Token) → ReadsStatements d Block behind b rest →
         IsProcedure d ts (record { name = x; line = line; params = ps; body = b }) rest × IsSmall (record { name = x; line = line; params = ps; body = b })
-    procedure_read some b rest body = (record {
-        inner = d - 1; deep = omega arith; closed = params.closed; inside = inside; behind = behind; head = head;
-        params = parameters_at (d - 1) params.reads.derived; is_closed = params.reads.ends; body = body.reads.derived },
-        record { parameters = params.few; body = body.small })
+    procedure_read some b rest body = (
+      record {
+        inner = d - 1;
+        deep = omega arith;
+        closed = params.closed;
+        inside = inside;
+        behind = behind;
+        head = head;
+        params = parameters_at (d - 1) params.reads.derived;
+        is_closed = params.reads.ends;
+        body = body.reads.derived;
+      },
+      record { parameters = params.few; body = body.small },
+    )

@@ -44,25 +44,30 @@ split (g.level {a = a} {mid = mid} r m) ends = record { first = a; mid = mid; op
 -- an expression of level n, from one of level m, the one below it
 module _ (d room n m : ℕ) (ts : List Token) (above : n ≡ suc m) where
   pub first_refused : HasNoExpression d room (Level m) ts → HasNoExpression d room (Level n) ts
-  first_refused h = rw above (record { none = λ e rest r few literals.
-      let s = split r.derived r.ends in
-      h.none s.first s.mid s.operand (omega (arith, more_nodes s.more)) (more_literals s.more literals) })
+  first_refused h = rw above (record {
+    none = λ e rest r few literals.
+        let s = split r.derived r.ends in
+        h.none s.first s.mid s.operand (omega (arith, more_nodes s.more)) (more_literals s.more literals);
+  })
 
   module _ (a : Expression) (left : ℕ) (mid : List Token) (first : ReadsExpression d room (Level m) ts a left mid) where
     pub level_read : (e : Expression) (left' : ℕ) (rest : List Token) → ReadsExpression d left (More n a) mid e left' rest → ReadsExpression d room (Level n) ts e left' rest
     level_read e left' rest more = let more' = rw above at more in rw above (record {
-        reads = record { derived = g.level first.reads.derived more'.reads.derived; ends = more'.reads.ends };
-        nodes = omega (arith, first.nodes, more'.nodes);
-        literals = more'.literals })
+      reads = record { derived = g.level first.reads.derived more'.reads.derived; ends = more'.reads.ends };
+      nodes = omega (arith, first.nodes, more'.nodes);
+      literals = more'.literals;
+    })
 
     pub level_refused : HasNoExpression d left (More n a) mid → HasNoExpression d room (Level n) ts
-    level_refused h = let h' = rw above at h in rw above (record { none = λ e rest r few literals.
-        let s = split r.derived r.ends in
-        let o = one_reading s.operand first.reads in
-        let same : s.first ≡ a = cc o.0 in
-        let m1 = subst (λ q. Derives d (More (suc m) q) s.mid (expression e) rest) same s.more in
-        let m2 = subst (λ w. Derives d (More (suc m) a) w (expression e) rest) o.1 m1 in
-        h'.none e rest (record { derived = m2; ends = r.ends }) (omega (arith, first.nodes)) literals })
+    level_refused h = let h' = rw above at h in rw above (record {
+      none = λ e rest r few literals.
+          let s = split r.derived r.ends in
+          let o = one_reading s.operand first.reads in
+          let same : s.first ≡ a = cc o.0 in
+          let m1 = subst (λ q. Derives d (More (suc m) q) s.mid (expression e) rest) same s.more in
+          let m2 = subst (λ w. Derives d (More (suc m) a) w (expression e) rest) o.1 m1 in
+          h'.none e rest (record { derived = m2; ends = r.ends }) (omega (arith, first.nodes)) literals;
+    })
 
 -- what goes on behind an operator
 record Goes (d n : ℕ) (a : Expression) (o : Operator) (line : ℕ) (ts : List Token) (e : Expression) (rest : List Token) : Type 0 where
@@ -76,16 +81,21 @@ goes : {d n : ℕ} {a e : Expression} {t : Token} {o : Operator} {ts rest : List
 goes {n = n} {t = t} {o = o} {ts = ts} is g.no_more ends = absurd (stopped n t ts o ends is)
 goes {n = n} {a = a} {o = o} is (g.more {d = d} {b = b} {e = e} {t = t} {o = o'} {mid = mid} {rest = rest} is' r m) ends =
     let same : o' ≡ o = cc in
-    record { right = b; mid = mid; operand = record { derived = r; ends = operand_ends m ends };
-      more = subst (λ q. Derives d (More (suc n) (tree.Binary q t.line a b)) mid (expression e) rest) same m }
+    record {
+      right = b;
+      mid = mid;
+      operand = record { derived = r; ends = operand_ends m ends };
+      more = subst (λ q. Derives d (More (suc n) (tree.Binary q t.line a b)) mid (expression e) rest) same m;
+    }
 
 -- an expression of level n goes on, where m is the level below it
 module _ (d room n m : ℕ) (a : Expression) (ts : List Token) (above : n ≡ suc m) where
   pub stop_read : NoOperator m ts → NoOperatorOf n ts → HasLiterals a → ReadsExpression d room (More n a) ts a room ts
   stop_read below here literals = let here' = rw above at here in rw above (record {
-      reads = record { derived = g.no_more; ends = stops_above m ts below here' };
-      nodes = refl;
-      literals = literals })
+    reads = record { derived = g.no_more; ends = stops_above m ts below here' };
+    nodes = refl;
+    literals = literals;
+  })
 
   module _ (o : Operator) (line : ℕ) (behind : List Token) (front : InFront (λ t. (operator_at n t.kind ≡ Some o) × (t.line ≡ line)) ts behind) where
     goes_on : (e : Expression) (rest : List Token) → Reads d (More (suc m) a) ts (expression e) rest → Goes d m a o line behind e rest
@@ -99,9 +109,11 @@ module _ (d room n m : ℕ) (a : Expression) (ts : List Token) (above : n ≡ su
 
     module _ (some : 0 < room) where
       pub right_refused : HasNoExpression d (room - 1) (Level m) behind → HasNoExpression d room (More n a) ts
-      right_refused h = rw above (record { none = λ e rest r few literals.
-          let s = goes_on e rest r in
-          h.none s.right s.mid s.operand (omega (arith, more_nodes s.more)) (more_literals s.more literals).1 })
+      right_refused h = rw above (record {
+        none = λ e rest r few literals.
+            let s = goes_on e rest r in
+            h.none s.right s.mid s.operand (omega (arith, more_nodes s.more)) (more_literals s.more literals).1;
+      })
 
       module _ (b : Expression) (left : ℕ) (mid : List Token) (right : ReadsExpression d (room - 1) (Level m) behind b left mid) where
         pub again_read : (e : Expression) (left' : ℕ) (rest : List Token) → ReadsExpression d left (More n (tree.Binary o line a b)) mid e left' rest → ReadsExpression d room (More n a) ts e left' rest
@@ -112,13 +124,16 @@ module _ (d room n m : ℕ) (a : Expression) (ts : List Token) (above : n ≡ su
             rw (above, front.shape) (record {
               reads = record { derived = g.more is right.reads.derived m1; ends = more'.reads.ends };
               nodes = omega (arith, right.nodes, more'.nodes);
-              literals = more'.literals })
+              literals = more'.literals;
+            })
 
         pub again_refused : HasNoExpression d left (More n (tree.Binary o line a b)) mid → HasNoExpression d room (More n a) ts
-        again_refused h = let h' = rw above at h in rw above (record { none = λ e rest r few literals.
-            let s = goes_on e rest r in
-            let w = one_reading s.operand right.reads in
-            let same : s.right ≡ b = cc w.0 in
-            let m1 = subst (λ q. Derives d (More (suc m) (tree.Binary o line a q)) s.mid (expression e) rest) same s.more in
-            let m2 = subst (λ u. Derives d (More (suc m) (tree.Binary o line a b)) u (expression e) rest) w.1 m1 in
-            h'.none e rest (record { derived = m2; ends = r.ends }) (omega (arith, right.nodes)) literals })
+        again_refused h = let h' = rw above at h in rw above (record {
+          none = λ e rest r few literals.
+              let s = goes_on e rest r in
+              let w = one_reading s.operand right.reads in
+              let same : s.right ≡ b = cc w.0 in
+              let m1 = subst (λ q. Derives d (More (suc m) (tree.Binary o line a q)) s.mid (expression e) rest) same s.more in
+              let m2 = subst (λ u. Derives d (More (suc m) (tree.Binary o line a b)) u (expression e) rest) w.1 m1 in
+              h'.none e rest (record { derived = m2; ends = r.ends }) (omega (arith, right.nodes)) literals;
+        })

@@ -69,42 +69,53 @@ module _ (ts : List Token) where
 
   pub leads_first : (p : Param) (rest : List Token) → NoSign sign.CloseParen ts → Derives 0 Parameter ts (parameter p) rest → LeadsTo ts (p ∷ []) rest
   leads_first p rest none r = record {
-      forth = λ more end m. g.first_parameter r m;
-      back = λ ps end m ends.
+    forth = λ more end m. g.first_parameter r m;
+    back = λ ps end m ends.
         let f = first_of none m ends in
         let o = same r tt f.4 tt in
-        (f.1, cc (f.3, o.0), subst (λ w. Derives 0 MoreParameters w (parameters f.1) end) (sym o.1) f.5) }
+        (f.1, cc (f.3, o.0), subst (λ w. Derives 0 MoreParameters w (parameters f.1) end) (sym o.1) f.5);
+  }
 
   module _ (all : List Param) (rest : List Token) (leads : LeadsTo ts all rest) where
     module _ (behind : List Token) (comma : InFront (λ t. IsSign t sign.Comma) rest behind) where
       pub too_many : length all ≡ parameter_limit → HasNoParameters ts
-      too_many full = record { none = λ ps end r few.
-          let w = leads.back ps end r.derived r.ends in
-          let n = next_of comma.has (rw comma.shape at w.2) r.ends in
-          let joined : ps ≡ all ++ (n.0 ∷ n.1) = cc (w.1, n.3) in
-          absurd (omega (arith, full, few, ap length joined, length-append all (n.0 ∷ n.1))) }
+      too_many full = record {
+        none = λ ps end r few.
+            let w = leads.back ps end r.derived r.ends in
+            let n = next_of comma.has (rw comma.shape at w.2) r.ends in
+            let joined : ps ≡ all ++ (n.0 ∷ n.1) = cc (w.1, n.3) in
+            absurd (omega (arith, full, few, ap length joined, length-append all (n.0 ∷ n.1)));
+      }
 
       pub next_refused : HasNoParameter behind → HasNoParameters ts
-      next_refused h = record { none = λ ps end r few.
-          let w = leads.back ps end r.derived r.ends in
-          let n = next_of comma.has (rw comma.shape at w.2) r.ends in
-          h.none n.0 n.2 n.4 }
+      next_refused h = record {
+        none = λ ps end r few.
+            let w = leads.back ps end r.derived r.ends in
+            let n = next_of comma.has (rw comma.shape at w.2) r.ends in
+            h.none n.0 n.2 n.4;
+      }
 
       pub leads_next : (p : Param) (after : List Token) → Derives 0 Parameter behind (parameter p) after → LeadsTo ts (all ++ (p ∷ [])) after
       leads_next p after r = record {
-          forth = λ more end m. rw append_assoc (leads.forth (p ∷ more) end (rw comma.shape (g.next_parameter comma.has r m)));
-          back = λ ps end m ends.
+        forth = λ more end m. rw append_assoc (leads.forth (p ∷ more) end (rw comma.shape (g.next_parameter comma.has r m)));
+        back = λ ps end m ends.
             let w = leads.back ps end m ends in
             let n = next_of comma.has (rw comma.shape at w.2) ends in
             let o = same r tt n.4 tt in
-            (n.1, rw append_assoc (cc (w.1, n.3, o.0)), subst (λ u. Derives 0 MoreParameters u (parameters n.1) end) (sym o.1) n.5) }
+            (n.1, rw append_assoc (cc (w.1, n.3, o.0)), subst (λ u. Derives 0 MoreParameters u (parameters n.1) end) (sym o.1) n.5);
+      }
 
     pub end_refused : NoSign sign.Comma rest → NoSign sign.CloseParen rest → HasNoParameters ts
-    end_refused no_comma no_close = record { none = λ ps end r few.
-        let w = leads.back ps end r.derived r.ends in
-        let e = end_of no_comma w.2 in
-        never rest no_close (rw (← e) at r.ends) }
+    end_refused no_comma no_close = record {
+      none = λ ps end r few.
+          let w = leads.back ps end r.derived r.ends in
+          let e = end_of no_comma w.2 in
+          never rest no_close (rw (← e) at r.ends);
+    }
 
     pub parameters_read : length all ≤ parameter_limit → (end : List Token) → InFront (λ t. IsSign t sign.CloseParen) rest end → ReadsParameters ts all end
-    parameters_read few end closed = record { closed = closed.token;
-        reads = record { derived = rw (append-nil, closed.shape) at (leads.forth [] rest g.last_parameter); ends = closed.has }; few = few }
+    parameters_read few end closed = record {
+      closed = closed.token;
+      reads = record { derived = rw (append-nil, closed.shape) at (leads.forth [] rest g.last_parameter); ends = closed.has };
+      few = few;
+    }

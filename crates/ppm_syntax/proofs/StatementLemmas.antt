@@ -41,22 +41,37 @@ record Assignment (d : ℕ) (ts : List Token) (s : Statement) (rest : List Token
 
 assignment : {d : ℕ} {ts rest : List Token} {s : Statement} → Derives d OneStatement ts (statement s) rest → Assignment d ts s rest
 assignment (g.put {d = d} {n = n} {o = o} {c = c} {q = q} {s = e} {x = x} {i = i} {v = v} {ts = ts} {us = us} {rest = rest} n_is o_is i_r c_is q_is v_r s_is) =
-    record { region = x; line = n.line; index = i; value = v; equals = q; semicolon = e; behind = us;
+    record {
+      region = x;
+      line = n.line;
+      index = i;
+      value = v;
+      equals = q;
+      semicolon = e;
+      behind = us;
       target = record { inner = d; deep = refl; name = n; opened = o; closed = c; inside = ts; shape = refl; is_name = n_is; at = refl; is_opened = o_is; index = i_r; is_closed = c_is };
-      is_equals = q_is; reads = record { derived = v_r; ends = ends_at_semicolon top e rest s_is }; is_semicolon = s_is; is = refl }
+      is_equals = q_is;
+      reads = record { derived = v_r; ends = ends_at_semicolon top e rest s_is };
+      is_semicolon = s_is;
+      is = refl;
+    }
 
 module _ (d : ℕ) (ts : List Token) where
   pub target_refused : HasNoIndexed d node_limit ts → HasNoStatement d ts
-  target_refused h = record { none = λ s rest r small.
-      let p = assignment r in
-      let small' = rw p.is at small in
-      h.none p.region p.line p.index (p.equals ∷ p.behind) p.target (omega (arith, small'.nodes)) small'.literals.0 }
+  target_refused h = record {
+    none = λ s rest r small.
+        let p = assignment r in
+        let small' = rw p.is at small in
+        h.none p.region p.line p.index (p.equals ∷ p.behind) p.target (omega (arith, small'.nodes)) small'.literals.0;
+  }
 
   module _ (x : List ℕ) (line : ℕ) (i : Expression) (left : ℕ) (mid : List Token) (target : ReadsIndexed d node_limit ts x line i left mid) where
     pub equals_refused : NoSign sign.Assign mid → HasNoStatement d ts
-    equals_refused none = record { none = λ s rest r small.
-        let p = assignment r in
-        let o = one_indexed target.reads p.target in (rw o.1 at none) p.is_equals }
+    equals_refused none = record {
+      none = λ s rest r small.
+          let p = assignment r in
+          let o = one_indexed target.reads p.target in (rw o.1 at none) p.is_equals;
+    }
 
     module _ (behind : List Token) (equals : InFront (λ t. IsSign t sign.Assign) mid behind) where
       -- what any statement has for its value
@@ -67,18 +82,22 @@ module _ (d : ℕ) (ts : List Token) where
           record { derived = subst (λ w. Derives d (Level top) w (expression p.value) (p.semicolon ∷ rest)) same_behind p.reads.derived; ends = p.reads.ends }
 
       pub value_refused : HasNoExpression d left (Level top) behind → HasNoStatement d ts
-      value_refused h = record { none = λ s rest r small.
-          let p = assignment r in
-          let o = one_indexed target.reads p.target in
-          let small' = rw p.is at small in
-          let few = rw (← o.0) at small'.nodes in
-          h.none p.value (p.semicolon ∷ rest) (value_of p) (omega (arith, few, target.nodes)) small'.literals.1 }
+      value_refused h = record {
+        none = λ s rest r small.
+            let p = assignment r in
+            let o = one_indexed target.reads p.target in
+            let small' = rw p.is at small in
+            let few = rw (← o.0) at small'.nodes in
+            h.none p.value (p.semicolon ∷ rest) (value_of p) (omega (arith, few, target.nodes)) small'.literals.1;
+      }
 
       module _ (v : Expression) (left' : ℕ) (end : List Token) (value : ReadsExpression d left (Level top) behind v left' end) where
         pub semicolon_refused : NoSign sign.Semicolon end → HasNoStatement d ts
-        semicolon_refused none = record { none = λ s rest r small.
-            let p = assignment r in
-            let o = one_reading value.reads (value_of p) in (rw o.1 at none) p.is_semicolon }
+        semicolon_refused none = record {
+          none = λ s rest r small.
+              let p = assignment r in
+              let o = one_reading value.reads (value_of p) in (rw o.1 at none) p.is_semicolon;
+        }
 
         pub assignment_read : (rest : List Token) → InFront (λ t. IsSign t sign.Semicolon) end rest → ReadsStatement d ts (tree.Put x line i v) rest
         assignment_read rest semicolon =
@@ -87,7 +106,8 @@ module _ (d : ℕ) (ts : List Token) where
             let value' = rw (semicolon.shape, q.deep) at value.reads.derived in
             record {
               reads = rw (q.deep, q.shape, ← q.at) (g.put q.is_name q.is_opened index q.is_closed equals.has value' semicolon.has);
-              small = record { nodes = omega (arith, target.nodes, value.nodes); literals = (target.literals, value.literals) } }
+              small = record { nodes = omega (arith, target.nodes, value.nodes); literals = (target.literals, value.literals) };
+            }
 
 -- the statements that were read, and any that follow, are the statements of the whole, and there are no others
 pub record LeadsTo (d : ℕ) (ts : List Token) (all : List Statement) (rest : List Token) : Type 0 where
@@ -122,19 +142,22 @@ mapped_push all s = map-append statement_of all (s ∷ [])
 module _ (d : ℕ) (ts : List Token) (all : List Statement) (rest : List Token) (leads : LeadsTo d ts all rest) where
   pub leads_next : (s : Statement) (behind : List Token) → Derives d OneStatement rest (statement s) behind → LeadsTo d ts (all ++ (s ∷ [])) behind
   leads_next s behind r = record {
-      forth = λ more end m. rw append_assoc (leads.forth (s ∷ more) end (g.another r m));
-      back = λ b end m.
+    forth = λ more end m. rw append_assoc (leads.forth (s ∷ more) end (g.another r m));
+    back = λ b end m.
         let w = leads.back b end m in
         let n = another_of r w.2.derived w.2.ends in
-        (n.0, rw append_assoc (cc (w.1, n.1)), n.2) }
+        (n.0, rw append_assoc (cc (w.1, n.1)), n.2);
+  }
 
   pub next_refused : (x : List ℕ) (line : ℕ) (more : List Token) → InFront (λ t. IsName t x × (t.line ≡ line)) rest more → HasNoStatement d rest → HasNoStatements d Statements ts
-  next_refused x line more name h = record { none = λ b end r small.
-      let w = leads.back b end r in
-      let f = first_of_name name.has.0 (rw name.shape at w.2.derived) w.2.ends in
-      let joined : b ≡ all ++ (f.0 ∷ f.1) = cc (w.1, f.3) in
-      let rest_small = (All-head IsSmallStatement f.0 f.1 (all_behind all (f.0 ∷ f.1) (rw joined at small))) in
-      h.none f.0 f.2 (rw name.shape f.4) rest_small }
+  next_refused x line more name h = record {
+    none = λ b end r small.
+        let w = leads.back b end r in
+        let f = first_of_name name.has.0 (rw name.shape at w.2.derived) w.2.ends in
+        let joined : b ≡ all ++ (f.0 ∷ f.1) = cc (w.1, f.3) in
+        let rest_small = (All-head IsSmallStatement f.0 f.1 (all_behind all (f.0 ∷ f.1) (rw joined at small))) in
+        h.none f.0 f.2 (rw name.shape f.4) rest_small;
+  }
 
   pub statements_read : NoName rest → All IsSmallStatement all → ReadsStatements d Statements ts all rest
   statements_read ends small = record { reads = record { derived = rw append-nil at (leads.forth [] rest g.no_statement); ends = ends }; small = small }
@@ -158,9 +181,11 @@ module _ (d : ℕ) (ts inside : List Token) (opened : InFront (λ t. IsSign t si
 
   module _ (b : List Statement) (end : List Token) (read : ReadsStatements (d - 1) Statements inside b end) where
     pub brace_refused : NoSign sign.CloseBrace end → HasNoStatements d Block ts
-    brace_refused none = record { none = λ b' rest r small.
-        let p = inside_of r.derived in
-        let o = one_reading read.reads p.1.1 in (rw o.1 at none) p.1.2 }
+    brace_refused none = record {
+      none = λ b' rest r small.
+          let p = inside_of r.derived in
+          let o = one_reading read.reads p.1.1 in (rw o.1 at none) p.1.2;
+    }
 
     pub block_read : 0 < d → (rest : List Token) → InFront (λ t. IsSign t sign.CloseBrace) end rest → ReadsStatements d Block ts b rest
     block_read some rest closed =

@@ -1,8 +1,13 @@
 -- What the tests of the rules answer.
-use Rattle.std.specs.Prelude.{◌≡◌, ℕ, List}
+use Rattle.std.specs.Prelude.{◌≡◌, ℕ, ◌≤◌, List, length}
 use Rattle.std.specs.List.{Contains}
 use Rattle.ppm_syntax.specs.declared.tree.Array.{Array}
 use Rattle.ppm_syntax.specs.declared.tree.Param.{Param}
+use Rattle.ppm_syntax.specs.declared.token.Token.{Token}
+use Rattle.ppm_syntax.specs.Tree.{SourceTree}
+use Rattle.ppm_syntax.specs.Cutting.{IsTextOf}
+use Rattle.ppm_syntax.specs.Grammar.{DerivesTree}
+use Rattle.ppm_syntax.specs.Limits.{text_limit, depth_limit}
 use Rattle.ppm_syntax.specs.Rules.{IsRegion}
 
 -- some element is such a one
@@ -17,3 +22,10 @@ HasNamed {A} name xs n = (x : A) × Contains xs x × (name x ≡ n)
 pub record IsMainParam (arrays : List Array) (q : Param) : Type 0 where
   pub region : IsRegion q
   pub named : HasNamed (λ a. a.name) arrays q.name
+
+-- a text within the limit has this tree by the grammar
+pub record IsDerived (text : List ℕ) (t : SourceTree) : Type 0 where
+  pub short : length text ≤ text_limit
+  pub tokens : List Token
+  pub cut : IsTextOf text tokens
+  pub derived : DerivesTree depth_limit tokens t

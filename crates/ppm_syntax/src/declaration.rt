@@ -32,7 +32,14 @@ pub fn array(alloc: Global, words: u32, tokens: &[Token]) -> Result<(Array, &[To
         return Err(SyntaxError::Refused);
     }
     let name = name.try_clone(alloc)?;
-    Ok((Array { name, line, length: length as u32 }, rest))
+    Ok((
+        Array {
+            name,
+            line,
+            length: length as u32,
+        },
+        rest,
+    ))
 }
 
 /// The procedure in front, and the tokens behind it.
@@ -45,5 +52,13 @@ pub fn procedure(alloc: Global, tokens: &[Token]) -> Result<(Proc, &[Token]), Sy
     let (params, behind) = parameters(alloc, inside)?;
     let (body, rest) = block(alloc, DEPTH_LIMIT, behind)?;
     let name = name.try_clone(alloc)?;
-    Ok((Proc { name, line, params: Items::from_vec(params), body: Items::from_vec(body) }, rest))
+    Ok((
+        Proc {
+            name,
+            line,
+            params: Items::from_vec(params),
+            body: Items::from_vec(body),
+        },
+        rest,
+    ))
 }

@@ -35,7 +35,11 @@ pub struct NameWithIndex {
 
 /// The operand in front with the nodes that it leaves, and the tokens behind it.
 #[cycle(expression)]
-fn operand(alloc: Global, room: Room, tokens: &[Token]) -> Result<(Expr, u32, &[Token]), SyntaxError>
+fn operand(
+    alloc: Global,
+    room: Room,
+    tokens: &[Token],
+) -> Result<(Expr, u32, &[Token]), SyntaxError>
     ensures { MatchResult result
         (λ r. ReadsExpression room.depth room.nodes (Level 0) tokens.now (expression_of r.0) r.1 r.2.now)
         (IsRefused (HasNoExpression room.depth room.nodes (Level 0) tokens.now)) }
@@ -50,7 +54,10 @@ fn operand(alloc: Global, room: Room, tokens: &[Token]) -> Result<(Expr, u32, &[
         };
         return Ok((Expr::Number(value), left, rest));
     }
-    let inner = Room { depth: room.depth, nodes: left };
+    let inner = Room {
+        depth: room.depth,
+        nodes: left,
+    };
     let (found, left, rest) = indexed(alloc, inner, tokens)?;
     let index = Box::new(alloc, found.index)?;
     Ok((Expr::Element(found.name, found.line, index), left, rest))
@@ -58,7 +65,11 @@ fn operand(alloc: Global, room: Room, tokens: &[Token]) -> Result<(Expr, u32, &[
 
 /// The name and index in front with the nodes that the index leaves, and the tokens behind them.
 #[cycle(expression)]
-pub fn indexed(alloc: Global, room: Room, tokens: &[Token]) -> Result<(NameWithIndex, u32, &[Token]), SyntaxError>
+pub fn indexed(
+    alloc: Global,
+    room: Room,
+    tokens: &[Token],
+) -> Result<(NameWithIndex, u32, &[Token]), SyntaxError>
     ensures { MatchResult result
         (λ r. ReadsIndexed room.depth room.nodes tokens.now r.0.name r.0.line (expression_of r.0.index) r.1 r.2.now)
         (IsRefused (HasNoIndexed room.depth room.nodes tokens.now)) }
@@ -68,7 +79,10 @@ pub fn indexed(alloc: Global, room: Room, tokens: &[Token]) -> Result<(NameWithI
     if room.depth == 0 {
         return Err(SyntaxError::Refused);
     }
-    let inner = Room { depth: room.depth - 1, nodes: room.nodes };
+    let inner = Room {
+        depth: room.depth - 1,
+        nodes: room.nodes,
+    };
     let (index, left, behind) = level(alloc, inner, TOP, inside)?;
     let end = take(behind, Sign::CloseBracket)?;
     let name = name.try_clone(alloc)?;
@@ -77,7 +91,12 @@ pub fn indexed(alloc: Global, room: Room, tokens: &[Token]) -> Result<(NameWithI
 
 /// The expression of the level in front with the nodes that it leaves, and the tokens behind it.
 #[cycle(expression)]
-pub fn level(alloc: Global, room: Room, n: u32, tokens: &[Token]) -> Result<(Expr, u32, &[Token]), SyntaxError>
+pub fn level(
+    alloc: Global,
+    room: Room,
+    n: u32,
+    tokens: &[Token],
+) -> Result<(Expr, u32, &[Token]), SyntaxError>
     ensures { MatchResult result
         (λ r. ReadsExpression room.depth room.nodes (Level n) tokens.now (expression_of r.0) r.1 r.2.now)
         (IsRefused (HasNoExpression room.depth room.nodes (Level n) tokens.now)) }
@@ -86,14 +105,23 @@ pub fn level(alloc: Global, room: Room, n: u32, tokens: &[Token]) -> Result<(Exp
         return operand(alloc, room, tokens);
     }
     let (first, left, rest) = level(alloc, room, n - 1, tokens)?;
-    let room = Room { depth: room.depth, nodes: left };
+    let room = Room {
+        depth: room.depth,
+        nodes: left,
+    };
     more(alloc, room, n, first, rest)
 }
 
 /// The expression of the level that goes on from its first operand with the nodes that it leaves, and the tokens
 /// behind it.
 #[cycle(expression)]
-fn more(alloc: Global, room: Room, n: u32, first: Expr, tokens: &[Token]) -> Result<(Expr, u32, &[Token]), SyntaxError>
+fn more(
+    alloc: Global,
+    room: Room,
+    n: u32,
+    first: Expr,
+    tokens: &[Token],
+) -> Result<(Expr, u32, &[Token]), SyntaxError>
     requires level { 1 ≤ n }
     requires ends { NoOperator (n - 1) tokens.now }
     requires literals { HasLiterals (expression_of first) }
@@ -107,9 +135,20 @@ fn more(alloc: Global, room: Room, n: u32, first: Expr, tokens: &[Token]) -> Res
     if room.nodes == 0 {
         return Err(SyntaxError::Refused);
     }
-    let inner = Room { depth: room.depth, nodes: room.nodes - 1 };
+    let inner = Room {
+        depth: room.depth,
+        nodes: room.nodes - 1,
+    };
     let (right, left, rest) = level(alloc, inner, n - 1, rest)?;
-    let both = Expr::Binary(operator, line, Box::new(alloc, first)?, Box::new(alloc, right)?);
-    let room = Room { depth: room.depth, nodes: left };
+    let both = Expr::Binary(
+        operator,
+        line,
+        Box::new(alloc, first)?,
+        Box::new(alloc, right)?,
+    );
+    let room = Room {
+        depth: room.depth,
+        nodes: left,
+    };
     more(alloc, room, n, both, rest)
 }

@@ -13,7 +13,13 @@ pub fn take(tokens: &[Token], sign: Sign) -> Result<&[Token], SyntaxError>
     ensures { MatchResult result (λ r. InFront (λ t. IsSign t sign) tokens.now r.now) (λ _. NoSign sign tokens.now) }
 {
     match tokens {
-        [Token { kind: Kind::Sign(s), .. }, rest @ ..] if *s == sign => Ok(rest),
+        [
+            Token {
+                kind: Kind::Sign(s),
+                ..
+            },
+            rest @ ..,
+        ] if *s == sign => Ok(rest),
         _ => Err(SyntaxError::Refused),
     }
 }
@@ -23,7 +29,14 @@ pub fn name(tokens: &[Token]) -> Result<(&Name, u32, &[Token]), SyntaxError>
     ensures { MatchResult result (λ r. InFront (λ t. IsName t r.0.now × (t.line ≡ r.1)) tokens.now r.2.now) (λ _. NoName tokens.now) }
 {
     match tokens {
-        [Token { kind: Kind::Name(name), line, .. }, rest @ ..] => Ok((name, *line, rest)),
+        [
+            Token {
+                kind: Kind::Name(name),
+                line,
+                ..
+            },
+            rest @ ..,
+        ] => Ok((name, *line, rest)),
         _ => Err(SyntaxError::Refused),
     }
 }
@@ -33,7 +46,13 @@ pub fn keyword(tokens: &[Token]) -> Result<(Keyword, &[Token]), SyntaxError>
     ensures { MatchResult result (λ r. InFront (λ t. IsKeyword t r.0) tokens.now r.1.now) (λ _. NoKeyword tokens.now) }
 {
     match tokens {
-        [Token { kind: Kind::Keyword(word), .. }, rest @ ..] => Ok((*word, rest)),
+        [
+            Token {
+                kind: Kind::Keyword(word),
+                ..
+            },
+            rest @ ..,
+        ] => Ok((*word, rest)),
         _ => Err(SyntaxError::Refused),
     }
 }
@@ -43,13 +62,23 @@ fn take_word(tokens: &[Token], word: Keyword) -> Result<&[Token], SyntaxError>
     ensures { MatchResult result (λ r. InFront (λ t. IsKeyword t word) tokens.now r.now) (λ _. NoWord word tokens.now) }
 {
     match tokens {
-        [Token { kind: Kind::Keyword(k), .. }, rest @ ..] if *k == word => Ok(rest),
+        [
+            Token {
+                kind: Kind::Keyword(k),
+                ..
+            },
+            rest @ ..,
+        ] if *k == word => Ok(rest),
         _ => Err(SyntaxError::Refused),
     }
 }
 
 /// The name in front between the keyword and the sign with its line, and the tokens behind them.
-pub fn head(tokens: &[Token], word: Keyword, sign: Sign) -> Result<(&Name, u32, &[Token]), SyntaxError>
+pub fn head(
+    tokens: &[Token],
+    word: Keyword,
+    sign: Sign,
+) -> Result<(&Name, u32, &[Token]), SyntaxError>
     ensures { MatchResult result
         (λ r. IsHead word sign tokens.now r.0.now r.1 r.2.now)
         (λ _. HasNoHead word sign tokens.now) }
@@ -65,7 +94,13 @@ pub fn number(tokens: &[Token]) -> Option<(u64, &[Token])>
     ensures { MatchOption result (NoNumber tokens.now) (λ r. InFront (λ t. IsNumber t r.0) tokens.now r.1.now) }
 {
     match tokens {
-        [Token { kind: Kind::Number(n), .. }, rest @ ..] => Some((*n, rest)),
+        [
+            Token {
+                kind: Kind::Number(n),
+                ..
+            },
+            rest @ ..,
+        ] => Some((*n, rest)),
         _ => None,
     }
 }
@@ -75,7 +110,14 @@ pub fn operator(level: u32, tokens: &[Token]) -> Option<(Operator, u32, &[Token]
     ensures { MatchOption result (NoOperatorOf level tokens.now) (λ r. InFront (λ t. (operator_at level t.kind ≡ Some r.0) × (t.line ≡ r.1)) tokens.now r.2.now) }
 {
     match tokens {
-        [Token { kind: Kind::Sign(Sign::Plus), line, .. }, rest @ ..] if level == 1 => Some((Operator::Add, *line, rest)),
+        [
+            Token {
+                kind: Kind::Sign(Sign::Plus),
+                line,
+                ..
+            },
+            rest @ ..,
+        ] if level == 1 => Some((Operator::Add, *line, rest)),
         _ => None,
     }
 }

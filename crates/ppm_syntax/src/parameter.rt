@@ -20,8 +20,18 @@ fn mode(keyword: Keyword) -> Option<Mode>
         Keyword::Mut => Some(Mode::Mut),
         Keyword::Ref => Some(Mode::Ref),
         Keyword::Int => Some(Mode::Int),
-        Keyword::Array | Keyword::Proc | Keyword::Input | Keyword::Let | Keyword::If | Keyword::Else => None,
-        Keyword::While | Keyword::Call | Keyword::Fork | Keyword::And | Keyword::Split | Keyword::At => None,
+        Keyword::Array
+        | Keyword::Proc
+        | Keyword::Input
+        | Keyword::Let
+        | Keyword::If
+        | Keyword::Else => None,
+        Keyword::While
+        | Keyword::Call
+        | Keyword::Fork
+        | Keyword::And
+        | Keyword::Split
+        | Keyword::At => None,
         Keyword::Into | Keyword::Len | Keyword::Each | Keyword::In | Keyword::Give => None,
     }
 }

@@ -20,17 +20,27 @@ fn statement(alloc: Global, depth: u32, tokens: &[Token]) -> Result<(Stmt, &[Tok
         (λ r. ReadsStatement depth tokens.now (statement_of r.0) r.1.now)
         (IsRefused (HasNoStatement depth tokens.now)) }
 {
-    let room = Room { depth, nodes: NODE_LIMIT };
+    let room = Room {
+        depth,
+        nodes: NODE_LIMIT,
+    };
     let (target, left, rest) = indexed(alloc, room, tokens)?;
     let behind = take(rest, Sign::Assign)?;
     let room = Room { depth, nodes: left };
     let (value, _, end) = level(alloc, room, TOP, behind)?;
     let rest = take(end, Sign::Semicolon)?;
-    Ok((Stmt::Put(target.name, target.line, target.index, value), rest))
+    Ok((
+        Stmt::Put(target.name, target.line, target.index, value),
+        rest,
+    ))
 }
 
 /// The statements in front, and the tokens behind them.
-fn statements(alloc: Global, depth: u32, tokens: &[Token]) -> Result<(Vec<Stmt>, &[Token]), SyntaxError>
+fn statements(
+    alloc: Global,
+    depth: u32,
+    tokens: &[Token],
+) -> Result<(Vec<Stmt>, &[Token]), SyntaxError>
     ensures { MatchResult result
         (λ r. ReadsStatements depth Statements tokens.now (map statement_of r.0.items) r.1.now)
         (IsRefused (HasNoStatements depth Statements tokens.now)) }
@@ -46,7 +56,11 @@ fn statements(alloc: Global, depth: u32, tokens: &[Token]) -> Result<(Vec<Stmt>,
 }
 
 /// The statements of the block in front, and the tokens behind it.
-pub fn block(alloc: Global, depth: u32, tokens: &[Token]) -> Result<(Vec<Stmt>, &[Token]), SyntaxError>
+pub fn block(
+    alloc: Global,
+    depth: u32,
+    tokens: &[Token],
+) -> Result<(Vec<Stmt>, &[Token]), SyntaxError>
     ensures { MatchResult result
         (λ r. ReadsStatements depth Block tokens.now (map statement_of r.0.items) r.1.now)
         (IsRefused (HasNoStatements depth Block tokens.now)) }

@@ -21,7 +21,7 @@ pub indexed-returns-in_err-end : goal.indexed-returns-in_err-end
 indexed-returns-in_err-end t c =
     exit_for _ _ c.from_residual-in_err-end.result c.from_residual-in_err-end.ensures.1
     (close_refused c.args.room.depth c.args.room.nodes c.args.tokens.now c.in_ok-name.rest.now c.in_ok-inside.inside.now _ _ c.in_ok-name.ensures c.in_ok-inside.ensures (omega arith)
-      (expression_of c.in_ok-index.index) c.in_ok-index.left c.in_ok-index.behind.now c.in_ok-index.ensures c.in_err-end.ensures)
+    (expression_of c.in_ok-index.index) c.in_ok-index.left c.in_ok-index.behind.now c.in_ok-index.ensures c.in_err-end.ensures)
 
 -- no first operand can be read
 pub level-returns-in_err-first : goal.level-returns-in_err-first
@@ -62,9 +62,9 @@ pub more-returns : goal.more-returns
 more-returns t c =
     MatchResult-weaker _ c.more.ensures
     (λ r h. again_read c.args.room.depth c.args.room.nodes c.args.n (c.args.n - 1) (expression_of c.args.first) c.args.tokens.now (omega arith) _ _ c.in-Some.rest.now c.in-Some.ensures (omega arith)
-      (expression_of c.in_ok-right.right) c.in_ok-right.left c.in_ok-right.rest.now c.in_ok-right.ensures _ _ _ (rw (c.in_ok-new.ensures.ok, c.in_ok-new-2.ensures.ok) at h))
+    (expression_of c.in_ok-right.right) c.in_ok-right.left c.in_ok-right.rest.now c.in_ok-right.ensures _ _ _ (rw (c.in_ok-new.ensures.ok, c.in_ok-new-2.ensures.ok) at h))
     (λ e h. refused_by e (again_refused c.args.room.depth c.args.room.nodes c.args.n (c.args.n - 1) (expression_of c.args.first) c.args.tokens.now (omega arith) _ _ c.in-Some.rest.now c.in-Some.ensures (omega arith)
-      (expression_of c.in_ok-right.right) c.in_ok-right.left c.in_ok-right.rest.now c.in_ok-right.ensures) (rw (c.in_ok-new.ensures.ok, c.in_ok-new-2.ensures.ok) at h))
+    (expression_of c.in_ok-right.right) c.in_ok-right.left c.in_ok-right.rest.now c.in_ok-right.ensures) (rw (c.in_ok-new.ensures.ok, c.in_ok-new-2.ensures.ok) at h))
 
 pub operand-returns-in-Some : goal.operand-returns-in-Some
 operand-returns-in-Some t c = let h = c.in-Ok.ensures in number_read c.args.room.depth c.args.room.nodes c.args.tokens.now (omega arith) c.in-Some.value _ c.in-Some.rest.now c.in-Some.ensures (rw h.1 (to_z-of_z h.0)) (omega (arith, ints, h.0))

@@ -30,8 +30,9 @@ returns-in_err-next c =
 
 pub commas-preserved : goal.commas-preserved
 commas-preserved c = record {
-    leads = rw c.in_ok-push-2.ensures.items (leads_next c.args.tokens.now _ c.commas.rest.now c.commas.invariant.leads _ c.in-Ok-take.ensures c.in_ok-next.next c.in_ok-next.after.now c.in_ok-next.ensures);
-    few = rw (c.in_ok-push-2.ensures.items, length-append) (omega arith) }
+  leads = rw c.in_ok-push-2.ensures.items (leads_next c.args.tokens.now _ c.commas.rest.now c.commas.invariant.leads _ c.in-Ok-take.ensures c.in_ok-next.next c.in_ok-next.after.now c.in_ok-next.ensures);
+  few = rw (c.in_ok-push-2.ensures.items, length-append) (omega arith);
+}
 
 -- the list is not closed
 pub returns-in_err-end : goal.returns-in_err-end

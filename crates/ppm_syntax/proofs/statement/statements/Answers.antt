@@ -18,8 +18,9 @@ statements-smaller c = let h = statement_shorter c.in_ok-next.ensures.reads in s
 
 pub statements-preserved : goal.statements-preserved
 statements-preserved c = record {
-    leads = rw (c.in_ok-push.ensures.items, mapped_push) (leads_next c.args.depth c.args.tokens.now _ c.statements.rest.now c.statements.invariant.leads _ c.in_ok-next.behind.now c.in_ok-next.ensures.reads);
-    small = rw (c.in_ok-push.ensures.items, mapped_push) (All-push IsSmallStatement _ (statement_of c.in_ok-next.next) c.statements.invariant.small c.in_ok-next.ensures.small) }
+  leads = rw (c.in_ok-push.ensures.items, mapped_push) (leads_next c.args.depth c.args.tokens.now _ c.statements.rest.now c.statements.invariant.leads _ c.in_ok-next.behind.now c.in_ok-next.ensures.reads);
+  small = rw (c.in_ok-push.ensures.items, mapped_push) (All-push IsSmallStatement _ (statement_of c.in_ok-next.next) c.statements.invariant.small c.in_ok-next.ensures.small);
+}
 
 pub returns : goal.returns
 returns c = statements_read c.args.depth c.args.tokens.now _ c.statements.rest.now c.statements.invariant.leads c.in_default.ensures c.statements.invariant.small
