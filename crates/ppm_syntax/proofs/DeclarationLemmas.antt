@@ -1,16 +1,15 @@
 -- From the parts of a declaration to the whole, and the same for what cannot be read.
-use Rattle.std.proofs.Common.{◌≡◌, ℕ, suc, ◌+◌, ◌-◌, ◌≤◌, ◌<◌, List, [], ◌∷◌, ◌++◌, length, refl, sym, ap, subst, arith}
+use Rattle.std.proofs.Common.{◌≡◌, ℕ, ◌-◌, ◌<◌, List, ◌∷◌, subst, arith}
 use Rattle.ppm_syntax.specs.declared.token.Keyword.{Keyword}
 use Rattle.ppm_syntax.specs.declared.token.Keyword.TheVariants as keyword
 use Rattle.ppm_syntax.specs.declared.token.Sign.{Sign}
 use Rattle.ppm_syntax.specs.declared.token.Sign.TheVariants as sign
 use Rattle.ppm_syntax.specs.declared.token.Token.{Token}
 use Rattle.ppm_syntax.specs.declared.tree.Param.{Param}
-use Rattle.ppm_syntax.specs.declared.tree.Array.{Array}
 use Rattle.ppm_syntax.specs.Tree.{Statement, Procedure}
 use Rattle.ppm_syntax.specs.Limits.{IsSmall}
-use Rattle.ppm_syntax.specs.Grammar.{IsName, IsNumber, IsKeyword, IsSign, Part, Parameters, Block, parameters, statements, Derives}
-use Rattle.ppm_syntax.specs.Parsing.{NoName, NoNumber, NoSign, InFront, Reads, ReadsParameters, HasNoParameters, ReadsStatements, HasNoStatements, IsHead, HasNoHead, IsArray, HasNoArray, IsProcedure, HasNoProcedure}
+use Rattle.ppm_syntax.specs.Grammar.{IsKeyword, Parameters, Block, parameters, statements, Derives}
+use Rattle.ppm_syntax.specs.Parsing.{NoName, InFront, Reads, ReadsParameters, HasNoParameters, ReadsStatements, HasNoStatements, IsHead, HasNoHead, HasNoArray, IsProcedure, HasNoProcedure}
 use Rattle.ppm_syntax.proofs.Unique.{same}
 use Rattle.ppm_syntax.proofs.ParameterLemmas.{parameters_at}
 

@@ -1,6 +1,6 @@
 -- From the readings of the parts of an expression to those of the whole, and the same for what cannot be read.
-use Rattle.std.proofs.Common.{◌≡◌, ℕ, zero, suc, ◌+◌, ◌-◌, ◌≤◌, ◌<◌, ◌^◌, pos, List, [], ◌∷◌, refl, sym, ap, subst, arith}
-use Rattle.std.specs.Prelude.{Option, Some, None, ◌⊎◌}
+use Rattle.std.proofs.Common.{◌≡◌, ℕ, suc, ◌-◌, ◌<◌, List, [], ◌∷◌, refl, sym, subst, arith}
+use Rattle.std.specs.Prelude.{Some, None}
 use Rattle.std.proofs.Common.{inl, inr}
 use Rattle.std.proofs.Math.Nat.{eq-or-lt_of_le}
 use Rattle.ppm_syntax.specs.declared.token.Sign.TheVariants as sign
@@ -10,11 +10,11 @@ use Rattle.ppm_syntax.specs.declared.token.Token.{Token}
 use Rattle.ppm_syntax.specs.declared.tree.Operator.{Operator}
 use Rattle.ppm_syntax.specs.Tree.{Expression}
 use Rattle.ppm_syntax.specs.Tree as tree
-use Rattle.ppm_syntax.specs.Limits.{nodes_of, HasLiterals}
+use Rattle.ppm_syntax.specs.Limits.{HasLiterals}
 use Rattle.ppm_syntax.specs.Grammar.{binary_of, of_level, operator_at, top, IsName, IsNumber, IsSign, Part, Level, More, expression, Derives}
 use Rattle.ppm_syntax.specs.Grammar as g
-use Rattle.ppm_syntax.specs.Parsing.{NoOperator, NoOperatorOf, NoName, NoNumber, NoSign, InFront, Ends, Reads, ReadsExpression, HasNoExpression, IsIndexed, ReadsIndexed, HasNoIndexed}
-use Rattle.ppm_syntax.proofs.Unique.{stopped, operand_ends, ends_at_close, one_reading}
+use Rattle.ppm_syntax.specs.Parsing.{NoOperator, NoOperatorOf, InFront, Reads, ReadsExpression, HasNoExpression}
+use Rattle.ppm_syntax.proofs.Unique.{stopped, operand_ends, one_reading}
 use Rattle.ppm_syntax.proofs.GrammarLemmas.{more_nodes, more_literals}
 
 -- no operator has level 0

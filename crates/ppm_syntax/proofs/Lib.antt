@@ -15,3 +15,6 @@ pub mod OperandLemmas
 pub mod StatementLemmas
 pub mod ParameterLemmas
 pub mod DeclarationLemmas
+pub mod LimitsLemmas
+pub mod ItemLemmas
+pub mod AddingLemmas

@@ -1,13 +1,12 @@
 -- From a number, or a name and its index, to an operand, and the same for what cannot be read.
-use Rattle.std.proofs.Common.{◌≡◌, ℕ, zero, suc, ◌+◌, ◌-◌, ◌≤◌, ◌<◌, ◌^◌, ℤ, pos, List, [], ◌∷◌, refl, sym, ap, subst, arith}
+use Rattle.std.proofs.Common.{◌≡◌, ℕ, ◌-◌, ◌<◌, ◌^◌, ℤ, pos, List, ◌∷◌, refl, subst, arith}
 use Rattle.ppm_syntax.specs.declared.token.Sign.TheVariants as sign
 use Rattle.ppm_syntax.specs.declared.token.Token.{Token}
 use Rattle.ppm_syntax.specs.Tree.{Expression}
 use Rattle.ppm_syntax.specs.Tree as tree
-use Rattle.ppm_syntax.specs.Limits.{nodes_of, HasLiterals}
 use Rattle.ppm_syntax.specs.Grammar.{top, IsName, IsNumber, IsSign, Part, Level, expression, Derives}
 use Rattle.ppm_syntax.specs.Grammar as g
-use Rattle.ppm_syntax.specs.Parsing.{NoName, NoNumber, NoSign, InFront, Reads, ReadsExpression, HasNoExpression, IsIndexed, ReadsIndexed, HasNoIndexed}
+use Rattle.ppm_syntax.specs.Parsing.{NoNumber, NoSign, InFront, Reads, ReadsExpression, HasNoExpression, IsIndexed, ReadsIndexed, HasNoIndexed}
 use Rattle.ppm_syntax.proofs.Unique.{ends_at_close, one_reading}
 use Rattle.ppm_syntax.proofs.ExpressionLemmas.{operand_stops}
 

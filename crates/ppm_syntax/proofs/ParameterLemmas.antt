@@ -1,5 +1,5 @@
 -- From the readings of parameters to that of their list, and the same for what cannot be read.
-use Rattle.std.proofs.Common.{◌≡◌, ℕ, suc, ◌+◌, ◌≤◌, ◌<◌, List, [], ◌∷◌, ◌++◌, length, refl, sym, ap, subst, arith, append_assoc, length-append}
+use Rattle.std.proofs.Common.{◌≡◌, ℕ, ◌≤◌, ◌<◌, List, [], ◌∷◌, ◌++◌, length, refl, sym, ap, subst, arith, append_assoc, length-append}
 use Rattle.std.specs.Prelude.{Some}
 use Rattle.std.proofs.lemmas.List.{append-nil}
 use Rattle.ppm_syntax.specs.declared.token.Sign.TheVariants as sign
@@ -10,8 +10,8 @@ use Rattle.ppm_syntax.specs.declared.tree.Param.{Param}
 use Rattle.ppm_syntax.specs.Limits.{parameter_limit}
 use Rattle.ppm_syntax.specs.Grammar.{IsName, IsKeyword, IsSign, mode_of, Parameter, Parameters, MoreParameters, Node, parameter, parameters, Derives}
 use Rattle.ppm_syntax.specs.Grammar as g
-use Rattle.ppm_syntax.specs.Parsing.{NoSign, HasSign, InFront, Reads, HasNoParameter, ReadsParameters, HasNoParameters}
-use Rattle.ppm_syntax.proofs.Unique.{begins_with_keyword, same}
+use Rattle.ppm_syntax.specs.Parsing.{NoSign, HasSign, InFront, HasNoParameter, ReadsParameters, HasNoParameters}
+use Rattle.ppm_syntax.proofs.Unique.{same}
 
 -- parameters have no openings
 parameter_at : {d : ℕ} (e : ℕ) {p : Param} {ts rest : List Token} → Derives d Parameter ts (parameter p) rest → Derives e Parameter ts (parameter p) rest

@@ -1,5 +1,5 @@
 -- From the readings of the parts of a statement or a block to those of the whole, and the same for what cannot be read.
-use Rattle.std.proofs.Common.{◌≡◌, ℕ, suc, ◌+◌, ◌-◌, ◌≤◌, ◌<◌, List, [], ◌∷◌, ◌++◌, map, refl, sym, ◌∙◌, ap, subst, arith, append_assoc}
+use Rattle.std.proofs.Common.{◌≡◌, ℕ, suc, ◌-◌, ◌<◌, List, [], ◌∷◌, ◌++◌, map, refl, sym, subst, arith, append_assoc}
 use Rattle.std.specs.List.{All}
 use Rattle.std.proofs.lemmas.List.{append-nil, map-append}
 use Rattle.std.proofs.lemmas.List.Elements.{All-head, All-tail}
@@ -8,7 +8,7 @@ use Rattle.ppm_syntax.specs.declared.token.Token.{Token}
 use Rattle.ppm_syntax.specs.declared.tree.Stmt.{Stmt}
 use Rattle.ppm_syntax.specs.Tree.{Expression, Statement, statement_of}
 use Rattle.ppm_syntax.specs.Tree as tree
-use Rattle.ppm_syntax.specs.Limits.{nodes_of, node_limit, HasLiterals, IsSmallStatement}
+use Rattle.ppm_syntax.specs.Limits.{node_limit, IsSmallStatement}
 use Rattle.ppm_syntax.specs.Grammar.{top, IsName, IsSign, Part, Level, OneStatement, Statements, Block, expression, statement, statements, Derives}
 use Rattle.ppm_syntax.specs.Grammar as g
 use Rattle.ppm_syntax.specs.Parsing.{NoName, NoSign, InFront, Reads, ReadsExpression, HasNoExpression, IsIndexed, ReadsIndexed, HasNoIndexed}

@@ -1,15 +1,9 @@
 -- Tokens have one tree at most: what a part reads as far as it goes is determined by the tokens.
-use Rattle.std.proofs.Common.{◌≡◌, ℕ, zero, suc, ◌+◌, ◌≤◌, ◌<◌, List, [], ◌∷◌, refl, sym, ◌∙◌, ap, subst, arith, pos}
-use Rattle.std.specs.Prelude.{Option, Some, None, ◌==◌, cond}
-use Rattle.ppm_syntax.specs.declared.token.Keyword.{Keyword}
-use Rattle.ppm_syntax.specs.declared.token.Keyword.TheVariants as word
-use Rattle.ppm_syntax.specs.declared.token.Sign.{Sign}
+use Rattle.std.proofs.Common.{◌≡◌, ℕ, suc, ◌<◌, List, [], ◌∷◌, refl, sym, subst, arith}
+use Rattle.std.specs.Prelude.{Option, Some, None}
 use Rattle.ppm_syntax.specs.declared.token.Sign.TheVariants as sign
-use Rattle.ppm_syntax.specs.declared.token.Kind.{Kind}
-use Rattle.ppm_syntax.specs.declared.token.Kind.TheVariants as kind
 use Rattle.ppm_syntax.specs.declared.token.Token.{Token}
 use Rattle.ppm_syntax.specs.declared.tree.Operator.{Operator}
-use Rattle.ppm_syntax.specs.declared.tree.Mode.{Mode}
 use Rattle.ppm_syntax.specs.declared.tree.Param.{Param}
 use Rattle.ppm_syntax.specs.declared.tree.Array.{Array}
 use Rattle.ppm_syntax.specs.Tree.{Expression, Statement, Procedure, SourceTree}
@@ -132,9 +126,11 @@ one_reading r r' = same r.derived r.ends r'.derived r'.ends
 tree_with : List Array → List Procedure → SourceTree
 tree_with arrays procs = record { arrays = arrays; procs = procs }
 
+-- two trees with the same parts
+pub same_tree : (t u : SourceTree) → t.arrays ≡ u.arrays → t.procs ≡ u.procs → t ≡ u
+unfolding tree_with
+same_tree t u arrays procs = let e : tree_with t.arrays t.procs ≡ tree_with u.arrays u.procs = cc in e
+
 -- tokens have one tree at most
 pub one_tree : {d e : ℕ} {ts : List Token} (t u : SourceTree) → DerivesTree d ts t → DerivesTree e ts u → t ≡ u
-unfolding tree_with
-one_tree t u r r' =
-    let s = same r tt r' tt in
-    let joined : tree_with t.arrays t.procs ≡ tree_with u.arrays u.procs = cc s.0 in joined
+one_tree t u r r' = let s = same r tt r' tt in same_tree t u (cc s.0) (cc s.0)

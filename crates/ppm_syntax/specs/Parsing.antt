@@ -1,5 +1,5 @@
 -- What the parser's functions answer: how far a part goes, and which readings a refusal rules out.
-use Rattle.std.specs.Prelude.{◌≡◌, ℕ, suc, ◌+◌, ◌≤◌, List, [], ◌∷◌, length, None}
+use Rattle.std.specs.Prelude.{◌≡◌, ℕ, suc, ◌+◌, ◌≤◌, List, [], ◌∷◌, ◌++◌, length, map, None}
 use Rattle.std.specs.List.{All}
 use Rattle.ppm_syntax.specs.declared.token.Keyword.{Keyword}
 use Rattle.ppm_syntax.specs.declared.token.Keyword.TheVariants as keyword
@@ -10,10 +10,10 @@ use Rattle.ppm_syntax.specs.declared.tree.Param.{Param}
 use Rattle.ppm_syntax.specs.declared.tree.Array.{Array}
 use Rattle.ppm_syntax.specs.declared.syntax_error.SyntaxError.{SyntaxError}
 use Rattle.ppm_syntax.specs.declared.syntax_error.SyntaxError.TheVariants as error
-use Rattle.ppm_syntax.specs.Tree.{Expression, Statement, Procedure}
+use Rattle.ppm_syntax.specs.declared.parsing.Declared.{Declared}
+use Rattle.ppm_syntax.specs.Tree.{Expression, Statement, Procedure, SourceTree, procedure_of}
 use Rattle.ppm_syntax.specs.Grammar.{Part, Level, More, OneStatement, Statements, Block, Parameter, Parameters, MoreParameters, Source, Node, Derives, operator_at, top, IsName, IsNumber, IsKeyword, IsSign, expression, statement, statements, parameter, parameters}
-use Rattle.ppm_syntax.specs.Grammar as grammar
-use Rattle.ppm_syntax.specs.Limits.{nodes_of, HasLiterals, IsSmallStatement, IsSmall, parameter_limit}
+use Rattle.ppm_syntax.specs.Limits.{nodes_of, HasLiterals, IsSmallStatement, IsSmall, IsWithin, words_of, parameter_limit, word_limit, depth_limit}
 
 -- no operator of a level up to n stands in front
 abbrev pub NoOperator : ℕ → List Token → Type 0
@@ -199,3 +199,46 @@ pub record IsProcedure (d : ℕ) (ts : List Token) (p : Procedure) (rest : List 
 -- no procedure within the limits can be read
 pub record HasNoProcedure (d : ℕ) (ts : List Token) : Type 0 where
   pub none : (p : Procedure) (rest : List Token) → IsProcedure d ts p rest → IsSmall p → ⊥
+
+-- a declaration
+pub data Item : Type 0 where
+  an_array : Array → Item
+  a_procedure : Procedure → Item
+
+-- the tokens begin with the declaration
+abbrev pub IsItem : ℕ → List Token → Item → List Token → Type 0
+IsItem d ts (an_array a) rest = IsArray ts a rest
+IsItem d ts (a_procedure p) rest = IsProcedure d ts p rest
+
+-- a tree with one more declaration at its end
+abbrev pub with_item : SourceTree → Item → SourceTree
+with_item t (an_array a) = record { arrays = t.arrays ++ (a ∷ []); procs = t.procs }
+with_item t (a_procedure p) = record { arrays = t.arrays; procs = t.procs ++ (p ∷ []) }
+
+-- the tree of what is declared so far
+abbrev pub tree_so_far : Declared → SourceTree
+tree_so_far s = record { arrays = s.arrays.items; procs = map procedure_of s.procs.items }
+
+-- what is declared so far passes none of the limits, and so many array words are left
+pub record IsSoFar (s : Declared) : Type 0 where
+  pub within : IsWithin (tree_so_far s)
+  pub words : words_of s.arrays.items + s.words ≡ word_limit
+
+-- one more declaration is read, and all are within the limits
+pub record AddsItem (ts : List Token) (old new : Declared) (rest : List Token) : Type 0 where
+  pub item : Item
+  pub reads : IsItem depth_limit ts item rest
+  pub tree : tree_so_far new ≡ with_item (tree_so_far old) item
+  pub so_far : IsSoFar new
+
+-- no further declaration of an array within the limits can be read
+pub record HasNoFurtherArray (ts : List Token) (t : SourceTree) : Type 0 where
+  pub none : (a : Array) (rest : List Token) → IsArray ts a rest → IsWithin (with_item t (an_array a)) → ⊥
+
+-- no further procedure within the limits can be read
+pub record HasNoFurtherProcedure (ts : List Token) (t : SourceTree) : Type 0 where
+  pub none : (p : Procedure) (rest : List Token) → IsProcedure depth_limit ts p rest → IsWithin (with_item t (a_procedure p)) → ⊥
+
+-- no further declaration within the limits can be read
+pub record HasNoFurtherItem (ts : List Token) (t : SourceTree) : Type 0 where
+  pub none : (i : Item) (rest : List Token) → IsItem depth_limit ts i rest → IsWithin (with_item t i) → ⊥

@@ -58,7 +58,7 @@ pub fn keyword(tokens: &[Token]) -> Result<(Keyword, &[Token]), SyntaxError>
 }
 
 /// The tokens behind the keyword.
-fn take_word(tokens: &[Token], word: Keyword) -> Result<&[Token], SyntaxError>
+pub fn take_word(tokens: &[Token], word: Keyword) -> Result<&[Token], SyntaxError>
     ensures { MatchResult result (λ r. InFront (λ t. IsKeyword t word) tokens.now r.now) (λ _. NoWord word tokens.now) }
 {
     match tokens {

@@ -1,4 +1,3 @@
-use Rattle.std.proofs.Common.{rules, arith, ◌≡◌}
 use Rattle.ppm_syntax.proofs.Refusals.{exit_for}
 use Rattle.ppm_syntax.proofs.DeclarationLemmas.{array_head_refused}
 use Rattle.ppm_syntax.proofs.declaration.array.Goals as goal

@@ -1,8 +1,13 @@
-use Rattle.std.proofs.Common.{rules, arith, ◌≡◌}
+use Rattle.std.proofs.Common.{arith}
 use Rattle.ppm_syntax.proofs.Refusals.{exit_by, exit_for}
-use Rattle.ppm_syntax.proofs.DeclarationLemmas.{params_refused, body_refused, procedure_read}
+use Rattle.ppm_syntax.proofs.DeclarationLemmas.{procedure_head_refused, params_refused, body_refused, procedure_read}
 use Rattle.ppm_syntax.specs.Limits.{depth_limit}
 use Rattle.ppm_syntax.proofs.declaration.procedure.Goals as goal
+
+-- no keyword, name and parenthesis stand in front
+pub returns-in_err-name : goal.returns-in_err-name
+returns-in_err-name c =
+    exit_for _ _ c.from_residual.result c.from_residual.ensures.1 (procedure_head_refused depth_limit c.args.tokens.now c.in_err-name.ensures)
 
 -- no parameters can be read
 pub returns-in_err-params : goal.returns-in_err-params

@@ -1,4 +1,4 @@
-use Rattle.std.proofs.Common.{rules, arith, ◌≡◌, ◌-◌, ◌≤◌, MatchResult, ℕ, ◌+◌, ◌*◌, ◌<◌, length, ap, refl}
+use Rattle.std.proofs.Common.{rules, arith, ◌-◌, length, ap}
 use Rattle.std.proofs.lemmas.Result.{MatchResult-weaker}
 use Rattle.std.proofs.Math.Facts.{to_z-of_z}
 use Rattle.std.proofs.lemmas.Int.{ints}

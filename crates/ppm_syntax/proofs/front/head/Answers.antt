@@ -1,4 +1,3 @@
-use Rattle.std.proofs.Common.{rules, arith, ◌≡◌}
 use Rattle.std.proofs.lemmas.Result.{err_from_is_err_and}
 use Rattle.ppm_syntax.proofs.DeclarationLemmas.{name_refused}
 use Rattle.ppm_syntax.proofs.front.head.Goals as goal

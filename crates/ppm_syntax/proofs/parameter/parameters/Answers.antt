@@ -1,6 +1,6 @@
-use Rattle.std.proofs.Common.{rules, arith, ◌≡◌, ◌++◌, [], ◌∷◌, length, ap, ◌∙◌, length-append}
+use Rattle.std.proofs.Common.{arith, ◌++◌, [], ◌∷◌, ap, ◌∙◌, length-append}
 use Rattle.ppm_syntax.proofs.Refusals.{exit_by, exit_for}
-use Rattle.ppm_syntax.proofs.ParameterLemmas.{empty_read, first_refused, leads_first, too_many, next_refused, leads_next, end_refused, parameters_read, parameter_shorter}
+use Rattle.ppm_syntax.proofs.ParameterLemmas.{empty_read, first_refused, leads_first, too_many, next_refused, leads_next, end_refused, parameters_read}
 use Rattle.ppm_syntax.proofs.parameter.parameters.Goals as goal
 
 -- there are none

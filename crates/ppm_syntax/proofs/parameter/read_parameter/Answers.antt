@@ -1,4 +1,3 @@
-use Rattle.std.proofs.Common.{rules, arith, ◌≡◌}
 use Rattle.ppm_syntax.proofs.ParameterLemmas.{parameter_read}
 use Rattle.ppm_syntax.proofs.parameter.read_parameter.Goals as goal
 

@@ -1,5 +1,4 @@
-use Rattle.std.proofs.Common.{rules, arith, ◌≡◌, map}
-use Rattle.ppm_syntax.specs.Tree.{statement_of}
+use Rattle.std.proofs.Common.{arith}
 use Rattle.ppm_syntax.proofs.Refusals.{exit_by, exit_for}
 use Rattle.ppm_syntax.proofs.StatementLemmas.{statements_refused, brace_refused, block_read}
 use Rattle.ppm_syntax.proofs.statement.block.Goals as goal

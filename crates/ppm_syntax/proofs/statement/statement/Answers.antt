@@ -1,5 +1,3 @@
-use Rattle.std.proofs.Common.{rules, arith, ◌≡◌}
-use Rattle.ppm_syntax.specs.Tree.{expression_of}
 use Rattle.ppm_syntax.proofs.Refusals.{exit_by, exit_for}
 use Rattle.ppm_syntax.proofs.StatementLemmas.{target_refused, equals_refused, value_refused, semicolon_refused, assignment_read}
 use Rattle.ppm_syntax.proofs.statement.statement.Goals as goal

@@ -1,10 +1,10 @@
-use Rattle.std.proofs.Common.{rules, arith, ◌≡◌, length, map}
+use Rattle.std.proofs.Common.{rules}
 use Rattle.std.proofs.lemmas.List.Elements.{All-push}
 use Rattle.ppm_syntax.specs.Tree.{statement_of}
 use Rattle.ppm_syntax.specs.Limits.{IsSmallStatement}
-use Rattle.ppm_syntax.proofs.Refusals.{exit_by, exit_for}
+use Rattle.ppm_syntax.proofs.Refusals.{exit_by}
 use Rattle.ppm_syntax.proofs.GrammarLemmas.{statement_shorter}
-use Rattle.ppm_syntax.proofs.StatementLemmas.{leads_first, leads_next, mapped_push, next_refused, statements_read}
+use Rattle.ppm_syntax.proofs.StatementLemmas.{leads_next, mapped_push, next_refused, statements_read}
 use Rattle.ppm_syntax.proofs.statement.statements.Goals as goal
 
 -- a name stands in front, and no statement

@@ -1,7 +1,6 @@
-use Rattle.std.proofs.Common.{◌≡◌, ◌++◌, List, length, map}
+use Rattle.std.proofs.Common.{length, map}
 use Rattle.std.specs.List.{All}
-use Rattle.ppm_syntax.specs.declared.token.Token.{Token}
-use Rattle.ppm_syntax.specs.Tree.{Statement, statement_of}
+use Rattle.ppm_syntax.specs.Tree.{statement_of}
 use Rattle.ppm_syntax.specs.Limits.{IsSmallStatement}
 use Rattle.ppm_syntax.proofs.StatementLemmas.{LeadsTo}
 use Rattle.ppm_syntax.proofs.statement.statements.Given as goal
