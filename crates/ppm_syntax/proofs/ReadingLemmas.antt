@@ -19,7 +19,7 @@ use Rattle.ppm_syntax.proofs.Unique.{one_tree}
 -- a text that the scanner refuses has no tree
 no_tokens : (text : List ℕ) (e : TextError) → IsRefused text e → (e ≡ error.NoMemory → ⊥) → HasNoTree text
 no_tokens text e (too_long long) other t h = absurd (omega (arith, long, h.short))
-no_tokens text e (faulty short fault) other t h = fault_refuses fault h.tokens h.cut
+no_tokens text e (faulty short fault) other t h = fault_refuses fault h.tree.tokens h.tree.cut
 no_tokens text e (no_memory short) other t h = absurd (other refl)
 
 pub refused_text : (text : List ℕ) (e : TextError) → IsRefused text e → HasReason text (of_text e)
@@ -32,18 +32,16 @@ refused_text text error.NoMemory r = tt
 
 -- tokens from which no tree is derived
 pub no_derivation : (text : List ℕ) (ts : List Token) → IsTextOf text ts → ((t : SourceTree) → DerivesTree depth_limit ts t → IsWithin t → ⊥) → HasNoTree text
-no_derivation text ts cut none t h = none t (subst (λ us. DerivesTree depth_limit us t) (one_cutting h.cut cut) h.derived) h.within
+no_derivation text ts cut none t h = none t (subst (λ us. DerivesTree depth_limit us t) (one_cutting h.tree.cut cut) h.tree.derived) h.within
 
 pub refused_tokens : (text : List ℕ) (ts : List Token) (e : SyntaxError) → IsTextOf text ts → (e ≡ syntax_error.Refused → (t : SourceTree) → DerivesTree depth_limit ts t → IsWithin t → ⊥) → HasReason text (of_syntax e)
 refused_tokens text ts syntax_error.Refused cut none = no_derivation text ts cut (none refl)
 refused_tokens text ts syntax_error.NoMemory cut none = tt
 
--- a tree that breaks a rule
-pub not_admitted : (text : List ℕ) (u : SourceTree) → IsDerived text u → (IsAdmitted u → ⊥) → HasNoTree text
-not_admitted text u d broken t h =
-    let again = subst (λ us. DerivesTree depth_limit us t) (one_cutting h.cut d.cut) h.derived in
-    broken (subst IsAdmitted (one_tree t u again d.derived) h.admitted)
-
 -- a text has at most one tree
 pub have_one_tree : HaveOneTree
-have_one_tree text t u h k = one_tree t u (subst (λ us. DerivesTree depth_limit us t) (one_cutting h.cut k.cut) h.derived) k.derived
+have_one_tree d e text t u h k = one_tree t u (subst (λ ts. DerivesTree d ts t) (one_cutting h.cut k.cut) h.derived) k.derived
+
+-- a tree that breaks a rule
+pub not_admitted : (text : List ℕ) (u : SourceTree) → IsDerived text u → (IsAdmitted u → ⊥) → HasNoTree text
+not_admitted text u derived broken t h = broken (subst IsAdmitted (have_one_tree depth_limit depth_limit text t u h.tree derived.tree) h.admitted)

@@ -3,12 +3,10 @@ use Rattle.std.specs.Prelude.{◌≡◌, ℕ, ◌≤◌, List, length}
 use Rattle.std.specs.List.{Contains}
 use Rattle.ppm_syntax.specs.declared.tree.Array.{Array}
 use Rattle.ppm_syntax.specs.declared.tree.Param.{Param}
-use Rattle.ppm_syntax.specs.declared.token.Token.{Token}
 use Rattle.ppm_syntax.specs.Tree.{SourceTree}
-use Rattle.ppm_syntax.specs.Cutting.{IsTextOf}
-use Rattle.ppm_syntax.specs.Grammar.{DerivesTree}
 use Rattle.ppm_syntax.specs.Limits.{text_limit, depth_limit}
 use Rattle.ppm_syntax.specs.Rules.{IsRegion}
+use Rattle.ppm_syntax.specs.Correct.{IsTreeOf}
 
 -- some element is such a one
 abbrev pub HasOne : {A : Type 0} → (A → Type 0) → List A → Type 0
@@ -26,6 +24,4 @@ pub record IsMainParam (arrays : List Array) (q : Param) : Type 0 where
 -- a text within the limit has this tree by the grammar
 pub record IsDerived (text : List ℕ) (t : SourceTree) : Type 0 where
   pub short : length text ≤ text_limit
-  pub tokens : List Token
-  pub cut : IsTextOf text tokens
-  pub derived : DerivesTree depth_limit tokens t
+  pub tree : IsTreeOf depth_limit text t

@@ -31,3 +31,6 @@ pub use reading::read_source;
 pub use source::{Admitted, Source};
 pub use source_error::SourceError;
 pub use tree::{Array, Expr, Mode, Operator, Param, Proc, Stmt, Tree};
+
+#[cfg(test)]
+mod tests;
