@@ -7,12 +7,16 @@ use Rattle.ppm_syntax.specs.Grammar.{DerivesTree}
 use Rattle.ppm_syntax.specs.Limits.{text_limit, depth_limit, IsWithin}
 use Rattle.ppm_syntax.specs.Rules.{IsAdmitted}
 
+-- by the grammar the text has this tree, with at most so many openings open at a time
+pub record IsTreeOf (depth : ℕ) (text : List ℕ) (t : SourceTree) : Type 0 where
+  pub tokens : List Token
+  pub cut : IsTextOf text tokens
+  pub derived : DerivesTree depth tokens t
+
 -- the text has this tree, which passes none of the limits and keeps the rules
 pub record HasTree (text : List ℕ) (t : SourceTree) : Type 0 where
   pub short : length text ≤ text_limit
-  pub tokens : List Token
-  pub cut : IsTextOf text tokens
-  pub derived : DerivesTree depth_limit tokens t
+  pub tree : IsTreeOf depth_limit text t
   pub within : IsWithin t
   pub admitted : IsAdmitted t
 
@@ -20,6 +24,6 @@ pub record HasTree (text : List ℕ) (t : SourceTree) : Type 0 where
 abbrev pub HasNoTree : List ℕ → Type 0
 HasNoTree text = (t : SourceTree) → HasTree text t → ⊥
 
--- a text has at most one such tree
+-- by the grammar a text has at most one tree, however deep
 abbrev pub HaveOneTree : Type 0
-HaveOneTree = (text : List ℕ) (t u : SourceTree) → HasTree text t → HasTree text u → t ≡ u
+HaveOneTree = (d e : ℕ) (text : List ℕ) (t u : SourceTree) → IsTreeOf d text t → IsTreeOf e text u → t ≡ u

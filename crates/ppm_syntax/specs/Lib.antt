@@ -10,3 +10,4 @@ pub mod Meaning
 pub mod Parsing
 pub mod Correct
 pub mod Deciding
+pub mod Refusals

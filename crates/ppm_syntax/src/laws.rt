@@ -2,7 +2,7 @@
 ghost use Rattle.ppm_syntax.specs.Correct.{HaveOneTree};
 ghost use Rattle.ppm_syntax.specs.Meaning.{MoreTurnsKeep};
 
-/// A text has at most one tree.
+/// By the grammar a text has at most one tree.
 pub fn have_one_tree()
     ensures law { HaveOneTree }
 {}

@@ -18,6 +18,7 @@ mod reading;
 mod rules;
 mod scan;
 mod source;
+mod source_error;
 mod spelling;
 mod statement;
 mod syntax_error;
@@ -26,6 +27,10 @@ mod token;
 mod tree;
 
 pub use laws::{have_one_tree, more_turns_keep};
-pub use reading::{SourceError, read_source};
+pub use reading::read_source;
 pub use source::{Admitted, Source};
+pub use source_error::SourceError;
 pub use tree::{Array, Expr, Mode, Operator, Param, Proc, Stmt, Tree};
+
+#[cfg(test)]
+mod tests;

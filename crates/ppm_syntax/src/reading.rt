@@ -1,29 +1,44 @@
 //! From a text to its admitted tree.
-ghost use Rattle.std.specs.Prelude.{◌≡◌, IfOk};
+ghost use Rattle.std.specs.Prelude.{◌≡◌, Err, IfOk, MatchResult};
 ghost use Rattle.ppm_syntax.specs.Tree.{tree_of};
 ghost use Rattle.ppm_syntax.specs.Correct.{HasTree, HasNoTree};
+ghost use Rattle.ppm_syntax.specs.Deciding.{IsDerived};
+ghost use Rattle.ppm_syntax.specs.Refusals.{HasReason};
 
-use crate::source::Admitted;
+use crate::opening::opening_input;
+use crate::parsing::parse;
+use crate::rules::is_admitted;
+use crate::scan::tokens;
+use crate::source::{Admitted, Source};
+use crate::source_error::SourceError;
 use std::alloc::Global;
-use thiserror::Error;
 
-/// Why a text has no admitted tree.
-#[derive(Clone, Copy, Debug, PartialEq, Eq, Error)]
-pub enum SourceError {
-    /// The text passes its limit, has no tree of the grammar within the limits, or breaks a rule.
-    #[error("source refused")]
-    Refused,
-    /// Memory was refused.
-    #[error("out of memory")]
-    NoMemory,
+/// The tree of a text within the limits.
+fn derive(alloc: Global, text: &[u8]) -> Result<Source, SourceError>
+    ensures { MatchResult result (λ s. IsDerived text.now (tree_of s)) (HasReason text.now) }
+{
+    let all = tokens(alloc, text)?;
+    let source = parse(alloc, &all)?;
+    Ok(source)
 }
 
 /// The admitted tree of a text.
+fn admit(alloc: Global, text: &[u8]) -> Result<Admitted, SourceError>
+    ensures { MatchResult result (λ a. HasTree text.now (tree_of a)) (HasReason text.now) }
+{
+    let source = derive(alloc, text)?;
+    if !is_admitted(source.tree()) {
+        return Err(SourceError::Refused);
+    }
+    let input = opening_input(alloc, &source)?;
+    Ok(Admitted::from_parts(source, input))
+}
+
+/// The admitted tree of a text: one of the grammar, within the limits and by the rules. `Refused` exactly where the
+/// text has none.
 pub fn read_source(alloc: Global, text: &[u8]) -> Result<Admitted, SourceError>
     ensures tree { IfOk result (λ a. HasTree text.now (tree_of a)) }
     ensures refused { result ≡ Err SourceError.Refused → HasNoTree text.now }
 {
-    let _ = alloc;
-    let _ = text;
-    Err(SourceError::NoMemory)
+    admit(alloc, text)
 }

@@ -23,3 +23,6 @@ pub use answer::Answer;
 pub use command::Command;
 pub use status::Status;
 pub use top::ppm;
+
+#[cfg(test)]
+mod tests;

@@ -9,5 +9,5 @@ returns-in-Err-Refused c t has fits = c.read_source.ensures.refused (cc) t has
 -- the text's one tree takes too many capsules
 pub returns-in-Err-TooManyCapsules : goal.returns-in-Err-TooManyCapsules
 returns-in-Err-TooManyCapsules c t has fits =
-    let same = c.have_one_tree.ensures.law _ _ _ has c.in-Ok.ensures.tree in
+    let same = c.have_one_tree.ensures.law _ _ _ _ _ has.tree c.in-Ok.ensures.tree.tree in
     c.outcome_of.ensures.too_many (cc) (subst FitsCode same fits)
