@@ -14,12 +14,14 @@ use Rattle.ppm_syntax.proofs.Unique.{same_tree}
 use Rattle.ppm_syntax.proofs.LimitsLemmas.{words-append, all_behind}
 
 module _ (ts : List Token) (old : Declared) (so_far : IsSoFar old) where
+  -- without an array nothing more is declared
   pub array_refused : HasNoArray old.words ts → HasNoFurtherArray ts (tree_so_far old)
   array_refused h = record {
     none = λ a rest r within.
         h.none a rest r (omega (arith, so_far.words, rw words-append at within.words));
   }
 
+  -- an array more is declared
   pub array_added : (a : Array) (rest : List Token) (new : Declared) → IsArray ts a rest → length old.arrays.items < array_limit →
       a.length + new.words ≡ old.words →
       new.arrays.items ≡ old.arrays.items ++ (a ∷ []) → new.procs.items ≡ old.procs.items → AddsItem ts old new rest
@@ -40,12 +42,14 @@ module _ (ts : List Token) (old : Declared) (so_far : IsSoFar old) where
         };
       }
 
+  -- without a procedure nothing more is declared
   pub procedure_refused : HasNoProcedure depth_limit ts → HasNoFurtherProcedure ts (tree_so_far old)
   procedure_refused h = record {
     none = λ p rest r within.
         h.none p rest r (All-head IsSmall p [] (all_behind IsSmall (map procedure_of old.procs.items) (p ∷ []) within.small));
   }
 
+  -- a procedure more is declared
   pub procedure_added : (p : Proc) (rest : List Token) (new : Declared) → IsProcedure depth_limit ts (procedure_of p) rest →
       IsSmall (procedure_of p) → length old.procs.items < procedure_limit →
       new.words ≡ old.words → new.arrays.items ≡ old.arrays.items → new.procs.items ≡ old.procs.items ++ (p ∷ []) → AddsItem ts old new rest

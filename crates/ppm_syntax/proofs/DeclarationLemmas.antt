@@ -30,9 +30,11 @@ name_refused w s ts behind front none = record {
       let shape : behind ≡ h.name ∷ h.opened ∷ rest = cc (front.shape, h.shape) in (rw shape at none) x h.is_name;
 }
 
+-- without its head there is no array
 pub array_head_refused : (words : ℕ) (ts : List Token) → HasNoHead keyword.Array sign.OpenBracket ts → HasNoArray words ts
 array_head_refused words ts h = record { none = λ a rest r small. h.none a.name a.line _ r.head }
 
+-- nor a procedure
 pub procedure_head_refused : (d : ℕ) (ts : List Token) → HasNoHead keyword.Proc sign.OpenParen ts → HasNoProcedure d ts
 procedure_head_refused d ts h = record { none = λ p rest r small. h.none p.name p.line r.inside r.head }
 
@@ -44,10 +46,12 @@ module _ (d : ℕ) (ts inside : List Token) (x : List ℕ) (line : ℕ) (head : 
       let o = one_head r.head head in
       record { derived = subst (λ w. Derives 0 Parameters w (parameters p.params) (r.closed ∷ r.behind)) o.3 (parameters_at 0 r.params); ends = r.is_closed }
 
+  -- without parameters there is no procedure
   pub params_refused : HasNoParameters inside → HasNoProcedure d ts
   params_refused h = record { none = λ p rest r small. h.none p.params (r.closed ∷ r.behind) (params_of r) small.parameters }
 
   module _ (ps : List Param) (behind : List Token) (params : ReadsParameters inside ps behind) where
+    -- without a body there is no procedure
     pub body_refused : HasNoStatements d Block behind → HasNoProcedure d ts
     body_refused h = record {
       none = λ p rest r small.
@@ -57,6 +61,7 @@ module _ (d : ℕ) (ts inside : List Token) (x : List ℕ) (line : ℕ) (head : 
           h.none p.body rest (record { derived = subst (λ w. Derives d Block w (statements p.body) rest) mid r.body; ends = tt }) small.body;
     }
 
+    -- the parts are the procedure
     pub procedure_read : 0 < d → (b : List Statement) (rest : List Token) → ReadsStatements d Block behind b rest →
         IsProcedure d ts (record { name = x; line = line; params = ps; body = b }) rest × IsSmall (record { name = x; line = line; params = ps; body = b })
     procedure_read some b rest body = (

@@ -22,6 +22,7 @@ no_level : (k : Kind) → of_level 0 (binary_of k) ≡ None
 no_level (kind.Sign sign.Plus) = refl
 no_level _ = refl
 
+-- so behind an operand none of level 0 follows
 pub operand_stops : (ts : List Token) → NoOperator 0 ts
 operand_stops [] = tt
 operand_stops (t ∷ ts) = λ m small. let none : m ≡ 0 = omega arith in rw none (no_level t.kind)
@@ -38,11 +39,13 @@ record Split (d n : ℕ) (ts : List Token) (e : Expression) (rest : List Token) 
   operand : Reads d (Level n) ts (expression first) mid
   more : Derives d (More (suc n) first) mid (expression e) rest
 
+-- an expression of a level above 0 has such parts
 split : {d n : ℕ} {ts rest : List Token} {e : Expression} → Derives d (Level (suc n)) ts (expression e) rest → NoOperator (suc n) rest → Split d n ts e rest
 split (g.level {a = a} {mid = mid} r m) ends = record { first = a; mid = mid; operand = record { derived = r; ends = operand_ends m ends }; more = m }
 
 -- an expression of level n, from one of level m, the one below it
 module _ (d room n m : ℕ) (ts : List Token) (above : n ≡ suc m) where
+  -- without a first operand there is no expression
   pub first_refused : HasNoExpression d room (Level m) ts → HasNoExpression d room (Level n) ts
   first_refused h = rw above (record {
     none = λ e rest r few literals.
@@ -51,6 +54,7 @@ module _ (d room n m : ℕ) (ts : List Token) (above : n ≡ suc m) where
   })
 
   module _ (a : Expression) (left : ℕ) (mid : List Token) (first : ReadsExpression d room (Level m) ts a left mid) where
+    -- a first operand, and what goes on from it, are the expression
     pub level_read : (e : Expression) (left' : ℕ) (rest : List Token) → ReadsExpression d left (More n a) mid e left' rest →
         ReadsExpression d room (Level n) ts e left' rest
     level_read e left' rest more = let more' = rw above at more in rw above (record {
@@ -59,6 +63,7 @@ module _ (d room n m : ℕ) (ts : List Token) (above : n ≡ suc m) where
       literals = more'.literals;
     })
 
+    -- where nothing goes on from the first operand, there is no expression
     pub level_refused : HasNoExpression d left (More n a) mid → HasNoExpression d room (Level n) ts
     level_refused h = let h' = rw above at h in rw above (record {
       none = λ e rest r few literals.
@@ -77,6 +82,7 @@ record Goes (d n : ℕ) (a : Expression) (o : Operator) (line : ℕ) (ts : List 
   operand : Reads d (Level n) ts (expression right) mid
   more : Derives d (More (suc n) (tree.Binary o line a right)) mid (expression e) rest
 
+-- behind an operator an expression goes on so
 goes : {d n : ℕ} {a e : Expression} {t : Token} {o : Operator} {ts rest : List Token} → operator_at (suc n) t.kind ≡ Some o →
     Derives d (More (suc n) a) (t ∷ ts) (expression e) rest → NoOperator (suc n) rest → Goes d n a o t.line ts e rest
 goes {n = n} {t = t} {o = o} {ts = ts} is g.no_more ends = absurd (stopped n t ts o ends is)
@@ -91,6 +97,7 @@ goes {n = n} {a = a} {o = o} is (g.more {d = d} {b = b} {e = e} {t = t} {o = o'}
 
 -- an expression of level n goes on, where m is the level below it
 module _ (d room n m : ℕ) (a : Expression) (ts : List Token) (above : n ≡ suc m) where
+  -- without an operator the first operand is the expression
   pub stop_read : NoOperator m ts → NoOperatorOf n ts → HasLiterals a → ReadsExpression d room (More n a) ts a room ts
   stop_read below here literals = let here' = rw above at here in rw above (record {
     reads = record { derived = g.no_more; ends = stops_above m ts below here' };
@@ -99,16 +106,19 @@ module _ (d room n m : ℕ) (a : Expression) (ts : List Token) (above : n ≡ su
   })
 
   module _ (o : Operator) (line : ℕ) (behind : List Token) (front : InFront (λ t. (operator_at n t.kind ≡ Some o) × (t.line ≡ line)) ts behind) where
+    -- what any expression has behind the operator
     goes_on : (e : Expression) (rest : List Token) → Reads d (More (suc m) a) ts (expression e) rest → Goes d m a o line behind e rest
     goes_on e rest r =
         let is = rw above at front.has.0 in
         let derived = rw front.shape at r.derived in
         rw front.has.1 at (goes is derived r.ends)
 
+    -- an operator is a node, and none is left
     pub no_room : room ≡ 0 → HasNoExpression d room (More n a) ts
     no_room none = rw above (record { none = λ e rest r few literals. let s = goes_on e rest r in absurd (omega (arith, more_nodes s.more)) })
 
     module _ (some : 0 < room) where
+      -- without a right operand there is no expression
       pub right_refused : HasNoExpression d (room - 1) (Level m) behind → HasNoExpression d room (More n a) ts
       right_refused h = rw above (record {
         none = λ e rest r few literals.
@@ -117,6 +127,7 @@ module _ (d room n m : ℕ) (a : Expression) (ts : List Token) (above : n ≡ su
       })
 
       module _ (b : Expression) (left : ℕ) (mid : List Token) (right : ReadsExpression d (room - 1) (Level m) behind b left mid) where
+        -- the operation, and what goes on from it, are the expression
         pub again_read : (e : Expression) (left' : ℕ) (rest : List Token) →
             ReadsExpression d left (More n (tree.Binary o line a b)) mid e left' rest → ReadsExpression d room (More n a) ts e left' rest
         again_read e left' rest more =
@@ -129,6 +140,7 @@ module _ (d room n m : ℕ) (a : Expression) (ts : List Token) (above : n ≡ su
               literals = more'.literals;
             })
 
+        -- where nothing goes on from the operation, there is no expression
         pub again_refused : HasNoExpression d left (More n (tree.Binary o line a b)) mid → HasNoExpression d room (More n a) ts
         again_refused h = let h' = rw above at h in rw above (record {
           none = λ e rest r few literals.

@@ -19,6 +19,7 @@ abbrev pub arrays_with : Item → List Array → List Array
 arrays_with (an_array a) xs = a ∷ xs
 arrays_with (a_procedure p) xs = xs
 
+-- and the procedures
 abbrev pub procs_with : Item → List Procedure → List Procedure
 procs_with (an_array a) ps = ps
 procs_with (a_procedure p) ps = p ∷ ps
@@ -51,6 +52,7 @@ record Declares (d : ℕ) (ts : List Token) (xs : List Array) (ps : List Procedu
   procs_are : ps ≡ procs_with item procs
   more : Derives d Source behind (source arrays procs) []
 
+-- a source in front of which a token stands is so
 declares : {d : ℕ} {t : Token} {ts : List Token} {xs : List Array} {ps : List Procedure} → Derives d Source (t ∷ ts) (source xs ps) [] →
     Declares d (t ∷ ts) xs ps
 declares (g.array {d = d} {z = z} {w = w} {n = n} {o = o} {l = l} {c = c} {s = s} {x = x} {xs = xs} {ps = ps} {ts = ts} w_is n_is o_is l_is c_is s_is
@@ -94,21 +96,25 @@ declares (g.proc {d = d} {w = w} {n = n} {o = o} {c = c} {x = x} {qs = qs} {b = 
       };
     }
 
+-- the same at tokens that begin so
 declares_at : {d : ℕ} (ts : List Token) (t : Token) (more : List Token) {xs : List Array} {ps : List Procedure} → ts ≡ t ∷ more →
     Derives d Source ts (source xs ps) [] → Declares d ts xs ps
 declares_at ts t more shape m = rw shape (declares (rw shape at m))
 
--- two arrays with the same parts, and two procedures
+-- an array from its parts
 array_with : List ℕ → ℕ → ℕ → Array
 array_with x l z = record { name = x; line = l; length = z }
 
+-- two arrays with the same parts are one
 same_array : (a b : Array) → a.name ≡ b.name → a.line ≡ b.line → a.length ≡ b.length → a ≡ b
 unfolding array_with
 same_array a b x l z = let e : array_with a.name a.line a.length ≡ array_with b.name b.line b.length = cc in e
 
+-- a procedure from its parts
 procedure_with : List ℕ → ℕ → List Param → List Statement → Procedure
 procedure_with x l qs b = record { name = x; line = l; params = qs; body = b }
 
+-- two procedures with the same parts are one
 same_procedure : (p q : Procedure) → p.name ≡ q.name → p.line ≡ q.line → p.params ≡ q.params → p.body ≡ q.body → p ≡ q
 unfolding procedure_with
 same_procedure p q x l qs b = let e : procedure_with p.name p.line p.params p.body ≡ procedure_with q.name q.line q.params q.body = cc in e
@@ -134,6 +140,7 @@ item_front : (d : ℕ) (ts rest : List Token) (i : Item) → IsItem d ts i rest 
 item_front d ts rest (an_array a) r = (r.head.word, _, r.head.shape)
 item_front d ts rest (a_procedure p) r = (r.head.word, _, r.head.shape)
 
+-- so what is left is shorter
 pub item_shorter : (d : ℕ) (ts rest : List Token) (i : Item) → IsItem d ts i rest → length rest < length ts
 item_shorter d ts rest (an_array a) r = omega (arith, ap length r.head.shape)
 item_shorter d ts rest (a_procedure p) r = omega (arith, ap length r.head.shape, shorter r.params, shorter r.body)
@@ -145,26 +152,28 @@ pub record LeadsTo (ts : List Token) (t : SourceTree) (rest : List Token) : Type
   pub back : (xs : List Array) (ps : List Procedure) → Derives depth_limit Source ts (source xs ps) [] →
       (ys : List Array) × (qs : List Procedure) × (xs ≡ t.arrays ++ ys) × (ps ≡ t.procs ++ qs) × Derives depth_limit Source rest (source ys qs) []
 
-pub leads_first : (ts : List Token) → LeadsTo ts (record { arrays = []; procs = [] }) ts
-leads_first ts = record { forth = λ xs ps m. m; back = λ xs ps m. (xs, ps, refl, refl, m) }
-
+-- one more declaration at the end, or in front of what follows
 arrays_after : (t : SourceTree) (i : Item) (xs : List Array) → (with_item t i).arrays ++ xs ≡ t.arrays ++ arrays_with i xs
 arrays_after t (an_array a) xs = append_assoc t.arrays (a ∷ []) xs
 arrays_after t (a_procedure p) xs = refl
 
+-- the same for procedures
 procs_after : (t : SourceTree) (i : Item) (ps : List Procedure) → (with_item t i).procs ++ ps ≡ t.procs ++ procs_with i ps
 procs_after t (an_array a) ps = refl
 procs_after t (a_procedure p) ps = append_assoc t.procs (p ∷ []) ps
 
+-- tokens that are none
 empty : (ts : List Token) → length ts ≡ 0 → ts ≡ []
 empty [] h = refl
 empty (t ∷ ts) h = absurd (omega arith)
 
+-- tokens that are some
 front_of : (ts : List Token) → 0 < length ts → (t : Token) × (more : List Token) × (ts ≡ t ∷ more)
 front_of [] h = absurd (omega arith)
 front_of (t ∷ ts) h = (t, ts, refl)
 
 module _ (ts : List Token) (t : SourceTree) (rest : List Token) (leads : LeadsTo ts t rest) where
+  -- with one more declaration it leads on
   pub leads_next : (i : Item) (behind : List Token) (u : SourceTree) → IsItem depth_limit rest i behind → u ≡ with_item t i → LeadsTo ts u behind
   leads_next i behind u r is = record {
     forth = λ xs ps m. rw (is, arrays_after t i xs, procs_after t i ps) (leads.forth (arrays_with i xs) (procs_with i ps) (item_before 31 i r m));
@@ -179,11 +188,13 @@ module _ (ts : List Token) (t : SourceTree) (rest : List Token) (leads : LeadsTo
         (s.arrays, s.procs, rw (is, arrays_after t i s.arrays) arrays, rw (is, procs_after t i s.procs) procs, more);
   }
 
+  -- where no token is left, what is declared is the tree
   pub tree_read : length rest ≡ 0 → DerivesTree depth_limit ts t
   tree_read none =
       let whole = leads.forth [] [] (rw (empty rest none) g.end) in
       rw (append-nil t.arrays, append-nil t.procs) at whole
 
+  -- tokens are left, and no declaration: no tree within the limits
   pub item_refused : 0 < length rest → HasNoFurtherItem rest t → (v : SourceTree) → DerivesTree depth_limit ts v → IsWithin v → ⊥
   item_refused some h v r within =
       let w = leads.back v.arrays v.procs r in

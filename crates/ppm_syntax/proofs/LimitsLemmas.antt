@@ -6,6 +6,7 @@ use Rattle.ppm_syntax.specs.declared.tree.Array.{Array}
 use Rattle.ppm_syntax.specs.Tree.{Procedure, SourceTree}
 use Rattle.ppm_syntax.specs.Limits.{words_of, IsSmall, IsWithin}
 
+-- the words of two lists of arrays
 pub words-append : (xs ys : List Array) → words_of (xs ++ ys) ≡ words_of xs + words_of ys
 words-append [] ys = omega arith
 words-append (a ∷ xs) ys = omega (arith, words-append xs ys)
@@ -15,10 +16,12 @@ pub all_behind : {X : Type 0} (P : X → Type 0) (xs ys : List X) → All P (xs 
 all_behind P [] ys h = h
 all_behind P (x ∷ xs) ys h = all_behind P xs ys (All-tail P x (xs ++ ys) h)
 
+-- and of its front
 pub all_front : {X : Type 0} (P : X → Type 0) (xs ys : List X) → All P (xs ++ ys) → All P xs
 all_front P [] ys h = All-nil P
 all_front P (x ∷ xs) ys h = All-cons P x xs (All-head P x (xs ++ ys) h) (all_front P xs ys (All-tail P x (xs ++ ys) h))
 
+-- a tree keeps the limits that a longer one keeps
 pub within_front : (t v : SourceTree) (xs : List Array) (ps : List Procedure) → v.arrays ≡ t.arrays ++ xs → v.procs ≡ t.procs ++ ps → IsWithin v → IsWithin t
 within_front t v xs ps arrays procs h = record {
   arrays = omega (arith, h.arrays, ap length arrays, length-append t.arrays xs);

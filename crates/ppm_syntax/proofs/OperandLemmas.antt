@@ -18,6 +18,7 @@ record Found (d : ℕ) (ts : List Token) (e : Expression) (rest : List Token) : 
   indexed : IsIndexed d ts region line index rest
   is : e ≡ tree.Element region line index
 
+-- an operand without a number in front is so
 found : {d : ℕ} {ts rest : List Token} {e : Expression} → Derives d (Level 0) ts (expression e) rest → NoNumber ts → Found d ts e rest
 found (g.number {n = n} is) none = absurd (none n is)
 found (g.element {d = d} {n = n} {o = o} {c = c} {x = x} {i = i} {ts = ts} is o_is r c_is) none =
@@ -44,6 +45,7 @@ found (g.element {d = d} {n = n} {o = o} {c = c} {x = x} {i = i} {ts = ts} is o_
 
 module _ (d room : ℕ) (ts : List Token) where
   module _ (some : 0 < room) where
+    -- a number is the operand
     pub number_read : (n : ℕ) (z : ℤ) (rest : List Token) → InFront (λ t. IsNumber t n) ts rest → z ≡ pos n → n < 2 ^ 63 →
         ReadsExpression d room (Level 0) ts (tree.Number z) (room - 1) rest
     number_read n z rest front is small = rw (is, front.shape) (record {
@@ -52,6 +54,7 @@ module _ (d room : ℕ) (ts : List Token) where
       literals = small;
     })
 
+    -- a name and its index are the operand
     pub element_read : (x : List ℕ) (line : ℕ) (i : Expression) (left : ℕ) (rest : List Token) → ReadsIndexed d (room - 1) ts x line i left rest →
         ReadsExpression d room (Level 0) ts (tree.Element x line i) left rest
     element_read x line i left rest r = let q = r.reads in rw (q.deep, q.shape, ← q.at) (record {
@@ -60,6 +63,7 @@ module _ (d room : ℕ) (ts : List Token) where
       literals = r.literals;
     })
 
+    -- without them there is no operand
     pub element_refused : NoNumber ts → HasNoIndexed d (room - 1) ts → HasNoExpression d room (Level 0) ts
     element_refused no_number h = record {
       none = λ e rest r few literals.
@@ -82,10 +86,12 @@ module _ (d room : ℕ) (ts behind inside : List Token) (x : List ℕ) (line : �
           ends = ends_at_close top r.closed rest r.is_closed;
         })
 
+    -- without an index there is no name with one
     pub index_refused : HasNoExpression (d - 1) room (Level top) inside → HasNoIndexed d room ts
     index_refused h = record { none = λ x' line' i rest r few literals. h.none i (r.closed ∷ rest) (inside_of r) (omega arith) literals }
 
     module _ (i : Expression) (left : ℕ) (end : List Token) (index : ReadsExpression (d - 1) room (Level top) inside i left end) where
+      -- nor where the bracket is not closed
       pub close_refused : NoSign sign.CloseBracket end → HasNoIndexed d room ts
       close_refused none = record {
         none = λ x' line' i' rest r few literals.

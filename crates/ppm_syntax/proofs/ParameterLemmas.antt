@@ -17,19 +17,19 @@ use Rattle.ppm_syntax.proofs.Unique.{same}
 parameter_at : {d : ℕ} (e : ℕ) {p : Param} {ts rest : List Token} → Derives d Parameter ts (parameter p) rest → Derives e Parameter ts (parameter p) rest
 parameter_at e (g.param m k n) = g.param m k n
 
+-- nor have those that follow
 more_at : {d : ℕ} (e : ℕ) {ps : List Param} {ts rest : List Token} → Derives d MoreParameters ts (parameters ps) rest →
     Derives e MoreParameters ts (parameters ps) rest
 more_at e g.last_parameter = g.last_parameter
 more_at e (g.next_parameter is r m) = g.next_parameter is (parameter_at e r) (more_at e m)
 
+-- nor has their list
 pub parameters_at : {d : ℕ} (e : ℕ) {ps : List Param} {ts rest : List Token} → Derives d Parameters ts (parameters ps) rest →
     Derives e Parameters ts (parameters ps) rest
 parameters_at e g.no_parameter = g.no_parameter
 parameters_at e (g.first_parameter r m) = g.first_parameter (parameter_at e r) (more_at e m)
 
-pub parameter_shorter : {d : ℕ} {p : Param} {ts rest : List Token} → Derives d Parameter ts (parameter p) rest → length rest < length ts
-parameter_shorter (g.param m k n) = omega arith
-
+-- a keyword and a name are a parameter
 pub parameter_read : (ts behind rest : List Token) (k : Keyword) (how : Mode) (x : List ℕ) (line : ℕ) → InFront (λ t. IsKeyword t k) ts behind →
     Some how ≡ mode_of k →
     InFront (λ t. IsName t x × (t.line ≡ line)) behind rest → Derives 0 Parameter ts (parameter (record { mode = how; name = x; line = line })) rest
@@ -63,17 +63,21 @@ end_of : {ts end : List Token} {ps : List Param} → NoSign sign.Comma ts → De
 end_of none g.last_parameter = refl
 end_of none (g.next_parameter is r m) = absurd (none is)
 
+-- no sign stands in front that does not
 never : (ts : List Token) → NoSign sign.CloseParen ts → HasSign sign.CloseParen ts → ⊥
 never [] none is = is
 never (t ∷ ts) none is = none is
 
 module _ (ts : List Token) where
+  -- a list that is closed at once is empty
   pub empty_read : (rest : List Token) → InFront (λ t. IsSign t sign.CloseParen) ts rest → ReadsParameters ts [] rest
   empty_read rest closed = record { closed = closed.token; reads = rw closed.shape (record { derived = g.no_parameter; ends = closed.has }); few = omega arith }
 
+  -- neither is the list closed, nor is there a parameter
   pub first_refused : NoSign sign.CloseParen ts → HasNoParameter ts → HasNoParameters ts
   first_refused none h = record { none = λ ps end r few. let f = first_of none r.derived r.ends in h.none f.0 f.2 f.4 }
 
+  -- the first parameter leads on
   pub leads_first : (p : Param) (rest : List Token) → NoSign sign.CloseParen ts → Derives 0 Parameter ts (parameter p) rest → LeadsTo ts (p ∷ []) rest
   leads_first p rest none r = record {
     forth = λ more end m. g.first_parameter r m;
@@ -85,6 +89,7 @@ module _ (ts : List Token) where
 
   module _ (all : List Param) (rest : List Token) (leads : LeadsTo ts all rest) where
     module _ (behind : List Token) (comma : InFront (λ t. IsSign t sign.Comma) rest behind) where
+      -- a comma follows, and no parameter may
       pub too_many : length all ≡ parameter_limit → HasNoParameters ts
       too_many full = record {
         none = λ ps end r few.
@@ -94,6 +99,7 @@ module _ (ts : List Token) where
             absurd (omega (arith, full, few, ap length joined, length-append all (n.0 ∷ n.1)));
       }
 
+      -- behind a comma there is no parameter
       pub next_refused : HasNoParameter behind → HasNoParameters ts
       next_refused h = record {
         none = λ ps end r few.
@@ -102,6 +108,7 @@ module _ (ts : List Token) where
             h.none n.0 n.2 n.4;
       }
 
+      -- with one more parameter it leads on
       pub leads_next : (p : Param) (after : List Token) → Derives 0 Parameter behind (parameter p) after → LeadsTo ts (all ++ (p ∷ [])) after
       leads_next p after r = record {
         forth = λ more end m. rw append_assoc (leads.forth (p ∷ more) end (rw comma.shape (g.next_parameter comma.has r m)));
@@ -112,6 +119,7 @@ module _ (ts : List Token) where
             (n.1, rw append_assoc (cc (w.1, n.3, o.0)), subst (λ u. Derives 0 MoreParameters u (parameters n.1) end) (sym o.1) n.5);
       }
 
+    -- without a comma the list is not closed
     pub end_refused : NoSign sign.Comma rest → NoSign sign.CloseParen rest → HasNoParameters ts
     end_refused no_comma no_close = record {
       none = λ ps end r few.
@@ -120,6 +128,7 @@ module _ (ts : List Token) where
           never rest no_close (rw (← e) at r.ends);
     }
 
+    -- where it is closed, these are the parameters
     pub parameters_read : length all ≤ parameter_limit → (end : List Token) → InFront (λ t. IsSign t sign.CloseParen) rest end → ReadsParameters ts all end
     parameters_read few end closed = record {
       closed = closed.token;

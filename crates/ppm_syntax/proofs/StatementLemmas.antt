@@ -2,7 +2,7 @@
 use Rattle.std.proofs.Common.{◌≡◌, ℕ, suc, ◌-◌, ◌<◌, List, [], ◌∷◌, ◌++◌, map, refl, sym, subst, arith, append_assoc}
 use Rattle.std.specs.List.{All}
 use Rattle.std.proofs.lemmas.List.{append-nil, map-append}
-use Rattle.std.proofs.lemmas.List.Elements.{All-head, All-tail}
+use Rattle.std.proofs.lemmas.List.Elements.{All-head}
 use Rattle.ppm_syntax.specs.declared.token.Sign.TheVariants as sign
 use Rattle.ppm_syntax.specs.declared.token.Token.{Token}
 use Rattle.ppm_syntax.specs.declared.tree.Stmt.{Stmt}
@@ -13,6 +13,7 @@ use Rattle.ppm_syntax.specs.Grammar.{top, IsName, IsSign, Part, Level, OneStatem
 use Rattle.ppm_syntax.specs.Grammar as g
 use Rattle.ppm_syntax.specs.Parsing.{NoName, NoSign, InFront, Reads, ReadsExpression, HasNoExpression, IsIndexed, ReadsIndexed, HasNoIndexed}
 use Rattle.ppm_syntax.specs.Parsing.{ReadsStatement, HasNoStatement, ReadsStatements, HasNoStatements}
+use Rattle.ppm_syntax.proofs.LimitsLemmas.{all_behind}
 use Rattle.ppm_syntax.proofs.Unique.{ends_at_close, ends_at_semicolon, begins_with_name, one_reading, same}
 
 -- a name and its index are determined by the tokens
@@ -39,6 +40,7 @@ record Assignment (d : ℕ) (ts : List Token) (s : Statement) (rest : List Token
   is_semicolon : IsSign semicolon sign.Semicolon
   is : s ≡ tree.Put region line index value
 
+-- a statement has such parts
 assignment : {d : ℕ} {ts rest : List Token} {s : Statement} → Derives d OneStatement ts (statement s) rest → Assignment d ts s rest
 assignment (g.put {d = d} {n = n} {o = o} {c = c} {q = q} {s = e} {x = x} {i = i} {v = v} {ts = ts} {us = us} {rest = rest} n_is o_is i_r c_is q_is v_r s_is) =
     record {
@@ -71,6 +73,7 @@ assignment (g.put {d = d} {n = n} {o = o} {c = c} {q = q} {s = e} {x = x} {i = i
     }
 
 module _ (d : ℕ) (ts : List Token) where
+  -- without a name and its index there is no statement
   pub target_refused : HasNoIndexed d node_limit ts → HasNoStatement d ts
   target_refused h = record {
     none = λ s rest r small.
@@ -80,6 +83,7 @@ module _ (d : ℕ) (ts : List Token) where
   }
 
   module _ (x : List ℕ) (line : ℕ) (i : Expression) (left : ℕ) (mid : List Token) (target : ReadsIndexed d node_limit ts x line i left mid) where
+    -- without `=` there is no statement
     pub equals_refused : NoSign sign.Assign mid → HasNoStatement d ts
     equals_refused none = record {
       none = λ s rest r small.
@@ -95,6 +99,7 @@ module _ (d : ℕ) (ts : List Token) where
           let same_behind : p.behind ≡ behind = cc (o.1, equals.shape) in
           record { derived = subst (λ w. Derives d (Level top) w (expression p.value) (p.semicolon ∷ rest)) same_behind p.reads.derived; ends = p.reads.ends }
 
+      -- without a value there is no statement
       pub value_refused : HasNoExpression d left (Level top) behind → HasNoStatement d ts
       value_refused h = record {
         none = λ s rest r small.
@@ -106,6 +111,7 @@ module _ (d : ℕ) (ts : List Token) where
       }
 
       module _ (v : Expression) (left' : ℕ) (end : List Token) (value : ReadsExpression d left (Level top) behind v left' end) where
+        -- without `;` there is no statement
         pub semicolon_refused : NoSign sign.Semicolon end → HasNoStatement d ts
         semicolon_refused none = record {
           none = λ s rest r small.
@@ -113,6 +119,7 @@ module _ (d : ℕ) (ts : List Token) where
               let o = one_reading value.reads (value_of p) in (rw o.1 at none) p.is_semicolon;
         }
 
+        -- the parts are the statement
         pub assignment_read : (rest : List Token) → InFront (λ t. IsSign t sign.Semicolon) end rest → ReadsStatement d ts (tree.Put x line i v) rest
         assignment_read rest semicolon =
             let q = target.reads in
@@ -146,18 +153,12 @@ first_of_name : {d : ℕ} {t : Token} {x : List ℕ} {ts end : List Token} {b : 
 first_of_name is g.no_statement ends = absurd (ends _ is)
 first_of_name is (g.another {s = s} {b = b} {mid = mid} r m) ends = (s, b, mid, refl, r)
 
--- what holds of a whole list holds of its end
-all_behind : (front back : List Statement) → All IsSmallStatement (front ++ back) → All IsSmallStatement back
-all_behind [] back h = h
-all_behind (s ∷ front) back h = all_behind front back (All-tail IsSmallStatement s (front ++ back) h)
-
-pub leads_first : (d : ℕ) (ts : List Token) → LeadsTo d ts [] ts
-leads_first d ts = record { forth = λ more end r. r; back = λ b end r. (b, refl, r) }
-
+-- one more statement at the end
 pub mapped_push : (all : List Stmt) (s : Stmt) → map statement_of (all ++ (s ∷ [])) ≡ map statement_of all ++ (statement_of s ∷ [])
 mapped_push all s = map-append statement_of all (s ∷ [])
 
 module _ (d : ℕ) (ts : List Token) (all : List Statement) (rest : List Token) (leads : LeadsTo d ts all rest) where
+  -- with one more statement it leads on
   pub leads_next : (s : Statement) (behind : List Token) → Derives d OneStatement rest (statement s) behind → LeadsTo d ts (all ++ (s ∷ [])) behind
   leads_next s behind r = record {
     forth = λ more end m. rw append_assoc (leads.forth (s ∷ more) end (g.another r m));
@@ -167,6 +168,7 @@ module _ (d : ℕ) (ts : List Token) (all : List Statement) (rest : List Token) 
         (n.0, rw append_assoc (cc (w.1, n.1)), n.2);
   }
 
+  -- a name stands in front, and no statement
   pub next_refused : (x : List ℕ) (line : ℕ) (more : List Token) → InFront (λ t. IsName t x × (t.line ≡ line)) rest more → HasNoStatement d rest →
       HasNoStatements d Statements ts
   next_refused x line more name h = record {
@@ -174,10 +176,11 @@ module _ (d : ℕ) (ts : List Token) (all : List Statement) (rest : List Token) 
         let w = leads.back b end r in
         let f = first_of_name name.has.0 (rw name.shape at w.2.derived) w.2.ends in
         let joined : b ≡ all ++ (f.0 ∷ f.1) = cc (w.1, f.3) in
-        let rest_small = (All-head IsSmallStatement f.0 f.1 (all_behind all (f.0 ∷ f.1) (rw joined at small))) in
+        let rest_small = (All-head IsSmallStatement f.0 f.1 (all_behind IsSmallStatement all (f.0 ∷ f.1) (rw joined at small))) in
         h.none f.0 f.2 (rw name.shape f.4) rest_small;
   }
 
+  -- where no name follows, these are the statements
   pub statements_read : NoName rest → All IsSmallStatement all → ReadsStatements d Statements ts all rest
   statements_read ends small = record { reads = record { derived = rw append-nil at (leads.forth [] rest g.no_statement); ends = ends }; small = small }
 
@@ -195,10 +198,12 @@ module _ (d : ℕ) (ts inside : List Token) (opened : InFront (λ t. IsSign t si
       let deep : p.0 ≡ d - 1 = omega (arith, p.1) in
       (omega (arith, p.1), (p.2, subst (λ k. Reads k Statements inside (statements b) (p.2 ∷ rest)) deep p.3, p.4))
 
+  -- without its statements there is no block
   pub statements_refused : HasNoStatements (d - 1) Statements inside → HasNoStatements d Block ts
   statements_refused h = record { none = λ b rest r small. let p = inside_of r.derived in h.none b (p.1.0 ∷ rest) p.1.1 small }
 
   module _ (b : List Statement) (end : List Token) (read : ReadsStatements (d - 1) Statements inside b end) where
+    -- nor where the brace is not closed
     pub brace_refused : NoSign sign.CloseBrace end → HasNoStatements d Block ts
     brace_refused none = record {
       none = λ b' rest r small.
@@ -206,6 +211,7 @@ module _ (d : ℕ) (ts inside : List Token) (opened : InFront (λ t. IsSign t si
           let o = one_reading read.reads p.1.1 in (rw o.1 at none) p.1.2;
     }
 
+    -- the statements between braces are the block
     pub block_read : 0 < d → (rest : List Token) → InFront (λ t. IsSign t sign.CloseBrace) end rest → ReadsStatements d Block ts b rest
     block_read some rest closed =
         let deep : d ≡ suc (d - 1) = omega arith in

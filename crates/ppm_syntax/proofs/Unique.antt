@@ -32,6 +32,7 @@ ends_below n (t ∷ ts) h = λ m small. h m (omega arith)
 pub ends_at_close : (n : ℕ) (c : Token) (rest : List Token) → IsSign c sign.CloseBracket → NoOperator n (c ∷ rest)
 ends_at_close n c rest is m h = rw is refl
 
+-- nor does the sign that ends a statement
 pub ends_at_semicolon : (n : ℕ) (c : Token) (rest : List Token) → IsSign c sign.Semicolon → NoOperator n (c ∷ rest)
 ends_at_semicolon n c rest is m h = rw is refl
 
@@ -45,6 +46,7 @@ operand_ends (g.more {n = n} {t = t} {o = o} {ts = ts} is r s) h = ends_at_opera
 pub begins_with_name : {d : ℕ} {s : Statement} {ts rest : List Token} → Derives d OneStatement ts (statement s) rest → NoName ts → ⊥
 begins_with_name (g.put {x = x} n_is o_is i c_is q_is v s_is) h = h x n_is
 
+-- and in front of a parameter a keyword
 pub begins_with_keyword : {d : ℕ} {p : Param} {ts rest : List Token} → Derives d Parameter ts (parameter p) rest → HasSign sign.CloseParen ts → ⊥
 begins_with_keyword (g.param m_is how n_is) h = cc
 
@@ -61,6 +63,7 @@ stopped n t ts o h is = let none = h (suc n) (omega arith) in cc
 abbrev pub Same : Node → List Token → Node → List Token → Type 0
 Same e rest e' rest' = (e ≡ e') × (rest ≡ rest')
 
+-- what a part reads, where it ends, is determined by the tokens
 pub same : {d d' : ℕ} {p : Part} {ts : List Token} {e e' : Node} {rest rest' : List Token} → Derives d p ts e rest → Ends p rest →
     Derives d' p ts e' rest' → Ends p rest' → Same e rest e' rest'
 same (g.number is) h (g.number is') h' = (cc, refl)
@@ -129,6 +132,7 @@ pub one_reading : {d d' : ℕ} {p : Part} {ts : List Token} {e e' : Node} {rest 
     Same e rest e' rest'
 one_reading r r' = same r.derived r.ends r'.derived r'.ends
 
+-- a tree from its parts
 tree_with : List Array → List Procedure → SourceTree
 tree_with arrays procs = record { arrays = arrays; procs = procs }
 
