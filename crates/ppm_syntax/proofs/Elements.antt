@@ -1,8 +1,7 @@
 -- Elements of a list and of its images.
-use Rattle.std.proofs.Common.{◌≡◌, ℕ, zero, suc, ◌+◌, ◌<◌, Bool, true, false, List, [], ◌∷◌, length, map, slice_index_or, refl, sym, ap, ◌∙◌, subst, arith}
+use Rattle.std.proofs.Common.{◌≡◌, ℕ, zero, suc, ◌<◌, List, [], ◌∷◌, length, map, slice_index_or, refl, ap, subst, arith}
 use Rattle.std.specs.List.{All, Contains, AllByRecursion}
-use Rattle.std.proofs.lemmas.List.Elements.{All-map, All-cons, All-nil}
-use Rattle.ppm_syntax.specs.Deciding.{HasOne, HasNamed}
+use Rattle.std.proofs.lemmas.List.Elements.{All-cons, All-nil}
 
 pub all_head : {A : Type 0} (P : A → Type 0) (x : A) (xs : List A) → All P (x ∷ xs) → P x
 all_head P x xs h = h 0 x (omega arith)

@@ -1,13 +1,12 @@
 -- More turns never change an outcome that is there.
-use Rattle.std.proofs.Common.{◌≡◌, ◌≢◌, ℕ, zero, suc, ◌+◌, List, [], ◌∷◌, map, Result, Ok, Err, Option, Some, None, refl, sym, ap, ◌∙◌, subst, arith}
+use Rattle.std.proofs.Common.{◌≡◌, ◌≢◌, ℕ, zero, suc, ◌+◌, List, [], ◌∷◌, Result, Ok, Err, Option, Some, None, refl, ap, ◌∙◌, arith}
 use Rattle.std.specs.Prelude.{codes}
 use Rattle.ppm_words.specs.declared.named_array.NamedArray.{NamedArray}
-use Rattle.ppm_words.specs.declared.outcome.Outcome.{Outcome}
 use Rattle.ppm_words.specs.declared.outcome.Outcome.TheVariants as outcome
 use Rattle.ppm_syntax.specs.declared.tree.Array.{Array}
 use Rattle.ppm_syntax.specs.Tree.{Expression, Statement, Procedure, SourceTree}
 use Rattle.ppm_syntax.specs.Tree as tree
-use Rattle.ppm_syntax.specs.Meaning.{Frame, Stop, Arrays, after, Ending, Done, Stopped, OutOfTurns, spend, then_on, at_once, run_statement, run_statements, run_procedure, run_main, main_frame, procedure_named, opening, values_of, outcome_of, serial, MoreTurnsKeep}
+use Rattle.ppm_syntax.specs.Meaning.{Frame, Stop, Arrays, after, Ending, Done, Stopped, OutOfTurns, then_on, at_once, run_statement, run_statements, run_main, main_frame, procedure_named, opening, values_of, outcome_of, MoreTurnsKeep}
 
 -- the same ending with so many turns more left over
 abbrev with_more : {A : Type 0} → ℕ → Ending A → Ending A

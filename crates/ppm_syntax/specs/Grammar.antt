@@ -1,5 +1,5 @@
 -- The grammar: which tokens have which tree, one case for each production.
-use Rattle.std.specs.Prelude.{◌≡◌, ◌==◌, ℕ, zero, suc, ℤ, pos, List, [], ◌∷◌, Option, Some, None, if◌then◌else◌}
+use Rattle.std.specs.Prelude.{◌≡◌, ◌==◌, ℕ, suc, pos, List, [], ◌∷◌, Option, Some, None, if◌then◌else◌}
 use Rattle.ppm_syntax.specs.declared.token.Keyword.{Keyword}
 use Rattle.ppm_syntax.specs.declared.token.Keyword.TheVariants as word
 use Rattle.ppm_syntax.specs.declared.token.Sign.{Sign}

@@ -1,8 +1,7 @@
 -- The rules of names and regions.
-use Rattle.std.specs.Prelude.{◌≡◌, ◌≢◌, ℕ, ◌<◌, List, [], ◌∷◌, codes, map, length}
+use Rattle.std.specs.Prelude.{◌≡◌, ◌≢◌, ℕ, List, codes, map}
 use Rattle.std.specs.List.{All, Contains, IsDistinct}
 use Rattle.std.specs.Str.{bytes_eq}
-use Rattle.ppm_syntax.specs.declared.tree.Mode.{Mode}
 use Rattle.ppm_syntax.specs.declared.tree.Mode.TheVariants as mode
 use Rattle.ppm_syntax.specs.declared.tree.Param.{Param}
 use Rattle.ppm_syntax.specs.declared.tree.Array.{Array}

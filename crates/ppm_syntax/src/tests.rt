@@ -3,16 +3,68 @@ use crate::{SourceError, have_one_tree, more_turns_keep, read_source};
 use std::alloc::Global;
 use std::test::Fail;
 
-/// A text of parts, each so many times.
-fn text_of(alloc: Global, parts: &[(&str, usize)]) -> Result<String, Fail> {
-    let mut text = String::new(alloc);
-    for (part, count) in parts {
-        for _ in 0..*count {
-            text.push_str(part)?;
-        }
-    }
-    Ok(text)
+/// A text of a front, a piece so many times, a middle, another piece as often, and an end.
+#[derive(Clone, Copy)]
+struct Nested {
+    front: &'static str,
+    open: &'static str,
+    count: usize,
+    middle: &'static str,
+    close: &'static str,
+    end: &'static str,
 }
+
+impl Nested {
+    /// The text.
+    fn text(self, alloc: Global) -> Result<String, Fail> {
+        let mut text = String::from_str(alloc, self.front)?;
+        for _ in 0..self.count {
+            text.push_str(self.open)?;
+        }
+        text.push_str(self.middle)?;
+        for _ in 0..self.count {
+            text.push_str(self.close)?;
+        }
+        text.push_str(self.end)?;
+        Ok(text)
+    }
+}
+
+/// A sum of one more ones than the count.
+const SUM: Nested = Nested {
+    front: "array a[1]; proc main(mut a) { a[0] = ",
+    open: "1+",
+    count: 0,
+    middle: "1",
+    close: "",
+    end: "; }",
+};
+
+/// Elements in one another, as many as the count.
+const ELEMENTS: Nested = Nested {
+    open: "a[",
+    middle: "0",
+    close: "]",
+    ..SUM
+};
+
+/// An array whose name has as many letters as the count.
+const NAME: Nested = Nested {
+    front: "array ",
+    open: "x",
+    count: 0,
+    middle: "[1]; proc main() { }",
+    close: "",
+    end: "",
+};
+
+/// A source of 15 bytes with as many blanks as the count.
+const BLANKS: Nested = Nested {
+    front: "proc main() { }",
+    open: " ",
+    middle: "",
+    ..NAME
+};
 
 /// Whether a text is read; an `Err` where memory was refused.
 fn is_read(alloc: Global, text: &str) -> Result<bool, Fail> {
@@ -55,6 +107,16 @@ fn sources_are_read_by_the_rules(rt: HostRuntime) -> Result<(), Fail> {
         ("array a[1]; proc main(mut a) { # }", false),
         ("array array[1]; proc main() { }", false),
         ("array a[1]; proc main(mut a,) { }", false),
+        (
+            "array a[1]; proc main(mut a) { a[0] = 9223372036854775807; }",
+            true,
+        ),
+        (
+            "array a[1]; proc main(mut a) { a[0] = 9223372036854775808; }",
+            false,
+        ),
+        ("array a[4194304]; proc main() { }", true),
+        ("array a[4194304]; array b[1]; proc main() { }", false),
     ];
     for (text, read) in cases {
         assert_eq!(rt; is_read(rt.alloc(), text)?, read, "{text}");
@@ -66,40 +128,19 @@ fn sources_are_read_by_the_rules(rt: HostRuntime) -> Result<(), Fail> {
 
 #[test]
 fn sources_are_read_up_to_the_limits(rt: HostRuntime) -> Result<(), Fail> {
-    let alloc = rt.alloc();
-    let head = "array a[1]; proc main(mut a) { a[0] = ";
-    let cases: [(&[(&str, usize)], bool); 12] = [
-        (&[(head, 1), ("1+", 24), ("1; }", 1)], false),
-        (&[(head, 1), ("1+", 23), ("1; }", 1)], true),
-        (
-            &[(head, 1), ("a[", 31), ("0", 1), ("]", 31), ("; }", 1)],
-            true,
-        ),
-        (
-            &[(head, 1), ("a[", 32), ("0", 1), ("]", 32), ("; }", 1)],
-            false,
-        ),
-        (&[(head, 1), ("9223372036854775807; }", 1)], true),
-        (&[(head, 1), ("9223372036854775808; }", 1)], false),
-        (&[("array a[4194304]; proc main() { }", 1)], true),
-        (
-            &[("array a[4194304]; array b[1]; proc main() { }", 1)],
-            false,
-        ),
-        (
-            &[("array ", 1), ("x", 32), ("[1]; proc main() { }", 1)],
-            true,
-        ),
-        (
-            &[("array ", 1), ("x", 33), ("[1]; proc main() { }", 1)],
-            false,
-        ),
-        (&[("proc main() { }", 1), (" ", 1_048_561)], true),
-        (&[("proc main() { }", 1), (" ", 1_048_562)], false),
+    let cases = [
+        (SUM, 23, true),
+        (SUM, 24, false),
+        (ELEMENTS, 31, true),
+        (ELEMENTS, 32, false),
+        (NAME, 32, true),
+        (NAME, 33, false),
+        (BLANKS, 1_048_561, true),
+        (BLANKS, 1_048_562, false),
     ];
-    for (parts, read) in cases {
-        let text = text_of(alloc, parts)?;
-        assert_eq!(rt; is_read(alloc, &text)?, read);
+    for (source, count, read) in cases {
+        let text = Nested { count, ..source }.text(rt.alloc())?;
+        assert_eq!(rt; is_read(rt.alloc(), &text)?, read, "{count}");
     }
     Ok(())
 }

@@ -1,4 +1,4 @@
-use Rattle.std.proofs.Common.{rules, map, ◌≡◌, refl, subst, sym, ap}
+use Rattle.std.proofs.Common.{rules, refl}
 use Rattle.ppm_syntax.proofs.RulesLemmas.{distinct_none, distinct_with, distinct_rest, not_distinct}
 use Rattle.ppm_syntax.proofs.named.+are_distinct.Goals as goal
 

@@ -1,7 +1,4 @@
-use Rattle.std.proofs.Common.{rules, subst, sym, ap, map, ◌≡◌, ◌∙◌}
-use Rattle.ppm_words.specs.Inputs.{IsInput}
-use Rattle.ppm_syntax.specs.Tree.{tree_of}
-use Rattle.ppm_syntax.specs.Meaning.{opening_array}
+use Rattle.std.proofs.Common.{ap, ◌∙◌}
 use Rattle.ppm_syntax.proofs.OpeningLemmas.{zeros_are_input}
 use Rattle.ppm_syntax.proofs.opening.opening_input.Goals as goal
 

@@ -2,8 +2,7 @@ use Rattle.std.proofs.Common.{rules, subst, sym, map}
 use Rattle.std.specs.List.{All, IsDistinct}
 use Rattle.std.specs.Str.{bytes_eq}
 use Rattle.ppm_syntax.specs.Tree.{procedure_of}
-use Rattle.ppm_syntax.specs.Rules.{IsLawful, IsMain}
-use Rattle.ppm_syntax.specs.Deciding.{HasOne}
+use Rattle.ppm_syntax.specs.Rules.{IsLawful}
 use Rattle.ppm_syntax.proofs.RulesLemmas.{admitted_by, distinct_procs, one_main_by, all_lawful}
 use Rattle.ppm_syntax.proofs.rules.is_admitted.Goals as goal
 

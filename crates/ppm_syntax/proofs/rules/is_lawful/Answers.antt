@@ -1,7 +1,4 @@
-use Rattle.std.proofs.Common.{rules, subst, sym, map}
-use Rattle.std.specs.List.{All}
-use Rattle.ppm_syntax.specs.Tree.{statement_of}
-use Rattle.ppm_syntax.specs.Rules.{KeepsRules}
+use Rattle.std.proofs.Common.{rules}
 use Rattle.ppm_syntax.proofs.RulesLemmas.{lawful_by, lawful_body_by}
 use Rattle.ppm_syntax.proofs.rules.is_lawful.Goals as goal
 
