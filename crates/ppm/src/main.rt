@@ -1,6 +1,7 @@
 //! The program `ppm`: the words of the command line and the standard streams, handed to the top call.
 //! Model: the standard streams are ports that tell no bytes; 64 watchers keep nothing.
-//! Contract: it ends with the number of the status that `ppm_top::ppm` answers, or with 9 where memory is refused before.
+//! Contract: it is safe and returns. No clause says more: it ends with the status of `ppm_top::ppm`, or with 9 where
+//! memory is refused before.
 //! Stands on `ppm_top` and `ppm_ports`.
 //! The numbers of the statuses are this project's.
 #![tactic(auto)]
