@@ -1,0 +1,49 @@
+//! The words that clap's documentation takes and refuses.
+use crate::{Command, read_words};
+use std::alloc::Global;
+use std::test::Fail;
+
+/// The command of the words behind the program's name.
+fn command_of_words(alloc: Global, words: &[&str]) -> Result<Option<Command>, Fail> {
+    let mut given = Vec::new(alloc);
+    for word in words {
+        given.push(String::from_str(alloc, word)?)?;
+    }
+    Ok(read_words(alloc, &given).map_err(|_| "memory")?)
+}
+
+#[test]
+fn words_give_run_or_no_command(rt: HostRuntime) -> Result<(), Fail> {
+    let runs = Some(Command::Run);
+    let cases: [(&[&str], Option<Command>); 20] = [
+        (&["ppm", "run"], runs),
+        (&["any", "run"], runs),
+        (&["ppm", "run", "--processors", "1"], runs),
+        (&["ppm", "run", "--processors=1"], runs),
+        (&["ppm", "run", "--processors", "+1"], runs),
+        (&["ppm", "run", "--processors", "001"], runs),
+        (&["ppm", "run", "--processors", "2"], None),
+        (&["ppm", "run", "--processors", "0"], None),
+        (&["ppm", "run", "--processors", "one"], None),
+        (&["ppm", "run", "--processors"], None),
+        (
+            &["ppm", "run", "--processors", "1", "--processors", "1"],
+            None,
+        ),
+        (&["ppm", "--processors", "1", "run"], None),
+        (&["ppm", "run", "x"], None),
+        (&["ppm", "run", "--processors", "1", "x"], None),
+        (&["ppm", "walk"], None),
+        (&["ppm"], None),
+        (&["ppm", "--help"], None),
+        (&["ppm", "run", "--help"], None),
+        (&["ppm", "help"], None),
+        (&["ppm", "--version"], None),
+    ];
+    for (words, command) in cases {
+        let got = command_of_words(rt.alloc(), words)?;
+        assert_eq!(rt; got, command, "{words:?}");
+    }
+    assert_eq!(rt; command_of_words(rt.alloc(), &[])?, None);
+    Ok(())
+}
