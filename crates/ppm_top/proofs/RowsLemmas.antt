@@ -11,11 +11,11 @@ use Rattle.ppm_top.specs.declared.answer.Answer.{Answer}
 use Rattle.ppm_top.specs.declared.answer.Answer.TheVariants as answers
 use Rattle.ppm_top.specs.declared.status.Status.{Status}
 use Rattle.ppm_top.specs.declared.status.Status.TheVariants as statuses
-use Rattle.ppm_top.specs.declared.command.Command.{Command}
-use Rattle.ppm_top.specs.declared.command.Command.TheVariants as commands
+use Rattle.ppm_line.specs.declared.command.Command.{Command}
+use Rattle.ppm_line.specs.declared.command.Command.TheVariants as commands
 use Rattle.ppm_top.specs.Texts.{out_text}
 use Rattle.ppm_top.specs.Statuses.{status_of}
-use Rattle.ppm_top.specs.Words.{command_of}
+use Rattle.ppm_line.specs.Words.{command_of}
 use Rattle.ppm_top.specs.Delivery.{IsWritten, Delivers}
 use Rattle.ppm_top.specs.Causes.{IsUnread, ComesTo, HasNoOutcome, ReadComesTo, ReadHasNoOutcome, RunMay, NoCommandMay, CommandMay, IsAnswered}
 use Rattle.ppm_top.specs.Rows.{IsOneOf, WritesArrays, WritesTrap, GoesWell, RefusesSource, RefusesWords, TellsFaults, IsSilentOnOut}

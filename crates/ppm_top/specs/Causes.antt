@@ -12,11 +12,11 @@ use Rattle.ppm_syntax.specs.Meaning.{IsOutcome}
 use Rattle.ppm_top.specs.Bounds.{FitsCode}
 use Rattle.ppm_top.specs.declared.answer.Answer.{Answer}
 use Rattle.ppm_top.specs.declared.answer.Answer.TheVariants as answers
-use Rattle.ppm_top.specs.declared.command.Command.{Command}
-use Rattle.ppm_top.specs.declared.command.Command.TheVariants as commands
+use Rattle.ppm_line.specs.declared.command.Command.{Command}
+use Rattle.ppm_line.specs.declared.command.Command.TheVariants as commands
 use Rattle.ppm_top.specs.declared.status.Status.{Status}
 use Rattle.ppm_top.specs.Delivery.{Delivers}
-use Rattle.ppm_top.specs.Words.{command_of}
+use Rattle.ppm_line.specs.Words.{command_of}
 
 -- these bytes were read: all that were left, or one more than a text may have
 abbrev pub Reads : Port → List ℕ → Type 0

@@ -6,11 +6,11 @@ use Rattle.ppm_words.specs.declared.event.Event.{Event}
 use Rattle.ppm_words.specs.declared.named_array.NamedArray.{NamedArray}
 use Rattle.ppm_words.specs.declared.trap.Trap.{Trap}
 use Rattle.ppm_words.specs.declared.outcome.Outcome.TheVariants as outcome
-use Rattle.ppm_top.specs.declared.command.Command.TheVariants as commands
+use Rattle.ppm_line.specs.declared.command.Command.TheVariants as commands
 use Rattle.ppm_top.specs.declared.status.Status.{Status}
 use Rattle.ppm_top.specs.declared.status.Status.TheVariants as statuses
 use Rattle.ppm_top.specs.Texts.{arrays_text, trap_text}
-use Rattle.ppm_top.specs.Words.{command_of}
+use Rattle.ppm_line.specs.Words.{command_of}
 use Rattle.ppm_top.specs.Causes.{IsUnread, HasNoOutcome, ReadComesTo, ReadHasNoOutcome}
 
 -- the status is one of these

@@ -6,11 +6,12 @@ ghost use Rattle.ppm_top.specs.Causes.{May, IsAnswered};
 ghost use Rattle.ppm_top.specs.Rows.{WritesArrays, WritesTrap, RefusesSource, RefusesWords, TellsFaults, IsSilentOnOut, KeepsWatchers};
 
 use crate::answer::Answer;
-use crate::command::{Command, read_words};
 use crate::deliver::deliver;
 use crate::run::run_answer;
 use crate::status::Status;
+use ppm_line::{Command, read_words};
 use ppm_ports::{Sink, Source, Watch};
+use ppm_words::NoMemory;
 use std::alloc::Global;
 
 /// Does what the words ask for: the bytes of `source` are read, the texts of the answer are written on `out` and `err`.
@@ -84,8 +85,9 @@ fn answered<S: Source, K: Sink, E: Sink>(
 fn answer_to<S: Source>(alloc: Global, words: &[String], source: &mut S) -> Answer
     ensures { May (map string_bytes words.now) (port S.left S.fault_count source.old source.new) result }
 {
-    match read_words(words) {
-        Some(Command::Run) => run_answer(alloc, source),
-        None => Answer::WordsRefused,
+    match read_words(alloc, words) {
+        Ok(Some(Command::Run)) => run_answer(alloc, source),
+        Ok(None) => Answer::WordsRefused,
+        Err(NoMemory) => Answer::NoMemory,
     }
 }
