@@ -31,10 +31,12 @@ refused_text text (error.NameTooLong p) r = no_tokens text (error.NameTooLong p)
 refused_text text error.NoMemory r = tt
 
 -- tokens from which no tree is derived
-pub no_derivation : (text : List ℕ) (ts : List Token) → IsTextOf text ts → ((t : SourceTree) → DerivesTree depth_limit ts t → IsWithin t → ⊥) → HasNoTree text
+pub no_derivation : (text : List ℕ) (ts : List Token) → IsTextOf text ts → ((t : SourceTree) → DerivesTree depth_limit ts t → IsWithin t → ⊥)
+    → HasNoTree text
 no_derivation text ts cut none t h = none t (subst (λ us. DerivesTree depth_limit us t) (one_cutting h.tree.cut cut) h.tree.derived) h.within
 
-pub refused_tokens : (text : List ℕ) (ts : List Token) (e : SyntaxError) → IsTextOf text ts → (e ≡ syntax_error.Refused → (t : SourceTree) → DerivesTree depth_limit ts t → IsWithin t → ⊥) → HasReason text (of_syntax e)
+pub refused_tokens : (text : List ℕ) (ts : List Token) (e : SyntaxError) → IsTextOf text ts
+    → (e ≡ syntax_error.Refused → (t : SourceTree) → DerivesTree depth_limit ts t → IsWithin t → ⊥) → HasReason text (of_syntax e)
 refused_tokens text ts syntax_error.Refused cut none = no_derivation text ts cut (none refl)
 refused_tokens text ts syntax_error.NoMemory cut none = tt
 
