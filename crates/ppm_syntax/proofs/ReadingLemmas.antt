@@ -1,19 +1,19 @@
 -- From the scanner's, the parser's and the rules' answers to those of the whole reading.
 use Rattle.std.proofs.Common.{◌≡◌, ℕ, List, refl, subst, arith}
-use Rattle.ppm_syntax.specs.declared.token.Token.{Token}
-use Rattle.ppm_syntax.specs.declared.text_error.TextError.{TextError}
-use Rattle.ppm_syntax.specs.declared.text_error.TextError.TheVariants as error
+use Rattle.ppm_text.specs.declared.token.Token.{Token}
+use Rattle.ppm_text.specs.declared.text_error.TextError.{TextError}
+use Rattle.ppm_text.specs.declared.text_error.TextError.TheVariants as error
 use Rattle.ppm_syntax.specs.declared.syntax_error.SyntaxError.{SyntaxError}
 use Rattle.ppm_syntax.specs.declared.syntax_error.SyntaxError.TheVariants as syntax_error
 use Rattle.ppm_syntax.specs.Tree.{SourceTree}
-use Rattle.ppm_syntax.specs.Cutting.{IsTextOf, IsRefused, too_long, faulty, no_memory}
+use Rattle.ppm_text.specs.Cutting.{IsTextOf, IsRefused, too_long, faulty, no_memory}
 use Rattle.ppm_syntax.specs.Grammar.{DerivesTree}
 use Rattle.ppm_syntax.specs.Limits.{depth_limit, IsWithin}
 use Rattle.ppm_syntax.specs.Rules.{IsAdmitted}
 use Rattle.ppm_syntax.specs.Correct.{HasNoTree, HaveOneTree}
 use Rattle.ppm_syntax.specs.Deciding.{IsDerived}
 use Rattle.ppm_syntax.specs.Refusals.{HasReason, of_text, of_syntax}
-use Rattle.ppm_syntax.proofs.CuttingLemmas.{one_cutting, fault_refuses}
+use Rattle.ppm_text.proofs.CuttingLemmas.{one_cutting, fault_refuses}
 use Rattle.ppm_syntax.proofs.Unique.{one_tree}
 
 -- a text that the scanner refuses has no tree
