@@ -1,10 +1,10 @@
 -- From the parts of a declaration to the whole, and the same for what cannot be read.
 use Rattle.std.proofs.Common.{◌≡◌, ℕ, ◌-◌, ◌<◌, List, ◌∷◌, subst, arith}
-use Rattle.ppm_syntax.specs.declared.token.Keyword.{Keyword}
-use Rattle.ppm_syntax.specs.declared.token.Keyword.TheVariants as keyword
-use Rattle.ppm_syntax.specs.declared.token.Sign.{Sign}
-use Rattle.ppm_syntax.specs.declared.token.Sign.TheVariants as sign
-use Rattle.ppm_syntax.specs.declared.token.Token.{Token}
+use Rattle.ppm_text.specs.declared.token.Keyword.{Keyword}
+use Rattle.ppm_text.specs.declared.token.Keyword.TheVariants as keyword
+use Rattle.ppm_text.specs.declared.token.Sign.{Sign}
+use Rattle.ppm_text.specs.declared.token.Sign.TheVariants as sign
+use Rattle.ppm_text.specs.declared.token.Token.{Token}
 use Rattle.ppm_syntax.specs.declared.tree.Param.{Param}
 use Rattle.ppm_syntax.specs.Tree.{Statement, Procedure}
 use Rattle.ppm_syntax.specs.Limits.{IsSmall}

@@ -1,6 +1,6 @@
 -- Facts on derivations: what is left is no longer, and a first operand is a part of the whole.
 use Rattle.std.proofs.Common.{ℕ, ◌≤◌, ◌<◌, List, length, arith}
-use Rattle.ppm_syntax.specs.declared.token.Token.{Token}
+use Rattle.ppm_text.specs.declared.token.Token.{Token}
 use Rattle.ppm_syntax.specs.Tree.{Expression, Statement}
 use Rattle.ppm_syntax.specs.Limits.{nodes_of, HasLiterals}
 use Rattle.ppm_syntax.specs.Grammar.{Part, Level, More, OneStatement, Node, expression, statement, Derives}

@@ -1,7 +1,7 @@
 -- From the declarations that are read to the tree of a source, and the same for what cannot be read.
 use Rattle.std.proofs.Common.{◌≡◌, ℕ, suc, ◌<◌, List, [], ◌∷◌, ◌++◌, length, refl, sym, ap, subst, arith, append_assoc}
 use Rattle.std.proofs.lemmas.List.{append-nil}
-use Rattle.ppm_syntax.specs.declared.token.Token.{Token}
+use Rattle.ppm_text.specs.declared.token.Token.{Token}
 use Rattle.ppm_syntax.specs.declared.tree.Param.{Param}
 use Rattle.ppm_syntax.specs.declared.tree.Array.{Array}
 use Rattle.ppm_syntax.specs.Tree.{Statement, Procedure, SourceTree}

@@ -2,10 +2,6 @@ pub mod Elements
 pub mod RulesLemmas
 pub mod OpeningLemmas
 pub mod MeaningLemmas
-pub mod BytesLemmas
-pub mod SpellingLemmas
-pub mod CuttingLemmas
-pub mod ScanLemmas
 pub mod Unique
 pub mod ReadingLemmas
 pub mod GrammarLemmas

@@ -24,5 +24,6 @@ opening_is_input t w = record {
   values_bound = omega (arith, w.words, values_are_words t.arrays);
 }
 
-pub zeros_are_input : (t : Tree) (arrays : List Array) (all : List NamedArray) → IsWithin (tree_of t) → arrays ≡ t.arrays → all ≡ map opening_array arrays → IsInput all
+pub zeros_are_input : (t : Tree) (arrays : List Array) (all : List NamedArray) → IsWithin (tree_of t) → arrays ≡ t.arrays
+    → all ≡ map opening_array arrays → IsInput all
 zeros_are_input t arrays all w same shape = subst IsInput (sym (shape ∙ ap (λ xs. map opening_array xs) same)) (opening_is_input (tree_of t) w)

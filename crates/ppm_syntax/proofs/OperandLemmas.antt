@@ -1,7 +1,7 @@
 -- From a number, or a name and its index, to an operand, and the same for what cannot be read.
 use Rattle.std.proofs.Common.{◌≡◌, ℕ, ◌-◌, ◌<◌, ◌^◌, ℤ, pos, List, ◌∷◌, refl, subst, arith}
-use Rattle.ppm_syntax.specs.declared.token.Sign.TheVariants as sign
-use Rattle.ppm_syntax.specs.declared.token.Token.{Token}
+use Rattle.ppm_text.specs.declared.token.Sign.TheVariants as sign
+use Rattle.ppm_text.specs.declared.token.Token.{Token}
 use Rattle.ppm_syntax.specs.Tree.{Expression}
 use Rattle.ppm_syntax.specs.Tree as tree
 use Rattle.ppm_syntax.specs.Grammar.{top, IsName, IsNumber, IsSign, Part, Level, expression, Derives}

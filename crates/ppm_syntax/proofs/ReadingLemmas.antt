@@ -1,19 +1,19 @@
 -- From the scanner's, the parser's and the rules' answers to those of the whole reading.
 use Rattle.std.proofs.Common.{◌≡◌, ℕ, List, refl, subst, arith}
-use Rattle.ppm_syntax.specs.declared.token.Token.{Token}
-use Rattle.ppm_syntax.specs.declared.text_error.TextError.{TextError}
-use Rattle.ppm_syntax.specs.declared.text_error.TextError.TheVariants as error
+use Rattle.ppm_text.specs.declared.token.Token.{Token}
+use Rattle.ppm_text.specs.declared.text_error.TextError.{TextError}
+use Rattle.ppm_text.specs.declared.text_error.TextError.TheVariants as error
 use Rattle.ppm_syntax.specs.declared.syntax_error.SyntaxError.{SyntaxError}
 use Rattle.ppm_syntax.specs.declared.syntax_error.SyntaxError.TheVariants as syntax_error
 use Rattle.ppm_syntax.specs.Tree.{SourceTree}
-use Rattle.ppm_syntax.specs.Cutting.{IsTextOf, IsRefused, too_long, faulty, no_memory}
+use Rattle.ppm_text.specs.Cutting.{IsTextOf, IsRefused, too_long, faulty, no_memory}
 use Rattle.ppm_syntax.specs.Grammar.{DerivesTree}
 use Rattle.ppm_syntax.specs.Limits.{depth_limit, IsWithin}
 use Rattle.ppm_syntax.specs.Rules.{IsAdmitted}
 use Rattle.ppm_syntax.specs.Correct.{HasNoTree, HaveOneTree}
 use Rattle.ppm_syntax.specs.Deciding.{IsDerived}
 use Rattle.ppm_syntax.specs.Refusals.{HasReason, of_text, of_syntax}
-use Rattle.ppm_syntax.proofs.CuttingLemmas.{one_cutting, fault_refuses}
+use Rattle.ppm_text.proofs.CuttingLemmas.{one_cutting, fault_refuses}
 use Rattle.ppm_syntax.proofs.Unique.{one_tree}
 
 -- a text that the scanner refuses has no tree
@@ -31,10 +31,12 @@ refused_text text (error.NameTooLong p) r = no_tokens text (error.NameTooLong p)
 refused_text text error.NoMemory r = tt
 
 -- tokens from which no tree is derived
-pub no_derivation : (text : List ℕ) (ts : List Token) → IsTextOf text ts → ((t : SourceTree) → DerivesTree depth_limit ts t → IsWithin t → ⊥) → HasNoTree text
+pub no_derivation : (text : List ℕ) (ts : List Token) → IsTextOf text ts → ((t : SourceTree) → DerivesTree depth_limit ts t → IsWithin t → ⊥)
+    → HasNoTree text
 no_derivation text ts cut none t h = none t (subst (λ us. DerivesTree depth_limit us t) (one_cutting h.tree.cut cut) h.tree.derived) h.within
 
-pub refused_tokens : (text : List ℕ) (ts : List Token) (e : SyntaxError) → IsTextOf text ts → (e ≡ syntax_error.Refused → (t : SourceTree) → DerivesTree depth_limit ts t → IsWithin t → ⊥) → HasReason text (of_syntax e)
+pub refused_tokens : (text : List ℕ) (ts : List Token) (e : SyntaxError) → IsTextOf text ts
+    → (e ≡ syntax_error.Refused → (t : SourceTree) → DerivesTree depth_limit ts t → IsWithin t → ⊥) → HasReason text (of_syntax e)
 refused_tokens text ts syntax_error.Refused cut none = no_derivation text ts cut (none refl)
 refused_tokens text ts syntax_error.NoMemory cut none = tt
 

@@ -3,8 +3,8 @@ use Rattle.std.proofs.Common.{◌≡◌, ℕ, suc, ◌-◌, ◌<◌, List, [], �
 use Rattle.std.specs.List.{All}
 use Rattle.std.proofs.lemmas.List.{append-nil, map-append}
 use Rattle.std.proofs.lemmas.List.Elements.{All-head}
-use Rattle.ppm_syntax.specs.declared.token.Sign.TheVariants as sign
-use Rattle.ppm_syntax.specs.declared.token.Token.{Token}
+use Rattle.ppm_text.specs.declared.token.Sign.TheVariants as sign
+use Rattle.ppm_text.specs.declared.token.Token.{Token}
 use Rattle.ppm_syntax.specs.declared.tree.Stmt.{Stmt}
 use Rattle.ppm_syntax.specs.Tree.{Expression, Statement, statement_of}
 use Rattle.ppm_syntax.specs.Tree as tree

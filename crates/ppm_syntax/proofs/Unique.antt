@@ -1,8 +1,8 @@
 -- Tokens have one tree at most: what a part reads as far as it goes is determined by the tokens.
 use Rattle.std.proofs.Common.{◌≡◌, ℕ, suc, ◌<◌, List, [], ◌∷◌, refl, sym, subst, arith}
 use Rattle.std.specs.Prelude.{Option, Some, None}
-use Rattle.ppm_syntax.specs.declared.token.Sign.TheVariants as sign
-use Rattle.ppm_syntax.specs.declared.token.Token.{Token}
+use Rattle.ppm_text.specs.declared.token.Sign.TheVariants as sign
+use Rattle.ppm_text.specs.declared.token.Token.{Token}
 use Rattle.ppm_syntax.specs.declared.tree.Operator.{Operator}
 use Rattle.ppm_syntax.specs.declared.tree.Param.{Param}
 use Rattle.ppm_syntax.specs.declared.tree.Array.{Array}

@@ -1,10 +1,11 @@
 -- What it is for a text to have an admitted tree.
 use Rattle.std.specs.Prelude.{◌≡◌, ℕ, ◌≤◌, List, length}
-use Rattle.ppm_syntax.specs.declared.token.Token.{Token}
+use Rattle.ppm_text.specs.declared.token.Token.{Token}
 use Rattle.ppm_syntax.specs.Tree.{SourceTree}
-use Rattle.ppm_syntax.specs.Cutting.{IsTextOf}
+use Rattle.ppm_text.specs.Cutting.{IsTextOf}
 use Rattle.ppm_syntax.specs.Grammar.{DerivesTree}
-use Rattle.ppm_syntax.specs.Limits.{text_limit, depth_limit, IsWithin}
+use Rattle.ppm_text.specs.Limits.{text_limit}
+use Rattle.ppm_syntax.specs.Limits.{depth_limit, IsWithin}
 use Rattle.ppm_syntax.specs.Rules.{IsAdmitted}
 
 -- by the grammar the text has this tree, with at most so many openings open at a time

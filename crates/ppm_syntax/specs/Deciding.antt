@@ -4,7 +4,8 @@ use Rattle.std.specs.List.{Contains}
 use Rattle.ppm_syntax.specs.declared.tree.Array.{Array}
 use Rattle.ppm_syntax.specs.declared.tree.Param.{Param}
 use Rattle.ppm_syntax.specs.Tree.{SourceTree}
-use Rattle.ppm_syntax.specs.Limits.{text_limit, depth_limit}
+use Rattle.ppm_text.specs.Limits.{text_limit}
+use Rattle.ppm_syntax.specs.Limits.{depth_limit}
 use Rattle.ppm_syntax.specs.Rules.{IsRegion}
 use Rattle.ppm_syntax.specs.Correct.{IsTreeOf}
 

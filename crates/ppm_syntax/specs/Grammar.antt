@@ -1,12 +1,12 @@
 -- The grammar: which tokens have which tree, one case for each production.
 use Rattle.std.specs.Prelude.{◌≡◌, ◌==◌, ℕ, suc, pos, List, [], ◌∷◌, Option, Some, None, if◌then◌else◌}
-use Rattle.ppm_syntax.specs.declared.token.Keyword.{Keyword}
-use Rattle.ppm_syntax.specs.declared.token.Keyword.TheVariants as word
-use Rattle.ppm_syntax.specs.declared.token.Sign.{Sign}
-use Rattle.ppm_syntax.specs.declared.token.Sign.TheVariants as sign
-use Rattle.ppm_syntax.specs.declared.token.Kind.{Kind}
-use Rattle.ppm_syntax.specs.declared.token.Kind.TheVariants as kind
-use Rattle.ppm_syntax.specs.declared.token.Token.{Token}
+use Rattle.ppm_text.specs.declared.token.Keyword.{Keyword}
+use Rattle.ppm_text.specs.declared.token.Keyword.TheVariants as word
+use Rattle.ppm_text.specs.declared.token.Sign.{Sign}
+use Rattle.ppm_text.specs.declared.token.Sign.TheVariants as sign
+use Rattle.ppm_text.specs.declared.token.Kind.{Kind}
+use Rattle.ppm_text.specs.declared.token.Kind.TheVariants as kind
+use Rattle.ppm_text.specs.declared.token.Token.{Token}
 use Rattle.ppm_syntax.specs.declared.tree.Operator.{Operator}
 use Rattle.ppm_syntax.specs.declared.tree.Operator.TheVariants as operator
 use Rattle.ppm_syntax.specs.declared.tree.Mode.{Mode}

@@ -1,8 +1,4 @@
 pub mod Tree
-pub mod Bytes
-pub mod Spelling
-pub mod Cutting
-pub mod Scanning
 pub mod Grammar
 pub mod Limits
 pub mod Rules

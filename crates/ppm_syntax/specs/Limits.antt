@@ -5,10 +5,6 @@ use Rattle.ppm_syntax.specs.declared.tree.Array.{Array}
 use Rattle.ppm_syntax.specs.Tree.{Expression, Statement, Procedure, SourceTree}
 use Rattle.ppm_syntax.specs.Tree as tree
 
--- the bytes of a text
-abbrev pub text_limit : ℕ
-text_limit = 1048576
-
 -- openings that are open at a time
 abbrev pub depth_limit : ℕ
 depth_limit = 32

@@ -1,5 +1,6 @@
 -- What a source means, run serially: the arrays in the end, or the first trap.
-use Rattle.std.specs.Prelude.{◌≡◌, ◌≢◌, ℕ, zero, suc, ◌+◌, ◌^◌, ℤ, pos, negsuc, ◌+ℤ◌, Bool, List, [], ◌∷◌, map, replicate, Option, Some, None, Result, Ok, Err, nat_lt, get_or, set, codes, if◌then◌else◌}
+use Rattle.std.specs.Prelude.{◌≡◌, ◌≢◌, ℕ, zero, suc, ◌+◌, ◌^◌, ℤ, pos, negsuc, ◌+ℤ◌, Bool}
+use Rattle.std.specs.Prelude.{List, [], ◌∷◌, map, replicate, Option, Some, None, Result, Ok, Err, nat_lt, get_or, set, codes, if◌then◌else◌}
 use Rattle.std.specs.Str.{bytes_eq}
 use Rattle.ppm_words.specs.declared.named_array.NamedArray.{NamedArray}
 use Rattle.ppm_words.specs.declared.outcome.Outcome.{Outcome}

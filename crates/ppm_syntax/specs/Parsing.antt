@@ -1,11 +1,11 @@
 -- What the parser's functions answer: how far a part goes, and which readings a refusal rules out.
 use Rattle.std.specs.Prelude.{◌≡◌, ℕ, suc, ◌+◌, ◌≤◌, List, [], ◌∷◌, ◌++◌, length, map, None}
 use Rattle.std.specs.List.{All}
-use Rattle.ppm_syntax.specs.declared.token.Keyword.{Keyword}
-use Rattle.ppm_syntax.specs.declared.token.Keyword.TheVariants as keyword
-use Rattle.ppm_syntax.specs.declared.token.Sign.{Sign}
-use Rattle.ppm_syntax.specs.declared.token.Sign.TheVariants as sign
-use Rattle.ppm_syntax.specs.declared.token.Token.{Token}
+use Rattle.ppm_text.specs.declared.token.Keyword.{Keyword}
+use Rattle.ppm_text.specs.declared.token.Keyword.TheVariants as keyword
+use Rattle.ppm_text.specs.declared.token.Sign.{Sign}
+use Rattle.ppm_text.specs.declared.token.Sign.TheVariants as sign
+use Rattle.ppm_text.specs.declared.token.Token.{Token}
 use Rattle.ppm_syntax.specs.declared.tree.Param.{Param}
 use Rattle.ppm_syntax.specs.declared.tree.Array.{Array}
 use Rattle.ppm_syntax.specs.declared.syntax_error.SyntaxError.{SyntaxError}

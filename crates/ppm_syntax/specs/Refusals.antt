@@ -1,7 +1,7 @@
 -- Why a text has no admitted tree: which refusal each error below comes to, and its reason.
 use Rattle.std.specs.Prelude.{ℕ, List}
-use Rattle.ppm_syntax.specs.declared.text_error.TextError.{TextError}
-use Rattle.ppm_syntax.specs.declared.text_error.TextError.TheVariants as text_error
+use Rattle.ppm_text.specs.declared.text_error.TextError.{TextError}
+use Rattle.ppm_text.specs.declared.text_error.TextError.TheVariants as text_error
 use Rattle.ppm_syntax.specs.declared.syntax_error.SyntaxError.{SyntaxError}
 use Rattle.ppm_syntax.specs.declared.syntax_error.SyntaxError.TheVariants as syntax_error
 use Rattle.ppm_syntax.specs.declared.source_error.SourceError.{SourceError}

@@ -9,8 +9,8 @@ use crate::front::{head, number, take};
 use crate::parameter::parameters;
 use crate::statement::block;
 use crate::syntax_error::SyntaxError;
-use crate::token::{Keyword, Sign, Token};
 use crate::tree::{Array, Proc};
+use ppm_text::{Keyword, Sign, Token};
 use ppm_words::Items;
 use std::alloc::Global;
 

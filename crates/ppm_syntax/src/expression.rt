@@ -8,8 +8,8 @@ ghost use Rattle.ppm_syntax.specs.Parsing.{HasNoIndexed, IsRefused, NoOperator};
 
 use crate::front::{name, number, operator, take};
 use crate::syntax_error::SyntaxError;
-use crate::token::{Sign, Token};
 use crate::tree::Expr;
+use ppm_text::{Sign, Token};
 use ppm_words::Name;
 use std::alloc::Global;
 

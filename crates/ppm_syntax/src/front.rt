@@ -5,8 +5,8 @@ ghost use Rattle.ppm_syntax.specs.Parsing.{InFront, NoName, NoNumber, NoKeyword,
 ghost use Rattle.ppm_syntax.specs.Parsing.{NoOperatorOf, IsHead, HasNoHead};
 
 use crate::syntax_error::SyntaxError;
-use crate::token::{Keyword, Kind, Sign, Token};
 use crate::tree::Operator;
+use ppm_text::{Keyword, Kind, Sign, Token};
 use ppm_words::Name;
 
 /// The tokens behind the sign.

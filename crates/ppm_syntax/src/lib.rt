@@ -1,11 +1,10 @@
 //! The language's front end: from the bytes of a text to an admitted tree.
-//! Model: a text is cut into tokens (`specs/Cutting.antt`), a tree is derived from them (`specs/Grammar.antt`), within
+//! Model: a text is cut into tokens (`ppm_text`), a tree is derived from them (`specs/Grammar.antt`), within
 //! limits (`specs/Limits.antt`) and by the rules of regions (`specs/Rules.antt`); `specs/Meaning.antt` says what it does.
 //! Contract: `read_source` answers a text's one tree, or refuses exactly the texts that have none.
-//! Stands on `ppm_words`; `ppm_top` reads, compiles and judges by it.
+//! Stands on `ppm_words` and `ppm_text`; `ppm_top` reads, compiles and judges by it.
 #![tactic(auto)]
 
-mod byte_class;
 mod declaration;
 mod expression;
 mod front;
@@ -16,14 +15,10 @@ mod parameter;
 mod parsing;
 mod reading;
 mod rules;
-mod scan;
 mod source;
 mod source_error;
-mod spelling;
 mod statement;
 mod syntax_error;
-mod text_error;
-mod token;
 mod tree;
 
 pub use laws::{have_one_tree, more_turns_keep};

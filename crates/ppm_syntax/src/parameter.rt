@@ -6,8 +6,8 @@ ghost use Rattle.ppm_syntax.specs.Parsing.{IsRefused};
 
 use crate::front::{keyword, name, take};
 use crate::syntax_error::SyntaxError;
-use crate::token::{Keyword, Sign, Token};
 use crate::tree::{Mode, Param};
+use ppm_text::{Keyword, Sign, Token};
 use std::alloc::Global;
 
 /// The parameters of a procedure.

@@ -10,8 +10,8 @@ use crate::declaration::{array, procedure};
 use crate::front::take_word;
 use crate::source::Source;
 use crate::syntax_error::SyntaxError;
-use crate::token::{Keyword, Token};
 use crate::tree::{Array, Proc, Tree};
+use ppm_text::{Keyword, Token};
 use ppm_words::Items;
 use std::alloc::Global;
 

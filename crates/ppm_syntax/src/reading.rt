@@ -8,9 +8,9 @@ ghost use Rattle.ppm_syntax.specs.Refusals.{HasReason};
 use crate::opening::opening_input;
 use crate::parsing::parse;
 use crate::rules::is_admitted;
-use crate::scan::tokens;
 use crate::source::{Admitted, Source};
 use crate::source_error::SourceError;
+use ppm_text::tokens;
 use std::alloc::Global;
 
 /// The tree of a text within the limits.

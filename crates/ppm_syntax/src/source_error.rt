@@ -1,6 +1,6 @@
 //! Why a text has no admitted tree.
 use crate::syntax_error::SyntaxError;
-use crate::text_error::TextError;
+use ppm_text::TextError;
 use ppm_words::NoMemory;
 use thiserror::Error;
 

@@ -8,8 +8,8 @@ ghost use Rattle.ppm_syntax.specs.Parsing.{HasNoStatements, IsRefused};
 use crate::expression::{Room, TOP, indexed, level};
 use crate::front::{name, take};
 use crate::syntax_error::SyntaxError;
-use crate::token::{Sign, Token};
 use crate::tree::Stmt;
+use ppm_text::{Sign, Token};
 use std::alloc::Global;
 
 /// The nodes in the expressions of one statement.

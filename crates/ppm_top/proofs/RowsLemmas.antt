@@ -5,7 +5,7 @@ use Rattle.std.specs.Io.KnownBytes.{Keeps, Appends, Consumes}
 use Rattle.ppm_ports.specs.Ports.{Port, Fails, Gets}
 use Rattle.ppm_ports.specs.Whole.{ReadsTo}
 use Rattle.ppm_words.specs.declared.outcome.Outcome.{Outcome}
-use Rattle.ppm_syntax.specs.Limits.{text_limit}
+use Rattle.ppm_text.specs.Limits.{text_limit}
 use Rattle.ppm_syntax.specs.Correct.{HasTree}
 use Rattle.ppm_top.specs.declared.answer.Answer.{Answer}
 use Rattle.ppm_top.specs.declared.answer.Answer.TheVariants as answers

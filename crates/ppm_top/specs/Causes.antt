@@ -6,7 +6,7 @@ use Rattle.ppm_ports.specs.Whole.{ReadsTo, ReadsFront}
 use Rattle.ppm_words.specs.declared.outcome.Outcome.{Outcome}
 use Rattle.ppm_words.specs.declared.outcome.Outcome.TheVariants as outcome
 use Rattle.ppm_syntax.specs.Tree.{SourceTree}
-use Rattle.ppm_syntax.specs.Limits.{text_limit}
+use Rattle.ppm_text.specs.Limits.{text_limit}
 use Rattle.ppm_syntax.specs.Correct.{HasTree}
 use Rattle.ppm_syntax.specs.Meaning.{IsOutcome}
 use Rattle.ppm_top.specs.Bounds.{FitsCode}

@@ -195,7 +195,8 @@ pub fn cut(alloc: Global, arrays: &[Array], main: &Proc) -> Result<Vec<Capsule>,
         ≡ code_of (main_frame arrays.now main.now.params) (procedure_of main.now).body) }
     ensures capsules { IfOk result (λ code. length code.items ≤ capsule_limit) }
     ensures fits { IfOk result (λ _. 4 * length (procedure_of main.now).body + 2 ≤ capsule_limit) }
-    ensures too_many { result ≡ Err CutError.TooManyCapsules → capsule_limit < 4 * length (procedure_of main.now).body + 2 }
+    ensures too_many { result ≡ Err CutError.TooManyCapsules →
+        capsule_limit < 4 * length (procedure_of main.now).body + 2 }
 {
     let body = main.body.as_slice();
     if body.len() > (CAPSULE_LIMIT - 2) / 4 {

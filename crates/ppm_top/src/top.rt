@@ -15,7 +15,8 @@ use ppm_words::NoMemory;
 use std::alloc::Global;
 
 /// Does what the words ask for: the bytes of `source` are read, the texts of the answer are written on `out` and `err`.
-/// The first word is the program's name, and there is a watcher for each of 64 processors. No watcher is told anything yet.
+/// The first word is the program's name, and there is a watcher for each of 64 processors. No watcher is told
+/// anything yet.
 pub fn ppm<R, S: Source, K: Sink, E: Sink, W: Watch>(
     rt: &R,
     alloc: Global,

@@ -10,7 +10,9 @@ use Rattle.ppm_syntax.proofs.rules.is_admitted.Goals as goal
 pub returns-then-not-are_distinct-2 : goal.returns-then-not-are_distinct-2
 returns-then-not-are_distinct-2 c = (
   λ none. cc,
-  λ a. let found = c.are_distinct-2.ensures.1 (subst (λ ps. IsDistinct bytes_eq (map (λ p. p.name) ps)) (sym c.as_slice-procs.ensures) (distinct_procs c.args.tree.now a)) in cc,
+  λ a.
+      let names = subst (λ ps. IsDistinct bytes_eq (map (λ p. p.name) ps)) (sym c.as_slice-procs.ensures) (distinct_procs c.args.tree.now a) in
+      let found = c.are_distinct-2.ensures.1 names in cc,
 )
 
 -- no procedure is `main`
@@ -23,6 +25,7 @@ returns-then-not-has_main c = (
 -- all but the procedures' own rules hold, and these were tested
 pub returns : goal.returns
 returns c = (
-  λ found. admitted_by c.args.tree.now _ _ c.as_slice-arrays.ensures c.as_slice-procs.ensures (c.are_distinct.ensures.0 (search rules)) (c.are_distinct-2.ensures.0 (search rules)) (c.has_main.ensures.0 (search rules)) (c.are_lawful.ensures.0 found),
+  λ found. admitted_by c.args.tree.now _ _ c.as_slice-arrays.ensures c.as_slice-procs.ensures (c.are_distinct.ensures.0 (search rules))
+      (c.are_distinct-2.ensures.0 (search rules)) (c.has_main.ensures.0 (search rules)) (c.are_lawful.ensures.0 found),
   λ a. c.are_lawful.ensures.1 (subst (All (λ p. IsLawful (procedure_of p))) (sym c.as_slice-procs.ensures) (all_lawful c.args.tree.now a)),
 )

@@ -1,6 +1,0 @@
-use Rattle.std.proofs.Common.{◌≡◌, ◌<◌, ◌^◌, drop}
-use Rattle.ppm_syntax.specs.Bytes.{value_from}
-use Rattle.ppm_syntax.proofs.scan.value.Given as goal
-
-abbrev pub invariant-loop-d : goal.invariant-loop-d
-invariant-loop-d l = record { same : value_from l.n (drop l.d-index l.digits) ≡ value_from 0 l.digits; small : l.n < 2 ^ 63 }

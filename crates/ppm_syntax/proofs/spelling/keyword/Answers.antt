@@ -1,8 +1,0 @@
-use Rattle.std.proofs.Common.{rules}
-use Rattle.ppm_syntax.specs.Spelling.{keyword_of}
-use Rattle.ppm_syntax.proofs.spelling.keyword.Goals as goal
-
--- the code's table is the definition's
-pub returns : goal.returns
-unfolding keyword_of
-returns c = search rules

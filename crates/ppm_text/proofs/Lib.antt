@@ -1,0 +1,4 @@
+pub mod BytesLemmas
+pub mod SpellingLemmas
+pub mod CuttingLemmas
+pub mod ScanLemmas

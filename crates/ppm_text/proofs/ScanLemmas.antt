@@ -1,0 +1,129 @@
+-- What the functions of the scanner find is what the definitions say.
+use Rattle.std.proofs.Common.{◌≡◌, ℕ, ◌+◌, ◌<◌, ◌≤◌, ◌^◌, List, [], ◌∷◌, ◌++◌, length, take, drop, Some, None}
+use Rattle.std.proofs.Common.{arith, inl, inr, subst, sym, ◌∙◌, append-nil}
+use Rattle.std.proofs.lemmas.List.{length-take-le}
+use Rattle.std.specs.List.{prefix_len}
+use Rattle.ppm_words.specs.Names.{is_digit, is_name_byte, IsName}
+use Rattle.ppm_text.specs.declared.byte_class.ByteClass.TheVariants.{Letter, Digit, LineFeed, Blank, Hash, Mark, High}
+use Rattle.ppm_text.specs.declared.token.Keyword.{Keyword}
+use Rattle.ppm_text.specs.declared.token.Kind.{Kind}
+use Rattle.ppm_text.specs.declared.token.Kind.TheVariants as kind
+use Rattle.ppm_text.specs.declared.token.Token.{Token}
+use Rattle.ppm_text.specs.declared.text_error.TextError.{TextError}
+use Rattle.ppm_text.specs.declared.text_error.TextError.TheVariants as error
+use Rattle.ppm_text.specs.Limits.{text_limit}
+use Rattle.ppm_text.specs.Bytes.{is_comment_byte, BeginsWith, value_from}
+use Rattle.ppm_text.specs.Spelling.{keyword_of, IsWord, IsDigits, a_keyword, a_name, a_number, Longest, IsInRange}
+use Rattle.ppm_text.specs.Cutting.{Skips, line_feed, blank, comment, located, Cuts, here, skip, token, IsRefused, faulty, no_memory}
+use Rattle.ppm_text.specs.Cutting.{IsFault, not_ascii, bad_char, number_too_big, name_too_long}
+use Rattle.ppm_text.specs.Scanning.{IsNoSign, Stops, Advances}
+use Rattle.ppm_text.proofs.BytesLemmas.{prefix_le}
+use Rattle.ppm_text.proofs.SpellingLemmas.{run_is_word, run_is_number, word_is_name, longest_word, longest_number, no_token}
+use Rattle.ppm_text.proofs.CuttingLemmas.{skips_bounds, longest_something}
+
+-- a line feed in front
+pub front_line_feed : (bytes : List ℕ) → BeginsWith LineFeed bytes → Skips bytes 1 1
+front_line_feed [] begins = absurd begins
+front_line_feed (b ∷ bs) begins = line_feed begins
+
+-- a blank in front
+pub front_blank : (bytes : List ℕ) → BeginsWith Blank bytes → Skips bytes 1 0
+front_blank [] begins = absurd begins
+front_blank (b ∷ bs) begins = blank begins
+
+-- a comment in front
+pub front_comment : (bytes : List ℕ) (n : ℕ) → BeginsWith Hash bytes → n ≡ 1 + prefix_len is_comment_byte (drop 1 bytes) → Skips bytes n 0
+front_comment [] n begins len = absurd begins
+front_comment (b ∷ bs) n begins len = comment begins len
+
+-- a byte past ASCII in front
+pub front_high : (place : ℕ) (bytes : List ℕ) → BeginsWith High bytes → IsFault place bytes (error.NotAscii place)
+front_high place [] begins = absurd begins
+front_high place (b ∷ bs) begins = not_ascii begins
+
+-- the run in front is a word
+front_word : (bytes : List ℕ) (n : ℕ) → BeginsWith Letter bytes → n ≡ prefix_len is_name_byte bytes → IsWord (take n bytes)
+front_word bytes n begins len = rw len (run_is_word bytes begins)
+
+-- a keyword in front
+pub front_keyword : (bytes : List ℕ) (n : ℕ) (found : Keyword) → BeginsWith Letter bytes → n ≡ prefix_len is_name_byte bytes
+    → keyword_of (take n bytes) ≡ Some found → Longest bytes n (kind.Keyword found)
+front_keyword bytes n found begins len is = longest_word bytes n (kind.Keyword found) begins len (a_keyword (front_word bytes n begins len) is)
+
+-- a name in front
+pub front_name : (bytes : List ℕ) (n : ℕ) → BeginsWith Letter bytes → n ≡ prefix_len is_name_byte bytes
+    → keyword_of (take n bytes) ≡ None → Longest bytes n (kind.Name (take n bytes))
+front_name bytes n begins len none = longest_word bytes n (kind.Name (take n bytes)) begins len (a_name (front_word bytes n begins len) none)
+
+-- the length of the run in front
+run_length : (bytes : List ℕ) (n : ℕ) → n ≡ prefix_len is_name_byte bytes → length (take n bytes) ≡ n
+run_length bytes n len = length-take-le n bytes (omega (arith, prefix_le is_name_byte bytes))
+
+-- a short name in front
+pub front_is_name : (bytes : List ℕ) (n : ℕ) → BeginsWith Letter bytes → n ≡ prefix_len is_name_byte bytes → n ≤ 32 → IsName (take n bytes)
+front_is_name bytes n begins len short = word_is_name (take n bytes) (front_word bytes n begins len) (omega (arith, run_length bytes n len))
+
+-- a name within the limit in front
+pub front_short_name : (bytes : List ℕ) (n : ℕ) (name : List ℕ) → BeginsWith Letter bytes → n ≡ prefix_len is_name_byte bytes
+    → keyword_of (take n bytes) ≡ None → n ≤ 32 → name ≡ take n bytes → Longest bytes n (kind.Name name) × (length name ≤ 32)
+front_short_name bytes n name begins len none short is =
+    rw is (front_name bytes n begins len none, omega (arith, run_length bytes n len))
+
+-- a name past the limit in front
+pub front_long_name : (place : ℕ) (bytes : List ℕ) (n : ℕ) → BeginsWith Letter bytes → n ≡ prefix_len is_name_byte bytes
+    → keyword_of (take n bytes) ≡ None → 32 < n → IsFault place bytes (error.NameTooLong place)
+front_long_name place bytes n begins len none long =
+    let more : 32 < length (take n bytes) = omega (arith, run_length bytes n len) in
+    name_too_long (front_name bytes n begins len none) more
+
+-- the run in front is a number
+front_digits : (bytes : List ℕ) (n : ℕ) → BeginsWith Digit bytes → n ≡ prefix_len is_digit bytes → Longest bytes n (kind.Number (value_from 0 (take n bytes)))
+front_digits bytes n begins len =
+    let digits : IsDigits (take n bytes) = rw len (run_is_number bytes begins) in
+    longest_number bytes n (kind.Number (value_from 0 (take n bytes))) begins len (a_number digits)
+
+-- a number in front
+pub front_number : (bytes : List ℕ) (n value : ℕ) → BeginsWith Digit bytes → n ≡ prefix_len is_digit bytes
+    → value ≡ value_from 0 (take n bytes) → Longest bytes n (kind.Number value)
+front_number bytes n value begins len is = rw is (front_digits bytes n begins len)
+
+-- a number past the limit in front
+pub front_big_number : (place : ℕ) (bytes : List ℕ) (n : ℕ) → BeginsWith Digit bytes → n ≡ prefix_len is_digit bytes
+    → 2 ^ 63 ≤ value_from 0 (take n bytes) → IsFault place bytes (error.NumberTooBig place)
+front_big_number place bytes n begins len big = number_too_big (front_digits bytes n begins len) big
+
+-- a mark in front that begins no sign
+pub front_nothing : (place : ℕ) (bytes : List ℕ) → BeginsWith Mark bytes → IsNoSign bytes 2
+    → IsNoSign bytes 1 → IsFault place bytes (error.BadChar place)
+front_nothing place [] begins none neither = absurd begins
+front_nothing place (b ∷ bs) begins none neither = bad_char begins (no_token (b ∷ bs) begins none neither)
+
+-- a blank or a comment is taken off the front
+pub skipped_off : (place line n f : ℕ) (bytes : List ℕ) (old new : List Token) → Skips bytes n f → new ≡ old → Advances place line bytes old new (n, line + f)
+skipped_off place line n f bytes old new s same = record {
+  tokens = [];
+  added = same ∙ sym (append-nil old);
+  cut = skip s here;
+  moves = (skips_bounds s).0;
+  within = (skips_bounds s).1;
+  lines = omega (arith, (skips_bounds s).0, (skips_bounds s).2);
+}
+
+-- a token is taken off the front
+pub token_off : (place line n : ℕ) (k : Kind) (bytes : List ℕ) (old new : List Token) → Longest bytes n k → IsInRange k
+    → new ≡ old ++ (located k place line ∷ []) → Advances place line bytes old new (n, line)
+token_off place line n k bytes old new t fits added = record {
+  tokens = located k place line ∷ [];
+  added = added;
+  cut = token t fits here;
+  moves = longest_something t;
+  within = t.within;
+  lines = omega arith;
+}
+
+-- a text that is cut up to a stop is refused
+pub stop_refuses : (text : List ℕ) (ts : List Token) (place line : ℕ) (rest : List ℕ) (e : TextError) → length text ≤ text_limit
+    → Cuts 0 1 text ts place line rest → Stops place rest e → IsRefused text e
+stop_refuses text ts place line rest e within cut (inl none) = subst (λ (x : TextError). IsRefused text x) (sym none) (no_memory within)
+stop_refuses text ts place line rest e within cut (inr fault) =
+    faulty within (record { tokens = ts; place = place; line = line; rest = rest; cut = cut; fault = fault })

@@ -1,0 +1,36 @@
+use Rattle.std.proofs.Common.{arith, length-drop}
+use Rattle.std.proofs.lemmas.Result.{err_from_is_err_and}
+use Rattle.ppm_text.specs.Cutting.{here, too_long}
+use Rattle.ppm_text.proofs.CuttingLemmas.{joined, cut_stands}
+use Rattle.ppm_text.proofs.ScanLemmas.{stop_refuses}
+use Rattle.ppm_text.proofs.scan.tokens.Goals as goal
+
+-- the text passes the limit
+pub returns-then-text-gt-TEXT_LIMIT-clause-refused : goal.returns-then-text-gt-TEXT_LIMIT-clause-refused
+returns-then-text-gt-TEXT_LIMIT-clause-refused c = too_long (omega arith)
+
+-- nothing is cut yet
+pub loop-rest-init : goal.loop-rest-init
+loop-rest-init c = record { cut = rw c.new-all.ensures.items here; place = omega arith; line = omega arith; within = omega arith }
+
+-- the text is cut up to here, and here it stops
+pub returns-in_err-len-clause-refused : goal.returns-in_err-len-clause-refused
+returns-in_err-len-clause-refused c =
+    let p = err_from_is_err_and c.from_residual.result c.from_residual.ensures.1 in
+    let so_far = c.loop-rest.invariant in
+    rw (p.1, p.2) (stop_refuses c.args.text.now _ _ _ _ _ so_far.within so_far.cut c.in_err-len.ensures.err)
+
+-- the piece joins what is cut
+pub loop-rest-preserved : goal.loop-rest-preserved
+loop-rest-preserved c =
+    let piece = c.in_ok-len.ensures.ok in
+    record {
+      cut = rw (piece.added, c.behind-rest.ensures) (joined c.loop-rest.invariant.cut piece.cut);
+      place = rw (c.behind-rest.ensures, length-drop) (omega (arith, piece.within));
+      line = omega (arith, piece.lines);
+      within = c.loop-rest.invariant.within;
+    }
+
+-- the whole text is cut, so its tokens stand in it
+pub returns-clause-stand : goal.returns-clause-stand
+returns-clause-stand c = cut_stands c.loop-rest.invariant.cut
