@@ -9,11 +9,14 @@ use Rattle.ppm_text.specs.declared.token.Kind.TheVariants as kind
 use Rattle.ppm_text.specs.declared.token.Token.{Token}
 use Rattle.ppm_text.specs.declared.text_error.TextError.{TextError}
 use Rattle.ppm_text.specs.Bytes.{class_of, is_comment_byte}
-use Rattle.ppm_text.specs.Spelling.{Longest, IsInRange}
-use Rattle.ppm_text.specs.Cutting.{Skips, line_feed, blank, comment, located, Cuts, here, skip, token, IsTextOf, StandsIn}
+use Rattle.ppm_text.specs.Spelling.{Spells, a_keyword, a_name, a_number, a_sign, Longest, IsInRange}
+use Rattle.ppm_text.specs.Cutting.{Skips, line_feed, blank, comment, located, Cuts, here, skip, token, IsTextOf}
 use Rattle.ppm_text.specs.Cutting.{IsFault, not_ascii, bad_char, number_too_big, name_too_long, FaultsAt}
+use Rattle.ppm_text.specs.Tokens.{HasForm, StandsIn}
+use Rattle.ppm_text.specs.Correct.{HasOneReading}
+use Rattle.ppm_text.specs.Refusals.{place_of}
 use Rattle.ppm_text.proofs.BytesLemmas.{prefix_le, all_cons}
-use Rattle.ppm_text.proofs.SpellingLemmas.{spells_something, spells_class, one_longest}
+use Rattle.ppm_text.proofs.SpellingLemmas.{spells_something, spells_class, one_longest, word_is_name}
 
 -- one cutting after the other
 pub joined : {p l : ℕ} {bs : List ℕ} {ts : List Token} {q m : ℕ} {mid : List ℕ} → Cuts p l bs ts q m mid
@@ -147,9 +150,66 @@ fault_stops {p = p} {l = l} {bs = bs} (token {n = n} {k = k} t fits c) fault (to
 pub fault_refuses : {text : List ℕ} {e : TextError} → FaultsAt text e → (us : List Token) → IsTextOf text us → ⊥
 fault_refuses fault us cut = fault_stops fault.cut fault.fault cut.1 refl
 
+-- bytes begin with one fault
+same_fault : {p : ℕ} {bs : List ℕ} {e f : TextError} → IsFault p bs e → IsFault p bs f → e ≡ f
+same_fault (not_ascii is) (not_ascii is') = refl
+same_fault (not_ascii is) (bad_char is' nothing) = absurd (cc (is, is'))
+same_fault (not_ascii {b = b} {bs = bs} is) (number_too_big t big) = absurd (no_token_class b bs High is (λ e. cc (e)) (λ e. cc (e)) (λ e. cc (e)) _ _ t)
+same_fault (not_ascii {b = b} {bs = bs} is) (name_too_long t long) = absurd (no_token_class b bs High is (λ e. cc (e)) (λ e. cc (e)) (λ e. cc (e)) _ _ t)
+same_fault (bad_char is nothing) (not_ascii is') = absurd (cc (is, is'))
+same_fault (bad_char is nothing) (bad_char is' nothing') = refl
+same_fault (bad_char is nothing) (number_too_big t big) = absurd (nothing _ _ t.within t.spells)
+same_fault (bad_char is nothing) (name_too_long t long) = absurd (nothing _ _ t.within t.spells)
+same_fault (number_too_big t big) (not_ascii {b = b} {bs = bs} is) = absurd (no_token_class b bs High is (λ e. cc (e)) (λ e. cc (e)) (λ e. cc (e)) _ _ t)
+same_fault (number_too_big t big) (bad_char is nothing) = absurd (nothing _ _ t.within t.spells)
+same_fault (number_too_big t big) (number_too_big t' big') = refl
+same_fault (number_too_big {bs = bs} t big) (name_too_long t' long) = absurd (cc ((one_longest bs _ _ _ _ t t').1))
+same_fault (name_too_long t long) (not_ascii {b = b} {bs = bs} is) = absurd (no_token_class b bs High is (λ e. cc (e)) (λ e. cc (e)) (λ e. cc (e)) _ _ t)
+same_fault (name_too_long t long) (bad_char is nothing) = absurd (nothing _ _ t.within t.spells)
+same_fault (name_too_long {bs = bs} t long) (number_too_big t' big) = absurd (cc ((one_longest bs _ _ _ _ t t').1))
+same_fault (name_too_long t long) (name_too_long t' long') = refl
+
+-- two cuttings up to a fault come to the same fault
+one_fault : {p l : ℕ} {bs : List ℕ} {ts : List Token} {q m : ℕ} {rest : List ℕ} → Cuts p l bs ts q m rest → {e : TextError} → IsFault q rest e
+    → {us : List Token} {r o : ℕ} {last : List ℕ} → Cuts p l bs us r o last → {f : TextError} → IsFault r last f → e ≡ f
+one_fault here fault here other = same_fault fault other
+one_fault here fault (skip s c) other = absurd (fault_no_skip fault s)
+one_fault here fault (token t fits c) other = absurd (fault_no_token fault _ _ t fits)
+one_fault (skip s c) fault here other = absurd (fault_no_skip other s)
+one_fault {p = p} {l = l} {bs = bs} (skip {n = n} {f = g} s c) fault (skip {n = n'} {f = g'} s' c') other =
+    one_fault c fault (moved p l bs n g n' g' (one_skip s s').0 (one_skip s s').1 c') other
+one_fault (skip s c) fault (token t fits c') other = absurd (no_both s _ _ t)
+one_fault (token t fits c) fault here other = absurd (fault_no_token other _ _ t fits)
+one_fault (token t fits c) fault (skip s c') other = absurd (no_both s _ _ t)
+one_fault {p = p} {l = l} {bs = bs} (token {n = n} {k = k} t fits c) fault (token {n = n'} {k = k'} t' fits' c') other =
+    one_fault c fault (moved_token p l bs n n' (one_longest bs n n' k k' t t').0 c') other
+
+-- a fault names its place
+fault_place : {p : ℕ} {bs : List ℕ} {e : TextError} → IsFault p bs e → place_of e ≡ p
+fault_place (not_ascii is) = refl
+fault_place (bad_char is nothing) = refl
+fault_place (number_too_big t big) = refl
+fault_place (name_too_long t long) = refl
+
+-- each text is read in one way
+pub one_reading : (text : List ℕ) → HasOneReading text
+one_reading text = record {
+  tokens = λ ts us a b. one_cutting a b;
+  fault = λ e f a b. one_fault a.cut a.fault b.cut b.fault;
+  either = λ ts e a b. fault_refuses b ts a;
+  place = λ e a. fault_place a.fault;
+}
+
+-- a token within the limits has its form
+has_form : {bytes : List ℕ} {k : Kind} → Spells bytes k → IsInRange k → HasForm k
+has_form (a_keyword word found) fits = tt
+has_form (a_name {bytes = bytes} word none) fits = word_is_name bytes word fits
+has_form (a_number digits) fits = fits
+has_form (a_sign found) fits = tt
+
 -- where the tokens of a cutting stand: at places between its ends, in lines that grow no faster than the places
 record Stands (p l size : ℕ) (t : Token) : Type 0 where
-  in_range : IsInRange t.kind
+  form : HasForm t.kind
   above : p ≤ t.place
   below : t.place < p + size
   first_line : l ≤ t.line
@@ -158,7 +218,7 @@ record Stands (p l size : ℕ) (t : Token) : Type 0 where
 -- the tokens behind a piece of n bytes and at most one line stand behind its place
 stands_on : (p l n l' size : ℕ) (t : Token) → 0 < n → n ≤ size → l ≤ l' → l' ≤ l + 1 → Stands (p + n) l' (size - n) t → Stands p l size t
 stands_on p l n l' size t some within above lines s = record {
-  in_range = s.in_range;
+  form = s.form;
   above = omega (arith, s.above);
   below = omega (arith, s.below);
   first_line = omega (arith, s.first_line);
@@ -173,11 +233,11 @@ tokens_stand {p = p} {l = l} {bs = bs} (skip {n = n} {f = f} s c) =
     λ k d h. stands_on p l n (l + f) (length bs) _ b.0 b.1 (omega arith) (omega (arith, b.2)) (rw length-drop at (tokens_stand c k d h))
 tokens_stand {p = p} {l = l} {bs = bs} (token {n = n} {k = kind} {ts = ts} t fits c) =
     all_cons (Stands p l (length bs)) (located kind p l) ts
-    (record { in_range = fits; above = omega arith; below = omega (arith, longest_something t, t.within); first_line = omega arith; line = omega arith })
+    (record { form = has_form t.spells fits; above = omega arith; below = omega (arith, longest_something t, t.within); first_line = omega arith; line = omega arith })
     (λ k d h. stands_on p l n l (length bs) _ (longest_something t) t.within (omega arith) (omega arith) (rw length-drop at (tokens_stand c k d h)))
 
 -- each token that a text is cut into stands in it
-pub cut_stands : {text : List ℕ} {ts : List Token} {place line : ℕ} {rest : List ℕ} → Cuts 0 1 text ts place line rest → All (StandsIn text) ts
+pub cut_stands : {text : List ℕ} {ts : List Token} {place line : ℕ} {rest : List ℕ} → Cuts 0 1 text ts place line rest → All (StandsIn (length text)) ts
 cut_stands cut k d h =
     let s = tokens_stand cut k d h in
-    record { in_range = s.in_range; place = omega (arith, s.below); first_line = s.first_line; line = omega (arith, s.line) }
+    record { form = s.form; place = omega (arith, s.below); first_line = s.first_line; line = omega (arith, s.line) }

@@ -1,6 +1,6 @@
 -- What the functions of the scanner find is what the definitions say.
 use Rattle.std.proofs.Common.{◌≡◌, ℕ, ◌+◌, ◌<◌, ◌≤◌, ◌^◌, List, [], ◌∷◌, ◌++◌, length, take, drop, Some, None}
-use Rattle.std.proofs.Common.{arith, inl, inr, subst, sym, ◌∙◌, append-nil}
+use Rattle.std.proofs.Common.{arith, ap, Result, refl, inl, inr, subst, sym, ◌↔◌, Err, ◌∙◌, append-nil}
 use Rattle.std.proofs.lemmas.List.{length-take-le}
 use Rattle.std.specs.List.{prefix_len}
 use Rattle.ppm_words.specs.Names.{is_digit, is_name_byte, IsName}
@@ -14,12 +14,14 @@ use Rattle.ppm_text.specs.declared.text_error.TextError.TheVariants as error
 use Rattle.ppm_text.specs.Limits.{text_limit}
 use Rattle.ppm_text.specs.Bytes.{is_comment_byte, BeginsWith, value_from}
 use Rattle.ppm_text.specs.Spelling.{keyword_of, IsWord, IsDigits, a_keyword, a_name, a_number, Longest, IsInRange}
-use Rattle.ppm_text.specs.Cutting.{Skips, line_feed, blank, comment, located, Cuts, here, skip, token, IsRefused, faulty, no_memory}
+use Rattle.ppm_text.specs.Cutting.{Skips, line_feed, blank, comment, located, Cuts, here, skip, token}
+use Rattle.ppm_text.specs.Cutting.{IsRefused, too_long, faulty, no_memory}
 use Rattle.ppm_text.specs.Cutting.{IsFault, not_ascii, bad_char, number_too_big, name_too_long}
+use Rattle.ppm_text.specs.Tokens.{AreTokens, text_tokens}
 use Rattle.ppm_text.specs.Scanning.{IsNoSign, Stops, Advances}
 use Rattle.ppm_text.proofs.BytesLemmas.{prefix_le}
 use Rattle.ppm_text.proofs.SpellingLemmas.{run_is_word, run_is_number, word_is_name, longest_word, longest_number, no_token}
-use Rattle.ppm_text.proofs.CuttingLemmas.{skips_bounds, longest_something}
+use Rattle.ppm_text.proofs.CuttingLemmas.{skips_bounds, longest_something, cut_stands}
 
 -- a line feed in front
 pub front_line_feed : (bytes : List ℕ) → BeginsWith LineFeed bytes → Skips bytes 1 1
@@ -127,3 +129,36 @@ pub stop_refuses : (text : List ℕ) (ts : List Token) (place line : ℕ) (rest 
 stop_refuses text ts place line rest e within cut (inl none) = subst (λ (x : TextError). IsRefused text x) (sym none) (no_memory within)
 stop_refuses text ts place line rest e within cut (inr fault) =
     faulty within (record { tokens = ts; place = place; line = line; rest = rest; cut = cut; fault = fault })
+
+-- a fault is not that the text is too long
+short_fault : {p n : ℕ} {bs : List ℕ} {e : TextError} → IsFault p bs e → e ≡ error.TooLong n → ⊥
+short_fault (not_ascii is) same = absurd (cc (same))
+short_fault (bad_char is nothing) same = absurd (cc (same))
+short_fault (number_too_big t big) same = absurd (cc (same))
+short_fault (name_too_long t long) same = absurd (cc (same))
+
+-- a text that is refused for its length is too long
+long_refused : {text : List ℕ} {e : TextError} {n : ℕ} → IsRefused text e → e ≡ error.TooLong n → text_limit < length text
+long_refused (too_long long) same = long
+long_refused (faulty within fault) same = absurd (short_fault fault.fault same)
+long_refused (no_memory within) same = absurd (cc (same))
+
+-- a text that is too long is refused for its length
+refused_long : {text : List ℕ} {e : TextError} → IsRefused text e → text_limit < length text → e ≡ error.TooLong text_limit
+refused_long (too_long long) more = refl
+refused_long (faulty within fault) more = absurd (omega (arith, within, more))
+refused_long (no_memory within) more = absurd (omega (arith, within, more))
+
+-- a refusal, as it is answered
+abbrev refusal : {A : Type 0} → TextError → Result A TextError
+refusal e = Err e
+
+-- a text is refused for its length exactly where it is too long
+pub long_exactly : {A : Type 0} (text : List ℕ) (e : TextError) → IsRefused text e
+    → (refusal {A = A} e ≡ refusal (error.TooLong text_limit)) ↔ (text_limit < length text)
+long_exactly text e refused = (λ same. long_refused {n = text_limit} refused (cc (same)), λ more. ap (λ f. Err f) (refused_long refused more))
+
+-- the facts of the tokens of a text
+pub tokens_of : (text : List ℕ) (ts : List Token) (place line : ℕ) (rest : List ℕ) → length text ≤ text_limit
+    → Cuts 0 1 text ts place line rest → AreTokens (text_tokens ts (length text))
+tokens_of text ts place line rest within cut = record { short = within; stand = cut_stands cut }

@@ -33,13 +33,6 @@ pub data Cuts : ℕ → ℕ → List ℕ → List Token → ℕ → ℕ → List
 abbrev pub IsTextOf : List ℕ → List Token → Type 0
 IsTextOf text tokens = (line : ℕ) × Cuts 0 1 text tokens (length text) line []
 
--- a token keeps the limits, and stands in the text: its place is below the length, its line at most one more than its place
-pub record StandsIn (text : List ℕ) (t : Token) : Type 0 where
-  pub in_range : IsInRange t.kind
-  pub place : t.place < length text
-  pub first_line : 1 ≤ t.line
-  pub line : t.line ≤ t.place + 1
-
 -- the bytes at the place begin with the fault
 pub data IsFault : ℕ → List ℕ → TextError → Type 0 where
   not_ascii : {p b : ℕ} {bs : List ℕ} → class_of b ≡ High → IsFault p (b ∷ bs) (error.NotAscii p)

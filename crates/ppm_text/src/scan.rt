@@ -1,18 +1,19 @@
 //! Cuts a text into tokens.
 ghost use Rattle.std.specs.Prelude.{◌≡◌, ◌+◌, ◌-◌, ◌<◌, ◌≤◌, ◌^◌, length, take, drop};
-ghost use Rattle.std.specs.Prelude.{IfOk, IfErr, OnOk, IfSome, IfNone, MatchResult};
-ghost use Rattle.std.specs.List.{All, prefix_len};
+ghost use Rattle.std.specs.Prelude.{◌↔◌, Err, IfOk, IfErr, IfSome, IfNone, MatchResult};
+ghost use Rattle.std.specs.List.{prefix_len};
 ghost use Rattle.ppm_words.specs.Names.{is_digit, is_name_byte, IsName};
 ghost use Rattle.ppm_text.specs.declared.byte_class.ByteClass.TheVariants.{Letter, Digit, Mark};
 ghost use Rattle.ppm_text.specs.Limits.{text_limit};
 ghost use Rattle.ppm_text.specs.Bytes.{BeginsWith, is_comment_byte, value_from};
-ghost use Rattle.ppm_text.specs.Cutting.{IsTextOf, StandsIn, IsRefused};
+ghost use Rattle.ppm_text.specs.Cutting.{IsTextOf, IsRefused};
 ghost use Rattle.ppm_text.specs.Scanning.{IsSignOf, IsNoSign, IsInFront, Stops, Advances};
 
 use crate::byte_class::{ByteClass, class, is_digit_byte, is_letter_byte};
 use crate::spelling::{keyword, sign};
 use crate::text_error::TextError;
 use crate::token::{Kind, Sign, Token};
+use crate::token_list::Tokens;
 use ppm_words::Name;
 use std::alloc::{AllocError, Global};
 
@@ -207,11 +208,11 @@ fn take_piece(
 }
 
 /// The tokens of a text, in their order. A text of more than 1,048,576 bytes is `TooLong`, whatever is in it; any other
-/// error names the place at which the longest-token rule comes to no token, blank or comment that the limits allow.
-pub fn tokens(alloc: Global, text: &[u8]) -> Result<Vec<Token>, TextError>
-    ensures read { IfOk result (λ all. IsTextOf text.now all.items) }
-    ensures stand { IfOk result (λ all. All (StandsIn text.now) all.items) }
-    ensures within { OnOk result (length text.now ≤ text_limit) }
+/// fault names the first place at which the longest-token rule comes to no token, blank or comment that the limits allow.
+pub fn tokens(alloc: Global, text: &[u8]) -> Result<Tokens, TextError>
+    ensures read { IfOk result (λ all. IsTextOf text.now all.tokens) }
+    ensures len { IfOk result (λ all. all.text_len ≡ length text.now) }
+    ensures too_long { (result ≡ Err (TextError.TooLong text_limit)) ↔ (text_limit < length text.now) }
     ensures refused { IfErr result (IsRefused text.now) }
 {
     if text.len() > TEXT_LIMIT {
@@ -227,7 +228,7 @@ pub fn tokens(alloc: Global, text: &[u8]) -> Result<Vec<Token>, TextError>
         line = next;
         rest = behind(rest, len);
     }
-    Ok(all)
+    Ok(Tokens::from_parts(all, text.len() as u32))
 }
 
 #[cfg(test)]

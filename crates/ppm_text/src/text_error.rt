@@ -1,4 +1,7 @@
 //! Why a text is not cut into tokens.
+ghost use Rattle.std.specs.Prelude.{◌≡◌};
+ghost use Rattle.ppm_text.specs.Refusals.{number_of, place_of};
+
 use std::alloc::{AllocError, AllocFailed};
 use thiserror::Error;
 
@@ -23,6 +26,37 @@ pub enum TextError {
     /// Memory was refused.
     #[error("out of memory")]
     NoMemory,
+}
+
+impl TextError {
+    /// The number of the fault: 1 `NotAscii`, 2 `BadChar`, 3 `NumberTooBig`, 4 `NameTooLong`, 5 `TooLong`; 0 where
+    /// memory was refused.
+    pub fn number(self) -> u32
+        ensures { result ≡ number_of self }
+    {
+        match self {
+            TextError::NotAscii(_) => 1,
+            TextError::BadChar(_) => 2,
+            TextError::NumberTooBig(_) => 3,
+            TextError::NameTooLong(_) => 4,
+            TextError::TooLong(_) => 5,
+            TextError::NoMemory => 0,
+        }
+    }
+
+    /// The place of the fault, counted in bytes from 0; 1048576 for `TooLong`, 0 where memory was refused.
+    pub fn place(self) -> u32
+        ensures { result ≡ place_of self }
+    {
+        match self {
+            TextError::NotAscii(place)
+            | TextError::BadChar(place)
+            | TextError::NumberTooBig(place)
+            | TextError::NameTooLong(place)
+            | TextError::TooLong(place) => place,
+            TextError::NoMemory => 0,
+        }
+    }
 }
 
 impl From<AllocError> for TextError {

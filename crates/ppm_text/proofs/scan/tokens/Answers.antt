@@ -1,13 +1,17 @@
 use Rattle.std.proofs.Common.{arith, length-drop}
 use Rattle.std.proofs.lemmas.Result.{err_from_is_err_and}
 use Rattle.ppm_text.specs.Cutting.{here, too_long}
-use Rattle.ppm_text.proofs.CuttingLemmas.{joined, cut_stands}
-use Rattle.ppm_text.proofs.ScanLemmas.{stop_refuses}
+use Rattle.ppm_text.proofs.CuttingLemmas.{joined}
+use Rattle.ppm_text.proofs.ScanLemmas.{stop_refuses, long_exactly, tokens_of}
 use Rattle.ppm_text.proofs.scan.tokens.Goals as goal
 
 -- the text passes the limit
 pub returns-then-text-gt-TEXT_LIMIT-clause-refused : goal.returns-then-text-gt-TEXT_LIMIT-clause-refused
 returns-then-text-gt-TEXT_LIMIT-clause-refused c = too_long (omega arith)
+
+-- and only such a text is too long
+pub returns-then-text-gt-TEXT_LIMIT-clause-too_long : goal.returns-then-text-gt-TEXT_LIMIT-clause-too_long
+returns-then-text-gt-TEXT_LIMIT-clause-too_long c = long_exactly c.args.text.now _ (too_long (omega arith))
 
 -- nothing is cut yet
 pub loop-rest-init : goal.loop-rest-init
@@ -19,6 +23,13 @@ returns-in_err-len-clause-refused c =
     let p = err_from_is_err_and c.from_residual.result c.from_residual.ensures.1 in
     let so_far = c.loop-rest.invariant in
     rw (p.1, p.2) (stop_refuses c.args.text.now _ _ _ _ _ so_far.within so_far.cut c.in_err-len.ensures.err)
+
+-- such a text is not too long
+pub returns-in_err-len-clause-too_long : goal.returns-in_err-len-clause-too_long
+returns-in_err-len-clause-too_long c =
+    let p = err_from_is_err_and c.from_residual.result c.from_residual.ensures.1 in
+    let so_far = c.loop-rest.invariant in
+    rw (p.1, p.2) (long_exactly c.args.text.now _ (stop_refuses c.args.text.now _ _ _ _ _ so_far.within so_far.cut c.in_err-len.ensures.err))
 
 -- the piece joins what is cut
 pub loop-rest-preserved : goal.loop-rest-preserved
@@ -32,5 +43,5 @@ loop-rest-preserved c =
     }
 
 -- the whole text is cut, so its tokens stand in it
-pub returns-clause-stand : goal.returns-clause-stand
-returns-clause-stand c = cut_stands c.loop-rest.invariant.cut
+pub from_parts-requires : goal.from_parts-requires
+from_parts-requires c = tokens_of c.args.text.now _ _ _ _ c.loop-rest.invariant.within c.loop-rest.invariant.cut

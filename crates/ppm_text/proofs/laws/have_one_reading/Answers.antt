@@ -1,0 +1,5 @@
+use Rattle.ppm_text.proofs.CuttingLemmas.{one_reading}
+use Rattle.ppm_text.proofs.laws.have_one_reading.Goals as goal
+
+pub returns : goal.returns
+returns c = record { law = one_reading }
