@@ -18,7 +18,7 @@ fn derive(alloc: Global, text: &[u8]) -> Result<Source, SourceError>
     ensures { MatchResult result (λ s. IsDerived text.now (tree_of s)) (HasReason text.now) }
 {
     let all = tokens(alloc, text)?;
-    let source = parse(alloc, &all)?;
+    let source = parse(alloc, all.as_slice())?;
     Ok(source)
 }
 

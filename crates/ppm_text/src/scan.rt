@@ -1,6 +1,6 @@
 //! Cuts a text into tokens.
 ghost use Rattle.std.specs.Prelude.{◌≡◌, ◌+◌, ◌-◌, ◌<◌, ◌≤◌, ◌^◌, length, take, drop};
-ghost use Rattle.std.specs.Prelude.{◌↔◌, Err, IfOk, IfErr, IfSome, IfNone, MatchResult};
+ghost use Rattle.std.specs.Prelude.{◌↔◌, Err, IfOk, IfErr, OnOk, IfSome, IfNone, MatchResult};
 ghost use Rattle.std.specs.List.{prefix_len};
 ghost use Rattle.ppm_words.specs.Names.{is_digit, is_name_byte, IsName};
 ghost use Rattle.ppm_text.specs.declared.byte_class.ByteClass.TheVariants.{Letter, Digit, Mark};
@@ -212,6 +212,7 @@ fn take_piece(
 pub fn tokens(alloc: Global, text: &[u8]) -> Result<Tokens, TextError>
     ensures read { IfOk result (λ all. IsTextOf text.now all.tokens) }
     ensures len { IfOk result (λ all. all.text_len ≡ length text.now) }
+    ensures within { OnOk result (length text.now ≤ text_limit) }
     ensures too_long { (result ≡ Err (TextError.TooLong text_limit)) ↔ (text_limit < length text.now) }
     ensures refused { IfErr result (IsRefused text.now) }
 {

@@ -16,5 +16,5 @@ returns-in_err-all c =
 pub returns-in_err-source : goal.returns-in_err-source
 returns-in_err-source c =
     let p = err_from_is_err_and c.from_residual-in_err-source.result c.from_residual-in_err-source.ensures.1 in
-    rw (p.1, p.2) (refused_tokens c.args.text.now c.in_ok-all.all.items c.in_err-source.field-0.0 c.in_ok-all.ensures.read
-    (λ h t d w. c.in_err-source.ensures.refused (ap (λ e. Err e) h) t (subst (λ ts. DerivesTree depth_limit ts t) (sym c.deref.ensures.value) d) w))
+    rw (p.1, p.2) (refused_tokens c.args.text.now c.in_ok-all.all.tokens c.in_err-source.field-0.0 c.in_ok-all.ensures.read
+    (λ h t d w. c.in_err-source.ensures.refused (ap (λ e. Err e) h) t (subst (λ ts. DerivesTree depth_limit ts t) (sym c.as_slice.ensures.value) d) w))
