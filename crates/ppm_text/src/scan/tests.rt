@@ -1,5 +1,6 @@
 //! The scanner at values that the language's rules give.
 use super::tokens;
+use crate::laws::have_one_reading;
 use crate::text_error::TextError;
 use crate::token::{Kind, Token};
 use std::alloc::Global;
@@ -55,27 +56,33 @@ fn cuts_texts(rt: HostRuntime) -> Result<(), Fail> {
 
 #[test]
 fn refuses_at_the_fault(rt: HostRuntime) {
-    let cases: [(&[u8], TextError); 7] = [
-        (b"a 9223372036854775808", TextError::NumberTooBig(2)),
+    let cases: [(&[u8], TextError, u32, u32); 7] = [
+        (b"a 9223372036854775808", TextError::NumberTooBig(2), 3, 2),
         (
             b"\nabcdefghijklmnopqrstuvwxyz_ABC123",
             TextError::NameTooLong(1),
+            4,
+            1,
         ),
-        (b"a # \xC8", TextError::NotAscii(4)),
-        (b"a\xC8", TextError::NotAscii(1)),
-        (b"a & b", TextError::BadChar(2)),
-        (b"!a", TextError::BadChar(0)),
-        (b"&&|", TextError::BadChar(2)),
+        (b"a # \xC8", TextError::NotAscii(4), 1, 4),
+        (b"a\xC8", TextError::NotAscii(1), 1, 1),
+        (b"a & b", TextError::BadChar(2), 2, 2),
+        (b"!a", TextError::BadChar(0), 2, 0),
+        (b"&&|", TextError::BadChar(2), 2, 2),
     ];
-    for (text, want) in cases {
+    for (text, want, number, place) in cases {
         assert_eq!(rt; tokens(rt.alloc(), text).err(), Some(want));
+        assert_eq!(rt; (want.number(), want.place()), (number, place));
     }
+    have_one_reading();
 }
 
 #[test]
 fn keeps_the_limit(rt: HostRuntime) -> Result<(), Fail> {
     let mut text = vec![in rt.alloc(); b'\n'; 1_048_576]?;
-    assert_eq!(rt; tokens(rt.alloc(), &text)?.as_slice().len(), 0);
+    let all = tokens(rt.alloc(), &text)?;
+    assert_eq!(rt; all.as_slice().len(), 0);
+    assert_eq!(rt; all.text_len(), 1_048_576);
     text.push(b'\n')?;
     assert_eq!(rt;
         tokens(rt.alloc(), &text).err(),
