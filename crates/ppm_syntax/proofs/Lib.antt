@@ -14,3 +14,6 @@ pub mod DeclarationLemmas
 pub mod LimitsLemmas
 pub mod ItemLemmas
 pub mod AddingLemmas
+pub mod Reaching
+pub mod Viable
+pub mod FaultLemmas

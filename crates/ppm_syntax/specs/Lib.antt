@@ -7,3 +7,6 @@ pub mod Parsing
 pub mod Correct
 pub mod Deciding
 pub mod Refusals
+pub mod Stack
+pub mod Faults
+pub mod Verdict

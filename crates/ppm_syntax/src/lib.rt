@@ -9,6 +9,7 @@ mod declaration;
 mod expression;
 mod front;
 mod laws;
+mod limit;
 mod named;
 mod opening;
 mod parameter;

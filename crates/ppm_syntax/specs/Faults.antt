@@ -1,0 +1,74 @@
+-- The faults of tokens that are no source within the limits: which, and at which token, with no fault in front of it.
+use Rattle.std.specs.Prelude.{◌≡◌, ◌≤◌, ◌<◌, ℕ, List, [], ◌∷◌, ◌++◌, Option, Some, None}
+use Rattle.ppm_text.specs.declared.token.Token.{Token}
+use Rattle.ppm_syntax.specs.declared.limit.Limit.{Limit}
+use Rattle.ppm_syntax.specs.Tree.{SourceTree}
+use Rattle.ppm_syntax.specs.Limits.{depth_limit}
+use Rattle.ppm_syntax.specs.Grammar.{DerivesTree}
+use Rattle.ppm_syntax.specs.Stack.{State, step, run, openings, passed, beginning}
+
+-- a text of the grammar
+abbrev pub IsText : List Token → Type 0
+IsText ts = (d : ℕ) × (t : SourceTree) × DerivesTree d ts t
+
+-- a text of the grammar begins so
+abbrev pub Begins : List Token → Type 0
+Begins front = (more : List Token) × IsText (front ++ more)
+
+-- no limit is passed
+pub record Passes (s : State) : Type 0 where
+  pub openings : openings s.stack ≤ depth_limit
+  pub counts : passed s.tally ≡ None
+
+abbrev pub then_within : Option State → (State → Type 0) → Type 0
+then_within None next = ⊥
+then_within (Some s) next = Passes s × next s
+
+-- each of the tokens can come, and passes no limit
+abbrev pub Within : State → List Token → Type 0
+Within s [] = Unit {0}
+Within s (t ∷ ts) = then_within (step s t.kind) (λ s'. Within s' ts)
+
+-- there is no fault up to the token at the place
+pub record StandsAt (ts : List Token) (place : ℕ) (front : List Token) (token : Token) : Type 0 where
+  pub more : List Token
+  pub shape : ts ≡ front ++ (token ∷ more)
+  pub at : token.place ≡ place
+  pub within : Within beginning front
+
+-- the first token such that no text of the grammar begins with the tokens up to it
+pub record IsFirstUnexpected (ts : List Token) (place : ℕ) : Type 0 where
+  pub front : List Token
+  pub token : Token
+  pub stands : StandsAt ts place front token
+  pub begins : Begins front
+  pub ends : Begins (front ++ (token ∷ [])) → ⊥
+
+-- the tokens end, and a text of the grammar goes on from them
+pub record IsEnded (ts : List Token) : Type 0 where
+  pub begins : Begins ts
+  pub ends : IsText ts → ⊥
+  pub within : Within beginning ts
+
+-- the first token with which more openings are open than the limit
+pub record IsTooDeep (ts : List Token) (place : ℕ) : Type 0 where
+  pub front : List Token
+  pub token : Token
+  pub stands : StandsAt ts place front token
+  pub before : State
+  pub after : State
+  pub ran : run beginning front ≡ Some before
+  pub stepped : step before token.kind ≡ Some after
+  pub deep : depth_limit < openings after.stack
+
+-- the first token that passes a limit on counts, with no more openings than the limit
+pub record IsTooMany (ts : List Token) (place : ℕ) (which : Limit) : Type 0 where
+  pub front : List Token
+  pub token : Token
+  pub stands : StandsAt ts place front token
+  pub before : State
+  pub after : State
+  pub ran : run beginning front ≡ Some before
+  pub stepped : step before token.kind ≡ Some after
+  pub shallow : openings after.stack ≤ depth_limit
+  pub many : passed after.tally ≡ Some which
