@@ -10,6 +10,7 @@ use Rattle.ppm_syntax.specs.Grammar as g
 pub shorter : {d : ℕ} {p : Part} {ts rest : List Token} {e : Node} → Derives d p ts e rest → length rest ≤ length ts
 shorter (g.number is) = omega arith
 shorter (g.element is o i c) = omega (arith, shorter i)
+shorter (g.group o r c) = omega (arith, shorter r)
 shorter (g.level r m) = omega (arith, shorter r, shorter m)
 shorter g.no_more = omega arith
 shorter (g.more is r m) = omega (arith, shorter r, shorter m)

@@ -12,7 +12,7 @@ use Rattle.ppm_syntax.specs.Grammar as g
 use Rattle.ppm_syntax.specs.Parsing.{NoOperator, NoSign, HasSign, Ends}
 use Rattle.ppm_syntax.specs.Stack.{Symbol, Move, Stuck, On, Count, move, can_end, at_name}
 use Rattle.ppm_syntax.specs.Stack as stack
-use Rattle.ppm_syntax.proofs.Unique.{ends_at_close, ends_at_semicolon, operand_ends}
+use Rattle.ppm_syntax.proofs.Unique.{ends_at_close, ends_at_group, ends_at_semicolon, operand_ends}
 
 -- whether the tokens can all come, and a text may end behind them
 abbrev pub reaches_by : Move → (List Symbol → Bool) → Bool
@@ -91,6 +91,10 @@ reads_on (g.element {n = n} {o = o} {c = c} {ts = ts} {rest = rest} n_is o_is i 
     ∙ by_one o ts (stack.Index ∷ st) (stack.Operand top ∷ stack.EndIndex ∷ st) stack.ANode (rw o_is refl)
     ∙ reads_on i (ends_at_close top c rest c_is) (stack.EndIndex ∷ st)
     ∙ by_one c rest (stack.EndIndex ∷ st) st stack.Nothing (rw c_is refl)
+reads_on (g.group {o = o} {c = c} {ts = ts} {rest = rest} o_is r c_is) h st =
+    by_one o ts (stack.Operand 0 ∷ st) (stack.Operand top ∷ stack.EndGroup ∷ st) stack.Nothing (rw o_is refl)
+    ∙ reads_on r (ends_at_group top c rest c_is) (stack.EndGroup ∷ st)
+    ∙ by_one c rest (stack.EndGroup ∷ st) st stack.Nothing (rw c_is refl)
 reads_on (g.level {n = n} {ts = ts} r m) h st =
     same_tails n st ts ∙ reads_on r (operand_ends m h) (stack.More (suc n) ∷ st) ∙ reads_on m h st
 reads_on (g.no_more {n = n} {ts = ts}) h st = skip_more n st ts h

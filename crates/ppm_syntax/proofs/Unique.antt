@@ -32,6 +32,9 @@ ends_below n (t ∷ ts) h = λ m small. h m (omega arith)
 pub ends_at_close : (n : ℕ) (c : Token) (rest : List Token) → IsSign c sign.CloseBracket → NoOperator n (c ∷ rest)
 ends_at_close n c rest is m h = rw is refl
 
+pub ends_at_group : (n : ℕ) (c : Token) (rest : List Token) → IsSign c sign.CloseParen → NoOperator n (c ∷ rest)
+ends_at_group n c rest is m h = rw is refl
+
 -- nor does the sign that ends a statement
 pub ends_at_semicolon : (n : ℕ) (c : Token) (rest : List Token) → IsSign c sign.Semicolon → NoOperator n (c ∷ rest)
 ends_at_semicolon n c rest is m h = rw is refl
@@ -68,7 +71,13 @@ pub same : {d d' : ℕ} {p : Part} {ts : List Token} {e e' : Node} {rest rest' :
     Derives d' p ts e' rest' → Ends p rest' → Same e rest e' rest'
 same (g.number is) h (g.number is') h' = (cc, refl)
 same (g.number is) h (g.element is' o' i' c') h' = absurd (cc)
+same (g.number is) h (g.group is' r' c') h' = absurd (cc)
 same (g.element is o i c) h (g.number is') h' = absurd (cc)
+same (g.element is o i c) h (g.group is' r' c') h' = absurd (cc)
+same (g.group is r c) h (g.number is') h' = absurd (cc)
+same (g.group is r c) h (g.element is' o' i' c') h' = absurd (cc)
+same (g.group {c = c1} {rest = rest} is r c) h (g.group {c = c2} {rest = rest'} is' r' c') h' =
+    let s = same r (ends_at_group top c1 rest c) r' (ends_at_group top c2 rest' c') in (s.0, cc s.1)
 same (g.element {c = c1} {rest = rest} is o i c) h (g.element {c = c2} {rest = rest'} is' o' i' c') h' =
     let s = same i (ends_at_close top c1 rest c) i' (ends_at_close top c2 rest' c') in (cc s.0, cc s.1)
 same (g.level {n = n} {a = a} {mid = mid} r m) h (g.level {d = d'} {a = a'} {e = e'} {mid = mid'} {rest = rest'} r' m') h' =

@@ -20,6 +20,7 @@ use Rattle.ppm_syntax.specs.Stack as stack
 deeper : {d : ℕ} {p : Part} {ts : List Token} {e : Node} {rest : List Token} → Derives d p ts e rest → Derives (suc d) p ts e rest
 deeper (g.number is) = g.number is
 deeper (g.element n o i c) = g.element n o (deeper i) c
+deeper (g.group o r c) = g.group o (deeper r) c
 deeper (g.level r m) = g.level (deeper r) (deeper m)
 deeper g.no_more = g.no_more
 deeper (g.more is r m) = g.more is (deeper r) (deeper m)
@@ -44,6 +45,7 @@ data Gives : ℕ → Symbol → List Token → List Token → Type 0 where
   index : {d : ℕ} {o c : Token} {i : Expression} {ts rest : List Token} →
       IsSign o sign.OpenBracket → Derives d (Level top) ts (expression i) (c ∷ rest) → IsSign c sign.CloseBracket → Gives d stack.Index (o ∷ ts) rest
   end_index : {d : ℕ} {c : Token} {rest : List Token} → IsSign c sign.CloseBracket → Gives d stack.EndIndex (c ∷ rest) rest
+  end_group : {d : ℕ} {c : Token} {rest : List Token} → IsSign c sign.CloseParen → Gives d stack.EndGroup (c ∷ rest) rest
   target : {d : ℕ} {o : Token} {i : Expression} {ts mid rest : List Token} →
       IsSign o sign.OpenBracket → Derives d (Level top) ts (expression i) mid → Gives d stack.EndTarget mid rest → Gives d stack.Target (o ∷ ts) rest
   end_target : {d : ℕ} {c : Token} {mid rest : List Token} → IsSign c sign.CloseBracket → Gives d stack.Value mid rest → Gives d stack.EndTarget (c ∷ mid) rest
@@ -77,6 +79,7 @@ deeper_symbol (operand r) = operand (deeper r)
 deeper_symbol (more f) = more (λ a. ((f a).0, deeper (f a).1))
 deeper_symbol (index o i c) = index o (deeper i) c
 deeper_symbol (end_index c) = end_index c
+deeper_symbol (end_group c) = end_group c
 deeper_symbol (target o i r) = target o (deeper i) (deeper_symbol r)
 deeper_symbol (end_target c r) = end_target c (deeper_symbol r)
 deeper_symbol (value q v s) = value q (deeper v) s
@@ -129,6 +132,11 @@ sound_close_bracket : (d : ℕ) (st : List Symbol) (t : Token) (ts : List Token)
 sound_close_bracket d st t ts m f (kind.Sign sign.CloseBracket) is = f is
 sound_close_bracket d st t ts m f _ is = tt
 
+sound_close_paren : (d : ℕ) (st : List Symbol) (t : Token) (ts : List Token) (m : Move) → (IsSign t sign.CloseParen → Sound d st t ts m) →
+    (k : Kind) → t.kind ≡ k → Sound d st t ts (stack.at_close_paren k m)
+sound_close_paren d st t ts m f (kind.Sign sign.CloseParen) is = f is
+sound_close_paren d st t ts m f _ is = tt
+
 sound_assign : (d : ℕ) (st : List Symbol) (t : Token) (ts : List Token) (m : Move) → (IsSign t sign.Assign → Sound d st t ts m) →
     (k : Kind) → t.kind ≡ k → Sound d st t ts (stack.at_assign k m)
 sound_assign d st t ts m f (kind.Sign sign.Assign) is = f is
@@ -160,12 +168,17 @@ indexed : {d : ℕ} {x : List ℕ} {st : List Symbol} {t : Token} {ts : List Tok
     Yields (suc d) (stack.Operand 0 ∷ st) (t ∷ ts)
 indexed is (then (index o i c) y) = then (operand (g.element is o i c)) (deeper_stack y)
 
+grouped : {d : ℕ} {st : List Symbol} {t : Token} {ts : List Token} → IsSign t sign.OpenParen → Yields d (stack.Operand top ∷ stack.EndGroup ∷ st) ts →
+    Yields (suc d) (stack.Operand 0 ∷ st) (t ∷ ts)
+grouped is (then (operand r) (then (end_group c) y)) = then (operand (g.group is r c)) (deeper_stack y)
+
 sound_operand : (d n : ℕ) (st : List Symbol) (t : Token) (ts : List Token) (k : Kind) → t.kind ≡ k →
     Sound d (stack.Operand n ∷ st) t ts (stack.operand k (tails n st))
 sound_operand d (suc n) st t ts k is =
     sound_map joined (stack.operand k (tails n (stack.More (suc n) ∷ st))) (sound_operand d n (stack.More (suc n) ∷ st) t ts k is)
 sound_operand d zero st t ts (kind.Number v) is = λ y. numbered is y
 sound_operand d zero st t ts (kind.Name x) is = λ y. indexed is y
+sound_operand d zero st t ts (kind.Sign sign.OpenParen) is = λ y. grouped is y
 sound_operand d zero st t ts _ is = tt
 
 continued : {d n : ℕ} {o : Operator} {st : List Symbol} {t : Token} {ts : List Token} → operator_at (suc n) t.kind ≡ Some o →

@@ -81,6 +81,9 @@ pub data Derives : ℕ → Part → List Token → Node → List Token → Type 
   element : {d : ℕ} {n o c : Token} {x : List ℕ} {i : Expression} {ts rest : List Token} →
       IsName n x → IsSign o sign.OpenBracket → Derives d (Level top) ts (expression i) (c ∷ rest) → IsSign c sign.CloseBracket →
       Derives (suc d) (Level 0) (n ∷ o ∷ ts) (expression (tree.Element x n.line i)) rest
+  group : {d : ℕ} {o c : Token} {e : Expression} {ts rest : List Token} →
+      IsSign o sign.OpenParen → Derives d (Level top) ts (expression e) (c ∷ rest) → IsSign c sign.CloseParen →
+      Derives (suc d) (Level 0) (o ∷ ts) (expression e) rest
   level : {d n : ℕ} {a e : Expression} {ts mid rest : List Token} →
       Derives d (Level n) ts (expression a) mid → Derives d (More (suc n) a) mid (expression e) rest →
       Derives d (Level (suc n)) ts (expression e) rest

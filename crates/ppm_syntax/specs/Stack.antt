@@ -22,6 +22,8 @@ pub data Symbol : Type 0 where
   Index : Symbol
   -- ]
   EndIndex : Symbol
+  -- )
+  EndGroup : Symbol
   -- [ expression ] = expression ;
   Target : Symbol
   -- ] = expression ;
@@ -84,6 +86,10 @@ abbrev pub at_close_bracket : Kind → Move → Move
 at_close_bracket (kind.Sign sign.CloseBracket) m = m
 at_close_bracket _ m = Stuck
 
+abbrev pub at_close_paren : Kind → Move → Move
+at_close_paren (kind.Sign sign.CloseParen) m = m
+at_close_paren _ m = Stuck
+
 abbrev pub at_assign : Kind → Move → Move
 at_assign (kind.Sign sign.Assign) m = m
 at_assign _ m = Stuck
@@ -109,6 +115,7 @@ tails (suc n) st = tails n (More (suc n) ∷ st)
 abbrev pub operand : Kind → List Symbol → Move
 operand (kind.Number n) st = On ANode st
 operand (kind.Name x) st = On Nothing (Index ∷ st)
+operand (kind.Sign sign.OpenParen) st = On Nothing (Operand top ∷ EndGroup ∷ st)
 operand _ st = Stuck
 
 -- an operator of the level goes on with an operand, and anything else with what follows
@@ -162,6 +169,7 @@ move (Operand n ∷ st) k = operand k (tails n st)
 move (More n ∷ st) k = after_operand n (operator_at n k) st (move st k)
 move (Index ∷ st) k = at_open_bracket k (On ANode (Operand top ∷ EndIndex ∷ st))
 move (EndIndex ∷ st) k = at_close_bracket k (On Nothing st)
+move (EndGroup ∷ st) k = at_close_paren k (On Nothing st)
 move (Target ∷ st) k = at_open_bracket k (On Nothing (Operand top ∷ EndTarget ∷ st))
 move (EndTarget ∷ st) k = at_close_bracket k (On Nothing (Value ∷ st))
 move (Value ∷ st) k = at_assign k (On Nothing (Operand top ∷ Semicolon ∷ st))
@@ -183,6 +191,7 @@ move (NextParameter ∷ st) k = next_parameter k st
 abbrev pub openings : List Symbol → ℕ
 openings [] = 0
 openings (EndIndex ∷ st) = suc (openings st)
+openings (EndGroup ∷ st) = suc (openings st)
 openings (EndTarget ∷ st) = suc (openings st)
 openings (InBody ∷ st) = suc (openings st)
 openings (ArrayLength ∷ st) = suc (openings st)
