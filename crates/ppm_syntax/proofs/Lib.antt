@@ -5,15 +5,7 @@ pub mod MeaningLemmas
 pub mod Unique
 pub mod ReadingLemmas
 pub mod GrammarLemmas
-pub mod Refusals
-pub mod ExpressionLemmas
-pub mod OperandLemmas
-pub mod StatementLemmas
-pub mod ParameterLemmas
-pub mod DeclarationLemmas
 pub mod LimitsLemmas
-pub mod ItemLemmas
-pub mod AddingLemmas
 pub mod Reaching
 pub mod Viable
 pub mod FaultLemmas

@@ -2,8 +2,10 @@
 use Rattle.std.specs.Prelude.{◌≡◌, ◌≤◌, ◌<◌, ℕ, List, [], ◌∷◌, ◌++◌, Option, Some, None}
 use Rattle.ppm_text.specs.declared.token.Token.{Token}
 use Rattle.ppm_syntax.specs.declared.limit.Limit.{Limit}
+use Rattle.ppm_syntax.specs.declared.syntax_error.SyntaxError.{SyntaxError}
+use Rattle.ppm_syntax.specs.declared.syntax_error.SyntaxError.TheVariants as error
 use Rattle.ppm_syntax.specs.Tree.{SourceTree}
-use Rattle.ppm_syntax.specs.Limits.{depth_limit}
+use Rattle.ppm_syntax.specs.Limits.{depth_limit, IsWithin}
 use Rattle.ppm_syntax.specs.Grammar.{DerivesTree}
 use Rattle.ppm_syntax.specs.Stack.{State, step, run, openings, passed, beginning}
 
@@ -72,3 +74,25 @@ pub record IsTooMany (ts : List Token) (place : ℕ) (which : Limit) : Type 0 wh
   pub stepped : step before token.kind ≡ Some after
   pub shallow : openings after.stack ≤ depth_limit
   pub many : passed after.tally ≡ Some which
+
+-- the fault of the tokens of a text of so many bytes; want of memory is none
+abbrev pub IsFault : List Token → ℕ → SyntaxError → Type 0
+IsFault ts text_len (error.Expected place) = IsFirstUnexpected ts place
+IsFault ts text_len (error.Ended place) = IsEnded ts × (place ≡ text_len)
+IsFault ts text_len (error.TooDeep place) = IsTooDeep ts place
+IsFault ts text_len (error.TooMany place which) = IsTooMany ts place which
+IsFault ts text_len error.NoMemory = ⊥
+
+-- why tokens have no tree: a fault, and memory can always be refused
+abbrev pub HasFault : List Token → ℕ → SyntaxError → Type 0
+HasFault ts text_len error.NoMemory = Unit {0}
+HasFault ts text_len e = IsFault ts text_len e
+
+-- Tokens have at most one fault, and none where they have a tree within the limits.
+pub record HasOneAnswer (ts : List Token) (text_len : ℕ) : Type 0 where
+  pub fault : (e f : SyntaxError) → IsFault ts text_len e → IsFault ts text_len f → e ≡ f
+  pub either : (t : SourceTree) (e : SyntaxError) → DerivesTree depth_limit ts t → IsWithin t → IsFault ts text_len e → ⊥
+
+-- so it is with all tokens
+abbrev pub HaveOneAnswer : Type 0
+HaveOneAnswer = (ts : List Token) (text_len : ℕ) → HasOneAnswer ts text_len

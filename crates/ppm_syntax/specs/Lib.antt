@@ -6,7 +6,9 @@ pub mod Meaning
 pub mod Parsing
 pub mod Correct
 pub mod Deciding
-pub mod Refusals
+pub mod SyntaxRefusals
+pub mod RegionFaults
+pub mod RegionRefusals
 pub mod Stack
 pub mod Faults
 pub mod Verdict

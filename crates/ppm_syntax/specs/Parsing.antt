@@ -1,20 +1,24 @@
--- What the parser's functions answer: how far a part goes, and which readings a refusal rules out.
-use Rattle.std.specs.Prelude.{◌≡◌, ℕ, suc, ◌+◌, ◌≤◌, List, [], ◌∷◌, ◌++◌, length, map, None}
+-- What the parser's functions answer: how far a part goes, and at which token and why they go no further.
+use Rattle.std.specs.Prelude.{◌≡◌, ℕ, suc, ◌+◌, ◌≤◌, List, [], ◌∷◌, ◌++◌, length, map, None, Option, Some}
 use Rattle.std.specs.List.{All}
 use Rattle.ppm_text.specs.declared.token.Keyword.{Keyword}
-use Rattle.ppm_text.specs.declared.token.Keyword.TheVariants as keyword
 use Rattle.ppm_text.specs.declared.token.Sign.{Sign}
 use Rattle.ppm_text.specs.declared.token.Sign.TheVariants as sign
 use Rattle.ppm_text.specs.declared.token.Token.{Token}
+use Rattle.ppm_syntax.specs.declared.tree.Mode.{Mode}
 use Rattle.ppm_syntax.specs.declared.tree.Param.{Param}
 use Rattle.ppm_syntax.specs.declared.tree.Array.{Array}
-use Rattle.ppm_syntax.specs.declared.syntax_error.SyntaxError.{SyntaxError}
-use Rattle.ppm_syntax.specs.declared.syntax_error.SyntaxError.TheVariants as error
+use Rattle.ppm_syntax.specs.declared.limit.Limit.{Limit}
+use Rattle.ppm_syntax.specs.declared.stop.Stop.{Stop}
+use Rattle.ppm_syntax.specs.declared.stop.Stop.TheVariants as stop
 use Rattle.ppm_syntax.specs.declared.parsing.Declared.{Declared}
 use Rattle.ppm_syntax.specs.Tree.{Expression, Statement, Procedure, SourceTree, procedure_of}
-use Rattle.ppm_syntax.specs.Grammar.{Part, Level, More, OneStatement, Statements, Block, Parameter, Parameters, MoreParameters, Source, Node, Derives}
-use Rattle.ppm_syntax.specs.Grammar.{operator_at, top, IsName, IsNumber, IsKeyword, IsSign, expression, statement, statements, parameter, parameters}
-use Rattle.ppm_syntax.specs.Limits.{nodes_of, HasLiterals, IsSmallStatement, IsSmall, IsWithin, words_of, parameter_limit, word_limit, depth_limit}
+use Rattle.ppm_syntax.specs.Grammar.{Part, Level, More, OneStatement, Statements, Block, Parameter, Parameters, MoreParameters, Source, Node, Derives, DerivesTree}
+use Rattle.ppm_syntax.specs.Grammar.{operator_at, top, mode_of, IsName, IsNumber, IsKeyword, IsSign, expression, statement, statements, parameter, parameters}
+use Rattle.ppm_syntax.specs.Limits.{nodes_of, HasLiterals, IsSmallStatement, IsSmall, IsWithin, words_of, array_limit, word_limit, node_limit, depth_limit}
+use Rattle.ppm_syntax.specs.Stack.{Symbol, Tally, State, state_at, openings, passed}
+use Rattle.ppm_syntax.specs.Stack as stack
+use Rattle.ppm_syntax.specs.Verdict.{Verdict, Whole, Cut, Unexpected, Deep, Many, verdict}
 
 -- no operator of a level up to n stands in front
 abbrev pub NoOperator : ℕ → List Token → Type 0
@@ -26,25 +30,10 @@ abbrev pub NoOperatorOf : ℕ → List Token → Type 0
 NoOperatorOf n [] = Unit {0}
 NoOperatorOf n (t ∷ ts) = operator_at n t.kind ≡ None
 
--- no number stands in front
-abbrev pub NoNumber : List Token → Type 0
-NoNumber [] = Unit {0}
-NoNumber (t ∷ ts) = (n : ℕ) → IsNumber t n → ⊥
-
 -- no name stands in front
 abbrev pub NoName : List Token → Type 0
 NoName [] = Unit {0}
 NoName (t ∷ ts) = (x : List ℕ) → IsName t x → ⊥
-
--- no keyword stands in front
-abbrev pub NoKeyword : List Token → Type 0
-NoKeyword [] = Unit {0}
-NoKeyword (t ∷ ts) = (k : Keyword) → IsKeyword t k → ⊥
-
--- the keyword doesn't stand in front
-abbrev pub NoWord : Keyword → List Token → Type 0
-NoWord k [] = Unit {0}
-NoWord k (t ∷ ts) = IsKeyword t k → ⊥
 
 -- the sign stands in front
 abbrev pub HasSign : Sign → List Token → Type 0
@@ -61,6 +50,11 @@ pub record InFront (P : Token → Type 0) (ts rest : List Token) : Type 0 where
   pub token : Token
   pub shape : ts ≡ token ∷ rest
   pub has : P token
+
+-- no token with the property stands in front: the tokens end, or another stands there
+abbrev pub Misses : (Token → Type 0) → List Token → Stop → Type 0
+Misses P [] e = e ≡ stop.Ended
+Misses P (t ∷ ts) e = (e ≡ stop.Expected t.place) × (P t → ⊥)
 
 -- what stands in front of the rest cannot go on with the part
 abbrev pub Ends : Part → List Token → Type 0
@@ -79,10 +73,34 @@ pub record Reads (d : ℕ) (p : Part) (ts : List Token) (node : Node) (rest : Li
   pub derived : Derives d p ts node rest
   pub ends : Ends p rest
 
--- an error of the parser: a refusal has this reason, and memory can always be refused
-abbrev pub IsRefused : Type 0 → SyntaxError → Type 0
-IsRefused P error.Refused = P
-IsRefused P error.NoMemory = Unit {0}
+-- a stop tells the verdict, but for want of memory
+abbrev pub Tells : Stop → Verdict → Type 0
+Tells (stop.Expected place) v = v ≡ Unexpected place
+Tells stop.Ended v = v ≡ Cut
+Tells (stop.TooDeep place) v = v ≡ Deep place
+Tells (stop.TooMany place which) v = v ≡ Many place which
+Tells stop.NoMemory v = Unit {0}
+
+-- wherever the symbols are to come, so many more openings may be open and the count is such a one, the tokens stop so
+pub record Fails (depth : ℕ) (counted : Tally → Type 0) (xs : List Symbol) (ts : List Token) (e : Stop) : Type 0 where
+  pub tells : (st : List Symbol) (c : Tally) → openings (xs ++ st) + depth ≡ depth_limit → passed c ≡ None → counted c →
+      Tells e (verdict (state_at (xs ++ st) c) ts)
+
+-- so many more nodes may come
+abbrev pub HasNodesLeft : ℕ → Tally → Type 0
+HasNodesLeft nodes c = c.nodes + nodes ≡ node_limit
+
+-- so many parameters came
+abbrev pub HasParameters : ℕ → Tally → Type 0
+HasParameters n c = c.parameters ≡ n
+
+-- so many words of arrays may come
+abbrev pub HasWordsLeft : ℕ → Tally → Type 0
+HasWordsLeft words c = c.words + words ≡ word_limit
+
+-- whatever came
+abbrev pub Anything : Tally → Type 0
+Anything c = Unit {0}
 
 -- the nodes of the expression that a part begins with
 abbrev pub nodes_before : Part → ℕ
@@ -95,126 +113,81 @@ pub record ReadsExpression (d room : ℕ) (p : Part) (ts : List Token) (e : Expr
   pub nodes : nodes_of e + left ≡ nodes_before p + room
   pub literals : HasLiterals e
 
--- no expression of literals with at most so many further nodes can be read
-pub record HasNoExpression (d room : ℕ) (p : Part) (ts : List Token) : Type 0 where
-  pub none : (e : Expression) (rest : List Token) → Reads d p ts (expression e) rest → nodes_of e ≤ nodes_before p + room → HasLiterals e → ⊥
-
--- the tokens begin with a name and an index in brackets
-pub record IsIndexed (d : ℕ) (ts : List Token) (x : List ℕ) (line : ℕ) (i : Expression) (rest : List Token) : Type 0 where
-  pub inner : ℕ
-  pub deep : d ≡ suc inner
-  pub name : Token
-  pub opened : Token
+-- a whole expression and the sign are read, and of the nodes that were left the expression leaves so many
+pub record ReadsUpTo (d room : ℕ) (s : Sign) (ts : List Token) (e : Expression) (left : ℕ) (rest : List Token) : Type 0 where
   pub closed : Token
-  pub inside : List Token
-  pub shape : ts ≡ name ∷ opened ∷ inside
-  pub is_name : IsName name x
-  pub at : name.line ≡ line
-  pub is_opened : IsSign opened sign.OpenBracket
-  pub index : Derives inner (Level top) inside (expression i) (closed ∷ rest)
-  pub is_closed : IsSign closed sign.CloseBracket
+  pub inside : Derives d (Level top) ts (expression e) (closed ∷ rest)
+  pub is_closed : IsSign closed s
+  pub nodes : nodes_of e + left ≡ room
+  pub literals : HasLiterals e
 
--- a name and an index are read, and of the nodes that were left the index leaves so many
-pub record ReadsIndexed (d room : ℕ) (ts : List Token) (x : List ℕ) (line : ℕ) (i : Expression) (left : ℕ) (rest : List Token) : Type 0 where
-  pub reads : IsIndexed d ts x line i rest
-  pub nodes : nodes_of i + left ≡ room
-  pub literals : HasLiterals i
+-- the symbol is the sign behind an expression
+pub data IsEnd : Sign → Symbol → Type 0 where
+  of_index : IsEnd sign.CloseBracket stack.EndIndex
+  of_target : IsEnd sign.CloseBracket stack.EndTarget
+  of_group : IsEnd sign.CloseParen stack.EndGroup
+  of_statement : IsEnd sign.Semicolon stack.Semicolon
 
--- no name and index of at most so many nodes can be read
-pub record HasNoIndexed (d room : ℕ) (ts : List Token) : Type 0 where
-  pub none : (x : List ℕ) (line : ℕ) (i : Expression) (rest : List Token) → IsIndexed d ts x line i rest → nodes_of i ≤ room → HasLiterals i → ⊥
+-- wherever a whole expression and the sign are to come, the tokens stop so
+pub record FailsUpTo (depth nodes : ℕ) (s : Sign) (ts : List Token) (e : Stop) : Type 0 where
+  pub fails : (x : Symbol) → IsEnd s x → Fails depth (HasNodesLeft nodes) (stack.Operand top ∷ x ∷ []) ts e
 
--- a statement within the limits is read
-pub record ReadsStatement (d : ℕ) (ts : List Token) (s : Statement) (rest : List Token) : Type 0 where
-  pub reads : Derives d OneStatement ts (statement s) rest
+-- the tokens behind a name go on with an index in brackets, and so it is an element
+pub record ReadsElement (d room : ℕ) (x : List ℕ) (line : ℕ) (ts : List Token) (e : Expression) (left : ℕ) (rest : List Token) : Type 0 where
+  pub reads : (n : Token) → IsName n x → n.line ≡ line → Derives d (Level 0) (n ∷ ts) (expression e) rest
+  pub nodes : nodes_of e + left ≡ room
+  pub literals : HasLiterals e
+
+-- the tokens behind a name go on with an index, a value and a semicolon, and so it is a statement within the limits
+pub record ReadsPut (d : ℕ) (x : List ℕ) (line : ℕ) (ts : List Token) (s : Statement) (rest : List Token) : Type 0 where
+  pub reads : (n : Token) → IsName n x → n.line ≡ line → Derives d OneStatement (n ∷ ts) (statement s) rest
   pub small : IsSmallStatement s
-
--- no statement within the limits can be read
-pub record HasNoStatement (d : ℕ) (ts : List Token) : Type 0 where
-  pub none : (s : Statement) (rest : List Token) → Derives d OneStatement ts (statement s) rest → IsSmallStatement s → ⊥
 
 -- statements within the limits are read
 pub record ReadsStatements (d : ℕ) (p : Part) (ts : List Token) (b : List Statement) (rest : List Token) : Type 0 where
   pub reads : Reads d p ts (statements b) rest
   pub small : All IsSmallStatement b
 
--- no statements within the limits can be read
-pub record HasNoStatements (d : ℕ) (p : Part) (ts : List Token) : Type 0 where
-  pub none : (b : List Statement) (rest : List Token) → Reads d p ts (statements b) rest → All IsSmallStatement b → ⊥
+-- how a parameter is taken stands in front
+abbrev pub IsMode : Token → Mode → Type 0
+IsMode t how = (k : Keyword) × IsKeyword t k × (mode_of k ≡ Some how)
 
--- no parameter can be read
-pub record HasNoParameter (ts : List Token) : Type 0 where
-  pub none : (p : Param) (rest : List Token) → Derives 0 Parameter ts (parameter p) rest → ⊥
-
--- parameters within the limit are read, up to the parenthesis that closes them; they have no openings
+-- parameters and the parenthesis that closes them are read; they have no openings
 pub record ReadsParameters (ts : List Token) (ps : List Param) (rest : List Token) : Type 0 where
   pub closed : Token
   pub reads : Reads 0 Parameters ts (parameters ps) (closed ∷ rest)
-  pub few : length ps ≤ parameter_limit
 
--- no parameters within the limit can be read
-pub record HasNoParameters (ts : List Token) : Type 0 where
-  pub none : (ps : List Param) (rest : List Token) → Reads 0 Parameters ts (parameters ps) rest → length ps ≤ parameter_limit → ⊥
-
--- the tokens begin with the keyword, a name and the sign
-pub record IsHead (w : Keyword) (s : Sign) (ts : List Token) (x : List ℕ) (line : ℕ) (rest : List Token) : Type 0 where
-  pub word : Token
+-- the tokens behind the keyword go on as an array of at most so many words does
+pub record ReadsArray (words : ℕ) (ts : List Token) (a : Array) (rest : List Token) : Type 0 where
   pub name : Token
   pub opened : Token
-  pub shape : ts ≡ word ∷ name ∷ opened ∷ rest
-  pub is_word : IsKeyword word w
-  pub is_name : IsName name x
-  pub at : name.line ≡ line
-  pub is_opened : IsSign opened s
-
--- they don't
-pub record HasNoHead (w : Keyword) (s : Sign) (ts : List Token) : Type 0 where
-  pub none : (x : List ℕ) (line : ℕ) (rest : List Token) → IsHead w s ts x line rest → ⊥
-
--- the tokens begin with the declaration of an array
-pub record IsArray (ts : List Token) (a : Array) (rest : List Token) : Type 0 where
   pub number : Token
   pub closed : Token
   pub semicolon : Token
-  pub head : IsHead keyword.Array sign.OpenBracket ts a.name a.line (number ∷ closed ∷ semicolon ∷ rest)
+  pub shape : ts ≡ name ∷ opened ∷ number ∷ closed ∷ semicolon ∷ rest
+  pub is_name : IsName name a.name
+  pub at : name.line ≡ a.line
+  pub is_opened : IsSign opened sign.OpenBracket
   pub is_number : IsNumber number a.length
   pub is_closed : IsSign closed sign.CloseBracket
   pub is_semicolon : IsSign semicolon sign.Semicolon
+  pub few : a.length ≤ words
 
--- no declaration of an array of at most so many words can be read
-pub record HasNoArray (words : ℕ) (ts : List Token) : Type 0 where
-  pub none : (a : Array) (rest : List Token) → IsArray ts a rest → a.length ≤ words → ⊥
-
--- the tokens begin with a procedure
-pub record IsProcedure (d : ℕ) (ts : List Token) (p : Procedure) (rest : List Token) : Type 0 where
-  pub inner : ℕ
-  pub deep : d ≡ suc inner
+-- the tokens behind the keyword go on as a procedure within the limits does
+pub record ReadsProcedure (d : ℕ) (ts : List Token) (p : Procedure) (rest : List Token) : Type 0 where
+  pub name : Token
+  pub opened : Token
   pub closed : Token
   pub inside : List Token
   pub behind : List Token
-  pub head : IsHead keyword.Proc sign.OpenParen ts p.name p.line inside
-  pub params : Derives inner Parameters inside (parameters p.params) (closed ∷ behind)
+  pub shape : ts ≡ name ∷ opened ∷ inside
+  pub is_name : IsName name p.name
+  pub at : name.line ≡ p.line
+  pub is_opened : IsSign opened sign.OpenParen
+  pub params : Derives 0 Parameters inside (parameters p.params) (closed ∷ behind)
   pub is_closed : IsSign closed sign.CloseParen
   pub body : Derives d Block behind (statements p.body) rest
-
--- no procedure within the limits can be read
-pub record HasNoProcedure (d : ℕ) (ts : List Token) : Type 0 where
-  pub none : (p : Procedure) (rest : List Token) → IsProcedure d ts p rest → IsSmall p → ⊥
-
--- a declaration
-pub data Item : Type 0 where
-  an_array : Array → Item
-  a_procedure : Procedure → Item
-
--- the tokens begin with the declaration
-abbrev pub IsItem : ℕ → List Token → Item → List Token → Type 0
-IsItem d ts (an_array a) rest = IsArray ts a rest
-IsItem d ts (a_procedure p) rest = IsProcedure d ts p rest
-
--- a tree with one more declaration at its end
-abbrev pub with_item : SourceTree → Item → SourceTree
-with_item t (an_array a) = record { arrays = t.arrays ++ (a ∷ []); procs = t.procs }
-with_item t (a_procedure p) = record { arrays = t.arrays; procs = t.procs ++ (p ∷ []) }
+  pub small : IsSmall p
 
 -- the tree of what is declared so far
 abbrev pub tree_so_far : Declared → SourceTree
@@ -225,21 +198,36 @@ pub record IsSoFar (s : Declared) : Type 0 where
   pub within : IsWithin (tree_so_far s)
   pub words : words_of s.arrays.items + s.words ≡ word_limit
 
+-- what is declared so far is what came
+pub record IsCounted (s : Declared) (c : Tally) : Type 0 where
+  pub arrays : length s.arrays.items ≡ c.arrays
+  pub words : words_of s.arrays.items ≡ c.words
+  pub procedures : length s.procs.items ≡ c.procedures
+
+-- what is declared in one, and then in the other
+abbrev pub joined : SourceTree → SourceTree → SourceTree
+joined t u = record { arrays = t.arrays ++ u.arrays; procs = t.procs ++ u.procs }
+
+-- the verdict passes from the tokens to the rest, and what came then is what is declared then
+abbrev pub PassesItem : Tally → List Token → Declared → List Token → Type 0
+PassesItem c ts new rest = (d : Tally) × IsCounted new d × (passed d ≡ None) × (verdict (state_at [] c) ts ≡ verdict (state_at [] d) rest)
+
 -- one more declaration is read, and all are within the limits
 pub record AddsItem (ts : List Token) (old new : Declared) (rest : List Token) : Type 0 where
-  pub item : Item
-  pub reads : IsItem depth_limit ts item rest
-  pub tree : tree_so_far new ≡ with_item (tree_so_far old) item
+  pub item : SourceTree
+  pub reads : (later : SourceTree) → DerivesTree depth_limit rest later → DerivesTree depth_limit ts (joined item later)
+  pub tree : tree_so_far new ≡ joined (tree_so_far old) item
   pub so_far : IsSoFar new
+  pub passes : (c : Tally) → IsCounted old c → passed c ≡ None → PassesItem c ts new rest
 
--- no further declaration of an array within the limits can be read
-pub record HasNoFurtherArray (ts : List Token) (t : SourceTree) : Type 0 where
-  pub none : (a : Array) (rest : List Token) → IsArray ts a rest → IsWithin (with_item t (an_array a)) → ⊥
+-- behind what is declared so far the tokens stop so
+pub record FailsItem (s : Declared) (ts : List Token) (e : Stop) : Type 0 where
+  pub tells : (c : Tally) → IsCounted s c → passed c ≡ None → Tells e (verdict (state_at [] c) ts)
 
--- no further procedure within the limits can be read
-pub record HasNoFurtherProcedure (ts : List Token) (t : SourceTree) : Type 0 where
-  pub none : (p : Procedure) (rest : List Token) → IsProcedure depth_limit ts p rest → IsWithin (with_item t (a_procedure p)) → ⊥
+-- so they do behind the keyword at the place
+abbrev pub FailsBehind : Keyword → ℕ → List Token → Declared → Stop → Type 0
+FailsBehind k place ts s e = (w : Token) → IsKeyword w k → w.place ≡ place → FailsItem s (w ∷ ts) e
 
--- no further declaration within the limits can be read
-pub record HasNoFurtherItem (ts : List Token) (t : SourceTree) : Type 0 where
-  pub none : (i : Item) (rest : List Token) → IsItem depth_limit ts i rest → IsWithin (with_item t i) → ⊥
+-- with the keyword at the place in front of the tokens, one more declaration is read
+abbrev pub AddsBehind : Keyword → ℕ → List Token → Declared → Declared → List Token → Type 0
+AddsBehind k place ts old new rest = (w : Token) → IsKeyword w k → w.place ≡ place → AddsItem (w ∷ ts) old new rest

@@ -1,119 +1,120 @@
 //! From tokens to an expression.
-ghost use Rattle.std.specs.Prelude.{◌≡◌, ◌-◌, ◌≤◌, MatchResult};
+ghost use Rattle.std.specs.Prelude.{◌≡◌, ◌-◌, ◌≤◌, [], ◌∷◌, MatchResult};
 ghost use Rattle.ppm_syntax.specs.Tree.{expression_of};
 ghost use Rattle.ppm_syntax.specs.Limits.{HasLiterals};
 ghost use Rattle.ppm_syntax.specs.Grammar.{Level, More};
-ghost use Rattle.ppm_syntax.specs.Parsing.{ReadsExpression, HasNoExpression, ReadsIndexed};
-ghost use Rattle.ppm_syntax.specs.Parsing.{HasNoIndexed, IsRefused, NoOperator};
+ghost use Rattle.ppm_syntax.specs.Stack as stack;
+ghost use Rattle.ppm_syntax.specs.Parsing.{Fails, FailsUpTo, HasNodesLeft, NoOperator};
+ghost use Rattle.ppm_syntax.specs.Parsing.{ReadsExpression, ReadsElement, ReadsUpTo};
 
 use crate::front::{name, number, operator, take};
-use crate::syntax_error::SyntaxError;
+use crate::room::Room;
+use crate::stop::Stop;
 use crate::tree::Expr;
-use ppm_text::{Sign, Token};
+use ppm_text::{Kind, Sign, Token};
 use ppm_words::Name;
 use std::alloc::Global;
 
 /// The level of a whole expression.
-pub const TOP: u32 = 1;
-
-/// What may still come.
-#[derive(Clone, Copy)]
-pub struct Room {
-    /// The openings that may still be open at a time.
-    pub depth: u32,
-    /// The nodes of expressions.
-    pub nodes: u32,
-}
-
-/// A name with an index in brackets.
-#[derive(Drop)]
-pub struct NameWithIndex {
-    pub name: Name,
-    /// The line of the name.
-    pub line: u32,
-    pub index: Expr,
-}
+const TOP: u32 = 1;
 
 /// The operand in front with the nodes that it leaves, and the tokens behind it.
 #[cycle(expression)]
-fn operand(
-    alloc: Global,
-    room: Room,
-    tokens: &[Token],
-) -> Result<(Expr, u32, &[Token]), SyntaxError>
+fn operand(alloc: Global, room: Room, tokens: &[Token]) -> Result<(Expr, u32, &[Token]), Stop>
     ensures { MatchResult result
         (λ r. ReadsExpression room.depth room.nodes (Level 0) tokens.now
         (expression_of r.0) r.1 r.2.now)
-        (IsRefused (HasNoExpression room.depth room.nodes (Level 0) tokens.now)) }
+        (Fails room.depth (HasNodesLeft room.nodes) (stack.Operand 0 ∷ []) tokens.now) }
 {
-    if room.nodes == 0 {
-        return Err(SyntaxError::Refused);
+    match tokens {
+        [
+            Token {
+                kind: Kind::Number(literal),
+                place,
+                ..
+            },
+            rest @ ..,
+        ] => {
+            let room = room.counted(*place)?;
+            Ok((Expr::Number(literal.to_i64()), room.nodes, rest))
+        }
+        [
+            Token {
+                kind: Kind::Name(name),
+                line,
+                ..
+            },
+            rest @ ..,
+        ] => element(alloc, room, name, *line, rest),
+        [
+            Token {
+                kind: Kind::Sign(Sign::OpenParen),
+                place,
+                ..
+            },
+            rest @ ..,
+        ] => up_to(alloc, room.deeper(*place)?, Sign::CloseParen, rest),
+        [token, ..] => Err(Stop::Expected(token.place)),
+        [] => Err(Stop::Ended),
     }
-    let left = room.nodes - 1;
-    if let Some((value, rest)) = number(tokens) {
-        let Ok(value) = i64::try_from(value) else {
-            return Err(SyntaxError::Refused);
-        };
-        return Ok((Expr::Number(value), left, rest));
-    }
-    let inner = Room {
-        depth: room.depth,
-        nodes: left,
-    };
-    let (found, left, rest) = indexed(alloc, inner, tokens)?;
-    let index = Box::new(alloc, found.index)?;
-    Ok((Expr::Element(found.name, found.line, index), left, rest))
 }
 
-/// The name and index in front with the nodes that the index leaves, and the tokens behind them.
+/// The element of the region with this name whose index in brackets stands in front, with the nodes that it leaves,
+/// and the tokens behind it. The name stands in the line.
 #[cycle(expression)]
-pub fn indexed(
+fn element<'a>(
     alloc: Global,
     room: Room,
-    tokens: &[Token],
-) -> Result<(NameWithIndex, u32, &[Token]), SyntaxError>
+    name: &Name,
+    line: u32,
+    tokens: &'a [Token],
+) -> Result<(Expr, u32, &'a [Token]), Stop>
     ensures { MatchResult result
-        (λ r. ReadsIndexed room.depth room.nodes tokens.now r.0.name r.0.line
-        (expression_of r.0.index) r.1 r.2.now)
-        (IsRefused (HasNoIndexed room.depth room.nodes tokens.now)) }
+        (λ r. ReadsElement room.depth room.nodes name.now line tokens.now
+        (expression_of r.0) r.1 r.2.now)
+        (Fails room.depth (HasNodesLeft room.nodes) (stack.Index ∷ []) tokens.now) }
 {
-    let (name, line, rest) = name(tokens)?;
-    let inside = take(rest, Sign::OpenBracket)?;
-    if room.depth == 0 {
-        return Err(SyntaxError::Refused);
-    }
-    let inner = Room {
-        depth: room.depth - 1,
-        nodes: room.nodes,
-    };
-    let (index, left, behind) = level(alloc, inner, TOP, inside)?;
-    let end = take(behind, Sign::CloseBracket)?;
+    let (place, inside) = take(tokens, Sign::OpenBracket)?;
+    let inner = room.deeper(place)?.counted(place)?;
+    let (index, left, rest) = up_to(alloc, inner, Sign::CloseBracket, inside)?;
     let name = name.try_clone(alloc)?;
-    Ok((NameWithIndex { name, line, index }, left, end))
+    Ok((
+        Expr::Element(name, line, Box::new(alloc, index)?),
+        left,
+        rest,
+    ))
+}
+
+/// The whole expression in front up to the sign with the nodes that it leaves, and the tokens behind the sign.
+#[cycle(expression)]
+pub fn up_to(
+    alloc: Global,
+    room: Room,
+    sign: Sign,
+    tokens: &[Token],
+) -> Result<(Expr, u32, &[Token]), Stop>
+    ensures { MatchResult result
+        (λ r. ReadsUpTo room.depth room.nodes sign tokens.now (expression_of r.0) r.1 r.2.now)
+        (FailsUpTo room.depth room.nodes sign tokens.now) }
+{
+    let (whole, left, end) = level(alloc, room, TOP, tokens)?;
+    let (_, rest) = take(end, sign)?;
+    Ok((whole, left, rest))
 }
 
 /// The expression of the level in front with the nodes that it leaves, and the tokens behind it.
 #[cycle(expression)]
-pub fn level(
-    alloc: Global,
-    room: Room,
-    n: u32,
-    tokens: &[Token],
-) -> Result<(Expr, u32, &[Token]), SyntaxError>
+fn level(alloc: Global, room: Room, n: u32, tokens: &[Token]) -> Result<(Expr, u32, &[Token]), Stop>
     ensures { MatchResult result
         (λ r. ReadsExpression room.depth room.nodes (Level n) tokens.now
         (expression_of r.0) r.1 r.2.now)
-        (IsRefused (HasNoExpression room.depth room.nodes (Level n) tokens.now)) }
+        (Fails room.depth (HasNodesLeft room.nodes) (stack.Operand n ∷ []) tokens.now) }
 {
     if n == 0 {
         return operand(alloc, room, tokens);
     }
     let (first, left, rest) = level(alloc, room, n - 1, tokens)?;
-    let room = Room {
-        depth: room.depth,
-        nodes: left,
-    };
-    more(alloc, room, n, first, rest)
+    more(alloc, room.with_nodes(left), n, first, rest)
 }
 
 /// The expression of the level that goes on from its first operand with the nodes that it leaves, and the tokens
@@ -125,35 +126,25 @@ fn more(
     n: u32,
     first: Expr,
     tokens: &[Token],
-) -> Result<(Expr, u32, &[Token]), SyntaxError>
+) -> Result<(Expr, u32, &[Token]), Stop>
     requires level { 1 ≤ n }
     requires ends { NoOperator (n - 1) tokens.now }
     requires literals { HasLiterals (expression_of first) }
     ensures { MatchResult result
         (λ r. ReadsExpression room.depth room.nodes (More n (expression_of first)) tokens.now
         (expression_of r.0) r.1 r.2.now)
-        (IsRefused (HasNoExpression room.depth room.nodes (More n (expression_of first)) tokens.now)) }
+        (Fails room.depth (HasNodesLeft room.nodes) (stack.More n ∷ []) tokens.now) }
 {
-    let Some((operator, line, rest)) = operator(n, tokens) else {
+    let Some((operator, place, line, behind)) = operator(n, tokens) else {
         return Ok((first, room.nodes, tokens));
     };
-    if room.nodes == 0 {
-        return Err(SyntaxError::Refused);
-    }
-    let inner = Room {
-        depth: room.depth,
-        nodes: room.nodes - 1,
-    };
-    let (right, left, rest) = level(alloc, inner, n - 1, rest)?;
+    let inner = room.counted(place)?;
+    let (right, left, rest) = level(alloc, inner, n - 1, behind)?;
     let both = Expr::Binary(
         operator,
         line,
         Box::new(alloc, first)?,
         Box::new(alloc, right)?,
     );
-    let room = Room {
-        depth: room.depth,
-        nodes: left,
-    };
-    more(alloc, room, n, both, rest)
+    more(alloc, room.with_nodes(left), n, both, rest)
 }

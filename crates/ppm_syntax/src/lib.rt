@@ -5,6 +5,7 @@
 //! Stands on `ppm_words` and `ppm_text`; `ppm_top` reads, compiles and judges by it.
 #![tactic(auto)]
 
+mod admitting;
 mod declaration;
 mod expression;
 mod front;
@@ -14,19 +15,20 @@ mod named;
 mod opening;
 mod parameter;
 mod parsing;
-mod reading;
+mod region_error;
+mod room;
 mod rules;
 mod source;
-mod source_error;
 mod statement;
+mod stop;
 mod syntax_error;
 mod tree;
 
-pub use laws::{have_one_tree, more_turns_keep};
-pub use reading::read_source;
+pub use admitting::admit;
+pub use laws::{have_one_answer, have_one_tree, more_turns_keep};
+pub use limit::Limit;
+pub use parsing::parse;
+pub use region_error::RegionError;
 pub use source::{Admitted, Source};
-pub use source_error::SourceError;
+pub use syntax_error::SyntaxError;
 pub use tree::{Array, Expr, Mode, Operator, Param, Proc, Stmt, Tree};
-
-#[cfg(test)]
-mod tests;

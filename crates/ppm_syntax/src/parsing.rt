@@ -1,17 +1,23 @@
 //! From tokens to the tree of a source.
-ghost use Rattle.std.specs.Prelude.{◌≡◌, ◌+◌, MatchResult, IfOk};
-ghost use Rattle.ppm_syntax.specs.Tree.{SourceTree, tree_of};
-ghost use Rattle.ppm_syntax.specs.Limits.{IsWithin, depth_limit};
+ghost use Rattle.std.specs.Prelude.{◌≡◌, ℕ, Err, MatchResult, IfOk};
+ghost use Rattle.ppm_text.specs.declared.token.Keyword.TheVariants as keyword;
+ghost use Rattle.ppm_syntax.specs.declared.limit.Limit.{Limit};
+ghost use Rattle.ppm_syntax.specs.Tree.{tree_of};
+ghost use Rattle.ppm_syntax.specs.Limits.{depth_limit};
 ghost use Rattle.ppm_syntax.specs.Grammar.{DerivesTree};
-ghost use Rattle.ppm_syntax.specs.Parsing.{tree_so_far, IsSoFar, AddsItem, HasNoFurtherArray};
-ghost use Rattle.ppm_syntax.specs.Parsing.{HasNoFurtherProcedure, HasNoFurtherItem, IsRefused};
+ghost use Rattle.ppm_syntax.specs.Faults.{IsFirstUnexpected, IsEnded, IsTooDeep, IsTooMany};
+ghost use Rattle.ppm_syntax.specs.Stack.{beginning};
+ghost use Rattle.ppm_syntax.specs.Verdict.{verdict};
+ghost use Rattle.ppm_syntax.specs.Parsing.{IsSoFar, AddsBehind, FailsBehind, AddsItem, FailsItem, Tells};
 
 use crate::declaration::{array, procedure};
 use crate::front::take_word;
+use crate::limit::Limit;
 use crate::source::Source;
+use crate::stop::Stop;
 use crate::syntax_error::SyntaxError;
 use crate::tree::{Array, Proc, Tree};
-use ppm_text::{Keyword, Token};
+use ppm_text::{Keyword, Token, Tokens};
 use ppm_words::Items;
 use std::alloc::Global;
 
@@ -32,16 +38,17 @@ struct Declared {
     words: u32,
 }
 
-/// What is declared with the array in front, and the tokens behind it.
+/// What is declared with the array behind the keyword at the place, and the tokens behind it.
 fn add_array(
     alloc: Global,
     declared: Declared,
+    place: u32,
     tokens: &[Token],
-) -> Result<(Declared, &[Token]), SyntaxError>
+) -> Result<(Declared, &[Token]), Stop>
     requires { IsSoFar declared }
     ensures { MatchResult result
-        (λ r. AddsItem tokens.now declared r.0 r.1.now)
-        (IsRefused (HasNoFurtherArray tokens.now (tree_so_far declared))) }
+        (λ r. AddsBehind keyword.Array place tokens.now declared r.0 r.1.now)
+        (FailsBehind keyword.Array place tokens.now declared) }
 {
     let Declared {
         mut arrays,
@@ -49,31 +56,30 @@ fn add_array(
         words,
     } = declared;
     if arrays.len() == ARRAY_LIMIT {
-        return Err(SyntaxError::Refused);
+        return Err(Stop::TooMany(place, Limit::Arrays));
     }
     let (found, rest) = array(alloc, words, tokens)?;
     let words = words - found.length;
     arrays.push(found)?;
-    Ok((
-        Declared {
-            arrays,
-            procs,
-            words,
-        },
-        rest,
-    ))
+    let declared = Declared {
+        arrays,
+        procs,
+        words,
+    };
+    Ok((declared, rest))
 }
 
-/// What is declared with the procedure in front, and the tokens behind it.
+/// What is declared with the procedure behind the keyword at the place, and the tokens behind it.
 fn add_procedure(
     alloc: Global,
     declared: Declared,
+    place: u32,
     tokens: &[Token],
-) -> Result<(Declared, &[Token]), SyntaxError>
+) -> Result<(Declared, &[Token]), Stop>
     requires { IsSoFar declared }
     ensures { MatchResult result
-        (λ r. AddsItem tokens.now declared r.0 r.1.now)
-        (IsRefused (HasNoFurtherProcedure tokens.now (tree_so_far declared))) }
+        (λ r. AddsBehind keyword.Proc place tokens.now declared r.0 r.1.now)
+        (FailsBehind keyword.Proc place tokens.now declared) }
 {
     let Declared {
         arrays,
@@ -81,18 +87,16 @@ fn add_procedure(
         words,
     } = declared;
     if procs.len() == PROCEDURE_LIMIT {
-        return Err(SyntaxError::Refused);
+        return Err(Stop::TooMany(place, Limit::Procedures));
     }
     let (found, rest) = procedure(alloc, tokens)?;
     procs.push(found)?;
-    Ok((
-        Declared {
-            arrays,
-            procs,
-            words,
-        },
-        rest,
-    ))
+    let declared = Declared {
+        arrays,
+        procs,
+        words,
+    };
+    Ok((declared, rest))
 }
 
 /// What is declared with the declaration in front, and the tokens behind it.
@@ -100,23 +104,24 @@ fn add_item(
     alloc: Global,
     declared: Declared,
     tokens: &[Token],
-) -> Result<(Declared, &[Token]), SyntaxError>
+) -> Result<(Declared, &[Token]), Stop>
     requires { IsSoFar declared }
     ensures { MatchResult result
         (λ r. AddsItem tokens.now declared r.0 r.1.now)
-        (IsRefused (HasNoFurtherItem tokens.now (tree_so_far declared))) }
+        (FailsItem declared tokens.now) }
 {
-    match take_word(tokens, Keyword::Array) {
-        Ok(_) => add_array(alloc, declared, tokens),
-        Err(_) => add_procedure(alloc, declared, tokens),
+    if let Ok((place, behind)) = take_word(tokens, Keyword::Array) {
+        return add_array(alloc, declared, place, behind);
     }
+    let (place, behind) = take_word(tokens, Keyword::Proc)?;
+    add_procedure(alloc, declared, place, behind)
 }
 
-/// The tree of the tokens. `Refused` exactly where they have none within the limits.
-pub fn parse(alloc: Global, tokens: &[Token]) -> Result<Source, SyntaxError>
-    ensures tree { IfOk result (λ s. DerivesTree depth_limit tokens.now (tree_of s)) }
-    ensures refused { result ≡ Err SyntaxError.Refused →
-        (t : SourceTree) → DerivesTree depth_limit tokens.now t → IsWithin t → ⊥ }
+/// The tree of the tokens, or the verdict on them.
+fn derive(alloc: Global, tokens: &[Token]) -> Result<Source, Stop>
+    ensures { MatchResult result
+        (λ s. DerivesTree depth_limit tokens.now (tree_of s))
+        (λ e. Tells e (verdict beginning tokens.now)) }
 {
     let mut declared = Declared {
         arrays: Vec::new(alloc),
@@ -134,4 +139,26 @@ pub fn parse(alloc: Global, tokens: &[Token]) -> Result<Source, SyntaxError>
         procs: Items::from_vec(declared.procs),
     };
     Ok(Source::from_tree(tree))
+}
+
+/// The tree of the tokens, by the grammar and within the limits. The first token that cannot come, goes too deep or
+/// passes a limit is refused, and so are tokens that end too early. `have_one_answer` shows that no tokens have two
+/// answers but for want of memory.
+pub fn parse(alloc: Global, tokens: &Tokens) -> Result<Source, SyntaxError>
+    ensures tree { IfOk result (λ s. DerivesTree depth_limit tokens.now.tokens (tree_of s)) }
+
+    // No text of the grammar begins with the tokens up to this one, and one does with those in front of it.
+    ensures expected { (place : ℕ) → result ≡ Err (SyntaxError.Expected place) → IsFirstUnexpected tokens.now.tokens place }
+
+    // The tokens are no text of the grammar, and one begins with them.
+    ensures ended { (place : ℕ) → result ≡ Err (SyntaxError.Ended place) → IsEnded tokens.now.tokens × (place ≡ tokens.now.text_len) }
+
+    ensures too_deep { (place : ℕ) → result ≡ Err (SyntaxError.TooDeep place) → IsTooDeep tokens.now.tokens place }
+
+    ensures too_many { (place : ℕ) (which : Limit) → result ≡ Err (SyntaxError.TooMany place which) → IsTooMany tokens.now.tokens place which }
+{
+    match derive(alloc, tokens.as_slice()) {
+        Ok(source) => Ok(source),
+        Err(stop) => Err(stop.in_text(tokens.text_len())),
+    }
 }

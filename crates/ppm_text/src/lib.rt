@@ -7,6 +7,7 @@
 
 mod byte_class;
 mod laws;
+mod literal;
 mod scan;
 mod spelling;
 mod text_error;
@@ -14,6 +15,7 @@ mod token;
 mod token_list;
 
 pub use laws::have_one_reading;
+pub use literal::Literal;
 pub use scan::tokens;
 pub use text_error::TextError;
 pub use token::{Keyword, Kind, Sign, Token};

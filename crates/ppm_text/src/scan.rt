@@ -10,6 +10,7 @@ ghost use Rattle.ppm_text.specs.Cutting.{IsTextOf, IsRefused};
 ghost use Rattle.ppm_text.specs.Scanning.{IsSignOf, IsNoSign, IsInFront, Stops, Advances};
 
 use crate::byte_class::{ByteClass, class, is_digit_byte, is_letter_byte};
+use crate::literal::Literal;
 use crate::spelling::{keyword, sign};
 use crate::text_error::TextError;
 use crate::token::{Kind, Sign, Token};
@@ -138,7 +139,7 @@ fn number_piece(place: u32, bytes: &[u8]) -> Result<Piece, TextError>
 {
     let len = number_len(bytes);
     match value(&bytes[..len]) {
-        Some(n) => Ok(Piece::Token(Kind::Number(n), len)),
+        Some(n) => Ok(Piece::Token(Kind::Number(Literal::from_u64(n)), len)),
         None => Err(TextError::NumberTooBig(place)),
     }
 }

@@ -1,5 +1,6 @@
 //! The tokens of a text.
 
+use crate::literal::Literal;
 use ppm_words::Name;
 
 /// A word that the language keeps for itself.
@@ -60,7 +61,7 @@ pub enum Kind {
     /// A name that is no keyword.
     Name(Name),
     /// A number up to 2^63 - 1.
-    Number(u64),
+    Number(Literal),
     Keyword(Keyword),
     Sign(Sign),
 }

@@ -15,7 +15,10 @@ fn shown(alloc: Global, token: &Token) -> Result<String, Fail> {
             let bytes = str::from_utf8(name.as_bytes())?;
             format!(in alloc; "name {bytes} {place}:{line};")?
         }
-        Kind::Number(n) => format!(in alloc; "{n} {place}:{line};")?,
+        Kind::Number(n) => {
+            let value = n.to_u64();
+            format!(in alloc; "{value} {place}:{line};")?
+        }
         Kind::Keyword(keyword) => format!(in alloc; "{keyword:?} {place}:{line};")?,
         Kind::Sign(sign) => format!(in alloc; "{sign:?} {place}:{line};")?,
     };

@@ -6,7 +6,7 @@ use Rattle.ppm_text.proofs.scan.number_piece.Goals as goal
 pub returns-in-Some : goal.returns-in-Some
 returns-in-Some c =
     let value = c.in-Some.ensures.some in
-    (front_number c.args.bytes.now c.number_len-len.result c.in-Some.n c.requires c.number_len-len.ensures.len value.0, value.1)
+    rw c.from_u64.ensures (front_number c.args.bytes.now c.number_len-len.result c.in-Some.n c.requires c.number_len-len.ensures.len value.0, value.1)
 
 -- their value passes the limit
 pub returns-in-None : goal.returns-in-None

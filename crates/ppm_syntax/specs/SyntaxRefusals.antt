@@ -1,0 +1,30 @@
+-- The numbers and places of the faults of tokens, and the refusal that a stop of the parser comes to.
+use Rattle.std.specs.Prelude.{ℕ}
+use Rattle.ppm_syntax.specs.declared.stop.Stop.{Stop}
+use Rattle.ppm_syntax.specs.declared.stop.Stop.TheVariants as stop
+use Rattle.ppm_syntax.specs.declared.syntax_error.SyntaxError.{SyntaxError}
+use Rattle.ppm_syntax.specs.declared.syntax_error.SyntaxError.TheVariants as error
+
+-- the number of each fault; 0 where memory was refused, which is no fault of the tokens
+abbrev pub number_of : SyntaxError → ℕ
+number_of (error.Expected place) = 1
+number_of (error.Ended place) = 2
+number_of (error.TooDeep place) = 3
+number_of (error.TooMany place which) = 4
+number_of error.NoMemory = 0
+
+-- where a fault stands, counted in bytes from 0; 0 where memory was refused
+abbrev pub place_of : SyntaxError → ℕ
+place_of (error.Expected place) = place
+place_of (error.Ended place) = place
+place_of (error.TooDeep place) = place
+place_of (error.TooMany place which) = place
+place_of error.NoMemory = 0
+
+-- tokens that end do so where the text does
+abbrev pub of_stop : ℕ → Stop → SyntaxError
+of_stop text_len (stop.Expected place) = error.Expected place
+of_stop text_len stop.Ended = error.Ended text_len
+of_stop text_len (stop.TooDeep place) = error.TooDeep place
+of_stop text_len (stop.TooMany place which) = error.TooMany place which
+of_stop text_len stop.NoMemory = error.NoMemory
