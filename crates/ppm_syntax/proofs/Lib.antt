@@ -9,3 +9,4 @@ pub mod LimitsLemmas
 pub mod Reaching
 pub mod Viable
 pub mod FaultLemmas
+pub mod FaultSentences
