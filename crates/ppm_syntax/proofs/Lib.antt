@@ -10,3 +10,4 @@ pub mod Reaching
 pub mod Viable
 pub mod FaultLemmas
 pub mod FaultSentences
+pub mod OneAnswer
