@@ -1,6 +1,6 @@
 -- A verdict is the fault that its sentence says, and tokens have no other.
-use Rattle.std.proofs.Common.{◌≡◌, ℕ, Bool, true, false, List, [], ◌∷◌, ◌++◌, refl, sym, ◌∙◌, subst, append-nil, append_assoc}
-use Rattle.std.specs.Prelude.{Option, Some, None}
+use Rattle.std.proofs.Common.{◌≡◌, ℕ, true, false, List, [], ◌∷◌, ◌++◌, refl, sym, subst, append-nil, append_assoc}
+use Rattle.std.specs.Prelude.{Some, None}
 use Rattle.ppm_text.specs.declared.token.Kind.{Kind}
 use Rattle.ppm_text.specs.declared.token.Token.{Token}
 use Rattle.ppm_syntax.specs.declared.limit.Limit.{Limit}
@@ -8,12 +8,12 @@ use Rattle.ppm_syntax.specs.declared.stop.Stop.{Stop}
 use Rattle.ppm_syntax.specs.declared.stop.Stop.TheVariants as stop
 use Rattle.ppm_syntax.specs.SyntaxRefusals.{of_stop}
 use Rattle.ppm_syntax.specs.Parsing.{Tells}
-use Rattle.ppm_syntax.specs.Stack.{Symbol, Move, Stuck, On, Tally, move, State, moved, step, run, then_run, can_end, state_at, with_count, beginning}
-use Rattle.ppm_syntax.specs.Faults.{IsText, Begins, Within, StandsAt, IsFirstUnexpected, IsEnded, IsTooDeep, IsTooMany, IsFault}
-use Rattle.ppm_syntax.specs.Verdict.{Verdict, Whole, Cut, Unexpected, Deep, Many, verdict}
+use Rattle.ppm_syntax.specs.Stack.{Move, Stuck, On, move, State, moved, run, then_run, can_end, state_at, with_count, beginning}
+use Rattle.ppm_syntax.specs.Faults.{IsText, Begins, StandsAt, IsFirstUnexpected, IsEnded, IsTooDeep, IsTooMany, IsFault}
+use Rattle.ppm_syntax.specs.Verdict.{Verdict, Cut, Unexpected, Deep, Many, verdict}
 use Rattle.ppm_syntax.proofs.Reaching.{reaches, reaches_by, reads_on}
-use Rattle.ppm_syntax.proofs.Viable.{run_begins, run_ends}
-use Rattle.ppm_syntax.proofs.FaultLemmas.{Comes, Stops, IsStuck, IsDeep, IsMany, Because, because, reason_verdict, within_runs}
+use Rattle.ppm_syntax.proofs.Viable.{run_begins}
+use Rattle.ppm_syntax.proofs.FaultLemmas.{Comes, Stops, IsStuck, IsDeep, IsMany, Because, because}
 
 -- what can come leaves what is still to come
 run_reaches : (front : List Token) (s last : State) (more : List Token) → run s front ≡ Some last →
@@ -58,6 +58,7 @@ never_cut ts last ran may h =
 stands_at : {ts : List Token} {place : ℕ} {Is : State → Kind → Type 0} (f : Stops beginning ts place Is) → StandsAt ts place f.front f.token
 stands_at f = record { more = f.more; shape = f.shape; at = f.at; within = f.within }
 
+-- each reason is what its sentence says
 is_first_unexpected : (ts : List Token) (place : ℕ) → Stops beginning ts place IsStuck → IsFirstUnexpected ts place
 is_first_unexpected ts place f = record {
   front = f.front;

@@ -1,5 +1,5 @@
 -- The sentence of a fault has one verdict, so tokens have at most one fault, and none where they have a tree within the limits.
-use Rattle.std.proofs.Common.{◌≡◌, ℕ, Bool, true, false, List, [], ◌∷◌, ◌++◌, refl, sym, ◌∙◌, ap}
+use Rattle.std.proofs.Common.{◌≡◌, ℕ, Bool, true, false, List, [], ◌∷◌, ◌++◌, refl, sym, ◌∙◌}
 use Rattle.std.specs.Prelude.{Option, Some, None}
 use Rattle.ppm_text.specs.declared.token.Kind.{Kind}
 use Rattle.ppm_text.specs.declared.token.Token.{Token}
@@ -15,7 +15,7 @@ use Rattle.ppm_syntax.specs.Verdict.{Verdict, Whole, Cut, Unexpected, Deep, Many
 use Rattle.ppm_syntax.proofs.Viable.{run_begins, run_ends}
 use Rattle.ppm_syntax.proofs.FaultLemmas.{Comes, Stops, IsStuck, IsDeep, IsMany, reason_verdict, within_runs}
 
--- one more token
+-- what can come, and one more token that can
 run_one_more : (front : List Token) (t : Token) (s before after : State) → run s front ≡ Some before → step before t.kind ≡ Some after →
     run s (front ++ (t ∷ [])) ≡ Some after
 run_one_more [] t s before after ran is = let same : s ≡ before = cc in rw (same, is) refl
@@ -49,11 +49,13 @@ not_begun front t before ran ends = go (step before t.kind) refl
     go None is = refl
     go (Some after) is = absurd (ends (run_begins (front ++ (t ∷ [])) after (run_one_more front t beginning before after ran is)))
 
+-- each sentence has its verdict: a first token that cannot come
 pub unexpected_verdict : (ts : List Token) (place : ℕ) → IsFirstUnexpected ts place → verdict beginning ts ≡ Unexpected place
 unexpected_verdict ts place h =
     let r = within_runs h.front beginning h.stands.within in
     reason_verdict beginning ts (Unexpected place) (stops_there r.0 IsStuck h.stands r.1 (not_begun h.front h.token r.0 r.1 h.ends))
 
+-- tokens that end too early
 pub ended_verdict : (ts : List Token) → IsEnded ts → verdict beginning ts ≡ Cut
 ended_verdict ts h = reason_verdict beginning ts Cut (go (can_end r.0.stack) refl)
   where
@@ -64,11 +66,13 @@ ended_verdict ts h = reason_verdict beginning ts Cut (go (can_end r.0.stack) ref
     go true may = absurd (h.ends (run_ends ts r.0 r.1 may))
     go false may = record { last = r.0; ran = r.1; within = h.within; ending = may }
 
+-- a first token that is too deep
 pub deep_verdict : (ts : List Token) (place : ℕ) → IsTooDeep ts place → verdict beginning ts ≡ Deep place
 deep_verdict ts place h =
     let d : IsDeep h.before h.token.kind = record { after = h.after; stepped = h.stepped; deep = h.deep } in
     reason_verdict beginning ts (Deep place) (stops_there h.before IsDeep h.stands h.ran d)
 
+-- a first token that passes another limit
 pub many_verdict : (ts : List Token) (place : ℕ) (which : Limit) → IsTooMany ts place which → verdict beginning ts ≡ Many place which
 many_verdict ts place which h =
     let m : IsMany which h.before h.token.kind = record { after = h.after; stepped = h.stepped; shallow = h.shallow; many = h.many } in
@@ -97,15 +101,11 @@ one_fault ts text_len e f h k = sym (is_the_fault ts text_len e h) ∙ is_the_fa
 
 -- and none where the verdict finds none
 pub no_fault : (ts : List Token) (text_len : ℕ) (e : SyntaxError) → IsFault ts text_len e → verdict beginning ts ≡ Whole → ⊥
-unfolding fault_of
-no_fault ts text_len e h whole = let none : fault_of text_len (verdict beginning ts) ≡ error.NoMemory = rw whole refl in go e h (is_the_fault ts text_len e h) none
-  where
-    go : (e : SyntaxError) → IsFault ts text_len e → fault_of text_len (verdict beginning ts) ≡ e → fault_of text_len (verdict beginning ts) ≡ error.NoMemory → ⊥
-    go error.NoMemory h is none = h
-    go (error.Expected place) h is none = cc
-    go (error.Ended place) h is none = cc
-    go (error.TooDeep place) h is none = cc
-    go (error.TooMany place which) h is none = cc
+no_fault ts text_len (error.Expected place) h whole = let v = unexpected_verdict ts place h in cc
+no_fault ts text_len (error.Ended place) h whole = let v = ended_verdict ts h.0 in cc
+no_fault ts text_len (error.TooDeep place) h whole = let v = deep_verdict ts place h in cc
+no_fault ts text_len (error.TooMany place which) h whole = let v = many_verdict ts place which h in cc
+no_fault ts text_len error.NoMemory h whole = h
 
 -- so they have one answer, if the verdict finds no fault in a tree within the limits
 pub one_answer : (ts : List Token) (text_len : ℕ) →
