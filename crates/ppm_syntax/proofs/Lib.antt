@@ -7,5 +7,9 @@ pub mod ReadingLemmas
 pub mod GrammarLemmas
 pub mod LimitsLemmas
 pub mod Reaching
+pub mod StackTexts
+pub mod StackSound
 pub mod Viable
 pub mod FaultLemmas
+pub mod FaultSentences
+pub mod OneAnswer
