@@ -7,5 +7,6 @@ pub mod ReadingLemmas
 pub mod GrammarLemmas
 pub mod LimitsLemmas
 pub mod Reaching
+pub mod PassingExpression
 pub mod Viable
 pub mod FaultLemmas
