@@ -8,5 +8,8 @@ pub mod GrammarLemmas
 pub mod LimitsLemmas
 pub mod Reaching
 pub mod PassingExpression
+pub mod StopLemmas
+pub mod ExpressionLemmas
+pub mod OperandLemmas
 pub mod Viable
 pub mod FaultLemmas
