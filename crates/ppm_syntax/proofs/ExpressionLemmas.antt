@@ -55,7 +55,7 @@ module _ (d room n m : ℕ) (ts : List Token) (above : n ≡ suc m) where
       tells = λ st c low none few.
           let small : c.nodes + nodes_of a ≤ node_limit = omega (arith, first.nodes, few) in
           let passes = expression_passes first.reads.derived first.reads.ends (stack.More (suc m) ∷ st) c (c.nodes + nodes_of a)
-              (omega (arith, low)) (omega arith) small none in
+          (omega (arith, low)) (omega arith) small none in
           rw (below_tails m st c ts ∙ passes) (h'.tells st (with_nodes (c.nodes + nodes_of a) c) low (few_nodes c (c.nodes + nodes_of a) none small)
           (omega (arith, first.nodes, few)));
     })
@@ -93,9 +93,9 @@ module _ (d room n m : ℕ) (a : Expression) (ts : List Token) (above : n ≡ su
           let small : suc c.nodes + nodes_of b ≤ node_limit = omega (arith, right.nodes, some, few) in
           let one = few_nodes c (suc c.nodes) none (omega (arith, small)) in
           let begins = by_step front.token behind (stack.More (suc m) ∷ st) (stack.Operand m ∷ stack.More (suc m) ∷ st) c stack.ANode (rw is refl)
-              (omega (arith, low)) one in
+          (omega (arith, low)) one in
           let passes = expression_passes right.reads.derived right.reads.ends (stack.More (suc m) ∷ st) (with_nodes (suc c.nodes) c)
-              (suc c.nodes + nodes_of b) (omega (arith, low)) (omega arith) small one in
+          (suc c.nodes + nodes_of b) (omega (arith, low)) (omega arith) small one in
           rw (begins ∙ passes) (h'.tells st (with_nodes (suc c.nodes + nodes_of b) c) low (few_nodes c (suc c.nodes + nodes_of b) none small)
           (omega (arith, right.nodes, some, few)));
     })

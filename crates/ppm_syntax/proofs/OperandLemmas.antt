@@ -47,7 +47,7 @@ module _ (d room deep few place : ℕ) (ts inside : List Token) (front : InFront
     tells = λ st c low none left.
         let one = few_nodes c (suc c.nodes) none (omega (arith, left, counted)) in
         let begins = by_step front.token inside (stack.Index ∷ st) (stack.Operand top ∷ stack.EndIndex ∷ st) c stack.ANode (rw front.has.0 refl)
-            (omega (arith, low, opened)) one in
+        (omega (arith, low, opened)) one in
         rw begins ((h.fails stack.EndIndex of_index).tells st (with_nodes (suc c.nodes) c) (omega (arith, low, opened)) one (omega (arith, left, counted)));
   })
 
@@ -67,7 +67,7 @@ module _ (d room deep : ℕ) (ts inside : List Token) (front : InFront (λ t. Is
   group_fails e h = rw front.shape (record {
     tells = λ st c low none left.
         let begins = by_step front.token inside (stack.Operand 0 ∷ st) (stack.Operand top ∷ stack.EndGroup ∷ st) c stack.Nothing (rw front.has refl)
-            (omega (arith, low, opened)) none in
+        (omega (arith, low, opened)) none in
         rw begins ((h.fails stack.EndGroup of_group).tells st c (omega (arith, low, opened)) none left);
   })
 

@@ -1,7 +1,6 @@
-use Rattle.std.proofs.Common.{rules, arith, ◌-◌, length, take, drop, ap}
+use Rattle.std.proofs.Common.{rules, arith, ◌≡◌, ◌-◌, ◌<◌, ◌^◌, ℕ, ℤ, pos, length, ap, w64, to_z, of_z}
 use Rattle.std.proofs.lemmas.Result.{MatchResult-weaker}
-use Rattle.std.proofs.Math.Facts.{to_z-of_z}
-use Rattle.std.proofs.lemmas.Int.{ints}
+use Rattle.std.proofs.lemmas.Int.{ints, to_z-of_z}
 use Rattle.ppm_text.specs.declared.token.Sign.TheVariants as sign
 use Rattle.ppm_syntax.specs.Tree.{expression_of}
 use Rattle.ppm_syntax.specs.Grammar.{IsSign, IsNumber}
@@ -58,8 +57,7 @@ more-returns-in_default t c =
 pub more-more-requires : goal.more-more-requires
 more-more-requires t c =
     let h = shorter c.in_ok-right.ensures.reads.derived in
-    let h2 = ap length c.in-Some.ensures.shape in
-    (
+    let h2 = ap length c.in-Some.ensures.shape in (
       search (rules, h, h2),
       (
         omega arith,
@@ -84,23 +82,28 @@ more-returns t c =
     c.in-Some.behind.now c.in-Some.ensures _ room.0 (expression_of c.in_ok-right.right) c.in_ok-right.left c.in_ok-right.rest.now right e
     (rw (c.with_nodes.ensures.depth, c.with_nodes.ensures.nodes) at h))
 
--- src/expression.rt:22:1
+-- a literal keeps its value
+literal_value : (n : ℕ) (z : ℤ) → z ≡ pos n → n < 2 ^ 63 → to_z w64 (of_z w64 z) ≡ pos n
+literal_value n z is small = rw is (to_z-of_z w64 (pos n) (omega (arith, ints, small)))
+
+-- a number stands in front
 pub operand-returns-in_ok-room-in-Number : goal.operand-returns-in_ok-room-in-Number
 operand-returns-in_ok-room-in-Number t c =
-    let h = c.to_i64.ensures in
-    let l = c.in-Number.literal-is in
-    let front : InFront (λ x. IsNumber x c.in-Number.literal.now) c.args.tokens.now (take (length c.args.tokens.now - 1) (drop 1 c.args.tokens.now)) =
-        search rules in ?
+    let front : InFront (λ x. IsNumber x c.in-Number.literal) c.args.tokens.now c.in-Some.rest.now =
+    record { token = c.in-Some.token.now; shape = c.in-Some.ensures.cases.0; has = c.in-Number.is } in
+    let v = c.to_i64.ensures in
+    number_read c.args.room.depth c.args.room.nodes c.in_ok-room-in-Number.room.nodes c.args.tokens.now c.in-Number.literal _ c.in-Some.rest.now front
+    c.in_ok-room-in-Number.ensures.0 (literal_value _ _ v.value v.limit) (omega (arith, ints, v.limit))
 
--- src/expression.rt:22:1
-pub operand-returns-in_ok-deeper-in-Sign : goal.operand-returns-in_ok-deeper-in-Sign
-operand-returns-in_ok-deeper-in-Sign t c =
-    let front : InFront (λ x. IsSign x sign.OpenParen) c.args.tokens.now (take (length c.args.tokens.now - 1) (drop 1 c.args.tokens.now)) = search rules in
+-- a parenthesis stands in front
+pub operand-returns-in_ok-inner-in-Sign-OpenParen : goal.operand-returns-in_ok-inner-in-Sign-OpenParen
+operand-returns-in_ok-inner-in-Sign-OpenParen t c =
+    let h = c.in_ok-inner-in-Sign-OpenParen.ensures in
+    let front : InFront (λ x. IsSign x sign.OpenParen) c.args.tokens.now c.in-Some.rest.now =
+    record { token = c.in-Some.token.now; shape = c.in-Some.ensures.cases.0; has = search rules } in
     MatchResult-weaker _ c.up_to.ensures
-    (λ r h. group_read c.args.room.depth c.args.room.nodes c.in_ok-deeper-in-Sign.field-0.depth c.args.tokens.now _ front
-    c.in_ok-deeper-in-Sign.ensures.0 (expression_of r.0) r.1 r.2.now (rw c.in_ok-deeper-in-Sign.ensures.1 at h))
-    (λ e h. group_fails c.args.room.depth c.args.room.nodes c.in_ok-deeper-in-Sign.field-0.depth c.args.tokens.now _ front
-    c.in_ok-deeper-in-Sign.ensures.0 e (rw c.in_ok-deeper-in-Sign.ensures.1 at h))
+    (λ r g. group_read c.args.room.depth c.args.room.nodes _ c.args.tokens.now c.in-Some.rest.now front h.0 _ _ _ (rw h.1 at g))
+    (λ e g. group_fails c.args.room.depth c.args.room.nodes _ c.args.tokens.now c.in-Some.rest.now front h.0 e (rw h.1 at g))
 
 -- src/expression.rt:101:21
 pub up_to-returns-in_err-rest : goal.up_to-returns-in_err-rest
