@@ -9,6 +9,10 @@ pub mod LimitsLemmas
 pub mod Reaching
 pub mod StackTexts
 pub mod StackSound
+pub mod PassingExpression
+pub mod StopLemmas
+pub mod ExpressionLemmas
+pub mod OperandLemmas
 pub mod Viable
 pub mod FaultLemmas
 pub mod FaultSentences
