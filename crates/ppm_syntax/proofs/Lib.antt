@@ -1,5 +1,7 @@
 pub mod Elements
 pub mod RulesLemmas
+pub mod DecidingLemmas
+pub mod RegionFaultsLemmas
 pub mod OpeningLemmas
 pub mod MeaningLemmas
 pub mod Unique
