@@ -9,3 +9,6 @@ pub mod LimitsLemmas
 pub mod Reaching
 pub mod Viable
 pub mod FaultLemmas
+pub mod Stopping
+pub mod TallyLemmas
+pub mod ParameterLemmas
