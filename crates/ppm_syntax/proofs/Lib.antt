@@ -7,6 +7,7 @@ pub mod ReadingLemmas
 pub mod GrammarLemmas
 pub mod LimitsLemmas
 pub mod Reaching
+pub mod PassingExpression
 pub mod Viable
 pub mod FaultLemmas
 pub mod Stopping
