@@ -20,7 +20,6 @@ use Rattle.ppm_syntax.specs.Verdict.{verdict}
 use Rattle.ppm_syntax.proofs.PassingExpression.{by_step}
 use Rattle.ppm_syntax.proofs.Stopping.{missing, missing_both, no_name, no_parameter, no_further}
 use Rattle.ppm_syntax.proofs.TallyLemmas.{Few, few_of, none_passed, many_parameters}
-use Rattle.ppm_syntax.proofs.Unique.{no_comma}
 
 -- the tally with so many parameters
 abbrev pub with_parameters : ℕ → Tally → Tally
@@ -98,3 +97,89 @@ pub parameter_read : (ts behind rest : List Token) (how : Mode) (place : ℕ) (x
     Derives 0 Parameter ts (parameter (record { mode = how; name = x; line = line })) rest
 parameter_read ts behind rest how place x line mode name =
     rw (mode.shape, name.shape, ← name.has.1) (g.param mode.has.0.1 mode.has.0.2 name.has.0)
+
+-- no keyword stands in front that says how a parameter is taken
+pub mode_stops : (ts : List Token) (n depth : ℕ) (e : Stop) → Misses (λ t. (how : Mode) × IsMode t how) ts e →
+    Fails depth (HasParameters n) (stack.NextParameter ∷ []) ts e
+mode_stops ts n depth e m = record {
+  tells = λ st c low none counted.
+      missing _ (stack.NextParameter ∷ st) c ts e m refl (λ t h. no_parameter t.kind st (λ w how is mode. h (how, (w, is, mode))));
+}
+
+-- the parameters that were read, and any that follow, are those of the whole, and the verdict passes over them
+pub record LeadsTo (ts : List Token) (all : List Param) (rest : List Token) : Type 0 where
+  pub forth : (more : List Param) (end : List Token) → Derives 0 MoreParameters rest (parameters more) end →
+      Derives 0 Parameters ts (parameters (all ++ more)) end
+  pub passes : (st : List Symbol) (c : Tally) → suc (openings st) ≤ depth_limit → passed c ≡ None → c.parameters ≡ 0 →
+      verdict (state_at (stack.FirstParameter ∷ st) c) ts ≡ verdict (state_at (stack.FurtherParameters ∷ st) (with_parameters (length all) c)) rest
+
+-- no parenthesis closes in front
+no_sign : (ts : List Token) (e : Stop) → Misses (λ t. IsSign t sign.CloseParen) ts e → NoSign sign.CloseParen ts
+no_sign [] e m = tt
+no_sign (t ∷ ts) e m = m.1
+
+module _ (ts : List Token) where
+  -- a list that is closed at once is empty
+  pub empty_read : (rest : List Token) (place : ℕ) → InFront (λ t. IsSign t sign.CloseParen × (t.place ≡ place)) ts rest → ReadsParameters ts [] rest
+  empty_read rest place closed = record { closed = closed.token; reads = rw closed.shape (record { derived = g.no_parameter; ends = closed.has.0 }) }
+
+  -- neither is the list closed, nor is there a parameter
+  pub first_stops : (depth : ℕ) (e e' : Stop) → Misses (λ t. IsSign t sign.CloseParen) ts e' →
+      ((depth : ℕ) → Fails depth (HasParameters 0) (stack.NextParameter ∷ []) ts e) →
+      Fails depth (HasParameters 0) (stack.FirstParameter ∷ []) ts e
+  first_stops depth e e' m f = record {
+    tells = λ st c low none counted. rw (first_as_next ts st c (no_sign ts e' m)) ((f depth).tells st c low none counted);
+  }
+
+  -- the first parameter leads on
+  pub leads_first : (p : Param) (rest : List Token) (e : Stop) → Misses (λ t. IsSign t sign.CloseParen) ts e → Derives 0 Parameter ts (parameter p) rest →
+      LeadsTo ts (p ∷ []) rest
+  leads_first p rest e m r = record {
+    forth = λ more end s. g.first_parameter r s;
+    passes = λ st c low none zero.
+        first_as_next ts st c (no_sign ts e m) ∙ parameter_passes r st c low none (omega (arith, zero)) ∙ rw zero refl;
+  }
+
+  module _ (all : List Param) (rest : List Token) (leads : LeadsTo ts all rest) where
+    module _ (behind : List Token) (place : ℕ) (comma : InFront (λ t. IsSign t sign.Comma × (t.place ≡ place)) rest behind) where
+      -- behind a comma there is no parameter, or one too many
+      pub next_stops : (depth : ℕ) (e : Stop) → length all ≤ parameter_limit →
+          ((depth : ℕ) → Fails depth (HasParameters (length all)) (stack.NextParameter ∷ []) behind e) →
+          Fails depth (HasParameters 0) (stack.FirstParameter ∷ []) ts e
+      next_stops depth e few f = record {
+        tells = λ st c low none zero.
+            let d = with_parameters (length all) c in
+            let fits : suc (openings st) ≤ depth_limit = omega (arith, low) in
+            let within = few_parameters c (length all) none few in
+            let step = comma_passes comma.token behind st d comma.has.0 fits within in
+            rw (leads.passes st c fits none zero, comma.shape, step) ((f depth).tells st d low within refl);
+      }
+
+      -- with one more parameter it leads on
+      pub leads_next : (p : Param) (after : List Token) → suc (length all) ≤ parameter_limit → Derives 0 Parameter behind (parameter p) after →
+          LeadsTo ts (all ++ (p ∷ [])) after
+      leads_next p after few r = record {
+        forth = λ more end m. rw append_assoc (leads.forth (p ∷ more) end (rw comma.shape (g.next_parameter comma.has.0 r m)));
+        passes = λ st c low none zero.
+            let d = with_parameters (length all) c in
+            let within = few_parameters c (length all) none (omega (arith, few)) in
+            let count : length (all ++ (p ∷ [])) ≡ suc (length all) = rw length-append (omega arith) in
+            leads.passes st c low none zero ∙ rw comma.shape (comma_passes comma.token behind st d comma.has.0 low within)
+            ∙ parameter_passes r st d low within few ∙ rw count refl;
+      }
+
+    -- without a comma the list is not closed
+    pub end_stops : (depth : ℕ) (e e' : Stop) → length all ≤ parameter_limit → Misses (λ t. IsSign t sign.Comma) rest e' →
+        Misses (λ t. IsSign t sign.CloseParen) rest e → Fails depth (HasParameters 0) (stack.FirstParameter ∷ []) ts e
+    end_stops depth e e' few no_comma no_close = record {
+      tells = λ st c low none zero.
+          rw (leads.passes st c (omega (arith, low)) none zero) (missing_both _ _ (stack.FurtherParameters ∷ st) (with_parameters (length all) c) rest e e'
+          no_comma no_close refl (λ t close comma. no_further t.kind st comma close));
+    }
+
+    -- where it is closed, these are the parameters
+    pub parameters_read : (end : List Token) (place : ℕ) → InFront (λ t. IsSign t sign.CloseParen × (t.place ≡ place)) rest end → ReadsParameters ts all end
+    parameters_read end place closed = record {
+      closed = closed.token;
+      reads = record { derived = rw (append-nil, closed.shape) at (leads.forth [] rest g.last_parameter); ends = closed.has.0 };
+    }
