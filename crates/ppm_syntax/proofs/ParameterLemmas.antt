@@ -143,16 +143,15 @@ module _ (ts : List Token) where
   module _ (all : List Param) (rest : List Token) (leads : LeadsTo ts all rest) where
     module _ (behind : List Token) (place : ℕ) (comma : InFront (λ t. IsSign t sign.Comma × (t.place ≡ place)) rest behind) where
       -- behind a comma there is no parameter, or one too many
-      pub next_stops : (depth : ℕ) (e : Stop) → length all ≤ parameter_limit →
-          ((depth : ℕ) → Fails depth (HasParameters (length all)) (stack.NextParameter ∷ []) behind e) →
-          Fails depth (HasParameters 0) (stack.FirstParameter ∷ []) ts e
-      next_stops depth e few f = record {
+      pub next_stops : (depth n : ℕ) (e : Stop) → length all ≤ parameter_limit → n ≡ length all →
+          ((depth : ℕ) → Fails depth (HasParameters n) (stack.NextParameter ∷ []) behind e) → Fails depth (HasParameters 0) (stack.FirstParameter ∷ []) ts e
+      next_stops depth n e few count f = record {
         tells = λ st c low none zero.
             let d = with_parameters (length all) c in
             let fits : suc (openings st) ≤ depth_limit = omega (arith, low) in
             let within = few_parameters c (length all) none few in
             let step = comma_passes comma.token behind st d comma.has.0 fits within in
-            rw (leads.passes st c fits none zero, comma.shape, step) ((f depth).tells st d low within refl);
+            rw (leads.passes st c fits none zero, comma.shape, step) ((f depth).tells st d low within (sym count));
       }
 
       -- with one more parameter it leads on
