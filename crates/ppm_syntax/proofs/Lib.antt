@@ -13,3 +13,4 @@ pub mod FaultLemmas
 pub mod Stopping
 pub mod TallyLemmas
 pub mod ParameterLemmas
+pub mod DeclarationLemmas
