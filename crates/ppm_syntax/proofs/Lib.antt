@@ -14,3 +14,4 @@ pub mod Stopping
 pub mod TallyLemmas
 pub mod ParameterLemmas
 pub mod DeclarationLemmas
+pub mod StatementLemmas
