@@ -8,6 +8,9 @@ pub mod GrammarLemmas
 pub mod LimitsLemmas
 pub mod Reaching
 pub mod PassingExpression
+pub mod StopLemmas
+pub mod ExpressionLemmas
+pub mod OperandLemmas
 pub mod Viable
 pub mod FaultLemmas
 pub mod Stopping

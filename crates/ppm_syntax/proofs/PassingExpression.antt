@@ -81,7 +81,8 @@ expression_passes (g.element {n = n} {o = o} {c = q} {ts = ts} {rest = rest} n_i
     let first = few_nodes c (suc c.nodes) none (omega (arith, count, few)) in
     by_step n (o ∷ ts) (stack.Operand 0 ∷ st) (stack.Index ∷ st) c stack.Nothing (rw n_is refl) (omega (arith, low)) none
     ∙ by_step o ts (stack.Index ∷ st) (stack.Operand top ∷ stack.EndIndex ∷ st) c stack.ANode (rw o_is refl) (omega (arith, low)) first
-    ∙ expression_passes i (ends_at_close top q rest q_is) (stack.EndIndex ∷ st) (with_nodes (suc c.nodes) c) m (omega (arith, low)) (omega (arith, count)) few first
+    ∙ expression_passes i (ends_at_close top q rest q_is) (stack.EndIndex ∷ st) (with_nodes (suc c.nodes) c) m (omega (arith, low))
+    (omega (arith, count)) few first
     ∙ by_step q rest (stack.EndIndex ∷ st) st (with_nodes m c) stack.Nothing (rw q_is refl) (omega (arith, low)) (few_nodes c m none few)
 expression_passes (g.group {o = o} {c = q} {ts = ts} {rest = rest} o_is r q_is) h st c m low count few none =
     by_step o ts (stack.Operand 0 ∷ st) (stack.Operand top ∷ stack.EndGroup ∷ st) c stack.Nothing (rw o_is refl) (omega (arith, low)) none
