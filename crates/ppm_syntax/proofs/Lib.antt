@@ -11,8 +11,12 @@ pub mod PassingExpression
 pub mod StopLemmas
 pub mod ExpressionLemmas
 pub mod OperandLemmas
+pub mod StackTexts
+pub mod StackSound
 pub mod Viable
 pub mod FaultLemmas
+pub mod FaultSentences
+pub mod OneAnswer
 pub mod Stopping
 pub mod TallyLemmas
 pub mod ParameterLemmas
