@@ -1,8 +1,6 @@
 -- Where the parser's functions stop: at a token that cannot come, or at the end of the tokens.
 use Rattle.std.proofs.Common.{◌≡◌, ℕ, false, List, [], ◌∷◌, refl}
-use Rattle.std.specs.Prelude.{Option, Some, None, Result, MatchResult}
-use Rattle.std.specs.Result.{IsErrAnd}
-use Rattle.std.proofs.lemmas.Result.{err_from_is_err_and}
+use Rattle.std.specs.Prelude.{Option, Some, None}
 use Rattle.ppm_text.specs.declared.token.Keyword.{Keyword}
 use Rattle.ppm_text.specs.declared.token.Keyword.TheVariants as word
 use Rattle.ppm_text.specs.declared.token.Sign.{Sign}
@@ -17,10 +15,6 @@ use Rattle.ppm_syntax.specs.Parsing.{Misses, Tells}
 use Rattle.ppm_syntax.specs.Stack.{Symbol, Move, Stuck, Tally, state_at, move, can_end, at_name, at_open_bracket, at_close_bracket, at_assign, at_semicolon}
 use Rattle.ppm_syntax.specs.Stack.{at_open_brace, at_open_paren, in_body, array_length, first_parameter, further_parameters, next_parameter, declaration}
 use Rattle.ppm_syntax.specs.Verdict.{verdict}
-
--- the exit of a `?` behind a call that stops so
-pub exit_by : {T : Type 0} (A : T → Type 0) (B : Stop → Type 0) (e : Stop) (r : Result T Stop) → IsErrAnd r (λ y. y ≡ e) → B e → MatchResult r A B
-exit_by A B e r is h = let p = err_from_is_err_and r is in rw (p.1, p.2) h
 
 -- where a text can neither end nor go on with the token, the stop tells the verdict
 pub missing : (P : Token → Type 0) (st : List Symbol) (c : Tally) (ts : List Token) (e : Stop) → Misses P ts e → can_end st ≡ false →

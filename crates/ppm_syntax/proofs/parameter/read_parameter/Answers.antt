@@ -1,5 +1,5 @@
 use Rattle.std.proofs.Common.{arith}
-use Rattle.ppm_syntax.proofs.Stopping.{exit_by}
+use Rattle.ppm_syntax.proofs.StopLemmas.{exit_by}
 use Rattle.ppm_syntax.proofs.ParameterLemmas.{parameter_read, mode_stops}
 use Rattle.ppm_syntax.proofs.parameter.read_parameter.Goals as goal
 

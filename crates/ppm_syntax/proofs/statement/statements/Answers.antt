@@ -1,0 +1,1 @@
+use Rattle.ppm_syntax.proofs.statement.statements.Goals as goal
