@@ -1,5 +1,5 @@
 -- Statements: their reading, the verdict that passes over them, and where they stop.
-use Rattle.std.proofs.Common.{◌≡◌, ℕ, suc, ◌+◌, ◌-◌, ◌≤◌, List, [], ◌∷◌, ◌++◌, map, refl, sym, ◌∙◌, subst, arith, append_assoc}
+use Rattle.std.proofs.Common.{◌≡◌, ℕ, suc, ◌+◌, ◌-◌, ◌≤◌, ◌<◌, List, [], ◌∷◌, ◌++◌, length, map, refl, sym, ◌∙◌, subst, arith, append_assoc}
 use Rattle.std.specs.Prelude.{Some, None}
 use Rattle.std.specs.List.{All}
 use Rattle.std.proofs.lemmas.List.{append-nil, map-append}
@@ -20,6 +20,7 @@ use Rattle.ppm_syntax.specs.Stack as stack
 use Rattle.ppm_syntax.specs.Verdict.{verdict}
 use Rattle.ppm_syntax.proofs.PassingExpression.{with_nodes, few_nodes, by_step, expression_passes}
 use Rattle.ppm_syntax.proofs.Stopping.{missing, missing_both, no_assign, no_body}
+use Rattle.ppm_syntax.proofs.GrammarLemmas.{statement_shorter}
 use Rattle.ppm_syntax.proofs.Unique.{ends_at_close, ends_at_semicolon}
 
 -- the index of an assignment and the sign behind it are passed over
@@ -159,6 +160,11 @@ behind_name : (rest behind : List Token) (x : List ℕ) (line : ℕ) → InFront
     parsing.Tells e (verdict (state_at (stack.Target ∷ stack.InBody ∷ st) (with_nodes 0 c)) behind) →
     parsing.Tells e (verdict (state_at (stack.InBody ∷ st) c) rest)
 behind_name rest behind x line name st c e low none h = let step = name_passes name.token behind x st c name.has.0 low none in rw (name.shape, step) h
+
+-- a statement has tokens
+pub next_shorter : (d : ℕ) (x : List ℕ) (line : ℕ) (rest behind after : List Token) (s : Statement) → InFront (λ t. IsName t x × (t.line ≡ line)) rest behind →
+    ReadsPut d x line behind s after → length after < length rest
+next_shorter d x line rest behind after s name r = rw name.shape (statement_shorter (r.reads name.token name.has.0 name.has.1))
 
 module _ (d : ℕ) (ts : List Token) (all : List Statement) (rest : List Token) (leads : LeadsTo d ts all rest) (small : All IsSmallStatement all) where
   -- these are the statements so far
