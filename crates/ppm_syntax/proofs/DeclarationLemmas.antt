@@ -1,19 +1,22 @@
 -- The declaration of an array and a procedure: the verdict that passes over them, and where they stop.
-use Rattle.std.proofs.Common.{◌≡◌, ℕ, suc, ◌+◌, ◌≤◌, List, [], ◌∷◌, refl, ◌∙◌, arith}
+use Rattle.std.proofs.Common.{◌≡◌, ℕ, suc, ◌+◌, ◌≤◌, List, [], ◌∷◌, length, refl, ◌∙◌, arith}
 use Rattle.std.specs.Prelude.{Some, None}
 use Rattle.ppm_text.specs.declared.token.Keyword.TheVariants as word
 use Rattle.ppm_text.specs.declared.token.Sign.TheVariants as sign
 use Rattle.ppm_text.specs.declared.token.Token.{Token}
+use Rattle.ppm_syntax.specs.declared.tree.Param.{Param}
 use Rattle.ppm_syntax.specs.declared.stop.Stop.{Stop}
-use Rattle.ppm_syntax.specs.Limits.{array_limit, word_limit, depth_limit}
-use Rattle.ppm_syntax.specs.Grammar.{IsName, IsNumber, IsKeyword, IsSign}
-use Rattle.ppm_syntax.specs.Parsing.{InFront, Misses, Fails, HasWordsLeft}
+use Rattle.ppm_syntax.specs.Tree.{Statement}
+use Rattle.ppm_syntax.specs.Limits.{array_limit, word_limit, parameter_limit, depth_limit}
+use Rattle.ppm_syntax.specs.Grammar.{IsName, IsNumber, IsKeyword, IsSign, Parameters, Block, parameters, Derives}
+use Rattle.ppm_syntax.specs.Parsing.{InFront, Misses, Fails, HasWordsLeft, HasParameters, Anything, ReadsParameters, ReadsStatements, ReadsProcedure}
 use Rattle.ppm_syntax.specs.Stack.{Symbol, Tally, state_at, openings, passed, with_count}
 use Rattle.ppm_syntax.specs.Stack as stack
 use Rattle.ppm_syntax.specs.Verdict.{verdict}
 use Rattle.ppm_syntax.proofs.PassingExpression.{by_step}
 use Rattle.ppm_syntax.proofs.Stopping.{missing, no_semicolon}
 use Rattle.ppm_syntax.proofs.TallyLemmas.{Few, few_of, none_passed}
+use Rattle.ppm_syntax.proofs.ParameterLemmas.{with_parameters, few_parameters, parameters_pass}
 
 pub few_words : (c : Tally) (z : ℕ) → passed c ≡ None → c.words + z ≤ word_limit → passed (with_count (stack.SomeWords z) c) ≡ None
 few_words c z h few =
@@ -44,3 +47,66 @@ array_unended words z x line place place' place2 ts behind inside end closed e f
       rw (n.shape, o.shape, l.shape, q.shape, pass) (missing _ (stack.Semicolon ∷ st) (with_count (stack.SomeWords z) c) closed e m refl
           (λ t h. no_semicolon t.kind (stack.On stack.Nothing st) h));
 }
+
+-- the name of a procedure and the parenthesis behind it are passed over
+pub head_passes : (n o : Token) (x : List ℕ) (ts : List Token) (st : List Symbol) (c : Tally) → IsName n x → IsSign o sign.OpenParen →
+    suc (openings st) ≤ depth_limit → passed c ≡ None →
+    verdict (state_at (stack.ProcName ∷ st) c) (n ∷ o ∷ ts) ≡ verdict (state_at (stack.FirstParameter ∷ stack.Body ∷ st) c) ts
+head_passes n o x ts st c n_is o_is low none =
+    by_step n (o ∷ ts) (stack.ProcName ∷ st) (stack.ProcOpen ∷ st) c stack.Nothing (rw n_is refl) (omega (arith, low)) none
+    ∙ by_step o ts (stack.ProcOpen ∷ st) (stack.FirstParameter ∷ stack.Body ∷ st) c stack.Nothing (rw o_is refl) low none
+
+-- its parameters and the parenthesis that closes them are passed over
+pub params_pass : {d : ℕ} {ps : List Param} {ts mid : List Token} {q : Token} → Derives d Parameters ts (parameters ps) (q ∷ mid) →
+    IsSign q sign.CloseParen → (st : List Symbol) (c : Tally) → suc (openings st) ≤ depth_limit → passed c ≡ None → c.parameters ≡ 0 →
+    length ps ≤ parameter_limit →
+    verdict (state_at (stack.FirstParameter ∷ stack.Body ∷ st) c) ts ≡ verdict (state_at (stack.Body ∷ st) (with_parameters (length ps) c)) mid
+params_pass {ps = ps} {mid = mid} {q = q} r q_is st c low none zero few =
+    parameters_pass r q_is (stack.Body ∷ st) c low none zero few
+    ∙ by_step q mid (stack.FurtherParameters ∷ stack.Body ∷ st) (stack.Body ∷ st) (with_parameters (length ps) c) stack.Nothing (rw q_is refl)
+    (omega (arith, low)) (few_parameters c (length ps) none few)
+
+-- a procedure behind its keyword
+module _ (x : List ℕ) (line place : ℕ) (ts behind inside : List Token) (name : InFront (λ t. IsName t x × (t.line ≡ line)) ts behind)
+    (opened : InFront (λ t. IsSign t sign.OpenParen × (t.place ≡ place)) behind inside) where
+  -- its head is passed over
+  passes_head : (st : List Symbol) (c : Tally) → suc (openings st) ≤ depth_limit → passed c ≡ None →
+      verdict (state_at (stack.ProcName ∷ st) c) ts ≡ verdict (state_at (stack.FirstParameter ∷ stack.Body ∷ st) c) inside
+  passes_head st c low none = rw (name.shape, opened.shape) (head_passes name.token opened.token x inside st c name.has.0 opened.has.0 low none)
+
+  -- its parameters stop
+  pub params_stop : (e : Stop) → ((depth : ℕ) → Fails depth (HasParameters 0) (stack.FirstParameter ∷ []) inside e) →
+      Fails depth_limit (HasParameters 0) (stack.ProcName ∷ []) ts e
+  params_stop e f = record {
+    tells = λ st c low none zero.
+        rw (passes_head st c (omega (arith, low)) none) ((f 31).tells (stack.Body ∷ st) c (omega (arith, low)) none zero);
+  }
+
+  module _ (ps : List Param) (end : List Token) (params : ReadsParameters inside ps end) (few : length ps ≤ parameter_limit) where
+    -- its body stops
+    pub body_stops : (e : Stop) → Fails depth_limit Anything (stack.Body ∷ []) end e → Fails depth_limit (HasParameters 0) (stack.ProcName ∷ []) ts e
+    body_stops e f = record {
+      tells = λ st c low none zero.
+          let fits : suc (openings st) ≤ depth_limit = omega (arith, low) in
+          rw (passes_head st c fits none, params_pass params.reads.derived params.reads.ends st c fits none zero few)
+          (f.tells st (with_parameters (length ps) c) low (few_parameters c (length ps) none few) tt);
+    }
+
+    -- the parts are the procedure
+    pub procedure_read : (b : List Statement) (rest : List Token) → ReadsStatements depth_limit Block end b rest →
+        ReadsProcedure depth_limit ts (record { name = x; line = line; params = ps; body = b }) rest
+    procedure_read b rest body = record {
+      name = name.token;
+      opened = opened.token;
+      closed = params.closed;
+      inside = inside;
+      behind = end;
+      shape = rw (name.shape, opened.shape) refl;
+      is_name = name.has.0;
+      at = name.has.1;
+      is_opened = opened.has.0;
+      params = params.reads.derived;
+      is_closed = params.reads.ends;
+      body = body.reads.derived;
+      small = record { parameters = few; body = body.small };
+    }

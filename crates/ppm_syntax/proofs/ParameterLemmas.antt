@@ -182,3 +182,19 @@ module _ (ts : List Token) where
       closed = closed.token;
       reads = record { derived = rw (append-nil, closed.shape) at (leads.forth [] rest g.last_parameter); ends = closed.has.0 };
     }
+
+-- parameters have no openings
+parameter_at : {d : ℕ} (e : ℕ) {p : Param} {ts rest : List Token} → Derives d Parameter ts (parameter p) rest → Derives e Parameter ts (parameter p) rest
+parameter_at e (g.param m k n) = g.param m k n
+
+-- nor have those that follow
+more_at : {d : ℕ} (e : ℕ) {ps : List Param} {ts rest : List Token} → Derives d MoreParameters ts (parameters ps) rest →
+    Derives e MoreParameters ts (parameters ps) rest
+more_at e g.last_parameter = g.last_parameter
+more_at e (g.next_parameter is r m) = g.next_parameter is (parameter_at e r) (more_at e m)
+
+-- nor has their list
+pub parameters_at : {d : ℕ} (e : ℕ) {ps : List Param} {ts rest : List Token} → Derives d Parameters ts (parameters ps) rest →
+    Derives e Parameters ts (parameters ps) rest
+parameters_at e g.no_parameter = g.no_parameter
+parameters_at e (g.first_parameter r m) = g.first_parameter (parameter_at e r) (more_at e m)
