@@ -1,22 +1,24 @@
 -- The declaration of an array and a procedure: the verdict that passes over them, and where they stop.
 use Rattle.std.proofs.Common.{◌≡◌, ℕ, suc, ◌+◌, ◌≤◌, List, [], ◌∷◌, length, refl, ◌∙◌, arith}
 use Rattle.std.specs.Prelude.{Some, None}
+use Rattle.std.specs.List.{All}
 use Rattle.ppm_text.specs.declared.token.Keyword.TheVariants as word
 use Rattle.ppm_text.specs.declared.token.Sign.TheVariants as sign
 use Rattle.ppm_text.specs.declared.token.Token.{Token}
 use Rattle.ppm_syntax.specs.declared.tree.Param.{Param}
 use Rattle.ppm_syntax.specs.declared.stop.Stop.{Stop}
 use Rattle.ppm_syntax.specs.Tree.{Statement}
-use Rattle.ppm_syntax.specs.Limits.{array_limit, word_limit, parameter_limit, depth_limit}
-use Rattle.ppm_syntax.specs.Grammar.{IsName, IsNumber, IsKeyword, IsSign, Parameters, Block, parameters, Derives}
+use Rattle.ppm_syntax.specs.Limits.{array_limit, word_limit, procedure_limit, parameter_limit, depth_limit, IsSmallStatement}
+use Rattle.ppm_syntax.specs.Grammar.{IsName, IsNumber, IsKeyword, IsSign, Parameters, Block, parameters, statements, Derives}
 use Rattle.ppm_syntax.specs.Parsing.{InFront, Misses, Fails, HasWordsLeft, HasParameters, Anything, ReadsParameters, ReadsStatements, ReadsProcedure}
 use Rattle.ppm_syntax.specs.Stack.{Symbol, Tally, state_at, openings, passed, with_count}
 use Rattle.ppm_syntax.specs.Stack as stack
 use Rattle.ppm_syntax.specs.Verdict.{verdict}
-use Rattle.ppm_syntax.proofs.PassingExpression.{by_step}
+use Rattle.ppm_syntax.proofs.PassingExpression.{with_nodes, by_step}
 use Rattle.ppm_syntax.proofs.Stopping.{missing, no_semicolon}
 use Rattle.ppm_syntax.proofs.TallyLemmas.{Few, few_of, none_passed}
 use Rattle.ppm_syntax.proofs.ParameterLemmas.{with_parameters, few_parameters, parameters_pass}
+use Rattle.ppm_syntax.proofs.StatementLemmas.{block_passes}
 
 pub few_words : (c : Tally) (z : ℕ) → passed c ≡ None → c.words + z ≤ word_limit → passed (with_count (stack.SomeWords z) c) ≡ None
 few_words c z h few =
@@ -109,4 +111,54 @@ module _ (x : List ℕ) (line place : ℕ) (ts behind inside : List Token) (name
       is_closed = params.reads.ends;
       body = body.reads.derived;
       small = record { parameters = few; body = body.small };
+    }
+
+pub few_arrays : (c : Tally) → passed c ≡ None → suc c.arrays ≤ array_limit → passed (with_count stack.AnArray c) ≡ None
+few_arrays c h few =
+    let f = few_of c h in
+    none_passed (with_count stack.AnArray c) (record { arrays = few; words = f.words; procedures = f.procedures; parameters = f.parameters; nodes = f.nodes })
+
+pub few_procedures : (c : Tally) → passed c ≡ None → suc c.procedures ≤ procedure_limit → passed (with_count stack.AProcedure c) ≡ None
+few_procedures c h few =
+    let f = few_of c h in
+    none_passed (with_count stack.AProcedure c) (record { arrays = f.arrays; words = f.words; procedures = few; parameters = omega arith; nodes = f.nodes })
+
+-- the declaration of an array is passed over, and it is counted
+pub array_passes : (w n o l q s : Token) (x : List ℕ) (z : ℕ) (ts : List Token) (c : Tally) → IsKeyword w word.Array → IsName n x →
+    IsSign o sign.OpenBracket → IsNumber l z → IsSign q sign.CloseBracket → IsSign s sign.Semicolon → passed c ≡ None → suc c.arrays ≤ array_limit →
+    c.words + z ≤ word_limit →
+    verdict (state_at [] c) (w ∷ n ∷ o ∷ l ∷ q ∷ s ∷ ts) ≡ verdict (state_at [] (with_count (stack.SomeWords z) (with_count stack.AnArray c))) ts
+array_passes w n o l q s x z ts c w_is n_is o_is l_is q_is s_is none few words =
+    let one = few_arrays c none few in
+    by_step w (n ∷ o ∷ l ∷ q ∷ s ∷ ts) [] (stack.ArrayName ∷ []) c stack.AnArray (rw w_is refl) (omega arith) one
+    ∙ length_passes n o l q x z (s ∷ ts) [] (with_count stack.AnArray c) n_is o_is l_is q_is (omega arith) one words
+    ∙ by_step s ts (stack.Semicolon ∷ []) [] (with_count (stack.SomeWords z) (with_count stack.AnArray c)) stack.Nothing (rw s_is refl) (omega arith)
+    (few_words (with_count stack.AnArray c) z one words)
+
+-- the tally behind a procedure of so many parameters, with some nodes of its last statement
+abbrev pub with_procedure : ℕ → ℕ → Tally → Tally
+with_procedure params nodes c = with_nodes nodes (with_parameters params (with_count stack.AProcedure c))
+
+-- the verdict passes over a procedure
+pub record PassesProcedure (c : Tally) (ts : List Token) (params : ℕ) (rest : List Token) : Type 0 where
+  pub nodes : ℕ
+  pub few : passed (with_procedure params nodes c) ≡ None
+  pub passes : verdict (state_at [] c) ts ≡ verdict (state_at [] (with_procedure params nodes c)) rest
+
+-- a procedure is passed over, and it is counted
+pub procedure_passes : {d e : ℕ} {ps : List Param} {b : List Statement} {ts mid rest : List Token} {q : Token} (w n o : Token) (x : List ℕ) →
+    IsKeyword w word.Proc → IsName n x → IsSign o sign.OpenParen → Derives d Parameters ts (parameters ps) (q ∷ mid) → IsSign q sign.CloseParen →
+    Derives e Block mid (statements b) rest → (c : Tally) → e ≤ depth_limit → passed c ≡ None → suc c.procedures ≤ procedure_limit →
+    length ps ≤ parameter_limit → All IsSmallStatement b → PassesProcedure c (w ∷ n ∷ o ∷ ts) (length ps) rest
+procedure_passes {ps = ps} {ts = ts} w n o x w_is n_is o_is r q_is b c low none one few small =
+    let within = few_procedures c none one in
+    let start = with_count stack.AProcedure c in
+    let body = block_passes b [] (with_parameters (length ps) start) (omega (arith, low)) small (few_parameters start (length ps) within few) in
+    record {
+      nodes = body.nodes;
+      few = body.few;
+      passes = by_step w (n ∷ o ∷ ts) [] (stack.ProcName ∷ []) c stack.AProcedure (rw w_is refl) (omega arith) within
+          ∙ head_passes n o x ts [] start n_is o_is (omega arith) within
+          ∙ params_pass r q_is [] start (omega arith) within refl few
+          ∙ body.passes;
     }

@@ -22,3 +22,4 @@ pub mod TallyLemmas
 pub mod ParameterLemmas
 pub mod DeclarationLemmas
 pub mod StatementLemmas
+pub mod AddingLemmas
