@@ -21,6 +21,7 @@ use Rattle.ppm_syntax.specs.Stack as stack
 use Rattle.ppm_syntax.specs.Verdict.{verdict}
 use Rattle.ppm_syntax.proofs.PassingExpression.{by_step}
 use Rattle.ppm_syntax.proofs.Unique.{same_tree}
+use Rattle.ppm_syntax.proofs.GrammarLemmas.{shorter}
 use Rattle.ppm_syntax.proofs.LimitsLemmas.{words-append}
 use Rattle.ppm_syntax.proofs.ParameterLemmas.{parameters_at}
 use Rattle.ppm_syntax.proofs.DeclarationLemmas.{few_words, few_arrays, few_procedures, array_passes, procedure_passes, with_procedure}
@@ -75,6 +76,7 @@ module _ (w : Token) (ts : List Token) (old : Declared) (so_far : IsSoFar old) w
       });
       words = rw (arrays, words-append) (omega (arith, so_far.words, words));
     };
+    shorter = omega (arith, ap length r.shape);
     passes = λ c counted none.
         let one : suc c.arrays ≤ array_limit = omega (arith, few, counted.arrays) in
         let enough : c.words + a.length ≤ word_limit = omega (arith, counted.words, so_far.words, words) in
@@ -110,6 +112,7 @@ module _ (w : Token) (ts : List Token) (old : Declared) (so_far : IsSoFar old) w
       });
       words = rw arrays (omega (arith, so_far.words, words));
     };
+    shorter = omega (arith, ap length r.shape, shorter r.params, shorter r.body);
     passes = λ c counted none.
         let one : suc c.procedures ≤ procedure_limit = omega (arith, few, counted.procedures) in
         let h = procedure_passes w r.name r.opened (procedure_of p).name is r.is_name r.is_opened r.params r.is_closed r.body c (omega arith) none one

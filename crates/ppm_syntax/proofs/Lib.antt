@@ -23,3 +23,4 @@ pub mod ParameterLemmas
 pub mod DeclarationLemmas
 pub mod StatementLemmas
 pub mod AddingLemmas
+pub mod ItemLemmas
