@@ -57,6 +57,7 @@ Because s ts (Many place which) = Stops s ts place (IsMany which)
 comes_behind : {s s2 : State} {t : Token} {ts : List Token} {may : Bool} → step s t.kind ≡ Some s2 → Passes s2 → Comes s2 ts may → Comes s (t ∷ ts) may
 comes_behind is passes c = record { last = c.last; ran = rw is c.ran; within = rw is (passes, c.within); ending = c.ending }
 
+-- and a token that stops stops there
 stops_behind : {s s2 : State} {t : Token} {ts : List Token} {place : ℕ} {Is : State → Kind → Type 0} → step s t.kind ≡ Some s2 → Passes s2 →
     Stops s2 ts place Is → Stops s (t ∷ ts) place Is
 stops_behind {t = t} is passes f = record {
@@ -71,6 +72,7 @@ stops_behind {t = t} is passes f = record {
   is = f.is;
 }
 
+-- so a reason stays one
 behind : (s s2 : State) (t : Token) (ts : List Token) (v : Verdict) → step s t.kind ≡ Some s2 → Passes s2 → Because s2 ts v → Because s (t ∷ ts) v
 behind s s2 t ts Whole is passes b = comes_behind is passes b
 behind s s2 t ts Cut is passes b = comes_behind is passes b
@@ -108,10 +110,11 @@ because (t ∷ ts) s = go (step s t.kind) refl (λ s2. because ts s2)
     go None is on = stops_here s t ts IsStuck is
     go (Some s2) is on = stepping s2 (nat_lt depth_limit (openings s2.stack)) refl is (on s2)
 
--- a limit is passed, or it isn't
+-- the test of a limit where it is passed
 over_limit : (n m : ℕ) → n < m → nat_lt n m ≡ true
 over_limit n m h = grind (arith, h)
 
+-- and where it is not passed
 under_limit : (n m : ℕ) → m ≤ n → nat_lt n m ≡ false
 under_limit n m h = grind (arith, h)
 
@@ -136,13 +139,15 @@ passes_front (t ∷ ts) s last more ran h = go (step s t.kind) (λ s2 ran2 h2. p
     go None on ran h = absurd h
     go (Some s2) on ran h = rw (under_limit depth_limit (openings s2.stack) h.0.openings, h.0.counts) (on s2 ran h.1)
 
--- what the verdict says of the first token
+-- what the verdict says of a first token that cannot come
 stuck_verdict : (s : State) (t : Token) (ts : List Token) → IsStuck s t.kind → verdict s (t ∷ ts) ≡ Unexpected t.place
 stuck_verdict s t ts h = rw h refl
 
+-- a token that is too deep
 deep_verdict : (s : State) (t : Token) (ts : List Token) → IsDeep s t.kind → verdict s (t ∷ ts) ≡ Deep t.place
 deep_verdict s t ts h = rw (h.stepped, over_limit depth_limit (openings h.after.stack) h.deep) refl
 
+-- a token that passes a limit
 many_verdict : (which : Limit) (s : State) (t : Token) (ts : List Token) → IsMany which s t.kind → verdict s (t ∷ ts) ≡ Many t.place which
 many_verdict which s t ts h = rw (h.stepped, under_limit depth_limit (openings h.after.stack) h.shallow, h.many) refl
 
@@ -152,6 +157,7 @@ stops_verdict : (s : State) (ts : List Token) (place : ℕ) (Is : State → Kind
 stops_verdict s ts place Is v says f =
     ap (λ w. verdict s w) f.shape ∙ passes_front f.front s f.before (f.token ∷ f.more) f.ran f.within ∙ says f.before f.token f.more f.is ∙ ap v f.at
 
+-- and where all can come, how they end is
 comes_verdict : (s : State) (ts : List Token) (may : Bool) → Comes s ts may → verdict s ts ≡ at_end may
 comes_verdict s ts may c =
     ap (λ w. verdict s w) (sym (append-nil ts)) ∙ passes_front ts s c.last [] c.ran c.within ∙ ap at_end c.ending

@@ -68,9 +68,11 @@ is_first_unexpected ts place f = record {
   ends = never_stuck f.front f.token f.before f.ran f.is;
 }
 
+-- tokens that end too early
 is_ended : (ts : List Token) → Comes beginning ts false → IsEnded ts
 is_ended ts c = record { begins = run_begins ts c.last c.ran; ends = never_cut ts c.last c.ran c.ending; within = c.within }
 
+-- a first token that is too deep
 is_too_deep : (ts : List Token) (place : ℕ) → Stops beginning ts place IsDeep → IsTooDeep ts place
 is_too_deep ts place f = record {
   front = f.front;
@@ -83,6 +85,7 @@ is_too_deep ts place f = record {
   deep = f.is.deep;
 }
 
+-- a first token that passes another limit
 is_too_many : (ts : List Token) (place : ℕ) (which : Limit) → Stops beginning ts place (IsMany which) → IsTooMany ts place which
 is_too_many ts place which f = record {
   front = f.front;

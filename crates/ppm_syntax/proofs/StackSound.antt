@@ -14,79 +14,33 @@ use Rattle.ppm_syntax.specs.Tree.{Procedure, SourceTree}
 use Rattle.ppm_syntax.specs.Tree as tree
 use Rattle.ppm_syntax.specs.Grammar.{operator_at, top, mode_of, IsName, IsNumber, IsKeyword, IsSign}
 use Rattle.ppm_syntax.specs.Grammar as g
-use Rattle.ppm_syntax.specs.Stack.{Symbol, Move, Stuck, On, move, tails}
+use Rattle.ppm_syntax.specs.Stack.{Symbol, On, move, tails}
 use Rattle.ppm_syntax.specs.Stack as stack
-use Rattle.ppm_syntax.proofs.StackTexts.{deeper, deeper_stack, Yields, whole, then}
+use Rattle.ppm_syntax.proofs.StackTexts.{deeper, deeper_stack, Yields, whole, then, Sound, sound_map, sound_name, sound_open_bracket, sound_close_bracket}
+use Rattle.ppm_syntax.proofs.StackTexts.{sound_close_paren, sound_assign, sound_semicolon, sound_open_brace, sound_open_paren}
 use Rattle.ppm_syntax.proofs.StackTexts.{operand, more, index, end_index, end_group, target, end_target, value, semicolon, body, in_body}
 use Rattle.ppm_syntax.proofs.StackTexts.{array_name, array_open, array_length, array_close, proc_name, proc_open}
 use Rattle.ppm_syntax.proofs.StackTexts.{first_parameter, parameter_name, further_parameters, next_parameter}
-
--- the token before what is still to come behind it
-abbrev pub Sound : ℕ → List Symbol → Token → List Token → Move → Type 0
-Sound d st t ts Stuck = Unit {0}
-Sound d st t ts (On counts st') = Yields d st' ts → Yields (suc d) st (t ∷ ts)
-
-sound_map : {d : ℕ} {st st2 : List Symbol} {t : Token} {ts : List Token} → (Yields (suc d) st (t ∷ ts) → Yields (suc d) st2 (t ∷ ts)) →
-    (m : Move) → Sound d st t ts m → Sound d st2 t ts m
-sound_map f Stuck s = tt
-sound_map f (On counts st') s = λ y. f (s y)
-
--- a token that is the one sign, or a name
-sound_name : (d : ℕ) (st : List Symbol) (t : Token) (ts : List Token) (m : Move) → ((x : List ℕ) → IsName t x → Sound d st t ts m) →
-    (k : Kind) → t.kind ≡ k → Sound d st t ts (stack.at_name k m)
-sound_name d st t ts m f (kind.Name x) is = f x is
-sound_name d st t ts m f _ is = tt
-
-sound_open_bracket : (d : ℕ) (st : List Symbol) (t : Token) (ts : List Token) (m : Move) → (IsSign t sign.OpenBracket → Sound d st t ts m) →
-    (k : Kind) → t.kind ≡ k → Sound d st t ts (stack.at_open_bracket k m)
-sound_open_bracket d st t ts m f (kind.Sign sign.OpenBracket) is = f is
-sound_open_bracket d st t ts m f _ is = tt
-
-sound_close_bracket : (d : ℕ) (st : List Symbol) (t : Token) (ts : List Token) (m : Move) → (IsSign t sign.CloseBracket → Sound d st t ts m) →
-    (k : Kind) → t.kind ≡ k → Sound d st t ts (stack.at_close_bracket k m)
-sound_close_bracket d st t ts m f (kind.Sign sign.CloseBracket) is = f is
-sound_close_bracket d st t ts m f _ is = tt
-
-sound_close_paren : (d : ℕ) (st : List Symbol) (t : Token) (ts : List Token) (m : Move) → (IsSign t sign.CloseParen → Sound d st t ts m) →
-    (k : Kind) → t.kind ≡ k → Sound d st t ts (stack.at_close_paren k m)
-sound_close_paren d st t ts m f (kind.Sign sign.CloseParen) is = f is
-sound_close_paren d st t ts m f _ is = tt
-
-sound_assign : (d : ℕ) (st : List Symbol) (t : Token) (ts : List Token) (m : Move) → (IsSign t sign.Assign → Sound d st t ts m) →
-    (k : Kind) → t.kind ≡ k → Sound d st t ts (stack.at_assign k m)
-sound_assign d st t ts m f (kind.Sign sign.Assign) is = f is
-sound_assign d st t ts m f _ is = tt
-
-sound_semicolon : (d : ℕ) (st : List Symbol) (t : Token) (ts : List Token) (m : Move) → (IsSign t sign.Semicolon → Sound d st t ts m) →
-    (k : Kind) → t.kind ≡ k → Sound d st t ts (stack.at_semicolon k m)
-sound_semicolon d st t ts m f (kind.Sign sign.Semicolon) is = f is
-sound_semicolon d st t ts m f _ is = tt
-
-sound_open_brace : (d : ℕ) (st : List Symbol) (t : Token) (ts : List Token) (m : Move) → (IsSign t sign.OpenBrace → Sound d st t ts m) →
-    (k : Kind) → t.kind ≡ k → Sound d st t ts (stack.at_open_brace k m)
-sound_open_brace d st t ts m f (kind.Sign sign.OpenBrace) is = f is
-sound_open_brace d st t ts m f _ is = tt
-
-sound_open_paren : (d : ℕ) (st : List Symbol) (t : Token) (ts : List Token) (m : Move) → (IsSign t sign.OpenParen → Sound d st t ts m) →
-    (k : Kind) → t.kind ≡ k → Sound d st t ts (stack.at_open_paren k m)
-sound_open_paren d st t ts m f (kind.Sign sign.OpenParen) is = f is
-sound_open_paren d st t ts m f _ is = tt
 
 -- an expression of a level is one of the level below and what may follow it
 joined : {d n : ℕ} {st : List Symbol} {ts : List Token} → Yields d (stack.Operand n ∷ stack.More (suc n) ∷ st) ts → Yields d (stack.Operand (suc n) ∷ st) ts
 joined (then (operand {e = e} r) (then (more f) y)) = then (operand (g.level r (f e).1)) y
 
+-- a number is an operand
 numbered : {d n : ℕ} {st : List Symbol} {t : Token} {ts : List Token} → IsNumber t n → Yields d st ts → Yields (suc d) (stack.Operand 0 ∷ st) (t ∷ ts)
 numbered is y = then (operand (g.number is)) (deeper_stack y)
 
+-- so is a name with its index
 indexed : {d : ℕ} {x : List ℕ} {st : List Symbol} {t : Token} {ts : List Token} → IsName t x → Yields d (stack.Index ∷ st) ts →
     Yields (suc d) (stack.Operand 0 ∷ st) (t ∷ ts)
 indexed is (then (index o i c) y) = then (operand (g.element is o i c)) (deeper_stack y)
 
+-- and an expression in parentheses
 grouped : {d : ℕ} {st : List Symbol} {t : Token} {ts : List Token} → IsSign t sign.OpenParen → Yields d (stack.Operand top ∷ stack.EndGroup ∷ st) ts →
     Yields (suc d) (stack.Operand 0 ∷ st) (t ∷ ts)
 grouped is (then (operand r) (then (end_group c) y)) = then (operand (g.group is r c)) (deeper_stack y)
 
+-- the first token of an operand
 sound_operand : (d n : ℕ) (st : List Symbol) (t : Token) (ts : List Token) (k : Kind) → t.kind ≡ k →
     Sound d (stack.Operand n ∷ st) t ts (stack.operand k (tails n st))
 sound_operand d (suc n) st t ts k is =
@@ -96,14 +50,17 @@ sound_operand d zero st t ts (kind.Name x) is = λ y. indexed is y
 sound_operand d zero st t ts (kind.Sign sign.OpenParen) is = λ y. grouped is y
 sound_operand d zero st t ts _ is = tt
 
+-- an operator goes on with an operand
 continued : {d n : ℕ} {o : Operator} {st : List Symbol} {t : Token} {ts : List Token} → operator_at (suc n) t.kind ≡ Some o →
     Yields d (stack.Operand n ∷ stack.More (suc n) ∷ st) ts → Yields (suc d) (stack.More (suc n) ∷ st) (t ∷ ts)
 continued {o = o} {t = t} is (then (operand {e = b} r) (then (more f) y)) =
     then (more (λ a. let m = f (tree.Binary o t.line a b) in (m.0, deeper (g.more is r m.1)))) (deeper_stack y)
 
+-- an expression may go on no further
 no_further : {d n : ℕ} {st : List Symbol} {ts : List Token} → Yields d st ts → Yields d (stack.More n ∷ st) ts
 no_further y = then (more (λ a. (a, g.no_more))) y
 
+-- the token behind an operand
 sound_more : (d n : ℕ) (st : List Symbol) (t : Token) (ts : List Token) (o : Option Operator) → operator_at n t.kind ≡ o → Sound d st t ts (move st t.kind) →
     Sound d (stack.More n ∷ st) t ts (stack.after_operand n o st (move st t.kind))
 sound_more d zero st t ts o is s = sound_map no_further (move st t.kind) s
@@ -115,6 +72,7 @@ numbered_array : {d z : ℕ} {st : List Symbol} {t : Token} {ts : List Token} �
     Yields (suc d) (stack.ArrayLength ∷ st) (t ∷ ts)
 numbered_array is (then r y) = deeper_stack (then (array_length is r) y)
 
+-- the length of an array
 sound_length : (d : ℕ) (st : List Symbol) (t : Token) (ts : List Token) (k : Kind) → t.kind ≡ k →
     Sound d (stack.ArrayLength ∷ st) t ts (stack.array_length k st)
 sound_length d st t ts (kind.Number z) is = λ y. numbered_array is y
@@ -125,14 +83,17 @@ bracketed : {d : ℕ} {st : List Symbol} {t : Token} {ts : List Token} → IsSig
     Yields d (stack.Operand top ∷ stack.EndIndex ∷ st) ts → Yields (suc d) (stack.Index ∷ st) (t ∷ ts)
 bracketed is (then (operand r) (then (end_index c) y)) = deeper_stack (then (index is r c) y)
 
+-- the index of a target
 targeted : {d : ℕ} {st : List Symbol} {t : Token} {ts : List Token} → IsSign t sign.OpenBracket →
     Yields d (stack.Operand top ∷ stack.EndTarget ∷ st) ts → Yields (suc d) (stack.Target ∷ st) (t ∷ ts)
 targeted is (then (operand r) (then e y)) = deeper_stack (then (target is r e) y)
 
+-- the bracket behind it
 target_closed : {d : ℕ} {st : List Symbol} {t : Token} {ts : List Token} → IsSign t sign.CloseBracket →
     Yields d (stack.Value ∷ st) ts → Yields (suc d) (stack.EndTarget ∷ st) (t ∷ ts)
 target_closed is (then v y) = deeper_stack (then (end_target is v) y)
 
+-- the value of an assignment
 assigned : {d : ℕ} {st : List Symbol} {t : Token} {ts : List Token} → IsSign t sign.Assign →
     Yields d (stack.Operand top ∷ stack.Semicolon ∷ st) ts → Yields (suc d) (stack.Value ∷ st) (t ∷ ts)
 assigned is (then (operand r) (then (semicolon s) y)) = deeper_stack (then (value is r s) y)
@@ -148,96 +109,112 @@ stated : {d : ℕ} {x : List ℕ} {st : List Symbol} {t : Token} {ts : List Toke
 stated is (then (target o i (end_target c (value q v s))) (then (in_body b e) y)) =
     then (in_body (g.another (g.put is o i c q (deeper v) s) (deeper b)) e) (deeper_stack y)
 
+-- the first token of a statement, or the brace that closes the block
 sound_body : (d : ℕ) (st : List Symbol) (t : Token) (ts : List Token) (k : Kind) → t.kind ≡ k →
     Sound d (stack.InBody ∷ st) t ts (stack.in_body k st)
 sound_body d st t ts (kind.Name x) is = λ y. stated is y
 sound_body d st t ts (kind.Sign sign.CloseBrace) is = λ y. then (in_body g.no_statement is) (deeper_stack y)
 sound_body d st t ts _ is = tt
 
--- the name of an array, its bracket, and the bracket that closes it
+-- the name of an array
 array_named : {d : ℕ} {x : List ℕ} {st : List Symbol} {t : Token} {ts : List Token} → IsName t x →
     Yields d (stack.ArrayOpen ∷ st) ts → Yields (suc d) (stack.ArrayName ∷ st) (t ∷ ts)
 array_named is (then r y) = deeper_stack (then (array_name is r) y)
 
+-- the bracket behind the name
 array_opened : {d : ℕ} {st : List Symbol} {t : Token} {ts : List Token} → IsSign t sign.OpenBracket →
     Yields d (stack.ArrayLength ∷ st) ts → Yields (suc d) (stack.ArrayOpen ∷ st) (t ∷ ts)
 array_opened is (then r y) = deeper_stack (then (array_open is r) y)
 
+-- the bracket that closes it
 array_closed : {d : ℕ} {st : List Symbol} {t : Token} {ts : List Token} → IsSign t sign.CloseBracket →
     Yields d (stack.Semicolon ∷ st) ts → Yields (suc d) (stack.ArrayClose ∷ st) (t ∷ ts)
 array_closed is (then r y) = deeper_stack (then (array_close is r) y)
 
--- the name of a procedure, and its parenthesis
+-- the name of a procedure
 proc_named : {d : ℕ} {x : List ℕ} {st : List Symbol} {t : Token} {ts : List Token} → IsName t x →
     Yields d (stack.ProcOpen ∷ st) ts → Yields (suc d) (stack.ProcName ∷ st) (t ∷ ts)
 proc_named is (then r y) = deeper_stack (then (proc_name is r) y)
 
+-- the parenthesis behind the name
 proc_opened : {d : ℕ} {st : List Symbol} {t : Token} {ts : List Token} → IsSign t sign.OpenParen →
     Yields d (stack.FirstParameter ∷ stack.Body ∷ st) ts → Yields (suc d) (stack.ProcOpen ∷ st) (t ∷ ts)
 proc_opened is (then p (then b y)) = deeper_stack (then (proc_open is p b) y)
 
--- a first parameter, one behind a comma, and its name
+-- a first parameter
 first_taken : {d : ℕ} {w : Keyword} {how : Mode} {st : List Symbol} {t : Token} {ts : List Token} → IsKeyword t w → mode_of w ≡ Some how →
     Yields d (stack.ParameterName ∷ st) ts → Yields (suc d) (stack.FirstParameter ∷ st) (t ∷ ts)
 first_taken is mode (then (parameter_name n (further_parameters r c)) y) =
     deeper_stack (then (first_parameter (g.first_parameter (g.param is mode n) r) c) y)
 
+-- a parameter behind a comma
 next_taken : {d : ℕ} {w : Keyword} {how : Mode} {st : List Symbol} {t : Token} {ts : List Token} → IsKeyword t w → mode_of w ≡ Some how →
     Yields d (stack.ParameterName ∷ st) ts → Yields (suc d) (stack.NextParameter ∷ st) (t ∷ ts)
 next_taken is mode (then (parameter_name n f) y) = deeper_stack (then (next_parameter (g.param is mode n) f) y)
 
+-- the name of a parameter
 parameter_named : {d : ℕ} {x : List ℕ} {st : List Symbol} {t : Token} {ts : List Token} → IsName t x →
     Yields d (stack.FurtherParameters ∷ st) ts → Yields (suc d) (stack.ParameterName ∷ st) (t ∷ ts)
 parameter_named is (then f y) = deeper_stack (then (parameter_name is f) y)
 
+-- a comma behind a parameter
 parameter_follows : {d : ℕ} {st : List Symbol} {t : Token} {ts : List Token} → IsSign t sign.Comma →
     Yields d (stack.NextParameter ∷ st) ts → Yields (suc d) (stack.FurtherParameters ∷ st) (t ∷ ts)
 parameter_follows is (then (next_parameter p (further_parameters r c)) y) = deeper_stack (then (further_parameters (g.next_parameter is p r) c) y)
 
+-- a keyword for a first parameter
 sound_first : (d : ℕ) (st : List Symbol) (t : Token) (ts : List Token) (w : Keyword) → IsKeyword t w → (m : Option Mode) → mode_of w ≡ m →
     Sound d (stack.FirstParameter ∷ st) t ts (stack.parameter m st)
 sound_first d st t ts w is (Some how) mode = λ y. first_taken is mode y
 sound_first d st t ts w is None mode = tt
 
+-- the first token of the parameters
 sound_first_parameter : (d : ℕ) (st : List Symbol) (t : Token) (ts : List Token) (k : Kind) → t.kind ≡ k →
     Sound d (stack.FirstParameter ∷ st) t ts (stack.first_parameter k st)
 sound_first_parameter d st t ts (kind.Keyword w) is = sound_first d st t ts w is (mode_of w) refl
 sound_first_parameter d st t ts (kind.Sign sign.CloseParen) is = λ y. then (first_parameter g.no_parameter is) (deeper_stack y)
 sound_first_parameter d st t ts _ is = tt
 
+-- a keyword for a further parameter
 sound_next : (d : ℕ) (st : List Symbol) (t : Token) (ts : List Token) (w : Keyword) → IsKeyword t w → (m : Option Mode) → mode_of w ≡ m →
     Sound d (stack.NextParameter ∷ st) t ts (stack.parameter m st)
 sound_next d st t ts w is (Some how) mode = λ y. next_taken is mode y
 sound_next d st t ts w is None mode = tt
 
+-- the token behind a comma
 sound_next_parameter : (d : ℕ) (st : List Symbol) (t : Token) (ts : List Token) (k : Kind) → t.kind ≡ k →
     Sound d (stack.NextParameter ∷ st) t ts (stack.next_parameter k st)
 sound_next_parameter d st t ts (kind.Keyword w) is = sound_next d st t ts w is (mode_of w) refl
 sound_next_parameter d st t ts _ is = tt
 
+-- the token behind a parameter
 sound_further : (d : ℕ) (st : List Symbol) (t : Token) (ts : List Token) (k : Kind) → t.kind ≡ k →
     Sound d (stack.FurtherParameters ∷ st) t ts (stack.further_parameters k st)
 sound_further d st t ts (kind.Sign sign.Comma) is = λ y. parameter_follows is y
 sound_further d st t ts (kind.Sign sign.CloseParen) is = λ y. then (further_parameters g.last_parameter is) (deeper_stack y)
 sound_further d st t ts _ is = tt
 
--- a tree with one declaration more in front
+-- a tree with one array more in front
 with_array : Array → SourceTree → SourceTree
 with_array a t = record { arrays = a ∷ t.arrays; procs = t.procs }
 
+-- a tree with one procedure more in front
 with_procedure : Procedure → SourceTree → SourceTree
 with_procedure p t = record { arrays = t.arrays; procs = p ∷ t.procs }
 
+-- an array is declared
 declared_array : {d : ℕ} {t : Token} {ts : List Token} → IsKeyword t word.Array → Yields d (stack.ArrayName ∷ []) ts → Yields (suc d) [] (t ∷ ts)
 unfolding with_array
 declared_array w (then (array_name {n = n} {x = x} is (array_open o (array_length {z = z} l (array_close c (semicolon s))))) (whole {t = u} r)) =
     whole {t = with_array (record { name = x; line = n.line; length = z }) u} (g.array w is o l c s (deeper r))
 
+-- a procedure is declared
 declared_procedure : {d : ℕ} {t : Token} {ts : List Token} → IsKeyword t word.Proc → Yields d (stack.ProcName ∷ []) ts → Yields (suc d) [] (t ∷ ts)
 unfolding with_procedure
 declared_procedure w (then (proc_name {n = n} {x = x} is (proc_open o (first_parameter {ps = qs} q c) (body ob (in_body {b = b} r e)))) (whole {t = u} v)) =
     whole {t = with_procedure (record { name = x; line = n.line; params = qs; body = b }) u} (g.proc w is o q c (g.block ob r e) (deeper v))
 
+-- the first token of a declaration
 sound_declaration : (d : ℕ) (t : Token) (ts : List Token) (k : Kind) → t.kind ≡ k → Sound d [] t ts (stack.declaration k)
 sound_declaration d t ts (kind.Keyword word.Array) is = λ y. declared_array is y
 sound_declaration d t ts (kind.Keyword word.Proc) is = λ y. declared_procedure is y

@@ -1,13 +1,15 @@
--- The texts of what is still to come, symbol by symbol.
-use Rattle.std.proofs.Common.{ℕ, suc, List, [], ◌∷◌}
+-- The texts of what is still to come, symbol by symbol, and what it is for a token to be sound.
+use Rattle.std.proofs.Common.{◌≡◌, ℕ, suc, List, [], ◌∷◌}
 use Rattle.ppm_text.specs.declared.token.Sign.TheVariants as sign
+use Rattle.ppm_text.specs.declared.token.Kind.{Kind}
+use Rattle.ppm_text.specs.declared.token.Kind.TheVariants as kind
 use Rattle.ppm_text.specs.declared.token.Token.{Token}
 use Rattle.ppm_syntax.specs.declared.tree.Param.{Param}
 use Rattle.ppm_syntax.specs.Tree.{Expression, Statement, SourceTree}
 use Rattle.ppm_syntax.specs.Grammar.{top, IsName, IsNumber, IsSign, Part, Level, More, Statements, Parameter, Parameters, MoreParameters}
 use Rattle.ppm_syntax.specs.Grammar.{Node, expression, statements, parameter, parameters, Derives, DerivesTree}
 use Rattle.ppm_syntax.specs.Grammar as g
-use Rattle.ppm_syntax.specs.Stack.{Symbol}
+use Rattle.ppm_syntax.specs.Stack.{Symbol, Move, Stuck, On}
 use Rattle.ppm_syntax.specs.Stack as stack
 
 -- one opening more may be open
@@ -96,6 +98,66 @@ pub data Yields : ℕ → List Symbol → List Token → Type 0 where
   whole : {d : ℕ} {t : SourceTree} {ts : List Token} → DerivesTree d ts t → Yields d [] ts
   then : {d : ℕ} {x : Symbol} {st : List Symbol} {ts mid : List Token} → Gives d x ts mid → Yields d st mid → Yields d (x ∷ st) ts
 
+-- nor does it matter on a stack
 pub deeper_stack : {d : ℕ} {st : List Symbol} {ts : List Token} → Yields d st ts → Yields (suc d) st ts
 deeper_stack (whole {t = t} r) = whole {t = t} (deeper r)
 deeper_stack (then r m) = then (deeper_symbol r) (deeper_stack m)
+
+-- the token before what is still to come behind it
+abbrev pub Sound : ℕ → List Symbol → Token → List Token → Move → Type 0
+Sound d st t ts Stuck = Unit {0}
+Sound d st t ts (On counts st') = Yields d st' ts → Yields (suc d) st (t ∷ ts)
+
+-- what is sound in front of one stack is so in front of another that its texts are texts of
+pub sound_map : {d : ℕ} {st st2 : List Symbol} {t : Token} {ts : List Token} → (Yields (suc d) st (t ∷ ts) → Yields (suc d) st2 (t ∷ ts)) →
+    (m : Move) → Sound d st t ts m → Sound d st2 t ts m
+sound_map f Stuck s = tt
+sound_map f (On counts st') s = λ y. f (s y)
+
+-- a token that is a name
+pub sound_name : (d : ℕ) (st : List Symbol) (t : Token) (ts : List Token) (m : Move) → ((x : List ℕ) → IsName t x → Sound d st t ts m) →
+    (k : Kind) → t.kind ≡ k → Sound d st t ts (stack.at_name k m)
+sound_name d st t ts m f (kind.Name x) is = f x is
+sound_name d st t ts m f _ is = tt
+
+-- the bracket that opens
+pub sound_open_bracket : (d : ℕ) (st : List Symbol) (t : Token) (ts : List Token) (m : Move) → (IsSign t sign.OpenBracket → Sound d st t ts m) →
+    (k : Kind) → t.kind ≡ k → Sound d st t ts (stack.at_open_bracket k m)
+sound_open_bracket d st t ts m f (kind.Sign sign.OpenBracket) is = f is
+sound_open_bracket d st t ts m f _ is = tt
+
+-- the bracket that closes
+pub sound_close_bracket : (d : ℕ) (st : List Symbol) (t : Token) (ts : List Token) (m : Move) → (IsSign t sign.CloseBracket → Sound d st t ts m) →
+    (k : Kind) → t.kind ≡ k → Sound d st t ts (stack.at_close_bracket k m)
+sound_close_bracket d st t ts m f (kind.Sign sign.CloseBracket) is = f is
+sound_close_bracket d st t ts m f _ is = tt
+
+-- the parenthesis that closes
+pub sound_close_paren : (d : ℕ) (st : List Symbol) (t : Token) (ts : List Token) (m : Move) → (IsSign t sign.CloseParen → Sound d st t ts m) →
+    (k : Kind) → t.kind ≡ k → Sound d st t ts (stack.at_close_paren k m)
+sound_close_paren d st t ts m f (kind.Sign sign.CloseParen) is = f is
+sound_close_paren d st t ts m f _ is = tt
+
+-- the sign of an assignment
+pub sound_assign : (d : ℕ) (st : List Symbol) (t : Token) (ts : List Token) (m : Move) → (IsSign t sign.Assign → Sound d st t ts m) →
+    (k : Kind) → t.kind ≡ k → Sound d st t ts (stack.at_assign k m)
+sound_assign d st t ts m f (kind.Sign sign.Assign) is = f is
+sound_assign d st t ts m f _ is = tt
+
+-- the semicolon
+pub sound_semicolon : (d : ℕ) (st : List Symbol) (t : Token) (ts : List Token) (m : Move) → (IsSign t sign.Semicolon → Sound d st t ts m) →
+    (k : Kind) → t.kind ≡ k → Sound d st t ts (stack.at_semicolon k m)
+sound_semicolon d st t ts m f (kind.Sign sign.Semicolon) is = f is
+sound_semicolon d st t ts m f _ is = tt
+
+-- the brace that opens
+pub sound_open_brace : (d : ℕ) (st : List Symbol) (t : Token) (ts : List Token) (m : Move) → (IsSign t sign.OpenBrace → Sound d st t ts m) →
+    (k : Kind) → t.kind ≡ k → Sound d st t ts (stack.at_open_brace k m)
+sound_open_brace d st t ts m f (kind.Sign sign.OpenBrace) is = f is
+sound_open_brace d st t ts m f _ is = tt
+
+-- the parenthesis that opens
+pub sound_open_paren : (d : ℕ) (st : List Symbol) (t : Token) (ts : List Token) (m : Move) → (IsSign t sign.OpenParen → Sound d st t ts m) →
+    (k : Kind) → t.kind ≡ k → Sound d st t ts (stack.at_open_paren k m)
+sound_open_paren d st t ts m f (kind.Sign sign.OpenParen) is = f is
+sound_open_paren d st t ts m f _ is = tt

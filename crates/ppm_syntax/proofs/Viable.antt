@@ -13,11 +13,11 @@ use Rattle.ppm_syntax.specs.Grammar as g
 use Rattle.ppm_syntax.specs.Stack.{Symbol, Move, Stuck, On, move, can_end, State, state_at, with_count, run, then_run, moved, beginning}
 use Rattle.ppm_syntax.specs.Stack as stack
 use Rattle.ppm_syntax.specs.Faults.{IsText, Begins}
-use Rattle.ppm_syntax.proofs.StackTexts.{Gives, Yields, whole, then}
+use Rattle.ppm_syntax.proofs.StackTexts.{Gives, Yields, whole, then, Sound}
 use Rattle.ppm_syntax.proofs.StackTexts.{operand, more, index, end_index, end_group, target, end_target, value, semicolon, body, in_body}
 use Rattle.ppm_syntax.proofs.StackTexts.{array_name, array_open, array_length, array_close, proc_name, proc_open}
 use Rattle.ppm_syntax.proofs.StackTexts.{first_parameter, parameter_name, further_parameters, next_parameter}
-use Rattle.ppm_syntax.proofs.StackSound.{Sound, sound}
+use Rattle.ppm_syntax.proofs.StackSound.{sound}
 
 -- a token of this kind
 token_of : Kind → Token
@@ -33,7 +33,7 @@ number_derives d (suc n) rest = g.level (number_derives d n rest) g.no_more
 abbrev Sample : Symbol → List Token → Type 0
 Sample x rest = (ts : List Token) × Gives 0 x ts rest
 
--- the shortest value of a statement, block, end of an array and list of parameters
+-- the value of a statement
 value_sample : (rest : List Token) → Sample stack.Value rest
 unfolding token_of
 value_sample rest = (
@@ -41,42 +41,52 @@ value_sample rest = (
   value refl (number_derives 0 top (token_of (kind.Sign sign.Semicolon) ∷ rest)) refl,
 )
 
+-- the end of a target
 end_target_sample : (rest : List Token) → Sample stack.EndTarget rest
 unfolding token_of
 end_target_sample rest = let v = value_sample rest in (token_of (kind.Sign sign.CloseBracket) ∷ v.0, end_target refl v.1)
 
+-- an empty block behind its brace
 in_body_sample : (rest : List Token) → Sample stack.InBody rest
 unfolding token_of
 in_body_sample rest = (token_of (kind.Sign sign.CloseBrace) ∷ rest, in_body g.no_statement refl)
 
+-- an empty block
 body_sample : (rest : List Token) → Sample stack.Body rest
 unfolding token_of
 body_sample rest = let b = in_body_sample rest in (token_of (kind.Sign sign.OpenBrace) ∷ b.0, body refl b.1)
 
+-- a semicolon
 semicolon_sample : (rest : List Token) → Sample stack.Semicolon rest
 unfolding token_of
 semicolon_sample rest = (token_of (kind.Sign sign.Semicolon) ∷ rest, semicolon refl)
 
+-- the end of an array
 array_close_sample : (rest : List Token) → Sample stack.ArrayClose rest
 unfolding token_of
 array_close_sample rest = let s = semicolon_sample rest in (token_of (kind.Sign sign.CloseBracket) ∷ s.0, array_close refl s.1)
 
+-- an array behind its bracket
 array_length_sample : (rest : List Token) → Sample stack.ArrayLength rest
 unfolding token_of
 array_length_sample rest = let s = array_close_sample rest in (token_of (kind.Number 0) ∷ s.0, array_length refl s.1)
 
+-- an array behind its name
 array_open_sample : (rest : List Token) → Sample stack.ArrayOpen rest
 unfolding token_of
 array_open_sample rest = let s = array_length_sample rest in (token_of (kind.Sign sign.OpenBracket) ∷ s.0, array_open refl s.1)
 
+-- no parameters
 first_parameter_sample : (rest : List Token) → Sample stack.FirstParameter rest
 unfolding token_of
 first_parameter_sample rest = (token_of (kind.Sign sign.CloseParen) ∷ rest, first_parameter g.no_parameter refl)
 
+-- no further parameters
 further_parameters_sample : (rest : List Token) → Sample stack.FurtherParameters rest
 unfolding token_of
 further_parameters_sample rest = (token_of (kind.Sign sign.CloseParen) ∷ rest, further_parameters g.last_parameter refl)
 
+-- a procedure behind its name
 proc_open_sample : (rest : List Token) → Sample stack.ProcOpen rest
 unfolding token_of
 proc_open_sample rest =
