@@ -24,3 +24,4 @@ pub mod DeclarationLemmas
 pub mod StatementLemmas
 pub mod AddingLemmas
 pub mod ItemLemmas
+pub mod Passing
