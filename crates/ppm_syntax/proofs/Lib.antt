@@ -25,3 +25,4 @@ pub mod StatementLemmas
 pub mod AddingLemmas
 pub mod ItemLemmas
 pub mod Passing
+pub mod AnswerLemmas
