@@ -24,7 +24,8 @@ use Rattle.ppm_syntax.proofs.Unique.{same_tree}
 use Rattle.ppm_syntax.proofs.GrammarLemmas.{shorter}
 use Rattle.ppm_syntax.proofs.LimitsLemmas.{words-append}
 use Rattle.ppm_syntax.proofs.ParameterLemmas.{parameters_at}
-use Rattle.ppm_syntax.proofs.DeclarationLemmas.{few_words, few_arrays, few_procedures, array_passes, procedure_passes, with_procedure}
+use Rattle.ppm_syntax.proofs.TallyLemmas.{few_words, few_arrays, few_procedures}
+use Rattle.ppm_syntax.proofs.DeclarationLemmas.{array_passes, procedure_passes, with_procedure}
 
 -- an array alone
 abbrev pub one_array : Array → SourceTree

@@ -17,7 +17,7 @@ pub mod Viable
 pub mod FaultLemmas
 pub mod FaultSentences
 pub mod OneAnswer
-pub mod Stopping
+pub mod MissingLemmas
 pub mod TallyLemmas
 pub mod ParameterLemmas
 pub mod DeclarationLemmas

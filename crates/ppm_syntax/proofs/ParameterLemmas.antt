@@ -18,17 +18,8 @@ use Rattle.ppm_syntax.specs.Stack.{Symbol, Tally, state_at, openings, passed, wi
 use Rattle.ppm_syntax.specs.Stack as stack
 use Rattle.ppm_syntax.specs.Verdict.{verdict}
 use Rattle.ppm_syntax.proofs.PassingExpression.{by_step}
-use Rattle.ppm_syntax.proofs.Stopping.{missing, missing_both, no_name, no_parameter, no_further}
-use Rattle.ppm_syntax.proofs.TallyLemmas.{Few, few_of, none_passed, many_parameters}
-
--- the tally with so many parameters
-abbrev pub with_parameters : ℕ → Tally → Tally
-with_parameters n c = record { arrays = c.arrays; words = c.words; procedures = c.procedures; parameters = n; nodes = c.nodes }
-
-pub few_parameters : (c : Tally) (n : ℕ) → passed c ≡ None → n ≤ parameter_limit → passed (with_parameters n c) ≡ None
-few_parameters c n h few =
-    let f = few_of c h in
-    none_passed (with_parameters n c) (record { arrays = f.arrays; words = f.words; procedures = f.procedures; parameters = few; nodes = f.nodes })
+use Rattle.ppm_syntax.proofs.MissingLemmas.{missing, missing_both, no_parameter, no_further}
+use Rattle.ppm_syntax.proofs.TallyLemmas.{with_parameters, few_parameters}
 
 -- how it is taken, then its name
 mode_passes : (m : Token) (how : Mode) (ts : List Token) (st : List Symbol) (c : Tally) → IsMode m how → suc (openings st) ≤ depth_limit → passed c ≡ None →

@@ -19,7 +19,7 @@ use Rattle.ppm_syntax.specs.Stack.{Symbol, Tally, state_at, openings, passed, wi
 use Rattle.ppm_syntax.specs.Stack as stack
 use Rattle.ppm_syntax.specs.Verdict.{verdict}
 use Rattle.ppm_syntax.proofs.PassingExpression.{with_nodes, few_nodes, by_step, expression_passes}
-use Rattle.ppm_syntax.proofs.Stopping.{missing, missing_both, no_assign, no_body}
+use Rattle.ppm_syntax.proofs.MissingLemmas.{missing, missing_both, no_assign, no_body}
 use Rattle.ppm_syntax.proofs.GrammarLemmas.{statement_shorter}
 use Rattle.ppm_syntax.proofs.Unique.{ends_at_close, ends_at_semicolon}
 
@@ -199,10 +199,6 @@ module _ (depth inner place : ℕ) (ts inside : List Token) (deep : depth ≡ su
       verdict (state_at (stack.Body ∷ st) c) ts ≡ verdict (state_at (stack.InBody ∷ st) c) inside
   brace_passes st c low none =
       rw opened.shape (by_step opened.token inside (stack.Body ∷ st) (stack.InBody ∷ st) c stack.Nothing (rw opened.has.0 refl) (omega (arith, low, deep)) none)
-
-  -- the statements stop
-  pub statements_stop : (e : Stop) → Fails inner Anything (stack.InBody ∷ []) inside e → Fails depth Anything (stack.Body ∷ []) ts e
-  statements_stop e f = record { tells = λ st c low none any. rw (brace_passes st c low none) (f.tells st c (omega (arith, low, deep)) none tt) }
 
   module _ (b : List Statement) (end : List Token) (read : ReadsStatements inner Statements inside b end) where
     -- neither a statement follows, nor the brace that closes them

@@ -1,4 +1,4 @@
-use Rattle.std.proofs.Common.{rules, arith, ◌≡◌, refl, sym}
+use Rattle.std.proofs.Common.{refl, sym}
 use Rattle.std.proofs.lemmas.Bool.{eqb-true}
 use Rattle.ppm_syntax.proofs.StopLemmas.{exit_by}
 use Rattle.ppm_syntax.proofs.ItemLemmas.{leads_at_first, nothing_so_far, leads_next, item_stops, tree_read}
