@@ -1,6 +1,7 @@
 pub mod Elements
 pub mod RulesLemmas
 pub mod DecidingLemmas
+pub mod FindingLemmas
 pub mod RegionFaultsLemmas
 pub mod OpeningLemmas
 pub mod MeaningLemmas
