@@ -3,6 +3,7 @@ pub mod RulesLemmas
 pub mod DecidingLemmas
 pub mod FindingLemmas
 pub mod RegionFaultsLemmas
+pub mod AdmittingLemmas
 pub mod OpeningLemmas
 pub mod MeaningLemmas
 pub mod Unique
