@@ -42,3 +42,6 @@ pub fn admit(alloc: Global, source: Source) -> Result<Admitted, RegionError>
     let input = opening_input(alloc, &source)?;
     Ok(Admitted::from_parts(source, input))
 }
+
+#[cfg(test)]
+mod tests;
