@@ -17,8 +17,6 @@ pub mod PassingExpression
 pub mod StopLemmas
 pub mod ExpressionLemmas
 pub mod OperandLemmas
-pub mod StackTexts
-pub mod StackSound
 pub mod Viable
 pub mod FaultLemmas
 pub mod FaultSentences
