@@ -1,5 +1,9 @@
 pub mod Elements
 pub mod RulesLemmas
+pub mod DecidingLemmas
+pub mod FindingLemmas
+pub mod RegionFaultsLemmas
+pub mod AdmittingLemmas
 pub mod OpeningLemmas
 pub mod MeaningLemmas
 pub mod Unique
