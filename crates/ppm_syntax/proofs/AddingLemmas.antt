@@ -36,26 +36,6 @@ abbrev pub one_procedure : Procedure → SourceTree
 one_procedure p = record { arrays = []; procs = p ∷ [] }
 
 module _ (w : Token) (ts : List Token) (old : Declared) (so_far : IsSoFar old) where
-  -- the declaration of an array stops
-  pub array_stops : (e : Stop) → IsKeyword w word.Array → length old.arrays.items < array_limit →
-      Fails depth_limit (HasWordsLeft old.words) (stack.ArrayName ∷ []) ts e → FailsItem old (w ∷ ts) e
-  array_stops e is few f = record {
-    tells = λ c counted none.
-        let within = few_arrays c none (omega (arith, few, counted.arrays)) in
-        let step = by_step w ts [] (stack.ArrayName ∷ []) c stack.AnArray (rw is refl) (omega arith) within in
-        rw step (f.tells [] (with_count stack.AnArray c) (omega arith) within (omega (arith, counted.words, so_far.words)));
-  }
-
-  -- a procedure stops
-  pub procedure_stops : (e : Stop) → IsKeyword w word.Proc → length old.procs.items < procedure_limit →
-      Fails depth_limit (HasParameters 0) (stack.ProcName ∷ []) ts e → FailsItem old (w ∷ ts) e
-  procedure_stops e is few f = record {
-    tells = λ c counted none.
-        let within = few_procedures c none (omega (arith, few, counted.procedures)) in
-        let step = by_step w ts [] (stack.ProcName ∷ []) c stack.AProcedure (rw is refl) (omega arith) within in
-        rw step (f.tells [] (with_count stack.AProcedure c) (omega arith) within refl);
-  }
-
   -- an array more is declared
   pub array_added : (a : Array) (rest : List Token) (new : Declared) → IsKeyword w word.Array → ReadsArray old.words ts a rest →
       length old.arrays.items < array_limit → a.length + new.words ≡ old.words → new.arrays.items ≡ old.arrays.items ++ (a ∷ []) →

@@ -4,12 +4,6 @@ use Rattle.ppm_syntax.proofs.StopLemmas.{exit_by}
 use Rattle.ppm_syntax.proofs.ItemLemmas.{leads_at_first, nothing_so_far, leads_next, item_stops, tree_read}
 use Rattle.ppm_syntax.proofs.parsing.derive.Goals as goal
 
--- a further declaration stops
-pub returns-in_err-more : goal.returns-in_err-more
-returns-in_err-more c =
-    exit_by _ _ _ c.from_residual.result c.from_residual.ensures.1
-    (item_stops c.args.tokens.now _ c.items.rest.now c.items.invariant.leads _ c.in_err-more.ensures)
-
 pub items-init : goal.items-init
 items-init c = record {
   leads = leads_at_first c.args.tokens.now _ c.new.ensures.items c.new-2.ensures.items;
