@@ -6,6 +6,7 @@ pub mod Unique
 pub mod ReadingLemmas
 pub mod GrammarLemmas
 pub mod LimitsLemmas
+pub mod LinesLemmas
 pub mod Reaching
 pub mod Viable
 pub mod FaultLemmas
