@@ -25,3 +25,5 @@ pub mod DeclarationLemmas
 pub mod StatementLemmas
 pub mod AddingLemmas
 pub mod ItemLemmas
+pub mod Passing
+pub mod AnswerLemmas
