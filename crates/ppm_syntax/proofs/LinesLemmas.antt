@@ -1,17 +1,15 @@
 -- The lines in what is derived from tokens are lines of these.
-use Rattle.std.proofs.Common.{ℕ, ◌+◌, ◌≤◌, List, [], ◌∷◌, slice_index_or, arith}
+use Rattle.std.proofs.Common.{ℕ, List}
 use Rattle.std.specs.List.{All, AllByRecursion}
 use Rattle.std.proofs.lemmas.List.Elements.{All-from_recursion, recursion_from_All}
 use Rattle.ppm_text.specs.declared.token.Token.{Token}
-use Rattle.ppm_text.specs.Limits.{text_limit}
-use Rattle.ppm_text.specs.Tokens.{StandsIn}
 use Rattle.ppm_syntax.specs.Tree.{Procedure, SourceTree}
 use Rattle.ppm_syntax.specs.Grammar.{Part, Node, Derives, DerivesTree}
 use Rattle.ppm_syntax.specs.Grammar as g
 use Rattle.ppm_syntax.specs.Lines.{IsLine, TokenLine, ArrayLine, ParameterLine, ExpressionLines, StatementLines, ProcedureLines, HasLines}
 
 -- what holds of each token holds of each that is left
-pub rest_keeps : {d : ℕ} {p : Part} {ts rest : List Token} {e : Node} (P : Token → Type 0) → Derives d p ts e rest →
+rest_keeps : {d : ℕ} {p : Part} {ts rest : List Token} {e : Node} (P : Token → Type 0) → Derives d p ts e rest →
     AllByRecursion P ts → AllByRecursion P rest
 rest_keeps P (g.number is) h = h.1
 rest_keeps P (g.element is o i c) h = (rest_keeps P i h.1.1).1
@@ -86,11 +84,3 @@ has_lines {ts = ts} t r h =
       arrays = All-from_recursion ArrayLine t.arrays all.0;
       procs = All-from_recursion ProcedureLines t.procs all.1;
     }
-
--- a token of a text stands in a line of a text
-pub stands_in_line : (text_len : ℕ) (t : Token) → text_len ≤ text_limit → StandsIn text_len t → TokenLine t
-stands_in_line text_len t short h = record { first = h.first_line; last = omega (arith, short, h.place, h.line); }
-
--- and so does each
-pub token_lines : (text_len : ℕ) (ts : List Token) → text_len ≤ text_limit → All (StandsIn text_len) ts → All TokenLine ts
-token_lines text_len ts short h = λ k t within. stands_in_line text_len (slice_index_or ts k t) short (h k t within)
