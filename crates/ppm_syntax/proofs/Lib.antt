@@ -10,6 +10,7 @@ pub mod Unique
 pub mod ReadingLemmas
 pub mod GrammarLemmas
 pub mod LimitsLemmas
+pub mod LinesLemmas
 pub mod Reaching
 pub mod StackTexts
 pub mod StackSound
