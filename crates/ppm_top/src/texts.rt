@@ -1,11 +1,18 @@
 //! The texts of answers.
 ghost use Rattle.std.specs.Prelude.{◌≡◌, ◌++◌, IfOk, OnOk};
 ghost use Rattle.std.specs.List.{flat_map};
-ghost use Rattle.ppm_top.specs.Texts.{out_text, err_text, arrays_text, array_text, value_text, trap_text, trap_word};
+ghost use Rattle.ppm_top.specs.Texts.{out_text, err_text, refusal_text, arrays_text, array_text, value_text, trap_text, trap_word};
+ghost use Rattle.ppm_top.specs.declared.refusal.Refusal.TheVariants as refusals;
 
 use crate::answer::Answer;
+use crate::refusal::Refusal;
+use ppm_syntax::{RegionError, SyntaxError};
+use ppm_text::TextError;
 use ppm_words::{NamedArray, Trap};
 use std::alloc::{AllocError, Global};
+
+/// What is written on err where memory was refused.
+pub const OUT_OF_MEMORY: &[u8] = b"out of memory\n";
 
 /// What is written on out.
 pub fn out_text_of(alloc: Global, answer: &Answer) -> Result<Vec<u8>, AllocError>
@@ -15,22 +22,64 @@ pub fn out_text_of(alloc: Global, answer: &Answer) -> Result<Vec<u8>, AllocError
     match answer {
         Answer::Ended(arrays) => push_arrays(alloc, &mut text, arrays.as_slice())?,
         Answer::Trapped(trap, line) => push_trap(alloc, &mut text, *trap, *line)?,
-        Answer::SourceRefused | Answer::WordsRefused | Answer::ReadFault | Answer::NoMemory => {}
+        Answer::SourceRefused(_)
+        | Answer::WordsRefused
+        | Answer::ReadFault
+        | Answer::NoMemory => {}
     }
     Ok(text)
 }
 
 /// What is written on err.
-pub fn err_text_of(answer: &Answer) -> &'static [u8]
-    ensures { result.now ≡ err_text answer.now }
+pub fn err_text_of(alloc: Global, answer: &Answer) -> Result<Vec<u8>, AllocError>
+    ensures { IfOk result (λ text. text.items ≡ err_text answer.now) }
 {
     match answer {
-        Answer::Ended(_) | Answer::Trapped(_, _) => b"",
-        Answer::SourceRefused => b"source refused\n",
-        Answer::WordsRefused => b"words refused\n",
-        Answer::ReadFault => b"read fault\n",
-        Answer::NoMemory => b"out of memory\n",
+        Answer::Ended(_) | Answer::Trapped(_, _) => Ok(Vec::new(alloc)),
+        Answer::SourceRefused(refusal) => refusal_text_of(alloc, *refusal),
+        Answer::WordsRefused => Vec::from_slice(alloc, b"words refused\n"),
+        Answer::ReadFault => Vec::from_slice(alloc, b"read fault\n"),
+        Answer::NoMemory => Vec::from_slice(alloc, OUT_OF_MEMORY),
     }
+}
+
+/// The line of a refusal.
+fn refusal_text_of(alloc: Global, refusal: Refusal) -> Result<Vec<u8>, AllocError>
+    ensures { IfOk result (λ text. text.items ≡ refusal_text refusal) }
+{
+    match refusal {
+        Refusal::Text(e) => text_fault(alloc, e),
+        Refusal::Syntax(e) => syntax_fault(alloc, e),
+        Refusal::Region(e) => region_fault(alloc, e),
+        Refusal::TooManyCapsules => Vec::from_slice(alloc, b"source refused: cut 2 at 0\n"),
+    }
+}
+
+/// The line of a fault of the text.
+fn text_fault(alloc: Global, e: TextError) -> Result<Vec<u8>, AllocError>
+    ensures { IfOk result (λ text. text.items ≡ refusal_text (refusals.Text e)) }
+{
+    let (number, place) = (e.number(), e.place());
+    let told = format!(in alloc; "source refused: text {number} at {place}\n")?;
+    Ok(told.into_bytes())
+}
+
+/// The line of a fault of the tokens.
+fn syntax_fault(alloc: Global, e: SyntaxError) -> Result<Vec<u8>, AllocError>
+    ensures { IfOk result (λ text. text.items ≡ refusal_text (refusals.Syntax e)) }
+{
+    let (number, place) = (e.number(), e.place());
+    let told = format!(in alloc; "source refused: syntax {number} at {place}\n")?;
+    Ok(told.into_bytes())
+}
+
+/// The line of a fault of names and regions.
+fn region_fault(alloc: Global, e: RegionError) -> Result<Vec<u8>, AllocError>
+    ensures { IfOk result (λ text. text.items ≡ refusal_text (refusals.Region e)) }
+{
+    let (number, line) = (e.number(), e.line());
+    let told = format!(in alloc; "source refused: region {number} line {line}\n")?;
+    Ok(told.into_bytes())
 }
 
 /// Appends the arrays, a line each.
