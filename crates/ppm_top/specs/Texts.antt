@@ -49,16 +49,17 @@ out_text answers.WordsRefused = []
 out_text answers.ReadFault = []
 out_text answers.NoMemory = []
 
--- a fault with its number, and where it is
+-- a line with the kind of a refusal and its number, and where it is
 abbrev pub fault_text : List ℕ → ℕ → List ℕ → ℕ → List ℕ
-fault_text kind number mark place = line_of (codes "source refused: " ++ kind ++ decimal number ++ mark ++ decimal place)
+fault_text kind number mark place =
+    line_of (codes "source refused: " ++ kind ++ codes " " ++ decimal number ++ codes " " ++ mark ++ codes " " ++ decimal place)
 
--- a line with the refusal: a fault's place counts bytes from 0, its line lines from 1
+-- the line of a refusal: places count bytes from 0, lines from 1
 abbrev pub refusal_text : Refusal → List ℕ
-refusal_text (refusal.Text e) = fault_text (codes "text ") (text.number_of e) (codes " at ") (text.place_of e)
-refusal_text (refusal.Syntax e) = fault_text (codes "syntax ") (syntax.number_of e) (codes " at ") (syntax.place_of e)
-refusal_text (refusal.Region e) = fault_text (codes "region ") (region.number_of e) (codes " line ") (region.line_of e)
-refusal_text refusal.TooManyCapsules = line_of (codes "source refused: cut 2 at 0")
+refusal_text (refusal.Text e) = fault_text (codes "text") (text.number_of e) (codes "at") (text.place_of e)
+refusal_text (refusal.Syntax e) = fault_text (codes "syntax") (syntax.number_of e) (codes "at") (syntax.place_of e)
+refusal_text (refusal.Region e) = fault_text (codes "region") (region.number_of e) (codes "line") (region.line_of e)
+refusal_text refusal.TooManyCapsules = fault_text (codes "cut") 2 (codes "at") 0
 
 -- what is written on err
 abbrev pub err_text : Answer → List ℕ

@@ -1,13 +1,10 @@
 //! The texts of answers.
 ghost use Rattle.std.specs.Prelude.{◌≡◌, ◌++◌, IfOk, OnOk};
 ghost use Rattle.std.specs.List.{flat_map};
-ghost use Rattle.ppm_top.specs.Texts.{out_text, err_text, refusal_text, arrays_text, array_text, value_text, trap_text, trap_word};
-ghost use Rattle.ppm_top.specs.declared.refusal.Refusal.TheVariants as refusals;
+ghost use Rattle.ppm_top.specs.Texts.{out_text, err_text, refusal_text, fault_text, arrays_text, array_text, value_text, trap_text, trap_word};
 
 use crate::answer::Answer;
 use crate::refusal::Refusal;
-use ppm_syntax::{RegionError, SyntaxError};
-use ppm_text::TextError;
 use ppm_words::{NamedArray, Trap};
 use std::alloc::{AllocError, Global};
 
@@ -48,37 +45,24 @@ fn refusal_text_of(alloc: Global, refusal: Refusal) -> Result<Vec<u8>, AllocErro
     ensures { IfOk result (λ text. text.items ≡ refusal_text refusal) }
 {
     match refusal {
-        Refusal::Text(e) => text_fault(alloc, e),
-        Refusal::Syntax(e) => syntax_fault(alloc, e),
-        Refusal::Region(e) => region_fault(alloc, e),
-        Refusal::TooManyCapsules => Vec::from_slice(alloc, b"source refused: cut 2 at 0\n"),
+        Refusal::Text(e) => fault_text_of(alloc, "text", e.number(), "at", e.place()),
+        Refusal::Syntax(e) => fault_text_of(alloc, "syntax", e.number(), "at", e.place()),
+        Refusal::Region(e) => fault_text_of(alloc, "region", e.number(), "line", e.line()),
+        Refusal::TooManyCapsules => fault_text_of(alloc, "cut", 2, "at", 0),
     }
 }
 
-/// The line of a fault of the text.
-fn text_fault(alloc: Global, e: TextError) -> Result<Vec<u8>, AllocError>
-    ensures { IfOk result (λ text. text.items ≡ refusal_text (refusals.Text e)) }
+/// The line of a fault: its kind and number, and where it is.
+fn fault_text_of(
+    alloc: Global,
+    kind: &str,
+    number: u32,
+    mark: &str,
+    place: u32,
+) -> Result<Vec<u8>, AllocError>
+    ensures { IfOk result (λ text. text.items ≡ fault_text kind.now number mark.now place) }
 {
-    let (number, place) = (e.number(), e.place());
-    let told = format!(in alloc; "source refused: text {number} at {place}\n")?;
-    Ok(told.into_bytes())
-}
-
-/// The line of a fault of the tokens.
-fn syntax_fault(alloc: Global, e: SyntaxError) -> Result<Vec<u8>, AllocError>
-    ensures { IfOk result (λ text. text.items ≡ refusal_text (refusals.Syntax e)) }
-{
-    let (number, place) = (e.number(), e.place());
-    let told = format!(in alloc; "source refused: syntax {number} at {place}\n")?;
-    Ok(told.into_bytes())
-}
-
-/// The line of a fault of names and regions.
-fn region_fault(alloc: Global, e: RegionError) -> Result<Vec<u8>, AllocError>
-    ensures { IfOk result (λ text. text.items ≡ refusal_text (refusals.Region e)) }
-{
-    let (number, line) = (e.number(), e.line());
-    let told = format!(in alloc; "source refused: region {number} line {line}\n")?;
+    let told = format!(in alloc; "source refused: {kind} {number} {mark} {place}\n")?;
     Ok(told.into_bytes())
 }
 
