@@ -1,5 +1,7 @@
 pub mod Elements
 pub mod RulesLemmas
+pub mod DecidingLemmas
+pub mod RegionFaultsLemmas
 pub mod OpeningLemmas
 pub mod MeaningLemmas
 pub mod Unique
@@ -7,5 +9,13 @@ pub mod ReadingLemmas
 pub mod GrammarLemmas
 pub mod LimitsLemmas
 pub mod Reaching
+pub mod StackTexts
+pub mod StackSound
+pub mod PassingExpression
+pub mod StopLemmas
+pub mod ExpressionLemmas
+pub mod OperandLemmas
 pub mod Viable
 pub mod FaultLemmas
+pub mod FaultSentences
+pub mod OneAnswer

@@ -26,36 +26,20 @@ fn operand(alloc: Global, room: Room, tokens: &[Token]) -> Result<(Expr, u32, &[
         (expression_of r.0) r.1 r.2.now)
         (Fails room.depth (HasNodesLeft room.nodes) (stack.Operand 0 ∷ []) tokens.now) }
 {
-    match tokens {
-        [
-            Token {
-                kind: Kind::Number(literal),
-                place,
-                ..
-            },
-            rest @ ..,
-        ] => {
-            let room = room.counted(*place)?;
+    let Some((token, rest)) = tokens.split_first() else {
+        return Err(Stop::Ended);
+    };
+    match &token.kind {
+        Kind::Number(literal) => {
+            let room = room.counted(token.place)?;
             Ok((Expr::Number(literal.to_i64()), room.nodes, rest))
         }
-        [
-            Token {
-                kind: Kind::Name(name),
-                line,
-                ..
-            },
-            rest @ ..,
-        ] => element(alloc, room, name, *line, rest),
-        [
-            Token {
-                kind: Kind::Sign(Sign::OpenParen),
-                place,
-                ..
-            },
-            rest @ ..,
-        ] => up_to(alloc, room.deeper(*place)?, Sign::CloseParen, rest),
-        [token, ..] => Err(Stop::Expected(token.place)),
-        [] => Err(Stop::Ended),
+        Kind::Name(name) => element(alloc, room, name, token.line, rest),
+        Kind::Sign(Sign::OpenParen) => {
+            let inner = room.deeper(token.place)?;
+            up_to(alloc, inner, Sign::CloseParen, rest)
+        }
+        Kind::Keyword(_) | Kind::Sign(_) => Err(Stop::Expected(token.place)),
     }
 }
 

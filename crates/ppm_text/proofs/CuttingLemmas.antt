@@ -233,7 +233,13 @@ tokens_stand {p = p} {l = l} {bs = bs} (skip {n = n} {f = f} s c) =
     λ k d h. stands_on p l n (l + f) (length bs) _ b.0 b.1 (omega arith) (omega (arith, b.2)) (rw length-drop at (tokens_stand c k d h))
 tokens_stand {p = p} {l = l} {bs = bs} (token {n = n} {k = kind} {ts = ts} t fits c) =
     all_cons (Stands p l (length bs)) (located kind p l) ts
-    (record { form = has_form t.spells fits; above = omega arith; below = omega (arith, longest_something t, t.within); first_line = omega arith; line = omega arith })
+    (record {
+      form = has_form t.spells fits;
+      above = omega arith;
+      below = omega (arith, longest_something t, t.within);
+      first_line = omega arith;
+      line = omega arith;
+    })
     (λ k d h. stands_on p l n l (length bs) _ (longest_something t) t.within (omega arith) (omega arith) (rw length-drop at (tokens_stand c k d h)))
 
 -- each token that a text is cut into stands in it
