@@ -70,13 +70,13 @@ one_syntax_fault laws text e f h k =
 one_region_fault : Laws → (text : List ℕ) (e f : RegionError) → IsRegionFault text e → IsRegionFault text f → e ≡ f
 one_region_fault laws text e f h k =
     let same : h.tree ≡ k.tree = laws.tree depth_limit depth_limit text h.tree k.tree h.derived k.derived in
-    (laws.regions k.tree k.within).fault e f (subst (λ t. region.IsFault t e) same h.fault) k.fault
+    (laws.regions k.tree).fault e f (subst (λ t. region.IsFault t e) same h.fault) k.fault
 
 -- an admitted tree has no fault
 admitted_unfaulted : Laws → (text : List ℕ) (t : SourceTree) (e : RegionError) → HasTree text t → IsRegionFault text e → ⊥
 admitted_unfaulted laws text t e h f =
     let same : t ≡ f.tree = laws.tree depth_limit depth_limit text t f.tree h.tree f.derived in
-    (laws.regions f.tree f.within).either e (subst IsAdmitted same h.admitted) f.fault
+    (laws.regions f.tree).admitted (subst IsAdmitted same h.admitted) e f.fault
 
 -- two refusals of a text are one
 one_refusal : Laws → (text : List ℕ) (r s : Refusal) → IsRefusal text r → IsRefusal text s → r ≡ s

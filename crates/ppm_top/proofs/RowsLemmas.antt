@@ -11,7 +11,7 @@ use Rattle.ppm_text.specs.declared.text_error.TextError.TheVariants as text_erro
 use Rattle.ppm_text.specs.Cutting.{IsRefused, too_long, faulty, no_memory}
 use Rattle.ppm_syntax.specs.Correct.{HasTree}
 use Rattle.ppm_top.specs.declared.refusal.Refusal.{Refusal}
-use Rattle.ppm_top.specs.declared.refusal.Refusal.TheVariants as refusal
+use Rattle.ppm_top.specs.declared.refusal.Refusal.TheVariants as refusals
 use Rattle.ppm_top.specs.Refusals.{IsTextFault, IsSyntaxFault, IsRegionFault, HasNoRoom, IsRefusal}
 use Rattle.ppm_top.specs.Correct.{HaveOneRefusal}
 use Rattle.ppm_top.specs.declared.answer.Answer.{Answer}
@@ -136,12 +136,12 @@ text_fault_of_all all now text _ r (no_memory h) given = absurd (given refl)
 -- why what was read of a text is refused, the text is
 refusal_of_all : (all : List ℕ) (now : Option (List ℕ)) (text : List ℕ) (r : Refusal) → ReadsTo text_limit (Some all) now text →
     IsRefusal text r → IsRefusal all r
-refusal_of_all all now text (refusal.Text e) r h = text_fault_of_all all now text e r h.fault h.given
-refusal_of_all all now text (refusal.Syntax e) r h =
+refusal_of_all all now text (refusals.Text e) r h = text_fault_of_all all now text e r h.fault h.given
+refusal_of_all all now text (refusals.Syntax e) r h =
     subst (λ l. IsSyntaxFault l e) (sym (whole_read text_limit all now text r h.short)) h
-refusal_of_all all now text (refusal.Region e) r h =
+refusal_of_all all now text (refusals.Region e) r h =
     subst (λ l. IsRegionFault l e) (sym (whole_read text_limit all now text r h.short)) h
-refusal_of_all all now text refusal.TooManyCapsules r h =
+refusal_of_all all now text refusals.TooManyCapsules r h =
     subst HasNoRoom (sym (whole_read text_limit all now text r h.has_tree.short)) h
 
 -- where what was read of a text has an outcome, the text has one
@@ -221,7 +221,7 @@ refusal : (source : Port) (answer : Answer) → NoCommandMay source answer →
     IsUnread source × ((status_of answer ≡ statuses.WordsRefused) ⊎ (status_of answer ≡ statuses.NoMemory))
 refusal source (answers.Ended arrays) h = absurd h
 refusal source (answers.Trapped t line) h = absurd h
-refusal source answers.SourceRefused h = absurd h
+refusal source (answers.SourceRefused r) h = absurd h
 refusal source answers.WordsRefused h = (h, inl refl)
 refusal source answers.ReadFault h = absurd h
 refusal source answers.NoMemory h = (h, inr refl)

@@ -1,7 +1,7 @@
 //! What is true of every text, shown by a call that does nothing.
 ghost use Rattle.ppm_top.specs.Correct.{HaveOneRefusal};
 
-use ppm_syntax::{have_one_answer, have_one_tree, regions_have_one_answer};
+use ppm_syntax::{have_one_answer, have_one_region_fault, have_one_tree};
 use ppm_text::have_one_reading;
 
 /// A text is refused for one reason at most, and for none where it has an outcome.
@@ -11,5 +11,5 @@ pub fn have_one_refusal()
     have_one_reading();
     have_one_answer();
     have_one_tree();
-    regions_have_one_answer();
+    have_one_region_fault();
 }

@@ -19,10 +19,7 @@ pub fn out_text_of(alloc: Global, answer: &Answer) -> Result<Vec<u8>, AllocError
     match answer {
         Answer::Ended(arrays) => push_arrays(alloc, &mut text, arrays.as_slice())?,
         Answer::Trapped(trap, line) => push_trap(alloc, &mut text, *trap, *line)?,
-        Answer::SourceRefused(_)
-        | Answer::WordsRefused
-        | Answer::ReadFault
-        | Answer::NoMemory => {}
+        Answer::SourceRefused(_) | Answer::WordsRefused | Answer::ReadFault | Answer::NoMemory => {}
     }
     Ok(text)
 }

@@ -8,6 +8,6 @@ returns c = record {
     reading = c.have_one_reading.ensures.law;
     answer = c.have_one_answer.ensures.law;
     tree = c.have_one_tree.ensures.law;
-    regions = c.regions_have_one_answer.ensures.law;
+    regions = c.have_one_region_fault.ensures.law;
   });
 }
