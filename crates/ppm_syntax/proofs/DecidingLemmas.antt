@@ -2,7 +2,7 @@
 use Rattle.std.proofs.Common.{◌≡◌, ◌⊎◌, inl, inr, ℕ, ◌<◌, ◌≤◌, ◌+◌, min, length, Option, None, Some, List, [], ◌∷◌, ◌++◌, map, take, get_or, refl, sym, ap, subst, ◌∙◌, arith}
 use Rattle.std.specs.List.{Contains}
 use Rattle.std.proofs.lemmas.Bool.{cases_lt}
-use Rattle.std.proofs.lemmas.List.{take_more, map-append}
+use Rattle.std.proofs.lemmas.List.{take_more, take_all, map-append}
 use Rattle.std.proofs.lemmas.List.Elements.{Contains-append_left, Contains-push, Contains-push_cases}
 use Rattle.ppm_syntax.specs.RegionFaults.{IsNowhere, IsFirstLine}
 use Rattle.ppm_syntax.specs.Deciding.{IsLeastLine, earlier_of, HasOneAt}
@@ -113,3 +113,8 @@ pub least_more_map : {A B : Type 0} (f : A → B) (P : B → ℕ → Type 0) (xs
 least_more_map f P xs i x a b found in' at e before here =
     let one = ap (map f) (take_more xs i x in' ∙ ap (λ y. take i xs ++ (y ∷ [])) (sym at)) ∙ map-append f (take i xs) (x ∷ []) in
     subst (λ ys. IsLeastLine (HasOneAt P ys) found) (sym one) (least_pushed P (map f (take i xs)) (f x) a b found e before here)
+
+-- the end of a loop over the images of a list
+pub least_all_map : {A B : Type 0} (f : A → B) (P : B → ℕ → Type 0) (xs : List A) (i : ℕ) (found : Option ℕ) → length xs ≤ i
+    → IsLeastLine (HasOneAt P (map f (take i xs))) found → IsLeastLine (HasOneAt P (map f xs)) found
+least_all_map f P xs i found past least = subst (λ ys. IsLeastLine (HasOneAt P (map f ys)) found) (take_all i xs past) least

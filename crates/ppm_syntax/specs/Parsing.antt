@@ -1,5 +1,5 @@
 -- What the parser's functions answer: how far a part goes, and at which token and why they go no further.
-use Rattle.std.specs.Prelude.{◌≡◌, ℕ, suc, ◌+◌, ◌≤◌, List, [], ◌∷◌, ◌++◌, length, map, None, Option, Some}
+use Rattle.std.specs.Prelude.{◌≡◌, ℕ, suc, ◌+◌, ◌≤◌, ◌<◌, List, [], ◌∷◌, ◌++◌, length, map, None, Option, Some}
 use Rattle.std.specs.List.{All}
 use Rattle.ppm_text.specs.declared.token.Keyword.{Keyword}
 use Rattle.ppm_text.specs.declared.token.Sign.{Sign}
@@ -218,6 +218,7 @@ pub record AddsItem (ts : List Token) (old new : Declared) (rest : List Token) :
   pub reads : (later : SourceTree) → DerivesTree depth_limit rest later → DerivesTree depth_limit ts (joined item later)
   pub tree : tree_so_far new ≡ joined (tree_so_far old) item
   pub so_far : IsSoFar new
+  pub shorter : length rest < length ts
   pub passes : (c : Tally) → IsCounted old c → passed c ≡ None → PassesItem c ts new rest
 
 -- behind what is declared so far the tokens stop so

@@ -24,7 +24,10 @@ fn fault(tree: &Tree) -> Option<RegionError>
     if let Some(line) = write_to_ref(tree) {
         return Some(RegionError::WriteToRef(line));
     }
-    bad_main(tree).map(RegionError::BadMain)
+    if let Some(line) = bad_main(tree) {
+        return Some(RegionError::BadMain(line));
+    }
+    None
 }
 
 /// The source with the arrays that it starts with, where it keeps the rules of names and regions; else the fault of the
@@ -39,3 +42,6 @@ pub fn admit(alloc: Global, source: Source) -> Result<Admitted, RegionError>
     let input = opening_input(alloc, &source)?;
     Ok(Admitted::from_parts(source, input))
 }
+
+#[cfg(test)]
+mod tests;

@@ -1,5 +1,5 @@
 //! From tokens to the tree of a source.
-ghost use Rattle.std.specs.Prelude.{◌≡◌, ℕ, Err, MatchResult, IfOk};
+ghost use Rattle.std.specs.Prelude.{◌≡◌, ◌<◌, ℕ, length, Err, MatchResult, IfOk};
 ghost use Rattle.ppm_text.specs.declared.token.Keyword.TheVariants as keyword;
 ghost use Rattle.ppm_syntax.specs.declared.limit.Limit.{Limit};
 ghost use Rattle.ppm_syntax.specs.Tree.{tree_of};
@@ -105,7 +105,8 @@ fn add_item(
     declared: Declared,
     tokens: &[Token],
 ) -> Result<(Declared, &[Token]), Stop>
-    requires { IsSoFar declared }
+    requires so_far { IsSoFar declared }
+    requires some { 0 < length tokens.now }
     ensures { MatchResult result
         (λ r. AddsItem tokens.now declared r.0 r.1.now)
         (FailsItem declared tokens.now) }

@@ -11,7 +11,7 @@ use Rattle.ppm_syntax.proofs.ExpressionLemmas.{first_fails, level_read, level_fa
 use Rattle.ppm_syntax.proofs.OperandLemmas.{number_read, element_read, index_fails, group_read, group_fails, close_fails}
 use Rattle.ppm_syntax.proofs.expression.+expression.Goals as goal
 
--- src/expression.rt:79:31
+-- the index stops
 pub element-returns-in_err-index : goal.element-returns-in_err-index
 element-returns-in_err-index t c =
     exit_by _ _ _ c.from_residual-in_err-index.result c.from_residual-in_err-index.ensures.1
@@ -19,26 +19,26 @@ element-returns-in_err-index t c =
     c.in_ok-place.ensures (omega (arith, c.in_ok-deeper.ensures.0, c.in_ok-inner.ensures.1))
     (omega (arith, c.in_ok-deeper.ensures.1, c.in_ok-inner.ensures.0)) _ c.in_err-index.ensures)
 
--- src/expression.rt:64:1
+-- the name in front of the index is an element
 pub element-returns : goal.element-returns
 element-returns t c =
     rw (c.in_ok-name.ensures, c.in_ok-new.ensures.ok) (element_read c.args.room.depth c.args.room.nodes c.in_ok-inner.inner.depth c.in_ok-inner.inner.nodes
     _ c.args.tokens.now c.in_ok-place.inside.now c.in_ok-place.ensures (omega (arith, c.in_ok-deeper.ensures.0, c.in_ok-inner.ensures.1))
     (omega (arith, c.in_ok-deeper.ensures.1, c.in_ok-inner.ensures.0)) _ _ _ _ _ c.in_ok-index.ensures)
 
--- src/expression.rt:116:31
+-- the first operand stops
 pub level-returns-in_err-first : goal.level-returns-in_err-first
 level-returns-in_err-first t c =
     exit_by _ _ _ c.from_residual.result c.from_residual.ensures.1
     (first_fails c.args.room.depth c.args.room.nodes c.args.n (c.args.n - 1) c.args.tokens.now (omega arith) _ c.in_err-first.ensures)
 
--- src/expression.rt:117:5
+-- behind the first operand stand fewer tokens, or as many at a lower rank
 pub level-more-requires : goal.level-more-requires
 level-more-requires t c =
     let h = shorter c.in_ok-first.ensures.reads.derived in
     (search (rules, h), (omega arith, (c.in_ok-first.ensures.reads.ends, c.in_ok-first.ensures.literals)))
 
--- src/expression.rt:106:1
+-- the first operand goes on or stops
 pub level-returns : goal.level-returns
 level-returns t c =
     MatchResult-weaker _ c.more.ensures
@@ -47,13 +47,13 @@ level-returns t c =
     (λ e h. level_fails c.args.room.depth c.args.room.nodes c.args.n (c.args.n - 1) c.args.tokens.now (omega arith) (expression_of c.in_ok-first.first)
     c.in_ok-first.left c.in_ok-first.rest.now c.in_ok-first.ensures e (rw (c.with_nodes.ensures.depth, c.with_nodes.ensures.nodes) at h))
 
--- src/expression.rt:139:9
+-- no operator follows
 pub more-returns-in_default : goal.more-returns-in_default
 more-returns-in_default t c =
     stop_read c.args.room.depth c.args.room.nodes c.args.n (c.args.n - 1) (expression_of c.args.first) c.args.tokens.now (omega arith)
     c.requires.ends c.in_default.ensures c.requires.literals
 
--- src/expression.rt:149:5
+-- behind the right operand stand fewer tokens
 pub more-more-requires : goal.more-more-requires
 more-more-requires t c =
     let h = shorter c.in_ok-right.ensures.reads.derived in
@@ -69,7 +69,7 @@ more-more-requires t c =
       ),
     )
 
--- src/expression.rt:122:1
+-- the operation goes on or stops
 pub more-returns : goal.more-returns
 more-returns t c =
     let room = c.in_ok-inner.ensures in
@@ -105,7 +105,7 @@ operand-returns-in_ok-inner-in-Sign-OpenParen t c =
     (λ r g. group_read c.args.room.depth c.args.room.nodes _ c.args.tokens.now c.in-Some.rest.now front h.0 _ _ _ (rw h.1 at g))
     (λ e g. group_fails c.args.room.depth c.args.room.nodes _ c.args.tokens.now c.in-Some.rest.now front h.0 e (rw h.1 at g))
 
--- src/expression.rt:101:21
+-- the sign is missing
 pub up_to-returns-in_err-rest : goal.up_to-returns-in_err-rest
 up_to-returns-in_err-rest t c =
     exit_by _ _ _ c.from_residual-in_err-rest.result c.from_residual-in_err-rest.ensures.1

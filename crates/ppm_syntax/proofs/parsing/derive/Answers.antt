@@ -1,0 +1,27 @@
+use Rattle.std.proofs.Common.{refl, sym}
+use Rattle.std.proofs.lemmas.Bool.{eqb-true}
+use Rattle.ppm_syntax.proofs.StopLemmas.{exit_by}
+use Rattle.ppm_syntax.proofs.ItemLemmas.{leads_at_first, nothing_so_far, leads_next, item_stops, tree_read}
+use Rattle.ppm_syntax.proofs.parsing.derive.Goals as goal
+
+-- a further declaration stops
+pub returns-in_err-more : goal.returns-in_err-more
+returns-in_err-more c =
+    exit_by _ _ _ c.from_residual.result c.from_residual.ensures.1
+    (item_stops c.args.tokens.now _ c.items.rest.now c.items.invariant.leads _ c.in_err-more.ensures)
+
+pub items-init : goal.items-init
+items-init c = record {
+  leads = leads_at_first c.args.tokens.now _ c.new.ensures.items c.new-2.ensures.items;
+  so_far = nothing_so_far _ c.new.ensures.items c.new-2.ensures.items refl;
+}
+
+pub items-preserved : goal.items-preserved
+items-preserved c = record {
+  leads = leads_next c.args.tokens.now _ c.items.rest.now c.items.invariant.leads _ c.in_ok-more.behind.now c.in_ok-more.ensures;
+  so_far = c.in_ok-more.ensures.so_far;
+}
+
+pub returns : goal.returns
+returns c = rw (c.from_tree.ensures, c.from_vec.ensures, c.from_vec-2.ensures)
+    (tree_read c.args.tokens.now _ c.items.rest.now c.items.invariant.leads (eqb-true _ _ (sym c.items-test.ensures)))
