@@ -10,6 +10,9 @@ use std::test::Fail;
 /// A source that ends with `a 5 7`.
 const FIRST: &str = "array a[2]; proc main(mut a) { a[0] = 5; a[1] = a[0] + 2; }";
 
+/// A source up to a value.
+const VALUE: &str = "array a[1]; proc main(mut a) { a[0] = ";
+
 /// Words that ask for a run.
 const RUN: &[&str] = &["ppm", "run"];
 
@@ -237,50 +240,54 @@ fn long_texts_are_refused(rt: HostRuntime) -> Result<(), Fail> {
 }
 
 #[test]
-fn limits_are_kept(rt: HostRuntime) -> Result<(), Fail> {
+fn arrays_are_limited(rt: HostRuntime) -> Result<(), Fail> {
     let alloc = rt.alloc();
-    let body = "array a[1]; proc main(mut a) {";
-    let value = "array a[1]; proc main(mut a) { a[0] = ";
-
-    // Arrays of 14 bytes each, with their line feeds.
+    // Each has 14 bytes, with its line feed.
     let mut arrays = String::from_str(alloc, "")?;
-    for tens in 0..7 {
-        for ones in 0..10 {
-            if 10 * tens + ones < 65 {
-                let array = format!(in alloc; "array b{tens}{ones}[1];\n")?;
-                arrays.push_str(array.as_str())?;
-            }
-        }
+    for n in 0..65 {
+        let array = format!(in alloc; "array b{n:02}[1];\n")?;
+        arrays.push_str(array.as_str())?;
     }
-    is_refused(&rt, alloc, arrays.as_bytes(), "syntax 4 at 896")?;
+    is_refused(&rt, alloc, arrays.as_bytes(), "syntax 4 at 896")
+}
 
+#[test]
+fn nodes_are_limited(rt: HostRuntime) -> Result<(), Fail> {
+    let alloc = rt.alloc();
     // The index is a node, and so is each number and each sign.
-    let ones = repeated(alloc, value, "1 + ", 23, "1; }")?;
+    let ones = repeated(alloc, VALUE, "1 + ", 23, "1; }")?;
     ends_with(&rt, alloc, ones.as_str(), "a 24\n")?;
-    let ones = repeated(alloc, value, "1 + ", 24, "1; }")?;
+    let ones = repeated(alloc, VALUE, "1 + ", 24, "1; }")?;
     is_refused(&rt, alloc, ones.as_bytes(), "syntax 4 at 132")?;
-
     // A parenthesis is none.
-    let ones = repeated(alloc, value, "(1) + ", 23, "((1)); }")?;
-    ends_with(&rt, alloc, ones.as_str(), "a 24\n")?;
+    let ones = repeated(alloc, VALUE, "(1) + ", 23, "((1)); }")?;
+    ends_with(&rt, alloc, ones.as_str(), "a 24\n")
+}
 
+#[test]
+fn openings_are_limited(rt: HostRuntime) -> Result<(), Fail> {
+    let alloc = rt.alloc();
     // The body's brace is open too, so the 32nd parenthesis is the 33rd opening.
-    let opened = repeated(alloc, value, "(", 31, "1")?;
+    let opened = repeated(alloc, VALUE, "(", 31, "1")?;
     let closed = repeated(alloc, opened.as_str(), ")", 31, "; }")?;
     ends_with(&rt, alloc, closed.as_str(), "a 1\n")?;
-    let opened = repeated(alloc, value, "(", 32, "1")?;
+    let opened = repeated(alloc, VALUE, "(", 32, "1")?;
     is_refused(&rt, alloc, opened.as_bytes(), "syntax 3 at 69")?;
-    let opened = repeated(alloc, value, "(", 31, "a[0]")?;
+    let opened = repeated(alloc, VALUE, "(", 31, "a[0]")?;
     is_refused(&rt, alloc, opened.as_bytes(), "syntax 3 at 70")?;
-
     // Where no text goes on with it, this comes first.
-    let opened = repeated(alloc, value, "(", 31, "1(")?;
-    is_refused(&rt, alloc, opened.as_bytes(), "syntax 1 at 70")?;
+    let opened = repeated(alloc, VALUE, "(", 31, "1(")?;
+    is_refused(&rt, alloc, opened.as_bytes(), "syntax 1 at 70")
+}
 
-    // Four capsules for each statement and two for the procedure.
-    let statements = repeated(alloc, body, " a[0] = 1;", 16_383, " }")?;
+#[test]
+fn capsules_are_limited(rt: HostRuntime) -> Result<(), Fail> {
+    let alloc = rt.alloc();
+    // Four for each statement and two for the procedure.
+    let front = "array a[1]; proc main(mut a) {";
+    let statements = repeated(alloc, front, " a[0] = 1;", 16_383, " }")?;
     ends_with(&rt, alloc, statements.as_str(), "a 1\n")?;
-    let statements = repeated(alloc, body, " a[0] = 1;", 16_384, " }")?;
+    let statements = repeated(alloc, front, " a[0] = 1;", 16_384, " }")?;
     is_refused(&rt, alloc, statements.as_bytes(), "cut 2 at 0")
 }
 
