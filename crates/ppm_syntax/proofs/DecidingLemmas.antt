@@ -1,6 +1,6 @@
 -- First lines: of one place, of two, and of a list.
-use Rattle.std.proofs.Common.{◌≡◌, ◌⊎◌, inl, inr, ℕ, ◌<◌, ◌≤◌, ◌+◌, min, length, Option, None, Some, List, [], ◌∷◌, ◌++◌, map, take, get_or, refl, sym, ap, subst, ◌∙◌, arith}
-use Rattle.std.specs.List.{Contains}
+use Rattle.std.proofs.Common.{◌≡◌, ◌⊎◌, inl, inr, ℕ, ◌<◌, ◌≤◌, ◌+◌, min, length, Option, None, Some}
+use Rattle.std.proofs.Common.{List, [], ◌∷◌, ◌++◌, map, take, get_or, refl, sym, ap, subst, ◌∙◌, arith}
 use Rattle.std.proofs.lemmas.Bool.{cases_lt}
 use Rattle.std.proofs.lemmas.List.{take_more, take_all, map-append}
 use Rattle.std.proofs.lemmas.List.Elements.{Contains-append_left, Contains-push, Contains-push_cases}
@@ -109,7 +109,8 @@ least_more P xs i x a b found in' at e before here =
 
 -- the step of a loop over the images of a list
 pub least_more_map : {A B : Type 0} (f : A → B) (P : B → ℕ → Type 0) (xs : List A) (i : ℕ) (x : A) (a b found : Option ℕ) → i < length xs → x ≡ get_or xs i x
-    → found ≡ earlier_of a b → IsLeastLine (HasOneAt P (map f (take i xs))) a → IsLeastLine (P (f x)) b → IsLeastLine (HasOneAt P (map f (take (i + 1) xs))) found
+    → found ≡ earlier_of a b → IsLeastLine (HasOneAt P (map f (take i xs))) a → IsLeastLine (P (f x)) b
+    → IsLeastLine (HasOneAt P (map f (take (i + 1) xs))) found
 least_more_map f P xs i x a b found in' at e before here =
     let one = ap (map f) (take_more xs i x in' ∙ ap (λ y. take i xs ++ (y ∷ [])) (sym at)) ∙ map-append f (take i xs) (x ∷ []) in
     subst (λ ys. IsLeastLine (HasOneAt P ys) found) (sym one) (least_pushed P (map f (take i xs)) (f x) a b found e before here)

@@ -40,9 +40,9 @@ pub array_unended : (words z : ℕ) (x : List ℕ) (line place place' place2 : �
 array_unended words z x line place place' place2 ts behind inside end closed e few n o l q m = record {
   tells = λ st c low none left.
       let pass = length_passes n.token o.token l.token q.token x z closed st c n.has.0 o.has.0 l.has.0 q.has.0 (omega (arith, low)) none
-          (omega (arith, few, left)) in
+      (omega (arith, few, left)) in
       rw (n.shape, o.shape, l.shape, q.shape, pass) (missing _ (stack.Semicolon ∷ st) (with_count (stack.SomeWords z) c) closed e m refl
-          (λ t h. no_semicolon t.kind (stack.On stack.Nothing st) h));
+      (λ t h. no_semicolon t.kind (stack.On stack.Nothing st) h));
 }
 
 -- the name of a procedure and the parenthesis behind it are passed over

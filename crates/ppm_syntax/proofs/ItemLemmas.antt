@@ -66,10 +66,6 @@ module _ (ts : List Token) (old : Declared) (rest : List Token) (leads : LeadsTo
         passes = leads.passes ∙ p.3;
       }
 
-  -- a further declaration stops
-  pub item_stops : (e : Stop) → FailsItem old rest e → Tells e (verdict beginning ts)
-  item_stops e f = rw leads.passes (f.tells leads.tally leads.counted leads.few)
-
   -- where no token is left, what is declared is the tree
   pub tree_read : length rest ≡ 0 → DerivesTree depth_limit ts (tree_so_far old)
   tree_read none =

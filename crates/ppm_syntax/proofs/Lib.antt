@@ -10,6 +10,7 @@ pub mod Unique
 pub mod ReadingLemmas
 pub mod GrammarLemmas
 pub mod LimitsLemmas
+pub mod LinesLemmas
 pub mod Reaching
 pub mod StackTexts
 pub mod StackSound
@@ -17,8 +18,6 @@ pub mod PassingExpression
 pub mod StopLemmas
 pub mod ExpressionLemmas
 pub mod OperandLemmas
-pub mod StackTexts
-pub mod StackSound
 pub mod Viable
 pub mod FaultLemmas
 pub mod FaultSentences

@@ -23,12 +23,6 @@ pub missing : (P : Token → Type 0) (st : List Symbol) (c : Tally) (ts : List T
 missing P st c [] e m cut stuck = rw (m, cut) refl
 missing P st c (t ∷ ts) e m cut stuck = let none = stuck t m.1 in rw (m.0, none) refl
 
--- the same where two tokens could come, and neither stands in front
-pub missing_both : (P Q : Token → Type 0) (st : List Symbol) (c : Tally) (ts : List Token) (e e' : Stop) → Misses Q ts e' → Misses P ts e →
-    can_end st ≡ false → ((t : Token) → (P t → ⊥) → (Q t → ⊥) → move st t.kind ≡ Stuck) → Tells e (verdict (state_at st c) ts)
-missing_both P Q st c [] e e' n m cut stuck = rw (m, cut) refl
-missing_both P Q st c (t ∷ ts) e e' n m cut stuck = let none = stuck t m.1 n.1 in rw (m.0, none) refl
-
 -- another sign than `=`
 pub no_assign : (k : Kind) (m : Move) → (k ≡ kind.Sign sign.Assign → ⊥) → at_assign k m ≡ Stuck
 no_assign (kind.Sign sign.Assign) m h = absurd (h refl)
@@ -54,9 +48,3 @@ no_mode (Some how) st h = absurd (h how refl)
 pub no_parameter : (k : Kind) (st : List Symbol) → ((w : Keyword) (how : Mode) → k ≡ kind.Keyword w → mode_of w ≡ Some how → ⊥) → next_parameter k st ≡ Stuck
 no_parameter (kind.Keyword w) st h = no_mode (mode_of w) st (λ how e. h w how refl e)
 no_parameter _ st h = refl
-
--- neither a further parameter nor the end of their list
-pub no_further : (k : Kind) (st : List Symbol) → (k ≡ kind.Sign sign.Comma → ⊥) → (k ≡ kind.Sign sign.CloseParen → ⊥) → further_parameters k st ≡ Stuck
-no_further (kind.Sign sign.Comma) st h last = absurd (h refl)
-no_further (kind.Sign sign.CloseParen) st h last = absurd (last refl)
-no_further _ st h last = refl

@@ -158,15 +158,6 @@ module _ (ts : List Token) where
             ∙ parameter_passes r st d low within few ∙ rw count refl;
       }
 
-    -- without a comma the list is not closed
-    pub end_stops : (depth : ℕ) (e e' : Stop) → length all ≤ parameter_limit → Misses (λ t. IsSign t sign.Comma) rest e' →
-        Misses (λ t. IsSign t sign.CloseParen) rest e → Fails depth (HasParameters 0) (stack.FirstParameter ∷ []) ts e
-    end_stops depth e e' few no_comma no_close = record {
-      tells = λ st c low none zero.
-          rw (leads.passes st c (omega (arith, low)) none zero) (missing_both _ _ (stack.FurtherParameters ∷ st) (with_parameters (length all) c) rest e e'
-          no_comma no_close refl (λ t close comma. no_further t.kind st comma close));
-    }
-
     -- where it is closed, these are the parameters
     pub parameters_read : (end : List Token) (place : ℕ) → InFront (λ t. IsSign t sign.CloseParen × (t.place ≡ place)) rest end → ReadsParameters ts all end
     parameters_read end place closed = record {

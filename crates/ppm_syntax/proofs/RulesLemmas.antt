@@ -6,7 +6,8 @@ use Rattle.std.proofs.lemmas.Slice.Eq.{bytes_eq-Decides}
 use Rattle.std.proofs.lemmas.Map.Keys.{IsDistinct-cons, IsDistinct-head, IsDistinct-tail}
 use Rattle.ppm_syntax.specs.RegionFaults.{Repeats}
 use Rattle.ppm_syntax.specs.Deciding.{HasNamed, HasOneAt, IsNamedAt}
-use Rattle.ppm_syntax.proofs.Elements.{contains_head, contains_tail, contains_cases, contains_map, contains_back, contains_split, contains_middle, all_pass, pass_all}
+use Rattle.ppm_syntax.proofs.Elements.{contains_head, contains_tail, contains_cases, contains_map, contains_back}
+use Rattle.ppm_syntax.proofs.Elements.{contains_split, contains_middle, all_pass, pass_all}
 
 bytes_differ : (x y : List ℕ) → bytes_eq x y ≡ false → x ≡ y → ⊥
 bytes_differ x y e same = let t = (bytes_eq-Decides x y).1 same in cc
@@ -147,14 +148,16 @@ module _ {A B : Type 0} (f : A → B) where
 
   -- an item has the name that its image has
   module _ (name : B → List ℕ) (line : B → ℕ) where
-    named_map : (nm : List ℕ) (xs : List A) (n : ℕ) → HasOneAt (IsNamedAt (λ x. name (f x)) (λ x. line (f x)) nm) xs n → HasOneAt (IsNamedAt name line nm) (map f xs) n
+    named_map : (nm : List ℕ) (xs : List A) (n : ℕ) → HasOneAt (IsNamedAt (λ x. name (f x)) (λ x. line (f x)) nm) xs n
+        → HasOneAt (IsNamedAt name line nm) (map f xs) n
     named_map nm xs n h = record {
       element = f h.element;
       within = contains_map f h.element xs h.within;
       here = record { same = h.here.same; at = h.here.at };
     }
 
-    named_back : (nm : List ℕ) (xs : List A) (n : ℕ) → HasOneAt (IsNamedAt name line nm) (map f xs) n → HasOneAt (IsNamedAt (λ x. name (f x)) (λ x. line (f x)) nm) xs n
+    named_back : (nm : List ℕ) (xs : List A) (n : ℕ) → HasOneAt (IsNamedAt name line nm) (map f xs) n
+        → HasOneAt (IsNamedAt (λ x. name (f x)) (λ x. line (f x)) nm) xs n
     named_back nm xs n h =
         let w = one_back (IsNamedAt name line nm) xs n h in
         record { element = w.element; within = w.within; here = record { same = w.here.same; at = w.here.at } }

@@ -97,7 +97,7 @@ module _ (depth inner nodes place : ℕ) (ts inside : List Token) (deep : depth 
   index_stops e f = record {
     tells = λ st c low none left.
         let step = by_step opened.token inside (stack.Target ∷ st) (stack.Operand top ∷ stack.EndTarget ∷ st) c stack.Nothing (rw opened.has.0 refl)
-            (omega (arith, low)) none in
+        (omega (arith, low)) none in
         rw (opened.shape, step) ((f.fails stack.EndTarget parsing.of_target).tells st c (omega (arith, low)) none (omega (arith, left)));
   }
 
@@ -124,7 +124,7 @@ module _ (depth inner nodes place : ℕ) (ts inside : List Token) (deep : depth 
         tells = λ st c low none empty.
             let within = few_nodes c (nodes_of i) none (omega (arith, index.nodes, all)) in
             let step = by_step equals.token behind (stack.Value ∷ st) (stack.Operand top ∷ stack.Semicolon ∷ st) (with_nodes (nodes_of i) c) stack.Nothing
-                (rw equals.has.0 refl) (omega (arith, low)) within in
+            (rw equals.has.0 refl) (omega (arith, low)) within in
             rw (index_passes st c low none empty, equals.shape, step) ((f.fails stack.Semicolon parsing.of_statement).tells st (with_nodes (nodes_of i) c) low
             within (omega (arith, index.nodes, all)));
       }

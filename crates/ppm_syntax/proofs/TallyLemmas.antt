@@ -17,7 +17,13 @@ pub record Few (c : Tally) : Type 0 where
 
 -- its parts
 pub few_of : (c : Tally) → passed c ≡ None → Few c
-few_of c h = record { arrays = grind (arith, h); words = grind (arith, h); procedures = grind (arith, h); parameters = grind (arith, h); nodes = grind (arith, h) }
+few_of c h = record {
+  arrays = grind (arith, h);
+  words = grind (arith, h);
+  procedures = grind (arith, h);
+  parameters = grind (arith, h);
+  nodes = grind (arith, h);
+}
 
 -- from its parts
 pub none_passed : (c : Tally) → Few c → passed c ≡ None
@@ -37,7 +43,8 @@ few_parameters c n h few =
 pub few_words : (c : Tally) (n : ℕ) → passed c ≡ None → c.words + n ≤ word_limit → passed (with_count (stack.SomeWords n) c) ≡ None
 few_words c n h few =
     let f = few_of c h in
-    none_passed (with_count (stack.SomeWords n) c) (record { arrays = f.arrays; words = few; procedures = f.procedures; parameters = f.parameters; nodes = f.nodes })
+    none_passed (with_count (stack.SomeWords n) c)
+    (record { arrays = f.arrays; words = few; procedures = f.procedures; parameters = f.parameters; nodes = f.nodes })
 
 -- an array more may come
 pub few_arrays : (c : Tally) → passed c ≡ None → suc c.arrays ≤ array_limit → passed (with_count stack.AnArray c) ≡ None

@@ -1,6 +1,7 @@
 pub mod Tree
 pub mod Grammar
 pub mod Limits
+pub mod Lines
 pub mod Rules
 pub mod Meaning
 pub mod Parsing

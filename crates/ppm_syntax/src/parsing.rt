@@ -1,9 +1,11 @@
 //! From tokens to the tree of a source.
 ghost use Rattle.std.specs.Prelude.{◌≡◌, ◌<◌, ℕ, length, Err, MatchResult, IfOk};
+ghost use Rattle.std.specs.List.{All};
 ghost use Rattle.ppm_text.specs.declared.token.Keyword.TheVariants as keyword;
 ghost use Rattle.ppm_syntax.specs.declared.limit.Limit.{Limit};
 ghost use Rattle.ppm_syntax.specs.Tree.{tree_of};
 ghost use Rattle.ppm_syntax.specs.Limits.{depth_limit};
+ghost use Rattle.ppm_syntax.specs.Lines.{TokenLine};
 ghost use Rattle.ppm_syntax.specs.Grammar.{DerivesTree};
 ghost use Rattle.ppm_syntax.specs.Faults.{IsFirstUnexpected, IsEnded, IsTooDeep, IsTooMany};
 ghost use Rattle.ppm_syntax.specs.Stack.{beginning};
@@ -120,6 +122,7 @@ fn add_item(
 
 /// The tree of the tokens, or the verdict on them.
 fn derive(alloc: Global, tokens: &[Token]) -> Result<Source, Stop>
+    requires lines { All TokenLine tokens.now }
     ensures { MatchResult result
         (λ s. DerivesTree depth_limit tokens.now (tree_of s))
         (λ e. Tells e (verdict beginning tokens.now)) }
@@ -158,8 +161,12 @@ pub fn parse(alloc: Global, tokens: &Tokens) -> Result<Source, SyntaxError>
 
     ensures too_many { (place : ℕ) (which : Limit) → result ≡ Err (SyntaxError.TooMany place which) → IsTooMany tokens.now.tokens place which }
 {
+    let text_len = tokens.text_len();
     match derive(alloc, tokens.as_slice()) {
         Ok(source) => Ok(source),
-        Err(stop) => Err(stop.in_text(tokens.text_len())),
+        Err(stop) => Err(stop.in_text(text_len)),
     }
 }
+
+#[cfg(test)]
+mod tests;

@@ -2,6 +2,7 @@
 ghost use Rattle.std.specs.Prelude.{◌≡◌};
 ghost use Rattle.ppm_syntax.specs.Tree.{tree_of};
 ghost use Rattle.ppm_syntax.specs.Limits.{IsWithin};
+ghost use Rattle.ppm_syntax.specs.Lines.{HasLines};
 ghost use Rattle.ppm_syntax.specs.Rules.{IsAdmitted};
 ghost use Rattle.ppm_syntax.specs.Meaning.{opening};
 
@@ -10,7 +11,7 @@ use ppm_words::Input;
 use std::marker::Model;
 
 /// A tree that passes none of the limits: 64 arrays, 4,194,304 array words, one procedure, 12 parameters, 48 nodes
-/// in the expressions of a statement, literals to 2^63 - 1.
+/// in the expressions of a statement, literals to 2^63 - 1. Each line in it is one of a text, from 1 to 1,048,577.
 #[derive(Drop)]
 pub struct Source {
     tree: Tree,
@@ -22,6 +23,7 @@ impl Model for Source {
     ghost use Rattle.ppm_syntax.specs.contracts.tree.Expr as expr;
     ghost use Rattle.ppm_syntax.specs.Tree.{tree_of};
     ghost use Rattle.ppm_syntax.specs.Limits.{IsWithin};
+    ghost use Rattle.ppm_syntax.specs.Lines.{HasLines};
 
     ghost Value = { Tree };
 
@@ -29,13 +31,14 @@ impl Model for Source {
 
     ghost view = { λ s. s.tree };
 
-    ghost invariant = { λ s. IsWithin (tree_of s.tree) };
+    ghost invariant = { λ s. IsWithin (tree_of s.tree) × HasLines (tree_of s.tree) };
 }
 
 impl Source {
     /// The source with this tree.
     pub fn from_tree(tree: Tree) -> Self
-        requires { IsWithin (tree_of tree) }
+        requires limits { IsWithin (tree_of tree) }
+        requires lines { HasLines (tree_of tree) }
         ensures { result ≡ tree }
     {
         Source { tree }
@@ -45,6 +48,7 @@ impl Source {
     pub fn tree(&self) -> &Tree
         ensures value { result.now ≡ self.now }
         ensures limits { IsWithin (tree_of self.now) }
+        ensures lines { HasLines (tree_of self.now) }
     {
         &self.tree
     }

@@ -39,12 +39,5 @@ commas-preserved c = record {
   few = rw (c.in_ok-push-2.ensures.items, length-append) (omega (arith, c.in_ok-next.ensures.1));
 }
 
--- the list is not closed
-pub returns-in_err-end : goal.returns-in_err-end
-returns-in_err-end c =
-    exit_by _ _ _ c.from_residual-in_err-end.result c.from_residual-in_err-end.ensures.1
-    (λ depth. end_stops c.args.tokens.now _ c.commas.rest.now c.commas.invariant.leads depth _ _ c.commas.invariant.few c.in_default-take.ensures
-    c.in_err-end.ensures)
-
 pub returns : goal.returns
 returns c = (parameters_read c.args.tokens.now _ c.commas.rest.now c.commas.invariant.leads c.in_ok-end.end.now _ c.in_ok-end.ensures, c.commas.invariant.few)

@@ -2,13 +2,8 @@ use Rattle.std.proofs.Common.{refl, sym}
 use Rattle.std.proofs.lemmas.Bool.{eqb-true}
 use Rattle.ppm_syntax.proofs.StopLemmas.{exit_by}
 use Rattle.ppm_syntax.proofs.ItemLemmas.{leads_at_first, nothing_so_far, leads_next, item_stops, tree_read}
+use Rattle.ppm_syntax.proofs.LinesLemmas.{has_lines}
 use Rattle.ppm_syntax.proofs.parsing.derive.Goals as goal
-
--- a further declaration stops
-pub returns-in_err-more : goal.returns-in_err-more
-returns-in_err-more c =
-    exit_by _ _ _ c.from_residual.result c.from_residual.ensures.1
-    (item_stops c.args.tokens.now _ c.items.rest.now c.items.invariant.leads _ c.in_err-more.ensures)
 
 pub items-init : goal.items-init
 items-init c = record {
@@ -25,3 +20,9 @@ items-preserved c = record {
 pub returns : goal.returns
 returns c = rw (c.from_tree.ensures, c.from_vec.ensures, c.from_vec-2.ensures)
     (tree_read c.args.tokens.now _ c.items.rest.now c.items.invariant.leads (eqb-true _ _ (sym c.items-test.ensures)))
+
+-- the tree has the lines of the tokens
+pub from_tree-requires-clause-lines : goal.from_tree-requires-clause-lines
+from_tree-requires-clause-lines c =
+    rw (c.from_vec.ensures, c.from_vec-2.ensures)
+    (has_lines _ (tree_read c.args.tokens.now _ c.items.rest.now c.items.invariant.leads (eqb-true _ _ (sym c.items-test.ensures))) c.requires.lines)
