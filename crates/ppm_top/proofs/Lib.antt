@@ -1,4 +1,5 @@
 pub mod CausesLemmas
+pub mod RefusalLemmas
 pub mod RowsLemmas
 pub mod ArraysInWords
 pub mod ExpressionRuns

@@ -1,28 +1,39 @@
 -- The rows of the table, from the answer that was delivered.
-use Rattle.std.proofs.Common.{◌≡◌, ◌≢◌, ◌⊎◌, ◌↔◌, ℕ, ◌≤◌, List, [], ◌∷◌, ◌++◌, length, Option, Some, None}
+use Rattle.std.proofs.Common.{◌≡◌, ◌≢◌, ◌⊎◌, ◌↔◌, ℕ, ◌≤◌, ◌<◌, List, [], ◌∷◌, ◌++◌, length, Option, Some, None}
 use Rattle.std.proofs.Common.{refl, sym, ap, ◌∙◌, subst, inl, inr, arith, append-nil, length-append}
 use Rattle.std.specs.Io.KnownBytes.{Keeps, Appends, Consumes}
 use Rattle.ppm_ports.specs.Ports.{Port, Fails, Gets}
 use Rattle.ppm_ports.specs.Whole.{ReadsTo}
 use Rattle.ppm_words.specs.declared.outcome.Outcome.{Outcome}
 use Rattle.ppm_text.specs.Limits.{text_limit}
+use Rattle.ppm_text.specs.declared.text_error.TextError.{TextError}
+use Rattle.ppm_text.specs.declared.text_error.TextError.TheVariants as text_error
+use Rattle.ppm_text.specs.Cutting.{IsRefused, too_long, faulty, no_memory}
 use Rattle.ppm_syntax.specs.Correct.{HasTree}
+use Rattle.ppm_top.specs.declared.refusal.Refusal.{Refusal}
+use Rattle.ppm_top.specs.declared.refusal.Refusal.TheVariants as refusals
+use Rattle.ppm_top.specs.Refusals.{IsTextFault, IsSyntaxFault, IsRegionFault, HasNoRoom, IsRefusal}
+use Rattle.ppm_top.specs.Correct.{HaveOneRefusal}
 use Rattle.ppm_top.specs.declared.answer.Answer.{Answer}
 use Rattle.ppm_top.specs.declared.answer.Answer.TheVariants as answers
 use Rattle.ppm_top.specs.declared.status.Status.{Status}
 use Rattle.ppm_top.specs.declared.status.Status.TheVariants as statuses
 use Rattle.ppm_line.specs.declared.command.Command.{Command}
 use Rattle.ppm_line.specs.declared.command.Command.TheVariants as commands
-use Rattle.ppm_top.specs.Texts.{out_text}
+use Rattle.ppm_top.specs.Texts.{out_text, err_text}
 use Rattle.ppm_top.specs.Statuses.{status_of}
 use Rattle.ppm_line.specs.Words.{command_of}
 use Rattle.ppm_top.specs.Delivery.{IsWritten, Delivers}
-use Rattle.ppm_top.specs.Causes.{IsUnread, ComesTo, HasNoOutcome, ReadComesTo, ReadHasNoOutcome, RunMay, NoCommandMay, CommandMay, IsAnswered}
-use Rattle.ppm_top.specs.Rows.{IsOneOf, WritesArrays, WritesTrap, GoesWell, RefusesSource, RefusesWords, TellsFaults, IsSilentOnOut}
+use Rattle.ppm_top.specs.Causes.{IsUnread, ComesTo, HasNoOutcome, ReadComesTo, ReadIsRefused, RunMay, NoCommandMay, CommandMay, IsAnswered}
+use Rattle.ppm_top.specs.Rows.{IsOneOf, WritesArrays, WritesTrap, WritesRefusal, IsTold, GoesWell, RefusesSource, RefusesWords, TellsFaults, IsSilentOnOut}
 
 -- the statuses at which nothing is written on out
 abbrev quiet : List Status
 quiet = statuses.SourceRefused ∷ statuses.WordsRefused ∷ statuses.ReadFault ∷ statuses.NoMemory ∷ []
+
+-- the text is refused, and that is told
+abbrev Refuses : Port → Status → List ℕ → Type 0
+Refuses err status text = (r : Refusal) × IsRefusal text r × IsTold err status r
 
 -- at a status other than 8 the answer is written
 written : (out err : Port) (answer : Answer) (status : Status) → Delivers out err answer status → status ≢ statuses.WriteFault →
@@ -56,18 +67,18 @@ trapped words source out err status a e =
     let w : IsWritten out err a.answer status = written out err a.answer status a.delivered (λ f. cc) in
     trapped_answer (command_of words) source out a.answer a.may (sym w.own ∙ e) w.out_gets
 
--- an answer of status 2 is the refusal of what was read
-refused_answer : (command : Option Command) (source : Port) (answer : Answer) → CommandMay command source answer →
-    status_of answer ≡ statuses.SourceRefused → ReadHasNoOutcome source
-refused_answer None source answers.SourceRefused h e = absurd h
-refused_answer (Some commands.Run) source answers.SourceRefused h e = h
-refused_answer command source answer h e = cc
+-- an answer of status 2 is a refusal of what was read, and its text is the refusal's
+refused_answer : (command : Option Command) (source err : Port) (answer : Answer) → CommandMay command source answer →
+    status_of answer ≡ statuses.SourceRefused → Gets err (err_text answer) → WritesRefusal source err
+refused_answer None source err (answers.SourceRefused r) h e g = absurd h
+refused_answer (Some commands.Run) source err (answers.SourceRefused r) h e g = (r, h, g)
+refused_answer command source err answer h e g = cc
 
 refused : (words : List (List ℕ)) (source out err : Port) (status : Status) → IsAnswered words source out err status →
-    status ≡ statuses.SourceRefused → ReadHasNoOutcome source
+    status ≡ statuses.SourceRefused → WritesRefusal source err
 refused words source out err status a e =
     let w : IsWritten out err a.answer status = written out err a.answer status a.delivered (λ f. cc) in
-    refused_answer (command_of words) source a.answer a.may (sym w.own ∙ e)
+    refused_answer (command_of words) source err a.answer a.may (sym w.own ∙ e) w.err_gets
 
 -- at status 8 out or err failed
 write_failed : (out err : Port) (answer : Answer) (status : Status) → status ≡ statuses.WriteFault → Delivers out err answer status →
@@ -83,7 +94,7 @@ judged_answer : (source : Port) (answer : Answer) (status : Status) → RunMay s
     IsOneOf status (statuses.Ended ∷ statuses.Trapped ∷ statuses.SourceRefused ∷ [])
 judged_answer source (answers.Ended arrays) status h s m e = inl e
 judged_answer source (answers.Trapped t line) status h s m e = inr (inl e)
-judged_answer source answers.SourceRefused status h s m e = inr (inr (inl e))
+judged_answer source (answers.SourceRefused r) status h s m e = inr (inr (inl e))
 judged_answer source answers.WordsRefused status h s m e = absurd h
 judged_answer source answers.ReadFault status h s m e = absurd (s h.0)
 judged_answer source answers.NoMemory status h s m e = absurd (m e)
@@ -108,14 +119,30 @@ front_short : (all : List ℕ) (now : Option (List ℕ)) (text : List ℕ) → C
 front_short all None text h = absurd h
 front_short all (Some rest) text h = let e : length all ≡ length (text ++ rest) = ap length h in omega (arith, length-append text rest)
 
--- where what was read of a text has no outcome, the text has none
-none_of_all : (all : List ℕ) (now : Option (List ℕ)) (text : List ℕ) → ReadsTo text_limit (Some all) now text → HasNoOutcome text →
-    HasNoOutcome all
-none_of_all all now text r none tree has fits =
-    let short : length all ≤ text_limit = has.short in
-    let less : length text ≤ length all = front_short all now text r.front in
-    let e : all ≡ text = whole_read text_limit all now text r (omega arith) in
-    none tree (subst (λ l. HasTree l tree) e has) fits
+-- what is read of a text past the limit is past it, and the text is
+long_all : (limit : ℕ) (all : List ℕ) (now : Option (List ℕ)) (text : List ℕ) → Consumes (Some all) now text → limit < length text →
+    limit < length all
+long_all limit all now text r h = let less : length text ≤ length all = front_short all now text r in omega (arith, h, less)
+
+-- a fault of what was read of a text is one of the text
+text_fault_of_all : (all : List ℕ) (now : Option (List ℕ)) (text : List ℕ) (e : TextError) → ReadsTo text_limit (Some all) now text →
+    IsRefused text e → e ≢ text_error.NoMemory → IsTextFault all e
+text_fault_of_all all now text _ r (too_long h) given =
+    record { fault = too_long (long_all text_limit all now text r.front h); given = given }
+text_fault_of_all all now text e r (faulty h f) given =
+    subst (λ l. IsTextFault l e) (sym (whole_read text_limit all now text r h)) (record { fault = faulty h f; given = given })
+text_fault_of_all all now text _ r (no_memory h) given = absurd (given refl)
+
+-- why what was read of a text is refused, the text is
+refusal_of_all : (all : List ℕ) (now : Option (List ℕ)) (text : List ℕ) (r : Refusal) → ReadsTo text_limit (Some all) now text →
+    IsRefusal text r → IsRefusal all r
+refusal_of_all all now text (refusals.Text e) r h = text_fault_of_all all now text e r h.fault h.given
+refusal_of_all all now text (refusals.Syntax e) r h =
+    subst (λ l. IsSyntaxFault l e) (sym (whole_read text_limit all now text r h.short)) h
+refusal_of_all all now text (refusals.Region e) r h =
+    subst (λ l. IsRegionFault l e) (sym (whole_read text_limit all now text r h.short)) h
+refusal_of_all all now text refusals.TooManyCapsules r h =
+    subst HasNoRoom (sym (whole_read text_limit all now text r h.has_tree.short)) h
 
 -- where what was read of a text has an outcome, the text has one
 some_of_all : (all : List ℕ) (now : Option (List ℕ)) (text : List ℕ) (o : Outcome) → ReadsTo text_limit (Some all) now text →
@@ -124,35 +151,56 @@ some_of_all all now text o r comes none =
     let e : all ≡ text = whole_read text_limit all now text r comes.has_tree.short in
     none comes.tree (subst (λ l. HasTree l comes.tree) (sym e) comes.has_tree) comes.fits
 
-read_has_none : (source : Port) (all : List ℕ) → source.before ≡ Some all → ReadHasNoOutcome source → HasNoOutcome all
-read_has_none source all e h = none_of_all all source.now h.0 (subst (λ b. ReadsTo text_limit b source.now h.0) e h.1) h.2
+read_is_refused : (source : Port) (all : List ℕ) (r : Refusal) → source.before ≡ Some all → ReadIsRefused source r → IsRefusal all r
+read_is_refused source all r e h = refusal_of_all all source.now h.0 r (subst (λ b. ReadsTo text_limit b source.now h.0) e h.1) h.2
 
 read_has_some : (source : Port) (all : List ℕ) (o : Outcome) → source.before ≡ Some all → ReadComesTo source o → HasNoOutcome all → ⊥
 read_has_some source all o e h none =
     some_of_all all source.now h.0 o (subst (λ b. ReadsTo text_limit b source.now h.0) e h.1) h.2 none
 
-exactly : (words : List (List ℕ)) (source out err : Port) (status : Status) → IsAnswered words source out err status →
+-- where all goes well, the text has an outcome, or a refusal that is told
+is_told : (words : List (List ℕ)) (source out err : Port) (status : Status) → IsAnswered words source out err status →
+    (all : List ℕ) → source.before ≡ Some all → GoesWell words source out err status → (HasNoOutcome all → ⊥) ⊎ Refuses err status all
+is_told words source out err status a all e well = go (judged words source out err status a well) where
+  go : IsOneOf status (statuses.Ended ∷ statuses.Trapped ∷ statuses.SourceRefused ∷ []) → (HasNoOutcome all → ⊥) ⊎ Refuses err status all
+  go (inl s) = let h = ended words source out err status a s in inl (read_has_some source all _ e h.1)
+  go (inr (inl s)) = let h = trapped words source out err status a s in inl (read_has_some source all _ e h.2)
+  go (inr (inr (inl s))) =
+      let h = refused words source out err status a s in
+      inr (h.0, read_is_refused source all h.0 e h.1, record { refused = s; err_gets = h.2 })
+  go (inr (inr (inr s))) = absurd s
+
+exactly : HaveOneRefusal → (words : List (List ℕ)) (source out err : Port) (status : Status) → IsAnswered words source out err status →
     (all : List ℕ) → source.before ≡ Some all → GoesWell words source out err status →
     ((status ≡ statuses.SourceRefused) ↔ HasNoOutcome all)
-exactly words source out err status a all e well = (there, back) where
+exactly law words source out err status a all e well = (there, back) where
   there : status ≡ statuses.SourceRefused → HasNoOutcome all
-  there s = read_has_none source all e (refused words source out err status a s)
+  there s =
+      let h = refused words source out err status a s in
+      (law all).either h.0 (read_is_refused source all h.0 e h.1)
 
-  go : HasNoOutcome all → IsOneOf status (statuses.Ended ∷ statuses.Trapped ∷ statuses.SourceRefused ∷ []) → status ≡ statuses.SourceRefused
-  go none (inl s) = let h = ended words source out err status a s in absurd (read_has_some source all _ e h.1 none)
-  go none (inr (inl s)) = let h = trapped words source out err status a s in absurd (read_has_some source all _ e h.2 none)
-  go none (inr (inr (inl s))) = s
-  go none (inr (inr (inr s))) = absurd s
+  go : HasNoOutcome all → (HasNoOutcome all → ⊥) ⊎ Refuses err status all → status ≡ statuses.SourceRefused
+  go none (inl some) = absurd (some none)
+  go none (inr h) = h.2.refused
 
   back : HasNoOutcome all → status ≡ statuses.SourceRefused
-  back none = go none (judged words source out err status a well)
+  back none = go none (is_told words source out err status a all e well)
 
-pub refuses_source : (words : List (List ℕ)) (source out err : Port) (status : Status) → IsAnswered words source out err status →
-    RefusesSource words source out err status
-refuses_source words source out err status a = record {
+cause : HaveOneRefusal → (words : List (List ℕ)) (source out err : Port) (status : Status) → IsAnswered words source out err status →
+    (all : List ℕ) → source.before ≡ Some all → GoesWell words source out err status → (r : Refusal) → IsRefusal all r →
+    IsTold err status r
+cause law words source out err status a all e well r is = go (is_told words source out err status a all e well) where
+  go : (HasNoOutcome all → ⊥) ⊎ Refuses err status all → IsTold err status r
+  go (inl some) = absurd (some ((law all).either r is))
+  go (inr h) = subst (IsTold err status) ((law all).refusal h.0 r h.1 is) h.2
+
+pub refuses_source : HaveOneRefusal → (words : List (List ℕ)) (source out err : Port) (status : Status) →
+    IsAnswered words source out err status → RefusesSource words source out err status
+refuses_source law words source out err status a = record {
   only = refused words source out err status a;
   judged = judged words source out err status a;
-  exactly = exactly words source out err status a;
+  exactly = exactly law words source out err status a;
+  cause = cause law words source out err status a;
 }
 
 -- an answer of status 3 comes without a command
@@ -173,7 +221,7 @@ refusal : (source : Port) (answer : Answer) → NoCommandMay source answer →
     IsUnread source × ((status_of answer ≡ statuses.WordsRefused) ⊎ (status_of answer ≡ statuses.NoMemory))
 refusal source (answers.Ended arrays) h = absurd h
 refusal source (answers.Trapped t line) h = absurd h
-refusal source answers.SourceRefused h = absurd h
+refusal source (answers.SourceRefused r) h = absurd h
 refusal source answers.WordsRefused h = (h, inl refl)
 refusal source answers.ReadFault h = absurd h
 refusal source answers.NoMemory h = (h, inr refl)

@@ -10,6 +10,8 @@ use Rattle.ppm_text.specs.Limits.{text_limit}
 use Rattle.ppm_syntax.specs.Correct.{HasTree}
 use Rattle.ppm_syntax.specs.Meaning.{IsOutcome}
 use Rattle.ppm_top.specs.Bounds.{FitsCode}
+use Rattle.ppm_top.specs.declared.refusal.Refusal.{Refusal}
+use Rattle.ppm_top.specs.Refusals.{IsRefusal}
 use Rattle.ppm_top.specs.declared.answer.Answer.{Answer}
 use Rattle.ppm_top.specs.declared.answer.Answer.TheVariants as answers
 use Rattle.ppm_line.specs.declared.command.Command.{Command}
@@ -46,15 +48,15 @@ HasNoOutcome text = (t : SourceTree) → HasTree text t → FitsCode t → ⊥
 abbrev pub ReadComesTo : Port → Outcome → Type 0
 ReadComesTo source o = (text : List ℕ) × Reads source text × ComesTo text o
 
--- the text that was read has no outcome
-abbrev pub ReadHasNoOutcome : Port → Type 0
-ReadHasNoOutcome source = (text : List ℕ) × Reads source text × HasNoOutcome text
+-- the text that was read is refused for this reason
+abbrev pub ReadIsRefused : Port → Refusal → Type 0
+ReadIsRefused source r = (text : List ℕ) × Reads source text × IsRefusal text r
 
 -- the answers of `run`
 abbrev pub RunMay : Port → Answer → Type 0
 RunMay source (answers.Ended arrays) = ReadComesTo source (outcome.Ended arrays)
 RunMay source (answers.Trapped t line) = ReadComesTo source (outcome.Trapped t line)
-RunMay source answers.SourceRefused = ReadHasNoOutcome source
+RunMay source (answers.SourceRefused r) = ReadIsRefused source r
 RunMay source answers.WordsRefused = ⊥
 RunMay source answers.ReadFault = Fails source × ReadsSome source
 RunMay source answers.NoMemory = ReadsSome source
@@ -63,7 +65,7 @@ RunMay source answers.NoMemory = ReadsSome source
 abbrev pub NoCommandMay : Port → Answer → Type 0
 NoCommandMay source (answers.Ended arrays) = ⊥
 NoCommandMay source (answers.Trapped t line) = ⊥
-NoCommandMay source answers.SourceRefused = ⊥
+NoCommandMay source (answers.SourceRefused r) = ⊥
 NoCommandMay source answers.WordsRefused = IsUnread source
 NoCommandMay source answers.ReadFault = ⊥
 NoCommandMay source answers.NoMemory = IsUnread source

@@ -2,7 +2,9 @@ pub mod Bounds
 pub mod Texts
 pub mod Statuses
 pub mod Delivery
+pub mod Refusals
 pub mod Causes
+pub mod Correct
 pub mod Rows
 pub mod Judging
 pub mod Code

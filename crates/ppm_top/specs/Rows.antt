@@ -6,12 +6,14 @@ use Rattle.ppm_words.specs.declared.event.Event.{Event}
 use Rattle.ppm_words.specs.declared.named_array.NamedArray.{NamedArray}
 use Rattle.ppm_words.specs.declared.trap.Trap.{Trap}
 use Rattle.ppm_words.specs.declared.outcome.Outcome.TheVariants as outcome
+use Rattle.ppm_top.specs.declared.refusal.Refusal.{Refusal}
+use Rattle.ppm_top.specs.Refusals.{IsRefusal}
 use Rattle.ppm_line.specs.declared.command.Command.TheVariants as commands
 use Rattle.ppm_top.specs.declared.status.Status.{Status}
 use Rattle.ppm_top.specs.declared.status.Status.TheVariants as statuses
-use Rattle.ppm_top.specs.Texts.{arrays_text, trap_text}
+use Rattle.ppm_top.specs.Texts.{arrays_text, trap_text, refusal_text}
 use Rattle.ppm_line.specs.Words.{command_of}
-use Rattle.ppm_top.specs.Causes.{IsUnread, HasNoOutcome, ReadComesTo, ReadHasNoOutcome}
+use Rattle.ppm_top.specs.Causes.{IsUnread, HasNoOutcome, ReadComesTo, ReadIsRefused}
 
 -- the status is one of these
 abbrev pub IsOneOf : Status → List Status → Type 0
@@ -26,6 +28,15 @@ WritesArrays source out = (arrays : List NamedArray) × ReadComesTo source (outc
 abbrev pub WritesTrap : Port → Port → Type 0
 WritesTrap source out = (t : Trap) × (line : ℕ) × ReadComesTo source (outcome.Trapped t line) × Gets out (trap_text t line)
 
+-- the text that was read is refused, and err got exactly the refusal's text
+abbrev pub WritesRefusal : Port → Port → Type 0
+WritesRefusal source err = (r : Refusal) × ReadIsRefused source r × Gets err (refusal_text r)
+
+-- the status is 2, and err got exactly the refusal's text
+pub record IsTold (err : Port) (status : Status) (r : Refusal) : Type 0 where
+  pub refused : status ≡ statuses.SourceRefused
+  pub err_gets : Gets err (refusal_text r)
+
 -- a run was asked for, no port failed, and memory was there
 pub record GoesWell (words : List (List ℕ)) (source out err : Port) (status : Status) : Type 0 where
   pub run : command_of words ≡ Some commands.Run
@@ -34,13 +45,16 @@ pub record GoesWell (words : List (List ℕ)) (source out err : Port) (status : 
   pub err_holds : ¬ Fails err
   pub memory : status ≢ statuses.NoMemory
 
--- Status 2 comes only where the text that was read has no outcome. Where all goes well, the text is judged; and a source that tells
--- its bytes is then refused exactly where they have no outcome.
+-- Status 2 comes only where the text that was read is refused, with that refusal's text on err. Where all goes well, the text is
+-- judged; and a source that tells its bytes is then refused exactly where they have no outcome, and each refusal exactly where it is
+-- the reason.
 pub record RefusesSource (words : List (List ℕ)) (source out err : Port) (status : Status) : Type 0 where
-  pub only : status ≡ statuses.SourceRefused → ReadHasNoOutcome source
+  pub only : status ≡ statuses.SourceRefused → WritesRefusal source err
   pub judged : GoesWell words source out err status → IsOneOf status (statuses.Ended ∷ statuses.Trapped ∷ statuses.SourceRefused ∷ [])
   pub exactly : (all : List ℕ) → source.before ≡ Some all → GoesWell words source out err status →
       ((status ≡ statuses.SourceRefused) ↔ HasNoOutcome all)
+  pub cause : (all : List ℕ) → source.before ≡ Some all → GoesWell words source out err status → (r : Refusal) → IsRefusal all r →
+      IsTold err status r
 
 -- Status 3 comes only where the words give no command. Then nothing is read, and the status is 3, or 8 or 9.
 pub record RefusesWords (words : List (List ℕ)) (source : Port) (status : Status) : Type 0 where

@@ -9,7 +9,7 @@ use Rattle.ppm_top.specs.declared.status.Status.TheVariants as statuses
 abbrev pub status_of : Answer → Status
 status_of (answers.Ended arrays) = statuses.Ended
 status_of (answers.Trapped t line) = statuses.Trapped
-status_of answers.SourceRefused = statuses.SourceRefused
+status_of (answers.SourceRefused r) = statuses.SourceRefused
 status_of answers.WordsRefused = statuses.WordsRefused
 status_of answers.ReadFault = statuses.ReadFault
 status_of answers.NoMemory = statuses.NoMemory

@@ -5,6 +5,11 @@ use Rattle.std.specs.Fmt.{signed_decimal}
 use Rattle.ppm_words.specs.declared.named_array.NamedArray.{NamedArray}
 use Rattle.ppm_words.specs.declared.trap.Trap.{Trap}
 use Rattle.ppm_words.specs.declared.trap.Trap.TheVariants as trap
+use Rattle.ppm_text.specs.Refusals as text
+use Rattle.ppm_syntax.specs.SyntaxRefusals as syntax
+use Rattle.ppm_syntax.specs.RegionRefusals as region
+use Rattle.ppm_top.specs.declared.refusal.Refusal.{Refusal}
+use Rattle.ppm_top.specs.declared.refusal.Refusal.TheVariants as refusal
 use Rattle.ppm_top.specs.declared.answer.Answer.{Answer}
 use Rattle.ppm_top.specs.declared.answer.Answer.TheVariants as answers
 
@@ -39,16 +44,28 @@ trap_text t line = line_of (codes "trap " ++ trap_word t ++ codes " line " ++ de
 abbrev pub out_text : Answer → List ℕ
 out_text (answers.Ended arrays) = arrays_text arrays
 out_text (answers.Trapped t line) = trap_text t line
-out_text answers.SourceRefused = []
+out_text (answers.SourceRefused r) = []
 out_text answers.WordsRefused = []
 out_text answers.ReadFault = []
 out_text answers.NoMemory = []
+
+-- a line with the kind of a refusal and its number, and where it is
+abbrev pub fault_text : List ℕ → ℕ → List ℕ → ℕ → List ℕ
+fault_text kind number mark place =
+    line_of (codes "source refused: " ++ kind ++ codes " " ++ decimal number ++ codes " " ++ mark ++ codes " " ++ decimal place)
+
+-- the line of a refusal: places count bytes from 0, lines from 1
+abbrev pub refusal_text : Refusal → List ℕ
+refusal_text (refusal.Text e) = fault_text (codes "text") (text.number_of e) (codes "at") (text.place_of e)
+refusal_text (refusal.Syntax e) = fault_text (codes "syntax") (syntax.number_of e) (codes "at") (syntax.place_of e)
+refusal_text (refusal.Region e) = fault_text (codes "region") (region.number_of e) (codes "line") (region.line_of e)
+refusal_text refusal.TooManyCapsules = fault_text (codes "cut") 2 (codes "at") 0
 
 -- what is written on err
 abbrev pub err_text : Answer → List ℕ
 err_text (answers.Ended arrays) = []
 err_text (answers.Trapped t line) = []
-err_text answers.SourceRefused = line_of (codes "source refused")
+err_text (answers.SourceRefused r) = refusal_text r
 err_text answers.WordsRefused = line_of (codes "words refused")
 err_text answers.ReadFault = line_of (codes "read fault")
 err_text answers.NoMemory = line_of (codes "out of memory")

@@ -1,4 +1,5 @@
 //! What a command answers.
+use crate::refusal::Refusal;
 use ppm_words::{Items, NamedArray, Trap};
 
 /// What a command answers, before any of it is written.
@@ -8,8 +9,8 @@ pub enum Answer {
     Ended(Items<NamedArray>),
     /// The run ended by a trap in this line of the source; lines count from 1.
     Trapped(Trap, u32),
-    /// The text has no admitted tree, or its code would have no room.
-    SourceRefused,
+    /// The text is refused for this reason.
+    SourceRefused(Refusal),
     /// The words give no command.
     WordsRefused,
     /// The source of bytes failed.

@@ -11,15 +11,20 @@ mod code;
 mod cut;
 mod deliver;
 mod image;
+mod judging;
+mod laws;
 mod layout;
 mod machine;
 mod outcome;
+mod refusal;
 mod run;
 mod status;
 mod texts;
 mod top;
 
 pub use answer::Answer;
+pub use laws::have_one_refusal;
+pub use refusal::Refusal;
 pub use status::Status;
 pub use top::ppm;
 

@@ -5,9 +5,8 @@ ghost use Rattle.ppm_top.specs.Causes.{RunMay};
 ghost use Rattle.ppm_top.specs.Judging.{TextMay};
 
 use crate::answer::Answer;
-use crate::outcome::{OutcomeError, outcome_of};
+use crate::judging::{JudgeError, judge};
 use ppm_ports::{ReadError, Source, read_whole};
-use ppm_syntax::{SourceError, have_one_tree, read_source};
 use ppm_words::Outcome;
 use std::alloc::Global;
 
@@ -29,19 +28,11 @@ pub fn run_answer<S: Source>(alloc: Global, source: &mut S) -> Answer
 fn text_answer(alloc: Global, text: &[u8]) -> Answer
     ensures { TextMay text.now result }
 {
-    let admitted = match read_source(alloc, text) {
-        Ok(admitted) => admitted,
-        Err(SourceError::Refused) => return Answer::SourceRefused,
-        Err(SourceError::NoMemory) => return Answer::NoMemory,
-    };
-    match outcome_of(alloc, &admitted) {
+    match judge(alloc, text) {
         Ok(Outcome::Ended(arrays)) => Answer::Ended(arrays),
         Ok(Outcome::Trapped(trap, line)) => Answer::Trapped(trap, line),
         Ok(Outcome::NotWithin) => unreachable!(),
-        Err(OutcomeError::TooManyCapsules) => {
-            have_one_tree();
-            Answer::SourceRefused
-        }
-        Err(OutcomeError::NoMemory) => Answer::NoMemory,
+        Err(JudgeError::Refused(refusal)) => Answer::SourceRefused(refusal),
+        Err(JudgeError::NoMemory) => Answer::NoMemory,
     }
 }

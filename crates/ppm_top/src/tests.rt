@@ -4,10 +4,14 @@ ghost use Rattle.std.specs.Prelude.{◌<◌};
 use crate::{Status, ppm};
 use ppm_ports::{MemorySink, MemorySource, Silent, Source};
 use std::alloc::Global;
+use std::process::Abort;
 use std::test::Fail;
 
 /// A source that ends with `a 5 7`.
 const FIRST: &str = "array a[2]; proc main(mut a) { a[0] = 5; a[1] = a[0] + 2; }";
+
+/// A source up to a value.
+const VALUE: &str = "array a[1]; proc main(mut a) { a[0] = ";
 
 /// Words that ask for a run.
 const RUN: &[&str] = &["ppm", "run"];
@@ -38,7 +42,7 @@ const NONE: Failing<'static> = Failing {
 /// A call over memory whose ports move at most `most` bytes at a time.
 fn ppm_over_memory(
     alloc: Global,
-    text: &str,
+    text: &[u8],
     words: &[&str],
     most: usize,
     failing: Failing,
@@ -49,8 +53,7 @@ fn ppm_over_memory(
     for word in words {
         given.push(String::from_str(alloc, word)?)?;
     }
-    let bytes = text.as_bytes().to_vec(alloc)?;
-    let mut source = MemorySource::new(bytes, most, failing.reads.to_vec(alloc)?);
+    let mut source = MemorySource::new(text.to_vec(alloc)?, most, failing.reads.to_vec(alloc)?);
     let mut out = sink(alloc, most, failing.outs)?;
     let mut err = sink(alloc, most, failing.errs)?;
     let mut watch = vec![in alloc; Silent; 64]?;
@@ -71,6 +74,46 @@ fn ppm_over_memory(
     })
 }
 
+/// A run of a source, over ports that never fail.
+fn run(alloc: Global, text: &[u8]) -> Result<Shown, Fail> {
+    ppm_over_memory(alloc, text, RUN, 4096, NONE)
+}
+
+/// Fails unless the source ends with exactly these arrays.
+fn ends_with(rt: &impl Abort, alloc: Global, text: &str, want: &str) -> Result<(), Fail> {
+    let got = run(alloc, text.as_bytes())?;
+    assert_eq!(rt; got.out.as_slice(), want.as_bytes(), "{text}");
+    assert_eq!(rt; got.err.as_slice(), b"".as_slice(), "{text}");
+    assert_eq!(rt; got.status, Status::Ended, "{text}");
+    Ok(())
+}
+
+/// Fails unless the text is refused for this reason, with nothing on out.
+fn is_refused(rt: &impl Abort, alloc: Global, text: &[u8], reason: &str) -> Result<(), Fail> {
+    let got = run(alloc, text)?;
+    let want = format!(in alloc; "source refused: {reason}\n")?;
+    assert_eq!(rt; got.err.as_slice(), want.as_bytes());
+    assert_eq!(rt; got.out.as_slice(), b"".as_slice(), "{reason}");
+    assert_eq!(rt; got.status, Status::SourceRefused, "{reason}");
+    Ok(())
+}
+
+/// `front`, then so many times `item`, then `back`.
+fn repeated(
+    alloc: Global,
+    front: &str,
+    item: &str,
+    times: usize,
+    back: &str,
+) -> Result<String, Fail> {
+    let mut text = String::from_str(alloc, front)?;
+    for _ in 0..times {
+        text.push_str(item)?;
+    }
+    text.push_str(back)?;
+    Ok(text)
+}
+
 fn sink(alloc: Global, most: usize, failing: &[u64]) -> Result<MemorySink, Fail>
     requires { 0 < most }
 {
@@ -81,36 +124,171 @@ fn sink(alloc: Global, most: usize, failing: &[u64]) -> Result<MemorySink, Fail>
 #[test]
 fn sources_are_judged(rt: HostRuntime) -> Result<(), Fail> {
     let cases = [
-        (FIRST, "a 5 7\n", "", Status::Ended),
-        ("array a[0]; proc main() { }", "a\n", "", Status::Ended),
+        (FIRST, "a 5 7\n", Status::Ended),
+        ("array a[0]; proc main() { }", "a\n", Status::Ended),
         (
             "array a[1];\nproc main(mut a) { a[0] = 9223372036854775807 + 1; }",
             "trap overflow line 2\n",
-            "",
             Status::Trapped,
         ),
         (
             "array a[2]; proc main(mut a) { a[2] = 1; }",
             "trap index line 1\n",
-            "",
+            Status::Trapped,
+        ),
+        // A parenthesis has no line of its own: the trap names the line of the sign.
+        (
+            "array a[1]; proc main(mut a) { a[0] = (\n9223372036854775807\n+ (\n1)); }",
+            "trap overflow line 3\n",
             Status::Trapped,
         ),
         (
-            "proc main() { let x = 1; }",
-            "",
-            "source refused\n",
-            Status::SourceRefused,
+            "array a[2]; proc main(mut a) { a[(1)] = ((2 + 3)) + (4); }",
+            "a 0 9\n",
+            Status::Ended,
         ),
     ];
-    for (text, out, err, status) in cases {
+    for (text, out, status) in cases {
         for most in [1, 4096] {
-            let got = ppm_over_memory(rt.alloc(), text, RUN, most, NONE)?;
+            let got = ppm_over_memory(rt.alloc(), text.as_bytes(), RUN, most, NONE)?;
             assert_eq!(rt; got.out.as_slice(), out.as_bytes(), "{text}");
-            assert_eq!(rt; got.err.as_slice(), err.as_bytes(), "{text}");
+            assert_eq!(rt; got.err.as_slice(), b"".as_slice(), "{text}");
             assert_eq!(rt; got.status, status, "{text}");
         }
     }
     Ok(())
+}
+
+#[test]
+fn texts_are_refused(rt: HostRuntime) -> Result<(), Fail> {
+    let cases = [
+        (b"x\xc8".as_slice(), "text 1 at 1"),
+        (b"#\xc8".as_slice(), "text 1 at 1"),
+        (b"array a[1]; !".as_slice(), "text 2 at 12"),
+        (b"array a[9223372036854775808];".as_slice(), "text 3 at 8"),
+        (
+            b"proc a23456789012345678901234567890123".as_slice(),
+            "text 4 at 5",
+        ),
+        // The text's own faults come first, wherever they are.
+        (b"; \xc8".as_slice(), "text 1 at 2"),
+        (b"proc main() { let x = 1; }".as_slice(), "syntax 1 at 14"),
+        (b"array a[2]; proc ma".as_slice(), "syntax 2 at 19"),
+        (b"array a[4194305];".as_slice(), "syntax 4 at 8"),
+        (b"".as_slice(), "region 8 line 0"),
+        (b"proc other() { }".as_slice(), "region 8 line 0"),
+        (b"\nproc main(int n) { }".as_slice(), "region 8 line 2"),
+        (b"proc main(\nmut a) { }".as_slice(), "region 8 line 2"),
+        (
+            b"array a[1]; proc main(mut a) {\na[0] =\nb[0]; }".as_slice(),
+            "region 1 line 3",
+        ),
+        (
+            b"array a[1];\narray a[2]; proc main(mut a) { }".as_slice(),
+            "region 2 line 2",
+        ),
+        (
+            b"array a[1]; proc main(mut a,\nref a) { }".as_slice(),
+            "region 2 line 2",
+        ),
+        (
+            b"array a[1]; proc main(ref a) {\na[0] = 1; }".as_slice(),
+            "region 5 line 2",
+        ),
+        // The least number first.
+        (
+            b"array a[1];\nproc main(int n, ref a) {\na[0] = 1;\nb[0] = 1; }".as_slice(),
+            "region 1 line 4",
+        ),
+    ];
+    for (text, reason) in cases {
+        is_refused(&rt, rt.alloc(), text, reason)?;
+    }
+    Ok(())
+}
+
+#[test]
+fn fronts_of_a_source_are_refused(rt: HostRuntime) -> Result<(), Fail> {
+    let text = FIRST.as_bytes();
+    assert_eq!(rt; text.len(), 59);
+    for n in 0..59 {
+        let ended = format!(in rt.alloc(); "syntax 2 at {n}")?;
+        let reason = match n {
+            0 | 11 | 12 => "region 8 line 0",
+            1..=4 => "syntax 1 at 0",
+            13..=15 => "syntax 1 at 12",
+            23 | 24 => "syntax 1 at 22",
+            _ => ended.as_str(),
+        };
+        is_refused(&rt, rt.alloc(), &text[..n], reason)?;
+    }
+    ends_with(&rt, rt.alloc(), FIRST, "a 5 7\n")
+}
+
+#[test]
+fn long_texts_are_refused(rt: HostRuntime) -> Result<(), Fail> {
+    let cases = [
+        (1_048_576, "region 8 line 0"),
+        (1_048_577, "text 5 at 1048576"),
+        (1_048_600, "text 5 at 1048576"),
+    ];
+    for (len, reason) in cases {
+        let blanks = vec![in rt.alloc(); b' '; len]?;
+        is_refused(&rt, rt.alloc(), &blanks, reason)?;
+    }
+    Ok(())
+}
+
+#[test]
+fn arrays_are_limited(rt: HostRuntime) -> Result<(), Fail> {
+    let alloc = rt.alloc();
+    // Each has 14 bytes, with its line feed.
+    let mut arrays = String::from_str(alloc, "")?;
+    for n in 0..65 {
+        let array = format!(in alloc; "array b{n:02}[1];\n")?;
+        arrays.push_str(array.as_str())?;
+    }
+    is_refused(&rt, alloc, arrays.as_bytes(), "syntax 4 at 896")
+}
+
+#[test]
+fn nodes_are_limited(rt: HostRuntime) -> Result<(), Fail> {
+    let alloc = rt.alloc();
+    // The index is a node, and so is each number and each sign.
+    let ones = repeated(alloc, VALUE, "1 + ", 23, "1; }")?;
+    ends_with(&rt, alloc, ones.as_str(), "a 24\n")?;
+    let ones = repeated(alloc, VALUE, "1 + ", 24, "1; }")?;
+    is_refused(&rt, alloc, ones.as_bytes(), "syntax 4 at 132")?;
+    // A parenthesis is none.
+    let ones = repeated(alloc, VALUE, "(1) + ", 23, "((1)); }")?;
+    ends_with(&rt, alloc, ones.as_str(), "a 24\n")
+}
+
+#[test]
+fn openings_are_limited(rt: HostRuntime) -> Result<(), Fail> {
+    let alloc = rt.alloc();
+    // The body's brace is open too, so the 32nd parenthesis is the 33rd opening.
+    let opened = repeated(alloc, VALUE, "(", 31, "1")?;
+    let closed = repeated(alloc, opened.as_str(), ")", 31, "; }")?;
+    ends_with(&rt, alloc, closed.as_str(), "a 1\n")?;
+    let opened = repeated(alloc, VALUE, "(", 32, "1")?;
+    is_refused(&rt, alloc, opened.as_bytes(), "syntax 3 at 69")?;
+    let opened = repeated(alloc, VALUE, "(", 31, "a[0]")?;
+    is_refused(&rt, alloc, opened.as_bytes(), "syntax 3 at 70")?;
+    // Where no text goes on with it, this comes first.
+    let opened = repeated(alloc, VALUE, "(", 31, "1(")?;
+    is_refused(&rt, alloc, opened.as_bytes(), "syntax 1 at 70")
+}
+
+#[test]
+fn capsules_are_limited(rt: HostRuntime) -> Result<(), Fail> {
+    let alloc = rt.alloc();
+    // Four for each statement and two for the procedure.
+    let front = "array a[1]; proc main(mut a) {";
+    let statements = repeated(alloc, front, " a[0] = 1;", 16_383, " }")?;
+    ends_with(&rt, alloc, statements.as_str(), "a 1\n")?;
+    let statements = repeated(alloc, front, " a[0] = 1;", 16_384, " }")?;
+    is_refused(&rt, alloc, statements.as_bytes(), "cut 2 at 0")
 }
 
 #[test]
@@ -128,13 +306,13 @@ fn words_are_judged_before_anything_is_read(rt: HostRuntime) -> Result<(), Fail>
         &["ppm", "run", "--processors"],
     ];
     for words in refused {
-        let got = ppm_over_memory(rt.alloc(), FIRST, words, 9, reads_fail)?;
+        let got = ppm_over_memory(rt.alloc(), FIRST.as_bytes(), words, 9, reads_fail)?;
         assert_eq!(rt; got.status, Status::WordsRefused);
         assert_eq!(rt; got.err.as_slice(), b"words refused\n".as_slice());
         assert_eq!(rt; got.read_faults, 0);
     }
     let words = ["ppm", "run", "--processors", "1"];
-    let got = ppm_over_memory(rt.alloc(), FIRST, &words, 9, NONE)?;
+    let got = ppm_over_memory(rt.alloc(), FIRST.as_bytes(), &words, 9, NONE)?;
     assert_eq!(rt; got.out.as_slice(), b"a 5 7\n".as_slice());
     Ok(())
 }
@@ -145,7 +323,7 @@ fn each_read_fails_in_turn(rt: HostRuntime) -> Result<(), Fail> {
     for call in 0..FIRST.len() as u64 + 1 {
         let got = ppm_over_memory(
             rt.alloc(),
-            FIRST,
+            FIRST.as_bytes(),
             RUN,
             1,
             Failing {
@@ -168,13 +346,13 @@ fn each_write_fails_in_turn(rt: HostRuntime) -> Result<(), Fail> {
             outs: &[call as u64],
             ..NONE
         };
-        let got = ppm_over_memory(rt.alloc(), FIRST, RUN, 2, failing)?;
+        let got = ppm_over_memory(rt.alloc(), FIRST.as_bytes(), RUN, 2, failing)?;
         assert_eq!(rt; got.status, Status::WriteFault, "write {call}");
         assert_eq!(rt; got.out.as_slice(), &text[..2 * call]);
         assert_eq!(rt; got.err.as_slice(), b"write fault\n".as_slice());
     }
     let failing = Failing { errs: &[1], ..NONE };
-    let got = ppm_over_memory(rt.alloc(), "proc", RUN, 4, failing)?;
+    let got = ppm_over_memory(rt.alloc(), b"proc", RUN, 4, failing)?;
     assert_eq!(rt; got.status, Status::WriteFault);
     assert_eq!(rt; got.err.as_slice(), b"sour".as_slice());
     Ok(())

@@ -1,11 +1,15 @@
 //! The texts of answers.
 ghost use Rattle.std.specs.Prelude.{◌≡◌, ◌++◌, IfOk, OnOk};
 ghost use Rattle.std.specs.List.{flat_map};
-ghost use Rattle.ppm_top.specs.Texts.{out_text, err_text, arrays_text, array_text, value_text, trap_text, trap_word};
+ghost use Rattle.ppm_top.specs.Texts.{out_text, err_text, refusal_text, fault_text, arrays_text, array_text, value_text, trap_text, trap_word};
 
 use crate::answer::Answer;
+use crate::refusal::Refusal;
 use ppm_words::{NamedArray, Trap};
 use std::alloc::{AllocError, Global};
+
+/// What is written on err where memory was refused.
+pub const OUT_OF_MEMORY: &[u8] = b"out of memory\n";
 
 /// What is written on out.
 pub fn out_text_of(alloc: Global, answer: &Answer) -> Result<Vec<u8>, AllocError>
@@ -15,22 +19,48 @@ pub fn out_text_of(alloc: Global, answer: &Answer) -> Result<Vec<u8>, AllocError
     match answer {
         Answer::Ended(arrays) => push_arrays(alloc, &mut text, arrays.as_slice())?,
         Answer::Trapped(trap, line) => push_trap(alloc, &mut text, *trap, *line)?,
-        Answer::SourceRefused | Answer::WordsRefused | Answer::ReadFault | Answer::NoMemory => {}
+        Answer::SourceRefused(_) | Answer::WordsRefused | Answer::ReadFault | Answer::NoMemory => {}
     }
     Ok(text)
 }
 
 /// What is written on err.
-pub fn err_text_of(answer: &Answer) -> &'static [u8]
-    ensures { result.now ≡ err_text answer.now }
+pub fn err_text_of(alloc: Global, answer: &Answer) -> Result<Vec<u8>, AllocError>
+    ensures { IfOk result (λ text. text.items ≡ err_text answer.now) }
 {
     match answer {
-        Answer::Ended(_) | Answer::Trapped(_, _) => b"",
-        Answer::SourceRefused => b"source refused\n",
-        Answer::WordsRefused => b"words refused\n",
-        Answer::ReadFault => b"read fault\n",
-        Answer::NoMemory => b"out of memory\n",
+        Answer::Ended(_) | Answer::Trapped(_, _) => Ok(Vec::new(alloc)),
+        Answer::SourceRefused(refusal) => refusal_text_of(alloc, *refusal),
+        Answer::WordsRefused => Vec::from_slice(alloc, b"words refused\n"),
+        Answer::ReadFault => Vec::from_slice(alloc, b"read fault\n"),
+        Answer::NoMemory => Vec::from_slice(alloc, OUT_OF_MEMORY),
     }
+}
+
+/// The line of a refusal.
+fn refusal_text_of(alloc: Global, refusal: Refusal) -> Result<Vec<u8>, AllocError>
+    ensures { IfOk result (λ text. text.items ≡ refusal_text refusal) }
+{
+    match refusal {
+        Refusal::Text(e) => fault_text_of(alloc, "text", e.number(), "at", e.place()),
+        Refusal::Syntax(e) => fault_text_of(alloc, "syntax", e.number(), "at", e.place()),
+        Refusal::Region(e) => fault_text_of(alloc, "region", e.number(), "line", e.line()),
+        Refusal::TooManyCapsules => fault_text_of(alloc, "cut", 2, "at", 0),
+    }
+}
+
+/// The line of a fault: its kind and number, and where it is.
+fn fault_text_of(
+    alloc: Global,
+    kind: &str,
+    number: u32,
+    mark: &str,
+    place: u32,
+) -> Result<Vec<u8>, AllocError>
+    ensures { IfOk result (λ text. text.items ≡ fault_text kind.now number mark.now place) }
+{
+    let told = format!(in alloc; "source refused: {kind} {number} {mark} {place}\n")?;
+    Ok(told.into_bytes())
 }
 
 /// Appends the arrays, a line each.

@@ -7,6 +7,7 @@ ghost use Rattle.ppm_top.specs.Rows.{WritesArrays, WritesTrap, RefusesSource, Re
 
 use crate::answer::Answer;
 use crate::deliver::deliver;
+use crate::laws::have_one_refusal;
 use crate::run::run_answer;
 use crate::status::Status;
 use ppm_line::{Command, read_words};
@@ -60,6 +61,7 @@ pub fn ppm<R, S: Source, K: Sink, E: Sink, W: Watch>(
 
     ensures watch { KeepsWatchers W.told watch.old.items watch.new.items }
 {
+    have_one_refusal();
     let _ = rt;
     let _ = &watch;
     answered(alloc, words, source, out, err)

@@ -9,7 +9,7 @@ pub returns-clause-trapped : goal.returns-clause-trapped
 returns-clause-trapped g c e = rows.trapped _ _ _ _ _ c.answered.ensures e
 
 pub returns-clause-source_refused : goal.returns-clause-source_refused
-returns-clause-source_refused g c = rows.refuses_source _ _ _ _ _ c.answered.ensures
+returns-clause-source_refused g c = rows.refuses_source c.have_one_refusal.ensures.law _ _ _ _ _ c.answered.ensures
 
 pub returns-clause-words_refused : goal.returns-clause-words_refused
 returns-clause-words_refused g c = rows.refuses_words _ _ _ _ _ c.answered.ensures
