@@ -1,8 +1,7 @@
 -- Parameters: their reading, the verdict that passes over them, and where they stop.
 use Rattle.std.proofs.Common.{◌≡◌, ℕ, suc, ◌+◌, ◌≤◌, List, [], ◌∷◌, ◌++◌, length, refl, sym, ◌∙◌, arith, append_assoc, length-append}
-use Rattle.std.specs.Prelude.{Some, None}
+use Rattle.std.specs.Prelude.{None}
 use Rattle.std.proofs.lemmas.List.{append-nil}
-use Rattle.ppm_text.specs.declared.token.Keyword.{Keyword}
 use Rattle.ppm_text.specs.declared.token.Sign.TheVariants as sign
 use Rattle.ppm_text.specs.declared.token.Kind.{Kind}
 use Rattle.ppm_text.specs.declared.token.Kind.TheVariants as kind
@@ -18,7 +17,7 @@ use Rattle.ppm_syntax.specs.Stack.{Symbol, Tally, state_at, openings, passed, wi
 use Rattle.ppm_syntax.specs.Stack as stack
 use Rattle.ppm_syntax.specs.Verdict.{verdict}
 use Rattle.ppm_syntax.proofs.PassingExpression.{by_step}
-use Rattle.ppm_syntax.proofs.MissingLemmas.{missing, missing_both, no_parameter, no_further}
+use Rattle.ppm_syntax.proofs.MissingLemmas.{missing, no_parameter}
 use Rattle.ppm_syntax.proofs.TallyLemmas.{with_parameters, few_parameters}
 
 -- how it is taken, then its name

@@ -1,6 +1,6 @@
 -- Statements: their reading, the verdict that passes over them, and where they stop.
-use Rattle.std.proofs.Common.{◌≡◌, ℕ, suc, ◌+◌, ◌-◌, ◌≤◌, ◌<◌, List, [], ◌∷◌, ◌++◌, length, map, refl, sym, ◌∙◌, subst, arith, append_assoc}
-use Rattle.std.specs.Prelude.{Some, None}
+use Rattle.std.proofs.Common.{◌≡◌, ℕ, suc, ◌+◌, ◌≤◌, ◌<◌, List, [], ◌∷◌, ◌++◌, length, map, refl, ◌∙◌, arith, append_assoc}
+use Rattle.std.specs.Prelude.{None}
 use Rattle.std.specs.List.{All}
 use Rattle.std.proofs.lemmas.List.{append-nil, map-append}
 use Rattle.std.proofs.lemmas.List.Elements.{All-head, All-tail}
@@ -19,7 +19,7 @@ use Rattle.ppm_syntax.specs.Stack.{Symbol, Tally, state_at, openings, passed, wi
 use Rattle.ppm_syntax.specs.Stack as stack
 use Rattle.ppm_syntax.specs.Verdict.{verdict}
 use Rattle.ppm_syntax.proofs.PassingExpression.{with_nodes, few_nodes, by_step, expression_passes}
-use Rattle.ppm_syntax.proofs.MissingLemmas.{missing, missing_both, no_assign, no_body}
+use Rattle.ppm_syntax.proofs.MissingLemmas.{missing, no_assign, no_body}
 use Rattle.ppm_syntax.proofs.GrammarLemmas.{statement_shorter}
 use Rattle.ppm_syntax.proofs.Unique.{ends_at_close, ends_at_semicolon}
 
