@@ -1,6 +1,6 @@
 -- The declaration of an array and a procedure: the verdict that passes over them, and where they stop.
 use Rattle.std.proofs.Common.{◌≡◌, ℕ, suc, ◌+◌, ◌≤◌, List, [], ◌∷◌, length, refl, ◌∙◌, arith}
-use Rattle.std.specs.Prelude.{Some, None}
+use Rattle.std.specs.Prelude.{None}
 use Rattle.std.specs.List.{All}
 use Rattle.ppm_text.specs.declared.token.Keyword.TheVariants as word
 use Rattle.ppm_text.specs.declared.token.Sign.TheVariants as sign
@@ -15,15 +15,10 @@ use Rattle.ppm_syntax.specs.Stack.{Symbol, Tally, state_at, openings, passed, wi
 use Rattle.ppm_syntax.specs.Stack as stack
 use Rattle.ppm_syntax.specs.Verdict.{verdict}
 use Rattle.ppm_syntax.proofs.PassingExpression.{with_nodes, by_step}
-use Rattle.ppm_syntax.proofs.Stopping.{missing, no_semicolon}
-use Rattle.ppm_syntax.proofs.TallyLemmas.{Few, few_of, none_passed}
-use Rattle.ppm_syntax.proofs.ParameterLemmas.{with_parameters, few_parameters, parameters_pass}
+use Rattle.ppm_syntax.proofs.MissingLemmas.{missing, no_semicolon}
+use Rattle.ppm_syntax.proofs.TallyLemmas.{with_parameters, few_parameters, few_words, few_arrays, few_procedures}
+use Rattle.ppm_syntax.proofs.ParameterLemmas.{parameters_pass}
 use Rattle.ppm_syntax.proofs.StatementLemmas.{block_passes}
-
-pub few_words : (c : Tally) (z : ℕ) → passed c ≡ None → c.words + z ≤ word_limit → passed (with_count (stack.SomeWords z) c) ≡ None
-few_words c z h few =
-    let f = few_of c h in
-    none_passed (with_count (stack.SomeWords z) c) (record { arrays = f.arrays; words = few; procedures = f.procedures; parameters = f.parameters; nodes = f.nodes })
 
 -- the name of an array and its length in brackets are passed over, and the words counted
 pub length_passes : (n o l q : Token) (x : List ℕ) (z : ℕ) (ts : List Token) (st : List Symbol) (c : Tally) → IsName n x → IsSign o sign.OpenBracket →
@@ -45,9 +40,9 @@ pub array_unended : (words z : ℕ) (x : List ℕ) (line place place' place2 : �
 array_unended words z x line place place' place2 ts behind inside end closed e few n o l q m = record {
   tells = λ st c low none left.
       let pass = length_passes n.token o.token l.token q.token x z closed st c n.has.0 o.has.0 l.has.0 q.has.0 (omega (arith, low)) none
-          (omega (arith, few, left)) in
+      (omega (arith, few, left)) in
       rw (n.shape, o.shape, l.shape, q.shape, pass) (missing _ (stack.Semicolon ∷ st) (with_count (stack.SomeWords z) c) closed e m refl
-          (λ t h. no_semicolon t.kind (stack.On stack.Nothing st) h));
+      (λ t h. no_semicolon t.kind (stack.On stack.Nothing st) h));
 }
 
 -- the name of a procedure and the parenthesis behind it are passed over
@@ -112,16 +107,6 @@ module _ (x : List ℕ) (line place : ℕ) (ts behind inside : List Token) (name
       body = body.reads.derived;
       small = record { parameters = few; body = body.small };
     }
-
-pub few_arrays : (c : Tally) → passed c ≡ None → suc c.arrays ≤ array_limit → passed (with_count stack.AnArray c) ≡ None
-few_arrays c h few =
-    let f = few_of c h in
-    none_passed (with_count stack.AnArray c) (record { arrays = few; words = f.words; procedures = f.procedures; parameters = f.parameters; nodes = f.nodes })
-
-pub few_procedures : (c : Tally) → passed c ≡ None → suc c.procedures ≤ procedure_limit → passed (with_count stack.AProcedure c) ≡ None
-few_procedures c h few =
-    let f = few_of c h in
-    none_passed (with_count stack.AProcedure c) (record { arrays = f.arrays; words = f.words; procedures = few; parameters = omega arith; nodes = f.nodes })
 
 -- the declaration of an array is passed over, and it is counted
 pub array_passes : (w n o l q s : Token) (x : List ℕ) (z : ℕ) (ts : List Token) (c : Tally) → IsKeyword w word.Array → IsName n x →

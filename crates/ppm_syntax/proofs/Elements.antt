@@ -1,5 +1,5 @@
 -- Elements of a list and of its images.
-use Rattle.std.proofs.Common.{◌≡◌, ℕ, zero, suc, ◌<◌, List, [], ◌∷◌, length, map, slice_index_or, refl, ap, subst, arith}
+use Rattle.std.proofs.Common.{◌≡◌, ℕ, zero, suc, ◌<◌, List, [], ◌∷◌, ◌++◌, length, map, slice_index_or, refl, ap, subst, arith}
 use Rattle.std.specs.List.{All, Contains, AllByRecursion}
 use Rattle.std.proofs.lemmas.List.Elements.{All-cons, All-nil}
 
@@ -21,7 +21,7 @@ pub contains_tail : {A : Type 0} (y x : A) (xs : List A) → Contains xs x → C
 contains_tail y x xs c = (suc c.0, (omega arith), c.2)
 
 -- an element of a list with a head is the head or in the tail
-contains_cases : {A : Type 0} (M : Type 0) (y x : A) (xs : List A) → (y ≡ x → M) → (Contains xs x → M) → Contains (y ∷ xs) x → M
+pub contains_cases : {A : Type 0} (M : Type 0) (y x : A) (xs : List A) → (y ≡ x → M) → (Contains xs x → M) → Contains (y ∷ xs) x → M
 contains_cases M y x xs first later c = go c.0 c.1 c.2
   where
     go : (k : ℕ) → k < length (y ∷ xs) → slice_index_or (y ∷ xs) k x ≡ x → M
@@ -51,3 +51,15 @@ all_pass P x (y ∷ xs) h c = contains_cases (P x) y x xs (λ e. subst P e h.0) 
 pub pass_all : {A : Type 0} (P : A → Type 0) (xs : List A) → ((x : A) → Contains xs x → P x) → AllByRecursion P xs
 pass_all P [] h = tt
 pass_all P (x ∷ xs) h = (h x (contains_head x xs), pass_all P xs (λ y c. h y (contains_tail x y xs c)))
+
+-- an element stands somewhere in the list
+pub contains_split : {A : Type 0} (x : A) (xs : List A) → Contains xs x → (front : List A) × ((more : List A) × (xs ≡ front ++ (x ∷ more)))
+contains_split x [] c = absurd (omega arith)
+contains_split {A} x (y ∷ xs) c =
+    contains_cases ((front : List A) × ((more : List A) × (y ∷ xs ≡ front ++ (x ∷ more)))) y x xs
+    (λ e. ([], (xs, ap (λ z. z ∷ xs) e)))
+    (λ d. let w = contains_split x xs d in (y ∷ w.0, (w.1.0, ap (λ zs. y ∷ zs) w.1.1))) c
+
+pub contains_middle : {A : Type 0} (front : List A) (x : A) (more : List A) → Contains (front ++ (x ∷ more)) x
+contains_middle [] x more = contains_head x more
+contains_middle (y ∷ front) x more = contains_tail y x (front ++ (x ∷ more)) (contains_middle front x more)

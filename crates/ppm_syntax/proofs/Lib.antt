@@ -1,5 +1,9 @@
 pub mod Elements
 pub mod RulesLemmas
+pub mod DecidingLemmas
+pub mod FindingLemmas
+pub mod RegionFaultsLemmas
+pub mod AdmittingLemmas
 pub mod OpeningLemmas
 pub mod MeaningLemmas
 pub mod Unique
@@ -18,7 +22,7 @@ pub mod Viable
 pub mod FaultLemmas
 pub mod FaultSentences
 pub mod OneAnswer
-pub mod Stopping
+pub mod MissingLemmas
 pub mod TallyLemmas
 pub mod ParameterLemmas
 pub mod DeclarationLemmas

@@ -1,8 +1,7 @@
 -- Parameters: their reading, the verdict that passes over them, and where they stop.
 use Rattle.std.proofs.Common.{◌≡◌, ℕ, suc, ◌+◌, ◌≤◌, List, [], ◌∷◌, ◌++◌, length, refl, sym, ◌∙◌, arith, append_assoc, length-append}
-use Rattle.std.specs.Prelude.{Some, None}
+use Rattle.std.specs.Prelude.{None}
 use Rattle.std.proofs.lemmas.List.{append-nil}
-use Rattle.ppm_text.specs.declared.token.Keyword.{Keyword}
 use Rattle.ppm_text.specs.declared.token.Sign.TheVariants as sign
 use Rattle.ppm_text.specs.declared.token.Kind.{Kind}
 use Rattle.ppm_text.specs.declared.token.Kind.TheVariants as kind
@@ -18,17 +17,8 @@ use Rattle.ppm_syntax.specs.Stack.{Symbol, Tally, state_at, openings, passed, wi
 use Rattle.ppm_syntax.specs.Stack as stack
 use Rattle.ppm_syntax.specs.Verdict.{verdict}
 use Rattle.ppm_syntax.proofs.PassingExpression.{by_step}
-use Rattle.ppm_syntax.proofs.Stopping.{missing, missing_both, no_name, no_parameter, no_further}
-use Rattle.ppm_syntax.proofs.TallyLemmas.{Few, few_of, none_passed, many_parameters}
-
--- the tally with so many parameters
-abbrev pub with_parameters : ℕ → Tally → Tally
-with_parameters n c = record { arrays = c.arrays; words = c.words; procedures = c.procedures; parameters = n; nodes = c.nodes }
-
-pub few_parameters : (c : Tally) (n : ℕ) → passed c ≡ None → n ≤ parameter_limit → passed (with_parameters n c) ≡ None
-few_parameters c n h few =
-    let f = few_of c h in
-    none_passed (with_parameters n c) (record { arrays = f.arrays; words = f.words; procedures = f.procedures; parameters = few; nodes = f.nodes })
+use Rattle.ppm_syntax.proofs.MissingLemmas.{missing, no_parameter}
+use Rattle.ppm_syntax.proofs.TallyLemmas.{with_parameters, few_parameters}
 
 -- how it is taken, then its name
 mode_passes : (m : Token) (how : Mode) (ts : List Token) (st : List Symbol) (c : Tally) → IsMode m how → suc (openings st) ≤ depth_limit → passed c ≡ None →
@@ -166,15 +156,6 @@ module _ (ts : List Token) where
             leads.passes st c low none zero ∙ rw comma.shape (comma_passes comma.token behind st d comma.has.0 low within)
             ∙ parameter_passes r st d low within few ∙ rw count refl;
       }
-
-    -- without a comma the list is not closed
-    pub end_stops : (depth : ℕ) (e e' : Stop) → length all ≤ parameter_limit → Misses (λ t. IsSign t sign.Comma) rest e' →
-        Misses (λ t. IsSign t sign.CloseParen) rest e → Fails depth (HasParameters 0) (stack.FirstParameter ∷ []) ts e
-    end_stops depth e e' few no_comma no_close = record {
-      tells = λ st c low none zero.
-          rw (leads.passes st c (omega (arith, low)) none zero) (missing_both _ _ (stack.FurtherParameters ∷ st) (with_parameters (length all) c) rest e e'
-          no_comma no_close refl (λ t close comma. no_further t.kind st comma close));
-    }
 
     -- where it is closed, these are the parameters
     pub parameters_read : (end : List Token) (place : ℕ) → InFront (λ t. IsSign t sign.CloseParen × (t.place ≡ place)) rest end → ReadsParameters ts all end

@@ -1,6 +1,6 @@
 -- What a source within the limits reads is passed over, up to its end.
-use Rattle.std.proofs.Common.{◌≡◌, ℕ, suc, ◌+◌, ◌≤◌, List, [], ◌∷◌, length, refl, ◌∙◌, arith}
-use Rattle.std.specs.Prelude.{Some, None}
+use Rattle.std.proofs.Common.{◌≡◌, ℕ, suc, ◌+◌, ◌≤◌, List, [], length, refl, ◌∙◌, arith}
+use Rattle.std.specs.Prelude.{None}
 use Rattle.std.specs.List.{All}
 use Rattle.std.proofs.lemmas.List.Elements.{All-head, All-tail}
 use Rattle.ppm_text.specs.declared.token.Token.{Token}
@@ -13,7 +13,8 @@ use Rattle.ppm_syntax.specs.Faults.{HaveOneAnswer}
 use Rattle.ppm_syntax.specs.Stack.{Tally, state_at, passed, with_count, beginning}
 use Rattle.ppm_syntax.specs.Stack as stack
 use Rattle.ppm_syntax.specs.Verdict.{Whole, verdict}
-use Rattle.ppm_syntax.proofs.DeclarationLemmas.{few_words, few_arrays, array_passes, procedure_passes, with_procedure}
+use Rattle.ppm_syntax.proofs.TallyLemmas.{few_words, few_arrays}
+use Rattle.ppm_syntax.proofs.DeclarationLemmas.{array_passes, procedure_passes, with_procedure}
 use Rattle.ppm_syntax.proofs.OneAnswer.{one_answer}
 
 -- a source behind what was counted, with which it is within the limits

@@ -1,6 +1,6 @@
 -- Statements: their reading, the verdict that passes over them, and where they stop.
-use Rattle.std.proofs.Common.{◌≡◌, ℕ, suc, ◌+◌, ◌-◌, ◌≤◌, ◌<◌, List, [], ◌∷◌, ◌++◌, length, map, refl, sym, ◌∙◌, subst, arith, append_assoc}
-use Rattle.std.specs.Prelude.{Some, None}
+use Rattle.std.proofs.Common.{◌≡◌, ℕ, suc, ◌+◌, ◌≤◌, ◌<◌, List, [], ◌∷◌, ◌++◌, length, map, refl, ◌∙◌, arith, append_assoc}
+use Rattle.std.specs.Prelude.{None}
 use Rattle.std.specs.List.{All}
 use Rattle.std.proofs.lemmas.List.{append-nil, map-append}
 use Rattle.std.proofs.lemmas.List.Elements.{All-head, All-tail}
@@ -19,7 +19,7 @@ use Rattle.ppm_syntax.specs.Stack.{Symbol, Tally, state_at, openings, passed, wi
 use Rattle.ppm_syntax.specs.Stack as stack
 use Rattle.ppm_syntax.specs.Verdict.{verdict}
 use Rattle.ppm_syntax.proofs.PassingExpression.{with_nodes, few_nodes, by_step, expression_passes}
-use Rattle.ppm_syntax.proofs.Stopping.{missing, missing_both, no_assign, no_body}
+use Rattle.ppm_syntax.proofs.MissingLemmas.{missing, no_assign, no_body}
 use Rattle.ppm_syntax.proofs.GrammarLemmas.{statement_shorter}
 use Rattle.ppm_syntax.proofs.Unique.{ends_at_close, ends_at_semicolon}
 
@@ -97,7 +97,7 @@ module _ (depth inner nodes place : ℕ) (ts inside : List Token) (deep : depth 
   index_stops e f = record {
     tells = λ st c low none left.
         let step = by_step opened.token inside (stack.Target ∷ st) (stack.Operand top ∷ stack.EndTarget ∷ st) c stack.Nothing (rw opened.has.0 refl)
-            (omega (arith, low)) none in
+        (omega (arith, low)) none in
         rw (opened.shape, step) ((f.fails stack.EndTarget parsing.of_target).tells st c (omega (arith, low)) none (omega (arith, left)));
   }
 
@@ -124,7 +124,7 @@ module _ (depth inner nodes place : ℕ) (ts inside : List Token) (deep : depth 
         tells = λ st c low none empty.
             let within = few_nodes c (nodes_of i) none (omega (arith, index.nodes, all)) in
             let step = by_step equals.token behind (stack.Value ∷ st) (stack.Operand top ∷ stack.Semicolon ∷ st) (with_nodes (nodes_of i) c) stack.Nothing
-                (rw equals.has.0 refl) (omega (arith, low)) within in
+            (rw equals.has.0 refl) (omega (arith, low)) within in
             rw (index_passes st c low none empty, equals.shape, step) ((f.fails stack.Semicolon parsing.of_statement).tells st (with_nodes (nodes_of i) c) low
             within (omega (arith, index.nodes, all)));
       }
@@ -199,10 +199,6 @@ module _ (depth inner place : ℕ) (ts inside : List Token) (deep : depth ≡ su
       verdict (state_at (stack.Body ∷ st) c) ts ≡ verdict (state_at (stack.InBody ∷ st) c) inside
   brace_passes st c low none =
       rw opened.shape (by_step opened.token inside (stack.Body ∷ st) (stack.InBody ∷ st) c stack.Nothing (rw opened.has.0 refl) (omega (arith, low, deep)) none)
-
-  -- the statements stop
-  pub statements_stop : (e : Stop) → Fails inner Anything (stack.InBody ∷ []) inside e → Fails depth Anything (stack.Body ∷ []) ts e
-  statements_stop e f = record { tells = λ st c low none any. rw (brace_passes st c low none) (f.tells st c (omega (arith, low, deep)) none tt) }
 
   module _ (b : List Statement) (end : List Token) (read : ReadsStatements inner Statements inside b end) where
     -- neither a statement follows, nor the brace that closes them

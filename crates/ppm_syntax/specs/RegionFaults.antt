@@ -7,6 +7,8 @@ use Rattle.ppm_syntax.specs.declared.tree.Array.{Array}
 use Rattle.ppm_syntax.specs.declared.region_error.RegionError.{RegionError}
 use Rattle.ppm_syntax.specs.declared.region_error.RegionError.TheVariants as error
 use Rattle.ppm_syntax.specs.Tree.{Expression, Statement, Procedure, SourceTree}
+use Rattle.ppm_syntax.specs.Limits.{IsWithin}
+use Rattle.ppm_syntax.specs.Rules.{IsAdmitted}
 use Rattle.ppm_syntax.specs.Tree as tree
 
 -- the expression names the region in this line
@@ -105,3 +107,13 @@ IsFault t error.NoMemory = ⊥
 abbrev pub HasFault : SourceTree → RegionError → Type 0
 HasFault t error.NoMemory = Unit {0}
 HasFault t e = IsFault t e
+
+-- A tree has at most one fault, and none where it keeps the rules; within the limits it keeps them where it has none.
+pub record HasOneRegionFault (t : SourceTree) : Type 0 where
+  pub fault : (e f : RegionError) → IsFault t e → IsFault t f → e ≡ f
+  pub admitted : IsAdmitted t → (e : RegionError) → IsFault t e → ⊥
+  pub none : IsWithin t → ((e : RegionError) → IsFault t e → ⊥) → IsAdmitted t
+
+-- so it is with all trees
+abbrev pub HaveOneRegionFault : Type 0
+HaveOneRegionFault = (t : SourceTree) → HasOneRegionFault t

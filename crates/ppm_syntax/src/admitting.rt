@@ -2,12 +2,33 @@
 ghost use Rattle.std.specs.Prelude.{◌≡◌, IfOk, IfErr};
 ghost use Rattle.ppm_syntax.specs.Tree.{tree_of};
 ghost use Rattle.ppm_syntax.specs.RegionFaults.{HasFault};
+ghost use Rattle.ppm_syntax.specs.Deciding.{IsFirstFault};
 
 use crate::opening::opening_input;
 use crate::region_error::RegionError;
-use crate::rules::is_admitted;
+use crate::rules::{bad_main, twice_named, unknown_name, write_to_ref};
 use crate::source::{Admitted, Source};
+use crate::tree::Tree;
 use std::alloc::Global;
+
+/// The fault of the least number, at its first line, if there is one.
+fn fault(tree: &Tree) -> Option<RegionError>
+    ensures { IsFirstFault (tree_of tree.now) result }
+{
+    if let Some(line) = unknown_name(tree) {
+        return Some(RegionError::UnknownName(line));
+    }
+    if let Some(line) = twice_named(tree) {
+        return Some(RegionError::TwiceNamed(line));
+    }
+    if let Some(line) = write_to_ref(tree) {
+        return Some(RegionError::WriteToRef(line));
+    }
+    if let Some(line) = bad_main(tree) {
+        return Some(RegionError::BadMain(line));
+    }
+    None
+}
 
 /// The source with the arrays that it starts with, where it keeps the rules of names and regions; else the fault of the
 /// least number, and of these the first in the text.
@@ -15,9 +36,12 @@ pub fn admit(alloc: Global, source: Source) -> Result<Admitted, RegionError>
     ensures admitted { IfOk result (λ a. a ≡ source) }
     ensures refused { IfErr result (HasFault (tree_of source)) }
 {
-    if !is_admitted(source.tree()) {
-        return Err(RegionError::BadMain(0));
+    if let Some(error) = fault(source.tree()) {
+        return Err(error);
     }
     let input = opening_input(alloc, &source)?;
     Ok(Admitted::from_parts(source, input))
 }
+
+#[cfg(test)]
+mod tests;

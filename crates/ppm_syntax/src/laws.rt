@@ -2,6 +2,7 @@
 ghost use Rattle.ppm_syntax.specs.Correct.{HaveOneTree};
 ghost use Rattle.ppm_syntax.specs.Faults.{HaveOneAnswer};
 ghost use Rattle.ppm_syntax.specs.Meaning.{MoreTurnsKeep};
+ghost use Rattle.ppm_syntax.specs.RegionFaults.{HaveOneRegionFault};
 
 /// By the grammar a text has at most one tree.
 pub fn have_one_tree()
@@ -16,4 +17,10 @@ pub fn more_turns_keep()
 /// Tokens have at most one fault, and none where they have a tree within the limits.
 pub fn have_one_answer()
     ensures law { HaveOneAnswer }
+{}
+
+/// A tree has at most one fault of names and regions, and none where it keeps the rules; within the limits it keeps them
+/// where it has none.
+pub fn have_one_region_fault()
+    ensures law { HaveOneRegionFault }
 {}

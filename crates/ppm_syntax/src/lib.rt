@@ -11,6 +11,7 @@ mod expression;
 mod front;
 mod laws;
 mod limit;
+mod line;
 mod named;
 mod opening;
 mod parameter;
@@ -25,7 +26,7 @@ mod syntax_error;
 mod tree;
 
 pub use admitting::admit;
-pub use laws::{have_one_answer, have_one_tree, more_turns_keep};
+pub use laws::{have_one_answer, have_one_region_fault, have_one_tree, more_turns_keep};
 pub use limit::Limit;
 pub use parsing::parse;
 pub use region_error::RegionError;

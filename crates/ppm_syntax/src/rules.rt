@@ -1,74 +1,145 @@
-//! The rules of names and regions.
+//! The rules of names and regions: the first line at which each is broken.
 ghost use Rattle.std.specs.Prelude.{◌≡◌, ◌↔◌, IsTrue, map};
-ghost use Rattle.std.specs.List.{All};
 ghost use Rattle.ppm_syntax.specs.Tree.{expression_of, statement_of, procedure_of, tree_of};
-ghost use Rattle.ppm_syntax.specs.Rules.{Declares, IsRegion, IsWritable, ReadsRegions, KeepsRules, IsLawful, IsMain, IsAdmitted};
-ghost use Rattle.ppm_syntax.specs.Deciding.{HasOne, IsMainParam};
+ghost use Rattle.ppm_syntax.specs.Rules.{Declares};
+ghost use Rattle.ppm_syntax.specs.RegionFaults.{IsUnknownName, IsTwiceNamed, IsWriteToRef, IsBadMain};
+ghost use Rattle.ppm_syntax.specs.Deciding.{IsLeastLine, HasOne, HasOneAt, IsUnknown, ReadsUnknown, UsesUnknown, IsOnlyRead, WritesRef, HasParameterTwice, IsNamedMain, IsMainParam, IsBad, HasBad};
 
-use crate::named::{are_distinct, has_name};
+use crate::line::earlier;
+use crate::named::{has_name, repeated};
 use crate::tree::{Array, Expr, Mode, Param, Proc, Stmt, Tree};
 use ppm_words::Name;
 
-/// Whether the name is a region in force.
-fn is_region(params: &[Param], name: &Name) -> bool
-    ensures { IsTrue result ↔ Declares params.now IsRegion name.now }
+/// The line of a name, if no parameter has it.
+fn unknown_at(params: &[Param], name: &Name, line: u32) -> Option<u32>
+    ensures { IsLeastLine (IsUnknown params.now name.now line) result }
 {
-    params
-        .iter()
-        .any(|param| param.mode != Mode::Int && param.name.is(name))
+    if has_name(params, name) {
+        return None;
+    }
+    Some(line)
 }
 
-/// Whether the name is a region in force that may be written.
-fn is_writable(params: &[Param], name: &Name) -> bool
-    ensures { IsTrue result ↔ Declares params.now IsWritable name.now }
-{
-    params
-        .iter()
-        .any(|param| param.mode == Mode::Mut && param.name.is(name))
-}
-
-/// Whether each name before a `[` is a region in force.
-fn reads_regions(params: &[Param], expression: &Expr) -> bool
-    ensures { IsTrue result ↔ ReadsRegions params.now (expression_of expression.now) }
+/// The first line at which an expression has a name that no parameter has.
+fn unknown_in(params: &[Param], expression: &Expr) -> Option<u32>
+    ensures { IsLeastLine (ReadsUnknown params.now (expression_of expression.now)) result }
 {
     match expression {
-        Expr::Number(_) => true,
-        Expr::Element(name, _, index) => is_region(params, name) && reads_regions(params, index),
-        Expr::Binary(_, _, left, right) => reads_regions(params, left)
-            && reads_regions(params, right),
+        Expr::Number(_) => None,
+        Expr::Element(name, line, index) => earlier(
+            unknown_at(params, name, *line),
+            unknown_in(params, index),
+        ),
+        Expr::Binary(_, _, left, right) => earlier(
+            unknown_in(params, left),
+            unknown_in(params, right),
+        ),
     }
 }
 
-/// Whether a statement writes a region that may be written, and reads regions.
-fn keeps_rules(params: &[Param], statement: &Stmt) -> bool
-    ensures { IsTrue result ↔ KeepsRules params.now (statement_of statement.now) }
+/// The first line at which a statement has a name that no parameter has.
+fn unknown_of(params: &[Param], statement: &Stmt) -> Option<u32>
+    ensures { IsLeastLine (UsesUnknown params.now (statement_of statement.now)) result }
 {
     match statement {
-        Stmt::Put(name, _, index, value) => {
-            is_writable(params, name)
-                && reads_regions(params, index)
-                && reads_regions(params, value)
+        Stmt::Put(name, line, index, value) => earlier(
+            unknown_at(params, name, *line),
+            earlier(unknown_in(params, index), unknown_in(params, value)),
+        ),
+    }
+}
+
+/// The first line at which a body has a name that no parameter has.
+fn unknown_in_body(params: &[Param], body: &[Stmt]) -> Option<u32>
+    ensures { IsLeastLine (HasOneAt (UsesUnknown params.now) (map statement_of body.now)) result }
+{
+    let mut found = None;
+    for statement in body {
+        found = earlier(found, unknown_of(params, statement));
+    }
+    found
+}
+
+/// The first line of a name with no parameter of that name.
+pub fn unknown_name(tree: &Tree) -> Option<u32>
+    ensures { IsLeastLine (IsUnknownName (tree_of tree.now)) result }
+{
+    let mut found = None;
+    for proc in tree.procs.as_slice() {
+        found = earlier(
+            found,
+            unknown_in_body(proc.params.as_slice(), proc.body.as_slice()),
+        );
+    }
+    found
+}
+
+/// The first line of a second parameter of a procedure with one name.
+fn parameter_twice(procs: &[Proc]) -> Option<u32>
+    ensures { IsLeastLine (HasOneAt HasParameterTwice (map procedure_of procs.now)) result }
+{
+    let mut found = None;
+    for proc in procs {
+        found = earlier(found, repeated(proc.params.as_slice()));
+    }
+    found
+}
+
+/// The first line of a second array, procedure or parameter with one name.
+pub fn twice_named(tree: &Tree) -> Option<u32>
+    ensures { IsLeastLine (IsTwiceNamed (tree_of tree.now)) result }
+{
+    let procs = tree.procs.as_slice();
+    let inside = earlier(repeated(procs), parameter_twice(procs));
+    earlier(repeated(tree.arrays.as_slice()), inside)
+}
+
+/// Whether a parameter that may only be read has the name.
+fn is_only_read(params: &[Param], name: &Name) -> bool
+    ensures { IsTrue result ↔ Declares params.now IsOnlyRead name.now }
+{
+    params
+        .iter()
+        .any(|param| param.mode == Mode::Ref && param.name.is(name))
+}
+
+/// The line of a statement that writes a parameter that may only be read.
+fn write_to_ref_of(params: &[Param], statement: &Stmt) -> Option<u32>
+    ensures { IsLeastLine (WritesRef params.now (statement_of statement.now)) result }
+{
+    match statement {
+        Stmt::Put(name, line, _, _) => {
+            if is_only_read(params, name) {
+                return Some(*line);
+            }
+            None
         }
     }
 }
 
-/// Whether all statements keep the rules.
-fn all_keep_rules(params: &[Param], body: &[Stmt]) -> bool
-    ensures { IsTrue result ↔ All (λ s. KeepsRules params.now (statement_of s)) body.now }
+/// The first line at which a body writes a parameter that may only be read.
+fn write_to_ref_in(params: &[Param], body: &[Stmt]) -> Option<u32>
+    ensures { IsLeastLine (HasOneAt (WritesRef params.now) (map statement_of body.now)) result }
 {
-    body.iter().all(|statement| keeps_rules(params, statement))
+    let mut found = None;
+    for statement in body {
+        found = earlier(found, write_to_ref_of(params, statement));
+    }
+    found
 }
 
-/// Whether a procedure names no two parameters alike, and its statements keep the rules.
-fn is_lawful(proc: &Proc) -> bool
-    ensures { IsTrue result ↔ IsLawful (procedure_of proc.now) }
+/// The first line at which a statement writes a region that may only be read.
+pub fn write_to_ref(tree: &Tree) -> Option<u32>
+    ensures { IsLeastLine (IsWriteToRef (tree_of tree.now)) result }
 {
-    let params = proc.params.as_slice();
-    let body = proc.body.as_slice();
-    if !are_distinct(params) {
-        return false;
+    let mut found = None;
+    for proc in tree.procs.as_slice() {
+        found = earlier(
+            found,
+            write_to_ref_in(proc.params.as_slice(), proc.body.as_slice()),
+        );
     }
-    all_keep_rules(params, body)
+    found
 }
 
 /// Whether a parameter of `main` is a region with the name of an array.
@@ -78,52 +149,69 @@ fn is_main_param(arrays: &[Array], param: &Param) -> bool
     param.mode != Mode::Int && has_name(arrays, &param.name)
 }
 
-/// Whether the parameters of `main` are regions with the names of arrays.
-fn are_main_params(arrays: &[Array], params: &[Param]) -> bool
-    ensures { IsTrue result ↔ All (IsMainParam arrays.now) params.now }
+/// The line of a parameter of `main`, if it is a number, or has the name of no array.
+fn bad_of(arrays: &[Array], param: &Param) -> Option<u32>
+    ensures { IsLeastLine (IsBad arrays.now param.now) result }
 {
-    params.iter().all(|param| is_main_param(arrays, param))
+    if is_main_param(arrays, param) {
+        return None;
+    }
+    Some(param.line)
 }
 
-/// Whether a procedure is `main`, and each of its parameters is a region with the name of an array.
-fn is_main(arrays: &[Array], proc: &Proc) -> bool
-    ensures { IsTrue result ↔ IsMain arrays.now (procedure_of proc.now) }
+/// The first line of a parameter of `main` that is a number, or has the name of no array.
+fn bad_in(arrays: &[Array], params: &[Param]) -> Option<u32>
+    ensures { IsLeastLine (HasOneAt (IsBad arrays.now) params.now) result }
 {
-    if proc.name.as_bytes() != b"main".as_slice() {
-        return false;
+    let mut found = None;
+    for param in params {
+        found = earlier(found, bad_of(arrays, param));
     }
-    let params = proc.params.as_slice();
-    are_main_params(arrays, params)
+    found
+}
+
+/// Whether a procedure is `main`.
+fn is_main(proc: &Proc) -> bool
+    ensures { IsTrue result ↔ IsNamedMain proc.now }
+{
+    proc.name.as_bytes() == b"main".as_slice()
 }
 
 /// Whether some procedure is `main`.
-fn has_main(arrays: &[Array], procs: &[Proc]) -> bool
-    ensures { IsTrue result ↔ HasOne (λ p. IsMain arrays.now (procedure_of p)) procs.now }
+fn has_main(procs: &[Proc]) -> bool
+    ensures { IsTrue result ↔ HasOne IsNamedMain procs.now }
 {
-    procs.iter().any(|proc| is_main(arrays, proc))
+    procs.iter().any(is_main)
 }
 
-/// Whether all procedures are lawful.
-fn are_lawful(procs: &[Proc]) -> bool
-    ensures { IsTrue result ↔ All (λ p. IsLawful (procedure_of p)) procs.now }
+/// The first line of a bad parameter of the procedure, if that is `main`.
+fn bad_of_main(arrays: &[Array], proc: &Proc) -> Option<u32>
+    ensures { IsLeastLine (HasBad arrays.now (procedure_of proc.now)) result }
 {
-    procs.iter().all(is_lawful)
+    if !is_main(proc) {
+        return None;
+    }
+    bad_in(arrays, proc.params.as_slice())
 }
 
-/// Whether a tree keeps the rules of names and regions.
-pub fn is_admitted(tree: &Tree) -> bool
-    ensures { IsTrue result ↔ IsAdmitted (tree_of tree.now) }
+/// The first line of a bad parameter of `main`.
+fn bad_parameter(arrays: &[Array], procs: &[Proc]) -> Option<u32>
+    ensures { IsLeastLine (HasOneAt (HasBad arrays.now) (map procedure_of procs.now)) result }
 {
-    let arrays = tree.arrays.as_slice();
+    let mut found = None;
+    for proc in procs {
+        found = earlier(found, bad_of_main(arrays, proc));
+    }
+    found
+}
+
+/// The first line of a bad parameter of `main`; 0 where there is no `main`.
+pub fn bad_main(tree: &Tree) -> Option<u32>
+    ensures { IsLeastLine (IsBadMain (tree_of tree.now)) result }
+{
     let procs = tree.procs.as_slice();
-    if !are_distinct(arrays) {
-        return false;
+    if !has_main(procs) {
+        return Some(0);
     }
-    if !are_distinct(procs) {
-        return false;
-    }
-    if !has_main(arrays, procs) {
-        return false;
-    }
-    are_lawful(procs)
+    bad_parameter(tree.arrays.as_slice(), procs)
 }

@@ -1,7 +1,7 @@
 use Rattle.std.proofs.Common.{arith, rules, ◌++◌, [], ◌∷◌, ap, ◌∙◌, length-append}
 use Rattle.ppm_syntax.proofs.StopLemmas.{exit_by}
 use Rattle.ppm_syntax.proofs.GrammarLemmas.{shorter}
-use Rattle.ppm_syntax.proofs.ParameterLemmas.{empty_read, first_stops, leads_first, next_stops, leads_next, end_stops, parameters_read}
+use Rattle.ppm_syntax.proofs.ParameterLemmas.{empty_read, first_stops, leads_first, next_stops, leads_next, parameters_read}
 use Rattle.ppm_syntax.proofs.parameter.parameters.Goals as goal
 
 -- there are none
@@ -38,13 +38,6 @@ commas-preserved c = record {
       c.in_ok-next.next c.in_ok-next.after.now (omega (arith, c.in_ok-next.ensures.1)) c.in_ok-next.ensures.0);
   few = rw (c.in_ok-push-2.ensures.items, length-append) (omega (arith, c.in_ok-next.ensures.1));
 }
-
--- the list is not closed
-pub returns-in_err-end : goal.returns-in_err-end
-returns-in_err-end c =
-    exit_by _ _ _ c.from_residual-in_err-end.result c.from_residual-in_err-end.ensures.1
-    (λ depth. end_stops c.args.tokens.now _ c.commas.rest.now c.commas.invariant.leads depth _ _ c.commas.invariant.few c.in_default-take.ensures
-    c.in_err-end.ensures)
 
 pub returns : goal.returns
 returns c = (parameters_read c.args.tokens.now _ c.commas.rest.now c.commas.invariant.leads c.in_ok-end.end.now _ c.in_ok-end.ensures, c.commas.invariant.few)

@@ -1,13 +1,6 @@
 use Rattle.std.proofs.Common.{arith, refl}
-use Rattle.ppm_syntax.proofs.StopLemmas.{exit_by}
-use Rattle.ppm_syntax.proofs.AddingLemmas.{array_stops, array_added}
+use Rattle.ppm_syntax.proofs.AddingLemmas.{array_added}
 use Rattle.ppm_syntax.proofs.parsing.add_array.Goals as goal
-
--- the array stops
-pub returns-in_err-found : goal.returns-in_err-found
-returns-in_err-found c =
-    exit_by _ _ _ c.from_residual.result c.from_residual.ensures.1
-    (λ w is at. array_stops w c.args.tokens.now c.args.declared c.requires _ is (omega arith) c.in_err-found.ensures)
 
 pub returns : goal.returns
 returns c = λ w is at.

@@ -1,15 +1,7 @@
 use Rattle.std.proofs.Common.{arith, refl}
 use Rattle.std.proofs.lemmas.List.{length-map}
-use Rattle.ppm_syntax.proofs.StopLemmas.{exit_by}
-use Rattle.ppm_syntax.proofs.AddingLemmas.{procedure_stops, procedure_added}
+use Rattle.ppm_syntax.proofs.AddingLemmas.{procedure_added}
 use Rattle.ppm_syntax.proofs.parsing.add_procedure.Goals as goal
-
--- the procedure stops
-pub returns-in_err-found : goal.returns-in_err-found
-returns-in_err-found c =
-    exit_by _ _ _ c.from_residual.result c.from_residual.ensures.1
-    (λ w is at. procedure_stops w c.args.tokens.now c.args.declared c.requires _ is (omega (arith, rw length-map at c.requires.within.procedures))
-    c.in_err-found.ensures)
 
 pub returns : goal.returns
 returns c = λ w is at.

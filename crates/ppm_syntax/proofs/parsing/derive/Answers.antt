@@ -1,15 +1,8 @@
-use Rattle.std.proofs.Common.{rules, arith, ◌≡◌, refl, sym}
+use Rattle.std.proofs.Common.{refl, sym}
 use Rattle.std.proofs.lemmas.Bool.{eqb-true}
-use Rattle.ppm_syntax.proofs.StopLemmas.{exit_by}
-use Rattle.ppm_syntax.proofs.ItemLemmas.{leads_at_first, nothing_so_far, leads_next, item_stops, tree_read}
+use Rattle.ppm_syntax.proofs.ItemLemmas.{leads_at_first, nothing_so_far, leads_next, tree_read}
 use Rattle.ppm_syntax.proofs.LinesLemmas.{has_lines}
 use Rattle.ppm_syntax.proofs.parsing.derive.Goals as goal
-
--- a further declaration stops
-pub returns-in_err-more : goal.returns-in_err-more
-returns-in_err-more c =
-    exit_by _ _ _ c.from_residual.result c.from_residual.ensures.1
-    (item_stops c.args.tokens.now _ c.items.rest.now c.items.invariant.leads _ c.in_err-more.ensures)
 
 pub items-init : goal.items-init
 items-init c = record {

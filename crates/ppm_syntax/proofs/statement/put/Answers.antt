@@ -1,4 +1,3 @@
-use Rattle.std.proofs.Common.{arith}
 use Rattle.ppm_syntax.proofs.StopLemmas.{exit_by}
 use Rattle.ppm_syntax.proofs.StatementLemmas.{index_stops, assign_stops, value_stops, put_read}
 use Rattle.ppm_syntax.proofs.statement.put.Goals as goal

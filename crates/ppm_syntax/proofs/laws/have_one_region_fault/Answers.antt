@@ -1,0 +1,5 @@
+use Rattle.ppm_syntax.proofs.RegionFaultsLemmas.{one_region_fault}
+use Rattle.ppm_syntax.proofs.laws.have_one_region_fault.Goals as goal
+
+pub returns : goal.returns
+returns c = record { law = one_region_fault }
