@@ -1,30 +1,24 @@
 -- A declaration behind its keyword: what is declared with it, and where it stops.
-use Rattle.std.proofs.Common.{◌≡◌, ℕ, suc, ◌+◌, ◌≤◌, ◌<◌, List, [], ◌∷◌, ◌++◌, length, map, refl, sym, ap, ◌∙◌, subst, arith, length-append}
-use Rattle.std.specs.Prelude.{Some, None}
+use Rattle.std.proofs.Common.{◌≡◌, suc, ◌+◌, ◌≤◌, ◌<◌, List, [], ◌∷◌, ◌++◌, length, map, refl, ap, subst, arith, length-append}
 use Rattle.std.proofs.lemmas.List.{append-nil, map-append, length-map}
 use Rattle.std.proofs.lemmas.List.Elements.{All-push}
 use Rattle.ppm_text.specs.declared.token.Keyword.TheVariants as word
 use Rattle.ppm_text.specs.declared.token.Token.{Token}
-use Rattle.ppm_syntax.specs.declared.limit.Limit.TheVariants as limit
 use Rattle.ppm_syntax.specs.declared.tree.Array.{Array}
 use Rattle.ppm_syntax.specs.declared.tree.Proc.{Proc}
-use Rattle.ppm_syntax.specs.declared.stop.Stop.{Stop}
-use Rattle.ppm_syntax.specs.declared.stop.Stop.TheVariants as stop
 use Rattle.ppm_syntax.specs.declared.parsing.Declared.{Declared}
 use Rattle.ppm_syntax.specs.Tree.{Procedure, SourceTree, procedure_of}
-use Rattle.ppm_syntax.specs.Limits.{array_limit, word_limit, procedure_limit, depth_limit, words_of, IsSmall, IsWithin}
+use Rattle.ppm_syntax.specs.Limits.{array_limit, word_limit, procedure_limit, depth_limit, IsSmall}
 use Rattle.ppm_syntax.specs.Grammar.{IsKeyword, Source, source, Derives, DerivesTree}
 use Rattle.ppm_syntax.specs.Grammar as g
-use Rattle.ppm_syntax.specs.Parsing.{Fails, HasWordsLeft, HasParameters, ReadsArray, ReadsProcedure, tree_so_far, joined, IsSoFar, IsCounted, AddsItem, FailsItem, PassesItem}
+use Rattle.ppm_syntax.specs.Parsing.{ReadsArray, ReadsProcedure, tree_so_far, joined, IsSoFar, AddsItem}
 use Rattle.ppm_syntax.specs.Stack.{Tally, state_at, passed, with_count}
 use Rattle.ppm_syntax.specs.Stack as stack
-use Rattle.ppm_syntax.specs.Verdict.{verdict}
-use Rattle.ppm_syntax.proofs.PassingExpression.{by_step}
 use Rattle.ppm_syntax.proofs.Unique.{same_tree}
 use Rattle.ppm_syntax.proofs.GrammarLemmas.{shorter}
 use Rattle.ppm_syntax.proofs.LimitsLemmas.{words-append}
 use Rattle.ppm_syntax.proofs.ParameterLemmas.{parameters_at}
-use Rattle.ppm_syntax.proofs.TallyLemmas.{few_words, few_arrays, few_procedures}
+use Rattle.ppm_syntax.proofs.TallyLemmas.{few_words, few_arrays}
 use Rattle.ppm_syntax.proofs.DeclarationLemmas.{array_passes, procedure_passes, with_procedure}
 
 -- an array alone

@@ -1,6 +1,6 @@
 -- The declaration of an array and a procedure: the verdict that passes over them, and where they stop.
 use Rattle.std.proofs.Common.{◌≡◌, ℕ, suc, ◌+◌, ◌≤◌, List, [], ◌∷◌, length, refl, ◌∙◌, arith}
-use Rattle.std.specs.Prelude.{Some, None}
+use Rattle.std.specs.Prelude.{None}
 use Rattle.std.specs.List.{All}
 use Rattle.ppm_text.specs.declared.token.Keyword.TheVariants as word
 use Rattle.ppm_text.specs.declared.token.Sign.TheVariants as sign

@@ -1,16 +1,15 @@
 -- From the declarations that are read to the tree of a source, and where they stop.
-use Rattle.std.proofs.Common.{◌≡◌, ℕ, List, [], ◌∷◌, ◌++◌, length, refl, sym, ◌∙◌, subst, arith, append_assoc}
-use Rattle.std.specs.Prelude.{Some, None}
+use Rattle.std.proofs.Common.{◌≡◌, List, [], ◌∷◌, length, refl, sym, ◌∙◌, subst, arith, append_assoc}
+use Rattle.std.specs.Prelude.{None}
 use Rattle.std.proofs.lemmas.List.{append-nil}
 use Rattle.std.proofs.lemmas.List.Elements.{All-nil}
 use Rattle.ppm_text.specs.declared.token.Token.{Token}
-use Rattle.ppm_syntax.specs.declared.stop.Stop.{Stop}
 use Rattle.ppm_syntax.specs.declared.parsing.Declared.{Declared}
 use Rattle.ppm_syntax.specs.Tree.{SourceTree}
 use Rattle.ppm_syntax.specs.Limits.{depth_limit, word_limit, IsSmall}
 use Rattle.ppm_syntax.specs.Grammar.{Source, source, Derives, DerivesTree}
 use Rattle.ppm_syntax.specs.Grammar as g
-use Rattle.ppm_syntax.specs.Parsing.{Tells, tree_so_far, joined, IsSoFar, IsCounted, AddsItem, FailsItem}
+use Rattle.ppm_syntax.specs.Parsing.{tree_so_far, joined, IsSoFar, IsCounted, AddsItem}
 use Rattle.ppm_syntax.specs.Stack.{Tally, state_at, passed, beginning}
 use Rattle.ppm_syntax.specs.Verdict.{verdict}
 use Rattle.ppm_syntax.proofs.Unique.{same_tree}

@@ -2,8 +2,6 @@
 use Rattle.std.proofs.Common.{◌≡◌, ℕ, false, List, [], ◌∷◌, refl}
 use Rattle.std.specs.Prelude.{Option, Some, None}
 use Rattle.ppm_text.specs.declared.token.Keyword.{Keyword}
-use Rattle.ppm_text.specs.declared.token.Keyword.TheVariants as word
-use Rattle.ppm_text.specs.declared.token.Sign.{Sign}
 use Rattle.ppm_text.specs.declared.token.Sign.TheVariants as sign
 use Rattle.ppm_text.specs.declared.token.Kind.{Kind}
 use Rattle.ppm_text.specs.declared.token.Kind.TheVariants as kind

@@ -1,8 +1,6 @@
 -- What was counted, and its limits.
-use Rattle.std.proofs.Common.{◌≡◌, ℕ, suc, ◌+◌, ◌≤◌, ◌<◌, arith}
-use Rattle.std.specs.Prelude.{Option, Some, None, nat_lt}
-use Rattle.ppm_syntax.specs.declared.limit.Limit.{Limit}
-use Rattle.ppm_syntax.specs.declared.limit.Limit.TheVariants as limit
+use Rattle.std.proofs.Common.{◌≡◌, ℕ, suc, ◌+◌, ◌≤◌, arith}
+use Rattle.std.specs.Prelude.{None}
 use Rattle.ppm_syntax.specs.Limits.{array_limit, word_limit, procedure_limit, parameter_limit, node_limit}
 use Rattle.ppm_syntax.specs.Stack.{Tally, passed, with_count}
 use Rattle.ppm_syntax.specs.Stack as stack

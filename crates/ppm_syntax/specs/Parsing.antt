@@ -1,5 +1,5 @@
 -- What the parser's functions answer: how far a part goes, and at which token and why they go no further.
-use Rattle.std.specs.Prelude.{◌≡◌, ℕ, suc, ◌+◌, ◌≤◌, ◌<◌, List, [], ◌∷◌, ◌++◌, length, map, None, Option, Some}
+use Rattle.std.specs.Prelude.{◌≡◌, ℕ, ◌+◌, ◌≤◌, ◌<◌, List, [], ◌∷◌, ◌++◌, length, map, None, Some}
 use Rattle.std.specs.List.{All}
 use Rattle.ppm_text.specs.declared.token.Keyword.{Keyword}
 use Rattle.ppm_text.specs.declared.token.Sign.{Sign}
@@ -8,17 +8,16 @@ use Rattle.ppm_text.specs.declared.token.Token.{Token}
 use Rattle.ppm_syntax.specs.declared.tree.Mode.{Mode}
 use Rattle.ppm_syntax.specs.declared.tree.Param.{Param}
 use Rattle.ppm_syntax.specs.declared.tree.Array.{Array}
-use Rattle.ppm_syntax.specs.declared.limit.Limit.{Limit}
 use Rattle.ppm_syntax.specs.declared.stop.Stop.{Stop}
 use Rattle.ppm_syntax.specs.declared.stop.Stop.TheVariants as stop
 use Rattle.ppm_syntax.specs.declared.parsing.Declared.{Declared}
 use Rattle.ppm_syntax.specs.Tree.{Expression, Statement, Procedure, SourceTree, procedure_of}
 use Rattle.ppm_syntax.specs.Grammar.{Part, Level, More, OneStatement, Statements, Block, Parameter, Parameters, MoreParameters, Source, Node, Derives, DerivesTree}
-use Rattle.ppm_syntax.specs.Grammar.{operator_at, top, mode_of, IsName, IsNumber, IsKeyword, IsSign, expression, statement, statements, parameter, parameters}
-use Rattle.ppm_syntax.specs.Limits.{nodes_of, HasLiterals, IsSmallStatement, IsSmall, IsWithin, words_of, array_limit, word_limit, node_limit, depth_limit}
+use Rattle.ppm_syntax.specs.Grammar.{operator_at, top, mode_of, IsName, IsNumber, IsKeyword, IsSign, expression, statement, statements, parameters}
+use Rattle.ppm_syntax.specs.Limits.{nodes_of, HasLiterals, IsSmallStatement, IsSmall, IsWithin, words_of, word_limit, node_limit, depth_limit}
 use Rattle.ppm_syntax.specs.Stack.{Symbol, Tally, State, state_at, openings, passed}
 use Rattle.ppm_syntax.specs.Stack as stack
-use Rattle.ppm_syntax.specs.Verdict.{Verdict, Whole, Cut, Unexpected, Deep, Many, verdict}
+use Rattle.ppm_syntax.specs.Verdict.{Verdict, Cut, Unexpected, Deep, Many, verdict}
 
 -- no operator of a level up to n stands in front
 abbrev pub NoOperator : ℕ → List Token → Type 0
