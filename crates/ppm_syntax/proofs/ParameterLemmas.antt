@@ -18,7 +18,7 @@ use Rattle.ppm_syntax.specs.Stack.{Symbol, Tally, state_at, openings, passed, wi
 use Rattle.ppm_syntax.specs.Stack as stack
 use Rattle.ppm_syntax.specs.Verdict.{verdict}
 use Rattle.ppm_syntax.proofs.PassingExpression.{by_step}
-use Rattle.ppm_syntax.proofs.MissingLemmas.{missing, missing_both, no_parameter, no_further}
+use Rattle.ppm_syntax.proofs.MissingLemmas.{missing, no_parameter}
 use Rattle.ppm_syntax.proofs.TallyLemmas.{with_parameters, few_parameters}
 
 -- how it is taken, then its name

@@ -28,7 +28,7 @@ same_or_not x y = go (bytes_eq x y) refl
     go false e = inr (bytes_differ x y e)
 
 -- a name is among some or not
-pub among_or_not : (names : List (List ℕ)) (x : List ℕ) → Contains names x ⊎ (Contains names x → ⊥)
+among_or_not : (names : List (List ℕ)) (x : List ℕ) → Contains names x ⊎ (Contains names x → ⊥)
 among_or_not [] x = inr (λ c. let far = c.1 in absurd (omega arith))
 among_or_not (y ∷ names) x =
     elim (same_or_not y x) [
@@ -80,7 +80,7 @@ module _ {A : Type 0} (name : A → List ℕ) (line : A → ℕ) where
   no_place [] item more e = cc
   no_place (x ∷ front) item more e = cc
 
-  pub repeats_nil : (n : ℕ) → Repeats name line [] n → ⊥
+  repeats_nil : (n : ℕ) → Repeats name line [] n → ⊥
   repeats_nil n r = no_place r.front r.item r.more r.shape
 
   pub repeats_here : (x : A) (xs : List A) (n : ℕ) → HasOneAt (IsNamedAt name line (name x)) xs n → Repeats name line (x ∷ xs) n
@@ -139,10 +139,7 @@ module _ {A : Type 0} (name : A → List ℕ) (line : A → ℕ) where
 
 -- elements and their images
 module _ {A B : Type 0} (f : A → B) where
-  pub one_map : (P : B → ℕ → Type 0) (xs : List A) (n : ℕ) → HasOneAt (λ x. P (f x)) xs n → HasOneAt P (map f xs) n
-  one_map P xs n h = record { element = f h.element; within = contains_map f h.element xs h.within; here = h.here }
-
-  pub one_back : (P : B → ℕ → Type 0) (xs : List A) (n : ℕ) → HasOneAt P (map f xs) n → HasOneAt (λ x. P (f x)) xs n
+  one_back : (P : B → ℕ → Type 0) (xs : List A) (n : ℕ) → HasOneAt P (map f xs) n → HasOneAt (λ x. P (f x)) xs n
   one_back P xs n h =
       let w = contains_back f h.element xs h.within in record { element = w.0; within = w.1; here = subst (λ y. P y n) (sym w.2) h.here }
 

@@ -19,7 +19,7 @@ use Rattle.ppm_syntax.specs.Stack.{Symbol, Tally, state_at, openings, passed, wi
 use Rattle.ppm_syntax.specs.Stack as stack
 use Rattle.ppm_syntax.specs.Verdict.{verdict}
 use Rattle.ppm_syntax.proofs.PassingExpression.{with_nodes, few_nodes, by_step, expression_passes}
-use Rattle.ppm_syntax.proofs.MissingLemmas.{missing, missing_both, no_assign, no_body}
+use Rattle.ppm_syntax.proofs.MissingLemmas.{missing, no_assign, no_body}
 use Rattle.ppm_syntax.proofs.GrammarLemmas.{statement_shorter}
 use Rattle.ppm_syntax.proofs.Unique.{ends_at_close, ends_at_semicolon}
 

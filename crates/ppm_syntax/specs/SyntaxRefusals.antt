@@ -1,5 +1,7 @@
 -- The numbers and places of the faults of tokens, and the refusal that a stop of the parser comes to.
 use Rattle.std.specs.Prelude.{ℕ}
+use Rattle.ppm_syntax.specs.declared.limit.Limit.{Limit}
+use Rattle.ppm_syntax.specs.declared.limit.Limit.TheVariants as limit
 use Rattle.ppm_syntax.specs.declared.stop.Stop.{Stop}
 use Rattle.ppm_syntax.specs.declared.stop.Stop.TheVariants as stop
 use Rattle.ppm_syntax.specs.declared.syntax_error.SyntaxError.{SyntaxError}
@@ -28,3 +30,11 @@ of_stop text_len stop.Ended = error.Ended text_len
 of_stop text_len (stop.TooDeep place) = error.TooDeep place
 of_stop text_len (stop.TooMany place which) = error.TooMany place which
 of_stop text_len stop.NoMemory = error.NoMemory
+
+-- the number of each limit
+abbrev pub which_of : Limit → ℕ
+which_of limit.Arrays = 1
+which_of limit.ArrayWords = 2
+which_of limit.Procedures = 3
+which_of limit.Parameters = 4
+which_of limit.Nodes = 5

@@ -1,4 +1,6 @@
 //! The limits on how many of a kind a source has.
+ghost use Rattle.std.specs.Prelude.{◌≡◌};
+ghost use Rattle.ppm_syntax.specs.SyntaxRefusals.{which_of};
 
 /// What a source has a limit on. At most 64 arrays, 4,194,304 words in them, 1 procedure, 12 parameters of a procedure
 /// and 48 nodes in the expressions of a statement.
@@ -14,4 +16,19 @@ pub enum Limit {
     Parameters,
     /// The nodes in the expressions of one statement.
     Nodes,
+}
+
+impl Limit {
+    /// The number of the limit: 1 `Arrays`, 2 `ArrayWords`, 3 `Procedures`, 4 `Parameters`, 5 `Nodes`.
+    pub fn number(self) -> u32
+        ensures { result ≡ which_of self }
+    {
+        match self {
+            Limit::Arrays => 1,
+            Limit::ArrayWords => 2,
+            Limit::Procedures => 3,
+            Limit::Parameters => 4,
+            Limit::Nodes => 5,
+        }
+    }
 }

@@ -235,5 +235,15 @@ fn faults_have_a_number_and_a_place(rt: HostRuntime) -> Result<(), Fail> {
         assert_eq!(rt; error.number(), number, "{error}");
         assert_eq!(rt; error.place(), place, "{error}");
     }
+    let limits = [
+        (Limit::Arrays, 1),
+        (Limit::ArrayWords, 2),
+        (Limit::Procedures, 3),
+        (Limit::Parameters, 4),
+        (Limit::Nodes, 5),
+    ];
+    for (limit, number) in limits {
+        assert_eq!(rt; limit.number(), number, "{limit:?}");
+    }
     Ok(())
 }

@@ -1,6 +1,6 @@
 use Rattle.std.proofs.Common.{arith, refl}
 use Rattle.ppm_syntax.proofs.StopLemmas.{exit_by}
-use Rattle.ppm_syntax.proofs.AddingLemmas.{array_stops, array_added}
+use Rattle.ppm_syntax.proofs.AddingLemmas.{array_added}
 use Rattle.ppm_syntax.proofs.parsing.add_array.Goals as goal
 
 pub returns : goal.returns
