@@ -175,6 +175,7 @@ fn texts_are_refused(rt: HostRuntime) -> Result<(), Fail> {
         (b"proc main() { let x = 1; }".as_slice(), "syntax 1 at 14"),
         (b"array a[2]; proc ma".as_slice(), "syntax 2 at 19"),
         (b"array a[4194305];".as_slice(), "syntax 4 at 8"),
+        (b"proc main() { } proc f() { }".as_slice(), "syntax 4 at 16"),
         (b"".as_slice(), "region 8 line 0"),
         (b"proc other() { }".as_slice(), "region 8 line 0"),
         (b"\nproc main(int n) { }".as_slice(), "region 8 line 2"),
@@ -249,6 +250,12 @@ fn arrays_are_limited(rt: HostRuntime) -> Result<(), Fail> {
         arrays.push_str(array.as_str())?;
     }
     is_refused(&rt, alloc, arrays.as_bytes(), "syntax 4 at 896")
+}
+
+#[test]
+fn parameters_are_limited(rt: HostRuntime) -> Result<(), Fail> {
+    let text = repeated(rt.alloc(), "proc main(", "mut a, ", 12, "mut a) { }")?;
+    is_refused(&rt, rt.alloc(), text.as_bytes(), "syntax 4 at 94")
 }
 
 #[test]
