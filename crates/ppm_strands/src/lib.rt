@@ -1,0 +1,41 @@
+//! Trees of fork-join strands: what they do depth first, and when branches commute.
+//! Model: a tree of frames (`specs/Tree`), run depth first by a code that says what each capsule does (`specs/Run`).
+//! Contract: laws, each a function that does nothing; a calm tree (`specs/Calm`) runs alike where words differ elsewhere.
+//! Stands on nothing of the project, and no command rests on it yet.
+//! After the fork-join programs of Blelloch et al., SPAA 2018; the laws are this project's.
+#![tactic(auto)]
+
+ghost use Rattle.ppm_strands.specs.Tree.{Code, Local};
+ghost use Rattle.ppm_strands.specs.Calm.{ChangesWhatItWrote, RunsAlike};
+ghost use Rattle.ppm_strands.specs.Run.{CallsResume, ForksResume, HasOneEnd, LargerBoundsAgree};
+
+/// A calm tree does from all words that differ only off what it touches what it does from these:
+/// it ends with the same outcome, its words differ where they differed, it touches and writes the same, and stays calm.
+pub fn locality<F, O>()
+    ensures { (c : Code F O) → Local c → RunsAlike c }
+{}
+
+/// A larger bound never changes an end that is there.
+pub fn larger_bounds_agree<F, O>()
+    ensures { (c : Code F O) → LargerBoundsAgree c }
+{}
+
+/// Two ends of a tree from the same words are one.
+pub fn has_one_end<F, O>()
+    ensures { (c : Code F O) → HasOneEnd c }
+{}
+
+/// A call whose callee is over comes to the ends of what follows it, and to no others.
+pub fn calls_resume<F, O>()
+    ensures { (c : Code F O) → CallsResume c }
+{}
+
+/// A fork whose branches are both over comes to the ends of what follows them, and to no others.
+pub fn forks_resume<F, O>()
+    ensures { (c : Code F O) → ForksResume c }
+{}
+
+/// A calm tree that ends has changed no words but those that it wrote.
+pub fn changes_what_it_wrote<F, O>()
+    ensures { (c : Code F O) → Local c → ChangesWhatItWrote c }
+{}
