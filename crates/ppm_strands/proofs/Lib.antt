@@ -1,2 +1,3 @@
 pub mod CalmLemmas
+pub mod PartsLemmas
 pub mod RunLemmas

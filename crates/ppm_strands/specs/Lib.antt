@@ -1,3 +1,5 @@
 pub mod Calm
+pub mod Locality
+pub mod Parts
 pub mod Run
 pub mod Tree

@@ -5,15 +5,10 @@
 //! After the fork-join programs of Blelloch et al., SPAA 2018; the laws are this project's.
 #![tactic(auto)]
 
-ghost use Rattle.ppm_strands.specs.Tree.{Code, Local};
-ghost use Rattle.ppm_strands.specs.Calm.{ChangesWhatItWrote, RunsAlike};
+ghost use Rattle.std.specs.Prelude.{List, ℕ};
+ghost use Rattle.ppm_strands.specs.Tree.{Code, Local, Words};
 ghost use Rattle.ppm_strands.specs.Run.{CallsResume, ForksResume, HasOneEnd, LargerBoundsAgree};
-
-/// A calm tree does from all words that differ only off what it touches what it does from these:
-/// it ends with the same outcome, its words differ where they differed, it touches and writes the same, and stays calm.
-pub fn locality<F, O>()
-    ensures { (c : Code F O) → Local c → RunsAlike c }
-{}
+ghost use Rattle.ppm_strands.specs.Parts.{CalmByParts, EndsByParts, GathersByParts};
 
 /// A larger bound never changes an end that is there.
 pub fn larger_bounds_agree<F, O>()
@@ -25,6 +20,13 @@ pub fn has_one_end<F, O>()
     ensures { (c : Code F O) → HasOneEnd c }
 {}
 
+/// The ends of a tree, the words of its capsules and its calm, by its parts and without a bound.
+pub fn goes_by_parts<F, O>()
+    ensures ends { (c : Code F O) → EndsByParts c }
+    ensures words { (c : Code F O) (s : F → Words → List ℕ) → GathersByParts c s }
+    ensures calm { (c : Code F O) → CalmByParts c }
+{}
+
 /// A call whose callee is over comes to the ends of what follows it, and to no others.
 pub fn calls_resume<F, O>()
     ensures { (c : Code F O) → CallsResume c }
@@ -33,9 +35,4 @@ pub fn calls_resume<F, O>()
 /// A fork whose branches are both over comes to the ends of what follows them, and to no others.
 pub fn forks_resume<F, O>()
     ensures { (c : Code F O) → ForksResume c }
-{}
-
-/// A calm tree that ends has changed no words but those that it wrote.
-pub fn changes_what_it_wrote<F, O>()
-    ensures { (c : Code F O) → Local c → ChangesWhatItWrote c }
 {}
