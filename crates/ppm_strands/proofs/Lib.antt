@@ -1,3 +1,4 @@
 pub mod CalmLemmas
+pub mod LocalityLemmas
 pub mod PartsLemmas
 pub mod RunLemmas

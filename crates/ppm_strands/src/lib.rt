@@ -8,6 +8,7 @@
 ghost use Rattle.std.specs.Prelude.{List, ℕ};
 ghost use Rattle.ppm_strands.specs.Tree.{Code, Local, Words};
 ghost use Rattle.ppm_strands.specs.Run.{CallsResume, ForksResume, HasOneEnd, LargerBoundsAgree};
+ghost use Rattle.ppm_strands.specs.Locality.{CalmTreesRunAlike, ChangesWhatItWrites};
 ghost use Rattle.ppm_strands.specs.Parts.{CalmByParts, EndsByParts, GathersByParts};
 
 /// A larger bound never changes an end that is there.
@@ -35,4 +36,15 @@ pub fn calls_resume<F, O>()
 /// A fork whose branches are both over comes to the ends of what follows them, and to no others.
 pub fn forks_resume<F, O>()
     ensures { (c : Code F O) → ForksResume c }
+{}
+
+/// A calm tree does from all words that have the same values where it touches them what it does from these:
+/// it ends within the same bounds, with the same outcome, counts and changes, touches and writes the same, and is calm.
+pub fn locality<F, O>()
+    ensures { (c : Code F O) → Local c → CalmTreesRunAlike c }
+{}
+
+/// A calm tree that ends has changed no words but those that it writes.
+pub fn changes_what_it_writes<F, O>()
+    ensures { (c : Code F O) → Local c → ChangesWhatItWrites c }
 {}
