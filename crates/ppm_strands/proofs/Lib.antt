@@ -1,3 +1,4 @@
+pub mod AheadLemmas
 pub mod CalmLemmas
 pub mod LocalityLemmas
 pub mod PartsLemmas

@@ -6,7 +6,7 @@ use Rattle.ppm_strands.specs.Run.{End, rejoin, run, Ends}
 use Rattle.ppm_strands.specs.Calm.{gathered, touches, Gathers, Writes, Touches, Calm}
 use Rattle.ppm_strands.specs.Locality.{SameChanges, SameEnd, EndBoth, RunsAlike}
 use Rattle.ppm_strands.proofs.PartsLemmas.{has_right, has_append, list_some, list_made}
-use Rattle.ppm_strands.proofs.CalmLemmas.{Clear, But, AlikeBut, BothBut, touches_determined, AlikeWithin, Both, both}
+use Rattle.ppm_strands.proofs.CalmLemmas.{Clear, But, AlikeBut, BothBut, Determined, touches_determined, AlikeWithin, Both, both}
 
 module _ {F O : Type 0} (c : Code F O) where
   -- where each capsule gives no more by s than by u, neither does a tree
@@ -35,23 +35,17 @@ module _ {F O : Type 0} (c : Code F O) where
     unwritten e p x out = (both c local p.0).framed t a e (calm p.0) p.1 x (λ k. out (p.0, k))
 
     module _ (b : Words) (p : ℕ → Type 0) (clear : (x : ℕ) → p x → Touches c t a x → ⊥) (but : But p a b) where
-      alike : (n : ℕ) → AlikeWithin c local n t p a b
+      pub alike : (n : ℕ) → AlikeWithin c local n t p a b
       alike n = (both c local n).alike t p a b (calm n) (λ x i h. clear x i (n, h)) but
 
       pub alike_calm : Calm c t b
       alike_calm n = (alike n).calm
 
-      pub alike_touches : (x : ℕ) → Touches c t b x → Touches c t a x
-      alike_touches x h = (h.0, subst (λ (xs : List ℕ). Has x xs) ((alike h.0).words (touches c) (touches_determined c local)) h.1)
+      pub alike_gathers : (s : F → Words → List ℕ) → Determined c local s → (x : ℕ) → Gathers c s t b x → Gathers c s t a x
+      alike_gathers s det x h = (h.0, subst (λ (xs : List ℕ). Has x xs) ((alike h.0).words s det) h.1)
 
-      pub touches_alike : (x : ℕ) → Touches c t a x → Touches c t b x
-      touches_alike x h = (h.0, subst (λ (xs : List ℕ). Has x xs) (sym ((alike h.0).words (touches c) (touches_determined c local))) h.1)
-
-      pub alike_writes : (x : ℕ) → Writes c t b x → Writes c t a x
-      alike_writes x h = (h.0, subst (λ (xs : List ℕ). Has x xs) ((alike h.0).words c.writes local.writes) h.1)
-
-      pub writes_alike : (x : ℕ) → Writes c t a x → Writes c t b x
-      writes_alike x h = (h.0, subst (λ (xs : List ℕ). Has x xs) (sym ((alike h.0).words c.writes local.writes)) h.1)
+      pub gathers_alike : (s : F → Words → List ℕ) → Determined c local s → (x : ℕ) → Gathers c s t a x → Gathers c s t b x
+      gathers_alike s det x h = (h.0, subst (λ (xs : List ℕ). Has x xs) (sym ((alike h.0).words s det)) h.1)
 
       pub alike_ends : (n : ℕ) → BothBut p (run c n t a) (run c n t b)
       alike_ends n = (alike n).ends
@@ -81,8 +75,10 @@ runs_alike c local t a b calm agree =
       ends = λ n. same_end a b (run c n t a) (run c n t b) (alike_ends c local t a calm b p clear but n)
       (λ d is x differ. unwritten c local t a calm d (n, is) x (λ w. clear x differ (writes_touch c t a x w)))
       (λ e is x differ. unwritten c local t b calm_b e (n, is) x
-      (λ w. clear x differ (writes_touch c t a x (alike_writes c local t a calm b p clear but x w))));
-      touches = λ x. (alike_touches c local t a calm b p clear but x, touches_alike c local t a calm b p clear but x);
-      writes = λ x. (alike_writes c local t a calm b p clear but x, writes_alike c local t a calm b p clear but x);
+      (λ w. clear x differ (writes_touch c t a x (alike_gathers c local t a calm b p clear but c.writes local.writes x w))));
+      touches = λ x. (alike_gathers c local t a calm b p clear but (touches c) (touches_determined c local) x,
+      gathers_alike c local t a calm b p clear but (touches c) (touches_determined c local) x);
+      writes = λ x. (alike_gathers c local t a calm b p clear but c.writes local.writes x,
+      gathers_alike c local t a calm b p clear but c.writes local.writes x);
       calm = calm_b;
     }

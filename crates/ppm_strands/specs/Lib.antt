@@ -1,3 +1,4 @@
+pub mod Ahead
 pub mod Calm
 pub mod Locality
 pub mod Parts

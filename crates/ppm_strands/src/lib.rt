@@ -8,6 +8,7 @@
 ghost use Rattle.std.specs.Prelude.{List, ℕ};
 ghost use Rattle.ppm_strands.specs.Tree.{Code, Local, Words};
 ghost use Rattle.ppm_strands.specs.Run.{CallsResume, ForksResume, HasOneEnd, LargerBoundsAgree};
+ghost use Rattle.ppm_strands.specs.Ahead.{PassesACall, PassesALeftBranch, PassesARightBranch};
 ghost use Rattle.ppm_strands.specs.Locality.{CalmTreesRunAlike, ChangesWhatItWrites};
 ghost use Rattle.ppm_strands.specs.Parts.{CalmByParts, EndsByParts, GathersByParts};
 
@@ -47,4 +48,11 @@ pub fn locality<F, O>()
 /// A calm tree that ends has changed no words but those that it writes.
 pub fn changes_what_it_writes<F, O>()
     ensures { (c : Code F O) → Local c → ChangesWhatItWrites c }
+{}
+
+/// What a strand does ahead of the depth-first order in a part of a calm tree, it does ahead of it in the whole.
+pub fn a_change_passes_up<F, O>()
+    ensures call { (c : Code F O) → PassesACall c }
+    ensures left { (c : Code F O) → Local c → PassesALeftBranch c }
+    ensures right { (c : Code F O) → Local c → PassesARightBranch c }
 {}
