@@ -56,3 +56,21 @@ PassesALeftBranch {F} {O} c = (k : Counts) (g : F) (l l' r : Tree F O) (a a' : W
 abbrev pub PassesARightBranch : {F O : Type 0} → Code F O → Type 0
 PassesARightBranch {F} {O} c = (k : Counts) (g : F) (l r r' : Tree F O) (a a' : Words)
     → Calm c (Fork g l r) a → Ahead c k r a r' a' → Ahead c k (Fork g l r) a (Fork g l r') a'
+
+-- a store of a word that the capsule writes and does not read may be made before the capsule is begun again
+abbrev pub StoresRedo : {F O : Type 0} → Code F O → Type 0
+StoresRedo {F} {O} c = (f : F) (a : Words) (x : ℕ) → Has x (c.writes f a) → (Has x (c.reads f a) → ⊥) → Redoes c f a f (put a x (c.after f a x))
+
+-- a step of any strand of a calm tree is ahead of the order
+abbrev pub StepsAreAhead : {F O : Type 0} → Code F O → Type 0
+StepsAreAhead {F} {O} c = (k : Counts) (t t' : Tree F O) (a a' : Words) → Step c k t a t' a' → Calm c t a → Ahead c k t a t' a'
+
+-- in whatever order the strands of a calm tree make their steps: if they are over, so is the depth-first run, with the same outcome,
+-- words and counts
+abbrev pub OrdersAgree : {F O : Type 0} → Code F O → Type 0
+OrdersAgree {F} {O} c = (k : Counts) (t : Tree F O) (o : O) (a b : Words)
+    → Steps c k t a (Over o) b → Calm c t a → Ends c t a (record { outcome = o; words = b; counts = k })
+
+-- and the depth-first run is such an order
+abbrev pub DepthFirstIsAnOrder : {F O : Type 0} → Code F O → Type 0
+DepthFirstIsAnOrder {F} {O} c = (t : Tree F O) (a : Words) (e : End O) → Ends c t a e → Steps c e.counts t a (Over e.outcome) e.words

@@ -8,8 +8,9 @@
 ghost use Rattle.std.specs.Prelude.{List, ℕ};
 ghost use Rattle.ppm_strands.specs.Tree.{Code, Local, Words};
 ghost use Rattle.ppm_strands.specs.Run.{CallsResume, ForksResume, HasOneEnd, LargerBoundsAgree};
-ghost use Rattle.ppm_strands.specs.Ahead.{PassesACall, PassesALeftBranch, PassesARightBranch};
+ghost use Rattle.ppm_strands.specs.Ahead.{DepthFirstIsAnOrder, OrdersAgree, PassesACall, PassesALeftBranch, PassesARightBranch, StepsAreAhead, StoresRedo};
 ghost use Rattle.ppm_strands.specs.Locality.{CalmTreesRunAlike, ChangesWhatItWrites};
+ghost use Rattle.ppm_strands.specs.Regions.{SeparateTreesAreCalm};
 ghost use Rattle.ppm_strands.specs.Parts.{CalmByParts, EndsByParts, GathersByParts};
 
 /// A larger bound never changes an end that is there.
@@ -55,4 +56,25 @@ pub fn a_change_passes_up<F, O>()
     ensures call { (c : Code F O) → PassesACall c }
     ensures left { (c : Code F O) → Local c → PassesALeftBranch c }
     ensures right { (c : Code F O) → Local c → PassesARightBranch c }
+{}
+
+/// A change at one leaf: one strand of a calm tree makes a whole capsule, a store of its capsule, a return or a join before its turn.
+/// The whole tree then ends exactly where it ended before, with the same outcome, words and counts, those of the step among them,
+/// and it stays calm. A store of a word that its capsule writes and does not read is such a step.
+pub fn a_change_at_one_leaf<F, O>()
+    ensures anywhere { (c : Code F O) → Local c → StepsAreAhead c }
+    ensures store { (c : Code F O) → Local c → StoresRedo c }
+{}
+
+/// In whatever order the strands of a calm tree run, if they come to an end it is that of the depth-first run,
+/// which is itself one of these orders.
+pub fn any_order<F, O>()
+    ensures agrees { (c : Code F O) → Local c → OrdersAgree c }
+    ensures depth_first { (c : Code F O) → DepthFirstIsAnOrder c }
+{}
+
+/// Where each frame owns words, a capsule touches only what its frame owns, what comes of a frame owns no more, and of the two
+/// branches of a fork none may write what the other owns, every tree is calm.
+pub fn calm_by_regions<F, O>()
+    ensures { (c : Code F O) → SeparateTreesAreCalm c }
 {}
