@@ -5,4 +5,5 @@ pub mod OrderLemmas
 pub mod PartsLemmas
 pub mod RegionLemmas
 pub mod RunLemmas
+pub mod SampleLemmas
 pub mod StepLemmas

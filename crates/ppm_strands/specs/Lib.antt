@@ -4,4 +4,5 @@ pub mod Locality
 pub mod Parts
 pub mod Regions
 pub mod Run
+pub mod Sample
 pub mod Tree

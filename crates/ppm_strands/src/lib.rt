@@ -5,6 +5,8 @@
 //! After the fork-join programs of Blelloch et al., SPAA 2018; the laws are this project's.
 #![tactic(auto)]
 
+pub mod sample;
+
 ghost use Rattle.std.specs.Prelude.{List, ℕ};
 ghost use Rattle.ppm_strands.specs.Tree.{Code, Local, Words};
 ghost use Rattle.ppm_strands.specs.Run.{CallsResume, ForksResume, HasOneEnd, LargerBoundsAgree};
