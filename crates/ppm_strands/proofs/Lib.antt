@@ -3,6 +3,7 @@ pub mod CalmLemmas
 pub mod LocalityLemmas
 pub mod OrderLemmas
 pub mod PartsLemmas
+pub mod RaceLemmas
 pub mod RegionLemmas
 pub mod RunLemmas
 pub mod SampleLemmas

@@ -2,6 +2,7 @@ pub mod Ahead
 pub mod Calm
 pub mod Locality
 pub mod Parts
+pub mod Races
 pub mod Regions
 pub mod Run
 pub mod Sample

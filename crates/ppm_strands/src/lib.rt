@@ -80,3 +80,6 @@ pub fn any_order<F, O>()
 pub fn calm_by_regions<F, O>()
     ensures { (c : Code F O) → SeparateTreesAreCalm c }
 {}
+
+#[cfg(test)]
+mod tests;

@@ -3,6 +3,7 @@
 ghost use Rattle.std.specs.Prelude.{ℕ, ◌+◌, [], ◌≡◌, ◌≤◌, ◌^◌, IfSome, option_map};
 ghost use Rattle.ppm_strands.specs.Run.{joined as model_joined, plus, run as model_run, with_counts as model_with_counts};
 ghost use Rattle.ppm_strands.specs.Tree.{forks_in};
+ghost use Rattle.ppm_strands.specs.Races.{ApartIsCalm, NoEndBeside, RacesAreNotCalm, RacesBesideNoEndAreNotCalm, RacesLoseTheLaw, SamplesAreLocal};
 ghost use Rattle.ppm_strands.specs.Sample.{address, after_capsule, capsule_at, counts_of, end_of, resumed_tree, sample, tree_of, words_of, AreAtMost};
 
 /// The four words, by name.
@@ -178,3 +179,18 @@ pub fn run(table: &[Capsule], bound: u8, tree: SmallTree, words: [u8; 4]) -> Opt
         }
     }
 }
+
+/// Branches that race are not calm, and a capsule made ahead may then change the end; so it is where the race stands behind a
+/// branch without end, in a tree that itself has none. Branches that keep apart are calm.
+pub fn races_are_not_calm()
+    ensures race { RacesAreNotCalm }
+    ensures beside_no_end { RacesBesideNoEndAreNotCalm }
+    ensures no_end { NoEndBeside }
+    ensures law_is_lost { RacesLoseTheLaw }
+    ensures apart { ApartIsCalm }
+{}
+
+/// What a capsule of a table does depends on the word that it reads: the laws hold of each table.
+pub fn samples_are_local()
+    ensures { SamplesAreLocal }
+{}
