@@ -1,16 +1,16 @@
 -- A change ahead of the depth-first order, seen from a call, from the fork to whose left branch it belongs, and from that to whose
 -- right one. The last is where branches commute: the right branch runs from the words that the left one leaves.
-use Rattle.std.proofs.Common.{◌≡◌, ℕ, zero, suc, ◌+◌, List, ◌++◌, Option, Some, None, ◌⊎◌, inl, inr, ◌↔◌, refl, sym, ap, ap₂, ◌∙◌, subst, subst₂, arith}
+use Rattle.std.proofs.Common.{◌≡◌, ℕ, List, Option, Some, None, inl, inr, ◌↔◌, refl, sym, ap, ◌∙◌, subst, subst₂}
 use Rattle.std.proofs.Math.Path.{fun_ext}
-use Rattle.ppm_strands.specs.Tree.{Words, Tree, Strand, Call, Fork, Over, Code, Local, Has}
-use Rattle.ppm_strands.specs.Run.{Counts, none, plus, End, with_counts, of_capsule, rejoin, run, Ends}
+use Rattle.ppm_strands.specs.Tree.{Words, Tree, Call, Fork, Code, Local, Has}
+use Rattle.ppm_strands.specs.Run.{Counts, plus, End, with_counts, rejoin, run, Ends}
 use Rattle.ppm_strands.specs.Calm.{gathered, touches, Gathers, Writes, Touches, IsApart, Calm}
 use Rattle.ppm_strands.specs.Parts.{Follows}
 use Rattle.ppm_strands.specs.Ahead.{Ahead}
-use Rattle.ppm_strands.proofs.RunLemmas.{end_path, plus_assoc, plus_comm, with_none, with_plus}
+use Rattle.ppm_strands.proofs.RunLemmas.{end_path, plus_assoc, plus_comm, with_plus}
 use Rattle.ppm_strands.proofs.PartsLemmas.{ends_by_parts, gathers_by_parts, calm_by_parts}
 use Rattle.ppm_strands.proofs.CalmLemmas.{has_or_not, But, AlikeBut, BothBut, Determined, touches_determined, both}
-use Rattle.ppm_strands.proofs.LocalityLemmas.{writes_touch, unwritten, alike, alike_calm, alike_gathers, gathers_alike, alike_ends}
+use Rattle.ppm_strands.proofs.LocalityLemmas.{writes_touch, unwritten, alike, alike_calm, alike_gathers, alike_ends}
 
 -- counts may change places
 plus_swap : (i j k : Counts) → plus i (plus j k) ≡ plus j (plus i k)
@@ -47,9 +47,15 @@ module _ {F O : Type 0} (c : Code F O) where
         → (d : End O) × Ends c t a d × Follows c d after e
     first_back h =
         let d = h.1.0 in
-        let s = h.1.2.0 in
-        (with_counts k d, (ah.ends (with_counts k d)).1 (d, h.1.1, refl),
-        (s, h.1.2.1, h.2 ∙ ap (with_counts k) h.1.2.2 ∙ with_plus k d.counts s))
+        let s = h.1.2.0 in (
+          with_counts k d,
+          (ah.ends (with_counts k d)).1 (d, h.1.1, refl),
+          (s, h.1.2.1, h.2 ∙ ap (with_counts k) h.1.2.2 ∙ with_plus k d.counts s),
+        )
+
+  -- an end is one under another name
+  moved : (t : Tree F O) (a : Words) (d e : End O) → d ≡ e → Ends c t a d → Ends c t a e
+  moved t a d e same h = subst (λ (z : End O). Ends c t a z) same h
 
   -- an end of the tree ahead is an end of the other
   ahead_end : (k : Counts) (t t' : Tree F O) (a a' : Words) → Ahead c k t a t' a' → (d : End O) → Ends c t' a' d → Ends c t a (with_counts k d)
@@ -59,10 +65,10 @@ module _ {F O : Type 0} (c : Code F O) where
     call_ends_ahead : (e : End O) → Ends c (Call g t) a e ↔ ((d : End O) × Ends c (Call g t') a' d × (e ≡ with_counts k d))
     call_ends_ahead e = (
       λ h.
-        let m = first_forth k t t' a a' ah (λ o b. Ends c (c.resume g o) b) e (((ends_by_parts c).call g t a e).0 h) in
-        (m.0, ((ends_by_parts c).call g t' a' m.0).1 m.1, m.2),
+          let m = first_forth k t t' a a' ah (λ o b. Ends c (c.resume g o) b) e (((ends_by_parts c).call g t a e).0 h) in
+          (m.0, ((ends_by_parts c).call g t' a' m.0).1 m.1, m.2),
       λ h. ((ends_by_parts c).call g t a e).1 (first_back k t t' a a' ah (λ o b. Ends c (c.resume g o) b) e
-        (h.0, ((ends_by_parts c).call g t' a' h.0).0 h.1, h.2)),
+          (h.0, ((ends_by_parts c).call g t' a' h.0).0 h.1, h.2)),
     )
 
     call_gathers_ahead : (s : F → Words → List ℕ) → ((x : ℕ) → Gathers c s t' a' x → Gathers c s t a x)
@@ -91,10 +97,10 @@ module _ {F O : Type 0} (c : Code F O) where
     left_ends_ahead : (e : End O) → Ends c (Fork g l r) a e ↔ ((d : End O) × Ends c (Fork g l' r) a' d × (e ≡ with_counts k d))
     left_ends_ahead e = (
       λ h.
-        let m = first_forth k l l' a a' ah after_left e (((ends_by_parts c).fork g l r a e).0 h) in
-        (m.0, ((ends_by_parts c).fork g l' r a' m.0).1 m.1, m.2),
+          let m = first_forth k l l' a a' ah after_left e (((ends_by_parts c).fork g l r a e).0 h) in
+          (m.0, ((ends_by_parts c).fork g l' r a' m.0).1 m.1, m.2),
       λ h. ((ends_by_parts c).fork g l r a e).1 (first_back k l l' a a' ah after_left e
-        (h.0, ((ends_by_parts c).fork g l' r a' h.0).0 h.1, h.2)),
+          (h.0, ((ends_by_parts c).fork g l' r a' h.0).0 h.1, h.2)),
     )
 
     abbrev left_parts : Calm c l a × Calm c r a × IsApart c l r a × IsApart c r l a
@@ -165,7 +171,8 @@ module _ {F O : Type 0} (c : Code F O) where
 
       left_but' : But Left a' d'.words
       left_but' x out = (both c local n).framed l a' d' (left_calm n) is' x
-        (λ w. out (subst (λ (xs : List ℕ). Has x xs) ((alike c local l a right_parts.0 a' (λ y. Writes c r a y) right_parts.3 ah.changes n).words c.writes local.writes) w))
+          (λ w. let left = alike c local l a right_parts.0 a' (λ y. Writes c r a y) right_parts.3 ah.changes n in
+          out (subst (λ (xs : List ℕ). Has x xs) (left.words c.writes local.writes) w))
 
       -- it wrote the same in both
       left_agrees : (x : ℕ) → Left x → d'.words x ≡ d.words x
@@ -180,22 +187,22 @@ module _ {F O : Type 0} (c : Code F O) where
       -- the right branch after the left one leaves what the left one wrote
       right_stays : (p : End O) → Ends c r d.words p → (x : ℕ) → Left x → p.words x ≡ d.words x
       right_stays p h x w = unwritten c local r d.words right_calm p h x
-        (λ v. left_clear x w (writes_touch c r a x (alike_gathers c local r a right_parts.1 d.words Left left_clear left_but c.writes local.writes x v)))
+          (λ v. left_clear x w (writes_touch c r a x (alike_gathers c local r a right_parts.1 d.words Left left_clear left_but c.writes local.writes x v)))
 
       right_stays' : (p : End O) → Ends c r' d'.words p → (x : ℕ) → Left x → p.words x ≡ d'.words x
       right_stays' p h x w = unwritten c local r' d'.words right_calm' p h x
-        (λ v. left_clear' x w (writes_touch c r' a' x (alike_gathers c local r' a' ah.calm d'.words Left left_clear' left_but' c.writes local.writes x v)))
+          (λ v. left_clear' x w (writes_touch c r' a' x (alike_gathers c local r' a' ah.calm d'.words Left left_clear' left_but' c.writes local.writes x v)))
 
       -- four ends of the right branch: old and changed, before the left one and after it
       same_right : (p q p' q' : End O) → AlikeBut Left p q → AlikeBut Left p' q' → p ≡ with_counts k p'
           → Ends c r d.words q → Ends c r' d'.words q' → q ≡ with_counts k q'
       same_right p q p' q' al al' e h h' = end_path
-        (al.outcome ∙ ap (λ (z : End O). z.outcome) e ∙ sym al'.outcome)
-        (fun_ext (λ x. elim (has_or_not x (gathered c c.writes n l a)) [
-          | inl w ↦ right_stays q h x w ∙ sym (left_agrees x w) ∙ sym (right_stays' q' h' x w)
-          | inr out ↦ al.words x out ∙ ap (λ (z : End O). z.words x) e ∙ sym (al'.words x out)
-        ]))
-        (al.counts ∙ ap (λ (z : End O). z.counts) e ∙ ap (plus k) (sym al'.counts))
+          (al.outcome ∙ ap (λ (z : End O). z.outcome) e ∙ sym al'.outcome)
+          (fun_ext (λ x. elim (has_or_not x (gathered c c.writes n l a)) [
+            | inl w ↦ right_stays q h x w ∙ sym (left_agrees x w) ∙ sym (right_stays' q' h' x w)
+            | inr out ↦ al.words x out ∙ ap (λ (z : End O). z.words x) e ∙ sym (al'.words x out)
+          ]))
+          (al.counts ∙ ap (λ (z : End O). z.counts) e ∙ ap (plus k) (sym al'.counts))
 
       right_alike : (m : ℕ) → BothBut Left (run c m r a) (run c m r d.words)
       right_alike m = alike_ends c local r a right_parts.1 d.words Left left_clear left_but m
@@ -208,10 +215,13 @@ module _ {F O : Type 0} (c : Code F O) where
           let p = from_second Left (run c h.0 r a) (run c h.0 r d.words) q (right_alike h.0) h.1 in
           let p' = (ah.ends p.0).0 (h.0, p.1) in
           let m = p'.1.0 in
-          let q' = from_first Left (run c m r' a') (run c m r' d'.words) p'.0 (right_alike' m) p'.1.1 in
-          (q'.0, (m, q'.1), same_right p.0 q p'.0 q'.0
-          (alike_at Left (run c h.0 r a) (run c h.0 r d.words) p.0 q (right_alike h.0) p.1 h.1)
-          (alike_at Left (run c m r' a') (run c m r' d'.words) p'.0 q'.0 (right_alike' m) p'.1.1 q'.1) p'.2 h (m, q'.1))
+          let q' = from_first Left (run c m r' a') (run c m r' d'.words) p'.0 (right_alike' m) p'.1.1 in (
+            q'.0,
+            (m, q'.1),
+            same_right p.0 q p'.0 q'.0
+                (alike_at Left (run c h.0 r a) (run c h.0 r d.words) p.0 q (right_alike h.0) p.1 h.1)
+                (alike_at Left (run c m r' a') (run c m r' d'.words) p'.0 q'.0 (right_alike' m) p'.1.1 q'.1) p'.2 h (m, q'.1),
+          )
 
       right_back : (q' : End O) → Ends c r' d'.words q' → Ends c r d.words (with_counts k q')
       right_back q' h =
@@ -220,9 +230,9 @@ module _ {F O : Type 0} (c : Code F O) where
           let m = p.0 in
           let q = from_first Left (run c m r a) (run c m r d.words) (with_counts k p'.0) (right_alike m) p.1 in
           let same = same_right (with_counts k p'.0) q.0 p'.0 q'
-            (alike_at Left (run c m r a) (run c m r d.words) (with_counts k p'.0) q.0 (right_alike m) p.1 q.1)
-            (alike_at Left (run c h.0 r' a') (run c h.0 r' d'.words) p'.0 q' (right_alike' h.0) p'.1 h.1) refl (m, q.1) h in
-          subst (λ (z : End O). Ends c r d.words z) same (m, q.1)
+          (alike_at Left (run c m r a) (run c m r d.words) (with_counts k p'.0) q.0 (right_alike m) p.1 q.1)
+          (alike_at Left (run c h.0 r' a') (run c h.0 r' d'.words) p'.0 q' (right_alike' h.0) p'.1 h.1) refl (m, q.1) h in
+          moved r d.words q.0 (with_counts k q') same (m, q.1)
 
     right_fork_forth : (e : End O) → Ends c (Fork g l r) a e → (e' : End O) × Ends c (Fork g l r') a' e' × (e ≡ with_counts k e')
     right_fork_forth e h =
@@ -238,9 +248,11 @@ module _ {F O : Type 0} (c : Code F O) where
         let e' = with_counts d'.0.counts (with_counts q'.0.counts s) in
         let first = x.2.2 ∙ ap (with_counts d.counts) (x.2.1.2.2 ∙ ap (λ (z : End O). with_counts z.counts s) q'.2 ∙ sym (with_plus k q'.0.counts s)) in
         let second = with_swap d.counts k (with_counts q'.0.counts s)
-          ∙ ap (λ (j : Counts). with_counts k (with_counts j (with_counts q'.0.counts s))) (sym al.counts) in
-        (e', ((ends_by_parts c).fork g l r' a' e').1 (d'.0, (n, d'.1), (with_counts q'.0.counts s, (q'.0, q'.1, (s, last, refl)), refl)),
-        first ∙ second)
+        ∙ ap (λ (j : Counts). with_counts k (with_counts j (with_counts q'.0.counts s))) (sym al.counts) in (
+          e',
+          ((ends_by_parts c).fork g l r' a' e').1 (d'.0, (n, d'.1), (with_counts q'.0.counts s, (q'.0, q'.1, (s, last, refl)), refl)),
+          first ∙ second,
+        )
 
     right_fork_back : (e e' : End O) → Ends c (Fork g l r') a' e' → e ≡ with_counts k e' → Ends c (Fork g l r) a e
     right_fork_back e e' h is =
@@ -271,8 +283,8 @@ module _ {F O : Type 0} (c : Code F O) where
       | inr j ↦ elim j [
         | inl i ↦ inr (inl (m x i))
         | inr i ↦
-          let d = right_rest i.0 i.1 i.2 i.3 in
-          inr (inr (d.0, with_counts k i.1, d.1, d.2, subst (λ (o : O). Gathers c s (rejoin c g o i.1.outcome) i.1.words x) d.3 i.4))
+            let d = right_rest i.0 i.1 i.2 i.3 in
+            inr (inr (d.0, with_counts k i.1, d.1, d.2, subst (λ (o : O). Gathers c s (rejoin c g o i.1.outcome) i.1.words x) d.3 i.4))
       ]
     ])
 
@@ -288,7 +300,7 @@ module _ {F O : Type 0} (c : Code F O) where
         λ x i j. right_parts.2 x (left_same c.writes local.writes x i) (ah.touches x j),
         λ x i j. right_parts.3 x (ah.writes x i) (left_same (touches c) (touches_determined c local) x j),
         λ d' p' i j.
-          let d = right_rest d' p' i j in
-          subst (λ (o : O). Calm c (rejoin c g o p'.outcome) p'.words) (sym d.3) (right_parts.4 d.0 (with_counts k p') d.1 d.2),
+            let d = right_rest d' p' i j in
+            subst (λ (o : O). Calm c (rejoin c g o p'.outcome) p'.words) (sym d.3) (right_parts.4 d.0 (with_counts k p') d.1 d.2),
       );
     }

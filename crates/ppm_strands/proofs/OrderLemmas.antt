@@ -1,10 +1,9 @@
 -- The depth-first run is one of the orders in which the strands may make their steps.
-use Rattle.std.proofs.Common.{◌≡◌, ℕ, zero, suc, Option, Some, None, refl, sym, ap, ◌∙◌, subst}
+use Rattle.std.proofs.Common.{◌≡◌, ℕ, zero, suc, Some, sym, ap, ◌∙◌, subst}
 use Rattle.ppm_strands.specs.Tree.{Words, Tree, Strand, Call, Fork, Over, Code}
-use Rattle.ppm_strands.specs.Run.{Counts, none, plus, End, with_counts, of_capsule, rejoin, run}
-use Rattle.ppm_strands.specs.Ahead.{Step, Capsule, Return, Join, UnderCall, InLeft, InRight, Steps, Done, More}
+use Rattle.ppm_strands.specs.Run.{Counts, plus, End, with_counts, of_capsule, rejoin, run}
+use Rattle.ppm_strands.specs.Ahead.{Capsule, Return, Join, UnderCall, InLeft, InRight, Steps, Done, More}
 use Rattle.ppm_strands.proofs.RunLemmas.{end_or, plus_none, plus_assoc, counted_some, then_some}
-use Rattle.ppm_strands.proofs.PartsLemmas.{over_end}
 
 module _ {F O : Type 0} (c : Code F O) where
   -- steps after steps
@@ -33,14 +32,15 @@ module _ {F O : Type 0} (c : Code F O) where
   call_steps : (g : F) (t : Tree F O) (a : Words) (d s : End O) → StepsTo t a d → StepsTo (c.resume g d.outcome) d.words s
       → StepsTo (Call g t) a (with_counts d.counts s)
   call_steps g t a d s p q =
-      let back = subst (λ (k : Counts). Steps c k (Call g (Over d.outcome)) d.words (Over s.outcome) s.words) (plus_none s.counts) (More (Return g d.outcome d.words) q) in
+      let back = subst (λ (k : Counts). Steps c k (Call g (Over d.outcome)) d.words (Over s.outcome) s.words) (plus_none s.counts)
+      (More (Return g d.outcome d.words) q) in
       then_steps (under g p) back
 
   fork_steps : (g : F) (l r : Tree F O) (a : Words) (d p s : End O) → StepsTo l a d → StepsTo r d.words p
       → StepsTo (rejoin c g d.outcome p.outcome) p.words s → StepsTo (Fork g l r) a (with_counts d.counts (with_counts p.counts s))
   fork_steps g l r a d p s i j k =
       let back = subst (λ (m : Counts). Steps c m (Fork g (Over d.outcome) (Over p.outcome)) p.words (Over s.outcome) s.words) (plus_none s.counts)
-        (More (Join g d.outcome p.outcome p.words) k) in
+      (More (Join g d.outcome p.outcome p.words) k) in
       then_steps (left g r i) (then_steps (right g (Over d.outcome) j) back)
 
   pub depth_first : (n : ℕ) (t : Tree F O) (a : Words) (e : End O) → run c n t a ≡ Some e → StepsTo t a e

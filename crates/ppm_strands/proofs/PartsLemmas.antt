@@ -1,8 +1,9 @@
 -- The ends, the gathered words and calm trees by a tree's parts, without bounds.
-use Rattle.std.proofs.Common.{◌≡◌, ℕ, zero, suc, ◌+◌, ◌-◌, ◌≤◌, List, [], ◌∷◌, ◌++◌, Option, Some, None, ◌⊎◌, inl, inr, ◌↔◌, refl, sym, ap, ◌∙◌, subst, subst₂, arith}
+use Rattle.std.proofs.Common.{◌≡◌, ℕ, zero, suc, ◌+◌, ◌-◌, ◌≤◌, ◌⊎◌, inl, inr, ◌↔◌, refl, sym, ap, ◌∙◌, subst, subst₂, arith}
+use Rattle.std.proofs.Common.{List, [], ◌∷◌, ◌++◌, Option, Some, None}
 use Rattle.ppm_strands.specs.Tree.{Words, Tree, Strand, Call, Fork, Over, Code, Has}
-use Rattle.ppm_strands.specs.Run.{Counts, none, End, with_counts, of_capsule, counted, then_run, rejoin, run, Ends}
-use Rattle.ppm_strands.specs.Calm.{then_list, Then, gathered, Gathers, Writes, Touches, touches, IsApart, ApartWithin, CalmWithin, Calm}
+use Rattle.ppm_strands.specs.Run.{none, End, with_counts, of_capsule, counted, rejoin, run, Ends}
+use Rattle.ppm_strands.specs.Calm.{then_list, Then, gathered, Gathers, touches, IsApart, ApartWithin, CalmWithin, Calm}
 use Rattle.ppm_strands.specs.Parts.{Follows, EndsByParts, GathersByParts, CalmByParts}
 use Rattle.ppm_strands.proofs.RunLemmas.{end_or, counted_some, then_some, then_made, with_none, longer, within}
 
@@ -80,19 +81,25 @@ module _ {F O : Type 0} (c : Code F O) where
       let m = i.0 + j.0 + k.0 in
       let le : i.0 ≤ i.0 + j.0 + k.0 = omega arith in
       let me : j.0 ≤ i.0 + j.0 + k.0 = omega arith in
-      let ge : k.0 ≤ i.0 + j.0 + k.0 = omega arith in
-      (suc m, then_made (run c m l a) _ d (with_counts p.counts s) (within c i.0 m le l a d i.1)
-      (then_made (run c m r d.words) _ p s (within c j.0 m me r d.words p j.1) (within c k.0 m ge _ p.words s k.1)))
+      let ge : k.0 ≤ i.0 + j.0 + k.0 = omega arith in (
+        suc m,
+        then_made (run c m l a) _ d (with_counts p.counts s) (within c i.0 m le l a d i.1)
+            (then_made (run c m r d.words) _ p s (within c j.0 m me r d.words p j.1) (within c k.0 m ge _ p.words s k.1)),
+      )
 
   pub ends_by_parts : EndsByParts c
   ends_by_parts = record {
     over = λ o a e. (λ p. ends_over o a e p.0 p.1, λ p. (1, ap (λ (d : End O). Some d) (sym p)));
     strand = λ f a e. (λ p. ends_strand f a e p.0 p.1, λ p. (suc p.1.0, ap (counted _) p.1.1 ∙ ap (λ (d : End O). Some d) (sym p.2)));
-    call = λ g t a e. (λ p. ends_call g t a e p.0 p.1,
-    λ p. subst (λ (d : End O). Ends c (Call g t) a d) (sym p.2.2) (call_ends g t a p.0 p.2.0 p.1 p.2.1));
-    fork = λ g l r a e. (λ p. ends_fork g l r a e p.0 p.1,
-    λ p. subst (λ (d : End O). Ends c (Fork g l r) a d) (sym (p.2.2 ∙ ap (with_counts p.0.counts) p.2.1.2.2))
-    (fork_ends g l r a p.0 p.2.1.0 p.2.1.2.0 p.1 p.2.1.1 p.2.1.2.1));
+    call = λ g t a e. (
+      λ p. ends_call g t a e p.0 p.1,
+      λ p. subst (λ (d : End O). Ends c (Call g t) a d) (sym p.2.2) (call_ends g t a p.0 p.2.0 p.1 p.2.1),
+    );
+    fork = λ g l r a e. (
+      λ p. ends_fork g l r a e p.0 p.1,
+      λ p. subst (λ (d : End O). Ends c (Fork g l r) a d) (sym (p.2.2 ∙ ap (with_counts p.0.counts) p.2.1.2.2))
+          (fork_ends g l r a p.0 p.2.1.0 p.2.1.2.0 p.1 p.2.1.1 p.2.1.2.1),
+    );
   }
 
   module _ (s : F → Words → List ℕ) where
@@ -144,11 +151,13 @@ module _ {F O : Type 0} (c : Code F O) where
     call_gathers g t a x h = elim h [
       | inl i ↦ (suc i.0, has_left x (gathered c s i.0 t a) _ i.1)
       | inr p ↦
-        let m = p.1.0 + p.2.0 in
-        let le : p.1.0 ≤ p.1.0 + p.2.0 = omega arith in
-        let ge : p.2.0 ≤ p.1.0 + p.2.0 = omega arith in
-        (suc m, has_right x (gathered c s m t a) _ (list_made x (run c m t a) _ p.0 (within c p.1.0 m le t a p.0 p.1.1)
-        (gathers_within x p.2.0 m ge (c.resume g p.0.outcome) p.0.words p.2.1)))
+          let m = p.1.0 + p.2.0 in
+          let le : p.1.0 ≤ p.1.0 + p.2.0 = omega arith in
+          let ge : p.2.0 ≤ p.1.0 + p.2.0 = omega arith in (
+            suc m,
+            has_right x (gathered c s m t a) _ (list_made x (run c m t a) _ p.0 (within c p.1.0 m le t a p.0 p.1.1)
+                (gathers_within x p.2.0 m ge (c.resume g p.0.outcome) p.0.words p.2.1)),
+          )
     ]
 
     gathers_fork : (g : F) (l r : Tree F O) (a : Words) (x n : ℕ) → Has x (gathered c s n (Fork g l r) a)
@@ -160,9 +169,9 @@ module _ {F O : Type 0} (c : Code F O) where
       | inr i ↦ elim (has_cases x (gathered c s n r a) _ i) [
         | inl j ↦ inr (inl (n, j))
         | inr j ↦
-          let d = list_some x (run c n l a) _ j in
-          let p = list_some x (run c n r d.0.words) _ d.2 in
-          inr (inr (d.0, p.0, (n, d.1), (n, p.1), (n, p.2)))
+            let d = list_some x (run c n l a) _ j in
+            let p = list_some x (run c n r d.0.words) _ d.2 in
+            inr (inr (d.0, p.0, (n, d.1), (n, p.1), (n, p.2)))
       ]
     ]
 
@@ -174,14 +183,16 @@ module _ {F O : Type 0} (c : Code F O) where
       | inr k ↦ elim k [
         | inl i ↦ (suc i.0, has_right x (gathered c s i.0 l a) _ (has_left x (gathered c s i.0 r a) _ i.1))
         | inr p ↦
-          let m = p.2.0 + p.3.0 + p.4.0 in
-          let le : p.2.0 ≤ p.2.0 + p.3.0 + p.4.0 = omega arith in
-          let me : p.3.0 ≤ p.2.0 + p.3.0 + p.4.0 = omega arith in
-          let ge : p.4.0 ≤ p.2.0 + p.3.0 + p.4.0 = omega arith in
-          (suc m, has_right x (gathered c s m l a) _ (has_right x (gathered c s m r a) _
-          (list_made x (run c m l a) _ p.0 (within c p.2.0 m le l a p.0 p.2.1)
-          (list_made x (run c m r p.0.words) _ p.1 (within c p.3.0 m me r p.0.words p.1 p.3.1)
-          (gathers_within x p.4.0 m ge (rejoin c g p.0.outcome p.1.outcome) p.1.words p.4.1)))))
+            let m = p.2.0 + p.3.0 + p.4.0 in
+            let le : p.2.0 ≤ p.2.0 + p.3.0 + p.4.0 = omega arith in
+            let me : p.3.0 ≤ p.2.0 + p.3.0 + p.4.0 = omega arith in
+            let ge : p.4.0 ≤ p.2.0 + p.3.0 + p.4.0 = omega arith in (
+              suc m,
+              has_right x (gathered c s m l a) _ (has_right x (gathered c s m r a) _
+                  (list_made x (run c m l a) _ p.0 (within c p.2.0 m le l a p.0 p.2.1)
+                  (list_made x (run c m r p.0.words) _ p.1 (within c p.3.0 m me r p.0.words p.1 p.3.1)
+                  (gathers_within x p.4.0 m ge (rejoin c g p.0.outcome p.1.outcome) p.1.words p.4.1)))),
+            )
       ]
     ]
 
@@ -212,9 +223,14 @@ module _ {F O : Type 0} (c : Code F O) where
   calm_shorter (suc n) (Strand f) a h = calm_shorter n (c.next f a) (c.after f a) h
   calm_shorter (suc n) (Call g t) a h =
       (calm_shorter n t a h.0, then_shorter (run c n t a) (run c (suc n) t a) _ _ (λ e. longer c n t a e) (λ o b. calm_shorter n (c.resume g o) b) h.1)
-  calm_shorter (suc n) (Fork g l r) a h = (calm_shorter n l a h.0, calm_shorter n r a h.1, apart_shorter n l r a h.2, apart_shorter n r l a h.3,
-      then_shorter (run c n l a) (run c (suc n) l a) _ _ (λ e. longer c n l a e)
-      (λ o b. then_shorter (run c n r b) (run c (suc n) r b) _ _ (λ e. longer c n r b e) (λ p d. calm_shorter n (rejoin c g o p) d)) h.4)
+  calm_shorter (suc n) (Fork g l r) a h = (
+    calm_shorter n l a h.0,
+    calm_shorter n r a h.1,
+    apart_shorter n l r a h.2,
+    apart_shorter n r l a h.3,
+    then_shorter (run c n l a) (run c (suc n) l a) _ _ (λ e. longer c n l a e)
+        (λ o b. then_shorter (run c n r b) (run c (suc n) r b) _ _ (λ e. longer c n r b e) (λ p d. calm_shorter n (rejoin c g o p) d)) h.4,
+  )
 
   calm_less : (k n : ℕ) (t : Tree F O) (a : Words) → CalmWithin c (k + n) t a → CalmWithin c n t a
   calm_less zero n t a h = let e : 0 + n ≡ n = omega arith in subst (λ (i : ℕ). CalmWithin c i t a) e h
@@ -224,9 +240,11 @@ module _ {F O : Type 0} (c : Code F O) where
 
   -- the parts of a calm call
   calm_call : (g : F) (t : Tree F O) (a : Words) → Calm c (Call g t) a → Calm c t a × ((d : End O) → Ends c t a d → Calm c (c.resume g d.outcome) d.words)
-  calm_call g t a calm = (λ n. (calm (suc n)).0,
-      λ d p n. let le : p.0 ≤ p.0 + n = omega arith in
-      calm_less p.0 n (c.resume g d.outcome) d.words (then_at (run c (p.0 + n) t a) _ d (within c p.0 (p.0 + n) le t a d p.1) (calm (suc (p.0 + n))).1))
+  calm_call g t a calm = (
+    λ n. (calm (suc n)).0,
+    λ d p n. let le : p.0 ≤ p.0 + n = omega arith in
+        calm_less p.0 n (c.resume g d.outcome) d.words (then_at (run c (p.0 + n) t a) _ d (within c p.0 (p.0 + n) le t a d p.1) (calm (suc (p.0 + n))).1),
+  )
 
   call_calm : (g : F) (t : Tree F O) (a : Words) → Calm c t a → ((d : End O) → Ends c t a d → Calm c (c.resume g d.outcome) d.words)
       → (n : ℕ) → CalmWithin c n (Call g t) a
@@ -244,19 +262,24 @@ module _ {F O : Type 0} (c : Code F O) where
       × ((d p : End O) → Ends c l a d → Ends c r d.words p → Calm c (rejoin c g d.outcome p.outcome) p.words)
   calm_fork g l r a calm =
       let after : (d p : End O) → Ends c l a d → Ends c r d.words p → Calm c (rejoin c g d.outcome p.outcome) p.words = λ d p i j n.
-        let m = (i.0 + j.0) + n in
-        let le : i.0 ≤ (i.0 + j.0) + n = omega arith in
-        let ge : j.0 ≤ (i.0 + j.0) + n = omega arith in
-        calm_less (i.0 + j.0) n (rejoin c g d.outcome p.outcome) p.words (then_at (run c m r d.words) _ p (within c j.0 m ge r d.words p j.1)
-        (then_at (run c m l a) _ d (within c i.0 m le l a d i.1) (calm (suc m)).4)) in
+      let m = (i.0 + j.0) + n in
+      let le : i.0 ≤ (i.0 + j.0) + n = omega arith in
+      let ge : j.0 ≤ (i.0 + j.0) + n = omega arith in
+      calm_less (i.0 + j.0) n (rejoin c g d.outcome p.outcome) p.words (then_at (run c m r d.words) _ p (within c j.0 m ge r d.words p j.1)
+      (then_at (run c m l a) _ d (within c i.0 m le l a d i.1) (calm (suc m)).4)) in
       (λ n. (calm (suc n)).0, λ n. (calm (suc n)).1, calm_apart g l r a (λ n. (calm (suc n)).2), calm_apart g r l a (λ n. (calm (suc n)).3), after)
 
   fork_calm : (g : F) (l r : Tree F O) (a : Words) → Calm c l a → Calm c r a → IsApart c l r a → IsApart c r l a
       → ((d p : End O) → Ends c l a d → Ends c r d.words p → Calm c (rejoin c g d.outcome p.outcome) p.words)
       → (n : ℕ) → CalmWithin c n (Fork g l r) a
   fork_calm g l r a cl cr lr rl k zero = tt
-  fork_calm g l r a cl cr lr rl k (suc n) = (cl n, cr n, λ x i j. lr x (n, i) (n, j), λ x i j. rl x (n, i) (n, j),
-      then_all (run c n l a) _ (λ d is. then_all (run c n r d.words) _ (λ p iz. k d p (n, is) (n, iz) n)))
+  fork_calm g l r a cl cr lr rl k (suc n) = (
+    cl n,
+    cr n,
+    λ x i j. lr x (n, i) (n, j),
+    λ x i j. rl x (n, i) (n, j),
+    then_all (run c n l a) _ (λ d is. then_all (run c n r d.words) _ (λ p iz. k d p (n, is) (n, iz) n)),
+  )
 
   over_calm : (o : O) (a : Words) (n : ℕ) → CalmWithin c n (Over o) a
   over_calm o a zero = tt
@@ -276,21 +299,25 @@ module _ {F O : Type 0} (c : Code F O) where
 
   -- a call whose callee is over, and what follows it
   pub call_over : (g : F) (o : O) (a : Words) (e : End O) → Ends c (Call g (Over o)) a e ↔ Ends c (c.resume g o) a e
-  call_over g o a e = (λ h. let p = (ends_by_parts.call g (Over o) a e).0 h in
-      let is = (ends_by_parts.over o a p.0).0 p.1 in
-      let same = p.2.2 ∙ ap (λ (d : End O). with_counts d.counts p.2.0) is ∙ with_none p.2.0 in
-      subst (λ (z : End O). Ends c (c.resume g o) a z) (sym same) (subst (λ (d : End O). Ends c (c.resume g d.outcome) d.words p.2.0) is p.2.1),
-      λ h. subst (λ (z : End O). Ends c (Call g (Over o)) a z) (with_none e) (call_ends g (Over o) a (over_end o a) e (1, refl) h))
+  call_over g o a e = (
+    λ h. let p = (ends_by_parts.call g (Over o) a e).0 h in
+        let is = (ends_by_parts.over o a p.0).0 p.1 in
+        let same = p.2.2 ∙ ap (λ (d : End O). with_counts d.counts p.2.0) is ∙ with_none p.2.0 in
+        subst (λ (z : End O). Ends c (c.resume g o) a z) (sym same) (subst (λ (d : End O). Ends c (c.resume g d.outcome) d.words p.2.0) is p.2.1),
+    λ h. subst (λ (z : End O). Ends c (Call g (Over o)) a z) (with_none e) (call_ends g (Over o) a (over_end o a) e (1, refl) h),
+  )
 
   -- a fork whose branches are over, and what follows it
   pub fork_over : (g : F) (o q : O) (a : Words) (e : End O) → Ends c (Fork g (Over o) (Over q)) a e ↔ Ends c (rejoin c g o q) a e
-  fork_over g o q a e = (λ h. let p = (ends_by_parts.fork g (Over o) (Over q) a e).0 h in
-      let is = (ends_by_parts.over o a p.0).0 p.1 in
-      let iz = (ends_by_parts.over q p.0.words p.2.1.0).0 p.2.1.1 ∙ ap (λ (d : End O). over_end q d.words) is in
-      let s = p.2.1.2.0 in
-      let first = p.2.2 ∙ ap (λ (d : End O). with_counts d.counts p.2.0) is ∙ with_none p.2.0 in
-      let second = p.2.1.2.2 ∙ ap (λ (d : End O). with_counts d.counts s) iz ∙ with_none s in
-      let last = subst₂ (λ (d m : End O). Ends c (rejoin c g d.outcome m.outcome) m.words s) is iz p.2.1.2.1 in
-      subst (λ (z : End O). Ends c (rejoin c g o q) a z) (sym (first ∙ second)) last,
-      λ h. subst (λ (z : End O). Ends c (Fork g (Over o) (Over q)) a z) (with_none _ ∙ with_none e)
-      (fork_ends g (Over o) (Over q) a (over_end o a) (over_end q a) e (1, refl) (1, refl) h))
+  fork_over g o q a e = (
+    λ h. let p = (ends_by_parts.fork g (Over o) (Over q) a e).0 h in
+        let is = (ends_by_parts.over o a p.0).0 p.1 in
+        let iz = (ends_by_parts.over q p.0.words p.2.1.0).0 p.2.1.1 ∙ ap (λ (d : End O). over_end q d.words) is in
+        let s = p.2.1.2.0 in
+        let first = p.2.2 ∙ ap (λ (d : End O). with_counts d.counts p.2.0) is ∙ with_none p.2.0 in
+        let second = p.2.1.2.2 ∙ ap (λ (d : End O). with_counts d.counts s) iz ∙ with_none s in
+        let last = subst₂ (λ (d m : End O). Ends c (rejoin c g d.outcome m.outcome) m.words s) is iz p.2.1.2.1 in
+        subst (λ (z : End O). Ends c (rejoin c g o q) a z) (sym (first ∙ second)) last,
+    λ h. subst (λ (z : End O). Ends c (Fork g (Over o) (Over q)) a z) (with_none _ ∙ with_none e)
+        (fork_ends g (Over o) (Over q) a (over_end o a) (over_end q a) e (1, refl) (1, refl) h),
+  )

@@ -1,12 +1,11 @@
 -- The races of the small instance, its endless branch, and a fork that is calm.
-use Rattle.std.proofs.Common.{◌≡◌, ℕ, zero, suc, ◌+◌, ◌%◌, List, [], ◌∷◌, ◌++◌, Option, Some, None, ◌⊎◌, inl, inr, refl, sym, ap, ◌∙◌, subst, lit<}
-use Rattle.ppm_strands.specs.Tree.{Words, Tree, Strand, Fork, Over, Code, Local, Has}
-use Rattle.ppm_strands.specs.Run.{End, Ends, joined, run}
-use Rattle.ppm_strands.specs.Calm.{touches, Gathers, Writes, Touches, Calm}
+use Rattle.std.proofs.Common.{◌≡◌, ℕ, zero, suc, ◌+◌, ◌%◌, List, [], ◌∷◌, Some, ◌⊎◌, inl, inr, refl, sym, ap, ◌∙◌, subst}
+use Rattle.ppm_strands.specs.Tree.{Words, Strand, Has}
+use Rattle.ppm_strands.specs.Run.{End, joined, run}
+use Rattle.ppm_strands.specs.Calm.{touches, Gathers, Calm}
 use Rattle.ppm_strands.specs.Ahead.{put}
 use Rattle.ppm_strands.specs.Sample.{address, capsule_at, resumed_tree, sample}
-use Rattle.ppm_strands.specs.Races.{racing, fork_of, start, RacesAreNotCalm, RacesBesideNoEndAreNotCalm, NoEndBeside, RacesLoseTheLaw, ApartIsCalm, SamplesAreLocal}
-use Rattle.ppm_strands.specs.declared.sample.Capsule.{Capsule}
+use Rattle.ppm_strands.specs.Races.{racing, RacesAreNotCalm, RacesBesideNoEndAreNotCalm, NoEndBeside, RacesLoseTheLaw, ApartIsCalm, SamplesAreLocal}
 use Rattle.ppm_strands.specs.declared.sample.Outcome.{Outcome}
 use Rattle.ppm_strands.specs.declared.sample.Outcome.TheVariants.{Finished, Trapped}
 use Rattle.ppm_strands.proofs.RunLemmas.{counted_some}
@@ -95,10 +94,10 @@ samples_are_local table = record {
   asks = λ f a b on. refl;
   values = λ f a b on x h. elim h [
     | inl e ↦
-      let p = capsule_at table f in
-      let same = ap (λ (n : ℕ). (n + p.plus) % 256) (on (address p.from) (inl refl)) in
-      subst (λ (y : ℕ). put b (address p.to) ((b (address p.from) + p.plus) % 256) y ≡ put a (address p.to) ((a (address p.from) + p.plus) % 256) y) (sym e)
-      (put_at b (address p.to) _ ∙ same ∙ sym (put_at a (address p.to) _))
+        let p = capsule_at table f in
+        let same = ap (λ (n : ℕ). (n + p.plus) % 256) (on (address p.from) (inl refl)) in
+        subst (λ (y : ℕ). put b (address p.to) ((b (address p.from) + p.plus) % 256) y ≡ put a (address p.to) ((a (address p.from) + p.plus) % 256) y) (sym e)
+        (put_at b (address p.to) _ ∙ same ∙ sym (put_at a (address p.to) _))
     | inr none ↦ absurd none
   ];
   frame = λ f a x out. put_else a (address (capsule_at table f).to) _ x (λ e. out (inl e));

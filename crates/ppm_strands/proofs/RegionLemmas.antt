@@ -1,9 +1,9 @@
 -- Every separate tree is calm: by induction on the bound, with what it touches and writes.
-use Rattle.std.proofs.Common.{◌≡◌, ℕ, zero, suc, IsTrue, List, [], ◌++◌, Option, Some, None, ◌⊎◌, inl, inr, refl}
+use Rattle.std.proofs.Common.{ℕ, zero, suc, IsTrue, inl, inr}
 use Rattle.ppm_strands.specs.Tree.{Words, Tree, Strand, Call, Fork, Over, Code, Has}
 use Rattle.ppm_strands.specs.Run.{End, joined, rejoin, run}
-use Rattle.ppm_strands.specs.Calm.{gathered, touches, ApartWithin, CalmWithin}
-use Rattle.ppm_strands.specs.Regions.{Regions, of_frames, AreSeparate, IsSeparate, OwnsNoMore, Respects}
+use Rattle.ppm_strands.specs.Calm.{gathered, touches, CalmWithin}
+use Rattle.ppm_strands.specs.Regions.{Regions, of_frames, IsSeparate, OwnsNoMore, Respects}
 use Rattle.ppm_strands.proofs.PartsLemmas.{has_left, has_right, has_cases, list_some, then_all}
 
 module _ {F O : Type 0} (c : Code F O) (s : Regions F) (respects : Respects s c) where
@@ -80,9 +80,9 @@ module _ {F O : Type 0} (c : Code F O) (s : Regions F) (respects : Respects s c)
             | inr k ↦ elim (has_cases x (gathered c (touches c) n r a) _ k) [
               | inl i ↦ has_right x (s.owns g) _ (has_right x (of_frames s.owns l) _ (right.touches x i))
               | inr i ↦
-                let d = list_some x (run c n l a) _ i in
-                let p = list_some x (run c n r d.0.words) _ d.2 in
-                has_left x (s.owns g) _ ((goes d.0 p.0).owned x ((later d.0 p.0).touches x p.2))
+                  let d = list_some x (run c n l a) _ i in
+                  let p = list_some x (run c n r d.0.words) _ d.2 in
+                  has_left x (s.owns g) _ ((goes d.0 p.0).owned x ((later d.0 p.0).touches x p.2))
             ]
           ];
           writes = λ x h. elim (has_cases x (gathered c c.writes n l a) _ h) [
@@ -90,9 +90,9 @@ module _ {F O : Type 0} (c : Code F O) (s : Regions F) (respects : Respects s c)
             | inr k ↦ elim (has_cases x (gathered c c.writes n r a) _ k) [
               | inl i ↦ has_right x (s.may_write g) _ (has_right x (of_frames s.may_write l) _ (right.writes x i))
               | inr i ↦
-                let d = list_some x (run c n l a) _ i in
-                let p = list_some x (run c n r d.0.words) _ d.2 in
-                has_left x (s.may_write g) _ ((goes d.0 p.0).written x ((later d.0 p.0).writes x p.2))
+                  let d = list_some x (run c n l a) _ i in
+                  let p = list_some x (run c n r d.0.words) _ d.2 in
+                  has_left x (s.may_write g) _ ((goes d.0 p.0).written x ((later d.0 p.0).writes x p.2))
             ]
           ];
         }

@@ -1,5 +1,5 @@
 -- The plain run of the small instance: its fork, and how far its counts can go.
-use Rattle.std.proofs.Common.{◌≡◌, ℕ, zero, suc, ◌+◌, ◌-◌, ◌*◌, ◌^◌, ◌<◌, ◌≤◌, List, Some, refl, sym, ap, ◌∙◌, subst, pow-suc, le_trans, lit<, lit≤, arith}
+use Rattle.std.proofs.Common.{◌≡◌, ℕ, zero, suc, ◌+◌, ◌-◌, ◌^◌, ◌<◌, ◌≤◌, List, Some, refl, sym, ap, ◌∙◌, subst, pow-suc, le_trans, lit<, lit≤, arith}
 use Rattle.ppm_strands.specs.Tree.{Words, Tree, Strand, Fork}
 use Rattle.ppm_strands.specs.Run.{End, with_counts, joined, run}
 use Rattle.ppm_strands.specs.Sample.{AreAtMost, counts_of, end_of, resumed_tree, sample, words_of}
@@ -43,7 +43,8 @@ pub fork_made : (table : List Capsule) (b n g l r : ℕ) (ws : List ℕ) (d p s 
 fork_made table b n g l r ws d p s f e o t is hd hp ho ht hs hf he =
     let c = sample table in
     let goes = ap (λ (u : Tree ℕ Outcome). run c n u (words_of p.words)) (sym (ht ∙ ap (resumed_tree g) ho)) ∙ sym hs in
-    let both = then_made (run c n (Strand r) (words_of d.words)) (λ q m. run c n (resumed_tree g (joined c d.outcome q)) m) (end_of p) (end_of s) (sym hp) goes in
+    let after = λ (q : Outcome) (m : Words). run c n (resumed_tree g (joined c d.outcome q)) m in
+    let both = then_made (run c n (Strand r) (words_of d.words)) after (end_of p) (end_of s) (sym hp) goes in
     let all = then_made (run c n (Strand l) (words_of ws)) _ (end_of d) (with_counts (counts_of p.counts) (end_of s)) (sym hd) both in
     let end = he ∙ ap (with_counts (counts_of d.counts)) hf in
     ap (λ (z : End Outcome). Some z) end ∙ sym all ∙ ap (λ (m : ℕ). run c m (Fork g (Strand l) (Strand r)) (words_of ws)) (sym is)

@@ -1,13 +1,13 @@
 -- The steps of a strand are changes ahead of the order: at the root by what its run would do, elsewhere since changes pass up.
-use Rattle.std.proofs.Common.{◌≡◌, ℕ, zero, suc, ◌+◌, Bool, true, false, cond, ◌==◌, List, ◌++◌, Option, Some, None, ◌⊎◌, inl, inr, ◌↔◌, refl, sym, ap, ap₂, ◌∙◌, subst, subst₂, arith}
+use Rattle.std.proofs.Common.{◌≡◌, ℕ, ◌==◌, List, ◌++◌, inl, inr, ◌↔◌, refl, sym, ap, ap₂, ◌∙◌, subst, subst₂}
 use Rattle.std.proofs.Math.Path.{fun_ext}
 use Rattle.std.proofs.lemmas.Bool.{cond-false, cond-true, eq-eqb, ne_eqb}
 use Rattle.ppm_strands.specs.Tree.{Words, Tree, Strand, Call, Fork, Over, forks_in, Code, Local, Has, On}
-use Rattle.ppm_strands.specs.Run.{Counts, none, plus, End, with_counts, of_capsule, rejoin, run, Ends}
-use Rattle.ppm_strands.specs.Calm.{touches, Gathers, Writes, Touches, Calm}
+use Rattle.ppm_strands.specs.Run.{Counts, none, plus, End, with_counts, of_capsule, rejoin, Ends}
+use Rattle.ppm_strands.specs.Calm.{touches, Gathers, Calm}
 use Rattle.ppm_strands.specs.Ahead.{Ahead, Redoes, put, Step, Capsule, Store, Return, Join, UnderCall, InLeft, InRight, Steps, Done, More}
-use Rattle.ppm_strands.proofs.RunLemmas.{counts_path, plus_none, plus_assoc, plus_comm, with_none, with_plus, one_end}
-use Rattle.ppm_strands.proofs.PartsLemmas.{has_left, has_right, has_cases, call_over, fork_over, over_end, ends_by_parts, gathers_by_parts, calm_by_parts}
+use Rattle.ppm_strands.proofs.RunLemmas.{counts_path, plus_none, plus_comm, with_none, with_plus}
+use Rattle.ppm_strands.proofs.PartsLemmas.{call_over, fork_over, over_end, ends_by_parts, gathers_by_parts, calm_by_parts}
 use Rattle.ppm_strands.proofs.CalmLemmas.{has_or_not}
 use Rattle.ppm_strands.proofs.AheadLemmas.{under_call, in_left, in_right}
 
@@ -65,13 +65,19 @@ module _ {F O : Type 0} (c : Code F O) where
     same_ends : (e : End O) → Ends c (Strand f) a e ↔ Ends c (Strand f') a' e
     same_ends e = (
       λ h.
-        let d = ((ends_by_parts c).strand f a e).0 h in
-        ((ends_by_parts c).strand f' a' e).1 (d.0, subst₂ (λ (t : Tree F O) (b : Words). Ends c t b d.0) (sym again.next) (sym same_after) d.1,
-        d.2 ∙ ap (λ (k : Counts). with_counts k d.0) (sym same_capsule)),
+          let d = ((ends_by_parts c).strand f a e).0 h in
+          ((ends_by_parts c).strand f' a' e).1 (
+            d.0,
+            subst₂ (λ (t : Tree F O) (b : Words). Ends c t b d.0) (sym again.next) (sym same_after) d.1,
+            d.2 ∙ ap (λ (k : Counts). with_counts k d.0) (sym same_capsule),
+          ),
       λ h.
-        let d = ((ends_by_parts c).strand f' a' e).0 h in
-        ((ends_by_parts c).strand f a e).1 (d.0, subst₂ (λ (t : Tree F O) (b : Words). Ends c t b d.0) again.next same_after d.1,
-        d.2 ∙ ap (λ (k : Counts). with_counts k d.0) same_capsule),
+          let d = ((ends_by_parts c).strand f' a' e).0 h in
+          ((ends_by_parts c).strand f a e).1 (
+            d.0,
+            subst₂ (λ (t : Tree F O) (b : Words). Ends c t b d.0) again.next same_after d.1,
+            d.2 ∙ ap (λ (k : Counts). with_counts k d.0) same_capsule,
+          ),
     )
 
     no_more : (s : F → Words → List ℕ) (x : ℕ) → (Has x (s f' a') → Has x (s f a)) → Gathers c s (Strand f') a' x → Gathers c s (Strand f) a x
@@ -90,7 +96,7 @@ module _ {F O : Type 0} (c : Code F O) where
       writes = λ x. no_more c.writes x (again.writes x);
       changes = λ x out. again.changes x (λ h. out (((gathers_by_parts c c.writes).strand f a x).1 (inl h)));
       calm = ((calm_by_parts c).strand f' a').1
-        (subst₂ (λ (t : Tree F O) (b : Words). Calm c t b) (sym again.next) (sym same_after) (((calm_by_parts c).strand f a).0 calm));
+          (subst₂ (λ (t : Tree F O) (b : Words). Calm c t b) (sym again.next) (sym same_after) (((calm_by_parts c).strand f a).0 calm));
     }
 
   return_ahead : (g : F) (o : O) (a : Words) → Calm c (Call g (Over o)) a → Ahead c none (Call g (Over o)) a (c.resume g o) a
@@ -162,9 +168,9 @@ module _ {F O : Type 0} (c : Code F O) where
     stored_after y = elim (has_or_not y (c.writes f a)) [
       | inl h ↦ local.values f a stored unread y h
       | inr not ↦
-        local.frame f stored y (λ h. not (subst (λ (xs : List ℕ). Has y xs) (local.writes f a stored unread) h))
-        ∙ put_else a x (c.after f a x) y (λ e. not (subst (λ (z : ℕ). Has z (c.writes f a)) (sym e) w))
-        ∙ sym (local.frame f a y not)
+          local.frame f stored y (λ h. not (subst (λ (xs : List ℕ). Has y xs) (local.writes f a stored unread) h))
+          ∙ put_else a x (c.after f a x) y (λ e. not (subst (λ (z : ℕ). Has z (c.writes f a)) (sym e) w))
+          ∙ sym (local.frame f a y not)
     ]
 
     pub store_redoes : Redoes c f a f stored
@@ -172,7 +178,9 @@ module _ {F O : Type 0} (c : Code F O) where
       next = local.next f a stored unread;
       after = stored_after;
       asks = local.asks f a stored unread;
-      touches = λ y h. subst (λ (xs : List ℕ). Has y xs) (ap₂ (λ (us vs : List ℕ). us ++ vs) (local.reads f a stored unread) (local.writes f a stored unread)) h;
+      touches = λ y h.
+          let same = ap₂ (λ (us vs : List ℕ). us ++ vs) (local.reads f a stored unread) (local.writes f a stored unread) in
+          subst (λ (xs : List ℕ). Has y xs) same h;
       writes = λ y h. subst (λ (xs : List ℕ). Has y xs) (local.writes f a stored unread) h;
       changes = λ y not. put_else a x (c.after f a x) y (λ e. not (subst (λ (z : ℕ). Has z (c.writes f a)) (sym e) w));
     }

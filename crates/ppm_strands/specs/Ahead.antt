@@ -1,5 +1,5 @@
 -- What a strand may do ahead of the depth-first order, and what that leaves of the run of the whole tree.
-use Rattle.std.specs.Prelude.{◌≡◌, ℕ, List, cond, ◌==◌, ◌↔◌}
+use Rattle.std.specs.Prelude.{◌≡◌, ℕ, cond, ◌==◌, ◌↔◌}
 use Rattle.ppm_strands.specs.Tree.{Words, Tree, Strand, Call, Fork, Over, Code, Has, Off}
 use Rattle.ppm_strands.specs.Run.{Counts, none, plus, End, with_counts, of_capsule, rejoin, Ends}
 use Rattle.ppm_strands.specs.Calm.{touches, Writes, Touches, Calm}
@@ -64,6 +64,10 @@ StoresRedo {F} {O} c = (f : F) (a : Words) (x : ℕ) → Has x (c.writes f a) �
 -- a step of any strand of a calm tree is ahead of the order
 abbrev pub StepsAreAhead : {F O : Type 0} → Code F O → Type 0
 StepsAreAhead {F} {O} c = (k : Counts) (t t' : Tree F O) (a a' : Words) → Step c k t a t' a' → Calm c t a → Ahead c k t a t' a'
+
+-- so are any steps, in whatever order: what is left of the tree ends exactly where all of it would
+abbrev pub OrdersAreAhead : {F O : Type 0} → Code F O → Type 0
+OrdersAreAhead {F} {O} c = (k : Counts) (t u : Tree F O) (a b : Words) → Steps c k t a u b → Calm c t a → Ahead c k t a u b
 
 -- in whatever order the strands of a calm tree make their steps: if they are over, so is the depth-first run, with the same outcome,
 -- words and counts

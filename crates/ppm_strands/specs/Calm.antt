@@ -1,7 +1,7 @@
 -- Which words a tree of strands writes and touches, and the trees of which no two branches race.
-use Rattle.std.specs.Prelude.{◌≡◌, ℕ, zero, suc, List, [], ◌∷◌, ◌++◌, Option, Some, None, ◌≢◌}
+use Rattle.std.specs.Prelude.{ℕ, zero, suc, List, [], ◌++◌, Option, Some, None}
 use Rattle.ppm_strands.specs.Tree.{Words, Tree, Strand, Call, Fork, Over, Code, Has}
-use Rattle.ppm_strands.specs.Run.{End, Counts, run, rejoin, Ends}
+use Rattle.ppm_strands.specs.Run.{End, run, rejoin}
 
 -- the addresses of what follows an end
 abbrev pub then_list : {O : Type 0} → Option (End O) → (O → Words → List ℕ) → List ℕ

@@ -1,13 +1,12 @@
 -- Trees of the small instance whose branches race.
 use Rattle.std.specs.Prelude.{◌≡◌, ℕ, List, [], ◌∷◌}
-use Rattle.ppm_strands.specs.Tree.{Words, Tree, Strand, Fork, Code, Local}
+use Rattle.ppm_strands.specs.Tree.{Words, Tree, Strand, Fork, Local}
 use Rattle.ppm_strands.specs.Run.{End, Ends}
 use Rattle.ppm_strands.specs.Calm.{Calm}
 use Rattle.ppm_strands.specs.Sample.{sample, words_of}
 use Rattle.ppm_strands.specs.declared.sample.Word.TheVariants as word
 use Rattle.ppm_strands.specs.declared.sample.Outcome.{Outcome}
 use Rattle.ppm_strands.specs.declared.sample.Outcome.TheVariants.{Finished}
-use Rattle.ppm_strands.specs.declared.sample.SmallTree.{SmallTree}
 use Rattle.ppm_strands.specs.declared.sample.SmallTree.TheVariants as small
 use Rattle.ppm_strands.specs.declared.sample.Capsule.{Capsule}
 

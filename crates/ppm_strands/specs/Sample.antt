@@ -1,6 +1,6 @@
 -- The code of the small instance: each capsule adds to one word and writes another.
-use Rattle.std.specs.Prelude.{◌≡◌, ℕ, ◌+◌, ◌*◌, ◌%◌, ◌≤◌, Bool, true, false, cond, List, [], ◌∷◌, get_or}
-use Rattle.ppm_strands.specs.Tree.{Words, Tree, Strand, Call, Fork, Over, Code}
+use Rattle.std.specs.Prelude.{ℕ, ◌+◌, ◌*◌, ◌%◌, ◌≤◌, Bool, true, false, List, [], ◌∷◌, get_or, Option}
+use Rattle.ppm_strands.specs.Tree.{Words, Tree, Strand, Call, Fork, Over, forks_in, Code}
 use Rattle.ppm_strands.specs.Run as model
 use Rattle.ppm_strands.specs.Ahead.{put}
 use Rattle.ppm_strands.specs.declared.sample.Word.{Word}
@@ -66,6 +66,10 @@ sample table = record {
   is_trap = is_trap;
 }
 
+-- the counts of one capsule
+abbrev pub counts_at : Capsule → model.Counts
+counts_at p = record { capsules = 1; forks = forks_in (tree_of p.opens); block_words = p.asks }
+
 -- the counts of a run
 abbrev pub counts_of : Counts → model.Counts
 counts_of k = record { capsules = k.capsules; forks = k.forks; block_words = k.block_words }
@@ -79,3 +83,11 @@ pub record AreAtMost (n : ℕ) (k : Counts) : Type 0 where
   pub capsules : k.capsules ≤ n
   pub forks : k.forks ≤ n
   pub block_words : k.block_words ≤ 255 * n
+
+-- where the one has m at most and the other n, this has m + n at most
+abbrev pub IsBoundOfBoth : Counts → Counts → Counts → Type 0
+IsBoundOfBoth j k both = (m n : ℕ) → AreAtMost m j → AreAtMost n k → AreAtMost (m + n) both
+
+-- the depth-first run of a tree over a table
+abbrev pub run_of : List Capsule → ℕ → SmallTree → List ℕ → Option (model.End Outcome)
+run_of table bound t ws = model.run (sample table) bound (tree_of t) (words_of ws)

@@ -1,10 +1,13 @@
-//! A small instance of the trees: capsules that add to four words of a byte each, run depth first by plain recursion.
+//! A small instance of the trees: capsules that add to four words of a byte each.
+//! It is run depth first by plain recursion, slow and easy to read.
 
-ghost use Rattle.std.specs.Prelude.{ℕ, ◌+◌, [], ◌≡◌, ◌≤◌, ◌^◌, IfSome, option_map};
-ghost use Rattle.ppm_strands.specs.Run.{joined as model_joined, plus, run as model_run, with_counts as model_with_counts};
-ghost use Rattle.ppm_strands.specs.Tree.{forks_in};
-ghost use Rattle.ppm_strands.specs.Races.{ApartIsCalm, NoEndBeside, RacesAreNotCalm, RacesBesideNoEndAreNotCalm, RacesLoseTheLaw, SamplesAreLocal};
-ghost use Rattle.ppm_strands.specs.Sample.{address, after_capsule, capsule_at, counts_of, end_of, resumed_tree, sample, tree_of, words_of, AreAtMost};
+ghost use Rattle.std.specs.Prelude.{[], ◌≡◌, ◌≤◌, ◌^◌, IfSome, option_map};
+ghost use Rattle.ppm_strands.specs.Run.{joined as model_joined, plus};
+ghost use Rattle.ppm_strands.specs.Run.{with_counts as model_with_counts};
+ghost use Rattle.ppm_strands.specs.Races.{ApartIsCalm, NoEndBeside, RacesAreNotCalm, RacesLoseTheLaw};
+ghost use Rattle.ppm_strands.specs.Races.{RacesBesideNoEndAreNotCalm, SamplesAreLocal};
+ghost use Rattle.ppm_strands.specs.Sample.{AreAtMost, IsBoundOfBoth, address, after_capsule, capsule_at, counts_of};
+ghost use Rattle.ppm_strands.specs.Sample.{counts_at, end_of, resumed_tree, run_of, sample, tree_of, words_of};
 
 /// The four words, by name.
 #[derive(Clone, Copy, Debug, PartialEq, Eq)]
@@ -23,7 +26,8 @@ pub enum Outcome {
     Trapped(u8),
 }
 
-/// A tree of which each part is one strand. Frames go by their capsule's place in the table, from 0.
+/// A tree of which each part is one strand.
+/// Frames go by their capsule's place in the table, from 0.
 #[derive(Clone, Copy, Debug, PartialEq, Eq)]
 pub enum SmallTree {
     Strand(u8),
@@ -32,8 +36,8 @@ pub enum SmallTree {
     Over(Outcome),
 }
 
-/// What a frame's capsule does: it adds `plus` to the word `from`, past 255 from 0 again, and writes that to the word `to`,
-/// asks for `asks` block words, and opens the next tree.
+/// What a frame's capsule does: it adds `plus` to the word `from`, past 255 from 0 again,
+/// writes that to the word `to`, asks for `asks` block words, and opens the next tree.
 #[derive(Clone, Copy, Debug, PartialEq, Eq)]
 pub struct Capsule {
     pub from: Word,
@@ -60,10 +64,20 @@ pub struct End {
 }
 
 /// What a frame past the end of the table does: it traps with 255.
-const STRAY: Capsule = Capsule { from: Word::A, to: Word::A, plus: 0, asks: 0, opens: SmallTree::Over(Outcome::Trapped(255)) };
+const STRAY: Capsule = Capsule {
+    from: Word::A,
+    to: Word::A,
+    plus: 0,
+    asks: 0,
+    opens: SmallTree::Over(Outcome::Trapped(255)),
+};
 
 /// Nothing counted.
-const NONE: Counts = Counts { capsules: 0, forks: 0, block_words: 0 };
+const NONE: Counts = Counts {
+    capsules: 0,
+    forks: 0,
+    block_words: 0,
+};
 
 /// The place of a word among the four, from 0.
 fn index(word: Word) -> usize
@@ -81,7 +95,11 @@ fn index(word: Word) -> usize
 fn capsule_of(table: &[Capsule], frame: u8) -> Capsule
     ensures value { result ≡ capsule_at table.now frame }
 {
-    if usize::from(frame) < table.len() { table[usize::from(frame)] } else { STRAY }
+    if usize::from(frame) < table.len() {
+        table[usize::from(frame)]
+    } else {
+        STRAY
+    }
 }
 
 /// The words after a capsule.
@@ -115,21 +133,25 @@ fn resumed(frame: u8, outcome: Outcome) -> SmallTree
 
 /// The counts of a frame's capsule.
 fn counts_of_capsule(capsule: Capsule) -> Counts
-    ensures value { counts_of result ≡ record { capsules = 1; forks = forks_in (tree_of capsule.opens); block_words = capsule.asks } }
+    ensures value { counts_of result ≡ counts_at capsule }
     ensures few { AreAtMost 1 result }
 {
     let forks = match capsule.opens {
         SmallTree::Fork { .. } => 1,
         SmallTree::Strand(_) | SmallTree::Call { .. } | SmallTree::Over(_) => 0,
     };
-    Counts { capsules: 1, forks, block_words: u64::from(capsule.asks) }
+    Counts {
+        capsules: 1,
+        forks,
+        block_words: u64::from(capsule.asks),
+    }
 }
 
 /// Both counts together; the bounds keep them far from the end of their type.
 fn added(first: Counts, second: Counts) -> Counts
     requires few { AreAtMost (2 ^ 48) first × AreAtMost (2 ^ 48) second }
     ensures value { counts_of result ≡ plus (counts_of first) (counts_of second) }
-    ensures few { (m n : ℕ) → AreAtMost m first → AreAtMost n second → AreAtMost (m + n) result }
+    ensures few { IsBoundOfBoth first second result }
 {
     Counts {
         capsules: first.capsules + second.capsules,
@@ -142,16 +164,21 @@ fn added(first: Counts, second: Counts) -> Counts
 fn with_counts(end: End, before: Counts) -> End
     requires few { AreAtMost (2 ^ 48) end.counts × AreAtMost (2 ^ 48) before }
     ensures value { end_of result ≡ model_with_counts (counts_of before) (end_of end) }
-    ensures few { (m n : ℕ) → AreAtMost m end.counts → AreAtMost n before → AreAtMost (m + n) result.counts }
+    ensures few { IsBoundOfBoth end.counts before result.counts }
 {
     let words = end.words;
-    End { outcome: end.outcome, words, counts: added(before, end.counts) }
+    End {
+        outcome: end.outcome,
+        words,
+        counts: added(before, end.counts),
+    }
 }
 
-/// Runs a tree depth first within `bound`, which is 30 at most: where it ends, or none where it does not end within the bound.
+/// Runs a tree depth first within `bound`, which is 30 at most: where it ends, or none where it
+/// does not end within the bound.
 pub fn run(table: &[Capsule], bound: u8, tree: SmallTree, words: [u8; 4]) -> Option<End>
     requires shallow { bound ≤ 30 }
-    ensures depth_first { option_map end_of result ≡ model_run (sample table.now) bound (tree_of tree) (words_of words) }
+    ensures depth_first { option_map end_of result ≡ run_of table.now bound tree words }
     ensures few { IfSome result (λ e. AreAtMost (3 ^ bound) e.counts) }
 {
     if bound == 0 {
@@ -159,7 +186,11 @@ pub fn run(table: &[Capsule], bound: u8, tree: SmallTree, words: [u8; 4]) -> Opt
     }
     let left_over = bound - 1;
     match tree {
-        SmallTree::Over(outcome) => Some(End { outcome, words, counts: NONE }),
+        SmallTree::Over(outcome) => Some(End {
+            outcome,
+            words,
+            counts: NONE,
+        }),
         SmallTree::Strand(frame) => {
             let capsule = capsule_of(table, frame);
             let rest = run(table, left_over, capsule.opens, made(capsule, words))?;
@@ -167,7 +198,12 @@ pub fn run(table: &[Capsule], bound: u8, tree: SmallTree, words: [u8; 4]) -> Opt
         }
         SmallTree::Call { frame, callee } => {
             let callee_end = run(table, left_over, SmallTree::Strand(callee), words)?;
-            let rest = run(table, left_over, resumed(frame, callee_end.outcome), callee_end.words)?;
+            let rest = run(
+                table,
+                left_over,
+                resumed(frame, callee_end.outcome),
+                callee_end.words,
+            )?;
             Some(with_counts(rest, callee_end.counts))
         }
         SmallTree::Fork { frame, left, right } => {
@@ -180,8 +216,9 @@ pub fn run(table: &[Capsule], bound: u8, tree: SmallTree, words: [u8; 4]) -> Opt
     }
 }
 
-/// Branches that race are not calm, and a capsule made ahead may then change the end; so it is where the race stands behind a
-/// branch without end, in a tree that itself has none. Branches that keep apart are calm.
+/// Branches that race are not calm, and a capsule made ahead may then change the end. So it is
+/// where the race stands behind a branch without end, in a tree that itself has none. Branches
+/// that keep apart are calm.
 pub fn races_are_not_calm()
     ensures race { RacesAreNotCalm }
     ensures beside_no_end { RacesBesideNoEndAreNotCalm }
@@ -190,7 +227,8 @@ pub fn races_are_not_calm()
     ensures apart { ApartIsCalm }
 {}
 
-/// What a capsule of a table does depends on the word that it reads: the laws hold of each table.
+/// What a capsule of a table does depends on the word that it reads, so the laws hold of
+/// each table.
 pub fn samples_are_local()
     ensures { SamplesAreLocal }
 {}

@@ -1,5 +1,4 @@
-use Rattle.std.proofs.Common.{rules, ℕ, ◌+◌, ◌≡◌, ◌≤◌, ◌^◌, ◌-◌, suc, arith, refl, sym, subst}
-use Rattle.ppm_strands.specs.Sample.{AreAtMost, counts_of, end_of, sample}
+use Rattle.std.proofs.Common.{◌+◌, ◌≡◌, ◌≤◌, ◌^◌, ◌-◌, suc, arith}
 use Rattle.ppm_strands.proofs.SampleLemmas.{at_most, thrice, three_pos, not_many, fork_made}
 use Rattle.ppm_strands.proofs.sample.+run.Goals as goal
 
@@ -30,9 +29,9 @@ with_counts-requires-in-Fork-2 t c =
 pub returns-in_ok-rest-in-Strand-clause-few : goal.returns-in_ok-rest-in-Strand-clause-few
 returns-in_ok-rest-in-Strand-clause-few t c =
     let le : 3 ^ (c.args.bound - 1) + 1 ≤ 3 ^ c.args.bound =
-        let e = thrice c.args.bound c.if-bound-eq0.false in
-        let pos = three_pos (c.args.bound - 1) in
-        omega arith in
+    let e = thrice c.args.bound c.if-bound-eq0.false in
+    let pos = three_pos (c.args.bound - 1) in
+    omega arith in
     at_most _ _ _ le (c.with_counts.ensures.few _ _ c.in_ok-rest-in-Strand.ensures.few c.counts_of_capsule.ensures.few)
 
 -- two smaller runs
@@ -57,6 +56,6 @@ returns-in_ok-rest-in-Fork-clause-depth_first t c =
 pub returns-in_ok-rest-in-Fork-clause-few : goal.returns-in_ok-rest-in-Fork-clause-few
 returns-in_ok-rest-in-Fork-clause-few t c =
     let le : 3 ^ (c.args.bound - 1) + 3 ^ (c.args.bound - 1) + 3 ^ (c.args.bound - 1) ≤ 3 ^ c.args.bound =
-        let e = thrice c.args.bound c.if-bound-eq0.false in omega arith in
+    let e = thrice c.args.bound c.if-bound-eq0.false in omega arith in
     let both = c.with_counts-in-Fork.ensures.few _ _ c.in_ok-rest-in-Fork.ensures.few c.in_ok-right_end-in-Fork.ensures.few in
     at_most _ _ _ le (c.with_counts-in-Fork-2.ensures.few _ _ both c.in_ok-left_end-in-Fork.ensures.few)
