@@ -12,7 +12,7 @@ use Rattle.ppm_strands.proofs.PartsLemmas.{ends_by_parts, gathers_by_parts, calm
 use Rattle.ppm_strands.proofs.CalmLemmas.{has_or_not, But, AlikeBut, BothBut, Determined, touches_determined, both}
 use Rattle.ppm_strands.proofs.LocalityLemmas.{writes_touch, unwritten, alike, alike_calm, alike_gathers, alike_ends}
 
--- counts may change places
+-- counts add up in any order
 plus_swap : (i j k : Counts) → plus i (plus j k) ≡ plus j (plus i k)
 plus_swap i j k = sym (plus_assoc i j k) ∙ ap (λ (l : Counts). plus l k) (plus_comm i j) ∙ plus_assoc j i k
 

@@ -1,15 +1,16 @@
 -- The races of the small instance, its endless branch, and a fork that is calm.
-use Rattle.std.proofs.Common.{◌≡◌, ℕ, zero, suc, ◌+◌, ◌%◌, List, [], ◌∷◌, Some, ◌⊎◌, inl, inr, refl, sym, ap, ◌∙◌, subst}
+use Rattle.std.proofs.Common.{◌≡◌, ℕ, zero, suc, ◌+◌, ◌%◌, IsTrue, [], ◌∷◌, Some, inl, inr, refl, sym, ap, ◌∙◌, subst}
 use Rattle.ppm_strands.specs.Tree.{Words, Strand, Has}
-use Rattle.ppm_strands.specs.Run.{End, joined, run}
-use Rattle.ppm_strands.specs.Calm.{touches, Gathers, Calm}
+use Rattle.ppm_strands.specs.Run.{End, run}
 use Rattle.ppm_strands.specs.Ahead.{put}
 use Rattle.ppm_strands.specs.Sample.{address, capsule_at, resumed_tree, sample}
-use Rattle.ppm_strands.specs.Races.{racing, RacesAreNotCalm, RacesBesideNoEndAreNotCalm, NoEndBeside, RacesLoseTheLaw, ApartIsCalm, SamplesAreLocal}
+use Rattle.ppm_strands.specs.Regions.{OwnsNoMore}
+use Rattle.ppm_strands.specs.Races.{racing, RacesAreNotCalm, RacesBesideNoEndAreNotCalm, NoEndBeside, RacesLoseTheLaw, ApartByRegions, ApartIsCalm, SamplesAreLocal, apart_owns, apart_regions, apart_writes, fork_of, is_apart}
 use Rattle.ppm_strands.specs.declared.sample.Outcome.{Outcome}
 use Rattle.ppm_strands.specs.declared.sample.Outcome.TheVariants.{Finished, Trapped}
 use Rattle.ppm_strands.proofs.RunLemmas.{counted_some}
-use Rattle.ppm_strands.proofs.PartsLemmas.{ends_by_parts, gathers_by_parts, calm_by_parts}
+use Rattle.ppm_strands.proofs.PartsLemmas.{ends_by_parts}
+use Rattle.ppm_strands.proofs.RegionLemmas.{inside}
 use Rattle.ppm_strands.proofs.StepLemmas.{put_at, put_else}
 
 -- within three of the bound the word A is written on the right and touched on the left
@@ -21,41 +22,51 @@ pub races_beside_no_end_are_not_calm : RacesBesideNoEndAreNotCalm
 races_beside_no_end_are_not_calm a calm = (calm 4).3 0 (inl refl) (inr (inr (inr (inr (inl refl)))))
 
 -- a capsule that goes on with itself has no end
-endless : (n : ℕ) (a : Words) (e : End Outcome) → run (sample racing) n (Strand 3) a ≡ Some e → ⊥
+endless : (n : ℕ) (a : Words) (e : End Outcome) → run (sample racing) n (Strand 4) a ≡ Some e → ⊥
 endless zero a e h = cc
-endless (suc n) a e h = let s = counted_some _ (run (sample racing) n (Strand 3) ((sample racing).after 3 a)) e h in endless n _ s.0 s.1
+endless (suc n) a e h = let s = counted_some _ (run (sample racing) n (Strand 4) ((sample racing).after 4 a)) e h in endless n _ s.0 s.1
 
 pub no_end_beside : NoEndBeside
 no_end_beside a e h =
     let parts = ends_by_parts (sample racing) in
-    let left = (parts.fork 2 (Strand 4) (Strand 1) a e).0 h in
-    let inner = (parts.strand 4 a left.0).0 left.1 in
-    let first = (parts.fork 2 (Strand 3) (Strand 0) ((sample racing).after 4 a) inner.0).0 inner.1 in
-    endless first.1.0 ((sample racing).after 4 a) first.0 first.1.1
+    let left = (parts.fork 1 (Strand 5) (Strand 3) a e).0 h in
+    let inner = (parts.strand 5 a left.0).0 left.1 in
+    let first = (parts.fork 1 (Strand 4) (Strand 0) ((sample racing).after 5 a) inner.0).0 inner.1 in
+    endless first.1.0 ((sample racing).after 5 a) first.0 first.1.1
 
 pub races_lose_the_law : RacesLoseTheLaw
 races_lose_the_law = ((_, (5, refl), refl), (_, (5, refl), refl))
 
--- what the capsules of the calm fork touch
-module _ (a : Words) where
-  calm_resumed : (o : Outcome) (b : Words) → Calm (sample racing) (resumed_tree 2 o) b
-  calm_resumed Finished b = ((calm_by_parts (sample racing)).strand 2 b).1 ((calm_by_parts (sample racing)).over Finished _)
-  calm_resumed (Trapped n) b = (calm_by_parts (sample racing)).over (Trapped n) b
+-- a frame that goes on by its own capsule, or is over, owns no more
+goes_on : (g : ℕ) (o : Outcome) → IsTrue (is_apart g) → OwnsNoMore apart_regions g (resumed_tree g o)
+goes_on g Finished adm = record { separate = adm; owned = λ x h. h; written = λ x h. h }
+goes_on g (Trapped n) adm = record { separate = tt; owned = λ x h. absurd h; written = λ x h. absurd h }
 
-  one_of : (x : ℕ) (s : ℕ → Words → List ℕ) → Gathers (sample racing) s (Strand 0) a x → Has x (s 0 a)
-  one_of x s h = elim (((gathers_by_parts (sample racing) s).strand 0 a x).0 h) [
-    | inl i ↦ i
-    | inr i ↦ absurd ((gathers_by_parts (sample racing) s).over Finished _ x i)
-  ]
+reads_own : (f : ℕ) (a : Words) → IsTrue (is_apart f) → (x : ℕ) → Has x ((sample racing).reads f a) → Has x (apart_owns f)
+reads_own zero a adm x (inl e) = inl e
+reads_own (suc zero) a adm x h = h
+reads_own (suc (suc zero)) a adm x (inl e) = inl e
+reads_own (suc (suc (suc f))) a adm x h = absurd (cc)
+reads_own zero a adm x (inr none) = absurd none
+reads_own (suc (suc zero)) a adm x (inr none) = absurd none
 
-  two_of : (x : ℕ) (s : ℕ → Words → List ℕ) → Gathers (sample racing) s (Strand 5) a x → Has x (s 5 a) ⊎ Has x (s 2 ((sample racing).after 5 a))
-  two_of x s h = elim (((gathers_by_parts (sample racing) s).strand 5 a x).0 h) [
-    | inl i ↦ inl i
-    | inr i ↦ elim (((gathers_by_parts (sample racing) s).strand 2 ((sample racing).after 5 a) x).0 i) [
-      | inl j ↦ inr j
-      | inr j ↦ absurd ((gathers_by_parts (sample racing) s).over Finished _ x j)
-    ]
-  ]
+writes_own : (f : ℕ) (a : Words) → IsTrue (is_apart f) → (x : ℕ) → Has x ((sample racing).writes f a) → Has x (apart_writes f)
+writes_own zero a adm x h = h
+writes_own (suc zero) a adm x h = h
+writes_own (suc (suc zero)) a adm x (inl e) = inl e
+writes_own (suc (suc zero)) a adm x (inr none) = absurd none
+writes_own (suc (suc (suc f))) a adm x h = absurd (cc)
+
+writes_owned : (f : ℕ) → IsTrue (is_apart f) → (x : ℕ) → Has x (apart_writes f) → Has x (apart_owns f)
+writes_owned zero adm x h = inr h
+writes_owned (suc zero) adm x h = h
+writes_owned (suc (suc f)) adm x h = h
+
+opens_no_more : (f : ℕ) (a : Words) → IsTrue (is_apart f) → OwnsNoMore apart_regions f ((sample racing).next f a)
+opens_no_more zero a adm = record { separate = tt; owned = λ x h. absurd h; written = λ x h. absurd h }
+opens_no_more (suc zero) a adm = record { separate = tt; owned = λ x h. absurd h; written = λ x h. absurd h }
+opens_no_more (suc (suc zero)) a adm = record { separate = refl; owned = λ x h. inr h; written = λ x h. inr h }
+opens_no_more (suc (suc (suc f))) a adm = absurd (cc)
 
 -- no address of A and B is one of C and D
 apart : (x : ℕ) → Has x (0 ∷ 1 ∷ []) → Has x (2 ∷ 3 ∷ []) → ⊥
@@ -66,24 +77,21 @@ apart x (inr (inl e)) (inr (inl f)) = cc
 apart x (inr (inr e)) h = absurd e
 apart x h (inr (inr f)) = absurd f
 
+pub apart_by_regions : ApartByRegions
+apart_by_regions = (
+  record {
+    reads = reads_own;
+    writes = writes_own;
+    owns_what_it_writes = writes_owned;
+    opens = opens_no_more;
+    resumes = goes_on;
+    keeps = λ g o adm. record { separate = adm; owned = λ x h. h; written = λ x h. h };
+  },
+  (refl, refl, refl, λ x i j. apart x (inr i) j, λ x i j. apart x j i),
+)
+
 pub apart_is_calm : ApartIsCalm
-apart_is_calm a =
-    let parts = calm_by_parts (sample racing) in
-    let left : Calm (sample racing) (Strand 0) a = (parts.strand 0 a).1 (parts.over Finished _) in
-    let right : Calm (sample racing) (Strand 5) a = (parts.strand 5 a).1 (calm_resumed a Finished _) in
-    (parts.fork 2 (Strand 0) (Strand 5) a).1 (
-      left,
-      right,
-      λ x i j. apart x (inr (one_of a x (sample racing).writes i)) (elim (two_of a x (touches (sample racing)) j) [
-        | inl h ↦ elim h [ inl e ↦ inl e | inr k ↦ elim k [ inl e ↦ inl e | inr none ↦ absurd none ] ]
-        | inr h ↦ elim h [ inl e ↦ inr (inl e) | inr k ↦ inr k ]
-      ]),
-      λ x i j. apart x (one_of a x (touches (sample racing)) j) (elim (two_of a x (sample racing).writes i) [
-        | inl h ↦ elim h [ inl e ↦ inl e | inr none ↦ absurd none ]
-        | inr h ↦ inr h
-      ]),
-      λ d p i j. calm_resumed a (joined (sample racing) d.outcome p.outcome) p.words,
-    )
+apart_is_calm a n = (inside (sample racing) apart_regions apart_by_regions.0 n (fork_of 0 2) a apart_by_regions.1).calm
 
 -- a capsule of a table
 pub samples_are_local : SamplesAreLocal

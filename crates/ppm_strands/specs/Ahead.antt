@@ -4,16 +4,17 @@ use Rattle.ppm_strands.specs.Tree.{Words, Tree, Strand, Call, Fork, Over, Code, 
 use Rattle.ppm_strands.specs.Run.{Counts, none, plus, End, with_counts, of_capsule, rejoin, Ends}
 use Rattle.ppm_strands.specs.Calm.{touches, Writes, Touches, Calm}
 
--- t' from a' goes on as t from a would, k of the counts being made: t ends exactly where t' does, with the same outcome and words and
--- k more in its counts; t' meets no other words, the words were changed only where t writes them, and t' is calm
+-- t' from a' is what is left of t from a, k of the counts being made ahead of the order
 pub record Ahead {F O : Type 0} (c : Code F O) (k : Counts) (t : Tree F O) (a : Words) (t' : Tree F O) (a' : Words) : Type 0 where
+  -- t ends exactly where t' does, with the same outcome and words, and k more in its counts
   pub ends : (e : End O) → Ends c t a e ↔ ((d : End O) × Ends c t' a' d × (e ≡ with_counts k d))
+  -- t' meets no words but those of t, no words have changed but those that t writes, and t' is calm
   pub touches : (x : ℕ) → Touches c t' a' x → Touches c t a x
   pub writes : (x : ℕ) → Writes c t' a' x → Writes c t a x
   pub changes : (x : ℕ) → (Writes c t a x → ⊥) → a' x ≡ a x
   pub calm : Calm c t' a'
 
--- what a store in mid-capsule may make of a frame and of the words: the capsule begun again comes to the same, and meets no other words
+-- what a store in mid-capsule may make of a frame and of the words: the capsule, begun again, comes to the same and meets no others
 pub record Redoes {F O : Type 0} (c : Code F O) (f : F) (a : Words) (f' : F) (a' : Words) : Type 0 where
   pub next : c.next f' a' ≡ c.next f a
   pub after : (x : ℕ) → c.after f' a' x ≡ c.after f a x
@@ -26,8 +27,7 @@ pub record Redoes {F O : Type 0} (c : Code F O) (f : F) (a : Words) (f' : F) (a'
 abbrev pub put : Words → ℕ → ℕ → Words
 put a x v y = cond (y == x) v (a y)
 
--- one strand does something that counts k: a whole capsule, a store of its capsule, a return to its caller or a join; at the root,
--- under a call, in the left or in the right branch
+-- one strand, wherever it stands, does something that counts k: a whole capsule, a store of its capsule, a return or a join
 pub data Step {F O : Type 0} (c : Code F O) : Counts → Tree F O → Words → Tree F O → Words → Type 0 where
   Capsule : (f : F) (a : Words) → Step c (of_capsule c f a) (Strand f) a (c.next f a) (c.after f a)
   Store : (f f' : F) (a a' : Words) → Redoes c f a f' a' → Step c none (Strand f) a (Strand f') a'
@@ -69,8 +69,7 @@ StepsAreAhead {F} {O} c = (k : Counts) (t t' : Tree F O) (a a' : Words) → Step
 abbrev pub OrdersAreAhead : {F O : Type 0} → Code F O → Type 0
 OrdersAreAhead {F} {O} c = (k : Counts) (t u : Tree F O) (a b : Words) → Steps c k t a u b → Calm c t a → Ahead c k t a u b
 
--- in whatever order the strands of a calm tree make their steps: if they are over, so is the depth-first run, with the same outcome,
--- words and counts
+-- in whatever order the strands of a calm tree come to an end, the depth-first run has it too: the same outcome, words and counts
 abbrev pub OrdersAgree : {F O : Type 0} → Code F O → Type 0
 OrdersAgree {F} {O} c = (k : Counts) (t : Tree F O) (o : O) (a b : Words)
     → Steps c k t a (Over o) b → Calm c t a → Ends c t a (record { outcome = o; words = b; counts = k })

@@ -34,8 +34,7 @@ module _ {F O : Type 0} (s : Regions F) where
     pub owned : (x : ℕ) → Has x (of_frames s.owns t) → Has x (s.owns f)
     pub written : (x : ℕ) → Has x (of_frames s.may_write t) → Has x (s.may_write f)
 
-  -- a capsule touches only words that its frame owns and writes only those that it may write; what it opens, what its frame keeps of
-  -- a branch and how it goes on own no more
+  -- a capsule touches only words that its frame owns, and what comes of the frame owns no more
   pub record Respects (c : Code F O) : Type 0 where
     pub reads : (f : F) (a : Words) → IsTrue (s.admits f) → (x : ℕ) → Has x (c.reads f a) → Has x (s.owns f)
     pub writes : (f : F) (a : Words) → IsTrue (s.admits f) → (x : ℕ) → Has x (c.writes f a) → Has x (s.may_write f)

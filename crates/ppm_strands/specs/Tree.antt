@@ -32,16 +32,18 @@ On xs a b = (x : ℕ) → Has x xs → b x ≡ a x
 abbrev pub Off : List ℕ → Words → Words → Type 0
 Off xs a b = (x : ℕ) → (Has x xs → ⊥) → b x ≡ a x
 
--- what one whole capsule of a frame does (the next tree, the words after it, those that it reads and writes, the block words
--- that it asks for), how a frame goes on after its call, what it keeps of its left branch, and which outcomes are traps
+-- what one whole capsule of a frame does from the words that it meets, and how a frame goes on after its call or its branches
 pub record Code (F O : Type 0) : Type 0 where
+  -- of a capsule: the next tree, the words after it, those that it reads and writes, and how many block words it asks for
   pub next : F → Words → Tree F O
   pub after : F → Words → Words
   pub reads : F → Words → List ℕ
   pub writes : F → Words → List ℕ
   pub asks : F → Words → ℕ
+  -- of a frame: how it goes on after a call or a join, and what it is once its left branch is over, whose value it may keep
   pub resume : F → O → Tree F O
   pub kept : F → O → F
+  -- which outcomes are traps
   pub is_trap : O → Bool
 
 -- what a capsule does depends on the words that it reads, and it changes none but those that it writes

@@ -4,7 +4,7 @@
 ghost use Rattle.std.specs.Prelude.{[], ◌≡◌, ◌≤◌, ◌^◌, IfSome, option_map};
 ghost use Rattle.ppm_strands.specs.Run.{joined as model_joined, plus};
 ghost use Rattle.ppm_strands.specs.Run.{with_counts as model_with_counts};
-ghost use Rattle.ppm_strands.specs.Races.{ApartIsCalm, NoEndBeside, RacesAreNotCalm, RacesLoseTheLaw};
+ghost use Rattle.ppm_strands.specs.Races.{ApartByRegions, ApartIsCalm, NoEndBeside, RacesAreNotCalm, RacesLoseTheLaw};
 ghost use Rattle.ppm_strands.specs.Races.{RacesBesideNoEndAreNotCalm, SamplesAreLocal};
 ghost use Rattle.ppm_strands.specs.Sample.{AreAtMost, IsBoundOfBoth, address, after_capsule, capsule_at, counts_of};
 ghost use Rattle.ppm_strands.specs.Sample.{counts_at, end_of, resumed_tree, run_of, sample, tree_of, words_of};
@@ -27,7 +27,7 @@ pub enum Outcome {
 }
 
 /// A tree of which each part is one strand.
-/// Frames go by their capsule's place in the table, from 0.
+/// A frame is the number of its capsule in the table, from 0.
 #[derive(Clone, Copy, Debug, PartialEq, Eq)]
 pub enum SmallTree {
     Strand(u8),
@@ -79,7 +79,7 @@ const NONE: Counts = Counts {
     block_words: 0,
 };
 
-/// The place of a word among the four, from 0.
+/// The number of a word among the four, from 0.
 fn index(word: Word) -> usize
     ensures value { result ≡ address word }
 {
@@ -225,6 +225,7 @@ pub fn races_are_not_calm()
     ensures no_end { NoEndBeside }
     ensures law_is_lost { RacesLoseTheLaw }
     ensures apart { ApartIsCalm }
+    ensures by_regions { ApartByRegions }
 {}
 
 /// What a capsule of a table does depends on the word that it reads, so the laws hold of

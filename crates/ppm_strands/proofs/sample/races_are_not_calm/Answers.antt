@@ -1,4 +1,4 @@
-use Rattle.ppm_strands.proofs.RaceLemmas.{races_are_not_calm, races_beside_no_end_are_not_calm, no_end_beside, races_lose_the_law, apart_is_calm}
+use Rattle.ppm_strands.proofs.RaceLemmas.{races_are_not_calm, races_beside_no_end_are_not_calm, no_end_beside, races_lose_the_law, apart_by_regions, apart_is_calm}
 use Rattle.ppm_strands.proofs.sample.races_are_not_calm.Goals as goal
 
 -- by running them
@@ -9,4 +9,5 @@ returns c = record {
   no_end = no_end_beside;
   law_is_lost = races_lose_the_law;
   apart = apart_is_calm;
+  by_regions = apart_by_regions;
 }
