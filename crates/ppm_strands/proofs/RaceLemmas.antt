@@ -5,7 +5,8 @@ use Rattle.ppm_strands.specs.Run.{End, run}
 use Rattle.ppm_strands.specs.Ahead.{put}
 use Rattle.ppm_strands.specs.Sample.{address, capsule_at, resumed_tree, sample}
 use Rattle.ppm_strands.specs.Regions.{OwnsNoMore}
-use Rattle.ppm_strands.specs.Races.{racing, RacesAreNotCalm, RacesBesideNoEndAreNotCalm, NoEndBeside, RacesLoseTheLaw, ApartByRegions, ApartIsCalm, SamplesAreLocal, apart_owns, apart_regions, apart_writes, fork_of, is_apart}
+use Rattle.ppm_strands.specs.Races.{racing, RacesAreNotCalm, RacesBesideNoEndAreNotCalm, NoEndBeside, RacesLoseTheLaw, ApartByRegions}
+use Rattle.ppm_strands.specs.Races.{ApartIsCalm, SamplesAreLocal, apart_owns, apart_regions, apart_writes, fork_of, is_apart}
 use Rattle.ppm_strands.specs.declared.sample.Outcome.{Outcome}
 use Rattle.ppm_strands.specs.declared.sample.Outcome.TheVariants.{Finished, Trapped}
 use Rattle.ppm_strands.proofs.RunLemmas.{counted_some}

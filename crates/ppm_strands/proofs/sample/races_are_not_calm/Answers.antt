@@ -1,4 +1,5 @@
-use Rattle.ppm_strands.proofs.RaceLemmas.{races_are_not_calm, races_beside_no_end_are_not_calm, no_end_beside, races_lose_the_law, apart_by_regions, apart_is_calm}
+use Rattle.ppm_strands.proofs.RaceLemmas.{races_are_not_calm, races_beside_no_end_are_not_calm, no_end_beside}
+use Rattle.ppm_strands.proofs.RaceLemmas.{races_lose_the_law, apart_by_regions, apart_is_calm}
 use Rattle.ppm_strands.proofs.sample.races_are_not_calm.Goals as goal
 
 -- by running them
