@@ -3,7 +3,7 @@ use Rattle.std.specs.Prelude.{◌≡◌, ℕ, zero, suc, Bool, true, false, List
 use Rattle.ppm_strands.specs.Tree.{Words, Tree, Strand, Fork, Local}
 use Rattle.ppm_strands.specs.Run.{End, Ends}
 use Rattle.ppm_strands.specs.Calm.{Calm}
-use Rattle.ppm_strands.specs.Regions.{Regions, IsSeparate, Respects}
+use Rattle.ppm_strands.specs.Regions.{Regions, listed, IsSeparate, Respects}
 use Rattle.ppm_strands.specs.Sample.{sample, words_of}
 use Rattle.ppm_strands.specs.declared.sample.Word.TheVariants as word
 use Rattle.ppm_strands.specs.declared.sample.Outcome.{Outcome}
@@ -71,7 +71,7 @@ apart_writes f = 2 ∷ 3 ∷ []
 
 -- their regions
 abbrev pub apart_regions : Regions ℕ
-apart_regions = record { admits = is_apart; owns = apart_owns; may_write = apart_writes }
+apart_regions = listed is_apart apart_owns apart_writes
 
 -- the code respects them, and the fork is separate
 abbrev pub ApartByRegions : Type 0
