@@ -1,0 +1,10 @@
+pub mod AheadLemmas
+pub mod CalmLemmas
+pub mod LocalityLemmas
+pub mod OrderLemmas
+pub mod PartsLemmas
+pub mod RaceLemmas
+pub mod RegionLemmas
+pub mod RunLemmas
+pub mod SampleLemmas
+pub mod StepLemmas

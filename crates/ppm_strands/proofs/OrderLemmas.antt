@@ -1,0 +1,61 @@
+-- The depth-first run is one of the orders in which the strands may make their steps.
+use Rattle.std.proofs.Common.{◌≡◌, ℕ, zero, suc, Some, sym, ap, ◌∙◌, subst}
+use Rattle.ppm_strands.specs.Tree.{Words, Tree, Strand, Call, Fork, Over, Code}
+use Rattle.ppm_strands.specs.Run.{Counts, plus, End, with_counts, of_capsule, rejoin, run}
+use Rattle.ppm_strands.specs.Ahead.{Capsule, Return, Join, UnderCall, InLeft, InRight, Steps, Done, More}
+use Rattle.ppm_strands.proofs.RunLemmas.{end_or, plus_none, plus_assoc, counted_some, then_some}
+
+module _ {F O : Type 0} (c : Code F O) where
+  -- steps after steps
+  then_steps : {j k : Counts} {t u v : Tree F O} {a b d : Words} → Steps c j t a u b → Steps c k u b v d → Steps c (plus j k) t a v d
+  then_steps {k = k} {v = v} {d = d} (Done t a) more = subst (λ (i : Counts). Steps c i t a v d) (sym (plus_none k)) more
+  then_steps {k = k} {v = v} {d = d} (More {j = i} {k = j} {t = t} {a = a} s rest) more =
+      subst (λ (l : Counts). Steps c l t a v d) (sym (plus_assoc i j k)) (More s (then_steps rest more))
+
+  -- the steps of a part are steps of the whole
+  under : (g : F) {k : Counts} {t u : Tree F O} {a b : Words} → Steps c k t a u b → Steps c k (Call g t) a (Call g u) b
+  under g (Done t a) = Done (Call g t) a
+  under g (More s more) = More (UnderCall g s) (under g more)
+
+  left : (g : F) (r : Tree F O) {k : Counts} {t u : Tree F O} {a b : Words} → Steps c k t a u b → Steps c k (Fork g t r) a (Fork g u r) b
+  left g r (Done t a) = Done (Fork g t r) a
+  left g r (More s more) = More (InLeft g r s) (left g r more)
+
+  right : (g : F) (l : Tree F O) {k : Counts} {t u : Tree F O} {a b : Words} → Steps c k t a u b → Steps c k (Fork g l t) a (Fork g l u) b
+  right g l (Done t a) = Done (Fork g l t) a
+  right g l (More s more) = More (InRight g l s) (right g l more)
+
+  -- the steps to an end
+  abbrev pub StepsTo : Tree F O → Words → End O → Type 0
+  StepsTo t a e = Steps c e.counts t a (Over e.outcome) e.words
+
+  call_steps : (g : F) (t : Tree F O) (a : Words) (d s : End O) → StepsTo t a d → StepsTo (c.resume g d.outcome) d.words s
+      → StepsTo (Call g t) a (with_counts d.counts s)
+  call_steps g t a d s p q =
+      let back = subst (λ (k : Counts). Steps c k (Call g (Over d.outcome)) d.words (Over s.outcome) s.words) (plus_none s.counts)
+      (More (Return g d.outcome d.words) q) in
+      then_steps (under g p) back
+
+  fork_steps : (g : F) (l r : Tree F O) (a : Words) (d p s : End O) → StepsTo l a d → StepsTo r d.words p
+      → StepsTo (rejoin c g d.outcome p.outcome) p.words s → StepsTo (Fork g l r) a (with_counts d.counts (with_counts p.counts s))
+  fork_steps g l r a d p s i j k =
+      let back = subst (λ (m : Counts). Steps c m (Fork g (Over d.outcome) (Over p.outcome)) p.words (Over s.outcome) s.words) (plus_none s.counts)
+      (More (Join g d.outcome p.outcome p.words) k) in
+      then_steps (left g r i) (then_steps (right g (Over d.outcome) j) back)
+
+  pub depth_first : (n : ℕ) (t : Tree F O) (a : Words) (e : End O) → run c n t a ≡ Some e → StepsTo t a e
+  depth_first zero t a e h = absurd (cc)
+  depth_first (suc n) (Over o) a e h = subst (λ (z : End O). StepsTo (Over o) a z) (ap (end_or e) h) (Done (Over o) a)
+  depth_first (suc n) (Strand f) a e h =
+      let s = counted_some (of_capsule c f a) (run c n (c.next f a) (c.after f a)) e h in
+      subst (λ (z : End O). StepsTo (Strand f) a z) (sym s.2) (More (Capsule f a) (depth_first n (c.next f a) (c.after f a) s.0 s.1))
+  depth_first (suc n) (Call g t) a e h =
+      let s = then_some (run c n t a) _ e h in
+      subst (λ (z : End O). StepsTo (Call g t) a z) (sym s.4)
+      (call_steps g t a s.0 s.2 (depth_first n t a s.0 s.1) (depth_first n (c.resume g s.0.outcome) s.0.words s.2 s.3))
+  depth_first (suc n) (Fork g l r) a e h =
+      let s = then_some (run c n l a) _ e h in
+      let u = then_some (run c n r s.0.words) _ s.2 s.3 in
+      subst (λ (z : End O). StepsTo (Fork g l r) a z) (sym (s.4 ∙ ap (with_counts s.0.counts) u.4))
+      (fork_steps g l r a s.0 u.0 u.2 (depth_first n l a s.0 s.1) (depth_first n r s.0.words u.0 u.1)
+      (depth_first n (rejoin c g s.0.outcome u.0.outcome) u.0.words u.2 u.3))

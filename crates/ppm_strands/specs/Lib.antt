@@ -1,0 +1,9 @@
+pub mod Ahead
+pub mod Calm
+pub mod Locality
+pub mod Parts
+pub mod Races
+pub mod Regions
+pub mod Run
+pub mod Sample
+pub mod Tree

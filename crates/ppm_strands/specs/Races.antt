@@ -1,0 +1,82 @@
+-- Trees of the small instance whose branches race.
+use Rattle.std.specs.Prelude.{◌≡◌, ℕ, zero, suc, Bool, true, false, List, [], ◌∷◌}
+use Rattle.ppm_strands.specs.Tree.{Words, Tree, Strand, Fork, Local}
+use Rattle.ppm_strands.specs.Run.{End, Ends}
+use Rattle.ppm_strands.specs.Calm.{Calm}
+use Rattle.ppm_strands.specs.Regions.{Regions, listed, IsSeparate, Respects}
+use Rattle.ppm_strands.specs.Sample.{sample, words_of}
+use Rattle.ppm_strands.specs.declared.sample.Word.TheVariants as word
+use Rattle.ppm_strands.specs.declared.sample.Outcome.{Outcome}
+use Rattle.ppm_strands.specs.declared.sample.Outcome.TheVariants.{Finished}
+use Rattle.ppm_strands.specs.declared.sample.SmallTree.TheVariants as small
+use Rattle.ppm_strands.specs.declared.sample.Capsule.{Capsule}
+
+-- the capsules: 0 copies A to B; 1 is over; 2 adds one to C, and then 1; 3 adds one to A, and then 1; 4 is endless; 5 forks 4 and 0
+abbrev pub racing : List Capsule
+racing = record { from = word.A; to = word.B; plus = 0; asks = 0; opens = small.Over Finished }
+    ∷ record { from = word.D; to = word.D; plus = 0; asks = 0; opens = small.Over Finished }
+    ∷ record { from = word.C; to = word.C; plus = 1; asks = 0; opens = small.Strand 1 }
+    ∷ record { from = word.A; to = word.A; plus = 1; asks = 0; opens = small.Strand 1 }
+    ∷ record { from = word.D; to = word.D; plus = 0; asks = 0; opens = small.Strand 4 }
+    ∷ record { from = word.D; to = word.D; plus = 0; asks = 0; opens = small.Fork 1 4 0 }
+    ∷ []
+
+-- a fork of two strands
+abbrev pub fork_of : ℕ → ℕ → Tree ℕ Outcome
+fork_of l r = Fork 1 (Strand l) (Strand r)
+
+-- the left branch reads A, and the right one writes it
+abbrev pub RacesAreNotCalm : Type 0
+RacesAreNotCalm = (a : Words) → Calm (sample racing) (fork_of 0 3) a → ⊥
+
+-- the same where the left branch forks one without end, and then the one that reads A: depth first A is never read
+abbrev pub RacesBesideNoEndAreNotCalm : Type 0
+RacesBesideNoEndAreNotCalm = (a : Words) → Calm (sample racing) (fork_of 5 3) a → ⊥
+
+-- and that tree has no end
+abbrev pub NoEndBeside : Type 0
+NoEndBeside = (a : Words) (e : End Outcome) → Ends (sample racing) (fork_of 5 3) a e → ⊥
+
+-- one, two, three and four in the words
+abbrev pub start : Words
+start = words_of (1 ∷ 2 ∷ 3 ∷ 4 ∷ [])
+
+-- where the right branch of the race makes its capsule first, the law is lost: B ends as 2, and depth first as 1
+abbrev pub RacesLoseTheLaw : Type 0
+RacesLoseTheLaw = ((e : End Outcome) × Ends (sample racing) (fork_of 0 3) start e × (e.words 1 ≡ 1))
+    × ((d : End Outcome) × Ends (sample racing) (fork_of 0 1) ((sample racing).after 3 start) d × (d.words 1 ≡ 2))
+
+-- where the right branch adds to a word of its own, the fork is calm
+abbrev pub ApartIsCalm : Type 0
+ApartIsCalm = (a : Words) → Calm (sample racing) (fork_of 0 2) a
+
+-- the capsules of that fork
+abbrev pub is_apart : ℕ → Bool
+is_apart zero = true
+is_apart (suc zero) = true
+is_apart (suc (suc zero)) = true
+is_apart f = false
+
+-- the words that they own: A and B, D, C and D
+abbrev pub apart_owns : ℕ → List ℕ
+apart_owns zero = 0 ∷ 1 ∷ []
+apart_owns (suc zero) = 3 ∷ []
+apart_owns f = 2 ∷ 3 ∷ []
+
+-- and those that they may write: A is but read
+abbrev pub apart_writes : ℕ → List ℕ
+apart_writes zero = 1 ∷ []
+apart_writes (suc zero) = 3 ∷ []
+apart_writes f = 2 ∷ 3 ∷ []
+
+-- their regions
+abbrev pub apart_regions : Regions ℕ
+apart_regions = listed is_apart apart_owns apart_writes
+
+-- the code respects them, and the fork is separate
+abbrev pub ApartByRegions : Type 0
+ApartByRegions = Respects apart_regions (sample racing) × IsSeparate apart_regions (fork_of 0 2)
+
+-- what a capsule of any table does depends on the word that it reads
+abbrev pub SamplesAreLocal : Type 0
+SamplesAreLocal = (table : List Capsule) → Local (sample table)

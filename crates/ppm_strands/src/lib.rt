@@ -1,0 +1,94 @@
+//! Trees of fork-join strands: what they do depth first, and when branches commute.
+//! Model: a tree of frames (`specs/Tree`), run depth first by a code that says what each capsule
+//! does (`specs/Run`); it is calm where no two branches race (`specs/Calm`).
+//! Contract: laws, each a function that does nothing; in a calm tree any strand may go ahead of the
+//! depth-first order (`specs/Ahead`), and `sample` runs a small instance.
+//! Stands on nothing of the project, and no command rests on it yet.
+//! After the fork-join programs of Blelloch et al., SPAA 2018; the laws are this project's.
+#![tactic(auto)]
+
+pub mod sample;
+
+ghost use Rattle.std.specs.Prelude.{List, ℕ};
+ghost use Rattle.ppm_strands.specs.Tree.{Code, Local, Words};
+ghost use Rattle.ppm_strands.specs.Run.{CallsResume, ForksResume, HasOneEnd, LargerBoundsAgree};
+ghost use Rattle.ppm_strands.specs.Ahead.{DepthFirstIsAnOrder, OrdersAgree, OrdersAreAhead};
+ghost use Rattle.ppm_strands.specs.Ahead.{PassesACall, PassesALeftBranch, PassesARightBranch};
+ghost use Rattle.ppm_strands.specs.Ahead.{StepsAreAhead, StoresRedo};
+ghost use Rattle.ppm_strands.specs.Locality.{CalmTreesRunAlike, ChangesWhatItWrites};
+ghost use Rattle.ppm_strands.specs.Regions.{SeparateTreesAreCalm};
+ghost use Rattle.ppm_strands.specs.Parts.{CalmByParts, EndsByParts, GathersByParts};
+
+/// A larger bound never changes an end that is there.
+pub fn larger_bounds_agree<F, O>()
+    ensures { (c : Code F O) → LargerBoundsAgree c }
+{}
+
+/// Two ends of a tree from the same words are one.
+pub fn has_one_end<F, O>()
+    ensures { (c : Code F O) → HasOneEnd c }
+{}
+
+/// The ends of a tree, the words of its capsules and its calm, by its parts and without a bound.
+pub fn goes_by_parts<F, O>()
+    ensures ends { (c : Code F O) → EndsByParts c }
+    ensures words { (c : Code F O) (s : F → Words → List ℕ) → GathersByParts c s }
+    ensures calm { (c : Code F O) → CalmByParts c }
+{}
+
+/// A call whose callee is over comes to the ends of what follows it, and to no others.
+pub fn calls_resume<F, O>()
+    ensures { (c : Code F O) → CallsResume c }
+{}
+
+/// A fork whose branches are both over comes to the ends of what follows them, and to no others.
+pub fn forks_resume<F, O>()
+    ensures { (c : Code F O) → ForksResume c }
+{}
+
+/// From all words that have the same values where a calm tree touches them, the tree does what it
+/// does from these: it ends within the same bounds, with the same outcome, counts and changes; it
+/// touches and writes the same words, and is calm.
+pub fn locality<F, O>()
+    ensures { (c : Code F O) → Local c → CalmTreesRunAlike c }
+{}
+
+/// A calm tree that ends has changed no words but those that it writes.
+pub fn changes_what_it_writes<F, O>()
+    ensures { (c : Code F O) → Local c → ChangesWhatItWrites c }
+{}
+
+/// What is ahead of the depth-first order in a part of a calm tree is ahead of it in the whole:
+/// in a callee, in a left branch, and in a right branch though the left one is run before it.
+pub fn a_change_passes_up<F, O>()
+    ensures call { (c : Code F O) → PassesACall c }
+    ensures left { (c : Code F O) → Local c → PassesALeftBranch c }
+    ensures right { (c : Code F O) → Local c → PassesARightBranch c }
+{}
+
+/// One strand of a calm tree, wherever it stands, makes a whole capsule, a store of its capsule, a
+/// return or a join before its turn: the whole tree then ends exactly where it ended before, with
+/// the same outcome, words and counts, those of the step among them, and it stays calm. A store of
+/// a word that its capsule writes and does not read is such a step.
+pub fn a_change_at_one_leaf<F, O>()
+    ensures anywhere { (c : Code F O) → Local c → StepsAreAhead c }
+    ensures store { (c : Code F O) → Local c → StoresRedo c }
+{}
+
+/// In whatever order the strands of a calm tree make their steps, what is left of it ends exactly
+/// where the whole tree would. So if they come to an end it is that of the depth-first run, which
+/// is itself one of these orders.
+pub fn any_order<F, O>()
+    ensures ahead { (c : Code F O) → Local c → OrdersAreAhead c }
+    ensures agrees { (c : Code F O) → Local c → OrdersAgree c }
+    ensures depth_first { (c : Code F O) → DepthFirstIsAnOrder c }
+{}
+
+/// Where each frame owns words, a capsule touches only what its frame owns, what comes of a frame
+/// owns no more, and of two branches none may write what the other owns, every tree is calm.
+pub fn calm_by_regions<F, O>()
+    ensures { (c : Code F O) → SeparateTreesAreCalm c }
+{}
+
+#[cfg(test)]
+mod tests;
