@@ -1,7 +1,7 @@
 //! The language's front end: from the bytes of a text to an admitted tree.
 //! Model: a text is cut into tokens (`ppm_text`), a tree is derived from them (`specs/Grammar.antt`), within
 //! limits (`specs/Limits.antt`) and by the rules of regions (`specs/Rules.antt`); `specs/Meaning.antt` says what it does.
-//! Contract: `read_source` answers a text's one tree, or refuses exactly the texts that have none.
+//! Contract: `parse` answers the tokens' one tree or their one fault, `admit` the admitted source or the tree's one fault.
 //! Stands on `ppm_words` and `ppm_text`; `ppm_top` reads, compiles and judges by it.
 #![tactic(auto)]
 
