@@ -163,3 +163,6 @@ pub fn parse(alloc: Global, tokens: &Tokens) -> Result<Source, SyntaxError>
         Err(stop) => Err(stop.in_text(tokens.text_len())),
     }
 }
+
+#[cfg(test)]
+mod tests;
