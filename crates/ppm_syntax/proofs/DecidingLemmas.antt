@@ -1,15 +1,11 @@
 -- First lines: of one place, of two, and of a list.
-use Rattle.std.proofs.Common.{◌≡◌, ◌⊎◌, inl, inr, ℕ, ◌<◌, ◌≤◌, ◌+◌, min, length, Option, None, Some, List, [], ◌∷◌, ◌++◌, map, take, get_or, refl, sym, ap, subst, ◌∙◌, arith}
-use Rattle.std.specs.List.{Contains}
+use Rattle.std.proofs.Common.{◌≡◌, ◌⊎◌, inl, inr, ℕ, ◌<◌, ◌≤◌, ◌+◌, min, length, Option, None, Some}
+use Rattle.std.proofs.Common.{List, [], ◌∷◌, ◌++◌, map, take, get_or, refl, sym, ap, subst, ◌∙◌, arith}
 use Rattle.std.proofs.lemmas.Bool.{cases_lt}
 use Rattle.std.proofs.lemmas.List.{take_more, take_all, map-append}
 use Rattle.std.proofs.lemmas.List.Elements.{Contains-append_left, Contains-push, Contains-push_cases}
 use Rattle.ppm_syntax.specs.RegionFaults.{IsNowhere, IsFirstLine}
 use Rattle.ppm_syntax.specs.Deciding.{IsLeastLine, earlier_of, HasOneAt}
-
--- it is so at no line
-pub least_none : (P : ℕ → Type 0) (found : Option ℕ) → found ≡ None → IsNowhere P → IsLeastLine P found
-least_none P found e none = record { nowhere = λ _. none; first = λ line f. absurd (let g : None ≡ Some line = sym e ∙ f in cc) }
 
 -- it is so at one line alone
 pub least_at : (P : ℕ → Type 0) (at : ℕ) (found : Option ℕ) → found ≡ Some at → P at → ((line : ℕ) → P line → at ≡ line) → IsLeastLine P found
@@ -77,10 +73,6 @@ module _ (P Q R : ℕ → Type 0) (left : (line : ℕ) → P line → R line) (r
   pub least_of : (a b found : Option ℕ) → found ≡ earlier_of a b → IsLeastLine P a → IsLeastLine Q b → IsLeastLine R found
   least_of a b found e p q = subst (IsLeastLine R) (sym e) (least_by a b p q)
 
--- it is so of no element of no list
-pub least_nil : {A : Type 0} (P : A → ℕ → Type 0) → IsNowhere (HasOneAt P [])
-least_nil P line h = let w = h.within.1 in absurd (omega arith)
-
 -- a list and one more
 module _ {A : Type 0} (P : A → ℕ → Type 0) (xs : List A) (x : A) where
   one_before : (line : ℕ) → HasOneAt P xs line → HasOneAt P (xs ++ (x ∷ [])) line
@@ -96,7 +88,7 @@ module _ {A : Type 0} (P : A → ℕ → Type 0) (xs : List A) (x : A) where
         | inr e ↦ inr (subst (λ y. P y line) (sym e) h.here)
       ]
 
-  pub least_pushed : (a b found : Option ℕ) → found ≡ earlier_of a b → IsLeastLine (HasOneAt P xs) a → IsLeastLine (P x) b
+  least_pushed : (a b found : Option ℕ) → found ≡ earlier_of a b → IsLeastLine (HasOneAt P xs) a → IsLeastLine (P x) b
       → IsLeastLine (HasOneAt P (xs ++ (x ∷ []))) found
   least_pushed a b found e = least_of (HasOneAt P xs) (P x) (HasOneAt P (xs ++ (x ∷ []))) one_before one_last one_pushed a b found e
 
@@ -109,7 +101,8 @@ least_more P xs i x a b found in' at e before here =
 
 -- the step of a loop over the images of a list
 pub least_more_map : {A B : Type 0} (f : A → B) (P : B → ℕ → Type 0) (xs : List A) (i : ℕ) (x : A) (a b found : Option ℕ) → i < length xs → x ≡ get_or xs i x
-    → found ≡ earlier_of a b → IsLeastLine (HasOneAt P (map f (take i xs))) a → IsLeastLine (P (f x)) b → IsLeastLine (HasOneAt P (map f (take (i + 1) xs))) found
+    → found ≡ earlier_of a b → IsLeastLine (HasOneAt P (map f (take i xs))) a → IsLeastLine (P (f x)) b
+    → IsLeastLine (HasOneAt P (map f (take (i + 1) xs))) found
 least_more_map f P xs i x a b found in' at e before here =
     let one = ap (map f) (take_more xs i x in' ∙ ap (λ y. take i xs ++ (y ∷ [])) (sym at)) ∙ map-append f (take i xs) (x ∷ []) in
     subst (λ ys. IsLeastLine (HasOneAt P ys) found) (sym one) (least_pushed P (map f (take i xs)) (f x) a b found e before here)

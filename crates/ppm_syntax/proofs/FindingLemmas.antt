@@ -1,5 +1,5 @@
 -- From the code's tests and searches to first lines.
-use Rattle.std.proofs.Common.{◌≡◌, ◌⊎◌, ◌↔◌, inl, inr, ℕ, Bool, true, false, IsTrue, Option, Some, List, [], ◌∷◌, map, codes, refl, sym, ap, ◌∙◌, subst, arith}
+use Rattle.std.proofs.Common.{◌≡◌, ◌⊎◌, ◌↔◌, inl, inr, ℕ, Bool, false, IsTrue, Option, Some, List, ◌∷◌, map, codes, refl, sym, ap, ◌∙◌, subst}
 use Rattle.std.specs.List.{Contains}
 use Rattle.ppm_syntax.specs.declared.tree.Mode.{Mode}
 use Rattle.ppm_syntax.specs.declared.tree.Mode.TheVariants as mode
@@ -11,7 +11,7 @@ use Rattle.ppm_syntax.specs.declared.tree.Tree.{Tree}
 use Rattle.ppm_syntax.specs.declared.tree.Stmt.{Stmt}
 use Rattle.ppm_syntax.specs.Tree.{Expression, Statement, Procedure, statement_of, procedure_of, tree_of}
 use Rattle.ppm_syntax.specs.Tree as tree
-use Rattle.ppm_syntax.specs.RegionFaults.{Repeats, IsUnknownName, IsParameterTwice, IsTwiceNamed, IsWriteToRef, HasNoMain, IsBadParameter, IsBadMain}
+use Rattle.ppm_syntax.specs.RegionFaults.{Repeats, IsUnknownName, IsParameterTwice, IsTwiceNamed, IsWriteToRef, IsBadMain}
 use Rattle.ppm_syntax.specs.Deciding.{IsLeastLine, earlier_of, HasOne, HasOneAt, HasNamed, IsNamedAt, IsUnknown, ReadsUnknown, UsesUnknown, HasUnknown}
 use Rattle.ppm_syntax.specs.Deciding.{HasWriteToRef, HasParameterTwice, IsNamedMain, IsMainParam, IsBad, HasBad}
 use Rattle.ppm_syntax.proofs.Elements.{contains_map, contains_back}
@@ -116,7 +116,8 @@ bad_of_main arrays p params found same named least =
     (subst (λ qs. IsLeastLine (HasOneAt (IsBad arrays) qs) found) same least)
 
 -- from the search over a body to the procedure
-pub in_body : (P : List Param → Statement → ℕ → Type 0) (p : Proc) (params : List Param) (body : List Stmt) (found : Option ℕ) → params ≡ p.params → body ≡ p.body
+pub in_body : (P : List Param → Statement → ℕ → Type 0) (p : Proc) (params : List Param) (body : List Stmt) (found : Option ℕ)
+    → params ≡ p.params → body ≡ p.body
     → IsLeastLine (HasOneAt (P params) (map statement_of body)) found → IsLeastLine (HasOneAt (P p.params) (map statement_of p.body)) found
 in_body P p params body found same_params same_body least =
     subst (λ qs. IsLeastLine (HasOneAt (P qs) (map statement_of p.body)) found) same_params

@@ -1,7 +1,7 @@
 -- A tree has one fault or none, and keeps the rules where it has none.
-use Rattle.std.proofs.Common.{◌≡◌, ◌≢◌, ◌⊎◌, inl, inr, ℕ, zero, suc, ◌<◌, ◌≤◌, List, [], ◌∷◌, length, map, slice_index_or, codes, refl, sym, ap, ◌∙◌, subst, arith}
-use Rattle.std.specs.List.{All, Contains, IsDistinct}
-use Rattle.std.specs.Str.{bytes_eq}
+use Rattle.std.proofs.Common.{◌≡◌, ◌≢◌, ◌⊎◌, inl, inr, ℕ, zero, suc, ◌<◌, ◌≤◌, List, []}
+use Rattle.std.proofs.Common.{◌∷◌, length, map, slice_index_or, codes, refl, sym, ap, ◌∙◌, subst, arith}
+use Rattle.std.specs.List.{All, Contains}
 use Rattle.std.proofs.lemmas.Bool.{cases_lt}
 use Rattle.std.proofs.lemmas.List.Elements.{All-contains, Contains-get_or}
 use Rattle.ppm_syntax.specs.declared.tree.Mode.{Mode}
@@ -13,8 +13,8 @@ use Rattle.ppm_syntax.specs.Tree.{Expression, Statement, Procedure, SourceTree}
 use Rattle.ppm_syntax.specs.Tree as tree
 use Rattle.ppm_syntax.specs.Limits.{IsWithin}
 use Rattle.ppm_syntax.specs.Rules.{IsRegion, IsWritable, Declares, ReadsRegions, KeepsRules, IsLawful, IsMain, IsAdmitted}
-use Rattle.ppm_syntax.specs.RegionFaults.{NamesAt, WritesAt, UsesAt, Repeats, IsUnknownName, IsTwiceNamed, IsWriteToRef, IsBadMain, IsBadParameter, HasNoMain}
-use Rattle.ppm_syntax.specs.RegionFaults.{IsNowhere, IsFirstLine, IsFault, HasOneRegionFault, HaveOneRegionFault}
+use Rattle.ppm_syntax.specs.RegionFaults.{NamesAt, WritesAt, UsesAt, IsUnknownName, IsTwiceNamed, IsWriteToRef, IsBadMain}
+use Rattle.ppm_syntax.specs.RegionFaults.{IsNowhere, IsFirstLine, IsFault, HaveOneRegionFault}
 use Rattle.ppm_syntax.specs.Deciding.{HasNoFault}
 use Rattle.ppm_syntax.proofs.Elements.{contains_head, contains_tail, contains_cases, contains_map, contains_back}
 use Rattle.ppm_syntax.proofs.RulesLemmas.{same_or_not, among_by, distinct_from, none_twice, distinct_same}
@@ -52,7 +52,8 @@ one_fault t (error.BadMain x) error.NoMemory p q = absurd q
 declared_name : (params : List Param) (P : Param → Type 0) (x : List ℕ) → Declares params P x → Contains (map (λ q. q.name) params) x
 declared_name params P x d = subst (Contains (map (λ q. q.name) params)) d.2 (contains_map (λ q. q.name) d.0 params d.1)
 
-read_declared : (params : List Param) (e : Expression) (x : List ℕ) (line : ℕ) → ReadsRegions params e → NamesAt e x line → Contains (map (λ q. q.name) params) x
+read_declared : (params : List Param) (e : Expression) (x : List ℕ) (line : ℕ) → ReadsRegions params e → NamesAt e x line
+    → Contains (map (λ q. q.name) params) x
 read_declared params (tree.Number z) x line r n = absurd n
 read_declared params (tree.Element y at index) x line r n =
     elim n [
@@ -120,7 +121,8 @@ no_fault t a error.NoMemory p = p
 -- what has no fault keeps the rules
 
 -- a procedure is `main`, or none is
-main_or_not : (procs : List Procedure) → ((p : Procedure) × Contains procs p × (p.name ≡ codes "main")) ⊎ ((p : Procedure) → Contains procs p → p.name ≢ codes "main")
+main_or_not : (procs : List Procedure)
+    → ((p : Procedure) × Contains procs p × (p.name ≡ codes "main")) ⊎ ((p : Procedure) → Contains procs p → p.name ≢ codes "main")
 main_or_not [] = inr (λ p c. let far = c.1 in absurd (omega arith))
 main_or_not (p ∷ procs) =
     elim (same_or_not p.name (codes "main")) [

@@ -6,7 +6,8 @@ use Rattle.std.proofs.lemmas.Slice.Eq.{bytes_eq-Decides}
 use Rattle.std.proofs.lemmas.Map.Keys.{IsDistinct-cons, IsDistinct-head, IsDistinct-tail}
 use Rattle.ppm_syntax.specs.RegionFaults.{Repeats}
 use Rattle.ppm_syntax.specs.Deciding.{HasNamed, HasOneAt, IsNamedAt}
-use Rattle.ppm_syntax.proofs.Elements.{contains_head, contains_tail, contains_cases, contains_map, contains_back, contains_split, contains_middle, all_pass, pass_all}
+use Rattle.ppm_syntax.proofs.Elements.{contains_head, contains_tail, contains_cases, contains_map, contains_back}
+use Rattle.ppm_syntax.proofs.Elements.{contains_split, contains_middle, all_pass, pass_all}
 
 bytes_differ : (x y : List ℕ) → bytes_eq x y ≡ false → x ≡ y → ⊥
 bytes_differ x y e same = let t = (bytes_eq-Decides x y).1 same in cc
@@ -27,7 +28,7 @@ same_or_not x y = go (bytes_eq x y) refl
     go false e = inr (bytes_differ x y e)
 
 -- a name is among some or not
-pub among_or_not : (names : List (List ℕ)) (x : List ℕ) → Contains names x ⊎ (Contains names x → ⊥)
+among_or_not : (names : List (List ℕ)) (x : List ℕ) → Contains names x ⊎ (Contains names x → ⊥)
 among_or_not [] x = inr (λ c. let far = c.1 in absurd (omega arith))
 among_or_not (y ∷ names) x =
     elim (same_or_not y x) [
@@ -79,7 +80,7 @@ module _ {A : Type 0} (name : A → List ℕ) (line : A → ℕ) where
   no_place [] item more e = cc
   no_place (x ∷ front) item more e = cc
 
-  pub repeats_nil : (n : ℕ) → Repeats name line [] n → ⊥
+  repeats_nil : (n : ℕ) → Repeats name line [] n → ⊥
   repeats_nil n r = no_place r.front r.item r.more r.shape
 
   pub repeats_here : (x : A) (xs : List A) (n : ℕ) → HasOneAt (IsNamedAt name line (name x)) xs n → Repeats name line (x ∷ xs) n
@@ -138,23 +139,22 @@ module _ {A : Type 0} (name : A → List ℕ) (line : A → ℕ) where
 
 -- elements and their images
 module _ {A B : Type 0} (f : A → B) where
-  pub one_map : (P : B → ℕ → Type 0) (xs : List A) (n : ℕ) → HasOneAt (λ x. P (f x)) xs n → HasOneAt P (map f xs) n
-  one_map P xs n h = record { element = f h.element; within = contains_map f h.element xs h.within; here = h.here }
-
-  pub one_back : (P : B → ℕ → Type 0) (xs : List A) (n : ℕ) → HasOneAt P (map f xs) n → HasOneAt (λ x. P (f x)) xs n
+  one_back : (P : B → ℕ → Type 0) (xs : List A) (n : ℕ) → HasOneAt P (map f xs) n → HasOneAt (λ x. P (f x)) xs n
   one_back P xs n h =
       let w = contains_back f h.element xs h.within in record { element = w.0; within = w.1; here = subst (λ y. P y n) (sym w.2) h.here }
 
   -- an item has the name that its image has
   module _ (name : B → List ℕ) (line : B → ℕ) where
-    named_map : (nm : List ℕ) (xs : List A) (n : ℕ) → HasOneAt (IsNamedAt (λ x. name (f x)) (λ x. line (f x)) nm) xs n → HasOneAt (IsNamedAt name line nm) (map f xs) n
+    named_map : (nm : List ℕ) (xs : List A) (n : ℕ) → HasOneAt (IsNamedAt (λ x. name (f x)) (λ x. line (f x)) nm) xs n
+        → HasOneAt (IsNamedAt name line nm) (map f xs) n
     named_map nm xs n h = record {
       element = f h.element;
       within = contains_map f h.element xs h.within;
       here = record { same = h.here.same; at = h.here.at };
     }
 
-    named_back : (nm : List ℕ) (xs : List A) (n : ℕ) → HasOneAt (IsNamedAt name line nm) (map f xs) n → HasOneAt (IsNamedAt (λ x. name (f x)) (λ x. line (f x)) nm) xs n
+    named_back : (nm : List ℕ) (xs : List A) (n : ℕ) → HasOneAt (IsNamedAt name line nm) (map f xs) n
+        → HasOneAt (IsNamedAt (λ x. name (f x)) (λ x. line (f x)) nm) xs n
     named_back nm xs n h =
         let w = one_back (IsNamedAt name line nm) xs n h in
         record { element = w.element; within = w.within; here = record { same = w.here.same; at = w.here.at } }

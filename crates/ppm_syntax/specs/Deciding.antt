@@ -8,7 +8,8 @@ use Rattle.ppm_syntax.specs.declared.tree.Proc.{Proc}
 use Rattle.ppm_syntax.specs.declared.region_error.RegionError.{RegionError}
 use Rattle.ppm_syntax.specs.Tree.{Expression, Statement, Procedure, SourceTree}
 use Rattle.ppm_syntax.specs.Rules.{IsRegion}
-use Rattle.ppm_syntax.specs.RegionFaults.{NamesAt, UsesAt, WritesAt, Repeats, IsUnknownName, IsTwiceNamed, IsWriteToRef, IsBadMain, IsNowhere, IsFirstLine, IsFault}
+use Rattle.ppm_syntax.specs.RegionFaults.{NamesAt, UsesAt, WritesAt, Repeats, IsUnknownName, IsTwiceNamed}
+use Rattle.ppm_syntax.specs.RegionFaults.{IsWriteToRef, IsBadMain, IsNowhere, IsFirstLine, IsFault}
 
 -- the first line at which it is so, if there is one
 pub record IsLeastLine (P : ℕ → Type 0) (found : Option ℕ) : Type 0 where

@@ -3,7 +3,6 @@ use Rattle.std.specs.Prelude.{◌≡◌, ◌≢◌, ◌⊎◌, ◌≤◌, ◌++�
 use Rattle.std.specs.List.{Contains}
 use Rattle.ppm_syntax.specs.declared.tree.Mode.TheVariants as mode
 use Rattle.ppm_syntax.specs.declared.tree.Param.{Param}
-use Rattle.ppm_syntax.specs.declared.tree.Array.{Array}
 use Rattle.ppm_syntax.specs.declared.region_error.RegionError.{RegionError}
 use Rattle.ppm_syntax.specs.declared.region_error.RegionError.TheVariants as error
 use Rattle.ppm_syntax.specs.Tree.{Expression, Statement, Procedure, SourceTree}

@@ -1,5 +1,4 @@
 use Rattle.std.proofs.Common.{refl}
-use Rattle.ppm_syntax.specs.Tree as tree
 use Rattle.ppm_syntax.specs.Tree.{expression_of}
 use Rattle.ppm_syntax.proofs.FindingLemmas.{unknown_element, unknown_binary}
 use Rattle.ppm_syntax.proofs.rules.+unknown_in.Goals as goal

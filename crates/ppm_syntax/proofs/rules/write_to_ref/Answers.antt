@@ -7,12 +7,12 @@ use Rattle.ppm_syntax.proofs.rules.write_to_ref.Goals as goal
 -- the procedures so far and one more
 pub loop-proc-preserved : goal.loop-proc-preserved
 loop-proc-preserved c =
-    least_more_map procedure_of HasWriteToRef c.as_slice-proc-items.result.now c.loop-proc.proc-index c.proc-item.result _ _ _ c.loop-proc-test.true c.proc-item.is
-    c.earlier-found.ensures c.loop-proc.invariant
+    least_more_map procedure_of HasWriteToRef c.as_slice-proc-items.result.now c.loop-proc.proc-index c.proc-item.result _ _ _
+    c.loop-proc-test.true c.proc-item.is c.earlier-found.ensures c.loop-proc.invariant
     (in_body WritesRef c.proc-item.result _ _ _ c.as_slice.ensures c.as_slice-in-loop-proc.ensures c.write_to_ref_in.ensures)
 
 -- all procedures were searched
 pub returns : goal.returns
 returns c =
     write_to_ref c.args.tree.now c.as_slice-proc-items.result.now c.loop-proc.found c.as_slice-proc-items.ensures
-    (least_all_map procedure_of HasWriteToRef c.as_slice-proc-items.result.now c.loop-proc.proc-index c.loop-proc.found c.loop-proc-test.false c.loop-proc.invariant)
+    (least_all_map procedure_of HasWriteToRef c.as_slice-proc-items.result.now _ c.loop-proc.found c.loop-proc-test.false c.loop-proc.invariant)
