@@ -5,7 +5,7 @@ ghost use Rattle.std.specs.Prelude.{[], ◌≡◌, ◌≤◌, ◌^◌, IfSome, o
 ghost use Rattle.ppm_strands.specs.Run.{joined as model_joined, plus};
 ghost use Rattle.ppm_strands.specs.Run.{with_counts as model_with_counts};
 ghost use Rattle.ppm_strands.specs.Races.{ApartByRegions, ApartIsCalm, NoEndBeside, RacesAreNotCalm, RacesLoseTheLaw};
-ghost use Rattle.ppm_strands.specs.Races.{RacesBesideNoEndAreNotCalm, SamplesAreLocal};
+ghost use Rattle.ppm_strands.specs.Races.{RacesBesideNoEndAreNotCalm, RacesEndOtherwise, SamplesAreLocal};
 ghost use Rattle.ppm_strands.specs.Sample.{AreAtMost, IsBoundOfBoth, address, after_capsule, capsule_at, counts_of};
 ghost use Rattle.ppm_strands.specs.Sample.{counts_at, end_of, resumed_tree, run_of, sample, tree_of, words_of};
 
@@ -216,14 +216,15 @@ pub fn run(table: &[Capsule], bound: u8, tree: SmallTree, words: [u8; 4]) -> Opt
     }
 }
 
-/// Branches that race are not calm, and a capsule made ahead may then change the end. So it is
-/// where the race stands behind a branch without end, in a tree that itself has none. Branches
-/// that keep apart are calm.
+/// Branches that race are not calm, and a capsule made ahead may then change the end. They are not
+/// calm either where the race stands behind or beside a branch without end, in trees that
+/// themselves have none. Branches that keep apart are calm.
 pub fn races_are_not_calm()
     ensures race { RacesAreNotCalm }
     ensures beside_no_end { RacesBesideNoEndAreNotCalm }
     ensures no_end { NoEndBeside }
     ensures law_is_lost { RacesLoseTheLaw }
+    ensures ends_otherwise { RacesEndOtherwise }
     ensures apart { ApartIsCalm }
     ensures by_regions { ApartByRegions }
 {}
