@@ -2,7 +2,7 @@
 use Rattle.std.specs.Prelude.{◌≡◌, ℕ, zero, suc, Bool, true, false, List, [], ◌∷◌}
 use Rattle.ppm_strands.specs.Tree.{Words, Tree, Strand, Fork, Local}
 use Rattle.ppm_strands.specs.Run.{Counts, End, of_capsule, Ends}
-use Rattle.ppm_strands.specs.Ahead.{Ahead, Step}
+use Rattle.ppm_strands.specs.Ahead.{Ahead, Step, OrdersAgree}
 use Rattle.ppm_strands.specs.Calm.{Calm}
 use Rattle.ppm_strands.specs.Regions.{Regions, listed, IsSeparate, Respects}
 use Rattle.ppm_strands.specs.Sample.{sample, words_of}
@@ -99,3 +99,7 @@ ApartByRegions = Respects apart_regions (sample racing) × IsSeparate apart_regi
 -- what a capsule of any table does depends on the word that it reads
 abbrev pub SamplesAreLocal : Type 0
 SamplesAreLocal = (table : List Capsule) → Local (sample table)
+
+-- the law of any order, of the code of any table
+abbrev pub TablesRunInAnyOrder : Type 0
+TablesRunInAnyOrder = (table : List Capsule) → OrdersAgree (sample table)

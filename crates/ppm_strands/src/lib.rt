@@ -67,9 +67,10 @@ pub fn a_change_passes_up<F, O>()
 {}
 
 /// One strand of a calm tree, wherever it stands, makes a whole capsule, a store of its capsule, a
-/// return or a join before its turn: the whole tree then ends exactly where it ended before, with
-/// the same outcome, words and counts, those of the step among them, and it stays calm. A store of
-/// a word that its capsule writes and does not read is such a step.
+/// return or a join before its turn, or a frame takes in a value before it goes on: the whole tree
+/// then ends exactly where it ended before, with the same outcome, words and counts, those of the
+/// step among them, and it stays calm. A store of a word that its capsule writes and does not read
+/// is such a step, whatever the value.
 pub fn a_change_at_one_leaf<F, O>()
     ensures anywhere { (c : Code F O) → Local c → StepsAreAhead c }
     ensures store { (c : Code F O) → Local c → StoresRedo c }

@@ -5,9 +5,11 @@ ghost use Rattle.std.specs.Prelude.{[], ◌≡◌, ◌≤◌, ◌^◌, IfSome, o
 ghost use Rattle.ppm_strands.specs.Run.{joined as model_joined, plus};
 ghost use Rattle.ppm_strands.specs.Run.{with_counts as model_with_counts};
 ghost use Rattle.ppm_strands.specs.Races.{ApartByRegions, ApartIsCalm, NoEndBeside, RacesAreNotCalm, RacesLoseTheLaw};
-ghost use Rattle.ppm_strands.specs.Races.{RacesBesideNoEndAreNotCalm, RacesEndOtherwise, SamplesAreLocal};
+ghost use Rattle.ppm_strands.specs.Races.{RacesBesideNoEndAreNotCalm, RacesEndOtherwise, SamplesAreLocal, TablesRunInAnyOrder};
 ghost use Rattle.ppm_strands.specs.Sample.{AreAtMost, IsBoundOfBoth, address, after_capsule, capsule_at, counts_of};
 ghost use Rattle.ppm_strands.specs.Sample.{counts_at, end_of, resumed_tree, run_of, sample, tree_of, words_of};
+
+use crate::any_order;
 
 /// The four words, by name.
 #[derive(Clone, Copy, Debug, PartialEq, Eq)]
@@ -234,3 +236,12 @@ pub fn races_are_not_calm()
 pub fn samples_are_local()
     ensures { SamplesAreLocal }
 {}
+
+/// So the strands of a table's trees may run in any order, where these are calm: the law at an
+/// instance, by its contract alone.
+pub fn tables_run_in_any_order()
+    ensures { TablesRunInAnyOrder }
+{
+    samples_are_local();
+    any_order::<u8, Outcome>();
+}
