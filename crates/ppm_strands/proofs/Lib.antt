@@ -8,3 +8,4 @@ pub mod RegionLemmas
 pub mod RunLemmas
 pub mod SampleLemmas
 pub mod StepLemmas
+pub mod TurnLemmas

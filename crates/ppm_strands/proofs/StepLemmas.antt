@@ -62,7 +62,7 @@ module _ {F O : Type 0} (c : Code F O) where
     same_capsule = counts_path refl (ap (λ (t : Tree F O). forks_in t) again.next) again.asks
 
     -- the strand afterwards, seen from the strand before
-    same_ends : (e : End O) → Ends c (Strand f) a e ↔ Ends c (Strand f') a' e
+    pub same_ends : (e : End O) → Ends c (Strand f) a e ↔ Ends c (Strand f') a' e
     same_ends e = (
       λ h.
           let d = ((ends_by_parts c).strand f a e).0 h in

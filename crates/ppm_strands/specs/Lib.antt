@@ -7,3 +7,4 @@ pub mod Regions
 pub mod Run
 pub mod Sample
 pub mod Tree
+pub mod Turn

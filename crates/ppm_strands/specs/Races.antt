@@ -1,4 +1,4 @@
--- Trees of the small instance whose branches race.
+-- Trees of the small instance whose branches race, and the laws at its tables.
 use Rattle.std.specs.Prelude.{◌≡◌, ℕ, zero, suc, Bool, true, false, List, [], ◌∷◌}
 use Rattle.ppm_strands.specs.Tree.{Words, Tree, Strand, Fork, Local}
 use Rattle.ppm_strands.specs.Run.{Counts, End, of_capsule, Ends}

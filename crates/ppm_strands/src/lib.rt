@@ -17,6 +17,7 @@ ghost use Rattle.ppm_strands.specs.Ahead.{PassesACall, PassesALeftBranch, Passes
 ghost use Rattle.ppm_strands.specs.Ahead.{StepsAreAhead, StoresRedo};
 ghost use Rattle.ppm_strands.specs.Locality.{CalmTreesRunAlike, ChangesWhatItWrites};
 ghost use Rattle.ppm_strands.specs.Regions.{SeparateTreesAreCalm};
+ghost use Rattle.ppm_strands.specs.Turn.{TurnsKeepEnds};
 ghost use Rattle.ppm_strands.specs.Parts.{CalmByParts, EndsByParts, GathersByParts};
 
 /// A larger bound never changes an end that is there.
@@ -74,6 +75,12 @@ pub fn a_change_passes_up<F, O>()
 pub fn a_change_at_one_leaf<F, O>()
     ensures anywhere { (c : Code F O) → Local c → StepsAreAhead c }
     ensures store { (c : Code F O) → Local c → StoresRedo c }
+{}
+
+/// A step of the strand whose turn it is leaves the end of a tree as it was, though its branches
+/// race: the whole then ends exactly where it ended before, with the counts of the step.
+pub fn a_step_in_turn<F, O>()
+    ensures { (c : Code F O) → TurnsKeepEnds c }
 {}
 
 /// In whatever order the strands of a calm tree make their steps, what is left of it ends exactly
