@@ -1,4 +1,5 @@
 pub mod AheadLemmas
+pub mod BesideLemmas
 pub mod CalmLemmas
 pub mod LocalityLemmas
 pub mod OrderLemmas

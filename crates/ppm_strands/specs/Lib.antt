@@ -1,4 +1,5 @@
 pub mod Ahead
+pub mod Beside
 pub mod Calm
 pub mod Locality
 pub mod Parts

@@ -15,6 +15,7 @@ ghost use Rattle.ppm_strands.specs.Run.{CallsResume, ForksResume, HasOneEnd, Lar
 ghost use Rattle.ppm_strands.specs.Ahead.{DepthFirstIsAnOrder, OrdersAgree, OrdersAreAhead};
 ghost use Rattle.ppm_strands.specs.Ahead.{PassesACall, PassesALeftBranch, PassesARightBranch};
 ghost use Rattle.ppm_strands.specs.Ahead.{StepsAreAhead, StoresRedo};
+ghost use Rattle.ppm_strands.specs.Beside.{StrandsBesideDoNotRace};
 ghost use Rattle.ppm_strands.specs.Locality.{CalmTreesRunAlike, ChangesWhatItWrites};
 ghost use Rattle.ppm_strands.specs.Regions.{SeparateTreesAreCalm};
 ghost use Rattle.ppm_strands.specs.Turn.{TurnsKeepEnds};
@@ -57,6 +58,12 @@ pub fn locality<F, O>()
 /// A calm tree that ends has changed no words but those that it writes.
 pub fn changes_what_it_writes<F, O>()
     ensures { (c : Code F O) → Local c → ChangesWhatItWrites c }
+{}
+
+/// Of two strands that stand in the two branches of a fork of a calm tree, neither capsule writes a
+/// word that the other touches: so while both are under way, neither meets what the other stores.
+pub fn strands_beside_do_not_race<F, O>()
+    ensures { (c : Code F O) → StrandsBesideDoNotRace c }
 {}
 
 /// What is ahead of the depth-first order in a part of a calm tree is ahead of it in the whole:
