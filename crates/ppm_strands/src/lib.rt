@@ -7,6 +7,7 @@
 //! After the fork-join programs of Blelloch et al., SPAA 2018; the laws are this project's.
 #![tactic(auto)]
 
+pub mod owner;
 pub mod sample;
 
 ghost use Rattle.std.specs.Prelude.{List, ℕ};
@@ -17,9 +18,11 @@ ghost use Rattle.ppm_strands.specs.Ahead.{PassesACall, PassesALeftBranch, Passes
 ghost use Rattle.ppm_strands.specs.Ahead.{StepsAreAhead, StoresRedo};
 ghost use Rattle.ppm_strands.specs.Beside.{StrandsBesideDoNotRace};
 ghost use Rattle.ppm_strands.specs.Locality.{CalmTreesRunAlike, ChangesWhatItWrites};
-ghost use Rattle.ppm_strands.specs.Regions.{SeparateTreesAreCalm};
+ghost use Rattle.ppm_strands.specs.Regions.{regions, ListedRegionsCalm, SeparateTreesAreCalm};
 ghost use Rattle.ppm_strands.specs.Turn.{TurnsKeepEnds};
 ghost use Rattle.ppm_strands.specs.Parts.{CalmByParts, EndsByParts, GathersByParts};
+
+use owner::Owner;
 
 /// A larger bound never changes an end that is there.
 pub fn larger_bounds_agree<F, O>()
@@ -100,9 +103,15 @@ pub fn any_order<F, O>()
 {}
 
 /// Where each frame owns words, a capsule touches only what its frame owns, what comes of a frame
-/// owns no more, and of two branches none may write what the other owns, every tree is calm.
-pub fn calm_by_regions<F, O>()
-    ensures { (c : Code F O) → SeparateTreesAreCalm c }
+/// owns no more, and of two branches none may write what the other owns, every tree is calm. What
+/// frames own are predicates of their type.
+pub fn calm_by_regions<F: Owner, O>()
+    ensures { (c : Code F O) → SeparateTreesAreCalm (regions F.admits F.owns F.may_write) c }
+{}
+
+/// The same for all regions given by a test and by lists, of any type of frames.
+pub fn calm_by_listed_regions<F, O>()
+    ensures { (c : Code F O) → ListedRegionsCalm c }
 {}
 
 #[cfg(test)]
