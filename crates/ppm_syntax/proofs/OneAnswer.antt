@@ -9,22 +9,11 @@ use Rattle.ppm_syntax.specs.declared.syntax_error.SyntaxError.TheVariants as err
 use Rattle.ppm_syntax.specs.Tree.{SourceTree}
 use Rattle.ppm_syntax.specs.Limits.{depth_limit, IsWithin}
 use Rattle.ppm_syntax.specs.Grammar.{DerivesTree}
-use Rattle.ppm_syntax.specs.Stack.{State, step, run, then_run, can_end, beginning}
+use Rattle.ppm_syntax.specs.Stack.{State, step, run, can_end, beginning}
 use Rattle.ppm_syntax.specs.Faults.{Begins, StandsAt, IsFirstUnexpected, IsEnded, IsTooDeep, IsTooMany, IsFault, HasOneAnswer}
 use Rattle.ppm_syntax.specs.Verdict.{Verdict, Whole, Cut, Unexpected, Deep, Many, verdict}
 use Rattle.ppm_syntax.proofs.Viable.{run_begins, run_ends}
-use Rattle.ppm_syntax.proofs.FaultLemmas.{Comes, Stops, IsStuck, IsDeep, IsMany, reason_verdict, within_runs}
-
--- what can come, and one more token that can
-run_one_more : (front : List Token) (t : Token) (s before after : State) → run s front ≡ Some before → step before t.kind ≡ Some after →
-    run s (front ++ (t ∷ [])) ≡ Some after
-run_one_more [] t s before after ran is = let same : s ≡ before = cc in rw (same, is) refl
-run_one_more (x ∷ front) t s before after ran is = go (step s x.kind) (λ s2 ran2. run_one_more front t s2 before after ran2 is) ran
-  where
-    go : (o : Option State) → ((s2 : State) → run s2 front ≡ Some before → run s2 (front ++ (t ∷ [])) ≡ Some after) →
-        then_run o (λ s2. run s2 front) ≡ Some before → then_run o (λ s2. run s2 (front ++ (t ∷ []))) ≡ Some after
-    go None on ran = cc
-    go (Some s2) on ran = on s2 ran
+use Rattle.ppm_syntax.proofs.FaultLemmas.{Comes, Stops, IsStuck, IsDeep, IsMany, reason_verdict, within_runs, run_one_more}
 
 -- a token that stands at the place, where it is so
 stops_there : {ts : List Token} {place : ℕ} {front : List Token} {token : Token} (before : State) (Is : State → Kind → Type 0) →

@@ -52,22 +52,24 @@ pub record IsEnded (ts : List Token) : Type 0 where
   pub ends : IsText ts → ⊥
   pub within : Within beginning ts
 
--- the first token with which more openings are open than the limit
+-- the first token with which more openings are open than the limit; a text of the grammar begins with the tokens up to it
 pub record IsTooDeep (ts : List Token) (place : ℕ) : Type 0 where
   pub front : List Token
   pub token : Token
   pub stands : StandsAt ts place front token
+  pub begins : Begins (front ++ (token ∷ []))
   pub before : State
   pub after : State
   pub ran : run beginning front ≡ Some before
   pub stepped : step before token.kind ≡ Some after
   pub deep : depth_limit < openings after.stack
 
--- the first token that passes a limit on counts, with no more openings than the limit
+-- the first token that passes a limit on counts, with no more openings than the limit; a text of the grammar begins with the tokens up to it
 pub record IsTooMany (ts : List Token) (place : ℕ) (which : Limit) : Type 0 where
   pub front : List Token
   pub token : Token
   pub stands : StandsAt ts place front token
+  pub begins : Begins (front ++ (token ∷ []))
   pub before : State
   pub after : State
   pub ran : run beginning front ≡ Some before
