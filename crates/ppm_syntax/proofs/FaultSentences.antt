@@ -107,7 +107,7 @@ is_too_many ts place which f = record {
 }
 
 -- the reason for the verdict on a text
-reason : (ts : List Token) (v : Verdict) → verdict beginning ts ≡ v → Because beginning ts v
+pub reason : (ts : List Token) (v : Verdict) → verdict beginning ts ≡ v → Because beginning ts v
 reason ts v e = subst (λ w. Because beginning ts w) e (because ts beginning)
 
 -- the verdict says which token is the first that cannot come

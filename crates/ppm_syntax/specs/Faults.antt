@@ -22,6 +22,7 @@ pub record Passes (s : State) : Type 0 where
   pub openings : openings s.stack ≤ depth_limit
   pub counts : passed s.tally ≡ None
 
+-- behind a token that can come and passes no limit the state has the property
 abbrev pub then_within : Option State → (State → Type 0) → Type 0
 then_within None next = ⊥
 then_within (Some s) next = Passes s × next s
@@ -90,10 +91,11 @@ abbrev pub HasFault : List Token → ℕ → SyntaxError → Type 0
 HasFault ts text_len error.NoMemory = Unit {0}
 HasFault ts text_len e = IsFault ts text_len e
 
--- Tokens have at most one fault, and none where they have a tree within the limits.
+-- Tokens have at most one fault, and none where they have a tree within the limits; with none they are a text of the grammar.
 pub record HasOneAnswer (ts : List Token) (text_len : ℕ) : Type 0 where
   pub fault : (e f : SyntaxError) → IsFault ts text_len e → IsFault ts text_len f → e ≡ f
   pub either : (t : SourceTree) (e : SyntaxError) → DerivesTree depth_limit ts t → IsWithin t → IsFault ts text_len e → ⊥
+  pub none : ((e : SyntaxError) → IsFault ts text_len e → ⊥) → IsText ts
 
 -- so it is with all tokens
 abbrev pub HaveOneAnswer : Type 0
