@@ -128,6 +128,17 @@ within_runs (t ∷ ts) s h = go (step s t.kind) (λ s2 h2. within_runs ts s2 h2)
     go None on h = absurd h
     go (Some s2) on h = on s2 h.1
 
+-- what can come, and one more token that can
+pub run_one_more : (front : List Token) (t : Token) (s before after : State) → run s front ≡ Some before → step before t.kind ≡ Some after →
+    run s (front ++ (t ∷ [])) ≡ Some after
+run_one_more [] t s before after ran is = let same : s ≡ before = cc in rw (same, is) refl
+run_one_more (x ∷ front) t s before after ran is = go (step s x.kind) (λ s2 ran2. run_one_more front t s2 before after ran2 is) ran
+  where
+    go : (o : Option State) → ((s2 : State) → run s2 front ≡ Some before → run s2 (front ++ (t ∷ [])) ≡ Some after) →
+        then_run o (λ s2. run s2 front) ≡ Some before → then_run o (λ s2. run s2 (front ++ (t ∷ []))) ≡ Some after
+    go None on ran = cc
+    go (Some s2) on ran = on s2 ran
+
 -- and the verdict passes over it
 passes_front : (front : List Token) (s last : State) (more : List Token) → run s front ≡ Some last → Within s front →
     verdict s (front ++ more) ≡ verdict last more

@@ -8,12 +8,12 @@ use Rattle.ppm_syntax.specs.declared.stop.Stop.{Stop}
 use Rattle.ppm_syntax.specs.declared.stop.Stop.TheVariants as stop
 use Rattle.ppm_syntax.specs.SyntaxRefusals.{of_stop}
 use Rattle.ppm_syntax.specs.Parsing.{Tells}
-use Rattle.ppm_syntax.specs.Stack.{Move, Stuck, On, move, State, moved, run, then_run, can_end, state_at, with_count, beginning}
+use Rattle.ppm_syntax.specs.Stack.{Move, Stuck, On, move, State, step, moved, run, then_run, can_end, state_at, with_count, beginning}
 use Rattle.ppm_syntax.specs.Faults.{IsText, Begins, StandsAt, IsFirstUnexpected, IsEnded, IsTooDeep, IsTooMany, IsFault}
 use Rattle.ppm_syntax.specs.Verdict.{Verdict, Cut, Unexpected, Deep, Many, verdict}
 use Rattle.ppm_syntax.proofs.Reaching.{reaches, reaches_by, reads_on}
 use Rattle.ppm_syntax.proofs.Viable.{run_begins}
-use Rattle.ppm_syntax.proofs.FaultLemmas.{Comes, Stops, IsStuck, IsDeep, IsMany, Because, because}
+use Rattle.ppm_syntax.proofs.FaultLemmas.{Comes, Stops, IsStuck, IsDeep, IsMany, Because, because, run_one_more}
 
 -- what can come leaves what is still to come
 run_reaches : (front : List Token) (s last : State) (more : List Token) → run s front ≡ Some last →
@@ -72,12 +72,18 @@ is_first_unexpected ts place f = record {
 is_ended : (ts : List Token) → Comes beginning ts false → IsEnded ts
 is_ended ts c = record { begins = run_begins ts c.last c.ran; ends = never_cut ts c.last c.ran c.ending; within = c.within }
 
+-- with a token that can come a text begins
+begins_with : {ts : List Token} {place : ℕ} {Is : State → Kind → Type 0} (f : Stops beginning ts place Is) (after : State) →
+    step f.before f.token.kind ≡ Some after → Begins (f.front ++ (f.token ∷ []))
+begins_with f after is = run_begins (f.front ++ (f.token ∷ [])) after (run_one_more f.front f.token beginning f.before after f.ran is)
+
 -- a first token that is too deep
 is_too_deep : (ts : List Token) (place : ℕ) → Stops beginning ts place IsDeep → IsTooDeep ts place
 is_too_deep ts place f = record {
   front = f.front;
   token = f.token;
   stands = stands_at f;
+  begins = begins_with f f.is.after f.is.stepped;
   before = f.before;
   after = f.is.after;
   ran = f.ran;
@@ -91,6 +97,7 @@ is_too_many ts place which f = record {
   front = f.front;
   token = f.token;
   stands = stands_at f;
+  begins = begins_with f f.is.after f.is.stepped;
   before = f.before;
   after = f.is.after;
   ran = f.ran;
@@ -100,7 +107,7 @@ is_too_many ts place which f = record {
 }
 
 -- the reason for the verdict on a text
-reason : (ts : List Token) (v : Verdict) → verdict beginning ts ≡ v → Because beginning ts v
+pub reason : (ts : List Token) (v : Verdict) → verdict beginning ts ≡ v → Because beginning ts v
 reason ts v e = subst (λ w. Because beginning ts w) e (because ts beginning)
 
 -- the verdict says which token is the first that cannot come

@@ -1,4 +1,5 @@
--- The sentence of a fault has one verdict, so tokens have at most one fault, and none where they have a tree within the limits.
+-- The sentence of a fault has one verdict, so tokens have at most one fault, none where they have a tree within the limits, and
+-- are a text of the grammar where they have none.
 use Rattle.std.proofs.Common.{◌≡◌, ℕ, Bool, true, false, List, [], ◌∷◌, ◌++◌, refl, sym, ◌∙◌}
 use Rattle.std.specs.Prelude.{Option, Some, None}
 use Rattle.ppm_text.specs.declared.token.Kind.{Kind}
@@ -9,22 +10,12 @@ use Rattle.ppm_syntax.specs.declared.syntax_error.SyntaxError.TheVariants as err
 use Rattle.ppm_syntax.specs.Tree.{SourceTree}
 use Rattle.ppm_syntax.specs.Limits.{depth_limit, IsWithin}
 use Rattle.ppm_syntax.specs.Grammar.{DerivesTree}
-use Rattle.ppm_syntax.specs.Stack.{State, step, run, then_run, can_end, beginning}
-use Rattle.ppm_syntax.specs.Faults.{Begins, StandsAt, IsFirstUnexpected, IsEnded, IsTooDeep, IsTooMany, IsFault, HasOneAnswer}
+use Rattle.ppm_syntax.specs.Stack.{State, step, run, can_end, beginning}
+use Rattle.ppm_syntax.specs.Faults.{IsText, Begins, StandsAt, IsFirstUnexpected, IsEnded, IsTooDeep, IsTooMany, IsFault, HasOneAnswer}
 use Rattle.ppm_syntax.specs.Verdict.{Verdict, Whole, Cut, Unexpected, Deep, Many, verdict}
 use Rattle.ppm_syntax.proofs.Viable.{run_begins, run_ends}
-use Rattle.ppm_syntax.proofs.FaultLemmas.{Comes, Stops, IsStuck, IsDeep, IsMany, reason_verdict, within_runs}
-
--- what can come, and one more token that can
-run_one_more : (front : List Token) (t : Token) (s before after : State) → run s front ≡ Some before → step before t.kind ≡ Some after →
-    run s (front ++ (t ∷ [])) ≡ Some after
-run_one_more [] t s before after ran is = let same : s ≡ before = cc in rw (same, is) refl
-run_one_more (x ∷ front) t s before after ran is = go (step s x.kind) (λ s2 ran2. run_one_more front t s2 before after ran2 is) ran
-  where
-    go : (o : Option State) → ((s2 : State) → run s2 front ≡ Some before → run s2 (front ++ (t ∷ [])) ≡ Some after) →
-        then_run o (λ s2. run s2 front) ≡ Some before → then_run o (λ s2. run s2 (front ++ (t ∷ []))) ≡ Some after
-    go None on ran = cc
-    go (Some s2) on ran = on s2 ran
+use Rattle.ppm_syntax.proofs.FaultSentences.{reason, unexpected, ended, too_deep, too_many}
+use Rattle.ppm_syntax.proofs.FaultLemmas.{Comes, Stops, IsStuck, IsDeep, IsMany, reason_verdict, within_runs, run_one_more}
 
 -- a token that stands at the place, where it is so
 stops_there : {ts : List Token} {place : ℕ} {front : List Token} {token : Token} (before : State) (Is : State → Kind → Type 0) →
@@ -107,7 +98,22 @@ no_fault ts text_len (error.TooDeep place) h whole = let v = deep_verdict ts pla
 no_fault ts text_len (error.TooMany place which) h whole = let v = many_verdict ts place which h in cc
 no_fault ts text_len error.NoMemory h whole = h
 
+-- and without a fault they are a text of the grammar
+whole_text : (ts : List Token) (text_len : ℕ) → ((e : SyntaxError) → IsFault ts text_len e → ⊥) → IsText ts
+whole_text ts text_len free = go (verdict beginning ts) refl
+  where
+    go : (v : Verdict) → verdict beginning ts ≡ v → IsText ts
+    go Whole is = let c = reason ts Whole is in run_ends ts c.last c.ran c.ending
+    go Cut is = absurd (free (error.Ended text_len) (ended ts is, refl))
+    go (Unexpected place) is = absurd (free (error.Expected place) (unexpected ts place is))
+    go (Deep place) is = absurd (free (error.TooDeep place) (too_deep ts place is))
+    go (Many place which) is = absurd (free (error.TooMany place which) (too_many ts place which is))
+
 -- so they have one answer, if the verdict finds no fault in a tree within the limits
 pub one_answer : (ts : List Token) (text_len : ℕ) →
     ((t : SourceTree) → DerivesTree depth_limit ts t → IsWithin t → verdict beginning ts ≡ Whole) → HasOneAnswer ts text_len
-one_answer ts text_len whole = record { fault = one_fault ts text_len; either = λ t e r within h. no_fault ts text_len e h (whole t r within) }
+one_answer ts text_len whole = record {
+  fault = one_fault ts text_len;
+  either = λ t e r within h. no_fault ts text_len e h (whole t r within);
+  none = whole_text ts text_len;
+}

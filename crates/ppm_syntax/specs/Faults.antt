@@ -22,6 +22,7 @@ pub record Passes (s : State) : Type 0 where
   pub openings : openings s.stack ≤ depth_limit
   pub counts : passed s.tally ≡ None
 
+-- behind a token that can come and passes no limit the state has the property
 abbrev pub then_within : Option State → (State → Type 0) → Type 0
 then_within None next = ⊥
 then_within (Some s) next = Passes s × next s
@@ -52,22 +53,24 @@ pub record IsEnded (ts : List Token) : Type 0 where
   pub ends : IsText ts → ⊥
   pub within : Within beginning ts
 
--- the first token with which more openings are open than the limit
+-- the first token with which more openings are open than the limit; a text of the grammar begins with the tokens up to it
 pub record IsTooDeep (ts : List Token) (place : ℕ) : Type 0 where
   pub front : List Token
   pub token : Token
   pub stands : StandsAt ts place front token
+  pub begins : Begins (front ++ (token ∷ []))
   pub before : State
   pub after : State
   pub ran : run beginning front ≡ Some before
   pub stepped : step before token.kind ≡ Some after
   pub deep : depth_limit < openings after.stack
 
--- the first token that passes a limit on counts, with no more openings than the limit
+-- the first token that passes a limit on counts, with no more openings than the limit; a text of the grammar begins with the tokens up to it
 pub record IsTooMany (ts : List Token) (place : ℕ) (which : Limit) : Type 0 where
   pub front : List Token
   pub token : Token
   pub stands : StandsAt ts place front token
+  pub begins : Begins (front ++ (token ∷ []))
   pub before : State
   pub after : State
   pub ran : run beginning front ≡ Some before
@@ -83,10 +86,11 @@ IsFault ts text_len (error.TooDeep place) = IsTooDeep ts place
 IsFault ts text_len (error.TooMany place which) = IsTooMany ts place which
 IsFault ts text_len error.NoMemory = ⊥
 
--- Tokens have at most one fault, and none where they have a tree within the limits.
+-- Tokens have at most one fault, and none where they have a tree within the limits; with none they are a text of the grammar.
 pub record HasOneAnswer (ts : List Token) (text_len : ℕ) : Type 0 where
   pub fault : (e f : SyntaxError) → IsFault ts text_len e → IsFault ts text_len f → e ≡ f
   pub either : (t : SourceTree) (e : SyntaxError) → DerivesTree depth_limit ts t → IsWithin t → IsFault ts text_len e → ⊥
+  pub none : ((e : SyntaxError) → IsFault ts text_len e → ⊥) → IsText ts
 
 -- so it is with all tokens
 abbrev pub HaveOneAnswer : Type 0

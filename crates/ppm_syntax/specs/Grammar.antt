@@ -21,6 +21,7 @@ abbrev pub binary_of : Kind → Option (ℕ × Operator)
 binary_of (kind.Sign sign.Plus) = Some (1, operator.Add)
 binary_of _ = None
 
+-- the operator, if it has the level
 abbrev pub of_level : ℕ → Option (ℕ × Operator) → Option Operator
 of_level n None = None
 of_level n (Some b) = if n == b.0 then Some b.1 else None
@@ -40,15 +41,19 @@ mode_of word.Ref = Some mode.Ref
 mode_of word.Int = Some mode.Int
 mode_of _ = None
 
+-- the token is this name
 abbrev pub IsName : Token → List ℕ → Type 0
 IsName t x = t.kind ≡ kind.Name x
 
+-- the token is this number
 abbrev pub IsNumber : Token → ℕ → Type 0
 IsNumber t n = t.kind ≡ kind.Number n
 
+-- the token is this keyword
 abbrev pub IsKeyword : Token → Keyword → Type 0
 IsKeyword t k = t.kind ≡ kind.Keyword k
 
+-- the token is this sign
 abbrev pub IsSign : Token → Sign → Type 0
 IsSign t s = t.kind ≡ kind.Sign s
 

@@ -9,6 +9,7 @@ use Rattle.ppm_syntax.specs.Tree as tree
 abbrev pub depth_limit : ℕ
 depth_limit = 32
 
+-- the arrays of a source
 abbrev pub array_limit : ℕ
 array_limit = 64
 
@@ -16,6 +17,7 @@ array_limit = 64
 abbrev pub word_limit : ℕ
 word_limit = 4194304
 
+-- the procedures of a source
 abbrev pub procedure_limit : ℕ
 procedure_limit = 1
 
@@ -53,6 +55,7 @@ HasLiterals (tree.Number z) = IsLiteral z
 HasLiterals (tree.Element x line index) = HasLiterals index
 HasLiterals (tree.Binary o line left right) = HasLiterals left × HasLiterals right
 
+-- each number in a statement is a literal
 abbrev pub StatementLiterals : Statement → Type 0
 StatementLiterals (tree.Put x line index value) = HasLiterals index × HasLiterals value
 

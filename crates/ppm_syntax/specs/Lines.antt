@@ -17,13 +17,15 @@ pub record IsLine (line : ℕ) : Type 0 where
   pub first : 1 ≤ line
   pub last : line ≤ line_limit
 
--- a token, an array and a parameter stand in a line of a text
+-- a token stands in a line of a text
 abbrev pub TokenLine : Token → Type 0
 TokenLine t = IsLine t.line
 
+-- an array stands in a line of a text
 abbrev pub ArrayLine : Array → Type 0
 ArrayLine a = IsLine a.line
 
+-- a parameter stands in a line of a text
 abbrev pub ParameterLine : Param → Type 0
 ParameterLine q = IsLine q.line
 
@@ -33,6 +35,7 @@ ExpressionLines (tree.Number z) = Unit {0}
 ExpressionLines (tree.Element x line index) = IsLine line × ExpressionLines index
 ExpressionLines (tree.Binary o line left right) = IsLine line × ExpressionLines left × ExpressionLines right
 
+-- each line in a statement is one of a text
 abbrev pub StatementLines : Statement → Type 0
 StatementLines (tree.Put x line index value) = IsLine line × ExpressionLines index × ExpressionLines value
 

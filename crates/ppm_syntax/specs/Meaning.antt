@@ -51,6 +51,7 @@ fits (negsuc n) = nat_lt n (2 ^ 63)
 abbrev pub in_range : ℕ → ℤ → Result ℤ Stop
 in_range line z = if fits z then Ok z else Err (trap.Overflow, line)
 
+-- the value of an operation, with the line of its operator
 abbrev pub applied : Operator → ℕ → ℤ → ℤ → Result ℤ Stop
 applied operator.Add line x y = in_range line (x +ℤ y)
 
@@ -63,6 +64,7 @@ word_at line r (negsuc i) = Err (trap.Index, line)
 abbrev pub Arrays : Type 0
 Arrays = List (List ℤ)
 
+-- the words of the array at a place
 abbrev pub array_at : Arrays → ℕ → List ℤ
 array_at arrays a = get_or arrays a []
 
@@ -107,6 +109,7 @@ abbrev pub at_once : {A : Type 0} → ℕ → Result A Stop → Ending A
 at_once left (Ok x) = Done x left
 at_once left (Err stop) = Stopped stop
 
+-- a statement, once its turn is spent
 abbrev pub run_statement : Frame → Statement → Arrays → ℕ → Ending Arrays
 run_statement frame (tree.Put x line index value) arrays left = at_once left (after frame arrays (tree.Put x line index value))
 
@@ -134,6 +137,7 @@ abbrev pub procedure_named : List Procedure → List ℕ → Option Procedure
 procedure_named [] x = None
 procedure_named (p ∷ procs) x = if bytes_eq p.name x then Some p else procedure_named procs x
 
+-- the run of `main`; an admitted source has one
 abbrev pub run_main : List Array → Option Procedure → Arrays → ℕ → Ending Arrays
 run_main arrays None values left = Done values left
 run_main arrays (Some main) values left = run_procedure (main_frame arrays main.params) main values left
@@ -146,6 +150,7 @@ opening_array a = record { name = a.name; values = replicate a.length (pos 0) }
 abbrev pub opening : SourceTree → List NamedArray
 opening t = map opening_array t.arrays
 
+-- the values of arrays, without their names
 abbrev pub values_of : List NamedArray → Arrays
 values_of arrays = map (λ a. a.values) arrays
 
@@ -155,6 +160,7 @@ with_names [] values = []
 with_names (a ∷ arrays) [] = []
 with_names (a ∷ arrays) (v ∷ values) = record { name = a.name; values = v } ∷ with_names arrays values
 
+-- the outcome that the end of a run is
 abbrev pub outcome_of : List NamedArray → Ending Arrays → Outcome
 outcome_of arrays (Done values left) = outcome.Ended (with_names arrays values)
 outcome_of arrays (Stopped stop) = outcome.Trapped stop.0 stop.1

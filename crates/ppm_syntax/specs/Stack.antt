@@ -77,31 +77,37 @@ abbrev pub at_name : Kind → Move → Move
 at_name (kind.Name x) m = m
 at_name _ m = Stuck
 
--- the token is this sign
+-- the token is `[`
 abbrev pub at_open_bracket : Kind → Move → Move
 at_open_bracket (kind.Sign sign.OpenBracket) m = m
 at_open_bracket _ m = Stuck
 
+-- the token is `]`
 abbrev pub at_close_bracket : Kind → Move → Move
 at_close_bracket (kind.Sign sign.CloseBracket) m = m
 at_close_bracket _ m = Stuck
 
+-- the token is `)`
 abbrev pub at_close_paren : Kind → Move → Move
 at_close_paren (kind.Sign sign.CloseParen) m = m
 at_close_paren _ m = Stuck
 
+-- the token is `=`
 abbrev pub at_assign : Kind → Move → Move
 at_assign (kind.Sign sign.Assign) m = m
 at_assign _ m = Stuck
 
+-- the token is `;`
 abbrev pub at_semicolon : Kind → Move → Move
 at_semicolon (kind.Sign sign.Semicolon) m = m
 at_semicolon _ m = Stuck
 
+-- the token is `{`
 abbrev pub at_open_brace : Kind → Move → Move
 at_open_brace (kind.Sign sign.OpenBrace) m = m
 at_open_brace _ m = Stuck
 
+-- the token is `(`
 abbrev pub at_open_paren : Kind → Move → Move
 at_open_paren (kind.Sign sign.OpenParen) m = m
 at_open_paren _ m = Stuck
@@ -240,6 +246,7 @@ pub record State : Type 0 where
   pub stack : List Symbol
   pub tally : Tally
 
+-- the state with these symbols still to come and this tally
 abbrev pub state_at : List Symbol → Tally → State
 state_at st c = record { stack = st; tally = c }
 
@@ -247,6 +254,7 @@ state_at st c = record { stack = st; tally = c }
 abbrev pub beginning : State
 beginning = state_at [] (record { arrays = 0; words = 0; procedures = 0; parameters = 0; nodes = 0 })
 
+-- the state that a move leaves, with what the token counts as
 abbrev pub moved : Tally → Move → Option State
 moved c Stuck = None
 moved c (On counts st) = Some (state_at st (with_count counts c))
@@ -255,6 +263,7 @@ moved c (On counts st) = Some (state_at st (with_count counts c))
 abbrev pub step : State → Kind → Option State
 step s k = moved s.tally (move s.stack k)
 
+-- goes on from the state, if there is one
 abbrev pub then_run : Option State → (State → Option State) → Option State
 then_run None next = None
 then_run (Some s) next = next s

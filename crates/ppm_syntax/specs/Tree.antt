@@ -32,17 +32,20 @@ pub record SourceTree : Type 0 where
   pub arrays : List Array
   pub procs : List Procedure
 
--- the tree that a declared type holds
+-- the expression that a declared type holds
 abbrev pub expression_of : Expr → Expression
 expression_of (expr.Number z) = Number z
 expression_of (expr.Element' x line p index) = Element x line (expression_of index)
 expression_of (expr.Binary' o line p left q right) = Binary o line (expression_of left) (expression_of right)
 
+-- the statement that a declared type holds
 abbrev pub statement_of : Stmt → Statement
 statement_of (stmt.Put x line index value) = Put x line (expression_of index) (expression_of value)
 
+-- the procedure that a declared type holds
 abbrev pub procedure_of : Proc → Procedure
 procedure_of p = record { name = p.name; line = p.line; params = p.params; body = map statement_of p.body }
 
+-- the source that a declared type holds
 abbrev pub tree_of : Tree → SourceTree
 tree_of t = record { arrays = t.arrays; procs = map procedure_of t.procs }

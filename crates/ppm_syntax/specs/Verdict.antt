@@ -13,18 +13,22 @@ pub data Verdict : Type 0 where
   Deep : (place : ℕ) → Verdict
   Many : (place : ℕ) (which : Limit) → Verdict
 
+-- the verdict where the tokens end
 abbrev pub at_end : Bool → Verdict
 at_end true = Whole
 at_end false = Cut
 
+-- too deep, or what follows
 abbrev pub unless_deep : Bool → ℕ → Verdict → Verdict
 unless_deep true place v = Deep place
 unless_deep false place v = v
 
+-- too many, or what follows
 abbrev pub unless_many : Option Limit → ℕ → Verdict → Verdict
 unless_many (Some which) place v = Many place which
 unless_many None place v = v
 
+-- the verdict at a token: it cannot come, goes too deep, passes a limit, or what follows
 abbrev pub go_on : ℕ → Option State → (State → Verdict) → Verdict
 go_on place None next = Unexpected place
 go_on place (Some s) next = unless_deep (nat_lt depth_limit (openings s.stack)) place (unless_many (passed s.tally) place (next s))

@@ -36,7 +36,7 @@ impl Model for Source {
 
 impl Source {
     /// The source with this tree.
-    pub fn from_tree(tree: Tree) -> Self
+    pub(crate) fn from_tree(tree: Tree) -> Self
         requires limits { IsWithin (tree_of tree) }
         requires lines { HasLines (tree_of tree) }
         ensures { result ≡ tree }

@@ -11,6 +11,7 @@ statement_count t = sum (map (λ p. length p.body) t.procs)
 abbrev pub capsule_bound : SourceTree → ℕ
 capsule_bound t = 4 * statement_count t + 2 * length t.procs
 
+-- the capsules of a code
 abbrev pub capsule_limit : ℕ
 capsule_limit = 65535
 

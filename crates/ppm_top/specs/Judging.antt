@@ -41,19 +41,22 @@ pub record IsDerived (text : List ℕ) (t : SourceTree) : Type 0 where
   pub tree : IsTreeOf depth_limit text t
   pub within : IsWithin t
 
--- a fault is a refusal, and want of memory is none
+-- a fault of a text is a refusal, and want of memory is none
 abbrev pub of_text : TextError → JudgeError
 of_text text_error.NoMemory = judge_error.NoMemory
 of_text e = judge_error.Refused (refusal.Text e)
 
+-- a fault of tokens is a refusal, and want of memory is none
 abbrev pub of_syntax : SyntaxError → JudgeError
 of_syntax syntax_error.NoMemory = judge_error.NoMemory
 of_syntax e = judge_error.Refused (refusal.Syntax e)
 
+-- a fault of names and regions is a refusal, and want of memory is none
 abbrev pub of_region : RegionError → JudgeError
 of_region region_error.NoMemory = judge_error.NoMemory
 of_region e = judge_error.Refused (refusal.Region e)
 
+-- too many capsules are a refusal, and want of memory is none
 abbrev pub of_outcome : OutcomeError → JudgeError
 of_outcome outcome_error.TooManyCapsules = judge_error.Refused refusal.TooManyCapsules
 of_outcome outcome_error.NoMemory = judge_error.NoMemory
