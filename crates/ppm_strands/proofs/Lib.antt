@@ -1,4 +1,5 @@
 pub mod AheadLemmas
+pub mod BesideLemmas
 pub mod CalmLemmas
 pub mod LocalityLemmas
 pub mod OrderLemmas
@@ -8,3 +9,4 @@ pub mod RegionLemmas
 pub mod RunLemmas
 pub mod SampleLemmas
 pub mod StepLemmas
+pub mod TurnLemmas

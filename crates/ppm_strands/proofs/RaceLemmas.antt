@@ -2,14 +2,15 @@
 use Rattle.std.proofs.Common.{◌≡◌, ℕ, zero, suc, ◌+◌, ◌%◌, IsTrue, [], ◌∷◌, Some, inl, inr, refl, sym, ap, ◌∙◌, subst}
 use Rattle.ppm_strands.specs.Tree.{Words, Strand, Has}
 use Rattle.ppm_strands.specs.Run.{End, run}
-use Rattle.ppm_strands.specs.Ahead.{put}
+use Rattle.ppm_strands.specs.Ahead.{Ahead, put, Capsule, InRight}
 use Rattle.ppm_strands.specs.Sample.{address, capsule_at, resumed_tree, sample}
 use Rattle.ppm_strands.specs.Regions.{OwnsNoMore}
-use Rattle.ppm_strands.specs.Races.{racing, RacesAreNotCalm, RacesBesideNoEndAreNotCalm, NoEndBeside, RacesLoseTheLaw, ApartByRegions}
+use Rattle.ppm_strands.specs.Races.{racing, RacesAreNotCalm, RacesBesideNoEndAreNotCalm, NoEndBeside, RacesLoseTheLaw}
+use Rattle.ppm_strands.specs.Races.{EndsWith, RacesEndOtherwise, ApartByRegions, race_counts, raced, start}
 use Rattle.ppm_strands.specs.Races.{ApartIsCalm, SamplesAreLocal, apart_owns, apart_regions, apart_writes, fork_of, is_apart}
 use Rattle.ppm_strands.specs.declared.sample.Outcome.{Outcome}
 use Rattle.ppm_strands.specs.declared.sample.Outcome.TheVariants.{Finished, Trapped}
-use Rattle.ppm_strands.proofs.RunLemmas.{counted_some}
+use Rattle.ppm_strands.proofs.RunLemmas.{counted_some, one_end}
 use Rattle.ppm_strands.proofs.PartsLemmas.{ends_by_parts}
 use Rattle.ppm_strands.proofs.RegionLemmas.{inside}
 use Rattle.ppm_strands.proofs.StepLemmas.{put_at, put_else}
@@ -18,9 +19,12 @@ use Rattle.ppm_strands.proofs.StepLemmas.{put_at, put_else}
 pub races_are_not_calm : RacesAreNotCalm
 races_are_not_calm a calm = (calm 3).3 0 (inl refl) (inl refl)
 
--- likewise behind the endless branch: its own D four times, and then A
+-- likewise behind the endless branch: its own D four times, and then A; and beside it, in the right branch alone
 pub races_beside_no_end_are_not_calm : RacesBesideNoEndAreNotCalm
-races_beside_no_end_are_not_calm a calm = (calm 4).3 0 (inl refl) (inr (inr (inr (inr (inl refl)))))
+races_beside_no_end_are_not_calm a = (
+  λ calm. (calm 4).3 0 (inl refl) (inr (inr (inr (inr (inl refl))))),
+  λ calm. (calm 4).1.3 0 (inl refl) (inl refl),
+)
 
 -- a capsule that goes on with itself has no end
 endless : (n : ℕ) (a : Words) (e : End Outcome) → run (sample racing) n (Strand 4) a ≡ Some e → ⊥
@@ -28,15 +32,39 @@ endless zero a e h = cc
 endless (suc n) a e h = let s = counted_some _ (run (sample racing) n (Strand 4) ((sample racing).after 4 a)) e h in endless n _ s.0 s.1
 
 pub no_end_beside : NoEndBeside
-no_end_beside a e h =
-    let parts = ends_by_parts (sample racing) in
-    let left = (parts.fork 1 (Strand 5) (Strand 3) a e).0 h in
-    let inner = (parts.strand 5 a left.0).0 left.1 in
-    let first = (parts.fork 1 (Strand 4) (Strand 0) ((sample racing).after 5 a) inner.0).0 inner.1 in
-    endless first.1.0 ((sample racing).after 5 a) first.0 first.1.1
+no_end_beside a e =
+    let parts = ends_by_parts (sample racing) in (
+      λ h.
+          let left = (parts.fork 1 (Strand 5) (Strand 3) a e).0 h in
+          let inner = (parts.strand 5 a left.0).0 left.1 in
+          let first = (parts.fork 1 (Strand 4) (Strand 0) ((sample racing).after 5 a) inner.0).0 inner.1 in
+          endless first.1.0 ((sample racing).after 5 a) first.0 first.1.1,
+      λ h. let left = (parts.fork 1 (Strand 4) (Strand 6) a e).0 h in endless left.1.0 a left.0 left.1.1,
+    )
+
+-- both are run
+depth_first_end : EndsWith (fork_of 0 3) start 1
+depth_first_end = (_, (5, refl), refl)
+
+raced_end : EndsWith (fork_of 0 1) raced 2
+raced_end = (_, (5, refl), refl)
+
+pub races_end_otherwise : RacesEndOtherwise
+races_end_otherwise = (depth_first_end, raced_end)
+
+one_is_not_two : ◌≡◌ {A = ℕ} 1 2 → ⊥
+one_is_not_two h = cc
+
+-- by the law the depth-first run would end with 2 in B
+not_ahead : Ahead (sample racing) race_counts (fork_of 0 3) start (fork_of 0 1) raced → ⊥
+not_ahead ah =
+    let m = (ah.ends depth_first_end.0).0 depth_first_end.1 in
+    let same : m.0 ≡ raced_end.0 = one_end (sample racing) (fork_of 0 1) raced m.0 raced_end.0 m.1 raced_end.1 in
+    let moved = ap (λ (e : End Outcome). e.words 1) m.2 ∙ ap (λ (e : End Outcome). e.words 1) same in
+    one_is_not_two (sym depth_first_end.2 ∙ moved ∙ raced_end.2)
 
 pub races_lose_the_law : RacesLoseTheLaw
-races_lose_the_law = ((_, (5, refl), refl), (_, (5, refl), refl))
+races_lose_the_law = (InRight 1 (Strand 0) (Capsule 3 start), not_ahead)
 
 -- a frame that goes on by its own capsule, or is over, owns no more
 goes_on : (g : ℕ) (o : Outcome) → IsTrue (is_apart g) → OwnsNoMore apart_regions g (resumed_tree g o)

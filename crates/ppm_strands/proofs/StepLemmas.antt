@@ -5,7 +5,7 @@ use Rattle.std.proofs.lemmas.Bool.{cond-false, cond-true, eq-eqb, ne_eqb}
 use Rattle.ppm_strands.specs.Tree.{Words, Tree, Strand, Call, Fork, Over, forks_in, Code, Local, Has, On}
 use Rattle.ppm_strands.specs.Run.{Counts, none, plus, End, with_counts, of_capsule, rejoin, Ends}
 use Rattle.ppm_strands.specs.Calm.{touches, Gathers, Calm}
-use Rattle.ppm_strands.specs.Ahead.{Ahead, Redoes, put, Step, Capsule, Store, Return, Join, UnderCall, InLeft, InRight, Steps, Done, More}
+use Rattle.ppm_strands.specs.Ahead.{Ahead, Redoes, put, Step, Capsule, Store, Return, Join, Receive, Collect, UnderCall, InLeft, InRight, Steps, Done, More}
 use Rattle.ppm_strands.proofs.RunLemmas.{counts_path, plus_none, plus_comm, with_none, with_plus}
 use Rattle.ppm_strands.proofs.PartsLemmas.{call_over, fork_over, over_end, ends_by_parts, gathers_by_parts, calm_by_parts}
 use Rattle.ppm_strands.proofs.CalmLemmas.{has_or_not}
@@ -62,7 +62,7 @@ module _ {F O : Type 0} (c : Code F O) where
     same_capsule = counts_path refl (ap (λ (t : Tree F O). forks_in t) again.next) again.asks
 
     -- the strand afterwards, seen from the strand before
-    same_ends : (e : End O) → Ends c (Strand f) a e ↔ Ends c (Strand f') a' e
+    pub same_ends : (e : End O) → Ends c (Strand f) a e ↔ Ends c (Strand f') a' e
     same_ends e = (
       λ h.
           let d = ((ends_by_parts c).strand f a e).0 h in
@@ -128,6 +128,82 @@ module _ {F O : Type 0} (c : Code F O) where
         calm = (((calm_by_parts c).fork g (Over o) (Over p) a).0 calm).4 (over_end o a) (over_end p a) left right;
       }
 
+  -- a call that is over meets the words of what follows it
+  call_only : (s : F → Words → List ℕ) (g : F) (o : O) (a : Words) (x : ℕ) → Gathers c s (Call g (Over o)) a x → Gathers c s (c.resume g o) a x
+  call_only s g o a x h = elim (((gathers_by_parts c s).call g (Over o) a x).0 h) [
+    | inl i ↦ absurd ((gathers_by_parts c s).over o a x i)
+    | inr i ↦ subst (λ (d : End O). Gathers c s (c.resume g d.outcome) d.words x) (((ends_by_parts c).over o a i.0).0 i.1) i.2
+  ]
+
+  -- so does a fork whose branches are over
+  fork_only : (s : F → Words → List ℕ) (g : F) (o p : O) (a : Words) (x : ℕ)
+      → Gathers c s (Fork g (Over o) (Over p)) a x → Gathers c s (rejoin c g o p) a x
+  fork_only s g o p a x h = elim (((gathers_by_parts c s).fork g (Over o) (Over p) a x).0 h) [
+    | inl i ↦ absurd ((gathers_by_parts c s).over o a x i)
+    | inr j ↦ elim j [
+      | inl i ↦ absurd ((gathers_by_parts c s).over p a x i)
+      | inr i ↦
+          let is = ((ends_by_parts c).over o a i.0).0 i.2 in
+          let iz = ((ends_by_parts c).over p i.0.words i.1).0 i.3 ∙ ap (λ (d : End O). over_end p d.words) is in
+          subst₂ (λ (d m : End O). Gathers c s (rejoin c g d.outcome m.outcome) m.words x) is iz i.4
+    ]
+  ]
+
+  -- the way back from what follows a call that is over
+  waits_ahead : (g : F) (o : O) (a : Words) → Calm c (c.resume g o) a → Ahead c none (c.resume g o) a (Call g (Over o)) a
+  waits_ahead g o a calm = record {
+    ends = λ e. (
+      λ h. (e, (call_over c g o a e).1 h, sym (with_none e)),
+      λ h. subst (λ (z : End O). Ends c (c.resume g o) a z) (sym (h.2 ∙ with_none h.0)) ((call_over c g o a h.0).0 h.1),
+    );
+    touches = call_only (touches c) g o a;
+    writes = call_only c.writes g o a;
+    changes = λ x out. refl;
+    calm = ((calm_by_parts c).call g (Over o) a).1 (
+      (calm_by_parts c).over o a,
+      λ d i. subst (λ (z : End O). Calm c (c.resume g z.outcome) z.words) (sym (((ends_by_parts c).over o a d).0 i)) calm,
+    );
+  }
+
+  -- and from what follows a fork whose branches are over
+  forked_ahead : (g : F) (o p : O) (a : Words) → Calm c (rejoin c g o p) a → Ahead c none (rejoin c g o p) a (Fork g (Over o) (Over p)) a
+  forked_ahead g o p a calm = record {
+    ends = λ e. (
+      λ h. (e, (fork_over c g o p a e).1 h, sym (with_none e)),
+      λ h. subst (λ (z : End O). Ends c (rejoin c g o p) a z) (sym (h.2 ∙ with_none h.0)) ((fork_over c g o p a h.0).0 h.1),
+    );
+    touches = fork_only (touches c) g o p a;
+    writes = fork_only c.writes g o p a;
+    changes = λ x out. refl;
+    calm = ((calm_by_parts c).fork g (Over o) (Over p) a).1 (
+      (calm_by_parts c).over o a,
+      (calm_by_parts c).over p a,
+      λ x i j. (gathers_by_parts c c.writes).over o a x i,
+      λ x i j. (gathers_by_parts c c.writes).over p a x i,
+      λ d m i j.
+          let is = ((ends_by_parts c).over o a d).0 i in
+          let iz = ((ends_by_parts c).over p d.words m).0 j ∙ ap (λ (z : End O). over_end p z.words) is in
+          subst₂ (λ (z y : End O). Calm c (rejoin c g z.outcome y.outcome) y.words) (sym is) (sym iz) calm,
+    );
+  }
+
+  -- a frame changes while it waits, and goes on alike: through what follows both
+  receive_ahead : (g g' : F) (o : O) (a : Words) → c.resume g' o ≡ c.resume g o
+      → Calm c (Call g (Over o)) a → Ahead c none (Call g (Over o)) a (Call g' (Over o)) a
+  receive_ahead g g' o a same calm =
+      let first = return_ahead g o a calm in
+      let back = waits_ahead g' o a (subst (λ (t : Tree F O). Calm c t a) (sym same) first.calm) in
+      goes_on none none (Call g (Over o)) (c.resume g o) (Call g' (Over o)) a a a first
+      (subst (λ (t : Tree F O). Ahead c none t a (Call g' (Over o)) a) same back)
+
+  collect_ahead : (g g' : F) (o p : O) (a : Words) → rejoin c g' o p ≡ rejoin c g o p
+      → Calm c (Fork g (Over o) (Over p)) a → Ahead c none (Fork g (Over o) (Over p)) a (Fork g' (Over o) (Over p)) a
+  collect_ahead g g' o p a same calm =
+      let first = join_ahead g o p a calm in
+      let back = forked_ahead g' o p a (subst (λ (t : Tree F O). Calm c t a) (sym same) first.calm) in
+      goes_on none none (Fork g (Over o) (Over p)) (rejoin c g o p) (Fork g' (Over o) (Over p)) a a a first
+      (subst (λ (t : Tree F O). Ahead c none t a (Fork g' (Over o) (Over p)) a) same back)
+
   module _ (local : Local c) where
     -- a step anywhere in a calm tree
     pub step_ahead : {k : Counts} {t t' : Tree F O} {a a' : Words} → Step c k t a t' a' → Calm c t a → Ahead c k t a t' a'
@@ -135,6 +211,8 @@ module _ {F O : Type 0} (c : Code F O) where
     step_ahead (Store f f' a a' again) calm = store_ahead f f' a a' again calm
     step_ahead (Return g o a) calm = return_ahead g o a calm
     step_ahead (Join g o p a) calm = join_ahead g o p a calm
+    step_ahead (Receive g g' o a same) calm = receive_ahead g g' o a same calm
+    step_ahead (Collect g g' o p a same) calm = collect_ahead g g' o p a same calm
     step_ahead (UnderCall g {k = k} {t = t} {t' = t'} {a = a} {a' = a'} s) calm =
         under_call c k g t t' a a' calm (step_ahead s (((calm_by_parts c).call g t a).0 calm).0)
     step_ahead (InLeft g r {k = k} {l = l} {l' = l'} {a = a} {a' = a'} s) calm =
@@ -156,20 +234,20 @@ module _ {F O : Type 0} (c : Code F O) where
         subst (λ (j : Counts). Ends c t a (record { outcome = o; words = b; counts = j })) same
         (((steps_ahead s calm).ends (with_counts k (over_end o b))).1 (over_end o b, (1, refl), refl))
 
-  -- one store of a word that the capsule writes and does not read
-  module _ (local : Local c) (f : F) (a : Words) (x : ℕ) (w : Has x (c.writes f a)) (out : Has x (c.reads f a) → ⊥) where
+  -- a store of any value in a word that the capsule writes and does not read
+  module _ (local : Local c) (f : F) (a : Words) (x v : ℕ) (w : Has x (c.writes f a)) (out : Has x (c.reads f a) → ⊥) where
     abbrev stored : Words
-    stored = put a x (c.after f a x)
+    stored = put a x v
 
     unread : On (c.reads f a) a stored
-    unread y h = put_else a x (c.after f a x) y (λ e. out (subst (λ (z : ℕ). Has z (c.reads f a)) e h))
+    unread y h = put_else a x v y (λ e. out (subst (λ (z : ℕ). Has z (c.reads f a)) e h))
 
     stored_after : (y : ℕ) → c.after f stored y ≡ c.after f a y
     stored_after y = elim (has_or_not y (c.writes f a)) [
       | inl h ↦ local.values f a stored unread y h
       | inr not ↦
           local.frame f stored y (λ h. not (subst (λ (xs : List ℕ). Has y xs) (local.writes f a stored unread) h))
-          ∙ put_else a x (c.after f a x) y (λ e. not (subst (λ (z : ℕ). Has z (c.writes f a)) (sym e) w))
+          ∙ put_else a x v y (λ e. not (subst (λ (z : ℕ). Has z (c.writes f a)) (sym e) w))
           ∙ sym (local.frame f a y not)
     ]
 
@@ -182,5 +260,5 @@ module _ {F O : Type 0} (c : Code F O) where
           let same = ap₂ (λ (us vs : List ℕ). us ++ vs) (local.reads f a stored unread) (local.writes f a stored unread) in
           subst (λ (xs : List ℕ). Has y xs) same h;
       writes = λ y h. subst (λ (xs : List ℕ). Has y xs) (local.writes f a stored unread) h;
-      changes = λ y not. put_else a x (c.after f a x) y (λ e. not (subst (λ (z : ℕ). Has z (c.writes f a)) (sym e) w));
+      changes = λ y not. put_else a x v y (λ e. not (subst (λ (z : ℕ). Has z (c.writes f a)) (sym e) w));
     }

@@ -27,12 +27,15 @@ pub record Redoes {F O : Type 0} (c : Code F O) (f : F) (a : Words) (f' : F) (a'
 abbrev pub put : Words → ℕ → ℕ → Words
 put a x v y = cond (y == x) v (a y)
 
--- one strand, wherever it stands, does something that counts k: a whole capsule, a store of its capsule, a return or a join
+-- one strand, wherever it stands, does something that counts k: a whole capsule, a store of its capsule, a return or a join;
+-- or a frame takes in a value of its callee or of its branches (Receive, Collect), and goes on as it would have without that
 pub data Step {F O : Type 0} (c : Code F O) : Counts → Tree F O → Words → Tree F O → Words → Type 0 where
   Capsule : (f : F) (a : Words) → Step c (of_capsule c f a) (Strand f) a (c.next f a) (c.after f a)
   Store : (f f' : F) (a a' : Words) → Redoes c f a f' a' → Step c none (Strand f) a (Strand f') a'
   Return : (g : F) (o : O) (a : Words) → Step c none (Call g (Over o)) a (c.resume g o) a
   Join : (g : F) (o p : O) (a : Words) → Step c none (Fork g (Over o) (Over p)) a (rejoin c g o p) a
+  Receive : (g g' : F) (o : O) (a : Words) → c.resume g' o ≡ c.resume g o → Step c none (Call g (Over o)) a (Call g' (Over o)) a
+  Collect : (g g' : F) (o p : O) (a : Words) → rejoin c g' o p ≡ rejoin c g o p → Step c none (Fork g (Over o) (Over p)) a (Fork g' (Over o) (Over p)) a
   UnderCall : (g : F) {k : Counts} {t t' : Tree F O} {a a' : Words} → Step c k t a t' a' → Step c k (Call g t) a (Call g t') a'
   InLeft : (g : F) (r : Tree F O) {k : Counts} {l l' : Tree F O} {a a' : Words} → Step c k l a l' a' → Step c k (Fork g l r) a (Fork g l' r) a'
   InRight : (g : F) (l : Tree F O) {k : Counts} {r r' : Tree F O} {a a' : Words} → Step c k r a r' a' → Step c k (Fork g l r) a (Fork g l r') a'
@@ -57,9 +60,9 @@ abbrev pub PassesARightBranch : {F O : Type 0} → Code F O → Type 0
 PassesARightBranch {F} {O} c = (k : Counts) (g : F) (l r r' : Tree F O) (a a' : Words)
     → Calm c (Fork g l r) a → Ahead c k r a r' a' → Ahead c k (Fork g l r) a (Fork g l r') a'
 
--- a store of a word that the capsule writes and does not read may be made before the capsule is begun again
+-- a word that the capsule writes and does not read may be stored, with any value on its way there, before the capsule is begun again
 abbrev pub StoresRedo : {F O : Type 0} → Code F O → Type 0
-StoresRedo {F} {O} c = (f : F) (a : Words) (x : ℕ) → Has x (c.writes f a) → (Has x (c.reads f a) → ⊥) → Redoes c f a f (put a x (c.after f a x))
+StoresRedo {F} {O} c = (f : F) (a : Words) (x v : ℕ) → Has x (c.writes f a) → (Has x (c.reads f a) → ⊥) → Redoes c f a f (put a x v)
 
 -- a step of any strand of a calm tree is ahead of the order
 abbrev pub StepsAreAhead : {F O : Type 0} → Code F O → Type 0

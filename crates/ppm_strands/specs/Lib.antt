@@ -1,4 +1,5 @@
 pub mod Ahead
+pub mod Beside
 pub mod Calm
 pub mod Locality
 pub mod Parts
@@ -7,3 +8,4 @@ pub mod Regions
 pub mod Run
 pub mod Sample
 pub mod Tree
+pub mod Turn

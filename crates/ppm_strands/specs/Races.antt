@@ -1,7 +1,8 @@
--- Trees of the small instance whose branches race.
+-- Trees of the small instance whose branches race, and the laws at its tables.
 use Rattle.std.specs.Prelude.{◌≡◌, ℕ, zero, suc, Bool, true, false, List, [], ◌∷◌}
 use Rattle.ppm_strands.specs.Tree.{Words, Tree, Strand, Fork, Local}
-use Rattle.ppm_strands.specs.Run.{End, Ends}
+use Rattle.ppm_strands.specs.Run.{Counts, End, of_capsule, Ends}
+use Rattle.ppm_strands.specs.Ahead.{Ahead, Step, OrdersAgree}
 use Rattle.ppm_strands.specs.Calm.{Calm}
 use Rattle.ppm_strands.specs.Regions.{Regions, listed, IsSeparate, Respects}
 use Rattle.ppm_strands.specs.Sample.{sample, words_of}
@@ -11,7 +12,8 @@ use Rattle.ppm_strands.specs.declared.sample.Outcome.TheVariants.{Finished}
 use Rattle.ppm_strands.specs.declared.sample.SmallTree.TheVariants as small
 use Rattle.ppm_strands.specs.declared.sample.Capsule.{Capsule}
 
--- the capsules: 0 copies A to B; 1 is over; 2 adds one to C, and then 1; 3 adds one to A, and then 1; 4 is endless; 5 forks 4 and 0
+-- the capsules: 0 copies A to B; 1 is over; 2 adds one to C, and then 1; 3 adds one to A, and then 1; 4 is endless; 5 forks 4 and 0;
+-- 6 forks 0 and 3
 abbrev pub racing : List Capsule
 racing = record { from = word.A; to = word.B; plus = 0; asks = 0; opens = small.Over Finished }
     ∷ record { from = word.D; to = word.D; plus = 0; asks = 0; opens = small.Over Finished }
@@ -19,6 +21,7 @@ racing = record { from = word.A; to = word.B; plus = 0; asks = 0; opens = small.
     ∷ record { from = word.A; to = word.A; plus = 1; asks = 0; opens = small.Strand 1 }
     ∷ record { from = word.D; to = word.D; plus = 0; asks = 0; opens = small.Strand 4 }
     ∷ record { from = word.D; to = word.D; plus = 0; asks = 0; opens = small.Fork 1 4 0 }
+    ∷ record { from = word.D; to = word.D; plus = 0; asks = 0; opens = small.Fork 1 0 3 }
     ∷ []
 
 -- a fork of two strands
@@ -29,22 +32,38 @@ fork_of l r = Fork 1 (Strand l) (Strand r)
 abbrev pub RacesAreNotCalm : Type 0
 RacesAreNotCalm = (a : Words) → Calm (sample racing) (fork_of 0 3) a → ⊥
 
--- the same where the left branch forks one without end, and then the one that reads A: depth first A is never read
+-- races that the depth-first run never comes to: the left branch forks one without end, and then the one that reads A;
+-- and a left branch without end beside one that forks the race
 abbrev pub RacesBesideNoEndAreNotCalm : Type 0
-RacesBesideNoEndAreNotCalm = (a : Words) → Calm (sample racing) (fork_of 5 3) a → ⊥
+RacesBesideNoEndAreNotCalm = (a : Words) → (Calm (sample racing) (fork_of 5 3) a → ⊥) × (Calm (sample racing) (fork_of 4 6) a → ⊥)
 
--- and that tree has no end
+-- and these trees have no end
 abbrev pub NoEndBeside : Type 0
-NoEndBeside = (a : Words) (e : End Outcome) → Ends (sample racing) (fork_of 5 3) a e → ⊥
+NoEndBeside = (a : Words) (e : End Outcome) → (Ends (sample racing) (fork_of 5 3) a e → ⊥) × (Ends (sample racing) (fork_of 4 6) a e → ⊥)
 
 -- one, two, three and four in the words
 abbrev pub start : Words
 start = words_of (1 ∷ 2 ∷ 3 ∷ 4 ∷ [])
 
--- where the right branch of the race makes its capsule first, the law is lost: B ends as 2, and depth first as 1
+-- the words once the right branch of the race has made its capsule, and the counts of that
+abbrev pub raced : Words
+raced = (sample racing).after 3 start
+
+abbrev pub race_counts : Counts
+race_counts = of_capsule (sample racing) 3 start
+
+-- that capsule is a step of a strand, and it is not ahead of the order
 abbrev pub RacesLoseTheLaw : Type 0
-RacesLoseTheLaw = ((e : End Outcome) × Ends (sample racing) (fork_of 0 3) start e × (e.words 1 ≡ 1))
-    × ((d : End Outcome) × Ends (sample racing) (fork_of 0 1) ((sample racing).after 3 start) d × (d.words 1 ≡ 2))
+RacesLoseTheLaw = Step (sample racing) race_counts (fork_of 0 3) start (fork_of 0 1) raced
+    × (Ahead (sample racing) race_counts (fork_of 0 3) start (fork_of 0 1) raced → ⊥)
+
+-- the tree ends with v in B
+abbrev pub EndsWith : Tree ℕ Outcome → Words → ℕ → Type 0
+EndsWith t a v = (e : End Outcome) × Ends (sample racing) t a e × (e.words 1 ≡ v)
+
+-- for depth first B ends as 1, and as 2 after that capsule
+abbrev pub RacesEndOtherwise : Type 0
+RacesEndOtherwise = EndsWith (fork_of 0 3) start 1 × EndsWith (fork_of 0 1) raced 2
 
 -- where the right branch adds to a word of its own, the fork is calm
 abbrev pub ApartIsCalm : Type 0
@@ -80,3 +99,7 @@ ApartByRegions = Respects apart_regions (sample racing) × IsSeparate apart_regi
 -- what a capsule of any table does depends on the word that it reads
 abbrev pub SamplesAreLocal : Type 0
 SamplesAreLocal = (table : List Capsule) → Local (sample table)
+
+-- the law of any order, of the code of any table
+abbrev pub TablesRunInAnyOrder : Type 0
+TablesRunInAnyOrder = (table : List Capsule) → OrdersAgree (sample table)

@@ -7,6 +7,7 @@
 //! After the fork-join programs of Blelloch et al., SPAA 2018; the laws are this project's.
 #![tactic(auto)]
 
+pub mod owner;
 pub mod sample;
 
 ghost use Rattle.std.specs.Prelude.{List, ℕ};
@@ -15,9 +16,13 @@ ghost use Rattle.ppm_strands.specs.Run.{CallsResume, ForksResume, HasOneEnd, Lar
 ghost use Rattle.ppm_strands.specs.Ahead.{DepthFirstIsAnOrder, OrdersAgree, OrdersAreAhead};
 ghost use Rattle.ppm_strands.specs.Ahead.{PassesACall, PassesALeftBranch, PassesARightBranch};
 ghost use Rattle.ppm_strands.specs.Ahead.{StepsAreAhead, StoresRedo};
+ghost use Rattle.ppm_strands.specs.Beside.{StrandsBesideDoNotRace};
 ghost use Rattle.ppm_strands.specs.Locality.{CalmTreesRunAlike, ChangesWhatItWrites};
-ghost use Rattle.ppm_strands.specs.Regions.{SeparateTreesAreCalm};
+ghost use Rattle.ppm_strands.specs.Regions.{regions, ListedRegionsCalm, SeparateTreesAreCalm};
+ghost use Rattle.ppm_strands.specs.Turn.{TurnsKeepEnds};
 ghost use Rattle.ppm_strands.specs.Parts.{CalmByParts, EndsByParts, GathersByParts};
+
+use owner::Owner;
 
 /// A larger bound never changes an end that is there.
 pub fn larger_bounds_agree<F, O>()
@@ -58,6 +63,12 @@ pub fn changes_what_it_writes<F, O>()
     ensures { (c : Code F O) → Local c → ChangesWhatItWrites c }
 {}
 
+/// Of two strands that stand in the two branches of a fork of a calm tree, neither capsule writes a
+/// word that the other touches: so while both are under way, neither meets what the other stores.
+pub fn strands_beside_do_not_race<F, O>()
+    ensures { (c : Code F O) → StrandsBesideDoNotRace c }
+{}
+
 /// What is ahead of the depth-first order in a part of a calm tree is ahead of it in the whole:
 /// in a callee, in a left branch, and in a right branch though the left one is run before it.
 pub fn a_change_passes_up<F, O>()
@@ -67,12 +78,19 @@ pub fn a_change_passes_up<F, O>()
 {}
 
 /// One strand of a calm tree, wherever it stands, makes a whole capsule, a store of its capsule, a
-/// return or a join before its turn: the whole tree then ends exactly where it ended before, with
-/// the same outcome, words and counts, those of the step among them, and it stays calm. A store of
-/// a word that its capsule writes and does not read is such a step.
+/// return or a join before its turn, or a frame takes in a value before it goes on: the whole tree
+/// then ends exactly where it ended before, with the same outcome, words and counts, those of the
+/// step among them, and it stays calm. A store of a word that its capsule writes and does not read
+/// is such a step, whatever the value.
 pub fn a_change_at_one_leaf<F, O>()
     ensures anywhere { (c : Code F O) → Local c → StepsAreAhead c }
     ensures store { (c : Code F O) → Local c → StoresRedo c }
+{}
+
+/// A step of the strand whose turn it is leaves the end of a tree as it was, though its branches
+/// race: the whole then ends exactly where it ended before, with the counts of the step.
+pub fn a_step_in_turn<F, O>()
+    ensures { (c : Code F O) → TurnsKeepEnds c }
 {}
 
 /// In whatever order the strands of a calm tree make their steps, what is left of it ends exactly
@@ -85,9 +103,15 @@ pub fn any_order<F, O>()
 {}
 
 /// Where each frame owns words, a capsule touches only what its frame owns, what comes of a frame
-/// owns no more, and of two branches none may write what the other owns, every tree is calm.
-pub fn calm_by_regions<F, O>()
-    ensures { (c : Code F O) → SeparateTreesAreCalm c }
+/// owns no more, and of two branches none may write what the other owns, every tree is calm. What
+/// frames own are predicates of their type.
+pub fn calm_by_regions<F: Owner, O>()
+    ensures { (c : Code F O) → SeparateTreesAreCalm (regions F.admits F.owns F.may_write) c }
+{}
+
+/// The same for all regions given by a test and by lists, of any type of frames.
+pub fn calm_by_listed_regions<F, O>()
+    ensures { (c : Code F O) → ListedRegionsCalm c }
 {}
 
 #[cfg(test)]

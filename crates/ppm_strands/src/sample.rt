@@ -1,13 +1,18 @@
 //! A small instance of the trees: capsules that add to four words of a byte each.
 //! It is run depth first by plain recursion, slow and easy to read.
 
-ghost use Rattle.std.specs.Prelude.{[], ◌≡◌, ◌≤◌, ◌^◌, IfSome, option_map};
+ghost use Rattle.std.specs.Prelude.{[], ◌≡◌, ◌≤◌, ◌^◌, IfSome, IsTrue, option_map};
+ghost use Rattle.ppm_strands.specs.Tree.{Has};
 ghost use Rattle.ppm_strands.specs.Run.{joined as model_joined, plus};
 ghost use Rattle.ppm_strands.specs.Run.{with_counts as model_with_counts};
 ghost use Rattle.ppm_strands.specs.Races.{ApartByRegions, ApartIsCalm, NoEndBeside, RacesAreNotCalm, RacesLoseTheLaw};
-ghost use Rattle.ppm_strands.specs.Races.{RacesBesideNoEndAreNotCalm, SamplesAreLocal};
+ghost use Rattle.ppm_strands.specs.Races.{apart_owns, apart_writes, is_apart};
+ghost use Rattle.ppm_strands.specs.Races.{RacesBesideNoEndAreNotCalm, RacesEndOtherwise, SamplesAreLocal, TablesRunInAnyOrder};
 ghost use Rattle.ppm_strands.specs.Sample.{AreAtMost, IsBoundOfBoth, address, after_capsule, capsule_at, counts_of};
 ghost use Rattle.ppm_strands.specs.Sample.{counts_at, end_of, resumed_tree, run_of, sample, tree_of, words_of};
+
+use crate::owner::Owner;
+use crate::{any_order, calm_by_regions};
 
 /// The four words, by name.
 #[derive(Clone, Copy, Debug, PartialEq, Eq)]
@@ -216,14 +221,15 @@ pub fn run(table: &[Capsule], bound: u8, tree: SmallTree, words: [u8; 4]) -> Opt
     }
 }
 
-/// Branches that race are not calm, and a capsule made ahead may then change the end. So it is
-/// where the race stands behind a branch without end, in a tree that itself has none. Branches
-/// that keep apart are calm.
+/// Branches that race are not calm, and a capsule made ahead may then change the end. They are not
+/// calm either where the race stands behind or beside a branch without end, in trees that
+/// themselves have none. Branches that keep apart are calm.
 pub fn races_are_not_calm()
     ensures race { RacesAreNotCalm }
     ensures beside_no_end { RacesBesideNoEndAreNotCalm }
     ensures no_end { NoEndBeside }
     ensures law_is_lost { RacesLoseTheLaw }
+    ensures ends_otherwise { RacesEndOtherwise }
     ensures apart { ApartIsCalm }
     ensures by_regions { ApartByRegions }
 {}
@@ -233,3 +239,29 @@ pub fn races_are_not_calm()
 pub fn samples_are_local()
     ensures { SamplesAreLocal }
 {}
+
+/// So the strands of a table's trees may run in any order, where these are calm: the law at an
+/// instance, by its contract alone.
+pub fn tables_run_in_any_order()
+    ensures { TablesRunInAnyOrder }
+{
+    samples_are_local();
+    any_order::<u8, Outcome>();
+}
+
+/// The regions of the fork whose branches keep apart.
+impl Owner for u8 {
+    ghost admits = { λ f. IsTrue (is_apart f) };
+
+    ghost owns = { λ f x. Has x (apart_owns f) };
+
+    ghost may_write = { λ f x. Has x (apart_writes f) };
+}
+
+/// That fork is calm by the law of regions, by its contract alone.
+pub fn apart_trees_are_calm()
+    ensures { ApartIsCalm }
+{
+    races_are_not_calm();
+    calm_by_regions::<u8, Outcome>();
+}

@@ -12,7 +12,7 @@ fn over(from: Word, to: Word, plus: u8, outcome: Outcome) -> Capsule {
     }
 }
 
-fn table() -> [Capsule; 15] {
+fn table() -> [Capsule; 16] {
     [
         // 0: one more in A; 1: A is copied to B; 2, 3: traps
         over(Word::A, Word::A, 1, Outcome::Finished),
@@ -92,6 +92,18 @@ fn table() -> [Capsule; 15] {
                 frame: 9,
                 left: 4,
                 right: 1,
+            },
+        },
+        // 15: A is copied to B on the left, one more in A on the right
+        Capsule {
+            from: Word::D,
+            to: Word::D,
+            plus: 0,
+            asks: 0,
+            opens: SmallTree::Fork {
+                frame: 9,
+                left: 1,
+                right: 12,
             },
         },
     ]
@@ -184,10 +196,11 @@ fn trees_run_depth_first(rt: HostRuntime) -> Result<(), Fail> {
             start,
             end(finished, [2, 2, 15, 105], (7, 2, 17)),
         ),
-        // no end
+        // no end; the last two race, behind the branch without end and beside it
         (SmallTree::Strand(4), start, None),
         (fork(9, 4, 0), start, None),
         (fork(9, 14, 12), start, None),
+        (fork(9, 4, 15), start, None),
     ];
     for (tree, words, want) in cases {
         assert_eq!(rt; run(&table(), 30, tree, words), want, "{tree:?}");

@@ -9,10 +9,10 @@ use Rattle.ppm_syntax.specs.declared.tree.Proc.{Proc}
 use Rattle.ppm_syntax.specs.declared.parsing.Declared.{Declared}
 use Rattle.ppm_syntax.specs.Tree.{Procedure, SourceTree, procedure_of}
 use Rattle.ppm_syntax.specs.Limits.{array_limit, word_limit, procedure_limit, depth_limit, IsSmall}
-use Rattle.ppm_syntax.specs.Grammar.{IsKeyword, Source, source, Derives, DerivesTree}
+use Rattle.ppm_syntax.specs.Grammar.{IsKeyword, Source, source, Derives}
 use Rattle.ppm_syntax.specs.Grammar as g
 use Rattle.ppm_syntax.specs.Parsing.{ReadsArray, ReadsProcedure, tree_so_far, joined, IsSoFar, AddsItem}
-use Rattle.ppm_syntax.specs.Stack.{Tally, state_at, passed, with_count}
+use Rattle.ppm_syntax.specs.Stack.{with_count}
 use Rattle.ppm_syntax.specs.Stack as stack
 use Rattle.ppm_syntax.proofs.Unique.{same_tree}
 use Rattle.ppm_syntax.proofs.GrammarLemmas.{shorter}

@@ -7,7 +7,7 @@ use Rattle.ppm_text.specs.declared.token.Token.{Token}
 use Rattle.ppm_syntax.specs.declared.parsing.Declared.{Declared}
 use Rattle.ppm_syntax.specs.Tree.{SourceTree}
 use Rattle.ppm_syntax.specs.Limits.{depth_limit, word_limit, IsSmall}
-use Rattle.ppm_syntax.specs.Grammar.{Source, source, Derives, DerivesTree}
+use Rattle.ppm_syntax.specs.Grammar.{source, DerivesTree}
 use Rattle.ppm_syntax.specs.Grammar as g
 use Rattle.ppm_syntax.specs.Parsing.{tree_so_far, joined, IsSoFar, IsCounted, AddsItem}
 use Rattle.ppm_syntax.specs.Stack.{Tally, state_at, passed, beginning}

@@ -10,8 +10,8 @@ use Rattle.ppm_syntax.specs.declared.tree.Mode.{Mode}
 use Rattle.ppm_syntax.specs.declared.stop.Stop.{Stop}
 use Rattle.ppm_syntax.specs.Grammar.{mode_of}
 use Rattle.ppm_syntax.specs.Parsing.{Misses, Tells}
-use Rattle.ppm_syntax.specs.Stack.{Symbol, Move, Stuck, Tally, state_at, move, can_end, at_name, at_open_bracket, at_close_bracket, at_assign, at_semicolon}
-use Rattle.ppm_syntax.specs.Stack.{at_open_brace, at_open_paren, in_body, array_length, first_parameter, further_parameters, next_parameter, declaration}
+use Rattle.ppm_syntax.specs.Stack.{Symbol, Move, Stuck, Tally, state_at, move, can_end, at_assign, at_semicolon}
+use Rattle.ppm_syntax.specs.Stack.{in_body, next_parameter}
 use Rattle.ppm_syntax.specs.Stack as stack
 use Rattle.ppm_syntax.specs.Verdict.{verdict}
 
@@ -26,7 +26,7 @@ pub no_assign : (k : Kind) (m : Move) → (k ≡ kind.Sign sign.Assign → ⊥) 
 no_assign (kind.Sign sign.Assign) m h = absurd (h refl)
 no_assign _ m h = refl
 
--- than `;`
+-- another than `;`
 pub no_semicolon : (k : Kind) (m : Move) → (k ≡ kind.Sign sign.Semicolon → ⊥) → at_semicolon k m ≡ Stuck
 no_semicolon (kind.Sign sign.Semicolon) m h = absurd (h refl)
 no_semicolon _ m h = refl

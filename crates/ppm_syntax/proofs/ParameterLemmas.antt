@@ -52,16 +52,18 @@ further_pass (g.next_parameter {t = t} {ts = ts} is r m) st c n low none all few
     ∙ parameter_passes r st c low none (omega (arith, all))
     ∙ further_pass m st (with_count stack.AParameter c) n low (few_parameters c (suc c.parameters) none (omega (arith, all))) (omega (arith, all)) few
 
--- a first parameter is as any other
+-- where no parenthesis closes, a first parameter is as any other
 first_kind : (k : Kind) (st : List Symbol) → (k ≡ kind.Sign sign.CloseParen → ⊥) → stack.first_parameter k st ≡ stack.next_parameter k st
 first_kind (kind.Sign sign.CloseParen) st h = absurd (h refl)
 first_kind _ st h = refl
 
+-- so it is in the verdict
 first_as_next : (ts : List Token) (st : List Symbol) (c : Tally) → NoSign sign.CloseParen ts →
     verdict (state_at (stack.FirstParameter ∷ st) c) ts ≡ verdict (state_at (stack.NextParameter ∷ st) c) ts
 first_as_next [] st c h = refl
 first_as_next (t ∷ ts) st c h = rw (first_kind t.kind st h) refl
 
+-- in front of a parameter no parenthesis closes
 no_close : {d : ℕ} {p : Param} {ts rest : List Token} → Derives d Parameter ts (parameter p) rest → NoSign sign.CloseParen ts
 no_close (g.param is mode name) = λ h. cc
 

@@ -13,9 +13,9 @@ use Rattle.ppm_syntax.specs.Tree as tree
 use Rattle.ppm_syntax.specs.Limits.{nodes_of, statement_nodes, node_limit, depth_limit, IsSmallStatement}
 use Rattle.ppm_syntax.specs.Grammar.{top, IsName, IsSign, Level, OneStatement, Statements, Block, expression, statement, statements, Derives}
 use Rattle.ppm_syntax.specs.Grammar as g
-use Rattle.ppm_syntax.specs.Parsing.{NoName, InFront, Misses, Fails, FailsUpTo, IsEnd, HasNodesLeft, Anything, ReadsUpTo, ReadsPut, ReadsStatements}
+use Rattle.ppm_syntax.specs.Parsing.{NoName, InFront, Misses, Fails, FailsUpTo, HasNodesLeft, Anything, ReadsUpTo, ReadsPut, ReadsStatements}
 use Rattle.ppm_syntax.specs.Parsing as parsing
-use Rattle.ppm_syntax.specs.Stack.{Symbol, Tally, state_at, openings, passed, with_count}
+use Rattle.ppm_syntax.specs.Stack.{Symbol, Tally, state_at, openings, passed}
 use Rattle.ppm_syntax.specs.Stack as stack
 use Rattle.ppm_syntax.specs.Verdict.{verdict}
 use Rattle.ppm_syntax.proofs.PassingExpression.{with_nodes, few_nodes, by_step, expression_passes}
@@ -149,7 +149,7 @@ pub record LeadsTo (d : ℕ) (ts : List Token) (all : List Statement) (rest : Li
 pub mapped_push : (all : List Stmt) (s : Stmt) → map statement_of (all ++ (s ∷ [])) ≡ map statement_of all ++ (statement_of s ∷ [])
 mapped_push all s = map-append statement_of all (s ∷ [])
 
--- neither a name nor another token of the kind
+-- no name stands in front
 no_name : (ts : List Token) (e : Stop) → Misses (λ t. (x : List ℕ) × IsName t x) ts e → NoName ts
 no_name [] e m = tt
 no_name (t ∷ ts) e m = λ x is. m.1 (x, is)
@@ -209,6 +209,7 @@ module _ (depth inner place : ℕ) (ts inside : List Token) (deep : depth ≡ su
           rw (brace_passes st c low none, p.passes) (brace_missing end st (with_nodes p.nodes c) read.reads.ends m);
     }
       where
+        -- so it is whatever the tokens
         brace_missing : (ts : List Token) (st : List Symbol) (c : Tally) → NoName ts → Misses (λ t. IsSign t sign.CloseBrace) ts e →
             parsing.Tells e (verdict (state_at (stack.InBody ∷ st) c) ts)
         brace_missing [] st c none m = rw m refl

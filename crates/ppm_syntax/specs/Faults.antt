@@ -83,11 +83,6 @@ IsFault ts text_len (error.TooDeep place) = IsTooDeep ts place
 IsFault ts text_len (error.TooMany place which) = IsTooMany ts place which
 IsFault ts text_len error.NoMemory = ⊥
 
--- why tokens have no tree: a fault, and memory can always be refused
-abbrev pub HasFault : List Token → ℕ → SyntaxError → Type 0
-HasFault ts text_len error.NoMemory = Unit {0}
-HasFault ts text_len e = IsFault ts text_len e
-
 -- Tokens have at most one fault, and none where they have a tree within the limits.
 pub record HasOneAnswer (ts : List Token) (text_len : ℕ) : Type 0 where
   pub fault : (e f : SyntaxError) → IsFault ts text_len e → IsFault ts text_len f → e ≡ f

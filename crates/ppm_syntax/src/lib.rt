@@ -1,7 +1,8 @@
-//! The language's front end: from the bytes of a text to an admitted tree.
-//! Model: a text is cut into tokens (`ppm_text`), a tree is derived from them (`specs/Grammar.antt`), within
-//! limits (`specs/Limits.antt`) and by the rules of regions (`specs/Rules.antt`); `specs/Meaning.antt` says what it does.
-//! Contract: `parse` answers the tokens' one tree or their one fault, `admit` the admitted source or the tree's one fault.
+//! The language's front end: from the tokens of a text to an admitted tree.
+//! Model: a tree is derived from the tokens (`specs/Grammar.antt`), within limits (`specs/Limits.antt`) and by the rules
+//! of names and regions (`specs/Rules.antt`); `specs/Meaning.antt` says what it does.
+//! Contract: `parse` answers the tokens' one tree, or their one fault at its place (`specs/Faults.antt`); `admit` the same
+//! tree, or its fault of names and regions (`specs/RegionFaults.antt`).
 //! Stands on `ppm_words` and `ppm_text`; `ppm_top` reads, compiles and judges by it.
 #![tactic(auto)]
 

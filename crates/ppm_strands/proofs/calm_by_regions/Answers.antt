@@ -1,8 +1,6 @@
 use Rattle.ppm_strands.proofs.RegionLemmas.{inside}
-use Rattle.ppm_strands.specs.Regions.{listed}
 use Rattle.ppm_strands.proofs.calm_by_regions.Goals as goal
 
 -- at each bound
 pub returns : goal.returns
-returns c = λ start code admits owns may_write t a respects sep n.
-    (inside code (listed admits owns may_write) respects n t a sep).calm
+returns g c = λ code respects t a sep n. (inside code _ respects n t a sep).calm

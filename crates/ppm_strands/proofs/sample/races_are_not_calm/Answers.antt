@@ -1,5 +1,5 @@
 use Rattle.ppm_strands.proofs.RaceLemmas.{races_are_not_calm, races_beside_no_end_are_not_calm, no_end_beside}
-use Rattle.ppm_strands.proofs.RaceLemmas.{races_lose_the_law, apart_by_regions, apart_is_calm}
+use Rattle.ppm_strands.proofs.RaceLemmas.{races_lose_the_law, races_end_otherwise, apart_by_regions, apart_is_calm}
 use Rattle.ppm_strands.proofs.sample.races_are_not_calm.Goals as goal
 
 -- by running them
@@ -9,6 +9,7 @@ returns c = record {
   beside_no_end = races_beside_no_end_are_not_calm;
   no_end = no_end_beside;
   law_is_lost = races_lose_the_law;
+  ends_otherwise = races_end_otherwise;
   apart = apart_is_calm;
   by_regions = apart_by_regions;
 }
