@@ -1,5 +1,5 @@
 -- A text is refused for one reason at most, and for none where it has an outcome: from what is true of its tokens, its tree and the tree's faults.
-use Rattle.std.proofs.Common.{◌≡◌, ◌≢◌, ℕ, ◌≤◌, List, length, refl, sym, ap, subst, arith}
+use Rattle.std.proofs.Common.{◌≡◌, ◌≢◌, ℕ, ◌≤◌, List, length, refl, ap, subst, arith}
 use Rattle.ppm_text.specs.declared.token.Token.{Token}
 use Rattle.ppm_text.specs.declared.text_error.TextError.{TextError}
 use Rattle.ppm_text.specs.declared.text_error.TextError.TheVariants as text_error
@@ -20,9 +20,9 @@ use Rattle.ppm_syntax.specs.RegionFaults as region
 use Rattle.ppm_top.specs.Bounds.{FitsCode}
 use Rattle.ppm_top.specs.declared.refusal.Refusal.{Refusal}
 use Rattle.ppm_top.specs.declared.refusal.Refusal.TheVariants as refusal
-use Rattle.ppm_top.specs.Refusals.{IsTextFault, IsSyntaxFault, IsRegionFault, HasNoRoom, IsRefusal}
+use Rattle.ppm_top.specs.Refusals.{IsTextFault, IsSyntaxFault, IsRegionFault, IsRefusal}
 use Rattle.ppm_top.specs.Causes.{HasNoOutcome}
-use Rattle.ppm_top.specs.Correct.{HasOneRefusal, HaveOneRefusal}
+use Rattle.ppm_top.specs.Correct.{HaveOneRefusal}
 
 -- what the crates below show of every text
 pub record Laws : Type 0 where

@@ -1,5 +1,4 @@
-use Rattle.std.proofs.Common.{rules, ◌≡◌, ◌++◌, ℕ, List, [], ◌∷◌, ◌∙◌, ap, codes, append_assoc}
-use Rattle.ppm_top.specs.Texts.{fault_text}
+use Rattle.std.proofs.Common.{◌≡◌, ◌++◌, ℕ, List, [], ◌∷◌, ◌∙◌, ap, codes, append_assoc}
 use Rattle.std.specs.Prelude.{decimal}
 use Rattle.ppm_top.proofs.texts.fault_text_of.Goals as goal
 
