@@ -4,9 +4,8 @@ use Rattle.ppm_text.specs.declared.token.Token.{Token}
 use Rattle.ppm_syntax.specs.declared.stop.Stop.{Stop}
 use Rattle.ppm_syntax.specs.declared.syntax_error.SyntaxError.{SyntaxError}
 use Rattle.ppm_syntax.specs.declared.syntax_error.SyntaxError.TheVariants as error
-use Rattle.ppm_syntax.specs.SyntaxRefusals.{of_stop}
 use Rattle.ppm_syntax.specs.Faults.{IsFault}
-use Rattle.ppm_syntax.specs.Parsing.{Tells}
+use Rattle.ppm_syntax.specs.Parsing.{of_stop, Tells}
 use Rattle.ppm_syntax.specs.Stack.{beginning}
 use Rattle.ppm_syntax.specs.Verdict.{verdict}
 use Rattle.ppm_syntax.proofs.FaultSentences.{tells_fault}

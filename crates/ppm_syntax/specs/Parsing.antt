@@ -11,6 +11,8 @@ use Rattle.ppm_syntax.specs.declared.tree.Array.{Array}
 use Rattle.ppm_syntax.specs.declared.stop.Stop.{Stop}
 use Rattle.ppm_syntax.specs.declared.stop.Stop.TheVariants as stop
 use Rattle.ppm_syntax.specs.declared.parsing.Declared.{Declared}
+use Rattle.ppm_syntax.specs.declared.syntax_error.SyntaxError.{SyntaxError}
+use Rattle.ppm_syntax.specs.declared.syntax_error.SyntaxError.TheVariants as error
 use Rattle.ppm_syntax.specs.Tree.{Expression, Statement, Procedure, SourceTree, procedure_of}
 use Rattle.ppm_syntax.specs.Grammar.{Part, Level, More, OneStatement, Statements, Block, Parameter, Parameters, MoreParameters, Source, Node, Derives, DerivesTree}
 use Rattle.ppm_syntax.specs.Grammar.{operator_at, top, mode_of, IsName, IsNumber, IsKeyword, IsSign, expression, statement, statements, parameters}
@@ -79,6 +81,14 @@ Tells stop.Ended v = v ≡ Cut
 Tells (stop.TooDeep place) v = v ≡ Deep place
 Tells (stop.TooMany place which) v = v ≡ Many place which
 Tells stop.NoMemory v = Unit {0}
+
+-- tokens that end do so where the text does
+abbrev pub of_stop : ℕ → Stop → SyntaxError
+of_stop text_len (stop.Expected place) = error.Expected place
+of_stop text_len stop.Ended = error.Ended text_len
+of_stop text_len (stop.TooDeep place) = error.TooDeep place
+of_stop text_len (stop.TooMany place which) = error.TooMany place which
+of_stop text_len stop.NoMemory = error.NoMemory
 
 -- wherever the symbols are to come, so many more openings may be open and the count is such a one, the tokens stop so
 pub record Fails (depth : ℕ) (counted : Tally → Type 0) (xs : List Symbol) (ts : List Token) (e : Stop) : Type 0 where

@@ -1,9 +1,7 @@
--- The numbers and places of the faults of tokens, and the refusal that a stop of the parser comes to.
+-- The numbers and places of the faults of tokens, and the numbers of the limits.
 use Rattle.std.specs.Prelude.{ℕ}
 use Rattle.ppm_syntax.specs.declared.limit.Limit.{Limit}
 use Rattle.ppm_syntax.specs.declared.limit.Limit.TheVariants as limit
-use Rattle.ppm_syntax.specs.declared.stop.Stop.{Stop}
-use Rattle.ppm_syntax.specs.declared.stop.Stop.TheVariants as stop
 use Rattle.ppm_syntax.specs.declared.syntax_error.SyntaxError.{SyntaxError}
 use Rattle.ppm_syntax.specs.declared.syntax_error.SyntaxError.TheVariants as error
 
@@ -22,14 +20,6 @@ place_of (error.Ended place) = place
 place_of (error.TooDeep place) = place
 place_of (error.TooMany place which) = place
 place_of error.NoMemory = 0
-
--- tokens that end do so where the text does
-abbrev pub of_stop : ℕ → Stop → SyntaxError
-of_stop text_len (stop.Expected place) = error.Expected place
-of_stop text_len stop.Ended = error.Ended text_len
-of_stop text_len (stop.TooDeep place) = error.TooDeep place
-of_stop text_len (stop.TooMany place which) = error.TooMany place which
-of_stop text_len stop.NoMemory = error.NoMemory
 
 -- the number of each limit
 abbrev pub which_of : Limit → ℕ

@@ -1,6 +1,6 @@
 //! Why the parser's functions go no further.
 ghost use Rattle.std.specs.Prelude.{◌≡◌};
-ghost use Rattle.ppm_syntax.specs.SyntaxRefusals.{of_stop};
+ghost use Rattle.ppm_syntax.specs.Parsing.{of_stop};
 
 use crate::limit::Limit;
 use crate::syntax_error::SyntaxError;

@@ -13,7 +13,6 @@ use Rattle.ppm_text.specs.Spelling.{Spells, a_keyword, a_name, a_number, a_sign,
 use Rattle.ppm_text.specs.Cutting.{Skips, line_feed, blank, comment, located, Cuts, here, skip, token, IsTextOf}
 use Rattle.ppm_text.specs.Cutting.{IsFault, not_ascii, bad_char, number_too_big, name_too_long, FaultsAt}
 use Rattle.ppm_text.specs.Tokens.{HasForm, StandsIn}
-use Rattle.ppm_text.specs.Correct.{HasOneReading}
 use Rattle.ppm_text.specs.Refusals.{place_of}
 use Rattle.ppm_text.proofs.BytesLemmas.{prefix_le, all_cons}
 use Rattle.ppm_text.proofs.SpellingLemmas.{spells_something, spells_class, one_longest, word_is_name}
@@ -170,7 +169,7 @@ same_fault (name_too_long {bs = bs} t long) (number_too_big t' big) = absurd (cc
 same_fault (name_too_long t long) (name_too_long t' long') = refl
 
 -- two cuttings up to a fault come to the same fault
-one_fault : {p l : ℕ} {bs : List ℕ} {ts : List Token} {q m : ℕ} {rest : List ℕ} → Cuts p l bs ts q m rest → {e : TextError} → IsFault q rest e
+pub one_fault : {p l : ℕ} {bs : List ℕ} {ts : List Token} {q m : ℕ} {rest : List ℕ} → Cuts p l bs ts q m rest → {e : TextError} → IsFault q rest e
     → {us : List Token} {r o : ℕ} {last : List ℕ} → Cuts p l bs us r o last → {f : TextError} → IsFault r last f → e ≡ f
 one_fault here fault here other = same_fault fault other
 one_fault here fault (skip s c) other = absurd (fault_no_skip fault s)
@@ -185,20 +184,11 @@ one_fault {p = p} {l = l} {bs = bs} (token {n = n} {k = k} t fits c) fault (toke
     one_fault c fault (moved_token p l bs n n' (one_longest bs n n' k k' t t').0 c') other
 
 -- a fault names its place
-fault_place : {p : ℕ} {bs : List ℕ} {e : TextError} → IsFault p bs e → place_of e ≡ p
+pub fault_place : {p : ℕ} {bs : List ℕ} {e : TextError} → IsFault p bs e → place_of e ≡ p
 fault_place (not_ascii is) = refl
 fault_place (bad_char is nothing) = refl
 fault_place (number_too_big t big) = refl
 fault_place (name_too_long t long) = refl
-
--- each text is read in one way
-pub one_reading : (text : List ℕ) → HasOneReading text
-one_reading text = record {
-  tokens = λ ts us a b. one_cutting a b;
-  fault = λ e f a b. one_fault a.cut a.fault b.cut b.fault;
-  either = λ ts e a b. fault_refuses b ts a;
-  place = λ e a. fault_place a.fault;
-}
 
 -- a token within the limits has its form
 has_form : {bytes : List ℕ} {k : Kind} → Spells bytes k → IsInRange k → HasForm k

@@ -1,4 +1,4 @@
-use Rattle.ppm_text.proofs.CuttingLemmas.{one_reading}
+use Rattle.ppm_text.proofs.ReadingLemmas.{one_reading}
 use Rattle.ppm_text.proofs.laws.have_one_reading.Goals as goal
 
 pub returns : goal.returns
