@@ -1,6 +1,7 @@
 //! From tokens to an expression.
-ghost use Rattle.std.specs.Prelude.{◌≡◌, ◌-◌, ◌≤◌, [], ◌∷◌, MatchResult};
+ghost use Rattle.std.specs.Prelude.{◌≡◌, ◌-◌, ◌≤◌, [], ◌∷◌, IfOk, MatchResult};
 ghost use Rattle.ppm_syntax.specs.Tree.{expression_of};
+ghost use Rattle.ppm_syntax.specs.Tree as tree;
 ghost use Rattle.ppm_syntax.specs.Limits.{HasLiterals};
 ghost use Rattle.ppm_syntax.specs.Grammar.{Level, More};
 ghost use Rattle.ppm_syntax.specs.Stack as stack;
@@ -10,13 +11,29 @@ ghost use Rattle.ppm_syntax.specs.Parsing.{ReadsExpression, ReadsElement, ReadsU
 use crate::front::{name, number, operator, take};
 use crate::room::Room;
 use crate::stop::Stop;
-use crate::tree::Expr;
+use crate::tree::{Expr, Operator};
 use ppm_text::{Kind, Sign, Token};
-use ppm_words::Name;
+use ppm_words::{Name, NoMemory};
 use std::alloc::Global;
 
 /// The level of a whole expression.
 const TOP: u32 = 1;
+
+/// The operation on two operands whose operator stands in the line.
+fn binary(
+    alloc: Global,
+    operator: Operator,
+    line: u32,
+    left: Expr,
+    right: Expr,
+) -> Result<Expr, NoMemory>
+    ensures { IfOk result (λ e.
+        expression_of e ≡ tree.Binary operator line (expression_of left) (expression_of right)) }
+{
+    let left = Box::new(alloc, left)?;
+    let right = Box::new(alloc, right)?;
+    Ok(Expr::Binary(operator, line, left, right))
+}
 
 /// The operand in front with the nodes that it leaves, and the tokens behind it.
 #[cycle(expression)]
@@ -124,11 +141,6 @@ fn more(
     };
     let inner = room.counted(place)?;
     let (right, left, rest) = level(alloc, inner, n - 1, behind)?;
-    let both = Expr::Binary(
-        operator,
-        line,
-        Box::new(alloc, first)?,
-        Box::new(alloc, right)?,
-    );
+    let both = binary(alloc, operator, line, first, right)?;
     more(alloc, room.with_nodes(left), n, both, rest)
 }

@@ -63,8 +63,7 @@ more-more-requires t c =
         omega arith,
         (
           c.in_ok-right.ensures.reads.ends,
-          rw (c.in_ok-new.ensures.ok, c.in_ok-new-2.ensures.ok)
-              (c.requires.literals, c.in_ok-right.ensures.literals),
+          rw c.in_ok-both.ensures (c.requires.literals, c.in_ok-right.ensures.literals),
         ),
       ),
     )
@@ -77,7 +76,7 @@ more-returns t c =
     MatchResult-weaker _ c.more.ensures
     (λ r h. again_read c.args.room.depth c.args.room.nodes c.args.n (c.args.n - 1) (expression_of c.args.first) c.args.tokens.now (omega arith) _ _ _
     c.in-Some.behind.now c.in-Some.ensures _ room.0 (expression_of c.in_ok-right.right) c.in_ok-right.left c.in_ok-right.rest.now right _ _ _
-    (rw (c.with_nodes.ensures.depth, c.with_nodes.ensures.nodes, c.in_ok-new.ensures.ok, c.in_ok-new-2.ensures.ok) at h))
+    (rw (c.with_nodes.ensures.depth, c.with_nodes.ensures.nodes, c.in_ok-both.ensures) at h))
     (λ e h. again_fails c.args.room.depth c.args.room.nodes c.args.n (c.args.n - 1) (expression_of c.args.first) c.args.tokens.now (omega arith) _ _ _
     c.in-Some.behind.now c.in-Some.ensures _ room.0 (expression_of c.in_ok-right.right) c.in_ok-right.left c.in_ok-right.rest.now right e
     (rw (c.with_nodes.ensures.depth, c.with_nodes.ensures.nodes) at h))
