@@ -1,5 +1,5 @@
 use Rattle.ppm_strands.proofs.PartsLemmas.{call_over}
-use Rattle.ppm_strands.proofs.calls_resume.Goals as goal
+use Rattle.ppm_strands.proofs.laws.calls_resume.Goals as goal
 
 -- by the parts of the call
 pub returns : goal.returns

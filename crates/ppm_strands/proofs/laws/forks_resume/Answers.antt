@@ -1,5 +1,5 @@
 use Rattle.ppm_strands.proofs.PartsLemmas.{fork_over}
-use Rattle.ppm_strands.proofs.forks_resume.Goals as goal
+use Rattle.ppm_strands.proofs.laws.forks_resume.Goals as goal
 
 -- by the parts of the fork
 pub returns : goal.returns
