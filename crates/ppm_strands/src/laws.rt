@@ -1,13 +1,14 @@
 //! What is true of every code and every tree, shown by calls that do nothing.
 ghost use Rattle.std.specs.Prelude.{List, ℕ};
 ghost use Rattle.ppm_strands.specs.Tree.{Code, Local, Words};
-ghost use Rattle.ppm_strands.specs.Run.{CallsResume, ForksResume, HasOneEnd, LargerBoundsAgree};
+ghost use Rattle.ppm_strands.specs.Run.{HasOneEnd, LargerBoundsAgree};
 ghost use Rattle.ppm_strands.specs.Ahead.{DepthFirstIsAnOrder, OrdersAgree, OrdersAreAhead};
 ghost use Rattle.ppm_strands.specs.Ahead.{PassesACall, PassesALeftBranch, PassesARightBranch};
 ghost use Rattle.ppm_strands.specs.Ahead.{StepsAreAhead, StoresRedo};
 ghost use Rattle.ppm_strands.specs.Beside.{StrandsBesideDoNotRace};
 ghost use Rattle.ppm_strands.specs.Locality.{CalmTreesRunAlike, ChangesWhatItWrites};
 ghost use Rattle.ppm_strands.specs.Regions.{regions, ListedRegionsCalm, SeparateTreesAreCalm};
+ghost use Rattle.ppm_strands.specs.Resume.{CallsResume, ForksResume};
 ghost use Rattle.ppm_strands.specs.Turn.{TurnsKeepEnds};
 ghost use Rattle.ppm_strands.specs.Parts.{CalmByParts, EndsByParts, GathersByParts};
 
@@ -30,12 +31,14 @@ pub fn goes_by_parts<F, O>()
     ensures calm { (c : Code F O) → CalmByParts c }
 {}
 
-/// A call whose callee is over comes to the ends of what follows it, and to no others.
+/// A call whose callee is over may be replaced by what follows it: from all words both come to the
+/// same ends, touch and write the same words, and are calm or not.
 pub fn calls_resume<F, O>()
     ensures { (c : Code F O) → CallsResume c }
 {}
 
-/// A fork whose branches are both over comes to the ends of what follows them, and to no others.
+/// A fork whose branches are both over may be replaced by what follows them: from all words both
+/// come to the same ends, touch and write the same words, and are calm or not.
 pub fn forks_resume<F, O>()
     ensures { (c : Code F O) → ForksResume c }
 {}
