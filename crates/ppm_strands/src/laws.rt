@@ -2,14 +2,14 @@
 ghost use Rattle.std.specs.Prelude.{List, ℕ};
 ghost use Rattle.ppm_strands.specs.Tree.{Code, Local, Words};
 ghost use Rattle.ppm_strands.specs.Run.{HasOneEnd, LargerBoundsAgree};
-ghost use Rattle.ppm_strands.specs.Ahead.{DepthFirstIsAnOrder, OrdersAgree, OrdersAreAhead};
+ghost use Rattle.ppm_strands.specs.Ahead.{OrdersAgree, OrdersAreAhead};
 ghost use Rattle.ppm_strands.specs.Ahead.{PassesACall, PassesALeftBranch, PassesARightBranch};
 ghost use Rattle.ppm_strands.specs.Ahead.{StepsAreAhead, StoresRedo};
 ghost use Rattle.ppm_strands.specs.Beside.{StrandsBesideDoNotRace};
 ghost use Rattle.ppm_strands.specs.Locality.{CalmTreesRunAlike, ChangesWhatItWrites};
 ghost use Rattle.ppm_strands.specs.Regions.{regions, ListedRegionsCalm, SeparateTreesAreCalm};
 ghost use Rattle.ppm_strands.specs.Resume.{CallsResume, ForksResume};
-ghost use Rattle.ppm_strands.specs.Turn.{TurnsKeepEnds};
+ghost use Rattle.ppm_strands.specs.Turn.{DepthFirstIsAnOrder, TurnsKeepEnds};
 ghost use Rattle.ppm_strands.specs.Parts.{CalmByParts, EndsByParts, GathersByParts};
 
 use crate::owner::Owner;
@@ -87,7 +87,7 @@ pub fn a_step_in_turn<F, O>()
 
 /// In whatever order the strands of a calm tree make their steps, what is left of it ends exactly
 /// where the whole tree would. So if they come to an end it is that of the depth-first run, which
-/// is itself one of these orders.
+/// is itself one of these orders: each of its steps is of the strand whose turn it is.
 pub fn any_order<F, O>()
     ensures ahead { (c : Code F O) → Local c → OrdersAreAhead c }
     ensures agrees { (c : Code F O) → Local c → OrdersAgree c }
