@@ -32,13 +32,13 @@ pub fn goes_by_parts<F, O>()
 {}
 
 /// A call whose callee is over may be replaced by what follows it: from all words both come to the
-/// same ends, touch and write the same words, and are calm or not.
+/// same ends, touch and write the same words, and the one is calm where the other is.
 pub fn calls_resume<F, O>()
     ensures { (c : Code F O) → CallsResume c }
 {}
 
 /// A fork whose branches are both over may be replaced by what follows them: from all words both
-/// come to the same ends, touch and write the same words, and are calm or not.
+/// come to the same ends, touch and write the same words, and the one is calm where the other is.
 pub fn forks_resume<F, O>()
     ensures { (c : Code F O) → ForksResume c }
 {}
