@@ -6,6 +6,7 @@ pub mod OrderLemmas
 pub mod PartsLemmas
 pub mod RaceLemmas
 pub mod RegionLemmas
+pub mod ResumeLemmas
 pub mod RunLemmas
 pub mod SampleLemmas
 pub mod StepLemmas

@@ -4,14 +4,14 @@ use Rattle.ppm_strands.specs.Tree.{Words, Strand, Has}
 use Rattle.ppm_strands.specs.Run.{End, run}
 use Rattle.ppm_strands.specs.Ahead.{Ahead, put, Capsule, InRight}
 use Rattle.ppm_strands.specs.Sample.{address, capsule_at, resumed_tree, sample}
-use Rattle.ppm_strands.specs.Regions.{OwnsNoMore}
+use Rattle.ppm_strands.specs.Regions.{HasFrame, IsSeparate, OwnsNoMore}
 use Rattle.ppm_strands.specs.Races.{racing, RacesAreNotCalm, RacesBesideNoEndAreNotCalm, NoEndBeside, RacesLoseTheLaw}
 use Rattle.ppm_strands.specs.Races.{EndsWith, RacesEndOtherwise, ApartByRegions, race_counts, raced, start}
-use Rattle.ppm_strands.specs.Races.{ApartIsCalm, SamplesAreLocal, apart_owns, apart_regions, apart_writes, fork_of, is_apart}
+use Rattle.ppm_strands.specs.Races.{ApartIsCalm, SamplesAreLocal, apart_owns, apart_regions, apart_writes, fork_of, forking, is_apart}
 use Rattle.ppm_strands.specs.declared.sample.Outcome.{Outcome}
 use Rattle.ppm_strands.specs.declared.sample.Outcome.TheVariants.{Finished, Trapped}
 use Rattle.ppm_strands.proofs.RunLemmas.{counted_some, one_end}
-use Rattle.ppm_strands.proofs.PartsLemmas.{ends_by_parts}
+use Rattle.ppm_strands.proofs.PartsLemmas.{has_left, has_right, ends_by_parts}
 use Rattle.ppm_strands.proofs.RegionLemmas.{inside}
 use Rattle.ppm_strands.proofs.StepLemmas.{put_at, put_else}
 
@@ -27,23 +27,23 @@ races_beside_no_end_are_not_calm a = (
 )
 
 -- a capsule that goes on with itself has no end
-endless : (n : ℕ) (a : Words) (e : End Outcome) → run (sample racing) n (Strand 4) a ≡ Some e → ⊥
+endless : (n : ℕ) (a : Words) (e : End Outcome) → run (sample racing) n (Strand 5) a ≡ Some e → ⊥
 endless zero a e h = cc
-endless (suc n) a e h = let s = counted_some _ (run (sample racing) n (Strand 4) ((sample racing).after 4 a)) e h in endless n _ s.0 s.1
+endless (suc n) a e h = let s = counted_some _ (run (sample racing) n (Strand 5) ((sample racing).after 5 a)) e h in endless n _ s.0 s.1
 
 pub no_end_beside : NoEndBeside
 no_end_beside a e =
     let parts = ends_by_parts (sample racing) in (
       λ h.
-          let left = (parts.fork 1 (Strand 5) (Strand 3) a e).0 h in
-          let inner = (parts.strand 5 a left.0).0 left.1 in
-          let first = (parts.fork 1 (Strand 4) (Strand 0) ((sample racing).after 5 a) inner.0).0 inner.1 in
-          endless first.1.0 ((sample racing).after 5 a) first.0 first.1.1,
-      λ h. let left = (parts.fork 1 (Strand 4) (Strand 6) a e).0 h in endless left.1.0 a left.0 left.1.1,
+          let left = (parts.fork 1 (Strand 6) (Strand 4) a e).0 h in
+          let inner = (parts.strand 6 a left.0).0 left.1 in
+          let first = (parts.fork 1 (Strand 5) (Strand 0) ((sample racing).after 6 a) inner.0).0 inner.1 in
+          endless first.1.0 ((sample racing).after 6 a) first.0 first.1.1,
+      λ h. let left = (parts.fork 1 (Strand 5) (Strand 7) a e).0 h in endless left.1.0 a left.0 left.1.1,
     )
 
 -- both are run
-depth_first_end : EndsWith (fork_of 0 3) start 1
+depth_first_end : EndsWith (fork_of 0 4) start 1
 depth_first_end = (_, (5, refl), refl)
 
 raced_end : EndsWith (fork_of 0 1) raced 2
@@ -56,7 +56,7 @@ one_is_not_two : ◌≡◌ {A = ℕ} 1 2 → ⊥
 one_is_not_two h = cc
 
 -- by the law the depth-first run would end with 2 in B
-not_ahead : Ahead (sample racing) race_counts (fork_of 0 3) start (fork_of 0 1) raced → ⊥
+not_ahead : Ahead (sample racing) race_counts (fork_of 0 4) start (fork_of 0 1) raced → ⊥
 not_ahead ah =
     let m = (ah.ends depth_first_end.0).0 depth_first_end.1 in
     let same : m.0 ≡ raced_end.0 = one_end (sample racing) (fork_of 0 1) raced m.0 raced_end.0 m.1 raced_end.1 in
@@ -64,7 +64,7 @@ not_ahead ah =
     one_is_not_two (sym depth_first_end.2 ∙ moved ∙ raced_end.2)
 
 pub races_lose_the_law : RacesLoseTheLaw
-races_lose_the_law = (InRight 1 (Strand 0) (Capsule 3 start), not_ahead)
+races_lose_the_law = (InRight 1 (Strand 0) (Capsule 4 start), not_ahead)
 
 -- a frame that goes on by its own capsule, or is over, owns no more
 goes_on : (g : ℕ) (o : Outcome) → IsTrue (is_apart g) → OwnsNoMore apart_regions g (resumed_tree g o)
@@ -75,7 +75,8 @@ reads_own : (f : ℕ) (a : Words) → IsTrue (is_apart f) → (x : ℕ) → Has 
 reads_own zero a adm x (inl e) = inl e
 reads_own (suc zero) a adm x h = h
 reads_own (suc (suc zero)) a adm x (inl e) = inl e
-reads_own (suc (suc (suc f))) a adm x h = absurd (cc)
+reads_own (suc (suc (suc zero))) a adm x h = has_right x (0 ∷ 1 ∷ 2 ∷ []) (3 ∷ []) h
+reads_own (suc (suc (suc (suc f)))) a adm x h = absurd (cc)
 reads_own zero a adm x (inr none) = absurd none
 reads_own (suc (suc zero)) a adm x (inr none) = absurd none
 
@@ -84,18 +85,14 @@ writes_own zero a adm x h = h
 writes_own (suc zero) a adm x h = h
 writes_own (suc (suc zero)) a adm x (inl e) = inl e
 writes_own (suc (suc zero)) a adm x (inr none) = absurd none
-writes_own (suc (suc (suc f))) a adm x h = absurd (cc)
+writes_own (suc (suc (suc zero))) a adm x h = has_right x (1 ∷ 2 ∷ []) (3 ∷ []) h
+writes_own (suc (suc (suc (suc f)))) a adm x h = absurd (cc)
 
 writes_owned : (f : ℕ) → IsTrue (is_apart f) → (x : ℕ) → Has x (apart_writes f) → Has x (apart_owns f)
 writes_owned zero adm x h = inr h
 writes_owned (suc zero) adm x h = h
-writes_owned (suc (suc f)) adm x h = h
-
-opens_no_more : (f : ℕ) (a : Words) → IsTrue (is_apart f) → OwnsNoMore apart_regions f ((sample racing).next f a)
-opens_no_more zero a adm = record { separate = tt; owned = λ x h. absurd h; written = λ x h. absurd h }
-opens_no_more (suc zero) a adm = record { separate = tt; owned = λ x h. absurd h; written = λ x h. absurd h }
-opens_no_more (suc (suc zero)) a adm = record { separate = refl; owned = λ x h. inr h; written = λ x h. inr h }
-opens_no_more (suc (suc (suc f))) a adm = absurd (cc)
+writes_owned (suc (suc zero)) adm x h = h
+writes_owned (suc (suc (suc f))) adm x h = inr h
 
 -- no address of A and B is one of C and D
 apart : (x : ℕ) → Has x (0 ∷ 1 ∷ []) → Has x (2 ∷ 3 ∷ []) → ⊥
@@ -105,6 +102,27 @@ apart x (inr (inl e)) (inl f) = cc
 apart x (inr (inl e)) (inr (inl f)) = cc
 apart x (inr (inr e)) h = absurd e
 apart x h (inr (inr f)) = absurd f
+
+fork_separate : IsSeparate apart_regions (fork_of 0 2)
+fork_separate = (refl, refl, refl, λ x i j. apart x (inr i) j, λ x i j. apart x j i)
+
+-- what that fork owns, the strand that makes it owns
+fork_owned : (x : ℕ) → HasFrame apart_regions.Owns (fork_of 0 2) x → Has x (0 ∷ 1 ∷ 2 ∷ 3 ∷ [])
+fork_owned x (inl h) = has_right x (0 ∷ 1 ∷ 2 ∷ []) (3 ∷ []) h
+fork_owned x (inr (inl h)) = has_left x (0 ∷ 1 ∷ []) (2 ∷ 3 ∷ []) h
+fork_owned x (inr (inr h)) = inr (inr h)
+
+fork_written : (x : ℕ) → HasFrame apart_regions.MayWrite (fork_of 0 2) x → Has x (1 ∷ 2 ∷ 3 ∷ [])
+fork_written x (inl h) = has_right x (1 ∷ 2 ∷ []) (3 ∷ []) h
+fork_written x (inr (inl h)) = has_left x (1 ∷ []) (2 ∷ 3 ∷ []) h
+fork_written x (inr (inr h)) = inr h
+
+opens_no_more : (f : ℕ) (a : Words) → IsTrue (is_apart f) → OwnsNoMore apart_regions f ((sample racing).next f a)
+opens_no_more zero a adm = record { separate = tt; owned = λ x h. absurd h; written = λ x h. absurd h }
+opens_no_more (suc zero) a adm = record { separate = tt; owned = λ x h. absurd h; written = λ x h. absurd h }
+opens_no_more (suc (suc zero)) a adm = record { separate = refl; owned = λ x h. inr h; written = λ x h. inr h }
+opens_no_more (suc (suc (suc zero))) a adm = record { separate = fork_separate; owned = fork_owned; written = fork_written }
+opens_no_more (suc (suc (suc (suc f)))) a adm = absurd (cc)
 
 pub apart_by_regions : ApartByRegions
 apart_by_regions = (
@@ -116,11 +134,15 @@ apart_by_regions = (
     resumes = goes_on;
     keeps = λ g o adm. record { separate = adm; owned = λ x h. h; written = λ x h. h };
   },
-  (refl, refl, refl, λ x i j. apart x (inr i) j, λ x i j. apart x j i),
+  fork_separate,
+  refl,
 )
 
 pub apart_is_calm : ApartIsCalm
-apart_is_calm a n = (inside (sample racing) apart_regions apart_by_regions.0 n (fork_of 0 2) a apart_by_regions.1).calm
+apart_is_calm a = (
+  λ n. (inside (sample racing) apart_regions apart_by_regions.0 n (fork_of 0 2) a apart_by_regions.1).calm,
+  λ n. (inside (sample racing) apart_regions apart_by_regions.0 n forking a apart_by_regions.2).calm,
+)
 
 -- a capsule of a table
 pub samples_are_local : SamplesAreLocal

@@ -5,9 +5,11 @@ use Rattle.std.proofs.lemmas.Bool.{cond-false, cond-true, eq-eqb, ne_eqb}
 use Rattle.ppm_strands.specs.Tree.{Words, Tree, Strand, Call, Fork, Over, forks_in, Code, Local, Has, On}
 use Rattle.ppm_strands.specs.Run.{Counts, none, plus, End, with_counts, of_capsule, rejoin, Ends}
 use Rattle.ppm_strands.specs.Calm.{touches, Gathers, Calm}
+use Rattle.ppm_strands.specs.Resume.{Alike}
 use Rattle.ppm_strands.specs.Ahead.{Ahead, Redoes, put, Step, Capsule, Store, Return, Join, Receive, Collect, UnderCall, InLeft, InRight, Steps, Done, More}
 use Rattle.ppm_strands.proofs.RunLemmas.{counts_path, plus_none, plus_comm, with_none, with_plus}
-use Rattle.ppm_strands.proofs.PartsLemmas.{call_over, fork_over, over_end, ends_by_parts, gathers_by_parts, calm_by_parts}
+use Rattle.ppm_strands.proofs.PartsLemmas.{over_end, ends_by_parts, gathers_by_parts, calm_by_parts}
+use Rattle.ppm_strands.proofs.ResumeLemmas.{alike_back, alike_then, call_alike, fork_alike}
 use Rattle.ppm_strands.proofs.CalmLemmas.{has_or_not}
 use Rattle.ppm_strands.proofs.AheadLemmas.{under_call, in_left, in_right}
 
@@ -99,120 +101,38 @@ module _ {F O : Type 0} (c : Code F O) where
           (subst₂ (λ (t : Tree F O) (b : Words). Calm c t b) (sym again.next) (sym same_after) (((calm_by_parts c).strand f a).0 calm));
     }
 
-  return_ahead : (g : F) (o : O) (a : Words) → Calm c (Call g (Over o)) a → Ahead c none (Call g (Over o)) a (c.resume g o) a
-  return_ahead g o a calm =
-      let over : Ends c (Over o) a (over_end o a) = (1, refl) in
-      record {
-        ends = λ e. (
-          λ h. (e, (call_over c g o a e).0 h, sym (with_none e)),
-          λ h. subst (λ (z : End O). Ends c (Call g (Over o)) a z) (sym (h.2 ∙ with_none h.0)) ((call_over c g o a h.0).1 h.1),
-        );
-        touches = λ x h. ((gathers_by_parts c (touches c)).call g (Over o) a x).1 (inr (over_end o a, over, h));
-        writes = λ x h. ((gathers_by_parts c c.writes).call g (Over o) a x).1 (inr (over_end o a, over, h));
-        changes = λ x out. refl;
-        calm = (((calm_by_parts c).call g (Over o) a).0 calm).1 (over_end o a) over;
-      }
-
-  join_ahead : (g : F) (o p : O) (a : Words) → Calm c (Fork g (Over o) (Over p)) a → Ahead c none (Fork g (Over o) (Over p)) a (rejoin c g o p) a
-  join_ahead g o p a calm =
-      let left : Ends c (Over o) a (over_end o a) = (1, refl) in
-      let right : Ends c (Over p) a (over_end p a) = (1, refl) in
-      record {
-        ends = λ e. (
-          λ h. (e, (fork_over c g o p a e).0 h, sym (with_none e)),
-          λ h. subst (λ (z : End O). Ends c (Fork g (Over o) (Over p)) a z) (sym (h.2 ∙ with_none h.0)) ((fork_over c g o p a h.0).1 h.1),
-        );
-        touches = λ x h. ((gathers_by_parts c (touches c)).fork g (Over o) (Over p) a x).1 (inr (inr (over_end o a, over_end p a, left, right, h)));
-        writes = λ x h. ((gathers_by_parts c c.writes).fork g (Over o) (Over p) a x).1 (inr (inr (over_end o a, over_end p a, left, right, h)));
-        changes = λ x out. refl;
-        calm = (((calm_by_parts c).fork g (Over o) (Over p) a).0 calm).4 (over_end o a) (over_end p a) left right;
-      }
-
-  -- a call that is over meets the words of what follows it
-  call_only : (s : F → Words → List ℕ) (g : F) (o : O) (a : Words) (x : ℕ) → Gathers c s (Call g (Over o)) a x → Gathers c s (c.resume g o) a x
-  call_only s g o a x h = elim (((gathers_by_parts c s).call g (Over o) a x).0 h) [
-    | inl i ↦ absurd ((gathers_by_parts c s).over o a x i)
-    | inr i ↦ subst (λ (d : End O). Gathers c s (c.resume g d.outcome) d.words x) (((ends_by_parts c).over o a i.0).0 i.1) i.2
-  ]
-
-  -- so does a fork whose branches are over
-  fork_only : (s : F → Words → List ℕ) (g : F) (o p : O) (a : Words) (x : ℕ)
-      → Gathers c s (Fork g (Over o) (Over p)) a x → Gathers c s (rejoin c g o p) a x
-  fork_only s g o p a x h = elim (((gathers_by_parts c s).fork g (Over o) (Over p) a x).0 h) [
-    | inl i ↦ absurd ((gathers_by_parts c s).over o a x i)
-    | inr j ↦ elim j [
-      | inl i ↦ absurd ((gathers_by_parts c s).over p a x i)
-      | inr i ↦
-          let is = ((ends_by_parts c).over o a i.0).0 i.2 in
-          let iz = ((ends_by_parts c).over p i.0.words i.1).0 i.3 ∙ ap (λ (d : End O). over_end p d.words) is in
-          subst₂ (λ (d m : End O). Gathers c s (rejoin c g d.outcome m.outcome) m.words x) is iz i.4
-    ]
-  ]
-
-  -- the way back from what follows a call that is over
-  waits_ahead : (g : F) (o : O) (a : Words) → Calm c (c.resume g o) a → Ahead c none (c.resume g o) a (Call g (Over o)) a
-  waits_ahead g o a calm = record {
+  -- trees that do the same are ahead of one another
+  alike_ahead : (t u : Tree F O) (a : Words) → Alike c t u → Calm c t a → Ahead c none t a u a
+  alike_ahead t u a same calm = record {
     ends = λ e. (
-      λ h. (e, (call_over c g o a e).1 h, sym (with_none e)),
-      λ h. subst (λ (z : End O). Ends c (c.resume g o) a z) (sym (h.2 ∙ with_none h.0)) ((call_over c g o a h.0).0 h.1),
+      λ h. (e, (same.ends a e).0 h, sym (with_none e)),
+      λ h. subst (λ (z : End O). Ends c t a z) (sym (h.2 ∙ with_none h.0)) ((same.ends a h.0).1 h.1),
     );
-    touches = call_only (touches c) g o a;
-    writes = call_only c.writes g o a;
+    touches = λ x. (same.touches a x).1;
+    writes = λ x. (same.writes a x).1;
     changes = λ x out. refl;
-    calm = ((calm_by_parts c).call g (Over o) a).1 (
-      (calm_by_parts c).over o a,
-      λ d i. subst (λ (z : End O). Calm c (c.resume g z.outcome) z.words) (sym (((ends_by_parts c).over o a d).0 i)) calm,
-    );
-  }
-
-  -- and from what follows a fork whose branches are over
-  forked_ahead : (g : F) (o p : O) (a : Words) → Calm c (rejoin c g o p) a → Ahead c none (rejoin c g o p) a (Fork g (Over o) (Over p)) a
-  forked_ahead g o p a calm = record {
-    ends = λ e. (
-      λ h. (e, (fork_over c g o p a e).1 h, sym (with_none e)),
-      λ h. subst (λ (z : End O). Ends c (rejoin c g o p) a z) (sym (h.2 ∙ with_none h.0)) ((fork_over c g o p a h.0).0 h.1),
-    );
-    touches = fork_only (touches c) g o p a;
-    writes = fork_only c.writes g o p a;
-    changes = λ x out. refl;
-    calm = ((calm_by_parts c).fork g (Over o) (Over p) a).1 (
-      (calm_by_parts c).over o a,
-      (calm_by_parts c).over p a,
-      λ x i j. (gathers_by_parts c c.writes).over o a x i,
-      λ x i j. (gathers_by_parts c c.writes).over p a x i,
-      λ d m i j.
-          let is = ((ends_by_parts c).over o a d).0 i in
-          let iz = ((ends_by_parts c).over p d.words m).0 j ∙ ap (λ (z : End O). over_end p z.words) is in
-          subst₂ (λ (z y : End O). Calm c (rejoin c g z.outcome y.outcome) y.words) (sym is) (sym iz) calm,
-    );
+    calm = (same.calm a).0 calm;
   }
 
   -- a frame changes while it waits, and goes on alike: through what follows both
-  receive_ahead : (g g' : F) (o : O) (a : Words) → c.resume g' o ≡ c.resume g o
-      → Calm c (Call g (Over o)) a → Ahead c none (Call g (Over o)) a (Call g' (Over o)) a
-  receive_ahead g g' o a same calm =
-      let first = return_ahead g o a calm in
-      let back = waits_ahead g' o a (subst (λ (t : Tree F O). Calm c t a) (sym same) first.calm) in
-      goes_on none none (Call g (Over o)) (c.resume g o) (Call g' (Over o)) a a a first
-      (subst (λ (t : Tree F O). Ahead c none t a (Call g' (Over o)) a) same back)
+  received : (g g' : F) (o : O) → c.resume g' o ≡ c.resume g o → Alike c (Call g (Over o)) (Call g' (Over o))
+  received g g' o same = alike_then c (Call g (Over o)) (c.resume g o) (Call g' (Over o)) (call_alike c g o)
+      (subst (λ (t : Tree F O). Alike c t (Call g' (Over o))) same (alike_back c (Call g' (Over o)) (c.resume g' o) (call_alike c g' o)))
 
-  collect_ahead : (g g' : F) (o p : O) (a : Words) → rejoin c g' o p ≡ rejoin c g o p
-      → Calm c (Fork g (Over o) (Over p)) a → Ahead c none (Fork g (Over o) (Over p)) a (Fork g' (Over o) (Over p)) a
-  collect_ahead g g' o p a same calm =
-      let first = join_ahead g o p a calm in
-      let back = forked_ahead g' o p a (subst (λ (t : Tree F O). Calm c t a) (sym same) first.calm) in
-      goes_on none none (Fork g (Over o) (Over p)) (rejoin c g o p) (Fork g' (Over o) (Over p)) a a a first
-      (subst (λ (t : Tree F O). Ahead c none t a (Fork g' (Over o) (Over p)) a) same back)
+  collected : (g g' : F) (o p : O) → rejoin c g' o p ≡ rejoin c g o p → Alike c (Fork g (Over o) (Over p)) (Fork g' (Over o) (Over p))
+  collected g g' o p same = alike_then c (Fork g (Over o) (Over p)) (rejoin c g o p) (Fork g' (Over o) (Over p)) (fork_alike c g o p)
+      (subst (λ (t : Tree F O). Alike c t (Fork g' (Over o) (Over p))) same
+      (alike_back c (Fork g' (Over o) (Over p)) (rejoin c g' o p) (fork_alike c g' o p)))
 
   module _ (local : Local c) where
     -- a step anywhere in a calm tree
     pub step_ahead : {k : Counts} {t t' : Tree F O} {a a' : Words} → Step c k t a t' a' → Calm c t a → Ahead c k t a t' a'
     step_ahead (Capsule f a) calm = capsule_ahead local f a calm
     step_ahead (Store f f' a a' again) calm = store_ahead f f' a a' again calm
-    step_ahead (Return g o a) calm = return_ahead g o a calm
-    step_ahead (Join g o p a) calm = join_ahead g o p a calm
-    step_ahead (Receive g g' o a same) calm = receive_ahead g g' o a same calm
-    step_ahead (Collect g g' o p a same) calm = collect_ahead g g' o p a same calm
+    step_ahead (Return g o a) calm = alike_ahead (Call g (Over o)) (c.resume g o) a (call_alike c g o) calm
+    step_ahead (Join g o p a) calm = alike_ahead (Fork g (Over o) (Over p)) (rejoin c g o p) a (fork_alike c g o p) calm
+    step_ahead (Receive g g' o a same) calm = alike_ahead (Call g (Over o)) (Call g' (Over o)) a (received g g' o same) calm
+    step_ahead (Collect g g' o p a same) calm = alike_ahead (Fork g (Over o) (Over p)) (Fork g' (Over o) (Over p)) a (collected g g' o p same) calm
     step_ahead (UnderCall g {k = k} {t = t} {t' = t'} {a = a} {a' = a'} s) calm =
         under_call c k g t t' a a' calm (step_ahead s (((calm_by_parts c).call g t a).0 calm).0)
     step_ahead (InLeft g r {k = k} {l = l} {l' = l'} {a = a} {a' = a'} s) calm =

@@ -76,7 +76,3 @@ OrdersAreAhead {F} {O} c = (k : Counts) (t u : Tree F O) (a b : Words) → Steps
 abbrev pub OrdersAgree : {F O : Type 0} → Code F O → Type 0
 OrdersAgree {F} {O} c = (k : Counts) (t : Tree F O) (o : O) (a b : Words)
     → Steps c k t a (Over o) b → Calm c t a → Ends c t a (record { outcome = o; words = b; counts = k })
-
--- and the depth-first run is such an order
-abbrev pub DepthFirstIsAnOrder : {F O : Type 0} → Code F O → Type 0
-DepthFirstIsAnOrder {F} {O} c = (t : Tree F O) (a : Words) (e : End O) → Ends c t a e → Steps c e.counts t a (Over e.outcome) e.words

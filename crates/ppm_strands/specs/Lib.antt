@@ -5,6 +5,7 @@ pub mod Locality
 pub mod Parts
 pub mod Races
 pub mod Regions
+pub mod Resume
 pub mod Run
 pub mod Sample
 pub mod Tree

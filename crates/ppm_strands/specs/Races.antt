@@ -12,16 +12,17 @@ use Rattle.ppm_strands.specs.declared.sample.Outcome.TheVariants.{Finished}
 use Rattle.ppm_strands.specs.declared.sample.SmallTree.TheVariants as small
 use Rattle.ppm_strands.specs.declared.sample.Capsule.{Capsule}
 
--- the capsules: 0 copies A to B; 1 is over; 2 adds one to C, and then 1; 3 adds one to A, and then 1; 4 is endless; 5 forks 4 and 0;
--- 6 forks 0 and 3
+-- the capsules: 0 copies A to B; 1 is over; 2 adds one to C, and then 1; 3 forks 0 and 2; 4 adds one to A, and then 1; 5 is endless;
+-- 6 forks 5 and 0; 7 forks 0 and 4
 abbrev pub racing : List Capsule
 racing = record { from = word.A; to = word.B; plus = 0; asks = 0; opens = small.Over Finished }
     ∷ record { from = word.D; to = word.D; plus = 0; asks = 0; opens = small.Over Finished }
     ∷ record { from = word.C; to = word.C; plus = 1; asks = 0; opens = small.Strand 1 }
+    ∷ record { from = word.D; to = word.D; plus = 0; asks = 0; opens = small.Fork 1 0 2 }
     ∷ record { from = word.A; to = word.A; plus = 1; asks = 0; opens = small.Strand 1 }
-    ∷ record { from = word.D; to = word.D; plus = 0; asks = 0; opens = small.Strand 4 }
-    ∷ record { from = word.D; to = word.D; plus = 0; asks = 0; opens = small.Fork 1 4 0 }
-    ∷ record { from = word.D; to = word.D; plus = 0; asks = 0; opens = small.Fork 1 0 3 }
+    ∷ record { from = word.D; to = word.D; plus = 0; asks = 0; opens = small.Strand 5 }
+    ∷ record { from = word.D; to = word.D; plus = 0; asks = 0; opens = small.Fork 1 5 0 }
+    ∷ record { from = word.D; to = word.D; plus = 0; asks = 0; opens = small.Fork 1 0 4 }
     ∷ []
 
 -- a fork of two strands
@@ -30,16 +31,16 @@ fork_of l r = Fork 1 (Strand l) (Strand r)
 
 -- the left branch reads A, and the right one writes it
 abbrev pub RacesAreNotCalm : Type 0
-RacesAreNotCalm = (a : Words) → Calm (sample racing) (fork_of 0 3) a → ⊥
+RacesAreNotCalm = (a : Words) → Calm (sample racing) (fork_of 0 4) a → ⊥
 
 -- races that the depth-first run never comes to: the left branch forks one without end, and then the one that reads A;
 -- and a left branch without end beside one that forks the race
 abbrev pub RacesBesideNoEndAreNotCalm : Type 0
-RacesBesideNoEndAreNotCalm = (a : Words) → (Calm (sample racing) (fork_of 5 3) a → ⊥) × (Calm (sample racing) (fork_of 4 6) a → ⊥)
+RacesBesideNoEndAreNotCalm = (a : Words) → (Calm (sample racing) (fork_of 6 4) a → ⊥) × (Calm (sample racing) (fork_of 5 7) a → ⊥)
 
 -- and these trees have no end
 abbrev pub NoEndBeside : Type 0
-NoEndBeside = (a : Words) (e : End Outcome) → (Ends (sample racing) (fork_of 5 3) a e → ⊥) × (Ends (sample racing) (fork_of 4 6) a e → ⊥)
+NoEndBeside = (a : Words) (e : End Outcome) → (Ends (sample racing) (fork_of 6 4) a e → ⊥) × (Ends (sample racing) (fork_of 5 7) a e → ⊥)
 
 -- one, two, three and four in the words
 abbrev pub start : Words
@@ -47,15 +48,15 @@ start = words_of (1 ∷ 2 ∷ 3 ∷ 4 ∷ [])
 
 -- the words once the right branch of the race has made its capsule, and the counts of that
 abbrev pub raced : Words
-raced = (sample racing).after 3 start
+raced = (sample racing).after 4 start
 
 abbrev pub race_counts : Counts
-race_counts = of_capsule (sample racing) 3 start
+race_counts = of_capsule (sample racing) 4 start
 
 -- that capsule is a step of a strand, and it is not ahead of the order
 abbrev pub RacesLoseTheLaw : Type 0
-RacesLoseTheLaw = Step (sample racing) race_counts (fork_of 0 3) start (fork_of 0 1) raced
-    × (Ahead (sample racing) race_counts (fork_of 0 3) start (fork_of 0 1) raced → ⊥)
+RacesLoseTheLaw = Step (sample racing) race_counts (fork_of 0 4) start (fork_of 0 1) raced
+    × (Ahead (sample racing) race_counts (fork_of 0 4) start (fork_of 0 1) raced → ⊥)
 
 -- the tree ends with v in B
 abbrev pub EndsWith : Tree ℕ Outcome → Words → ℕ → Type 0
@@ -63,38 +64,45 @@ EndsWith t a v = (e : End Outcome) × Ends (sample racing) t a e × (e.words 1 �
 
 -- for depth first B ends as 1, and as 2 after that capsule
 abbrev pub RacesEndOtherwise : Type 0
-RacesEndOtherwise = EndsWith (fork_of 0 3) start 1 × EndsWith (fork_of 0 1) raced 2
+RacesEndOtherwise = EndsWith (fork_of 0 4) start 1 × EndsWith (fork_of 0 1) raced 2
 
--- where the right branch adds to a word of its own, the fork is calm
+-- the strand whose capsule forks 0 and 2
+abbrev pub forking : Tree ℕ Outcome
+forking = Strand 3
+
+-- where the right branch adds to a word of its own, the fork is calm, and so is the strand that makes it
 abbrev pub ApartIsCalm : Type 0
-ApartIsCalm = (a : Words) → Calm (sample racing) (fork_of 0 2) a
+ApartIsCalm = (a : Words) → Calm (sample racing) (fork_of 0 2) a × Calm (sample racing) forking a
 
--- the capsules of that fork
+-- the capsules of both
 abbrev pub is_apart : ℕ → Bool
 is_apart zero = true
 is_apart (suc zero) = true
 is_apart (suc (suc zero)) = true
+is_apart (suc (suc (suc zero))) = true
 is_apart f = false
 
--- the words that they own: A and B, D, C and D
+-- the words that they own: A and B, D, C and D, all four
 abbrev pub apart_owns : ℕ → List ℕ
 apart_owns zero = 0 ∷ 1 ∷ []
 apart_owns (suc zero) = 3 ∷ []
-apart_owns f = 2 ∷ 3 ∷ []
+apart_owns (suc (suc zero)) = 2 ∷ 3 ∷ []
+apart_owns f = 0 ∷ 1 ∷ 2 ∷ 3 ∷ []
 
 -- and those that they may write: A is but read
 abbrev pub apart_writes : ℕ → List ℕ
 apart_writes zero = 1 ∷ []
 apart_writes (suc zero) = 3 ∷ []
-apart_writes f = 2 ∷ 3 ∷ []
+apart_writes (suc (suc zero)) = 2 ∷ 3 ∷ []
+apart_writes f = 1 ∷ 2 ∷ 3 ∷ []
 
 -- their regions
 abbrev pub apart_regions : Regions ℕ
 apart_regions = listed is_apart apart_owns apart_writes
 
--- the code respects them, and the fork is separate
+-- the code respects them, and both trees are separate
 abbrev pub ApartByRegions : Type 0
-ApartByRegions = Respects apart_regions (sample racing) × IsSeparate apart_regions (fork_of 0 2)
+ApartByRegions = Respects apart_regions (sample racing) × IsSeparate apart_regions (fork_of 0 2) × IsSeparate apart_regions forking
 
 -- what a capsule of any table does depends on the word that it reads
 abbrev pub SamplesAreLocal : Type 0

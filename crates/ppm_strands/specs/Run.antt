@@ -1,5 +1,5 @@
 -- The depth-first run of a tree of strands, with its counts, and with a bound on its depth.
-use Rattle.std.specs.Prelude.{ℕ, zero, suc, ◌+◌, cond, Option, Some, None, ◌≡◌, ◌↔◌}
+use Rattle.std.specs.Prelude.{ℕ, zero, suc, ◌+◌, cond, Option, Some, None, ◌≡◌}
 use Rattle.ppm_strands.specs.Tree.{Words, Tree, Strand, Call, Fork, Over, forks_in, Code}
 
 -- what a run counts: the capsules run, the forks made, the block words asked for
@@ -67,15 +67,3 @@ LargerBoundsAgree {F} {O} c = (k n : ℕ) (t : Tree F O) (a : Words) (e : End O)
 -- two ends of a tree are one
 abbrev pub HasOneEnd : {F O : Type 0} → Code F O → Type 0
 HasOneEnd {F} {O} c = (t : Tree F O) (a : Words) (d e : End O) → Ends c t a d → Ends c t a e → d ≡ e
-
--- the two trees come to the same ends: outcome, words and counts
-abbrev pub EndAlike : {F O : Type 0} → Code F O → Tree F O → Tree F O → Type 0
-EndAlike {F} {O} c t u = (a : Words) (e : End O) → Ends c t a e ↔ Ends c u a e
-
--- a call whose callee is over may be replaced by what follows it
-abbrev pub CallsResume : {F O : Type 0} → Code F O → Type 0
-CallsResume {F} {O} c = (g : F) (o : O) → EndAlike c (Call g (Over o)) (c.resume g o)
-
--- a fork whose branches are both over may be replaced by what follows them
-abbrev pub ForksResume : {F O : Type 0} → Code F O → Type 0
-ForksResume {F} {O} c = (g : F) (o p : O) → EndAlike c (Fork g (Over o) (Over p)) (rejoin c g o p)

@@ -2,7 +2,7 @@
 use Rattle.std.specs.Prelude.{◌≡◌, ◌↔◌}
 use Rattle.ppm_strands.specs.Tree.{Words, Tree, Strand, Call, Fork, Over, Code}
 use Rattle.ppm_strands.specs.Run.{Counts, End, with_counts, Ends}
-use Rattle.ppm_strands.specs.Ahead.{Step, Capsule, Store, Return, Join, Receive, Collect, UnderCall, InLeft, InRight}
+use Rattle.ppm_strands.specs.Ahead.{Step, Capsule, Store, Return, Join, Receive, Collect, UnderCall, InLeft, InRight, Steps, Done, More}
 
 -- a finished branch
 abbrev pub IsOver : {F O : Type 0} → Tree F O → Type 0
@@ -27,3 +27,13 @@ IsInTurn (InRight g l s) = IsOver l × IsInTurn s
 abbrev pub TurnsKeepEnds : {F O : Type 0} → Code F O → Type 0
 TurnsKeepEnds {F} {O} c = (k : Counts) (t t' : Tree F O) (a a' : Words) (s : Step c k t a t' a') → IsInTurn s
     → (e : End O) → Ends c t a e ↔ ((d : End O) × Ends c t' a' d × (e ≡ with_counts k d))
+
+-- each of the steps is in turn
+abbrev pub AreInTurn : {F O : Type 0} {c : Code F O} {k : Counts} {t u : Tree F O} {a b : Words} → Steps c k t a u b → Type 0
+AreInTurn (Done t a) = Unit {0}
+AreInTurn (More s more) = IsInTurn s × AreInTurn more
+
+-- the depth-first run is one of the orders in which the strands may make their steps, and each of its steps is in turn
+abbrev pub DepthFirstIsAnOrder : {F O : Type 0} → Code F O → Type 0
+DepthFirstIsAnOrder {F} {O} c = (t : Tree F O) (a : Words) (e : End O) → Ends c t a e
+    → (s : Steps c e.counts t a (Over e.outcome) e.words) × AreInTurn s

@@ -249,7 +249,7 @@ pub fn tables_run_in_any_order()
     any_order::<u8, Outcome>();
 }
 
-/// The regions of the fork whose branches keep apart.
+/// The regions of the fork whose branches keep apart, and of the strand that makes it.
 impl Owner for u8 {
     ghost admits = { λ f. IsTrue (is_apart f) };
 
@@ -258,7 +258,7 @@ impl Owner for u8 {
     ghost may_write = { λ f x. Has x (apart_writes f) };
 }
 
-/// That fork is calm by the law of regions, by its contract alone.
+/// That fork and that strand are calm by the law of regions, by its contract alone.
 pub fn apart_trees_are_calm()
     ensures { ApartIsCalm }
 {
