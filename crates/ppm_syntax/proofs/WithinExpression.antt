@@ -73,7 +73,7 @@ expression_keeps (g.group {o = o} {c = q} {ts = ts} {rest = rest} o_is i q_is) h
     }
 expression_keeps (g.level {n = n} {ts = ts} r s) h st c m all f =
     let below : IsFree (stack.Operand n ∷ stack.More (suc n) ∷ st) c ts =
-        record { low = f.low; few = f.few; whole = sym (below_tails n st c ts) ∙ f.whole } in
+    record { low = f.low; few = f.few; whole = sym (below_tails n st c ts) ∙ f.whole } in
     let k = expression_keeps r (operand_ends s h) (stack.More (suc n) ∷ st) c m all below in
     let l = expression_keeps s h st (with_nodes k.nodes c) m all k.free in
     record { nodes = l.nodes; count = omega (arith, k.count, l.count); derived = g.level k.derived l.derived; free = l.free }

@@ -80,5 +80,5 @@ within_tree ts whole text literals =
     let free : IsFree [] beginning.tally ts = record { low = omega arith; few = refl; whole = whole } in
     let k = source_keeps text.2 (tree_literals text.1 text.2 literals) beginning.tally free in
     let within : IsWithin text.1 =
-        record { arrays = omega (arith, k.arrays); words = omega (arith, k.words); procedures = omega (arith, k.procedures); small = k.small } in
+    record { arrays = omega (arith, k.arrays); words = omega (arith, k.words); procedures = omega (arith, k.procedures); small = k.small } in
     (text.1, k.derived, within)

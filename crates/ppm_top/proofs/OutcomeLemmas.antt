@@ -26,6 +26,6 @@ has_outcome t = go (procedure_named t.procs (codes "main")) refl
         let frame = main_frame t.arrays p.params in
         let turns = suc (length p.body) in
         ends_so t turns (after_all frame values p.body) (
-          ap (λ m. outcome_of (opening t) (run_main t.arrays m values turns)) is
-          ∙ ap (outcome_of (opening t)) (run_statements-after_all frame p.body values)
+        ap (λ m. outcome_of (opening t) (run_main t.arrays m values turns)) is
+        ∙ ap (outcome_of (opening t)) (run_statements-after_all frame p.body values)
         )

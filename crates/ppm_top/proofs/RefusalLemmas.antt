@@ -147,7 +147,7 @@ module _ (laws : Laws) (text : List ℕ) (free : (r : Refusal) → IsRefusal tex
   has_within =
       let ts = has_tokens in
       let no_fault : (e : SyntaxError) → syntax.IsFault ts.0 (length text) e → ⊥ =
-          λ e f. free (refusal.Syntax e) (record { tokens = ts.0; short = is_short; cut = ts.1; fault = f }) in
+      λ e f. free (refusal.Syntax e) (record { tokens = ts.0; short = is_short; cut = ts.1; fault = f }) in
       let r = (laws.answer ts.0 (length text)).none no_fault (cut_literals ts.1.1) in
       (r.0, record { tokens = ts.0; cut = ts.1; derived = r.1 }, r.2)
 
@@ -156,7 +156,7 @@ module _ (laws : Laws) (text : List ℕ) (free : (r : Refusal) → IsRefusal tex
   has_admitted =
       let r = has_within in
       let no_fault : (e : RegionError) → region.IsFault r.0 e → ⊥ =
-          λ e f. free (refusal.Region e) (record { tree = r.0; short = is_short; derived = r.1; within = r.2; fault = f }) in
+      λ e f. free (refusal.Region e) (record { tree = r.0; short = is_short; derived = r.1; within = r.2; fault = f }) in
       (r.0, record { short = is_short; tree = r.1; within = r.2; admitted = (laws.regions r.0).none r.2 no_fault })
 
   -- and its code has room
