@@ -29,5 +29,9 @@ pub mod DeclarationLemmas
 pub mod StatementLemmas
 pub mod AddingLemmas
 pub mod ItemLemmas
+pub mod WithinExpression
+pub mod WithinParts
+pub mod LiteralLemmas
+pub mod WithinLemmas
 pub mod Passing
 pub mod AnswerLemmas

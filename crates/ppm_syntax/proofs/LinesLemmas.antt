@@ -9,7 +9,7 @@ use Rattle.ppm_syntax.specs.Grammar as g
 use Rattle.ppm_syntax.specs.Lines.{IsLine, TokenLine, ArrayLine, ParameterLine, ExpressionLines, StatementLines, ProcedureLines, HasLines}
 
 -- what holds of each token holds of each that is left
-rest_keeps : {d : ℕ} {p : Part} {ts rest : List Token} {e : Node} (P : Token → Type 0) → Derives d p ts e rest →
+pub rest_keeps : {d : ℕ} {p : Part} {ts rest : List Token} {e : Node} (P : Token → Type 0) → Derives d p ts e rest →
     AllByRecursion P ts → AllByRecursion P rest
 rest_keeps P (g.number is) h = h.1
 rest_keeps P (g.element is o i c) h = (rest_keeps P i h.1.1).1

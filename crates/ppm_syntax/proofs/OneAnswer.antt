@@ -1,7 +1,8 @@
 -- The sentence of a fault has one verdict, so tokens have at most one fault, none where they have a tree within the limits, and
--- are a text of the grammar where they have none.
+-- such a tree where they have none.
 use Rattle.std.proofs.Common.{◌≡◌, ℕ, Bool, true, false, List, [], ◌∷◌, ◌++◌, refl, sym, ◌∙◌}
 use Rattle.std.specs.Prelude.{Option, Some, None}
+use Rattle.std.specs.List.{All}
 use Rattle.ppm_text.specs.declared.token.Kind.{Kind}
 use Rattle.ppm_text.specs.declared.token.Token.{Token}
 use Rattle.ppm_syntax.specs.declared.limit.Limit.{Limit}
@@ -11,7 +12,7 @@ use Rattle.ppm_syntax.specs.Tree.{SourceTree}
 use Rattle.ppm_syntax.specs.Limits.{depth_limit, IsWithin}
 use Rattle.ppm_syntax.specs.Grammar.{DerivesTree}
 use Rattle.ppm_syntax.specs.Stack.{State, step, run, can_end, beginning}
-use Rattle.ppm_syntax.specs.Faults.{IsText, Begins, StandsAt, IsFirstUnexpected, IsEnded, IsTooDeep, IsTooMany, IsFault, HasOneAnswer}
+use Rattle.ppm_syntax.specs.Faults.{IsText, Begins, StandsAt, IsFirstUnexpected, IsEnded, IsTooDeep, IsTooMany, IsFault, TokenLiteral, HasOneAnswer}
 use Rattle.ppm_syntax.specs.Verdict.{Verdict, Whole, Cut, Unexpected, Deep, Many, verdict}
 use Rattle.ppm_syntax.proofs.Viable.{run_begins, run_ends}
 use Rattle.ppm_syntax.proofs.FaultSentences.{reason, unexpected, ended, too_deep, too_many}
@@ -98,22 +99,27 @@ no_fault ts text_len (error.TooDeep place) h whole = let v = deep_verdict ts pla
 no_fault ts text_len (error.TooMany place which) h whole = let v = many_verdict ts place which h in cc
 no_fault ts text_len error.NoMemory h whole = h
 
--- and without a fault they are a text of the grammar
-whole_text : (ts : List Token) (text_len : ℕ) → ((e : SyntaxError) → IsFault ts text_len e → ⊥) → IsText ts
-whole_text ts text_len free = go (verdict beginning ts) refl
+-- and without a fault the verdict finds none
+whole_verdict : (ts : List Token) (text_len : ℕ) → ((e : SyntaxError) → IsFault ts text_len e → ⊥) → verdict beginning ts ≡ Whole
+whole_verdict ts text_len free = go (verdict beginning ts) refl
   where
-    go : (v : Verdict) → verdict beginning ts ≡ v → IsText ts
-    go Whole is = let c = reason ts Whole is in run_ends ts c.last c.ran c.ending
+    go : (v : Verdict) → verdict beginning ts ≡ v → verdict beginning ts ≡ Whole
+    go Whole is = is
     go Cut is = absurd (free (error.Ended text_len) (ended ts is, refl))
     go (Unexpected place) is = absurd (free (error.Expected place) (unexpected ts place is))
     go (Deep place) is = absurd (free (error.TooDeep place) (too_deep ts place is))
     go (Many place which) is = absurd (free (error.TooMany place which) (too_many ts place which is))
 
--- so they have one answer, if the verdict finds no fault in a tree within the limits
+-- then they are a text of the grammar
+pub whole_text : (ts : List Token) → verdict beginning ts ≡ Whole → IsText ts
+whole_text ts whole = let c = reason ts Whole whole in run_ends ts c.last c.ran c.ending
+
+-- so they have one answer, if the verdict finds no fault just where they have a tree within the limits
 pub one_answer : (ts : List Token) (text_len : ℕ) →
-    ((t : SourceTree) → DerivesTree depth_limit ts t → IsWithin t → verdict beginning ts ≡ Whole) → HasOneAnswer ts text_len
-one_answer ts text_len whole = record {
+    ((t : SourceTree) → DerivesTree depth_limit ts t → IsWithin t → verdict beginning ts ≡ Whole) →
+    (verdict beginning ts ≡ Whole → All TokenLiteral ts → (t : SourceTree) × DerivesTree depth_limit ts t × IsWithin t) → HasOneAnswer ts text_len
+one_answer ts text_len whole within_tree = record {
   fault = one_fault ts text_len;
   either = λ t e r within h. no_fault ts text_len e h (whole t r within);
-  none = whole_text ts text_len;
+  none = λ free. within_tree (whole_verdict ts text_len free);
 }

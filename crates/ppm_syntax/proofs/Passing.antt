@@ -15,7 +15,8 @@ use Rattle.ppm_syntax.specs.Stack as stack
 use Rattle.ppm_syntax.specs.Verdict.{Whole, verdict}
 use Rattle.ppm_syntax.proofs.TallyLemmas.{few_words, few_arrays}
 use Rattle.ppm_syntax.proofs.DeclarationLemmas.{array_passes, procedure_passes, with_procedure}
-use Rattle.ppm_syntax.proofs.OneAnswer.{one_answer}
+use Rattle.ppm_syntax.proofs.OneAnswer.{whole_text, one_answer}
+use Rattle.ppm_syntax.proofs.WithinLemmas.{within_tree}
 
 -- a source behind what was counted, with which it is within the limits
 source_whole : {d : ℕ} {ts : List Token} {xs : List Array} {ps : List Procedure} → Derives d Source ts (source xs ps) [] → (c : Tally) → d ≤ depth_limit →
@@ -39,6 +40,6 @@ source_whole (g.proc {w = w} {n = n} {o = o} {x = x} {qs = qs} {b = b} {ps = ps}
 pub whole : (ts : List Token) (t : SourceTree) → DerivesTree depth_limit ts t → IsWithin t → verdict beginning ts ≡ Whole
 whole ts t r h = source_whole r beginning.tally (omega arith) refl (omega (arith, h.arrays)) (omega (arith, h.words)) (omega (arith, h.procedures)) h.small
 
--- tokens have at most one fault, and none where they have a tree within the limits
+-- tokens have at most one fault, none where they have a tree within the limits, and such a tree where they have none
 pub have_one_answer : HaveOneAnswer
-have_one_answer ts text_len = one_answer ts text_len (whole ts)
+have_one_answer ts text_len = one_answer ts text_len (whole ts) (λ free. within_tree ts free (whole_text ts free))

@@ -14,8 +14,8 @@ pub fn more_turns_keep()
     ensures law { MoreTurnsKeep }
 {}
 
-/// Tokens have at most one fault, and none where they have a tree within the limits; with none they are a text of the
-/// grammar.
+/// Tokens have at most one fault, and none where they have a tree within the limits; with none they have such a tree, if
+/// their numbers are literals.
 pub fn have_one_answer()
     ensures law { HaveOneAnswer }
 {}

@@ -1,5 +1,6 @@
 pub mod CausesLemmas
 pub mod RefusalLemmas
+pub mod OutcomeLemmas
 pub mod RowsLemmas
 pub mod ArraysInWords
 pub mod ExpressionRuns

@@ -1,10 +1,15 @@
--- A text is refused for one reason at most, and for none where it has an outcome: from what is true of its tokens, its tree and the tree's faults.
-use Rattle.std.proofs.Common.{◌≡◌, ◌≢◌, ℕ, ◌≤◌, List, length, refl, ap, subst, arith}
+-- A text comes to an outcome, or is refused for one reason: from what is true of its tokens, its tree and the tree's faults.
+use Rattle.std.proofs.Common.{◌≡◌, ◌≢◌, ℕ, ◌≤◌, Bool, true, false, List, length, refl, ap, subst, arith}
+use Rattle.std.specs.Prelude.{nat_lt}
+use Rattle.std.specs.List.{All}
+use Rattle.std.proofs.lemmas.List.Elements.{All-nil, All-cons}
+use Rattle.ppm_words.specs.declared.outcome.Outcome.{Outcome}
 use Rattle.ppm_text.specs.declared.token.Token.{Token}
 use Rattle.ppm_text.specs.declared.text_error.TextError.{TextError}
 use Rattle.ppm_text.specs.declared.text_error.TextError.TheVariants as text_error
 use Rattle.ppm_text.specs.Limits.{text_limit}
-use Rattle.ppm_text.specs.Cutting.{IsTextOf, IsRefused, too_long, faulty, no_memory}
+use Rattle.ppm_text.specs.Cutting.{IsTextOf, Cuts, here, skip, token, located, IsRefused, too_long, faulty, no_memory}
+use Rattle.ppm_text.specs.Cutting.{IsFault, not_ascii, bad_char, number_too_big, name_too_long}
 use Rattle.ppm_text.specs.Correct.{HaveOneReading}
 use Rattle.ppm_syntax.specs.declared.syntax_error.SyntaxError.{SyntaxError}
 use Rattle.ppm_syntax.specs.declared.region_error.RegionError.{RegionError}
@@ -13,16 +18,17 @@ use Rattle.ppm_syntax.specs.Grammar.{DerivesTree}
 use Rattle.ppm_syntax.specs.Limits.{depth_limit, IsWithin}
 use Rattle.ppm_syntax.specs.Rules.{IsAdmitted}
 use Rattle.ppm_syntax.specs.Correct.{IsTreeOf, HasTree, HaveOneTree}
-use Rattle.ppm_syntax.specs.Faults.{HaveOneAnswer}
+use Rattle.ppm_syntax.specs.Faults.{TokenLiteral, HaveOneAnswer}
 use Rattle.ppm_syntax.specs.Faults as syntax
 use Rattle.ppm_syntax.specs.RegionFaults.{HaveOneRegionFault}
 use Rattle.ppm_syntax.specs.RegionFaults as region
-use Rattle.ppm_top.specs.Bounds.{FitsCode}
+use Rattle.ppm_top.specs.Bounds.{capsule_bound, capsule_limit, FitsCode}
 use Rattle.ppm_top.specs.declared.refusal.Refusal.{Refusal}
 use Rattle.ppm_top.specs.declared.refusal.Refusal.TheVariants as refusal
 use Rattle.ppm_top.specs.Refusals.{IsTextFault, IsSyntaxFault, IsRegionFault, IsRefusal}
-use Rattle.ppm_top.specs.Causes.{HasNoOutcome}
+use Rattle.ppm_top.specs.Causes.{ComesTo, HasNoOutcome}
 use Rattle.ppm_top.specs.Correct.{HaveOneRefusal}
+use Rattle.ppm_top.proofs.OutcomeLemmas.{has_outcome}
 
 -- what the crates below show of every text
 pub record Laws : Type 0 where
@@ -107,5 +113,68 @@ refused_no_outcome laws text (refusal.Region e) h t has fits = admitted_unfaulte
 refused_no_outcome laws text refusal.TooManyCapsules h t has fits =
     h.unfit (subst FitsCode (laws.tree depth_limit depth_limit text t h.tree has.tree h.has_tree.tree) fits)
 
+-- a fault of a text is not want of memory
+fault_given : {place : ℕ} {bytes : List ℕ} {e : TextError} → IsFault place bytes e → e ≢ text_error.NoMemory
+fault_given (not_ascii class) = λ h. cc
+fault_given (bad_char class begins) = λ h. cc
+fault_given (number_too_big longest over) = λ h. cc
+fault_given (name_too_long longest over) = λ h. cc
+
+-- the numbers in a text that is cut are literals
+cut_literals : {p l q m : ℕ} {bytes rest : List ℕ} {ts : List Token} → Cuts p l bytes ts q m rest → All TokenLiteral ts
+cut_literals here = All-nil TokenLiteral
+cut_literals (skip s c) = cut_literals c
+cut_literals (token {p = p} {l = l} {k = k} {ts = ts} longest range c) =
+    All-cons TokenLiteral (located k p l) ts (λ n is. rw is at range) (cut_literals c)
+
+-- a text that is not refused
+module _ (laws : Laws) (text : List ℕ) (free : (r : Refusal) → IsRefusal text r → ⊥) where
+  -- keeps the limit on its bytes
+  is_short : length text ≤ text_limit
+  is_short = go (nat_lt text_limit (length text)) refl
+    where
+      go : (b : Bool) → nat_lt text_limit (length text) ≡ b → length text ≤ text_limit
+      go true over = absurd (free (refusal.Text (text_error.TooLong text_limit)) (record { fault = too_long (grind (arith, over)); given = λ h. cc }))
+      go false over = grind (arith, over)
+
+  -- has tokens
+  has_tokens : (ts : List Token) × IsTextOf text ts
+  has_tokens =
+      (laws.reading text).none (λ e f. free (refusal.Text e) (record { fault = faulty is_short f; given = fault_given f.fault }))
+
+  -- its tokens have a tree within the limits
+  has_within : (t : SourceTree) × IsTreeOf depth_limit text t × IsWithin t
+  has_within =
+      let ts = has_tokens in
+      let no_fault : (e : SyntaxError) → syntax.IsFault ts.0 (length text) e → ⊥ =
+      λ e f. free (refusal.Syntax e) (record { tokens = ts.0; short = is_short; cut = ts.1; fault = f }) in
+      let r = (laws.answer ts.0 (length text)).none no_fault (cut_literals ts.1.1) in
+      (r.0, record { tokens = ts.0; cut = ts.1; derived = r.1 }, r.2)
+
+  -- the tree is admitted
+  has_admitted : (t : SourceTree) × HasTree text t
+  has_admitted =
+      let r = has_within in
+      let no_fault : (e : RegionError) → region.IsFault r.0 e → ⊥ =
+      λ e f. free (refusal.Region e) (record { tree = r.0; short = is_short; derived = r.1; within = r.2; fault = f }) in
+      (r.0, record { short = is_short; tree = r.1; within = r.2; admitted = (laws.regions r.0).none r.2 no_fault })
+
+  -- and its code has room
+  has_room : (t : SourceTree) × HasTree text t × FitsCode t
+  has_room = go (nat_lt capsule_limit (capsule_bound has_admitted.0)) refl
+    where
+      go : (b : Bool) → nat_lt capsule_limit (capsule_bound has_admitted.0) ≡ b → (t : SourceTree) × HasTree text t × FitsCode t
+      go true over =
+          absurd (free refusal.TooManyCapsules (record { tree = has_admitted.0; has_tree = has_admitted.1; unfit = λ h. absurd (grind (arith, over, h)) }))
+      go false over = (has_admitted.0, has_admitted.1, grind (arith, over))
+
+  -- so it comes to an outcome
+  comes_to : (o : Outcome) × ComesTo text o
+  comes_to =
+      let r = has_room in
+      let o = has_outcome r.0 in
+      (o.0, record { tree = r.0; has_tree = r.1; fits = r.2; is_outcome = o.1 })
+
+-- a text comes to an outcome, or is refused for one reason
 pub have_one_refusal : Laws → HaveOneRefusal
-have_one_refusal laws text = record { refusal = one_refusal laws text; either = refused_no_outcome laws text }
+have_one_refusal laws text = record { refusal = one_refusal laws text; either = refused_no_outcome laws text; none = comes_to laws text }

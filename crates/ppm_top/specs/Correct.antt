@@ -1,13 +1,15 @@
--- A text is refused for one reason at most, and for none where it has an outcome.
+-- A text comes to an outcome, or is refused for one reason, and never both.
 use Rattle.std.specs.Prelude.{◌≡◌, ℕ, List}
+use Rattle.ppm_words.specs.declared.outcome.Outcome.{Outcome}
 use Rattle.ppm_top.specs.declared.refusal.Refusal.{Refusal}
 use Rattle.ppm_top.specs.Refusals.{IsRefusal}
-use Rattle.ppm_top.specs.Causes.{HasNoOutcome}
+use Rattle.ppm_top.specs.Causes.{ComesTo, HasNoOutcome}
 
--- two refusals of a text are one, and a text that is refused has no outcome
+-- two refusals of a text are one; a text that is refused has no outcome, and one that is not comes to one
 pub record HasOneRefusal (text : List ℕ) : Type 0 where
   pub refusal : (r s : Refusal) → IsRefusal text r → IsRefusal text s → r ≡ s
   pub either : (r : Refusal) → IsRefusal text r → HasNoOutcome text
+  pub none : ((r : Refusal) → IsRefusal text r → ⊥) → (o : Outcome) × ComesTo text o
 
 -- so it is with every text
 abbrev pub HaveOneRefusal : Type 0
