@@ -1,6 +1,7 @@
 //! The words of the command line, and the command that they give.
 //! Model: the words are the list of their texts; the program and its subcommands are applications of `clap` (`specs/Words`).
-//! Contract: the command is the one that `clap` finds in the words; where they are refused there is none.
+//! Contract: the command and its options are those that `clap` finds in the words, each option in its range; where the
+//! words are refused there is none.
 //! Stands on `clap` and `ppm_words`; `ppm_top` calls it.
 //! After clap's builder; the commands, their options and their ranges are this project's.
 #![tactic(auto)]
@@ -9,7 +10,7 @@ mod application;
 mod command;
 mod line;
 
-pub use command::Command;
+pub use command::{Command, RunOptions};
 pub use line::read_words;
 
 #[cfg(test)]

@@ -1,5 +1,5 @@
 //! The words that clap's documentation takes and refuses.
-use crate::{Command, read_words};
+use crate::{Command, RunOptions, read_words};
 use std::alloc::Global;
 use std::test::Fail;
 
@@ -14,7 +14,7 @@ fn command_of_words(alloc: Global, words: &[&str]) -> Result<Option<Command>, Fa
 
 #[test]
 fn words_give_run_or_no_command(rt: HostRuntime) -> Result<(), Fail> {
-    let runs = Some(Command::Run);
+    let runs = Some(Command::Run(RunOptions { processors: 1 }));
     let cases: [(&[&str], Option<Command>); 20] = [
         (&["ppm", "run"], runs),
         (&["any", "run"], runs),

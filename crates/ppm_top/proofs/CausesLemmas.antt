@@ -17,17 +17,17 @@ memory_may None source (answers.SourceRefused r) h = absurd h
 memory_may None source answers.WordsRefused h = h
 memory_may None source answers.ReadFault h = absurd h
 memory_may None source answers.NoMemory h = h
-memory_may (Some commands.Run) source (answers.Ended arrays) h = (h.0, h.1.most, h.1.front)
-memory_may (Some commands.Run) source (answers.Trapped t line) h = (h.0, h.1.most, h.1.front)
-memory_may (Some commands.Run) source (answers.SourceRefused r) h = (h.0, h.1.most, h.1.front)
-memory_may (Some commands.Run) source answers.WordsRefused h = absurd h
-memory_may (Some commands.Run) source answers.ReadFault h = h.1
-memory_may (Some commands.Run) source answers.NoMemory h = h
+memory_may (Some (commands.Run options)) source (answers.Ended arrays) h = (h.0, h.1.most, h.1.front)
+memory_may (Some (commands.Run options)) source (answers.Trapped t line) h = (h.0, h.1.most, h.1.front)
+memory_may (Some (commands.Run options)) source (answers.SourceRefused r) h = (h.0, h.1.most, h.1.front)
+memory_may (Some (commands.Run options)) source answers.WordsRefused h = absurd h
+memory_may (Some (commands.Run options)) source answers.ReadFault h = h.1
+memory_may (Some (commands.Run options)) source answers.NoMemory h = h
 
 -- where nothing was read, out of memory may be the answer, whatever the words are
 pub memory_before : (command : Option Command) (source : Port) → IsUnread source → CommandMay command source answers.NoMemory
 memory_before None source h = h
-memory_before (Some commands.Run) source h =
+memory_before (Some (commands.Run options)) source h =
     ([], omega arith, Consumes-kept source.before source.before source.now [] (Consumes-nil source.before) h.kept)
 
 -- a port that is left alone is unread

@@ -45,7 +45,7 @@ written out err answer status d ne = d
 ended_answer : (command : Option Command) (source out : Port) (answer : Answer) → CommandMay command source answer →
     status_of answer ≡ statuses.Ended → Gets out (out_text answer) → WritesArrays source out
 ended_answer None source out (answers.Ended arrays) h e g = absurd h
-ended_answer (Some commands.Run) source out (answers.Ended arrays) h e g = (arrays, h, g)
+ended_answer (Some (commands.Run options)) source out (answers.Ended arrays) h e g = (arrays, h, g)
 ended_answer command source out answer h e g = cc
 
 pub ended : (words : List (List ℕ)) (source out err : Port) (status : Status) → IsAnswered words source out err status →
@@ -58,7 +58,7 @@ ended words source out err status a e =
 trapped_answer : (command : Option Command) (source out : Port) (answer : Answer) → CommandMay command source answer →
     status_of answer ≡ statuses.Trapped → Gets out (out_text answer) → WritesTrap source out
 trapped_answer None source out (answers.Trapped t line) h e g = absurd h
-trapped_answer (Some commands.Run) source out (answers.Trapped t line) h e g = (t, line, h, g)
+trapped_answer (Some (commands.Run options)) source out (answers.Trapped t line) h e g = (t, line, h, g)
 trapped_answer command source out answer h e g = cc
 
 pub trapped : (words : List (List ℕ)) (source out err : Port) (status : Status) → IsAnswered words source out err status →
@@ -71,7 +71,7 @@ trapped words source out err status a e =
 refused_answer : (command : Option Command) (source err : Port) (answer : Answer) → CommandMay command source answer →
     status_of answer ≡ statuses.SourceRefused → Gets err (err_text answer) → WritesRefusal source err
 refused_answer None source err (answers.SourceRefused r) h e g = absurd h
-refused_answer (Some commands.Run) source err (answers.SourceRefused r) h e g = (r, h, g)
+refused_answer (Some (commands.Run options)) source err (answers.SourceRefused r) h e g = (r, h, g)
 refused_answer command source err answer h e g = cc
 
 refused : (words : List (List ℕ)) (source out err : Port) (status : Status) → IsAnswered words source out err status →
@@ -207,7 +207,7 @@ refuses_source law words source out err status a = record {
 no_command : (command : Option Command) (source : Port) (answer : Answer) → CommandMay command source answer →
     status_of answer ≡ statuses.WordsRefused → command ≡ None
 no_command None source answer h e = refl
-no_command (Some commands.Run) source answers.WordsRefused h e = absurd h
+no_command (Some (commands.Run options)) source answers.WordsRefused h e = absurd h
 no_command command source answer h e = cc
 
 words_refused : (words : List (List ℕ)) (source out err : Port) (status : Status) → IsAnswered words source out err status →
@@ -253,7 +253,7 @@ refuses_words words source out err status a = record {
 failed_read : (command : Option Command) (source : Port) (answer : Answer) → CommandMay command source answer →
     status_of answer ≡ statuses.ReadFault → Fails source
 failed_read None source answers.ReadFault h e = absurd h
-failed_read (Some commands.Run) source answers.ReadFault h e = h.0
+failed_read (Some (commands.Run options)) source answers.ReadFault h e = h.0
 failed_read command source answer h e = cc
 
 read_fault : (words : List (List ℕ)) (source out err : Port) (status : Status) → IsAnswered words source out err status →

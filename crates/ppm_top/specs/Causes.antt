@@ -73,7 +73,7 @@ NoCommandMay source answers.NoMemory = IsUnread source
 -- the answers of a command, or of none
 abbrev pub CommandMay : Option Command → Port → Answer → Type 0
 CommandMay None source answer = NoCommandMay source answer
-CommandMay (Some commands.Run) source answer = RunMay source answer
+CommandMay (Some (commands.Run options)) source answer = RunMay source answer
 
 -- the answers to the words
 abbrev pub May : List (List ℕ) → Port → Answer → Type 0

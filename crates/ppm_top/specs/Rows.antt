@@ -9,6 +9,7 @@ use Rattle.ppm_words.specs.declared.outcome.Outcome.TheVariants as outcome
 use Rattle.ppm_top.specs.declared.refusal.Refusal.{Refusal}
 use Rattle.ppm_top.specs.Refusals.{IsRefusal}
 use Rattle.ppm_line.specs.declared.command.Command.TheVariants as commands
+use Rattle.ppm_line.specs.declared.command.RunOptions.{RunOptions}
 use Rattle.ppm_top.specs.declared.status.Status.{Status}
 use Rattle.ppm_top.specs.declared.status.Status.TheVariants as statuses
 use Rattle.ppm_top.specs.Texts.{arrays_text, trap_text, refusal_text}
@@ -37,9 +38,10 @@ pub record IsTold (err : Port) (status : Status) (r : Refusal) : Type 0 where
   pub refused : status ≡ statuses.SourceRefused
   pub err_gets : Gets err (refusal_text r)
 
--- a run was asked for, no port failed, and memory was there
+-- a run was asked for, with any options, no port failed, and memory was there
 pub record GoesWell (words : List (List ℕ)) (source out err : Port) (status : Status) : Type 0 where
-  pub run : command_of words ≡ Some commands.Run
+  pub options : RunOptions
+  pub run : command_of words ≡ Some (commands.Run options)
   pub source_holds : ¬ Fails source
   pub out_holds : ¬ Fails out
   pub err_holds : ¬ Fails err

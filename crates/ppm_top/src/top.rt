@@ -89,7 +89,7 @@ fn answer_to<S: Source>(alloc: Global, words: &[String], source: &mut S) -> Answ
     ensures { May (map string_bytes words.now) (port S.left S.fault_count source.old source.new) result }
 {
     match read_words(alloc, words) {
-        Ok(Some(Command::Run)) => run_answer(alloc, source),
+        Ok(Some(Command::Run(_))) => run_answer(alloc, source),
         Ok(None) => Answer::WordsRefused,
         Err(NoMemory) => Answer::NoMemory,
     }
