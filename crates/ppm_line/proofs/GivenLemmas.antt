@@ -11,14 +11,17 @@ use Rattle.clap.proofs.CallerReads.{signed_reads}
 use Rattle.clap.proofs.WalkLemmas.{one_text-rows}
 use Rattle.std.specs.Option.{option_map_or}
 use Rattle.clap.specs.Words.{App, Kinds, Row, Rule, Shape, Text, built, fault_of, subcommand_of, without_minus}
-use Rattle.clap.specs.Simple.{entered, filled, help_rule, label_of, names_of, rows_at, argument_words, built_leaf, inherited, marked_built, on_top, with_leaf_noted}
+use Rattle.clap.specs.Simple.{entered, filled, help_rule, label_of, names_of, rows_at, argument_words, built_leaf, inherited, marked_built, on_top}
+use Rattle.clap.specs.Simple.{with_leaf_noted}
 use Rattle.clap.specs.Walk.{Held, Names, Outcome, Step, Waiting, Walk, after_flag, after_step, answers_to, arg_by_id, arg_by_index, arg_by_long, arg_by_short}
-use Rattle.clap.specs.Walk.{attached_value, has_long, has_short, option_met, one_of, reading_by, stop_after, at_row, bundle_met, bundle_step, default_rows, finished, has_row, long_met, long_or_other, nothing_held, option_word, plain_word}
+use Rattle.clap.specs.Walk.{attached_value, has_long, has_short, option_met, one_of, reading_by, stop_after, at_row, bundle_met, bundle_step}
+use Rattle.clap.specs.Walk.{default_rows, finished, has_row, long_met, long_or_other, nothing_held, option_word, plain_word}
 use Rattle.clap.specs.Walk.{rows_after, settled, settled_rows, short_met, short_or_plain, subcommand_met, subcommand_or_other, to_positional, used, used_by_id}
 use Rattle.clap.specs.Walk.{walk, walk_from, walked, walked_from, with_default, with_values, without, word_met, more_values, row_text}
 use Rattle.clap.specs.Walk as step
 use Rattle.clap.specs.Kinds.{or_else, value_kinds}
-use Rattle.clap.specs.Faults.{bundle_fault, bundle_step_fault, entered_fault, flag_word_fault, flags_fault, level_fault, long_fault, other_fault, react_fault, settle_fault}
+use Rattle.clap.specs.Faults.{bundle_fault, bundle_step_fault, entered_fault, flag_word_fault, flags_fault, level_fault, long_fault, other_fault}
+use Rattle.clap.specs.Faults.{react_fault, settle_fault}
 use Rattle.clap.specs.Faults.{option_fault, short_fault, step_fault, turn_fault, use_fault, walk_fault, word_fault}
 use Rattle.clap.specs.ValueTests.{accepts}
 use Rattle.clap.specs.Lexer.{long_of, short_of}

@@ -14,7 +14,8 @@ use Rattle.ppm_syntax.specs.declared.parsing.Declared.{Declared}
 use Rattle.ppm_syntax.specs.declared.syntax_error.SyntaxError.{SyntaxError}
 use Rattle.ppm_syntax.specs.declared.syntax_error.SyntaxError.TheVariants as error
 use Rattle.ppm_syntax.specs.Tree.{Expression, Statement, Procedure, SourceTree, procedure_of}
-use Rattle.ppm_syntax.specs.Grammar.{Part, Level, More, OneStatement, Statements, Block, Parameter, Parameters, MoreParameters, Source, Node, Derives, DerivesTree}
+use Rattle.ppm_syntax.specs.Grammar.{Part, Level, More, OneStatement, Statements, Block, Parameter, Parameters, MoreParameters, Source, Node, Derives}
+use Rattle.ppm_syntax.specs.Grammar.{DerivesTree}
 use Rattle.ppm_syntax.specs.Grammar.{operator_at, top, mode_of, IsName, IsNumber, IsKeyword, IsSign, expression, statement, statements, parameters}
 use Rattle.ppm_syntax.specs.Limits.{nodes_of, HasLiterals, IsSmallStatement, IsSmall, IsWithin, words_of, word_limit, node_limit, depth_limit}
 use Rattle.ppm_syntax.specs.Stack.{Symbol, Tally, State, state_at, openings, passed}
