@@ -40,7 +40,8 @@ flags_pass again (suc k) flags skip so_far h e g =
     go (slice_get (chars flags) 0) skip (λ rest less. flags_pass again k rest less so_far h) e
   where
     go : (x : Option ℕ) (skip : ℕ) →
-        ((rest : Text) (less : ℕ) → flags_fault rules again k rest less h ≡ [] → HavePassed h.rows → HavePassed (bundle_met rules k rest less so_far h).0.rows) →
+        ((rest : Text) (less : ℕ) → flags_fault rules again k rest less h ≡ [] → HavePassed h.rows →
+        HavePassed (bundle_met rules k rest less so_far h).0.rows) →
         bundle_step_fault rules again x flags skip h (flags_fault rules again k) ≡ [] →
         HavePassed (bundle_step rules x flags skip so_far h (bundle_met rules k)).0.rows
     go None skip more e = g
