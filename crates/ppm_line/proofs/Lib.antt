@@ -1,2 +1,4 @@
 pub mod GivenLemmas
+mod PassedRows
+mod PassedWords
 pub mod WordsLemmas

@@ -40,7 +40,8 @@ ppm_application = with_subcommand bare_application run_application.top
 abbrev pub number_of : Text → ℕ
 number_of text = digits_value 10 (without_leading_plus text)
 
--- the options of `run` in its matches: of `--processors` the value that the words give, or else the default, which clap has put there
+-- The options of `run` in its matches. Of `--processors` it is the value that the words give, and else the default, which clap puts
+-- among the matches. So there is always one, and 0 stands for none: it is out of the range.
 abbrev pub options_in : List Row → RunOptions
 options_in rows = record { processors = option_map_or number_of (one_of (codes "processors") rows) 0 }
 
