@@ -1,5 +1,13 @@
 //! Trees of the small instance, with ends worked out by hand.
-use crate::sample::{Capsule, Counts, End, Outcome, SmallTree, Word, run};
+use crate::sample::{
+    Capsule, Counts, End, Outcome, SmallTree, Word, apart_trees_are_calm, races_are_not_calm, run,
+    samples_are_local, tables_run_in_any_order,
+};
+use crate::{
+    a_change_at_one_leaf, a_change_passes_up, a_step_in_turn, any_order, calls_resume,
+    calm_by_listed_regions, calm_by_regions, changes_what_it_writes, forks_resume, goes_by_parts,
+    has_one_end, larger_bounds_agree, locality, strands_beside_do_not_race,
+};
 use std::test::Fail;
 
 fn over(from: Word, to: Word, plus: u8, outcome: Outcome) -> Capsule {
@@ -231,5 +239,28 @@ fn a_capsule_ahead_keeps_a_calm_end_and_not_a_race(rt: HostRuntime) -> Result<()
         run(&table(), 30, fork(9, 1, 11), [2, 2, 3, 4]),
         end(finished, [2, 3, 3, 4], (3, 0, 3))
     );
+    Ok(())
+}
+
+#[test]
+fn laws_are_calls_that_do_nothing(_rt: HostRuntime) -> Result<(), Fail> {
+    larger_bounds_agree::<u8, Outcome>();
+    has_one_end::<u8, Outcome>();
+    goes_by_parts::<u8, Outcome>();
+    calls_resume::<u8, Outcome>();
+    forks_resume::<u8, Outcome>();
+    locality::<u8, Outcome>();
+    changes_what_it_writes::<u8, Outcome>();
+    strands_beside_do_not_race::<u8, Outcome>();
+    a_change_passes_up::<u8, Outcome>();
+    a_change_at_one_leaf::<u8, Outcome>();
+    a_step_in_turn::<u8, Outcome>();
+    any_order::<u8, Outcome>();
+    calm_by_regions::<u8, Outcome>();
+    calm_by_listed_regions::<u8, Outcome>();
+    samples_are_local();
+    tables_run_in_any_order();
+    races_are_not_calm();
+    apart_trees_are_calm();
     Ok(())
 }

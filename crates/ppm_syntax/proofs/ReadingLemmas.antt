@@ -1,5 +1,5 @@
 -- A text has at most one tree.
-use Rattle.std.proofs.Common.{◌≡◌, subst}
+use Rattle.std.proofs.Common.{subst}
 use Rattle.ppm_syntax.specs.Grammar.{DerivesTree}
 use Rattle.ppm_syntax.specs.Correct.{HaveOneTree}
 use Rattle.ppm_text.proofs.CuttingLemmas.{one_cutting}

@@ -1,7 +1,7 @@
 //! The top call over memory: what is written and answered for whole inputs, and where ports fail.
 ghost use Rattle.std.specs.Prelude.{◌<◌};
 
-use crate::{Status, ppm};
+use crate::{Status, have_one_refusal, ppm};
 use ppm_ports::{MemorySink, MemorySource, Silent, Source};
 use std::alloc::Global;
 use std::process::Abort;
@@ -205,6 +205,7 @@ fn texts_are_refused(rt: HostRuntime) -> Result<(), Fail> {
     for (text, reason) in cases {
         is_refused(&rt, rt.alloc(), text, reason)?;
     }
+    have_one_refusal();
     Ok(())
 }
 
