@@ -16,3 +16,5 @@ pub use delivery::deliver;
 pub use refusal::{Pass, Refusal};
 pub use status::Status;
 
+#[cfg(test)]
+mod tests;

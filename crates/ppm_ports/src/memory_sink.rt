@@ -102,6 +102,7 @@ impl Sink for MemorySink {
         let count = bytes.len().min(self.most).min(free);
         match self.bytes.extend_from_slice(&bytes[..count]) {
             Ok(()) => Ok(count),
+            // The memory for `room` bytes was taken when the sink was made.
             Err(_) => unreachable!(),
         }
     }

@@ -103,7 +103,8 @@ fn push_expression(
     Ok(())
 }
 
-/// The first capsule of an assignment: index and value go into the two extra slots.
+/// The first capsule of an assignment: index and value go into the two extra slots. It reads array elements and writes
+/// none; the second one writes one and reads none. So neither writes what it has read.
 fn keep_capsule(
     alloc: Global,
     arrays: &[Array],

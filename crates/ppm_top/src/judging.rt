@@ -103,6 +103,7 @@ fn source_of(alloc: Global, text: &[u8]) -> Result<Source, JudgeError>
 {
     let all = tokens(alloc, text)?;
     let source = parse(alloc, &all)?;
+    // What the type of `source` keeps is known once its tree was seen.
     let _ = source.tree();
     Ok(source)
 }
@@ -114,6 +115,7 @@ fn admitted_of(alloc: Global, text: &[u8]) -> Result<Admitted, JudgeError>
 {
     let source = source_of(alloc, text)?;
     let admitted = admit(alloc, source)?;
+    // What the type of `admitted` keeps is known once its source was seen.
     let _ = admitted.source();
     Ok(admitted)
 }

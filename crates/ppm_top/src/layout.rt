@@ -72,6 +72,7 @@ impl Layout {
         ensures within { result + word < total_of self.now }
         ensures few { total_of self.now ≤ word_limit }
     {
+        // The word shows that the array has one, and so that it begins within the words.
         let _ = word;
         number_at(&self.bases, array)
     }

@@ -78,6 +78,7 @@ pub fn outcome_of(alloc: Global, admitted: &Admitted) -> Result<Outcome, Outcome
     let tree = admitted.source().tree();
     let main = match tree.procs.as_slice() {
         [main] => main,
+        // A tree has one procedure at most, and an admitted one has `main`.
         _ => unreachable!(),
     };
     match cut(alloc, tree.arrays.as_slice(), main) {

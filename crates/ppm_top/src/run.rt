@@ -46,9 +46,11 @@ pub fn run_command<R, S: Source, K: Sink, E: Sink, W: Watch>(
 
     ensures nothing_told { map W.told watch.new.items ≡ map W.told watch.old.items }
 {
+    // Threads, options and watchers come with more processors than one.
     let _ = rt;
     let _ = options;
     let _ = &watch;
+    // The rows rest on these laws; the calls do nothing.
     have_one_outcome();
     have_one_refusal();
     let answer = run_answer(alloc, source);

@@ -1,8 +1,11 @@
 //! The top call over memory: what is written and answered for whole inputs, and where ports fail.
-ghost use Rattle.std.specs.Prelude.{◌<◌};
+ghost use Rattle.std.specs.Prelude.{◌≡◌, ◌<◌, IfOk, length};
+ghost use Rattle.ppm_top.specs.Bounds.{watcher_count};
 
-use crate::{Status, have_one_refusal, ppm};
-use ppm_ports::{MemorySink, MemorySource, Silent, Source};
+use crate::{WATCHERS, have_one_outcome, have_one_refusal, ppm, run_command};
+use ppm_answers::Status;
+use ppm_line::RunOptions;
+use ppm_ports::{MemorySink, MemorySource, Recorder, Silent, Source};
 use std::alloc::Global;
 use std::process::Abort;
 use std::test::Fail;
@@ -12,6 +15,9 @@ const FIRST: &str = "array a[2]; proc main(mut a) { a[0] = 5; a[1] = a[0] + 2; }
 
 /// A source up to a value.
 const VALUE: &str = "array a[1]; proc main(mut a) { a[0] = ";
+
+/// The bytes for which a sink has room.
+const ROOM: usize = 300_000;
 
 /// Words that ask for a run.
 const RUN: &[&str] = &["ppm", "run"];
@@ -56,7 +62,7 @@ fn ppm_over_memory(
     let mut source = MemorySource::new(text.to_vec(alloc)?, most, failing.reads.to_vec(alloc)?);
     let mut out = sink(alloc, most, failing.outs)?;
     let mut err = sink(alloc, most, failing.errs)?;
-    let mut watch = vec![in alloc; Silent; 64]?;
+    let mut watch = vec![in alloc; Silent; WATCHERS]?;
     let status = ppm(
         &(),
         alloc,
@@ -118,7 +124,7 @@ fn sink(alloc: Global, most: usize, failing: &[u64]) -> Result<MemorySink, Fail>
     requires { 0 < most }
 {
     let failing = failing.to_vec(alloc)?;
-    Ok(MemorySink::new(alloc, 100, most, failing).map_err(|_| "memory")?)
+    Ok(MemorySink::new(alloc, ROOM, most, failing).map_err(|_| "memory")?)
 }
 
 #[test]
@@ -205,6 +211,7 @@ fn texts_are_refused(rt: HostRuntime) -> Result<(), Fail> {
     for (text, reason) in cases {
         is_refused(&rt, rt.alloc(), text, reason)?;
     }
+    have_one_outcome();
     have_one_refusal();
     Ok(())
 }
@@ -347,21 +354,88 @@ fn each_read_fails_in_turn(rt: HostRuntime) -> Result<(), Fail> {
 }
 
 #[test]
-fn each_write_fails_in_turn(rt: HostRuntime) -> Result<(), Fail> {
-    let text = b"a 5 7\n".as_slice();
-    for call in 0..3 {
-        let failing = Failing {
-            outs: &[call as u64],
-            ..NONE
-        };
-        let got = ppm_over_memory(rt.alloc(), FIRST.as_bytes(), RUN, 2, failing)?;
-        assert_eq!(rt; got.status, Status::WriteFault, "write {call}");
-        assert_eq!(rt; got.out.as_slice(), &text[..2 * call]);
-        assert_eq!(rt; got.err.as_slice(), b"write fault\n".as_slice());
-    }
-    let failing = Failing { errs: &[1], ..NONE };
-    let got = ppm_over_memory(rt.alloc(), b"proc", RUN, 4, failing)?;
+fn a_write_that_fails_makes_status_8(rt: HostRuntime) -> Result<(), Fail> {
+    let failing = Failing { outs: &[1], ..NONE };
+    let got = ppm_over_memory(rt.alloc(), FIRST.as_bytes(), RUN, 2, failing)?;
     assert_eq!(rt; got.status, Status::WriteFault);
-    assert_eq!(rt; got.err.as_slice(), b"sour".as_slice());
+    assert_eq!(rt; got.out.as_slice(), b"a ".as_slice());
+    assert_eq!(rt; got.err.as_slice(), b"write fault\n".as_slice());
+    // A fault of err, whatever the answer was: a refusal, refused words, a read fault.
+    let errs = Failing { errs: &[1], ..NONE };
+    let both = Failing {
+        reads: &[0],
+        errs: &[1],
+        ..NONE
+    };
+    let cases: [(&str, &[&str], Failing, &str); 3] = [
+        ("proc", RUN, errs, "sour"),
+        (FIRST, &["ppm", "walk"], errs, "word"),
+        (FIRST, RUN, both, "read"),
+    ];
+    for (text, words, failing, front) in cases {
+        let got = ppm_over_memory(rt.alloc(), text.as_bytes(), words, 4, failing)?;
+        assert_eq!(rt; got.status, Status::WriteFault, "{text}");
+        assert_eq!(rt; got.err.as_slice(), front.as_bytes(), "{text}");
+        assert_eq!(rt; got.out.as_slice(), b"".as_slice(), "{text}");
+    }
+    Ok(())
+}
+
+#[test]
+fn a_long_output_is_written_whole(rt: HostRuntime) -> Result<(), Fail> {
+    let alloc = rt.alloc();
+    let zeros = repeated(alloc, "a", " 0", 100_000, "\n")?;
+    ends_with(&rt, alloc, "array a[100000]; proc main() { }", zeros.as_str())
+}
+
+/// A recorder for each processor that a run may have.
+fn recorders(alloc: Global) -> Result<Vec<Recorder>, Fail>
+    ensures { IfOk result (λ all. length all.items ≡ watcher_count) }
+{
+    let mut all = Vec::new(alloc);
+    for _ in 0..WATCHERS {
+        all.push(Recorder::new(alloc))?;
+    }
+    Ok(all)
+}
+
+#[test]
+fn watchers_are_told_nothing(rt: HostRuntime) -> Result<(), Fail> {
+    let alloc = rt.alloc();
+    let mut watch = recorders(alloc)?;
+    let mut given = Vec::new(alloc);
+    for word in RUN {
+        given.push(String::from_str(alloc, word)?)?;
+    }
+    let bytes = FIRST.as_bytes().to_vec(alloc)?;
+    let mut source = MemorySource::new(bytes, 9, Vec::new(alloc));
+    let mut out = sink(alloc, 9, &[])?;
+    let mut err = sink(alloc, 9, &[])?;
+    let status = ppm(
+        &(),
+        alloc,
+        &given,
+        &mut source,
+        &mut out,
+        &mut err,
+        &mut watch,
+    );
+    assert_eq!(rt; status, Status::Ended);
+    // What is left of the source is the empty text.
+    let status = run_command(
+        &(),
+        alloc,
+        RunOptions { processors: 1 },
+        &mut source,
+        &mut out,
+        &mut err,
+        &mut watch,
+    );
+    assert_eq!(rt; status, Status::SourceRefused);
+    assert_eq!(rt; out.bytes(), b"a 5 7\n".as_slice());
+    assert_eq!(rt; err.bytes(), b"source refused: region 8 line 0\n".as_slice());
+    for recorder in &watch {
+        assert_eq!(rt; recorder.events().len(), 0);
+    }
     Ok(())
 }

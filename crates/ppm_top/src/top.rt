@@ -45,6 +45,7 @@ pub fn ppm<R, S: Source, K: Sink, E: Sink, W: Watch>(
 
     ensures nothing_told { map W.told watch.new.items ≡ map W.told watch.old.items }
 {
+    // The rows rest on these laws; the calls do nothing.
     have_one_outcome();
     have_one_refusal();
     obey(rt, alloc, words, source, out, err, watch)
