@@ -3,15 +3,15 @@ use Rattle.std.proofs.Common.{◌≡◌, ◌≢◌, ℕ, List, Result, Err, refl
 use Rattle.ppm_text.specs.declared.token.Token.{Token}
 use Rattle.ppm_text.specs.declared.text_error.TextError.{TextError}
 use Rattle.ppm_text.specs.declared.text_error.TextError.TheVariants as text_error
-use Rattle.ppm_text.specs.Cutting.{IsRefused}
+use Rattle.ppm_text.specs.Refusals.{IsRefused}
 use Rattle.ppm_syntax.specs.declared.limit.Limit.{Limit}
 use Rattle.ppm_syntax.specs.declared.syntax_error.SyntaxError.{SyntaxError}
 use Rattle.ppm_syntax.specs.declared.syntax_error.SyntaxError.TheVariants as syntax_error
 use Rattle.ppm_syntax.specs.declared.region_error.RegionError.{RegionError}
 use Rattle.ppm_syntax.specs.declared.region_error.RegionError.TheVariants as region_error
-use Rattle.ppm_syntax.specs.Tree.{SourceTree}
-use Rattle.ppm_syntax.specs.Faults as syntax_faults
-use Rattle.ppm_syntax.specs.RegionFaults as region_faults
+use Rattle.ppm_syntax.specs.Tree.{ProgramTree}
+use Rattle.ppm_syntax.specs.SyntaxRefusals as syntax_faults
+use Rattle.ppm_syntax.specs.RegionRefusals as region_faults
 use Rattle.ppm_top.specs.Refusals.{IsTextFault, IsSyntaxFault, IsRegionFault, HasNoRoom, by_text, by_syntax, by_region, by_capsules}
 use Rattle.ppm_top.specs.declared.outcome.OutcomeError.{OutcomeError}
 use Rattle.ppm_top.specs.declared.outcome.OutcomeError.TheVariants as outcome_error
@@ -49,7 +49,7 @@ syntax_fault r ts n m (syntax_error.TooMany p which) is len given expected ended
 syntax_fault r ts n m syntax_error.NoMemory is len given expected ended deep many = absurd (given refl)
 
 -- what the rules answer is a fault of the tree
-pub region_fault : (t : SourceTree) (e : RegionError) → e ≢ region_error.NoMemory → region_faults.HasFault t e → region_faults.IsFault t e
+pub region_fault : (t : ProgramTree) (e : RegionError) → e ≢ region_error.NoMemory → region_faults.HasFault t e → region_faults.IsFault t e
 region_fault t region_error.NoMemory given h = absurd (given refl)
 region_fault t (region_error.UnknownName l) given h = h
 region_fault t (region_error.TwiceNamed l) given h = h

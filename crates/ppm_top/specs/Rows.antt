@@ -53,7 +53,7 @@ pub record GoesWell (o : Outside) (status : Status) : Type 0 where
   pub memory : status ≢ statuses.NoMemory
 
 -- The rows of `run`. Status 0, 1 and 2 come only where the text that was read ends so, and its text is written. Where all goes well,
--- the text is judged; and of a source that tells its bytes, each outcome is shown and each refusal reported exactly where the bytes
+-- the text is judged; and of a source whose bytes are known, each outcome is shown and each refusal reported exactly where the bytes
 -- come to it or have it.
 pub record RunRows (o : Outside) (status : Status) : Type 0 where
   pub ended : status ≡ statuses.Ended → WritesArrays o
@@ -76,7 +76,7 @@ pub record RefusesWords (words : List (List ℕ)) (o : Outside) (status : Status
 
 -- Status 7 comes only where the source failed, and 8 only where out or err did. A fault of the source makes it 7, where out and err
 -- hold and memory is there; a fault of out or of err makes it 8, whatever else happened.
-pub record TellsFaults (o : Outside) (status : Status) : Type 0 where
+pub record ReportsFaults (o : Outside) (status : Status) : Type 0 where
   pub read_fault : status ≡ statuses.ReadFault → Fails o.source
   pub write_fault : status ≡ statuses.WriteFault → Fails o.out ⊎ Fails o.err
   pub source_fails : ¬ Holds o.source → IsOneOf status (statuses.ReadFault ∷ statuses.WriteFault ∷ statuses.NoMemory ∷ [])
@@ -93,5 +93,5 @@ IsSilentOnOut o status =
 pub record ProgramRows (words : List (List ℕ)) (o : Outside) (status : Status) : Type 0 where
   pub run : RunsByWords words o status
   pub words_refused : RefusesWords words o status
-  pub faults : TellsFaults o status
+  pub faults : ReportsFaults o status
   pub nothing_on_out : IsSilentOnOut o status

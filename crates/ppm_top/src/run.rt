@@ -14,11 +14,9 @@ use crate::laws::{have_one_outcome, have_one_refusal};
 use ppm_answers::{Answer, Status, deliver};
 use ppm_line::RunOptions;
 use ppm_ports::{ReadError, Sink, Source, Watch, read_whole};
+use ppm_text::TEXT_LIMIT;
 use ppm_words::Outcome;
 use std::alloc::Global;
-
-/// The bytes that a text may have.
-const TEXT_LIMIT: usize = 1_048_576;
 
 /// Runs the text that is read: its arrays or its trap are written on `out`, its refusal on `err`.
 /// There is a watcher for each of 64 processors. No watcher is told anything yet.

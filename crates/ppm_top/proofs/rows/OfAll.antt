@@ -14,7 +14,7 @@ use Rattle.ppm_line.specs.declared.command.Command.TheVariants as commands
 use Rattle.ppm_line.specs.Words.{command_of}
 use Rattle.ppm_top.specs.Causes.{IsUnread, RunMay, NoCommandMay, CommandMay, Answers, IsAnswered}
 use Rattle.ppm_top.specs.Correct.{HaveOneOutcome, HaveOneRefusal}
-use Rattle.ppm_top.specs.Rows.{IsOneOf, RefusesWords, TellsFaults, ProgramRows}
+use Rattle.ppm_top.specs.Rows.{IsOneOf, RefusesWords, ReportsFaults, ProgramRows}
 use Rattle.ppm_top.proofs.rows.Delivered as delivered
 use Rattle.ppm_top.proofs.rows.OfRun.{run_rows}
 
@@ -53,8 +53,8 @@ read_answer may answers.ReadFault h e = h
 read_answer may answer h e = cc
 
 -- faults are told exactly, whatever the command is
-tells_faults : (o : Outside) (may : Answer → Type 0) (status : Status) → TellsReads o may → Answers may o status → TellsFaults o status
-tells_faults o may status tells a = record {
+reports_faults : (o : Outside) (may : Answer → Type 0) (status : Status) → TellsReads o may → Answers may o status → ReportsFaults o status
+reports_faults o may status tells a = record {
   read_fault = read_fault;
   write_fault = delivered.write_failed o.out o.err a.answer status a.delivered;
   source_fails = λ f. source_fails (tells.fails a.answer a.cause f) (delivered.own_or_fault o.out o.err a.answer status a.delivered);
@@ -73,8 +73,8 @@ tells_faults o may status tells a = record {
   source_fails (inl r) (inr w) = inl (w.own ∙ r)
   source_fails (inr r) (inr w) = inr (inr (inl (w.own ∙ r)))
 
-faults : (words : List (List ℕ)) (o : Outside) (status : Status) → IsAnswered words o status → TellsFaults o status
-faults words o status a = tells_faults o (CommandMay (command_of words) o) status (command_tells o (command_of words)) a
+faults : (words : List (List ℕ)) (o : Outside) (status : Status) → IsAnswered words o status → ReportsFaults o status
+faults words o status a = reports_faults o (CommandMay (command_of words) o) status (command_tells o (command_of words)) a
 
 -- an answer of status 3 comes without a command
 no_command : (command : Option Command) (o : Outside) (answer : Answer) → CommandMay command o answer →

@@ -8,7 +8,7 @@ use Rattle.ppm_words.specs.declared.outcome.Outcome.{Outcome}
 use Rattle.ppm_text.specs.Limits.{text_limit}
 use Rattle.ppm_text.specs.declared.text_error.TextError.{TextError}
 use Rattle.ppm_text.specs.declared.text_error.TextError.TheVariants as text_error
-use Rattle.ppm_text.specs.Cutting.{IsRefused, too_long, faulty, no_memory}
+use Rattle.ppm_text.specs.Refusals.{IsRefused, too_long, faulty, no_memory}
 use Rattle.ppm_answers.specs.declared.refusal.Refusal.{Refusal}
 use Rattle.ppm_top.specs.Refusals.{IsTextFault, IsSyntaxFault, IsRegionFault, HasNoRoom, IsRefusal, by_text, by_syntax, by_region, by_capsules}
 use Rattle.ppm_top.specs.Causes.{ComesTo, ReadComesTo, ReadIsRefused}

@@ -1,7 +1,7 @@
 use Rattle.std.proofs.Common.{refl}
 use Rattle.std.proofs.lemmas.Result.{err_from_is_err_and}
 use Rattle.ppm_top.proofs.StopLemmas.{text_stops, syntax_stops, syntax_fault}
-use Rattle.ppm_top.proofs.judging.source_of.Goals as goal
+use Rattle.ppm_top.proofs.judging.program_of.Goals as goal
 
 -- the text has a fault of its bytes
 pub returns-in_err-all-clause-refused : goal.returns-in_err-all-clause-refused
@@ -10,10 +10,10 @@ returns-in_err-all-clause-refused c =
     rw (p.1, p.2) (text_stops c.args.text.now _ c.in_err-all.ensures.refused)
 
 -- its tokens have a fault
-pub returns-in_err-source-clause-refused : goal.returns-in_err-source-clause-refused
-returns-in_err-source-clause-refused c =
-    let p = err_from_is_err_and c.from_residual-in_err-source.result c.from_residual-in_err-source.ensures.1 in
-    let f = c.in_err-source.ensures in
+pub returns-in_err-program-clause-refused : goal.returns-in_err-program-clause-refused
+returns-in_err-program-clause-refused c =
+    let p = err_from_is_err_and c.from_residual-in_err-program.result c.from_residual-in_err-program.ensures.1 in
+    let f = c.in_err-program.ensures in
     rw (p.1, p.2) (syntax_stops c.args.text.now _ (λ given. record {
       tokens = c.in_ok-all.all.tokens;
       short = c.in_ok-all.ensures.within;
