@@ -1,5 +1,5 @@
 //! The program `ppm`: the words of the command line and the standard streams, handed to the top call.
-//! Model: the standard streams are ports that tell no bytes; 64 watchers keep nothing.
+//! Model: the standard streams are ports that show no bytes; 64 watchers keep nothing.
 //! Contract: it is safe and returns. No clause says more: it ends with the status of `ppm_top::ppm`, or with 9 where
 //! memory is refused before.
 //! Stands on `ppm_top` and `ppm_ports`.

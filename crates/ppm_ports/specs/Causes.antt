@@ -1,4 +1,4 @@
--- When a fault may be told.
+-- When a fault may be answered.
 use Rattle.std.specs.Prelude.{◌≡◌, if◌then◌else◌, is_err, ℕ, ◌+◌, ◌-◌, ◌^◌, ◌≤◌, min, Result, OnErr}
 
 -- a count one up, which stays at the last number of 64 bits
@@ -13,7 +13,7 @@ Rose before now = one_up before ≤ now
 abbrev pub Counts : {T E : Type 0} → ℕ → ℕ → Result T E → Type 0
 Counts before now result = now ≡ (if is_err result then one_up before else before)
 
--- the count doesn't fall, and an error is told only where it rose
+-- the count doesn't fall, and an error is answered only where it rose
 pub record HasCause {T E : Type 0} (before now : ℕ) (result : Result T E) : Type 0 where
   pub later : before ≤ now
   pub failed : OnErr result (Rose before now)

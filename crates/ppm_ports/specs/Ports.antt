@@ -4,14 +4,14 @@ use Rattle.std.specs.Io.KnownBytes.{Appends}
 use Rattle.ppm_ports.specs.Causes.{Rose}
 use Rattle.ppm_ports.specs.Whole.{WritesFront}
 
--- the bytes that a port tells, and its count of faults, before a call and after it
+-- the bytes that a port shows, and its count of faults, before a call and after it
 pub record Port : Type 0 where
   pub before : Option (List ℕ)
   pub now : Option (List ℕ)
   pub faults_before : ℕ
   pub faults_now : ℕ
 
--- the port that tells these bytes and counts these faults
+-- the port that shows these bytes and counts these faults
 abbrev pub port : {K : Type 0} → (K → Option (List ℕ)) → (K → ℕ) → K → K → Port
 port bytes faults old new = record { before = bytes old; now = bytes new; faults_before = faults old; faults_now = faults new }
 

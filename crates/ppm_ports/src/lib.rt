@@ -1,5 +1,5 @@
 //! The ports: where bytes come from, where they go, and who is told the events of a run.
-//! Model: a port tells what is left, was written or was told, where it can; it counts its faults.
+//! Model: a port shows what is left, was written or was told, where it can; it counts its faults.
 //! Contract: what a call moves, when it may fail (`specs/Causes`), and whole texts (`specs/Whole`).
 //! Stands on `ppm_words`; all commands read, write and tell through it.
 //! After Rust's `Read` and `Write`; the counts of faults are this project's.

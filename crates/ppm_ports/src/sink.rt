@@ -8,7 +8,7 @@ use crate::failed::Failed;
 
 /// A sink of bytes, which counts its faults.
 pub trait Sink {
-    /// The bytes that were written, where the sink tells them.
+    /// The bytes that were written, where the sink shows them.
     ghost written: { Self → Option (List ℕ) };
 
     /// How often the sink has failed. It stays at 2^64 - 1.

@@ -8,7 +8,7 @@ use crate::failed::Failed;
 
 /// A source of bytes, which counts its faults.
 pub trait Source {
-    /// The bytes that are left, where the source tells them.
+    /// The bytes that are left, where the source shows them.
     ghost left: { Self → Option (List ℕ) };
 
     /// How often the source has failed. It stays at 2^64 - 1.

@@ -9,7 +9,7 @@ use crate::sink::Sink;
 use std::io::Write;
 
 /// A writer whose errors are counted, and the calls in which it took none of the bytes.
-/// It tells what was written where the writer does.
+/// It shows what was written where the writer does.
 #[derive(Drop)]
 pub struct StdSink<W: Write + Drop> {
     writer: W,

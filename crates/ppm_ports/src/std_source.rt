@@ -8,7 +8,7 @@ use crate::failed::Failed;
 use crate::source::Source;
 use std::io::Read;
 
-/// A reader whose errors are counted. It tells what is left where the reader does.
+/// A reader whose errors are counted. It shows what is left where the reader does.
 #[derive(Drop)]
 pub struct StdSource<R: Read + Drop> {
     reader: R,

@@ -2,14 +2,14 @@
 use Rattle.std.proofs.Common.{◌≡◌, suc, ◌+◌, ◌≤◌, ◌<◌, List, [], ◌∷◌, ◌++◌, length, map, refl, ap, subst, arith, length-append}
 use Rattle.std.proofs.lemmas.List.{append-nil, map-append, length-map}
 use Rattle.std.proofs.lemmas.List.Elements.{All-push}
-use Rattle.ppm_text.specs.declared.token.Keyword.TheVariants as word
+use Rattle.ppm_text.specs.declared.token.Keyword.TheVariants as keyword
 use Rattle.ppm_text.specs.declared.token.Token.{Token}
 use Rattle.ppm_syntax.specs.declared.tree.Array.{Array}
 use Rattle.ppm_syntax.specs.declared.tree.Proc.{Proc}
 use Rattle.ppm_syntax.specs.declared.parsing.Declared.{Declared}
-use Rattle.ppm_syntax.specs.Tree.{Procedure, SourceTree, procedure_of}
+use Rattle.ppm_syntax.specs.Tree.{Procedure, ProgramTree, procedure_of}
 use Rattle.ppm_syntax.specs.Limits.{array_limit, word_limit, procedure_limit, depth_limit, IsSmall}
-use Rattle.ppm_syntax.specs.Grammar.{IsKeyword, Source, source, Derives}
+use Rattle.ppm_syntax.specs.Grammar.{IsKeyword, Program, program, Derives}
 use Rattle.ppm_syntax.specs.Grammar as g
 use Rattle.ppm_syntax.specs.Parsing.{ReadsArray, ReadsProcedure, tree_so_far, joined, IsSoFar, AddsItem}
 use Rattle.ppm_syntax.specs.Stack.{with_count}
@@ -22,24 +22,24 @@ use Rattle.ppm_syntax.proofs.TallyLemmas.{few_words, few_arrays}
 use Rattle.ppm_syntax.proofs.DeclarationLemmas.{array_passes, procedure_passes, with_procedure}
 
 -- an array alone
-abbrev pub one_array : Array → SourceTree
+abbrev pub one_array : Array → ProgramTree
 one_array a = record { arrays = a ∷ []; procs = [] }
 
 -- a procedure alone
-abbrev pub one_procedure : Procedure → SourceTree
+abbrev pub one_procedure : Procedure → ProgramTree
 one_procedure p = record { arrays = []; procs = p ∷ [] }
 
 module _ (w : Token) (ts : List Token) (old : Declared) (so_far : IsSoFar old) where
   -- an array more is declared
-  pub array_added : (a : Array) (rest : List Token) (new : Declared) → IsKeyword w word.Array → ReadsArray old.words ts a rest →
+  pub array_added : (a : Array) (rest : List Token) (new : Declared) → IsKeyword w keyword.Array → ReadsArray old.words ts a rest →
       length old.arrays.items < array_limit → a.length + new.words ≡ old.words → new.arrays.items ≡ old.arrays.items ++ (a ∷ []) →
       new.procs.items ≡ old.procs.items → AddsItem (w ∷ ts) old new rest
   array_added a rest new is r few words arrays procs =
       let tree = same_tree (tree_so_far new) (joined (tree_so_far old) (one_array a)) arrays (rw (procs, append-nil) refl) in record {
         item = one_array a;
         reads = λ later m.
-            rw r.shape (subst (λ l. Derives depth_limit Source (w ∷ r.name ∷ r.opened ∷ r.number ∷ r.closed ∷ r.semicolon ∷ rest)
-            (source (record { name = a.name; line = l; length = a.length } ∷ later.arrays) later.procs) []) r.at
+            rw r.shape (subst (λ l. Derives depth_limit Program (w ∷ r.name ∷ r.opened ∷ r.number ∷ r.closed ∷ r.semicolon ∷ rest)
+            (program (record { name = a.name; line = l; length = a.length } ∷ later.arrays) later.procs) []) r.at
             (g.array {d = 31} is r.is_name r.is_opened r.is_number r.is_closed r.is_semicolon m));
         tree = tree;
         so_far = record {
@@ -69,7 +69,7 @@ module _ (w : Token) (ts : List Token) (old : Declared) (so_far : IsSoFar old) w
       }
 
   -- a procedure more is declared
-  pub procedure_added : (p : Proc) (rest : List Token) (new : Declared) → IsKeyword w word.Proc → ReadsProcedure depth_limit ts (procedure_of p) rest →
+  pub procedure_added : (p : Proc) (rest : List Token) (new : Declared) → IsKeyword w keyword.Proc → ReadsProcedure depth_limit ts (procedure_of p) rest →
       length old.procs.items < procedure_limit → new.words ≡ old.words → new.arrays.items ≡ old.arrays.items →
       new.procs.items ≡ old.procs.items ++ (p ∷ []) → AddsItem (w ∷ ts) old new rest
   procedure_added p rest new is r few words arrays procs =
@@ -78,8 +78,8 @@ module _ (w : Token) (ts : List Token) (old : Declared) (so_far : IsSoFar old) w
         item = one_procedure (procedure_of p);
         reads = λ later m.
             let q = procedure_of p in
-            rw r.shape (subst (λ l. Derives depth_limit Source (w ∷ r.name ∷ r.opened ∷ r.inside)
-            (source later.arrays (record { name = q.name; line = l; params = q.params; body = q.body } ∷ later.procs)) []) r.at
+            rw r.shape (subst (λ l. Derives depth_limit Program (w ∷ r.name ∷ r.opened ∷ r.inside)
+            (program later.arrays (record { name = q.name; line = l; params = q.params; body = q.body } ∷ later.procs)) []) r.at
             (g.proc {d = 31} is r.is_name r.is_opened (parameters_at 31 r.params) r.is_closed r.body m));
         tree = tree;
         so_far = record {

@@ -4,7 +4,7 @@ use Rattle.ppm_text.specs.declared.token.Token.{Token}
 use Rattle.ppm_syntax.specs.declared.stop.Stop.{Stop}
 use Rattle.ppm_syntax.specs.declared.syntax_error.SyntaxError.{SyntaxError}
 use Rattle.ppm_syntax.specs.declared.syntax_error.SyntaxError.TheVariants as error
-use Rattle.ppm_syntax.specs.Faults.{IsFault}
+use Rattle.ppm_syntax.specs.SyntaxRefusals.{IsFault}
 use Rattle.ppm_syntax.specs.Parsing.{of_stop, Tells}
 use Rattle.ppm_syntax.specs.Stack.{beginning}
 use Rattle.ppm_syntax.specs.Verdict.{verdict}

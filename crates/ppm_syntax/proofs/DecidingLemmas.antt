@@ -4,7 +4,7 @@ use Rattle.std.proofs.Common.{List, [], ◌∷◌, ◌++◌, map, take, get_or, 
 use Rattle.std.proofs.lemmas.Bool.{cases_lt}
 use Rattle.std.proofs.lemmas.List.{take_more, take_all, map-append}
 use Rattle.std.proofs.lemmas.List.Elements.{Contains-append_left, Contains-push, Contains-push_cases}
-use Rattle.ppm_syntax.specs.RegionFaults.{IsNowhere, IsFirstLine}
+use Rattle.ppm_syntax.specs.RegionRefusals.{IsNowhere, IsFirstLine}
 use Rattle.ppm_syntax.specs.Deciding.{IsLeastLine, earlier_of, HasOneAt}
 
 -- it is so at one line alone

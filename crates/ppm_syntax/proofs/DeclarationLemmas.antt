@@ -2,14 +2,14 @@
 use Rattle.std.proofs.Common.{◌≡◌, ℕ, suc, ◌+◌, ◌≤◌, List, [], ◌∷◌, length, refl, ◌∙◌, arith}
 use Rattle.std.specs.Prelude.{None}
 use Rattle.std.specs.List.{All}
-use Rattle.ppm_text.specs.declared.token.Keyword.TheVariants as word
+use Rattle.ppm_text.specs.declared.token.Keyword.TheVariants as keyword
 use Rattle.ppm_text.specs.declared.token.Sign.TheVariants as sign
 use Rattle.ppm_text.specs.declared.token.Token.{Token}
 use Rattle.ppm_syntax.specs.declared.tree.Param.{Param}
 use Rattle.ppm_syntax.specs.declared.stop.Stop.{Stop}
 use Rattle.ppm_syntax.specs.Tree.{Statement}
 use Rattle.ppm_syntax.specs.Limits.{array_limit, word_limit, procedure_limit, parameter_limit, depth_limit, IsSmallStatement}
-use Rattle.ppm_syntax.specs.Grammar.{IsName, IsNumber, IsKeyword, IsSign, Parameters, Block, parameters, statements, Derives}
+use Rattle.ppm_syntax.specs.Grammar.{IsNameToken, IsNumber, IsKeyword, IsSign, Parameters, Block, parameters, statements, Derives}
 use Rattle.ppm_syntax.specs.Parsing.{InFront, Misses, Fails, HasWordsLeft, HasParameters, Anything, ReadsParameters, ReadsStatements, ReadsProcedure}
 use Rattle.ppm_syntax.specs.Stack.{Symbol, Tally, state_at, openings, passed, with_count}
 use Rattle.ppm_syntax.specs.Stack as stack
@@ -21,7 +21,7 @@ use Rattle.ppm_syntax.proofs.ParameterLemmas.{parameters_pass}
 use Rattle.ppm_syntax.proofs.StatementLemmas.{block_passes}
 
 -- the name of an array and its length in brackets are passed over, and the words counted
-pub length_passes : (n o l q : Token) (x : List ℕ) (z : ℕ) (ts : List Token) (st : List Symbol) (c : Tally) → IsName n x → IsSign o sign.OpenBracket →
+pub length_passes : (n o l q : Token) (x : List ℕ) (z : ℕ) (ts : List Token) (st : List Symbol) (c : Tally) → IsNameToken n x → IsSign o sign.OpenBracket →
     IsNumber l z → IsSign q sign.CloseBracket → suc (openings st) ≤ depth_limit → passed c ≡ None → c.words + z ≤ word_limit →
     verdict (state_at (stack.ArrayName ∷ st) c) (n ∷ o ∷ l ∷ q ∷ ts) ≡ verdict (state_at (stack.Semicolon ∷ st) (with_count (stack.SomeWords z) c)) ts
 length_passes n o l q x z ts st c n_is o_is l_is q_is low none few =
@@ -34,7 +34,7 @@ length_passes n o l q x z ts st c n_is o_is l_is q_is low none few =
 
 -- behind the bracket the semicolon is missing
 pub array_unended : (words z : ℕ) (x : List ℕ) (line place place' place2 : ℕ) (ts behind inside end closed : List Token) (e : Stop) → z ≤ words →
-    InFront (λ t. IsName t x × (t.line ≡ line)) ts behind → InFront (λ t. IsSign t sign.OpenBracket × (t.place ≡ place)) behind inside →
+    InFront (λ t. IsNameToken t x × (t.line ≡ line)) ts behind → InFront (λ t. IsSign t sign.OpenBracket × (t.place ≡ place)) behind inside →
     InFront (λ t. IsNumber t z × (t.place ≡ place')) inside end → InFront (λ t. IsSign t sign.CloseBracket × (t.place ≡ place2)) end closed →
     Misses (λ t. IsSign t sign.Semicolon) closed e → Fails depth_limit (HasWordsLeft words) (stack.ArrayName ∷ []) ts e
 array_unended words z x line place place' place2 ts behind inside end closed e few n o l q m = record {
@@ -46,7 +46,7 @@ array_unended words z x line place place' place2 ts behind inside end closed e f
 }
 
 -- the name of a procedure and the parenthesis behind it are passed over
-pub head_passes : (n o : Token) (x : List ℕ) (ts : List Token) (st : List Symbol) (c : Tally) → IsName n x → IsSign o sign.OpenParen →
+pub head_passes : (n o : Token) (x : List ℕ) (ts : List Token) (st : List Symbol) (c : Tally) → IsNameToken n x → IsSign o sign.OpenParen →
     suc (openings st) ≤ depth_limit → passed c ≡ None →
     verdict (state_at (stack.ProcName ∷ st) c) (n ∷ o ∷ ts) ≡ verdict (state_at (stack.FirstParameter ∷ stack.Body ∷ st) c) ts
 head_passes n o x ts st c n_is o_is low none =
@@ -64,7 +64,7 @@ params_pass {ps = ps} {mid = mid} {q = q} r q_is st c low none zero few =
     (omega (arith, low)) (few_parameters c (length ps) none few)
 
 -- a procedure behind its keyword
-module _ (x : List ℕ) (line place : ℕ) (ts behind inside : List Token) (name : InFront (λ t. IsName t x × (t.line ≡ line)) ts behind)
+module _ (x : List ℕ) (line place : ℕ) (ts behind inside : List Token) (name : InFront (λ t. IsNameToken t x × (t.line ≡ line)) ts behind)
     (opened : InFront (λ t. IsSign t sign.OpenParen × (t.place ≡ place)) behind inside) where
   -- its head is passed over
   passes_head : (st : List Symbol) (c : Tally) → suc (openings st) ≤ depth_limit → passed c ≡ None →
@@ -109,7 +109,7 @@ module _ (x : List ℕ) (line place : ℕ) (ts behind inside : List Token) (name
     }
 
 -- the declaration of an array is passed over, and it is counted
-pub array_passes : (w n o l q s : Token) (x : List ℕ) (z : ℕ) (ts : List Token) (c : Tally) → IsKeyword w word.Array → IsName n x →
+pub array_passes : (w n o l q s : Token) (x : List ℕ) (z : ℕ) (ts : List Token) (c : Tally) → IsKeyword w keyword.Array → IsNameToken n x →
     IsSign o sign.OpenBracket → IsNumber l z → IsSign q sign.CloseBracket → IsSign s sign.Semicolon → passed c ≡ None → suc c.arrays ≤ array_limit →
     c.words + z ≤ word_limit →
     verdict (state_at [] c) (w ∷ n ∷ o ∷ l ∷ q ∷ s ∷ ts) ≡ verdict (state_at [] (with_count (stack.SomeWords z) (with_count stack.AnArray c))) ts
@@ -132,7 +132,7 @@ pub record PassesProcedure (c : Tally) (ts : List Token) (params : ℕ) (rest : 
 
 -- a procedure is passed over, and it is counted
 pub procedure_passes : {d e : ℕ} {ps : List Param} {b : List Statement} {ts mid rest : List Token} {q : Token} (w n o : Token) (x : List ℕ) →
-    IsKeyword w word.Proc → IsName n x → IsSign o sign.OpenParen → Derives d Parameters ts (parameters ps) (q ∷ mid) → IsSign q sign.CloseParen →
+    IsKeyword w keyword.Proc → IsNameToken n x → IsSign o sign.OpenParen → Derives d Parameters ts (parameters ps) (q ∷ mid) → IsSign q sign.CloseParen →
     Derives e Block mid (statements b) rest → (c : Tally) → e ≤ depth_limit → passed c ≡ None → suc c.procedures ≤ procedure_limit →
     length ps ≤ parameter_limit → All IsSmallStatement b → PassesProcedure c (w ∷ n ∷ o ∷ ts) (length ps) rest
 procedure_passes {ps = ps} {ts = ts} w n o x w_is n_is o_is r q_is b c low none one few small =

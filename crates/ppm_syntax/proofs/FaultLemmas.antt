@@ -6,7 +6,7 @@ use Rattle.ppm_text.specs.declared.token.Token.{Token}
 use Rattle.ppm_syntax.specs.declared.limit.Limit.{Limit}
 use Rattle.ppm_syntax.specs.Limits.{depth_limit}
 use Rattle.ppm_syntax.specs.Stack.{State, step, run, then_run, openings, passed, can_end}
-use Rattle.ppm_syntax.specs.Faults.{Passes, then_within, Within}
+use Rattle.ppm_syntax.specs.SyntaxRefusals.{Passes, then_within, Within}
 use Rattle.ppm_syntax.specs.Verdict.{Verdict, Whole, Cut, Unexpected, Deep, Many, verdict, at_end, go_on, unless_deep, unless_many}
 
 -- all of the tokens can come within the limits, and whether a text may end behind them

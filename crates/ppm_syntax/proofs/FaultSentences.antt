@@ -8,7 +8,7 @@ use Rattle.ppm_syntax.specs.declared.stop.Stop.{Stop}
 use Rattle.ppm_syntax.specs.declared.stop.Stop.TheVariants as stop
 use Rattle.ppm_syntax.specs.Parsing.{of_stop, Tells}
 use Rattle.ppm_syntax.specs.Stack.{Move, Stuck, On, move, State, step, moved, run, then_run, can_end, state_at, with_count, beginning}
-use Rattle.ppm_syntax.specs.Faults.{IsText, Begins, StandsAt, IsFirstUnexpected, IsEnded, IsTooDeep, IsTooMany, IsFault}
+use Rattle.ppm_syntax.specs.SyntaxRefusals.{IsText, Begins, StandsAt, IsFirstUnexpected, IsEnded, IsTooDeep, IsTooMany, IsFault}
 use Rattle.ppm_syntax.specs.Verdict.{Verdict, Cut, Unexpected, Deep, Many, verdict}
 use Rattle.ppm_syntax.proofs.Reaching.{reaches, reaches_by, reads_on}
 use Rattle.ppm_syntax.proofs.Viable.{run_begins}

@@ -11,7 +11,7 @@ use Rattle.ppm_syntax.specs.declared.tree.Tree.{Tree}
 use Rattle.ppm_syntax.specs.declared.tree.Stmt.{Stmt}
 use Rattle.ppm_syntax.specs.Tree.{Expression, Statement, Procedure, statement_of, procedure_of, tree_of}
 use Rattle.ppm_syntax.specs.Tree as tree
-use Rattle.ppm_syntax.specs.RegionFaults.{Repeats, IsUnknownName, IsParameterTwice, IsTwiceNamed, IsWriteToRef, IsBadMain}
+use Rattle.ppm_syntax.specs.RegionRefusals.{Repeats, IsUnknownName, IsParameterTwice, IsTwiceNamed, IsWriteToRef, IsBadMain}
 use Rattle.ppm_syntax.specs.Deciding.{IsLeastLine, earlier_of, HasOne, HasOneAt, HasNamed, IsNamedAt, IsUnknown, ReadsUnknown, UsesUnknown, HasUnknown}
 use Rattle.ppm_syntax.specs.Deciding.{HasWriteToRef, HasParameterTwice, IsNamedMain, IsMainParam, IsBad, HasBad}
 use Rattle.ppm_syntax.proofs.Elements.{contains_map, contains_back}

@@ -1,22 +1,22 @@
--- From the declarations that are read to the tree of a source, and where they stop.
+-- From the declarations that are read to the tree of a program, and where they stop.
 use Rattle.std.proofs.Common.{◌≡◌, List, [], ◌∷◌, length, refl, sym, ◌∙◌, subst, arith, append_assoc}
 use Rattle.std.specs.Prelude.{None}
 use Rattle.std.proofs.lemmas.List.{append-nil}
 use Rattle.std.proofs.lemmas.List.Elements.{All-nil}
 use Rattle.ppm_text.specs.declared.token.Token.{Token}
 use Rattle.ppm_syntax.specs.declared.parsing.Declared.{Declared}
-use Rattle.ppm_syntax.specs.Tree.{SourceTree}
+use Rattle.ppm_syntax.specs.Tree.{ProgramTree}
 use Rattle.ppm_syntax.specs.Limits.{depth_limit, word_limit, IsSmall}
-use Rattle.ppm_syntax.specs.Grammar.{source, DerivesTree}
+use Rattle.ppm_syntax.specs.Grammar.{program, DerivesTree}
 use Rattle.ppm_syntax.specs.Grammar as g
 use Rattle.ppm_syntax.specs.Parsing.{tree_so_far, joined, IsSoFar, IsCounted, AddsItem}
 use Rattle.ppm_syntax.specs.Stack.{Tally, state_at, passed, beginning}
 use Rattle.ppm_syntax.specs.Verdict.{verdict}
 use Rattle.ppm_syntax.proofs.Unique.{same_tree}
 
--- what is declared so far, and a source behind it, are a source of the whole, and the verdict passes over what is declared
+-- what is declared so far, and a program behind it, are a program of the whole, and the verdict passes over what is declared
 pub record LeadsTo (ts : List Token) (s : Declared) (rest : List Token) : Type 0 where
-  pub forth : (later : SourceTree) → DerivesTree depth_limit rest later → DerivesTree depth_limit ts (joined (tree_so_far s) later)
+  pub forth : (later : ProgramTree) → DerivesTree depth_limit rest later → DerivesTree depth_limit ts (joined (tree_so_far s) later)
   pub tally : Tally
   pub counted : IsCounted s tally
   pub few : passed tally ≡ None
@@ -40,7 +40,7 @@ nothing_so_far s arrays procs words = record {
 }
 
 -- what is declared in three
-joined_assoc : (t u v : SourceTree) → joined (joined t u) v ≡ joined t (joined u v)
+joined_assoc : (t u v : ProgramTree) → joined (joined t u) v ≡ joined t (joined u v)
 joined_assoc t u v = same_tree (joined (joined t u) v) (joined t (joined u v)) (append_assoc t.arrays u.arrays v.arrays)
     (append_assoc t.procs u.procs v.procs)
 

@@ -2,9 +2,9 @@ pub mod Elements
 pub mod RulesLemmas
 pub mod DecidingLemmas
 pub mod FindingLemmas
-pub mod RegionFaultsLemmas
+pub mod RegionRefusalsLemmas
 pub mod AdmittingLemmas
-pub mod OpeningLemmas
+pub mod InitialArrays
 pub mod MeaningLemmas
 pub mod Unique
 pub mod ReadingLemmas

@@ -3,7 +3,7 @@ use Rattle.std.proofs.Common.{◌≡◌, ◌+◌, List, [], ◌∷◌, ◌++◌,
 use Rattle.std.specs.List.{All}
 use Rattle.std.proofs.lemmas.List.Elements.{All-head, All-tail, All-nil, All-cons}
 use Rattle.ppm_syntax.specs.declared.tree.Array.{Array}
-use Rattle.ppm_syntax.specs.Tree.{Procedure, SourceTree}
+use Rattle.ppm_syntax.specs.Tree.{Procedure, ProgramTree}
 use Rattle.ppm_syntax.specs.Limits.{words_of, IsSmall, IsWithin}
 
 -- the words of two lists of arrays
@@ -22,7 +22,7 @@ all_front P [] ys h = All-nil P
 all_front P (x ∷ xs) ys h = All-cons P x xs (All-head P x (xs ++ ys) h) (all_front P xs ys (All-tail P x (xs ++ ys) h))
 
 -- a tree keeps the limits that a longer one keeps
-pub within_front : (t v : SourceTree) (xs : List Array) (ps : List Procedure) → v.arrays ≡ t.arrays ++ xs → v.procs ≡ t.procs ++ ps → IsWithin v → IsWithin t
+pub within_front : (t v : ProgramTree) (xs : List Array) (ps : List Procedure) → v.arrays ≡ t.arrays ++ xs → v.procs ≡ t.procs ++ ps → IsWithin v → IsWithin t
 within_front t v xs ps arrays procs h = record {
   arrays = omega (arith, h.arrays, ap length arrays, length-append t.arrays xs);
   words = omega (arith, h.words, ap words_of arrays, words-append t.arrays xs);

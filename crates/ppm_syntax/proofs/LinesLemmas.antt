@@ -3,7 +3,7 @@ use Rattle.std.proofs.Common.{ℕ, List}
 use Rattle.std.specs.List.{All, AllByRecursion}
 use Rattle.std.proofs.lemmas.List.Elements.{All-from_recursion, recursion_from_All}
 use Rattle.ppm_text.specs.declared.token.Token.{Token}
-use Rattle.ppm_syntax.specs.Tree.{Procedure, SourceTree}
+use Rattle.ppm_syntax.specs.Tree.{Procedure, ProgramTree}
 use Rattle.ppm_syntax.specs.Grammar.{Part, Node, Derives, DerivesTree}
 use Rattle.ppm_syntax.specs.Grammar as g
 use Rattle.ppm_syntax.specs.Lines.{IsLine, TokenLine, ArrayLine, ParameterLine, ExpressionLines, StatementLines, ProcedureLines, HasLines}
@@ -37,7 +37,7 @@ NodeLines (g.statement s) = StatementLines s
 NodeLines (g.statements b) = AllByRecursion StatementLines b
 NodeLines (g.parameter q) = ParameterLine q
 NodeLines (g.parameters qs) = AllByRecursion ParameterLine qs
-NodeLines (g.source xs ps) = AllByRecursion ArrayLine xs × AllByRecursion ProcedureLines ps
+NodeLines (g.program xs ps) = AllByRecursion ArrayLine xs × AllByRecursion ProcedureLines ps
 
 -- and so it is in the first operand of a part that goes on
 abbrev OperandLines : Part → Type 0
@@ -77,7 +77,7 @@ lines (g.proc w n o q c b r) a h =
     (later.0, (procedure_lines _ h.1.0 (lines q tt h.1.1.1) (lines b tt inside.1), later.1))
 
 -- the tree of tokens in lines of a text has such lines
-pub has_lines : {d : ℕ} {ts : List Token} (t : SourceTree) → DerivesTree d ts t → All TokenLine ts → HasLines t
+pub has_lines : {d : ℕ} {ts : List Token} (t : ProgramTree) → DerivesTree d ts t → All TokenLine ts → HasLines t
 has_lines {ts = ts} t r h =
     let all = lines r tt (recursion_from_All TokenLine ts h) in
     record {

@@ -3,11 +3,11 @@ use Rattle.std.proofs.Common.{ℕ, List}
 use Rattle.std.specs.List.{All, AllByRecursion}
 use Rattle.std.proofs.lemmas.List.Elements.{recursion_from_All}
 use Rattle.ppm_text.specs.declared.token.Token.{Token}
-use Rattle.ppm_syntax.specs.Tree.{Procedure, SourceTree}
+use Rattle.ppm_syntax.specs.Tree.{Procedure, ProgramTree}
 use Rattle.ppm_syntax.specs.Limits.{HasLiterals, StatementLiterals}
 use Rattle.ppm_syntax.specs.Grammar.{Part, Node, Derives, DerivesTree}
 use Rattle.ppm_syntax.specs.Grammar as g
-use Rattle.ppm_syntax.specs.Faults.{TokenLiteral}
+use Rattle.ppm_syntax.specs.SyntaxRefusals.{TokenLiteral}
 use Rattle.ppm_syntax.proofs.LinesLemmas.{rest_keeps}
 
 -- each number in a procedure is a literal
@@ -21,7 +21,7 @@ NodeLiterals (g.statement s) = StatementLiterals s
 NodeLiterals (g.statements b) = AllByRecursion StatementLiterals b
 NodeLiterals (g.parameter q) = Unit {0}
 NodeLiterals (g.parameters qs) = Unit {0}
-NodeLiterals (g.source xs ps) = AllByRecursion ProcedureLiterals ps
+NodeLiterals (g.program xs ps) = AllByRecursion ProcedureLiterals ps
 
 -- and so it is in the first operand of a part that goes on
 abbrev OperandLiterals : Part → Type 0
@@ -52,5 +52,5 @@ literals (g.proc w n o q c b r) a h =
     (literals b tt inside.1, literals r tt (rest_keeps TokenLiteral b inside.1))
 
 -- the tree of tokens with literals has such numbers
-pub tree_literals : {d : ℕ} {ts : List Token} (t : SourceTree) → DerivesTree d ts t → All TokenLiteral ts → AllByRecursion ProcedureLiterals t.procs
+pub tree_literals : {d : ℕ} {ts : List Token} (t : ProgramTree) → DerivesTree d ts t → All TokenLiteral ts → AllByRecursion ProcedureLiterals t.procs
 tree_literals {ts = ts} t r h = literals r tt (recursion_from_All TokenLiteral ts h)

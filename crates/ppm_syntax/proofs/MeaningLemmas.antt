@@ -4,10 +4,11 @@ use Rattle.std.specs.Prelude.{codes}
 use Rattle.ppm_words.specs.declared.named_array.NamedArray.{NamedArray}
 use Rattle.ppm_words.specs.declared.outcome.Outcome.TheVariants as outcome
 use Rattle.ppm_syntax.specs.declared.tree.Array.{Array}
-use Rattle.ppm_syntax.specs.Tree.{Expression, Statement, Procedure, SourceTree}
+use Rattle.ppm_syntax.specs.Tree.{Expression, Statement, Procedure, ProgramTree}
 use Rattle.ppm_syntax.specs.Tree as tree
-use Rattle.ppm_syntax.specs.Meaning.{Frame, Stop, Arrays, after, Ending, Done, Stopped, OutOfTurns, then_on, at_once}
-use Rattle.ppm_syntax.specs.Meaning.{run_statement, run_statements, run_main, main_frame, procedure_named, opening, values_of, outcome_of, MoreTurnsKeep}
+use Rattle.ppm_syntax.specs.Meaning.{Frame, TrapAt, Arrays, after, Ending, Done, Stopped, OutOfTurns, then_on, at_once}
+use Rattle.ppm_syntax.specs.Meaning.{run_statement, run_statements, run_main, main_frame, procedure_named, initial_arrays, values_of, outcome_of}
+use Rattle.ppm_syntax.specs.Correct.{MoreTurnsKeep}
 
 -- the same ending with so many turns more left over
 abbrev with_more : {A : Type 0} → ℕ → Ending A → Ending A
@@ -25,7 +26,7 @@ statement_more : (frame : Frame) (s : Statement) (arrays : Arrays) (left k : ℕ
     → run_statement frame s arrays (left + k) ≡ with_more k (run_statement frame s arrays left)
 statement_more frame (tree.Put x line index value) arrays left k = go (after frame arrays (tree.Put x line index value))
   where
-    go : (r : Result Arrays Stop) → at_once (left + k) r ≡ with_more k (at_once left r)
+    go : (r : Result Arrays TrapAt) → at_once (left + k) r ≡ with_more k (at_once left r)
     go (Ok arrays) = refl
     go (Err stop) = refl
 
@@ -67,6 +68,6 @@ outcome_more arrays OutOfTurns k = refl
 pub more_turns : MoreTurnsKeep
 more_turns turns more t h =
     let main = procedure_named t.procs (codes "main") in
-    let values = values_of (opening t) in
-    let there = outcome_there (opening t) (run_main t.arrays main values turns) h in
-    ap (outcome_of (opening t)) (main_more t.arrays main values turns more there) ∙ outcome_more (opening t) (run_main t.arrays main values turns) more
+    let values = values_of (initial_arrays t) in
+    let there = outcome_there (initial_arrays t) (run_main t.arrays main values turns) h in
+    ap (outcome_of (initial_arrays t)) (main_more t.arrays main values turns more there) ∙ outcome_more (initial_arrays t) (run_main t.arrays main values turns) more

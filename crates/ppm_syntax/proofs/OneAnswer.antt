@@ -8,11 +8,12 @@ use Rattle.ppm_text.specs.declared.token.Token.{Token}
 use Rattle.ppm_syntax.specs.declared.limit.Limit.{Limit}
 use Rattle.ppm_syntax.specs.declared.syntax_error.SyntaxError.{SyntaxError}
 use Rattle.ppm_syntax.specs.declared.syntax_error.SyntaxError.TheVariants as error
-use Rattle.ppm_syntax.specs.Tree.{SourceTree}
+use Rattle.ppm_syntax.specs.Tree.{ProgramTree}
 use Rattle.ppm_syntax.specs.Limits.{depth_limit, IsWithin}
 use Rattle.ppm_syntax.specs.Grammar.{DerivesTree}
 use Rattle.ppm_syntax.specs.Stack.{State, step, run, can_end, beginning}
-use Rattle.ppm_syntax.specs.Faults.{IsText, Begins, StandsAt, IsFirstUnexpected, IsEnded, IsTooDeep, IsTooMany, IsFault, TokenLiteral, HasOneAnswer}
+use Rattle.ppm_syntax.specs.SyntaxRefusals.{IsText, Begins, StandsAt, IsFirstUnexpected, IsEnded, IsTooDeep, IsTooMany, IsFault, TokenLiteral}
+use Rattle.ppm_syntax.specs.Correct.{HasOneAnswer}
 use Rattle.ppm_syntax.specs.Verdict.{Verdict, Whole, Cut, Unexpected, Deep, Many, verdict}
 use Rattle.ppm_syntax.proofs.Viable.{run_begins, run_ends}
 use Rattle.ppm_syntax.proofs.FaultSentences.{reason, unexpected, ended, too_deep, too_many}
@@ -116,8 +117,8 @@ whole_text ts whole = let c = reason ts Whole whole in run_ends ts c.last c.ran 
 
 -- so they have one answer, if the verdict finds no fault just where they have a tree within the limits
 pub one_answer : (ts : List Token) (text_len : ℕ) →
-    ((t : SourceTree) → DerivesTree depth_limit ts t → IsWithin t → verdict beginning ts ≡ Whole) →
-    (verdict beginning ts ≡ Whole → All TokenLiteral ts → (t : SourceTree) × DerivesTree depth_limit ts t × IsWithin t) → HasOneAnswer ts text_len
+    ((t : ProgramTree) → DerivesTree depth_limit ts t → IsWithin t → verdict beginning ts ≡ Whole) →
+    (verdict beginning ts ≡ Whole → All TokenLiteral ts → (t : ProgramTree) × DerivesTree depth_limit ts t × IsWithin t) → HasOneAnswer ts text_len
 one_answer ts text_len whole within_tree = record {
   fault = one_fault ts text_len;
   either = λ t e r within h. no_fault ts text_len e h (whole t r within);

@@ -10,7 +10,7 @@ use Rattle.ppm_syntax.specs.declared.stop.Stop.TheVariants as stop
 use Rattle.ppm_syntax.specs.Tree.{Expression}
 use Rattle.ppm_syntax.specs.Tree as tree
 use Rattle.ppm_syntax.specs.Limits.{nodes_of, node_limit}
-use Rattle.ppm_syntax.specs.Grammar.{top, IsName, IsNumber, IsSign, Level, expression, Derives}
+use Rattle.ppm_syntax.specs.Grammar.{top, IsNameToken, IsNumber, IsSign, Level, expression, Derives}
 use Rattle.ppm_syntax.specs.Grammar as g
 use Rattle.ppm_syntax.specs.Stack.{Symbol, Move, Stuck, Tally, state_at, move, at_close_bracket, at_close_paren, at_semicolon}
 use Rattle.ppm_syntax.specs.Stack as stack

@@ -10,7 +10,7 @@ use Rattle.ppm_syntax.specs.declared.tree.Mode.{Mode}
 use Rattle.ppm_syntax.specs.declared.tree.Param.{Param}
 use Rattle.ppm_syntax.specs.declared.stop.Stop.{Stop}
 use Rattle.ppm_syntax.specs.Limits.{parameter_limit, depth_limit}
-use Rattle.ppm_syntax.specs.Grammar.{IsName, IsSign, Parameter, Parameters, MoreParameters, parameter, parameters, Derives}
+use Rattle.ppm_syntax.specs.Grammar.{IsNameToken, IsSign, Parameter, Parameters, MoreParameters, parameter, parameters, Derives}
 use Rattle.ppm_syntax.specs.Grammar as g
 use Rattle.ppm_syntax.specs.Parsing.{NoSign, HasSign, InFront, Misses, IsMode, Fails, HasParameters, ReadsParameters}
 use Rattle.ppm_syntax.specs.Stack.{Symbol, Tally, state_at, openings, passed, with_count}
@@ -85,7 +85,7 @@ parameters_pass (g.first_parameter {ts = ts} r m) ends st c low none zero few =
 
 -- how it is taken and a name are a parameter
 pub parameter_read : (ts behind rest : List Token) (how : Mode) (place : ℕ) (x : List ℕ) (line : ℕ) →
-    InFront (λ t. IsMode t how × (t.place ≡ place)) ts behind → InFront (λ t. IsName t x × (t.line ≡ line)) behind rest →
+    InFront (λ t. IsMode t how × (t.place ≡ place)) ts behind → InFront (λ t. IsNameToken t x × (t.line ≡ line)) behind rest →
     Derives 0 Parameter ts (parameter (record { mode = how; name = x; line = line })) rest
 parameter_read ts behind rest how place x line mode name =
     rw (mode.shape, name.shape, ← name.has.1) (g.param mode.has.0.1 mode.has.0.2 name.has.0)

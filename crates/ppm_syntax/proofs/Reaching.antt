@@ -5,8 +5,8 @@ use Rattle.ppm_text.specs.declared.token.Keyword.{Keyword}
 use Rattle.ppm_text.specs.declared.token.Sign.TheVariants as sign
 use Rattle.ppm_text.specs.declared.token.Token.{Token}
 use Rattle.ppm_syntax.specs.declared.tree.Mode.{Mode}
-use Rattle.ppm_syntax.specs.Grammar.{operator_at, top, mode_of, IsName, IsNumber, IsKeyword, IsSign}
-use Rattle.ppm_syntax.specs.Grammar.{Part, Level, More, OneStatement, Statements, Block, Parameter, Parameters, MoreParameters, Source}
+use Rattle.ppm_syntax.specs.Grammar.{operator_at, top, mode_of, IsNameToken, IsNumber, IsKeyword, IsSign}
+use Rattle.ppm_syntax.specs.Grammar.{Part, Level, More, OneStatement, Statements, Block, Parameter, Parameters, MoreParameters, Program}
 use Rattle.ppm_syntax.specs.Grammar.{Node, expression, Derives}
 use Rattle.ppm_syntax.specs.Grammar as g
 use Rattle.ppm_syntax.specs.Parsing.{NoOperator, NoSign, HasSign, Ends}
@@ -49,7 +49,7 @@ awaits Block st = stack.Body ∷ st
 awaits Parameter st = stack.NextParameter ∷ st
 awaits Parameters st = stack.FirstParameter ∷ st
 awaits MoreParameters st = stack.FurtherParameters ∷ st
-awaits Source st = []
+awaits Program st = []
 
 -- what is still to come behind it
 abbrev pub leaves : Part → List Symbol → List Symbol
@@ -61,7 +61,7 @@ leaves Block st = st
 leaves Parameter st = stack.FurtherParameters ∷ st
 leaves Parameters st = stack.FurtherParameters ∷ st
 leaves MoreParameters st = stack.FurtherParameters ∷ st
-leaves Source st = []
+leaves Program st = []
 
 -- the first parameter is awaited as any other is
 first_as_next : (t : Token) (k : Keyword) (how : Mode) → IsKeyword t k → mode_of k ≡ Some how → (st : List Symbol) (ts : List Token) →

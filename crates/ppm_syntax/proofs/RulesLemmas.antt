@@ -4,7 +4,7 @@ use Rattle.std.specs.List.{Contains, IsDistinct}
 use Rattle.std.specs.Str.{bytes_eq}
 use Rattle.std.proofs.lemmas.Slice.Eq.{bytes_eq-Decides}
 use Rattle.std.proofs.lemmas.Map.Keys.{IsDistinct-cons, IsDistinct-head, IsDistinct-tail}
-use Rattle.ppm_syntax.specs.RegionFaults.{Repeats}
+use Rattle.ppm_syntax.specs.RegionRefusals.{Repeats}
 use Rattle.ppm_syntax.specs.Deciding.{HasNamed, HasOneAt, IsNamedAt}
 use Rattle.ppm_syntax.proofs.Elements.{contains_head, contains_tail, contains_cases, contains_map, contains_back}
 use Rattle.ppm_syntax.proofs.Elements.{contains_split, contains_middle, all_pass, pass_all}

@@ -2,7 +2,7 @@
 use Rattle.std.proofs.Common.{◌≡◌, ℕ, zero, suc, List, [], ◌∷◌, refl}
 use Rattle.std.specs.Prelude.{Option, Some, None}
 use Rattle.ppm_text.specs.declared.token.Keyword.{Keyword}
-use Rattle.ppm_text.specs.declared.token.Keyword.TheVariants as word
+use Rattle.ppm_text.specs.declared.token.Keyword.TheVariants as keyword
 use Rattle.ppm_text.specs.declared.token.Sign.TheVariants as sign
 use Rattle.ppm_text.specs.declared.token.Kind.{Kind}
 use Rattle.ppm_text.specs.declared.token.Kind.TheVariants as kind
@@ -10,9 +10,9 @@ use Rattle.ppm_text.specs.declared.token.Token.{Token}
 use Rattle.ppm_syntax.specs.declared.tree.Operator.{Operator}
 use Rattle.ppm_syntax.specs.declared.tree.Mode.{Mode}
 use Rattle.ppm_syntax.specs.declared.tree.Array.{Array}
-use Rattle.ppm_syntax.specs.Tree.{Procedure, SourceTree}
+use Rattle.ppm_syntax.specs.Tree.{Procedure, ProgramTree}
 use Rattle.ppm_syntax.specs.Tree as tree
-use Rattle.ppm_syntax.specs.Grammar.{operator_at, top, mode_of, IsName, IsNumber, IsKeyword, IsSign}
+use Rattle.ppm_syntax.specs.Grammar.{operator_at, top, mode_of, IsNameToken, IsNumber, IsKeyword, IsSign}
 use Rattle.ppm_syntax.specs.Grammar as g
 use Rattle.ppm_syntax.specs.Stack.{Symbol, On, move, tails}
 use Rattle.ppm_syntax.specs.Stack as stack
@@ -31,7 +31,7 @@ numbered : {d n : ℕ} {st : List Symbol} {t : Token} {ts : List Token} → IsNu
 numbered is y = then (operand (g.number is)) (deeper_stack y)
 
 -- so is a name with its index
-indexed : {d : ℕ} {x : List ℕ} {st : List Symbol} {t : Token} {ts : List Token} → IsName t x → Yields d (stack.Index ∷ st) ts →
+indexed : {d : ℕ} {x : List ℕ} {st : List Symbol} {t : Token} {ts : List Token} → IsNameToken t x → Yields d (stack.Index ∷ st) ts →
     Yields (suc d) (stack.Operand 0 ∷ st) (t ∷ ts)
 indexed is (then (index o i c) y) = then (operand (g.element is o i c)) (deeper_stack y)
 
@@ -104,7 +104,7 @@ opened : {d : ℕ} {st : List Symbol} {t : Token} {ts : List Token} → IsSign t
 opened is (then b y) = deeper_stack (then (body is b) y)
 
 -- one more statement in a block
-stated : {d : ℕ} {x : List ℕ} {st : List Symbol} {t : Token} {ts : List Token} → IsName t x →
+stated : {d : ℕ} {x : List ℕ} {st : List Symbol} {t : Token} {ts : List Token} → IsNameToken t x →
     Yields d (stack.Target ∷ stack.InBody ∷ st) ts → Yields (suc d) (stack.InBody ∷ st) (t ∷ ts)
 stated is (then (target o i (end_target c (value q v s))) (then (in_body b e) y)) =
     then (in_body (g.another (g.put is o i c q (deeper v) s) (deeper b)) e) (deeper_stack y)
@@ -117,7 +117,7 @@ sound_body d st t ts (kind.Sign sign.CloseBrace) is = λ y. then (in_body g.no_s
 sound_body d st t ts _ is = tt
 
 -- the name of an array
-array_named : {d : ℕ} {x : List ℕ} {st : List Symbol} {t : Token} {ts : List Token} → IsName t x →
+array_named : {d : ℕ} {x : List ℕ} {st : List Symbol} {t : Token} {ts : List Token} → IsNameToken t x →
     Yields d (stack.ArrayOpen ∷ st) ts → Yields (suc d) (stack.ArrayName ∷ st) (t ∷ ts)
 array_named is (then r y) = deeper_stack (then (array_name is r) y)
 
@@ -132,7 +132,7 @@ array_closed : {d : ℕ} {st : List Symbol} {t : Token} {ts : List Token} → Is
 array_closed is (then r y) = deeper_stack (then (array_close is r) y)
 
 -- the name of a procedure
-proc_named : {d : ℕ} {x : List ℕ} {st : List Symbol} {t : Token} {ts : List Token} → IsName t x →
+proc_named : {d : ℕ} {x : List ℕ} {st : List Symbol} {t : Token} {ts : List Token} → IsNameToken t x →
     Yields d (stack.ProcOpen ∷ st) ts → Yields (suc d) (stack.ProcName ∷ st) (t ∷ ts)
 proc_named is (then r y) = deeper_stack (then (proc_name is r) y)
 
@@ -153,7 +153,7 @@ next_taken : {d : ℕ} {w : Keyword} {how : Mode} {st : List Symbol} {t : Token}
 next_taken is mode (then (parameter_name n f) y) = deeper_stack (then (next_parameter (g.param is mode n) f) y)
 
 -- the name of a parameter
-parameter_named : {d : ℕ} {x : List ℕ} {st : List Symbol} {t : Token} {ts : List Token} → IsName t x →
+parameter_named : {d : ℕ} {x : List ℕ} {st : List Symbol} {t : Token} {ts : List Token} → IsNameToken t x →
     Yields d (stack.FurtherParameters ∷ st) ts → Yields (suc d) (stack.ParameterName ∷ st) (t ∷ ts)
 parameter_named is (then f y) = deeper_stack (then (parameter_name is f) y)
 
@@ -195,29 +195,29 @@ sound_further d st t ts (kind.Sign sign.CloseParen) is = λ y. then (further_par
 sound_further d st t ts _ is = tt
 
 -- a tree with one array more in front
-with_array : Array → SourceTree → SourceTree
+with_array : Array → ProgramTree → ProgramTree
 with_array a t = record { arrays = a ∷ t.arrays; procs = t.procs }
 
 -- a tree with one procedure more in front
-with_procedure : Procedure → SourceTree → SourceTree
+with_procedure : Procedure → ProgramTree → ProgramTree
 with_procedure p t = record { arrays = t.arrays; procs = p ∷ t.procs }
 
 -- an array is declared
-declared_array : {d : ℕ} {t : Token} {ts : List Token} → IsKeyword t word.Array → Yields d (stack.ArrayName ∷ []) ts → Yields (suc d) [] (t ∷ ts)
+declared_array : {d : ℕ} {t : Token} {ts : List Token} → IsKeyword t keyword.Array → Yields d (stack.ArrayName ∷ []) ts → Yields (suc d) [] (t ∷ ts)
 unfolding with_array
 declared_array w (then (array_name {n = n} {x = x} is (array_open o (array_length {z = z} l (array_close c (semicolon s))))) (whole {t = u} r)) =
     whole {t = with_array (record { name = x; line = n.line; length = z }) u} (g.array w is o l c s (deeper r))
 
 -- a procedure is declared
-declared_procedure : {d : ℕ} {t : Token} {ts : List Token} → IsKeyword t word.Proc → Yields d (stack.ProcName ∷ []) ts → Yields (suc d) [] (t ∷ ts)
+declared_procedure : {d : ℕ} {t : Token} {ts : List Token} → IsKeyword t keyword.Proc → Yields d (stack.ProcName ∷ []) ts → Yields (suc d) [] (t ∷ ts)
 unfolding with_procedure
 declared_procedure w (then (proc_name {n = n} {x = x} is (proc_open o (first_parameter {ps = qs} q c) (body ob (in_body {b = b} r e)))) (whole {t = u} v)) =
     whole {t = with_procedure (record { name = x; line = n.line; params = qs; body = b }) u} (g.proc w is o q c (g.block ob r e) (deeper v))
 
 -- the first token of a declaration
 sound_declaration : (d : ℕ) (t : Token) (ts : List Token) (k : Kind) → t.kind ≡ k → Sound d [] t ts (stack.declaration k)
-sound_declaration d t ts (kind.Keyword word.Array) is = λ y. declared_array is y
-sound_declaration d t ts (kind.Keyword word.Proc) is = λ y. declared_procedure is y
+sound_declaration d t ts (kind.Keyword keyword.Array) is = λ y. declared_array is y
+sound_declaration d t ts (kind.Keyword keyword.Proc) is = λ y. declared_procedure is y
 sound_declaration d t ts _ is = tt
 
 -- a token that can come comes before what is still to come behind it

@@ -5,8 +5,8 @@ use Rattle.ppm_text.specs.declared.token.Kind.{Kind}
 use Rattle.ppm_text.specs.declared.token.Kind.TheVariants as kind
 use Rattle.ppm_text.specs.declared.token.Token.{Token}
 use Rattle.ppm_syntax.specs.declared.tree.Param.{Param}
-use Rattle.ppm_syntax.specs.Tree.{Expression, Statement, SourceTree}
-use Rattle.ppm_syntax.specs.Grammar.{top, IsName, IsNumber, IsSign, Part, Level, More, Statements, Parameter, Parameters, MoreParameters}
+use Rattle.ppm_syntax.specs.Tree.{Expression, Statement, ProgramTree}
+use Rattle.ppm_syntax.specs.Grammar.{top, IsNameToken, IsNumber, IsSign, Part, Level, More, Statements, Parameter, Parameters, MoreParameters}
 use Rattle.ppm_syntax.specs.Grammar.{Node, expression, statements, parameter, parameters, Derives, DerivesTree}
 use Rattle.ppm_syntax.specs.Grammar as g
 use Rattle.ppm_syntax.specs.Stack.{Symbol, Move, Stuck, On}
@@ -51,19 +51,19 @@ pub data Gives : ℕ → Symbol → List Token → List Token → Type 0 where
   body : {d : ℕ} {o : Token} {ts rest : List Token} → IsSign o sign.OpenBrace → Gives d stack.InBody ts rest → Gives d stack.Body (o ∷ ts) rest
   in_body : {d : ℕ} {c : Token} {b : List Statement} {ts rest : List Token} →
       Derives d Statements ts (statements b) (c ∷ rest) → IsSign c sign.CloseBrace → Gives d stack.InBody ts rest
-  array_name : {d : ℕ} {n : Token} {x : List ℕ} {ts rest : List Token} → IsName n x → Gives d stack.ArrayOpen ts rest → Gives d stack.ArrayName (n ∷ ts) rest
+  array_name : {d : ℕ} {n : Token} {x : List ℕ} {ts rest : List Token} → IsNameToken n x → Gives d stack.ArrayOpen ts rest → Gives d stack.ArrayName (n ∷ ts) rest
   array_open : {d : ℕ} {o : Token} {ts rest : List Token} →
       IsSign o sign.OpenBracket → Gives d stack.ArrayLength ts rest → Gives d stack.ArrayOpen (o ∷ ts) rest
   array_length : {d z : ℕ} {l : Token} {ts rest : List Token} → IsNumber l z → Gives d stack.ArrayClose ts rest → Gives d stack.ArrayLength (l ∷ ts) rest
   array_close : {d : ℕ} {c : Token} {ts rest : List Token} →
       IsSign c sign.CloseBracket → Gives d stack.Semicolon ts rest → Gives d stack.ArrayClose (c ∷ ts) rest
-  proc_name : {d : ℕ} {n : Token} {x : List ℕ} {ts rest : List Token} → IsName n x → Gives d stack.ProcOpen ts rest → Gives d stack.ProcName (n ∷ ts) rest
+  proc_name : {d : ℕ} {n : Token} {x : List ℕ} {ts rest : List Token} → IsNameToken n x → Gives d stack.ProcOpen ts rest → Gives d stack.ProcName (n ∷ ts) rest
   proc_open : {d : ℕ} {o : Token} {ts mid rest : List Token} →
       IsSign o sign.OpenParen → Gives d stack.FirstParameter ts mid → Gives d stack.Body mid rest → Gives d stack.ProcOpen (o ∷ ts) rest
   first_parameter : {d : ℕ} {c : Token} {ps : List Param} {ts rest : List Token} →
       Derives d Parameters ts (parameters ps) (c ∷ rest) → IsSign c sign.CloseParen → Gives d stack.FirstParameter ts rest
   parameter_name : {d : ℕ} {n : Token} {x : List ℕ} {ts rest : List Token} →
-      IsName n x → Gives d stack.FurtherParameters ts rest → Gives d stack.ParameterName (n ∷ ts) rest
+      IsNameToken n x → Gives d stack.FurtherParameters ts rest → Gives d stack.ParameterName (n ∷ ts) rest
   further_parameters : {d : ℕ} {c : Token} {ps : List Param} {ts rest : List Token} →
       Derives d MoreParameters ts (parameters ps) (c ∷ rest) → IsSign c sign.CloseParen → Gives d stack.FurtherParameters ts rest
   next_parameter : {d : ℕ} {p : Param} {ts mid rest : List Token} →
@@ -95,7 +95,7 @@ deeper_symbol (next_parameter p r) = next_parameter (deeper p) (deeper_symbol r)
 
 -- the tokens are what is still to come
 pub data Yields : ℕ → List Symbol → List Token → Type 0 where
-  whole : {d : ℕ} {t : SourceTree} {ts : List Token} → DerivesTree d ts t → Yields d [] ts
+  whole : {d : ℕ} {t : ProgramTree} {ts : List Token} → DerivesTree d ts t → Yields d [] ts
   then : {d : ℕ} {x : Symbol} {st : List Symbol} {ts mid : List Token} → Gives d x ts mid → Yields d st mid → Yields d (x ∷ st) ts
 
 -- nor does it matter on a stack
@@ -115,7 +115,7 @@ sound_map f Stuck s = tt
 sound_map f (On counts st') s = λ y. f (s y)
 
 -- a token that is a name
-pub sound_name : (d : ℕ) (st : List Symbol) (t : Token) (ts : List Token) (m : Move) → ((x : List ℕ) → IsName t x → Sound d st t ts m) →
+pub sound_name : (d : ℕ) (st : List Symbol) (t : Token) (ts : List Token) (m : Move) → ((x : List ℕ) → IsNameToken t x → Sound d st t ts m) →
     (k : Kind) → t.kind ≡ k → Sound d st t ts (stack.at_name k m)
 sound_name d st t ts m f (kind.Name x) is = f x is
 sound_name d st t ts m f _ is = tt

@@ -11,7 +11,7 @@ use Rattle.ppm_syntax.specs.declared.stop.Stop.{Stop}
 use Rattle.ppm_syntax.specs.Tree.{Expression, Statement, statement_of}
 use Rattle.ppm_syntax.specs.Tree as tree
 use Rattle.ppm_syntax.specs.Limits.{nodes_of, statement_nodes, node_limit, depth_limit, IsSmallStatement}
-use Rattle.ppm_syntax.specs.Grammar.{top, IsName, IsSign, Level, OneStatement, Statements, Block, expression, statement, statements, Derives}
+use Rattle.ppm_syntax.specs.Grammar.{top, IsNameToken, IsSign, Level, OneStatement, Statements, Block, expression, statement, statements, Derives}
 use Rattle.ppm_syntax.specs.Grammar as g
 use Rattle.ppm_syntax.specs.Parsing.{NoName, InFront, Misses, Fails, FailsUpTo, HasNodesLeft, Anything, ReadsUpTo, ReadsPut, ReadsStatements}
 use Rattle.ppm_syntax.specs.Parsing as parsing
@@ -44,7 +44,7 @@ value_passes {s = s} {ts = ts} {rest = rest} q q_is v s_is st c m low count few 
     ∙ by_step s rest (stack.Semicolon ∷ st) st (with_nodes m c) stack.Nothing (rw s_is refl) (omega (arith, low)) (few_nodes c m none few)
 
 -- the name of an assignment is passed over, and the nodes of a statement begin
-pub name_passes : (n : Token) (ts : List Token) (x : List ℕ) (st : List Symbol) (c : Tally) → IsName n x → suc (openings st) ≤ depth_limit →
+pub name_passes : (n : Token) (ts : List Token) (x : List ℕ) (st : List Symbol) (c : Tally) → IsNameToken n x → suc (openings st) ≤ depth_limit →
     passed c ≡ None → verdict (state_at (stack.InBody ∷ st) c) (n ∷ ts) ≡ verdict (state_at (stack.Target ∷ stack.InBody ∷ st) (with_nodes 0 c)) ts
 name_passes n ts x st c is low none =
     by_step n ts (stack.InBody ∷ st) (stack.Target ∷ stack.InBody ∷ st) c stack.AStatement (rw is refl) low (few_nodes c 0 none (omega arith))
@@ -150,19 +150,19 @@ pub mapped_push : (all : List Stmt) (s : Stmt) → map statement_of (all ++ (s �
 mapped_push all s = map-append statement_of all (s ∷ [])
 
 -- no name stands in front
-no_name : (ts : List Token) (e : Stop) → Misses (λ t. (x : List ℕ) × IsName t x) ts e → NoName ts
+no_name : (ts : List Token) (e : Stop) → Misses (λ t. (x : List ℕ) × IsNameToken t x) ts e → NoName ts
 no_name [] e m = tt
 no_name (t ∷ ts) e m = λ x is. m.1 (x, is)
 
 -- what a stop behind the name tells, it tells in front of it
-behind_name : (rest behind : List Token) (x : List ℕ) (line : ℕ) → InFront (λ t. IsName t x × (t.line ≡ line)) rest behind → (st : List Symbol)
+behind_name : (rest behind : List Token) (x : List ℕ) (line : ℕ) → InFront (λ t. IsNameToken t x × (t.line ≡ line)) rest behind → (st : List Symbol)
     (c : Tally) (e : Stop) → suc (openings st) ≤ depth_limit → passed c ≡ None →
     parsing.Tells e (verdict (state_at (stack.Target ∷ stack.InBody ∷ st) (with_nodes 0 c)) behind) →
     parsing.Tells e (verdict (state_at (stack.InBody ∷ st) c) rest)
 behind_name rest behind x line name st c e low none h = let step = name_passes name.token behind x st c name.has.0 low none in rw (name.shape, step) h
 
 -- a statement has tokens
-pub next_shorter : (d : ℕ) (x : List ℕ) (line : ℕ) (rest behind after : List Token) (s : Statement) → InFront (λ t. IsName t x × (t.line ≡ line)) rest behind →
+pub next_shorter : (d : ℕ) (x : List ℕ) (line : ℕ) (rest behind after : List Token) (s : Statement) → InFront (λ t. IsNameToken t x × (t.line ≡ line)) rest behind →
     ReadsPut d x line behind s after → length after < length rest
 next_shorter d x line rest behind after s name r = rw name.shape (statement_shorter (r.reads name.token name.has.0 name.has.1))
 
@@ -171,7 +171,7 @@ module _ (d : ℕ) (ts : List Token) (all : List Statement) (rest : List Token) 
   so_far : Derives d Statements ts (statements all) rest
   so_far = rw append-nil at (leads.forth [] rest g.no_statement)
 
-  module _ (x : List ℕ) (line : ℕ) (behind : List Token) (name : InFront (λ t. IsName t x × (t.line ≡ line)) rest behind) where
+  module _ (x : List ℕ) (line : ℕ) (behind : List Token) (name : InFront (λ t. IsNameToken t x × (t.line ≡ line)) rest behind) where
     -- with one more statement it leads on
     pub leads_next : (s : Statement) (after : List Token) → ReadsPut d x line behind s after → LeadsTo d ts (all ++ (s ∷ [])) after
     leads_next s after r = record {
@@ -188,7 +188,7 @@ module _ (d : ℕ) (ts : List Token) (all : List Statement) (rest : List Token) 
     }
 
   -- where no name follows, these are the statements
-  pub statements_read : (e : Stop) → Misses (λ t. (x : List ℕ) × IsName t x) rest e → ReadsStatements d Statements ts all rest
+  pub statements_read : (e : Stop) → Misses (λ t. (x : List ℕ) × IsNameToken t x) rest e → ReadsStatements d Statements ts all rest
   statements_read e m = record { reads = record { derived = so_far; ends = no_name rest e m }; small = small }
 
 -- between the braces of a block

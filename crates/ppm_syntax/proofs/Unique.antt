@@ -6,11 +6,11 @@ use Rattle.ppm_text.specs.declared.token.Token.{Token}
 use Rattle.ppm_syntax.specs.declared.tree.Operator.{Operator}
 use Rattle.ppm_syntax.specs.declared.tree.Param.{Param}
 use Rattle.ppm_syntax.specs.declared.tree.Array.{Array}
-use Rattle.ppm_syntax.specs.Tree.{Expression, Statement, Procedure, SourceTree}
+use Rattle.ppm_syntax.specs.Tree.{Expression, Statement, Procedure, ProgramTree}
 use Rattle.ppm_syntax.specs.Tree as tree
-use Rattle.ppm_syntax.specs.Grammar.{binary_of, of_level, operator_at, top, mode_of, IsName, IsNumber, IsKeyword, IsSign}
-use Rattle.ppm_syntax.specs.Grammar.{Part, Level, More, OneStatement, Statements, Block, Parameter, Parameters, MoreParameters, Source}
-use Rattle.ppm_syntax.specs.Grammar.{Node, expression, statement, statements, parameter, parameters, source, Derives, DerivesTree}
+use Rattle.ppm_syntax.specs.Grammar.{binary_of, of_level, operator_at, top, mode_of, IsNameToken, IsNumber, IsKeyword, IsSign}
+use Rattle.ppm_syntax.specs.Grammar.{Part, Level, More, OneStatement, Statements, Block, Parameter, Parameters, MoreParameters, Program}
+use Rattle.ppm_syntax.specs.Grammar.{Node, expression, statement, statements, parameter, parameters, program, Derives, DerivesTree}
 use Rattle.ppm_syntax.specs.Grammar as g
 use Rattle.ppm_syntax.specs.Parsing.{NoOperator, NoName, NoSign, HasSign, Ends, Reads}
 
@@ -133,7 +133,7 @@ same (g.proc {c = c1} {b = b1} {xs = xs} {mid = mid} {rest = rest} w n o q c b r
     let s = same q c q' c' in
     let behind : mid' ≡ mid = cc s.1 in
     let t = same b tt (subst (λ u. Derives (suc d') Block u (statements b2) rest') behind b') tt in
-    let u = same r tt (subst (λ w. Derives (suc d') Source w (source xs' ps') []) (sym t.1) r') tt in
+    let u = same r tt (subst (λ w. Derives (suc d') Program w (program xs' ps') []) (sym t.1) r') tt in
     (cc (s.0, t.0, u.0), refl)
 
 -- what a part reads as far as it goes is determined by the tokens
@@ -142,14 +142,14 @@ pub one_reading : {d d' : ℕ} {p : Part} {ts : List Token} {e e' : Node} {rest 
 one_reading r r' = same r.derived r.ends r'.derived r'.ends
 
 -- a tree from its parts
-tree_with : List Array → List Procedure → SourceTree
+tree_with : List Array → List Procedure → ProgramTree
 tree_with arrays procs = record { arrays = arrays; procs = procs }
 
 -- two trees with the same parts
-pub same_tree : (t u : SourceTree) → t.arrays ≡ u.arrays → t.procs ≡ u.procs → t ≡ u
+pub same_tree : (t u : ProgramTree) → t.arrays ≡ u.arrays → t.procs ≡ u.procs → t ≡ u
 unfolding tree_with
 same_tree t u arrays procs = let e : tree_with t.arrays t.procs ≡ tree_with u.arrays u.procs = cc in e
 
 -- tokens have one tree at most
-pub one_tree : {d e : ℕ} {ts : List Token} (t u : SourceTree) → DerivesTree d ts t → DerivesTree e ts u → t ≡ u
+pub one_tree : {d e : ℕ} {ts : List Token} (t u : ProgramTree) → DerivesTree d ts t → DerivesTree e ts u → t ≡ u
 one_tree t u r r' = let s = same r tt r' tt in same_tree t u (cc s.0) (cc s.0)

@@ -1,18 +1,18 @@
 -- What may still come can come: each state has a text behind it.
 use Rattle.std.proofs.Common.{◌≡◌, ℕ, zero, suc, List, [], ◌∷◌, ◌++◌, true, refl, subst, append-nil}
 use Rattle.std.specs.Prelude.{Some, pos}
-use Rattle.ppm_text.specs.declared.token.Keyword.TheVariants as word
+use Rattle.ppm_text.specs.declared.token.Keyword.TheVariants as keyword
 use Rattle.ppm_text.specs.declared.token.Sign.TheVariants as sign
 use Rattle.ppm_text.specs.declared.token.Kind.{Kind}
 use Rattle.ppm_text.specs.declared.token.Kind.TheVariants as kind
 use Rattle.ppm_text.specs.declared.token.Token.{Token}
-use Rattle.ppm_syntax.specs.Tree.{SourceTree}
+use Rattle.ppm_syntax.specs.Tree.{ProgramTree}
 use Rattle.ppm_syntax.specs.Tree as tree
 use Rattle.ppm_syntax.specs.Grammar.{top, Level, expression, Derives}
 use Rattle.ppm_syntax.specs.Grammar as g
 use Rattle.ppm_syntax.specs.Stack.{Symbol, Move, Stuck, On, move, can_end, State, state_at, with_count, run, then_run, moved, beginning}
 use Rattle.ppm_syntax.specs.Stack as stack
-use Rattle.ppm_syntax.specs.Faults.{IsText, Begins}
+use Rattle.ppm_syntax.specs.SyntaxRefusals.{IsText, Begins}
 use Rattle.ppm_syntax.proofs.StackTexts.{Gives, Yields, whole, then, Sound}
 use Rattle.ppm_syntax.proofs.StackTexts.{operand, more, index, end_index, end_group, target, end_target, value, semicolon, body, in_body}
 use Rattle.ppm_syntax.proofs.StackTexts.{array_name, array_open, array_length, array_close, proc_name, proc_open}
@@ -124,10 +124,10 @@ sample stack.ParameterName rest = let s = further_parameters_sample rest in (tok
 sample stack.FurtherParameters rest = further_parameters_sample rest
 sample stack.NextParameter rest =
     let s = further_parameters_sample rest in
-    (token_of (kind.Keyword word.Mut) ∷ token_of (kind.Name []) ∷ s.0, next_parameter (g.param refl refl refl) s.1)
+    (token_of (kind.Keyword keyword.Mut) ∷ token_of (kind.Name []) ∷ s.0, next_parameter (g.param refl refl refl) s.1)
 
 -- nothing is declared
-empty_tree : SourceTree
+empty_tree : ProgramTree
 empty_tree = record { arrays = []; procs = [] }
 
 -- a text that is still to come

@@ -1,21 +1,21 @@
 -- What it is for a text to have an admitted tree.
 use Rattle.std.specs.Prelude.{◌≡◌, ℕ, ◌≤◌, List, length}
 use Rattle.ppm_text.specs.declared.token.Token.{Token}
-use Rattle.ppm_syntax.specs.Tree.{SourceTree}
-use Rattle.ppm_text.specs.Cutting.{IsTextOf}
+use Rattle.ppm_syntax.specs.Tree.{ProgramTree}
+use Rattle.ppm_text.specs.Lexing.{IsTextOf}
 use Rattle.ppm_syntax.specs.Grammar.{DerivesTree}
 use Rattle.ppm_text.specs.Limits.{text_limit}
 use Rattle.ppm_syntax.specs.Limits.{depth_limit, IsWithin}
 use Rattle.ppm_syntax.specs.Rules.{IsAdmitted}
 
 -- by the grammar the text has this tree, with at most so many openings open at a time
-pub record IsTreeOf (depth : ℕ) (text : List ℕ) (t : SourceTree) : Type 0 where
+pub record IsTreeOf (depth : ℕ) (text : List ℕ) (t : ProgramTree) : Type 0 where
   pub tokens : List Token
-  pub cut : IsTextOf text tokens
+  pub lexed : IsTextOf text tokens
   pub derived : DerivesTree depth tokens t
 
 -- the text has this tree, which passes none of the limits and keeps the rules
-pub record HasTree (text : List ℕ) (t : SourceTree) : Type 0 where
+pub record HasTree (text : List ℕ) (t : ProgramTree) : Type 0 where
   pub short : length text ≤ text_limit
   pub tree : IsTreeOf depth_limit text t
   pub within : IsWithin t
@@ -23,8 +23,8 @@ pub record HasTree (text : List ℕ) (t : SourceTree) : Type 0 where
 
 -- the text has no such tree
 abbrev pub HasNoTree : List ℕ → Type 0
-HasNoTree text = (t : SourceTree) → HasTree text t → ⊥
+HasNoTree text = (t : ProgramTree) → HasTree text t → ⊥
 
 -- by the grammar a text has at most one tree, however deep
 abbrev pub HaveOneTree : Type 0
-HaveOneTree = (d e : ℕ) (text : List ℕ) (t u : SourceTree) → IsTreeOf d text t → IsTreeOf e text u → t ≡ u
+HaveOneTree = (d e : ℕ) (text : List ℕ) (t u : ProgramTree) → IsTreeOf d text t → IsTreeOf e text u → t ≡ u

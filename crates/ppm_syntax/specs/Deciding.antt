@@ -6,10 +6,10 @@ use Rattle.ppm_syntax.specs.declared.tree.Array.{Array}
 use Rattle.ppm_syntax.specs.declared.tree.Param.{Param}
 use Rattle.ppm_syntax.specs.declared.tree.Proc.{Proc}
 use Rattle.ppm_syntax.specs.declared.region_error.RegionError.{RegionError}
-use Rattle.ppm_syntax.specs.Tree.{Expression, Statement, Procedure, SourceTree}
+use Rattle.ppm_syntax.specs.Tree.{Expression, Statement, Procedure, ProgramTree}
 use Rattle.ppm_syntax.specs.Rules.{IsRegion}
-use Rattle.ppm_syntax.specs.RegionFaults.{NamesAt, UsesAt, WritesAt, Repeats, IsUnknownName, IsTwiceNamed}
-use Rattle.ppm_syntax.specs.RegionFaults.{IsWriteToRef, IsBadMain, IsNowhere, IsFirstLine, IsFault}
+use Rattle.ppm_syntax.specs.RegionRefusals.{NamesAt, UsesAt, WritesAt, Repeats, IsUnknownName, IsTwiceNamed}
+use Rattle.ppm_syntax.specs.RegionRefusals.{IsWriteToRef, IsBadMain, IsNowhere, IsFirstLine, IsFault}
 
 -- the first line at which it is so, if there is one
 pub record IsLeastLine (P : ℕ → Type 0) (found : Option ℕ) : Type 0 where
@@ -101,13 +101,13 @@ abbrev pub HasParameterTwice : Procedure → ℕ → Type 0
 HasParameterTwice p line = Repeats (λ q. q.name) (λ q. q.line) p.params line
 
 -- the tree has no fault at any line
-pub record HasNoFault (t : SourceTree) : Type 0 where
+pub record HasNoFault (t : ProgramTree) : Type 0 where
   pub unknown : IsNowhere (IsUnknownName t)
   pub twice : IsNowhere (IsTwiceNamed t)
   pub write : IsNowhere (IsWriteToRef t)
   pub bad : IsNowhere (IsBadMain t)
 
 -- the fault of the least number at its first line, if there is one
-pub record IsFirstFault (t : SourceTree) (found : Option RegionError) : Type 0 where
+pub record IsFirstFault (t : ProgramTree) (found : Option RegionError) : Type 0 where
   pub nowhere : found ≡ None → HasNoFault t
   pub fault : (e : RegionError) → found ≡ Some e → IsFault t e

@@ -1,7 +1,7 @@
 -- The grammar: which tokens have which tree, one case for each production.
 use Rattle.std.specs.Prelude.{◌≡◌, ◌==◌, ℕ, suc, pos, List, [], ◌∷◌, Option, Some, None, if◌then◌else◌}
 use Rattle.ppm_text.specs.declared.token.Keyword.{Keyword}
-use Rattle.ppm_text.specs.declared.token.Keyword.TheVariants as word
+use Rattle.ppm_text.specs.declared.token.Keyword.TheVariants as keyword
 use Rattle.ppm_text.specs.declared.token.Sign.{Sign}
 use Rattle.ppm_text.specs.declared.token.Sign.TheVariants as sign
 use Rattle.ppm_text.specs.declared.token.Kind.{Kind}
@@ -36,14 +36,14 @@ top = 1
 
 -- how a keyword says that a parameter is taken
 abbrev pub mode_of : Keyword → Option Mode
-mode_of word.Mut = Some mode.Mut
-mode_of word.Ref = Some mode.Ref
-mode_of word.Int = Some mode.Int
+mode_of keyword.Mut = Some mode.Mut
+mode_of keyword.Ref = Some mode.Ref
+mode_of keyword.Int = Some mode.Int
 mode_of _ = None
 
 -- the token is this name
-abbrev pub IsName : Token → List ℕ → Type 0
-IsName t x = t.kind ≡ kind.Name x
+abbrev pub IsNameToken : Token → List ℕ → Type 0
+IsNameToken t x = t.kind ≡ kind.Name x
 
 -- the token is this number
 abbrev pub IsNumber : Token → ℕ → Type 0
@@ -57,7 +57,7 @@ IsKeyword t k = t.kind ≡ kind.Keyword k
 abbrev pub IsSign : Token → Sign → Type 0
 IsSign t s = t.kind ≡ kind.Sign s
 
--- the nonterminals: an expression of a level, what follows a first operand of a level, and the parts of a source
+-- the nonterminals: an expression of a level, what follows a first operand of a level, and the parts of a program
 pub data Part : Type 0 where
   Level : (level : ℕ) → Part
   More : (level : ℕ) (left : Expression) → Part
@@ -67,7 +67,7 @@ pub data Part : Type 0 where
   Parameter : Part
   Parameters : Part
   MoreParameters : Part
-  Source : Part
+  Program : Part
 
 -- what a nonterminal stands for
 pub data Node : Type 0 where
@@ -76,7 +76,7 @@ pub data Node : Type 0 where
   statements : List Statement → Node
   parameter : Param → Node
   parameters : List Param → Node
-  source : (arrays : List Array) (procs : List Procedure) → Node
+  program : (arrays : List Array) (procs : List Procedure) → Node
 
 -- The tokens begin with the part, which gives the node, and the rest follows; inside it at most so many more
 -- openings (`[`, `(`, `{`) are open at a time.
@@ -84,7 +84,7 @@ pub data Derives : ℕ → Part → List Token → Node → List Token → Type 
   number : {d n : ℕ} {t : Token} {ts : List Token} →
       IsNumber t n → Derives d (Level 0) (t ∷ ts) (expression (tree.Number (pos n))) ts
   element : {d : ℕ} {n o c : Token} {x : List ℕ} {i : Expression} {ts rest : List Token} →
-      IsName n x → IsSign o sign.OpenBracket → Derives d (Level top) ts (expression i) (c ∷ rest) → IsSign c sign.CloseBracket →
+      IsNameToken n x → IsSign o sign.OpenBracket → Derives d (Level top) ts (expression i) (c ∷ rest) → IsSign c sign.CloseBracket →
       Derives (suc d) (Level 0) (n ∷ o ∷ ts) (expression (tree.Element x n.line i)) rest
   group : {d : ℕ} {o c : Token} {e : Expression} {ts rest : List Token} →
       IsSign o sign.OpenParen → Derives d (Level top) ts (expression e) (c ∷ rest) → IsSign c sign.CloseParen →
@@ -98,7 +98,7 @@ pub data Derives : ℕ → Part → List Token → Node → List Token → Type 
       Derives d (More (suc n) (tree.Binary o t.line a b)) mid (expression e) rest →
       Derives d (More (suc n) a) (t ∷ ts) (expression e) rest
   put : {d : ℕ} {n o c q s : Token} {x : List ℕ} {i v : Expression} {ts us rest : List Token} →
-      IsName n x → IsSign o sign.OpenBracket → Derives d (Level top) ts (expression i) (c ∷ q ∷ us) → IsSign c sign.CloseBracket →
+      IsNameToken n x → IsSign o sign.OpenBracket → Derives d (Level top) ts (expression i) (c ∷ q ∷ us) → IsSign c sign.CloseBracket →
       IsSign q sign.Assign → Derives (suc d) (Level top) us (expression v) (s ∷ rest) → IsSign s sign.Semicolon →
       Derives (suc d) OneStatement (n ∷ o ∷ ts) (statement (tree.Put x n.line i v)) rest
   no_statement : {d : ℕ} {ts : List Token} → Derives d Statements ts (statements []) ts
@@ -109,7 +109,7 @@ pub data Derives : ℕ → Part → List Token → Node → List Token → Type 
       IsSign o sign.OpenBrace → Derives d Statements ts (statements b) (c ∷ rest) → IsSign c sign.CloseBrace →
       Derives (suc d) Block (o ∷ ts) (statements b) rest
   param : {d : ℕ} {m n : Token} {k : Keyword} {how : Mode} {x : List ℕ} {ts : List Token} →
-      IsKeyword m k → mode_of k ≡ Some how → IsName n x →
+      IsKeyword m k → mode_of k ≡ Some how → IsNameToken n x →
       Derives d Parameter (m ∷ n ∷ ts) (parameter (record { mode = how; name = x; line = n.line })) ts
   no_parameter : {d : ℕ} {ts : List Token} → Derives d Parameters ts (parameters []) ts
   first_parameter : {d : ℕ} {p : Param} {ps : List Param} {ts mid rest : List Token} →
@@ -119,16 +119,16 @@ pub data Derives : ℕ → Part → List Token → Node → List Token → Type 
   next_parameter : {d : ℕ} {t : Token} {p : Param} {ps : List Param} {ts mid rest : List Token} →
       IsSign t sign.Comma → Derives d Parameter ts (parameter p) mid → Derives d MoreParameters mid (parameters ps) rest →
       Derives d MoreParameters (t ∷ ts) (parameters (p ∷ ps)) rest
-  end : {d : ℕ} → Derives d Source [] (source [] []) []
+  end : {d : ℕ} → Derives d Program [] (program [] []) []
   array : {d z : ℕ} {w n o l c s : Token} {x : List ℕ} {xs : List Array} {ps : List Procedure} {ts : List Token} →
-      IsKeyword w word.Array → IsName n x → IsSign o sign.OpenBracket → IsNumber l z → IsSign c sign.CloseBracket → IsSign s sign.Semicolon →
-      Derives (suc d) Source ts (source xs ps) [] →
-      Derives (suc d) Source (w ∷ n ∷ o ∷ l ∷ c ∷ s ∷ ts) (source (record { name = x; line = n.line; length = z } ∷ xs) ps) []
+      IsKeyword w keyword.Array → IsNameToken n x → IsSign o sign.OpenBracket → IsNumber l z → IsSign c sign.CloseBracket → IsSign s sign.Semicolon →
+      Derives (suc d) Program ts (program xs ps) [] →
+      Derives (suc d) Program (w ∷ n ∷ o ∷ l ∷ c ∷ s ∷ ts) (program (record { name = x; line = n.line; length = z } ∷ xs) ps) []
   proc : {d : ℕ} {w n o c : Token} {x : List ℕ} {qs : List Param} {b : List Statement} {xs : List Array} {ps : List Procedure} {ts mid rest : List Token} →
-      IsKeyword w word.Proc → IsName n x → IsSign o sign.OpenParen → Derives d Parameters ts (parameters qs) (c ∷ mid) → IsSign c sign.CloseParen →
-      Derives (suc d) Block mid (statements b) rest → Derives (suc d) Source rest (source xs ps) [] →
-      Derives (suc d) Source (w ∷ n ∷ o ∷ ts) (source xs (record { name = x; line = n.line; params = qs; body = b } ∷ ps)) []
+      IsKeyword w keyword.Proc → IsNameToken n x → IsSign o sign.OpenParen → Derives d Parameters ts (parameters qs) (c ∷ mid) → IsSign c sign.CloseParen →
+      Derives (suc d) Block mid (statements b) rest → Derives (suc d) Program rest (program xs ps) [] →
+      Derives (suc d) Program (w ∷ n ∷ o ∷ ts) (program xs (record { name = x; line = n.line; params = qs; body = b } ∷ ps)) []
 
--- the tokens are a source with this tree, with at most so many openings open at a time
-abbrev pub DerivesTree : ℕ → List Token → tree.SourceTree → Type 0
-DerivesTree d ts t = Derives d Source ts (source t.arrays t.procs) []
+-- the tokens are a program with this tree, with at most so many openings open at a time
+abbrev pub DerivesTree : ℕ → List Token → tree.ProgramTree → Type 0
+DerivesTree d ts t = Derives d Program ts (program t.arrays t.procs) []

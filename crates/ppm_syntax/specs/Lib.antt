@@ -7,9 +7,9 @@ pub mod Meaning
 pub mod Parsing
 pub mod Correct
 pub mod Deciding
-pub mod SyntaxRefusals
-pub mod RegionFaults
+pub mod SyntaxErrorNumbers
 pub mod RegionRefusals
+pub mod RegionErrorNumbers
 pub mod Stack
-pub mod Faults
+pub mod SyntaxRefusals
 pub mod Verdict

@@ -2,14 +2,14 @@
 use Rattle.std.specs.Prelude.{ℕ, ◌+◌, ◌≤◌, ◌<◌, ◌^◌, ℤ, pos, negsuc, List, [], ◌∷◌, length}
 use Rattle.std.specs.List.{All}
 use Rattle.ppm_syntax.specs.declared.tree.Array.{Array}
-use Rattle.ppm_syntax.specs.Tree.{Expression, Statement, Procedure, SourceTree}
+use Rattle.ppm_syntax.specs.Tree.{Expression, Statement, Procedure, ProgramTree}
 use Rattle.ppm_syntax.specs.Tree as tree
 
 -- openings that are open at a time
 abbrev pub depth_limit : ℕ
 depth_limit = 32
 
--- the arrays of a source
+-- the arrays of a program
 abbrev pub array_limit : ℕ
 array_limit = 64
 
@@ -17,7 +17,7 @@ array_limit = 64
 abbrev pub word_limit : ℕ
 word_limit = 4194304
 
--- the procedures of a source
+-- the procedures of a program
 abbrev pub procedure_limit : ℕ
 procedure_limit = 1
 
@@ -70,7 +70,7 @@ pub record IsSmall (p : Procedure) : Type 0 where
   pub body : All IsSmallStatement p.body
 
 -- a tree passes none of the limits
-pub record IsWithin (t : SourceTree) : Type 0 where
+pub record IsWithin (t : ProgramTree) : Type 0 where
   pub arrays : length t.arrays ≤ array_limit
   pub words : words_of t.arrays ≤ word_limit
   pub procedures : length t.procs ≤ procedure_limit

@@ -5,7 +5,7 @@ use Rattle.ppm_text.specs.declared.token.Token.{Token}
 use Rattle.ppm_text.specs.Limits.{text_limit}
 use Rattle.ppm_syntax.specs.declared.tree.Param.{Param}
 use Rattle.ppm_syntax.specs.declared.tree.Array.{Array}
-use Rattle.ppm_syntax.specs.Tree.{Expression, Statement, Procedure, SourceTree}
+use Rattle.ppm_syntax.specs.Tree.{Expression, Statement, Procedure, ProgramTree}
 use Rattle.ppm_syntax.specs.Tree as tree
 
 -- the lines of a text: each ends at a line feed, and one goes up to the end
@@ -46,6 +46,6 @@ pub record ProcedureLines (p : Procedure) : Type 0 where
   pub body : All StatementLines p.body
 
 -- each line in a tree is one of a text
-pub record HasLines (t : SourceTree) : Type 0 where
+pub record HasLines (t : ProgramTree) : Type 0 where
   pub arrays : All ArrayLine t.arrays
   pub procs : All ProcedureLines t.procs

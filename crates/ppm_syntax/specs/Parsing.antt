@@ -13,10 +13,10 @@ use Rattle.ppm_syntax.specs.declared.stop.Stop.TheVariants as stop
 use Rattle.ppm_syntax.specs.declared.parsing.Declared.{Declared}
 use Rattle.ppm_syntax.specs.declared.syntax_error.SyntaxError.{SyntaxError}
 use Rattle.ppm_syntax.specs.declared.syntax_error.SyntaxError.TheVariants as error
-use Rattle.ppm_syntax.specs.Tree.{Expression, Statement, Procedure, SourceTree, procedure_of}
-use Rattle.ppm_syntax.specs.Grammar.{Part, Level, More, OneStatement, Statements, Block, Parameter, Parameters, MoreParameters, Source, Node, Derives}
+use Rattle.ppm_syntax.specs.Tree.{Expression, Statement, Procedure, ProgramTree, procedure_of}
+use Rattle.ppm_syntax.specs.Grammar.{Part, Level, More, OneStatement, Statements, Block, Parameter, Parameters, MoreParameters, Program, Node, Derives}
 use Rattle.ppm_syntax.specs.Grammar.{DerivesTree}
-use Rattle.ppm_syntax.specs.Grammar.{operator_at, top, mode_of, IsName, IsNumber, IsKeyword, IsSign, expression, statement, statements, parameters}
+use Rattle.ppm_syntax.specs.Grammar.{operator_at, top, mode_of, IsNameToken, IsNumber, IsKeyword, IsSign, expression, statement, statements, parameters}
 use Rattle.ppm_syntax.specs.Limits.{nodes_of, HasLiterals, IsSmallStatement, IsSmall, IsWithin, words_of, word_limit, node_limit, depth_limit}
 use Rattle.ppm_syntax.specs.Stack.{Symbol, Tally, State, state_at, openings, passed}
 use Rattle.ppm_syntax.specs.Stack as stack
@@ -35,7 +35,7 @@ NoOperatorOf n (t ∷ ts) = operator_at n t.kind ≡ None
 -- no name stands in front
 abbrev pub NoName : List Token → Type 0
 NoName [] = Unit {0}
-NoName (t ∷ ts) = (x : List ℕ) → IsName t x → ⊥
+NoName (t ∷ ts) = (x : List ℕ) → IsNameToken t x → ⊥
 
 -- the sign stands in front
 abbrev pub HasSign : Sign → List Token → Type 0
@@ -68,7 +68,7 @@ Ends Block rest = Unit {0}
 Ends Parameter rest = Unit {0}
 Ends Parameters rest = HasSign sign.CloseParen rest
 Ends MoreParameters rest = NoSign sign.Comma rest
-Ends Source rest = Unit {0}
+Ends Program rest = Unit {0}
 
 -- the tokens begin with the part, which goes as far as it can
 pub record Reads (d : ℕ) (p : Part) (ts : List Token) (node : Node) (rest : List Token) : Type 0 where
@@ -144,13 +144,13 @@ pub record FailsUpTo (depth nodes : ℕ) (s : Sign) (ts : List Token) (e : Stop)
 
 -- the tokens behind a name go on with an index in brackets, and so it is an element
 pub record ReadsElement (d room : ℕ) (x : List ℕ) (line : ℕ) (ts : List Token) (e : Expression) (left : ℕ) (rest : List Token) : Type 0 where
-  pub reads : (n : Token) → IsName n x → n.line ≡ line → Derives d (Level 0) (n ∷ ts) (expression e) rest
+  pub reads : (n : Token) → IsNameToken n x → n.line ≡ line → Derives d (Level 0) (n ∷ ts) (expression e) rest
   pub nodes : nodes_of e + left ≡ room
   pub literals : HasLiterals e
 
 -- the tokens behind a name go on with an index, a value and a semicolon, and so it is a statement within the limits
 pub record ReadsPut (d : ℕ) (x : List ℕ) (line : ℕ) (ts : List Token) (s : Statement) (rest : List Token) : Type 0 where
-  pub reads : (n : Token) → IsName n x → n.line ≡ line → Derives d OneStatement (n ∷ ts) (statement s) rest
+  pub reads : (n : Token) → IsNameToken n x → n.line ≡ line → Derives d OneStatement (n ∷ ts) (statement s) rest
   pub small : IsSmallStatement s
 
 -- statements within the limits are read
@@ -175,7 +175,7 @@ pub record ReadsArray (words : ℕ) (ts : List Token) (a : Array) (rest : List T
   pub closed : Token
   pub semicolon : Token
   pub shape : ts ≡ name ∷ opened ∷ number ∷ closed ∷ semicolon ∷ rest
-  pub is_name : IsName name a.name
+  pub is_name : IsNameToken name a.name
   pub at : name.line ≡ a.line
   pub is_opened : IsSign opened sign.OpenBracket
   pub is_number : IsNumber number a.length
@@ -191,7 +191,7 @@ pub record ReadsProcedure (d : ℕ) (ts : List Token) (p : Procedure) (rest : Li
   pub inside : List Token
   pub behind : List Token
   pub shape : ts ≡ name ∷ opened ∷ inside
-  pub is_name : IsName name p.name
+  pub is_name : IsNameToken name p.name
   pub at : name.line ≡ p.line
   pub is_opened : IsSign opened sign.OpenParen
   pub params : Derives 0 Parameters inside (parameters p.params) (closed ∷ behind)
@@ -200,7 +200,7 @@ pub record ReadsProcedure (d : ℕ) (ts : List Token) (p : Procedure) (rest : Li
   pub small : IsSmall p
 
 -- the tree of what is declared so far
-abbrev pub tree_so_far : Declared → SourceTree
+abbrev pub tree_so_far : Declared → ProgramTree
 tree_so_far s = record { arrays = s.arrays.items; procs = map procedure_of s.procs.items }
 
 -- what is declared so far passes none of the limits, and so many array words are left
@@ -215,7 +215,7 @@ pub record IsCounted (s : Declared) (c : Tally) : Type 0 where
   pub procedures : length s.procs.items ≡ c.procedures
 
 -- what is declared in one, and then in the other
-abbrev pub joined : SourceTree → SourceTree → SourceTree
+abbrev pub joined : ProgramTree → ProgramTree → ProgramTree
 joined t u = record { arrays = t.arrays ++ u.arrays; procs = t.procs ++ u.procs }
 
 -- the verdict passes from the tokens to the rest, and what came then is what is declared then
@@ -224,8 +224,8 @@ PassesItem c ts new rest = (d : Tally) × IsCounted new d × (passed d ≡ None)
 
 -- one more declaration is read, and all are within the limits
 pub record AddsItem (ts : List Token) (old new : Declared) (rest : List Token) : Type 0 where
-  pub item : SourceTree
-  pub reads : (later : SourceTree) → DerivesTree depth_limit rest later → DerivesTree depth_limit ts (joined item later)
+  pub item : ProgramTree
+  pub reads : (later : ProgramTree) → DerivesTree depth_limit rest later → DerivesTree depth_limit ts (joined item later)
   pub tree : tree_so_far new ≡ joined (tree_so_far old) item
   pub so_far : IsSoFar new
   pub shorter : length rest < length ts

@@ -5,7 +5,7 @@ use Rattle.std.specs.Str.{bytes_eq}
 use Rattle.ppm_syntax.specs.declared.tree.Mode.TheVariants as mode
 use Rattle.ppm_syntax.specs.declared.tree.Param.{Param}
 use Rattle.ppm_syntax.specs.declared.tree.Array.{Array}
-use Rattle.ppm_syntax.specs.Tree.{Expression, Statement, Procedure, SourceTree}
+use Rattle.ppm_syntax.specs.Tree.{Expression, Statement, Procedure, ProgramTree}
 use Rattle.ppm_syntax.specs.Tree as tree
 
 -- the parameter is a region
@@ -42,7 +42,7 @@ pub record IsMain (arrays : List Array) (p : Procedure) : Type 0 where
   pub named : All (λ q. Contains (map (λ a. a.name) arrays) q.name) p.params
 
 -- a tree keeps the rules
-pub record IsAdmitted (t : SourceTree) : Type 0 where
+pub record IsAdmitted (t : ProgramTree) : Type 0 where
   pub arrays : IsDistinct bytes_eq (map (λ a. a.name) t.arrays)
   pub procedures : IsDistinct bytes_eq (map (λ p. p.name) t.procs)
   pub main : (p : Procedure) × Contains t.procs p × IsMain t.arrays p

@@ -1,6 +1,6 @@
 -- What a text that was read so far may go on with, and what it has counted.
 use Rattle.std.specs.Prelude.{ℕ, zero, suc, ◌+◌, List, [], ◌∷◌, Option, Some, None, if◌then◌else◌, nat_lt, Bool, true, false}
-use Rattle.ppm_text.specs.declared.token.Keyword.TheVariants as word
+use Rattle.ppm_text.specs.declared.token.Keyword.TheVariants as keyword
 use Rattle.ppm_text.specs.declared.token.Sign.TheVariants as sign
 use Rattle.ppm_text.specs.declared.token.Kind.{Kind}
 use Rattle.ppm_text.specs.declared.token.Kind.TheVariants as kind
@@ -164,8 +164,8 @@ next_parameter _ st = Stuck
 
 -- a declaration begins
 abbrev pub declaration : Kind → Move
-declaration (kind.Keyword word.Array) = On AnArray (ArrayName ∷ [])
-declaration (kind.Keyword word.Proc) = On AProcedure (ProcName ∷ [])
+declaration (kind.Keyword keyword.Array) = On AnArray (ArrayName ∷ [])
+declaration (kind.Keyword keyword.Proc) = On AProcedure (ProcName ∷ [])
 declaration _ = Stuck
 
 -- one more token; between two declarations no symbol is still to come

@@ -27,8 +27,8 @@ pub record Procedure : Type 0 where
   pub params : List Param
   pub body : List Statement
 
--- what a source declares, each kind in the order of the text
-pub record SourceTree : Type 0 where
+-- what a program declares, each kind in the order of the text
+pub record ProgramTree : Type 0 where
   pub arrays : List Array
   pub procs : List Procedure
 
@@ -46,6 +46,6 @@ statement_of (stmt.Put x line index value) = Put x line (expression_of index) (e
 abbrev pub procedure_of : Proc → Procedure
 procedure_of p = record { name = p.name; line = p.line; params = p.params; body = map statement_of p.body }
 
--- the source that a declared type holds
-abbrev pub tree_of : Tree → SourceTree
+-- the program that a declared type holds
+abbrev pub tree_of : Tree → ProgramTree
 tree_of t = record { arrays = t.arrays; procs = map procedure_of t.procs }

@@ -1,11 +1,11 @@
--- What the state says of tokens, by which the parser's functions tell their refusals.
+-- What the state says of tokens, by which the parser's functions answer their refusals.
 use Rattle.std.specs.Prelude.{ℕ, Bool, true, false, nat_lt, List, [], ◌∷◌, Option, Some, None}
 use Rattle.ppm_text.specs.declared.token.Token.{Token}
 use Rattle.ppm_syntax.specs.declared.limit.Limit.{Limit}
 use Rattle.ppm_syntax.specs.Limits.{depth_limit}
 use Rattle.ppm_syntax.specs.Stack.{State, step, openings, can_end, passed}
 
--- a source within the limits, or which fault it has first
+-- a program within the limits, or which fault it has first
 pub data Verdict : Type 0 where
   Whole : Verdict
   Cut : Verdict

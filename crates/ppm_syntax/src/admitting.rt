@@ -1,13 +1,13 @@
-//! From a source to an admitted one.
+//! From a program to an admitted one.
 ghost use Rattle.std.specs.Prelude.{◌≡◌, IfOk, IfErr};
 ghost use Rattle.ppm_syntax.specs.Tree.{tree_of};
-ghost use Rattle.ppm_syntax.specs.RegionFaults.{HasFault};
+ghost use Rattle.ppm_syntax.specs.RegionRefusals.{IsRefused};
 ghost use Rattle.ppm_syntax.specs.Deciding.{IsFirstFault};
 
-use crate::opening::opening_input;
+use crate::initial::initial_input;
 use crate::region_error::RegionError;
 use crate::rules::{bad_main, twice_named, unknown_name, write_to_ref};
-use crate::source::{Admitted, Source};
+use crate::program::{Admitted, Program};
 use crate::tree::Tree;
 use std::alloc::Global;
 
@@ -30,17 +30,17 @@ fn fault(tree: &Tree) -> Option<RegionError>
     None
 }
 
-/// The source with the arrays that it starts with, where it keeps the rules of names and regions; else the fault of the
+/// The program with the arrays that it starts with, where it keeps the rules of names and regions; else the fault of the
 /// least number, and of these the first in the text.
-pub fn admit(alloc: Global, source: Source) -> Result<Admitted, RegionError>
-    ensures admitted { IfOk result (λ a. a ≡ source) }
-    ensures refused { IfErr result (HasFault (tree_of source)) }
+pub fn admit(alloc: Global, program: Program) -> Result<Admitted, RegionError>
+    ensures admitted { IfOk result (λ a. a ≡ program) }
+    ensures refused { IfErr result (IsRefused (tree_of program)) }
 {
-    if let Some(error) = fault(source.tree()) {
+    if let Some(error) = fault(program.tree()) {
         return Err(error);
     }
-    let input = opening_input(alloc, &source)?;
-    Ok(Admitted::from_parts(source, input))
+    let input = initial_input(alloc, &program)?;
+    Ok(Admitted::from_parts(program, input))
 }
 
 #[cfg(test)]

@@ -1,6 +1,6 @@
 //! What stands in front of some tokens.
 ghost use Rattle.std.specs.Prelude.{◌≡◌, ℕ, List, MatchOption, MatchResult};
-ghost use Rattle.ppm_syntax.specs.Grammar.{IsName, IsNumber, IsKeyword, IsSign, operator_at, mode_of};
+ghost use Rattle.ppm_syntax.specs.Grammar.{IsNameToken, IsNumber, IsKeyword, IsSign, operator_at, mode_of};
 ghost use Rattle.ppm_syntax.specs.Parsing.{InFront, Misses, IsMode, NoOperatorOf};
 
 use crate::stop::Stop;
@@ -51,8 +51,8 @@ pub fn take_word(tokens: &[Token], word: Keyword) -> Result<(u32, &[Token]), Sto
 /// The name in front with its line, and the tokens behind it.
 pub fn name(tokens: &[Token]) -> Result<(&Name, u32, &[Token]), Stop>
     ensures { MatchResult result
-        (λ r. InFront (λ t. IsName t r.0.now × (t.line ≡ r.1)) tokens.now r.2.now)
-        (Misses (λ t. (x : List ℕ) × IsName t x) tokens.now) }
+        (λ r. InFront (λ t. IsNameToken t r.0.now × (t.line ≡ r.1)) tokens.now r.2.now)
+        (Misses (λ t. (x : List ℕ) × IsNameToken t x) tokens.now) }
 {
     match tokens {
         [

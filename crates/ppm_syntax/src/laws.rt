@@ -1,8 +1,8 @@
 //! What is true of every text and every run, shown by calls that do nothing.
 ghost use Rattle.ppm_syntax.specs.Correct.{HaveOneTree};
-ghost use Rattle.ppm_syntax.specs.Faults.{HaveOneAnswer};
-ghost use Rattle.ppm_syntax.specs.Meaning.{MoreTurnsKeep};
-ghost use Rattle.ppm_syntax.specs.RegionFaults.{HaveOneRegionFault};
+ghost use Rattle.ppm_syntax.specs.Correct.{HaveOneAnswer};
+ghost use Rattle.ppm_syntax.specs.Correct.{MoreTurnsKeep};
+ghost use Rattle.ppm_syntax.specs.Correct.{HaveOneRegionFault};
 
 /// By the grammar a text has at most one tree.
 pub fn have_one_tree()

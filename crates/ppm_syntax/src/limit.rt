@@ -1,12 +1,12 @@
-//! The limits on how many of a kind a source has.
+//! The limits on how many of a kind a program has.
 ghost use Rattle.std.specs.Prelude.{◌≡◌};
-ghost use Rattle.ppm_syntax.specs.SyntaxRefusals.{which_of};
+ghost use Rattle.ppm_syntax.specs.SyntaxErrorNumbers.{which_of};
 
-/// What a source has a limit on. At most 64 arrays, 4,194,304 words in them, 1 procedure, 12 parameters of a procedure
+/// What a program has a limit on. At most 64 arrays, 4,194,304 words in them, 1 procedure, 12 parameters of a procedure
 /// and 48 nodes in the expressions of a statement.
 #[derive(Clone, Copy, Debug, PartialEq, Eq)]
 pub enum Limit {
-    /// The arrays of the source.
+    /// The arrays of the program.
     Arrays,
     /// The words of all its arrays together.
     ArrayWords,

@@ -1,6 +1,6 @@
 //! What has a name and a line, and lists of such.
 ghost use Rattle.std.specs.Prelude.{◌≡◌, ◌↔◌, IsTrue, List, [], ◌∷◌, ℕ, map, MatchOption};
-ghost use Rattle.ppm_syntax.specs.RegionFaults.{Repeats};
+ghost use Rattle.ppm_syntax.specs.RegionRefusals.{Repeats};
 ghost use Rattle.ppm_syntax.specs.Deciding.{IsLeastLine, HasOneAt, HasNamed, IsNamedAt};
 
 use crate::line::earlier;

@@ -1,4 +1,4 @@
-//! From tokens to the tree of a source.
+//! From tokens to the tree of a program.
 ghost use Rattle.std.specs.Prelude.{◌≡◌, ◌<◌, ℕ, length, Err, MatchResult, IfOk};
 ghost use Rattle.std.specs.List.{All};
 ghost use Rattle.ppm_text.specs.declared.token.Keyword.TheVariants as keyword;
@@ -7,7 +7,7 @@ ghost use Rattle.ppm_syntax.specs.Tree.{tree_of};
 ghost use Rattle.ppm_syntax.specs.Limits.{depth_limit};
 ghost use Rattle.ppm_syntax.specs.Lines.{TokenLine};
 ghost use Rattle.ppm_syntax.specs.Grammar.{DerivesTree};
-ghost use Rattle.ppm_syntax.specs.Faults.{IsFirstUnexpected, IsEnded, IsTooDeep, IsTooMany};
+ghost use Rattle.ppm_syntax.specs.SyntaxRefusals.{IsFirstUnexpected, IsEnded, IsTooDeep, IsTooMany};
 ghost use Rattle.ppm_syntax.specs.Stack.{beginning};
 ghost use Rattle.ppm_syntax.specs.Verdict.{verdict};
 ghost use Rattle.ppm_syntax.specs.Parsing.{IsSoFar, AddsBehind, FailsBehind, AddsItem, FailsItem, Tells};
@@ -15,7 +15,7 @@ ghost use Rattle.ppm_syntax.specs.Parsing.{IsSoFar, AddsBehind, FailsBehind, Add
 use crate::declaration::{array, procedure};
 use crate::front::take_word;
 use crate::limit::Limit;
-use crate::source::Source;
+use crate::program::Program;
 use crate::stop::Stop;
 use crate::syntax_error::SyntaxError;
 use crate::tree::{Array, Proc, Tree};
@@ -23,13 +23,13 @@ use ppm_text::{Keyword, Token, Tokens};
 use ppm_words::Items;
 use std::alloc::Global;
 
-/// The arrays of a source.
+/// The arrays of a program.
 const ARRAY_LIMIT: usize = 64;
 
 /// The words of all its arrays together.
 const WORD_LIMIT: u32 = 4_194_304;
 
-/// The procedures of a source.
+/// The procedures of a program.
 const PROCEDURE_LIMIT: usize = 1;
 
 /// What is declared so far, and how many array words are left.
@@ -121,7 +121,7 @@ fn add_item(
 }
 
 /// The tree of the tokens, or the verdict on them.
-fn derive(alloc: Global, tokens: &[Token]) -> Result<Source, Stop>
+fn derive(alloc: Global, tokens: &[Token]) -> Result<Program, Stop>
     requires lines { All TokenLine tokens.now }
     ensures { MatchResult result
         (λ s. DerivesTree depth_limit tokens.now (tree_of s))
@@ -142,13 +142,13 @@ fn derive(alloc: Global, tokens: &[Token]) -> Result<Source, Stop>
         arrays: Items::from_vec(declared.arrays),
         procs: Items::from_vec(declared.procs),
     };
-    Ok(Source::from_tree(tree))
+    Ok(Program::from_tree(tree))
 }
 
 /// The tree of the tokens, by the grammar and within the limits. The first token that cannot come, goes too deep or
 /// passes a limit is refused, and so are tokens that end too early. `have_one_answer` shows that no tokens have two
 /// answers but for want of memory.
-pub fn parse(alloc: Global, tokens: &Tokens) -> Result<Source, SyntaxError>
+pub fn parse(alloc: Global, tokens: &Tokens) -> Result<Program, SyntaxError>
     ensures tree { IfOk result (λ s. DerivesTree depth_limit tokens.now.tokens (tree_of s)) }
 
     // No text of the grammar begins with the tokens up to this one, and one does with those in front of it.
@@ -163,7 +163,7 @@ pub fn parse(alloc: Global, tokens: &Tokens) -> Result<Source, SyntaxError>
 {
     let text_len = tokens.text_len();
     match derive(alloc, tokens.as_slice()) {
-        Ok(source) => Ok(source),
+        Ok(program) => Ok(program),
         Err(stop) => Err(stop.in_text(text_len)),
     }
 }

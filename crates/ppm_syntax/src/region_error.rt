@@ -1,11 +1,11 @@
-//! Why a source is not admitted.
+//! Why a program is not admitted.
 ghost use Rattle.std.specs.Prelude.{◌≡◌};
-ghost use Rattle.ppm_syntax.specs.RegionRefusals.{number_of, line_of};
+ghost use Rattle.ppm_syntax.specs.RegionErrorNumbers.{number_of, line_of};
 
 use ppm_words::NoMemory;
 use thiserror::Error;
 
-/// Why a source is not admitted, with the line of the name at fault. Lines count from 1.
+/// Why a program is not admitted, with the line of the name at fault. Lines count from 1.
 #[derive(Clone, Copy, Debug, PartialEq, Eq, Error)]
 pub enum RegionError {
     /// The procedure declares nothing of this name.

@@ -2,7 +2,7 @@
 ghost use Rattle.std.specs.Prelude.{◌≡◌, ◌↔◌, IsTrue, map};
 ghost use Rattle.ppm_syntax.specs.Tree.{expression_of, statement_of, procedure_of, tree_of};
 ghost use Rattle.ppm_syntax.specs.Rules.{Declares};
-ghost use Rattle.ppm_syntax.specs.RegionFaults.{IsUnknownName, IsTwiceNamed, IsWriteToRef, IsBadMain};
+ghost use Rattle.ppm_syntax.specs.RegionRefusals.{IsUnknownName, IsTwiceNamed, IsWriteToRef, IsBadMain};
 ghost use Rattle.ppm_syntax.specs.Deciding.{IsLeastLine, HasOne, HasOneAt};
 ghost use Rattle.ppm_syntax.specs.Deciding.{IsUnknown, ReadsUnknown, UsesUnknown, HasParameterTwice};
 ghost use Rattle.ppm_syntax.specs.Deciding.{IsOnlyRead, WritesRef, IsNamedMain, IsMainParam, IsBad, HasBad};

@@ -1,6 +1,6 @@
 //! Why tokens have no tree.
 ghost use Rattle.std.specs.Prelude.{◌≡◌};
-ghost use Rattle.ppm_syntax.specs.SyntaxRefusals.{number_of, place_of};
+ghost use Rattle.ppm_syntax.specs.SyntaxErrorNumbers.{number_of, place_of};
 
 use crate::limit::Limit;
 use ppm_words::NoMemory;

@@ -1,4 +1,4 @@
-//! The tree of a source, with the line of each token that a trap or a refusal can name.
+//! The tree of a program, with the line of each token that a trap or a refusal can name.
 //! Lines count from 1. Parentheses leave no node.
 
 use ppm_words::{Items, Name};
@@ -64,7 +64,7 @@ pub struct Proc {
     pub body: Items<Stmt>,
 }
 
-/// What a source declares, each kind in the order of the text.
+/// What a program declares, each kind in the order of the text.
 #[derive(Drop)]
 pub struct Tree {
     pub arrays: Items<Array>,

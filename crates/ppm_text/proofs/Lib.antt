@@ -1,5 +1,5 @@
 pub mod BytesLemmas
 pub mod SpellingLemmas
-pub mod CuttingLemmas
+pub mod LexingLemmas
 pub mod ScanLemmas
 pub mod ReadingLemmas

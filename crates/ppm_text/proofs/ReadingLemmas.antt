@@ -1,4 +1,4 @@
--- Each text is cut into tokens, or has a fault.
+-- Each text is lexed into tokens, or has a fault.
 use Rattle.std.proofs.Common.{◌≡◌, ℕ, zero, suc, ◌+◌, ◌<◌, ◌≤◌, ◌^◌, ◌⊎◌, Bool, true, false, List, [], ◌∷◌, length, take, drop}
 use Rattle.std.proofs.Common.{arith, refl, inl, inr, subst, length-drop}
 use Rattle.std.specs.Prelude.{Option, Some, None, nat_lt}
@@ -15,11 +15,12 @@ use Rattle.ppm_text.specs.declared.text_error.TextError.{TextError}
 use Rattle.ppm_text.specs.declared.text_error.TextError.TheVariants as error
 use Rattle.ppm_text.specs.Bytes.{class_of, is_comment_byte, value_from}
 use Rattle.ppm_text.specs.Spelling.{keyword_of, sign_of, Longest, IsInRange}
-use Rattle.ppm_text.specs.Cutting.{Skips, line_feed, blank, comment, located, Cuts, here, skip, token, IsTextOf, IsFault, not_ascii, FaultsAt}
+use Rattle.ppm_text.specs.Lexing.{Skips, line_feed, blank, comment, located, Lexes, here, skip, token, IsTextOf}
+use Rattle.ppm_text.specs.Refusals.{IsFault, not_ascii, FaultsAt}
 use Rattle.ppm_text.specs.Correct.{HasOneReading}
 use Rattle.ppm_text.specs.Scanning.{IsSignOf, IsNoSign}
 use Rattle.ppm_text.proofs.SpellingLemmas.{longest_two, longest_one}
-use Rattle.ppm_text.proofs.CuttingLemmas.{skips_bounds, longest_something, one_cutting, one_fault, fault_refuses, fault_place}
+use Rattle.ppm_text.proofs.LexingLemmas.{skips_bounds, longest_something, one_lexing, one_fault, fault_refuses, fault_place}
 use Rattle.ppm_text.proofs.ScanLemmas.{front_keyword, front_short_name, front_long_name, front_number, front_big_number, front_nothing}
 
 -- the bytes begin with a blank or a comment, with a token, or with a fault
@@ -36,8 +37,8 @@ is_short : (n m : ℕ) → nat_lt n m ≡ false → m ≤ n
 is_short n m h = grind (arith, h)
 
 -- a word is a keyword, a name or too long
-word_begins : (p b : ℕ) (bs : List ℕ) → class_of b ≡ Letter → BeginsSomehow p (b ∷ bs)
-word_begins p b bs is = go (keyword_of (take n (b ∷ bs))) refl
+identifier_begins : (p b : ℕ) (bs : List ℕ) → class_of b ≡ Letter → BeginsSomehow p (b ∷ bs)
+identifier_begins p b bs is = go (keyword_of (take n (b ∷ bs))) refl
   where
     n : ℕ
     n = prefix_len is_name_byte (b ∷ bs)
@@ -87,7 +88,7 @@ begins_somehow : (p b : ℕ) (bs : List ℕ) → BeginsSomehow p (b ∷ bs)
 begins_somehow p b bs = go (class_of b) refl
   where
     go : (class : ByteClass) → class_of b ≡ class → BeginsSomehow p (b ∷ bs)
-    go Letter is = word_begins p b bs is
+    go Letter is = identifier_begins p b bs is
     go Digit is = digits_begin p b bs is
     go LineFeed is = inl (1, 1, line_feed is)
     go Blank is = inl (1, 0, blank is)
@@ -95,46 +96,46 @@ begins_somehow p b bs = go (class_of b) refl
     go Mark is = mark_begins p b bs is
     go High is = inr (inr (error.NotAscii p, not_ascii is))
 
--- the bytes are cut to their end, or up to a fault
-pub record IsCutTo (p l : ℕ) (bytes rest : List ℕ) : Type 0 where
+-- the bytes are lexed to their end, or up to a fault
+pub record IsLexedTo (p l : ℕ) (bytes rest : List ℕ) : Type 0 where
   pub tokens : List Token
   pub place : ℕ
   pub line : ℕ
-  pub cut : Cuts p l bytes tokens place line rest
+  pub lexed : Lexes p l bytes tokens place line rest
 
-pub record IsCutToFault (p l : ℕ) (bytes : List ℕ) : Type 0 where
+pub record IsLexedToFault (p l : ℕ) (bytes : List ℕ) : Type 0 where
   pub rest : List ℕ
   pub error : TextError
-  pub to : IsCutTo p l bytes rest
+  pub to : IsLexedTo p l bytes rest
   pub fault : IsFault to.place rest error
 
 abbrev IsReadSomehow : ℕ → ℕ → List ℕ → Type 0
-IsReadSomehow p l bytes = IsCutTo p l bytes [] ⊎ IsCutToFault p l bytes
+IsReadSomehow p l bytes = IsLexedTo p l bytes [] ⊎ IsLexedToFault p l bytes
 
 -- behind a blank or a comment
 behind_skip : (p l n f : ℕ) (bytes : List ℕ) → Skips bytes n f → IsReadSomehow (p + n) (l + f) (drop n bytes) → IsReadSomehow p l bytes
-behind_skip p l n f bytes s (inl c) = inl (record { tokens = c.tokens; place = c.place; line = c.line; cut = skip s c.cut })
+behind_skip p l n f bytes s (inl c) = inl (record { tokens = c.tokens; place = c.place; line = c.line; lexed = skip s c.lexed })
 behind_skip p l n f bytes s (inr c) = inr (record {
   rest = c.rest;
   error = c.error;
-  to = record { tokens = c.to.tokens; place = c.to.place; line = c.to.line; cut = skip s c.to.cut };
+  to = record { tokens = c.to.tokens; place = c.to.place; line = c.to.line; lexed = skip s c.to.lexed };
   fault = c.fault;
 })
 
 -- behind a token
 behind_token : (p l n : ℕ) (k : Kind) (bytes : List ℕ) → Longest bytes n k → IsInRange k → IsReadSomehow (p + n) l (drop n bytes) → IsReadSomehow p l bytes
 behind_token p l n k bytes t fits (inl c) =
-    inl (record { tokens = located k p l ∷ c.tokens; place = c.place; line = c.line; cut = token t fits c.cut })
+    inl (record { tokens = located k p l ∷ c.tokens; place = c.place; line = c.line; lexed = token t fits c.lexed })
 behind_token p l n k bytes t fits (inr c) = inr (record {
   rest = c.rest;
   error = c.error;
-  to = record { tokens = located k p l ∷ c.to.tokens; place = c.to.place; line = c.to.line; cut = token t fits c.to.cut };
+  to = record { tokens = located k p l ∷ c.to.tokens; place = c.to.place; line = c.to.line; lexed = token t fits c.to.lexed };
   fault = c.fault;
 })
 
 -- any bytes, up to so many, are read so
 read_somehow : (most p l : ℕ) (bytes : List ℕ) → length bytes ≤ most → IsReadSomehow p l bytes
-read_somehow most p l [] h = inl (record { tokens = []; place = p; line = l; cut = here })
+read_somehow most p l [] h = inl (record { tokens = []; place = p; line = l; lexed = here })
 read_somehow zero p l (b ∷ bs) h = absurd (omega (arith, h))
 read_somehow (suc most) p l (b ∷ bs) h = go (begins_somehow p b bs) (λ q m n some. read_somehow most q m (drop n (b ∷ bs)) (shorter n some))
   where
@@ -147,15 +148,15 @@ read_somehow (suc most) p l (b ∷ bs) h = go (begins_somehow p b bs) (λ q m n 
     go (inr (inr e)) next = inr (record {
       rest = b ∷ bs;
       error = e.0;
-      to = record { tokens = []; place = p; line = l; cut = here };
+      to = record { tokens = []; place = p; line = l; lexed = here };
       fault = e.1;
     })
 
--- a cutting comes to the place behind what it cuts
-cut_place : {p l : ℕ} {bs : List ℕ} {ts : List Token} {q m : ℕ} {rest : List ℕ} → Cuts p l bs ts q m rest → p + length bs ≡ q + length rest
-cut_place here = refl
-cut_place (skip {n = n} s c) = omega (arith, (skips_bounds s).1, rw length-drop at (cut_place c))
-cut_place (token {n = n} t fits c) = omega (arith, t.within, rw length-drop at (cut_place c))
+-- a lexing comes to the place behind what it lexes
+lexed_place : {p l : ℕ} {bs : List ℕ} {ts : List Token} {q m : ℕ} {rest : List ℕ} → Lexes p l bs ts q m rest → p + length bs ≡ q + length rest
+lexed_place here = refl
+lexed_place (skip {n = n} s c) = omega (arith, (skips_bounds s).1, rw length-drop at (lexed_place c))
+lexed_place (token {n = n} t fits c) = omega (arith, t.within, rw length-drop at (lexed_place c))
 
 -- a text without a fault has tokens
 some_tokens : (text : List ℕ) → ((e : TextError) → FaultsAt text e → ⊥) → (ts : List Token) × IsTextOf text ts
@@ -163,22 +164,22 @@ some_tokens text free = go (read_somehow (length text) 0 1 text (omega arith))
   where
     go : IsReadSomehow 0 1 text → (ts : List Token) × IsTextOf text ts
     go (inl c) =
-        let to_end : c.place ≡ length text = omega (arith, cut_place c.cut) in
-        (c.tokens, (c.line, subst (λ q. Cuts 0 1 text c.tokens q c.line []) to_end c.cut))
+        let to_end : c.place ≡ length text = omega (arith, lexed_place c.lexed) in
+        (c.tokens, (c.line, subst (λ q. Lexes 0 1 text c.tokens q c.line []) to_end c.lexed))
     go (inr c) = absurd (free c.error (record {
       tokens = c.to.tokens;
       place = c.to.place;
       line = c.to.line;
       rest = c.rest;
-      cut = c.to.cut;
+      lexed = c.to.lexed;
       fault = c.fault;
     }))
 
 -- each text is read in one way
 pub one_reading : (text : List ℕ) → HasOneReading text
 one_reading text = record {
-  tokens = λ ts us a b. one_cutting a b;
-  fault = λ e f a b. one_fault a.cut a.fault b.cut b.fault;
+  tokens = λ ts us a b. one_lexing a b;
+  fault = λ e f a b. one_fault a.lexed a.fault b.lexed b.fault;
   either = λ ts e a b. fault_refuses b ts a;
   place = λ e a. fault_place a.fault;
   none = some_tokens text;

@@ -13,15 +13,15 @@ use Rattle.ppm_text.specs.declared.text_error.TextError.{TextError}
 use Rattle.ppm_text.specs.declared.text_error.TextError.TheVariants as error
 use Rattle.ppm_text.specs.Limits.{text_limit}
 use Rattle.ppm_text.specs.Bytes.{is_comment_byte, BeginsWith, value_from}
-use Rattle.ppm_text.specs.Spelling.{keyword_of, IsWord, IsDigits, a_keyword, a_name, a_number, Longest, IsInRange}
-use Rattle.ppm_text.specs.Cutting.{Skips, line_feed, blank, comment, located, Cuts, here, skip, token}
-use Rattle.ppm_text.specs.Cutting.{IsRefused, too_long, faulty, no_memory}
-use Rattle.ppm_text.specs.Cutting.{IsFault, not_ascii, bad_char, number_too_big, name_too_long}
+use Rattle.ppm_text.specs.Spelling.{keyword_of, IsIdentifier, IsDigits, a_keyword, a_name, a_number, Longest, IsInRange}
+use Rattle.ppm_text.specs.Lexing.{Skips, line_feed, blank, comment, located, Lexes, here, skip, token}
+use Rattle.ppm_text.specs.Refusals.{IsRefused, too_long, faulty, no_memory}
+use Rattle.ppm_text.specs.Refusals.{IsFault, not_ascii, bad_char, number_too_big, name_too_long}
 use Rattle.ppm_text.specs.Tokens.{AreTokens, text_tokens}
 use Rattle.ppm_text.specs.Scanning.{IsNoSign, Stops, Advances}
 use Rattle.ppm_text.proofs.BytesLemmas.{prefix_le}
-use Rattle.ppm_text.proofs.SpellingLemmas.{run_is_word, run_is_number, word_is_name, longest_word, longest_number, no_token}
-use Rattle.ppm_text.proofs.CuttingLemmas.{skips_bounds, longest_something, cut_stands}
+use Rattle.ppm_text.proofs.SpellingLemmas.{run_is_identifier, run_is_number, identifier_is_name, longest_identifier, longest_number, no_token}
+use Rattle.ppm_text.proofs.LexingLemmas.{skips_bounds, longest_something, lexed_stands}
 
 -- a line feed in front
 pub front_line_feed : (bytes : List ℕ) → BeginsWith LineFeed bytes → Skips bytes 1 1
@@ -44,18 +44,18 @@ front_high place [] begins = absurd begins
 front_high place (b ∷ bs) begins = not_ascii begins
 
 -- the run in front is a word
-front_word : (bytes : List ℕ) (n : ℕ) → BeginsWith Letter bytes → n ≡ prefix_len is_name_byte bytes → IsWord (take n bytes)
-front_word bytes n begins len = rw len (run_is_word bytes begins)
+front_identifier : (bytes : List ℕ) (n : ℕ) → BeginsWith Letter bytes → n ≡ prefix_len is_name_byte bytes → IsIdentifier (take n bytes)
+front_identifier bytes n begins len = rw len (run_is_identifier bytes begins)
 
 -- a keyword in front
 pub front_keyword : (bytes : List ℕ) (n : ℕ) (found : Keyword) → BeginsWith Letter bytes → n ≡ prefix_len is_name_byte bytes
     → keyword_of (take n bytes) ≡ Some found → Longest bytes n (kind.Keyword found)
-front_keyword bytes n found begins len is = longest_word bytes n (kind.Keyword found) begins len (a_keyword (front_word bytes n begins len) is)
+front_keyword bytes n found begins len is = longest_identifier bytes n (kind.Keyword found) begins len (a_keyword (front_identifier bytes n begins len) is)
 
 -- a name in front
 pub front_name : (bytes : List ℕ) (n : ℕ) → BeginsWith Letter bytes → n ≡ prefix_len is_name_byte bytes
     → keyword_of (take n bytes) ≡ None → Longest bytes n (kind.Name (take n bytes))
-front_name bytes n begins len none = longest_word bytes n (kind.Name (take n bytes)) begins len (a_name (front_word bytes n begins len) none)
+front_name bytes n begins len none = longest_identifier bytes n (kind.Name (take n bytes)) begins len (a_name (front_identifier bytes n begins len) none)
 
 -- the length of the run in front
 run_length : (bytes : List ℕ) (n : ℕ) → n ≡ prefix_len is_name_byte bytes → length (take n bytes) ≡ n
@@ -63,7 +63,7 @@ run_length bytes n len = length-take-le n bytes (omega (arith, prefix_le is_name
 
 -- a short name in front
 pub front_is_name : (bytes : List ℕ) (n : ℕ) → BeginsWith Letter bytes → n ≡ prefix_len is_name_byte bytes → n ≤ 32 → IsName (take n bytes)
-front_is_name bytes n begins len short = word_is_name (take n bytes) (front_word bytes n begins len) (omega (arith, run_length bytes n len))
+front_is_name bytes n begins len short = identifier_is_name (take n bytes) (front_identifier bytes n begins len) (omega (arith, run_length bytes n len))
 
 -- a name within the limit in front
 pub front_short_name : (bytes : List ℕ) (n : ℕ) (name : List ℕ) → BeginsWith Letter bytes → n ≡ prefix_len is_name_byte bytes
@@ -105,7 +105,7 @@ pub skipped_off : (place line n f : ℕ) (bytes : List ℕ) (old new : List Toke
 skipped_off place line n f bytes old new s same = record {
   tokens = [];
   added = same ∙ sym (append-nil old);
-  cut = skip s here;
+  lexed = skip s here;
   moves = (skips_bounds s).0;
   within = (skips_bounds s).1;
   lines = omega (arith, (skips_bounds s).0, (skips_bounds s).2);
@@ -117,18 +117,18 @@ pub token_off : (place line n : ℕ) (k : Kind) (bytes : List ℕ) (old new : Li
 token_off place line n k bytes old new t fits added = record {
   tokens = located k place line ∷ [];
   added = added;
-  cut = token t fits here;
+  lexed = token t fits here;
   moves = longest_something t;
   within = t.within;
   lines = omega arith;
 }
 
--- a text that is cut up to a stop is refused
+-- a text that is lexed up to a stop is refused
 pub stop_refuses : (text : List ℕ) (ts : List Token) (place line : ℕ) (rest : List ℕ) (e : TextError) → length text ≤ text_limit
-    → Cuts 0 1 text ts place line rest → Stops place rest e → IsRefused text e
-stop_refuses text ts place line rest e within cut (inl none) = subst (λ (x : TextError). IsRefused text x) (sym none) (no_memory within)
-stop_refuses text ts place line rest e within cut (inr fault) =
-    faulty within (record { tokens = ts; place = place; line = line; rest = rest; cut = cut; fault = fault })
+    → Lexes 0 1 text ts place line rest → Stops place rest e → IsRefused text e
+stop_refuses text ts place line rest e within lexed (inl none) = subst (λ (x : TextError). IsRefused text x) (sym none) (no_memory within)
+stop_refuses text ts place line rest e within lexed (inr fault) =
+    faulty within (record { tokens = ts; place = place; line = line; rest = rest; lexed = lexed; fault = fault })
 
 -- a fault is not that the text is too long
 short_fault : {p n : ℕ} {bs : List ℕ} {e : TextError} → IsFault p bs e → e ≡ error.TooLong n → ⊥
@@ -160,5 +160,5 @@ long_exactly text e refused = (λ same. long_refused {n = text_limit} refused (c
 
 -- the facts of the tokens of a text
 pub tokens_of : (text : List ℕ) (ts : List Token) (place line : ℕ) (rest : List ℕ) → length text ≤ text_limit
-    → Cuts 0 1 text ts place line rest → AreTokens (text_tokens ts (length text))
-tokens_of text ts place line rest within cut = record { short = within; stand = cut_stands cut }
+    → Lexes 0 1 text ts place line rest → AreTokens (text_tokens ts (length text))
+tokens_of text ts place line rest within lexed = record { short = within; stand = lexed_stands lexed }

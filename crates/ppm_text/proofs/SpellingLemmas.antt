@@ -14,7 +14,7 @@ use Rattle.ppm_text.specs.declared.token.Sign.{Sign}
 use Rattle.ppm_text.specs.declared.token.Kind.{Kind}
 use Rattle.ppm_text.specs.declared.token.Kind.TheVariants as kind
 use Rattle.ppm_text.specs.Bytes.{class_of, BeginsWith}
-use Rattle.ppm_text.specs.Spelling.{spelled, signs, sign_of, IsWord, IsDigits}
+use Rattle.ppm_text.specs.Spelling.{spelled, signs, sign_of, IsIdentifier, IsDigits}
 use Rattle.ppm_text.specs.Spelling.{Spells, a_keyword, a_name, a_number, a_sign, NoneLonger, BeginsNoToken, Longest}
 use Rattle.ppm_text.specs.Scanning.{IsSignOf, IsNoSign}
 use Rattle.ppm_text.proofs.BytesLemmas.{prefix_first, all_taken, run_beyond, letter_byte, digit_byte, name_byte, prefix_le}
@@ -82,48 +82,48 @@ sign_is_mark bytes found is = mark_passes bytes (row_passes is_mark signs refl b
 
 -- nothing is spelled by no bytes
 pub spells_something : {bytes : List ℕ} {k : Kind} → Spells bytes k → bytes ≡ [] → ⊥
-spells_something {bytes} (a_keyword word is) none = subst IsWord none word
-spells_something {bytes} (a_name word is) none = subst IsWord none word
+spells_something {bytes} (a_keyword identifier is) none = subst IsIdentifier none identifier
+spells_something {bytes} (a_name identifier is) none = subst IsIdentifier none identifier
 spells_something {bytes} (a_number digits) none = subst IsDigits none digits
 spells_something {bytes} (a_sign {found = found} is) none = subst IsMark none (sign_is_mark bytes found is)
 
 -- a letter begins words alone
-letter_spells : (b : ℕ) (bs : List ℕ) → class_of b ≡ Letter → {k : Kind} → Spells (b ∷ bs) k → IsWord (b ∷ bs)
-letter_spells b bs letter (a_keyword word is) = word
-letter_spells b bs letter (a_name word is) = word
+letter_spells : (b : ℕ) (bs : List ℕ) → class_of b ≡ Letter → {k : Kind} → Spells (b ∷ bs) k → IsIdentifier (b ∷ bs)
+letter_spells b bs letter (a_keyword identifier is) = identifier
+letter_spells b bs letter (a_name identifier is) = identifier
 letter_spells b bs letter (a_number digits) = absurd (cc (digits.0, letter))
 letter_spells b bs letter (a_sign {found = found} is) = absurd (cc ((sign_is_mark (b ∷ bs) found is).0, letter))
 
 -- a digit begins numbers alone
 digit_spells : (b : ℕ) (bs : List ℕ) → class_of b ≡ Digit → {k : Kind} → Spells (b ∷ bs) k → IsDigits (b ∷ bs)
-digit_spells b bs digit (a_keyword word is) = absurd (cc (word.0, digit))
-digit_spells b bs digit (a_name word is) = absurd (cc (word.0, digit))
+digit_spells b bs digit (a_keyword identifier is) = absurd (cc (identifier.0, digit))
+digit_spells b bs digit (a_name identifier is) = absurd (cc (identifier.0, digit))
 digit_spells b bs digit (a_number digits) = digits
 digit_spells b bs digit (a_sign {found = found} is) = absurd (cc ((sign_is_mark (b ∷ bs) found is).0, digit))
 
 -- a mark begins signs alone
 mark_spells : (b : ℕ) (bs : List ℕ) → class_of b ≡ Mark → {k : Kind} → Spells (b ∷ bs) k → (found : Sign) × (sign_of (b ∷ bs) ≡ Some found)
-mark_spells b bs mark (a_keyword word is) = absurd (cc (word.0, mark))
-mark_spells b bs mark (a_name word is) = absurd (cc (word.0, mark))
+mark_spells b bs mark (a_keyword identifier is) = absurd (cc (identifier.0, mark))
+mark_spells b bs mark (a_name identifier is) = absurd (cc (identifier.0, mark))
 mark_spells b bs mark (a_number digits) = absurd (cc (digits.0, mark))
 mark_spells b bs mark (a_sign {found = found} is) = (found, is)
 
 -- a token begins with a letter, a digit or a mark
 pub spells_class : (b : ℕ) (bs : List ℕ) {k : Kind} → Spells (b ∷ bs) k → (class_of b ≡ Letter) ⊎ ((class_of b ≡ Digit) ⊎ (class_of b ≡ Mark))
-spells_class b bs (a_keyword word is) = inl word.0
-spells_class b bs (a_name word is) = inl word.0
+spells_class b bs (a_keyword identifier is) = inl identifier.0
+spells_class b bs (a_name identifier is) = inl identifier.0
 spells_class b bs (a_number digits) = inr (inl digits.0)
 spells_class b bs (a_sign {found = found} is) = inr (inr (sign_is_mark (b ∷ bs) found is).0)
 
 -- a word is no number
-word_no_digits : (bytes : List ℕ) → IsWord bytes → IsDigits bytes → ⊥
-word_no_digits [] word digits = word
-word_no_digits (b ∷ bs) word digits = cc (word.0, digits.0)
+identifier_no_digits : (bytes : List ℕ) → IsIdentifier bytes → IsDigits bytes → ⊥
+identifier_no_digits [] identifier digits = identifier
+identifier_no_digits (b ∷ bs) identifier digits = cc (identifier.0, digits.0)
 
 -- a word is no sign
-word_no_sign : (bytes : List ℕ) (found : Sign) → IsWord bytes → sign_of bytes ≡ Some found → ⊥
-word_no_sign [] found word is = word
-word_no_sign (b ∷ bs) found word is = cc (word.0, (sign_is_mark (b ∷ bs) found is).0)
+identifier_no_sign : (bytes : List ℕ) (found : Sign) → IsIdentifier bytes → sign_of bytes ≡ Some found → ⊥
+identifier_no_sign [] found identifier is = identifier
+identifier_no_sign (b ∷ bs) found identifier is = cc (identifier.0, (sign_is_mark (b ∷ bs) found is).0)
 
 -- a number is no sign
 digits_no_sign : (bytes : List ℕ) (found : Sign) → IsDigits bytes → sign_of bytes ≡ Some found → ⊥
@@ -134,18 +134,18 @@ digits_no_sign (b ∷ bs) found digits is = cc (digits.0, (sign_is_mark (b ∷ b
 pub one_kind : {bytes : List ℕ} {k : Kind} → Spells bytes k → {j : Kind} → Spells bytes j → k ≡ j
 one_kind (a_keyword w is) (a_keyword w' is') = cc
 one_kind (a_keyword w is) (a_name w' is') = absurd (cc (is, is'))
-one_kind {bytes} (a_keyword w is) (a_number d) = absurd (word_no_digits bytes w d)
-one_kind {bytes} (a_keyword w is) (a_sign {found = found} e) = absurd (word_no_sign bytes found w e)
+one_kind {bytes} (a_keyword w is) (a_number d) = absurd (identifier_no_digits bytes w d)
+one_kind {bytes} (a_keyword w is) (a_sign {found = found} e) = absurd (identifier_no_sign bytes found w e)
 one_kind (a_name w is) (a_keyword w' is') = absurd (cc (is, is'))
 one_kind (a_name w is) (a_name w' is') = refl
-one_kind {bytes} (a_name w is) (a_number d) = absurd (word_no_digits bytes w d)
-one_kind {bytes} (a_name w is) (a_sign {found = found} e) = absurd (word_no_sign bytes found w e)
-one_kind {bytes} (a_number d) (a_keyword w is) = absurd (word_no_digits bytes w d)
-one_kind {bytes} (a_number d) (a_name w is) = absurd (word_no_digits bytes w d)
+one_kind {bytes} (a_name w is) (a_number d) = absurd (identifier_no_digits bytes w d)
+one_kind {bytes} (a_name w is) (a_sign {found = found} e) = absurd (identifier_no_sign bytes found w e)
+one_kind {bytes} (a_number d) (a_keyword w is) = absurd (identifier_no_digits bytes w d)
+one_kind {bytes} (a_number d) (a_name w is) = absurd (identifier_no_digits bytes w d)
 one_kind (a_number d) (a_number d') = refl
 one_kind {bytes} (a_number d) (a_sign {found = found} e) = absurd (digits_no_sign bytes found d e)
-one_kind {bytes} (a_sign {found = found} e) (a_keyword w is) = absurd (word_no_sign bytes found w e)
-one_kind {bytes} (a_sign {found = found} e) (a_name w is) = absurd (word_no_sign bytes found w e)
+one_kind {bytes} (a_sign {found = found} e) (a_keyword w is) = absurd (identifier_no_sign bytes found w e)
+one_kind {bytes} (a_sign {found = found} e) (a_name w is) = absurd (identifier_no_sign bytes found w e)
 one_kind {bytes} (a_sign {found = found} e) (a_number d) = absurd (digits_no_sign bytes found d e)
 one_kind (a_sign e) (a_sign e') = cc
 
@@ -157,9 +157,9 @@ one_longest bytes n m k j a b =
     (same, one_kind a.spells there)
 
 -- the run of name bytes that begins with a letter is a word
-pub run_is_word : (bytes : List ℕ) → BeginsWith Letter bytes → IsWord (take (prefix_len is_name_byte bytes) bytes)
-run_is_word [] begins = begins
-run_is_word (b ∷ bs) begins = rw (prefix_first is_name_byte b bs (name_byte b begins)) (begins, all_taken is_name_byte bs)
+pub run_is_identifier : (bytes : List ℕ) → BeginsWith Letter bytes → IsIdentifier (take (prefix_len is_name_byte bytes) bytes)
+run_is_identifier [] begins = begins
+run_is_identifier (b ∷ bs) begins = rw (prefix_first is_name_byte b bs (name_byte b begins)) (begins, all_taken is_name_byte bs)
 
 -- the run of digits is a number
 pub run_is_number : (bytes : List ℕ) → BeginsWith Digit bytes → IsDigits (take (prefix_len is_digit bytes) bytes)
@@ -167,17 +167,17 @@ run_is_number [] begins = begins
 run_is_number (b ∷ bs) begins = rw (prefix_first is_digit b bs (digit_byte b begins)) (begins, all_taken is_digit bs)
 
 -- a word of the length that a name may have
-pub word_is_name : (bytes : List ℕ) → IsWord bytes → length bytes ≤ 32 → IsName bytes
-word_is_name [] word short = word
-word_is_name (b ∷ bs) word short = (letter_byte b word.0, word.1, omega arith)
+pub identifier_is_name : (bytes : List ℕ) → IsIdentifier bytes → length bytes ≤ 32 → IsName bytes
+identifier_is_name [] identifier short = identifier
+identifier_is_name (b ∷ bs) identifier short = (letter_byte b identifier.0, identifier.1, omega arith)
 
 -- no word in front is longer than the run
-word_within : (bytes : List ℕ) → BeginsWith Letter bytes → NoneLonger bytes (prefix_len is_name_byte bytes)
-word_within [] begins m other within spells = absurd begins
-word_within (b ∷ bs) begins zero other within spells = omega arith
-word_within (b ∷ bs) begins (suc m) other within spells =
-    let word : IsWord (b ∷ take m bs) = letter_spells b (take m bs) begins spells in
-    omega (arith, run_beyond is_name_byte m bs (omega arith) word.1, prefix_first is_name_byte b bs (name_byte b begins))
+identifier_within : (bytes : List ℕ) → BeginsWith Letter bytes → NoneLonger bytes (prefix_len is_name_byte bytes)
+identifier_within [] begins m other within spells = absurd begins
+identifier_within (b ∷ bs) begins zero other within spells = omega arith
+identifier_within (b ∷ bs) begins (suc m) other within spells =
+    let identifier : IsIdentifier (b ∷ take m bs) = letter_spells b (take m bs) begins spells in
+    omega (arith, run_beyond is_name_byte m bs (omega arith) identifier.1, prefix_first is_name_byte b bs (name_byte b begins))
 
 -- no number in front is longer than the run
 number_within : (bytes : List ℕ) → BeginsWith Digit bytes → NoneLonger bytes (prefix_len is_digit bytes)
@@ -188,12 +188,12 @@ number_within (b ∷ bs) begins (suc m) other within spells =
     omega (arith, run_beyond is_digit m bs (omega arith) digits.1, prefix_first is_digit b bs (digit_byte b begins))
 
 -- the run of name bytes is the longest token in front
-pub longest_word : (bytes : List ℕ) (n : ℕ) (k : Kind) → BeginsWith Letter bytes → n ≡ prefix_len is_name_byte bytes
+pub longest_identifier : (bytes : List ℕ) (n : ℕ) (k : Kind) → BeginsWith Letter bytes → n ≡ prefix_len is_name_byte bytes
     → Spells (take n bytes) k → Longest bytes n k
-longest_word bytes n k begins len spells = record {
+longest_identifier bytes n k begins len spells = record {
   within = omega (arith, prefix_le is_name_byte bytes);
   spells = spells;
-  longest = λ m other within there. omega (arith, word_within bytes begins m other within there);
+  longest = λ m other within there. omega (arith, identifier_within bytes begins m other within there);
 }
 
 -- the run of digits is the longest token in front

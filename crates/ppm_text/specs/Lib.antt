@@ -3,6 +3,6 @@ pub mod Bytes
 pub mod Spelling
 pub mod Tokens
 pub mod Cutting
-pub mod Refusals
+pub mod ErrorNumbers
 pub mod Correct
 pub mod Scanning

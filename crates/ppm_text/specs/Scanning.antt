@@ -7,7 +7,8 @@ use Rattle.ppm_text.specs.declared.token.Token.{Token}
 use Rattle.ppm_text.specs.declared.text_error.TextError.{TextError}
 use Rattle.ppm_text.specs.declared.text_error.TextError.TheVariants as error
 use Rattle.ppm_text.specs.Spelling.{sign_of, Longest, IsInRange}
-use Rattle.ppm_text.specs.Cutting.{Skips, Cuts, IsFault}
+use Rattle.ppm_text.specs.Lexing.{Skips, Lexes}
+use Rattle.ppm_text.specs.Refusals.{IsFault}
 
 -- the first n bytes are this sign
 abbrev pub IsSignOf : List ℕ → ℕ → Sign → Type 0
@@ -26,11 +27,11 @@ IsInFront bytes (piece.Token kind n) = Longest bytes n kind × IsInRange kind
 abbrev pub Stops : ℕ → List ℕ → TextError → Type 0
 Stops place bytes e = (e ≡ error.NoMemory) ⊎ IsFault place bytes e
 
--- so many bytes in front are cut into the tokens that are new, up to the line behind them
+-- so many bytes in front are lexed into the tokens that are new, up to the line behind them
 pub record Advances (place line : ℕ) (bytes : List ℕ) (old new : List Token) (behind : ℕ × ℕ) : Type 0 where
   pub tokens : List Token
   pub added : new ≡ old ++ tokens
-  pub cut : Cuts place line bytes tokens (place + behind.0) behind.1 (drop behind.0 bytes)
+  pub lexed : Lexes place line bytes tokens (place + behind.0) behind.1 (drop behind.0 bytes)
   pub moves : 0 < behind.0
   pub within : behind.0 ≤ length bytes
   pub lines : behind.1 ≤ line + behind.0

@@ -5,7 +5,7 @@ use Rattle.std.specs.Str.{bytes_eq}
 use Rattle.ppm_words.specs.Names.{is_digit, is_name_byte}
 use Rattle.ppm_text.specs.declared.byte_class.ByteClass.TheVariants.{Letter, Digit}
 use Rattle.ppm_text.specs.declared.token.Keyword.{Keyword}
-use Rattle.ppm_text.specs.declared.token.Keyword.TheVariants as word
+use Rattle.ppm_text.specs.declared.token.Keyword.TheVariants as keyword
 use Rattle.ppm_text.specs.declared.token.Sign.{Sign}
 use Rattle.ppm_text.specs.declared.token.Sign.TheVariants as sign
 use Rattle.ppm_text.specs.declared.token.Kind.{Kind}
@@ -15,11 +15,11 @@ use Rattle.ppm_text.specs.Bytes.{class_of, value_from}
 -- the keywords
 abbrev pub keywords : List (List ℕ × Keyword)
 keywords =
-    (codes "array", word.Array) ∷ (codes "proc", word.Proc) ∷ (codes "input", word.Input) ∷ (codes "mut", word.Mut)
-    ∷ (codes "ref", word.Ref) ∷ (codes "int", word.Int) ∷ (codes "let", word.Let) ∷ (codes "if", word.If)
-    ∷ (codes "else", word.Else) ∷ (codes "while", word.While) ∷ (codes "call", word.Call) ∷ (codes "fork", word.Fork)
-    ∷ (codes "and", word.And) ∷ (codes "split", word.Split) ∷ (codes "at", word.At) ∷ (codes "into", word.Into)
-    ∷ (codes "len", word.Len) ∷ (codes "each", word.Each) ∷ (codes "in", word.In) ∷ (codes "give", word.Give) ∷ []
+    (codes "array", keyword.Array) ∷ (codes "proc", keyword.Proc) ∷ (codes "input", keyword.Input) ∷ (codes "mut", keyword.Mut)
+    ∷ (codes "ref", keyword.Ref) ∷ (codes "int", keyword.Int) ∷ (codes "let", keyword.Let) ∷ (codes "if", keyword.If)
+    ∷ (codes "else", keyword.Else) ∷ (codes "while", keyword.While) ∷ (codes "call", keyword.Call) ∷ (codes "fork", keyword.Fork)
+    ∷ (codes "and", keyword.And) ∷ (codes "split", keyword.Split) ∷ (codes "at", keyword.At) ∷ (codes "into", keyword.Into)
+    ∷ (codes "len", keyword.Len) ∷ (codes "each", keyword.Each) ∷ (codes "in", keyword.In) ∷ (codes "give", keyword.Give) ∷ []
 
 -- the signs
 abbrev pub signs : List (List ℕ × Sign)
@@ -45,9 +45,9 @@ unfoldable pub sign_of : List ℕ → Option Sign
 sign_of bytes = spelled signs bytes
 
 -- a letter or `_`, then letters, digits and `_`
-abbrev pub IsWord : List ℕ → Type 0
-IsWord [] = ⊥
-IsWord (b ∷ bs) = (class_of b ≡ Letter) × AllPass is_name_byte bs
+abbrev pub IsIdentifier : List ℕ → Type 0
+IsIdentifier [] = ⊥
+IsIdentifier (b ∷ bs) = (class_of b ≡ Letter) × AllPass is_name_byte bs
 
 -- digits, one at least
 abbrev pub IsDigits : List ℕ → Type 0
@@ -56,8 +56,8 @@ IsDigits (b ∷ bs) = (class_of b ≡ Digit) × AllPass is_digit bs
 
 -- the bytes, from the first to the last, are this token: a word is a keyword or else a name
 pub data Spells : List ℕ → Kind → Type 0 where
-  a_keyword : {bytes : List ℕ} {found : Keyword} → IsWord bytes → keyword_of bytes ≡ Some found → Spells bytes (kind.Keyword found)
-  a_name : {bytes : List ℕ} → IsWord bytes → keyword_of bytes ≡ None → Spells bytes (kind.Name bytes)
+  a_keyword : {bytes : List ℕ} {found : Keyword} → IsIdentifier bytes → keyword_of bytes ≡ Some found → Spells bytes (kind.Keyword found)
+  a_name : {bytes : List ℕ} → IsIdentifier bytes → keyword_of bytes ≡ None → Spells bytes (kind.Name bytes)
   a_number : {bytes : List ℕ} → IsDigits bytes → Spells bytes (kind.Number (value_from 0 bytes))
   a_sign : {bytes : List ℕ} {found : Sign} → sign_of bytes ≡ Some found → Spells bytes (kind.Sign found)
 

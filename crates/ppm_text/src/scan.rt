@@ -1,4 +1,4 @@
-//! Cuts a text into tokens.
+//! Lexes a text into tokens.
 ghost use Rattle.std.specs.Prelude.{◌≡◌, ◌+◌, ◌-◌, ◌<◌, ◌≤◌, ◌^◌, length, take, drop};
 ghost use Rattle.std.specs.Prelude.{◌↔◌, Err, IfOk, IfErr, OnOk, IfSome, IfNone, MatchResult};
 ghost use Rattle.std.specs.List.{prefix_len};
@@ -6,7 +6,8 @@ ghost use Rattle.ppm_words.specs.Names.{is_digit, is_name_byte, IsName};
 ghost use Rattle.ppm_text.specs.declared.byte_class.ByteClass.TheVariants.{Letter, Digit, Mark};
 ghost use Rattle.ppm_text.specs.Limits.{text_limit};
 ghost use Rattle.ppm_text.specs.Bytes.{BeginsWith, is_comment_byte, value_from};
-ghost use Rattle.ppm_text.specs.Cutting.{IsTextOf, IsRefused};
+ghost use Rattle.ppm_text.specs.Lexing.{IsTextOf};
+ghost use Rattle.ppm_text.specs.Refusals.{IsRefused};
 ghost use Rattle.ppm_text.specs.Scanning.{IsSignOf, IsNoSign, IsInFront, Stops, Advances};
 
 use crate::byte_class::{ByteClass, class, is_digit_byte, is_letter_byte};
@@ -117,19 +118,19 @@ fn front_class(bytes: &[u8]) -> ByteClass
 }
 
 /// The name or keyword in front.
-fn word_piece(alloc: Global, place: u32, bytes: &[u8]) -> Result<Piece, TextError>
+fn identifier_piece(alloc: Global, place: u32, bytes: &[u8]) -> Result<Piece, TextError>
     requires { BeginsWith Letter bytes.now }
     ensures { MatchResult result (IsInFront bytes.now) (Stops place bytes.now) }
 {
     let len = name_len(bytes);
-    let word = &bytes[..len];
-    if let Some(word) = keyword(word) {
-        return Ok(Piece::Token(Kind::Keyword(word), len));
+    let identifier = &bytes[..len];
+    if let Some(found) = keyword(identifier) {
+        return Ok(Piece::Token(Kind::Keyword(found), len));
     }
     if len > NAME_LIMIT {
         return Err(TextError::NameTooLong(place));
     }
-    Ok(Piece::Token(Kind::Name(name(alloc, word)?), len))
+    Ok(Piece::Token(Kind::Name(name(alloc, identifier)?), len))
 }
 
 /// The number in front.
@@ -176,7 +177,7 @@ fn front_piece(alloc: Global, place: u32, bytes: &[u8]) -> Result<Piece, TextErr
     ensures { MatchResult result (IsInFront bytes.now) (Stops place bytes.now) }
 {
     match front_class(bytes) {
-        ByteClass::Letter => word_piece(alloc, place, bytes),
+        ByteClass::Letter => identifier_piece(alloc, place, bytes),
         ByteClass::Digit => number_piece(place, bytes),
         ByteClass::Mark => sign_piece(place, bytes),
         ByteClass::LineFeed => Ok(Piece::Skipped(1, 1)),

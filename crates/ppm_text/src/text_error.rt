@@ -1,11 +1,11 @@
-//! Why a text is not cut into tokens.
+//! Why a text is not lexed into tokens.
 ghost use Rattle.std.specs.Prelude.{◌≡◌};
-ghost use Rattle.ppm_text.specs.Refusals.{number_of, place_of};
+ghost use Rattle.ppm_text.specs.ErrorNumbers.{number_of, place_of};
 
 use std::alloc::{AllocError, AllocFailed};
 use thiserror::Error;
 
-/// Why a text is not cut into tokens. Places count bytes from 0.
+/// Why a text is not lexed into tokens. Places count bytes from 0.
 #[derive(Clone, Copy, Debug, PartialEq, Eq, Error)]
 pub enum TextError {
     /// More bytes than this number, 1048576.

@@ -6,14 +6,14 @@ use Rattle.std.proofs.lemmas.List.Elements.{All-head, All-tail}
 use Rattle.ppm_syntax.specs.Tree.{Expression, Statement}
 use Rattle.ppm_syntax.specs.Tree as tree
 use Rattle.ppm_syntax.specs.Limits.{nodes_of, IsSmallStatement}
-use Rattle.ppm_syntax.specs.Meaning.{Stop, Frame, then_with, after, then_on, at_once, run_statements}
+use Rattle.ppm_syntax.specs.Meaning.{TrapAt, Frame, then_with, after, then_on, at_once, run_statements}
 use Rattle.ppm_top.specs.Code.{register_count, array_of, keep_capsule, put_capsule, code_of, reach}
 use Rattle.ppm_top.specs.Machine.{State, steps, cleared, run_capsules, arrays_of}
 use Rattle.ppm_top.proofs.StatementRuns.{then_assoc, IsSound, Becomes, pair_run, pair_right}
 use Rattle.ppm_top.proofs.NamesResolve.{NamesWhole}
 
 -- the arrays after all statements of a body
-abbrev pub after_all : Frame → List (List ℤ) → List Statement → Result (List (List ℤ)) Stop
+abbrev pub after_all : Frame → List (List ℤ) → List Statement → Result (List (List ℤ)) TrapAt
 after_all frame arrays [] = Ok arrays
 after_all frame arrays (s ∷ body) = then_with (after frame arrays s) (λ now. after_all frame now body)
 
@@ -24,7 +24,7 @@ run_statements-after_all frame [] arrays = refl
 run_statements-after_all frame (tree.Put x line index value ∷ body) arrays =
     go (after frame arrays (tree.Put x line index value)) (λ now. run_statements-after_all frame body now)
   where
-    go : (r : Result (List (List ℤ)) Stop) →
+    go : (r : Result (List (List ℤ)) TrapAt) →
         ((now : List (List ℤ)) → run_statements frame body now (length body) ≡ at_once 0 (after_all frame now body)) →
         then_on (at_once (length body) r) (λ now left. run_statements frame body now left) ≡ at_once 0 (then_with r (λ now. after_all frame now body))
     go (Ok now) rest = rest now
@@ -64,17 +64,17 @@ body_right lengths frame (tree.Put x line index value ∷ body) s sound small na
     room_v : reach 1 value ≤ register_count
     room_v = let h = reach_small value 1 in let k : nodes_of index + nodes_of value ≤ 48 = own.nodes in omega arith
 
-    first : State → Result State Stop
+    first : State → Result State TrapAt
     first t = steps lengths (put_capsule (array_of frame x) line).body (cleared t)
 
-    rest_run : State → Result State Stop
+    rest_run : State → Result State TrapAt
     rest_run t = run_capsules lengths (code_of frame body) t
 
     both : run_capsules lengths (code_of frame (put ∷ body)) s ≡ then_with (pair_run lengths frame x line index value s) rest_run
     both = sym (then_assoc (steps lengths (keep_capsule frame index value).body (cleared s)) first rest_run)
 
     go : ((t : State) → IsSound lengths t → Becomes lengths (rest_run t) (after_all frame (arrays_of lengths t.words) body)) →
-        (r : Result (List (List ℤ)) Stop) → Becomes lengths (pair_run lengths frame x line index value s) r →
+        (r : Result (List (List ℤ)) TrapAt) → Becomes lengths (pair_run lengths frame x line index value s) r →
         Becomes lengths (run_capsules lengths (code_of frame (put ∷ body)) s) (then_with r (λ now. after_all frame now body))
     go rest (Err stop) h = both ∙ ap (λ r. then_with r rest_run) h
     go rest (Ok now) h =

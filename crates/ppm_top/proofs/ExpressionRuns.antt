@@ -9,7 +9,7 @@ use Rattle.ppm_syntax.specs.declared.tree.Operator.{Operator}
 use Rattle.ppm_syntax.specs.declared.tree.Operator.TheVariants as operator
 use Rattle.ppm_syntax.specs.Tree.{Expression}
 use Rattle.ppm_syntax.specs.Tree as tree
-use Rattle.ppm_syntax.specs.Meaning.{Stop, Frame, Region, region_of, then_with, applied, word_at, array_at, evaluate}
+use Rattle.ppm_syntax.specs.Meaning.{TrapAt, Frame, Region, region_of, then_with, applied, element_at, array_at, evaluate}
 use Rattle.ppm_top.specs.declared.code.Instr.{Instr}
 use Rattle.ppm_top.specs.declared.code.Instr.TheVariants.{Add, Get}
 use Rattle.ppm_top.specs.Code.{operation, array_of, expression_code, reach}
@@ -31,7 +31,7 @@ pub steps-append : (lengths : List ℕ) (a b : List Instr) (s : State) →
     steps lengths (a ++ b) s ≡ then_with (steps lengths a s) (λ t. steps lengths b t)
 steps-append lengths [] b s = refl
 steps-append lengths (i ∷ a) b s = go (λ t. steps-append lengths a b t) (step lengths i s) where
-  go : ((t : State) → steps lengths (a ++ b) t ≡ then_with (steps lengths a t) (λ u. steps lengths b u)) → (r : Result State Stop) →
+  go : ((t : State) → steps lengths (a ++ b) t ≡ then_with (steps lengths a t) (λ u. steps lengths b u)) → (r : Result State TrapAt) →
       then_with r (λ t. steps lengths (a ++ b) t) ≡ then_with (then_with r (λ t. steps lengths a t)) (λ t. steps lengths b t)
   go rest (Ok t) = rest t
   go rest (Err stop) = refl
@@ -45,12 +45,12 @@ pub record Leaves (d : ℕ) (z : ℤ) (s t : State) : Type 0 where
   pub words : t.words ≡ s.words
 
 -- the code, begun in s, leaves the value in register d, or stops
-abbrev pub Ends : List ℕ → List Instr → State → State → ℕ → Result ℤ Stop → Type 0
+abbrev pub Ends : List ℕ → List Instr → State → State → ℕ → Result ℤ TrapAt → Type 0
 Ends lengths code s base d (Ok z) = (t : State) × (steps lengths code s ≡ Ok t) × Leaves d z base t
 Ends lengths code s base d (Err stop) = steps lengths code s ≡ Err stop
 
 -- one stretch after another, where the second goes on from what the first leaves
-pub then_right : (lengths : List ℕ) (a b : List Instr) (s base base' : State) (d d' : ℕ) (r : Result ℤ Stop) (f : ℤ → Result ℤ Stop) →
+pub then_right : (lengths : List ℕ) (a b : List Instr) (s base base' : State) (d d' : ℕ) (r : Result ℤ TrapAt) (f : ℤ → Result ℤ TrapAt) →
     Ends lengths a s base d r → ((z : ℤ) (t : State) → Leaves d z base t → Ends lengths b t base' d' (f z)) →
     Ends lengths (a ++ b) s base' d' (then_with r f)
 then_right lengths a b s base base' d d' (Err stop) f h go = steps-append lengths a b s ∙ ap (λ r. then_with r (λ t. steps lengths b t)) h
@@ -58,7 +58,7 @@ then_right lengths a b s base base' d d' (Ok z) f h go = from (f z) (go z h.0 h.
   start : steps lengths (a ++ b) s ≡ steps lengths b h.0
   start = steps-append lengths a b s ∙ ap (λ r. then_with r (λ t. steps lengths b t)) h.1
 
-  from : (r : Result ℤ Stop) → Ends lengths b h.0 base' d' r → Ends lengths (a ++ b) s base' d' r
+  from : (r : Result ℤ TrapAt) → Ends lengths b h.0 base' d' r → Ends lengths (a ++ b) s base' d' r
   from (Ok v) e = (e.0, start ∙ e.1, e.2)
   from (Err stop) e = start ∙ e
 
@@ -74,33 +74,33 @@ set_leaves s t d z within below size slots words = record {
 }
 
 -- the test of an index, by its answer
-abbrev tested_word : Bool → ℕ → ℕ → Result ℕ Stop
-tested_word b i line = cond b (Ok (0 + i)) (Err (trap.Index, line))
+abbrev tested_element : Bool → ℕ → ℕ → Result ℕ TrapAt
+tested_element b i line = cond b (Ok (0 + i)) (Err (trap.Index, line))
 
 -- what the test of an index finds lies within
-pub word_within : (lengths : List ℕ) (a line k : ℕ) (z : ℤ) → word_at line (whole lengths a) z ≡ Ok k → k < get_or lengths a 0
-word_within lengths a line k (pos i) e = go (nat_lt i (get_or lengths a 0)) refl e where
-  go : (b : Bool) → nat_lt i (get_or lengths a 0) ≡ b → tested_word b i line ≡ Ok k → k < get_or lengths a 0
+pub element_within : (lengths : List ℕ) (a line k : ℕ) (z : ℤ) → element_at line (whole lengths a) z ≡ Ok k → k < get_or lengths a 0
+element_within lengths a line k (pos i) e = go (nat_lt i (get_or lengths a 0)) refl e where
+  go : (b : Bool) → nat_lt i (get_or lengths a 0) ≡ b → tested_element b i line ≡ Ok k → k < get_or lengths a 0
   go true t h = let same : 0 + i ≡ k = cc in grind arith
   go false t h = cc
-word_within lengths a line k (negsuc i) e = cc
+element_within lengths a line k (negsuc i) e = cc
 
 -- the load of an element
 get_right : (lengths : List ℕ) (s t : State) (a d line : ℕ) (z : ℤ) → total_of lengths ≤ length s.words → d < length t.registers →
     Leaves d z s t →
     Ends lengths (Get d a d line ∷ []) t s d
-    (then_with (word_at line (whole lengths a) z) (λ k. Ok (get_or (array_at (arrays_of lengths s.words) a) k (pos 0))))
-get_right lengths s t a d line z enough within l = go (word_at line (whole lengths a) z) refl where
+    (then_with (element_at line (whole lengths a) z) (λ k. Ok (get_or (array_at (arrays_of lengths s.words) a) k (pos 0))))
+get_right lengths s t a d line z enough within l = go (element_at line (whole lengths a) z) refl where
   v : ℕ → ℤ
   v j = value_of (get_or t.words j 0)
 
-  load : Result ℕ Stop → Result State Stop
+  load : Result ℕ TrapAt → Result State TrapAt
   load r = then_with (then_with (then_with r (λ k. Ok (base_of lengths a + k))) (λ j. Ok (with_register t d (v j)))) (λ u. Ok u)
 
-  here : (r : Result ℕ Stop) → word_at line (whole lengths a) z ≡ r → steps lengths (Get d a d line ∷ []) t ≡ load r
-  here r e = ap (λ x. load (word_at line (whole lengths a) x)) l.value ∙ ap load e
+  here : (r : Result ℕ TrapAt) → element_at line (whole lengths a) z ≡ r → steps lengths (Get d a d line ∷ []) t ≡ load r
+  here r e = ap (λ x. load (element_at line (whole lengths a) x)) l.value ∙ ap load e
 
-  go : (r : Result ℕ Stop) → word_at line (whole lengths a) z ≡ r →
+  go : (r : Result ℕ TrapAt) → element_at line (whole lengths a) z ≡ r →
       Ends lengths (Get d a d line ∷ []) t s d (then_with r (λ k. Ok (get_or (array_at (arrays_of lengths s.words) a) k (pos 0))))
   go (Err stop) e = here (Err stop) e
   go (Ok k) e = (
@@ -108,7 +108,7 @@ get_right lengths s t a d line z enough within l = go (word_at line (whole lengt
     here (Ok k) e
         ∙ ap (λ x. Ok (with_register t d x))
         (ap (λ ws. value_of (get_or ws (base_of lengths a + k) 0)) l.words
-        ∙ sym (get_or-array_at lengths s.words a k enough (word_within lengths a line k z e))),
+        ∙ sym (get_or-array_at lengths s.words a k enough (element_within lengths a line k z e))),
     set_leaves s t d _ within l.below l.size l.slots l.words,
   )
 
@@ -119,13 +119,13 @@ operation_right lengths s t u operator.Add d line x y within l m = go (applied o
   left : register u d ≡ x
   left = let h : d < d + 1 = omega arith in m.below d h ∙ l.value
 
-  put : Result ℤ Stop → Result State Stop
+  put : Result ℤ TrapAt → Result State TrapAt
   put r = then_with (then_with r (λ z. Ok (with_register u d z))) (λ v. Ok v)
 
   here : steps lengths (Add d d (d + 1) line ∷ []) u ≡ put (applied operator.Add line x y)
   here = ap (λ a. put (applied operator.Add line a (register u (d + 1)))) left ∙ ap (λ b. put (applied operator.Add line x b)) m.value
 
-  go : (r : Result ℤ Stop) → applied operator.Add line x y ≡ r → Ends lengths (Add d d (d + 1) line ∷ []) u s d r
+  go : (r : Result ℤ TrapAt) → applied operator.Add line x y ≡ r → Ends lengths (Add d d (d + 1) line ∷ []) u s d r
   go (Err stop) e = here ∙ ap put e
   go (Ok z) e = (
     with_register u d z,
@@ -154,7 +154,7 @@ expression_right lengths frame (tree.Element x line index) d s room enough reads
     (λ z t l.
     let within : d < length t.registers = omega (arith, l.size) in
     subst (λ w. Ends lengths (Get d a d line ∷ []) t s d (then_with w (λ k. Ok (get_or (array_at (arrays_of lengths s.words) a) k (pos 0)))))
-    (sym (ap (λ r. word_at line r z) reads.0)) (get_right lengths s t a d line z enough within l))
+    (sym (ap (λ r. element_at line r z) reads.0)) (get_right lengths s t a d line z enough within l))
 expression_right lengths frame (tree.Binary o line left right) d s room enough reads =
     let all : max (reach d left) (max (d + 2) (reach (d + 1) right)) ≤ length s.registers = room in
     let room_left : reach d left ≤ length s.registers = omega arith in

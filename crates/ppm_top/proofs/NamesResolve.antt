@@ -1,4 +1,4 @@
--- In an admitted source each name before a `[` stands for a whole array.
+-- In an admitted program each name before a `[` stands for a whole array.
 use Rattle.std.proofs.Common.{◌≡◌, ℕ, zero, suc, ◌+◌, ◌<◌, Bool, true, false, List, [], ◌∷◌, length, map, get_or, cond, sym, ap, ◌∙◌, arith}
 use Rattle.std.specs.List.{All, Contains}
 use Rattle.std.specs.Str.{bytes_eq}

@@ -8,20 +8,23 @@ use Rattle.ppm_text.specs.declared.token.Token.{Token}
 use Rattle.ppm_text.specs.declared.text_error.TextError.{TextError}
 use Rattle.ppm_text.specs.declared.text_error.TextError.TheVariants as text_error
 use Rattle.ppm_text.specs.Limits.{text_limit}
-use Rattle.ppm_text.specs.Cutting.{IsTextOf, Cuts, here, skip, token, located, IsRefused, too_long, faulty, no_memory}
-use Rattle.ppm_text.specs.Cutting.{IsFault, not_ascii, bad_char, number_too_big, name_too_long}
+use Rattle.ppm_text.specs.Lexing.{IsTextOf, Lexes, here, skip, token, located}
+use Rattle.ppm_text.specs.Refusals.{IsRefused, too_long, faulty, no_memory}
+use Rattle.ppm_text.specs.Refusals.{IsFault, not_ascii, bad_char, number_too_big, name_too_long}
 use Rattle.ppm_text.specs.Correct.{HaveOneReading}
 use Rattle.ppm_syntax.specs.declared.syntax_error.SyntaxError.{SyntaxError}
 use Rattle.ppm_syntax.specs.declared.region_error.RegionError.{RegionError}
-use Rattle.ppm_syntax.specs.Tree.{SourceTree}
+use Rattle.ppm_syntax.specs.Tree.{ProgramTree}
 use Rattle.ppm_syntax.specs.Grammar.{DerivesTree}
 use Rattle.ppm_syntax.specs.Limits.{depth_limit, IsWithin}
 use Rattle.ppm_syntax.specs.Rules.{IsAdmitted}
-use Rattle.ppm_syntax.specs.Correct.{IsTreeOf, HasTree, HaveOneTree}
-use Rattle.ppm_syntax.specs.Faults.{TokenLiteral, HaveOneAnswer}
-use Rattle.ppm_syntax.specs.Faults as syntax
-use Rattle.ppm_syntax.specs.RegionFaults.{HaveOneRegionFault}
-use Rattle.ppm_syntax.specs.RegionFaults as region
+use Rattle.ppm_syntax.specs.Admission.{IsTreeOf, HasTree}
+use Rattle.ppm_syntax.specs.Correct.{HaveOneTree}
+use Rattle.ppm_syntax.specs.SyntaxRefusals.{TokenLiteral}
+use Rattle.ppm_syntax.specs.Correct.{HaveOneAnswer}
+use Rattle.ppm_syntax.specs.SyntaxRefusals as syntax
+use Rattle.ppm_syntax.specs.Correct.{HaveOneRegionFault}
+use Rattle.ppm_syntax.specs.RegionRefusals as region
 use Rattle.ppm_top.specs.Bounds.{capsule_bound, capsule_limit, FitsCode}
 use Rattle.ppm_top.specs.declared.refusal.Refusal.{Refusal}
 use Rattle.ppm_top.specs.declared.refusal.Refusal.TheVariants as refusal
@@ -37,12 +40,12 @@ pub record Laws : Type 0 where
   pub tree : HaveOneTree
   pub regions : HaveOneRegionFault
 
--- a text that is cut is not refused as a text
-cut_unrefused : Laws → {text : List ℕ} {e : TextError} → length text ≤ text_limit → (ts : List Token) → IsTextOf text ts →
+-- a text that is lexed is not refused as a text
+lexed_unrefused : Laws → {text : List ℕ} {e : TextError} → length text ≤ text_limit → (ts : List Token) → IsTextOf text ts →
     IsRefused text e → e ≢ text_error.NoMemory → ⊥
-cut_unrefused laws short ts cut (too_long h) given = absurd (omega (arith, h, short))
-cut_unrefused laws {text = text} {e = e} short ts cut (faulty h f) given = (laws.reading text).either ts e cut f
-cut_unrefused laws short ts cut (no_memory h) given = given refl
+lexed_unrefused laws short ts lexed (too_long h) given = absurd (omega (arith, h, short))
+lexed_unrefused laws {text = text} {e = e} short ts lexed (faulty h f) given = (laws.reading text).either ts e lexed f
+lexed_unrefused laws short ts lexed (no_memory h) given = given refl
 
 -- a text is refused as a text in one way
 one_text_fault : Laws → {text : List ℕ} {e f : TextError} → IsRefused text e → IsRefused text f → e ≢ text_error.NoMemory →
@@ -55,21 +58,21 @@ one_text_fault laws (no_memory h) k g i = absurd (g refl)
 one_text_fault laws h (no_memory k) g i = absurd (i refl)
 
 -- a text with a tree has no fault as a text
-tree_unrefused : Laws → (text : List ℕ) (t : SourceTree) (e : TextError) → length text ≤ text_limit → IsTreeOf depth_limit text t →
+tree_unrefused : Laws → (text : List ℕ) (t : ProgramTree) (e : TextError) → length text ≤ text_limit → IsTreeOf depth_limit text t →
     IsTextFault text e → ⊥
-tree_unrefused laws text t e short tree f = cut_unrefused laws short tree.tokens tree.cut f.fault f.given
+tree_unrefused laws text t e short tree f = lexed_unrefused laws short tree.tokens tree.lexed f.fault f.given
 
 -- a text with a tree within the limits has no fault of its tokens
-tree_unfaulted : Laws → (text : List ℕ) (t : SourceTree) (e : SyntaxError) → IsTreeOf depth_limit text t → IsWithin t →
+tree_unfaulted : Laws → (text : List ℕ) (t : ProgramTree) (e : SyntaxError) → IsTreeOf depth_limit text t → IsWithin t →
     IsSyntaxFault text e → ⊥
 tree_unfaulted laws text t e tree within f =
-    let same : tree.tokens ≡ f.tokens = (laws.reading text).tokens tree.tokens f.tokens tree.cut f.cut in
+    let same : tree.tokens ≡ f.tokens = (laws.reading text).tokens tree.tokens f.tokens tree.lexed f.lexed in
     (laws.answer f.tokens (length text)).either t e (subst (λ ts. DerivesTree depth_limit ts t) same tree.derived) within f.fault
 
 -- the tokens of a text have one fault
 one_syntax_fault : Laws → (text : List ℕ) (e f : SyntaxError) → IsSyntaxFault text e → IsSyntaxFault text f → e ≡ f
 one_syntax_fault laws text e f h k =
-    let same : h.tokens ≡ k.tokens = (laws.reading text).tokens h.tokens k.tokens h.cut k.cut in
+    let same : h.tokens ≡ k.tokens = (laws.reading text).tokens h.tokens k.tokens h.lexed k.lexed in
     (laws.answer k.tokens (length text)).fault e f (subst (λ ts. syntax.IsFault ts (length text) e) same h.fault) k.fault
 
 -- the tree of a text has one fault
@@ -79,7 +82,7 @@ one_region_fault laws text e f h k =
     (laws.regions k.tree).fault e f (subst (λ t. region.IsFault t e) same h.fault) k.fault
 
 -- an admitted tree has no fault
-admitted_unfaulted : Laws → (text : List ℕ) (t : SourceTree) (e : RegionError) → HasTree text t → IsRegionFault text e → ⊥
+admitted_unfaulted : Laws → (text : List ℕ) (t : ProgramTree) (e : RegionError) → HasTree text t → IsRegionFault text e → ⊥
 admitted_unfaulted laws text t e h f =
     let same : t ≡ f.tree = laws.tree depth_limit depth_limit text t f.tree h.tree f.derived in
     (laws.regions f.tree).admitted (subst IsAdmitted same h.admitted) e f.fault
@@ -87,10 +90,10 @@ admitted_unfaulted laws text t e h f =
 -- two refusals of a text are one
 one_refusal : Laws → (text : List ℕ) (r s : Refusal) → IsRefusal text r → IsRefusal text s → r ≡ s
 one_refusal laws text (refusal.Text e) (refusal.Text f) h k = ap refusal.Text (one_text_fault laws h.fault k.fault h.given k.given)
-one_refusal laws text (refusal.Text e) (refusal.Syntax f) h k = absurd (cut_unrefused laws k.short k.tokens k.cut h.fault h.given)
+one_refusal laws text (refusal.Text e) (refusal.Syntax f) h k = absurd (lexed_unrefused laws k.short k.tokens k.lexed h.fault h.given)
 one_refusal laws text (refusal.Text e) (refusal.Region f) h k = absurd (tree_unrefused laws text k.tree e k.short k.derived h)
 one_refusal laws text (refusal.Text e) refusal.TooManyCapsules h k = absurd (tree_unrefused laws text k.tree e k.has_tree.short k.has_tree.tree h)
-one_refusal laws text (refusal.Syntax e) (refusal.Text f) h k = absurd (cut_unrefused laws h.short h.tokens h.cut k.fault k.given)
+one_refusal laws text (refusal.Syntax e) (refusal.Text f) h k = absurd (lexed_unrefused laws h.short h.tokens h.lexed k.fault k.given)
 one_refusal laws text (refusal.Syntax e) (refusal.Syntax f) h k = ap refusal.Syntax (one_syntax_fault laws text e f h k)
 one_refusal laws text (refusal.Syntax e) (refusal.Region f) h k = absurd (tree_unfaulted laws text k.tree e k.derived k.within h)
 one_refusal laws text (refusal.Syntax e) refusal.TooManyCapsules h k =
@@ -120,12 +123,12 @@ fault_given (bad_char class begins) = λ h. cc
 fault_given (number_too_big longest over) = λ h. cc
 fault_given (name_too_long longest over) = λ h. cc
 
--- the numbers in a text that is cut are literals
-cut_literals : {p l q m : ℕ} {bytes rest : List ℕ} {ts : List Token} → Cuts p l bytes ts q m rest → All TokenLiteral ts
-cut_literals here = All-nil TokenLiteral
-cut_literals (skip s c) = cut_literals c
-cut_literals (token {p = p} {l = l} {k = k} {ts = ts} longest range c) =
-    All-cons TokenLiteral (located k p l) ts (λ n is. rw is at range) (cut_literals c)
+-- the numbers in a text that is lexed are literals
+lexed_literals : {p l q m : ℕ} {bytes rest : List ℕ} {ts : List Token} → Lexes p l bytes ts q m rest → All TokenLiteral ts
+lexed_literals here = All-nil TokenLiteral
+lexed_literals (skip s c) = lexed_literals c
+lexed_literals (token {p = p} {l = l} {k = k} {ts = ts} longest range c) =
+    All-cons TokenLiteral (located k p l) ts (λ n is. rw is at range) (lexed_literals c)
 
 -- a text that is not refused
 module _ (laws : Laws) (text : List ℕ) (free : (r : Refusal) → IsRefusal text r → ⊥) where
@@ -143,16 +146,16 @@ module _ (laws : Laws) (text : List ℕ) (free : (r : Refusal) → IsRefusal tex
       (laws.reading text).none (λ e f. free (refusal.Text e) (record { fault = faulty is_short f; given = fault_given f.fault }))
 
   -- its tokens have a tree within the limits
-  has_within : (t : SourceTree) × IsTreeOf depth_limit text t × IsWithin t
+  has_within : (t : ProgramTree) × IsTreeOf depth_limit text t × IsWithin t
   has_within =
       let ts = has_tokens in
       let no_fault : (e : SyntaxError) → syntax.IsFault ts.0 (length text) e → ⊥ =
-      λ e f. free (refusal.Syntax e) (record { tokens = ts.0; short = is_short; cut = ts.1; fault = f }) in
-      let r = (laws.answer ts.0 (length text)).none no_fault (cut_literals ts.1.1) in
-      (r.0, record { tokens = ts.0; cut = ts.1; derived = r.1 }, r.2)
+      λ e f. free (refusal.Syntax e) (record { tokens = ts.0; short = is_short; lexed = ts.1; fault = f }) in
+      let r = (laws.answer ts.0 (length text)).none no_fault (lexed_literals ts.1.1) in
+      (r.0, record { tokens = ts.0; lexed = ts.1; derived = r.1 }, r.2)
 
   -- the tree is admitted
-  has_admitted : (t : SourceTree) × HasTree text t
+  has_admitted : (t : ProgramTree) × HasTree text t
   has_admitted =
       let r = has_within in
       let no_fault : (e : RegionError) → region.IsFault r.0 e → ⊥ =
@@ -160,10 +163,10 @@ module _ (laws : Laws) (text : List ℕ) (free : (r : Refusal) → IsRefusal tex
       (r.0, record { short = is_short; tree = r.1; within = r.2; admitted = (laws.regions r.0).none r.2 no_fault })
 
   -- and its code has room
-  has_room : (t : SourceTree) × HasTree text t × FitsCode t
+  has_room : (t : ProgramTree) × HasTree text t × FitsCode t
   has_room = go (nat_lt capsule_limit (capsule_bound has_admitted.0)) refl
     where
-      go : (b : Bool) → nat_lt capsule_limit (capsule_bound has_admitted.0) ≡ b → (t : SourceTree) × HasTree text t × FitsCode t
+      go : (b : Bool) → nat_lt capsule_limit (capsule_bound has_admitted.0) ≡ b → (t : ProgramTree) × HasTree text t × FitsCode t
       go true over =
           absurd (free refusal.TooManyCapsules (record { tree = has_admitted.0; has_tree = has_admitted.1; unfit = λ h. absurd (grind (arith, over, h)) }))
       go false over = (has_admitted.0, has_admitted.1, grind (arith, over))

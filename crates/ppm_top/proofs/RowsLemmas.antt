@@ -8,8 +8,8 @@ use Rattle.ppm_words.specs.declared.outcome.Outcome.{Outcome}
 use Rattle.ppm_text.specs.Limits.{text_limit}
 use Rattle.ppm_text.specs.declared.text_error.TextError.{TextError}
 use Rattle.ppm_text.specs.declared.text_error.TextError.TheVariants as text_error
-use Rattle.ppm_text.specs.Cutting.{IsRefused, too_long, faulty, no_memory}
-use Rattle.ppm_syntax.specs.Correct.{HasTree}
+use Rattle.ppm_text.specs.Refusals.{IsRefused, too_long, faulty, no_memory}
+use Rattle.ppm_syntax.specs.Admission.{HasTree}
 use Rattle.ppm_top.specs.declared.refusal.Refusal.{Refusal}
 use Rattle.ppm_top.specs.declared.refusal.Refusal.TheVariants as refusals
 use Rattle.ppm_top.specs.Refusals.{IsTextFault, IsSyntaxFault, IsRegionFault, HasNoRoom, IsRefusal}
@@ -25,15 +25,15 @@ use Rattle.ppm_top.specs.Statuses.{status_of}
 use Rattle.ppm_line.specs.Words.{command_of}
 use Rattle.ppm_top.specs.Delivery.{IsWritten, Delivers}
 use Rattle.ppm_top.specs.Causes.{IsUnread, ComesTo, HasNoOutcome, ReadComesTo, ReadIsRefused, RunMay, NoCommandMay, CommandMay, IsAnswered}
-use Rattle.ppm_top.specs.Rows.{IsOneOf, WritesArrays, WritesTrap, WritesRefusal, IsTold, GoesWell, RefusesSource, RefusesWords, TellsFaults, IsSilentOnOut}
+use Rattle.ppm_top.specs.Rows.{IsOneOf, WritesArrays, WritesTrap, WritesRefusal, IsReported, GoesWell, RefusesSource, RefusesWords, ReportsFaults, IsSilentOnOut}
 
 -- the statuses at which nothing is written on out
 abbrev quiet : List Status
 quiet = statuses.SourceRefused ∷ statuses.WordsRefused ∷ statuses.ReadFault ∷ statuses.NoMemory ∷ []
 
--- the text is refused, and that is told
+-- the text is refused, and that is reported
 abbrev Refuses : Port → Status → List ℕ → Type 0
-Refuses err status text = (r : Refusal) × IsRefusal text r × IsTold err status r
+Refuses err status text = (r : Refusal) × IsRefusal text r × IsReported err status r
 
 -- at a status other than 8 the answer is written
 written : (out err : Port) (answer : Answer) (status : Status) → Delivers out err answer status → status ≢ statuses.WriteFault →
@@ -158,10 +158,10 @@ read_has_some : (source : Port) (all : List ℕ) (o : Outcome) → source.before
 read_has_some source all o e h none =
     some_of_all all source.now h.0 o (subst (λ b. ReadsTo text_limit b source.now h.0) e h.1) h.2 none
 
--- where all goes well, the text has an outcome, or a refusal that is told
-is_told : (words : List (List ℕ)) (source out err : Port) (status : Status) → IsAnswered words source out err status →
+-- where all goes well, the text has an outcome, or a refusal that is reported
+is_reported : (words : List (List ℕ)) (source out err : Port) (status : Status) → IsAnswered words source out err status →
     (all : List ℕ) → source.before ≡ Some all → GoesWell words source out err status → (HasNoOutcome all → ⊥) ⊎ Refuses err status all
-is_told words source out err status a all e well = go (judged words source out err status a well) where
+is_reported words source out err status a all e well = go (judged words source out err status a well) where
   go : IsOneOf status (statuses.Ended ∷ statuses.Trapped ∷ statuses.SourceRefused ∷ []) → (HasNoOutcome all → ⊥) ⊎ Refuses err status all
   go (inl s) = let h = ended words source out err status a s in inl (read_has_some source all _ e h.1)
   go (inr (inl s)) = let h = trapped words source out err status a s in inl (read_has_some source all _ e h.2)
@@ -184,15 +184,15 @@ exactly law words source out err status a all e well = (there, back) where
   go none (inr h) = h.2.refused
 
   back : HasNoOutcome all → status ≡ statuses.SourceRefused
-  back none = go none (is_told words source out err status a all e well)
+  back none = go none (is_reported words source out err status a all e well)
 
 cause : HaveOneRefusal → (words : List (List ℕ)) (source out err : Port) (status : Status) → IsAnswered words source out err status →
     (all : List ℕ) → source.before ≡ Some all → GoesWell words source out err status → (r : Refusal) → IsRefusal all r →
-    IsTold err status r
-cause law words source out err status a all e well r is = go (is_told words source out err status a all e well) where
-  go : (HasNoOutcome all → ⊥) ⊎ Refuses err status all → IsTold err status r
+    IsReported err status r
+cause law words source out err status a all e well r is = go (is_reported words source out err status a all e well) where
+  go : (HasNoOutcome all → ⊥) ⊎ Refuses err status all → IsReported err status r
   go (inl some) = absurd (some ((law all).either r is))
-  go (inr h) = subst (IsTold err status) ((law all).refusal h.0 r h.1 is) h.2
+  go (inr h) = subst (IsReported err status) ((law all).refusal h.0 r h.1 is) h.2
 
 pub refuses_source : HaveOneRefusal → (words : List (List ℕ)) (source out err : Port) (status : Status) →
     IsAnswered words source out err status → RefusesSource words source out err status
@@ -262,9 +262,9 @@ read_fault words source out err status a e =
     let w : IsWritten out err a.answer status = written out err a.answer status a.delivered (λ f. cc) in
     failed_read (command_of words) source a.answer a.may (sym w.own ∙ e)
 
-pub tells_faults : (words : List (List ℕ)) (source out err : Port) (status : Status) → IsAnswered words source out err status →
-    TellsFaults source out err status
-tells_faults words source out err status a = record {
+pub reports_faults : (words : List (List ℕ)) (source out err : Port) (status : Status) → IsAnswered words source out err status →
+    ReportsFaults source out err status
+reports_faults words source out err status a = record {
   read_fault = read_fault words source out err status a;
   write_fault = λ e. write_failed out err a.answer status e a.delivered;
 }

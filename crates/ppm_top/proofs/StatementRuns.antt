@@ -12,21 +12,21 @@ use Rattle.ppm_syntax.specs.declared.tree.Operator.TheVariants as operator
 use Rattle.ppm_syntax.specs.Tree.{Expression, Statement}
 use Rattle.ppm_syntax.specs.Tree as tree
 use Rattle.ppm_syntax.specs.Limits.{HasLiterals, IsLiteral}
-use Rattle.ppm_syntax.specs.Meaning.{Stop, Frame, region_of, then_with, fits, in_range, applied, word_at, array_at, evaluate, after, stored}
+use Rattle.ppm_syntax.specs.Meaning.{TrapAt, Frame, region_of, then_with, fits, in_range, applied, element_at, array_at, evaluate, after, stored}
 use Rattle.ppm_top.specs.declared.code.Instr.{Instr}
 use Rattle.ppm_top.specs.declared.code.Instr.TheVariants.{StoreCur}
 use Rattle.ppm_top.specs.Code.{register_count, array_of, expression_code, keep_capsule, put_capsule, reach}
 use Rattle.ppm_top.specs.Machine.{State, register, steps, cleared, base_of, total_of, arrays_of, whole}
 use Rattle.ppm_top.proofs.ArraysInWords.{get_or-array_at, arrays_of-set}
-use Rattle.ppm_top.proofs.ExpressionRuns.{IsWhole, ReadsWhole, steps-append, Leaves, Ends, word_within, expression_right}
+use Rattle.ppm_top.proofs.ExpressionRuns.{IsWhole, ReadsWhole, steps-append, Leaves, Ends, element_within, expression_right}
 
 -- what goes on to a value had one
-then_ok : {A B : Type 0} (r : Result A Stop) (f : A → Result B Stop) (z : B) → then_with r f ≡ Ok z → (x : A) × (r ≡ Ok x) × (f x ≡ Ok z)
+then_ok : {A B : Type 0} (r : Result A TrapAt) (f : A → Result B TrapAt) (z : B) → then_with r f ≡ Ok z → (x : A) × (r ≡ Ok x) × (f x ≡ Ok z)
 then_ok (Ok x) f z e = (x, refl, e)
 then_ok (Err stop) f z e = cc
 
 -- going on twice, one way or the other
-pub then_assoc : {A B C : Type 0} (r : Result A Stop) (f : A → Result B Stop) (g : B → Result C Stop) →
+pub then_assoc : {A B C : Type 0} (r : Result A TrapAt) (f : A → Result B TrapAt) (g : B → Result C TrapAt) →
     then_with (then_with r f) g ≡ then_with r (λ x. then_with (f x) g)
 then_assoc (Ok x) f g = refl
 then_assoc (Err stop) f g = refl
@@ -42,7 +42,7 @@ literal_fits (pos n) h = record { sfits = h }
 literal_fits (negsuc n) h = absurd h
 
 -- the test of a result, by its answer
-abbrev tested_sum : Bool → ℤ → ℕ → Result ℤ Stop
+abbrev tested_sum : Bool → ℤ → ℕ → Result ℤ TrapAt
 tested_sum b z line = cond b (Ok z) (Err (trap.Overflow, line))
 
 -- a result in range is a value
@@ -70,9 +70,9 @@ value_fits lengths frame s (tree.Element x line index) z sound literals reads e 
     let arrays = arrays_of lengths s.words in
     let a = array_of frame x in
     let found = λ (k : ℕ). get_or (array_at arrays a) k (pos 0) in
-    let i = then_ok (evaluate frame arrays index) (λ i. then_with (word_at line (region_of frame x) i) (λ k. Ok (found k))) z e in
-    let k = then_ok (word_at line (region_of frame x) i.0) (λ k. Ok (found k)) z i.2 in
-    let within = word_within lengths a line k.0 i.0 (sym (ap (λ r. word_at line r i.0) reads.0) ∙ k.1) in
+    let i = then_ok (evaluate frame arrays index) (λ i. then_with (element_at line (region_of frame x) i) (λ k. Ok (found k))) z e in
+    let k = then_ok (element_at line (region_of frame x) i.0) (λ k. Ok (found k)) z i.2 in
+    let within = element_within lengths a line k.0 i.0 (sym (ap (λ r. element_at line r i.0) reads.0) ∙ k.1) in
     let same : found k.0 ≡ z = cc (k.2) in
     subst (λ v. FitsSigned w64 v)
     (sym (get_or-array_at lengths s.words a k.0 sound.enough within) ∙ same)
@@ -84,13 +84,13 @@ value_fits lengths frame s (tree.Binary o line left right) z sound literals read
     applied_fits o line v.0 w.0 z w.2
 
 -- a run of the machine leaves these arrays, or stops
-abbrev pub Becomes : List ℕ → Result State Stop → Result (List (List ℤ)) Stop → Type 0
+abbrev pub Becomes : List ℕ → Result State TrapAt → Result (List (List ℤ)) TrapAt → Type 0
 Becomes lengths run (Ok arrays) = (t : State) × (run ≡ Ok t) × ((arrays_of lengths t.words ≡ arrays) × IsSound lengths t)
 Becomes lengths run (Err stop) = run ≡ Err stop
 
 -- an expression, and then what goes on from its value
-then_becomes : (lengths : List ℕ) (a : List Instr) (s base : State) (d : ℕ) (r : Result ℤ Stop)
-    (f : ℤ → Result (List (List ℤ)) Stop) (next : State → Result State Stop) →
+then_becomes : (lengths : List ℕ) (a : List Instr) (s base : State) (d : ℕ) (r : Result ℤ TrapAt)
+    (f : ℤ → Result (List (List ℤ)) TrapAt) (next : State → Result State TrapAt) →
     Ends lengths a s base d r → ((z : ℤ) (t : State) → r ≡ Ok z → Leaves d z base t → Becomes lengths (next t) (f z)) →
     Becomes lengths (then_with (steps lengths a s) next) (then_with r f)
 then_becomes lengths a s base d (Err stop) f next h go = ap (λ r. then_with r next) h
@@ -113,14 +113,14 @@ abbrev stores : List Instr
 stores = StoreCur 0 0 ∷ StoreCur 1 1 ∷ []
 
 -- the rest of the two capsules, once index and value are in registers 0 and 1
-abbrev put_on : List ℕ → ℕ → ℕ → State → Result State Stop
+abbrev put_on : List ℕ → ℕ → ℕ → State → Result State TrapAt
 put_on lengths a line u = then_with (steps lengths stores u) (λ t. steps lengths (put_capsule a line).body (cleared t))
 
 -- the second capsule puts the value that the first one kept
 put_right : (lengths : List ℕ) (u : State) (a line : ℕ) (i v : ℤ) → IsSound lengths u → FitsSigned w64 i → FitsSigned w64 v →
     register u 0 ≡ i → register u 1 ≡ v →
-    Becomes lengths (put_on lengths a line u) (then_with (word_at line (whole lengths a) i) (λ k. Ok (stored (arrays_of lengths u.words) a k v)))
-put_right lengths u a line i v sound fits_i fits_v first second = go (word_at line (whole lengths a) i) refl where
+    Becomes lengths (put_on lengths a line u) (then_with (element_at line (whole lengths a) i) (λ k. Ok (stored (arrays_of lengths u.words) a k v)))
+put_right lengths u a line i v sound fits_i fits_v first second = go (element_at line (whole lengths a) i) refl where
   zeros : List ℤ
   zeros = replicate register_count (pos 0)
 
@@ -157,23 +157,23 @@ put_right lengths u a line i v sound fits_i fits_v first second = go (word_at li
       ∙ ap value_of (get_or-set_same first_kept 1 (word_of (register u 1)) 0 two)
       ∙ ap (λ x. value_of (word_of x)) second ∙ value_of-word_of v fits_v
 
-  put : Result ℕ Stop → ℤ → Result State Stop
+  put : Result ℕ TrapAt → ℤ → Result State TrapAt
   put r x = then_with (then_with (then_with r (λ k. Ok (base_of lengths a + k))) (λ j. Ok (next x j))) (λ t. Ok t)
 
-  here : (r : Result ℕ Stop) → word_at line (whole lengths a) i ≡ r → put_on lengths a line u ≡ put r v
+  here : (r : Result ℕ TrapAt) → element_at line (whole lengths a) i ≡ r → put_on lengths a line u ≡ put r v
   here r e =
-      ap (λ x. put (word_at line (whole lengths a) x) (get_or loaded 1 (pos 0))) read_first
-      ∙ ap (put (word_at line (whole lengths a) i)) read_second
+      ap (λ x. put (element_at line (whole lengths a) x) (get_or loaded 1 (pos 0))) read_first
+      ∙ ap (put (element_at line (whole lengths a) i)) read_second
       ∙ ap (λ r. put r v) e
 
-  go : (r : Result ℕ Stop) → word_at line (whole lengths a) i ≡ r →
+  go : (r : Result ℕ TrapAt) → element_at line (whole lengths a) i ≡ r →
       Becomes lengths (put_on lengths a line u) (then_with r (λ k. Ok (stored (arrays_of lengths u.words) a k v)))
   go (Err stop) e = here (Err stop) e
   go (Ok k) e = (
     next v (base_of lengths a + k),
     here (Ok k) e,
     (
-      arrays_of-set lengths u.words a k (word_of v) sound.enough (word_within lengths a line k i e)
+      arrays_of-set lengths u.words a k (word_of v) sound.enough (element_within lengths a line k i e)
           ∙ ap (λ x. stored (arrays_of lengths u.words) a k x) (value_of-word_of v fits_v),
       record {
         slots = length-set first_kept 1 (word_of (register u 1)) ∙ length-set u.slots 0 (word_of (register u 0)) ∙ sound.slots;
@@ -188,7 +188,7 @@ kept_sound : (lengths : List ℕ) (s t : State) → IsSound lengths s → t.slot
 kept_sound lengths s t sound slots words = record { slots = ap length slots ∙ sound.slots; enough = rw words sound.enough; fits = rw words sound.fits }
 
 -- the two capsules of an assignment, one after the other
-abbrev pub pair_run : List ℕ → Frame → List ℕ → ℕ → Expression → Expression → State → Result State Stop
+abbrev pub pair_run : List ℕ → Frame → List ℕ → ℕ → Expression → Expression → State → Result State TrapAt
 pair_run lengths frame x line index value s =
     then_with (steps lengths (keep_capsule frame index value).body (cleared s)) (λ t. steps lengths (put_capsule (array_of frame x) line).body (cleared t))
 
@@ -202,7 +202,7 @@ pair_parts lengths frame x line index value s =
     ∙ then_assoc (steps lengths (expression_code frame 0 index) (cleared s)) (λ t. steps lengths (expression_code frame 1 value ++ stores) t) put
     ∙ from (steps lengths (expression_code frame 0 index) (cleared s))
   where
-    put : State → Result State Stop
+    put : State → Result State TrapAt
     put t = steps lengths (put_capsule (array_of frame x) line).body (cleared t)
 
     at : (t : State) →
@@ -212,7 +212,7 @@ pair_parts lengths frame x line index value s =
         ap (λ r. then_with r put) (steps-append lengths (expression_code frame 1 value) stores t)
         ∙ then_assoc (steps lengths (expression_code frame 1 value) t) (λ u. steps lengths stores u) put
 
-    from : (r : Result State Stop) →
+    from : (r : Result State TrapAt) →
         then_with r (λ t. then_with (steps lengths (expression_code frame 1 value ++ stores) t) put)
         ≡ then_with r (λ t. then_with (steps lengths (expression_code frame 1 value) t) (put_on lengths (array_of frame x) line))
     from (Ok t) = at t
@@ -235,7 +235,7 @@ pair_right lengths frame x line index value s sound room_i room_v literals_i lit
     let sound_t : IsSound lengths t = kept_sound lengths s t sound l.slots l.words in
     let room_t : reach 1 value ≤ length t.registers = omega (arith, l.size) in
     let rest = then_with (steps lengths (expression_code frame 1 value) t) (put_on lengths a line) in
-    let put = λ (ws : List ℕ) (v : ℤ). then_with (word_at line (region_of frame x) i) (λ k. Ok (stored (arrays_of lengths ws) a k v)) in
+    let put = λ (ws : List ℕ) (v : ℤ). then_with (element_at line (region_of frame x) i) (λ k. Ok (stored (arrays_of lengths ws) a k v)) in
     subst (λ ws. Becomes lengths rest (then_with (evaluate frame (arrays_of lengths ws) value) (put ws))) l.words
     (then_becomes lengths (expression_code frame 1 value) t t 1 _ _ _ (expression_right lengths frame value 1 t room_t sound_t.enough reads_v)
     (λ v u ev m.
@@ -245,5 +245,5 @@ pair_right lengths frame x line index value s sound room_i room_v literals_i lit
     let zero_below : 0 < 1 = omega arith in
     subst (λ ws. Becomes lengths (put_on lengths a line u) (put ws v)) m.words
     (subst (λ w. Becomes lengths (put_on lengths a line u) (then_with w (λ k. Ok (stored (arrays_of lengths u.words) a k v))))
-    (sym (ap (λ r. word_at line r i) whole_x))
+    (sym (ap (λ r. element_at line r i) whole_x))
     (put_right lengths u a line i v sound_u fits_i fits_v (m.below 0 zero_below ∙ l.value) m.value))))))

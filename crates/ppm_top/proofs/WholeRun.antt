@@ -1,4 +1,4 @@
--- The code of an admitted source, run by the machine from the words of its input, comes to the source's serial meaning.
+-- The code of an admitted program, run by the machine from the words of its input, comes to the program's serial meaning.
 use Rattle.std.proofs.Common.{◌≡◌, ℕ, zero, suc, ◌+◌, ◌-◌, ◌<◌, ◌≤◌, ◌^◌, List, [], ◌∷◌, length, map, take}
 use Rattle.std.proofs.Common.{drop, get_or, replicate, Result, Ok, Err, refl, sym, ap, ◌∙◌, subst, arith, cond, true}
 use Rattle.std.specs.Prelude.{ℤ, pos, codes, Some, None}
@@ -11,11 +11,11 @@ use Rattle.ppm_words.specs.TwosComplement.{word_of, value_of}
 use Rattle.ppm_words.specs.declared.named_array.NamedArray.{NamedArray}
 use Rattle.ppm_words.specs.declared.outcome.Outcome.TheVariants as outcome
 use Rattle.ppm_syntax.specs.declared.tree.Array.{Array}
-use Rattle.ppm_syntax.specs.Tree.{Procedure, SourceTree}
+use Rattle.ppm_syntax.specs.Tree.{Procedure, ProgramTree}
 use Rattle.ppm_syntax.specs.Limits.{IsSmall, IsWithin}
 use Rattle.ppm_syntax.specs.Rules.{IsMain, IsLawful, IsAdmitted}
-use Rattle.ppm_syntax.specs.Meaning.{Stop, Frame, main_frame, procedure_named, run_main, at_once}
-use Rattle.ppm_syntax.specs.Meaning.{opening, values_of, with_names, outcome_of, serial, IsOutcome}
+use Rattle.ppm_syntax.specs.Meaning.{TrapAt, Frame, main_frame, procedure_named, run_main, at_once}
+use Rattle.ppm_syntax.specs.Meaning.{initial_arrays, values_of, with_names, outcome_of, serial, IsOutcome}
 use Rattle.ppm_top.specs.declared.code.Capsule.{Capsule}
 use Rattle.ppm_top.specs.Code.{code_of, IsAlone}
 use Rattle.ppm_top.specs.Machine.{State, run_capsules, lengths_of, total_of, arrays_of, named_arrays, words_from, IsStart}
@@ -72,11 +72,11 @@ with_names-arrays_of (a ∷ arrays) words =
     ap (λ rest. first ∷ rest) (with_names-arrays_of arrays (drop a.length words))
 
 -- a run starts with words that are 0
-start_words : (t : SourceTree) (s : State) → IsStart t s → s.words ≡ replicate (total_of (lengths_of t.arrays)) 0
+start_words : (t : ProgramTree) (s : State) → IsStart t s → s.words ≡ replicate (total_of (lengths_of t.arrays)) 0
 start_words t s start = start.words ∙ words_from-opened t.arrays
 
 -- a run starts in a sound state
-start_sound : (t : SourceTree) (s : State) → IsStart t s → IsSound (lengths_of t.arrays) s
+start_sound : (t : ProgramTree) (s : State) → IsStart t s → IsSound (lengths_of t.arrays) s
 start_sound t s start =
     let e = start_words t s start in
     record {
@@ -93,16 +93,16 @@ alone_main arrays procs main e p has h =
     subst (IsMain arrays) (All-contains (λ q. q ≡ main) procs p all has) h
 
 -- where the machine's run comes to, said of the body
-abbrev pub BodyEnds : SourceTree → Procedure → Result (List (List ℤ)) Stop → Type 0
-BodyEnds t main r = after_all (main_frame t.arrays main.params) (values_of (opening t)) main.body ≡ r
+abbrev pub BodyEnds : ProgramTree → Procedure → Result (List (List ℤ)) TrapAt → Type 0
+BodyEnds t main r = after_all (main_frame t.arrays main.params) (values_of (initial_arrays t)) main.body ≡ r
 
 -- the serial run, with a turn for the entry and one for each statement
-serial_is : (t : SourceTree) (main : Procedure) (r : Result (List (List ℤ)) Stop) → IsAdmitted t → IsAlone t main → BodyEnds t main r →
-    serial (suc (length main.body)) t ≡ outcome_of (opening t) (at_once 0 r)
+serial_is : (t : ProgramTree) (main : Procedure) (r : Result (List (List ℤ)) TrapAt) → IsAdmitted t → IsAlone t main → BodyEnds t main r →
+    serial (suc (length main.body)) t ≡ outcome_of (initial_arrays t) (at_once 0 r)
 serial_is t main r admitted alone ends =
-    ap (λ procs. outcome_of (opening t) (run_main t.arrays (procedure_named procs (codes "main")) (values_of (opening t)) (suc (length main.body)))) alone
-    ∙ ap (λ b. outcome_of (opening t) (run_main t.arrays (cond b (Some main) None) (values_of (opening t)) (suc (length main.body)))) named
-    ∙ ap (outcome_of (opening t)) (run_statements-after_all (main_frame t.arrays main.params) main.body (values_of (opening t)) ∙ ap (at_once 0) ends)
+    ap (λ procs. outcome_of (initial_arrays t) (run_main t.arrays (procedure_named procs (codes "main")) (values_of (initial_arrays t)) (suc (length main.body)))) alone
+    ∙ ap (λ b. outcome_of (initial_arrays t) (run_main t.arrays (cond b (Some main) None) (values_of (initial_arrays t)) (suc (length main.body)))) named
+    ∙ ap (outcome_of (initial_arrays t)) (run_statements-after_all (main_frame t.arrays main.params) main.body (values_of (initial_arrays t)) ∙ ap (at_once 0) ends)
   where
     own : IsMain t.arrays main
     own = alone_main t.arrays t.procs main alone admitted.main.0 admitted.main.1 admitted.main.2
@@ -111,9 +111,9 @@ serial_is t main r admitted alone ends =
     named = (bytes_eq-Decides main.name (codes "main")).1 own.name
 
 -- the machine's run does what the body means
-run_right : (t : SourceTree) (main : Procedure) (s : State) → IsWithin t → IsAdmitted t → IsAlone t main → IsStart t s →
+run_right : (t : ProgramTree) (main : Procedure) (s : State) → IsWithin t → IsAdmitted t → IsAlone t main → IsStart t s →
     Becomes (lengths_of t.arrays) (run_capsules (lengths_of t.arrays) (code_of (main_frame t.arrays main.params) main.body) s)
-    (after_all (main_frame t.arrays main.params) (values_of (opening t)) main.body)
+    (after_all (main_frame t.arrays main.params) (values_of (initial_arrays t)) main.body)
 run_right t main s within admitted alone start =
     subst (λ arrays. Becomes lengths (run_capsules lengths (code_of frame main.body) s) (after_all frame arrays main.body)) begin
     (body_right lengths frame main.body s (start_sound t s start) small.body names)
@@ -124,7 +124,7 @@ run_right t main s within admitted alone start =
     frame : Frame
     frame = main_frame t.arrays main.params
 
-    begin : arrays_of lengths s.words ≡ values_of (opening t)
+    begin : arrays_of lengths s.words ≡ values_of (initial_arrays t)
     begin = ap (arrays_of lengths) (start_words t s start) ∙ opened_arrays t.arrays
 
     small : IsSmall main
@@ -140,7 +140,7 @@ run_right t main s within admitted alone start =
     names = λ k d h. names_whole t.arrays main.params own.named (get_or main.body k d) (lawful.body k d h)
 
 -- a run that ends leaves the outcome's arrays
-pub run_ends : (t : SourceTree) (main : Procedure) (s u : State) → IsWithin t → IsAdmitted t → IsAlone t main → IsStart t s →
+pub run_ends : (t : ProgramTree) (main : Procedure) (s u : State) → IsWithin t → IsAdmitted t → IsAlone t main → IsStart t s →
     run_capsules (lengths_of t.arrays) (code_of (main_frame t.arrays main.params) main.body) s ≡ Ok u →
     IsOutcome t (outcome.Ended (named_arrays t.arrays u.words))
 run_ends t main s u within admitted alone start e = (
@@ -152,14 +152,14 @@ run_ends t main s u within admitted alone start e = (
   lengths : List ℕ
   lengths = lengths_of t.arrays
 
-  go : (r : Result (List (List ℤ)) Stop) →
+  go : (r : Result (List (List ℤ)) TrapAt) →
       Becomes lengths (run_capsules lengths (code_of (main_frame t.arrays main.params) main.body) s) r →
       r ≡ Ok (arrays_of lengths u.words)
   go (Ok arrays) h = let same : h.0 ≡ u = cc (h.1, e) in ap (λ a. Ok a) (sym h.2.0 ∙ ap (λ v. arrays_of lengths v.words) same)
   go (Err stop) h = cc (h, e)
 
 -- a run that stops, stops at the outcome's trap
-pub run_stops : (t : SourceTree) (main : Procedure) (s : State) (stop : Stop) → IsWithin t → IsAdmitted t → IsAlone t main → IsStart t s →
+pub run_stops : (t : ProgramTree) (main : Procedure) (s : State) (stop : TrapAt) → IsWithin t → IsAdmitted t → IsAlone t main → IsStart t s →
     run_capsules (lengths_of t.arrays) (code_of (main_frame t.arrays main.params) main.body) s ≡ Err stop →
     IsOutcome t (outcome.Trapped stop.0 stop.1)
 run_stops t main s stop within admitted alone start e = (
@@ -170,17 +170,17 @@ run_stops t main s stop within admitted alone start e = (
   lengths : List ℕ
   lengths = lengths_of t.arrays
 
-  go : (r : Result (List (List ℤ)) Stop) →
+  go : (r : Result (List (List ℤ)) TrapAt) →
       Becomes lengths (run_capsules lengths (code_of (main_frame t.arrays main.params) main.body) s) r → r ≡ Err stop
   go (Ok arrays) h = cc (h.1, e)
   go (Err other) h = let same : other ≡ stop = cc (h, e) in ap (λ x. Err x) same
 
 -- the words of a start are enough for the arrays
-pub start_enough : (t : SourceTree) (s : State) (layout : List ℕ) → IsStart t s → layout ≡ lengths_of t.arrays → total_of layout ≤ length s.words
+pub start_enough : (t : ProgramTree) (s : State) (layout : List ℕ) → IsStart t s → layout ≡ lengths_of t.arrays → total_of layout ≤ length s.words
 start_enough t s layout start e = subst (λ lengths. total_of lengths ≤ length s.words) (sym e) (start_sound t s start).enough
 
 -- the same of a run as it was carried out: what it leaves
-pub whole_ends : (t : SourceTree) (main : Procedure) (layout : List ℕ) (code : List Capsule) (s u : State) → IsWithin t → IsAdmitted t →
+pub whole_ends : (t : ProgramTree) (main : Procedure) (layout : List ℕ) (code : List Capsule) (s u : State) → IsWithin t → IsAdmitted t →
     IsAlone t main → IsStart t s → layout ≡ lengths_of t.arrays → code ≡ code_of (main_frame t.arrays main.params) main.body →
     run_capsules layout code s ≡ Ok u → (arrays : List Array) (words : List ℕ) (result : List NamedArray) → arrays ≡ t.arrays →
     words ≡ u.words → result ≡ named_arrays arrays words → IsOutcome t (outcome.Ended result)
@@ -192,7 +192,7 @@ whole_ends t main layout code s u within admitted alone start el ec e arrays wor
     subst (λ named. IsOutcome t (outcome.Ended named)) (sym same) (run_ends t main s u within admitted alone start run)
 
 -- and where it stops
-pub whole_stops : (t : SourceTree) (main : Procedure) (layout : List ℕ) (code : List Capsule) (s : State) (stop : Stop) → IsWithin t →
+pub whole_stops : (t : ProgramTree) (main : Procedure) (layout : List ℕ) (code : List Capsule) (s : State) (stop : TrapAt) → IsWithin t →
     IsAdmitted t → IsAlone t main → IsStart t s → layout ≡ lengths_of t.arrays →
     code ≡ code_of (main_frame t.arrays main.params) main.body → run_capsules layout code s ≡ Err stop →
     IsOutcome t (outcome.Trapped stop.0 stop.1)

@@ -5,9 +5,9 @@ use Rattle.ppm_ports.specs.Ports.{Port, Fails}
 use Rattle.ppm_ports.specs.Whole.{ReadsTo, ReadsFront}
 use Rattle.ppm_words.specs.declared.outcome.Outcome.{Outcome}
 use Rattle.ppm_words.specs.declared.outcome.Outcome.TheVariants as outcome
-use Rattle.ppm_syntax.specs.Tree.{SourceTree}
+use Rattle.ppm_syntax.specs.Tree.{ProgramTree}
 use Rattle.ppm_text.specs.Limits.{text_limit}
-use Rattle.ppm_syntax.specs.Correct.{HasTree}
+use Rattle.ppm_syntax.specs.Admission.{HasTree}
 use Rattle.ppm_syntax.specs.Meaning.{IsOutcome}
 use Rattle.ppm_top.specs.Bounds.{FitsCode}
 use Rattle.ppm_top.specs.declared.refusal.Refusal.{Refusal}
@@ -35,14 +35,14 @@ pub record IsUnread (source : Port) : Type 0 where
 
 -- the text has an admitted tree, whose code has room, and this is the tree's outcome
 pub record ComesTo (text : List ℕ) (o : Outcome) : Type 0 where
-  pub tree : SourceTree
+  pub tree : ProgramTree
   pub has_tree : HasTree text tree
   pub fits : FitsCode tree
   pub is_outcome : IsOutcome tree o
 
 -- the text has no admitted tree whose code has room
 abbrev pub HasNoOutcome : List ℕ → Type 0
-HasNoOutcome text = (t : SourceTree) → HasTree text t → FitsCode t → ⊥
+HasNoOutcome text = (t : ProgramTree) → HasTree text t → FitsCode t → ⊥
 
 -- the text that was read comes to this outcome
 abbrev pub ReadComesTo : Port → Outcome → Type 0

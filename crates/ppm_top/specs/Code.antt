@@ -3,7 +3,7 @@ use Rattle.std.specs.Prelude.{◌≡◌, ℕ, ◌+◌, List, [], ◌∷◌, ◌+
 use Rattle.std.specs.List.{flat_map}
 use Rattle.ppm_syntax.specs.declared.tree.Operator.{Operator}
 use Rattle.ppm_syntax.specs.declared.tree.Operator.TheVariants as operator
-use Rattle.ppm_syntax.specs.Tree.{Expression, Statement, Procedure, SourceTree}
+use Rattle.ppm_syntax.specs.Tree.{Expression, Statement, Procedure, ProgramTree}
 use Rattle.ppm_syntax.specs.Tree as tree
 use Rattle.ppm_syntax.specs.Meaning.{Frame, region_of}
 use Rattle.ppm_top.specs.declared.code.Instr.{Instr}
@@ -60,5 +60,5 @@ reach d (tree.Element x line index) = reach d index
 reach d (tree.Binary o line left right) = max (reach d left) (max (d + 2) (reach (d + 1) right))
 
 -- the source has this procedure alone
-abbrev pub IsAlone : SourceTree → Procedure → Type 0
+abbrev pub IsAlone : ProgramTree → Procedure → Type 0
 IsAlone t main = t.procs ≡ main ∷ []

@@ -8,9 +8,9 @@ use Rattle.ppm_syntax.specs.declared.syntax_error.SyntaxError.{SyntaxError}
 use Rattle.ppm_syntax.specs.declared.syntax_error.SyntaxError.TheVariants as syntax_error
 use Rattle.ppm_syntax.specs.declared.region_error.RegionError.{RegionError}
 use Rattle.ppm_syntax.specs.declared.region_error.RegionError.TheVariants as region_error
-use Rattle.ppm_syntax.specs.Tree.{SourceTree}
+use Rattle.ppm_syntax.specs.Tree.{ProgramTree}
 use Rattle.ppm_syntax.specs.Limits.{depth_limit, IsWithin}
-use Rattle.ppm_syntax.specs.Correct.{IsTreeOf}
+use Rattle.ppm_syntax.specs.Admission.{IsTreeOf}
 use Rattle.ppm_top.specs.declared.outcome.OutcomeError.{OutcomeError}
 use Rattle.ppm_top.specs.declared.outcome.OutcomeError.TheVariants as outcome_error
 use Rattle.ppm_top.specs.declared.refusal.Refusal.TheVariants as refusal
@@ -36,7 +36,7 @@ MayStop text (judge_error.Refused r) = IsRefusal text r
 MayStop text judge_error.NoMemory = ⊤
 
 -- the text has this tree within the limits
-pub record IsDerived (text : List ℕ) (t : SourceTree) : Type 0 where
+pub record IsDerived (text : List ℕ) (t : ProgramTree) : Type 0 where
   pub short : length text ≤ text_limit
   pub tree : IsTreeOf depth_limit text t
   pub within : IsWithin t

@@ -5,8 +5,8 @@ use Rattle.ppm_words.specs.TwosComplement.{word_of, value_of}
 use Rattle.ppm_words.specs.declared.named_array.NamedArray.{NamedArray}
 use Rattle.ppm_syntax.specs.declared.tree.Operator.TheVariants as operator
 use Rattle.ppm_syntax.specs.declared.tree.Array.{Array}
-use Rattle.ppm_syntax.specs.Tree.{SourceTree}
-use Rattle.ppm_syntax.specs.Meaning.{opening, Stop, Region, then_with, applied, word_at}
+use Rattle.ppm_syntax.specs.Tree.{ProgramTree}
+use Rattle.ppm_syntax.specs.Meaning.{initial_arrays, TrapAt, Region, then_with, applied, element_at}
 use Rattle.ppm_top.specs.declared.code.Instr.{Instr}
 use Rattle.ppm_top.specs.declared.code.Instr.TheVariants.{Const, Add, Get, Put, LoadSlot, StoreCur}
 use Rattle.ppm_top.specs.declared.code.Exit.{Exit}
@@ -54,8 +54,8 @@ abbrev pub whole : List ℕ → ℕ → Region
 whole lengths a = record { array = a; start = 0; length = get_or lengths a 0 }
 
 -- the place of an element among the words
-abbrev pub address_of : List ℕ → ℕ → ℕ → ℤ → Result ℕ Stop
-address_of lengths a line i = then_with (word_at line (whole lengths a) i) (λ k. Ok (base_of lengths a + k))
+abbrev pub address_of : List ℕ → ℕ → ℕ → ℤ → Result ℕ TrapAt
+address_of lengths a line i = then_with (element_at line (whole lengths a) i) (λ k. Ok (base_of lengths a + k))
 
 -- registers, slots and words
 pub record State : Type 0 where
@@ -80,7 +80,7 @@ abbrev pub with_word : State → ℕ → ℕ → State
 with_word s j w = record { registers = s.registers; slots = s.slots; words = set s.words j w }
 
 -- what an instruction does
-abbrev pub step : List ℕ → Instr → State → Result State Stop
+abbrev pub step : List ℕ → Instr → State → Result State TrapAt
 step lengths (Const d z) s = Ok (with_register s d z)
 step lengths (Add d a b line) s =
     then_with (applied operator.Add line (register s a) (register s b)) (λ z. Ok (with_register s d z))
@@ -92,7 +92,7 @@ step lengths (LoadSlot d i) s = Ok (with_register s d (value_of (get_or s.slots 
 step lengths (StoreCur i a) s = Ok (with_slot s i (word_of (register s a)))
 
 -- what instructions do, one after another
-abbrev pub steps : List ℕ → List Instr → State → Result State Stop
+abbrev pub steps : List ℕ → List Instr → State → Result State TrapAt
 steps lengths [] s = Ok s
 steps lengths (i ∷ body) s = then_with (step lengths i s) (λ t. steps lengths body t)
 
@@ -101,22 +101,22 @@ abbrev pub cleared : State → State
 cleared s = record { registers = replicate register_count (pos 0); slots = s.slots; words = s.words }
 
 -- goes on with the capsules that follow, or ends
-abbrev pub go_on : Exit → (State → Result State Stop) → State → Result State Stop
+abbrev pub go_on : Exit → (State → Result State TrapAt) → State → Result State TrapAt
 go_on Next rest s = rest s
 go_on End rest s = Ok s
 
 -- what capsules do, from the first to the one that ends the run
-abbrev pub run_capsules : List ℕ → List Capsule → State → Result State Stop
+abbrev pub run_capsules : List ℕ → List Capsule → State → Result State TrapAt
 run_capsules lengths [] s = Ok s
 run_capsules lengths (c ∷ code) s =
     then_with (steps lengths c.body (cleared s)) (λ t. go_on c.exit (λ u. run_capsules lengths code u) t)
 
--- the machine before a run of a source: two slots, and the words of its arrays
-pub record IsStart (t : SourceTree) (s : State) : Type 0 where
+-- the machine before a run of a program: two slots, and the words of its arrays
+pub record IsStart (t : ProgramTree) (s : State) : Type 0 where
   pub slots : length s.slots ≡ 2
-  pub words : s.words ≡ words_from (opening t)
+  pub words : s.words ≡ words_from (initial_arrays t)
 
 -- a call that changes the state did what a definition says
-abbrev pub Did : Result Unit Stop → Result State Stop → State → Type 0
+abbrev pub Did : Result Unit TrapAt → Result State TrapAt → State → Type 0
 Did (Ok u) said now = said ≡ Ok now
 Did (Err stop) said now = said ≡ Err stop

@@ -4,14 +4,15 @@ use Rattle.ppm_text.specs.declared.token.Token.{Token}
 use Rattle.ppm_text.specs.declared.text_error.TextError.{TextError}
 use Rattle.ppm_text.specs.declared.text_error.TextError.TheVariants as text_error
 use Rattle.ppm_text.specs.Limits.{text_limit}
-use Rattle.ppm_text.specs.Cutting.{IsTextOf, IsRefused}
+use Rattle.ppm_text.specs.Lexing.{IsTextOf}
+use Rattle.ppm_text.specs.Refusals.{IsRefused}
 use Rattle.ppm_syntax.specs.declared.syntax_error.SyntaxError.{SyntaxError}
 use Rattle.ppm_syntax.specs.declared.region_error.RegionError.{RegionError}
-use Rattle.ppm_syntax.specs.Tree.{SourceTree}
+use Rattle.ppm_syntax.specs.Tree.{ProgramTree}
 use Rattle.ppm_syntax.specs.Limits.{depth_limit, IsWithin}
-use Rattle.ppm_syntax.specs.Correct.{IsTreeOf, HasTree}
-use Rattle.ppm_syntax.specs.Faults as syntax
-use Rattle.ppm_syntax.specs.RegionFaults as region
+use Rattle.ppm_syntax.specs.Admission.{IsTreeOf, HasTree}
+use Rattle.ppm_syntax.specs.SyntaxRefusals as syntax
+use Rattle.ppm_syntax.specs.RegionRefusals as region
 use Rattle.ppm_top.specs.Bounds.{FitsCode}
 use Rattle.ppm_top.specs.declared.refusal.Refusal.{Refusal}
 use Rattle.ppm_top.specs.declared.refusal.Refusal.TheVariants as refusal
@@ -25,12 +26,12 @@ pub record IsTextFault (text : List ℕ) (e : TextError) : Type 0 where
 pub record IsSyntaxFault (text : List ℕ) (e : SyntaxError) : Type 0 where
   pub tokens : List Token
   pub short : length text ≤ text_limit
-  pub cut : IsTextOf text tokens
+  pub lexed : IsTextOf text tokens
   pub fault : syntax.IsFault tokens (length text) e
 
 -- the text has a tree within the limits, and the tree has this fault, and so is not admitted
 pub record IsRegionFault (text : List ℕ) (e : RegionError) : Type 0 where
-  pub tree : SourceTree
+  pub tree : ProgramTree
   pub short : length text ≤ text_limit
   pub derived : IsTreeOf depth_limit text tree
   pub within : IsWithin tree
@@ -38,7 +39,7 @@ pub record IsRegionFault (text : List ℕ) (e : RegionError) : Type 0 where
 
 -- the text has an admitted tree, whose code has no room
 pub record HasNoRoom (text : List ℕ) : Type 0 where
-  pub tree : SourceTree
+  pub tree : ProgramTree
   pub has_tree : HasTree text tree
   pub unfit : ¬ FitsCode tree
 

@@ -34,7 +34,7 @@ abbrev pub WritesRefusal : Port → Port → Type 0
 WritesRefusal source err = (r : Refusal) × ReadIsRefused source r × Gets err (refusal_text r)
 
 -- the status is 2, and err got exactly the refusal's text
-pub record IsTold (err : Port) (status : Status) (r : Refusal) : Type 0 where
+pub record IsReported (err : Port) (status : Status) (r : Refusal) : Type 0 where
   pub refused : status ≡ statuses.SourceRefused
   pub err_gets : Gets err (refusal_text r)
 
@@ -48,7 +48,7 @@ pub record GoesWell (words : List (List ℕ)) (source out err : Port) (status : 
   pub memory : status ≢ statuses.NoMemory
 
 -- Status 2 comes only where the text that was read is refused, with that refusal's text on err. Where all goes well, the text is
--- judged; and a source that tells its bytes is then refused exactly where they have no outcome, and each refusal exactly where it is
+-- judged; and a source whose bytes are known is then refused exactly where they have no outcome, and each refusal exactly where it is
 -- the reason.
 pub record RefusesSource (words : List (List ℕ)) (source out err : Port) (status : Status) : Type 0 where
   pub only : status ≡ statuses.SourceRefused → WritesRefusal source err
@@ -56,7 +56,7 @@ pub record RefusesSource (words : List (List ℕ)) (source out err : Port) (stat
   pub exactly : (all : List ℕ) → source.before ≡ Some all → GoesWell words source out err status →
       ((status ≡ statuses.SourceRefused) ↔ HasNoOutcome all)
   pub cause : (all : List ℕ) → source.before ≡ Some all → GoesWell words source out err status → (r : Refusal) → IsRefusal all r →
-      IsTold err status r
+      IsReported err status r
 
 -- Status 3 comes only where the words give no command. Then nothing is read, and the status is 3, or 8 or 9.
 pub record RefusesWords (words : List (List ℕ)) (source : Port) (status : Status) : Type 0 where
@@ -65,7 +65,7 @@ pub record RefusesWords (words : List (List ℕ)) (source : Port) (status : Stat
   pub always : command_of words ≡ None → IsOneOf status (statuses.WordsRefused ∷ statuses.WriteFault ∷ statuses.NoMemory ∷ [])
 
 -- status 7 comes only where the source failed, and 8 only where out or err did
-pub record TellsFaults (source out err : Port) (status : Status) : Type 0 where
+pub record ReportsFaults (source out err : Port) (status : Status) : Type 0 where
   pub read_fault : status ≡ statuses.ReadFault → Fails source
   pub write_fault : status ≡ statuses.WriteFault → Fails out ⊎ Fails err
 

@@ -5,9 +5,9 @@ use Rattle.std.specs.Fmt.{signed_decimal}
 use Rattle.ppm_words.specs.declared.named_array.NamedArray.{NamedArray}
 use Rattle.ppm_words.specs.declared.trap.Trap.{Trap}
 use Rattle.ppm_words.specs.declared.trap.Trap.TheVariants as trap
-use Rattle.ppm_text.specs.Refusals as text
-use Rattle.ppm_syntax.specs.SyntaxRefusals as syntax
-use Rattle.ppm_syntax.specs.RegionRefusals as region
+use Rattle.ppm_text.specs.ErrorNumbers as text
+use Rattle.ppm_syntax.specs.SyntaxErrorNumbers as syntax
+use Rattle.ppm_syntax.specs.RegionErrorNumbers as region
 use Rattle.ppm_top.specs.declared.refusal.Refusal.{Refusal}
 use Rattle.ppm_top.specs.declared.refusal.Refusal.TheVariants as refusal
 use Rattle.ppm_top.specs.declared.answer.Answer.{Answer}
@@ -29,16 +29,16 @@ array_text a = line_of (a.name ++ flat_map value_text a.values)
 abbrev pub arrays_text : List NamedArray → List ℕ
 arrays_text arrays = flat_map array_text arrays
 
--- the word for a trap
-abbrev pub trap_word : Trap → List ℕ
-trap_word trap.Overflow = codes "overflow"
-trap_word trap.DivZero = codes "divzero"
-trap_word trap.Index = codes "index"
-trap_word trap.Split = codes "split"
+-- the name of a trap
+abbrev pub trap_name : Trap → List ℕ
+trap_name trap.Overflow = codes "overflow"
+trap_name trap.DivZero = codes "divzero"
+trap_name trap.Index = codes "index"
+trap_name trap.Split = codes "split"
 
 -- a line with the trap and its line in the source
 abbrev pub trap_text : Trap → ℕ → List ℕ
-trap_text t line = line_of (codes "trap " ++ trap_word t ++ codes " line " ++ decimal line)
+trap_text t line = line_of (codes "trap " ++ trap_name t ++ codes " line " ++ decimal line)
 
 -- what is written on out
 abbrev pub out_text : Answer → List ℕ

@@ -1,9 +1,9 @@
-//! The code of a source: capsules, one after another.
+//! The code of a program: capsules, one after another.
 
 use ppm_words::Items;
 
 /// An instruction. Registers are numbered from 0 to 63, the procedure's two extra slots 0 and 1, arrays from 0 in the
-/// order of the source; the last number of an operation that can trap is the line of its trap, from 1.
+/// order of the program; the last number of an operation that can trap is the line of its trap, from 1.
 #[derive(Clone, Copy, Debug, PartialEq, Eq)]
 pub enum Instr {
     /// Puts the number into the register.

@@ -19,7 +19,7 @@ pub fn deliver<K: Sink, E: Sink>(alloc: Global, answer: &Answer, out: &mut K, er
         Delivers out_port err_port answer.now result ⊎ Delivers out_port err_port answers.NoMemory result }
 {
     match texts_of(alloc, answer) {
-        Ok((text, told)) => send(&text, &told, answer, out, err),
+        Ok((text, message)) => send(&text, &message, answer, out, err),
         Err(_) => send(&[], OUT_OF_MEMORY, &Answer::NoMemory, out, err),
     }
 }
@@ -30,25 +30,25 @@ fn texts_of(alloc: Global, answer: &Answer) -> Result<(Vec<u8>, Vec<u8>), AllocE
     ensures err { IfOk result (λ texts. texts.1.items ≡ err_text answer.now) }
 {
     let text = out_text_of(alloc, answer)?;
-    let told = err_text_of(alloc, answer)?;
-    Ok((text, told))
+    let message = err_text_of(alloc, answer)?;
+    Ok((text, message))
 }
 
 /// Writes the texts of an answer: out's first, and err's where that went well.
 fn send<K: Sink, E: Sink>(
     text: &[u8],
-    told: &[u8],
+    message: &[u8],
     answer: &Answer,
     out: &mut K,
     err: &mut E,
 ) -> Status
     requires out { text.now ≡ out_text answer.now }
-    requires err { told.now ≡ err_text answer.now }
+    requires err { message.now ≡ err_text answer.now }
     ensures { Delivers (port K.written K.fault_count out.old out.new)
         (port E.written E.fault_count err.old err.new) answer.now result }
 {
     match write_whole(out, text) {
-        Ok(()) => match write_whole(err, told) {
+        Ok(()) => match write_whole(err, message) {
             Ok(()) => own_status(answer),
             Err(Failed) => Status::WriteFault,
         },

@@ -1,13 +1,13 @@
 //! What a text comes to.
 ghost use Rattle.std.specs.Prelude.{◌≡◌, IfOk, IfErr};
 ghost use Rattle.ppm_syntax.specs.Tree.{tree_of};
-ghost use Rattle.ppm_syntax.specs.Correct.{HasTree};
+ghost use Rattle.ppm_syntax.specs.Admission.{HasTree};
 ghost use Rattle.ppm_top.specs.Causes.{ComesTo};
 ghost use Rattle.ppm_top.specs.Judging.{IsDerived, MayStop};
 
 use crate::outcome::{OutcomeError, outcome_of};
 use crate::refusal::Refusal;
-use ppm_syntax::{Admitted, RegionError, Source, SyntaxError, admit, parse};
+use ppm_syntax::{Admitted, Program, RegionError, SyntaxError, admit, parse};
 use ppm_text::{TextError, tokens};
 use ppm_words::Outcome;
 use std::alloc::Global;
@@ -80,25 +80,25 @@ impl From<OutcomeError> for JudgeError {
     }
 }
 
-/// The source of a text.
-fn source_of(alloc: Global, text: &[u8]) -> Result<Source, JudgeError>
-    ensures source { IfOk result (λ s. IsDerived text.now (tree_of s)) }
+/// The program of a text.
+fn program_of(alloc: Global, text: &[u8]) -> Result<Program, JudgeError>
+    ensures program { IfOk result (λ s. IsDerived text.now (tree_of s)) }
     ensures refused { IfErr result (MayStop text.now) }
 {
     let all = tokens(alloc, text)?;
-    let source = parse(alloc, &all)?;
-    let _ = source.tree();
-    Ok(source)
+    let program = parse(alloc, &all)?;
+    let _ = program.tree();
+    Ok(program)
 }
 
-/// The admitted source of a text.
+/// The admitted program of a text.
 fn admitted_of(alloc: Global, text: &[u8]) -> Result<Admitted, JudgeError>
     ensures admitted { IfOk result (λ a. HasTree text.now (tree_of a)) }
     ensures refused { IfErr result (MayStop text.now) }
 {
-    let source = source_of(alloc, text)?;
-    let admitted = admit(alloc, source)?;
-    let _ = admitted.source();
+    let program = program_of(alloc, text)?;
+    let admitted = admit(alloc, program)?;
+    let _ = admitted.program();
     Ok(admitted)
 }
 

@@ -1,7 +1,7 @@
-//! Where the arrays of a run lie among its words: one after the other, in the order of the source.
+//! Where the arrays of a run lie among its words: one after the other, in the order of the program.
 ghost use Rattle.std.specs.Prelude.{◌≡◌, ◌<◌, ◌≤◌, ◌+◌, IfOk, get_or};
 ghost use Rattle.ppm_syntax.specs.Limits.{words_of, word_limit};
-ghost use Rattle.ppm_syntax.specs.Meaning.{word_at};
+ghost use Rattle.ppm_syntax.specs.Meaning.{element_at};
 ghost use Rattle.ppm_top.specs.Machine.{lengths_of, base_of, total_of, whole, address_of};
 
 use ppm_syntax::Array;
@@ -53,8 +53,8 @@ impl Layout {
     }
 
     /// The word of an array that an index names, from 0; a trap in this line where there is none.
-    fn word_at(&self, array: u32, line: u32, index: i64) -> Result<usize, (Trap, u32)>
-        ensures word { result ≡ word_at line (whole self.now array) index }
+    fn element_at(&self, array: u32, line: u32, index: i64) -> Result<usize, (Trap, u32)>
+        ensures word { result ≡ element_at line (whole self.now array) index }
         ensures within { IfOk result (λ word. word < get_or self.now array 0) }
     {
         let length = number_at(&self.lengths, array);
@@ -81,7 +81,7 @@ impl Layout {
         ensures place { result ≡ address_of self.now array line index }
         ensures within { IfOk result (λ place. place < total_of self.now) }
     {
-        let word = self.word_at(array, line, index)?;
+        let word = self.element_at(array, line, index)?;
         Ok(self.base(array, word) as usize + word)
     }
 }

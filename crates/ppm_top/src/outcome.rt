@@ -1,4 +1,4 @@
-//! What an admitted source comes to, run as capsules.
+//! What an admitted program comes to, run as capsules.
 ghost use Rattle.std.specs.Prelude.{◌≡◌, Err, IfOk};
 ghost use Rattle.ppm_syntax.specs.Tree.{procedure_of, tree_of};
 ghost use Rattle.ppm_syntax.specs.Meaning.{main_frame, IsOutcome};
@@ -16,7 +16,7 @@ use ppm_words::{Items, NoMemory, Outcome};
 use std::alloc::Global;
 use thiserror::Error;
 
-/// Why an admitted source has no outcome here.
+/// Why an admitted program has no outcome here.
 #[derive(Clone, Copy, Debug, PartialEq, Eq, Error)]
 pub enum OutcomeError {
     /// Four capsules for each statement and two for each procedure add up to more than 65,535.
@@ -38,7 +38,7 @@ impl From<NoMemory> for OutcomeError {
     }
 }
 
-/// The machine before a run of the source.
+/// The machine before a run of the program.
 fn start(alloc: Global, admitted: &Admitted) -> Result<Machine, NoMemory>
     ensures start { IfOk result (IsStart (tree_of admitted.now)) }
 {
@@ -46,7 +46,7 @@ fn start(alloc: Global, admitted: &Admitted) -> Result<Machine, NoMemory>
     Ok(Machine::new(words))
 }
 
-/// The outcome of the source, whose code this is.
+/// The outcome of the program, whose code this is.
 fn run(
     alloc: Global,
     admitted: &Admitted,
@@ -57,7 +57,7 @@ fn run(
     requires code { code.now ≡ code_of (main_frame admitted.now.arrays main.now.params) (procedure_of main.now).body }
     ensures outcome { IfOk result (IsOutcome (tree_of admitted.now)) }
 {
-    let arrays = admitted.source().tree().arrays.as_slice();
+    let arrays = admitted.program().tree().arrays.as_slice();
     let layout = Layout::from_arrays(alloc, arrays)?;
     let mut machine = start(alloc, admitted)?;
     match machine.run(&layout, code) {
@@ -69,13 +69,13 @@ fn run(
     }
 }
 
-/// The outcome of an admitted source.
+/// The outcome of an admitted program.
 pub fn outcome_of(alloc: Global, admitted: &Admitted) -> Result<Outcome, OutcomeError>
     ensures outcome { IfOk result (IsOutcome (tree_of admitted.now)) }
     ensures fits { IfOk result (λ _. FitsCode (tree_of admitted.now)) }
     ensures too_many { result ≡ Err OutcomeError.TooManyCapsules → FitsCode (tree_of admitted.now) → ⊥ }
 {
-    let tree = admitted.source().tree();
+    let tree = admitted.program().tree();
     let main = match tree.procs.as_slice() {
         [main] => main,
         _ => unreachable!(),

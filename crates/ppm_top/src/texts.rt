@@ -1,7 +1,7 @@
 //! The texts of answers.
 ghost use Rattle.std.specs.Prelude.{◌≡◌, ◌++◌, IfOk, OnOk};
 ghost use Rattle.std.specs.List.{flat_map};
-ghost use Rattle.ppm_top.specs.Texts.{out_text, err_text, refusal_text, fault_text, arrays_text, array_text, value_text, trap_text, trap_word};
+ghost use Rattle.ppm_top.specs.Texts.{out_text, err_text, refusal_text, fault_text, arrays_text, array_text, value_text, trap_text, trap_name};
 
 use crate::answer::Answer;
 use crate::refusal::Refusal;
@@ -59,8 +59,8 @@ fn fault_text_of(
 ) -> Result<Vec<u8>, AllocError>
     ensures { IfOk result (λ text. text.items ≡ fault_text kind.now number mark.now place) }
 {
-    let told = format!(in alloc; "source refused: {kind} {number} {mark} {place}\n")?;
-    Ok(told.into_bytes())
+    let message = format!(in alloc; "source refused: {kind} {number} {mark} {place}\n")?;
+    Ok(message.into_bytes())
 }
 
 /// Appends the arrays, a line each.
@@ -99,15 +99,15 @@ fn push_values(alloc: Global, text: &mut Vec<u8>, values: &[i64]) -> Result<(), 
 fn push_trap(alloc: Global, text: &mut Vec<u8>, trap: Trap, line: u32) -> Result<(), AllocError>
     ensures { OnOk result (text.new.items ≡ text.old.items ++ trap_text trap line) }
 {
-    let word = word_of(trap);
-    let told = format!(in alloc; "trap {word} line {line}\n")?;
-    text.extend_from_slice(told.as_bytes())?;
+    let name = trap_name(trap);
+    let message = format!(in alloc; "trap {name} line {line}\n")?;
+    text.extend_from_slice(message.as_bytes())?;
     Ok(())
 }
 
 /// The word for a trap.
-fn word_of(trap: Trap) -> &'static str
-    ensures { result.now ≡ trap_word trap }
+fn trap_name(trap: Trap) -> &'static str
+    ensures { result.now ≡ trap_name trap }
 {
     match trap {
         Trap::Overflow => "overflow",

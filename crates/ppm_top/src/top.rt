@@ -3,7 +3,7 @@ ghost use Rattle.std.specs.Prelude.{◌≡◌, length, map};
 ghost use Rattle.std.specs.String.{string_bytes};
 ghost use Rattle.ppm_ports.specs.Ports.{port};
 ghost use Rattle.ppm_top.specs.Causes.{May, IsAnswered};
-ghost use Rattle.ppm_top.specs.Rows.{WritesArrays, WritesTrap, RefusesSource, RefusesWords, TellsFaults, IsSilentOnOut, KeepsWatchers};
+ghost use Rattle.ppm_top.specs.Rows.{WritesArrays, WritesTrap, RefusesSource, RefusesWords, ReportsFaults, IsSilentOnOut, KeepsWatchers};
 
 use crate::answer::Answer;
 use crate::deliver::deliver;
@@ -53,7 +53,7 @@ pub fn ppm<R, S: Source, K: Sink, E: Sink, W: Watch>(
     ensures words_refused { RefusesWords (map string_bytes words.now)
         (port S.left S.fault_count source.old source.new) result }
 
-    ensures faults { TellsFaults (port S.left S.fault_count source.old source.new)
+    ensures faults { ReportsFaults (port S.left S.fault_count source.old source.new)
         (port K.written K.fault_count out.old out.new)
         (port E.written E.fault_count err.old err.new) result }
 

@@ -1,4 +1,4 @@
-//! Which fault of names and regions is told, and at which line.
+//! Which fault of names and regions is reported, and at which line.
 use super::admit;
 use crate::have_one_region_fault;
 use crate::parsing::parse;
@@ -9,8 +9,8 @@ use std::test::Fail;
 
 /// The fault of a text's tree, if it has one; an `Err` where memory was refused or the text has no tree.
 fn fault_of(alloc: Global, text: &str) -> Result<Option<RegionError>, Fail> {
-    let source = parse(alloc, &tokens(alloc, text.as_bytes())?)?;
-    match admit(alloc, source) {
+    let program = parse(alloc, &tokens(alloc, text.as_bytes())?)?;
+    match admit(alloc, program) {
         Ok(_) => Ok(None),
         Err(RegionError::NoMemory) => Err("out of memory".into()),
         Err(error) => Ok(Some(error)),
@@ -33,7 +33,7 @@ fn right_trees_are_admitted(rt: HostRuntime) -> Result<(), Fail> {
 }
 
 #[test]
-fn unknown_names_are_told(rt: HostRuntime) -> Result<(), Fail> {
+fn unknown_names_are_reported(rt: HostRuntime) -> Result<(), Fail> {
     let cases = [
         ("proc main() {\na[0] = 1; }", 2),
         ("array a[1];\nproc main() {\n\na[0] = 1; }", 4),
@@ -59,7 +59,7 @@ fn unknown_names_are_told(rt: HostRuntime) -> Result<(), Fail> {
 }
 
 #[test]
-fn names_given_twice_are_told(rt: HostRuntime) -> Result<(), Fail> {
+fn names_given_twice_are_reported(rt: HostRuntime) -> Result<(), Fail> {
     let cases = [
         ("array a[1];\narray a[2];\nproc main(mut a) { }", 2),
         (
@@ -78,7 +78,7 @@ fn names_given_twice_are_told(rt: HostRuntime) -> Result<(), Fail> {
 }
 
 #[test]
-fn writes_to_ref_are_told(rt: HostRuntime) -> Result<(), Fail> {
+fn writes_to_ref_are_reported(rt: HostRuntime) -> Result<(), Fail> {
     let cases = [
         ("array a[1];\nproc main(ref a) {\na[0] = 1; }", 3),
         (
@@ -95,7 +95,7 @@ fn writes_to_ref_are_told(rt: HostRuntime) -> Result<(), Fail> {
 }
 
 #[test]
-fn bad_mains_are_told(rt: HostRuntime) -> Result<(), Fail> {
+fn bad_mains_are_reported(rt: HostRuntime) -> Result<(), Fail> {
     let cases = [
         ("", 0),
         ("array a[1];", 0),
@@ -112,7 +112,7 @@ fn bad_mains_are_told(rt: HostRuntime) -> Result<(), Fail> {
 }
 
 #[test]
-fn the_least_number_is_told(rt: HostRuntime) -> Result<(), Fail> {
+fn the_least_number_is_reported(rt: HostRuntime) -> Result<(), Fail> {
     let cases = [
         (
             "array a[1];\narray a[1];\nproc other(ref a) {\na[0] = 1;\nb[0] = 1; }",

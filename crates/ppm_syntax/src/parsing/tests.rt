@@ -1,4 +1,4 @@
-//! Which source has a tree, and which fault of the others is told, at which place.
+//! Which program has a tree, and which fault of the others is reported, at which place.
 use super::parse;
 use crate::limit::Limit;
 use crate::syntax_error::SyntaxError;
@@ -68,7 +68,7 @@ fn fault_of(alloc: Global, text: &str) -> Result<Option<SyntaxError>, Fail> {
 }
 
 #[test]
-fn sources_have_a_tree(rt: HostRuntime) -> Result<(), Fail> {
+fn programs_have_a_tree(rt: HostRuntime) -> Result<(), Fail> {
     let cases = [
         "",
         "array a[0];",
@@ -87,7 +87,7 @@ fn sources_have_a_tree(rt: HostRuntime) -> Result<(), Fail> {
 }
 
 #[test]
-fn tokens_that_cannot_come_are_told(rt: HostRuntime) -> Result<(), Fail> {
+fn tokens_that_cannot_come_are_reported(rt: HostRuntime) -> Result<(), Fail> {
     let cases = [
         ("x", 0),
         ("array 1[2];", 6),
@@ -114,7 +114,7 @@ fn tokens_that_cannot_come_are_told(rt: HostRuntime) -> Result<(), Fail> {
 }
 
 #[test]
-fn tokens_that_end_too_early_are_told(rt: HostRuntime) -> Result<(), Fail> {
+fn tokens_that_end_too_early_are_reported(rt: HostRuntime) -> Result<(), Fail> {
     let cases = [
         "array",
         "array a[2]; proc ma",
@@ -130,7 +130,7 @@ fn tokens_that_end_too_early_are_told(rt: HostRuntime) -> Result<(), Fail> {
 }
 
 #[test]
-fn limits_are_told_at_their_tokens(rt: HostRuntime) -> Result<(), Fail> {
+fn limits_are_reported_at_their_tokens(rt: HostRuntime) -> Result<(), Fail> {
     let cases = [
         (GROUPS, 31, "", SyntaxError::Expected(70)),
         (GROUPS, 32, "", SyntaxError::TooDeep(69)),
@@ -180,14 +180,14 @@ fn limits_are_told_at_their_tokens(rt: HostRuntime) -> Result<(), Fail> {
             SyntaxError::TooMany(82, Limit::Parameters),
         ),
     ];
-    for (source, count, middle, error) in cases {
+    for (program, count, middle, error) in cases {
         let mut text = Repeated {
             count,
             end: middle,
-            ..source
+            ..program
         }
         .text(rt.alloc())?;
-        text.push_str(source.end)?;
+        text.push_str(program.end)?;
         assert_eq!(rt; fault_of(rt.alloc(), &text)?, Some(error), "{text}");
     }
     have_one_answer();
@@ -215,8 +215,8 @@ fn what_the_limits_allow_is_read(rt: HostRuntime) -> Result<(), Fail> {
             31,
         ),
     ];
-    for (source, count) in cases {
-        let text = Repeated { count, ..source }.text(rt.alloc())?;
+    for (program, count) in cases {
+        let text = Repeated { count, ..program }.text(rt.alloc())?;
         assert_eq!(rt; fault_of(rt.alloc(), &text)?, None, "{text}");
     }
     Ok(())

@@ -26,7 +26,7 @@ fn shown(alloc: Global, token: &Token) -> Result<String, Fail> {
 }
 
 /// The tokens of a text, as text.
-fn cut(alloc: Global, text: &[u8]) -> Result<String, Fail> {
+fn lexed(alloc: Global, text: &[u8]) -> Result<String, Fail> {
     let all = tokens(alloc, text)?;
     let mut shown_all = String::new(alloc);
     for token in all.as_slice() {
@@ -36,7 +36,7 @@ fn cut(alloc: Global, text: &[u8]) -> Result<String, Fail> {
 }
 
 #[test]
-fn cuts_texts(rt: HostRuntime) -> Result<(), Fail> {
+fn lexes_texts(rt: HostRuntime) -> Result<(), Fail> {
     let cases: [(&[u8], &str); 9] = [
         (b"a == b", "name a 0:1;Equal 2:1;name b 5:1;"),
         (b"a=b", "name a 0:1;Assign 1:1;name b 2:1;"),
@@ -52,7 +52,7 @@ fn cuts_texts(rt: HostRuntime) -> Result<(), Fail> {
         (b"", ""),
     ];
     for (text, want) in cases {
-        assert_eq!(rt; cut(rt.alloc(), text)?.as_str(), want);
+        assert_eq!(rt; lexed(rt.alloc(), text)?.as_str(), want);
     }
     Ok(())
 }

@@ -1,5 +1,5 @@
 use Rattle.std.proofs.Common.{arith, rules, refl}
-use Rattle.ppm_text.proofs.CuttingLemmas.{skips_bounds}
+use Rattle.ppm_text.proofs.LexingLemmas.{skips_bounds}
 use Rattle.ppm_text.proofs.ScanLemmas.{skipped_off, token_off}
 use Rattle.ppm_text.proofs.scan.take_piece.Goals as goal
 

@@ -9,5 +9,5 @@ from_the_right k a m b = simp (append_assoc)
 
 -- the bytes of the string
 pub returns : goal.returns
-returns c = ap (λ v. v.items) c.into_bytes.ensures.value ∙ c.in_ok-told.ensures.ok ∙
+returns c = ap (λ v. v.items) c.into_bytes.ensures.value ∙ c.in_ok-message.ensures.ok ∙
     ap (λ l. codes "source refused: " ++ l) (from_the_right c.args.kind.now (decimal c.args.number) c.args.mark.now (decimal c.args.place))

@@ -15,7 +15,7 @@ pub returns-clause-words_refused : goal.returns-clause-words_refused
 returns-clause-words_refused g c = rows.refuses_words _ _ _ _ _ c.answered.ensures
 
 pub returns-clause-faults : goal.returns-clause-faults
-returns-clause-faults g c = rows.tells_faults _ _ _ _ _ c.answered.ensures
+returns-clause-faults g c = rows.reports_faults _ _ _ _ _ c.answered.ensures
 
 pub returns-clause-nothing_on_out : goal.returns-clause-nothing_on_out
 returns-clause-nothing_on_out g c one = rows.silent_on_out _ _ _ _ _ c.answered.ensures one

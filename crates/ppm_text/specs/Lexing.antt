@@ -1,4 +1,4 @@
--- How a text is cut into tokens, and where it cannot be.
+-- How a text is lexed into tokens, and where it cannot be.
 use Rattle.std.specs.Prelude.{◌≡◌, ℕ, ◌+◌, ◌<◌, ◌≤◌, ◌^◌, List, [], ◌∷◌, length, drop}
 use Rattle.std.specs.List.{prefix_len}
 use Rattle.ppm_text.specs.declared.byte_class.ByteClass.TheVariants.{LineFeed, Blank, Hash, Mark, High}
@@ -21,17 +21,17 @@ pub data Skips : List ℕ → ℕ → ℕ → Type 0 where
 abbrev pub located : Kind → ℕ → ℕ → Token
 located token place line = record { kind = token; place = place; line = line }
 
--- from a place and a line on, the bytes are cut into these tokens up to another place and line, and the rest follows
-pub data Cuts : ℕ → ℕ → List ℕ → List Token → ℕ → ℕ → List ℕ → Type 0 where
-  here : {p l : ℕ} {bs : List ℕ} → Cuts p l bs [] p l bs
+-- from a place and a line on, the bytes are lexed into these tokens up to another place and line, and the rest follows
+pub data Lexes : ℕ → ℕ → List ℕ → List Token → ℕ → ℕ → List ℕ → Type 0 where
+  here : {p l : ℕ} {bs : List ℕ} → Lexes p l bs [] p l bs
   skip : {p l n f : ℕ} {bs : List ℕ} {ts : List Token} {q m : ℕ} {rest : List ℕ}
-      → Skips bs n f → Cuts (p + n) (l + f) (drop n bs) ts q m rest → Cuts p l bs ts q m rest
+      → Skips bs n f → Lexes (p + n) (l + f) (drop n bs) ts q m rest → Lexes p l bs ts q m rest
   token : {p l n : ℕ} {bs : List ℕ} {k : Kind} {ts : List Token} {q m : ℕ} {rest : List ℕ}
-      → Longest bs n k → IsInRange k → Cuts (p + n) l (drop n bs) ts q m rest → Cuts p l bs (located k p l ∷ ts) q m rest
+      → Longest bs n k → IsInRange k → Lexes (p + n) l (drop n bs) ts q m rest → Lexes p l bs (located k p l ∷ ts) q m rest
 
--- the whole text is cut into these tokens; places count from 0, lines from 1
+-- the whole text is lexed into these tokens; places count from 0, lines from 1
 abbrev pub IsTextOf : List ℕ → List Token → Type 0
-IsTextOf text tokens = (line : ℕ) × Cuts 0 1 text tokens (length text) line []
+IsTextOf text tokens = (line : ℕ) × Lexes 0 1 text tokens (length text) line []
 
 -- the bytes at the place begin with the fault
 pub data IsFault : ℕ → List ℕ → TextError → Type 0 where
@@ -42,16 +42,16 @@ pub data IsFault : ℕ → List ℕ → TextError → Type 0 where
   name_too_long : {p n : ℕ} {bs name : List ℕ}
       → Longest bs n (kind.Name name) → 32 < length name → IsFault p bs (error.NameTooLong p)
 
--- the text is cut up to a place, and the fault stands there
+-- the text is lexed up to a place, and the fault stands there
 pub record FaultsAt (text : List ℕ) (error : TextError) : Type 0 where
   pub tokens : List Token
   pub place : ℕ
   pub line : ℕ
   pub rest : List ℕ
-  pub cut : Cuts 0 1 text tokens place line rest
+  pub lexed : Lexes 0 1 text tokens place line rest
   pub fault : IsFault place rest error
 
--- why a text is not cut: it passes the limit, or has a fault; memory may be refused for any text within the limit
+-- why a text is not lexed: it passes the limit, or has a fault; memory may be refused for any text within the limit
 pub data IsRefused : List ℕ → TextError → Type 0 where
   too_long : {text : List ℕ} → text_limit < length text → IsRefused text (error.TooLong text_limit)
   faulty : {text : List ℕ} {e : TextError} → length text ≤ text_limit → FaultsAt text e → IsRefused text e

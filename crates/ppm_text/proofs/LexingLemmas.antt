@@ -1,4 +1,4 @@
--- A text is cut in one way, and a text with a fault in none.
+-- A text is lexed in one way, and a text with a fault in none.
 use Rattle.std.proofs.Common.{◌≡◌, ℕ, zero, suc, ◌+◌, ◌-◌, ◌<◌, ◌≤◌, ◌^◌, List, [], ◌∷◌, ◌++◌, length, take, drop}
 use Rattle.std.proofs.Common.{arith, refl, ap, inl, inr, subst, length-drop}
 use Rattle.std.specs.List.{All}
@@ -10,16 +10,16 @@ use Rattle.ppm_text.specs.declared.token.Token.{Token}
 use Rattle.ppm_text.specs.declared.text_error.TextError.{TextError}
 use Rattle.ppm_text.specs.Bytes.{class_of, is_comment_byte}
 use Rattle.ppm_text.specs.Spelling.{Spells, a_keyword, a_name, a_number, a_sign, Longest, IsInRange}
-use Rattle.ppm_text.specs.Cutting.{Skips, line_feed, blank, comment, located, Cuts, here, skip, token, IsTextOf}
-use Rattle.ppm_text.specs.Cutting.{IsFault, not_ascii, bad_char, number_too_big, name_too_long, FaultsAt}
+use Rattle.ppm_text.specs.Lexing.{Skips, line_feed, blank, comment, located, Lexes, here, skip, token, IsTextOf}
+use Rattle.ppm_text.specs.Refusals.{IsFault, not_ascii, bad_char, number_too_big, name_too_long, FaultsAt}
 use Rattle.ppm_text.specs.Tokens.{HasForm, StandsIn}
-use Rattle.ppm_text.specs.Refusals.{place_of}
+use Rattle.ppm_text.specs.ErrorNumbers.{place_of}
 use Rattle.ppm_text.proofs.BytesLemmas.{prefix_le, all_cons}
-use Rattle.ppm_text.proofs.SpellingLemmas.{spells_something, spells_class, one_longest, word_is_name}
+use Rattle.ppm_text.proofs.SpellingLemmas.{spells_something, spells_class, one_longest, identifier_is_name}
 
--- one cutting after the other
-pub joined : {p l : ℕ} {bs : List ℕ} {ts : List Token} {q m : ℕ} {mid : List ℕ} → Cuts p l bs ts q m mid
-    → {us : List Token} {r o : ℕ} {rest : List ℕ} → Cuts q m mid us r o rest → Cuts p l bs (ts ++ us) r o rest
+-- one lexing after the other
+pub joined : {p l : ℕ} {bs : List ℕ} {ts : List Token} {q m : ℕ} {mid : List ℕ} → Lexes p l bs ts q m mid
+    → {us : List Token} {r o : ℕ} {rest : List ℕ} → Lexes q m mid us r o rest → Lexes p l bs (ts ++ us) r o rest
 joined here more = more
 joined (skip s c) more = skip s (joined c more)
 joined (token t fits c) more = token t fits (joined c more)
@@ -73,17 +73,17 @@ no_both (comment {b = b} {bs = bs} is len) m k t = no_token_class b bs Hash is (
 
 -- the same piece taken off
 moved : (p l : ℕ) (bs : List ℕ) (n f n' f' : ℕ) {us : List Token} {r o : ℕ} {rest : List ℕ} → n ≡ n' → f ≡ f'
-    → Cuts (p + n') (l + f') (drop n' bs) us r o rest → Cuts (p + n) (l + f) (drop n bs) us r o rest
+    → Lexes (p + n') (l + f') (drop n' bs) us r o rest → Lexes (p + n) (l + f) (drop n bs) us r o rest
 moved p l bs n f n' f' same lines c = rw (same, lines) c
 
 -- the same token taken off
 moved_token : (p l : ℕ) (bs : List ℕ) (n n' : ℕ) {us : List Token} {r o : ℕ} {rest : List ℕ} → n ≡ n'
-    → Cuts (p + n') l (drop n' bs) us r o rest → Cuts (p + n) l (drop n bs) us r o rest
+    → Lexes (p + n') l (drop n' bs) us r o rest → Lexes (p + n) l (drop n bs) us r o rest
 moved_token p l bs n n' same c = rw same c
 
 -- two cuttings to the end give the same tokens
-same_tokens : {p l : ℕ} {bs : List ℕ} {ts : List Token} {q m : ℕ} {rest : List ℕ} → Cuts p l bs ts q m rest → rest ≡ []
-    → {us : List Token} {r o : ℕ} {last : List ℕ} → Cuts p l bs us r o last → last ≡ [] → ts ≡ us
+same_tokens : {p l : ℕ} {bs : List ℕ} {ts : List Token} {q m : ℕ} {rest : List ℕ} → Lexes p l bs ts q m rest → rest ≡ []
+    → {us : List Token} {r o : ℕ} {last : List ℕ} → Lexes p l bs us r o last → last ≡ [] → ts ≡ us
 same_tokens here e here f = refl
 same_tokens here e (skip s c) f = absurd (no_skip s e)
 same_tokens here e (token t fits c) f = absurd (no_longest t e)
@@ -99,9 +99,9 @@ same_tokens {p = p} {l = l} {bs = bs} (token {n = n} {k = k} {ts = ts} t fits c)
     let first : located k p l ≡ located k' p l = ap (λ (j : Kind). located j p l) one.1 in
     cc (first, more)
 
--- a text is cut into one list of tokens
-pub one_cutting : {text : List ℕ} {ts us : List Token} → IsTextOf text ts → IsTextOf text us → ts ≡ us
-one_cutting a b = same_tokens a.1 refl b.1 refl
+-- a text is lexed into one list of tokens
+pub one_lexing : {text : List ℕ} {ts us : List Token} → IsTextOf text ts → IsTextOf text us → ts ≡ us
+one_lexing a b = same_tokens a.1 refl b.1 refl
 
 -- a fault stands before some byte
 fault_something : {p : ℕ} {bs : List ℕ} {e : TextError} → IsFault p bs e → bs ≡ [] → ⊥
@@ -130,9 +130,9 @@ fault_no_token (number_too_big {n = m} {value = value} {bs = bs} t big) n k t' f
 fault_no_token (name_too_long {n = m} {bs = bs} {name = name} t long) n k t' fits =
     let short : length name ≤ 32 = subst IsInRange (one_longest bs n m k (kind.Name name) t' t).1 fits in omega arith
 
--- what is cut up to a fault is not cut to the end
-pub fault_stops : {p l : ℕ} {bs : List ℕ} {ts : List Token} {q m : ℕ} {rest : List ℕ} → Cuts p l bs ts q m rest
-    → {e : TextError} → IsFault q rest e → {us : List Token} {r o : ℕ} {last : List ℕ} → Cuts p l bs us r o last → last ≡ [] → ⊥
+-- what is lexed up to a fault is not lexed to the end
+pub fault_stops : {p l : ℕ} {bs : List ℕ} {ts : List Token} {q m : ℕ} {rest : List ℕ} → Lexes p l bs ts q m rest
+    → {e : TextError} → IsFault q rest e → {us : List Token} {r o : ℕ} {last : List ℕ} → Lexes p l bs us r o last → last ≡ [] → ⊥
 fault_stops here fault here f = fault_something fault f
 fault_stops here fault (skip s c) f = fault_no_skip fault s
 fault_stops here fault (token t fits c) f = fault_no_token fault _ _ t fits
@@ -145,9 +145,9 @@ fault_stops (token t fits c) fault (skip s c') f = no_both s _ _ t
 fault_stops {p = p} {l = l} {bs = bs} (token {n = n} {k = k} t fits c) fault (token {n = n'} {k = k'} t' fits' c') f =
     fault_stops c fault (moved_token p l bs n n' (one_longest bs n n' k k' t t').0 c') f
 
--- a text with a fault is cut into no tokens
+-- a text with a fault is lexed into no tokens
 pub fault_refuses : {text : List ℕ} {e : TextError} → FaultsAt text e → (us : List Token) → IsTextOf text us → ⊥
-fault_refuses fault us cut = fault_stops fault.cut fault.fault cut.1 refl
+fault_refuses fault us lexed = fault_stops fault.lexed fault.fault lexed.1 refl
 
 -- bytes begin with one fault
 same_fault : {p : ℕ} {bs : List ℕ} {e f : TextError} → IsFault p bs e → IsFault p bs f → e ≡ f
@@ -169,8 +169,8 @@ same_fault (name_too_long {bs = bs} t long) (number_too_big t' big) = absurd (cc
 same_fault (name_too_long t long) (name_too_long t' long') = refl
 
 -- two cuttings up to a fault come to the same fault
-pub one_fault : {p l : ℕ} {bs : List ℕ} {ts : List Token} {q m : ℕ} {rest : List ℕ} → Cuts p l bs ts q m rest → {e : TextError} → IsFault q rest e
-    → {us : List Token} {r o : ℕ} {last : List ℕ} → Cuts p l bs us r o last → {f : TextError} → IsFault r last f → e ≡ f
+pub one_fault : {p l : ℕ} {bs : List ℕ} {ts : List Token} {q m : ℕ} {rest : List ℕ} → Lexes p l bs ts q m rest → {e : TextError} → IsFault q rest e
+    → {us : List Token} {r o : ℕ} {last : List ℕ} → Lexes p l bs us r o last → {f : TextError} → IsFault r last f → e ≡ f
 one_fault here fault here other = same_fault fault other
 one_fault here fault (skip s c) other = absurd (fault_no_skip fault s)
 one_fault here fault (token t fits c) other = absurd (fault_no_token fault _ _ t fits)
@@ -192,12 +192,12 @@ fault_place (name_too_long t long) = refl
 
 -- a token within the limits has its form
 has_form : {bytes : List ℕ} {k : Kind} → Spells bytes k → IsInRange k → HasForm k
-has_form (a_keyword word found) fits = tt
-has_form (a_name {bytes = bytes} word none) fits = word_is_name bytes word fits
+has_form (a_keyword identifier found) fits = tt
+has_form (a_name {bytes = bytes} identifier none) fits = identifier_is_name bytes identifier fits
 has_form (a_number digits) fits = fits
 has_form (a_sign found) fits = tt
 
--- where the tokens of a cutting stand: at places between its ends, in lines that grow no faster than the places
+-- where the tokens of a lexing stand: at places between its ends, in lines that grow no faster than the places
 record Stands (p l size : ℕ) (t : Token) : Type 0 where
   form : HasForm t.kind
   above : p ≤ t.place
@@ -215,8 +215,8 @@ stands_on p l n l' size t some within above lines s = record {
   line = omega (arith, s.line);
 }
 
--- each token of a cutting stands so
-tokens_stand : {p l : ℕ} {bs : List ℕ} {ts : List Token} {q m : ℕ} {rest : List ℕ} → Cuts p l bs ts q m rest → All (Stands p l (length bs)) ts
+-- each token of a lexing stands so
+tokens_stand : {p l : ℕ} {bs : List ℕ} {ts : List Token} {q m : ℕ} {rest : List ℕ} → Lexes p l bs ts q m rest → All (Stands p l (length bs)) ts
 tokens_stand here = λ k d h. absurd (omega arith)
 tokens_stand {p = p} {l = l} {bs = bs} (skip {n = n} {f = f} s c) =
     let b = skips_bounds s in
@@ -232,8 +232,8 @@ tokens_stand {p = p} {l = l} {bs = bs} (token {n = n} {k = kind} {ts = ts} t fit
     })
     (λ k d h. stands_on p l n l (length bs) _ (longest_something t) t.within (omega arith) (omega arith) (rw length-drop at (tokens_stand c k d h)))
 
--- each token that a text is cut into stands in it
-pub cut_stands : {text : List ℕ} {ts : List Token} {place line : ℕ} {rest : List ℕ} → Cuts 0 1 text ts place line rest → All (StandsIn (length text)) ts
-cut_stands cut k d h =
-    let s = tokens_stand cut k d h in
+-- each token that a text is lexed into stands in it
+pub lexed_stands : {text : List ℕ} {ts : List Token} {place line : ℕ} {rest : List ℕ} → Lexes 0 1 text ts place line rest → All (StandsIn (length text)) ts
+lexed_stands lexed k d h =
+    let s = tokens_stand lexed k d h in
     record { form = s.form; place = omega (arith, s.below); first_line = s.first_line; line = omega (arith, s.line) }

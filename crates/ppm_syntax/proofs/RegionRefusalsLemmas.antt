@@ -9,12 +9,13 @@ use Rattle.ppm_syntax.specs.declared.tree.Mode.TheVariants as mode
 use Rattle.ppm_syntax.specs.declared.tree.Param.{Param}
 use Rattle.ppm_syntax.specs.declared.region_error.RegionError.{RegionError}
 use Rattle.ppm_syntax.specs.declared.region_error.RegionError.TheVariants as error
-use Rattle.ppm_syntax.specs.Tree.{Expression, Statement, Procedure, SourceTree}
+use Rattle.ppm_syntax.specs.Tree.{Expression, Statement, Procedure, ProgramTree}
 use Rattle.ppm_syntax.specs.Tree as tree
 use Rattle.ppm_syntax.specs.Limits.{IsWithin}
 use Rattle.ppm_syntax.specs.Rules.{IsRegion, IsWritable, Declares, ReadsRegions, KeepsRules, IsLawful, IsMain, IsAdmitted}
-use Rattle.ppm_syntax.specs.RegionFaults.{NamesAt, WritesAt, UsesAt, IsUnknownName, IsTwiceNamed, IsWriteToRef, IsBadMain}
-use Rattle.ppm_syntax.specs.RegionFaults.{IsNowhere, IsFirstLine, IsFault, HaveOneRegionFault}
+use Rattle.ppm_syntax.specs.RegionRefusals.{NamesAt, WritesAt, UsesAt, IsUnknownName, IsTwiceNamed, IsWriteToRef, IsBadMain}
+use Rattle.ppm_syntax.specs.RegionRefusals.{IsNowhere, IsFirstLine, IsFault}
+use Rattle.ppm_syntax.specs.Correct.{HaveOneRegionFault}
 use Rattle.ppm_syntax.specs.Deciding.{HasNoFault}
 use Rattle.ppm_syntax.proofs.Elements.{contains_head, contains_tail, contains_cases, contains_map, contains_back}
 use Rattle.ppm_syntax.proofs.RulesLemmas.{same_or_not, among_by, distinct_from, none_twice, distinct_same}
@@ -24,7 +25,7 @@ one_line : (P : ℕ → Type 0) (x y : ℕ) → IsFirstLine P x → IsFirstLine 
 one_line P x y p q = omega (arith, p.first y q.here, q.first x p.here)
 
 -- two faults are one
-one_fault : (t : SourceTree) (e f : RegionError) → IsFault t e → IsFault t f → e ≡ f
+one_fault : (t : ProgramTree) (e f : RegionError) → IsFault t e → IsFault t f → e ≡ f
 one_fault t (error.UnknownName x) (error.UnknownName y) p q = ap error.UnknownName (one_line (IsUnknownName t) x y p q)
 one_fault t (error.TwiceNamed x) (error.TwiceNamed y) p q = ap error.TwiceNamed (one_line (IsTwiceNamed t) x y p.1 q.1)
 one_fault t (error.WriteToRef x) (error.WriteToRef y) p q = ap error.WriteToRef (one_line (IsWriteToRef t) x y p.2 q.2)
@@ -70,13 +71,13 @@ used_declared params (tree.Put y at index value) x line k u =
       | inr reads ↦ elim reads [ inl h ↦ read_declared params index x line k.1 h | inr h ↦ read_declared params value x line k.2 h ]
     ]
 
-no_unknown : (t : SourceTree) → IsAdmitted t → IsNowhere (IsUnknownName t)
+no_unknown : (t : ProgramTree) → IsAdmitted t → IsNowhere (IsUnknownName t)
 no_unknown t a line u =
     let lawful = All-contains IsLawful t.procs u.procedure a.lawful u.in_tree in
     let kept = All-contains (KeepsRules u.procedure.params) u.procedure.body u.statement lawful.body u.in_body in
     u.unknown (used_declared u.procedure.params u.statement u.name line kept u.used)
 
-no_twice : (t : SourceTree) → IsAdmitted t → IsNowhere (IsTwiceNamed t)
+no_twice : (t : ProgramTree) → IsAdmitted t → IsNowhere (IsTwiceNamed t)
 no_twice t a line w =
     elim w [
       | inl r ↦ none_twice (λ a. a.name) (λ a. a.line) t.arrays a.arrays line r
@@ -89,7 +90,7 @@ no_twice t a line w =
 write_declared : (params : List Param) (s : Statement) (x : List ℕ) (line : ℕ) → KeepsRules params s → WritesAt s x line → Declares params IsWritable x
 write_declared params (tree.Put y at index value) x line k w = subst (Declares params IsWritable) w.0 k.0
 
-no_write : (t : SourceTree) → IsAdmitted t → IsNowhere (IsWriteToRef t)
+no_write : (t : ProgramTree) → IsAdmitted t → IsNowhere (IsWriteToRef t)
 no_write t a line w =
     let lawful = All-contains IsLawful t.procs w.procedure a.lawful w.in_tree in
     let kept = All-contains (KeepsRules w.procedure.params) w.procedure.body w.statement lawful.body w.in_body in
@@ -97,7 +98,7 @@ no_write t a line w =
     let same = distinct_same (λ q. q.name) w.procedure.params lawful.distinct d.0 w.param d.1 w.declared d.2 in
     let writes : mode.Mut ≡ mode.Ref = sym d.3 ∙ (ap (λ q. q.mode) same ∙ w.only_read) in cc
 
-no_bad : (t : SourceTree) → IsAdmitted t → IsNowhere (IsBadMain t)
+no_bad : (t : ProgramTree) → IsAdmitted t → IsNowhere (IsBadMain t)
 no_bad t a line w =
     elim w [
       | inl n ↦ n.none a.main.0 a.main.1 a.main.2.name
@@ -111,7 +112,7 @@ no_bad t a line w =
           ])
     ]
 
-no_fault : (t : SourceTree) → IsAdmitted t → (e : RegionError) → IsFault t e → ⊥
+no_fault : (t : ProgramTree) → IsAdmitted t → (e : RegionError) → IsFault t e → ⊥
 no_fault t a (error.UnknownName x) p = no_unknown t a x p.here
 no_fault t a (error.TwiceNamed x) p = no_twice t a x p.1.here
 no_fault t a (error.WriteToRef x) p = no_write t a x p.2.here
@@ -166,7 +167,7 @@ one_element (z ∷ []) x y few c d =
     (λ h. let far = h.1 in absurd (omega arith)) c
 one_element (z ∷ w ∷ xs) x y few c d = absurd (omega arith)
 
-module _ (t : SourceTree) (within : IsWithin t) (none : HasNoFault t) where
+module _ (t : ProgramTree) (within : IsWithin t) (none : HasNoFault t) where
   main_of : (p : Procedure) → Contains t.procs p → p.name ≡ codes "main" → IsMain t.arrays p
   main_of p c name = record {
     name = name;
@@ -240,7 +241,7 @@ nowhere_below P none (suc n) line below p =
 nowhere_by : (P : ℕ → Type 0) → ((line : ℕ) → IsFirstLine P line → ⊥) → IsNowhere P
 nowhere_by P none line p = nowhere_below P none (suc line) line (omega arith) p
 
-no_fault_by : (t : SourceTree) → ((e : RegionError) → IsFault t e → ⊥) → HasNoFault t
+no_fault_by : (t : ProgramTree) → ((e : RegionError) → IsFault t e → ⊥) → HasNoFault t
 no_fault_by t none =
     let unknown = nowhere_by (IsUnknownName t) (λ line f. none (error.UnknownName line) f) in
     let twice = nowhere_by (IsTwiceNamed t) (λ line f. none (error.TwiceNamed line) (unknown, f)) in

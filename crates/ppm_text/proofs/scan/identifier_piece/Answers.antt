@@ -1,12 +1,12 @@
 use Rattle.std.proofs.Common.{rules, arith, inr}
 use Rattle.ppm_text.proofs.ScanLemmas.{front_keyword, front_is_name, front_short_name, front_long_name}
-use Rattle.ppm_text.proofs.scan.word_piece.Goals as goal
+use Rattle.ppm_text.proofs.scan.identifier_piece.Goals as goal
 
 -- the word in front stands in the table
 pub returns-in-Some : goal.returns-in-Some
 returns-in-Some c =
     let len = c.name_len-len.ensures.len in
-    (front_keyword c.args.bytes.now c.name_len-len.result c.in-Some.word c.requires len (search rules), tt)
+    (front_keyword c.args.bytes.now c.name_len-len.result c.in-Some.found c.requires len (search rules), tt)
 
 -- it stands not there, and is too long for a name
 pub returns-then-len-gt-NAME_LIMIT : goal.returns-then-len-gt-NAME_LIMIT

@@ -1,10 +1,10 @@
-//! A source's tree within the limits, and an admitted one.
+//! A program's tree within the limits, and an admitted one.
 ghost use Rattle.std.specs.Prelude.{◌≡◌};
 ghost use Rattle.ppm_syntax.specs.Tree.{tree_of};
 ghost use Rattle.ppm_syntax.specs.Limits.{IsWithin};
 ghost use Rattle.ppm_syntax.specs.Lines.{HasLines};
 ghost use Rattle.ppm_syntax.specs.Rules.{IsAdmitted};
-ghost use Rattle.ppm_syntax.specs.Meaning.{opening};
+ghost use Rattle.ppm_syntax.specs.Meaning.{initial_arrays};
 
 use crate::tree::Tree;
 use ppm_words::Input;
@@ -13,11 +13,11 @@ use std::marker::Model;
 /// A tree that passes none of the limits: 64 arrays, 4,194,304 array words, one procedure, 12 parameters, 48 nodes
 /// in the expressions of a statement, literals to 2^63 - 1. Each line in it is one of a text, from 1 to 1,048,577.
 #[derive(Drop)]
-pub struct Source {
+pub struct Program {
     tree: Tree,
 }
 
-impl Model for Source {
+impl Model for Program {
     ghost use Rattle.std.specs.Coded.{codes};
     ghost use Rattle.ppm_syntax.specs.declared.tree.Tree.{Tree};
     ghost use Rattle.ppm_syntax.specs.contracts.tree.Expr as expr;
@@ -34,14 +34,14 @@ impl Model for Source {
     ghost invariant = { λ s. IsWithin (tree_of s.tree) × HasLines (tree_of s.tree) };
 }
 
-impl Source {
-    /// The source with this tree.
+impl Program {
+    /// The program with this tree.
     pub(crate) fn from_tree(tree: Tree) -> Self
         requires limits { IsWithin (tree_of tree) }
         requires lines { HasLines (tree_of tree) }
         ensures { result ≡ tree }
     {
-        Source { tree }
+        Program { tree }
     }
 
     /// Its tree.
@@ -54,10 +54,10 @@ impl Source {
     }
 }
 
-/// A source that keeps the rules of names and regions, with the arrays that it starts with.
+/// A program that keeps the rules of names and regions, with the arrays that it starts with.
 #[derive(Drop)]
 pub struct Admitted {
-    source: Source,
+    program: Program,
     input: Input,
 }
 
@@ -68,38 +68,38 @@ impl Model for Admitted {
     ghost use Rattle.ppm_syntax.specs.contracts.tree.Expr as expr;
     ghost use Rattle.ppm_syntax.specs.Tree.{tree_of};
     ghost use Rattle.ppm_syntax.specs.Rules.{IsAdmitted};
-    ghost use Rattle.ppm_syntax.specs.Meaning.{opening};
+    ghost use Rattle.ppm_syntax.specs.Meaning.{initial_arrays};
 
     ghost Value = { Tree };
 
     ghost coded = { Prim.hlevel (codes, expr.the_row.coded) };
 
-    ghost view = { λ a. a.source };
+    ghost view = { λ a. a.program };
 
-    ghost invariant = { λ a. IsAdmitted (tree_of a.source) × (a.input ≡ opening (tree_of a.source)) };
+    ghost invariant = { λ a. IsAdmitted (tree_of a.program) × (a.input ≡ initial_arrays (tree_of a.program)) };
 }
 
 impl Admitted {
-    /// The source with its arrays.
-    pub(crate) fn from_parts(source: Source, input: Input) -> Self
-        requires admitted { IsAdmitted (tree_of source) }
-        requires input { input ≡ opening (tree_of source) }
-        ensures { result ≡ source }
+    /// The program with its arrays.
+    pub(crate) fn from_parts(program: Program, input: Input) -> Self
+        requires admitted { IsAdmitted (tree_of program) }
+        requires input { input ≡ initial_arrays (tree_of program) }
+        ensures { result ≡ program }
     {
-        Admitted { source, input }
+        Admitted { program, input }
     }
 
-    /// The source that was admitted.
-    pub fn source(&self) -> &Source
+    /// The program that was admitted.
+    pub fn program(&self) -> &Program
         ensures value { result.now ≡ self.now }
         ensures admitted { IsAdmitted (tree_of self.now) }
     {
-        &self.source
+        &self.program
     }
 
     /// Its arrays with the values that they start with.
     pub fn input(&self) -> &Input
-        ensures value { result.now ≡ opening (tree_of self.now) }
+        ensures value { result.now ≡ initial_arrays (tree_of self.now) }
     {
         &self.input
     }
