@@ -18,9 +18,6 @@ module _ (t : ProgramTree) where
     fault = λ f same. let s : e ≡ f = cc in subst (IsFault t) s here;
   }
 
-  pub unknown_reported : (line : ℕ) → IsLeastLine (IsUnknownName t) (Some line) → IsFirstFault t (Some (error.UnknownName line))
-  unknown_reported line p = reported (error.UnknownName line) (p.first line refl)
-
   pub twice_reported : (line : ℕ) → IsLeastLine (IsUnknownName t) None → IsLeastLine (IsTwiceNamed t) (Some line) → IsFirstFault t (Some (error.TwiceNamed line))
   twice_reported line p q = reported (error.TwiceNamed line) (p.nowhere refl, q.first line refl)
 

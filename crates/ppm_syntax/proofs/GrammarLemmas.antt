@@ -32,11 +32,6 @@ pub more_nodes : {d n : ℕ} {a e : Expression} {ts rest : List Token} → Deriv
 more_nodes g.no_more = omega arith
 more_nodes (g.more is r m) = omega (arith, more_nodes m)
 
--- and has literals where the whole has
-pub more_literals : {d n : ℕ} {a e : Expression} {ts rest : List Token} → Derives d (More n a) ts (expression e) rest → HasLiterals e → HasLiterals a
-more_literals g.no_more h = h
-more_literals (g.more is r m) h = (more_literals m h).0
-
 -- a statement has tokens
 pub statement_shorter : {d : ℕ} {s : Statement} {ts rest : List Token} → Derives d OneStatement ts (statement s) rest → length rest < length ts
 statement_shorter (g.put n o i c q v s) = omega (arith, shorter i, shorter v)

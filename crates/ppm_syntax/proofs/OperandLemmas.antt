@@ -1,5 +1,6 @@
 -- From what a number, an index or a group reads, or stops with, to what the operand does.
-use Rattle.std.proofs.Common.{◌≡◌, ℕ, suc, ◌+◌, ◌≤◌, ◌<◌, ◌^◌, ℤ, pos, List, [], ◌∷◌, refl, arith}
+use Rattle.std.proofs.Common.{◌≡◌, ℕ, suc, ◌+◌, ◌≤◌, ◌<◌, ℤ, pos, List, [], ◌∷◌, refl, arith}
+use Rattle.ppm_words.specs.Limits.{value_bound}
 use Rattle.ppm_text.specs.declared.token.Sign.{Sign}
 use Rattle.ppm_text.specs.declared.token.Sign.TheVariants as sign
 use Rattle.ppm_text.specs.declared.token.Kind.{Kind}
@@ -22,7 +23,7 @@ use Rattle.ppm_syntax.proofs.ExpressionLemmas.{operand_stops}
 
 -- a number in front is the operand, and one of the nodes that were left
 pub number_read : (d room inner : ℕ) (ts : List Token) (n : ℕ) (z : ℤ) (rest : List Token) → InFront (λ t. IsNumber t n) ts rest → room ≡ suc inner →
-    z ≡ pos n → n < 2 ^ 63 → ReadsExpression d room (Level 0) ts (tree.Number z) inner rest
+    z ≡ pos n → n < value_bound → ReadsExpression d room (Level 0) ts (tree.Number z) inner rest
 number_read d room inner ts n z rest front some is small = rw (is, front.shape) (record {
   reads = record { derived = g.number front.has; ends = operand_stops rest };
   nodes = omega (arith, some);

@@ -46,10 +46,6 @@ nodes_passed c m h = with_nodes_in (nat_lt array_limit c.arrays) (nat_lt word_li
 pub few_nodes : (c : Tally) (m : ℕ) → passed c ≡ None → m ≤ node_limit → passed (with_nodes m c) ≡ None
 few_nodes c m h few = let within : nat_lt node_limit m ≡ false = grind (arith, few) in nodes_passed c m h ∙ rw within refl
 
--- one node more than may come passes the limit
-pub many_nodes : (c : Tally) → passed c ≡ None → c.nodes ≡ node_limit → passed (with_count stack.ANode c) ≡ Some limit.Nodes
-many_nodes c h all = let over : nat_lt node_limit (suc c.nodes) ≡ true = grind (arith, all) in nodes_passed c (suc c.nodes) h ∙ rw over refl
-
 -- a token that may come
 pub by_step : (t : Token) (ts : List Token) (st st' : List Symbol) (c : Tally) (k : Count) → move st t.kind ≡ On k st' → openings st' ≤ depth_limit →
     passed (with_count k c) ≡ None → verdict (state_at st c) (t ∷ ts) ≡ verdict (state_at st' (with_count k c)) ts

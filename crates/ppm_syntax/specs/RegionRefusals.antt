@@ -106,13 +106,3 @@ IsFault t error.NoMemory = ⊥
 abbrev pub IsRefused : ProgramTree → RegionError → Type 0
 IsRefused t error.NoMemory = Unit {0}
 IsRefused t e = IsFault t e
-
--- A tree has at most one fault, and none where it keeps the rules; within the limits it keeps them where it has none.
-pub record HasOneRegionFault (t : ProgramTree) : Type 0 where
-  pub fault : (e f : RegionError) → IsFault t e → IsFault t f → e ≡ f
-  pub admitted : IsAdmitted t → (e : RegionError) → IsFault t e → ⊥
-  pub none : IsWithin t → ((e : RegionError) → IsFault t e → ⊥) → IsAdmitted t
-
--- so it is with all trees
-abbrev pub HaveOneRegionFault : Type 0
-HaveOneRegionFault = (t : ProgramTree) → HasOneRegionFault t

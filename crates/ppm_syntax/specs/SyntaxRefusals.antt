@@ -90,13 +90,3 @@ IsFault ts text_len error.NoMemory = ⊥
 -- a number among the tokens is a literal
 abbrev pub TokenLiteral : Token → Type 0
 TokenLiteral t = (n : ℕ) → IsNumber t n → IsLiteral (pos n)
-
--- Tokens have at most one fault, and none where they have a tree within the limits; with none they have such a tree, if their numbers are literals.
-pub record HasOneAnswer (ts : List Token) (text_len : ℕ) : Type 0 where
-  pub fault : (e f : SyntaxError) → IsFault ts text_len e → IsFault ts text_len f → e ≡ f
-  pub either : (t : ProgramTree) (e : SyntaxError) → DerivesTree depth_limit ts t → IsWithin t → IsFault ts text_len e → ⊥
-  pub none : ((e : SyntaxError) → IsFault ts text_len e → ⊥) → All TokenLiteral ts → (t : ProgramTree) × DerivesTree depth_limit ts t × IsWithin t
-
--- so it is with all tokens
-abbrev pub HaveOneAnswer : Type 0
-HaveOneAnswer = (ts : List Token) (text_len : ℕ) → HasOneAnswer ts text_len

@@ -7,6 +7,7 @@ use Rattle.std.proofs.lemmas.Slice.Eq.{bytes_eq-Decides}
 use Rattle.std.specs.Bool.{Decides}
 use Rattle.std.specs.List.{prefix_len}
 use Rattle.std.specs.Str.{bytes_eq}
+use Rattle.ppm_words.specs.Limits.{name_limit}
 use Rattle.ppm_words.specs.Names.{is_digit, is_name_byte, IsName}
 use Rattle.ppm_text.specs.declared.byte_class.ByteClass.{ByteClass}
 use Rattle.ppm_text.specs.declared.byte_class.ByteClass.TheVariants.{Letter, Digit, LineFeed, Blank, Hash, Mark, High}
@@ -167,7 +168,7 @@ run_is_number [] begins = begins
 run_is_number (b ∷ bs) begins = rw (prefix_first is_digit b bs (digit_byte b begins)) (begins, all_taken is_digit bs)
 
 -- a word of the length that a name may have
-pub identifier_is_name : (bytes : List ℕ) → IsIdentifier bytes → length bytes ≤ 32 → IsName bytes
+pub identifier_is_name : (bytes : List ℕ) → IsIdentifier bytes → length bytes ≤ name_limit → IsName bytes
 identifier_is_name [] identifier short = identifier
 identifier_is_name (b ∷ bs) identifier short = (letter_byte b identifier.0, identifier.1, omega arith)
 

@@ -2,7 +2,8 @@ pub mod Limits
 pub mod Bytes
 pub mod Spelling
 pub mod Tokens
-pub mod Cutting
+pub mod Lexing
+pub mod Refusals
 pub mod ErrorNumbers
 pub mod Correct
 pub mod Scanning

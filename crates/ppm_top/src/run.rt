@@ -7,11 +7,9 @@ ghost use Rattle.ppm_top.specs.Judging.{TextMay};
 use crate::answer::Answer;
 use crate::judging::{JudgeError, judge};
 use ppm_ports::{ReadError, Source, read_whole};
+use ppm_text::TEXT_LIMIT;
 use ppm_words::Outcome;
 use std::alloc::Global;
-
-/// The bytes that a text may have.
-const TEXT_LIMIT: usize = 1_048_576;
 
 /// The answer of `run`: what is read, to its end or one byte past the limit of a text, is judged.
 pub fn run_answer<S: Source>(alloc: Global, source: &mut S) -> Answer

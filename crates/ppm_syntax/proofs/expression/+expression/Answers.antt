@@ -1,6 +1,7 @@
-use Rattle.std.proofs.Common.{rules, arith, ◌≡◌, ◌-◌, ◌<◌, ◌^◌, ℕ, ℤ, pos, length, ap, w64, to_z, of_z}
+use Rattle.std.proofs.Common.{rules, arith, ◌≡◌, ◌-◌, ◌<◌, ℕ, ℤ, pos, length, ap, w64, to_z, of_z}
 use Rattle.std.proofs.lemmas.Result.{MatchResult-weaker}
 use Rattle.std.proofs.lemmas.Int.{ints, to_z-of_z}
+use Rattle.ppm_words.specs.Limits.{value_bound}
 use Rattle.ppm_text.specs.declared.token.Sign.TheVariants as sign
 use Rattle.ppm_syntax.specs.Tree.{expression_of}
 use Rattle.ppm_syntax.specs.Grammar.{IsSign, IsNumber}
@@ -82,7 +83,7 @@ more-returns t c =
     (rw (c.with_nodes.ensures.depth, c.with_nodes.ensures.nodes) at h))
 
 -- a literal keeps its value
-literal_value : (n : ℕ) (z : ℤ) → z ≡ pos n → n < 2 ^ 63 → to_z w64 (of_z w64 z) ≡ pos n
+literal_value : (n : ℕ) (z : ℤ) → z ≡ pos n → n < value_bound → to_z w64 (of_z w64 z) ≡ pos n
 literal_value n z is small = rw is (to_z-of_z w64 (pos n) (omega (arith, ints, small)))
 
 -- a number stands in front
