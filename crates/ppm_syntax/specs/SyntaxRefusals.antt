@@ -1,12 +1,11 @@
 -- The faults of tokens that are no program within the limits: which, and at which token, with no fault in front of it.
 use Rattle.std.specs.Prelude.{◌≡◌, ◌≤◌, ◌<◌, ℕ, pos, List, [], ◌∷◌, ◌++◌, Option, Some, None}
-use Rattle.std.specs.List.{All}
 use Rattle.ppm_text.specs.declared.token.Token.{Token}
 use Rattle.ppm_syntax.specs.declared.limit.Limit.{Limit}
 use Rattle.ppm_syntax.specs.declared.syntax_error.SyntaxError.{SyntaxError}
 use Rattle.ppm_syntax.specs.declared.syntax_error.SyntaxError.TheVariants as error
 use Rattle.ppm_syntax.specs.Tree.{ProgramTree}
-use Rattle.ppm_syntax.specs.Limits.{depth_limit, IsLiteral, IsWithin}
+use Rattle.ppm_syntax.specs.Limits.{depth_limit, IsLiteral}
 use Rattle.ppm_syntax.specs.Grammar.{IsNumber, DerivesTree}
 use Rattle.ppm_syntax.specs.Stack.{State, step, run, openings, passed, beginning}
 

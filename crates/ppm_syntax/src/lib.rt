@@ -21,6 +21,8 @@ mod program;
 mod region_error;
 mod room;
 mod rules;
+#[cfg(test)]
+mod shown;
 mod statement;
 mod stop;
 mod syntax_error;

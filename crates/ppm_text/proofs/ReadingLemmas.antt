@@ -19,7 +19,7 @@ use Rattle.ppm_text.specs.Spelling.{keyword_of, sign_of, Longest, IsInRange}
 use Rattle.ppm_text.specs.Lexing.{Skips, line_feed, blank, comment, located, Lexes, here, skip, token, IsTextOf}
 use Rattle.ppm_text.specs.Refusals.{IsFault, not_ascii, FaultsAt}
 use Rattle.ppm_text.specs.Correct.{HasOneReading}
-use Rattle.ppm_text.specs.Scanning.{IsSignOf, IsNoSign}
+use Rattle.ppm_text.specs.Scanning.{IsNoSign}
 use Rattle.ppm_text.proofs.SpellingLemmas.{longest_two, longest_one}
 use Rattle.ppm_text.proofs.LexingLemmas.{skips_bounds, longest_something, one_lexing, one_fault, fault_refuses, fault_place}
 use Rattle.ppm_text.proofs.ScanLemmas.{front_keyword, front_short_name, front_long_name, front_number, front_big_number, front_nothing}

@@ -1,5 +1,5 @@
 -- When each error comes: the faults of a text, each at its place.
-use Rattle.std.specs.Prelude.{◌≡◌, ℕ, ◌<◌, ◌≤◌, List, [], ◌∷◌, length}
+use Rattle.std.specs.Prelude.{◌≡◌, ℕ, ◌<◌, ◌≤◌, List, ◌∷◌, length}
 use Rattle.ppm_words.specs.Limits.{name_limit, value_bound}
 use Rattle.ppm_text.specs.declared.byte_class.ByteClass.TheVariants.{Mark, High}
 use Rattle.ppm_text.specs.declared.token.Kind.TheVariants as kind

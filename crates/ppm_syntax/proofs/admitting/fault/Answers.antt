@@ -1,5 +1,5 @@
 use Rattle.ppm_syntax.specs.Tree.{tree_of}
-use Rattle.ppm_syntax.proofs.AdmittingLemmas.{twice_reported, write_reported, bad_reported, none_reported}
+use Rattle.ppm_syntax.proofs.Regions.Admitting.{twice_reported, write_reported, bad_reported, none_reported}
 use Rattle.ppm_syntax.proofs.admitting.fault.Goals as goal
 
 -- no name is unknown, and one is given twice

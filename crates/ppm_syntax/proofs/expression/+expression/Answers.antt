@@ -6,10 +6,10 @@ use Rattle.ppm_text.specs.declared.token.Sign.TheVariants as sign
 use Rattle.ppm_syntax.specs.Tree.{expression_of}
 use Rattle.ppm_syntax.specs.Grammar.{IsSign, IsNumber}
 use Rattle.ppm_syntax.specs.Parsing.{InFront}
-use Rattle.ppm_syntax.proofs.GrammarLemmas.{shorter}
-use Rattle.ppm_syntax.proofs.StopLemmas.{exit_by}
-use Rattle.ppm_syntax.proofs.ExpressionLemmas.{first_fails, level_read, level_fails, stop_read, again_read, again_fails}
-use Rattle.ppm_syntax.proofs.OperandLemmas.{number_read, element_read, index_fails, group_read, group_fails, close_fails}
+use Rattle.ppm_syntax.proofs.Grammar.Shorter.{shorter}
+use Rattle.ppm_syntax.proofs.Parts.Stops.{exit_by}
+use Rattle.ppm_syntax.proofs.Parts.Expressions.{first_fails, level_read, level_fails, stop_read, again_read, again_fails}
+use Rattle.ppm_syntax.proofs.Parts.Operands.{number_read, element_read, index_fails, group_read, group_fails, close_fails}
 use Rattle.ppm_syntax.proofs.expression.+expression.Goals as goal
 
 -- the index stops
