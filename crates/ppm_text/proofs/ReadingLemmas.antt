@@ -37,7 +37,7 @@ is_long n m h = grind (arith, h)
 is_short : (n m : ℕ) → nat_lt n m ≡ false → m ≤ n
 is_short n m h = grind (arith, h)
 
--- a word is a keyword, a name or too long
+-- an identifier is a keyword, a name or too long
 identifier_begins : (p b : ℕ) (bs : List ℕ) → class_of b ≡ Letter → BeginsSomehow p (b ∷ bs)
 identifier_begins p b bs is = go (keyword_of (take n (b ∷ bs))) refl
   where

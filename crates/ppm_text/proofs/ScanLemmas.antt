@@ -44,7 +44,7 @@ pub front_high : (place : ℕ) (bytes : List ℕ) → BeginsWith High bytes → 
 front_high place [] begins = absurd begins
 front_high place (b ∷ bs) begins = not_ascii begins
 
--- the run in front is a word
+-- the run in front is an identifier
 front_identifier : (bytes : List ℕ) (n : ℕ) → BeginsWith Letter bytes → n ≡ prefix_len is_name_byte bytes → IsIdentifier (take n bytes)
 front_identifier bytes n begins len = rw len (run_is_identifier bytes begins)
 

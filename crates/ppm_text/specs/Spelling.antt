@@ -45,7 +45,7 @@ keyword_of bytes = spelled keywords bytes
 unfoldable pub sign_of : List ℕ → Option Sign
 sign_of bytes = spelled signs bytes
 
--- a letter or `_`, then letters, digits and `_`
+-- an identifier: a letter or `_`, then letters, digits and `_`
 abbrev pub IsIdentifier : List ℕ → Type 0
 IsIdentifier [] = ⊥
 IsIdentifier (b ∷ bs) = (class_of b ≡ Letter) × AllPass is_name_byte bs
@@ -55,7 +55,7 @@ abbrev pub IsDigits : List ℕ → Type 0
 IsDigits [] = ⊥
 IsDigits (b ∷ bs) = (class_of b ≡ Digit) × AllPass is_digit bs
 
--- the bytes, from the first to the last, are this token: a word is a keyword or else a name
+-- the bytes, from the first to the last, are this token: an identifier is a keyword or else a name
 pub data Spells : List ℕ → Kind → Type 0 where
   a_keyword : {bytes : List ℕ} {found : Keyword} → IsIdentifier bytes → keyword_of bytes ≡ Some found → Spells bytes (kind.Keyword found)
   a_name : {bytes : List ℕ} → IsIdentifier bytes → keyword_of bytes ≡ None → Spells bytes (kind.Name bytes)

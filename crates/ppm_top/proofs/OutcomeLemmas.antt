@@ -9,7 +9,8 @@ use Rattle.ppm_syntax.specs.Meaning.{initial_arrays, values_of, with_names, outc
 use Rattle.ppm_top.proofs.BodyRuns.{after_all, run_statements-after_all}
 
 -- the outcome of a run that ends, or stops at a trap
-ends_so : (t : ProgramTree) (turns : ℕ) (r : Result Arrays TrapAt) → serial turns t ≡ outcome_of (initial_arrays t) (at_once 0 r) → (o : Outcome) × IsOutcome t o
+ends_so : (t : ProgramTree) (turns : ℕ) (r : Result Arrays TrapAt) → serial turns t ≡ outcome_of (initial_arrays t) (at_once 0 r) →
+    (o : Outcome) × IsOutcome t o
 ends_so t turns (Ok arrays) is = (outcome.Ended (with_names (initial_arrays t) arrays), (turns, is, λ h. cc))
 ends_so t turns (Err stop) is = (outcome.Trapped stop.0 stop.1, (turns, is, λ h. cc))
 

@@ -25,7 +25,8 @@ use Rattle.ppm_top.specs.Statuses.{status_of}
 use Rattle.ppm_line.specs.Words.{command_of}
 use Rattle.ppm_top.specs.Delivery.{IsWritten, Delivers}
 use Rattle.ppm_top.specs.Causes.{IsUnread, ComesTo, HasNoOutcome, ReadComesTo, ReadIsRefused, RunMay, NoCommandMay, CommandMay, IsAnswered}
-use Rattle.ppm_top.specs.Rows.{IsOneOf, WritesArrays, WritesTrap, WritesRefusal, IsReported, GoesWell, RefusesSource, RefusesWords, ReportsFaults, IsSilentOnOut}
+use Rattle.ppm_top.specs.Rows.{IsOneOf, WritesArrays, WritesTrap, WritesRefusal, IsReported}
+use Rattle.ppm_top.specs.Rows.{GoesWell, RefusesSource, RefusesWords, ReportsFaults, IsSilentOnOut}
 
 -- the statuses at which nothing is written on out
 abbrev quiet : List Status

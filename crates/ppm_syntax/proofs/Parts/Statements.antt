@@ -162,7 +162,8 @@ behind_name : (rest behind : List Token) (x : List ℕ) (line : ℕ) → InFront
 behind_name rest behind x line name st c e low none h = let step = name_passes name.token behind x st c name.has.0 low none in rw (name.shape, step) h
 
 -- a statement has tokens
-pub next_shorter : (d : ℕ) (x : List ℕ) (line : ℕ) (rest behind after : List Token) (s : Statement) → InFront (λ t. IsNameToken t x × (t.line ≡ line)) rest behind →
+pub next_shorter : (d : ℕ) (x : List ℕ) (line : ℕ) (rest behind after : List Token) (s : Statement) →
+    InFront (λ t. IsNameToken t x × (t.line ≡ line)) rest behind →
     ReadsPut d x line behind s after → length after < length rest
 next_shorter d x line rest behind after s name r = rw name.shape (statement_shorter (r.reads name.token name.has.0 name.has.1))
 

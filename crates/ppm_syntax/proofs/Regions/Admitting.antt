@@ -18,7 +18,8 @@ module _ (t : ProgramTree) where
     fault = λ f same. let s : e ≡ f = cc in subst (IsFault t) s here;
   }
 
-  pub twice_reported : (line : ℕ) → IsLeastLine (IsUnknownName t) None → IsLeastLine (IsTwiceNamed t) (Some line) → IsFirstFault t (Some (error.TwiceNamed line))
+  pub twice_reported : (line : ℕ) → IsLeastLine (IsUnknownName t) None → IsLeastLine (IsTwiceNamed t) (Some line) →
+      IsFirstFault t (Some (error.TwiceNamed line))
   twice_reported line p q = reported (error.TwiceNamed line) (p.nowhere refl, q.first line refl)
 
   pub write_reported : (line : ℕ) → IsLeastLine (IsUnknownName t) None → IsLeastLine (IsTwiceNamed t) None → IsLeastLine (IsWriteToRef t) (Some line)
@@ -29,7 +30,8 @@ module _ (t : ProgramTree) where
       → IsLeastLine (IsBadMain t) (Some line) → IsFirstFault t (Some (error.BadMain line))
   bad_reported line p q r s = reported (error.BadMain line) (p.nowhere refl, q.nowhere refl, r.nowhere refl, s.first line refl)
 
-  pub none_reported : IsLeastLine (IsUnknownName t) None → IsLeastLine (IsTwiceNamed t) None → IsLeastLine (IsWriteToRef t) None → IsLeastLine (IsBadMain t) None
+  pub none_reported : IsLeastLine (IsUnknownName t) None → IsLeastLine (IsTwiceNamed t) None → IsLeastLine (IsWriteToRef t) None →
+      IsLeastLine (IsBadMain t) None
       → IsFirstFault t None
   none_reported p q r s = record {
     nowhere = λ _. record { unknown = p.nowhere refl; twice = q.nowhere refl; write = r.nowhere refl; bad = s.nowhere refl };

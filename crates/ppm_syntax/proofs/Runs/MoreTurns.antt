@@ -70,4 +70,5 @@ more_turns turns more t h =
     let main = procedure_named t.procs (codes "main") in
     let values = values_of (initial_arrays t) in
     let there = outcome_there (initial_arrays t) (run_main t.arrays main values turns) h in
-    ap (outcome_of (initial_arrays t)) (main_more t.arrays main values turns more there) ∙ outcome_more (initial_arrays t) (run_main t.arrays main values turns) more
+    ap (outcome_of (initial_arrays t)) (main_more t.arrays main values turns more there)
+    ∙ outcome_more (initial_arrays t) (run_main t.arrays main values turns) more

@@ -28,7 +28,8 @@ program_whole (g.array {z = z} {w = w} {n = n} {o = o} {l = l} {c = q} {s = s} {
     let one : suc c.arrays ≤ array_limit = omega (arith, arrays) in
     let enough : c.words + z ≤ word_limit = omega (arith, words) in
     array_passes w n o l q s x z ts c w_is n_is o_is l_is q_is s_is none one enough
-    ∙ program_whole r (with_count (stack.SomeWords z) (with_count stack.AnArray c)) low (few_words (with_count stack.AnArray c) z (few_arrays c none one) enough)
+    ∙ program_whole r (with_count (stack.SomeWords z) (with_count stack.AnArray c)) low (few_words (with_count stack.AnArray c) z
+    (few_arrays c none one) enough)
     (omega (arith, arrays)) (omega (arith, words)) procs small
 program_whole (g.proc {w = w} {n = n} {o = o} {x = x} {qs = qs} {b = b} {ps = ps} w_is n_is o_is q q_is body r) c low none arrays words procs small =
     let p = All-head IsSmall (record { name = x; line = n.line; params = qs; body = b }) ps small in

@@ -51,7 +51,8 @@ pub data Gives : ℕ → Symbol → List Token → List Token → Type 0 where
   body : {d : ℕ} {o : Token} {ts rest : List Token} → IsSign o sign.OpenBrace → Gives d stack.InBody ts rest → Gives d stack.Body (o ∷ ts) rest
   in_body : {d : ℕ} {c : Token} {b : List Statement} {ts rest : List Token} →
       Derives d Statements ts (statements b) (c ∷ rest) → IsSign c sign.CloseBrace → Gives d stack.InBody ts rest
-  array_name : {d : ℕ} {n : Token} {x : List ℕ} {ts rest : List Token} → IsNameToken n x → Gives d stack.ArrayOpen ts rest → Gives d stack.ArrayName (n ∷ ts) rest
+  array_name : {d : ℕ} {n : Token} {x : List ℕ} {ts rest : List Token} → IsNameToken n x → Gives d stack.ArrayOpen ts rest →
+      Gives d stack.ArrayName (n ∷ ts) rest
   array_open : {d : ℕ} {o : Token} {ts rest : List Token} →
       IsSign o sign.OpenBracket → Gives d stack.ArrayLength ts rest → Gives d stack.ArrayOpen (o ∷ ts) rest
   array_length : {d z : ℕ} {l : Token} {ts rest : List Token} → IsNumber l z → Gives d stack.ArrayClose ts rest → Gives d stack.ArrayLength (l ∷ ts) rest

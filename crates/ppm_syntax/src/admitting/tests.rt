@@ -41,8 +41,16 @@ fn right_trees_are_admitted(rt: HostRuntime) -> Result<(), Fail> {
     ];
     for (text, tree, input) in cases {
         let admitted = admit(alloc, parse(alloc, &tokens(alloc, text.as_bytes())?)?)?;
-        assert_eq!(rt; shown(alloc, admitted.program().tree())?.as_str(), tree, "{text}");
-        assert_eq!(rt; shown_input(alloc, admitted.input())?.as_str(), input, "{text}");
+        assert_eq!(rt;
+            shown(alloc, admitted.program().tree())?.as_str(),
+            tree,
+            "{text}"
+        );
+        assert_eq!(rt;
+            shown_input(alloc, admitted.input())?.as_str(),
+            input,
+            "{text}"
+        );
     }
     Ok(())
 }

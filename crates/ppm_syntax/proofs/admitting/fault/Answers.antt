@@ -20,4 +20,5 @@ returns-in-Some-bad_main c =
 -- there is no fault
 pub returns : goal.returns
 returns c =
-    none_reported (tree_of c.args.tree.now) c.in_default.ensures c.in_default-twice_named.ensures c.in_default-write_to_ref.ensures c.in_default-bad_main.ensures
+    none_reported
+    (tree_of c.args.tree.now) c.in_default.ensures c.in_default-twice_named.ensures c.in_default-write_to_ref.ensures c.in_default-bad_main.ensures
