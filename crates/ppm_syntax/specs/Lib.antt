@@ -5,6 +5,7 @@ pub mod Lines
 pub mod Rules
 pub mod Meaning
 pub mod Parsing
+pub mod Admission
 pub mod Correct
 pub mod Deciding
 pub mod SyntaxErrorNumbers

@@ -1,6 +1,8 @@
 -- The limits on a tree.
-use Rattle.std.specs.Prelude.{ℕ, ◌+◌, ◌≤◌, ◌<◌, ◌^◌, ℤ, pos, negsuc, List, [], ◌∷◌, length}
+use Rattle.std.specs.Prelude.{ℕ, ◌+◌, ◌≤◌, ◌<◌, ℤ, pos, negsuc, List, [], ◌∷◌, length}
 use Rattle.std.specs.List.{All}
+pub use Rattle.ppm_words.specs.Limits.{array_limit, word_limit}
+use Rattle.ppm_words.specs.Limits.{value_bound}
 use Rattle.ppm_syntax.specs.declared.tree.Array.{Array}
 use Rattle.ppm_syntax.specs.Tree.{Expression, Statement, Procedure, ProgramTree}
 use Rattle.ppm_syntax.specs.Tree as tree
@@ -8,14 +10,6 @@ use Rattle.ppm_syntax.specs.Tree as tree
 -- openings that are open at a time
 abbrev pub depth_limit : ℕ
 depth_limit = 32
-
--- the arrays of a program
-abbrev pub array_limit : ℕ
-array_limit = 64
-
--- the words of all arrays together
-abbrev pub word_limit : ℕ
-word_limit = 4194304
 
 -- the procedures of a program
 abbrev pub procedure_limit : ℕ
@@ -46,7 +40,7 @@ statement_nodes (tree.Put x line index value) = nodes_of index + nodes_of value
 
 -- a literal is from 0 to 2^63 - 1
 abbrev pub IsLiteral : ℤ → Type 0
-IsLiteral (pos n) = n < 2 ^ 63
+IsLiteral (pos n) = n < value_bound
 IsLiteral (negsuc n) = ⊥
 
 -- each number in an expression is a literal

@@ -1,7 +1,8 @@
 -- What a program means, run serially: the arrays in the end, or the first trap.
-use Rattle.std.specs.Prelude.{◌≡◌, ◌≢◌, ℕ, zero, suc, ◌+◌, ◌^◌, ℤ, pos, negsuc, ◌+ℤ◌, Bool}
+use Rattle.std.specs.Prelude.{◌≡◌, ◌≢◌, ℕ, zero, suc, ◌+◌, ℤ, pos, negsuc, ◌+ℤ◌, Bool}
 use Rattle.std.specs.Prelude.{List, [], ◌∷◌, map, replicate, Option, Some, None, Result, Ok, Err, nat_lt, get_or, set, codes, if◌then◌else◌}
 use Rattle.std.specs.Str.{bytes_eq}
+use Rattle.ppm_words.specs.Limits.{value_bound}
 use Rattle.ppm_words.specs.declared.named_array.NamedArray.{NamedArray}
 use Rattle.ppm_words.specs.declared.outcome.Outcome.{Outcome}
 use Rattle.ppm_words.specs.declared.outcome.Outcome.TheVariants as outcome
@@ -44,8 +45,8 @@ then_with (Err stop) go = Err stop
 
 -- a value of the language: from -2^63 to 2^63 - 1
 abbrev pub fits : ℤ → Bool
-fits (pos n) = nat_lt n (2 ^ 63)
-fits (negsuc n) = nat_lt n (2 ^ 63)
+fits (pos n) = nat_lt n value_bound
+fits (negsuc n) = nat_lt n value_bound
 
 -- the result of an operation, which overflows where it is no value
 abbrev pub in_range : ℕ → ℤ → Result ℤ TrapAt
@@ -173,7 +174,3 @@ serial turns t = outcome_of (initial_arrays t) (run_main t.arrays (procedure_nam
 -- the outcome of a program: what its run comes to within some number of turns
 abbrev pub IsOutcome : ProgramTree → Outcome → Type 0
 IsOutcome t o = (turns : ℕ) × (serial turns t ≡ o) × (o ≢ outcome.NotWithin)
-
--- more turns never change an outcome that is there
-abbrev pub MoreTurnsKeep : Type 0
-MoreTurnsKeep = (turns more : ℕ) (t : ProgramTree) → serial turns t ≢ outcome.NotWithin → serial (turns + more) t ≡ serial turns t

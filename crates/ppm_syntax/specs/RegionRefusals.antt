@@ -6,8 +6,6 @@ use Rattle.ppm_syntax.specs.declared.tree.Param.{Param}
 use Rattle.ppm_syntax.specs.declared.region_error.RegionError.{RegionError}
 use Rattle.ppm_syntax.specs.declared.region_error.RegionError.TheVariants as error
 use Rattle.ppm_syntax.specs.Tree.{Expression, Statement, Procedure, ProgramTree}
-use Rattle.ppm_syntax.specs.Limits.{IsWithin}
-use Rattle.ppm_syntax.specs.Rules.{IsAdmitted}
 use Rattle.ppm_syntax.specs.Tree as tree
 
 -- the expression names the region in this line
@@ -106,13 +104,3 @@ IsFault t error.NoMemory = ⊥
 abbrev pub IsRefused : ProgramTree → RegionError → Type 0
 IsRefused t error.NoMemory = Unit {0}
 IsRefused t e = IsFault t e
-
--- A tree has at most one fault, and none where it keeps the rules; within the limits it keeps them where it has none.
-pub record HasOneRegionFault (t : ProgramTree) : Type 0 where
-  pub fault : (e f : RegionError) → IsFault t e → IsFault t f → e ≡ f
-  pub admitted : IsAdmitted t → (e : RegionError) → IsFault t e → ⊥
-  pub none : IsWithin t → ((e : RegionError) → IsFault t e → ⊥) → IsAdmitted t
-
--- so it is with all trees
-abbrev pub HaveOneRegionFault : Type 0
-HaveOneRegionFault = (t : ProgramTree) → HasOneRegionFault t

@@ -1,12 +1,11 @@
 -- The faults of tokens that are no program within the limits: which, and at which token, with no fault in front of it.
 use Rattle.std.specs.Prelude.{◌≡◌, ◌≤◌, ◌<◌, ℕ, pos, List, [], ◌∷◌, ◌++◌, Option, Some, None}
-use Rattle.std.specs.List.{All}
 use Rattle.ppm_text.specs.declared.token.Token.{Token}
 use Rattle.ppm_syntax.specs.declared.limit.Limit.{Limit}
 use Rattle.ppm_syntax.specs.declared.syntax_error.SyntaxError.{SyntaxError}
 use Rattle.ppm_syntax.specs.declared.syntax_error.SyntaxError.TheVariants as error
 use Rattle.ppm_syntax.specs.Tree.{ProgramTree}
-use Rattle.ppm_syntax.specs.Limits.{depth_limit, IsLiteral, IsWithin}
+use Rattle.ppm_syntax.specs.Limits.{depth_limit, IsLiteral}
 use Rattle.ppm_syntax.specs.Grammar.{IsNumber, DerivesTree}
 use Rattle.ppm_syntax.specs.Stack.{State, step, run, openings, passed, beginning}
 
@@ -90,13 +89,3 @@ IsFault ts text_len error.NoMemory = ⊥
 -- a number among the tokens is a literal
 abbrev pub TokenLiteral : Token → Type 0
 TokenLiteral t = (n : ℕ) → IsNumber t n → IsLiteral (pos n)
-
--- Tokens have at most one fault, and none where they have a tree within the limits; with none they have such a tree, if their numbers are literals.
-pub record HasOneAnswer (ts : List Token) (text_len : ℕ) : Type 0 where
-  pub fault : (e f : SyntaxError) → IsFault ts text_len e → IsFault ts text_len f → e ≡ f
-  pub either : (t : ProgramTree) (e : SyntaxError) → DerivesTree depth_limit ts t → IsWithin t → IsFault ts text_len e → ⊥
-  pub none : ((e : SyntaxError) → IsFault ts text_len e → ⊥) → All TokenLiteral ts → (t : ProgramTree) × DerivesTree depth_limit ts t × IsWithin t
-
--- so it is with all tokens
-abbrev pub HaveOneAnswer : Type 0
-HaveOneAnswer = (ts : List Token) (text_len : ℕ) → HasOneAnswer ts text_len

@@ -5,9 +5,9 @@ ghost use Rattle.ppm_syntax.specs.RegionRefusals.{IsRefused};
 ghost use Rattle.ppm_syntax.specs.Deciding.{IsFirstFault};
 
 use crate::initial::initial_input;
+use crate::program::{Admitted, Program};
 use crate::region_error::RegionError;
 use crate::rules::{bad_main, twice_named, unknown_name, write_to_ref};
-use crate::program::{Admitted, Program};
 use crate::tree::Tree;
 use std::alloc::Global;
 

@@ -6,7 +6,7 @@ ghost use Rattle.ppm_syntax.specs.Stack as stack;
 ghost use Rattle.ppm_syntax.specs.Parsing.{Fails, HasWordsLeft, HasParameters, ReadsArray, ReadsProcedure};
 
 use crate::front::{name, number, take};
-use crate::limit::Limit;
+use crate::limit::{DEPTH_LIMIT, Limit};
 use crate::parameter::parameters;
 use crate::statement::block;
 use crate::stop::Stop;
@@ -14,9 +14,6 @@ use crate::tree::{Array, Proc};
 use ppm_text::{Sign, Token};
 use ppm_words::Items;
 use std::alloc::Global;
-
-/// The openings that are open at a time.
-const DEPTH_LIMIT: u32 = 32;
 
 /// The array in front, behind its keyword, of at most so many words, and the tokens behind it.
 pub fn array(alloc: Global, words: u32, tokens: &[Token]) -> Result<(Array, &[Token]), Stop>

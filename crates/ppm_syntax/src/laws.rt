@@ -1,8 +1,5 @@
 //! What is true of every text and every run, shown by calls that do nothing.
-ghost use Rattle.ppm_syntax.specs.Correct.{HaveOneTree};
-ghost use Rattle.ppm_syntax.specs.Correct.{HaveOneAnswer};
-ghost use Rattle.ppm_syntax.specs.Correct.{MoreTurnsKeep};
-ghost use Rattle.ppm_syntax.specs.Correct.{HaveOneRegionFault};
+ghost use Rattle.ppm_syntax.specs.Correct.{HaveOneTree, HaveOneAnswer, HaveOneRegionFault, MoreTurnsKeep};
 
 /// By the grammar a text has at most one tree.
 pub fn have_one_tree()

@@ -2,8 +2,19 @@
 ghost use Rattle.std.specs.Prelude.{◌≡◌};
 ghost use Rattle.ppm_syntax.specs.SyntaxErrorNumbers.{which_of};
 
-/// What a program has a limit on. At most 64 arrays, 4,194,304 words in them, 1 procedure, 12 parameters of a procedure
-/// and 48 nodes in the expressions of a statement.
+/// The openings that are open at a time, at most.
+pub const DEPTH_LIMIT: u32 = 32;
+
+/// The procedures of a program, at most.
+pub const PROCEDURE_LIMIT: usize = 1;
+
+/// The parameters of a procedure, at most.
+pub const PARAMETER_LIMIT: usize = 12;
+
+/// The nodes in the expressions of one statement, at most.
+pub const NODE_LIMIT: u32 = 48;
+
+/// What a program has a limit on: those here, and for its arrays and their words those of `ppm_words`.
 #[derive(Clone, Copy, Debug, PartialEq, Eq)]
 pub enum Limit {
     /// The arrays of the program.

@@ -6,14 +6,11 @@ ghost use Rattle.ppm_syntax.specs.Stack as stack;
 ghost use Rattle.ppm_syntax.specs.Parsing.{Fails, HasParameters, ReadsParameters};
 
 use crate::front::{mode, name, take};
-use crate::limit::Limit;
+use crate::limit::{Limit, PARAMETER_LIMIT};
 use crate::stop::Stop;
 use crate::tree::Param;
 use ppm_text::{Sign, Token};
 use std::alloc::Global;
-
-/// The parameters of a procedure.
-const PARAMETER_LIMIT: usize = 12;
 
 /// The parameter in front behind so many others, and the tokens behind it.
 fn read_parameter(alloc: Global, count: usize, tokens: &[Token]) -> Result<(Param, &[Token]), Stop>

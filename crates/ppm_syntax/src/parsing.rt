@@ -14,23 +14,14 @@ ghost use Rattle.ppm_syntax.specs.Parsing.{IsSoFar, AddsBehind, FailsBehind, Add
 
 use crate::declaration::{array, procedure};
 use crate::front::take_word;
-use crate::limit::Limit;
+use crate::limit::{Limit, PROCEDURE_LIMIT};
 use crate::program::Program;
 use crate::stop::Stop;
 use crate::syntax_error::SyntaxError;
 use crate::tree::{Array, Proc, Tree};
 use ppm_text::{Keyword, Token, Tokens};
-use ppm_words::Items;
+use ppm_words::{ARRAY_LIMIT, Items, WORD_LIMIT};
 use std::alloc::Global;
-
-/// The arrays of a program.
-const ARRAY_LIMIT: usize = 64;
-
-/// The words of all its arrays together.
-const WORD_LIMIT: u32 = 4_194_304;
-
-/// The procedures of a program.
-const PROCEDURE_LIMIT: usize = 1;
 
 /// What is declared so far, and how many array words are left.
 #[derive(Drop)]

@@ -10,8 +10,8 @@ use crate::tree::Tree;
 use ppm_words::Input;
 use std::marker::Model;
 
-/// A tree that passes none of the limits: 64 arrays, 4,194,304 array words, one procedure, 12 parameters, 48 nodes
-/// in the expressions of a statement, literals to 2^63 - 1. Each line in it is one of a text, from 1 to 1,048,577.
+/// A tree that passes none of the limits (`Limit`), with literals to 2^63 - 1. Each line in it is one of a text: from 1
+/// to one more than the bytes that a text may have.
 #[derive(Drop)]
 pub struct Program {
     tree: Tree,

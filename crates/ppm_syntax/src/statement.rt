@@ -8,15 +8,13 @@ ghost use Rattle.ppm_syntax.specs.Parsing.{Fails, HasNodesLeft, Anything, ReadsP
 
 use crate::expression::up_to;
 use crate::front::{name, take};
+use crate::limit::NODE_LIMIT;
 use crate::room::{Room, deeper};
 use crate::stop::Stop;
 use crate::tree::Stmt;
 use ppm_text::{Sign, Token};
 use ppm_words::Name;
 use std::alloc::Global;
-
-/// The nodes in the expressions of one statement.
-const NODE_LIMIT: u32 = 48;
 
 /// The assignment to an element of the region with this name, from its index in brackets in front on, and the tokens
 /// behind it. The name stands in the line.

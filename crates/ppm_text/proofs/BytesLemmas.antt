@@ -46,11 +46,11 @@ run_beyond p (suc m) (x ∷ xs) within all =
     let next : m ≤ prefix_len p xs = run_beyond p m xs (omega arith) (λ k d h. all (suc k) d (omega arith)) in
     omega (arith, prefix_first p x xs first)
 
--- a letter's class tells it
+-- a letter is known by its class
 pub letter_byte : (b : ℕ) → class_of b ≡ Letter → is_letter b ≡ true
 letter_byte b h = grind arith
 
--- a digit's class tells it
+-- a digit is known by its class
 pub digit_byte : (b : ℕ) → class_of b ≡ Digit → is_digit b ≡ true
 digit_byte b h = grind arith
 

@@ -1,7 +1,8 @@
 -- A text is lexed in one way, and a text with a fault in none.
-use Rattle.std.proofs.Common.{◌≡◌, ℕ, zero, suc, ◌+◌, ◌-◌, ◌<◌, ◌≤◌, ◌^◌, List, [], ◌∷◌, ◌++◌, length, take, drop}
+use Rattle.std.proofs.Common.{◌≡◌, ℕ, zero, suc, ◌+◌, ◌-◌, ◌<◌, ◌≤◌, List, [], ◌∷◌, ◌++◌, length, take, drop}
 use Rattle.std.proofs.Common.{arith, refl, ap, inl, inr, subst, length-drop}
 use Rattle.std.specs.List.{All}
+use Rattle.ppm_words.specs.Limits.{name_limit, value_bound}
 use Rattle.ppm_text.specs.declared.byte_class.ByteClass.{ByteClass}
 use Rattle.ppm_text.specs.declared.byte_class.ByteClass.TheVariants.{Letter, Digit, LineFeed, Blank, Hash, Mark, High}
 use Rattle.ppm_text.specs.declared.token.Kind.{Kind}
@@ -126,9 +127,9 @@ fault_no_token : {p : ℕ} {bs : List ℕ} {e : TextError} → IsFault p bs e �
 fault_no_token (not_ascii {b = b} {bs = bs} is) n k t fits = no_token_class b bs High is (λ e. cc (e)) (λ e. cc (e)) (λ e. cc (e)) n k t
 fault_no_token (bad_char is nothing) n k t fits = nothing n k t.within t.spells
 fault_no_token (number_too_big {n = m} {value = value} {bs = bs} t big) n k t' fits =
-    let small : value < 2 ^ 63 = subst IsInRange (one_longest bs n m k (kind.Number value) t' t).1 fits in omega arith
+    let small : value < value_bound = subst IsInRange (one_longest bs n m k (kind.Number value) t' t).1 fits in omega arith
 fault_no_token (name_too_long {n = m} {bs = bs} {name = name} t long) n k t' fits =
-    let short : length name ≤ 32 = subst IsInRange (one_longest bs n m k (kind.Name name) t' t).1 fits in omega arith
+    let short : length name ≤ name_limit = subst IsInRange (one_longest bs n m k (kind.Name name) t' t).1 fits in omega arith
 
 -- what is lexed up to a fault is not lexed to the end
 pub fault_stops : {p l : ℕ} {bs : List ℕ} {ts : List Token} {q m : ℕ} {rest : List ℕ} → Lexes p l bs ts q m rest

@@ -1,8 +1,9 @@
 -- Each text is lexed into tokens, or has a fault.
-use Rattle.std.proofs.Common.{◌≡◌, ℕ, zero, suc, ◌+◌, ◌<◌, ◌≤◌, ◌^◌, ◌⊎◌, Bool, true, false, List, [], ◌∷◌, length, take, drop}
+use Rattle.std.proofs.Common.{◌≡◌, ℕ, zero, suc, ◌+◌, ◌<◌, ◌≤◌, ◌⊎◌, Bool, true, false, List, [], ◌∷◌, length, take, drop}
 use Rattle.std.proofs.Common.{arith, refl, inl, inr, subst, length-drop}
 use Rattle.std.specs.Prelude.{Option, Some, None, nat_lt}
 use Rattle.std.specs.List.{prefix_len}
+use Rattle.ppm_words.specs.Limits.{name_limit, value_bound}
 use Rattle.ppm_words.specs.Names.{is_digit, is_name_byte}
 use Rattle.ppm_text.specs.declared.byte_class.ByteClass.{ByteClass}
 use Rattle.ppm_text.specs.declared.byte_class.ByteClass.TheVariants.{Letter, Digit, LineFeed, Blank, Hash, Mark, High}
@@ -18,7 +19,7 @@ use Rattle.ppm_text.specs.Spelling.{keyword_of, sign_of, Longest, IsInRange}
 use Rattle.ppm_text.specs.Lexing.{Skips, line_feed, blank, comment, located, Lexes, here, skip, token, IsTextOf}
 use Rattle.ppm_text.specs.Refusals.{IsFault, not_ascii, FaultsAt}
 use Rattle.ppm_text.specs.Correct.{HasOneReading}
-use Rattle.ppm_text.specs.Scanning.{IsSignOf, IsNoSign}
+use Rattle.ppm_text.specs.Scanning.{IsNoSign}
 use Rattle.ppm_text.proofs.SpellingLemmas.{longest_two, longest_one}
 use Rattle.ppm_text.proofs.LexingLemmas.{skips_bounds, longest_something, one_lexing, one_fault, fault_refuses, fault_place}
 use Rattle.ppm_text.proofs.ScanLemmas.{front_keyword, front_short_name, front_long_name, front_number, front_big_number, front_nothing}
@@ -36,26 +37,26 @@ is_long n m h = grind (arith, h)
 is_short : (n m : ℕ) → nat_lt n m ≡ false → m ≤ n
 is_short n m h = grind (arith, h)
 
--- a word is a keyword, a name or too long
+-- an identifier is a keyword, a name or too long
 identifier_begins : (p b : ℕ) (bs : List ℕ) → class_of b ≡ Letter → BeginsSomehow p (b ∷ bs)
 identifier_begins p b bs is = go (keyword_of (take n (b ∷ bs))) refl
   where
     n : ℕ
     n = prefix_len is_name_byte (b ∷ bs)
 
-    named : (long : Bool) → nat_lt 32 n ≡ long → keyword_of (take n (b ∷ bs)) ≡ None → BeginsSomehow p (b ∷ bs)
-    named true long none = inr (inr (error.NameTooLong p, front_long_name p (b ∷ bs) n is refl none (is_long 32 n long)))
+    named : (long : Bool) → nat_lt name_limit n ≡ long → keyword_of (take n (b ∷ bs)) ≡ None → BeginsSomehow p (b ∷ bs)
+    named true long none = inr (inr (error.NameTooLong p, front_long_name p (b ∷ bs) n is refl none (is_long name_limit n long)))
     named false long none =
-        let name = front_short_name (b ∷ bs) n (take n (b ∷ bs)) is refl none (is_short 32 n long) refl in
+        let name = front_short_name (b ∷ bs) n (take n (b ∷ bs)) is refl none (is_short name_limit n long) refl in
         inr (inl (n, kind.Name (take n (b ∷ bs)), name.0, name.1))
 
     go : (o : Option Keyword) → keyword_of (take n (b ∷ bs)) ≡ o → BeginsSomehow p (b ∷ bs)
     go (Some found) found_is = inr (inl (n, kind.Keyword found, front_keyword (b ∷ bs) n found is refl found_is, tt))
-    go None none = named (nat_lt 32 n) refl none
+    go None none = named (nat_lt name_limit n) refl none
 
 -- digits are a number or too big
 digits_begin : (p b : ℕ) (bs : List ℕ) → class_of b ≡ Digit → BeginsSomehow p (b ∷ bs)
-digits_begin p b bs is = go (nat_lt value (2 ^ 63)) refl
+digits_begin p b bs is = go (nat_lt value value_bound) refl
   where
     n : ℕ
     n = prefix_len is_digit (b ∷ bs)
@@ -63,7 +64,7 @@ digits_begin p b bs is = go (nat_lt value (2 ^ 63)) refl
     value : ℕ
     value = value_from 0 (take n (b ∷ bs))
 
-    go : (small : Bool) → nat_lt value (2 ^ 63) ≡ small → BeginsSomehow p (b ∷ bs)
+    go : (small : Bool) → nat_lt value value_bound ≡ small → BeginsSomehow p (b ∷ bs)
     go true small = inr (inl (n, kind.Number value, front_number (b ∷ bs) n value is refl refl, grind (arith, small)))
     go false small = inr (inr (error.NumberTooBig p, front_big_number p (b ∷ bs) n is refl (grind (arith, small))))
 

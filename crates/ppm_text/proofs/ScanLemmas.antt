@@ -1,8 +1,9 @@
 -- What the functions of the scanner find is what the definitions say.
-use Rattle.std.proofs.Common.{◌≡◌, ℕ, ◌+◌, ◌<◌, ◌≤◌, ◌^◌, List, [], ◌∷◌, ◌++◌, length, take, drop, Some, None}
+use Rattle.std.proofs.Common.{◌≡◌, ℕ, ◌+◌, ◌<◌, ◌≤◌, List, [], ◌∷◌, ◌++◌, length, take, drop, Some, None}
 use Rattle.std.proofs.Common.{arith, ap, Result, refl, inl, inr, subst, sym, ◌↔◌, Err, ◌∙◌, append-nil}
 use Rattle.std.proofs.lemmas.List.{length-take-le}
 use Rattle.std.specs.List.{prefix_len}
+use Rattle.ppm_words.specs.Limits.{name_limit, value_bound}
 use Rattle.ppm_words.specs.Names.{is_digit, is_name_byte, IsName}
 use Rattle.ppm_text.specs.declared.byte_class.ByteClass.TheVariants.{Letter, Digit, LineFeed, Blank, Hash, Mark, High}
 use Rattle.ppm_text.specs.declared.token.Keyword.{Keyword}
@@ -43,7 +44,7 @@ pub front_high : (place : ℕ) (bytes : List ℕ) → BeginsWith High bytes → 
 front_high place [] begins = absurd begins
 front_high place (b ∷ bs) begins = not_ascii begins
 
--- the run in front is a word
+-- the run in front is an identifier
 front_identifier : (bytes : List ℕ) (n : ℕ) → BeginsWith Letter bytes → n ≡ prefix_len is_name_byte bytes → IsIdentifier (take n bytes)
 front_identifier bytes n begins len = rw len (run_is_identifier bytes begins)
 
@@ -62,20 +63,20 @@ run_length : (bytes : List ℕ) (n : ℕ) → n ≡ prefix_len is_name_byte byte
 run_length bytes n len = length-take-le n bytes (omega (arith, prefix_le is_name_byte bytes))
 
 -- a short name in front
-pub front_is_name : (bytes : List ℕ) (n : ℕ) → BeginsWith Letter bytes → n ≡ prefix_len is_name_byte bytes → n ≤ 32 → IsName (take n bytes)
+pub front_is_name : (bytes : List ℕ) (n : ℕ) → BeginsWith Letter bytes → n ≡ prefix_len is_name_byte bytes → n ≤ name_limit → IsName (take n bytes)
 front_is_name bytes n begins len short = identifier_is_name (take n bytes) (front_identifier bytes n begins len) (omega (arith, run_length bytes n len))
 
 -- a name within the limit in front
 pub front_short_name : (bytes : List ℕ) (n : ℕ) (name : List ℕ) → BeginsWith Letter bytes → n ≡ prefix_len is_name_byte bytes
-    → keyword_of (take n bytes) ≡ None → n ≤ 32 → name ≡ take n bytes → Longest bytes n (kind.Name name) × (length name ≤ 32)
+    → keyword_of (take n bytes) ≡ None → n ≤ name_limit → name ≡ take n bytes → Longest bytes n (kind.Name name) × (length name ≤ name_limit)
 front_short_name bytes n name begins len none short is =
     rw is (front_name bytes n begins len none, omega (arith, run_length bytes n len))
 
 -- a name past the limit in front
 pub front_long_name : (place : ℕ) (bytes : List ℕ) (n : ℕ) → BeginsWith Letter bytes → n ≡ prefix_len is_name_byte bytes
-    → keyword_of (take n bytes) ≡ None → 32 < n → IsFault place bytes (error.NameTooLong place)
+    → keyword_of (take n bytes) ≡ None → name_limit < n → IsFault place bytes (error.NameTooLong place)
 front_long_name place bytes n begins len none long =
-    let more : 32 < length (take n bytes) = omega (arith, run_length bytes n len) in
+    let more : name_limit < length (take n bytes) = omega (arith, run_length bytes n len) in
     name_too_long (front_name bytes n begins len none) more
 
 -- the run in front is a number
@@ -91,7 +92,7 @@ front_number bytes n value begins len is = rw is (front_digits bytes n begins le
 
 -- a number past the limit in front
 pub front_big_number : (place : ℕ) (bytes : List ℕ) (n : ℕ) → BeginsWith Digit bytes → n ≡ prefix_len is_digit bytes
-    → 2 ^ 63 ≤ value_from 0 (take n bytes) → IsFault place bytes (error.NumberTooBig place)
+    → value_bound ≤ value_from 0 (take n bytes) → IsFault place bytes (error.NumberTooBig place)
 front_big_number place bytes n begins len big = number_too_big (front_digits bytes n begins len) big
 
 -- a mark in front that begins no sign

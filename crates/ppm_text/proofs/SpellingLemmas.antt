@@ -7,6 +7,7 @@ use Rattle.std.proofs.lemmas.Slice.Eq.{bytes_eq-Decides}
 use Rattle.std.specs.Bool.{Decides}
 use Rattle.std.specs.List.{prefix_len}
 use Rattle.std.specs.Str.{bytes_eq}
+use Rattle.ppm_words.specs.Limits.{name_limit}
 use Rattle.ppm_words.specs.Names.{is_digit, is_name_byte, IsName}
 use Rattle.ppm_text.specs.declared.byte_class.ByteClass.{ByteClass}
 use Rattle.ppm_text.specs.declared.byte_class.ByteClass.TheVariants.{Letter, Digit, LineFeed, Blank, Hash, Mark, High}
@@ -87,7 +88,7 @@ spells_something {bytes} (a_name identifier is) none = subst IsIdentifier none i
 spells_something {bytes} (a_number digits) none = subst IsDigits none digits
 spells_something {bytes} (a_sign {found = found} is) none = subst IsMark none (sign_is_mark bytes found is)
 
--- a letter begins words alone
+-- a letter begins identifiers alone
 letter_spells : (b : ℕ) (bs : List ℕ) → class_of b ≡ Letter → {k : Kind} → Spells (b ∷ bs) k → IsIdentifier (b ∷ bs)
 letter_spells b bs letter (a_keyword identifier is) = identifier
 letter_spells b bs letter (a_name identifier is) = identifier
@@ -115,12 +116,12 @@ spells_class b bs (a_name identifier is) = inl identifier.0
 spells_class b bs (a_number digits) = inr (inl digits.0)
 spells_class b bs (a_sign {found = found} is) = inr (inr (sign_is_mark (b ∷ bs) found is).0)
 
--- a word is no number
+-- an identifier is no number
 identifier_no_digits : (bytes : List ℕ) → IsIdentifier bytes → IsDigits bytes → ⊥
 identifier_no_digits [] identifier digits = identifier
 identifier_no_digits (b ∷ bs) identifier digits = cc (identifier.0, digits.0)
 
--- a word is no sign
+-- an identifier is no sign
 identifier_no_sign : (bytes : List ℕ) (found : Sign) → IsIdentifier bytes → sign_of bytes ≡ Some found → ⊥
 identifier_no_sign [] found identifier is = identifier
 identifier_no_sign (b ∷ bs) found identifier is = cc (identifier.0, (sign_is_mark (b ∷ bs) found is).0)
@@ -156,7 +157,7 @@ one_longest bytes n m k j a b =
     let there : Spells (take n bytes) j = rw same b.spells in
     (same, one_kind a.spells there)
 
--- the run of name bytes that begins with a letter is a word
+-- the run of name bytes that begins with a letter is an identifier
 pub run_is_identifier : (bytes : List ℕ) → BeginsWith Letter bytes → IsIdentifier (take (prefix_len is_name_byte bytes) bytes)
 run_is_identifier [] begins = begins
 run_is_identifier (b ∷ bs) begins = rw (prefix_first is_name_byte b bs (name_byte b begins)) (begins, all_taken is_name_byte bs)
@@ -166,12 +167,12 @@ pub run_is_number : (bytes : List ℕ) → BeginsWith Digit bytes → IsDigits (
 run_is_number [] begins = begins
 run_is_number (b ∷ bs) begins = rw (prefix_first is_digit b bs (digit_byte b begins)) (begins, all_taken is_digit bs)
 
--- a word of the length that a name may have
-pub identifier_is_name : (bytes : List ℕ) → IsIdentifier bytes → length bytes ≤ 32 → IsName bytes
+-- an identifier of the length that a name may have
+pub identifier_is_name : (bytes : List ℕ) → IsIdentifier bytes → length bytes ≤ name_limit → IsName bytes
 identifier_is_name [] identifier short = identifier
 identifier_is_name (b ∷ bs) identifier short = (letter_byte b identifier.0, identifier.1, omega arith)
 
--- no word in front is longer than the run
+-- no identifier in front is longer than the run
 identifier_within : (bytes : List ℕ) → BeginsWith Letter bytes → NoneLonger bytes (prefix_len is_name_byte bytes)
 identifier_within [] begins m other within spells = absurd begins
 identifier_within (b ∷ bs) begins zero other within spells = omega arith

@@ -3,6 +3,7 @@ pub mod Bytes
 pub mod Spelling
 pub mod Tokens
 pub mod Lexing
+pub mod Refusals
 pub mod ErrorNumbers
 pub mod Correct
 pub mod Scanning

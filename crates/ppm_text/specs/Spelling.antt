@@ -1,7 +1,8 @@
 -- How a token is spelled, of whatever length and size.
-use Rattle.std.specs.Prelude.{◌≡◌, ℕ, ◌<◌, ◌≤◌, ◌^◌, if◌then◌else◌, List, [], ◌∷◌, length, take, codes, Option, Some, None}
+use Rattle.std.specs.Prelude.{◌≡◌, ℕ, ◌<◌, ◌≤◌, if◌then◌else◌, List, [], ◌∷◌, length, take, codes, Option, Some, None}
 use Rattle.std.specs.List.{AllPass}
 use Rattle.std.specs.Str.{bytes_eq}
+use Rattle.ppm_words.specs.Limits.{name_limit, value_bound}
 use Rattle.ppm_words.specs.Names.{is_digit, is_name_byte}
 use Rattle.ppm_text.specs.declared.byte_class.ByteClass.TheVariants.{Letter, Digit}
 use Rattle.ppm_text.specs.declared.token.Keyword.{Keyword}
@@ -44,7 +45,7 @@ keyword_of bytes = spelled keywords bytes
 unfoldable pub sign_of : List ℕ → Option Sign
 sign_of bytes = spelled signs bytes
 
--- a letter or `_`, then letters, digits and `_`
+-- an identifier: a letter or `_`, then letters, digits and `_`
 abbrev pub IsIdentifier : List ℕ → Type 0
 IsIdentifier [] = ⊥
 IsIdentifier (b ∷ bs) = (class_of b ≡ Letter) × AllPass is_name_byte bs
@@ -54,7 +55,7 @@ abbrev pub IsDigits : List ℕ → Type 0
 IsDigits [] = ⊥
 IsDigits (b ∷ bs) = (class_of b ≡ Digit) × AllPass is_digit bs
 
--- the bytes, from the first to the last, are this token: a word is a keyword or else a name
+-- the bytes, from the first to the last, are this token: an identifier is a keyword or else a name
 pub data Spells : List ℕ → Kind → Type 0 where
   a_keyword : {bytes : List ℕ} {found : Keyword} → IsIdentifier bytes → keyword_of bytes ≡ Some found → Spells bytes (kind.Keyword found)
   a_name : {bytes : List ℕ} → IsIdentifier bytes → keyword_of bytes ≡ None → Spells bytes (kind.Name bytes)
@@ -75,9 +76,9 @@ pub record Longest (bytes : List ℕ) (n : ℕ) (token : Kind) : Type 0 where
   pub spells : Spells (take n bytes) token
   pub longest : NoneLonger bytes n
 
--- what the language allows: names of 32 bytes, numbers below 2^63
+-- what the language allows: names within their limit, and numbers that are values
 abbrev pub IsInRange : Kind → Type 0
-IsInRange (kind.Name bytes) = length bytes ≤ 32
-IsInRange (kind.Number value) = value < 2 ^ 63
+IsInRange (kind.Name bytes) = length bytes ≤ name_limit
+IsInRange (kind.Number value) = value < value_bound
 IsInRange (kind.Keyword keyword) = Unit {0}
 IsInRange (kind.Sign mark) = Unit {0}

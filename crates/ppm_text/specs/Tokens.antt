@@ -1,6 +1,7 @@
 -- The tokens of a text, as contracts see them, and what is always true of them.
-use Rattle.std.specs.Prelude.{ℕ, ◌+◌, ◌<◌, ◌≤◌, ◌^◌, List}
+use Rattle.std.specs.Prelude.{ℕ, ◌+◌, ◌<◌, ◌≤◌, List}
 use Rattle.std.specs.List.{All}
+use Rattle.ppm_words.specs.Limits.{value_bound}
 use Rattle.ppm_words.specs.Names.{IsName}
 use Rattle.ppm_text.specs.declared.token.Kind.{Kind}
 use Rattle.ppm_text.specs.declared.token.Kind.TheVariants as kind
@@ -16,10 +17,10 @@ pub record TextTokens : Type 0 where
 abbrev pub text_tokens : List Token → ℕ → TextTokens
 text_tokens tokens text_len = record { tokens = tokens; text_len = text_len }
 
--- a name is as names are, of 1 to 32 bytes, and a number is below 2^63
+-- a name is as names are, and a number is a value of the language
 abbrev pub HasForm : Kind → Type 0
 HasForm (kind.Name bytes) = IsName bytes
-HasForm (kind.Number value) = value < 2 ^ 63
+HasForm (kind.Number value) = value < value_bound
 HasForm (kind.Keyword keyword) = Unit {0}
 HasForm (kind.Sign mark) = Unit {0}
 

@@ -16,7 +16,7 @@ mod token_list;
 
 pub use laws::have_one_reading;
 pub use literal::Literal;
-pub use scan::tokens;
+pub use scan::{TEXT_LIMIT, tokens};
 pub use text_error::TextError;
 pub use token::{Keyword, Kind, Sign, Token};
 pub use token_list::Tokens;

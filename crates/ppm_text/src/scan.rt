@@ -2,6 +2,7 @@
 ghost use Rattle.std.specs.Prelude.{◌≡◌, ◌+◌, ◌-◌, ◌<◌, ◌≤◌, ◌^◌, length, take, drop};
 ghost use Rattle.std.specs.Prelude.{◌↔◌, Err, IfOk, IfErr, OnOk, IfSome, IfNone, MatchResult};
 ghost use Rattle.std.specs.List.{prefix_len};
+ghost use Rattle.ppm_words.specs.Limits.{value_bound};
 ghost use Rattle.ppm_words.specs.Names.{is_digit, is_name_byte, IsName};
 ghost use Rattle.ppm_text.specs.declared.byte_class.ByteClass.TheVariants.{Letter, Digit, Mark};
 ghost use Rattle.ppm_text.specs.Limits.{text_limit};
@@ -11,19 +12,16 @@ ghost use Rattle.ppm_text.specs.Refusals.{IsRefused};
 ghost use Rattle.ppm_text.specs.Scanning.{IsSignOf, IsNoSign, IsInFront, Stops, Advances};
 
 use crate::byte_class::{ByteClass, class, is_digit_byte, is_letter_byte};
-use crate::literal::Literal;
+use crate::literal::{Literal, NUMBER_LIMIT};
 use crate::spelling::{keyword, sign};
 use crate::text_error::TextError;
 use crate::token::{Kind, Sign, Token};
 use crate::token_list::Tokens;
-use ppm_words::Name;
+use ppm_words::{NAME_LIMIT, Name};
 use std::alloc::{AllocError, Global};
 
-/// The most bytes that a text has.
-const TEXT_LIMIT: usize = 1_048_576;
-
-/// The most bytes that a name has.
-const NAME_LIMIT: usize = 32;
+/// The bytes of a text, at most.
+pub const TEXT_LIMIT: usize = 1_048_576;
 
 /// What stands in front of some bytes.
 #[derive(Drop)]
@@ -87,13 +85,13 @@ fn comment_len(bytes: &[u8]) -> usize
 
 /// The number that the digits stand for, below 2^63.
 fn value(digits: &[u8]) -> Option<u64>
-    ensures some { IfSome result (λ n. (n ≡ value_from 0 digits.now) × (n < 2 ^ 63)) }
-    ensures none { IfNone result (2 ^ 63 ≤ value_from 0 digits.now) }
+    ensures some { IfSome result (λ n. (n ≡ value_from 0 digits.now) × (n < value_bound)) }
+    ensures none { IfNone result (value_bound ≤ value_from 0 digits.now) }
 {
     let mut n: u64 = 0;
     for d in digits {
         let digit = u64::from(d.saturating_sub(48));
-        if n > ((1 << 63) - 1 - digit) / 10 {
+        if n > (NUMBER_LIMIT - digit) / 10 {
             return None;
         }
         n = n * 10 + digit;

@@ -3,7 +3,7 @@
 use crate::literal::Literal;
 use ppm_words::Name;
 
-/// A word that the language keeps for itself.
+/// An identifier that the language keeps for itself.
 #[derive(Clone, Copy, PartialEq, Eq, Debug)]
 pub enum Keyword {
     Array,

@@ -12,14 +12,6 @@ value_of-word_of (negsuc n) fits =
     let large : 2 ^ 63 ≤ 2 ^ 64 - 1 - n = omega (arith, fits.sfits) in
     rw (le-ltb (2 ^ 64 - 1 - n) (2 ^ 63) large) (ap negsuc (omega (arith, fits.sfits)))
 
--- a word comes back
-pub word_of-value_of : (n : ℕ) → n < 2 ^ 64 → word_of (value_of n) ≡ n
-word_of-value_of n h = by (nat_lt n (2 ^ 63))
-  where
-    by : (t : Bool) → word_of (cond t (pos n) (negsuc (2 ^ 64 - 1 - n))) ≡ n
-    by true = refl
-    by false = omega arith
-
 -- a word has 64 bits
 pub word_of-below : (z : ℤ) → FitsSigned w64 z → word_of z < 2 ^ 64
 word_of-below (pos n) fits = omega (arith, fits.sfits)

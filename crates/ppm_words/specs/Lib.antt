@@ -1,3 +1,4 @@
 pub mod TwosComplement
+pub mod Limits
 pub mod Names
 pub mod Inputs

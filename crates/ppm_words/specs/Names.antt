@@ -1,6 +1,7 @@
 -- Names of the language, as lists of bytes.
 use Rattle.std.specs.Prelude.{◌≡◌, ℕ, ◌<◌, Bool, true, ◌&&◌, ◌||◌, ◌==◌, nat_le, List, [], ◌∷◌, length}
 use Rattle.std.specs.List.{All}
+use Rattle.ppm_words.specs.Limits.{name_limit}
 
 -- whether a byte is a letter of ASCII, or `_`
 abbrev pub is_letter : ℕ → Bool
@@ -14,7 +15,7 @@ is_digit b = nat_le 48 b && nat_le b 57
 abbrev pub is_name_byte : ℕ → Bool
 is_name_byte b = is_letter b || is_digit b
 
--- a letter or `_`, then letters, digits and `_`, 32 bytes at most
+-- a letter or `_`, then letters, digits and `_`, and no more bytes than a name may have
 abbrev pub IsName : List ℕ → Type 0
 IsName [] = ⊥
-IsName (b ∷ bs) = (is_letter b ≡ true) × All (λ c. is_name_byte c ≡ true) bs × (length bs < 32)
+IsName (b ∷ bs) = (is_letter b ≡ true) × All (λ c. is_name_byte c ≡ true) bs × (length bs < name_limit)

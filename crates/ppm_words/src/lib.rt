@@ -8,6 +8,7 @@
 mod event;
 mod input;
 mod items;
+mod limits;
 mod name;
 mod named_array;
 mod no_memory;
@@ -20,6 +21,7 @@ mod value;
 pub use event::Event;
 pub use input::Input;
 pub use items::Items;
+pub use limits::{ARRAY_LIMIT, NAME_LIMIT, WORD_LIMIT};
 pub use name::Name;
 pub use named_array::NamedArray;
 pub use no_memory::NoMemory;

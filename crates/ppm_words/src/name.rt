@@ -7,7 +7,7 @@ use std::alloc::Global;
 use std::marker::Model;
 
 /// A name: 1 to 32 bytes, a letter or `_`, then letters, digits and `_`, all of ASCII.
-/// Keywords are not told apart here.
+/// A keyword has this form too; the layers above have none as a name.
 #[derive(Debug, Drop)]
 pub struct Name {
     bytes: Vec<u8>,

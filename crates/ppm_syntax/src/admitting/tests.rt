@@ -3,6 +3,7 @@ use super::admit;
 use crate::have_one_region_fault;
 use crate::parsing::parse;
 use crate::region_error::RegionError;
+use crate::shown::{shown, shown_input};
 use ppm_text::tokens;
 use std::alloc::Global;
 use std::test::Fail;
@@ -19,15 +20,37 @@ fn fault_of(alloc: Global, text: &str) -> Result<Option<RegionError>, Fail> {
 
 #[test]
 fn right_trees_are_admitted(rt: HostRuntime) -> Result<(), Fail> {
+    let alloc = rt.alloc();
     let cases = [
-        "proc main() { }",
-        "array a[2];\nproc main(mut a) { a[0] = 5; a[1] = a[0] + 2; }",
-        "proc main(mut a) { }\narray a[1];",
-        "array a[1]; array b[1];\nproc main(ref b, mut a) { a[b[0]] = 1 + b[a[0]]; }",
-        "array main[1];\nproc main(mut main) { main[0] = 1; }",
+        ("proc main() { }", "main@1(){}", ""),
+        (
+            "proc main(mut a) { }\narray a[2];",
+            "a@2[2];main@1(Mut a@1,){}",
+            "a 0 0;",
+        ),
+        (
+            "array a[1]; array b[3];\nproc main(ref b, mut a) { a[b[0]] = 1 + b[a[0]]; }",
+            "a@1[1];b@1[3];main@2(Ref b@2,Mut a@2,){a@2[b@2[0]] = (1 +@2 b@2[a@2[0]]);}",
+            "a 0;b 0 0 0;",
+        ),
+        (
+            "array main[0];\nproc main(mut main) { main[0] = 1; main[1] = 2; }",
+            "main@1[0];main@2(Mut main@2,){main@2[0] = 1;main@2[1] = 2;}",
+            "main;",
+        ),
     ];
-    for text in cases {
-        assert_eq!(rt; fault_of(rt.alloc(), text)?, None, "{text}");
+    for (text, tree, input) in cases {
+        let admitted = admit(alloc, parse(alloc, &tokens(alloc, text.as_bytes())?)?)?;
+        assert_eq!(rt;
+            shown(alloc, admitted.program().tree())?.as_str(),
+            tree,
+            "{text}"
+        );
+        assert_eq!(rt;
+            shown_input(alloc, admitted.input())?.as_str(),
+            input,
+            "{text}"
+        );
     }
     Ok(())
 }

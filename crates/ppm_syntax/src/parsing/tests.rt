@@ -1,6 +1,7 @@
 //! Which program has a tree, and which fault of the others is reported, at which place.
 use super::parse;
 use crate::limit::Limit;
+use crate::shown::shown;
 use crate::syntax_error::SyntaxError;
 use crate::{have_one_answer, have_one_tree, more_turns_keep};
 use ppm_text::tokens;
@@ -68,18 +69,34 @@ fn fault_of(alloc: Global, text: &str) -> Result<Option<SyntaxError>, Fail> {
 }
 
 #[test]
-fn programs_have_a_tree(rt: HostRuntime) -> Result<(), Fail> {
+fn programs_have_their_tree(rt: HostRuntime) -> Result<(), Fail> {
+    let alloc = rt.alloc();
     let cases = [
-        "",
-        "array a[0];",
-        "proc main(mut a) { } array a[1];",
-        "array a[2]; proc main(mut a) { a[0] = 5; a[1] = a[0] + 2; }",
-        "proc f(int n, ref b, mut c) { c[b[(n[0])]] = (1) + ((2 + 3) + 4); } # end",
-        "array a[4194304]; array b[0];",
-        "proc main(mut a) { a[0] = 9223372036854775807; }",
+        ("", ""),
+        (
+            "proc main(mut a) { } array a[1]; array b[4194303];",
+            "a@1[1];b@1[4194303];main@1(Mut a@1,){}",
+        ),
+        (
+            "array a[2];\nproc main(mut a) {\na[0] = 5;\na[1] = a[0] + 2; }",
+            "a@1[2];main@2(Mut a@2,){a@3[0] = 5;a@4[1] = (a@4[0] +@4 2);}",
+        ),
+        (
+            "proc f(int n, ref b, mut c) { c[b[(n[0])]] = (1) + ((2 + 3) + 4); } # end",
+            "f@1(Int n@1,Ref b@1,Mut c@1,){c@1[b@1[n@1[0]]] = (1 +@1 ((2 +@1 3) +@1 4));}",
+        ),
+        (
+            "proc main(mut a) { a[1 + 2 + 3] = 4 + (5 + 6) + 9223372036854775807; }",
+            "main@1(Mut a@1,){a@1[((1 +@1 2) +@1 3)] = ((4 +@1 (5 +@1 6)) +@1 9223372036854775807);}",
+        ),
+        (
+            "proc\nmain(\nmut\na) { a\n[\n0]\n=\n1\n+\n2\n; }",
+            "main@2(Mut a@4,){a@4[0] = (1 +@9 2);}",
+        ),
     ];
-    for text in cases {
-        assert_eq!(rt; fault_of(rt.alloc(), text)?, None, "{text}");
+    for (text, want) in cases {
+        let program = parse(alloc, &tokens(alloc, text.as_bytes())?)?;
+        assert_eq!(rt; shown(alloc, program.tree())?.as_str(), want, "{text}");
     }
     have_one_tree();
     more_turns_keep();
@@ -136,6 +153,7 @@ fn limits_are_reported_at_their_tokens(rt: HostRuntime) -> Result<(), Fail> {
         (GROUPS, 32, "", SyntaxError::TooDeep(69)),
         (GROUPS, 31, "1(", SyntaxError::Expected(70)),
         (ELEMENTS, 32, "", SyntaxError::TooDeep(101)),
+        // The bracket is the 33rd opening and the 49th node.
         (
             ELEMENTS,
             31,

@@ -1,4 +1,4 @@
-use Rattle.ppm_syntax.proofs.AdmittingLemmas.{refused_by, admitted_by}
+use Rattle.ppm_syntax.proofs.Regions.Admitting.{refused_by, admitted_by}
 use Rattle.ppm_syntax.proofs.admitting.admit.Goals as goal
 
 -- the fault that was found

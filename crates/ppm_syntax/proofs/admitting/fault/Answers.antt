@@ -1,5 +1,5 @@
 use Rattle.ppm_syntax.specs.Tree.{tree_of}
-use Rattle.ppm_syntax.proofs.AdmittingLemmas.{twice_reported, write_reported, bad_reported, none_reported}
+use Rattle.ppm_syntax.proofs.Regions.Admitting.{twice_reported, write_reported, bad_reported, none_reported}
 use Rattle.ppm_syntax.proofs.admitting.fault.Goals as goal
 
 -- no name is unknown, and one is given twice
@@ -21,4 +21,4 @@ returns-in-Some-bad_main c =
 pub returns : goal.returns
 returns c =
     none_reported
-        (tree_of c.args.tree.now) c.in_default.ensures c.in_default-twice_named.ensures c.in_default-write_to_ref.ensures c.in_default-bad_main.ensures
+    (tree_of c.args.tree.now) c.in_default.ensures c.in_default-twice_named.ensures c.in_default-write_to_ref.ensures c.in_default-bad_main.ensures

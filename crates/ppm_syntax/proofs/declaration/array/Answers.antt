@@ -1,6 +1,6 @@
 use Rattle.std.proofs.Common.{arith}
-use Rattle.ppm_syntax.proofs.StopLemmas.{exit_by}
-use Rattle.ppm_syntax.proofs.DeclarationLemmas.{array_unended}
+use Rattle.ppm_syntax.proofs.Parts.Stops.{exit_by}
+use Rattle.ppm_syntax.proofs.Parts.Declarations.{array_unended}
 use Rattle.ppm_syntax.proofs.declaration.array.Goals as goal
 
 -- the semicolon is missing

@@ -1,5 +1,5 @@
-use Rattle.ppm_syntax.proofs.StopLemmas.{exit_by}
-use Rattle.ppm_syntax.proofs.DeclarationLemmas.{params_stop, body_stops, procedure_read}
+use Rattle.ppm_syntax.proofs.Parts.Stops.{exit_by}
+use Rattle.ppm_syntax.proofs.Parts.Declarations.{params_stop, body_stops, procedure_read}
 use Rattle.ppm_syntax.proofs.declaration.procedure.Goals as goal
 
 -- the parameters stop

@@ -1,14 +1,15 @@
-use Rattle.std.proofs.Common.{rules, arith, ◌≡◌, ◌-◌, ◌<◌, ◌^◌, ℕ, ℤ, pos, length, ap, w64, to_z, of_z}
+use Rattle.std.proofs.Common.{rules, arith, ◌≡◌, ◌-◌, ◌<◌, ℕ, ℤ, pos, length, ap, w64, to_z, of_z}
 use Rattle.std.proofs.lemmas.Result.{MatchResult-weaker}
 use Rattle.std.proofs.lemmas.Int.{ints, to_z-of_z}
+use Rattle.ppm_words.specs.Limits.{value_bound}
 use Rattle.ppm_text.specs.declared.token.Sign.TheVariants as sign
 use Rattle.ppm_syntax.specs.Tree.{expression_of}
 use Rattle.ppm_syntax.specs.Grammar.{IsSign, IsNumber}
 use Rattle.ppm_syntax.specs.Parsing.{InFront}
-use Rattle.ppm_syntax.proofs.GrammarLemmas.{shorter}
-use Rattle.ppm_syntax.proofs.StopLemmas.{exit_by}
-use Rattle.ppm_syntax.proofs.ExpressionLemmas.{first_fails, level_read, level_fails, stop_read, again_read, again_fails}
-use Rattle.ppm_syntax.proofs.OperandLemmas.{number_read, element_read, index_fails, group_read, group_fails, close_fails}
+use Rattle.ppm_syntax.proofs.Grammar.Shorter.{shorter}
+use Rattle.ppm_syntax.proofs.Parts.Stops.{exit_by}
+use Rattle.ppm_syntax.proofs.Parts.Expressions.{first_fails, level_read, level_fails, stop_read, again_read, again_fails}
+use Rattle.ppm_syntax.proofs.Parts.Operands.{number_read, element_read, index_fails, group_read, group_fails, close_fails}
 use Rattle.ppm_syntax.proofs.expression.+expression.Goals as goal
 
 -- the index stops
@@ -82,7 +83,7 @@ more-returns t c =
     (rw (c.with_nodes.ensures.depth, c.with_nodes.ensures.nodes) at h))
 
 -- a literal keeps its value
-literal_value : (n : ℕ) (z : ℤ) → z ≡ pos n → n < 2 ^ 63 → to_z w64 (of_z w64 z) ≡ pos n
+literal_value : (n : ℕ) (z : ℤ) → z ≡ pos n → n < value_bound → to_z w64 (of_z w64 z) ≡ pos n
 literal_value n z is small = rw is (to_z-of_z w64 (pos n) (omega (arith, ints, small)))
 
 -- a number stands in front

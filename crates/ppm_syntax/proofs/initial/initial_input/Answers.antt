@@ -1,5 +1,5 @@
 use Rattle.std.proofs.Common.{ap, ◌∙◌}
-use Rattle.ppm_syntax.proofs.InitialArrays.{zeros_are_input}
+use Rattle.ppm_syntax.proofs.Runs.InitialArrays.{zeros_are_input}
 use Rattle.ppm_syntax.proofs.initial.initial_input.Goals as goal
 
 -- the program is within the limits of an input

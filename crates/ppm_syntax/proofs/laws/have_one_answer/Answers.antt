@@ -1,4 +1,4 @@
-use Rattle.ppm_syntax.proofs.Passing.{have_one_answer}
+use Rattle.ppm_syntax.proofs.ToCome.PassingProgram.{have_one_answer}
 use Rattle.ppm_syntax.proofs.laws.have_one_answer.Goals as goal
 
 pub returns : goal.returns

@@ -1,4 +1,4 @@
-use Rattle.ppm_syntax.proofs.RegionRefusalsLemmas.{one_region_fault}
+use Rattle.ppm_syntax.proofs.Regions.Refusals.{one_region_fault}
 use Rattle.ppm_syntax.proofs.laws.have_one_region_fault.Goals as goal
 
 pub returns : goal.returns

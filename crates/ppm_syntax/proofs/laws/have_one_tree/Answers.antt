@@ -1,4 +1,4 @@
-use Rattle.ppm_syntax.proofs.ReadingLemmas.{have_one_tree}
+use Rattle.ppm_syntax.proofs.Grammar.OneTree.{have_one_tree}
 use Rattle.ppm_syntax.proofs.laws.have_one_tree.Goals as goal
 
 pub returns : goal.returns

@@ -1,4 +1,4 @@
-use Rattle.ppm_syntax.proofs.MeaningLemmas.{more_turns}
+use Rattle.ppm_syntax.proofs.Runs.MoreTurns.{more_turns}
 use Rattle.ppm_syntax.proofs.laws.more_turns_keep.Goals as goal
 
 pub returns : goal.returns

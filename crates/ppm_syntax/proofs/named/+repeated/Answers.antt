@@ -1,5 +1,5 @@
 use Rattle.std.proofs.Common.{rules}
-use Rattle.ppm_syntax.proofs.FindingLemmas.{repeated_of}
+use Rattle.ppm_syntax.proofs.Regions.Searches.{repeated_of}
 use Rattle.ppm_syntax.proofs.named.+repeated.Goals as goal
 
 -- the first item's name again, or a name twice in the others

@@ -1,5 +1,5 @@
 use Rattle.ppm_syntax.specs.Deciding.{IsNamedAt}
-use Rattle.ppm_syntax.proofs.DecidingLemmas.{least_more}
+use Rattle.ppm_syntax.proofs.Regions.FirstLines.{least_more}
 use Rattle.ppm_syntax.proofs.named.line_of_name.Goals as goal
 
 -- the items so far and one more

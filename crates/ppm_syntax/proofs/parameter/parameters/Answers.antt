@@ -1,7 +1,7 @@
 use Rattle.std.proofs.Common.{arith, rules, ◌++◌, [], ◌∷◌, ap, ◌∙◌, length-append}
-use Rattle.ppm_syntax.proofs.StopLemmas.{exit_by}
-use Rattle.ppm_syntax.proofs.GrammarLemmas.{shorter}
-use Rattle.ppm_syntax.proofs.ParameterLemmas.{empty_read, first_stops, leads_first, next_stops, leads_next, parameters_read}
+use Rattle.ppm_syntax.proofs.Parts.Stops.{exit_by}
+use Rattle.ppm_syntax.proofs.Grammar.Shorter.{shorter}
+use Rattle.ppm_syntax.proofs.Parts.Parameters.{empty_read, first_stops, leads_first, next_stops, leads_next, parameters_read}
 use Rattle.ppm_syntax.proofs.parameter.parameters.Goals as goal
 
 -- there are none

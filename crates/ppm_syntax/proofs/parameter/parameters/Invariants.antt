@@ -1,6 +1,6 @@
 use Rattle.std.proofs.Common.{◌≤◌, length}
 use Rattle.ppm_syntax.specs.Limits.{parameter_limit}
-use Rattle.ppm_syntax.proofs.ParameterLemmas.{LeadsTo}
+use Rattle.ppm_syntax.proofs.Parts.Parameters.{LeadsTo}
 use Rattle.ppm_syntax.proofs.parameter.parameters.Given as goal
 
 abbrev pub invariant-commas : goal.invariant-commas

@@ -1,6 +1,6 @@
 use Rattle.std.proofs.Common.{arith}
-use Rattle.ppm_syntax.proofs.StopLemmas.{exit_by}
-use Rattle.ppm_syntax.proofs.ParameterLemmas.{parameter_read, mode_stops}
+use Rattle.ppm_syntax.proofs.Parts.Stops.{exit_by}
+use Rattle.ppm_syntax.proofs.Parts.Parameters.{parameter_read, mode_stops}
 use Rattle.ppm_syntax.proofs.parameter.read_parameter.Goals as goal
 
 -- no keyword that says how it is taken

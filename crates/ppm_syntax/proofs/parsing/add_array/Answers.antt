@@ -1,5 +1,5 @@
 use Rattle.std.proofs.Common.{arith, refl}
-use Rattle.ppm_syntax.proofs.AddingLemmas.{array_added}
+use Rattle.ppm_syntax.proofs.Parts.Adding.{array_added}
 use Rattle.ppm_syntax.proofs.parsing.add_array.Goals as goal
 
 pub returns : goal.returns

@@ -1,6 +1,6 @@
 use Rattle.std.proofs.Common.{arith, refl}
 use Rattle.std.proofs.lemmas.List.{length-map}
-use Rattle.ppm_syntax.proofs.AddingLemmas.{procedure_added}
+use Rattle.ppm_syntax.proofs.Parts.Adding.{procedure_added}
 use Rattle.ppm_syntax.proofs.parsing.add_procedure.Goals as goal
 
 pub returns : goal.returns

@@ -1,7 +1,7 @@
 use Rattle.std.proofs.Common.{refl, sym}
 use Rattle.std.proofs.lemmas.Bool.{eqb-true}
-use Rattle.ppm_syntax.proofs.ItemLemmas.{leads_at_first, nothing_so_far, leads_next, tree_read}
-use Rattle.ppm_syntax.proofs.LinesLemmas.{has_lines}
+use Rattle.ppm_syntax.proofs.Parts.Items.{leads_at_first, nothing_so_far, leads_next, tree_read}
+use Rattle.ppm_syntax.proofs.Grammar.Lines.{has_lines}
 use Rattle.ppm_syntax.proofs.parsing.derive.Goals as goal
 
 pub items-init : goal.items-init

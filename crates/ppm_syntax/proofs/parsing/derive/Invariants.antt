@@ -1,6 +1,6 @@
 use Rattle.std.proofs.Common.{length}
 use Rattle.ppm_syntax.specs.Parsing.{IsSoFar}
-use Rattle.ppm_syntax.proofs.ItemLemmas.{LeadsTo}
+use Rattle.ppm_syntax.proofs.Parts.Items.{LeadsTo}
 use Rattle.ppm_syntax.proofs.parsing.derive.Given as goal
 
 abbrev pub invariant-items : goal.invariant-items

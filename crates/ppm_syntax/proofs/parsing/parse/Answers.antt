@@ -1,5 +1,5 @@
 use Rattle.ppm_syntax.specs.declared.syntax_error.SyntaxError.TheVariants as error
-use Rattle.ppm_syntax.proofs.AnswerLemmas.{refusal_is_fault}
+use Rattle.ppm_syntax.proofs.Faults.Refusals.{refusal_is_fault}
 use Rattle.ppm_syntax.proofs.parsing.parse.Goals as goal
 
 pub returns-in-Err-clause-expected : goal.returns-in-Err-clause-expected

@@ -1,6 +1,6 @@
 use Rattle.std.proofs.Common.{refl}
 use Rattle.ppm_syntax.specs.Tree.{expression_of}
-use Rattle.ppm_syntax.proofs.FindingLemmas.{unknown_element, unknown_binary}
+use Rattle.ppm_syntax.proofs.Regions.Searches.{unknown_element, unknown_binary}
 use Rattle.ppm_syntax.proofs.rules.+unknown_in.Goals as goal
 
 -- the name, or one in the index

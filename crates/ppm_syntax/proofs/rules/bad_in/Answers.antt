@@ -1,5 +1,5 @@
 use Rattle.ppm_syntax.specs.Deciding.{IsBad}
-use Rattle.ppm_syntax.proofs.DecidingLemmas.{least_more}
+use Rattle.ppm_syntax.proofs.Regions.FirstLines.{least_more}
 use Rattle.ppm_syntax.proofs.rules.bad_in.Goals as goal
 
 -- the parameters so far and one more

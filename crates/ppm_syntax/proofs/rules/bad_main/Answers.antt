@@ -1,5 +1,5 @@
 use Rattle.std.proofs.Common.{rules, refl}
-use Rattle.ppm_syntax.proofs.FindingLemmas.{main_missing, main_there}
+use Rattle.ppm_syntax.proofs.Regions.Searches.{main_missing, main_there}
 use Rattle.ppm_syntax.proofs.rules.bad_main.Goals as goal
 
 -- no procedure is `main`

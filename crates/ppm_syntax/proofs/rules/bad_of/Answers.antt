@@ -1,4 +1,4 @@
-use Rattle.ppm_syntax.proofs.FindingLemmas.{bad_at}
+use Rattle.ppm_syntax.proofs.Regions.Searches.{bad_at}
 use Rattle.ppm_syntax.proofs.rules.bad_of.Goals as goal
 
 -- the parameter fails the test

@@ -1,5 +1,5 @@
 use Rattle.std.proofs.Common.{rules}
-use Rattle.ppm_syntax.proofs.FindingLemmas.{bad_of_main}
+use Rattle.ppm_syntax.proofs.Regions.Searches.{bad_of_main}
 use Rattle.ppm_syntax.proofs.rules.bad_of_main.Goals as goal
 
 -- the procedure is `main`, and its parameters were searched

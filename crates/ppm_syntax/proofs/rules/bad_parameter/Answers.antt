@@ -1,6 +1,6 @@
 use Rattle.ppm_syntax.specs.Tree.{procedure_of}
 use Rattle.ppm_syntax.specs.Deciding.{HasBad}
-use Rattle.ppm_syntax.proofs.DecidingLemmas.{least_more_map}
+use Rattle.ppm_syntax.proofs.Regions.FirstLines.{least_more_map}
 use Rattle.ppm_syntax.proofs.rules.bad_parameter.Goals as goal
 
 -- the procedures so far and one more

@@ -2,7 +2,7 @@ use Rattle.ppm_syntax.specs.Tree.{procedure_of}
 use Rattle.std.proofs.Common.{subst}
 use Rattle.ppm_syntax.specs.Deciding.{IsLeastLine, HasParameterTwice}
 use Rattle.ppm_syntax.specs.RegionRefusals.{Repeats}
-use Rattle.ppm_syntax.proofs.DecidingLemmas.{least_more_map}
+use Rattle.ppm_syntax.proofs.Regions.FirstLines.{least_more_map}
 use Rattle.ppm_syntax.proofs.rules.parameter_twice.Goals as goal
 
 -- the procedures so far and one more

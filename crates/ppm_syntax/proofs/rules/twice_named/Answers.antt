@@ -1,4 +1,4 @@
-use Rattle.ppm_syntax.proofs.FindingLemmas.{twice_named}
+use Rattle.ppm_syntax.proofs.Regions.Searches.{twice_named}
 use Rattle.ppm_syntax.proofs.rules.twice_named.Goals as goal
 
 -- arrays, procedures, and the parameters of each

@@ -1,4 +1,4 @@
-use Rattle.ppm_syntax.proofs.FindingLemmas.{unknown_at}
+use Rattle.ppm_syntax.proofs.Regions.Searches.{unknown_at}
 use Rattle.ppm_syntax.proofs.rules.unknown_at.Goals as goal
 
 -- no parameter has the name

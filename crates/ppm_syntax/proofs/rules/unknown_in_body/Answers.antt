@@ -1,6 +1,6 @@
 use Rattle.ppm_syntax.specs.Tree.{statement_of}
 use Rattle.ppm_syntax.specs.Deciding.{UsesUnknown}
-use Rattle.ppm_syntax.proofs.DecidingLemmas.{least_more_map}
+use Rattle.ppm_syntax.proofs.Regions.FirstLines.{least_more_map}
 use Rattle.ppm_syntax.proofs.rules.unknown_in_body.Goals as goal
 
 -- the statements so far and one more

@@ -1,7 +1,7 @@
 use Rattle.ppm_syntax.specs.Tree.{procedure_of}
 use Rattle.ppm_syntax.specs.Deciding.{HasUnknown, UsesUnknown}
-use Rattle.ppm_syntax.proofs.DecidingLemmas.{least_more_map, least_all_map}
-use Rattle.ppm_syntax.proofs.FindingLemmas.{in_body, unknown_name}
+use Rattle.ppm_syntax.proofs.Regions.FirstLines.{least_more_map, least_all_map}
+use Rattle.ppm_syntax.proofs.Regions.Searches.{in_body, unknown_name}
 use Rattle.ppm_syntax.proofs.rules.unknown_name.Goals as goal
 
 -- the procedures so far and one more

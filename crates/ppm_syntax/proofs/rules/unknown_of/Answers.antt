@@ -1,5 +1,5 @@
 use Rattle.std.proofs.Common.{rules}
-use Rattle.ppm_syntax.proofs.FindingLemmas.{unknown_put}
+use Rattle.ppm_syntax.proofs.Regions.Searches.{unknown_put}
 use Rattle.ppm_syntax.proofs.rules.unknown_of.Goals as goal
 
 -- the name of what is written, or one in the index or the value

@@ -1,6 +1,6 @@
 use Rattle.ppm_syntax.specs.Tree.{statement_of}
 use Rattle.ppm_syntax.specs.Deciding.{WritesRef}
-use Rattle.ppm_syntax.proofs.DecidingLemmas.{least_more_map}
+use Rattle.ppm_syntax.proofs.Regions.FirstLines.{least_more_map}
 use Rattle.ppm_syntax.proofs.rules.write_to_ref_in.Goals as goal
 
 -- the statements so far and one more

@@ -1,5 +1,5 @@
-use Rattle.ppm_syntax.proofs.StopLemmas.{exit_by}
-use Rattle.ppm_syntax.proofs.StatementLemmas.{close_stops, block_read}
+use Rattle.ppm_syntax.proofs.Parts.Stops.{exit_by}
+use Rattle.ppm_syntax.proofs.Parts.Statements.{close_stops, block_read}
 use Rattle.ppm_syntax.proofs.statement.block.Goals as goal
 
 -- neither a statement follows, nor the brace that closes them

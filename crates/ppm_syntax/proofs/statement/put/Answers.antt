@@ -1,5 +1,5 @@
-use Rattle.ppm_syntax.proofs.StopLemmas.{exit_by}
-use Rattle.ppm_syntax.proofs.StatementLemmas.{index_stops, assign_stops, value_stops, put_read}
+use Rattle.ppm_syntax.proofs.Parts.Stops.{exit_by}
+use Rattle.ppm_syntax.proofs.Parts.Statements.{index_stops, assign_stops, value_stops, put_read}
 use Rattle.ppm_syntax.proofs.statement.put.Goals as goal
 
 -- the index stops

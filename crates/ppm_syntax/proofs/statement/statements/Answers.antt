@@ -2,8 +2,8 @@ use Rattle.std.proofs.Common.{rules}
 use Rattle.std.proofs.lemmas.List.Elements.{All-push}
 use Rattle.ppm_syntax.specs.Tree.{statement_of}
 use Rattle.ppm_syntax.specs.Limits.{IsSmallStatement}
-use Rattle.ppm_syntax.proofs.StopLemmas.{exit_by}
-use Rattle.ppm_syntax.proofs.StatementLemmas.{leads_next, mapped_push, next_shorter, next_stops, statements_read}
+use Rattle.ppm_syntax.proofs.Parts.Stops.{exit_by}
+use Rattle.ppm_syntax.proofs.Parts.Statements.{leads_next, mapped_push, next_shorter, next_stops, statements_read}
 use Rattle.ppm_syntax.proofs.statement.statements.Goals as goal
 
 -- behind a name the statement stops

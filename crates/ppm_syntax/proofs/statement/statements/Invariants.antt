@@ -2,7 +2,7 @@ use Rattle.std.proofs.Common.{length, map}
 use Rattle.std.specs.List.{All}
 use Rattle.ppm_syntax.specs.Tree.{statement_of}
 use Rattle.ppm_syntax.specs.Limits.{IsSmallStatement}
-use Rattle.ppm_syntax.proofs.StatementLemmas.{LeadsTo}
+use Rattle.ppm_syntax.proofs.Parts.Statements.{LeadsTo}
 use Rattle.ppm_syntax.proofs.statement.statements.Given as goal
 
 abbrev pub invariant-statements : goal.invariant-statements

@@ -2,7 +2,7 @@ use Rattle.std.proofs.Common.{rules, arith, inr}
 use Rattle.ppm_text.proofs.ScanLemmas.{front_keyword, front_is_name, front_short_name, front_long_name}
 use Rattle.ppm_text.proofs.scan.identifier_piece.Goals as goal
 
--- the word in front stands in the table
+-- the identifier in front stands in the table
 pub returns-in-Some : goal.returns-in-Some
 returns-in-Some c =
     let len = c.name_len-len.ensures.len in

@@ -1,0 +1,3 @@
+-- Runs: more turns, and what a run starts with.
+pub mod MoreTurns
+pub mod InitialArrays
