@@ -1,4 +1,3 @@
-pub mod GivenLemmas
-mod PassedRows
-mod PassedWords
+pub mod ApplicationLemmas
+pub mod OptionLemmas
 pub mod WordsLemmas

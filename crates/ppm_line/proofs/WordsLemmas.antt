@@ -3,7 +3,9 @@ use Rattle.std.proofs.Common.{◌≡◌, true, List, [], ◌∷◌, Option, None
 use Rattle.clap.specs.Words.{App, Kinds, IsAmong, Text, Row, fault_of, is_simple, is_simple_and_free, subcommand_of}
 use Rattle.clap.proofs.OnLiterals.{clap_on_literals}
 use Rattle.ppm_line.specs.declared.command.Command.{Command}
-use Rattle.ppm_line.specs.Words.{ppm_application, command_in, without_fault, command_of}
+use Rattle.ppm_line.specs.Application.{application_of, ppm_application}
+use Rattle.ppm_line.specs.CommandLine.{command_line}
+use Rattle.ppm_line.specs.Words.{command_in, without_fault, command_of}
 
 -- clap's law of a parse holds for the program
 pub ppm_is_simple : is_simple ppm_application ≡ true
@@ -14,6 +16,11 @@ ppm_is_simple = refl
 pub ppm_is_free : is_simple_and_free ppm_application ≡ true
 unfolding clap_on_literals
 ppm_is_free = refl
+
+-- both hold for the whole table
+pub all_is_free : is_simple_and_free (application_of command_line) ≡ true
+unfolding clap_on_literals
+all_is_free = refl
 
 -- words without a fault give the command of the subcommand that was met
 pub given : (a : App) (words : List Text) (rows : Option (Text × List Row)) (command : Option Command) → a ≡ ppm_application →

@@ -1,2 +1,3 @@
-pub mod Given
+pub mod Application
+pub mod CommandLine
 pub mod Words

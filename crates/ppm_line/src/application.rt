@@ -1,9 +1,11 @@
 //! The program and its subcommands, as clap is told of them.
-ghost use Rattle.std.specs.Prelude.{◌≡◌, IfOk, false};
-ghost use Rattle.clap.specs.Words.{app_of, rule_of};
+ghost use Rattle.std.specs.Prelude.{◌≡◌, IfOk, false, map};
+ghost use Rattle.clap.specs.Words.{app_of, new_app, rule_of};
 ghost use Rattle.clap.specs.declared.builder.command.Command.TheViews.{out-Command as fields_of};
-ghost use Rattle.ppm_line.specs.Words.{bare_application, ppm_application, processors, run_application};
+ghost use Rattle.ppm_line.specs.Application.{argument_of, bare_application, ppm_application, row_of, with_options as with_rows};
 
+use crate::table::{NumberOption, RUN_OPTIONS};
+use clap::builder::ValueParser;
 use clap::{Arg, ArgAction, Command};
 use std::alloc::{AllocError, Global};
 
@@ -11,7 +13,7 @@ use std::alloc::{AllocError, Global};
 pub(crate) fn ppm_command<'a>(alloc: Global) -> Result<Command<'a>, AllocError>
     ensures { IfOk result (λ c. app_of c ≡ ppm_application) }
 {
-    let run = run_command(alloc)?;
+    let run = command_with(alloc, "run", &RUN_OPTIONS)?;
     let ppm = bare_command(alloc).subcommand(run)?;
     Ok(ppm)
 }
@@ -24,22 +26,33 @@ fn bare_command<'a>(alloc: Global) -> Command<'a>
     Command::new(alloc, "ppm").disable_help_subcommand(true)
 }
 
-/// The subcommand `run`.
-fn run_command<'a>(alloc: Global) -> Result<Command<'a>, AllocError>
-    ensures app { IfOk result (λ c. app_of c ≡ run_application) }
+/// The subcommand of this name with these options.
+fn command_with<'a>(
+    alloc: Global,
+    name: &'a str,
+    options: &[NumberOption],
+) -> Result<Command<'a>, AllocError>
+    ensures app { IfOk result (λ c. app_of c ≡ with_rows (new_app name.entry.now) (map row_of options.now)) }
     ensures local { IfOk result (λ c. (fields_of c).has_globals ≡ false) }
 {
-    Command::new(alloc, "run").arg(processors_argument(alloc))
+    let mut command = Command::new(alloc, name);
+    for option in options {
+        command = command.arg(argument(alloc, *option))?;
+    }
+    Ok(command)
 }
 
-/// How many processors there are: from 1 to 1.
-fn processors_argument<'a>(alloc: Global) -> Arg<'a>
-    ensures rule { rule_of result ≡ processors }
+/// The argument that an option is.
+fn argument<'a>(alloc: Global, option: NumberOption) -> Arg<'a>
+    ensures rule { rule_of result ≡ argument_of (row_of option) }
     ensures local { result.global ≡ false }
 {
-    Arg::new(alloc, "processors")
-        .long("processors")
+    Arg::new(alloc, option.name)
+        .long(option.name)
         .action(ArgAction::Set)
-        .value_parser(clap::value_parser!(u32).range(1..=1))
-        .default_value("1")
+        .value_parser(ValueParser::Unsigned(
+            u64::from(option.low),
+            u64::from(option.high),
+        ))
+        .default_value(option.default)
 }

@@ -9,6 +9,7 @@
 mod application;
 mod command;
 mod line;
+mod table;
 
 pub use command::{Command, RunOptions};
 pub use line::read_words;
