@@ -1,7 +1,16 @@
-//! The options that the words may give, as rows.
+//! The commands and options that the words may give, as rows.
 
 /// The most processors that a run may have.
-pub(crate) const MOST_PROCESSORS: u32 = 1;
+const MOST_PROCESSORS: u32 = 1;
+
+/// A command: its name and its options.
+#[derive(Clone, Copy, Debug)]
+pub(crate) struct CommandRow {
+    /// Its name.
+    pub(crate) name: &'static str,
+    /// Its options.
+    pub(crate) options: &'static [NumberOption],
+}
 
 /// An option `--name` whose value is a whole number.
 #[derive(Clone, Copy, Debug)]
@@ -24,5 +33,8 @@ pub(crate) const PROCESSORS: NumberOption = NumberOption {
     default: "1",
 };
 
-/// The options of `run`.
-pub(crate) const RUN_OPTIONS: [NumberOption; 1] = [PROCESSORS];
+/// The commands.
+pub(crate) const COMMANDS: [CommandRow; 1] = [CommandRow {
+    name: "run",
+    options: &[PROCESSORS],
+}];
