@@ -1,3 +1,4 @@
 pub mod ApplicationLemmas
 pub mod OptionLemmas
+mod TableLemmas
 pub mod WordsLemmas
