@@ -1,4 +1,4 @@
 pub mod ApplicationLemmas
 pub mod OptionLemmas
-mod TableLemmas
+pub mod TableLemmas
 pub mod WordsLemmas

@@ -6,7 +6,7 @@ use Rattle.clap.specs.Faults.{has_free_rules}
 use Rattle.clap.specs.Simple.{built_leaf, filled_from, help_rule, inherited, is_ready_leaf, is_simple_leaf, marked_built, with_leaf_noted}
 use Rattle.clap.specs.Simple.{new_shape}
 use Rattle.clap.specs.Words.{App, Shape, Text, is_simple_and_free}
-use Rattle.ppm_line.specs.Application.{application_of, argument_of, bare_application, subcommand_of_row, with_commands, with_options}
+use Rattle.ppm_line.specs.Application.{application_of, argument_of, bare_application, with_commands, with_options}
 use Rattle.ppm_line.specs.CommandLine.{CommandRule, OptionRule}
 
 -- ---- what the folds make

@@ -29,12 +29,12 @@ abbrev pub with_options : App → List OptionRule → App
 with_options a options = fold (λ b o. with_rule b (argument_of o)) a options
 
 -- the subcommand that a command is
-abbrev pub subcommand_of_row : CommandRule → App
-subcommand_of_row c = with_options (new_app c.name) c.options
+abbrev pub command_application : CommandRule → App
+command_application c = with_options (new_app c.name) c.options
 
 -- an application with these commands more
 abbrev pub with_commands : App → List CommandRule → App
-with_commands a commands = fold (λ b c. with_subcommand b (subcommand_of_row c).top) a commands
+with_commands a commands = fold (λ b c. with_subcommand b (command_application c).top) a commands
 
 -- the program alone, without clap's subcommand `help`
 abbrev pub bare_application : App
@@ -49,8 +49,8 @@ abbrev pub ppm_application : App
 ppm_application = application_of (admitted command_line)
 
 -- the rows of the table that a number option and a command of the source are
-abbrev pub option_row : NumberOption → OptionRule
-option_row o = record { name = o.name.now; form = Number o.low o.high; default = o.default.now; admitted = true }
+abbrev pub option_rule : NumberOption → OptionRule
+option_rule o = record { name = o.name.now; form = Number o.low o.high; default = o.default.now; admitted = true }
 
-abbrev pub command_row : CommandRow → CommandRule
-command_row c = record { name = c.name.now; options = map option_row c.options.now; admitted = true }
+abbrev pub command_rule : CommandRow → CommandRule
+command_rule c = record { name = c.name.now; options = map option_rule c.options.now; admitted = true }

@@ -1,4 +1,4 @@
--- The command line as a table: the nine commands, their options with ranges and defaults, and which of these are admitted today.
+-- The command line as a table of rules: the nine commands, their options with ranges and defaults, and which of these are admitted today.
 use Prim.Native.String.{String}
 use Rattle.std.specs.Prelude.{ℕ, Bool, true, false, List, [], ◌∷◌, codes, decimal, filter, map}
 use Rattle.clap.specs.Words.{Text}
@@ -58,49 +58,64 @@ later_command name options = record (command name options) { admitted = false }
 abbrev pub most_processors : ℕ
 most_processors = 1
 
+-- how many processors run
 abbrev pub processors : OptionRule
 processors = number "processors" 1 most_processors 1
 
+-- how many run where all words are written out or the input is made
+abbrev pub few_processors : OptionRule
+few_processors = number "processors" 1 16 4
+
+-- the most turns: of work by each processor, of a serial run, or the acts of a replay
 abbrev pub turns : OptionRule
 turns = number "turns" 1 268435456 16777216
 
+-- the words of a place's pool of blocks
 abbrev pub room : OptionRule
 room = number "room" 64 1048576 65536
 
+-- the entries of a place's deque
 abbrev pub slots : OptionRule
 slots = number "slots" 2 65536 4096
 
+-- how many looks in a row a processor makes before it leaves or parks
 abbrev pub looks : OptionRule
 looks = number "looks" 1 1048576 1000
 
+-- where the random words begin
 abbrev pub seed : OptionRule
 seed = number "seed" 0 4294967295 1
 
+-- the plan of faults
 abbrev pub faults : OptionRule
 faults = text "faults" "none"
 
+-- the schedule of acts
 abbrev pub schedule : OptionRule
 schedule = text "schedule" "none"
 
+-- what is taken over of a dead processor: its place, or the entries of its deque
 abbrev pub takeover : OptionRule
 takeover = choice "takeover" "place" "entry"
 
+-- what a processor does that finds no work: it leaves, or it parks
 abbrev pub idle : OptionRule
 idle = choice "idle" "leave" "park"
 
 -- ---- the commands
 
+-- the whole command line; a word `later` is taken away where its rule is admitted
 abbrev pub command_line : List CommandRule
 command_line =
     command "run"
-      (processors ∷ later turns ∷ later room ∷ later slots ∷ later looks ∷ later seed ∷ later faults ∷ later takeover ∷ later idle ∷ [])
+    (processors ∷ later turns ∷ later room ∷ later slots ∷ later looks ∷ later seed ∷ later faults ∷ later takeover ∷ later idle ∷ [])
     ∷ later_command "serial" (turns ∷ [])
     ∷ later_command "code" []
     ∷ later_command "check" []
     ∷ later_command "replay" (processors ∷ turns ∷ room ∷ slots ∷ takeover ∷ schedule ∷ [])
-    ∷ later_command "self" (number "processors" 1 16 4 ∷ number "size" 1 4096 64 ∷ seed ∷ number "count" 0 4096 0 ∷ [])
+    ∷ later_command "self" (few_processors ∷ number "size" 1 4096 64 ∷ seed ∷ number "count" 0 4096 0 ∷ [])
     ∷ later_command "stop"
-      (number "processors" 1 16 4 ∷ number "after" 0 268435456 0 ∷ number "room" 64 65536 16384 ∷ number "slots" 2 4096 256 ∷ schedule ∷ [])
+    (few_processors ∷ number "after" 0 268435456 0 ∷ number "room" 64 65536 16384 ∷ number "slots" 2 4096 256 ∷ schedule ∷ [])
     ∷ later_command "resume" (turns ∷ looks ∷ seed ∷ faults ∷ [])
     ∷ later_command "ram" (processors ∷ turns ∷ room ∷ slots ∷ looks ∷ seed ∷ faults ∷ takeover ∷ idle ∷ [])
     ∷ []

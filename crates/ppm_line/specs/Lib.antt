@@ -1,3 +1,4 @@
 pub mod Application
 pub mod CommandLine
+pub mod Sound
 pub mod Words

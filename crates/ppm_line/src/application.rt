@@ -2,8 +2,8 @@
 ghost use Rattle.std.specs.Prelude.{◌≡◌, IfOk, false, map};
 ghost use Rattle.clap.specs.Words.{app_of, rule_of};
 ghost use Rattle.clap.specs.declared.builder.command.Command.TheViews.{out-Command as fields_of};
-ghost use Rattle.ppm_line.specs.Application.{argument_of, bare_application, command_row, option_row};
-ghost use Rattle.ppm_line.specs.Application.{ppm_application, subcommand_of_row, with_commands};
+ghost use Rattle.ppm_line.specs.Application.{argument_of, bare_application, command_rule, option_rule};
+ghost use Rattle.ppm_line.specs.Application.{ppm_application, command_application, with_commands};
 
 use crate::table::{COMMANDS, CommandRow, NumberOption};
 use clap::builder::ValueParser;
@@ -30,7 +30,7 @@ fn with_subcommands<'a>(
     mut program: Command<'a>,
     commands: &[CommandRow],
 ) -> Result<Command<'a>, AllocError>
-    ensures { IfOk result (λ c. app_of c ≡ with_commands (app_of program.entry) (map command_row commands.now)) }
+    ensures { IfOk result (λ c. app_of c ≡ with_commands (app_of program.entry) (map command_rule commands.now)) }
 {
     for command in commands {
         program = program.subcommand(subcommand(alloc, *command)?)?;
@@ -40,7 +40,7 @@ fn with_subcommands<'a>(
 
 /// The subcommand that a command is.
 fn subcommand<'a>(alloc: Global, command: CommandRow) -> Result<Command<'a>, AllocError>
-    ensures app { IfOk result (λ c. app_of c ≡ subcommand_of_row (command_row command)) }
+    ensures app { IfOk result (λ c. app_of c ≡ command_application (command_rule command)) }
     ensures local { IfOk result (λ c. (fields_of c).has_globals ≡ false) }
 {
     let mut made = Command::new(alloc, command.name);
@@ -52,15 +52,12 @@ fn subcommand<'a>(alloc: Global, command: CommandRow) -> Result<Command<'a>, All
 
 /// The argument that an option is.
 fn argument<'a>(alloc: Global, option: NumberOption) -> Arg<'a>
-    ensures rule { rule_of result ≡ argument_of (option_row option) }
+    ensures rule { rule_of result ≡ argument_of (option_rule option) }
     ensures local { result.global ≡ false }
 {
     Arg::new(alloc, option.name)
         .long(option.name)
         .action(ArgAction::Set)
-        .value_parser(ValueParser::Unsigned(
-            u64::from(option.low),
-            u64::from(option.high),
-        ))
+        .value_parser(ValueParser::Unsigned(u64::from(option.low), u64::from(option.high)))
         .default_value(option.default)
 }

@@ -1,7 +1,7 @@
 //! What the words of the command line ask for.
 ghost use Rattle.std.specs.Prelude.{◌≡◌, ◌≤◌, IfSome};
 ghost use Rattle.clap.specs.Words.{found_of, rows_of, subcommand_rows_of};
-ghost use Rattle.ppm_line.specs.Application.{option_row};
+ghost use Rattle.ppm_line.specs.Application.{option_rule};
 ghost use Rattle.ppm_line.specs.Words.{IsInRange, command_in, command_named as named_by, kept_in as kept, number_given, run_options as options_in};
 
 use crate::table::{NumberOption, PROCESSORS};
@@ -54,7 +54,7 @@ fn run_options(matches: &ArgMatches<'_>) -> Option<RunOptions>
 
 /// The number of an option in the matches of its command, if its text writes one in the option's range.
 fn number_of(matches: &ArgMatches<'_>, option: NumberOption) -> Option<u32>
-    ensures value { result ≡ number_given (option_row option) (rows_of (found_of matches.now)) }
+    ensures value { result ≡ number_given (option_rule option) (rows_of (found_of matches.now)) }
     ensures in_range { IfSome result (λ n. (option.low ≤ n) × (n ≤ option.high)) }
 {
     let number = matches.get_one::<u32>(option.name)?;
