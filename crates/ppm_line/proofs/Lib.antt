@@ -1,4 +1,4 @@
-pub mod GivenLemmas
-mod PassedRows
-mod PassedWords
+pub mod ApplicationLemmas
+pub mod OptionLemmas
+pub mod TableLemmas
 pub mod WordsLemmas

@@ -1,19 +1,19 @@
 -- What a parse says of the command that the words give.
 use Rattle.std.proofs.Common.{◌≡◌, true, List, [], ◌∷◌, Option, None, refl, sym, ap, ◌∙◌, subst}
 use Rattle.clap.specs.Words.{App, Kinds, IsAmong, Text, Row, fault_of, is_simple, is_simple_and_free, subcommand_of}
-use Rattle.clap.proofs.OnLiterals.{clap_on_literals}
+use Rattle.clap.proofs.WalkLemmas.{both}
 use Rattle.ppm_line.specs.declared.command.Command.{Command}
-use Rattle.ppm_line.specs.Words.{ppm_application, command_in, without_fault, command_of}
+use Rattle.ppm_line.specs.Application.{ppm_application}
+use Rattle.ppm_line.specs.CommandLine.{admitted, command_line}
+use Rattle.ppm_line.proofs.TableLemmas.{table_is_free}
+use Rattle.ppm_line.specs.Words.{command_in, without_fault, command_of}
 
--- clap's law of a parse holds for the program
-pub ppm_is_simple : is_simple ppm_application ≡ true
-unfolding clap_on_literals
-ppm_is_simple = refl
-
--- and so does its law of refusals
+-- clap's laws of refusals and of a parse hold for the program
 pub ppm_is_free : is_simple_and_free ppm_application ≡ true
-unfolding clap_on_literals
-ppm_is_free = refl
+ppm_is_free = table_is_free (admitted command_line)
+
+pub ppm_is_simple : is_simple ppm_application ≡ true
+ppm_is_simple = (both _ _ ppm_is_free).0
 
 -- words without a fault give the command of the subcommand that was met
 pub given : (a : App) (words : List Text) (rows : Option (Text × List Row)) (command : Option Command) → a ≡ ppm_application →

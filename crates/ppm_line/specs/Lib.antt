@@ -1,2 +1,4 @@
-pub mod Given
+pub mod Application
+pub mod CommandLine
+pub mod Sound
 pub mod Words

@@ -1,58 +1,43 @@
 -- The command that the words of the command line give, as clap reads them.
-use Rattle.std.specs.Prelude.{◌≤◌, ℕ, pos, true, List, [], ◌∷◌, Option, Some, None, codes, if◌then◌else◌}
-use Rattle.std.specs.Option.{option_map_or}
+use Rattle.std.specs.Prelude.{◌≤◌, ℕ, List, [], ◌∷◌, Option, Some, None, codes, if◌then◌else◌, nat_le, ◌&&◌, option_and_then, option_map}
 use Rattle.std.specs.Str.{bytes_eq}
 use Rattle.std.specs.Str.Parse.{digits_value, without_leading_plus}
-use Rattle.clap.specs.Words.{App, Kinds, Row, Rule, Text, fault_of, new_app, new_rule, one_of, subcommand_of, with_rule, with_subcommand}
-use Rattle.clap.specs.Simple.{on_top}
-use Rattle.clap.specs.declared.builder.ArgAction.TheVariants.{Set}
-use Rattle.clap.specs.declared.builder.value_parser.ValueParser.TheVariants as parsers
+use Rattle.clap.specs.Words.{Kinds, Row, Text, fault_of, one_of, subcommand_of}
+use Rattle.clap.specs.ValueTests.{is_unsigned_in}
+use Rattle.ppm_line.specs.Application.{ppm_application}
+use Rattle.ppm_line.specs.CommandLine.{Form, Number, OptionRule, processors}
 use Rattle.ppm_line.specs.declared.command.Command.{Command}
 use Rattle.ppm_line.specs.declared.command.Command.TheVariants as commands
 use Rattle.ppm_line.specs.declared.command.RunOptions.{RunOptions}
-
--- the most processors that a run may have
-abbrev pub most_processors : ℕ
-most_processors = 1
-
--- the option `--processors`: a whole number from 1 to the most, and 1 where it is not given
-abbrev pub processors : Rule
-processors = record (new_rule (codes "processors")) {
-  long = Some (codes "processors");
-  action = Some Set;
-  parser = Some (parsers.Signed (pos 1) (pos most_processors));
-  defaults = codes "1" ∷ [];
-}
-
--- the subcommand `run` with its option
-abbrev pub run_application : App
-run_application = with_rule (new_app (codes "run")) processors
-
--- the program alone, without clap's subcommand `help`
-abbrev pub bare_application : App
-bare_application = on_top (λ s. record s { disable_help_subcommand = true }) (new_app (codes "ppm"))
-
--- the program with its subcommands
-abbrev pub ppm_application : App
-ppm_application = with_subcommand bare_application run_application.top
 
 -- the number that decimal digits write; a plus may stand in front
 abbrev pub number_of : Text → ℕ
 number_of text = digits_value 10 (without_leading_plus text)
 
--- The options of `run` in its matches. Of `--processors` it is the value that the words give, and else the default, which clap puts
--- among the matches. So there is always one, and 0 stands for none: it is out of the range.
-abbrev pub options_in : List Row → RunOptions
-options_in rows = record { processors = option_map_or number_of (one_of (codes "processors") rows) 0 }
+-- the number that a text writes, if it writes one in the range of the form
+abbrev pub number_in : Form → Text → Option ℕ
+number_in (Number low high) text = if is_unsigned_in low high text then Some (number_of text) else None
+number_in _ text = None
+
+-- the number, if it is in the range
+abbrev pub kept_in : ℕ → ℕ → ℕ → Option ℕ
+kept_in low high n = if nat_le low n && nat_le n high then Some n else None
+
+-- the number of an option in the matches of its command: clap puts the default there where the words do not give the option
+abbrev pub number_given : OptionRule → List Row → Option ℕ
+number_given o rows = option_and_then (number_in o.form) (one_of o.name rows)
+
+-- the options of `run`, if each has a value of its form
+abbrev pub run_options : List Row → Option RunOptions
+run_options rows = option_map (λ n. record { processors = n }) (number_given processors rows)
 
 -- the command of this name, with the options in its matches
 abbrev pub command_named : Text → List Row → Option Command
-command_named name rows = if bytes_eq name (codes "run") then Some (commands.Run (options_in rows)) else None
+command_named name rows = if bytes_eq name (codes "run") then option_map (λ o. commands.Run o) (run_options rows) else None
 
 -- the command of the subcommand that was met, with its options
 abbrev pub command_in : Option (Text × List Row) → Option Command
-command_in None = None
-command_in (Some met) = command_named met.0 met.1
+command_in met = option_and_then (λ m. command_named m.0 m.1) met
 
 -- what words without a fault give; words with faults give no command
 abbrev pub without_fault : Kinds → Option Command → Option Command
@@ -63,6 +48,11 @@ without_fault (k ∷ kinds) command = None
 abbrev pub command_of : List Text → Option Command
 command_of words = without_fault (fault_of ppm_application words) (command_in (subcommand_of ppm_application words))
 
+-- the number is in the range of the option
+abbrev pub IsOfForm : Form → ℕ → Type 0
+IsOfForm (Number low high) n = (low ≤ n) × (n ≤ high)
+IsOfForm _ n = ⊥
+
 -- each option of the command is in its range
 abbrev pub IsInRange : Command → Type 0
-IsInRange (commands.Run options) = (1 ≤ options.processors) × (options.processors ≤ most_processors)
+IsInRange (commands.Run options) = IsOfForm processors.form options.processors

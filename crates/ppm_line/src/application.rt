@@ -1,45 +1,63 @@
 //! The program and its subcommands, as clap is told of them.
-ghost use Rattle.std.specs.Prelude.{◌≡◌, IfOk, false};
+ghost use Rattle.std.specs.Prelude.{◌≡◌, IfOk, false, map};
 ghost use Rattle.clap.specs.Words.{app_of, rule_of};
 ghost use Rattle.clap.specs.declared.builder.command.Command.TheViews.{out-Command as fields_of};
-ghost use Rattle.ppm_line.specs.Words.{bare_application, ppm_application, processors, run_application};
+ghost use Rattle.ppm_line.specs.Application.{argument_of, bare_application, command_rule, option_rule};
+ghost use Rattle.ppm_line.specs.Application.{ppm_application, command_application, with_commands};
 
+use crate::table::{COMMANDS, CommandRow, NumberOption};
+use clap::builder::ValueParser;
 use clap::{Arg, ArgAction, Command};
 use std::alloc::{AllocError, Global};
 
-/// The program `ppm` with its subcommands. It has no subcommand `help`.
+/// The program `ppm` with the commands of the table.
 pub(crate) fn ppm_command<'a>(alloc: Global) -> Result<Command<'a>, AllocError>
     ensures { IfOk result (λ c. app_of c ≡ ppm_application) }
 {
-    let run = run_command(alloc)?;
-    let ppm = bare_command(alloc).subcommand(run)?;
-    Ok(ppm)
+    with_subcommands(alloc, bare_command(alloc), &COMMANDS)
 }
 
-/// The program `ppm` alone.
+/// The program `ppm` alone. It has no subcommand `help`.
 fn bare_command<'a>(alloc: Global) -> Command<'a>
     ensures app { app_of result ≡ bare_application }
-    ensures local { (fields_of result).has_globals ≡ false }
 {
     Command::new(alloc, "ppm").disable_help_subcommand(true)
 }
 
-/// The subcommand `run`.
-fn run_command<'a>(alloc: Global) -> Result<Command<'a>, AllocError>
-    ensures app { IfOk result (λ c. app_of c ≡ run_application) }
-    ensures local { IfOk result (λ c. (fields_of c).has_globals ≡ false) }
+/// The program with these commands more.
+fn with_subcommands<'a>(
+    alloc: Global,
+    mut program: Command<'a>,
+    commands: &[CommandRow],
+) -> Result<Command<'a>, AllocError>
+    ensures { IfOk result (λ c. app_of c ≡ with_commands (app_of program.entry) (map command_rule commands.now)) }
 {
-    Command::new(alloc, "run").arg(processors_argument(alloc))
+    for command in commands {
+        program = program.subcommand(subcommand(alloc, *command)?)?;
+    }
+    Ok(program)
 }
 
-/// How many processors there are: from 1 to 1.
-fn processors_argument<'a>(alloc: Global) -> Arg<'a>
-    ensures rule { rule_of result ≡ processors }
+/// The subcommand that a command is.
+fn subcommand<'a>(alloc: Global, command: CommandRow) -> Result<Command<'a>, AllocError>
+    ensures app { IfOk result (λ c. app_of c ≡ command_application (command_rule command)) }
+    ensures local { IfOk result (λ c. (fields_of c).has_globals ≡ false) }
+{
+    let mut made = Command::new(alloc, command.name);
+    for option in command.options {
+        made = made.arg(argument(alloc, *option))?;
+    }
+    Ok(made)
+}
+
+/// The argument that an option is.
+fn argument<'a>(alloc: Global, option: NumberOption) -> Arg<'a>
+    ensures rule { rule_of result ≡ argument_of (option_rule option) }
     ensures local { result.global ≡ false }
 {
-    Arg::new(alloc, "processors")
-        .long("processors")
+    Arg::new(alloc, option.name)
+        .long(option.name)
         .action(ArgAction::Set)
-        .value_parser(clap::value_parser!(u32).range(1..=1))
-        .default_value("1")
+        .value_parser(ValueParser::Unsigned(u64::from(option.low), u64::from(option.high)))
+        .default_value(option.default)
 }

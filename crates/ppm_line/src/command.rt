@@ -1,9 +1,10 @@
 //! What the words of the command line ask for.
-ghost use Rattle.std.specs.Prelude.{◌≡◌, IfSome};
+ghost use Rattle.std.specs.Prelude.{◌≡◌, ◌≤◌, IfSome};
 ghost use Rattle.clap.specs.Words.{found_of, rows_of, subcommand_rows_of};
-ghost use Rattle.ppm_line.specs.Given.{HasOptions, HasProcessors};
-ghost use Rattle.ppm_line.specs.Words.{IsInRange, command_in, command_named as named_by, options_in};
+ghost use Rattle.ppm_line.specs.Application.{option_rule};
+ghost use Rattle.ppm_line.specs.Words.{IsInRange, command_in, command_named as named_by, kept_in as kept, number_given, run_options as options_in};
 
+use crate::table::{NumberOption, PROCESSORS};
 use clap::ArgMatches;
 
 /// What the program is asked for.
@@ -22,7 +23,6 @@ pub struct RunOptions {
 
 /// The command of the subcommand that was met, with its options.
 pub(crate) fn command_by(matches: &ArgMatches<'_>) -> Option<Command>
-    requires { HasOptions (subcommand_rows_of matches.now) }
     ensures value { result ≡ command_in (subcommand_rows_of matches.now) }
     ensures in_range { IfSome result IsInRange }
 {
@@ -34,24 +34,41 @@ pub(crate) fn command_by(matches: &ArgMatches<'_>) -> Option<Command>
 
 /// The command of this name, with the options in its matches.
 fn command_named(name: &str, matches: &ArgMatches<'_>) -> Option<Command>
-    requires { HasProcessors (rows_of (found_of matches.now)) }
     ensures value { result ≡ named_by name.now (rows_of (found_of matches.now)) }
     ensures in_range { IfSome result IsInRange }
 {
     match name {
-        "run" => Some(Command::Run(run_options(matches))),
+        "run" => Some(Command::Run(run_options(matches)?)),
         _ => None,
     }
 }
 
 /// The options of `run` in its matches.
-fn run_options(matches: &ArgMatches<'_>) -> RunOptions
-    requires { HasProcessors (rows_of (found_of matches.now)) }
+fn run_options(matches: &ArgMatches<'_>) -> Option<RunOptions>
     ensures value { result ≡ options_in (rows_of (found_of matches.now)) }
-    ensures in_range { IsInRange (Command.Run result) }
+    ensures in_range { IfSome result (λ o. IsInRange (Command.Run o)) }
 {
-    match matches.get_one::<u32>("processors") {
-        Some(processors) => RunOptions { processors },
-        None => unreachable!(),
+    let processors = number_of(matches, PROCESSORS)?;
+    Some(RunOptions { processors })
+}
+
+/// The number of an option in the matches of its command, if its text writes one in the option's range.
+fn number_of(matches: &ArgMatches<'_>, option: NumberOption) -> Option<u32>
+    ensures value { result ≡ number_given (option_rule option) (rows_of (found_of matches.now)) }
+    ensures in_range { IfSome result (λ n. (option.low ≤ n) × (n ≤ option.high)) }
+{
+    let number = matches.get_one::<u32>(option.name)?;
+    kept_in(number, option.low, option.high)
+}
+
+/// The number, if it is in the range.
+fn kept_in(number: u32, low: u32, high: u32) -> Option<u32>
+    ensures value { result ≡ kept low high number }
+    ensures in_range { IfSome result (λ n. (low ≤ n) × (n ≤ high)) }
+{
+    if low <= number && number <= high {
+        Some(number)
+    } else {
+        None
     }
 }

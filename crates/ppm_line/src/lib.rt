@@ -1,16 +1,18 @@
 //! The words of the command line, and the command that they give.
-//! Model: the words are the list of their texts; the program and its subcommands are applications of `clap` (`specs/Words`).
-//! Contract: the command and its options are those that `clap` finds in the words, each option in its range; where the
-//! words are refused there is none.
-//! Stands on `clap` and `ppm_words`; `ppm_top` calls it.
-//! After clap's builder; the commands, their options and their ranges are this project's.
+//! Model: the words are the list of their texts; the commands are a table of rules (`specs/CommandLine`), and the admitted
+//! ones are an application of `clap` (`specs/Application`).
+//! Contract: the command is that which `clap` finds in the words, each option in its range, else none (`specs/Words`).
+//! Stands on `clap` and `ppm_words`; `ppm_top` calls it. After clap's builder; the table is this project's.
 #![tactic(auto)]
 
 mod application;
 mod command;
+mod laws;
 mod line;
+mod table;
 
 pub use command::{Command, RunOptions};
+pub use laws::any_rule_may_be_admitted;
 pub use line::read_words;
 
 #[cfg(test)]

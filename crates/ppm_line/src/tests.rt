@@ -1,5 +1,5 @@
 //! The words that clap's documentation takes and refuses.
-use crate::{Command, RunOptions, read_words};
+use crate::{Command, RunOptions, any_rule_may_be_admitted, read_words};
 use std::alloc::Global;
 use std::test::Fail;
 
@@ -15,7 +15,7 @@ fn command_of_words(alloc: Global, words: &[&str]) -> Result<Option<Command>, Fa
 #[test]
 fn words_give_run_or_no_command(rt: HostRuntime) -> Result<(), Fail> {
     let runs = Some(Command::Run(RunOptions { processors: 1 }));
-    let cases: [(&[&str], Option<Command>); 20] = [
+    let cases: [(&[&str], Option<Command>); 24] = [
         (&["ppm", "run"], runs),
         (&["any", "run"], runs),
         (&["ppm", "run", "--processors", "1"], runs),
@@ -31,9 +31,13 @@ fn words_give_run_or_no_command(rt: HostRuntime) -> Result<(), Fail> {
             None,
         ),
         (&["ppm", "--processors", "1", "run"], None),
+        (&["ppm", "run", "--processors=-1"], None),
+        (&["ppm", "run", "--turns", "5"], None),
         (&["ppm", "run", "x"], None),
         (&["ppm", "run", "--processors", "1", "x"], None),
-        (&["ppm", "walk"], None),
+        (&["ppm", "serial"], None),
+        (&["ppm", "check"], None),
+        (&["ppm", "runs"], None),
         (&["ppm"], None),
         (&["ppm", "--help"], None),
         (&["ppm", "run", "--help"], None),
@@ -46,4 +50,9 @@ fn words_give_run_or_no_command(rt: HostRuntime) -> Result<(), Fail> {
     }
     assert_eq!(rt; command_of_words(rt.alloc(), &[])?, None);
     Ok(())
+}
+
+#[test]
+fn laws_are_called(_rt: HostRuntime) {
+    any_rule_may_be_admitted();
 }

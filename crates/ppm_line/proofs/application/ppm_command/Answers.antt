@@ -1,9 +1,12 @@
-use Rattle.std.proofs.Common.{ap, ap₂, ◌∙◌}
-use Rattle.clap.specs.Words.{App, with_subcommand}
+use Rattle.std.proofs.Common.{◌≡◌, IfOk, subst}
+use Rattle.std.specs.Fmt.{digits}
+use Rattle.clap.specs.Words.{app_of}
+use Rattle.ppm_line.specs.Application.{with_commands}
+use Rattle.ppm_line.specs.CommandLine.{admitted, command_line}
 use Rattle.ppm_line.proofs.application.ppm_command.Goals as goal
 
--- the program gets the subcommand
+-- the rows of the source are the admitted ones
 pub returns : goal.returns
+unfolding digits
 returns c =
-    let run_top = ap (λ (a : App). a.top) c.in_ok-run.ensures.app in
-    c.in_ok-ppm.ensures.shape c.in_ok-run.ensures.local ∙ ap₂ with_subcommand c.bare_command.ensures.app run_top
+    subst (λ b. IfOk c.with_subcommands.result (λ m. app_of m ≡ with_commands b (admitted command_line))) c.bare_command.ensures.app c.with_subcommands.ensures

@@ -1,14 +1,7 @@
 use Rattle.std.proofs.Common.{ap, ◌∙◌, inl, inr}
 use Rattle.clap.specs.Words.{is_simple, is_simple_and_free}
-use Rattle.ppm_line.proofs.GivenLemmas.{has_options}
 use Rattle.ppm_line.proofs.WordsLemmas.{ppm_is_simple, ppm_is_free, given, refused}
 use Rattle.ppm_line.proofs.line.read_words.Goals as goal
-
--- words without a fault give the subcommand its options
-pub command_by-requires : goal.command_by-requires
-command_by-requires c =
-    has_options _ _ _ c.in_ok-ppm.ensures (c.in-Ok.ensures.kinds (ap is_simple_and_free c.in_ok-ppm.ensures ∙ ppm_is_free))
-    (c.in-Ok.ensures.matches (ap is_simple c.in_ok-ppm.ensures ∙ ppm_is_simple)).1
 
 -- a parse without an error gives the command of its matches
 pub returns-in-Ok-clause-value : goal.returns-in-Ok-clause-value

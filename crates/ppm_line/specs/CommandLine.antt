@@ -1,0 +1,129 @@
+-- The command line as a table of rules: the nine commands, their options with ranges and defaults, and which of these are admitted today.
+use Prim.Native.String.{String}
+use Rattle.std.specs.Prelude.{ℕ, Bool, true, false, List, [], ◌∷◌, codes, decimal, filter, map}
+use Rattle.clap.specs.Words.{Text}
+
+-- what the value of an option is: a whole number from the least to the most, one of these words, or any text
+pub data Form : Type 0 where
+  Number : ℕ → ℕ → Form
+  Choice : List Text → Form
+  AnyText : Form
+
+-- an option `--name`: the form of its value, and the word that stands for the value where the option is not given
+pub record OptionRule : Type 0 where
+  pub name : Text
+  pub form : Form
+  pub default : Text
+  pub admitted : Bool
+
+-- a command: its name and its options
+pub record CommandRule : Type 0 where
+  pub name : Text
+  pub options : List OptionRule
+  pub admitted : Bool
+
+-- an option whose value is a whole number in a range, with its default
+abbrev pub number : String → ℕ → ℕ → ℕ → OptionRule
+number name low high default =
+    record { name = codes name; form = Number low high; default = decimal default; admitted = true }
+
+-- an option whose value is one of two words, the first of which is the default
+abbrev pub choice : String → String → String → OptionRule
+choice name first second = record {
+  name = codes name;
+  form = Choice (codes first ∷ codes second ∷ []);
+  default = codes first;
+  admitted = true;
+}
+
+-- an option whose value is any text, with its default
+abbrev pub text : String → String → OptionRule
+text name default = record { name = codes name; form = AnyText; default = codes default; admitted = true }
+
+-- a command with its options
+abbrev pub command : String → List OptionRule → CommandRule
+command name options = record { name = codes name; options = options; admitted = true }
+
+-- an option of a command that is not admitted yet
+abbrev pub later : OptionRule → OptionRule
+later o = record o { admitted = false }
+
+-- a command that is not admitted yet
+abbrev pub later_command : String → List OptionRule → CommandRule
+later_command name options = record (command name options) { admitted = false }
+
+-- ---- the options that several commands have
+
+-- the most processors that a run may have
+abbrev pub most_processors : ℕ
+most_processors = 1
+
+-- how many processors run
+abbrev pub processors : OptionRule
+processors = number "processors" 1 most_processors 1
+
+-- how many run where all words are written out or the input is made
+abbrev pub few_processors : OptionRule
+few_processors = number "processors" 1 16 4
+
+-- the most turns: of work by each processor, of a serial run, or the acts of a replay
+abbrev pub turns : OptionRule
+turns = number "turns" 1 268435456 16777216
+
+-- the words of a place's pool of blocks
+abbrev pub room : OptionRule
+room = number "room" 64 1048576 65536
+
+-- the entries of a place's deque
+abbrev pub slots : OptionRule
+slots = number "slots" 2 65536 4096
+
+-- how many looks in a row a processor makes before it leaves or parks
+abbrev pub looks : OptionRule
+looks = number "looks" 1 1048576 1000
+
+-- where the random words begin
+abbrev pub seed : OptionRule
+seed = number "seed" 0 4294967295 1
+
+-- the plan of faults
+abbrev pub faults : OptionRule
+faults = text "faults" "none"
+
+-- the schedule of acts
+abbrev pub schedule : OptionRule
+schedule = text "schedule" "none"
+
+-- what is taken over of a dead processor: its place, or the entries of its deque
+abbrev pub takeover : OptionRule
+takeover = choice "takeover" "place" "entry"
+
+-- what a processor does that finds no work: it leaves, or it parks
+abbrev pub idle : OptionRule
+idle = choice "idle" "leave" "park"
+
+-- ---- the commands
+
+-- the whole command line; a word `later` is taken away where its rule is admitted
+abbrev pub command_line : List CommandRule
+command_line =
+    command "run"
+    (processors ∷ later turns ∷ later room ∷ later slots ∷ later looks ∷ later seed ∷ later faults ∷ later takeover ∷ later idle ∷ [])
+    ∷ later_command "serial" (turns ∷ [])
+    ∷ later_command "code" []
+    ∷ later_command "check" []
+    ∷ later_command "replay" (processors ∷ turns ∷ room ∷ slots ∷ takeover ∷ schedule ∷ [])
+    ∷ later_command "self" (few_processors ∷ number "size" 1 4096 64 ∷ seed ∷ number "count" 0 4096 0 ∷ [])
+    ∷ later_command "stop"
+    (few_processors ∷ number "after" 0 268435456 0 ∷ number "room" 64 65536 16384 ∷ number "slots" 2 4096 256 ∷ schedule ∷ [])
+    ∷ later_command "resume" (turns ∷ looks ∷ seed ∷ faults ∷ [])
+    ∷ later_command "ram" (processors ∷ turns ∷ room ∷ slots ∷ looks ∷ seed ∷ faults ∷ takeover ∷ idle ∷ [])
+    ∷ []
+
+-- the admitted options of a command
+abbrev pub with_admitted_options : CommandRule → CommandRule
+with_admitted_options c = record c { options = filter (λ o. o.admitted) c.options }
+
+-- the admitted commands with their admitted options
+abbrev pub admitted : List CommandRule → List CommandRule
+admitted table = map with_admitted_options (filter (λ c. c.admitted) table)
