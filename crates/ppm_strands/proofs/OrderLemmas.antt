@@ -3,54 +3,50 @@ use Rattle.std.proofs.Common.{◌≡◌, ℕ, zero, suc, Some, sym, ap, ◌∙�
 use Rattle.ppm_strands.specs.Tree.{Words, Tree, Strand, Call, Fork, Over, Code}
 use Rattle.ppm_strands.specs.Run.{Counts, plus, End, with_counts, of_capsule, rejoin, run}
 use Rattle.ppm_strands.specs.Ahead.{Step, Capsule, Return, Join, UnderCall, InLeft, InRight, Steps, Done, More}
-use Rattle.ppm_strands.specs.Turn.{IsInTurn, AreInTurn}
+use Rattle.ppm_strands.specs.Turn.{IsInTurn, AreInTurn, StepsInTurn}
 use Rattle.ppm_strands.proofs.RunLemmas.{end_or, plus_none, plus_assoc, counted_some, then_some}
 
 module _ {F O : Type 0} (c : Code F O) where
-  -- steps in turn
-  abbrev pub InTurn : Counts → Tree F O → Words → Tree F O → Words → Type 0
-  InTurn k t a u b = (s : Steps c k t a u b) × AreInTurn s
-
   -- one more before them
-  before : {j k : Counts} {t t' u : Tree F O} {a a' b : Words} (s : Step c j t a t' a') → IsInTurn s → InTurn k t' a' u b → InTurn (plus j k) t a u b
+  pub before : {j k : Counts} {t t' u : Tree F O} {a a' b : Words} (s : Step c j t a t' a') → IsInTurn s → StepsInTurn c k t' a' u b → StepsInTurn c (plus j k) t a u b
   before s turn more = (More s more.0, (turn, more.1))
 
   -- steps after steps
-  then_steps : {j k : Counts} {t u v : Tree F O} {a b d : Words} (s : Steps c j t a u b) → AreInTurn s → InTurn k u b v d → InTurn (plus j k) t a v d
-  then_steps {k = k} {v = v} {d = d} (Done t a) turn more = subst (λ (i : Counts). InTurn i t a v d) (sym (plus_none k)) more
+  pub then_steps : {j k : Counts} {t u v : Tree F O} {a b d : Words} (s : Steps c j t a u b) → AreInTurn s → StepsInTurn c k u b v d → StepsInTurn c (plus j k) t a v d
+  then_steps {k = k} {v = v} {d = d} (Done t a) turn more = subst (λ (i : Counts). StepsInTurn c i t a v d) (sym (plus_none k)) more
   then_steps {k = k} {v = v} {d = d} (More {j = i} {k = j} {t = t} {a = a} s rest) turn more =
-      subst (λ (l : Counts). InTurn l t a v d) (sym (plus_assoc i j k)) (before s turn.0 (then_steps rest turn.1 more))
+      subst (λ (l : Counts). StepsInTurn c l t a v d) (sym (plus_assoc i j k)) (before s turn.0 (then_steps rest turn.1 more))
 
   -- the steps of a part are steps of the whole
-  under : (g : F) {k : Counts} {t u : Tree F O} {a b : Words} (s : Steps c k t a u b) → AreInTurn s → InTurn k (Call g t) a (Call g u) b
+  pub under : (g : F) {k : Counts} {t u : Tree F O} {a b : Words} (s : Steps c k t a u b) → AreInTurn s → StepsInTurn c k (Call g t) a (Call g u) b
   under g (Done t a) turn = (Done (Call g t) a, tt)
   under g (More s more) turn = before (UnderCall g s) turn.0 (under g more turn.1)
 
-  left : (g : F) (r : Tree F O) {k : Counts} {t u : Tree F O} {a b : Words} (s : Steps c k t a u b) → AreInTurn s → InTurn k (Fork g t r) a (Fork g u r) b
+  pub left : (g : F) (r : Tree F O) {k : Counts} {t u : Tree F O} {a b : Words} (s : Steps c k t a u b) → AreInTurn s → StepsInTurn c k (Fork g t r) a (Fork g u r) b
   left g r (Done t a) turn = (Done (Fork g t r) a, tt)
   left g r (More s more) turn = before (InLeft g r s) turn.0 (left g r more turn.1)
 
   -- of a right branch once the left one is over
-  right : (g : F) (o : O) {k : Counts} {t u : Tree F O} {a b : Words} (s : Steps c k t a u b) → AreInTurn s
-      → InTurn k (Fork g (Over o) t) a (Fork g (Over o) u) b
+  pub right : (g : F) (o : O) {k : Counts} {t u : Tree F O} {a b : Words} (s : Steps c k t a u b) → AreInTurn s
+      → StepsInTurn c k (Fork g (Over o) t) a (Fork g (Over o) u) b
   right g o (Done t a) turn = (Done (Fork g (Over o) t) a, tt)
   right g o (More s more) turn = before (InRight g (Over o) s) (tt, turn.0) (right g o more turn.1)
 
   -- the steps to an end
   abbrev pub StepsTo : Tree F O → Words → End O → Type 0
-  StepsTo t a e = InTurn e.counts t a (Over e.outcome) e.words
+  StepsTo t a e = StepsInTurn c e.counts t a (Over e.outcome) e.words
 
   call_steps : (g : F) (t : Tree F O) (a : Words) (d s : End O) → StepsTo t a d → StepsTo (c.resume g d.outcome) d.words s
       → StepsTo (Call g t) a (with_counts d.counts s)
   call_steps g t a d s p q =
-      let back = subst (λ (k : Counts). InTurn k (Call g (Over d.outcome)) d.words (Over s.outcome) s.words) (plus_none s.counts)
+      let back = subst (λ (k : Counts). StepsInTurn c k (Call g (Over d.outcome)) d.words (Over s.outcome) s.words) (plus_none s.counts)
       (before (Return g d.outcome d.words) tt q) in
       let first = under g p.0 p.1 in then_steps first.0 first.1 back
 
   fork_steps : (g : F) (l r : Tree F O) (a : Words) (d p s : End O) → StepsTo l a d → StepsTo r d.words p
       → StepsTo (rejoin c g d.outcome p.outcome) p.words s → StepsTo (Fork g l r) a (with_counts d.counts (with_counts p.counts s))
   fork_steps g l r a d p s i j k =
-      let back = subst (λ (m : Counts). InTurn m (Fork g (Over d.outcome) (Over p.outcome)) p.words (Over s.outcome) s.words) (plus_none s.counts)
+      let back = subst (λ (m : Counts). StepsInTurn c m (Fork g (Over d.outcome) (Over p.outcome)) p.words (Over s.outcome) s.words) (plus_none s.counts)
       (before (Join g d.outcome p.outcome p.words) tt k) in
       let first = left g r i.0 i.1 in
       let second = right g d.outcome j.0 j.1 in

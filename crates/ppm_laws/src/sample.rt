@@ -1,18 +1,19 @@
 //! A small instance of the trees: capsules that add to four words of a byte each.
 //! It is run depth first by plain recursion, slow and easy to read.
 
-ghost use Rattle.std.specs.Prelude.{[], ◌≡◌, ◌≤◌, ◌^◌, IfSome, IsTrue, option_map};
+ghost use Rattle.std.specs.Prelude.{ℕ, [], ◌≡◌, ◌≤◌, ◌^◌, IfSome, IsTrue, option_map};
 ghost use Rattle.ppm_strands.specs.Tree.{Has};
 ghost use Rattle.ppm_strands.specs.Run.{joined as model_joined, plus};
 ghost use Rattle.ppm_strands.specs.Run.{with_counts as model_with_counts};
-ghost use Rattle.ppm_strands.specs.Races.{ApartByRegions, ApartIsCalm, NoEndBeside, RacesAreNotCalm, RacesLoseTheLaw};
-ghost use Rattle.ppm_strands.specs.Races.{apart_owns, apart_writes, is_apart};
-ghost use Rattle.ppm_strands.specs.Races.{RacesBesideNoEndAreNotCalm, RacesEndOtherwise, SamplesAreLocal, TablesRunInAnyOrder};
-ghost use Rattle.ppm_strands.specs.Sample.{AreAtMost, IsBoundOfBoth, address, after_capsule, capsule_at, counts_of};
-ghost use Rattle.ppm_strands.specs.Sample.{counts_at, end_of, resumed_tree, run_of, sample, tree_of, words_of};
+ghost use Rattle.ppm_laws.specs.Races.{ApartByRegions, ApartIsCalm, NoEndBeside, RacesAreNotCalm, RacesLoseTheLaw};
+ghost use Rattle.ppm_laws.specs.Races.{apart_owns, apart_writes, is_apart};
+ghost use Rattle.ppm_laws.specs.Races.{RacesBesideNoEndAreNotCalm, RacesEndOtherwise, SamplesAreLocal, TablesRunInAnyOrder};
+ghost use Rattle.ppm_laws.specs.Sample.{AreAtMost, IsBoundOfBoth, address, after_capsule, capsule_at, counts_of};
+ghost use Rattle.ppm_laws.specs.Sample.{counts_at, end_of, resumed_tree, run_of, sample, tree_of, words_of};
 
-use crate::owner::Owner;
-use crate::{any_order, calm_by_regions};
+use ppm_strands::owner::Owner;
+use ppm_strands::{any_order, calm_by_regions};
+use std::marker::Model;
 
 /// The four words, by name.
 #[derive(Clone, Copy, Debug, PartialEq, Eq)]
@@ -249,8 +250,20 @@ pub fn tables_run_in_any_order()
     any_order::<u8, Outcome>();
 }
 
+/// A frame as a type of its own, which says what each of its values owns.
+#[derive(Debug, Drop)]
+pub struct Owning {
+    pub frame: u8,
+}
+
+impl Model for Owning {
+    ghost Value = { ℕ };
+
+    ghost view = { λ o. o.frame };
+}
+
 /// The regions of the fork whose branches keep apart, and of the strand that makes it.
-impl Owner for u8 {
+impl Owner for Owning {
     ghost admits = { λ f. IsTrue (is_apart f) };
 
     ghost owns = { λ f x. Has x (apart_owns f) };
@@ -263,5 +276,5 @@ pub fn apart_trees_are_calm()
     ensures { ApartIsCalm }
 {
     races_are_not_calm();
-    calm_by_regions::<u8, Outcome>();
+    calm_by_regions::<Owning, Outcome>();
 }

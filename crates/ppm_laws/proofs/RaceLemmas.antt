@@ -3,13 +3,13 @@ use Rattle.std.proofs.Common.{◌≡◌, ℕ, zero, suc, ◌+◌, ◌%◌, IsTru
 use Rattle.ppm_strands.specs.Tree.{Words, Strand, Has}
 use Rattle.ppm_strands.specs.Run.{End, run}
 use Rattle.ppm_strands.specs.Ahead.{Ahead, put, Capsule, InRight}
-use Rattle.ppm_strands.specs.Sample.{address, capsule_at, resumed_tree, sample}
+use Rattle.ppm_laws.specs.Sample.{address, capsule_at, resumed_tree, sample}
 use Rattle.ppm_strands.specs.Regions.{HasFrame, IsSeparate, OwnsNoMore}
-use Rattle.ppm_strands.specs.Races.{racing, RacesAreNotCalm, RacesBesideNoEndAreNotCalm, NoEndBeside, RacesLoseTheLaw}
-use Rattle.ppm_strands.specs.Races.{EndsWith, RacesEndOtherwise, ApartByRegions, race_counts, raced, start}
-use Rattle.ppm_strands.specs.Races.{ApartIsCalm, SamplesAreLocal, apart_owns, apart_regions, apart_writes, fork_of, forking, is_apart}
-use Rattle.ppm_strands.specs.declared.sample.Outcome.{Outcome}
-use Rattle.ppm_strands.specs.declared.sample.Outcome.TheVariants.{Finished, Trapped}
+use Rattle.ppm_laws.specs.Races.{racing, RacesAreNotCalm, RacesBesideNoEndAreNotCalm, NoEndBeside, RacesLoseTheLaw}
+use Rattle.ppm_laws.specs.Races.{EndsWith, RacesEndOtherwise, ApartByRegions, race_counts, raced, start}
+use Rattle.ppm_laws.specs.Races.{ApartIsCalm, SamplesAreLocal, apart_owns, apart_regions, apart_writes, fork_of, forking, is_apart}
+use Rattle.ppm_laws.specs.declared.sample.Outcome.{Outcome}
+use Rattle.ppm_laws.specs.declared.sample.Outcome.TheVariants.{Finished, Trapped}
 use Rattle.ppm_strands.proofs.RunLemmas.{counted_some, one_end}
 use Rattle.ppm_strands.proofs.PartsLemmas.{has_left, has_right, ends_by_parts}
 use Rattle.ppm_strands.proofs.RegionLemmas.{inside}

@@ -1,6 +1,6 @@
 use Rattle.std.proofs.Common.{◌+◌, ◌≡◌, ◌≤◌, ◌^◌, ◌-◌, suc, arith}
-use Rattle.ppm_strands.proofs.SampleLemmas.{at_most, thrice, three_pos, not_many, fork_made}
-use Rattle.ppm_strands.proofs.sample.+run.Goals as goal
+use Rattle.ppm_laws.proofs.SampleLemmas.{at_most, thrice, three_pos, not_many, fork_made}
+use Rattle.ppm_laws.proofs.sample.+run.Goals as goal
 
 -- a smaller run counts no more than 2 to the 47
 pub with_counts-requires : goal.with_counts-requires

@@ -2,11 +2,11 @@
 use Rattle.std.proofs.Common.{◌≡◌, ℕ, zero, suc, ◌+◌, ◌-◌, ◌^◌, ◌<◌, ◌≤◌, List, Some, refl, sym, ap, ◌∙◌, subst, pow-suc, le_trans, lit<, lit≤, arith}
 use Rattle.ppm_strands.specs.Tree.{Words, Tree, Strand, Fork}
 use Rattle.ppm_strands.specs.Run.{End, with_counts, joined, run}
-use Rattle.ppm_strands.specs.Sample.{AreAtMost, counts_of, end_of, resumed_tree, sample, words_of}
-use Rattle.ppm_strands.specs.declared.sample.Capsule.{Capsule}
-use Rattle.ppm_strands.specs.declared.sample.Counts.{Counts}
-use Rattle.ppm_strands.specs.declared.sample.End as plain
-use Rattle.ppm_strands.specs.declared.sample.Outcome.{Outcome}
+use Rattle.ppm_laws.specs.Sample.{AreAtMost, counts_of, end_of, resumed_tree, sample, words_of}
+use Rattle.ppm_laws.specs.declared.sample.Capsule.{Capsule}
+use Rattle.ppm_laws.specs.declared.sample.Counts.{Counts}
+use Rattle.ppm_laws.specs.declared.sample.End as plain
+use Rattle.ppm_laws.specs.declared.sample.Outcome.{Outcome}
 use Rattle.ppm_strands.proofs.RunLemmas.{then_made}
 
 -- more leave room for as many

@@ -3,15 +3,15 @@ use Rattle.std.specs.Prelude.{ℕ, ◌+◌, ◌*◌, ◌%◌, ◌≤◌, Bool, t
 use Rattle.ppm_strands.specs.Tree.{Words, Tree, Strand, Call, Fork, Over, forks_in, Code}
 use Rattle.ppm_strands.specs.Run as model
 use Rattle.ppm_strands.specs.Ahead.{put}
-use Rattle.ppm_strands.specs.declared.sample.Word.{Word}
-use Rattle.ppm_strands.specs.declared.sample.Word.TheVariants as word
-use Rattle.ppm_strands.specs.declared.sample.Outcome.{Outcome}
-use Rattle.ppm_strands.specs.declared.sample.Outcome.TheVariants.{Finished, Trapped}
-use Rattle.ppm_strands.specs.declared.sample.SmallTree.{SmallTree}
-use Rattle.ppm_strands.specs.declared.sample.SmallTree.TheVariants as small
-use Rattle.ppm_strands.specs.declared.sample.Capsule.{Capsule}
-use Rattle.ppm_strands.specs.declared.sample.Counts.{Counts}
-use Rattle.ppm_strands.specs.declared.sample.End.{End}
+use Rattle.ppm_laws.specs.declared.sample.Word.{Word}
+use Rattle.ppm_laws.specs.declared.sample.Word.TheVariants as word
+use Rattle.ppm_laws.specs.declared.sample.Outcome.{Outcome}
+use Rattle.ppm_laws.specs.declared.sample.Outcome.TheVariants.{Finished, Trapped}
+use Rattle.ppm_laws.specs.declared.sample.SmallTree.{SmallTree}
+use Rattle.ppm_laws.specs.declared.sample.SmallTree.TheVariants as small
+use Rattle.ppm_laws.specs.declared.sample.Capsule.{Capsule}
+use Rattle.ppm_laws.specs.declared.sample.Counts.{Counts}
+use Rattle.ppm_laws.specs.declared.sample.End.{End}
 
 -- the address of a word
 abbrev pub address : Word → ℕ

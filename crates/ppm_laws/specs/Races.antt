@@ -5,12 +5,12 @@ use Rattle.ppm_strands.specs.Run.{Counts, End, of_capsule, Ends}
 use Rattle.ppm_strands.specs.Ahead.{Ahead, Step, OrdersAgree}
 use Rattle.ppm_strands.specs.Calm.{Calm}
 use Rattle.ppm_strands.specs.Regions.{Regions, listed, IsSeparate, Respects}
-use Rattle.ppm_strands.specs.Sample.{sample, words_of}
-use Rattle.ppm_strands.specs.declared.sample.Word.TheVariants as word
-use Rattle.ppm_strands.specs.declared.sample.Outcome.{Outcome}
-use Rattle.ppm_strands.specs.declared.sample.Outcome.TheVariants.{Finished}
-use Rattle.ppm_strands.specs.declared.sample.SmallTree.TheVariants as small
-use Rattle.ppm_strands.specs.declared.sample.Capsule.{Capsule}
+use Rattle.ppm_laws.specs.Sample.{sample, words_of}
+use Rattle.ppm_laws.specs.declared.sample.Word.TheVariants as word
+use Rattle.ppm_laws.specs.declared.sample.Outcome.{Outcome}
+use Rattle.ppm_laws.specs.declared.sample.Outcome.TheVariants.{Finished}
+use Rattle.ppm_laws.specs.declared.sample.SmallTree.TheVariants as small
+use Rattle.ppm_laws.specs.declared.sample.Capsule.{Capsule}
 
 -- the capsules: 0 copies A to B; 1 is over; 2 adds one to C, and then 1; 3 forks 0 and 2; 4 adds one to A, and then 1; 5 is endless;
 -- 6 forks 5 and 0; 7 forks 0 and 4

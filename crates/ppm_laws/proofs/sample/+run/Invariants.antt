@@ -1,4 +1,4 @@
-use Rattle.ppm_strands.proofs.sample.+run.Given as goal
+use Rattle.ppm_laws.proofs.sample.+run.Given as goal
 
 -- the bound
 abbrev pub decreases-run : goal.decreases-run

@@ -3,7 +3,7 @@ use crate::sample::{
     Capsule, Counts, End, Outcome, SmallTree, Word, apart_trees_are_calm, races_are_not_calm, run,
     samples_are_local, tables_run_in_any_order,
 };
-use crate::{
+use ppm_strands::{
     a_change_at_one_leaf, a_change_passes_up, a_step_in_turn, any_order, calls_resume,
     calm_by_listed_regions, calm_by_regions, changes_what_it_writes, forks_resume, goes_by_parts,
     has_one_end, larger_bounds_agree, locality, strands_beside_do_not_race,
@@ -256,7 +256,7 @@ fn laws_are_calls_that_do_nothing(_rt: HostRuntime) -> Result<(), Fail> {
     a_change_at_one_leaf::<u8, Outcome>();
     a_step_in_turn::<u8, Outcome>();
     any_order::<u8, Outcome>();
-    calm_by_regions::<u8, Outcome>();
+    calm_by_regions::<Owning, Outcome>();
     calm_by_listed_regions::<u8, Outcome>();
     samples_are_local();
     tables_run_in_any_order();

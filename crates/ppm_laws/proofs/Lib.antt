@@ -1,0 +1,2 @@
+pub mod RaceLemmas
+pub mod SampleLemmas
