@@ -6,7 +6,7 @@ use Rattle.ppm_strands.specs.Ahead.{Ahead, put, Capsule, InRight}
 use Rattle.ppm_laws.specs.Sample.{address, capsule_at, resumed_tree, sample}
 use Rattle.ppm_strands.specs.Regions.{HasFrame, IsSeparate, OwnsNoMore}
 use Rattle.ppm_laws.specs.Races.{racing, RacesAreNotCalm, RacesBesideNoEndAreNotCalm, NoEndBeside, RacesLoseTheLaw}
-use Rattle.ppm_laws.specs.Races.{EndsWith, RacesEndOtherwise, ApartByRegions, race_counts, raced, start}
+use Rattle.ppm_laws.specs.Races.{EndsWith, RacesEndOtherwise, ApartByRegions, counts_then, right_first, words_then, start}
 use Rattle.ppm_laws.specs.Races.{ApartIsCalm, SamplesAreLocal, apart_owns, apart_regions, apart_writes, fork_of, forking, is_apart}
 use Rattle.ppm_laws.specs.declared.sample.Outcome.{Outcome}
 use Rattle.ppm_laws.specs.declared.sample.Outcome.TheVariants.{Finished, Trapped}
@@ -15,9 +15,9 @@ use Rattle.ppm_strands.proofs.PartsLemmas.{has_left, has_right, ends_by_parts}
 use Rattle.ppm_strands.proofs.RegionLemmas.{inside}
 use Rattle.ppm_strands.proofs.StepLemmas.{put_at, put_else}
 
--- within three of the bound the word A is written on the right and touched on the left
+-- within three of the bound the word A is written on the one side and touched on the other
 pub races_are_not_calm : RacesAreNotCalm
-races_are_not_calm a calm = (calm 3).3 0 (inl refl) (inl refl)
+races_are_not_calm a = (λ calm. (calm 3).3 0 (inl refl) (inl refl), λ calm. (calm 3).2 0 (inl refl) (inl refl))
 
 -- likewise behind the endless branch: its own D four times, and then A; and beside it, in the right branch alone
 pub races_beside_no_end_are_not_calm : RacesBesideNoEndAreNotCalm
@@ -42,29 +42,39 @@ no_end_beside a e =
       λ h. let left = (parts.fork 1 (Strand 5) (Strand 7) a e).0 h in endless left.1.0 a left.0 left.1.1,
     )
 
--- both are run
-depth_first_end : EndsWith (fork_of 0 4) start 1
-depth_first_end = (_, (5, refl), refl)
+-- all are run
+left_reads : EndsWith (fork_of 0 4) start 1
+left_reads = (_, (5, refl), refl)
 
-raced_end : EndsWith (fork_of 0 1) raced 2
-raced_end = (_, (5, refl), refl)
+left_reads_after : EndsWith (right_first 0 4) (words_then 4) 2
+left_reads_after = (_, (5, refl), refl)
+
+left_writes : EndsWith (fork_of 4 0) start 2
+left_writes = (_, (5, refl), refl)
+
+left_writes_after : EndsWith (right_first 4 0) (words_then 0) 1
+left_writes_after = (_, (5, refl), refl)
 
 pub races_end_otherwise : RacesEndOtherwise
-races_end_otherwise = (depth_first_end, raced_end)
+races_end_otherwise = ((left_reads, left_reads_after), (left_writes, left_writes_after))
 
 one_is_not_two : ◌≡◌ {A = ℕ} 1 2 → ⊥
 one_is_not_two h = cc
 
--- by the law the depth-first run would end with 2 in B
-not_ahead : Ahead (sample racing) race_counts (fork_of 0 4) start (fork_of 0 1) raced → ⊥
-not_ahead ah =
-    let m = (ah.ends depth_first_end.0).0 depth_first_end.1 in
-    let same : m.0 ≡ raced_end.0 = one_end (sample racing) (fork_of 0 1) raced m.0 raced_end.0 m.1 raced_end.1 in
+-- by the law both orders would end with the same value in B
+not_ahead : (l r v w : ℕ) → EndsWith (fork_of l r) start v → EndsWith (right_first l r) (words_then r) w → (v ≡ w → ⊥)
+    → Ahead (sample racing) (counts_then r) (fork_of l r) start (right_first l r) (words_then r) → ⊥
+not_ahead l r v w first after differ ah =
+    let m = (ah.ends first.0).0 first.1 in
+    let same : m.0 ≡ after.0 = one_end (sample racing) (right_first l r) (words_then r) m.0 after.0 m.1 after.1 in
     let moved = ap (λ (e : End Outcome). e.words 1) m.2 ∙ ap (λ (e : End Outcome). e.words 1) same in
-    one_is_not_two (sym depth_first_end.2 ∙ moved ∙ raced_end.2)
+    differ (sym first.2 ∙ moved ∙ after.2)
 
 pub races_lose_the_law : RacesLoseTheLaw
-races_lose_the_law = (InRight 1 (Strand 0) (Capsule 4 start), not_ahead)
+races_lose_the_law = (
+  (InRight 1 (Strand 0) (Capsule 4 start), not_ahead 0 4 1 2 left_reads left_reads_after one_is_not_two),
+  (InRight 1 (Strand 4) (Capsule 0 start), not_ahead 4 0 2 1 left_writes left_writes_after (λ h. one_is_not_two (sym h))),
+)
 
 -- a frame that goes on by its own capsule, or is over, owns no more
 goes_on : (g : ℕ) (o : Outcome) → IsTrue (is_apart g) → OwnsNoMore apart_regions g (resumed_tree g o)

@@ -1,2 +1,3 @@
 pub mod Races
 pub mod Sample
+pub mod Splits

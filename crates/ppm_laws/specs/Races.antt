@@ -29,9 +29,9 @@ racing = record { from = word.A; to = word.B; plus = 0; asks = 0; opens = small.
 abbrev pub fork_of : ℕ → ℕ → Tree ℕ Outcome
 fork_of l r = Fork 1 (Strand l) (Strand r)
 
--- the left branch reads A, and the right one writes it
+-- one branch reads A, and the other one writes it
 abbrev pub RacesAreNotCalm : Type 0
-RacesAreNotCalm = (a : Words) → Calm (sample racing) (fork_of 0 4) a → ⊥
+RacesAreNotCalm = (a : Words) → (Calm (sample racing) (fork_of 0 4) a → ⊥) × (Calm (sample racing) (fork_of 4 0) a → ⊥)
 
 -- races that the depth-first run never comes to: the left branch forks one without end, and then the one that reads A;
 -- and a left branch without end beside one that forks the race
@@ -46,25 +46,33 @@ NoEndBeside = (a : Words) (e : End Outcome) → (Ends (sample racing) (fork_of 6
 abbrev pub start : Words
 start = words_of (1 ∷ 2 ∷ 3 ∷ 4 ∷ [])
 
--- the words once the right branch of the race has made its capsule, and the counts of that
-abbrev pub raced : Words
-raced = (sample racing).after 4 start
+-- the fork of l and r once its right branch has made its capsule first, and the words and the counts of that
+abbrev pub right_first : ℕ → ℕ → Tree ℕ Outcome
+right_first l r = Fork 1 (Strand l) ((sample racing).next r start)
 
-abbrev pub race_counts : Counts
-race_counts = of_capsule (sample racing) 4 start
+abbrev pub words_then : ℕ → Words
+words_then r = (sample racing).after r start
+
+abbrev pub counts_then : ℕ → Counts
+counts_then r = of_capsule (sample racing) r start
 
 -- that capsule is a step of a strand, and it is not ahead of the order
+abbrev pub LosesTheLaw : ℕ → ℕ → Type 0
+LosesTheLaw l r = Step (sample racing) (counts_then r) (fork_of l r) start (right_first l r) (words_then r)
+    × (Ahead (sample racing) (counts_then r) (fork_of l r) start (right_first l r) (words_then r) → ⊥)
+
+-- so it is where the right branch writes what the left one reads, and where it reads what the left one writes
 abbrev pub RacesLoseTheLaw : Type 0
-RacesLoseTheLaw = Step (sample racing) race_counts (fork_of 0 4) start (fork_of 0 1) raced
-    × (Ahead (sample racing) race_counts (fork_of 0 4) start (fork_of 0 1) raced → ⊥)
+RacesLoseTheLaw = LosesTheLaw 0 4 × LosesTheLaw 4 0
 
 -- the tree ends with v in B
 abbrev pub EndsWith : Tree ℕ Outcome → Words → ℕ → Type 0
 EndsWith t a v = (e : End Outcome) × Ends (sample racing) t a e × (e.words 1 ≡ v)
 
--- for depth first B ends as 1, and as 2 after that capsule
+-- for depth first B ends with the one value, and with the other after that capsule
 abbrev pub RacesEndOtherwise : Type 0
-RacesEndOtherwise = EndsWith (fork_of 0 4) start 1 × EndsWith (fork_of 0 1) raced 2
+RacesEndOtherwise = (EndsWith (fork_of 0 4) start 1 × EndsWith (right_first 0 4) (words_then 4) 2)
+    × (EndsWith (fork_of 4 0) start 2 × EndsWith (right_first 4 0) (words_then 0) 1)
 
 -- the strand whose capsule forks 0 and 2
 abbrev pub forking : Tree ℕ Outcome

@@ -5,7 +5,7 @@
 //! The instances are this project's.
 #![tactic(auto)]
 
+pub mod races;
 pub mod sample;
-
 #[cfg(test)]
 mod tests;

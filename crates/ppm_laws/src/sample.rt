@@ -1,19 +1,11 @@
 //! A small instance of the trees: capsules that add to four words of a byte each.
 //! It is run depth first by plain recursion, slow and easy to read.
 
-ghost use Rattle.std.specs.Prelude.{ℕ, [], ◌≡◌, ◌≤◌, ◌^◌, IfSome, IsTrue, option_map};
-ghost use Rattle.ppm_strands.specs.Tree.{Has};
+ghost use Rattle.std.specs.Prelude.{[], ◌≡◌, ◌≤◌, ◌^◌, IfSome, option_map};
 ghost use Rattle.ppm_strands.specs.Run.{joined as model_joined, plus};
 ghost use Rattle.ppm_strands.specs.Run.{with_counts as model_with_counts};
-ghost use Rattle.ppm_laws.specs.Races.{ApartByRegions, ApartIsCalm, NoEndBeside, RacesAreNotCalm, RacesLoseTheLaw};
-ghost use Rattle.ppm_laws.specs.Races.{apart_owns, apart_writes, is_apart};
-ghost use Rattle.ppm_laws.specs.Races.{RacesBesideNoEndAreNotCalm, RacesEndOtherwise, SamplesAreLocal, TablesRunInAnyOrder};
 ghost use Rattle.ppm_laws.specs.Sample.{AreAtMost, IsBoundOfBoth, address, after_capsule, capsule_at, counts_of};
 ghost use Rattle.ppm_laws.specs.Sample.{counts_at, end_of, resumed_tree, run_of, sample, tree_of, words_of};
-
-use ppm_strands::owner::Owner;
-use ppm_strands::{any_order, calm_by_regions};
-use std::marker::Model;
 
 /// The four words, by name.
 #[derive(Clone, Copy, Debug, PartialEq, Eq)]
@@ -220,61 +212,4 @@ pub fn run(table: &[Capsule], bound: u8, tree: SmallTree, words: [u8; 4]) -> Opt
             Some(with_counts(with_counts(rest, right_end.counts), left_end.counts))
         }
     }
-}
-
-/// Branches that race are not calm, and a capsule made ahead may then change the end. They are not
-/// calm either where the race stands behind or beside a branch without end, in trees that
-/// themselves have none. Branches that keep apart are calm.
-pub fn races_are_not_calm()
-    ensures race { RacesAreNotCalm }
-    ensures beside_no_end { RacesBesideNoEndAreNotCalm }
-    ensures no_end { NoEndBeside }
-    ensures law_is_lost { RacesLoseTheLaw }
-    ensures ends_otherwise { RacesEndOtherwise }
-    ensures apart { ApartIsCalm }
-    ensures by_regions { ApartByRegions }
-{}
-
-/// What a capsule of a table does depends on the word that it reads, so the laws hold of
-/// each table.
-pub fn samples_are_local()
-    ensures { SamplesAreLocal }
-{}
-
-/// So the strands of a table's trees may run in any order, where these are calm: the law at an
-/// instance, by its contract alone.
-pub fn tables_run_in_any_order()
-    ensures { TablesRunInAnyOrder }
-{
-    samples_are_local();
-    any_order::<u8, Outcome>();
-}
-
-/// A frame as a type of its own, which says what each of its values owns.
-#[derive(Debug, Drop)]
-pub struct Owning {
-    pub frame: u8,
-}
-
-impl Model for Owning {
-    ghost Value = { ℕ };
-
-    ghost view = { λ o. o.frame };
-}
-
-/// The regions of the fork whose branches keep apart, and of the strand that makes it.
-impl Owner for Owning {
-    ghost admits = { λ f. IsTrue (is_apart f) };
-
-    ghost owns = { λ f x. Has x (apart_owns f) };
-
-    ghost may_write = { λ f x. Has x (apart_writes f) };
-}
-
-/// That fork and that strand are calm by the law of regions, by its contract alone.
-pub fn apart_trees_are_calm()
-    ensures { ApartIsCalm }
-{
-    races_are_not_calm();
-    calm_by_regions::<Owning, Outcome>();
 }

@@ -1,5 +1,5 @@
 use Rattle.ppm_laws.specs.Sample.{sample}
-use Rattle.ppm_laws.proofs.sample.tables_run_in_any_order.Goals as goal
+use Rattle.ppm_laws.proofs.races.tables_run_in_any_order.Goals as goal
 
 -- the law, of a code that is local
 pub returns : goal.returns

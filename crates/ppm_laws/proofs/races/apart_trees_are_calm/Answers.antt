@@ -1,6 +1,6 @@
 use Rattle.ppm_laws.specs.Races.{fork_of, forking, racing}
 use Rattle.ppm_laws.specs.Sample.{sample}
-use Rattle.ppm_laws.proofs.sample.apart_trees_are_calm.Goals as goal
+use Rattle.ppm_laws.proofs.races.apart_trees_are_calm.Goals as goal
 
 -- the law, of a code that respects the regions
 pub returns : goal.returns

@@ -1,5 +1,5 @@
 use Rattle.ppm_laws.proofs.RaceLemmas.{samples_are_local}
-use Rattle.ppm_laws.proofs.sample.samples_are_local.Goals as goal
+use Rattle.ppm_laws.proofs.races.samples_are_local.Goals as goal
 
 -- one word is read, and one written
 pub returns : goal.returns
