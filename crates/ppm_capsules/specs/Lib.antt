@@ -1,0 +1,4 @@
+pub mod Capsule
+pub mod Paths
+pub mod Restart
+pub mod Strand
