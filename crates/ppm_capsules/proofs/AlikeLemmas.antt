@@ -18,7 +18,11 @@ module _ {L E : Type 0} (eq : Equality L) where
   -- from memories that agree on what is written already and on the exposed reads
   pub alike_past : (w : List L) (p : Capsule L E) (m n : Memory L) → AgreeOn w m n → AgreeOn (exposed_past eq w p m) m n → AlikePast w p m n
   alike_past w (Ends e) m n h ex = record {
-    ends = refl; reads = refl; writes = refl; asks = refl; values = λ l i. elim i [ inl j ↦ h l j | inr j ↦ absurd j ];
+    ends = refl;
+    reads = refl;
+    writes = refl;
+    asks = refl;
+    values = λ l i. elim i [ inl j ↦ h l j | inr j ↦ absurd j ];
   }
   alike_past w (Asks k go) m n h ex =
       let r = alike_past w go m n h ex in

@@ -1,4 +1,6 @@
 pub mod AlikeLemmas
+pub mod BesideLemmas
+pub mod ClosedLemmas
 pub mod ConflictLemmas
 pub mod LocationLemmas
 pub mod MomentLemmas

@@ -61,10 +61,10 @@ pub runs_with_stops_are_one_capsule : {S N K E O : Type 0} (eq : Equality (Locat
     → RunsWithStopsAreOneCapsule eq table
 runs_with_stops_are_one_capsule {S = S} {N = N} {E = E} eq table k m stops again clean =
     let chain = subst (λ (i : Counts).
-        Steps (code_of eq table) i (Strand (frame_of k m)) (shared_of m)
-        (opened eq table k (ending eq (table.capsule k) m) (leaves eq (table.capsule k) m)) (shared_of (leaves eq (table.capsule k) m)))
-      (plus_comm (of_capsule (code_of eq table) (frame_of k m) (shared_of m)) none ∙ plus_none (of_capsule (code_of eq table) (frame_of k m) (shared_of m)))
-      (More (whole_is_a_step eq table k m again clean) (Done _ _)) in
+    Steps (code_of eq table) i (Strand (frame_of k m)) (shared_of m)
+    (opened eq table k (ending eq (table.capsule k) m) (leaves eq (table.capsule k) m)) (shared_of (leaves eq (table.capsule k) m)))
+    (plus_comm (of_capsule (code_of eq table) (frame_of k m) (shared_of m)) none ∙ plus_none (of_capsule (code_of eq table) (frame_of k m) (shared_of m)))
+    (More (whole_is_a_step eq table k m again clean) (Done _ _)) in
     subst (λ (r : E × Memory (Location S N)).
-        Steps (code_of eq table) (of_capsule (code_of eq table) (frame_of k m) (shared_of m)) (Strand (frame_of k m)) (shared_of m)
-        (opened eq table k r.0 r.1) (shared_of r.1)) (sym (is_idempotent eq (table.capsule k) m again.free stops)) chain
+    Steps (code_of eq table) (of_capsule (code_of eq table) (frame_of k m) (shared_of m)) (Strand (frame_of k m)) (shared_of m)
+    (opened eq table k r.0 r.1) (shared_of r.1)) (sym (is_idempotent eq (table.capsule k) m again.free stops)) chain

@@ -2,7 +2,8 @@
 use Rattle.std.proofs.Common.{List, [], ◌∷◌, ◌⊎◌, inl, inr, sym, subst}
 use Rattle.std.proofs.lemmas.Bool.{cond-false, cond-true}
 use Rattle.ppm_capsules.specs.Capsule.{Equality, Capsule, Reads, Writes, Asks, Ends, Memory, In, is_in, store, written, exposed_past}
-use Rattle.ppm_capsules.specs.Paths.{IsFreePast, PathsAreEnough, ReadsOnly, WritesOnly, PathsSayWhere}
+use Rattle.ppm_capsules.specs.Paths.{IsFreePast, IsFreeOnPaths, ReadsOnly, WritesOnly, PathsSayWhere}
+use Rattle.ppm_capsules.specs.Restart.{IsConflictFree}
 use Rattle.ppm_capsules.proofs.LocationLemmas.{in_or_not}
 
 module _ {L E : Type 0} (eq : Equality L) where
@@ -49,8 +50,8 @@ module _ {L E : Type 0} (eq : Equality L) where
         ]) i
   ]
 
-  pub paths_are_enough : (p : Capsule L E) → PathsAreEnough eq p
-  paths_are_enough p free m l i j = clash [] [] p m l free (inr i) j
+  pub paths_are_enough : (p : Capsule L E) (m : Memory L) → IsFreeOnPaths eq p → IsConflictFree eq p m
+  paths_are_enough p m free l i j = clash [] [] p m l free (inr i) j
 
   module _ (q : L → Type 0) where
     reads_only : (w : List L) (p : Capsule L E) (m : Memory L) (l : L) → ReadsOnly eq q p → In l (exposed_past eq w p m) → q l

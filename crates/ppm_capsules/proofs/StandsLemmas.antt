@@ -73,7 +73,6 @@ module _ {L E : Type 0} (eq : Equality L) where
   pub to_write : (p rest : Capsule L E) (m : Memory L) (l : L) → Stands eq p rest m → In l (written eq rest m) → In l (written eq p m)
   to_write p rest m l h i = steps_written h.0 (p, m) l (subst (λ (g : Capsule L E × Memory L). In l (written eq g.0 g.1)) (sym h.1) i)
 
-
   -- a store of a capsule under way
   module _ (p : Capsule L E) (l : L) (v : ℕ) (go : Capsule L E) (m : Memory L) (free : IsConflictFree eq p m) (h : Stands eq p (Writes l v go) m) where
     pub is_written : In l (written eq p m)
@@ -110,7 +109,11 @@ module _ {L E : Type 0} (eq : Equality L) where
 
   pub then_same : (p : Capsule L E) (m n o : Memory L) → DoesTheSame eq p m n → DoesTheSame eq p n o → DoesTheSame eq p m o
   then_same p m n o f s = record {
-    ends = s.ends ∙ f.ends; words = s.words ∙ f.words; asks = s.asks ∙ f.asks; reads = s.reads ∙ f.reads; writes = s.writes ∙ f.writes;
+    ends = s.ends ∙ f.ends;
+    words = s.words ∙ f.words;
+    asks = s.asks ∙ f.asks;
+    reads = s.reads ∙ f.reads;
+    writes = s.writes ∙ f.writes;
   }
 
   -- what holds at a moment of a run, seen from the words of an earlier one
@@ -159,7 +162,7 @@ module _ {L E : Type 0} (eq : Equality L) where
       let now = stops_moment stops p m free in record { same = now.same; free = now.free; kept = stops_keep stops p m free }
 
   -- words that are the same where the capsule reads and writes
-  elsewhere : (p rest : Capsule L E) (m n : Memory L) → ((l : L) → In l (exposed eq p m) ⊎ In l (written eq p m) → n l ≡ m l)
+  pub elsewhere : (p rest : Capsule L E) (m n : Memory L) → ((l : L) → In l (exposed eq p m) ⊎ In l (written eq p m) → n l ≡ m l)
       → Stands eq p rest m → Stands eq p rest n
   elsewhere p rest m n same h =
       let ex : AgreeOn (exposed eq p m) m n = λ l i. same l (inl i) in

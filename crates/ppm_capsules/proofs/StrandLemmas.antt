@@ -191,14 +191,14 @@ module _ {S N K E O : Type 0} (eq : Equality (Location S N)) (table : Table S N 
   whole_is_a_step k m again clean =
       let same = fresh_same k m again clean in
       subst₂ (λ (t : Tree (Frame S K) O) (b : Words).
-          Step (code_of eq table) (of_capsule (code_of eq table) (frame_of k m) (shared_of m)) (Strand (frame_of k m)) (shared_of m) t b)
-        (ap₂ (λ (e : E) (o : Memory (Location S N)). opened eq table k e o) same.ends same.words)
-        (ap (λ (o : Memory (Location S N)). shared_of o) same.words)
-        (ahead.Capsule (frame_of k m) (shared_of m))
+      Step (code_of eq table) (of_capsule (code_of eq table) (frame_of k m) (shared_of m)) (Strand (frame_of k m)) (shared_of m) t b)
+      (ap₂ (λ (e : E) (o : Memory (Location S N)). opened eq table k e o) same.ends same.words)
+      (ap (λ (o : Memory (Location S N)). shared_of o) same.words)
+      (ahead.Capsule (frame_of k m) (shared_of m))
 
   pub ends_are_steps : EndsAreSteps eq table
   ends_are_steps k e m again clean h =
       let done = at_end eq (table.capsule k) e m h in
       subst (λ (r : E × Memory (Location S N)).
-          Step (code_of eq table) (of_capsule (code_of eq table) (frame_of k m) (shared_of m)) (Strand (frame_of k m)) (shared_of m)
-          (opened eq table k r.0 r.1) (shared_of r.1)) done (whole_is_a_step k m again clean)
+      Step (code_of eq table) (of_capsule (code_of eq table) (frame_of k m) (shared_of m)) (Strand (frame_of k m)) (shared_of m)
+      (opened eq table k r.0 r.1) (shared_of r.1)) done (whole_is_a_step k m again clean)

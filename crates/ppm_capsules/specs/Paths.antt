@@ -1,7 +1,6 @@
 -- The paths of a capsule: what it may read and write whatever words its reads find.
 use Rattle.std.specs.Prelude.{ℕ, cond, List, [], ◌∷◌}
 use Rattle.ppm_capsules.specs.Capsule.{Equality, Capsule, Reads, Writes, Asks, Ends, Memory, In, is_in, written, exposed}
-use Rattle.ppm_capsules.specs.Restart.{IsConflictFree}
 
 module _ {L E : Type 0} (eq : Equality L) where
   -- on no path is a location of r written, or one whose read is exposed; w are written already
@@ -14,10 +13,6 @@ module _ {L E : Type 0} (eq : Equality L) where
   -- no path has a write-after-read conflict
   abbrev pub IsFreeOnPaths : Capsule L E → Type 0
   IsFreeOnPaths p = IsFreePast [] [] p
-
-  -- then the capsule has none from any words
-  abbrev pub PathsAreEnough : Capsule L E → Type 0
-  PathsAreEnough p = IsFreeOnPaths p → (m : Memory L) → IsConflictFree eq p m
 
   -- each location that a path reads, and each that a path writes, is one of which q holds
   abbrev pub ReadsOnly : (L → Type 0) → Capsule L E → Type 0

@@ -1,8 +1,10 @@
 -- Strands made of capsules: frames with words of their own, blocks that are being built, words that all strands share.
-use Rattle.std.specs.Prelude.{◌≡◌, ℕ, Bool, List, [], ◌∷◌}
+use Rattle.std.specs.Prelude.{◌≡◌, ◌⊎◌, ℕ, Bool, List, [], ◌∷◌}
 use Rattle.ppm_strands.specs.Tree.{Words, Tree, Strand, Code, Local}
 use Rattle.ppm_strands.specs.Run.{none, of_capsule}
 use Rattle.ppm_strands.specs.Ahead.{Step, Steps}
+use Rattle.ppm_strands.specs.Beside.{AreBeside}
+use Rattle.ppm_strands.specs.Calm.{Calm}
 use Rattle.ppm_capsules.specs.Capsule.{Equality, Capsule, Writes, Ends, Memory, In, store, ending, leaves, asked, written, exposed}
 use Rattle.ppm_capsules.specs.Restart.{IsConflictFree, steps, stopped, run_with_stops, Stands}
 
@@ -96,6 +98,23 @@ module _ {S N K E O : Type 0} (eq : Equality (Location S N)) (table : Table S N 
   StoresKeep = (k : K) (l : Location S N) (v : ℕ) (rest : Capsule (Location S N) E) (m : Memory (Location S N))
       → MayBeginAgain k m → Stands eq (table.capsule k) (Writes l v rest) m
       → MayBeginAgain k (store eq m l v) × (IsClean k m → IsClean k (store eq m l v))
+
+  -- and while others store where it neither reads nor writes, and not in its new block, all of this stays
+  abbrev pub OthersKeep : Type 0
+  OthersKeep = (k : K) (rest : Capsule (Location S N) E) (m n : Memory (Location S N))
+      → ((l : Location S N) → In l (exposed eq (table.capsule k) m) ⊎ In l (written eq (table.capsule k) m) → n l ≡ m l)
+      → ((o : N) → n (New o) ≡ m (New o)) → MayBeginAgain k m → Stands eq (table.capsule k) rest m
+      → MayBeginAgain k n × Stands eq (table.capsule k) rest n × (IsClean k m → IsClean k n)
+
+  -- so do a strand's capsule under way and that of a strand beside it in a calm tree: what the one is about to store in a shared word,
+  -- the other neither reads nor writes
+  abbrev pub StrandsBesideKeep : Type 0
+  StrandsBesideKeep = (t : Tree (Frame S K) O) (j k : K) (x v : ℕ) (go rest : Capsule (Location S N) E) (m n : Memory (Location S N))
+      → Calm code_of t (shared_of m) → AreBeside t (frame_of j n) (frame_of k m) → shared_of n ≡ shared_of m
+      → MayBeginAgain j n → Stands eq (table.capsule j) (Writes (Shared x) v go) n
+      → MayBeginAgain k m → Stands eq (table.capsule k) rest m
+      → MayBeginAgain k (store eq m (Shared x) v) × Stands eq (table.capsule k) rest (store eq m (Shared x) v)
+      × (IsClean k m → IsClean k (store eq m (Shared x) v))
 
   -- a capsule that has come to its end, with a clean block, opens what comes next: one step of its strand, a whole capsule, from the
   -- words as they are and to the words as they are
