@@ -1,3 +1,4 @@
 pub mod Races
 pub mod Sample
 pub mod Splits
+pub mod Stops

@@ -7,5 +7,6 @@
 
 pub mod races;
 pub mod sample;
+pub mod stops;
 #[cfg(test)]
 mod tests;

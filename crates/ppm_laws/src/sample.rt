@@ -78,7 +78,7 @@ const NONE: Counts = Counts {
 };
 
 /// The number of a word among the four, from 0.
-fn index(word: Word) -> usize
+pub(crate) fn index(word: Word) -> usize
     ensures value { result ≡ address word }
 {
     match word {

@@ -4,6 +4,12 @@ use crate::races::{
     split_branches_are_calm, tables_run_in_any_order,
 };
 use crate::sample::{Capsule, Counts, End, Outcome, SmallTree, Word, run};
+use crate::stops::{Ask, Run, run_with_stops, stops_do_not_show};
+use ppm_capsules::{
+    capsules_are_local, capsules_make_steps, closed_capsules, closed_tables, code_is_local,
+    conflict_free_is_idempotent, conflicts_are_not_idempotent, others_keep_what_is_done,
+    paths_are_enough, stops_change_nothing, what_is_done_stands,
+};
 use ppm_strands::{
     a_change_at_one_leaf, a_change_passes_up, a_step_in_turn, ahead_composes, any_order,
     calls_resume, calm_by, calm_by_listed_regions, calm_by_regions, chains_in_turn, chains_pass_up,
@@ -246,6 +252,53 @@ fn a_capsule_ahead_keeps_a_calm_end_and_not_a_race(rt: HostRuntime) -> Result<()
 }
 
 #[test]
+fn stops_show_only_after_a_conflict(rt: HostRuntime) -> Result<(), Fail> {
+    let start = [1, 2, 3, 4];
+    let add = Ask::Add(1);
+    // A and B are read, and C and D written
+    let apart = [
+        Ask::Load(Word::A),
+        add,
+        Ask::Store(Word::C),
+        Ask::Load(Word::B),
+        add,
+        Ask::Store(Word::D),
+    ];
+    // A is written first, and then read and written again
+    let first = [
+        Ask::Add(7),
+        Ask::Store(Word::A),
+        Ask::Load(Word::A),
+        add,
+        Ask::Store(Word::A),
+    ];
+    // A is read and then written
+    let conflict = [Ask::Load(Word::A), add, Ask::Store(Word::A)];
+    for steps in 0..=5u8 {
+        let stops = [steps, 3, steps];
+        let want = Run {
+            end: 3,
+            words: [1, 2, 2, 3],
+        };
+        assert_eq!(rt; run_with_stops(&apart, &stops, start), want, "{stops:?}");
+        let want = Run {
+            end: 8,
+            words: [8, 2, 3, 4],
+        };
+        assert_eq!(rt; run_with_stops(&first, &stops, start), want, "{stops:?}");
+    }
+    // a stop before its store does not show, and each one after it adds one
+    for (stops, a) in [([0, 1], 2), ([1, 2], 3), ([2, 2], 4), ([9, 9], 4)] {
+        let want = Run {
+            end: a,
+            words: [a, 2, 3, 4],
+        };
+        assert_eq!(rt; run_with_stops(&conflict, &stops, start), want, "{stops:?}");
+    }
+    Ok(())
+}
+
+#[test]
 fn laws_are_calls_that_do_nothing(_rt: HostRuntime) -> Result<(), Fail> {
     larger_bounds_agree::<u8, Outcome>();
     has_one_end::<u8, Outcome>();
@@ -266,6 +319,18 @@ fn laws_are_calls_that_do_nothing(_rt: HostRuntime) -> Result<(), Fail> {
     chains_in_turn::<u8, Outcome>();
     ahead_composes::<u8, Outcome>();
     what_stands_is_to_come::<u8, Outcome>();
+    capsules_are_local::<u8, u8>();
+    conflict_free_is_idempotent::<u8, u8>();
+    stops_change_nothing::<u8, u8>();
+    conflicts_are_not_idempotent::<u8>();
+    paths_are_enough::<u8, u8>();
+    what_is_done_stands::<u8, u8>();
+    closed_capsules::<u8, u8>();
+    code_is_local::<u8, u8, u8, u8, Outcome>();
+    capsules_make_steps::<u8, u8, u8, u8, Outcome>();
+    others_keep_what_is_done::<u8, u8, u8, u8, Outcome>();
+    closed_tables::<u8, u8, u8, u8, Outcome>();
+    stops_do_not_show();
     samples_are_local();
     tables_run_in_any_order();
     races_are_not_calm();
