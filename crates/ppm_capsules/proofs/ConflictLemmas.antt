@@ -1,0 +1,25 @@
+-- A capsule that reads a word, writes it and is stopped once.
+use Rattle.std.proofs.Common.{◌≡◌, ℕ, ◌+◌, [], ◌∷◌, refl, sym, ap, ◌∙◌, arith}
+use Rattle.ppm_capsules.specs.Capsule.{Equality, Memory, store}
+use Rattle.ppm_capsules.specs.Restart.{CountsTwice, ConflictsAreNotIdempotent}
+use Rattle.ppm_capsules.proofs.LocationLemmas.{store_at}
+
+module _ {L : Type 0} (eq : Equality L) where
+  -- it finds what it had stored
+  counts_twice : (l : L) (m : Memory L) → CountsTwice eq l m
+  counts_twice l m =
+      let found = store_at eq m l (m l + 1) in
+      record {
+        end = refl;
+        word = found;
+        end_after_stop = found;
+        word_after_stop = store_at eq (store eq m l (m l + 1)) l _ ∙ ap (λ (v : ℕ). v + 1) found;
+      }
+
+  one_more : (n : ℕ) → n + 1 ≡ n → ⊥
+  one_more n h = omega (arith, h)
+
+  pub conflicts_are_not_idempotent : ConflictsAreNotIdempotent eq
+  conflicts_are_not_idempotent l m =
+      let twice = counts_twice l m in
+      (twice, λ same. one_more (m l) (sym twice.end_after_stop ∙ ap (λ (r : ℕ × Memory L). r.0) (same (2 ∷ [])) ∙ twice.end))

@@ -1,0 +1,9 @@
+pub mod AlikeLemmas
+pub mod BesideLemmas
+pub mod ClosedLemmas
+pub mod ConflictLemmas
+pub mod LocationLemmas
+pub mod MomentLemmas
+pub mod PathLemmas
+pub mod StandsLemmas
+pub mod StrandLemmas

@@ -1,0 +1,82 @@
+//! What is true of every capsule and every table of capsules, shown by calls that do nothing.
+ghost use Rattle.ppm_capsules.specs.Capsule.{Capsule, Equality, IsLocal, Memory};
+ghost use Rattle.ppm_capsules.specs.Closed.{ClosedTablesAreTheSame, DoesThenStores};
+ghost use Rattle.ppm_capsules.specs.Paths.{IsFreeOnPaths, PathsSayWhere};
+ghost use Rattle.ppm_capsules.specs.Restart.{ConflictsAreNotIdempotent, IsConflictFree, IsIdempotent};
+ghost use Rattle.ppm_capsules.specs.Restart.{StandsAlways, StopsChangeNothing, WrittenFirstIsConflictFree};
+ghost use Rattle.ppm_capsules.specs.Strand.{CodeIsLocal, EndsAreSteps, Location, MomentsAreSteps, OthersKeep};
+ghost use Rattle.ppm_capsules.specs.Strand.{RunsWithStopsAreOneCapsule, StoresAreSteps, StoresKeep, StrandsBesideKeep, Table};
+ghost use Rattle.std.specs.Prelude.{ℕ, Bool, IsTrue, List};
+
+/// What a capsule does depends on its exposed reads alone, and it keeps the words that it does not
+/// write.
+pub fn capsules_are_local<L, E>()
+    ensures { (eq : Equality L) (p : Capsule L E) → IsLocal eq p }
+{}
+
+/// A capsule without write-after-read conflicts, stopped after any of its word steps and begun again on
+/// the words as they then are, any number of times, comes to the same end with the same words.
+pub fn conflict_free_is_idempotent<L, E>()
+    ensures { (eq : Equality L) (p : Capsule L E) (m : Memory L) → IsConflictFree eq p m → IsIdempotent eq p m }
+{}
+
+/// Wherever it was stopped, it then does the same from first to last: it reads, writes and asks for the
+/// same, and may be stopped again.
+pub fn stops_change_nothing<L, E>()
+    ensures { (eq : Equality L) (p : Capsule L E) (m : Memory L) (stops : List ℕ) → IsConflictFree eq p m → StopsChangeNothing eq p m stops }
+{}
+
+/// The rule is needed: at any location and from any words, a capsule that reads, writes and is stopped
+/// once ends otherwise. And it forbids no more than it must: what is written first may be read and
+/// written again.
+pub fn conflicts_are_not_idempotent<L>()
+    ensures conflict { (eq : Equality L) → ConflictsAreNotIdempotent eq }
+    ensures no_conflict { (eq : Equality L) → WrittenFirstIsConflictFree eq }
+{}
+
+/// A capsule without a conflict on any path, whatever its reads find, has none from any words; and if a
+/// test allows all locations that its paths read, or write, it allows its exposed reads, or its writes.
+pub fn paths_are_enough<L, E>()
+    ensures free { (eq : Equality L) (p : Capsule L E) (m : Memory L) → IsFreeOnPaths eq p → IsConflictFree eq p m }
+    ensures within { (eq : Equality L) (allows : L → Bool) (p : Capsule L E) → PathsSayWhere eq (λ l. IsTrue (allows l)) p }
+{}
+
+/// What a capsule without conflicts has done stands at each moment of a run, stops and all, and while
+/// others store elsewhere.
+pub fn what_is_done_stands<L, E>()
+    ensures { (eq : Equality L) (p : Capsule L E) → StandsAlways eq p }
+{}
+
+/// The laws of trees of strands hold of every table of capsules: its code is local.
+pub fn code_is_local<S, N, K, E, O>()
+    ensures { (eq : Equality (Location S N)) (table : Table S N K E O) → CodeIsLocal eq table }
+{}
+
+/// Of a capsule that may be begun again, each store under way is a step of its strand that counts
+/// nothing, and its end is the step of one whole capsule: so a run of it with any stops is, in the tree,
+/// one capsule.
+pub fn capsules_make_steps<S, N, K, E, O>()
+    ensures stores { (eq : Equality (Location S N)) (table : Table S N K E O) → StoresAreSteps eq table }
+    ensures kept { (eq : Equality (Location S N)) (table : Table S N K E O) → StoresKeep eq table }
+    ensures ends { (eq : Equality (Location S N)) (table : Table S N K E O) → EndsAreSteps eq table }
+    ensures moments { (eq : Equality (Location S N)) (table : Table S N K E O) → MomentsAreSteps eq table }
+    ensures runs { (eq : Equality (Location S N)) (table : Table S N K E O) → RunsWithStopsAreOneCapsule eq table }
+{}
+
+/// Others keep what a capsule under way has done, and that it may be begun again: those that store
+/// elsewhere, and in a calm tree each strand beside its own.
+pub fn others_keep_what_is_done<S, N, K, E, O>()
+    ensures elsewhere { (eq : Equality (Location S N)) (table : Table S N K E O) → OthersKeep eq table }
+    ensures beside { (eq : Equality (Location S N)) (table : Table S N K E O) → StrandsBesideKeep eq table }
+{}
+
+/// A capsule with the stores of its end made word by word before that end: it does the same and then
+/// these stores, and where the trees do not show them, a table of such capsules is the same code.
+pub fn closed_capsules<L, E>()
+    ensures { (eq : Equality L) (tail : E → List (L × ℕ)) (p : Capsule L E) (m : Memory L) → DoesThenStores eq tail p m }
+{}
+
+/// Likewise of tables.
+pub fn closed_tables<S, N, K, E, O>()
+    ensures { (eq : Equality (Location S N)) (table : Table S N K E O) → ClosedTablesAreTheSame eq table }
+{}

@@ -1,0 +1,15 @@
+//! Capsules: what they ask of locations, and when they may be stopped anywhere and begun again.
+//! Model: a capsule is what it asks of locations, one word step after another (`specs/Capsule`), with a run that is
+//! stopped and begun again (`specs/Restart`); a table of capsules is a code of strands (`specs/Strand`).
+//! Contract: laws alone; a capsule without write-after-read conflicts is idempotent, and its stores are steps of its strand.
+//! Stands on `ppm_strands`; whoever runs capsules word step by word step stands on it.
+//! After the capsules and write-after-read conflicts of Blelloch et al., SPAA 2018; the laws are this project's.
+#![tactic(auto)]
+
+mod laws;
+
+pub use laws::{
+    capsules_are_local, capsules_make_steps, closed_capsules, closed_tables, code_is_local,
+    conflict_free_is_idempotent, conflicts_are_not_idempotent, others_keep_what_is_done,
+    paths_are_enough, stops_change_nothing, what_is_done_stands,
+};

@@ -1,0 +1,3 @@
+pub mod RaceLemmas
+pub mod SampleLemmas
+pub mod StopsLemmas

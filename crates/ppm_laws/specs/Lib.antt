@@ -1,0 +1,4 @@
+pub mod Races
+pub mod Sample
+pub mod Splits
+pub mod Stops
