@@ -1,0 +1,9 @@
+pub mod Fields
+pub mod Exact
+pub mod Sides
+pub mod Entry
+pub mod Holder
+pub mod Region
+pub mod Restart
+pub mod Link
+pub mod Finish

@@ -1,0 +1,23 @@
+//! The words of the machine: what is packed into them, and the cells in which they lie.
+//! Model: a packing is a list of fields of bits (`specs/Fields`), and the cells of a shape have addresses (`specs/Cells`).
+//! Contract: what is packed comes back from that word alone; addresses of different cells differ.
+//! Stands on `ppm_words`; code, layout and the step of the machine stand on it.
+//! After the restart, entry and holder words of Blelloch et al., SPAA 2018; the packings are this project's.
+#![tactic(auto)]
+
+mod entry;
+mod field;
+mod finish;
+mod holder;
+mod link;
+mod region;
+mod restart;
+mod side;
+
+pub use entry::Entry;
+pub use finish::Finish;
+pub use holder::Holder;
+pub use link::{Link, LinkKind};
+pub use region::Region;
+pub use restart::{Restart, RestartKind};
+pub use side::Side;
