@@ -14,9 +14,9 @@ fits : (word : ℕ) → IsEntry (entry_with (bits 62 2 word) (bits 28 34 word) w
 fits word =
     let tag_fits = bits-bound 28 34 word in
     cond_both (eqb (bits 62 2 word) 0) _ _ IsEntry (λ _. (lit< tt, (tag_fits, (lit< tt, tt))))
-      (λ _. cond_both (eqb (bits 62 2 word) 1) _ _ IsEntry (λ _. (bits-bound 0 28 word, (tag_fits, (lit< tt, tt))))
-      (λ _. cond_both (eqb (bits 62 2 word) 2) _ _ IsEntry (λ _. (bits-bound 0 28 word, (tag_fits, (lit< tt, tt))))
-      (λ _. (bits-bound 0 7 word, (lit< tt, (tag_fits, (lit< tt, tt)))))))
+    (λ _. cond_both (eqb (bits 62 2 word) 1) _ _ IsEntry (λ _. (bits-bound 0 28 word, (tag_fits, (lit< tt, tt))))
+    (λ _. cond_both (eqb (bits 62 2 word) 2) _ _ IsEntry (λ _. (bits-bound 0 28 word, (tag_fits, (lit< tt, tt))))
+    (λ _. (bits-bound 0 7 word, (lit< tt, (tag_fits, (lit< tt, tt)))))))
 
 -- an entry's own word is read as that entry
 again : (entry : Entry) → IsEntry entry → entry_read (entry_word entry) ≡ Some entry
@@ -40,7 +40,7 @@ again (Job tag block) fit =
 again (Taken tag taker) fit =
     let w : ℕ = entry_word (Taken tag taker) in
     let kind : bits 62 2 w ≡ 3
-          = bits-number_of (Bits 7 taker ∷ Bits 21 0 ∷ Bits 34 tag ∷ []) 2 3 [] (fit.0, (fit.1.0, (fit.1.1.0, tt))) (lit< tt) in
+    = bits-number_of (Bits 7 taker ∷ Bits 21 0 ∷ Bits 34 tag ∷ []) 2 3 [] (fit.0, (fit.1.0, (fit.1.1.0, tt))) (lit< tt) in
     let tagged : bits 28 34 w ≡ tag = bits-number_of (Bits 7 taker ∷ Bits 21 0 ∷ []) 34 tag (Bits 2 3 ∷ []) (fit.0, (fit.1.0, tt)) fit.1.1.0 in
     let payload : bits 0 7 w ≡ taker = bits-number_of [] 7 taker (Bits 21 0 ∷ Bits 34 tag ∷ Bits 2 3 ∷ []) tt fit.0 in
     rw (kind, tagged, payload) refl

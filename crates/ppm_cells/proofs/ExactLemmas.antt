@@ -26,6 +26,7 @@ module _ {V : Type 0} (pack : V → ℕ) (read : ℕ → Option V) (IsPackable :
   pub exact : ((word : ℕ) → IfSome (read word) IsPackable) → ((v : V) → IsPackable v → read (pack v) ≡ Some v)
       → IsExact pack IsPackable (λ word. unpacked pack read word)
   unfolding unpacked
-  exact fits again word v =
-      (λ e. to_value word (read word) v (fits word) e,
-       λ p. let P : ℕ → Type 0 = λ n. packed_to pack n (read n) ≡ Some v in subst P p.1 (from_value v (again v p.0)))
+  exact fits again word v = (
+    λ e. to_value word (read word) v (fits word) e,
+    λ p. let P : ℕ → Type 0 = λ n. packed_to pack n (read n) ≡ Some v in subst P p.1 (from_value v (again v p.0)),
+  )

@@ -14,7 +14,7 @@ bits-number_of [] width value above fit small =
 bits-number_of (Bits w v ∷ below) width value above fit small =
     let rest : ℕ = number_of (below ++ Bits width value ∷ above) in
     let step : (rest * 2 ^ w + v) / 2 ^ (w + width_of below) ≡ rest / 2 ^ width_of below
-          = sym (shr-shr (rest * 2 ^ w + v) w (width_of below)) ∙ ap (λ n. n / 2 ^ width_of below) (shr_high rest w v fit.0) in
+    = sym (shr-shr (rest * 2 ^ w + v) w (width_of below)) ∙ ap (λ n. n / 2 ^ width_of below) (shr_high rest w v fit.0) in
     ap (λ n. n % 2 ^ width) step ∙ bits-number_of below width value above fit.1 small
 
 -- what so many bits say fits them

@@ -67,14 +67,14 @@ refuses false o h = h refl
 in_range : (tag trap number : ℕ) → number < 2 ^ 26 → IfSome (finish_with tag trap number) IsFinish
 in_range tag trap number small =
     either IsFinish (eqb tag 0) _ _ tt
-      (either IsFinish (eqb tag 1) _ _ tt
-      (either IsFinish (eqb tag 2) _ _
-        (refuses (eqb number 0) _ (λ e. trapped number (trap_with trap) (omega (arith, eqb-false number 0 e)) small))
-      (either IsFinish (eqb tag 3) _ _ (refuses (leb 64 number) (Some (OutOfTurns number)) (λ e. leb-false 64 number e))
-      (either IsFinish (eqb tag 4) _ _ (refuses (leb 64 number) (Some (OutOfRoom number)) (λ e. leb-false 64 number e))
-      (either IsFinish (eqb tag 6) _ _ tt
-      (either IsFinish (eqb tag 7) _ _
-        (refuses (leb 66 number) (Some (Broken (number - 1))) (λ e. omega (arith, leb-false 66 number e))) tt))))))
+    (either IsFinish (eqb tag 1) _ _ tt
+    (either IsFinish (eqb tag 2) _ _
+    (refuses (eqb number 0) _ (λ e. trapped number (trap_with trap) (omega (arith, eqb-false number 0 e)) small))
+    (either IsFinish (eqb tag 3) _ _ (refuses (leb 64 number) (Some (OutOfTurns number)) (λ e. leb-false 64 number e))
+    (either IsFinish (eqb tag 4) _ _ (refuses (leb 64 number) (Some (OutOfRoom number)) (λ e. leb-false 64 number e))
+    (either IsFinish (eqb tag 6) _ _ tt
+    (either IsFinish (eqb tag 7) _ _
+    (refuses (leb 66 number) (Some (Broken (number - 1))) (λ e. omega (arith, leb-false 66 number e))) tt))))))
 
 fits : (word : ℕ) → IfSome (finish_read word) IsFinish
 fits word = in_range (bits 0 3 word) (bits 3 3 word) (bits 6 26 word) (bits-bound 6 26 word)

@@ -6,3 +6,5 @@ pub mod RegionLemmas
 pub mod RestartLemmas
 pub mod LinkLemmas
 pub mod FinishLemmas
+pub mod CellLemmas
+pub mod MemoryLemmas

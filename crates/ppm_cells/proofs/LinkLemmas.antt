@@ -6,7 +6,8 @@ use Rattle.ppm_cells.specs.Exact.{IsExact}
 use Rattle.ppm_cells.specs.Link.{link_number, link_address, link_word, IsLink, link_with, with_size, link_read, link_of}
 use Rattle.ppm_cells.specs.declared.link.Link.{Link}
 use Rattle.ppm_cells.specs.declared.link.LinkKind.{LinkKind}
-use Rattle.ppm_cells.specs.declared.link.LinkKind.TheVariants.{Root, Call, Left, Right, Fork}
+use Rattle.ppm_cells.specs.declared.link.LinkKind.TheVariants.{Root, Call, Branch, Fork}
+use Rattle.ppm_cells.specs.declared.side.Side.TheVariants.{Left, Right}
 use Rattle.ppm_cells.proofs.FieldsLemmas.{bits-number_of, bits-bound, number_of-bound}
 use Rattle.ppm_cells.proofs.ExactLemmas.{exact, either}
 
@@ -21,23 +22,22 @@ kind_again (Fork frame copy) fit =
     let low = bits-number_of [] 28 frame (Bits 1 copy ∷ []) tt fit.0 in
     let high = bits-number_of (Bits 28 frame ∷ []) 1 copy [] (fit.0, tt) fit.1.0 in
     λ i. Some (Fork (low i) (high i))
-kind_again (Left block) fit = ap (λ n. Some (Left n)) (bits-number_of [] 28 block (Bits 1 0 ∷ []) tt fit.0)
-kind_again (Right block) fit = ap (λ n. Some (Right n)) (bits-number_of [] 28 block (Bits 1 0 ∷ []) tt fit.0)
+kind_again (Branch Left block) fit = ap (λ n. Some (Branch Left n)) (bits-number_of [] 28 block (Bits 1 0 ∷ []) tt fit.0)
+kind_again (Branch Right block) fit = ap (λ n. Some (Branch Right n)) (bits-number_of [] 28 block (Bits 1 0 ∷ []) tt fit.0)
 
 -- a kind's number fits three bits
 link_number-bound : (kind : LinkKind) → link_number kind < 2 ^ 3
 link_number-bound Root = lit< tt
 link_number-bound (Call frame copy) = lit< tt
-link_number-bound (Left block) = lit< tt
-link_number-bound (Right block) = lit< tt
+link_number-bound (Branch Left block) = lit< tt
+link_number-bound (Branch Right block) = lit< tt
 link_number-bound (Fork frame copy) = lit< tt
 
 -- an address with its copy has 29 bits
 address_bound : (kind : LinkKind) → Fit (link_address kind) → number_of (link_address kind) < 2 ^ 29
 address_bound Root fit = number_of-bound (link_address Root) fit
 address_bound (Call frame copy) fit = number_of-bound (link_address (Call frame copy)) fit
-address_bound (Left block) fit = number_of-bound (link_address (Left block)) fit
-address_bound (Right block) fit = number_of-bound (link_address (Right block)) fit
+address_bound (Branch side block) fit = number_of-bound (link_address (Branch side block)) fit
 address_bound (Fork frame copy) fit = number_of-bound (link_address (Fork frame copy)) fit
 
 -- what is read fits its fields
@@ -47,10 +47,10 @@ kind_fits number address =
     let block = bits-bound 0 28 address in
     let copied = bits-bound 28 1 address in
     either P (eqb number 1) _ _ (lit< tt, (lit< tt, tt))
-      (either P (eqb number 2) _ _ (block, (copied, tt))
-      (either P (eqb number 3) _ _ (block, (lit< tt, tt))
-      (either P (eqb number 4) _ _ (block, (lit< tt, tt))
-      (either P (eqb number 5) _ _ (block, (copied, tt)) tt))))
+    (either P (eqb number 2) _ _ (block, (copied, tt))
+    (either P (eqb number 3) _ _ (block, (lit< tt, tt))
+    (either P (eqb number 4) _ _ (block, (lit< tt, tt))
+    (either P (eqb number 5) _ _ (block, (copied, tt)) tt))))
 
 -- a link's own word is read as that link
 again : (link : Link) → IsLink link → link_read (link_word link) ≡ Some link
@@ -62,7 +62,7 @@ again link fit =
     let low : bits 0 29 w ≡ a = bits-number_of [] 29 a (Bits 28 link.size ∷ Bits 3 n ∷ Bits 4 0 ∷ []) tt small in
     let middle : bits 29 28 w ≡ link.size = bits-number_of (Bits 29 a ∷ []) 28 link.size (Bits 3 n ∷ Bits 4 0 ∷ []) (small, tt) fit.1 in
     let high : bits 57 3 w ≡ n
-          = bits-number_of (Bits 29 a ∷ Bits 28 link.size ∷ []) 3 n (Bits 4 0 ∷ []) (small, (fit.1, tt)) (link_number-bound link.kind) in
+    = bits-number_of (Bits 29 a ∷ Bits 28 link.size ∷ []) 3 n (Bits 4 0 ∷ []) (small, (fit.1, tt)) (link_number-bound link.kind) in
     (λ i. option_map (with_size (middle i)) (link_with (high i) (low i)))
     ∙ ap (option_map (with_size link.size)) (kind_again link.kind fit.0)
 

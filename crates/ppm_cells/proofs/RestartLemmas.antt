@@ -100,19 +100,19 @@ kind_fits number address =
     let block = bits-bound 0 28 address in
     let one = side_number-bound (side_with (bits 28 1 address)) in
     either P (eqb number 1) _ _ (block, (bits-bound 28 1 address, (lit< tt, tt)))
-      (either P (eqb number 2) _ _ (block, (lit< tt, tt))
-      (either P (eqb number 3) _ _ (block, (lit< tt, tt))
-      (either P (eqb number 4) _ _ (block, (lit< tt, tt))
-      (either P (eqb number 5) _ _ (block, (lit< tt, tt))
-      (either P (eqb number 6) _ _ (block, (one, (lit< tt, tt)))
-      (either P (eqb number 7) _ _ (block, (one, (lit< tt, tt)))
-      (either P (eqb number 8) _ _ (lit< tt, tt)
-      (either P (eqb number 9) _ _ (block, (lit< tt, tt))
-      (either P (eqb number 10) _ _ (lit< tt, tt)
-      (either P (eqb number 11) _ _ (bits-bound 0 16 address, (bits-bound 16 6 address, (lit< tt, tt)))
-      (either P (eqb number 12) _ _ (bits-bound 0 16 address, (bits-bound 16 6 address, (lit< tt, tt)))
-      (either P (eqb number 13) _ _ (bits-bound 0 6 address, (bits-bound 6 6 address, (lit< tt, tt)))
-      (either P (eqb number 14) _ _ (bits-bound 0 6 address, (lit< tt, tt)) tt)))))))))))))
+    (either P (eqb number 2) _ _ (block, (lit< tt, tt))
+    (either P (eqb number 3) _ _ (block, (lit< tt, tt))
+    (either P (eqb number 4) _ _ (block, (lit< tt, tt))
+    (either P (eqb number 5) _ _ (block, (lit< tt, tt))
+    (either P (eqb number 6) _ _ (block, (one, (lit< tt, tt)))
+    (either P (eqb number 7) _ _ (block, (one, (lit< tt, tt)))
+    (either P (eqb number 8) _ _ (lit< tt, tt)
+    (either P (eqb number 9) _ _ (block, (lit< tt, tt))
+    (either P (eqb number 10) _ _ (lit< tt, tt)
+    (either P (eqb number 11) _ _ (bits-bound 0 16 address, (bits-bound 16 6 address, (lit< tt, tt)))
+    (either P (eqb number 12) _ _ (bits-bound 0 16 address, (bits-bound 16 6 address, (lit< tt, tt)))
+    (either P (eqb number 13) _ _ (bits-bound 0 6 address, (bits-bound 6 6 address, (lit< tt, tt)))
+    (either P (eqb number 14) _ _ (bits-bound 0 6 address, (lit< tt, tt)) tt)))))))))))))
 
 -- a restart's own word is read as that restart
 again : (restart : Restart) → IsRestart restart → restart_read (restart_word restart) ≡ Some restart
@@ -122,9 +122,9 @@ again restart fit =
     let small = address_bound restart.kind fit.0 in
     let low : bits 0 32 w ≡ a = bits-number_of [] 32 a (Bits 27 restart.bottom ∷ Bits 5 (kind_number restart.kind) ∷ []) tt small in
     let middle : bits 32 27 w ≡ restart.bottom
-          = bits-number_of (Bits 32 a ∷ []) 27 restart.bottom (Bits 5 (kind_number restart.kind) ∷ []) (small, tt) fit.1 in
+    = bits-number_of (Bits 32 a ∷ []) 27 restart.bottom (Bits 5 (kind_number restart.kind) ∷ []) (small, tt) fit.1 in
     let high : bits 59 5 w ≡ kind_number restart.kind
-          = bits-number_of (Bits 32 a ∷ Bits 27 restart.bottom ∷ []) 5 (kind_number restart.kind) [] (small, (fit.1, tt)) (kind_number-bound restart.kind) in
+    = bits-number_of (Bits 32 a ∷ Bits 27 restart.bottom ∷ []) 5 (kind_number restart.kind) [] (small, (fit.1, tt)) (kind_number-bound restart.kind) in
     (λ i. option_map (with_bottom (middle i)) (kind_with (high i) (low i)))
     ∙ ap (option_map (with_bottom restart.bottom)) (kind_again restart.kind fit.0)
 

@@ -7,3 +7,7 @@ pub mod Region
 pub mod Restart
 pub mod Link
 pub mod Finish
+pub mod Limits
+pub mod Shape
+pub mod Cells
+pub mod Memory

@@ -5,22 +5,22 @@ use Rattle.ppm_cells.specs.Fields.{Field, Bits, number_of, Fit, bits}
 use Rattle.ppm_cells.specs.Exact.{unpacked}
 use Rattle.ppm_cells.specs.declared.link.Link.{Link}
 use Rattle.ppm_cells.specs.declared.link.LinkKind.{LinkKind}
-use Rattle.ppm_cells.specs.declared.link.LinkKind.TheVariants.{Root, Call, Left, Right, Fork}
+use Rattle.ppm_cells.specs.declared.link.LinkKind.TheVariants.{Root, Call, Branch, Fork}
+use Rattle.ppm_cells.specs.declared.side.Side.TheVariants.{Left, Right}
 
 -- the kinds by number
 abbrev pub link_number : LinkKind → ℕ
 link_number Root = 1
 link_number (Call frame copy) = 2
-link_number (Left block) = 3
-link_number (Right block) = 4
+link_number (Branch Left block) = 3
+link_number (Branch Right block) = 4
 link_number (Fork frame copy) = 5
 
 -- the address and the copy, the lowest first
 abbrev pub link_address : LinkKind → List Field
 link_address Root = Bits 28 0 ∷ Bits 1 0 ∷ []
 link_address (Call frame copy) = Bits 28 frame ∷ Bits 1 copy ∷ []
-link_address (Left block) = Bits 28 block ∷ Bits 1 0 ∷ []
-link_address (Right block) = Bits 28 block ∷ Bits 1 0 ∷ []
+link_address (Branch side block) = Bits 28 block ∷ Bits 1 0 ∷ []
 link_address (Fork frame copy) = Bits 28 frame ∷ Bits 1 copy ∷ []
 
 -- a link's fields, the lowest first: address with copy, size, kind
@@ -41,8 +41,8 @@ abbrev pub link_with : (number address : ℕ) → Option LinkKind
 link_with number address =
     if number == 1 then Some Root
     else (if number == 2 then Some (Call (bits 0 28 address) (bits 28 1 address))
-    else (if number == 3 then Some (Left (bits 0 28 address))
-    else (if number == 4 then Some (Right (bits 0 28 address))
+    else (if number == 3 then Some (Branch Left (bits 0 28 address))
+    else (if number == 4 then Some (Branch Right (bits 0 28 address))
     else (if number == 5 then Some (Fork (bits 0 28 address) (bits 28 1 address))
     else None))))
 

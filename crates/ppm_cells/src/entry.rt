@@ -40,7 +40,10 @@ fn read(word: u64) -> Entry
         0 => Entry::Empty { tag },
         1 => Entry::Local { tag, block },
         2 => Entry::Job { tag, block },
-        _ => Entry::Taken { tag, taker: bits_of(word, 0, 7) as u32 },
+        _ => Entry::Taken {
+            tag,
+            taker: bits_of(word, 0, 7) as u32,
+        },
     }
 }
 

@@ -80,10 +80,24 @@ fn read(word: u64) -> Option<Finish>
             let trap = trap_of(bits_of(word, 3, 3))?;
             Some(Finish::Trapped { trap, line: number })
         }
-        3 => if number >= 64 { None } else { Some(Finish::OutOfTurns { processor: number }) },
-        4 => if number >= 64 { None } else { Some(Finish::OutOfRoom { place: number }) },
+        3 => if number >= 64 {
+            None
+        } else {
+            Some(Finish::OutOfTurns { processor: number })
+        },
+        4 => if number >= 64 {
+            None
+        } else {
+            Some(Finish::OutOfRoom { place: number })
+        },
         6 => Some(Finish::Stopped),
-        7 => if number >= 66 { None } else { Some(Finish::Broken { place: number.saturating_sub(1) }) },
+        7 => if number >= 66 {
+            None
+        } else {
+            Some(Finish::Broken {
+                place: number.saturating_sub(1),
+            })
+        },
         _ => None,
     }
 }

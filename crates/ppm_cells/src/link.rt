@@ -5,6 +5,7 @@ ghost use Rattle.ppm_cells.specs.Link.{link_address, link_number, link_with, lin
 ghost use Rattle.ppm_cells.specs.Link.{link_word, link_of, IsLink};
 
 use crate::field::{bits_of, joined};
+use crate::side::Side;
 
 /// The first word of a frame or a fork block: where its end leads, and its size in words, below 2^28.
 #[derive(Clone, Copy, Debug, PartialEq, Eq)]
@@ -20,10 +21,8 @@ pub enum LinkKind {
     Root,
     /// A frame that was called: the caller goes on here.
     Call { frame: u32, copy: u32 },
-    /// The frame of the left branch of this fork block.
-    Left { block: u32 },
-    /// The frame of the right branch of this fork block.
-    Right { block: u32 },
+    /// The frame of this branch of a fork block.
+    Branch { side: Side, block: u32 },
     /// A fork block: the parent goes on here.
     Fork { frame: u32, copy: u32 },
 }
@@ -37,8 +36,14 @@ impl LinkKind {
         match self {
             LinkKind::Root => 1,
             LinkKind::Call { .. } => 2,
-            LinkKind::Left { .. } => 3,
-            LinkKind::Right { .. } => 4,
+            LinkKind::Branch {
+                side: Side::Left,
+                ..
+            } => 3,
+            LinkKind::Branch {
+                side: Side::Right,
+                ..
+            } => 4,
             LinkKind::Fork { .. } => 5,
         }
     }
@@ -55,7 +60,7 @@ impl LinkKind {
             LinkKind::Call { frame, copy } | LinkKind::Fork { frame, copy } => {
                 joined(u64::from(copy), 28, u64::from(frame))
             }
-            LinkKind::Left { block } | LinkKind::Right { block } => u64::from(block),
+            LinkKind::Branch { block, .. } => u64::from(block),
         }
     }
 
@@ -69,8 +74,14 @@ impl LinkKind {
         match number {
             1 => Some(LinkKind::Root),
             2 => Some(LinkKind::Call { frame: block, copy }),
-            3 => Some(LinkKind::Left { block }),
-            4 => Some(LinkKind::Right { block }),
+            3 => Some(LinkKind::Branch {
+                side: Side::Left,
+                block,
+            }),
+            4 => Some(LinkKind::Branch {
+                side: Side::Right,
+                block,
+            }),
             5 => Some(LinkKind::Fork { frame: block, copy }),
             _ => None,
         }
@@ -94,7 +105,11 @@ impl Link {
         requires { IsLink self.now }
         ensures { result ≡ link_word self.now }
     {
-        joined(joined(self.kind.number(), 28, u64::from(self.size)), 29, self.kind.address())
+        joined(
+            joined(self.kind.number(), 28, u64::from(self.size)),
+            29,
+            self.kind.address(),
+        )
     }
 
     /// The link that a word stands for; `None` exactly for a word that no link packs to.

@@ -125,7 +125,9 @@ impl RestartKind {
                 victim: bits_of(address, 6, 6) as u32,
                 dead: bits_of(address, 0, 6) as u32,
             },
-            14 => RestartKind::Take2 { victim: bits_of(address, 0, 6) as u32 },
+            14 => RestartKind::Take2 {
+                victim: bits_of(address, 0, 6) as u32,
+            },
             _ => return None,
         };
         Some(kind)
@@ -149,7 +151,11 @@ impl Restart {
         requires { IsRestart self.now }
         ensures { result ≡ restart_word self.now }
     {
-        joined(joined(self.kind.number(), 27, u64::from(self.bottom)), 32, self.kind.address())
+        joined(
+            joined(self.kind.number(), 27, u64::from(self.bottom)),
+            32,
+            self.kind.address(),
+        )
     }
 
     /// The restart that a word stands for; `None` exactly for a word that no restart packs to.

@@ -7,4 +7,4 @@ pub returns : goal.returns
 returns c =
     let room : (64 - c.args.width) + c.args.width ≤ 64 = omega (arith, c.requires.width) in
     rw (shl_whole c.args.high (64 - c.args.width) c.args.width 64 c.requires.high room)
-      (or_shifted c.args.high c.args.width c.args.low c.requires.low)
+    (or_shifted c.args.high c.args.width c.args.low c.requires.low)
