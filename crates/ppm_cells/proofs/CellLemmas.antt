@@ -1,12 +1,13 @@
 -- Each address below the count is that of one cell, which is found from it.
-use Rattle.std.proofs.Common.{◌≡◌, ℕ, zero, suc, ◌⊎◌, inl, inr, ◌+◌, ◌-◌, ◌*◌, ◌/◌, ◌%◌, ◌<◌, ◌≤◌, Bool, true, false, cond, eqb, ltb, refl, sym, ap, subst, ◌∙◌, arith}
+use Rattle.std.proofs.Common.{◌≡◌, ℕ, zero, suc, inl, inr, ◌+◌, ◌-◌, ◌*◌, ◌/◌, ◌%◌, ◌<◌, ◌≤◌, true, false, cond, eqb, ltb, refl, sym, ap, ◌∙◌, arith}
 use Rattle.std.proofs.Math.Nat.{mul-le-mul_right}
 use Rattle.std.proofs.lemmas.Nat.{div-mul-add, mod-mul-add, div-add-mod', mod_below, div_below}
-use Rattle.std.proofs.lemmas.Bool.{cases_eq, cases_lt, cond_both, cond-true, cond-false, eqb-true, eqb-false, ne_eqb, ltb-true, ltb-false, lt-ltb, le-ltb}
+use Rattle.std.proofs.lemmas.Bool.{cases_eq, cases_lt, ne_eqb, lt-ltb, le-ltb}
 use Rattle.ppm_cells.specs.declared.shape.Shape.{Shape}
 use Rattle.ppm_cells.specs.declared.cell.Cell.{Cell}
-use Rattle.ppm_cells.specs.declared.cell.Cell.TheVariants.{FinishWord, CarryWord, DeadWord, RestartWord, MessageWord, HolderWord, Top, RoomCounter, EntryWord, BlockWord, ArrayWord}
-use Rattle.ppm_cells.specs.Cells.{place_size, place_at, pool_at, arrays_at, word_count, address, IsInPool, IsCell, AddressesDiffer, AddressesAreCells}
+use Rattle.ppm_cells.specs.declared.cell.Cell.TheVariants.{FinishWord, CarryWord, DeadWord, RestartWord, MessageWord, HolderWord}
+use Rattle.ppm_cells.specs.declared.cell.Cell.TheVariants.{Top, RoomCounter, EntryWord, BlockWord, ArrayWord}
+use Rattle.ppm_cells.specs.Cells.{place_size, place_at, arrays_at, word_count, address, IsCell, AddressesDiffer, AddressesAreCells}
 
 -- the cell of a place with this offset from its first word
 in_place : Shape → (place offset at : ℕ) → Cell
@@ -142,7 +143,8 @@ module _ (s : Shape) where
       let whole = div-add-mod' far size in
       elim (cases_lt far (s.processors * size)) [
         | inl before ↦
-            of_place (far / size) (far % size) at (div_below far size s.processors (omega arith) before) (mod_below far size (omega arith)) (omega (arith, whole, is))
+            of_place (far / size) (far % size) at (div_below far size s.processors (omega arith) before) (mod_below far size (omega arith))
+            (omega (arith, whole, is))
         | inr behind_ ↦ (ArrayWord (far - s.processors * size), omega (arith, behind_, is, h), omega (arith, behind_, is))
       ]
 

@@ -1,9 +1,9 @@
 -- Entries come back from their words.
-use Rattle.std.proofs.Common.{◌≡◌, ℕ, Bool, true, false, cond, eqb, [], ◌∷◌, Option, Some, None, IfSome, refl, sym, ap, ◌∙◌, lit<}
+use Rattle.std.proofs.Common.{◌≡◌, ℕ, eqb, [], ◌∷◌, Some, refl, lit<}
 use Rattle.std.proofs.lemmas.Bool.{cond_both}
-use Rattle.ppm_cells.specs.Fields.{Field, Bits, number_of, Fit, bits}
+use Rattle.ppm_cells.specs.Fields.{Bits, bits}
 use Rattle.ppm_cells.specs.Exact.{IsExact}
-use Rattle.ppm_cells.specs.Entry.{entry_fields, entry_word, IsEntry, entry_with, entry_read, entry_of}
+use Rattle.ppm_cells.specs.Entry.{entry_word, IsEntry, entry_with, entry_read, entry_of}
 use Rattle.ppm_cells.specs.declared.entry.Entry.{Entry}
 use Rattle.ppm_cells.specs.declared.entry.Entry.TheVariants.{Empty, Local, Job, Taken}
 use Rattle.ppm_cells.proofs.FieldsLemmas.{bits-number_of, bits-bound}

@@ -1,10 +1,10 @@
 -- Finish words come back from their words.
-use Rattle.std.proofs.Common.{◌≡◌, ℕ, ◌+◌, ◌-◌, ◌^◌, ◌<◌, ◌≤◌, Bool, true, false, cond, eqb, leb, [], ◌∷◌, Option, Some, None, IfSome, refl, sym, ap, ◌∙◌, arith, lit<}
+use Rattle.std.proofs.Common.{◌≡◌, ℕ, ◌+◌, ◌-◌, ◌^◌, ◌<◌, ◌≤◌, Bool, true, false, cond, eqb, leb, [], ◌∷◌, Option, Some, None, IfSome, refl, ◌∙◌, arith, lit<}
 use Rattle.std.specs.Option.{option_map}
 use Rattle.std.proofs.lemmas.Bool.{eqb-false, ne_eqb, leb-false, lt-leb}
 use Rattle.ppm_words.specs.declared.trap.Trap.{Trap}
 use Rattle.ppm_words.specs.declared.trap.Trap.TheVariants.{Overflow, DivZero, Index, Split}
-use Rattle.ppm_cells.specs.Fields.{Field, Bits, number_of, Fit, bits}
+use Rattle.ppm_cells.specs.Fields.{Bits, number_of, bits}
 use Rattle.ppm_cells.specs.Exact.{IsExact}
 use Rattle.ppm_cells.specs.Finish.{trap_number, fields_with, finish_word, IsFinish, trap_with, at_line, finish_with, finish_read, finish_of}
 use Rattle.ppm_cells.specs.declared.finish.Finish.{Finish}

@@ -1,8 +1,8 @@
 -- Holders come back from their words, and every word is that of one.
-use Rattle.std.proofs.Common.{◌≡◌, ℕ, ◌^◌, ◌<◌, [], ◌∷◌, Bool, true, cond, eqb, Option, Some, None, IsSome, refl, subst, sym}
+use Rattle.std.proofs.Common.{◌≡◌, ℕ, ◌^◌, ◌<◌, [], ◌∷◌, Some, IsSome, refl}
 use Rattle.std.proofs.lemmas.Bool.{eq-eqb}
-use Rattle.ppm_cells.specs.Fields.{Bits, number_of, bits}
-use Rattle.ppm_cells.specs.Exact.{packed_to, unpacked, IsExact}
+use Rattle.ppm_cells.specs.Fields.{Bits, bits}
+use Rattle.ppm_cells.specs.Exact.{unpacked, IsExact}
 use Rattle.ppm_cells.specs.Holder.{holder_word, IsHolder, holder_read, holder_of}
 use Rattle.ppm_cells.specs.declared.holder.Holder.{Holder}
 use Rattle.ppm_cells.proofs.FieldsLemmas.{bits-number_of, bits-bound, number_of-both}

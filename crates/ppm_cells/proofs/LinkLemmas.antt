@@ -1,7 +1,7 @@
 -- Links come back from their words.
-use Rattle.std.proofs.Common.{◌≡◌, ℕ, ◌^◌, ◌<◌, Bool, true, false, cond, eqb, [], ◌∷◌, Option, Some, None, IfSome, refl, sym, ap, ◌∙◌, lit<}
+use Rattle.std.proofs.Common.{◌≡◌, ℕ, ◌^◌, ◌<◌, eqb, [], ◌∷◌, Option, Some, None, IfSome, refl, ap, ◌∙◌, lit<}
 use Rattle.std.specs.Option.{option_map}
-use Rattle.ppm_cells.specs.Fields.{Field, Bits, number_of, Fit, width_of, bits}
+use Rattle.ppm_cells.specs.Fields.{Bits, number_of, Fit, bits}
 use Rattle.ppm_cells.specs.Exact.{IsExact}
 use Rattle.ppm_cells.specs.Link.{link_number, link_address, link_word, IsLink, link_with, with_size, link_read, link_of}
 use Rattle.ppm_cells.specs.declared.link.Link.{Link}

@@ -1,12 +1,13 @@
 -- What is stored is read.
-use Rattle.std.proofs.Common.{◌≡◌, ◌≢◌, ◌↔◌, ℕ, ◌<◌, Option, Some, List, length, get_or, set, slice_index, slice_set, refl, sym, ap, subst, ◌∙◌, arith}
+use Rattle.std.proofs.Common.{ℕ, ◌<◌, Option, refl, sym, ap, subst, ◌∙◌, arith}
 use Rattle.std.proofs.lemmas.List.{get_or-set_same, get_or-set_other}
 use Rattle.ppm_cells.specs.declared.shape.Shape.{Shape}
 use Rattle.ppm_cells.specs.declared.cell.Cell.{Cell}
-use Rattle.ppm_cells.specs.declared.cell.Cell.TheVariants.{FinishWord, CarryWord, DeadWord, RestartWord, MessageWord, HolderWord, Top, RoomCounter, EntryWord, BlockWord, ArrayWord}
+use Rattle.ppm_cells.specs.declared.cell.Cell.TheVariants.{FinishWord, CarryWord, DeadWord, RestartWord, MessageWord, HolderWord}
+use Rattle.ppm_cells.specs.declared.cell.Cell.TheVariants.{Top, RoomCounter, EntryWord, BlockWord, ArrayWord}
 use Rattle.ppm_cells.specs.Exact.{IsExact}
-use Rattle.ppm_cells.specs.Cells.{word_count, address, IsCell, IsWithin}
-use Rattle.ppm_cells.specs.Memory.{read, write, AreWordsOf, StoresAreRead, OthersStay, PackedStoresAreSeen}
+use Rattle.ppm_cells.specs.Cells.{word_count, address, IsWithin}
+use Rattle.ppm_cells.specs.Memory.{StoresAreRead, OthersStay, PackedStoresAreSeen}
 use Rattle.ppm_cells.proofs.CellLemmas.{place_end, differ}
 
 module _ (s : Shape) where

@@ -1,8 +1,8 @@
 -- Regions come back from their words, and every word is that of one.
-use Rattle.std.proofs.Common.{◌≡◌, ℕ, ◌^◌, ◌<◌, [], ◌∷◌, Bool, true, cond, eqb, Option, Some, None, IsSome, refl, subst, sym}
+use Rattle.std.proofs.Common.{◌≡◌, ℕ, ◌^◌, ◌<◌, [], ◌∷◌, Some, IsSome, refl}
 use Rattle.std.proofs.lemmas.Bool.{eq-eqb}
-use Rattle.ppm_cells.specs.Fields.{Bits, number_of, bits}
-use Rattle.ppm_cells.specs.Exact.{packed_to, unpacked, IsExact}
+use Rattle.ppm_cells.specs.Fields.{Bits, bits}
+use Rattle.ppm_cells.specs.Exact.{unpacked, IsExact}
 use Rattle.ppm_cells.specs.Region.{region_word, IsRegion, region_read, region_of}
 use Rattle.ppm_cells.specs.declared.region.Region.{Region}
 use Rattle.ppm_cells.proofs.FieldsLemmas.{bits-number_of, bits-bound, number_of-both}

@@ -1,7 +1,7 @@
 -- Restarts come back from their words.
-use Rattle.std.proofs.Common.{◌≡◌, ℕ, ◌^◌, ◌<◌, Bool, true, false, cond, eqb, [], ◌∷◌, Option, Some, None, IfSome, refl, sym, ap, ◌∙◌, lit<}
+use Rattle.std.proofs.Common.{◌≡◌, ℕ, ◌^◌, ◌<◌, eqb, [], ◌∷◌, Option, Some, None, IfSome, refl, ap, ◌∙◌, lit<}
 use Rattle.std.specs.Option.{option_map}
-use Rattle.ppm_cells.specs.Fields.{Field, Bits, number_of, Fit, width_of, bits}
+use Rattle.ppm_cells.specs.Fields.{Bits, number_of, Fit, bits}
 use Rattle.ppm_cells.specs.Exact.{IsExact}
 use Rattle.ppm_cells.specs.Sides.{side_number, side_with}
 use Rattle.ppm_cells.specs.Restart.{kind_number, address_fields, restart_word, IsRestart, kind_with, with_bottom, restart_read, restart_of}

@@ -1,7 +1,6 @@
 -- The shape that sizes give.
 use Rattle.std.specs.Prelude.{◌≡◌, ℕ}
 use Rattle.ppm_cells.specs.declared.shape.Shape.{Shape}
-use Rattle.ppm_cells.specs.declared.shape.Takeover.{Takeover}
 use Rattle.ppm_cells.specs.declared.shape.Takeover.TheVariants.{ByPlaces}
 
 -- a shape with these sizes, and with takeover by places

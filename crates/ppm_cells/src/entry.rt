@@ -1,6 +1,7 @@
 //! The entries of a deque.
 ghost use Rattle.std.specs.Prelude.{◌≡◌, ◌↔◌, ◌^◌, ◌<◌, [], ◌∷◌};
 ghost use Rattle.ppm_cells.specs.Fields.{number_of, Bits, bits};
+ghost use Rattle.ppm_cells.specs.Exact.{IsWhatPacksTo};
 ghost use Rattle.ppm_cells.specs.Entry.{entry_word, entry_of, entry_with, IsEntry};
 
 use crate::field::{bits_of, joined};
@@ -66,7 +67,7 @@ impl Entry {
     #[tactic(auto, unfolding(crate::specs::Exact::unpacked))]
     pub fn unpack(word: u64) -> Option<Entry>
         ensures value { result ≡ entry_of word }
-        ensures exactly { (entry : Entry) → (result ≡ Some entry) ↔ (IsEntry entry × (entry_word entry ≡ word)) }
+        ensures exactly { IsWhatPacksTo entry_word IsEntry word result }
     {
         let entry = read(word);
         (entry.pack() == word).then_some(entry)

@@ -1,6 +1,7 @@
 //! How a run, or a strand, came to its end.
 ghost use Rattle.std.specs.Prelude.{◌≡◌, ◌↔◌, ◌^◌, ◌<◌, [], ◌∷◌, IfSome};
 ghost use Rattle.ppm_cells.specs.Fields.{number_of};
+ghost use Rattle.ppm_cells.specs.Exact.{IsWhatPacksTo};
 ghost use Rattle.ppm_cells.specs.Finish.{trap_number, trap_with, fields_with, finish_read};
 ghost use Rattle.ppm_cells.specs.Finish.{finish_word, finish_of, IsFinish};
 
@@ -123,7 +124,7 @@ impl Finish {
     #[tactic(auto, unfolding(crate::specs::Exact::unpacked))]
     pub fn unpack(word: u64) -> Option<Finish>
         ensures value { result ≡ finish_of word }
-        ensures exactly { (finish : Finish) → (result ≡ Some finish) ↔ (IsFinish finish × (finish_word finish ≡ word)) }
+        ensures exactly { IsWhatPacksTo finish_word IsFinish word result }
     {
         let finish = read(word)?;
         (finish.pack() == word).then_some(finish)

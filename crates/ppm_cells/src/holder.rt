@@ -1,5 +1,6 @@
 //! Who carries a place.
 ghost use Rattle.std.specs.Prelude.{◌≡◌, ◌↔◌, IsSome};
+ghost use Rattle.ppm_cells.specs.Exact.{IsWhatPacksTo};
 ghost use Rattle.ppm_cells.specs.Holder.{holder_word, holder_of, IsHolder};
 
 use crate::field::{bits_of, joined};
@@ -25,7 +26,7 @@ impl Holder {
     #[tactic(auto, unfolding(crate::specs::Exact::unpacked))]
     pub fn unpack(word: u64) -> Option<Holder>
         ensures value { result ≡ holder_of word }
-        ensures exactly { (holder : Holder) → (result ≡ Some holder) ↔ (IsHolder holder × (holder_word holder ≡ word)) }
+        ensures exactly { IsWhatPacksTo holder_word IsHolder word result }
         ensures every { IsSome result }
     {
         let tag = bits_of(word, 6, 58);

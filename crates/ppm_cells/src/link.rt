@@ -1,6 +1,7 @@
 //! Where a block's strand goes back to.
 ghost use Rattle.std.specs.Prelude.{◌≡◌, ◌↔◌, ◌^◌, ◌<◌, IfSome};
 ghost use Rattle.ppm_cells.specs.Fields.{number_of, Fit, bits};
+ghost use Rattle.ppm_cells.specs.Exact.{IsWhatPacksTo};
 ghost use Rattle.ppm_cells.specs.Link.{link_address, link_number, link_with, link_read};
 ghost use Rattle.ppm_cells.specs.Link.{link_word, link_of, IsLink};
 
@@ -116,7 +117,7 @@ impl Link {
     #[tactic(auto, unfolding(crate::specs::Exact::unpacked))]
     pub fn unpack(word: u64) -> Option<Link>
         ensures value { result ≡ link_of word }
-        ensures exactly { (link : Link) → (result ≡ Some link) ↔ (IsLink link × (link_word link ≡ word)) }
+        ensures exactly { IsWhatPacksTo link_word IsLink word result }
     {
         let link = read(word)?;
         (link.pack() == word).then_some(link)

@@ -1,5 +1,6 @@
 //! Regions of the array words.
 ghost use Rattle.std.specs.Prelude.{◌≡◌, ◌↔◌, IsSome};
+ghost use Rattle.ppm_cells.specs.Exact.{IsWhatPacksTo};
 ghost use Rattle.ppm_cells.specs.Region.{region_word, region_of, IsRegion};
 
 use crate::field::{bits_of, joined};
@@ -25,7 +26,7 @@ impl Region {
     #[tactic(auto, unfolding(crate::specs::Exact::unpacked))]
     pub fn unpack(word: u64) -> Option<Region>
         ensures value { result ≡ region_of word }
-        ensures exactly { (region : Region) → (result ≡ Some region) ↔ (IsRegion region × (region_word region ≡ word)) }
+        ensures exactly { IsWhatPacksTo region_word IsRegion word result }
         ensures every { IsSome result }
     {
         let start = bits_of(word, 32, 32) as u32;

@@ -1,6 +1,7 @@
 //! Where a place goes on.
 ghost use Rattle.std.specs.Prelude.{◌≡◌, ◌↔◌, ◌^◌, ◌<◌, IfSome};
 ghost use Rattle.ppm_cells.specs.Fields.{number_of, Fit, bits};
+ghost use Rattle.ppm_cells.specs.Exact.{IsWhatPacksTo};
 ghost use Rattle.ppm_cells.specs.Restart.{address_fields, kind_number, kind_with, restart_read};
 ghost use Rattle.ppm_cells.specs.Restart.{restart_word, restart_of, IsRestart};
 
@@ -162,7 +163,7 @@ impl Restart {
     #[tactic(auto, unfolding(crate::specs::Exact::unpacked))]
     pub fn unpack(word: u64) -> Option<Restart>
         ensures value { result ≡ restart_of word }
-        ensures exactly { (restart : Restart) → (result ≡ Some restart) ↔ (IsRestart restart × (restart_word restart ≡ word)) }
+        ensures exactly { IsWhatPacksTo restart_word IsRestart word result }
     {
         let restart = read(word)?;
         (restart.pack() == word).then_some(restart)

@@ -1,4 +1,4 @@
-use Rattle.std.proofs.Common.{◌≡◌, ◌+◌, ◌-◌, ◌*◌, ◌^◌, ◌<◌, ◌/◌, ◌%◌, bit_and, ℕ, arith, sym, ap, ◌∙◌}
+use Rattle.std.proofs.Common.{◌^◌, ◌/◌}
 use Rattle.std.proofs.lemmas.Nat.{and_mask, one_shl}
 use Rattle.ppm_cells.specs.Fields.{bits}
 use Rattle.ppm_cells.proofs.field.bits_of.Goals as goal

@@ -1,5 +1,4 @@
-use Rattle.std.proofs.Common.{◌≡◌, refl, lit≤}
-use Rattle.ppm_cells.specs.declared.shape.Shape.{Shape}
+use Rattle.std.proofs.Common.{refl, lit≤}
 use Rattle.ppm_cells.specs.declared.shape.Takeover.TheVariants.{ByPlaces}
 use Rattle.ppm_cells.proofs.laws.greatest_word_count.Goals as goal
 

@@ -10,7 +10,6 @@ use Rattle.ppm_cells.specs.Finish.{finish_word, IsFinish, finish_of}
 use Rattle.ppm_cells.proofs.FinishLemmas.{finishes_exact}
 use Rattle.ppm_cells.specs.Region.{region_word, IsRegion, region_of}
 use Rattle.ppm_cells.proofs.RegionLemmas.{regions_exact}
-use Rattle.ppm_cells.specs.Memory.{StoresAreRead}
 use Rattle.ppm_cells.proofs.MemoryLemmas.{read_back, seen}
 use Rattle.ppm_cells.proofs.laws.stored_values_are_seen.Goals as goal
 

@@ -1,4 +1,4 @@
-use Rattle.std.proofs.Common.{◌≡◌, None, rules}
+use Rattle.std.proofs.Common.{◌≡◌, rules}
 use Rattle.ppm_cells.specs.Exact.{unpacked}
 use Rattle.ppm_cells.specs.Finish.{finish_of}
 use Rattle.ppm_cells.proofs.FinishLemmas.{finishes_exact}
