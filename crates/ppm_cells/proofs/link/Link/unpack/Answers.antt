@@ -1,0 +1,19 @@
+use Rattle.std.proofs.Common.{◌≡◌, rules}
+use Rattle.ppm_cells.specs.Exact.{unpacked}
+use Rattle.ppm_cells.specs.Link.{link_of}
+use Rattle.ppm_cells.proofs.LinkLemmas.{links_exact}
+use Rattle.ppm_cells.proofs.link.Link.unpack.Goals as goal
+
+-- nothing was read
+pub returns-in_err-link-clause-exactly : goal.returns-in_err-link-clause-exactly
+unfolding unpacked
+returns-in_err-link-clause-exactly c =
+    let is : c.from_residual.result ≡ link_of c.args.word = search rules in
+    rw is (links_exact c.args.word)
+
+-- what was read, if it packs to the word
+pub returns-clause-exactly : goal.returns-clause-exactly
+unfolding unpacked
+returns-clause-exactly c =
+    let is : c.then_some.result ≡ link_of c.args.word = search rules in
+    rw is (links_exact c.args.word)

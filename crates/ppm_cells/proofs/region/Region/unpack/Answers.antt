@@ -1,0 +1,19 @@
+use Rattle.std.proofs.Common.{◌≡◌, rules}
+use Rattle.ppm_cells.specs.Exact.{unpacked}
+use Rattle.ppm_cells.specs.Region.{region_of}
+use Rattle.ppm_cells.proofs.RegionLemmas.{regions_exact, every_word}
+use Rattle.ppm_cells.proofs.region.Region.unpack.Goals as goal
+
+-- what was read, if it packs to the word
+pub returns-clause-exactly : goal.returns-clause-exactly
+unfolding unpacked
+returns-clause-exactly c =
+    let is : c.then_some.result ≡ region_of c.args.word = search rules in
+    rw is (regions_exact c.args.word)
+
+-- it always does
+pub returns-clause-every : goal.returns-clause-every
+unfolding unpacked
+returns-clause-every c =
+    let is : c.then_some.result ≡ region_of c.args.word = search rules in
+    rw is (every_word c.args.word c.ranges.word.fits)

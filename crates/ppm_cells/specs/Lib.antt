@@ -1,0 +1,13 @@
+pub mod Fields
+pub mod Exact
+pub mod Sides
+pub mod Entry
+pub mod Holder
+pub mod Region
+pub mod Restart
+pub mod Link
+pub mod Finish
+pub mod Limits
+pub mod Shape
+pub mod Cells
+pub mod Memory

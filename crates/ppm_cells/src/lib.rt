@@ -1,0 +1,34 @@
+//! The words of the machine: what is packed into them, and the cells in which they lie.
+//! Model: a packing is a list of fields of bits (`specs/Fields`), a cell a name of a word (`specs/Cells`).
+//! Contract: what is packed comes back from that word alone; addresses of different cells differ.
+//! Stands on `ppm_words`; code, layout and the step of the machine stand on it.
+//! After the restart, entry and holder words of Blelloch et al., SPAA 2018; the packings are this project's.
+#![tactic(auto)]
+
+mod cell;
+mod entry;
+mod field;
+mod finish;
+mod holder;
+mod laws;
+mod link;
+mod region;
+mod restart;
+mod shape;
+mod side;
+#[cfg(test)]
+mod tests;
+
+pub use cell::Cell;
+pub use entry::Entry;
+pub use finish::Finish;
+pub use holder::Holder;
+pub use laws::{
+    cells_are_the_words, greatest_word_count, packings_are_exact, stored_values_are_seen,
+    stores_change_one_cell,
+};
+pub use link::{Link, LinkKind};
+pub use region::Region;
+pub use restart::{Restart, RestartKind};
+pub use shape::{Shape, Takeover};
+pub use side::Side;
