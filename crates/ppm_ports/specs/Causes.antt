@@ -1,5 +1,5 @@
 -- When a fault may be told.
-use Rattle.std.specs.Prelude.{◌≡◌, if◌then◌else◌, is_err, ℕ, ◌+◌, ◌-◌, ◌^◌, ◌≤◌, min, Result, OnErr}
+use Rattle.std.specs.Prelude.{◌≡◌, if◌then◌else◌, is_err, ℕ, ◌+◌, ◌-◌, ◌^◌, ◌≤◌, min, Result, OnErr, OnOk}
 
 -- a count one up, which stays at the last number of 64 bits
 abbrev pub one_up : ℕ → ℕ
@@ -13,7 +13,8 @@ Rose before now = one_up before ≤ now
 abbrev pub Counts : {T E : Type 0} → ℕ → ℕ → Result T E → Type 0
 Counts before now result = now ≡ (if is_err result then one_up before else before)
 
--- the count doesn't fall, and an error is told only where it rose
+-- the count doesn't fall, an error is told only where it rose, and without one it stays
 pub record HasCause {T E : Type 0} (before now : ℕ) (result : Result T E) : Type 0 where
   pub later : before ≤ now
   pub failed : OnErr result (Rose before now)
+  pub quiet : OnOk result (now ≡ before)

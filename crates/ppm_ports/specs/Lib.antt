@@ -3,3 +3,4 @@ pub mod Told
 pub mod Memory
 pub mod Whole
 pub mod Ports
+pub mod Outside

@@ -1,5 +1,5 @@
 //! A whole input.
-ghost use Rattle.std.specs.Prelude.{◌≤◌, IfOk, IsErrOf};
+ghost use Rattle.std.specs.Prelude.{◌≡◌, ◌≤◌, IfOk, OnOk, IsErrOf};
 ghost use Rattle.ppm_ports.specs.Causes.{Rose};
 ghost use Rattle.ppm_ports.specs.Whole.{ReadsFront, ReadsTo};
 
@@ -22,6 +22,7 @@ pub fn read_whole<S: Source>(
     ensures front { ReadsFront limit (S.left source.old) (S.left source.new) }
     ensures cause { IsErrOf result ReadError.Failed
         → Rose (S.fault_count source.old) (S.fault_count source.new) }
+    ensures quiet { OnOk result (S.fault_count source.new ≡ S.fault_count source.old) }
     ensures later { S.fault_count source.old ≤ S.fault_count source.new }
 {
     let mut text = Vec::new(alloc);

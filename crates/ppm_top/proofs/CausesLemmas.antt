@@ -1,35 +1,49 @@
 -- Want of memory may always be answered.
-use Rattle.std.proofs.Common.{ℕ, List, [], Option, Some, None, refl, arith}
+use Rattle.std.proofs.Common.{◌⊎◌, ℕ, List, [], Option, Some, None, inl, inr, refl, arith}
 use Rattle.std.proofs.KnownBytes.{Keeps-refl, Consumes-nil, Consumes-kept}
 use Rattle.ppm_ports.specs.Ports.{Port, port}
-use Rattle.ppm_top.specs.declared.answer.Answer.{Answer}
-use Rattle.ppm_top.specs.declared.answer.Answer.TheVariants as answers
+use Rattle.ppm_ports.specs.Outside.{Outside}
+use Rattle.ppm_answers.specs.declared.answer.Answer.{Answer}
+use Rattle.ppm_answers.specs.declared.answer.Answer.TheVariants as answers
+use Rattle.ppm_answers.specs.declared.status.Status.{Status}
+use Rattle.ppm_answers.specs.Delivery.{Delivers}
 use Rattle.ppm_line.specs.declared.command.Command.{Command}
 use Rattle.ppm_line.specs.declared.command.Command.TheVariants as commands
-use Rattle.ppm_top.specs.Causes.{IsUnread, CommandMay}
+use Rattle.ppm_line.specs.declared.command.RunOptions.{RunOptions}
+use Rattle.ppm_top.specs.Causes.{IsUnread, RunMay, CommandMay, Answers}
+use Rattle.ppm_top.specs.Judging.{ReadingJudges}
 
--- where any answer may come, out of memory may come in its place
-pub memory_may : (command : Option Command) (source : Port) (answer : Answer) → CommandMay command source answer →
-    CommandMay command source answers.NoMemory
-memory_may None source (answers.Ended arrays) h = absurd h
-memory_may None source (answers.Trapped t line) h = absurd h
-memory_may None source (answers.SourceRefused r) h = absurd h
-memory_may None source answers.WordsRefused h = h
-memory_may None source answers.ReadFault h = absurd h
-memory_may None source answers.NoMemory h = h
-memory_may (Some (commands.Run options)) source (answers.Ended arrays) h = (h.0, h.1.most, h.1.front)
-memory_may (Some (commands.Run options)) source (answers.Trapped t line) h = (h.0, h.1.most, h.1.front)
-memory_may (Some (commands.Run options)) source (answers.SourceRefused r) h = (h.0, h.1.most, h.1.front)
-memory_may (Some (commands.Run options)) source answers.WordsRefused h = absurd h
-memory_may (Some (commands.Run options)) source answers.ReadFault h = h.1
-memory_may (Some (commands.Run options)) source answers.NoMemory h = h
+-- where any answer of `run` may come, out of memory may come in its place
+run_memory : (options : RunOptions) (o : Outside) (answer : Answer) → RunMay options o answer → RunMay options o answers.NoMemory
+run_memory options o (answers.Ended arrays) h = (h.0, h.1.whole.most, h.1.whole.front)
+run_memory options o (answers.Trapped t line) h = (h.0, h.1.whole.most, h.1.whole.front)
+run_memory options o (answers.SourceRefused r) h = (h.0, h.1.whole.most, h.1.whole.front)
+run_memory options o answers.WordsRefused h = absurd h
+run_memory options o answers.ReadFault h = h.1
+run_memory options o answers.NoMemory h = h
 
--- where nothing was read, out of memory may be the answer, whatever the words are
-pub memory_before : (command : Option Command) (source : Port) → IsUnread source → CommandMay command source answers.NoMemory
-memory_before None source h = h
-memory_before (Some (commands.Run options)) source h =
-    ([], omega arith, Consumes-kept source.before source.before source.now [] (Consumes-nil source.before) h.kept)
+-- what the reading comes to may be answered by `run`
+run_cause : (options : RunOptions) (o : Outside) (answer : Answer) → ReadingJudges o.source answer → RunMay options o answer
+run_cause options o (answers.Ended arrays) h = h
+run_cause options o (answers.Trapped t line) h = h
+run_cause options o (answers.SourceRefused r) h = h
+run_cause options o answers.WordsRefused h = absurd h.2
+run_cause options o answers.ReadFault h = h
+run_cause options o answers.NoMemory h = h
+
+-- what was delivered of an answer of `run` is the answer, or out of memory in its place
+pub run_delivered : (options : RunOptions) (o : Outside) (answer : Answer) (status : Status) → ReadingJudges o.source answer →
+    Delivers o.out o.err answer status ⊎ Delivers o.out o.err answers.NoMemory status → Answers (RunMay options o) o status
+run_delivered options o answer status h (inl d) = record { answer = answer; cause = run_cause options o answer h; delivered = d }
+run_delivered options o answer status h (inr d) =
+    record { answer = answers.NoMemory; cause = run_memory options o answer (run_cause options o answer h); delivered = d }
+
+-- where nothing was read, out of memory may be the answer, whatever the command is
+pub memory_before : (command : Option Command) (o : Outside) → IsUnread o.source → CommandMay command o answers.NoMemory
+memory_before None o h = h
+memory_before (Some (commands.Run options)) o h =
+    ([], omega arith, Consumes-kept o.source.before o.source.before o.source.now [] (Consumes-nil o.source.before) h.kept)
 
 -- a port that is left alone is unread
 pub left_alone : {K : Type 0} (bytes : K → Option (List ℕ)) (faults : K → ℕ) (k : K) → IsUnread (port bytes faults k k)
-left_alone bytes faults k = record { kept = Keeps-refl (bytes k); faults = refl }
+left_alone bytes faults k = record { kept = Keeps-refl (bytes k); holds = refl }

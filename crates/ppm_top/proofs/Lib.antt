@@ -1,7 +1,8 @@
 pub mod CausesLemmas
 pub mod RefusalLemmas
 pub mod OutcomeLemmas
-pub mod RowsLemmas
+pub mod StopLemmas
+pub mod rows
 pub mod ArraysInWords
 pub mod ExpressionRuns
 pub mod StatementRuns

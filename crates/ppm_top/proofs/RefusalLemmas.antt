@@ -23,9 +23,9 @@ use Rattle.ppm_syntax.specs.Faults as syntax
 use Rattle.ppm_syntax.specs.RegionFaults.{HaveOneRegionFault}
 use Rattle.ppm_syntax.specs.RegionFaults as region
 use Rattle.ppm_top.specs.Bounds.{capsule_bound, capsule_limit, FitsCode}
-use Rattle.ppm_top.specs.declared.refusal.Refusal.{Refusal}
-use Rattle.ppm_top.specs.declared.refusal.Refusal.TheVariants as refusal
-use Rattle.ppm_top.specs.Refusals.{IsTextFault, IsSyntaxFault, IsRegionFault, IsRefusal}
+use Rattle.ppm_answers.specs.declared.refusal.Refusal.{Refusal}
+use Rattle.ppm_top.specs.Refusals.{IsTextFault, IsSyntaxFault, IsRegionFault, IsRefusal, by_text, by_syntax, by_region, by_capsules}
+use Rattle.ppm_top.specs.Refusals.{text_refusal, syntax_refusal, region_refusal, capsules_refusal}
 use Rattle.ppm_top.specs.Causes.{ComesTo, HasNoOutcome}
 use Rattle.ppm_top.specs.Correct.{HaveOneRefusal}
 use Rattle.ppm_top.proofs.OutcomeLemmas.{has_outcome}
@@ -86,31 +86,30 @@ admitted_unfaulted laws text t e h f =
 
 -- two refusals of a text are one
 one_refusal : Laws → (text : List ℕ) (r s : Refusal) → IsRefusal text r → IsRefusal text s → r ≡ s
-one_refusal laws text (refusal.Text e) (refusal.Text f) h k = ap refusal.Text (one_text_fault laws h.fault k.fault h.given k.given)
-one_refusal laws text (refusal.Text e) (refusal.Syntax f) h k = absurd (cut_unrefused laws k.short k.tokens k.cut h.fault h.given)
-one_refusal laws text (refusal.Text e) (refusal.Region f) h k = absurd (tree_unrefused laws text k.tree e k.short k.derived h)
-one_refusal laws text (refusal.Text e) refusal.TooManyCapsules h k = absurd (tree_unrefused laws text k.tree e k.has_tree.short k.has_tree.tree h)
-one_refusal laws text (refusal.Syntax e) (refusal.Text f) h k = absurd (cut_unrefused laws h.short h.tokens h.cut k.fault k.given)
-one_refusal laws text (refusal.Syntax e) (refusal.Syntax f) h k = ap refusal.Syntax (one_syntax_fault laws text e f h k)
-one_refusal laws text (refusal.Syntax e) (refusal.Region f) h k = absurd (tree_unfaulted laws text k.tree e k.derived k.within h)
-one_refusal laws text (refusal.Syntax e) refusal.TooManyCapsules h k =
-    absurd (tree_unfaulted laws text k.tree e k.has_tree.tree k.has_tree.within h)
-one_refusal laws text (refusal.Region e) (refusal.Text f) h k = absurd (tree_unrefused laws text h.tree f h.short h.derived k)
-one_refusal laws text (refusal.Region e) (refusal.Syntax f) h k = absurd (tree_unfaulted laws text h.tree f h.derived h.within k)
-one_refusal laws text (refusal.Region e) (refusal.Region f) h k = ap refusal.Region (one_region_fault laws text e f h k)
-one_refusal laws text (refusal.Region e) refusal.TooManyCapsules h k = absurd (admitted_unfaulted laws text k.tree e k.has_tree h)
-one_refusal laws text refusal.TooManyCapsules (refusal.Text f) h k = absurd (tree_unrefused laws text h.tree f h.has_tree.short h.has_tree.tree k)
-one_refusal laws text refusal.TooManyCapsules (refusal.Syntax f) h k =
+one_refusal laws text _ _ (by_text h) (by_text k) = ap text_refusal (one_text_fault laws h.fault k.fault h.given k.given)
+one_refusal laws text _ _ (by_text h) (by_syntax k) = absurd (cut_unrefused laws k.short k.tokens k.cut h.fault h.given)
+one_refusal laws text _ _ (by_text {e = e} h) (by_region k) = absurd (tree_unrefused laws text k.tree e k.short k.derived h)
+one_refusal laws text _ _ (by_text {e = e} h) (by_capsules k) = absurd (tree_unrefused laws text k.tree e k.has_tree.short k.has_tree.tree h)
+one_refusal laws text _ _ (by_syntax h) (by_text k) = absurd (cut_unrefused laws h.short h.tokens h.cut k.fault k.given)
+one_refusal laws text _ _ (by_syntax {e = e} h) (by_syntax {e = f} k) = ap syntax_refusal (one_syntax_fault laws text e f h k)
+one_refusal laws text _ _ (by_syntax {e = e} h) (by_region k) = absurd (tree_unfaulted laws text k.tree e k.derived k.within h)
+one_refusal laws text _ _ (by_syntax {e = e} h) (by_capsules k) = absurd (tree_unfaulted laws text k.tree e k.has_tree.tree k.has_tree.within h)
+one_refusal laws text _ _ (by_region h) (by_text {e = f} k) = absurd (tree_unrefused laws text h.tree f h.short h.derived k)
+one_refusal laws text _ _ (by_region h) (by_syntax {e = f} k) = absurd (tree_unfaulted laws text h.tree f h.derived h.within k)
+one_refusal laws text _ _ (by_region {e = e} h) (by_region {e = f} k) = ap region_refusal (one_region_fault laws text e f h k)
+one_refusal laws text _ _ (by_region {e = e} h) (by_capsules k) = absurd (admitted_unfaulted laws text k.tree e k.has_tree h)
+one_refusal laws text _ _ (by_capsules h) (by_text {e = f} k) = absurd (tree_unrefused laws text h.tree f h.has_tree.short h.has_tree.tree k)
+one_refusal laws text _ _ (by_capsules h) (by_syntax {e = f} k) =
     absurd (tree_unfaulted laws text h.tree f h.has_tree.tree h.has_tree.within k)
-one_refusal laws text refusal.TooManyCapsules (refusal.Region f) h k = absurd (admitted_unfaulted laws text h.tree f h.has_tree k)
-one_refusal laws text refusal.TooManyCapsules refusal.TooManyCapsules h k = refl
+one_refusal laws text _ _ (by_capsules h) (by_region {e = f} k) = absurd (admitted_unfaulted laws text h.tree f h.has_tree k)
+one_refusal laws text _ _ (by_capsules h) (by_capsules k) = refl
 
 -- a text that is refused has no outcome
 refused_no_outcome : Laws → (text : List ℕ) (r : Refusal) → IsRefusal text r → HasNoOutcome text
-refused_no_outcome laws text (refusal.Text e) h t has fits = tree_unrefused laws text t e has.short has.tree h
-refused_no_outcome laws text (refusal.Syntax e) h t has fits = tree_unfaulted laws text t e has.tree has.within h
-refused_no_outcome laws text (refusal.Region e) h t has fits = admitted_unfaulted laws text t e has h
-refused_no_outcome laws text refusal.TooManyCapsules h t has fits =
+refused_no_outcome laws text _ (by_text {e = e} h) t has fits = tree_unrefused laws text t e has.short has.tree h
+refused_no_outcome laws text _ (by_syntax {e = e} h) t has fits = tree_unfaulted laws text t e has.tree has.within h
+refused_no_outcome laws text _ (by_region {e = e} h) t has fits = admitted_unfaulted laws text t e has h
+refused_no_outcome laws text _ (by_capsules h) t has fits =
     h.unfit (subst FitsCode (laws.tree depth_limit depth_limit text t h.tree has.tree h.has_tree.tree) fits)
 
 -- a fault of a text is not want of memory
@@ -134,20 +133,20 @@ module _ (laws : Laws) (text : List ℕ) (free : (r : Refusal) → IsRefusal tex
   is_short = go (nat_lt text_limit (length text)) refl
     where
       go : (b : Bool) → nat_lt text_limit (length text) ≡ b → length text ≤ text_limit
-      go true over = absurd (free (refusal.Text (text_error.TooLong text_limit)) (record { fault = too_long (grind (arith, over)); given = λ h. cc }))
+      go true over = absurd (free _ (by_text {e = text_error.TooLong text_limit} (record { fault = too_long (grind (arith, over)); given = λ h. cc })))
       go false over = grind (arith, over)
 
   -- has tokens
   has_tokens : (ts : List Token) × IsTextOf text ts
   has_tokens =
-      (laws.reading text).none (λ e f. free (refusal.Text e) (record { fault = faulty is_short f; given = fault_given f.fault }))
+      (laws.reading text).none (λ e f. free (text_refusal e) (by_text (record { fault = faulty is_short f; given = fault_given f.fault })))
 
   -- its tokens have a tree within the limits
   has_within : (t : SourceTree) × IsTreeOf depth_limit text t × IsWithin t
   has_within =
       let ts = has_tokens in
       let no_fault : (e : SyntaxError) → syntax.IsFault ts.0 (length text) e → ⊥ =
-      λ e f. free (refusal.Syntax e) (record { tokens = ts.0; short = is_short; cut = ts.1; fault = f }) in
+      λ e f. free (syntax_refusal e) (by_syntax (record { tokens = ts.0; short = is_short; cut = ts.1; fault = f })) in
       let r = (laws.answer ts.0 (length text)).none no_fault (cut_literals ts.1.1) in
       (r.0, record { tokens = ts.0; cut = ts.1; derived = r.1 }, r.2)
 
@@ -156,7 +155,7 @@ module _ (laws : Laws) (text : List ℕ) (free : (r : Refusal) → IsRefusal tex
   has_admitted =
       let r = has_within in
       let no_fault : (e : RegionError) → region.IsFault r.0 e → ⊥ =
-      λ e f. free (refusal.Region e) (record { tree = r.0; short = is_short; derived = r.1; within = r.2; fault = f }) in
+      λ e f. free (region_refusal e) (by_region (record { tree = r.0; short = is_short; derived = r.1; within = r.2; fault = f })) in
       (r.0, record { short = is_short; tree = r.1; within = r.2; admitted = (laws.regions r.0).none r.2 no_fault })
 
   -- and its code has room
@@ -165,7 +164,7 @@ module _ (laws : Laws) (text : List ℕ) (free : (r : Refusal) → IsRefusal tex
     where
       go : (b : Bool) → nat_lt capsule_limit (capsule_bound has_admitted.0) ≡ b → (t : SourceTree) × HasTree text t × FitsCode t
       go true over =
-          absurd (free refusal.TooManyCapsules (record { tree = has_admitted.0; has_tree = has_admitted.1; unfit = λ h. absurd (grind (arith, over, h)) }))
+          absurd (free _ (by_capsules (record { tree = has_admitted.0; has_tree = has_admitted.1; unfit = λ h. absurd (grind (arith, over, h)) })))
       go false over = (has_admitted.0, has_admitted.1, grind (arith, over))
 
   -- so it comes to an outcome

@@ -1,4 +1,4 @@
--- How many capsules a source may take.
+-- How many capsules a source may take, and how many watchers a call has.
 use Rattle.std.specs.Prelude.{ℕ, ◌+◌, ◌*◌, ◌≤◌, length, map}
 use Rattle.std.specs.List.{sum}
 use Rattle.ppm_syntax.specs.Tree.{SourceTree}
@@ -18,3 +18,7 @@ capsule_limit = 65535
 -- the source takes no more capsules than a code may have
 abbrev pub FitsCode : SourceTree → Type 0
 FitsCode t = capsule_bound t ≤ capsule_limit
+
+-- the watchers of a call: one for each processor that a run may have
+abbrev pub watcher_count : ℕ
+watcher_count = 64

@@ -1,9 +1,13 @@
--- A text comes to an outcome, or is refused for one reason, and never both.
+-- A text comes to one outcome, or is refused for one reason, and never both.
 use Rattle.std.specs.Prelude.{◌≡◌, ℕ, List}
 use Rattle.ppm_words.specs.declared.outcome.Outcome.{Outcome}
-use Rattle.ppm_top.specs.declared.refusal.Refusal.{Refusal}
+use Rattle.ppm_answers.specs.declared.refusal.Refusal.{Refusal}
 use Rattle.ppm_top.specs.Refusals.{IsRefusal}
 use Rattle.ppm_top.specs.Causes.{ComesTo, HasNoOutcome}
+
+-- two outcomes of a text are one
+abbrev pub HaveOneOutcome : Type 0
+HaveOneOutcome = (text : List ℕ) (r s : Outcome) → ComesTo text r → ComesTo text s → r ≡ s
 
 -- two refusals of a text are one; a text that is refused has no outcome, and one that is not comes to one
 pub record HasOneRefusal (text : List ℕ) : Type 0 where

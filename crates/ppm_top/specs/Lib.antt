@@ -1,7 +1,4 @@
 pub mod Bounds
-pub mod Texts
-pub mod Statuses
-pub mod Delivery
 pub mod Refusals
 pub mod Causes
 pub mod Correct

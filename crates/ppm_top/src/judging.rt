@@ -6,7 +6,7 @@ ghost use Rattle.ppm_top.specs.Causes.{ComesTo};
 ghost use Rattle.ppm_top.specs.Judging.{IsDerived, MayStop};
 
 use crate::outcome::{OutcomeError, outcome_of};
-use crate::refusal::Refusal;
+use ppm_answers::{Pass, Refusal};
 use ppm_syntax::{Admitted, RegionError, Source, SyntaxError, admit, parse};
 use ppm_text::{TextError, tokens};
 use ppm_words::Outcome;
@@ -33,7 +33,11 @@ impl From<TextError> for JudgeError {
     fn from(e: TextError) -> Self {
         match e {
             TextError::NoMemory => JudgeError::NoMemory,
-            _ => JudgeError::Refused(Refusal::Text(e)),
+            _ => JudgeError::Refused(Refusal {
+                pass: Pass::Text,
+                number: e.number(),
+                place: e.place(),
+            }),
         }
     }
 }
@@ -47,7 +51,11 @@ impl From<SyntaxError> for JudgeError {
     fn from(e: SyntaxError) -> Self {
         match e {
             SyntaxError::NoMemory => JudgeError::NoMemory,
-            _ => JudgeError::Refused(Refusal::Syntax(e)),
+            _ => JudgeError::Refused(Refusal {
+                pass: Pass::Syntax,
+                number: e.number(),
+                place: e.place(),
+            }),
         }
     }
 }
@@ -61,7 +69,11 @@ impl From<RegionError> for JudgeError {
     fn from(e: RegionError) -> Self {
         match e {
             RegionError::NoMemory => JudgeError::NoMemory,
-            _ => JudgeError::Refused(Refusal::Region(e)),
+            _ => JudgeError::Refused(Refusal {
+                pass: Pass::Region,
+                number: e.number(),
+                place: e.line(),
+            }),
         }
     }
 }
@@ -74,7 +86,11 @@ impl From<OutcomeError> for JudgeError {
 
     fn from(e: OutcomeError) -> Self {
         match e {
-            OutcomeError::TooManyCapsules => JudgeError::Refused(Refusal::TooManyCapsules),
+            OutcomeError::TooManyCapsules => JudgeError::Refused(Refusal {
+                pass: Pass::Cut,
+                number: 2,
+                place: 0,
+            }),
             OutcomeError::NoMemory => JudgeError::NoMemory,
         }
     }

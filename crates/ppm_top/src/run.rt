@@ -1,21 +1,63 @@
 //! The command `run`.
-ghost use Rattle.std.specs.Prelude.{◌≡◌};
+ghost use Rattle.std.specs.Prelude.{◌≡◌, length, map};
 ghost use Rattle.ppm_ports.specs.Ports.{port};
-ghost use Rattle.ppm_top.specs.Causes.{RunMay};
-ghost use Rattle.ppm_top.specs.Judging.{TextMay};
+ghost use Rattle.ppm_ports.specs.Outside.{outside, TellsNothing};
+ghost use Rattle.ppm_line.specs.Words.{IsInRange};
+ghost use Rattle.ppm_line.specs.declared.command.Command.TheVariants as commands;
+ghost use Rattle.ppm_top.specs.Bounds.{watcher_count};
+ghost use Rattle.ppm_top.specs.Causes.{Answers, RunMay};
+ghost use Rattle.ppm_top.specs.Judging.{ReadingJudges, TextMay};
+ghost use Rattle.ppm_top.specs.Rows.{RunRows};
 
-use crate::answer::Answer;
 use crate::judging::{JudgeError, judge};
-use ppm_ports::{ReadError, Source, read_whole};
+use crate::laws::{have_one_outcome, have_one_refusal};
+use ppm_answers::{Answer, Status, deliver};
+use ppm_line::RunOptions;
+use ppm_ports::{ReadError, Sink, Source, Watch, read_whole};
 use ppm_words::Outcome;
 use std::alloc::Global;
 
 /// The bytes that a text may have.
 const TEXT_LIMIT: usize = 1_048_576;
 
+/// Runs the text that is read: its arrays or its trap are written on `out`, its refusal on `err`.
+/// There is a watcher for each of 64 processors. No watcher is told anything yet.
+pub fn run_command<R, S: Source, K: Sink, E: Sink, W: Watch>(
+    rt: &R,
+    alloc: Global,
+    options: RunOptions,
+    source: &mut S,
+    out: &mut K,
+    err: &mut E,
+    watch: &mut Vec<W>,
+) -> Status
+    requires options { IsInRange (commands.Run options) }
+    requires watchers { length watch.old.items ≡ watcher_count }
+
+    ensures answers { let o = outside (port S.left S.fault_count source.old source.new)
+        (port K.written K.fault_count out.old out.new) (port E.written E.fault_count err.old err.new)
+        (map W.told watch.old.items) (map W.told watch.new.items) in Answers (RunMay options o) o result }
+
+    ensures rows { RunRows (outside (port S.left S.fault_count source.old source.new)
+        (port K.written K.fault_count out.old out.new) (port E.written E.fault_count err.old err.new)
+        (map W.told watch.old.items) (map W.told watch.new.items)) result }
+
+    ensures watchers { length watch.new.items ≡ watcher_count }
+
+    ensures nothing_told { map W.told watch.new.items ≡ map W.told watch.old.items }
+{
+    let _ = rt;
+    let _ = options;
+    let _ = &watch;
+    have_one_outcome();
+    have_one_refusal();
+    let answer = run_answer(alloc, source);
+    deliver(alloc, &answer, out, err)
+}
+
 /// The answer of `run`: what is read, to its end or one byte past the limit of a text, is judged.
-pub fn run_answer<S: Source>(alloc: Global, source: &mut S) -> Answer
-    ensures { RunMay (port S.left S.fault_count source.old source.new) result }
+fn run_answer<S: Source>(alloc: Global, source: &mut S) -> Answer
+    ensures { ReadingJudges (port S.left S.fault_count source.old source.new) result }
 {
     match read_whole(alloc, source, TEXT_LIMIT) {
         Ok(text) => text_answer(alloc, &text),
@@ -31,6 +73,7 @@ fn text_answer(alloc: Global, text: &[u8]) -> Answer
     match judge(alloc, text) {
         Ok(Outcome::Ended(arrays)) => Answer::Ended(arrays),
         Ok(Outcome::Trapped(trap, line)) => Answer::Trapped(trap, line),
+        // A run of capsules has no bound on its turns.
         Ok(Outcome::NotWithin) => unreachable!(),
         Err(JudgeError::Refused(refusal)) => Answer::SourceRefused(refusal),
         Err(JudgeError::NoMemory) => Answer::NoMemory,

@@ -1,61 +1,54 @@
 //! An answer on its way out.
-ghost use Rattle.std.specs.Prelude.{◌≡◌, ◌⊎◌, IfOk};
+ghost use Rattle.std.specs.Prelude.{◌≡◌, ◌⊎◌};
 ghost use Rattle.ppm_ports.specs.Ports.{port};
-ghost use Rattle.ppm_top.specs.Delivery.{Delivers};
-ghost use Rattle.ppm_top.specs.Statuses.{status_of};
-ghost use Rattle.ppm_top.specs.Texts.{out_text, err_text};
-ghost use Rattle.ppm_top.specs.declared.answer.Answer.TheVariants as answers;
+ghost use Rattle.ppm_answers.specs.Delivery.{Delivers};
+ghost use Rattle.ppm_answers.specs.Statuses.{status_of};
+ghost use Rattle.ppm_answers.specs.Texts.{IsFixed, out_text, err_text};
+ghost use Rattle.ppm_answers.specs.declared.answer.Answer.TheVariants as answers;
 
 use crate::answer::Answer;
 use crate::status::Status;
-use crate::texts::{OUT_OF_MEMORY, err_text_of, out_text_of};
+use crate::texts::{OUT_OF_MEMORY, WRITE_FAULT, texts_of};
 use ppm_ports::{Failed, Sink, write_whole};
-use std::alloc::{AllocError, Global};
+use std::alloc::Global;
 
-/// Writes the texts of an answer, or of want of memory where there is none for its texts.
+/// Writes the texts of an answer, or those of want of memory where there is none for its texts; an answer with fixed
+/// texts takes none. Each text is made whole before a byte is written.
 pub fn deliver<K: Sink, E: Sink>(alloc: Global, answer: &Answer, out: &mut K, err: &mut E) -> Status
-    ensures { let out_port = port K.written K.fault_count out.old out.new in
+    ensures value { let out_port = port K.written K.fault_count out.old out.new in
         let err_port = port E.written E.fault_count err.old err.new in
         Delivers out_port err_port answer.now result ⊎ Delivers out_port err_port answers.NoMemory result }
+    ensures fixed { IsFixed answer.now → Delivers (port K.written K.fault_count out.old out.new)
+        (port E.written E.fault_count err.old err.new) answer.now result }
 {
     match texts_of(alloc, answer) {
-        Ok((text, told)) => send(&text, &told, answer, out, err),
-        Err(_) => send(&[], OUT_OF_MEMORY, &Answer::NoMemory, out, err),
+        Ok((text, message)) => write(text.as_slice(), message.as_slice(), answer, out, err),
+        Err(_) => write(b"", OUT_OF_MEMORY, &Answer::NoMemory, out, err),
     }
 }
 
-/// The texts of an answer, out's and err's.
-fn texts_of(alloc: Global, answer: &Answer) -> Result<(Vec<u8>, Vec<u8>), AllocError>
-    ensures out { IfOk result (λ texts. texts.0.items ≡ out_text answer.now) }
-    ensures err { IfOk result (λ texts. texts.1.items ≡ err_text answer.now) }
-{
-    let text = out_text_of(alloc, answer)?;
-    let told = err_text_of(alloc, answer)?;
-    Ok((text, told))
-}
-
 /// Writes the texts of an answer: out's first, and err's where that went well.
-fn send<K: Sink, E: Sink>(
+fn write<K: Sink, E: Sink>(
     text: &[u8],
-    told: &[u8],
+    message: &[u8],
     answer: &Answer,
     out: &mut K,
     err: &mut E,
 ) -> Status
     requires out { text.now ≡ out_text answer.now }
-    requires err { told.now ≡ err_text answer.now }
+    requires err { message.now ≡ err_text answer.now }
     ensures { Delivers (port K.written K.fault_count out.old out.new)
         (port E.written E.fault_count err.old err.new) answer.now result }
 {
     match write_whole(out, text) {
-        Ok(()) => match write_whole(err, told) {
+        Ok(()) => match write_whole(err, message) {
             Ok(()) => own_status(answer),
             Err(Failed) => Status::WriteFault,
         },
-        Err(Failed) => {
-            let _ = write_whole(err, b"write fault\n");
-            Status::WriteFault
-        }
+        Err(Failed) => match write_whole(err, WRITE_FAULT) {
+            // Whether err takes it or not, out failed.
+            Ok(()) | Err(Failed) => Status::WriteFault,
+        },
     }
 }
 

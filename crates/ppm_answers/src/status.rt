@@ -1,6 +1,6 @@
 //! How the program ends.
 ghost use Rattle.std.specs.Prelude.{◌≡◌};
-ghost use Rattle.ppm_top.specs.Statuses.{number_of};
+ghost use Rattle.ppm_answers.specs.Statuses.{number_of};
 
 /// How the program ends, by the number that it hands to its caller.
 #[derive(Clone, Copy, Debug, PartialEq, Eq)]

@@ -1,9 +1,9 @@
 -- The status of each answer, and the number of each status.
 use Rattle.std.specs.Prelude.{ℕ}
-use Rattle.ppm_top.specs.declared.answer.Answer.{Answer}
-use Rattle.ppm_top.specs.declared.answer.Answer.TheVariants as answers
-use Rattle.ppm_top.specs.declared.status.Status.{Status}
-use Rattle.ppm_top.specs.declared.status.Status.TheVariants as statuses
+use Rattle.ppm_answers.specs.declared.answer.Answer.{Answer}
+use Rattle.ppm_answers.specs.declared.answer.Answer.TheVariants as answers
+use Rattle.ppm_answers.specs.declared.status.Status.{Status}
+use Rattle.ppm_answers.specs.declared.status.Status.TheVariants as statuses
 
 -- the status of an answer whose texts are written
 abbrev pub status_of : Answer → Status

@@ -1,0 +1,85 @@
+-- The text of each answer on out and on err.
+use Rattle.std.specs.Prelude.{ℕ, ℤ, List, [], ◌∷◌, ◌++◌, codes, decimal, ⊤}
+use Rattle.std.specs.List.{flat_map}
+use Rattle.std.specs.Fmt.{signed_decimal}
+use Rattle.ppm_words.specs.declared.named_array.NamedArray.{NamedArray}
+use Rattle.ppm_words.specs.declared.trap.Trap.{Trap}
+use Rattle.ppm_words.specs.declared.trap.Trap.TheVariants as trap
+use Rattle.ppm_answers.specs.declared.refusal.Pass.{Pass}
+use Rattle.ppm_answers.specs.declared.refusal.Pass.TheVariants as pass
+use Rattle.ppm_answers.specs.declared.refusal.Refusal.{Refusal}
+use Rattle.ppm_answers.specs.declared.answer.Answer.{Answer}
+use Rattle.ppm_answers.specs.declared.answer.Answer.TheVariants as answers
+
+-- the text and a line feed
+abbrev pub line_of : List ℕ → List ℕ
+line_of text = text ++ 10 ∷ []
+
+-- a space and the value in decimal
+abbrev pub value_text : ℤ → List ℕ
+value_text z = 32 ∷ signed_decimal z
+
+-- a line with the array's name and its values
+abbrev pub array_text : NamedArray → List ℕ
+array_text a = line_of (a.name ++ flat_map value_text a.values)
+
+-- the arrays, a line each
+abbrev pub arrays_text : List NamedArray → List ℕ
+arrays_text arrays = flat_map array_text arrays
+
+-- the name of a trap
+abbrev pub trap_name : Trap → List ℕ
+trap_name trap.Overflow = codes "overflow"
+trap_name trap.DivZero = codes "divzero"
+trap_name trap.Index = codes "index"
+trap_name trap.Split = codes "split"
+
+-- a line with the trap and its line in the source
+abbrev pub trap_text : Trap → ℕ → List ℕ
+trap_text t line = line_of (codes "trap " ++ trap_name t ++ codes " line " ++ decimal line)
+
+-- the name of a pass
+abbrev pub pass_name : Pass → List ℕ
+pass_name pass.Text = codes "text"
+pass_name pass.Syntax = codes "syntax"
+pass_name pass.Region = codes "region"
+pass_name pass.Cut = codes "cut"
+
+-- what a pass says where its faults are: in a line, or at a place
+abbrev pub place_name : Pass → List ℕ
+place_name pass.Region = codes "line"
+place_name _ = codes "at"
+
+-- a line with a pass that refuses and its fault's number, and where that is
+abbrev pub fault_text : List ℕ → ℕ → List ℕ → ℕ → List ℕ
+fault_text pass number at place =
+    line_of (codes "source refused: " ++ pass ++ codes " " ++ decimal number ++ codes " " ++ at ++ codes " " ++ decimal place)
+
+-- the line of a refusal
+abbrev pub refusal_text : Refusal → List ℕ
+refusal_text r = fault_text (pass_name r.pass) r.number (place_name r.pass) r.place
+
+-- what is written on out
+abbrev pub out_text : Answer → List ℕ
+out_text (answers.Ended arrays) = arrays_text arrays
+out_text (answers.Trapped t line) = trap_text t line
+out_text _ = []
+
+-- what is written on err
+abbrev pub err_text : Answer → List ℕ
+err_text (answers.SourceRefused r) = refusal_text r
+err_text answers.WordsRefused = line_of (codes "words refused")
+err_text answers.ReadFault = line_of (codes "read fault")
+err_text answers.NoMemory = line_of (codes "out of memory")
+err_text _ = []
+
+-- what is written on err where out failed
+abbrev pub write_fault_text : List ℕ
+write_fault_text = line_of (codes "write fault")
+
+-- the answer's texts are the same each time, so they take no memory
+abbrev pub IsFixed : Answer → Type 0
+IsFixed answers.WordsRefused = ⊤
+IsFixed answers.ReadFault = ⊤
+IsFixed answers.NoMemory = ⊤
+IsFixed _ = ⊥

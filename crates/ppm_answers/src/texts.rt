@@ -1,0 +1,149 @@
+//! The texts of answers.
+ghost use Rattle.std.specs.Prelude.{◌≡◌, ◌++◌, IfOk, IsOk, OnOk};
+ghost use Rattle.std.specs.Cow.{cow_slice_items};
+ghost use Rattle.std.specs.List.{flat_map};
+ghost use Rattle.ppm_answers.specs.Texts.{IsFixed, out_text, err_text, refusal_text, fault_text, pass_name as name_of_pass, place_name as name_of_place};
+ghost use Rattle.ppm_answers.specs.Texts.{arrays_text, array_text, value_text, trap_text, trap_name as name_of_trap};
+
+use crate::answer::Answer;
+use crate::refusal::{Pass, Refusal};
+use ppm_words::{NamedArray, Trap};
+use std::alloc::{AllocError, Global};
+use std::borrow::CowSlice;
+
+/// What is written on err where the words give no command.
+const WORDS_REFUSED: &[u8] = b"words refused\n";
+/// What is written on err where the source of bytes failed.
+const READ_FAULT: &[u8] = b"read fault\n";
+/// What is written on err where out failed.
+pub const WRITE_FAULT: &[u8] = b"write fault\n";
+/// What is written on err where memory was refused.
+pub const OUT_OF_MEMORY: &[u8] = b"out of memory\n";
+
+/// A text that is the same each time, or one that is made.
+pub type Text = CowSlice<'static, u8>;
+
+/// The texts of an answer, out's and err's. Fixed texts take no memory.
+pub fn texts_of(alloc: Global, answer: &Answer) -> Result<(Text, Text), AllocError>
+    ensures out { IfOk result (λ texts. cow_slice_items texts.0 ≡ out_text answer.now) }
+    ensures err { IfOk result (λ texts. cow_slice_items texts.1 ≡ err_text answer.now) }
+    ensures fixed { IsFixed answer.now → IsOk result }
+{
+    let none: &'static [u8] = b"";
+    match answer {
+        Answer::Ended(arrays) => Ok((
+            CowSlice::Owned(arrays_text_of(alloc, arrays.as_slice())?),
+            CowSlice::Borrowed(none),
+        )),
+        Answer::Trapped(trap, line) => Ok((
+            CowSlice::Owned(trap_text_of(alloc, *trap, *line)?),
+            CowSlice::Borrowed(none),
+        )),
+        Answer::SourceRefused(refusal) => Ok((
+            CowSlice::Borrowed(none),
+            CowSlice::Owned(refusal_text_of(alloc, *refusal)?),
+        )),
+        Answer::WordsRefused => Ok((CowSlice::Borrowed(none), CowSlice::Borrowed(WORDS_REFUSED))),
+        Answer::ReadFault => Ok((CowSlice::Borrowed(none), CowSlice::Borrowed(READ_FAULT))),
+        Answer::NoMemory => Ok((CowSlice::Borrowed(none), CowSlice::Borrowed(OUT_OF_MEMORY))),
+    }
+}
+
+/// The line of a refusal.
+fn refusal_text_of(alloc: Global, refusal: Refusal) -> Result<Vec<u8>, AllocError>
+    ensures { IfOk result (λ text. text.items ≡ refusal_text refusal) }
+{
+    let pass = pass_name(refusal.pass);
+    let at = place_name(refusal.pass);
+    fault_text_of(alloc, pass, refusal.number, at, refusal.place)
+}
+
+/// The line of a fault: the pass and the number, and where it is.
+fn fault_text_of(
+    alloc: Global,
+    pass: &str,
+    number: u32,
+    at: &str,
+    place: u32,
+) -> Result<Vec<u8>, AllocError>
+    ensures { IfOk result (λ text. text.items ≡ fault_text pass.now number at.now place) }
+{
+    let line = format!(in alloc; "source refused: {pass} {number} {at} {place}\n")?;
+    Ok(line.into_bytes())
+}
+
+/// The name of a pass.
+fn pass_name(pass: Pass) -> &'static str
+    ensures { result.now ≡ name_of_pass pass }
+{
+    match pass {
+        Pass::Text => "text",
+        Pass::Syntax => "syntax",
+        Pass::Region => "region",
+        Pass::Cut => "cut",
+    }
+}
+
+/// What a pass says where its faults are.
+fn place_name(pass: Pass) -> &'static str
+    ensures { result.now ≡ name_of_place pass }
+{
+    match pass {
+        Pass::Region => "line",
+        Pass::Text | Pass::Syntax | Pass::Cut => "at",
+    }
+}
+
+/// The arrays, a line each.
+fn arrays_text_of(alloc: Global, arrays: &[NamedArray]) -> Result<Vec<u8>, AllocError>
+    ensures { IfOk result (λ text. text.items ≡ arrays_text arrays.now) }
+{
+    let mut text = Vec::new(alloc);
+    for array in arrays {
+        push_array(alloc, &mut text, array)?;
+    }
+    Ok(text)
+}
+
+/// Appends an array's name, its values and a line feed.
+fn push_array(alloc: Global, text: &mut Vec<u8>, array: &NamedArray) -> Result<(), AllocError>
+    ensures { OnOk result (text.new.items ≡ text.old.items ++ array_text array.now) }
+{
+    text.extend_from_slice(array.name.as_bytes())?;
+    push_values(alloc, text, array.values.as_slice())?;
+    text.push(b'\n')?;
+    Ok(())
+}
+
+/// Appends a space and the value for each of the values.
+fn push_values(alloc: Global, text: &mut Vec<u8>, values: &[i64]) -> Result<(), AllocError>
+    ensures { OnOk result (text.new.items ≡ text.old.items ++ flat_map value_text values.now) }
+{
+    for value in values {
+        text.push(b' ')?;
+        let digits = value.to_string(alloc)?;
+        text.extend_from_slice(digits.as_bytes())?;
+    }
+    Ok(())
+}
+
+/// The line of a trap.
+fn trap_text_of(alloc: Global, trap: Trap, line: u32) -> Result<Vec<u8>, AllocError>
+    ensures { IfOk result (λ text. text.items ≡ trap_text trap line) }
+{
+    let name = trap_name(trap);
+    let text = format!(in alloc; "trap {name} line {line}\n")?;
+    Ok(text.into_bytes())
+}
+
+/// The name of a trap.
+fn trap_name(trap: Trap) -> &'static str
+    ensures { result.now ≡ name_of_trap trap }
+{
+    match trap {
+        Trap::Overflow => "overflow",
+        Trap::DivZero => "divzero",
+        Trap::Index => "index",
+        Trap::Split => "split",
+    }
+}

@@ -1,0 +1,24 @@
+-- The outside of a command, before its call and after it.
+use Rattle.std.specs.Prelude.{◌≡◌, List, Option}
+use Rattle.ppm_words.specs.declared.event.Event.{Event}
+use Rattle.ppm_ports.specs.Ports.{Port}
+
+-- what each watcher was told, where it tells that
+abbrev pub ToldLists : Type 0
+ToldLists = List (Option (List Event))
+
+-- where bytes come from, where texts go, and what the watchers were told before the call and after it
+pub record Outside : Type 0 where
+  pub source : Port
+  pub out : Port
+  pub err : Port
+  pub told_before : ToldLists
+  pub told_now : ToldLists
+
+-- the outside with these ports and watchers
+abbrev pub outside : Port → Port → Port → ToldLists → ToldLists → Outside
+outside source out err before now = record { source = source; out = out; err = err; told_before = before; told_now = now }
+
+-- no watcher was told anything
+abbrev pub TellsNothing : Outside → Type 0
+TellsNothing o = o.told_now ≡ o.told_before

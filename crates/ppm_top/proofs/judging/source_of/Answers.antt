@@ -1,0 +1,22 @@
+use Rattle.std.proofs.Common.{refl}
+use Rattle.std.proofs.lemmas.Result.{err_from_is_err_and}
+use Rattle.ppm_top.proofs.StopLemmas.{text_stops, syntax_stops, syntax_fault}
+use Rattle.ppm_top.proofs.judging.source_of.Goals as goal
+
+-- the text has a fault of its bytes
+pub returns-in_err-all-clause-refused : goal.returns-in_err-all-clause-refused
+returns-in_err-all-clause-refused c =
+    let p = err_from_is_err_and c.from_residual.result c.from_residual.ensures.1 in
+    rw (p.1, p.2) (text_stops c.args.text.now _ c.in_err-all.ensures.refused)
+
+-- its tokens have a fault
+pub returns-in_err-source-clause-refused : goal.returns-in_err-source-clause-refused
+returns-in_err-source-clause-refused c =
+    let p = err_from_is_err_and c.from_residual-in_err-source.result c.from_residual-in_err-source.ensures.1 in
+    let f = c.in_err-source.ensures in
+    rw (p.1, p.2) (syntax_stops c.args.text.now _ (λ given. record {
+      tokens = c.in_ok-all.all.tokens;
+      short = c.in_ok-all.ensures.within;
+      cut = c.in_ok-all.ensures.read;
+      fault = syntax_fault _ _ _ _ _ refl c.in_ok-all.ensures.len given f.expected f.ended f.too_deep f.too_many;
+    }))

@@ -1,0 +1,71 @@
+-- What a status says of the delivery, whatever the answer is.
+use Rattle.std.proofs.Common.{◌≡◌, ◌≢◌, ◌⊎◌, ℕ, List, [], ◌∷◌, Option, Some, None}
+use Rattle.std.proofs.Common.{refl, sym, ap, ◌∙◌, subst, inl, inr, append-nil}
+use Rattle.std.specs.Io.KnownBytes.{Keeps, Appends}
+use Rattle.ppm_ports.specs.Ports.{Port, Fails, Holds}
+use Rattle.ppm_answers.specs.declared.answer.Answer.{Answer}
+use Rattle.ppm_answers.specs.declared.answer.Answer.TheVariants as answers
+use Rattle.ppm_answers.specs.declared.status.Status.{Status}
+use Rattle.ppm_answers.specs.declared.status.Status.TheVariants as statuses
+use Rattle.ppm_answers.specs.Texts.{out_text}
+use Rattle.ppm_answers.specs.Statuses.{status_of}
+use Rattle.ppm_answers.specs.Delivery.{IsWritten, Delivers}
+use Rattle.ppm_top.specs.Rows.{IsOneOf}
+
+-- the statuses at which nothing is written on out
+abbrev pub silent : List Status
+silent = statuses.SourceRefused ∷ statuses.WordsRefused ∷ statuses.ReadFault ∷ statuses.NoMemory ∷ []
+
+-- a status is 8, or the answer is written
+pub own_or_fault : (out err : Port) (answer : Answer) (status : Status) → Delivers out err answer status →
+    (status ≡ statuses.WriteFault) ⊎ IsWritten out err answer status
+own_or_fault out err answer statuses.WriteFault d = inl refl
+own_or_fault out err answer status d = inr d
+
+-- at a status other than 8 the answer is written
+pub written : (out err : Port) (answer : Answer) (status : Status) → Delivers out err answer status → status ≢ statuses.WriteFault →
+    IsWritten out err answer status
+written out err answer status d ne = elim (own_or_fault out err answer status d) [ inl e ↦ absurd (ne e) | inr w ↦ w ]
+
+-- at status 8 out or err failed
+pub write_failed : (out err : Port) (answer : Answer) (status : Status) → Delivers out err answer status → status ≡ statuses.WriteFault →
+    Fails out ⊎ Fails err
+write_failed out err answer status d e = go (subst (Delivers out err answer) e d) where
+  go : Delivers out err answer statuses.WriteFault → Fails out ⊎ Fails err
+  go (inl h) = inl h.out_fails.0
+  go (inr h) = inr h.err_fails.0
+
+-- where out or err failed, the status is 8
+pub fault_makes_8 : (out err : Port) (answer : Answer) (status : Status) → Delivers out err answer status → (Holds out → Holds err → ⊥) →
+    status ≡ statuses.WriteFault
+fault_makes_8 out err answer status d f =
+    elim (own_or_fault out err answer status d) [ inl e ↦ e | inr w ↦ absurd (f w.out_takes.1 w.err_takes.1) ]
+
+-- a status at which nothing is written is none of 0, 1 and 8
+none_of_three : (status : Status) → IsOneOf status silent → (status ≢ statuses.Ended) × (status ≢ statuses.Trapped) × (status ≢ statuses.WriteFault)
+none_of_three status (inl e) = (λ f. cc, λ f. cc, λ f. cc)
+none_of_three status (inr (inl e)) = (λ f. cc, λ f. cc, λ f. cc)
+none_of_three status (inr (inr (inl e))) = (λ f. cc, λ f. cc, λ f. cc)
+none_of_three status (inr (inr (inr (inl e)))) = (λ f. cc, λ f. cc, λ f. cc)
+none_of_three status (inr (inr (inr (inr e)))) = absurd e
+
+-- but for arrays and traps, an answer has no text on out
+no_text : (answer : Answer) (status : Status) → status ≡ status_of answer → status ≢ statuses.Ended → status ≢ statuses.Trapped →
+    out_text answer ≡ []
+no_text (answers.Ended arrays) status e n m = absurd (n e)
+no_text (answers.Trapped t line) status e n m = absurd (m e)
+no_text answer status e n m = refl
+
+appends_nothing : (before now : Option (List ℕ)) → Appends before now [] → Keeps before now
+appends_nothing None now h = tt
+appends_nothing (Some xs) None h = h
+appends_nothing (Some xs) (Some ys) h = h ∙ append-nil xs
+
+-- at these statuses nothing is written on out
+pub nothing_on_out : (out err : Port) (answer : Answer) (status : Status) → Delivers out err answer status → IsOneOf status silent →
+    Keeps out.before out.now
+nothing_on_out out err answer status d one =
+    let n = none_of_three status one in
+    let w : IsWritten out err answer status = written out err answer status d n.2 in
+    let e : out_text answer ≡ [] = no_text answer status w.own n.0 n.1 in
+    appends_nothing out.before out.now (subst (λ t. Appends out.before out.now t) e w.out_takes.0)

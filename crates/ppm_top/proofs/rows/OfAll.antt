@@ -1,0 +1,122 @@
+-- The rows that all commands share, and those of words that give no command.
+use Rattle.std.proofs.Common.{◌≡◌, ◌≢◌, ◌⊎◌, ℕ, List, [], ◌∷◌, Option, Some, None}
+use Rattle.std.proofs.Common.{refl, sym, ◌∙◌, subst, inl, inr}
+use Rattle.ppm_ports.specs.Ports.{Port, Fails, Holds}
+use Rattle.ppm_ports.specs.Outside.{Outside}
+use Rattle.ppm_answers.specs.declared.answer.Answer.{Answer}
+use Rattle.ppm_answers.specs.declared.answer.Answer.TheVariants as answers
+use Rattle.ppm_answers.specs.declared.status.Status.{Status}
+use Rattle.ppm_answers.specs.declared.status.Status.TheVariants as statuses
+use Rattle.ppm_answers.specs.Statuses.{status_of}
+use Rattle.ppm_answers.specs.Delivery.{IsWritten}
+use Rattle.ppm_line.specs.declared.command.Command.{Command}
+use Rattle.ppm_line.specs.declared.command.Command.TheVariants as commands
+use Rattle.ppm_line.specs.Words.{command_of}
+use Rattle.ppm_top.specs.Causes.{IsUnread, RunMay, NoCommandMay, CommandMay, Answers, IsAnswered}
+use Rattle.ppm_top.specs.Correct.{HaveOneOutcome, HaveOneRefusal}
+use Rattle.ppm_top.specs.Rows.{IsOneOf, RefusesWords, TellsFaults, ProgramRows}
+use Rattle.ppm_top.proofs.rows.Delivered as delivered
+use Rattle.ppm_top.proofs.rows.OfRun.{run_rows}
+
+-- what the causes of a command say of the source: a read fault comes where it failed, and where it failed nothing else comes but want of memory
+pub record TellsReads (o : Outside) (may : Answer → Type 0) : Type 0 where
+  pub failed : may answers.ReadFault → Fails o.source
+  pub fails : (answer : Answer) → may answer → ¬ Holds o.source →
+      (status_of answer ≡ statuses.ReadFault) ⊎ (status_of answer ≡ statuses.NoMemory)
+
+run_tells : (o : Outside) (options : _) → TellsReads o (RunMay options o)
+run_tells o options = record { failed = λ h. h.0; fails = fails } where
+  fails : (answer : Answer) → RunMay options o answer → ¬ Holds o.source →
+      (status_of answer ≡ statuses.ReadFault) ⊎ (status_of answer ≡ statuses.NoMemory)
+  fails (answers.Ended arrays) h f = absurd (f h.1.holds)
+  fails (answers.Trapped t line) h f = absurd (f h.1.holds)
+  fails (answers.SourceRefused r) h f = absurd (f h.1.holds)
+  fails answers.WordsRefused h f = absurd h
+  fails answers.ReadFault h f = inl refl
+  fails answers.NoMemory h f = inr refl
+
+none_tells : (o : Outside) → TellsReads o (NoCommandMay o)
+none_tells o = record { failed = λ h. absurd h; fails = fails } where
+  fails : (answer : Answer) → NoCommandMay o answer → ¬ Holds o.source →
+      (status_of answer ≡ statuses.ReadFault) ⊎ (status_of answer ≡ statuses.NoMemory)
+  fails answers.WordsRefused h f = absurd (f h.holds)
+  fails answers.NoMemory h f = inr refl
+  fails answer h f = absurd h
+
+command_tells : (o : Outside) (command : Option Command) → TellsReads o (CommandMay command o)
+command_tells o None = none_tells o
+command_tells o (Some (commands.Run options)) = run_tells o options
+
+-- an answer of status 7 is a read fault
+read_answer : (may : Answer → Type 0) (answer : Answer) → may answer → status_of answer ≡ statuses.ReadFault → may answers.ReadFault
+read_answer may answers.ReadFault h e = h
+read_answer may answer h e = cc
+
+-- faults are told exactly, whatever the command is
+tells_faults : (o : Outside) (may : Answer → Type 0) (status : Status) → TellsReads o may → Answers may o status → TellsFaults o status
+tells_faults o may status tells a = record {
+  read_fault = read_fault;
+  write_fault = delivered.write_failed o.out o.err a.answer status a.delivered;
+  source_fails = λ f. source_fails (tells.fails a.answer a.cause f) (delivered.own_or_fault o.out o.err a.answer status a.delivered);
+  out_fails = λ f. delivered.fault_makes_8 o.out o.err a.answer status a.delivered (λ out err. f out);
+  err_fails = λ f. delivered.fault_makes_8 o.out o.err a.answer status a.delivered (λ out err. f err);
+} where
+  read_fault : status ≡ statuses.ReadFault → Fails o.source
+  read_fault e =
+      let w = delivered.written o.out o.err a.answer status a.delivered (λ f. cc) in
+      tells.failed (read_answer may a.answer a.cause (sym w.own ∙ e))
+
+  source_fails : (status_of a.answer ≡ statuses.ReadFault) ⊎ (status_of a.answer ≡ statuses.NoMemory) →
+      (status ≡ statuses.WriteFault) ⊎ IsWritten o.out o.err a.answer status →
+      IsOneOf status (statuses.ReadFault ∷ statuses.WriteFault ∷ statuses.NoMemory ∷ [])
+  source_fails r (inl w) = inr (inl w)
+  source_fails (inl r) (inr w) = inl (w.own ∙ r)
+  source_fails (inr r) (inr w) = inr (inr (inl (w.own ∙ r)))
+
+faults : (words : List (List ℕ)) (o : Outside) (status : Status) → IsAnswered words o status → TellsFaults o status
+faults words o status a = tells_faults o (CommandMay (command_of words) o) status (command_tells o (command_of words)) a
+
+-- an answer of status 3 comes without a command
+no_command : (command : Option Command) (o : Outside) (answer : Answer) → CommandMay command o answer →
+    status_of answer ≡ statuses.WordsRefused → command ≡ None
+no_command None o answer h e = refl
+no_command (Some (commands.Run options)) o answers.WordsRefused h e = absurd h
+no_command command o answer h e = cc
+
+-- without a command nothing is read, and the words are refused or memory is
+refusal : (o : Outside) (answer : Answer) → NoCommandMay o answer →
+    IsUnread o.source × ((status_of answer ≡ statuses.WordsRefused) ⊎ (status_of answer ≡ statuses.NoMemory))
+refusal o answers.WordsRefused h = (h, inl refl)
+refusal o answers.NoMemory h = (h, inr refl)
+refusal o answer h = absurd h
+
+refuses_words : (words : List (List ℕ)) (o : Outside) (status : Status) → IsAnswered words o status → RefusesWords words o status
+refuses_words words o status a = record {
+  only = only;
+  unread = λ e. (refusal o a.answer (cause e)).0;
+  always = λ e. always (refusal o a.answer (cause e)).1 (delivered.own_or_fault o.out o.err a.answer status a.delivered);
+} where
+  cause : command_of words ≡ None → NoCommandMay o a.answer
+  cause e = subst (λ c. CommandMay c o a.answer) e a.cause
+
+  only : status ≡ statuses.WordsRefused → command_of words ≡ None
+  only e =
+      let w = delivered.written o.out o.err a.answer status a.delivered (λ f. cc) in
+      no_command (command_of words) o a.answer a.cause (sym w.own ∙ e)
+
+  always : (status_of a.answer ≡ statuses.WordsRefused) ⊎ (status_of a.answer ≡ statuses.NoMemory) →
+      (status ≡ statuses.WriteFault) ⊎ IsWritten o.out o.err a.answer status →
+      IsOneOf status (statuses.WordsRefused ∷ statuses.WriteFault ∷ statuses.NoMemory ∷ [])
+  always r (inl f) = inr (inl f)
+  always (inl r) (inr w) = inl (w.own ∙ r)
+  always (inr r) (inr w) = inr (inr (inl (w.own ∙ r)))
+
+-- all rows of the program
+pub program_rows : HaveOneOutcome → HaveOneRefusal → (words : List (List ℕ)) (o : Outside) (status : Status) → IsAnswered words o status →
+    ProgramRows words o status
+program_rows outcomes refusals words o status a = record {
+  run = λ options e. run_rows options o status (subst (λ c. Answers (CommandMay c o) o status) e a) outcomes refusals;
+  words_refused = refuses_words words o status a;
+  faults = faults words o status a;
+  nothing_on_out = delivered.nothing_on_out o.out o.err a.answer status a.delivered;
+}
