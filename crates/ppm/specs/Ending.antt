@@ -9,11 +9,12 @@ use Rattle.std.specs.declared.string.String.{String}
 use Rattle.std.specs.declared.alloc.Global.{Global}
 use Rattle.std.specs.declared.io.Error.{Error}
 use Rattle.std.specs.declared.io.ErrorKind.TheVariants.{OutOfMemory}
-use Rattle.ppm_ports.specs.Ports.{Port}
-use Rattle.ppm_top.specs.declared.status.Status.{Status}
-use Rattle.ppm_top.specs.declared.status.Status.TheVariants as statuses
+use Rattle.ppm_ports.specs.Ports.{Port, Holds}
+use Rattle.ppm_ports.specs.Outside.{ToldLists, outside}
+use Rattle.ppm_answers.specs.declared.status.Status.{Status}
+use Rattle.ppm_answers.specs.declared.status.Status.TheVariants as statuses
 use Rattle.ppm_top.specs.Causes.{IsAnswered}
-use Rattle.ppm_top.specs.Statuses.{number_of}
+use Rattle.ppm_answers.specs.Statuses.{number_of}
 
 -- what the system says of the words of the command line
 abbrev pub Given : Type 0
@@ -28,14 +29,16 @@ AreWords given words = MatchResult given
 -- a port moved no byte, and did not fail
 pub record IsUntouched (p : Port) : Type 0 where
   pub kept : Keeps p.before p.now
-  pub faults : p.faults_now ≡ p.faults_before
+  pub holds : Holds p
 
--- the words were answered with a status, and this is its number
+-- the words were answered with a status, before watchers of the program's own, and this is its number
 pub record EndsAnswered (given : Given) (source out err : Port) (number : ℕ) : Type 0 where
   pub words : List (String Global)
   pub are_words : AreWords given words
+  pub told_before : ToldLists
+  pub told_now : ToldLists
   pub status : Status
-  pub answered : IsAnswered (map string_bytes words) source out err status
+  pub answered : IsAnswered (map string_bytes words) (outside source out err told_before told_now) status
   pub own_number : number ≡ number_of status
 
 -- memory was refused before anything was read or written

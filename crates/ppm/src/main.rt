@@ -2,7 +2,7 @@
 //! Model: a stream is a port before the program and after it; the standard streams are ports that tell no bytes.
 //! Contract: `program` ends with the number of the status with which the words were answered (`IsAnswered`), or with 9
 //! and every port untouched, where memory is refused before (`specs/Ending`). `main` calls it and does nothing else.
-//! Stands on `ppm_top` and `ppm_ports`; the system calls it. The numbers of the statuses are this project's.
+//! Stands on `ppm_top`, `ppm_answers` and `ppm_ports`; the system calls it. The numbers of the statuses are this project's.
 #![tactic(auto)]
 
 ghost use Rattle.std.specs.Prelude.{◌≡◌, ◌++◌, IfOk};
@@ -11,16 +11,14 @@ ghost use Rattle.std.specs.Vec.Iter.{into_iter_items};
 ghost use Rattle.ppm_ports.specs.Ports.{port};
 ghost use Rattle.ppm.specs.Ending.{AreWords, EndsWith};
 
+use ppm_answers::Status;
 use ppm_ports::{Silent, Sink, Source, StdSink, StdSource};
-use ppm_top::{Status, ppm};
+use ppm_top::{WATCHERS, ppm};
 use std::alloc::{AllocError, Global};
 use std::env::Args;
 use std::io::ErrorKind;
 use std::process::ExitCode;
 use std::{env, io};
-
-/// The most processors that a run may have, each with a watcher.
-const PLACES: usize = 64;
 
 fn main(rt: HostRuntime) -> ExitCode {
     program(
@@ -52,7 +50,7 @@ fn program<R, S: Source, K: Sink, E: Sink>(
     let Ok(words) = words_of(alloc, given) else {
         return ExitCode::from(Status::NoMemory.number());
     };
-    let Ok(mut watch) = vec![in alloc; Silent; PLACES] else {
+    let Ok(mut watch) = vec![in alloc; Silent; WATCHERS] else {
         return ExitCode::from(Status::NoMemory.number());
     };
     let status = ppm(rt, alloc, &words, source, out, err, &mut watch);
