@@ -1,49 +1,80 @@
 //! The program `ppm`: the words of the command line and the standard streams, handed to the top call.
-//! Model: the standard streams are ports that show no bytes; 64 watchers keep nothing.
-//! Contract: it is safe and returns. No clause says more: it ends with the status of `ppm_top::ppm`, or with 9 where
-//! memory is refused before.
-//! Stands on `ppm_top` and `ppm_ports`.
-//! The numbers of the statuses are this project's.
+//! Model: a stream is a port before the program and after it; the standard streams are ports that show no bytes.
+//! Contract: `program` ends with the number of the status with which the words were answered (`IsAnswered`), or with 9
+//! and every port untouched, where memory is refused before (`specs/Ending`). `main` calls it and does nothing else.
+//! Stands on `ppm_top`, `ppm_answers` and `ppm_ports`; the system calls it. The numbers of the statuses are this project's.
 #![tactic(auto)]
 
-use ppm_ports::{Silent, StdSink, StdSource};
-use ppm_top::{Status, ppm};
+ghost use Rattle.std.specs.Prelude.{◌≡◌, ◌++◌, IfOk};
+ghost use Rattle.std.specs.Process.{exit_status};
+ghost use Rattle.std.specs.Vec.Iter.{into_iter_items};
+ghost use Rattle.ppm_ports.specs.Ports.{port};
+ghost use Rattle.ppm.specs.Ending.{AreWords, EndsWith};
+
+use ppm_answers::Status;
+use ppm_ports::{Silent, Sink, Source, StdSink, StdSource};
+use ppm_top::{WATCHERS, ppm};
 use std::alloc::{AllocError, Global};
-use std::env;
+use std::env::Args;
 use std::io::ErrorKind;
 use std::process::ExitCode;
-
-/// The most processors that a run may have, each with a watcher.
-const PLACES: usize = 64;
+use std::{env, io};
 
 fn main(rt: HostRuntime) -> ExitCode {
-    let alloc = rt.alloc();
-    let Ok(words) = words_of(&rt, alloc) else {
-        return ExitCode::from(Status::NoMemory.number());
-    };
-    let Ok(mut watch) = vec![in alloc; Silent; PLACES] else {
-        return ExitCode::from(Status::NoMemory.number());
-    };
-    let mut source = StdSource::new(rt.stdin());
-    let mut out = StdSink::new(rt.stdout());
-    let mut err = StdSink::new(rt.stderr());
-    let status = ppm(
+    program(
         &rt,
-        alloc,
-        words.as_slice(),
-        &mut source,
-        &mut out,
-        &mut err,
-        &mut watch,
-    );
+        rt.alloc(),
+        env::args(&rt),
+        &mut StdSource::new(rt.stdin()),
+        &mut StdSink::new(rt.stdout()),
+        &mut StdSink::new(rt.stderr()),
+    )
+}
+
+/// Does what the words of the command line ask for, and tells no watcher anything.
+/// The exit code is the number of the status: 9 where memory is refused for the words or the watchers, before anything
+/// is read or written.
+fn program<R, S: Source, K: Sink, E: Sink>(
+    rt: &R,
+    alloc: Global,
+    given: io::Result<Args>,
+    source: &mut S,
+    out: &mut K,
+    err: &mut E,
+) -> ExitCode
+    ensures { EndsWith given
+        (port S.left S.fault_count source.old source.new)
+        (port K.written K.fault_count out.old out.new)
+        (port E.written E.fault_count err.old err.new) (exit_status result) }
+{
+    let Ok(words) = words_of(alloc, given) else {
+        return ExitCode::from(Status::NoMemory.number());
+    };
+    let Ok(mut watch) = vec![in alloc; Silent; WATCHERS] else {
+        return ExitCode::from(Status::NoMemory.number());
+    };
+    let status = ppm(rt, alloc, &words, source, out, err, &mut watch);
     ExitCode::from(status.number())
 }
 
 /// The words of the command line, the program's name first. There are none where they are no text.
-fn words_of(rt: &HostRuntime, alloc: Global) -> Result<Vec<String>, AllocError> {
-    match env::args(rt) {
-        Ok(args) => args.collect(alloc),
+fn words_of(alloc: Global, given: io::Result<Args>) -> Result<Vec<String>, AllocError>
+    ensures words { IfOk result (λ words. AreWords given words.items) }
+{
+    match given {
+        Ok(args) => collected(alloc, args),
         Err(error) if error.kind() == ErrorKind::OutOfMemory => Err(AllocError),
         Err(_) => Ok(Vec::new(alloc)),
     }
+}
+
+/// The words in a list, in their order.
+fn collected(alloc: Global, args: Args) -> Result<Vec<String>, AllocError>
+    ensures words { IfOk result (λ words. words.items ≡ into_iter_items args) }
+{
+    let mut words = Vec::new(alloc);
+    for word in args {
+        words.push(word)?;
+    }
+    Ok(words)
 }
