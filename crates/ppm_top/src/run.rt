@@ -15,7 +15,6 @@ use ppm_answers::{Answer, Status, deliver};
 use ppm_line::RunOptions;
 use ppm_ports::{ReadError, Sink, Source, Watch, read_whole};
 use ppm_text::TEXT_LIMIT;
-use ppm_text::TEXT_LIMIT;
 use ppm_words::Outcome;
 use std::alloc::Global;
 
