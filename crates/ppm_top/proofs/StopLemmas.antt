@@ -49,7 +49,7 @@ syntax_fault r ts n m (syntax_error.TooMany p which) is len given expected ended
 syntax_fault r ts n m syntax_error.NoMemory is len given expected ended deep many = absurd (given refl)
 
 -- what the rules answer is a fault of the tree
-pub region_fault : (t : ProgramTree) (e : RegionError) → e ≢ region_error.NoMemory → region_faults.HasFault t e → region_faults.IsFault t e
+pub region_fault : (t : ProgramTree) (e : RegionError) → e ≢ region_error.NoMemory → region_faults.IsRefused t e → region_faults.IsFault t e
 region_fault t region_error.NoMemory given h = absurd (given refl)
 region_fault t (region_error.UnknownName l) given h = h
 region_fault t (region_error.TwiceNamed l) given h = h

@@ -17,6 +17,6 @@ returns-in_err-program-clause-refused c =
     rw (p.1, p.2) (syntax_stops c.args.text.now _ (λ given. record {
       tokens = c.in_ok-all.all.tokens;
       short = c.in_ok-all.ensures.within;
-      cut = c.in_ok-all.ensures.read;
+      lexed = c.in_ok-all.ensures.read;
       fault = syntax_fault _ _ _ _ _ refl c.in_ok-all.ensures.len given f.expected f.ended f.too_deep f.too_many;
     }))
