@@ -13,6 +13,7 @@ use Rattle.clap.proofs.WalkLemmas.{one_text-rows, both}
 use Rattle.ppm_line.specs.CommandLine.{Number}
 use Rattle.ppm_line.specs.Words.{kept_in, number_in, number_of}
 
+-- of a text
 text_read : (E : Type 0) (G : Text → Result ℕ E → Type 0) → ((u : Text) (x : Result ℕ E) → G u x → ParsesUnsigned 32 10 u x) →
     (low high : ℕ) → high < 2 ^ 32 → (t : Text) (r : Option ℕ) → ReadsOne G t r →
     option_and_then (kept_in low high) r ≡ number_in (Number low high) t
@@ -39,6 +40,7 @@ text_read E G only low high fits t r read = go (is_unsigned_in low high t) refl 
         cc (yes, e)
   go false e None read = refl
 
+-- of the matches of a command
 pub number_read : (E : Type 0) (G : Text → Result ℕ E → Type 0) → ((u : Text) (x : Result ℕ E) → G u x → ParsesUnsigned 32 10 u x) →
     (low high : ℕ) → high < 2 ^ 32 → (f : Found) (id : Text) (r : Option ℕ) → (one_text f id ≡ None → r ≡ None) →
     ((t : Text) → one_text f id ≡ Some t → ReadsOne G t r) →

@@ -22,6 +22,7 @@ given a words rows command e f g h =
     h ∙ ap command_in g ∙ ap (λ b. command_in (subcommand_of b words)) e
     ∙ ap (λ k. without_fault k (command_in (subcommand_of ppm_application words))) (sym f ∙ ap (λ b. fault_of b words) e)
 
+-- a kind among the faults is a fault
 some_fault : (kinds : Kinds) (k : _) (command : Option Command) → IsAmong k kinds → without_fault kinds command ≡ None
 some_fault [] k command h = absurd h
 some_fault (x ∷ kinds) k command h = refl

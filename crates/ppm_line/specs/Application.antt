@@ -44,13 +44,14 @@ bare_application = on_top (λ s. record s { disable_help_subcommand = true }) (n
 abbrev pub application_of : List CommandRule → App
 application_of table = with_commands bare_application table
 
--- the program of today: the admitted rows
+-- the program of today: the admitted rules
 abbrev pub ppm_application : App
 ppm_application = application_of (admitted command_line)
 
--- the rows of the table that a number option and a command of the source are
+-- the rule that a row of the source states of a number option
 abbrev pub option_rule : NumberOption → OptionRule
 option_rule o = record { name = o.name.now; form = Number o.low o.high; default = o.default.now; admitted = true }
 
+-- and of a command
 abbrev pub command_rule : CommandRow → CommandRule
 command_rule c = record { name = c.name.now; options = map option_rule c.options.now; admitted = true }

@@ -44,7 +44,7 @@ text name default = record { name = codes name; form = AnyText; default = codes 
 abbrev pub command : String → List OptionRule → CommandRule
 command name options = record { name = codes name; options = options; admitted = true }
 
--- an option of a command that is not admitted yet
+-- an option that its command does not admit yet
 abbrev pub later : OptionRule → OptionRule
 later o = record o { admitted = false }
 
