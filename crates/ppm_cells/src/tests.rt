@@ -104,6 +104,8 @@ fn finishes_have_their_words(rt: HostRuntime) -> Result<(), Fail> {
         assert_eq!(rt; Finish::unpack(word), finish, "the finish of {word}");
     }
     assert_eq!(rt; Finish::Broken { place: 64 }.pack(), 4167);
+    assert!(rt; Finish::Ended.is_outcome());
+    assert!(rt; !Finish::Stopped.is_outcome());
     Ok(())
 }
 
