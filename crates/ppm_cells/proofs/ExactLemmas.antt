@@ -1,7 +1,7 @@
 -- A packing whose fields are read again is exact.
 use Rattle.std.proofs.Common.{◌≡◌, ℕ, Bool, true, false, cond, eqb, Option, Some, None, IfSome, refl, sym, ap, subst, ◌∙◌}
 use Rattle.std.proofs.lemmas.Bool.{eqb-true, eq-eqb}
-use Rattle.ppm_cells.specs.Exact.{packed_to, unpacked, IsExact}
+use Rattle.ppm_cells.specs.Exact.{IsWhatPacksTo, packed_to, unpacked, IsExact}
 
 -- what holds of both answers of a test
 pub either : {A : Type 0} (P : A → Type 0) (t : Bool) (a b : Option A) → IfSome a P → IfSome b P → IfSome (cond t a b) P
@@ -30,3 +30,24 @@ module _ {V : Type 0} (pack : V → ℕ) (read : ℕ → Option V) (IsPackable :
     λ e. to_value word (read word) v (fits word) e,
     λ p. let P : ℕ → Type 0 = λ n. packed_to pack n (read n) ≡ Some v in subst P p.1 (from_value v (again v p.0)),
   )
+
+module _ {V : Type 0} (pack : V → ℕ) (IsPackable : V → Type 0) where
+  -- what is answered fits
+  pub fitting : (word : ℕ) (answer : Option V) → IsWhatPacksTo pack IsPackable word answer → IfSome answer IsPackable
+  fitting word None h = tt
+  fitting word (Some v) h = ((h v).0 refl).0
+
+  module _ (unpack : ℕ → Option V) (exact_ : IsExact pack IsPackable unpack) where
+    -- what is packed comes back
+    pub unpack-pack : (v : V) → IsPackable v → unpack (pack v) ≡ Some v
+    unpack-pack v fits = (exact_ (pack v) v).1 (fits, refl)
+
+    -- what a word stands for packs to it
+    pub pack-unpack : (word : ℕ) (v : V) → unpack word ≡ Some v → pack v ≡ word
+    pack-unpack word v e = ((exact_ word v).0 e).1
+
+    -- values of one word are one
+    pub same_value : (u v : V) → IsPackable u → IsPackable v → pack u ≡ pack v → u ≡ v
+    same_value u v p q e =
+        let back : Some u ≡ Some v = sym ((exact_ (pack v) u).1 (p, e)) ∙ unpack-pack v q in
+        cc

@@ -1,5 +1,5 @@
 -- What is stored is read.
-use Rattle.std.proofs.Common.{ℕ, ◌<◌, Option, refl, sym, ap, subst, ◌∙◌, arith}
+use Rattle.std.proofs.Common.{ℕ, ◌<◌, Option, sym, ap, subst, ◌∙◌, arith}
 use Rattle.std.proofs.lemmas.List.{get_or-set_same, get_or-set_other}
 use Rattle.ppm_cells.specs.declared.shape.Shape.{Shape}
 use Rattle.ppm_cells.specs.declared.cell.Cell.{Cell}
@@ -8,6 +8,7 @@ use Rattle.ppm_cells.specs.declared.cell.Cell.TheVariants.{Top, RoomCounter, Ent
 use Rattle.ppm_cells.specs.Exact.{IsExact}
 use Rattle.ppm_cells.specs.Cells.{word_count, address, IsWithin}
 use Rattle.ppm_cells.specs.Memory.{StoresAreRead, OthersStay, PackedStoresAreSeen}
+use Rattle.ppm_cells.proofs.ExactLemmas.{unpack-pack}
 use Rattle.ppm_cells.proofs.CellLemmas.{place_end, differ}
 
 module _ (s : Shape) where
@@ -39,4 +40,4 @@ module _ (s : Shape) where
   pub seen : {V : Type 0} (pack : V → ℕ) (IsPackable : V → Type 0) (unpack : ℕ → Option V) → IsExact pack IsPackable unpack
       → StoresAreRead s → PackedStoresAreSeen pack IsPackable unpack s
   seen pack IsPackable unpack exact stored words c v fit there ok =
-      ap unpack (stored words c (pack v) fit there) ∙ (exact (pack v) v).1 (ok, refl)
+      ap unpack (stored words c (pack v) fit there) ∙ unpack-pack pack IsPackable unpack exact v ok

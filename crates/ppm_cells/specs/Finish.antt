@@ -47,7 +47,11 @@ IsFinish (Broken place) = place ≤ 64
 abbrev pub IsOutcome : Finish → Type 0
 IsOutcome Ended = Unit {0}
 IsOutcome (Trapped trap line) = Unit {0}
-IsOutcome _ = ⊥
+IsOutcome Unset = ⊥
+IsOutcome (OutOfTurns processor) = ⊥
+IsOutcome (OutOfRoom place) = ⊥
+IsOutcome Stopped = ⊥
+IsOutcome (Broken place) = ⊥
 
 -- the trap with a number
 abbrev pub trap_with : ℕ → Option Trap

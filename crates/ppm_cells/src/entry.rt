@@ -1,5 +1,5 @@
 //! The entries of a deque.
-ghost use Rattle.std.specs.Prelude.{◌≡◌, ◌↔◌, ◌^◌, ◌<◌, [], ◌∷◌};
+ghost use Rattle.std.specs.Prelude.{◌≡◌, ◌↔◌, ◌^◌, ◌<◌, [], ◌∷◌, IfSome};
 ghost use Rattle.ppm_cells.specs.Fields.{number_of, Bits, bits};
 ghost use Rattle.ppm_cells.specs.Exact.{IsWhatPacksTo};
 ghost use Rattle.ppm_cells.specs.Entry.{entry_word, entry_of, entry_with, IsEntry};
@@ -68,6 +68,7 @@ impl Entry {
     pub fn unpack(word: u64) -> Option<Entry>
         ensures value { result ≡ entry_of word }
         ensures exactly { IsWhatPacksTo entry_word IsEntry word result }
+        ensures fits { IfSome result IsEntry }
     {
         let entry = read(word);
         (entry.pack() == word).then_some(entry)

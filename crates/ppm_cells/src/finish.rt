@@ -1,9 +1,9 @@
 //! How a run, or a strand, came to its end.
-ghost use Rattle.std.specs.Prelude.{◌≡◌, ◌↔◌, ◌^◌, ◌<◌, [], ◌∷◌, IfSome};
+ghost use Rattle.std.specs.Prelude.{◌≡◌, ◌↔◌, ◌^◌, ◌<◌, [], ◌∷◌, IfSome, IsTrue};
 ghost use Rattle.ppm_cells.specs.Fields.{number_of};
 ghost use Rattle.ppm_cells.specs.Exact.{IsWhatPacksTo};
 ghost use Rattle.ppm_cells.specs.Finish.{trap_number, trap_with, fields_with, finish_read};
-ghost use Rattle.ppm_cells.specs.Finish.{finish_word, finish_of, IsFinish};
+ghost use Rattle.ppm_cells.specs.Finish.{finish_word, finish_of, IsFinish, IsOutcome};
 
 use crate::field::{bits_of, joined};
 use ppm_words::Trap;
@@ -104,6 +104,20 @@ fn read(word: u64) -> Option<Finish>
 }
 
 impl Finish {
+    /// Whether a strand may end so: by its own end or a trap.
+    pub fn is_outcome(&self) -> bool
+        ensures { IsTrue result ↔ IsOutcome self.now }
+    {
+        match self {
+            Finish::Ended | Finish::Trapped { .. } => true,
+            Finish::Unset
+            | Finish::OutOfTurns { .. }
+            | Finish::OutOfRoom { .. }
+            | Finish::Stopped
+            | Finish::Broken { .. } => false,
+        }
+    }
+
     /// The word of the finish: 0 for `Unset`.
     pub fn pack(&self) -> u64
         requires { IsFinish self.now }
@@ -125,6 +139,7 @@ impl Finish {
     pub fn unpack(word: u64) -> Option<Finish>
         ensures value { result ≡ finish_of word }
         ensures exactly { IsWhatPacksTo finish_word IsFinish word result }
+        ensures fits { IfSome result IsFinish }
     {
         let finish = read(word)?;
         (finish.pack() == word).then_some(finish)

@@ -1,5 +1,5 @@
 //! Who carries a place.
-ghost use Rattle.std.specs.Prelude.{◌≡◌, ◌↔◌, IsSome};
+ghost use Rattle.std.specs.Prelude.{◌≡◌, ◌↔◌, IsSome, IfSome};
 ghost use Rattle.ppm_cells.specs.Exact.{IsWhatPacksTo};
 ghost use Rattle.ppm_cells.specs.Holder.{holder_word, holder_of, IsHolder};
 
@@ -27,6 +27,7 @@ impl Holder {
     pub fn unpack(word: u64) -> Option<Holder>
         ensures value { result ≡ holder_of word }
         ensures exactly { IsWhatPacksTo holder_word IsHolder word result }
+        ensures fits { IfSome result IsHolder }
         ensures every { IsSome result }
     {
         let tag = bits_of(word, 6, 58);

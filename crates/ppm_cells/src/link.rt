@@ -118,6 +118,7 @@ impl Link {
     pub fn unpack(word: u64) -> Option<Link>
         ensures value { result ≡ link_of word }
         ensures exactly { IsWhatPacksTo link_word IsLink word result }
+        ensures fits { IfSome result IsLink }
     {
         let link = read(word)?;
         (link.pack() == word).then_some(link)

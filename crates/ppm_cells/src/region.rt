@@ -1,5 +1,5 @@
 //! Regions of the array words.
-ghost use Rattle.std.specs.Prelude.{◌≡◌, ◌↔◌, IsSome};
+ghost use Rattle.std.specs.Prelude.{◌≡◌, ◌↔◌, IsSome, IfSome};
 ghost use Rattle.ppm_cells.specs.Exact.{IsWhatPacksTo};
 ghost use Rattle.ppm_cells.specs.Region.{region_word, region_of, IsRegion};
 
@@ -27,6 +27,7 @@ impl Region {
     pub fn unpack(word: u64) -> Option<Region>
         ensures value { result ≡ region_of word }
         ensures exactly { IsWhatPacksTo region_word IsRegion word result }
+        ensures fits { IfSome result IsRegion }
         ensures every { IsSome result }
     {
         let start = bits_of(word, 32, 32) as u32;

@@ -164,6 +164,7 @@ impl Restart {
     pub fn unpack(word: u64) -> Option<Restart>
         ensures value { result ≡ restart_of word }
         ensures exactly { IsWhatPacksTo restart_word IsRestart word result }
+        ensures fits { IfSome result IsRestart }
     {
         let restart = read(word)?;
         (restart.pack() == word).then_some(restart)

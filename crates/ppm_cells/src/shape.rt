@@ -28,7 +28,7 @@ pub struct Shape {
 }
 
 impl Shape {
-    ghost use Rattle.std.specs.Prelude.{◌≡◌, ◌↔◌, ◌<◌, ◌≤◌, IsSome, IfSome};
+    ghost use Rattle.std.specs.Prelude.{◌≡◌, ◌↔◌, ◌+◌, ◌<◌, ◌≤◌, IsSome, IfSome};
     ghost use Rattle.ppm_cells.specs.Limits.{IsWithinLimits};
     ghost use Rattle.ppm_cells.specs.Shape.{HasSizes};
     ghost use Rattle.ppm_cells.specs.Cells.{place_at, pool_at, arrays_at, word_count, address, IsWithin};
@@ -82,6 +82,8 @@ impl Shape {
     pub fn pool_at(&self, place: u32) -> u32
         requires { place < self.now.processors }
         ensures value { result ≡ pool_at self.now place }
+        ensures bound { result + self.now.room ≤ arrays_at self.now }
+        ensures in_range { arrays_at self.now ≤ 71303617 }
     {
         self.place_at(place) + 5 + self.slots
     }
@@ -89,6 +91,7 @@ impl Shape {
     /// The address of the first array word.
     pub fn arrays_at(&self) -> u32
         ensures value { result ≡ arrays_at self.now }
+        ensures bound { result ≤ 71303617 }
     {
         self.place_at(self.processors)
     }

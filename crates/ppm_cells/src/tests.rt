@@ -104,6 +104,8 @@ fn finishes_have_their_words(rt: HostRuntime) -> Result<(), Fail> {
         assert_eq!(rt; Finish::unpack(word), finish, "the finish of {word}");
     }
     assert_eq!(rt; Finish::Broken { place: 64 }.pack(), 4167);
+    assert!(rt; Finish::Ended.is_outcome());
+    assert!(rt; !Finish::Stopped.is_outcome());
     Ok(())
 }
 
@@ -141,6 +143,9 @@ fn words_have_their_addresses(rt: HostRuntime) -> Result<(), Fail> {
     assert_eq!(rt; shape.arrays_at(), 74);
     assert_eq!(rt; shape.word_count(), 76);
     assert_eq!(rt; shape.address(Cell::FinishWord), 0);
+    assert_eq!(rt; shape.address(Cell::RestartWord { place: 0 }), 3);
+    assert_eq!(rt; shape.address(Cell::EntryWord { place: 0, slot: 1 }), 9);
+    assert_eq!(rt; shape.address(Cell::ArrayWord { index: 1 }), 75);
     assert_eq!(rt; shape.stealing().takeover, Takeover::ByEntries);
     let greatest = Shape::new(64, 1048576, 65536, 4194304).ok_or("within the limits")?;
     assert_eq!(rt; greatest.word_count(), 75497921);
