@@ -2,7 +2,7 @@
 //! Model: a stream is a port before the program and after it; the standard streams are ports that show no bytes.
 //! Contract: `program` ends with the number of the status with which the words were answered (`IsAnswered`), or with 9
 //! and every port untouched, where memory is refused before (`specs/Ending`). `main` calls it and does nothing else.
-//! Stands on `ppm_top`, `ppm_answers` and `ppm_ports`; the system calls it. The numbers of the statuses are this project's.
+//! Stands on `ppm_top`, `ppm_answers` and `ppm_ports`; the system calls it. The statuses are this project's.
 #![tactic(auto)]
 
 ghost use Rattle.std.specs.Prelude.{◌≡◌, ◌++◌, IfOk};
