@@ -1,5 +1,5 @@
 pub mod Capsule
-pub mod Closed
+pub mod EndStores
 pub mod Equalities
 pub mod Paths
 pub mod Restart

@@ -1,6 +1,6 @@
 //! What is true of every capsule and every table of capsules, shown by calls that do nothing.
 ghost use Rattle.ppm_capsules.specs.Capsule.{Capsule, Equality, IsLocal, Memory};
-ghost use Rattle.ppm_capsules.specs.Closed.{ClosedTablesAreTheSame, DoesThenStores};
+ghost use Rattle.ppm_capsules.specs.EndStores.{TablesAreTheSame, DoesThenStores};
 ghost use Rattle.ppm_capsules.specs.Paths.{IsFreeOnPaths, PathsSayWhere};
 ghost use Rattle.ppm_capsules.specs.Restart.{ConflictsAreNotIdempotent, IsConflictFree, IsIdempotent};
 ghost use Rattle.ppm_capsules.specs.Restart.{StandsAlways, StopsChangeNothing, WrittenFirstIsConflictFree};
@@ -72,11 +72,11 @@ pub fn others_keep_what_is_done<S, N, K, E, O>()
 
 /// A capsule with the stores of its end made word by word before that end: it does the same and then
 /// these stores, and where the trees do not show them, a table of such capsules is the same code.
-pub fn closed_capsules<L, E>()
+pub fn end_stores_come_last<L, E>()
     ensures { (eq : Equality L) (tail : E → List (L × ℕ)) (p : Capsule L E) (m : Memory L) → DoesThenStores eq tail p m }
 {}
 
 /// Likewise of tables.
-pub fn closed_tables<S, N, K, E, O>()
-    ensures { (eq : Equality (Location S N)) (table : Table S N K E O) → ClosedTablesAreTheSame eq table }
+pub fn end_stores_are_unseen<S, N, K, E, O>()
+    ensures { (eq : Equality (Location S N)) (table : Table S N K E O) → TablesAreTheSame eq table }
 {}
