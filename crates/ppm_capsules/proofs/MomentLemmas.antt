@@ -14,7 +14,7 @@ use Rattle.ppm_capsules.proofs.StrandLemmas.{store_is_a_step, whole_is_a_step}
 
 module _ {S N K E O : Type 0} (eq : Equality (Location S N)) (table : Table S N K E O) (k : K) where
   -- stores lead from one memory to another
-  abbrev Stores : Memory (Location S N) → Memory (Location S N) → Type 0
+  abbrev pub Stores : Memory (Location S N) → Memory (Location S N) → Type 0
   Stores m n = Steps (code_of eq table) none (Strand (frame_of k m)) (shared_of m) (Strand (frame_of k n)) (shared_of n)
 
   -- what may be begun again may be so from a memory from which the capsule does the same
@@ -26,7 +26,7 @@ module _ {S N K E O : Type 0} (eq : Equality (Location S N)) (table : Table S N 
   }
 
   -- one word step
-  one_stores : (rest : Capsule (Location S N) E) (m : Memory (Location S N)) → MayBeginAgain eq table k m → Stands eq (table.capsule k) rest m
+  pub one_stores : (rest : Capsule (Location S N) E) (m : Memory (Location S N)) → MayBeginAgain eq table k m → Stands eq (table.capsule k) rest m
       → Stores m (one eq (at rest m)).words
   one_stores (Reads l go) m again h = Done (Strand (frame_of k m)) (shared_of m)
   one_stores (Asks n go) m again h = Done (Strand (frame_of k m)) (shared_of m)

@@ -7,8 +7,8 @@ use crate::sample::{Capsule, Counts, End, Outcome, SmallTree, Word, run};
 use crate::stops::{Ask, Run, run_with_stops, stops_do_not_show};
 use ppm_capsules::{
     capsules_are_local, capsules_make_steps, code_is_local, conflict_free_is_idempotent,
-    conflicts_are_not_idempotent, end_stores_are_unseen, end_stores_come_last, others_keep_what_is_done,
-    paths_are_enough, stops_change_nothing, what_is_done_stands,
+    conflicts_are_not_idempotent, end_stores_are_unseen, end_stores_come_last, faults_do_not_show,
+    others_keep_what_is_done, paths_are_enough, stops_change_nothing, what_is_done_stands,
 };
 use ppm_strands::{
     a_change_at_one_leaf, a_change_passes_up, a_step_in_turn, ahead_composes, any_order,
@@ -329,6 +329,7 @@ fn laws_are_calls_that_do_nothing(_rt: HostRuntime) -> Result<(), Fail> {
     code_is_local::<u8, u8, u8, u8, Outcome>();
     capsules_make_steps::<u8, u8, u8, u8, Outcome>();
     others_keep_what_is_done::<u8, u8, u8, u8, Outcome>();
+    faults_do_not_show::<u8, u8, u8, u8, Outcome>();
     end_stores_are_unseen::<u8, u8, u8, u8, Outcome>();
     stops_do_not_show();
     samples_are_local();

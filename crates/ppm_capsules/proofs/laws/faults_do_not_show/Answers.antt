@@ -1,0 +1,9 @@
+use Rattle.ppm_capsules.proofs.FaultsLemmas.{faults_do_not_show, faulty_runs_end_alike}
+use Rattle.ppm_capsules.proofs.laws.faults_do_not_show.Goals as goal
+
+-- each thing that happens is steps of the tree, and what is done stands
+pub returns : goal.returns
+returns g c = record {
+  ahead = λ eq table safe k t u a b calm run. faults_do_not_show eq table safe k t u a b calm run;
+  ends = λ eq table safe k t o a b calm run. faulty_runs_end_alike eq table safe k t o a b calm run;
+}
