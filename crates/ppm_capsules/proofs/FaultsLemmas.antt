@@ -32,7 +32,7 @@ module _ {S N K E O : Type 0} (table : Table S N K E O) where
   shown_begun (Over o) = refl
 
 -- the words that a strand finds are those to which its capsule has come
-words_back : {S N K E : Type 0} (k : K) (g : Progress (Location S N) E) → memory (come_to k g) (shared_of g.words) ≡ g.words
+pub words_back : {S N K E : Type 0} (k : K) (g : Progress (Location S N) E) → memory (come_to k g) (shared_of g.words) ≡ g.words
 words_back k g = fun_ext (λ l. elim l as (λ z. memory (come_to k g) (shared_of g.words) z ≡ g.words z) [ Own s ↦ refl | New n ↦ refl | Shared x ↦ refl ])
 
 module _ {S N K E O : Type 0} (eq : Equality (Location S N)) (table : Table S N K E O) where
@@ -75,7 +75,7 @@ module _ {S N K E O : Type 0} (eq : Equality (Location S N)) (table : Table S N 
     stand_elsewhere (IsOver o) a b same all = tt
 
     -- a word step keeps the new block clean, and stores what its strand's capsule writes
-    one_clean : (k : K) (rest : Capsule (Location S N) E) (m : Memory (Location S N)) → Stands eq (table.capsule k) rest m → IsClean eq table k m
+    pub one_clean : (k : K) (rest : Capsule (Location S N) E) (m : Memory (Location S N)) → Stands eq (table.capsule k) rest m → IsClean eq table k m
         → IsClean eq table k (one eq (at rest m)).words
     one_clean k (Reads l go) m h clean = clean
     one_clean k (Asks n go) m h clean = clean

@@ -2,6 +2,7 @@ pub mod AlikeLemmas
 pub mod BesideLemmas
 pub mod ConflictLemmas
 pub mod EndStoresLemmas
+pub mod FaultlessLemmas
 pub mod FaultsLemmas
 pub mod LocationLemmas
 pub mod MomentLemmas

@@ -1,7 +1,7 @@
 -- Trees of strands run word step by word step, in any order, with faults: at any moment any strand may lose how far its capsule has come.
 use Rattle.std.specs.Prelude.{◌≡◌, ℕ}
 use Rattle.ppm_strands.specs.Tree.{Words, Tree, Strand, Call, Fork, Over}
-use Rattle.ppm_strands.specs.Run.{Counts, none, plus, of_capsule, rejoin, Ends}
+use Rattle.ppm_strands.specs.Run.{Counts, none, plus, of_capsule, rejoin, End, Ends}
 use Rattle.ppm_strands.specs.Calm.{Calm}
 use Rattle.ppm_strands.specs.Ahead.{Ahead}
 use Rattle.ppm_capsules.specs.Capsule.{Equality, Capsule, Memory}
@@ -97,3 +97,8 @@ module _ {S N K E O : Type 0} (eq : Equality (Location S N)) (table : Table S N 
   FaultyRunsEndAlike = IsRestartable → (k : Counts) (t : Tree (Frame S K) O) (o : O) (a b : Words)
       → Calm (code_of eq table) t a → Happen eq table k (begun table t) a (IsOver o) b
       → Ends (code_of eq table) t a (record { outcome = o; words = b; counts = k })
+
+  -- and there are such runs: the depth-first run is one, word step by word step and without a fault
+  abbrev pub DepthFirstHappens : Type 0
+  DepthFirstHappens = IsRestartable → (t : Tree (Frame S K) O) (a : Words) (e : End O) → Ends (code_of eq table) t a e
+      → Happen eq table e.counts (begun table t) a (IsOver e.outcome) e.words

@@ -1,7 +1,7 @@
 //! What is true of every capsule and every table of capsules, shown by calls that do nothing.
 ghost use Rattle.ppm_capsules.specs.Capsule.{Capsule, Equality, IsLocal, Memory};
 ghost use Rattle.ppm_capsules.specs.EndStores.{TablesAreTheSame, DoesThenStores};
-ghost use Rattle.ppm_capsules.specs.Faults.{FaultsDoNotShow, FaultyRunsEndAlike};
+ghost use Rattle.ppm_capsules.specs.Faults.{DepthFirstHappens, FaultsDoNotShow, FaultyRunsEndAlike};
 ghost use Rattle.ppm_capsules.specs.Paths.{IsFreeOnPaths, PathsSayWhere};
 ghost use Rattle.ppm_capsules.specs.Restart.{ConflictsAreNotIdempotent, IsConflictFree, IsIdempotent};
 ghost use Rattle.ppm_capsules.specs.Restart.{StandsAlways, StopsChangeNothing, WrittenFirstIsConflictFree};
@@ -74,10 +74,12 @@ pub fn others_keep_what_is_done<S, N, K, E, O>()
 /// Faults do not show. In a calm tree of strands whose capsules have no write-after-read conflict, let
 /// the strands make their word steps in any order, and let each lose at any moments how far its capsule
 /// has come, and begin that again: what is left ends where all of it would, and where it is over, that
-/// is the end of the depth-first run without faults, with the same words and counts.
+/// is the end of the depth-first run without faults, with the same words and counts; and that run is
+/// itself one of these.
 pub fn faults_do_not_show<S, N, K, E, O>()
     ensures ahead { (eq : Equality (Location S N)) (table : Table S N K E O) → FaultsDoNotShow eq table }
     ensures ends { (eq : Equality (Location S N)) (table : Table S N K E O) → FaultyRunsEndAlike eq table }
+    ensures happens { (eq : Equality (Location S N)) (table : Table S N K E O) → DepthFirstHappens eq table }
 {}
 
 /// A capsule with the stores of its end made word by word before that end: it does the same and then
