@@ -162,9 +162,12 @@ module _ {L E : Type 0} (eq : Equality L) where
   is_idempotent p m free stops =
       let same = (stops_moment stops p m free).same in λ i. record { end = same.ends i; words = same.words i }
 
-  pub stops_change_nothing : (p : Capsule L E) (m : Memory L) (stops : List ℕ) → IsConflictFree eq p m → StopsChangeNothing eq p m stops
-  stops_change_nothing p m stops free =
-      let now = stops_moment stops p m free in record { same = now.same; free = now.free; kept = stops_keep stops p m free }
+  pub stops_change_nothing : (p : Capsule L E) (m : Memory L) → IsConflictFree eq p m → StopsChangeNothing eq p m
+  stops_change_nothing p m free = record {
+    same = λ stops. (stops_moment stops p m free).same;
+    free = λ stops. (stops_moment stops p m free).free;
+    kept = λ stops. stops_keep stops p m free;
+  }
 
   -- words that are the same where the capsule reads and writes
   pub elsewhere : (p rest : Capsule L E) (m n : Memory L) → ((l : L) → In l (exposed eq p m) ⊎ In l (written eq p m) → n l ≡ m l)

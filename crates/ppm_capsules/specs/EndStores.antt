@@ -37,6 +37,10 @@ pub record DoesThenStores {L E : Type 0} (eq : Equality L) (tail : E → List (L
   pub free : IsConflictFree eq p m → ((l : L) → In l (exposed eq p m) → In l (stored_at (tail (ending eq p m))) → ⊥)
       → IsConflictFree eq (with_end_stores tail p) m
 
+-- from all words
+abbrev pub EndStoresComeLast : {L E : Type 0} → Equality L → (E → List (L × ℕ)) → Capsule L E → Type 0
+EndStoresComeLast {L} eq tail p = (m : Memory L) → DoesThenStores eq tail p m
+
 module _ {S N K E O : Type 0} (eq : Equality (Location S N)) (table : Table S N K E O) where
   -- the table with the stores of each end, by the point
   abbrev pub with_end_stores_in : (K → E → List (Location S N × ℕ)) → Table S N K E O

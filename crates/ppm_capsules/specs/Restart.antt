@@ -1,6 +1,7 @@
 -- A capsule that is stopped and begun again: when it comes to the same end with the same words, however often.
 use Rattle.std.specs.Prelude.{◌≡◌, ◌⊎◌, ℕ, zero, suc, ◌+◌, List, [], ◌∷◌}
-use Rattle.ppm_capsules.specs.Capsule.{Equality, Capsule, Reads, Writes, Asks, Ends, Memory, Whole, In, store, ending, leaves, whole, written, exposed, DoesTheSame}
+use Rattle.ppm_capsules.specs.Capsule.{Equality, Capsule, Reads, Writes, Asks, Ends, Memory, Whole, In, store}
+use Rattle.ppm_capsules.specs.Capsule.{ending, leaves, whole, written, exposed, DoesTheSame}
 
 -- how far a capsule has come: what is left of it, and the words now
 pub record Progress (L E : Type 0) : Type 0 where
@@ -14,6 +15,10 @@ module _ {L E : Type 0} (eq : Equality L) where
   -- the capsule has no write-after-read conflict from these words: it writes no location that it has read, unless it had written it first
   abbrev pub IsConflictFree : Capsule L E → Memory L → Type 0
   IsConflictFree p m = (l : L) → In l (exposed eq p m) → In l (written eq p m) → ⊥
+
+  -- so from all words
+  abbrev pub IsAlwaysConflictFree : Capsule L E → Type 0
+  IsAlwaysConflictFree p = (m : Memory L) → IsConflictFree p m
 
   -- one word step
   abbrev pub one : Progress L E → Progress L E
@@ -42,12 +47,12 @@ module _ {L E : Type 0} (eq : Equality L) where
   abbrev pub IsIdempotent : Capsule L E → Memory L → Type 0
   IsIdempotent p m = (stops : List ℕ) → run_with_stops stops p m ≡ whole eq p m
 
-  -- whatever was done before the last stop, the capsule then does the same from first to last, has no conflict, and no words have
-  -- changed but those that it writes
-  pub record StopsChangeNothing (p : Capsule L E) (m : Memory L) (stops : List ℕ) : Type 0 where
-    pub same : DoesTheSame eq p m (stopped stops p m)
-    pub free : IsConflictFree p (stopped stops p m)
-    pub kept : (l : L) → (In l (written eq p m) → ⊥) → stopped stops p m l ≡ m l
+  -- after any stops the capsule would still do the same from first to last, has no conflict, and no words have changed but those that
+  -- it writes
+  pub record StopsChangeNothing (p : Capsule L E) (m : Memory L) : Type 0 where
+    pub same : (stops : List ℕ) → DoesTheSame eq p m (stopped stops p m)
+    pub free : (stops : List ℕ) → IsConflictFree p (stopped stops p m)
+    pub kept : (stops : List ℕ) (l : L) → (In l (written eq p m) → ⊥) → stopped stops p m l ≡ m l
 
   -- what a capsule has done stands: if it were begun on the words as they are, some number of word steps would bring it to this rest,
   -- and leave the words as they are

@@ -1,9 +1,9 @@
 //! What is true of every capsule and every table of capsules, shown by calls that do nothing.
 ghost use Rattle.ppm_capsules.specs.Capsule.{Capsule, Equality, IsLocal, Memory};
-ghost use Rattle.ppm_capsules.specs.EndStores.{TablesAreTheSame, DoesThenStores};
+ghost use Rattle.ppm_capsules.specs.EndStores.{TablesAreTheSame, EndStoresComeLast};
 ghost use Rattle.ppm_capsules.specs.Faults.{DepthFirstHappens, FaultsDoNotShow, FaultyRunsEndAlike};
 ghost use Rattle.ppm_capsules.specs.Paths.{IsFreeOnPaths, PathsSayWhere};
-ghost use Rattle.ppm_capsules.specs.Restart.{ConflictsAreNotIdempotent, IsConflictFree, IsIdempotent};
+ghost use Rattle.ppm_capsules.specs.Restart.{ConflictsAreNotIdempotent, IsAlwaysConflictFree, IsConflictFree, IsIdempotent};
 ghost use Rattle.ppm_capsules.specs.Restart.{StandsAlways, StopsChangeNothing, WrittenFirstIsConflictFree};
 ghost use Rattle.ppm_capsules.specs.Strand.{CodeIsLocal, EndsAreSteps, Location, MomentsAreSteps, OthersKeep};
 ghost use Rattle.ppm_capsules.specs.Strand.{RunsWithStopsAreOneCapsule, StoresAreSteps, StoresKeep, StrandsBesideKeep, Table};
@@ -24,7 +24,7 @@ pub fn conflict_free_is_idempotent<L, E>()
 /// Wherever it was stopped, it then does the same from first to last: it reads, writes and asks for the
 /// same, and may be stopped again.
 pub fn stops_change_nothing<L, E>()
-    ensures { (eq : Equality L) (p : Capsule L E) (m : Memory L) (stops : List ℕ) → IsConflictFree eq p m → StopsChangeNothing eq p m stops }
+    ensures { (eq : Equality L) (p : Capsule L E) (m : Memory L) → IsConflictFree eq p m → StopsChangeNothing eq p m }
 {}
 
 /// The rule is needed: at any location and from any words, a capsule that reads, writes and is stopped
@@ -38,7 +38,7 @@ pub fn conflicts_are_not_idempotent<L>()
 /// A capsule without a conflict on any path, whatever its reads find, has none from any words; and if a
 /// test allows all locations that its paths read, or write, it allows its exposed reads, or its writes.
 pub fn paths_are_enough<L, E>()
-    ensures free { (eq : Equality L) (p : Capsule L E) (m : Memory L) → IsFreeOnPaths eq p → IsConflictFree eq p m }
+    ensures free { (eq : Equality L) (p : Capsule L E) → IsFreeOnPaths eq p → IsAlwaysConflictFree eq p }
     ensures within { (eq : Equality L) (allows : L → Bool) (p : Capsule L E) → PathsSayWhere eq (λ l. IsTrue (allows l)) p }
 {}
 
@@ -85,7 +85,7 @@ pub fn faults_do_not_show<S, N, K, E, O>()
 /// A capsule with the stores of its end made word by word before that end: it does the same and then
 /// these stores, and where the trees do not show them, a table of such capsules is the same code.
 pub fn end_stores_come_last<L, E>()
-    ensures { (eq : Equality L) (tail : E → List (L × ℕ)) (p : Capsule L E) (m : Memory L) → DoesThenStores eq tail p m }
+    ensures { (eq : Equality L) (tail : E → List (L × ℕ)) (p : Capsule L E) → EndStoresComeLast eq tail p }
 {}
 
 /// Likewise of tables.
