@@ -16,7 +16,7 @@ use Rattle.ppm_capsules.specs.Restart.{Progress, at, one, Stands}
 use Rattle.ppm_capsules.specs.Strand.{Location, Own, New, Shared, Frame, Table, shared_of, frame_of, code_of, IsClean}
 use Rattle.ppm_capsules.specs.Faults.{UnderWay, Running, Runs, Calls, Forks, IsOver, memory, progress, come_to, frame, shown, begun}
 use Rattle.ppm_capsules.specs.Faults.{Happens, WordStep, Fault, Opens, Returns, Joins, InCallee, InLeftBranch, InRightBranch, Happen, Nothing, Next}
-use Rattle.ppm_capsules.specs.Faults.{IsRestartable, FaultsDoNotShow, FaultyRunsEndAlike}
+use Rattle.ppm_capsules.specs.Faults.{IsRestartable, FaultyRunsAreAhead, FaultyRunsEndAlike}
 use Rattle.ppm_capsules.proofs.LocationLemmas.{decide, store_else}
 use Rattle.ppm_capsules.proofs.StandsLemmas.{one_moment, is_written}
 use Rattle.ppm_capsules.proofs.StrandLemmas.{clean_after, ends_are_steps, code_is_local}
@@ -177,8 +177,8 @@ module _ {S N K E O : Type 0} (eq : Equality (Location S N)) (table : Table S N 
         subst (λ (v : Tree (Frame S K) O). Steps (code_of eq table) k v a (shown u) b) same
         (all_go run (subst (λ (v : Tree (Frame S K) O). Calm (code_of eq table) v a) (sym same) calm) (begun_stand t a))
 
-  pub faults_do_not_show : FaultsDoNotShow eq table
-  faults_do_not_show safe k t u a b calm run = steps_ahead (code_of eq table) (code_is_local eq table) (all_steps safe t calm run) calm
+  pub faulty_runs_are_ahead : FaultyRunsAreAhead eq table
+  faulty_runs_are_ahead safe k t u a b calm run = steps_ahead (code_of eq table) (code_is_local eq table) (all_steps safe t calm run) calm
 
   pub faulty_runs_end_alike : FaultyRunsEndAlike eq table
   faulty_runs_end_alike safe k t o a b calm run = steps_end (code_of eq table) (code_is_local eq table) (all_steps safe t calm run) calm

@@ -86,10 +86,10 @@ module _ {S N K E O : Type 0} (eq : Equality (Location S N)) (table : Table S N 
   abbrev pub IsRestartable : Type 0
   IsRestartable = (k : K) (m : Memory (Location S N)) → MayBeginAgain eq table k m
 
-  -- faults do not show: whatever happens to a calm tree of such capsules, what it then shows is what is left of it, and ends exactly where
-  -- all of it would, with the counts of the capsules that came to their ends, however often these were begun
-  abbrev pub FaultsDoNotShow : Type 0
-  FaultsDoNotShow = IsRestartable → (k : Counts) (t : Tree (Frame S K) O) (u : Running S N K E O) (a b : Words)
+  -- whatever happens to a calm tree of such capsules, what it then shows is what is left of it, and ends exactly where all of it would,
+  -- with the counts of the capsules that came to their ends, however often these were begun
+  abbrev pub FaultyRunsAreAhead : Type 0
+  FaultyRunsAreAhead = IsRestartable → (k : Counts) (t : Tree (Frame S K) O) (u : Running S N K E O) (a b : Words)
       → Calm (code_of eq table) t a → Happen eq table k (begun table t) a u b → Ahead (code_of eq table) k t a (shown u) b
 
   -- so where it is over, that is the end of the depth-first run without faults: the same outcome, words and counts
@@ -102,3 +102,9 @@ module _ {S N K E O : Type 0} (eq : Equality (Location S N)) (table : Table S N 
   abbrev pub DepthFirstHappens : Type 0
   DepthFirstHappens = IsRestartable → (t : Tree (Frame S K) O) (a : Words) (e : End O) → Ends (code_of eq table) t a e
       → Happen eq table e.counts (begun table t) a (IsOver e.outcome) e.words
+
+  -- faults do not show
+  pub record FaultsDoNotShow : Type 0 where
+    pub ahead : FaultyRunsAreAhead
+    pub ends : FaultyRunsEndAlike
+    pub happens : DepthFirstHappens

@@ -135,3 +135,16 @@ module _ {S N K E O : Type 0} (eq : Equality (Location S N)) (table : Table S N 
       → let done = run_with_stops eq stops (table.capsule k) m in
       Steps code_of (of_capsule code_of (frame_of k m) (shared_of m)) (Strand (frame_of k m)) (shared_of m)
       (opened k done.end done.words) (shared_of done.words)
+
+  -- what a runtime that stores word by word needs of a table
+  pub record CapsulesMakeSteps : Type 0 where
+    pub stores : StoresAreSteps
+    pub kept : StoresKeep
+    pub ends : EndsAreSteps
+    pub moments : MomentsAreSteps
+    pub runs : RunsWithStopsAreOneCapsule
+
+  -- and while others store
+  pub record OthersKeepWhatIsDone : Type 0 where
+    pub elsewhere : OthersKeep
+    pub beside : StrandsBesideKeep
