@@ -36,7 +36,7 @@ module _ {S N K E O : Type 0} (eq : Equality (Location S N)) (table : Table S N 
       )
 
   -- a shared word that a capsule under way writes, or reads exposed, is one that its strand's whole capsule does
-  written_by : (k : K) (m : Memory (Location S N)) → MayBeginAgain eq table k m → (x : ℕ) → In (Shared x) (written eq (table.capsule k) m)
+  pub written_by : (k : K) (m : Memory (Location S N)) → MayBeginAgain eq table k m → (x : ℕ) → In (Shared x) (written eq (table.capsule k) m)
       → Has x ((code_of eq table).writes (frame_of k m) (shared_of m))
   written_by k m again x i = in_addresses x (written eq (table.capsule k) (fresh eq table k m again))
       (subst (λ (ls : List (Location S N)). In (Shared x) ls) (sym (fresh_alike eq table k m again).writes) i)
@@ -46,7 +46,7 @@ module _ {S N K E O : Type 0} (eq : Equality (Location S N)) (table : Table S N 
   read_by k m again x i = in_addresses x (exposed eq (table.capsule k) (fresh eq table k m again))
       (subst (λ (ls : List (Location S N)). In (Shared x) ls) (sym (fresh_alike eq table k m again).reads) i)
 
-  touched_by : (k : K) (m : Memory (Location S N)) → MayBeginAgain eq table k m → (x : ℕ)
+  pub touched_by : (k : K) (m : Memory (Location S N)) → MayBeginAgain eq table k m → (x : ℕ)
       → In (Shared x) (exposed eq (table.capsule k) m) ⊎ In (Shared x) (written eq (table.capsule k) m)
       → Has x (touches (code_of eq table) (frame_of k m) (shared_of m))
   touched_by k m again x (inl i) = has_left x ((code_of eq table).reads (frame_of k m) (shared_of m)) _ (read_by k m again x i)

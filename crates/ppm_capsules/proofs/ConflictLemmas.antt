@@ -1,6 +1,6 @@
 -- A capsule that reads a word, writes it and is stopped once.
 use Rattle.std.proofs.Common.{◌≡◌, ℕ, ◌+◌, [], ◌∷◌, refl, sym, ap, ◌∙◌, arith}
-use Rattle.ppm_capsules.specs.Capsule.{Equality, Memory, store}
+use Rattle.ppm_capsules.specs.Capsule.{Equality, Memory, Whole, store}
 use Rattle.ppm_capsules.specs.Restart.{CountsTwice, ConflictsAreNotIdempotent}
 use Rattle.ppm_capsules.proofs.LocationLemmas.{store_at}
 
@@ -22,4 +22,4 @@ module _ {L : Type 0} (eq : Equality L) where
   pub conflicts_are_not_idempotent : ConflictsAreNotIdempotent eq
   conflicts_are_not_idempotent l m =
       let twice = counts_twice l m in
-      (twice, λ same. one_more (m l) (sym twice.end_after_stop ∙ ap (λ (r : ℕ × Memory L). r.0) (same (2 ∷ [])) ∙ twice.end))
+      (twice, λ same. one_more (m l) (sym twice.end_after_stop ∙ ap (λ (r : Whole L ℕ). r.end) (same (2 ∷ [])) ∙ twice.end))

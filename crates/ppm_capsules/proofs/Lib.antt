@@ -1,7 +1,9 @@
 pub mod AlikeLemmas
 pub mod BesideLemmas
-pub mod ClosedLemmas
 pub mod ConflictLemmas
+pub mod EndStoresLemmas
+pub mod FaultlessLemmas
+pub mod FaultsLemmas
 pub mod LocationLemmas
 pub mod MomentLemmas
 pub mod PathLemmas

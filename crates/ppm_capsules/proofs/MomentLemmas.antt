@@ -5,8 +5,8 @@ use Rattle.ppm_strands.specs.Run.{Counts, none, of_capsule}
 use Rattle.ppm_strands.specs.Ahead.{Steps, Done, More}
 use Rattle.ppm_strands.proofs.RunLemmas.{plus_none, plus_comm}
 use Rattle.ppm_strands.proofs.ChainLemmas.{joined_steps}
-use Rattle.ppm_capsules.specs.Capsule.{Equality, Capsule, Reads, Writes, Asks, Ends, Memory, In, store, leaves, ending, DoesTheSame}
-use Rattle.ppm_capsules.specs.Restart.{IsConflictFree, one, steps, stopped, Stands}
+use Rattle.ppm_capsules.specs.Capsule.{Equality, Capsule, Reads, Writes, Asks, Ends, Memory, Whole, In, store, leaves, ending, DoesTheSame}
+use Rattle.ppm_capsules.specs.Restart.{IsConflictFree, Progress, at, one, steps, stopped, Stands}
 use Rattle.ppm_capsules.specs.Strand.{Location, New, Table, shared_of, frame_of, opened, code_of}
 use Rattle.ppm_capsules.specs.Strand.{MayBeginAgain, MomentsAreSteps, RunsWithStopsAreOneCapsule}
 use Rattle.ppm_capsules.proofs.StandsLemmas.{one_moment, steps_moment, stops_moment, is_idempotent}
@@ -14,7 +14,7 @@ use Rattle.ppm_capsules.proofs.StrandLemmas.{store_is_a_step, whole_is_a_step}
 
 module _ {S N K E O : Type 0} (eq : Equality (Location S N)) (table : Table S N K E O) (k : K) where
   -- stores lead from one memory to another
-  abbrev Stores : Memory (Location S N) → Memory (Location S N) → Type 0
+  abbrev pub Stores : Memory (Location S N) → Memory (Location S N) → Type 0
   Stores m n = Steps (code_of eq table) none (Strand (frame_of k m)) (shared_of m) (Strand (frame_of k n)) (shared_of n)
 
   -- what may be begun again may be so from a memory from which the capsule does the same
@@ -26,35 +26,36 @@ module _ {S N K E O : Type 0} (eq : Equality (Location S N)) (table : Table S N 
   }
 
   -- one word step
-  one_stores : (g : Capsule (Location S N) E × Memory (Location S N)) → MayBeginAgain eq table k g.1 → Stands eq (table.capsule k) g.0 g.1
-      → Stores g.1 (one eq g).1
-  one_stores (Reads l go, m) again h = Done (Strand (frame_of k m)) (shared_of m)
-  one_stores (Asks n go, m) again h = Done (Strand (frame_of k m)) (shared_of m)
-  one_stores (Ends e, m) again h = Done (Strand (frame_of k m)) (shared_of m)
-  one_stores (Writes l v go, m) again h =
+  pub one_stores : (rest : Capsule (Location S N) E) (m : Memory (Location S N)) → MayBeginAgain eq table k m → Stands eq (table.capsule k) rest m
+      → Stores m (one eq (at rest m)).words
+  one_stores (Reads l go) m again h = Done (Strand (frame_of k m)) (shared_of m)
+  one_stores (Asks n go) m again h = Done (Strand (frame_of k m)) (shared_of m)
+  one_stores (Ends e) m again h = Done (Strand (frame_of k m)) (shared_of m)
+  one_stores (Writes l v go) m again h =
       More (store_is_a_step eq table k l v go m again h) (Done (Strand (frame_of k (store eq m l v))) (shared_of (store eq m l v)))
 
   -- any number of word steps
-  steps_store : (n : ℕ) (g : Capsule (Location S N) E × Memory (Location S N)) → MayBeginAgain eq table k g.1 → Stands eq (table.capsule k) g.0 g.1
-      → Stores g.1 (steps eq n g).1
-  steps_store zero g again h = Done (Strand (frame_of k g.1)) (shared_of g.1)
+  steps_store : (n : ℕ) (g : Progress (Location S N) E) → MayBeginAgain eq table k g.words → Stands eq (table.capsule k) g.rest g.words
+      → Stores g.words (steps eq n g).words
+  steps_store zero g again h = Done (Strand (frame_of k g.words)) (shared_of g.words)
   steps_store (suc n) g again h =
-      let now = one_moment eq (table.capsule k) g again.free h in
-      joined_steps (code_of eq table) (one_stores g again h) (steps_store n (one eq g) (again_at g.1 (one eq g).1 again now.same now.free) now.stands)
+      let now = one_moment eq (table.capsule k) g.rest g.words again.free h in
+      joined_steps (code_of eq table) (one_stores g.rest g.words again h)
+      (steps_store n (one eq g) (again_at g.words (one eq g).words again now.same now.free) now.stands)
 
   -- and stops
   stops_store : (stops : List ℕ) (m : Memory (Location S N)) → MayBeginAgain eq table k m → Stores m (stopped eq stops (table.capsule k) m)
   stops_store [] m again = Done (Strand (frame_of k m)) (shared_of m)
   stops_store (n ∷ stops) m again =
-      let now = steps_moment eq n (table.capsule k) (table.capsule k, m) again.free (zero, refl) in
-      joined_steps (code_of eq table) (steps_store n (table.capsule k, m) again (zero, refl))
-      (stops_store stops (steps eq n (table.capsule k, m)).1 (again_at m _ again now.same now.free))
+      let now = steps_moment eq n (table.capsule k) (at (table.capsule k) m) again.free (zero, refl) in
+      joined_steps (code_of eq table) (steps_store n (at (table.capsule k) m) again (zero, refl))
+      (stops_store stops (steps eq n (at (table.capsule k) m)).words (again_at m _ again now.same now.free))
 
 pub moments_are_steps : {S N K E O : Type 0} (eq : Equality (Location S N)) (table : Table S N K E O) → MomentsAreSteps eq table
 moments_are_steps eq table k m stops n again =
     let now = stops_moment eq stops (table.capsule k) m again.free in
     joined_steps (code_of eq table) (stops_store eq table k stops m again)
-    (steps_store eq table k n (table.capsule k, stopped eq stops (table.capsule k) m) (again_at eq table k m _ again now.same now.free) (zero, refl))
+    (steps_store eq table k n (at (table.capsule k) (stopped eq stops (table.capsule k) m)) (again_at eq table k m _ again now.same now.free) (zero, refl))
 
 -- the run comes to what the whole capsule comes to
 pub runs_with_stops_are_one_capsule : {S N K E O : Type 0} (eq : Equality (Location S N)) (table : Table S N K E O)
@@ -65,6 +66,6 @@ runs_with_stops_are_one_capsule {S = S} {N = N} {E = E} eq table k m stops again
     (opened eq table k (ending eq (table.capsule k) m) (leaves eq (table.capsule k) m)) (shared_of (leaves eq (table.capsule k) m)))
     (plus_comm (of_capsule (code_of eq table) (frame_of k m) (shared_of m)) none ∙ plus_none (of_capsule (code_of eq table) (frame_of k m) (shared_of m)))
     (More (whole_is_a_step eq table k m again clean) (Done _ _)) in
-    subst (λ (r : E × Memory (Location S N)).
+    subst (λ (r : Whole (Location S N) E).
     Steps (code_of eq table) (of_capsule (code_of eq table) (frame_of k m) (shared_of m)) (Strand (frame_of k m)) (shared_of m)
-    (opened eq table k r.0 r.1) (shared_of r.1)) (sym (is_idempotent eq (table.capsule k) m again.free stops)) chain
+    (opened eq table k r.end r.words) (shared_of r.words)) (sym (is_idempotent eq (table.capsule k) m again.free stops)) chain

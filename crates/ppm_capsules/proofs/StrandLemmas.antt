@@ -6,7 +6,7 @@ use Rattle.ppm_strands.specs.Run.{none, of_capsule}
 use Rattle.ppm_strands.specs.Ahead.{Step, Redoes, Steps, Done, More}
 use Rattle.ppm_strands.specs.Ahead as ahead
 use Rattle.ppm_capsules.specs.Capsule.{Equality, Capsule, Writes, Memory, In, AgreeOn, store}
-use Rattle.ppm_capsules.specs.Capsule.{ending, leaves, written, exposed, DoesTheSame}
+use Rattle.ppm_capsules.specs.Capsule.{Whole, ending, leaves, written, exposed, DoesTheSame}
 use Rattle.ppm_capsules.specs.Restart.{IsConflictFree, Stands}
 use Rattle.ppm_capsules.specs.Strand.{Location, Own, New, Shared, Frame, Table, addresses, own_of, new_of, shared_of, frame_of, start, opened, code_of}
 use Rattle.ppm_capsules.specs.Strand.{IsClean, MayBeginAgain, CodeIsLocal, StoresAreSteps, StoresKeep, EndsAreSteps}
@@ -199,6 +199,6 @@ module _ {S N K E O : Type 0} (eq : Equality (Location S N)) (table : Table S N 
   pub ends_are_steps : EndsAreSteps eq table
   ends_are_steps k e m again clean h =
       let done = at_end eq (table.capsule k) e m h in
-      subst (λ (r : E × Memory (Location S N)).
+      subst (λ (r : Whole (Location S N) E).
       Step (code_of eq table) (of_capsule (code_of eq table) (frame_of k m) (shared_of m)) (Strand (frame_of k m)) (shared_of m)
-      (opened eq table k r.0 r.1) (shared_of r.1)) done (whole_is_a_step k m again clean)
+      (opened eq table k r.end r.words) (shared_of r.words)) done (whole_is_a_step k m again clean)

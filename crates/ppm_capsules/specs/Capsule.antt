@@ -19,6 +19,11 @@ pub data Capsule (L E : Type 0) : Type 0 where
 abbrev pub Memory : Type 0 → Type 0
 Memory L = L → ℕ
 
+-- what a capsule comes to when it is run whole: its end, and the words after it
+pub record Whole (L E : Type 0) : Type 0 where
+  pub end : E
+  pub words : Memory L
+
 -- l is one of the locations
 abbrev pub In : {L : Type 0} → L → List L → Type 0
 In l [] = ⊥
@@ -58,9 +63,9 @@ module _ {L E : Type 0} (eq : Equality L) where
   asked (Asks n go) m = n + asked go m
   asked (Ends e) m = 0
 
-  -- its end and the words after it
-  abbrev pub whole : Capsule L E → Memory L → E × Memory L
-  whole p m = (ending p m, leaves p m)
+  -- run whole
+  abbrev pub whole : Capsule L E → Memory L → Whole L E
+  whole p m = record { end = ending p m; words = leaves p m }
 
   -- the locations that it writes
   abbrev pub written : Capsule L E → Memory L → List L

@@ -1,6 +1,7 @@
 pub mod Capsule
-pub mod Closed
+pub mod EndStores
 pub mod Equalities
+pub mod Faults
 pub mod Paths
 pub mod Restart
 pub mod Strand

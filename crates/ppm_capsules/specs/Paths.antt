@@ -1,5 +1,5 @@
 -- The paths of a capsule: what it may read and write whatever words its reads find.
-use Rattle.std.specs.Prelude.{ℕ, cond, List, [], ◌∷◌}
+use Rattle.std.specs.Prelude.{ℕ, Bool, IsTrue, cond, List, [], ◌∷◌}
 use Rattle.ppm_capsules.specs.Capsule.{Equality, Capsule, Reads, Writes, Asks, Ends, Memory, In, is_in, written, exposed}
 
 module _ {L E : Type 0} (eq : Equality L) where
@@ -31,3 +31,7 @@ module _ {L E : Type 0} (eq : Equality L) where
   pub record PathsSayWhere (q : L → Type 0) (p : Capsule L E) : Type 0 where
     pub reads : ReadsOnly q p → (m : Memory L) (l : L) → In l (exposed eq p m) → q l
     pub writes : WritesOnly q p → (m : Memory L) (l : L) → In l (written eq p m) → q l
+
+  -- likewise by a test
+  abbrev pub PathsSayWhereByTest : (L → Bool) → Capsule L E → Type 0
+  PathsSayWhereByTest allows p = PathsSayWhere (λ l. IsTrue (allows l)) p

@@ -1,61 +1,84 @@
 -- A capsule that is stopped and begun again: when it comes to the same end with the same words, however often.
 use Rattle.std.specs.Prelude.{◌≡◌, ◌⊎◌, ℕ, zero, suc, ◌+◌, List, [], ◌∷◌}
-use Rattle.ppm_capsules.specs.Capsule.{Equality, Capsule, Reads, Writes, Asks, Ends, Memory, In, store, ending, leaves, whole, written, exposed, DoesTheSame}
+use Rattle.ppm_capsules.specs.Capsule.{Equality, Capsule, Reads, Writes, Asks, Ends, Memory, Whole, In, store}
+use Rattle.ppm_capsules.specs.Capsule.{ending, leaves, whole, written, exposed, DoesTheSame}
+
+-- how far a capsule has come: what is left of it, and the words now
+pub record Progress (L E : Type 0) : Type 0 where
+  pub rest : Capsule L E
+  pub words : Memory L
+
+abbrev pub at : {L E : Type 0} → Capsule L E → Memory L → Progress L E
+at p m = record { rest = p; words = m }
 
 module _ {L E : Type 0} (eq : Equality L) where
   -- the capsule has no write-after-read conflict from these words: it writes no location that it has read, unless it had written it first
   abbrev pub IsConflictFree : Capsule L E → Memory L → Type 0
   IsConflictFree p m = (l : L) → In l (exposed eq p m) → In l (written eq p m) → ⊥
 
-  -- one word step: what is left of the capsule, and the words then
-  abbrev pub one : Capsule L E × Memory L → Capsule L E × Memory L
-  one g = elim g.0 [ Reads l go ↦ (go (g.1 l), g.1) | Writes l v go ↦ (go, store eq g.1 l v) | Asks n go ↦ (go, g.1) | Ends e ↦ g ]
+  -- so from all words
+  abbrev pub IsAlwaysConflictFree : Capsule L E → Type 0
+  IsAlwaysConflictFree p = (m : Memory L) → IsConflictFree p m
+
+  -- one word step
+  abbrev pub one : Progress L E → Progress L E
+  one g = elim g.rest [
+    | Reads l go ↦ at (go (g.words l)) g.words
+    | Writes l v go ↦ at go (store eq g.words l v)
+    | Asks n go ↦ at go g.words
+    | Ends e ↦ g
+  ]
 
   -- n word steps, or as many as there are
-  abbrev pub steps : ℕ → Capsule L E × Memory L → Capsule L E × Memory L
+  abbrev pub steps : ℕ → Progress L E → Progress L E
   steps zero g = g
   steps (suc n) g = steps n (one g)
 
   -- the words after the capsule was begun, stopped after so many word steps and begun again, as often as the list says
   abbrev pub stopped : List ℕ → Capsule L E → Memory L → Memory L
   stopped [] p m = m
-  stopped (n ∷ ns) p m = stopped ns p (steps n (p, m)).1
+  stopped (n ∷ ns) p m = stopped ns p (steps n (at p m)).words
 
-  -- the capsule stopped so, and then run whole: its end and the words after it
-  abbrev pub run_with_stops : List ℕ → Capsule L E → Memory L → E × Memory L
+  -- the capsule stopped so, and then run whole
+  abbrev pub run_with_stops : List ℕ → Capsule L E → Memory L → Whole L E
   run_with_stops stops p m = whole eq p (stopped stops p m)
 
   -- idempotent: wherever it is stopped, and however often, it comes to the end of a run without stops, with the same words
   abbrev pub IsIdempotent : Capsule L E → Memory L → Type 0
   IsIdempotent p m = (stops : List ℕ) → run_with_stops stops p m ≡ whole eq p m
 
-  -- whatever was done before the last stop, the capsule then does the same from first to last, has no conflict, and no words have
-  -- changed but those that it writes
-  pub record StopsChangeNothing (p : Capsule L E) (m : Memory L) (stops : List ℕ) : Type 0 where
-    pub same : DoesTheSame eq p m (stopped stops p m)
-    pub free : IsConflictFree p (stopped stops p m)
-    pub kept : (l : L) → (In l (written eq p m) → ⊥) → stopped stops p m l ≡ m l
+  -- after any stops the capsule would still do the same from first to last, has no conflict, and no words have changed but those that
+  -- it writes
+  pub record StopsChangeNothing (p : Capsule L E) (m : Memory L) : Type 0 where
+    pub same : (stops : List ℕ) → DoesTheSame eq p m (stopped stops p m)
+    pub free : (stops : List ℕ) → IsConflictFree p (stopped stops p m)
+    pub kept : (stops : List ℕ) (l : L) → (In l (written eq p m) → ⊥) → stopped stops p m l ≡ m l
 
   -- what a capsule has done stands: if it were begun on the words as they are, some number of word steps would bring it to this rest,
   -- and leave the words as they are
   abbrev pub Stands : (first rest : Capsule L E) → Memory L → Type 0
-  Stands first rest m = (n : ℕ) × (steps n (first, m) ≡ (rest, m))
+  Stands first rest m = (n : ℕ) × (steps n (at first m) ≡ at rest m)
+
+  -- at a moment of a run of p that was begun on the words m: what it has done stands, it has no conflict, and from these words it would
+  -- do the same from first to last
+  pub record Moment (p : Capsule L E) (m : Memory L) (now : Progress L E) : Type 0 where
+    pub stands : Stands p now.rest now.words
+    pub free : IsConflictFree p now.words
+    pub same : DoesTheSame eq p m now.words
 
   -- how what a capsule has done stands
   pub record StandsAlways (p : Capsule L E) : Type 0 where
     -- at its beginning nothing is done
     pub begins : (m : Memory L) → Stands p p m
-    -- without conflicts it stands after each word step, and then does the same from first to last, without conflicts
-    pub goes_on : (rest : Capsule L E) (m : Memory L) → IsConflictFree p m → Stands p rest m
-        → Stands p (one (rest, m)).0 (one (rest, m)).1 × IsConflictFree p (one (rest, m)).1 × DoesTheSame eq p m (one (rest, m)).1
+    -- without conflicts it stands after each word step
+    pub goes_on : (rest : Capsule L E) (m : Memory L) → IsConflictFree p m → Stands p rest m → Moment p m (one (at rest m))
     -- so it does after any stops, and any number of word steps then
-    pub in_runs : (m : Memory L) (stops : List ℕ) (n : ℕ) → IsConflictFree p m
-        → Stands p (steps n (p, stopped stops p m)).0 (steps n (p, stopped stops p m)).1
+    pub in_runs : (m : Memory L) (stops : List ℕ) (n : ℕ) → IsConflictFree p m → Moment p m (steps n (at p (stopped stops p m)))
     -- and while others store where it neither reads nor writes
     pub elsewhere : (rest : Capsule L E) (m n : Memory L) → ((l : L) → In l (exposed eq p m) ⊎ In l (written eq p m) → n l ≡ m l)
         → Stands p rest m → Stands p rest n
     -- at its end nothing is left to do
-    pub at_end : (e : E) (m : Memory L) → Stands p (Ends e) m → whole eq p m ≡ (e, m)
+    pub at_end : (e : E) (m : Memory L) → Stands p (Ends e) m → whole eq p m ≡ record { end = e; words = m }
 
 module _ {L : Type 0} (eq : Equality L) where
   -- a capsule with a conflict: it adds one to the word at l, and ends with the word that it found
@@ -66,8 +89,8 @@ module _ {L : Type 0} (eq : Equality L) where
   pub record CountsTwice (l : L) (m : Memory L) : Type 0 where
     pub end : ending eq (counts_up l) m ≡ m l
     pub word : leaves eq (counts_up l) m l ≡ m l + 1
-    pub end_after_stop : (run_with_stops eq (2 ∷ []) (counts_up l) m).0 ≡ m l + 1
-    pub word_after_stop : (run_with_stops eq (2 ∷ []) (counts_up l) m).1 l ≡ (m l + 1) + 1
+    pub end_after_stop : (run_with_stops eq (2 ∷ []) (counts_up l) m).end ≡ m l + 1
+    pub word_after_stop : (run_with_stops eq (2 ∷ []) (counts_up l) m).words l ≡ (m l + 1) + 1
 
   -- so without the rule the law is lost, at any location and from any words
   abbrev pub ConflictsAreNotIdempotent : Type 0

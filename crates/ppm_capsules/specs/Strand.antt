@@ -6,7 +6,7 @@ use Rattle.ppm_strands.specs.Ahead.{Step, Steps}
 use Rattle.ppm_strands.specs.Beside.{AreBeside}
 use Rattle.ppm_strands.specs.Calm.{Calm}
 use Rattle.ppm_capsules.specs.Capsule.{Equality, Capsule, Writes, Ends, Memory, In, store, ending, leaves, asked, written, exposed}
-use Rattle.ppm_capsules.specs.Restart.{IsConflictFree, steps, stopped, run_with_stops, Stands}
+use Rattle.ppm_capsules.specs.Restart.{IsConflictFree, at, steps, stopped, run_with_stops, Stands}
 
 -- where the capsule of a frame reads and writes: a word of the frame's own, a word of what it builds, a shared word by its address
 pub data Location (S N : Type 0) : Type 0 where
@@ -126,7 +126,7 @@ module _ {S N K E O : Type 0} (eq : Equality (Location S N)) (table : Table S N 
   -- at each moment of a run with stops the strand has come by steps that count nothing
   abbrev pub MomentsAreSteps : Type 0
   MomentsAreSteps = (k : K) (m : Memory (Location S N)) (stops : List ℕ) (n : ℕ) → MayBeginAgain k m
-      → let now = (steps eq n (table.capsule k, stopped eq stops (table.capsule k) m)).1 in
+      → let now = (steps eq n (at (table.capsule k) (stopped eq stops (table.capsule k) m))).words in
       Steps code_of none (Strand (frame_of k m)) (shared_of m) (Strand (frame_of k now)) (shared_of now)
 
   -- and a run with stops, once it is whole, is one capsule of its strand: it is counted once, and the next tree is what its end opens
@@ -134,4 +134,17 @@ module _ {S N K E O : Type 0} (eq : Equality (Location S N)) (table : Table S N 
   RunsWithStopsAreOneCapsule = (k : K) (m : Memory (Location S N)) (stops : List ℕ) → MayBeginAgain k m → IsClean k m
       → let done = run_with_stops eq stops (table.capsule k) m in
       Steps code_of (of_capsule code_of (frame_of k m) (shared_of m)) (Strand (frame_of k m)) (shared_of m)
-      (opened k done.0 done.1) (shared_of done.1)
+      (opened k done.end done.words) (shared_of done.words)
+
+  -- what a runtime that stores word by word needs of a table
+  pub record CapsulesMakeSteps : Type 0 where
+    pub stores : StoresAreSteps
+    pub kept : StoresKeep
+    pub ends : EndsAreSteps
+    pub moments : MomentsAreSteps
+    pub runs : RunsWithStopsAreOneCapsule
+
+  -- and while others store
+  pub record OthersKeepWhatIsDone : Type 0 where
+    pub elsewhere : OthersKeep
+    pub beside : StrandsBesideKeep

@@ -1,12 +1,12 @@
 //! What is true of every capsule and every table of capsules, shown by calls that do nothing.
 ghost use Rattle.ppm_capsules.specs.Capsule.{Capsule, Equality, IsLocal, Memory};
-ghost use Rattle.ppm_capsules.specs.Closed.{ClosedTablesAreTheSame, DoesThenStores};
-ghost use Rattle.ppm_capsules.specs.Paths.{IsFreeOnPaths, PathsSayWhere};
-ghost use Rattle.ppm_capsules.specs.Restart.{ConflictsAreNotIdempotent, IsConflictFree, IsIdempotent};
+ghost use Rattle.ppm_capsules.specs.EndStores.{TablesAreTheSame, EndStoresComeLast};
+ghost use Rattle.ppm_capsules.specs.Faults.{FaultsDoNotShow};
+ghost use Rattle.ppm_capsules.specs.Paths.{IsFreeOnPaths, PathsSayWhereByTest};
+ghost use Rattle.ppm_capsules.specs.Restart.{ConflictsAreNotIdempotent, IsAlwaysConflictFree, IsConflictFree, IsIdempotent};
 ghost use Rattle.ppm_capsules.specs.Restart.{StandsAlways, StopsChangeNothing, WrittenFirstIsConflictFree};
-ghost use Rattle.ppm_capsules.specs.Strand.{CodeIsLocal, EndsAreSteps, Location, MomentsAreSteps, OthersKeep};
-ghost use Rattle.ppm_capsules.specs.Strand.{RunsWithStopsAreOneCapsule, StoresAreSteps, StoresKeep, StrandsBesideKeep, Table};
-ghost use Rattle.std.specs.Prelude.{ℕ, Bool, IsTrue, List};
+ghost use Rattle.ppm_capsules.specs.Strand.{CapsulesMakeSteps, CodeIsLocal, Location, OthersKeepWhatIsDone, Table};
+ghost use Rattle.std.specs.Prelude.{ℕ, Bool, List};
 
 /// What a capsule does depends on its exposed reads alone, and it keeps the words that it does not
 /// write.
@@ -23,7 +23,7 @@ pub fn conflict_free_is_idempotent<L, E>()
 /// Wherever it was stopped, it then does the same from first to last: it reads, writes and asks for the
 /// same, and may be stopped again.
 pub fn stops_change_nothing<L, E>()
-    ensures { (eq : Equality L) (p : Capsule L E) (m : Memory L) (stops : List ℕ) → IsConflictFree eq p m → StopsChangeNothing eq p m stops }
+    ensures { (eq : Equality L) (p : Capsule L E) (m : Memory L) → IsConflictFree eq p m → StopsChangeNothing eq p m }
 {}
 
 /// The rule is needed: at any location and from any words, a capsule that reads, writes and is stopped
@@ -37,8 +37,8 @@ pub fn conflicts_are_not_idempotent<L>()
 /// A capsule without a conflict on any path, whatever its reads find, has none from any words; and if a
 /// test allows all locations that its paths read, or write, it allows its exposed reads, or its writes.
 pub fn paths_are_enough<L, E>()
-    ensures free { (eq : Equality L) (p : Capsule L E) (m : Memory L) → IsFreeOnPaths eq p → IsConflictFree eq p m }
-    ensures within { (eq : Equality L) (allows : L → Bool) (p : Capsule L E) → PathsSayWhere eq (λ l. IsTrue (allows l)) p }
+    ensures free { (eq : Equality L) (p : Capsule L E) → IsFreeOnPaths eq p → IsAlwaysConflictFree eq p }
+    ensures by_test { (eq : Equality L) (allows : L → Bool) (p : Capsule L E) → PathsSayWhereByTest eq allows p }
 {}
 
 /// What a capsule without conflicts has done stands at each moment of a run, stops and all, and while
@@ -56,27 +56,31 @@ pub fn code_is_local<S, N, K, E, O>()
 /// nothing, and its end is the step of one whole capsule: so a run of it with any stops is, in the tree,
 /// one capsule.
 pub fn capsules_make_steps<S, N, K, E, O>()
-    ensures stores { (eq : Equality (Location S N)) (table : Table S N K E O) → StoresAreSteps eq table }
-    ensures kept { (eq : Equality (Location S N)) (table : Table S N K E O) → StoresKeep eq table }
-    ensures ends { (eq : Equality (Location S N)) (table : Table S N K E O) → EndsAreSteps eq table }
-    ensures moments { (eq : Equality (Location S N)) (table : Table S N K E O) → MomentsAreSteps eq table }
-    ensures runs { (eq : Equality (Location S N)) (table : Table S N K E O) → RunsWithStopsAreOneCapsule eq table }
+    ensures { (eq : Equality (Location S N)) (table : Table S N K E O) → CapsulesMakeSteps eq table }
 {}
 
 /// Others keep what a capsule under way has done, and that it may be begun again: those that store
 /// elsewhere, and in a calm tree each strand beside its own.
 pub fn others_keep_what_is_done<S, N, K, E, O>()
-    ensures elsewhere { (eq : Equality (Location S N)) (table : Table S N K E O) → OthersKeep eq table }
-    ensures beside { (eq : Equality (Location S N)) (table : Table S N K E O) → StrandsBesideKeep eq table }
+    ensures { (eq : Equality (Location S N)) (table : Table S N K E O) → OthersKeepWhatIsDone eq table }
 {}
 
-/// A capsule with the stores of its end made word by word before that end: it does the same and then
-/// these stores, and where the trees do not show them, a table of such capsules is the same code.
-pub fn closed_capsules<L, E>()
-    ensures { (eq : Equality L) (tail : E → List (L × ℕ)) (p : Capsule L E) (m : Memory L) → DoesThenStores eq tail p m }
+/// Faults do not show. In a calm tree of strands whose capsules have no write-after-read conflict, let
+/// the strands make their word steps in any order, and let each lose at any moments how far its capsule
+/// has come, and begin that again: what is left ends where all of it would, and where it is over, that
+/// is the end of the depth-first run without faults, with the same words and counts; and that run is
+/// itself one of these.
+pub fn faults_do_not_show<S, N, K, E, O>()
+    ensures { (eq : Equality (Location S N)) (table : Table S N K E O) → FaultsDoNotShow eq table }
 {}
 
-/// Likewise of tables.
-pub fn closed_tables<S, N, K, E, O>()
-    ensures { (eq : Equality (Location S N)) (table : Table S N K E O) → ClosedTablesAreTheSame eq table }
+/// A capsule with the stores of its end written out before that end does what it does, and then these
+/// stores; it has no conflict where it had none and they go to no location that it has read.
+pub fn end_stores_come_last<L, E>()
+    ensures { (eq : Equality L) (tail : E → List (L × ℕ)) (p : Capsule L E) → EndStoresComeLast eq tail p }
+{}
+
+/// Where the trees that ends open do not show these stores, a table of such capsules is the same code.
+pub fn end_stores_are_unseen<S, N, K, E, O>()
+    ensures { (eq : Equality (Location S N)) (table : Table S N K E O) → TablesAreTheSame eq table }
 {}

@@ -1,10 +1,9 @@
 -- Small capsules over the four words, with one register that a stop loses.
 use Rattle.std.specs.Prelude.{◌≡◌, ℕ, ◌+◌, ◌%◌, List, [], ◌∷◌}
 use Rattle.ppm_strands.specs.Tree.{Words}
-use Rattle.ppm_capsules.specs.Capsule.{Capsule, Reads, Writes, Ends}
+use Rattle.ppm_capsules.specs.Capsule.{Capsule, Reads, Writes, Ends, Whole, whole}
 use Rattle.ppm_capsules.specs.Equalities.{numbers}
-use Rattle.ppm_capsules.specs.Restart.{IsConflictFree, run_with_stops}
-use Rattle.ppm_capsules.specs.Capsule as capsule
+use Rattle.ppm_capsules.specs.Restart.{IsConflictFree, at, steps, run_with_stops}
 use Rattle.ppm_laws.specs.Sample.{address, words_of}
 use Rattle.ppm_laws.specs.declared.stops.Ask.{Ask}
 use Rattle.ppm_laws.specs.declared.stops.Ask.TheVariants.{Load, Store, Add}
@@ -18,16 +17,20 @@ capsule_of (Store w ∷ rest) r = Writes (address w) r (capsule_of rest r)
 capsule_of (Add n ∷ rest) r = capsule_of rest ((r + n) % 256)
 
 -- the end of a run and the words then
-abbrev pub told : Run → ℕ × Words
-told run = (run.end, words_of run.words)
+abbrev pub told : Run → Whole ℕ ℕ
+told run = record { end = run.end; words = words_of run.words }
+
+-- the words after so many word steps
+abbrev pub words_after : ℕ → List Ask → ℕ → List ℕ → Words
+words_after n asks r ws = (steps numbers n (at (capsule_of asks r) (words_of ws))).words
 
 -- a run with stops, each time from the first instruction with the register at 0
-abbrev pub with_stops : List Ask → List ℕ → List ℕ → ℕ × Words
+abbrev pub with_stops : List Ask → List ℕ → List ℕ → Whole ℕ ℕ
 with_stops asks stops ws = run_with_stops numbers stops (capsule_of asks 0) (words_of ws)
 
 -- a run without stops
-abbrev pub without_stops : List Ask → List ℕ → ℕ × Words
-without_stops asks ws = capsule.whole numbers (capsule_of asks 0) (words_of ws)
+abbrev pub without_stops : List Ask → List ℕ → Whole ℕ ℕ
+without_stops asks ws = whole numbers (capsule_of asks 0) (words_of ws)
 
 -- the capsule has no conflict from these words
 abbrev pub IsFree : List Ask → List ℕ → Type 0

@@ -3,9 +3,8 @@
 ghost use Rattle.std.specs.Prelude.{◌≡◌};
 ghost use Rattle.ppm_capsules.specs.Capsule.{store, whole as model_whole};
 ghost use Rattle.ppm_capsules.specs.Equalities.{numbers};
-ghost use Rattle.ppm_capsules.specs.Restart.{steps as model_steps};
 ghost use Rattle.ppm_laws.specs.Sample.{address, words_of};
-ghost use Rattle.ppm_laws.specs.Stops.{StopsDoNotShow, capsule_of, told, with_stops};
+ghost use Rattle.ppm_laws.specs.Stops.{StopsDoNotShow, capsule_of, told, with_stops, words_after};
 
 use crate::sample::{Word, index};
 use ppm_capsules::conflict_free_is_idempotent;
@@ -60,7 +59,7 @@ fn run_whole(rest: &[Ask], register: u8, words: [u8; 4]) -> Run
 
 /// Runs what is left of a capsule for so many word steps, or to its end: the words then.
 fn run_until(rest: &[Ask], steps: u8, register: u8, words: [u8; 4]) -> [u8; 4]
-    ensures stopped { words_of result ≡ (model_steps numbers steps (capsule_of rest.now register, words_of words)).1 }
+    ensures stopped { words_of result ≡ words_after steps rest.now register words }
 {
     match rest {
         [] => words,

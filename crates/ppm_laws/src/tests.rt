@@ -6,9 +6,9 @@ use crate::races::{
 use crate::sample::{Capsule, Counts, End, Outcome, SmallTree, Word, run};
 use crate::stops::{Ask, Run, run_with_stops, stops_do_not_show};
 use ppm_capsules::{
-    capsules_are_local, capsules_make_steps, closed_capsules, closed_tables, code_is_local,
-    conflict_free_is_idempotent, conflicts_are_not_idempotent, others_keep_what_is_done,
-    paths_are_enough, stops_change_nothing, what_is_done_stands,
+    capsules_are_local, capsules_make_steps, code_is_local, conflict_free_is_idempotent,
+    conflicts_are_not_idempotent, end_stores_are_unseen, end_stores_come_last, faults_do_not_show,
+    others_keep_what_is_done, paths_are_enough, stops_change_nothing, what_is_done_stands,
 };
 use ppm_strands::{
     a_change_at_one_leaf, a_change_passes_up, a_step_in_turn, ahead_composes, any_order,
@@ -325,11 +325,12 @@ fn laws_are_calls_that_do_nothing(_rt: HostRuntime) -> Result<(), Fail> {
     conflicts_are_not_idempotent::<u8>();
     paths_are_enough::<u8, u8>();
     what_is_done_stands::<u8, u8>();
-    closed_capsules::<u8, u8>();
+    end_stores_come_last::<u8, u8>();
     code_is_local::<u8, u8, u8, u8, Outcome>();
     capsules_make_steps::<u8, u8, u8, u8, Outcome>();
     others_keep_what_is_done::<u8, u8, u8, u8, Outcome>();
-    closed_tables::<u8, u8, u8, u8, Outcome>();
+    faults_do_not_show::<u8, u8, u8, u8, Outcome>();
+    end_stores_are_unseen::<u8, u8, u8, u8, Outcome>();
     stops_do_not_show();
     samples_are_local();
     tables_run_in_any_order();

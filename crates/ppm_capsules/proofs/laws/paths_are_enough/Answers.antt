@@ -4,4 +4,4 @@ use Rattle.ppm_capsules.proofs.laws.paths_are_enough.Goals as goal
 
 -- by induction on the capsule, along the path that the words take
 pub returns : goal.returns
-returns g c = record { free = λ eq p m free l i j. paths_are_enough eq p m free l i j; within = λ eq allows p. paths_say_where eq (λ l. IsTrue (allows l)) p }
+returns g c = record { free = λ eq p free m l i j. paths_are_enough eq p m free l i j; by_test = λ eq allows p. paths_say_where eq (λ l. IsTrue (allows l)) p }

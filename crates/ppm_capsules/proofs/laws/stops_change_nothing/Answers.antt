@@ -3,4 +3,4 @@ use Rattle.ppm_capsules.proofs.laws.stops_change_nothing.Goals as goal
 
 -- stop by stop
 pub returns : goal.returns
-returns g c = λ eq p m stops free. stops_change_nothing eq p m stops free
+returns g c = λ eq p m free. stops_change_nothing eq p m free

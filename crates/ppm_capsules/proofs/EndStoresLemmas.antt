@@ -1,4 +1,4 @@
--- A capsule closed by the stores of its end does what it does, and then these stores.
+-- A capsule with the stores of its end does what it does, and then these stores.
 use Rattle.std.proofs.Common.{◌≡◌, ℕ, ◌+◌, cond, List, [], ◌∷◌, ◌++◌, ◌⊎◌, inl, inr, refl, ap, ◌∙◌, subst}
 use Rattle.std.proofs.lemmas.List.{append-nil}
 use Rattle.std.proofs.Math.Path.{fun_ext}
@@ -8,7 +8,7 @@ use Rattle.ppm_capsules.specs.Capsule.{ending, leaves, asked, written, exposed_p
 use Rattle.ppm_capsules.specs.Strand.{Location, Own, New, Shared, Frame, Table, addresses, start, opened, code_of}
 use Rattle.ppm_capsules.proofs.LocationLemmas.{decide, store_else}
 use Rattle.ppm_capsules.proofs.StrandLemmas.{in_addresses}
-use Rattle.ppm_capsules.specs.Closed.{storing, stored_at, after_stores, closed, DoesThenStores, closed_table, AreUnseen, ClosedTablesAreTheSame}
+use Rattle.ppm_capsules.specs.EndStores.{storing, stored_at, after_stores, with_end_stores, DoesThenStores, with_end_stores_in, AreUnseen, TablesAreTheSame}
 
 -- in a list put together
 in_append : {L : Type 0} (l : L) (ks ls : List L) → In l (ks ++ ls) → In l ks ⊎ In l ls
@@ -39,46 +39,46 @@ module _ {L E : Type 0} (eq : Equality L) where
   storing_writes (s ∷ ss) e m = ap (λ (ls : List L). s.0 ∷ ls) (storing_writes ss e (store eq m s.0 s.1))
 
   module _ (tail : E → List (L × ℕ)) where
-    closed_ends : (p : Capsule L E) (m : Memory L) → ending eq (closed tail p) m ≡ ending eq p m
-    closed_ends (Reads l go) m = closed_ends (go (m l)) m
-    closed_ends (Writes l v go) m = closed_ends go (store eq m l v)
-    closed_ends (Asks n go) m = closed_ends go m
-    closed_ends (Ends e) m = storing_ends (tail e) e m
+    long_ends : (p : Capsule L E) (m : Memory L) → ending eq (with_end_stores tail p) m ≡ ending eq p m
+    long_ends (Reads l go) m = long_ends (go (m l)) m
+    long_ends (Writes l v go) m = long_ends go (store eq m l v)
+    long_ends (Asks n go) m = long_ends go m
+    long_ends (Ends e) m = storing_ends (tail e) e m
 
-    closed_words : (p : Capsule L E) (m : Memory L) → leaves eq (closed tail p) m ≡ after_stores eq (tail (ending eq p m)) (leaves eq p m)
-    closed_words (Reads l go) m = closed_words (go (m l)) m
-    closed_words (Writes l v go) m = closed_words go (store eq m l v)
-    closed_words (Asks n go) m = closed_words go m
-    closed_words (Ends e) m = storing_words (tail e) e m
+    long_words : (p : Capsule L E) (m : Memory L) → leaves eq (with_end_stores tail p) m ≡ after_stores eq (tail (ending eq p m)) (leaves eq p m)
+    long_words (Reads l go) m = long_words (go (m l)) m
+    long_words (Writes l v go) m = long_words go (store eq m l v)
+    long_words (Asks n go) m = long_words go m
+    long_words (Ends e) m = storing_words (tail e) e m
 
-    closed_asks : (p : Capsule L E) (m : Memory L) → asked eq (closed tail p) m ≡ asked eq p m
-    closed_asks (Reads l go) m = closed_asks (go (m l)) m
-    closed_asks (Writes l v go) m = closed_asks go (store eq m l v)
-    closed_asks (Asks n go) m = ap (λ (k : ℕ). n + k) (closed_asks go m)
-    closed_asks (Ends e) m = storing_asks (tail e) e m
+    long_asks : (p : Capsule L E) (m : Memory L) → asked eq (with_end_stores tail p) m ≡ asked eq p m
+    long_asks (Reads l go) m = long_asks (go (m l)) m
+    long_asks (Writes l v go) m = long_asks go (store eq m l v)
+    long_asks (Asks n go) m = ap (λ (k : ℕ). n + k) (long_asks go m)
+    long_asks (Ends e) m = storing_asks (tail e) e m
 
-    closed_reads : (w : List L) (p : Capsule L E) (m : Memory L) → exposed_past eq w (closed tail p) m ≡ exposed_past eq w p m
-    closed_reads w (Reads l go) m = ap (λ (ls : List L). cond (is_in eq l w) ls (l ∷ ls)) (closed_reads w (go (m l)) m)
-    closed_reads w (Writes l v go) m = closed_reads (l ∷ w) go (store eq m l v)
-    closed_reads w (Asks n go) m = closed_reads w go m
-    closed_reads w (Ends e) m = storing_reads w (tail e) e m
+    long_reads : (w : List L) (p : Capsule L E) (m : Memory L) → exposed_past eq w (with_end_stores tail p) m ≡ exposed_past eq w p m
+    long_reads w (Reads l go) m = ap (λ (ls : List L). cond (is_in eq l w) ls (l ∷ ls)) (long_reads w (go (m l)) m)
+    long_reads w (Writes l v go) m = long_reads (l ∷ w) go (store eq m l v)
+    long_reads w (Asks n go) m = long_reads w go m
+    long_reads w (Ends e) m = storing_reads w (tail e) e m
 
-    closed_writes : (p : Capsule L E) (m : Memory L) → written eq (closed tail p) m ≡ written eq p m ++ stored_at (tail (ending eq p m))
-    closed_writes (Reads l go) m = closed_writes (go (m l)) m
-    closed_writes (Writes l v go) m = ap (λ (ls : List L). l ∷ ls) (closed_writes go (store eq m l v))
-    closed_writes (Asks n go) m = closed_writes go m
-    closed_writes (Ends e) m = storing_writes (tail e) e m
+    long_writes : (p : Capsule L E) (m : Memory L) → written eq (with_end_stores tail p) m ≡ written eq p m ++ stored_at (tail (ending eq p m))
+    long_writes (Reads l go) m = long_writes (go (m l)) m
+    long_writes (Writes l v go) m = ap (λ (ls : List L). l ∷ ls) (long_writes go (store eq m l v))
+    long_writes (Asks n go) m = long_writes go m
+    long_writes (Ends e) m = storing_writes (tail e) e m
 
     pub does_then_stores : (p : Capsule L E) (m : Memory L) → DoesThenStores eq tail p m
     does_then_stores p m = record {
-      ends = closed_ends p m;
-      words = closed_words p m;
-      asks = closed_asks p m;
-      reads = closed_reads [] p m;
-      writes = closed_writes p m;
+      ends = long_ends p m;
+      words = long_words p m;
+      asks = long_asks p m;
+      reads = long_reads [] p m;
+      writes = long_writes p m;
       free = λ free apart l i j.
-          let read = subst (λ (ls : List L). In l ls) (closed_reads [] p m) i in
-          elim (in_append l (written eq p m) (stored_at (tail (ending eq p m))) (subst (λ (ls : List L). In l ls) (closed_writes p m) j)) [
+          let read = subst (λ (ls : List L). In l ls) (long_reads [] p m) i in
+          elim (in_append l (written eq p m) (stored_at (tail (ending eq p m))) (subst (λ (ls : List L). In l ls) (long_writes p m) j)) [
             | inl k ↦ free l read k
             | inr k ↦ apart l read k
           ];
@@ -115,18 +115,18 @@ module _ {S N K E O : Type 0} (eq : Equality (Location S N)) (table : Table S N 
     abbrev both : DoesThenStores eq (tails f.point) p m
     both = does_then_stores eq (tails f.point) p m
 
-    same_next : (code_of eq (closed_table eq table tails)).next f a ≡ (code_of eq table).next f a
+    same_next : (code_of eq (with_end_stores_in eq table tails)).next f a ≡ (code_of eq table).next f a
     same_next =
-        ap (λ (e : E). opened eq table f.point e (leaves eq (closed (tails f.point) p) m)) both.ends
+        ap (λ (e : E). opened eq table f.point e (leaves eq (with_end_stores (tails f.point) p) m)) both.ends
         ∙ ap (λ (n : Memory (Location S N)). opened eq table f.point (ending eq p m) n) both.words
         ∙ hidden.unseen f.point (ending eq p m) (leaves eq p m)
 
-    same_after : (code_of eq (closed_table eq table tails)).after f a ≡ (code_of eq table).after f a
+    same_after : (code_of eq (with_end_stores_in eq table tails)).after f a ≡ (code_of eq table).after f a
     same_after = fun_ext (λ x.
         ap (λ (n : Memory (Location S N)). n (Shared x)) both.words
         ∙ stores_keep eq (tails f.point (ending eq p m)) (leaves eq p m) (Shared x) (none_shared f.point (ending eq p m) x))
 
-    same_writes : (code_of eq (closed_table eq table tails)).writes f a ≡ (code_of eq table).writes f a
+    same_writes : (code_of eq (with_end_stores_in eq table tails)).writes f a ≡ (code_of eq table).writes f a
     same_writes =
         ap addresses both.writes
         ∙ addresses_append (written eq p m) (stored_at (tails f.point (ending eq p m)))
@@ -136,17 +136,17 @@ module _ {S N K E O : Type 0} (eq : Equality (Location S N)) (table : Table S N 
   abbrev old_code : Code (Frame S K) O
   old_code = code_of eq table
 
-  abbrev closed_code : Code (Frame S K) O
-  closed_code = code_of eq (closed_table eq table tails)
+  abbrev long_code : Code (Frame S K) O
+  long_code = code_of eq (with_end_stores_in eq table tails)
 
   -- the same code, part by part
-  pub same_code : closed_code ≡ old_code
+  pub same_code : long_code ≡ old_code
   same_code =
-      let next : closed_code.next ≡ old_code.next = fun_ext (λ f. fun_ext (λ a. same_next f a)) in
-      let after : closed_code.after ≡ old_code.after = fun_ext (λ f. fun_ext (λ a. same_after f a)) in
-      let reads : closed_code.reads ≡ old_code.reads = fun_ext (λ f. fun_ext (λ a. ap addresses (both f a).reads)) in
-      let writes : closed_code.writes ≡ old_code.writes = fun_ext (λ f. fun_ext (λ a. same_writes f a)) in
-      let asks : closed_code.asks ≡ old_code.asks = fun_ext (λ f. fun_ext (λ a. (both f a).asks)) in
+      let next : long_code.next ≡ old_code.next = fun_ext (λ f. fun_ext (λ a. same_next f a)) in
+      let after : long_code.after ≡ old_code.after = fun_ext (λ f. fun_ext (λ a. same_after f a)) in
+      let reads : long_code.reads ≡ old_code.reads = fun_ext (λ f. fun_ext (λ a. ap addresses (both f a).reads)) in
+      let writes : long_code.writes ≡ old_code.writes = fun_ext (λ f. fun_ext (λ a. same_writes f a)) in
+      let asks : long_code.asks ≡ old_code.asks = fun_ext (λ f. fun_ext (λ a. (both f a).asks)) in
       λ i. record {
         next = next i;
         after = after i;
@@ -158,5 +158,5 @@ module _ {S N K E O : Type 0} (eq : Equality (Location S N)) (table : Table S N 
         is_trap = table.is_trap;
       }
 
-pub closed_tables_are_the_same : {S N K E O : Type 0} (eq : Equality (Location S N)) (table : Table S N K E O) → ClosedTablesAreTheSame eq table
-closed_tables_are_the_same eq table tails hidden = same_code eq table tails hidden
+pub end_stores_are_unseen_are_the_same : {S N K E O : Type 0} (eq : Equality (Location S N)) (table : Table S N K E O) → TablesAreTheSame eq table
+end_stores_are_unseen_are_the_same eq table tails hidden = same_code eq table tails hidden
