@@ -5,7 +5,7 @@ use ppm_words::{Items, NamedArray, Trap};
 /// What a command answers, before any of it is written.
 #[derive(Debug, Drop)]
 pub enum Answer {
-    /// The run ended with these arrays, in the order in which the source declares them.
+    /// The run ended with these arrays, in the order in which the program declares them.
     Ended(Items<NamedArray>),
     /// The run ended by a trap in this line of the source; lines count from 1.
     Trapped(Trap, u32),

@@ -7,7 +7,7 @@ ghost use Rattle.ppm_answers.specs.Statuses.{number_of};
 pub enum Status {
     /// The run ended, and its arrays are on out.
     Ended = 0,
-    /// The run ended by a trap, which is told on out.
+    /// The run ended by a trap, which is reported on out.
     Trapped = 1,
     /// The source is refused.
     SourceRefused = 2,

@@ -110,13 +110,13 @@ fn a_port_that_fails_makes_status_8(rt: HostRuntime) -> Result<(), Fail> {
     assert_eq!(rt; got.status, Status::WriteFault);
     assert_eq!(rt; got.err.as_slice(), b"write".as_slice());
     // Err fails, whatever the answer was.
-    let told = [
+    let with_messages = [
         refused(Pass::Syntax, 1, 4),
         Answer::WordsRefused,
         Answer::ReadFault,
         Answer::NoMemory,
     ];
-    for answer in told {
+    for answer in with_messages {
         let got = delivered(alloc, &answer, 5, &[0], &[1])?;
         assert_eq!(rt; got.status, Status::WriteFault);
         assert_eq!(rt; got.out.as_slice(), b"".as_slice());

@@ -1,5 +1,5 @@
 -- The outside of a command, before its call and after it.
-use Rattle.std.specs.Prelude.{◌≡◌, List, Option}
+use Rattle.std.specs.Prelude.{List, Option}
 use Rattle.ppm_words.specs.declared.event.Event.{Event}
 use Rattle.ppm_ports.specs.Ports.{Port}
 
@@ -18,7 +18,3 @@ pub record Outside : Type 0 where
 -- the outside with these ports and watchers
 abbrev pub outside : Port → Port → Port → ToldLists → ToldLists → Outside
 outside source out err before now = record { source = source; out = out; err = err; told_before = before; told_now = now }
-
--- no watcher was told anything
-abbrev pub TellsNothing : Outside → Type 0
-TellsNothing o = o.told_now ≡ o.told_before

@@ -1,7 +1,7 @@
 //! The command `run`.
 ghost use Rattle.std.specs.Prelude.{◌≡◌, length, map};
 ghost use Rattle.ppm_ports.specs.Ports.{port};
-ghost use Rattle.ppm_ports.specs.Outside.{outside, TellsNothing};
+ghost use Rattle.ppm_ports.specs.Outside.{outside};
 ghost use Rattle.ppm_line.specs.Words.{IsInRange};
 ghost use Rattle.ppm_line.specs.declared.command.Command.TheVariants as commands;
 ghost use Rattle.ppm_top.specs.Bounds.{watcher_count};

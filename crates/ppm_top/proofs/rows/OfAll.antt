@@ -19,13 +19,13 @@ use Rattle.ppm_top.proofs.rows.Delivered as delivered
 use Rattle.ppm_top.proofs.rows.OfRun.{run_rows}
 
 -- what the causes of a command say of the source: a read fault comes where it failed, and where it failed nothing else comes but want of memory
-pub record TellsReads (o : Outside) (may : Answer → Type 0) : Type 0 where
+pub record ReportsReads (o : Outside) (may : Answer → Type 0) : Type 0 where
   pub failed : may answers.ReadFault → Fails o.source
   pub fails : (answer : Answer) → may answer → ¬ Holds o.source →
       (status_of answer ≡ statuses.ReadFault) ⊎ (status_of answer ≡ statuses.NoMemory)
 
-run_tells : (o : Outside) (options : _) → TellsReads o (RunMay options o)
-run_tells o options = record { failed = λ h. h.0; fails = fails } where
+run_reports : (o : Outside) (options : _) → ReportsReads o (RunMay options o)
+run_reports o options = record { failed = λ h. h.0; fails = fails } where
   fails : (answer : Answer) → RunMay options o answer → ¬ Holds o.source →
       (status_of answer ≡ statuses.ReadFault) ⊎ (status_of answer ≡ statuses.NoMemory)
   fails (answers.Ended arrays) h f = absurd (f h.1.holds)
@@ -35,36 +35,36 @@ run_tells o options = record { failed = λ h. h.0; fails = fails } where
   fails answers.ReadFault h f = inl refl
   fails answers.NoMemory h f = inr refl
 
-none_tells : (o : Outside) → TellsReads o (NoCommandMay o)
-none_tells o = record { failed = λ h. absurd h; fails = fails } where
+none_reports : (o : Outside) → ReportsReads o (NoCommandMay o)
+none_reports o = record { failed = λ h. absurd h; fails = fails } where
   fails : (answer : Answer) → NoCommandMay o answer → ¬ Holds o.source →
       (status_of answer ≡ statuses.ReadFault) ⊎ (status_of answer ≡ statuses.NoMemory)
   fails answers.WordsRefused h f = absurd (f h.holds)
   fails answers.NoMemory h f = inr refl
   fails answer h f = absurd h
 
-command_tells : (o : Outside) (command : Option Command) → TellsReads o (CommandMay command o)
-command_tells o None = none_tells o
-command_tells o (Some (commands.Run options)) = run_tells o options
+command_reports : (o : Outside) (command : Option Command) → ReportsReads o (CommandMay command o)
+command_reports o None = none_reports o
+command_reports o (Some (commands.Run options)) = run_reports o options
 
 -- an answer of status 7 is a read fault
 read_answer : (may : Answer → Type 0) (answer : Answer) → may answer → status_of answer ≡ statuses.ReadFault → may answers.ReadFault
 read_answer may answers.ReadFault h e = h
 read_answer may answer h e = cc
 
--- faults are told exactly, whatever the command is
-reports_faults : (o : Outside) (may : Answer → Type 0) (status : Status) → TellsReads o may → Answers may o status → ReportsFaults o status
-reports_faults o may status tells a = record {
+-- faults are reported exactly, whatever the command is
+reports_faults : (o : Outside) (may : Answer → Type 0) (status : Status) → ReportsReads o may → Answers may o status → ReportsFaults o status
+reports_faults o may status reports a = record {
   read_fault = read_fault;
   write_fault = delivered.write_failed o.out o.err a.answer status a.delivered;
-  source_fails = λ f. source_fails (tells.fails a.answer a.cause f) (delivered.own_or_fault o.out o.err a.answer status a.delivered);
+  source_fails = λ f. source_fails (reports.fails a.answer a.cause f) (delivered.own_or_fault o.out o.err a.answer status a.delivered);
   out_fails = λ f. delivered.fault_makes_8 o.out o.err a.answer status a.delivered (λ out err. f out);
   err_fails = λ f. delivered.fault_makes_8 o.out o.err a.answer status a.delivered (λ out err. f err);
 } where
   read_fault : status ≡ statuses.ReadFault → Fails o.source
   read_fault e =
       let w = delivered.written o.out o.err a.answer status a.delivered (λ f. cc) in
-      tells.failed (read_answer may a.answer a.cause (sym w.own ∙ e))
+      reports.failed (read_answer may a.answer a.cause (sym w.own ∙ e))
 
   source_fails : (status_of a.answer ≡ statuses.ReadFault) ⊎ (status_of a.answer ≡ statuses.NoMemory) →
       (status ≡ statuses.WriteFault) ⊎ IsWritten o.out o.err a.answer status →
@@ -74,7 +74,7 @@ reports_faults o may status tells a = record {
   source_fails (inr r) (inr w) = inr (inr (inl (w.own ∙ r)))
 
 faults : (words : List (List ℕ)) (o : Outside) (status : Status) → IsAnswered words o status → ReportsFaults o status
-faults words o status a = reports_faults o (CommandMay (command_of words) o) status (command_tells o (command_of words)) a
+faults words o status a = reports_faults o (CommandMay (command_of words) o) status (command_reports o (command_of words)) a
 
 -- an answer of status 3 comes without a command
 no_command : (command : Option Command) (o : Outside) (answer : Answer) → CommandMay command o answer →
