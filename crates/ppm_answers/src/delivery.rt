@@ -15,11 +15,9 @@ use std::alloc::Global;
 /// Writes the texts of an answer, or those of want of memory where there is none for its texts; an answer with fixed
 /// texts takes none. Each text is made whole before a byte is written.
 pub fn deliver<K: Sink, E: Sink>(alloc: Global, answer: &Answer, out: &mut K, err: &mut E) -> Status
-    ensures value { let out_port = port K.written K.fault_count out.old out.new in
+    ensures { let out_port = port K.written K.fault_count out.old out.new in
         let err_port = port E.written E.fault_count err.old err.new in
-        Delivers out_port err_port answer.now result ⊎ Delivers out_port err_port answers.NoMemory result }
-    ensures fixed { IsFixed answer.now → Delivers (port K.written K.fault_count out.old out.new)
-        (port E.written E.fault_count err.old err.new) answer.now result }
+        Delivers out_port err_port answer.now result ⊎ ((¬ IsFixed answer.now) × Delivers out_port err_port answers.NoMemory result) }
 {
     match texts_of(alloc, answer) {
         Ok((text, message)) => write(text.as_slice(), message.as_slice(), answer, out, err),

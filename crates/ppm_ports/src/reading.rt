@@ -1,7 +1,6 @@
 //! A whole input.
-ghost use Rattle.std.specs.Prelude.{◌≡◌, ◌≤◌, IfOk, OnOk, IsErrOf};
-ghost use Rattle.ppm_ports.specs.Causes.{Rose};
-ghost use Rattle.ppm_ports.specs.Whole.{ReadsFront, ReadsTo};
+ghost use Rattle.std.specs.Prelude.{◌≤◌, IfOk};
+ghost use Rattle.ppm_ports.specs.Whole.{CountsFaults, ReadsFront, ReadsTo};
 
 use crate::read_error::ReadError;
 use crate::source::Source;
@@ -11,7 +10,7 @@ use std::alloc::Global;
 const PIECE: usize = 4096;
 
 /// Reads to the end, or `limit` bytes and one: then there are too many.
-/// `Failed` comes only where the source's count of faults rose. At `Err` what was read is gone.
+/// `Failed` comes where the source's count of faults rose, and only there. At `Err` what was read is gone.
 pub fn read_whole<S: Source>(
     alloc: Global,
     source: &mut S,
@@ -20,9 +19,7 @@ pub fn read_whole<S: Source>(
     ensures bytes { IfOk result (λ text.
         ReadsTo limit (S.left source.old) (S.left source.new) text.items) }
     ensures front { ReadsFront limit (S.left source.old) (S.left source.new) }
-    ensures cause { IsErrOf result ReadError.Failed
-        → Rose (S.fault_count source.old) (S.fault_count source.new) }
-    ensures quiet { OnOk result (S.fault_count source.new ≡ S.fault_count source.old) }
+    ensures cause { CountsFaults (S.fault_count source.old) (S.fault_count source.new) result }
     ensures later { S.fault_count source.old ≤ S.fault_count source.new }
 {
     let mut text = Vec::new(alloc);

@@ -58,7 +58,7 @@ ReadIsRefused source r = (text : List ℕ) × Reads text_limit source text × Is
 -- the answers that each command has which reads up to a limit
 abbrev pub ReadingMay : ℕ → Port → Answer → Type 0
 ReadingMay limit source answers.ReadFault = Fails source × ReadsSome limit source
-ReadingMay limit source answers.NoMemory = ReadsSome limit source
+ReadingMay limit source answers.NoMemory = ReadsSome limit source × Holds source
 ReadingMay limit source _ = ⊥
 
 -- the answers of `run`

@@ -74,12 +74,12 @@ pub record RefusesWords (words : List (List ℕ)) (o : Outside) (status : Status
   pub unread : command_of words ≡ None → IsUnread o.source
   pub always : command_of words ≡ None → IsOneOf status (statuses.WordsRefused ∷ statuses.WriteFault ∷ statuses.NoMemory ∷ [])
 
--- Status 7 comes only where the source failed, and 8 only where out or err did. A fault of the source makes it 7, where out and err
--- hold and memory is there; a fault of out or of err makes it 8, whatever else happened.
+-- Status 7 comes only where the source failed, and 8 only where out or err did. A fault of the source makes it 7, or 8 where out or
+-- err failed too; a fault of out or of err makes it 8, whatever else happened.
 pub record ReportsFaults (o : Outside) (status : Status) : Type 0 where
   pub read_fault : status ≡ statuses.ReadFault → Fails o.source
   pub write_fault : status ≡ statuses.WriteFault → Fails o.out ⊎ Fails o.err
-  pub source_fails : ¬ Holds o.source → IsOneOf status (statuses.ReadFault ∷ statuses.WriteFault ∷ statuses.NoMemory ∷ [])
+  pub source_fails : ¬ Holds o.source → IsOneOf status (statuses.ReadFault ∷ statuses.WriteFault ∷ [])
   pub out_fails : ¬ Holds o.out → status ≡ statuses.WriteFault
   pub err_fails : ¬ Holds o.err → status ≡ statuses.WriteFault
 

@@ -18,29 +18,26 @@ use Rattle.ppm_top.specs.Rows.{IsOneOf, RefusesWords, ReportsFaults, ProgramRows
 use Rattle.ppm_top.proofs.rows.Delivered as delivered
 use Rattle.ppm_top.proofs.rows.OfRun.{run_rows}
 
--- what the causes of a command say of the source: a read fault comes where it failed, and where it failed nothing else comes but want of memory
+-- what the causes of a command say of the source: a read fault comes where it failed, and where it failed nothing else comes
 pub record ReportsReads (o : Outside) (may : Answer → Type 0) : Type 0 where
   pub failed : may answers.ReadFault → Fails o.source
-  pub fails : (answer : Answer) → may answer → ¬ Holds o.source →
-      (status_of answer ≡ statuses.ReadFault) ⊎ (status_of answer ≡ statuses.NoMemory)
+  pub fails : (answer : Answer) → may answer → ¬ Holds o.source → status_of answer ≡ statuses.ReadFault
 
 run_reports : (o : Outside) (options : _) → ReportsReads o (RunMay options o)
 run_reports o options = record { failed = λ h. h.0; fails = fails } where
-  fails : (answer : Answer) → RunMay options o answer → ¬ Holds o.source →
-      (status_of answer ≡ statuses.ReadFault) ⊎ (status_of answer ≡ statuses.NoMemory)
+  fails : (answer : Answer) → RunMay options o answer → ¬ Holds o.source → status_of answer ≡ statuses.ReadFault
   fails (answers.Ended arrays) h f = absurd (f h.1.holds)
   fails (answers.Trapped t line) h f = absurd (f h.1.holds)
   fails (answers.SourceRefused r) h f = absurd (f h.1.holds)
   fails answers.WordsRefused h f = absurd h
-  fails answers.ReadFault h f = inl refl
-  fails answers.NoMemory h f = inr refl
+  fails answers.ReadFault h f = refl
+  fails answers.NoMemory h f = absurd (f h.1)
 
 none_reports : (o : Outside) → ReportsReads o (NoCommandMay o)
 none_reports o = record { failed = λ h. absurd h; fails = fails } where
-  fails : (answer : Answer) → NoCommandMay o answer → ¬ Holds o.source →
-      (status_of answer ≡ statuses.ReadFault) ⊎ (status_of answer ≡ statuses.NoMemory)
+  fails : (answer : Answer) → NoCommandMay o answer → ¬ Holds o.source → status_of answer ≡ statuses.ReadFault
   fails answers.WordsRefused h f = absurd (f h.holds)
-  fails answers.NoMemory h f = inr refl
+  fails answers.NoMemory h f = absurd (f h.holds)
   fails answer h f = absurd h
 
 command_reports : (o : Outside) (command : Option Command) → ReportsReads o (CommandMay command o)
@@ -66,12 +63,10 @@ reports_faults o may status reports a = record {
       let w = delivered.written o.out o.err a.answer status a.delivered (λ f. cc) in
       reports.failed (read_answer may a.answer a.cause (sym w.own ∙ e))
 
-  source_fails : (status_of a.answer ≡ statuses.ReadFault) ⊎ (status_of a.answer ≡ statuses.NoMemory) →
-      (status ≡ statuses.WriteFault) ⊎ IsWritten o.out o.err a.answer status →
-      IsOneOf status (statuses.ReadFault ∷ statuses.WriteFault ∷ statuses.NoMemory ∷ [])
+  source_fails : status_of a.answer ≡ statuses.ReadFault → (status ≡ statuses.WriteFault) ⊎ IsWritten o.out o.err a.answer status →
+      IsOneOf status (statuses.ReadFault ∷ statuses.WriteFault ∷ [])
   source_fails r (inl w) = inr (inl w)
-  source_fails (inl r) (inr w) = inl (w.own ∙ r)
-  source_fails (inr r) (inr w) = inr (inr (inl (w.own ∙ r)))
+  source_fails r (inr w) = inl (w.own ∙ r)
 
 faults : (words : List (List ℕ)) (o : Outside) (status : Status) → IsAnswered words o status → ReportsFaults o status
 faults words o status a = reports_faults o (CommandMay (command_of words) o) status (command_reports o (command_of words)) a
