@@ -2,7 +2,12 @@
 use Rattle.std.proofs.Common.{◌≡◌, ℕ, ◌+◌, ◌*◌, ◌/◌, ◌%◌, ◌^◌, ◌<◌, List, [], ◌∷◌, ◌++◌, sym, ap, ◌∙◌, arith}
 use Rattle.std.proofs.lemmas.Nat.{mod_low, shr_high, shr-shr, shr_split, shr_below, pow_pos, pow-add, mod_below, mul-add-lt}
 use Rattle.std.proofs.Math.Nat.{mod-eq_of_lt}
-use Rattle.ppm_cells.specs.Fields.{Field, Bits, number_of, Fit, width_of, bits}
+use Rattle.ppm_cells.specs.Fields.{Field, Bits, number_of, Fit, bits}
+
+-- how many bits the fields have
+abbrev pub width_of : List Field → ℕ
+width_of [] = 0
+width_of (Bits width value ∷ above) = width + width_of above
 
 -- the bits behind some fields are the number of the next one
 pub bits-number_of : (below : List Field) (width value : ℕ) (above : List Field) → Fit below → value < 2 ^ width

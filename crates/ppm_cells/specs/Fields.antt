@@ -15,11 +15,6 @@ abbrev pub Fit : List Field → Type 0
 Fit [] = Unit {0}
 Fit (Bits width value ∷ above) = (value < 2 ^ width) × Fit above
 
--- how many bits the fields have
-abbrev pub width_of : List Field → ℕ
-width_of [] = 0
-width_of (Bits width value ∷ above) = width + width_of above
-
 -- the number in so many bits of a word, from bit `from` on
 unfoldable pub bits : (from width word : ℕ) → ℕ
 bits from width word = word / 2 ^ from % 2 ^ width
