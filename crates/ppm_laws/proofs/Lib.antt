@@ -1,3 +1,4 @@
+pub mod CopiesLemmas
 pub mod RaceLemmas
 pub mod SampleLemmas
 pub mod StopsLemmas

@@ -1,10 +1,11 @@
 //! Small instances of the crates of laws, and a test that cites each of their laws.
-//! Model: capsules over four words of a byte each (`specs/Sample`), and trees of them that race (`specs/Races`).
-//! Contract: `sample::run` is the depth-first run; the laws hold at these instances, and fail where their premise does.
-//! Stands on `ppm_strands` and `ppm_capsules`, and no crate stands on it: it shows that what they ask can be met.
-//! The instances are this project's.
+//! Model: capsules over four words of a byte each (`specs/Sample`) and trees of them that race (`specs/Races`);
+//! capsules with one register that a stop loses (`specs/Stops`); two strands run with faults (`specs/Copies`).
+//! Contract: `sample::run` runs depth first, `stops::run_with_stops` with stops; laws fail where their premise does.
+//! Stands on `ppm_strands` and `ppm_capsules`, no crate on it; the instances are this project's.
 #![tactic(auto)]
 
+pub mod copies;
 pub mod races;
 pub mod sample;
 pub mod stops;

@@ -1,4 +1,5 @@
 //! Trees of the small instance, with ends worked out by hand.
+use crate::copies::{copies_are_restartable, copies_with_faults};
 use crate::races::{
     Owning, Split, apart_trees_are_calm, races_are_not_calm, samples_are_local,
     split_branches_are_calm, tables_run_in_any_order,
@@ -332,6 +333,8 @@ fn laws_are_calls_that_do_nothing(_rt: HostRuntime) -> Result<(), Fail> {
     faults_do_not_show::<u8, u8, u8, u8, Outcome>();
     end_stores_are_unseen::<u8, u8, u8, u8, Outcome>();
     stops_do_not_show();
+    copies_are_restartable();
+    copies_with_faults();
     samples_are_local();
     tables_run_in_any_order();
     races_are_not_calm();
