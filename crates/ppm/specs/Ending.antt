@@ -2,19 +2,19 @@
 use Rattle.std.specs.Prelude.{◌≡◌, ◌≢◌, ◌⊎◌, ℕ, List, [], map, Result, MatchResult}
 use Rattle.std.specs.String.{string_bytes}
 use Rattle.std.specs.Vec.Iter.{into_iter_items}
-use Rattle.std.specs.Io.KnownBytes.{Keeps}
 use Rattle.std.specs.IoError.{error_kind}
 use Rattle.std.specs.declared.vec.IntoIter.{IntoIter}
 use Rattle.std.specs.declared.string.String.{String}
 use Rattle.std.specs.declared.alloc.Global.{Global}
 use Rattle.std.specs.declared.io.Error.{Error}
 use Rattle.std.specs.declared.io.ErrorKind.TheVariants.{OutOfMemory}
-use Rattle.ppm_ports.specs.Ports.{Port, Holds}
+use Rattle.ppm_ports.specs.Ports.{Port}
 use Rattle.ppm_ports.specs.Outside.{ToldLists, outside}
+use Rattle.ppm_answers.specs.declared.answer.Answer.TheVariants as answers
 use Rattle.ppm_answers.specs.declared.status.Status.{Status}
-use Rattle.ppm_answers.specs.declared.status.Status.TheVariants as statuses
-use Rattle.ppm_top.specs.Causes.{IsAnswered}
 use Rattle.ppm_answers.specs.Statuses.{number_of}
+use Rattle.ppm_answers.specs.Delivery.{Delivers}
+use Rattle.ppm_top.specs.Causes.{IsAnswered, IsUnread}
 
 -- what the system says of the words of the command line
 abbrev pub Given : Type 0
@@ -26,12 +26,7 @@ AreWords given words = MatchResult given
     (λ args. words ≡ into_iter_items args)
     (λ e. (error_kind e ≢ OutOfMemory) × (words ≡ []))
 
--- a port moved no byte, and did not fail
-pub record IsUntouched (p : Port) : Type 0 where
-  pub kept : Keeps p.before p.now
-  pub holds : Holds p
-
--- the words were answered with a status, before watchers of the program's own, and this is its number
+-- the words were answered with a status, with watchers that were told nothing, and this is its number
 pub record EndsAnswered (given : Given) (source out err : Port) (number : ℕ) : Type 0 where
   pub words : List (String Global)
   pub are_words : AreWords given words
@@ -41,12 +36,12 @@ pub record EndsAnswered (given : Given) (source out err : Port) (number : ℕ) :
   pub answered : IsAnswered (map string_bytes words) (outside source out err told_before told_now) status
   pub own_number : number ≡ number_of status
 
--- memory was refused before anything was read or written
+-- memory was refused before anything was read, and this was answered
 pub record EndsEarly (source out err : Port) (number : ℕ) : Type 0 where
-  pub source_kept : IsUntouched source
-  pub out_kept : IsUntouched out
-  pub err_kept : IsUntouched err
-  pub own_number : number ≡ number_of statuses.NoMemory
+  pub unread : IsUnread source
+  pub status : Status
+  pub delivered : Delivers out err answers.NoMemory status
+  pub own_number : number ≡ number_of status
 
 -- the program ends with the number of the status with which the words were answered, or early
 abbrev pub EndsWith : Given → Port → Port → Port → ℕ → Type 0

@@ -1,17 +1,18 @@
 //! The program `ppm`: the words of the command line and the standard streams, handed to the top call.
 //! Model: a stream is a port before the program and after it; the standard streams are ports that show no bytes.
-//! Contract: `program` ends with the number of the status with which the words were answered (`IsAnswered`), or with 9
-//! and every port untouched, where memory is refused before (`specs/Ending`). `main` calls it and does nothing else.
+//! Contract: `program` ends with the number of the status with which the words were answered (`IsAnswered`), or want of
+//! memory was, before anything was read (`specs/Ending`). `main` calls it and does nothing else.
 //! Stands on `ppm_top`, `ppm_answers` and `ppm_ports`; the system calls it. The statuses are this project's.
 #![tactic(auto)]
 
-ghost use Rattle.std.specs.Prelude.{◌≡◌, ◌++◌, IfOk};
+ghost use Rattle.std.specs.Prelude.{◌≡◌, ◌++◌, IfOk, length};
 ghost use Rattle.std.specs.Process.{exit_status};
 ghost use Rattle.std.specs.Vec.Iter.{into_iter_items};
 ghost use Rattle.ppm_ports.specs.Ports.{port};
+ghost use Rattle.ppm_top.specs.Bounds.{watcher_count};
 ghost use Rattle.ppm.specs.Ending.{AreWords, EndsWith};
 
-use ppm_answers::Status;
+use ppm_answers::{Answer, deliver};
 use ppm_ports::{Silent, Sink, Source, StdSink, StdSource};
 use ppm_top::{WATCHERS, ppm};
 use std::alloc::{AllocError, Global};
@@ -32,8 +33,8 @@ fn main(rt: HostRuntime) -> ExitCode {
 }
 
 /// Does what the words of the command line ask for, and tells no watcher anything.
-/// The exit code is the number of the status: 9 where memory is refused for the words or the watchers, before anything
-/// is read or written.
+/// The exit code is the number of the status. Where memory is refused for the words or the watchers, nothing is read, and
+/// the answer is out of memory.
 fn program<R, S: Source, K: Sink, E: Sink>(
     rt: &R,
     alloc: Global,
@@ -47,14 +48,24 @@ fn program<R, S: Source, K: Sink, E: Sink>(
         (port K.written K.fault_count out.old out.new)
         (port E.written E.fault_count err.old err.new) (exit_status result) }
 {
-    let Ok(words) = words_of(alloc, given) else {
-        return ExitCode::from(Status::NoMemory.number());
+    let status = match prepared(alloc, given) {
+        Ok((words, mut watch)) => ppm(rt, alloc, &words, source, out, err, &mut watch),
+        Err(_) => deliver(alloc, &Answer::NoMemory, out, err),
     };
-    let Ok(mut watch) = vec![in alloc; Silent; WATCHERS] else {
-        return ExitCode::from(Status::NoMemory.number());
-    };
-    let status = ppm(rt, alloc, &words, source, out, err, &mut watch);
     ExitCode::from(status.number())
+}
+
+/// The words of the command line, and a watcher for each processor that a run may have.
+fn prepared(
+    alloc: Global,
+    given: io::Result<Args>,
+) -> Result<(Vec<String>, Vec<Silent>), AllocError>
+    ensures words { IfOk result (λ all. AreWords given all.0.items) }
+    ensures watchers { IfOk result (λ all. length all.1.items ≡ watcher_count) }
+{
+    let words = words_of(alloc, given)?;
+    let watch = vec![in alloc; Silent; WATCHERS]?;
+    Ok((words, watch))
 }
 
 /// The words of the command line, the program's name first. There are none where they are no text.

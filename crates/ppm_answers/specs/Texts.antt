@@ -12,8 +12,8 @@ use Rattle.ppm_answers.specs.declared.answer.Answer.{Answer}
 use Rattle.ppm_answers.specs.declared.answer.Answer.TheVariants as answers
 
 -- the text and a line feed
-abbrev pub line_of : List ℕ → List ℕ
-line_of text = text ++ 10 ∷ []
+abbrev pub ended_line : List ℕ → List ℕ
+ended_line text = text ++ 10 ∷ []
 
 -- a space and the value in decimal
 abbrev pub value_text : ℤ → List ℕ
@@ -21,7 +21,7 @@ value_text z = 32 ∷ signed_decimal z
 
 -- a line with the array's name and its values
 abbrev pub array_text : NamedArray → List ℕ
-array_text a = line_of (a.name ++ flat_map value_text a.values)
+array_text a = ended_line (a.name ++ flat_map value_text a.values)
 
 -- the arrays, a line each
 abbrev pub arrays_text : List NamedArray → List ℕ
@@ -36,7 +36,7 @@ trap_name trap.Split = codes "split"
 
 -- a line with the trap and its line in the source
 abbrev pub trap_text : Trap → ℕ → List ℕ
-trap_text t line = line_of (codes "trap " ++ trap_name t ++ codes " line " ++ decimal line)
+trap_text t line = ended_line (codes "trap " ++ trap_name t ++ codes " line " ++ decimal line)
 
 -- the name of a pass
 abbrev pub pass_name : Pass → List ℕ
@@ -53,7 +53,7 @@ place_name _ = codes "at"
 -- a line with a pass that refuses and its fault's number, and where that is
 abbrev pub fault_text : List ℕ → ℕ → List ℕ → ℕ → List ℕ
 fault_text pass number at place =
-    line_of (codes "source refused: " ++ pass ++ codes " " ++ decimal number ++ codes " " ++ at ++ codes " " ++ decimal place)
+    ended_line (codes "source refused: " ++ pass ++ codes " " ++ decimal number ++ codes " " ++ at ++ codes " " ++ decimal place)
 
 -- the line of a refusal
 abbrev pub refusal_text : Refusal → List ℕ
@@ -68,14 +68,14 @@ out_text _ = []
 -- what is written on err
 abbrev pub err_text : Answer → List ℕ
 err_text (answers.SourceRefused r) = refusal_text r
-err_text answers.WordsRefused = line_of (codes "words refused")
-err_text answers.ReadFault = line_of (codes "read fault")
-err_text answers.NoMemory = line_of (codes "out of memory")
+err_text answers.WordsRefused = ended_line (codes "words refused")
+err_text answers.ReadFault = ended_line (codes "read fault")
+err_text answers.NoMemory = ended_line (codes "out of memory")
 err_text _ = []
 
 -- what is written on err where out failed
 abbrev pub write_fault_text : List ℕ
-write_fault_text = line_of (codes "write fault")
+write_fault_text = ended_line (codes "write fault")
 
 -- the answer's texts are the same each time, so they take no memory
 abbrev pub IsFixed : Answer → Type 0

@@ -6,14 +6,14 @@ use Rattle.ppm_cells.specs.declared.cell.Cell.{Cell}
 use Rattle.ppm_cells.specs.declared.cell.Cell.TheVariants.{FinishWord, CarryWord, DeadWord, RestartWord, MessageWord, HolderWord}
 use Rattle.ppm_cells.specs.declared.cell.Cell.TheVariants.{Top, RoomCounter, EntryWord, BlockWord, ArrayWord}
 use Rattle.ppm_cells.specs.Exact.{IsExact}
-use Rattle.ppm_cells.specs.Cells.{word_count, address, IsWithin}
+use Rattle.ppm_cells.specs.Cells.{word_count, address, IsAddressable}
 use Rattle.ppm_cells.specs.Memory.{StoresAreRead, OthersStay, PackedStoresAreSeen}
 use Rattle.ppm_cells.proofs.ExactLemmas.{unpack-pack}
 use Rattle.ppm_cells.proofs.CellLemmas.{place_end, differ}
 
 module _ (s : Shape) where
   -- each cell has an address below the count
-  pub below : (c : Cell) → IsWithin s c → address s c < word_count s
+  pub below : (c : Cell) → IsAddressable s c → address s c < word_count s
   below FinishWord h = omega arith
   below (CarryWord processor) h = omega (arith, h)
   below (DeadWord processor) h = omega (arith, h)

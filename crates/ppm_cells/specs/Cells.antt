@@ -61,22 +61,22 @@ IsCell s (BlockWord at) = IsInPool s at
 IsCell s (ArrayWord index) = index < s.arrays
 
 -- the same, where a block word may have any address below the count
-abbrev pub IsWithin : Shape → Cell → Type 0
-IsWithin s FinishWord = Unit {0}
-IsWithin s (CarryWord processor) = processor < s.processors
-IsWithin s (DeadWord processor) = processor < s.processors
-IsWithin s (RestartWord place) = place < s.processors
-IsWithin s (MessageWord place) = place < s.processors
-IsWithin s (HolderWord place) = place < s.processors
-IsWithin s (Top place) = place < s.processors
-IsWithin s (RoomCounter place) = place < s.processors
-IsWithin s (EntryWord place slot) = (place < s.processors) × (slot < s.slots)
-IsWithin s (BlockWord at) = at < word_count s
-IsWithin s (ArrayWord index) = index < s.arrays
+abbrev pub IsAddressable : Shape → Cell → Type 0
+IsAddressable s FinishWord = Unit {0}
+IsAddressable s (CarryWord processor) = processor < s.processors
+IsAddressable s (DeadWord processor) = processor < s.processors
+IsAddressable s (RestartWord place) = place < s.processors
+IsAddressable s (MessageWord place) = place < s.processors
+IsAddressable s (HolderWord place) = place < s.processors
+IsAddressable s (Top place) = place < s.processors
+IsAddressable s (RoomCounter place) = place < s.processors
+IsAddressable s (EntryWord place slot) = (place < s.processors) × (slot < s.slots)
+IsAddressable s (BlockWord at) = at < word_count s
+IsAddressable s (ArrayWord index) = index < s.arrays
 
 -- each cell lies within the words
 abbrev pub CellsAreWithin : Shape → Type 0
-CellsAreWithin s = (c : Cell) → IsCell s c → IsWithin s c × (address s c < word_count s)
+CellsAreWithin s = (c : Cell) → IsCell s c → IsAddressable s c × (address s c < word_count s)
 
 -- cells of one address are one cell
 abbrev pub AddressesDiffer : Shape → Type 0

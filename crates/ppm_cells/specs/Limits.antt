@@ -1,12 +1,31 @@
 -- How large a machine may be.
 use Rattle.std.specs.Prelude.{ℕ, ◌≤◌}
+use Rattle.ppm_words.specs.Limits.{word_limit}
 
--- 1 to 64 processors, 64 to 2^20 words of room and 2 to 65,536 slots a place, 4,194,304 array words at most
+-- the processors of a machine, and so its places
+abbrev pub most_processors : ℕ
+most_processors = 64
+
+-- the words of a place's pool
+abbrev pub least_room : ℕ
+least_room = 64
+
+abbrev pub most_room : ℕ
+most_room = 1048576
+
+-- the entries of a place's deque
+abbrev pub least_slots : ℕ
+least_slots = 2
+
+abbrev pub most_slots : ℕ
+most_slots = 65536
+
+-- so many processors, words of room, entries and array words may a machine have
 pub record IsWithinLimits (processors room slots arrays : ℕ) : Type 0 where
   pub processors_least : 1 ≤ processors
-  pub processors_most : processors ≤ 64
-  pub room_least : 64 ≤ room
-  pub room_most : room ≤ 1048576
-  pub slots_least : 2 ≤ slots
-  pub slots_most : slots ≤ 65536
-  pub arrays_most : arrays ≤ 4194304
+  pub processors_most : processors ≤ most_processors
+  pub room_least : least_room ≤ room
+  pub room_most : room ≤ most_room
+  pub slots_least : least_slots ≤ slots
+  pub slots_most : slots ≤ most_slots
+  pub arrays_most : arrays ≤ word_limit

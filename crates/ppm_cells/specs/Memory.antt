@@ -2,7 +2,7 @@
 use Rattle.std.specs.Prelude.{◌≡◌, ◌≢◌, ℕ, Option, Some, List, length, slice_index, slice_set}
 use Rattle.ppm_cells.specs.declared.shape.Shape.{Shape}
 use Rattle.ppm_cells.specs.declared.cell.Cell.{Cell}
-use Rattle.ppm_cells.specs.Cells.{word_count, address, IsCell, IsWithin}
+use Rattle.ppm_cells.specs.Cells.{word_count, address, IsCell, IsAddressable}
 
 -- the word in a cell
 abbrev pub read : Shape → List ℕ → Cell → ℕ
@@ -18,7 +18,7 @@ AreWordsOf s words = length words ≡ word_count s
 
 -- a cell has the word that was stored last
 abbrev pub StoresAreRead : Shape → Type 0
-StoresAreRead s = (words : List ℕ) (c : Cell) (word : ℕ) → AreWordsOf s words → IsWithin s c → read s (write s words c word) c ≡ word
+StoresAreRead s = (words : List ℕ) (c : Cell) (word : ℕ) → AreWordsOf s words → IsAddressable s c → read s (write s words c word) c ≡ word
 
 -- and the other cells have theirs
 abbrev pub OthersStay : Shape → Type 0
@@ -28,4 +28,4 @@ OthersStay s = (words : List ℕ) (c d : Cell) (word : ℕ)
 -- a value that is packed and stored is what its cell stands for
 abbrev pub PackedStoresAreSeen : {V : Type 0} → (V → ℕ) → (V → Type 0) → (ℕ → Option V) → Shape → Type 0
 PackedStoresAreSeen pack IsPackable unpack s = (words : List ℕ) (c : Cell) (v : _)
-    → AreWordsOf s words → IsWithin s c → IsPackable v → unpack (read s (write s words c (pack v)) c) ≡ Some v
+    → AreWordsOf s words → IsAddressable s c → IsPackable v → unpack (read s (write s words c (pack v)) c) ≡ Some v

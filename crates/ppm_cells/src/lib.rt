@@ -30,5 +30,5 @@ pub use laws::{
 pub use link::{Link, LinkKind};
 pub use region::Region;
 pub use restart::{Restart, RestartKind};
-pub use shape::{Shape, Takeover};
+pub use shape::{LEAST_ROOM, LEAST_SLOTS, MOST_PROCESSORS, MOST_ROOM, MOST_SLOTS, Shape, Takeover};
 pub use side::Side;

@@ -2,6 +2,16 @@
 ghost use Rattle.ppm_cells.specs.Limits.{IsWithinLimits};
 
 use crate::cell::Cell;
+use ppm_words::WORD_LIMIT;
+
+/// The most processors of a machine, and so places.
+pub const MOST_PROCESSORS: u32 = 64;
+/// The least words of a place's pool, and the most.
+pub const LEAST_ROOM: u32 = 64;
+pub const MOST_ROOM: u32 = 1_048_576;
+/// The least entries of a place's deque, and the most.
+pub const LEAST_SLOTS: u32 = 2;
+pub const MOST_SLOTS: u32 = 65_536;
 
 /// How a dead processor's strand and jobs are taken over.
 #[derive(Clone, Copy, Debug, PartialEq, Eq)]
@@ -31,7 +41,7 @@ impl Shape {
     ghost use Rattle.std.specs.Prelude.{◌≡◌, ◌↔◌, ◌+◌, ◌<◌, ◌≤◌, IsSome, IfSome};
     ghost use Rattle.ppm_cells.specs.Limits.{IsWithinLimits};
     ghost use Rattle.ppm_cells.specs.Shape.{HasSizes};
-    ghost use Rattle.ppm_cells.specs.Cells.{place_at, pool_at, arrays_at, word_count, address, IsWithin};
+    ghost use Rattle.ppm_cells.specs.Cells.{place_at, pool_at, arrays_at, word_count, address, IsAddressable};
     ghost use Rattle.ppm_cells.specs.declared.shape.Takeover.TheVariants.{ByEntries};
 
     /// The shape with these sizes, and with takeover by places; `None` exactly outside the limits.
@@ -39,16 +49,16 @@ impl Shape {
         ensures exactly { IsSome result ↔ IsWithinLimits processors room slots arrays }
         ensures value { IfSome result (HasSizes processors room slots arrays) }
     {
-        if processors < 1 || processors > 64 {
+        if processors < 1 || processors > MOST_PROCESSORS {
             return None;
         }
-        if room < 64 || room > 1_048_576 {
+        if room < LEAST_ROOM || room > MOST_ROOM {
             return None;
         }
-        if slots < 2 || slots > 65_536 {
+        if slots < LEAST_SLOTS || slots > MOST_SLOTS {
             return None;
         }
-        if arrays > 4_194_304 {
+        if arrays > WORD_LIMIT {
             return None;
         }
         Some(Shape {
@@ -106,7 +116,7 @@ impl Shape {
 
     /// The address of a cell, from 0.
     pub fn address(&self, cell: Cell) -> u32
-        requires { IsWithin self.now cell }
+        requires { IsAddressable self.now cell }
         ensures value { result ≡ address self.now cell }
         ensures within { result < word_count self.now }
     {
@@ -114,7 +124,7 @@ impl Shape {
     }
 
     fn address_of(&self, cell: Cell) -> u32
-        requires { IsWithin self.now cell }
+        requires { IsAddressable self.now cell }
         ensures { result ≡ address self.now cell }
     {
         match cell {

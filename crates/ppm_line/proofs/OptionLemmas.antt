@@ -11,7 +11,7 @@ use Rattle.clap.specs.ValueTests.{is_unsigned_in}
 use Rattle.clap.proofs.ValueTestLemmas.{accepts-Accepts, Accepts-accepts}
 use Rattle.clap.proofs.WalkLemmas.{one_text-rows, both}
 use Rattle.ppm_line.specs.CommandLine.{Number}
-use Rattle.ppm_line.specs.Words.{kept_in, number_in, number_of}
+use Rattle.ppm_line.specs.Words.{kept_in, number_in, value_of_digits}
 
 -- of a text
 text_read : (E : Type 0) (G : Text → Result ℕ E → Type 0) → ((u : Text) (x : Result ℕ E) → G u x → ParsesUnsigned 32 10 u x) →
@@ -19,11 +19,11 @@ text_read : (E : Type 0) (G : Text → Result ℕ E → Type 0) → ((u : Text) 
     option_and_then (kept_in low high) r ≡ number_in (Number low high) t
 text_read E G only low high fits t r read = go (is_unsigned_in low high t) refl r read where
   go : (b : Bool) → is_unsigned_in low high t ≡ b → (r : Option ℕ) → ReadsOne G t r →
-      option_and_then (kept_in low high) r ≡ (if b then Some (number_of t) else None)
+      option_and_then (kept_in low high) r ≡ (if b then Some (value_of_digits t) else None)
   go true e (Some v) read =
       let range = accepts-Accepts false (parsers.Unsigned low high) t e in
-      let value : v ≡ number_of t = (only t (Ok v) read).1 in
-      rw (value, le-leb low (number_of t) range.2, le-leb (number_of t) high range.3) refl
+      let value : v ≡ value_of_digits t = (only t (Ok v) read).1 in
+      rw (value, le-leb low (value_of_digits t) range.2, le-leb (value_of_digits t) high range.3) refl
   go true e None read =
       let range = accepts-Accepts false (parsers.Unsigned low high) t e in
       absurd (only t (Err read.0) read.1 (range.0, omega (arith, range.3, fits)))
@@ -33,9 +33,9 @@ text_read E G only low high fits t r read = go (is_unsigned_in low high t) refl 
     test true h =
         let parsed = only t (Ok v) read in
         let low_high = both _ _ h in
-        let least : low ≤ number_of t = subst (λ n. low ≤ n) parsed.1 (leb-true _ _ low_high.0) in
-        let most : number_of t ≤ high = subst (λ n. n ≤ high) parsed.1 (leb-true _ _ low_high.1) in
-        let small : number_of t < 2 ^ 64 = omega (arith, most, fits) in
+        let least : low ≤ value_of_digits t = subst (λ n. low ≤ n) parsed.1 (leb-true _ _ low_high.0) in
+        let most : value_of_digits t ≤ high = subst (λ n. n ≤ high) parsed.1 (leb-true _ _ low_high.1) in
+        let small : value_of_digits t < 2 ^ 64 = omega (arith, most, fits) in
         let yes : is_unsigned_in low high t ≡ true = Accepts-accepts false (parsers.Unsigned low high) t (parsed.0.0, small, least, most) in
         cc (yes, e)
   go false e None read = refl

@@ -9,7 +9,7 @@ use Rattle.ppm_line.specs.CommandLine.{CommandRule, Form, Number, Choice, AnyTex
 use Rattle.ppm_line.specs.declared.table.CommandRow.{CommandRow}
 use Rattle.ppm_line.specs.declared.table.NumberOption.{NumberOption}
 
--- what clap asks of a value: to be a number in the range. Of a choice it asks nothing: the definition of the command judges that
+-- what clap asks of a value: to be a number in the range; of a choice and of a text it asks nothing
 abbrev pub parser_of : Form → Option ValueParser
 parser_of (Number low high) = Some (parsers.Unsigned low high)
 parser_of (Choice words) = None

@@ -54,13 +54,17 @@ later_command name options = record (command name options) { admitted = false }
 
 -- ---- the options that several commands have
 
--- the most processors that a run may have
+-- how many processors run
+abbrev pub processors : OptionRule
+processors = number "processors" 1 64 4
+
+-- the most processors that a run may have today
 abbrev pub most_processors : ℕ
 most_processors = 1
 
--- how many processors run
-abbrev pub processors : OptionRule
-processors = number "processors" 1 most_processors 1
+-- how many processors run today: `run` has this in the place of `processors` until processors are threads
+abbrev pub one_processor : OptionRule
+one_processor = number "processors" 1 most_processors 1
 
 -- how many run where all words are written out or the input is made
 abbrev pub few_processors : OptionRule
@@ -108,7 +112,7 @@ idle = choice "idle" "leave" "park"
 abbrev pub command_line : List CommandRule
 command_line =
     command "run"
-    (processors ∷ later turns ∷ later room ∷ later slots ∷ later looks ∷ later seed ∷ later faults ∷ later takeover ∷ later idle ∷ [])
+    (one_processor ∷ later turns ∷ later room ∷ later slots ∷ later looks ∷ later seed ∷ later faults ∷ later takeover ∷ later idle ∷ [])
     ∷ later_command "serial" (turns ∷ [])
     ∷ later_command "code" []
     ∷ later_command "check" []

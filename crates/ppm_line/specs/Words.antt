@@ -5,18 +5,18 @@ use Rattle.std.specs.Str.Parse.{digits_value, without_leading_plus}
 use Rattle.clap.specs.Words.{Kinds, Row, Text, fault_of, one_of, subcommand_of}
 use Rattle.clap.specs.ValueTests.{is_unsigned_in}
 use Rattle.ppm_line.specs.Application.{ppm_application}
-use Rattle.ppm_line.specs.CommandLine.{Form, Number, OptionRule, processors}
+use Rattle.ppm_line.specs.CommandLine.{Form, Number, OptionRule, one_processor}
 use Rattle.ppm_line.specs.declared.command.Command.{Command}
 use Rattle.ppm_line.specs.declared.command.Command.TheVariants as commands
 use Rattle.ppm_line.specs.declared.command.RunOptions.{RunOptions}
 
 -- the number that decimal digits write; a plus may stand in front
-abbrev pub number_of : Text → ℕ
-number_of text = digits_value 10 (without_leading_plus text)
+abbrev pub value_of_digits : Text → ℕ
+value_of_digits text = digits_value 10 (without_leading_plus text)
 
 -- the number that a text writes, if it writes one in the range of the form
 abbrev pub number_in : Form → Text → Option ℕ
-number_in (Number low high) text = if is_unsigned_in low high text then Some (number_of text) else None
+number_in (Number low high) text = if is_unsigned_in low high text then Some (value_of_digits text) else None
 number_in _ text = None
 
 -- the number, if it is in the range
@@ -29,7 +29,7 @@ number_given o rows = option_and_then (number_in o.form) (one_of o.name rows)
 
 -- the options of `run`, if each has a value of its form
 abbrev pub run_options : List Row → Option RunOptions
-run_options rows = option_map (λ n. record { processors = n }) (number_given processors rows)
+run_options rows = option_map (λ n. record { processors = n }) (number_given one_processor rows)
 
 -- the command of this name, with the options in its matches
 abbrev pub command_named : Text → List Row → Option Command
@@ -55,4 +55,4 @@ IsOfForm _ n = ⊥
 
 -- each option of the command is in its range
 abbrev pub IsInRange : Command → Type 0
-IsInRange (commands.Run options) = IsOfForm processors.form options.processors
+IsInRange (commands.Run options) = IsOfForm one_processor.form options.processors

@@ -1,13 +1,18 @@
 -- Arrays in a row of words: their lengths, an element, and a write of one.
 use Rattle.std.proofs.Common.{◌≡◌, ℕ, zero, suc, ◌+◌, ◌<◌, ◌≤◌, List, [], ◌∷◌, length, take, drop, get_or, set, refl, ap, ◌∙◌, arith, length-drop}
-use Rattle.std.specs.Prelude.{pos}
+use Rattle.std.specs.Prelude.{ℤ, pos, map}
 use Rattle.std.proofs.lemmas.List.{length-take-le, get_or-take, get_or-map, get_or-drop, map-set, drop-set-lt, drop-set-add, take-set-le}
 use Rattle.std.proofs.Math.Seq.{take-set-lt}
 use Rattle.ppm_words.specs.TwosComplement.{value_of}
 use Rattle.ppm_syntax.specs.declared.tree.Array.{Array}
 use Rattle.ppm_syntax.specs.Limits.{words_of}
 use Rattle.ppm_syntax.specs.Meaning.{array_at}
-use Rattle.ppm_top.specs.Machine.{base_of, bases_from, total_of, arrays_of, lengths_of}
+use Rattle.ppm_top.specs.Machine.{base_of, bases_from, total_of, lengths_of}
+
+-- the arrays that the words stand for
+abbrev pub arrays_of : List ℕ → List ℕ → List (List ℤ)
+arrays_of [] words = []
+arrays_of (n ∷ lengths) words = map value_of (take n words) ∷ arrays_of lengths (drop n words)
 
 -- an element is the value of its word
 pub get_or-array_at : (lengths words : List ℕ) (a k : ℕ) → total_of lengths ≤ length words → k < get_or lengths a 0 →

@@ -8,7 +8,8 @@ use Rattle.ppm_syntax.specs.Tree as tree
 use Rattle.ppm_syntax.specs.Limits.{nodes_of, IsSmallStatement}
 use Rattle.ppm_syntax.specs.Meaning.{TrapAt, Frame, then_with, after, then_on, at_once, run_statements}
 use Rattle.ppm_top.specs.Code.{register_count, array_of, keep_capsule, put_capsule, code_of, reach}
-use Rattle.ppm_top.specs.Machine.{State, steps, cleared, run_capsules, arrays_of}
+use Rattle.ppm_top.specs.Machine.{State, steps, cleared, run_capsules}
+use Rattle.ppm_top.proofs.ArraysInWords.{arrays_of}
 use Rattle.ppm_top.proofs.StatementRuns.{then_assoc, IsSound, Becomes, pair_run, pair_right}
 use Rattle.ppm_top.proofs.NamesResolve.{NamesWhole}
 

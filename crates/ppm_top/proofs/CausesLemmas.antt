@@ -1,5 +1,5 @@
 -- Want of memory may always be answered.
-use Rattle.std.proofs.Common.{◌⊎◌, ℕ, List, [], Option, Some, None, inl, inr, refl, arith}
+use Rattle.std.proofs.Common.{◌≡◌, ◌⊎◌, ℕ, List, [], Option, Some, None, inl, inr, refl, arith}
 use Rattle.std.proofs.KnownBytes.{Keeps-refl, Consumes-nil, Consumes-kept}
 use Rattle.ppm_ports.specs.Ports.{Port, port}
 use Rattle.ppm_ports.specs.Outside.{Outside}
@@ -31,11 +31,16 @@ run_cause options o answers.ReadFault h = h
 run_cause options o answers.NoMemory h = h
 
 -- what was delivered of an answer of `run` is the answer, or out of memory in its place
-pub run_delivered : (options : RunOptions) (o : Outside) (answer : Answer) (status : Status) → ReadingJudges o.source answer →
+pub run_delivered : (options : RunOptions) (o : Outside) (answer : Answer) (status : Status) → o.told_now ≡ o.told_before →
+    ReadingJudges o.source answer →
     Delivers o.out o.err answer status ⊎ ((¬ IsFixed answer) × Delivers o.out o.err answers.NoMemory status) → Answers (RunMay options o) o status
-run_delivered options o answer status h (inl d) = record { answer = answer; cause = run_cause options o answer h; delivered = d }
-run_delivered options o answer status h (inr d) =
-    record { answer = answers.NoMemory; cause = run_memory options o answer (run_cause options o answer h) d.0; delivered = d.1 }
+run_delivered options o answer status told h (inl d) = record { answer = answer; cause = run_cause options o answer h; delivered = d; told = told }
+run_delivered options o answer status told h (inr d) = record {
+  answer = answers.NoMemory;
+  cause = run_memory options o answer (run_cause options o answer h) d.0;
+  delivered = d.1;
+  told = told;
+}
 
 -- where nothing was read, out of memory may be the answer, whatever the command is
 pub memory_before : (command : Option Command) (o : Outside) → IsUnread o.source → CommandMay command o answers.NoMemory
@@ -48,7 +53,8 @@ pub left_alone : {K : Type 0} (bytes : K → Option (List ℕ)) (faults : K → 
 left_alone bytes faults k = record { kept = Keeps-refl (bytes k); holds = refl }
 
 -- what was delivered of an answer with fixed texts is the answer
-pub fixed_delivered : (may : Answer → Type 0) (o : Outside) (answer : Answer) (status : Status) → IsFixed answer → may answer →
+pub fixed_delivered : (may : Answer → Type 0) (o : Outside) (answer : Answer) (status : Status) → o.told_now ≡ o.told_before →
+    IsFixed answer → may answer →
     Delivers o.out o.err answer status ⊎ ((¬ IsFixed answer) × Delivers o.out o.err answers.NoMemory status) → Answers may o status
-fixed_delivered may o answer status fixed h (inl d) = record { answer = answer; cause = h; delivered = d }
-fixed_delivered may o answer status fixed h (inr d) = absurd (d.0 fixed)
+fixed_delivered may o answer status told fixed h (inl d) = record { answer = answer; cause = h; delivered = d; told = told }
+fixed_delivered may o answer status told fixed h (inr d) = absurd (d.0 fixed)

@@ -13,8 +13,8 @@ use Rattle.ppm_syntax.specs.Meaning.{TrapAt, Frame, Region, region_of, then_with
 use Rattle.ppm_top.specs.declared.code.Instr.{Instr}
 use Rattle.ppm_top.specs.declared.code.Instr.TheVariants.{Add, Get}
 use Rattle.ppm_top.specs.Code.{operation, array_of, expression_code, reach}
-use Rattle.ppm_top.specs.Machine.{State, register, with_register, step, steps, base_of, total_of, arrays_of, whole}
-use Rattle.ppm_top.proofs.ArraysInWords.{get_or-array_at}
+use Rattle.ppm_top.specs.Machine.{State, register, with_register, step, steps, base_of, total_of, whole}
+use Rattle.ppm_top.proofs.ArraysInWords.{arrays_of, get_or-array_at}
 
 -- a region is a whole array
 abbrev pub IsWhole : List ℕ → Region → Type 0

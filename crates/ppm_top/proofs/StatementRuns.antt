@@ -16,8 +16,8 @@ use Rattle.ppm_syntax.specs.Meaning.{TrapAt, Frame, region_of, then_with, fits, 
 use Rattle.ppm_top.specs.declared.code.Instr.{Instr}
 use Rattle.ppm_top.specs.declared.code.Instr.TheVariants.{StoreCur}
 use Rattle.ppm_top.specs.Code.{register_count, array_of, expression_code, keep_capsule, put_capsule, reach}
-use Rattle.ppm_top.specs.Machine.{State, register, steps, cleared, base_of, total_of, arrays_of, whole}
-use Rattle.ppm_top.proofs.ArraysInWords.{get_or-array_at, arrays_of-set}
+use Rattle.ppm_top.specs.Machine.{State, register, steps, cleared, base_of, total_of, whole}
+use Rattle.ppm_top.proofs.ArraysInWords.{arrays_of, get_or-array_at, arrays_of-set}
 use Rattle.ppm_top.proofs.ExpressionRuns.{IsWhole, ReadsWhole, steps-append, Leaves, Ends, element_within, expression_right}
 
 -- what goes on to a value had one

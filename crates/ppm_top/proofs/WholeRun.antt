@@ -18,7 +18,8 @@ use Rattle.ppm_syntax.specs.Meaning.{TrapAt, Frame, main_frame, procedure_named,
 use Rattle.ppm_syntax.specs.Meaning.{initial_arrays, values_of, with_names, outcome_of, serial, IsOutcome}
 use Rattle.ppm_top.specs.declared.code.Capsule.{Capsule}
 use Rattle.ppm_top.specs.Code.{code_of, IsAlone}
-use Rattle.ppm_top.specs.Machine.{State, run_capsules, lengths_of, total_of, arrays_of, named_arrays, words_from, IsStart}
+use Rattle.ppm_top.specs.Machine.{State, run_capsules, lengths_of, total_of, named_arrays, words_from, IsStart}
+use Rattle.ppm_top.proofs.ArraysInWords.{arrays_of}
 use Rattle.ppm_top.proofs.StatementRuns.{IsSound, Becomes}
 use Rattle.ppm_top.proofs.BodyRuns.{after_all, run_statements-after_all, body_right}
 use Rattle.ppm_top.proofs.NamesResolve.{NamesWhole, names_whole}

@@ -79,11 +79,12 @@ abbrev pub CommandMay : Option Command → Outside → Answer → Type 0
 CommandMay None o answer = NoCommandMay o answer
 CommandMay (Some (commands.Run options)) o answer = RunMay options o answer
 
--- an answer that may come was delivered
+-- an answer that may come was delivered, and no watcher was told anything
 pub record Answers (may : Answer → Type 0) (o : Outside) (status : Status) : Type 0 where
   pub answer : Answer
   pub cause : may answer
   pub delivered : Delivers o.out o.err answer status
+  pub told : o.told_now ≡ o.told_before
 
 -- an answer of the command that the words give was delivered
 abbrev pub IsAnswered : List (List ℕ) → Outside → Status → Type 0

@@ -34,11 +34,6 @@ abbrev pub total_of : List ℕ → ℕ
 total_of [] = 0
 total_of (n ∷ lengths) = n + total_of lengths
 
--- the arrays that the words stand for
-abbrev pub arrays_of : List ℕ → List ℕ → List (List ℤ)
-arrays_of [] words = []
-arrays_of (n ∷ lengths) words = map value_of (take n words) ∷ arrays_of lengths (drop n words)
-
 -- the same arrays with their names
 abbrev pub named_arrays : List Array → List ℕ → List NamedArray
 named_arrays [] words = []

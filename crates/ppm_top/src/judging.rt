@@ -13,6 +13,13 @@ use ppm_words::Outcome;
 use std::alloc::Global;
 use thiserror::Error;
 
+/// The refusal of a program whose code takes too many capsules: the second fault of the cut, and of no one procedure.
+const TOO_MANY_CAPSULES: Refusal = Refusal {
+    pass: Pass::Cut,
+    number: 2,
+    place: 0,
+};
+
 /// Why a text comes to no outcome.
 #[derive(Clone, Copy, Debug, PartialEq, Eq, Error)]
 pub enum JudgeError {
@@ -86,11 +93,7 @@ impl From<OutcomeError> for JudgeError {
 
     fn from(e: OutcomeError) -> Self {
         match e {
-            OutcomeError::TooManyCapsules => JudgeError::Refused(Refusal {
-                pass: Pass::Cut,
-                number: 2,
-                place: 0,
-            }),
+            OutcomeError::TooManyCapsules => JudgeError::Refused(TOO_MANY_CAPSULES),
             OutcomeError::NoMemory => JudgeError::NoMemory,
         }
     }

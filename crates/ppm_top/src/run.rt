@@ -41,8 +41,6 @@ pub fn run_command<R, S: Source, K: Sink, E: Sink, W: Watch>(
         (map W.told watch.old.items) (map W.told watch.new.items)) result }
 
     ensures watchers { length watch.new.items ≡ watcher_count }
-
-    ensures nothing_told { map W.told watch.new.items ≡ map W.told watch.old.items }
 {
     // Threads, options and watchers come with more processors than one.
     let _ = rt;
