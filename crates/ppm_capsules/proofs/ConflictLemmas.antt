@@ -1,7 +1,7 @@
 -- A capsule that reads a word, writes it and is stopped once.
 use Rattle.std.proofs.Common.{◌≡◌, ℕ, ◌+◌, [], ◌∷◌, refl, sym, ap, ◌∙◌, arith}
 use Rattle.ppm_capsules.specs.Capsule.{Equality, Memory, Whole, store}
-use Rattle.ppm_capsules.specs.Restart.{CountsTwice, ConflictsAreNotIdempotent}
+use Rattle.ppm_capsules.specs.Stopped.{CountsTwice, AConflictMayShow}
 use Rattle.ppm_capsules.proofs.LocationLemmas.{store_at}
 
 module _ {L : Type 0} (eq : Equality L) where
@@ -19,7 +19,7 @@ module _ {L : Type 0} (eq : Equality L) where
   one_more : (n : ℕ) → n + 1 ≡ n → ⊥
   one_more n h = omega (arith, h)
 
-  pub conflicts_are_not_idempotent : ConflictsAreNotIdempotent eq
-  conflicts_are_not_idempotent l m =
+  pub a_conflict_may_show : AConflictMayShow eq
+  a_conflict_may_show l m =
       let twice = counts_twice l m in
       (twice, λ same. one_more (m l) (sym twice.end_after_stop ∙ ap (λ (r : Whole L ℕ). r.end) (same (2 ∷ [])) ∙ twice.end))

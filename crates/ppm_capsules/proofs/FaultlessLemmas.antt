@@ -4,7 +4,7 @@ use Rattle.ppm_strands.specs.Tree.{Words, Tree, Strand, Call, Fork, Over, forks_
 use Rattle.ppm_strands.specs.Run.{Counts, none, plus, of_capsule, rejoin, End, with_counts, run}
 use Rattle.ppm_strands.proofs.RunLemmas.{counts_path, plus_none, plus_comm, plus_assoc, end_or, counted_some, then_some}
 use Rattle.ppm_capsules.specs.Capsule.{Equality, Capsule, Reads, Writes, Asks, Ends, Memory, DoesTheSame, ending, leaves, store}
-use Rattle.ppm_capsules.specs.Restart.{Progress, at, one, Stands}
+use Rattle.ppm_capsules.specs.Stopped.{Progress, at, one, Stands}
 use Rattle.ppm_capsules.specs.Strand.{Location, Frame, Table, shared_of, frame_of, start, opened, code_of, IsClean}
 use Rattle.ppm_capsules.specs.Faults.{Running, Runs, Calls, Forks, IsOver, come_to, begun, Happens, WordStep, Opens, Returns, Joins}
 use Rattle.ppm_capsules.specs.Faults.{InCallee, InLeftBranch, InRightBranch, Happen, Nothing, Next, IsRestartable, DepthFirstHappens}

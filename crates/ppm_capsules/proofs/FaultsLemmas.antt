@@ -12,7 +12,7 @@ use Rattle.ppm_strands.proofs.BesideLemmas.{beside_apart}
 use Rattle.ppm_strands.proofs.ChainLemmas.{joined_steps, call_steps, left_steps, right_steps}
 use Rattle.ppm_strands.proofs.StepLemmas.{steps_ahead, steps_end}
 use Rattle.ppm_capsules.specs.Capsule.{Equality, Capsule, Reads, Writes, Asks, Ends, Memory, In, exposed, written}
-use Rattle.ppm_capsules.specs.Restart.{Progress, at, one, Stands}
+use Rattle.ppm_capsules.specs.Stopped.{Progress, at, one, Stands}
 use Rattle.ppm_capsules.specs.Strand.{Location, Own, New, Shared, Frame, Table, shared_of, frame_of, code_of, IsClean}
 use Rattle.ppm_capsules.specs.Faults.{UnderWay, Running, Runs, Calls, Forks, IsOver, memory, progress, come_to, frame, shown, begun}
 use Rattle.ppm_capsules.specs.Faults.{Happens, WordStep, Fault, Opens, Returns, Joins, InCallee, InLeftBranch, InRightBranch, Happen, Nothing, Next}

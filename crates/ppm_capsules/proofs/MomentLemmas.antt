@@ -6,7 +6,7 @@ use Rattle.ppm_strands.specs.Ahead.{Steps, Done, More}
 use Rattle.ppm_strands.proofs.RunLemmas.{plus_none, plus_comm}
 use Rattle.ppm_strands.proofs.ChainLemmas.{joined_steps}
 use Rattle.ppm_capsules.specs.Capsule.{Equality, Capsule, Reads, Writes, Asks, Ends, Memory, Whole, In, store, leaves, ending, DoesTheSame}
-use Rattle.ppm_capsules.specs.Restart.{IsConflictFree, Progress, at, one, steps, stopped, Stands}
+use Rattle.ppm_capsules.specs.Stopped.{IsConflictFree, Progress, at, one, steps, stopped, Stands}
 use Rattle.ppm_capsules.specs.Strand.{Location, New, Table, shared_of, frame_of, opened, code_of}
 use Rattle.ppm_capsules.specs.Strand.{MayBeginAgain, MomentsAreSteps, RunsWithStopsAreOneCapsule}
 use Rattle.ppm_capsules.proofs.StandsLemmas.{one_moment, steps_moment, stops_moment, is_idempotent}

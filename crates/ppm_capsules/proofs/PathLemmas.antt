@@ -3,7 +3,7 @@ use Rattle.std.proofs.Common.{List, [], ◌∷◌, ◌⊎◌, inl, inr, sym, sub
 use Rattle.std.proofs.lemmas.Bool.{cond-false, cond-true}
 use Rattle.ppm_capsules.specs.Capsule.{Equality, Capsule, Reads, Writes, Asks, Ends, Memory, In, is_in, store, written, exposed_past}
 use Rattle.ppm_capsules.specs.Paths.{IsFreePast, IsFreeOnPaths, ReadsOnly, WritesOnly, PathsSayWhere}
-use Rattle.ppm_capsules.specs.Restart.{IsConflictFree}
+use Rattle.ppm_capsules.specs.Stopped.{IsConflictFree}
 use Rattle.ppm_capsules.proofs.LocationLemmas.{in_or_not}
 
 module _ {L E : Type 0} (eq : Equality L) where

@@ -4,7 +4,7 @@ use Rattle.std.proofs.lemmas.Bool.{cond-false, cond-true}
 use Rattle.std.proofs.Math.Path.{fun_ext}
 use Rattle.ppm_capsules.specs.Capsule.{Equality, Capsule, Reads, Writes, Asks, Ends, Memory, In, AgreeOn, is_in, store}
 use Rattle.ppm_capsules.specs.Capsule.{whole, written, exposed, exposed_past, DoesTheSame}
-use Rattle.ppm_capsules.specs.Restart.{IsConflictFree, Progress, at, one, steps, stopped, Stands, Moment, StandsAlways, IsIdempotent, StopsChangeNothing}
+use Rattle.ppm_capsules.specs.Stopped.{IsConflictFree, Progress, at, one, steps, stopped, Stands, Moment, StandsAlways, IsIdempotent, StopsChangeNothing}
 use Rattle.ppm_capsules.proofs.LocationLemmas.{decide, store_at, store_else, in_or_not, store_same, agree_store}
 use Rattle.ppm_capsules.proofs.AlikeLemmas.{alike, does_the_same}
 

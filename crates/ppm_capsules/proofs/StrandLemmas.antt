@@ -7,7 +7,7 @@ use Rattle.ppm_strands.specs.Ahead.{Step, Redoes, Steps, Done, More}
 use Rattle.ppm_strands.specs.Ahead as ahead
 use Rattle.ppm_capsules.specs.Capsule.{Equality, Capsule, Writes, Memory, In, AgreeOn, store}
 use Rattle.ppm_capsules.specs.Capsule.{Whole, ending, leaves, written, exposed, DoesTheSame}
-use Rattle.ppm_capsules.specs.Restart.{IsConflictFree, Stands}
+use Rattle.ppm_capsules.specs.Stopped.{IsConflictFree, Stands}
 use Rattle.ppm_capsules.specs.Strand.{Location, Own, New, Shared, Frame, Table, addresses, own_of, new_of, shared_of, frame_of, start, opened, code_of}
 use Rattle.ppm_capsules.specs.Strand.{IsClean, MayBeginAgain, CodeIsLocal, StoresAreSteps, StoresKeep, EndsAreSteps}
 use Rattle.ppm_capsules.proofs.LocationLemmas.{decide, store_else, in_or_not}

@@ -1,7 +1,7 @@
 -- A capsule with the stores of its end before that end: whoever makes these word by word may be stopped there too.
 use Rattle.std.specs.Prelude.{◌≡◌, ℕ, List, [], ◌∷◌, ◌++◌}
 use Rattle.ppm_capsules.specs.Capsule.{Equality, Capsule, Reads, Writes, Asks, Ends, Memory, In, store, ending, leaves, asked, written, exposed}
-use Rattle.ppm_capsules.specs.Restart.{IsConflictFree}
+use Rattle.ppm_capsules.specs.Stopped.{IsConflictFree}
 use Rattle.ppm_capsules.specs.Strand.{Location, Table, addresses, opened, code_of}
 
 -- stores one after another, and then the rest

@@ -6,7 +6,7 @@ use Rattle.ppm_strands.specs.Calm.{Calm}
 use Rattle.ppm_strands.specs.Ahead.{Ahead}
 use Rattle.ppm_capsules.specs.Capsule.{Equality, Capsule, Memory}
 use Rattle.ppm_capsules.specs.Capsule as capsule
-use Rattle.ppm_capsules.specs.Restart.{Progress, at, one}
+use Rattle.ppm_capsules.specs.Stopped.{Progress, at, one}
 use Rattle.ppm_capsules.specs.Strand.{Location, Own, New, Shared, Frame, Table, own_of, new_of, shared_of, code_of, MayBeginAgain}
 
 -- a strand under way: its point, its own words and those of what it builds, and what is left of its capsule

@@ -3,5 +3,5 @@ pub mod EndStores
 pub mod Equalities
 pub mod Faults
 pub mod Paths
-pub mod Restart
+pub mod Stopped
 pub mod Strand

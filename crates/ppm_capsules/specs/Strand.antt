@@ -6,7 +6,7 @@ use Rattle.ppm_strands.specs.Ahead.{Step, Steps}
 use Rattle.ppm_strands.specs.Beside.{AreBeside}
 use Rattle.ppm_strands.specs.Calm.{Calm}
 use Rattle.ppm_capsules.specs.Capsule.{Equality, Capsule, Writes, Ends, Memory, In, store, ending, leaves, asked, written, exposed}
-use Rattle.ppm_capsules.specs.Restart.{IsConflictFree, at, steps, stopped, run_with_stops, Stands}
+use Rattle.ppm_capsules.specs.Stopped.{IsConflictFree, at, steps, stopped, run_with_stops, Stands}
 
 -- where the capsule of a frame reads and writes: a word of the frame's own, a word of what it builds, a shared word by its address
 pub data Location (S N : Type 0) : Type 0 where

@@ -3,8 +3,8 @@ ghost use Rattle.ppm_capsules.specs.Capsule.{Capsule, Equality, IsLocal, Memory}
 ghost use Rattle.ppm_capsules.specs.EndStores.{TablesAreTheSame, EndStoresComeLast};
 ghost use Rattle.ppm_capsules.specs.Faults.{FaultsDoNotShow};
 ghost use Rattle.ppm_capsules.specs.Paths.{IsFreeOnPaths, PathsSayWhereByTest};
-ghost use Rattle.ppm_capsules.specs.Restart.{ConflictsAreNotIdempotent, IsAlwaysConflictFree, IsConflictFree, IsIdempotent};
-ghost use Rattle.ppm_capsules.specs.Restart.{StandsAlways, StopsChangeNothing, WrittenFirstIsConflictFree};
+ghost use Rattle.ppm_capsules.specs.Stopped.{AConflictMayShow, IsAlwaysConflictFree, IsConflictFree, IsIdempotent};
+ghost use Rattle.ppm_capsules.specs.Stopped.{StandsAlways, StopsChangeNothing, WrittenFirstIsConflictFree};
 ghost use Rattle.ppm_capsules.specs.Strand.{CapsulesMakeSteps, CodeIsLocal, Location, OthersKeepWhatIsDone, Table};
 ghost use Rattle.std.specs.Prelude.{ℕ, Bool, List};
 
@@ -26,11 +26,10 @@ pub fn stops_change_nothing<L, E>()
     ensures { (eq : Equality L) (p : Capsule L E) (m : Memory L) → IsConflictFree eq p m → StopsChangeNothing eq p m }
 {}
 
-/// The rule is needed: at any location and from any words, a capsule that reads, writes and is stopped
-/// once ends otherwise. And it forbids no more than it must: what is written first may be read and
-/// written again.
-pub fn conflicts_are_not_idempotent<L>()
-    ensures conflict { (eq : Equality L) → ConflictsAreNotIdempotent eq }
+/// The rule is needed: at any location and from any words there is a capsule with a conflict that ends
+/// otherwise once it is stopped. What is written first may be read and written again.
+pub fn a_conflict_may_show<L>()
+    ensures conflict { (eq : Equality L) → AConflictMayShow eq }
     ensures no_conflict { (eq : Equality L) → WrittenFirstIsConflictFree eq }
 {}
 
@@ -65,8 +64,8 @@ pub fn others_keep_what_is_done<S, N, K, E, O>()
     ensures { (eq : Equality (Location S N)) (table : Table S N K E O) → OthersKeepWhatIsDone eq table }
 {}
 
-/// Faults do not show. In a calm tree of strands whose capsules have no write-after-read conflict, let
-/// the strands make their word steps in any order, and let each lose at any moments how far its capsule
+/// Faults do not show. In a calm tree of strands whose capsules have no write-after-read conflict and
+/// read no word of a new block before they have written it, let the strands make their word steps in any order, and let each lose at any moments how far its capsule
 /// has come, and begin that again: what is left ends where all of it would, and where it is over, that
 /// is the end of the depth-first run without faults, with the same words and counts; and that run is
 /// itself one of these.

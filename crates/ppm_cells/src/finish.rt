@@ -8,8 +8,8 @@ ghost use Rattle.ppm_cells.specs.Finish.{finish_word, finish_of, IsFinish, IsOut
 use crate::field::{bits_of, joined};
 use ppm_words::Trap;
 
-/// What the finish word says of a run, and an outcome word of a strand. A strand's outcome is `Unset`, `Ended`
-/// or `Trapped`. Lines count from 1 and are below 2^26; processors and places are below 64.
+/// What the finish word says of a run, and an outcome word of a strand. A strand's outcome is `Ended` or `Trapped`,
+/// and its word is 0 (`Unset`) until it has one. Lines count from 1 and are below 2^26; processors and places are below 64.
 #[derive(Clone, Copy, Debug, PartialEq, Eq)]
 pub enum Finish {
     /// It has not come to an end.
@@ -22,7 +22,7 @@ pub enum Finish {
     OutOfTurns { processor: u32 },
     /// The pool of this place is full.
     OutOfRoom { place: u32 },
-    /// It was told to stop.
+    /// A watcher refused an event, so it was stopped.
     Stopped,
     /// This place met words that come of no run; 64 where the place isn't known.
     Broken { place: u32 },

@@ -12,7 +12,7 @@ ghost use Rattle.ppm_cells.specs.Cells.{word_count, CellsAreWithin, AddressesDif
 ghost use Rattle.ppm_cells.specs.Memory.{StoresAreRead, OthersStay, PackedStoresAreSeen};
 
 /// A word stands for a value exactly where the value fits its fields and packs to that word: what is
-/// packed comes back, and no word with an unused bit stands for anything.
+/// packed comes back, and no word in which an unused bit is set stands for anything.
 pub fn packings_are_exact()
     ensures restart { IsExact restart_word IsRestart restart_of }
     ensures entry { IsExact entry_word IsEntry entry_of }

@@ -3,7 +3,7 @@ use Rattle.std.proofs.Common.{◌≡◌, ◌<◌, ℕ, zero, suc, List, [], ◌�
 use Rattle.ppm_strands.specs.Tree.{Words}
 use Rattle.ppm_capsules.specs.Capsule.{Ends}
 use Rattle.ppm_capsules.specs.Equalities.{numbers}
-use Rattle.ppm_capsules.specs.Restart.{at, steps}
+use Rattle.ppm_capsules.specs.Stopped.{at, steps}
 use Rattle.ppm_laws.specs.Stops.{capsule_of}
 use Rattle.ppm_laws.specs.declared.stops.Ask.{Ask}
 

@@ -66,13 +66,13 @@ abbrev pub RacesLoseTheLaw : Type 0
 RacesLoseTheLaw = LosesTheLaw 0 4 × LosesTheLaw 4 0
 
 -- the tree ends with v in B
-abbrev pub EndsWith : Tree ℕ Outcome → Words → ℕ → Type 0
-EndsWith t a v = (e : End Outcome) × Ends (sample racing) t a e × (e.words 1 ≡ v)
+abbrev pub EndsWithInB : Tree ℕ Outcome → Words → ℕ → Type 0
+EndsWithInB t a v = (e : End Outcome) × Ends (sample racing) t a e × (e.words 1 ≡ v)
 
 -- for depth first B ends with the one value, and with the other after that capsule
 abbrev pub RacesEndOtherwise : Type 0
-RacesEndOtherwise = (EndsWith (fork_of 0 4) start 1 × EndsWith (right_first 0 4) (words_then 4) 2)
-    × (EndsWith (fork_of 4 0) start 2 × EndsWith (right_first 4 0) (words_then 0) 1)
+RacesEndOtherwise = (EndsWithInB (fork_of 0 4) start 1 × EndsWithInB (right_first 0 4) (words_then 4) 2)
+    × (EndsWithInB (fork_of 4 0) start 2 × EndsWithInB (right_first 4 0) (words_then 0) 1)
 
 -- the strand whose capsule forks 0 and 2
 abbrev pub forking : Tree ℕ Outcome

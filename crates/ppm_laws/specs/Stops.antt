@@ -3,7 +3,7 @@ use Rattle.std.specs.Prelude.{◌≡◌, ℕ, ◌+◌, ◌%◌, List, [], ◌∷
 use Rattle.ppm_strands.specs.Tree.{Words}
 use Rattle.ppm_capsules.specs.Capsule.{Capsule, Reads, Writes, Ends, Whole, whole}
 use Rattle.ppm_capsules.specs.Equalities.{numbers}
-use Rattle.ppm_capsules.specs.Restart.{IsConflictFree, at, steps, run_with_stops}
+use Rattle.ppm_capsules.specs.Stopped.{IsConflictFree, at, steps, run_with_stops}
 use Rattle.ppm_laws.specs.Sample.{address, words_of}
 use Rattle.ppm_laws.specs.declared.stops.Ask.{Ask}
 use Rattle.ppm_laws.specs.declared.stops.Ask.TheVariants.{Load, Store, Add}
@@ -17,8 +17,8 @@ capsule_of (Store w ∷ rest) r = Writes (address w) r (capsule_of rest r)
 capsule_of (Add n ∷ rest) r = capsule_of rest ((r + n) % 256)
 
 -- the end of a run and the words then
-abbrev pub told : Run → Whole ℕ ℕ
-told run = record { end = run.end; words = words_of run.words }
+abbrev pub seen_of : Run → Whole ℕ ℕ
+seen_of run = record { end = run.end; words = words_of run.words }
 
 -- the words after so many word steps
 abbrev pub words_after : ℕ → List Ask → ℕ → List ℕ → Words

@@ -4,7 +4,7 @@ ghost use Rattle.std.specs.Prelude.{◌≡◌};
 ghost use Rattle.ppm_capsules.specs.Capsule.{store, whole as model_whole};
 ghost use Rattle.ppm_capsules.specs.Equalities.{numbers};
 ghost use Rattle.ppm_laws.specs.Sample.{address, words_of};
-ghost use Rattle.ppm_laws.specs.Stops.{StopsDoNotShow, capsule_of, told, with_stops, words_after};
+ghost use Rattle.ppm_laws.specs.Stops.{StopsDoNotShow, capsule_of, seen_of, with_stops, words_after};
 
 use crate::sample::{Word, index};
 use ppm_capsules::conflict_free_is_idempotent;
@@ -44,7 +44,7 @@ fn stored(word: Word, value: u8, words: [u8; 4]) -> [u8; 4]
 
 /// Runs what is left of a capsule to its end.
 fn run_whole(rest: &[Ask], register: u8, words: [u8; 4]) -> Run
-    ensures whole { told result ≡ model_whole numbers (capsule_of rest.now register) (words_of words) }
+    ensures whole { seen_of result ≡ model_whole numbers (capsule_of rest.now register) (words_of words) }
 {
     match rest {
         [] => Run {
@@ -82,7 +82,7 @@ fn run_until(rest: &[Ask], steps: u8, register: u8, words: [u8; 4]) -> [u8; 4]
 /// Runs a capsule with stops: begun, stopped after as many word steps as the list says next, begun again
 /// on the words as they then are, and at last run whole.
 pub fn run_with_stops(capsule: &[Ask], stops: &[u8], words: [u8; 4]) -> Run
-    ensures stopped { told result ≡ with_stops capsule.now stops.now words }
+    ensures stopped { seen_of result ≡ with_stops capsule.now stops.now words }
 {
     match stops {
         [] => run_whole(capsule, 0, words),

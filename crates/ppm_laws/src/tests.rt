@@ -8,7 +8,7 @@ use crate::sample::{Capsule, Counts, End, Outcome, SmallTree, Word, run};
 use crate::stops::{Ask, Run, run_with_stops, stops_do_not_show};
 use ppm_capsules::{
     capsules_are_local, capsules_make_steps, code_is_local, conflict_free_is_idempotent,
-    conflicts_are_not_idempotent, end_stores_are_unseen, end_stores_come_last, faults_do_not_show,
+    a_conflict_may_show, end_stores_are_unseen, end_stores_come_last, faults_do_not_show,
     others_keep_what_is_done, paths_are_enough, stops_change_nothing, what_is_done_stands,
 };
 use ppm_strands::{
@@ -323,7 +323,7 @@ fn laws_are_calls_that_do_nothing(_rt: HostRuntime) -> Result<(), Fail> {
     capsules_are_local::<u8, u8>();
     conflict_free_is_idempotent::<u8, u8>();
     stops_change_nothing::<u8, u8>();
-    conflicts_are_not_idempotent::<u8>();
+    a_conflict_may_show::<u8>();
     paths_are_enough::<u8, u8>();
     what_is_done_stands::<u8, u8>();
     end_stores_come_last::<u8, u8>();

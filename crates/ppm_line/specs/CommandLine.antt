@@ -59,12 +59,12 @@ abbrev pub processors : OptionRule
 processors = number "processors" 1 64 4
 
 -- the most processors that a run may have today
-abbrev pub most_processors : ℕ
-most_processors = 1
+abbrev pub most_today : ℕ
+most_today = 1
 
 -- how many processors run today: `run` has this in the place of `processors` until processors are threads
 abbrev pub one_processor : OptionRule
-one_processor = number "processors" 1 most_processors 1
+one_processor = number "processors" 1 most_today 1
 
 -- how many run where all words are written out or the input is made
 abbrev pub few_processors : OptionRule

@@ -3,7 +3,7 @@ use Rattle.std.specs.Prelude.{List, Option}
 use Rattle.ppm_words.specs.declared.event.Event.{Event}
 use Rattle.ppm_ports.specs.Ports.{Port}
 
--- what each watcher was told, where it tells that
+-- what each watcher was told, where it shows that
 abbrev pub ToldLists : Type 0
 ToldLists = List (Option (List Event))
 

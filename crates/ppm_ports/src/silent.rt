@@ -5,7 +5,7 @@ ghost use Rattle.ppm_ports.specs.Told.{TellsOne};
 use crate::watch::Watch;
 use ppm_words::{Event, NoMemory};
 
-/// A watcher that tells nothing and never refuses.
+/// A watcher that shows nothing of what it is told, and never refuses.
 #[derive(Clone, Copy, Debug, PartialEq, Eq)]
 pub struct Silent;
 

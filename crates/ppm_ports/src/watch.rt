@@ -7,7 +7,7 @@ use ppm_words::{Event, NoMemory};
 
 /// A watcher of one processor. It may be moved to another thread.
 pub trait Watch: Send {
-    /// The events that it was told, the oldest first, where the watcher tells them.
+    /// The events that it was told, the oldest first, where the watcher shows them.
     ghost told: { Self → Option (List Event) };
 
     /// Puts an event behind the list at `Ok`, and leaves the list as it is at `Err`.

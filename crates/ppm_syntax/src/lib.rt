@@ -4,6 +4,7 @@
 //! Contract: `parse` answers the tokens' one tree, or their one fault at its place (`specs/SyntaxRefusals.antt`); `admit`
 //! the same tree, or its fault of names and regions (`specs/RegionRefusals.antt`).
 //! Stands on `ppm_words` and `ppm_text`; `ppm_top` reads, compiles and judges by it.
+//! The language, its limits and its rules are this project's.
 #![tactic(auto)]
 
 mod admitting;

@@ -3,6 +3,7 @@
 //! (`specs/Spelling.antt`); `Tokens` is the list with the text's length (`specs/Tokens.antt`).
 //! Contract: `tokens` answers the one list that a text is lexed into, or its one fault (`specs/Correct.antt`).
 //! Stands on `ppm_words`; `ppm_syntax` derives the tree from the tokens.
+//! The spelling of tokens is this project's; that the longest comes first is the custom of lexers.
 #![tactic(auto)]
 
 mod byte_class;

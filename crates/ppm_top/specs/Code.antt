@@ -59,6 +59,6 @@ reach d (tree.Number z) = d + 1
 reach d (tree.Element x line index) = reach d index
 reach d (tree.Binary o line left right) = max (reach d left) (max (d + 2) (reach (d + 1) right))
 
--- the source has this procedure alone
+-- the program has this procedure alone
 abbrev pub IsAlone : ProgramTree → Procedure → Type 0
 IsAlone t main = t.procs ≡ main ∷ []

@@ -30,8 +30,8 @@ pub enum Exit {
 }
 
 /// A capsule: instructions that begin with all registers 0, and what follows. `cut` makes two kinds with a body: one
-/// reads array words and writes slots, the other reads slots and writes an array word. So none reads what it writes,
-/// and each can be run in part and then again from its start.
+/// reads array words and writes slots, the other reads slots and writes an array word. So none writes what it has read;
+/// nothing says yet that it may be run again.
 #[derive(Drop)]
 pub struct Capsule {
     pub body: Items<Instr>,

@@ -36,7 +36,7 @@ impl From<NoMemory> for CutError {
     }
 }
 
-/// The place, among the arrays, of the one with the name; 0 where none has it.
+/// The index, among the arrays, of the one with the name; 0 where none has it.
 fn array_named(arrays: &[Array], name: &Name) -> u32
     requires few { length arrays.now ≤ array_limit }
     ensures { result ≡ (whole_from 0 arrays.now name.now).array }

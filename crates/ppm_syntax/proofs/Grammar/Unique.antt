@@ -136,11 +136,6 @@ same (g.proc {c = c1} {b = b1} {xs = xs} {mid = mid} {rest = rest} w n o q c b r
     let u = same r tt (subst (λ w. Derives (suc d') Program w (program xs' ps') []) (sym t.1) r') tt in
     (cc (s.0, t.0, u.0), refl)
 
--- what a part reads as far as it goes is determined by the tokens
-pub one_reading : {d d' : ℕ} {p : Part} {ts : List Token} {e e' : Node} {rest rest' : List Token} → Reads d p ts e rest → Reads d' p ts e' rest' →
-    Same e rest e' rest'
-one_reading r r' = same r.derived r.ends r'.derived r'.ends
-
 -- a tree from its parts
 tree_with : List Array → List Procedure → ProgramTree
 tree_with arrays procs = record { arrays = arrays; procs = procs }

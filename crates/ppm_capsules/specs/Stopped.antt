@@ -93,8 +93,8 @@ module _ {L : Type 0} (eq : Equality L) where
     pub word_after_stop : (run_with_stops eq (2 ∷ []) (counts_up l) m).words l ≡ (m l + 1) + 1
 
   -- so without the rule the law is lost, at any location and from any words
-  abbrev pub ConflictsAreNotIdempotent : Type 0
-  ConflictsAreNotIdempotent = (l : L) (m : Memory L) → CountsTwice l m × (IsIdempotent eq (counts_up l) m → ⊥)
+  abbrev pub AConflictMayShow : Type 0
+  AConflictMayShow = (l : L) (m : Memory L) → CountsTwice l m × (IsIdempotent eq (counts_up l) m → ⊥)
 
   -- the same capsule once it writes the location first: that read is not exposed
   abbrev pub counts_from : L → ℕ → Capsule L ℕ
