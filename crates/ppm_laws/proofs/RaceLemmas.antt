@@ -6,7 +6,7 @@ use Rattle.ppm_strands.specs.Ahead.{Ahead, put, Capsule, InRight}
 use Rattle.ppm_laws.specs.Sample.{address, capsule_at, resumed_tree, sample}
 use Rattle.ppm_strands.specs.Regions.{HasFrame, IsSeparate, OwnsNoMore}
 use Rattle.ppm_laws.specs.Races.{racing, RacesAreNotCalm, RacesBesideNoEndAreNotCalm, NoEndBeside, RacesLoseTheLaw}
-use Rattle.ppm_laws.specs.Races.{EndsWith, RacesEndOtherwise, ApartByRegions, counts_then, right_first, words_then, start}
+use Rattle.ppm_laws.specs.Races.{EndsWithInB, RacesEndOtherwise, ApartByRegions, counts_then, right_first, words_then, start}
 use Rattle.ppm_laws.specs.Races.{ApartIsCalm, SamplesAreLocal, apart_owns, apart_regions, apart_writes, fork_of, forking, is_apart}
 use Rattle.ppm_laws.specs.declared.sample.Outcome.{Outcome}
 use Rattle.ppm_laws.specs.declared.sample.Outcome.TheVariants.{Finished, Trapped}
@@ -43,16 +43,16 @@ no_end_beside a e =
     )
 
 -- all are run
-left_reads : EndsWith (fork_of 0 4) start 1
+left_reads : EndsWithInB (fork_of 0 4) start 1
 left_reads = (_, (5, refl), refl)
 
-left_reads_after : EndsWith (right_first 0 4) (words_then 4) 2
+left_reads_after : EndsWithInB (right_first 0 4) (words_then 4) 2
 left_reads_after = (_, (5, refl), refl)
 
-left_writes : EndsWith (fork_of 4 0) start 2
+left_writes : EndsWithInB (fork_of 4 0) start 2
 left_writes = (_, (5, refl), refl)
 
-left_writes_after : EndsWith (right_first 4 0) (words_then 0) 1
+left_writes_after : EndsWithInB (right_first 4 0) (words_then 0) 1
 left_writes_after = (_, (5, refl), refl)
 
 pub races_end_otherwise : RacesEndOtherwise
@@ -62,7 +62,7 @@ one_is_not_two : ◌≡◌ {A = ℕ} 1 2 → ⊥
 one_is_not_two h = cc
 
 -- by the law both orders would end with the same value in B
-not_ahead : (l r v w : ℕ) → EndsWith (fork_of l r) start v → EndsWith (right_first l r) (words_then r) w → (v ≡ w → ⊥)
+not_ahead : (l r v w : ℕ) → EndsWithInB (fork_of l r) start v → EndsWithInB (right_first l r) (words_then r) w → (v ≡ w → ⊥)
     → Ahead (sample racing) (counts_then r) (fork_of l r) start (right_first l r) (words_then r) → ⊥
 not_ahead l r v w first after differ ah =
     let m = (ah.ends first.0).0 first.1 in
