@@ -9,7 +9,7 @@
 mod laws;
 
 pub use laws::{
-    capsules_are_local, capsules_make_steps, code_is_local, conflict_free_is_idempotent,
-    a_conflict_may_show, end_stores_are_unseen, end_stores_come_last, faults_do_not_show,
+    a_conflict_may_show, capsules_are_local, capsules_make_steps, code_is_local,
+    conflict_free_is_idempotent, end_stores_are_unseen, end_stores_come_last, faults_do_not_show,
     others_keep_what_is_done, paths_are_enough, stops_change_nothing, what_is_done_stands,
 };

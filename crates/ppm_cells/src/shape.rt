@@ -8,9 +8,11 @@ use ppm_words::WORD_LIMIT;
 pub const MOST_PROCESSORS: u32 = 64;
 /// The least words of a place's pool, and the most.
 pub const LEAST_ROOM: u32 = 64;
+
 pub const MOST_ROOM: u32 = 1_048_576;
 /// The least entries of a place's deque, and the most.
 pub const LEAST_SLOTS: u32 = 2;
+
 pub const MOST_SLOTS: u32 = 65_536;
 
 /// How a dead processor's strand and jobs are taken over.

@@ -1,7 +1,7 @@
 -- Want of memory may always be answered.
 use Rattle.std.proofs.Common.{◌≡◌, ◌⊎◌, ℕ, List, [], Option, Some, None, inl, inr, refl, arith}
 use Rattle.std.proofs.KnownBytes.{Keeps-refl, Consumes-nil, Consumes-kept}
-use Rattle.ppm_ports.specs.Ports.{Port, port}
+use Rattle.ppm_ports.specs.Ports.{port}
 use Rattle.ppm_ports.specs.Outside.{Outside}
 use Rattle.ppm_answers.specs.declared.answer.Answer.{Answer}
 use Rattle.ppm_answers.specs.declared.answer.Answer.TheVariants as answers

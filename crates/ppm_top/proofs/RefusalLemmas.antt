@@ -28,7 +28,7 @@ use Rattle.ppm_syntax.specs.RegionRefusals as region
 use Rattle.ppm_top.specs.Bounds.{capsule_bound, capsule_limit, FitsCode}
 use Rattle.ppm_answers.specs.declared.refusal.Refusal.{Refusal}
 use Rattle.ppm_top.specs.Refusals.{IsTextFault, IsSyntaxFault, IsRegionFault, IsRefusal, by_text, by_syntax, by_region, by_capsules}
-use Rattle.ppm_top.specs.Refusals.{text_refusal, syntax_refusal, region_refusal, capsules_refusal}
+use Rattle.ppm_top.specs.Refusals.{text_refusal, syntax_refusal, region_refusal}
 use Rattle.ppm_top.specs.Causes.{ComesTo, HasNoOutcome}
 use Rattle.ppm_top.specs.Correct.{HaveOneRefusal}
 use Rattle.ppm_top.proofs.OutcomeLemmas.{has_outcome}

@@ -12,7 +12,7 @@ use Rattle.ppm_syntax.specs.declared.region_error.RegionError.TheVariants as reg
 use Rattle.ppm_syntax.specs.Tree.{ProgramTree}
 use Rattle.ppm_syntax.specs.SyntaxRefusals as syntax_faults
 use Rattle.ppm_syntax.specs.RegionRefusals as region_faults
-use Rattle.ppm_top.specs.Refusals.{IsTextFault, IsSyntaxFault, IsRegionFault, HasNoRoom, by_text, by_syntax, by_region, by_capsules}
+use Rattle.ppm_top.specs.Refusals.{IsSyntaxFault, IsRegionFault, HasNoRoom, by_text, by_syntax, by_region, by_capsules}
 use Rattle.ppm_top.specs.declared.outcome.OutcomeError.{OutcomeError}
 use Rattle.ppm_top.specs.declared.outcome.OutcomeError.TheVariants as outcome_error
 use Rattle.ppm_top.specs.Judging.{MayStop, of_text, of_syntax, of_region, of_outcome}

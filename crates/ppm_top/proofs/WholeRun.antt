@@ -102,10 +102,10 @@ serial_is : (t : ProgramTree) (main : Procedure) (r : Result (List (List ℤ)) T
     serial (suc (length main.body)) t ≡ outcome_of (initial_arrays t) (at_once 0 r)
 serial_is t main r admitted alone ends =
     ap (λ procs. outcome_of (initial_arrays t) (run_main t.arrays (procedure_named procs (codes "main")) (values_of (initial_arrays t)) (suc
-        (length main.body)))) alone
+    (length main.body)))) alone
     ∙ ap (λ b. outcome_of (initial_arrays t) (run_main t.arrays (cond b (Some main) None) (values_of (initial_arrays t)) (suc (length main.body)))) named
     ∙ ap (outcome_of (initial_arrays t)) (run_statements-after_all (main_frame t.arrays main.params) main.body (values_of (initial_arrays t))
-        ∙ ap (at_once 0) ends)
+    ∙ ap (at_once 0) ends)
   where
     own : IsMain t.arrays main
     own = alone_main t.arrays t.procs main alone admitted.main.0 admitted.main.1 admitted.main.2

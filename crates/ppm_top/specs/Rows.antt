@@ -1,7 +1,7 @@
 -- What follows from each status: the rows of the table that a reader looks for.
-use Rattle.std.specs.Prelude.{◌≡◌, ◌≢◌, ◌⊎◌, ◌↔◌, ℕ, List, [], ◌∷◌, Option, Some, None}
+use Rattle.std.specs.Prelude.{◌≡◌, ◌≢◌, ◌⊎◌, ◌↔◌, ℕ, List, [], ◌∷◌, Some, None}
 use Rattle.std.specs.Io.KnownBytes.{Keeps}
-use Rattle.ppm_ports.specs.Ports.{Port, Fails, Holds, Gets}
+use Rattle.ppm_ports.specs.Ports.{Fails, Holds, Gets}
 use Rattle.ppm_ports.specs.Outside.{Outside}
 use Rattle.ppm_words.specs.declared.named_array.NamedArray.{NamedArray}
 use Rattle.ppm_words.specs.declared.trap.Trap.{Trap}

@@ -385,7 +385,12 @@ fn a_write_that_fails_makes_status_8(rt: HostRuntime) -> Result<(), Fail> {
 fn a_long_output_is_written_whole(rt: HostRuntime) -> Result<(), Fail> {
     let alloc = rt.alloc();
     let zeros = repeated(alloc, "a", " 0", 100_000, "\n")?;
-    ends_with(&rt, alloc, "array a[100000]; proc main() { }", zeros.as_str())
+    ends_with(
+        &rt,
+        alloc,
+        "array a[100000]; proc main() { }",
+        zeros.as_str(),
+    )
 }
 
 /// A recorder for each processor that a run may have.
@@ -433,7 +438,10 @@ fn watchers_are_told_nothing(rt: HostRuntime) -> Result<(), Fail> {
     );
     assert_eq!(rt; status, Status::SourceRefused);
     assert_eq!(rt; out.bytes(), b"a 5 7\n".as_slice());
-    assert_eq!(rt; err.bytes(), b"source refused: region 8 line 0\n".as_slice());
+    assert_eq!(rt;
+        err.bytes(),
+        b"source refused: region 8 line 0\n".as_slice()
+    );
     for recorder in &watch {
         assert_eq!(rt; recorder.events().len(), 0);
     }

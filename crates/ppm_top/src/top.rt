@@ -63,7 +63,8 @@ fn obey<R, S: Source, K: Sink, E: Sink, W: Watch>(
     ensures answers { IsAnswered (map string_bytes words.now) (outside (port S.left S.fault_count source.old source.new)
         (port K.written K.fault_count out.old out.new) (port E.written E.fault_count err.old err.new)
         (map W.told watch.old.items) (map W.told watch.new.items)) result }
-    ensures watchers { length watch.new.items ≡ watcher_count }{
+    ensures watchers { length watch.new.items ≡ watcher_count }
+{
     match read_words(alloc, words) {
         Ok(Some(Command::Run(options))) => run_command(rt, alloc, options, source, out, err, watch),
         Ok(None) => deliver(alloc, &Answer::WordsRefused, out, err),

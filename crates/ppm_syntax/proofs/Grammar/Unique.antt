@@ -12,7 +12,7 @@ use Rattle.ppm_syntax.specs.Grammar.{binary_of, of_level, operator_at, top, mode
 use Rattle.ppm_syntax.specs.Grammar.{Part, Level, More, OneStatement, Statements, Block, Parameter, Parameters, MoreParameters, Program}
 use Rattle.ppm_syntax.specs.Grammar.{Node, expression, statement, statements, parameter, parameters, program, Derives, DerivesTree}
 use Rattle.ppm_syntax.specs.Grammar as g
-use Rattle.ppm_syntax.specs.Parsing.{NoOperator, NoName, NoSign, HasSign, Ends, Reads}
+use Rattle.ppm_syntax.specs.Parsing.{NoOperator, NoName, NoSign, HasSign, Ends}
 
 -- an operator has one level
 one_level : (n m : ℕ) (b : Option (ℕ × Operator)) (o : Operator) → of_level n b ≡ Some o → m < n → of_level m b ≡ None

@@ -1,6 +1,6 @@
 -- What a status says of the delivery, whatever the answer is.
 use Rattle.std.proofs.Common.{◌≡◌, ◌≢◌, ◌⊎◌, ℕ, List, [], ◌∷◌, Option, Some, None}
-use Rattle.std.proofs.Common.{refl, sym, ap, ◌∙◌, subst, inl, inr, append-nil}
+use Rattle.std.proofs.Common.{refl, ◌∙◌, subst, inl, inr, append-nil}
 use Rattle.std.specs.Io.KnownBytes.{Keeps, Appends}
 use Rattle.ppm_ports.specs.Ports.{Port, Fails, Holds}
 use Rattle.ppm_answers.specs.declared.answer.Answer.{Answer}

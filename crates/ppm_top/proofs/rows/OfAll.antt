@@ -1,7 +1,7 @@
 -- The rows that all commands share, and those of words that give no command.
-use Rattle.std.proofs.Common.{◌≡◌, ◌≢◌, ◌⊎◌, ℕ, List, [], ◌∷◌, Option, Some, None}
+use Rattle.std.proofs.Common.{◌≡◌, ◌⊎◌, ℕ, List, [], ◌∷◌, Option, Some, None}
 use Rattle.std.proofs.Common.{refl, sym, ◌∙◌, subst, inl, inr}
-use Rattle.ppm_ports.specs.Ports.{Port, Fails, Holds}
+use Rattle.ppm_ports.specs.Ports.{Fails, Holds}
 use Rattle.ppm_ports.specs.Outside.{Outside}
 use Rattle.ppm_answers.specs.declared.answer.Answer.{Answer}
 use Rattle.ppm_answers.specs.declared.answer.Answer.TheVariants as answers

@@ -1,6 +1,6 @@
 -- The rows of `run`.
-use Rattle.std.proofs.Common.{◌≡◌, ◌≢◌, ◌⊎◌, ◌↔◌, ℕ, List, [], ◌∷◌, Option, Some, None}
-use Rattle.std.proofs.Common.{refl, sym, ◌∙◌, subst, inl, inr}
+use Rattle.std.proofs.Common.{◌≡◌, ◌≢◌, ◌⊎◌, ◌↔◌, ℕ, List, [], ◌∷◌, Some}
+use Rattle.std.proofs.Common.{sym, ◌∙◌, subst, inl, inr}
 use Rattle.ppm_ports.specs.Ports.{Fails, Gets}
 use Rattle.ppm_ports.specs.Outside.{Outside}
 use Rattle.ppm_words.specs.declared.outcome.Outcome.{Outcome}

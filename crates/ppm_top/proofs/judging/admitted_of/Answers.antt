@@ -8,4 +8,4 @@ returns-in_err-admitted-clause-refused c =
     let p = err_from_is_err_and c.from_residual-in_err-admitted.result c.from_residual-in_err-admitted.ensures.1 in
     let s = c.in_ok-program.ensures.program in
     rw (p.1, p.2) (region_stops c.args.text.now _ (λ given.
-      record { tree = _; short = s.short; derived = s.tree; within = s.within; fault = region_fault _ _ given c.in_err-admitted.ensures.refused }))
+    record { tree = _; short = s.short; derived = s.tree; within = s.within; fault = region_fault _ _ given c.in_err-admitted.ensures.refused }))

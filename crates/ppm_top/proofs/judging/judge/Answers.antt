@@ -8,4 +8,4 @@ pub returns-in_err-outcome_of-clause-refused : goal.returns-in_err-outcome_of-cl
 returns-in_err-outcome_of-clause-refused c =
     let p = err_from_is_err_and c.from_residual-in_err-outcome_of.result c.from_residual-in_err-outcome_of.ensures.1 in
     rw (p.1, p.2) (outcome_stops c.args.text.now _ (λ many.
-      record { tree = _; has_tree = c.in_ok-admitted.ensures.admitted; unfit = c.in_err-outcome_of.ensures.too_many (ap Err many) }))
+    record { tree = _; has_tree = c.in_ok-admitted.ensures.admitted; unfit = c.in_err-outcome_of.ensures.too_many (ap Err many) }))
