@@ -22,11 +22,11 @@ abbrev pub count_first : {C : Type 0} → List C → Trace C → Trace C
 count_first cs (On m r) = On (mark m.depth (cs ++ m.counts)) r
 count_first cs r = r
 
-count_ons : {C : Type 0} (cs : List C) (m : Mark C) (ms : List (Mark C)) (r : Trace C) →
+pub count_ons : {C : Type 0} (cs : List C) (m : Mark C) (ms : List (Mark C)) (r : Trace C) →
     count_first cs (ons (m ∷ ms) r) ≡ ons (counting cs (m ∷ ms)) r
 count_ons cs m ms r = refl
 
-count_goes_on : {K P C : Type 0} (cs : List C) (o : Option (Move K P C)) (next : List (Due K P) → Trace C) →
+pub count_goes_on : {K P C : Type 0} (cs : List C) (o : Option (Move K P C)) (next : List (Due K P) → Trace C) →
     goes_on (counted cs o) next ≡ count_first cs (goes_on o next)
 count_goes_on cs None next = refl
 count_goes_on cs (Some m) next = refl
@@ -55,14 +55,14 @@ module _ {T K P V C : Type 0} (g : Grammar T K P V C) where
 
   module _ (follows : P → K → Bool) (p : IsPredictive g follows) where
     -- how tokens begin that are derived from a row with items
-    record Begun (x : Item K P) (ts : List T) (ms : List (Mark C)) : Type 0 where
-      t : T
-      behind : List T
-      m : Mark C
-      others : List (Mark C)
-      shape : ts ≡ t ∷ behind
-      marks : ms ≡ m ∷ others
-      starts_so : (xs : List (Item K P)) → can_start g (starts g) (x ∷ xs) (g.kind t) ≡ true
+    pub record Begun (x : Item K P) (ts : List T) (ms : List (Mark C)) : Type 0 where
+      pub t : T
+      pub behind : List T
+      pub m : Mark C
+      pub others : List (Mark C)
+      pub shape : ts ≡ t ∷ behind
+      pub marks : ms ≡ m ∷ others
+      pub starts_so : (xs : List (Item K P)) → can_start g (starts g) (x ∷ xs) (g.kind t) ≡ true
 
     same_due : {d e : ℕ} {x y : Item K P} {xs zs : List (Due K P)} → Within d x ∷ xs ≡ Within e y ∷ zs → x ≡ y
     same_due h = cc
@@ -72,10 +72,10 @@ module _ {T K P V C : Type 0} (g : Grammar T K P V C) where
     begins_part n row k i h = p.starts_is n k ∙ in_some (λ row. can_start g (starts g) row.items k) i h
 
     -- a part with an empty row may be empty
-    may_be : (n : P) (row : Row K P V C) → In row (g.rows n) → row.items ≡ [] → may_be_empty g n ≡ true
+    pub may_be : (n : P) (row : Row K P V C) → In row (g.rows n) → row.items ≡ [] → may_be_empty g n ≡ true
     may_be n row i is = let h : is_empty row ≡ true = rw is refl in in_some (λ row. is_empty row) i h
 
-    begins : {xs : List (Due K P)} {ts rest : List T} {vs : List V} {ms : List (Mark C)} → Derives g xs ts vs ms rest →
+    pub begins : {xs : List (Due K P)} {ts rest : List T} {vs : List V} {ms : List (Mark C)} → Derives g xs ts vs ms rest →
         (e : ℕ) (y : Item K P) (ys : List (Item K P)) (zs : List (Due K P)) → xs ≡ Within e y ∷ zs →
         (n : P) (row : Row K P V C) → In row (g.rows n) → row.items ≡ y ∷ ys → Begun y ts ms
     begins nothing e y ys zs same n row i is = cc

@@ -6,3 +6,5 @@ pub mod TextLemmas
 pub mod MovesLemmas
 pub mod FaultLemmas
 pub mod Theorem
+pub mod LeadsLemmas
+pub mod RowsLemmas

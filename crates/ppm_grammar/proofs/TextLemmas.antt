@@ -10,7 +10,7 @@ use Rattle.ppm_grammar.proofs.ListLemmas.{number_below, same_number, some_in, an
 
 module _ {T K P V C : Type 0} (g : Grammar T K P V C) where
   -- kinds of one number are one
-  same_kind_one : (x k : K) → same_kind g x k ≡ true → x ≡ k
+  pub same_kind_one : (x k : K) → same_kind g x k ≡ true → x ≡ k
   same_kind_one x k h = same_number g.kinds x k (grind (arith, h))
 
   -- the items are derived with some values

@@ -7,4 +7,4 @@
 
 mod laws;
 
-pub use laws::have_one_answer;
+pub use laws::{have_one_answer, parsers_answer, test_tells};
