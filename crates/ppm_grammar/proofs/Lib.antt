@@ -8,3 +8,4 @@ pub mod FaultLemmas
 pub mod Theorem
 pub mod LeadsLemmas
 pub mod RowsLemmas
+pub mod TallyLemmas

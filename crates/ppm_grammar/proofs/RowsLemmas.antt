@@ -12,7 +12,7 @@ use Rattle.ppm_grammar.specs.Reading.{Reads, Fails}
 use Rattle.ppm_grammar.proofs.StackLemmas.{same_kind_is, part_step, passed_over, next_none}
 use Rattle.ppm_grammar.proofs.DerivationLemmas.{count_first, count_goes_on, count_ons, ons_append, begins, Begun, may_be}
 use Rattle.ppm_grammar.proofs.LeadsLemmas.{LeadsTo, on, leads_token, fronts, backs}
-use Rattle.ppm_grammar.proofs.TextLemmas.{same_kind_one}
+use Rattle.ppm_grammar.proofs.TextLemmas.{other_kind}
 
 -- counting nothing more changes nothing
 count_none : {C : Type 0} (ms : List (Mark C)) → counting [] ms ≡ ms
@@ -239,18 +239,10 @@ module _ {T K P V C : Type 0} (g : Grammar T K P V C) (l : Limits T C) where
         starts g n (g.kind t) ≡ false → Fails g l c (Within d (Part n) ∷ xs) ts (Some (Expected (g.place t)))
     unexpected {d = d} {n = n} {t = t} full is none = record { tells = λ st f e. rw (is, next_none g follows p d n (g.kind t) none, full) e }
 
-  -- another kind of token
-  pub other_kind : (x k : K) → (k ≡ x → ⊥) → same_kind g x k ≡ false
-  other_kind x k h = go (same_kind g x k) refl
-    where
-      go : (b : Bool) → same_kind g x k ≡ b → same_kind g x k ≡ false
-      go true e = absurd (h (sym (same_kind_one g x k e)))
-      go false e = e
-
   -- a token that is missing
   pub token_ended : {c : Tally} {d : ℕ} {x : K} {xs : List (Due K P)} {ts : List T} → ts ≡ [] → Fails g l c (Within d (Take x) ∷ xs) ts (Some Ended)
   token_ended is = record { tells = λ st f e. rw is e }
 
   pub token_unexpected : {c : Tally} {d : ℕ} {x : K} {t : T} {xs : List (Due K P)} {ts rest : List T} → ts ≡ t ∷ rest → (g.kind t ≡ x → ⊥) →
       Fails g l c (Within d (Take x) ∷ xs) ts (Some (Expected (g.place t)))
-  token_unexpected {x = x} {t = t} is other = record { tells = λ st f e. rw (is, other_kind x (g.kind t) other) e }
+  token_unexpected {x = x} {t = t} is other = record { tells = λ st f e. rw (is, other_kind g x (g.kind t) other) e }

@@ -13,6 +13,14 @@ module _ {T K P V C : Type 0} (g : Grammar T K P V C) where
   pub same_kind_one : (x k : K) → same_kind g x k ≡ true → x ≡ k
   same_kind_one x k h = same_number g.kinds x k (grind (arith, h))
 
+  -- another kind of token
+  pub other_kind : (x k : K) → (k ≡ x → ⊥) → same_kind g x k ≡ false
+  other_kind x k h = go (same_kind g x k) refl
+    where
+      go : (b : Bool) → same_kind g x k ≡ b → same_kind g x k ≡ false
+      go true e = absurd (h (sym (same_kind_one x k e)))
+      go false e = e
+
   -- the items are derived with some values
   pub record Derived (xs : List (Due K P)) (ts : List T) (ms : List (Mark C)) (rest : List T) : Type 0 where
     pub values : List V

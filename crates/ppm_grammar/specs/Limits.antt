@@ -1,5 +1,5 @@
 -- Limits on openings and on numbers that the tokens count up.
-use Rattle.std.specs.Prelude.{◌≡◌, ℕ, ◌+◌, ◌==◌, ◌≤◌, nat_lt, List, [], ◌∷◌, Option, Some, None, if◌then◌else◌}
+use Rattle.std.specs.Prelude.{◌≡◌, ℕ, suc, ◌+◌, ◌==◌, ◌≤◌, nat_lt, List, [], ◌∷◌, Option, Some, None, if◌then◌else◌}
 use Rattle.ppm_grammar.specs.Derivation.{Mark}
 
 -- what a token does to one of the numbers: it begins anew from 0, or grows by an amount
@@ -20,7 +20,11 @@ abbrev pub with_count : Count → Tally → Tally
 with_count (Anew w) c = λ which. if which == w then 0 else c which
 with_count (Adds w n) c = λ which. if which == w then c which + n else c which
 
--- and after several
+-- after the number grew by an amount
+abbrev pub adds : ℕ → ℕ → Tally → Tally
+adds w n c = with_count (Adds w n) c
+
+-- and after several counts
 abbrev pub with_counts : List Count → Tally → Tally
 with_counts [] c = c
 with_counts (x ∷ xs) c = with_counts xs (with_count x c)
@@ -57,3 +61,8 @@ Keeps l [] ts c = Unit {0}
 Keeps l (m ∷ ms) [] c = ⊥
 Keeps l (m ∷ ms) (t ∷ ts) c =
     (m.depth ≤ l.depth) × (passed l.most (after_token l m.counts t ts c) ≡ None) × Keeps l ms ts (after_token l m.counts t ts c)
+
+-- the number may grow by so much more, and no further
+pub record Leaves {T C : Type 0} (l : Limits T C) (which room : ℕ) (c : Tally) : Type 0 where
+  pub free : (n : ℕ) → n ≤ room → passed l.most (adds which n c) ≡ None
+  pub full : passed l.most (adds which (suc room) c) ≡ Some which

@@ -1,8 +1,8 @@
 -- What a parser's functions answer.
-use Rattle.std.specs.Prelude.{◌≡◌, List, ◌++◌, Option, Some, None}
-use Rattle.ppm_grammar.specs.Rows.{Grammar}
-use Rattle.ppm_grammar.specs.Derivation.{Due, Mark, Derives}
-use Rattle.ppm_grammar.specs.Limits.{Limits, Tally, passed, after_marks, Keeps}
+use Rattle.std.specs.Prelude.{◌≡◌, ℕ, ◌+◌, List, [], ◌∷◌, ◌++◌, Option, Some, None}
+use Rattle.ppm_grammar.specs.Rows.{Part, Grammar}
+use Rattle.ppm_grammar.specs.Derivation.{Due, Within, Mark, Derives}
+use Rattle.ppm_grammar.specs.Limits.{Limits, Tally, adds, after_marks, Keeps, Leaves}
 use Rattle.ppm_grammar.specs.Faults.{Fault}
 use Rattle.ppm_grammar.specs.Stack.{trace, ons, fault_at}
 
@@ -19,3 +19,16 @@ pub record Reads {T K P V C : Type 0} (g : Grammar T K P V C) (l : Limits T C) (
 pub record Fails {T K P V C : Type 0} (g : Grammar T K P V C) (l : Limits T C) (c : Tally) (xs : List (Due K P)) (ts : List T)
     (o : Option Fault) : Type 0 where
   pub tells : (st : List (Due K P)) (f : Fault) → o ≡ Some f → fault_at g l (xs ++ st) c ts ≡ Some f
+
+-- with so many more openings, and so much more of one number, the part is read, and of the number it leaves this
+pub record ReadsPart {T K P V C : Type 0} (g : Grammar T K P V C) (l : Limits T C) (depth which room : ℕ) (n : P) (ts : List T) (v : V)
+    (left : ℕ) (rest : List T) : Type 0 where
+  pub used : ℕ
+  pub spent : used + left ≡ room
+  pub reads : (d : ℕ) (c : Tally) → d + depth ≡ l.depth → Leaves l which room c →
+      Reads g l c (Within d (Part n) ∷ []) ts (v ∷ []) (adds which used c) rest
+
+-- with so many more openings, and so much more of one number, the tokens have the fault where the part is to come
+pub record FailsPart {T K P V C : Type 0} (g : Grammar T K P V C) (l : Limits T C) (depth which room : ℕ) (n : P) (ts : List T)
+    (o : Option Fault) : Type 0 where
+  pub tells : (d : ℕ) (c : Tally) → d + depth ≡ l.depth → Leaves l which room c → Fails g l c (Within d (Part n) ∷ []) ts o
