@@ -1,10 +1,10 @@
 -- What is derived is passed over, with its marks, and is derived in one way.
-use Rattle.std.proofs.Common.{◌≡◌, ℕ, zero, suc, Bool, true, false, List, [], ◌∷◌, ◌++◌, length, refl, sym, ◌∙◌, ap, subst, arith, append_assoc}
-use Rattle.std.specs.Prelude.{◌==◌, ◌&&◌, ◌||◌, Option, Some, None, is_some, if◌then◌else◌}
-use Rattle.ppm_grammar.specs.Rows.{In, first, later, Item, Take, Part, Row, Grammar}
+use Rattle.std.proofs.Common.{◌≡◌, ℕ, Bool, true, List, [], ◌∷◌, ◌++◌, refl, sym, ◌∙◌, ap, subst}
+use Rattle.std.specs.Prelude.{Option, Some, None}
+use Rattle.ppm_grammar.specs.Rows.{In, Item, Take, Part, Row, Grammar}
 use Rattle.ppm_grammar.specs.Derivation.{Due, Within, due, Mark, mark, counting, inside, Derives, nothing, token, part, beginning, IsText}
-use Rattle.ppm_grammar.specs.Predictive.{some, is_empty, same_kind, may_be_empty, can_start, starts, may_begin, Closed, IsPredictive}
-use Rattle.ppm_grammar.specs.Stack.{Move, move, counted, Trace, Whole, Cut, Stuck, On, ons, goes_on, at_end, step, can_end, trace}
+use Rattle.ppm_grammar.specs.Predictive.{is_empty, may_be_empty, can_start, starts, may_begin, Closed, IsPredictive}
+use Rattle.ppm_grammar.specs.Stack.{Move, counted, Trace, Whole, On, ons, goes_on, step, trace}
 use Rattle.ppm_grammar.proofs.ListLemmas.{in_some, or_left, or_right, both}
 use Rattle.ppm_grammar.proofs.StackLemmas.{same_kind_is, part_step, passed_over}
 
@@ -68,7 +68,7 @@ module _ {T K P V C : Type 0} (g : Grammar T K P V C) where
     same_due h = cc
 
     -- a part with a row that a token can begin can begin with it
-    begins_part : (n : P) (row : Row K P V C) (k : K) → In row (g.rows n) → can_start g (starts g) row.items k ≡ true → starts g n k ≡ true
+    pub begins_part : (n : P) (row : Row K P V C) (k : K) → In row (g.rows n) → can_start g (starts g) row.items k ≡ true → starts g n k ≡ true
     begins_part n row k i h = p.starts_is n k ∙ in_some (λ row. can_start g (starts g) row.items k) i h
 
     -- a part with an empty row may be empty

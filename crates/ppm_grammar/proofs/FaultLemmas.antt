@@ -1,16 +1,16 @@
 -- The fault that the tokens go on to is their fault, and the only one.
-use Rattle.std.proofs.Common.{◌≡◌, ℕ, zero, suc, ◌<◌, ◌≤◌, Bool, true, false, List, [], ◌∷◌, ◌++◌, length, refl, sym, ◌∙◌, ap, subst, arith, append_assoc, inl, inr}
+use Rattle.std.proofs.Common.{◌≡◌, ℕ, ◌≤◌, Bool, true, false, List, [], ◌∷◌, ◌++◌, length, refl, sym, ◌∙◌, ap, subst, arith, append_assoc, inl, inr}
 use Rattle.std.proofs.lemmas.List.{append-nil as append_nil}
 use Rattle.std.specs.Prelude.{◌⊎◌, nat_lt, Option, Some, None}
 use Rattle.ppm_grammar.specs.Rows.{Grammar}
-use Rattle.ppm_grammar.specs.Derivation.{Due, Mark, Derives, beginning, IsText, Begins}
+use Rattle.ppm_grammar.specs.Derivation.{Due, Mark, Derives, beginning, Begins}
 use Rattle.ppm_grammar.specs.Limits.{Limits, Tally, none_counted, passed, after_token, after_marks, Keeps}
 use Rattle.ppm_grammar.specs.Faults.{Fault, Expected, Ended, TooDeep, TooMany, HasTree, StandsAt, IsFirstUnexpected, IsEnded, IsTooDeep, IsTooMany, HasFault}
 use Rattle.ppm_grammar.specs.Predictive.{HasGround, IsPredictive}
-use Rattle.ppm_grammar.specs.Stack.{Move, Trace, Whole, Cut, Stuck, On, ons, goes_on, at_end, step, can_end, trace, unless_deep, unless_many, fault_of, fault_at}
+use Rattle.ppm_grammar.specs.Stack.{Move, Trace, Whole, Cut, Stuck, ons, step, can_end, trace, fault_of, fault_at}
 use Rattle.ppm_grammar.proofs.DerivationLemmas.{text_trace}
-use Rattle.ppm_grammar.proofs.TextLemmas.{end_sound, one_value, Consumes, consumes}
-use Rattle.ppm_grammar.proofs.MovesLemmas.{never_cut, never_stuck, Moves, here, there, moves_each, moves_on, moves_sound, moves_trace, begins_so, Come, they_come}
+use Rattle.ppm_grammar.proofs.TextLemmas.{end_sound, one_value, consumes}
+use Rattle.ppm_grammar.proofs.MovesLemmas.{never_cut, never_stuck, Moves, here, there, moves_each, moves_on, moves_sound, moves_trace, begins_so, they_come}
 
 -- lists that are equal have equal heads
 head_of : {A : Type 0} {x y : A} {xs ys : List A} → x ∷ xs ≡ y ∷ ys → x ≡ y

@@ -1,16 +1,14 @@
 -- From what the parts of a row read, or stop with, to what the row does: one chain for both.
-use Rattle.std.proofs.Common.{◌≡◌, ℕ, zero, suc, ◌<◌, ◌≤◌, Bool, true, false, List, [], ◌∷◌, ◌++◌, length, refl, sym, ◌∙◌, ap, subst, arith, append_assoc}
-use Rattle.std.proofs.lemmas.List.{append-nil as append_nil}
-use Rattle.std.specs.Prelude.{◌&&◌, nat_lt, Option, Some, None}
-use Rattle.ppm_grammar.specs.Rows.{In, Item, Take, Part, Row, Grammar}
-use Rattle.ppm_grammar.specs.Derivation.{Due, Within, due, Mark, mark, counting, inside, Derives, nothing, token, part, beginning}
-use Rattle.ppm_grammar.specs.Limits.{Limits, Tally, none_counted, passed, with_counts, after_token, after_marks, Keeps}
-use Rattle.ppm_grammar.specs.Faults.{Fault, Expected, Ended, TooDeep, TooMany, HasTree, HasFault}
-use Rattle.ppm_grammar.specs.Predictive.{same_kind, may_be_empty, can_start, starts, IsPredictive}
-use Rattle.ppm_grammar.specs.Stack.{Move, counted, Trace, Whole, Cut, Stuck, On, ons, goes_on, at_end, step, can_end, trace, fault_of, fault_at}
+use Rattle.std.proofs.Common.{◌≡◌, ℕ, ◌≤◌, false, List, [], ◌∷◌, ◌++◌, length, refl, sym, ◌∙◌, ap, subst, arith, append_assoc}
+use Rattle.std.specs.Prelude.{nat_lt, Option, None}
+use Rattle.ppm_grammar.specs.Rows.{Item, Take, Part, Grammar}
+use Rattle.ppm_grammar.specs.Derivation.{Due, Within, Mark, mark, counting, Derives, nothing, token, part}
+use Rattle.ppm_grammar.specs.Limits.{Limits, Tally, passed, after_marks, Keeps}
+use Rattle.ppm_grammar.specs.Faults.{Fault}
+use Rattle.ppm_grammar.specs.Stack.{On, ons, trace, fault_of, fault_at}
 use Rattle.ppm_grammar.specs.Reading.{Reads, Fails}
-use Rattle.ppm_grammar.proofs.StackLemmas.{same_kind_is, part_step, passed_over, next_none}
-use Rattle.ppm_grammar.proofs.DerivationLemmas.{count_first, count_goes_on, ons_append, begins, Begun, may_be}
+use Rattle.ppm_grammar.proofs.StackLemmas.{same_kind_is}
+use Rattle.ppm_grammar.proofs.DerivationLemmas.{ons_append}
 use Rattle.ppm_grammar.proofs.TextLemmas.{Consumes, consumes}
 use Rattle.ppm_grammar.proofs.FaultLemmas.{no_fault_before}
 
@@ -34,11 +32,11 @@ module _ {T K P V C : Type 0} (g : Grammar T K P V C) (l : Limits T C) where
   -- where the items are to come and this was counted, the tokens lead on to others in front of the rest, where that was counted; the values become these
   pub record LeadsTo (c : Tally) (xs : List (Due K P)) (ts : List T) (values : List V → List V) (c' : Tally) (ys : List (Due K P)) (rest : List T) : Type 0 where
     pub reads : (end : List T) (vs : List V) (c'' : Tally) → Reads g l c' ys rest vs c'' end → Reads g l c xs ts (values vs) c'' end
-    pub fails : (o : Option Fault) → Fails g l c' ys rest o → Fails g l c xs ts o
+    pub same : (st : List (Due K P)) → fault_at g l (xs ++ st) c ts ≡ fault_at g l (ys ++ st) c' rest
 
   pub on : {c c' c'' : Tally} {xs ys zs : List (Due K P)} {ts mid rest : List T} {f h : List V → List V} → LeadsTo c xs ts f c' ys mid →
       LeadsTo c' ys mid h c'' zs rest → LeadsTo c xs ts (λ vs. f (h vs)) c'' zs rest
-  on a b = record { reads = λ end vs e r. a.reads end _ e (b.reads end vs e r); fails = λ o f. a.fails o (b.fails o f) }
+  on a b = record { reads = λ end vs e r. a.reads end _ e (b.reads end vs e r); same = λ st. a.same st ∙ b.same st }
 
   -- nothing more
   pub read : {c : Tally} {ts : List T} → Reads g l c [] ts [] c ts
@@ -55,10 +53,7 @@ module _ {T K P V C : Type 0} (g : Grammar T K P V C) (l : Limits T C) where
       counts = r.counts;
       passes = λ st. rw (kind, same_kind_is g x) (ap (On (mark d [])) (r.passes st));
     });
-    fails = λ o f. record {
-      tells = λ st e is'. let not_deep : nat_lt l.depth d ≡ false = grind (arith, shallow) in
-          rw (is, kind, same_kind_is g x, not_deep, free) (f.tells st e is');
-    };
+    same = λ st. let not_deep : nat_lt l.depth d ≡ false = grind (arith, shallow) in rw (is, kind, same_kind_is g x, not_deep, free) refl;
   }
 
   -- two lists of items, one behind the other
@@ -97,7 +92,7 @@ module _ {T K P V C : Type 0} (g : Grammar T K P V C) (l : Limits T C) where
       counts = ap (λ q. after_marks l (a.marks ++ r.marks) q c) s.shape ∙ after_both s.front mid a.marks r.marks c s.each ∙ ap (after_marks l r.marks mid) counts ∙ r.counts;
       passes = λ st. ap (λ q. trace g q ts) (append_assoc xs ys st) ∙ a.passes (ys ++ st) ∙ ap (ons a.marks) (r.passes st) ∙ sym (ons_append a.marks r.marks _);
     };
-    fails = λ o f. record { tells = λ st e is. told st ∙ f.tells st e is };
+    same = told;
   }
     where
       s : Consumes g ts a.marks mid
@@ -117,6 +112,11 @@ module _ {T K P V C : Type 0} (g : Grammar T K P V C) (l : Limits T C) where
   pub leads_part : {c c' : Tally} {d : ℕ} {x : Item K P} {ys : List (Due K P)} {ts mid : List T} {v : V} → Reads g l c (Within d x ∷ []) ts (v ∷ []) c' mid →
       LeadsTo c (Within d x ∷ ys) ts (λ vs. v ∷ vs) c' ys mid
   leads_part a = leads_items a
+
+  -- where the others fail, so do the items
+  pub fails : {c c' : Tally} {xs ys : List (Due K P)} {ts rest : List T} {f : List V → List V} {o : Option Fault} → LeadsTo c xs ts f c' ys rest →
+      Fails g l c' ys rest o → Fails g l c xs ts o
+  fails a b = record { tells = λ st f is. a.same st ∙ b.tells st f is }
 
   -- an item that stops does so in front of others
   pub stops : {c : Tally} {d : ℕ} {x : Item K P} {xs : List (Due K P)} {ts : List T} {o : Option Fault} → Fails g l c (Within d x ∷ []) ts o →

@@ -9,3 +9,4 @@ pub mod Theorem
 pub mod LeadsLemmas
 pub mod RowsLemmas
 pub mod TallyLemmas
+pub mod StopsLemmas

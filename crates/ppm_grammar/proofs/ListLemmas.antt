@@ -1,6 +1,6 @@
 -- Elements of lists, and the tests over them.
-use Rattle.std.proofs.Common.{◌≡◌, ℕ, zero, suc, ◌<◌, Bool, true, false, List, [], ◌∷◌, ◌++◌, length, refl, sym, ◌∙◌, ap, arith}
-use Rattle.std.specs.Prelude.{◌==◌, ◌&&◌, ◌||◌, not, nat_le, nat_lt, Option, Some, None, if◌then◌else◌}
+use Rattle.std.proofs.Common.{◌≡◌, ℕ, zero, suc, ◌<◌, Bool, true, false, List, [], ◌∷◌, length, refl, arith}
+use Rattle.std.specs.Prelude.{◌&&◌, ◌||◌, not, nat_le, Some, if◌then◌else◌}
 use Rattle.ppm_grammar.specs.Rows.{In, first, later, element, Listing}
 use Rattle.ppm_grammar.specs.Predictive.{some, every, how_many, alike}
 

@@ -1,12 +1,12 @@
 -- Tokens that can come one after the other: a text of the grammar begins with them, and they have its marks.
-use Rattle.std.proofs.Common.{◌≡◌, ℕ, zero, suc, Bool, true, false, List, [], ◌∷◌, ◌++◌, length, refl, sym, ◌∙◌, ap, subst, arith, append_assoc}
+use Rattle.std.proofs.Common.{◌≡◌, suc, Bool, List, [], ◌∷◌, ◌++◌, length, refl, ap, subst, arith}
 use Rattle.std.specs.Prelude.{Option, Some, None}
 use Rattle.ppm_grammar.specs.Rows.{Grammar}
-use Rattle.ppm_grammar.specs.Derivation.{Due, Mark, Derives, beginning, IsText, Begins}
+use Rattle.ppm_grammar.specs.Derivation.{Due, Mark, Derives, beginning, Begins}
 use Rattle.ppm_grammar.specs.Predictive.{HasGround, IsPredictive}
-use Rattle.ppm_grammar.specs.Stack.{Move, Trace, Whole, Cut, Stuck, On, ons, goes_on, at_end, step, can_end, trace}
-use Rattle.ppm_grammar.proofs.TextLemmas.{Derived, step_sound, end_sound, one_value, stack_text}
-use Rattle.ppm_grammar.proofs.DerivationLemmas.{ons_append, text_trace}
+use Rattle.ppm_grammar.specs.Stack.{Move, Trace, Whole, Cut, Stuck, On, ons, goes_on, step, trace}
+use Rattle.ppm_grammar.proofs.TextLemmas.{Derived, step_sound, one_value, stack_text}
+use Rattle.ppm_grammar.proofs.DerivationLemmas.{text_trace}
 
 -- how the last trace ends is how both end
 pub never_cut : {C : Type 0} (ms ns : List (Mark C)) → ons ms Whole ≡ ons ns Cut → ⊥

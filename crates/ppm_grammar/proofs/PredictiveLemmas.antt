@@ -1,10 +1,10 @@
 -- From the test of a table to what it says.
-use Rattle.std.proofs.Common.{◌≡◌, ℕ, zero, suc, ◌<◌, Bool, true, false, List, [], ◌∷◌, ◌++◌, length, refl, sym, ◌∙◌, ap, arith}
-use Rattle.std.specs.Prelude.{◌==◌, ◌&&◌, ◌||◌, not, nat_le, nat_lt, Option, Some, None, if◌then◌else◌}
-use Rattle.ppm_grammar.specs.Rows.{In, first, later, Listing, Item, Take, Part, Row, Grammar}
-use Rattle.ppm_grammar.specs.Predictive.{some, every, how_many, is_empty, same_kind, may_be_empty, can_start, starts, may_begin}
+use Rattle.std.proofs.Common.{◌≡◌, ◌<◌, Bool, true, false, List, [], ◌∷◌, arith}
+use Rattle.std.specs.Prelude.{◌&&◌, not, nat_lt}
+use Rattle.ppm_grammar.specs.Rows.{Item, Take, Part, Grammar}
+use Rattle.ppm_grammar.specs.Predictive.{is_empty, may_be_empty, can_start, starts}
 use Rattle.ppm_grammar.specs.Predictive.{is_closed, begins_below, lies_below, is_told, is_sound, is_predictive, Closed, LiesBelow, HasGround, IsPredictive}
-use Rattle.ppm_grammar.proofs.ListLemmas.{and_left, and_right, implied, excluded, not_true, is_alike, every_in, Passing, some_in, one_passes, listed_in}
+use Rattle.ppm_grammar.proofs.ListLemmas.{and_left, and_right, implied, excluded, not_true, is_alike, every_in, some_in, one_passes, listed_in}
 
 module _ {T K P V C : Type 0} (g : Grammar T K P V C) (follows : P → K → Bool) where
   -- the items are closed at each kind

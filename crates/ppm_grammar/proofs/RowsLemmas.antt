@@ -1,16 +1,14 @@
--- A part that goes on with one of its rows, or with none, and the faults at its first token.
-use Rattle.std.proofs.Common.{◌≡◌, ℕ, zero, suc, ◌<◌, ◌≤◌, Bool, true, false, List, [], ◌∷◌, ◌++◌, length, refl, sym, ◌∙◌, ap, subst, arith, append_assoc}
-use Rattle.std.proofs.lemmas.List.{append-nil as append_nil}
-use Rattle.std.specs.Prelude.{◌==◌, ◌&&◌, nat_lt, Option, Some, None}
-use Rattle.ppm_grammar.specs.Rows.{In, first, Item, Take, Part, Row, Grammar}
+-- A part that goes on with one of its rows, or with none.
+use Rattle.std.proofs.Common.{◌≡◌, ℕ, ◌≤◌, Bool, true, false, List, [], ◌∷◌, ◌++◌, refl, sym, ◌∙◌, ap, subst, append_assoc}
+use Rattle.std.specs.Prelude.{◌&&◌, Option, Some, None}
+use Rattle.ppm_grammar.specs.Rows.{In, first, later, Item, Take, Part, Row, Grammar}
 use Rattle.ppm_grammar.specs.Derivation.{Due, Within, due, Mark, mark, counting, inside, Derives, nothing, token, part}
 use Rattle.ppm_grammar.specs.Limits.{Limits, Tally, passed, with_counts, after_token, after_marks, Keeps}
-use Rattle.ppm_grammar.specs.Faults.{Fault, Expected, Ended, TooDeep, TooMany}
-use Rattle.ppm_grammar.specs.Predictive.{same_kind, may_be_empty, can_start, starts, IsPredictive}
-use Rattle.ppm_grammar.specs.Stack.{Move, move, counted, Trace, Whole, Cut, Stuck, On, ons, goes_on, at_end, step, can_end, trace, fault_of, fault_at}
-use Rattle.ppm_grammar.specs.Reading.{Reads, Fails}
+use Rattle.ppm_grammar.specs.Predictive.{may_be_empty, can_start, starts, IsPredictive}
+use Rattle.ppm_grammar.specs.Stack.{Move, counted, Trace, Whole, Cut, Stuck, On, ons, step, can_end, trace, fault_of, fault_at}
+use Rattle.ppm_grammar.specs.Reading.{Reads}
 use Rattle.ppm_grammar.proofs.StackLemmas.{same_kind_is, part_step, passed_over, next_none}
-use Rattle.ppm_grammar.proofs.DerivationLemmas.{count_first, count_goes_on, count_ons, ons_append, begins, Begun, may_be}
+use Rattle.ppm_grammar.proofs.DerivationLemmas.{count_first, count_goes_on, count_ons, begins, Begun, begins_part, may_be}
 use Rattle.ppm_grammar.proofs.LeadsLemmas.{LeadsTo, on, leads_token, fronts, backs}
 use Rattle.ppm_grammar.proofs.TextLemmas.{other_kind}
 
@@ -90,7 +88,7 @@ module _ {T K P V C : Type 0} (g : Grammar T K P V C) (l : Limits T C) where
         LeadsTo g l c (Within d (Part n) ∷ xs) ts (λ vs. row.make (fronts row.items vs) ∷ backs row.items vs) c' (due (inside row d) row.items ++ xs) ts
     leads_into {c = c} {c' = c'} {d = d} {n = n} {t = t} {xs = xs} {ts = ts} {rest = rest} row i is can tally = record {
       reads = λ end vs c'' r. reads end vs c'' r;
-      fails = λ o f. record { tells = λ st e is'. told st ∙ f.tells st e is' };
+      same = told;
     }
       where
         over : (st : List (Due K P)) → trace g (Within d (Part n) ∷ xs ++ st) ts ≡ count_first row.counts (trace g (due (inside row d) row.items ++ (xs ++ st)) ts)
@@ -130,48 +128,114 @@ module _ {T K P V C : Type 0} (g : Grammar T K P V C) (l : Limits T C) where
                     ∙ ap (λ q. count_first row.counts (ons q (trace g st end))) first_marks
                     ∙ count_ons row.counts m.m (m.others ++ s.lasts) (trace g st end) ∙ ap (λ q. ons q (trace g st end)) last_marks)
 
-    -- a part with one row alone, which begins with a part and counts nothing, is that row
-    only_trace : (d : ℕ) (n m : P) (row : Row K P V C) (ys : List (Item K P)) → g.rows n ≡ row ∷ [] → row.counts ≡ [] → row.items ≡ Part m ∷ ys →
-        (ts : List T) (st : List (Due K P)) → trace g (Within d (Part n) ∷ st) ts ≡ trace g (due (inside row d) row.items ++ st) ts
-    only_trace d n m row ys rows none items ts st = go ts
+    -- a part whose first token is that of another in one of its rows, which counts nothing, goes on with the row
+    corner_trace : (d : ℕ) (n m : P) (row : Row K P V C) (ys : List (Item K P)) → In row (g.rows n) → row.counts ≡ [] → row.items ≡ Part m ∷ ys →
+        (ts : List T) (st : List (Due K P)) → (ts ≡ [] → (may_be_empty g n && can_end g st) ≡ false) →
+        ((t : T) (rest : List T) → ts ≡ t ∷ rest → starts g m (g.kind t) ≡ false → step g (Within d (Part n) ∷ st) (g.kind t) ≡ None) →
+        trace g (Within d (Part n) ∷ st) ts ≡ trace g (due (inside row d) row.items ++ st) ts
+    corner_trace d n m row ys within none items ts st ends stuck = go ts ends stuck
       where
-        within : In row (g.rows n)
-        within = subst (In row) (sym rows) first
-
-        not_empty : may_be_empty g n ≡ false
-        not_empty = rw (rows, items) refl
-
         not_below : may_be_empty g m ≡ false
         not_below = (p.solid n m row ys within items).0
-
-        go : (ts : List T) → trace g (Within d (Part n) ∷ st) ts ≡ trace g (due (inside row d) row.items ++ st) ts
-        go [] = rw (not_empty, items, not_below) refl
-        go (t ∷ ts) = can (starts g m (g.kind t)) refl
+        go : (ts : List T) → (ts ≡ [] → (may_be_empty g n && can_end g st) ≡ false) →
+            ((t : T) (rest : List T) → ts ≡ t ∷ rest → starts g m (g.kind t) ≡ false → step g (Within d (Part n) ∷ st) (g.kind t) ≡ None) →
+            trace g (Within d (Part n) ∷ st) ts ≡ trace g (due (inside row d) row.items ++ st) ts
+        go [] ends stuck = rw (ends refl, items, not_below) refl
+        go (t ∷ ts) ends stuck = can (starts g m (g.kind t)) refl
           where
             can : (b : Bool) → starts g m (g.kind t) ≡ b → trace g (Within d (Part n) ∷ st) (t ∷ ts) ≡ trace g (due (inside row d) row.items ++ st) (t ∷ ts)
             can true e =
                 let begins : can_start g (starts g) row.items (g.kind t) ≡ true = rw items e in
-                let same = part_step g follows p d n (g.kind t) row st within begins ∙ ap (λ q. counted q (step g (due (inside row d) row.items ++ st) (g.kind t))) none
-                ∙ counted_none (step g (due (inside row d) row.items ++ st) (g.kind t)) in
+                let same = part_step g follows p d n (g.kind t) row st within begins
+                      ∙ ap (λ q. counted q (step g (due (inside row d) row.items ++ st) (g.kind t))) none
+                      ∙ counted_none (step g (due (inside row d) row.items ++ st) (g.kind t)) in
                 rw same refl
-            can false e =
-                let never : starts g n (g.kind t) ≡ false = p.starts_is n (g.kind t) ∙ rw (rows, items, e) refl in
-                rw (next_none g follows p d n (g.kind t) never, not_empty, items, next_none g follows p (inside row d) m (g.kind t) e, not_below) refl
+            can false e = rw (stuck t ts refl e, items, next_none g follows p (inside row d) m (g.kind t) e, not_below) refl
 
-    pub leads_only : {c : Tally} {d : ℕ} {n m : P} {ys : List (Item K P)} {xs : List (Due K P)} {ts : List T} (row : Row K P V C) → g.rows n ≡ row ∷ [] →
-        row.counts ≡ [] → row.items ≡ Part m ∷ ys →
+    leads_corner : {c : Tally} {d : ℕ} {n : P} {xs : List (Due K P)} {ts : List T} (row : Row K P V C) → In row (g.rows n) → row.counts ≡ [] →
+        ((st : List (Due K P)) → trace g (Within d (Part n) ∷ xs ++ st) ts ≡ trace g (due (inside row d) row.items ++ (xs ++ st)) ts) →
         LeadsTo g l c (Within d (Part n) ∷ xs) ts (λ vs. row.make (fronts row.items vs) ∷ backs row.items vs) c (due (inside row d) row.items ++ xs) ts
-    leads_only {c = c} {d = d} {n = n} {m = m} {ys = ys} {xs = xs} {ts = ts} row rows none items = record {
+    leads_corner {c = c} {d = d} {n = n} {xs = xs} {ts = ts} row within none same = record {
       reads = λ end vs c'' r.
           let s = parts (inside row d) row.items r.derived in
-          let marks : r.marks ≡ counting row.counts s.firsts ++ s.lasts = s.marks ∙ ap (λ q. q ++ s.lasts) (sym (count_none s.firsts)) ∙ ap (λ q. counting q s.firsts ++ s.lasts) (sym none) in
-          row_reads (subst (In row) (sym rows) first) r s (subst (λ q. Keeps l q ts c) marks r.keeps) (ap (λ q. after_marks l q ts c) (sym marks) ∙ r.counts)
+          let marks : r.marks ≡ counting row.counts s.firsts ++ s.lasts =
+              s.marks ∙ ap (λ q. q ++ s.lasts) (sym (count_none s.firsts)) ∙ ap (λ q. counting q s.firsts ++ s.lasts) (sym none) in
+          row_reads within r s (subst (λ q. Keeps l q ts c) marks r.keeps) (ap (λ q. after_marks l q ts c) (sym marks) ∙ r.counts)
           (λ st. over st ∙ r.passes st ∙ ap (λ q. ons q (trace g st end)) marks);
-      fails = λ o f. record { tells = λ st e is. ap (λ q. fault_of g l ts q c) (over st) ∙ f.tells st e is };
+      same = λ st. ap (λ q. fault_of g l ts q c) (over st);
     }
       where
         over : (st : List (Due K P)) → trace g (Within d (Part n) ∷ xs ++ st) ts ≡ trace g (due (inside row d) row.items ++ xs ++ st) ts
-        over st = only_trace d n m row ys rows none items ts (xs ++ st) ∙ ap (λ q. trace g q ts) (sym (append_assoc (due (inside row d) row.items) xs st))
+        over st = same st ∙ ap (λ q. trace g q ts) (sym (append_assoc (due (inside row d) row.items) xs st))
+
+    -- a part with one row alone, which begins with a part and counts nothing, is that row
+    pub leads_only : {c : Tally} {d : ℕ} {n m : P} {ys : List (Item K P)} {xs : List (Due K P)} {ts : List T} (row : Row K P V C) → g.rows n ≡ row ∷ [] →
+        row.counts ≡ [] → row.items ≡ Part m ∷ ys →
+        LeadsTo g l c (Within d (Part n) ∷ xs) ts (λ vs. row.make (fronts row.items vs) ∷ backs row.items vs) c (due (inside row d) row.items ++ xs) ts
+    leads_only {c = c} {d = d} {n = n} {m = m} {ys = ys} {xs = xs} {ts = ts} row rows none items =
+        leads_corner {c = c} {d = d} {n = n} {xs = xs} {ts = ts} row within none
+          (λ st. corner_trace d n m row ys within none items ts (xs ++ st) (λ e. rw not_empty refl) (λ t rest is e. stuck t e (xs ++ st)))
+      where
+        within : In row (g.rows n)
+        within = subst (In row) (sym rows) first
+        not_empty : may_be_empty g n ≡ false
+        not_empty = rw (rows, items) refl
+        stuck : (t : T) → starts g m (g.kind t) ≡ false → (st : List (Due K P)) → step g (Within d (Part n) ∷ st) (g.kind t) ≡ None
+        stuck t e st =
+            let never : starts g n (g.kind t) ≡ false = p.starts_is n (g.kind t) ∙ rw (rows, items, e) refl in
+            rw (next_none g follows p d n (g.kind t) never, not_empty) refl
+
+    -- where what follows can neither end nor go on with the token in front, a part that is empty or a row goes on with the row
+    pub record IsShut (xs : List (Due K P)) (ts : List T) : Type 0 where
+      pub ends : (st : List (Due K P)) → ts ≡ [] → can_end g (xs ++ st) ≡ false
+      pub stuck : (st : List (Due K P)) (t : T) (rest : List T) → ts ≡ t ∷ rest → step g (xs ++ st) (g.kind t) ≡ None
+
+    pub leads_first : {c : Tally} {d : ℕ} {n m : P} {ys : List (Item K P)} {xs : List (Due K P)} {ts : List T} (none row : Row K P V C) →
+        g.rows n ≡ none ∷ row ∷ [] → none.items ≡ [] → row.counts ≡ [] → row.items ≡ Part m ∷ ys → IsShut xs ts →
+        LeadsTo g l c (Within d (Part n) ∷ xs) ts (λ vs. row.make (fronts row.items vs) ∷ backs row.items vs) c (due (inside row d) row.items ++ xs) ts
+    leads_first {c = c} {d = d} {n = n} {m = m} {ys = ys} {xs = xs} {ts = ts} empty row rows empties none items shut =
+        leads_corner {c = c} {d = d} {n = n} {xs = xs} {ts = ts} row within none
+          (λ st. corner_trace d n m row ys within none items ts (xs ++ st) (λ e. rw (may_be g follows p n empty other empties, shut.ends st e) refl)
+            (λ t rest is e. passed_over g follows p d n (g.kind t) (xs ++ st) (may_be g follows p n empty other empties) (never t e) ∙ shut.stuck st t rest is))
+      where
+        within : In row (g.rows n)
+        within = subst (In row) (sym rows) (later first)
+        other : In empty (g.rows n)
+        other = subst (In empty) (sym rows) first
+        never : (t : T) → starts g m (g.kind t) ≡ false → starts g n (g.kind t) ≡ false
+        never t e = p.starts_is n (g.kind t) ∙ rw (rows, empties, items, e) refl
+
+    -- a token in front of which a further token is to come
+    pub shut_by : {d : ℕ} {x : K} {xs : List (Due K P)} {ts : List T} → ((t : T) (rest : List T) → ts ≡ t ∷ rest → g.kind t ≡ x → ⊥) →
+        IsShut (Within d (Take x) ∷ xs) ts
+    shut_by {x = x} other = record { ends = λ st e. refl; stuck = λ st t rest is. rw (other_kind g x (g.kind t) (other t rest is)) refl }
+
+    -- a part that was read begins with a token that can begin it
+    pub record Front (n : P) (ts : List T) : Type 0 where
+      pub t : T
+      pub rest : List T
+      pub shape : ts ≡ t ∷ rest
+      pub starts_it : starts g n (g.kind t) ≡ true
+
+    pub front : {d : ℕ} {n : P} {xs : List (Due K P)} {ts rest : List T} {vs : List V} {ms : List (Mark C)} → Derives g (Within d (Part n) ∷ xs) ts vs ms rest →
+        may_be_empty g n ≡ false → Front n ts
+    front (part {d = d} {n = n} {row = row} {ts = ts} {ls = ls} i inner r) full =
+        go row.items refl (λ y ys here. begins g follows p inner (inside row d) y ys (due (inside row d) ys) (ap (due (inside row d)) here) n row i here)
+      where
+        go : (items : List (Item K P)) → row.items ≡ items → ((y : Item K P) (ys : List (Item K P)) → row.items ≡ y ∷ ys → Begun g follows p y ts ls) → Front n ts
+        go [] here begun = let never = may_be g follows p n row i here in absurd (cc)
+        go (y ∷ ys) here begun =
+            let b = begun y ys here in
+            record { t = b.t; rest = b.behind; shape = b.shape; starts_it = begins_part g follows p n row (g.kind b.t) i (rw here (b.starts_so ys)) }
+
+    -- so it is the first part of a row
+    pub leads_read : {c c' : Tally} {d e : ℕ} {n m : P} {ys : List (Item K P)} {xs : List (Due K P)} {ts mid : List T} {vs : List V} (row : Row K P V C) →
+        In row (g.rows n) → row.counts ≡ [] → row.items ≡ Part m ∷ ys → Reads g l c (Within e (Part m) ∷ []) ts vs c' mid →
+        LeadsTo g l c (Within d (Part n) ∷ xs) ts (λ vs. row.make (fronts row.items vs) ∷ backs row.items vs) c (due (inside row d) row.items ++ xs) ts
+    leads_read {c = c} {d = d} {n = n} {m = m} {ys = ys} {xs = xs} row i none items r =
+        let b = front r.derived (p.solid n m row ys i items).0 in
+        leads_into {c = c} {d = d} {n = n} {xs = xs} row i b.shape (ap (λ q. can_start g (starts g) q (g.kind b.t)) items ∙ b.starts_it)
+          (ap (λ q. after_token l q b.t b.rest c) none)
 
     -- a part that may be empty, in front of the end or of a token that begins none of its rows
     past_trace : (d : ℕ) (n : P) (ts : List T) (st : List (Due K P)) → may_be_empty g n ≡ true →
@@ -191,7 +255,7 @@ module _ {T K P V C : Type 0} (g : Grammar T K P V C) (l : Limits T C) where
             counts = r.counts;
             passes = λ st. past_trace d n ts (xs ++ st) (may_be g follows p n row i items) none ∙ r.passes st;
           };
-      fails = λ o f. record { tells = λ st e is. ap (λ q. fault_of g l ts q c) (past_trace d n ts (xs ++ st) (may_be g follows p n row i items) none) ∙ f.tells st e is };
+      same = λ st. ap (λ q. fault_of g l ts q c) (past_trace d n ts (xs ++ st) (may_be g follows p n row i items) none);
     }
 
     -- a row that begins with a token
@@ -204,45 +268,3 @@ module _ {T K P V C : Type 0} (g : Grammar T K P V C) (l : Limits T C) where
         let into = subst (λ q. LeadsTo g l c (Within d (Part n) ∷ xs) ts (λ vs. row.make (fronts q vs) ∷ backs q vs) c' (due (inside row d) q ++ xs) ts) items
         (leads_into {c = c} {c' = c'} {d = d} {n = n} {xs = xs} row i is can tally) in
         on g l into (leads_token g l is kind shallow free)
-
-    -- the move at such a row
-    row_step : (d : ℕ) (n : P) (row : Row K P V C) (x : K) (ys : List (Item K P)) (t : T) (st : List (Due K P)) → In row (g.rows n) → row.items ≡ Take x ∷ ys →
-        g.kind t ≡ x → step g (Within d (Part n) ∷ st) (g.kind t) ≡ Some (move (mark (inside row d) row.counts) (due (inside row d) ys ++ st))
-    row_step d n row x ys t st i items kind =
-        part_step g follows p d n (g.kind t) row st i (rw (items, kind) (same_kind_is g x))
-        ∙ rw (items, kind, same_kind_is g x, append_nil row.counts) refl
-
-    -- a token that is within too many openings or passes a limit there
-    pub too_deep : {c : Tally} {d : ℕ} {n : P} {x : K} {t : T} {ys : List (Item K P)} {xs : List (Due K P)} {ts rest : List T} (row : Row K P V C) →
-        In row (g.rows n) → row.items ≡ Take x ∷ ys → ts ≡ t ∷ rest → g.kind t ≡ x → l.depth < inside row d →
-        Fails g l c (Within d (Part n) ∷ xs) ts (Some (TooDeep (g.place t)))
-    too_deep {d = d} {n = n} {x = x} {t = t} {ys = ys} {xs = xs} row i items is kind deep = record {
-      tells = λ st f e.
-          let over : nat_lt l.depth (inside row d) ≡ true = grind (arith, deep) in
-          rw (is, row_step d n row x ys t (xs ++ st) i items kind, over) e;
-    }
-
-    pub too_many : {c : Tally} {d which : ℕ} {n : P} {x : K} {t : T} {ys : List (Item K P)} {xs : List (Due K P)} {ts rest : List T} (row : Row K P V C) →
-        In row (g.rows n) → row.items ≡ Take x ∷ ys → ts ≡ t ∷ rest → g.kind t ≡ x → inside row d ≤ l.depth →
-        passed l.most (after_token l row.counts t rest c) ≡ Some which → Fails g l c (Within d (Part n) ∷ xs) ts (Some (TooMany (g.place t) which))
-    too_many {d = d} {n = n} {x = x} {t = t} {ys = ys} {xs = xs} row i items is kind shallow many = record {
-      tells = λ st f e.
-          let under : nat_lt l.depth (inside row d) ≡ false = grind (arith, shallow) in
-          rw (is, row_step d n row x ys t (xs ++ st) i items kind, under, many) e;
-    }
-
-    -- no token that can begin the part, which has tokens
-    pub ended : {c : Tally} {d : ℕ} {n : P} {xs : List (Due K P)} {ts : List T} → may_be_empty g n ≡ false → ts ≡ [] → Fails g l c (Within d (Part n) ∷ xs) ts (Some Ended)
-    ended full is = record { tells = λ st f e. rw (is, full) e }
-
-    pub unexpected : {c : Tally} {d : ℕ} {n : P} {t : T} {xs : List (Due K P)} {ts rest : List T} → may_be_empty g n ≡ false → ts ≡ t ∷ rest →
-        starts g n (g.kind t) ≡ false → Fails g l c (Within d (Part n) ∷ xs) ts (Some (Expected (g.place t)))
-    unexpected {d = d} {n = n} {t = t} full is none = record { tells = λ st f e. rw (is, next_none g follows p d n (g.kind t) none, full) e }
-
-  -- a token that is missing
-  pub token_ended : {c : Tally} {d : ℕ} {x : K} {xs : List (Due K P)} {ts : List T} → ts ≡ [] → Fails g l c (Within d (Take x) ∷ xs) ts (Some Ended)
-  token_ended is = record { tells = λ st f e. rw is e }
-
-  pub token_unexpected : {c : Tally} {d : ℕ} {x : K} {t : T} {xs : List (Due K P)} {ts rest : List T} → ts ≡ t ∷ rest → (g.kind t ≡ x → ⊥) →
-      Fails g l c (Within d (Take x) ∷ xs) ts (Some (Expected (g.place t)))
-  token_unexpected {x = x} {t = t} is other = record { tells = λ st f e. rw (is, other_kind g x (g.kind t) other) e }

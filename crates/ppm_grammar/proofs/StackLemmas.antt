@@ -1,11 +1,11 @@
 -- At a token that begins a row of a part, the part goes on with that row.
-use Rattle.std.proofs.Common.{◌≡◌, ℕ, zero, suc, ◌+◌, ◌<◌, ◌≤◌, Bool, true, false, List, [], ◌∷◌, ◌++◌, length, refl, sym, ◌∙◌, ap, subst, arith, append_assoc}
-use Rattle.std.specs.Prelude.{◌==◌, ◌&&◌, ◌||◌, Option, Some, None, is_some, if◌then◌else◌}
-use Rattle.ppm_grammar.specs.Rows.{In, first, later, Listing, Item, Take, Part, Row, Grammar}
-use Rattle.ppm_grammar.specs.Derivation.{Due, Within, due, Mark, mark, counting, inside}
+use Rattle.std.proofs.Common.{◌≡◌, ℕ, zero, suc, ◌+◌, ◌<◌, ◌≤◌, Bool, true, false, List, [], ◌∷◌, ◌++◌, length, refl, sym, ◌∙◌, ap, arith, append_assoc}
+use Rattle.std.specs.Prelude.{◌||◌, Option, Some, None, is_some, if◌then◌else◌}
+use Rattle.ppm_grammar.specs.Rows.{In, first, later, Item, Take, Part, Row, Grammar}
+use Rattle.ppm_grammar.specs.Derivation.{Due, Within, due, mark, inside}
 use Rattle.ppm_grammar.specs.Predictive.{some, same_kind, may_be_empty, can_start, starts, IsPredictive}
-use Rattle.ppm_grammar.specs.Stack.{Move, move, ahead, counted, or_else, chosen, Trace, Whole, Cut, Stuck, On, ons, goes_on, at_end}
-use Rattle.ppm_grammar.specs.Stack.{move_in, move_of, next_within, next, step, can_end, trace}
+use Rattle.ppm_grammar.specs.Stack.{Move, move, ahead, counted, or_else, chosen}
+use Rattle.ppm_grammar.specs.Stack.{move_in, move_of, next_within, next, step}
 use Rattle.ppm_grammar.proofs.ListLemmas.{number_below, in_some}
 
 -- a move is there in front of further items if it is there, and whatever else its token counts as

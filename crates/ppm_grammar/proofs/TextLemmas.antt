@@ -1,10 +1,10 @@
 -- A move before what is derived is derived, and whatever is still to come has a text.
 use Rattle.std.proofs.Common.{◌≡◌, ℕ, zero, suc, ◌+◌, ◌<◌, ◌≤◌, Bool, true, false, List, [], ◌∷◌, ◌++◌, length, refl, sym, ◌∙◌, ap, subst, arith, append_assoc}
-use Rattle.std.specs.Prelude.{◌==◌, ◌&&◌, ◌||◌, Option, Some, None, is_some, if◌then◌else◌}
+use Rattle.std.specs.Prelude.{Option, Some, None, if◌then◌else◌}
 use Rattle.std.proofs.lemmas.List.{length-append as length_append}
 use Rattle.ppm_grammar.specs.Rows.{In, first, later, Item, Take, Part, Row, Grammar}
 use Rattle.ppm_grammar.specs.Derivation.{Due, Within, due, Mark, mark, counting, inside, Derives, nothing, token, part}
-use Rattle.ppm_grammar.specs.Predictive.{some, is_empty, same_kind, may_be_empty, LiesBelow, HasGround, IsPredictive}
+use Rattle.ppm_grammar.specs.Predictive.{is_empty, same_kind, may_be_empty, LiesBelow, HasGround}
 use Rattle.ppm_grammar.specs.Stack.{Move, move, ahead, counted, or_else, chosen, move_in, move_of, next_within, next, step, can_end}
 use Rattle.ppm_grammar.proofs.ListLemmas.{number_below, same_number, some_in, and_left, and_right}
 

@@ -1,15 +1,15 @@
 -- Tokens have one tree within the limits or one fault: the table's test gives what the stack needs, the walk over the tokens
 -- gives one of the two, and each fault is what the tokens go on to.
-use Rattle.std.proofs.Common.{◌≡◌, Bool, true, List, [], ◌∷◌, refl, subst, inl, inr}
-use Rattle.std.specs.Prelude.{Option, Some, None}
+use Rattle.std.proofs.Common.{◌≡◌, Bool, true, List, [], ◌∷◌, subst, inl, inr}
+use Rattle.std.specs.Prelude.{Some}
 use Rattle.ppm_grammar.specs.Rows.{Grammar}
-use Rattle.ppm_grammar.specs.Derivation.{Mark, IsText, beginning}
+use Rattle.ppm_grammar.specs.Derivation.{beginning}
 use Rattle.ppm_grammar.specs.Limits.{Limits, Tally, none_counted}
 use Rattle.ppm_grammar.specs.Faults.{Fault, HasTree, HasFault}
 use Rattle.ppm_grammar.specs.Predictive.{is_predictive, IsPredictive}
 use Rattle.ppm_grammar.specs.Stack.{fault_at}
-use Rattle.ppm_grammar.specs.Reading.{Reads, Fails}
-use Rattle.ppm_grammar.specs.Correct.{HasOneAnswer, HaveOneAnswer, ParserAnswers, ParsersAnswer}
+use Rattle.ppm_grammar.specs.Reading.{Reads}
+use Rattle.ppm_grammar.specs.Correct.{HaveOneAnswer, ParsersAnswer}
 use Rattle.ppm_grammar.proofs.PredictiveLemmas.{predictive}
 use Rattle.ppm_grammar.proofs.DerivationLemmas.{one_text}
 use Rattle.ppm_grammar.proofs.FaultLemmas.{Answer, answer, told, tree_has_none}
@@ -34,9 +34,9 @@ module _ {T K P V C : Type 0} (g : Grammar T K P V C) (follows : P → K → Boo
   pub tree_read : {ts : List T} {v : V} {c : Tally} → Reads g l none_counted (beginning g) ts (v ∷ []) c [] → HasTree g l ts v
   tree_read r = record { marks = r.marks; text = r.derived; keeps = r.keeps }
 
-  -- tokens that fail where a text is to come have the fault
-  pub fault_told : {ts : List T} {f : Fault} → Fails g l none_counted (beginning g) ts (Some f) → HasFault g l ts f
-  fault_told {ts = ts} {f = f} h = go (answer g l follows p p.grounded ts) (h.tells [] f refl)
+  -- the fault where a text is to come is that of the tokens
+  pub fault_told : (ts : List T) (f : Fault) → fault_at g l (beginning g) none_counted ts ≡ Some f → HasFault g l ts f
+  fault_told ts f h = go (answer g l follows p p.grounded ts) h
     where
       go : Answer g l ts → fault_at g l (beginning g) none_counted ts ≡ Some f → HasFault g l ts f
       go (inl a) is = let none = tree_has_none g l follows p ts a.0 a.1 in absurd (cc)
@@ -51,4 +51,4 @@ have_one_answer g follows test l ts = record {
 }
 
 pub parsers_answer : {T K P V C : Type 0} (g : Grammar T K P V C) → ParsersAnswer g
-parsers_answer g follows test l ts = record { tree = λ v c r. tree_read g follows test l r; fault = λ f h. fault_told g follows test l h }
+parsers_answer g follows test l ts = record { tree = λ v c r. tree_read g follows test l r; fault = λ f h. fault_told g follows test l ts f h }

@@ -4,7 +4,8 @@ use Rattle.ppm_grammar.specs.Rows.{Grammar}
 use Rattle.ppm_grammar.specs.Derivation.{Mark, IsText, beginning}
 use Rattle.ppm_grammar.specs.Limits.{Limits, Tally, none_counted}
 use Rattle.ppm_grammar.specs.Faults.{Fault, HasTree, HasFault}
-use Rattle.ppm_grammar.specs.Reading.{Reads, Fails}
+use Rattle.ppm_grammar.specs.Stack.{fault_at}
+use Rattle.ppm_grammar.specs.Reading.{Reads}
 use Rattle.ppm_grammar.specs.Predictive.{is_predictive, IsPredictive}
 
 -- tokens have one value and one list of marks at most; they have a tree within the limits or a fault, never both, and one fault at most
@@ -23,10 +24,10 @@ HaveOneAnswer {T} {K} {P} {V} {C} g =
 abbrev pub TestTells : {T K P V C : Type 0} → Grammar T K P V C → Type 0
 TestTells {T} {K} {P} {V} {C} g = (follows : P → K → Bool) → is_predictive g follows ≡ true → IsPredictive g follows
 
--- what a parser reads whole has a tree, and where it stops the tokens have that fault
+-- what a parser reads whole has a tree, and the fault where it stops is the fault of the tokens
 pub record ParserAnswers {T K P V C : Type 0} (g : Grammar T K P V C) (l : Limits T C) (ts : List T) : Type 0 where
   pub tree : (v : V) (c : Tally) → Reads g l none_counted (beginning g) ts (v ∷ []) c [] → HasTree g l ts v
-  pub fault : (f : Fault) → Fails g l none_counted (beginning g) ts (Some f) → HasFault g l ts f
+  pub fault : (f : Fault) → fault_at g l (beginning g) none_counted ts ≡ Some f → HasFault g l ts f
 
 -- so it is with all tokens, whatever the limits, where one token tells the row
 abbrev pub ParsersAnswer : {T K P V C : Type 0} → Grammar T K P V C → Type 0

@@ -1,6 +1,6 @@
 -- When one token tells which row of a part comes: a test of a table.
 use Rattle.std.specs.Prelude.{◌≡◌, ℕ, zero, suc, ◌==◌, Bool, true, false, not, ◌&&◌, ◌||◌, ◌<◌, nat_le, nat_lt, List, [], ◌∷◌, length, if◌then◌else◌}
-use Rattle.ppm_grammar.specs.Rows.{In, Listing, Item, Take, Part, Row, Grammar}
+use Rattle.ppm_grammar.specs.Rows.{In, Item, Take, Part, Row, Grammar}
 
 -- some element passes the test
 abbrev pub some : {A : Type 0} → (A → Bool) → List A → Bool

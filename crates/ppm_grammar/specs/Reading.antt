@@ -1,7 +1,7 @@
 -- What a parser's functions answer.
-use Rattle.std.specs.Prelude.{◌≡◌, ℕ, ◌+◌, List, [], ◌∷◌, ◌++◌, Option, Some, None}
-use Rattle.ppm_grammar.specs.Rows.{Part, Grammar}
-use Rattle.ppm_grammar.specs.Derivation.{Due, Within, Mark, Derives}
+use Rattle.std.specs.Prelude.{◌≡◌, ℕ, ◌+◌, List, ◌++◌, Option, Some}
+use Rattle.ppm_grammar.specs.Rows.{Item, Grammar}
+use Rattle.ppm_grammar.specs.Derivation.{Due, due, Mark, Derives}
 use Rattle.ppm_grammar.specs.Limits.{Limits, Tally, adds, after_marks, Keeps, Leaves}
 use Rattle.ppm_grammar.specs.Faults.{Fault}
 use Rattle.ppm_grammar.specs.Stack.{trace, ons, fault_at}
@@ -20,15 +20,14 @@ pub record Fails {T K P V C : Type 0} (g : Grammar T K P V C) (l : Limits T C) (
     (o : Option Fault) : Type 0 where
   pub tells : (st : List (Due K P)) (f : Fault) → o ≡ Some f → fault_at g l (xs ++ st) c ts ≡ Some f
 
--- with so many more openings, and so much more of one number, the part is read, and of the number it leaves this
-pub record ReadsPart {T K P V C : Type 0} (g : Grammar T K P V C) (l : Limits T C) (depth which room : ℕ) (n : P) (ts : List T) (v : V)
-    (left : ℕ) (rest : List T) : Type 0 where
+-- with so many more openings, and so much more of one number, the items are read, and of the number they leave this
+pub record ReadsItems {T K P V C : Type 0} (g : Grammar T K P V C) (l : Limits T C) (depth which room : ℕ) (xs : List (Item K P)) (ts : List T)
+    (vs : List V) (left : ℕ) (rest : List T) : Type 0 where
   pub used : ℕ
   pub spent : used + left ≡ room
-  pub reads : (d : ℕ) (c : Tally) → d + depth ≡ l.depth → Leaves l which room c →
-      Reads g l c (Within d (Part n) ∷ []) ts (v ∷ []) (adds which used c) rest
+  pub reads : (d : ℕ) (c : Tally) → d + depth ≡ l.depth → Leaves l which room c → Reads g l c (due d xs) ts vs (adds which used c) rest
 
--- with so many more openings, and so much more of one number, the tokens have the fault where the part is to come
-pub record FailsPart {T K P V C : Type 0} (g : Grammar T K P V C) (l : Limits T C) (depth which room : ℕ) (n : P) (ts : List T)
+-- with so many more openings, and so much more of one number, the tokens have the fault where the items are to come
+pub record FailsItems {T K P V C : Type 0} (g : Grammar T K P V C) (l : Limits T C) (depth which room : ℕ) (xs : List (Item K P)) (ts : List T)
     (o : Option Fault) : Type 0 where
-  pub tells : (d : ℕ) (c : Tally) → d + depth ≡ l.depth → Leaves l which room c → Fails g l c (Within d (Part n) ∷ []) ts o
+  pub tells : (d : ℕ) (c : Tally) → d + depth ≡ l.depth → Leaves l which room c → Fails g l c (due d xs) ts o

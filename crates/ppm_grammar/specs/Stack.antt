@@ -1,5 +1,5 @@
 -- What is still to come where tokens were read, by one token of look-ahead, and the fault that they have.
-use Rattle.std.specs.Prelude.{◌≡◌, ℕ, zero, suc, Bool, true, false, ◌&&◌, nat_lt, List, [], ◌∷◌, ◌++◌, length, Option, Some, None, if◌then◌else◌}
+use Rattle.std.specs.Prelude.{ℕ, zero, suc, Bool, true, false, ◌&&◌, nat_lt, List, [], ◌∷◌, ◌++◌, length, Option, Some, None, if◌then◌else◌}
 use Rattle.ppm_grammar.specs.Rows.{Item, Take, Part, Row, Grammar}
 use Rattle.ppm_grammar.specs.Derivation.{Due, Within, due, Mark, mark, inside}
 use Rattle.ppm_grammar.specs.Limits.{Limits, Tally, passed, after_token}
