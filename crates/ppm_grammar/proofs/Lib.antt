@@ -10,3 +10,4 @@ pub mod LeadsLemmas
 pub mod RowsLemmas
 pub mod TallyLemmas
 pub mod StopsLemmas
+pub mod ItemsLemmas

@@ -1,5 +1,5 @@
 -- What a parser's functions answer.
-use Rattle.std.specs.Prelude.{◌≡◌, ℕ, ◌+◌, List, ◌++◌, Option, Some}
+use Rattle.std.specs.Prelude.{◌≡◌, ℕ, ◌+◌, ◌≤◌, List, ◌++◌, length, Option, Some}
 use Rattle.ppm_grammar.specs.Rows.{Item, Grammar}
 use Rattle.ppm_grammar.specs.Derivation.{Due, due, Mark, Derives}
 use Rattle.ppm_grammar.specs.Limits.{Limits, Tally, adds, after_marks, Keeps, Leaves}
@@ -20,11 +20,12 @@ pub record Fails {T K P V C : Type 0} (g : Grammar T K P V C) (l : Limits T C) (
     (o : Option Fault) : Type 0 where
   pub tells : (st : List (Due K P)) (f : Fault) → o ≡ Some f → fault_at g l (xs ++ st) c ts ≡ Some f
 
--- with so many more openings, and so much more of one number, the items are read, and of the number they leave this
+-- with so many more openings, and so much more of one number, the items are read, and of the number they leave this; the rest is no longer than the tokens
 pub record ReadsItems {T K P V C : Type 0} (g : Grammar T K P V C) (l : Limits T C) (depth which room : ℕ) (xs : List (Item K P)) (ts : List T)
     (vs : List V) (left : ℕ) (rest : List T) : Type 0 where
   pub used : ℕ
   pub spent : used + left ≡ room
+  pub shorter : length rest ≤ length ts
   pub reads : (d : ℕ) (c : Tally) → d + depth ≡ l.depth → Leaves l which room c → Reads g l c (due d xs) ts vs (adds which used c) rest
 
 -- with so many more openings, and so much more of one number, the tokens have the fault where the items are to come
