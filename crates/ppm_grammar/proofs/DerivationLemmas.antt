@@ -175,7 +175,8 @@ module _ {T K P V C : Type 0} (g : Grammar T K P V C) where
             let b = begun z zs here in
             row_over d n row ts (xs ++ st) z zs ls i here b
             ∙ ap (count_first row.counts) one
-            ∙ rw (b.marks, two) (count_ons row.counts b.m b.others (ons ms (trace g st rest)) ∙ sym (ons_append (counting row.counts (b.m ∷ b.others)) ms (trace g st rest)))
+            ∙ rw (b.marks, two) (count_ons row.counts b.m b.others (ons ms (trace g st rest))
+            ∙ sym (ons_append (counting row.counts (b.m ∷ b.others)) ms (trace g st rest)))
 
     -- no token both follows the part, which may be empty, and begins one of its rows
     never_both : (n : P) (row : Row K P V C) (x : Item K P) (xs : List (Item K P)) (ts : List T) (ms : List (Mark C)) → may_be_empty g n ≡ true →

@@ -124,7 +124,18 @@ module _ {T K P V C : Type 0} (g : Grammar T K P V C) (l : Limits T C) where
 
             deep : (b : Bool) → nat_lt l.depth m.marked.depth ≡ b → Answer all
             deep true e =
-                inr (TooDeep (g.place t), record { front = front; found = t; marks = ms; last = m.marked; stands = stands; begins = begins; deep = grind (arith, e) })
+                inr (
+                  TooDeep (g.place t),
+                  record {
+                    front = front;
+                    found = t;
+                    marks = ms;
+                    last = m.marked;
+                    stands = stands;
+                    begins = begins;
+                    deep = grind (arith, e);
+                  },
+                )
             deep false e = many (passed l.most (after_token l m.marked.counts t ts (after_marks l ms (front ++ t ∷ ts) none_counted))) refl
               where
                 many : (o : Option ℕ) → passed l.most (after_token l m.marked.counts t ts (after_marks l ms (front ++ t ∷ ts) none_counted)) ≡ o → Answer all
@@ -246,10 +257,11 @@ module _ {T K P V C : Type 0} (g : Grammar T K P V C) (l : Limits T C) where
         let c = they_come g follows p (h.front ++ h.found ∷ []) (h.marks ++ h.last ∷ []) h.begins in
         let b = last c.moves h.front h.found h.marks h.last refl refl in
         let shallow : nat_lt l.depth b.move.marked.depth ≡ false = rw b.marked (grind (arith, h.shallow)) in
-        let counts : passed l.most (after_token l h.last.counts h.found s.more (after_marks l h.marks (h.front ++ h.found ∷ s.more) none_counted)) ≡ Some which =
+        let before = after_marks l h.marks (h.front ++ h.found ∷ s.more) none_counted in
+        let counts : passed l.most (after_token l h.last.counts h.found s.more before) ≡ Some which =
         ap (passed l.most) (sym (after_on h.front h.found s.more h.marks h.last none_counted (moves_each g b.moves)))
         ∙ ap (λ q. passed l.most (after_marks l (h.marks ++ h.last ∷ []) q none_counted)) (sym s.shape) ∙ h.many in
-        let many : passed l.most (after_token l b.move.marked.counts h.found s.more (after_marks l h.marks (h.front ++ h.found ∷ s.more) none_counted)) ≡ Some which =
+        let many : passed l.most (after_token l b.move.marked.counts h.found s.more before) ≡ Some which =
         rw b.marked counts in
         up_to h.front s.more ts h.found h.marks b.before b.moves s.shape s.keeps
         ∙ rw (b.is, shallow, many) (ap (λ q. Some (TooMany q which)) s.at_place)

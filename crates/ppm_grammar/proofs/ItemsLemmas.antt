@@ -1,13 +1,13 @@
 -- The chain of a row's parts for a parser that knows how many openings and how much of one number are left.
-use Rattle.std.proofs.Common.{◌≡◌, ℕ, zero, suc, ◌+◌, ◌≤◌, Bool, true, false, List, [], ◌∷◌, ◌++◌, length, refl, sym, ◌∙◌, ap, subst, arith}
-use Rattle.std.specs.Prelude.{Option, Some, None}
+use Rattle.std.proofs.Common.{◌≡◌, ℕ, suc, ◌+◌, ◌≤◌, Bool, true, false, List, [], ◌∷◌, ◌++◌, length, refl, sym, ◌∙◌, ap, subst, arith}
+use Rattle.std.specs.Prelude.{Option, Some}
 use Rattle.std.proofs.lemmas.List.{append-nil as append_nil}
 use Rattle.ppm_grammar.specs.Rows.{In, Item, Take, Part, Row, Grammar}
-use Rattle.ppm_grammar.specs.Derivation.{Due, Within, due, inside}
+use Rattle.ppm_grammar.specs.Derivation.{Within, due, inside}
 use Rattle.ppm_grammar.specs.Limits.{Limits, Tally, adds, after_token, Leaves}
 use Rattle.ppm_grammar.specs.Faults.{Fault, Expected, Ended, TooDeep, TooMany}
-use Rattle.ppm_grammar.specs.Predictive.{may_be_empty, starts, IsPredictive}
-use Rattle.ppm_grammar.specs.Reading.{Reads, Fails, ReadsItems, FailsItems}
+use Rattle.ppm_grammar.specs.Predictive.{may_be_empty, can_start, starts, IsPredictive}
+use Rattle.ppm_grammar.specs.Reading.{Reads, ReadsItems, FailsItems}
 use Rattle.ppm_grammar.proofs.LeadsLemmas as base
 use Rattle.ppm_grammar.proofs.LeadsLemmas.{LeadsTo, fronts, backs}
 use Rattle.ppm_grammar.proofs.RowsLemmas as rows
@@ -31,7 +31,8 @@ module _ {T K P V C : Type 0} (g : Grammar T K P V C) (l : Limits T C) where
 
   module _ {depth which : ℕ} where
     -- one chain behind another
-    pub on : {room left last : ℕ} {xs ys zs : List (Item K P)} {ts mid rest : List T} {f h : List V → List V} → LeadsItems depth which room xs ts f left ys mid →
+    pub on : {room left last : ℕ} {xs ys zs : List (Item K P)} {ts mid rest : List T} {f h : List V → List V} →
+        LeadsItems depth which room xs ts f left ys mid →
         LeadsItems depth which left ys mid h last zs rest → LeadsItems depth which room xs ts (λ vs. f (h vs)) last zs rest
     on {left = left} {xs = xs} {zs = zs} {ts = ts} {rest = rest} {f = f} {h = h} a b = record {
       used = a.used + b.used;
@@ -44,7 +45,8 @@ module _ {T K P V C : Type 0} (g : Grammar T K P V C) (l : Limits T C) where
 
     -- what a chain leads on to is read, or fails
     pub reads : {room left last : ℕ} {xs ys : List (Item K P)} {ts mid rest : List T} {f : List V → List V} {vs : List V} →
-        LeadsItems depth which room xs ts f left ys mid → ReadsItems g l depth which left ys mid vs last rest → ReadsItems g l depth which room xs ts (f vs) last rest
+        LeadsItems depth which room xs ts f left ys mid → ReadsItems g l depth which left ys mid vs last rest →
+        ReadsItems g l depth which room xs ts (f vs) last rest
     reads {left = left} {xs = xs} {ts = ts} {rest = rest} {f = f} {vs = vs} a b = record {
       used = a.used + b.used;
       spent = omega (arith, a.spent, b.spent);
@@ -54,7 +56,8 @@ module _ {T K P V C : Type 0} (g : Grammar T K P V C) (l : Limits T C) where
           ((a.leads d c deep some).reads rest vs _ (b.reads d (adds which a.used c) deep (leaves_less l a.used left a.spent some)));
     }
 
-    pub fails : {room left : ℕ} {xs ys : List (Item K P)} {ts mid : List T} {f : List V → List V} {o : Option Fault} → LeadsItems depth which room xs ts f left ys mid →
+    pub fails : {room left : ℕ} {xs ys : List (Item K P)} {ts mid : List T} {f : List V → List V} {o : Option Fault} →
+        LeadsItems depth which room xs ts f left ys mid →
         FailsItems g l depth which left ys mid o → FailsItems g l depth which room xs ts o
     fails {left = left} a b = record {
       tells = λ d c deep some. base.fails g l (a.leads d c deep some) (b.tells d (adds which a.used c) deep (leaves_less l a.used left a.spent some));
@@ -87,7 +90,8 @@ module _ {T K P V C : Type 0} (g : Grammar T K P V C) (l : Limits T C) where
         same (omega (arith, ap length is)) (λ d c deep some. base.leads_token g l is kind (omega (arith, deep)) (leaves_free l some))
 
     -- a part that is read, or fails
-    pub a_part : {room left : ℕ} {n : P} {v : V} {xs : List (Item K P)} {ts rest : List T} → ReadsItems g l depth which room (Part n ∷ []) ts (v ∷ []) left rest →
+    pub a_part : {room left : ℕ} {n : P} {v : V} {xs : List (Item K P)} {ts rest : List T} →
+        ReadsItems g l depth which room (Part n ∷ []) ts (v ∷ []) left rest →
         LeadsItems depth which room (Part n ∷ xs) ts (λ vs. v ∷ vs) left xs rest
     a_part a = record { used = a.used; spent = a.spent; shorter = a.shorter; leads = λ d c deep some. base.leads_part g l (a.reads d c deep some) }
 
@@ -125,19 +129,35 @@ module _ {T K P V C : Type 0} (g : Grammar T K P V C) (l : Limits T C) where
           row.counts ≡ [] → row.items ≡ Part m ∷ ys → row.opens ≡ false → ((d : ℕ) → IsShut g l follows p (due d xs) ts) →
           LeadsItems depth which room (Part n ∷ xs) ts (λ vs. row.make (fronts row.items vs) ∷ backs row.items vs) room (row.items ++ xs) ts
       a_first {n = n} {xs = xs} {ts = ts} none row both empty counts items shut closed = same (omega arith) (λ d c deep some.
-        let at : inside row d ≡ d = rw shut refl in
-        subst (λ q. LeadsTo g l c (Within d (Part n) ∷ due d xs) ts (λ vs. row.make (fronts row.items vs) ∷ backs row.items vs) c q ts)
-        (ap (λ q. due q row.items ++ due d xs) at ∙ sym (due_both d row.items xs))
-        (rows.leads_first g l follows p none row both empty counts items (closed d)))
+          let at : inside row d ≡ d = rw shut refl in
+          subst (λ q. LeadsTo g l c (Within d (Part n) ∷ due d xs) ts (λ vs. row.make (fronts row.items vs) ∷ backs row.items vs) c q ts)
+          (ap (λ q. due q row.items ++ due d xs) at ∙ sym (due_both d row.items xs))
+          (rows.leads_first g l follows p none row both empty counts items (closed d)))
 
       pub an_only : {room : ℕ} {n m : P} {ys xs : List (Item K P)} {ts : List T} (row : Row K P V C) → g.rows n ≡ row ∷ [] → row.counts ≡ [] →
           row.items ≡ Part m ∷ ys → row.opens ≡ false →
           LeadsItems depth which room (Part n ∷ xs) ts (λ vs. row.make (fronts row.items vs) ∷ backs row.items vs) room (row.items ++ xs) ts
       an_only {n = n} {xs = xs} {ts = ts} row one counts items shut = same (omega arith) (λ d c deep some.
-        let at : inside row d ≡ d = rw shut refl in
-        subst (λ q. LeadsTo g l c (Within d (Part n) ∷ due d xs) ts (λ vs. row.make (fronts row.items vs) ∷ backs row.items vs) c q ts)
-        (ap (λ q. due q row.items ++ due d xs) at ∙ sym (due_both d row.items xs))
-        (rows.leads_only g l follows p row one counts items))
+          let at : inside row d ≡ d = rw shut refl in
+          subst (λ q. LeadsTo g l c (Within d (Part n) ∷ due d xs) ts (λ vs. row.make (fronts row.items vs) ∷ backs row.items vs) c q ts)
+          (ap (λ q. due q row.items ++ due d xs) at ∙ sym (due_both d row.items xs))
+          (rows.leads_only g l follows p row one counts items))
+
+      -- a row that begins with a part, where a token is in front that can begin it
+      pub a_corner : {room left : ℕ} {n : P} {t : T} {xs : List (Item K P)} {ts rest : List T} (row : Row K P V C) (amount : ℕ) → In row (g.rows n) →
+          row.opens ≡ false → ts ≡ t ∷ rest → can_start g (starts g) row.items (g.kind t) ≡ true →
+          ((c : Tally) → after_token l row.counts t rest c ≡ adds which amount c) → amount + left ≡ room →
+          LeadsItems depth which room (Part n ∷ xs) ts (λ vs. row.make (fronts row.items vs) ∷ backs row.items vs) left (row.items ++ xs) ts
+      a_corner {n = n} {xs = xs} {ts = ts} row amount i shut is can counts spent = record {
+        used = amount;
+        spent = spent;
+        shorter = omega arith;
+        leads = λ d c deep some.
+            let at : inside row d ≡ d = rw shut refl in
+            subst (λ q. LeadsTo g l c (Within d (Part n) ∷ due d xs) ts (λ vs. row.make (fronts row.items vs) ∷ backs row.items vs) (adds which amount c) q ts)
+            (ap (λ q. due q row.items ++ due d xs) at ∙ sym (due_both d row.items xs))
+            (rows.leads_into g l follows p row i is can (counts c));
+      }
 
       -- a part that is empty
       pub a_past : {room : ℕ} {n : P} {xs : List (Item K P)} {ts : List T} (row : Row K P V C) → In row (g.rows n) → row.items ≡ [] →
@@ -176,20 +196,23 @@ module _ {T K P V C : Type 0} (g : Grammar T K P V C) (l : Limits T C) where
         (append_nil (due (inside row d) ys) ∙ ap (λ q. due q ys) at)
         (rows.leads_row g l follows p row i items is kind (rw at (omega (arith, deep, less))) (counts c) (some.free amount (omega (arith, spent))))
 
-    pub open_reads : {room left last : ℕ} {n : P} {x : K} {t : T} {ys : List (Item K P)} {ts behind rest : List T} {vs : List V} (row : Row K P V C) (amount : ℕ) →
+    pub open_reads : {room left last : ℕ} {n : P} {x : K} {t : T} {ys : List (Item K P)} {ts behind rest : List T} {vs : List V} (row : Row K P V C)
+        (amount : ℕ) →
         In row (g.rows n) → row.items ≡ Take x ∷ ys → row.opens ≡ true → ts ≡ t ∷ behind → g.kind t ≡ x →
-        ((c : Tally) → after_token l row.counts t behind c ≡ adds which amount c) → amount + left ≡ room → ReadsItems g l inner which left ys behind vs last rest →
+        ((c : Tally) → after_token l row.counts t behind c ≡ adds which amount c) → amount + left ≡ room →
+        ReadsItems g l inner which left ys behind vs last rest →
         ReadsItems g l depth which room (Part n ∷ []) ts (row.make (g.value t ∷ fronts ys vs) ∷ backs ys vs) last rest
-    open_reads {room = room} {left = left} {n = n} {t = t} {ys = ys} {ts = ts} {behind = behind} {rest = rest} {vs = vs} row amount i items opens is kind counts spent a = record {
-      used = amount + a.used;
-      spent = omega (arith, a.spent, spent);
-      shorter = omega (arith, ap length is, a.shorter);
-      reads = λ d c deep some.
-          let lead = opened {room = room} {d = d} left {c = c} {n = n} {ys = ys} row amount i items opens is kind counts spent deep some in
-          let inner_reads = a.reads (suc d) (adds which amount c) (omega (arith, deep, less)) (leaves_less l amount left spent some) in
-          subst (λ q. Reads g l c (Within d (Part n) ∷ []) ts (row.make (g.value t ∷ fronts ys vs) ∷ backs ys vs) q rest) (adds_twice which amount a.used c)
-          (lead.reads rest vs _ inner_reads);
-    }
+    open_reads {room = room} {left = left} {n = n} {t = t} {ys = ys} {ts = ts} {behind = behind} {rest = rest} {vs = vs} row amount i items opens is
+        kind counts spent a = record {
+          used = amount + a.used;
+          spent = omega (arith, a.spent, spent);
+          shorter = omega (arith, ap length is, a.shorter);
+          reads = λ d c deep some.
+              let lead = opened {room = room} {d = d} left {c = c} {n = n} {ys = ys} row amount i items opens is kind counts spent deep some in
+              let inner_reads = a.reads (suc d) (adds which amount c) (omega (arith, deep, less)) (leaves_less l amount left spent some) in
+              subst (λ q. Reads g l c (Within d (Part n) ∷ []) ts (row.make (g.value t ∷ fronts ys vs) ∷ backs ys vs) q rest) (adds_twice which amount a.used c)
+              (lead.reads rest vs _ inner_reads);
+        }
 
     pub open_fails : {room left : ℕ} {n : P} {x : K} {t : T} {ys : List (Item K P)} {ts behind : List T} {o : Option Fault} (row : Row K P V C) (amount : ℕ) →
         In row (g.rows n) → row.items ≡ Take x ∷ ys → row.opens ≡ true → ts ≡ t ∷ behind → g.kind t ≡ x →

@@ -30,7 +30,8 @@ count_none (m ∷ ms) = refl
 
 module _ {T K P V C : Type 0} (g : Grammar T K P V C) (l : Limits T C) where
   -- where the items are to come and this was counted, the tokens lead on to others in front of the rest, where that was counted; the values become these
-  pub record LeadsTo (c : Tally) (xs : List (Due K P)) (ts : List T) (values : List V → List V) (c' : Tally) (ys : List (Due K P)) (rest : List T) : Type 0 where
+  pub record LeadsTo (c : Tally) (xs : List (Due K P)) (ts : List T) (values : List V → List V) (c' : Tally) (ys : List (Due K P))
+      (rest : List T) : Type 0 where
     pub reads : (end : List T) (vs : List V) (c'' : Tally) → Reads g l c' ys rest vs c'' end → Reads g l c xs ts (values vs) c'' end
     pub same : (st : List (Due K P)) → fault_at g l (xs ++ st) c ts ≡ fault_at g l (ys ++ st) c' rest
 
@@ -61,8 +62,10 @@ module _ {T K P V C : Type 0} (g : Grammar T K P V C) (l : Limits T C) where
       Derives g (xs ++ ys) ts (vs ++ ws) (ms ++ ns) rest
   join nothing r = r
   join (token is d) r = token is (join d r)
-  join {xs = Within d (Part n) ∷ xs} {ys = ys} {ts = ts} {rest = rest} {ws = ws} {ns = ns} (part {row = row} {us = us} {vs = vs} {ls = ls} {ms = ms} i inner d') r =
-      subst (λ q. Derives g (Within d (Part n) ∷ xs ++ ys) ts (row.make us ∷ vs ++ ws) q rest) (sym (append_assoc (counting row.counts ls) ms ns)) (part i inner (join d' r))
+  join {xs = Within d (Part n) ∷ xs} {ys = ys} {ts = ts} {rest = rest} {ws = ws} {ns = ns}
+      (part {row = row} {us = us} {vs = vs} {ls = ls} {ms = ms} i inner d') r =
+      subst (λ q. Derives g (Within d (Part n) ∷ xs ++ ys) ts (row.make us ∷ vs ++ ws) q rest) (sym (append_assoc (counting row.counts ls) ms ns))
+      (part i inner (join d' r))
 
   -- marks behind others
   keeps_both : (front mid : List T) (ms ns : List (Mark C)) (c : Tally) → length ms ≡ length front → Keeps l ms (front ++ mid) c →
@@ -88,8 +91,10 @@ module _ {T K P V C : Type 0} (g : Grammar T K P V C) (l : Limits T C) where
       marks = a.marks ++ r.marks;
       derived = join a.derived r.derived;
       keeps = subst (λ q. Keeps l (a.marks ++ r.marks) q c) (sym s.shape)
-          (keeps_both s.front mid a.marks r.marks c s.each (subst (λ q. Keeps l a.marks q c) s.shape a.keeps) (subst (Keeps l r.marks mid) (sym counts) r.keeps));
-      counts = ap (λ q. after_marks l (a.marks ++ r.marks) q c) s.shape ∙ after_both s.front mid a.marks r.marks c s.each ∙ ap (after_marks l r.marks mid) counts ∙ r.counts;
+          (keeps_both s.front mid a.marks r.marks c s.each (subst (λ q. Keeps l a.marks q c) s.shape a.keeps)
+          (subst (Keeps l r.marks mid) (sym counts) r.keeps));
+      counts = ap (λ q. after_marks l (a.marks ++ r.marks) q c) s.shape ∙ after_both s.front mid a.marks r.marks c s.each
+          ∙ ap (after_marks l r.marks mid) counts ∙ r.counts;
       passes = λ st. ap (λ q. trace g q ts) (append_assoc xs ys st) ∙ a.passes (ys ++ st) ∙ ap (ons a.marks) (r.passes st) ∙ sym (ons_append a.marks r.marks _);
     };
     same = told;

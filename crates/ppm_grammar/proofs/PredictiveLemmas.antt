@@ -46,7 +46,8 @@ module _ {T K P V C : Type 0} (g : Grammar T K P V C) (follows : P → K → Boo
     pub predictive : IsPredictive g follows
     predictive = record {
       starts_is = λ n k. is_alike _ _ (and_right _ _ (and_left _ _ (and_left _ _ (told n k))));
-      single = λ n k row other i j h h'. one_passes (λ row. can_start g (starts g) row.items k) (and_left _ _ (and_left _ _ (and_left _ _ (told n k)))) i j h h';
+      single = λ n k row other i j h h'.
+          one_passes (λ row. can_start g (starts g) row.items k) (and_left _ _ (and_left _ _ (and_left _ _ (told n k)))) i j h h';
       one_empty = λ n row other i j h h'. one_passes (λ row. is_empty row) (and_right _ _ (and_left _ _ (and_left _ _ (sound n)))) i j h h';
       apart = λ n k h h'. excluded _ _ _ (and_right _ _ (and_left _ _ (told n k))) h h';
       solid = λ n m row xs i is. solid n m row.items xs is (every_in (λ row. begins_below g n row.items) (and_right _ _ (and_left _ _ (sound n))) i);

@@ -38,7 +38,8 @@ module _ {T K P V C : Type 0} (g : Grammar T K P V C) (l : Limits T C) where
   count_keeps : (cs : List C) (m : Mark C) (ms : List (Mark C)) (t : T) (ts : List T) (c c' : Tally) → after_token l cs t ts c ≡ c' →
       Keeps l (m ∷ ms) (t ∷ ts) c' → Keeps l (counting cs (m ∷ ms)) (t ∷ ts) c
   count_keeps cs m ms t ts c c' tally k =
-      let same : after_token l (cs ++ m.counts) t ts c ≡ after_token l m.counts t ts c' = after_append cs m.counts t ts c ∙ ap (after_token l m.counts t ts) tally in
+      let same : after_token l (cs ++ m.counts) t ts c ≡ after_token l m.counts t ts c' =
+      after_append cs m.counts t ts c ∙ ap (after_token l m.counts t ts) tally in
       (k.0, ap (passed l.most) same ∙ k.1, subst (Keeps l ms ts) (sym same) k.2)
 
   count_after : (cs : List C) (m : Mark C) (ms : List (Mark C)) (t : T) (ts : List T) (c c' : Tally) → after_token l cs t ts c ≡ c' →
@@ -91,7 +92,8 @@ module _ {T K P V C : Type 0} (g : Grammar T K P V C) (l : Limits T C) where
       same = told;
     }
       where
-        over : (st : List (Due K P)) → trace g (Within d (Part n) ∷ xs ++ st) ts ≡ count_first row.counts (trace g (due (inside row d) row.items ++ (xs ++ st)) ts)
+        over : (st : List (Due K P)) →
+            trace g (Within d (Part n) ∷ xs ++ st) ts ≡ count_first row.counts (trace g (due (inside row d) row.items ++ (xs ++ st)) ts)
         over st =
             rw (is, part_step g follows p d n (g.kind t) row (xs ++ st) i can)
             (count_goes_on row.counts (step g (due (inside row d) row.items ++ (xs ++ st)) (g.kind t)) (λ later. trace g later rest))
@@ -107,10 +109,14 @@ module _ {T K P V C : Type 0} (g : Grammar T K P V C) (l : Limits T C) where
             Reads g l c (Within d (Part n) ∷ xs) ts (row.make (fronts row.items vs) ∷ backs row.items vs) c'' end
         reads end vs c'' r = go (parts (inside row d) row.items r.derived)
           where
-            go : Parts (inside row d) row.items xs ts vs r.marks end → Reads g l c (Within d (Part n) ∷ xs) ts (row.make (fronts row.items vs) ∷ backs row.items vs) c'' end
-            go s = begun row.items refl (λ y ys here. begins g follows p s.left (inside row d) y ys (due (inside row d) ys) (ap (due (inside row d)) here) n row i here)
+            go : Parts (inside row d) row.items xs ts vs r.marks end →
+                Reads g l c (Within d (Part n) ∷ xs) ts (row.make (fronts row.items vs) ∷ backs row.items vs) c'' end
+            go s =
+                begun row.items refl
+                (λ y ys here. begins g follows p s.left (inside row d) y ys (due (inside row d) ys) (ap (due (inside row d)) here) n row i here)
               where
-                begun : (items : List (Item K P)) → row.items ≡ items → ((y : Item K P) (ys : List (Item K P)) → row.items ≡ y ∷ ys → Begun g follows p y ts s.firsts) →
+                begun : (items : List (Item K P)) → row.items ≡ items →
+                    ((y : Item K P) (ys : List (Item K P)) → row.items ≡ y ∷ ys → Begun g follows p y ts s.firsts) →
                     Reads g l c (Within d (Part n) ∷ xs) ts (row.make (fronts row.items vs) ∷ backs row.items vs) c'' end
                 begun [] here b = let never = rw here at can in absurd (cc)
                 begun (y ∷ ys) here b =
@@ -124,7 +130,8 @@ module _ {T K P V C : Type 0} (g : Grammar T K P V C) (l : Limits T C) where
                     (count_keeps row.counts m.m (m.others ++ s.lasts) t rest c c' tally (subst (λ q. Keeps l q (t ∷ rest) c') first_marks keeps))))
                     (ap (λ q. after_marks l q ts c) (sym last_marks) ∙ ap (λ q. after_marks l (counting row.counts (m.m ∷ m.others ++ s.lasts)) q c) is
                     ∙ count_after row.counts m.m (m.others ++ s.lasts) t rest c c' tally ∙ ap (λ q. after_marks l q (t ∷ rest) c') (sym first_marks) ∙ counts)
-                    (λ st. over st ∙ ap (count_first row.counts) (ap (λ q. trace g q ts) (sym (append_assoc (due (inside row d) row.items) xs st)) ∙ r.passes st)
+                    (λ st. over st
+                    ∙ ap (count_first row.counts) (ap (λ q. trace g q ts) (sym (append_assoc (due (inside row d) row.items) xs st)) ∙ r.passes st)
                     ∙ ap (λ q. count_first row.counts (ons q (trace g st end))) first_marks
                     ∙ count_ons row.counts m.m (m.others ++ s.lasts) (trace g st end) ∙ ap (λ q. ons q (trace g st end)) last_marks)
 
@@ -137,6 +144,7 @@ module _ {T K P V C : Type 0} (g : Grammar T K P V C) (l : Limits T C) where
       where
         not_below : may_be_empty g m ≡ false
         not_below = (p.solid n m row ys within items).0
+
         go : (ts : List T) → (ts ≡ [] → (may_be_empty g n && can_end g st) ≡ false) →
             ((t : T) (rest : List T) → ts ≡ t ∷ rest → starts g m (g.kind t) ≡ false → step g (Within d (Part n) ∷ st) (g.kind t) ≡ None) →
             trace g (Within d (Part n) ∷ st) ts ≡ trace g (due (inside row d) row.items ++ st) ts
@@ -147,8 +155,8 @@ module _ {T K P V C : Type 0} (g : Grammar T K P V C) (l : Limits T C) where
             can true e =
                 let begins : can_start g (starts g) row.items (g.kind t) ≡ true = rw items e in
                 let same = part_step g follows p d n (g.kind t) row st within begins
-                      ∙ ap (λ q. counted q (step g (due (inside row d) row.items ++ st) (g.kind t))) none
-                      ∙ counted_none (step g (due (inside row d) row.items ++ st) (g.kind t)) in
+                ∙ ap (λ q. counted q (step g (due (inside row d) row.items ++ st) (g.kind t))) none
+                ∙ counted_none (step g (due (inside row d) row.items ++ st) (g.kind t)) in
                 rw same refl
             can false e = rw (stuck t ts refl e, items, next_none g follows p (inside row d) m (g.kind t) e, not_below) refl
 
@@ -159,7 +167,7 @@ module _ {T K P V C : Type 0} (g : Grammar T K P V C) (l : Limits T C) where
       reads = λ end vs c'' r.
           let s = parts (inside row d) row.items r.derived in
           let marks : r.marks ≡ counting row.counts s.firsts ++ s.lasts =
-              s.marks ∙ ap (λ q. q ++ s.lasts) (sym (count_none s.firsts)) ∙ ap (λ q. counting q s.firsts ++ s.lasts) (sym none) in
+          s.marks ∙ ap (λ q. q ++ s.lasts) (sym (count_none s.firsts)) ∙ ap (λ q. counting q s.firsts ++ s.lasts) (sym none) in
           row_reads within r s (subst (λ q. Keeps l q ts c) marks r.keeps) (ap (λ q. after_marks l q ts c) (sym marks) ∙ r.counts)
           (λ st. over st ∙ r.passes st ∙ ap (λ q. ons q (trace g st end)) marks);
       same = λ st. ap (λ q. fault_of g l ts q c) (over st);
@@ -174,12 +182,14 @@ module _ {T K P V C : Type 0} (g : Grammar T K P V C) (l : Limits T C) where
         LeadsTo g l c (Within d (Part n) ∷ xs) ts (λ vs. row.make (fronts row.items vs) ∷ backs row.items vs) c (due (inside row d) row.items ++ xs) ts
     leads_only {c = c} {d = d} {n = n} {m = m} {ys = ys} {xs = xs} {ts = ts} row rows none items =
         leads_corner {c = c} {d = d} {n = n} {xs = xs} {ts = ts} row within none
-          (λ st. corner_trace d n m row ys within none items ts (xs ++ st) (λ e. rw not_empty refl) (λ t rest is e. stuck t e (xs ++ st)))
+        (λ st. corner_trace d n m row ys within none items ts (xs ++ st) (λ e. rw not_empty refl) (λ t rest is e. stuck t e (xs ++ st)))
       where
         within : In row (g.rows n)
         within = subst (In row) (sym rows) first
+
         not_empty : may_be_empty g n ≡ false
         not_empty = rw (rows, items) refl
+
         stuck : (t : T) → starts g m (g.kind t) ≡ false → (st : List (Due K P)) → step g (Within d (Part n) ∷ st) (g.kind t) ≡ None
         stuck t e st =
             let never : starts g n (g.kind t) ≡ false = p.starts_is n (g.kind t) ∙ rw (rows, items, e) refl in
@@ -195,13 +205,15 @@ module _ {T K P V C : Type 0} (g : Grammar T K P V C) (l : Limits T C) where
         LeadsTo g l c (Within d (Part n) ∷ xs) ts (λ vs. row.make (fronts row.items vs) ∷ backs row.items vs) c (due (inside row d) row.items ++ xs) ts
     leads_first {c = c} {d = d} {n = n} {m = m} {ys = ys} {xs = xs} {ts = ts} empty row rows empties none items shut =
         leads_corner {c = c} {d = d} {n = n} {xs = xs} {ts = ts} row within none
-          (λ st. corner_trace d n m row ys within none items ts (xs ++ st) (λ e. rw (may_be g follows p n empty other empties, shut.ends st e) refl)
-            (λ t rest is e. passed_over g follows p d n (g.kind t) (xs ++ st) (may_be g follows p n empty other empties) (never t e) ∙ shut.stuck st t rest is))
+        (λ st. corner_trace d n m row ys within none items ts (xs ++ st) (λ e. rw (may_be g follows p n empty other empties, shut.ends st e) refl)
+        (λ t rest is e. passed_over g follows p d n (g.kind t) (xs ++ st) (may_be g follows p n empty other empties) (never t e) ∙ shut.stuck st t rest is))
       where
         within : In row (g.rows n)
         within = subst (In row) (sym rows) (later first)
+
         other : In empty (g.rows n)
         other = subst (In empty) (sym rows) first
+
         never : (t : T) → starts g m (g.kind t) ≡ false → starts g n (g.kind t) ≡ false
         never t e = p.starts_is n (g.kind t) ∙ rw (rows, empties, items, e) refl
 
@@ -222,7 +234,8 @@ module _ {T K P V C : Type 0} (g : Grammar T K P V C) (l : Limits T C) where
     front (part {d = d} {n = n} {row = row} {ts = ts} {ls = ls} i inner r) full =
         go row.items refl (λ y ys here. begins g follows p inner (inside row d) y ys (due (inside row d) ys) (ap (due (inside row d)) here) n row i here)
       where
-        go : (items : List (Item K P)) → row.items ≡ items → ((y : Item K P) (ys : List (Item K P)) → row.items ≡ y ∷ ys → Begun g follows p y ts ls) → Front n ts
+        go : (items : List (Item K P)) → row.items ≡ items →
+            ((y : Item K P) (ys : List (Item K P)) → row.items ≡ y ∷ ys → Begun g follows p y ts ls) → Front n ts
         go [] here begun = let never = may_be g follows p n row i here in absurd (cc)
         go (y ∷ ys) here begun =
             let b = begun y ys here in
@@ -235,7 +248,7 @@ module _ {T K P V C : Type 0} (g : Grammar T K P V C) (l : Limits T C) where
     leads_read {c = c} {d = d} {n = n} {m = m} {ys = ys} {xs = xs} row i none items r =
         let b = front r.derived (p.solid n m row ys i items).0 in
         leads_into {c = c} {d = d} {n = n} {xs = xs} row i b.shape (ap (λ q. can_start g (starts g) q (g.kind b.t)) items ∙ b.starts_it)
-          (ap (λ q. after_token l q b.t b.rest c) none)
+        (ap (λ q. after_token l q b.t b.rest c) none)
 
     -- a part that may be empty, in front of the end or of a token that begins none of its rows
     past_trace : (d : ℕ) (n : P) (ts : List T) (st : List (Due K P)) → may_be_empty g n ≡ true →

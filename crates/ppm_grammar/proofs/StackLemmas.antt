@@ -133,7 +133,8 @@ module _ {T K P V C : Type 0} (g : Grammar T K P V C) where
                 ≡ counted row.counts (move_in g (next g) (inside row d) row.items k)
             go true e below =
                 let same : row ≡ other = single other first e in
-                rw (← same) (first_there _ _ (is_counted row.counts (move_in g (next g) (inside row d) row.items k) ∙ move_there (inside row d) row.items k ∙ h))
+                rw (← same)
+                (first_there _ _ (is_counted row.counts (move_in g (next g) (inside row d) row.items k) ∙ move_there (inside row d) row.items k ∙ h))
             go false e below =
                 let none = none_there (move_in g (next g) (inside other d) other.items k) (move_there (inside other d) other.items k ∙ e) in
                 rw none below

@@ -49,7 +49,8 @@ module _ {T K P V C : Type 0} (g : Grammar T K P V C) (l : Limits T C) where
     }
 
     -- no token that can begin the part, which has tokens
-    pub ended : {c : Tally} {d : ℕ} {n : P} {xs : List (Due K P)} {ts : List T} → may_be_empty g n ≡ false → ts ≡ [] → Fails g l c (Within d (Part n) ∷ xs) ts (Some Ended)
+    pub ended : {c : Tally} {d : ℕ} {n : P} {xs : List (Due K P)} {ts : List T} → may_be_empty g n ≡ false → ts ≡ [] →
+        Fails g l c (Within d (Part n) ∷ xs) ts (Some Ended)
     ended full is = record { tells = λ st f e. rw (is, full) e }
 
     pub unexpected : {c : Tally} {d : ℕ} {n : P} {t : T} {xs : List (Due K P)} {ts rest : List T} → may_be_empty g n ≡ false → ts ≡ t ∷ rest →

@@ -81,7 +81,11 @@ module _ {T K P V C : Type 0} (g : Grammar T K P V C) where
   given : {d : ℕ} {n : P} {xs : List (Due K P)} {ts mid rest : List T} {vs : List V} {ms ns : List (Mark C)} → Gives d n ts ms mid →
       Derives g xs mid vs ns rest → Derived (Within d (Part n) ∷ xs) ts (ms ++ ns) rest
   given {d = d} {n = n} {xs = xs} {ts = ts} {rest = rest} {vs = vs} {ns = ns} a r =
-      record { values = _; derived = subst (λ q. Derives g (Within d (Part n) ∷ xs) ts (a.row.make a.values ∷ vs) (q ++ ns) rest) a.counted_so (part a.within a.derived r) }
+      record {
+        values = a.row.make a.values ∷ vs;
+        derived = subst (λ q. Derives g (Within d (Part n) ∷ xs) ts (a.row.make a.values ∷ vs) (q ++ ns) rest) a.counted_so
+            (part a.within a.derived r);
+      }
 
   -- the first row that there is a move of
   record Found (next : ℕ → P → K → Option (Move K P C)) (d : ℕ) (rows : List (Row K P V C)) (k : K) (m : Move K P C) : Type 0 where
