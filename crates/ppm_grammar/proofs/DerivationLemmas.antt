@@ -13,6 +13,7 @@ abbrev pub items_of : {K P : Type 0} → List (Due K P) → List (Item K P)
 items_of [] = []
 items_of (Within d x ∷ xs) = x ∷ items_of xs
 
+-- the items of a row are those that were put down
 pub items_of_due : {K P : Type 0} (d : ℕ) (xs : List (Item K P)) → items_of (due d xs) ≡ xs
 items_of_due d [] = refl
 items_of_due d (x ∷ xs) = ap (λ q. x ∷ q) (items_of_due d xs)
@@ -22,15 +23,18 @@ abbrev pub count_first : {C : Type 0} → List C → Trace C → Trace C
 count_first cs (On m r) = On (mark m.depth (cs ++ m.counts)) r
 count_first cs r = r
 
+-- so it is with marks
 pub count_ons : {C : Type 0} (cs : List C) (m : Mark C) (ms : List (Mark C)) (r : Trace C) →
     count_first cs (ons (m ∷ ms) r) ≡ ons (counting cs (m ∷ ms)) r
 count_ons cs m ms r = refl
 
+-- and behind a move
 pub count_goes_on : {K P C : Type 0} (cs : List C) (o : Option (Move K P C)) (next : List (Due K P) → Trace C) →
     goes_on (counted cs o) next ≡ count_first cs (goes_on o next)
 count_goes_on cs None next = refl
 count_goes_on cs (Some m) next = refl
 
+-- marks behind others
 pub ons_append : {C : Type 0} (ms ns : List (Mark C)) (r : Trace C) → ons (ms ++ ns) r ≡ ons ms (ons ns r)
 ons_append [] ns r = refl
 ons_append (m ∷ ms) ns r = ap (On m) (ons_append ms ns r)
@@ -42,6 +46,7 @@ module _ {T K P V C : Type 0} (g : Grammar T K P V C) where
     pub values : vs ≡ []
     pub marks : ms ≡ []
 
+  -- whose tokens are the rest
   pub derives_nothing : {xs : List (Due K P)} {ts rest : List T} {vs : List V} {ms : List (Mark C)} → Derives g xs ts vs ms rest → xs ≡ [] →
       Nothing ts vs ms rest
   derives_nothing nothing h = record { tokens = refl; values = refl; marks = refl }
@@ -64,6 +69,7 @@ module _ {T K P V C : Type 0} (g : Grammar T K P V C) where
       pub marks : ms ≡ m ∷ others
       pub starts_so : (xs : List (Item K P)) → can_start g (starts g) (x ∷ xs) (g.kind t) ≡ true
 
+    -- the first of two lists that are one
     same_due : {d e : ℕ} {x y : Item K P} {xs zs : List (Due K P)} → Within d x ∷ xs ≡ Within e y ∷ zs → x ≡ y
     same_due h = cc
 

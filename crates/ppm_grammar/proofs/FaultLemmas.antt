@@ -156,6 +156,7 @@ module _ {T K P V C : Type 0} (g : Grammar T K P V C) (l : Limits T C) where
                       },
                     )
 
+    -- so tokens have a tree within the limits or a fault
     pub answer : ((n : P) → HasGround g n) → (ts : List T) → Answer ts
     answer ground ts = walk ground ts [] ts [] (beginning g) refl here tt
 
@@ -175,6 +176,7 @@ module _ {T K P V C : Type 0} (g : Grammar T K P V C) (l : Limits T C) where
       is : step g before (g.kind t) ≡ Some move
       marked : move.marked ≡ m
 
+    -- which is there where several can come
     last : {st later : List (Due K P)} {all : List T} {marks : List (Mark C)} → Moves g st all marks later →
         (front : List T) (t : T) (ms : List (Mark C)) (m : Mark C) → all ≡ front ++ t ∷ [] → marks ≡ ms ++ m ∷ [] → Last st front t ms m
     last here [] t ms m a b = cc
@@ -251,6 +253,7 @@ module _ {T K P V C : Type 0} (g : Grammar T K P V C) (l : Limits T C) where
         up_to h.front s.more ts h.found h.marks b.before b.moves s.shape s.keeps
         ∙ rw (b.is, deep) (ap (λ q. Some (TooDeep q)) s.at_place)
 
+    -- or passes a limit on a number
     told_many : (ts : List T) (place which : ℕ) → IsTooMany g l ts place which → fault_at g l (beginning g) none_counted ts ≡ Some (TooMany place which)
     told_many ts place which h =
         let s = h.stands in

@@ -56,6 +56,7 @@ module _ {T K P V C : Type 0} (g : Grammar T K P V C) (l : Limits T C) where
           ((a.leads d c deep some).reads rest vs _ (b.reads d (adds which a.used c) deep (leaves_less l a.used left a.spent some)));
     }
 
+    -- where the others fail, so does the whole
     pub fails : {room left : ℕ} {xs ys : List (Item K P)} {ts mid : List T} {f : List V → List V} {o : Option Fault} →
         LeadsItems depth which room xs ts f left ys mid →
         FailsItems g l depth which left ys mid o → FailsItems g l depth which room xs ts o
@@ -95,6 +96,7 @@ module _ {T K P V C : Type 0} (g : Grammar T K P V C) (l : Limits T C) where
         LeadsItems depth which room (Part n ∷ xs) ts (λ vs. v ∷ vs) left xs rest
     a_part a = record { used = a.used; spent = a.spent; shorter = a.shorter; leads = λ d c deep some. base.leads_part g l (a.reads d c deep some) }
 
+    -- a part that fails does so in front of others
     pub stops : {room : ℕ} {n : P} {xs : List (Item K P)} {ts : List T} {o : Option Fault} → FailsItems g l depth which room (Part n ∷ []) ts o →
         FailsItems g l depth which room (Part n ∷ xs) ts o
     stops a = record { tells = λ d c deep some. base.stops g l (a.tells d c deep some) }
@@ -103,6 +105,7 @@ module _ {T K P V C : Type 0} (g : Grammar T K P V C) (l : Limits T C) where
     pub token_ended : {room : ℕ} {x : K} {xs : List (Item K P)} {ts : List T} → ts ≡ [] → FailsItems g l depth which room (Take x ∷ xs) ts (Some Ended)
     token_ended is = record { tells = λ d c deep some. stop.token_ended g l is }
 
+    -- another token stands there
     pub token_unexpected : {room : ℕ} {x : K} {t : T} {xs : List (Item K P)} {ts rest : List T} → ts ≡ t ∷ rest → (g.kind t ≡ x → ⊥) →
         FailsItems g l depth which room (Take x ∷ xs) ts (Some (Expected (g.place t)))
     token_unexpected is other = record { tells = λ d c deep some. stop.token_unexpected g l is other }
@@ -134,6 +137,7 @@ module _ {T K P V C : Type 0} (g : Grammar T K P V C) (l : Limits T C) where
           (ap (λ q. due q row.items ++ due d xs) at ∙ sym (due_both d row.items xs))
           (rows.leads_first g l follows p none row both empty counts items (closed d)))
 
+      -- the only row of a part
       pub an_only : {room : ℕ} {n m : P} {ys xs : List (Item K P)} {ts : List T} (row : Row K P V C) → g.rows n ≡ row ∷ [] → row.counts ≡ [] →
           row.items ≡ Part m ∷ ys → row.opens ≡ false →
           LeadsItems depth which room (Part n ∷ xs) ts (λ vs. row.make (fronts row.items vs) ∷ backs row.items vs) room (row.items ++ xs) ts
@@ -170,6 +174,7 @@ module _ {T K P V C : Type 0} (g : Grammar T K P V C) (l : Limits T C) where
           FailsItems g l depth which room (Part n ∷ xs) ts (Some Ended)
       ended full is = record { tells = λ d c deep some. stop.ended g l follows p full is }
 
+      -- another token stands there
       pub unexpected : {room : ℕ} {n : P} {t : T} {xs : List (Item K P)} {ts rest : List T} → may_be_empty g n ≡ false → ts ≡ t ∷ rest →
           starts g n (g.kind t) ≡ false → FailsItems g l depth which room (Part n ∷ xs) ts (Some (Expected (g.place t)))
       unexpected full is none = record { tells = λ d c deep some. stop.unexpected g l follows p full is none }
@@ -186,6 +191,7 @@ module _ {T K P V C : Type 0} (g : Grammar T K P V C) (l : Limits T C) where
 
   -- a row that begins with a token and opens: behind the token, one opening fewer is left
   module _ {depth inner which : ℕ} (less : depth ≡ suc inner) (follows : P → K → Bool) (p : IsPredictive g follows) where
+    -- the token leads on to the items behind it
     opened : {room d : ℕ} (left : ℕ) {c : Tally} {n : P} {x : K} {t : T} {ys : List (Item K P)} {ts rest : List T} (row : Row K P V C) (amount : ℕ) →
         In row (g.rows n) → row.items ≡ Take x ∷ ys → row.opens ≡ true → ts ≡ t ∷ rest → g.kind t ≡ x →
         ((c : Tally) → after_token l row.counts t rest c ≡ adds which amount c) → amount + left ≡ room → d + depth ≡ l.depth → Leaves l which room c →
@@ -196,6 +202,7 @@ module _ {T K P V C : Type 0} (g : Grammar T K P V C) (l : Limits T C) where
         (append_nil (due (inside row d) ys) ∙ ap (λ q. due q ys) at)
         (rows.leads_row g l follows p row i items is kind (rw at (omega (arith, deep, less))) (counts c) (some.free amount (omega (arith, spent))))
 
+    -- where these are read, so is the part
     pub open_reads : {room left last : ℕ} {n : P} {x : K} {t : T} {ys : List (Item K P)} {ts behind rest : List T} {vs : List V} (row : Row K P V C)
         (amount : ℕ) →
         In row (g.rows n) → row.items ≡ Take x ∷ ys → row.opens ≡ true → ts ≡ t ∷ behind → g.kind t ≡ x →
@@ -214,6 +221,7 @@ module _ {T K P V C : Type 0} (g : Grammar T K P V C) (l : Limits T C) where
               (lead.reads rest vs _ inner_reads);
         }
 
+    -- where these fail, so does the part
     pub open_fails : {room left : ℕ} {n : P} {x : K} {t : T} {ys : List (Item K P)} {ts behind : List T} {o : Option Fault} (row : Row K P V C) (amount : ℕ) →
         In row (g.rows n) → row.items ≡ Take x ∷ ys → row.opens ≡ true → ts ≡ t ∷ behind → g.kind t ≡ x →
         ((c : Tally) → after_token l row.counts t behind c ≡ adds which amount c) → amount + left ≡ room → FailsItems g l inner which left ys behind o →
@@ -225,6 +233,7 @@ module _ {T K P V C : Type 0} (g : Grammar T K P V C) (l : Limits T C) where
           base.fails g l lead inner_fails;
     }
 
+    -- a token with which the number passes its limit
     pub open_too_many : {n : P} {x : K} {t : T} {ys xs : List (Item K P)} {ts rest : List T} (row : Row K P V C) → In row (g.rows n) → row.items ≡ Take x ∷ ys →
         row.opens ≡ true → ts ≡ t ∷ rest → g.kind t ≡ x → ((c : Tally) → after_token l row.counts t rest c ≡ adds which 1 c) →
         FailsItems g l depth which 0 (Part n ∷ xs) ts (Some (TooMany (g.place t) which))

@@ -18,6 +18,7 @@ fronts [] vs = []
 fronts (x ∷ xs) [] = []
 fronts (x ∷ xs) (v ∷ vs) = v ∷ fronts xs vs
 
+-- the values behind those
 abbrev pub backs : {K P V : Type 0} → List (Item K P) → List V → List V
 backs [] vs = vs
 backs (x ∷ xs) [] = []
@@ -35,6 +36,7 @@ module _ {T K P V C : Type 0} (g : Grammar T K P V C) (l : Limits T C) where
     pub reads : (end : List T) (vs : List V) (c'' : Tally) → Reads g l c' ys rest vs c'' end → Reads g l c xs ts (values vs) c'' end
     pub same : (st : List (Due K P)) → fault_at g l (xs ++ st) c ts ≡ fault_at g l (ys ++ st) c' rest
 
+  -- one chain behind another
   pub on : {c c' c'' : Tally} {xs ys zs : List (Due K P)} {ts mid rest : List T} {f h : List V → List V} → LeadsTo c xs ts f c' ys mid →
       LeadsTo c' ys mid h c'' zs rest → LeadsTo c xs ts (λ vs. f (h vs)) c'' zs rest
   on a b = record { reads = λ end vs e r. a.reads end _ e (b.reads end vs e r); same = λ st. a.same st ∙ b.same st }
@@ -75,6 +77,7 @@ module _ {T K P V C : Type 0} (g : Grammar T K P V C) (l : Limits T C) where
   keeps_both (t ∷ front) mid [] ns c each a b = absurd (grind (arith, each))
   keeps_both (t ∷ front) mid (m ∷ ms) ns c each a b = (a.0, a.1, keeps_both front mid ms ns _ (grind (arith, each)) a.2 b)
 
+  -- what was counted after both
   after_both : (front mid : List T) (ms ns : List (Mark C)) (c : Tally) → length ms ≡ length front →
       after_marks l (ms ++ ns) (front ++ mid) c ≡ after_marks l ns mid (after_marks l ms (front ++ mid) c)
   after_both [] mid [] [] c each = refl

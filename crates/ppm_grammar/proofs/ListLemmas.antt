@@ -9,10 +9,12 @@ pub and_left : (a b : Bool) → (a && b) ≡ true → a ≡ true
 and_left true b h = refl
 and_left false b h = cc
 
+-- the second
 pub and_right : (a b : Bool) → (a && b) ≡ true → b ≡ true
 and_right true b h = h
 and_right false b h = cc
 
+-- two that hold
 pub both : (a b : Bool) → a ≡ true → b ≡ true → (a && b) ≡ true
 both true b h k = k
 both false b h k = cc
@@ -22,6 +24,7 @@ pub or_left : (a b : Bool) → a ≡ true → (a || b) ≡ true
 or_left true b h = refl
 or_left false b h = cc
 
+-- the second
 pub or_right : (a b : Bool) → b ≡ true → (a || b) ≡ true
 or_right true b h = refl
 or_right false b h = h
@@ -38,10 +41,12 @@ excluded true true false h k l = refl
 excluded true false c h k l = cc
 excluded false b c h k l = cc
 
+-- what is not true
 pub not_true : (a : Bool) → not a ≡ true → a ≡ false
 not_true true h = cc
 not_true false h = refl
 
+-- answers that are alike are one
 pub is_alike : (a b : Bool) → alike a b ≡ true → a ≡ b
 is_alike true true h = refl
 is_alike true false h = cc
@@ -60,6 +65,7 @@ module _ {A : Type 0} where
     pub within : In found xs
     pub passes : p found ≡ true
 
+  -- there is one where some element passes
   pub some_in : (p : A → Bool) (xs : List A) → some p xs ≡ true → Passing p xs
   some_in p [] h = cc
   some_in p (x ∷ xs) h = go (p x) refl h (some_in p xs)
@@ -68,6 +74,7 @@ module _ {A : Type 0} where
       go true e h below = record { found = x; within = first; passes = e }
       go false e h below = let r = below h in record { found = r.found; within = later r.within; passes = r.passes }
 
+  -- and some element passes where there is one
   pub in_some : (p : A → Bool) {x : A} {xs : List A} → In x xs → p x ≡ true → some p xs ≡ true
   in_some p first h = or_left _ _ h
   in_some p (later i) h = or_right _ _ (in_some p i h)
@@ -98,6 +105,7 @@ module _ {A : Type 0} where
   element_in (y ∷ xs) zero x h = let same : x ≡ y = cc in rw same first
   element_in (y ∷ xs) (suc n) x h = later (element_in xs n x h)
 
+  -- its place is below the length
   element_below : (xs : List A) (n : ℕ) (x : A) → element xs n ≡ Some x → n < length xs
   element_below [] n x h = cc
   element_below (y ∷ xs) zero x h = omega arith
@@ -108,6 +116,7 @@ module _ {A : Type 0} where
     pub listed_in : (a : A) → In a s.all
     listed_in a = element_in s.all (s.number a) a (s.listed a)
 
+    -- each number is below their count
     pub number_below : (a : A) → s.number a < length s.all
     number_below a = element_below s.all (s.number a) a (s.listed a)
 

@@ -15,6 +15,7 @@ never_cut [] (n ∷ ns) h = cc
 never_cut (m ∷ ms) [] h = cc
 never_cut (m ∷ ms) (n ∷ ns) h = let h' : ons ms Whole ≡ ons ns Cut = cc in never_cut ms ns h'
 
+-- nor is one stuck
 pub never_stuck : {C : Type 0} (ms ns : List (Mark C)) → ons ms Whole ≡ ons ns Stuck → ⊥
 never_stuck [] [] h = cc
 never_stuck [] (n ∷ ns) h = cc
@@ -28,6 +29,7 @@ module _ {T K P V C : Type 0} (g : Grammar T K P V C) where
     there : {st later : List (Due K P)} {t : T} {ts : List T} {m : Move K P C} {ms : List (Mark C)} → step g st (g.kind t) ≡ Some m →
         Moves m.still ts ms later → Moves st (t ∷ ts) (m.marked ∷ ms) later
 
+  -- each token has its mark
   pub moves_each : {st later : List (Due K P)} {ts : List T} {ms : List (Mark C)} → Moves st ts ms later → length ms ≡ length ts
   moves_each here = refl
   moves_each (there is r) = ap suc (moves_each r)
@@ -56,6 +58,7 @@ module _ {T K P V C : Type 0} (g : Grammar T K P V C) where
     moves : Moves st front ms later
     others : trace g later more ≡ ons ns end
 
+  -- token by token
   comes : (st : List (Due K P)) (front more : List T) (ms ns : List (Mark C)) (end : Trace C) → trace g st (front ++ more) ≡ ons (ms ++ ns) end →
       length ms ≡ length front → Comes st front ms more ns end
   comes st [] more [] ns end h each = record { later = st; moves = here; others = h }
@@ -92,6 +95,7 @@ module _ {T K P V C : Type 0} (g : Grammar T K P V C) where
     pub later : List (Due K P)
     pub moves : Moves (beginning g) ts ms later
 
+  -- by what is derived
   pub they_come : (follows : P → K → Bool) → IsPredictive g follows → (ts : List T) (ms : List (Mark C)) → Begins g ts ms → Come ts ms
   they_come follows p ts ms b =
       let c = comes (beginning g) ts b.more ms b.others Whole (text_trace g follows p (ts ++ b.more) b.value (ms ++ b.others) b.text) b.each in

@@ -30,6 +30,7 @@ module _ {T K P V C : Type 0} (g : Grammar T K P V C) (follows : P → K → Boo
       (not_true _ (and_left _ _ h'), grind (arith, less))
 
   module _ (test : is_predictive g follows ≡ true) where
+    -- of each part, and at each kind
     sound : (n : P) → is_sound g follows n ≡ true
     sound n = every_in (λ n. is_sound g follows n) test (listed_in g.parts n)
 

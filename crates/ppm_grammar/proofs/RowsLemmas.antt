@@ -17,6 +17,7 @@ count_none : {C : Type 0} (ms : List (Mark C)) → counting [] ms ≡ ms
 count_none [] = refl
 count_none (m ∷ ms) = refl
 
+-- nor a move
 counted_none : {K P C : Type 0} (o : Option (Move K P C)) → counted [] o ≡ o
 counted_none None = refl
 counted_none (Some m) = refl
@@ -35,6 +36,7 @@ module _ {T K P V C : Type 0} (g : Grammar T K P V C) (l : Limits T C) where
   count_fault cs t ts Stuck c = refl
   count_fault cs t ts (On m r) c = rw (after_append cs m.counts t ts c) refl
 
+  -- so the limits are kept
   count_keeps : (cs : List C) (m : Mark C) (ms : List (Mark C)) (t : T) (ts : List T) (c c' : Tally) → after_token l cs t ts c ≡ c' →
       Keeps l (m ∷ ms) (t ∷ ts) c' → Keeps l (counting cs (m ∷ ms)) (t ∷ ts) c
   count_keeps cs m ms t ts c c' tally k =
@@ -42,6 +44,7 @@ module _ {T K P V C : Type 0} (g : Grammar T K P V C) (l : Limits T C) where
       after_append cs m.counts t ts c ∙ ap (after_token l m.counts t ts) tally in
       (k.0, ap (passed l.most) same ∙ k.1, subst (Keeps l ms ts) (sym same) k.2)
 
+  -- and so much was counted
   count_after : (cs : List C) (m : Mark C) (ms : List (Mark C)) (t : T) (ts : List T) (c c' : Tally) → after_token l cs t ts c ≡ c' →
       after_marks l (counting cs (m ∷ ms)) (t ∷ ts) c ≡ after_marks l (m ∷ ms) (t ∷ ts) c'
   count_after cs m ms t ts c c' tally =
@@ -56,6 +59,7 @@ module _ {T K P V C : Type 0} (g : Grammar T K P V C) (l : Limits T C) where
     right : Derives g ys mid (backs items vs) lasts rest
     marks : ms ≡ firsts ++ lasts
 
+  -- their values apart
   parts : (e : ℕ) (items : List (Item K P)) {ys : List (Due K P)} {ts rest : List T} {vs : List V} {ms : List (Mark C)} →
       Derives g (due e items ++ ys) ts vs ms rest → Parts e items ys ts vs ms rest
   parts e [] d = record { mid = _; firsts = []; lasts = _; left = nothing; right = d; marks = refl }
@@ -160,6 +164,7 @@ module _ {T K P V C : Type 0} (g : Grammar T K P V C) (l : Limits T C) where
                 rw same refl
             can false e = rw (stuck t ts refl e, items, next_none g follows p (inside row d) m (g.kind t) e, not_below) refl
 
+    -- so the tokens lead on to the items of the row
     leads_corner : {c : Tally} {d : ℕ} {n : P} {xs : List (Due K P)} {ts : List T} (row : Row K P V C) → In row (g.rows n) → row.counts ≡ [] →
         ((st : List (Due K P)) → trace g (Within d (Part n) ∷ xs ++ st) ts ≡ trace g (due (inside row d) row.items ++ (xs ++ st)) ts) →
         LeadsTo g l c (Within d (Part n) ∷ xs) ts (λ vs. row.make (fronts row.items vs) ∷ backs row.items vs) c (due (inside row d) row.items ++ xs) ts
@@ -200,6 +205,7 @@ module _ {T K P V C : Type 0} (g : Grammar T K P V C) (l : Limits T C) where
       pub ends : (st : List (Due K P)) → ts ≡ [] → can_end g (xs ++ st) ≡ false
       pub stuck : (st : List (Due K P)) (t : T) (rest : List T) → ts ≡ t ∷ rest → step g (xs ++ st) (g.kind t) ≡ None
 
+    -- so it leads on to the row
     pub leads_first : {c : Tally} {d : ℕ} {n m : P} {ys : List (Item K P)} {xs : List (Due K P)} {ts : List T} (none row : Row K P V C) →
         g.rows n ≡ none ∷ row ∷ [] → none.items ≡ [] → row.counts ≡ [] → row.items ≡ Part m ∷ ys → IsShut xs ts →
         LeadsTo g l c (Within d (Part n) ∷ xs) ts (λ vs. row.make (fronts row.items vs) ∷ backs row.items vs) c (due (inside row d) row.items ++ xs) ts
@@ -229,6 +235,7 @@ module _ {T K P V C : Type 0} (g : Grammar T K P V C) (l : Limits T C) where
       pub shape : ts ≡ t ∷ rest
       pub starts_it : starts g n (g.kind t) ≡ true
 
+    -- by what was derived
     pub front : {d : ℕ} {n : P} {xs : List (Due K P)} {ts rest : List T} {vs : List V} {ms : List (Mark C)} → Derives g (Within d (Part n) ∷ xs) ts vs ms rest →
         may_be_empty g n ≡ false → Front n ts
     front (part {d = d} {n = n} {row = row} {ts = ts} {ls = ls} i inner r) full =
@@ -256,6 +263,7 @@ module _ {T K P V C : Type 0} (g : Grammar T K P V C) (l : Limits T C) where
     past_trace d n [] st e none = rw e refl
     past_trace d n (t ∷ ts) st e none = rw (passed_over g follows p d n (g.kind t) st e (none t ts refl)) refl
 
+    -- so the tokens lead on to what follows
     pub leads_past : {c : Tally} {d : ℕ} {n : P} {xs : List (Due K P)} {ts : List T} (row : Row K P V C) → In row (g.rows n) → row.items ≡ [] →
         ((t : T) (rest : List T) → ts ≡ t ∷ rest → starts g n (g.kind t) ≡ false) → LeadsTo g l c (Within d (Part n) ∷ xs) ts (λ vs. row.make [] ∷ vs) c xs ts
     leads_past {c = c} {d = d} {n = n} {xs = xs} {ts = ts} row i items none = record {

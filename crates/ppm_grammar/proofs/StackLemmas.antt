@@ -13,18 +13,22 @@ is_ahead : {K P C : Type 0} (o : Option (Move K P C)) (st : List (Due K P)) → 
 is_ahead None st = refl
 is_ahead (Some m) st = refl
 
+-- or where its token counts as more
 is_counted : {K P C : Type 0} (cs : List C) (o : Option (Move K P C)) → is_some (counted cs o) ≡ is_some o
 is_counted cs None = refl
 is_counted cs (Some m) = refl
 
+-- one of two is there
 is_either : {A : Type 0} (a b : Option A) → is_some (or_else a b) ≡ (is_some a || is_some b)
 is_either None b = refl
 is_either (Some a) b = refl
 
+-- what is not there is none
 none_there : {A : Type 0} (o : Option A) → is_some o ≡ false → o ≡ None
 none_there None h = refl
 none_there (Some a) h = cc
 
+-- the first of two, if it is there
 first_there : {A : Type 0} (a b : Option A) → is_some a ≡ true → or_else a b ≡ a
 first_there None b h = cc
 first_there (Some a) b h = refl
@@ -34,10 +38,12 @@ pub ahead_twice : {K P C : Type 0} (o : Option (Move K P C)) (xs st : List (Due 
 ahead_twice None xs st = refl
 ahead_twice (Some m) xs st = rw append_assoc refl
 
+-- counts and further items
 ahead_counted : {K P C : Type 0} (cs : List C) (o : Option (Move K P C)) (st : List (Due K P)) → ahead (counted cs o) st ≡ counted cs (ahead o st)
 ahead_counted cs None st = refl
 ahead_counted cs (Some m) st = refl
 
+-- a part that goes on with its row
 chosen_there : {K P C : Type 0} (o : Option (Move K P C)) (b : Bool) (st : List (Due K P)) (other : Option (Move K P C)) → is_some o ≡ true →
     chosen o b st other ≡ ahead o st
 chosen_there None b st other h = cc
@@ -68,6 +74,7 @@ module _ {T K P V C : Type 0} (g : Grammar T K P V C) where
         over below (row ∷ rows) i =
             rw (items below (inside row d) row.items (λ m ys is. (p.solid n m row ys (i row first) is).1), over below rows (λ other j. i other (later j))) refl
 
+    -- the move of a part is that of its rows
     next_is : (d : ℕ) (n : P) (k : K) → next g d n k ≡ move_of g (next g) d (g.rows n) k
     next_is d n k = sym (stable (length g.parts.all) d n k (omega arith))
 
@@ -99,9 +106,11 @@ module _ {T K P V C : Type 0} (g : Grammar T K P V C) where
               over below rows (λ other j. i other (later j)),
             ) refl
 
+    -- a part has a move at the kinds that can come first in it
     pub next_there : (d : ℕ) (n : P) (k : K) → is_some (next g d n k) ≡ starts g n k
     next_there d n k = there_within (length g.parts.all) d n k (omega arith)
 
+    -- and none at others
     pub next_none : (d : ℕ) (n : P) (k : K) → starts g n k ≡ false → next g d n k ≡ None
     next_none d n k h = none_there _ (next_there d n k ∙ h)
 

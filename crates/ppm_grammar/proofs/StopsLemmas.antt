@@ -17,6 +17,7 @@ module _ {T K P V C : Type 0} (g : Grammar T K P V C) (l : Limits T C) where
   pub token_ended : {c : Tally} {d : ℕ} {x : K} {xs : List (Due K P)} {ts : List T} → ts ≡ [] → Fails g l c (Within d (Take x) ∷ xs) ts (Some Ended)
   token_ended is = record { tells = λ st f e. rw is e }
 
+  -- another token stands there
   pub token_unexpected : {c : Tally} {d : ℕ} {x : K} {t : T} {xs : List (Due K P)} {ts rest : List T} → ts ≡ t ∷ rest → (g.kind t ≡ x → ⊥) →
       Fails g l c (Within d (Take x) ∷ xs) ts (Some (Expected (g.place t)))
   token_unexpected {x = x} {t = t} is other = record { tells = λ st f e. rw (is, other_kind g x (g.kind t) other) e }
@@ -39,6 +40,7 @@ module _ {T K P V C : Type 0} (g : Grammar T K P V C) (l : Limits T C) where
           rw (is, row_step d n row x ys t (xs ++ st) i items kind, over) e;
     }
 
+    -- or passes a limit on a number
     pub too_many : {c : Tally} {d which : ℕ} {n : P} {x : K} {t : T} {ys : List (Item K P)} {xs : List (Due K P)} {ts rest : List T} (row : Row K P V C) →
         In row (g.rows n) → row.items ≡ Take x ∷ ys → ts ≡ t ∷ rest → g.kind t ≡ x → inside row d ≤ l.depth →
         passed l.most (after_token l row.counts t rest c) ≡ Some which → Fails g l c (Within d (Part n) ∷ xs) ts (Some (TooMany (g.place t) which))
@@ -53,6 +55,7 @@ module _ {T K P V C : Type 0} (g : Grammar T K P V C) (l : Limits T C) where
         Fails g l c (Within d (Part n) ∷ xs) ts (Some Ended)
     ended full is = record { tells = λ st f e. rw (is, full) e }
 
+    -- another token stands there
     pub unexpected : {c : Tally} {d : ℕ} {n : P} {t : T} {xs : List (Due K P)} {ts rest : List T} → may_be_empty g n ≡ false → ts ≡ t ∷ rest →
         starts g n (g.kind t) ≡ false → Fails g l c (Within d (Part n) ∷ xs) ts (Some (Expected (g.place t)))
     unexpected {d = d} {n = n} {t = t} full is none = record { tells = λ st f e. rw (is, next_none g follows p d n (g.kind t) none, full) e }

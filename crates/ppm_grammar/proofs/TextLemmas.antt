@@ -38,6 +38,7 @@ module _ {T K P V C : Type 0} (g : Grammar T K P V C) where
     pub values : vs ≡ before ++ behind
     pub marks : ms ≡ firsts ++ lasts
 
+  -- by the items of the first
   pub split : (xs : List (Due K P)) {ys : List (Due K P)} {ts rest : List T} {vs : List V} {ms : List (Mark C)} → Derives g (xs ++ ys) ts vs ms rest →
       Splits xs ys ts vs ms rest
   split [] d = record { mid = _; before = []; behind = _; firsts = []; lasts = _; left = nothing; right = d; values = refl; marks = refl }
@@ -93,6 +94,7 @@ module _ {T K P V C : Type 0} (g : Grammar T K P V C) where
     within : In row rows
     is : counted row.counts (move_in g next (inside row d) row.items k) ≡ Some m
 
+  -- which is there where a move is
   first_found : (next : ℕ → P → K → Option (Move K P C)) (d : ℕ) (rows : List (Row K P V C)) (k : K) (m : Move K P C) →
       move_of g next d rows k ≡ Some m → Found next d rows k m
   first_found next d [] k m h = cc
@@ -156,6 +158,7 @@ module _ {T K P V C : Type 0} (g : Grammar T K P V C) where
     within : In row (g.rows n)
     is : row.items ≡ []
 
+  -- by its empty row
   empty_row : (n : P) → may_be_empty g n ≡ true → Empty n
   empty_row n h = let r = some_in (λ row. is_empty row) (g.rows n) h in record { row = r.found; within = r.within; is = go r.found.items r.passes }
     where
@@ -163,6 +166,7 @@ module _ {T K P V C : Type 0} (g : Grammar T K P V C) where
       go [] h = refl
       go (x ∷ xs) h = cc
 
+  -- so it derives nothing in front of others
   pub over_empty : {d : ℕ} {n : P} {st : List (Due K P)} {ts rest : List T} {ms : List (Mark C)} → may_be_empty g n ≡ true → Derived st ts ms rest →
       Derived (Within d (Part n) ∷ st) ts ms rest
   over_empty {d = d} {n = n} {st = st} {ts = ts} h r =
@@ -215,11 +219,13 @@ module _ {T K P V C : Type 0} (g : Grammar T K P V C) where
     pub marks : List (Mark C)
     pub derived : Derives g xs tokens values marks rest
 
+  -- a part in front of others
   part_text : {d : ℕ} {n : P} {row : Row K P V C} {xs : List (Due K P)} {rest : List T} → In row (g.rows n) → (r : Text xs rest) →
       Text (due (inside row d) row.items) r.tokens → Text (Within d (Part n) ∷ xs) rest
   part_text {row = row} i r a =
       record { tokens = a.tokens; values = row.make a.values ∷ r.values; marks = counting row.counts a.marks ++ r.marks; derived = part i a.derived r.derived }
 
+  -- a token in front of others
   take_text : {d : ℕ} (x : K) {xs : List (Due K P)} {rest : List T} → Text xs rest → Text (Within d (Take x) ∷ xs) rest
   take_text {d = d} x r =
       record { tokens = g.sample x ∷ r.tokens; values = g.value (g.sample x) ∷ r.values; marks = mark d [] ∷ r.marks; derived = token (g.sampled x) r.derived }
@@ -251,10 +257,12 @@ module _ {T K P V C : Type 0} (g : Grammar T K P V C) where
     pub shape : ts ≡ front ++ rest
     pub each : length ms ≡ length front
 
+  -- counting more changes no length
   count_each : (cs : List C) (ms : List (Mark C)) → length (counting cs ms) ≡ length ms
   count_each cs [] = refl
   count_each cs (m ∷ ms) = refl
 
+  -- case by case
   pub consumes : {xs : List (Due K P)} {ts rest : List T} {vs : List V} {ms : List (Mark C)} → Derives g xs ts vs ms rest → Consumes ts ms rest
   consumes nothing = record { front = []; shape = refl; each = refl }
   consumes (token {t = t} is r) = let s = consumes r in record { front = t ∷ s.front; shape = ap (λ q. t ∷ q) s.shape; each = ap suc s.each }

@@ -15,6 +15,7 @@ use Rattle.ppm_grammar.proofs.DerivationLemmas.{one_text}
 use Rattle.ppm_grammar.proofs.FaultLemmas.{Answer, answer, told, tree_has_none}
 
 module _ {T K P V C : Type 0} (g : Grammar T K P V C) (follows : P → K → Bool) (test : is_predictive g follows ≡ true) (l : Limits T C) where
+  -- one token tells the row
   p : IsPredictive g follows
   p = predictive g follows test
 
@@ -42,6 +43,7 @@ module _ {T K P V C : Type 0} (g : Grammar T K P V C) (follows : P → K → Boo
       go (inl a) is = let none = tree_has_none g l follows p ts a.0 a.1 in absurd (cc)
       go (inr a) is = let some = told g l follows p p.grounded ts a.0 a.1 in let same : a.0 ≡ f = cc in subst (HasFault g l ts) same a.1
 
+-- the law of one answer
 pub have_one_answer : {T K P V C : Type 0} (g : Grammar T K P V C) → HaveOneAnswer g
 have_one_answer g follows test l ts = record {
   tree = λ v w ms ns a b. one_text g follows (p g follows test l) ts v w ms ns a b;
@@ -50,5 +52,6 @@ have_one_answer g follows test l ts = record {
   one = answer g l follows (p g follows test l) (p g follows test l).grounded ts;
 }
 
+-- the law of parsers
 pub parsers_answer : {T K P V C : Type 0} (g : Grammar T K P V C) → ParsersAnswer g
 parsers_answer g follows test l ts = record { tree = λ v c r. tree_read g follows test l r; fault = λ f h. fault_told g follows test l ts f h }

@@ -101,6 +101,7 @@ module _ {T K P V C : Type 0} (g : Grammar T K P V C) where
   unless_deep true place o = Some (TooDeep place)
   unless_deep false place o = o
 
+  -- and of one that passes a limit on a number
   abbrev pub unless_many : Option ℕ → ℕ → Option Fault → Option Fault
   unless_many (Some which) place o = Some (TooMany place which)
   unless_many None place o = o
