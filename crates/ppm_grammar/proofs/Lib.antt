@@ -1,0 +1,13 @@
+pub mod ListLemmas
+pub mod PredictiveLemmas
+pub mod StackLemmas
+pub mod DerivationLemmas
+pub mod TextLemmas
+pub mod MovesLemmas
+pub mod FaultLemmas
+pub mod Theorem
+pub mod LeadsLemmas
+pub mod RowsLemmas
+pub mod TallyLemmas
+pub mod StopsLemmas
+pub mod ItemsLemmas
