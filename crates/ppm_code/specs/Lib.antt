@@ -1,0 +1,4 @@
+pub mod Acts
+pub mod Capsules
+pub mod Locations
+pub mod Paths
