@@ -1,1 +1,3 @@
 pub mod CapsuleLemmas
+pub mod ConflictLemmas
+pub mod FollowLemmas

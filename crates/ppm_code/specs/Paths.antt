@@ -4,6 +4,13 @@ use Rattle.ppm_code.specs.declared.class.Class.{Class}
 use Rattle.ppm_code.specs.declared.class.Class.TheVariants.{Slot, New, Value, Room, Array}
 use Rattle.ppm_code.specs.declared.class.May.{May}
 use Rattle.ppm_code.specs.declared.class.May.TheVariants.{Work, Read, Write, Branch, Stop}
+use Rattle.ppm_code.specs.declared.act.Act.{Act}
+use Rattle.ppm_code.specs.declared.act.Act.TheVariants.{Sets, Passes, Jumps, Steps, Ends as Stops}
+use Rattle.ppm_code.specs.declared.act.Step.TheVariants.{Loads, Stores, Asks}
+use Rattle.ppm_code.specs.declared.location.FrameWord.TheVariants.{Slot as SlotWord, Value as ValueWord}
+use Rattle.ppm_capsules.specs.Strand.{Own, New as NewWord, Shared}
+use Rattle.ppm_code.specs.Acts.{does}
+use Rattle.ppm_code.specs.Locations.{Where, location_of}
 use Rattle.ppm_code.specs.declared.instr.Instr.{Instr}
 use Rattle.ppm_code.specs.declared.instr.Instr.TheVariants.{LoadSlot, StoreCur, Give, Get, Put, BranchZero, BranchNonZero, Room as RoomFor, StoreNew, Ends}
 
@@ -20,6 +27,28 @@ may (RoomFor n) = Read Room
 may (StoreNew o a) = Write (New o)
 may (Ends e) = Stop
 may _ = Work
+
+-- the class of a location
+abbrev pub class_of : Where → Class
+class_of (Own (SlotWord i)) = Slot i
+class_of (Own ValueWord) = Value
+class_of (NewWord o) = New o
+class_of (Shared x) = Array
+
+-- an act is one of those that an instruction may make; any may be a trap
+abbrev pub Follows : May → Act → Type 0
+Follows m (Stops e) = Unit {0}
+Follows Work (Sets d v) = Unit {0}
+Follows (Read c) (Steps (Loads l d)) = class_of (location_of l) ≡ c
+Follows (Read c) (Steps (Asks n)) = Room ≡ c
+Follows (Write c) (Steps (Stores l v)) = class_of (location_of l) ≡ c
+Follows (Branch t) Passes = Unit {0}
+Follows (Branch t) (Jumps u) = u ≡ t
+Follows _ _ = ⊥
+
+-- what an instruction does is what it may do, whatever the registers hold
+abbrev pub ActsFollow : Type 0
+ActsFollow = (array_words : ℕ) (i : Instr) (g : List ℕ) → Follows (may i) (does array_words i g)
 
 -- the instruction at a place of the capsule may do this
 abbrev pub Does : List Instr → ℕ → May → Type 0
