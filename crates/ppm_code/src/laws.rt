@@ -4,6 +4,7 @@ ghost use Rattle.ppm_capsules.specs.Capsule.{Memory};
 ghost use Rattle.ppm_code.specs.Locations.{Where};
 ghost use Rattle.ppm_code.specs.Paths.{ActsFollow, HasNoConflict};
 ghost use Rattle.ppm_code.specs.Restart.{MayRunAgain, PathsDecide};
+ghost use Rattle.ppm_code.specs.Strands.{CapsulesMayBeginAgain};
 ghost use Rattle.ppm_code.specs.declared.instr.Instr.{Instr};
 
 /// What an instruction does is what it may do, whatever the registers hold.
@@ -17,4 +18,10 @@ pub fn acts_follow()
 pub fn no_conflict_on_paths()
     ensures paths { PathsDecide }
     ensures again { (array_words : ℕ) (is : List Instr) (m : Memory Where) → HasNoConflict is → MayRunAgain array_words is m }
+{}
+
+/// The capsules of a code without conflicts on their paths may be begun again, from any words: they are
+/// those of a table of capsules, whose laws then hold of the code.
+pub fn capsules_may_begin_again()
+    ensures { CapsulesMayBeginAgain }
 {}
