@@ -103,6 +103,7 @@ module _ (is : List Instr) where
     where
       after : Covers (at + 1) r w
       after = passed at (at + 1) (Read (class_of k)) r w here refl (λ d e. cc) c
+
       now : (In k w → ⊥) → WasRead (class_of k) (at + 1)
       now out = elim (c.fresh k) [
         | inl h ↦ absurd (out h.1)
@@ -120,8 +121,9 @@ module _ (is : List Instr) where
       single l s p = elim (decide code_locations l k) [
         | inl e ↦ inl (s, inl e)
         | inr ne ↦ inr (Then 0 at (at + 1) (Write (class_of k)) p here
-          (exposes (class_of l) (Write (class_of k)) (λ e. ne.0 (class_is l k s (sym (one_class (class_of k) (class_of l) e))))) refl)
+            (exposes (class_of l) (Write (class_of k)) (λ e. ne.0 (class_is l k s (sym (one_class (class_of k) (class_of l) e))))) refl)
       ]
+
       still : (l : Where) → Path is (Exposes (class_of l)) 0 at → (IsSingle l × In l (k ∷ w)) ⊎ Path is (Exposes (class_of l)) 0 (at + 1)
       still (Own j) p = single (Own j) tt p
       still (NewWord o) p = single (NewWord o) tt p

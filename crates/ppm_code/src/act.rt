@@ -18,11 +18,16 @@ pub enum Step {
 #[derive(Clone, Copy, Debug, PartialEq, Eq)]
 pub enum End {
     /// The frame goes on with another capsule.
-    Next { capsule: u32 },
+    Next {
+        capsule: u32,
+    },
     /// The frame is over.
     Finish,
     /// The frame is over by a trap, in this line of the source.
-    Trap { trap: Trap, line: u32 },
+    Trap {
+        trap: Trap,
+        line: u32,
+    },
     /// The procedure is called in a new frame; then the frame goes on with a capsule, and with the value
     /// that was given in a slot, if one is named.
     Call {

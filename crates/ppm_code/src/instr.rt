@@ -232,23 +232,13 @@ impl Instr {
                 region,
                 at,
                 line,
-            } => cut_left(
-                line,
-                to,
-                word_in(registers, region),
-                word_in(registers, at),
-            ),
+            } => cut_left(line, to, word_in(registers, region), word_in(registers, at)),
             Instr::CutRight {
                 to,
                 region,
                 at,
                 line,
-            } => cut_right(
-                line,
-                to,
-                word_in(registers, region),
-                word_in(registers, at),
-            ),
+            } => cut_right(line, to, word_in(registers, region), word_in(registers, at)),
             Instr::LoadSlot { to, slot } => {
                 Act::Steps(Step::Loads(Location::Frame(FrameWord::Slot(slot)), to))
             }

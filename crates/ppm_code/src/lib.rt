@@ -15,6 +15,8 @@ mod location;
 mod region;
 mod register;
 mod size;
+#[cfg(test)]
+mod tests;
 mod work;
 
 pub use act::{Act, End, Step};
