@@ -1,9 +1,9 @@
 //! The places of a capsule that paths come to.
 ghost use Rattle.std.specs.Prelude.{◌≡◌, ◌↔◌, ◌⊎◌, ◌<◌, ◌≤◌, ℕ, IsTrue, length};
 ghost use Rattle.ppm_code.specs.Limits.{instr_limit};
-ghost use Rattle.ppm_code.specs.Paths.{GoesTo, Path};
+ghost use Rattle.ppm_code.specs.Paths.{GoesTo, Path, may};
 ghost use Rattle.ppm_code.specs.declared.class.May.TheVariants.{Write};
-ghost use Rattle.ppm_war.specs.Marks.{Allows, IsMarked};
+ghost use Rattle.ppm_war.specs.Marks.{Allows, GoesOnTo, IsMarked};
 
 use ppm_code::{Class, Instr, May};
 
@@ -57,6 +57,17 @@ fn go_on(marks: &mut [bool; 160], may: May, at: usize)
     }
 }
 
+/// Passes the instruction at a place, if the place is marked and the instruction allowed.
+fn pass(marks: &mut [bool; 160], instr: &Instr, at: usize, class: Option<Class>)
+    requires { at < instr_limit }
+    ensures { (to : ℕ) → to < instr_limit → IsMarked marks.new to ↔ (IsMarked marks.old to ⊎ GoesOnTo marks.old class (may instr.now) at to) }
+{
+    let may = instr.may();
+    if marks[at] && allows(class, may) {
+        go_on(marks, may, at);
+    }
+}
+
 /// The places of a capsule that a path comes to from one of them, past instructions that are allowed.
 pub(crate) fn places_from(instrs: &[Instr], from: usize, class: Option<Class>) -> [bool; 160]
     requires { length instrs.now ≤ instr_limit }
@@ -66,10 +77,7 @@ pub(crate) fn places_from(instrs: &[Instr], from: usize, class: Option<Class>) -
     mark(&mut marks, from);
     let mut at = from;
     while at < instrs.len() {
-        let may = instrs[at].may();
-        if marks[at] && allows(class, may) {
-            go_on(&mut marks, may, at);
-        }
+        pass(&mut marks, &instrs[at], at, class);
         at += 1;
     }
     marks
