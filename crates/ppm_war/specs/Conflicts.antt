@@ -16,6 +16,16 @@ pub record IsFirst (P : ℕ → Type 0) (found : Option ℕ) : Type 0 where
   pub some : (n : ℕ) → found ≡ Some n → P n
   pub least : (n k : ℕ) → found ≡ Some n → P k → n ≤ k
 
+-- the read at a place, if there is one, is in conflict with no write
+abbrev pub HasNoConflictAt : List Instr → (read : ℕ) → Type 0
+HasNoConflictAt is read = (write : ℕ) (c : Class) → IsConflict is read write c → ⊥
+
+-- or it is, and with none before this one
+pub record IsFirstConflictAt (is : List Instr) (read : ℕ) (f : Found) : Type 0 where
+  pub at : f.read_at ≡ read
+  pub conflict : IsConflict is f.read_at f.write_at f.class
+  pub least_write : (write : ℕ) (c : Class) → IsConflict is f.read_at write c → f.write_at ≤ write
+
 -- a conflict of a capsule: no other has a lesser read, and none with this read a lesser write
 pub record IsFirstConflict (is : List Instr) (f : Found) : Type 0 where
   pub conflict : IsConflict is f.read_at f.write_at f.class
