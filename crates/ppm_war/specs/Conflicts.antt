@@ -32,11 +32,20 @@ pub record IsFirstConflict (is : List Instr) (f : Found) : Type 0 where
   pub least_read : (read write : ℕ) (c : Class) → IsConflict is read write c → f.read_at ≤ read
   pub least_write : (write : ℕ) (c : Class) → IsConflict is f.read_at write c → f.write_at ≤ write
 
--- no capsule of the code has a conflict
+-- the capsule with a number has no conflict
+abbrev pub HasNoConflictIn : CodeParts → ℕ → Type 0
+HasNoConflictIn code number = HasNoConflict (instrs_of code number)
+
+-- or this is its first
+pub record IsFirstConflictIn (code : CodeParts) (number : ℕ) (c : Conflict) : Type 0 where
+  pub capsule : c.capsule ≡ number
+  pub first : IsFirstConflict (instrs_of code number) (record { read_at = c.read_at; write_at = c.write_at; class = c.class })
+
+-- no capsule of the code has one
 abbrev pub IsFree : CodeParts → Type 0
-IsFree code = (number : ℕ) → HasNoConflict (instrs_of code number)
+IsFree code = (number : ℕ) → HasNoConflictIn code number
 
 -- a conflict of a code: no lesser capsule has one, and in its capsule it is the first
 pub record IsFirstConflictOf (code : CodeParts) (c : Conflict) : Type 0 where
-  pub earlier : (number : ℕ) → number < c.capsule → HasNoConflict (instrs_of code number)
-  pub first : IsFirstConflict (instrs_of code c.capsule) (record { read_at = c.read_at; write_at = c.write_at; class = c.class })
+  pub earlier : (number : ℕ) → number < c.capsule → HasNoConflictIn code number
+  pub first : IsFirstConflictIn code c.capsule c

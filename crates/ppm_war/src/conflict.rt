@@ -1,5 +1,5 @@
 //! The first conflict of a capsule.
-ghost use Rattle.std.specs.Prelude.{◌≡◌, ◌↔◌, ◌<◌, ◌≤◌, IsTrue, MatchOption, length};
+ghost use Rattle.std.specs.Prelude.{◌≡◌, ◌↔◌, ◌<◌, ◌≤◌, IfSome, IsTrue, MatchOption, length};
 ghost use Rattle.ppm_code.specs.Limits.{instr_limit};
 ghost use Rattle.ppm_code.specs.Paths.{Does, HasNoConflict, IsConflict, may};
 ghost use Rattle.ppm_code.specs.declared.class.Class.{Class};
@@ -13,8 +13,8 @@ use ppm_code::{Class, Instr, May};
 /// A conflict of a capsule: an exposed read and a later write of one class. Places count from 0.
 #[derive(Clone, Copy, Debug, PartialEq, Eq)]
 pub struct Found {
-    pub read_at: usize,
-    pub write_at: usize,
+    pub read_at: u32,
+    pub write_at: u32,
     pub class: Class,
 }
 
@@ -31,7 +31,8 @@ fn is_write(instrs: &[Instr], marks: &[bool; 160], at: usize, class: Class) -> b
 fn write_after(instrs: &[Instr], read_at: usize, class: Class) -> Option<usize>
     requires most { length instrs.now ≤ instr_limit }
     requires reads { Does instrs.now read_at (Read class) }
-    ensures { IsFirst (λ write. IsConflict instrs.now read_at write class) result }
+    ensures first { IsFirst (λ write. IsConflict instrs.now read_at write class) result }
+    ensures bound { IfSome result (λ write. write < length instrs.now) }
 {
     let before = places_from(instrs, 0, Some(class));
     if !before[read_at] {
@@ -70,8 +71,8 @@ fn conflict_at(instrs: &[Instr], read_at: usize) -> Option<Found>
     match class_read(&instrs[read_at]) {
         Some(class) => match write_after(instrs, read_at, class) {
             Some(write_at) => Some(Found {
-                read_at,
-                write_at,
+                read_at: read_at as u32,
+                write_at: write_at as u32,
                 class,
             }),
             None => None,

@@ -10,8 +10,8 @@ returns-in-Some-write_after c =
     let one = slice_get_read is (length is) c.args.read_at c.index-instrs-read_at.result refl c.requires.there c.index-instrs-read_at.is in
     record {
       at = refl;
-      conflict = c.write_after.ensures.some c.in-Some-write_after.write_at c.in-Some-write_after.is;
-      least_write = λ write d x. c.write_after.ensures.least c.in-Some-write_after.write_at write c.in-Some-write_after.is
+      conflict = c.write_after.ensures.first.some c.in-Some-write_after.write_at c.in-Some-write_after.is;
+      least_write = λ write d x. c.write_after.ensures.first.least c.in-Some-write_after.write_at write c.in-Some-write_after.is
           (of_class is c.args.read_at c.index-instrs-read_at.result one c.in-Some.class d write c.in-Some.ensures x);
     }
 
@@ -20,7 +20,7 @@ pub returns-in-None-write_after : goal.returns-in-None-write_after
 returns-in-None-write_after c =
     let is = c.args.instrs.now in
     let one = slice_get_read is (length is) c.args.read_at c.index-instrs-read_at.result refl c.requires.there c.index-instrs-read_at.is in
-    λ write d x. c.write_after.ensures.none c.in-None-write_after.is write
+    λ write d x. c.write_after.ensures.first.none c.in-None-write_after.is write
     (of_class is c.args.read_at c.index-instrs-read_at.result one c.in-Some.class d write c.in-Some.ensures x)
 
 -- no read is there

@@ -11,8 +11,8 @@ loop-write_at-init c = record {
 }
 
 -- the read is exposed, a path comes to the write, and none before it is in conflict
-pub returns-then-is_write : goal.returns-then-is_write
-returns-then-is_write c =
+pub returns-then-is_write-clause-first : goal.returns-then-is_write-clause-first
+returns-then-is_write-clause-first c =
     let is = c.args.instrs.now in
     let here = c.is_write.ensures.0 c.if-is_write.true in
     let before = (c.places_from-before.ensures c.args.read_at (does_below is c.args.read_at _ c.requires.reads)).0 c.if-not-before-read_at.false in
@@ -33,6 +33,6 @@ loop-write_at-preserved c =
     }
 
 -- all writes were met
-pub returns : goal.returns
-returns c = first_none _ (λ write x.
+pub returns-clause-first : goal.returns-clause-first
+returns-clause-first c = first_none _ (λ write x.
     c.loop-write_at.invariant.none write (omega (arith, c.loop-write_at-test.false, does_below c.args.instrs.now write _ x.writes)) x)
