@@ -1,0 +1,4 @@
+pub mod CapsuleLemmas
+pub mod ConflictLemmas
+pub mod FollowLemmas
+pub mod NewLemmas

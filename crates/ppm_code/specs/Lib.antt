@@ -1,0 +1,10 @@
+pub mod Acts
+pub mod Capsules
+pub mod Code
+pub mod Limits
+pub mod Locations
+pub mod Paths
+pub mod Restart
+pub mod Sizes
+pub mod Strands
+pub mod Tidy

@@ -1,0 +1,13 @@
+//! The conflict check: whether a capsule of code may be stopped anywhere and begun again.
+//! Model: paths through the instructions of a capsule, and conflicts on them (`ppm_code`, `specs/Paths`).
+//! Contract: `check` answers the least conflict, exactly where there is one; capsules of accepted code may be run again.
+//! Stands on `ppm_code`; the command `check` calls it, and whoever runs a code asks for what it accepts.
+//! After the write-after-read conflicts of Blelloch et al., SPAA 2018; the check over paths is this project's.
+#![tactic(auto)]
+
+mod checked;
+mod conflict;
+mod paths;
+
+pub use checked::{Checked, Conflict, check};
+pub use conflict::{Found, conflict_in};
