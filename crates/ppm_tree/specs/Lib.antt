@@ -1,0 +1,5 @@
+pub mod Tree
+pub mod Values
+pub mod State
+pub mod Meaning
+pub mod Program
