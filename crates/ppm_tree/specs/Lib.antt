@@ -3,3 +3,4 @@ pub mod Values
 pub mod State
 pub mod Meaning
 pub mod Program
+pub mod Correct

@@ -5,8 +5,10 @@
 //! Stands on `ppm_words`; the front end, the interpreter and the compiler stand on it.
 #![tactic(auto)]
 
+mod laws;
 mod mode;
 mod operator;
 
+pub use laws::{end_whole, have_one_end, spend_their_turns};
 pub use mode::Mode;
 pub use operator::Operator;
