@@ -11,4 +11,4 @@ mod operator;
 
 pub use laws::{end_whole, have_one_end, spend_their_turns};
 pub use mode::Mode;
-pub use operator::Operator;
+pub use operator::{apply, negate, Operator};
