@@ -1,0 +1,4 @@
+pub mod OneEnd
+pub mod Spending
+pub mod PlainEnds
+pub mod WholeEnds

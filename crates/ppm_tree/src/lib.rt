@@ -1,0 +1,14 @@
+//! The tree of a program of the language, its limits and its serial meaning.
+//! Model: a tree without pointers (`specs/Tree.antt`) within limits (`specs/Limits.antt`); a big-step relation says what a
+//! run of it spends and how it ends (`specs/Meaning.antt`, `specs/Program.antt`).
+//! Contract: laws of the meaning (`specs/Correct.antt`), and `apply`, which is an operator on values (`specs/Values.antt`).
+//! Stands on `ppm_words`; the front end, the interpreter and the compiler stand on it.
+#![tactic(auto)]
+
+mod laws;
+mod mode;
+mod operator;
+
+pub use laws::{end_whole, have_one_end, spend_their_turns};
+pub use mode::Mode;
+pub use operator::{apply, negate, Operator};
