@@ -4,7 +4,7 @@ pub mod Code
 pub mod Limits
 pub mod Locations
 pub mod Paths
-pub mod Restart
+pub mod RunAgain
 pub mod Sizes
 pub mod Strands
 pub mod Tidy

@@ -3,7 +3,7 @@ ghost use Rattle.std.specs.Prelude.{ℕ, List};
 ghost use Rattle.ppm_capsules.specs.Capsule.{Memory};
 ghost use Rattle.ppm_code.specs.Locations.{Where};
 ghost use Rattle.ppm_code.specs.Paths.{ActsFollow, HasNoConflict};
-ghost use Rattle.ppm_code.specs.Restart.{MayRunAgain, PathsDecide};
+ghost use Rattle.ppm_code.specs.RunAgain.{MayRunAgain, PathsDecide};
 ghost use Rattle.ppm_code.specs.Strands.{CapsulesMayBeginAgain};
 ghost use Rattle.ppm_code.specs.declared.instr.Instr.{Instr};
 
