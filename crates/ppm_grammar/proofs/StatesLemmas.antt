@@ -1,9 +1,10 @@
 -- The chain of a row's parts for a parser that knows the state of what was counted.
-use Rattle.std.proofs.Common.{◌≡◌, ℕ, suc, ◌+◌, ◌≤◌, Bool, true, false, List, [], ◌∷◌, ◌++◌, length, refl, sym, ◌∙◌, ap, subst, arith}
+use Rattle.std.proofs.Common.{◌≡◌, ℕ, zero, suc, ◌+◌, ◌≤◌, ◌<◌, Bool, true, false, List, [], ◌∷◌, ◌++◌, length, refl, sym, ◌∙◌, ap, subst, arith}
 use Rattle.std.proofs.lemmas.List.{append-nil as append_nil}
 use Rattle.std.specs.Prelude.{Option, Some, None}
 use Rattle.ppm_grammar.specs.Rows.{In, Item, Take, Part, Row, Grammar}
-use Rattle.ppm_grammar.specs.Derivation.{Due, Within, due, inside}
+use Rattle.ppm_grammar.specs.Derivation.{Due, Within, due, mark, inside}
+use Rattle.ppm_grammar.specs.Stack.{move, next}
 use Rattle.ppm_grammar.specs.Limits.{Limits, Tally, adds, passed, after_token, Leaves}
 use Rattle.ppm_grammar.specs.Faults.{Fault, Expected, Ended, TooDeep, TooMany}
 use Rattle.ppm_grammar.specs.Predictive.{may_be_empty, can_start, starts, IsPredictive}
@@ -14,6 +15,15 @@ use Rattle.ppm_grammar.proofs.RowsLemmas as rows
 use Rattle.ppm_grammar.proofs.RowsLemmas.{IsShut}
 use Rattle.ppm_grammar.proofs.StopsLemmas as stop
 use Rattle.ppm_grammar.proofs.ItemsLemmas.{due_both}
+
+-- so many more openings
+abbrev pub raised : ℕ → ℕ → ℕ
+raised zero d = d
+raised (suc n) d = suc (raised n d)
+
+raised_is : (n d : ℕ) → raised n d ≡ n + d
+raised_is zero d = omega arith
+raised_is (suc n) d = let h = raised_is n d in omega (arith, h)
 
 module _ {T K P V C S : Type 0} (g : Grammar T K P V C) (l : Limits T C) (Has : S → Tally → Type 0)
     (free : (s : S) (c : Tally) → Has s c → passed l.most c ≡ None) where
@@ -28,6 +38,11 @@ module _ {T K P V C S : Type 0} (g : Grammar T K P V C) (l : Limits T C) (Has : 
       (rest : List T) : Type 0 where
     pub shorter : length rest ≤ length ts
     pub leads : (d : ℕ) (c : Tally) → d + depth ≡ l.depth → Has s c → LeadsThen c (due d xs) ts values s' (due d ys) rest
+
+  -- a token whose mark in a part is known: so many openings within those of the part
+  pub record MoveAt (n : P) (t : T) (above : ℕ) (counts : List C) : Type 0 where
+    pub still : ℕ → List (Due K P)
+    pub moves : (d : ℕ) → next g d n (g.kind t) ≡ Some (move (mark (raised above d) counts) (still d))
 
   module _ {depth : ℕ} where
     -- one chain behind another
@@ -108,6 +123,21 @@ module _ {T K P V C S : Type 0} (g : Grammar T K P V C) (l : Limits T C) (Has : 
     pub token_unexpected : {s : S} {x : K} {t : T} {xs : List (Item K P)} {ts rest : List T} → ts ≡ t ∷ rest → (g.kind t ≡ x → ⊥) →
         FailsState g l Has depth s (Take x ∷ xs) ts (Some (Expected (g.place t)))
     token_unexpected is other = record { tells = λ d c deep has. stop.token_unexpected g l is other }
+
+    -- it is within too many openings
+    pub deep_at : {s : S} {n : P} {t : T} {above : ℕ} {counts : List C} {xs : List (Item K P)} {ts rest : List T} → MoveAt n t above counts → ts ≡ t ∷ rest →
+        depth < above → FailsState g l Has depth s (Part n ∷ xs) ts (Some (TooDeep (g.place t)))
+    deep_at {above = above} m is deep = record {
+      tells = λ d c left has. let at = raised_is above d in stop.deep_at g l is (m.moves d) (omega (arith, left, deep, at));
+    }
+
+    -- or on a number
+    pub many_at : {s : S} {which : ℕ} {n : P} {t : T} {above : ℕ} {counts : List C} {xs : List (Item K P)} {ts rest : List T} → MoveAt n t above counts →
+        ts ≡ t ∷ rest → above ≤ depth → ((c : Tally) → Has s c → passed l.most (after_token l counts t rest c) ≡ Some which) →
+        FailsState g l Has depth s (Part n ∷ xs) ts (Some (TooMany (g.place t) which))
+    many_at {above = above} m is shallow many = record {
+      tells = λ d c left has. let at = raised_is above d in stop.many_at g l is (m.moves d) (omega (arith, left, shallow, at)) (many c has);
+    }
 
     module _ (follows : P → K → Bool) (p : IsPredictive g follows) where
       -- a row that opens nothing, where a token is in front that can begin it
