@@ -11,3 +11,4 @@ pub mod RowsLemmas
 pub mod TallyLemmas
 pub mod StopsLemmas
 pub mod ItemsLemmas
+pub mod StatesLemmas

@@ -7,7 +7,7 @@ use Rattle.ppm_grammar.specs.Derivation.{Due, Within, due, mark, inside}
 use Rattle.ppm_grammar.specs.Limits.{Limits, Tally, passed, after_token}
 use Rattle.ppm_grammar.specs.Faults.{Expected, Ended, TooDeep, TooMany}
 use Rattle.ppm_grammar.specs.Predictive.{may_be_empty, starts, IsPredictive}
-use Rattle.ppm_grammar.specs.Stack.{move, step}
+use Rattle.ppm_grammar.specs.Stack.{Move, move, next, step}
 use Rattle.ppm_grammar.specs.Reading.{Fails}
 use Rattle.ppm_grammar.proofs.StackLemmas.{same_kind_is, part_step, next_none}
 use Rattle.ppm_grammar.proofs.TextLemmas.{other_kind}
@@ -21,6 +21,21 @@ module _ {T K P V C : Type 0} (g : Grammar T K P V C) (l : Limits T C) where
   pub token_unexpected : {c : Tally} {d : ℕ} {x : K} {t : T} {xs : List (Due K P)} {ts rest : List T} → ts ≡ t ∷ rest → (g.kind t ≡ x → ⊥) →
       Fails g l c (Within d (Take x) ∷ xs) ts (Some (Expected (g.place t)))
   token_unexpected {x = x} {t = t} is other = record { tells = λ st f e. rw (is, other_kind g x (g.kind t) other) e }
+
+  -- a token whose mark in a part is known, and that is within too many openings or passes a limit there
+  pub deep_at : {c : Tally} {d : ℕ} {n : P} {t : T} {m : Move K P C} {xs : List (Due K P)} {ts rest : List T} → ts ≡ t ∷ rest → next g d n (g.kind t) ≡ Some m →
+      l.depth < m.marked.depth → Fails g l c (Within d (Part n) ∷ xs) ts (Some (TooDeep (g.place t)))
+  deep_at {m = m} is one deep = record {
+    tells = λ st f e. let over : nat_lt l.depth m.marked.depth ≡ true = grind (arith, deep) in rw (is, one, over) e;
+  }
+
+  -- or on a number
+  pub many_at : {c : Tally} {d which : ℕ} {n : P} {t : T} {m : Move K P C} {xs : List (Due K P)} {ts rest : List T} → ts ≡ t ∷ rest →
+      next g d n (g.kind t) ≡ Some m → m.marked.depth ≤ l.depth → passed l.most (after_token l m.marked.counts t rest c) ≡ Some which →
+      Fails g l c (Within d (Part n) ∷ xs) ts (Some (TooMany (g.place t) which))
+  many_at {m = m} is one shallow many = record {
+    tells = λ st f e. let under : nat_lt l.depth m.marked.depth ≡ false = grind (arith, shallow) in rw (is, one, under, many) e;
+  }
 
   module _ (follows : P → K → Bool) (p : IsPredictive g follows) where
     -- the move at such a row

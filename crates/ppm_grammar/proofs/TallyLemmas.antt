@@ -1,7 +1,7 @@
 -- Numbers that grow within their limits, or begin anew.
-use Rattle.std.proofs.Common.{◌≡◌, ℕ, suc, ◌+◌, ◌≤◌, ◌<◌, Bool, true, false, List, [], ◌∷◌, refl, sym, ◌∙◌, ap, arith}
+use Rattle.std.proofs.Common.{◌≡◌, ℕ, suc, ◌+◌, ◌-◌, ◌≤◌, ◌<◌, Bool, true, false, List, [], ◌∷◌, refl, sym, ◌∙◌, ap, arith}
 use Rattle.std.specs.Prelude.{◌==◌, ◌&&◌, not, nat_lt, Option, Some, None, if◌then◌else◌}
-use Rattle.ppm_grammar.specs.Limits.{Anew, Tally, with_count, adds, Limit, Limits, passed, Leaves}
+use Rattle.ppm_grammar.specs.Limits.{Anew, Tally, with_count, adds, Limit, Limits, passed, Leaves, Remains, takes, fills}
 use Rattle.ppm_grammar.proofs.ListLemmas.{and_left, and_right, not_true}
 
 -- by one amount and by another
@@ -103,3 +103,60 @@ anew_free w (l ∷ ls) c h = let k = kept_first _ _ _ h in go (l.which == w) k.0
         (if nat_lt l.most (if b then 0 else c l.which) then Some l.which else passed ls (with_count (Anew w) c)) ≡ None
     go true kept below = let none : nat_lt l.most 0 ≡ false = grind (arith) in rw none below
     go false kept below = rw kept below
+
+-- where of each number some may still come, none has passed its limit
+pub remains_free : (ls : List Limit) (left c : Tally) → Remains ls left c → passed ls c ≡ None
+remains_free [] left c h = refl
+remains_free (l ∷ ls) left c h =
+    let under : nat_lt l.most (c l.which) ≡ false = grind (arith, h.0) in let others = remains_free ls left c h.1 in rw (under, others) refl
+
+-- a number grows by no more than may come
+pub remains_adds : (w n : ℕ) (ls : List Limit) (left c : Tally) → n ≤ left w → Remains ls left c → Remains ls (takes w n left) (adds w n c)
+remains_adds w n [] left c h r = tt
+remains_adds w n (l ∷ ls) left c h r = (go (l.which == w) refl, remains_adds w n ls left c h r.1)
+  where
+    go : (b : Bool) → (l.which == w) ≡ b → (if b then c l.which + n else c l.which) + (if b then left l.which - n else left l.which) ≡ l.most
+    go true e =
+        let here : l.which ≡ w = grind (arith, e) in
+        let small : n ≤ left l.which = rw here h in omega (arith, small, r.0)
+    go false e = r.0
+
+-- a number begins anew
+pub remains_anew : (w m : ℕ) (ls : List Limit) (left c : Tally) → sole w m ls ≡ true → Remains ls left c → Remains ls (fills w m left) (with_count (Anew w) c)
+remains_anew w m [] left c h r = cc
+remains_anew w m (l ∷ ls) left c h r = go (l.which == w) refl h (λ h'. remains_anew w m ls left c h' r.1)
+  where
+    others : (ls : List Limit) → absent w ls ≡ true → Remains ls left c → Remains ls (fills w m left) (with_count (Anew w) c)
+    others [] h r = tt
+    others (k ∷ ls) h r =
+        let other : (k.which == w) ≡ false = not_true (k.which == w) (and_left _ _ h) in
+        (rw other r.0, others ls (and_right _ _ h) r.1)
+
+    go : (b : Bool) → (l.which == w) ≡ b → (if b then (l.most == m) && absent w ls else sole w m ls) ≡ true →
+        (sole w m ls ≡ true → Remains ls (fills w m left) (with_count (Anew w) c)) →
+        ((if b then 0 else c l.which) + (if b then m else left l.which) ≡ l.most) × Remains ls (fills w m left) (with_count (Anew w) c)
+    go true e h below =
+        let most : l.most ≡ m = let equal = and_left (l.most == m) _ h in grind (arith, equal) in
+        (omega (arith, most), others ls (and_right _ _ h) r.1)
+    go false e h below = (r.0, below h)
+
+-- what may still come of a number and what came make its limit
+pub remains_of : (w m : ℕ) (ls : List Limit) (left c : Tally) → sole w m ls ≡ true → Remains ls left c → c w + left w ≡ m
+remains_of w m [] left c h r = cc
+remains_of w m (l ∷ ls) left c h r = go (l.which == w) refl h (λ h'. remains_of w m ls left c h' r.1)
+  where
+    go : (b : Bool) → (l.which == w) ≡ b → (if b then (l.most == m) && absent w ls else sole w m ls) ≡ true → (sole w m ls ≡ true → c w + left w ≡ m) →
+        c w + left w ≡ m
+    go true e h below =
+        let here : l.which ≡ w = grind (arith, e) in
+        let most : l.most ≡ m = let equal = and_left (l.most == m) _ h in grind (arith, equal) in rw (← here, ← most) r.0
+    go false e h below = below h
+
+-- so it leaves that much
+pub remains_leaves : {T C : Type 0} (l : Limits T C) (w m : ℕ) (left c : Tally) → sole w m l.most ≡ true → Remains l.most left c → Leaves l w (left w) c
+remains_leaves l w m left c one r = leaves_by l one (remains_free l.most left c r) (remains_of w m l.most left c one r)
+
+-- and a number that grows by more passes its limit
+pub remains_full : (w m n : ℕ) (ls : List Limit) (left c : Tally) → sole w m ls ≡ true → Remains ls left c → left w < n → passed ls (adds w n c) ≡ Some w
+remains_full w m n ls left c one r more =
+    let is = remains_of w m ls left c one r in sole_full w m n ls c one (remains_free ls left c r) (omega (arith, is, more))

@@ -1,5 +1,5 @@
 -- Limits on openings and on numbers that the tokens count up.
-use Rattle.std.specs.Prelude.{◌≡◌, ℕ, suc, ◌+◌, ◌==◌, ◌≤◌, nat_lt, List, [], ◌∷◌, Option, Some, None, if◌then◌else◌}
+use Rattle.std.specs.Prelude.{◌≡◌, ℕ, suc, ◌+◌, ◌-◌, ◌==◌, ◌≤◌, nat_lt, List, [], ◌∷◌, Option, Some, None, if◌then◌else◌}
 use Rattle.ppm_grammar.specs.Derivation.{Mark}
 
 -- what a token does to one of the numbers: it begins anew from 0, or grows by an amount
@@ -66,3 +66,16 @@ Keeps l (m ∷ ms) (t ∷ ts) c =
 pub record Leaves {T C : Type 0} (l : Limits T C) (which room : ℕ) (c : Tally) : Type 0 where
   pub free : (n : ℕ) → n ≤ room → passed l.most (adds which n c) ≡ None
   pub full : passed l.most (adds which (suc room) c) ≡ Some which
+
+-- of each number with a limit so much may still come
+abbrev pub Remains : List Limit → Tally → Tally → Type 0
+Remains [] left c = Unit {0}
+Remains (l ∷ ls) left c = (c l.which + left l.which ≡ l.most) × Remains ls left c
+
+-- what may still come after the number grew by an amount
+abbrev pub takes : ℕ → ℕ → Tally → Tally
+takes w n left = λ which. if which == w then left which - n else left which
+
+-- and after it began anew, with this limit
+abbrev pub fills : ℕ → ℕ → Tally → Tally
+fills w m left = λ which. if which == w then m else left which

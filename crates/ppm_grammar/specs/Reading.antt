@@ -32,3 +32,21 @@ pub record ReadsItems {T K P V C : Type 0} (g : Grammar T K P V C) (l : Limits T
 pub record FailsItems {T K P V C : Type 0} (g : Grammar T K P V C) (l : Limits T C) (depth which room : ℕ) (xs : List (Item K P)) (ts : List T)
     (o : Option Fault) : Type 0 where
   pub tells : (d : ℕ) (c : Tally) → d + depth ≡ l.depth → Leaves l which room c → Fails g l c (due d xs) ts o
+
+-- from what was counted the items are read, and what was counted then is of the state
+pub record ReadsThen {T K P V C S : Type 0} (g : Grammar T K P V C) (l : Limits T C) (Has : S → Tally → Type 0) (c : Tally)
+    (xs : List (Due K P)) (ts : List T) (vs : List V) (s : S) (rest : List T) : Type 0 where
+  pub tally : Tally
+  pub has : Has s tally
+  pub reads : Reads g l c xs ts vs tally rest
+
+-- with so many more openings the items are read from one state of what was counted to another; the rest is no longer than the tokens
+pub record ReadsState {T K P V C S : Type 0} (g : Grammar T K P V C) (l : Limits T C) (Has : S → Tally → Type 0) (depth : ℕ) (s : S)
+    (xs : List (Item K P)) (ts : List T) (vs : List V) (s' : S) (rest : List T) : Type 0 where
+  pub shorter : length rest ≤ length ts
+  pub reads : (d : ℕ) (c : Tally) → d + depth ≡ l.depth → Has s c → ReadsThen g l Has c (due d xs) ts vs s' rest
+
+-- with so many more openings, in the state of what was counted, the tokens have the fault where the items are to come
+pub record FailsState {T K P V C S : Type 0} (g : Grammar T K P V C) (l : Limits T C) (Has : S → Tally → Type 0) (depth : ℕ) (s : S)
+    (xs : List (Item K P)) (ts : List T) (o : Option Fault) : Type 0 where
+  pub tells : (d : ℕ) (c : Tally) → d + depth ≡ l.depth → Has s c → Fails g l c (due d xs) ts o
