@@ -1,2 +1,3 @@
-pub mod Marks
+pub mod Accepted
 pub mod Conflicts
+pub mod Marks
