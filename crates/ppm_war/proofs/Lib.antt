@@ -1,3 +1,4 @@
 pub mod CodeLemmas
 pub mod ConflictLemmas
 pub mod MarkLemmas
+pub mod TidyLemmas

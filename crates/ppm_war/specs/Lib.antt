@@ -1,3 +1,4 @@
 pub mod Accepted
 pub mod Conflicts
 pub mod Marks
+pub mod Stores

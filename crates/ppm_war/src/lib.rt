@@ -9,9 +9,11 @@ mod checked;
 mod conflict;
 mod laws;
 mod paths;
+mod tidiness;
 #[cfg(test)]
 mod tests;
 
 pub use checked::{Checked, Conflict, check};
 pub use conflict::{Found, conflict_in};
 pub use laws::accepted_code_runs_again;
+pub use tidiness::tidy;
