@@ -1,10 +1,10 @@
 -- A capsule made from instructions that have no conflict on any path has none.
-use Rattle.std.proofs.Common.{◌≡◌, ◌≤◌, ℕ, zero, suc, ◌+◌, max, List, [], ◌∷◌, length, ◌⊎◌, inl, inr, refl, sym, ap, ◌∙◌, subst, arith, slice_set, cond, Option, Some, None}
+use Rattle.std.proofs.Common.{◌≡◌, ◌≤◌, ℕ, zero, suc, ◌+◌, max, List, [], ◌∷◌, length, ◌⊎◌, inl, inr, refl, sym, ap, subst, arith, slice_set, cond, Option, Some, None}
 use Rattle.std.specs.Prelude.{slice_get, replicate}
 use Rattle.std.proofs.lemmas.Bool.{cond-false, cond-true}
-use Rattle.ppm_capsules.specs.Capsule.{Capsule, Reads, Writes, Asks as AsksFor, Ends, In, Memory, is_in}
+use Rattle.ppm_capsules.specs.Capsule.{Capsule, Ends, In, Memory, is_in}
 use Rattle.ppm_capsules.specs.Strand.{Own, New as NewWord, Shared}
-use Rattle.ppm_capsules.specs.Paths.{IsFreePast, ReadsOnly}
+use Rattle.ppm_capsules.specs.Paths.{IsFreePast}
 use Rattle.ppm_capsules.proofs.LocationLemmas.{decide, in_or_not}
 use Rattle.ppm_capsules.proofs.PathLemmas.{paths_are_enough}
 use Rattle.ppm_capsules.proofs.StandsLemmas.{is_idempotent}
@@ -23,7 +23,7 @@ use Rattle.ppm_code.specs.declared.instr.Instr.{Instr}
 use Rattle.ppm_code.specs.Acts.{does}
 use Rattle.ppm_code.specs.Locations.{Where, location_of, code_locations}
 use Rattle.ppm_code.specs.Capsules.{capsule_from, capsule_of, at_act}
-use Rattle.ppm_code.specs.Paths.{may, class_of, Follows, Does, GoesTo, Path, Here, Then, Any, Exposes, IsExposed, IsConflict, HasNoConflict}
+use Rattle.ppm_code.specs.Paths.{may, class_of, Follows, Does, GoesTo, Path, Here, Then, Any, Exposes, IsExposed, HasNoConflict}
 use Rattle.ppm_code.proofs.CapsuleLemmas.{at_instr, past_end}
 use Rattle.ppm_code.proofs.FollowLemmas.{acts_follow}
 

@@ -9,9 +9,9 @@ mod checked;
 mod conflict;
 mod laws;
 mod paths;
-mod tidiness;
 #[cfg(test)]
 mod tests;
+mod tidiness;
 
 pub use checked::{Checked, Conflict, check};
 pub use conflict::{Found, conflict_in};

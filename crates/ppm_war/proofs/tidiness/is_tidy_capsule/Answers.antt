@@ -1,4 +1,4 @@
-use Rattle.std.proofs.Common.{refl, length, arith}
+use Rattle.std.proofs.Common.{refl, arith}
 use Rattle.std.proofs.lemmas.Option.{slice_get_within}
 use Rattle.ppm_war.specs.Stores.{IsTidyAt}
 use Rattle.ppm_war.proofs.CodeLemmas.{and_here}

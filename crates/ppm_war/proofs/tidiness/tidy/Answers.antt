@@ -10,8 +10,7 @@ use Rattle.ppm_war.proofs.tidiness.tidy.Goals as goal
 -- this capsule is not
 pub returns-then-not-is_tidy_in : goal.returns-then-not-is_tidy_in
 returns-then-not-is_tidy_in c =
-    let all = ap (λ (cs : List Capsule). length cs) (c.as_slice-count.ensures ∙ ap (λ (p : CodeParts). p.capsules) c.parts.ensures.value) in
-    (
+    let all = ap (λ (cs : List Capsule). length cs) (c.as_slice-count.ensures ∙ ap (λ (p : CodeParts). p.capsules) c.parts.ensures.value) in (
       λ f. cc,
       λ h. absurd (is_false c.is_tidy_in.result c.if-not-is_tidy_in.true (c.is_tidy_in.ensures.1 (
           tidy_in c.args.code.now h c.loop-number.number (omega (arith, all, c.loop-number-test.true))))),
