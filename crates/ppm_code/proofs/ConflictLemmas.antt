@@ -1,5 +1,6 @@
 -- A capsule made from instructions that have no conflict on any path has none.
-use Rattle.std.proofs.Common.{◌≡◌, ◌≤◌, ℕ, zero, suc, ◌+◌, max, List, [], ◌∷◌, length, ◌⊎◌, inl, inr, refl, sym, ap, subst, arith, slice_set, cond, Option, Some, None}
+use Rattle.std.proofs.Common.{◌≡◌, ◌≤◌, ℕ, zero, suc, ◌+◌, max, List, [], ◌∷◌, length}
+use Rattle.std.proofs.Common.{◌⊎◌, inl, inr, refl, sym, ap, subst, arith, slice_set, cond, Option, Some, None}
 use Rattle.std.specs.Prelude.{slice_get, replicate}
 use Rattle.std.proofs.lemmas.Bool.{cond-false, cond-true}
 use Rattle.ppm_capsules.specs.Capsule.{Capsule, Ends, In, Memory, is_in}
@@ -156,7 +157,8 @@ module _ (is : List Instr) where
     act_free (Read k) (Jumps u) r w g here f c = absurd f
     act_free (Write k) (Steps (Stores l v)) r w g here f c =
         let now = subst (λ (j : Class). Does is at (Write j)) (sym f) here in
-        (λ i. clash at (class_of (location_of l)) now (c.reads (location_of l) i) free, on r _ (at + 1) g (omega arith) (one_write at r w (location_of l) now c))
+        (λ i. clash at (class_of (location_of l)) now (c.reads (location_of l) i) free,
+        on r _ (at + 1) g (omega arith) (one_write at r w (location_of l) now c))
     act_free (Write k) (Steps (Loads l d)) r w g here f c = absurd f
     act_free (Write k) (Steps (Asks n)) r w g here f c = absurd f
     act_free (Write k) (Sets d v) r w g here f c = absurd f

@@ -14,7 +14,8 @@ use Rattle.ppm_code.specs.declared.act.Step.TheVariants.{Loads, Stores, Asks}
 use Rattle.ppm_code.specs.declared.act.End.{End}
 use Rattle.ppm_code.specs.declared.instr.Instr.{Instr}
 use Rattle.ppm_code.specs.declared.instr.Instr.TheVariants.{Const, Move, Add, Sub, Mul, Div, Rem, Equal, NotEqual, Less, AtMost, Len, CutLeft, CutRight}
-use Rattle.ppm_code.specs.declared.instr.Instr.TheVariants.{LoadSlot, StoreCur, Give, Get, Put, BranchZero, BranchNonZero, Room as RoomFor, StoreNew, Ends as EndsWith}
+use Rattle.ppm_code.specs.declared.instr.Instr.TheVariants.{LoadSlot, StoreCur, Give, Get, Put}
+use Rattle.ppm_code.specs.declared.instr.Instr.TheVariants.{BranchZero, BranchNonZero, Room as RoomFor, StoreNew, Ends as EndsWith}
 use Rattle.ppm_code.specs.Acts.{does}
 use Rattle.ppm_code.specs.Locations.{Where, location_of, code_locations}
 use Rattle.ppm_code.specs.Capsules.{capsule_from, capsule_of, at_act}

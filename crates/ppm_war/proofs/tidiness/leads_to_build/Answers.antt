@@ -26,4 +26,7 @@ loop-at-preserved c =
 
 -- all were met
 pub returns : goal.returns
-returns c = (λ t. leads c.args.code.now c.args.instrs.now c.args.from c.args.word c.loop-at.at (omega (arith, c.loop-at-test.false)) c.loop-at.invariant, λ all. refl)
+returns c = (
+  λ t. leads c.args.code.now c.args.instrs.now c.args.from c.args.word c.loop-at.at (omega (arith, c.loop-at-test.false)) c.loop-at.invariant,
+  λ all. refl,
+)
