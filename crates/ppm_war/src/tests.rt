@@ -1,6 +1,10 @@
 //! Worked capsules, with their first conflict.
-use crate::{Found, accepted_code_runs_again, conflict_in};
-use ppm_code::{Class, End, Instr, Register};
+ghost use Rattle.std.specs.Prelude.{◌<◌};
+
+use crate::{Found, accepted_code_runs_again, check, conflict_in, tidy};
+use ppm_code::{Capsule, Class, Code, CodeParts, End, Instr, Procedure, Register};
+use ppm_words::Items;
+use std::alloc::Global;
 use std::test::Fail;
 
 fn register(index: u8) -> Result<Register, Fail> {
@@ -55,5 +59,45 @@ fn the_first_conflict_is_found(rt: HostRuntime) -> Result<(), Fail> {
         assert_eq!(rt; conflict_in(&instrs), want, "of {instrs:?}");
     }
     accepted_code_runs_again();
+    Ok(())
+}
+
+/// A code of one capsule, which stores into the frame of its own procedure and calls that.
+fn calling(alloc: Global, from: Register, offset: u32) -> Result<Code, Fail>
+    requires { offset < 7 }
+{
+    let call = End::Call {
+        procedure: 0,
+        capsule: 0,
+        to: None,
+    };
+    let instrs = vec![in alloc;
+        Instr::Room { words: 7 },
+        Instr::StoreNew { offset, from },
+        Instr::Ends(call),
+    ]?;
+    let capsule = Capsule {
+        procedure: 0,
+        instrs: Items::from_vec(instrs),
+    };
+    let procedure = Procedure { slots: 1, entry: 0 };
+    Ok(Code::from_parts(CodeParts {
+        root: 0,
+        arrays: Items::from_vec(Vec::new(alloc)),
+        procedures: Items::from_vec(vec![in alloc; procedure]?),
+        capsules: Items::from_vec(vec![in alloc; capsule]?),
+    }))
+}
+
+#[test]
+fn a_slot_alone_is_tidy(rt: HostRuntime) -> Result<(), Fail> {
+    let alloc = rt.alloc();
+    let from = register(0)?;
+    let code = calling(alloc, from, 6)?;
+    assert!(rt; check(&code).is_ok());
+    assert!(rt; tidy(&code));
+    let code = calling(alloc, from, 5)?;
+    assert!(rt; check(&code).is_ok());
+    assert!(rt; !tidy(&code));
     Ok(())
 }
