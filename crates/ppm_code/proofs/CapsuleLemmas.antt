@@ -1,5 +1,6 @@
 -- A capsule at an instruction.
-use Rattle.std.proofs.Common.{◌≡◌, ◌<◌, ◌≤◌, ℕ, zero, suc, ◌+◌, ◌-◌, max, List, [], ◌∷◌, length, get_or, refl, sym, ap, ◌∙◌, arith, add-zero, zero-add, slice_set, Some}
+use Rattle.std.proofs.Common.{◌≡◌, ◌<◌, ◌≤◌, ℕ, zero, suc, ◌+◌, ◌-◌, max, List, []}
+use Rattle.std.proofs.Common.{◌∷◌, length, get_or, refl, sym, ap, ◌∙◌, arith, add-zero, zero-add, slice_set, Some}
 use Rattle.std.specs.Prelude.{slice_get}
 use Rattle.std.proofs.lemmas.Option.{slice_get_read}
 use Rattle.ppm_code.specs.declared.instr.Instr.{Instr}
@@ -15,12 +16,14 @@ use Rattle.ppm_code.specs.Locations.{Where, location_of}
 use Rattle.ppm_code.specs.Capsules.{capsule_from, at_act, at_step}
 
 -- how it goes on matters at later instructions alone
-same_step : (p q : ℕ → List ℕ → Capsule Where End) (next : ℕ) (s : Step) (g : List ℕ) → ((t : ℕ) (h : List ℕ) → next ≤ t → p t h ≡ q t h) → at_step p next s g ≡ at_step q next s g
+same_step : (p q : ℕ → List ℕ → Capsule Where End) (next : ℕ) (s : Step) (g : List ℕ)
+    → ((t : ℕ) (h : List ℕ) → next ≤ t → p t h ≡ q t h) → at_step p next s g ≡ at_step q next s g
 same_step p q next (Loads l d) g same = λ i. Reads (location_of l) (λ v. same next (slice_set g d.index v) (omega arith) i)
 same_step p q next (Stores l v) g same = ap (Writes (location_of l) v) (same next g (omega arith))
 same_step p q next (Asks n) g same = ap (AsksFor n) (same next g (omega arith))
 
-same_act : (p q : ℕ → List ℕ → Capsule Where End) (next : ℕ) (a : Act) (g : List ℕ) → ((t : ℕ) (h : List ℕ) → next ≤ t → p t h ≡ q t h) → at_act p next a g ≡ at_act q next a g
+same_act : (p q : ℕ → List ℕ → Capsule Where End) (next : ℕ) (a : Act) (g : List ℕ)
+    → ((t : ℕ) (h : List ℕ) → next ≤ t → p t h ≡ q t h) → at_act p next a g ≡ at_act q next a g
 same_act p q next (Sets d v) g same = same next (slice_set g d.index v) (omega arith)
 same_act p q next Passes g same = same next g (omega arith)
 same_act p q next (Jumps t) g same = same (max t next) g (omega arith)
@@ -28,7 +31,8 @@ same_act p q next (Steps s) g same = same_step p q next s g same
 same_act p q next (Stops e) g same = refl
 
 module _ (words : ℕ) where
-  later : (here t : ℕ) (i : Instr) (is : List Instr) (h : List ℕ) → here + 1 ≤ t → capsule_from words (here + 1) (t - (here + 1)) is h ≡ capsule_from words here (t - here) (i ∷ is) h
+  later : (here t : ℕ) (i : Instr) (is : List Instr) (h : List ℕ) → here + 1 ≤ t
+      → capsule_from words (here + 1) (t - (here + 1)) is h ≡ capsule_from words here (t - here) (i ∷ is) h
   later here t i is h less =
       let e : t - here ≡ suc (t - (here + 1)) = omega arith in
       rw e refl
@@ -38,14 +42,16 @@ module _ (words : ℕ) where
   from_here here skip [] g i none = cc
   from_here here zero (j ∷ is) g i one =
       let e : j ≡ i = cc in
-      same_act (λ t h. capsule_from words (here + 1) (t - (here + 1)) is h) (λ t h. capsule_from words here (t - here) (j ∷ is) h) (here + 1) (does words j g) g (λ t h less. later here t j is h less)
+      same_act (λ t h. capsule_from words (here + 1) (t - (here + 1)) is h) (λ t h. capsule_from words here (t - here) (j ∷ is) h)
+      (here + 1) (does words j g) g (λ t h less. later here t j is h less)
       ∙ ap (λ (k : Instr). at_act (λ t h. capsule_from words here (t - here) (j ∷ is) h) (here + 1) (does words k g) g) e
       ∙ ap (λ (n : ℕ). at_act (λ t h. capsule_from words here (t - here) (j ∷ is) h) (n + 1) (does words i g) g) (sym (add-zero here))
   from_here here (suc skip) (j ∷ is) g i some =
       let e : (here + 1) + skip ≡ here + suc skip = omega arith in
       from_here (here + 1) skip is g i some
       ∙ ap (λ (n : ℕ). at_act (λ t h. capsule_from words (here + 1) (t - (here + 1)) is h) (n + 1) (does words i g) g) e
-      ∙ same_act (λ t h. capsule_from words (here + 1) (t - (here + 1)) is h) (λ t h. capsule_from words here (t - here) (j ∷ is) h) (here + suc skip + 1) (does words i g) g (λ t h less. later here t j is h (omega arith))
+      ∙ same_act (λ t h. capsule_from words (here + 1) (t - (here + 1)) is h) (λ t h. capsule_from words here (t - here) (j ∷ is) h)
+      (here + suc skip + 1) (does words i g) g (λ t h less. later here t j is h (omega arith))
 
   past : (here skip : ℕ) (is : List Instr) (g : List ℕ) → length is ≤ skip → capsule_from words here skip is g ≡ Ends Finish
   past here skip [] g h = refl
@@ -65,7 +71,8 @@ pub past_end : (words at : ℕ) (is : List Instr) (g : List ℕ) → length is �
 past_end words at is g h = past words 0 at is g h
 
 -- the capsule after what its instruction does
-pub worked : (words at : ℕ) (is : List Instr) (g : List ℕ) (i : Instr) (a : Act) (c : Capsule Where End) → at < length is → i ≡ get_or is at i → a ≡ does words i g
+pub worked : (words at : ℕ) (is : List Instr) (g : List ℕ) (i : Instr) (a : Act) (c : Capsule Where End)
+    → at < length is → i ≡ get_or is at i → a ≡ does words i g
     → capsule_from words 0 at is g ≡ c → at_act (λ t h. capsule_from words 0 t is h) (at + 1) a g ≡ c
 worked words at is g i a c less read acts before =
     ap (λ (b : Act). at_act (λ t h. capsule_from words 0 t is h) (at + 1) b g) acts

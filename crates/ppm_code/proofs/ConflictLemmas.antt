@@ -1,11 +1,15 @@
 -- A capsule made from instructions that have no conflict on any path has none.
-use Rattle.std.proofs.Common.{◌≡◌, ◌≤◌, ℕ, zero, suc, ◌+◌, max, List, [], ◌∷◌, length, ◌⊎◌, inl, inr, refl, sym, ap, ◌∙◌, subst, arith, slice_set, cond, Option, Some, None}
-use Rattle.std.specs.Prelude.{slice_get}
+use Rattle.std.proofs.Common.{◌≡◌, ◌≤◌, ℕ, zero, suc, ◌+◌, max, List, [], ◌∷◌, length}
+use Rattle.std.proofs.Common.{◌⊎◌, inl, inr, refl, sym, ap, subst, arith, slice_set, cond, Option, Some, None}
+use Rattle.std.specs.Prelude.{slice_get, replicate}
 use Rattle.std.proofs.lemmas.Bool.{cond-false, cond-true}
-use Rattle.ppm_capsules.specs.Capsule.{Capsule, Reads, Writes, Asks as AsksFor, Ends, In, is_in}
+use Rattle.ppm_capsules.specs.Capsule.{Capsule, Ends, In, Memory, is_in}
 use Rattle.ppm_capsules.specs.Strand.{Own, New as NewWord, Shared}
-use Rattle.ppm_capsules.specs.Paths.{IsFreePast, ReadsOnly}
+use Rattle.ppm_capsules.specs.Paths.{IsFreePast}
 use Rattle.ppm_capsules.proofs.LocationLemmas.{decide, in_or_not}
+use Rattle.ppm_capsules.proofs.PathLemmas.{paths_are_enough}
+use Rattle.ppm_capsules.proofs.StandsLemmas.{is_idempotent}
+use Rattle.ppm_code.specs.Restart.{MayRunAgain}
 use Rattle.ppm_code.specs.declared.location.FrameWord.TheVariants.{Slot as SlotWord, Value as ValueWord}
 use Rattle.ppm_code.specs.declared.class.Class.{Class}
 use Rattle.ppm_code.specs.declared.class.Class.TheVariants.{Slot, New, Value, Room, Array}
@@ -19,8 +23,8 @@ use Rattle.ppm_code.specs.declared.act.End.TheVariants.{Finish}
 use Rattle.ppm_code.specs.declared.instr.Instr.{Instr}
 use Rattle.ppm_code.specs.Acts.{does}
 use Rattle.ppm_code.specs.Locations.{Where, location_of, code_locations}
-use Rattle.ppm_code.specs.Capsules.{capsule_from, at_act}
-use Rattle.ppm_code.specs.Paths.{may, class_of, Follows, Does, GoesTo, Path, Here, Then, Any, Exposes, IsExposed, IsConflict, HasNoConflict}
+use Rattle.ppm_code.specs.Capsules.{capsule_from, capsule_of, at_act}
+use Rattle.ppm_code.specs.Paths.{may, class_of, Follows, Does, GoesTo, Path, Here, Then, Any, Exposes, IsExposed, HasNoConflict}
 use Rattle.ppm_code.proofs.CapsuleLemmas.{at_instr, past_end}
 use Rattle.ppm_code.proofs.FollowLemmas.{acts_follow}
 
@@ -153,7 +157,8 @@ module _ (is : List Instr) where
     act_free (Read k) (Jumps u) r w g here f c = absurd f
     act_free (Write k) (Steps (Stores l v)) r w g here f c =
         let now = subst (λ (j : Class). Does is at (Write j)) (sym f) here in
-        (λ i. clash at (class_of (location_of l)) now (c.reads (location_of l) i) free, on r _ (at + 1) g (omega arith) (one_write at r w (location_of l) now c))
+        (λ i. clash at (class_of (location_of l)) now (c.reads (location_of l) i) free,
+        on r _ (at + 1) g (omega arith) (one_write at r w (location_of l) now c))
     act_free (Write k) (Steps (Loads l d)) r w g here f c = absurd f
     act_free (Write k) (Steps (Asks n)) r w g here f c = absurd f
     act_free (Write k) (Sets d v) r w g here f c = absurd f
@@ -192,3 +197,9 @@ free_from words (suc n) at is r w g free enough c =
 
 pub no_conflict_from : (words : ℕ) (is : List Instr) (g : List ℕ) → HasNoConflict is → IsFreePast code_locations [] [] (capsule_from words 0 0 is g)
 no_conflict_from words is g free = free_from words (length is) 0 is [] [] g free (omega arith) (record { reads = λ l i. absurd i; fresh = λ l. inr (Here 0) })
+
+-- so from any words, and it is idempotent
+pub may_run_again : (words : ℕ) (is : List Instr) (m : Memory Where) → HasNoConflict is → MayRunAgain words is m
+may_run_again words is m none =
+    let free = paths_are_enough code_locations (capsule_of words is) m (no_conflict_from words is (replicate 64 0) none) in
+    record { free = free; idempotent = is_idempotent code_locations (capsule_of words is) m free }

@@ -1,22 +1,21 @@
 -- What an instruction does is what it may do.
-use Rattle.std.proofs.Common.{◌≡◌, ℕ, Bool, true, false, List, refl, Option, Some, None, cond}
+use Rattle.std.proofs.Common.{ℕ, Bool, true, false, refl, Option, Some, None, cond}
 use Rattle.std.specs.Prelude.{◌==◌, ℤ, ◌+ℤ◌, ◌-ℤ◌, ◌*ℤ◌, int_div, int_rem}
 use Rattle.ppm_words.specs.declared.trap.Trap.{Trap}
-use Rattle.ppm_words.specs.declared.trap.Trap.TheVariants.{Overflow, DivZero, Index, Split}
+use Rattle.ppm_words.specs.declared.trap.Trap.TheVariants.{Overflow, DivZero, Split}
 use Rattle.ppm_words.specs.TwosComplement.{value_of, word_of}
 use Rattle.ppm_code.specs.declared.location.Location.TheVariants.{Array as ArrayWord}
-use Rattle.ppm_code.specs.declared.act.Act.TheVariants.{Sets, Passes, Jumps, Steps, Ends as Stops}
+use Rattle.ppm_code.specs.declared.act.Act.TheVariants.{Sets, Passes, Jumps, Steps}
 use Rattle.ppm_code.specs.declared.act.Step.{Step}
 use Rattle.ppm_code.specs.declared.act.Step.TheVariants.{Loads, Stores}
 use Rattle.ppm_code.specs.declared.register.Register.{Register}
 use Rattle.ppm_code.specs.declared.class.Class.TheVariants.{Array}
 use Rattle.ppm_code.specs.declared.class.May.{May}
 use Rattle.ppm_code.specs.declared.class.May.TheVariants.{Work, Read, Write, Branch}
-use Rattle.ppm_code.specs.declared.instr.Instr.{Instr}
 use Rattle.ppm_code.specs.declared.instr.Instr.TheVariants.{Const, Move, Add, Sub, Mul, Div, Rem, Equal, NotEqual, Less, AtMost, Len, CutLeft, CutRight}
 use Rattle.ppm_code.specs.declared.instr.Instr.TheVariants.{LoadSlot, StoreCur, Give, Get, Put, BranchZero, BranchNonZero, Room, StoreNew, Ends}
-use Rattle.ppm_code.specs.Acts.{does, held, traps, element_of, at_element, divided, fits, is_zero}
-use Rattle.ppm_code.specs.Paths.{may, Follows, ActsFollow}
+use Rattle.ppm_code.specs.Acts.{held, traps, element_of, at_element, divided, fits, is_zero}
+use Rattle.ppm_code.specs.Paths.{Follows, ActsFollow}
 
 -- each test, cut off over what it answers
 set_follows : (t : Bool) (line : ℕ) (trap : Trap) (d : Register) (v : ℕ) → Follows Work (cond t (Sets d v) (traps trap line))

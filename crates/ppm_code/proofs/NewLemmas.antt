@@ -1,13 +1,11 @@
 -- No instruction reads a word of the new block.
-use Rattle.std.proofs.Common.{◌≡◌, ◌≤◌, ℕ, zero, suc, ◌+◌, ◌-◌, max, List, [], ◌∷◌, length, refl, subst, arith, slice_set, Option, Some, None}
-use Rattle.std.specs.Prelude.{slice_get, replicate}
+use Rattle.std.proofs.Common.{◌≡◌, ℕ, zero, suc, ◌+◌, ◌-◌, max, List, [], ◌∷◌, refl, subst, slice_set}
+use Rattle.std.specs.Prelude.{replicate}
 use Rattle.ppm_capsules.specs.Capsule.{Capsule}
 use Rattle.ppm_capsules.specs.Strand.{Own, New as NewWord, Shared}
 use Rattle.ppm_capsules.specs.Paths.{ReadsOnly}
 use Rattle.ppm_capsules.proofs.PathLemmas.{paths_say_where, paths_are_enough}
-use Rattle.ppm_code.specs.declared.location.FrameWord.TheVariants.{Slot as SlotWord, Value as ValueWord}
-use Rattle.ppm_code.specs.declared.location.Location.TheVariants.{Frame, New as NewName, Array as ArrayName}
-use Rattle.ppm_code.specs.declared.class.Class.TheVariants.{Slot, New, Value, Room, Array}
+use Rattle.ppm_code.specs.declared.class.Class.TheVariants.{New}
 use Rattle.ppm_code.specs.declared.class.May.{May}
 use Rattle.ppm_code.specs.declared.class.May.TheVariants.{Work, Read, Write, Branch, Stop}
 use Rattle.ppm_code.specs.declared.act.Act.{Act}
@@ -16,7 +14,8 @@ use Rattle.ppm_code.specs.declared.act.Step.TheVariants.{Loads, Stores, Asks}
 use Rattle.ppm_code.specs.declared.act.End.{End}
 use Rattle.ppm_code.specs.declared.instr.Instr.{Instr}
 use Rattle.ppm_code.specs.declared.instr.Instr.TheVariants.{Const, Move, Add, Sub, Mul, Div, Rem, Equal, NotEqual, Less, AtMost, Len, CutLeft, CutRight}
-use Rattle.ppm_code.specs.declared.instr.Instr.TheVariants.{LoadSlot, StoreCur, Give, Get, Put, BranchZero, BranchNonZero, Room as RoomFor, StoreNew, Ends as EndsWith}
+use Rattle.ppm_code.specs.declared.instr.Instr.TheVariants.{LoadSlot, StoreCur, Give, Get, Put}
+use Rattle.ppm_code.specs.declared.instr.Instr.TheVariants.{BranchZero, BranchNonZero, Room as RoomFor, StoreNew, Ends as EndsWith}
 use Rattle.ppm_code.specs.Acts.{does}
 use Rattle.ppm_code.specs.Locations.{Where, location_of, code_locations}
 use Rattle.ppm_code.specs.Capsules.{capsule_from, capsule_of, at_act}

@@ -1,7 +1,7 @@
 -- The strands of a code: its capsules as a table, and how its frames go on.
-use Rattle.std.specs.Prelude.{◌≡◌, ℕ, zero, ◌+◌, Bool, true, false, cond, List, [], Option, Some, None, slice_get, replicate}
+use Rattle.std.specs.Prelude.{ℕ, ◌+◌, Bool, true, false, cond, List, [], Option, Some, None, slice_get}
 use Rattle.ppm_strands.specs.Tree.{Tree, Strand, Call as Calling, Fork as Forking, Over}
-use Rattle.ppm_capsules.specs.Capsule.{Capsule, Ends, Memory}
+use Rattle.ppm_capsules.specs.Capsule.{Memory}
 use Rattle.ppm_capsules.specs.Strand.{Frame, Table, MayBeginAgain}
 use Rattle.ppm_words.specs.declared.trap.Trap.{Trap}
 use Rattle.ppm_code.specs.declared.location.FrameWord.{FrameWord}

@@ -1,6 +1,6 @@
 -- Tidy code: what is stored into a new block is a slot of a frame that the end builds, and nothing can trap in between.
 use Rattle.std.specs.Prelude.{◌≡◌, ◌⊎◌, ◌<◌, ◌≤◌, ℕ, ◌+◌, Bool, true, false, List, Some, slice_get}
-use Rattle.std.specs.List.{All}
+use Rattle.std.specs.List.{All, Contains}
 use Rattle.ppm_code.specs.declared.act.End.{End}
 use Rattle.ppm_code.specs.declared.act.End.TheVariants.{Next, Finish, Trap, Call, Fork}
 use Rattle.ppm_code.specs.declared.code.Capsule.{Capsule}
@@ -37,19 +37,32 @@ module _ (code : CodeParts) where
   Builds Finish word = ⊥
   Builds (Trap trap line) word = ⊥
 
-  -- each path from a place comes to an end that builds it, past no instruction that can trap
-  pub record LeadsToBuild (is : List Instr) (from word : ℕ) : Type 0 where
-    pub traps : (at : ℕ) (i : Instr) → Path is Any from at → slice_get is at ≡ Some i → can_trap i ≡ false
-    pub ends : (at : ℕ) (e : End) → Path is Any from at → slice_get is at ≡ Some (Ends e) → Builds e word
+  -- the instruction is an end that builds it
+  abbrev pub IsBuilder : Instr → ℕ → Type 0
+  IsBuilder (Ends e) word = Builds e word
+  IsBuilder _ word = ⊥
 
-  -- a store into a new block: so it is from the next instruction on where a path reaches it, and some end of its capsule builds it
+  -- the instruction may follow a store of it: an end builds it, and another cannot trap
+  abbrev pub MayFollow : Instr → ℕ → Type 0
+  MayFollow (Ends e) word = Builds e word
+  MayFollow i word = can_trap i ≡ false
+
+  -- each path from a place comes to an end that builds it, past no instruction that can trap
+  abbrev pub LeadsToBuild : List Instr → (from word : ℕ) → Type 0
+  LeadsToBuild is from word = (at : ℕ) (i : Instr) → Path is Any from at → slice_get is at ≡ Some i → MayFollow i word
+
+  -- a store into a new block: so it is from the next instruction on where a path reaches it, and some end of its capsule builds the word
   pub record IsTidyStore (is : List Instr) (at word : ℕ) : Type 0 where
     pub leads : Path is Any 0 at → LeadsToBuild is (at + 1) word
-    pub builds : (to : ℕ) × (e : End) × (slice_get is to ≡ Some (Ends e)) × Builds e word
+    pub builds : (i : Instr) × Contains is i × IsBuilder i word
 
   abbrev pub IsTidyCapsule : List Instr → Type 0
   IsTidyCapsule is = (at word : ℕ) (from : Register) → slice_get is at ≡ Some (StoreNew word from) → IsTidyStore is at word
 
--- all its capsules are
+  -- each capsule is tidy
+  abbrev pub IsTidyOne : Capsule → Type 0
+  IsTidyOne c = IsTidyCapsule c.instrs
+
+-- a tidy code
 abbrev pub IsTidy : CodeParts → Type 0
-IsTidy code = All (λ c. IsTidyCapsule code c.instrs) code.capsules
+IsTidy code = All (IsTidyOne code) code.capsules

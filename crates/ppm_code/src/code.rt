@@ -67,7 +67,9 @@ impl Code {
 
     /// The capsule with a number; `None` exactly where there is none.
     pub fn capsule(&self, number: u32) -> Option<&Capsule>
-        ensures { MatchOption result (slice_get self.now.capsules number ≡ None) (λ c. slice_get self.now.capsules number ≡ Some c.now) }
+        ensures { MatchOption result
+            (slice_get self.now.capsules number ≡ None)
+            (λ c. slice_get self.now.capsules number ≡ Some c.now) }
     {
         self.parts.capsules.as_slice().get(number as usize)
     }

@@ -17,7 +17,8 @@ pub fn acts_follow()
 /// the same words.
 pub fn no_conflict_on_paths()
     ensures paths { PathsDecide }
-    ensures again { (array_words : ℕ) (is : List Instr) (m : Memory Where) → HasNoConflict is → MayRunAgain array_words is m }
+    ensures again { (array_words : ℕ) (is : List Instr) (m : Memory Where)
+        → HasNoConflict is → MayRunAgain array_words is m }
 {}
 
 /// The capsules of a code without conflicts on their paths may be begun again, from any words: they are

@@ -45,5 +45,5 @@ pub instrs_read : (code parts : CodeParts) (all : List Capsule) (number : ℕ) (
     → number < length code.capsules → c ≡ get_or all number c → is ≡ c.instrs → is ≡ instrs_of code number
 instrs_read code parts all number c is same whole less read has =
     let one = slice_get_read code.capsules (length code.capsules) number c refl less
-        (subst (λ (cs : List Capsule). c ≡ get_or cs number c) (whole ∙ ap (λ (p : CodeParts). p.capsules) same) read) in
+    (subst (λ (cs : List Capsule). c ≡ get_or cs number c) (whole ∙ ap (λ (p : CodeParts). p.capsules) same) read) in
     has ∙ instrs_there code number c one

@@ -1,2 +1,4 @@
-pub mod Marks
+pub mod Accepted
 pub mod Conflicts
+pub mod Marks
+pub mod Stores

@@ -43,7 +43,9 @@ fn conflict_of(code: &Code, number: usize) -> Option<Conflict>
 /// Whether each capsule of a code may be stopped anywhere and begun again: `Ok` exactly where none has a
 /// conflict on any path, else the first conflict. No memory is taken.
 pub fn check(code: &Code) -> Result<Checked<'_>, Conflict>
-    ensures { MatchResult result (λ checked. (checked.code.now ≡ code.now) × IsFree code.now) (IsFirstConflictOf code.now) }
+    ensures { MatchResult result
+        (λ checked. (checked.code.now ≡ code.now) × IsFree code.now)
+        (IsFirstConflictOf code.now) }
 {
     let count = code.parts().capsules.as_slice().len();
     let mut number = 0;

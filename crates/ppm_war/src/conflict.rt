@@ -51,7 +51,9 @@ fn write_after(instrs: &[Instr], read_at: usize, class: Class) -> Option<usize>
 
 /// The class that an instruction may read.
 fn class_read(instr: &Instr) -> Option<Class>
-    ensures { MatchOption result ((class : Class) → may instr.now ≡ Read class → ⊥) (λ class. may instr.now ≡ Read class) }
+    ensures { MatchOption result
+        ((class : Class) → may instr.now ≡ Read class → ⊥)
+        (λ class. may instr.now ≡ Read class) }
 {
     match instr.may() {
         May::Read(class) => Some(class),

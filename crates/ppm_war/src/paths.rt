@@ -60,7 +60,8 @@ fn go_on(marks: &mut [bool; 160], may: May, at: usize)
 /// Passes the instruction at a place, if the place is marked and the instruction allowed.
 fn pass(marks: &mut [bool; 160], instr: &Instr, at: usize, class: Option<Class>)
     requires { at < instr_limit }
-    ensures { (to : ℕ) → to < instr_limit → IsMarked marks.new to ↔ (IsMarked marks.old to ⊎ GoesOnTo marks.old class (may instr.now) at to) }
+    ensures { (to : ℕ) → to < instr_limit
+        → IsMarked marks.new to ↔ (IsMarked marks.old to ⊎ GoesOnTo marks.old class (may instr.now) at to) }
 {
     let may = instr.may();
     if marks[at] && allows(class, may) {

@@ -1,7 +1,6 @@
-use Rattle.std.proofs.Common.{ℕ, List, length, refl, sym, ap, ◌∙◌, subst, arith}
+use Rattle.std.proofs.Common.{ℕ, List, length, sym, ap, ◌∙◌, subst, arith}
 use Rattle.ppm_code.specs.declared.code.Capsule.{Capsule}
 use Rattle.ppm_code.specs.declared.code.CodeParts.{CodeParts}
-use Rattle.ppm_code.specs.Strands.{instrs_of}
 use Rattle.ppm_war.specs.Conflicts.{HasNoConflictIn, IsFirstConflictIn}
 use Rattle.ppm_war.proofs.CodeLemmas.{all_free, and_here}
 use Rattle.ppm_war.proofs.checked.check.Goals as goal

@@ -1,4 +1,4 @@
-use Rattle.std.proofs.Common.{length, ◌-◌, ◌<◌, ℕ}
+use Rattle.std.proofs.Common.{◌-◌, ◌<◌, ℕ}
 use Rattle.ppm_war.specs.Conflicts.{HasNoConflictIn}
 use Rattle.ppm_war.proofs.checked.check.Given as goal
 

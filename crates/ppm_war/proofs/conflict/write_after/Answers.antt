@@ -1,4 +1,4 @@
-use Rattle.std.proofs.Common.{arith, refl, ap, ◌∙◌, sym}
+use Rattle.std.proofs.Common.{arith}
 use Rattle.ppm_code.specs.Paths.{IsConflict}
 use Rattle.ppm_war.proofs.ConflictLemmas.{first_is, first_none, does_below, write_later, write_met, conflicts, is_false, none_below}
 use Rattle.ppm_war.proofs.conflict.write_after.Goals as goal

@@ -1,4 +1,4 @@
-use Rattle.std.proofs.Common.{length, ◌-◌, ◌<◌, ◌≤◌, ℕ}
+use Rattle.std.proofs.Common.{length, ◌-◌, ◌<◌, ℕ}
 use Rattle.ppm_code.specs.Paths.{IsConflict}
 use Rattle.ppm_war.proofs.conflict.write_after.Given as goal
 
