@@ -1,4 +1,6 @@
 pub mod Tree
+pub mod Parts
+pub mod Limits
 pub mod Values
 pub mod State
 pub mod Meaning

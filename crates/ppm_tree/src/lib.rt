@@ -9,10 +9,12 @@ mod laws;
 mod mode;
 mod named;
 mod operator;
+mod program;
 mod tree;
 
 pub use laws::{end_whole, have_one_end, spend_their_turns};
 pub use mode::Mode;
 pub use named::Named;
+pub use program::Program;
 pub use operator::{apply, negate, Operator};
 pub use tree::{Argument, Array, ArrayInput, Expr, Give, Parameter, Proc, Side, Stmt, Tree};
