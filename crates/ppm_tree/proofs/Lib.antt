@@ -2,3 +2,4 @@ pub mod OneEnd
 pub mod Spending
 pub mod PlainEnds
 pub mod WholeEnds
+pub mod Truncation

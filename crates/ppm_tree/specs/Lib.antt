@@ -2,6 +2,7 @@ pub mod Tree
 pub mod Parts
 pub mod Limits
 pub mod Values
+pub mod Division
 pub mod State
 pub mod Meaning
 pub mod Program

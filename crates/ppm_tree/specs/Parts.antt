@@ -1,12 +1,8 @@
 -- The parts of statements, each kind in one list, so that limits and rules are said of all of them at once.
 use Rattle.std.specs.Prelude.{ℕ, suc, ℤ, List, [], ◌∷◌, ◌++◌, map, max, length, Option, Some, None}
+use Rattle.std.specs.List.{flat_map}
 use Rattle.ppm_tree.specs.Tree.{Named, Expression, Argument, Side, Statement, Block, Nil, Then, Give, Procedure}
 use Rattle.ppm_tree.specs.Tree as tree
-
--- what each of a list has, joined in order
-abbrev pub all_of : {A B : Type 0} → (A → List B) → List A → List B
-all_of f [] = []
-all_of f (x ∷ xs) = f x ++ all_of f xs
 
 -- the nodes of an expression: the whole and all expressions in it, a whole before its operands
 abbrev pub nodes : Expression → List Expression
@@ -60,7 +56,7 @@ expressions_of (tree.Each i x r block) = []
 
 -- the nodes of a statement: those of its expressions
 abbrev pub nodes_of : Statement → List Expression
-nodes_of s = all_of nodes (expressions_of s)
+nodes_of s = flat_map nodes (expressions_of s)
 
 -- the names that a side has outside its arguments
 abbrev pub side_names : Side → List Named
@@ -81,7 +77,7 @@ names_of (tree.Each i x r block) = i ∷ x ∷ r ∷ []
 -- the lines that a statement keeps beside those of names and nodes: of the word `split`, and of each argument
 abbrev pub lines_of : Statement → List ℕ
 lines_of (tree.Split line r e x y block) = line ∷ []
-lines_of s = all_of (λ t. map (λ a. a.line) t.arguments) (sides_of s)
+lines_of s = flat_map (λ t. map (λ a. a.line) t.arguments) (sides_of s)
 
 abbrev mutual
   -- a statement and all statements in its blocks, in the order of the text

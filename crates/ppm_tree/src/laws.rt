@@ -1,4 +1,5 @@
 //! What is true of every run, shown by calls that do nothing.
+ghost use Rattle.ppm_tree.specs.Division.{DivideTowardsZero};
 ghost use Rattle.ppm_tree.specs.Correct.{HaveOneEnd, SpendTheirTurns, EndWhole};
 
 /// A block and a procedure have one end at most, in both forms of the meaning.
@@ -15,4 +16,9 @@ pub fn spend_their_turns()
 /// Where the whole form of the meaning ends, the plain one ends alike, and so the other way round where there is no trap.
 pub fn end_whole()
     ensures law { EndWhole }
+{}
+
+/// Quotients are truncated towards zero, and a remainder that isn't 0 has the dividend's sign.
+pub fn divide_towards_zero()
+    ensures law { DivideTowardsZero }
 {}

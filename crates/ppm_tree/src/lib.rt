@@ -10,9 +10,11 @@ mod mode;
 mod named;
 mod operator;
 mod program;
+#[cfg(test)]
+mod tests;
 mod tree;
 
-pub use laws::{end_whole, have_one_end, spend_their_turns};
+pub use laws::{divide_towards_zero, end_whole, have_one_end, spend_their_turns};
 pub use mode::Mode;
 pub use named::Named;
 pub use program::Program;
