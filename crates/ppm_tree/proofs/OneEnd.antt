@@ -1,6 +1,6 @@
 -- Blocks and procedures have one end at most: by recursion on one run, each rule is the only one for the other.
-use Rattle.std.proofs.Common.{◌≡◌, ℕ, suc, ℤ, pos, Bool, true, false, List, Option, Result, Ok, Err, refl, sym, ap, ap₂, ◌∙◌, subst, subst₂}
-use Rattle.ppm_tree.specs.Tree.{Named, Expression, Side, Block, Give, Procedure}
+use Rattle.std.proofs.Common.{◌≡◌, ℕ, suc, ℤ, pos, true, false, List, Result, Ok, Err, refl, sym, ap, ap₂, subst, subst₂}
+use Rattle.ppm_tree.specs.Tree.{Named, Expression, Block, Procedure}
 use Rattle.ppm_tree.specs.Values.{holds}
 use Rattle.ppm_tree.specs.State.{TrapAt, Region, Locals, Frame, with_locals, Arrays, procedure_named}
 use Rattle.ppm_tree.specs.Meaning.{Form, Plain, Whole, Counts, spent, both, give_turn, given, End, Ended, Trapped, arrays_of, goes_on, chosen, first_trap, returned, joined, forked, began, swept, with_parts, Runs, Follows, Loops, Enters, Sweeps}

@@ -1,5 +1,5 @@
 -- The limits on a program, and the form of its names, numbers and lines.
-use Rattle.std.specs.Prelude.{◌≡◌, ◌≢◌, ℕ, ◌+◌, ◌≤◌, ◌<◌, ℤ, pos, negsuc, List, [], ◌∷◌, length, map, codes}
+use Rattle.std.specs.Prelude.{◌≢◌, ℕ, ◌+◌, ◌≤◌, ◌<◌, ℤ, pos, negsuc, List, [], ◌∷◌, length, map, codes}
 use Rattle.std.specs.List.{All, sum}
 pub use Rattle.ppm_words.specs.Limits.{array_limit, word_limit}
 use Rattle.ppm_words.specs.Limits.{value_bound}

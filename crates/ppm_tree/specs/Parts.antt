@@ -1,5 +1,5 @@
 -- The parts of statements, each kind in one list, so that limits and rules are said of all of them at once.
-use Rattle.std.specs.Prelude.{ℕ, suc, ℤ, List, [], ◌∷◌, ◌++◌, map, max, length, Option, Some, None}
+use Rattle.std.specs.Prelude.{ℕ, suc, ℤ, List, [], ◌∷◌, ◌++◌, map, max, Option, Some, None}
 use Rattle.std.specs.List.{flat_map}
 use Rattle.ppm_tree.specs.Tree.{Named, Expression, Argument, Side, Statement, Block, Nil, Then, Give, Procedure}
 use Rattle.ppm_tree.specs.Tree as tree

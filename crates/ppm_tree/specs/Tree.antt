@@ -9,7 +9,6 @@ use Rattle.ppm_tree.specs.declared.tree.Expr.{Expr}
 use Rattle.ppm_tree.specs.declared.tree.Expr.TheVariants as expr
 use Rattle.ppm_tree.specs.declared.tree.Stmt.{Stmt, Row_of-Stmt, end_of-Stmt, more_of-Stmt}
 use Rattle.ppm_tree.specs.declared.tree.Stmt.TheVariants as stmt
-use Rattle.ppm_tree.specs.declared.tree.Argument as declared_argument
 use Rattle.ppm_tree.specs.declared.tree.Side as declared_side
 use Rattle.ppm_tree.specs.declared.tree.Give as declared_give
 use Rattle.ppm_tree.specs.declared.tree.Proc.{Proc}

@@ -17,6 +17,6 @@ mod tree;
 pub use laws::{divide_towards_zero, end_whole, have_one_end, spend_their_turns};
 pub use mode::Mode;
 pub use named::Named;
+pub use operator::{Operator, apply, negate};
 pub use program::Program;
-pub use operator::{apply, negate, Operator};
 pub use tree::{Argument, Array, ArrayInput, Expr, Give, Parameter, Proc, Side, Stmt, Tree};

@@ -1,10 +1,13 @@
 //! Operators at values worked out by hand: signs and extremes.
 use crate::Operator::{Add, And, Div, Eq, Ge, Gt, Le, Lt, Mul, Ne, Or, Rem, Sub};
-use crate::{Operator, apply, divide_towards_zero, end_whole, have_one_end, negate, spend_their_turns};
+use crate::{
+    Operator, apply, divide_towards_zero, end_whole, have_one_end, negate, spend_their_turns,
+};
 use ppm_words::Trap;
 use std::test::Fail;
 
 const MIN: i64 = i64::MIN;
+
 const MAX: i64 = i64::MAX;
 
 #[test]
