@@ -3,3 +3,4 @@ pub mod Spending
 pub mod PlainEnds
 pub mod WholeEnds
 pub mod Truncation
+pub mod NotStuck

@@ -6,4 +6,5 @@ pub mod Division
 pub mod State
 pub mod Meaning
 pub mod Program
+pub mod Begun
 pub mod Correct

@@ -1,4 +1,5 @@
 //! What is true of every run, shown by calls that do nothing.
+ghost use Rattle.ppm_tree.specs.Begun.{NoneIsStuck};
 ghost use Rattle.ppm_tree.specs.Division.{DivideTowardsZero};
 ghost use Rattle.ppm_tree.specs.Correct.{HaveOneEnd, SpendTheirTurns, EndWhole};
 
@@ -21,4 +22,9 @@ pub fn end_whole()
 /// Quotients are truncated towards zero, and a remainder that isn't 0 has the dividend's sign.
 pub fn divide_towards_zero()
     ensures law { DivideTowardsZero }
+{}
+
+/// For each number of turns a program ends, or spends as many: no run of it is ever stuck.
+pub fn none_is_stuck()
+    ensures law { NoneIsStuck }
 {}

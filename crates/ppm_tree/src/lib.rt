@@ -14,7 +14,7 @@ mod program;
 mod tests;
 mod tree;
 
-pub use laws::{divide_towards_zero, end_whole, have_one_end, spend_their_turns};
+pub use laws::{divide_towards_zero, end_whole, have_one_end, none_is_stuck, spend_their_turns};
 pub use mode::Mode;
 pub use named::Named;
 pub use operator::{Operator, apply, negate};

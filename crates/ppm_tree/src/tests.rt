@@ -1,7 +1,7 @@
 //! Operators at values worked out by hand: signs and extremes.
 use crate::Operator::{Add, And, Div, Eq, Ge, Gt, Le, Lt, Mul, Ne, Or, Rem, Sub};
 use crate::{
-    Operator, apply, divide_towards_zero, end_whole, have_one_end, negate, spend_their_turns,
+    Operator, apply, divide_towards_zero, end_whole, have_one_end, negate, none_is_stuck, spend_their_turns,
 };
 use ppm_words::Trap;
 use std::test::Fail;
@@ -63,6 +63,7 @@ fn the_laws_are_calls(rt: HostRuntime) -> Result<(), Fail> {
     have_one_end();
     spend_their_turns();
     end_whole();
+    none_is_stuck();
     divide_towards_zero();
     Ok(())
 }
