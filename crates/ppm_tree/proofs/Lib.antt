@@ -4,3 +4,4 @@ pub mod PlainEnds
 pub mod WholeEnds
 pub mod Truncation
 pub mod NotStuck
+pub mod Spent

@@ -11,6 +11,7 @@ use Rattle.ppm_tree.specs.Begun.{Begins, BeginsBehind, BeginsLoop, BeginsBody, B
 use Rattle.ppm_tree.specs.Begun.{Here, BehindLet, BehindAssign, BehindPut, InIf, BehindIf, InWhile, BehindWhile, InCall, BehindCall, InLeft, InRight, BehindFork, InSplit, BehindSplit, InEach, BehindEach}
 use Rattle.ppm_tree.specs.Begun.{Behind, AtLoop, InTurn, BehindTurn, AtEntry, InBody, AtEach, InBlock, BehindBlock}
 use Rattle.ppm_tree.specs.Program.{main_of, main_frame}
+use Rattle.ppm_tree.proofs.Spent.{body}
 
 -- where nothing goes on beside a stretch, the form is the plain one and it ended at a trap
 abbrev IsStopped : {A : Type 0} → Form → End A → Type 0
@@ -197,4 +198,7 @@ module _ (form : Form) (procedures : List Procedure) where
 
 -- so with the run of a program
 pub none_is_stuck : NoneIsStuck
-none_is_stuck form t a n = (goes form t.procedures n).body (main_of t) (main_frame t.arrays (main_of t).parameters) a
+none_is_stuck form t a = record {
+  goes_on = λ n. (goes form t.procedures n).body (main_of t) (main_frame t.arrays (main_of t).parameters) a;
+  spends = λ n k z q r. body form t.procedures q r;
+}

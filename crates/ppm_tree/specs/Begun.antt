@@ -1,5 +1,5 @@
 -- Runs that are stopped: a block, a loop, a procedure or an `each` begins, and spends so many turns or more. No state is stuck.
-use Rattle.std.specs.Prelude.{◌≡◌, ℕ, zero, suc, ℤ, true, List, Option, Ok, ◌⊎◌}
+use Rattle.std.specs.Prelude.{◌≡◌, ◌≤◌, ℕ, zero, suc, ℤ, true, List, Option, Ok, ◌⊎◌}
 use Rattle.ppm_tree.specs.Tree.{Named, Expression, Side, Block, Then, Let, Assign, Put, If, While, Split, Procedure, ProgramTree}
 use Rattle.ppm_tree.specs.Tree as tree
 use Rattle.ppm_tree.specs.Values.{holds}
@@ -79,7 +79,12 @@ module _ (form : Form) (procedures : List Procedure) where
           → Runs form procedures s (with_element f r k i x) a j y → goes_on form y ≡ true → BeginsSweep n i x s r f (suc k) m (arrays_of y)
           → BeginsSweep (suc n) i x s r f k (suc m) a
 
--- For each number of turns, a program ends or spends as many: no run is ever stuck.
+-- For each number of turns a program ends, or spends as many; and it ends within no fewer than it spends.
+pub record IsNeverStuck (form : Form) (t : ProgramTree) (a : Arrays) : Type 0 where
+  pub goes_on : (n : ℕ) → ((k : Counts) × (z : End ℤ) × Means form t a k z) ⊎ BeginsBody form t.procedures n (main_of t) (main_frame t.arrays (main_of t).parameters) a
+  pub spends : (n : ℕ) (k : Counts) (z : End ℤ) → BeginsBody form t.procedures n (main_of t) (main_frame t.arrays (main_of t).parameters) a
+      → Means form t a k z → n ≤ k.turns
+
+-- so it is with all programs, from all arrays, in both forms
 abbrev pub NoneIsStuck : Type 0
-NoneIsStuck = (form : Form) (t : ProgramTree) (a : Arrays) (n : ℕ)
-    → ((k : Counts) × (z : End ℤ) × Means form t a k z) ⊎ BeginsBody form t.procedures n (main_of t) (main_frame t.arrays (main_of t).parameters) a
+NoneIsStuck = (form : Form) (t : ProgramTree) (a : Arrays) → IsNeverStuck form t a
