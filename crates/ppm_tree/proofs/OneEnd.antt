@@ -1,6 +1,6 @@
 -- Blocks and procedures have one end at most: by recursion on one run, each rule is the only one for the other.
-use Rattle.std.proofs.Common.{◌≡◌, ℕ, suc, ℤ, pos, Bool, true, false, List, Option, Result, Ok, Err, refl, sym, ap, ap₂, ◌∙◌, subst, subst₂}
-use Rattle.ppm_tree.specs.Tree.{Named, Expression, Side, Block, Give, Procedure}
+use Rattle.std.proofs.Common.{◌≡◌, ℕ, suc, ℤ, pos, true, false, List, Result, Ok, Err, refl, sym, ap, ap₂, subst, subst₂}
+use Rattle.ppm_tree.specs.Tree.{Named, Expression, Block, Procedure}
 use Rattle.ppm_tree.specs.Values.{holds}
 use Rattle.ppm_tree.specs.State.{TrapAt, Region, Locals, Frame, with_locals, Arrays, procedure_named}
 use Rattle.ppm_tree.specs.Meaning.{Form, Plain, Whole, Counts, spent, both, give_turn, given, End, Ended, Trapped, arrays_of, goes_on, chosen, first_trap, returned, joined, forked, began, swept, with_parts, Runs, Follows, Loops, Enters, Sweeps}
@@ -9,10 +9,10 @@ use Rattle.ppm_tree.specs.Meaning as run
 use Rattle.ppm_tree.specs.Correct.{HasOneEnd}
 
 -- a value or a trap that comes once and again is one
-ok_same : {A T : Type 0} {r : Result A T} {x y : A} → r ≡ Ok x → r ≡ Ok y → x ≡ y
+pub ok_same : {A T : Type 0} {r : Result A T} {x y : A} → r ≡ Ok x → r ≡ Ok y → x ≡ y
 ok_same p q = cc
 
-not_both : {A T : Type 0} {r : Result A T} {x : A} {e : T} → r ≡ Ok x → r ≡ Err e → ⊥
+pub not_both : {A T : Type 0} {r : Result A T} {x : A} {e : T} → r ≡ Ok x → r ≡ Err e → ⊥
 not_both p q = cc
 
 err_same : {A T : Type 0} {r : Result A T} {x y : T} → r ≡ Err x → r ≡ Err y → x ≡ y
@@ -25,7 +25,7 @@ not_on {form = Plain} {x = Trapped s b} p q h = cc
 not_on {form = Whole} p q h = cc
 
 -- a test does not hold and fail
-not_twice : {v w : ℤ} → v ≡ w → holds v ≡ false → holds w ≡ true → ⊥
+pub not_twice : {v w : ℤ} → v ≡ w → holds v ≡ false → holds w ≡ true → ⊥
 not_twice p q r = let e = ap holds p in cc
 
 -- the value of an end, or another where it is a trap
@@ -34,11 +34,11 @@ value_or x (Ended v a) = v
 value_or x (Trapped stop a) = x
 
 -- what two ends without a trap leave
-same_value : {A : Type 0} {x y : A} {a b : Arrays} → Ended x a ≡ Ended y b → x ≡ y
+pub same_value : {A : Type 0} {x y : A} {a b : Arrays} → Ended x a ≡ Ended y b → x ≡ y
 same_value {x = x} p = ap (value_or x) p
 
 -- an end is no trap
-no_end : {A : Type 0} {x : A} {stop : TrapAt} {a b : Arrays} → Ended x a ≡ Trapped stop b → ⊥
+pub no_end : {A : Type 0} {x : A} {stop : TrapAt} {a b : Arrays} → Ended x a ≡ Trapped stop b → ⊥
 no_end p = cc
 
 -- a trap of a procedure, as one of its caller
@@ -61,7 +61,7 @@ Same_ j k y z = (j ≡ k) × (y ≡ z)
 
 module _ (form : Form) (procedures : List Procedure) where
   mutual
-    one : {b : Block} {f : Frame} {a : Arrays} {j k : Counts} {y z : End Locals} → Runs form procedures b f a j y → Runs form procedures b f a k z → Same_ j k y z
+    pub one : {b : Block} {f : Frame} {a : Arrays} {j k : Counts} {y z : End Locals} → Runs form procedures b f a j y → Runs form procedures b f a k z → Same_ j k y z
     one (Done f a) (Done f' a') = (refl, refl)
     one (Lets x e b f a r) (Lets x' e' b' f' a' r') = let p = one_follows r r' in (ap (both (spent 1)) p.0, p.1)
     one (Assigns x e b f a r) (Assigns x' e' b' f' a' r') = let p = one_follows r r' in (ap (both (spent 1)) p.0, p.1)
@@ -116,11 +116,11 @@ module _ (form : Form) (procedures : List Procedure) where
         let q = one_follows w (subst (λ (y : End Locals). Follows form procedures b f y k' z') (sym p.1) w') in
         (ap₂ (λ (j k : Counts). both (swept i x r s (f.regions r.name).length) (both j k)) p.0 q.0, q.1)
 
-    one_follows : {b : Block} {f : Frame} {u : End Locals} {j k : Counts} {y z : End Locals} → Follows form procedures b f u j y → Follows form procedures b f u k z → Same_ j k y z
+    pub one_follows : {b : Block} {f : Frame} {u : End Locals} {j k : Counts} {y z : End Locals} → Follows form procedures b f u j y → Follows form procedures b f u k z → Same_ j k y z
     one_follows (GoesOn b f l a r) (GoesOn b' f' l' a' r') = one r r'
     one_follows (Stops b f stop a) (Stops b' f' stop' a') = (refl, refl)
 
-    one_loops : {e : Expression} {s : Block} {f : Frame} {a : Arrays} {j k : Counts} {y z : End Locals} → Loops form procedures e s f a j y → Loops form procedures e s f a k z → Same_ j k y z
+    pub one_loops : {e : Expression} {s : Block} {f : Frame} {a : Arrays} {j k : Counts} {y z : End Locals} → Loops form procedures e s f a j y → Loops form procedures e s f a k z → Same_ j k y z
     one_loops (TestFails e s f a v is fail) (TestFails e' s' f' a' v' is' fail') = (refl, refl)
     one_loops (TestFails e s f a v is fail) (TestTraps e' s' f' a' stop is') = absurd (not_both is is')
     one_loops (TestFails e s f a v is fail) (Turns e' s' f' a' c v' l is' hold r w) = absurd (not_twice (ok_same is is') fail hold)
@@ -141,12 +141,12 @@ module _ (form : Form) (procedures : List Procedure) where
     one_loops (TurnTraps e s f a c v stop is hold r) (Turns e' s' f' a' c' v' l is' hold' r' w) = let p = one r r' in absurd (no_end (sym p.1))
     one_loops (TurnTraps e s f a c v stop is hold r) (TurnTraps e' s' f' a' c' v' stop' is' hold' r') = let p = one r r' in (ap (both (spent 1)) p.0, p.1)
 
-    one_enters : {p : Procedure} {f : Frame} {a : Arrays} {j k : Counts} {y z : End ℤ} → Enters form procedures p f a j y → Enters form procedures p f a k z → Same_ j k y z
+    pub one_enters : {p : Procedure} {f : Frame} {a : Arrays} {j k : Counts} {y z : End ℤ} → Enters form procedures p f a j y → Enters form procedures p f a k z → Same_ j k y z
     one_enters (Enter p f a r) (Enter p' f' a' r') =
         let q = one r r' in
         (ap₂ (λ (j : Counts) (y : End Locals). both (spent 1) (both j (give_turn p.give y))) q.0 q.1, ap (given p.give f) q.1)
 
-    one_sweeps : {i x : Named} {s : Block} {r : Region} {f : Frame} {n m : ℕ} {a : Arrays} {j k : Counts} {y z : End Locals}
+    pub one_sweeps : {i x : Named} {s : Block} {r : Region} {f : Frame} {n m : ℕ} {a : Arrays} {j k : Counts} {y z : End Locals}
         → Sweeps form procedures i x s r f n m a j y → Sweeps form procedures i x s r f n m a k z → Same_ j k y z
     one_sweeps (Swept i x s r f n a) (Swept i' x' s' r' f' n' a') = (refl, refl)
     one_sweeps (Sweep i x s r f n m a d on w) (Sweep i' x' s' r' f' n' m' a' {k = k'} {z = z'} d' on' w') =

@@ -1,5 +1,5 @@
 -- Where the whole form ends, the plain one ends alike: by recursion on the whole run.
-use Rattle.std.proofs.Common.{◌≡◌, ◌≤◌, ℕ, suc, ◌+◌, ℤ, pos, Bool, true, false, List, Option, Some, None, Result, Ok, Err, refl, sym, ap, ap₂, ◌∙◌, subst, subst₂, append_assoc, arith}
+use Rattle.std.proofs.Common.{◌≡◌, ℕ, suc, ℤ, true, List, Option, Ok, refl, sym, subst, subst₂, append_assoc, arith}
 use Rattle.ppm_tree.specs.Tree.{Named, Expression, Side, Block, Then, Give, Procedure}
 use Rattle.ppm_tree.specs.Tree as tree
 use Rattle.ppm_tree.specs.Values.{holds}
@@ -109,9 +109,12 @@ module _ (procedures : List Procedure) where
       (both (forked s t) (both i (both r.0 q.0)), q.1, Forks s t b f g h a is l refl r.2 q.2, behind (forked s t) (grouped i r.0 q.0 j _ q.3))
   fork_alike s t b f g h a {j = j} {k = k} {y = y} {z = z} is l (SameTrap i' i stop c d le) r w w' =
       let e = stays w' stop (arrays_of y) refl in
-      let stopped = SameTrap (both (forked s t) i') (both (forked s t) (both i (both j k))) stop c (arrays_of y) (omega (arith, le)) in
-      (both (forked s t) i', Trapped stop c, ForkStops s t b f g h a c stop is refl l,
-      subst (λ (z : End Locals). IsAlike (both (forked s t) i') (Trapped stop c) (both (forked s t) (both i (both j k))) z) (sym e) stopped)
+      let stopped = SameTrap (both (forked s t) i') (both (forked s t) (both i (both j k))) stop c (arrays_of y) (omega (arith, le)) in (
+        both (forked s t) i',
+        Trapped stop c,
+        ForkStops s t b f g h a c stop is refl l,
+        subst (λ (z : End Locals). IsAlike (both (forked s t) i') (Trapped stop c) (both (forked s t) (both i (both j k))) z) (sym e) stopped,
+      )
 
   -- one block of an `each` that ends alike, from what those behind it do
   sweep_alike : (i x : Named) (s : Block) (r : Region) (f : Frame) (n m : ℕ) (a : Arrays) {j j' k : Counts} {y y' z : End Locals}

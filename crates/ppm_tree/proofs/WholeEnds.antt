@@ -1,10 +1,9 @@
 -- Where the plain form ends without a trap, the whole one ends the same: by recursion on the plain run.
-use Rattle.std.proofs.Common.{◌≡◌, ℕ, suc, ℤ, Bool, true, false, List, Option, Some, None, Ok, Err, refl, sym, ap, ◌∙◌, subst}
-use Rattle.ppm_tree.specs.Tree.{Named, Expression, Side, Block, Give, Procedure, ProgramTree}
-use Rattle.ppm_tree.specs.State.{TrapAt, Region, Locals, Frame, Arrays, evaluate}
-use Rattle.ppm_tree.specs.Meaning.{Form, Plain, Whole, Counts, given, End, Ended, Trapped, end_of, first_trap, returned, joined, Runs, Follows, Loops, Enters, Sweeps}
+use Rattle.std.proofs.Common.{ℕ, ℤ, List, Option, Some, None, refl}
+use Rattle.ppm_tree.specs.Tree.{Named, Expression, Block, Give, Procedure, ProgramTree}
+use Rattle.ppm_tree.specs.State.{Region, Locals, Frame, Arrays}
+use Rattle.ppm_tree.specs.Meaning.{Plain, Whole, Counts, given, End, Ended, Trapped, first_trap, returned, joined, Runs, Follows, Loops, Enters, Sweeps}
 use Rattle.ppm_tree.specs.Meaning.{Done, Lets, Assigns, Puts, Ifs, IfTraps, Whiles, Calls, CallTraps, Forks, ForkStops, ForkTraps, Splits, SplitTraps, Eaches, GoesOn, Stops, TestFails, TestTraps, Turns, TurnTraps, Enter, Swept, Sweep, SweepStops}
-use Rattle.ppm_tree.specs.Program.{main_of, main_frame}
 use Rattle.ppm_tree.specs.Correct.{EndsWhole}
 use Rattle.ppm_tree.proofs.PlainEnds.{whole_enters}
 
@@ -25,17 +24,17 @@ before_join s t f (Trapped stop a) y h = absurd h
 
 before_give : (g : Option Give) (f : Frame) (y : End Locals) → IsEnd (given g f y) → IsEnd y
 before_give None f (Ended l a) h = h
-before_give (Some g) f (Ended l a) h = record { }
+before_give (Some g) f (Ended l a) h = record {}
 before_give g f (Trapped stop a) h = h
 
 before_rest : (y z : End Locals) → IsEnd (first_trap y z) → IsEnd y × IsEnd z
-before_rest (Ended l a) z h = (record { }, h)
+before_rest (Ended l a) z h = (record {}, h)
 before_rest (Trapped stop a) z h = absurd h
 
 module _ (procedures : List Procedure) where
   -- what follows is without a trap only behind what has none
   before : {b : Block} {f : Frame} {u : End Locals} {k : Counts} {z : End Locals} → Follows Plain procedures b f u k z → IsEnd z → IsEnd u
-  before (GoesOn b f l a r) h = record { }
+  before (GoesOn b f l a r) h = record {}
   before (Stops b f stop a) h = h
 
   mutual
@@ -65,7 +64,7 @@ module _ (procedures : List Procedure) where
     wholly_loops : {e : Expression} {s : Block} {f : Frame} {a : Arrays} {k : Counts} {z : End Locals} → Loops Plain procedures e s f a k z → IsEnd z → Loops Whole procedures e s f a k z
     wholly_loops (TestFails e s f a v is fail) h = TestFails e s f a v is fail
     wholly_loops (TestTraps e s f a stop is) h = TestTraps e s f a stop is
-    wholly_loops (Turns e s f a c v l is hold r w) h = Turns e s f a c v l is hold (wholly r (record { })) (wholly_loops w h)
+    wholly_loops (Turns e s f a c v l is hold r w) h = Turns e s f a c v l is hold (wholly r (record {})) (wholly_loops w h)
     wholly_loops (TurnTraps e s f a c v stop is hold r) h = absurd h
 
     wholly_enters : {p : Procedure} {f : Frame} {a : Arrays} {k : Counts} {z : End ℤ} → Enters Plain procedures p f a k z → IsEnd z → Enters Whole procedures p f a k z
@@ -83,5 +82,5 @@ module _ (procedures : List Procedure) where
 pub ends_whole : (t : ProgramTree) → EndsWhole t
 ends_whole t = record {
   plain = λ a k z r. whole_enters t.procedures r;
-  whole = λ a b k v r. wholly_enters t.procedures r (record { });
+  whole = λ a b k v r. wholly_enters t.procedures r (record {});
 }

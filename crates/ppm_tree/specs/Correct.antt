@@ -5,7 +5,7 @@ use Rattle.ppm_words.specs.declared.outcome.Outcome.TheVariants as outcome
 use Rattle.ppm_tree.specs.Tree.{Block, Procedure, ProgramTree}
 use Rattle.ppm_tree.specs.State.{TrapAt, Locals, Frame, Arrays}
 use Rattle.ppm_tree.specs.Meaning.{Form, Plain, Whole, Counts, End, Ended, Trapped, Runs, Enters}
-use Rattle.ppm_tree.specs.Program.{initial_arrays, values_of, Means, outcome_of, Serial, NotWithin}
+use Rattle.ppm_tree.specs.Program.{initial_arrays, values_of, Means, outcome_of, Serial}
 
 -- blocks and procedures have one end at most, with one count of what they spend and begin, in each form
 pub record HasOneEnd (form : Form) (procedures : List Procedure) : Type 0 where

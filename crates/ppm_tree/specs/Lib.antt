@@ -1,6 +1,10 @@
 pub mod Tree
+pub mod Parts
+pub mod Limits
 pub mod Values
+pub mod Division
 pub mod State
 pub mod Meaning
 pub mod Program
+pub mod Begun
 pub mod Correct

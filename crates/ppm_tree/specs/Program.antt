@@ -1,20 +1,20 @@
 -- What a program means: the arrays in the end, or its first trap, within a number of turns.
-use Rattle.std.specs.Prelude.{◌≡◌, ◌≤◌, ◌<◌, ℕ, zero, suc, ◌-◌, ℤ, pos, List, [], ◌∷◌, ◌++◌, map, length, replicate, codes, if◌then◌else◌}
+use Rattle.std.specs.Prelude.{◌≤◌, ◌<◌, ℕ, suc, ◌-◌, ℤ, pos, List, [], ◌∷◌, ◌++◌, map, length, replicate, codes, if◌then◌else◌}
 use Rattle.std.specs.Str.{bytes_eq}
 use Rattle.ppm_words.specs.declared.named_array.NamedArray.{NamedArray}
 use Rattle.ppm_words.specs.declared.outcome.Outcome.{Outcome}
 use Rattle.ppm_words.specs.declared.outcome.Outcome.TheVariants as outcome
-use Rattle.ppm_tree.specs.Tree.{Array, Input, Parameter, ProgramTree, Procedure}
+use Rattle.ppm_tree.specs.Tree.{Array, ArrayInput, Parameter, ProgramTree, Procedure}
 use Rattle.ppm_tree.specs.State.{Region, nowhere, Frame, empty_frame, with_region, Arrays, procedure_named}
 use Rattle.ppm_tree.specs.Meaning.{Form, Plain, Counts, End, Ended, Trapped, Enters}
 
 -- the values that an array has in front; an admitted program has at most one input for it
-abbrev pub input_of : List Input → List ℕ → List ℤ
+abbrev pub input_of : List ArrayInput → List ℕ → List ℤ
 input_of [] x = []
 input_of (i ∷ inputs) x = if bytes_eq i.name.name x then i.values else input_of inputs x
 
 -- an array as it starts: the input's values in front, then 0 in each word
-abbrev pub initial_array : List Input → Array → NamedArray
+abbrev pub initial_array : List ArrayInput → Array → NamedArray
 initial_array inputs a = record {
   name = a.name.name;
   values = input_of inputs a.name.name ++ replicate (a.words - length (input_of inputs a.name.name)) (pos 0);

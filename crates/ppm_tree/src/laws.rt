@@ -1,4 +1,6 @@
 //! What is true of every run, shown by calls that do nothing.
+ghost use Rattle.ppm_tree.specs.Begun.{NoneIsStuck};
+ghost use Rattle.ppm_tree.specs.Division.{DivideTowardsZero};
 ghost use Rattle.ppm_tree.specs.Correct.{HaveOneEnd, SpendTheirTurns, EndWhole};
 
 /// A block and a procedure have one end at most, in both forms of the meaning.
@@ -15,4 +17,14 @@ pub fn spend_their_turns()
 /// Where the whole form of the meaning ends, the plain one ends alike, and so the other way round where there is no trap.
 pub fn end_whole()
     ensures law { EndWhole }
+{}
+
+/// Quotients are truncated towards zero, and a remainder that isn't 0 has the dividend's sign.
+pub fn divide_towards_zero()
+    ensures law { DivideTowardsZero }
+{}
+
+/// For each number of turns a program ends, or spends as many: no run of it is ever stuck.
+pub fn none_is_stuck()
+    ensures law { NoneIsStuck }
 {}

@@ -7,8 +7,16 @@
 
 mod laws;
 mod mode;
+mod named;
 mod operator;
+mod program;
+#[cfg(test)]
+mod tests;
+mod tree;
 
-pub use laws::{end_whole, have_one_end, spend_their_turns};
+pub use laws::{divide_towards_zero, end_whole, have_one_end, none_is_stuck, spend_their_turns};
 pub use mode::Mode;
-pub use operator::{apply, negate, Operator};
+pub use named::Named;
+pub use operator::{Operator, apply, negate};
+pub use program::Program;
+pub use tree::{Argument, Array, ArrayInput, Expr, Give, Parameter, Proc, Side, Stmt, Tree};
