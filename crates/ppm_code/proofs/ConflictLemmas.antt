@@ -9,7 +9,7 @@ use Rattle.ppm_capsules.specs.Paths.{IsFreePast}
 use Rattle.ppm_capsules.proofs.LocationLemmas.{decide, in_or_not}
 use Rattle.ppm_capsules.proofs.PathLemmas.{paths_are_enough}
 use Rattle.ppm_capsules.proofs.StandsLemmas.{is_idempotent}
-use Rattle.ppm_code.specs.Restart.{MayRunAgain}
+use Rattle.ppm_code.specs.RunAgain.{MayRunAgain}
 use Rattle.ppm_code.specs.declared.location.FrameWord.TheVariants.{Slot as SlotWord, Value as ValueWord}
 use Rattle.ppm_code.specs.declared.class.Class.{Class}
 use Rattle.ppm_code.specs.declared.class.Class.TheVariants.{Slot, New, Value, Room, Array}

@@ -4,7 +4,7 @@ use Rattle.ppm_capsules.specs.Capsule.{Memory}
 use Rattle.ppm_capsules.specs.Strand.{MayBeginAgain}
 use Rattle.ppm_code.specs.declared.code.CodeParts.{CodeParts}
 use Rattle.ppm_code.specs.Locations.{Where, code_locations}
-use Rattle.ppm_code.specs.Restart.{MayRunAgain}
+use Rattle.ppm_code.specs.RunAgain.{MayRunAgain}
 use Rattle.ppm_code.specs.Strands.{Point, table_of, instrs_of}
 
 -- each of its capsules is idempotent from any words, and may be begun again as one of the table
