@@ -4,11 +4,15 @@ use Rattle.ppm_tree.specs.Tree.{Named, Expression, Side, Block, Nil, Then, Let, 
 use Rattle.ppm_tree.specs.Tree as tree
 use Rattle.ppm_tree.specs.Values.{holds}
 use Rattle.ppm_tree.specs.State.{TrapAt, then_with, Region, Locals, Frame, with_locals, Arrays, split_at, evaluate, procedure_named, entered, both_entered}
-use Rattle.ppm_tree.specs.Meaning.{Form, Plain, Whole, Counts, none, spent, both, began, forked, swept, give_turn, given, End, Ended, Trapped, arrays_of, assigned, stored, chosen, returned, joined, first_trap, goes_on, with_parts, with_element, Runs, Follows, Loops, Enters, Sweeps}
-use Rattle.ppm_tree.specs.Meaning.{Done, Lets, Assigns, Puts, Ifs, IfTraps, Whiles, Calls, CallTraps, Forks, ForkStops, ForkTraps, Splits, SplitTraps, Eaches, GoesOn, Stops, TestFails, TestTraps, Turns, TurnTraps, Enter, Swept, Sweep, SweepStops}
+use Rattle.ppm_tree.specs.Meaning.{Form, Plain, Whole, Counts, none, spent, both, began, forked, swept, give_turn, given, End, Ended, Trapped}
+use Rattle.ppm_tree.specs.Meaning.{arrays_of, assigned, stored, chosen, returned, joined, first_trap, goes_on, with_parts, with_element, Runs}
+use Rattle.ppm_tree.specs.Meaning.{Follows, Loops, Enters, Sweeps}
+use Rattle.ppm_tree.specs.Meaning.{Done, Lets, Assigns, Puts, Ifs, IfTraps, Whiles, Calls, CallTraps, Forks, ForkStops, ForkTraps, Splits, SplitTraps}
+use Rattle.ppm_tree.specs.Meaning.{Eaches, GoesOn, Stops, TestFails, TestTraps, Turns, TurnTraps, Enter, Swept, Sweep, SweepStops}
 use Rattle.ppm_tree.specs.Meaning as run
 use Rattle.ppm_tree.specs.Begun.{Begins, BeginsBehind, BeginsLoop, BeginsBody, BeginsSweep, NoneIsStuck}
-use Rattle.ppm_tree.specs.Begun.{Here, BehindLet, BehindAssign, BehindPut, InIf, BehindIf, InWhile, BehindWhile, InCall, BehindCall, InLeft, InRight, BehindFork, InSplit, BehindSplit, InEach, BehindEach}
+use Rattle.ppm_tree.specs.Begun.{Here, BehindLet, BehindAssign, BehindPut, InIf, BehindIf, InWhile, BehindWhile, InCall, BehindCall, InLeft, InRight}
+use Rattle.ppm_tree.specs.Begun.{BehindFork, InSplit, BehindSplit, InEach, BehindEach}
 use Rattle.ppm_tree.specs.Begun.{Behind, AtLoop, InTurn, BehindTurn, AtEntry, InBody, AtEach, InBlock, BehindBlock}
 use Rattle.ppm_tree.specs.Program.{main_of, main_frame}
 use Rattle.ppm_tree.proofs.Spent.{body}
@@ -55,16 +59,19 @@ module _ (form : Form) (procedures : List Procedure) where
     of_let x e b f a = elim (rest b f (assigned x e f a)) [ inl d ↦ inl (both (spent 1) d.0, d.1, Lets x e b f a d.2) | inr q ↦ inr (BehindLet x e b f a q) ]
 
     of_assign : (x : Named) (e : Expression) (b : Block) (f : Frame) (a : Arrays) → OfBlock (suc n) (Then (Assign x e) b) f a
-    of_assign x e b f a = elim (rest b f (assigned x e f a)) [ inl d ↦ inl (both (spent 1) d.0, d.1, Assigns x e b f a d.2) | inr q ↦ inr (BehindAssign x e b f a q) ]
+    of_assign x e b f a = elim (rest b f (assigned x e f a)) [ inl d ↦ inl (both (spent 1) d.0, d.1, Assigns x e b f a d.2) | inr q ↦ inr
+        (BehindAssign x e b f a q) ]
 
     of_put : (x : Named) (i e : Expression) (b : Block) (f : Frame) (a : Arrays) → OfBlock (suc n) (Then (Put x i e) b) f a
-    of_put x i e b f a = elim (rest b f (stored x i e f a)) [ inl d ↦ inl (both (spent 1) d.0, d.1, Puts x i e b f a d.2) | inr q ↦ inr (BehindPut x i e b f a q) ]
+    of_put x i e b f a = elim (rest b f (stored x i e f a)) [ inl d ↦ inl (both (spent 1) d.0, d.1, Puts x i e b f a d.2) | inr q ↦ inr
+        (BehindPut x i e b f a q) ]
 
     of_if : (e : Expression) (s t b : Block) (f : Frame) (a : Arrays) (r : Result ℤ TrapAt) → evaluate f a e ≡ r → OfBlock (suc n) (Then (If e s t) b) f a
     of_if e s t b f a (Err stop) is = inl (spent 1, Trapped stop a, IfTraps e s t b f a stop is)
     of_if e s t b f a (Ok v) is = elim (p.block (chosen (holds v) s t) f a) [
       inr q ↦ inr (InIf e s t b f a v is q)
-      | inl c ↦ elim (rest b f c.1) [ inl d ↦ inl (both (spent 1) (both c.0 d.0), d.1, Ifs e s t b f a v is c.2 d.2) | inr q ↦ inr (BehindIf e s t b f a v is c.2 q) ]
+      | inl c ↦ elim (rest b f c.1) [ inl d ↦ inl (both (spent 1) (both c.0 d.0), d.1, Ifs e s t b f a v is c.2 d.2) | inr q ↦ inr
+          (BehindIf e s t b f a v is c.2 q) ]
     ]
 
     of_while : (e : Expression) (s b : Block) (f : Frame) (a : Arrays) → OfBlock (suc n) (Then (While e s) b) f a
@@ -73,7 +80,8 @@ module _ (form : Form) (procedures : List Procedure) where
       | inl c ↦ elim (rest b f c.1) [ inl d ↦ inl (both (spent 1) (both c.0 d.0), d.1, Whiles e s b f a c.2 d.2) | inr q ↦ inr (BehindWhile e s b f a c.2 q) ]
     ]
 
-    of_call : (s : Side) (b : Block) (f : Frame) (a : Arrays) (r : Result Frame TrapAt) → entered procedures f a s ≡ r → OfBlock (suc n) (Then (tree.Call s) b) f a
+    of_call : (s : Side) (b : Block) (f : Frame) (a : Arrays) (r : Result Frame TrapAt) → entered procedures f a s ≡ r
+        → OfBlock (suc n) (Then (tree.Call s) b) f a
     of_call s b f a (Err stop) is = inl (began (run.Call s.callee.name), Trapped stop a, CallTraps s b f a stop is)
     of_call s b f a (Ok g) is = elim (p.body (procedure_named procedures s.callee.name) g a) [
       inr q ↦ inr (InCall s b f g a is q)
@@ -100,7 +108,8 @@ module _ (form : Form) (procedures : List Procedure) where
         let l' = subst (λ (x : End ℤ). Enters form procedures (procedure_named procedures s.callee.name) g a i x) e l in
         inl (both (forked s t) i, Trapped stop c, ForkStops s t b f g h a c stop is plain l')
 
-    of_fork : (s t : Side) (b : Block) (f : Frame) (a : Arrays) (r : Result (Frame × Frame) TrapAt) → both_entered procedures f a s t ≡ r → OfBlock (suc n) (Then (tree.Fork s t) b) f a
+    of_fork : (s t : Side) (b : Block) (f : Frame) (a : Arrays) (r : Result (Frame × Frame) TrapAt) → both_entered procedures f a s t ≡ r
+        → OfBlock (suc n) (Then (tree.Fork s t) b) f a
     of_fork s t b f a (Err stop) is = inl (began (run.Fork s.callee.name t.callee.name), Trapped stop a, ForkTraps s t b f a stop is)
     of_fork s t b f a (Ok (g, h)) is = elim (p.body (procedure_named procedures s.callee.name) g a) [
       inr q ↦ inr (InLeft s t b f g h a is q)
