@@ -90,23 +90,23 @@ module _ (form : Form) (procedures : List Procedure) where
     one (Forks s t b f g h a is l on r w) (Forks s' t' b' f' g' h' a' {i = i'} {j = j'} {k = k'} {x = x'} {y = y'} {z = z'} is' l' on' r' w') =
         let e = ok_same is' is in
         let o = one_enters l (subst (λ (g : Frame). Enters form procedures (procedure_named procedures s.callee.name) g a i' x') (ap (λ
-            (p : Frame × Frame). p.0) e) l') in
+        (p : Frame × Frame). p.0) e) l') in
         let p = one_enters r (subst₂ (λ (h : Frame) (x : End ℤ). Enters form procedures (procedure_named procedures t.callee.name) h
-            (arrays_of x) j' y') (ap (λ (p : Frame × Frame). p.1) e) (sym o.1) r') in
+        (arrays_of x) j' y') (ap (λ (p : Frame × Frame). p.1) e) (sym o.1) r') in
         let q = one_follows w (subst₂ (λ (x y : End ℤ). Follows form procedures b f (joined s.target t.target f x y) k' z') (sym o.1) (sym p.1) w') in
         (ap₂ (λ (i k : Counts). both (forked s t) (both i k)) o.0 (ap₂ both p.0 q.0), q.1)
     one (Forks s t b f g h a is l on r w) (ForkStops s' t' b' f' g' h' a' c stop {i = i'} is' plain l') =
         let o = one_enters l (subst (λ (g : Frame). Enters form procedures (procedure_named procedures s.callee.name) g a i' (Trapped stop c)) (ap (λ
-            (p : Frame × Frame). p.0) (ok_same is' is)) l') in
+        (p : Frame × Frame). p.0) (ok_same is' is)) l') in
         absurd (not_on plain o.1 on)
     one (Forks s t b f g h a is l on r w) (ForkTraps s' t' b' f' a' stop is') = absurd (not_both is is')
     one (ForkStops s t b f g h a c stop is plain l) (Forks s' t' b' f' g' h' a' {i = i'} {x = x'} is' l' on r w) =
         let o = one_enters l (subst (λ (g : Frame). Enters form procedures (procedure_named procedures s.callee.name) g a i' x') (ap (λ
-            (p : Frame × Frame). p.0) (ok_same is' is)) l') in
+        (p : Frame × Frame). p.0) (ok_same is' is)) l') in
         absurd (not_on plain (sym o.1) on)
     one (ForkStops s t b f g h a c stop is plain l) (ForkStops s' t' b' f' g' h' a' c' stop' {i = i'} is' plain' l') =
         let o = one_enters l (subst (λ (g : Frame). Enters form procedures (procedure_named procedures s.callee.name) g a i' (Trapped stop' c')) (ap
-            (λ (p : Frame × Frame). p.0) (ok_same is' is)) l') in
+        (λ (p : Frame × Frame). p.0) (ok_same is' is)) l') in
         (ap (both (forked s t)) o.0, as_locals o.1)
     one (ForkStops s t b f g h a c stop is plain l) (ForkTraps s' t' b' f' a' stop' is') = absurd (not_both is is')
     one (ForkTraps s t b f a stop is) (Forks s' t' b' f' g h a' is' l on r w) = absurd (not_both is' is)
@@ -145,7 +145,7 @@ module _ (form : Form) (procedures : List Procedure) where
     one_loops (Turns e s f a c v l is hold r w) (Turns e' s' f' a' c' v' l' {k = k'} {z = z'} is' hold' r' w') =
         let p = one r r' in
         let q = one_loops w (subst₂ (λ (l : Locals) (a : Arrays). Loops form procedures e s (with_locals f l) a k' z') (sym (same_value p.1)) (sym
-            (ap arrays_of p.1)) w') in
+        (ap arrays_of p.1)) w') in
         (ap₂ (λ (j k : Counts). both (spent 1) (both j k)) p.0 q.0, q.1)
     one_loops (Turns e s f a c v l is hold r w) (TurnTraps e' s' f' a' c' v' stop is' hold' r') = let p = one r r' in absurd (no_end p.1)
     one_loops (TurnTraps e s f a c v stop is hold r) (TestFails e' s' f' a' v' is' fail) = absurd (not_twice (ok_same is' is) fail hold)

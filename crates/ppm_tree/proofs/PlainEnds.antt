@@ -129,9 +129,13 @@ module _ (procedures : List Procedure) where
       → Runs Plain procedures s (with_element f r n i x) a j' y' → IsAlike j' y' j y → PlainSweeps i x s r f (suc n) m (arrays_of y) k z
       → PlainSweeps i x s r f n (suc m) a (both (spent 8) (both j k)) (first_trap y z)
   sweep_alike i x s r f n m a d (Same j v c) q = (both (spent 8) (both j q.0), q.1, Sweep i x s r f n m a d refl q.2, behind (spent 8) (behind j q.3))
-  sweep_alike i x s r f n m a {k = k} {z = z} d (SameTrap j' j stop c e le) q =
-      (both (spent 8) j', Trapped stop c, SweepStops i x s r f n m a c stop refl d, SameTrap (both (spent 8) j') (both (spent 8) (both j k)) stop c
-          (arrays_of z) (omega (arith, le)))
+  sweep_alike i x s r f n m a {k = k} {z = z} d (SameTrap j' j stop c e le) q = (
+    both (spent 8) j',
+    Trapped stop c,
+    SweepStops i x s r f n m a c stop refl d,
+    SameTrap (both (spent 8) j') (both (spent 8) (both j k)) stop c
+        (arrays_of z) (omega (arith, le)),
+  )
 
   -- one block of a loop that ends alike, from what the loop behind it does
   turn_alike : (e : Expression) (s : Block) (f : Frame) (a c : Arrays) (v : ℤ) (l : Locals) {j k : Counts} {z : End Locals}
@@ -167,12 +171,22 @@ module _ (procedures : List Procedure) where
         let p = whole_enters r in
         let q = whole_follows w p.0 _ _ (returned_alike s.target f p.3) in
         (both (began (run.Call s.callee.name)) (both p.0 q.0), q.1, Calls s b f g a is p.2 q.2, behind (began (run.Call s.callee.name)) q.3)
-    whole (CallTraps s b f a stop is) = (began (run.Call s.callee.name), Trapped stop a, CallTraps s b f a stop is, alike (began
-        (run.Call s.callee.name)) (Trapped stop a))
+    whole (CallTraps s b f a stop is) = (
+      began (run.Call s.callee.name),
+      Trapped stop a,
+      CallTraps s b f a stop is,
+      alike (began
+          (run.Call s.callee.name)) (Trapped stop a),
+    )
     whole (Forks s t b f g h a is l on r w) = let p = whole_enters l in fork_alike s t b f g h a is p.2 p.3 (whole_enters r) (whole_follows w) w
     whole (ForkStops s t b f g h a c stop is plain l) = absurd (not_plain plain)
-    whole (ForkTraps s t b f a stop is) = (began (run.Fork s.callee.name t.callee.name), Trapped stop a, ForkTraps s t b f a stop is, alike (began
-        (run.Fork s.callee.name t.callee.name)) (Trapped stop a))
+    whole (ForkTraps s t b f a stop is) = (
+      began (run.Fork s.callee.name t.callee.name),
+      Trapped stop a,
+      ForkTraps s t b f a stop is,
+      alike (began
+          (run.Fork s.callee.name t.callee.name)) (Trapped stop a),
+    )
     whole (Splits line r e x y s b f a n is d w) =
         let p = whole d in
         let q = whole_follows w p.0 _ p.1 p.3 in

@@ -1,11 +1,11 @@
 -- A run that is stopped after so many turns ends within no fewer: by recursion on it, against the run that ends.
-use Rattle.std.proofs.Common.{◌≡◌, ◌≤◌, ℕ, zero, suc, ℤ, true, false, List, Ok, Err, refl, sym, ap, subst, subst₂, arith}
-use Rattle.ppm_tree.specs.Tree.{Named, Expression, Side, Block, Procedure}
+use Rattle.std.proofs.Common.{◌≡◌, ◌≤◌, ℕ, suc, ℤ, List, sym, ap, subst, subst₂, arith}
+use Rattle.ppm_tree.specs.Tree.{Named, Expression, Block, Procedure}
 use Rattle.ppm_tree.specs.Values.{holds}
 use Rattle.ppm_tree.specs.State.{Region, Locals, Frame, with_locals, Arrays, procedure_named}
-use Rattle.ppm_tree.specs.Meaning.{Form, Counts, End, Ended, Trapped, arrays_of, chosen, returned, joined, with_parts, Runs, Follows, Loops, Enters, Sweeps}
-use Rattle.ppm_tree.specs.Meaning.{Done, Lets, Assigns, Puts, Ifs, IfTraps, Whiles, Calls, CallTraps, Forks, ForkStops, ForkTraps, Splits, SplitTraps}
-use Rattle.ppm_tree.specs.Meaning.{Eaches, GoesOn, Stops, TestFails, TestTraps, Turns, TurnTraps, Enter, Swept, Sweep, SweepStops}
+use Rattle.ppm_tree.specs.Meaning.{Form, Counts, End, arrays_of, chosen, returned, joined, with_parts, Runs, Follows, Loops, Enters, Sweeps}
+use Rattle.ppm_tree.specs.Meaning.{Lets, Assigns, Puts, Ifs, IfTraps, Whiles, Calls, CallTraps, Forks, ForkStops, ForkTraps, Splits, SplitTraps}
+use Rattle.ppm_tree.specs.Meaning.{Eaches, GoesOn, TestFails, TestTraps, Turns, TurnTraps, Enter, Sweep, SweepStops}
 use Rattle.ppm_tree.specs.Begun.{Begins, BeginsBehind, BeginsLoop, BeginsBody, BeginsSweep}
 use Rattle.ppm_tree.specs.Begun.{Here, BehindLet, BehindAssign, BehindPut, InIf, BehindIf, InWhile, BehindWhile, InCall, BehindCall, InLeft, InRight}
 use Rattle.ppm_tree.specs.Begun.{BehindFork, InSplit, BehindSplit, InEach, BehindEach}
@@ -103,7 +103,7 @@ module _ (form : Form) (procedures : List Procedure) where
     loop (BehindTurn e s f a c v l is hold d q) (Turns e' s' f' a' c' v' l' {k = k} {z = z} is' hold' r w) =
         let o = one form procedures d r in
         let m = loop q (subst₂ (λ (l : Locals) (a : Arrays). Loops form procedures e s (with_locals f l) a k z) (sym (same_value o.1)) (sym
-            (ap arrays_of o.1)) w) in
+        (ap arrays_of o.1)) w) in
         omega (arith, m)
     loop (BehindTurn e s f a c v l is hold d q) (TurnTraps e' s' f' a' c' v' stop is' hold' r) = let o = one form procedures d r in absurd (no_end o.1)
 

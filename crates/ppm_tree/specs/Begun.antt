@@ -1,5 +1,5 @@
 -- Runs that are stopped: a block, a loop, a procedure or an `each` begins, and spends so many turns or more. No state is stuck.
-use Rattle.std.specs.Prelude.{◌≡◌, ◌≤◌, ℕ, zero, suc, ℤ, true, List, Option, Ok, ◌⊎◌}
+use Rattle.std.specs.Prelude.{◌≡◌, ◌≤◌, ℕ, zero, suc, ℤ, true, List, Ok, ◌⊎◌}
 use Rattle.ppm_tree.specs.Tree.{Named, Expression, Side, Block, Then, Let, Assign, Put, If, While, Split, Procedure, ProgramTree}
 use Rattle.ppm_tree.specs.Tree as tree
 use Rattle.ppm_tree.specs.Values.{holds}
