@@ -197,7 +197,10 @@ module _ (form : Form) (procedures : List Procedure) where
     next_sweep i x s r f k zero a = inl (none, Ended f.locals a, Swept i x s r f k a)
     next_sweep i x s r f k (suc m) a = elim (p.block s (with_element f r k i x) a) [
       | inr q ↦ inr (InBlock i x s r f k m a q)
-      | inl c ↦ elim (goes_or_stops form c.1) [ inl on ↦ of_blocks i x s r f k m a c.0 c.1 c.2 on | inr stopped ↦ of_stopped i x s r f k m a c.0 c.1 c.2 stopped ]
+      | inl c ↦ elim (goes_or_stops form c.1) [
+        | inl on ↦ of_blocks i x s r f k m a c.0 c.1 c.2 on
+        | inr stopped ↦ of_stopped i x s r f k m a c.0 c.1 c.2 stopped
+      ]
     ]
 
   goes : (n : ℕ) → Goes n
