@@ -3,8 +3,10 @@ use Rattle.std.proofs.Common.{◌≡◌, ℕ, suc, ℤ, pos, true, false, List, 
 use Rattle.ppm_tree.specs.Tree.{Named, Expression, Block, Procedure}
 use Rattle.ppm_tree.specs.Values.{holds}
 use Rattle.ppm_tree.specs.State.{TrapAt, Region, Locals, Frame, with_locals, Arrays, procedure_named}
-use Rattle.ppm_tree.specs.Meaning.{Form, Plain, Whole, Counts, spent, both, give_turn, given, End, Ended, Trapped, arrays_of, goes_on, chosen, first_trap, returned, joined, forked, began, swept, with_parts, Runs, Follows, Loops, Enters, Sweeps}
-use Rattle.ppm_tree.specs.Meaning.{Done, Lets, Assigns, Puts, Ifs, IfTraps, Whiles, Calls, CallTraps, Forks, ForkStops, ForkTraps, Splits, SplitTraps, Eaches, GoesOn, Stops, TestFails, TestTraps, Turns, TurnTraps, Enter, Swept, Sweep, SweepStops}
+use Rattle.ppm_tree.specs.Meaning.{Form, Plain, Whole, Counts, spent, both, give_turn, given, End, Ended, Trapped, arrays_of, goes_on, chosen}
+use Rattle.ppm_tree.specs.Meaning.{first_trap, returned, joined, forked, began, swept, with_parts, Runs, Follows, Loops, Enters, Sweeps}
+use Rattle.ppm_tree.specs.Meaning.{Done, Lets, Assigns, Puts, Ifs, IfTraps, Whiles, Calls, CallTraps, Forks, ForkStops, ForkTraps, Splits, SplitTraps}
+use Rattle.ppm_tree.specs.Meaning.{Eaches, GoesOn, Stops, TestFails, TestTraps, Turns, TurnTraps, Enter, Swept, Sweep, SweepStops}
 use Rattle.ppm_tree.specs.Meaning as run
 use Rattle.ppm_tree.specs.Correct.{HasOneEnd}
 
@@ -61,7 +63,8 @@ Same_ j k y z = (j ≡ k) × (y ≡ z)
 
 module _ (form : Form) (procedures : List Procedure) where
   mutual
-    pub one : {b : Block} {f : Frame} {a : Arrays} {j k : Counts} {y z : End Locals} → Runs form procedures b f a j y → Runs form procedures b f a k z → Same_ j k y z
+    pub one : {b : Block} {f : Frame} {a : Arrays} {j k : Counts} {y z : End Locals} → Runs form procedures b f a j y
+        → Runs form procedures b f a k z → Same_ j k y z
     one (Done f a) (Done f' a') = (refl, refl)
     one (Lets x e b f a r) (Lets x' e' b' f' a' r') = let p = one_follows r r' in (ap (both (spent 1)) p.0, p.1)
     one (Assigns x e b f a r) (Assigns x' e' b' f' a' r') = let p = one_follows r r' in (ap (both (spent 1)) p.0, p.1)
@@ -86,19 +89,24 @@ module _ (form : Form) (procedures : List Procedure) where
     one (CallTraps s b f a stop is) (CallTraps s' b' f' a' stop' is') = (refl, ap (λ (s : TrapAt). Trapped s a) (err_same is is'))
     one (Forks s t b f g h a is l on r w) (Forks s' t' b' f' g' h' a' {i = i'} {j = j'} {k = k'} {x = x'} {y = y'} {z = z'} is' l' on' r' w') =
         let e = ok_same is' is in
-        let o = one_enters l (subst (λ (g : Frame). Enters form procedures (procedure_named procedures s.callee.name) g a i' x') (ap (λ (p : Frame × Frame). p.0) e) l') in
-        let p = one_enters r (subst₂ (λ (h : Frame) (x : End ℤ). Enters form procedures (procedure_named procedures t.callee.name) h (arrays_of x) j' y') (ap (λ (p : Frame × Frame). p.1) e) (sym o.1) r') in
+        let o = one_enters l (subst (λ (g : Frame). Enters form procedures (procedure_named procedures s.callee.name) g a i' x') (ap (λ
+        (p : Frame × Frame). p.0) e) l') in
+        let p = one_enters r (subst₂ (λ (h : Frame) (x : End ℤ). Enters form procedures (procedure_named procedures t.callee.name) h
+        (arrays_of x) j' y') (ap (λ (p : Frame × Frame). p.1) e) (sym o.1) r') in
         let q = one_follows w (subst₂ (λ (x y : End ℤ). Follows form procedures b f (joined s.target t.target f x y) k' z') (sym o.1) (sym p.1) w') in
         (ap₂ (λ (i k : Counts). both (forked s t) (both i k)) o.0 (ap₂ both p.0 q.0), q.1)
     one (Forks s t b f g h a is l on r w) (ForkStops s' t' b' f' g' h' a' c stop {i = i'} is' plain l') =
-        let o = one_enters l (subst (λ (g : Frame). Enters form procedures (procedure_named procedures s.callee.name) g a i' (Trapped stop c)) (ap (λ (p : Frame × Frame). p.0) (ok_same is' is)) l') in
+        let o = one_enters l (subst (λ (g : Frame). Enters form procedures (procedure_named procedures s.callee.name) g a i' (Trapped stop c)) (ap (λ
+        (p : Frame × Frame). p.0) (ok_same is' is)) l') in
         absurd (not_on plain o.1 on)
     one (Forks s t b f g h a is l on r w) (ForkTraps s' t' b' f' a' stop is') = absurd (not_both is is')
     one (ForkStops s t b f g h a c stop is plain l) (Forks s' t' b' f' g' h' a' {i = i'} {x = x'} is' l' on r w) =
-        let o = one_enters l (subst (λ (g : Frame). Enters form procedures (procedure_named procedures s.callee.name) g a i' x') (ap (λ (p : Frame × Frame). p.0) (ok_same is' is)) l') in
+        let o = one_enters l (subst (λ (g : Frame). Enters form procedures (procedure_named procedures s.callee.name) g a i' x') (ap (λ
+        (p : Frame × Frame). p.0) (ok_same is' is)) l') in
         absurd (not_on plain (sym o.1) on)
     one (ForkStops s t b f g h a c stop is plain l) (ForkStops s' t' b' f' g' h' a' c' stop' {i = i'} is' plain' l') =
-        let o = one_enters l (subst (λ (g : Frame). Enters form procedures (procedure_named procedures s.callee.name) g a i' (Trapped stop' c')) (ap (λ (p : Frame × Frame). p.0) (ok_same is' is)) l') in
+        let o = one_enters l (subst (λ (g : Frame). Enters form procedures (procedure_named procedures s.callee.name) g a i' (Trapped stop' c')) (ap
+        (λ (p : Frame × Frame). p.0) (ok_same is' is)) l') in
         (ap (both (forked s t)) o.0, as_locals o.1)
     one (ForkStops s t b f g h a c stop is plain l) (ForkTraps s' t' b' f' a' stop' is') = absurd (not_both is is')
     one (ForkTraps s t b f a stop is) (Forks s' t' b' f' g h a' is' l on r w) = absurd (not_both is' is)
@@ -110,17 +118,20 @@ module _ (form : Form) (procedures : List Procedure) where
         (ap₂ (λ (j k : Counts). both (spent 1) (both j k)) p.0 q.0, q.1)
     one (Splits line r e x y s b f a n is d w) (SplitTraps line' r' e' x' y' s' b' f' a' stop is') = absurd (not_both is is')
     one (SplitTraps line r e x y s b f a stop is) (Splits line' r' e' x' y' s' b' f' a' n is' d w) = absurd (not_both is' is)
-    one (SplitTraps line r e x y s b f a stop is) (SplitTraps line' r' e' x' y' s' b' f' a' stop' is') = (refl, ap (λ (s : TrapAt). Trapped s a) (err_same is is'))
+    one (SplitTraps line r e x y s b f a stop is) (SplitTraps line' r' e' x' y' s' b' f' a' stop' is') =
+        (refl, ap (λ (s : TrapAt). Trapped s a) (err_same is is'))
     one (Eaches i x r s b f a d w) (Eaches i' x' r' s' b' f' a' {k = k'} {z = z'} d' w') =
         let p = one_sweeps d d' in
         let q = one_follows w (subst (λ (y : End Locals). Follows form procedures b f y k' z') (sym p.1) w') in
         (ap₂ (λ (j k : Counts). both (swept i x r s (f.regions r.name).length) (both j k)) p.0 q.0, q.1)
 
-    pub one_follows : {b : Block} {f : Frame} {u : End Locals} {j k : Counts} {y z : End Locals} → Follows form procedures b f u j y → Follows form procedures b f u k z → Same_ j k y z
+    pub one_follows : {b : Block} {f : Frame} {u : End Locals} {j k : Counts} {y z : End Locals} → Follows form procedures b f u j y
+        → Follows form procedures b f u k z → Same_ j k y z
     one_follows (GoesOn b f l a r) (GoesOn b' f' l' a' r') = one r r'
     one_follows (Stops b f stop a) (Stops b' f' stop' a') = (refl, refl)
 
-    pub one_loops : {e : Expression} {s : Block} {f : Frame} {a : Arrays} {j k : Counts} {y z : End Locals} → Loops form procedures e s f a j y → Loops form procedures e s f a k z → Same_ j k y z
+    pub one_loops : {e : Expression} {s : Block} {f : Frame} {a : Arrays} {j k : Counts} {y z : End Locals} → Loops form procedures e s f a j y
+        → Loops form procedures e s f a k z → Same_ j k y z
     one_loops (TestFails e s f a v is fail) (TestFails e' s' f' a' v' is' fail') = (refl, refl)
     one_loops (TestFails e s f a v is fail) (TestTraps e' s' f' a' stop is') = absurd (not_both is is')
     one_loops (TestFails e s f a v is fail) (Turns e' s' f' a' c v' l is' hold r w) = absurd (not_twice (ok_same is is') fail hold)
@@ -133,7 +144,8 @@ module _ (form : Form) (procedures : List Procedure) where
     one_loops (Turns e s f a c v l is hold r w) (TestTraps e' s' f' a' stop is') = absurd (not_both is is')
     one_loops (Turns e s f a c v l is hold r w) (Turns e' s' f' a' c' v' l' {k = k'} {z = z'} is' hold' r' w') =
         let p = one r r' in
-        let q = one_loops w (subst₂ (λ (l : Locals) (a : Arrays). Loops form procedures e s (with_locals f l) a k' z') (sym (same_value p.1)) (sym (ap arrays_of p.1)) w') in
+        let q = one_loops w (subst₂ (λ (l : Locals) (a : Arrays). Loops form procedures e s (with_locals f l) a k' z') (sym (same_value p.1)) (sym
+        (ap arrays_of p.1)) w') in
         (ap₂ (λ (j k : Counts). both (spent 1) (both j k)) p.0 q.0, q.1)
     one_loops (Turns e s f a c v l is hold r w) (TurnTraps e' s' f' a' c' v' stop is' hold' r') = let p = one r r' in absurd (no_end p.1)
     one_loops (TurnTraps e s f a c v stop is hold r) (TestFails e' s' f' a' v' is' fail) = absurd (not_twice (ok_same is' is) fail hold)
@@ -141,7 +153,8 @@ module _ (form : Form) (procedures : List Procedure) where
     one_loops (TurnTraps e s f a c v stop is hold r) (Turns e' s' f' a' c' v' l is' hold' r' w) = let p = one r r' in absurd (no_end (sym p.1))
     one_loops (TurnTraps e s f a c v stop is hold r) (TurnTraps e' s' f' a' c' v' stop' is' hold' r') = let p = one r r' in (ap (both (spent 1)) p.0, p.1)
 
-    pub one_enters : {p : Procedure} {f : Frame} {a : Arrays} {j k : Counts} {y z : End ℤ} → Enters form procedures p f a j y → Enters form procedures p f a k z → Same_ j k y z
+    pub one_enters : {p : Procedure} {f : Frame} {a : Arrays} {j k : Counts} {y z : End ℤ} → Enters form procedures p f a j y
+        → Enters form procedures p f a k z → Same_ j k y z
     one_enters (Enter p f a r) (Enter p' f' a' r') =
         let q = one r r' in
         (ap₂ (λ (j : Counts) (y : End Locals). both (spent 1) (both j (give_turn p.give y))) q.0 q.1, ap (given p.give f) q.1)
@@ -155,7 +168,8 @@ module _ (form : Form) (procedures : List Procedure) where
         (ap₂ (λ (j k : Counts). both (spent 8) (both j k)) p.0 q.0, ap₂ first_trap p.1 q.1)
     one_sweeps (Sweep i x s r f n m a d on w) (SweepStops i' x' s' r' f' n' m' a' c stop plain d') = let p = one d d' in absurd (not_on plain p.1 on)
     one_sweeps (SweepStops i x s r f n m a c stop plain d) (Sweep i' x' s' r' f' n' m' a' d' on w) = let p = one d d' in absurd (not_on plain (sym p.1) on)
-    one_sweeps (SweepStops i x s r f n m a c stop plain d) (SweepStops i' x' s' r' f' n' m' a' c' stop' plain' d') = let p = one d d' in (ap (both (spent 8)) p.0, p.1)
+    one_sweeps (SweepStops i x s r f n m a c stop plain d) (SweepStops i' x' s' r' f' n' m' a' c' stop' plain' d') = let p =
+        one d d' in (ap (both (spent 8)) p.0, p.1)
 
   -- so in the law's words
   pub one_end : HasOneEnd form procedures

@@ -4,8 +4,10 @@ use Rattle.ppm_tree.specs.Tree.{Named, Expression, Side, Block, Then, Give, Proc
 use Rattle.ppm_tree.specs.Tree as tree
 use Rattle.ppm_tree.specs.Values.{holds}
 use Rattle.ppm_tree.specs.State.{TrapAt, Region, Locals, Frame, with_locals, Arrays, evaluate, both_entered, procedure_named}
-use Rattle.ppm_tree.specs.Meaning.{Form, Plain, Whole, Counts, none, spent, both, give_turn, given, assigned, stored, End, Ended, Trapped, end_of, arrays_of, goes_on, first_trap, returned, joined, forked, began, swept, with_element, Runs, Follows, Loops, Enters, Sweeps}
-use Rattle.ppm_tree.specs.Meaning.{Done, Lets, Assigns, Puts, Ifs, IfTraps, Whiles, Calls, CallTraps, Forks, ForkStops, ForkTraps, Splits, SplitTraps, Eaches, GoesOn, Stops, TestFails, TestTraps, Turns, TurnTraps, Enter, Swept, Sweep, SweepStops}
+use Rattle.ppm_tree.specs.Meaning.{Form, Plain, Whole, Counts, none, spent, both, give_turn, given, assigned, stored, End, Ended, Trapped, end_of}
+use Rattle.ppm_tree.specs.Meaning.{arrays_of, goes_on, first_trap, returned, joined, forked, began, swept, with_element, Runs, Follows, Loops, Enters, Sweeps}
+use Rattle.ppm_tree.specs.Meaning.{Done, Lets, Assigns, Puts, Ifs, IfTraps, Whiles, Calls, CallTraps, Forks, ForkStops, ForkTraps, Splits, SplitTraps}
+use Rattle.ppm_tree.specs.Meaning.{Eaches, GoesOn, Stops, TestFails, TestTraps, Turns, TurnTraps, Enter, Swept, Sweep, SweepStops}
 use Rattle.ppm_tree.specs.Meaning as run
 use Rattle.ppm_tree.specs.Correct.{IsAlike, Same, SameTrap}
 
@@ -20,7 +22,8 @@ behind i (Same k x a) = Same (both i k) x a
 behind i (SameTrap j k stop a b le) = SameTrap (both i j) (both i k) stop a b (omega (arith, le))
 
 -- with more behind the later one of two that trap
-longer : {A : Type 0} (i : Counts) {j k : Counts} {y z : End A} → IsAlike j y k z → (stop : TrapAt) (a : Arrays) → z ≡ Trapped stop a → IsAlike j y (both k i) z
+longer : {A : Type 0} (i : Counts) {j k : Counts} {y z : End A} → IsAlike j y k z → (stop : TrapAt) (a : Arrays) → z ≡ Trapped stop a
+    → IsAlike j y (both k i) z
 longer i (Same k x a) stop b p = absurd (cc)
 longer i (SameTrap j k s a b le) stop c p = SameTrap j (both k i) s a b (omega (arith, le))
 
@@ -39,7 +42,8 @@ returned_alike t f (Same k x a) = alike k (returned t f (Ended x a))
 returned_alike t f (SameTrap j k stop a b le) = SameTrap j k stop a b le
 
 -- what a body gives behind ends alike
-given_alike : (g : Option Give) (f : Frame) {j k : Counts} {y z : End Locals} → IsAlike j y k z → IsAlike (both j (give_turn g y)) (given g f y) (both k (give_turn g z)) (given g f z)
+given_alike : (g : Option Give) (f : Frame) {j k : Counts} {y z : End Locals} → IsAlike j y k z
+    → IsAlike (both j (give_turn g y)) (given g f y) (both k (give_turn g z)) (given g f z)
 given_alike g f (Same k x a) = alike (both k (give_turn g (Ended x a))) (given g f (Ended x a))
 given_alike g f (SameTrap j k stop a b le) = SameTrap (both j none) (both k none) stop a b (omega (arith, le))
 
@@ -50,7 +54,8 @@ counts_same p q r = λ i. record { turns = p i; forks = q i; begun = r i }
 both_assoc : (i j k : Counts) → both (both i j) k ≡ both i (both j k)
 both_assoc i j k = counts_same (omega arith) (omega arith) (append_assoc i.begun j.begun k.begun)
 
-grouped : {A : Type 0} (i j k l m : Counts) {y z : End A} → IsAlike (both (both i j) k) y (both (both i l) m) z → IsAlike (both i (both j k)) y (both i (both l m)) z
+grouped : {A : Type 0} (i j k l m : Counts) {y z : End A} → IsAlike (both (both i j) k) y (both (both i l) m) z
+    → IsAlike (both i (both j k)) y (both i (both l m)) z
 grouped i j k l m {y} {z} h = subst₂ (λ (j k : Counts). IsAlike j y k z) (both_assoc i j k) (both_assoc i l m) h
 
 -- the whole form is not the plain one
@@ -82,11 +87,13 @@ module _ (procedures : List Procedure) where
   PlainFollows b f u k z = (i j : Counts) (v : End Locals) → IsAlike i v j u
       → (l : Counts) × (y : End Locals) × Follows Plain procedures b f v l y × IsAlike (both i l) y (both j k) z
 
-  goes_alike : {b : Block} {f : Frame} {k : Counts} {z : End Locals} (l : Locals) (a : Arrays) → PlainRuns b (with_locals f l) a k z → PlainFollows b f (Ended l a) k z
+  goes_alike : {b : Block} {f : Frame} {k : Counts} {z : End Locals} (l : Locals) (a : Arrays) → PlainRuns b (with_locals f l) a k z
+      → PlainFollows b f (Ended l a) k z
   goes_alike l a p _ _ _ (Same k x c) = (p.0, p.1, GoesOn _ _ l a p.2, behind k p.3)
 
   stops_alike : {b : Block} {f : Frame} (stop : TrapAt) (a : Arrays) → PlainFollows b f (Trapped stop a) none (Trapped stop a)
-  stops_alike stop a _ _ _ (SameTrap i j s c d le) = (none, Trapped stop c, Stops _ _ stop c, SameTrap (both i none) (both j none) stop c d (omega (arith, le)))
+  stops_alike stop a _ _ _ (SameTrap i j s c d le) =
+      (none, Trapped stop c, Stops _ _ stop c, SameTrap (both i none) (both j none) stop c d (omega (arith, le)))
 
   -- a statement that spends a turn, and what follows it
   one_turn : (b : Block) (f : Frame) (u : End Locals) (k : Counts) (z : End Locals) → PlainFollows b f u k z
@@ -94,7 +101,8 @@ module _ (procedures : List Procedure) where
   one_turn b f u k z p = p (spent 1) (spent 1) u (alike (spent 1) u)
 
   -- the ends of two branches, alike, behind a left one without a trap
-  joined_alike : (x y : Option Named) (f : Frame) (v : ℤ) (a : Arrays) {j k : Counts} {u w : End ℤ} → IsAlike j u k w → IsAlike j (joined x y f (Ended v a) u) k (joined x y f (Ended v a) w)
+  joined_alike : (x y : Option Named) (f : Frame) (v : ℤ) (a : Arrays) {j k : Counts} {u w : End ℤ} → IsAlike j u k w
+      → IsAlike j (joined x y f (Ended v a) u) k (joined x y f (Ended v a) w)
   joined_alike x y f v a (Same k w b) = alike k (joined x y f (Ended v a) (Ended w b))
   joined_alike x y f v a (SameTrap j k stop b c le) = SameTrap j k stop b c le
 
@@ -121,14 +129,20 @@ module _ (procedures : List Procedure) where
       → Runs Plain procedures s (with_element f r n i x) a j' y' → IsAlike j' y' j y → PlainSweeps i x s r f (suc n) m (arrays_of y) k z
       → PlainSweeps i x s r f n (suc m) a (both (spent 8) (both j k)) (first_trap y z)
   sweep_alike i x s r f n m a d (Same j v c) q = (both (spent 8) (both j q.0), q.1, Sweep i x s r f n m a d refl q.2, behind (spent 8) (behind j q.3))
-  sweep_alike i x s r f n m a {k = k} {z = z} d (SameTrap j' j stop c e le) q =
-      (both (spent 8) j', Trapped stop c, SweepStops i x s r f n m a c stop refl d, SameTrap (both (spent 8) j') (both (spent 8) (both j k)) stop c (arrays_of z) (omega (arith, le)))
+  sweep_alike i x s r f n m a {k = k} {z = z} d (SameTrap j' j stop c e le) q = (
+    both (spent 8) j',
+    Trapped stop c,
+    SweepStops i x s r f n m a c stop refl d,
+    SameTrap (both (spent 8) j') (both (spent 8) (both j k)) stop c
+        (arrays_of z) (omega (arith, le)),
+  )
 
   -- one block of a loop that ends alike, from what the loop behind it does
   turn_alike : (e : Expression) (s : Block) (f : Frame) (a c : Arrays) (v : ℤ) (l : Locals) {j k : Counts} {z : End Locals}
       → evaluate f a e ≡ Ok v → holds v ≡ true → PlainRuns s f a j (Ended l c) → PlainLoops e s (with_locals f l) c k z
       → PlainLoops e s f a (both (spent 1) (both j k)) z
-  turn_alike e s f a c v l is hold (_, _, r, Same j x d) q = (both (spent 1) (both j q.0), q.1, Turns e s f a c v l is hold r q.2, behind (spent 1) (behind j q.3))
+  turn_alike e s f a c v l is hold (_, _, r, Same j x d) q =
+      (both (spent 1) (both j q.0), q.1, Turns e s f a c v l is hold r q.2, behind (spent 1) (behind j q.3))
 
   turn_traps_alike : (e : Expression) (s : Block) (f : Frame) (a c : Arrays) (v : ℤ) (stop : TrapAt) {j : Counts}
       → evaluate f a e ≡ Ok v → holds v ≡ true → PlainRuns s f a j (Trapped stop c) → PlainLoops e s f a (both (spent 1) j) (Trapped stop c)
@@ -138,9 +152,12 @@ module _ (procedures : List Procedure) where
   mutual
     pub whole : {b : Block} {f : Frame} {a : Arrays} {k : Counts} {z : End Locals} → Runs Whole procedures b f a k z → PlainRuns b f a k z
     whole (Done f a) = (none, Ended f.locals a, Done f a, alike none (Ended f.locals a))
-    whole (Lets x e b f a {k = k} {z = z} r) = let p = one_turn b f (assigned x e f a) k z (whole_follows r) in (both (spent 1) p.0, p.1, Lets x e b f a p.2, p.3)
-    whole (Assigns x e b f a {k = k} {z = z} r) = let p = one_turn b f (assigned x e f a) k z (whole_follows r) in (both (spent 1) p.0, p.1, Assigns x e b f a p.2, p.3)
-    whole (Puts x i e b f a {k = k} {z = z} r) = let p = one_turn b f (stored x i e f a) k z (whole_follows r) in (both (spent 1) p.0, p.1, Puts x i e b f a p.2, p.3)
+    whole (Lets x e b f a {k = k} {z = z} r) = let p =
+        one_turn b f (assigned x e f a) k z (whole_follows r) in (both (spent 1) p.0, p.1, Lets x e b f a p.2, p.3)
+    whole (Assigns x e b f a {k = k} {z = z} r) = let p =
+        one_turn b f (assigned x e f a) k z (whole_follows r) in (both (spent 1) p.0, p.1, Assigns x e b f a p.2, p.3)
+    whole (Puts x i e b f a {k = k} {z = z} r) = let p =
+        one_turn b f (stored x i e f a) k z (whole_follows r) in (both (spent 1) p.0, p.1, Puts x i e b f a p.2, p.3)
     whole (Ifs e s t b f a v is r w) =
         let p = whole r in
         let q = whole_follows w p.0 _ p.1 p.3 in
@@ -154,10 +171,22 @@ module _ (procedures : List Procedure) where
         let p = whole_enters r in
         let q = whole_follows w p.0 _ _ (returned_alike s.target f p.3) in
         (both (began (run.Call s.callee.name)) (both p.0 q.0), q.1, Calls s b f g a is p.2 q.2, behind (began (run.Call s.callee.name)) q.3)
-    whole (CallTraps s b f a stop is) = (began (run.Call s.callee.name), Trapped stop a, CallTraps s b f a stop is, alike (began (run.Call s.callee.name)) (Trapped stop a))
+    whole (CallTraps s b f a stop is) = (
+      began (run.Call s.callee.name),
+      Trapped stop a,
+      CallTraps s b f a stop is,
+      alike (began
+          (run.Call s.callee.name)) (Trapped stop a),
+    )
     whole (Forks s t b f g h a is l on r w) = let p = whole_enters l in fork_alike s t b f g h a is p.2 p.3 (whole_enters r) (whole_follows w) w
     whole (ForkStops s t b f g h a c stop is plain l) = absurd (not_plain plain)
-    whole (ForkTraps s t b f a stop is) = (began (run.Fork s.callee.name t.callee.name), Trapped stop a, ForkTraps s t b f a stop is, alike (began (run.Fork s.callee.name t.callee.name)) (Trapped stop a))
+    whole (ForkTraps s t b f a stop is) = (
+      began (run.Fork s.callee.name t.callee.name),
+      Trapped stop a,
+      ForkTraps s t b f a stop is,
+      alike (began
+          (run.Fork s.callee.name t.callee.name)) (Trapped stop a),
+    )
     whole (Splits line r e x y s b f a n is d w) =
         let p = whole d in
         let q = whole_follows w p.0 _ p.1 p.3 in
@@ -173,7 +202,8 @@ module _ (procedures : List Procedure) where
     whole_follows (GoesOn b f l a r) = goes_alike l a (whole r)
     whole_follows (Stops b f stop a) = stops_alike stop a
 
-    whole_loops : {e : Expression} {s : Block} {f : Frame} {a : Arrays} {k : Counts} {z : End Locals} → Loops Whole procedures e s f a k z → PlainLoops e s f a k z
+    whole_loops : {e : Expression} {s : Block} {f : Frame} {a : Arrays} {k : Counts} {z : End Locals} → Loops Whole procedures e s f a k z
+        → PlainLoops e s f a k z
     whole_loops (TestFails e s f a v is fail) = (spent 1, Ended f.locals a, TestFails e s f a v is fail, alike (spent 1) (Ended f.locals a))
     whole_loops (TestTraps e s f a stop is) = (spent 1, Trapped stop a, TestTraps e s f a stop is, alike (spent 1) (Trapped stop a))
     whole_loops (Turns e s f a c v l is hold r w) = turn_alike e s f a c v l is hold (whole r) (whole_loops w)

@@ -33,7 +33,8 @@ module _ (t : ProgramTree) where
   more_turns n m _ le some (NotWithin more) = absurd (some refl)
 
   within_turns : (n : ℕ) (o : Outcome) → Serial t n o → (k : Counts) (z : End ℤ) → Spends t k z → o ≡ outcome_of (initial_arrays t) z → k.turns ≤ n
-  within_turns n _ (Within k' z' r' low) k z r is = let e : k'.turns ≡ k.turns = ap (λ (k : Counts). k.turns) (spent_once k' k z' z r' r).0 in omega (arith, low, e)
+  within_turns n _ (Within k' z' r' low) k z r is = let e : k'.turns ≡ k.turns =
+      ap (λ (k : Counts). k.turns) (spent_once k' k z' z r' r).0 in omega (arith, low, e)
   within_turns n _ (NotWithin more) k z r is = absurd (some_outcome (initial_arrays t) z (sym is))
 
   beyond_turns : (n : ℕ) (o : Outcome) → Serial t n o → o ≡ outcome.NotWithin → (k : Counts) (z : End ℤ) → Spends t k z → n < k.turns

@@ -1,12 +1,14 @@
 -- A run that is stopped after so many turns ends within no fewer: by recursion on it, against the run that ends.
-use Rattle.std.proofs.Common.{◌≡◌, ◌≤◌, ℕ, zero, suc, ℤ, true, false, List, Ok, Err, refl, sym, ap, subst, subst₂, arith}
-use Rattle.ppm_tree.specs.Tree.{Named, Expression, Side, Block, Procedure}
+use Rattle.std.proofs.Common.{◌≡◌, ◌≤◌, ℕ, suc, ℤ, List, sym, ap, subst, subst₂, arith}
+use Rattle.ppm_tree.specs.Tree.{Named, Expression, Block, Procedure}
 use Rattle.ppm_tree.specs.Values.{holds}
 use Rattle.ppm_tree.specs.State.{Region, Locals, Frame, with_locals, Arrays, procedure_named}
-use Rattle.ppm_tree.specs.Meaning.{Form, Counts, End, Ended, Trapped, arrays_of, chosen, returned, joined, with_parts, Runs, Follows, Loops, Enters, Sweeps}
-use Rattle.ppm_tree.specs.Meaning.{Done, Lets, Assigns, Puts, Ifs, IfTraps, Whiles, Calls, CallTraps, Forks, ForkStops, ForkTraps, Splits, SplitTraps, Eaches, GoesOn, Stops, TestFails, TestTraps, Turns, TurnTraps, Enter, Swept, Sweep, SweepStops}
+use Rattle.ppm_tree.specs.Meaning.{Form, Counts, End, arrays_of, chosen, returned, joined, with_parts, Runs, Follows, Loops, Enters, Sweeps}
+use Rattle.ppm_tree.specs.Meaning.{Lets, Assigns, Puts, Ifs, IfTraps, Whiles, Calls, CallTraps, Forks, ForkStops, ForkTraps, Splits, SplitTraps}
+use Rattle.ppm_tree.specs.Meaning.{Eaches, GoesOn, TestFails, TestTraps, Turns, TurnTraps, Enter, Sweep, SweepStops}
 use Rattle.ppm_tree.specs.Begun.{Begins, BeginsBehind, BeginsLoop, BeginsBody, BeginsSweep}
-use Rattle.ppm_tree.specs.Begun.{Here, BehindLet, BehindAssign, BehindPut, InIf, BehindIf, InWhile, BehindWhile, InCall, BehindCall, InLeft, InRight, BehindFork, InSplit, BehindSplit, InEach, BehindEach}
+use Rattle.ppm_tree.specs.Begun.{Here, BehindLet, BehindAssign, BehindPut, InIf, BehindIf, InWhile, BehindWhile, InCall, BehindCall, InLeft, InRight}
+use Rattle.ppm_tree.specs.Begun.{BehindFork, InSplit, BehindSplit, InEach, BehindEach}
 use Rattle.ppm_tree.specs.Begun.{Behind, AtLoop, InTurn, BehindTurn, AtEntry, InBody, AtEach, InBlock, BehindBlock}
 use Rattle.ppm_tree.proofs.OneEnd.{ok_same, not_both, not_twice, not_on, same_value, no_end, one, one_loops, one_enters, one_sweeps}
 
@@ -16,11 +18,13 @@ module _ (form : Form) (procedures : List Procedure) where
   in_frame {q = q} {a = a} {k = k} {z = z} e r = subst (λ (g : Frame). Enters form procedures q g a k z) e r
 
   -- what follows one end follows an equal one
-  behind_end : {b : Block} {f : Frame} {u v : End Locals} {k : Counts} {z : End Locals} → u ≡ v → Follows form procedures b f u k z → Follows form procedures b f v k z
+  behind_end : {b : Block} {f : Frame} {u v : End Locals} {k : Counts} {z : End Locals} → u ≡ v → Follows form procedures b f u k z
+      → Follows form procedures b f v k z
   behind_end {b = b} {f = f} {k = k} {z = z} e w = subst (λ (u : End Locals). Follows form procedures b f u k z) e w
 
   mutual
-    pub spends : {n : ℕ} {b : Block} {f : Frame} {a : Arrays} {k : Counts} {z : End Locals} → Begins form procedures n b f a → Runs form procedures b f a k z → n ≤ k.turns
+    pub spends : {n : ℕ} {b : Block} {f : Frame} {a : Arrays} {k : Counts} {z : End Locals} → Begins form procedures n b f a
+        → Runs form procedures b f a k z → n ≤ k.turns
     spends (Here b f a) r = omega arith
     spends (BehindLet x e b f a q) (Lets x' e' b' f' a' w) = let l = rest q w in omega (arith, l)
     spends (BehindAssign x e b f a q) (Assigns x' e' b' f' a' w) = let l = rest q w in omega (arith, l)
@@ -83,10 +87,12 @@ module _ (form : Form) (procedures : List Procedure) where
         let l = rest q (behind_end (sym o.1) w) in
         omega (arith, l)
 
-    rest : {n : ℕ} {b : Block} {f : Frame} {u : End Locals} {k : Counts} {z : End Locals} → BeginsBehind form procedures n b f u → Follows form procedures b f u k z → n ≤ k.turns
+    rest : {n : ℕ} {b : Block} {f : Frame} {u : End Locals} {k : Counts} {z : End Locals} → BeginsBehind form procedures n b f u
+        → Follows form procedures b f u k z → n ≤ k.turns
     rest (Behind b f l a q) (GoesOn b' f' l' a' r) = spends q r
 
-    loop : {n : ℕ} {e : Expression} {s : Block} {f : Frame} {a : Arrays} {k : Counts} {z : End Locals} → BeginsLoop form procedures n e s f a → Loops form procedures e s f a k z → n ≤ k.turns
+    loop : {n : ℕ} {e : Expression} {s : Block} {f : Frame} {a : Arrays} {k : Counts} {z : End Locals} → BeginsLoop form procedures n e s f a
+        → Loops form procedures e s f a k z → n ≤ k.turns
     loop (AtLoop e s f a) r = omega arith
     loop (InTurn e s f a v is hold q) (TestFails e' s' f' a' v' is' fail) = absurd (not_twice (ok_same is' is) fail hold)
     loop (InTurn e s f a v is hold q) (TestTraps e' s' f' a' stop is') = absurd (not_both is is')
@@ -96,11 +102,13 @@ module _ (form : Form) (procedures : List Procedure) where
     loop (BehindTurn e s f a c v l is hold d q) (TestTraps e' s' f' a' stop is') = absurd (not_both is is')
     loop (BehindTurn e s f a c v l is hold d q) (Turns e' s' f' a' c' v' l' {k = k} {z = z} is' hold' r w) =
         let o = one form procedures d r in
-        let m = loop q (subst₂ (λ (l : Locals) (a : Arrays). Loops form procedures e s (with_locals f l) a k z) (sym (same_value o.1)) (sym (ap arrays_of o.1)) w) in
+        let m = loop q (subst₂ (λ (l : Locals) (a : Arrays). Loops form procedures e s (with_locals f l) a k z) (sym (same_value o.1)) (sym
+        (ap arrays_of o.1)) w) in
         omega (arith, m)
     loop (BehindTurn e s f a c v l is hold d q) (TurnTraps e' s' f' a' c' v' stop is' hold' r) = let o = one form procedures d r in absurd (no_end o.1)
 
-    pub body : {n : ℕ} {p : Procedure} {f : Frame} {a : Arrays} {k : Counts} {z : End ℤ} → BeginsBody form procedures n p f a → Enters form procedures p f a k z → n ≤ k.turns
+    pub body : {n : ℕ} {p : Procedure} {f : Frame} {a : Arrays} {k : Counts} {z : End ℤ} → BeginsBody form procedures n p f a
+        → Enters form procedures p f a k z → n ≤ k.turns
     body (AtEntry p f a) r = omega arith
     body (InBody p f a q) (Enter p' f' a' r) = let l = spends q r in omega (arith, l)
 

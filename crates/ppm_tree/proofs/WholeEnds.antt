@@ -3,7 +3,8 @@ use Rattle.std.proofs.Common.{ℕ, ℤ, List, Option, Some, None, refl}
 use Rattle.ppm_tree.specs.Tree.{Named, Expression, Block, Give, Procedure, ProgramTree}
 use Rattle.ppm_tree.specs.State.{Region, Locals, Frame, Arrays}
 use Rattle.ppm_tree.specs.Meaning.{Plain, Whole, Counts, given, End, Ended, Trapped, first_trap, returned, joined, Runs, Follows, Loops, Enters, Sweeps}
-use Rattle.ppm_tree.specs.Meaning.{Done, Lets, Assigns, Puts, Ifs, IfTraps, Whiles, Calls, CallTraps, Forks, ForkStops, ForkTraps, Splits, SplitTraps, Eaches, GoesOn, Stops, TestFails, TestTraps, Turns, TurnTraps, Enter, Swept, Sweep, SweepStops}
+use Rattle.ppm_tree.specs.Meaning.{Done, Lets, Assigns, Puts, Ifs, IfTraps, Whiles, Calls, CallTraps, Forks, ForkStops, ForkTraps, Splits, SplitTraps}
+use Rattle.ppm_tree.specs.Meaning.{Eaches, GoesOn, Stops, TestFails, TestTraps, Turns, TurnTraps, Enter, Swept, Sweep, SweepStops}
 use Rattle.ppm_tree.specs.Correct.{EndsWhole}
 use Rattle.ppm_tree.proofs.PlainEnds.{whole_enters}
 
@@ -57,17 +58,20 @@ module _ (procedures : List Procedure) where
     wholly (SplitTraps line r e x y s b f a stop is) h = absurd h
     wholly (Eaches i x r s b f a d w) h = Eaches i x r s b f a (wholly_sweeps d (before w h)) (wholly_follows w h)
 
-    wholly_follows : {b : Block} {f : Frame} {u : End Locals} {k : Counts} {z : End Locals} → Follows Plain procedures b f u k z → IsEnd z → Follows Whole procedures b f u k z
+    wholly_follows : {b : Block} {f : Frame} {u : End Locals} {k : Counts} {z : End Locals} → Follows Plain procedures b f u k z → IsEnd z
+        → Follows Whole procedures b f u k z
     wholly_follows (GoesOn b f l a r) h = GoesOn b f l a (wholly r h)
     wholly_follows (Stops b f stop a) h = Stops b f stop a
 
-    wholly_loops : {e : Expression} {s : Block} {f : Frame} {a : Arrays} {k : Counts} {z : End Locals} → Loops Plain procedures e s f a k z → IsEnd z → Loops Whole procedures e s f a k z
+    wholly_loops : {e : Expression} {s : Block} {f : Frame} {a : Arrays} {k : Counts} {z : End Locals} → Loops Plain procedures e s f a k z → IsEnd z
+        → Loops Whole procedures e s f a k z
     wholly_loops (TestFails e s f a v is fail) h = TestFails e s f a v is fail
     wholly_loops (TestTraps e s f a stop is) h = TestTraps e s f a stop is
     wholly_loops (Turns e s f a c v l is hold r w) h = Turns e s f a c v l is hold (wholly r (record {})) (wholly_loops w h)
     wholly_loops (TurnTraps e s f a c v stop is hold r) h = absurd h
 
-    wholly_enters : {p : Procedure} {f : Frame} {a : Arrays} {k : Counts} {z : End ℤ} → Enters Plain procedures p f a k z → IsEnd z → Enters Whole procedures p f a k z
+    wholly_enters : {p : Procedure} {f : Frame} {a : Arrays} {k : Counts} {z : End ℤ} → Enters Plain procedures p f a k z → IsEnd z
+        → Enters Whole procedures p f a k z
     wholly_enters (Enter p f a {y = y} r) h = Enter p f a (wholly r (before_give p.give f y h))
 
     wholly_sweeps : {i x : Named} {s : Block} {r : Region} {f : Frame} {n m : ℕ} {a : Arrays} {k : Counts} {z : End Locals}

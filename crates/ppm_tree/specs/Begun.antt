@@ -1,10 +1,11 @@
 -- Runs that are stopped: a block, a loop, a procedure or an `each` begins, and spends so many turns or more. No state is stuck.
-use Rattle.std.specs.Prelude.{◌≡◌, ◌≤◌, ℕ, zero, suc, ℤ, true, List, Option, Ok, ◌⊎◌}
+use Rattle.std.specs.Prelude.{◌≡◌, ◌≤◌, ℕ, zero, suc, ℤ, true, List, Ok, ◌⊎◌}
 use Rattle.ppm_tree.specs.Tree.{Named, Expression, Side, Block, Then, Let, Assign, Put, If, While, Split, Procedure, ProgramTree}
 use Rattle.ppm_tree.specs.Tree as tree
 use Rattle.ppm_tree.specs.Values.{holds}
 use Rattle.ppm_tree.specs.State.{then_with, Region, Locals, Frame, with_locals, Arrays, split_at, evaluate, procedure_named, entered, both_entered}
-use Rattle.ppm_tree.specs.Meaning.{Form, Counts, End, Ended, arrays_of, assigned, stored, chosen, returned, joined, goes_on, with_parts, with_element, Runs, Loops, Enters, Sweeps}
+use Rattle.ppm_tree.specs.Meaning.{Form, Counts, End, Ended, arrays_of, assigned, stored, chosen, returned, joined, goes_on, with_parts, with_element}
+use Rattle.ppm_tree.specs.Meaning.{Runs, Loops, Enters, Sweeps}
 use Rattle.ppm_tree.specs.Program.{main_of, main_frame, Means}
 
 module _ (form : Form) (procedures : List Procedure) where
@@ -81,7 +82,8 @@ module _ (form : Form) (procedures : List Procedure) where
 
 -- For each number of turns a program ends, or spends as many; and it ends within no fewer than it spends.
 pub record IsNeverStuck (form : Form) (t : ProgramTree) (a : Arrays) : Type 0 where
-  pub goes_on : (n : ℕ) → ((k : Counts) × (z : End ℤ) × Means form t a k z) ⊎ BeginsBody form t.procedures n (main_of t) (main_frame t.arrays (main_of t).parameters) a
+  pub goes_on : (n : ℕ)
+      → ((k : Counts) × (z : End ℤ) × Means form t a k z) ⊎ BeginsBody form t.procedures n (main_of t) (main_frame t.arrays (main_of t).parameters) a
   pub spends : (n : ℕ) (k : Counts) (z : End ℤ) → BeginsBody form t.procedures n (main_of t) (main_frame t.arrays (main_of t).parameters) a
       → Means form t a k z → n ≤ k.turns
 

@@ -5,7 +5,8 @@ pub use Rattle.ppm_words.specs.Limits.{array_limit, word_limit}
 use Rattle.ppm_words.specs.Limits.{value_bound}
 use Rattle.ppm_words.specs.Names.{IsName}
 use Rattle.ppm_tree.specs.Tree.{Named, Expression, Side, Statement, Give, Parameter, Array, ArrayInput, Procedure, ProgramTree}
-use Rattle.ppm_tree.specs.Parts.{nodes, node_numbers, node_names, node_lines, nodes_of, names_of, lines_of, sides_of, statements_in, block_depth, eaches_of, gives_of}
+use Rattle.ppm_tree.specs.Parts.{nodes, node_numbers, node_names, node_lines, nodes_of, names_of, lines_of, sides_of, statements_in, block_depth}
+use Rattle.ppm_tree.specs.Parts.{eaches_of, gives_of}
 
 -- blocks that are open at a time
 abbrev pub depth_limit : ℕ

@@ -6,7 +6,8 @@ use Rattle.ppm_tree.specs.Values.{holds}
 use Rattle.ppm_tree.specs.State.{TrapAt, then_with, Region, first_part, second_part, part_at, Locals, Frame, with_region, with_local, with_locals}
 use Rattle.ppm_tree.specs.State.{Arrays, with_word, split_at, evaluate, put_values, procedure_named, entered, both_entered, delivered}
 
--- Plain: a trap stops the run. Whole: all branches of a fork run, and all blocks of an `each`, also behind a trap.
+-- Plain: a trap stops the run. Whole: both branches of a fork run, and all blocks of an `each`; those behind a trap run from
+-- the arrays that it leaves, which by the region rules are to them as at the start.
 pub data Form : Type 0 where
   Plain : Form
   Whole : Form
