@@ -156,9 +156,10 @@ module _ (is : List Instr) where
     act_free (Read k) Passes r w g here f c = absurd f
     act_free (Read k) (Jumps u) r w g here f c = absurd f
     act_free (Write k) (Steps (Stores l v)) r w g here f c =
-        let now = subst (λ (j : Class). Does is at (Write j)) (sym f) here in
-        (λ i. clash at (class_of (location_of l)) now (c.reads (location_of l) i) free,
-        on r _ (at + 1) g (omega arith) (one_write at r w (location_of l) now c))
+        let now = subst (λ (j : Class). Does is at (Write j)) (sym f) here in (
+          λ i. clash at (class_of (location_of l)) now (c.reads (location_of l) i) free,
+          on r _ (at + 1) g (omega arith) (one_write at r w (location_of l) now c),
+        )
     act_free (Write k) (Steps (Loads l d)) r w g here f c = absurd f
     act_free (Write k) (Steps (Asks n)) r w g here f c = absurd f
     act_free (Write k) (Sets d v) r w g here f c = absurd f
