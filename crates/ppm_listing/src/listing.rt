@@ -1,0 +1,130 @@
+//! Writes the listing of a code.
+ghost use Rattle.std.specs.Prelude.{◌≡◌, ◌≤◌, ◌∷◌, ◌++◌, length, map, OnOk, IfOk};
+ghost use Rattle.ppm_code.specs.Limits.{procedure_limit, capsule_limit};
+ghost use Rattle.ppm_listing.specs.Tokens.{line, line_text};
+ghost use Rattle.ppm_listing.specs.declared.keyword.Keyword.TheVariants as keyword;
+ghost use Rattle.ppm_listing.specs.Listing.{listing_of, text_of, procedure_line as line_of_procedure, procedure_lines};
+ghost use Rattle.ppm_listing.specs.Listing.{capsule_line as line_of_capsule, capsule_lines, instr_line, number};
+
+use crate::keyword::Keyword;
+use crate::line::{number_token, push_instr, push_line};
+use crate::token::Token;
+use ppm_code::{Capsule, Code, Instr, Procedure};
+use ppm_words::NoMemory;
+use std::alloc::Global;
+
+/// Appends the line of the root.
+fn push_root(alloc: Global, text: &mut Vec<u8>, root: u32, arrays: &[u32]) -> Result<(), NoMemory>
+    ensures { OnOk result (text.new.items ≡ text.old.items ++ line_text (line keyword.Root (number root ∷ map number arrays.now))) }
+{
+    let mut operands = Vec::new(alloc);
+    operands.push(number_token(root))?;
+    for array in arrays {
+        operands.push(number_token(*array))?;
+    }
+    push_line(alloc, text, Keyword::Root, &operands)
+}
+
+/// Appends the lines of procedures, numbered from 0 on.
+fn push_procedures(
+    alloc: Global,
+    text: &mut Vec<u8>,
+    procedures: &[Procedure],
+) -> Result<(), NoMemory>
+    requires { length procedures.now ≤ procedure_limit }
+    ensures { OnOk result (text.new.items ≡ text.old.items ++ text_of (procedure_lines 0 procedures.now)) }
+{
+    let mut number: u32 = 0;
+    let mut left = procedures;
+    while let [procedure, rest @ ..] = left {
+        push_procedure(alloc, text, number, procedure)?;
+        number += 1;
+        left = rest;
+    }
+    Ok(())
+}
+
+/// Appends the line of a procedure.
+fn push_procedure(
+    alloc: Global,
+    text: &mut Vec<u8>,
+    number: u32,
+    procedure: &Procedure,
+) -> Result<(), NoMemory>
+    ensures { OnOk result (text.new.items ≡ text.old.items ++ line_text (line_of_procedure number procedure.now)) }
+{
+    push_line(
+        alloc,
+        text,
+        Keyword::Proc,
+        &[
+            number_token(number),
+            Token::Name(Keyword::Slots),
+            number_token(procedure.slots),
+            Token::Name(Keyword::Entry),
+            number_token(procedure.entry),
+        ],
+    )
+}
+
+/// Appends the lines of capsules, numbered from 0 on.
+fn push_capsules(alloc: Global, text: &mut Vec<u8>, capsules: &[Capsule]) -> Result<(), NoMemory>
+    requires { length capsules.now ≤ capsule_limit }
+    ensures { OnOk result (text.new.items ≡ text.old.items ++ text_of (capsule_lines 0 capsules.now)) }
+{
+    let mut number: u32 = 0;
+    let mut left = capsules;
+    while let [capsule, rest @ ..] = left {
+        push_capsule(alloc, text, number, capsule)?;
+        number += 1;
+        left = rest;
+    }
+    Ok(())
+}
+
+/// Appends the lines of a capsule.
+fn push_capsule(
+    alloc: Global,
+    text: &mut Vec<u8>,
+    number: u32,
+    capsule: &Capsule,
+) -> Result<(), NoMemory>
+    ensures { OnOk result (text.new.items ≡ text.old.items ++ text_of (line_of_capsule number capsule.now ∷ map instr_line capsule.now.instrs)) }
+{
+    push_line(
+        alloc,
+        text,
+        Keyword::Capsule,
+        &[
+            number_token(number),
+            Token::Name(Keyword::Proc),
+            number_token(capsule.procedure),
+        ],
+    )?;
+    push_instrs(alloc, text, capsule.instrs.as_slice())
+}
+
+/// Appends the lines of instructions.
+fn push_instrs(alloc: Global, text: &mut Vec<u8>, instrs: &[Instr]) -> Result<(), NoMemory>
+    ensures { OnOk result (text.new.items ≡ text.old.items ++ text_of (map instr_line instrs.now)) }
+{
+    let mut left = instrs;
+    while let [instr, rest @ ..] = left {
+        push_instr(alloc, text, *instr)?;
+        left = rest;
+    }
+    Ok(())
+}
+
+/// The listing of a code. `Err` only where memory is refused; memory in proportion to the listing.
+pub fn write_listing(alloc: Global, code: &Code) -> Result<Vec<u8>, NoMemory>
+    ensures { IfOk result (λ text. text.items ≡ listing_of code.now) }
+{
+    let parts = code.parts();
+    let mut text = Vec::new(alloc);
+    push_line(alloc, &mut text, Keyword::Ppm, &[number_token(1)])?;
+    push_root(alloc, &mut text, parts.root, parts.arrays.as_slice())?;
+    push_procedures(alloc, &mut text, parts.procedures.as_slice())?;
+    push_capsules(alloc, &mut text, parts.capsules.as_slice())?;
+    Ok(text)
+}
