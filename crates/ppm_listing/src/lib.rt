@@ -6,10 +6,12 @@
 #![tactic(auto)]
 
 mod keyword;
+mod laws;
 mod line;
 mod listing;
 mod token;
 
 pub use keyword::Keyword;
+pub use laws::listings_tell_codes;
 pub use listing::write_listing;
 pub use token::Token;
