@@ -1,6 +1,6 @@
 -- Codes are told by their lines.
 use Rattle.std.proofs.Common.{◌≡◌, ◌∙◌, ℕ, ◌+◌, Bool, true, false, List, [], ◌∷◌, ◌++◌, length, map, drop, refl, sym, ap, arith}
-use Rattle.std.specs.Prelude.{ℤ, pos, negsuc}
+use Rattle.std.specs.Prelude.{pos}
 use Rattle.ppm_code.specs.declared.code.Procedure.{Procedure}
 use Rattle.ppm_code.specs.declared.code.Capsule.{Capsule}
 use Rattle.ppm_code.specs.declared.code.CodeParts.{CodeParts}
@@ -10,8 +10,8 @@ use Rattle.ppm_listing.specs.declared.keyword.Keyword.TheVariants as keyword
 use Rattle.ppm_listing.specs.declared.token.Token.{Token}
 use Rattle.ppm_listing.specs.declared.token.Token.TheVariants.{Number}
 use Rattle.ppm_listing.specs.Tokens.{Line}
-use Rattle.ppm_listing.specs.Listing.{number, instr_line, procedure_line, procedure_lines, capsule_line, capsule_lines, lines_of}
-use Rattle.ppm_listing.specs.Correct.{NumbersFit, ListingsTellCodes}
+use Rattle.ppm_listing.specs.Listing.{number, instr_line, procedure_lines, capsule_lines, lines_of}
+use Rattle.ppm_listing.specs.Correct.{ListingsTellCodes}
 use Rattle.ppm_listing.proofs.TokenLemmas.{not_both}
 use Rattle.ppm_listing.proofs.TextLemmas.{cons_path, text_of_injective}
 use Rattle.ppm_listing.proofs.InstrLemmas.{instr_line_injective, begins_instr, begins_instr-instr_line}
@@ -97,7 +97,7 @@ same_capsules from (c ∷ cs) [] e = absurd (omega (arith, ap length e))
 same_capsules from (c ∷ cs) (d ∷ ds) e =
     let procedures = ap (λ (ls : List Line). capsule_procedure (first_operands ls)) e in
     let (instrs, after) = same_instrs c.instrs d.instrs (capsule_lines (from + 1) cs) (capsule_lines (from + 1) ds) (no_instr (from + 1) cs)
-                             (no_instr (from + 1) ds) (ap (drop 1) e) in
+    (no_instr (from + 1) ds) (ap (drop 1) e) in
     cons_path (λ i. record { procedure = procedures i; instrs = instrs i }) (same_capsules (from + 1) cs ds after)
 
 -- codes are told by their lines

@@ -1,10 +1,10 @@
 -- Lines are told by their text.
-use Rattle.std.proofs.Common.{◌≡◌, ◌∙◌, ℕ, ◌<◌, ◌≤◌, ◌^◌, Bool, true, false, ◌&&◌, nat_lt, List, [], ◌∷◌, ◌++◌, length, get_or, drop, refl, sym, ap, arith, append_assoc}
+use Rattle.std.proofs.Common.{◌≡◌, ◌∙◌, ℕ, ◌<◌, ◌≤◌, Bool, true, false, ◌&&◌, nat_lt, List, [], ◌∷◌, ◌++◌, length, get_or, drop, refl, sym, ap, arith, append_assoc}
 use Rattle.std.specs.List.{flat_map, All}
 use Rattle.std.proofs.lemmas.Bool.{ltb-true}
 use Rattle.std.proofs.lemmas.List.Elements.{All-head, All-tail}
 use Rattle.ppm_listing.specs.declared.token.Token.{Token}
-use Rattle.ppm_listing.specs.Tokens.{Line, line, keyword_text, token_text, operand_text, line_text}
+use Rattle.ppm_listing.specs.Tokens.{Line, keyword_text, token_text, operand_text, line_text}
 use Rattle.ppm_listing.specs.Listing.{text_of}
 use Rattle.ppm_listing.specs.Correct.{Fits, LineFits}
 use Rattle.ppm_listing.proofs.KeywordLemmas.{is_word, spelling, keyword_text_injective}
@@ -64,9 +64,9 @@ same_operands [] (u ∷ us) rest more g h e = absurd (omega (arith, same_head e)
 same_operands (t ∷ ts) [] rest more g h e = absurd (omega (arith, same_head e))
 same_operands (t ∷ ts) (u ∷ us) rest more g h e =
     let regrouped = sym (append_assoc (token_text t) (flat_map operand_text ts) (10 ∷ rest)) ∙ same_tail e
-                        ∙ append_assoc (token_text u) (flat_map operand_text us) (10 ∷ more) in
+    ∙ append_assoc (token_text u) (flat_map operand_text us) (10 ∷ more) in
     let (texts, left) = cut (token_text t) (token_text u) (behind ts rest) (behind us more) (word_of_token t (All-head Fits t ts g))
-                           (word_of_token u (All-head Fits u us h)) (behind_is_cut ts rest) (behind_is_cut us more) regrouped in
+    (word_of_token u (All-head Fits u us h)) (behind_is_cut ts rest) (behind_is_cut us more) regrouped in
     let (tokens, after) = same_operands ts us rest more (All-tail Fits t ts g) (All-tail Fits u us h) left in
     (cons_path (token_text_injective t u (All-head Fits t ts g) (All-head Fits u us h) texts) tokens, after)
 
@@ -90,8 +90,8 @@ same_line : (l m : Line) (rest more : List ℕ) → LineFits l → LineFits m �
 same_line l m rest more g h e =
     let regrouped = sym (line_text-append l rest) ∙ e ∙ line_text-append m more in
     let (texts, left) = cut (keyword_text l.keyword) (keyword_text m.keyword) (behind l.operands rest) (behind m.operands more)
-                           (spelling l.keyword).word (spelling m.keyword).word (behind_is_cut l.operands rest)
-                           (behind_is_cut m.operands more) regrouped in
+    (spelling l.keyword).word (spelling m.keyword).word (behind_is_cut l.operands rest)
+    (behind_is_cut m.operands more) regrouped in
     let (operands, after) = same_operands l.operands m.operands rest more g h left in
     let keywords = keyword_text_injective l.keyword m.keyword texts in
     (λ i. record { keyword = keywords i; operands = operands i }, after)

@@ -1,5 +1,5 @@
 -- Tokens are told by their bytes.
-use Rattle.std.proofs.Common.{◌≡◌, ◌∙◌, ℕ, zero, suc, ◌+◌, ◌<◌, ◌≤◌, ◌^◌, Bool, true, false, ◌&&◌, cond, nat_lt, List, [], ◌∷◌, length, get_or, drop, refl, sym, ap, subst, arith}
+use Rattle.std.proofs.Common.{◌≡◌, ◌∙◌, ℕ, suc, ◌<◌, ◌^◌, Bool, true, false, cond, List, [], ◌∷◌, length, drop, refl, sym, ap, subst, arith}
 use Rattle.std.specs.Prelude.{ℤ, pos, negsuc, decimal}
 use Rattle.std.specs.Fmt.{signed_decimal}
 use Rattle.std.specs.Str.Parse.{AllDigits}
@@ -11,7 +11,7 @@ use Rattle.std.proofs.lemmas.Str.Parse.{digit_from_value}
 use Rattle.ppm_code.specs.declared.register.Register.{Register as TheRegister}
 use Rattle.ppm_listing.specs.declared.token.Token.{Token}
 use Rattle.ppm_listing.specs.declared.token.Token.TheVariants.{Name, Register, Number, Absent}
-use Rattle.ppm_listing.specs.Tokens.{keyword_text, token_text}
+use Rattle.ppm_listing.specs.Tokens.{token_text}
 use Rattle.ppm_listing.specs.Correct.{Fits}
 use Rattle.ppm_listing.proofs.KeywordLemmas.{is_word, is_low, spelling, keyword_text_injective}
 

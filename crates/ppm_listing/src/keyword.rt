@@ -3,7 +3,7 @@ ghost use Rattle.std.specs.Prelude.{◌≡◌};
 ghost use Rattle.ppm_listing.specs.Tokens.{keyword_text};
 
 /// A keyword of a listing: of the lines that say what a code has, of instructions, and of ends.
-#[derive(Clone, Copy, Debug, PartialEq, Eq)]
+#[derive(Clone, Copy, Debug)]
 pub enum Keyword {
     Ppm,
     Root,

@@ -5,13 +5,15 @@
 //! After the textual form of an assembler's input, one line an instruction; the spellings are this project's.
 #![tactic(auto)]
 
+mod end;
+mod instr;
 mod keyword;
 mod laws;
 mod line;
 mod listing;
+#[cfg(test)]
+mod tests;
 mod token;
 
-pub use keyword::Keyword;
 pub use laws::listings_tell_codes;
 pub use listing::write_listing;
-pub use token::Token;

@@ -6,10 +6,11 @@ ghost use Rattle.ppm_listing.specs.declared.keyword.Keyword.TheVariants as keywo
 ghost use Rattle.ppm_listing.specs.Listing.{listing_of, text_of, procedure_line as line_of_procedure, procedure_lines};
 ghost use Rattle.ppm_listing.specs.Listing.{capsule_line as line_of_capsule, capsule_lines, instr_line, number};
 
+use crate::instr::push_instr;
 use crate::keyword::Keyword;
-use crate::line::{number_token, push_instr, push_line};
+use crate::line::{number_token, push_line};
 use crate::token::Token;
-use ppm_code::{Capsule, Code, Instr, Procedure};
+use ppm_code::{Capsule, Code, CodeParts, Instr, Procedure};
 use ppm_words::NoMemory;
 use std::alloc::Global;
 
@@ -116,15 +117,27 @@ fn push_instrs(alloc: Global, text: &mut Vec<u8>, instrs: &[Instr]) -> Result<()
     Ok(())
 }
 
-/// The listing of a code. `Err` only where memory is refused; memory in proportion to the listing.
+/// Appends the lines of a code's parts.
+pub(crate) fn push_parts(
+    alloc: Global,
+    text: &mut Vec<u8>,
+    parts: &CodeParts,
+) -> Result<(), NoMemory>
+    requires procedures { length parts.now.procedures ≤ procedure_limit }
+    requires capsules { length parts.now.capsules ≤ capsule_limit }
+    ensures { OnOk result (text.new.items ≡ text.old.items ++ listing_of parts.now) }
+{
+    push_line(alloc, text, Keyword::Ppm, &[number_token(1)])?;
+    push_root(alloc, text, parts.root, parts.arrays.as_slice())?;
+    push_procedures(alloc, text, parts.procedures.as_slice())?;
+    push_capsules(alloc, text, parts.capsules.as_slice())
+}
+
+/// The listing of a code. `Err` only where memory is refused, which is taken in proportion to the listing.
 pub fn write_listing(alloc: Global, code: &Code) -> Result<Vec<u8>, NoMemory>
     ensures { IfOk result (λ text. text.items ≡ listing_of code.now) }
 {
-    let parts = code.parts();
     let mut text = Vec::new(alloc);
-    push_line(alloc, &mut text, Keyword::Ppm, &[number_token(1)])?;
-    push_root(alloc, &mut text, parts.root, parts.arrays.as_slice())?;
-    push_procedures(alloc, &mut text, parts.procedures.as_slice())?;
-    push_capsules(alloc, &mut text, parts.capsules.as_slice())?;
+    push_parts(alloc, &mut text, code.parts())?;
     Ok(text)
 }

@@ -9,7 +9,7 @@ use ppm_words::NoMemory;
 use std::alloc::Global;
 
 /// A token of a line: what stands between two spaces.
-#[derive(Clone, Copy, Debug, PartialEq, Eq)]
+#[derive(Clone, Copy, Debug)]
 pub enum Token {
     /// A keyword.
     Name(Keyword),
