@@ -18,9 +18,12 @@ is_low (b ∷ bs) = nat_lt b 58
 -- all keywords
 abbrev pub keywords : List Keyword
 keywords =
-    keyword.Ppm ∷ keyword.Root ∷ keyword.Proc ∷ keyword.Slots ∷ keyword.Entry ∷ keyword.Capsule ∷ keyword.Const ∷ keyword.Move ∷ keyword.Add ∷ keyword.Sub ∷ keyword.Mul ∷ keyword.Div
-    ∷ keyword.Rem ∷ keyword.Equal ∷ keyword.NotEqual ∷ keyword.Less ∷ keyword.AtMost ∷ keyword.Len ∷ keyword.CutLeft ∷ keyword.CutRight ∷ keyword.LoadSlot ∷ keyword.StoreCur ∷ keyword.Give ∷ keyword.Get
-    ∷ keyword.Put ∷ keyword.BranchZero ∷ keyword.BranchNonZero ∷ keyword.Room ∷ keyword.StoreNew ∷ keyword.Next ∷ keyword.End ∷ keyword.Trap ∷ keyword.Call ∷ keyword.CallTo ∷ keyword.Fork ∷ keyword.ForkTo ∷ []
+    keyword.Ppm ∷ keyword.Root ∷ keyword.Proc ∷ keyword.Slots ∷ keyword.Entry ∷ keyword.Capsule
+    ∷ keyword.Const ∷ keyword.Move ∷ keyword.Add ∷ keyword.Sub ∷ keyword.Mul ∷ keyword.Div
+    ∷ keyword.Rem ∷ keyword.Equal ∷ keyword.NotEqual ∷ keyword.Less ∷ keyword.AtMost ∷ keyword.Len
+    ∷ keyword.CutLeft ∷ keyword.CutRight ∷ keyword.LoadSlot ∷ keyword.StoreCur ∷ keyword.Give ∷ keyword.Get
+    ∷ keyword.Put ∷ keyword.BranchZero ∷ keyword.BranchNonZero ∷ keyword.Room ∷ keyword.StoreNew ∷ keyword.Next
+    ∷ keyword.End ∷ keyword.Trap ∷ keyword.Call ∷ keyword.CallTo ∷ keyword.Fork ∷ keyword.ForkTo ∷ []
 
 -- the first of some keywords that has this spelling
 abbrev pub first_spelled : List Keyword → List ℕ → Option Keyword

@@ -72,6 +72,10 @@ instr_line (Room n) = line keyword.Room (number n ∷ [])
 instr_line (StoreNew o a) = line keyword.StoreNew (number o ∷ Register a ∷ [])
 instr_line (Ends e) = end_line e
 
+-- the line of the root: its procedure, and the arrays of its first slots
+abbrev pub root_line : (root : ℕ) (arrays : List ℕ) → Line
+root_line root arrays = line keyword.Root (number root ∷ map number arrays)
+
 -- the line of a procedure with its number
 abbrev pub procedure_line : ℕ → Procedure → Line
 procedure_line procedure p =
@@ -82,19 +86,23 @@ abbrev pub procedure_lines : ℕ → List Procedure → List Line
 procedure_lines from [] = []
 procedure_lines from (p ∷ ps) = procedure_line from p ∷ procedure_lines (from + 1) ps
 
--- the lines of a capsule with its number
+-- the line of a capsule with its number
 abbrev pub capsule_line : ℕ → Capsule → Line
 capsule_line capsule c = line keyword.Capsule (number capsule ∷ Name keyword.Proc ∷ number c.procedure ∷ [])
 
--- the lines of capsules, numbered from one on, each followed by its instructions
+-- the lines of a capsule with its number, and of its instructions
+abbrev pub lines_of_capsule : ℕ → Capsule → List Line
+lines_of_capsule capsule c = capsule_line capsule c ∷ map instr_line c.instrs
+
+-- the lines of capsules, numbered from one on
 abbrev pub capsule_lines : ℕ → List Capsule → List Line
 capsule_lines from [] = []
-capsule_lines from (c ∷ cs) = capsule_line from c ∷ map instr_line c.instrs ++ capsule_lines (from + 1) cs
+capsule_lines from (c ∷ cs) = lines_of_capsule from c ++ capsule_lines (from + 1) cs
 
 -- the lines of a code: the form's version, the root with its arrays, the procedures, the capsules
 abbrev pub lines_of : CodeParts → List Line
 lines_of code =
-    line keyword.Ppm (number 1 ∷ []) ∷ line keyword.Root (number code.root ∷ map number code.arrays)
+    line keyword.Ppm (number 1 ∷ []) ∷ root_line code.root code.arrays
     ∷ procedure_lines 0 code.procedures ++ capsule_lines 0 code.capsules
 
 -- the text of lines

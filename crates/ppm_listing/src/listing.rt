@@ -1,10 +1,9 @@
 //! Writes the listing of a code.
-ghost use Rattle.std.specs.Prelude.{◌≡◌, ◌≤◌, ◌∷◌, ◌++◌, length, map, OnOk, IfOk};
+ghost use Rattle.std.specs.Prelude.{◌≡◌, ◌≤◌, ◌++◌, length, map, OnOk, IfOk};
 ghost use Rattle.ppm_code.specs.Limits.{procedure_limit, capsule_limit};
-ghost use Rattle.ppm_listing.specs.Tokens.{line, line_text};
-ghost use Rattle.ppm_listing.specs.declared.keyword.Keyword.TheVariants as keyword;
-ghost use Rattle.ppm_listing.specs.Listing.{listing_of, text_of, procedure_line as line_of_procedure, procedure_lines};
-ghost use Rattle.ppm_listing.specs.Listing.{capsule_line as line_of_capsule, capsule_lines, instr_line, number};
+ghost use Rattle.ppm_listing.specs.Tokens.{line_text};
+ghost use Rattle.ppm_listing.specs.Listing.{listing_of, text_of, root_line, procedure_line as line_of_procedure, procedure_lines};
+ghost use Rattle.ppm_listing.specs.Listing.{capsule_lines, lines_of_capsule, instr_line};
 
 use crate::instr::push_instr;
 use crate::keyword::Keyword;
@@ -16,7 +15,7 @@ use std::alloc::Global;
 
 /// Appends the line of the root.
 fn push_root(alloc: Global, text: &mut Vec<u8>, root: u32, arrays: &[u32]) -> Result<(), NoMemory>
-    ensures { OnOk result (text.new.items ≡ text.old.items ++ line_text (line keyword.Root (number root ∷ map number arrays.now))) }
+    ensures { OnOk result (text.new.items ≡ text.old.items ++ line_text (root_line root arrays.now)) }
 {
     let mut operands = Vec::new(alloc);
     operands.push(number_token(root))?;
@@ -90,7 +89,7 @@ fn push_capsule(
     number: u32,
     capsule: &Capsule,
 ) -> Result<(), NoMemory>
-    ensures { OnOk result (text.new.items ≡ text.old.items ++ text_of (line_of_capsule number capsule.now ∷ map instr_line capsule.now.instrs)) }
+    ensures { OnOk result (text.new.items ≡ text.old.items ++ text_of (lines_of_capsule number capsule.now)) }
 {
     push_line(
         alloc,
