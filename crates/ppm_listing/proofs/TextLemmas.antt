@@ -1,9 +1,8 @@
 -- Lines are told by their text.
 use Rattle.std.proofs.Common.{◌≡◌, ◌∙◌, ℕ, ◌<◌, ◌≤◌, Bool, true, false, ◌&&◌, nat_lt, List, [], ◌∷◌, ◌++◌, length, get_or, drop, refl, sym, ap, arith}
 use Rattle.std.proofs.Common.{append_assoc}
-use Rattle.std.specs.List.{flat_map, All}
+use Rattle.std.specs.List.{flat_map, AllByRecursion}
 use Rattle.std.proofs.lemmas.Bool.{ltb-true}
-use Rattle.std.proofs.lemmas.List.Elements.{All-head, All-tail}
 use Rattle.ppm_listing.specs.declared.token.Token.{Token}
 use Rattle.ppm_listing.specs.Tokens.{Line, keyword_text, token_text, operand_text, line_text}
 use Rattle.ppm_listing.specs.Listing.{text_of}
@@ -58,7 +57,7 @@ behind_is_cut [] rest = omega arith
 behind_is_cut (t ∷ ts) rest = omega arith
 
 -- tokens are told by their text, and what follows the line too
-same_operands : (ts us : List Token) (rest more : List ℕ) → All Fits ts → All Fits us → behind ts rest ≡ behind us more
+same_operands : (ts us : List Token) (rest more : List ℕ) → AllByRecursion Fits ts → AllByRecursion Fits us → behind ts rest ≡ behind us more
     → (ts ≡ us) × (rest ≡ more)
 same_operands [] [] rest more g h e = (refl, same_tail e)
 same_operands [] (u ∷ us) rest more g h e = absurd (omega (arith, same_head e))
@@ -66,10 +65,10 @@ same_operands (t ∷ ts) [] rest more g h e = absurd (omega (arith, same_head e)
 same_operands (t ∷ ts) (u ∷ us) rest more g h e =
     let regrouped = sym (append_assoc (token_text t) (flat_map operand_text ts) (10 ∷ rest)) ∙ same_tail e
     ∙ append_assoc (token_text u) (flat_map operand_text us) (10 ∷ more) in
-    let (texts, left) = cut (token_text t) (token_text u) (behind ts rest) (behind us more) (word_of_token t (All-head Fits t ts g))
-    (word_of_token u (All-head Fits u us h)) (behind_is_cut ts rest) (behind_is_cut us more) regrouped in
-    let (tokens, after) = same_operands ts us rest more (All-tail Fits t ts g) (All-tail Fits u us h) left in
-    (cons_path (token_text_injective t u (All-head Fits t ts g) (All-head Fits u us h) texts) tokens, after)
+    let (texts, left) = cut (token_text t) (token_text u) (behind ts rest) (behind us more) (word_of_token t g.0)
+    (word_of_token u h.0) (behind_is_cut ts rest) (behind_is_cut us more) regrouped in
+    let (tokens, after) = same_operands ts us rest more g.1 h.1 left in
+    (cons_path (token_text_injective t u g.0 h.0 texts) tokens, after)
 
 -- the text of a line with what follows
 line_text-append : (l : Line) (rest : List ℕ) → line_text l ++ rest ≡ keyword_text l.keyword ++ behind l.operands rest
@@ -97,10 +96,10 @@ same_line l m rest more g h e =
     let keywords = keyword_text_injective l.keyword m.keyword texts in
     (λ i. record { keyword = keywords i; operands = operands i }, after)
 
-pub text_of_injective : (ls ms : List Line) → All LineFits ls → All LineFits ms → text_of ls ≡ text_of ms → ls ≡ ms
+pub text_of_injective : (ls ms : List Line) → AllByRecursion LineFits ls → AllByRecursion LineFits ms → text_of ls ≡ text_of ms → ls ≡ ms
 text_of_injective [] [] g h e = refl
 text_of_injective [] (m ∷ ms) g h e = absurd (line_is_not_empty m (text_of ms) e)
 text_of_injective (l ∷ ls) [] g h e = absurd (line_is_not_empty l (text_of ls) (sym e))
 text_of_injective (l ∷ ls) (m ∷ ms) g h e =
-    let (lines, left) = same_line l m (text_of ls) (text_of ms) (All-head LineFits l ls g) (All-head LineFits m ms h) e in
-    cons_path lines (text_of_injective ls ms (All-tail LineFits l ls g) (All-tail LineFits m ms h) left)
+    let (lines, left) = same_line l m (text_of ls) (text_of ms) g.0 h.0 e in
+    cons_path lines (text_of_injective ls ms g.1 h.1 left)

@@ -1,7 +1,7 @@
 -- A listing tells its code.
 use Rattle.std.specs.Prelude.{◌≡◌, FitsSigned}
 use Rattle.std.specs.Int.{w64}
-use Rattle.std.specs.List.{All}
+use Rattle.std.specs.List.{AllByRecursion}
 use Rattle.ppm_code.specs.declared.code.CodeParts.{CodeParts}
 use Rattle.ppm_listing.specs.declared.token.Token.{Token}
 use Rattle.ppm_listing.specs.declared.token.Token.TheVariants.{Name, Register, Number, Absent}
@@ -17,11 +17,11 @@ Fits Absent = Unit {0}
 
 -- all numbers behind a keyword do
 abbrev pub LineFits : Line → Type 0
-LineFits l = All Fits l.operands
+LineFits l = AllByRecursion Fits l.operands
 
 -- all numbers of a code fit 64 bits, as those of each value of its types do
 abbrev pub NumbersFit : CodeParts → Type 0
-NumbersFit code = All LineFits (lines_of code)
+NumbersFit code = AllByRecursion LineFits (lines_of code)
 
 -- two codes with one listing are one
 abbrev pub ListingsTellCodes : Type 0

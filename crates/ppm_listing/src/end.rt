@@ -1,6 +1,7 @@
 //! The lines of ends.
 ghost use Rattle.std.specs.Prelude.{◌≡◌, ◌++◌, OnOk};
 ghost use Rattle.ppm_listing.specs.Tokens.{line_text};
+ghost use Rattle.ppm_listing.specs.Correct.{LineFits};
 ghost use Rattle.ppm_listing.specs.Listing.{end_line, slot_token as token_of_slot, trap_number as number_of_trap};
 
 use crate::keyword::Keyword;
@@ -34,7 +35,8 @@ fn trap_number(trap: Trap) -> u32
 
 /// Appends the line of an end.
 pub(crate) fn push_end(alloc: Global, text: &mut Vec<u8>, end: End) -> Result<(), NoMemory>
-    ensures { OnOk result (text.new.items ≡ text.old.items ++ line_text (end_line end)) }
+    ensures text { OnOk result (text.new.items ≡ text.old.items ++ line_text (end_line end)) }
+    ensures fits { LineFits (end_line end) }
 {
     match end {
         End::Next { capsule } => push_line(alloc, text, Keyword::Next, &[number_token(capsule)]),

@@ -1,6 +1,7 @@
 //! The lines of instructions.
 ghost use Rattle.std.specs.Prelude.{◌≡◌, ◌++◌, OnOk};
 ghost use Rattle.ppm_listing.specs.Tokens.{line_text};
+ghost use Rattle.ppm_listing.specs.Correct.{LineFits};
 ghost use Rattle.ppm_listing.specs.Listing.{instr_line};
 
 use crate::end::push_end;
@@ -13,7 +14,8 @@ use std::alloc::Global;
 
 /// Appends the line of an instruction.
 pub(crate) fn push_instr(alloc: Global, text: &mut Vec<u8>, instr: Instr) -> Result<(), NoMemory>
-    ensures { OnOk result (text.new.items ≡ text.old.items ++ line_text (instr_line instr)) }
+    ensures text { OnOk result (text.new.items ≡ text.old.items ++ line_text (instr_line instr)) }
+    ensures fits { LineFits (instr_line instr) }
 {
     match instr {
         Instr::Const { to, value } => push_line(

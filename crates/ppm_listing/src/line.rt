@@ -2,6 +2,7 @@
 ghost use Rattle.std.specs.Prelude.{◌≡◌, ◌++◌, OnOk};
 ghost use Rattle.ppm_listing.specs.Tokens.{line, line_text};
 ghost use Rattle.ppm_listing.specs.Listing.{number};
+ghost use Rattle.ppm_listing.specs.Correct.{Fits};
 
 use crate::keyword::Keyword;
 use crate::token::{Token, push_operands};
@@ -25,7 +26,8 @@ pub(crate) fn push_line(
 
 /// The token of a number.
 pub(crate) fn number_token(value: u32) -> Token
-    ensures { result ≡ number value }
+    ensures token { result ≡ number value }
+    ensures fits { Fits result }
 {
     Token::Number(i64::from(value))
 }
