@@ -1,0 +1,3 @@
+pub mod Tokens
+pub mod Listing
+pub mod Correct

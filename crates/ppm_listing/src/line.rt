@@ -1,0 +1,33 @@
+//! The lines of a listing.
+ghost use Rattle.std.specs.Prelude.{◌≡◌, ◌++◌, OnOk};
+ghost use Rattle.ppm_listing.specs.Tokens.{line, line_text};
+ghost use Rattle.ppm_listing.specs.Listing.{number};
+ghost use Rattle.ppm_listing.specs.Correct.{Fits};
+
+use crate::keyword::Keyword;
+use crate::token::{Token, push_operands};
+use ppm_words::NoMemory;
+use std::alloc::Global;
+
+/// Appends a line: its keyword and its other tokens, with one space between two, and a line feed.
+pub(crate) fn push_line(
+    alloc: Global,
+    text: &mut Vec<u8>,
+    keyword: Keyword,
+    operands: &[Token],
+) -> Result<(), NoMemory>
+    ensures { OnOk result (text.new.items ≡ text.old.items ++ line_text (line keyword operands.now)) }
+{
+    text.extend_from_slice(keyword.spelling().as_bytes())?;
+    push_operands(alloc, text, operands)?;
+    text.push(b'\n')?;
+    Ok(())
+}
+
+/// The token of a number.
+pub(crate) fn number_token(value: u32) -> Token
+    ensures token { result ≡ number value }
+    ensures fits { Fits result }
+{
+    Token::Number(i64::from(value))
+}
