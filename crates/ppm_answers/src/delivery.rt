@@ -15,9 +15,10 @@ use std::alloc::Global;
 /// Writes the texts of an answer, or those of want of memory where there is none for its texts; an answer with fixed
 /// texts takes none. Each text is made whole before a byte is written.
 pub fn deliver<K: Sink, E: Sink>(alloc: Global, answer: &Answer, out: &mut K, err: &mut E) -> Status
-    ensures { let out_port = port K.written K.fault_count out.old out.new in
-        let err_port = port E.written E.fault_count err.old err.new in
-        Delivers out_port err_port answer.now result ⊎ ((¬ IsFixed answer.now) × Delivers out_port err_port answers.NoMemory result) }
+    ensures { let to_out = port K.written K.fault_count out.old out.new in
+        let to_err = port E.written E.fault_count err.old err.new in
+        Delivers to_out to_err answer.now result
+        ⊎ ((¬ IsFixed answer.now) × Delivers to_out to_err answers.NoMemory result) }
 {
     match texts_of(alloc, answer) {
         Ok((text, message)) => write(text.as_slice(), message.as_slice(), answer, out, err),

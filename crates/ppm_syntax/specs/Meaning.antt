@@ -61,11 +61,11 @@ abbrev pub element_at : ℕ → Region → ℤ → Result ℕ TrapAt
 element_at line r (pos i) = if nat_lt i r.length then Ok (r.start + i) else Err (trap.Index, line)
 element_at line r (negsuc i) = Err (trap.Index, line)
 
--- the arrays of a run, by their places in the program
+-- the arrays of a run, by their indices in the program
 abbrev pub Arrays : Type 0
 Arrays = List (List ℤ)
 
--- the words of the array at a place
+-- the values of the array at an index
 abbrev pub array_at : Arrays → ℕ → List ℤ
 array_at arrays a = get_or arrays a []
 
@@ -124,7 +124,7 @@ run_statements frame (s ∷ body) arrays left =
 abbrev pub run_procedure : Frame → Procedure → Arrays → ℕ → Ending Arrays
 run_procedure frame p arrays left = spend left (λ left. run_statements frame p.body arrays left)
 
--- the whole of the array with the name, at the place k or behind it
+-- the whole of the array with the name, at the index k or behind it
 abbrev pub whole_from : ℕ → List Array → List ℕ → Region
 whole_from k [] x = nowhere
 whole_from k (a ∷ arrays) x = if bytes_eq a.name x then record { array = k; start = 0; length = a.length } else whole_from (suc k) arrays x

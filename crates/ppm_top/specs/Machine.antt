@@ -48,7 +48,7 @@ words_from arrays = flat_map (λ a. map word_of a.values) arrays
 abbrev pub whole : List ℕ → ℕ → Region
 whole lengths a = record { array = a; start = 0; length = get_or lengths a 0 }
 
--- the place of an element among the words
+-- the address of an element
 abbrev pub address_of : List ℕ → ℕ → ℕ → ℤ → Result ℕ TrapAt
 address_of lengths a line i = then_with (element_at line (whole lengths a) i) (λ k. Ok (base_of lengths a + k))
 
@@ -70,7 +70,7 @@ with_register s r z = record { registers = set s.registers r z; slots = s.slots;
 abbrev pub with_slot : State → ℕ → ℕ → State
 with_slot s i w = record { registers = s.registers; slots = set s.slots i w; words = s.words }
 
--- the state with a word at a place
+-- the state with a word at an address
 abbrev pub with_word : State → ℕ → ℕ → State
 with_word s j w = record { registers = s.registers; slots = s.slots; words = set s.words j w }
 

@@ -41,12 +41,12 @@ fn array_named(arrays: &[Array], name: &Name) -> u32
     requires few { length arrays.now ≤ array_limit }
     ensures { result ≡ (whole_from 0 arrays.now name.now).array }
 {
-    let mut place = 0;
+    let mut index = 0;
     for array in arrays {
         if array.name.is(name) {
-            return place;
+            return index;
         }
-        place += 1;
+        index += 1;
     }
     0
 }

@@ -9,7 +9,7 @@ use ppm_words::{NoMemory, Trap};
 use std::alloc::Global;
 use std::marker::Model;
 
-/// The lengths of the arrays, with the place where each begins; places count words from 0.
+/// The lengths of the arrays, with the address at which each begins; addresses count words from 0.
 #[derive(Drop)]
 pub struct Layout {
     lengths: Vec<u32>,
@@ -29,10 +29,10 @@ impl Model for Layout {
 }
 
 /// A number of a table; 0 past its end.
-fn number_at(table: &[u32], place: u32) -> u32
-    ensures { result ≡ get_or table.now place 0 }
+fn number_at(table: &[u32], index: u32) -> u32
+    ensures { result ≡ get_or table.now index 0 }
 {
-    table.get(place as usize).copied().unwrap_or(0)
+    table.get(index as usize).copied().unwrap_or(0)
 }
 
 impl Layout {
@@ -77,10 +77,10 @@ impl Layout {
         number_at(&self.bases, array)
     }
 
-    /// The place of an element; a trap in this line where the index is outside the array.
+    /// The address of an element; a trap in this line where the index is outside the array.
     pub fn address(&self, array: u32, line: u32, index: i64) -> Result<usize, (Trap, u32)>
-        ensures place { result ≡ address_of self.now array line index }
-        ensures within { IfOk result (λ place. place < total_of self.now) }
+        ensures value { result ≡ address_of self.now array line index }
+        ensures within { IfOk result (λ address. address < total_of self.now) }
     {
         let word = self.element_at(array, line, index)?;
         Ok(self.base(array, word) as usize + word)

@@ -83,16 +83,16 @@ impl Machine {
             }
             Instr::Get(to, array, index, line) => {
                 let at = self.register(index);
-                let place = layout.address(array, line, at)?;
-                let word = self.words[place];
+                let address = layout.address(array, line, at)?;
+                let word = self.words[address];
                 self.set_register(to, of_word(word));
             }
             Instr::Put(array, index, value, line) => {
                 let at = self.register(index);
-                let place = layout.address(array, line, at)?;
+                let address = layout.address(array, line, at)?;
                 let value = self.register(value);
                 let word = to_word(value);
-                self.words[place] = word;
+                self.words[address] = word;
             }
             Instr::LoadSlot(to, slot) => {
                 let word = self.slots.get(slot as usize).copied().unwrap_or(0);

@@ -5,16 +5,16 @@ use Rattle.ppm_top.proofs.cut.array_named.Goals as goal
 -- the search stands at the array with the name
 pub returns-then-is : goal.returns-then-is
 returns-then-is c =
-    sym (array_found c.args.arrays.now c.loop-array.place c.loop-array.array-index c.array-item.result c.args.name.now c.is.result
+    sym (array_found c.args.arrays.now c.loop-array.index c.loop-array.array-index c.array-item.result c.args.name.now c.is.result
     c.loop-array-test.true c.array-item.is c.is.ensures c.if-is.true)
     ∙ ap (λ r. r.array) c.loop-array.invariant.rest
 
 -- it passes over an array with another name
 pub loop-array-preserved : goal.loop-array-preserved
 loop-array-preserved c = record {
-  place = ap (λ n. n + 1) c.loop-array.invariant.place;
+  index = ap (λ n. n + 1) c.loop-array.invariant.index;
   rest =
-      array_missed c.args.arrays.now c.loop-array.place c.loop-array.array-index c.array-item.result c.args.name.now c.is.result
+      array_missed c.args.arrays.now c.loop-array.index c.loop-array.array-index c.array-item.result c.args.name.now c.is.result
       c.loop-array-test.true c.array-item.is c.is.ensures c.if-is.false
       ∙ c.loop-array.invariant.rest;
 }

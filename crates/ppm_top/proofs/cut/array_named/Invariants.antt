@@ -4,6 +4,6 @@ use Rattle.ppm_top.proofs.cut.array_named.Given as goal
 
 abbrev pub invariant-loop-array : goal.invariant-loop-array
 invariant-loop-array l = record {
-  place : l.place ≡ l.array-index;
-  rest : whole_from l.place (drop l.array-index l.arrays) l.name ≡ whole_from 0 l.arrays l.name;
+  index : l.index ≡ l.array-index;
+  rest : whole_from l.index (drop l.array-index l.arrays) l.name ≡ whole_from 0 l.arrays l.name;
 }
