@@ -115,7 +115,7 @@ command_line =
     (one_processor ∷ later turns ∷ later room ∷ later slots ∷ later looks ∷ later seed ∷ later faults ∷ later takeover ∷ later idle ∷ [])
     ∷ later_command "serial" (turns ∷ [])
     ∷ later_command "code" []
-    ∷ later_command "check" []
+    ∷ command "check" []
     ∷ later_command "replay" (processors ∷ turns ∷ room ∷ slots ∷ takeover ∷ schedule ∷ [])
     ∷ later_command "self" (few_processors ∷ number "size" 1 4096 64 ∷ seed ∷ number "count" 0 4096 0 ∷ [])
     ∷ later_command "stop"

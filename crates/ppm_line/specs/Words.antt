@@ -1,5 +1,5 @@
 -- The command that the words of the command line give, as clap reads them.
-use Rattle.std.specs.Prelude.{◌≤◌, ℕ, List, [], ◌∷◌, Option, Some, None, codes, if◌then◌else◌, nat_le, ◌&&◌, option_and_then, option_map}
+use Rattle.std.specs.Prelude.{◌≤◌, ℕ, List, [], ◌∷◌, Option, Some, None, codes, if◌then◌else◌, nat_le, ◌&&◌, option_and_then, option_map, ⊤}
 use Rattle.std.specs.Str.{bytes_eq}
 use Rattle.std.specs.Str.Parse.{digits_value, without_leading_plus}
 use Rattle.clap.specs.Words.{Kinds, Row, Text, fault_of, one_of, subcommand_of}
@@ -33,7 +33,10 @@ run_options rows = option_map (λ n. record { processors = n }) (number_given on
 
 -- the command of this name, with the options in its matches
 abbrev pub command_named : Text → List Row → Option Command
-command_named name rows = if bytes_eq name (codes "run") then option_map (λ o. commands.Run o) (run_options rows) else None
+command_named name rows =
+    if bytes_eq name (codes "run") then option_map (λ o. commands.Run o) (run_options rows)
+    else if bytes_eq name (codes "check") then Some commands.Check
+    else None
 
 -- the command of the subcommand that was met, with its options
 abbrev pub command_in : Option (Text × List Row) → Option Command
@@ -56,3 +59,4 @@ IsOfForm _ n = ⊥
 -- each option of the command is in its range
 abbrev pub IsInRange : Command → Type 0
 IsInRange (commands.Run options) = IsOfForm one_processor.form options.processors
+IsInRange commands.Check = ⊤

@@ -12,6 +12,8 @@ use clap::ArgMatches;
 pub enum Command {
     /// To run the source that is read.
     Run(RunOptions),
+    /// To check the listing that is read for conflicts.
+    Check,
 }
 
 /// The options of `run`.
@@ -39,6 +41,7 @@ fn command_named(name: &str, matches: &ArgMatches<'_>) -> Option<Command>
 {
     match name {
         "run" => Some(Command::Run(run_options(matches)?)),
+        "check" => Some(Command::Check),
         _ => None,
     }
 }

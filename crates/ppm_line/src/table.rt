@@ -34,7 +34,13 @@ pub(crate) const PROCESSORS: NumberOption = NumberOption {
 };
 
 /// The commands.
-pub(crate) const COMMANDS: [CommandRow; 1] = [CommandRow {
-    name: "run",
-    options: &[PROCESSORS],
-}];
+pub(crate) const COMMANDS: [CommandRow; 2] = [
+    CommandRow {
+        name: "run",
+        options: &[PROCESSORS],
+    },
+    CommandRow {
+        name: "check",
+        options: &[],
+    },
+];

@@ -13,9 +13,9 @@ fn command_of_words(alloc: Global, words: &[&str]) -> Result<Option<Command>, Fa
 }
 
 #[test]
-fn words_give_run_or_no_command(rt: HostRuntime) -> Result<(), Fail> {
+fn words_give_a_command_or_none(rt: HostRuntime) -> Result<(), Fail> {
     let runs = Some(Command::Run(RunOptions { processors: 1 }));
-    let cases: [(&[&str], Option<Command>); 24] = [
+    let cases: [(&[&str], Option<Command>); 28] = [
         (&["ppm", "run"], runs),
         (&["any", "run"], runs),
         (&["ppm", "run", "--processors", "1"], runs),
@@ -36,7 +36,11 @@ fn words_give_run_or_no_command(rt: HostRuntime) -> Result<(), Fail> {
         (&["ppm", "run", "x"], None),
         (&["ppm", "run", "--processors", "1", "x"], None),
         (&["ppm", "serial"], None),
-        (&["ppm", "check"], None),
+        (&["ppm", "check"], Some(Command::Check)),
+        (&["ppm", "check", "x"], None),
+        (&["ppm", "check", "--processors", "1"], None),
+        (&["ppm", "check", "--help"], None),
+        (&["ppm", "check", "check"], None),
         (&["ppm", "runs"], None),
         (&["ppm"], None),
         (&["ppm", "--help"], None),
