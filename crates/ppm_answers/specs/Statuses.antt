@@ -10,6 +10,9 @@ abbrev pub status_of : Answer → Status
 status_of (answers.Ended arrays) = statuses.Ended
 status_of (answers.Trapped t line) = statuses.Trapped
 status_of (answers.SourceRefused r) = statuses.SourceRefused
+status_of answers.Accepted = statuses.Ended
+status_of (answers.Conflicting c) = statuses.CodeRefused
+status_of (answers.ListingRefused r) = statuses.CodeRefused
 status_of answers.WordsRefused = statuses.WordsRefused
 status_of answers.ReadFault = statuses.ReadFault
 status_of answers.NoMemory = statuses.NoMemory
@@ -23,3 +26,4 @@ number_of statuses.WordsRefused = 3
 number_of statuses.ReadFault = 7
 number_of statuses.WriteFault = 8
 number_of statuses.NoMemory = 9
+number_of statuses.CodeRefused = 10

@@ -8,6 +8,10 @@ use Rattle.ppm_words.specs.declared.trap.Trap.TheVariants as trap
 use Rattle.ppm_answers.specs.declared.refusal.Pass.{Pass}
 use Rattle.ppm_answers.specs.declared.refusal.Pass.TheVariants as pass
 use Rattle.ppm_answers.specs.declared.refusal.Refusal.{Refusal}
+use Rattle.ppm_answers.specs.declared.conflict.Class.{Class}
+use Rattle.ppm_answers.specs.declared.conflict.Class.TheVariants as class
+use Rattle.ppm_answers.specs.declared.conflict.Conflict.{Conflict}
+use Rattle.ppm_answers.specs.declared.conflict.ListingRefusal.{ListingRefusal}
 use Rattle.ppm_answers.specs.declared.answer.Answer.{Answer}
 use Rattle.ppm_answers.specs.declared.answer.Answer.TheVariants as answers
 
@@ -59,15 +63,39 @@ fault_text pass number at place =
 abbrev pub refusal_text : Refusal → List ℕ
 refusal_text r = fault_text (pass_name r.pass) r.number (place_name r.pass) r.place
 
+-- what `check` says of a code that it accepts
+abbrev pub accepted_text : List ℕ
+accepted_text = ended_line (codes "ok")
+
+-- the name of a class, with the number of a slot or of a block's word
+abbrev pub class_text : Class → List ℕ
+class_text (class.Cur slot) = codes "cur " ++ decimal slot
+class_text (class.New word) = codes "new " ++ decimal word
+class_text class.Value = codes "value"
+class_text class.Room = codes "room"
+class_text class.Array = codes "array"
+
+-- a line with a conflict: its capsule, the instruction that reads, the one that writes, and the class
+abbrev pub conflict_text : Conflict → List ℕ
+conflict_text c = ended_line (codes "conflict: capsule " ++ decimal c.capsule ++ codes " read " ++ decimal c.read_at
+    ++ codes " write " ++ decimal c.write_at ++ codes " class " ++ class_text c.class)
+
+-- a line with the fault of a text that is no listing, and where that is
+abbrev pub listing_text : ListingRefusal → List ℕ
+listing_text r = ended_line (codes "listing refused: " ++ decimal r.number ++ codes " line " ++ decimal r.line)
+
 -- what is written on out
 abbrev pub out_text : Answer → List ℕ
 out_text (answers.Ended arrays) = arrays_text arrays
 out_text (answers.Trapped t line) = trap_text t line
+out_text answers.Accepted = accepted_text
 out_text _ = []
 
 -- what is written on err
 abbrev pub err_text : Answer → List ℕ
 err_text (answers.SourceRefused r) = refusal_text r
+err_text (answers.Conflicting c) = conflict_text c
+err_text (answers.ListingRefused r) = listing_text r
 err_text answers.WordsRefused = ended_line (codes "words refused")
 err_text answers.ReadFault = ended_line (codes "read fault")
 err_text answers.NoMemory = ended_line (codes "out of memory")
@@ -79,6 +107,7 @@ write_fault_text = ended_line (codes "write fault")
 
 -- the answer's texts are the same each time, so they take no memory
 abbrev pub IsFixed : Answer → Type 0
+IsFixed answers.Accepted = ⊤
 IsFixed answers.WordsRefused = ⊤
 IsFixed answers.ReadFault = ⊤
 IsFixed answers.NoMemory = ⊤

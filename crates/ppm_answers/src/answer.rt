@@ -1,4 +1,5 @@
 //! What a command answers.
+use crate::conflict::{Conflict, ListingRefusal};
 use crate::refusal::Refusal;
 use ppm_words::{Items, NamedArray, Trap};
 
@@ -11,6 +12,12 @@ pub enum Answer {
     Trapped(Trap, u32),
     /// The text is refused for this reason.
     SourceRefused(Refusal),
+    /// The text is the listing of a code without conflicts.
+    Accepted,
+    /// The text is the listing of a code with this conflict.
+    Conflicting(Conflict),
+    /// The text is the listing of no code, for this fault.
+    ListingRefused(ListingRefusal),
     /// The words give no command.
     WordsRefused,
     /// The source of bytes failed.

@@ -59,6 +59,8 @@ fn own_status(answer: &Answer) -> Status
         Answer::Ended(_) => Status::Ended,
         Answer::Trapped(_, _) => Status::Trapped,
         Answer::SourceRefused(_) => Status::SourceRefused,
+        Answer::Accepted => Status::Ended,
+        Answer::Conflicting(_) | Answer::ListingRefused(_) => Status::CodeRefused,
         Answer::WordsRefused => Status::WordsRefused,
         Answer::ReadFault => Status::ReadFault,
         Answer::NoMemory => Status::NoMemory,

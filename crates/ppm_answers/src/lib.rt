@@ -6,12 +6,14 @@
 #![tactic(auto)]
 
 mod answer;
+mod conflict;
 mod delivery;
 mod refusal;
 mod status;
 mod texts;
 
 pub use answer::Answer;
+pub use conflict::{Class, Conflict, ListingRefusal};
 pub use delivery::deliver;
 pub use refusal::{Pass, Refusal};
 pub use status::Status;

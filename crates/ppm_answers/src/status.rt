@@ -5,7 +5,7 @@ ghost use Rattle.ppm_answers.specs.Statuses.{number_of};
 /// How the program ends, by the number that it hands to its caller.
 #[derive(Clone, Copy, Debug, PartialEq, Eq)]
 pub enum Status {
-    /// The run ended, and its arrays are on out.
+    /// The run ended, and its arrays are on out; or `check` accepts a code.
     Ended = 0,
     /// The run ended by a trap, which is reported on out.
     Trapped = 1,
@@ -19,10 +19,12 @@ pub enum Status {
     WriteFault = 8,
     /// Memory was refused.
     NoMemory = 9,
+    /// `check` refuses a code: what was read is no listing, or its code has a conflict.
+    CodeRefused = 10,
 }
 
 impl Status {
-    /// The number that the program ends with, from 0 to 9.
+    /// The number that the program ends with, from 0 to 10.
     pub fn number(self) -> u8
         ensures { result ≡ number_of self }
     {

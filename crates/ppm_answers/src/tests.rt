@@ -1,7 +1,7 @@
 //! Each answer's texts and status, and ports that fail.
 ghost use Rattle.std.specs.Prelude.{◌<◌};
 
-use crate::{Answer, Pass, Refusal, Status, deliver};
+use crate::{Answer, Class, Conflict, ListingRefusal, Pass, Refusal, Status, deliver};
 use ppm_ports::{MemorySink, Sink};
 use ppm_words::{Items, Name, NamedArray, Trap};
 use std::alloc::Global;
@@ -65,6 +65,15 @@ fn refused(pass: Pass, number: u32, place: u32) -> Answer {
     })
 }
 
+fn conflicting(class: Class) -> Answer {
+    Answer::Conflicting(Conflict {
+        capsule: 5,
+        read_at: 0,
+        write_at: 2,
+        class,
+    })
+}
+
 #[test]
 fn answers_have_texts_and_statuses(rt: HostRuntime) -> Result<(), Fail> {
     let alloc = rt.alloc();
@@ -122,6 +131,43 @@ fn answers_have_texts_and_statuses(rt: HostRuntime) -> Result<(), Fail> {
             "",
             "source refused: cut 2 at 0\n",
             2,
+        ),
+        (Answer::Accepted, "ok\n", "", 0),
+        (
+            conflicting(Class::Cur(3)),
+            "",
+            "conflict: capsule 5 read 0 write 2 class cur 3\n",
+            10,
+        ),
+        (
+            conflicting(Class::New(12)),
+            "",
+            "conflict: capsule 5 read 0 write 2 class new 12\n",
+            10,
+        ),
+        (
+            conflicting(Class::Value),
+            "",
+            "conflict: capsule 5 read 0 write 2 class value\n",
+            10,
+        ),
+        (
+            conflicting(Class::Room),
+            "",
+            "conflict: capsule 5 read 0 write 2 class room\n",
+            10,
+        ),
+        (
+            conflicting(Class::Array),
+            "",
+            "conflict: capsule 5 read 0 write 2 class array\n",
+            10,
+        ),
+        (
+            Answer::ListingRefused(ListingRefusal { number: 3, line: 6 }),
+            "",
+            "listing refused: 3 line 6\n",
+            10,
         ),
         (Answer::WordsRefused, "", "words refused\n", 3),
         (Answer::ReadFault, "", "read fault\n", 7),

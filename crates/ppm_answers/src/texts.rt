@@ -2,15 +2,20 @@
 ghost use Rattle.std.specs.Prelude.{◌≡◌, ◌++◌, IfOk, IsOk, OnOk};
 ghost use Rattle.std.specs.Cow.{cow_slice_items};
 ghost use Rattle.std.specs.List.{flat_map};
+ghost use Rattle.std.specs.String.{string_bytes};
 ghost use Rattle.ppm_answers.specs.Texts.{IsFixed, out_text, err_text, refusal_text, fault_text, pass_name as name_of_pass, place_name as name_of_place};
+ghost use Rattle.ppm_answers.specs.Texts.{class_text, conflict_text, listing_text};
 ghost use Rattle.ppm_answers.specs.Texts.{arrays_text, array_text, value_text, trap_text, trap_name as name_of_trap};
 
 use crate::answer::Answer;
+use crate::conflict::{Class, Conflict, ListingRefusal};
 use crate::refusal::{Pass, Refusal};
 use ppm_words::{NamedArray, Trap};
 use std::alloc::{AllocError, Global};
 use std::borrow::CowSlice;
 
+/// What is written on out where `check` accepts a code.
+const ACCEPTED: &[u8] = b"ok\n";
 /// What is written on err where the words give no command.
 const WORDS_REFUSED: &[u8] = b"words refused\n";
 /// What is written on err where the source of bytes failed.
@@ -43,10 +48,57 @@ pub fn texts_of(alloc: Global, answer: &Answer) -> Result<(Text, Text), AllocErr
             CowSlice::Borrowed(none),
             CowSlice::Owned(refusal_text_of(alloc, *refusal)?),
         )),
+        Answer::Accepted => Ok((CowSlice::Borrowed(ACCEPTED), CowSlice::Borrowed(none))),
+        Answer::Conflicting(conflict) => Ok((
+            CowSlice::Borrowed(none),
+            CowSlice::Owned(conflict_text_of(alloc, *conflict)?),
+        )),
+        Answer::ListingRefused(refusal) => Ok((
+            CowSlice::Borrowed(none),
+            CowSlice::Owned(listing_text_of(alloc, *refusal)?),
+        )),
         Answer::WordsRefused => Ok((CowSlice::Borrowed(none), CowSlice::Borrowed(WORDS_REFUSED))),
         Answer::ReadFault => Ok((CowSlice::Borrowed(none), CowSlice::Borrowed(READ_FAULT))),
         Answer::NoMemory => Ok((CowSlice::Borrowed(none), CowSlice::Borrowed(OUT_OF_MEMORY))),
     }
+}
+
+/// The line of a conflict.
+fn conflict_text_of(alloc: Global, conflict: Conflict) -> Result<Vec<u8>, AllocError>
+    ensures { IfOk result (λ text. text.items ≡ conflict_text conflict) }
+{
+    let class = class_text_of(alloc, conflict.class)?;
+    let Conflict {
+        capsule,
+        read_at,
+        write_at,
+        ..
+    } = conflict;
+    let line = format!(in alloc;
+        "conflict: capsule {capsule} read {read_at} write {write_at} class {class}\n")?;
+    Ok(line.into_bytes())
+}
+
+/// The name of a class, with its number.
+fn class_text_of(alloc: Global, class: Class) -> Result<String, AllocError>
+    ensures { IfOk result (λ text. string_bytes text ≡ class_text class) }
+{
+    match class {
+        Class::Cur(slot) => format!(in alloc; "cur {slot}"),
+        Class::New(word) => format!(in alloc; "new {word}"),
+        Class::Value => String::from_str(alloc, "value"),
+        Class::Room => String::from_str(alloc, "room"),
+        Class::Array => String::from_str(alloc, "array"),
+    }
+}
+
+/// The line of a text that is no listing.
+fn listing_text_of(alloc: Global, refusal: ListingRefusal) -> Result<Vec<u8>, AllocError>
+    ensures { IfOk result (λ text. text.items ≡ listing_text refusal) }
+{
+    let ListingRefusal { number, line } = refusal;
+    let text = format!(in alloc; "listing refused: {number} line {line}\n")?;
+    Ok(text.into_bytes())
 }
 
 /// The line of a refusal.
