@@ -14,7 +14,8 @@ use Rattle.ppm_answers.specs.declared.answer.Answer.TheVariants as answers
 use Rattle.ppm_answers.specs.declared.status.Status.{Status}
 use Rattle.ppm_answers.specs.Statuses.{number_of}
 use Rattle.ppm_answers.specs.Delivery.{Delivers}
-use Rattle.ppm_top.specs.Causes.{IsAnswered, IsUnread}
+use Rattle.ppm_answers.specs.Reading.{IsUnread}
+use Rattle.ppm_top.specs.Causes.{IsAnswered}
 
 -- what the system says of the words of the command line
 abbrev pub Given : Type 0

@@ -1,3 +1,5 @@
 pub mod Texts
 pub mod Statuses
 pub mod Delivery
+pub mod Reading
+pub mod Rows

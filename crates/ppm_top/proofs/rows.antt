@@ -1,5 +1,4 @@
 -- The rows of the table, from the answer that was delivered.
-pub mod Delivered
 pub mod WholeText
 pub mod OfRun
 pub mod OfAll

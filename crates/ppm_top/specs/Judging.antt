@@ -1,7 +1,5 @@
 -- What a text alone comes to, once it is read.
 use Rattle.std.specs.Prelude.{ℕ, ◌≤◌, List, length, ⊤}
-use Rattle.ppm_ports.specs.Ports.{Port}
-use Rattle.ppm_words.specs.declared.outcome.Outcome.TheVariants as outcome
 use Rattle.ppm_text.specs.declared.text_error.TextError.{TextError}
 use Rattle.ppm_text.specs.declared.text_error.TextError.TheVariants as text_error
 use Rattle.ppm_text.specs.Limits.{text_limit}
@@ -16,24 +14,7 @@ use Rattle.ppm_top.specs.declared.outcome.OutcomeError.{OutcomeError}
 use Rattle.ppm_top.specs.declared.outcome.OutcomeError.TheVariants as outcome_error
 use Rattle.ppm_top.specs.declared.judging.JudgeError.{JudgeError}
 use Rattle.ppm_top.specs.declared.judging.JudgeError.TheVariants as judge_error
-use Rattle.ppm_answers.specs.declared.answer.Answer.{Answer}
-use Rattle.ppm_answers.specs.declared.answer.Answer.TheVariants as answers
 use Rattle.ppm_top.specs.Refusals.{IsRefusal, text_refusal, syntax_refusal, region_refusal, capsules_refusal}
-use Rattle.ppm_top.specs.Causes.{Reads, ReadingMay, ComesTo}
-
--- the answers that a text may have
-abbrev pub TextMay : List ℕ → Answer → Type 0
-TextMay text (answers.Ended arrays) = ComesTo text (outcome.Ended arrays)
-TextMay text (answers.Trapped t line) = ComesTo text (outcome.Trapped t line)
-TextMay text (answers.SourceRefused r) = IsRefusal text r
-TextMay text answers.NoMemory = ⊤
-TextMay text _ = ⊥
-
--- the text that was read is judged, or none was read whole
-abbrev pub ReadingJudges : Port → Answer → Type 0
-ReadingJudges source answers.ReadFault = ReadingMay text_limit source answers.ReadFault
-ReadingJudges source answers.NoMemory = ReadingMay text_limit source answers.NoMemory
-ReadingJudges source answer = (text : List ℕ) × Reads text_limit source text × TextMay text answer
 
 -- why a text may come to no outcome
 abbrev pub MayStop : List ℕ → JudgeError → Type 0

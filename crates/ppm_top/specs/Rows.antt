@@ -7,32 +7,31 @@ use Rattle.ppm_words.specs.declared.named_array.NamedArray.{NamedArray}
 use Rattle.ppm_words.specs.declared.trap.Trap.{Trap}
 use Rattle.ppm_words.specs.declared.outcome.Outcome.{Outcome}
 use Rattle.ppm_words.specs.declared.outcome.Outcome.TheVariants as outcome
+use Rattle.ppm_text.specs.Limits.{text_limit}
 use Rattle.ppm_answers.specs.declared.refusal.Refusal.{Refusal}
+use Rattle.ppm_answers.specs.declared.answer.Answer.TheVariants as answers
 use Rattle.ppm_answers.specs.declared.status.Status.{Status}
 use Rattle.ppm_answers.specs.declared.status.Status.TheVariants as statuses
 use Rattle.ppm_answers.specs.Texts.{arrays_text, trap_text, refusal_text}
+use Rattle.ppm_answers.specs.Reading.{IsUnread, ReadHas}
+use Rattle.ppm_answers.specs.Rows.{IsOneOf, GoesWell}
 use Rattle.ppm_line.specs.declared.command.Command.TheVariants as commands
 use Rattle.ppm_line.specs.declared.command.RunOptions.{RunOptions}
 use Rattle.ppm_line.specs.Words.{command_of}
 use Rattle.ppm_top.specs.Refusals.{IsRefusal}
-use Rattle.ppm_top.specs.Causes.{IsUnread, ComesTo, HasNoOutcome, ReadComesTo, ReadIsRefused}
-
--- the status is one of these
-abbrev pub IsOneOf : Status → List Status → Type 0
-IsOneOf status [] = ⊥
-IsOneOf status (s ∷ others) = (status ≡ s) ⊎ IsOneOf status others
+use Rattle.ppm_top.specs.Causes.{ComesTo, HasNoOutcome, RunHas}
 
 -- the text that was read ends with arrays, and out got exactly their text
 abbrev pub WritesArrays : Outside → Type 0
-WritesArrays o = (arrays : List NamedArray) × ReadComesTo o.source (outcome.Ended arrays) × Gets o.out (arrays_text arrays)
+WritesArrays o = (arrays : List NamedArray) × ReadHas text_limit RunHas o.source (answers.Ended arrays) × Gets o.out (arrays_text arrays)
 
 -- the text that was read ends in a trap, and out got exactly its text
 abbrev pub WritesTrap : Outside → Type 0
-WritesTrap o = (t : Trap) × (line : ℕ) × ReadComesTo o.source (outcome.Trapped t line) × Gets o.out (trap_text t line)
+WritesTrap o = (t : Trap) × (line : ℕ) × ReadHas text_limit RunHas o.source (answers.Trapped t line) × Gets o.out (trap_text t line)
 
 -- the text that was read is refused, and err got exactly the refusal's text
 abbrev pub WritesRefusal : Outside → Type 0
-WritesRefusal o = (r : Refusal) × ReadIsRefused o.source r × Gets o.err (refusal_text r)
+WritesRefusal o = (r : Refusal) × ReadHas text_limit RunHas o.source (answers.SourceRefused r) × Gets o.err (refusal_text r)
 
 -- the status is 2, and err got exactly the refusal's text
 pub record IsReported (o : Outside) (status : Status) (r : Refusal) : Type 0 where
@@ -44,13 +43,6 @@ abbrev pub IsShown : Outside → Status → Outcome → Type 0
 IsShown o status (outcome.Ended arrays) = (status ≡ statuses.Ended) × Gets o.out (arrays_text arrays)
 IsShown o status (outcome.Trapped t line) = (status ≡ statuses.Trapped) × Gets o.out (trap_text t line)
 IsShown o status outcome.NotWithin = ⊥
-
--- no port failed, and memory was there
-pub record GoesWell (o : Outside) (status : Status) : Type 0 where
-  pub source_holds : ¬ Fails o.source
-  pub out_holds : ¬ Fails o.out
-  pub err_holds : ¬ Fails o.err
-  pub memory : status ≢ statuses.NoMemory
 
 -- The rows of `run`. Status 0, 1 and 2 come only where the text that was read ends so, and its text is written. Where all goes well,
 -- the text is judged; and of a source whose bytes are known, each outcome is shown and each refusal reported exactly where the bytes
@@ -86,7 +78,7 @@ pub record ReportsFaults (o : Outside) (status : Status) : Type 0 where
 -- at each status but 0, 1 and 8 nothing is written on out
 abbrev pub IsSilentOnOut : Outside → Status → Type 0
 IsSilentOnOut o status =
-    IsOneOf status (statuses.SourceRefused ∷ statuses.WordsRefused ∷ statuses.ReadFault ∷ statuses.NoMemory ∷ []) →
+    IsOneOf status (statuses.SourceRefused ∷ statuses.WordsRefused ∷ statuses.ReadFault ∷ statuses.NoMemory ∷ statuses.CodeRefused ∷ []) →
     Keeps o.out.before o.out.now
 
 -- the rows of the program: those of each command, those of words that give none, and those that all commands share

@@ -5,8 +5,9 @@ ghost use Rattle.ppm_ports.specs.Outside.{outside};
 ghost use Rattle.ppm_line.specs.Words.{IsInRange};
 ghost use Rattle.ppm_line.specs.declared.command.Command.TheVariants as commands;
 ghost use Rattle.ppm_top.specs.Bounds.{watcher_count};
-ghost use Rattle.ppm_top.specs.Causes.{Answers, RunMay};
-ghost use Rattle.ppm_top.specs.Judging.{ReadingJudges, TextMay};
+ghost use Rattle.ppm_answers.specs.Reading.{Answers, JudgingMay, TextMay};
+ghost use Rattle.ppm_text.specs.Limits.{text_limit};
+ghost use Rattle.ppm_top.specs.Causes.{RunHas, RunMay};
 ghost use Rattle.ppm_top.specs.Rows.{RunRows};
 
 use crate::judging::{JudgeError, judge};
@@ -55,7 +56,7 @@ pub fn run_command<R, S: Source, K: Sink, E: Sink, W: Watch>(
 
 /// The answer of `run`: what is read, to its end or one byte past the limit of a text, is judged.
 fn run_answer<S: Source>(alloc: Global, source: &mut S) -> Answer
-    ensures { ReadingJudges (port S.left S.fault_count source.old source.new) result }
+    ensures { JudgingMay text_limit RunHas (port S.left S.fault_count source.old source.new) result }
 {
     match read_whole(alloc, source, TEXT_LIMIT) {
         Ok(text) => text_answer(alloc, &text),
@@ -66,7 +67,7 @@ fn run_answer<S: Source>(alloc: Global, source: &mut S) -> Answer
 
 /// What a text comes to.
 fn text_answer(alloc: Global, text: &[u8]) -> Answer
-    ensures { TextMay text.now result }
+    ensures { TextMay RunHas text.now result }
 {
     match judge(alloc, text) {
         Ok(Outcome::Ended(arrays)) => Answer::Ended(arrays),

@@ -3,6 +3,7 @@ use Rattle.std.proofs.Common.{◌≡◌, ◌⊎◌, ℕ, List, [], ◌∷◌, Op
 use Rattle.std.proofs.Common.{refl, sym, ◌∙◌, subst, inl, inr}
 use Rattle.ppm_ports.specs.Ports.{Fails, Holds}
 use Rattle.ppm_ports.specs.Outside.{Outside}
+use Rattle.ppm_text.specs.Limits.{text_limit}
 use Rattle.ppm_answers.specs.declared.answer.Answer.{Answer}
 use Rattle.ppm_answers.specs.declared.answer.Answer.TheVariants as answers
 use Rattle.ppm_answers.specs.declared.status.Status.{Status}
@@ -12,10 +13,13 @@ use Rattle.ppm_answers.specs.Delivery.{IsWritten}
 use Rattle.ppm_line.specs.declared.command.Command.{Command}
 use Rattle.ppm_line.specs.declared.command.Command.TheVariants as commands
 use Rattle.ppm_line.specs.Words.{command_of}
-use Rattle.ppm_top.specs.Causes.{IsUnread, RunMay, NoCommandMay, CommandMay, Answers, IsAnswered}
+use Rattle.ppm_answers.specs.Reading.{IsUnread, JudgingMay, Answers}
+use Rattle.ppm_answers.specs.Rows.{IsOneOf}
+use Rattle.ppm_top.specs.Causes.{RunHas, NoCommandMay, CommandMay, IsAnswered}
 use Rattle.ppm_top.specs.Correct.{HaveOneOutcome, HaveOneRefusal}
-use Rattle.ppm_top.specs.Rows.{IsOneOf, RefusesWords, ReportsFaults, ProgramRows}
-use Rattle.ppm_top.proofs.rows.Delivered as delivered
+use Rattle.ppm_top.specs.Rows.{RefusesWords, ReportsFaults, ProgramRows}
+use Rattle.ppm_answers.proofs.Delivered as delivered
+use Rattle.ppm_answers.proofs.Judged as judged
 use Rattle.ppm_top.proofs.rows.OfRun.{run_rows}
 
 -- what the causes of a command say of the source: a read fault comes where it failed, and where it failed nothing else comes
@@ -23,15 +27,8 @@ pub record ReportsReads (o : Outside) (may : Answer → Type 0) : Type 0 where
   pub failed : may answers.ReadFault → Fails o.source
   pub fails : (answer : Answer) → may answer → ¬ Holds o.source → status_of answer ≡ statuses.ReadFault
 
-run_reports : (o : Outside) (options : _) → ReportsReads o (RunMay options o)
-run_reports o options = record { failed = λ h. h.0; fails = fails } where
-  fails : (answer : Answer) → RunMay options o answer → ¬ Holds o.source → status_of answer ≡ statuses.ReadFault
-  fails (answers.Ended arrays) h f = absurd (f h.1.holds)
-  fails (answers.Trapped t line) h f = absurd (f h.1.holds)
-  fails (answers.SourceRefused r) h f = absurd (f h.1.holds)
-  fails answers.WordsRefused h f = absurd h
-  fails answers.ReadFault h f = refl
-  fails answers.NoMemory h f = absurd (f h.1)
+judging_reports : (limit : ℕ) (Has : List ℕ → Answer → Type 0) (o : Outside) → ReportsReads o (JudgingMay limit Has o.source)
+judging_reports limit Has o = record { failed = λ h. h.0; fails = λ answer h f. judged.source_failed limit Has o.source answer h f }
 
 none_reports : (o : Outside) → ReportsReads o (NoCommandMay o)
 none_reports o = record { failed = λ h. absurd h; fails = fails } where
@@ -42,7 +39,7 @@ none_reports o = record { failed = λ h. absurd h; fails = fails } where
 
 command_reports : (o : Outside) (command : Option Command) → ReportsReads o (CommandMay command o)
 command_reports o None = none_reports o
-command_reports o (Some (commands.Run options)) = run_reports o options
+command_reports o (Some (commands.Run options)) = judging_reports text_limit RunHas o
 
 -- an answer of status 7 is a read fault
 read_answer : (may : Answer → Type 0) (answer : Answer) → may answer → status_of answer ≡ statuses.ReadFault → may answers.ReadFault
@@ -75,7 +72,7 @@ faults words o status a = reports_faults o (CommandMay (command_of words) o) sta
 no_command : (command : Option Command) (o : Outside) (answer : Answer) → CommandMay command o answer →
     status_of answer ≡ statuses.WordsRefused → command ≡ None
 no_command None o answer h e = refl
-no_command (Some (commands.Run options)) o answers.WordsRefused h e = absurd h
+no_command (Some (commands.Run options)) o answers.WordsRefused h e = absurd h.2
 no_command command o answer h e = cc
 
 -- without a command nothing is read, and the words are refused or memory is
@@ -110,7 +107,7 @@ refuses_words words o status a = record {
 pub program_rows : HaveOneOutcome → HaveOneRefusal → (words : List (List ℕ)) (o : Outside) (status : Status) → IsAnswered words o status →
     ProgramRows words o status
 program_rows outcomes refusals words o status a = record {
-  run = λ options e. run_rows options o status (subst (λ c. Answers (CommandMay c o) o status) e a) outcomes refusals;
+  run = λ options e. run_rows outcomes refusals options o status (subst (λ c. Answers (CommandMay c o) o status) e a);
   words_refused = refuses_words words o status a;
   faults = faults words o status a;
   nothing_on_out = delivered.nothing_on_out o.out o.err a.answer status a.delivered;

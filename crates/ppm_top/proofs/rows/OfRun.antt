@@ -1,121 +1,137 @@
 -- The rows of `run`.
 use Rattle.std.proofs.Common.{◌≡◌, ◌≢◌, ◌⊎◌, ◌↔◌, ℕ, List, [], ◌∷◌, Some}
-use Rattle.std.proofs.Common.{sym, ◌∙◌, subst, inl, inr}
-use Rattle.ppm_ports.specs.Ports.{Fails, Gets}
+use Rattle.std.proofs.Common.{ap, subst, inl, inr}
 use Rattle.ppm_ports.specs.Outside.{Outside}
+use Rattle.ppm_ports.specs.Whole.{ReadsTo}
 use Rattle.ppm_words.specs.declared.outcome.Outcome.{Outcome}
 use Rattle.ppm_words.specs.declared.outcome.Outcome.TheVariants as outcome
+use Rattle.ppm_text.specs.Limits.{text_limit}
 use Rattle.ppm_answers.specs.declared.refusal.Refusal.{Refusal}
 use Rattle.ppm_answers.specs.declared.answer.Answer.{Answer}
 use Rattle.ppm_answers.specs.declared.answer.Answer.TheVariants as answers
 use Rattle.ppm_answers.specs.declared.status.Status.{Status}
 use Rattle.ppm_answers.specs.declared.status.Status.TheVariants as statuses
-use Rattle.ppm_answers.specs.Texts.{out_text, err_text}
 use Rattle.ppm_answers.specs.Statuses.{status_of}
 use Rattle.ppm_answers.specs.Delivery.{IsWritten}
+use Rattle.ppm_answers.specs.Reading.{ReadHas, Answers}
+use Rattle.ppm_answers.specs.Rows.{IsOneOf, GoesWell}
+use Rattle.ppm_answers.proofs.Judged.{AreJudgements}
+use Rattle.ppm_answers.proofs.Judged as judged
 use Rattle.ppm_line.specs.declared.command.RunOptions.{RunOptions}
 use Rattle.ppm_top.specs.Refusals.{IsRefusal}
 use Rattle.ppm_top.specs.Correct.{HaveOneOutcome, HaveOneRefusal}
-use Rattle.ppm_top.specs.Causes.{ComesTo, HasNoOutcome, RunMay, Answers}
-use Rattle.ppm_top.specs.Rows.{IsOneOf, WritesArrays, WritesTrap, WritesRefusal, IsReported, IsShown, GoesWell, RunRows}
-use Rattle.ppm_top.proofs.rows.Delivered.{written, write_failed}
-use Rattle.ppm_top.proofs.rows.WholeText.{read_is_refused, read_comes_to}
+use Rattle.ppm_top.specs.Causes.{ComesTo, HasNoOutcome, RunHas, RunMay}
+use Rattle.ppm_top.specs.Rows.{WritesArrays, WritesTrap, WritesRefusal, IsReported, IsShown, RunRows}
+use Rattle.ppm_top.proofs.rows.WholeText.{answer_of_all}
 
--- the statuses of a text that was judged
-abbrev judged_statuses : List Status
-judged_statuses = statuses.Ended ∷ statuses.Trapped ∷ statuses.SourceRefused ∷ []
+-- an answer of a text is arrays, a trap or a refusal
+judges : (text : List ℕ) (a : Answer) → RunHas text a → (a ≢ answers.ReadFault) × (a ≢ answers.NoMemory) × (a ≢ answers.WordsRefused)
+judges text (answers.Ended arrays) h = (λ e. cc, λ e. cc, λ e. cc)
+judges text (answers.Trapped t line) h = (λ e. cc, λ e. cc, λ e. cc)
+judges text (answers.SourceRefused r) h = (λ e. cc, λ e. cc, λ e. cc)
+judges text a h = absurd h
 
-module _ (options : RunOptions) (o : Outside) (status : Status) (a : Answers (RunMay options o) o status) where
-  -- an answer of status 0 is arrays, and its text is theirs
-  arrays_answer : (answer : Answer) → RunMay options o answer → status_of answer ≡ statuses.Ended → Gets o.out (out_text answer) → WritesArrays o
-  arrays_answer (answers.Ended arrays) h e g = (arrays, h, g)
-  arrays_answer answer h e g = cc
+module _ (outcomes : HaveOneOutcome) (refusals : HaveOneRefusal) where
+  -- a text that has an outcome is not refused
+  not_both : (text : List ℕ) (o : Outcome) (r : Refusal) → ComesTo text o → IsRefusal text r → ⊥
+  not_both text o r h k = (refusals text).either r k h.tree h.has_tree h.fits
 
-  -- an answer of status 1 is a trap, and its text is the trap's
-  trap_answer : (answer : Answer) → RunMay options o answer → status_of answer ≡ statuses.Trapped → Gets o.out (out_text answer) → WritesTrap o
-  trap_answer (answers.Trapped t line) h e g = (t, line, h, g)
-  trap_answer answer h e g = cc
+  -- a text has one answer
+  one : (text : List ℕ) (a b : Answer) → RunHas text a → RunHas text b → a ≡ b
+  one text (answers.Ended xs) (answers.Ended ys) h k = let e = outcomes text (outcome.Ended xs) (outcome.Ended ys) h k in cc
+  one text (answers.Ended xs) (answers.Trapped t n) h k = let e = outcomes text (outcome.Ended xs) (outcome.Trapped t n) h k in cc
+  one text (answers.Ended xs) (answers.SourceRefused r) h k = absurd (not_both text (outcome.Ended xs) r h k)
+  one text (answers.Trapped s m) (answers.Ended ys) h k = let e = outcomes text (outcome.Trapped s m) (outcome.Ended ys) h k in cc
+  one text (answers.Trapped s m) (answers.Trapped t n) h k = let e = outcomes text (outcome.Trapped s m) (outcome.Trapped t n) h k in cc
+  one text (answers.Trapped s m) (answers.SourceRefused r) h k = absurd (not_both text (outcome.Trapped s m) r h k)
+  one text (answers.SourceRefused q) (answers.Ended ys) h k = absurd (not_both text (outcome.Ended ys) q k h)
+  one text (answers.SourceRefused q) (answers.Trapped t n) h k = absurd (not_both text (outcome.Trapped t n) q k h)
+  one text (answers.SourceRefused q) (answers.SourceRefused r) h k = ap (λ x. answers.SourceRefused x) ((refusals text).refusal q r h k)
+  one text a b h k = cc
 
-  -- an answer of status 2 is a refusal of what was read, and its text is the refusal's
-  refusal_answer : (answer : Answer) → RunMay options o answer → status_of answer ≡ statuses.SourceRefused → Gets o.err (err_text answer) →
-      WritesRefusal o
-  refusal_answer (answers.SourceRefused r) h e g = (r, h, g)
-  refusal_answer answer h e g = cc
+  pub are_judgements : AreJudgements text_limit RunHas
+  are_judgements = record { one = one; whole = answer_of_all; judges = judges }
 
-  -- at a status other than 8 the answer is written
-  is_written : status ≢ statuses.WriteFault → IsWritten o.out o.err a.answer status
-  is_written ne = written o.out o.err a.answer status a.delivered ne
+  module _ (options : RunOptions) (o : Outside) (status : Status) (a : Answers (RunMay options o) o status) where
+    -- an answer of status 0 is arrays
+    arrays_answer : (answer : Answer) → ReadHas text_limit RunHas o.source answer → IsWritten o.out o.err answer status → status ≡ statuses.Ended →
+        WritesArrays o
+    arrays_answer (answers.Ended arrays) h w e = (arrays, h, w.out_takes.0)
+    arrays_answer answers.Accepted h w e = absurd h.2
+    arrays_answer answer h w e = let own = w.own in cc
 
-  ended : status ≡ statuses.Ended → WritesArrays o
-  ended e = let w = is_written (λ f. cc) in arrays_answer a.answer a.cause (sym w.own ∙ e) w.out_takes.0
+    -- an answer of status 1 is a trap
+    trap_answer : (answer : Answer) → ReadHas text_limit RunHas o.source answer → IsWritten o.out o.err answer status → status ≡ statuses.Trapped →
+        WritesTrap o
+    trap_answer (answers.Trapped t line) h w e = (t, line, h, w.out_takes.0)
+    trap_answer answer h w e = let own = w.own in cc
 
-  trapped : status ≡ statuses.Trapped → WritesTrap o
-  trapped e = let w = is_written (λ f. cc) in trap_answer a.answer a.cause (sym w.own ∙ e) w.out_takes.0
+    -- an answer of status 2 is a refusal
+    refusal_answer : (answer : Answer) → ReadHas text_limit RunHas o.source answer → IsWritten o.out o.err answer status →
+        status ≡ statuses.SourceRefused → WritesRefusal o
+    refusal_answer (answers.SourceRefused r) h w e = (r, h, w.err_takes.0)
+    refusal_answer answer h w e = let own = w.own in cc
 
-  refused : status ≡ statuses.SourceRefused → WritesRefusal o
-  refused e = let w = is_written (λ f. cc) in refusal_answer a.answer a.cause (sym w.own ∙ e) w.err_takes.0
+    abbrev Judged : Type 0
+    Judged = judged.Judged text_limit RunHas o status a
 
-  -- an answer that comes although the source held, and that is not want of memory, judges the text
-  judged_answer : (answer : Answer) → RunMay options o answer → ¬ Fails o.source → status ≢ statuses.NoMemory → status ≡ status_of answer →
-      IsOneOf status judged_statuses
-  judged_answer (answers.Ended arrays) h s m e = inl e
-  judged_answer (answers.Trapped t line) h s m e = inr (inl e)
-  judged_answer (answers.SourceRefused r) h s m e = inr (inr (inl e))
-  judged_answer answers.WordsRefused h s m e = absurd h
-  judged_answer answers.ReadFault h s m e = absurd (s h.0)
-  judged_answer answers.NoMemory h s m e = absurd (m e)
+    ended : status ≡ statuses.Ended → WritesArrays o
+    ended e = let j : Judged = judged.answered text_limit RunHas o status a (λ f. cc) (λ f. cc) (λ f. cc) in arrays_answer j.0 j.1 j.2 e
 
-  judged : GoesWell o status → IsOneOf status judged_statuses
-  judged well =
-      let ne : status ≢ statuses.WriteFault =
-      λ f. elim (write_failed o.out o.err a.answer status a.delivered f) [ inl out ↦ well.out_holds out | inr err ↦ well.err_holds err ] in
-      judged_answer a.answer a.cause well.source_holds well.memory (is_written ne).own
+    trapped : status ≡ statuses.Trapped → WritesTrap o
+    trapped e = let j : Judged = judged.answered text_limit RunHas o status a (λ f. cc) (λ f. cc) (λ f. cc) in trap_answer j.0 j.1 j.2 e
 
-  -- the whole text comes to an outcome that is shown, or has a refusal that is reported
-  abbrev Shows : List ℕ → Type 0
-  Shows all = (r : Outcome) × ComesTo all r × IsShown o status r
+    refused : status ≡ statuses.SourceRefused → WritesRefusal o
+    refused e = let j : Judged = judged.answered text_limit RunHas o status a (λ f. cc) (λ f. cc) (λ f. cc) in refusal_answer j.0 j.1 j.2 e
 
-  abbrev Reports : List ℕ → Type 0
-  Reports all = (r : Refusal) × IsRefusal all r × IsReported o status r
+    -- the statuses of a text that was judged
+    judged_status : (answer : Answer) → ReadHas text_limit RunHas o.source answer → status ≡ status_of answer →
+        IsOneOf status (statuses.Ended ∷ statuses.Trapped ∷ statuses.SourceRefused ∷ [])
+    judged_status (answers.Ended arrays) h e = inl e
+    judged_status (answers.Trapped t line) h e = inr (inl e)
+    judged_status (answers.SourceRefused r) h e = inr (inr (inl e))
+    judged_status answer h e = absurd h.2
 
-  shows_or_reports : (all : List ℕ) → o.source.before ≡ Some all → GoesWell o status → Shows all ⊎ Reports all
-  shows_or_reports all e well = go (judged well) where
-    go : IsOneOf status judged_statuses → Shows all ⊎ Reports all
-    go (inl s) = let h = ended s in inl (outcome.Ended h.0, read_comes_to o.source all _ e h.1, (s, h.2))
-    go (inr (inl s)) = let h = trapped s in inl (outcome.Trapped h.0 h.1, read_comes_to o.source all _ e h.2, (s, h.3))
-    go (inr (inr (inl s))) =
-        let h = refused s in
-        inr (h.0, read_is_refused o.source all h.0 e h.1, record { refused = s; err_gets = h.2 })
-    go (inr (inr (inr s))) = absurd s
+    -- what the source shows whole has the answer that is written
+    written : (all : List ℕ) → o.source.before ≡ Some all → GoesWell o status → (answer : Answer) → RunHas all answer →
+        IsWritten o.out o.err answer status
+    written = judged.shown text_limit RunHas o status a are_judgements
 
-  module _ (outcomes : HaveOneOutcome) (refusals : HaveOneRefusal) where
     shown : (all : List ℕ) → o.source.before ≡ Some all → GoesWell o status → (r : Outcome) → ComesTo all r → IsShown o status r
-    shown all e well r comes = go (shows_or_reports all e well) where
-      go : Shows all ⊎ Reports all → IsShown o status r
-      go (inl h) = subst (IsShown o status) (outcomes all h.0 r h.1 comes) h.2
-      go (inr h) = absurd ((refusals all).either h.0 h.1 comes.tree comes.has_tree comes.fits)
+    shown all e well (outcome.Ended arrays) h = let w = written all e well (answers.Ended arrays) h in (w.own, w.out_takes.0)
+    shown all e well (outcome.Trapped t line) h = let w = written all e well (answers.Trapped t line) h in (w.own, w.out_takes.0)
+    shown all e well outcome.NotWithin h = absurd (never all h)
 
     reported : (all : List ℕ) → o.source.before ≡ Some all → GoesWell o status → (r : Refusal) → IsRefusal all r → IsReported o status r
-    reported all e well r is = go (shows_or_reports all e well) where
-      go : Shows all ⊎ Reports all → IsReported o status r
-      go (inl h) = absurd ((refusals all).either r is h.1.tree h.1.has_tree h.1.fits)
-      go (inr h) = subst (IsReported o status) ((refusals all).refusal h.0 r h.1 is) h.2
+    reported all e well r h =
+        let w = written all e well (answers.SourceRefused r) h in record { refused = w.own; err_gets = w.err_takes.0 }
+
+    -- the answer that is written is one of what the source shows whole
+    has_answer : (all : List ℕ) → o.source.before ≡ Some all → (answer : Answer) → ReadHas text_limit RunHas o.source answer → RunHas all answer
+    has_answer all e answer h =
+        answer_of_all all o.source.now h.0 answer (subst (λ b. ReadsTo text_limit b o.source.now h.0) e h.1.whole) h.2
 
     exactly : (all : List ℕ) → o.source.before ≡ Some all → GoesWell o status → ((status ≡ statuses.SourceRefused) ↔ HasNoOutcome all)
-    exactly all e well = (there, λ none. back none (shows_or_reports all e well)) where
+    exactly all e well = (there, back) where
       there : status ≡ statuses.SourceRefused → HasNoOutcome all
-      there s = let h = refused s in (refusals all).either h.0 (read_is_refused o.source all h.0 e h.1)
+      there s = let h = refused s in (refusals all).either h.0 (has_answer all e (answers.SourceRefused h.0) h.1)
 
-      back : HasNoOutcome all → Shows all ⊎ Reports all → status ≡ statuses.SourceRefused
-      back none (inl h) = absurd (none h.1.tree h.1.has_tree h.1.fits)
-      back none (inr h) = h.2.refused
+      without : HasNoOutcome all → (answer : Answer) → RunHas all answer → status ≡ status_of answer → status ≡ statuses.SourceRefused
+      without none (answers.Ended arrays) h s = absurd (none h.tree h.has_tree h.fits)
+      without none (answers.Trapped t line) h s = absurd (none h.tree h.has_tree h.fits)
+      without none (answers.SourceRefused r) h s = s
+      without none answer h s = absurd h
+
+      back : HasNoOutcome all → status ≡ statuses.SourceRefused
+      back none =
+          let j : Judged = judged.judged text_limit RunHas o status a well in without none j.0 (has_answer all e j.0 j.1) j.2.own
 
     pub run_rows : RunRows o status
     run_rows = record {
       ended = ended;
       trapped = trapped;
       refused = refused;
-      judged = judged;
+      judged = λ well. let j : Judged = judged.judged text_limit RunHas o status a well in judged_status j.0 j.1 j.2.own;
       shown = shown;
       exactly = exactly;
       reported = reported;

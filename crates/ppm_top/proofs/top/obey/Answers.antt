@@ -1,6 +1,7 @@
 use Rattle.std.proofs.Common.{refl}
 use Rattle.ppm_answers.specs.declared.answer.Answer.TheVariants as answers
-use Rattle.ppm_top.proofs.CausesLemmas.{fixed_delivered, left_alone, memory_before}
+use Rattle.ppm_answers.proofs.Delivered.{fixed_delivered, left_alone}
+use Rattle.ppm_top.proofs.CausesLemmas.{memory_before}
 use Rattle.ppm_top.proofs.top.obey.Goals as goal
 
 -- memory was refused before the words were judged, and nothing was read

@@ -2,19 +2,22 @@
 use Rattle.std.proofs.Common.{◌≡◌, ◌≢◌, ◌⊎◌, ℕ, List, [], ◌∷◌, Option, Some, None}
 use Rattle.std.proofs.Common.{refl, ◌∙◌, subst, inl, inr, append-nil}
 use Rattle.std.specs.Io.KnownBytes.{Keeps, Appends}
-use Rattle.ppm_ports.specs.Ports.{Port, Fails, Holds}
+use Rattle.std.proofs.KnownBytes.{Keeps-refl}
+use Rattle.ppm_ports.specs.Ports.{Port, port, Fails, Holds}
+use Rattle.ppm_ports.specs.Outside.{Outside}
 use Rattle.ppm_answers.specs.declared.answer.Answer.{Answer}
 use Rattle.ppm_answers.specs.declared.answer.Answer.TheVariants as answers
 use Rattle.ppm_answers.specs.declared.status.Status.{Status}
 use Rattle.ppm_answers.specs.declared.status.Status.TheVariants as statuses
-use Rattle.ppm_answers.specs.Texts.{out_text}
+use Rattle.ppm_answers.specs.Texts.{IsFixed, out_text}
 use Rattle.ppm_answers.specs.Statuses.{status_of}
 use Rattle.ppm_answers.specs.Delivery.{IsWritten, Delivers}
-use Rattle.ppm_top.specs.Rows.{IsOneOf}
+use Rattle.ppm_answers.specs.Reading.{IsUnread, Answers}
+use Rattle.ppm_answers.specs.Rows.{IsOneOf}
 
 -- the statuses at which nothing is written on out
 abbrev pub silent : List Status
-silent = statuses.SourceRefused ∷ statuses.WordsRefused ∷ statuses.ReadFault ∷ statuses.NoMemory ∷ []
+silent = statuses.SourceRefused ∷ statuses.WordsRefused ∷ statuses.ReadFault ∷ statuses.NoMemory ∷ statuses.CodeRefused ∷ []
 
 -- a status is 8, or the answer is written
 pub own_or_fault : (out err : Port) (answer : Answer) (status : Status) → Delivers out err answer status →
@@ -47,13 +50,15 @@ none_of_three status (inl e) = (λ f. cc, λ f. cc, λ f. cc)
 none_of_three status (inr (inl e)) = (λ f. cc, λ f. cc, λ f. cc)
 none_of_three status (inr (inr (inl e))) = (λ f. cc, λ f. cc, λ f. cc)
 none_of_three status (inr (inr (inr (inl e)))) = (λ f. cc, λ f. cc, λ f. cc)
-none_of_three status (inr (inr (inr (inr e)))) = absurd e
+none_of_three status (inr (inr (inr (inr (inl e))))) = (λ f. cc, λ f. cc, λ f. cc)
+none_of_three status (inr (inr (inr (inr (inr e))))) = absurd e
 
--- but for arrays and traps, an answer has no text on out
+-- but for arrays, traps and `ok`, an answer has no text on out
 no_text : (answer : Answer) (status : Status) → status ≡ status_of answer → status ≢ statuses.Ended → status ≢ statuses.Trapped →
     out_text answer ≡ []
 no_text (answers.Ended arrays) status e n m = absurd (n e)
 no_text (answers.Trapped t line) status e n m = absurd (m e)
+no_text answers.Accepted status e n m = absurd (n e)
 no_text answer status e n m = refl
 
 appends_nothing : (before now : Option (List ℕ)) → Appends before now [] → Keeps before now
@@ -69,3 +74,14 @@ nothing_on_out out err answer status d one =
     let w : IsWritten out err answer status = written out err answer status d n.2 in
     let e : out_text answer ≡ [] = no_text answer status w.own n.0 n.1 in
     appends_nothing out.before out.now (subst (λ t. Appends out.before out.now t) e w.out_takes.0)
+
+-- a port that is left alone is unread
+pub left_alone : {K : Type 0} (bytes : K → Option (List ℕ)) (faults : K → ℕ) (k : K) → IsUnread (port bytes faults k k)
+left_alone bytes faults k = record { kept = Keeps-refl (bytes k); holds = refl }
+
+-- what was delivered of an answer with fixed texts is the answer
+pub fixed_delivered : (may : Answer → Type 0) (o : Outside) (answer : Answer) (status : Status) → o.told_now ≡ o.told_before →
+    IsFixed answer → may answer →
+    Delivers o.out o.err answer status ⊎ ((¬ IsFixed answer) × Delivers o.out o.err answers.NoMemory status) → Answers may o status
+fixed_delivered may o answer status told fixed h (inl d) = record { answer = answer; cause = h; delivered = d; told = told }
+fixed_delivered may o answer status told fixed h (inr d) = absurd (d.0 fixed)
