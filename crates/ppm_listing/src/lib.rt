@@ -15,5 +15,6 @@ mod listing;
 mod tests;
 mod token;
 
+pub use keyword::Keyword;
 pub use laws::listings_tell_codes;
 pub use listing::write_listing;

@@ -1,0 +1,21 @@
+//! The code of a listing: its reader, with the first fault of a text that is none.
+//! Model: a text is a list of lines, each of a form or of none; a fault is a rule that one line breaks at its place
+//! by what the whole text declares (`specs/Forms`, `specs/Places`, `specs/Faults`).
+//! Contract: `read_listing` answers the code whose listing the text is, or its first fault (`specs/Correct`).
+//! Stands on `ppm_listing`; the command that checks codes is to stand on it.
+//! After the input of an assembler, one line an instruction; the forms and faults are this project's.
+#![tactic(auto)]
+
+mod form;
+mod listing_error;
+mod part;
+mod place;
+mod reading;
+mod token;
+
+pub use form::Sort;
+pub use listing_error::{Fault, ListingError};
+pub use part::Part;
+pub use place::Place;
+pub use reading::read_listing;
+pub use token::Token;
