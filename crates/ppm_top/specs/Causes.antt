@@ -17,6 +17,7 @@ use Rattle.ppm_line.specs.declared.command.Command.{Command}
 use Rattle.ppm_line.specs.declared.command.Command.TheVariants as commands
 use Rattle.ppm_line.specs.declared.command.RunOptions.{RunOptions}
 use Rattle.ppm_line.specs.Words.{command_of}
+use Rattle.ppm_checking.specs.Causes.{CheckMay}
 
 -- the text has an admitted tree, whose code has room, and this is the tree's outcome
 pub record ComesTo (text : List ℕ) (o : Outcome) : Type 0 where
@@ -50,6 +51,7 @@ NoCommandMay o _ = ⊥
 abbrev pub CommandMay : Option Command → Outside → Answer → Type 0
 CommandMay None o answer = NoCommandMay o answer
 CommandMay (Some (commands.Run options)) o answer = RunMay options o answer
+CommandMay (Some commands.Check) o answer = CheckMay o answer
 
 -- an answer of the command that the words give was delivered
 abbrev pub IsAnswered : List (List ℕ) → Outside → Status → Type 0

@@ -18,6 +18,7 @@ use Rattle.ppm_answers.specs.Rows.{IsOneOf, GoesWell}
 use Rattle.ppm_line.specs.declared.command.Command.TheVariants as commands
 use Rattle.ppm_line.specs.declared.command.RunOptions.{RunOptions}
 use Rattle.ppm_line.specs.Words.{command_of}
+use Rattle.ppm_checking.specs.Rows.{CheckRows}
 use Rattle.ppm_top.specs.Refusals.{IsRefusal}
 use Rattle.ppm_top.specs.Causes.{ComesTo, HasNoOutcome, RunHas}
 
@@ -60,6 +61,10 @@ pub record RunRows (o : Outside) (status : Status) : Type 0 where
 abbrev pub RunsByWords : List (List ℕ) → Outside → Status → Type 0
 RunsByWords words o status = (options : RunOptions) → command_of words ≡ Some (commands.Run options) → RunRows o status
 
+-- so it is with the rows of `check` where the words ask for it
+abbrev pub ChecksByWords : List (List ℕ) → Outside → Status → Type 0
+ChecksByWords words o status = command_of words ≡ Some commands.Check → CheckRows o status
+
 -- Status 3 comes only where the words give no command. Then nothing is read, and the status is 3, or 8 or 9.
 pub record RefusesWords (words : List (List ℕ)) (o : Outside) (status : Status) : Type 0 where
   pub only : status ≡ statuses.WordsRefused → command_of words ≡ None
@@ -84,6 +89,7 @@ IsSilentOnOut o status =
 -- the rows of the program: those of each command, those of words that give none, and those that all commands share
 pub record ProgramRows (words : List (List ℕ)) (o : Outside) (status : Status) : Type 0 where
   pub run : RunsByWords words o status
+  pub check : ChecksByWords words o status
   pub words_refused : RefusesWords words o status
   pub faults : ReportsFaults o status
   pub nothing_on_out : IsSilentOnOut o status

@@ -22,6 +22,15 @@ const ROOM: usize = 300_000;
 /// Words that ask for a run.
 const RUN: &[&str] = &["ppm", "run"];
 
+/// Words that ask for a check.
+const CHECK: &[&str] = &["ppm", "check"];
+
+/// The lines in front of the instructions of a listing whose one procedure has four slots.
+const FOUR_SLOTS: &str = "ppm 1\nroot 0\nproc 0 slots 4 entry 0\ncapsule 0 proc 0\n";
+
+/// The same with one slot.
+const ONE_SLOT: &str = "ppm 1\nroot 0\nproc 0 slots 1 entry 0\ncapsule 0 proc 0\n";
+
 /// What a call wrote and answered, and how often its source failed.
 #[derive(Drop)]
 struct Shown {
@@ -104,6 +113,23 @@ fn is_refused(rt: &impl Abort, alloc: Global, text: &[u8], reason: &str) -> Resu
     Ok(())
 }
 
+/// Fails unless the check of a listing answers so: on out where it is accepted, else on err.
+fn is_checked(rt: &impl Abort, alloc: Global, listing: &str, answer: &str) -> Result<(), Fail> {
+    let got = ppm_over_memory(alloc, listing.as_bytes(), CHECK, 4096, NONE)?;
+    let line = format!(in alloc; "{answer}\n")?;
+    let nothing = b"".as_slice();
+    if answer == "ok" {
+        assert_eq!(rt; got.out.as_slice(), line.as_bytes(), "{listing}");
+        assert_eq!(rt; got.err.as_slice(), nothing, "{listing}");
+        assert_eq!(rt; got.status, Status::Ended, "{listing}");
+    } else {
+        assert_eq!(rt; got.err.as_slice(), line.as_bytes(), "{listing}");
+        assert_eq!(rt; got.out.as_slice(), nothing, "{listing}");
+        assert_eq!(rt; got.status, Status::CodeRefused, "{listing}");
+    }
+    Ok(())
+}
+
 /// `front`, then so many times `item`, then `back`.
 fn repeated(
     alloc: Global,
@@ -161,6 +187,108 @@ fn sources_are_judged(rt: HostRuntime) -> Result<(), Fail> {
             assert_eq!(rt; got.err.as_slice(), b"".as_slice(), "{text}");
             assert_eq!(rt; got.status, status, "{text}");
         }
+    }
+    Ok(())
+}
+
+#[test]
+fn listings_are_checked(rt: HostRuntime) -> Result<(), Fail> {
+    let alloc = rt.alloc();
+    // The lines behind those in front, and the answer.
+    let cases = [
+        (
+            FOUR_SLOTS,
+            "loadslot r0 3\nbranchz r0 3\nstorecur 3 r0\nend\n",
+            "conflict: capsule 0 read 0 write 2 class cur 3",
+        ),
+        (
+            FOUR_SLOTS,
+            "const r0 7\nstorecur 3 r0\nloadslot r1 3\nstorecur 3 r1\nend\n",
+            "ok",
+        ),
+        // Without the last byte, and without the last line.
+        (
+            FOUR_SLOTS,
+            "const r0 7\nstorecur 3 r0\nloadslot r1 3\nstorecur 3 r1\nend",
+            "listing refused: 1 line 9",
+        ),
+        (
+            FOUR_SLOTS,
+            "const r0 7\nstorecur 3 r0\nloadslot r1 3\nstorecur 3 r1\n",
+            "listing refused: 4 line 8",
+        ),
+        (
+            FOUR_SLOTS,
+            "get r0 r1 r2 1\nput r1 r2 r0 1\nend\n",
+            "conflict: capsule 0 read 0 write 1 class array",
+        ),
+        (
+            FOUR_SLOTS,
+            "put r1 r2 r0 1\nget r0 r1 r2 1\nend\n",
+            "ok",
+        ),
+        // A branch to its own place, and one past the last instruction.
+        (
+            FOUR_SLOTS,
+            "loadslot r0 3\nbranchz r0 1\nstorecur 3 r0\nend\n",
+            "listing refused: 3 line 6",
+        ),
+        (
+            FOUR_SLOTS,
+            "loadslot r0 3\nbranchz r0 3\nstorecur 3 r0\n",
+            "listing refused: 3 line 6",
+        ),
+        (
+            FOUR_SLOTS,
+            "loadslot r0 4\nbranchz r0 3\nstorecur 3 r0\nend\n",
+            "listing refused: 2 line 5",
+        ),
+        ("", "", "listing refused: 6 line 1"),
+        // A frame with one slot has seven words.
+        (ONE_SLOT, "room 7\ncall 0 0\n", "ok"),
+        (
+            ONE_SLOT,
+            "room 5\ncall 0 0\n",
+            "listing refused: 5 line 6",
+        ),
+        (
+            ONE_SLOT,
+            "storenext 0 r1\nend\n",
+            "listing refused: 1 line 5",
+        ),
+        (ONE_SLOT, "give r0\nend\n", "ok"),
+        (
+            ONE_SLOT,
+            "room 7\ncallto 0 0 1\n",
+            "listing refused: 2 line 6",
+        ),
+        (
+            ONE_SLOT,
+            "room 19\nforkto 0 0 0 - -\n",
+            "listing refused: 1 line 6",
+        ),
+        (ONE_SLOT, "room 19\nforkto 0 0 0 - 0\n", "ok"),
+        (
+            "ppm 1\nroot 0\nproc 0 slots 26 entry 0\ncapsule 0 proc 0\n",
+            "end\n",
+            "listing refused: 2 line 3",
+        ),
+        (
+            "ppm 1\nroot 0\nproc 0 slots 25 entry 0\ncapsule 0 proc 0\n",
+            "end\n",
+            "ok",
+        ),
+        // The first conflict is that of the least capsule, there of the least read, there of the least write.
+        (
+            FOUR_SLOTS,
+            "end\ncapsule 1 proc 0\nloadslot r0 1\nloadslot r1 2\nstorecur 2 r0\nstorecur 1 r0\nstorecur 1 r1\nend\n",
+            "conflict: capsule 1 read 0 write 3 class cur 1",
+        ),
+    ];
+    for (front, behind, answer) in cases {
+        let mut listing = String::from_str(alloc, front)?;
+        listing.push_str(behind)?;
+        is_checked(&rt, alloc, listing.as_str(), answer)?;
     }
     Ok(())
 }
@@ -312,7 +440,8 @@ fn words_are_judged_before_anything_is_read(rt: HostRuntime) -> Result<(), Fail>
         reads: &[0],
         ..NONE
     };
-    let refused: [&[&str]; 6] = [
+    let refused: [&[&str]; 7] = [
+        &["ppm", "check", "x"],
         &[],
         &["ppm"],
         &["ppm", "walk"],
@@ -367,8 +496,10 @@ fn a_write_that_fails_makes_status_8(rt: HostRuntime) -> Result<(), Fail> {
         errs: &[1],
         ..NONE
     };
-    let cases: [(&str, &[&str], Failing, &str); 3] = [
+    let cases: [(&str, &[&str], Failing, &str); 5] = [
         ("proc", RUN, errs, "sour"),
+        ("proc", CHECK, errs, "list"),
+        (FIRST, CHECK, both, "read"),
         (FIRST, &["ppm", "walk"], errs, "word"),
         (FIRST, RUN, both, "read"),
     ];

@@ -10,6 +10,7 @@ ghost use Rattle.ppm_top.specs.Rows.{ProgramRows};
 use crate::laws::{have_one_outcome, have_one_refusal};
 use crate::run::run_command;
 use ppm_answers::{Answer, Status, deliver};
+use ppm_checking::check_command;
 use ppm_line::{Command, read_words};
 use ppm_ports::{Sink, Source, Watch};
 use ppm_words::NoMemory;
@@ -67,6 +68,7 @@ fn obey<R, S: Source, K: Sink, E: Sink, W: Watch>(
 {
     match read_words(alloc, words) {
         Ok(Some(Command::Run(options))) => run_command(rt, alloc, options, source, out, err, watch),
+        Ok(Some(Command::Check)) => check_command(alloc, source, out, err),
         Ok(None) => deliver(alloc, &Answer::WordsRefused, out, err),
         Err(NoMemory) => deliver(alloc, &Answer::NoMemory, out, err),
     }

@@ -4,6 +4,7 @@ use Rattle.std.proofs.Common.{refl, sym, ◌∙◌, subst, inl, inr}
 use Rattle.ppm_ports.specs.Ports.{Fails, Holds}
 use Rattle.ppm_ports.specs.Outside.{Outside}
 use Rattle.ppm_text.specs.Limits.{text_limit}
+use Rattle.ppm_reading.specs.Limits.{text_limit as listing_limit}
 use Rattle.ppm_answers.specs.declared.answer.Answer.{Answer}
 use Rattle.ppm_answers.specs.declared.answer.Answer.TheVariants as answers
 use Rattle.ppm_answers.specs.declared.status.Status.{Status}
@@ -13,6 +14,8 @@ use Rattle.ppm_answers.specs.Delivery.{IsWritten}
 use Rattle.ppm_line.specs.declared.command.Command.{Command}
 use Rattle.ppm_line.specs.declared.command.Command.TheVariants as commands
 use Rattle.ppm_line.specs.Words.{command_of}
+use Rattle.ppm_checking.specs.Verdict.{CheckHas}
+use Rattle.ppm_checking.proofs.OfCheck.{check_rows}
 use Rattle.ppm_answers.specs.Reading.{IsUnread, JudgingMay, Answers}
 use Rattle.ppm_answers.specs.Rows.{IsOneOf}
 use Rattle.ppm_top.specs.Causes.{RunHas, NoCommandMay, CommandMay, IsAnswered}
@@ -40,6 +43,7 @@ none_reports o = record { failed = λ h. absurd h; fails = fails } where
 command_reports : (o : Outside) (command : Option Command) → ReportsReads o (CommandMay command o)
 command_reports o None = none_reports o
 command_reports o (Some (commands.Run options)) = judging_reports text_limit RunHas o
+command_reports o (Some commands.Check) = judging_reports listing_limit CheckHas o
 
 -- an answer of status 7 is a read fault
 read_answer : (may : Answer → Type 0) (answer : Answer) → may answer → status_of answer ≡ statuses.ReadFault → may answers.ReadFault
@@ -73,6 +77,7 @@ no_command : (command : Option Command) (o : Outside) (answer : Answer) → Comm
     status_of answer ≡ statuses.WordsRefused → command ≡ None
 no_command None o answer h e = refl
 no_command (Some (commands.Run options)) o answers.WordsRefused h e = absurd h.2
+no_command (Some commands.Check) o answers.WordsRefused h e = absurd h.2
 no_command command o answer h e = cc
 
 -- without a command nothing is read, and the words are refused or memory is
@@ -103,11 +108,12 @@ refuses_words words o status a = record {
   always (inl r) (inr w) = inl (w.own ∙ r)
   always (inr r) (inr w) = inr (inr (inl (w.own ∙ r)))
 
--- all rows of the program
-pub program_rows : HaveOneOutcome → HaveOneRefusal → (words : List (List ℕ)) (o : Outside) (status : Status) → IsAnswered words o status →
-    ProgramRows words o status
+-- all rows of the program, by the laws on what texts have for answers
+pub program_rows : HaveOneOutcome → HaveOneRefusal → (words : List (List ℕ)) (o : Outside) (status : Status) →
+    IsAnswered words o status → ProgramRows words o status
 program_rows outcomes refusals words o status a = record {
   run = λ options e. run_rows outcomes refusals options o status (subst (λ c. Answers (CommandMay c o) o status) e a);
+  check = λ e. check_rows o status (subst (λ c. Answers (CommandMay c o) o status) e a);
   words_refused = refuses_words words o status a;
   faults = faults words o status a;
   nothing_on_out = delivered.nothing_on_out o.out o.err a.answer status a.delivered;

@@ -1,6 +1,6 @@
 -- The rows of `run`.
 use Rattle.std.proofs.Common.{◌≡◌, ◌≢◌, ◌⊎◌, ◌↔◌, ℕ, List, [], ◌∷◌, Some}
-use Rattle.std.proofs.Common.{ap, subst, inl, inr}
+use Rattle.std.proofs.Common.{refl, ap, subst, inl, inr}
 use Rattle.ppm_ports.specs.Outside.{Outside}
 use Rattle.ppm_ports.specs.Whole.{ReadsTo}
 use Rattle.ppm_words.specs.declared.outcome.Outcome.{Outcome}
@@ -36,18 +36,32 @@ module _ (outcomes : HaveOneOutcome) (refusals : HaveOneRefusal) where
   not_both : (text : List ℕ) (o : Outcome) (r : Refusal) → ComesTo text o → IsRefusal text r → ⊥
   not_both text o r h k = (refusals text).either r k h.tree h.has_tree h.fits
 
-  -- a text has one answer
+  -- the answer of a text that comes to an outcome is that outcome's
+  of_arrays : (text : List ℕ) (xs : _) (b : Answer) → ComesTo text (outcome.Ended xs) → RunHas text b → answers.Ended xs ≡ b
+  of_arrays text xs (answers.Ended ys) h k = let e = outcomes text (outcome.Ended xs) (outcome.Ended ys) h k in cc
+  of_arrays text xs (answers.Trapped t n) h k = let e = outcomes text (outcome.Ended xs) (outcome.Trapped t n) h k in cc
+  of_arrays text xs (answers.SourceRefused r) h k = absurd (not_both text (outcome.Ended xs) r h k)
+  of_arrays text xs b h k = absurd k
+
+  of_trap : (text : List ℕ) (s : _) (m : ℕ) (b : Answer) → ComesTo text (outcome.Trapped s m) → RunHas text b → answers.Trapped s m ≡ b
+  of_trap text s m (answers.Ended ys) h k = let e = outcomes text (outcome.Trapped s m) (outcome.Ended ys) h k in cc
+  of_trap text s m (answers.Trapped t n) h k = let e = outcomes text (outcome.Trapped s m) (outcome.Trapped t n) h k in cc
+  of_trap text s m (answers.SourceRefused r) h k = absurd (not_both text (outcome.Trapped s m) r h k)
+  of_trap text s m b h k = absurd k
+
+  -- and that of a text that is refused is its refusal
+  of_refusal : (text : List ℕ) (q : Refusal) (b : Answer) → IsRefusal text q → RunHas text b → answers.SourceRefused q ≡ b
+  of_refusal text q (answers.Ended ys) h k = absurd (not_both text (outcome.Ended ys) q k h)
+  of_refusal text q (answers.Trapped t n) h k = absurd (not_both text (outcome.Trapped t n) q k h)
+  of_refusal text q (answers.SourceRefused r) h k = ap (λ x. answers.SourceRefused x) ((refusals text).refusal q r h k)
+  of_refusal text q b h k = absurd k
+
+  -- so a text has one answer
   one : (text : List ℕ) (a b : Answer) → RunHas text a → RunHas text b → a ≡ b
-  one text (answers.Ended xs) (answers.Ended ys) h k = let e = outcomes text (outcome.Ended xs) (outcome.Ended ys) h k in cc
-  one text (answers.Ended xs) (answers.Trapped t n) h k = let e = outcomes text (outcome.Ended xs) (outcome.Trapped t n) h k in cc
-  one text (answers.Ended xs) (answers.SourceRefused r) h k = absurd (not_both text (outcome.Ended xs) r h k)
-  one text (answers.Trapped s m) (answers.Ended ys) h k = let e = outcomes text (outcome.Trapped s m) (outcome.Ended ys) h k in cc
-  one text (answers.Trapped s m) (answers.Trapped t n) h k = let e = outcomes text (outcome.Trapped s m) (outcome.Trapped t n) h k in cc
-  one text (answers.Trapped s m) (answers.SourceRefused r) h k = absurd (not_both text (outcome.Trapped s m) r h k)
-  one text (answers.SourceRefused q) (answers.Ended ys) h k = absurd (not_both text (outcome.Ended ys) q k h)
-  one text (answers.SourceRefused q) (answers.Trapped t n) h k = absurd (not_both text (outcome.Trapped t n) q k h)
-  one text (answers.SourceRefused q) (answers.SourceRefused r) h k = ap (λ x. answers.SourceRefused x) ((refusals text).refusal q r h k)
-  one text a b h k = cc
+  one text (answers.Ended xs) b h k = of_arrays text xs b h k
+  one text (answers.Trapped s m) b h k = of_trap text s m b h k
+  one text (answers.SourceRefused q) b h k = of_refusal text q b h k
+  one text a b h k = absurd h
 
   pub are_judgements : AreJudgements text_limit RunHas
   are_judgements = record { one = one; whole = answer_of_all; judges = judges }
@@ -100,7 +114,7 @@ module _ (outcomes : HaveOneOutcome) (refusals : HaveOneRefusal) where
     shown : (all : List ℕ) → o.source.before ≡ Some all → GoesWell o status → (r : Outcome) → ComesTo all r → IsShown o status r
     shown all e well (outcome.Ended arrays) h = let w = written all e well (answers.Ended arrays) h in (w.own, w.out_takes.0)
     shown all e well (outcome.Trapped t line) h = let w = written all e well (answers.Trapped t line) h in (w.own, w.out_takes.0)
-    shown all e well outcome.NotWithin h = absurd (never all h)
+    shown all e well outcome.NotWithin h = absurd (h.is_outcome.2 refl)
 
     reported : (all : List ℕ) → o.source.before ≡ Some all → GoesWell o status → (r : Refusal) → IsRefusal all r → IsReported o status r
     reported all e well r h =
