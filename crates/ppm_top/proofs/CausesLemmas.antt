@@ -1,18 +1,25 @@
 -- Want of memory may always be answered before anything is read.
-use Rattle.std.proofs.Common.{Option, Some, None}
+use Rattle.std.proofs.Common.{◌≡◌, ℕ, List, Option, Some, None, sym, subst}
 use Rattle.ppm_ports.specs.Outside.{Outside}
 use Rattle.ppm_text.specs.Limits.{text_limit}
 use Rattle.ppm_reading.specs.Limits.{text_limit as listing_limit}
 use Rattle.ppm_answers.specs.declared.answer.Answer.TheVariants as answers
-use Rattle.ppm_answers.specs.Reading.{IsUnread}
+use Rattle.ppm_answers.specs.declared.status.Status.{Status}
+use Rattle.ppm_answers.specs.Reading.{IsUnread, Answers}
 use Rattle.ppm_answers.proofs.Judged as judged
 use Rattle.ppm_line.specs.declared.command.Command.{Command}
 use Rattle.ppm_line.specs.declared.command.Command.TheVariants as commands
 use Rattle.ppm_checking.specs.Verdict.{CheckHas}
-use Rattle.ppm_top.specs.Causes.{RunHas, CommandMay}
+use Rattle.ppm_line.specs.Words.{command_of}
+use Rattle.ppm_top.specs.Causes.{RunHas, CommandMay, IsAnswered}
 
 -- where nothing was read, out of memory may be the answer, whatever the command is
 pub memory_before : (command : Option Command) (o : Outside) → IsUnread o.source → CommandMay command o answers.NoMemory
 memory_before None o h = h
 memory_before (Some (commands.Run options)) o h = judged.memory_before text_limit RunHas o.source h
 memory_before (Some commands.Check) o h = judged.memory_before listing_limit CheckHas o.source h
+
+-- an answer of the command that the words give answers the words
+pub by_command : (words : List (List ℕ)) (o : Outside) (status : Status) (command : Option Command) → command_of words ≡ command →
+    Answers (CommandMay command o) o status → IsAnswered words o status
+by_command words o status command e a = subst (λ c. Answers (CommandMay c o) o status) (sym e) a

@@ -1,8 +1,22 @@
-use Rattle.std.proofs.Common.{refl}
+use Rattle.std.proofs.Common.{Some, None, map, refl}
+use Rattle.std.specs.String.{string_bytes}
 use Rattle.ppm_answers.specs.declared.answer.Answer.TheVariants as answers
+use Rattle.ppm_line.specs.declared.command.Command.TheVariants as commands
 use Rattle.ppm_answers.proofs.Delivered.{fixed_delivered, left_alone}
-use Rattle.ppm_top.proofs.CausesLemmas.{memory_before}
+use Rattle.ppm_top.proofs.CausesLemmas.{memory_before, by_command}
 use Rattle.ppm_top.proofs.top.obey.Goals as goal
+
+-- the words ask for a check, which was answered
+pub returns-in-Ok-Some-Check-clause-answers : goal.returns-in-Ok-Some-Check-clause-answers
+returns-in-Ok-Some-Check-clause-answers g c = by_command (map string_bytes c.args.words.now) _ _ (Some commands.Check)
+    (cc (c.in-Ok-Some-Check.ensures.value, c.in-Ok-Some-Check.field-0-is, c.in-Ok-Some-Check.field-0-0-is))
+    (c.check_command.ensures.answers _)
+
+-- the words give no command, and nothing was read
+pub returns-in-Ok-None-clause-answers : goal.returns-in-Ok-None-clause-answers
+returns-in-Ok-None-clause-answers g c = by_command (map string_bytes c.args.words.now) _ _ None
+    (cc (c.in-Ok-None.ensures.value, c.in-Ok-None.field-0-is))
+    (fixed_delivered _ _ answers.WordsRefused _ refl tt (left_alone g.S.Source.left g.S.Source.fault_count c.args.source.now) c.deliver.ensures)
 
 -- memory was refused before the words were judged, and nothing was read
 pub returns-in-Err-clause-answers : goal.returns-in-Err-clause-answers
