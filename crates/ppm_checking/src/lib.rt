@@ -11,3 +11,6 @@ mod checking;
 mod verdict;
 
 pub use checking::check_command;
+
+#[cfg(test)]
+mod tests;

@@ -1,0 +1,152 @@
+//! Capsules of listings that are accepted, stopped after each word step and begun again, over plain words.
+use ppm_code::{Act, End, FrameWord, Instr, Location, Step};
+use ppm_reading::read_listing;
+use ppm_war::check;
+use std::alloc::Global;
+use std::test::Fail;
+
+/// The array words of the tests.
+const ARRAY_WORDS: usize = 4;
+
+/// The words that a capsule reads and writes.
+#[derive(Clone, Copy, Debug, PartialEq, Eq)]
+struct Words {
+    slots: [u64; 25],
+    value: u64,
+    block: [u64; 32],
+    arrays: [u64; ARRAY_WORDS],
+}
+
+impl Words {
+    /// Slot 0 holds the region of all array words, and slot 3 a number that is not 0.
+    fn new() -> Words {
+        let mut slots = [0; 25];
+        slots[0] = ARRAY_WORDS as u64;
+        slots[1] = 1;
+        slots[2] = 9;
+        slots[3] = 5;
+        Words {
+            slots,
+            value: 0,
+            block: [0; 32],
+            arrays: [7, 8, 9, 10],
+        }
+    }
+
+    /// The word at a location.
+    fn at(&mut self, location: Location) -> Option<&mut u64> {
+        match location {
+            Location::Frame(FrameWord::Slot(slot)) => self.slots.get_mut(slot as usize),
+            Location::Frame(FrameWord::Value) => Some(&mut self.value),
+            Location::New(word) => self.block.get_mut(word as usize),
+            Location::Array(word) => self.arrays.get_mut(word as usize),
+        }
+    }
+
+    /// Makes a word step.
+    fn make(&mut self, step: Step, registers: &mut [u64; 64]) -> Result<(), Fail> {
+        match step {
+            Step::Loads(from, to) => {
+                registers[to.index as usize] = *self.at(from).ok_or("no such word")?;
+            }
+            Step::Stores(to, word) => *self.at(to).ok_or("no such word")? = word,
+            Step::Asks(_) => {}
+        }
+        Ok(())
+    }
+}
+
+/// Begins a capsule, and goes on to its end, or until it has made so many word steps: then it is stopped.
+fn begin(instrs: &[Instr], words: &mut Words, mut steps: usize) -> Result<Option<End>, Fail> {
+    let mut registers = [0; 64];
+    let mut next = 0;
+    for (at, instr) in instrs.iter().enumerate() {
+        if at < next {
+            continue;
+        }
+        match instr.act(&registers, ARRAY_WORDS as u64) {
+            Act::Sets(to, word) => registers[to.index as usize] = word,
+            Act::Passes => {}
+            Act::Jumps(target) => next = target as usize,
+            Act::Steps(step) => {
+                if steps == 0 {
+                    return Ok(None);
+                }
+                steps -= 1;
+                words.make(step, &mut registers)?;
+            }
+            Act::Ends(end) => return Ok(Some(end)),
+        }
+    }
+    Ok(None)
+}
+
+/// The end and the words of a capsule that is stopped after each of these numbers of word steps.
+fn with_stops(instrs: &[Instr], stops: &[usize]) -> Result<(Option<End>, Words), Fail> {
+    let mut words = Words::new();
+    for steps in stops {
+        begin(instrs, &mut words, *steps)?;
+    }
+    let end = begin(instrs, &mut words, 160)?;
+    Ok((end, words))
+}
+
+/// Whether stops change neither the end nor the words, one or two of them after up to eight word steps.
+fn may_be_stopped(instrs: &[Instr]) -> Result<bool, Fail> {
+    let without = with_stops(instrs, &[])?;
+    for first in 0..9 {
+        for second in 0..9 {
+            if with_stops(instrs, &[first, second])? != without {
+                return Ok(false);
+            }
+        }
+    }
+    Ok(true)
+}
+
+/// The lines in front of the instructions.
+const FRONT: &str = "ppm 1\nroot 0\nproc 0 slots 4 entry 0\ncapsule 0 proc 0\n";
+
+/// Whether a listing is accepted, and whether its capsules may be stopped.
+fn judged(alloc: Global, lines: &str) -> Result<(bool, bool), Fail> {
+    let mut listing = String::from_str(alloc, FRONT)?;
+    listing.push_str(lines)?;
+    let code = read_listing(alloc, listing.as_bytes()).map_err(|_| "no listing")?;
+    let mut all = true;
+    for capsule in code.parts().capsules.as_slice() {
+        if !may_be_stopped(capsule.instrs.as_slice())? {
+            all = false;
+        }
+    }
+    Ok((check(&code).is_ok(), all))
+}
+
+#[test]
+fn accepted_capsules_may_be_stopped(rt: HostRuntime) -> Result<(), Fail> {
+    let cases = [
+        "loadslot r0 3\nbranchz r0 4\nconst r1 -1\nadd r0 r0 r1 1\nstorecur 2 r0\nnext 1\ncapsule 1 proc 0\nloadslot r0 2\nstorecur 3 r0\nend\n",
+        "const r0 7\nstorecur 3 r0\nloadslot r1 3\nstorecur 3 r1\nend\n",
+        "loadslot r1 0\nput r1 r2 r0 1\nget r0 r1 r2 1\nstorecur 1 r0\nend\n",
+        "loadslot r1 0\nloadslot r2 1\nget r0 r1 r2 1\nadd r0 r0 r0 1\nstorecur 2 r0\ngive r0\nend\n",
+        "room 10\nloadslot r0 3\nstorenew 6 r0\nstorenew 7 r0\ncall 0 0\n",
+        "loadslot r0 2\nloadslot r1 0\nput r1 r0 r0 1\nend\n",
+    ];
+    for lines in cases {
+        let got = judged(rt.alloc(), lines)?;
+        assert_eq!(rt; got, (true, true), "{lines}");
+    }
+    Ok(())
+}
+
+#[test]
+fn conflicts_show_where_capsules_are_stopped(rt: HostRuntime) -> Result<(), Fail> {
+    let cases = [
+        "loadslot r0 3\nbranchz r0 5\nconst r1 -1\nadd r0 r0 r1 1\nstorecur 3 r0\nend\n",
+        "loadslot r1 0\nget r0 r1 r2 1\nadd r0 r0 r0 1\nput r1 r2 r0 1\nend\n",
+    ];
+    for lines in cases {
+        let got = judged(rt.alloc(), lines)?;
+        assert_eq!(rt; got, (false, false), "{lines}");
+    }
+    Ok(())
+}
