@@ -1,0 +1,3 @@
+mod SplitLemmas
+mod NumberLemmas
+mod WordLemmas
