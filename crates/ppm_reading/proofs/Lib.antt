@@ -1,3 +1,5 @@
 mod SplitLemmas
 mod NumberLemmas
 mod WordLemmas
+mod FormLemmas
+mod FirstLemmas

@@ -65,6 +65,12 @@ abbrev pub is_past_room : (room : Option ℕ) → ℕ → Bool
 is_past_room None offset = true
 is_past_room (Some words) offset = nat_le words offset
 
+-- whether a text may not end at a place: no capsule has come
+abbrev pub ends_early : Fault → Place → Bool
+ends_early NotThere (Within capsule procedure at room) = false
+ends_early NotThere place = true
+ends_early _ place = false
+
 module _ (code : CodeParts) where
   -- whether a procedure is there
   abbrev pub is_procedure : ℕ → Bool
@@ -171,12 +177,6 @@ module _ (code : CodeParts) where
   breaks WrongRoom place (Some p) = has_wrong_room place p
   breaks NotThere place (Some p) = is_not_there place p
   breaks _ place _ = false
-
-  -- whether a text may not end at a place: no capsule has come
-  abbrev pub ends_early : Fault → Place → Bool
-  ends_early NotThere (Within capsule procedure at room) = false
-  ends_early NotThere place = true
-  ends_early _ place = false
 
   -- the line with a number from 0 breaks a rule, or the text ends there too early
   abbrev pub BreaksAt : Fault → Place → List (Option Part) → (number : ℕ) → Type 0

@@ -1,6 +1,7 @@
 //! The first fault of some lines.
 ghost use Rattle.std.specs.Prelude.{◌≡◌, ◌+◌, ◌<◌, ◌^◌, MatchOption, Some, length};
-ghost use Rattle.ppm_reading.specs.Faults.{IsLeastRule, IsFirstBreak, KeepsRules};
+ghost use Rattle.ppm_reading.specs.Faults.{IsLeastRule, IsFirstBreak, KeepsRules, ends_early as is_early};
+ghost use Rattle.ppm_reading.specs.declared.listing_error.Fault.TheVariants.{NotThere};
 ghost use Rattle.ppm_reading.specs.declared.place.Place.TheVariants.{AtVersion};
 
 use crate::listing_error::Fault;
@@ -41,6 +42,16 @@ fn line_fault(code: &CodeParts, place: Place, line: &Option<Part>) -> Option<Fau
     }
 }
 
+/// Whether a text may not end at a place: no capsule has come.
+fn ends_early(place: Place) -> bool
+    ensures { result ≡ is_early NotThere place }
+{
+    match place {
+        Place::Within { .. } => false,
+        Place::AtVersion | Place::AtRoot | Place::AtProcedure { .. } => true,
+    }
+}
+
 /// The first fault of lines that declare a code, with its line from 0.
 pub(crate) fn first_fault(code: &CodeParts, lines: &[Option<Part>]) -> Option<(Fault, u32)>
     requires { length lines.now + 1 < 2 ^ 32 }
@@ -59,10 +70,8 @@ pub(crate) fn first_fault(code: &CodeParts, lines: &[Option<Part>]) -> Option<(F
         number += 1;
         left = rest;
     }
-    match place {
-        Place::Within { .. } => None,
-        Place::AtVersion | Place::AtRoot | Place::AtProcedure { .. } => {
-            Some((Fault::NotThere, number))
-        }
+    if ends_early(place) {
+        return Some((Fault::NotThere, number));
     }
+    None
 }
