@@ -98,7 +98,7 @@ pub record IsToken (t : Token) (w : Written) : Type 0 where
   pub word : word_of t ≡ token_text w
   pub fits : Fits w
 
-small_number : (n : ℕ) → min n (2 ^ 32 - 1) < small_limit → IsToken (Number n) (number (min n (2 ^ 32 - 1)))
+pub small_number : (n : ℕ) → min n (2 ^ 32 - 1) < small_limit → IsToken (Number n) (number (min n (2 ^ 32 - 1)))
 small_number n h = let same : n ≡ min n (2 ^ 32 - 1) = omega (arith, h) in record {
   whole = omega (arith, h);
   word = ap decimal same;

@@ -2,4 +2,8 @@ mod SplitLemmas
 mod NumberLemmas
 mod WordLemmas
 mod FormLemmas
+mod LineLemmas
+mod SaidLemmas
 mod FirstLemmas
+mod CleanLemmas
+mod CodeLemmas

@@ -1,4 +1,4 @@
-use Rattle.std.proofs.Common.{arith, subst, take, drop, length, ◌-◌, ◌+◌, ◌∙◌}
+use Rattle.std.proofs.Common.{arith, subst, sym, take, drop, length, ◌-◌, ◌+◌, ◌∙◌}
 use Rattle.ppm_reading.specs.declared.place.Place.TheVariants.{AtVersion}
 use Rattle.ppm_reading.specs.Faults.{IsLeastRule}
 use Rattle.ppm_reading.proofs.FirstLemmas.{IsPassed, passed_step, breaks_first, ends_now, counted-next}
@@ -22,3 +22,9 @@ loop-left-preserved c =
       length = omega (arith, c.loop-left.invariant.length, c.in-len1-up.len_at_least);
       counted = omega (arith, counted-next c.args.code.now c.loop-left.place c.line-item.result, c.loop-left.invariant.counted);
     })
+
+-- no capsule has come
+pub returns-then-ends_early : goal.returns-then-ends_early
+returns-then-ends_early c =
+    ends_now c.args.code.now AtVersion c.loop-left.place c.args.lines.now c.loop-left.left.now c.loop-left.number c.in_default.len_below
+    c.loop-left.invariant.passed (omega (arith, c.loop-left.invariant.length)) (sym c.ends_early.ensures ∙ c.if-ends_early.true)
