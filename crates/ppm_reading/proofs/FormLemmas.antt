@@ -62,27 +62,39 @@ AllName n (s ∷ ss) ts = Names s (token_at ts n) × AllName (n + 1) ss ts
 abbrev pub small_limit : ℕ
 small_limit = 2 ^ 32 - 1
 
+abbrev pub IsBelow : (limit : ℕ) → Written → Type 0
+IsBelow limit (written.Number (pos n)) = n < limit
+IsBelow limit _ = Unit {0}
+
 abbrev pub IsSmall : Written → Type 0
-IsSmall (written.Number (pos n)) = n < small_limit
-IsSmall _ = Unit {0}
+IsSmall w = IsBelow small_limit w
+
+abbrev pub IsRightBelow : (limit : ℕ) → Sort → Written → Type 0
+IsRightBelow limit sort.Constant w = Unit {0}
+IsRightBelow limit sort.Register w = Unit {0}
+IsRightBelow limit _ w = IsBelow limit w
 
 abbrev pub IsRight : Sort → Written → Type 0
-IsRight sort.Constant w = Unit {0}
-IsRight sort.Register w = Unit {0}
-IsRight _ w = IsSmall w
+IsRight s w = IsRightBelow small_limit s w
+
+abbrev pub AreRightBelow : (limit : ℕ) → List Sort → List Written → Type 0
+AreRightBelow limit [] ws = Unit {0}
+AreRightBelow limit (s ∷ ss) [] = Unit {0}
+AreRightBelow limit (s ∷ ss) (w ∷ ws) = IsRightBelow limit s w × AreRightBelow limit ss ws
 
 abbrev pub AreRight : List Sort → List Written → Type 0
-AreRight [] ws = Unit {0}
-AreRight (s ∷ ss) [] = Unit {0}
-AreRight (s ∷ ss) (w ∷ ws) = IsRight s w × AreRight ss ws
+AreRight ss ws = AreRightBelow small_limit ss ws
 
--- the numbers of a line are small, but for a constant
-abbrev pub IsSmallLine : Line → Type 0
-IsSmallLine l = of_keyword l.keyword l.operands
+-- the numbers of a line are below a limit, but for a constant
+abbrev pub IsLineBelow : (limit : ℕ) → Line → Type 0
+IsLineBelow limit l = of_keyword l.keyword l.operands
   where
     of_keyword : Keyword → List Written → Type 0
-    of_keyword keyword.Root ws = AllByRecursion IsSmall ws
-    of_keyword k ws = AreRight (sorts k) ws
+    of_keyword keyword.Root ws = AllByRecursion (IsBelow limit) ws
+    of_keyword k ws = AreRightBelow limit (sorts k) ws
+
+abbrev pub IsSmallLine : Line → Type 0
+IsSmallLine l = IsLineBelow small_limit l
 
 -- a register is told by its number
 register_index : (n : ℕ) → nat_lt n 64 ≡ true → (register_of (Register n)).index ≡ n

@@ -7,3 +7,5 @@ mod SaidLemmas
 mod FirstLemmas
 mod CleanLemmas
 mod CodeLemmas
+mod SmallLemmas
+mod ReadingLemmas
