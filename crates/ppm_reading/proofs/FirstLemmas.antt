@@ -12,6 +12,33 @@ use Rattle.ppm_reading.specs.ErrorNumbers.{fault_number}
 use Rattle.ppm_reading.specs.Places.{next, counted}
 use Rattle.ppm_reading.specs.Faults.{breaks, ends_early, BreaksAt, KeepsRules, IsLeastRule, IsFirstBreak}
 
+-- a place counts one more at most
+pub counted-next : (place : Place) (l : Option Part) → counted (next place l) ≤ counted place + 1
+counted-next AtVersion None = omega arith
+counted-next AtVersion (Some part.Version) = omega arith
+counted-next AtVersion (Some (part.Root q xs)) = omega arith
+counted-next AtVersion (Some (part.Procedure i s k)) = omega arith
+counted-next AtVersion (Some (part.Capsule c p)) = omega arith
+counted-next AtVersion (Some (part.Instr i)) = omega arith
+counted-next AtRoot None = omega arith
+counted-next AtRoot (Some part.Version) = omega arith
+counted-next AtRoot (Some (part.Root q xs)) = omega arith
+counted-next AtRoot (Some (part.Procedure i s k)) = omega arith
+counted-next AtRoot (Some (part.Capsule c p)) = omega arith
+counted-next AtRoot (Some (part.Instr i)) = omega arith
+counted-next (AtProcedure n) None = omega arith
+counted-next (AtProcedure n) (Some part.Version) = omega arith
+counted-next (AtProcedure n) (Some (part.Root q xs)) = omega arith
+counted-next (AtProcedure n) (Some (part.Procedure i s k)) = omega arith
+counted-next (AtProcedure n) (Some (part.Capsule c p)) = omega arith
+counted-next (AtProcedure n) (Some (part.Instr i)) = omega arith
+counted-next (Within c p at room) None = omega arith
+counted-next (Within c p at room) (Some part.Version) = omega arith
+counted-next (Within c p at room) (Some (part.Root q xs)) = omega arith
+counted-next (Within c p at room) (Some (part.Procedure i s k)) = omega arith
+counted-next (Within c p at room) (Some (part.Capsule d q)) = omega arith
+counted-next (Within c p at room) (Some (part.Instr i)) = omega arith
+
 module _ (code : CodeParts) where
   -- the first lines break no rule, and the others stand at a place: what is broken is broken behind them
   pub record IsPassed (place : Place) (ls : List (Option Part)) (here : Place) (left : List (Option Part)) (number : ℕ) : Type 0 where
@@ -112,30 +139,3 @@ module _ (code : CodeParts) where
   ends_well place here ls [] number some passed early =
       ends_within place here ls number passed (λ fault h. both_ways (ends_early NotThere here) early (subst (λ f. IsTrue (ends_early f here)) (only_not_there here fault h) h))
   ends_well place here ls (l ∷ left) number some passed early = absurd (omega (arith, some))
-
-  -- a place counts one more at most
-  pub counted-next : (place : Place) (l : Option Part) → counted (next place l) ≤ counted place + 1
-  counted-next AtVersion None = omega arith
-  counted-next AtVersion (Some part.Version) = omega arith
-  counted-next AtVersion (Some (part.Root q xs)) = omega arith
-  counted-next AtVersion (Some (part.Procedure i s k)) = omega arith
-  counted-next AtVersion (Some (part.Capsule c p)) = omega arith
-  counted-next AtVersion (Some (part.Instr i)) = omega arith
-  counted-next AtRoot None = omega arith
-  counted-next AtRoot (Some part.Version) = omega arith
-  counted-next AtRoot (Some (part.Root q xs)) = omega arith
-  counted-next AtRoot (Some (part.Procedure i s k)) = omega arith
-  counted-next AtRoot (Some (part.Capsule c p)) = omega arith
-  counted-next AtRoot (Some (part.Instr i)) = omega arith
-  counted-next (AtProcedure n) None = omega arith
-  counted-next (AtProcedure n) (Some part.Version) = omega arith
-  counted-next (AtProcedure n) (Some (part.Root q xs)) = omega arith
-  counted-next (AtProcedure n) (Some (part.Procedure i s k)) = omega arith
-  counted-next (AtProcedure n) (Some (part.Capsule c p)) = omega arith
-  counted-next (AtProcedure n) (Some (part.Instr i)) = omega arith
-  counted-next (Within c p at room) None = omega arith
-  counted-next (Within c p at room) (Some part.Version) = omega arith
-  counted-next (Within c p at room) (Some (part.Root q xs)) = omega arith
-  counted-next (Within c p at room) (Some (part.Procedure i s k)) = omega arith
-  counted-next (Within c p at room) (Some (part.Capsule d q)) = omega arith
-  counted-next (Within c p at room) (Some (part.Instr i)) = omega arith

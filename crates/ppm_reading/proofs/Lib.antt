@@ -9,3 +9,4 @@ mod CleanLemmas
 mod CodeLemmas
 mod SmallLemmas
 mod ReadingLemmas
+mod FaultLemmas

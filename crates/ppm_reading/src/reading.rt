@@ -1,8 +1,11 @@
 //! Reads listings.
-ghost use Rattle.std.specs.Prelude.{◌≡◌, ◌≤◌, ◌<◌, length, IfOk, IfErr, OnOk};
+ghost use Rattle.std.specs.Prelude.{◌≡◌, ◌≤◌, ◌<◌, length, is_some, if◌then◌else◌, IfOk, IfErr};
 ghost use Rattle.ppm_listing.specs.Listing.{listing_of};
 ghost use Rattle.ppm_listing.specs.Correct.{NumbersFit};
 ghost use Rattle.ppm_reading.specs.Limits.{text_limit};
+ghost use Rattle.ppm_reading.specs.Places.{standing};
+ghost use Rattle.ppm_reading.specs.declared.place.Place.TheVariants.{AtVersion};
+ghost use Rattle.ppm_reading.specs.declared.listing_error.ListingError.TheVariants.{NotThere, NoSuchForm};
 ghost use Rattle.ppm_reading.specs.Correct.{IsRefusal, standing_of};
 
 use crate::cut::cut;
@@ -41,7 +44,17 @@ fn standing_lines(alloc: Global, text: &[u8]) -> Result<Vec<Option<Part>>, NoMem
     Ok(lines)
 }
 
-/// The first fault of a text with too many bytes: its first line stands, or it does not.
+/// The fault of a text with too many bytes, by its first line: that stands, or it does not.
+fn too_long_by(line: Option<Part>) -> ListingError
+    ensures { result ≡ (if is_some (standing AtVersion line) then NotThere 1 else NoSuchForm 1) }
+{
+    match Place::AtVersion.standing(line) {
+        Some(_) => ListingError::NotThere(1),
+        None => ListingError::NoSuchForm(1),
+    }
+}
+
+/// The first fault of a text with too many bytes.
 fn too_long(alloc: Global, text: &[u8]) -> Result<ListingError, NoMemory>
     requires { text_limit < length text.now }
     ensures { IfOk result (IsRefusal text.now) }
@@ -49,10 +62,7 @@ fn too_long(alloc: Global, text: &[u8]) -> Result<ListingError, NoMemory>
     match cut(text, 10) {
         Some((bytes, _)) => {
             let line = read_line(alloc, bytes, &mut Vec::new(alloc))?;
-            match Place::AtVersion.standing(line) {
-                Some(_) => Ok(ListingError::NotThere(1)),
-                None => Ok(ListingError::NoSuchForm(1)),
-            }
+            Ok(too_long_by(line))
         }
         None => Ok(ListingError::NoSuchForm(1)),
     }

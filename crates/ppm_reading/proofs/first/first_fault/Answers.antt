@@ -20,7 +20,7 @@ loop-left-preserved c =
     rw c.next-place.ensures (record {
       passed = next;
       length = omega (arith, c.loop-left.invariant.length, c.in-len1-up.len_at_least);
-      counted = omega (arith, counted-next c.args.code.now c.loop-left.place c.line-item.result, c.loop-left.invariant.counted);
+      counted = omega (arith, counted-next c.loop-left.place c.line-item.result, c.loop-left.invariant.counted);
     })
 
 -- no capsule has come
