@@ -10,3 +10,6 @@ mod CodeLemmas
 mod SmallLemmas
 mod ReadingLemmas
 mod FaultLemmas
+mod LawLemmas
+mod WrittenLemmas
+mod PartsLemmas

@@ -1,7 +1,8 @@
 use Rattle.std.proofs.Common.{arith}
 use Rattle.ppm_reading.proofs.SplitLemmas.{split_whole, split_first}
-use Rattle.ppm_reading.proofs.SaidLemmas.{line_says}
-use Rattle.ppm_reading.proofs.ReadingLemmas.{text_is_listing}
+use Rattle.ppm_reading.proofs.WrittenLemmas.{lines_of-text}
+use Rattle.ppm_reading.proofs.LawLemmas.{covers}
+use Rattle.ppm_reading.proofs.PartsLemmas.{parts_declare}
 use Rattle.ppm_reading.proofs.cut.cut.Goals as goal
 
 -- the pieces in front of a separator and behind it
