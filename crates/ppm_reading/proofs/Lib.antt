@@ -13,3 +13,4 @@ mod FaultLemmas
 mod LawLemmas
 mod WrittenLemmas
 mod PartsLemmas
+mod NoFaultLemmas

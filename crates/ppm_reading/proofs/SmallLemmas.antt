@@ -69,7 +69,7 @@ room_bound code procedure ((StoreNew o a) ∷ is) each words h = cc
 room_bound code procedure ((Ends e) ∷ is) each words h = cc
 
 module _ (code : CodeParts) (is : IsCode code) (limit : ℕ) (large : line_limit < limit) where
-  slots_bound : (procedure : ℕ) → slots_of code procedure ≤ slot_limit
+  pub slots_bound : (procedure : ℕ) → slots_of code procedure ≤ slot_limit
   slots_bound procedure = go (slice_get code.procedures procedure) refl
     where
       go : (o : Option Procedure) → slice_get code.procedures procedure ≡ o → slots_in o ≤ slot_limit

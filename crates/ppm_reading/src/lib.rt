@@ -11,6 +11,7 @@ mod declared;
 mod first;
 mod form;
 mod instr;
+mod laws;
 mod listing_error;
 mod number;
 mod operand;
@@ -23,6 +24,7 @@ mod tests;
 mod token;
 
 pub use form::Sort;
+pub use laws::faults_tell_listings;
 pub use listing_error::{Fault, ListingError};
 pub use part::Part;
 pub use place::Place;

@@ -1,5 +1,5 @@
 //! Texts with their first faults, and listings that are read and written again.
-use crate::read_listing;
+use crate::{faults_tell_listings, read_listing};
 use ppm_listing::write_listing;
 use std::test::Fail;
 
@@ -164,5 +164,6 @@ fn texts_have_their_first_faults(rt: HostRuntime) -> Result<(), Fail> {
         assert_eq!(rt; number, row.number, "of {}", row.name);
         assert_eq!(rt; line, row.line, "of {}", row.name);
     }
+    faults_tell_listings();
     Ok(())
 }

@@ -1,8 +1,5 @@
 use Rattle.std.proofs.Common.{arith}
 use Rattle.ppm_reading.proofs.SplitLemmas.{split_whole, split_first}
-use Rattle.ppm_reading.proofs.WrittenLemmas.{lines_of-text}
-use Rattle.ppm_reading.proofs.LawLemmas.{covers}
-use Rattle.ppm_reading.proofs.PartsLemmas.{parts_declare}
 use Rattle.ppm_reading.proofs.cut.cut.Goals as goal
 
 -- the pieces in front of a separator and behind it
