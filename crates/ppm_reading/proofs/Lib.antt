@@ -1,0 +1,16 @@
+mod SplitLemmas
+mod NumberLemmas
+mod WordLemmas
+mod FormLemmas
+mod LineLemmas
+mod SaidLemmas
+mod FirstLemmas
+mod CleanLemmas
+mod CodeLemmas
+mod SmallLemmas
+mod ReadingLemmas
+mod FaultLemmas
+mod LawLemmas
+mod WrittenLemmas
+mod PartsLemmas
+mod NoFaultLemmas

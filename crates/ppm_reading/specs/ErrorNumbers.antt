@@ -33,3 +33,12 @@ line_of (error.NoEnd line) = line
 line_of (error.WrongRoom line) = line
 line_of (error.NotThere line) = line
 line_of error.NoMemory = 0
+
+-- the refusal for a fault at a line
+abbrev pub refusal_at : Fault → ℕ → ListingError
+refusal_at fault.NoSuchForm line = error.NoSuchForm line
+refusal_at fault.OutOfRange line = error.OutOfRange line
+refusal_at fault.NotForward line = error.NotForward line
+refusal_at fault.NoEnd line = error.NoEnd line
+refusal_at fault.WrongRoom line = error.WrongRoom line
+refusal_at fault.NotThere line = error.NotThere line

@@ -91,3 +91,9 @@ capsules_in (l ∷ ls) = capsules_in ls
 -- the code that lines declare
 abbrev pub code_in : List (Option Part) → CodeParts
 code_in ls = record { root = root_in ls; arrays = arrays_in ls; procedures = procedures_in ls; capsules = capsules_in ls }
+
+-- how many lines a place counts
+abbrev pub counted : Place → ℕ
+counted (AtProcedure number) = number
+counted (Within capsule procedure at room) = at
+counted _ = 0

@@ -6,16 +6,27 @@
 //! After the input of an assembler, one line an instruction; the forms and faults are this project's.
 #![tactic(auto)]
 
+mod cut;
+mod declared;
+mod first;
 mod form;
+mod instr;
+mod laws;
 mod listing_error;
+mod number;
+mod operand;
 mod part;
 mod place;
 mod reading;
+mod rules;
+#[cfg(test)]
+mod tests;
 mod token;
 
 pub use form::Sort;
+pub use laws::faults_tell_listings;
 pub use listing_error::{Fault, ListingError};
 pub use part::Part;
 pub use place::Place;
-pub use reading::read_listing;
+pub use reading::{TEXT_LIMIT, read_listing};
 pub use token::Token;

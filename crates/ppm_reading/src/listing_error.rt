@@ -1,7 +1,8 @@
 //! Why a text is no listing.
 ghost use Rattle.std.specs.Prelude.{◌≡◌};
-ghost use Rattle.ppm_reading.specs.ErrorNumbers.{fault_number, number_of, line_of};
+ghost use Rattle.ppm_reading.specs.ErrorNumbers.{fault_number, number_of, line_of, refusal_at};
 
+use ppm_words::NoMemory;
 use std::alloc::{AllocError, AllocFailed};
 use thiserror::Error;
 
@@ -61,6 +62,31 @@ impl Fault {
             Fault::WrongRoom => 5,
             Fault::NotThere => 6,
         }
+    }
+
+    /// The refusal for the fault at a line.
+    pub(crate) fn at(self, line: u32) -> ListingError
+        ensures { result ≡ refusal_at self line }
+    {
+        match self {
+            Fault::NoSuchForm => ListingError::NoSuchForm(line),
+            Fault::OutOfRange => ListingError::OutOfRange(line),
+            Fault::NotForward => ListingError::NotForward(line),
+            Fault::NoEnd => ListingError::NoEnd(line),
+            Fault::WrongRoom => ListingError::WrongRoom(line),
+            Fault::NotThere => ListingError::NotThere(line),
+        }
+    }
+}
+
+impl From<NoMemory> for ListingError {
+    ghost use Rattle.std.specs.Prelude.{◌≡◌};
+    ghost use Rattle.ppm_reading.specs.declared.listing_error.ListingError.TheVariants.{NoMemory};
+
+    ghost from_gives = { λ _ e. e ≡ NoMemory };
+
+    fn from(_: NoMemory) -> Self {
+        ListingError::NoMemory
     }
 }
 

@@ -1,12 +1,72 @@
 //! Reads listings.
-ghost use Rattle.std.specs.Prelude.{◌≡◌, IfOk, IfErr, OnOk};
+ghost use Rattle.std.specs.Prelude.{◌≡◌, ◌≤◌, ◌<◌, length, is_some, if◌then◌else◌, IfOk, IfErr};
 ghost use Rattle.ppm_listing.specs.Listing.{listing_of};
 ghost use Rattle.ppm_listing.specs.Correct.{NumbersFit};
-ghost use Rattle.ppm_reading.specs.Correct.{IsRefusal};
+ghost use Rattle.ppm_reading.specs.Limits.{text_limit};
+ghost use Rattle.ppm_reading.specs.Places.{standing};
+ghost use Rattle.ppm_reading.specs.declared.place.Place.TheVariants.{AtVersion};
+ghost use Rattle.ppm_reading.specs.declared.listing_error.ListingError.TheVariants.{NotThere, NoSuchForm};
+ghost use Rattle.ppm_reading.specs.Correct.{IsRefusal, standing_of};
 
+use crate::cut::cut;
+use crate::declared::declared;
+use crate::first::first_fault;
 use crate::listing_error::ListingError;
+use crate::part::{Part, read_line};
+use crate::place::Place;
+use crate::token::Token;
 use ppm_code::Code;
+use ppm_words::NoMemory;
 use std::alloc::Global;
+
+/// The bytes of a listing, at most.
+pub const TEXT_LIMIT: usize = 536_870_912;
+
+/// The lines of a text, each as it stands.
+fn standing_lines(alloc: Global, text: &[u8]) -> Result<Vec<Option<Part>>, NoMemory>
+    requires { length text.now ≤ text_limit }
+    ensures lines { IfOk result (λ lines. lines.items ≡ standing_of text.now) }
+    ensures most { IfOk result (λ lines. length lines.items ≤ length text.now) }
+{
+    let mut lines = Vec::new(alloc);
+    let mut tokens = Vec::new(alloc);
+    let mut place = Place::AtVersion;
+    let mut left = text;
+    while let Some((bytes, rest)) = cut(left, 10) {
+        let line = place.standing(read_line(alloc, bytes, &mut tokens)?);
+        place = place.next(&line);
+        lines.push(line)?;
+        left = rest;
+    }
+    if !left.is_empty() {
+        lines.push(None)?;
+    }
+    Ok(lines)
+}
+
+/// The fault of a text with too many bytes, by its first line: that stands, or it does not.
+fn too_long_by(line: Option<Part>) -> ListingError
+    ensures { result ≡ (if is_some (standing AtVersion line) then NotThere 1 else NoSuchForm 1) }
+{
+    match Place::AtVersion.standing(line) {
+        Some(_) => ListingError::NotThere(1),
+        None => ListingError::NoSuchForm(1),
+    }
+}
+
+/// The first fault of a text with too many bytes.
+fn too_long(alloc: Global, text: &[u8]) -> Result<ListingError, NoMemory>
+    requires { text_limit < length text.now }
+    ensures { IfOk result (IsRefusal text.now) }
+{
+    match cut(text, 10) {
+        Some((bytes, _)) => {
+            let line = read_line(alloc, bytes, &mut Vec::new(alloc))?;
+            Ok(too_long_by(line))
+        }
+        None => Ok(ListingError::NoSuchForm(1)),
+    }
+}
 
 /// The code of a listing. `Err` with the first fault of a text that is none, or where memory is refused, which is
 /// taken in proportion to the text.
@@ -15,5 +75,13 @@ pub fn read_listing(alloc: Global, text: &[u8]) -> Result<Code, ListingError>
     ensures fits { IfOk result (λ code. NumbersFit code) }
     ensures err { IfErr result (IsRefusal text.now) }
 {
-    Err(ListingError::NoMemory)
+    if text.len() > TEXT_LIMIT {
+        return Err(too_long(alloc, text)?);
+    }
+    let lines = standing_lines(alloc, text)?;
+    let parts = declared(alloc, &lines)?;
+    match first_fault(&parts, &lines) {
+        Some((fault, line)) => Err(fault.at(line + 1)),
+        None => Ok(Code::from_parts(parts)),
+    }
 }

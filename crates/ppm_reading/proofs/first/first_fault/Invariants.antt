@@ -1,0 +1,18 @@
+use Rattle.std.proofs.Common.{◌≡◌, ◌+◌, ◌≤◌, ℕ, length}
+use Rattle.ppm_reading.specs.declared.listing_error.Fault.{Fault}
+use Rattle.ppm_reading.specs.declared.place.Place.TheVariants.{AtVersion}
+use Rattle.ppm_reading.specs.Places.{counted}
+use Rattle.ppm_reading.specs.Faults.{BreaksAt}
+use Rattle.ppm_reading.proofs.FirstLemmas.{IsPassed}
+use Rattle.ppm_reading.proofs.first.first_fault.Given as goal
+
+-- no line so far breaks a rule, and those that are left stand at the place
+abbrev pub invariant-loop-left : goal.invariant-loop-left
+invariant-loop-left l = record {
+  passed : IsPassed l.code AtVersion l.lines l.place l.left l.number;
+  length : l.number + length l.left ≡ length l.lines;
+  counted : counted l.place ≤ l.number;
+}
+
+abbrev pub decreases-loop-left : goal.decreases-loop-left
+decreases-loop-left l = length l.left
