@@ -73,9 +73,10 @@ module _ (o : Outside) (status : Status) (a : Answers (CheckMay o) o status) whe
   judged_status (answers.ListingRefused r) h e = inr (inl e)
   judged_status answer h e = absurd h.2
 
-  pub check_rows : CheckRows o status
-  check_rows = record {
+  pub check_rows : HaveOneAnswer → CheckRows o status
+  check_rows law = record {
     accepted = accepted;
     refused = refused;
     judged = λ well. let j : Judged = judged.judged text_limit CheckHas o status a well in judged_status j.0 j.1 j.2.own;
+    shown = judged.shown text_limit CheckHas o status a (are_judgements law);
   }

@@ -28,8 +28,11 @@ abbrev pub WritesFault : Outside → Type 0
 WritesFault o = (r : ListingRefusal) × ReadHas text_limit CheckHas o.source (answers.ListingRefused r) × Gets o.err (listing_text r)
 
 -- The rows of `check`. Status 0 comes only where a code was accepted, and 10 only where it has a conflict or the text a fault, and which
--- of these is written. Where all goes well, the text is judged.
+-- of these is written. Where all goes well, the text is judged; and of a source whose bytes are known, the answer that they have is
+-- written, with its status.
 pub record CheckRows (o : Outside) (status : Status) : Type 0 where
   pub accepted : status ≡ statuses.Ended → WritesOk o
   pub refused : status ≡ statuses.CodeRefused → WritesConflict o ⊎ WritesFault o
   pub judged : GoesWell o status → IsOneOf status (statuses.Ended ∷ statuses.CodeRefused ∷ [])
+  pub shown : (all : List ℕ) → o.source.before ≡ Some all → GoesWell o status → (answer : Answer) → CheckHas all answer →
+      IsWritten o.out o.err answer status

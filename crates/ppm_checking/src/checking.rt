@@ -8,13 +8,12 @@ ghost use Rattle.ppm_checking.specs.Verdict.{CheckHas};
 ghost use Rattle.ppm_checking.specs.Causes.{CheckMay};
 ghost use Rattle.ppm_checking.specs.Rows.{CheckRows};
 
+use crate::laws::have_one_answer;
 use crate::verdict::text_answer;
 use ppm_answers::{Answer, Status, deliver};
 use ppm_ports::{ReadError, Sink, Source, read_whole};
+use ppm_reading::TEXT_LIMIT;
 use std::alloc::Global;
-
-/// The most bytes of a listing.
-const LISTING_LIMIT: usize = 536_870_912;
 
 /// Checks the listing that is read: `ok` is written on `out`, its first conflict or its first fault on `err`.
 pub fn check_command<S: Source, K: Sink, E: Sink>(
@@ -33,6 +32,8 @@ pub fn check_command<S: Source, K: Sink, E: Sink>(
         (port K.written K.fault_count out.old out.new) (port E.written E.fault_count err.old err.new)
         told told) result }
 {
+    // The rows rest on this law; the call does nothing.
+    have_one_answer();
     let answer = check_answer(alloc, source);
     deliver(alloc, &answer, out, err)
 }
@@ -41,7 +42,7 @@ pub fn check_command<S: Source, K: Sink, E: Sink>(
 fn check_answer<S: Source>(alloc: Global, source: &mut S) -> Answer
     ensures { JudgingMay text_limit CheckHas (port S.left S.fault_count source.old source.new) result }
 {
-    match read_whole(alloc, source, LISTING_LIMIT) {
+    match read_whole(alloc, source, TEXT_LIMIT) {
         Ok(text) => text_answer(alloc, &text),
         Err(ReadError::Failed) => Answer::ReadFault,
         Err(ReadError::NoMemory) => Answer::NoMemory,

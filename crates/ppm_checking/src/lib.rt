@@ -8,9 +8,11 @@
 #![tactic(auto)]
 
 mod checking;
+mod laws;
 mod verdict;
 
 pub use checking::check_command;
+pub use laws::have_one_answer;
 
 #[cfg(test)]
 mod tests;

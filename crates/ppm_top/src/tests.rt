@@ -4,6 +4,7 @@ ghost use Rattle.ppm_top.specs.Bounds.{watcher_count};
 
 use crate::{WATCHERS, have_one_outcome, have_one_refusal, ppm, run_command};
 use ppm_answers::Status;
+use ppm_checking::have_one_answer;
 use ppm_line::RunOptions;
 use ppm_ports::{MemorySink, MemorySource, Recorder, Silent, Source};
 use std::alloc::Global;
@@ -290,6 +291,7 @@ fn listings_are_checked(rt: HostRuntime) -> Result<(), Fail> {
         listing.push_str(behind)?;
         is_checked(&rt, alloc, listing.as_str(), answer)?;
     }
+    have_one_answer();
     Ok(())
 }
 

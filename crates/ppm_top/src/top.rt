@@ -10,7 +10,7 @@ ghost use Rattle.ppm_top.specs.Rows.{ProgramRows};
 use crate::laws::{have_one_outcome, have_one_refusal};
 use crate::run::run_command;
 use ppm_answers::{Answer, Status, deliver};
-use ppm_checking::check_command;
+use ppm_checking::{check_command, have_one_answer};
 use ppm_line::{Command, read_words};
 use ppm_ports::{Sink, Source, Watch};
 use ppm_words::NoMemory;
@@ -47,6 +47,7 @@ pub fn ppm<R, S: Source, K: Sink, E: Sink, W: Watch>(
     // The rows rest on these laws; the calls do nothing.
     have_one_outcome();
     have_one_refusal();
+    have_one_answer();
     obey(rt, alloc, words, source, out, err, watch)
 }
 

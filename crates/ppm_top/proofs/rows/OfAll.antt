@@ -15,6 +15,7 @@ use Rattle.ppm_line.specs.declared.command.Command.{Command}
 use Rattle.ppm_line.specs.declared.command.Command.TheVariants as commands
 use Rattle.ppm_line.specs.Words.{command_of}
 use Rattle.ppm_checking.specs.Verdict.{CheckHas}
+use Rattle.ppm_checking.specs.Correct.{HaveOneAnswer}
 use Rattle.ppm_checking.proofs.OfCheck.{check_rows}
 use Rattle.ppm_answers.specs.Reading.{IsUnread, JudgingMay, Answers}
 use Rattle.ppm_answers.specs.Rows.{IsOneOf}
@@ -109,11 +110,11 @@ refuses_words words o status a = record {
   always (inr r) (inr w) = inr (inr (inl (w.own ∙ r)))
 
 -- all rows of the program, by the laws on what texts have for answers
-pub program_rows : HaveOneOutcome → HaveOneRefusal → (words : List (List ℕ)) (o : Outside) (status : Status) →
+pub program_rows : HaveOneOutcome → HaveOneRefusal → HaveOneAnswer → (words : List (List ℕ)) (o : Outside) (status : Status) →
     IsAnswered words o status → ProgramRows words o status
-program_rows outcomes refusals words o status a = record {
+program_rows outcomes refusals checks words o status a = record {
   run = λ options e. run_rows outcomes refusals options o status (subst (λ c. Answers (CommandMay c o) o status) e a);
-  check = λ e. check_rows o status (subst (λ c. Answers (CommandMay c o) o status) e a);
+  check = λ e. check_rows o status (subst (λ c. Answers (CommandMay c o) o status) e a) checks;
   words_refused = refuses_words words o status a;
   faults = faults words o status a;
   nothing_on_out = delivered.nothing_on_out o.out o.err a.answer status a.delivered;

@@ -13,3 +13,4 @@ returns-clause-answers g c told = judging_delivered text_limit CheckHas _ _ _ re
 pub returns-clause-rows : goal.returns-clause-rows
 returns-clause-rows g c told =
     check_rows _ _ (judging_delivered text_limit CheckHas _ _ _ refl c.check_answer-answer.ensures c.deliver.ensures)
+    c.have_one_answer.ensures.law
