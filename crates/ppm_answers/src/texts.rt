@@ -75,7 +75,8 @@ fn conflict_text_of(alloc: Global, conflict: Conflict) -> Result<Vec<u8>, AllocE
         ..
     } = conflict;
     let line = format!(in alloc;
-        "conflict: capsule {capsule} read {read_at} write {write_at} class {class}\n")?;
+        "conflict: capsule {capsule} read {read_at} write {write_at} class {class}\n"
+    )?;
     Ok(line.into_bytes())
 }
 

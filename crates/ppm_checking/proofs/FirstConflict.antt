@@ -1,6 +1,5 @@
 -- A code has one first conflict.
-use Rattle.std.proofs.Common.{◌≡◌, ◌<◌, ◌≤◌, ◌⊎◌, ℕ, List, Some, sym, ◌∙◌, ap, subst, inl, inr, arith}
-use Rattle.std.specs.Prelude.{slice_get}
+use Rattle.std.proofs.Common.{◌≡◌, ◌<◌, ◌≤◌, ℕ, List, sym, ◌∙◌, ap, subst, arith}
 use Rattle.ppm_code.specs.declared.class.Class.{Class}
 use Rattle.ppm_code.specs.declared.class.May.TheVariants.{Read}
 use Rattle.ppm_code.specs.declared.code.CodeParts.{CodeParts}
@@ -49,9 +48,9 @@ module _ (code : CodeParts) (c d : Conflict) (f : IsFirstConflictOf code c) (g :
   one_write : c.write_at ≡ d.write_at
   one_write =
       let less : c.write_at ≤ d.write_at = f.first.first.least_write d.write_at d.class
-          (subst (λ n. IsConflict (instrs_of code c.capsule) n d.write_at d.class) (sym one_read) of_d) in
+      (subst (λ n. IsConflict (instrs_of code c.capsule) n d.write_at d.class) (sym one_read) of_d) in
       let more : d.write_at ≤ c.write_at = g.first.first.least_write c.write_at c.class
-          (subst (λ n. IsConflict (instrs_of code d.capsule) n c.write_at c.class) one_read of_c) in
+      (subst (λ n. IsConflict (instrs_of code d.capsule) n c.write_at c.class) one_read of_c) in
       omega (arith, less, more)
 
   same_class : c.class ≡ d.class
@@ -62,5 +61,5 @@ module _ (code : CodeParts) (c d : Conflict) (f : IsFirstConflictOf code c) (g :
 pub one_conflict : (code : CodeParts) (c d : Conflict) → IsFirstConflictOf code c → IsFirstConflictOf code d → c ≡ d
 one_conflict code c d f g =
     let capsule : c.capsule ≡ d.capsule =
-        same_number c.capsule d.capsule (not_earlier code d c g f) (not_earlier code c d f g) in
+    same_number c.capsule d.capsule (not_earlier code d c g f) (not_earlier code c d f g) in
     conflict_path c d capsule (one_read code c d f g capsule) (one_write code c d f g capsule) (same_class code c d f g capsule)

@@ -1,5 +1,5 @@
 -- The first line of a text: `ppm 1`, or one that does not stand there.
-use Rattle.std.proofs.Common.{◌≡◌, ◌≢◌, ◌⊎◌, ◌<◌, ◌≤◌, ℕ, zero, suc, ◌+◌, ◌-◌, ◌*◌, ◌==◌, ◌^◌, min, Bool, true, false, not, ◌&&◌, if◌then◌else◌}
+use Rattle.std.proofs.Common.{◌≡◌, ◌≢◌, ◌⊎◌, ◌≤◌, ℕ, ◌+◌, ◌-◌, ◌*◌, ◌==◌, min, Bool, true, false, not, ◌&&◌, if◌then◌else◌}
 use Rattle.std.proofs.Common.{nat_le, List, [], ◌∷◌, map, length, Option, Some, None, refl, ap, ◌∙◌, subst, inl, inr, arith, codes}
 use Rattle.std.proofs.lemmas.Bool.{leb-true, eqb-true, eqb-false}
 use Rattle.std.specs.List.{list_all}
@@ -12,10 +12,10 @@ use Rattle.ppm_reading.specs.declared.part.Part.{Part}
 use Rattle.ppm_reading.specs.declared.part.Part.TheVariants as part
 use Rattle.ppm_reading.specs.declared.place.Place.TheVariants.{AtVersion}
 use Rattle.ppm_reading.specs.declared.token.Token.{Token}
-use Rattle.ppm_reading.specs.declared.token.Token.TheVariants.{Name, Register, Number, Negative, Absent, Other}
+use Rattle.ppm_reading.specs.declared.token.Token.TheVariants.{Name, Register, Number, Negative, Other}
 use Rattle.ppm_reading.specs.declared.form.Sort.TheVariants as sort
 use Rattle.ppm_reading.specs.Tokens.{is_empty, split, spelled, keywords, keyword_of, is_digit, is_numeral, value_from, value, token_limit, named, minus, token_of}
-use Rattle.ppm_reading.specs.Forms.{is_of, are_of, has_form, part_of, part_in, line_of}
+use Rattle.ppm_reading.specs.Forms.{is_of, has_form, part_of, part_in, line_of}
 use Rattle.ppm_reading.specs.Places.{standing}
 use Rattle.ppm_checking.proofs.Pieces.{total, some_total}
 
@@ -134,7 +134,7 @@ one_token : (w : List ℕ) (n : ℕ) → token_of w ≡ Number n → n ≡ 1 →
 one_token [] n e f = cc
 one_token (b ∷ bs) n e f =
     let alone = number_alone (b == 45) (is_digit b) (is_numeral (b ∷ bs)) (b == 114 && is_numeral bs) (minus bs) (named (keyword_of (b ∷ bs)))
-        (value (b ∷ bs)) (value bs) n (minus_is_no_number bs n) (named_is_no_number (keyword_of (b ∷ bs)) n) e in
+    (value (b ∷ bs)) (value bs) n (minus_is_no_number bs n) (named_is_no_number (keyword_of (b ∷ bs)) n) e in
     let none : bs ≡ [] = one_digit b bs alone.0 alone.1 (alone.2 ∙ f) in
     let size : length bs ≡ 0 = ap length none in
     omega (arith, size)

@@ -1,5 +1,5 @@
 -- A text that is too long has one fault, of its first line, and its front has the same.
-use Rattle.std.proofs.Common.{◌≡◌, ◌⊎◌, ◌<◌, ◌≤◌, ℕ, zero, suc, ◌+◌, List, [], ◌∷◌, ◌++◌, length, Option, Some, None}
+use Rattle.std.proofs.Common.{◌≡◌, ◌⊎◌, ◌<◌, ◌≤◌, ℕ, zero, suc, List, [], ◌∷◌, ◌++◌, length, Option, Some, None}
 use Rattle.std.proofs.Common.{refl, sym, ap, ◌∙◌, subst, inl, inr, arith, IsTrue, length-append}
 use Rattle.ppm_code.specs.declared.code.CodeParts.{CodeParts}
 use Rattle.ppm_reading.specs.declared.listing_error.Fault.{Fault}
@@ -11,12 +11,12 @@ use Rattle.ppm_reading.specs.Limits.{text_limit}
 use Rattle.ppm_reading.specs.ErrorNumbers.{fault_number}
 use Rattle.ppm_reading.specs.Tokens.{split}
 use Rattle.ppm_reading.specs.Forms.{line_of, lines_in}
-use Rattle.ppm_reading.specs.Places.{standing, standing_from, code_in, next}
+use Rattle.ppm_reading.specs.Places.{standing, standing_from, code_in}
 use Rattle.ppm_reading.specs.Faults.{breaks, BreaksAt}
 use Rattle.ppm_reading.specs.Correct.{standing_of, HasFault, Breaks, TooLong, IsFirstFault, IsNotAfter, FaultsTellListings}
 use Rattle.ppm_answers.specs.declared.answer.Answer.{Answer}
 use Rattle.ppm_answers.specs.declared.answer.Answer.TheVariants as answers
-use Rattle.ppm_checking.specs.Verdict.{IsUnlisted, CheckHas}
+use Rattle.ppm_checking.specs.Verdict.{CheckHas}
 use Rattle.ppm_checking.proofs.Pieces.{total, some_total, ended, first_line, ended_is, first_stays, first_grows}
 use Rattle.ppm_checking.proofs.FirstLine.{version_or_none, version_size}
 
@@ -95,8 +95,11 @@ module _ (text : List ℕ) (long : text_limit < length text) where
       (other : Fault) (later : ℕ) → HasFault text other later → IsNotAfter (long_fault s, 1) (other, later)
   not_before s ls c e _ _ (TooLong h) = inr (refl, most_number (long_fault s))
   not_before s ls c e other _ (Breaks _ zero b) =
-      inr (refl, first_fault (code_in (standing_of text)) s ls c other
-      (subst (λ l. BreaksAt (code_in (standing_of text)) other AtVersion l zero) e b))
+      inr (
+        refl,
+        first_fault (code_in (standing_of text)) s ls c other
+            (subst (λ l. BreaksAt (code_in (standing_of text)) other AtVersion l zero) e b),
+      )
   not_before s ls c e other _ (Breaks _ (suc n) b) = inl (omega arith)
 
   there : (s : Option Part) (ls : List (Option Part)) → (s ≡ None) ⊎ (s ≡ Some part.Version) → standing_of text ≡ s ∷ ls → HasFault text (long_fault s) 1

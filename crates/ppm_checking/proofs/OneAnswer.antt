@@ -1,7 +1,7 @@
 -- A text has one answer.
 use Rattle.std.proofs.Common.{◌≡◌, ℕ, List, refl, sym, ◌∙◌, ap, subst}
 use Rattle.ppm_code.specs.declared.code.CodeParts.{CodeParts}
-use Rattle.ppm_war.specs.Conflicts.{IsFree, IsFirstConflictOf}
+use Rattle.ppm_war.specs.Conflicts.{IsFirstConflictOf}
 use Rattle.ppm_reading.specs.ErrorNumbers.{fault_number}
 use Rattle.ppm_reading.specs.Correct.{IsListing, FaultsTellListings}
 use Rattle.ppm_answers.specs.declared.conflict.Conflict.{Conflict}
@@ -32,7 +32,7 @@ module _ (law : FaultsTellListings) where
   same_conflict text c d k l =
       let same : k.code ≡ l.code = law.one_code text k.code l.code k.listed l.listed in
       let one : k.conflict ≡ l.conflict =
-          one_conflict l.code k.conflict l.conflict (subst (λ x. IsFirstConflictOf x k.conflict) same k.first) l.first in
+      one_conflict l.code k.conflict l.conflict (subst (λ x. IsFirstConflictOf x k.conflict) same k.first) l.first in
       k.tells ∙ ap conflict_told one ∙ sym l.tells
 
   -- two refusals of a text are one

@@ -1,5 +1,5 @@
 -- What `check` says of a code, and of a text that lists none.
-use Rattle.std.specs.Prelude.{◌≡◌, ℕ}
+use Rattle.std.specs.Prelude.{◌≡◌}
 use Rattle.ppm_code.specs.declared.code.CodeParts.{CodeParts}
 use Rattle.ppm_war.specs.declared.checked.Conflict.{Conflict}
 use Rattle.ppm_war.specs.Conflicts.{IsFree, IsFirstConflictOf}

@@ -223,11 +223,7 @@ fn listings_are_checked(rt: HostRuntime) -> Result<(), Fail> {
             "get r0 r1 r2 1\nput r1 r2 r0 1\nend\n",
             "conflict: capsule 0 read 0 write 1 class array",
         ),
-        (
-            FOUR_SLOTS,
-            "put r1 r2 r0 1\nget r0 r1 r2 1\nend\n",
-            "ok",
-        ),
+        (FOUR_SLOTS, "put r1 r2 r0 1\nget r0 r1 r2 1\nend\n", "ok"),
         // A branch to its own place, and one past the last instruction.
         (
             FOUR_SLOTS,
@@ -247,11 +243,7 @@ fn listings_are_checked(rt: HostRuntime) -> Result<(), Fail> {
         ("", "", "listing refused: 6 line 1"),
         // A frame with one slot has seven words.
         (ONE_SLOT, "room 7\ncall 0 0\n", "ok"),
-        (
-            ONE_SLOT,
-            "room 5\ncall 0 0\n",
-            "listing refused: 5 line 6",
-        ),
+        (ONE_SLOT, "room 5\ncall 0 0\n", "listing refused: 5 line 6"),
         (
             ONE_SLOT,
             "storenext 0 r1\nend\n",

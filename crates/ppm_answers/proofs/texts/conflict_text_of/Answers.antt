@@ -1,6 +1,5 @@
-use Rattle.std.proofs.Common.{◌≡◌, ◌++◌, ℕ, List, [], ◌∷◌, sym, ◌∙◌, ap, codes, append_assoc}
+use Rattle.std.proofs.Common.{◌≡◌, ◌++◌, ℕ, List, [], ◌∷◌, ◌∙◌, ap, codes, append_assoc}
 use Rattle.std.specs.Prelude.{decimal}
-use Rattle.ppm_answers.specs.Texts.{class_text}
 use Rattle.ppm_answers.proofs.texts.conflict_text_of.Goals as goal
 
 -- the parts of the line, put together from the right

@@ -1,5 +1,3 @@
-use Rattle.ppm_answers.proofs.Judged.{shown}
-use Rattle.ppm_answers.proofs.Delivered.{left_alone}
 use Rattle.std.proofs.Common.{◌≡◌, ◌++◌, ℕ, List, [], ◌∷◌, ◌∙◌, ap, codes, append_assoc}
 use Rattle.std.specs.Prelude.{decimal}
 use Rattle.ppm_answers.proofs.texts.listing_text_of.Goals as goal
