@@ -1,5 +1,5 @@
 -- What follows from each status: the rows of the table that a reader looks for.
-use Rattle.std.specs.Prelude.{◌≡◌, ◌≢◌, ◌⊎◌, ◌↔◌, ℕ, List, [], ◌∷◌, Some, None}
+use Rattle.std.specs.Prelude.{◌≡◌, ◌⊎◌, ◌↔◌, ℕ, List, [], ◌∷◌, Some, None}
 use Rattle.std.specs.Io.KnownBytes.{Keeps}
 use Rattle.ppm_ports.specs.Ports.{Fails, Holds, Gets}
 use Rattle.ppm_ports.specs.Outside.{Outside}

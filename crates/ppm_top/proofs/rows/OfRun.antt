@@ -1,5 +1,5 @@
 -- The rows of `run`.
-use Rattle.std.proofs.Common.{◌≡◌, ◌≢◌, ◌⊎◌, ◌↔◌, ℕ, List, [], ◌∷◌, Some}
+use Rattle.std.proofs.Common.{◌≡◌, ◌≢◌, ◌↔◌, ℕ, List, [], ◌∷◌, Some}
 use Rattle.std.proofs.Common.{refl, ap, subst, inl, inr}
 use Rattle.ppm_ports.specs.Outside.{Outside}
 use Rattle.ppm_ports.specs.Whole.{ReadsTo}

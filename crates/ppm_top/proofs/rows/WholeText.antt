@@ -1,5 +1,5 @@
 -- What is true of the text that was read is true of the whole text that a source shows.
-use Rattle.std.proofs.Common.{◌≡◌, ◌≢◌, ℕ, List, length, Option, Some, None, refl, sym, subst}
+use Rattle.std.proofs.Common.{◌≢◌, ℕ, List, Option, Some, refl, sym, subst}
 use Rattle.ppm_ports.specs.Whole.{ReadsTo}
 use Rattle.ppm_words.specs.declared.outcome.Outcome.{Outcome}
 use Rattle.ppm_words.specs.declared.outcome.Outcome.TheVariants as outcome
