@@ -1,7 +1,6 @@
 -- How long the listing of a code may be, and that it has no fault.
-use Rattle.std.proofs.Common.{◌≡◌, ◌∙◌, ℕ, zero, suc, ◌+◌, ◌-◌, ◌*◌, ◌^◌, ◌<◌, ◌≤◌, List, [], ◌∷◌, ◌++◌, map, length, decimal, Option, Some, None, FitsSigned, w64, refl, sym, ap, subst, arith}
+use Rattle.std.proofs.Common.{◌≡◌, ◌∙◌, ℕ, suc, ◌+◌, ◌*◌, ◌^◌, ◌<◌, ◌≤◌, List, [], ◌∷◌, ◌++◌, map, length, Some, None, refl, sym, ap, subst, arith}
 use Rattle.std.proofs.Common.{length-append}
-use Rattle.std.specs.Prelude.{pos}
 use Rattle.std.specs.List.{flat_map, All, AllByRecursion}
 use Rattle.std.proofs.lemmas.Fmt.{length-decimal-le, length_signed_le}
 use Rattle.ppm_code.specs.declared.register.Register.{Register as TheRegister}
@@ -12,14 +11,13 @@ use Rattle.ppm_code.specs.declared.code.CodeParts.{CodeParts}
 use Rattle.ppm_code.specs.declared.instr.Instr.{Instr}
 use Rattle.ppm_code.specs.declared.instr.Instr.TheVariants.{Const, Move, Add, Sub, Mul, Div, Rem, Equal, NotEqual, Less, AtMost, Len, CutLeft, CutRight}
 use Rattle.ppm_code.specs.declared.instr.Instr.TheVariants.{LoadSlot, StoreCur, Give, Get, Put, BranchZero, BranchNonZero, Room, StoreNew, Ends}
-use Rattle.ppm_code.specs.Limits.{procedure_limit, capsule_limit, instr_limit, slot_limit}
 use Rattle.ppm_code.specs.Code.{IsCapsule, IsCode}
 use Rattle.ppm_listing.specs.declared.keyword.Keyword.{Keyword}
 use Rattle.ppm_listing.specs.declared.keyword.Keyword.TheVariants as keyword
 use Rattle.ppm_listing.specs.declared.token.Token.{Token as Written}
 use Rattle.ppm_listing.specs.declared.token.Token.TheVariants as written
-use Rattle.ppm_listing.specs.Tokens.{Line, line, keyword_text, token_text, operand_text, line_text}
-use Rattle.ppm_listing.specs.Listing.{number, trap_number, instr_line, text_of, lines_of, listing_of}
+use Rattle.ppm_listing.specs.Tokens.{line, keyword_text, token_text, operand_text, line_text}
+use Rattle.ppm_listing.specs.Listing.{number, trap_number, instr_line, text_of, listing_of}
 use Rattle.ppm_listing.specs.Correct.{LineFits, NumbersFit}
 use Rattle.ppm_reading.specs.declared.listing_error.Fault.{Fault}
 use Rattle.ppm_reading.specs.declared.part.Part.{Part}
@@ -95,14 +93,27 @@ operands_short (w ∷ ws) h = omega (arith, h.0, operands_short ws h.1, length-a
 
 line_short : (k : Keyword) (ws : List Written) (n : ℕ) → AllByRecursion IsShort ws → length ws ≤ n → length (line_text (line k ws)) ≤ 9 + 8 * n
 line_short k ws n h few =
-    omega (arith, keyword_short k, operands_short ws h, few, length-append (keyword_text k) (flat_map operand_text ws),
-    length-append (keyword_text k ++ flat_map operand_text ws) (10 ∷ []))
+    omega (
+      arith,
+      keyword_short k,
+      operands_short ws h,
+      few,
+      length-append (keyword_text k) (flat_map operand_text ws),
+      length-append (keyword_text k ++ flat_map operand_text ws) (10 ∷ []),
+    )
 
 constant_short : (r : TheRegister) (w : Written) → length (token_text w) ≤ 20 → length (line_text (line keyword.Const (written.Register r ∷ w ∷ []))) ≤ 49
 constant_short r w h =
-    omega (arith, h, register_short r, keyword_short keyword.Const, length-append (keyword_text keyword.Const) (flat_map operand_text (written.Register r ∷ w ∷ [])),
-    length-append (keyword_text keyword.Const ++ flat_map operand_text (written.Register r ∷ w ∷ [])) (10 ∷ []),
-    length-append (operand_text (written.Register r)) (flat_map operand_text (w ∷ [])), length-append (operand_text w) [])
+    omega (
+      arith,
+      h,
+      register_short r,
+      keyword_short keyword.Const,
+      length-append (keyword_text keyword.Const) (flat_map operand_text (written.Register r ∷ w ∷ [])),
+      length-append (keyword_text keyword.Const ++ flat_map operand_text (written.Register r ∷ w ∷ [])) (10 ∷ []),
+      length-append (operand_text (written.Register r)) (flat_map operand_text (w ∷ [])),
+      length-append (operand_text w) [],
+    )
 
 instr_short : (i : Instr) → LineFits (instr_line i) → IsLineBelow short_limit (instr_line i) → length (line_text (instr_line i)) ≤ 49
 instr_short (Const d z) fits small = constant_short d (written.Number z) (length_signed_le 19 z (omega (arith, fits.1.0.sfits)) (fits.1.0.sfits))
@@ -221,9 +232,18 @@ listing_short c is fits =
     let count = count_procedures 0 c.procedures (capsule_parts 0 c.capsules) in
     let capsules = count_capsules c 0 c.capsules (by_all (IsCapsule c) c.capsules is.capsules) in
     let long : length (text_of (map part_line (parts_of c))) ≤ text_limit =
-        omega (arith, first, root, body, count, capsules, is.procedures_most, is.capsules_most,
-        length-append (line_text (part_line part.Version)) (text_of (map part_line (part.Root c.root c.arrays ∷ rest))),
-        length-append (line_text (part_line (part.Root c.root c.arrays))) (text_of (map part_line rest))) in
+    omega (
+      arith,
+      first,
+      root,
+      body,
+      count,
+      capsules,
+      is.procedures_most,
+      is.capsules_most,
+      length-append (line_text (part_line part.Version)) (text_of (map part_line (part.Root c.root c.arrays ∷ rest))),
+      length-append (line_text (part_line (part.Root c.root c.arrays))) (text_of (map part_line rest)),
+    ) in
     subst (λ ls. length (text_of ls) ≤ text_limit) (parts_lines c) long
 
 -- a listing has no fault
@@ -237,7 +257,7 @@ excludes text c rule line is fault =
     let stands : standing_of text ≡ map Some (parts_of c) = ap (standing_from AtVersion) read ∙ clean_stands c AtVersion (parts_of c) clean in
     let code : code_in (standing_of text) ≡ c = ap code_in stands ∙ parts_declare c in
     let kept : KeepsRules (code_in (standing_of text)) AtVersion (standing_of text) =
-        subst (λ d. KeepsRules d AtVersion (standing_of text)) (sym code) (subst (KeepsRules c AtVersion) (sym stands) (clean_keeps c AtVersion (parts_of c) clean)) in
+    subst (λ d. KeepsRules d AtVersion (standing_of text)) (sym code) (subst (KeepsRules c AtVersion) (sym stands) (clean_keeps c AtVersion (parts_of c) clean)) in
     none kept rule line fault
   where
     none : (kept : KeepsRules (code_in (standing_of text)) AtVersion (standing_of text)) (rule : Fault) (line : ℕ) → HasFault text rule line → ⊥

@@ -1,6 +1,6 @@
 -- The parts of a code: they stand in their order, break no rule, and declare the code.
-use Rattle.std.proofs.Common.{◌≡◌, ◌∙◌, ◌⊎◌, inl, inr, ℕ, zero, suc, ◌+◌, ◌-◌, ◌<◌, ◌≤◌, ◌==◌, Bool, true, false, not, ◌&&◌, ◌||◌, cond, nat_lt, nat_le, IsTrue, List, [], ◌∷◌, ◌++◌, map, length, slice_get, IfSome, Option, Some, None, refl, sym, ap, subst, arith}
-use Rattle.std.proofs.Common.{lt-ltb, le-ltb, le-leb, eqb-true, eq-eqb, ne_eqb, append_assoc, append-nil, length-append}
+use Rattle.std.proofs.Common.{◌≡◌, ◌∙◌, ◌⊎◌, inl, inr, ℕ, zero, suc, ◌+◌, ◌<◌, ◌≤◌, ◌==◌, Bool, true, false, not, ◌&&◌, ◌||◌, cond, nat_lt, nat_le, List, [], ◌∷◌, ◌++◌, map, length, slice_get, IfSome, Option, Some, None, refl, sym, ap, subst, arith}
+use Rattle.std.proofs.Common.{lt-ltb, le-ltb, eqb-true, eq-eqb, ne_eqb, append_assoc, length-append}
 use Rattle.std.specs.List.{All, AllByRecursion, list_any}
 use Rattle.std.proofs.lemmas.Bool.{both_ways, lt-leb}
 use Rattle.std.specs.Cmp.Derive.{both_true}
@@ -16,20 +16,18 @@ use Rattle.ppm_code.specs.declared.instr.Instr.TheVariants.{LoadSlot, StoreCur, 
 use Rattle.ppm_code.specs.Limits.{procedure_limit, capsule_limit, instr_limit, slot_limit, room_limit, line_limit}
 use Rattle.ppm_code.specs.Sizes.{slots_of, frame_size, fork_size}
 use Rattle.ppm_code.specs.Strands.{instrs_in as instrs_within, instrs_of}
-use Rattle.ppm_code.specs.Code.{IsLine, room_of, IsProcedure, IsCapsuleOf, IsSlot, EndFits, Fits, IsCapsule, IsCode}
-use Rattle.ppm_listing.specs.Tokens.{Line}
-use Rattle.ppm_listing.specs.Listing.{instr_line, procedure_line, procedure_lines, capsule_line, lines_of_capsule, capsule_lines, lines_of}
+use Rattle.ppm_code.specs.Code.{IsLine, room_of, IsProcedure, IsCapsuleOf, IsSlot, Fits, IsCapsule, IsCode}
+use Rattle.ppm_listing.specs.Listing.{instr_line, procedure_lines, capsule_lines, lines_of}
 use Rattle.ppm_listing.proofs.TextLemmas.{cons_path}
-use Rattle.ppm_reading.specs.declared.listing_error.Fault.{Fault}
 use Rattle.ppm_reading.specs.declared.listing_error.Fault.TheVariants as fault
 use Rattle.ppm_reading.specs.declared.part.Part.{Part}
 use Rattle.ppm_reading.specs.declared.part.Part.TheVariants as part
 use Rattle.ppm_reading.specs.declared.place.Place.{Place}
-use Rattle.ppm_reading.specs.declared.place.Place.TheVariants.{AtVersion, AtRoot, AtProcedure, Within}
+use Rattle.ppm_reading.specs.declared.place.Place.TheVariants.{AtVersion, AtProcedure, Within}
 use Rattle.ppm_reading.specs.Tokens.{is_empty}
-use Rattle.ppm_reading.specs.Places.{may_stand, standing, asked, room_behind, next, standing_from, procedures_in, instrs_in, capsules_in, code_in}
+use Rattle.ppm_reading.specs.Places.{may_stand, asked, room_behind, next, standing_from, procedures_in, instrs_in, capsules_in, code_in}
 use Rattle.ppm_reading.specs.Faults.{is_no_line, is_no_slot, is_end, is_of, is_procedure, is_capsule_of, ends_early, is_out_of_range, is_not_forward, is_no_end, has_wrong_room, is_not_there}
-use Rattle.ppm_reading.specs.Faults.{is_no_room_of, is_past_room, instr_not_there, branches_badly, BreaksAt, KeepsRules}
+use Rattle.ppm_reading.specs.Faults.{is_no_room_of, is_past_room, instr_not_there, KeepsRules}
 use Rattle.ppm_reading.proofs.FormLemmas.{part_line, IsWholePart}
 use Rattle.ppm_reading.proofs.CleanLemmas.{IsClean, AllClean}
 
@@ -378,12 +376,13 @@ module _ (code : CodeParts) where
   walk_instrs capsule procedure room c front [] rest own e same r whole more = more (length front) room
   walk_instrs capsule procedure room c front (i ∷ is) rest own e same r whole more =
       let longer : length front + 1 ≡ length (front ++ i ∷ []) = omega (arith, length-append front (i ∷ [])) in
-      let fits = whole.each (length front) i (ap (λ l. slice_get l (length front)) e ∙ got_behind front i is) in
-      (instr_clean capsule procedure (length front) room c.instrs same i (subst (λ p. Fits code p c.instrs (length front) i) own fits)
-      (room_for front is c.instrs i room e r) (omega (arith, whole.most, ap length e, length-append front (i ∷ is))) (last_ends c.instrs front is i e whole.last),
-      subst (λ n. AllClean code (Within capsule procedure n (room_behind (length front) (Some i) room)) (instr_parts is rest)) (sym longer)
-      (walk_instrs capsule procedure (room_behind (length front) (Some i) room) c (front ++ i ∷ []) is rest own (e ∙ sym (append_assoc front (i ∷ []) is)) same
-      (room_more front is c.instrs i room e r) whole more))
+      let fits = whole.each (length front) i (ap (λ l. slice_get l (length front)) e ∙ got_behind front i is) in (
+        instr_clean capsule procedure (length front) room c.instrs same i (subst (λ p. Fits code p c.instrs (length front) i) own fits)
+            (room_for front is c.instrs i room e r) (omega (arith, whole.most, ap length e, length-append front (i ∷ is))) (last_ends c.instrs front is i e whole.last),
+        subst (λ n. AllClean code (Within capsule procedure n (room_behind (length front) (Some i) room)) (instr_parts is rest)) (sym longer)
+            (walk_instrs capsule procedure (room_behind (length front) (Some i) room) c (front ++ i ∷ []) is rest own (e ∙ sym (append_assoc front (i ∷ []) is)) same
+            (room_more front is c.instrs i room e r) whole more),
+      )
 
   no_empty : (is : List Instr) → (before : List Instr) × (e : End) × (is ≡ before ++ (Ends e ∷ [])) → is_empty is ≡ false
   no_empty [] (before, x, e) = absurd (omega (arith, ap length e, length-append before (Ends x ∷ [])))
@@ -405,25 +404,36 @@ module _ (code : CodeParts) where
   walk_capsules capsule procedure at room pre [] e n few each = refl
   walk_capsules capsule procedure at room pre (c ∷ cs) e n few each =
       let own = own_instrs pre cs c (capsule + 1) e n in
-      let less : capsule + 1 < capsule_limit = omega (arith, few, ap length e, length-append pre (c ∷ cs), n) in
-      (record {
-        stands = eq-eqb (capsule + 1) (capsule + 1) refl; range = refl; forward = refl; end = capsule_ends (capsule + 1) c each.0 own less; room = refl;
-        there = capsule_there (capsule + 1) c each.0 own less;
-      },
-      walk_instrs (capsule + 1) c.procedure None c [] c.instrs (capsule_parts (capsule + 1 + 1) cs) refl refl own tt each.0
-      (λ m after. walk_capsules (capsule + 1) c.procedure m after (pre ++ c ∷ []) cs (e ∙ sym (append_assoc pre (c ∷ []) cs)) (omega (arith, n, length-append pre (c ∷ []))) few each.1))
+      let less : capsule + 1 < capsule_limit = omega (arith, few, ap length e, length-append pre (c ∷ cs), n) in (
+        record {
+          stands = eq-eqb (capsule + 1) (capsule + 1) refl;
+          range = refl;
+          forward = refl;
+          end = capsule_ends (capsule + 1) c each.0 own less;
+          room = refl;
+          there = capsule_there (capsule + 1) c each.0 own less;
+        },
+        walk_instrs (capsule + 1) c.procedure None c [] c.instrs (capsule_parts (capsule + 1 + 1) cs) refl refl own tt each.0
+            (λ m after. walk_capsules (capsule + 1) c.procedure m after (pre ++ c ∷ []) cs (e ∙ sym (append_assoc pre (c ∷ []) cs)) (omega (arith, n, length-append pre (c ∷ []))) few each.1),
+      )
 
   first_capsule : (number : ℕ) (cs : List Capsule) → code.capsules ≡ cs → 0 < length cs → length code.capsules ≤ capsule_limit → AllByRecursion (IsCapsule code) cs
       → AllClean code (AtProcedure number) (capsule_parts 0 cs)
   first_capsule number [] e some few each = absurd (omega (arith, some))
   first_capsule number (c ∷ cs) e some few each =
       let own = own_instrs [] cs c 0 e refl in
-      let less : 0 < capsule_limit = omega arith in
-      (record {
-        stands = refl; range = refl; forward = refl; end = capsule_ends 0 c each.0 own less; room = refl; there = capsule_there 0 c each.0 own less;
-      },
-      walk_instrs 0 c.procedure None c [] c.instrs (capsule_parts 1 cs) refl refl own tt each.0
-      (λ m after. walk_capsules 0 c.procedure m after (c ∷ []) cs e refl few each.1))
+      let less : 0 < capsule_limit = omega arith in (
+        record {
+          stands = refl;
+          range = refl;
+          forward = refl;
+          end = capsule_ends 0 c each.0 own less;
+          room = refl;
+          there = capsule_there 0 c each.0 own less;
+        },
+        walk_instrs 0 c.procedure None c [] c.instrs (capsule_parts 1 cs) refl refl own tt each.0
+            (λ m after. walk_capsules 0 c.procedure m after (c ∷ []) cs e refl few each.1),
+      )
 
   walk_procedures : (first : ℕ) (pre ps : List Procedure) (rest : List Part) → code.procedures ≡ pre ++ ps → length pre ≡ first → length code.procedures ≤ procedure_limit
       → AllByRecursion (λ (p : Procedure). p.slots ≤ slot_limit) ps
@@ -432,12 +442,17 @@ module _ (code : CodeParts) where
   walk_procedures first pre [] rest e n few slots entries more = more first
   walk_procedures first pre (p ∷ ps) rest e n few slots entries more =
       let less : first < procedure_limit = omega (arith, few, ap length e, length-append pre (p ∷ ps), n) in
-      let got : slice_get code.procedures first ≡ Some p = ap (slice_get code.procedures) (sym n) ∙ ap (λ l. slice_get l (length pre)) e ∙ got_behind pre p ps in
-      (record {
-        stands = eq-eqb first first refl; range = le-ltb slot_limit p.slots slots.0; forward = refl; end = refl; room = refl;
-        there = either (lt-leb procedure_limit first less) (not_true (capsule_kept first p.entry (subst (λ o. IfSome o (λ q. IsCapsuleOf code first q.entry)) got (entries first))));
-      },
-      walk_procedures (first + 1) (pre ++ p ∷ []) ps rest (e ∙ sym (append_assoc pre (p ∷ []) ps)) (omega (arith, n, length-append pre (p ∷ []))) few slots.1 entries more)
+      let got : slice_get code.procedures first ≡ Some p = ap (slice_get code.procedures) (sym n) ∙ ap (λ l. slice_get l (length pre)) e ∙ got_behind pre p ps in (
+        record {
+          stands = eq-eqb first first refl;
+          range = le-ltb slot_limit p.slots slots.0;
+          forward = refl;
+          end = refl;
+          room = refl;
+          there = either (lt-leb procedure_limit first less) (not_true (capsule_kept first p.entry (subst (λ o. IfSome o (λ q. IsCapsuleOf code first q.entry)) got (entries first))));
+        },
+        walk_procedures (first + 1) (pre ++ p ∷ []) ps rest (e ∙ sym (append_assoc pre (p ∷ []) ps)) (omega (arith, n, length-append pre (p ∷ []))) few slots.1 entries more,
+      )
 
   none_past : (xs : List ℕ) → All (λ a. a < array_limit) xs → list_any (λ a. nat_le array_limit a) xs ≡ false
   none_past [] h = refl
@@ -460,16 +475,22 @@ module _ (code : CodeParts) where
   by_all P (x ∷ xs) h = (h 0 x (omega arith), by_all P xs (λ k d l. h (suc k) d (omega (arith, l))))
 
   pub parts_clean : IsCode code → AllClean code AtVersion (parts_of code)
-  parts_clean is =
-      (record { stands = refl; range = refl; forward = refl; end = refl; room = refl; there = refl },
-      (record {
+  parts_clean is = (
+    record { stands = refl; range = refl; forward = refl; end = refl; room = refl; there = refl },
+    (
+      record {
         stands = refl;
         range = either (none_past code.arrays is.arrays)
-        (and_false (is_procedure code code.root) (nat_lt (slots_of code code.root) (length code.arrays)) (le-ltb (slots_of code code.root) (length code.arrays) is.root_slots));
-        forward = refl; end = refl; room = refl; there = not_true (procedure_kept code.root is.root);
+            (and_false (is_procedure code code.root) (nat_lt (slots_of code code.root) (length code.arrays)) (le-ltb (slots_of code code.root) (length code.arrays) is.root_slots));
+        forward = refl;
+        end = refl;
+        room = refl;
+        there = not_true (procedure_kept code.root is.root);
       },
       walk_procedures 0 [] code.procedures (capsule_parts 0 code.capsules) refl refl is.procedures_most (by_all (λ (p : Procedure). p.slots ≤ slot_limit) code.procedures is.slots_most) is.entries
-      (λ n. first_capsule n code.capsules refl (some_capsule is) is.capsules_most (by_all (IsCapsule code) code.capsules is.capsules))))
+          (λ n. first_capsule n code.capsules refl (some_capsule is) is.capsules_most (by_all (IsCapsule code) code.capsules is.capsules)),
+    ),
+  )
 
   -- clean parts break no rule
   pub clean_stands : (place : Place) (xs : List Part) → AllClean code place xs → standing_from place (map Some xs) ≡ map Some xs

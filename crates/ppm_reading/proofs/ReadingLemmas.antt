@@ -1,9 +1,9 @@
 -- A text without a fault is the listing of the code that it declares.
-use Rattle.std.proofs.Common.{◌≡◌, ◌∙◌, ℕ, zero, suc, ◌+◌, ◌<◌, ◌≤◌, Bool, true, false, List, [], ◌∷◌, map, length, Option, Some, None, refl, sym, ap, subst, arith}
+use Rattle.std.proofs.Common.{◌≡◌, ◌∙◌, ℕ, ◌+◌, ◌≤◌, true, List, [], ◌∷◌, map, length, Option, Some, None, refl, sym, ap, subst, arith}
 use Rattle.std.specs.List.{AllByRecursion}
 use Rattle.std.proofs.lemmas.Bool.{both_ways}
 use Rattle.ppm_code.specs.declared.code.CodeParts.{CodeParts}
-use Rattle.ppm_listing.specs.Listing.{text_of, lines_of as lines_of_code}
+use Rattle.ppm_listing.specs.Listing.{text_of}
 use Rattle.ppm_listing.specs.Correct.{LineFits}
 use Rattle.ppm_reading.specs.declared.part.Part.{Part}
 use Rattle.ppm_reading.specs.declared.part.Part.TheVariants as part

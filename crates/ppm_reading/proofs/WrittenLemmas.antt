@@ -1,12 +1,11 @@
 -- What is written of a code's parts is read as they are.
-use Rattle.std.proofs.Common.{◌≡◌, ◌∙◌, ℕ, zero, suc, ◌+◌, ◌-◌, ◌^◌, ◌<◌, ◌≤◌, ◌==◌, min, Bool, true, false, not, ◌&&◌, cond, nat_lt, nat_le, List, [], ◌∷◌, ◌++◌, map, length, Option, Some, None, refl, sym, ap, subst, arith}
+use Rattle.std.proofs.Common.{◌≡◌, ◌∙◌, ℕ, suc, ◌-◌, ◌^◌, ◌<◌, ◌≤◌, ◌==◌, min, Bool, true, false, ◌&&◌, cond, nat_lt, List, [], ◌∷◌, ◌++◌, map, Option, Some, None, refl, ap, arith}
 use Rattle.std.proofs.Common.{lt-ltb, eq-eqb, le-leb, ltb-true, ne_eqb, append_assoc, append-nil, FitsSigned, w64}
 use Rattle.std.specs.Prelude.{ℤ, pos, negsuc}
 use Rattle.std.specs.List.{flat_map, list_all, AllByRecursion}
 use Rattle.std.specs.Cmp.Derive.{both_true}
 use Rattle.std.proofs.Math.Bridge.{le_prop}
 use Rattle.std.proofs.lemmas.Bool.{both_ways}
-use Rattle.ppm_words.specs.declared.trap.Trap.{Trap}
 use Rattle.ppm_words.specs.declared.trap.Trap.TheVariants.{Overflow, DivZero, Index, Split}
 use Rattle.ppm_code.specs.declared.register.Register.{Register as TheRegister}
 use Rattle.ppm_code.specs.declared.act.End.TheVariants.{Next, Finish, Trap as Trapping, Call, Fork}
@@ -17,21 +16,21 @@ use Rattle.ppm_listing.specs.declared.keyword.Keyword.{Keyword}
 use Rattle.ppm_listing.specs.declared.keyword.Keyword.TheVariants as keyword
 use Rattle.ppm_listing.specs.declared.token.Token.{Token as Written}
 use Rattle.ppm_listing.specs.declared.token.Token.TheVariants as written
-use Rattle.ppm_listing.specs.Tokens.{Line, line, keyword_text, token_text, operand_text, line_text}
+use Rattle.ppm_listing.specs.Tokens.{Line, keyword_text, token_text, operand_text}
 use Rattle.ppm_listing.specs.Listing.{number, instr_line, text_of}
 use Rattle.ppm_listing.specs.Correct.{Fits, LineFits}
 use Rattle.ppm_listing.proofs.KeywordLemmas.{is_word, spelling}
 use Rattle.ppm_listing.proofs.TokenLemmas.{word_of_token}
 use Rattle.ppm_reading.specs.declared.token.Token.{Token}
-use Rattle.ppm_reading.specs.declared.token.Token.TheVariants.{Name, Register, Number, Negative, Absent, Other}
+use Rattle.ppm_reading.specs.declared.token.Token.TheVariants.{Name, Register}
 use Rattle.ppm_reading.specs.declared.part.Part.{Part}
 use Rattle.ppm_reading.specs.declared.part.Part.TheVariants as part
 use Rattle.ppm_reading.specs.Tokens.{in_front, split, token_of, tokens_of}
 use Rattle.ppm_reading.specs.declared.form.Sort.TheVariants as sort
-use Rattle.ppm_reading.specs.Forms.{is_of, is_number, has_form, number_of, register_with, register_of, constant_of, is_register, constant, instr_of, part_of, part_in, unended, line_of, lines_in, lines_of}
+use Rattle.ppm_reading.specs.Forms.{is_of, is_number, has_form, number_of, register_with, register_of, constant_of, is_register, constant, instr_of, part_of, part_in, line_of, lines_in, lines_of}
 use Rattle.ppm_reading.proofs.NumberLemmas.{both_parts}
 use Rattle.ppm_reading.proofs.WordLemmas.{read_as, token_of-token_text}
-use Rattle.ppm_reading.proofs.FormLemmas.{IsBelow, IsSmall, small_limit, IsSmallLine, IsWholePart, part_line}
+use Rattle.ppm_reading.proofs.FormLemmas.{IsSmall, small_limit, IsSmallLine, IsWholePart, part_line}
 
 -- no byte is this separator
 abbrev IsFree : ℕ → List ℕ → Type 0

@@ -135,12 +135,7 @@ pub(crate) fn has_form(keyword: Keyword, tokens: &[Token]) -> bool
         | Keyword::CutRight
         | Keyword::Get
         | Keyword::Put => are_of(
-            &[
-                Sort::Register,
-                Sort::Register,
-                Sort::Register,
-                Sort::Number,
-            ],
+            &[Sort::Register, Sort::Register, Sort::Register, Sort::Number],
             tokens,
         ),
         Keyword::Equal | Keyword::NotEqual | Keyword::Less | Keyword::AtMost => {

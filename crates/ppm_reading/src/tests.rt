@@ -7,14 +7,27 @@ use std::test::Fail;
 
 /// The lines before the first instruction, of a procedure with four slots, and of one with one.
 const FOUR_SLOTS: &str = "ppm 1\nroot 0\nproc 0 slots 4 entry 0\ncapsule 0 proc 0\n";
+
 const ONE_SLOT: &str = "ppm 1\nroot 0\nproc 0 slots 1 entry 0\ncapsule 0 proc 0\n";
 
 /// What follows the first of these, with the number and the line of the first fault; both 0 where there is none.
 const OF_FOUR_SLOTS: [(&'static str, u32, u32); 93] = [
     ("loadslot r0 3\nbranchz r0 3\nstorecur 3 r0\nend\n", 0, 0),
-    ("const r0 7\nstorecur 3 r0\nloadslot r1 3\nstorecur 3 r1\nend\n", 0, 0),
-    ("const r0 7\nstorecur 3 r0\nloadslot r1 3\nstorecur 3 r1\nend", 1, 9),
-    ("const r0 7\nstorecur 3 r0\nloadslot r1 3\nstorecur 3 r1\n", 4, 8),
+    (
+        "const r0 7\nstorecur 3 r0\nloadslot r1 3\nstorecur 3 r1\nend\n",
+        0,
+        0,
+    ),
+    (
+        "const r0 7\nstorecur 3 r0\nloadslot r1 3\nstorecur 3 r1\nend",
+        1,
+        9,
+    ),
+    (
+        "const r0 7\nstorecur 3 r0\nloadslot r1 3\nstorecur 3 r1\n",
+        4,
+        8,
+    ),
     ("get r0 r1 r2 1\nput r1 r2 r0 1\nend\n", 0, 0),
     ("put r1 r2 r0 1\nget r0 r1 r2 1\nend\n", 0, 0),
     ("loadslot r0 3\nbranchz r0 1\nstorecur 3 r0\nend\n", 3, 6),
@@ -125,31 +138,119 @@ const OF_ONE_SLOT: [(&'static str, u32, u32); 12] = [
 /// Whole texts.
 const TEXTS: [(&'static str, u32, u32); 26] = [
     ("", 6, 1),
-    ("ppm 1\nroot 0\nproc 0 slots 26 entry 0\ncapsule 0 proc 0\nend\n", 2, 3),
-    ("ppm 1\nroot 0\nproc 0 slots 25 entry 0\ncapsule 0 proc 0\nend\n", 0, 0),
-    ("ppm 2\nroot 0\nproc 0 slots 4 entry 0\ncapsule 0 proc 0\nconst r0 7\nstorecur 3 r0\nloadslot r1 3\nstorecur 3 r1\nend\n", 1, 1),
-    ("ppm 01\nroot 0\nproc 0 slots 4 entry 0\ncapsule 0 proc 0\nconst r0 7\nstorecur 3 r0\nloadslot r1 3\nstorecur 3 r1\nend\n", 1, 1),
-    ("ppm 1\nroot\nproc 0 slots 4 entry 0\ncapsule 0 proc 0\nconst r0 7\nstorecur 3 r0\nloadslot r1 3\nstorecur 3 r1\nend\n", 1, 2),
-    ("ppm 1\nroot 0\nproc 1 slots 4 entry 0\ncapsule 0 proc 0\nconst r0 7\nstorecur 3 r0\nloadslot r1 3\nstorecur 3 r1\nend\n", 6, 2),
-    ("ppm 1\nroot 0\nproc 0 entry 0 slots 4\ncapsule 0 proc 0\nconst r0 7\nstorecur 3 r0\nloadslot r1 3\nstorecur 3 r1\nend\n", 6, 2),
-    ("ppm 1\nroot 0 63\nproc 0 slots 4 entry 0\ncapsule 0 proc 0\nconst r0 7\nstorecur 3 r0\nloadslot r1 3\nstorecur 3 r1\nend\n", 0, 0),
-    ("ppm 1\nroot 0 64\nproc 0 slots 4 entry 0\ncapsule 0 proc 0\nconst r0 7\nstorecur 3 r0\nloadslot r1 3\nstorecur 3 r1\nend\n", 2, 2),
-    ("ppm 1\nroot 0 0 0 1 2\nproc 0 slots 4 entry 0\ncapsule 0 proc 0\nconst r0 7\nstorecur 3 r0\nloadslot r1 3\nstorecur 3 r1\nend\n", 0, 0),
-    ("ppm 1\nroot 0 0 0 1 2 3\nproc 0 slots 4 entry 0\ncapsule 0 proc 0\nconst r0 7\nstorecur 3 r0\nloadslot r1 3\nstorecur 3 r1\nend\n", 2, 2),
-    ("ppm 1\nroot 0\nproc 0 slots 4 entry 0\nproc 1 slots 1 entry 1\ncapsule 0 proc 0\nroom 22\nfork 0 1 0\ncapsule 1 proc 1\nend\n", 0, 0),
-    ("ppm 1\nroot 0\nproc 0 slots 4 entry 0\nproc 1 slots 1 entry 1\ncapsule 0 proc 0\nroom 21\nfork 0 1 0\ncapsule 1 proc 1\nend\n", 5, 7),
-    ("ppm 1\nroot 1\nproc 0 slots 4 entry 0\ncapsule 0 proc 0\nconst r0 7\nstorecur 3 r0\nloadslot r1 3\nstorecur 3 r1\nend\n", 6, 2),
-    ("ppm 1\nroot 1 0\nproc 0 slots 4 entry 0\ncapsule 0 proc 0\nconst r0 7\nstorecur 3 r0\nloadslot r1 3\nstorecur 3 r1\nend\n", 6, 2),
-    ("ppm 1\nroot 0\nproc 0 slots 4 entry 1\ncapsule 0 proc 0\nconst r0 7\nstorecur 3 r0\nloadslot r1 3\nstorecur 3 r1\nend\n", 6, 3),
-    ("ppm 1\nroot 0\nproc 0 slots 4 entry 0\nproc 1 slots 1 entry 1\ncapsule 0 proc 0\nend\ncapsule 1 proc 0\nend\n", 6, 4),
-    ("ppm 1\nroot 0\nproc 0 slots 4 entry 0\ncapsule 0 proc 1\nconst r0 7\nstorecur 3 r0\nloadslot r1 3\nstorecur 3 r1\nend\n", 6, 3),
-    ("ppm 1\nroot 0\nproc 0 slots 4 entry 0\nproc 1 slots 1 entry 1\ncapsule 0 proc 0\nnext 1\ncapsule 1 proc 1\nend\n", 6, 6),
-    ("ppm 1\nroot 0\nproc 0 slots 4 entry 0\nproc 1 slots 1 entry 1\ncapsule 0 proc 0\nroom 7\ncall 1 1\ncapsule 1 proc 1\nend\n", 6, 7),
+    (
+        "ppm 1\nroot 0\nproc 0 slots 26 entry 0\ncapsule 0 proc 0\nend\n",
+        2,
+        3,
+    ),
+    (
+        "ppm 1\nroot 0\nproc 0 slots 25 entry 0\ncapsule 0 proc 0\nend\n",
+        0,
+        0,
+    ),
+    (
+        "ppm 2\nroot 0\nproc 0 slots 4 entry 0\ncapsule 0 proc 0\nconst r0 7\nstorecur 3 r0\nloadslot r1 3\nstorecur 3 r1\nend\n",
+        1,
+        1,
+    ),
+    (
+        "ppm 01\nroot 0\nproc 0 slots 4 entry 0\ncapsule 0 proc 0\nconst r0 7\nstorecur 3 r0\nloadslot r1 3\nstorecur 3 r1\nend\n",
+        1,
+        1,
+    ),
+    (
+        "ppm 1\nroot\nproc 0 slots 4 entry 0\ncapsule 0 proc 0\nconst r0 7\nstorecur 3 r0\nloadslot r1 3\nstorecur 3 r1\nend\n",
+        1,
+        2,
+    ),
+    (
+        "ppm 1\nroot 0\nproc 1 slots 4 entry 0\ncapsule 0 proc 0\nconst r0 7\nstorecur 3 r0\nloadslot r1 3\nstorecur 3 r1\nend\n",
+        6,
+        2,
+    ),
+    (
+        "ppm 1\nroot 0\nproc 0 entry 0 slots 4\ncapsule 0 proc 0\nconst r0 7\nstorecur 3 r0\nloadslot r1 3\nstorecur 3 r1\nend\n",
+        6,
+        2,
+    ),
+    (
+        "ppm 1\nroot 0 63\nproc 0 slots 4 entry 0\ncapsule 0 proc 0\nconst r0 7\nstorecur 3 r0\nloadslot r1 3\nstorecur 3 r1\nend\n",
+        0,
+        0,
+    ),
+    (
+        "ppm 1\nroot 0 64\nproc 0 slots 4 entry 0\ncapsule 0 proc 0\nconst r0 7\nstorecur 3 r0\nloadslot r1 3\nstorecur 3 r1\nend\n",
+        2,
+        2,
+    ),
+    (
+        "ppm 1\nroot 0 0 0 1 2\nproc 0 slots 4 entry 0\ncapsule 0 proc 0\nconst r0 7\nstorecur 3 r0\nloadslot r1 3\nstorecur 3 r1\nend\n",
+        0,
+        0,
+    ),
+    (
+        "ppm 1\nroot 0 0 0 1 2 3\nproc 0 slots 4 entry 0\ncapsule 0 proc 0\nconst r0 7\nstorecur 3 r0\nloadslot r1 3\nstorecur 3 r1\nend\n",
+        2,
+        2,
+    ),
+    (
+        "ppm 1\nroot 0\nproc 0 slots 4 entry 0\nproc 1 slots 1 entry 1\ncapsule 0 proc 0\nroom 22\nfork 0 1 0\ncapsule 1 proc 1\nend\n",
+        0,
+        0,
+    ),
+    (
+        "ppm 1\nroot 0\nproc 0 slots 4 entry 0\nproc 1 slots 1 entry 1\ncapsule 0 proc 0\nroom 21\nfork 0 1 0\ncapsule 1 proc 1\nend\n",
+        5,
+        7,
+    ),
+    (
+        "ppm 1\nroot 1\nproc 0 slots 4 entry 0\ncapsule 0 proc 0\nconst r0 7\nstorecur 3 r0\nloadslot r1 3\nstorecur 3 r1\nend\n",
+        6,
+        2,
+    ),
+    (
+        "ppm 1\nroot 1 0\nproc 0 slots 4 entry 0\ncapsule 0 proc 0\nconst r0 7\nstorecur 3 r0\nloadslot r1 3\nstorecur 3 r1\nend\n",
+        6,
+        2,
+    ),
+    (
+        "ppm 1\nroot 0\nproc 0 slots 4 entry 1\ncapsule 0 proc 0\nconst r0 7\nstorecur 3 r0\nloadslot r1 3\nstorecur 3 r1\nend\n",
+        6,
+        3,
+    ),
+    (
+        "ppm 1\nroot 0\nproc 0 slots 4 entry 0\nproc 1 slots 1 entry 1\ncapsule 0 proc 0\nend\ncapsule 1 proc 0\nend\n",
+        6,
+        4,
+    ),
+    (
+        "ppm 1\nroot 0\nproc 0 slots 4 entry 0\ncapsule 0 proc 1\nconst r0 7\nstorecur 3 r0\nloadslot r1 3\nstorecur 3 r1\nend\n",
+        6,
+        3,
+    ),
+    (
+        "ppm 1\nroot 0\nproc 0 slots 4 entry 0\nproc 1 slots 1 entry 1\ncapsule 0 proc 0\nnext 1\ncapsule 1 proc 1\nend\n",
+        6,
+        6,
+    ),
+    (
+        "ppm 1\nroot 0\nproc 0 slots 4 entry 0\nproc 1 slots 1 entry 1\ncapsule 0 proc 0\nroom 7\ncall 1 1\ncapsule 1 proc 1\nend\n",
+        6,
+        7,
+    ),
     ("ppm 1\nroot 0\nproc 0 slots 4 entry 0\n", 6, 3),
     ("ppm 1\n", 6, 2),
     ("p", 1, 1),
-    ("ppm 1\nroot 0\nfoo\nproc 0 slots 4 entry 0\ncapsule 0 proc 0\nend\n", 1, 3),
-    ("ppm 1\nroot 1\nfoo\nproc 0 slots 4 entry 0\ncapsule 0 proc 0\nend\n", 6, 2),
+    (
+        "ppm 1\nroot 0\nfoo\nproc 0 slots 4 entry 0\ncapsule 0 proc 0\nend\n",
+        1,
+        3,
+    ),
+    (
+        "ppm 1\nroot 1\nfoo\nproc 0 slots 4 entry 0\ncapsule 0 proc 0\nend\n",
+        6,
+        2,
+    ),
 ];
 
 /// The number and the line of the first fault; both 0 where the text is a listing, which is then written again.

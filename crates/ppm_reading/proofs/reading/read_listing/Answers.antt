@@ -1,4 +1,4 @@
-use Rattle.std.proofs.Common.{◌≡◌, ◌∙◌, sym, ap, subst}
+use Rattle.std.proofs.Common.{◌∙◌, sym, ap, subst}
 use Rattle.ppm_listing.specs.Listing.{listing_of}
 use Rattle.ppm_listing.specs.Correct.{NumbersFit}
 use Rattle.ppm_reading.specs.Correct.{IsRefusal}
