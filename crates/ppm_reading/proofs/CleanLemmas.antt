@@ -1,5 +1,6 @@
 -- Lines that break no rule: each has a form and stands, so they are the parts of a code.
-use Rattle.std.proofs.Common.{◌≡◌, ◌∙◌, ℕ, zero, suc, ◌<◌, ◌≤◌, ◌==◌, Bool, true, false, ◌&&◌, ◌||◌, cond, nat_lt, nat_le, IsTrue, List, [], ◌∷◌, ◌++◌, map, length, slice_get, IfSome, Option, Some, None, refl, ap, arith}
+use Rattle.std.proofs.Common.{◌≡◌, ◌∙◌, ℕ, zero, suc, ◌<◌, ◌≤◌, ◌==◌, Bool, true, false, ◌&&◌, ◌||◌, cond, nat_lt, nat_le, IsTrue, List, [], ◌∷◌}
+use Rattle.std.proofs.Common.{◌++◌, map, length, slice_get, IfSome, Option, Some, None, refl, ap, arith}
 use Rattle.std.proofs.Common.{ltb-true, ltb-false, leb-false, eqb-true}
 use Rattle.std.proofs.lemmas.Bool.{both_ways, not-false}
 use Rattle.ppm_code.specs.declared.act.End.{End}
@@ -19,7 +20,8 @@ use Rattle.ppm_reading.specs.declared.part.Part.TheVariants as part
 use Rattle.ppm_reading.specs.declared.place.Place.{Place}
 use Rattle.ppm_reading.specs.declared.place.Place.TheVariants.{Within}
 use Rattle.ppm_reading.specs.Places.{may_stand, room_behind, next, standing_from}
-use Rattle.ppm_reading.specs.Faults.{is_no_line, is_no_slot, is_of, is_procedure, is_capsule_of, ends_early, is_out_of_range, is_not_forward, is_no_end, has_wrong_room, is_not_there}
+use Rattle.ppm_reading.specs.Faults.{is_no_line, is_no_slot, is_of, is_procedure, is_capsule_of, ends_early, is_out_of_range, is_not_forward}
+use Rattle.ppm_reading.specs.Faults.{is_no_end, has_wrong_room, is_not_there}
 use Rattle.ppm_reading.specs.Faults.{is_no_room_of, is_past_room, branches_badly, KeepsRules}
 use Rattle.ppm_reading.proofs.NumberLemmas.{both_parts}
 
@@ -72,7 +74,8 @@ module _ (code : CodeParts) where
     where
       go : (t : Bool) → may_stand place x ≡ t
           → KeepsRules code place (cond t (Some x) None ∷ standing_from (next place (cond t (Some x) None)) ls)
-          → (KeepsRules code (next place (Some x)) (standing_from (next place (Some x)) ls) → AreClean (next place (Some x)) ls (standing_from (next place (Some x)) ls))
+          → (KeepsRules code (next place (Some x)) (standing_from (next place (Some x)) ls)
+          → AreClean (next place (Some x)) ls (standing_from (next place (Some x)) ls))
           → AreClean place (Some x ∷ ls) (cond t (Some x) None ∷ standing_from (next place (cond t (Some x) None)) ls)
       go false e h more = absurd (h fault.NoSuchForm 0 refl)
       go true e h more =
@@ -147,8 +150,14 @@ module _ (code : CodeParts) where
     end_fits Finish clean = tt
     end_fits (Trap trap line) clean = line_there line clean.range
     end_fits (Call callee k to) clean =
-        let there = both_parts (is_procedure code callee) (is_capsule_of code procedure k) (not-false (is_procedure code callee && is_capsule_of code procedure k) (neither (nat_le instr_limit at) _ clean.there).1) in
-        (procedure_there callee there.0, capsule_there procedure k there.1, slot_there procedure to clean.range, size_asked room (is_procedure code callee) (frame_size code callee) whole r there.0 clean.room)
+        let there = both_parts (is_procedure code callee) (is_capsule_of code procedure k)
+        (not-false (is_procedure code callee && is_capsule_of code procedure k) (neither (nat_le instr_limit at) _ clean.there).1) in (
+          procedure_there callee there.0,
+          capsule_there procedure k there.1,
+          slot_there procedure to clean.range,
+          size_asked room
+              (is_procedure code callee) (frame_size code callee) whole r there.0 clean.room,
+        )
     end_fits (Fork left right k left_to right_to) clean =
         let outer = both_parts (is_procedure code left && is_procedure code right) (is_capsule_of code procedure k)
         (not-false (is_procedure code left && is_procedure code right && is_capsule_of code procedure k) (neither (nat_le instr_limit at) _ clean.there).1) in

@@ -1,5 +1,6 @@
 -- Lines that break no rule make a code, and are its listing.
-use Rattle.std.proofs.Common.{◌≡◌, ◌∙◌, ℕ, zero, suc, ◌+◌, ◌<◌, ◌≤◌, ◌==◌, Bool, true, false, not, ◌&&◌, nat_lt, nat_le, List, [], ◌∷◌, ◌++◌, map, length, slice_get, IfSome, Option, Some, None, refl, sym, ap, subst, arith}
+use Rattle.std.proofs.Common.{◌≡◌, ◌∙◌, ℕ, zero, suc, ◌+◌, ◌<◌, ◌≤◌, ◌==◌, Bool, true, false, not, ◌&&◌, nat_lt, nat_le, List, [], ◌∷◌, ◌++◌}
+use Rattle.std.proofs.Common.{map, length, slice_get, IfSome, Option, Some, None, refl, sym, ap, subst, arith}
 use Rattle.std.proofs.Common.{ltb-false, leb-false, eqb-true, eq-eqb, append_assoc, append-nil, length-append}
 use Rattle.std.specs.List.{All, list_any}
 use Rattle.std.proofs.lemmas.Bool.{both_ways, not-false}
@@ -179,7 +180,8 @@ module _ (code : CodeParts) where
       let number_is = eqb-true d (capsule + 1) clean.0.stands in
       let there = neither (nat_le capsule_limit d) (not (is_procedure code q)) clean.0.there in
       let c : Capsule = record { procedure = q; instrs = instrs_from xs } in
-      let got : slice_get code.capsules d ≡ Some c = ap (slice_get code.capsules) (number_is ∙ sym n) ∙ ap (λ l. slice_get l (length pre)) cs ∙ got_behind pre c (capsules_from xs) in
+      let got : slice_get code.capsules d ≡ Some c = ap (slice_get code.capsules) (number_is ∙ sym n) ∙ ap (λ l. slice_get l (length pre)) cs
+      ∙ got_behind pre c (capsules_from xs) in
       let own : instrs_of code d ≡ instrs_from xs = ap instrs_within got in
       let limit = leb-false capsule_limit d there.0 in
       let b = walk d q None (instrs_from xs) [] (pre ++ c ∷ []) xs clean.1 own refl (λ words h. none_some words h) (omega arith)
@@ -305,7 +307,8 @@ from_root q xs' ys code same root clean =
       code = subst IsCode same (record {
         root = subst (IsProcedure code) (sym (ap (λ c. c.root) same)) (procedure_there code q there);
         root_slots = subst (λ c. length c.arrays ≤ slots_of c c.root) (sym same)
-            (subst (λ c. length xs' ≤ slots_of c q) same (ltb-false (slots_of code q) (length xs') (second (is_procedure code q) (nat_lt (slots_of code q) (length xs')) there range.1)));
+            (subst (λ c. length xs' ≤ slots_of c q) same (ltb-false (slots_of code q) (length xs')
+            (second (is_procedure code q) (nat_lt (slots_of code q) (length xs')) there range.1)));
         arrays = subst (All (λ a. a < array_limit)) (sym (ap (λ c. c.arrays) same)) (arrays_within xs' range.0);
         procedures_most = omega (arith, b.most, ap (λ c. length c.procedures) same);
         capsules_most = omega (arith, b.count, ap (λ c. length c.capsules) same);

@@ -1,5 +1,6 @@
 -- The lines of a text one by one, and its first fault by the first broken rule.
-use Rattle.std.proofs.Common.{◌≡◌, ◌∙◌, ◌⊎◌, inl, inr, ℕ, zero, suc, ◌+◌, ◌<◌, ◌≤◌, false, cond, IsTrue, is_some, List, [], ◌∷◌, ◌++◌, length, Option, Some, None, refl, sym, ap, subst, arith}
+use Rattle.std.proofs.Common.{◌≡◌, ◌∙◌, ◌⊎◌, inl, inr, ℕ, zero, suc, ◌+◌, ◌<◌, ◌≤◌, false, cond, IsTrue, is_some, List, [], ◌∷◌, ◌++◌, length}
+use Rattle.std.proofs.Common.{Option, Some, None, refl, sym, ap, subst, arith}
 use Rattle.std.proofs.Common.{append_assoc}
 use Rattle.std.proofs.lemmas.Bool.{both_ways}
 use Rattle.ppm_reading.specs.declared.listing_error.Fault.{Fault}
@@ -65,7 +66,11 @@ least_number NotThere = omega arith
 
 -- a text whose first line does not stand
 pub first_none : (text : List ℕ) (tail : List (Option Part)) → standing_of text ≡ None ∷ tail → IsFirstFault text NoSuchForm 1
-first_none text tail e = record { there = Breaks NoSuchForm 0 (subst (λ ls. BreaksAt (code_in (standing_of text)) NoSuchForm AtVersion ls 0) (sym e) refl); first = after }
+first_none text tail e = record {
+  there = Breaks NoSuchForm 0 (subst (λ ls. BreaksAt (code_in (standing_of text)) NoSuchForm AtVersion ls 0) (sym e)
+      refl);
+  first = after;
+}
   where
     after : (other : Fault) (later : ℕ) → HasFault text other later → (1 < later) ⊎ ((1 ≡ later) × (1 ≤ fault_number other))
     after other _ (Breaks _ zero h) = inr (omega arith, least_number other)

@@ -1,5 +1,6 @@
 -- Lines and their forms: what is read of a line tells its text.
-use Rattle.std.proofs.Common.{◌≡◌, ◌∙◌, ℕ, zero, suc, ◌+◌, ◌-◌, ◌^◌, ◌<◌, ◌==◌, min, Bool, true, false, not, ◌&&◌, cond, nat_lt, nat_le, List, [], ◌∷◌, get_or, drop, decimal, is_some, Option, Some, None, refl, sym, ap, subst, arith}
+use Rattle.std.proofs.Common.{◌≡◌, ◌∙◌, ℕ, zero, suc, ◌+◌, ◌-◌, ◌^◌, ◌<◌, ◌==◌, min, Bool, true, false, not, ◌&&◌, cond, nat_lt, nat_le, List}
+use Rattle.std.proofs.Common.{[], ◌∷◌, get_or, drop, decimal, is_some, Option, Some, None, refl, sym, ap, subst, arith}
 use Rattle.std.proofs.Common.{ltb-true, leb-true, eqb-true, get_or-drop, drop-drop}
 use Rattle.std.specs.Prelude.{ℤ, pos, negsuc}
 use Rattle.std.specs.List.{list_all, AllByRecursion}
@@ -23,7 +24,8 @@ use Rattle.ppm_reading.specs.declared.form.Sort.{Sort}
 use Rattle.ppm_reading.specs.declared.form.Sort.TheVariants as sort
 use Rattle.ppm_reading.specs.declared.part.Part.{Part}
 use Rattle.ppm_reading.specs.declared.part.Part.TheVariants as part
-use Rattle.ppm_reading.specs.Forms.{is_of, are_of, sorts, token_at, is_absent, has_form, number_of, number_at, slot_of, register_with, register_of, register_at, constant_of, trap_of, is_register}
+use Rattle.ppm_reading.specs.Forms.{is_of, are_of, sorts, token_at, is_absent, has_form, number_of, number_at, slot_of, register_with}
+use Rattle.ppm_reading.specs.Forms.{register_of, register_at, constant_of, trap_of, is_register}
 use Rattle.ppm_reading.specs.Forms.{constant, trapping, instr_of, part_of}
 use Rattle.ppm_reading.proofs.NumberLemmas.{both_parts}
 use Rattle.ppm_reading.proofs.WordLemmas.{word_of, IsWhole}

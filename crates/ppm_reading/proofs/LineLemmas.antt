@@ -1,5 +1,6 @@
 -- Texts and their lines: what is read of a text's lines tells the text.
-use Rattle.std.proofs.Common.{◌≡◌, ◌∙◌, ℕ, ◌<◌, ◌==◌, Bool, true, false, cond, List, [], ◌∷◌, ◌++◌, map, length, Option, Some, None, refl, sym, ap, subst, arith}
+use Rattle.std.proofs.Common.{◌≡◌, ◌∙◌, ℕ, ◌<◌, ◌==◌, Bool, true, false, cond, List, [], ◌∷◌, ◌++◌, map, length, Option, Some, None, refl, sym}
+use Rattle.std.proofs.Common.{ap, subst, arith}
 use Rattle.std.proofs.Common.{append_assoc, append-nil, eqb-true, drop}
 use Rattle.std.specs.List.{flat_map, AllByRecursion}
 use Rattle.ppm_listing.specs.declared.keyword.Keyword.{Keyword}
@@ -126,8 +127,11 @@ text_written IsGood (p ∷ []) xs h e f g = last p xs e
 text_written IsGood (p ∷ q ∷ pieces) [] h e f g = absurd (omega (arith, ap length e))
 text_written IsGood (p ∷ q ∷ pieces) (x ∷ xs) h e f g =
     let told = f p x (ap first_of e) g.0 in
-    let (text, fits) = text_written IsGood (q ∷ pieces) xs (omega arith) (ap (drop 1) e) f g.1 in
-    (ap (λ l. p ++ 10 ∷ l) text ∙ sym (append_assoc p (10 ∷ []) (text_of (map part_line xs))) ∙ ap (λ l. l ++ text_of (map part_line xs)) told.text, (told.fits, fits))
+    let (text, fits) = text_written IsGood (q ∷ pieces) xs (omega arith) (ap (drop 1) e) f g.1 in (
+      ap (λ l. p ++ 10 ∷ l) text ∙ sym (append_assoc p (10 ∷ []) (text_of (map part_line xs)))
+          ∙ ap (λ l. l ++ text_of (map part_line xs)) told.text,
+      (told.fits, fits),
+    )
   where
     first_of : List (Option Part) → Option Part
     first_of [] = None

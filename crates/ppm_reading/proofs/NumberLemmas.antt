@@ -1,5 +1,6 @@
 -- Numbers in decimal, each with its one spelling.
-use Rattle.std.proofs.Common.{◌≡◌, ◌∙◌, ◌⊎◌, inl, inr, ℕ, zero, suc, ◌+◌, ◌-◌, ◌*◌, ◌^◌, ◌<◌, ◌≤◌, ◌==◌, min, Bool, true, false, ◌&&◌, cond, nat_le, List, [], ◌∷◌, length, get_or, take, drop, take_all, le_refl, decimal, refl, ap, arith}
+use Rattle.std.proofs.Common.{◌≡◌, ◌∙◌, ◌⊎◌, inl, inr, ℕ, zero, suc, ◌+◌, ◌-◌, ◌*◌, ◌^◌, ◌<◌, ◌≤◌, ◌==◌, min, Bool, true, false, ◌&&◌, cond}
+use Rattle.std.proofs.Common.{nat_le, List, [], ◌∷◌, length, get_or, take, drop, take_all, le_refl, decimal, refl, ap, arith}
 use Rattle.std.proofs.Common.{le-leb, leb-true, leb-false, eqb-true, ne_eqb}
 use Rattle.std.specs.List.{list_all}
 use Rattle.std.specs.Int.{IsInRange}
@@ -27,7 +28,8 @@ cut_off_before n d ds = go (nat_le (n * 10 + (d - 48)) token_limit) refl
   where
     go : (small : Bool) → nat_le (n * 10 + (d - 48)) token_limit ≡ small
         → min (value_from (min (min (n * 10) token_limit + (d - 48)) token_limit) ds) token_limit ≡ min (value_from (n * 10 + (d - 48)) ds) token_limit
-    go true e = cut_off (min (min (n * 10) token_limit + (d - 48)) token_limit) (n * 10 + (d - 48)) ds (inl (omega (arith, leb-true (n * 10 + (d - 48)) token_limit e)))
+    go true e = cut_off (min (min (n * 10) token_limit + (d - 48)) token_limit) (n * 10 + (d - 48)) ds
+        (inl (omega (arith, leb-true (n * 10 + (d - 48)) token_limit e)))
     go false e =
         let large = leb-false (n * 10 + (d - 48)) token_limit e in
         cut_off (min (min (n * 10) token_limit + (d - 48)) token_limit) (n * 10 + (d - 48)) ds (inr (omega (arith, large), omega (arith, large)))

@@ -1,5 +1,6 @@
 -- What a line says tells its text.
-use Rattle.std.proofs.Common.{◌≡◌, ◌∙◌, ℕ, ◌+◌, ◌-◌, ◌*◌, ◌≤◌, ◌==◌, Bool, true, false, not, ◌&&◌, cond, List, [], ◌∷◌, map, Option, Some, None, refl, sym, ap, subst, arith}
+use Rattle.std.proofs.Common.{◌≡◌, ◌∙◌, ℕ, ◌+◌, ◌-◌, ◌*◌, ◌≤◌, ◌==◌, Bool, true, false, not, ◌&&◌, cond, List, [], ◌∷◌, map, Option, Some, None}
+use Rattle.std.proofs.Common.{refl, sym, ap, subst, arith}
 use Rattle.std.specs.List.{list_all, AllByRecursion}
 use Rattle.std.proofs.lemmas.Bool.{both_ways, not-true}
 use Rattle.ppm_listing.specs.declared.keyword.Keyword.{Keyword}
@@ -14,7 +15,8 @@ use Rattle.ppm_reading.specs.declared.part.Part.{Part}
 use Rattle.ppm_reading.specs.Tokens.{is_digit, is_numeral, value, named, keyword_of, minus, split, token_of, tokens_of}
 use Rattle.ppm_reading.specs.Forms.{are_of, sorts, token_at, is_absent, is_number, has_form, number_of, part_of, part_in, line_of}
 use Rattle.ppm_reading.proofs.NumberLemmas.{both_parts, value_grows, first_digit, digit_bounds}
-use Rattle.ppm_reading.proofs.FormLemmas.{IsProper, IsSmall, IsSmallLine, AreRight, all_rewritten, AreTokens, None_left, One_more, all_tokens, small_number, part_line, IsWholePart, Tells, told}
+use Rattle.ppm_reading.proofs.FormLemmas.{IsProper, IsSmall, IsSmallLine, AreRight, all_rewritten, AreTokens, None_left, One_more, all_tokens}
+use Rattle.ppm_reading.proofs.FormLemmas.{small_number, part_line, IsWholePart, Tells, told}
 use Rattle.ppm_reading.proofs.LineLemmas.{HasText, line_written}
 
 -- a number behind a minus is not 0
@@ -42,7 +44,8 @@ proper_token : (bs : List ℕ) → IsProper (token_of bs)
 proper_token [] = tt
 proper_token (b ∷ bs) = go (b == 45) (is_digit b) (is_numeral (b ∷ bs)) (b == 114 && is_numeral bs)
   where
-    go : (a d n r : Bool) → IsProper (cond a (minus bs) (cond d (cond n (Number (value (b ∷ bs))) Other) (cond r (Register (value bs)) (named (keyword_of (b ∷ bs))))))
+    go : (a d n r : Bool) → IsProper (cond a (minus bs) (cond d (cond n (Number (value (b ∷ bs))) Other)
+        (cond r (Register (value bs)) (named (keyword_of (b ∷ bs))))))
     go true d n r = proper_minus bs
     go false true true r = tt
     go false true false r = tt

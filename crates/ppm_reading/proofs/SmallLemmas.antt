@@ -97,7 +97,10 @@ module _ (code : CodeParts) (is : IsCode code) (limit : ℕ) (large : line_limit
   end_small procedure instrs Finish f = tt
   end_small procedure instrs (Trapping x line) f = (trap_small x, (line_small line f.1, tt))
   end_small procedure instrs (Call q k None) (there, next, slot, room) = (procedure_small q there, (capsule_small k next.1, tt))
-  end_small procedure instrs (Call q k (Some t)) (there, next, slot, room) = (procedure_small q there, (capsule_small k next.1, (slot_small procedure t slot, tt)))
+  end_small procedure instrs (Call q k (Some t)) (there, next, slot, room) = (
+    procedure_small q there,
+    (capsule_small k next.1, (slot_small procedure t slot, tt)),
+  )
   end_small procedure instrs (Fork q p k None None) (left, right, next, a, b, room) =
       (procedure_small q left, (procedure_small p right, (capsule_small k next.1, tt)))
   end_small procedure instrs (Fork q p k None (Some u)) (left, right, next, a, b, room) =
@@ -168,7 +171,8 @@ module _ (code : CodeParts) (is : IsCode code) (limit : ℕ) (large : line_limit
       (procedure_small code.root is.root, numbers_small code.arrays is.arrays),
       append_all (IsLineBelow limit) (procedure_lines 0 code.procedures) (capsule_lines 0 code.capsules)
           (procedures_small 0 code.procedures (omega (arith, is.procedures_most))
-          (by_recursion (λ (p : Procedure). p.slots ≤ slot_limit) code.procedures (λ k p h. got (λ (q : Procedure). q.slots ≤ slot_limit) code.procedures k p is.slots_most h))
+          (by_recursion (λ (p : Procedure). p.slots ≤ slot_limit) code.procedures
+          (λ k p h. got (λ (q : Procedure). q.slots ≤ slot_limit) code.procedures k p is.slots_most h))
           (by_recursion (λ (p : Procedure). p.entry < length code.capsules) code.procedures (λ k p h. entry_there k p h)))
           (capsules_small 0 code.capsules (omega (arith, is.capsules_most))
           (by_recursion (IsCapsule code) code.capsules (λ k c h. got (IsCapsule code) code.capsules k c is.capsules h))),

@@ -1,5 +1,6 @@
 -- The rules of a listing, each a test of one line at its place, by what the whole text declares.
-use Rattle.std.specs.Prelude.{◌≡◌, ◌⊎◌, ◌<◌, ◌≤◌, IfSome, IfNone, ℕ, zero, suc, ◌+◌, ◌==◌, Bool, IsTrue, true, false, not, ◌&&◌, ◌||◌, nat_lt, nat_le, List, [], ◌∷◌, length, Option, Some, None, slice_get}
+use Rattle.std.specs.Prelude.{◌≡◌, ◌⊎◌, ◌<◌, ◌≤◌, IfSome, IfNone, ℕ, zero, suc, ◌+◌, ◌==◌, Bool, IsTrue, true, false, not, ◌&&◌, ◌||◌, nat_lt}
+use Rattle.std.specs.Prelude.{nat_le, List, [], ◌∷◌, length, Option, Some, None, slice_get}
 use Rattle.std.specs.List.{list_any}
 use Rattle.ppm_words.specs.Limits.{array_limit}
 use Rattle.ppm_code.specs.declared.act.End.{End}
