@@ -1,31 +1,28 @@
 -- Lines that break no rule: each has a form and stands, so they are the parts of a code.
-use Rattle.std.proofs.Common.{◌≡◌, ◌∙◌, ℕ, zero, suc, ◌+◌, ◌-◌, ◌<◌, ◌≤◌, ◌==◌, Bool, true, false, not, ◌&&◌, ◌||◌, cond, nat_lt, nat_le, IsTrue, List, [], ◌∷◌, ◌++◌, map, length, slice_get, IfSome, Option, Some, None, refl, sym, ap, subst, arith}
-use Rattle.std.proofs.Common.{ltb-true, ltb-false, leb-true, leb-false, eqb-true, append_assoc, append-nil, length-append}
-use Rattle.std.specs.List.{All, list_any}
-use Rattle.std.proofs.lemmas.Bool.{both_ways, not-false, not-true, eqb-false}
-use Rattle.ppm_words.specs.Limits.{array_limit}
+use Rattle.std.proofs.Common.{◌≡◌, ◌∙◌, ℕ, zero, suc, ◌<◌, ◌≤◌, ◌==◌, Bool, true, false, ◌&&◌, ◌||◌, cond, nat_lt, nat_le, IsTrue, List, [], ◌∷◌}
+use Rattle.std.proofs.Common.{◌++◌, map, length, slice_get, IfSome, Option, Some, None, refl, ap, arith}
+use Rattle.std.proofs.Common.{ltb-true, ltb-false, leb-false, eqb-true}
+use Rattle.std.proofs.lemmas.Bool.{both_ways, not-false}
 use Rattle.ppm_code.specs.declared.act.End.{End}
 use Rattle.ppm_code.specs.declared.act.End.TheVariants.{Next, Finish, Trap, Call, Fork}
 use Rattle.ppm_code.specs.declared.code.Capsule.{Capsule}
-use Rattle.ppm_code.specs.declared.code.Procedure.{Procedure}
 use Rattle.ppm_code.specs.declared.code.CodeParts.{CodeParts}
 use Rattle.ppm_code.specs.declared.instr.Instr.{Instr}
 use Rattle.ppm_code.specs.declared.instr.Instr.TheVariants.{Const, Move, Add, Sub, Mul, Div, Rem, Equal, NotEqual, Less, AtMost, Len, CutLeft, CutRight}
 use Rattle.ppm_code.specs.declared.instr.Instr.TheVariants.{LoadSlot, StoreCur, Give, Get, Put, BranchZero, BranchNonZero, Room, StoreNew, Ends}
-use Rattle.ppm_code.specs.Limits.{procedure_limit, capsule_limit, instr_limit, slot_limit, room_limit, line_limit}
+use Rattle.ppm_code.specs.Limits.{instr_limit, room_limit, line_limit}
 use Rattle.ppm_code.specs.Sizes.{slots_of, frame_size, fork_size}
-use Rattle.ppm_code.specs.Strands.{instrs_in as instrs_within, instrs_of}
-use Rattle.ppm_code.specs.Code.{IsLine, room_of, IsProcedure, IsCapsuleOf, IsSlot, EndFits, Fits, IsCapsule, IsCode}
-use Rattle.ppm_reading.specs.declared.listing_error.Fault.{Fault}
+use Rattle.ppm_code.specs.Strands.{instrs_of}
+use Rattle.ppm_code.specs.Code.{IsLine, room_of, IsProcedure, IsCapsuleOf, IsSlot, EndFits, Fits}
 use Rattle.ppm_reading.specs.declared.listing_error.Fault.TheVariants as fault
 use Rattle.ppm_reading.specs.declared.part.Part.{Part}
 use Rattle.ppm_reading.specs.declared.part.Part.TheVariants as part
 use Rattle.ppm_reading.specs.declared.place.Place.{Place}
-use Rattle.ppm_reading.specs.declared.place.Place.TheVariants.{AtVersion, AtRoot, AtProcedure, Within}
-use Rattle.ppm_reading.specs.Tokens.{is_empty}
-use Rattle.ppm_reading.specs.Places.{may_stand, standing, asked, room_behind, next, standing_from, procedures_in, instrs_in, capsules_in, code_in}
-use Rattle.ppm_reading.specs.Faults.{is_no_line, is_no_slot, is_end, is_of, is_procedure, is_capsule_of, ends_early, is_out_of_range, is_not_forward, is_no_end, has_wrong_room, is_not_there}
-use Rattle.ppm_reading.specs.Faults.{is_no_room_of, is_past_room, target_badly, branches_badly, BreaksAt, KeepsRules}
+use Rattle.ppm_reading.specs.declared.place.Place.TheVariants.{Within}
+use Rattle.ppm_reading.specs.Places.{may_stand, room_behind, next, standing_from}
+use Rattle.ppm_reading.specs.Faults.{is_no_line, is_no_slot, is_of, is_procedure, is_capsule_of, ends_early, is_out_of_range, is_not_forward}
+use Rattle.ppm_reading.specs.Faults.{is_no_end, has_wrong_room, is_not_there}
+use Rattle.ppm_reading.specs.Faults.{is_no_room_of, is_past_room, branches_badly, KeepsRules}
 use Rattle.ppm_reading.proofs.NumberLemmas.{both_parts}
 
 yes : {A : Type 0} → true ≡ false → A
@@ -67,14 +64,18 @@ module _ (code : CodeParts) where
 
   pub all_clean : (place : Place) (ls : List (Option Part)) → KeepsRules code place (standing_from place ls) → AreClean place ls (standing_from place ls)
   all_clean place [] h = record {
-    parts = []; lines = refl; standing_lines = refl; clean = to_false (ends_early fault.NotThere place) (h fault.NotThere 0);
+    parts = [];
+    lines = refl;
+    standing_lines = refl;
+    clean = to_false (ends_early fault.NotThere place) (h fault.NotThere 0);
   }
   all_clean place (None ∷ ls) h = absurd (h fault.NoSuchForm 0 refl)
   all_clean place (Some x ∷ ls) h = go (may_stand place x) refl h (all_clean (next place (Some x)) ls)
     where
       go : (t : Bool) → may_stand place x ≡ t
           → KeepsRules code place (cond t (Some x) None ∷ standing_from (next place (cond t (Some x) None)) ls)
-          → (KeepsRules code (next place (Some x)) (standing_from (next place (Some x)) ls) → AreClean (next place (Some x)) ls (standing_from (next place (Some x)) ls))
+          → (KeepsRules code (next place (Some x)) (standing_from (next place (Some x)) ls)
+          → AreClean (next place (Some x)) ls (standing_from (next place (Some x)) ls))
           → AreClean place (Some x ∷ ls) (cond t (Some x) None ∷ standing_from (next place (cond t (Some x) None)) ls)
       go false e h more = absurd (h fault.NoSuchForm 0 refl)
       go true e h more =
@@ -83,14 +84,17 @@ module _ (code : CodeParts) where
             parts = x ∷ rest.parts;
             lines = ap (λ l. Some x ∷ l) rest.lines;
             standing_lines = ap (λ l. Some x ∷ l) rest.standing_lines;
-            clean = (record {
-              stands = e;
-              range = to_false (is_out_of_range code place x) (h fault.OutOfRange 0);
-              forward = to_false (is_not_forward code place x) (h fault.NotForward 0);
-              end = to_false (is_no_end code place x) (h fault.NoEnd 0);
-              room = to_false (has_wrong_room code place x) (h fault.WrongRoom 0);
-              there = to_false (is_not_there code place x) (h fault.NotThere 0);
-            }, rest.clean);
+            clean = (
+              record {
+                stands = e;
+                range = to_false (is_out_of_range code place x) (h fault.OutOfRange 0);
+                forward = to_false (is_not_forward code place x) (h fault.NotForward 0);
+                end = to_false (is_no_end code place x) (h fault.NoEnd 0);
+                room = to_false (has_wrong_room code place x) (h fault.WrongRoom 0);
+                there = to_false (is_not_there code place x) (h fault.NotThere 0);
+              },
+              rest.clean,
+            );
           }
 
   -- tests and what they say
@@ -146,15 +150,26 @@ module _ (code : CodeParts) where
     end_fits Finish clean = tt
     end_fits (Trap trap line) clean = line_there line clean.range
     end_fits (Call callee k to) clean =
-        let there = both_parts (is_procedure code callee) (is_capsule_of code procedure k) (not-false (is_procedure code callee && is_capsule_of code procedure k) (neither (nat_le instr_limit at) _ clean.there).1) in
-        (procedure_there callee there.0, capsule_there procedure k there.1, slot_there procedure to clean.range, size_asked room (is_procedure code callee) (frame_size code callee) whole r there.0 clean.room)
+        let there = both_parts (is_procedure code callee) (is_capsule_of code procedure k)
+        (not-false (is_procedure code callee && is_capsule_of code procedure k) (neither (nat_le instr_limit at) _ clean.there).1) in (
+          procedure_there callee there.0,
+          capsule_there procedure k there.1,
+          slot_there procedure to clean.range,
+          size_asked room
+              (is_procedure code callee) (frame_size code callee) whole r there.0 clean.room,
+        )
     end_fits (Fork left right k left_to right_to) clean =
         let outer = both_parts (is_procedure code left && is_procedure code right) (is_capsule_of code procedure k)
         (not-false (is_procedure code left && is_procedure code right && is_capsule_of code procedure k) (neither (nat_le instr_limit at) _ clean.there).1) in
         let inner = both_parts (is_procedure code left) (is_procedure code right) outer.0 in
-        let slots = neither (is_no_slot (slots_of code procedure) left_to) (is_no_slot (slots_of code procedure) right_to) clean.range in
-        (procedure_there left inner.0, procedure_there right inner.1, capsule_there procedure k outer.1, slot_there procedure left_to slots.0,
-        slot_there procedure right_to slots.1, size_asked room (is_procedure code left && is_procedure code right) (fork_size code left right) whole r outer.0 clean.room)
+        let slots = neither (is_no_slot (slots_of code procedure) left_to) (is_no_slot (slots_of code procedure) right_to) clean.range in (
+          procedure_there left inner.0,
+          procedure_there right inner.1,
+          capsule_there procedure k outer.1,
+          slot_there procedure left_to slots.0,
+          slot_there procedure right_to slots.1,
+          size_asked room (is_procedure code left && is_procedure code right) (fork_size code left right) whole r outer.0 clean.room,
+        )
 
     pub instr_fits : (i : Instr) → IsClean (Within capsule procedure at room) (part.Instr (Some i)) → Fits code procedure whole at i
     instr_fits (Const d n) clean = tt

@@ -1,11 +1,11 @@
 -- Lines that break no rule make a code, and are its listing.
-use Rattle.std.proofs.Common.{◌≡◌, ◌∙◌, ℕ, zero, suc, ◌+◌, ◌-◌, ◌<◌, ◌≤◌, ◌==◌, Bool, true, false, not, ◌&&◌, ◌||◌, nat_lt, nat_le, List, [], ◌∷◌, ◌++◌, map, length, slice_get, IfSome, Option, Some, None, refl, sym, ap, subst, arith}
-use Rattle.std.proofs.Common.{ltb-true, ltb-false, leb-true, leb-false, eqb-true, eq-eqb, append_assoc, append-nil, length-append}
+use Rattle.std.proofs.Common.{◌≡◌, ◌∙◌, ℕ, zero, suc, ◌+◌, ◌<◌, ◌≤◌, ◌==◌, Bool, true, false, not, ◌&&◌, nat_lt, nat_le, List, [], ◌∷◌, ◌++◌}
+use Rattle.std.proofs.Common.{map, length, slice_get, IfSome, Option, Some, None, refl, sym, ap, subst, arith}
+use Rattle.std.proofs.Common.{ltb-false, leb-false, eqb-true, eq-eqb, append_assoc, append-nil, length-append}
 use Rattle.std.specs.List.{All, list_any}
-use Rattle.std.proofs.lemmas.Bool.{both_ways, not-false, not-true}
+use Rattle.std.proofs.lemmas.Bool.{both_ways, not-false}
 use Rattle.ppm_words.specs.Limits.{array_limit}
 use Rattle.ppm_code.specs.declared.act.End.{End}
-use Rattle.ppm_code.specs.declared.act.End.TheVariants.{Finish}
 use Rattle.ppm_code.specs.declared.code.Capsule.{Capsule}
 use Rattle.ppm_code.specs.declared.code.Procedure.{Procedure}
 use Rattle.ppm_code.specs.declared.code.CodeParts.{CodeParts}
@@ -17,14 +17,14 @@ use Rattle.ppm_code.specs.Sizes.{slots_of}
 use Rattle.ppm_code.specs.Strands.{instrs_in as instrs_within, instrs_of}
 use Rattle.ppm_code.specs.Code.{room_of, IsProcedure, IsCapsuleOf, Fits, IsCapsule, IsCode}
 use Rattle.ppm_listing.specs.declared.keyword.Keyword.TheVariants as keyword
-use Rattle.ppm_listing.specs.Tokens.{Line, line}
-use Rattle.ppm_listing.specs.Listing.{number, instr_line, procedure_line, procedure_lines, root_line, capsule_line, capsule_lines, lines_of_capsule, lines_of}
+use Rattle.ppm_listing.specs.Tokens.{line}
+use Rattle.ppm_listing.specs.Listing.{number, instr_line, procedure_line, procedure_lines, root_line, capsule_line, capsule_lines, lines_of}
 use Rattle.ppm_listing.proofs.TextLemmas.{cons_path}
 use Rattle.ppm_reading.specs.declared.part.Part.{Part}
 use Rattle.ppm_reading.specs.declared.part.Part.TheVariants as part
 use Rattle.ppm_reading.specs.declared.place.Place.TheVariants.{AtVersion, AtRoot, AtProcedure, Within}
 use Rattle.ppm_reading.specs.Tokens.{is_empty}
-use Rattle.ppm_reading.specs.Places.{procedures_in, instrs_in, capsules_in, code_in, room_behind, next}
+use Rattle.ppm_reading.specs.Places.{procedures_in, instrs_in, capsules_in, code_in, room_behind}
 use Rattle.ppm_reading.specs.Faults.{is_end, is_procedure, is_capsule_of}
 use Rattle.ppm_reading.proofs.FormLemmas.{part_line}
 use Rattle.ppm_reading.proofs.CleanLemmas.{neither, IsClean, AllClean, RoomIs, room_kept, instr_fits, capsule_there, procedure_there}
@@ -121,6 +121,7 @@ module _ (code : CodeParts) where
     where
       full : (length front + 1 == length is) ≡ true
       full = eq-eqb (length front + 1) (length is) (sym (ap length (same ∙ e ∙ ap (λ r. front ++ i ∷ r) none) ∙ sym (length_more front i)))
+
       go : (t u : Bool) → t ≡ true → (t && not u) ≡ false → u ≡ true
       go true true t h = refl
       go true false t h = yes h
@@ -166,6 +167,7 @@ module _ (code : CodeParts) where
           (subst (Fits code procedure whole (length front)) same (instr_fits code capsule procedure (length front) room whole is r i clean.0))
       each_of b (suc k) j h =
           subst (λ n. Fits code procedure whole n j) (omega (arith, length_more front i)) (b.each k j h)
+
       last_of : (b : Behind capsule whole (front ++ i ∷ []) procedure xs) (rest : List Instr) → instrs_from xs ≡ rest
           → (before : List Instr) × (e : End) × (i ∷ instrs_from xs ≡ before ++ (Ends e ∷ []))
       last_of b [] none =
@@ -178,7 +180,8 @@ module _ (code : CodeParts) where
       let number_is = eqb-true d (capsule + 1) clean.0.stands in
       let there = neither (nat_le capsule_limit d) (not (is_procedure code q)) clean.0.there in
       let c : Capsule = record { procedure = q; instrs = instrs_from xs } in
-      let got : slice_get code.capsules d ≡ Some c = ap (slice_get code.capsules) (number_is ∙ sym n) ∙ ap (λ l. slice_get l (length pre)) cs ∙ got_behind pre c (capsules_from xs) in
+      let got : slice_get code.capsules d ≡ Some c = ap (slice_get code.capsules) (number_is ∙ sym n) ∙ ap (λ l. slice_get l (length pre)) cs
+      ∙ got_behind pre c (capsules_from xs) in
       let own : instrs_of code d ≡ instrs_from xs = ap instrs_within got in
       let limit = leb-false capsule_limit d there.0 in
       let b = walk d q None (instrs_from xs) [] (pre ++ c ∷ []) xs clean.1 own refl (λ words h. none_some words h) (omega arith)
@@ -188,14 +191,15 @@ module _ (code : CodeParts) where
         most = omega (arith, few, ap length (e ∙ append-nil front));
         last = λ h. absurd (omega (arith, h));
         lines = (λ i. capsule_line (number_is i) (record { procedure = q; instrs = [] }) ∷ b.lines i)
-        ∙ ap (λ m. capsule_line (capsule + 1) c ∷ map instr_line (instrs_from xs) ++ capsule_lines (m + 1) (capsules_from xs)) number_is;
+            ∙ ap (λ m. capsule_line (capsule + 1) c ∷ map instr_line (instrs_from xs) ++ capsule_lines (m + 1) (capsules_from xs)) number_is;
         capsules = all_cons (IsCapsule code) c (capsules_from xs)
-        (capsule_whole d q xs (not-false (is_procedure code q) there.1) (some_instr (instrs_of code d) (instrs_from xs) own clean.0.end) b) b.capsules;
+            (capsule_whole d q xs (not-false (is_procedure code q) there.1) (some_instr (instrs_of code d) (instrs_from xs) own clean.0.end) b) b.capsules;
         count = omega (arith, b.count, number_is);
       }
     where
       none_some : (words : ℕ) → None ≡ Some words → room_of (instrs_from xs) ≡ Some words
       none_some words h = cc
+
       none_got : (k : ℕ) (i : Instr) → slice_get {X = Instr} [] k ≡ Some i → Fits code procedure whole (length front + k) i
       none_got k i h = cc
   walk capsule procedure room whole front pre (part.Version ∷ xs) clean is e r few cs n most = no clean.0.stands
@@ -261,15 +265,16 @@ module _ (code : CodeParts) where
         slots = subst (All (λ (p : Procedure). p.slots ≤ slot_limit)) (sym none) (all_none (λ (p : Procedure). p.slots ≤ slot_limit));
         entries = λ n p h. none_got n p (ap (λ l. slice_get l n) (sym none) ∙ h);
         lines = (λ i. capsule_line (number_is i) (record { procedure = q; instrs = [] }) ∷ b.lines i)
-        ∙ ap (λ m. capsule_line 0 c ∷ map instr_line (instrs_from xs) ++ capsule_lines m (capsules_from xs)) (omega (arith, number_is))
-        ∙ ap (λ ps. procedure_lines first ps ++ capsule_lines 0 (c ∷ capsules_from xs)) (sym none);
+            ∙ ap (λ m. capsule_line 0 c ∷ map instr_line (instrs_from xs) ++ capsule_lines m (capsules_from xs)) (omega (arith, number_is))
+            ∙ ap (λ ps. procedure_lines first ps ++ capsule_lines 0 (c ∷ capsules_from xs)) (sym none);
         capsules = all_cons (IsCapsule code) c (capsules_from xs)
-        (capsule_whole d q xs (not-false (is_procedure code q) there.1) (some_instr (instrs_of code d) (instrs_from xs) own clean.0.end) b) b.capsules;
+            (capsule_whole d q xs (not-false (is_procedure code q) there.1) (some_instr (instrs_of code d) (instrs_from xs) own clean.0.end) b) b.capsules;
         count = omega (arith, b.count, number_is);
       }
     where
       none_some : (words : ℕ) → None ≡ Some words → room_of (instrs_from xs) ≡ Some words
       none_some words h = cc
+
       none_got : (n : ℕ) (p : Procedure) → slice_get {X = Procedure} [] n ≡ Some p → IsCapsuleOf code (first + n) p.entry
       none_got n p h = cc
   walk_procedures first (part.Version ∷ xs) clean few cs = no clean.0.stands
@@ -302,13 +307,14 @@ from_root q xs' ys code same root clean =
       code = subst IsCode same (record {
         root = subst (IsProcedure code) (sym (ap (λ c. c.root) same)) (procedure_there code q there);
         root_slots = subst (λ c. length c.arrays ≤ slots_of c c.root) (sym same)
-        (subst (λ c. length xs' ≤ slots_of c q) same (ltb-false (slots_of code q) (length xs') (second (is_procedure code q) (nat_lt (slots_of code q) (length xs')) there range.1)));
+            (subst (λ c. length xs' ≤ slots_of c q) same (ltb-false (slots_of code q) (length xs')
+            (second (is_procedure code q) (nat_lt (slots_of code q) (length xs')) there range.1)));
         arrays = subst (All (λ a. a < array_limit)) (sym (ap (λ c. c.arrays) same)) (arrays_within xs' range.0);
         procedures_most = omega (arith, b.most, ap (λ c. length c.procedures) same);
         capsules_most = omega (arith, b.count, ap (λ c. length c.capsules) same);
         slots_most = subst (All (λ p. p.slots ≤ slot_limit)) (sym (ap (λ c. c.procedures) same)) b.slots;
         entries = λ procedure. if_got (λ p. IsCapsuleOf code procedure p.entry) (slice_get code.procedures procedure)
-        (λ p h. subst (λ m. IsCapsuleOf code m p.entry) (omega arith) (b.entries procedure p (sym (ap (λ c. slice_get c.procedures procedure) same) ∙ h)));
+            (λ p h. subst (λ m. IsCapsuleOf code m p.entry) (omega arith) (b.entries procedure p (sym (ap (λ c. slice_get c.procedures procedure) same) ∙ h)));
         capsules = subst (All (IsCapsule code)) (sym (ap (λ c. c.capsules) same)) b.capsules;
       });
       lines = ap (λ ls. line keyword.Ppm (number 1 ∷ []) ∷ root_line q xs' ∷ ls) b.lines;

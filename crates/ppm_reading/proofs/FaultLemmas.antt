@@ -1,5 +1,6 @@
 -- The lines of a text one by one, and its first fault by the first broken rule.
-use Rattle.std.proofs.Common.{◌≡◌, ◌∙◌, ◌⊎◌, inl, inr, ℕ, zero, suc, ◌+◌, ◌<◌, ◌≤◌, Bool, true, false, cond, IsTrue, is_some, List, [], ◌∷◌, ◌++◌, length, Option, Some, None, refl, sym, ap, subst, arith}
+use Rattle.std.proofs.Common.{◌≡◌, ◌∙◌, ◌⊎◌, inl, inr, ℕ, zero, suc, ◌+◌, ◌<◌, ◌≤◌, false, cond, IsTrue, is_some, List, [], ◌∷◌, ◌++◌, length}
+use Rattle.std.proofs.Common.{Option, Some, None, refl, sym, ap, subst, arith}
 use Rattle.std.proofs.Common.{append_assoc}
 use Rattle.std.proofs.lemmas.Bool.{both_ways}
 use Rattle.ppm_reading.specs.declared.listing_error.Fault.{Fault}
@@ -12,8 +13,8 @@ use Rattle.ppm_reading.specs.declared.place.Place.TheVariants.{AtVersion}
 use Rattle.ppm_reading.specs.Limits.{text_limit}
 use Rattle.ppm_reading.specs.ErrorNumbers.{fault_number, refusal_at}
 use Rattle.ppm_reading.specs.Tokens.{split}
-use Rattle.ppm_reading.specs.Forms.{unended, line_of, lines_in, lines_of}
-use Rattle.ppm_reading.specs.Places.{may_stand, standing, next, standing_from, code_in}
+use Rattle.ppm_reading.specs.Forms.{line_of, lines_in, lines_of}
+use Rattle.ppm_reading.specs.Places.{standing, next, standing_from, code_in}
 use Rattle.ppm_reading.specs.Faults.{breaks, BreaksAt, IsFirstBreak}
 use Rattle.ppm_reading.specs.Correct.{standing_of, HasFault, Breaks, TooLong, IsFirstFault, IsRefusal}
 use Rattle.ppm_reading.proofs.LineLemmas.{split_some}
@@ -42,6 +43,7 @@ first_fault_of text fault number few b = record { there = Breaks fault number b.
         → (number + 1 < n + 1) ⊎ ((number + 1 ≡ n + 1) × (fault_number fault ≤ fault_number other))
     later_still other n (inl h) = inl (omega (arith, h))
     later_still other n (inr (e, h)) = inr (omega (arith, e), h)
+
     after : (other : Fault) (later : ℕ) → HasFault text other later → (number + 1 < later) ⊎ ((number + 1 ≡ later) × (fault_number fault ≤ fault_number other))
     after other _ (Breaks _ n h) = later_still other n (b.first other n h)
     after _ _ (TooLong long) = absurd (omega (arith, few, long))
@@ -64,7 +66,11 @@ least_number NotThere = omega arith
 
 -- a text whose first line does not stand
 pub first_none : (text : List ℕ) (tail : List (Option Part)) → standing_of text ≡ None ∷ tail → IsFirstFault text NoSuchForm 1
-first_none text tail e = record { there = Breaks NoSuchForm 0 (subst (λ ls. BreaksAt (code_in (standing_of text)) NoSuchForm AtVersion ls 0) (sym e) refl); first = after }
+first_none text tail e = record {
+  there = Breaks NoSuchForm 0 (subst (λ ls. BreaksAt (code_in (standing_of text)) NoSuchForm AtVersion ls 0) (sym e)
+      refl);
+  first = after;
+}
   where
     after : (other : Fault) (later : ℕ) → HasFault text other later → (1 < later) ⊎ ((1 ≡ later) × (1 ≤ fault_number other))
     after other _ (Breaks _ zero h) = inr (omega arith, least_number other)
@@ -82,6 +88,7 @@ long_none text tail long e = record { there = TooLong long; first = after }
     none NoEnd h = both_ways false refl h
     none WrongRoom h = both_ways false refl h
     none NotThere h = both_ways false refl h
+
     after : (other : Fault) (later : ℕ) → HasFault text other later → (1 < later) ⊎ ((1 ≡ later) × (6 ≤ fault_number other))
     after other _ (Breaks _ zero h) = absurd (none other (subst (λ ls. BreaksAt (code_in (standing_of text)) other AtVersion ls 0) e h))
     after other _ (Breaks _ (suc n) h) = inl (omega arith)

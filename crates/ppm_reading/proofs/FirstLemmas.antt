@@ -1,5 +1,6 @@
 -- The first broken rule of lines.
-use Rattle.std.proofs.Common.{◌≡◌, ◌∙◌, ◌⊎◌, inl, inr, ℕ, zero, suc, ◌+◌, ◌-◌, ◌<◌, ◌≤◌, Bool, true, false, IsTrue, List, [], ◌∷◌, length, get_or, take, drop, take_all, le_refl, Option, Some, None, refl, sym, ap, subst, arith}
+use Rattle.std.proofs.Common.{◌≡◌, ◌∙◌, ◌⊎◌, inl, inr, ℕ, zero, suc, ◌+◌, ◌-◌, ◌<◌, ◌≤◌, true, false, IsTrue, List, [], ◌∷◌, length, get_or}
+use Rattle.std.proofs.Common.{take, drop, take_all, le_refl, Option, Some, None, refl, sym, ap, subst, arith}
 use Rattle.std.proofs.lemmas.Bool.{both_ways}
 use Rattle.ppm_code.specs.declared.code.CodeParts.{CodeParts}
 use Rattle.ppm_reading.specs.declared.listing_error.Fault.{Fault}
@@ -137,5 +138,6 @@ module _ (code : CodeParts) where
   pub ends_well : (place here : Place) (ls left : List (Option Part)) (number : ℕ) → length left < 1 → IsPassed place ls here left number
       → ends_early NotThere here ≡ false → KeepsRules code place ls
   ends_well place here ls [] number some passed early =
-      ends_within place here ls number passed (λ fault h. both_ways (ends_early NotThere here) early (subst (λ f. IsTrue (ends_early f here)) (only_not_there here fault h) h))
+      ends_within place here ls number passed (λ fault h. both_ways (ends_early NotThere here) early
+      (subst (λ f. IsTrue (ends_early f here)) (only_not_there here fault h) h))
   ends_well place here ls (l ∷ left) number some passed early = absurd (omega (arith, some))

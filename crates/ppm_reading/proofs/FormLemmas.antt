@@ -1,29 +1,31 @@
 -- Lines and their forms: what is read of a line tells its text.
-use Rattle.std.proofs.Common.{◌≡◌, ◌∙◌, ℕ, zero, suc, ◌+◌, ◌-◌, ◌^◌, ◌<◌, ◌≤◌, ◌==◌, min, Bool, true, false, not, ◌&&◌, cond, nat_lt, nat_le, List, [], ◌∷◌, ◌++◌, map, length, get_or, drop, decimal, is_some, IfSome, Option, Some, None, refl, sym, ap, subst, arith}
-use Rattle.std.proofs.Common.{ltb-true, leb-true, eqb-true, get_or-drop, drop-drop, FitsSigned, w64}
+use Rattle.std.proofs.Common.{◌≡◌, ◌∙◌, ℕ, zero, suc, ◌+◌, ◌-◌, ◌^◌, ◌<◌, ◌==◌, min, Bool, true, false, not, ◌&&◌, cond, nat_lt, nat_le, List}
+use Rattle.std.proofs.Common.{[], ◌∷◌, get_or, drop, decimal, is_some, Option, Some, None, refl, sym, ap, subst, arith}
+use Rattle.std.proofs.Common.{ltb-true, leb-true, eqb-true, get_or-drop, drop-drop}
 use Rattle.std.specs.Prelude.{ℤ, pos, negsuc}
-use Rattle.std.specs.List.{flat_map, list_all, AllByRecursion}
+use Rattle.std.specs.List.{list_all, AllByRecursion}
 use Rattle.std.proofs.lemmas.Bool.{both_ways}
 use Rattle.ppm_words.specs.declared.trap.Trap.{Trap}
 use Rattle.ppm_words.specs.declared.trap.Trap.TheVariants.{Overflow, DivZero, Index, Split}
 use Rattle.ppm_code.specs.declared.register.Register.{Register as TheRegister}
-use Rattle.ppm_code.specs.declared.act.End.TheVariants.{Next, Finish, Trap as Trapping, Call, Fork}
+use Rattle.ppm_code.specs.declared.act.End.TheVariants.{Trap as Trapping, Fork}
 use Rattle.ppm_code.specs.declared.instr.Instr.{Instr}
 use Rattle.ppm_code.specs.declared.instr.Instr.TheVariants.{Const, Ends}
 use Rattle.ppm_listing.specs.declared.keyword.Keyword.{Keyword}
 use Rattle.ppm_listing.specs.declared.keyword.Keyword.TheVariants as keyword
 use Rattle.ppm_listing.specs.declared.token.Token.{Token as Written}
 use Rattle.ppm_listing.specs.declared.token.Token.TheVariants as written
-use Rattle.ppm_listing.specs.Tokens.{Line, line, keyword_text, token_text, operand_text, line_text}
+use Rattle.ppm_listing.specs.Tokens.{Line, line, token_text}
 use Rattle.ppm_listing.specs.Listing.{number, slot_token, trap_number, instr_line, root_line, procedure_line, capsule_line}
-use Rattle.ppm_listing.specs.Correct.{Fits, LineFits}
+use Rattle.ppm_listing.specs.Correct.{Fits}
 use Rattle.ppm_reading.specs.declared.token.Token.{Token}
 use Rattle.ppm_reading.specs.declared.token.Token.TheVariants.{Name, Register, Number, Negative, Absent, Other}
 use Rattle.ppm_reading.specs.declared.form.Sort.{Sort}
 use Rattle.ppm_reading.specs.declared.form.Sort.TheVariants as sort
 use Rattle.ppm_reading.specs.declared.part.Part.{Part}
 use Rattle.ppm_reading.specs.declared.part.Part.TheVariants as part
-use Rattle.ppm_reading.specs.Forms.{is_of, are_of, sorts, token_at, is_absent, has_form, number_of, number_at, slot_of, register_with, register_of, register_at, constant_of, trap_of, is_register}
+use Rattle.ppm_reading.specs.Forms.{is_of, are_of, sorts, token_at, is_absent, has_form, number_of, number_at, slot_of, register_with}
+use Rattle.ppm_reading.specs.Forms.{register_of, register_at, constant_of, trap_of, is_register}
 use Rattle.ppm_reading.specs.Forms.{constant, trapping, instr_of, part_of}
 use Rattle.ppm_reading.proofs.NumberLemmas.{both_parts}
 use Rattle.ppm_reading.proofs.WordLemmas.{word_of, IsWhole}
@@ -254,13 +256,16 @@ trap_number-trap_of n trap h = by_one (n == 1) refl h
     by_four : (t : Bool) → (n == 4) ≡ t → cond t (Some Split) None ≡ Some trap → trap_number trap ≡ n
     by_four true e h = let is : Split ≡ trap = cc in ap trap_number (sym is) ∙ sym (eqb-true n 4 e)
     by_four false e h = cc
+
     by_three : (t : Bool) → (n == 3) ≡ t → cond t (Some Index) (cond (n == 4) (Some Split) None) ≡ Some trap → trap_number trap ≡ n
     by_three true e h = let is : Index ≡ trap = cc in ap trap_number (sym is) ∙ sym (eqb-true n 3 e)
     by_three false e h = by_four (n == 4) refl h
+
     by_two : (t : Bool) → (n == 2) ≡ t → cond t (Some DivZero) (cond (n == 3) (Some Index) (cond (n == 4) (Some Split) None)) ≡ Some trap
         → trap_number trap ≡ n
     by_two true e h = let is : DivZero ≡ trap = cc in ap trap_number (sym is) ∙ sym (eqb-true n 2 e)
     by_two false e h = by_three (n == 3) refl h
+
     by_one : (t : Bool) → (n == 1) ≡ t
         → cond t (Some Overflow) (cond (n == 2) (Some DivZero) (cond (n == 3) (Some Index) (cond (n == 4) (Some Split) None))) ≡ Some trap
         → trap_number trap ≡ n

@@ -29,10 +29,12 @@ same_fault rule other e = sym (back rule) ∙ ap fault_numbered e ∙ back other
     back WrongRoom = refl
     back NotThere = refl
 
-pub one_fault : (text : List ℕ) (rule other : Fault) (line later : ℕ) → IsFirstFault text rule line → IsFirstFault text other later → (rule ≡ other) × (line ≡ later)
+pub one_fault : (text : List ℕ) (rule other : Fault) (line later : ℕ) → IsFirstFault text rule line → IsFirstFault text other later
+    → (rule ≡ other) × (line ≡ later)
 one_fault text rule other line later f g = go (f.first other later g.there) (g.first rule line f.there)
   where
-    go : (line < later) ⊎ ((line ≡ later) × (fault_number rule ≤ fault_number other)) → (later < line) ⊎ ((later ≡ line) × (fault_number other ≤ fault_number rule))
+    go : (line < later) ⊎ ((line ≡ later) × (fault_number rule ≤ fault_number other))
+        → (later < line) ⊎ ((later ≡ line) × (fault_number other ≤ fault_number rule))
         → (rule ≡ other) × (line ≡ later)
     go (inl h) (inl k) = absurd (omega (arith, h, k))
     go (inl h) (inr k) = absurd (omega (arith, h, k.0))

@@ -1,20 +1,18 @@
 -- Texts and their lines: what is read of a text's lines tells the text.
-use Rattle.std.proofs.Common.{◌≡◌, ◌∙◌, ℕ, zero, suc, ◌+◌, ◌<◌, ◌≤◌, ◌==◌, Bool, true, false, not, ◌&&◌, cond, List, [], ◌∷◌, ◌++◌, map, length, Option, Some, None, refl, sym, ap, subst, arith}
+use Rattle.std.proofs.Common.{◌≡◌, ◌∙◌, ℕ, ◌<◌, ◌==◌, Bool, true, false, cond, List, [], ◌∷◌, ◌++◌, map, length, Option, Some, None, refl, sym}
+use Rattle.std.proofs.Common.{ap, subst, arith}
 use Rattle.std.proofs.Common.{append_assoc, append-nil, eqb-true, drop}
-use Rattle.std.specs.List.{flat_map, list_all, AllByRecursion}
-use Rattle.std.proofs.lemmas.Bool.{both_ways}
+use Rattle.std.specs.List.{flat_map, AllByRecursion}
 use Rattle.ppm_listing.specs.declared.keyword.Keyword.{Keyword}
-use Rattle.ppm_listing.specs.declared.keyword.Keyword.TheVariants as keyword
 use Rattle.ppm_listing.specs.declared.token.Token.{Token as Written}
-use Rattle.ppm_listing.specs.Tokens.{Line, line, keyword_text, token_text, operand_text, line_text}
+use Rattle.ppm_listing.specs.Tokens.{line, keyword_text, operand_text, line_text}
 use Rattle.ppm_listing.specs.Listing.{text_of}
 use Rattle.ppm_listing.specs.Correct.{Fits, LineFits}
-use Rattle.ppm_listing.proofs.TextLemmas.{cons_path}
 use Rattle.ppm_reading.specs.declared.token.Token.{Token}
 use Rattle.ppm_reading.specs.declared.token.Token.TheVariants.{Name}
 use Rattle.ppm_reading.specs.declared.part.Part.{Part}
 use Rattle.ppm_reading.specs.Tokens.{in_front, split, token_of, tokens_of}
-use Rattle.ppm_reading.specs.Forms.{unended, line_of, lines_in, lines_of}
+use Rattle.ppm_reading.specs.Forms.{unended, line_of, lines_in}
 use Rattle.ppm_reading.proofs.WordLemmas.{word_of, IsWhole, word_of-token_of}
 use Rattle.ppm_reading.proofs.FormLemmas.{AreTokens, None_left, One_more, part_line}
 
@@ -65,8 +63,10 @@ joined-words (w ∷ []) t ts e h g = alone ts (ap (drop 1) e) (first e) h
     first_of : List Token → Token → Token
     first_of [] d = d
     first_of (x ∷ xs) d = x
+
     first : token_of w ∷ [] ≡ t ∷ ts → token_of w ≡ t
     first e = ap (λ l. first_of l t) e
+
     alone : (ts : List Token) → [] ≡ ts → token_of w ≡ t → IsWhole t → w ≡ word_of t ++ flat_map behind_space ts
     alone [] e is h = word_of-token_of w (subst IsWhole (sym is) h) ∙ ap word_of is ∙ sym (append-nil (word_of t))
     alone (u ∷ us) e is h = absurd (omega (arith, ap length e))
@@ -78,6 +78,7 @@ joined-words (w ∷ v ∷ ws) t (u ∷ us) e h g =
     first_of : List Token → Token → Token
     first_of [] d = d
     first_of (x ∷ xs) d = x
+
     first : token_of w ∷ map token_of (v ∷ ws) ≡ t ∷ u ∷ us → token_of w ≡ t
     first e = ap (λ l. first_of l t) e
 
@@ -120,13 +121,17 @@ text_written IsGood (p ∷ []) xs h e f g = last p xs e
         first_of : List (Option Part) → Option Part
         first_of [] = None
         first_of (l ∷ ls) = l
+
         none_is_some : None ≡ Some x → ⊥
         none_is_some h = cc
 text_written IsGood (p ∷ q ∷ pieces) [] h e f g = absurd (omega (arith, ap length e))
 text_written IsGood (p ∷ q ∷ pieces) (x ∷ xs) h e f g =
     let told = f p x (ap first_of e) g.0 in
-    let (text, fits) = text_written IsGood (q ∷ pieces) xs (omega arith) (ap (drop 1) e) f g.1 in
-    (ap (λ l. p ++ 10 ∷ l) text ∙ sym (append_assoc p (10 ∷ []) (text_of (map part_line xs))) ∙ ap (λ l. l ++ text_of (map part_line xs)) told.text, (told.fits, fits))
+    let (text, fits) = text_written IsGood (q ∷ pieces) xs (omega arith) (ap (drop 1) e) f g.1 in (
+      ap (λ l. p ++ 10 ∷ l) text ∙ sym (append_assoc p (10 ∷ []) (text_of (map part_line xs)))
+          ∙ ap (λ l. l ++ text_of (map part_line xs)) told.text,
+      (told.fits, fits),
+    )
   where
     first_of : List (Option Part) → Option Part
     first_of [] = None

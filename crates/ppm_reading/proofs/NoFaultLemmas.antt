@@ -1,7 +1,6 @@
 -- How long the listing of a code may be, and that it has no fault.
-use Rattle.std.proofs.Common.{◌≡◌, ◌∙◌, ℕ, zero, suc, ◌+◌, ◌-◌, ◌*◌, ◌^◌, ◌<◌, ◌≤◌, List, [], ◌∷◌, ◌++◌, map, length, decimal, Option, Some, None, FitsSigned, w64, refl, sym, ap, subst, arith}
+use Rattle.std.proofs.Common.{◌≡◌, ◌∙◌, ℕ, suc, ◌+◌, ◌*◌, ◌^◌, ◌<◌, ◌≤◌, List, [], ◌∷◌, ◌++◌, map, length, Some, None, refl, sym, ap, subst, arith}
 use Rattle.std.proofs.Common.{length-append}
-use Rattle.std.specs.Prelude.{pos}
 use Rattle.std.specs.List.{flat_map, All, AllByRecursion}
 use Rattle.std.proofs.lemmas.Fmt.{length-decimal-le, length_signed_le}
 use Rattle.ppm_code.specs.declared.register.Register.{Register as TheRegister}
@@ -12,14 +11,13 @@ use Rattle.ppm_code.specs.declared.code.CodeParts.{CodeParts}
 use Rattle.ppm_code.specs.declared.instr.Instr.{Instr}
 use Rattle.ppm_code.specs.declared.instr.Instr.TheVariants.{Const, Move, Add, Sub, Mul, Div, Rem, Equal, NotEqual, Less, AtMost, Len, CutLeft, CutRight}
 use Rattle.ppm_code.specs.declared.instr.Instr.TheVariants.{LoadSlot, StoreCur, Give, Get, Put, BranchZero, BranchNonZero, Room, StoreNew, Ends}
-use Rattle.ppm_code.specs.Limits.{procedure_limit, capsule_limit, instr_limit, slot_limit}
 use Rattle.ppm_code.specs.Code.{IsCapsule, IsCode}
 use Rattle.ppm_listing.specs.declared.keyword.Keyword.{Keyword}
 use Rattle.ppm_listing.specs.declared.keyword.Keyword.TheVariants as keyword
 use Rattle.ppm_listing.specs.declared.token.Token.{Token as Written}
 use Rattle.ppm_listing.specs.declared.token.Token.TheVariants as written
-use Rattle.ppm_listing.specs.Tokens.{Line, line, keyword_text, token_text, operand_text, line_text}
-use Rattle.ppm_listing.specs.Listing.{number, trap_number, instr_line, text_of, lines_of, listing_of}
+use Rattle.ppm_listing.specs.Tokens.{line, keyword_text, token_text, operand_text, line_text}
+use Rattle.ppm_listing.specs.Listing.{number, trap_number, instr_line, text_of, listing_of}
 use Rattle.ppm_listing.specs.Correct.{LineFits, NumbersFit}
 use Rattle.ppm_reading.specs.declared.listing_error.Fault.{Fault}
 use Rattle.ppm_reading.specs.declared.part.Part.{Part}
@@ -33,7 +31,8 @@ use Rattle.ppm_reading.specs.Correct.{standing_of, HasFault, Breaks, TooLong, Is
 use Rattle.ppm_reading.proofs.FormLemmas.{IsBelow, IsLineBelow, IsSmallLine, small_limit, part_line}
 use Rattle.ppm_reading.proofs.SmallLemmas.{slots_bound, lines_small}
 use Rattle.ppm_reading.proofs.WrittenLemmas.{lines_of-text}
-use Rattle.ppm_reading.proofs.PartsLemmas.{procedure_parts, instr_parts, capsule_parts, parts_of, parts_lines, parts_whole, parts_declare, parts_clean, clean_stands, clean_keeps}
+use Rattle.ppm_reading.proofs.PartsLemmas.{procedure_parts, instr_parts, capsule_parts, parts_of, parts_lines, parts_whole, parts_declare}
+use Rattle.ppm_reading.proofs.PartsLemmas.{parts_clean, clean_stands, clean_keeps}
 
 -- numbers of seven digits
 abbrev short_limit : ℕ
@@ -95,39 +94,70 @@ operands_short (w ∷ ws) h = omega (arith, h.0, operands_short ws h.1, length-a
 
 line_short : (k : Keyword) (ws : List Written) (n : ℕ) → AllByRecursion IsShort ws → length ws ≤ n → length (line_text (line k ws)) ≤ 9 + 8 * n
 line_short k ws n h few =
-    omega (arith, keyword_short k, operands_short ws h, few, length-append (keyword_text k) (flat_map operand_text ws),
-    length-append (keyword_text k ++ flat_map operand_text ws) (10 ∷ []))
+    omega (
+      arith,
+      keyword_short k,
+      operands_short ws h,
+      few,
+      length-append (keyword_text k) (flat_map operand_text ws),
+      length-append (keyword_text k ++ flat_map operand_text ws) (10 ∷ []),
+    )
 
 constant_short : (r : TheRegister) (w : Written) → length (token_text w) ≤ 20 → length (line_text (line keyword.Const (written.Register r ∷ w ∷ []))) ≤ 49
 constant_short r w h =
-    omega (arith, h, register_short r, keyword_short keyword.Const, length-append (keyword_text keyword.Const) (flat_map operand_text (written.Register r ∷ w ∷ [])),
-    length-append (keyword_text keyword.Const ++ flat_map operand_text (written.Register r ∷ w ∷ [])) (10 ∷ []),
-    length-append (operand_text (written.Register r)) (flat_map operand_text (w ∷ [])), length-append (operand_text w) [])
+    omega (
+      arith,
+      h,
+      register_short r,
+      keyword_short keyword.Const,
+      length-append (keyword_text keyword.Const) (flat_map operand_text (written.Register r ∷ w ∷ [])),
+      length-append (keyword_text keyword.Const ++ flat_map operand_text (written.Register r ∷ w ∷ [])) (10 ∷ []),
+      length-append (operand_text (written.Register r)) (flat_map operand_text (w ∷ [])),
+      length-append (operand_text w) [],
+    )
 
 instr_short : (i : Instr) → LineFits (instr_line i) → IsLineBelow short_limit (instr_line i) → length (line_text (instr_line i)) ≤ 49
 instr_short (Const d z) fits small = constant_short d (written.Number z) (length_signed_le 19 z (omega (arith, fits.1.0.sfits)) (fits.1.0.sfits))
 instr_short (Move d a) fits small = line_short keyword.Move (instr_line (Move d a)).operands 5 (register_short d, (register_short a, tt)) (omega arith)
-instr_short (Add d a b l) fits small = line_short keyword.Add (instr_line (Add d a b l)).operands 5 (register_short d, (register_short a, (register_short b, (number_short l (small.1.1.1.0), tt)))) (omega arith)
-instr_short (Sub d a b l) fits small = line_short keyword.Sub (instr_line (Sub d a b l)).operands 5 (register_short d, (register_short a, (register_short b, (number_short l (small.1.1.1.0), tt)))) (omega arith)
-instr_short (Mul d a b l) fits small = line_short keyword.Mul (instr_line (Mul d a b l)).operands 5 (register_short d, (register_short a, (register_short b, (number_short l (small.1.1.1.0), tt)))) (omega arith)
-instr_short (Div d a b l) fits small = line_short keyword.Div (instr_line (Div d a b l)).operands 5 (register_short d, (register_short a, (register_short b, (number_short l (small.1.1.1.0), tt)))) (omega arith)
-instr_short (Rem d a b l) fits small = line_short keyword.Rem (instr_line (Rem d a b l)).operands 5 (register_short d, (register_short a, (register_short b, (number_short l (small.1.1.1.0), tt)))) (omega arith)
-instr_short (Equal d a b) fits small = line_short keyword.Equal (instr_line (Equal d a b)).operands 5 (register_short d, (register_short a, (register_short b, tt))) (omega arith)
-instr_short (NotEqual d a b) fits small = line_short keyword.NotEqual (instr_line (NotEqual d a b)).operands 5 (register_short d, (register_short a, (register_short b, tt))) (omega arith)
-instr_short (Less d a b) fits small = line_short keyword.Less (instr_line (Less d a b)).operands 5 (register_short d, (register_short a, (register_short b, tt))) (omega arith)
-instr_short (AtMost d a b) fits small = line_short keyword.AtMost (instr_line (AtMost d a b)).operands 5 (register_short d, (register_short a, (register_short b, tt))) (omega arith)
+instr_short (Add d a b l) fits small = line_short keyword.Add (instr_line (Add d a b l)).operands 5
+    (register_short d, (register_short a, (register_short b, (number_short l (small.1.1.1.0), tt)))) (omega arith)
+instr_short (Sub d a b l) fits small = line_short keyword.Sub (instr_line (Sub d a b l)).operands 5
+    (register_short d, (register_short a, (register_short b, (number_short l (small.1.1.1.0), tt)))) (omega arith)
+instr_short (Mul d a b l) fits small = line_short keyword.Mul (instr_line (Mul d a b l)).operands 5
+    (register_short d, (register_short a, (register_short b, (number_short l (small.1.1.1.0), tt)))) (omega arith)
+instr_short (Div d a b l) fits small = line_short keyword.Div (instr_line (Div d a b l)).operands 5
+    (register_short d, (register_short a, (register_short b, (number_short l (small.1.1.1.0), tt)))) (omega arith)
+instr_short (Rem d a b l) fits small = line_short keyword.Rem (instr_line (Rem d a b l)).operands 5
+    (register_short d, (register_short a, (register_short b, (number_short l (small.1.1.1.0), tt)))) (omega arith)
+instr_short (Equal d a b) fits small = line_short keyword.Equal (instr_line (Equal d a b)).operands 5
+    (register_short d, (register_short a, (register_short b, tt))) (omega arith)
+instr_short (NotEqual d a b) fits small = line_short keyword.NotEqual (instr_line (NotEqual d a b)).operands 5
+    (register_short d, (register_short a, (register_short b, tt))) (omega arith)
+instr_short (Less d a b) fits small = line_short keyword.Less (instr_line (Less d a b)).operands 5
+    (register_short d, (register_short a, (register_short b, tt))) (omega arith)
+instr_short (AtMost d a b) fits small = line_short keyword.AtMost (instr_line (AtMost d a b)).operands 5
+    (register_short d, (register_short a, (register_short b, tt))) (omega arith)
 instr_short (Len d a) fits small = line_short keyword.Len (instr_line (Len d a)).operands 5 (register_short d, (register_short a, tt)) (omega arith)
-instr_short (CutLeft d a b l) fits small = line_short keyword.CutLeft (instr_line (CutLeft d a b l)).operands 5 (register_short d, (register_short a, (register_short b, (number_short l (small.1.1.1.0), tt)))) (omega arith)
-instr_short (CutRight d a b l) fits small = line_short keyword.CutRight (instr_line (CutRight d a b l)).operands 5 (register_short d, (register_short a, (register_short b, (number_short l (small.1.1.1.0), tt)))) (omega arith)
-instr_short (LoadSlot d s) fits small = line_short keyword.LoadSlot (instr_line (LoadSlot d s)).operands 5 (register_short d, (number_short s (small.1.0), tt)) (omega arith)
-instr_short (StoreCur s a) fits small = line_short keyword.StoreCur (instr_line (StoreCur s a)).operands 5 (number_short s (small.0), (register_short a, tt)) (omega arith)
+instr_short (CutLeft d a b l) fits small = line_short keyword.CutLeft (instr_line (CutLeft d a b l)).operands 5
+    (register_short d, (register_short a, (register_short b, (number_short l (small.1.1.1.0), tt)))) (omega arith)
+instr_short (CutRight d a b l) fits small = line_short keyword.CutRight (instr_line (CutRight d a b l)).operands 5
+    (register_short d, (register_short a, (register_short b, (number_short l (small.1.1.1.0), tt)))) (omega arith)
+instr_short (LoadSlot d s) fits small = line_short keyword.LoadSlot (instr_line (LoadSlot d s)).operands 5
+    (register_short d, (number_short s (small.1.0), tt)) (omega arith)
+instr_short (StoreCur s a) fits small = line_short keyword.StoreCur (instr_line (StoreCur s a)).operands 5
+    (number_short s (small.0), (register_short a, tt)) (omega arith)
 instr_short (Give a) fits small = line_short keyword.Give (instr_line (Give a)).operands 5 (register_short a, tt) (omega arith)
-instr_short (Get d a b l) fits small = line_short keyword.Get (instr_line (Get d a b l)).operands 5 (register_short d, (register_short a, (register_short b, (number_short l (small.1.1.1.0), tt)))) (omega arith)
-instr_short (Put a b s l) fits small = line_short keyword.Put (instr_line (Put a b s l)).operands 5 (register_short a, (register_short b, (register_short s, (number_short l (small.1.1.1.0), tt)))) (omega arith)
-instr_short (BranchZero a t) fits small = line_short keyword.BranchZero (instr_line (BranchZero a t)).operands 5 (register_short a, (number_short t (small.1.0), tt)) (omega arith)
-instr_short (BranchNonZero a t) fits small = line_short keyword.BranchNonZero (instr_line (BranchNonZero a t)).operands 5 (register_short a, (number_short t (small.1.0), tt)) (omega arith)
+instr_short (Get d a b l) fits small = line_short keyword.Get (instr_line (Get d a b l)).operands 5
+    (register_short d, (register_short a, (register_short b, (number_short l (small.1.1.1.0), tt)))) (omega arith)
+instr_short (Put a b s l) fits small = line_short keyword.Put (instr_line (Put a b s l)).operands 5
+    (register_short a, (register_short b, (register_short s, (number_short l (small.1.1.1.0), tt)))) (omega arith)
+instr_short (BranchZero a t) fits small = line_short keyword.BranchZero (instr_line (BranchZero a t)).operands 5
+    (register_short a, (number_short t (small.1.0), tt)) (omega arith)
+instr_short (BranchNonZero a t) fits small = line_short keyword.BranchNonZero (instr_line (BranchNonZero a t)).operands 5
+    (register_short a, (number_short t (small.1.0), tt)) (omega arith)
 instr_short (Room n) fits small = line_short keyword.Room (instr_line (Room n)).operands 5 (number_short n (small.0), tt) (omega arith)
-instr_short (StoreNew o a) fits small = line_short keyword.StoreNew (instr_line (StoreNew o a)).operands 5 (number_short o (small.0), (register_short a, tt)) (omega arith)
+instr_short (StoreNew o a) fits small = line_short keyword.StoreNew (instr_line (StoreNew o a)).operands 5
+    (number_short o (small.0), (register_short a, tt)) (omega arith)
 instr_short (Ends (Next k)) fits small =
     line_short keyword.Next (instr_line (Ends (Next k))).operands 5 (number_short k (small.0), tt) (omega arith)
 instr_short (Ends Finish) fits small = line_short keyword.End [] 5 tt (omega arith)
@@ -136,15 +166,39 @@ instr_short (Ends (Trap x l)) fits small =
 instr_short (Ends (Call q k None)) fits small =
     line_short keyword.Call (instr_line (Ends (Call q k None))).operands 5 (number_short q (small.0), (number_short k (small.1.0), tt)) (omega arith)
 instr_short (Ends (Call q k (Some t))) fits small =
-    line_short keyword.CallTo (instr_line (Ends (Call q k (Some t)))).operands 5 (number_short q (small.0), (number_short k (small.1.0), (number_short t (small.1.1.0), tt))) (omega arith)
+    line_short keyword.CallTo (instr_line (Ends (Call q k (Some t)))).operands 5 (
+      number_short q (small.0),
+      (number_short k (small.1.0), (number_short t (small.1.1.0), tt)),
+    ) (omega arith)
 instr_short (Ends (Fork q p k None None)) fits small =
-    line_short keyword.Fork (instr_line (Ends (Fork q p k None None))).operands 5 (number_short q (small.0), (number_short p (small.1.0), (number_short k (small.1.1.0), tt))) (omega arith)
+    line_short keyword.Fork (instr_line (Ends (Fork q p k None None))).operands 5
+    (number_short q (small.0), (number_short p (small.1.0), (number_short k (small.1.1.0), tt))) (omega arith)
 instr_short (Ends (Fork q p k None (Some u))) fits small =
-    line_short keyword.ForkTo (instr_line (Ends (Fork q p k None (Some u)))).operands 5 (number_short q (small.0), (number_short p (small.1.0), (number_short k (small.1.1.0), (refl_short, (number_short u (small.1.1.1.1.0), tt))))) (omega arith)
+    line_short keyword.ForkTo (instr_line (Ends (Fork q p k None (Some u)))).operands 5 (
+      number_short q (small.0),
+      (
+        number_short p (small.1.0),
+        (
+          number_short k (small.1.1.0),
+          (refl_short, (number_short u (small.1.1.1.1.0), tt)),
+        ),
+      ),
+    ) (omega arith)
 instr_short (Ends (Fork q p k (Some t) None)) fits small =
-    line_short keyword.ForkTo (instr_line (Ends (Fork q p k (Some t) None))).operands 5 (number_short q (small.0), (number_short p (small.1.0), (number_short k (small.1.1.0), (number_short t (small.1.1.1.0), (refl_short, tt))))) (omega arith)
+    line_short keyword.ForkTo (instr_line (Ends (Fork q p k (Some t) None))).operands 5
+    (number_short q (small.0), (number_short p (small.1.0), (number_short k (small.1.1.0), (number_short t (small.1.1.1.0), (refl_short, tt)))))
+    (omega arith)
 instr_short (Ends (Fork q p k (Some t) (Some u))) fits small =
-    line_short keyword.ForkTo (instr_line (Ends (Fork q p k (Some t) (Some u)))).operands 5 (number_short q (small.0), (number_short p (small.1.0), (number_short k (small.1.1.0), (number_short t (small.1.1.1.0), (number_short u (small.1.1.1.1.0), tt))))) (omega arith)
+    line_short keyword.ForkTo (instr_line (Ends (Fork q p k (Some t) (Some u)))).operands 5 (
+      number_short q (small.0),
+      (
+        number_short p (small.1.0),
+        (
+          number_short k (small.1.1.0),
+          (number_short t (small.1.1.1.0), (number_short u (small.1.1.1.1.0), tt)),
+        ),
+      ),
+    ) (omega arith)
 
 -- a part that is not the root's
 abbrev IsOther : Part → Type 0
@@ -163,7 +217,8 @@ part_short (part.Capsule c p) o fits small =
 part_short (part.Instr None) o fits small = absurd o
 part_short (part.Instr (Some i)) o fits small = instr_short i fits small
 
-text_short : (xs : List Part) → AllByRecursion IsOther xs → AllByRecursion LineFits (map part_line xs) → AllByRecursion (IsLineBelow short_limit) (map part_line xs)
+text_short : (xs : List Part) → AllByRecursion IsOther xs → AllByRecursion LineFits (map part_line xs)
+    → AllByRecursion (IsLineBelow short_limit) (map part_line xs)
     → length (text_of (map part_line xs)) ≤ 49 * length xs
 text_short [] o f s = omega arith
 text_short (x ∷ xs) o f s =
@@ -221,9 +276,18 @@ listing_short c is fits =
     let count = count_procedures 0 c.procedures (capsule_parts 0 c.capsules) in
     let capsules = count_capsules c 0 c.capsules (by_all (IsCapsule c) c.capsules is.capsules) in
     let long : length (text_of (map part_line (parts_of c))) ≤ text_limit =
-        omega (arith, first, root, body, count, capsules, is.procedures_most, is.capsules_most,
-        length-append (line_text (part_line part.Version)) (text_of (map part_line (part.Root c.root c.arrays ∷ rest))),
-        length-append (line_text (part_line (part.Root c.root c.arrays))) (text_of (map part_line rest))) in
+    omega (
+      arith,
+      first,
+      root,
+      body,
+      count,
+      capsules,
+      is.procedures_most,
+      is.capsules_most,
+      length-append (line_text (part_line part.Version)) (text_of (map part_line (part.Root c.root c.arrays ∷ rest))),
+      length-append (line_text (part_line (part.Root c.root c.arrays))) (text_of (map part_line rest)),
+    ) in
     subst (λ ls. length (text_of ls) ≤ text_limit) (parts_lines c) long
 
 -- a listing has no fault
@@ -237,7 +301,8 @@ excludes text c rule line is fault =
     let stands : standing_of text ≡ map Some (parts_of c) = ap (standing_from AtVersion) read ∙ clean_stands c AtVersion (parts_of c) clean in
     let code : code_in (standing_of text) ≡ c = ap code_in stands ∙ parts_declare c in
     let kept : KeepsRules (code_in (standing_of text)) AtVersion (standing_of text) =
-        subst (λ d. KeepsRules d AtVersion (standing_of text)) (sym code) (subst (KeepsRules c AtVersion) (sym stands) (clean_keeps c AtVersion (parts_of c) clean)) in
+    subst (λ d. KeepsRules d AtVersion (standing_of text)) (sym code) (subst (KeepsRules c AtVersion) (sym stands)
+    (clean_keeps c AtVersion (parts_of c) clean)) in
     none kept rule line fault
   where
     none : (kept : KeepsRules (code_in (standing_of text)) AtVersion (standing_of text)) (rule : Fault) (line : ℕ) → HasFault text rule line → ⊥

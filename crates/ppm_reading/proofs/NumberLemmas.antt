@@ -1,11 +1,12 @@
 -- Numbers in decimal, each with its one spelling.
-use Rattle.std.proofs.Common.{◌≡◌, ◌∙◌, ◌⊎◌, inl, inr, ℕ, zero, suc, ◌+◌, ◌-◌, ◌*◌, ◌^◌, ◌<◌, ◌≤◌, ◌==◌, min, Bool, true, false, not, ◌&&◌, cond, nat_lt, nat_le, List, [], ◌∷◌, length, get_or, take, drop, take_all, le_refl, decimal, refl, sym, ap, arith}
+use Rattle.std.proofs.Common.{◌≡◌, ◌∙◌, ◌⊎◌, inl, inr, ℕ, zero, suc, ◌+◌, ◌-◌, ◌*◌, ◌^◌, ◌<◌, ◌≤◌, ◌==◌, min, Bool, true, false, ◌&&◌, cond}
+use Rattle.std.proofs.Common.{nat_le, List, [], ◌∷◌, length, get_or, take, drop, take_all, le_refl, decimal, refl, ap, arith}
 use Rattle.std.proofs.Common.{le-leb, leb-true, leb-false, eqb-true, ne_eqb}
 use Rattle.std.specs.List.{list_all}
 use Rattle.std.specs.Int.{IsInRange}
 use Rattle.std.specs.Cmp.Derive.{both_true}
 use Rattle.std.proofs.lemmas.Bool.{both_ways}
-use Rattle.std.proofs.lemmas.Fmt.{decimal_nonempty, digits_decimal, digits_value-decimal, first_decimal, decimal-digits_value, decimal_digit}
+use Rattle.std.proofs.lemmas.Fmt.{digits_decimal, digits_value-decimal, first_decimal, decimal-digits_value, decimal_digit}
 use Rattle.std.proofs.lemmas.Str.Parse.{IsDigitsTest, IsNumeralModel, numerals_by_fold}
 use Rattle.ppm_reading.specs.Tokens.{is_empty, is_digit, is_numeral, value_from, value, token_limit}
 
@@ -27,7 +28,8 @@ cut_off_before n d ds = go (nat_le (n * 10 + (d - 48)) token_limit) refl
   where
     go : (small : Bool) → nat_le (n * 10 + (d - 48)) token_limit ≡ small
         → min (value_from (min (min (n * 10) token_limit + (d - 48)) token_limit) ds) token_limit ≡ min (value_from (n * 10 + (d - 48)) ds) token_limit
-    go true e = cut_off (min (min (n * 10) token_limit + (d - 48)) token_limit) (n * 10 + (d - 48)) ds (inl (omega (arith, leb-true (n * 10 + (d - 48)) token_limit e)))
+    go true e = cut_off (min (min (n * 10) token_limit + (d - 48)) token_limit) (n * 10 + (d - 48)) ds
+        (inl (omega (arith, leb-true (n * 10 + (d - 48)) token_limit e)))
     go false e =
         let large = leb-false (n * 10 + (d - 48)) token_limit e in
         cut_off (min (min (n * 10) token_limit + (d - 48)) token_limit) (n * 10 + (d - 48)) ds (inr (omega (arith, large), omega (arith, large)))
@@ -54,7 +56,6 @@ range_of_digit d h = let k = both_parts (nat_le 48 d) (nat_le d 57) h in (leb-tr
 digit_of_range : (d : ℕ) → IsInRange 48 57 d → is_digit d ≡ true
 digit_of_range d h = both_true (le-leb 48 d h.0) (le-leb d 57 h.1)
 
-
 tells : IsDigitsTest (λ ds. list_all is_digit ds ≡ true)
 tells = record {
   empty = refl;
@@ -77,6 +78,7 @@ numeral_parts (d ∷ ds) h = go (d == 48) refl h
     alone : (es : List ℕ) → is_empty es ≡ true → d ≡ 48 → (list_all is_digit (d ∷ es) ≡ true) × (get_or (d ∷ es) 0 0 ≡ 48 → length (d ∷ es) ≡ 1)
     alone [] e z = (rw z refl, λ z. refl)
     alone (x ∷ es) e z = absurd (both_ways false refl e)
+
     go : (zero_first : Bool) → (d == 48) ≡ zero_first → cond zero_first (is_empty ds) (list_all is_digit (d ∷ ds)) ≡ true
         → (list_all is_digit (d ∷ ds) ≡ true) × (get_or (d ∷ ds) 0 0 ≡ 48 → length (d ∷ ds) ≡ 1)
     go true e k = alone ds k (eqb-true d 48 e)

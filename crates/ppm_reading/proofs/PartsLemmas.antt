@@ -1,6 +1,7 @@
 -- The parts of a code: they stand in their order, break no rule, and declare the code.
-use Rattle.std.proofs.Common.{◌≡◌, ◌∙◌, ◌⊎◌, inl, inr, ℕ, zero, suc, ◌+◌, ◌-◌, ◌<◌, ◌≤◌, ◌==◌, Bool, true, false, not, ◌&&◌, ◌||◌, cond, nat_lt, nat_le, IsTrue, List, [], ◌∷◌, ◌++◌, map, length, slice_get, IfSome, Option, Some, None, refl, sym, ap, subst, arith}
-use Rattle.std.proofs.Common.{lt-ltb, le-ltb, le-leb, eqb-true, eq-eqb, ne_eqb, append_assoc, append-nil, length-append}
+use Rattle.std.proofs.Common.{◌≡◌, ◌∙◌, ◌⊎◌, inl, inr, ℕ, zero, suc, ◌+◌, ◌<◌, ◌≤◌, ◌==◌, Bool, true, false, not, ◌&&◌, ◌||◌, cond, nat_lt}
+use Rattle.std.proofs.Common.{nat_le, List, [], ◌∷◌, ◌++◌, map, length, slice_get, IfSome, Option, Some, None, refl, sym, ap, subst, arith}
+use Rattle.std.proofs.Common.{lt-ltb, le-ltb, eqb-true, eq-eqb, ne_eqb, append_assoc, length-append}
 use Rattle.std.specs.List.{All, AllByRecursion, list_any}
 use Rattle.std.proofs.lemmas.Bool.{both_ways, lt-leb}
 use Rattle.std.specs.Cmp.Derive.{both_true}
@@ -16,20 +17,19 @@ use Rattle.ppm_code.specs.declared.instr.Instr.TheVariants.{LoadSlot, StoreCur, 
 use Rattle.ppm_code.specs.Limits.{procedure_limit, capsule_limit, instr_limit, slot_limit, room_limit, line_limit}
 use Rattle.ppm_code.specs.Sizes.{slots_of, frame_size, fork_size}
 use Rattle.ppm_code.specs.Strands.{instrs_in as instrs_within, instrs_of}
-use Rattle.ppm_code.specs.Code.{IsLine, room_of, IsProcedure, IsCapsuleOf, IsSlot, EndFits, Fits, IsCapsule, IsCode}
-use Rattle.ppm_listing.specs.Tokens.{Line}
-use Rattle.ppm_listing.specs.Listing.{instr_line, procedure_line, procedure_lines, capsule_line, lines_of_capsule, capsule_lines, lines_of}
+use Rattle.ppm_code.specs.Code.{IsLine, room_of, IsProcedure, IsCapsuleOf, IsSlot, Fits, IsCapsule, IsCode}
+use Rattle.ppm_listing.specs.Listing.{instr_line, procedure_lines, capsule_lines, lines_of}
 use Rattle.ppm_listing.proofs.TextLemmas.{cons_path}
-use Rattle.ppm_reading.specs.declared.listing_error.Fault.{Fault}
 use Rattle.ppm_reading.specs.declared.listing_error.Fault.TheVariants as fault
 use Rattle.ppm_reading.specs.declared.part.Part.{Part}
 use Rattle.ppm_reading.specs.declared.part.Part.TheVariants as part
 use Rattle.ppm_reading.specs.declared.place.Place.{Place}
-use Rattle.ppm_reading.specs.declared.place.Place.TheVariants.{AtVersion, AtRoot, AtProcedure, Within}
+use Rattle.ppm_reading.specs.declared.place.Place.TheVariants.{AtVersion, AtProcedure, Within}
 use Rattle.ppm_reading.specs.Tokens.{is_empty}
-use Rattle.ppm_reading.specs.Places.{may_stand, standing, asked, room_behind, next, standing_from, procedures_in, instrs_in, capsules_in, code_in}
-use Rattle.ppm_reading.specs.Faults.{is_no_line, is_no_slot, is_end, is_of, is_procedure, is_capsule_of, ends_early, is_out_of_range, is_not_forward, is_no_end, has_wrong_room, is_not_there}
-use Rattle.ppm_reading.specs.Faults.{is_no_room_of, is_past_room, instr_not_there, branches_badly, BreaksAt, KeepsRules}
+use Rattle.ppm_reading.specs.Places.{may_stand, asked, room_behind, next, standing_from, procedures_in, instrs_in, capsules_in, code_in}
+use Rattle.ppm_reading.specs.Faults.{is_no_line, is_no_slot, is_end, is_of, is_procedure, is_capsule_of, ends_early, is_out_of_range}
+use Rattle.ppm_reading.specs.Faults.{is_not_forward, is_no_end, has_wrong_room, is_not_there}
+use Rattle.ppm_reading.specs.Faults.{is_no_room_of, is_past_room, instr_not_there, KeepsRules}
 use Rattle.ppm_reading.proofs.FormLemmas.{part_line, IsWholePart}
 use Rattle.ppm_reading.proofs.CleanLemmas.{IsClean, AllClean}
 
@@ -59,12 +59,14 @@ capsule_parts_lines first [] = refl
 capsule_parts_lines first (c ∷ cs) =
     cons_path refl (instr_parts_lines c.instrs (capsule_parts (first + 1) cs) ∙ ap (λ ls. map instr_line c.instrs ++ ls) (capsule_parts_lines (first + 1) cs))
 
-procedure_parts_lines : (first : ℕ) (ps : List Procedure) (rest : List Part) → map part_line (procedure_parts first ps rest) ≡ procedure_lines first ps ++ map part_line rest
+procedure_parts_lines : (first : ℕ) (ps : List Procedure) (rest : List Part)
+    → map part_line (procedure_parts first ps rest) ≡ procedure_lines first ps ++ map part_line rest
 procedure_parts_lines first [] rest = refl
 procedure_parts_lines first (p ∷ ps) rest = cons_path refl (procedure_parts_lines (first + 1) ps rest)
 
 pub parts_lines : (c : CodeParts) → map part_line (parts_of c) ≡ lines_of c
-parts_lines c = cons_path refl (cons_path refl (procedure_parts_lines 0 c.procedures (capsule_parts 0 c.capsules) ∙ ap (λ ls. procedure_lines 0 c.procedures ++ ls) (capsule_parts_lines 0 c.capsules)))
+parts_lines c = cons_path refl (cons_path refl (procedure_parts_lines 0 c.procedures (capsule_parts 0 c.capsules)
+    ∙ ap (λ ls. procedure_lines 0 c.procedures ++ ls) (capsule_parts_lines 0 c.capsules)))
 
 -- they are whole
 whole_instrs : (is : List Instr) (rest : List Part) → AllByRecursion IsWholePart rest → AllByRecursion IsWholePart (instr_parts is rest)
@@ -75,7 +77,8 @@ whole_capsules : (first : ℕ) (cs : List Capsule) → AllByRecursion IsWholePar
 whole_capsules first [] = tt
 whole_capsules first (c ∷ cs) = (tt, whole_instrs c.instrs (capsule_parts (first + 1) cs) (whole_capsules (first + 1) cs))
 
-whole_procedures : (first : ℕ) (ps : List Procedure) (rest : List Part) → AllByRecursion IsWholePart rest → AllByRecursion IsWholePart (procedure_parts first ps rest)
+whole_procedures : (first : ℕ) (ps : List Procedure) (rest : List Part) → AllByRecursion IsWholePart rest
+    → AllByRecursion IsWholePart (procedure_parts first ps rest)
 whole_procedures first [] rest h = h
 whole_procedures first (p ∷ ps) rest h = (tt, whole_procedures (first + 1) ps rest h)
 
@@ -91,11 +94,13 @@ no_procedures_in_capsules : (first : ℕ) (cs : List Capsule) → procedures_in 
 no_procedures_in_capsules first [] = refl
 no_procedures_in_capsules first (c ∷ cs) = no_procedures_in_instrs c.instrs (capsule_parts (first + 1) cs) (no_procedures_in_capsules (first + 1) cs)
 
-procedures_declared : (first : ℕ) (ps : List Procedure) (rest : List Part) → procedures_in (map Some rest) ≡ [] → procedures_in (map Some (procedure_parts first ps rest)) ≡ ps
+procedures_declared : (first : ℕ) (ps : List Procedure) (rest : List Part) → procedures_in (map Some rest) ≡ []
+    → procedures_in (map Some (procedure_parts first ps rest)) ≡ ps
 procedures_declared first [] rest h = h
 procedures_declared first (p ∷ ps) rest h = cons_path refl (procedures_declared (first + 1) ps rest h)
 
-capsules_behind_procedures : (first : ℕ) (ps : List Procedure) (rest : List Part) → capsules_in (map Some (procedure_parts first ps rest)) ≡ capsules_in (map Some rest)
+capsules_behind_procedures : (first : ℕ) (ps : List Procedure) (rest : List Part)
+    → capsules_in (map Some (procedure_parts first ps rest)) ≡ capsules_in (map Some rest)
 capsules_behind_procedures first [] rest = refl
 capsules_behind_procedures first (p ∷ ps) rest = capsules_behind_procedures (first + 1) ps rest
 
@@ -221,7 +226,8 @@ module _ (code : CodeParts) where
     forward_kept (Get d a b l) f = refl
     forward_kept (Put a b s l) f = refl
     forward_kept (BranchZero a t) f = not_true (both_true (lt-ltb at t f.0) (subst (λ l. nat_lt t (length l) ≡ true) (sym same) (lt-ltb t (length whole) f.1)))
-    forward_kept (BranchNonZero a t) f = not_true (both_true (lt-ltb at t f.0) (subst (λ l. nat_lt t (length l) ≡ true) (sym same) (lt-ltb t (length whole) f.1)))
+    forward_kept (BranchNonZero a t) f = not_true (both_true (lt-ltb at t f.0) (subst (λ l. nat_lt t (length l) ≡ true) (sym same)
+        (lt-ltb t (length whole) f.1)))
     forward_kept (Room n) f = refl
     forward_kept (StoreNew o a) f = refl
     forward_kept (Ends (Next k)) f = refl
@@ -257,8 +263,10 @@ module _ (code : CodeParts) where
     room_kept (Ends (Next k)) f r = refl
     room_kept (Ends Finish) f r = refl
     room_kept (Ends (Trap x l)) f r = refl
-    room_kept (Ends (Call q k to)) f r = size_kept room (is_procedure code q) (frame_size code q) (taken (Ends (Call q k to)) (λ w h. cc) (frame_size code q) r f.3)
-    room_kept (Ends (Fork q u k left_to right_to)) f r = size_kept room (is_procedure code q && is_procedure code u) (fork_size code q u) (taken (Ends (Fork q u k left_to right_to)) (λ w h. cc) (fork_size code q u) r f.5)
+    room_kept (Ends (Call q k to)) f r = size_kept room (is_procedure code q) (frame_size code q)
+        (taken (Ends (Call q k to)) (λ w h. cc) (frame_size code q) r f.3)
+    room_kept (Ends (Fork q u k left_to right_to)) f r = size_kept room (is_procedure code q && is_procedure code u) (fork_size code q u)
+        (taken (Ends (Fork q u k left_to right_to)) (λ w h. cc) (fork_size code q u) r f.5)
 
     names_kept : (i : Instr) → Fits code procedure whole at i → instr_not_there code procedure i ≡ false
     names_kept (Const d n) f = refl
@@ -288,7 +296,8 @@ module _ (code : CodeParts) where
     names_kept (Ends Finish) f = refl
     names_kept (Ends (Trap x l)) f = refl
     names_kept (Ends (Call q k to)) f = not_true (both_true (procedure_kept q f.0) (capsule_kept procedure k f.1))
-    names_kept (Ends (Fork q u k left_to right_to)) f = not_true (both_true (both_true (procedure_kept q f.0) (procedure_kept u f.1)) (capsule_kept procedure k f.2))
+    names_kept (Ends (Fork q u k left_to right_to)) f = not_true (both_true (both_true (procedure_kept q f.0) (procedure_kept u f.1))
+        (capsule_kept procedure k f.2))
 
     end_kept : (full end : Bool) → (full ≡ true → end ≡ true) → (full && not end) ≡ false
     end_kept true end h = not_true (h refl)
@@ -300,7 +309,8 @@ module _ (code : CodeParts) where
       stands = refl;
       range = range_kept i f;
       forward = forward_kept i f;
-      end = end_kept (at + 1 == length (instrs_of code capsule)) (is_end i) (λ e. last (eqb-true (at + 1) (length (instrs_of code capsule)) e ∙ ap length same));
+      end = end_kept (at + 1 == length (instrs_of code capsule)) (is_end i) (λ e. last (eqb-true (at + 1) (length (instrs_of code capsule)) e
+          ∙ ap length same));
       room = room_kept i f r;
       there = either (lt-leb instr_limit at few) (names_kept i f);
     }
@@ -322,7 +332,8 @@ module _ (code : CodeParts) where
       → (before : List Instr) × (e : End) × (whole ≡ before ++ (Ends e ∷ [])) → length front + 1 ≡ length whole → is_end i ≡ true
   last_ends whole front is i e (before, x, ends) full =
       let none = nothing_behind is (length front + 1) (length whole) (omega (arith, ap length e, length-append front (i ∷ is))) full in
-      let one : i ≡ Ends x = sym (last_of-append i front i) ∙ ap (last_of i) (sym (e ∙ ap (λ l. front ++ i ∷ l) none) ∙ ends) ∙ last_of-append i before (Ends x) in
+      let one : i ≡ Ends x = sym (last_of-append i front i) ∙ ap (last_of i) (sym (e ∙ ap (λ l. front ++ i ∷ l) none) ∙ ends)
+      ∙ last_of-append i before (Ends x) in
       ap is_end one
 
   first_room : (i : Instr) (is : List Instr) (words : ℕ) → room_of (i ∷ is) ≡ Some words → i ≡ Room words
@@ -371,19 +382,23 @@ module _ (code : CodeParts) where
   got_behind (y ∷ front) x rest = got_behind front x rest
 
   -- the instructions of a capsule
-  walk_instrs : (capsule procedure : ℕ) (room : Option ℕ) (c : Capsule) (front is : List Instr) (rest : List Part) → c.procedure ≡ procedure → c.instrs ≡ front ++ is
+  walk_instrs : (capsule procedure : ℕ) (room : Option ℕ) (c : Capsule) (front is : List Instr) (rest : List Part) → c.procedure ≡ procedure
+      → c.instrs ≡ front ++ is
       → instrs_of code capsule ≡ c.instrs → RoomSo front room c.instrs → IsCapsule code c
       → ((at : ℕ) (after : Option ℕ) → AllClean code (Within capsule procedure at after) rest)
       → AllClean code (Within capsule procedure (length front) room) (instr_parts is rest)
   walk_instrs capsule procedure room c front [] rest own e same r whole more = more (length front) room
   walk_instrs capsule procedure room c front (i ∷ is) rest own e same r whole more =
       let longer : length front + 1 ≡ length (front ++ i ∷ []) = omega (arith, length-append front (i ∷ [])) in
-      let fits = whole.each (length front) i (ap (λ l. slice_get l (length front)) e ∙ got_behind front i is) in
-      (instr_clean capsule procedure (length front) room c.instrs same i (subst (λ p. Fits code p c.instrs (length front) i) own fits)
-      (room_for front is c.instrs i room e r) (omega (arith, whole.most, ap length e, length-append front (i ∷ is))) (last_ends c.instrs front is i e whole.last),
-      subst (λ n. AllClean code (Within capsule procedure n (room_behind (length front) (Some i) room)) (instr_parts is rest)) (sym longer)
-      (walk_instrs capsule procedure (room_behind (length front) (Some i) room) c (front ++ i ∷ []) is rest own (e ∙ sym (append_assoc front (i ∷ []) is)) same
-      (room_more front is c.instrs i room e r) whole more))
+      let fits = whole.each (length front) i (ap (λ l. slice_get l (length front)) e ∙ got_behind front i is) in (
+        instr_clean capsule procedure (length front) room c.instrs same i (subst (λ p. Fits code p c.instrs (length front) i) own fits)
+            (room_for front is c.instrs i room e r) (omega (arith, whole.most, ap length e, length-append front (i ∷ is)))
+            (last_ends c.instrs front is i e whole.last),
+        subst (λ n. AllClean code (Within capsule procedure n (room_behind (length front) (Some i) room)) (instr_parts is rest)) (sym longer)
+            (walk_instrs capsule procedure (room_behind (length front) (Some i) room) c (front ++ i ∷ []) is rest own (e
+            ∙ sym (append_assoc front (i ∷ []) is)) same
+            (room_more front is c.instrs i room e r) whole more),
+      )
 
   no_empty : (is : List Instr) → (before : List Instr) × (e : End) × (is ≡ before ++ (Ends e ∷ [])) → is_empty is ≡ false
   no_empty [] (before, x, e) = absurd (omega (arith, ap length e, length-append before (Ends x ∷ [])))
@@ -401,43 +416,66 @@ module _ (code : CodeParts) where
   own_instrs pre cs c number e n = ap instrs_within (ap (slice_get code.capsules) (sym n) ∙ ap (λ l. slice_get l (length pre)) e ∙ got_behind pre c cs)
 
   walk_capsules : (capsule procedure at : ℕ) (room : Option ℕ) (pre cs : List Capsule) → code.capsules ≡ pre ++ cs → length pre ≡ capsule + 1
-      → length code.capsules ≤ capsule_limit → AllByRecursion (IsCapsule code) cs → AllClean code (Within capsule procedure at room) (capsule_parts (capsule + 1) cs)
+      → length code.capsules ≤ capsule_limit → AllByRecursion (IsCapsule code) cs
+      → AllClean code (Within capsule procedure at room) (capsule_parts (capsule + 1) cs)
   walk_capsules capsule procedure at room pre [] e n few each = refl
   walk_capsules capsule procedure at room pre (c ∷ cs) e n few each =
       let own = own_instrs pre cs c (capsule + 1) e n in
-      let less : capsule + 1 < capsule_limit = omega (arith, few, ap length e, length-append pre (c ∷ cs), n) in
-      (record {
-        stands = eq-eqb (capsule + 1) (capsule + 1) refl; range = refl; forward = refl; end = capsule_ends (capsule + 1) c each.0 own less; room = refl;
-        there = capsule_there (capsule + 1) c each.0 own less;
-      },
-      walk_instrs (capsule + 1) c.procedure None c [] c.instrs (capsule_parts (capsule + 1 + 1) cs) refl refl own tt each.0
-      (λ m after. walk_capsules (capsule + 1) c.procedure m after (pre ++ c ∷ []) cs (e ∙ sym (append_assoc pre (c ∷ []) cs)) (omega (arith, n, length-append pre (c ∷ []))) few each.1))
+      let less : capsule + 1 < capsule_limit = omega (arith, few, ap length e, length-append pre (c ∷ cs), n) in (
+        record {
+          stands = eq-eqb (capsule + 1) (capsule + 1) refl;
+          range = refl;
+          forward = refl;
+          end = capsule_ends (capsule + 1) c each.0 own less;
+          room = refl;
+          there = capsule_there (capsule + 1) c each.0 own less;
+        },
+        walk_instrs (capsule + 1) c.procedure None c [] c.instrs (capsule_parts (capsule + 1 + 1) cs) refl refl own tt each.0
+            (λ m after. walk_capsules (capsule + 1) c.procedure m after (pre ++ c ∷ []) cs (e
+            ∙ sym (append_assoc pre (c ∷ []) cs)) (omega (arith, n, length-append pre (c ∷ []))) few each.1),
+      )
 
-  first_capsule : (number : ℕ) (cs : List Capsule) → code.capsules ≡ cs → 0 < length cs → length code.capsules ≤ capsule_limit → AllByRecursion (IsCapsule code) cs
+  first_capsule : (number : ℕ) (cs : List Capsule) → code.capsules ≡ cs → 0 < length cs → length code.capsules ≤ capsule_limit
+      → AllByRecursion (IsCapsule code) cs
       → AllClean code (AtProcedure number) (capsule_parts 0 cs)
   first_capsule number [] e some few each = absurd (omega (arith, some))
   first_capsule number (c ∷ cs) e some few each =
       let own = own_instrs [] cs c 0 e refl in
-      let less : 0 < capsule_limit = omega arith in
-      (record {
-        stands = refl; range = refl; forward = refl; end = capsule_ends 0 c each.0 own less; room = refl; there = capsule_there 0 c each.0 own less;
-      },
-      walk_instrs 0 c.procedure None c [] c.instrs (capsule_parts 1 cs) refl refl own tt each.0
-      (λ m after. walk_capsules 0 c.procedure m after (c ∷ []) cs e refl few each.1))
+      let less : 0 < capsule_limit = omega arith in (
+        record {
+          stands = refl;
+          range = refl;
+          forward = refl;
+          end = capsule_ends 0 c each.0 own less;
+          room = refl;
+          there = capsule_there 0 c each.0 own less;
+        },
+        walk_instrs 0 c.procedure None c [] c.instrs (capsule_parts 1 cs) refl refl own tt each.0
+            (λ m after. walk_capsules 0 c.procedure m after (c ∷ []) cs e refl few each.1),
+      )
 
-  walk_procedures : (first : ℕ) (pre ps : List Procedure) (rest : List Part) → code.procedures ≡ pre ++ ps → length pre ≡ first → length code.procedures ≤ procedure_limit
+  walk_procedures : (first : ℕ) (pre ps : List Procedure) (rest : List Part) → code.procedures ≡ pre ++ ps → length pre ≡ first
+      → length code.procedures ≤ procedure_limit
       → AllByRecursion (λ (p : Procedure). p.slots ≤ slot_limit) ps
       → ((k : ℕ) → IfSome (slice_get code.procedures k) (λ p. IsCapsuleOf code k p.entry)) → ((n : ℕ) → AllClean code (AtProcedure n) rest)
       → AllClean code (AtProcedure first) (procedure_parts first ps rest)
   walk_procedures first pre [] rest e n few slots entries more = more first
   walk_procedures first pre (p ∷ ps) rest e n few slots entries more =
       let less : first < procedure_limit = omega (arith, few, ap length e, length-append pre (p ∷ ps), n) in
-      let got : slice_get code.procedures first ≡ Some p = ap (slice_get code.procedures) (sym n) ∙ ap (λ l. slice_get l (length pre)) e ∙ got_behind pre p ps in
-      (record {
-        stands = eq-eqb first first refl; range = le-ltb slot_limit p.slots slots.0; forward = refl; end = refl; room = refl;
-        there = either (lt-leb procedure_limit first less) (not_true (capsule_kept first p.entry (subst (λ o. IfSome o (λ q. IsCapsuleOf code first q.entry)) got (entries first))));
-      },
-      walk_procedures (first + 1) (pre ++ p ∷ []) ps rest (e ∙ sym (append_assoc pre (p ∷ []) ps)) (omega (arith, n, length-append pre (p ∷ []))) few slots.1 entries more)
+      let got : slice_get code.procedures first ≡ Some p = ap (slice_get code.procedures) (sym n) ∙ ap (λ l. slice_get l (length pre)) e
+      ∙ got_behind pre p ps in (
+        record {
+          stands = eq-eqb first first refl;
+          range = le-ltb slot_limit p.slots slots.0;
+          forward = refl;
+          end = refl;
+          room = refl;
+          there = either (lt-leb procedure_limit first less) (not_true (capsule_kept first p.entry
+              (subst (λ o. IfSome o (λ q. IsCapsuleOf code first q.entry)) got (entries first))));
+        },
+        walk_procedures (first + 1) (pre ++ p ∷ []) ps rest (e ∙ sym (append_assoc pre (p ∷ []) ps)) (omega (arith, n, length-append pre (p ∷ [])))
+            few slots.1 entries more,
+      )
 
   none_past : (xs : List ℕ) → All (λ a. a < array_limit) xs → list_any (λ a. nat_le array_limit a) xs ≡ false
   none_past [] h = refl
@@ -460,16 +498,24 @@ module _ (code : CodeParts) where
   by_all P (x ∷ xs) h = (h 0 x (omega arith), by_all P xs (λ k d l. h (suc k) d (omega (arith, l))))
 
   pub parts_clean : IsCode code → AllClean code AtVersion (parts_of code)
-  parts_clean is =
-      (record { stands = refl; range = refl; forward = refl; end = refl; room = refl; there = refl },
-      (record {
+  parts_clean is = (
+    record { stands = refl; range = refl; forward = refl; end = refl; room = refl; there = refl },
+    (
+      record {
         stands = refl;
         range = either (none_past code.arrays is.arrays)
-        (and_false (is_procedure code code.root) (nat_lt (slots_of code code.root) (length code.arrays)) (le-ltb (slots_of code code.root) (length code.arrays) is.root_slots));
-        forward = refl; end = refl; room = refl; there = not_true (procedure_kept code.root is.root);
+            (and_false (is_procedure code code.root) (nat_lt (slots_of code code.root) (length code.arrays))
+            (le-ltb (slots_of code code.root) (length code.arrays) is.root_slots));
+        forward = refl;
+        end = refl;
+        room = refl;
+        there = not_true (procedure_kept code.root is.root);
       },
-      walk_procedures 0 [] code.procedures (capsule_parts 0 code.capsules) refl refl is.procedures_most (by_all (λ (p : Procedure). p.slots ≤ slot_limit) code.procedures is.slots_most) is.entries
-      (λ n. first_capsule n code.capsules refl (some_capsule is) is.capsules_most (by_all (IsCapsule code) code.capsules is.capsules))))
+      walk_procedures 0 [] code.procedures (capsule_parts 0 code.capsules) refl refl is.procedures_most
+          (by_all (λ (p : Procedure). p.slots ≤ slot_limit) code.procedures is.slots_most) is.entries
+          (λ n. first_capsule n code.capsules refl (some_capsule is) is.capsules_most (by_all (IsCapsule code) code.capsules is.capsules)),
+    ),
+  )
 
   -- clean parts break no rule
   pub clean_stands : (place : Place) (xs : List Part) → AllClean code place xs → standing_from place (map Some xs) ≡ map Some xs

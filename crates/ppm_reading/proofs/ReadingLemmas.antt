@@ -1,9 +1,9 @@
 -- A text without a fault is the listing of the code that it declares.
-use Rattle.std.proofs.Common.{◌≡◌, ◌∙◌, ℕ, zero, suc, ◌+◌, ◌<◌, ◌≤◌, Bool, true, false, List, [], ◌∷◌, map, length, Option, Some, None, refl, sym, ap, subst, arith}
+use Rattle.std.proofs.Common.{◌≡◌, ◌∙◌, ℕ, ◌+◌, ◌≤◌, true, List, [], ◌∷◌, map, length, Option, Some, None, refl, sym, ap, subst, arith}
 use Rattle.std.specs.List.{AllByRecursion}
 use Rattle.std.proofs.lemmas.Bool.{both_ways}
 use Rattle.ppm_code.specs.declared.code.CodeParts.{CodeParts}
-use Rattle.ppm_listing.specs.Listing.{text_of, lines_of as lines_of_code}
+use Rattle.ppm_listing.specs.Listing.{text_of}
 use Rattle.ppm_listing.specs.Correct.{LineFits}
 use Rattle.ppm_reading.specs.declared.part.Part.{Part}
 use Rattle.ppm_reading.specs.declared.part.Part.TheVariants as part
@@ -46,7 +46,8 @@ text_is_listing text h =
     let made = make_code all.parts (subst (λ c. AllClean c AtVersion all.parts) same all.clean) in
     let small = lines_small (code_in (map Some all.parts)) made.code small_limit (omega arith) in
     let good = whole_parts (code_in (standing_of text)) AtVersion all.parts all.clean (subst (AllByRecursion IsSmallLine) (sym made.lines) small) in
-    let (written, fits) = text_written (λ x. IsWholePart x × IsSmallLine (part_line x)) (split 10 text) all.parts (split_some 10 text) all.lines line_says good in
+    let (written, fits) = text_written (λ x. IsWholePart x × IsSmallLine (part_line x)) (split 10 text) all.parts (split_some 10 text) all.lines
+    line_says good in
     subst (IsListing text) (sym same) (record {
       code = made.code;
       fits = subst (AllByRecursion LineFits) made.lines fits;

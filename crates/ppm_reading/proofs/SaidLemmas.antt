@@ -1,22 +1,22 @@
 -- What a line says tells its text.
-use Rattle.std.proofs.Common.{◌≡◌, ◌∙◌, ℕ, zero, suc, ◌+◌, ◌-◌, ◌*◌, ◌^◌, ◌<◌, ◌≤◌, ◌==◌, min, Bool, true, false, not, ◌&&◌, cond, List, [], ◌∷◌, ◌++◌, map, length, drop, Option, Some, None, refl, sym, ap, subst, arith}
-use Rattle.std.proofs.Common.{eqb-true, ne_eqb}
+use Rattle.std.proofs.Common.{◌≡◌, ◌∙◌, ℕ, ◌+◌, ◌-◌, ◌*◌, ◌≤◌, ◌==◌, Bool, true, false, not, ◌&&◌, cond, List, [], ◌∷◌, map, Option, Some, None}
+use Rattle.std.proofs.Common.{refl, sym, ap, subst, arith}
 use Rattle.std.specs.List.{list_all, AllByRecursion}
 use Rattle.std.proofs.lemmas.Bool.{both_ways, not-true}
 use Rattle.ppm_listing.specs.declared.keyword.Keyword.{Keyword}
 use Rattle.ppm_listing.specs.declared.keyword.Keyword.TheVariants as keyword
 use Rattle.ppm_listing.specs.declared.token.Token.{Token as Written}
-use Rattle.ppm_listing.specs.Tokens.{Line, line, line_text}
+use Rattle.ppm_listing.specs.Tokens.{line, line_text}
 use Rattle.ppm_listing.specs.Listing.{number}
 use Rattle.ppm_listing.specs.Correct.{LineFits}
 use Rattle.ppm_reading.specs.declared.token.Token.{Token}
 use Rattle.ppm_reading.specs.declared.token.Token.TheVariants.{Name, Register, Number, Negative, Absent, Other}
 use Rattle.ppm_reading.specs.declared.part.Part.{Part}
-use Rattle.ppm_reading.specs.declared.part.Part.TheVariants as part
-use Rattle.ppm_reading.specs.Tokens.{is_digit, is_numeral, value_from, value, token_limit, named, keyword_of, minus, split, token_of, tokens_of}
-use Rattle.ppm_reading.specs.Forms.{are_of, sorts, token_at, is_absent, is_number, has_form, number_of, number_at, part_of, part_in, line_of}
+use Rattle.ppm_reading.specs.Tokens.{is_digit, is_numeral, value, named, keyword_of, minus, split, token_of, tokens_of}
+use Rattle.ppm_reading.specs.Forms.{are_of, sorts, token_at, is_absent, is_number, has_form, number_of, part_of, part_in, line_of}
 use Rattle.ppm_reading.proofs.NumberLemmas.{both_parts, value_grows, first_digit, digit_bounds}
-use Rattle.ppm_reading.proofs.FormLemmas.{IsProper, IsSmall, IsSmallLine, AreRight, all_rewritten, AreTokens, None_left, One_more, all_tokens, small_number, part_line, IsWholePart, Tells, told}
+use Rattle.ppm_reading.proofs.FormLemmas.{IsProper, IsSmall, IsSmallLine, AreRight, all_rewritten, AreTokens, None_left, One_more, all_tokens}
+use Rattle.ppm_reading.proofs.FormLemmas.{small_number, part_line, IsWholePart, Tells, told}
 use Rattle.ppm_reading.proofs.LineLemmas.{HasText, line_written}
 
 -- a number behind a minus is not 0
@@ -44,7 +44,8 @@ proper_token : (bs : List ℕ) → IsProper (token_of bs)
 proper_token [] = tt
 proper_token (b ∷ bs) = go (b == 45) (is_digit b) (is_numeral (b ∷ bs)) (b == 114 && is_numeral bs)
   where
-    go : (a d n r : Bool) → IsProper (cond a (minus bs) (cond d (cond n (Number (value (b ∷ bs))) Other) (cond r (Register (value bs)) (named (keyword_of (b ∷ bs))))))
+    go : (a d n r : Bool) → IsProper (cond a (minus bs) (cond d (cond n (Number (value (b ∷ bs))) Other)
+        (cond r (Register (value bs)) (named (keyword_of (b ∷ bs))))))
     go true d n r = proper_minus bs
     go false true true r = tt
     go false true false r = tt
@@ -140,6 +141,7 @@ line_says bytes x e (w, r) = go (tokens_of bytes) refl (proper_tokens (split 32 
         let s = said k ts x f p same w r in
         let (text, fits) = line_written bytes k ts s.operands is s.are in
         record { text = text ∙ ap line_text (sym s.line); fits = subst LineFits (sym s.line) fits }
+
     go : (us : List Token) → tokens_of bytes ≡ us → AllByRecursion IsProper us → part_in us ≡ Some x → HasText bytes x
     go [] is p e = cc
     go (Name k ∷ ts) is p e = by_form k ts (has_form k ts) refl is p.1 e

@@ -1,7 +1,6 @@
 -- The numbers of a code's listing are small.
-use Rattle.std.proofs.Common.{◌≡◌, ◌∙◌, ℕ, zero, suc, ◌+◌, ◌-◌, ◌^◌, ◌<◌, ◌≤◌, List, [], ◌∷◌, ◌++◌, map, length, slice_get, get_or, IfSome, Option, Some, None, refl, sym, ap, subst, arith}
+use Rattle.std.proofs.Common.{◌≡◌, ℕ, zero, suc, ◌+◌, ◌<◌, ◌≤◌, List, [], ◌∷◌, ◌++◌, map, length, slice_get, IfSome, Option, Some, None, refl, subst, arith}
 use Rattle.std.specs.List.{All, AllByRecursion}
-use Rattle.std.specs.Prelude.{pos}
 use Rattle.ppm_words.specs.declared.trap.Trap.{Trap}
 use Rattle.ppm_words.specs.declared.trap.Trap.TheVariants.{Overflow, DivZero, Index, Split}
 use Rattle.ppm_words.specs.Limits.{array_limit}
@@ -16,8 +15,7 @@ use Rattle.ppm_code.specs.declared.instr.Instr.TheVariants.{LoadSlot, StoreCur, 
 use Rattle.ppm_code.specs.Limits.{procedure_limit, capsule_limit, instr_limit, slot_limit, room_limit, line_limit}
 use Rattle.ppm_code.specs.Sizes.{slots_in, slots_of}
 use Rattle.ppm_code.specs.Code.{room_of, IsSlot, IsCapsuleOf, EndFits, Fits, IsCapsule, IsCode}
-use Rattle.ppm_listing.specs.Tokens.{Line}
-use Rattle.ppm_listing.specs.Listing.{number, trap_number, end_line, instr_line, root_line, procedure_line, procedure_lines, capsule_line, lines_of_capsule, capsule_lines, lines_of}
+use Rattle.ppm_listing.specs.Listing.{number, trap_number, end_line, instr_line, procedure_lines, capsule_lines, lines_of}
 use Rattle.ppm_reading.proofs.FormLemmas.{IsBelow, IsLineBelow}
 
 -- a fact of each element is one of the list
@@ -99,7 +97,10 @@ module _ (code : CodeParts) (is : IsCode code) (limit : ℕ) (large : line_limit
   end_small procedure instrs Finish f = tt
   end_small procedure instrs (Trapping x line) f = (trap_small x, (line_small line f.1, tt))
   end_small procedure instrs (Call q k None) (there, next, slot, room) = (procedure_small q there, (capsule_small k next.1, tt))
-  end_small procedure instrs (Call q k (Some t)) (there, next, slot, room) = (procedure_small q there, (capsule_small k next.1, (slot_small procedure t slot, tt)))
+  end_small procedure instrs (Call q k (Some t)) (there, next, slot, room) = (
+    procedure_small q there,
+    (capsule_small k next.1, (slot_small procedure t slot, tt)),
+  )
   end_small procedure instrs (Fork q p k None None) (left, right, next, a, b, room) =
       (procedure_small q left, (procedure_small p right, (capsule_small k next.1, tt)))
   end_small procedure instrs (Fork q p k None (Some u)) (left, right, next, a, b, room) =
@@ -147,29 +148,36 @@ module _ (code : CodeParts) (is : IsCode code) (limit : ℕ) (large : line_limit
   procedures_small : (first : ℕ) (ps : List Procedure) → first + length ps ≤ procedure_limit → AllByRecursion (λ (p : Procedure). p.slots ≤ slot_limit) ps
       → AllByRecursion (λ (p : Procedure). p.entry < length code.capsules) ps → AllByRecursion (IsLineBelow limit) (procedure_lines first ps)
   procedures_small first [] most slots entries = tt
-  procedures_small first (p ∷ ps) most slots entries =
-      ((omega (arith, most, large), (tt, (omega (arith, slots.0, large), (tt, (capsule_small p.entry entries.0, tt))))),
-      procedures_small (first + 1) ps (omega (arith, most)) slots.1 entries.1)
+  procedures_small first (p ∷ ps) most slots entries = (
+    (omega (arith, most, large), (tt, (omega (arith, slots.0, large), (tt, (capsule_small p.entry entries.0, tt))))),
+    procedures_small (first + 1) ps (omega (arith, most)) slots.1 entries.1,
+  )
 
   capsules_small : (first : ℕ) (cs : List Capsule) → first + length cs ≤ capsule_limit → AllByRecursion (IsCapsule code) cs
       → AllByRecursion (IsLineBelow limit) (capsule_lines first cs)
   capsules_small first [] most each = tt
-  capsules_small first (c ∷ cs) most each =
-      ((omega (arith, most, large), (tt, (procedure_small c.procedure each.0.procedure, tt))),
-      append_all (IsLineBelow limit) (map instr_line c.instrs) (capsule_lines (first + 1) cs)
-      (map_all (IsLineBelow limit) instr_line c.instrs (by_recursion (λ i. IsLineBelow limit (instr_line i)) c.instrs
-      (λ k i h. instr_small c.procedure c.instrs each.0.most (room_bound code c.procedure c.instrs each.0.each) k i (each.0.each k i h))))
-      (capsules_small (first + 1) cs (omega (arith, most)) each.1))
+  capsules_small first (c ∷ cs) most each = (
+    (omega (arith, most, large), (tt, (procedure_small c.procedure each.0.procedure, tt))),
+    append_all (IsLineBelow limit) (map instr_line c.instrs) (capsule_lines (first + 1) cs)
+        (map_all (IsLineBelow limit) instr_line c.instrs (by_recursion (λ i. IsLineBelow limit (instr_line i)) c.instrs
+        (λ k i h. instr_small c.procedure c.instrs each.0.most (room_bound code c.procedure c.instrs each.0.each) k i (each.0.each k i h))))
+        (capsules_small (first + 1) cs (omega (arith, most)) each.1),
+  )
 
   pub lines_small : AllByRecursion (IsLineBelow limit) (lines_of code)
-  lines_small =
-      ((omega (arith, large), tt), ((procedure_small code.root is.root, numbers_small code.arrays is.arrays),
+  lines_small = (
+    (omega (arith, large), tt),
+    (
+      (procedure_small code.root is.root, numbers_small code.arrays is.arrays),
       append_all (IsLineBelow limit) (procedure_lines 0 code.procedures) (capsule_lines 0 code.capsules)
-      (procedures_small 0 code.procedures (omega (arith, is.procedures_most))
-      (by_recursion (λ (p : Procedure). p.slots ≤ slot_limit) code.procedures (λ k p h. got (λ (q : Procedure). q.slots ≤ slot_limit) code.procedures k p is.slots_most h))
-      (by_recursion (λ (p : Procedure). p.entry < length code.capsules) code.procedures (λ k p h. entry_there k p h)))
-      (capsules_small 0 code.capsules (omega (arith, is.capsules_most))
-      (by_recursion (IsCapsule code) code.capsules (λ k c h. got (IsCapsule code) code.capsules k c is.capsules h)))))
+          (procedures_small 0 code.procedures (omega (arith, is.procedures_most))
+          (by_recursion (λ (p : Procedure). p.slots ≤ slot_limit) code.procedures
+          (λ k p h. got (λ (q : Procedure). q.slots ≤ slot_limit) code.procedures k p is.slots_most h))
+          (by_recursion (λ (p : Procedure). p.entry < length code.capsules) code.procedures (λ k p h. entry_there k p h)))
+          (capsules_small 0 code.capsules (omega (arith, is.capsules_most))
+          (by_recursion (IsCapsule code) code.capsules (λ k c h. got (IsCapsule code) code.capsules k c is.capsules h))),
+    ),
+  )
     where
       entry_there : (k : ℕ) (p : Procedure) → slice_get code.procedures k ≡ Some p → p.entry < length code.capsules
       entry_there k p h = (subst (λ o. IfSome o (λ q. IsCapsuleOf code k q.entry)) h (is.entries k)).1

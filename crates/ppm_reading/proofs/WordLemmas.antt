@@ -1,8 +1,8 @@
 -- Tokens and their words: what is written of a token is read as it, and what is read as a token is what is written of it.
-use Rattle.std.proofs.Common.{◌≡◌, ◌∙◌, ℕ, zero, suc, ◌+◌, ◌-◌, ◌^◌, ◌<◌, ◌≤◌, ◌==◌, Bool, true, false, not, ◌&&◌, cond, nat_le, List, [], ◌∷◌, get_or, decimal, bytes_eq, Option, Some, None, refl, sym, ap, arith}
+use Rattle.std.proofs.Common.{◌≡◌, ◌∙◌, ℕ, suc, ◌^◌, ◌<◌, ◌==◌, Bool, true, false, not, ◌&&◌, cond, List, [], ◌∷◌, get_or, decimal, bytes_eq}
+use Rattle.std.proofs.Common.{Option, Some, None, refl, sym, ap, arith}
 use Rattle.std.proofs.Common.{eqb-true, ne_eqb}
-use Rattle.std.specs.Prelude.{ℤ, pos, negsuc}
-use Rattle.std.specs.Fmt.{signed_decimal}
+use Rattle.std.specs.Prelude.{pos, negsuc}
 use Rattle.std.proofs.lemmas.Bool.{both_ways}
 use Rattle.std.proofs.lemmas.Fmt.{first_decimal}
 use Rattle.std.proofs.lemmas.Slice.Eq.{bytes_eq-Decides}
@@ -71,12 +71,14 @@ word_of-token_of (b ∷ bs) h = by_minus (b == 45) refl h
         → b ∷ bs ≡ word_of (cond test (Number (value (b ∷ bs))) Other)
     by_number true e h = sym (decimal-value (b ∷ bs) e h)
     by_number false e h = absurd h
+
     by_register : (test : Bool) → (b == 114 && is_numeral bs) ≡ test → IsWhole (cond test (Register (value bs)) (named (keyword_of (b ∷ bs))))
         → b ∷ bs ≡ word_of (cond test (Register (value bs)) (named (keyword_of (b ∷ bs))))
     by_register true e h =
         let k = both_parts (b == 114) (is_numeral bs) e in
         λ i. eqb-true b 114 k.0 i ∷ sym (decimal-value bs k.1 h) i
     by_register false e h = word_of-keyword (b ∷ bs) h
+
     by_digit : (test : Bool) → is_digit b ≡ test
         → IsWhole (cond test (cond (is_numeral (b ∷ bs)) (Number (value (b ∷ bs))) Other)
         (cond (b == 114 && is_numeral bs) (Register (value bs)) (named (keyword_of (b ∷ bs)))))
@@ -84,6 +86,7 @@ word_of-token_of (b ∷ bs) h = by_minus (b == 45) refl h
         (cond (b == 114 && is_numeral bs) (Register (value bs)) (named (keyword_of (b ∷ bs)))))
     by_digit true e h = by_number (is_numeral (b ∷ bs)) refl h
     by_digit false e h = by_register (b == 114 && is_numeral bs) refl h
+
     by_minus : (test : Bool) → (b == 45) ≡ test
         → IsWhole (cond test (minus bs) (cond (is_digit b) (cond (is_numeral (b ∷ bs)) (Number (value (b ∷ bs))) Other)
         (cond (b == 114 && is_numeral bs) (Register (value bs)) (named (keyword_of (b ∷ bs))))))

@@ -1,12 +1,12 @@
 -- What is written of a code's parts is read as they are.
-use Rattle.std.proofs.Common.{◌≡◌, ◌∙◌, ℕ, zero, suc, ◌+◌, ◌-◌, ◌^◌, ◌<◌, ◌≤◌, ◌==◌, min, Bool, true, false, not, ◌&&◌, cond, nat_lt, nat_le, List, [], ◌∷◌, ◌++◌, map, length, Option, Some, None, refl, sym, ap, subst, arith}
+use Rattle.std.proofs.Common.{◌≡◌, ◌∙◌, ℕ, suc, ◌-◌, ◌^◌, ◌<◌, ◌≤◌, ◌==◌, min, Bool, true, false, ◌&&◌, cond, nat_lt, List, [], ◌∷◌, ◌++◌, map}
+use Rattle.std.proofs.Common.{Option, Some, None, refl, ap, arith}
 use Rattle.std.proofs.Common.{lt-ltb, eq-eqb, le-leb, ltb-true, ne_eqb, append_assoc, append-nil, FitsSigned, w64}
 use Rattle.std.specs.Prelude.{ℤ, pos, negsuc}
 use Rattle.std.specs.List.{flat_map, list_all, AllByRecursion}
 use Rattle.std.specs.Cmp.Derive.{both_true}
 use Rattle.std.proofs.Math.Bridge.{le_prop}
 use Rattle.std.proofs.lemmas.Bool.{both_ways}
-use Rattle.ppm_words.specs.declared.trap.Trap.{Trap}
 use Rattle.ppm_words.specs.declared.trap.Trap.TheVariants.{Overflow, DivZero, Index, Split}
 use Rattle.ppm_code.specs.declared.register.Register.{Register as TheRegister}
 use Rattle.ppm_code.specs.declared.act.End.TheVariants.{Next, Finish, Trap as Trapping, Call, Fork}
@@ -17,21 +17,22 @@ use Rattle.ppm_listing.specs.declared.keyword.Keyword.{Keyword}
 use Rattle.ppm_listing.specs.declared.keyword.Keyword.TheVariants as keyword
 use Rattle.ppm_listing.specs.declared.token.Token.{Token as Written}
 use Rattle.ppm_listing.specs.declared.token.Token.TheVariants as written
-use Rattle.ppm_listing.specs.Tokens.{Line, line, keyword_text, token_text, operand_text, line_text}
+use Rattle.ppm_listing.specs.Tokens.{Line, keyword_text, token_text, operand_text}
 use Rattle.ppm_listing.specs.Listing.{number, instr_line, text_of}
 use Rattle.ppm_listing.specs.Correct.{Fits, LineFits}
 use Rattle.ppm_listing.proofs.KeywordLemmas.{is_word, spelling}
 use Rattle.ppm_listing.proofs.TokenLemmas.{word_of_token}
 use Rattle.ppm_reading.specs.declared.token.Token.{Token}
-use Rattle.ppm_reading.specs.declared.token.Token.TheVariants.{Name, Register, Number, Negative, Absent, Other}
+use Rattle.ppm_reading.specs.declared.token.Token.TheVariants.{Name, Register}
 use Rattle.ppm_reading.specs.declared.part.Part.{Part}
 use Rattle.ppm_reading.specs.declared.part.Part.TheVariants as part
 use Rattle.ppm_reading.specs.Tokens.{in_front, split, token_of, tokens_of}
 use Rattle.ppm_reading.specs.declared.form.Sort.TheVariants as sort
-use Rattle.ppm_reading.specs.Forms.{is_of, is_number, has_form, number_of, register_with, register_of, constant_of, is_register, constant, instr_of, part_of, part_in, unended, line_of, lines_in, lines_of}
+use Rattle.ppm_reading.specs.Forms.{is_of, is_number, has_form, number_of, register_with, register_of, constant_of, is_register, constant}
+use Rattle.ppm_reading.specs.Forms.{instr_of, part_of, part_in, line_of, lines_in, lines_of}
 use Rattle.ppm_reading.proofs.NumberLemmas.{both_parts}
 use Rattle.ppm_reading.proofs.WordLemmas.{read_as, token_of-token_text}
-use Rattle.ppm_reading.proofs.FormLemmas.{IsBelow, IsSmall, small_limit, IsSmallLine, IsWholePart, part_line}
+use Rattle.ppm_reading.proofs.FormLemmas.{IsSmall, small_limit, IsSmallLine, IsWholePart, part_line}
 
 -- no byte is this separator
 abbrev IsFree : ℕ → List ℕ → Type 0
@@ -81,7 +82,11 @@ tokens_read l f =
 
 free_operands : (ts : List Written) → AllByRecursion Fits ts → IsFree 10 (flat_map operand_text ts)
 free_operands [] f = tt
-free_operands (t ∷ ts) f = (refl, free_append 10 (token_text t) (flat_map operand_text ts) (free_of_word 10 (token_text t) (omega arith) (word_of_token t f.0)) (free_operands ts f.1))
+free_operands (t ∷ ts) f = (
+  refl,
+  free_append 10 (token_text t) (flat_map operand_text ts)
+      (free_of_word 10 (token_text t) (omega arith) (word_of_token t f.0)) (free_operands ts f.1),
+)
 
 -- the lines of a text
 split_lines : (ls : List Line) → AllByRecursion LineFits ls → split 10 (text_of ls) ≡ map bytes_of ls ++ [] ∷ []
@@ -166,7 +171,8 @@ instr_read (Equal d a b) fits small =
     part_read keyword.Equal (map read_as (instr_line (Equal d a b)).operands) (Equal d a b) refl refl (registers_read (instr_line (Equal d a b)).operands)
     (λ j. Some (Equal (reg d j) (reg a j) (reg b j)))
 instr_read (NotEqual d a b) fits small =
-    part_read keyword.NotEqual (map read_as (instr_line (NotEqual d a b)).operands) (NotEqual d a b) refl refl (registers_read (instr_line (NotEqual d a b)).operands)
+    part_read keyword.NotEqual (map read_as (instr_line (NotEqual d a b)).operands) (NotEqual d a b) refl refl
+    (registers_read (instr_line (NotEqual d a b)).operands)
     (λ j. Some (NotEqual (reg d j) (reg a j) (reg b j)))
 instr_read (Less d a b) fits small =
     part_read keyword.Less (map read_as (instr_line (Less d a b)).operands) (Less d a b) refl refl (registers_read (instr_line (Less d a b)).operands)
@@ -178,10 +184,12 @@ instr_read (Len d a) fits small =
     part_read keyword.Len (map read_as (instr_line (Len d a)).operands) (Len d a) refl refl (registers_read (instr_line (Len d a)).operands)
     (λ j. Some (Len (reg d j) (reg a j)))
 instr_read (CutLeft d a b l) fits small =
-    part_read keyword.CutLeft (map read_as (instr_line (CutLeft d a b l)).operands) (CutLeft d a b l) refl refl (registers_read (instr_line (CutLeft d a b l)).operands)
+    part_read keyword.CutLeft (map read_as (instr_line (CutLeft d a b l)).operands) (CutLeft d a b l) refl refl
+    (registers_read (instr_line (CutLeft d a b l)).operands)
     (λ j. Some (CutLeft (reg d j) (reg a j) (reg b j) (num l small.1.1.1.0 j)))
 instr_read (CutRight d a b l) fits small =
-    part_read keyword.CutRight (map read_as (instr_line (CutRight d a b l)).operands) (CutRight d a b l) refl refl (registers_read (instr_line (CutRight d a b l)).operands)
+    part_read keyword.CutRight (map read_as (instr_line (CutRight d a b l)).operands) (CutRight d a b l) refl refl
+    (registers_read (instr_line (CutRight d a b l)).operands)
     (λ j. Some (CutRight (reg d j) (reg a j) (reg b j) (num l small.1.1.1.0 j)))
 instr_read (LoadSlot d s) fits small =
     part_read keyword.LoadSlot (map read_as (instr_line (LoadSlot d s)).operands) (LoadSlot d s) refl refl (registers_read (instr_line (LoadSlot d s)).operands)
@@ -199,10 +207,12 @@ instr_read (Put a b s l) fits small =
     part_read keyword.Put (map read_as (instr_line (Put a b s l)).operands) (Put a b s l) refl refl (registers_read (instr_line (Put a b s l)).operands)
     (λ j. Some (Put (reg a j) (reg b j) (reg s j) (num l small.1.1.1.0 j)))
 instr_read (BranchZero a t) fits small =
-    part_read keyword.BranchZero (map read_as (instr_line (BranchZero a t)).operands) (BranchZero a t) refl refl (registers_read (instr_line (BranchZero a t)).operands)
+    part_read keyword.BranchZero (map read_as (instr_line (BranchZero a t)).operands) (BranchZero a t) refl refl
+    (registers_read (instr_line (BranchZero a t)).operands)
     (λ j. Some (BranchZero (reg a j) (num t small.1.0 j)))
 instr_read (BranchNonZero a t) fits small =
-    part_read keyword.BranchNonZero (map read_as (instr_line (BranchNonZero a t)).operands) (BranchNonZero a t) refl refl (registers_read (instr_line (BranchNonZero a t)).operands)
+    part_read keyword.BranchNonZero (map read_as (instr_line (BranchNonZero a t)).operands) (BranchNonZero a t) refl refl
+    (registers_read (instr_line (BranchNonZero a t)).operands)
     (λ j. Some (BranchNonZero (reg a j) (num t small.1.0 j)))
 instr_read (Room n) fits small =
     part_read keyword.Room (map read_as (instr_line (Room n)).operands) (Room n) refl refl (registers_read (instr_line (Room n)).operands)
@@ -227,11 +237,14 @@ instr_read (Ends (Trapping Split l)) fits small =
     part_read keyword.Trap (map read_as (instr_line (Ends (Trapping Split l))).operands) (Ends (Trapping Split l)) refl refl refl
     (λ j. Some (Ends (Trapping Split (num l small.1.0 j))))
 instr_read (Ends (Call q k None)) fits small =
-    part_read keyword.Call (map read_as (instr_line (Ends (Call q k None))).operands) (Ends (Call q k None)) refl refl refl (λ j. Some (Ends (Call (num q small.0 j) (num k small.1.0 j) None)))
+    part_read keyword.Call (map read_as (instr_line (Ends (Call q k None))).operands) (Ends (Call q k None)) refl refl refl
+    (λ j. Some (Ends (Call (num q small.0 j) (num k small.1.0 j) None)))
 instr_read (Ends (Call q k (Some t))) fits small =
-    part_read keyword.CallTo (map read_as (instr_line (Ends (Call q k (Some t)))).operands) (Ends (Call q k (Some t))) refl refl refl (λ j. Some (Ends (Call (num q small.0 j) (num k small.1.0 j) (Some (num t small.1.1.0 j)))))
+    part_read keyword.CallTo (map read_as (instr_line (Ends (Call q k (Some t)))).operands) (Ends (Call q k (Some t))) refl refl refl
+    (λ j. Some (Ends (Call (num q small.0 j) (num k small.1.0 j) (Some (num t small.1.1.0 j)))))
 instr_read (Ends (Fork q p k None None)) fits small =
-    part_read keyword.Fork (map read_as (instr_line (Ends (Fork q p k None None))).operands) (Ends (Fork q p k None None)) refl refl refl (λ j. Some (Ends (Fork (num q small.0 j) (num p small.1.0 j) (num k small.1.1.0 j) None None)))
+    part_read keyword.Fork (map read_as (instr_line (Ends (Fork q p k None None))).operands) (Ends (Fork q p k None None)) refl refl refl
+    (λ j. Some (Ends (Fork (num q small.0 j) (num p small.1.0 j) (num k small.1.1.0 j) None None)))
 instr_read (Ends (Fork q p k None (Some u))) fits small =
     part_read keyword.ForkTo (map read_as (instr_line (Ends (Fork q p k None (Some u)))).operands) (Ends (Fork q p k None (Some u))) refl refl refl
     (λ j. Some (Ends (Fork (num q small.0 j) (num p small.1.0 j) (num k small.1.1.0 j) None (Some (num u small.1.1.1.1.0 j)))))
@@ -269,6 +282,7 @@ parts_read (x ∷ xs) w f s =
     λ i. (ap part_in (tokens_read (part_line x) f.0) ∙ part_of_line x w.0 f.0 s.0) i ∷ parts_read xs w.1 f.1 s.1 i
 
 -- the lines of a text of parts are the parts
-pub lines_of-text : (xs : List Part) → AllByRecursion IsWholePart xs → AllByRecursion LineFits (map part_line xs) → AllByRecursion IsSmallLine (map part_line xs)
+pub lines_of-text : (xs : List Part) → AllByRecursion IsWholePart xs → AllByRecursion LineFits (map part_line xs)
+    → AllByRecursion IsSmallLine (map part_line xs)
     → lines_of (text_of (map part_line xs)) ≡ map Some xs
 lines_of-text xs w f s = ap lines_in (split_lines (map part_line xs) f) ∙ lines_in-bytes (map part_line xs) ∙ parts_read xs w f s

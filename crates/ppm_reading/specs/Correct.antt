@@ -55,4 +55,5 @@ pub record FaultsTellListings : Type 0 where
   pub excludes : (text : List ℕ) (code : CodeParts) (rule : Fault) (line : ℕ) → IsListing text code → HasFault text rule line → ⊥
   pub covers : (text : List ℕ) → ((rule : Fault) (line : ℕ) → HasFault text rule line → ⊥) → (code : CodeParts) × IsListing text code
   pub one_code : (text : List ℕ) (c d : CodeParts) → IsListing text c → IsListing text d → c ≡ d
-  pub one_fault : (text : List ℕ) (rule other : Fault) (line later : ℕ) → IsFirstFault text rule line → IsFirstFault text other later → (rule ≡ other) × (line ≡ later)
+  pub one_fault : (text : List ℕ) (rule other : Fault) (line later : ℕ) → IsFirstFault text rule line → IsFirstFault text other later
+      → (rule ≡ other) × (line ≡ later)

@@ -1,9 +1,10 @@
 -- The rules of a listing, each a test of one line at its place, by what the whole text declares.
-use Rattle.std.specs.Prelude.{◌≡◌, ◌⊎◌, ◌<◌, ◌≤◌, IfSome, IfNone, ℕ, zero, suc, ◌+◌, ◌==◌, Bool, IsTrue, true, false, not, ◌&&◌, ◌||◌, nat_lt, nat_le, List, [], ◌∷◌, length, Option, Some, None, slice_get}
+use Rattle.std.specs.Prelude.{◌≡◌, ◌⊎◌, ◌<◌, ◌≤◌, IfSome, IfNone, ℕ, zero, suc, ◌+◌, ◌==◌, Bool, IsTrue, true, false, not, ◌&&◌, ◌||◌, nat_lt}
+use Rattle.std.specs.Prelude.{nat_le, List, [], ◌∷◌, length, Option, Some, None, slice_get}
 use Rattle.std.specs.List.{list_any}
 use Rattle.ppm_words.specs.Limits.{array_limit}
 use Rattle.ppm_code.specs.declared.act.End.{End}
-use Rattle.ppm_code.specs.declared.act.End.TheVariants.{Next, Finish, Trap, Call, Fork}
+use Rattle.ppm_code.specs.declared.act.End.TheVariants.{Next, Trap, Call, Fork}
 use Rattle.ppm_code.specs.declared.code.Capsule.{Capsule}
 use Rattle.ppm_code.specs.declared.code.CodeParts.{CodeParts}
 use Rattle.ppm_code.specs.declared.instr.Instr.{Instr}
@@ -17,7 +18,7 @@ use Rattle.ppm_reading.specs.declared.listing_error.Fault.TheVariants.{NoSuchFor
 use Rattle.ppm_reading.specs.declared.part.Part.{Part}
 use Rattle.ppm_reading.specs.declared.part.Part.TheVariants as part
 use Rattle.ppm_reading.specs.declared.place.Place.{Place}
-use Rattle.ppm_reading.specs.declared.place.Place.TheVariants.{AtVersion, AtRoot, AtProcedure, Within}
+use Rattle.ppm_reading.specs.declared.place.Place.TheVariants.{Within}
 use Rattle.ppm_reading.specs.Tokens.{is_empty}
 use Rattle.ppm_reading.specs.Places.{next}
 use Rattle.ppm_reading.specs.ErrorNumbers.{fault_number}

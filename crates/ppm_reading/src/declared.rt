@@ -73,10 +73,8 @@ fn instrs(alloc: Global, lines: &[Option<Part>]) -> Result<Vec<Instr>, NoMemory>
         match line {
             Some(Part::Capsule { .. }) => return Ok(instrs),
             Some(Part::Instr(instr)) => instrs.push(instr_or_end(*instr))?,
-            None
-            | Some(Part::Version)
-            | Some(Part::Root { .. })
-            | Some(Part::Procedure { .. }) => instrs.push(Instr::Ends(End::Finish))?,
+            None | Some(Part::Version) | Some(Part::Root { .. }) | Some(Part::Procedure { .. }) =>
+                instrs.push(Instr::Ends(End::Finish))?,
         }
         left = rest;
     }

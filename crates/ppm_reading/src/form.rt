@@ -2,7 +2,8 @@
 ghost use Rattle.std.specs.Prelude.{◌≡◌};
 ghost use Rattle.std.specs.List.{list_all};
 ghost use Rattle.ppm_listing.specs.declared.keyword.Keyword.TheVariants as keyword;
-ghost use Rattle.ppm_reading.specs.Forms.{is_of as is_of_sort, are_of as are_of_sorts, has_form as is_form, is_number as is_number_token, is_absent as is_absent_token, token_at as at};
+ghost use Rattle.ppm_reading.specs.Forms.{is_of as is_of_sort, are_of as are_of_sorts, has_form as is_form, is_number as is_number_token};
+ghost use Rattle.ppm_reading.specs.Forms.{is_absent as is_absent_token, token_at as at};
 
 use crate::token::Token;
 use ppm_listing::Keyword;
@@ -135,12 +136,7 @@ pub(crate) fn has_form(keyword: Keyword, tokens: &[Token]) -> bool
         | Keyword::CutRight
         | Keyword::Get
         | Keyword::Put => are_of(
-            &[
-                Sort::Register,
-                Sort::Register,
-                Sort::Register,
-                Sort::Number,
-            ],
+            &[Sort::Register, Sort::Register, Sort::Register, Sort::Number],
             tokens,
         ),
         Keyword::Equal | Keyword::NotEqual | Keyword::Less | Keyword::AtMost => {

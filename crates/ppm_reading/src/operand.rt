@@ -71,13 +71,7 @@ pub(crate) fn constant_of(token: Token) -> Option<i64>
     ensures { result ≡ of_constant token }
 {
     match token {
-        Token::Number(n) => {
-            if n < 1 << 63 {
-                Some(n as i64)
-            } else {
-                None
-            }
-        }
+        Token::Number(n) => { if n < 1 << 63 { Some(n as i64) } else { None } }
         Token::Negative(n) => {
             if n <= 1 << 63 {
                 Some(-1 - (n.saturating_sub(1) as i64))

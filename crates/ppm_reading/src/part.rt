@@ -19,21 +19,11 @@ pub enum Part {
     /// The version of the form, 1.
     Version,
     /// The procedure of the root, and the arrays of its first slots.
-    Root {
-        procedure: u32,
-        arrays: Items<u32>,
-    },
+    Root { procedure: u32, arrays: Items<u32> },
     /// A procedure with its number.
-    Procedure {
-        number: u32,
-        slots: u32,
-        entry: u32,
-    },
+    Procedure { number: u32, slots: u32, entry: u32 },
     /// A capsule with its number, in front of its instructions.
-    Capsule {
-        number: u32,
-        procedure: u32,
-    },
+    Capsule { number: u32, procedure: u32 },
     /// An instruction; `None` where it names a register, a constant or a trap that there is not.
     Instr(Option<Instr>),
 }

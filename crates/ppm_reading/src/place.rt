@@ -105,10 +105,12 @@ impl Place {
             },
             Place::AtProcedure { number } => match line {
                 Some(Part::Procedure { .. }) => Place::AtProcedure { number: number + 1 },
-                Some(Part::Capsule {
-                    number: capsule,
-                    procedure,
-                }) => Place::begin(*capsule, *procedure),
+                Some(
+                    Part::Capsule {
+                        number: capsule,
+                        procedure,
+                    },
+                ) => Place::begin(*capsule, *procedure),
                 _ => self,
             },
             Place::Within {

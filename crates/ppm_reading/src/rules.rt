@@ -95,7 +95,9 @@ fn end_out_of_range(code: &CodeParts, procedure: u32, end: End) -> bool
         End::Trap { line, .. } => is_no_line(line),
         End::Call { to, .. } => is_no_slot(slots_of(code, procedure), to),
         End::Fork {
-            left_to, right_to, ..
+            left_to,
+            right_to,
+            ..
         } => {
             let slots = slots_of(code, procedure);
             is_no_slot(slots, left_to) || is_no_slot(slots, right_to)
@@ -214,10 +216,8 @@ pub(crate) fn is_not_forward(code: &CodeParts, place: Place, part: &Part) -> boo
                 Some(instr) => instr_not_forward(code, capsule, at, instr),
                 None => false,
             },
-            Part::Version
-            | Part::Root { .. }
-            | Part::Procedure { .. }
-            | Part::Capsule { .. } => false,
+            Part::Version | Part::Root { .. } | Part::Procedure { .. } | Part::Capsule { .. } =>
+                false,
         },
         Place::AtVersion | Place::AtRoot | Place::AtProcedure { .. } => false,
     }
@@ -282,7 +282,11 @@ fn instr_has_wrong_room(code: &CodeParts, at: u32, room: Option<u32>, instr: Ins
         Instr::Room { .. } => !(at == 0),
         Instr::StoreNew { offset, .. } => is_past_room(room, offset),
         Instr::Ends(End::Call { procedure, .. }) => {
-            is_no_room_of(room, is_procedure(code, procedure), frame_size(code, procedure))
+            is_no_room_of(
+                room,
+                is_procedure(code, procedure),
+                frame_size(code, procedure),
+            )
         }
         Instr::Ends(End::Fork { left, right, .. }) => is_no_room_of(
             room,
@@ -303,10 +307,8 @@ pub(crate) fn has_wrong_room(code: &CodeParts, place: Place, part: &Part) -> boo
                 Some(instr) => instr_has_wrong_room(code, at, room, instr),
                 None => false,
             },
-            Part::Version
-            | Part::Root { .. }
-            | Part::Procedure { .. }
-            | Part::Capsule { .. } => false,
+            Part::Version | Part::Root { .. } | Part::Procedure { .. } | Part::Capsule { .. } =>
+                false,
         },
         Place::AtVersion | Place::AtRoot | Place::AtProcedure { .. } => false,
     }

@@ -1,7 +1,7 @@
-use Rattle.std.proofs.Common.{arith, subst, sym, take, drop, length, ◌-◌, ◌+◌, ◌∙◌}
+use Rattle.std.proofs.Common.{arith, subst, sym, ◌∙◌}
 use Rattle.ppm_reading.specs.declared.place.Place.TheVariants.{AtVersion}
 use Rattle.ppm_reading.specs.Faults.{IsLeastRule}
-use Rattle.ppm_reading.proofs.FirstLemmas.{IsPassed, passed_step, breaks_first, ends_now, counted-next}
+use Rattle.ppm_reading.proofs.FirstLemmas.{passed_step, breaks_first, ends_now, counted-next}
 use Rattle.ppm_reading.proofs.first.first_fault.Goals as goal
 
 -- the line breaks a rule, and none before it

@@ -1,8 +1,6 @@
-use Rattle.std.proofs.Common.{◌≡◌, ◌+◌, ◌≤◌, ℕ, length}
-use Rattle.ppm_reading.specs.declared.listing_error.Fault.{Fault}
+use Rattle.std.proofs.Common.{◌≡◌, ◌+◌, ◌≤◌, length}
 use Rattle.ppm_reading.specs.declared.place.Place.TheVariants.{AtVersion}
 use Rattle.ppm_reading.specs.Places.{counted}
-use Rattle.ppm_reading.specs.Faults.{BreaksAt}
 use Rattle.ppm_reading.proofs.FirstLemmas.{IsPassed}
 use Rattle.ppm_reading.proofs.first.first_fault.Given as goal
 

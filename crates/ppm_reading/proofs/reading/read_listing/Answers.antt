@@ -1,4 +1,4 @@
-use Rattle.std.proofs.Common.{◌≡◌, ◌∙◌, sym, ap, subst}
+use Rattle.std.proofs.Common.{◌∙◌, sym, ap, subst}
 use Rattle.ppm_listing.specs.Listing.{listing_of}
 use Rattle.ppm_listing.specs.Correct.{NumbersFit}
 use Rattle.ppm_reading.specs.Correct.{IsRefusal}
@@ -8,23 +8,27 @@ use Rattle.ppm_reading.proofs.reading.read_listing.Goals as goal
 -- the first broken rule is the first fault
 pub returns-in-Some-clause-err : goal.returns-in-Some-clause-err
 returns-in-Some-clause-err c =
-    subst (IsRefusal c.args.text.now) (sym c.at.ensures) (found_refusal c.args.text.now c.in_ok-parts.parts c.in_ok-lines.lines.items c.deref.result.now c.if-text-gt-TEXT_LIMIT.false
+    subst (IsRefusal c.args.text.now) (sym c.at.ensures) (found_refusal c.args.text.now c.in_ok-parts.parts c.in_ok-lines.lines.items
+    c.deref.result.now c.if-text-gt-TEXT_LIMIT.false
     c.in_ok-lines.ensures.lines c.deref.ensures.value c.in_ok-parts.ensures c.deref-2.result.now c.deref-2.ensures.value c.in-Some.fault c.in-Some.line
     c.in-Some.ensures)
 
 -- no rule is broken, so the parts are a code
 pub from_parts-requires : goal.from_parts-requires
 from_parts-requires c =
-    (found_listing c.args.text.now c.in_ok-parts.parts c.in_ok-lines.lines.items c.deref.result.now c.in_ok-lines.ensures.lines c.deref.ensures.value c.in_ok-parts.ensures c.deref-2.result.now
+    (found_listing c.args.text.now c.in_ok-parts.parts c.in_ok-lines.lines.items c.deref.result.now c.in_ok-lines.ensures.lines c.deref.ensures.value
+    c.in_ok-parts.ensures c.deref-2.result.now
     c.deref-2.ensures.value c.in-None.ensures).code
 
 -- and the text is its listing
 pub returns-clause-ok : goal.returns-clause-ok
 returns-clause-ok c =
-    (found_listing c.args.text.now c.in_ok-parts.parts c.in_ok-lines.lines.items c.deref.result.now c.in_ok-lines.ensures.lines c.deref.ensures.value c.in_ok-parts.ensures c.deref-2.result.now
+    (found_listing c.args.text.now c.in_ok-parts.parts c.in_ok-lines.lines.items c.deref.result.now c.in_ok-lines.ensures.lines c.deref.ensures.value
+    c.in_ok-parts.ensures c.deref-2.result.now
     c.deref-2.ensures.value c.in-None.ensures).same ∙ ap listing_of (sym c.from_parts.ensures)
 
 pub returns-clause-fits : goal.returns-clause-fits
 returns-clause-fits c =
-    subst NumbersFit (sym c.from_parts.ensures) (found_listing c.args.text.now c.in_ok-parts.parts c.in_ok-lines.lines.items c.deref.result.now c.in_ok-lines.ensures.lines c.deref.ensures.value c.in_ok-parts.ensures
+    subst NumbersFit (sym c.from_parts.ensures) (found_listing c.args.text.now c.in_ok-parts.parts c.in_ok-lines.lines.items c.deref.result.now
+    c.in_ok-lines.ensures.lines c.deref.ensures.value c.in_ok-parts.ensures
     c.deref-2.result.now c.deref-2.ensures.value c.in-None.ensures).fits
