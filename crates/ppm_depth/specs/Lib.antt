@@ -1,3 +1,5 @@
+pub mod Image
 pub mod Run
 pub mod Sound
 pub mod Start
+pub mod Store

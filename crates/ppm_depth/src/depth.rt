@@ -4,6 +4,10 @@ ghost use Rattle.ppm_code.specs.Tidy.{IsTidy};
 ghost use Rattle.ppm_depth.specs.Start.{NamesArrays};
 ghost use Rattle.ppm_depth.specs.Run.{IsDepthRun};
 
+use crate::frame::Finish;
+use crate::image::{root_blocks, to_arrays, to_words};
+use crate::store::Store;
+use crate::strand::{Strand, entry};
 use ppm_code::Code;
 use ppm_words::{Input, NoMemory, Outcome};
 use std::alloc::Global;
@@ -31,5 +35,21 @@ pub fn depth_first(
     requires few { capsules ≤ 2 ^ 40 }
     ensures run { IfOk result (IsDepthRun code.now input.now capsules) }
 {
-    Err(NoMemory)
+    let arrays = input.arrays();
+    let blocks = root_blocks(alloc, code, arrays)?;
+    let words = to_words(alloc, arrays)?;
+    let frame_words = blocks.len() as u64;
+    let mut strand = Strand::new(alloc, Store { blocks, words });
+    let finish = strand.run(code, entry(code, code.parts().root, 0), capsules)?;
+    let outcome = match finish {
+        Some(Finish::Gave(_)) => Outcome::Ended(to_arrays(alloc, arrays, &strand.store.words)?),
+        Some(Finish::Trapped(trap, line)) => Outcome::Trapped(trap, line),
+        None => Outcome::NotWithin,
+    };
+    Ok(DepthRun {
+        outcome,
+        capsules: strand.counts.capsules,
+        forks: strand.counts.forks,
+        block_words: frame_words + strand.counts.block_words,
+    })
 }

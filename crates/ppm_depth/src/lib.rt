@@ -5,8 +5,15 @@
 //! After the depth-first order of fork-join programs; the stack of blocks is this project's.
 #![tactic(auto)]
 
+mod capsule;
 mod depth;
+mod frame;
+mod image;
 mod laws;
+mod store;
+mod strand;
+#[cfg(test)]
+mod tests;
 
 pub use depth::{DepthRun, depth_first};
 pub use laws::orders_come_to_one_end;
