@@ -1,0 +1,3 @@
+pub mod ActLemmas
+pub mod CodeLemmas
+pub mod RestLemmas

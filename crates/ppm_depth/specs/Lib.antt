@@ -3,3 +3,4 @@ pub mod Run
 pub mod Sound
 pub mod Start
 pub mod Store
+pub mod Whole
