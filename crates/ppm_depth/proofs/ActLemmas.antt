@@ -13,27 +13,19 @@ use Rattle.ppm_code.specs.declared.code.CodeParts.{CodeParts}
 use Rattle.ppm_code.specs.declared.instr.Instr.{Instr}
 use Rattle.ppm_code.specs.declared.instr.Instr.TheVariants.{Const, Move, Add, Sub, Mul, Div, Rem, Equal, NotEqual, Less, AtMost, Len, CutLeft, CutRight}
 use Rattle.ppm_code.specs.declared.instr.Instr.TheVariants.{LoadSlot, StoreCur, Give, Get, Put, BranchZero, BranchNonZero, Room, StoreNew, Ends}
-use Rattle.ppm_code.specs.declared.location.Location.{Location}
-use Rattle.ppm_code.specs.declared.location.Location.TheVariants.{Frame, New, Array}
-use Rattle.ppm_code.specs.declared.location.FrameWord.TheVariants.{Slot, Value}
+use Rattle.ppm_code.specs.declared.location.Location.TheVariants.{Array}
 use Rattle.ppm_code.specs.declared.register.Register.{Register}
 use Rattle.ppm_code.specs.Acts.{does, held, traps, element_of, at_element, divided, fits, is_zero, start_of, length_of}
 use Rattle.ppm_code.specs.Code.{EndFits, Fits, IsLine}
 use Rattle.ppm_code.specs.Limits.{room_limit}
 use Rattle.ppm_code.specs.Sizes.{slots_of}
+use Rattle.ppm_depth.specs.Store.{IsWithin}
 
 module _ (code : CodeParts) (q : ℕ) (is : List Instr) (array_words size at : ℕ) where
-  -- a location that is there
-  abbrev pub LocationFits : Location → Type 0
-  LocationFits (Frame (Slot slot)) = slot < slots_of code q
-  LocationFits (Frame Value) = Unit {0}
-  LocationFits (New offset) = offset < size
-  LocationFits (Array index) = index < array_words
-
-  -- a step at one; room is asked for at the beginning
+  -- a step within its frame, its block and the words; room is asked for at the beginning
   abbrev pub StepFits : Step → Type 0
-  StepFits (Loads location to) = LocationFits location
-  StepFits (Stores location word) = LocationFits location
+  StepFits (Loads location to) = IsWithin (slots_of code q) size array_words location
+  StepFits (Stores location word) = IsWithin (slots_of code q) size array_words location
   StepFits (Asks count) = (at ≡ 0) × (count ≤ room_limit)
 
   -- and an act

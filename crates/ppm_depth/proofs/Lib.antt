@@ -1,3 +1,5 @@
 pub mod ActLemmas
 pub mod CodeLemmas
 pub mod RestLemmas
+pub mod StackLemmas
+pub mod WholeLemmas

@@ -1,6 +1,9 @@
 pub mod Image
+pub mod Moves
 pub mod Run
 pub mod Sound
 pub mod Start
+pub mod Stack
 pub mod Store
+pub mod Turns
 pub mod Whole

@@ -68,9 +68,16 @@ asked_by (Loads location to) = 0
 asked_by (Stores location word) = 0
 asked_by (Asks count) = count
 
+-- the location is one of so many slots, words of the new block or words of the arrays
+abbrev pub IsWithin : (slots size array_words : ℕ) → Location → Type 0
+IsWithin slots size array_words (Frame (Slot slot)) = slot < slots
+IsWithin slots size array_words (Frame Value) = Unit {0}
+IsWithin slots size array_words (New offset) = offset < size
+IsWithin slots size array_words (Array index) = index < array_words
+
 -- the memory that a capsule sees: its frame's slots, the words of its new block, and the words of the arrays
 pub record Shows (slots size : ℕ) (p : Place) (blocks words : List ℕ) (m : Memory Where) : Type 0 where
-  pub slots : (slot : ℕ) → slot < slots → m (Own (Slot slot)) ≡ get_or blocks (own_at p.frame (Slot slot)) 0
+  pub slot : (slot : ℕ) → slot < slots → m (Own (Slot slot)) ≡ get_or blocks (own_at p.frame (Slot slot)) 0
   pub value : m (Own Value) ≡ get_or blocks (own_at p.frame Value) 0
   pub new : (offset : ℕ) → offset < size → m (NewWord offset) ≡ get_or blocks (p.block + offset) 0
   pub shared : (index : ℕ) → m (Shared index) ≡ get_or words index 0

@@ -51,7 +51,7 @@ module _ (code : CodeParts) where
   -- the capsule with a number, from a memory, has come to its end
   pub record IsWhole (number : ℕ) (p : Place) (blocks words : List ℕ) (m : Memory Where) (done : Done) : Type 0 where
     pub end : done.end ≡ ending code_locations (capsule_of (length words) (instrs_of code number)) m
-    pub asked : done.asked ≡ asked code_locations (capsule_of (length words) (instrs_of code number)) m
+    pub asks : done.asked ≡ asked code_locations (capsule_of (length words) (instrs_of code number)) m
     pub shows : Shows (slots_at number) (block_at number) p blocks words (leaves code_locations (capsule_of (length words) (instrs_of code number)) m)
 
 -- but for a frame's own words and a block at its end the stack is as it was

@@ -1,7 +1,7 @@
 //! One capsule, run whole.
 ghost use Rattle.std.specs.Prelude.{◌≡◌, ◌<◌, ◌≤◌, length};
 ghost use Rattle.ppm_capsules.specs.Capsule.{Memory};
-ghost use Rattle.ppm_code.specs.Code.{EndFits, room_of};
+ghost use Rattle.ppm_code.specs.Code.{EndFits, IsCode, room_of};
 ghost use Rattle.ppm_code.specs.Limits.{room_limit};
 ghost use Rattle.ppm_code.specs.Locations.{Where};
 ghost use Rattle.ppm_code.specs.Strands.{instrs_of as instrs_in_code};
@@ -22,7 +22,8 @@ pub struct Done {
 /// The instructions of a capsule.
 pub(crate) fn instrs_of(code: &Code, number: u32) -> &[Instr]
     requires { number < length code.now.capsules }
-    ensures { result.now ≡ instrs_in_code code.now number }
+    ensures value { result.now ≡ instrs_in_code code.now number }
+    ensures code { IsCode code.now }
 {
     let parts = code.parts();
     parts.capsules.as_slice()[number as usize].instrs.as_slice()
@@ -53,7 +54,7 @@ pub(crate) fn run_capsule(code: &Code, number: u32, place: Place, store: &mut St
     ensures end { EndFits code.now (procedure_at code.now number) (instrs_in_code code.now number) result.end }
 {
     let instrs = instrs_of(code, number);
-    let array_words = store.words.len() as u64;
+    let array_words = store.words.as_slice().len() as u64;
     let mut registers = [0; 64];
     let mut asked = 0;
     let mut at = 0;

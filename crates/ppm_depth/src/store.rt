@@ -76,7 +76,7 @@ impl Store {
     /// A new block on the stack, with 0 in its words.
     pub(crate) fn open_block(&mut self, words: usize) -> Result<(), NoMemory>
         ensures blocks { OnOk result (self.new.blocks.items ≡ self.old.blocks.items ++ replicate words 0) }
-        ensures words { self.new.words.items ≡ self.old.words.items }
+        ensures words { OnOk result (self.new.words.items ≡ self.old.words.items) }
     {
         for _ in 0..words {
             self.blocks.push(0)?;

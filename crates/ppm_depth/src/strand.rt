@@ -1,5 +1,19 @@
 //! The one strand of a depth-first run: a stack of blocks, and the frames that wait.
-use crate::capsule::{block_words, instrs_of, run_capsule};
+ghost use Rattle.std.specs.Prelude.{[], ◌≡◌, ◌<◌, ◌≤◌, ◌^◌, ◌+◌, IfOk, OnOk, length};
+ghost use Rattle.ppm_strands.specs.Run.{none, plus};
+ghost use Rattle.ppm_code.specs.Code.{EndFits, IsCode};
+ghost use Rattle.ppm_code.specs.Limits.{room_limit};
+ghost use Rattle.ppm_code.specs.Strands.{instrs_of as instrs_in_code};
+ghost use Rattle.ppm_code.specs.Tidy.{IsTidy};
+ghost use Rattle.ppm_depth.specs.Moves.{AreSlotsThere, IsSlotThere, entry_at, gone_on, joined, resumed};
+ghost use Rattle.ppm_depth.specs.Moves.{counts_by, now_after, stack_after, waiting_after, with_slot};
+ghost use Rattle.ppm_depth.specs.Moves.{stack_gone_on, stack_joined, stack_resumed, waiting_resumed};
+ghost use Rattle.ppm_depth.specs.Stack.{Strands};
+ghost use Rattle.ppm_depth.specs.Turns.{AreFew, ShowsTree, Turns, counts_of};
+ghost use Rattle.ppm_depth.specs.Whole.{procedure_at, size_at};
+ghost use Rattle.ppm_depth.specs.declared.frame.Now.TheVariants.{At};
+
+use crate::capsule::{Done, block_words, instrs_of, run_capsule};
 use crate::frame::{Finish, For, Frame, Now, Waiting};
 use crate::store::{Place, Store};
 use ppm_code::{Code, End, frame_size};
@@ -24,6 +38,9 @@ pub struct Strand {
 
 /// The frame of a procedure that begins at a word of the stack.
 pub(crate) fn entry(code: &Code, procedure: u32, base: usize) -> Frame
+    requires { procedure < length code.now.procedures }
+    ensures value { result ≡ entry_at code.now procedure base }
+    ensures code { IsCode code.now }
 {
     let parts = code.parts();
     Frame {
@@ -34,6 +51,8 @@ pub(crate) fn entry(code: &Code, procedure: u32, base: usize) -> Frame
 
 /// Puts a value into a slot of a frame, if one is named.
 fn take_in(blocks: &mut Vec<u64>, frame: Frame, to: Option<u32>, value: u64)
+    requires { IsSlotThere frame to (length blocks.old.items) }
+    ensures { blocks.new.items ≡ with_slot frame to value blocks.old.items }
 {
     if let Some(slot) = to {
         blocks[frame.base + (6 + slot as usize)] = value;
@@ -42,6 +61,9 @@ fn take_in(blocks: &mut Vec<u64>, frame: Frame, to: Option<u32>, value: u64)
 
 /// How a frame goes on once its callee or its right branch is over.
 fn go_on(blocks: &mut Vec<u64>, frame: Frame, to: Option<u32>, finish: Finish) -> Now
+    requires { IsSlotThere frame to (length blocks.old.items) }
+    ensures now { result ≡ gone_on frame finish }
+    ensures blocks { blocks.new.items ≡ stack_gone_on frame to finish blocks.old.items }
 {
     match finish {
         Finish::Trapped(..) => Now::Over(finish),
@@ -55,6 +77,10 @@ fn go_on(blocks: &mut Vec<u64>, frame: Frame, to: Option<u32>, finish: Finish) -
 impl Strand {
     /// A strand with nothing counted, where no frame waits.
     pub(crate) fn new(alloc: Global, store: Store) -> Self
+        ensures store { result.store ≡ store }
+        ensures waiting { result.waiting.items ≡ [] }
+        ensures counts { counts_of result.counts ≡ none }
+        ensures few { AreFew result.counts }
     {
         Strand {
             store,
@@ -75,6 +101,15 @@ impl Strand {
         block: usize,
         end: End,
     ) -> Result<Now, NoMemory>
+        requires there { frame.base + size_at code.now frame.capsule ≤ block }
+        requires block { block ≤ length self.old.store.blocks.items }
+        requires fits { EndFits code.now (procedure_at code.now frame.capsule) (instrs_in_code code.now frame.capsule) end }
+        ensures now { IfOk result (λ now. now ≡ now_after code.now frame block self.old.store.blocks.items end) }
+        ensures blocks { OnOk result (self.new.store.blocks.items ≡ stack_after block self.old.store.blocks.items end) }
+        ensures waiting { OnOk result
+            (self.new.waiting.items ≡ waiting_after code.now frame block self.old.waiting.items end) }
+        ensures words { self.new.store.words.items ≡ self.old.store.words.items }
+        ensures counts { self.new.counts ≡ self.old.counts }
     {
         match end {
             End::Next { capsule } => {
@@ -135,6 +170,14 @@ impl Strand {
 
     /// Runs the capsule at which a frame stands.
     fn advance(&mut self, code: &Code, frame: Frame) -> Result<Now, NoMemory>
+        requires tidy { IsTidy code.now }
+        requires there { frame.capsule < length code.now.capsules }
+        requires stack { frame.base + size_at code.now frame.capsule ≤ length self.old.store.blocks.items }
+        requires few { AreFew self.old.counts }
+        requires capsules { self.old.counts.capsules < 2 ^ 40 }
+        ensures turn { IfOk result (λ now. Turns code.now 1 self.old self.new (At frame) now) }
+        ensures words { OnOk result (length self.new.store.words.items ≡ length self.old.store.words.items) }
+        ensures few { OnOk result (AreFew self.new.counts) }
     {
         let block = self.store.blocks.len();
         let words = block_words(instrs_of(code, frame.capsule));
@@ -144,12 +187,21 @@ impl Strand {
             block,
         };
         let done = run_capsule(code, frame.capsule, place, &mut self.store);
-        self.counts = counted(self.counts, done.end, done.asked);
+        self.counts = counted(self.counts, done);
         self.follow(code, frame, block, done.end)
     }
 
     /// What follows where that for which a frame waits is over.
     fn resume(&mut self, waiting: Waiting, finish: Finish) -> Result<Now, NoMemory>
+        requires block { waiting.block ≤ length self.old.store.blocks.items }
+        requires slots { AreSlotsThere waiting.frame waiting.on waiting.block }
+        ensures now { IfOk result (λ now. now ≡ resumed waiting waiting.on finish) }
+        ensures blocks { OnOk result
+            (self.new.store.blocks.items ≡ stack_resumed waiting waiting.on finish self.old.store.blocks.items) }
+        ensures waiting { OnOk result
+            (self.new.waiting.items ≡ waiting_resumed waiting waiting.on finish self.old.waiting.items) }
+        ensures words { self.new.store.words.items ≡ self.old.store.words.items }
+        ensures counts { self.new.counts ≡ self.old.counts }
     {
         let frame = waiting.frame;
         match waiting.on {
@@ -206,6 +258,10 @@ fn join(
     to: Option<u32>,
     right: Finish,
 ) -> Now
+    requires left { IsSlotThere frame left_to (length blocks.old.items) }
+    requires right { IsSlotThere frame to (length blocks.old.items) }
+    ensures now { result ≡ joined frame left right }
+    ensures blocks { blocks.new.items ≡ stack_joined frame left_to left to right blocks.old.items }
 {
     match left {
         Finish::Trapped(..) => Now::Over(left),
@@ -217,15 +273,20 @@ fn join(
 }
 
 /// The counts with those of one capsule.
-fn counted(counts: Counts, end: End, asked: u32) -> Counts
+fn counted(counts: Counts, done: Done) -> Counts
+    requires few { AreFew counts }
+    requires capsules { counts.capsules < 2 ^ 40 }
+    requires asked { done.asked ≤ room_limit }
+    ensures value { counts_of result ≡ plus (counts_of counts) (counts_by done) }
+    ensures few { AreFew result }
 {
-    let forks = match end {
+    let forks = match done.end {
         End::Fork { .. } => 1,
         End::Next { .. } | End::Finish | End::Trap { .. } | End::Call { .. } => 0,
     };
     Counts {
         capsules: counts.capsules + 1,
         forks: counts.forks + forks,
-        block_words: counts.block_words + u64::from(asked),
+        block_words: counts.block_words + u64::from(done.asked),
     }
 }
