@@ -1,5 +1,9 @@
 pub mod ActLemmas
+pub mod AdvanceLemmas
 pub mod CodeLemmas
+pub mod FollowLemmas
 pub mod RestLemmas
+pub mod ResumeLemmas
 pub mod StackLemmas
+pub mod TurnLemmas
 pub mod WholeLemmas

@@ -26,10 +26,10 @@ put_word true xs at x v w less same other before =
 put_word false xs at x v w less same other before = before ∙ sym (get_or-set_other xs at x v 0 (other refl))
 
 -- numbers are one where they test so
-is_number : (i j : ℕ) → (j == i) ≡ true → j ≡ i
+pub is_number : (i j : ℕ) → (j == i) ≡ true → j ≡ i
 is_number i j e = eqb-true j i e
 
-is_no_number : (i j : ℕ) → (j == i) ≡ false → j ≢ i
+pub is_no_number : (i j : ℕ) → (j == i) ≡ false → j ≢ i
 is_no_number i j e same = let yes = eq-eqb j i same in cc
 
 module _ (slots size : ℕ) (p : Place) where

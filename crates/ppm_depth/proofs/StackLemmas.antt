@@ -99,7 +99,7 @@ last_of [] (z ∷ ys) x y e = absurd (let n = ap (λ (zs : List _). length zs) e
 last_of (z ∷ xs) [] x y e = absurd (let n = ap (λ (zs : List _). length zs) e in omega (arith, n, length_push xs x))
 last_of (z ∷ xs) (u ∷ ys) x y e =
     let rest = last_of xs ys x y (ap (λ (zs : List _). drop 1 zs) e) in
-    (rest.0, ap₂ (λ a (as : List _). a ∷ as) (ap (λ (zs : List _). get_or zs 0 z) e) rest.1)
+    (rest.0, ap₂ (λ a (zs : List _). a ∷ zs) (ap (λ (zs : List _). get_or zs 0 z) e) rest.1)
 
 pub innermost : (s : Above) (ws : List Waiting) (w : Waiting) → listed s ≡ ws ++ (w ∷ []) → Innermost ws w s
 innermost Root ws w e = let n = ap (λ (zs : List Waiting). length zs) e in omega (arith, n, length_push ws w)

@@ -117,3 +117,13 @@ abbrev pub AreSlotsThere : Frame → For → ℕ → Type 0
 AreSlotsThere frame (Callee to) top = IsSlotThere frame to top
 AreSlotsThere frame (Left right left_to to) top = Unit {0}
 AreSlotsThere frame (Right left left_to to) top = IsSlotThere frame left_to top × IsSlotThere frame to top
+
+-- how much of the strand's work waits, so that each turn but a capsule leaves less
+abbrev pub pending_for : For → ℕ
+pending_for (Callee to) = 2
+pending_for (Left right left_to to) = 4
+pending_for (Right left left_to to) = 2
+
+abbrev pub pending : List Waiting → ℕ
+pending [] = 0
+pending (w ∷ ws) = pending_for w.on + pending ws

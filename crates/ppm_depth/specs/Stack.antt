@@ -104,4 +104,4 @@ module _ (code : CodeParts) where
     pub waits : listed above ≡ waiting
     pub leaf : Strands
     pub tree : t ≡ tree_at above leaf
-    pub current : IsNow blocks current above leaf
+    pub at : IsNow blocks current above leaf

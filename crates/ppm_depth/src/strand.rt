@@ -7,9 +7,10 @@ ghost use Rattle.ppm_code.specs.Strands.{instrs_of as instrs_in_code};
 ghost use Rattle.ppm_code.specs.Tidy.{IsTidy};
 ghost use Rattle.ppm_depth.specs.Moves.{AreSlotsThere, IsSlotThere, entry_at, gone_on, joined, resumed};
 ghost use Rattle.ppm_depth.specs.Moves.{counts_by, now_after, stack_after, waiting_after, with_slot};
-ghost use Rattle.ppm_depth.specs.Moves.{stack_gone_on, stack_joined, stack_resumed, waiting_resumed};
+ghost use Rattle.ppm_depth.specs.Moves.{stack_gone_on, stack_joined, stack_resumed, waiting_resumed, pending};
 ghost use Rattle.ppm_depth.specs.Stack.{Strands};
-ghost use Rattle.ppm_depth.specs.Turns.{AreFew, ShowsTree, Turns, counts_of};
+ghost use Rattle.ppm_depth.specs.Start.{words_of};
+ghost use Rattle.ppm_depth.specs.Turns.{AreFew, HasCome, ShowsTree, Turns, counts_of};
 ghost use Rattle.ppm_depth.specs.Whole.{procedure_at, size_at};
 ghost use Rattle.ppm_depth.specs.declared.frame.Now.TheVariants.{At};
 
@@ -177,7 +178,8 @@ impl Strand {
         requires capsules { self.old.counts.capsules < 2 ^ 40 }
         ensures turn { IfOk result (λ now. Turns code.now 1 self.old self.new (At frame) now) }
         ensures words { OnOk result (length self.new.store.words.items ≡ length self.old.store.words.items) }
-        ensures few { OnOk result (AreFew self.new.counts) }
+        ensures counts { OnOk result ((self.new.counts.capsules ≡ self.old.counts.capsules + 1) × AreFew self.new.counts) }
+        ensures pending { OnOk result (pending self.new.waiting.items ≤ pending self.old.waiting.items + 4) }
     {
         let block = self.store.blocks.len();
         let words = block_words(instrs_of(code, frame.capsule));
@@ -187,8 +189,9 @@ impl Strand {
             block,
         };
         let done = run_capsule(code, frame.capsule, place, &mut self.store);
+        let now = self.follow(code, frame, block, done.end)?;
         self.counts = counted(self.counts, done);
-        self.follow(code, frame, block, done.end)
+        Ok(now)
     }
 
     /// What follows where that for which a frame waits is over.
@@ -229,22 +232,36 @@ impl Strand {
     }
 
     /// Runs the strand from a frame to its end; `None` where more capsules would be run than that.
-    pub(crate) fn run(&mut self, code: &Code, root: Frame, limit: u64) -> Result<Option<Finish>, NoMemory>
+    pub(crate) fn run(
+        &mut self,
+        code: &Code,
+        root: Frame,
+        limit: u64,
+    ) -> Result<Option<Finish>, NoMemory>
+        requires tidy { IsTidy code.now }
+        requires limit { limit ≤ 2 ^ 40 }
+        requires counts { counts_of self.old.counts ≡ none }
+        requires shown { (t : Strands) × ShowsTree code.now self.old (At root) t }
+        ensures come { (t : Strands) → ShowsTree code.now self.old (At root) t
+            → IfOk result (HasCome code.now (length self.old.store.words.items) limit t
+            (words_of self.old.store.words.items) self.new) }
+        ensures words { OnOk result (length self.new.store.words.items ≡ length self.old.store.words.items) }
+        ensures few { OnOk result (AreFew self.new.counts) }
     {
         let mut now = Now::At(root);
         loop {
-            now = match now {
+            match now {
                 Now::At(frame) => {
                     if self.counts.capsules == limit {
                         return Ok(None);
                     }
-                    self.advance(code, frame)?
+                    now = self.advance(code, frame)?;
                 }
                 Now::Over(finish) => match self.waiting.pop() {
-                    Some(waiting) => self.resume(waiting, finish)?,
+                    Some(waiting) => now = self.resume(waiting, finish)?,
                     None => return Ok(Some(finish)),
                 },
-            };
+            }
         }
     }
 }
