@@ -42,16 +42,17 @@ pub one_step : (c : Code Own Result) (f : Own) (a : Words) → StepsInTurn c (of
 one_step c f a = subst (λ (k : Counts). StepsInTurn c k (Strand f) a (c.next f a) (c.after f a))
     (plus_comm (of_capsule c f a) none ∙ plus_none (of_capsule c f a)) (before c (Capsule f a) tt (Done (c.next f a) (c.after f a), tt))
 
-module _ (code : CodeParts) (is_code : IsCode code) (frame : Frame) (before_blocks opened blocks words_before words : List ℕ) (done : Finished)
+module _ (code : CodeParts) (is_code : IsCode code) (frame : Frame) (block : ℕ) (before_blocks opened blocks words_before words : List ℕ) (done : Finished)
+    (block_is : block ≡ length before_blocks)
     (opens_block : opened ≡ before_blocks ++ replicate (block_at code frame.capsule) 0)
     (whole : (m : Memory Where) → Shows (slots_at code frame.capsule) (block_at code frame.capsule)
-      (record { frame = frame.base; block = length before_blocks }) opened words_before m
-      → IsWhole code frame.capsule (record { frame = frame.base; block = length before_blocks }) blocks words m done)
-    (keeps : Keeps (record { frame = frame.base; block = length before_blocks }) (size_at code frame.capsule) opened blocks)
+      (record { frame = frame.base; block = block }) opened words_before m
+      → IsWhole code frame.capsule (record { frame = frame.base; block = block }) blocks words m done)
+    (keeps : Keeps (record { frame = frame.base; block = block }) (size_at code frame.capsule) opened blocks)
     (same_words : length words ≡ length words_before)
     (fits : EndFits code (procedure_at code frame.capsule) (instrs_of code frame.capsule) done.end) where
   abbrev place : Place
-  place = record { frame = frame.base; block = length before_blocks }
+  place = record { frame = frame.base; block = block }
 
   abbrev size : ℕ
   size = block_at code frame.capsule
@@ -59,22 +60,22 @@ module _ (code : CodeParts) (is_code : IsCode code) (frame : Frame) (before_bloc
   abbrev c : Code Own Result
   c = strands_over code (length words_before)
 
-  opened_length : length opened ≡ length before_blocks + size
+  opened_length : length opened ≡ block + size
   opened_length = ap (λ (xs : List ℕ). length xs) opens_block ∙ length-append before_blocks (replicate size 0)
-      ∙ ap (λ (n : ℕ). length before_blocks + n) (length-replicate size 0)
+      ∙ ap (λ (n : ℕ). length before_blocks + n) (length-replicate size 0) ∙ ap (λ (n : ℕ). n + size) (sym block_is)
 
-  blocks_length : length before_blocks + size ≡ length blocks
+  blocks_length : block + size ≡ length blocks
   blocks_length = sym opened_length ∙ sym keeps.length
 
   -- below the new block the stack is as it was, but for the frame
-  opened_still : (x : ℕ) → x < length before_blocks → get_or opened x 0 ≡ get_or before_blocks x 0
-  opened_still x less = ap (λ (xs : List ℕ). get_or xs x 0) opens_block ∙ get_or_append_left before_blocks (replicate size 0) 0 x less
+  opened_still : (x : ℕ) → x < block → get_or opened x 0 ≡ get_or before_blocks x 0
+  opened_still x less = ap (λ (xs : List ℕ). get_or xs x 0) opens_block ∙ get_or_append_left before_blocks (replicate size 0) 0 x (omega (arith, less, block_is))
 
-  outside_still : (x : ℕ) → (x < frame.base) ⊎ (end_of code frame ≤ x) → x < length before_blocks → get_or blocks x 0 ≡ get_or before_blocks x 0
+  outside_still : (x : ℕ) → (x < frame.base) ⊎ (end_of code frame ≤ x) → x < block → get_or blocks x 0 ≡ get_or before_blocks x 0
   outside_still x out less = keeps.others x out less ∙ opened_still x less
 
   -- the memory with which the capsule begins
-  module _ (f : Own) (holds : Holds code before_blocks frame None None f) (there : end_of code frame ≤ length before_blocks) where
+  module _ (f : Own) (holds : Holds code before_blocks frame None None f) (there : end_of code frame ≤ block) where
     abbrev memory : Memory Where
     memory = start code_locations (table_of code (length words_before)) f (words_of words_before)
 
@@ -83,7 +84,8 @@ module _ (code : CodeParts) (is_code : IsCode code) (frame : Frame) (before_bloc
       slot = λ i less. holds.slot i less ∙ sym (opened_still (own_at frame.base (Slot i)) (omega (arith, less, there)));
       value = holds.value ∙ sym (opened_still (own_at frame.base Value) (omega (arith, there)));
       new = λ o less.
-          sym (ap (λ (xs : List ℕ). get_or xs (length before_blocks + o) 0) opens_block
+          sym (ap (λ (xs : List ℕ). get_or xs (block + o) 0) opens_block
+          ∙ ap (λ (n : ℕ). get_or (before_blocks ++ replicate size 0) (n + o) 0) block_is
           ∙ get_or-append-add before_blocks (replicate size 0) o 0 ∙ zeros size o);
       shared = λ index. refl;
     }
@@ -129,23 +131,24 @@ module _ (code : CodeParts) (is_code : IsCode code) (frame : Frame) (before_bloc
   -- the whole tree makes a step, and the strand shows what is then
   pub advanced : (waiting : List Waiting) (t : Strands) → IsShown code before_blocks waiting (At frame) t
       → (next : Strands) × StepsInTurn (strands_over code (length words_before)) (counts_by done) t (words_of words_before) next (words_of words)
-      × IsShown code (stack_after (length before_blocks) blocks done.end) (waiting_after code frame (length before_blocks) waiting done.end)
-      (now_after code frame (length before_blocks) blocks done.end) next
+      × IsShown code (stack_after block blocks done.end) (waiting_after code frame block waiting done.end)
+      (now_after code frame block blocks done.end) next
   advanced waiting t shown =
       let s = shown.above in
       let f = shown.at.0 in
       let holds = shown.at.2 in
-      let there = shown.at.3 in
-      let laid = laid_still code before_blocks blocks s frame.base (end_of code frame) (length before_blocks) outside_still (omega arith) there shown.at.4 in
+      let there = subst (λ (n : ℕ). end_of code frame ≤ n) (sym block_is) shown.at.3 in
+      let laid = laid_still code before_blocks blocks s frame.base (end_of code frame) block outside_still (omega arith) there
+      (subst (λ (n : ℕ). IsLaidOut code before_blocks s frame.base (end_of code frame) n) (sym block_is) shown.at.4) in
       let tree : tree_at s (Strand f) ≡ t = ap (λ (u : Strands). tree_at s u) (sym shown.at.1) ∙ sym shown.tree in
       (
         tree_at s (opens_next f holds there),
         subst (λ (u : Strands). StepsInTurn c (counts_by done) u (words_of words_before) (tree_at s (opens_next f holds there)) (words_of words)) tree
         (lifted c s (one_capsule f holds there)),
-        subst (λ (ws : List Waiting). IsShown code (stack_after (length before_blocks) blocks done.end)
-        (waiting_after code frame (length before_blocks) ws done.end) (now_after code frame (length before_blocks) blocks done.end)
+        subst (λ (ws : List Waiting). IsShown code (stack_after block blocks done.end)
+        (waiting_after code frame block ws done.end) (now_after code frame block blocks done.end)
         (tree_at s (opens_next f holds there))) shown.waits
-        (followed code is_code frame (length before_blocks) blocks words (after f holds there) (is_whole f holds there).shows there blocks_length s laid done.end fits),
+        (followed code is_code frame block blocks words (after f holds there) (is_whole f holds there).shows there blocks_length s laid done.end fits),
       )
 
 -- what waits after a capsule waits for little more

@@ -2,6 +2,7 @@ pub mod ActLemmas
 pub mod AdvanceLemmas
 pub mod CodeLemmas
 pub mod FollowLemmas
+pub mod LoopLemmas
 pub mod RestLemmas
 pub mod ResumeLemmas
 pub mod StackLemmas

@@ -1,5 +1,5 @@
 -- Where that for which a frame waits is over: a return, the right branch's beginning, or a join, in turn.
-use Rattle.std.proofs.Common.{◌≡◌, ◌<◌, ◌≤◌, ℕ, List, [], ◌∷◌, ◌++◌, length, take, inl, inr, refl, sym, ap, ◌∙◌, subst, arith, Option, None, Some}
+use Rattle.std.proofs.Common.{◌≡◌, ◌<◌, ◌≤◌, ℕ, ◌+◌, List, [], ◌∷◌, ◌++◌, length, take, inl, inr, refl, sym, ap, ◌∙◌, subst, arith, Option, None, Some}
 use Rattle.std.proofs.lemmas.List.{get_or-take, length-take-le}
 use Rattle.ppm_strands.specs.Tree.{Words, Tree, Strand, Call, Fork, Over, Code}
 use Rattle.ppm_strands.specs.Run.{Counts, none, plus, rejoin}
@@ -9,7 +9,8 @@ use Rattle.ppm_strands.proofs.OrderLemmas.{before}
 use Rattle.ppm_strands.proofs.RunLemmas.{plus_none}
 use Rattle.ppm_code.specs.declared.code.CodeParts.{CodeParts}
 use Rattle.ppm_code.specs.Strands.{Point, Result, Gave, Trapped, resume, kept, with_value}
-use Rattle.ppm_depth.specs.Moves.{gone_on, stack_gone_on, joined, stack_joined, with_slot, resumed, stack_resumed, waiting_resumed, AreSlotsThere, IsSlotThere}
+use Rattle.ppm_depth.specs.Moves.{gone_on, stack_gone_on, joined, stack_joined, with_slot, resumed, stack_resumed, waiting_resumed, AreSlotsThere, IsSlotThere, pending, pending_for, turns_of}
+use Rattle.ppm_depth.proofs.AdvanceLemmas.{pending_push}
 use Rattle.ppm_depth.specs.Stack.{Own, Strands, result_of, Waits, ForCallee, ForLeft, ForRight, Above, Root, On, listed, tree_at, waits_for, end_of, Holds, AreOne, IsLaidOut, IsNow, IsTarget, IsShown}
 use Rattle.ppm_depth.specs.Turns.{strands_over}
 use Rattle.ppm_depth.specs.declared.frame.Frame.{Frame}
@@ -163,3 +164,19 @@ module _ (code : CodeParts) (array_words : ℕ) where
           let last = innermost (On x v s) ws w e in
           subst (λ (y : Waiting). (y.block ≤ length blocks) × AreSlotsThere y.frame y.on y.block) last.0
           (omega (arith, at.5.0, at.3, at.4), slots x.frame x.block (length blocks) at.2 x.on v at.5.1 at.5.2)
+
+gone_few : (frame : Frame) (done : Finish) → turns_of (gone_on frame done) ≤ 1
+gone_few frame (finish.Gave v) = omega arith
+gone_few frame (finish.Trapped trap line) = omega arith
+
+joined_few : (frame : Frame) (l r : Finish) → turns_of (joined frame l r) ≤ 1
+joined_few frame (finish.Gave v) r = gone_few frame r
+joined_few frame (finish.Trapped trap line) r = omega arith
+
+-- a turn that is no capsule leaves less to do
+pub resumed_less : (w : Waiting) (on : For) (done : Finish) (ws : List Waiting)
+    → pending (waiting_resumed w on done ws) + turns_of (resumed w on done) < pending ws + pending_for on
+resumed_less w (Callee to) done ws = let few = gone_few w.frame done in omega (arith, few)
+resumed_less w (Left right left_to to) done ws =
+    let more = pending_push ws (record { frame = w.frame; block = w.block; on = Right done left_to to }) in omega (arith, more)
+resumed_less w (Right left left_to to) done ws = let few = joined_few w.frame left done in omega (arith, few)

@@ -1,7 +1,19 @@
--- The arrays that words stand for.
-use Rattle.std.specs.Prelude.{ℕ, List, [], ◌∷◌, length, map, take, drop}
+-- The words with which a run begins, and the arrays that words stand for.
+use Rattle.std.specs.Prelude.{ℕ, ◌+◌, ◌-◌, List, [], ◌∷◌, ◌++◌, length, map, take, drop, replicate}
 use Rattle.ppm_words.specs.TwosComplement.{value_of}
 use Rattle.ppm_words.specs.declared.named_array.NamedArray.{NamedArray}
+use Rattle.ppm_code.specs.declared.code.CodeParts.{CodeParts}
+use Rattle.ppm_code.specs.Sizes.{slots_of}
+use Rattle.ppm_depth.specs.Start.{root_regions}
+
+-- how many words arrays have
+abbrev pub word_count : List NamedArray → ℕ
+word_count [] = 0
+word_count (a ∷ arrays) = length a.values + word_count arrays
+
+-- the root's frame: six words, the regions, and 0 in the other slots
+abbrev pub root_frame : CodeParts → List NamedArray → List ℕ
+root_frame code input = (replicate 6 0 ++ root_regions code input) ++ replicate (slots_of code code.root - length code.arrays) 0
 
 -- arrays of the same names and lengths, with the values of words
 abbrev pub arrays_in : List NamedArray → List ℕ → List NamedArray

@@ -127,3 +127,8 @@ pending_for (Right left left_to to) = 2
 abbrev pub pending : List Waiting → ℕ
 pending [] = 0
 pending (w ∷ ws) = pending_for w.on + pending ws
+
+-- a frame at a capsule is a turn more than one that is over
+abbrev pub turns_of : Now → ℕ
+turns_of (At frame) = 1
+turns_of (Over finish) = 0

@@ -5,8 +5,7 @@ ghost use Rattle.ppm_depth.specs.Start.{NamesArrays};
 ghost use Rattle.ppm_depth.specs.Run.{IsDepthRun};
 
 use crate::frame::Finish;
-use crate::image::{root_blocks, to_arrays, to_words};
-use crate::store::Store;
+use crate::image::{root_store, to_arrays};
 use crate::strand::{Strand, entry};
 use ppm_code::Code;
 use ppm_words::{Input, NoMemory, Outcome};
@@ -36,10 +35,9 @@ pub fn depth_first(
     ensures run { IfOk result (IsDepthRun code.now input.now capsules) }
 {
     let arrays = input.arrays();
-    let blocks = root_blocks(alloc, code, arrays)?;
-    let words = to_words(alloc, arrays)?;
-    let frame_words = blocks.len() as u64;
-    let mut strand = Strand::new(alloc, Store { blocks, words });
+    let store = root_store(alloc, code, arrays)?;
+    let frame_words = store.blocks.len() as u64;
+    let mut strand = Strand::new(alloc, store);
     let finish = strand.run(code, entry(code, code.parts().root, 0), capsules)?;
     let outcome = match finish {
         Some(Finish::Gave(_)) => Outcome::Ended(to_arrays(alloc, arrays, &strand.store.words)?),

@@ -1,12 +1,13 @@
 //! The words with which a run begins, and the arrays with which it ends.
-ghost use Rattle.std.specs.Prelude.{◌≡◌, ◌++◌, ◌≤◌, IfOk, OnOk, length, map};
+ghost use Rattle.std.specs.Prelude.{◌≡◌, ◌++◌, ◌<◌, ◌≤◌, IfOk, OnOk, get_or, length, map};
+ghost use Rattle.std.specs.List.{All};
+ghost use Rattle.ppm_words.specs.Limits.{word_limit};
 ghost use Rattle.ppm_words.specs.TwosComplement.{word_of, value_of};
-ghost use Rattle.ppm_depth.specs.Start.{words_in, regions_from};
-ghost use Rattle.ppm_depth.specs.Image.{arrays_in};
+ghost use Rattle.ppm_code.specs.Code.{IsCode};
+ghost use Rattle.ppm_depth.specs.Start.{NamesArrays, regions_from, words_in};
+ghost use Rattle.ppm_depth.specs.Image.{arrays_in, root_frame, word_count};
 
-use crate::frame::Frame;
 use crate::store::Store;
-use crate::strand::entry;
 use ppm_code::Code;
 use ppm_words::{Items, NamedArray, NoMemory, of_word, to_word};
 use std::alloc::Global;
@@ -34,6 +35,8 @@ pub(crate) fn to_words(alloc: Global, arrays: &[NamedArray]) -> Result<Vec<u64>,
 
 /// The region words of arrays that lie one after the other.
 fn regions(alloc: Global, arrays: &[NamedArray]) -> Result<Vec<u64>, NoMemory>
+    requires { word_count arrays.now ≤ word_limit }
+    ensures { IfOk result (λ regions. regions.items ≡ regions_from 0 arrays.now) }
 {
     let mut regions = Vec::new(alloc);
     let mut start = 0;
@@ -45,24 +48,45 @@ fn regions(alloc: Global, arrays: &[NamedArray]) -> Result<Vec<u64>, NoMemory>
     Ok(regions)
 }
 
-/// The stack with the root's frame.
-pub(crate) fn root_blocks(
+/// Appends the region words of arrays by their numbers.
+fn push_regions(
+    blocks: &mut Vec<u64>,
+    regions: &[u64],
+    arrays: &[u32],
+) -> Result<(), NoMemory>
+    requires { All (λ a. a < length regions.now) arrays.now }
+    ensures { OnOk result (blocks.new.items ≡ blocks.old.items ++ map (λ a. get_or regions.now a 0) arrays.now) }
+{
+    for array in arrays {
+        blocks.push(regions[*array as usize])?;
+    }
+    Ok(())
+}
+
+/// The words with which a run begins: the root's frame, and the words of the arrays.
+pub(crate) fn root_store(
     alloc: Global,
     code: &Code,
     arrays: &[NamedArray],
-) -> Result<Vec<u64>, NoMemory>
+) -> Result<Store, NoMemory>
+    requires named { NamesArrays code.now arrays.now }
+    requires few { word_count arrays.now ≤ word_limit }
+    ensures blocks { IfOk result (λ store. store.blocks.items ≡ root_frame code.now arrays.now) }
+    ensures words { IfOk result (λ store. store.words.items ≡ words_in arrays.now) }
+    ensures code { IsCode code.now }
 {
     let parts = code.parts();
+    let words = to_words(alloc, arrays)?;
     let regions = regions(alloc, arrays)?;
-    let mut blocks = vec![in alloc; 0; 6]?;
-    for array in parts.arrays.as_slice() {
-        blocks.push(regions[*array as usize])?;
-    }
+    let mut store = Store {
+        blocks: Vec::new(alloc),
+        words,
+    };
+    store.open_block(6)?;
+    push_regions(&mut store.blocks, &regions, parts.arrays.as_slice())?;
     let slots = parts.procedures.as_slice()[parts.root as usize].slots as usize;
-    for _ in parts.arrays.as_slice().len()..slots {
-        blocks.push(0)?;
-    }
-    Ok(blocks)
+    store.open_block(slots - parts.arrays.as_slice().len())?;
+    Ok(store)
 }
 
 /// The values of words.
@@ -82,7 +106,7 @@ pub(crate) fn to_arrays(
     arrays: &[NamedArray],
     words: &[u64],
 ) -> Result<Items<NamedArray>, NoMemory>
-    requires enough { length (words_in arrays.now) ≤ length words.now }
+    requires enough { word_count arrays.now ≤ length words.now }
     ensures { IfOk result (λ named. named ≡ arrays_in arrays.now words.now) }
 {
     let mut named = Vec::new(alloc);

@@ -1,16 +1,10 @@
 use Rattle.std.proofs.Common.{◌≡◌, ◌≤◌, ◌+◌, ◌-◌, ◌*◌, ℕ, length}
-use Rattle.ppm_depth.specs.Moves.{pending}
+use Rattle.ppm_depth.specs.Moves.{pending, turns_of}
 use Rattle.ppm_depth.specs.Stack.{Strands}
 use Rattle.ppm_depth.specs.Start.{words_of}
 use Rattle.ppm_depth.specs.Turns.{AreFew, HasRun, ShowsTree}
-use Rattle.ppm_depth.specs.declared.frame.Now.{Now}
-use Rattle.ppm_depth.specs.declared.frame.Now.TheVariants.{At, Over}
+use Rattle.ppm_depth.specs.declared.frame.Now.TheVariants.{At}
 use Rattle.ppm_depth.proofs.strand.Strand.run.Given as goal
-
--- a frame at a capsule is a turn more than one that is over
-abbrev pub turns_of : Now → ℕ
-turns_of (At frame) = 1
-turns_of (Over finish) = 0
 
 -- the strand has come to what it shows, within the limit
 abbrev pub invariant-loop-now : goal.invariant-loop-now
