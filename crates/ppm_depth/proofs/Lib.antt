@@ -1,6 +1,7 @@
 pub mod ActLemmas
 pub mod AdvanceLemmas
 pub mod CodeLemmas
+pub mod EndLemmas
 pub mod FollowLemmas
 pub mod LoopLemmas
 pub mod RestLemmas

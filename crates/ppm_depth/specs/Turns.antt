@@ -57,7 +57,6 @@ module _ (code : CodeParts) where
   abbrev pub HasCome : (array_words limit : ℕ) → Strands → Words → Strand → Option Finish → Type 0
   HasCome array_words limit t a after (Some finish) =
       StepsInTurn (strands_over code array_words) (counts_of after.counts) t a (Over (result_of finish)) (words_of after.store.words.items)
-      × (after.counts.capsules ≤ limit)
   HasCome array_words limit t a after None =
       (above : Above) × (f : Own)
       × StepsInTurn (strands_over code array_words) (counts_of after.counts) t a (tree_at above (StrandAt f)) (words_of after.store.words.items)

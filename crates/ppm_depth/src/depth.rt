@@ -1,14 +1,15 @@
 //! The depth-first run of a code.
-ghost use Rattle.std.specs.Prelude.{◌≡◌, ◌≤◌, ◌^◌, IfOk};
+ghost use Rattle.std.specs.Prelude.{◌≡◌, ◌≤◌, ◌^◌, IfOk, length};
 ghost use Rattle.ppm_code.specs.Tidy.{IsTidy};
 ghost use Rattle.ppm_depth.specs.Start.{NamesArrays};
 ghost use Rattle.ppm_depth.specs.Run.{IsDepthRun};
+ghost use Rattle.ppm_depth.specs.Image.{outcome_in, word_count};
 
 use crate::frame::Finish;
 use crate::image::{root_store, to_arrays};
 use crate::strand::{Strand, entry};
 use ppm_code::Code;
-use ppm_words::{Input, NoMemory, Outcome};
+use ppm_words::{Input, NamedArray, NoMemory, Outcome};
 use std::alloc::Global;
 
 /// What a depth-first run came to, and what it counted: the capsules run, the forks that they opened, and the
@@ -19,6 +20,23 @@ pub struct DepthRun {
     pub capsules: u64,
     pub forks: u64,
     pub block_words: u64,
+}
+
+/// What is said of a run that has come to this over the words of arrays.
+fn outcome_of(
+    alloc: Global,
+    arrays: &[NamedArray],
+    words: &[u64],
+    finish: Option<Finish>,
+) -> Result<Outcome, NoMemory>
+    requires { word_count arrays.now ≤ length words.now }
+    ensures { IfOk result (λ outcome. outcome ≡ outcome_in arrays.now words.now finish) }
+{
+    match finish {
+        Some(Finish::Gave(_)) => Ok(Outcome::Ended(to_arrays(alloc, arrays, words)?)),
+        Some(Finish::Trapped(trap, line)) => Ok(Outcome::Trapped(trap, line)),
+        None => Ok(Outcome::NotWithin),
+    }
 }
 
 /// Runs a code depth first from an input, with a stack of its own: at most `capsules` capsules, up to 2^40.
@@ -38,12 +56,9 @@ pub fn depth_first(
     let store = root_store(alloc, code, arrays)?;
     let frame_words = store.blocks.len() as u64;
     let mut strand = Strand::new(alloc, store);
-    let finish = strand.run(code, entry(code, code.parts().root, 0), capsules)?;
-    let outcome = match finish {
-        Some(Finish::Gave(_)) => Outcome::Ended(to_arrays(alloc, arrays, &strand.store.words)?),
-        Some(Finish::Trapped(trap, line)) => Outcome::Trapped(trap, line),
-        None => Outcome::NotWithin,
-    };
+    let root = entry(code, code.parts().root, 0);
+    let finish = strand.run(code, root, capsules)?;
+    let outcome = outcome_of(alloc, arrays, &strand.store.words, finish)?;
     Ok(DepthRun {
         outcome,
         capsules: strand.counts.capsules,

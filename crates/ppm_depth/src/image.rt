@@ -8,7 +8,7 @@ ghost use Rattle.ppm_depth.specs.Start.{NamesArrays, regions_from, words_in};
 ghost use Rattle.ppm_depth.specs.Image.{arrays_in, root_frame, word_count};
 
 use crate::store::Store;
-use ppm_code::Code;
+use ppm_code::{Code, frame_size};
 use ppm_words::{Items, NamedArray, NoMemory, of_word, to_word};
 use std::alloc::Global;
 
@@ -84,8 +84,8 @@ pub(crate) fn root_store(
     };
     store.open_block(6)?;
     push_regions(&mut store.blocks, &regions, parts.arrays.as_slice())?;
-    let slots = parts.procedures.as_slice()[parts.root as usize].slots as usize;
-    store.open_block(slots - parts.arrays.as_slice().len())?;
+    let frame_words = frame_size(code, parts.root) as usize;
+    store.open_block(frame_words - (6 + parts.arrays.as_slice().len()))?;
     Ok(store)
 }
 

@@ -247,6 +247,7 @@ impl Strand {
             (words_of self.old.store.words.items) self.new) }
         ensures words { OnOk result (length self.new.store.words.items ≡ length self.old.store.words.items) }
         ensures few { OnOk result (AreFew self.new.counts) }
+        ensures limit { OnOk result (self.new.counts.capsules ≤ limit) }
     {
         let mut now = Now::At(root);
         loop {

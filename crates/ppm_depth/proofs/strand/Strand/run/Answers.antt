@@ -131,9 +131,6 @@ returns-in-None-clause-come c = λ t shown.
     let run = c.loop-now.invariant.run t shown in
     let over = subst (λ (n : Now). ShowsTree c.args.code.now c.loop-now.self n run.next) c.in-Over.is run.shown in
     let empty : length c.loop-now.self.waiting.items ≡ 0 = omega (arith, c.in-None.ensures.cases.0, c.loop-now.self.waiting.ok.0) in
-    (
-      subst (λ (u : Strands). StepsInTurn (strands_over c.args.code.now (length c.args.self.now.store.words.items)) (counts_of c.loop-now.self.counts) t
-      (words_of c.args.self.now.store.words.items) u (words_of c.loop-now.self.store.words.items))
-      (tree_over c.args.code.now _ _ c.in-Over.finish run.next over empty) run.steps,
-      c.loop-now.invariant.within,
-    )
+    subst (λ (u : Strands). StepsInTurn (strands_over c.args.code.now (length c.args.self.now.store.words.items)) (counts_of c.loop-now.self.counts) t
+    (words_of c.args.self.now.store.words.items) u (words_of c.loop-now.self.store.words.items))
+    (tree_over c.args.code.now _ _ c.in-Over.finish run.next over empty) run.steps
