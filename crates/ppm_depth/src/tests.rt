@@ -1,4 +1,8 @@
 //! One code whose root does, by the first value of its array, a loop, a call, a fork, or a capsule that asks and then traps.
+ghost use Rattle.std.specs.Prelude.{[], ◌∷◌, ◌≡◌, IfOk, length};
+ghost use Rattle.ppm_code.specs.Tidy.{IsTidy};
+ghost use Rattle.ppm_depth.specs.Sample.{choosing_instrs, counting_instrs, looping_instrs, calling_instrs, putting_instrs, forking_instrs, dividing_instrs, asking_instrs};
+
 use crate::{depth_first, orders_come_to_one_end};
 use ppm_code::{Capsule, Code, CodeParts, End, Instr, Procedure, Register};
 use ppm_words::{Input, Items, Name, NamedArray, Outcome, Trap};
@@ -18,11 +22,12 @@ fn register(index: u8) -> Result<Register, Fail> {
 }
 
 /// Goes to a capsule by the value of a[0]: 0 the loop, 1 the call, 2 the fork, and else the ask that traps.
-fn choosing(alloc: Global) -> Result<Vec<Instr>, Fail> {
-    let (a, zero, value, one) = (register(0)?, register(1)?, register(2)?, register(3)?);
+fn choosing(alloc: Global, a: Register, none: Register, value: Register, one: Register) -> Result<Vec<Instr>, Fail>
+    ensures { IfOk result (λ instrs. instrs.items ≡ choosing_instrs a none value one) }
+{
     Ok(vec![in alloc;
         Instr::LoadSlot { to: a, slot: 0 },
-        Instr::Get { to: value, region: a, index: zero, line: 1 },
+        Instr::Get { to: value, region: a, index: none, line: 1 },
         Instr::BranchZero { tested: value, target: 9 },
         Instr::Const { to: one, value: 1 },
         Instr::Sub { to: value, left: value, right: one, line: 1 },
@@ -37,8 +42,9 @@ fn choosing(alloc: Global) -> Result<Vec<Instr>, Fail> {
 }
 
 /// Slot 2 becomes slot 1 and 1 more.
-fn counting(alloc: Global) -> Result<Vec<Instr>, Fail> {
-    let (count, one) = (register(0)?, register(1)?);
+fn counting(alloc: Global, count: Register, one: Register) -> Result<Vec<Instr>, Fail>
+    ensures { IfOk result (λ instrs. instrs.items ≡ counting_instrs count one) }
+{
     Ok(vec![in alloc;
         Instr::LoadSlot { to: count, slot: 1 },
         Instr::Const { to: one, value: 1 },
@@ -49,8 +55,9 @@ fn counting(alloc: Global) -> Result<Vec<Instr>, Fail> {
 }
 
 /// Slot 1 becomes slot 2, and the loop goes on while it is less than 3.
-fn looping(alloc: Global) -> Result<Vec<Instr>, Fail> {
-    let (count, three, less) = (register(0)?, register(1)?, register(2)?);
+fn looping(alloc: Global, count: Register, three: Register, less: Register) -> Result<Vec<Instr>, Fail>
+    ensures { IfOk result (λ instrs. instrs.items ≡ looping_instrs count three less) }
+{
     Ok(vec![in alloc;
         Instr::LoadSlot { to: count, slot: 2 },
         Instr::StoreCur { slot: 1, from: count },
@@ -63,8 +70,9 @@ fn looping(alloc: Global) -> Result<Vec<Instr>, Fail> {
 }
 
 /// Calls the procedure for a[1]; its value goes into slot 2.
-fn calling(alloc: Global) -> Result<Vec<Instr>, Fail> {
-    let (a, index) = (register(0)?, register(1)?);
+fn calling(alloc: Global, a: Register, index: Register) -> Result<Vec<Instr>, Fail>
+    ensures { IfOk result (λ instrs. instrs.items ≡ calling_instrs a index) }
+{
     Ok(vec![in alloc;
         Instr::Room { words: 8 },
         Instr::LoadSlot { to: a, slot: 0 },
@@ -76,8 +84,9 @@ fn calling(alloc: Global) -> Result<Vec<Instr>, Fail> {
 }
 
 /// Puts slot 2 into a[0], and ends.
-fn putting(alloc: Global) -> Result<Vec<Instr>, Fail> {
-    let (a, index, value) = (register(0)?, register(1)?, register(2)?);
+fn putting(alloc: Global, a: Register, index: Register, value: Register) -> Result<Vec<Instr>, Fail>
+    ensures { IfOk result (λ instrs. instrs.items ≡ putting_instrs a index value) }
+{
     Ok(vec![in alloc;
         Instr::LoadSlot { to: a, slot: 0 },
         Instr::LoadSlot { to: value, slot: 2 },
@@ -87,8 +96,9 @@ fn putting(alloc: Global) -> Result<Vec<Instr>, Fail> {
 }
 
 /// Runs the procedure for a[1] and for a[2]; both values go into slot 2, so that the right one is left.
-fn forking(alloc: Global) -> Result<Vec<Instr>, Fail> {
-    let (a, index) = (register(0)?, register(1)?);
+fn forking(alloc: Global, a: Register, index: Register) -> Result<Vec<Instr>, Fail>
+    ensures { IfOk result (λ instrs. instrs.items ≡ forking_instrs a index) }
+{
     Ok(vec![in alloc;
         Instr::Room { words: 21 },
         Instr::LoadSlot { to: a, slot: 0 },
@@ -103,20 +113,21 @@ fn forking(alloc: Global) -> Result<Vec<Instr>, Fail> {
 }
 
 /// Asks for a block, and traps before it is built.
-fn asking(alloc: Global) -> Result<Vec<Instr>, Fail> {
-    let (one, zero) = (register(0)?, register(1)?);
+fn asking(alloc: Global, one: Register, none: Register) -> Result<Vec<Instr>, Fail>
+    ensures { IfOk result (λ instrs. instrs.items ≡ asking_instrs one none) }
+{
     Ok(vec![in alloc;
         Instr::Room { words: 8 },
         Instr::Const { to: one, value: 1 },
-        Instr::Div { to: one, left: one, right: zero, line: 7 },
+        Instr::Div { to: one, left: one, right: none, line: 7 },
         Instr::Ends(End::Call { procedure: 1, capsule: 4, to: None }),
     ]?)
 }
 
 /// Of the other procedure: a[3] becomes twice itself and its index i, and it gives 12 / a[i] once 2 * a[i] fits.
-fn dividing(alloc: Global) -> Result<Vec<Instr>, Fail> {
-    let (a, index, three) = (register(0)?, register(1)?, register(2)?);
-    let (trace, value, twelve) = (register(3)?, register(4)?, register(5)?);
+fn dividing(alloc: Global, a: Register, index: Register, three: Register, trace: Register, value: Register, twelve: Register) -> Result<Vec<Instr>, Fail>
+    ensures { IfOk result (λ instrs. instrs.items ≡ dividing_instrs a index three trace value twelve) }
+{
     Ok(vec![in alloc;
         Instr::LoadSlot { to: a, slot: 0 },
         Instr::LoadSlot { to: index, slot: 1 },
@@ -134,27 +145,34 @@ fn dividing(alloc: Global) -> Result<Vec<Instr>, Fail> {
     ]?)
 }
 
-fn capsule(procedure: u32, instrs: Vec<Instr>) -> Capsule {
+fn capsule(procedure: u32, instrs: Vec<Instr>) -> Capsule
+    ensures { result ≡ record { procedure = procedure; instrs = instrs.items } }
+{
     Capsule {
         procedure,
         instrs: Items::from_vec(instrs),
     }
 }
 
-fn sample(alloc: Global) -> Result<Code, Fail> {
+fn sample(alloc: Global) -> Result<Code, Fail>
+    ensures tidy { IfOk result IsTidy }
+    ensures arrays { IfOk result (λ code. code.arrays ≡ 0 ∷ []) }
+{
+    let (a, b, c) = (register(0)?, register(1)?, register(2)?);
+    let (d, e, f) = (register(3)?, register(4)?, register(5)?);
     let capsules = vec![in alloc;
-        capsule(0, choosing(alloc)?),
-        capsule(0, counting(alloc)?),
-        capsule(0, looping(alloc)?),
-        capsule(0, calling(alloc)?),
-        capsule(0, putting(alloc)?),
-        capsule(0, forking(alloc)?),
-        capsule(1, dividing(alloc)?),
-        capsule(0, asking(alloc)?),
+        capsule(0, choosing(alloc, a, b, c, d)?),
+        capsule(0, counting(alloc, a, b)?),
+        capsule(0, looping(alloc, a, b, c)?),
+        capsule(0, calling(alloc, a, b)?),
+        capsule(0, putting(alloc, a, b, c)?),
+        capsule(0, forking(alloc, a, b)?),
+        capsule(1, dividing(alloc, a, b, c, d, e, f)?),
+        capsule(0, asking(alloc, a, b)?),
     ]?;
     Ok(Code::from_parts(CodeParts {
         root: 0,
-        arrays: Items::from_vec(vec![in alloc; 0]?),
+        arrays: Items::from_vec(vec![in alloc; 0u32]?),
         procedures: Items::from_vec(vec![in alloc;
             Procedure { slots: 3, entry: 0 },
             Procedure { slots: 2, entry: 6 },
@@ -163,7 +181,9 @@ fn sample(alloc: Global) -> Result<Code, Fail> {
     }))
 }
 
-fn input(alloc: Global, values: [i64; 4]) -> Result<Input, Fail> {
+fn input(alloc: Global, values: [i64; 4]) -> Result<Input, Fail>
+    ensures { IfOk result (λ input. length input ≡ 1) }
+{
     let array = NamedArray {
         name: Name::from_bytes(vec![in alloc; b'a']?),
         values: Items::from_vec(Vec::from_array(alloc, values)?),
@@ -189,7 +209,7 @@ fn runs_come_to_their_ends(rt: HostRuntime) -> Result<(), Fail> {
     let large = 1 << 62;
     let cases = [
         // The loop goes round three times, two capsules each.
-        ([0, 1, 1, 1], 7, Want::Ended([0, 1, 1, 1]), 7, 0, 9),
+        ([0, 1, 1, 1], 7u32, Want::Ended([0, 1, 1, 1]), 7, 0, 9),
         ([0, 1, 1, 1], 6, Want::NotWithin, 6, 0, 9),
         ([0, 1, 1, 1], 0, Want::NotWithin, 0, 0, 9),
         // A call with its value, and with a trap.
@@ -209,7 +229,7 @@ fn runs_come_to_their_ends(rt: HostRuntime) -> Result<(), Fail> {
     ];
     let code = sample(alloc)?;
     for (values, limit, want, capsules, forks, block_words) in cases {
-        let run = depth_first(alloc, &code, &input(alloc, values)?, limit)?;
+        let run = depth_first(alloc, &code, &input(alloc, values)?, u64::from(limit))?;
         assert!(rt; is_wanted(&run.outcome, want), "from {values:?} within {limit}: {run:?}");
         assert_eq!(rt;
             (run.capsules, run.forks, run.block_words),
