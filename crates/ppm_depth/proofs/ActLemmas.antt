@@ -1,9 +1,9 @@
 -- What an instruction of a code does lies within its frame, its new block and the words of the arrays.
-use Rattle.std.proofs.Common.{◌≡◌, ◌<◌, ◌≤◌, ℕ, ◌+◌, Bool, true, false, List, refl, sym, subst, arith, Option, Some, None, cond, nat_lt}
-use Rattle.std.specs.Prelude.{◌==◌, ◌&&◌, ℤ, ◌+ℤ◌, ◌-ℤ◌, ◌*ℤ◌, int_div, int_rem, IfSome, slice_get, length}
+use Rattle.std.proofs.Common.{◌≡◌, ◌<◌, ◌≤◌, ℕ, ◌+◌, Bool, true, false, List, refl, Some, None, cond, nat_lt}
+use Rattle.std.specs.Prelude.{◌==◌, ◌&&◌, ℤ, ◌+ℤ◌, ◌-ℤ◌, ◌*ℤ◌, int_div, int_rem}
 use Rattle.std.proofs.lemmas.Bool.{ltb-true}
 use Rattle.ppm_words.specs.declared.trap.Trap.{Trap}
-use Rattle.ppm_words.specs.declared.trap.Trap.TheVariants.{Overflow, DivZero, Index, Split}
+use Rattle.ppm_words.specs.declared.trap.Trap.TheVariants.{Overflow, DivZero, Split}
 use Rattle.ppm_words.specs.TwosComplement.{value_of, word_of}
 use Rattle.ppm_code.specs.declared.act.Act.{Act}
 use Rattle.ppm_code.specs.declared.act.Act.TheVariants.{Sets, Passes, Jumps, Steps, Ends as Stops}

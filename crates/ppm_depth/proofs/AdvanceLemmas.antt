@@ -1,11 +1,11 @@
 -- One capsule of the strand is one step in turn of the tree that it shows.
-use Rattle.std.proofs.Common.{◌≡◌, ◌<◌, ◌≤◌, ℕ, ◌+◌, List, [], ◌∷◌, ◌++◌, length, get_or, replicate, inl, inr, refl, sym, ap, ap₂, ◌∙◌, subst, arith, None}
+use Rattle.std.proofs.Common.{◌≡◌, ◌<◌, ◌≤◌, ℕ, ◌+◌, List, [], ◌∷◌, ◌++◌, length, get_or, replicate, refl, sym, ap, ◌∙◌, subst, arith, None}
 use Rattle.std.specs.Prelude.{◌⊎◌}
 use Rattle.std.proofs.Math.Path.{fun_ext}
 use Rattle.std.proofs.lemmas.List.{get_or_append_left, get_or-append-add, length-replicate}
 use Rattle.std.proofs.Common.{length-append}
-use Rattle.ppm_strands.specs.Tree.{Words, Tree, Strand, Code, forks_in}
-use Rattle.ppm_strands.specs.Run.{Counts, none, plus, of_capsule}
+use Rattle.ppm_strands.specs.Tree.{Words, Strand, Code, forks_in}
+use Rattle.ppm_strands.specs.Run.{Counts, none, of_capsule}
 use Rattle.ppm_strands.specs.Ahead.{Capsule, Done}
 use Rattle.ppm_strands.specs.Turn.{StepsInTurn}
 use Rattle.ppm_strands.proofs.OrderLemmas.{before}
@@ -23,7 +23,7 @@ use Rattle.ppm_code.specs.Code.{EndFits, IsCode}
 use Rattle.ppm_code.specs.Locations.{Where, code_locations}
 use Rattle.ppm_code.specs.Strands.{Point, Result, opens, table_of, instrs_of}
 use Rattle.ppm_depth.specs.Moves.{now_after, stack_after, waiting_after, counts_by, pending, pending_for, moved, entry_at}
-use Rattle.ppm_depth.specs.Stack.{Own, Strands, Above, listed, tree_at, end_of, Holds, IsLaidOut, IsShown}
+use Rattle.ppm_depth.specs.Stack.{Own, Strands, tree_at, end_of, Holds, IsLaidOut, IsShown}
 use Rattle.ppm_depth.specs.Start.{words_of}
 use Rattle.ppm_depth.specs.Store.{Shows, own_at}
 use Rattle.ppm_depth.specs.Turns.{strands_over}
@@ -46,8 +46,8 @@ module _ (code : CodeParts) (is_code : IsCode code) (frame : Frame) (block : ℕ
     (block_is : block ≡ length before_blocks)
     (opens_block : opened ≡ before_blocks ++ replicate (block_at code frame.capsule) 0)
     (whole : (m : Memory Where) → Shows (slots_at code frame.capsule) (block_at code frame.capsule)
-      (record { frame = frame.base; block = block }) opened words_before m
-      → IsWhole code frame.capsule (record { frame = frame.base; block = block }) blocks words m done)
+    (record { frame = frame.base; block = block }) opened words_before m
+    → IsWhole code frame.capsule (record { frame = frame.base; block = block }) blocks words m done)
     (keeps : Keeps (record { frame = frame.base; block = block }) (size_at code frame.capsule) opened blocks)
     (same_words : length words ≡ length words_before)
     (fits : EndFits code (procedure_at code frame.capsule) (instrs_of code frame.capsule) done.end) where
@@ -140,15 +140,14 @@ module _ (code : CodeParts) (is_code : IsCode code) (frame : Frame) (block : ℕ
       let there = subst (λ (n : ℕ). end_of code frame ≤ n) (sym block_is) shown.at.3 in
       let laid = laid_still code before_blocks blocks s frame.base (end_of code frame) block outside_still (omega arith) there
       (subst (λ (n : ℕ). IsLaidOut code before_blocks s frame.base (end_of code frame) n) (sym block_is) shown.at.4) in
-      let tree : tree_at s (Strand f) ≡ t = ap (λ (u : Strands). tree_at s u) (sym shown.at.1) ∙ sym shown.tree in
-      (
+      let tree : tree_at s (Strand f) ≡ t = ap (λ (u : Strands). tree_at s u) (sym shown.at.1) ∙ sym shown.tree in (
         tree_at s (opens_next f holds there),
         subst (λ (u : Strands). StepsInTurn c (counts_by done) u (words_of words_before) (tree_at s (opens_next f holds there)) (words_of words)) tree
-        (lifted c s (one_capsule f holds there)),
+            (lifted c s (one_capsule f holds there)),
         subst (λ (ws : List Waiting). IsShown code (stack_after block blocks done.end)
-        (waiting_after code frame block ws done.end) (now_after code frame block blocks done.end)
-        (tree_at s (opens_next f holds there))) shown.waits
-        (followed code is_code frame block blocks words (after f holds there) (is_whole f holds there).shows there blocks_length s laid done.end fits),
+            (waiting_after code frame block ws done.end) (now_after code frame block blocks done.end)
+            (tree_at s (opens_next f holds there))) shown.waits
+            (followed code is_code frame block blocks words (after f holds there) (is_whole f holds there).shows there blocks_length s laid done.end fits),
       )
 
 -- what waits after a capsule waits for little more

@@ -1,6 +1,6 @@
 -- The capsules of a code by their numbers.
-use Rattle.std.proofs.Common.{◌≡◌, ◌<◌, ◌≤◌, ℕ, List, length, refl, sym, ap, subst, arith, inl, inr, Option, Some, None, get_or}
-use Rattle.std.specs.Prelude.{slice_get, ◌+◌}
+use Rattle.std.proofs.Common.{◌≡◌, ◌<◌, ◌≤◌, ℕ, List, length, refl, sym, ap, subst, arith, inl, inr, Option, Some, None}
+use Rattle.std.specs.Prelude.{slice_get}
 use Rattle.std.specs.List.{All}
 use Rattle.std.proofs.lemmas.Option.{slice_get_within, slice_get_cases, get_or_from_slice_get}
 use Rattle.ppm_code.specs.declared.act.End.{End}
@@ -12,7 +12,7 @@ use Rattle.ppm_code.specs.declared.instr.Instr.{Instr}
 use Rattle.ppm_code.specs.declared.instr.Instr.TheVariants.{StoreNew, Ends}
 use Rattle.ppm_code.specs.declared.register.Register.{Register}
 use Rattle.ppm_code.specs.Limits.{slot_limit}
-use Rattle.ppm_code.specs.Code.{Fits, IsCode, IsCapsule, IsCapsuleOf, room_of}
+use Rattle.ppm_code.specs.Code.{Fits, IsCode, IsCapsule}
 use Rattle.ppm_code.specs.Sizes.{slots_in, slots_of}
 use Rattle.ppm_code.specs.Strands.{instrs_in, instrs_of}
 use Rattle.ppm_code.specs.Tidy.{IsTidy, IsTidyOne, IsTidyCapsule, IsBuilder, Builds}

@@ -1,13 +1,12 @@
 -- The root's frame with which a run begins, and what is said of its end.
-use Rattle.std.proofs.Common.{◌≡◌, ◌<◌, ◌≤◌, ℕ, zero, suc, ◌+◌, ◌-◌, List, [], ◌∷◌, ◌++◌, length, get_or, map, take, drop, replicate, refl, sym, ap, ap₂, ◌∙◌, subst, arith, inl, inr, Option, Some, None, length-append, length-drop, nat_lt, Bool, true, false}
+use Rattle.std.proofs.Common.{◌≡◌, ◌<◌, ◌≤◌, ℕ, zero, suc, ◌+◌, ◌-◌, List, [], ◌∷◌, ◌++◌, length, get_or, map, take, drop, replicate, refl, sym, ap, ap₂, ◌∙◌, subst, arith, inl, inr, Option, Some, None, length-append, nat_lt, Bool, true, false}
 use Rattle.std.specs.Prelude.{ℤ}
-use Rattle.std.specs.List.{sum, flat_map}
 use Rattle.std.proofs.lemmas.Bool.{ltb-true, ltb-false}
 use Rattle.std.proofs.lemmas.List.{get_or_append_left, get_or-append-add, length-map, length-replicate, get_or_past, drop-drop}
 use Rattle.std.proofs.Math.Seq.{drop-cons}
 use Rattle.std.proofs.lemmas.List.Sums.{sum-map, sum_by-cons}
 use Rattle.std.proofs.lemmas.List.Concat.{flat_map-cons}
-use Rattle.ppm_strands.specs.Tree.{Words, Strand, Over}
+use Rattle.ppm_strands.specs.Tree.{Strand, Over}
 use Rattle.ppm_strands.specs.Run.{Counts, End, none, plus, with_counts, of_capsule}
 use Rattle.ppm_strands.specs.Turn.{StepsInTurn}
 use Rattle.ppm_strands.proofs.ChainLemmas.{chains_keep_ends, chains_count_no_more}
@@ -16,9 +15,8 @@ use Rattle.ppm_words.specs.TwosComplement.{word_of, value_of}
 use Rattle.ppm_words.specs.Inputs.{value_count}
 use Rattle.ppm_words.specs.declared.named_array.NamedArray.{NamedArray}
 use Rattle.ppm_code.specs.declared.code.CodeParts.{CodeParts}
-use Rattle.ppm_code.specs.declared.location.FrameWord.TheVariants.{Slot, Value}
 use Rattle.ppm_code.specs.Code.{IsCode}
-use Rattle.ppm_code.specs.Sizes.{slots_of, frame_size, slot_at}
+use Rattle.ppm_code.specs.Sizes.{slots_of, frame_size}
 use Rattle.ppm_code.specs.Strands.{Result, Gave, Trapped, at_capsule, entry_of}
 use Rattle.ppm_words.specs.declared.outcome.Outcome.TheVariants.{Ended}
 use Rattle.ppm_depth.specs.declared.depth.DepthRun.{DepthRun}
@@ -33,7 +31,6 @@ use Rattle.ppm_depth.specs.Run.{strands_of, values_at, arrays_at, ComesTo, Begin
 use Rattle.ppm_depth.specs.Stack.{Own, Strands, Above, Root, tree_at, IsShown}
 use Rattle.ppm_depth.specs.Start.{words_in, words_of, root_regions, root_own, root_strand, regions_from}
 use Rattle.ppm_depth.specs.Turns.{strands_over, counts_of, HasCome}
-use Rattle.ppm_depth.specs.Whole.{slots_at}
 use Rattle.ppm_depth.specs.declared.frame.Now.TheVariants.{At}
 use Rattle.ppm_depth.proofs.AdvanceLemmas.{one_step}
 use Rattle.ppm_depth.proofs.StackLemmas.{lifted}
@@ -80,8 +77,10 @@ module _ (code : CodeParts) (input : List NamedArray) where
     where
       front : List ℕ
       front = replicate 6 0 ++ root_regions code input
+
       count : length (replicate 6 0 ++ root_regions code input) ≡ 6 + length (root_regions code input)
       count = length-append (replicate 6 0) (root_regions code input)
+
       by : (b : Bool) → nat_lt i (length (root_regions code input)) ≡ b → get_or (root_regions code input) i 0 ≡ get_or (root_frame code input) (6 + i) 0
       by true e =
           let less = ltb-true i (length (root_regions code input)) e in

@@ -1,26 +1,25 @@
 -- What the strand shows after a capsule of a frame, by its end.
-use Rattle.std.proofs.Common.{◌≡◌, ◌<◌, ◌≤◌, ℕ, ◌+◌, List, [], ◌∷◌, ◌++◌, length, get_or, take, inl, inr, refl, sym, ap, ◌∙◌, subst, arith, Option, Some, None}
+use Rattle.std.proofs.Common.{◌≡◌, ◌<◌, ◌≤◌, ℕ, ◌+◌, List, length, get_or, take, refl, sym, ap, ◌∙◌, subst, arith, Option, Some, None}
 use Rattle.std.specs.Prelude.{IfSome}
 use Rattle.std.proofs.lemmas.List.{get_or-take, length-take-le}
-use Rattle.ppm_strands.specs.Tree.{Tree, Strand, Over, forks_in}
+use Rattle.ppm_strands.specs.Tree.{Strand, Over, forks_in}
 use Rattle.ppm_capsules.specs.Capsule.{Memory}
-use Rattle.ppm_capsules.specs.Strand.{Own as OwnWord, New as NewWord, own_of, new_of}
+use Rattle.ppm_capsules.specs.Strand.{own_of, new_of}
 use Rattle.ppm_code.specs.declared.act.End.{End}
 use Rattle.ppm_code.specs.declared.act.End.TheVariants.{Next, Finish, Trap, Call, Fork}
 use Rattle.ppm_code.specs.declared.code.CodeParts.{CodeParts}
 use Rattle.ppm_code.specs.declared.location.FrameWord.{FrameWord}
-use Rattle.ppm_code.specs.declared.location.FrameWord.TheVariants.{Slot, Value}
+use Rattle.ppm_code.specs.declared.location.FrameWord.TheVariants.{Value}
 use Rattle.ppm_code.specs.Code.{EndFits, IsCode, IsCapsuleOf, room_of}
 use Rattle.ppm_code.specs.Locations.{Where}
 use Rattle.ppm_code.specs.Sizes.{slots_of, frame_size, fork_size, slot_at, value_at, left_at, right_at}
-use Rattle.ppm_code.specs.Strands.{Point, Result, Gave, Trapped, at_capsule, built, begun, opens, instrs_of, entry_of}
+use Rattle.ppm_code.specs.Strands.{Gave, Trapped, at_capsule, built, begun, opens, instrs_of, entry_of}
 use Rattle.ppm_depth.specs.Moves.{entry_at, moved, now_after, stack_after, waiting_after, forks_by}
-use Rattle.ppm_depth.specs.Stack.{Own, Strands, ForCallee, ForLeft, Above, Root, On, listed, tree_at, end_of, IsTarget, Holds, IsLaidOut, IsShown}
+use Rattle.ppm_depth.specs.Stack.{ForCallee, ForLeft, Above, On, listed, tree_at, end_of, IsTarget, Holds, IsLaidOut, IsShown}
 use Rattle.ppm_depth.specs.Store.{Shows, own_at}
-use Rattle.ppm_depth.specs.Whole.{block_at, kept_of, procedure_at, size_at, slots_at}
+use Rattle.ppm_depth.specs.Whole.{block_at, kept_of, procedure_at, slots_at}
 use Rattle.ppm_depth.specs.declared.frame.Frame.{Frame}
 use Rattle.ppm_depth.specs.declared.frame.For.TheVariants.{Callee, Left}
-use Rattle.ppm_depth.specs.declared.frame.Waiting.{Waiting}
 use Rattle.ppm_depth.proofs.CodeLemmas.{slots_small}
 use Rattle.ppm_depth.proofs.StackLemmas.{holds_still, laid_still}
 use Rattle.ppm_depth.proofs.TurnLemmas.{procedure_is, entry_is}

@@ -1,14 +1,13 @@
 -- The strand's loop: what it has come to grows by a turn at its end.
-use Rattle.std.proofs.Common.{◌≡◌, ◌<◌, ◌≤◌, ℕ, ◌+◌, ◌-◌, ◌*◌, List, [], ◌∷◌, ◌++◌, length, refl, sym, ap, ◌∙◌, subst, arith}
+use Rattle.std.proofs.Common.{◌≡◌, ◌<◌, ◌≤◌, ℕ, ◌+◌, ◌-◌, ◌*◌, List, length, sym, ap, ◌∙◌, subst, arith}
 use Rattle.std.proofs.lemmas.List.{length_push}
-use Rattle.ppm_strands.specs.Tree.{Words, Strand, Over, Code}
+use Rattle.ppm_strands.specs.Tree.{Words, Strand, Over}
 use Rattle.ppm_strands.specs.Run.{Counts, none, plus}
 use Rattle.ppm_strands.specs.Ahead.{Done}
 use Rattle.ppm_strands.specs.Turn.{StepsInTurn}
 use Rattle.ppm_strands.proofs.OrderLemmas.{then_steps}
 use Rattle.ppm_strands.proofs.RunLemmas.{plus_comm, plus_none}
 use Rattle.ppm_code.specs.declared.code.CodeParts.{CodeParts}
-use Rattle.ppm_code.specs.Strands.{Result}
 use Rattle.ppm_depth.specs.Stack.{Own, Strands, Above, Root, On, listed, result_of, tree_at, end_of, IsNow, IsShown}
 use Rattle.ppm_depth.specs.Turns.{AreFew, counts_of, strands_over}
 use Rattle.ppm_depth.specs.declared.frame.Frame.{Frame}

@@ -1,7 +1,7 @@
 -- A capsule under way in the stack: what is left of it comes to what the whole of it comes to.
-use Rattle.std.proofs.Common.{◌≡◌, ◌<◌, ◌≤◌, ◌≢◌, ℕ, ◌+◌, Bool, true, false, List, length, get_or, set, refl, sym, ap, ◌∙◌, subst, arith, cond, slice_set, inl, inr}
+use Rattle.std.proofs.Common.{◌≡◌, ◌<◌, ◌≤◌, ◌≢◌, ℕ, ◌+◌, Bool, true, false, List, length, get_or, set, refl, sym, ap, ◌∙◌, arith, cond, slice_set, inl, inr}
 use Rattle.std.specs.Prelude.{◌==◌, ◌⊎◌}
-use Rattle.std.proofs.lemmas.Bool.{eqb-true, eq-eqb, ne_eqb}
+use Rattle.std.proofs.lemmas.Bool.{eqb-true, eq-eqb}
 use Rattle.std.proofs.lemmas.List.{get_or-set_same, get_or-set_other, length-set}
 use Rattle.ppm_capsules.specs.Capsule.{Capsule, Memory, store, ending, leaves, asked}
 use Rattle.ppm_capsules.specs.Strand.{Own, New as NewWord, Shared}
@@ -10,7 +10,6 @@ use Rattle.ppm_code.specs.declared.act.Step.{Step}
 use Rattle.ppm_code.specs.declared.act.Step.TheVariants.{Loads, Stores, Asks}
 use Rattle.ppm_code.specs.declared.location.Location.{Location}
 use Rattle.ppm_code.specs.declared.location.Location.TheVariants.{Frame, New, Array}
-use Rattle.ppm_code.specs.declared.location.FrameWord.{FrameWord}
 use Rattle.ppm_code.specs.declared.location.FrameWord.TheVariants.{Slot, Value}
 use Rattle.ppm_code.specs.Capsules.{at_step}
 use Rattle.ppm_code.specs.Locations.{Where, code_locations, location_of}

@@ -1,14 +1,14 @@
 -- Where that for which a frame waits is over: a return, the right branch's beginning, or a join, in turn.
-use Rattle.std.proofs.Common.{◌≡◌, ◌<◌, ◌≤◌, ℕ, ◌+◌, List, [], ◌∷◌, ◌++◌, length, take, inl, inr, refl, sym, ap, ◌∙◌, subst, arith, Option, None, Some}
+use Rattle.std.proofs.Common.{◌≡◌, ◌<◌, ◌≤◌, ℕ, ◌+◌, List, [], ◌∷◌, ◌++◌, length, take, refl, sym, ap, ◌∙◌, subst, arith, Option, None, Some}
 use Rattle.std.proofs.lemmas.List.{get_or-take, length-take-le}
-use Rattle.ppm_strands.specs.Tree.{Words, Tree, Strand, Call, Fork, Over, Code}
-use Rattle.ppm_strands.specs.Run.{Counts, none, plus, rejoin}
+use Rattle.ppm_strands.specs.Tree.{Words, Strand, Call, Fork, Over, Code}
+use Rattle.ppm_strands.specs.Run.{Counts, none, rejoin}
 use Rattle.ppm_strands.specs.Ahead.{Return, Join, Done}
 use Rattle.ppm_strands.specs.Turn.{StepsInTurn}
 use Rattle.ppm_strands.proofs.OrderLemmas.{before}
 use Rattle.ppm_strands.proofs.RunLemmas.{plus_none}
 use Rattle.ppm_code.specs.declared.code.CodeParts.{CodeParts}
-use Rattle.ppm_code.specs.Strands.{Point, Result, Gave, Trapped, resume, kept, with_value}
+use Rattle.ppm_code.specs.Strands.{Result, Gave, Trapped, resume, kept, with_value}
 use Rattle.ppm_depth.specs.Moves.{gone_on, stack_gone_on, joined, stack_joined, with_slot, resumed, stack_resumed, waiting_resumed, AreSlotsThere, IsSlotThere, pending, pending_for, turns_of}
 use Rattle.ppm_depth.proofs.AdvanceLemmas.{pending_push}
 use Rattle.ppm_depth.specs.Stack.{Own, Strands, result_of, Waits, ForCallee, ForLeft, ForRight, Above, Root, On, listed, tree_at, waits_for, end_of, Holds, AreOne, IsLaidOut, IsNow, IsTarget, IsShown}
@@ -18,8 +18,7 @@ use Rattle.ppm_depth.specs.declared.frame.Finish.{Finish}
 use Rattle.ppm_depth.specs.declared.frame.Finish.TheVariants as finish
 use Rattle.ppm_depth.specs.declared.frame.For.{For}
 use Rattle.ppm_depth.specs.declared.frame.For.TheVariants.{Callee, Left, Right}
-use Rattle.ppm_depth.specs.declared.frame.Now.{Now}
-use Rattle.ppm_depth.specs.declared.frame.Now.TheVariants.{At, Over as IsOver}
+use Rattle.ppm_depth.specs.declared.frame.Now.TheVariants.{Over as IsOver}
 use Rattle.ppm_depth.specs.declared.frame.Waiting.{Waiting}
 use Rattle.ppm_depth.proofs.StackLemmas.{holds_still, laid_still, innermost, lifted}
 use Rattle.ppm_depth.proofs.TurnLemmas.{gone_shown, holds_with, with_laid, with_length, own_is}
@@ -78,13 +77,12 @@ module _ (code : CodeParts) (array_words : ℕ) where
       → (next : Strands) × StepsInTurn c none (tree_at s (waits_for v (Over (result_of done)))) a next a
       × IsShown code (stack_resumed w on done blocks) (waiting_resumed w on done (listed s)) (resumed w on done) next
   resumed_one w (Callee to) (ForCallee f) s done blocks a begin end lies first last fits one laid =
-      let within : w.block ≤ length blocks = omega (arith, lies, first, last) in
-      (
+      let within : w.block ≤ length blocks = omega (arith, lies, first, last) in (
         tree_at s (resume f (result_of done)),
         lifted c s (return_step f (result_of done) a),
         gone_shown code (take w.block blocks) s w.frame to f done (below_holds blocks w.block w.frame None to f fits one)
-        (subst (λ (n : ℕ). end_of code w.frame ≤ n) (sym (length-take-le w.block blocks within)) fits)
-        (below_laid blocks w.block s w.frame within fits laid),
+            (subst (λ (n : ℕ). end_of code w.frame ≤ n) (sym (length-take-le w.block blocks within)) fits)
+            (below_laid blocks w.block s w.frame within fits laid),
       )
   resumed_one w (Left right left_to to) (ForLeft f r) s done blocks a begin end lies first last fits one laid = (
     tree_at s (waits_for (ForLeft f r) (Over (result_of done))),
@@ -100,13 +98,12 @@ module _ (code : CodeParts) (array_words : ℕ) where
   resumed_one w (Right l left_to to) (ForRight f o) s done blocks a begin end lies first last fits one laid =
       let within : w.block ≤ length blocks = omega (arith, lies, first, last) in
       subst (λ (p : Result). (next : Strands) × StepsInTurn c none (tree_at s (Fork f (Over p) (Over (result_of done)))) a next a
-      × IsShown code (stack_joined w.frame left_to l to done (take w.block blocks)) (listed s) (joined w.frame l done) next) (sym one.1)
-      (
+      × IsShown code (stack_joined w.frame left_to l to done (take w.block blocks)) (listed s) (joined w.frame l done) next) (sym one.1) (
         tree_at s (rejoin c f (result_of l) (result_of done)),
         lifted c s (join_step f (result_of l) (result_of done) a),
         joined_shown (take w.block blocks) s w.frame left_to to f l done (below_holds blocks w.block w.frame left_to to f fits one.0)
-        (subst (λ (n : ℕ). end_of code w.frame ≤ n) (sym (length-take-le w.block blocks within)) fits)
-        (below_laid blocks w.block s w.frame within fits laid),
+            (subst (λ (n : ℕ). end_of code w.frame ≤ n) (sym (length-take-le w.block blocks within)) fits)
+            (below_laid blocks w.block s w.frame within fits laid),
       )
   resumed_one w (Callee to) (ForLeft f g) s done blocks a begin end lies first last fits one laid = absurd one
   resumed_one w (Callee to) (ForRight f o) s done blocks a begin end lies first last fits one laid = absurd one
@@ -131,12 +128,11 @@ module _ (code : CodeParts) (array_words : ℕ) where
           let whole : tree_at s (waits_for v (Over (result_of done))) ≡ t = ap (λ (z : Strands). tree_at s (waits_for v z)) (sym at.0) ∙ sym tree in
           let laid = subst (λ (y : Waiting). (y.block ≤ at.1) × (end_of code y.frame ≤ y.block) × AreOne code blocks at.2 (length blocks) y.frame y.on v
           × IsLaidOut code blocks s y.frame.base (end_of code y.frame) y.block) last.0 at.5 in
-          let turn = resumed_one w w.on v s done blocks a at.1 at.2 laid.0 at.3 at.4 laid.1 laid.2 laid.3 in
-          (
+          let turn = resumed_one w w.on v s done blocks a at.1 at.2 laid.0 at.3 at.4 laid.1 laid.2 laid.3 in (
             turn.0,
             subst (λ (z : Strands). StepsInTurn c none z a turn.0 a) whole turn.1,
             subst (λ (zs : List Waiting). IsShown code (stack_resumed w w.on done blocks) (waiting_resumed w w.on done zs) (resumed w w.on done) turn.0)
-            last.1 turn.2,
+                last.1 turn.2,
           )
 
   -- the slots that it takes values in lie below its block
@@ -147,6 +143,7 @@ module _ (code : CodeParts) (array_words : ℕ) where
       below : (frame : Frame) (block : ℕ) (to : Option ℕ) → end_of code frame ≤ block → IsTarget code frame to → IsSlotThere frame to block
       below frame block None fits one = tt
       below frame block (Some slot) fits one = omega (arith, fits, one)
+
       slots : (frame : Frame) (block top begin : ℕ) (on : For) (v : Waits) → end_of code frame ≤ block → AreOne code blocks begin top frame on v
           → AreSlotsThere frame on block
       slots frame block top begin (Callee to) (ForCallee f) fits one = below frame block to fits one.target
@@ -157,6 +154,7 @@ module _ (code : CodeParts) (array_words : ℕ) where
       slots frame block top begin (Callee to) (ForRight f o) fits one = absurd one
       slots frame block top begin (Right l left_to to) (ForCallee f) fits one = absurd one
       slots frame block top begin (Right l left_to to) (ForLeft f g) fits one = absurd one
+
       by : (s : Above) → listed s ≡ ws ++ (w ∷ []) → (u : Strands) → IsNow code blocks (IsOver done) s u
           → (w.block ≤ length blocks) × AreSlotsThere w.frame w.on w.block
       by Root e u at = absurd (innermost Root ws w e)

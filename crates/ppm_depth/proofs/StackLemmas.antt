@@ -1,9 +1,9 @@
 -- What waits in the stack stays as it is while the stack changes elsewhere, and chains of a strand are chains of the whole tree.
-use Rattle.std.proofs.Common.{◌≡◌, ◌<◌, ◌≤◌, ℕ, ◌+◌, List, [], ◌∷◌, ◌++◌, length, get_or, inl, inr, refl, sym, ap, ap₂, ◌∙◌, subst, arith, drop, Option, None}
+use Rattle.std.proofs.Common.{◌≡◌, ◌<◌, ◌≤◌, ℕ, List, [], ◌∷◌, ◌++◌, length, get_or, inl, inr, refl, sym, ap, ap₂, ◌∙◌, arith, drop, Option, None}
 use Rattle.std.specs.Prelude.{◌⊎◌}
 use Rattle.std.proofs.lemmas.List.{length_push}
 use Rattle.ppm_depth.specs.declared.frame.Waiting.{Waiting}
-use Rattle.ppm_strands.specs.Tree.{Words, Tree, Over, Code}
+use Rattle.ppm_strands.specs.Tree.{Words, Code}
 use Rattle.ppm_strands.specs.Run.{Counts}
 use Rattle.ppm_strands.specs.Turn.{StepsInTurn}
 use Rattle.ppm_strands.proofs.OrderLemmas.{under, left, right}
@@ -12,7 +12,6 @@ use Rattle.ppm_code.specs.Strands.{Result}
 use Rattle.ppm_code.specs.declared.location.FrameWord.TheVariants.{Slot, Value}
 use Rattle.ppm_depth.specs.Stack.{Own, Strands, Waits, ForCallee, ForLeft, ForRight, waits_for, Above, Root, On, listed, tree_at, end_of, Holds, AreOne, IsLaidOut}
 use Rattle.ppm_depth.specs.Store.{own_at}
-use Rattle.ppm_depth.specs.Whole.{slots_at, size_at}
 use Rattle.ppm_depth.specs.declared.frame.Frame.{Frame}
 use Rattle.ppm_depth.specs.declared.frame.For.{For}
 use Rattle.ppm_depth.specs.declared.frame.For.TheVariants as for
@@ -66,8 +65,8 @@ module _ (code : CodeParts) where
     h.1,
     one_still old new begin end top w.block w.frame w.on v same h.0 h.1 first last h.2,
     laid_still old new s w.frame.base (end_of code w.frame) w.block
-      (λ x out below. same x (inl (omega (arith, h.0, below))) (omega (arith, h.0, below, first, last)))
-      (omega arith) h.1 h.3,
+        (λ x out below. same x (inl (omega (arith, h.0, below))) (omega (arith, h.0, below, first, last)))
+        (omega arith) h.1 h.3,
   )
 
   -- a higher top is as good

@@ -1,47 +1,24 @@
 -- What the strand shows after a capsule, and where that for which a frame waits is over.
-use Rattle.std.proofs.Common.{◌≡◌, ◌<◌, ◌≤◌, ℕ, zero, suc, ◌+◌, List, [], ◌∷◌, ◌++◌, length, get_or, take, replicate, inl, inr, refl, sym, ap, ◌∙◌, subst, arith, false, Option, Some, None}
-use Rattle.std.specs.Prelude.{◌⊎◌, ◌==◌, IfSome, min, set, slice_get}
-use Rattle.std.proofs.Math.Path.{fun_ext}
-use Rattle.std.proofs.lemmas.List.{get_or-take, get_or_append_left, get_or-append-add, length-take-le, length-set, get_or-set_other}
-use Rattle.ppm_strands.specs.Tree.{Words, Tree, Strand, Call, Fork, Over, forks_in, Code}
-use Rattle.ppm_strands.specs.Run.{Counts, none, plus, of_capsule, rejoin}
-use Rattle.ppm_strands.specs.Ahead.{Capsule, Return, Join, Steps, Done}
-use Rattle.ppm_strands.specs.Turn.{StepsInTurn}
-use Rattle.ppm_strands.proofs.OrderLemmas.{before}
-use Rattle.ppm_strands.proofs.RunLemmas.{counts_path, plus_none, plus_comm}
-use Rattle.ppm_capsules.specs.Capsule.{Capsule as Asking, Memory, ending, leaves, asked}
-use Rattle.ppm_capsules.specs.Strand.{Own as OwnWord, New as NewWord, start, own_of, new_of, shared_of}
-use Rattle.ppm_code.specs.declared.act.End.{End}
-use Rattle.ppm_code.specs.declared.act.End.TheVariants as ends
+use Rattle.std.proofs.Common.{◌≡◌, ◌<◌, ◌≤◌, ℕ, zero, suc, List, length, get_or, replicate, inl, inr, refl, sym, ap, subst, arith, false, Option, Some, None}
+use Rattle.std.specs.Prelude.{◌⊎◌, ◌==◌, IfSome, slice_get}
+use Rattle.std.proofs.lemmas.List.{length-set, get_or-set_other}
+use Rattle.ppm_strands.specs.Tree.{Strand, Over}
 use Rattle.ppm_code.specs.declared.code.Capsule.{Capsule as CodeCapsule}
 use Rattle.ppm_code.specs.declared.code.CodeParts.{CodeParts}
 use Rattle.ppm_code.specs.declared.code.Procedure.{Procedure}
-use Rattle.ppm_code.specs.declared.location.FrameWord.{FrameWord}
 use Rattle.ppm_code.specs.declared.location.FrameWord.TheVariants.{Slot, Value}
-use Rattle.ppm_code.specs.Capsules.{capsule_of}
-use Rattle.ppm_code.specs.Code.{EndFits, IsCode, IsCapsuleOf, room_of}
-use Rattle.ppm_code.specs.Locations.{Where, code_locations, same_frame_word}
-use Rattle.ppm_code.specs.Sizes.{slots_of, frame_size, slot_at, left_at, right_at}
-use Rattle.ppm_code.specs.Strands.{Point, Result, Gave, Trapped, at_capsule, with_value, built, begun, opens, kept, resume, table_of, instrs_of, entry_in, entry_of}
-use Rattle.ppm_depth.specs.Moves.{entry_at, moved, now_after, stack_after, waiting_after, forks_by, counts_by, with_slot, gone_on, stack_gone_on}
-use Rattle.ppm_depth.specs.Moves.{resumed, stack_resumed, waiting_resumed}
-use Rattle.ppm_depth.specs.Stack.{Own, Strands, result_of, Waits, ForCallee, ForLeft, ForRight, Above, Root, On, listed, tree_at, end_of, IsTarget, Holds, AreOne, IsLaidOut, IsShown}
-use Rattle.ppm_depth.specs.Start.{words_of}
-use Rattle.ppm_depth.specs.Store.{Shows, own_at}
-use Rattle.ppm_depth.specs.Turns.{strands_over}
-use Rattle.ppm_depth.specs.Whole.{IsWhole, Keeps, block_at, kept_of, procedure_in, procedure_at, size_at, slots_at, block_limit}
-use Rattle.ppm_depth.specs.declared.capsule.Done.{Done as Finished}
+use Rattle.ppm_code.specs.Code.{IsCode, IsCapsuleOf}
+use Rattle.ppm_code.specs.Strands.{Point, Gave, Trapped, at_capsule, with_value, resume, entry_in, entry_of}
+use Rattle.ppm_depth.specs.Moves.{with_slot, gone_on, stack_gone_on}
+use Rattle.ppm_depth.specs.Stack.{Own, result_of, Above, listed, tree_at, end_of, IsTarget, Holds, IsLaidOut, IsShown}
+use Rattle.ppm_depth.specs.Store.{own_at}
+use Rattle.ppm_depth.specs.Whole.{procedure_in, procedure_at}
 use Rattle.ppm_depth.specs.declared.frame.Frame.{Frame}
 use Rattle.ppm_depth.specs.declared.frame.Finish.{Finish}
 use Rattle.ppm_depth.specs.declared.frame.Finish.TheVariants as finish
-use Rattle.ppm_depth.specs.declared.frame.For.{For}
-use Rattle.ppm_depth.specs.declared.frame.For.TheVariants as for
-use Rattle.ppm_depth.specs.declared.frame.Now.TheVariants as now
-use Rattle.ppm_depth.specs.declared.frame.Waiting.{Waiting}
-use Rattle.ppm_depth.specs.declared.store.Place.{Place}
-use Rattle.ppm_depth.proofs.CodeLemmas.{one_at, slots_small}
+use Rattle.ppm_depth.proofs.CodeLemmas.{one_at}
 use Rattle.ppm_depth.proofs.RestLemmas.{put_word, is_number, is_no_number}
-use Rattle.ppm_depth.proofs.StackLemmas.{holds_still, laid_still, laid_higher, innermost, lifted}
+use Rattle.ppm_depth.proofs.StackLemmas.{laid_still}
 
 -- a list of zeros has 0 everywhere
 pub zeros : (n i : ℕ) → ◌≡◌ {A = ℕ} (get_or (replicate n 0) i 0) 0

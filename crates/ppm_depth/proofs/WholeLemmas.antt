@@ -6,23 +6,22 @@ use Rattle.ppm_code.specs.Capsules.{at_act, capsule_from, capsule_of}
 use Rattle.ppm_code.specs.Locations.{Where, code_locations}
 use Rattle.ppm_code.proofs.CapsuleLemmas.{worked, past_end}
 use Rattle.ppm_code.specs.declared.act.Act.{Act}
-use Rattle.ppm_code.specs.declared.act.Act.TheVariants.{Steps, Ends as Stops}
+use Rattle.ppm_code.specs.declared.act.Act.TheVariants.{Steps}
 use Rattle.ppm_code.specs.declared.act.End.{End}
 use Rattle.ppm_code.specs.declared.act.End.TheVariants.{Finish}
 use Rattle.ppm_code.specs.declared.act.Step.{Step}
 use Rattle.ppm_code.specs.declared.act.Step.TheVariants.{Loads, Stores, Asks}
 use Rattle.ppm_code.specs.declared.code.CodeParts.{CodeParts}
 use Rattle.ppm_code.specs.declared.instr.Instr.{Instr}
-use Rattle.ppm_code.specs.declared.instr.Instr.TheVariants.{StoreNew}
 use Rattle.ppm_code.specs.Acts.{does}
-use Rattle.ppm_code.specs.Code.{EndFits, IsCode}
+use Rattle.ppm_code.specs.Code.{IsCode}
 use Rattle.ppm_code.specs.Limits.{room_limit}
 use Rattle.ppm_code.specs.Strands.{instrs_of}
 use Rattle.ppm_code.specs.Tidy.{IsTidy}
 use Rattle.ppm_depth.specs.Store.{Shows, IsWithin, asked_by}
 use Rattle.ppm_depth.specs.Whole.{IsPlace, IsWhole, Keeps, block_at, procedure_at, size_at, slots_at}
 use Rattle.ppm_depth.specs.declared.store.Place.{Place}
-use Rattle.ppm_depth.proofs.ActLemmas.{ActFits, StepFits, does_fits}
+use Rattle.ppm_depth.proofs.ActLemmas.{ActFits, does_fits}
 use Rattle.ppm_depth.proofs.CodeLemmas.{instr_fits, store_fits}
 use Rattle.ppm_depth.proofs.RestLemmas.{IsLaid, IsLeft, IsStepWithin}
 

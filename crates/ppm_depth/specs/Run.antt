@@ -20,11 +20,12 @@ use Rattle.ppm_depth.specs.declared.depth.DepthRun.{DepthRun}
 abbrev pub strands_of : CodeParts → List NamedArray → Code (Frame FrameWord Point) Result
 strands_of code input = code_of code_locations (table_of code (length (words_in input)))
 
--- the arrays by their names, with the values that words have from an address on
+-- so many values, those that words have from an address on
 abbrev pub values_at : Words → (start count : ℕ) → List ℤ
 values_at words start zero = []
 values_at words start (suc count) = value_of (words start) ∷ values_at words (start + 1) count
 
+-- arrays of the same names and lengths, with such values, one after the other
 abbrev pub arrays_at : Words → (start : ℕ) → List NamedArray → List NamedArray
 arrays_at words start [] = []
 arrays_at words start (a ∷ arrays) =

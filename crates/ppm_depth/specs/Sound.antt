@@ -1,5 +1,5 @@
 -- Sound codes: those of which any order of the strands comes to the depth-first end.
-use Rattle.std.specs.Prelude.{◌≡◌, ℕ, List}
+use Rattle.std.specs.Prelude.{ℕ, List}
 use Rattle.ppm_strands.specs.Tree.{Words, Over}
 use Rattle.ppm_strands.specs.Run.{Counts}
 use Rattle.ppm_strands.specs.Ahead.{Steps}

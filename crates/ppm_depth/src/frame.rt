@@ -19,7 +19,9 @@ pub enum Finish {
 #[derive(Clone, Copy, Debug, PartialEq, Eq)]
 pub enum For {
     /// Its callee.
-    Callee { to: Option<u32> },
+    Callee {
+        to: Option<u32>,
+    },
     /// Its left branch; the right one is to begin then.
     Left {
         right: Frame,

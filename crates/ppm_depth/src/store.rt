@@ -27,7 +27,8 @@ impl Store {
         ensures { result ≡ found place location self.now.blocks.items self.now.words.items }
     {
         match location {
-            Location::Frame(FrameWord::Slot(slot)) => self.blocks[place.frame + (6 + slot as usize)],
+            Location::Frame(FrameWord::Slot(slot)) => self.blocks[place.frame
+                + (6 + slot as usize)],
             Location::Frame(FrameWord::Value) => self.blocks[place.frame + 4],
             Location::New(offset) => self.blocks[place.block + offset as usize],
             Location::Array(index) => self.words[index as usize],

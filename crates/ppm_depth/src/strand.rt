@@ -95,13 +95,7 @@ impl Strand {
     }
 
     /// What follows a capsule of a frame, by its end; its new block begins at a word of the stack.
-    fn follow(
-        &mut self,
-        code: &Code,
-        frame: Frame,
-        block: usize,
-        end: End,
-    ) -> Result<Now, NoMemory>
+    fn follow(&mut self, code: &Code, frame: Frame, block: usize, end: End) -> Result<Now, NoMemory>
         requires there { frame.base + size_at code.now frame.capsule ≤ block }
         requires block { block ≤ length self.old.store.blocks.items }
         requires fits { EndFits code.now (procedure_at code.now frame.capsule) (instrs_in_code code.now frame.capsule) end }

@@ -14,7 +14,7 @@ invariant-loop-at l = record {
   left : (m : Memory Where)
       → Shows (slots_at l.code l.number) (block_at l.code l.number) l.place l.fn.store.blocks.items l.fn.store.words.items m
       → IsLeft (slots_at l.code l.number) (block_at l.code l.number) l.place (capsule_of l.array_words l.instrs) m l.asked
-          l.store.blocks.items l.store.words.items (capsule_from l.array_words 0 l.at l.instrs l.registers);
+      l.store.blocks.items l.store.words.items (capsule_from l.array_words 0 l.at l.instrs l.registers);
   kept : Keeps l.place (size_at l.code l.number) l.fn.store.blocks.items l.store.blocks.items;
   words : length l.store.words.items ≡ length l.fn.store.words.items;
   asked : l.asked ≤ room_limit;

@@ -1,9 +1,8 @@
-use Rattle.std.proofs.Common.{◌≡◌, ◌≤◌, ◌+◌, length, List, ℕ, refl, sym, ap, ap₂, ◌∙◌, subst, arith}
-use Rattle.ppm_words.specs.Limits.{word_limit}
+use Rattle.std.proofs.Common.{◌≡◌, ◌+◌, length, List, ℕ, refl, ap, ap₂, ◌∙◌, arith}
 use Rattle.ppm_words.specs.declared.named_array.NamedArray.{NamedArray}
 use Rattle.ppm_code.specs.Sizes.{frame_size}
 use Rattle.ppm_code.specs.declared.code.CodeParts.{CodeParts}
-use Rattle.ppm_depth.specs.Image.{outcome_in, root_frame, word_count}
+use Rattle.ppm_depth.specs.Image.{outcome_in, root_frame}
 use Rattle.ppm_depth.specs.Moves.{entry_at}
 use Rattle.ppm_depth.specs.Start.{root_strand, words_in}
 use Rattle.ppm_depth.specs.declared.store.Store.{Store}
@@ -20,14 +19,13 @@ root_store-requires-clause-few c =
 -- the strand begins with the root
 pub run-requires-clause-shown : goal.run-requires-clause-shown
 run-requires-clause-shown c =
-    let code = c.args.code.now in
-    (
+    let code = c.args.code.now in (
       root_strand code c.args.input.now,
       begins_shown code c.args.input.now c.parts.ensures.code _ _ _
-      (ap (λ (s : Store). s.blocks.items) c.new-strand.ensures.store ∙ c.in_ok-store.ensures.blocks
-      ∙ ap (λ (as_ : List NamedArray). root_frame code as_) c.arrays-arrays.ensures.value)
-      c.new-strand.ensures.waiting
-      (c.entry-root.ensures.value ∙ ap (λ (p : CodeParts). entry_at code p.root 0) c.parts.ensures.value),
+          (ap (λ (s : Store). s.blocks.items) c.new-strand.ensures.store ∙ c.in_ok-store.ensures.blocks
+          ∙ ap (λ (as_ : List NamedArray). root_frame code as_) c.arrays-arrays.ensures.value)
+          c.new-strand.ensures.waiting
+          (c.entry-root.ensures.value ∙ ap (λ (p : CodeParts). entry_at code p.root 0) c.parts.ensures.value),
     )
 
 -- the words are as many as those of the arrays
@@ -63,8 +61,8 @@ returns c =
     omega (arith, c.len-frame_words.ensures, c.in_ok-store.store.blocks.ok.0, stack, root) in
     record {
       run = answered code input c.new-strand.result.store.words.items begins c.args.capsules strand c.in_ok-finish.finish
-    (c.in_ok-finish.ensures.come (root_strand code input) shown) c.in_ok-finish.ensures.limit (omega (arith, kept, words, same)) _
-    (c.in_ok-outcome.ensures ∙ ap₂ (λ (as_ : List NamedArray) (ws : List ℕ). outcome_in as_ ws c.in_ok-finish.finish)
-    c.arrays-arrays.ensures.value c.deref.ensures.value)
-    refl refl (ap (λ (n : ℕ). n + strand.counts.block_words) frame);
+          (c.in_ok-finish.ensures.come (root_strand code input) shown) c.in_ok-finish.ensures.limit (omega (arith, kept, words, same)) _
+          (c.in_ok-outcome.ensures ∙ ap₂ (λ (as_ : List NamedArray) (ws : List ℕ). outcome_in as_ ws c.in_ok-finish.finish)
+          c.arrays-arrays.ensures.value c.deref.ensures.value)
+          refl refl (ap (λ (n : ℕ). n + strand.counts.block_words) frame);
     }

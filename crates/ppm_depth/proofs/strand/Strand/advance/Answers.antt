@@ -1,4 +1,4 @@
-use Rattle.std.proofs.Common.{◌≡◌, ◌++◌, replicate, length, List, ℕ, refl, sym, ap, ◌∙◌, subst₂, arith}
+use Rattle.std.proofs.Common.{◌++◌, replicate, length, List, ℕ, refl, sym, ap, ◌∙◌, subst₂, arith}
 use Rattle.ppm_strands.specs.Run.{plus}
 use Rattle.ppm_strands.specs.Turn.{StepsInTurn}
 use Rattle.ppm_code.specs.declared.instr.Instr.{Instr}

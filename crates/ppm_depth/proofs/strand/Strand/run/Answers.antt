@@ -1,8 +1,7 @@
-use Rattle.std.proofs.Common.{◌≡◌, ◌+◌, ◌<◌, ◌++◌, [], ◌∷◌, length, List, ℕ, refl, sym, ap, ◌∙◌, subst, arith}
-use Rattle.ppm_strands.specs.Tree.{Over}
+use Rattle.std.proofs.Common.{◌≡◌, ◌+◌, length, List, ℕ, refl, ap, ◌∙◌, subst, arith}
 use Rattle.ppm_strands.specs.Turn.{StepsInTurn}
 use Rattle.ppm_depth.specs.Moves.{pending, pending_for, turns_of}
-use Rattle.ppm_depth.specs.Stack.{Strands, IsShown, result_of}
+use Rattle.ppm_depth.specs.Stack.{Strands, IsShown}
 use Rattle.ppm_depth.specs.Start.{words_of}
 use Rattle.ppm_depth.specs.Turns.{ShowsTree, counts_of, strands_over}
 use Rattle.ppm_depth.specs.declared.frame.Now.{Now}
@@ -59,12 +58,11 @@ pub returns-then-self-limit-clause-come : goal.returns-then-self-limit-clause-co
 returns-then-self-limit-clause-come c = λ t shown.
     let run = c.loop-now.invariant.run t shown in
     let there = strand_there c.args.code.now _ _ c.in-At.frame run.next
-    (subst (λ (n : Now). ShowsTree c.args.code.now c.loop-now.self n run.next) c.in-At.is run.shown) in
-    (
+    (subst (λ (n : Now). ShowsTree c.args.code.now c.loop-now.self n run.next) c.in-At.is run.shown) in (
       there.0,
       there.1,
       subst (λ (u : Strands). StepsInTurn (strands_over c.args.code.now (length c.args.self.now.store.words.items)) (counts_of c.loop-now.self.counts) t
-      (words_of c.args.self.now.store.words.items) u (words_of c.loop-now.self.store.words.items)) there.2 run.steps,
+          (words_of c.args.self.now.store.words.items) u (words_of c.loop-now.self.store.words.items)) there.2 run.steps,
       c.if-self-limit.true,
     )
 

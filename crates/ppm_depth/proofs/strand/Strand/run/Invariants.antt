@@ -1,4 +1,4 @@
-use Rattle.std.proofs.Common.{◌≡◌, ◌≤◌, ◌+◌, ◌-◌, ◌*◌, ℕ, length}
+use Rattle.std.proofs.Common.{◌≡◌, ◌≤◌, ◌+◌, ◌-◌, ◌*◌, length}
 use Rattle.ppm_depth.specs.Moves.{pending, turns_of}
 use Rattle.ppm_depth.specs.Stack.{Strands}
 use Rattle.ppm_depth.specs.Start.{words_of}
