@@ -1,12 +1,10 @@
 -- The code of the tests is a code, and tidy.
-use Rattle.std.proofs.Common.{◌≡◌, ◌<◌, ◌≤◌, ℕ, zero, suc, ◌+◌, List, [], ◌∷◌, ◌++◌, length, get_or, inl, inr, refl, sym, ap, subst, arith, Some, None}
+use Rattle.std.proofs.Common.{◌≡◌, ◌<◌, ◌≤◌, ℕ, zero, suc, ◌+◌, List, [], ◌∷◌, get_or, inl, inr, refl, subst, arith, Some, None}
 use Rattle.std.specs.Prelude.{slice_get, IfSome, pos}
 use Rattle.std.specs.List.{All, Contains}
 use Rattle.std.proofs.lemmas.List.Elements.{Contains-push}
 use Rattle.std.proofs.lemmas.Option.{slice_get-get_or}
-use Rattle.ppm_code.specs.declared.act.End.{End}
 use Rattle.ppm_code.specs.declared.act.End.TheVariants.{Next, Finish, Call, Fork}
-use Rattle.ppm_code.specs.declared.code.Capsule.{Capsule}
 use Rattle.ppm_code.specs.declared.code.CodeParts.{CodeParts}
 use Rattle.ppm_code.specs.declared.code.Procedure.{Procedure}
 use Rattle.ppm_code.specs.declared.instr.Instr.{Instr}
@@ -14,8 +12,7 @@ use Rattle.ppm_code.specs.declared.instr.Instr.TheVariants.{Const, Add, Sub, Div
 use Rattle.ppm_code.specs.declared.register.Register.{Register}
 use Rattle.ppm_code.specs.Code.{IsCode, IsCapsule, IsCapsuleOf, Fits}
 use Rattle.ppm_code.specs.Limits.{slot_limit}
-use Rattle.ppm_code.specs.Paths.{Path, Any}
-use Rattle.ppm_code.specs.Tidy.{IsTidy, IsTidyOne, IsTidyCapsule, IsTidyStore, IsBuilder, MayFollow}
+use Rattle.ppm_code.specs.Tidy.{IsTidy, IsTidyOne, IsTidyCapsule, IsBuilder, MayFollow}
 use Rattle.ppm_words.specs.Limits.{array_limit}
 use Rattle.ppm_depth.specs.Sample.{choosing_instrs, counting_instrs, looping_instrs, calling_instrs, putting_instrs, forking_instrs, dividing_instrs, asking_instrs}
 
@@ -82,37 +79,81 @@ module _ (choosing_a choosing_none choosing_value choosing_one counting_count co
     most = omega arith;
     last = (LoadSlot choosing_a 0 ∷ Get choosing_value choosing_a choosing_none 1 ∷ BranchZero choosing_value 9 ∷ Const choosing_one (pos 1) ∷ Sub choosing_value choosing_value choosing_one 1 ∷ BranchZero choosing_value 10 ∷ Sub choosing_value choosing_value choosing_one 1 ∷ BranchZero choosing_value 11 ∷ Ends (Next 7) ∷ Ends (Next 1) ∷ Ends (Next 3) ∷ [], (Next 5), refl);
     each = each (Fits sample 0 (choosing_instrs choosing_a choosing_none choosing_value choosing_one)) (choosing_instrs choosing_a choosing_none choosing_value choosing_one) (
-      omega arith, (
-      (omega arith, omega arith), (
-      (omega arith, omega arith), (
-      tt, (
-      (omega arith, omega arith), (
-      (omega arith, omega arith), (
-      (omega arith, omega arith), (
-      (omega arith, omega arith), (
-      (refl, omega arith), (
-      (refl, omega arith), (
-      (refl, omega arith), (
-      (refl, omega arith), tt
-      )))))))))))
+      omega arith,
+      (
+        (omega arith, omega arith),
+        (
+          (omega arith, omega arith),
+          (
+            tt,
+            (
+              (omega arith, omega arith),
+              (
+                (omega arith, omega arith),
+                (
+                  (omega arith, omega arith),
+                  (
+                    (omega arith, omega arith),
+                    (
+                      (refl, omega arith),
+                      (
+                        (refl, omega arith),
+                        (
+                          (refl, omega arith),
+                          (
+                            (refl, omega arith),
+                            tt,
+                          ),
+                        ),
+                      ),
+                    ),
+                  ),
+                ),
+              ),
+            ),
+          ),
+        ),
+      ),
     );
   }
 
   choosing_tidy : IsTidyCapsule sample (choosing_instrs choosing_a choosing_none choosing_value choosing_one)
   choosing_tidy = stores_tidy sample (choosing_instrs choosing_a choosing_none choosing_value choosing_one) (
-    tt, (
-    tt, (
-    tt, (
-    tt, (
-    tt, (
-    tt, (
-    tt, (
-    tt, (
-    tt, (
-    tt, (
-    tt, (
-    tt, tt
-    )))))))))))
+    tt,
+    (
+      tt,
+      (
+        tt,
+        (
+          tt,
+          (
+            tt,
+            (
+              tt,
+              (
+                tt,
+                (
+                  tt,
+                  (
+                    tt,
+                    (
+                      tt,
+                      (
+                        tt,
+                        (
+                          tt,
+                          tt,
+                        ),
+                      ),
+                    ),
+                  ),
+                ),
+              ),
+            ),
+          ),
+        ),
+      ),
+    ),
   )
 
   counting_fits : IsCapsule sample (record { procedure = 0; instrs = counting_instrs counting_count counting_one })
@@ -121,23 +162,39 @@ module _ (choosing_a choosing_none choosing_value choosing_one counting_count co
     most = omega arith;
     last = (LoadSlot counting_count 1 ∷ Const counting_one (pos 1) ∷ Add counting_count counting_count counting_one 2 ∷ StoreCur 2 counting_count ∷ [], (Next 2), refl);
     each = each (Fits sample 0 (counting_instrs counting_count counting_one)) (counting_instrs counting_count counting_one) (
-      omega arith, (
-      tt, (
-      (omega arith, omega arith), (
-      omega arith, (
-      (refl, omega arith), tt
-      ))))
+      omega arith,
+      (
+        tt,
+        (
+          (omega arith, omega arith),
+          (
+            omega arith,
+            (
+              (refl, omega arith),
+              tt,
+            ),
+          ),
+        ),
+      ),
     );
   }
 
   counting_tidy : IsTidyCapsule sample (counting_instrs counting_count counting_one)
   counting_tidy = stores_tidy sample (counting_instrs counting_count counting_one) (
-    tt, (
-    tt, (
-    tt, (
-    tt, (
-    tt, tt
-    ))))
+    tt,
+    (
+      tt,
+      (
+        tt,
+        (
+          tt,
+          (
+            tt,
+            tt,
+          ),
+        ),
+      ),
+    ),
   )
 
   looping_fits : IsCapsule sample (record { procedure = 0; instrs = looping_instrs looping_count looping_three looping_less })
@@ -146,27 +203,51 @@ module _ (choosing_a choosing_none choosing_value choosing_one counting_count co
     most = omega arith;
     last = (LoadSlot looping_count 2 ∷ StoreCur 1 looping_count ∷ Const looping_three (pos 3) ∷ Less looping_less looping_count looping_three ∷ BranchZero looping_less 6 ∷ Ends (Next 1) ∷ [], Finish, refl);
     each = each (Fits sample 0 (looping_instrs looping_count looping_three looping_less)) (looping_instrs looping_count looping_three looping_less) (
-      omega arith, (
-      omega arith, (
-      tt, (
-      tt, (
-      (omega arith, omega arith), (
-      (refl, omega arith), (
-      tt, tt
-      ))))))
+      omega arith,
+      (
+        omega arith,
+        (
+          tt,
+          (
+            tt,
+            (
+              (omega arith, omega arith),
+              (
+                (refl, omega arith),
+                (
+                  tt,
+                  tt,
+                ),
+              ),
+            ),
+          ),
+        ),
+      ),
     );
   }
 
   looping_tidy : IsTidyCapsule sample (looping_instrs looping_count looping_three looping_less)
   looping_tidy = stores_tidy sample (looping_instrs looping_count looping_three looping_less) (
-    tt, (
-    tt, (
-    tt, (
-    tt, (
-    tt, (
-    tt, (
-    tt, tt
-    ))))))
+    tt,
+    (
+      tt,
+      (
+        tt,
+        (
+          tt,
+          (
+            tt,
+            (
+              tt,
+              (
+                tt,
+                tt,
+              ),
+            ),
+          ),
+        ),
+      ),
+    ),
   )
 
   calling_fits : IsCapsule sample (record { procedure = 0; instrs = calling_instrs calling_a calling_index })
@@ -175,25 +256,45 @@ module _ (choosing_a choosing_none choosing_value choosing_one counting_count co
     most = omega arith;
     last = (Room 8 ∷ LoadSlot calling_a 0 ∷ StoreNew 6 calling_a ∷ Const calling_index (pos 1) ∷ StoreNew 7 calling_index ∷ [], (Call 1 4 (Some 2)), refl);
     each = each (Fits sample 0 (calling_instrs calling_a calling_index)) (calling_instrs calling_a calling_index) (
-      (refl, omega arith, omega arith), (
-      omega arith, (
-      (8, refl, omega arith), (
-      tt, (
-      (8, refl, omega arith), (
-      (omega arith, (refl, omega arith), omega arith, refl), tt
-      )))))
+      (refl, omega arith, omega arith),
+      (
+        omega arith,
+        (
+          (8, refl, omega arith),
+          (
+            tt,
+            (
+              (8, refl, omega arith),
+              (
+                (omega arith, (refl, omega arith), omega arith, refl),
+                tt,
+              ),
+            ),
+          ),
+        ),
+      ),
     );
   }
 
   calling_tidy : IsTidyCapsule sample (calling_instrs calling_a calling_index)
   calling_tidy = stores_tidy sample (calling_instrs calling_a calling_index) (
-    tt, (
-    tt, (
-    ((refl, (refl, (refl, (refl, (refl, ((omega arith, omega arith), tt)))))), (Ends (Call 1 4 (Some 2)), Contains-push (Room 8 ∷ LoadSlot calling_a 0 ∷ StoreNew 6 calling_a ∷ Const calling_index (pos 1) ∷ StoreNew 7 calling_index ∷ []) (Ends (Call 1 4 (Some 2))), (omega arith, omega arith))), (
-    tt, (
-    ((refl, (refl, (refl, (refl, (refl, ((omega arith, omega arith), tt)))))), (Ends (Call 1 4 (Some 2)), Contains-push (Room 8 ∷ LoadSlot calling_a 0 ∷ StoreNew 6 calling_a ∷ Const calling_index (pos 1) ∷ StoreNew 7 calling_index ∷ []) (Ends (Call 1 4 (Some 2))), (omega arith, omega arith))), (
-    tt, tt
-    )))))
+    tt,
+    (
+      tt,
+      (
+        ((refl, (refl, (refl, (refl, (refl, ((omega arith, omega arith), tt)))))), (Ends (Call 1 4 (Some 2)), Contains-push (Room 8 ∷ LoadSlot calling_a 0 ∷ StoreNew 6 calling_a ∷ Const calling_index (pos 1) ∷ StoreNew 7 calling_index ∷ []) (Ends (Call 1 4 (Some 2))), (omega arith, omega arith))),
+        (
+          tt,
+          (
+            ((refl, (refl, (refl, (refl, (refl, ((omega arith, omega arith), tt)))))), (Ends (Call 1 4 (Some 2)), Contains-push (Room 8 ∷ LoadSlot calling_a 0 ∷ StoreNew 6 calling_a ∷ Const calling_index (pos 1) ∷ StoreNew 7 calling_index ∷ []) (Ends (Call 1 4 (Some 2))), (omega arith, omega arith))),
+            (
+              tt,
+              tt,
+            ),
+          ),
+        ),
+      ),
+    ),
   )
 
   putting_fits : IsCapsule sample (record { procedure = 0; instrs = putting_instrs putting_a putting_index putting_value })
@@ -202,21 +303,33 @@ module _ (choosing_a choosing_none choosing_value choosing_one counting_count co
     most = omega arith;
     last = (LoadSlot putting_a 0 ∷ LoadSlot putting_value 2 ∷ Put putting_a putting_index putting_value 4 ∷ [], Finish, refl);
     each = each (Fits sample 0 (putting_instrs putting_a putting_index putting_value)) (putting_instrs putting_a putting_index putting_value) (
-      omega arith, (
-      omega arith, (
-      (omega arith, omega arith), (
-      tt, tt
-      )))
+      omega arith,
+      (
+        omega arith,
+        (
+          (omega arith, omega arith),
+          (
+            tt,
+            tt,
+          ),
+        ),
+      ),
     );
   }
 
   putting_tidy : IsTidyCapsule sample (putting_instrs putting_a putting_index putting_value)
   putting_tidy = stores_tidy sample (putting_instrs putting_a putting_index putting_value) (
-    tt, (
-    tt, (
-    tt, (
-    tt, tt
-    )))
+    tt,
+    (
+      tt,
+      (
+        tt,
+        (
+          tt,
+          tt,
+        ),
+      ),
+    ),
   )
 
   forking_fits : IsCapsule sample (record { procedure = 0; instrs = forking_instrs forking_a forking_index })
@@ -225,31 +338,63 @@ module _ (choosing_a choosing_none choosing_value choosing_one counting_count co
     most = omega arith;
     last = (Room 21 ∷ LoadSlot forking_a 0 ∷ StoreNew 11 forking_a ∷ StoreNew 19 forking_a ∷ Const forking_index (pos 1) ∷ StoreNew 12 forking_index ∷ Const forking_index (pos 2) ∷ StoreNew 20 forking_index ∷ [], (Fork 1 1 4 (Some 2) (Some 2)), refl);
     each = each (Fits sample 0 (forking_instrs forking_a forking_index)) (forking_instrs forking_a forking_index) (
-      (refl, omega arith, omega arith), (
-      omega arith, (
-      (21, refl, omega arith), (
-      (21, refl, omega arith), (
-      tt, (
-      (21, refl, omega arith), (
-      tt, (
-      (21, refl, omega arith), (
-      (omega arith, omega arith, (refl, omega arith), omega arith, omega arith, refl), tt
-      ))))))))
+      (refl, omega arith, omega arith),
+      (
+        omega arith,
+        (
+          (21, refl, omega arith),
+          (
+            (21, refl, omega arith),
+            (
+              tt,
+              (
+                (21, refl, omega arith),
+                (
+                  tt,
+                  (
+                    (21, refl, omega arith),
+                    (
+                      (omega arith, omega arith, (refl, omega arith), omega arith, omega arith, refl),
+                      tt,
+                    ),
+                  ),
+                ),
+              ),
+            ),
+          ),
+        ),
+      ),
     );
   }
 
   forking_tidy : IsTidyCapsule sample (forking_instrs forking_a forking_index)
   forking_tidy = stores_tidy sample (forking_instrs forking_a forking_index) (
-    tt, (
-    tt, (
-    ((refl, (refl, (refl, (refl, (refl, (refl, (refl, (refl, (inl (omega arith, omega arith), tt))))))))), (Ends (Fork 1 1 4 (Some 2) (Some 2)), Contains-push (Room 21 ∷ LoadSlot forking_a 0 ∷ StoreNew 11 forking_a ∷ StoreNew 19 forking_a ∷ Const forking_index (pos 1) ∷ StoreNew 12 forking_index ∷ Const forking_index (pos 2) ∷ StoreNew 20 forking_index ∷ []) (Ends (Fork 1 1 4 (Some 2) (Some 2))), inl (omega arith, omega arith))), (
-    ((refl, (refl, (refl, (refl, (refl, (refl, (refl, (refl, (inr (omega arith, omega arith), tt))))))))), (Ends (Fork 1 1 4 (Some 2) (Some 2)), Contains-push (Room 21 ∷ LoadSlot forking_a 0 ∷ StoreNew 11 forking_a ∷ StoreNew 19 forking_a ∷ Const forking_index (pos 1) ∷ StoreNew 12 forking_index ∷ Const forking_index (pos 2) ∷ StoreNew 20 forking_index ∷ []) (Ends (Fork 1 1 4 (Some 2) (Some 2))), inr (omega arith, omega arith))), (
-    tt, (
-    ((refl, (refl, (refl, (refl, (refl, (refl, (refl, (refl, (inl (omega arith, omega arith), tt))))))))), (Ends (Fork 1 1 4 (Some 2) (Some 2)), Contains-push (Room 21 ∷ LoadSlot forking_a 0 ∷ StoreNew 11 forking_a ∷ StoreNew 19 forking_a ∷ Const forking_index (pos 1) ∷ StoreNew 12 forking_index ∷ Const forking_index (pos 2) ∷ StoreNew 20 forking_index ∷ []) (Ends (Fork 1 1 4 (Some 2) (Some 2))), inl (omega arith, omega arith))), (
-    tt, (
-    ((refl, (refl, (refl, (refl, (refl, (refl, (refl, (refl, (inr (omega arith, omega arith), tt))))))))), (Ends (Fork 1 1 4 (Some 2) (Some 2)), Contains-push (Room 21 ∷ LoadSlot forking_a 0 ∷ StoreNew 11 forking_a ∷ StoreNew 19 forking_a ∷ Const forking_index (pos 1) ∷ StoreNew 12 forking_index ∷ Const forking_index (pos 2) ∷ StoreNew 20 forking_index ∷ []) (Ends (Fork 1 1 4 (Some 2) (Some 2))), inr (omega arith, omega arith))), (
-    tt, tt
-    ))))))))
+    tt,
+    (
+      tt,
+      (
+        ((refl, (refl, (refl, (refl, (refl, (refl, (refl, (refl, (inl (omega arith, omega arith), tt))))))))), (Ends (Fork 1 1 4 (Some 2) (Some 2)), Contains-push (Room 21 ∷ LoadSlot forking_a 0 ∷ StoreNew 11 forking_a ∷ StoreNew 19 forking_a ∷ Const forking_index (pos 1) ∷ StoreNew 12 forking_index ∷ Const forking_index (pos 2) ∷ StoreNew 20 forking_index ∷ []) (Ends (Fork 1 1 4 (Some 2) (Some 2))), inl (omega arith, omega arith))),
+        (
+          ((refl, (refl, (refl, (refl, (refl, (refl, (refl, (refl, (inr (omega arith, omega arith), tt))))))))), (Ends (Fork 1 1 4 (Some 2) (Some 2)), Contains-push (Room 21 ∷ LoadSlot forking_a 0 ∷ StoreNew 11 forking_a ∷ StoreNew 19 forking_a ∷ Const forking_index (pos 1) ∷ StoreNew 12 forking_index ∷ Const forking_index (pos 2) ∷ StoreNew 20 forking_index ∷ []) (Ends (Fork 1 1 4 (Some 2) (Some 2))), inr (omega arith, omega arith))),
+          (
+            tt,
+            (
+              ((refl, (refl, (refl, (refl, (refl, (refl, (refl, (refl, (inl (omega arith, omega arith), tt))))))))), (Ends (Fork 1 1 4 (Some 2) (Some 2)), Contains-push (Room 21 ∷ LoadSlot forking_a 0 ∷ StoreNew 11 forking_a ∷ StoreNew 19 forking_a ∷ Const forking_index (pos 1) ∷ StoreNew 12 forking_index ∷ Const forking_index (pos 2) ∷ StoreNew 20 forking_index ∷ []) (Ends (Fork 1 1 4 (Some 2) (Some 2))), inl (omega arith, omega arith))),
+              (
+                tt,
+                (
+                  ((refl, (refl, (refl, (refl, (refl, (refl, (refl, (refl, (inr (omega arith, omega arith), tt))))))))), (Ends (Fork 1 1 4 (Some 2) (Some 2)), Contains-push (Room 21 ∷ LoadSlot forking_a 0 ∷ StoreNew 11 forking_a ∷ StoreNew 19 forking_a ∷ Const forking_index (pos 1) ∷ StoreNew 12 forking_index ∷ Const forking_index (pos 2) ∷ StoreNew 20 forking_index ∷ []) (Ends (Fork 1 1 4 (Some 2) (Some 2))), inr (omega arith, omega arith))),
+                  (
+                    tt,
+                    tt,
+                  ),
+                ),
+              ),
+            ),
+          ),
+        ),
+      ),
+    ),
   )
 
   dividing_fits : IsCapsule sample (record { procedure = 1; instrs = dividing_instrs dividing_a dividing_index dividing_three dividing_trace dividing_value dividing_twelve })
@@ -258,39 +403,87 @@ module _ (choosing_a choosing_none choosing_value choosing_one counting_count co
     most = omega arith;
     last = (LoadSlot dividing_a 0 ∷ LoadSlot dividing_index 1 ∷ Const dividing_three (pos 3) ∷ Get dividing_trace dividing_a dividing_three 8 ∷ Add dividing_trace dividing_trace dividing_trace 8 ∷ Add dividing_trace dividing_trace dividing_index 8 ∷ Put dividing_a dividing_three dividing_trace 8 ∷ Get dividing_value dividing_a dividing_index 9 ∷ Add dividing_three dividing_value dividing_value 10 ∷ Const dividing_twelve (pos 12) ∷ Div dividing_twelve dividing_twelve dividing_value 11 ∷ Give dividing_twelve ∷ [], Finish, refl);
     each = each (Fits sample 1 (dividing_instrs dividing_a dividing_index dividing_three dividing_trace dividing_value dividing_twelve)) (dividing_instrs dividing_a dividing_index dividing_three dividing_trace dividing_value dividing_twelve) (
-      omega arith, (
-      omega arith, (
-      tt, (
-      (omega arith, omega arith), (
-      (omega arith, omega arith), (
-      (omega arith, omega arith), (
-      (omega arith, omega arith), (
-      (omega arith, omega arith), (
-      (omega arith, omega arith), (
-      tt, (
-      (omega arith, omega arith), (
-      tt, (
-      tt, tt
-      ))))))))))))
+      omega arith,
+      (
+        omega arith,
+        (
+          tt,
+          (
+            (omega arith, omega arith),
+            (
+              (omega arith, omega arith),
+              (
+                (omega arith, omega arith),
+                (
+                  (omega arith, omega arith),
+                  (
+                    (omega arith, omega arith),
+                    (
+                      (omega arith, omega arith),
+                      (
+                        tt,
+                        (
+                          (omega arith, omega arith),
+                          (
+                            tt,
+                            (
+                              tt,
+                              tt,
+                            ),
+                          ),
+                        ),
+                      ),
+                    ),
+                  ),
+                ),
+              ),
+            ),
+          ),
+        ),
+      ),
     );
   }
 
   dividing_tidy : IsTidyCapsule sample (dividing_instrs dividing_a dividing_index dividing_three dividing_trace dividing_value dividing_twelve)
   dividing_tidy = stores_tidy sample (dividing_instrs dividing_a dividing_index dividing_three dividing_trace dividing_value dividing_twelve) (
-    tt, (
-    tt, (
-    tt, (
-    tt, (
-    tt, (
-    tt, (
-    tt, (
-    tt, (
-    tt, (
-    tt, (
-    tt, (
-    tt, (
-    tt, tt
-    ))))))))))))
+    tt,
+    (
+      tt,
+      (
+        tt,
+        (
+          tt,
+          (
+            tt,
+            (
+              tt,
+              (
+                tt,
+                (
+                  tt,
+                  (
+                    tt,
+                    (
+                      tt,
+                      (
+                        tt,
+                        (
+                          tt,
+                          (
+                            tt,
+                            tt,
+                          ),
+                        ),
+                      ),
+                    ),
+                  ),
+                ),
+              ),
+            ),
+          ),
+        ),
+      ),
+    ),
   )
 
   asking_fits : IsCapsule sample (record { procedure = 0; instrs = asking_instrs asking_one asking_none })
@@ -299,21 +492,33 @@ module _ (choosing_a choosing_none choosing_value choosing_one counting_count co
     most = omega arith;
     last = (Room 8 ∷ Const asking_one (pos 1) ∷ Div asking_one asking_one asking_none 7 ∷ [], (Call 1 4 None), refl);
     each = each (Fits sample 0 (asking_instrs asking_one asking_none)) (asking_instrs asking_one asking_none) (
-      (refl, omega arith, omega arith), (
-      tt, (
-      (omega arith, omega arith), (
-      (omega arith, (refl, omega arith), tt, refl), tt
-      )))
+      (refl, omega arith, omega arith),
+      (
+        tt,
+        (
+          (omega arith, omega arith),
+          (
+            (omega arith, (refl, omega arith), tt, refl),
+            tt,
+          ),
+        ),
+      ),
     );
   }
 
   asking_tidy : IsTidyCapsule sample (asking_instrs asking_one asking_none)
   asking_tidy = stores_tidy sample (asking_instrs asking_one asking_none) (
-    tt, (
-    tt, (
-    tt, (
-    tt, tt
-    )))
+    tt,
+    (
+      tt,
+      (
+        tt,
+        (
+          tt,
+          tt,
+        ),
+      ),
+    ),
   )
 
   entries : (procedure : ℕ) → IfSome (slice_get sample.procedures procedure) (λ p. IsCapsuleOf sample procedure p.entry)

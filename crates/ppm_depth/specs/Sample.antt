@@ -1,7 +1,6 @@
 -- The code of the tests: a root that chooses, by the first value of its array, a loop, a call, a fork or an ask that traps.
-use Rattle.std.specs.Prelude.{ℕ, pos, List, [], ◌∷◌, Some, None}
+use Rattle.std.specs.Prelude.{pos, List, [], ◌∷◌, Some, None}
 use Rattle.ppm_code.specs.declared.act.End.TheVariants.{Next, Finish, Call, Fork}
-use Rattle.ppm_code.specs.declared.code.Capsule.{Capsule}
 use Rattle.ppm_code.specs.declared.instr.Instr.{Instr}
 use Rattle.ppm_code.specs.declared.instr.Instr.TheVariants.{Const, Add, Sub, Div, Less, LoadSlot, StoreCur, Give, Get, Put, BranchZero, Room, StoreNew, Ends}
 use Rattle.ppm_code.specs.declared.register.Register.{Register}

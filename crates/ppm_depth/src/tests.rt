@@ -22,18 +22,48 @@ fn register(index: u8) -> Result<Register, Fail> {
 }
 
 /// Goes to a capsule by the value of a[0]: 0 the loop, 1 the call, 2 the fork, and else the ask that traps.
-fn choosing(alloc: Global, a: Register, none: Register, value: Register, one: Register) -> Result<Vec<Instr>, Fail>
+fn choosing(
+    alloc: Global,
+    a: Register,
+    none: Register,
+    value: Register,
+    one: Register,
+) -> Result<Vec<Instr>, Fail>
     ensures { IfOk result (λ instrs. instrs.items ≡ choosing_instrs a none value one) }
 {
     Ok(vec![in alloc;
         Instr::LoadSlot { to: a, slot: 0 },
-        Instr::Get { to: value, region: a, index: none, line: 1 },
-        Instr::BranchZero { tested: value, target: 9 },
+        Instr::Get {
+            to: value,
+            region: a,
+            index: none,
+            line: 1
+        },
+        Instr::BranchZero {
+            tested: value,
+            target: 9
+        },
         Instr::Const { to: one, value: 1 },
-        Instr::Sub { to: value, left: value, right: one, line: 1 },
-        Instr::BranchZero { tested: value, target: 10 },
-        Instr::Sub { to: value, left: value, right: one, line: 1 },
-        Instr::BranchZero { tested: value, target: 11 },
+        Instr::Sub {
+            to: value,
+            left: value,
+            right: one,
+            line: 1
+        },
+        Instr::BranchZero {
+            tested: value,
+            target: 10
+        },
+        Instr::Sub {
+            to: value,
+            left: value,
+            right: one,
+            line: 1
+        },
+        Instr::BranchZero {
+            tested: value,
+            target: 11
+        },
         Instr::Ends(End::Next { capsule: 7 }),
         Instr::Ends(End::Next { capsule: 1 }),
         Instr::Ends(End::Next { capsule: 3 }),
@@ -48,22 +78,48 @@ fn counting(alloc: Global, count: Register, one: Register) -> Result<Vec<Instr>,
     Ok(vec![in alloc;
         Instr::LoadSlot { to: count, slot: 1 },
         Instr::Const { to: one, value: 1 },
-        Instr::Add { to: count, left: count, right: one, line: 2 },
-        Instr::StoreCur { slot: 2, from: count },
+        Instr::Add {
+            to: count,
+            left: count,
+            right: one,
+            line: 2
+        },
+        Instr::StoreCur {
+            slot: 2,
+            from: count
+        },
         Instr::Ends(End::Next { capsule: 2 }),
     ]?)
 }
 
 /// Slot 1 becomes slot 2, and the loop goes on while it is less than 3.
-fn looping(alloc: Global, count: Register, three: Register, less: Register) -> Result<Vec<Instr>, Fail>
+fn looping(
+    alloc: Global,
+    count: Register,
+    three: Register,
+    less: Register,
+) -> Result<Vec<Instr>, Fail>
     ensures { IfOk result (λ instrs. instrs.items ≡ looping_instrs count three less) }
 {
     Ok(vec![in alloc;
         Instr::LoadSlot { to: count, slot: 2 },
-        Instr::StoreCur { slot: 1, from: count },
-        Instr::Const { to: three, value: 3 },
-        Instr::Less { to: less, left: count, right: three },
-        Instr::BranchZero { tested: less, target: 6 },
+        Instr::StoreCur {
+            slot: 1,
+            from: count
+        },
+        Instr::Const {
+            to: three,
+            value: 3
+        },
+        Instr::Less {
+            to: less,
+            left: count,
+            right: three
+        },
+        Instr::BranchZero {
+            tested: less,
+            target: 6
+        },
         Instr::Ends(End::Next { capsule: 1 }),
         Instr::Ends(End::Finish),
     ]?)
@@ -77,9 +133,19 @@ fn calling(alloc: Global, a: Register, index: Register) -> Result<Vec<Instr>, Fa
         Instr::Room { words: 8 },
         Instr::LoadSlot { to: a, slot: 0 },
         Instr::StoreNew { offset: 6, from: a },
-        Instr::Const { to: index, value: 1 },
-        Instr::StoreNew { offset: 7, from: index },
-        Instr::Ends(End::Call { procedure: 1, capsule: 4, to: Some(2) }),
+        Instr::Const {
+            to: index,
+            value: 1
+        },
+        Instr::StoreNew {
+            offset: 7,
+            from: index
+        },
+        Instr::Ends(End::Call {
+            procedure: 1,
+            capsule: 4,
+            to: Some(2)
+        }),
     ]?)
 }
 
@@ -90,7 +156,12 @@ fn putting(alloc: Global, a: Register, index: Register, value: Register) -> Resu
     Ok(vec![in alloc;
         Instr::LoadSlot { to: a, slot: 0 },
         Instr::LoadSlot { to: value, slot: 2 },
-        Instr::Put { region: a, index, from: value, line: 4 },
+        Instr::Put {
+            region: a,
+            index,
+            from: value,
+            line: 4
+        },
         Instr::Ends(End::Finish),
     ]?)
 }
@@ -102,13 +173,37 @@ fn forking(alloc: Global, a: Register, index: Register) -> Result<Vec<Instr>, Fa
     Ok(vec![in alloc;
         Instr::Room { words: 21 },
         Instr::LoadSlot { to: a, slot: 0 },
-        Instr::StoreNew { offset: 11, from: a },
-        Instr::StoreNew { offset: 19, from: a },
-        Instr::Const { to: index, value: 1 },
-        Instr::StoreNew { offset: 12, from: index },
-        Instr::Const { to: index, value: 2 },
-        Instr::StoreNew { offset: 20, from: index },
-        Instr::Ends(End::Fork { left: 1, right: 1, capsule: 4, left_to: Some(2), right_to: Some(2) }),
+        Instr::StoreNew {
+            offset: 11,
+            from: a
+        },
+        Instr::StoreNew {
+            offset: 19,
+            from: a
+        },
+        Instr::Const {
+            to: index,
+            value: 1
+        },
+        Instr::StoreNew {
+            offset: 12,
+            from: index
+        },
+        Instr::Const {
+            to: index,
+            value: 2
+        },
+        Instr::StoreNew {
+            offset: 20,
+            from: index
+        },
+        Instr::Ends(End::Fork {
+            left: 1,
+            right: 1,
+            capsule: 4,
+            left_to: Some(2),
+            right_to: Some(2)
+        }),
     ]?)
 }
 
@@ -119,27 +214,85 @@ fn asking(alloc: Global, one: Register, none: Register) -> Result<Vec<Instr>, Fa
     Ok(vec![in alloc;
         Instr::Room { words: 8 },
         Instr::Const { to: one, value: 1 },
-        Instr::Div { to: one, left: one, right: none, line: 7 },
-        Instr::Ends(End::Call { procedure: 1, capsule: 4, to: None }),
+        Instr::Div {
+            to: one,
+            left: one,
+            right: none,
+            line: 7
+        },
+        Instr::Ends(End::Call {
+            procedure: 1,
+            capsule: 4,
+            to: None
+        }),
     ]?)
 }
 
 /// Of the other procedure: a[3] becomes twice itself and its index i, and it gives 12 / a[i] once 2 * a[i] fits.
-fn dividing(alloc: Global, a: Register, index: Register, three: Register, trace: Register, value: Register, twelve: Register) -> Result<Vec<Instr>, Fail>
+fn dividing(
+    alloc: Global,
+    a: Register,
+    index: Register,
+    three: Register,
+    trace: Register,
+    value: Register,
+    twelve: Register,
+) -> Result<Vec<Instr>, Fail>
     ensures { IfOk result (λ instrs. instrs.items ≡ dividing_instrs a index three trace value twelve) }
 {
     Ok(vec![in alloc;
         Instr::LoadSlot { to: a, slot: 0 },
         Instr::LoadSlot { to: index, slot: 1 },
-        Instr::Const { to: three, value: 3 },
-        Instr::Get { to: trace, region: a, index: three, line: 8 },
-        Instr::Add { to: trace, left: trace, right: trace, line: 8 },
-        Instr::Add { to: trace, left: trace, right: index, line: 8 },
-        Instr::Put { region: a, index: three, from: trace, line: 8 },
-        Instr::Get { to: value, region: a, index, line: 9 },
-        Instr::Add { to: three, left: value, right: value, line: 10 },
-        Instr::Const { to: twelve, value: 12 },
-        Instr::Div { to: twelve, left: twelve, right: value, line: 11 },
+        Instr::Const {
+            to: three,
+            value: 3
+        },
+        Instr::Get {
+            to: trace,
+            region: a,
+            index: three,
+            line: 8
+        },
+        Instr::Add {
+            to: trace,
+            left: trace,
+            right: trace,
+            line: 8
+        },
+        Instr::Add {
+            to: trace,
+            left: trace,
+            right: index,
+            line: 8
+        },
+        Instr::Put {
+            region: a,
+            index: three,
+            from: trace,
+            line: 8
+        },
+        Instr::Get {
+            to: value,
+            region: a,
+            index,
+            line: 9
+        },
+        Instr::Add {
+            to: three,
+            left: value,
+            right: value,
+            line: 10
+        },
+        Instr::Const {
+            to: twelve,
+            value: 12
+        },
+        Instr::Div {
+            to: twelve,
+            left: twelve,
+            right: value,
+            line: 11
+        },
         Instr::Give { from: twelve },
         Instr::Ends(End::Finish),
     ]?)
@@ -220,9 +373,23 @@ fn runs_come_to_their_ends(rt: HostRuntime) -> Result<(), Fail> {
         ([2, 4, 2, 1], 5, Want::Ended([6, 4, 2, 8]), 5, 1, 30),
         ([2, 4, 2, 1], 4, Want::NotWithin, 4, 1, 30),
         // The left branch's trap, though the right one runs, else the right one's.
-        ([2, 0, large, 1], 9, Want::Trapped(Trap::DivZero, 11), 4, 1, 30),
+        (
+            [2, 0, large, 1],
+            9,
+            Want::Trapped(Trap::DivZero, 11),
+            4,
+            1,
+            30,
+        ),
         ([2, 0, 2, 1], 9, Want::Trapped(Trap::DivZero, 11), 4, 1, 30),
-        ([2, 4, large, 1], 9, Want::Trapped(Trap::Overflow, 10), 4, 1, 30),
+        (
+            [2, 4, large, 1],
+            9,
+            Want::Trapped(Trap::Overflow, 10),
+            4,
+            1,
+            30,
+        ),
         ([2, 0, 2, 1], 3, Want::NotWithin, 3, 1, 30),
         // What is asked for counts, though nothing is built.
         ([3, 1, 1, 1], 2, Want::Trapped(Trap::DivZero, 7), 2, 0, 17),
@@ -230,7 +397,10 @@ fn runs_come_to_their_ends(rt: HostRuntime) -> Result<(), Fail> {
     let code = sample(alloc)?;
     for (values, limit, want, capsules, forks, block_words) in cases {
         let run = depth_first(alloc, &code, &input(alloc, values)?, u64::from(limit))?;
-        assert!(rt; is_wanted(&run.outcome, want), "from {values:?} within {limit}: {run:?}");
+        assert!(rt;
+            is_wanted(&run.outcome, want),
+            "from {values:?} within {limit}: {run:?}"
+        );
         assert_eq!(rt;
             (run.capsules, run.forks, run.block_words),
             (capsules, forks, block_words),
