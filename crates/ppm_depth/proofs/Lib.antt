@@ -1,0 +1,12 @@
+pub mod ActLemmas
+pub mod AdvanceLemmas
+pub mod CodeLemmas
+pub mod EndLemmas
+pub mod FollowLemmas
+pub mod LoopLemmas
+pub mod RestLemmas
+pub mod ResumeLemmas
+pub mod SampleLemmas
+pub mod StackLemmas
+pub mod TurnLemmas
+pub mod WholeLemmas

@@ -1,0 +1,10 @@
+pub mod Image
+pub mod Moves
+pub mod Run
+pub mod Sample
+pub mod Sound
+pub mod Start
+pub mod Stack
+pub mod Store
+pub mod Turns
+pub mod Whole

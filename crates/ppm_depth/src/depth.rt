@@ -1,0 +1,68 @@
+//! The depth-first run of a code.
+ghost use Rattle.std.specs.Prelude.{◌≡◌, ◌≤◌, ◌^◌, IfOk, length};
+ghost use Rattle.ppm_code.specs.Tidy.{IsTidy};
+ghost use Rattle.ppm_depth.specs.Start.{NamesArrays};
+ghost use Rattle.ppm_depth.specs.Run.{IsDepthRun};
+ghost use Rattle.ppm_depth.specs.Image.{outcome_in, word_count};
+
+use crate::frame::Finish;
+use crate::image::{root_store, to_arrays};
+use crate::strand::{Strand, entry};
+use ppm_code::Code;
+use ppm_words::{Input, NamedArray, NoMemory, Outcome};
+use std::alloc::Global;
+
+/// What a depth-first run came to, and what it counted: the capsules run, the forks that they opened, and the
+/// words of the root's frame and of all that they asked for.
+#[derive(Debug, Drop)]
+pub struct DepthRun {
+    pub outcome: Outcome,
+    pub capsules: u64,
+    pub forks: u64,
+    pub block_words: u64,
+}
+
+/// What is said of a run that has come to this over the words of arrays.
+fn outcome_of(
+    alloc: Global,
+    arrays: &[NamedArray],
+    words: &[u64],
+    finish: Option<Finish>,
+) -> Result<Outcome, NoMemory>
+    requires { word_count arrays.now ≤ length words.now }
+    ensures { IfOk result (λ outcome. outcome ≡ outcome_in arrays.now words.now finish) }
+{
+    match finish {
+        Some(Finish::Gave(_)) => Ok(Outcome::Ended(to_arrays(alloc, arrays, words)?)),
+        Some(Finish::Trapped(trap, line)) => Ok(Outcome::Trapped(trap, line)),
+        None => Ok(Outcome::NotWithin),
+    }
+}
+
+/// Runs a code depth first from an input, with a stack of its own: at most `capsules` capsules, up to 2^40.
+/// `NotWithin` exactly where more would be run; the counts are then those of the first so many.
+pub fn depth_first(
+    alloc: Global,
+    code: &Code,
+    input: &Input,
+    capsules: u64,
+) -> Result<DepthRun, NoMemory>
+    requires tidy { IsTidy code.now }
+    requires arrays { NamesArrays code.now input.now }
+    requires few { capsules ≤ 2 ^ 40 }
+    ensures run { IfOk result (IsDepthRun code.now input.now capsules) }
+{
+    let arrays = input.arrays();
+    let store = root_store(alloc, code, arrays)?;
+    let frame_words = store.blocks.len() as u64;
+    let mut strand = Strand::new(alloc, store);
+    let root = entry(code, code.parts().root, 0);
+    let finish = strand.run(code, root, capsules)?;
+    let outcome = outcome_of(alloc, arrays, &strand.store.words, finish)?;
+    Ok(DepthRun {
+        outcome,
+        capsules: strand.counts.capsules,
+        forks: strand.counts.forks,
+        block_words: frame_words + strand.counts.block_words,
+    })
+}

@@ -1,0 +1,121 @@
+//! The words with which a run begins, and the arrays with which it ends.
+ghost use Rattle.std.specs.Prelude.{◌≡◌, ◌++◌, ◌<◌, ◌≤◌, IfOk, OnOk, get_or, length, map};
+ghost use Rattle.std.specs.List.{All};
+ghost use Rattle.ppm_words.specs.Limits.{word_limit};
+ghost use Rattle.ppm_words.specs.TwosComplement.{word_of, value_of};
+ghost use Rattle.ppm_code.specs.Code.{IsCode};
+ghost use Rattle.ppm_depth.specs.Start.{NamesArrays, regions_from, words_in};
+ghost use Rattle.ppm_depth.specs.Image.{arrays_in, root_frame, word_count};
+
+use crate::store::Store;
+use ppm_code::{Code, frame_size};
+use ppm_words::{Items, NamedArray, NoMemory, of_word, to_word};
+use std::alloc::Global;
+
+/// Appends the words of an array.
+fn push_words(words: &mut Vec<u64>, values: &[i64]) -> Result<(), NoMemory>
+    ensures { OnOk result (words.new.items ≡ words.old.items ++ map word_of values.now) }
+{
+    for value in values {
+        words.push(to_word(*value))?;
+    }
+    Ok(())
+}
+
+/// The words of arrays, one array after the other.
+pub(crate) fn to_words(alloc: Global, arrays: &[NamedArray]) -> Result<Vec<u64>, NoMemory>
+    ensures { IfOk result (λ words. words.items ≡ words_in arrays.now) }
+{
+    let mut words = Vec::new(alloc);
+    for array in arrays {
+        push_words(&mut words, array.values.as_slice())?;
+    }
+    Ok(words)
+}
+
+/// The region words of arrays that lie one after the other.
+fn regions(alloc: Global, arrays: &[NamedArray]) -> Result<Vec<u64>, NoMemory>
+    requires { word_count arrays.now ≤ word_limit }
+    ensures { IfOk result (λ regions. regions.items ≡ regions_from 0 arrays.now) }
+{
+    let mut regions = Vec::new(alloc);
+    let mut start = 0;
+    for array in arrays {
+        let length = array.values.as_slice().len() as u64;
+        regions.push(start * (1 << 32) + length)?;
+        start += length;
+    }
+    Ok(regions)
+}
+
+/// Appends the region words of arrays by their numbers.
+fn push_regions(blocks: &mut Vec<u64>, regions: &[u64], arrays: &[u32]) -> Result<(), NoMemory>
+    requires { All (λ a. a < length regions.now) arrays.now }
+    ensures { OnOk result (blocks.new.items ≡ blocks.old.items ++ map (λ a. get_or regions.now a 0) arrays.now) }
+{
+    for array in arrays {
+        blocks.push(regions[*array as usize])?;
+    }
+    Ok(())
+}
+
+/// The words with which a run begins: the root's frame, and the words of the arrays.
+pub(crate) fn root_store(
+    alloc: Global,
+    code: &Code,
+    arrays: &[NamedArray],
+) -> Result<Store, NoMemory>
+    requires named { NamesArrays code.now arrays.now }
+    requires few { word_count arrays.now ≤ word_limit }
+    ensures blocks { IfOk result (λ store. store.blocks.items ≡ root_frame code.now arrays.now) }
+    ensures words { IfOk result (λ store. store.words.items ≡ words_in arrays.now) }
+    ensures code { IsCode code.now }
+{
+    let parts = code.parts();
+    let words = to_words(alloc, arrays)?;
+    let regions = regions(alloc, arrays)?;
+    let mut store = Store {
+        blocks: Vec::new(alloc),
+        words,
+    };
+    store.open_block(6)?;
+    push_regions(&mut store.blocks, &regions, parts.arrays.as_slice())?;
+    let frame_words = frame_size(code, parts.root) as usize;
+    store.open_block(frame_words - (6 + parts.arrays.as_slice().len()))?;
+    Ok(store)
+}
+
+/// The values of words.
+fn to_values(alloc: Global, words: &[u64]) -> Result<Vec<i64>, NoMemory>
+    ensures { IfOk result (λ values. values.items ≡ map value_of words.now) }
+{
+    let mut values = Vec::new(alloc);
+    for word in words {
+        values.push(of_word(*word))?;
+    }
+    Ok(values)
+}
+
+/// The arrays, by their names, that words stand for.
+pub(crate) fn to_arrays(
+    alloc: Global,
+    arrays: &[NamedArray],
+    words: &[u64],
+) -> Result<Items<NamedArray>, NoMemory>
+    requires enough { word_count arrays.now ≤ length words.now }
+    ensures { IfOk result (λ named. named ≡ arrays_in arrays.now words.now) }
+{
+    let mut named = Vec::new(alloc);
+    let mut rest = words;
+    for array in arrays {
+        let (front, back) = rest.split_at(array.values.as_slice().len());
+        let name = array.name.try_clone(alloc)?;
+        let values = to_values(alloc, front)?;
+        named.push(NamedArray {
+            name,
+            values: Items::from_vec(values),
+        })?;
+        rest = back;
+    }
+    Ok(Items::from_vec(named))
+}

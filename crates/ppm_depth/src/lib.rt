@@ -1,0 +1,19 @@
+//! The depth-first run of a code: one strand runs each capsule whole, a left branch before a right one.
+//! Model: a code's strands (`ppm_code`, `specs/Strands`), run depth first (`specs/Run`).
+//! Contract: `depth_first` gives the outcome of that run with its counts, or that it takes more capsules.
+//! Stands on `ppm_code` and the chains in turn of `ppm_strands`; the machine's runs are to be held against it.
+//! After the depth-first order of fork-join programs; the stack of blocks is this project's.
+#![tactic(auto)]
+
+mod capsule;
+mod depth;
+mod frame;
+mod image;
+mod laws;
+mod store;
+mod strand;
+#[cfg(test)]
+mod tests;
+
+pub use depth::{DepthRun, depth_first};
+pub use laws::orders_come_to_one_end;
