@@ -1,14 +1,16 @@
 -- Conflicts of a read: their writes are later, of one class, and there is a first.
 use Rattle.std.proofs.Common.{◌≡◌, ◌<◌, ◌≤◌, ℕ, zero, suc, ◌+◌, Bool, true, false, List}
 use Rattle.std.proofs.Common.{[], ◌∷◌, length, refl, sym, ap, ◌∙◌, subst, arith, Some, None, nat_lt, IsTrue}
-use Rattle.std.specs.Prelude.{slice_get}
+use Rattle.std.specs.List.{Contains}
+use Rattle.std.specs.Prelude.{drop, slice_get}
 use Rattle.std.proofs.lemmas.Bool.{ltb-true, ltb-false}
+use Rattle.std.proofs.lemmas.Option.{get_or_from_slice_get}
 use Rattle.ppm_code.specs.declared.class.Class.{Class}
 use Rattle.ppm_code.specs.declared.class.May.{May}
 use Rattle.ppm_code.specs.declared.class.May.TheVariants.{Read, Write}
 use Rattle.ppm_code.specs.declared.instr.Instr.{Instr}
 use Rattle.ppm_code.specs.Paths.{may, Does, Path, Any, Exposes, IsConflict}
-use Rattle.ppm_war.specs.Conflicts.{IsFirst, HasNoConflictAt}
+use Rattle.ppm_war.specs.Conflicts.{HasWrite, IsFirst, HasNoConflictAt}
 use Rattle.ppm_war.proofs.MarkLemmas.{path_forward}
 
 -- one of two orders
@@ -40,10 +42,22 @@ there_below (j ∷ is) (suc at) i e = omega (arith, there_below is at i e)
 pub does_below : (is : List Instr) (at : ℕ) (m : May) → Does is at m → at < length is
 does_below is at m (i, e, f) = there_below is at i e
 
+-- an instruction that is there is among those from an earlier place on
+among_rest : (is : List Instr) (from at : ℕ) (i : Instr) → slice_get is at ≡ Some i → from ≤ at → Contains (drop from is) i
+among_rest is zero at i e past = (at, there_below is at i e, get_or_from_slice_get is at i i e)
+among_rest [] (suc from) at i e past = cc
+among_rest (j ∷ is) (suc from) zero i e past = absurd (omega (arith, past))
+among_rest (j ∷ is) (suc from) (suc at) i e past = among_rest is from at i e (omega (arith, past))
+
 module _ (is : List Instr) where
   -- the write of a conflict comes after its read
   pub write_later : (read write : ℕ) (c : Class) → IsConflict is read write c → read < write
   write_later read write c x = omega (arith, x.goes_on, path_forward is Any x.next write x.between)
+
+  -- so it is one of the instructions behind the read
+  pub write_behind : (read write : ℕ) (c : Class) → IsConflict is read write c → HasWrite (drop (read + 1) is) c
+  write_behind read write c x =
+      (x.writes.0, among_rest is (read + 1) write x.writes.0 x.writes.1 (omega (arith, write_later read write c x)), x.writes.2)
 
   -- and a path from the instruction after the read comes to it
   pub write_met : (read write : ℕ) (c : Class) → IsConflict is read write c → Path is Any (read + 1) write

@@ -1,9 +1,11 @@
 -- The first conflict of a capsule, and of a code.
 use Rattle.std.specs.Prelude.{◌≡◌, ◌<◌, ◌≤◌, ℕ, List, Option, Some, None}
+use Rattle.std.specs.List.{Contains}
 use Rattle.ppm_code.specs.declared.class.Class.{Class}
+use Rattle.ppm_code.specs.declared.class.May.TheVariants.{Write}
 use Rattle.ppm_code.specs.declared.code.CodeParts.{CodeParts}
 use Rattle.ppm_code.specs.declared.instr.Instr.{Instr}
-use Rattle.ppm_code.specs.Paths.{IsConflict, HasNoConflict}
+use Rattle.ppm_code.specs.Paths.{may, IsConflict, HasNoConflict}
 use Rattle.ppm_code.specs.Strands.{instrs_of}
 use Rattle.ppm_war.specs.declared.conflict.Found.{Found}
 use Rattle.ppm_war.specs.declared.checked.Conflict.{Conflict}
@@ -13,6 +15,10 @@ pub record IsFirst (P : ℕ → Type 0) (found : Option ℕ) : Type 0 where
   pub none : found ≡ None → (n : ℕ) → P n → ⊥
   pub some : (n : ℕ) → found ≡ Some n → P n
   pub least : (n k : ℕ) → found ≡ Some n → P k → n ≤ k
+
+-- one of the instructions may write the class
+abbrev pub HasWrite : List Instr → Class → Type 0
+HasWrite is c = (i : Instr) × Contains is i × (may i ≡ Write c)
 
 -- the read at a place, if there is one, is in conflict with no write
 abbrev pub HasNoConflictAt : List Instr → (read : ℕ) → Type 0

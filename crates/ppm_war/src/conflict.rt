@@ -1,10 +1,10 @@
 //! The first conflict of a capsule.
-ghost use Rattle.std.specs.Prelude.{◌≡◌, ◌↔◌, ◌<◌, ◌≤◌, IfSome, IsTrue, MatchOption, length};
+ghost use Rattle.std.specs.Prelude.{◌≡◌, ◌↔◌, ◌<◌, ◌≤◌, ◌+◌, IfSome, IsTrue, MatchOption, drop, length};
 ghost use Rattle.ppm_code.specs.Limits.{instr_limit};
 ghost use Rattle.ppm_code.specs.Paths.{Does, HasNoConflict, IsConflict, may};
 ghost use Rattle.ppm_code.specs.declared.class.Class.{Class};
 ghost use Rattle.ppm_code.specs.declared.class.May.TheVariants.{Read, Write};
-ghost use Rattle.ppm_war.specs.Conflicts.{IsFirst, IsFirstConflict, HasNoConflictAt, IsFirstConflictAt};
+ghost use Rattle.ppm_war.specs.Conflicts.{HasWrite, IsFirst, IsFirstConflict, HasNoConflictAt, IsFirstConflictAt};
 ghost use Rattle.ppm_war.specs.Marks.{IsMarked};
 
 use crate::paths::{places_from, writes};
@@ -27,13 +27,28 @@ fn is_write(instrs: &[Instr], marks: &[bool; 160], at: usize, class: Class) -> b
     marks[at] && writes(instrs[at].may(), class)
 }
 
-/// The first write that is in conflict with a read of the class at a place.
+/// Whether an instruction behind a place may write the class.
+#[tactic(auto, using(std::proofs::lemmas::List::take_rest))]
+fn is_written_behind(instrs: &[Instr], place: usize, class: Class) -> bool
+    requires { place < length instrs.now }
+    ensures { IsTrue result ↔ HasWrite (drop (place + 1) instrs.now) class }
+{
+    instrs[place + 1..]
+        .iter()
+        .any(|instr| writes(instr.may(), class))
+}
+
+/// The first write that is in conflict with a read of the class at a place. No path is followed where no
+/// instruction behind the read may write the class.
 fn write_after(instrs: &[Instr], read_at: usize, class: Class) -> Option<usize>
     requires most { length instrs.now ≤ instr_limit }
     requires reads { Does instrs.now read_at (Read class) }
     ensures first { IsFirst (λ write. IsConflict instrs.now read_at write class) result }
     ensures bound { IfSome result (λ write. write < length instrs.now) }
 {
+    if !is_written_behind(instrs, read_at, class) {
+        return None;
+    }
     let before = places_from(instrs, 0, Some(class));
     if !before[read_at] {
         return None;

@@ -1,7 +1,13 @@
 use Rattle.std.proofs.Common.{arith}
 use Rattle.ppm_code.specs.Paths.{IsConflict}
-use Rattle.ppm_war.proofs.ConflictLemmas.{first_is, first_none, does_below, write_later, write_met, conflicts, is_false, none_below}
+use Rattle.ppm_war.proofs.ConflictLemmas.{first_is, first_none, does_below, write_behind, write_later, write_met, conflicts, is_false, none_below}
 use Rattle.ppm_war.proofs.conflict.write_after.Goals as goal
+
+-- no instruction behind the read writes its class
+pub returns-then-not-is_written_behind-clause-first : goal.returns-then-not-is_written_behind-clause-first
+returns-then-not-is_written_behind-clause-first c = first_none _ (λ write x.
+    is_false c.is_written_behind.result c.if-not-is_written_behind.true
+    (c.is_written_behind.ensures.1 (write_behind c.args.instrs.now c.args.read_at write c.args.class x)))
 
 -- a write comes after its read
 pub loop-write_at-init : goal.loop-write_at-init
