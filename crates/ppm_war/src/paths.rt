@@ -63,9 +63,11 @@ fn pass(marks: &mut [bool; 160], instr: &Instr, at: usize, class: Option<Class>)
     ensures { (to : ℕ) → to < instr_limit
         → IsMarked marks.new to ↔ (IsMarked marks.old to ⊎ GoesOnTo marks.old class (may instr.now) at to) }
 {
-    let may = instr.may();
-    if marks[at] && allows(class, may) {
-        go_on(marks, may, at);
+    if marks[at] {
+        let may = instr.may();
+        if allows(class, may) {
+            go_on(marks, may, at);
+        }
     }
 }
 
