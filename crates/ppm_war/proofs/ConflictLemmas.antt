@@ -10,7 +10,7 @@ use Rattle.ppm_code.specs.declared.class.May.{May}
 use Rattle.ppm_code.specs.declared.class.May.TheVariants.{Read, Write}
 use Rattle.ppm_code.specs.declared.instr.Instr.{Instr}
 use Rattle.ppm_code.specs.Paths.{may, Does, Path, Any, Exposes, IsConflict}
-use Rattle.ppm_war.specs.Conflicts.{HasWrite, IsFirst, HasNoConflictAt}
+use Rattle.ppm_war.specs.Conflicts.{HasAnyWrite, HasWrite, IsFirst, IsWrite, HasNoConflictAt}
 use Rattle.ppm_war.proofs.MarkLemmas.{path_forward}
 
 -- one of two orders
@@ -58,6 +58,11 @@ module _ (is : List Instr) where
   pub write_behind : (read write : ℕ) (c : Class) → IsConflict is read write c → HasWrite (drop (read + 1) is) c
   write_behind read write c x =
       (x.writes.0, among_rest is (read + 1) write x.writes.0 x.writes.1 (omega (arith, write_later read write c x)), x.writes.2)
+
+  -- and one of the capsule's
+  pub some_write : (read write : ℕ) (c : Class) → IsConflict is read write c → HasAnyWrite is
+  some_write read write c x =
+      (x.writes.0, among_rest is 0 write x.writes.0 x.writes.1 (omega arith), subst IsWrite (sym x.writes.2) tt)
 
   -- and a path from the instruction after the read comes to it
   pub write_met : (read write : ℕ) (c : Class) → IsConflict is read write c → Path is Any (read + 1) write

@@ -2,6 +2,7 @@
 use Rattle.std.specs.Prelude.{◌≡◌, ◌<◌, ◌≤◌, ℕ, List, Option, Some, None}
 use Rattle.std.specs.List.{Contains}
 use Rattle.ppm_code.specs.declared.class.Class.{Class}
+use Rattle.ppm_code.specs.declared.class.May.{May}
 use Rattle.ppm_code.specs.declared.class.May.TheVariants.{Write}
 use Rattle.ppm_code.specs.declared.code.CodeParts.{CodeParts}
 use Rattle.ppm_code.specs.declared.instr.Instr.{Instr}
@@ -19,6 +20,15 @@ pub record IsFirst (P : ℕ → Type 0) (found : Option ℕ) : Type 0 where
 -- one of the instructions may write the class
 abbrev pub HasWrite : List Instr → Class → Type 0
 HasWrite is c = (i : Instr) × Contains is i × (may i ≡ Write c)
+
+-- a write, of whatever class
+abbrev pub IsWrite : May → Type 0
+IsWrite (Write c) = Unit {0}
+IsWrite _ = ⊥
+
+-- one of the instructions may write
+abbrev pub HasAnyWrite : List Instr → Type 0
+HasAnyWrite is = (i : Instr) × Contains is i × IsWrite (may i)
 
 -- the read at a place, if there is one, is in conflict with no write
 abbrev pub HasNoConflictAt : List Instr → (read : ℕ) → Type 0

@@ -4,7 +4,7 @@ ghost use Rattle.ppm_code.specs.Limits.{instr_limit};
 ghost use Rattle.ppm_code.specs.Paths.{Does, HasNoConflict, IsConflict, may};
 ghost use Rattle.ppm_code.specs.declared.class.Class.{Class};
 ghost use Rattle.ppm_code.specs.declared.class.May.TheVariants.{Read, Write};
-ghost use Rattle.ppm_war.specs.Conflicts.{HasWrite, IsFirst, IsFirstConflict, HasNoConflictAt, IsFirstConflictAt};
+ghost use Rattle.ppm_war.specs.Conflicts.{HasAnyWrite, HasWrite, IsFirst, IsWrite, IsFirstConflict, HasNoConflictAt, IsFirstConflictAt};
 ghost use Rattle.ppm_war.specs.Marks.{IsMarked};
 
 use crate::paths::{places_from, writes};
@@ -98,12 +98,32 @@ fn conflict_at(instrs: &[Instr], read_at: usize) -> Option<Found>
     }
 }
 
+/// Whether what an instruction may do is a write.
+fn is_any_write(may: May) -> bool
+    ensures { IsTrue result ↔ IsWrite may }
+{
+    match may {
+        May::Write(_) => true,
+        May::Work | May::Read(_) | May::Branch(_) | May::Stop => false,
+    }
+}
+
+/// Whether an instruction of a capsule may write.
+fn has_write(instrs: &[Instr]) -> bool
+    ensures { IsTrue result ↔ HasAnyWrite instrs.now }
+{
+    instrs.iter().any(|instr| is_any_write(instr.may()))
+}
+
 /// The conflict of a capsule with the least read, and then the least write; `None` exactly where no path
 /// has one. In time that grows with the square of its instructions.
 pub fn conflict_in(instrs: &[Instr]) -> Option<Found>
     requires { length instrs.now ≤ instr_limit }
     ensures { MatchOption result (HasNoConflict instrs.now) (IsFirstConflict instrs.now) }
 {
+    if !has_write(instrs) {
+        return None;
+    }
     let mut read_at = 0;
     while read_at < instrs.len() {
         if let Some(found) = conflict_at(instrs, read_at) {

@@ -1,6 +1,11 @@
 use Rattle.std.proofs.Common.{arith}
-use Rattle.ppm_war.proofs.ConflictLemmas.{does_below, least_read, none_read}
+use Rattle.ppm_war.proofs.ConflictLemmas.{does_below, is_false, least_read, none_read, some_write}
 use Rattle.ppm_war.proofs.conflict.conflict_in.Goals as goal
+
+-- no instruction writes
+pub returns-then-not-has_write : goal.returns-then-not-has_write
+returns-then-not-has_write c = λ read write d x.
+    is_false c.has_write.result c.if-not-has_write.true (c.has_write.ensures.1 (some_write c.args.instrs.now read write d x))
 
 -- no lesser read has one
 pub returns-in-Some : goal.returns-in-Some
