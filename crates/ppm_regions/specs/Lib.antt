@@ -1,0 +1,6 @@
+pub mod Scope
+pub mod Uses
+pub mod Faults
+pub mod Admission
+pub mod ErrorNumbers
+pub mod Deciding
