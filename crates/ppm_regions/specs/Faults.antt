@@ -10,7 +10,7 @@ use Rattle.ppm_tree.specs.declared.tree.ArrayInput.{ArrayInput}
 use Rattle.ppm_tree.specs.Tree.{Give, Procedure, ProgramTree}
 use Rattle.ppm_regions.specs.Scope.{Declaration, Scope, first_named, declared, is_region}
 use Rattle.ppm_regions.specs.Uses.{Lending, Use, Asks, NoName, Declares, Calls, Delivers, Lends, Targets, Begins, MainTakes, MainGives, Fills}
-use Rattle.ppm_regions.specs.Uses.{Site, sites_of}
+use Rattle.ppm_regions.specs.Uses.{Site, sites_of, callee_of}
 use Rattle.ppm_regions.specs.declared.ask.Ask.{Ask}
 use Rattle.ppm_regions.specs.declared.ask.Ask.TheVariants as ask
 use Rattle.ppm_regions.specs.declared.region_error.RegionError.{RegionError}
@@ -38,20 +38,16 @@ pub record Clashes (l m : Lending) : Type 0 where
   pub written : (l.mode ≡ mode.Mut) ⊎ (m.mode ≡ mode.Mut)
 
 module _ (t : ProgramTree) where
-  -- the procedure with the name
-  abbrev pub procedure_of : Named → Option Procedure
-  procedure_of x = first_named (λ p. p.name.name) t.procedures x.name
-
   -- the array with the name
-  abbrev pub array_of : Named → Option Array
-  array_of x = first_named (λ a. a.name.name) t.arrays x.name
+  abbrev pub array_named : Named → Option Array
+  array_named x = first_named (λ a. a.name.name) t.arrays x.name
 
   -- the use is a fault where these declarations are in force
   pub data IsWrong (scope : Scope) : Use → RegionError → Type 0 where
     -- no declaration of the name is in force, hidden or not
     UnknownName : (a : Ask) (x : Named) → declared scope x.name ≡ None → IsWrong scope (Asks a x) (error.UnknownName x.line)
     -- there is no such procedure
-    UnknownProcedure : (x : Named) (n : ℕ) → procedure_of x ≡ None → IsWrong scope (Calls x n) (error.UnknownName x.line)
+    UnknownProcedure : (x : Named) (n : ℕ) → callee_of t x ≡ None → IsWrong scope (Calls x n) (error.UnknownName x.line)
     -- a declaration of the name is in force, hidden or not
     TwiceNamed : (x : Named) (d : Declaration) → declared scope x.name ≡ Some d → IsWrong scope (Declares x) (error.TwiceNamed x.line)
     -- a region stands where a local is asked for, or a local where a region is
@@ -61,7 +57,7 @@ module _ (t : ProgramTree) where
     NoRegion : (line : ℕ) → IsWrong scope (NoName line) (error.WrongKind line)
     -- the procedure has more or fewer parameters
     WrongCount : (x : Named) (n : ℕ) (p : Procedure)
-        → procedure_of x ≡ Some p → length p.parameters ≢ n → IsWrong scope (Calls x n) (error.WrongCount x.line)
+        → callee_of t x ≡ Some p → length p.parameters ≢ n → IsWrong scope (Calls x n) (error.WrongCount x.line)
     -- a region that may only be read is written, or lent to be written
     WriteToRef : (x : Named) (d : Declaration)
         → declared scope x.name ≡ Some d → d.mode ≡ mode.Ref → IsWrong scope (Asks ask.Written x) (error.WriteToRef x.line)
@@ -73,16 +69,16 @@ module _ (t : ProgramTree) where
     -- there is no `main`
     NoMain : first_named (λ p. p.name.name) t.procedures (codes "main") ≡ None → IsWrong scope Begins (error.BadMain 0)
     -- a parameter of `main` is a number, or has the name of no array
-    BadParameter : (p : Parameter) → (p.mode ≡ mode.Int) ⊎ (array_of p.name ≡ None) → IsWrong scope (MainTakes p) (error.BadMain p.name.line)
+    BadParameter : (p : Parameter) → (p.mode ≡ mode.Int) ⊎ (array_named p.name ≡ None) → IsWrong scope (MainTakes p) (error.BadMain p.name.line)
     -- `main` gives a value
     MainHasGive : (g : Give) → IsWrong scope (MainGives g) (error.BadMain g.line)
     -- no array has the name of the input
-    NoArray : (i : ArrayInput) → array_of i.name ≡ None → IsWrong scope (Fills i) (error.BadInput i.name.line)
+    NoArray : (i : ArrayInput) → array_named i.name ≡ None → IsWrong scope (Fills i) (error.BadInput i.name.line)
     -- the array has fewer words than the input values
     TooManyValues : (i : ArrayInput) (a : Array)
-        → array_of i.name ≡ Some a → a.words < length i.values → IsWrong scope (Fills i) (error.BadInput i.name.line)
+        → array_named i.name ≡ Some a → a.words < length i.values → IsWrong scope (Fills i) (error.BadInput i.name.line)
     -- a value is asked of a procedure that gives none
-    NoValue : (x : Named) (p : Procedure) → procedure_of x ≡ Some p → p.give ≡ None → IsWrong scope (Delivers x) (error.NoValue x.line)
+    NoValue : (x : Named) (p : Procedure) → callee_of t x ≡ Some p → p.give ≡ None → IsWrong scope (Delivers x) (error.NoValue x.line)
     -- both branches of a fork have one target
     TwiceTarget : (x y : Named) → x.name ≡ y.name → IsWrong scope (Targets x y) (error.TwiceTarget y.line)
     -- in the block of an `each`, a region from outside, or a part of one, is written, or lent to be written

@@ -62,21 +62,33 @@ part scope region x = record {
   outer = is_outer (declared scope region.name);
 }
 
--- what is in force, as it is seen in a block with parts of the region: the region is hidden
-abbrev pub in_split : Scope → Named → Scope
-in_split scope region = map (λ d. record { name = d.name; mode = d.mode; hidden = d.hidden || bytes_eq d.name.name region.name; outer = d.outer }) scope
+-- a declaration as it is seen in a block with parts of the region: that is hidden
+abbrev pub seen_in_split : Named → Declaration → Declaration
+seen_in_split region d = record { name = d.name; mode = d.mode; hidden = d.hidden || bytes_eq d.name.name region.name; outer = d.outer }
 
--- what is in force, as it is seen in the block of an `each`: the region is hidden, and all is outer
+-- a declaration as it is seen in the block of an `each`: the region is hidden, and all is outer
+abbrev pub seen_in_each : Named → Declaration → Declaration
+seen_in_each region d = record { name = d.name; mode = d.mode; hidden = d.hidden || bytes_eq d.name.name region.name; outer = true }
+
+-- what is in force, as it is seen in a block with parts of the region
+abbrev pub in_split : Scope → Named → Scope
+in_split scope region = map (seen_in_split region) scope
+
+-- what is in force, as it is seen in the block of an `each` over the region
 abbrev pub in_each : Scope → Named → Scope
-in_each scope region = map (λ d. record { name = d.name; mode = d.mode; hidden = d.hidden || bytes_eq d.name.name region.name; outer = true }) scope
+in_each scope region = map (seen_in_each region) scope
 
 -- the parts that a split declares for its block
 abbrev pub parts_of : Scope → Named → Named → Named → List Declaration
 parts_of scope region x y = part scope region x ∷ part scope region y ∷ []
 
--- the index, which may not be assigned, and the part that an `each` declares for its block
+-- the declaration of the index of an `each`, which may not be assigned
+abbrev pub index_of : Named → Declaration
+index_of i = record { name = i; mode = mode.Int; hidden = false; outer = true }
+
+-- the index and the part that an `each` declares for its block
 abbrev pub element_of : Scope → Named → Named → Named → List Declaration
-element_of scope region i x = record { name = i; mode = mode.Int; hidden = false; outer = true } ∷ part scope region x ∷ []
+element_of scope region i x = index_of i ∷ part scope region x ∷ []
 
 -- what a statement declares for the rest of its block
 abbrev pub lets_of : Statement → List Declaration

@@ -1,5 +1,5 @@
 -- The uses of names in a program, each with the declarations in force there.
-use Rattle.std.specs.Prelude.{ℕ, List, [], ◌∷◌, ◌++◌, Option, Some, None, map, length, codes, if◌then◌else◌}
+use Rattle.std.specs.Prelude.{ℕ, Bool, List, [], ◌∷◌, ◌++◌, Option, Some, None, map, length, codes, if◌then◌else◌}
 use Rattle.std.specs.List.{flat_map}
 use Rattle.std.specs.Str.{bytes_eq}
 use Rattle.ppm_tree.specs.declared.mode.Mode.{Mode}
@@ -10,8 +10,7 @@ use Rattle.ppm_tree.specs.declared.tree.ArrayInput.{ArrayInput}
 use Rattle.ppm_tree.specs.Tree.{Expression, Argument, Side, Statement, Block, Nil, Then, Give, Procedure, ProgramTree}
 use Rattle.ppm_tree.specs.Tree as tree
 use Rattle.ppm_tree.specs.Parts.{gives_of}
-use Rattle.ppm_tree.specs.State.{procedure_named}
-use Rattle.ppm_regions.specs.Scope.{Declaration, Scope, plain, of_parameter, in_split, parts_of, in_each, element_of, lets_of, scope_behind}
+use Rattle.ppm_regions.specs.Scope.{first_named, Declaration, Scope, plain, of_parameter, in_split, parts_of, in_each, element_of, lets_of, scope_behind}
 use Rattle.ppm_regions.specs.declared.ask.Ask.{Ask}
 use Rattle.ppm_regions.specs.declared.ask.Ask.TheVariants as ask
 
@@ -117,20 +116,37 @@ abbrev pub both_targets : Option Named → Option Named → List Use
 both_targets (Some x) (Some y) = Targets x y ∷ []
 both_targets x y = []
 
+-- the parameters of a procedure; where there is no such procedure, it has none
+abbrev pub parameters_of : Option Procedure → List Parameter
+parameters_of None = []
+parameters_of (Some p) = p.parameters
+
+-- whether the procedure is `main`
+abbrev pub is_main : Procedure → Bool
+is_main p = bytes_eq p.name.name (codes "main")
+
+-- what is asked of `main`
+abbrev pub uses_of_main : Procedure → List Use
+uses_of_main p = if is_main p then map MainTakes p.parameters ++ map MainGives (gives_of p.give) else []
+
+-- names that stand beside one another
+abbrev pub sites_of_names : List Named → List Site
+sites_of_names names = declaration_sites [] (map (plain mode.Int) names)
+
 module _ (t : ProgramTree) where
-  -- the parameters of the procedure with the name
-  abbrev pub parameters_named : Named → List Parameter
-  parameters_named callee = (procedure_named t.procedures callee.name).parameters
+  -- the procedure that is called, if there is one of the name
+  abbrev pub callee_of : Named → Option Procedure
+  callee_of x = first_named (λ p. p.name.name) t.procedures x.name
 
   -- a call, or a side of a fork
   abbrev pub uses_of_side : Side → List Use
   uses_of_side s =
       uses_of_target s.callee s.target
-      ++ Calls s.callee (length s.arguments) ∷ uses_of_arguments (parameters_named s.callee) s.arguments
+      ++ Calls s.callee (length s.arguments) ∷ uses_of_arguments (parameters_of (callee_of s.callee)) s.arguments
 
   -- the regions that a side lends
   abbrev pub lent_by : Side → List Lending
-  lent_by s = lendings_of (parameters_named s.callee) s.arguments
+  lent_by s = lendings_of (parameters_of (callee_of s.callee)) s.arguments
 
   -- the uses of a statement itself; those in its blocks are their statements'
   abbrev pub uses_of : Statement → List Use
@@ -173,14 +189,6 @@ module _ (t : ProgramTree) where
   -- the sites of a procedure
   abbrev pub sites_of_procedure : Procedure → List Site
   sites_of_procedure p = sites_of_body (map of_parameter p.parameters) p
-
-  -- names that stand beside one another
-  abbrev pub sites_of_names : List Named → List Site
-  sites_of_names names = declaration_sites [] (map (plain mode.Int) names)
-
-  -- what is asked of `main`
-  abbrev pub uses_of_main : Procedure → List Use
-  uses_of_main p = if bytes_eq p.name.name (codes "main") then map MainTakes p.parameters ++ map MainGives (gives_of p.give) else []
 
   -- the sites of a program
   abbrev pub sites_of : List Site

@@ -19,3 +19,36 @@ pub enum Ask {
     /// A region, to be written or lent to be written.
     Written,
 }
+
+/// Whether the mode is that of a region.
+pub fn is_region(mode: Mode) -> bool
+    ensures { result ≡ is_region mode }
+{
+    match mode {
+        Mode::Mut | Mode::Ref => true,
+        Mode::Int => false,
+    }
+}
+
+impl Ask {
+    /// Whether a declaration of this mode is of the kind that is asked for.
+    pub fn fits(self, mode: Mode) -> bool
+        ensures { result ≡ fits self mode }
+    {
+        match self {
+            Ask::Any => true,
+            Ask::Local | Ask::Assigned => !is_region(mode),
+            Ask::Region | Ask::Written => is_region(mode),
+        }
+    }
+
+    /// Whether a region is asked for.
+    pub fn is_for_region(self) -> bool
+        ensures { result ≡ asks_region self }
+    {
+        match self {
+            Ask::Any | Ask::Local | Ask::Assigned => false,
+            Ask::Region | Ask::Written => true,
+        }
+    }
+}
