@@ -120,7 +120,7 @@ pub fn declared<'a>(scope: &[Declaration<'a>], name: &Name) -> Option<Declaratio
     ensures { result ≡ declared scope.now name.now }
 {
     for declaration in scope {
-        if declaration.name.name.is(name) {
+        if declaration.name().name.is(name) {
             return Some(declaration.copied());
         }
     }
