@@ -16,7 +16,7 @@ before_numbers M m n k l h less later =
         | inl gt ↦ absurd (grind (arith, h, gt))
         | inr ge ↦ elim (cases_lt k l) [
           | inl lt ↦ later (omega arith) lt
-          | inr no ↦ absurd (grind (arith, h, le, no))
+          | inr up ↦ absurd (grind (arith, h, le, up))
         ]
       ]
     ]
@@ -29,7 +29,7 @@ not_before_numbers M m n k l h less later =
         | inl lt ↦ absurd (grind (arith, h, lt))
         | inr le ↦ elim (cases_lt k l) [
           | inl lt ↦ (let e : m ≡ n = omega arith in absurd (grind (arith, h, lt, e)))
-          | inr no ↦ later (omega arith) no
+          | inr up ↦ later (omega arith) up
         ]
       ]
     ]
