@@ -2,3 +2,5 @@ pub mod Names
 pub mod Order
 pub mod Least
 pub mod UseLemmas
+pub mod CallLemmas
+pub mod Loops

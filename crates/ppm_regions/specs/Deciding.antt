@@ -1,5 +1,7 @@
 -- What the search for faults answers.
-use Rattle.std.specs.Prelude.{◌≡◌, ◌==◌, ◌&&◌, ◌||◌, ℕ, Bool, true, false, not, nat_lt, List, Option, None, Some, if◌then◌else◌}
+use Rattle.std.specs.Prelude.{◌≡◌, ◌==◌, ◌&&◌, ◌||◌, ℕ, Bool, true, false, not, nat_lt, List, Option, None, Some, codes, if◌then◌else◌}
+use Rattle.std.specs.List.{Contains}
+use Rattle.ppm_tree.specs.declared.tree.Proc.{Proc}
 use Rattle.ppm_tree.specs.declared.tree.Argument as declared_argument
 use Rattle.ppm_tree.specs.Tree.{Argument, ProgramTree, expression_of}
 use Rattle.ppm_tree.specs.declared.mode.Mode.{Mode}
@@ -18,6 +20,14 @@ use Rattle.ppm_regions.specs.declared.region_error.RegionError.{RegionError}
 -- the argument that a declared type holds
 abbrev pub argument_of : declared_argument.Argument → Argument
 argument_of a = record { line = a.line; value = expression_of a.value }
+
+-- some element is such a one
+abbrev pub HasOne : {A : Type 0} → (A → Type 0) → List A → Type 0
+HasOne {A} P xs = (x : A) × Contains xs x × P x
+
+-- the procedure is `main`
+abbrev pub IsNamedMain : Proc → Type 0
+IsNamedMain p = p.name.name ≡ codes "main"
 
 -- the first fault of these sites, if there is one
 pub record IsLeast (t : ProgramTree) (sites : List Site) (found : Option RegionError) : Type 0 where

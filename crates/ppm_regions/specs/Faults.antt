@@ -62,12 +62,12 @@ module _ (t : ProgramTree) where
     WriteToRef : (x : Named) (d : Declaration)
         → declared scope x.name ≡ Some d → d.mode ≡ mode.Ref → IsWrong scope (Asks ask.Written x) (error.WriteToRef x.line)
     -- the region is lent in front of this lending, and one of both is to be written
-    LentTwice : (front : List Lending) (l m : Lending) → Contains front l → Clashes l m → IsWrong scope (Lends front m) (error.LentTwice m.name.line)
+    LentTwice : (front : List Lending) (l m : Lending) → Contains front l → Clashes m l → IsWrong scope (Lends front m) (error.LentTwice m.name.line)
     -- a region is used where only its parts may be
     HiddenRegion : (a : Ask) (x : Named) (d : Declaration)
         → declared scope x.name ≡ Some d → asks_region a ≡ true → d.hidden ≡ true → IsWrong scope (Asks a x) (error.HiddenRegion x.line)
     -- there is no `main`
-    NoMain : first_named (λ p. p.name.name) t.procedures (codes "main") ≡ None → IsWrong scope Begins (error.BadMain 0)
+    NoMain : ((p : Procedure) → Contains t.procedures p → p.name.name ≢ codes "main") → IsWrong scope Begins (error.BadMain 0)
     -- a parameter of `main` is a number, or has the name of no array
     BadParameter : (p : Parameter) → (p.mode ≡ mode.Int) ⊎ (array_named p.name ≡ None) → IsWrong scope (MainTakes p) (error.BadMain p.name.line)
     -- `main` gives a value

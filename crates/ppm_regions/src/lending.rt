@@ -4,7 +4,7 @@ ghost use Rattle.ppm_tree.specs.Tree.{ProgramTree, expression_of};
 ghost use Rattle.ppm_regions.specs.Scope.{Scope};
 ghost use Rattle.ppm_regions.specs.Uses.{lending_of, lendings_of, lent_together, Lends};
 ghost use Rattle.ppm_regions.specs.Faults.{Clashes};
-ghost use Rattle.ppm_regions.specs.Deciding.{argument_of, IsLeastOf};
+ghost use Rattle.ppm_regions.specs.Deciding.{argument_of, HasOne, IsLeastOf};
 
 use crate::found::earlier;
 use crate::region_error::RegionError;
@@ -69,17 +69,28 @@ pub fn lend_all<'a>(
 ) -> Result<(), NoMemory>
     ensures { IfOk result (λ _. lendings.new.items ≡ lendings.old.items ++ lendings_of parameters.now (map argument_of arguments.now)) }
 {
-    for (parameter, argument) in parameters.iter().zip(arguments) {
-        lend(lendings, parameter.mode, &argument.value)?;
-    }
-    Ok(())
+    let [parameter, rest @ ..] = parameters else {
+        return Ok(());
+    };
+    let [argument, more @ ..] = arguments else {
+        return Ok(());
+    };
+    lend(lendings, parameter.mode, &argument.value)?;
+    lend_all(lendings, rest, more)
+}
+
+/// Whether the region clashes with one that is lent in front of it.
+fn has_clash(front: &[Lending], lending: &Lending) -> bool
+    ensures { IsTrue result ↔ HasOne (Clashes lending.now) front.now }
+{
+    front.iter().any(|other| lending.clashes(other))
 }
 
 /// The fault of a region that is lent beside those in front of it.
 fn beside(front: &[Lending], lending: &Lending) -> Option<RegionError>
     ensures { (t : ProgramTree) → (s : Scope) → IsLeastOf t s (Lends front.now lending.now ∷ []) result }
 {
-    if front.iter().any(|other| other.clashes(lending)) {
+    if has_clash(front, lending) {
         return Some(RegionError::LentTwice(lending.line()));
     }
     None

@@ -1,12 +1,12 @@
 //! Faults of a whole program.
-ghost use Rattle.std.specs.Prelude.{◌≡◌, [], ◌∷◌, None, Some, IfOk, MatchOption, map};
+ghost use Rattle.std.specs.Prelude.{◌≡◌, ◌↔◌, IsTrue, [], ◌∷◌, None, Some, IfOk, MatchOption, map};
 ghost use Rattle.std.specs.List.{flat_map};
 ghost use Rattle.ppm_tree.specs.Tree.{ProgramTree, procedure_of, give_of, tree_of};
 ghost use Rattle.ppm_tree.specs.Parts.{gives_of};
 ghost use Rattle.ppm_regions.specs.Scope.{Scope};
-ghost use Rattle.ppm_regions.specs.Uses.{Begins, MainTakes, MainGives, Fills, sites_of, sites_of_procedure, is_main, uses_of_main};
+ghost use Rattle.ppm_regions.specs.Uses.{Begins, MainTakes, MainGives, Fills, sites_of, sites_of_procedure, uses_of_main};
 ghost use Rattle.ppm_regions.specs.Faults.{array_named};
-ghost use Rattle.ppm_regions.specs.Deciding.{IsLeast, IsLeastOf};
+ghost use Rattle.ppm_regions.specs.Deciding.{HasOne, IsNamedMain, IsLeast, IsLeastOf};
 
 use crate::declaring::repeated;
 use crate::found::earlier;
@@ -31,16 +31,23 @@ fn array_named<'t>(tree: &'t Tree, name: &Named) -> Option<&'t Array>
 
 /// Whether the procedure is `main`.
 fn is_main(procedure: &Proc) -> bool
-    ensures { result ≡ is_main (procedure_of procedure.now) }
+    ensures { IsTrue result ↔ IsNamedMain procedure.now }
 {
     procedure.name.name.as_bytes() == b"main".as_slice()
+}
+
+/// Whether some procedure is `main`.
+fn has_main(procedures: &[Proc]) -> bool
+    ensures { IsTrue result ↔ HasOne IsNamedMain procedures.now }
+{
+    procedures.iter().any(is_main)
 }
 
 /// The fault of a program without a `main`.
 fn of_begin(tree: &Tree) -> Option<RegionError>
     ensures { IsLeastOf (tree_of tree.now) [] (Begins ∷ []) result }
 {
-    if tree.procedures.as_slice().iter().any(is_main) {
+    if has_main(tree.procedures.as_slice()) {
         return None;
     }
     Some(RegionError::BadMain(0))
