@@ -4,3 +4,4 @@ pub mod Least
 pub mod UseLemmas
 pub mod CallLemmas
 pub mod Loops
+pub mod Arguments

@@ -70,3 +70,15 @@ pub block_more : (t : ProgramTree) (s : Scope) (xs : List Stmt) (x : Stmt)
 block_more t s [] x = simp (append-nil) refl
 block_more t s (y ∷ xs) x =
     rw (block_more t (s ++ lets_of (statement_of y)) xs x) (simp (append_assoc) refl)
+
+-- what the images of elements declare
+pub declared_more_of : {A : Type 0} (f : A → Declaration) (s : Scope) (xs : List A) (x : A)
+    → declaration_sites s (map f (xs ++ x ∷ [])) ≡ declaration_sites s (map f xs) ++ declaration_sites (s ++ map f xs) (f x ∷ [])
+declared_more_of f s xs x = ap (declaration_sites s) (map-append f xs (x ∷ [])) ∙ declared_more s (map f xs) (f x)
+
+-- the scope behind one more of them
+pub declared_scope_of : {A : Type 0} (f : A → Declaration) (s : Scope) (xs : List A) (i : ℕ) (x : A) (before after : Scope) (d : Declaration)
+    → i < length xs → x ≡ get_or xs i x → before ≡ s ++ map f (take i xs) → d ≡ f x → after ≡ before ++ d ∷ [] → after ≡ s ++ map f (take (i + 1) xs)
+declared_scope_of f s xs i x before after d in' at p q r =
+    let next = take_more xs i x in' ∙ ap (λ y. take i xs ++ (y ∷ [])) (sym at) in
+    rw (r, p, q, next, map-append f (take i xs) (x ∷ [])) (append_assoc s (map f (take i xs)) (f x ∷ []))

@@ -22,31 +22,21 @@ use std::alloc::Global;
 fn in_spare(scope: &[Declaration], argument: &Expr) -> Option<RegionError>
     ensures { (t : ProgramTree) → IsLeastOf t scope.now (uses_of_spare (expression_of argument.now)) result }
 {
-    match argument {
-        Expr::Name(name) => asked(scope, Ask::Any, name),
-        Expr::Number(_)
-        | Expr::Element(_, _)
-        | Expr::Len(_)
-        | Expr::Minus(_, _)
-        | Expr::Binary(_, _, _, _) => in_expression(scope, argument),
-    }
+    let Expr::Name(name) = argument else {
+        return in_expression(scope, argument);
+    };
+    asked(scope, Ask::Any, name)
 }
 
 /// The first fault of an argument for a region.
 fn in_lent(scope: &[Declaration], ask: Ask, argument: &Argument) -> Option<RegionError>
     ensures { (t : ProgramTree) → IsLeastOf t scope.now (uses_of_lent ask argument.now.line (expression_of argument.now.value)) result }
 {
-    match &argument.value {
-        Expr::Name(name) => asked(scope, ask, name),
-        Expr::Number(_)
-        | Expr::Element(_, _)
-        | Expr::Len(_)
-        | Expr::Minus(_, _)
-        | Expr::Binary(_, _, _, _) => {
-            let inside = in_expression(scope, &argument.value);
-            earlier(Some(RegionError::WrongKind(argument.line)), inside)
-        }
-    }
+    let Expr::Name(name) = &argument.value else {
+        let inside = in_expression(scope, &argument.value);
+        return earlier(Some(RegionError::WrongKind(argument.line)), inside);
+    };
+    asked(scope, ask, name)
 }
 
 /// The first fault of an argument for a parameter of this mode.
@@ -104,12 +94,10 @@ fn of_value(tree: &Tree, name: &Named) -> Option<RegionError>
 {
     match callee(tree, name) {
         None => None,
-        Some(procedure) => {
-            if procedure.give.is_some() {
-                return None;
-            }
-            Some(RegionError::NoValue(name.line))
-        }
+        Some(procedure) => match &procedure.give {
+            None => Some(RegionError::NoValue(name.line)),
+            Some(_) => None,
+        },
     }
 }
 
