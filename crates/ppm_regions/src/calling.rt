@@ -182,8 +182,6 @@ pub fn in_fork(
     let on_right = in_side(tree, scope, right);
     let targets = of_targets(&left.target, &right.target);
     let lent = lent_together(&lendings);
-    Ok(earlier(
-        on_left,
-        earlier(on_right, earlier(targets, lent)),
-    ))
+    let sides = earlier(earlier(on_left, on_right), targets);
+    Ok(earlier(sides, lent))
 }

@@ -1,5 +1,5 @@
 //! Faults of a whole program.
-ghost use Rattle.std.specs.Prelude.{◌≡◌, ◌↔◌, IsTrue, [], ◌∷◌, None, Some, IfOk, MatchOption, map};
+ghost use Rattle.std.specs.Prelude.{◌≡◌, ◌↔◌, IsTrue, [], ◌∷◌, ◌++◌, None, Some, IfOk, MatchOption, map};
 ghost use Rattle.std.specs.List.{flat_map};
 ghost use Rattle.ppm_tree.specs.Tree.{ProgramTree, procedure_of, give_of, tree_of};
 ghost use Rattle.ppm_tree.specs.Parts.{gives_of};
@@ -142,6 +142,14 @@ fn in_procedures(alloc: Global, tree: &Tree) -> Result<Option<RegionError>, NoMe
     Ok(found)
 }
 
+/// The first fault of `main` and of the inputs.
+fn outside(tree: &Tree) -> Option<RegionError>
+    ensures { IsLeastOf (tree_of tree.now) [] (Begins ∷ flat_map uses_of_main (tree_of tree.now).procedures ++ map Fills (tree_of tree.now).inputs) result }
+{
+    let main = earlier(of_begin(tree), of_mains(tree));
+    earlier(main, of_inputs(tree))
+}
+
 /// The first fault of a program.
 pub fn in_program(alloc: Global, tree: &Tree) -> Result<Option<RegionError>, NoMemory>
     ensures { IfOk result (IsLeast (tree_of tree.now) (sites_of (tree_of tree.now))) }
@@ -150,12 +158,6 @@ pub fn in_program(alloc: Global, tree: &Tree) -> Result<Option<RegionError>, NoM
     let procedures = repeated(alloc, tree.procedures.as_slice())?;
     let inputs = repeated(alloc, tree.inputs.as_slice())?;
     let inside = in_procedures(alloc, tree)?;
-    let begin = of_begin(tree);
-    let main = of_mains(tree);
-    let filled = of_inputs(tree);
-    let outside = earlier(begin, earlier(main, filled));
-    Ok(earlier(
-        arrays,
-        earlier(procedures, earlier(inputs, earlier(inside, outside))),
-    ))
+    let names = earlier(earlier(arrays, procedures), inputs);
+    Ok(earlier(earlier(names, inside), outside(tree)))
 }

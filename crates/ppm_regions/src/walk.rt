@@ -33,8 +33,9 @@ fn in_uses(
             Ok(earlier(asked(scope, Ask::Assigned, name), inside))
         }
         Stmt::Put(name, index, value) => {
-            let inside = earlier(in_expression(scope, index), in_expression(scope, value));
-            Ok(earlier(asked(scope, Ask::Written, name), inside))
+            let inside = in_expression(scope, index);
+            let written = earlier(asked(scope, Ask::Written, name), inside);
+            Ok(earlier(written, in_expression(scope, value)))
         }
         Stmt::If(test, _, _) | Stmt::While(test, _) => Ok(in_expression(scope, test)),
         Stmt::Call(side) => in_call(alloc, tree, scope, side),
@@ -77,7 +78,7 @@ fn in_inner_with<'a>(
     let twice = declare(&mut scope, first)?;
     let again = declare(&mut scope, second)?;
     let inside = in_block(alloc, tree, &mut scope, block)?;
-    Ok(earlier(twice, earlier(again, inside)))
+    Ok(earlier(earlier(twice, again), inside))
 }
 
 /// The first fault in the blocks of a statement.
@@ -154,7 +155,7 @@ fn in_block<'a>(
         let used = in_uses(alloc, tree, scope, statement)?;
         let inside = within(alloc, tree, scope, statement)?;
         let twice = behind(scope, statement)?;
-        found = earlier(found, earlier(used, earlier(inside, twice)));
+        found = earlier(found, earlier(earlier(used, inside), twice));
     }
     Ok(found)
 }
@@ -197,5 +198,5 @@ pub fn in_procedure(
     let twice = declare_all(&mut scope, procedure.parameters.as_slice())?;
     let inside = in_block(alloc, tree, &mut scope, &procedure.body)?;
     let given = in_give(&scope, &procedure.give);
-    Ok(earlier(twice, earlier(inside, given)))
+    Ok(earlier(earlier(twice, inside), given))
 }

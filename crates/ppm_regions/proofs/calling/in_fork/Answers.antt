@@ -14,9 +14,8 @@ returns c =
     let lent : c.deref.result.now ≡ lent_by t left ++ lent_by t right
           = c.deref.ensures.value ∙ c.in_ok-lend_by-2.ensures
           ∙ ap (λ ls. ls ++ lent_by t right) (c.in_ok-lend_by.ensures ∙ ap (λ ls. ls ++ lent_by t left) c.new-lendings.ensures.items) in
-    rw (c.earlier-3.ensures, c.earlier-2.ensures, c.earlier.ensures)
-    (least_uses t s (uses_of_side t left) (uses_of_side t right ++ both_targets left.target right.target ++ lent_together [] (lent_by t left ++ lent_by t right)) _ _
-    c.in_side-on_left.ensures
-    (least_uses t s (uses_of_side t right) (both_targets left.target right.target ++ lent_together [] (lent_by t left ++ lent_by t right)) _ _ c.in_side-on_right.ensures
-    (least_uses t s (both_targets left.target right.target) (lent_together [] (lent_by t left ++ lent_by t right)) _ _ (c.of_targets-targets.ensures t s)
-    (rw lent at c.lent_together-lent.ensures t s))))
+    rw (c.earlier-2.ensures, c.earlier-sides.ensures, c.earlier.ensures)
+    (least_uses t s (uses_of_side t left ++ uses_of_side t right ++ both_targets left.target right.target) (lent_together [] (lent_by t left ++ lent_by t right)) _ _
+    (least_uses t s (uses_of_side t left ++ uses_of_side t right) (both_targets left.target right.target) _ _
+    (least_uses t s (uses_of_side t left) (uses_of_side t right) _ _ c.in_side-on_left.ensures c.in_side-on_right.ensures)
+    (c.of_targets-targets.ensures t s)) (rw lent at c.lent_together-lent.ensures t s))
