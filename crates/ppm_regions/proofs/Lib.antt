@@ -5,3 +5,4 @@ pub mod UseLemmas
 pub mod CallLemmas
 pub mod Loops
 pub mod Arguments
+pub mod Rows

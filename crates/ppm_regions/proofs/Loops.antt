@@ -82,3 +82,10 @@ pub declared_scope_of : {A : Type 0} (f : A → Declaration) (s : Scope) (xs : L
 declared_scope_of f s xs i x before after d in' at p q r =
     let next = take_more xs i x in' ∙ ap (λ y. take i xs ++ (y ∷ [])) (sym at) in
     rw (r, p, q, next, map-append f (take i xs) (x ∷ [])) (append_assoc s (map f (take i xs)) (f x ∷ []))
+
+-- what is in force behind one more statement
+pub behind_next : (s : Scope) (xs : List Stmt) (i : ℕ) (x : Stmt) (before after : Scope) → i < length xs → x ≡ get_or xs i x
+    → before ≡ scope_behind s (block_of (take i xs)) → after ≡ before ++ lets_of (statement_of x) → after ≡ scope_behind s (block_of (take (i + 1) xs))
+behind_next s xs i x before after in' at p q =
+    let next = take_more xs i x in' ∙ ap (λ y. take i xs ++ (y ∷ [])) (sym at) in
+    q ∙ ap (λ z. z ++ lets_of (statement_of x)) p ∙ sym (behind_more s (take i xs) x) ∙ ap (λ ys. scope_behind s (block_of ys)) (sym next)
