@@ -1,7 +1,8 @@
-use Rattle.std.proofs.Common.{◌≡◌, [], ◌∷◌, ◌++◌, take, sym, ap, ◌∙◌, append_assoc}
+use Rattle.std.proofs.Common.{◌≡◌, [], ◌∷◌, ◌++◌, take, sym, ap, subst, IfOk, ◌∙◌, append_assoc}
 use Rattle.ppm_tree.specs.Tree.{block_of, statement_of, tree_of}
 use Rattle.ppm_regions.specs.Scope.{in_split, in_each, parts_of, element_of, scope_behind, lets_of}
 use Rattle.ppm_regions.specs.Uses.{sites_at, uses_of, sites_within, sites_of_block, declaration_sites}
+use Rattle.ppm_regions.specs.Deciding.{IsLeast}
 use Rattle.ppm_regions.proofs.Least.{least_append}
 use Rattle.ppm_regions.proofs.Loops.{loop_step, block_more, behind_next, statement_sites}
 use Rattle.ppm_regions.proofs.Rows.{if_is, while_is, split_is, each_is}
@@ -43,9 +44,11 @@ pub within-returns-in_ok-fails-in-If : goal.within-returns-in_ok-fails-in-If
 within-returns-in_ok-fails-in-If n c =
     let t = tree_of c.args.tree.now in
     let s = c.args.scope.now in
-    rw (c.in-If.is, if_is c.in-If.field-0 c.in-If.block c.in-If.other, c.earlier.ensures)
+    let whole = ap (sites_within t s) (ap statement_of c.in-If.is ∙ if_is c.in-If.field-0 c.in-If.block c.in-If.other) in
+    subst (λ sites. IsLeast t sites c.earlier.result) (sym whole)
+    (rw c.earlier.ensures
     (least_append t (sites_of_block t s (block_of c.in-If.block.items)) (sites_of_block t s (block_of c.in-If.other.items)) _ _
-    (rw c.deref.ensures.value at c.in_ok-holds-in-If.ensures) (rw c.deref-in-If.ensures.value at c.in_ok-fails-in-If.ensures))
+    (rw c.deref.ensures.value at c.in_ok-holds-in-If.ensures) (rw c.deref-in-If.ensures.value at c.in_ok-fails-in-If.ensures)))
 
 -- the block
 pub within-returns-in-While : goal.within-returns-in-While
@@ -55,11 +58,17 @@ within-returns-in-While n c =
 -- the block with the parts
 pub within-returns-in_ok-inner-in-Split : goal.within-returns-in_ok-inner-in-Split
 within-returns-in_ok-inner-in-Split n c =
-    rw (c.in-Split.is, split_is c.in-Split.field-0 c.in-Split.region c.in-Split.field-2 c.in-Split.first c.in-Split.second c.in-Split.block)
+    let t = tree_of c.args.tree.now in
+    let whole = ap (sites_within t c.args.scope.now)
+        (ap statement_of c.in-Split.is ∙ split_is c.in-Split.field-0 c.in-Split.region c.in-Split.field-2 c.in-Split.first c.in-Split.second c.in-Split.block) in
+    subst (λ sites. IfOk c.in_inner_with.result (IsLeast t sites)) (sym whole)
     (rw (c.in_ok-inner-in-Split.ensures, c.part-first.ensures, c.part-second.ensures, c.deref-in-Split.ensures.value) at c.in_inner_with.ensures)
 
 -- the block with the element
 pub within-returns-in_ok-inner-in-Each : goal.within-returns-in_ok-inner-in-Each
 within-returns-in_ok-inner-in-Each n c =
-    rw (c.in-Each.is, each_is c.in-Each.index c.in-Each.element c.in-Each.region c.in-Each.block)
+    let t = tree_of c.args.tree.now in
+    let whole = ap (sites_within t c.args.scope.now)
+        (ap statement_of c.in-Each.is ∙ each_is c.in-Each.index c.in-Each.element c.in-Each.region c.in-Each.block) in
+    subst (λ sites. IfOk c.in_inner_with-in-Each.result (IsLeast t sites)) (sym whole)
     (rw (c.in_ok-inner-in-Each.ensures, c.index-index.ensures, c.part-element.ensures, c.deref-in-Each.ensures.value) at c.in_inner_with-in-Each.ensures)
