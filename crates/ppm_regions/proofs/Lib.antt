@@ -6,3 +6,5 @@ pub mod CallLemmas
 pub mod Loops
 pub mod Arguments
 pub mod Rows
+pub mod Elements
+pub mod MainLemmas
