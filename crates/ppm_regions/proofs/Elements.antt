@@ -1,5 +1,8 @@
 -- Elements of a list and of its images.
-use Rattle.std.proofs.Common.{◌≡◌, ℕ, zero, suc, ◌<◌, List, [], ◌∷◌, ◌++◌, length, map, slice_index_or, refl, ap, subst, arith}
+use Rattle.std.proofs.lemmas.List.{take_more, take_all}
+use Rattle.std.proofs.lemmas.List.Elements.{Contains-push_cases}
+use Rattle.ppm_regions.specs.Deciding.{HasOne}
+use Rattle.std.proofs.Common.{◌≡◌, inl, inr, ℕ, zero, suc, ◌+◌, ◌<◌, ◌≤◌, take, get_or, sym, ◌∙◌, List, [], ◌∷◌, ◌++◌, length, map, slice_index_or, refl, ap, subst, arith}
 use Rattle.std.specs.List.{Contains}
 
 pub contains_head : {A : Type 0} (x : A) (xs : List A) → Contains (x ∷ xs) x
@@ -31,3 +34,24 @@ contains_back {A} f z (y ∷ xs) c =
     (λ e. (y, contains_head y xs, e))
     (λ d. let w = contains_back f z xs d in (w.0, contains_tail y w.0 xs w.1, w.2)) c
 
+
+-- an element that a loop has come to
+pub contains_at : {A : Type 0} (xs : List A) (i : ℕ) (x : A) → i < length xs → x ≡ get_or xs i x → Contains xs x
+contains_at xs i x in' at = (i, in', sym at)
+
+-- none of a list's front, and one more that is none
+pub none_more : {A : Type 0} (P : A → Type 0) (xs : List A) (i : ℕ) (x : A) → i < length xs → x ≡ get_or xs i x
+    → ¬ HasOne P (take i xs) → ¬ P x → ¬ HasOne P (take (i + 1) xs)
+none_more P xs i x in' at none here one =
+    let next = take_more xs i x in' ∙ ap (λ y. take i xs ++ (y ∷ [])) (sym at) in
+    elim (Contains-push_cases (take i xs) x one.0 (subst (λ ys. Contains ys one.0) next one.1)) [
+      | inl c ↦ none (one.0, c, one.2)
+      | inr e ↦ here (subst P (sym e) one.2)
+    ]
+
+pub none_all : {A : Type 0} (P : A → Type 0) (xs : List A) (i : ℕ) → length xs ≤ i → ¬ HasOne P (take i xs) → ¬ HasOne P xs
+none_all P xs i past none one = none (subst (λ ys. HasOne P ys) (sym (take_all i xs past)) one)
+
+pub none_first : {A : Type 0} (P : A → Type 0) (xs : List A) → ¬ HasOne P (take 0 xs)
+none_first P [] one = let h = one.1 in absurd (omega arith)
+none_first P (x ∷ xs) one = let h = one.1 in absurd (omega arith)

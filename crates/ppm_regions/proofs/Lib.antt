@@ -8,3 +8,5 @@ pub mod Arguments
 pub mod Rows
 pub mod Elements
 pub mod MainLemmas
+pub mod Faultless
+pub mod Inputs

@@ -5,8 +5,10 @@ use Rattle.std.proofs.lemmas.List.{take_more, take_all, map-append, append-nil}
 use Rattle.ppm_tree.specs.Tree.{ProgramTree, Block, statement_of, block_of}
 use Rattle.ppm_tree.specs.declared.tree.Stmt.{Stmt}
 use Rattle.ppm_regions.specs.declared.region_error.RegionError.{RegionError}
-use Rattle.ppm_regions.specs.Scope.{Declaration, Scope, lets_of, scope_behind}
-use Rattle.ppm_regions.specs.Uses.{Use, Lends, Lending, Declares, Site, sites_at, lent_together, declaration_sites, uses_of, sites_within, sites_of_block}
+use Rattle.ppm_tree.specs.declared.mode.Mode.TheVariants as mode
+use Rattle.ppm_tree.specs.declared.named.Named.{Named}
+use Rattle.ppm_regions.specs.Scope.{Declaration, Scope, plain, lets_of, scope_behind}
+use Rattle.ppm_regions.specs.Uses.{sites_of_names, Use, Lends, Lending, Declares, Site, sites_at, lent_together, declaration_sites, uses_of, sites_within, sites_of_block}
 use Rattle.ppm_regions.specs.Deciding.{IsLeast, earlier_of}
 use Rattle.ppm_regions.proofs.Least.{least_append}
 
@@ -89,3 +91,18 @@ pub behind_next : (s : Scope) (xs : List Stmt) (i : ℕ) (x : Stmt) (before afte
 behind_next s xs i x before after in' at p q =
     let next = take_more xs i x in' ∙ ap (λ y. take i xs ++ (y ∷ [])) (sym at) in
     q ∙ ap (λ z. z ++ lets_of (statement_of x)) p ∙ sym (behind_more s (take i xs) x) ∙ ap (λ ys. scope_behind s (block_of ys)) (sym next)
+
+-- names that stand beside one another
+pub names_more : {A : Type 0} (f : A → Named) (xs : List A) (x : A)
+    → sites_of_names (map f (xs ++ x ∷ [])) ≡ sites_of_names (map f xs) ++ declaration_sites (map (plain mode.Int) (map f xs)) (plain mode.Int (f x) ∷ [])
+names_more f xs x =
+    ap sites_of_names (map-append f xs (x ∷ [])) ∙ ap (declaration_sites []) (map-append (plain mode.Int) (map f xs) (f x ∷ []))
+    ∙ declared_more [] (map (plain mode.Int) (map f xs)) (plain mode.Int (f x))
+
+-- the names behind one more of them
+pub names_next : {A : Type 0} (f : A → Named) (xs : List A) (i : ℕ) (x : A) (before after : Scope) (d : Declaration) → i < length xs → x ≡ get_or xs i x
+    → before ≡ map (plain mode.Int) (map f (take i xs)) → d ≡ plain mode.Int (f x) → after ≡ before ++ d ∷ []
+    → after ≡ map (plain mode.Int) (map f (take (i + 1) xs))
+names_next f xs i x before after d in' at p q r =
+    let next = take_more xs i x in' ∙ ap (λ y. take i xs ++ (y ∷ [])) (sym at) in
+    rw (r, p, q, next, map-append f (take i xs) (x ∷ []), map-append (plain mode.Int) (map f (take i xs)) (f x ∷ [])) refl

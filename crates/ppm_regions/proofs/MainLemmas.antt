@@ -1,5 +1,5 @@
 -- The first fault of a single use at a program's level: `main`, its parameters and its value, and inputs.
-use Rattle.std.proofs.Common.{◌≡◌, ◌≢◌, ◌<◌, ◌⊎◌, inl, inr, ℕ, List, [], ◌∷◌, Option, None, Some, map, length, codes, refl, subst, sym, arith}
+use Rattle.std.proofs.Common.{true, false, ◌≡◌, ◌≢◌, ◌<◌, ◌⊎◌, inl, inr, ℕ, List, [], ◌∷◌, Option, None, Some, map, length, codes, refl, subst, sym, arith}
 use Rattle.std.specs.List.{Contains}
 use Rattle.ppm_tree.specs.declared.mode.Mode.{Mode}
 use Rattle.ppm_tree.specs.declared.mode.Mode.TheVariants as mode
@@ -10,7 +10,7 @@ use Rattle.ppm_tree.specs.declared.tree.Proc.{Proc}
 use Rattle.ppm_tree.specs.Tree.{ProgramTree, Procedure, Give, procedure_of}
 use Rattle.ppm_regions.specs.declared.region_error.RegionError.{RegionError}
 use Rattle.ppm_regions.specs.declared.region_error.RegionError.TheVariants as error
-use Rattle.ppm_regions.specs.Scope.{Scope}
+use Rattle.ppm_regions.specs.Scope.{Scope, is_region}
 use Rattle.ppm_regions.specs.Uses.{Begins, MainTakes, MainGives, Fills}
 use Rattle.ppm_regions.specs.Faults.{IsWrong, array_named}
 use Rattle.ppm_regions.specs.Faults as fault
@@ -24,6 +24,12 @@ none_and_some p q = cc
 one_value : {A : Type 0} {o : Option A} {x y : A} → o ≡ Some x → o ≡ Some y → x ≡ y
 one_value p q = cc
 
+-- what is no region is a number
+pub number_is : (m : Mode) → is_region m ≡ false → m ≡ mode.Int
+number_is mode.Int h = refl
+number_is mode.Mut h = absurd (cc)
+number_is mode.Ref h = absurd (cc)
+
 module _ (t : ProgramTree) (s : Scope) where
   only_begin : (o : RegionError) → IsWrong t s Begins o → error.BadMain 0 ≡ o
   only_begin _ (fault.NoMain _) = refl
@@ -34,11 +40,11 @@ module _ (t : ProgramTree) (s : Scope) where
   begins_nowhere procs is none =
       use_wrong_alone t s Begins (error.BadMain 0)
       (fault.NoMain (λ p within named. let b = contains_back procedure_of p procs (subst (λ ps. Contains ps p) is within) in
-      none (b.0, b.1, subst (λ (q : Procedure). q.name.name ≡ codes "main") (sym b.2) named)))
+      none (b.0, b.1, record { named = subst (λ (q : Procedure). q.name.name ≡ codes "main") (sym b.2) named })))
       only_begin
 
   has_begin : (procs : List Proc) → t.procedures ≡ map procedure_of procs → HasOne IsNamedMain procs → (o : RegionError) → ¬ IsWrong t s Begins o
-  has_begin procs is one _ (fault.NoMain none) = none (procedure_of one.0) (subst (λ ps. Contains ps (procedure_of one.0)) (sym is) (contains_map procedure_of one.0 procs one.1)) one.2
+  has_begin procs is one _ (fault.NoMain none) = none (procedure_of one.0) (subst (λ ps. Contains ps (procedure_of one.0)) (sym is) (contains_map procedure_of one.0 procs one.1)) one.2.named
 
   pub begins_somewhere : (procs : List Proc) → t.procedures ≡ map procedure_of procs → HasOne IsNamedMain procs → IsLeastOf t s (Begins ∷ []) None
   begins_somewhere procs is one = use_right t s Begins (has_begin procs is one)

@@ -7,8 +7,8 @@ use Rattle.ppm_regions.specs.declared.region_error.RegionError.{RegionError}
 use Rattle.ppm_regions.specs.declared.region_error.RegionError.TheVariants as error
 
 -- a program without a fault
-abbrev pub IsAdmitted : ProgramTree → Type 0
-IsAdmitted t = (e : RegionError) → ¬ IsFault t e
+pub record IsAdmitted (t : ProgramTree) : Type 0 where
+  pub faultless : (e : RegionError) → ¬ IsFault t e
 
 -- the first one has the lesser number, or the same number and no later line
 pub data ComesFirst (d e : RegionError) : Type 0 where

@@ -26,8 +26,8 @@ abbrev pub HasOne : {A : Type 0} → (A → Type 0) → List A → Type 0
 HasOne {A} P xs = (x : A) × Contains xs x × P x
 
 -- the procedure is `main`
-abbrev pub IsNamedMain : Proc → Type 0
-IsNamedMain p = p.name.name ≡ codes "main"
+pub record IsNamedMain (p : Proc) : Type 0 where
+  pub named : p.name.name ≡ codes "main"
 
 -- the first fault of these sites, if there is one
 pub record IsLeast (t : ProgramTree) (sites : List Site) (found : Option RegionError) : Type 0 where

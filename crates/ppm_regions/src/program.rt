@@ -8,12 +8,13 @@ ghost use Rattle.ppm_regions.specs.Uses.{Begins, MainTakes, MainGives, Fills, si
 ghost use Rattle.ppm_regions.specs.Faults.{array_named};
 ghost use Rattle.ppm_regions.specs.Deciding.{HasOne, IsNamedMain, IsLeast, IsLeastOf};
 
+use crate::ask::is_region;
 use crate::declaring::repeated;
 use crate::found::earlier;
 
 use crate::region_error::RegionError;
 use crate::walk::in_procedure;
-use ppm_tree::{Array, ArrayInput, Give, Mode, Named, Parameter, Proc, Tree};
+use ppm_tree::{Array, ArrayInput, Give, Named, Parameter, Proc, Tree};
 use ppm_words::NoMemory;
 use std::alloc::Global;
 
@@ -40,7 +41,12 @@ fn is_main(procedure: &Proc) -> bool
 fn has_main(procedures: &[Proc]) -> bool
     ensures { IsTrue result ↔ HasOne IsNamedMain procedures.now }
 {
-    procedures.iter().any(is_main)
+    for procedure in procedures {
+        if is_main(procedure) {
+            return true;
+        }
+    }
+    false
 }
 
 /// The fault of a program without a `main`.
@@ -57,10 +63,13 @@ fn of_begin(tree: &Tree) -> Option<RegionError>
 fn of_parameter(tree: &Tree, parameter: &Parameter) -> Option<RegionError>
     ensures { IsLeastOf (tree_of tree.now) [] (MainTakes parameter.now ∷ []) result }
 {
-    if parameter.mode != Mode::Int && array_named(tree, &parameter.name).is_some() {
-        return None;
+    if !is_region(parameter.mode) {
+        return Some(RegionError::BadMain(parameter.name.line));
     }
-    Some(RegionError::BadMain(parameter.name.line))
+    match array_named(tree, &parameter.name) {
+        None => Some(RegionError::BadMain(parameter.name.line)),
+        Some(_) => None,
+    }
 }
 
 /// The first fault of the parameters of `main`.

@@ -9,6 +9,6 @@ use Rattle.ppm_regions.proofs.declaring.repeated.Given as goal
 -- the names so far are declared, and their first fault is found
 abbrev pub invariant-loop-item : goal.invariant-loop-item
 invariant-loop-item g l = record {
-  least : (t : ProgramTree) → IsLeast t (sites_of_names (map g.T.name_of (take l.item-index l.items))) l.found;
-  scope : l.scope.items ≡ map (plain mode.Int) (map g.T.name_of (take l.item-index l.items));
+  least : (t : ProgramTree) → IsLeast t (sites_of_names (map g.T.Item.name_of (take l.item-index l.items))) l.found;
+  scope : l.scope.items ≡ map (plain mode.Int) (map g.T.Item.name_of (take l.item-index l.items));
 }
