@@ -73,7 +73,7 @@ module _ (t : ProgramTree) (s : Scope) where
   in_side side parameters arguments a b c p q target called inside =
       let count : length arguments ≡ length (map argument_of side.arguments) = ap length q ∙ sym (length-map side.arguments argument_of) in
       let paired : uses_of_arguments parameters (map argument_of arguments) ≡ uses_of_arguments (parameters_of (callee_of t side.callee)) (map argument_of side.arguments)
-            = ap (λ ps. uses_of_arguments ps (map argument_of arguments)) p ∙ ap (λ xs. uses_of_arguments (parameters_of (callee_of t side.callee)) (map argument_of xs)) q in
+      = ap (λ ps. uses_of_arguments ps (map argument_of arguments)) p ∙ ap (λ xs. uses_of_arguments (parameters_of (callee_of t side.callee)) (map argument_of xs)) q in
       least_uses t s (uses_of_target side.callee side.target) (uses_of_side t (record { target = None; callee = side.callee; arguments = map argument_of side.arguments })) a (earlier_of b c) target
       (least_uses t s (Calls side.callee (length (map argument_of side.arguments)) ∷ []) (uses_of_arguments (parameters_of (callee_of t side.callee)) (map argument_of side.arguments)) b c
       (subst (λ n. IsLeastOf t s (Calls side.callee n ∷ []) b) count called) (subst (λ us. IsLeastOf t s us c) paired inside))

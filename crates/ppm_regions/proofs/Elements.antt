@@ -34,7 +34,6 @@ contains_back {A} f z (y ∷ xs) c =
     (λ e. (y, contains_head y xs, e))
     (λ d. let w = contains_back f z xs d in (w.0, contains_tail y w.0 xs w.1, w.2)) c
 
-
 -- an element that a loop has come to
 pub contains_at : {A : Type 0} (xs : List A) (i : ℕ) (x : A) → i < length xs → x ≡ get_or xs i x → Contains xs x
 contains_at xs i x in' at = (i, in', sym at)

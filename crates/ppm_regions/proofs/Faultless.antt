@@ -86,12 +86,12 @@ module _ (t : ProgramTree) where
       contains_cases (first_named (λ z. z.name.name) (b ∷ arrays) a.name.name ≡ Some a) b a arrays
       (λ same. found_head (λ z. z.name.name) a.name.name b arrays (ap (λ (z : Array). z.name.name) same) ∙ ap Some same)
       (λ later.
-        let declarations = map (plain mode.Int) (map (λ z. z.name) arrays) in
-        let free = behind_first _ _ h in
-        let there = contains_map (plain mode.Int) a.name (map (λ z. z.name) arrays) (contains_map (λ z. z.name) a arrays later) in
-        let new = declares_new (s ++ plain mode.Int b.name ∷ []) declarations free (plain mode.Int a.name) there in
-        found_later (λ z. z.name.name) a.name.name b arrays (not_last (λ z. z.name.name) s (plain mode.Int b.name) a.name.name new)
-        ∙ own_name (s ++ plain mode.Int b.name ∷ []) arrays free a later) c
+      let declarations = map (plain mode.Int) (map (λ z. z.name) arrays) in
+      let free = behind_first _ _ h in
+      let there = contains_map (plain mode.Int) a.name (map (λ z. z.name) arrays) (contains_map (λ z. z.name) a arrays later) in
+      let new = declares_new (s ++ plain mode.Int b.name ∷ []) declarations free (plain mode.Int a.name) there in
+      found_later (λ z. z.name.name) a.name.name b arrays (not_last (λ z. z.name.name) s (plain mode.Int b.name) a.name.name new)
+      ∙ own_name (s ++ plain mode.Int b.name ∷ []) arrays free a later) c
 
   module _ (admitted : IsAdmitted t) where
     abbrev array_sites : List Site
@@ -122,11 +122,11 @@ module _ (t : ProgramTree) where
     fits_its_array i c a is =
         elim (cases_lt a.words (length i.values)) [
           | inl past ↦ absurd (right_at (sites_at [] outside)
-            (faultless_right (array_sites ++ procedure_sites ++ input_sites ++ inside) (sites_at [] outside) admitted.faultless)
-            (record { scope = []; made = Fills i })
-            (contains_map (λ u. record { scope = []; made = u }) (Fills i) outside
-            (Contains-append_right (Begins ∷ flat_map uses_of_main t.procedures) (map Fills t.inputs) (Fills i) (contains_map Fills i t.inputs c)))
-            (error.BadInput i.name.line) (fault.TooManyValues i a is past))
+              (faultless_right (array_sites ++ procedure_sites ++ input_sites ++ inside) (sites_at [] outside) admitted.faultless)
+              (record { scope = []; made = Fills i })
+              (contains_map (λ u. record { scope = []; made = u }) (Fills i) outside
+              (Contains-append_right (Begins ∷ flat_map uses_of_main t.procedures) (map Fills t.inputs) (Fills i) (contains_map Fills i t.inputs c)))
+              (error.BadInput i.name.line) (fault.TooManyValues i a is past))
           | inr fits ↦ fits
         ]
 

@@ -65,7 +65,7 @@ input_fits t within admitted = record {
   arrays_bound = let e = length-map t.arrays (initial_array t.inputs) in omega (arith, e, within.array_count);
   values_bound =
       let total = total_fits t.inputs t.arrays
-              (λ a c. front_fits t.inputs a.name.name a.words
-              (λ i d named. fits_its_array t admitted i d a (subst (λ x. first_named (λ (b : Array). b.name.name) t.arrays x ≡ Some a) (sym named) (array_is_its_own t admitted a c)))) in
+      (λ a c. front_fits t.inputs a.name.name a.words
+      (λ i d named. fits_its_array t admitted i d a (subst (λ x. first_named (λ (b : Array). b.name.name) t.arrays x ≡ Some a) (sym named) (array_is_its_own t admitted a c)))) in
       omega (arith, total, within.words);
 }

@@ -139,11 +139,7 @@ fn in_side(tree: &Tree, scope: &[Declaration], side: &Side) -> Option<RegionErro
 }
 
 /// Adds the regions that a side lends.
-fn lend_by<'a>(
-    lendings: &mut Vec<Lending<'a>>,
-    tree: &Tree,
-    side: &'a Side,
-) -> Result<(), NoMemory>
+fn lend_by<'a>(lendings: &mut Vec<Lending<'a>>, tree: &Tree, side: &'a Side) -> Result<(), NoMemory>
     ensures { IfOk result (λ _. lendings.new.items ≡ lendings.old.items ++ lent_by (tree_of tree.now) (side_of side.now)) }
 {
     let parameters = parameters_named(tree, &side.callee);

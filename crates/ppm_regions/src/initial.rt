@@ -21,7 +21,11 @@ fn input_of<'t>(inputs: &'t [ArrayInput], name: &Name) -> &'t [i64]
 }
 
 /// An array as it starts: the input's values in front, then 0 in each word.
-fn initial_array(alloc: Global, inputs: &[ArrayInput], array: &Array) -> Result<NamedArray, NoMemory>
+fn initial_array(
+    alloc: Global,
+    inputs: &[ArrayInput],
+    array: &Array,
+) -> Result<NamedArray, NoMemory>
     ensures { IfOk result (λ a. a ≡ initial_array inputs.now array.now) }
 {
     let name = array.name.name.try_clone(alloc)?;
@@ -38,7 +42,11 @@ fn initial_array(alloc: Global, inputs: &[ArrayInput], array: &Array) -> Result<
 }
 
 /// The arrays as they start.
-fn all_initial(alloc: Global, inputs: &[ArrayInput], arrays: &[Array]) -> Result<Vec<NamedArray>, NoMemory>
+fn all_initial(
+    alloc: Global,
+    inputs: &[ArrayInput],
+    arrays: &[Array],
+) -> Result<Vec<NamedArray>, NoMemory>
     ensures { IfOk result (λ all. all.items ≡ map (initial_array inputs.now) arrays.now) }
 {
     let mut all = Vec::new(alloc);

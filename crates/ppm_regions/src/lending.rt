@@ -47,11 +47,7 @@ impl<'a> Lending<'a> {
 }
 
 /// Adds the region that an argument lends to a parameter of this mode.
-fn lend<'a>(
-    lendings: &mut Vec<Lending<'a>>,
-    mode: Mode,
-    argument: &'a Expr,
-) -> Result<(), NoMemory>
+fn lend<'a>(lendings: &mut Vec<Lending<'a>>, mode: Mode, argument: &'a Expr) -> Result<(), NoMemory>
     ensures { IfOk result (λ _. lendings.new.items ≡ lendings.old.items ++ lending_of mode (expression_of argument.now)) }
 {
     match (mode, argument) {

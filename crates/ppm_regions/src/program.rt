@@ -11,7 +11,6 @@ ghost use Rattle.ppm_regions.specs.Deciding.{HasOne, IsNamedMain, IsLeast, IsLea
 use crate::ask::is_region;
 use crate::declaring::repeated;
 use crate::found::earlier;
-
 use crate::region_error::RegionError;
 use crate::walk::in_procedure;
 use ppm_tree::{Array, ArrayInput, Give, Named, Parameter, Proc, Tree};

@@ -50,13 +50,7 @@ fn local(alloc: Global, letter: u8, line: u32, value: Expr) -> Result<Stmt, Fail
 }
 
 /// A call with these names as arguments, and a target, if it isn't 0; all in one line.
-fn side(
-    alloc: Global,
-    target: u8,
-    callee: u8,
-    arguments: &[u8],
-    line: u32,
-) -> Result<Side, Fail> {
+fn side(alloc: Global, target: u8, callee: u8, arguments: &[u8], line: u32) -> Result<Side, Fail> {
     let mut values = Vec::new(alloc);
     for letter in arguments {
         values.push(Argument {
@@ -124,8 +118,7 @@ fn procedure(
 
 /// The arrays `a` and `b` of one word in line 1, and these procedures.
 fn program(alloc: Global, procedures: Vec<Proc>) -> Result<Tree, Fail> {
-    let arrays = vec![
-        in alloc;
+    let arrays = vec![in alloc;
         Array {
             name: named(alloc, b'a', 1)?,
             words: 1
@@ -133,7 +126,7 @@ fn program(alloc: Global, procedures: Vec<Proc>) -> Result<Tree, Fail> {
         Array {
             name: named(alloc, b'b', 1)?,
             words: 1
-        }
+        },
     ]?;
     Ok(Tree {
         arrays: Items::from_vec(arrays),
@@ -161,7 +154,13 @@ fn fault_of_main(alloc: Global, body: Vec<Stmt>) -> Result<Option<RegionError>, 
         line: 1,
         value: Expr::Number(1),
     });
-    let main = procedure(alloc, b'm', &[(Mode::Mut, b'a'), (Mode::Ref, b'b')], 2, body)?;
+    let main = procedure(
+        alloc,
+        b'm',
+        &[(Mode::Mut, b'a'), (Mode::Ref, b'b')],
+        2,
+        body,
+    )?;
     let empty = procedure(alloc, b'e', &[], 1, Vec::new(alloc))?;
     let procedures = vec![in alloc; write, read, number, both, value, empty, main]?;
     let tree = program(alloc, procedures)?;
@@ -193,7 +192,11 @@ fn lent_regions(rt: HostRuntime) -> Result<(), Fail> {
             side(alloc, 0, left, &[lent], 3)?,
             side(alloc, 0, right, &[again], 4)?,
         );
-        assert_eq!(rt; fault_of(alloc, fork)?, fault, "{left} {lent} and {right} {again}");
+        assert_eq!(rt;
+            fault_of(alloc, fork)?,
+            fault,
+            "{left} {lent} and {right} {again}"
+        );
     }
     let cases = [
         (b'a', b'a', Some(RegionError::LentTwice(3))),
@@ -220,7 +223,11 @@ fn regions_in_parts(rt: HostRuntime) -> Result<(), Fail> {
     ];
     for (written, fault) in cases {
         let block = vec![in alloc; put(alloc, written, 4)?]?;
-        assert_eq!(rt; fault_of(alloc, split(alloc, 3, block)?)?, fault, "{written}");
+        assert_eq!(rt;
+            fault_of(alloc, split(alloc, 3, block)?)?,
+            fault,
+            "{written}"
+        );
     }
     // The region is whole again behind the block.
     let behind = vec![in alloc; split(alloc, 3, Vec::new(alloc))?, put(alloc, b'a', 4)?]?;
@@ -284,10 +291,9 @@ fn locals(rt: HostRuntime) -> Result<(), Fail> {
         (b'z', b'z', Some(RegionError::UnknownName(3))),
     ];
     for (read, assigned, fault) in cases {
-        let body = vec![
-            in alloc;
+        let body = vec![in alloc;
             local(alloc, b'k', 3, alone(alloc, read, 3)?)?,
-            assign(alloc, assigned, 4)?
+            assign(alloc, assigned, 4)?,
         ]?;
         assert_eq!(rt; fault_of_main(alloc, body)?, fault, "{read} {assigned}");
     }
@@ -297,10 +303,9 @@ fn locals(rt: HostRuntime) -> Result<(), Fail> {
         (b'z', Some(RegionError::UnknownName(4))),
     ];
     for (assigned, fault) in cases {
-        let body = vec![
-            in alloc;
+        let body = vec![in alloc;
             local(alloc, b'k', 3, element(alloc, b'a', 3)?)?,
-            assign(alloc, assigned, 4)?
+            assign(alloc, assigned, 4)?,
         ]?;
         assert_eq!(rt; fault_of_main(alloc, body)?, fault, "{assigned}");
     }
@@ -308,26 +313,30 @@ fn locals(rt: HostRuntime) -> Result<(), Fail> {
     let block = vec![in alloc; local(alloc, b'k', 3, Expr::Number(0))?]?;
     let statement = Stmt::While(Expr::Number(0), block);
     let body = vec![in alloc; statement, assign(alloc, b'k', 4)?]?;
-    assert_eq!(rt; fault_of_main(alloc, body)?, Some(RegionError::UnknownName(4)));
+    assert_eq!(rt;
+        fault_of_main(alloc, body)?,
+        Some(RegionError::UnknownName(4))
+    );
     let block = vec![in alloc; local(alloc, b'k', 4, Expr::Number(0))?]?;
     let statement = Stmt::If(Expr::Number(0), Vec::new(alloc), block);
     let body = vec![in alloc; local(alloc, b'k', 3, Expr::Number(0))?, statement]?;
-    assert_eq!(rt; fault_of_main(alloc, body)?, Some(RegionError::TwiceNamed(4)));
+    assert_eq!(rt;
+        fault_of_main(alloc, body)?,
+        Some(RegionError::TwiceNamed(4))
+    );
     // In the block of an `each` its own locals alone are assigned.
     for (assigned, fault) in [
         (b'k', Some(RegionError::OuterAssigned(5))),
         (b'i', Some(RegionError::OuterAssigned(5))),
         (b'n', None),
     ] {
-        let block = vec![
-            in alloc;
+        let block = vec![in alloc;
             local(alloc, b'n', 4, Expr::Number(0))?,
-            assign(alloc, assigned, 5)?
+            assign(alloc, assigned, 5)?,
         ]?;
-        let body = vec![
-            in alloc;
+        let body = vec![in alloc;
             local(alloc, b'k', 3, Expr::Number(0))?,
-            each(alloc, b'a', 4, block)?
+            each(alloc, b'a', 4, block)?,
         ]?;
         assert_eq!(rt; fault_of_main(alloc, body)?, fault, "{assigned}");
     }
@@ -351,13 +360,16 @@ fn targets(rt: HostRuntime) -> Result<(), Fail> {
             side(alloc, one, left, &[], 5)?,
             side(alloc, other, right, &[], 6)?,
         );
-        let body = vec![
-            in alloc;
+        let body = vec![in alloc;
             local(alloc, b'k', 3, Expr::Number(0))?,
             local(alloc, b'j', 4, Expr::Number(0))?,
-            fork
+            fork,
         ]?;
-        assert_eq!(rt; fault_of_main(alloc, body)?, fault, "{one} {other} {left} {right}");
+        assert_eq!(rt;
+            fault_of_main(alloc, body)?,
+            fault,
+            "{one} {other} {left} {right}"
+        );
     }
     Ok(())
 }
@@ -398,7 +410,11 @@ fn main_and_inputs(rt: HostRuntime) -> Result<(), Fail> {
     for (mode, letter, fault) in cases {
         let main = procedure(alloc, b'm', &[(mode, letter)], 2, Vec::new(alloc))?;
         let procedures = vec![in alloc; main]?;
-        assert_eq!(rt; fault_of_all(alloc, procedures, Vec::new(alloc))?, fault, "{letter}");
+        assert_eq!(rt;
+            fault_of_all(alloc, procedures, Vec::new(alloc))?,
+            fault,
+            "{letter}"
+        );
     }
     let mut main = procedure(alloc, b'm', &[], 2, Vec::new(alloc))?;
     main.give = Some(Give {
@@ -417,9 +433,16 @@ fn main_and_inputs(rt: HostRuntime) -> Result<(), Fail> {
     ];
     for (one, values, other, more, fault) in cases {
         let main = procedure(alloc, b'm', &[], 2, Vec::new(alloc))?;
-        let inputs = vec![in alloc; input(alloc, one, values, 3)?, input(alloc, other, more, 4)?]?;
+        let inputs = vec![in alloc;
+            input(alloc, one, values, 3)?,
+            input(alloc, other, more, 4)?,
+        ]?;
         let procedures = vec![in alloc; main]?;
-        assert_eq!(rt; fault_of_all(alloc, procedures, inputs)?, fault, "{one} {other}");
+        assert_eq!(rt;
+            fault_of_all(alloc, procedures, inputs)?,
+            fault,
+            "{one} {other}"
+        );
     }
     Ok(())
 }

@@ -7,11 +7,11 @@ ghost use Rattle.ppm_regions.specs.Deciding.{IsLeast, IsLeastOf};
 
 use crate::ask::Ask;
 use crate::calling::{in_call, in_fork};
+use crate::declaring::declare;
 use crate::expression::in_expression;
 use crate::found::earlier;
 use crate::naming::asked;
 use crate::region_error::RegionError;
-use crate::declaring::declare;
 use crate::scope::{Declaration, copied, in_each, in_split, part};
 use ppm_tree::{Give, Mode, Parameter, Proc, Stmt, Tree};
 use ppm_words::NoMemory;

@@ -11,6 +11,6 @@ returns c =
     let s = c.args.scope.now in
     let side = side_of c.args.side.now in
     let lent : c.deref.result.now ≡ lent_by t side
-          = c.deref.ensures.value ∙ c.in_ok-lend_by.ensures ∙ ap (λ ls. ls ++ lent_by t side) c.new-lendings.ensures.items in
+    = c.deref.ensures.value ∙ c.in_ok-lend_by.ensures ∙ ap (λ ls. ls ++ lent_by t side) c.new-lendings.ensures.items in
     rw c.earlier.ensures
     (least_uses t s (uses_of_side t side) (lent_together [] (lent_by t side)) _ _ c.in_side-called.ensures (rw lent at c.lent_together.ensures t s))

@@ -12,8 +12,8 @@ returns c =
     let left = side_of c.args.left.now in
     let right = side_of c.args.right.now in
     let lent : c.deref.result.now ≡ lent_by t left ++ lent_by t right
-          = c.deref.ensures.value ∙ c.in_ok-lend_by-2.ensures
-          ∙ ap (λ ls. ls ++ lent_by t right) (c.in_ok-lend_by.ensures ∙ ap (λ ls. ls ++ lent_by t left) c.new-lendings.ensures.items) in
+    = c.deref.ensures.value ∙ c.in_ok-lend_by-2.ensures
+    ∙ ap (λ ls. ls ++ lent_by t right) (c.in_ok-lend_by.ensures ∙ ap (λ ls. ls ++ lent_by t left) c.new-lendings.ensures.items) in
     rw (c.earlier-2.ensures, c.earlier-sides.ensures, c.earlier.ensures)
     (least_uses t s (uses_of_side t left ++ uses_of_side t right ++ both_targets left.target right.target) (lent_together [] (lent_by t left ++ lent_by t right)) _ _
     (least_uses t s (uses_of_side t left ++ uses_of_side t right) (both_targets left.target right.target) _ _

@@ -11,5 +11,5 @@ from_vec-requires c =
     let inputs = c.as_slice.ensures ∙ ap (λ t. (tree_of t).inputs) c.tree-tree.ensures.value in
     let arrays = c.as_slice-2.ensures ∙ ap (λ t. (tree_of t).arrays) c.tree-tree.ensures.value in
     let all : c.in_ok-arrays.arrays.items ≡ initial_arrays (tree_of c.args.program.now)
-          = c.in_ok-arrays.ensures ∙ ap₂ (λ xs ys. map (initial_array xs) ys) inputs arrays in
+    = c.in_ok-arrays.ensures ∙ ap₂ (λ xs ys. map (initial_array xs) ys) inputs arrays in
     subst IsInput (sym all) (input_fits (tree_of c.args.program.now) c.tree-tree.ensures.limits c.requires)

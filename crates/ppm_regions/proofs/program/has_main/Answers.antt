@@ -14,9 +14,14 @@ loop-procedure-preserved c =
 
 -- this one is
 pub returns-then-is_main : goal.returns-then-is_main
-returns-then-is_main c =
-    (λ t. (c.procedure-item.result, contains_at c.args.procedures.now c.loop-procedure.procedure-index c.procedure-item.result c.loop-procedure-test.true c.procedure-item.is,
-    c.is_main.ensures.0 (cc)), λ one. refl)
+returns-then-is_main c = (
+  λ t. (
+    c.procedure-item.result,
+    contains_at c.args.procedures.now c.loop-procedure.procedure-index c.procedure-item.result c.loop-procedure-test.true c.procedure-item.is,
+    c.is_main.ensures.0 (cc),
+  ),
+  λ one. refl,
+)
 
 -- none is
 pub returns : goal.returns

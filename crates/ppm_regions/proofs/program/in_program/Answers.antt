@@ -16,7 +16,7 @@ returns c =
     let inside = flat_map (sites_of_procedure t) t.procedures in
     let outside = sites_at [] (Begins ∷ flat_map uses_of_main t.procedures ++ map Fills t.inputs) in
     let named : map (λ p. p.name) c.as_slice-2.result.now ≡ map (λ p. p.name) t.procedures
-          = ap (map (λ p. p.name)) c.as_slice-2.ensures ∙ sym (map-map (λ p. p.name) procedure_of c.args.tree.now.procedures) in
+    = ap (map (λ p. p.name)) c.as_slice-2.ensures ∙ sym (map-map (λ p. p.name) procedure_of c.args.tree.now.procedures) in
     rw (c.earlier-3.ensures, c.earlier-2.ensures, c.earlier-names.ensures, c.earlier.ensures)
     (least_append t (arrays ++ procedures ++ inputs ++ inside) outside _ _
     (least_append t (arrays ++ procedures ++ inputs) inside _ _

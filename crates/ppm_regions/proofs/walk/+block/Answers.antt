@@ -60,7 +60,7 @@ pub within-returns-in_ok-inner-in-Split : goal.within-returns-in_ok-inner-in-Spl
 within-returns-in_ok-inner-in-Split n c =
     let t = tree_of c.args.tree.now in
     let whole = ap (sites_within t c.args.scope.now)
-        (ap statement_of c.in-Split.is ∙ split_is c.in-Split.field-0 c.in-Split.region c.in-Split.field-2 c.in-Split.first c.in-Split.second c.in-Split.block) in
+    (ap statement_of c.in-Split.is ∙ split_is c.in-Split.field-0 c.in-Split.region c.in-Split.field-2 c.in-Split.first c.in-Split.second c.in-Split.block) in
     subst (λ sites. IfOk c.in_inner_with.result (IsLeast t sites)) (sym whole)
     (rw (c.in_ok-inner-in-Split.ensures, c.part-first.ensures, c.part-second.ensures, c.deref-in-Split.ensures.value) at c.in_inner_with.ensures)
 
@@ -69,6 +69,6 @@ pub within-returns-in_ok-inner-in-Each : goal.within-returns-in_ok-inner-in-Each
 within-returns-in_ok-inner-in-Each n c =
     let t = tree_of c.args.tree.now in
     let whole = ap (sites_within t c.args.scope.now)
-        (ap statement_of c.in-Each.is ∙ each_is c.in-Each.index c.in-Each.element c.in-Each.region c.in-Each.block) in
+    (ap statement_of c.in-Each.is ∙ each_is c.in-Each.index c.in-Each.element c.in-Each.region c.in-Each.block) in
     subst (λ sites. IfOk c.in_inner_with-in-Each.result (IsLeast t sites)) (sym whole)
     (rw (c.in_ok-inner-in-Each.ensures, c.index-index.ensures, c.part-element.ensures, c.deref-in-Each.ensures.value) at c.in_inner_with-in-Each.ensures)

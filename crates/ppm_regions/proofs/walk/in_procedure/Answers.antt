@@ -12,7 +12,7 @@ returns c =
     let body = block_of c.args.procedure.now.body.items in
     let s = map of_parameter c.args.procedure.now.parameters in
     let started : c.declare_all.new.scope.items ≡ s
-          = c.in_ok-twice.ensures.scope ∙ ap (λ z. z ++ map of_parameter c.as_slice.result.now) c.new-scope.ensures.items ∙ ap (map of_parameter) c.as_slice.ensures in
+    = c.in_ok-twice.ensures.scope ∙ ap (λ z. z ++ map of_parameter c.as_slice.result.now) c.new-scope.ensures.items ∙ ap (map of_parameter) c.as_slice.ensures in
     rw (c.earlier-2.ensures, c.earlier.ensures)
     (least_append t (declaration_sites [] s ++ sites_of_block t s body) (sites_of_give t (scope_behind s body) (give_of c.args.procedure.now.give)) _ _
     (least_append t (declaration_sites [] s) (sites_of_block t s body) _ _
