@@ -10,3 +10,4 @@ pub mod Elements
 pub mod MainLemmas
 pub mod Faultless
 pub mod Inputs
+pub mod Index

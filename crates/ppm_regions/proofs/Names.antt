@@ -1,5 +1,5 @@
 -- The first item with a name.
-use Rattle.std.proofs.Common.{◌≡◌, ◌↔◌, ◌<◌, ◌+◌, ℕ, suc, arith, Bool, true, false, IsTrue, List, [], ◌∷◌, Option, Some, None, map, drop, length, get_or, drop-cons, refl, sym, ap, subst, ◌∙◌}
+use Rattle.std.proofs.Common.{◌++◌, cond, ◌≡◌, ◌↔◌, ◌<◌, ◌+◌, ℕ, suc, arith, Bool, true, false, IsTrue, List, [], ◌∷◌, Option, Some, None, map, drop, length, get_or, drop-cons, refl, sym, ap, subst, ◌∙◌}
 use Rattle.std.specs.Str.{bytes_eq}
 use Rattle.std.proofs.lemmas.Slice.Eq.{bytes_eq-Decides}
 use Rattle.ppm_regions.specs.Scope.{first_named}
@@ -51,3 +51,51 @@ module _ {A B : Type 0} (f : A → B) (name_of : B → List ℕ) (x : List ℕ) 
   pub image_not_here : (xs : List A) (k : ℕ) (i : A) → k < length xs → i ≡ get_or xs k i → (name_of (f i) ≡ x → ⊥)
       → first_named name_of (map f (drop (k + 1) xs)) x ≡ first_named name_of (map f (drop k xs)) x
   image_not_here xs k i in' at h = sym (rw (ahead (λ a. name_of (f a)) x xs k i in' at) (found_later name_of x (f i) (map f (drop (k + 1) xs)) h))
+
+-- one item more at the end of a list
+module _ {A : Type 0} (name_of : A → List ℕ) where
+  in_front : (xs ys : List A) (x : List ℕ) (y : A) → first_named name_of xs x ≡ Some y → first_named name_of (xs ++ ys) x ≡ Some y
+  in_front [] ys x y h = absurd (cc)
+  in_front (i ∷ xs) ys x y h = go (bytes_eq (name_of i) x) refl (in_front xs ys x y)
+    where
+      go : (b : Bool) → bytes_eq (name_of i) x ≡ b → (first_named name_of xs x ≡ Some y → first_named name_of (xs ++ ys) x ≡ Some y)
+          → first_named name_of (i ∷ xs ++ ys) x ≡ Some y
+      go true e further = rw e (rw e at h)
+      go false e further = rw e (further (rw e at h))
+
+  other_last : (xs : List A) (i : A) (x : List ℕ) → (name_of i ≡ x → ⊥) → first_named name_of (xs ++ i ∷ []) x ≡ first_named name_of xs x
+  other_last [] i x h = found_later name_of x i [] h
+  other_last (j ∷ xs) i x h = go (bytes_eq (name_of j) x) refl (other_last xs i x h)
+    where
+      go : (b : Bool) → bytes_eq (name_of j) x ≡ b → first_named name_of (xs ++ i ∷ []) x ≡ first_named name_of xs x
+          → first_named name_of (j ∷ xs ++ i ∷ []) x ≡ first_named name_of (j ∷ xs) x
+      go true e further = rw e refl
+      go false e further = rw e further
+
+  new_last : (xs : List A) (i : A) (x : List ℕ) → name_of i ≡ x → first_named name_of xs x ≡ None → first_named name_of (xs ++ i ∷ []) x ≡ Some i
+  new_last [] i x e h = found_head name_of x i [] e
+  new_last (j ∷ xs) i x e h = go (bytes_eq (name_of j) x) refl (new_last xs i x e)
+    where
+      go : (b : Bool) → bytes_eq (name_of j) x ≡ b → (first_named name_of xs x ≡ None → first_named name_of (xs ++ i ∷ []) x ≡ Some i)
+          → first_named name_of (j ∷ xs ++ i ∷ []) x ≡ Some i
+      go true f further = absurd (let g : Some j ≡ None = rw f at h in cc)
+      go false f further = rw f (further (rw f at h))
+
+  -- an item of a name that is there already changes nothing
+  pub known_name : (xs : List A) (i y : A) (x : List ℕ) → first_named name_of xs (name_of i) ≡ Some y → first_named name_of (xs ++ i ∷ []) x ≡ first_named name_of xs x
+  known_name xs i y x h = go (bytes_eq (name_of i) x) refl
+    where
+      go : (b : Bool) → bytes_eq (name_of i) x ≡ b → first_named name_of (xs ++ i ∷ []) x ≡ first_named name_of xs x
+      go true e =
+          let there = subst (λ z. first_named name_of xs z ≡ Some y) (same_bytes (name_of i) x e) h in
+          in_front xs (i ∷ []) x y there ∙ sym there
+      go false e = other_last xs i x (λ same. let t = bytes_same (name_of i) x same in absurd (cc))
+
+  -- an item of a new name is found by it, and the others as before
+  pub new_name : (xs : List A) (i : A) (x : List ℕ) → first_named name_of xs (name_of i) ≡ None
+      → first_named name_of (xs ++ i ∷ []) x ≡ cond (bytes_eq (name_of i) x) (Some i) (first_named name_of xs x)
+  new_name xs i x h = go (bytes_eq (name_of i) x) refl
+    where
+      go : (b : Bool) → bytes_eq (name_of i) x ≡ b → first_named name_of (xs ++ i ∷ []) x ≡ cond b (Some i) (first_named name_of xs x)
+      go true e = new_last xs i x (same_bytes (name_of i) x e) (subst (λ z. first_named name_of xs z ≡ None) (same_bytes (name_of i) x e) h)
+      go false e = other_last xs i x (λ same. let t = bytes_same (name_of i) x same in absurd (cc))

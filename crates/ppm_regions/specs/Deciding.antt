@@ -1,6 +1,10 @@
 -- What the search for faults answers.
 use Rattle.std.specs.Prelude.{◌≡◌, ◌==◌, ◌&&◌, ◌||◌, ℕ, Bool, true, false, not, nat_lt, List, Option, None, Some, codes, if◌then◌else◌}
 use Rattle.std.specs.List.{Contains}
+use Rattle.std.specs.HashMap.{HashMap, get_by}
+use Rattle.std.specs.Option.{option_map}
+use Rattle.std.specs.Str.{bytes_eq}
+use denote.Ref.{Bor}
 use Rattle.ppm_tree.specs.declared.tree.Proc.{Proc}
 use Rattle.ppm_tree.specs.declared.tree.Argument as declared_argument
 use Rattle.ppm_tree.specs.Tree.{Argument, ProgramTree, expression_of}
@@ -9,7 +13,7 @@ use Rattle.ppm_tree.specs.declared.mode.Mode.TheVariants as mode
 use Rattle.ppm_regions.specs.declared.ask.Ask.{Ask}
 use Rattle.ppm_regions.specs.declared.ask.Ask.TheVariants as ask
 use Rattle.ppm_regions.specs.declared.region_error.RegionError.TheVariants as error
-use Rattle.ppm_regions.specs.Scope.{Declaration, Scope}
+use Rattle.ppm_regions.specs.Scope.{Declaration, Scope, first_named}
 use Rattle.ppm_regions.specs.Uses.{Site, Use, sites_at}
 use Rattle.ppm_regions.specs.Faults.{fits, asks_region}
 use Rattle.ppm_regions.specs.Faults.{HasFault}
@@ -69,3 +73,8 @@ abbrev pub earlier_of : Option RegionError → Option RegionError → Option Reg
 earlier_of None b = b
 earlier_of (Some d) None = Some d
 earlier_of (Some d) (Some e) = if comes_before e d then Some e else Some d
+
+-- the map has the first procedure of each name
+abbrev pub IsIndex : {S : Type 0} → HashMap (Bor (List ℕ)) (Bor Proc) S → List Proc → Type 0
+IsIndex index procedures =
+    (x : List ℕ) → option_map (λ p. p.now) (get_by (λ k. bytes_eq x k.now) index) ≡ first_named (λ p. p.name.name) procedures x

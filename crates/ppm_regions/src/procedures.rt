@@ -27,6 +27,10 @@ impl<'t> Model for Procedures<'t> {
     ghost coded = { Prim.hlevel (codes, expr.the_row.coded, stmt.the_row.coded) };
 
     ghost view = { λ s. s.tree.now };
+
+    ghost use Rattle.ppm_regions.specs.Deciding.{IsIndex};
+
+    ghost invariant = { λ s. IsIndex s.by_name s.tree.now.procedures };
 }
 
 impl<'t> Procedures<'t> {
@@ -37,17 +41,29 @@ impl<'t> Procedures<'t> {
         let mut by_name = HashMap::new(alloc);
         for procedure in tree.procedures.as_slice() {
             let name = procedure.name.name.as_bytes();
-            if by_name.get(&name).is_none() {
-                by_name.insert(name, procedure)?;
+            if by_name.get(&name).is_some() {
+                continue;
             }
+            by_name.insert(name, procedure)?;
         }
         Ok(Procedures { tree, by_name })
     }
 
     /// The procedure that is called, if there is one of the name.
     pub fn callee(&self, name: &Named) -> Option<&'t Proc>
+        ensures { MatchOption result (callee_of (tree_of self.now) name.now ≡ None) (λ p. callee_of (tree_of self.now) name.now ≡ Some (procedure_of p.now)) }
     {
         self.by_name.get(&name.name.as_bytes()).copied()
+    }
+
+    /// The parameters of the procedure that is called; none where there is no such procedure.
+    pub fn parameters(&self, name: &Named) -> &'t [Parameter]
+        ensures { result.now ≡ parameters_of (callee_of (tree_of self.now) name.now) }
+    {
+        match self.callee(name) {
+            None => &[],
+            Some(procedure) => procedure.parameters.as_slice(),
+        }
     }
 }
 /// The procedure that is called, if there is one of the name.
