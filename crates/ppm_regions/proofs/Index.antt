@@ -19,7 +19,7 @@ module _ {S : Type 0} (m : HashMap (Bor (List ℕ)) (Bor Proc) S) (front : List 
   step_known None e there = absurd (cc)
   step_known (Some q) e there = λ x.
       let found : first_named (λ z. z.name.name) front p.name.name ≡ Some q.now.now
-            = sym (index p.name.name) ∙ sym (ap (option_map (λ z. z.now)) (e ∙ ap (λ b. get_by (λ k. bytes_eq b k.now) m) named)) in
+      = sym (index p.name.name) ∙ sym (ap (option_map (λ z. z.now)) (e ∙ ap (λ b. get_by (λ k. bytes_eq b k.now) m) named)) in
       index x ∙ sym (known_name (λ z. z.name.name) front p q.now.now x found)
 
   -- a name that it has not yet
@@ -29,7 +29,7 @@ module _ {S : Type 0} (m : HashMap (Bor (List ℕ)) (Bor Proc) S) (front : List 
   step_new n (Some q) w at e absent updated = absurd (cc)
   step_new n None w at e absent updated = λ x.
       let missing : first_named (λ z. z.name.name) front p.name.name ≡ None
-            = sym (index p.name.name) ∙ sym (ap (option_map (λ z. z.now)) (e ∙ ap (λ b. get_by (λ k. bytes_eq b k.now) m) named)) in
+      = sym (index p.name.name) ∙ sym (ap (option_map (λ z. z.now)) (e ∙ ap (λ b. get_by (λ k. bytes_eq b k.now) m) named)) in
       ap (option_map (λ z. z.now)) (updated x) ∙ go (bytes_eq bytes x) (get_by (λ k. bytes_eq x k.now) m) (first_named (λ z. z.name.name) front x) (index x)
       ∙ ap (λ b. cond (bytes_eq b x) (Some p) (first_named (λ z. z.name.name) front x)) named ∙ sym (new_name (λ z. z.name.name) front p x missing)
     where
@@ -82,6 +82,7 @@ called m t t' name bytes found index same named e = go found there
         twice : (o : Option (Bor Proc)) → option_map (λ p. procedure_of p.now) o ≡ option_map procedure_of (option_map (λ p. p.now) o)
         twice None = refl
         twice (Some p) = refl
+
     go : (o : Option (Bor Proc)) → option_map (λ p. procedure_of p.now) o ≡ callee_of (tree_of t) name
         → MatchOption o (callee_of (tree_of t) name ≡ None) (λ p. callee_of (tree_of t) name ≡ Some (procedure_of p.now))
     go None h = sym h

@@ -11,10 +11,10 @@ use crate::expression::in_expression;
 use crate::found::earlier;
 use crate::lending::{Lending, lend_all, lent_together};
 use crate::naming::{asked, one_target};
-use crate::procedures::{callee, parameters_named};
+use crate::procedures::Procedures;
 use crate::region_error::RegionError;
 use crate::scope::Declaration;
-use ppm_tree::{Argument, Expr, Mode, Named, Parameter, Side, Tree};
+use ppm_tree::{Argument, Expr, Mode, Named, Parameter, Side};
 use ppm_words::NoMemory;
 use std::alloc::Global;
 
@@ -74,10 +74,10 @@ fn in_arguments(
 }
 
 /// The fault of a procedure that is called with so many arguments.
-fn of_call(tree: &Tree, name: &Named, arguments: usize) -> Option<RegionError>
-    ensures { (s : Scope) → IsLeastOf (tree_of tree.now) s (Calls name.now arguments ∷ []) result }
+fn of_call(procedures: &Procedures, name: &Named, arguments: usize) -> Option<RegionError>
+    ensures { (s : Scope) → IsLeastOf (tree_of procedures.now) s (Calls name.now arguments ∷ []) result }
 {
-    match callee(tree, name) {
+    match procedures.callee(name) {
         None => Some(RegionError::UnknownName(name.line)),
         Some(procedure) => {
             if procedure.parameters.as_slice().len() != arguments {
@@ -89,10 +89,10 @@ fn of_call(tree: &Tree, name: &Named, arguments: usize) -> Option<RegionError>
 }
 
 /// The fault of a procedure whose value is stored.
-fn of_value(tree: &Tree, name: &Named) -> Option<RegionError>
-    ensures { (s : Scope) → IsLeastOf (tree_of tree.now) s (Delivers name.now ∷ []) result }
+fn of_value(procedures: &Procedures, name: &Named) -> Option<RegionError>
+    ensures { (s : Scope) → IsLeastOf (tree_of procedures.now) s (Delivers name.now ∷ []) result }
 {
-    match callee(tree, name) {
+    match procedures.callee(name) {
         None => None,
         Some(procedure) => match &procedure.give {
             None => Some(RegionError::NoValue(name.line)),
@@ -103,16 +103,19 @@ fn of_value(tree: &Tree, name: &Named) -> Option<RegionError>
 
 /// The first fault of a target of a call of the procedure.
 fn of_target(
-    tree: &Tree,
+    procedures: &Procedures,
     scope: &[Declaration],
     callee: &Named,
     target: &Option<Named>,
 ) -> Option<RegionError>
-    ensures { IsLeastOf (tree_of tree.now) scope.now (uses_of_target callee.now target.now) result }
+    ensures { IsLeastOf (tree_of procedures.now) scope.now (uses_of_target callee.now target.now) result }
 {
     match target {
         None => None,
-        Some(name) => earlier(asked(scope, Ask::Assigned, name), of_value(tree, callee)),
+        Some(name) => earlier(
+            asked(scope, Ask::Assigned, name),
+            of_value(procedures, callee),
+        ),
     }
 }
 
@@ -127,55 +130,59 @@ fn of_targets(left: &Option<Named>, right: &Option<Named>) -> Option<RegionError
 }
 
 /// The first fault of a call, or of a side of a fork.
-fn in_side(tree: &Tree, scope: &[Declaration], side: &Side) -> Option<RegionError>
-    ensures { IsLeastOf (tree_of tree.now) scope.now (uses_of_side (tree_of tree.now) (side_of side.now)) result }
+fn in_side(procedures: &Procedures, scope: &[Declaration], side: &Side) -> Option<RegionError>
+    ensures { IsLeastOf (tree_of procedures.now) scope.now (uses_of_side (tree_of procedures.now) (side_of side.now)) result }
 {
-    let parameters = parameters_named(tree, &side.callee);
+    let parameters = procedures.parameters(&side.callee);
     let arguments = side.arguments.as_slice();
-    let stored = of_target(tree, scope, &side.callee, &side.target);
-    let called = of_call(tree, &side.callee, arguments.len());
+    let stored = of_target(procedures, scope, &side.callee, &side.target);
+    let called = of_call(procedures, &side.callee, arguments.len());
     let inside = in_arguments(scope, parameters, arguments);
     earlier(stored, earlier(called, inside))
 }
 
 /// Adds the regions that a side lends.
-fn lend_by<'a>(lendings: &mut Vec<Lending<'a>>, tree: &Tree, side: &'a Side) -> Result<(), NoMemory>
-    ensures { IfOk result (λ _. lendings.new.items ≡ lendings.old.items ++ lent_by (tree_of tree.now) (side_of side.now)) }
+fn lend_by<'a>(
+    lendings: &mut Vec<Lending<'a>>,
+    procedures: &Procedures,
+    side: &'a Side,
+) -> Result<(), NoMemory>
+    ensures { IfOk result (λ _. lendings.new.items ≡ lendings.old.items ++ lent_by (tree_of procedures.now) (side_of side.now)) }
 {
-    let parameters = parameters_named(tree, &side.callee);
+    let parameters = procedures.parameters(&side.callee);
     lend_all(lendings, parameters, side.arguments.as_slice())
 }
 
 /// The first fault of a call.
 pub fn in_call(
     alloc: Global,
-    tree: &Tree,
+    procedures: &Procedures,
     scope: &[Declaration],
     side: &Side,
 ) -> Result<Option<RegionError>, NoMemory>
-    ensures { IfOk result (λ found. IsLeastOf (tree_of tree.now) scope.now (uses_of (tree_of tree.now) (Call (side_of side.now))) found) }
+    ensures { IfOk result (λ found. IsLeastOf (tree_of procedures.now) scope.now (uses_of (tree_of procedures.now) (Call (side_of side.now))) found) }
 {
     let mut lendings = Vec::new(alloc);
-    lend_by(&mut lendings, tree, side)?;
-    let called = in_side(tree, scope, side);
+    lend_by(&mut lendings, procedures, side)?;
+    let called = in_side(procedures, scope, side);
     Ok(earlier(called, lent_together(&lendings)))
 }
 
 /// The first fault of a fork.
 pub fn in_fork(
     alloc: Global,
-    tree: &Tree,
+    procedures: &Procedures,
     scope: &[Declaration],
     left: &Side,
     right: &Side,
 ) -> Result<Option<RegionError>, NoMemory>
-    ensures { IfOk result (λ found. IsLeastOf (tree_of tree.now) scope.now (uses_of (tree_of tree.now) (Fork (side_of left.now) (side_of right.now))) found) }
+    ensures { IfOk result (λ found. IsLeastOf (tree_of procedures.now) scope.now (uses_of (tree_of procedures.now) (Fork (side_of left.now) (side_of right.now))) found) }
 {
     let mut lendings = Vec::new(alloc);
-    lend_by(&mut lendings, tree, left)?;
-    lend_by(&mut lendings, tree, right)?;
-    let on_left = in_side(tree, scope, left);
-    let on_right = in_side(tree, scope, right);
+    lend_by(&mut lendings, procedures, left)?;
+    lend_by(&mut lendings, procedures, right)?;
+    let on_left = in_side(procedures, scope, left);
+    let on_right = in_side(procedures, scope, right);
     let targets = of_targets(&left.target, &right.target);
     let lent = lent_together(&lendings);
     let sides = earlier(earlier(on_left, on_right), targets);

@@ -11,6 +11,7 @@ ghost use Rattle.ppm_regions.specs.Deciding.{HasOne, IsNamedMain, IsLeast, IsLea
 use crate::ask::is_region;
 use crate::declaring::repeated;
 use crate::found::earlier;
+use crate::procedures::Procedures;
 use crate::region_error::RegionError;
 use crate::walk::in_procedure;
 use ppm_tree::{Array, ArrayInput, Give, Named, Parameter, Proc, Tree};
@@ -142,9 +143,10 @@ fn of_mains(tree: &Tree) -> Option<RegionError>
 fn in_procedures(alloc: Global, tree: &Tree) -> Result<Option<RegionError>, NoMemory>
     ensures { IfOk result (IsLeast (tree_of tree.now) (flat_map (sites_of_procedure (tree_of tree.now)) (tree_of tree.now).procedures)) }
 {
+    let procedures = Procedures::of(alloc, tree)?;
     let mut found = None;
     for procedure in tree.procedures.as_slice() {
-        let inside = in_procedure(alloc, tree, procedure)?;
+        let inside = in_procedure(alloc, &procedures, procedure)?;
         found = earlier(found, inside);
     }
     Ok(found)

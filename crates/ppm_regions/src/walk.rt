@@ -11,20 +11,21 @@ use crate::declaring::declare;
 use crate::expression::in_expression;
 use crate::found::earlier;
 use crate::naming::asked;
+use crate::procedures::Procedures;
 use crate::region_error::RegionError;
 use crate::scope::{Declaration, copied, in_each, in_split, part};
-use ppm_tree::{Give, Mode, Parameter, Proc, Stmt, Tree};
+use ppm_tree::{Give, Mode, Parameter, Proc, Stmt};
 use ppm_words::NoMemory;
 use std::alloc::Global;
 
 /// The first fault of a statement itself.
 fn in_uses(
     alloc: Global,
-    tree: &Tree,
+    procedures: &Procedures,
     scope: &[Declaration],
     statement: &Stmt,
 ) -> Result<Option<RegionError>, NoMemory>
-    ensures { IfOk result (λ found. IsLeastOf (tree_of tree.now) scope.now (uses_of (tree_of tree.now) (statement_of statement.now)) found) }
+    ensures { IfOk result (λ found. IsLeastOf (tree_of procedures.now) scope.now (uses_of (tree_of procedures.now) (statement_of statement.now)) found) }
 {
     match statement {
         Stmt::Let(_, value) => Ok(in_expression(scope, value)),
@@ -38,8 +39,8 @@ fn in_uses(
             Ok(earlier(written, in_expression(scope, value)))
         }
         Stmt::If(test, _, _) | Stmt::While(test, _) => Ok(in_expression(scope, test)),
-        Stmt::Call(side) => in_call(alloc, tree, scope, side),
-        Stmt::Fork(left, right) => in_fork(alloc, tree, scope, left, right),
+        Stmt::Call(side) => in_call(alloc, procedures, scope, side),
+        Stmt::Fork(left, right) => in_fork(alloc, procedures, scope, left, right),
         Stmt::Split(_, region, at, _, _, _) => {
             let inside = in_expression(scope, at);
             Ok(earlier(asked(scope, Ask::Region, region), inside))
@@ -52,32 +53,32 @@ fn in_uses(
 #[cycle(block)]
 fn in_inner<'a>(
     alloc: Global,
-    tree: &Tree,
+    procedures: &Procedures,
     scope: &[Declaration<'a>],
     block: &'a [Stmt],
 ) -> Result<Option<RegionError>, NoMemory>
-    ensures { IfOk result (IsLeast (tree_of tree.now) (sites_of_block (tree_of tree.now) scope.now (block_of block.now))) }
+    ensures { IfOk result (IsLeast (tree_of procedures.now) (sites_of_block (tree_of procedures.now) scope.now (block_of block.now))) }
 {
     let mut inner = copied(alloc, scope)?;
-    in_block(alloc, tree, &mut inner, block)
+    in_block(alloc, procedures, &mut inner, block)
 }
 
 /// The first fault in a block with two things more in force.
 #[cycle(block)]
 fn in_inner_with<'a>(
     alloc: Global,
-    tree: &Tree,
+    procedures: &Procedures,
     mut scope: Vec<Declaration<'a>>,
     first: Declaration<'a>,
     second: Declaration<'a>,
     block: &'a [Stmt],
 ) -> Result<Option<RegionError>, NoMemory>
-    ensures { IfOk result (IsLeast (tree_of tree.now) (declaration_sites scope.entry.items (first.entry ∷ second.entry ∷ [])
-        ++ sites_of_block (tree_of tree.now) (scope.entry.items ++ first.entry ∷ second.entry ∷ []) (block_of block.now))) }
+    ensures { IfOk result (IsLeast (tree_of procedures.now) (declaration_sites scope.entry.items (first.entry ∷ second.entry ∷ [])
+        ++ sites_of_block (tree_of procedures.now) (scope.entry.items ++ first.entry ∷ second.entry ∷ []) (block_of block.now))) }
 {
     let twice = declare(&mut scope, first)?;
     let again = declare(&mut scope, second)?;
-    let inside = in_block(alloc, tree, &mut scope, block)?;
+    let inside = in_block(alloc, procedures, &mut scope, block)?;
     Ok(earlier(earlier(twice, again), inside))
 }
 
@@ -85,30 +86,30 @@ fn in_inner_with<'a>(
 #[cycle(block)]
 fn within<'a>(
     alloc: Global,
-    tree: &Tree,
+    procedures: &Procedures,
     scope: &[Declaration<'a>],
     statement: &'a Stmt,
 ) -> Result<Option<RegionError>, NoMemory>
-    ensures { IfOk result (IsLeast (tree_of tree.now) (sites_within (tree_of tree.now) scope.now (statement_of statement.now))) }
+    ensures { IfOk result (IsLeast (tree_of procedures.now) (sites_within (tree_of procedures.now) scope.now (statement_of statement.now))) }
 {
     match statement {
         Stmt::If(_, block, other) => {
-            let holds = in_inner(alloc, tree, scope, block)?;
-            let fails = in_inner(alloc, tree, scope, other)?;
+            let holds = in_inner(alloc, procedures, scope, block)?;
+            let fails = in_inner(alloc, procedures, scope, other)?;
             Ok(earlier(holds, fails))
         }
-        Stmt::While(_, block) => in_inner(alloc, tree, scope, block),
+        Stmt::While(_, block) => in_inner(alloc, procedures, scope, block),
         Stmt::Split(_, region, _, first, second, block) => {
             let inner = in_split(alloc, scope, region)?;
             let first = part(scope, region, first);
             let second = part(scope, region, second);
-            in_inner_with(alloc, tree, inner, first, second, block)
+            in_inner_with(alloc, procedures, inner, first, second, block)
         }
         Stmt::Each(index, element, region, block) => {
             let inner = in_each(alloc, scope, region)?;
             let index = Declaration::index(index);
             let element = part(scope, region, element);
-            in_inner_with(alloc, tree, inner, index, element, block)
+            in_inner_with(alloc, procedures, inner, index, element, block)
         }
         Stmt::Let(_, _)
         | Stmt::Assign(_, _)
@@ -143,17 +144,17 @@ fn behind<'a>(
 #[cycle(block)]
 fn in_block<'a>(
     alloc: Global,
-    tree: &Tree,
+    procedures: &Procedures,
     scope: &mut Vec<Declaration<'a>>,
     block: &'a [Stmt],
 ) -> Result<Option<RegionError>, NoMemory>
-    ensures least { IfOk result (IsLeast (tree_of tree.now) (sites_of_block (tree_of tree.now) scope.old.items (block_of block.now))) }
+    ensures least { IfOk result (IsLeast (tree_of procedures.now) (sites_of_block (tree_of procedures.now) scope.old.items (block_of block.now))) }
     ensures scope { IfOk result (λ _. scope.new.items ≡ scope_behind scope.old.items (block_of block.now)) }
 {
     let mut found = None;
     for statement in block {
-        let used = in_uses(alloc, tree, scope, statement)?;
-        let inside = within(alloc, tree, scope, statement)?;
+        let used = in_uses(alloc, procedures, scope, statement)?;
+        let inside = within(alloc, procedures, scope, statement)?;
         let twice = behind(scope, statement)?;
         found = earlier(found, earlier(earlier(used, inside), twice));
     }
@@ -189,14 +190,14 @@ fn declare_all<'a>(
 /// The first fault in a procedure.
 pub fn in_procedure(
     alloc: Global,
-    tree: &Tree,
+    procedures: &Procedures,
     procedure: &Proc,
 ) -> Result<Option<RegionError>, NoMemory>
-    ensures { IfOk result (IsLeast (tree_of tree.now) (sites_of_procedure (tree_of tree.now) (procedure_of procedure.now))) }
+    ensures { IfOk result (IsLeast (tree_of procedures.now) (sites_of_procedure (tree_of procedures.now) (procedure_of procedure.now))) }
 {
     let mut scope = Vec::new(alloc);
     let twice = declare_all(&mut scope, procedure.parameters.as_slice())?;
-    let inside = in_block(alloc, tree, &mut scope, &procedure.body)?;
+    let inside = in_block(alloc, procedures, &mut scope, &procedure.body)?;
     let given = in_give(&scope, &procedure.give);
     Ok(earlier(earlier(twice, inside), given))
 }

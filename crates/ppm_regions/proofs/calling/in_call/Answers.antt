@@ -7,7 +7,7 @@ use Rattle.ppm_regions.proofs.calling.in_call.Goals as goal
 -- the side, and what it lends
 pub returns : goal.returns
 returns c =
-    let t = tree_of c.args.tree.now in
+    let t = tree_of c.args.procedures.now in
     let s = c.args.scope.now in
     let side = side_of c.args.side.now in
     let lent : c.deref.result.now ≡ lent_by t side

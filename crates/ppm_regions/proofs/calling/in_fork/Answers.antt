@@ -7,7 +7,7 @@ use Rattle.ppm_regions.proofs.calling.in_fork.Goals as goal
 -- both sides, their targets, and what they lend
 pub returns : goal.returns
 returns c =
-    let t = tree_of c.args.tree.now in
+    let t = tree_of c.args.procedures.now in
     let s = c.args.scope.now in
     let left = side_of c.args.left.now in
     let right = side_of c.args.right.now in

@@ -7,9 +7,9 @@ use Rattle.ppm_regions.proofs.calling.of_call.Goals as goal
 pub returns-then-as_slice-arguments : goal.returns-then-as_slice-arguments
 returns-then-as_slice-arguments c = λ s.
     let lengths = ap length c.as_slice.ensures in
-    calls_wrong (tree_of c.args.tree.now) s c.args.name.now c.args.arguments (procedure_of c.in-Some.procedure.now) (c.in-Some.ensures)
+    calls_wrong (tree_of c.args.procedures.now) s c.args.name.now c.args.arguments (procedure_of c.in-Some.procedure.now) (c.in-Some.ensures)
     (λ e. c.if-as_slice-arguments.true (omega (arith, e, lengths)))
 
 -- no such procedure
 pub returns-in-None : goal.returns-in-None
-returns-in-None c = λ s. calls_unknown (tree_of c.args.tree.now) s c.args.name.now c.args.arguments (c.in-None.ensures)
+returns-in-None c = λ s. calls_unknown (tree_of c.args.procedures.now) s c.args.name.now c.args.arguments (c.in-None.ensures)

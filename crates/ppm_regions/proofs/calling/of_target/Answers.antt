@@ -9,5 +9,5 @@ use Rattle.ppm_regions.proofs.calling.of_target.Goals as goal
 pub returns-in-Some : goal.returns-in-Some
 returns-in-Some c =
     rw (c.in-Some.is, c.earlier.ensures)
-    (least_uses (tree_of c.args.tree.now) c.args.scope.now (Asks ask.Assigned c.in-Some.name ∷ []) (Delivers c.args.callee.now ∷ []) _ _
-    (c.asked.ensures (tree_of c.args.tree.now)) (c.of_value.ensures c.args.scope.now))
+    (least_uses (tree_of c.args.procedures.now) c.args.scope.now (Asks ask.Assigned c.in-Some.name ∷ []) (Delivers c.args.callee.now ∷ []) _ _
+    (c.asked.ensures (tree_of c.args.procedures.now)) (c.of_value.ensures c.args.scope.now))

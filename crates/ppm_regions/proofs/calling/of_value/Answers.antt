@@ -6,4 +6,4 @@ use Rattle.ppm_regions.proofs.calling.of_value.Goals as goal
 -- the procedure gives none
 pub returns-in-None-give : goal.returns-in-None-give
 returns-in-None-give c = λ s.
-    delivers_none (tree_of c.args.tree.now) s c.args.name.now (procedure_of c.in-Some.procedure.now) (c.in-Some.ensures) (ap give_of c.in-None-give.is)
+    delivers_none (tree_of c.args.procedures.now) s c.args.name.now (procedure_of c.in-Some.procedure.now) (c.in-Some.ensures) (ap give_of c.in-None-give.is)

@@ -12,4 +12,4 @@ loop-procedure-preserved c =
     rw c.earlier-found.ensures
     (loop_step t (λ xs. flat_map (sites_of_procedure t) (map procedure_of xs)) (λ xs x. sites_of_procedure t (procedure_of x))
     (flat_more procedure_of (sites_of_procedure t)) c.as_slice-procedure-items.result.now c.loop-procedure.procedure-index c.procedure-item.result _ _
-    c.loop-procedure-test.true c.procedure-item.is c.loop-procedure.invariant c.in_ok-inside.ensures)
+    c.loop-procedure-test.true c.procedure-item.is c.loop-procedure.invariant (rw c.in_ok-procedures.ensures at c.in_ok-inside.ensures))

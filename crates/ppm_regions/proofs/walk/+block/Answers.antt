@@ -11,7 +11,7 @@ use Rattle.ppm_regions.proofs.walk.+block.Goals as goal
 -- the statements so far and one more
 pub in_block-loop-statement-preserved : goal.in_block-loop-statement-preserved
 in_block-loop-statement-preserved n c =
-    let t = tree_of c.args.tree.now in
+    let t = tree_of c.args.procedures.now in
     let start = c.args.scope.now.items in
     let i = c.loop-statement.statement-index in
     let s = scope_behind start (block_of (take i c.args.block.now)) in
@@ -31,7 +31,7 @@ in_block-loop-statement-preserved n c =
 -- two declarations, and a block
 pub in_inner_with-returns : goal.in_inner_with-returns
 in_inner_with-returns n c =
-    let t = tree_of c.args.tree.now in
+    let t = tree_of c.args.procedures.now in
     let s = c.args.scope.items in
     let there = c.in_ok-again.ensures.scope ∙ ap (λ z. z ++ c.args.second ∷ []) c.in_ok-twice.ensures.scope ∙ append_assoc s (c.args.first ∷ []) (c.args.second ∷ []) in
     rw (c.earlier-2.ensures, c.earlier.ensures)
@@ -42,7 +42,7 @@ in_inner_with-returns n c =
 -- both blocks
 pub within-returns-in_ok-fails-in-If : goal.within-returns-in_ok-fails-in-If
 within-returns-in_ok-fails-in-If n c =
-    let t = tree_of c.args.tree.now in
+    let t = tree_of c.args.procedures.now in
     let s = c.args.scope.now in
     let whole = ap (sites_within t s) (ap statement_of c.in-If.is ∙ if_is c.in-If.field-0 c.in-If.block c.in-If.other) in
     subst (λ sites. IsLeast t sites c.earlier.result) (sym whole)
@@ -58,7 +58,7 @@ within-returns-in-While n c =
 -- the block with the parts
 pub within-returns-in_ok-inner-in-Split : goal.within-returns-in_ok-inner-in-Split
 within-returns-in_ok-inner-in-Split n c =
-    let t = tree_of c.args.tree.now in
+    let t = tree_of c.args.procedures.now in
     let whole = ap (sites_within t c.args.scope.now)
     (ap statement_of c.in-Split.is ∙ split_is c.in-Split.field-0 c.in-Split.region c.in-Split.field-2 c.in-Split.first c.in-Split.second c.in-Split.block) in
     subst (λ sites. IfOk c.in_inner_with.result (IsLeast t sites)) (sym whole)
@@ -67,7 +67,7 @@ within-returns-in_ok-inner-in-Split n c =
 -- the block with the element
 pub within-returns-in_ok-inner-in-Each : goal.within-returns-in_ok-inner-in-Each
 within-returns-in_ok-inner-in-Each n c =
-    let t = tree_of c.args.tree.now in
+    let t = tree_of c.args.procedures.now in
     let whole = ap (sites_within t c.args.scope.now)
     (ap statement_of c.in-Each.is ∙ each_is c.in-Each.index c.in-Each.element c.in-Each.region c.in-Each.block) in
     subst (λ sites. IfOk c.in_inner_with-in-Each.result (IsLeast t sites)) (sym whole)

@@ -8,6 +8,6 @@ use Rattle.ppm_regions.proofs.walk.+block.Given as goal
 -- the first fault of the statements so far, and what they leave in force
 abbrev pub invariant-in_block-loop-statement : goal.invariant-in_block-loop-statement
 invariant-in_block-loop-statement l = record {
-  least : IsLeast (tree_of l.tree) (sites_of_block (tree_of l.tree) l.fn.scope.items (block_of (take l.statement-index l.block))) l.found;
+  least : IsLeast (tree_of l.procedures) (sites_of_block (tree_of l.procedures) l.fn.scope.items (block_of (take l.statement-index l.block))) l.found;
   scope : l.scope.items ≡ scope_behind l.fn.scope.items (block_of (take l.statement-index l.block));
 }

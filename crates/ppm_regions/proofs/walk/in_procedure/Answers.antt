@@ -8,7 +8,7 @@ use Rattle.ppm_regions.proofs.walk.in_procedure.Goals as goal
 -- the parameters, the statements, and what is given
 pub returns : goal.returns
 returns c =
-    let t = tree_of c.args.tree.now in
+    let t = tree_of c.args.procedures.now in
     let body = block_of c.args.procedure.now.body.items in
     let s = map of_parameter c.args.procedure.now.parameters in
     let started : c.declare_all.new.scope.items ≡ s

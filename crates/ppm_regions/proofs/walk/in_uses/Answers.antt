@@ -8,7 +8,7 @@ use Rattle.ppm_regions.proofs.walk.in_uses.Goals as goal
 -- the local, and its value
 pub returns-in-Assign : goal.returns-in-Assign
 returns-in-Assign c =
-    let t = tree_of c.args.tree.now in
+    let t = tree_of c.args.procedures.now in
     rw (c.in-Assign.is, c.earlier.ensures)
     (least_uses t c.args.scope.now (Asks ask.Assigned c.in-Assign.name ∷ []) (uses_in (expression_of c.in-Assign.value)) _ _ (c.asked.ensures t)
     (c.in_expression-inside.ensures t))
@@ -16,7 +16,7 @@ returns-in-Assign c =
 -- the region, its index and the value
 pub returns-in-Put : goal.returns-in-Put
 returns-in-Put c =
-    let t = tree_of c.args.tree.now in
+    let t = tree_of c.args.procedures.now in
     let index = uses_in (expression_of c.in-Put.index) in
     rw (c.in-Put.is, c.earlier-in-Put.ensures, c.earlier-written.ensures)
     (least_uses t c.args.scope.now (Asks ask.Written c.in-Put.name ∷ index) (uses_in (expression_of c.in-Put.value)) _ _
@@ -26,7 +26,7 @@ returns-in-Put c =
 -- the region, and how many words its first part has
 pub returns-in-Split : goal.returns-in-Split
 returns-in-Split c =
-    let t = tree_of c.args.tree.now in
+    let t = tree_of c.args.procedures.now in
     rw (c.in-Split.is, c.earlier-in-Split.ensures)
     (least_uses t c.args.scope.now (Asks ask.Region c.in-Split.region ∷ []) (uses_in (expression_of c.in-Split.at)) _ _ (c.asked-in-Split.ensures t)
     (c.in_expression-inside-in-Split.ensures t))
