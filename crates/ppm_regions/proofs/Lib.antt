@@ -11,3 +11,4 @@ pub mod MainLemmas
 pub mod Faultless
 pub mod Inputs
 pub mod Index
+pub mod Rules

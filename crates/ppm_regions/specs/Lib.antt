@@ -3,4 +3,5 @@ pub mod Uses
 pub mod Faults
 pub mod Admission
 pub mod ErrorNumbers
+pub mod Correct
 pub mod Deciding

@@ -16,6 +16,7 @@ mod declaring;
 mod expression;
 mod found;
 mod initial;
+mod laws;
 mod lending;
 mod naming;
 mod procedures;
@@ -28,4 +29,5 @@ mod walk;
 
 pub use admitted::Admitted;
 pub use admitting::admit;
+pub use laws::{have_one_fault, keep_rules};
 pub use region_error::RegionError;

@@ -1,8 +1,10 @@
 //! Which fault of names and regions is told, and at which line. Procedures and arrays have names of one letter.
+use crate::admitting::admit;
 use crate::program::in_program;
 use crate::region_error::RegionError;
+use crate::{have_one_fault, keep_rules};
 use ppm_tree::{
-    Argument, Array, ArrayInput, Expr, Give, Mode, Named, Operator, Parameter, Proc, Side, Stmt,
+    Argument, Array, ArrayInput, Expr, Give, Mode, Named, Parameter, Proc, Program, Side, Stmt,
     Tree,
 };
 use ppm_words::{Items, Name};
@@ -467,5 +469,29 @@ fn the_least_number_and_then_the_first_line(rt: HostRuntime) -> Result<(), Fail>
     let inputs = vec![in alloc; input(alloc, b'a', 1, 3)?, input(alloc, b'a', 1, 4)?]?;
     let fault = fault_of_all(alloc, procedures, inputs)?;
     assert_eq!(rt; fault, Some(RegionError::TwiceNamed(4)));
+    Ok(())
+}
+
+#[test]
+fn a_program_without_main_is_refused(rt: HostRuntime) -> Result<(), Fail> {
+    let alloc = rt.alloc();
+    let program = Program::from_tree(Tree {
+        arrays: Items::from_vec(Vec::new(alloc)),
+        procedures: Items::from_vec(Vec::new(alloc)),
+        inputs: Items::from_vec(Vec::new(alloc)),
+    });
+    match admit(alloc, program) {
+        Ok(_) => Err("admitted".into()),
+        Err(error) => {
+            assert_eq!(rt; error, RegionError::BadMain(0));
+            Ok(())
+        }
+    }
+}
+
+#[test]
+fn the_laws_are_calls(rt: HostRuntime) -> Result<(), Fail> {
+    keep_rules();
+    have_one_fault();
     Ok(())
 }
