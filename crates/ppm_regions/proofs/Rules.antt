@@ -61,6 +61,7 @@ module _ (t : ProgramTree) (admitted : IsAdmitted t) where
       wrote ask.Local x d is h e = absurd (cc)
       wrote ask.Assigned x d is h e = absurd (cc)
       wrote ask.Region x d is h e = absurd (cc)
+
       set : (a : Ask) (x : Named) (d : Declaration) → declared s x.name ≡ Some d → ((e : RegionError) → ¬ IsWrong t s (Asks a x) e) → a ≡ ask.Assigned → d.outer ≡ false
       set ask.Assigned x d is h e =
           let kind = passes (not (is_region d.mode)) (λ f. h (error.WrongKind x.line) (fault.WrongKind ask.Assigned x d is f)) in
@@ -83,7 +84,7 @@ module _ (t : ProgramTree) (admitted : IsAdmitted t) where
   called s x n h (Some p) is = record {
     procedure = p;
     found = is;
-    count = elim (cases_eq (length p.parameters) n) [ | inl e ↦ e | inr e ↦ absurd (h (error.WrongCount x.line) (fault.WrongCount x n p is e)) ];
+    count = elim (cases_eq (length p.parameters) n) [ inl e ↦ e | inr e ↦ absurd (h (error.WrongCount x.line) (fault.WrongCount x n p is e)) ];
   }
 
   valued : (s : Scope) (x : Named) → ((e : RegionError) → ¬ IsWrong t s (Delivers x) e) → (o : Option Procedure) → callee_of t x ≡ o → callee_of t x ≢ None → GivesValue t x

@@ -137,34 +137,30 @@ fn program(alloc: Global, procedures: Vec<Proc>) -> Result<Tree, Fail> {
     })
 }
 
-/// The fault of a program whose `main` takes both arrays in line 2 and has this body.
-/// Before it stand `w(mut x) { }`, `r(ref x) { }`, `n(int x) { }`, `f(mut x, ref y) { }`,
-/// `v() { give 1; }`, `e() { }`, all in line 1.
-fn fault_of_main(alloc: Global, body: Vec<Stmt>) -> Result<Option<RegionError>, Fail> {
-    let write = procedure(alloc, b'w', &[(Mode::Mut, b'x')], 1, Vec::new(alloc))?;
-    let read = procedure(alloc, b'r', &[(Mode::Ref, b'x')], 1, Vec::new(alloc))?;
-    let number = procedure(alloc, b'n', &[(Mode::Int, b'x')], 1, Vec::new(alloc))?;
-    let both = procedure(
-        alloc,
-        b'f',
-        &[(Mode::Mut, b'x'), (Mode::Ref, b'y')],
-        1,
-        Vec::new(alloc),
-    )?;
+/// `w(mut x) { }`, `r(ref x) { }`, `n(int x) { }`, `f(mut x, ref y) { }`, `e() { }` and `v() { give 1; }`, all in line 1.
+fn callees(alloc: Global) -> Result<Vec<Proc>, Fail> {
+    let mut all = Vec::new(alloc);
+    for (letter, mode) in [(b'w', Mode::Mut), (b'r', Mode::Ref), (b'n', Mode::Int)] {
+        all.push(procedure(alloc, letter, &[(mode, b'x')], 1, Vec::new(alloc))?)?;
+    }
+    let both = [(Mode::Mut, b'x'), (Mode::Ref, b'y')];
+    all.push(procedure(alloc, b'f', &both, 1, Vec::new(alloc))?)?;
+    all.push(procedure(alloc, b'e', &[], 1, Vec::new(alloc))?)?;
     let mut value = procedure(alloc, b'v', &[], 1, Vec::new(alloc))?;
     value.give = Some(Give {
         line: 1,
         value: Expr::Number(1),
     });
-    let main = procedure(
-        alloc,
-        b'm',
-        &[(Mode::Mut, b'a'), (Mode::Ref, b'b')],
-        2,
-        body,
-    )?;
-    let empty = procedure(alloc, b'e', &[], 1, Vec::new(alloc))?;
-    let procedures = vec![in alloc; write, read, number, both, value, empty, main]?;
+    all.push(value)?;
+    Ok(all)
+}
+
+/// The fault of a program whose `main` takes both arrays in line 2 and has this body.
+/// Before it stand the procedures of `callees`.
+fn fault_of_main(alloc: Global, body: Vec<Stmt>) -> Result<Option<RegionError>, Fail> {
+    let mut procedures = callees(alloc)?;
+    let parameters = [(Mode::Mut, b'a'), (Mode::Ref, b'b')];
+    procedures.push(procedure(alloc, b'm', &parameters, 2, body)?)?;
     let tree = program(alloc, procedures)?;
     Ok(in_program(alloc, &tree)?)
 }
@@ -174,9 +170,21 @@ fn fault_of(alloc: Global, statement: Stmt) -> Result<Option<RegionError>, Fail>
     fault_of_main(alloc, vec![in alloc; statement]?)
 }
 
+/// The fault of a fork of two procedures that are lent a region each, in lines 3 and 4.
+fn of_fork(
+    alloc: Global,
+    left: u8,
+    lent: u8,
+    right: u8,
+    again: u8,
+) -> Result<Option<RegionError>, Fail> {
+    let left = side(alloc, 0, left, &[lent], 3)?;
+    let right = side(alloc, 0, right, &[again], 4)?;
+    fault_of(alloc, Stmt::Fork(left, right))
+}
+
 #[test]
-fn lent_regions(rt: HostRuntime) -> Result<(), Fail> {
-    let alloc = rt.alloc();
+fn regions_are_lent_to_two_branches(rt: HostRuntime) -> Result<(), Fail> {
     // The procedures of two branches, their arguments, and the fault.
     let cases = [
         (b'w', b'a', b'r', b'a', Some(RegionError::LentTwice(4))),
@@ -190,32 +198,47 @@ fn lent_regions(rt: HostRuntime) -> Result<(), Fail> {
         (b'w', b'z', b'v', b'a', Some(RegionError::UnknownName(3))),
     ];
     for (left, lent, right, again, fault) in cases {
-        let fork = Stmt::Fork(
-            side(alloc, 0, left, &[lent], 3)?,
-            side(alloc, 0, right, &[again], 4)?,
-        );
         assert_eq!(rt;
-            fault_of(alloc, fork)?,
+            of_fork(rt.alloc(), left, lent, right, again)?,
             fault,
-            "{left} {lent} and {right} {again}"
+            "{left} {lent} {right} {again}"
         );
     }
+    Ok(())
+}
+
+/// The fault of a call of `f` with two regions, in line 3.
+fn of_call(alloc: Global, written: u8, read: u8) -> Result<Option<RegionError>, Fail> {
+    let call = side(alloc, 0, b'f', &[written, read], 3)?;
+    fault_of(alloc, Stmt::Call(call))
+}
+
+#[test]
+fn a_region_is_lent_twice_in_a_call(rt: HostRuntime) -> Result<(), Fail> {
     let cases = [
         (b'a', b'a', Some(RegionError::LentTwice(3))),
         (b'a', b'b', None),
         (b'b', b'b', Some(RegionError::WriteToRef(3))),
     ];
     for (written, read, fault) in cases {
-        let call = Stmt::Call(side(alloc, 0, b'f', &[written, read], 3)?);
-        assert_eq!(rt; fault_of(alloc, call)?, fault, "{written} {read}");
+        assert_eq!(rt;
+            of_call(rt.alloc(), written, read)?,
+            fault,
+            "{written} {read}"
+        );
     }
     Ok(())
 }
 
+/// The fault of a split of `a` in line 3 whose block writes a region in line 4.
+fn of_split(alloc: Global, written: u8) -> Result<Option<RegionError>, Fail> {
+    let block = vec![in alloc; put(alloc, written, 4)?]?;
+    let statement = split(alloc, 3, block)?;
+    fault_of(alloc, statement)
+}
+
 #[test]
-fn regions_in_parts(rt: HostRuntime) -> Result<(), Fail> {
-    let alloc = rt.alloc();
-    // What is written in the block of a split of `a`, and the fault.
+fn a_region_in_parts_is_hidden(rt: HostRuntime) -> Result<(), Fail> {
     let cases = [
         (b'a', Some(RegionError::HiddenRegion(4))),
         (b'l', None),
@@ -224,26 +247,28 @@ fn regions_in_parts(rt: HostRuntime) -> Result<(), Fail> {
         (b'z', Some(RegionError::UnknownName(4))),
     ];
     for (written, fault) in cases {
-        let block = vec![in alloc; put(alloc, written, 4)?]?;
-        assert_eq!(rt;
-            fault_of(alloc, split(alloc, 3, block)?)?,
-            fault,
-            "{written}"
-        );
+        assert_eq!(rt; of_split(rt.alloc(), written)?, fault, "{written}");
     }
-    // The region is whole again behind the block.
-    let behind = vec![in alloc; split(alloc, 3, Vec::new(alloc))?, put(alloc, b'a', 4)?]?;
-    assert_eq!(rt; fault_of_main(alloc, behind)?, None);
-    let twice = vec![in alloc; split(alloc, 4, Vec::new(alloc))?]?;
-    let again = split(alloc, 3, twice)?;
-    assert_eq!(rt; fault_of(alloc, again)?, Some(RegionError::TwiceNamed(4)));
     Ok(())
 }
 
+/// The fault of a block for each index of a region, in line 3, that writes a region in line 4.
+fn of_each(alloc: Global, region: u8, written: u8) -> Result<Option<RegionError>, Fail> {
+    let block = vec![in alloc; put(alloc, written, 4)?]?;
+    let statement = each(alloc, region, 3, block)?;
+    fault_of(alloc, statement)
+}
+
+/// The same with a split of `a` around what is written, in line 5.
+fn of_each_split(alloc: Global, region: u8, written: u8) -> Result<Option<RegionError>, Fail> {
+    let part = vec![in alloc; put(alloc, written, 5)?]?;
+    let block = vec![in alloc; split(alloc, 4, part)?]?;
+    let statement = each(alloc, region, 3, block)?;
+    fault_of(alloc, statement)
+}
+
 #[test]
-fn blocks_for_each_index(rt: HostRuntime) -> Result<(), Fail> {
-    let alloc = rt.alloc();
-    // The region, what is written in the block, and the fault.
+fn the_block_of_an_each_writes_its_element_alone(rt: HostRuntime) -> Result<(), Fail> {
     let cases = [
         (b'a', b'x', None),
         (b'a', b'a', Some(RegionError::HiddenRegion(4))),
@@ -251,124 +276,92 @@ fn blocks_for_each_index(rt: HostRuntime) -> Result<(), Fail> {
         (b'b', b'a', Some(RegionError::OuterWritten(4))),
     ];
     for (region, written, fault) in cases {
-        let block = vec![in alloc; put(alloc, written, 4)?]?;
-        let statement = each(alloc, region, 3, block)?;
-        assert_eq!(rt; fault_of(alloc, statement)?, fault, "{region} {written}");
+        assert_eq!(rt;
+            of_each(rt.alloc(), region, written)?,
+            fault,
+            "{region} {written}"
+        );
     }
-    // A part of a region from outside is from outside too; a part of the element is the block's own.
-    let part = vec![in alloc; put(alloc, b'l', 5)?]?;
-    let outer = vec![in alloc; split(alloc, 4, part)?]?;
-    let fault = fault_of(alloc, each(alloc, b'b', 3, outer)?)?;
-    assert_eq!(rt; fault, Some(RegionError::OuterWritten(5)));
-    let part = vec![in alloc; put(alloc, b'y', 5)?]?;
-    let own = Stmt::Each(
-        named(alloc, b'j', 4)?,
-        named(alloc, b'y', 4)?,
-        named(alloc, b'x', 4)?,
-        part,
-    );
-    let inner = vec![in alloc; own]?;
-    assert_eq!(rt; fault_of(alloc, each(alloc, b'a', 3, inner)?)?, None);
-    // The element of the one is from outside for the block of the other.
-    let part = vec![in alloc; put(alloc, b'x', 5)?]?;
-    let other = Stmt::Each(
-        named(alloc, b'j', 4)?,
-        named(alloc, b'y', 4)?,
-        named(alloc, b'b', 4)?,
-        part,
-    );
-    let inner = vec![in alloc; other]?;
-    let fault = fault_of(alloc, each(alloc, b'a', 3, inner)?)?;
-    assert_eq!(rt; fault, Some(RegionError::OuterWritten(5)));
+    let outer = of_each_split(rt.alloc(), b'b', b'l')?;
+    assert_eq!(rt; outer, Some(RegionError::OuterWritten(5)));
     Ok(())
 }
 
+/// The fault of a local `k` in line 3, whose value is a name, and of an assignment in line 4.
+fn of_local(alloc: Global, read: u8, assigned: u8) -> Result<Option<RegionError>, Fail> {
+    let first = local(alloc, b'k', 3, alone(alloc, read, 3)?)?;
+    let second = assign(alloc, assigned, 4)?;
+    fault_of_main(alloc, vec![in alloc; first, second]?)
+}
+
+/// The fault of a local `k` in line 3, and of an assignment in line 5 in the block of an `each`, behind a local `j`.
+fn of_local_in_each(alloc: Global, assigned: u8) -> Result<Option<RegionError>, Fail> {
+    let own = local(alloc, b'j', 4, Expr::Number(0))?;
+    let block = vec![in alloc; own, assign(alloc, assigned, 5)?]?;
+    let statement = each(alloc, b'a', 4, block)?;
+    let first = local(alloc, b'k', 3, element(alloc, b'a', 3)?)?;
+    fault_of_main(alloc, vec![in alloc; first, statement]?)
+}
+
 #[test]
-fn locals(rt: HostRuntime) -> Result<(), Fail> {
-    let alloc = rt.alloc();
-    // The value of `let k` in line 3, what is assigned in line 4, and the fault.
+fn locals_are_assigned_where_they_are_in_force(rt: HostRuntime) -> Result<(), Fail> {
     let cases = [
         (b'a', b'k', Some(RegionError::WrongKind(3))),
         (b'k', b'k', Some(RegionError::UnknownName(3))),
-        (b'z', b'z', Some(RegionError::UnknownName(3))),
     ];
     for (read, assigned, fault) in cases {
-        let body = vec![in alloc;
-            local(alloc, b'k', 3, alone(alloc, read, 3)?)?,
-            assign(alloc, assigned, 4)?,
-        ]?;
-        assert_eq!(rt; fault_of_main(alloc, body)?, fault, "{read} {assigned}");
+        assert_eq!(rt;
+            of_local(rt.alloc(), read, assigned)?,
+            fault,
+            "{read} {assigned}"
+        );
     }
     let cases = [
-        (b'k', None),
-        (b'a', Some(RegionError::WrongKind(4))),
-        (b'z', Some(RegionError::UnknownName(4))),
-    ];
-    for (assigned, fault) in cases {
-        let body = vec![in alloc;
-            local(alloc, b'k', 3, element(alloc, b'a', 3)?)?,
-            assign(alloc, assigned, 4)?,
-        ]?;
-        assert_eq!(rt; fault_of_main(alloc, body)?, fault, "{assigned}");
-    }
-    // A local of a block ends with it, and a second one in force has a name of its own.
-    let block = vec![in alloc; local(alloc, b'k', 3, Expr::Number(0))?]?;
-    let statement = Stmt::While(Expr::Number(0), block);
-    let body = vec![in alloc; statement, assign(alloc, b'k', 4)?]?;
-    assert_eq!(rt;
-        fault_of_main(alloc, body)?,
-        Some(RegionError::UnknownName(4))
-    );
-    let block = vec![in alloc; local(alloc, b'k', 4, Expr::Number(0))?]?;
-    let statement = Stmt::If(Expr::Number(0), Vec::new(alloc), block);
-    let body = vec![in alloc; local(alloc, b'k', 3, Expr::Number(0))?, statement]?;
-    assert_eq!(rt;
-        fault_of_main(alloc, body)?,
-        Some(RegionError::TwiceNamed(4))
-    );
-    // In the block of an `each` its own locals alone are assigned.
-    for (assigned, fault) in [
         (b'k', Some(RegionError::OuterAssigned(5))),
         (b'i', Some(RegionError::OuterAssigned(5))),
-        (b'n', None),
-    ] {
-        let block = vec![in alloc;
-            local(alloc, b'n', 4, Expr::Number(0))?,
-            assign(alloc, assigned, 5)?,
-        ]?;
-        let body = vec![in alloc;
-            local(alloc, b'k', 3, Expr::Number(0))?,
-            each(alloc, b'a', 4, block)?,
-        ]?;
-        assert_eq!(rt; fault_of_main(alloc, body)?, fault, "{assigned}");
+        (b'x', Some(RegionError::WrongKind(5))),
+        (b'j', None),
+    ];
+    for (assigned, fault) in cases {
+        assert_eq!(rt;
+            of_local_in_each(rt.alloc(), assigned)?,
+            fault,
+            "{assigned}"
+        );
     }
     Ok(())
 }
 
+/// The fault of a fork with two targets, in lines 5 and 6, behind the locals `k` and `j`.
+fn of_targets(
+    alloc: Global,
+    one: u8,
+    other: u8,
+    left: u8,
+    right: u8,
+) -> Result<Option<RegionError>, Fail> {
+    let first = local(alloc, b'k', 3, Expr::Number(0))?;
+    let second = local(alloc, b'j', 4, Expr::Number(0))?;
+    let left = side(alloc, one, left, &[], 5)?;
+    let right = side(alloc, other, right, &[], 6)?;
+    fault_of_main(
+        alloc,
+        vec![in alloc; first, second, Stmt::Fork(left, right)]?,
+    )
+}
+
 #[test]
-fn targets(rt: HostRuntime) -> Result<(), Fail> {
-    let alloc = rt.alloc();
-    // Two targets, the procedures of two branches, and the fault.
+fn targets_get_the_values_of_procedures(rt: HostRuntime) -> Result<(), Fail> {
     let cases = [
         (b'k', b'j', b'v', b'v', None),
         (b'k', b'k', b'v', b'v', Some(RegionError::TwiceTarget(6))),
         (b'k', b'j', b'e', b'v', Some(RegionError::NoValue(5))),
         (b'k', b'k', b'v', b'e', Some(RegionError::NoValue(6))),
-        (b'k', b'z', b'v', b'v', Some(RegionError::UnknownName(6))),
         (b'a', b'k', b'v', b'v', Some(RegionError::WrongKind(5))),
     ];
     for (one, other, left, right, fault) in cases {
-        let fork = Stmt::Fork(
-            side(alloc, one, left, &[], 5)?,
-            side(alloc, other, right, &[], 6)?,
-        );
-        let body = vec![in alloc;
-            local(alloc, b'k', 3, Expr::Number(0))?,
-            local(alloc, b'j', 4, Expr::Number(0))?,
-            fork,
-        ]?;
         assert_eq!(rt;
-            fault_of_main(alloc, body)?,
+            of_targets(rt.alloc(), one, other, left, right)?,
             fault,
             "{one} {other} {left} {right}"
         );
@@ -376,33 +369,37 @@ fn targets(rt: HostRuntime) -> Result<(), Fail> {
     Ok(())
 }
 
-/// The fault of a program with these procedures and inputs.
-fn fault_of_all(
-    alloc: Global,
-    procedures: Vec<Proc>,
-    inputs: Vec<ArrayInput>,
-) -> Result<Option<RegionError>, Fail> {
-    let mut tree = program(alloc, procedures)?;
-    tree.inputs = Items::from_vec(inputs);
+/// The fault of a program whose `main` takes this parameter in line 2.
+fn of_parameter(alloc: Global, mode: Mode, letter: u8) -> Result<Option<RegionError>, Fail> {
+    let main = procedure(alloc, b'm', &[(mode, letter)], 2, Vec::new(alloc))?;
+    let tree = program(alloc, vec![in alloc; main]?)?;
     Ok(in_program(alloc, &tree)?)
 }
 
 /// An input of so many values.
 fn input(alloc: Global, letter: u8, values: usize, line: u32) -> Result<ArrayInput, Fail> {
-    Ok(ArrayInput {
-        name: named(alloc, letter, line)?,
-        values: Items::from_vec(vec![in alloc; 7i64; values]?),
-    })
+    let name = named(alloc, letter, line)?;
+    let values = Items::from_vec(vec![in alloc; 7i64; values]?);
+    Ok(ArrayInput { name, values })
+}
+
+/// The fault of a program with two inputs in lines 3 and 4, the second of one value.
+fn of_inputs(
+    alloc: Global,
+    one: u8,
+    values: usize,
+    other: u8,
+) -> Result<Option<RegionError>, Fail> {
+    let main = procedure(alloc, b'm', &[], 2, Vec::new(alloc))?;
+    let mut tree = program(alloc, vec![in alloc; main]?)?;
+    let first = input(alloc, one, values, 3)?;
+    let second = input(alloc, other, 1, 4)?;
+    tree.inputs = Items::from_vec(vec![in alloc; first, second]?);
+    Ok(in_program(alloc, &tree)?)
 }
 
 #[test]
-fn main_and_inputs(rt: HostRuntime) -> Result<(), Fail> {
-    let alloc = rt.alloc();
-    assert_eq!(rt;
-        fault_of_all(alloc, Vec::new(alloc), Vec::new(alloc))?,
-        Some(RegionError::BadMain(0))
-    );
-    // A parameter of `main`, and the fault.
+fn main_takes_arrays_and_inputs_fill_them(rt: HostRuntime) -> Result<(), Fail> {
     let cases = [
         (Mode::Mut, b'a', None),
         (Mode::Ref, b'b', None),
@@ -410,65 +407,46 @@ fn main_and_inputs(rt: HostRuntime) -> Result<(), Fail> {
         (Mode::Mut, b'z', Some(RegionError::BadMain(2))),
     ];
     for (mode, letter, fault) in cases {
-        let main = procedure(alloc, b'm', &[(mode, letter)], 2, Vec::new(alloc))?;
-        let procedures = vec![in alloc; main]?;
-        assert_eq!(rt;
-            fault_of_all(alloc, procedures, Vec::new(alloc))?,
-            fault,
-            "{letter}"
-        );
+        assert_eq!(rt; of_parameter(rt.alloc(), mode, letter)?, fault, "{letter}");
     }
-    let mut main = procedure(alloc, b'm', &[], 2, Vec::new(alloc))?;
-    main.give = Some(Give {
-        line: 3,
-        value: Expr::Number(1),
-    });
-    let procedures = vec![in alloc; main]?;
-    let fault = fault_of_all(alloc, procedures, Vec::new(alloc))?;
-    assert_eq!(rt; fault, Some(RegionError::BadMain(3)));
-    // Two inputs in lines 3 and 4, and the fault.
     let cases = [
-        (b'a', 1, b'b', 1, None),
-        (b'a', 2, b'z', 1, Some(RegionError::BadInput(3))),
-        (b'a', 1, b'z', 1, Some(RegionError::BadInput(4))),
-        (b'a', 2, b'a', 1, Some(RegionError::TwiceNamed(4))),
+        (b'a', 1, b'b', None),
+        (b'a', 2, b'z', Some(RegionError::BadInput(3))),
+        (b'a', 1, b'z', Some(RegionError::BadInput(4))),
+        (b'a', 2, b'a', Some(RegionError::TwiceNamed(4))),
     ];
-    for (one, values, other, more, fault) in cases {
-        let main = procedure(alloc, b'm', &[], 2, Vec::new(alloc))?;
-        let inputs = vec![in alloc;
-            input(alloc, one, values, 3)?,
-            input(alloc, other, more, 4)?,
-        ]?;
-        let procedures = vec![in alloc; main]?;
+    for (one, values, other, fault) in cases {
         assert_eq!(rt;
-            fault_of_all(alloc, procedures, inputs)?,
+            of_inputs(rt.alloc(), one, values, other)?,
             fault,
-            "{one} {other}"
+            "{one} {values} {other}"
         );
     }
     Ok(())
 }
 
+/// The fault of two regions that are written, in lines 3 and 4.
+fn of_two(alloc: Global, first: u8, second: u8) -> Result<Option<RegionError>, Fail> {
+    let first = put(alloc, first, 3)?;
+    let second = put(alloc, second, 4)?;
+    fault_of_main(alloc, vec![in alloc; first, second]?)
+}
+
 #[test]
 fn the_least_number_and_then_the_first_line(rt: HostRuntime) -> Result<(), Fail> {
-    let alloc = rt.alloc();
-    // Two statements, in lines 3 and 4, and the fault.
     let cases = [
         (b'b', b'b', Some(RegionError::WriteToRef(3))),
         (b'b', b'z', Some(RegionError::UnknownName(4))),
         (b'z', b'y', Some(RegionError::UnknownName(3))),
+        (b'a', b'a', None),
     ];
     for (first, second, fault) in cases {
-        let body = vec![in alloc; put(alloc, first, 3)?, put(alloc, second, 4)?]?;
-        assert_eq!(rt; fault_of_main(alloc, body)?, fault, "{first} {second}");
+        assert_eq!(rt;
+            of_two(rt.alloc(), first, second)?,
+            fault,
+            "{first} {second}"
+        );
     }
-    // The second of a name is told at the first line of all, whichever kind it is of.
-    let one = procedure(alloc, b'm', &[], 5, Vec::new(alloc))?;
-    let other = procedure(alloc, b'm', &[], 6, Vec::new(alloc))?;
-    let procedures = vec![in alloc; one, other]?;
-    let inputs = vec![in alloc; input(alloc, b'a', 1, 3)?, input(alloc, b'a', 1, 4)?]?;
-    let fault = fault_of_all(alloc, procedures, inputs)?;
-    assert_eq!(rt; fault, Some(RegionError::TwiceNamed(4)));
     Ok(())
 }
 
