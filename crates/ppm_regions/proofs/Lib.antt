@@ -1,0 +1,14 @@
+pub mod Names
+pub mod Order
+pub mod Least
+pub mod UseLemmas
+pub mod CallLemmas
+pub mod Loops
+pub mod Arguments
+pub mod Rows
+pub mod Elements
+pub mod MainLemmas
+pub mod Faultless
+pub mod Inputs
+pub mod Index
+pub mod Rules

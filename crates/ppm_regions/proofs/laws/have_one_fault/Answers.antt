@@ -1,0 +1,5 @@
+use Rattle.ppm_regions.proofs.Rules.{one_fault}
+use Rattle.ppm_regions.proofs.laws.have_one_fault.Goals as goal
+
+pub returns : goal.returns
+returns c = record { law = one_fault }

@@ -1,0 +1,7 @@
+pub mod Scope
+pub mod Uses
+pub mod Faults
+pub mod Admission
+pub mod ErrorNumbers
+pub mod Correct
+pub mod Deciding
