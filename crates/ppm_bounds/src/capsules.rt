@@ -24,7 +24,11 @@ fn left_by(statement: &Stmt, left: u32) -> Option<u32>
             let rest = left_by_block(block, own)?;
             left_by_block(other, rest)
         }
-        Stmt::While(_, block) | Stmt::Split(_, _, _, _, _, block) => {
+        Stmt::While(_, block) => {
+            let own = left.checked_sub(4)?;
+            left_by_block(block, own)
+        }
+        Stmt::Split(_, _, _, _, _, block) => {
             let own = left.checked_sub(4)?;
             left_by_block(block, own)
         }

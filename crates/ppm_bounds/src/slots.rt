@@ -18,7 +18,10 @@ fn left_behind(statement: &Stmt, room: usize) -> Option<usize>
     match statement {
         Stmt::Let(_, _) => room.checked_sub(1),
         Stmt::If(_, block, other) => {
-            (names_fit(block, room) && names_fit(other, room)).then_some(room)
+            if !names_fit(block, room) {
+                return None;
+            }
+            names_fit(other, room).then_some(room)
         }
         Stmt::While(_, block) => names_fit(block, room).then_some(room),
         Stmt::Split(_, _, _, _, _, block) => {
@@ -55,8 +58,14 @@ fn puts(statement: &Stmt) -> bool
 {
     match statement {
         Stmt::Put(_, _, _) => true,
-        Stmt::If(_, block, other) => has_put(block) || has_put(other),
-        Stmt::While(_, block) | Stmt::Split(_, _, _, _, _, block) => has_put(block),
+        Stmt::If(_, block, other) => {
+            if has_put(block) {
+                return true;
+            }
+            has_put(other)
+        }
+        Stmt::While(_, block) => has_put(block),
+        Stmt::Split(_, _, _, _, _, block) => has_put(block),
         Stmt::Let(_, _)
         | Stmt::Assign(_, _)
         | Stmt::Call(_)
