@@ -5,3 +5,4 @@ pub mod Members
 pub mod Notes
 pub mod Used
 pub mod Keeping
+pub mod Sums

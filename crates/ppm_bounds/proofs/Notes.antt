@@ -5,9 +5,11 @@ use Rattle.std.specs.List.{IsDistinct}
 use Rattle.std.proofs.Math.Seq.{take-append_seam}
 use Rattle.std.proofs.lemmas.List.{append-nil, append_assoc}
 use Rattle.std.proofs.lemmas.Map.Keys.{IsDistinct-push}
+use Rattle.std.proofs.lemmas.Map.Made.{length-from_keys}
+use Rattle.ppm_tree.specs.declared.named.Named.{Named}
 use Rattle.ppm_tree.specs.Tree.{Statement, Block, Nil, Then}
-use Rattle.ppm_bounds.specs.Names.{without, used_by, free_within, free_names, lets_of}
-use Rattle.ppm_bounds.specs.Catching.{Walked, has, Notes, Declares}
+use Rattle.ppm_bounds.specs.Names.{without, used_by, free_within, free_names, lets_of, caught_count}
+use Rattle.ppm_bounds.specs.Catching.{Walked, has, Notes, Declares, HasEachOnce}
 use Rattle.ppm_bounds.proofs.Members.{same_bytes, has-append, has-without, bytes_laws}
 
 -- of no names none is noted
@@ -185,3 +187,19 @@ under_two {x = x} {y = y} {l = l} {start = start} {one = one} {two = two} {now =
         ∙ ap (λ h. has start.caught q || (not (has start.own q) && h)) (sym (has-without (x ∷ y ∷ []) l q));
       once = λ h. subst (IsDistinct bytes_eq) (sym caught) (n.once (subst (IsDistinct bytes_eq) (sym (e.caught ∙ d.caught)) h));
     }
+
+none_twice : IsDistinct bytes_eq []
+unfolding IsDistinct
+none_twice = tt
+
+-- from nothing noted, what is noted has each name once
+pub once_from : {names : List (List ℕ)} {start end : Walked} → start ≡ record { own = []; caught = [] } → Notes names start end → HasEachOnce names end.caught
+once_from {names = names} {start = start} {end = end} e n = record {
+  same = λ q. n.caught q ∙ ap (λ w. has w.caught q || (not (has w.own q) && has names q)) e;
+  distinct = n.once (subst (λ w. IsDistinct bytes_eq w.caught) (sym e) none_twice);
+}
+
+-- how many names an `each` catches
+pub counted : {names : List (List ℕ)} (i x : Named) (block : Block) → HasEachOnce (without (i.name ∷ x.name ∷ []) (free_names block)) names
+    → length names ≡ caught_count i x block
+counted {names = names} i x block h = length-from_keys bytes_laws names (without (i.name ∷ x.name ∷ []) (free_names block)) h.distinct h.same

@@ -33,11 +33,15 @@ pub record Declares (names : List (List ℕ)) (old new : Walked) : Type 0 where
 abbrev pub names_in : List Expression → List (List ℕ)
 names_in es = map (λ n. n.name) (flat_map node_names (flat_map nodes es))
 
--- it is so, unless the walk stopped there because it isn't; where memory was refused nothing is known
+-- why a walk stops there: it isn't so, or memory was refused, and nothing is known
+abbrev pub Stops : Stop → Type 0 → Type 0
+Stops stop.Past P = ¬ P
+Stops stop.NoMemory P = Unit {0}
+
+-- it is so, unless the walk stopped
 abbrev pub Tells : {A : Type 0} → Result A Stop → Type 0 → Type 0
 Tells (Ok x) P = P
-Tells (Err stop.Past) P = ¬ P
-Tells (Err stop.NoMemory) P = Unit {0}
+Tells (Err e) P = Stops e P
 
 -- the name of a target, if there is one
 abbrev pub names_of_target : Option Named → List (List ℕ)
