@@ -1,11 +1,11 @@
 -- How many capsules statements need, one after the other.
-use Rattle.std.proofs.Common.{◌≡◌, ◌<◌, ◌+◌, ◌*◌, ℕ, arith, List, [], ◌∷◌, ◌++◌, map, drop, length, get_or, sym, ap, ◌∙◌}
+use Rattle.std.proofs.Common.{◌≡◌, ◌<◌, ◌+◌, ◌*◌, ℕ, arith, List, [], ◌∷◌, ◌++◌, map, drop, length, get_or, Option, Some, None, MatchOption, ap, ◌∙◌}
 use Rattle.std.specs.List.{sum}
 use Rattle.std.proofs.lemmas.List.Sums.{sum_by-append, sum_by-cons}
 use Rattle.std.proofs.lemmas.List.{map-append}
 use Rattle.ppm_tree.specs.declared.tree.Stmt.{Stmt}
-use Rattle.ppm_tree.specs.declared.tree.Proc.{Proc}
-use Rattle.ppm_tree.specs.Tree.{Statement, Procedure, statement_of, block_of}
+use Rattle.ppm_tree.specs.declared.named.Named.{Named}
+use Rattle.ppm_tree.specs.Tree.{Expression, Statement, Block, If, While, Split, Each, Procedure, statement_of, block_of}
 use Rattle.ppm_tree.specs.Parts.{statement_and_inner, statements_in, eaches_of, gives_of}
 use Rattle.ppm_bounds.specs.Capsules.{weight, capsules_at, capsules_of}
 use Rattle.ppm_bounds.proofs.Blocks.{block_ahead}
@@ -36,3 +36,25 @@ need_by_weight (s ∷ ss) =
 -- a procedure's capsules are those of its body, four where it gives, and two
 pub need_of_procedure : (p : Procedure) → capsules_of p ≡ need (statements_in p.body) + (2 + 4 * length (gives_of p.give))
 need_of_procedure p = let h = need_by_weight (statements_in p.body) in omega (arith, h)
+
+module _ (s : Statement) where
+  pub need_while : (e : Expression) (block : Block) → s ≡ While e block → need (statement_and_inner s) ≡ 4 + need (statements_in block)
+  need_while e block is = rw is (sum_by-cons (λ x. x) 4 (map capsules_at (statements_in block)))
+
+  pub need_split : (line : ℕ) (r : Named) (e : Expression) (x y : Named) (block : Block) → s ≡ Split line r e x y block
+      → need (statement_and_inner s) ≡ 4 + need (statements_in block)
+  need_split line r e x y block is = rw is (sum_by-cons (λ x. x) 4 (map capsules_at (statements_in block)))
+
+  pub need_each : (i x r : Named) (block : Block) → s ≡ Each i x r block → need (statement_and_inner s) ≡ 22 + need (statements_in block)
+  need_each i x r block is = rw is (sum_by-cons (λ x. x) 22 (map capsules_at (statements_in block)))
+
+  pub need_if : (e : Expression) (block other : Block) → s ≡ If e block other
+      → need (statement_and_inner s) ≡ 4 + (need (statements_in block) + need (statements_in other))
+  need_if e block other is =
+      rw is (sum_by-cons (λ x. x) 4 (map capsules_at (statements_in block ++ statements_in other)) ∙ ap (λ n. 4 + n) (need-append (statements_in block) (statements_in other)))
+
+-- what is left behind some capsules, and behind more
+pub left_more : (r : Option ℕ) (own left n d m : ℕ) → own + d ≡ left → m ≡ d + n → MatchOption r (own < n) (λ rest. rest + n ≡ own)
+    → MatchOption r (left < m) (λ rest. rest + m ≡ left)
+left_more None own left n d m e f h = omega (arith, e, f, h)
+left_more (Some rest) own left n d m e f h = omega (arith, e, f, h)

@@ -1,12 +1,12 @@
 //! Whether the capsules of a program are few enough.
-ghost use Rattle.std.specs.Prelude.{◌≡◌, ◌↔◌, ◌≤◌, ◌<◌, ◌+◌, map, IsTrue, MatchOption};
+ghost use Rattle.std.specs.Prelude.{◌≡◌, ◌↔◌, ◌≤◌, ◌<◌, ◌+◌, ◌*◌, length, map, IsTrue, MatchOption};
 ghost use Rattle.std.specs.List.{sum};
-ghost use Rattle.ppm_tree.specs.Tree.{statement_of, block_of, procedure_of};
-ghost use Rattle.ppm_tree.specs.Parts.{statements_in, statement_and_inner};
+ghost use Rattle.ppm_tree.specs.Tree.{statement_of, block_of, give_of, procedure_of};
+ghost use Rattle.ppm_tree.specs.Parts.{statements_in, statement_and_inner, gives_of};
 ghost use Rattle.ppm_bounds.specs.Capsules.{capsules_of, capsules_at};
 ghost use Rattle.ppm_bounds.specs.Bounds.{capsule_limit};
 
-use ppm_tree::{Proc, Stmt};
+use ppm_tree::{Give, Proc, Stmt};
 
 /// The capsules of a code, at most.
 pub const CAPSULE_LIMIT: u32 = 65_535;
@@ -58,15 +58,25 @@ fn left_by_block(block: &[Stmt], left: u32) -> Option<u32>
     Some(rest)
 }
 
+/// How many capsules what a body gives needs.
+fn needed_to_give(give: &Option<Give>) -> u32
+    ensures { result ≡ 4 * length (gives_of (give_of give.now)) }
+{
+    match give {
+        None => 0,
+        Some(_) => 4,
+    }
+}
+
 /// How many capsules a procedure leaves of so many; `None` where it needs more.
 fn left_by_procedure(procedure: &Proc, left: u32) -> Option<u32>
     ensures { MatchOption result
         (left < capsules_of (procedure_of procedure.now))
         (λ rest. rest + capsules_of (procedure_of procedure.now) ≡ left) }
 {
-    let given = if procedure.give.is_some() { 4 } else { 0 };
-    let own = left.checked_sub(2 + given)?;
-    left_by_block(&procedure.body, own)
+    let begun = left.checked_sub(2)?;
+    let given = begun.checked_sub(needed_to_give(&procedure.give))?;
+    left_by_block(&procedure.body, given)
 }
 
 /// Whether the capsules of these procedures are few enough.
