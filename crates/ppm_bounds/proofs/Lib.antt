@@ -6,3 +6,4 @@ pub mod Notes
 pub mod Used
 pub mod Keeping
 pub mod Sums
+pub mod First

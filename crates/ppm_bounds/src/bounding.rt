@@ -10,7 +10,7 @@ use crate::bound::Bound;
 use crate::bound_error::BoundError;
 use crate::capsules::capsules_fit;
 use crate::eaches::keeps;
-use ppm_tree::{Proc, Program};
+use ppm_tree::{Proc, Program, Tree};
 use ppm_words::NoMemory;
 use std::alloc::Global;
 
@@ -35,13 +35,13 @@ fn first_past(
     Ok(None)
 }
 
-/// Whether a program is within the bounds of the compiler: 24 slots in each procedure, 10 names of outside in the block of
-/// each `each`, 65,535 capsules. Slots are counted first, then names, then capsules.
-pub fn within_bounds(alloc: Global, program: &Program) -> Result<(), BoundError>
-    ensures within { OnOk result (IsWithinBounds (tree_of program.now)) }
-    ensures refused { IfErr result (IsRefused (tree_of program.now)) }
+/// Whether a tree is within the bounds: its slots are counted first, then names, then capsules.
+pub fn tree_within_bounds(alloc: Global, tree: &Tree) -> Result<(), BoundError>
+    requires few { length tree.now.procedures ≤ procedure_limit }
+    ensures within { OnOk result (IsWithinBounds (tree_of tree.now)) }
+    ensures refused { IfErr result (IsRefused (tree_of tree.now)) }
 {
-    let procedures = program.tree().procedures.as_slice();
+    let procedures = tree.procedures.as_slice();
     if let Some(number) = first_past(alloc, Bound::Slots, procedures)? {
         return Err(BoundError::TooManySlots(number));
     }
@@ -52,4 +52,13 @@ pub fn within_bounds(alloc: Global, program: &Program) -> Result<(), BoundError>
         return Err(BoundError::TooManyCapsules);
     }
     Ok(())
+}
+
+/// Whether the compiler takes a program: 24 slots in each procedure and in the hidden one of each `each`, 10 names of
+/// outside in the block of an `each`, and 65,535 capsules, counted as four for each statement and two for each procedure.
+pub fn within_bounds(alloc: Global, program: &Program) -> Result<(), BoundError>
+    ensures within { OnOk result (IsWithinBounds (tree_of program.now)) }
+    ensures refused { IfErr result (IsRefused (tree_of program.now)) }
+{
+    tree_within_bounds(alloc, program.tree())
 }
