@@ -84,9 +84,10 @@ module _ (b : Bound) where
     -- a bound is kept where it is kept behind a statement that keeps it
     pub kept_step : {P : Type 0} → Kept (statement_and_inner (statement_of s)) → (P ↔ Kept (statements_in (block_of (drop k xs))))
         → (P ↔ Kept (statements_in (block_of (drop (k + 1) xs))))
-    kept_step own h =
-        (λ p. all-second AtMost (statement_and_inner (statement_of s)) _ (subst Kept kept_ahead (h.0 p)),
-        λ r. h.1 (subst Kept (sym kept_ahead) (all-append AtMost (statement_and_inner (statement_of s)) _ own r)))
+    kept_step own h = (
+      λ p. all-second AtMost (statement_and_inner (statement_of s)) _ (subst Kept kept_ahead (h.0 p)),
+      λ r. h.1 (subst Kept (sym kept_ahead) (all-append AtMost (statement_and_inner (statement_of s)) _ own r)),
+    )
 
     -- it isn't kept where a statement doesn't keep it
     pub kept_stop : {P : Type 0} (why : Stop) → (P ↔ Kept (statements_in (block_of (drop k xs))))

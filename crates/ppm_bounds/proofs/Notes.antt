@@ -91,7 +91,7 @@ pub then_noted : {xs ys : List (List ℕ)} {a b c : Walked} → Notes xs a b →
 then_noted {xs = xs} {ys = ys} {a = a} {b = b} {c = c} f g = record {
   own = g.own ∙ f.own;
   caught = λ q. g.caught q ∙ ap (λ o. has b.caught q || (not (has o q) && has ys q)) f.own ∙ ap (λ h. h || (not (has a.own q) && has ys q)) (f.caught q)
-    ∙ both (has a.caught q) (not (has a.own q)) (has xs q) (has ys q) ∙ ap (λ h. has a.caught q || (not (has a.own q) && h)) (sym (has-append xs ys q));
+      ∙ both (has a.caught q) (not (has a.own q)) (has xs q) (has ys q) ∙ ap (λ h. has a.caught q || (not (has a.own q) && h)) (sym (has-append xs ys q));
   once = λ d. g.once (f.once d);
 }
 
@@ -121,8 +121,8 @@ pub names_step : {all rest xs after : List (List ℕ)} {start now next : Walked}
 names_step {rest = rest} {xs = xs} {after = after} {start = start} {now = now} {next = next} e i n = record {
   own = n.own ∙ i.own;
   ahead = λ q. ap (λ o. has next.caught q || (not (has o q) && has after q)) n.own ∙ ap (λ h. h || (not (has now.own q) && has after q)) (n.caught q)
-    ∙ both (has now.caught q) (not (has now.own q)) (has xs q) (has after q)
-    ∙ ap (λ h. has now.caught q || (not (has now.own q) && h)) (sym (has-append xs after q) ∙ ap (λ l. has l q) (sym e)) ∙ i.ahead q;
+      ∙ both (has now.caught q) (not (has now.own q)) (has xs q) (has after q)
+      ∙ ap (λ h. has now.caught q || (not (has now.own q) && h)) (sym (has-append xs after q) ∙ ap (λ l. has l q) (sym e)) ∙ i.ahead q;
   once = λ d. n.once (i.once d);
 }
 
@@ -152,15 +152,15 @@ block_step {all = all} {rest = rest} {after = after} {s = s} {start = start} {no
       declared = i.declared ++ lets_of s;
       own = d.own ∙ ap (λ o. o ++ lets_of s) (n.own ∙ i.own) ∙ append_assoc start.own i.declared (lets_of s);
       ahead = λ q.
-        ap (λ c. has c q || (not (has next.own q) && has (free_names after) q)) d.caught
-        ∙ ap (λ h. h || (not (has next.own q) && has (free_names after) q)) (n.caught q)
-        ∙ ap (λ h. (has now.caught q || (not (has now.own q) && has (used_by s ++ free_within s) q)) || (not h && has (free_names after) q))
+          ap (λ c. has c q || (not (has next.own q) && has (free_names after) q)) d.caught
+          ∙ ap (λ h. h || (not (has next.own q) && has (free_names after) q)) (n.caught q)
+          ∙ ap (λ h. (has now.caught q || (not (has now.own q) && has (used_by s ++ free_within s) q)) || (not h && has (free_names after) q))
           (ap (λ o. has o q) (d.own ∙ ap (λ o. o ++ lets_of s) n.own) ∙ has-append now.own (lets_of s) q)
-        ∙ behind (has now.caught q) (has now.own q) (has (used_by s ++ free_within s) q) (has (lets_of s) q) (has (free_names after) q)
-        ∙ ap (λ h. has now.caught q || (not (has now.own q) && h))
+          ∙ behind (has now.caught q) (has now.own q) (has (used_by s ++ free_within s) q) (has (lets_of s) q) (has (free_names after) q)
+          ∙ ap (λ h. has now.caught q || (not (has now.own q) && h))
           (ap (λ h. has (used_by s ++ free_within s) q || h) (sym (has-without (lets_of s) (free_names after) q))
           ∙ sym (has-append (used_by s ++ free_within s) (without (lets_of s) (free_names after)) q) ∙ ap (λ b. has (free_names b) q) (sym e))
-        ∙ i.ahead q;
+          ∙ i.ahead q;
       once = λ x. subst (IsDistinct bytes_eq) (sym d.caught) (n.once (i.once x));
     }
 
@@ -169,7 +169,7 @@ pub block_end : {all rest : Block} {start now end : Walked} → rest ≡ Nil →
 block_end {rest = rest} {start = start} {now = now} e i own caught = record {
   own = own ∙ ap (take (length start.own)) i.own ∙ take-append_seam start.own i.declared;
   caught = λ q. ap (λ l. has l q) caught ∙ sym (nothing (has now.caught q) (has now.own q))
-    ∙ ap (λ b. has now.caught q || (not (has now.own q) && has (free_names b) q)) (sym e) ∙ i.ahead q;
+      ∙ ap (λ b. has now.caught q || (not (has now.own q) && has (free_names b) q)) (sym e) ∙ i.ahead q;
   once = λ d. subst (IsDistinct bytes_eq) (sym caught) (i.once d);
 }
 
@@ -181,10 +181,10 @@ under_two {x = x} {y = y} {l = l} {start = start} {one = one} {two = two} {now =
     record {
       own = own ∙ ap (take (length start.own)) (n.own ∙ inner ∙ append_assoc start.own (x ∷ []) (y ∷ [])) ∙ take-append_seam start.own (x ∷ y ∷ []);
       caught = λ q. ap (λ c. has c q) caught ∙ n.caught q ∙ ap (λ c. has c q || (not (has two.own q) && has l q)) (e.caught ∙ d.caught)
-        ∙ ap (λ o. has start.caught q || (not o && has l q))
+          ∙ ap (λ o. has start.caught q || (not o && has l q))
           (ap (λ o. has o q) inner ∙ has-append (start.own ++ x ∷ []) (y ∷ []) q ∙ ap (λ h. h || (bytes_eq q y || false)) (has-append start.own (x ∷ []) q))
-        ∙ under (has start.caught q) (has start.own q) (bytes_eq q x) (bytes_eq q y) (has l q)
-        ∙ ap (λ h. has start.caught q || (not (has start.own q) && h)) (sym (has-without (x ∷ y ∷ []) l q));
+          ∙ under (has start.caught q) (has start.own q) (bytes_eq q x) (bytes_eq q y) (has l q)
+          ∙ ap (λ h. has start.caught q || (not (has start.own q) && h)) (sym (has-without (x ∷ y ∷ []) l q));
       once = λ h. subst (IsDistinct bytes_eq) (sym caught) (n.once (subst (IsDistinct bytes_eq) (sym (e.caught ∙ d.caught)) h));
     }
 

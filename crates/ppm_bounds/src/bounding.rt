@@ -15,11 +15,7 @@ use ppm_words::NoMemory;
 use std::alloc::Global;
 
 /// The number of the first procedure that doesn't keep a bound, if there is one.
-fn first_past(
-    alloc: Global,
-    bound: Bound,
-    procedures: &[Proc],
-) -> Result<Option<u32>, NoMemory>
+fn first_past(alloc: Global, bound: Bound, procedures: &[Proc]) -> Result<Option<u32>, NoMemory>
     requires few { length procedures.now ≤ procedure_limit }
     ensures { IfOk result (λ first. MatchOption first
         (AllByRecursion (Keeps bound) (map procedure_of procedures.now))

@@ -14,11 +14,10 @@ returns-then-not-branch c =
 -- one more keeps the bound
 pub loop-procedure-preserved : goal.loop-procedure-preserved
 loop-procedure-preserved c =
-    let kept = c.in_ok-keeps.ensures.0 c.if-not-branch.false in
-    (
+    let kept = c.in_ok-keeps.ensures.0 c.if-not-branch.false in (
       ap (λ n. n + 1) c.loop-procedure.invariant.0,
       all_later c.args.bound c.args.procedures.now c.loop-procedure.procedure-index c.procedure-item.result c.loop-procedure-test.true c.procedure-item.is
-        (map procedure_of c.args.procedures.now) kept c.loop-procedure.invariant.1,
+          (map procedure_of c.args.procedures.now) kept c.loop-procedure.invariant.1,
       first_later c.args.bound c.args.procedures.now c.loop-procedure.procedure-index c.procedure-item.result c.loop-procedure-test.true c.procedure-item.is
-        (map procedure_of c.args.procedures.now) kept c.loop-procedure.invariant.2,
+          (map procedure_of c.args.procedures.now) kept c.loop-procedure.invariant.2,
     )

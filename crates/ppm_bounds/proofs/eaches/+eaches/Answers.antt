@@ -97,12 +97,12 @@ in_block-returns-in_err-in_blocks_of-clause-kept t c =
 -- one more statement
 pub in_block-loop-statement-preserved : goal.in_block-loop-statement-preserved
 in_block-loop-statement-preserved t c = (
-      block_step (block_ahead c.args.block.now c.loop-statement.statement-index c.statement-item.result c.loop-statement-test.true c.statement-item.is)
+  block_step (block_ahead c.args.block.now c.loop-statement.statement-index c.statement-item.result c.loop-statement-test.true c.statement-item.is)
       c.loop-statement.invariant.0 c.in_ok-used.ensures c.in_ok-in_blocks_of.ensures.names c.in_ok-declare_lets.ensures,
-      c.loop-statement.invariant.1,
-      kept_step c.args.bound c.args.block.now c.loop-statement.statement-index c.statement-item.result c.loop-statement-test.true c.statement-item.is
+  c.loop-statement.invariant.1,
+  kept_step c.args.bound c.args.block.now c.loop-statement.statement-index c.statement-item.result c.loop-statement-test.true c.statement-item.is
       c.in_ok-in_blocks_of.ensures.kept c.loop-statement.invariant.2,
-    )
+)
 
 -- the hidden procedure passes the bound
 pub caught_by-returns-then-not-hidden_keeps-clause-kept : goal.caught_by-returns-then-not-hidden_keeps-clause-kept
@@ -122,8 +122,7 @@ caught_by-returns-clause-names t c =
 pub caught_by-returns-clause-kept : goal.caught_by-returns-clause-kept
 caught_by-returns-clause-kept t c =
     let once = once_from c.new-walk.ensures c.in_ok-in_block_with.ensures.names in
-    let count = c.len.ensures ∙ ap length c.into_caught-caught.ensures ∙ counted c.args.index.now c.args.part.now (block_of c.args.block.now) once in
-    (
+    let count = c.len.ensures ∙ ap length c.into_caught-caught.ensures ∙ counted c.args.index.now c.args.part.now (block_of c.args.block.now) once in (
       c.in_ok-in_block_with.ensures.kept,
       subst (λ n. hidden_count c.args.bound n (block_of c.args.block.now) ≤ limit_of c.args.bound) count (c.hidden_keeps.ensures.0 c.if-not-hidden_keeps.false),
     )

@@ -11,14 +11,14 @@ use Rattle.ppm_bounds.proofs.walk.Walk.used.Goals as goal
 pub returns-in_ok-target-in-Call : goal.returns-in_ok-target-in-Call
 returns-in_ok-target-in-Call c =
     on_ok_weaker c.arguments.result (λ n.
-      noted_same (used_by_call c.in-Call.side ∙ ap (λ s. used_by (statement_of s)) (sym c.in-Call.is))
-      (then_noted c.in_ok-target-in-Call.ensures (noted_same (ap (λ l. names_in (map (λ a. expression_of a.value) l)) c.as_slice.ensures) n))) c.arguments.ensures
+    noted_same (used_by_call c.in-Call.side ∙ ap (λ s. used_by (statement_of s)) (sym c.in-Call.is))
+    (then_noted c.in_ok-target-in-Call.ensures (noted_same (ap (λ l. names_in (map (λ a. expression_of a.value) l)) c.as_slice.ensures) n))) c.arguments.ensures
 
 -- both targets, and then the arguments of both sides
 pub returns-in_ok-arguments-in-Fork : goal.returns-in_ok-arguments-in-Fork
 returns-in_ok-arguments-in-Fork c =
     on_ok_weaker c.arguments-in-Fork-2.result (λ n.
-      noted_same (used_by_fork c.in-Fork.left c.in-Fork.right ∙ ap (λ s. used_by (statement_of s)) (sym c.in-Fork.is))
-      (then_noted (then_noted (then_noted c.in_ok-target-in-Fork.ensures c.in_ok-target-in-Fork-2.ensures)
-      (noted_same (ap (λ l. names_in (map (λ a. expression_of a.value) l)) c.as_slice-in-Fork.ensures) c.in_ok-arguments-in-Fork.ensures))
-      (noted_same (ap (λ l. names_in (map (λ a. expression_of a.value) l)) c.as_slice-in-Fork-2.ensures) n))) c.arguments-in-Fork-2.ensures
+    noted_same (used_by_fork c.in-Fork.left c.in-Fork.right ∙ ap (λ s. used_by (statement_of s)) (sym c.in-Fork.is))
+    (then_noted (then_noted (then_noted c.in_ok-target-in-Fork.ensures c.in_ok-target-in-Fork-2.ensures)
+    (noted_same (ap (λ l. names_in (map (λ a. expression_of a.value) l)) c.as_slice-in-Fork.ensures) c.in_ok-arguments-in-Fork.ensures))
+    (noted_same (ap (λ l. names_in (map (λ a. expression_of a.value) l)) c.as_slice-in-Fork-2.ensures) n))) c.arguments-in-Fork-2.ensures
