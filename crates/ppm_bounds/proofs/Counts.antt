@@ -1,5 +1,5 @@
 -- Whether counts of a block are within a number, statement by statement.
-use Rattle.std.proofs.Common.{◌≡◌, ◌↔◌, ◌≤◌, ◌<◌, ◌+◌, ℕ, arith, max, Bool, true, false, IsTrue, Option, MatchOption, List, drop, length, get_or, refl, sym, ap, subst, ◌∙◌}
+use Rattle.std.proofs.Common.{◌≡◌, ◌↔◌, ◌≤◌, ◌<◌, ◌+◌, ℕ, arith, max, Bool, true, false, IsTrue, Option, MatchOption, List, drop, length, get_or, refl, sym, ap, subst}
 use Rattle.std.specs.Bool.{then_some}
 use Rattle.std.proofs.Math.Decide.{dec_le}
 use Rattle.std.proofs.Math.Nat.{le-max_left, le-max_right, max-le, lt_of_not-le}

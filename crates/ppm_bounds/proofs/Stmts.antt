@@ -1,11 +1,11 @@
 -- The statement that a declared one holds, by the lists of its blocks.
-use Rattle.std.proofs.Common.{◌≡◌, refl, ap, ◌∙◌, ℕ, List, Vec, Global}
+use Rattle.std.proofs.Common.{◌≡◌, refl, ap, ◌∙◌, ℕ, Vec, Global}
 use mathlib.Core.Former.{Count}
 use Rattle.ppm_tree.specs.declared.named.Named.{Named}
 use Rattle.ppm_tree.specs.declared.tree.Expr.{Expr}
 use Rattle.ppm_tree.specs.declared.tree.Stmt.{Stmt, Row_of-Stmt, end_of-Stmt, more_of-Stmt, items-the_row-Stmt, items_hidden-the_row-Stmt-0}
 use Rattle.ppm_tree.specs.declared.tree.Stmt.TheVariants as stmt
-use Rattle.ppm_tree.specs.Tree.{Statement, Block, Then, If, While, Split, Each, expression_of, statement_of, block_of, row_block}
+use Rattle.ppm_tree.specs.Tree.{Then, If, While, Split, Each, expression_of, statement_of, block_of, row_block}
 
 row_is : (n : Count) (row : Row_of-Stmt n) → row_block row ≡ block_of (items-the_row-Stmt n row)
 row_is n end_of-Stmt = refl

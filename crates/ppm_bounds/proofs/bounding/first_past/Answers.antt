@@ -1,4 +1,4 @@
-use Rattle.std.proofs.Common.{◌≡◌, ◌+◌, map, true≢false, arith, sym, ap, subst, ◌∙◌}
+use Rattle.std.proofs.Common.{◌+◌, map, true≢false, sym, ap, subst, ◌∙◌}
 use Rattle.ppm_tree.specs.Tree.{procedure_of}
 use Rattle.ppm_bounds.specs.Refusals.{IsFirstPast}
 use Rattle.ppm_bounds.proofs.First.{first_here, first_later, all_later}

@@ -1,4 +1,4 @@
-use Rattle.std.proofs.Common.{◌≡◌, length, arith, ap}
+use Rattle.std.proofs.Common.{length, arith, ap}
 use Rattle.ppm_bounds.proofs.First.{few_procedures}
 use Rattle.ppm_bounds.proofs.bounding.within_bounds.Goals as goal
 

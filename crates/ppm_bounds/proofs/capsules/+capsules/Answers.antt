@@ -1,4 +1,4 @@
-use Rattle.std.proofs.Common.{◌≡◌, ◌+◌, sym, ap, ◌∙◌, arith}
+use Rattle.std.proofs.Common.{◌+◌, sym, ap, ◌∙◌, arith}
 use Rattle.ppm_tree.specs.Tree.{If, While, Split, Each, statement_of, block_of, expression_of}
 use Rattle.ppm_tree.specs.Parts.{statements_in, statement_and_inner}
 use Rattle.ppm_bounds.proofs.Stmts.{if_is, while_is, split_is, each_is}

@@ -1,4 +1,4 @@
-use Rattle.std.proofs.Common.{◌≡◌, ◌+◌, ◌*◌, length, ap, arith}
+use Rattle.std.proofs.Common.{◌+◌, ◌*◌, length, ap, arith}
 use Rattle.ppm_tree.specs.Tree.{block_of, give_of, procedure_of}
 use Rattle.ppm_tree.specs.Parts.{statements_in, gives_of}
 use Rattle.ppm_bounds.specs.Capsules.{capsules_of}

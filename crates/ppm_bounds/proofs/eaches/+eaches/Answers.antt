@@ -1,14 +1,13 @@
-use Rattle.std.proofs.Common.{◌≡◌, ◌↔◌, ◌≤◌, ◌∷◌, [], IsTrue, length, take, true≢false, sym, ap, subst, ◌∙◌}
+use Rattle.std.proofs.Common.{◌≡◌, ◌≤◌, ◌∷◌, [], length, take, true≢false, sym, ap, subst, ◌∙◌}
 use Rattle.std.proofs.lemmas.Result.{on_ok_weaker}
 use Rattle.ppm_tree.specs.Tree.{If, While, Split, Each, statement_of, block_of, expression_of}
-use Rattle.ppm_tree.specs.Parts.{statements_in, statement_and_inner}
-use Rattle.ppm_bounds.specs.Names.{without, free_names, free_within, caught_count}
-use Rattle.ppm_bounds.specs.Bounds.{KeepsAt, limit_of, hidden_count}
-use Rattle.ppm_bounds.specs.Catching.{Stops, Tells, HasEachOnce}
+use Rattle.ppm_bounds.specs.Names.{without, free_names, free_within}
+use Rattle.ppm_bounds.specs.Bounds.{limit_of, hidden_count}
+use Rattle.ppm_bounds.specs.Catching.{HasEachOnce}
 use Rattle.ppm_bounds.proofs.Stmts.{if_is, while_is, split_is, each_is}
 use Rattle.ppm_bounds.proofs.Blocks.{block_ahead}
 use Rattle.ppm_bounds.proofs.Notes.{then_noted, noted_same, noted_alike, block_step, under_two, once_from, counted}
-use Rattle.ppm_bounds.proofs.Keeping.{tells_same, tells_stop, exit_by, kept_while, kept_split, kept_if_first, kept_if, kept_each, kept_step, kept_stop}
+use Rattle.ppm_bounds.proofs.Keeping.{tells_stop, exit_by, kept_while, kept_split, kept_if_first, kept_if, kept_each, kept_step, kept_stop}
 use Rattle.ppm_bounds.proofs.eaches.+eaches.Goals as goal
 
 -- two names come in force, the block is gone through, and they go out of force

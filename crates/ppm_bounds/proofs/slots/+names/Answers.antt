@@ -1,4 +1,4 @@
-use Rattle.std.proofs.Common.{◌≡◌, ◌+◌, ◌∙◌, sym, ap, max, arith, length}
+use Rattle.std.proofs.Common.{◌+◌, ◌∙◌, sym, ap, max, arith, length}
 use Rattle.ppm_tree.specs.Tree.{statement_of, block_of}
 use Rattle.ppm_bounds.specs.Names.{lets_of}
 use Rattle.ppm_bounds.specs.Slots.{most_within, most_in_force}

@@ -1,4 +1,4 @@
-use Rattle.std.proofs.Common.{◌≡◌, ◌∙◌, sym, ap, arith}
+use Rattle.std.proofs.Common.{◌∙◌, sym, ap, arith}
 use Rattle.ppm_tree.specs.Tree.{block_of}
 use Rattle.ppm_bounds.specs.Slots.{puts, has_put}
 use Rattle.ppm_bounds.proofs.Stmts.{if_is, while_is, split_is}

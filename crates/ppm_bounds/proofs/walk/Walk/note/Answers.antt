@@ -1,4 +1,4 @@
-use Rattle.std.proofs.Common.{◌≡◌, [], ◌∷◌, ◌++◌, sym, ap, ◌∙◌}
+use Rattle.std.proofs.Common.{[], ◌∷◌, ◌++◌, sym, ap, ◌∙◌}
 use Rattle.ppm_bounds.specs.Catching.{has}
 use Rattle.ppm_bounds.proofs.Notes.{noted_before, noted_now}
 use Rattle.std.proofs.lemmas.Result.{on_ok_weaker}
