@@ -1,0 +1,6 @@
+pub mod Names
+pub mod Slots
+pub mod Capsules
+pub mod Bounds
+pub mod Refusals
+pub mod Catching

@@ -1,0 +1,22 @@
+//! The bounds that the compiler sets on a program: slots of a procedure, names of outside in an `each`, and capsules.
+//! Model: counts on trees (`specs/Slots`, `specs/Names`, `specs/Capsules`) and their limits (`specs/Bounds`).
+//! Contract: `within_bounds` takes exactly the programs within all bounds, and names the fault of any other
+//! (`specs/Refusals`).
+//! Stands on `ppm_tree`; the compiler and the command `serial` are to call it.
+//! The names of outside are the free names of a block, as in closure conversion; the counts are this project's.
+#![tactic(auto)]
+
+mod bound;
+mod bound_error;
+mod bounding;
+mod capsules;
+mod eaches;
+mod names;
+mod slots;
+mod stop;
+#[cfg(test)]
+mod tests;
+mod walk;
+
+pub use bound_error::BoundError;
+pub use bounding::within_bounds;
