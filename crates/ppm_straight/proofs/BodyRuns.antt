@@ -40,7 +40,7 @@ has_literals (tree.Number z) h = All-head IsLiteral z [] (All-head IsNode (tree.
 has_literals (tree.Name x) h = tt
 has_literals (tree.Element x index) h = has_literals index (All-tail IsNode (tree.Element x index) (nodes index) h)
 has_literals (tree.Len x) h = tt
-has_literals (tree.Minus line e) h = tt
+has_literals (tree.Minus line e) h = has_literals e (All-tail IsNode (tree.Minus line e) (nodes e) h)
 has_literals (tree.Binary o line left right) h =
     let parts = All-tail IsNode (tree.Binary o line left right) (nodes left ++ nodes right) h in
     (has_literals left (All-front IsNode (nodes left) (nodes right) parts), has_literals right (All-behind IsNode (nodes left) (nodes right) parts))
@@ -51,7 +51,7 @@ reach_small (tree.Number z) d = (omega arith, omega arith)
 reach_small (tree.Name x) d = (omega arith, omega arith)
 reach_small (tree.Element x index) d = let h = reach_small index d in (omega arith, omega arith)
 reach_small (tree.Len x) d = (omega arith, omega arith)
-reach_small (tree.Minus line e) d = (omega arith, omega arith)
+reach_small (tree.Minus line e) d = let h = reach_small e d in (omega arith, omega arith)
 reach_small (tree.Binary o line left right) d =
     let h = reach_small left d in
     let k = reach_small right (d + 1) in

@@ -9,10 +9,10 @@ use Rattle.ppm_tree.specs.declared.operator.Operator.{Operator}
 use Rattle.ppm_tree.specs.declared.operator.Operator.TheVariants as operator
 use Rattle.ppm_tree.specs.Tree.{Expression}
 use Rattle.ppm_tree.specs.Tree as tree
-use Rattle.ppm_tree.specs.Values.{applied, decided}
+use Rattle.ppm_tree.specs.Values.{applied, decided, negated}
 use Rattle.ppm_tree.specs.State.{TrapAt, Frame, Arrays, Region, then_with, at_line, tested, unless_decided, index_in, array_at, word_at, evaluate}
 use Rattle.ppm_straight.specs.declared.code.Instr.{Instr}
-use Rattle.ppm_straight.specs.declared.code.Instr.TheVariants.{Apply, Get}
+use Rattle.ppm_straight.specs.declared.code.Instr.TheVariants.{Negate, Apply, Get}
 use Rattle.ppm_straight.specs.Straight.{IsCompiled, IsStraightExpression}
 use Rattle.ppm_straight.specs.Code.{Names, expression_code, reach}
 use Rattle.ppm_straight.specs.Machine.{State, register, with_register, step, steps, base_of, total_of, whole}
@@ -30,8 +30,9 @@ Resolves lengths frame names = (x : List ℕ) → StandsFor lengths (frame.regio
 
 -- an operator that is compiled is not decided by its left operand alone
 pub not_decided : (o : Operator) → IsCompiled o → (x : ℤ) → decided o x ≡ None
-not_decided operator.Add h x = refl
-not_decided o h x = absurd h
+not_decided operator.And h x = absurd h
+not_decided operator.Or h x = absurd h
+not_decided o h x = refl
 
 -- the steps of two stretches are those of the one and then of the other
 pub steps-append : (lengths : List ℕ) (a b : List Instr) (s : State) →
@@ -161,13 +162,27 @@ apply_right lengths s t u o d line x y within l m = go (at_line line (applied o 
         (m.size ∙ l.size) (m.slots ∙ l.slots) (m.words ∙ l.words),
   )
 
+-- a change of sign
+negate_right : (lengths : List ℕ) (s t : State) (d line : ℕ) (x : ℤ) → d < length t.registers → Leaves d x s t →
+    Ends lengths (Negate d line ∷ []) t s d (at_line line (negated x))
+negate_right lengths s t d line x within l = go (at_line line (negated x)) refl where
+  put : Result ℤ TrapAt → Result State TrapAt
+  put r = then_with (then_with r (λ z. Ok (with_register t d z))) (λ v. Ok v)
+
+  here : steps lengths (Negate d line ∷ []) t ≡ put (at_line line (negated x))
+  here = ap (λ a. put (at_line line (negated a))) l.value
+
+  go : (r : Result ℤ TrapAt) → at_line line (negated x) ≡ r → Ends lengths (Negate d line ∷ []) t s d r
+  go (Err stop) e = here ∙ ap put e
+  go (Ok z) e = (with_register t d z, here ∙ ap put e, set_leaves s t d z within l.below l.size l.slots l.words)
+
 -- an expression takes the register for its value
 reach_above : (e : Expression) (d : ℕ) → d < reach d e
 reach_above (tree.Number z) d = omega arith
 reach_above (tree.Name x) d = omega arith
 reach_above (tree.Element x index) d = reach_above index d
 reach_above (tree.Len x) d = omega arith
-reach_above (tree.Minus line e) d = omega arith
+reach_above (tree.Minus line e) d = reach_above e d
 reach_above (tree.Binary o line left right) d = let h = reach_above left d in omega arith
 
 -- the code of a straight expression leaves its value
@@ -188,6 +203,11 @@ expression_right lengths frame names (tree.Element x index) d s room enough stra
     let same = index_goes_on lengths (frame.regions x.name) a x.line z (λ k. word_at arrays (frame.regions x.name) k)
     (λ k. get_or (array_at arrays a) k (pos 0)) (named x.name) (λ k h. word_same lengths (frame.regions x.name) a k arrays (named x.name) h) in
     subst (Ends lengths (Get d a d x.line ∷ []) t s d) (sym same) (get_right lengths s t a d x.line z enough within l))
+expression_right lengths frame names (tree.Minus line e) d s room enough straight named =
+    let above = reach_above e d in
+    then_right lengths (expression_code names d e) (Negate d line ∷ []) s s s d d _ _
+    (expression_right lengths frame names e d s room enough straight named)
+    (λ z t l. let within : d < length t.registers = omega (arith, l.size) in negate_right lengths s t d line z within l)
 expression_right lengths frame names (tree.Binary o line left right) d s room enough straight named =
     let all : max (reach d left) (max (d + 2) (reach (d + 1) right)) ≤ length s.registers = room in
     let room_left : reach d left ≤ length s.registers = omega arith in

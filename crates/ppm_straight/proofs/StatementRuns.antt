@@ -1,8 +1,10 @@
 -- The two capsules of an assignment do what the assignment means.
 use Rattle.std.proofs.Common.{◌≡◌, ◌≢◌, ℕ, zero, suc, ◌+◌, ◌<◌, ◌≤◌, ◌^◌, Bool, true, false, List, [], ◌∷◌, ◌++◌}
 use Rattle.std.proofs.Common.{length, get_or, set, replicate, Result, Ok, Err, refl, sym, ap, ◌∙◌, subst, arith, cond, lit<}
-use Rattle.std.specs.Prelude.{ℤ, pos, negsuc, ◌+ℤ◌, FitsSigned, if◌then◌else◌}
+use Rattle.std.specs.Prelude.{ℤ, pos, negsuc, ◌+ℤ◌, ◌-ℤ◌, ◌*ℤ◌, neg_ℤ, int_div, int_rem, unsigned_abs, FitsSigned, if◌then◌else◌}
 use Rattle.std.specs.Int.{w64}
+use Rattle.std.specs.Ordering.{int_eq}
+use Rattle.std.proofs.lemmas.Int.{rem_below}
 use Rattle.std.proofs.lemmas.List.{get_or-set_same, get_or-set_other, length-set, length-replicate}
 use Rattle.ppm_words.specs.TwosComplement.{word_of, value_of}
 use Rattle.ppm_words.proofs.TwosComplementLemmas.{value_of-word_of, word_of-below, value_of-fits}
@@ -12,7 +14,7 @@ use Rattle.ppm_tree.specs.declared.operator.Operator.TheVariants as operator
 use Rattle.ppm_tree.specs.declared.named.Named.{Named}
 use Rattle.ppm_tree.specs.Tree.{Expression}
 use Rattle.ppm_tree.specs.Tree as tree
-use Rattle.ppm_tree.specs.Values.{fits, applied, decided}
+use Rattle.ppm_tree.specs.Values.{fits, truth, divided, applied, decided, negated}
 use Rattle.ppm_tree.specs.Limits.{IsLiteral}
 use Rattle.ppm_tree.specs.State.{TrapAt, Frame, Arrays, then_with, at_line, unless_decided, index_in, array_at, word_at, with_word, evaluate}
 use Rattle.ppm_straight.specs.declared.code.Instr.{Instr}
@@ -28,6 +30,7 @@ use Rattle.ppm_straight.proofs.ExpressionRuns.{word_same, expression_right}
 abbrev pub HasLiterals : Expression → Type 0
 HasLiterals (tree.Number z) = IsLiteral z
 HasLiterals (tree.Element x index) = HasLiterals index
+HasLiterals (tree.Minus line e) = HasLiterals e
 HasLiterals (tree.Binary o line left right) = HasLiterals left × HasLiterals right
 HasLiterals _ = Unit {0}
 
@@ -77,10 +80,52 @@ in_range_fits line x z e = go (fits x) refl e where
   go true t h = let same : x ≡ z = cc in subst (λ v. FitsSigned w64 v) same (fits_from_test x t)
   go false t h = cc
 
--- what an operation that is compiled gives is a value
-applied_fits : (o : Operator) (line : ℕ) (x y z : ℤ) → IsCompiled o → at_line line (applied o x y) ≡ Ok z → FitsSigned w64 z
-applied_fits operator.Add line x y z h e = in_range_fits line (x +ℤ y) z e
-applied_fits o line x y z h e = absurd h
+-- 0 and 1 are values
+truth_fits : (line : ℕ) (b : Bool) (z : ℤ) → at_line line (Ok (truth b)) ≡ Ok z → FitsSigned w64 z
+truth_fits line b z e = let same : truth b ≡ z = cc in subst (λ v. FitsSigned w64 v) same (go b) where
+  go : (c : Bool) → FitsSigned w64 (truth c)
+  go true = record { sfits = omega arith }
+  go false = record { sfits = omega arith }
+
+-- what is nearer to 0 than a value is a value
+nearer_fits : (r d : ℤ) → unsigned_abs r < unsigned_abs d → FitsSigned w64 d → FitsSigned w64 r
+nearer_fits (pos n) (pos m) h f = record { sfits = omega (arith, h, f.sfits) }
+nearer_fits (pos n) (negsuc m) h f = record { sfits = omega (arith, h, f.sfits) }
+nearer_fits (negsuc n) (pos m) h f = record { sfits = omega (arith, h, f.sfits) }
+nearer_fits (negsuc n) (negsuc m) h f = record { sfits = omega (arith, h, f.sfits) }
+
+-- a number other than 0 is away from it
+is_away : (d : ℤ) → int_eq d (pos 0) ≡ false → 0 < unsigned_abs d
+is_away (pos zero) e = cc
+is_away (pos (suc n)) e = omega arith
+is_away (negsuc n) e = omega arith
+
+-- what a division gives is a value where it is one for a divisor other than 0 and a quotient in range
+divided_fits : (line : ℕ) (x y v z : ℤ) → (int_eq y (pos 0) ≡ false → fits (int_div x y) ≡ true → FitsSigned w64 v) →
+    at_line line (divided x y v) ≡ Ok z → FitsSigned w64 z
+divided_fits line x y v z own e = go (int_eq y (pos 0)) refl (fits (int_div x y)) refl e where
+  go : (b : Bool) → int_eq y (pos 0) ≡ b → (c : Bool) → fits (int_div x y) ≡ c →
+      at_line line (cond b (Err trap.DivZero) (cond c (Ok v) (Err trap.Overflow))) ≡ Ok z → FitsSigned w64 z
+  go true u c w h = cc
+  go false u true w h = let same : v ≡ z = cc in subst (λ k. FitsSigned w64 k) same (own u w)
+  go false u false w h = cc
+
+-- what an operation that is compiled gives is a value, if its right operand is one
+applied_fits : (o : Operator) (line : ℕ) (x y z : ℤ) → IsCompiled o → FitsSigned w64 y → at_line line (applied o x y) ≡ Ok z → FitsSigned w64 z
+applied_fits operator.Add line x y z h f e = in_range_fits line (x +ℤ y) z e
+applied_fits operator.Sub line x y z h f e = in_range_fits line (x -ℤ y) z e
+applied_fits operator.Mul line x y z h f e = in_range_fits line (x *ℤ y) z e
+applied_fits operator.Div line x y z h f e = divided_fits line x y (int_div x y) z (λ u w. fits_from_test (int_div x y) w) e
+applied_fits operator.Rem line x y z h f e =
+    divided_fits line x y (int_rem x y) z (λ u w. nearer_fits (int_rem x y) y (rem_below x y (is_away y u)) f) e
+applied_fits operator.Eq line x y z h f e = truth_fits line _ z e
+applied_fits operator.Ne line x y z h f e = truth_fits line _ z e
+applied_fits operator.Lt line x y z h f e = truth_fits line _ z e
+applied_fits operator.Le line x y z h f e = truth_fits line _ z e
+applied_fits operator.Gt line x y z h f e = truth_fits line _ z e
+applied_fits operator.Ge line x y z h f e = truth_fits line _ z e
+applied_fits operator.And line x y z h f e = absurd h
+applied_fits operator.Or line x y z h f e = absurd h
 
 -- the machine's state is one that a capsule may begin in
 pub record IsSound (lengths : List ℕ) (s : State) : Type 0 where
@@ -104,13 +149,17 @@ value_fits lengths frame names s (tree.Element x index) z sound literals straigh
     subst (λ v. FitsSigned w64 v)
     (sym (word_same lengths r a k.0 arrays (named x.name) within ∙ get_or-array_at lengths s.words a k.0 sound.enough within) ∙ same)
     (value_of-fits _ (sound.fits (base_of lengths a + k.0)))
+value_fits lengths frame names s (tree.Minus line operand) z sound literals straight named e =
+    let v = then_ok (evaluate frame (arrays_of lengths s.words) operand) (λ v. at_line line (negated v)) z e in
+    in_range_fits line (neg_ℤ v.0) z v.2
 value_fits lengths frame names s (tree.Binary o line left right) z sound literals straight named e =
     let arrays = arrays_of lengths s.words in
     let both = λ (v : ℤ). then_with (evaluate frame arrays right) (λ w. at_line line (applied o v w)) in
     let v = then_ok (evaluate frame arrays left) (λ v. unless_decided (decided o v) (both v)) z e in
     let whole : both v.0 ≡ Ok z = sym (ap (λ q. unless_decided q (both v.0)) (not_decided o straight.0 v.0)) ∙ v.2 in
     let w = then_ok (evaluate frame arrays right) (λ w. at_line line (applied o v.0 w)) z whole in
-    applied_fits o line v.0 w.0 z straight.0 w.2
+    let right_fits = value_fits lengths frame names s right w.0 sound literals.1 straight.2 named w.1 in
+    applied_fits o line v.0 w.0 z straight.0 right_fits w.2
 value_fits lengths frame names s e z sound literals straight named h = absurd straight
 
 -- a run of the machine leaves these arrays, or stops

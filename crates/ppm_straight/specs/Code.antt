@@ -7,7 +7,7 @@ use Rattle.ppm_tree.specs.declared.tree.Parameter.{Parameter}
 use Rattle.ppm_tree.specs.Tree.{Expression, Statement}
 use Rattle.ppm_tree.specs.Tree as tree
 use Rattle.ppm_straight.specs.declared.code.Instr.{Instr}
-use Rattle.ppm_straight.specs.declared.code.Instr.TheVariants.{Const, Apply, Get, Put, LoadSlot, StoreCur}
+use Rattle.ppm_straight.specs.declared.code.Instr.TheVariants.{Const, Negate, Apply, Get, Put, LoadSlot, StoreCur}
 use Rattle.ppm_straight.specs.declared.code.Exit.TheVariants.{Next, End}
 use Rattle.ppm_straight.specs.declared.code.Capsule.{Capsule}
 
@@ -33,6 +33,7 @@ Names = List ℕ → ℕ
 abbrev pub expression_code : Names → ℕ → Expression → List Instr
 expression_code names d (tree.Number z) = Const d z ∷ []
 expression_code names d (tree.Element x index) = expression_code names d index ++ Get d (names x.name) d x.line ∷ []
+expression_code names d (tree.Minus line e) = expression_code names d e ++ Negate d line ∷ []
 expression_code names d (tree.Binary o line left right) =
     expression_code names d left ++ (expression_code names (d + 1) right ++ Apply o d d (d + 1) line ∷ [])
 expression_code names d _ = []
@@ -64,5 +65,6 @@ code_of names body = flat_map (statement_code names) body ++ end_capsule ∷ []
 -- the registers that an expression's code takes lie below this
 abbrev pub reach : ℕ → Expression → ℕ
 reach d (tree.Element x index) = reach d index
+reach d (tree.Minus line e) = reach d e
 reach d (tree.Binary o line left right) = max (reach d left) (max (d + 2) (reach (d + 1) right))
 reach d _ = d + 1

@@ -5,11 +5,11 @@ use Rattle.ppm_words.specs.TwosComplement.{word_of, value_of}
 use Rattle.ppm_words.specs.declared.named_array.NamedArray.{NamedArray}
 use Rattle.ppm_tree.specs.declared.tree.Array.{Array}
 use Rattle.ppm_tree.specs.Tree.{ProgramTree}
-use Rattle.ppm_tree.specs.Values.{applied}
+use Rattle.ppm_tree.specs.Values.{applied, negated}
 use Rattle.ppm_tree.specs.State.{TrapAt, Region, then_with, at_line, index_in}
 use Rattle.ppm_tree.specs.Program.{initial_arrays}
 use Rattle.ppm_straight.specs.declared.code.Instr.{Instr}
-use Rattle.ppm_straight.specs.declared.code.Instr.TheVariants.{Const, Apply, Get, Put, LoadSlot, StoreCur}
+use Rattle.ppm_straight.specs.declared.code.Instr.TheVariants.{Const, Negate, Apply, Get, Put, LoadSlot, StoreCur}
 use Rattle.ppm_straight.specs.declared.code.Exit.{Exit}
 use Rattle.ppm_straight.specs.declared.code.Exit.TheVariants.{Next, End}
 use Rattle.ppm_straight.specs.declared.code.Capsule.{Capsule}
@@ -78,6 +78,7 @@ with_word s j w = record { registers = s.registers; slots = s.slots; words = set
 -- what an instruction does
 abbrev pub step : List ℕ → Instr → State → Result State TrapAt
 step lengths (Const d z) s = Ok (with_register s d z)
+step lengths (Negate d line) s = then_with (at_line line (negated (register s d))) (λ z. Ok (with_register s d z))
 step lengths (Apply o d a b line) s =
     then_with (at_line line (applied o (register s a) (register s b))) (λ z. Ok (with_register s d z))
 step lengths (Get d a b line) s =

@@ -9,15 +9,17 @@ use Rattle.ppm_tree.specs.Tree.{Expression, Statement, Block, Nil, Then, Procedu
 use Rattle.ppm_tree.specs.Tree as tree
 use Rattle.ppm_tree.specs.Program.{main_of}
 
--- an operator that is compiled: the sum
+-- an operator that is compiled: each but those that may leave their right operand out
 abbrev pub IsCompiled : Operator → Type 0
-IsCompiled operator.Add = Unit {0}
-IsCompiled _ = ⊥
+IsCompiled operator.And = ⊥
+IsCompiled operator.Or = ⊥
+IsCompiled _ = Unit {0}
 
--- an expression of literals, elements and such operators
+-- an expression of literals, elements, signs and such operators
 abbrev pub IsStraightExpression : Expression → Type 0
 IsStraightExpression (tree.Number z) = Unit {0}
 IsStraightExpression (tree.Element x index) = IsStraightExpression index
+IsStraightExpression (tree.Minus line e) = IsStraightExpression e
 IsStraightExpression (tree.Binary o line left right) = IsCompiled o × IsStraightExpression left × IsStraightExpression right
 IsStraightExpression _ = ⊥
 

@@ -9,6 +9,8 @@ use ppm_words::Items;
 pub enum Instr {
     /// Puts the number into the register.
     Const(u8, i64),
+    /// Changes the sign of the number in the register.
+    Negate(u8, u32),
     /// Puts what the operator makes of the second and the third register into the first.
     Apply(Operator, u8, u8, u8, u32),
     /// Puts the word of the array at the index in the last register into the first register.

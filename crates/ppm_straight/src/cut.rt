@@ -64,12 +64,16 @@ fn push_expression(
             let array = array_of(arrays, parameters, &name.name);
             body.push(Instr::Get(to, array, to, name.line))?;
         }
+        Expr::Minus(line, operand) => {
+            push_expression(body, arrays, parameters, to, operand)?;
+            body.push(Instr::Negate(to, *line))?;
+        }
         Expr::Binary(operator, line, left, right) => {
             push_expression(body, arrays, parameters, to, left)?;
             push_expression(body, arrays, parameters, to + 1, right)?;
             body.push(Instr::Apply(*operator, to, to, to + 1, *line))?;
         }
-        Expr::Name(_) | Expr::Len(_) | Expr::Minus(_, _) => unreachable!(),
+        Expr::Name(_) | Expr::Len(_) => unreachable!(),
     }
     Ok(())
 }

@@ -5,7 +5,7 @@ ghost use Rattle.ppm_straight.specs.Machine.{State, register, with_register, wit
 
 use crate::code::{Capsule, Exit, Instr};
 use crate::layout::Layout;
-use ppm_tree::apply;
+use ppm_tree::{apply, negate};
 use ppm_words::{Trap, of_word, to_word};
 use std::marker::Model;
 
@@ -88,6 +88,10 @@ impl Machine {
     {
         match instr {
             Instr::Const(to, value) => self.set_register(to, value),
+            Instr::Negate(to, line) => {
+                let value = at_line(line, negate(self.register(to)))?;
+                self.set_register(to, value);
+            }
             Instr::Apply(operator, to, left, right, line) => {
                 let left = self.register(left);
                 let right = self.register(right);

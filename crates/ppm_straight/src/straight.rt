@@ -12,8 +12,8 @@ fn is_compiled(operator: Operator) -> bool
     ensures { IsTrue result ↔ IsCompiled operator }
 {
     match operator {
-        Operator::Add => true,
-        Operator::Sub
+        Operator::Add
+        | Operator::Sub
         | Operator::Mul
         | Operator::Div
         | Operator::Rem
@@ -22,19 +22,18 @@ fn is_compiled(operator: Operator) -> bool
         | Operator::Lt
         | Operator::Le
         | Operator::Gt
-        | Operator::Ge
-        | Operator::And
-        | Operator::Or => false,
+        | Operator::Ge => true,
+        Operator::And | Operator::Or => false,
     }
 }
 
-/// Whether an expression is of literals, elements and operators that are compiled.
+/// Whether an expression is of literals, elements, signs and operators that are compiled.
 fn is_straight_expression(expression: &Expr) -> bool
     ensures { IsTrue result ↔ IsStraightExpression (expression_of expression.now) }
 {
     match expression {
         Expr::Number(_) => true,
-        Expr::Element(_, index) => is_straight_expression(index),
+        Expr::Element(_, inner) | Expr::Minus(_, inner) => is_straight_expression(inner),
         Expr::Binary(operator, _, left, right) => {
             if !is_compiled(*operator) {
                 return false;
@@ -44,7 +43,7 @@ fn is_straight_expression(expression: &Expr) -> bool
             }
             is_straight_expression(right)
         }
-        Expr::Name(_) | Expr::Len(_) | Expr::Minus(_, _) => false,
+        Expr::Name(_) | Expr::Len(_) => false,
     }
 }
 

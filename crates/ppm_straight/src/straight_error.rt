@@ -5,8 +5,9 @@ use thiserror::Error;
 /// Why a program has no outcome here.
 #[derive(Clone, Copy, Debug, PartialEq, Eq, Error)]
 pub enum StraightError {
-    /// The first statement of `main` that isn't an assignment of literals, elements and sums to an element, by the line
-    /// of its first name or sign, from 1; by the line of the name `main` where the tree keeps neither, as in `if 1 { }`.
+    /// The first statement of `main` that isn't an assignment to an element, or has a name alone, a `len`, an `&&` or
+    /// an `||` in it; by the line of its first name or sign, from 1, and by that of the name `main` where the tree keeps
+    /// neither, as in `if 1 { }`.
     #[error("not compiled yet line {0}")]
     NotCompiled(u32),
     /// Memory was refused.

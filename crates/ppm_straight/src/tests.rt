@@ -55,10 +55,12 @@ fn told(alloc: Global, statement: Stmt) -> Result<Option<u32>, Fail> {
 }
 
 #[test]
-fn assignments_of_sums_are_compiled(rt: HostRuntime) -> Result<(), Fail> {
+fn assignments_of_operations_are_compiled(rt: HostRuntime) -> Result<(), Fail> {
     let alloc = rt.alloc();
-    let sum = operation(alloc, Operator::Add)?;
-    assert_eq!(rt; told(alloc, put(alloc, sum)?)?, None);
+    for operator in [Operator::Add, Operator::Rem, Operator::Ge] {
+        let value = operation(alloc, operator)?;
+        assert_eq!(rt; told(alloc, put(alloc, value)?)?, None, "{operator:?}");
+    }
     let index = Box::new(alloc, operation(alloc, Operator::Add)?)?;
     let element = Expr::Element(named(alloc, 3)?, index);
     assert_eq!(rt; told(alloc, put(alloc, element)?)?, None);
@@ -71,7 +73,7 @@ fn other_statements_are_named_by_their_first_line(rt: HostRuntime) -> Result<(),
     let mut cases = Vec::new(alloc);
     // The statement's own line, where its value is not compiled.
     cases.push((put(alloc, local(alloc)?)?, 2))?;
-    cases.push((put(alloc, operation(alloc, Operator::Sub)?)?, 2))?;
+    cases.push((put(alloc, operation(alloc, Operator::And)?)?, 2))?;
     cases.push((Stmt::Let(named(alloc, 7)?, Expr::Number(1)), 7))?;
     // The test's first name or sign, and else the procedure's line.
     cases.push((Stmt::While(local(alloc)?, Vec::new(alloc)), 3))?;
