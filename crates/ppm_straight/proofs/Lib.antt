@@ -8,3 +8,4 @@ pub mod AdmittedLemmas
 pub mod WholeRun
 pub mod NameSearch
 pub mod StraightLemmas
+pub mod OneAnswer

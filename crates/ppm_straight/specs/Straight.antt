@@ -23,7 +23,7 @@ IsStraightExpression (tree.Minus line e) = IsStraightExpression e
 IsStraightExpression (tree.Binary o line left right) = IsCompiled o × IsStraightExpression left × IsStraightExpression right
 IsStraightExpression _ = ⊥
 
--- an assignment to an element
+-- an assignment of such an expression to an element
 abbrev pub IsStraightStatement : Statement → Type 0
 IsStraightStatement (tree.Put x index value) = IsStraightExpression index × IsStraightExpression value
 IsStraightStatement _ = ⊥

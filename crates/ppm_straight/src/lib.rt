@@ -9,6 +9,7 @@
 mod code;
 mod cut;
 mod image;
+mod laws;
 mod layout;
 mod machine;
 mod outcome;
@@ -17,5 +18,6 @@ mod straight_error;
 #[cfg(test)]
 mod tests;
 
+pub use laws::have_one_answer;
 pub use outcome::outcome_of;
 pub use straight_error::StraightError;

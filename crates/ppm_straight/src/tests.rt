@@ -1,4 +1,5 @@
 //! What is not compiled yet, and in which line.
+use crate::have_one_answer;
 use crate::straight::not_compiled;
 use ppm_tree::{Expr, Named, Operator, Proc, Side, Stmt};
 use ppm_words::{Items, Name};
@@ -84,5 +85,11 @@ fn other_statements_are_named_by_their_first_line(rt: HostRuntime) -> Result<(),
     for (statement, line) in cases {
         assert_eq!(rt; told(alloc, statement)?, Some(line));
     }
+    Ok(())
+}
+
+#[test]
+fn the_law_is_a_call(_rt: HostRuntime) -> Result<(), Fail> {
+    have_one_answer();
     Ok(())
 }
