@@ -1,14 +1,13 @@
 -- What admission gives: `main` is there and gives nothing, and inputs have room in their arrays.
-use Rattle.std.proofs.Common.{◌≡◌, ℕ, zero, suc, ◌+◌, ◌-◌, ◌<◌, ◌≤◌, Bool, true, false, List, [], ◌∷◌, ◌++◌, length, map, get_or, cond, nat_lt}
+use Rattle.std.proofs.Common.{◌≡◌, ℕ, zero, suc, ◌<◌, ◌≤◌, Bool, true, false, List, [], ◌∷◌, ◌++◌, length, map, cond, nat_lt}
 use Rattle.std.proofs.Common.{refl, sym, ap, ◌∙◌, subst, arith}
-use Rattle.std.specs.Prelude.{ℤ, Option, Some, None, codes}
-use Rattle.std.specs.List.{All, Contains, flat_map}
+use Rattle.std.specs.Prelude.{Option, Some, None, codes}
+use Rattle.std.specs.List.{Contains, flat_map}
 use Rattle.std.specs.Str.{bytes_eq}
 use Rattle.std.proofs.lemmas.Bool.{ltb-true, ltb-false}
 use Rattle.std.proofs.lemmas.List.Elements.{Contains-append_left, Contains-append_right, All-contains}
 use Rattle.std.proofs.lemmas.Slice.Eq.{bytes_eq-Decides}
 use Rattle.ppm_tree.specs.declared.mode.Mode.TheVariants as mode
-use Rattle.ppm_tree.specs.declared.named.Named.{Named}
 use Rattle.ppm_tree.specs.declared.tree.Array.{Array}
 use Rattle.ppm_tree.specs.declared.tree.ArrayInput.{ArrayInput}
 use Rattle.ppm_tree.specs.Tree.{Give, Procedure, ProgramTree}
@@ -18,8 +17,8 @@ use Rattle.ppm_tree.specs.State.{procedure_named}
 use Rattle.ppm_tree.specs.Program.{input_of, main_of}
 use Rattle.ppm_regions.specs.Scope.{Declaration, Scope, first_named, declared, plain}
 use Rattle.ppm_regions.specs.Uses.{Use, Site, Begins, MainGives, MainTakes, Fills, Declares, sites_at, sites_of, sites_of_names, declaration_sites}
-use Rattle.ppm_regions.specs.Uses.{sites_of_procedure, uses_of_main, is_main}
-use Rattle.ppm_regions.specs.Faults.{IsWrong, NoMain, MainHasGive, TooManyValues, TwiceNamed, HasFault, IsFault}
+use Rattle.ppm_regions.specs.Uses.{sites_of_procedure, uses_of_main}
+use Rattle.ppm_regions.specs.Faults.{IsWrong, NoMain, MainHasGive, TooManyValues, TwiceNamed, HasFault}
 use Rattle.ppm_regions.specs.Admission.{IsAdmitted}
 use Rattle.ppm_regions.specs.declared.region_error.RegionError.{RegionError}
 use Rattle.ppm_regions.specs.declared.region_error.RegionError.TheVariants as error
@@ -68,7 +67,8 @@ pub named_is : (procedures : List Procedure) (x : List ℕ) (p : Procedure) → 
 named_is [] x p e = cc
 named_is (q ∷ procedures) x p e = go (named_is procedures x p) (bytes_eq q.name.name x) e
   where
-    go : (first_named (λ r. r.name.name) procedures x ≡ Some p → procedure_named procedures x ≡ p) → (b : Bool) → cond b (Some q) (first_named (λ r. r.name.name) procedures x) ≡ Some p → cond b q (procedure_named procedures x) ≡ p
+    go : (first_named (λ r. r.name.name) procedures x ≡ Some p → procedure_named procedures x ≡ p) → (b : Bool) →
+        cond b (Some q) (first_named (λ r. r.name.name) procedures x) ≡ Some p → cond b q (procedure_named procedures x) ≡ p
     go on true h = cc
     go on false h = on h
 
@@ -151,7 +151,8 @@ module _ (t : ProgramTree) (admitted : IsAdmitted t) where
   stays [] more x d e = cc
   stays (c ∷ scope) more x d e = go (stays scope more x d) (bytes_eq c.name.name x) e
     where
-      go : (declared scope x ≡ Some d → declared (scope ++ more) x ≡ Some d) → (b : Bool) → cond b (Some c) (declared scope x) ≡ Some d → cond b (Some c) (declared (scope ++ more) x) ≡ Some d
+      go : (declared scope x ≡ Some d → declared (scope ++ more) x ≡ Some d) → (b : Bool) →
+          cond b (Some c) (declared scope x) ≡ Some d → cond b (Some c) (declared (scope ++ more) x) ≡ Some d
       go on true h = h
       go on false h = on h
 
@@ -178,7 +179,8 @@ module _ (t : ProgramTree) (admitted : IsAdmitted t) where
   twice : (scope : Scope) (arrays : List Array) (a : Array) (d : Declaration) → Contains arrays a → declared scope a.name.name ≡ Some d →
       HasFault t (declaration_sites scope (of_arrays arrays)) (error.TwiceNamed a.name.line)
   twice scope [] a d h e = absurd (omega (arith, h.1))
-  twice scope (b ∷ arrays) a d (zero, l, same) e = subst (λ c. HasFault t (declaration_sites scope (of_arrays (b ∷ arrays))) (error.TwiceNamed c.name.line)) same
+  twice scope (b ∷ arrays) a d (zero, l, same) e =
+      subst (λ c. HasFault t (declaration_sites scope (of_arrays (b ∷ arrays))) (error.TwiceNamed c.name.line)) same
       (record {
         site = record { scope = scope; made = Declares b.name };
         within = contains_head _ _;
@@ -199,7 +201,8 @@ module _ (t : ProgramTree) (admitted : IsAdmitted t) where
       go has rest (first_array (scope ++ plain mode.Int b.name ∷ []) arrays a rest has) (bytes_eq b.name.name a.name.name) refl
     where
       go : Contains arrays a → ((e : RegionError) → ¬ HasFault t (declaration_sites (scope ++ plain mode.Int b.name ∷ []) (of_arrays arrays)) e) →
-          first_named (λ c. c.name.name) arrays a.name.name ≡ Some a → (q : Bool) → bytes_eq b.name.name a.name.name ≡ q → cond q (Some b) (first_named (λ c. c.name.name) arrays a.name.name) ≡ Some a
+          first_named (λ c. c.name.name) arrays a.name.name ≡ Some a → (q : Bool) → bytes_eq b.name.name a.name.name ≡ q →
+          cond q (Some b) (first_named (λ c. c.name.name) arrays a.name.name) ≡ Some a
       go has rest found true e = let d = last_declared scope (plain mode.Int b.name) a.name.name e in
           absurd (rest (error.TwiceNamed a.name.line) (twice (scope ++ plain mode.Int b.name ∷ []) arrays a d.0 has d.1))
       go has rest found false e = found

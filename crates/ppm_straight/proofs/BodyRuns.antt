@@ -1,12 +1,11 @@
 -- The code of a straight body does what its statements mean.
 use Rattle.std.proofs.Common.{◌≡◌, ℕ, ◌+◌, ◌<◌, ◌≤◌, List, [], ◌∷◌, ◌++◌, length, Result, Ok, Err, refl, sym, ap, ◌∙◌, subst, arith}
-use Rattle.std.specs.Prelude.{ℤ}
 use Rattle.std.specs.List.{All}
 use Rattle.std.proofs.lemmas.List.{take_at, drop_at, length-append}
 use Rattle.std.proofs.lemmas.List.Elements.{All-head, All-tail, All-take, All-drop}
 use Rattle.ppm_tree.specs.Tree.{Expression, Statement}
 use Rattle.ppm_tree.specs.Tree as tree
-use Rattle.ppm_tree.specs.Parts.{nodes, nodes_of}
+use Rattle.ppm_tree.specs.Parts.{nodes}
 use Rattle.ppm_tree.specs.Limits.{IsLiteral, IsNode, IsSmallStatement}
 use Rattle.ppm_tree.specs.State.{TrapAt, Frame, Arrays, then_with}
 use Rattle.ppm_straight.specs.Straight.{IsStraightExpression, IsStraightStatement}
@@ -88,7 +87,8 @@ pub body_right : (lengths : List ℕ) (frame : Frame) (names : Names) (body : Li
 body_right lengths frame names [] s sound straight small named =
     (cleared s, refl, (refl, record { slots = sound.slots; enough = sound.enough; fits = sound.fits }))
 body_right lengths frame names (tree.Put x index value ∷ body) s sound straight small named =
-    go (λ t sound. body_right lengths frame names body t sound (All-tail IsStraightStatement put body straight) (All-tail IsSmallStatement put body small) named)
+    go
+    (λ t sound. body_right lengths frame names body t sound (All-tail IsStraightStatement put body straight) (All-tail IsSmallStatement put body small) named)
     (after frame (arrays_of lengths s.words) x index value)
     (pair_right lengths frame names x index value s sound own.room_index own.room_value own.literals_index own.literals_value here.0 here.1 named)
   where

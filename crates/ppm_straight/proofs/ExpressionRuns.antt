@@ -1,6 +1,6 @@
 -- The code of an expression leaves the expression's value in its register.
 use Rattle.std.proofs.Common.{◌≡◌, ◌≢◌, ℕ, ◌+◌, ◌<◌, ◌≤◌, Bool, true, false, List, [], ◌∷◌, ◌++◌, length}
-use Rattle.std.proofs.Common.{get_or, max, Result, Ok, Err, refl, sym, ap, ◌∙◌, subst, arith, cond, nat_lt}
+use Rattle.std.proofs.Common.{get_or, max, Result, Ok, Err, refl, sym, ap, ◌∙◌, subst, arith, nat_lt}
 use Rattle.std.specs.Prelude.{ℤ, pos, negsuc, None}
 use Rattle.std.proofs.lemmas.List.{get_or-set_same, get_or-set_other, length-set}
 use Rattle.ppm_words.specs.TwosComplement.{value_of}

@@ -1,6 +1,6 @@
 -- A straight body ends, in the serial meaning, as its statements do one after another.
-use Rattle.std.proofs.Common.{◌≡◌, ◌≢◌, ℕ, ◌≤◌, List, [], ◌∷◌, Result, Ok, Err, refl, sym, ap, ◌∙◌, subst}
-use Rattle.std.specs.Prelude.{ℤ, pos, None, Option}
+use Rattle.std.proofs.Common.{◌≡◌, ◌≢◌, ℕ, List, Result, Ok, Err, refl, sym, ap, ◌∙◌, subst}
+use Rattle.std.specs.Prelude.{ℤ, None}
 use Rattle.std.specs.List.{All}
 use Rattle.std.proofs.lemmas.List.Elements.{All-head, All-tail}
 use Rattle.ppm_words.specs.declared.outcome.Outcome.{Outcome}
@@ -37,7 +37,8 @@ stored_after x index value frame arrays = first (evaluate frame arrays index)
     second i (Err stop) = refl
 
     first : (r : Result ℤ TrapAt) →
-        end_of {A = ℕ × ℤ} (then_with r (λ i. then_with (evaluate frame arrays value) (λ v. then_with (index_in x.line (frame.regions x.name) i) (λ k. Ok (k, v)))))
+        end_of {A = ℕ × ℤ} (then_with r (λ i. then_with (evaluate frame arrays value) (λ v. then_with (index_in x.line (frame.regions x.name) i)
+        (λ k. Ok (k, v)))))
         arrays (λ p. Ended frame.locals (with_word arrays (frame.regions x.name) p.0 p.1))
         ≡ end_of (then_with r (λ i. then_with (evaluate frame arrays value) (λ v. then_with (index_in x.line (frame.regions x.name) i)
         (λ k. Ok (with_word arrays (frame.regions x.name) k v))))) arrays (λ now. Ended frame.locals now)
@@ -85,7 +86,8 @@ abbrev pub meant : ProgramTree → Result Arrays TrapAt
 meant t = after_all (main_frame t.arrays (main_of t).parameters) (values_of (initial_arrays t)) (statements (main_of t).body)
 
 -- a straight program has this outcome
-pub program_runs : (t : ProgramTree) → (main_of t).give ≡ None → All IsStraightStatement (statements (main_of t).body) → IsOutcome t (outcome_after t (meant t))
+pub program_runs : (t : ProgramTree) → (main_of t).give ≡ None → All IsStraightStatement (statements (main_of t).body) →
+    IsOutcome t (outcome_after t (meant t))
 program_runs t gives straight = go (meant t) (block_runs t.procedures (main_of t).body frame values straight)
   where
     frame : Frame

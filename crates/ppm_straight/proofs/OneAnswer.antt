@@ -9,8 +9,8 @@ use Rattle.ppm_tree.specs.Tree.{Expression, Statement, Procedure, ProgramTree}
 use Rattle.ppm_tree.specs.Tree as tree
 use Rattle.ppm_tree.specs.Program.{main_of}
 use Rattle.ppm_tree.specs.Correct.{SpendTheirTurns}
-use Rattle.ppm_straight.specs.Straight.{IsCompiled, IsStraightExpression, IsStraightStatement, statements, IsStraight, line_of_statement, IsNotCompiled}
-use Rattle.ppm_straight.specs.Correct.{IsOutcome, HasOneAnswer, HaveOneAnswer}
+use Rattle.ppm_straight.specs.Straight.{IsCompiled, IsStraightExpression, IsStraightStatement, statements, line_of_statement, IsNotCompiled}
+use Rattle.ppm_straight.specs.Correct.{IsOutcome, HaveOneAnswer}
 use Rattle.ppm_straight.proofs.BodyRuns.{All-behind}
 use Rattle.ppm_straight.proofs.AdmittedLemmas.{main_gives_nothing}
 use Rattle.ppm_straight.proofs.MeaningRuns.{program_runs}

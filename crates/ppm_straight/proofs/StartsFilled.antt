@@ -1,5 +1,5 @@
 -- The words of arrays stand for these arrays.
-use Rattle.std.proofs.Common.{◌≡◌, ℕ, zero, suc, ◌+◌, ◌<◌, ◌^◌, List, [], ◌∷◌, ◌++◌, length, map, get_or, refl, sym, ap, ◌∙◌, arith}
+use Rattle.std.proofs.Common.{◌≡◌, ℕ, zero, suc, ◌<◌, ◌^◌, List, [], ◌∷◌, length, map, get_or, refl, arith}
 use Rattle.std.specs.Prelude.{ℤ, FitsSigned}
 use Rattle.std.specs.Int.{w64}
 use Rattle.std.specs.List.{All}
@@ -8,8 +8,7 @@ use Rattle.std.proofs.lemmas.List.Elements.{All-nil, All-head, All-tail, All-app
 use Rattle.ppm_words.specs.TwosComplement.{word_of, value_of}
 use Rattle.ppm_words.proofs.TwosComplementLemmas.{value_of-word_of, word_of-below}
 use Rattle.ppm_words.specs.declared.named_array.NamedArray.{NamedArray}
-use Rattle.ppm_tree.specs.Program.{values_of, with_names}
-use Rattle.ppm_tree.specs.declared.tree.Array.{Array}
+use Rattle.ppm_tree.specs.Program.{values_of}
 use Rattle.ppm_straight.specs.Machine.{total_of, words_from}
 use Rattle.ppm_straight.proofs.ArraysInWords.{arrays_of}
 

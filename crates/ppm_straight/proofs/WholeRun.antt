@@ -16,8 +16,8 @@ use Rattle.ppm_tree.specs.declared.tree.Parameter.{Parameter}
 use Rattle.ppm_tree.specs.Tree.{Statement, Block, Nil, Then, Procedure, ProgramTree}
 use Rattle.ppm_tree.specs.Tree as tree
 use Rattle.ppm_tree.specs.Parts.{statements_in}
-use Rattle.ppm_tree.specs.Limits.{IsInputValue, IsArrayInput, IsSmallStatement, IsSmall, IsWithin}
-use Rattle.ppm_tree.specs.State.{TrapAt, Region, nowhere, Frame, Arrays}
+use Rattle.ppm_tree.specs.Limits.{IsInputValue, IsArrayInput, IsSmallStatement, IsWithin}
+use Rattle.ppm_tree.specs.State.{TrapAt, Region, Frame, Arrays}
 use Rattle.ppm_tree.specs.Program.{input_of, initial_array, initial_arrays, values_of, with_names, whole_from, main_frame, main_of}
 use Rattle.ppm_regions.specs.Admission.{IsAdmitted}
 use Rattle.ppm_straight.specs.declared.code.Capsule.{Capsule}
