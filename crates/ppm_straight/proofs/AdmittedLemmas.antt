@@ -1,5 +1,5 @@
 -- What admission gives: `main` is there and gives nothing, and inputs have room in their arrays.
-use Rattle.std.proofs.Common.{◌≡◌, ℕ, zero, suc, ◌<◌, ◌≤◌, Bool, true, false, List, [], ◌∷◌, ◌++◌, length, map, cond, nat_lt}
+use Rattle.std.proofs.Common.{◌≡◌, ◌≢◌, ℕ, zero, suc, ◌<◌, ◌≤◌, Bool, true, false, List, [], ◌∷◌, ◌++◌, length, map, cond, nat_lt}
 use Rattle.std.proofs.Common.{refl, sym, ap, ◌∙◌, subst, arith}
 use Rattle.std.specs.Prelude.{Option, Some, None, codes}
 use Rattle.std.specs.List.{Contains, flat_map}
@@ -61,6 +61,21 @@ first_is {A} name_of (j ∷ items) x i e = go (λ h. first_is name_of items x i 
         (subst (λ k. Contains (j ∷ items) k) same (contains_head j items), subst (λ k. bytes_eq (name_of k) x ≡ true) same t)
     go on false t h = let rest = on h in (contains_tail j items i rest.0, rest.1)
 
+-- where none is found, none has the name
+none_named : (procedures : List Procedure) (x : List ℕ) (p : Procedure) → first_named (λ q. q.name.name) procedures x ≡ None →
+    Contains procedures p → p.name.name ≢ x
+none_named [] x p e h same = absurd (omega (arith, h.1))
+none_named (q ∷ procedures) x p e (zero, l, is) same =
+    let named : bytes_eq q.name.name x ≡ true = (bytes_eq-Decides q.name.name x).1 (ap (λ r. r.name.name) is ∙ same) in
+    let found : Some q ≡ None = sym (ap (λ b. cond b (Some q) (first_named (λ r. r.name.name) procedures x)) named) ∙ e in
+    cc
+none_named (q ∷ procedures) x p e (suc k, l, is) same =
+    go (λ h. none_named procedures x p h (k, omega (arith, l), is) same) (bytes_eq q.name.name x) e
+  where
+    go : (first_named (λ r. r.name.name) procedures x ≡ None → ⊥) → (b : Bool) → cond b (Some q) (first_named (λ r. r.name.name) procedures x) ≡ None → ⊥
+    go on true h = cc
+    go on false h = on h
+
 -- the procedure that is found is the one that the meaning enters
 pub named_is : (procedures : List Procedure) (x : List ℕ) (p : Procedure) → first_named (λ q. q.name.name) procedures x ≡ Some p →
     procedure_named procedures x ≡ p
@@ -99,11 +114,11 @@ module _ (t : ProgramTree) (admitted : IsAdmitted t) where
 
   -- so none of it is wrong
   not_wrong : (u : Use) (e : RegionError) → Contains asked u → ¬ IsWrong t [] u e
-  not_wrong u e h w = admitted e (record { site = record { scope = []; made = u }; within = asked_site u h; wrong = w })
+  not_wrong u e h w = admitted.faultless e (record { site = record { scope = []; made = u }; within = asked_site u h; wrong = w })
 
   -- `main` is there
   pub has_main : ¬ (first_named (λ p. p.name.name) t.procedures main_name ≡ None)
-  has_main e = not_wrong Begins (error.BadMain 0) (contains_head Begins (flat_map uses_of_main t.procedures ++ map Fills t.inputs)) (NoMain e)
+  has_main e = not_wrong Begins (error.BadMain 0) (contains_head Begins (flat_map uses_of_main t.procedures ++ map Fills t.inputs)) (NoMain (λ p h. none_named t.procedures main_name p e h))
 
   -- it gives nothing
   pub gives_nothing : (p : Procedure) → first_named (λ q. q.name.name) t.procedures main_name ≡ Some p → p.give ≡ None
@@ -226,7 +241,7 @@ module _ (t : ProgramTree) (admitted : IsAdmitted t) where
   has_room a h = go (nat_lt a.words (length (input_of t.inputs a.name.name))) refl
     where
       first : first_named (λ b. b.name.name) t.arrays a.name.name ≡ Some a
-      first = first_array [] t.arrays a (λ e f. admitted e (record {
+      first = first_array [] t.arrays a (λ e f. admitted.faultless e (record {
         site = f.site;
         within = named_site f.site f.within;
         wrong = f.wrong;
