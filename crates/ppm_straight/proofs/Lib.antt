@@ -1,0 +1,11 @@
+pub mod ArraysInWords
+pub mod ExpressionRuns
+pub mod StatementRuns
+pub mod BodyRuns
+pub mod MeaningRuns
+pub mod StartsFilled
+pub mod AdmittedLemmas
+pub mod WholeRun
+pub mod NameSearch
+pub mod StraightLemmas
+pub mod OneAnswer

@@ -1,0 +1,4 @@
+pub mod Straight
+pub mod Correct
+pub mod Code
+pub mod Machine
