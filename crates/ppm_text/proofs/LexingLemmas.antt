@@ -194,7 +194,7 @@ fault_place (name_too_long t long) = refl
 -- a token within the limits has its form
 has_form : {bytes : List ℕ} {k : Kind} → Spells bytes k → IsInRange k → HasForm k
 has_form (a_keyword identifier found) fits = tt
-has_form (a_name {bytes = bytes} identifier none) fits = identifier_is_name bytes identifier fits
+has_form (a_name {bytes = bytes} identifier none) fits = (identifier_is_name bytes identifier fits, none)
 has_form (a_number digits) fits = fits
 has_form (a_sign found) fits = tt
 

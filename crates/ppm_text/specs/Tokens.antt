@@ -1,5 +1,5 @@
 -- The tokens of a text, as contracts see them, and what is always true of them.
-use Rattle.std.specs.Prelude.{ℕ, ◌+◌, ◌<◌, ◌≤◌, List}
+use Rattle.std.specs.Prelude.{◌≡◌, ℕ, ◌+◌, ◌<◌, ◌≤◌, List, None}
 use Rattle.std.specs.List.{All}
 use Rattle.ppm_words.specs.Limits.{value_bound}
 use Rattle.ppm_words.specs.Names.{IsName}
@@ -7,6 +7,7 @@ use Rattle.ppm_text.specs.declared.token.Kind.{Kind}
 use Rattle.ppm_text.specs.declared.token.Kind.TheVariants as kind
 use Rattle.ppm_text.specs.declared.token.Token.{Token}
 use Rattle.ppm_text.specs.Limits.{text_limit}
+use Rattle.ppm_text.specs.Spelling.{keyword_of}
 
 -- the tokens of a text, with how many bytes the text has
 pub record TextTokens : Type 0 where
@@ -17,9 +18,9 @@ pub record TextTokens : Type 0 where
 abbrev pub text_tokens : List Token → ℕ → TextTokens
 text_tokens tokens text_len = record { tokens = tokens; text_len = text_len }
 
--- a name is as names are, and a number is a value of the language
+-- a name is as names are and no keyword, and a number is a value of the language
 abbrev pub HasForm : Kind → Type 0
-HasForm (kind.Name bytes) = IsName bytes
+HasForm (kind.Name bytes) = IsName bytes × (keyword_of bytes ≡ None)
 HasForm (kind.Number value) = value < value_bound
 HasForm (kind.Keyword keyword) = Unit {0}
 HasForm (kind.Sign mark) = Unit {0}
