@@ -1,3 +1,5 @@
+use Rattle.ppm_rows.proofs.ExpressionsWithin as expressions
+use Rattle.ppm_rows.proofs.TokensWithin as within
 use Rattle.std.proofs.Common.{refl}
 use Rattle.ppm_rows.proofs.laws.has_one_row.Goals as goal
 
