@@ -1,3 +1,4 @@
 pub mod OneAnswer
 pub mod TokensWithin
 pub mod ExpressionsWithin
+pub mod StatementsWithin

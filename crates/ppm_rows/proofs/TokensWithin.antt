@@ -108,8 +108,8 @@ pub record KeepsAll (c : Tally) : Type 0 where
   pub elements : c 4 ≤ parameter_limit
   pub nodes : c 5 ≤ node_limit
 
-pub free_keeps : {c : Tally} → Free c → KeepsAll c
-free_keeps {c = c} h =
+pub free_keeps : (c : Tally) → Free c → KeepsAll c
+free_keeps c h =
     let a = kept array_limit (c 1) 1 _ h in
     let b = kept word_limit (c 2) 2 _ a.1 in
     let d = kept procedure_limit (c 3) 3 _ b.1 in
