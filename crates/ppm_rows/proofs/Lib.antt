@@ -2,3 +2,4 @@ pub mod OneAnswer
 pub mod TokensWithin
 pub mod ExpressionsWithin
 pub mod StatementsWithin
+pub mod BlocksWithin

@@ -125,6 +125,7 @@ pub record IsBlock (d : ℕ) (c c' : Tally) (b : Block) : Type 0 where
   pub words : c' 2 ≡ c 2
   pub procedures : c' 3 ≡ c 3 + sum (map eaches_of (statements_in b))
   pub small : All IsSmallStatement (statements_in b)
+  pub inner : suc d ≤ depth_limit
   pub deep : block_depth b + d ≤ depth_limit
   pub free : Free c'
 
@@ -166,14 +167,14 @@ argument_is {c = c} {v = v} same e =
     }
 
 -- the nodes of one expression, and of two
-nodes_one : (e : Expression) → flat_map nodes (e ∷ []) ≡ nodes e
+pub nodes_one : (e : Expression) → flat_map nodes (e ∷ []) ≡ nodes e
 nodes_one e = append-nil (nodes e)
 
 nodes_two : (e f : Expression) → flat_map nodes (e ∷ f ∷ []) ≡ nodes e ++ nodes f
 nodes_two e f = ap (λ q. nodes e ++ q) (nodes_one f)
 
 -- a statement whose nodes are these
-small_by : (s : Statement) (ns : List Expression) → nodes_of s ≡ ns → length ns ≤ node_limit → All IsNode ns → All IsNamed (names_of s) → All IsLine (lines_of s) →
+pub small_by : (s : Statement) (ns : List Expression) → nodes_of s ≡ ns → length ns ≤ node_limit → All IsNode ns → All IsNamed (names_of s) → All IsLine (lines_of s) →
     All IsSmallSide (sides_of s) → IsSmallStatement s
 small_by s ns same few fine names lines sides = record {
   count = subst (λ q. length q ≤ node_limit) (sym same) few;
@@ -184,7 +185,7 @@ small_by s ns same few fine names lines sides = record {
 }
 
 -- a call as a statement
-call_plain : {c c' : Tally} (s : Side) → Free c' → IsSide c c' s → IsPlain c c' (tree.Call s)
+pub call_plain : {c c' : Tally} (s : Side) → Free c' → IsSide c c' s → IsPlain c c' (tree.Call s)
 call_plain {c' = c'} s free h =
     let k = free_keeps c' free in
     record {
@@ -200,10 +201,10 @@ call_plain {c' = c'} s free h =
     }
 
 -- what is counted of statements in two lists
-eaches_append : (xs ys : List Statement) → sum (map eaches_of (xs ++ ys)) ≡ sum (map eaches_of xs) + sum (map eaches_of ys)
+pub eaches_append : (xs ys : List Statement) → sum (map eaches_of (xs ++ ys)) ≡ sum (map eaches_of xs) + sum (map eaches_of ys)
 eaches_append xs ys = ap sum (map-append eaches_of xs ys) ∙ sum_by-append (λ n. n) (map eaches_of xs) (map eaches_of ys)
 
-eaches_cons : (s : Statement) (xs : List Statement) → sum (map eaches_of (s ∷ xs)) ≡ eaches_of s + sum (map eaches_of xs)
+pub eaches_cons : (s : Statement) (xs : List Statement) → sum (map eaches_of (s ∷ xs)) ≡ eaches_of s + sum (map eaches_of xs)
 eaches_cons s xs = sum_by-cons (λ n. n) (eaches_of s) (map eaches_of xs)
 
 -- the statement is derived
@@ -263,7 +264,7 @@ module _ {size : ℕ} (short : size ≤ text_limit) where
   }
 
   -- a call
-  call_walk : (d : ℕ) {row : Form} {c c' : Tally} {ts mid : List Token} {us : List Value} → In row (rows p.Call) →
+  pub call_walk : (d : ℕ) {row : Form} {c c' : Tally} {ts mid : List Token} {us : List Value} → In row (rows p.Call) →
       (w : Walk language limits (StandsIn size) may_follow (due (inside row d) row.items) (counts_first language limits row.counts ts c) ts us c' mid) →
       (IsSide c c' (side_in (row.make us))) × ((side_in (row.make us)).target ≡ None)
   call_walk d first (took is s deep free (parted i b ok w done)) = (side_of (name_fine short is s) (list_walk _ i w), refl)
@@ -289,7 +290,7 @@ module _ {size : ℕ} (short : size ≤ text_limit) where
   after_target_walk d (later (later i)) w x h = elim i [ ]
 
   -- a side of a fork
-  side_walk : (d : ℕ) {row : Form} {c c' : Tally} {ts mid : List Token} {us : List Value} → In row (rows p.Side) →
+  pub side_walk : (d : ℕ) {row : Form} {c c' : Tally} {ts mid : List Token} {us : List Value} → In row (rows p.Side) →
       (w : Walk language limits (StandsIn size) may_follow (due (inside row d) row.items) (counts_first language limits row.counts ts c) ts us c' mid) →
       IsSide c c' (side_in (row.make us))
   side_walk d first (took is s deep free (parted i b ok w done)) = after_target_walk _ i w _ (name_fine short is s)
@@ -344,7 +345,7 @@ module _ {size : ℕ} (short : size ≤ text_limit) where
         free = free;
       }
 
-  after_name_walk : (d : ℕ) {row : Form} {c c' : Tally} {ts mid : List Token} {us : List Value} → In row (rows p.AfterName) →
+  pub after_name_walk : (d : ℕ) {row : Form} {c c' : Tally} {ts mid : List Token} {us : List Value} → In row (rows p.AfterName) →
       (w : Walk language limits (StandsIn size) may_follow (due (inside row d) row.items) (counts_first language limits row.counts ts c) ts us c' mid) →
       (x : Named) → IsNamed x → IsPlain c c' (from_name_in (row.make us) x)
   after_name_walk d first (took is s deep free (parted i b ok w done)) x h = assigned_walk _ i w x h

@@ -1,3 +1,4 @@
+use Rattle.ppm_rows.proofs.BlocksWithin as blocks
 use Rattle.ppm_rows.proofs.StatementsWithin as statements
 use Rattle.ppm_rows.proofs.ExpressionsWithin as expressions
 use Rattle.ppm_rows.proofs.TokensWithin as within
