@@ -1,8 +1,7 @@
 -- Statements with blocks that are derived within the limits.
-use Rattle.std.proofs.Common.{◌≡◌, ℕ, zero, suc, ◌+◌, ◌≤◌, List, [], ◌∷◌, ◌++◌, length, map, refl, sym, ◌∙◌, ap, subst, arith}
+use Rattle.std.proofs.Common.{◌≡◌, ℕ, zero, suc, ◌+◌, ◌≤◌, List, [], ◌∷◌, ◌++◌, map, refl, sym, ◌∙◌, subst, arith}
 use Rattle.std.specs.Prelude.{max}
 use Rattle.std.specs.List.{All, sum}
-use Rattle.std.proofs.Math.Nat.{max-le}
 use Rattle.std.proofs.lemmas.List.{append-nil, length-append}
 use Rattle.std.proofs.lemmas.Grind.{flat_map-append}
 use Rattle.std.proofs.lemmas.List.Elements.{All-nil, All-cons, All-append}
@@ -18,7 +17,7 @@ use Rattle.ppm_tree.specs.Tree.{Expression, Side, Statement, Block, Nil, Then}
 use Rattle.ppm_tree.specs.Tree as tree
 use Rattle.ppm_tree.specs.Parts.{nodes, statements_in, statement_and_inner, depth_of, block_depth, eaches_of, side_names}
 use Rattle.ppm_tree.specs.Limits.{depth_limit, IsLine, IsNamed, IsNode, IsSmallSide, IsSmallStatement}
-use Rattle.ppm_rows.specs.Values.{Value, Lexed, named, expression_in, side_in, statement_in, block_in}
+use Rattle.ppm_rows.specs.Values.{Value, Lexed, named, expression_in, statement_in, block_in}
 use Rattle.ppm_rows.specs.Phrases as p
 use Rattle.ppm_rows.specs.Making as make
 use Rattle.ppm_text.specs.declared.token.Sign.TheVariants as s

@@ -1,5 +1,5 @@
 -- Expressions that are derived within the limits: their nodes are those that were counted, and each is fine.
-use Rattle.std.proofs.Common.{◌≡◌, ℕ, zero, suc, ◌+◌, ◌≤◌, Bool, true, false, List, [], ◌∷◌, ◌++◌, length, refl, sym, ◌∙◌, ap, arith}
+use Rattle.std.proofs.Common.{◌≡◌, ℕ, zero, suc, ◌+◌, ◌≤◌, Bool, true, false, List, [], ◌∷◌, ◌++◌, length, refl, sym, ◌∙◌, arith}
 use Rattle.std.specs.Prelude.{pos, if◌then◌else◌}
 use Rattle.std.specs.List.{All}
 use Rattle.std.proofs.lemmas.List.{length-append}
@@ -9,9 +9,6 @@ use Rattle.ppm_grammar.specs.Derivation.{due, inside}
 use Rattle.ppm_grammar.specs.Limits.{Tally, Adds, with_counts}
 use Rattle.ppm_grammar.proofs.DerivationLemmas.{Allowed}
 use Rattle.ppm_grammar.proofs.WalkLemmas.{Walk, done, took, parted, counts_first, height, tall}
-use Rattle.ppm_text.specs.declared.token.Kind.TheVariants as kind
-use Rattle.ppm_text.specs.declared.token.Sign.TheVariants as sign
-use Rattle.ppm_text.specs.declared.token.Keyword.TheVariants as k
 use Rattle.ppm_text.specs.declared.token.Token.{Token}
 use Rattle.ppm_text.specs.Limits.{text_limit}
 use Rattle.ppm_text.specs.Tokens.{StandsIn}
@@ -30,7 +27,7 @@ use Rattle.ppm_rows.specs.Phrases.{Phrase}
 use Rattle.ppm_rows.specs.Phrases as p
 use Rattle.ppm_rows.specs.Making as make
 use Rattle.ppm_rows.specs.Follow.{may_follow}
-use Rattle.ppm_rows.specs.Language.{Form, language, rows, Counted, ANode, AName}
+use Rattle.ppm_rows.specs.Language.{Form, language, rows}
 use Rattle.ppm_rows.specs.Limits.{limits, has_index, nodes as nodes_number}
 use Rattle.ppm_rows.proofs.TokensWithin.{Free, line_of, name_fine, number_fine, no_index, an_index}
 

@@ -3,3 +3,4 @@ pub mod TokensWithin
 pub mod ExpressionsWithin
 pub mod StatementsWithin
 pub mod BlocksWithin
+pub mod ProgramsWithin

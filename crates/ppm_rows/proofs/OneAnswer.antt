@@ -1,14 +1,13 @@
 -- Tokens have one tree or one fault: the law of all grammars at this one, whose texts all stand for programs.
-use Rattle.std.proofs.Common.{◌≡◌, Bool, true, List, [], ◌∷◌, refl, ap, inl, inr, subst}
+use Rattle.std.proofs.Common.{◌≡◌, List, refl, ap, inl, inr, subst}
 use Rattle.std.specs.Prelude.{◌⊎◌}
 use Rattle.ppm_grammar.specs.Rows.{In, first, later}
-use Rattle.ppm_grammar.specs.Derivation.{Mark, Derives, nothing, part, IsText}
+use Rattle.ppm_grammar.specs.Derivation.{Mark, nothing, part, IsText}
 use Rattle.ppm_grammar.specs.Faults.{Fault}
 use Rattle.ppm_grammar.specs.Faults as of_grammar
-use Rattle.ppm_grammar.specs.Predictive.{is_predictive, IsPredictive}
+use Rattle.ppm_grammar.specs.Predictive.{IsPredictive}
 use Rattle.ppm_grammar.proofs.PredictiveLemmas as tests
 use Rattle.ppm_grammar.proofs.Theorem as law
-use Rattle.ppm_grammar.specs.Correct as law_of
 use Rattle.ppm_text.specs.declared.token.Token.{Token}
 use Rattle.ppm_tree.specs.Tree.{ProgramTree}
 use Rattle.ppm_rows.specs.Values.{Value, Program, program_in}
@@ -16,7 +15,7 @@ use Rattle.ppm_rows.specs.Language.{language, Form, rows, Counted}
 use Rattle.ppm_rows.specs.Phrases as p
 use Rattle.ppm_rows.specs.Follow.{may_follow, LanguageIsPredictive}
 use Rattle.ppm_rows.specs.Limits.{limits}
-use Rattle.ppm_rows.specs.Correct.{HasTree, HasFault, HasOneAnswer, TokensHaveOneAnswer}
+use Rattle.ppm_rows.specs.Correct.{HasTree, HasFault, TokensHaveOneAnswer}
 
 -- the test, by computing
 pub is_tested : LanguageIsPredictive

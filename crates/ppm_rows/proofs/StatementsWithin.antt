@@ -1,12 +1,10 @@
 -- Statements that are derived within the limits are within the limits of trees.
 use Rattle.std.proofs.Common.{◌≡◌, ℕ, zero, suc, ◌+◌, ◌≤◌, List, [], ◌∷◌, ◌++◌, length, map, refl, sym, ◌∙◌, ap, subst, arith}
-use Rattle.std.specs.Prelude.{max, None, Some, Option}
+use Rattle.std.specs.Prelude.{None}
 use Rattle.std.specs.List.{All, sum, flat_map}
 use Rattle.std.proofs.lemmas.List.{append-nil, length-append, map-append}
-use Rattle.std.proofs.Math.Nat.{max-le}
 use Rattle.std.proofs.lemmas.List.Elements.{All-nil, All-cons, All-append}
 use Rattle.std.proofs.lemmas.List.Sums.{sum_by-append, sum_by-cons}
-use Rattle.std.proofs.lemmas.Grind.{flat_map-append}
 use Rattle.ppm_grammar.specs.Rows.{In, first, later}
 use Rattle.ppm_grammar.specs.Derivation.{due, inside}
 use Rattle.ppm_grammar.specs.Limits.{Tally, Adds, with_counts}
@@ -19,14 +17,14 @@ use Rattle.ppm_tree.specs.Tree.{Expression, Argument, Side, Statement, Block, Ni
 use Rattle.ppm_tree.specs.Tree as tree
 use Rattle.ppm_tree.specs.Parts.{nodes, nodes_of, names_of, lines_of, sides_of, side_names, statements_in, statement_and_inner, depth_of, block_depth, eaches_of}
 use Rattle.ppm_tree.specs.Limits.{depth_limit, parameter_limit, node_limit, IsLine, IsNamed, IsNode, IsSmallSide, IsSmallStatement}
-use Rattle.ppm_rows.specs.Values.{Value, Lexed, named, expression_in, argument_in, arguments_in, side_in, side_from_name_in, from_name_in, statement_in, block_in}
+use Rattle.ppm_rows.specs.Values.{Value, named, expression_in, argument_in, arguments_in, side_in, side_from_name_in, from_name_in}
 use Rattle.ppm_rows.specs.Phrases as p
 use Rattle.ppm_rows.specs.Making as make
 use Rattle.ppm_rows.specs.declared.level.Level.TheVariants as level
 use Rattle.ppm_rows.specs.Follow.{may_follow}
 use Rattle.ppm_rows.specs.Language.{Form, language, rows, AnElement}
 use Rattle.ppm_rows.specs.Limits.{limits, elements}
-use Rattle.ppm_rows.proofs.TokensWithin.{Free, free_keeps, line_of, name_fine}
+use Rattle.ppm_rows.proofs.TokensWithin.{Free, free_keeps, name_fine}
 use Rattle.ppm_rows.proofs.ExpressionsWithin.{Grows, IsExpr, expr_walk}
 
 -- the values of arguments, and their nodes
@@ -150,7 +148,7 @@ arguments_none = record {
 }
 
 -- the first token of an argument counts it
-element_first : {ts : List Token} (c : Tally) → HasFirst language limits ts →
+pub element_first : {ts : List Token} (c : Tally) → HasFirst language limits ts →
     counts_first language limits (AnElement ∷ []) ts c ≡ with_counts (Adds elements 1 ∷ []) c
 element_first c h = ap (λ q. counts_first language limits (AnElement ∷ []) q c) h.shape
 

@@ -1,15 +1,14 @@
 -- Tokens that stand in a text: their lines, names and numbers are those of trees within the limits.
-use Rattle.std.proofs.Common.{◌≡◌, ◌≢◌, ℕ, suc, ◌+◌, ◌≤◌, ◌<◌, Bool, true, false, List, [], ◌∷◌, refl, ap, arith}
-use Rattle.std.specs.Prelude.{nat_lt, cond, pos, map, Option, Some, None, if◌then◌else◌}
+use Rattle.std.proofs.Common.{◌≡◌, ◌≢◌, ℕ, ◌≤◌, ◌<◌, Bool, true, false, List, [], ◌∷◌, refl, arith}
+use Rattle.std.specs.Prelude.{nat_lt, cond, map, Option, Some, None, if◌then◌else◌}
 use Rattle.std.specs.List.{All, AllByRecursion}
 use Rattle.std.specs.Str.{bytes_eq}
 use Rattle.std.specs.Bool.{Decides}
 use Rattle.std.proofs.lemmas.List.Elements.{All-from_recursion}
 use Rattle.std.proofs.lemmas.Slice.Eq.{bytes_eq-Decides}
 use Rattle.ppm_words.specs.Limits.{value_bound}
-use Rattle.ppm_grammar.specs.Limits.{Tally, Limit, passed}
+use Rattle.ppm_grammar.specs.Limits.{Tally, passed}
 use Rattle.ppm_grammar.proofs.DerivationLemmas.{Allowed}
-use Rattle.ppm_grammar.proofs.WalkLemmas.{Walk}
 use Rattle.ppm_text.specs.declared.token.Kind.{Kind}
 use Rattle.ppm_text.specs.declared.token.Kind.TheVariants as kind
 use Rattle.ppm_text.specs.declared.token.Sign.TheVariants as sign
@@ -19,7 +18,7 @@ use Rattle.ppm_text.specs.Spelling.{spelled, keyword_of, keywords as spellings}
 use Rattle.ppm_text.specs.Tokens.{HasForm, StandsIn}
 use Rattle.ppm_tree.specs.Limits.{array_limit, word_limit, procedure_limit, parameter_limit, node_limit, keywords, IsLine, IsNamed}
 use Rattle.ppm_rows.specs.Values.{name_of, number_of, named}
-use Rattle.ppm_rows.specs.Kinds.{Terminal, Name, Number, Mark, terminal}
+use Rattle.ppm_rows.specs.Kinds.{Name, Number, Mark, terminal}
 use Rattle.ppm_rows.specs.Phrases as p
 use Rattle.ppm_rows.specs.Follow.{may_follow}
 use Rattle.ppm_rows.specs.Language.{language}

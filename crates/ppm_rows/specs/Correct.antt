@@ -1,9 +1,13 @@
 -- The tree of tokens, or their fault.
-use Rattle.std.specs.Prelude.{◌≡◌, ◌⊎◌, List}
+use Rattle.std.specs.Prelude.{◌≡◌, ◌⊎◌, ◌≤◌, ℕ, List}
+use Rattle.std.specs.List.{All}
 use Rattle.ppm_grammar.specs.Faults.{Fault}
 use Rattle.ppm_grammar.specs.Faults as of_grammar
 use Rattle.ppm_text.specs.declared.token.Token.{Token}
+use Rattle.ppm_text.specs.Limits.{text_limit}
+use Rattle.ppm_text.specs.Tokens.{StandsIn}
 use Rattle.ppm_tree.specs.Tree.{ProgramTree}
+use Rattle.ppm_tree.specs.Limits.{IsWithin}
 use Rattle.ppm_rows.specs.Values.{Program}
 use Rattle.ppm_rows.specs.Language.{language}
 use Rattle.ppm_rows.specs.Limits.{limits}
@@ -26,3 +30,7 @@ pub record HasOneAnswer (ts : List Token) : Type 0 where
 -- so it is with all tokens
 abbrev pub TokensHaveOneAnswer : Type 0
 TokensHaveOneAnswer = (ts : List Token) → HasOneAnswer ts
+
+-- a tree of tokens that stand in a text is within the limits on trees
+abbrev pub TreesAreWithin : Type 0
+TreesAreWithin = (size : ℕ) (ts : List Token) (t : ProgramTree) → size ≤ text_limit → All (StandsIn size) ts → HasTree ts t → IsWithin t

@@ -1,5 +1,5 @@
 -- The kinds of tokens that the grammar tells apart.
-use Rattle.std.specs.Prelude.{◌≡◌, ℕ, ◌+◌, List, [], ◌∷◌, ◌++◌, map, refl, Option, Some}
+use Rattle.std.specs.Prelude.{◌≡◌, ℕ, List, [], ◌∷◌, ◌++◌, map, refl, Some}
 use Rattle.ppm_grammar.specs.Rows.{Listing, element}
 use Rattle.ppm_text.specs.declared.token.Keyword.{Keyword}
 use Rattle.ppm_text.specs.declared.token.Keyword.TheVariants as k

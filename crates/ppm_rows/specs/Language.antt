@@ -1,5 +1,5 @@
 -- The grammar of the language: its parts, each with its rows.
-use Rattle.std.specs.Prelude.{Bool, true, false, List, [], ◌∷◌, map, None, Some}
+use Rattle.std.specs.Prelude.{true, false, List, [], ◌∷◌, map, None}
 use Rattle.ppm_grammar.specs.Rows.{Item, Take, Part, Row, Grammar}
 use Rattle.ppm_text.specs.declared.token.Keyword.{Keyword}
 use Rattle.ppm_text.specs.declared.token.Keyword.TheVariants as k

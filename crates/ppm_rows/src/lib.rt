@@ -9,5 +9,5 @@
 mod laws;
 mod level;
 
-pub use laws::{has_one_row, have_one_answer};
+pub use laws::{has_one_row, have_one_answer, trees_are_within};
 pub use level::{Level, operator};
