@@ -6,7 +6,7 @@ use Rattle.ppm_grammar.specs.Rows.{In, Item, Take, Part, Row, Grammar}
 use Rattle.ppm_grammar.specs.Derivation.{Due, Within, due, Mark, Derives, token, part, nothing}
 use Rattle.ppm_grammar.specs.Limits.{Limits, Tally, passed, after_token}
 use Rattle.ppm_grammar.specs.Faults.{Fault}
-use Rattle.ppm_grammar.specs.Predictive.{can_start, starts, IsPredictive}
+use Rattle.ppm_grammar.specs.Predictive.{may_be_empty, can_start, starts, IsPredictive}
 use Rattle.ppm_grammar.specs.Stack.{fault_at}
 use Rattle.ppm_grammar.specs.Reading.{Reads, Fails, ReadsThen, ReadsState, FailsState}
 use Rattle.ppm_grammar.proofs.LeadsLemmas as base
@@ -132,6 +132,21 @@ module _ {T K P V C S : Type 0} (g : Grammar T K P V C) (l : Limits T C) (Has : 
           row.counts ≡ [] → row.items ≡ Part m ∷ ys → row.opens ≡ false → FailsState g l Has depth s row.items ts o →
           FailsState g l Has depth s (Part n ∷ []) ts o
       only_fails row one counts items shut b = row_failed {ys = row.items} (states.an_only g l Has free follows p row one counts items shut) b
+
+      -- a row that begins with a part, where no other row can begin with the token in front
+      pub other_reads : {s s'' : S} {n m : P} {ys : List (Item K P)} {ts rest : List T} {vs : List V} (row : Row K P V C) → In row (g.rows n) →
+          may_be_empty g n ≡ false → row.counts ≡ [] → row.items ≡ Part m ∷ ys → row.opens ≡ false →
+          ((t : T) (rest : List T) → ts ≡ t ∷ rest → starts g m (g.kind t) ≡ false → starts g n (g.kind t) ≡ false) →
+          ReadsState g l Has depth s row.items ts vs s'' rest → ReadsState g l Has depth s (Part n ∷ []) ts (row.make vs ∷ []) s'' rest
+      other_reads row i full counts items shut other b =
+          row_read {ys = row.items} [] row.make (states.an_other g l Has free follows p row i full counts items shut other) b
+
+      pub other_fails : {s : S} {n m : P} {ys : List (Item K P)} {ts : List T} {o : Option Fault} (row : Row K P V C) → In row (g.rows n) →
+          may_be_empty g n ≡ false → row.counts ≡ [] → row.items ≡ Part m ∷ ys → row.opens ≡ false →
+          ((t : T) (rest : List T) → ts ≡ t ∷ rest → starts g m (g.kind t) ≡ false → starts g n (g.kind t) ≡ false) →
+          FailsState g l Has depth s row.items ts o → FailsState g l Has depth s (Part n ∷ []) ts o
+      other_fails row i full counts items shut other b =
+          row_failed {ys = row.items} (states.an_other g l Has free follows p row i full counts items shut other) b
 
       -- a part that is empty
       pub past_reads : {s : S} {n : P} {ts : List T} (row : Row K P V C) → In row (g.rows n) → row.items ≡ [] →

@@ -2,3 +2,5 @@ pub mod Chains
 pub mod Reading
 pub mod Expressions
 pub mod Exits
+pub mod Lists
+pub mod Calls

@@ -32,6 +32,11 @@ use Rattle.ppm_parser.proofs.Chains as chains
 pub free : (r : Room) (c : Tally) → Has r c → passed limits.most c ≡ None
 free r c h = remains_free limits.most (left r) c h
 
+-- where the token in front cannot begin the one part, it cannot begin the other
+abbrev pub NoOther : Phrase → Phrase → List Token → Type 0
+NoOther n m ts =
+    (t : Token) (rest : List Token) → ts ≡ t ∷ rest → starts language m (terminal t.kind) ≡ false → starts language n (terminal t.kind) ≡ false
+
 module _ {depth : ℕ} where
   -- one list of items behind another
   pub then_reads : {room between room' : Room} {xs ys : Items} {ts mid rest : List Token} {us vs : List Value} →
@@ -138,6 +143,19 @@ module _ {depth : ℕ} where
       row.items ≡ Part m ∷ ys → row.opens ≡ false → Stops depth room row.items ts e → Stops depth room (Part n ∷ []) ts e
   only_fails row one counts items shut b =
       record { fails = chains.only_fails language limits Has free may_follow is_predictive_language row one counts items shut b.fails }
+
+  -- a row that begins with a part, where no other row can begin with the token in front
+  pub other_reads : {room room' : Room} {n m : Phrase} {ys : Items} {ts rest : List Token} {vs : List Value} (row : Form) → In row (rows n) →
+      may_be_empty language n ≡ false → row.counts ≡ [] → row.items ≡ Part m ∷ ys → row.opens ≡ false → NoOther n m ts →
+      Parses depth room row.items ts vs room' rest → Parses depth room (Part n ∷ []) ts (row.make vs ∷ []) room' rest
+  other_reads row i full counts items shut other b =
+      chains.other_reads language limits Has free may_follow is_predictive_language row i full counts items shut other b
+
+  pub other_fails : {room : Room} {n m : Phrase} {ys : Items} {ts : List Token} {e : Stop} (row : Form) → In row (rows n) →
+      may_be_empty language n ≡ false → row.counts ≡ [] → row.items ≡ Part m ∷ ys → row.opens ≡ false → NoOther n m ts →
+      Stops depth room row.items ts e → Stops depth room (Part n ∷ []) ts e
+  other_fails row i full counts items shut other b =
+      record { fails = chains.other_fails language limits Has free may_follow is_predictive_language row i full counts items shut other b.fails }
 
   -- a part that is empty
   pub past_reads : {room : Room} {n : Phrase} {ts : List Token} (row : Form) → In row (rows n) → row.items ≡ [] →
