@@ -78,12 +78,12 @@ module _ {depth place line : ℕ} {room : Room} {ts : List Token} (h : HasExpres
   argument_fails counts r = corner_fails _ first refl h.shape (begins_it h.token.kind h.begins) (after_counted counts) r
 
 -- what is still to come behind a token
-abbrev still_of : Option (Move Terminal Phrase Counted) → List (Due Terminal Phrase)
+abbrev pub still_of : Option (Move Terminal Phrase Counted) → List (Due Terminal Phrase)
 still_of None = []
 still_of (Some m) = m.still
 
 -- where no element is left one more passes the limit, whatever nodes are counted
-passes : (room : Room) → room.elements ≡ 0 → (c c' : Tally) → Has room c → c' 1 ≡ c 1 → c' 2 ≡ c 2 → c' 3 ≡ c 3 → c' 4 ≡ c 4 + 1 →
+pub passes : (room : Room) → room.elements ≡ 0 → (c c' : Tally) → Has room c → c' 1 ≡ c 1 → c' 2 ≡ c 2 → c' 3 ≡ c 3 → c' 4 ≡ c 4 + 1 →
     passed limits.most c' ≡ Some elements
 passes room full c c' (a, (w, (n, (x, u)))) is1 is2 is3 is4 =
     let few1 : nat_lt array_limit (c' 1) ≡ false = grind (arith, a, is1) in

@@ -4,3 +4,4 @@ pub mod Expressions
 pub mod Exits
 pub mod Lists
 pub mod Calls
+pub mod Parameters
