@@ -14,6 +14,7 @@ use Rattle.ppm_tree.specs.declared.mode.Mode.TheVariants as mode
 use Rattle.ppm_tree.specs.declared.named.Named.{Named}
 use Rattle.ppm_tree.specs.declared.operator.Operator.{Operator}
 use Rattle.ppm_rows.specs.declared.level.Level.{Level}
+use Rattle.ppm_rows.specs.declared.level.Level.TheVariants as level
 use Rattle.ppm_rows.specs.Operations.{operator_at}
 use Rattle.ppm_rows.specs.Kinds.{Terminal, Name, Number, Word, Mark, terminal}
 use Rattle.ppm_rows.specs.Phrases.{Phrase}
@@ -100,6 +101,11 @@ pub record HasOperator (level : Level) (ts : List Token) (o : Operator) (place l
   pub operator : operator_at level sign ≡ Some o
   pub at : token.place ≡ place
   pub in_line : token.line ≡ line
+
+-- an operation of the level comes once
+abbrev pub comes_once : Level → Bool
+comes_once level.Comparison = true
+comes_once _ = false
 
 -- no operator of the level is in front
 abbrev pub NoOperator : Level → List Token → Type 0

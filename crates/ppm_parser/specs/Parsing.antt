@@ -31,8 +31,8 @@ abbrev pub Parses : ℕ → Room → Items → List Token → List Value → Roo
 Parses depth room xs ts vs room' rest = ReadsState language limits Has depth room xs ts vs room' rest
 
 -- within so many more openings and from this room, the tokens end so where the items are to come
-abbrev pub Stops : ℕ → Room → Items → List Token → Stop → Type 0
-Stops depth room xs ts e = FailsState language limits Has depth room xs ts (fault_of e)
+pub record Stops (depth : ℕ) (room : Room) (xs : Items) (ts : List Token) (e : Stop) : Type 0 where
+  pub fails : FailsState language limits Has depth room xs ts (fault_of e)
 
 -- the items in front stand for values with the property
 pub record ParsesTo (depth : ℕ) (room : Room) (xs : Items) (ts : List Token) (Is : List Value → Type 0) (room' : Room) (rest : List Token) : Type 0 where

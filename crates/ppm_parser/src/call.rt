@@ -34,7 +34,11 @@ fn expression_front(depth: u32, tokens: &[Token]) -> Result<(u32, u32), Stop>
         Kind::Name(_) | Kind::Number(_) | Kind::Keyword(Keyword::Len) => {
             Ok((token.place, token.line))
         }
-        Kind::Sign(Sign::Minus | Sign::OpenParen) => {
+        Kind::Sign(Sign::Minus) => {
+            deeper(depth, token.place)?;
+            Ok((token.place, token.line))
+        }
+        Kind::Sign(Sign::OpenParen) => {
             deeper(depth, token.place)?;
             Ok((token.place, token.line))
         }

@@ -8,6 +8,7 @@ ghost use Rattle.ppm_rows.specs.Phrases.{operand};
 ghost use Rattle.ppm_rows.specs.Phrases as phrase;
 ghost use Rattle.ppm_grammar.specs.Rows.{Take, Part};
 ghost use Rattle.std.specs.Prelude.{[], ◌∷◌};
+ghost use Rattle.ppm_parser.specs.Fronts.{comes_once};
 ghost use Rattle.ppm_parser.specs.Parsing.{ParsesExpression, ParsesFrom, ParsesUpTo, ParsesNamed, StopsNamed, Stops};
 
 use crate::front::{name, operator_in, take};
@@ -33,6 +34,16 @@ fn binary(
     let left = Box::new(alloc, left)?;
     let right = Box::new(alloc, right)?;
     Ok(Expr::Binary(operator, line, left, right))
+}
+
+/// Whether an operation of the level comes once: a comparison does, the others go on.
+fn is_once(level: Level) -> bool
+    ensures { result ≡ comes_once level }
+{
+    match level {
+        Level::Comparison => true,
+        Level::Either | Level::Both | Level::Sum | Level::Product => false,
+    }
 }
 
 /// The operand in front, the room that it leaves, and the tokens behind it.
@@ -186,7 +197,7 @@ fn further(
     let room = room.behind_node(place)?;
     let (second, room, rest) = operand_of(alloc, depth, room, level, behind)?;
     let both = binary(alloc, operator, line, first, second)?;
-    if level == Level::Comparison {
+    if is_once(level) {
         return Ok((both, room, rest));
     }
     further(alloc, depth, room, level, both, rest)

@@ -64,11 +64,15 @@ sign which = Take (Mark which)
 abbrev pub expr : Item Terminal Phrase
 expr = Part Expression
 
--- an operation behind its first operand: a comparison comes once, the others go on
+-- what goes on from an operation: a comparison comes once, the others go on
+abbrev pub goes_on : Level → List (Item Terminal Phrase)
+goes_on level.Comparison = []
+goes_on level = Part (p.FromOperand level) ∷ []
+
+-- an operation behind its first operand
 abbrev pub operation_form : Level → Operation → Form
-operation_form level.Comparison x = counting (ANode ∷ []) (form (sign x.sign ∷ Part (operand level.Comparison) ∷ []) (make.once x.operator))
 operation_form level x =
-    counting (ANode ∷ []) (form (sign x.sign ∷ Part (operand level) ∷ Part (p.FromOperand level) ∷ []) (make.further x.operator))
+    counting (ANode ∷ []) (form (sign x.sign ∷ Part (operand level) ∷ goes_on level) (make.further x.operator))
 
 -- the rows of each part
 abbrev pub rows : Phrase → List Form

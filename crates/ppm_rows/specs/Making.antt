@@ -157,13 +157,9 @@ argument us = v.OneArgument (record { line = first_line_in (item us 0); value = 
 abbrev pub expression : Make
 expression us = v.Expr (first_line_in (item us 0)) (from_operand_in (item us 1) (expression_in (item us 0)))
 
--- operator operand, and what goes on from both: a chain groups to the left
+-- operator operand, and what goes on from both, if anything: a chain groups to the left
 abbrev pub further : Operator → Make
 further o us = v.FromOperand (λ left. from_operand_in (item us 2) (tree.Binary o (line_in (item us 0)) left (expression_in (item us 1))))
-
--- operator operand
-abbrev pub once : Operator → Make
-once o us = v.FromOperand (λ left. tree.Binary o (line_in (item us 0)) left (expression_in (item us 1)))
 
 -- "-" operand
 abbrev pub minus : Make

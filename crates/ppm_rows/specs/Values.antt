@@ -182,10 +182,10 @@ abbrev pub first_line_in : Value → ℕ
 first_line_in (Expr line e) = line
 first_line_in _ = 1
 
--- the expression with an operand in front
+-- the expression with an operand in front, which is the operand where nothing goes on from it
 abbrev pub from_operand_in : Value → Expression → Expression
 from_operand_in (FromOperand f) = f
-from_operand_in _ = λ e. no_expression
+from_operand_in _ = λ e. e
 
 -- the expression with a name in front
 abbrev pub from_region_in : Value → Named → Expression
