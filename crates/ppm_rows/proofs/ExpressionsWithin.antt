@@ -153,7 +153,7 @@ module _ {size : ℕ} (short : size ≤ text_limit) where
 
   -- a comparison
   compared : {a b c : Tally} {t : Token} {u : Value} (o : Operator) → Grows a b 1 → StandsIn size t → IsExpr b c u →
-      IsFrom a c (make.once o (Lexed t ∷ u ∷ []))
+      IsFrom a c (make.further o (Lexed t ∷ u ∷ []))
   compared {t = t} {u = u} o one s e = record {
     count = 1 + length (nodes (expression_in u));
     grows = grows_both one e.grows;
