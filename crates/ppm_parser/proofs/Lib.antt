@@ -5,3 +5,4 @@ pub mod Exits
 pub mod Lists
 pub mod Calls
 pub mod Parameters
+pub mod Declarations

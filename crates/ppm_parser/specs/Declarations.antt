@@ -7,7 +7,7 @@ use Rattle.ppm_text.specs.declared.token.Token.{Token}
 use Rattle.ppm_tree.specs.declared.tree.Array.{Array}
 use Rattle.ppm_tree.specs.declared.tree.ArrayInput.{ArrayInput}
 use Rattle.ppm_tree.specs.declared.tree.Proc.{Proc}
-use Rattle.ppm_tree.specs.Limits.{depth_limit}
+use Rattle.ppm_tree.specs.Limits.{depth_limit, IsInputValue}
 use Rattle.ppm_tree.specs.Tree.{ProgramTree, procedure_of}
 use Rattle.ppm_rows.specs.Values as v
 use Rattle.ppm_rows.specs.Phrases as p
@@ -64,18 +64,19 @@ ParsesInput ts i rest =
 abbrev pub StopsInput : List Token → Stop → Type 0
 StopsInput ts e = (depth : ℕ) (room : Room) → Stops depth room input_items ts e
 
--- its values
-abbrev pub ParsesInteger : List Token → ℤ → List Token → Type 0
-ParsesInteger ts z rest = (depth : ℕ) (room : Room) → Parses depth room (Part p.Integer ∷ []) ts (v.Integer z ∷ []) room rest
+-- one of its values
+pub record ParsesInteger (ts : List Token) (z : ℤ) (rest : List Token) : Type 0 where
+  pub small : IsInputValue z
+  pub parses : (depth : ℕ) (room : Room) → Parses depth room (Part p.Integer ∷ []) ts (v.Integer z ∷ []) room rest
 
 abbrev pub StopsInteger : List Token → Stop → Type 0
 StopsInteger ts e = (depth : ℕ) (room : Room) → Stops depth room (Part p.Integer ∷ []) ts e
 
--- those behind the first, up to the semicolon
-pub record ParsesIntegers (first : ℤ) (ts : List Token) (all : List ℤ) (rest : List Token) : Type 0 where
+-- further ones behind some, up to the semicolon
+pub record ParsesIntegers (some : List ℤ) (ts : List Token) (all : List ℤ) (rest : List Token) : Type 0 where
   pub others : List ℤ
   pub end : Token
-  pub shape : all ≡ first ∷ others
+  pub shape : all ≡ some ++ others
   pub parses : (depth : ℕ) (room : Room) →
       Parses depth room (Part p.MoreIntegers ∷ sign s.Semicolon ∷ []) ts (v.Integers others ∷ v.Lexed end ∷ []) room rest
 

@@ -72,14 +72,12 @@ fn integer(tokens: &[Token]) -> Result<(i64, &[Token]), Stop>
     literal(tokens)
 }
 
-/// The values of an input in front up to the semicolon, behind the first, and the tokens behind it.
-fn closed_integers(alloc: Global, first: i64, tokens: &[Token]) -> Result<(Vec<i64>, &[Token]), Stop>
+/// The values of an input behind these, from their commas in front up to the semicolon, and the tokens behind it.
+fn closed_integers(mut all: Vec<i64>, tokens: &[Token]) -> Result<(Vec<i64>, &[Token]), Stop>
     ensures { MatchResult result
-        (λ r. ParsesIntegers first tokens.now r.0.items r.1.now)
+        (λ r. ParsesIntegers all.items tokens.now r.0.items r.1.now)
         (StopsIntegers tokens.now) }
 {
-    let mut all = Vec::new(alloc);
-    all.push(first)?;
     let mut rest = tokens;
     'integers: while let Ok((_, behind)) = take(rest, Sign::Comma) {
         let (next, after) = integer(behind)?;
@@ -99,7 +97,9 @@ fn input(alloc: Global, tokens: &[Token]) -> Result<(ArrayInput, &[Token]), Stop
     let (name, behind) = name(alloc, tokens)?;
     let (_, behind) = take(behind, Sign::Assign)?;
     let (first, behind) = integer(behind)?;
-    let (values, rest) = closed_integers(alloc, first, behind)?;
+    let mut values = Vec::new(alloc);
+    values.push(first)?;
+    let (values, rest) = closed_integers(values, behind)?;
     let values = Items::from_vec(values);
     Ok((ArrayInput { name, values }, rest))
 }
