@@ -10,6 +10,7 @@ use crate::declaration::{Declaration, read_declaration};
 use crate::room::Room;
 use crate::stop::Stop;
 use crate::syntax_error::SyntaxError;
+use ppm_rows::trees_are_within;
 use ppm_text::{Token, Tokens};
 use ppm_tree::{Array, ArrayInput, Proc, Program, Tree};
 use ppm_words::Items;
@@ -71,6 +72,8 @@ pub fn parse(alloc: Global, tokens: &Tokens) -> Result<Program, SyntaxError>
     ensures fault { IfErr result (λ error. IsFault tokens.now error) }
 {
     let text_len = tokens.text_len();
+    // That the tree is within the limits rests on this law; the call does nothing.
+    trees_are_within();
     match tree(alloc, tokens.as_slice()) {
         Ok(tree) => Ok(Program::from_tree(tree)),
         Err(stop) => Err(stop.in_text(text_len)),
