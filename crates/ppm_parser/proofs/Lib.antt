@@ -6,3 +6,4 @@ pub mod Lists
 pub mod Calls
 pub mod Parameters
 pub mod Declarations
+pub mod Statements
