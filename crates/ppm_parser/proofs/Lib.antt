@@ -6,4 +6,5 @@ pub mod Lists
 pub mod Calls
 pub mod Parameters
 pub mod Declarations
+pub mod Rows
 pub mod Statements

@@ -1,5 +1,5 @@
 -- Statements.
-use Rattle.std.proofs.Common.{◌≡◌, ◌≢◌, ℕ, suc, ◌+◌, ◌≤◌, Bool, true, false, List, [], ◌∷◌, ◌++◌, length, refl, sym, ◌∙◌, ap, subst, arith}
+use Rattle.std.proofs.Common.{◌≡◌, ◌≢◌, ℕ, suc, ◌+◌, ◌≤◌, Bool, true, false, List, [], ◌∷◌, ◌++◌, length, ◌<◌, Vec, Global, refl, sym, ◌∙◌, ap, subst, arith}
 use Rattle.std.specs.Prelude.{Option, Some, None}
 use Rattle.ppm_grammar.specs.Rows.{In, first, later, Item, Take, Part}
 use Rattle.ppm_grammar.specs.Limits.{Tally, Anew, Adds, adds, passed, with_count, after_token}
@@ -14,8 +14,10 @@ use Rattle.ppm_text.specs.declared.token.Kind.TheVariants as kind
 use Rattle.ppm_text.specs.declared.token.Token.{Token}
 use Rattle.ppm_tree.specs.Limits.{procedure_limit, node_limit}
 use Rattle.ppm_tree.specs.declared.named.Named.{Named}
+use Rattle.ppm_tree.specs.declared.tree.Expr.{Expr}
 use Rattle.ppm_tree.specs.declared.tree.Stmt.{Stmt}
-use Rattle.ppm_tree.specs.Tree.{Expression, Side, Statement, Block, Nil, Then, Give, statement_of, block_of}
+use Rattle.ppm_tree.specs.declared.tree.Stmt as stmt
+use Rattle.ppm_tree.specs.Tree.{Expression, Side, Statement, Block, Nil, Then, Give, expression_of, statement_of, block_of}
 use Rattle.ppm_tree.specs.Tree as tree
 use Rattle.ppm_rows.specs.Kinds.{Terminal, Word, Mark, terminal}
 use Rattle.ppm_rows.specs.Values.{Value, Lexed, name_of, named}
@@ -36,11 +38,12 @@ use Rattle.ppm_parser.specs.Room.{left, Has, with_procedures, with_nodes}
 use Rattle.ppm_parser.specs.Fronts.{InFront, HasFront, HasAt, HasName, HasGive, IsNotFront, Misses, MissesName, line_of, starts_at}
 use Rattle.ppm_parser.specs.Parsing.{Items, Parses, Stops, ParsesTo, MakesBehind, MakesInLine, ParsesExpression, ParsesUpTo, IsNameAt}
 use Rattle.ppm_parser.specs.Statements.{local_items, choice_items, loop_items, call_items, fork_items, split_items, each_items, ParsesLocal, ParsesChoice}
-use Rattle.ppm_parser.specs.Statements.{ParsesLoop, ParsesCall, ParsesFork, ParsesSplit, ParsesEach, ParsesAfterName}
+use Rattle.ppm_parser.specs.Statements.{ParsesLoop, ParsesCall, ParsesFork, ParsesSplit, ParsesEach, ParsesAfterName, ParsesStatement}
 use Rattle.ppm_parser.proofs.Reading.{then_reads, then_fails, front_fails, of_same, read, front_reads, take_reads, take_fails, word_reads, name_reads, name_fails}
 use Rattle.ppm_parser.proofs.Reading.{row_reads, row_fails, row_many, corner_reads, corner_fails, NoOther, other_reads, other_fails, past_reads, open_reads, open_fails, too_deep}
 use Rattle.ppm_parser.proofs.Reading.{named_is, after_statement}
 use Rattle.ppm_parser.proofs.Declarations.{part_misses}
+use Rattle.ppm_parser.proofs.Rows as rows_of
 
 -- a local
 module _ {depth : ℕ} {room : Room} {ts behind after : List Token} {x : Named} {place : ℕ} (g : HasName ts x behind) (h : HasAt (Mark s.Assign) behind place after) where
@@ -276,6 +279,18 @@ module _ {depth : ℕ} {room : Room} {ts ts1 ts2 : List Token} {region : Named} 
               is = λ t at i'. v.OneStatement (tree.Split (at i') (named_is g i') size (named_is a i') (named_is b i') body);
             }
 
+-- what is missing of an each
+module _ {depth place : ℕ} {room : Room} {ts ts1 ts2 ts3 : List Token} {i x : Named} (a : HasName ts i ts1) (m : HasAt (Mark s.Comma) ts1 place ts2)
+    (b : HasName ts2 x ts3) where
+  each_front : Parses depth room (name ∷ sign s.Comma ∷ name ∷ []) ts (Lexed a.token ∷ Lexed m.token ∷ Lexed b.token ∷ []) room ts3
+  each_front = then_reads (then_reads (name_reads a) (take_reads m)) (name_reads b)
+
+  pub each_in_missing : {e : Stop} → Misses (Word k.In) ts3 e → Stops depth room each_items ts e
+  each_in_missing q = then_fails each_front (front_fails (name ∷ Part p.Block ∷ []) (take_fails (Word k.In) ts3 q))
+
+  pub each_region_missing : {ts4 : List Token} {e : Stop} → HasFront (Word k.In) ts3 ts4 → MissesName ts4 e → Stops depth room each_items ts e
+  each_region_missing {ts4 = ts4} h q = then_fails (then_reads each_front (word_reads h)) (front_fails (Part p.Block ∷ []) (name_fails ts4 q))
+
 -- an each
 module _ {depth place : ℕ} {room : Room} {ts ts1 ts2 ts3 ts4 ts5 : List Token} {i x region : Named} (a : HasName ts i ts1) (m : HasAt (Mark s.Comma) ts1 place ts2)
     (b : HasName ts2 x ts3) (h : HasFront (Word k.In) ts3 ts4) (g : HasName ts4 region ts5) where
@@ -294,68 +309,103 @@ module _ {depth place : ℕ} {room : Room} {ts ts1 ts2 ts3 ts4 ts5 : List Token}
     is = λ w j. v.OneStatement (tree.Each (named_is a j) (named_is b j) (named_is g j) body);
   }
 
+-- blocks as the code holds them
+pub choice_of : {depth : ℕ} {room room' : Room} {ts rest : List Token} (e : Expr) (a b : Vec Stmt Global) →
+    ParsesChoice depth room ts (tree.If (expression_of e) (block_of a.items) (block_of b.items)) room' rest →
+    ParsesChoice depth room ts (statement_of (stmt.If e a b)) room' rest
+choice_of {depth = depth} {room = room} {room' = room'} {ts = ts} {rest = rest} e a b r =
+    subst (λ q. ParsesChoice depth room ts q room' rest) (sym (rows_of.if_is e a b)) r
+
+pub choice_of_one : {depth : ℕ} {room room' : Room} {ts rest : List Token} (e : Expr) (a b : Vec Stmt Global) → b.items ≡ [] →
+    ParsesChoice depth room ts (tree.If (expression_of e) (block_of a.items) Nil) room' rest →
+    ParsesChoice depth room ts (statement_of (stmt.If e a b)) room' rest
+choice_of_one {depth = depth} {room = room} {room' = room'} {ts = ts} {rest = rest} e a b none r =
+    choice_of e a b (subst (λ q. ParsesChoice depth room ts (tree.If (expression_of e) (block_of a.items) (block_of q)) room' rest) (sym none) r)
+
+pub loop_of : {depth : ℕ} {room room' : Room} {ts rest : List Token} (e : Expr) (a : Vec Stmt Global) →
+    ParsesLoop depth room ts (tree.While (expression_of e) (block_of a.items)) room' rest → ParsesLoop depth room ts (statement_of (stmt.While e a)) room' rest
+loop_of {depth = depth} {room = room} {room' = room'} {ts = ts} {rest = rest} e a r =
+    subst (λ q. ParsesLoop depth room ts q room' rest) (sym (rows_of.while_is e a)) r
+
+pub split_of : {depth line : ℕ} {room room' : Room} {ts rest : List Token} (region : Named) (e : Expr) (x y : Named) (a : Vec Stmt Global) →
+    ParsesSplit depth room line ts (tree.Split line region (expression_of e) x y (block_of a.items)) room' rest →
+    ParsesSplit depth room line ts (statement_of (stmt.Split line region e x y a)) room' rest
+split_of {depth = depth} {line = line} {room = room} {room' = room'} {ts = ts} {rest = rest} region e x y a r =
+    subst (λ q. ParsesSplit depth room line ts q room' rest) (sym (rows_of.split_is line region e x y a)) r
+
+pub each_of : {depth : ℕ} {room room' : Room} {ts rest : List Token} (i x region : Named) (a : Vec Stmt Global) →
+    ParsesEach depth room ts (tree.Each i x region (block_of a.items)) room' rest → ParsesEach depth room ts (statement_of (stmt.Each i x region a)) room' rest
+each_of {depth = depth} {room = room} {room' = room'} {ts = ts} {rest = rest} i x region a r =
+    subst (λ q. ParsesEach depth room ts q room' rest) (sym (rows_of.each_is i x region a)) r
+
+-- behind the first token of a statement stand fewer
+smaller : {depth inner : ℕ} {room inside room' : Room} {ys : Items} {ts behind rest : List Token} {t : Token} {vs : List Value} {y : Statement} →
+    ts ≡ t ∷ behind → Parses inner inside ys behind vs room' rest → Parses depth room (Part p.Statement ∷ []) ts (v.OneStatement y ∷ []) room' rest →
+    ParsesStatement depth room ts y room' rest
+smaller shape r q = record { parses = q; smaller = let a = ap length shape in let b = r.shorter in omega (arith, a, b) }
+
 -- what is behind the first token of a statement makes it
 module _ {depth : ℕ} {room inside : Room} {ts behind : List Token} {t : Token} (shape : ts ≡ t ∷ behind) where
   -- of one that counts as a statement alone
   module _ (anew : inside ≡ with_nodes node_limit room) where
     made : {x : Terminal} {ys : Items} {room' : Room} {rest : List Token} {y : Statement} (row : Form) → In row (rows p.Statement) → row.items ≡ Take x ∷ ys →
         row.opens ≡ false → row.counts ≡ AStatement ∷ [] → terminal t.kind ≡ x → ParsesTo depth inside ys behind (MakesBehind row.make (v.OneStatement y)) room' rest →
-        Parses depth room (Part p.Statement ∷ []) ts (v.OneStatement y ∷ []) room' rest
+        ParsesStatement depth room ts y room' rest
     made row i items shut counts kind r =
-        of_same (ap (λ q. q ∷ []) (r.is (Lexed t)))
+        smaller shape r.parses (of_same (ap (λ q. q ∷ []) (r.is (Lexed t)))
         (row_reads row i items shut shape kind (λ c has. subst (λ q. Has inside (after_token limits q t behind c)) (sym counts) (after_statement room inside anew c has))
-        r.parses)
+        r.parses))
 
     pub let_statement : {room' : Room} {rest : List Token} {y : Statement} → t.kind ≡ kind.Keyword k.Let → ParsesLocal depth inside behind y room' rest →
-        Parses depth room (Part p.Statement ∷ []) ts (v.OneStatement y ∷ []) room' rest
+        ParsesStatement depth room ts y room' rest
     let_statement is r = made _ first refl refl refl (ap terminal is) r
 
     pub let_stops : {e : Stop} → t.kind ≡ kind.Keyword k.Let → Stops depth inside local_items behind e → Stops depth room (Part p.Statement ∷ []) ts e
     let_stops is r = row_fails _ first refl refl shape (ap terminal is) (after_statement room inside anew) r
 
     pub if_statement : {room' : Room} {rest : List Token} {y : Statement} → t.kind ≡ kind.Keyword k.If → ParsesChoice depth inside behind y room' rest →
-        Parses depth room (Part p.Statement ∷ []) ts (v.OneStatement y ∷ []) room' rest
+        ParsesStatement depth room ts y room' rest
     if_statement is r = made _ (later (later first)) refl refl refl (ap terminal is) r
 
     pub if_stops : {e : Stop} → t.kind ≡ kind.Keyword k.If → Stops depth inside choice_items behind e → Stops depth room (Part p.Statement ∷ []) ts e
     if_stops is r = row_fails _ (later (later first)) refl refl shape (ap terminal is) (after_statement room inside anew) r
 
     pub while_statement : {room' : Room} {rest : List Token} {y : Statement} → t.kind ≡ kind.Keyword k.While → ParsesLoop depth inside behind y room' rest →
-        Parses depth room (Part p.Statement ∷ []) ts (v.OneStatement y ∷ []) room' rest
+        ParsesStatement depth room ts y room' rest
     while_statement is r = made _ (later (later (later first))) refl refl refl (ap terminal is) r
 
     pub while_stops : {e : Stop} → t.kind ≡ kind.Keyword k.While → Stops depth inside loop_items behind e → Stops depth room (Part p.Statement ∷ []) ts e
     while_stops is r = row_fails _ (later (later (later first))) refl refl shape (ap terminal is) (after_statement room inside anew) r
 
     pub call_statement : {room' : Room} {rest : List Token} {y : Statement} → t.kind ≡ kind.Keyword k.Call → ParsesCall depth inside behind y room' rest →
-        Parses depth room (Part p.Statement ∷ []) ts (v.OneStatement y ∷ []) room' rest
+        ParsesStatement depth room ts y room' rest
     call_statement is r = made _ (later (later (later (later first)))) refl refl refl (ap terminal is) r
 
     pub call_stops : {e : Stop} → t.kind ≡ kind.Keyword k.Call → Stops depth inside call_items behind e → Stops depth room (Part p.Statement ∷ []) ts e
     call_stops is r = row_fails _ (later (later (later (later first)))) refl refl shape (ap terminal is) (after_statement room inside anew) r
 
     pub fork_statement : {room' : Room} {rest : List Token} {y : Statement} → t.kind ≡ kind.Keyword k.Fork → ParsesFork depth inside behind y room' rest →
-        Parses depth room (Part p.Statement ∷ []) ts (v.OneStatement y ∷ []) room' rest
+        ParsesStatement depth room ts y room' rest
     fork_statement is r = made _ (later (later (later (later (later first))))) refl refl refl (ap terminal is) r
 
     pub fork_stops : {e : Stop} → t.kind ≡ kind.Keyword k.Fork → Stops depth inside fork_items behind e → Stops depth room (Part p.Statement ∷ []) ts e
     fork_stops is r = row_fails _ (later (later (later (later (later first))))) refl refl shape (ap terminal is) (after_statement room inside anew) r
 
     pub split_statement : {room' : Room} {rest : List Token} {y : Statement} → t.kind ≡ kind.Keyword k.Split → ParsesSplit depth inside t.line behind y room' rest →
-        Parses depth room (Part p.Statement ∷ []) ts (v.OneStatement y ∷ []) room' rest
+        ParsesStatement depth room ts y room' rest
     split_statement is r =
-        of_same (ap (λ q. q ∷ []) (r.is t refl))
-        (row_reads _ (later (later (later (later (later (later first)))))) refl refl shape (ap terminal is) (after_statement room inside anew) r.parses)
+        smaller shape r.parses (of_same (ap (λ q. q ∷ []) (r.is t refl))
+        (row_reads _ (later (later (later (later (later (later first)))))) refl refl shape (ap terminal is) (after_statement room inside anew) r.parses))
 
     pub split_stops : {e : Stop} → t.kind ≡ kind.Keyword k.Split → Stops depth inside split_items behind e → Stops depth room (Part p.Statement ∷ []) ts e
     split_stops is r =
         row_fails _ (later (later (later (later (later (later first)))))) refl refl shape (ap terminal is) (after_statement room inside anew) r
 
     pub named_statement : {room' : Room} {rest : List Token} {x : Named} {place : ℕ} {y : Statement} → IsNameAt t x place →
-        ParsesAfterName p.AfterName depth inside x behind y room' rest → Parses depth room (Part p.Statement ∷ []) ts (v.OneStatement y ∷ []) room' rest
+        ParsesAfterName p.AfterName depth inside x behind y room' rest → ParsesStatement depth room ts y room' rest
     named_statement {x = x} is r =
-        of_same (ap (λ q. v.OneStatement q ∷ []) (ap r.function same ∙ r.makes))
-        (row_reads _ (later first) refl refl shape (ap terminal is.is) (after_statement room inside anew) r.parses)
+        smaller shape r.parses (of_same (ap (λ q. v.OneStatement q ∷ []) (ap r.function same ∙ r.makes))
+        (row_reads _ (later first) refl refl shape (ap terminal is.is) (after_statement room inside anew) r.parses))
       where
         same : named t ≡ x
         same = λ i. record { name = ap name_of is.is i; line = is.line i }
@@ -384,11 +434,11 @@ module _ {depth : ℕ} {room between : Room} {ts behind : List Token} {t : Token
 
   module _ {inside : Room} (counts : (between.procedures ≡ suc inside.procedures) × (inside ≡ with_procedures inside.procedures between)) where
     pub each_statement : {room' : Room} {rest : List Token} {y : Statement} → ParsesEach depth inside behind y room' rest →
-        Parses depth room (Part p.Statement ∷ []) ts (v.OneStatement y ∷ []) room' rest
+        ParsesStatement depth room ts y room' rest
     each_statement r =
-        of_same (ap (λ q. q ∷ []) (r.is (Lexed t)))
+        smaller shape r.parses (of_same (ap (λ q. q ∷ []) (r.is (Lexed t)))
         (row_reads _ (later (later (later (later (later (later (later first))))))) refl refl shape (ap terminal is) (after_each room between inside anew counts)
-        r.parses)
+        r.parses))
 
     pub each_stops : {e : Stop} → Stops depth inside each_items behind e → Stops depth room (Part p.Statement ∷ []) ts e
     each_stops r =
@@ -437,15 +487,15 @@ no_front ts h t rest shape =
 
 module _ {depth : ℕ} {room room' : Room} {ts rest : List Token} {all : List Stmt} (g : Runs depth room ts all room' rest) where
   module _ (some : starts_at p.Statement rest ≡ true) where
-    pub runs_step : {room'' : Room} {rest' : List Token} (x : Stmt) → Parses depth room' (Part p.Statement ∷ []) rest (v.OneStatement (statement_of x) ∷ []) room'' rest' →
+    pub runs_step : {room'' : Room} {rest' : List Token} (x : Stmt) → ParsesStatement depth room' rest (statement_of x) room'' rest' →
         Runs depth room ts (all ++ x ∷ []) room'' rest'
     runs_step x r = record {
-      shorter = let a = g.shorter in let b = r.shorter in omega (arith, a, b);
+      shorter = let a = g.shorter in let b = r.smaller in omega (arith, a, b);
       reads = λ b last end q.
           of_same (ap (λ z. v.Statements z ∷ []) (sym (onto_more all x b)))
           (g.reads (Then (statement_of x) b) last end
-          (corner_reads _ (later first) refl (front_of rest some).shape (front_of rest some).begins_it (λ c has. has) (then_reads r q)));
-      fails = λ e q. g.fails e (corner_fails _ (later first) refl (front_of rest some).shape (front_of rest some).begins_it (λ c has. has) (then_fails r q));
+          (corner_reads _ (later first) refl (front_of rest some).shape (front_of rest some).begins_it (λ c has. has) (then_reads r.parses q)));
+      fails = λ e q. g.fails e (corner_fails _ (later first) refl (front_of rest some).shape (front_of rest some).begins_it (λ c has. has) (then_fails r.parses q));
     }
 
     pub runs_fail : {e : Stop} → Stops depth room' (Part p.Statement ∷ []) rest e → Stops depth room (Part p.Statements ∷ []) ts e
