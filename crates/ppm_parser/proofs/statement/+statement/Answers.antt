@@ -123,14 +123,14 @@ each-returns-in_err-region t c =
 pub each-returns-in_err-body : goal.each-returns-in_err-body
 each-returns-in_err-body t c =
     exit_by _ _ _ c.from_residual-in_err-body.result c.from_residual-in_err-body.ensures.1
-    (each_fails c.in_ok-index.ensures c.in_ok-behind.ensures c.in_ok-part.ensures c.in_ok-behind-2.ensures c.in_ok-region.ensures 
+    (each_fails c.in_ok-index.ensures c.in_ok-behind.ensures c.in_ok-part.ensures c.in_ok-behind-2.ensures c.in_ok-region.ensures
     c.in_err-body.ensures)
 
 -- a region and a block
 pub each-returns : goal.each-returns
 each-returns t c =
     each_of c.in_ok-index.index c.in_ok-part.part c.in_ok-region.region c.in_ok-body.body
-    (each_read c.in_ok-index.ensures c.in_ok-behind.ensures c.in_ok-part.ensures c.in_ok-behind-2.ensures c.in_ok-region.ensures 
+    (each_read c.in_ok-index.ensures c.in_ok-behind.ensures c.in_ok-part.ensures c.in_ok-behind-2.ensures c.in_ok-region.ensures
     c.in_ok-body.ensures)
 
 -- a statement that begins with a name
