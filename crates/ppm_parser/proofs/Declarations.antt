@@ -1,11 +1,11 @@
 -- Declarations.
-use Rattle.std.proofs.Common.{◌≡◌, ◌≢◌, ℕ, suc, ◌+◌, ◌≤◌, ◌<◌, Bool, true, false, ℤ, pos, List, [], ◌∷◌, ◌++◌, refl, sym, ◌∙◌, ap, subst, arith}
+use Rattle.std.proofs.Common.{◌≡◌, ◌≢◌, ℕ, suc, ◌+◌, ◌<◌, false, ℤ, pos, List, [], ◌∷◌, ◌++◌, refl, sym, ◌∙◌, ap, subst, arith}
 use Rattle.std.proofs.Common.{zero, negsuc, w64, to_z, of_z, append_assoc}
 use Rattle.std.proofs.lemmas.Int.{ints, to_z-of_z}
 use Rattle.std.proofs.lemmas.List.{append-nil as append_nil}
 use Rattle.ppm_words.specs.Limits.{value_bound}
-use Rattle.std.specs.Prelude.{Option, Some, None, neg_ℤ, ◌-ℤ◌}
-use Rattle.ppm_grammar.specs.Rows.{In, first, later, Item, Take, Part}
+use Rattle.std.specs.Prelude.{Option, Some, neg_ℤ, ◌-ℤ◌}
+use Rattle.ppm_grammar.specs.Rows.{In, first, later, Take, Part}
 use Rattle.ppm_grammar.specs.Limits.{Tally, Adds, adds, passed, with_count, after_token}
 use Rattle.ppm_grammar.specs.Faults as of
 use Rattle.ppm_grammar.specs.Predictive.{starts, may_be_empty}
@@ -21,14 +21,14 @@ use Rattle.ppm_tree.specs.declared.named.Named.{Named}
 use Rattle.ppm_tree.specs.declared.tree.Array.{Array}
 use Rattle.ppm_tree.specs.declared.tree.ArrayInput.{ArrayInput}
 use Rattle.ppm_tree.specs.declared.tree.Parameter.{Parameter}
-use Rattle.ppm_rows.specs.Kinds.{Terminal, Number, Word, Mark, terminal}
+use Rattle.ppm_rows.specs.Kinds.{Terminal, Number, Mark, terminal}
 use Rattle.ppm_rows.specs.Values.{Value, Lexed, number_of, named}
 use Rattle.ppm_rows.specs.Values as v
 use Rattle.ppm_rows.specs.Phrases.{Phrase}
 use Rattle.ppm_rows.specs.Phrases as p
 use Rattle.ppm_rows.specs.Making.{Make}
 use Rattle.ppm_rows.specs.Making as make
-use Rattle.ppm_rows.specs.Language.{Form, language, rows, name, sign}
+use Rattle.ppm_rows.specs.Language.{Form, language, rows, sign}
 use Rattle.ppm_rows.specs.Limits.{limits, arrays, words, procedures}
 use Rattle.ppm_rows.proofs.OneAnswer.{is_predictive_language}
 use Rattle.ppm_parser.specs.declared.limit.Limit.TheVariants as limit
@@ -37,10 +37,10 @@ use Rattle.ppm_parser.specs.declared.stop.Stop.{Stop}
 use Rattle.ppm_parser.specs.declared.stop.Stop.TheVariants as stop
 use Rattle.ppm_parser.specs.Faults.{fault_of}
 use Rattle.ppm_parser.specs.Room.{left, Has, with_arrays, with_words, with_procedures}
-use Rattle.ppm_parser.specs.Fronts.{InFront, HasAt, HasName, HasNumber, HasLiteral, IsNotFront, Misses, MissesName, MissesNumber}
+use Rattle.ppm_parser.specs.Fronts.{InFront, HasAt, HasName, HasNumber, HasLiteral, IsNotFront, Misses, MissesNumber}
 use Rattle.ppm_parser.specs.Parsing.{Items, Parses, Stops, ParsesTo, MakesBehind}
 use Rattle.ppm_parser.specs.Declarations.{array_items, procedure_items, input_items, ParsesArray, ParsesInteger, StopsInteger, ParsesIntegers, StopsIntegers, ParsesInput}
-use Rattle.ppm_parser.proofs.Reading.{then_reads, then_fails, front_fails, of_same, read, front_reads, take_reads, take_fails, name_reads, name_fails}
+use Rattle.ppm_parser.proofs.Reading.{then_reads, then_fails, front_fails, of_same, read, front_reads, take_reads, take_fails, name_reads}
 use Rattle.ppm_parser.proofs.Reading.{row_reads, row_fails, row_many, part_ended, part_unexpected, open_reads, open_fails, named_is}
 use Rattle.ppm_parser.proofs.Lists.{Goes}
 use Rattle.ppm_parser.proofs.Lists as lists

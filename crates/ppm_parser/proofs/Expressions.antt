@@ -1,10 +1,10 @@
 -- From the parts of an expression to the expression.
-use Rattle.std.proofs.Common.{◌≡◌, ◌≢◌, ℕ, suc, ◌+◌, ◌≤◌, Bool, true, false, ℤ, pos, List, [], ◌∷◌, ◌++◌, refl, sym, ◌∙◌, ap, subst, arith}
-use Rattle.std.specs.Prelude.{Option, Some, None, map, ◌==◌, ◌<◌, if◌then◌else◌}
+use Rattle.std.proofs.Common.{◌≡◌, ◌≢◌, ℕ, suc, Bool, true, false, ℤ, pos, List, [], ◌∷◌, refl, sym, ◌∙◌, ap, subst, arith}
+use Rattle.std.specs.Prelude.{Some, None, map, ◌==◌, ◌<◌, if◌then◌else◌}
 use Rattle.std.proofs.Common.{w64, to_z, of_z}
 use Rattle.std.proofs.lemmas.Int.{ints, to_z-of_z}
 use Rattle.ppm_words.specs.Limits.{value_bound}
-use Rattle.ppm_grammar.specs.Rows.{In, first, later, element, Item, Take, Part}
+use Rattle.ppm_grammar.specs.Rows.{In, first, later, element, Take, Part}
 use Rattle.ppm_grammar.specs.Limits.{Tally, Adds, adds, passed, with_counts, after_token}
 use Rattle.ppm_grammar.specs.Faults as of
 use Rattle.ppm_grammar.specs.Predictive.{some, can_start, starts}
@@ -37,9 +37,9 @@ use Rattle.ppm_parser.specs.declared.stop.Stop.TheVariants as stop
 use Rattle.ppm_parser.specs.Faults.{fault_of}
 use Rattle.ppm_parser.specs.Room.{Has, with_nodes}
 use Rattle.ppm_parser.specs.Fronts.{InFront, HasAt, HasName, HasOperator, Misses, MissesName, NoOperator, IsNotFront, line_of, comes_once}
-use Rattle.ppm_parser.specs.Parsing.{Items, Parses, Stops, ParsesExpression, ParsesFrom, ParsesUpTo, IsNameAt, ParsesNamed, StopsNamed}
-use Rattle.ppm_parser.proofs.Reading.{free, then_reads, then_fails, front_fails, read, refused, of_same, front_reads, take_reads, name_reads, take_fails, name_fails}
-use Rattle.ppm_parser.proofs.Reading.{row_reads, row_fails, row_many, corner_reads, corner_fails, only_reads, only_fails, past_reads, part_ended, part_unexpected}
+use Rattle.ppm_parser.specs.Parsing.{Parses, Stops, ParsesExpression, ParsesFrom, ParsesUpTo, IsNameAt, ParsesNamed, StopsNamed}
+use Rattle.ppm_parser.proofs.Reading.{then_reads, then_fails, front_fails, read, of_same, name_reads, name_fails}
+use Rattle.ppm_parser.proofs.Reading.{row_reads, row_fails, row_many, only_reads, only_fails, past_reads}
 use Rattle.ppm_parser.proofs.Reading.{open_reads, open_fails, open_many, too_deep, named_is, after_node, no_node}
 
 -- one node is counted

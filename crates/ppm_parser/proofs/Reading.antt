@@ -1,18 +1,17 @@
 -- The chains at the language: tokens, counts and rows in the words of the parser's clauses.
-use Rattle.std.proofs.Common.{◌≡◌, ◌≢◌, ℕ, suc, ◌+◌, ◌≤◌, ◌<◌, Bool, true, false, List, [], ◌∷◌, ◌++◌, length, refl, sym, ◌∙◌, ap, subst, arith, inl, inr}
-use Rattle.std.specs.Prelude.{Option, Some, None, ◌⊎◌}
-use Rattle.ppm_grammar.specs.Rows.{In, Item, Take, Part}
+use Rattle.std.proofs.Common.{◌≡◌, ℕ, suc, true, false, List, [], ◌∷◌, ◌++◌, refl, sym, ap, subst, arith, inl, inr}
+use Rattle.std.specs.Prelude.{Some, None}
+use Rattle.ppm_grammar.specs.Rows.{In, Take, Part}
 use Rattle.ppm_grammar.specs.Limits.{Tally, passed, adds, with_count, Anew, after_token}
-use Rattle.ppm_grammar.specs.Predictive.{can_start, starts, may_be_empty, IsPredictive}
+use Rattle.ppm_grammar.specs.Predictive.{can_start, starts, may_be_empty}
 use Rattle.ppm_grammar.specs.Faults as of
 use Rattle.ppm_grammar.specs.Reading.{FailsState}
 use Rattle.ppm_grammar.proofs.TallyLemmas.{remains_free, remains_full}
 use Rattle.ppm_grammar.proofs.StatesLemmas as states
-use Rattle.ppm_text.specs.declared.token.Kind.TheVariants as kind
 use Rattle.ppm_text.specs.declared.token.Token.{Token}
 use Rattle.ppm_tree.specs.Limits.{parameter_limit, node_limit}
 use Rattle.ppm_tree.specs.declared.named.Named.{Named}
-use Rattle.ppm_rows.specs.Kinds.{Terminal, Name, Number, Word, Mark, terminal}
+use Rattle.ppm_rows.specs.Kinds.{Terminal, Name, terminal}
 use Rattle.ppm_rows.specs.Values.{Value, Lexed, name_of, named}
 use Rattle.ppm_rows.specs.Phrases.{Phrase}
 use Rattle.ppm_rows.specs.Language.{Form, language, rows}
@@ -23,8 +22,8 @@ use Rattle.ppm_parser.specs.declared.room.Room.{Room}
 use Rattle.ppm_parser.specs.declared.stop.Stop.{Stop}
 use Rattle.ppm_parser.specs.declared.stop.Stop.TheVariants as stop
 use Rattle.ppm_parser.specs.Faults.{fault_of}
-use Rattle.ppm_parser.specs.Room.{left, Has, with_arrays, with_words, with_procedures, with_elements, with_nodes}
-use Rattle.ppm_parser.specs.Fronts.{InFront, HasFront, HasAt, HasName, Misses, MissesName, IsNotFront}
+use Rattle.ppm_parser.specs.Room.{left, Has, with_elements, with_nodes}
+use Rattle.ppm_parser.specs.Fronts.{InFront, HasFront, HasAt, HasName, Misses, MissesName}
 use Rattle.ppm_parser.specs.Parsing.{Items, Parses, Stops}
 use Rattle.ppm_parser.proofs.Chains as chains
 

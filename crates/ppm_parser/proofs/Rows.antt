@@ -1,6 +1,6 @@
 -- Blocks of statements: the row that a declared statement holds, and the list that the code sees.
-use Rattle.std.proofs.Common.{◌≡◌, ℕ, List, [], ◌∷◌, Vec, Global, refl, sym, ap, ap₂, ◌∙◌}
-use Rattle.ppm_tree.specs.Tree.{Block, Nil, Then, If, While, Split, Each, expression_of, statement_of, row_block, block_of}
+use Rattle.std.proofs.Common.{◌≡◌, ℕ, Vec, Global, refl, ap, ap₂, ◌∙◌}
+use Rattle.ppm_tree.specs.Tree.{Then, If, While, Split, Each, expression_of, statement_of, row_block, block_of}
 use Rattle.ppm_tree.specs.declared.named.Named.{Named}
 use Rattle.ppm_tree.specs.declared.tree.Expr.{Expr}
 use Rattle.ppm_tree.specs.declared.tree.Stmt.{Stmt, Row_of-Stmt, end_of-Stmt, more_of-Stmt, items-the_row-Stmt, items_hidden-the_row-Stmt-0}

@@ -1,13 +1,12 @@
 -- Statements.
-use Rattle.std.proofs.Common.{◌≡◌, ◌≢◌, ℕ, suc, ◌+◌, ◌≤◌, Bool, true, false, List, [], ◌∷◌, ◌++◌, length, ◌<◌, Vec, Global, refl, sym, ◌∙◌, ap, subst, arith}
+use Rattle.std.proofs.Common.{◌≡◌, ◌≢◌, ℕ, suc, ◌≤◌, true, false, List, [], ◌∷◌, ◌++◌, length, Vec, Global, refl, sym, ◌∙◌, ap, subst, arith}
 use Rattle.std.specs.Prelude.{Option, Some, None}
-use Rattle.ppm_grammar.specs.Rows.{In, first, later, Item, Take, Part}
-use Rattle.ppm_grammar.specs.Limits.{Tally, Anew, Adds, adds, passed, with_count, after_token}
+use Rattle.ppm_grammar.specs.Rows.{In, first, later, Take, Part}
+use Rattle.ppm_grammar.specs.Limits.{Tally, Anew, adds, with_count, after_token}
 use Rattle.ppm_grammar.specs.Faults as of
 use Rattle.ppm_grammar.specs.Predictive.{starts}
-use Rattle.ppm_grammar.proofs.TallyLemmas.{remains_full, remains_anew}
+use Rattle.ppm_grammar.proofs.TallyLemmas.{remains_full}
 use Rattle.ppm_grammar.proofs.TextLemmas.{other_kind}
-use Rattle.ppm_text.specs.declared.token.Keyword.{Keyword}
 use Rattle.ppm_text.specs.declared.token.Keyword.TheVariants as k
 use Rattle.ppm_text.specs.declared.token.Sign.TheVariants as s
 use Rattle.ppm_text.specs.declared.token.Kind.TheVariants as kind
@@ -24,9 +23,8 @@ use Rattle.ppm_rows.specs.Values.{Value, Lexed, name_of, named}
 use Rattle.ppm_rows.specs.Values as v
 use Rattle.ppm_rows.specs.Phrases.{Phrase}
 use Rattle.ppm_rows.specs.Phrases as p
-use Rattle.ppm_rows.specs.Making.{Make, for_target}
-use Rattle.ppm_rows.specs.Making as make
-use Rattle.ppm_rows.specs.Language.{Form, language, rows, name, sign, word, expr, AStatement, AProcedure}
+use Rattle.ppm_rows.specs.Making.{for_target}
+use Rattle.ppm_rows.specs.Language.{Form, language, rows, name, sign, word, expr, AStatement}
 use Rattle.ppm_rows.specs.Limits.{limits, procedures, nodes}
 use Rattle.ppm_rows.proofs.OneAnswer.{is_predictive_language}
 use Rattle.ppm_parser.specs.declared.limit.Limit.TheVariants as limit
@@ -35,11 +33,11 @@ use Rattle.ppm_parser.specs.declared.stop.Stop.{Stop}
 use Rattle.ppm_parser.specs.declared.stop.Stop.TheVariants as stop
 use Rattle.ppm_parser.specs.Faults.{fault_of}
 use Rattle.ppm_parser.specs.Room.{left, Has, with_procedures, with_nodes}
-use Rattle.ppm_parser.specs.Fronts.{InFront, HasFront, HasAt, HasName, HasGive, IsNotFront, Misses, MissesName, line_of, starts_at}
-use Rattle.ppm_parser.specs.Parsing.{Items, Parses, Stops, ParsesTo, MakesBehind, MakesInLine, ParsesExpression, ParsesUpTo, IsNameAt}
+use Rattle.ppm_parser.specs.Fronts.{HasFront, HasAt, HasName, HasGive, IsNotFront, Misses, MissesName, line_of, starts_at}
+use Rattle.ppm_parser.specs.Parsing.{Items, Parses, Stops, ParsesTo, MakesBehind, ParsesExpression, ParsesUpTo, IsNameAt}
 use Rattle.ppm_parser.specs.Statements.{local_items, choice_items, loop_items, call_items, fork_items, split_items, each_items, ParsesLocal, ParsesChoice}
 use Rattle.ppm_parser.specs.Statements.{ParsesLoop, ParsesCall, ParsesFork, ParsesSplit, ParsesEach, ParsesAfterName, ParsesStatement}
-use Rattle.ppm_parser.proofs.Reading.{then_reads, then_fails, front_fails, of_same, read, front_reads, take_reads, take_fails, word_reads, name_reads, name_fails}
+use Rattle.ppm_parser.proofs.Reading.{then_reads, then_fails, front_fails, of_same, take_reads, take_fails, word_reads, name_reads, name_fails}
 use Rattle.ppm_parser.proofs.Reading.{row_reads, row_fails, row_many, corner_reads, corner_fails, NoOther, other_reads, other_fails, past_reads, open_reads, open_fails, too_deep}
 use Rattle.ppm_parser.proofs.Reading.{named_is, after_statement}
 use Rattle.ppm_parser.proofs.Declarations.{part_misses}

@@ -1,9 +1,7 @@
-use Rattle.std.proofs.Common.{rules, refl, ap, length, arith}
+use Rattle.std.proofs.Common.{rules, refl}
 use Rattle.std.proofs.lemmas.Result.{MatchResult-weaker}
 use Rattle.ppm_text.specs.declared.token.Keyword.TheVariants as k
 use Rattle.ppm_rows.specs.Kinds.{Word}
-use Rattle.ppm_grammar.specs.Rows.{Part}
-use Rattle.ppm_rows.specs.Phrases as p
 use Rattle.ppm_parser.specs.Parsing.{IsNameAt}
 use Rattle.ppm_parser.proofs.Exits.{exit_by}
 use Rattle.ppm_parser.proofs.Expressions.{not_front}

@@ -1,5 +1,5 @@
 use Rattle.ppm_parser.proofs.Exits.{exit_by}
-use Rattle.ppm_parser.proofs.Statements.{local_read, local_fails, local_unassigned}
+use Rattle.ppm_parser.proofs.Statements.{local_read, local_fails}
 use Rattle.ppm_parser.proofs.statement.local.Goals as goal
 
 -- the value stops

@@ -1,5 +1,5 @@
 use Rattle.ppm_parser.proofs.Exits.{exit_by}
-use Rattle.ppm_parser.proofs.Statements.{put_missing, put_deep, put_index_fails, put_unassigned, put_value_fails, put_read}
+use Rattle.ppm_parser.proofs.Statements.{put_missing, put_index_fails, put_unassigned, put_value_fails, put_read}
 use Rattle.ppm_parser.proofs.statement.put.Goals as goal
 
 -- no bracket
