@@ -189,17 +189,6 @@ module _ {depth inner : ℕ} (less : depth ≡ suc inner) where
   open_fails row i items opens is kind after b =
       record { fails = chains.open_fails language limits Has free less may_follow is_predictive_language row i items opens is kind after b.fails }
 
-  -- or passes a limit there
-  pub open_many : {room : Room} {which : ℕ} {n : Phrase} {x : Terminal} {t : Token} {ys : Items} {ts behind : List Token} {e : Stop} (row : Form) →
-      In row (rows n) → row.items ≡ Take x ∷ ys → row.opens ≡ true → ts ≡ t ∷ behind → terminal t.kind ≡ x →
-      fault_of e ≡ Some (of.TooMany t.place which) →
-      ((c : Tally) → Has room c → passed limits.most (after_token limits row.counts t behind c) ≡ Some which) → Stops depth room (Part n ∷ []) ts e
-  open_many {room = room} {n = n} {ts = ts} row i items opens is kind told many =
-      record {
-        fails = subst (λ q. FailsState language limits Has depth room (Part n ∷ []) ts q) (sym told)
-            (states.open_too_many language limits Has free less may_follow is_predictive_language row i items opens is kind many);
-      }
-
 -- where no opening is left
 pub too_deep : {depth : ℕ} {room : Room} {n : Phrase} {x : Terminal} {t : Token} {ys : Items} {ts behind : List Token} {e : Stop} (row : Form) → depth ≡ 0 →
     In row (rows n) → row.items ≡ Take x ∷ ys → row.opens ≡ true → ts ≡ t ∷ behind → terminal t.kind ≡ x → fault_of e ≡ Some (of.TooDeep t.place) →
@@ -233,6 +222,3 @@ after_list r r' is c (a, (w, (p, (e, (n, u))))) = subst (λ q. Has q (with_count
 -- a number of which none may come passes its limit
 pub no_node : (r : Room) → r.nodes ≡ 0 → (c : Tally) → Has r c → passed limits.most (adds nodes 1 c) ≡ Some nodes
 no_node r none c h = remains_full nodes node_limit 1 limits.most (left r) c refl h (omega (arith, none))
-
-pub no_element : (r : Room) → r.elements ≡ 0 → (c : Tally) → Has r c → passed limits.most (adds elements 1 c) ≡ Some elements
-no_element r none c h = remains_full elements parameter_limit 1 limits.most (left r) c refl h (omega (arith, none))

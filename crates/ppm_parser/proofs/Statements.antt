@@ -3,7 +3,6 @@ use Rattle.std.proofs.Common.{◌≡◌, ◌≢◌, ℕ, suc, ◌≤◌, true, f
 use Rattle.std.specs.Prelude.{Option, Some, None}
 use Rattle.ppm_grammar.specs.Rows.{In, first, later, Take, Part}
 use Rattle.ppm_grammar.specs.Limits.{Tally, Anew, adds, with_count, after_token}
-use Rattle.ppm_grammar.specs.Faults as of
 use Rattle.ppm_grammar.specs.Predictive.{starts}
 use Rattle.ppm_grammar.proofs.TallyLemmas.{remains_full}
 use Rattle.ppm_grammar.proofs.TextLemmas.{other_kind}
@@ -38,7 +37,7 @@ use Rattle.ppm_parser.specs.Parsing.{Items, Parses, Stops, ParsesTo, MakesBehind
 use Rattle.ppm_parser.specs.Statements.{local_items, choice_items, loop_items, call_items, fork_items, split_items, each_items, ParsesLocal, ParsesChoice}
 use Rattle.ppm_parser.specs.Statements.{ParsesLoop, ParsesCall, ParsesFork, ParsesSplit, ParsesEach, ParsesAfterName, ParsesStatement}
 use Rattle.ppm_parser.proofs.Reading.{then_reads, then_fails, front_fails, of_same, take_reads, take_fails, word_reads, name_reads, name_fails}
-use Rattle.ppm_parser.proofs.Reading.{row_reads, row_fails, row_many, corner_reads, corner_fails, NoOther, other_reads, other_fails, past_reads, open_reads, open_fails, too_deep}
+use Rattle.ppm_parser.proofs.Reading.{row_reads, row_fails, row_many, corner_reads, corner_fails, NoOther, other_reads, other_fails, past_reads, open_reads, open_fails}
 use Rattle.ppm_parser.proofs.Reading.{named_is, after_statement}
 use Rattle.ppm_parser.proofs.Declarations.{part_misses}
 use Rattle.ppm_parser.proofs.Rows as rows_of
@@ -55,10 +54,6 @@ module _ {depth : ℕ} {room : Room} {ts behind after : List Token} {x : Named} 
 
   pub local_fails : {e : Stop} → Stops depth room (expr ∷ sign s.Semicolon ∷ []) after e → Stops depth room local_items ts e
   local_fails r = then_fails (then_reads (name_reads g) (take_reads h)) r
-
-pub local_unassigned : {depth : ℕ} {room : Room} {ts behind : List Token} {x : Named} {e : Stop} → HasName ts x behind → Misses (Mark s.Assign) behind e →
-    Stops depth room local_items ts e
-local_unassigned {behind = behind} g h = then_fails (name_reads g) (front_fails (expr ∷ sign s.Semicolon ∷ []) (take_fails (Mark s.Assign) behind h))
 
 -- no other part than an element is behind a name where no `=` is in front
 no_assign : (ts : List Token) → IsNotFront (Mark s.Assign) ts → NoOther p.AfterName p.Element ts
@@ -81,10 +76,6 @@ module _ {depth : ℕ} {room : Room} {ts : List Token} (none : IsNotFront (Mark 
   put_missing h = element_stops (part_misses p.Element (Mark s.OpenBracket) ts refl never_element h)
 
   module _ {place : ℕ} {behind : List Token} (h : HasAt (Mark s.OpenBracket) ts place behind) where
-    pub put_deep : {e : Stop} → depth ≡ 0 → e ≡ stop.TooDeep place → Stops depth room (Part p.AfterName ∷ []) ts e
-    put_deep full told =
-        element_stops (too_deep _ full first refl refl h.front.shape h.front.is (ap fault_of told ∙ ap (λ q. Some (of.TooDeep q)) (sym h.at)))
-
     module _ {inner : ℕ} (less : depth ≡ suc inner) where
       pub put_index_fails : {e : Stop} → Stops inner room (expr ∷ sign s.CloseBracket ∷ []) behind e → Stops depth room (Part p.AfterName ∷ []) ts e
       put_index_fails r = element_stops (open_fails less _ first refl refl h.front.shape h.front.is (λ c has. has) r)
