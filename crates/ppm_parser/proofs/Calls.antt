@@ -1,9 +1,8 @@
 -- Calls and their arguments.
-use Rattle.std.proofs.Common.{◌≡◌, ◌≢◌, ℕ, suc, ◌≤◌, Bool, true, false, List, [], ◌∷◌, ◌++◌, refl, sym, ◌∙◌, ap, subst, arith}
-use Rattle.std.specs.Prelude.{Option, Some, None, map, nat_lt, ◌+◌, ◌<◌, if◌then◌else◌}
-use Rattle.ppm_grammar.specs.Rows.{first, later, Item, Take, Part}
+use Rattle.std.proofs.Common.{◌≡◌, ℕ, suc, ◌≤◌, Bool, true, false, List, [], ◌∷◌, ◌++◌, refl, sym, ◌∙◌, ap, subst, arith}
+use Rattle.std.specs.Prelude.{Option, Some, None, nat_lt, ◌+◌, if◌then◌else◌}
+use Rattle.ppm_grammar.specs.Rows.{first, later, Take, Part}
 use Rattle.ppm_grammar.specs.Limits.{Tally, Adds, adds, passed, with_counts, after_token}
-use Rattle.ppm_grammar.specs.Faults as of
 use Rattle.ppm_grammar.specs.Predictive.{starts}
 use Rattle.ppm_grammar.specs.Derivation.{Due}
 use Rattle.ppm_grammar.specs.Stack.{Move, next}
@@ -26,7 +25,7 @@ use Rattle.ppm_rows.specs.Values as v
 use Rattle.ppm_rows.specs.Phrases as p
 use Rattle.ppm_rows.specs.Making.{for_target}
 use Rattle.ppm_rows.specs.Making as make
-use Rattle.ppm_rows.specs.Language.{language, rows, expr, Counted, AnElement, ANode, AName}
+use Rattle.ppm_rows.specs.Language.{language, expr, Counted, AnElement, ANode, AName}
 use Rattle.ppm_rows.specs.Phrases.{Phrase}
 use Rattle.ppm_rows.specs.Limits.{limits, elements, nodes, has_index}
 use Rattle.ppm_parser.specs.declared.limit.Limit.TheVariants as limit
@@ -36,9 +35,9 @@ use Rattle.ppm_parser.specs.declared.stop.Stop.TheVariants as stop
 use Rattle.ppm_parser.specs.Faults.{fault_of}
 use Rattle.ppm_parser.specs.Room.{Has, with_elements}
 use Rattle.ppm_parser.specs.Fronts.{HasAt, HasName, HasExpression, BeginsExpression, opened_by, IsNotFront, Misses, line_of}
-use Rattle.ppm_parser.specs.Parsing.{Items, Parses, Stops, StopsFirst, ParsesExpression, ParsesClosed}
-use Rattle.ppm_parser.proofs.Reading.{free, then_reads, then_fails, front_fails, read, of_same, take_reads, take_fails, name_reads, name_fails}
-use Rattle.ppm_parser.proofs.Reading.{row_reads, row_fails, corner_reads, corner_fails, only_reads, NoOther, other_reads, other_fails, open_reads, open_fails, too_deep, named_is}
+use Rattle.ppm_parser.specs.Parsing.{Parses, Stops, ParsesExpression, ParsesClosed}
+use Rattle.ppm_parser.proofs.Reading.{free, of_same}
+use Rattle.ppm_parser.proofs.Reading.{row_reads, row_fails, corner_reads, corner_fails, NoOther, other_reads, other_fails, open_reads, open_fails, named_is}
 use Rattle.ppm_parser.proofs.Reading.{after_element, after_list}
 use Rattle.ppm_parser.proofs.Lists.{Goes}
 use Rattle.ppm_parser.proofs.Lists as lists

@@ -1,14 +1,14 @@
 -- Items that are read one list behind the other, and parts that are read by one of their rows.
-use Rattle.std.proofs.Common.{◌≡◌, ℕ, suc, ◌+◌, ◌≤◌, Bool, true, false, List, [], ◌∷◌, ◌++◌, length, refl, sym, ◌∙◌, ap, subst, arith, append_assoc}
+use Rattle.std.proofs.Common.{◌≡◌, ℕ, suc, Bool, true, false, List, [], ◌∷◌, ◌++◌, length, refl, sym, ◌∙◌, ap, subst, arith, append_assoc}
 use Rattle.std.proofs.lemmas.List.{append-nil as append_nil}
-use Rattle.std.specs.Prelude.{Option, Some, None}
+use Rattle.std.specs.Prelude.{Option, None}
 use Rattle.ppm_grammar.specs.Rows.{In, Item, Take, Part, Row, Grammar}
-use Rattle.ppm_grammar.specs.Derivation.{Due, Within, due, Mark, Derives, token, part, nothing}
+use Rattle.ppm_grammar.specs.Derivation.{Within, due, Mark, Derives, token, part, nothing}
 use Rattle.ppm_grammar.specs.Limits.{Limits, Tally, passed, after_token}
 use Rattle.ppm_grammar.specs.Faults.{Fault}
 use Rattle.ppm_grammar.specs.Predictive.{may_be_empty, can_start, starts, IsPredictive}
 use Rattle.ppm_grammar.specs.Stack.{fault_at}
-use Rattle.ppm_grammar.specs.Reading.{Reads, Fails, ReadsThen, ReadsState, FailsState}
+use Rattle.ppm_grammar.specs.Reading.{Reads, ReadsState, FailsState}
 use Rattle.ppm_grammar.proofs.LeadsLemmas as base
 use Rattle.ppm_grammar.proofs.LeadsLemmas.{LeadsTo, fronts, backs}
 use Rattle.ppm_grammar.proofs.StatesLemmas as states

@@ -1,47 +1,42 @@
 -- Declarations.
-use Rattle.std.proofs.Common.{◌≡◌, ◌≢◌, ℕ, suc, ◌+◌, ◌≤◌, ◌<◌, Bool, true, false, ℤ, pos, List, [], ◌∷◌, ◌++◌, refl, sym, ◌∙◌, ap, subst, arith}
+use Rattle.std.proofs.Common.{◌≡◌, ◌≢◌, ℕ, suc, ◌+◌, ◌<◌, false, ℤ, pos, List, [], ◌∷◌, ◌++◌, refl, sym, ◌∙◌, ap, subst, arith}
 use Rattle.std.proofs.Common.{zero, negsuc, w64, to_z, of_z, append_assoc}
 use Rattle.std.proofs.lemmas.Int.{ints, to_z-of_z}
 use Rattle.std.proofs.lemmas.List.{append-nil as append_nil}
 use Rattle.ppm_words.specs.Limits.{value_bound}
-use Rattle.std.specs.Prelude.{Option, Some, None, neg_ℤ, ◌-ℤ◌}
-use Rattle.ppm_grammar.specs.Rows.{In, first, later, Item, Take, Part}
-use Rattle.ppm_grammar.specs.Limits.{Tally, Adds, adds, passed, with_count, after_token}
-use Rattle.ppm_grammar.specs.Faults as of
+use Rattle.std.specs.Prelude.{Option, neg_ℤ, ◌-ℤ◌}
+use Rattle.ppm_grammar.specs.Rows.{In, first, later, Take, Part}
+use Rattle.ppm_grammar.specs.Limits.{Tally, Adds, adds, with_count, after_token}
 use Rattle.ppm_grammar.specs.Predictive.{starts, may_be_empty}
-use Rattle.ppm_grammar.proofs.TallyLemmas.{remains_full}
 use Rattle.ppm_grammar.proofs.TextLemmas.{other_kind}
 use Rattle.ppm_text.specs.declared.token.Keyword.TheVariants as k
 use Rattle.ppm_text.specs.declared.token.Sign.TheVariants as s
 use Rattle.ppm_text.specs.declared.token.Kind.TheVariants as kind
 use Rattle.ppm_text.specs.declared.token.Token.{Token}
-use Rattle.ppm_tree.specs.Limits.{array_limit, word_limit, procedure_limit, depth_limit, IsInputValue}
+use Rattle.ppm_tree.specs.Limits.{depth_limit, IsInputValue}
 use Rattle.ppm_tree.specs.Tree.{Procedure, Block, Give}
 use Rattle.ppm_tree.specs.declared.named.Named.{Named}
 use Rattle.ppm_tree.specs.declared.tree.Array.{Array}
 use Rattle.ppm_tree.specs.declared.tree.ArrayInput.{ArrayInput}
 use Rattle.ppm_tree.specs.declared.tree.Parameter.{Parameter}
-use Rattle.ppm_rows.specs.Kinds.{Terminal, Number, Word, Mark, terminal}
+use Rattle.ppm_rows.specs.Kinds.{Terminal, Number, Mark, terminal}
 use Rattle.ppm_rows.specs.Values.{Value, Lexed, number_of, named}
 use Rattle.ppm_rows.specs.Values as v
 use Rattle.ppm_rows.specs.Phrases.{Phrase}
 use Rattle.ppm_rows.specs.Phrases as p
 use Rattle.ppm_rows.specs.Making.{Make}
 use Rattle.ppm_rows.specs.Making as make
-use Rattle.ppm_rows.specs.Language.{Form, language, rows, name, sign}
+use Rattle.ppm_rows.specs.Language.{Form, language, rows, sign}
 use Rattle.ppm_rows.specs.Limits.{limits, arrays, words, procedures}
 use Rattle.ppm_rows.proofs.OneAnswer.{is_predictive_language}
-use Rattle.ppm_parser.specs.declared.limit.Limit.TheVariants as limit
 use Rattle.ppm_parser.specs.declared.room.Room.{Room}
 use Rattle.ppm_parser.specs.declared.stop.Stop.{Stop}
-use Rattle.ppm_parser.specs.declared.stop.Stop.TheVariants as stop
-use Rattle.ppm_parser.specs.Faults.{fault_of}
-use Rattle.ppm_parser.specs.Room.{left, Has, with_arrays, with_words, with_procedures}
-use Rattle.ppm_parser.specs.Fronts.{InFront, HasAt, HasName, HasNumber, HasLiteral, IsNotFront, Misses, MissesName, MissesNumber}
+use Rattle.ppm_parser.specs.Room.{Has, with_arrays, with_words, with_procedures}
+use Rattle.ppm_parser.specs.Fronts.{InFront, HasAt, HasName, HasNumber, HasLiteral, IsNotFront, Misses, MissesNumber}
 use Rattle.ppm_parser.specs.Parsing.{Items, Parses, Stops, ParsesTo, MakesBehind}
 use Rattle.ppm_parser.specs.Declarations.{array_items, procedure_items, input_items, ParsesArray, ParsesInteger, StopsInteger, ParsesIntegers, StopsIntegers, ParsesInput}
-use Rattle.ppm_parser.proofs.Reading.{then_reads, then_fails, front_fails, of_same, read, front_reads, take_reads, take_fails, name_reads, name_fails}
-use Rattle.ppm_parser.proofs.Reading.{row_reads, row_fails, row_many, part_ended, part_unexpected, open_reads, open_fails, named_is}
+use Rattle.ppm_parser.proofs.Reading.{then_reads, then_fails, front_fails, of_same, read, front_reads, take_reads, take_fails, name_reads}
+use Rattle.ppm_parser.proofs.Reading.{row_reads, row_fails, part_ended, part_unexpected, open_reads, named_is}
 use Rattle.ppm_parser.proofs.Lists.{Goes}
 use Rattle.ppm_parser.proofs.Lists as lists
 
@@ -50,10 +45,6 @@ pub part_misses : {depth : ℕ} {room : Room} (n : Phrase) (x : Terminal) (ts : 
     ((y : Terminal) → y ≢ x → starts language n y ≡ false) → Misses x ts e → Stops depth room (Part n ∷ []) ts e
 part_misses n x [] full never h = part_ended full refl h
 part_misses n x (t ∷ ts) full never h = part_unexpected full refl (never (terminal t.kind) h.1) h.0
-
--- a number in front
-number_front : {ts rest : List Token} {n place : ℕ} (h : HasNumber ts n place rest) → InFront Number ts h.token rest
-number_front h = record { shape = h.shape; is = ap terminal h.is }
 
 -- the words of an array are counted
 pub record CountsWords (n : ℕ) (room room' : Room) : Type 0 where
@@ -69,41 +60,12 @@ after_words n m r r' is counts c (a, (w, (q, (e, (x, u))))) =
     let less = counts.less in
     subst (λ z. Has z (with_count (Adds words m) c)) (sym counts.same) (a, (omega (arith, w, less, is), (q, (e, (x, tt)))))
 
-never_length : (y : Terminal) → y ≢ Mark s.OpenBracket → starts language p.Length y ≡ false
-never_length y h = is_predictive_language.starts_is p.Length y ∙ rw (other_kind language (Mark s.OpenBracket) y h) refl
-
-never_words : (y : Terminal) → y ≢ Number → starts language p.Words y ≡ false
-never_words y h = is_predictive_language.starts_is p.Words y ∙ rw (other_kind language Number y h) refl
-
 module _ {room : Room} {ts behind : List Token} {x : Named} (g : HasName ts x behind) where
-  -- the length is missing
-  pub length_missing : {e : Stop} → Misses (Mark s.OpenBracket) behind e → Stops depth_limit room array_items ts e
-  length_missing h = then_fails (name_reads g) (front_fails (sign s.Semicolon ∷ []) (part_misses p.Length (Mark s.OpenBracket) behind refl never_length h))
-
   module _ {place : ℕ} {inside : List Token} (open_at : HasAt (Mark s.OpenBracket) behind place inside) where
-    -- what stands in the brackets stops
-    length_fails : {e : Stop} → Stops 31 room (Part p.Words ∷ sign s.CloseBracket ∷ []) inside e → Stops depth_limit room array_items ts e
-    length_fails h =
-        then_fails (name_reads g) (front_fails (sign s.Semicolon ∷ [])
-        (open_fails refl _ first refl refl open_at.front.shape open_at.front.is (λ c has. has) h))
-
-    pub words_missing : {e : Stop} → MissesNumber inside e → Stops depth_limit room array_items ts e
-    words_missing h = length_fails (front_fails (sign s.CloseBracket ∷ []) (part_misses p.Words Number inside refl never_words h))
-
     module _ {n place' : ℕ} {end : List Token} (h : HasNumber inside n place' end) where
-      pub words_many : {e : Stop} → room.words < n → e ≡ stop.TooMany place' limit.ArrayWords → Stops depth_limit room array_items ts e
-      words_many more told =
-          length_fails (front_fails (sign s.CloseBracket ∷ []) (row_many _ first refl refl h.shape (ap terminal h.is)
-          (ap fault_of told ∙ ap (λ q. Some (of.TooMany q words)) (sym h.at))
-          (λ c has. subst (λ q. passed limits.most (adds words q c) ≡ Some words) (sym (ap number_of h.is))
-          (remains_full words word_limit n limits.most (left room) c refl has more))))
-
       module _ {room' : Room} (counts : CountsWords n room room') where
         words_read : {depth : ℕ} → Parses depth room (Part p.Words ∷ []) inside (Lexed h.token ∷ []) room' end
         words_read = row_reads _ first refl refl h.shape (ap terminal h.is) (after_words n (number_of h.token.kind) room room' (ap number_of h.is) counts) read
-
-        pub length_unclosed : {e : Stop} → Misses (Mark s.CloseBracket) end e → Stops depth_limit room array_items ts e
-        length_unclosed r = length_fails (then_fails words_read (take_fails (Mark s.CloseBracket) end r))
 
         module _ {place'' : ℕ} {closed : List Token} (close_at : HasAt (Mark s.CloseBracket) end place'' closed) where
           length_read : Parses depth_limit room (Part p.Length ∷ []) behind (Lexed h.token ∷ []) room' closed
@@ -234,10 +196,6 @@ module _ {some : List ℤ} {ts rest : List Token} {all : List ℤ} (g : Values s
 
 -- an input
 module _ {ts behind : List Token} {x : Named} (g : HasName ts x behind) where
-  pub input_unassigned : {e : Stop} → Misses (Mark s.Assign) behind e → (depth : ℕ) (room : Room) → Stops depth room input_items ts e
-  input_unassigned h depth room =
-      then_fails (name_reads g) (front_fails (Part p.Integer ∷ Part p.MoreIntegers ∷ sign s.Semicolon ∷ []) (take_fails (Mark s.Assign) behind h))
-
   module _ {place : ℕ} {after : List Token} (h : HasAt (Mark s.Assign) behind place after) where
     pub first_value_fails : {e : Stop} → StopsInteger after e → (depth : ℕ) (room : Room) → Stops depth room input_items ts e
     first_value_fails r depth room =
@@ -284,11 +242,6 @@ module _ {room : Room} {ts behind : List Token} {t : Token} (shape : ts ≡ t �
       Stops depth_limit room (Part p.Declaration ∷ []) ts e
   array_fails {between = between} is counts r = row_fails _ first refl refl shape (ap terminal is) (after_array room between counts) r
 
-  pub array_many : {e : Stop} → t.kind ≡ kind.Keyword k.Array → room.arrays ≡ 0 → e ≡ stop.TooMany t.place limit.Arrays →
-      Stops depth_limit room (Part p.Declaration ∷ []) ts e
-  array_many is none told = row_many _ first refl refl shape (ap terminal is) (ap fault_of told)
-      (λ c has. remains_full arrays array_limit 1 limits.most (left room) c refl has (omega (arith, none)))
-
   -- a procedure
   pub procedure_declared : {between room' : Room} {rest : List Token} {x : Procedure} → t.kind ≡ kind.Keyword k.Proc →
       (room.procedures ≡ suc between.procedures) × (between ≡ with_procedures between.procedures room) →
@@ -300,11 +253,6 @@ module _ {room : Room} {ts behind : List Token} {t : Token} (shape : ts ≡ t �
       (room.procedures ≡ suc between.procedures) × (between ≡ with_procedures between.procedures room) →
       Stops depth_limit between procedure_items behind e → Stops depth_limit room (Part p.Declaration ∷ []) ts e
   procedure_fails {between = between} is counts r = row_fails _ (later first) refl refl shape (ap terminal is) (after_procedure room between counts) r
-
-  pub procedure_many : {e : Stop} → t.kind ≡ kind.Keyword k.Proc → room.procedures ≡ 0 → e ≡ stop.TooMany t.place limit.Procedures →
-      Stops depth_limit room (Part p.Declaration ∷ []) ts e
-  procedure_many is none told = row_many _ (later first) refl refl shape (ap terminal is) (ap fault_of told)
-      (λ c has. remains_full procedures procedure_limit 1 limits.most (left room) c refl has (omega (arith, none)))
 
   -- an input
   pub input_declared : {rest : List Token} {i : ArrayInput} → t.kind ≡ kind.Keyword k.Input → ParsesInput behind i rest →

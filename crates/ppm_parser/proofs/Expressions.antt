@@ -1,10 +1,10 @@
 -- From the parts of an expression to the expression.
-use Rattle.std.proofs.Common.{◌≡◌, ◌≢◌, ℕ, suc, ◌+◌, ◌≤◌, Bool, true, false, ℤ, pos, List, [], ◌∷◌, ◌++◌, refl, sym, ◌∙◌, ap, subst, arith}
-use Rattle.std.specs.Prelude.{Option, Some, None, map, ◌==◌, ◌<◌, if◌then◌else◌}
+use Rattle.std.proofs.Common.{◌≡◌, ◌≢◌, ℕ, suc, Bool, true, false, ℤ, pos, List, [], ◌∷◌, refl, sym, ◌∙◌, ap, subst, arith}
+use Rattle.std.specs.Prelude.{Some, None, map, ◌==◌, ◌<◌, if◌then◌else◌}
 use Rattle.std.proofs.Common.{w64, to_z, of_z}
 use Rattle.std.proofs.lemmas.Int.{ints, to_z-of_z}
 use Rattle.ppm_words.specs.Limits.{value_bound}
-use Rattle.ppm_grammar.specs.Rows.{In, first, later, element, Item, Take, Part}
+use Rattle.ppm_grammar.specs.Rows.{In, first, later, element, Take, Part}
 use Rattle.ppm_grammar.specs.Limits.{Tally, Adds, adds, passed, with_counts, after_token}
 use Rattle.ppm_grammar.specs.Faults as of
 use Rattle.ppm_grammar.specs.Predictive.{some, can_start, starts}
@@ -36,11 +36,11 @@ use Rattle.ppm_parser.specs.declared.stop.Stop.{Stop}
 use Rattle.ppm_parser.specs.declared.stop.Stop.TheVariants as stop
 use Rattle.ppm_parser.specs.Faults.{fault_of}
 use Rattle.ppm_parser.specs.Room.{Has, with_nodes}
-use Rattle.ppm_parser.specs.Fronts.{InFront, HasAt, HasName, HasOperator, Misses, MissesName, NoOperator, IsNotFront, line_of, comes_once}
-use Rattle.ppm_parser.specs.Parsing.{Items, Parses, Stops, ParsesExpression, ParsesFrom, ParsesUpTo, IsNameAt, ParsesNamed, StopsNamed}
-use Rattle.ppm_parser.proofs.Reading.{free, then_reads, then_fails, front_fails, read, refused, of_same, front_reads, take_reads, name_reads, take_fails, name_fails}
-use Rattle.ppm_parser.proofs.Reading.{row_reads, row_fails, row_many, corner_reads, corner_fails, only_reads, only_fails, past_reads, part_ended, part_unexpected}
-use Rattle.ppm_parser.proofs.Reading.{open_reads, open_fails, open_many, too_deep, named_is, after_node, no_node}
+use Rattle.ppm_parser.specs.Fronts.{InFront, HasAt, HasName, HasOperator, Misses, NoOperator, IsNotFront, line_of, comes_once}
+use Rattle.ppm_parser.specs.Parsing.{Parses, Stops, ParsesExpression, ParsesFrom, ParsesUpTo, IsNameAt, ParsesNamed, StopsNamed}
+use Rattle.ppm_parser.proofs.Reading.{then_reads, then_fails, front_fails, read, of_same, name_reads}
+use Rattle.ppm_parser.proofs.Reading.{row_reads, row_fails, row_many, only_reads, only_fails, past_reads}
+use Rattle.ppm_parser.proofs.Reading.{open_reads, open_fails, named_is, after_node, no_node}
 
 -- one node is counted
 pub record Counts (room room' : Room) : Type 0 where
@@ -67,10 +67,6 @@ module _ {depth : ℕ} {room : Room} {ts rest : List Token} {t : Token} (is : ts
       of_same (ap (λ q. q ∷ []) (ap (λ q. v.Expr t.line (tree.Number (pos (number_of q)))) kind ∙ lined is))
       (row_reads _ (later first) refl refl is (ap terminal kind) (after counts) read)
 
-  -- one too many
-  pub number_many : {e : Stop} (n : ℕ) → t.kind ≡ kind.Number n → room.nodes ≡ 0 → e ≡ stop.TooMany t.place limit.Nodes → Stops depth room (Part p.Operand ∷ []) ts e
-  number_many n kind none told = row_many _ (later first) refl refl is (ap terminal kind) (ap fault_of told) (no_node room none)
-
   -- a length
   pub len_read : {room' : Room} {x : Named} {end : List Token} → t.kind ≡ kind.Keyword k.Len → Counts room room' → HasName rest x end →
       ParsesExpression depth room p.Operand ts (tree.Len x) room' end
@@ -78,28 +74,15 @@ module _ {depth : ℕ} {room : Room} {ts rest : List Token} {t : Token} (is : ts
       of_same (ap (λ q. q ∷ []) (ap (λ q. v.Expr t.line (tree.Len q)) (named_is h) ∙ lined is))
       (row_reads _ (later (later (later first))) refl refl is (ap terminal kind) (after counts) (name_reads h))
 
-  pub len_many : {e : Stop} → t.kind ≡ kind.Keyword k.Len → room.nodes ≡ 0 → e ≡ stop.TooMany t.place limit.Nodes → Stops depth room (Part p.Operand ∷ []) ts e
-  len_many kind none told = row_many _ (later (later (later first))) refl refl is (ap terminal kind) (ap fault_of told) (no_node room none)
-
-  pub len_fails : {room' : Room} {e : Stop} → t.kind ≡ kind.Keyword k.Len → Counts room room' → MissesName rest e → Stops depth room (Part p.Operand ∷ []) ts e
-  len_fails kind counts h = row_fails _ (later (later (later first))) refl refl is (ap terminal kind) (after counts) (name_fails rest h)
-
   -- a minus
   pub minus_read : {inner : ℕ} {between room' : Room} {end : List Token} {e : Expression} → depth ≡ suc inner → t.kind ≡ kind.Sign s.Minus → Counts room between →
       ParsesExpression inner between p.Operand rest e room' end → ParsesExpression depth room p.Operand ts (tree.Minus t.line e) room' end
   minus_read less kind counts h =
       of_same (ap (λ q. q ∷ []) (lined is)) (open_reads less _ first refl refl is (ap terminal kind) (after counts) h)
 
-  pub minus_many : {inner : ℕ} {e : Stop} → depth ≡ suc inner → t.kind ≡ kind.Sign s.Minus → room.nodes ≡ 0 → e ≡ stop.TooMany t.place limit.Nodes →
-      Stops depth room (Part p.Operand ∷ []) ts e
-  minus_many less kind none told = open_many less _ first refl refl is (ap terminal kind) (ap fault_of told) (no_node room none)
-
   pub minus_fails : {inner : ℕ} {between : Room} {e : Stop} → depth ≡ suc inner → t.kind ≡ kind.Sign s.Minus → Counts room between →
       Stops inner between (Part p.Operand ∷ []) rest e → Stops depth room (Part p.Operand ∷ []) ts e
   minus_fails less kind counts h = open_fails less _ first refl refl is (ap terminal kind) (after counts) h
-
-  pub minus_deep : {e : Stop} → depth ≡ 0 → t.kind ≡ kind.Sign s.Minus → e ≡ stop.TooDeep t.place → Stops depth room (Part p.Operand ∷ []) ts e
-  minus_deep none kind told = too_deep _ none first refl refl is (ap terminal kind) (ap fault_of told)
 
   -- a parenthesis
   pub group_read : {inner : ℕ} {room' : Room} {end : List Token} {e : Expression} → depth ≡ suc inner → t.kind ≡ kind.Sign s.OpenParen →
@@ -111,9 +94,6 @@ module _ {depth : ℕ} {room : Room} {ts rest : List Token} {t : Token} (is : ts
   pub group_fails : {inner : ℕ} {e : Stop} → depth ≡ suc inner → t.kind ≡ kind.Sign s.OpenParen →
       Stops inner room (expr ∷ Take (Mark s.CloseParen) ∷ []) rest e → Stops depth room (Part p.Operand ∷ []) ts e
   group_fails less kind h = open_fails less _ (later (later (later (later first)))) refl refl is (ap terminal kind) (λ c has. has) h
-
-  pub group_deep : {e : Stop} → depth ≡ 0 → t.kind ≡ kind.Sign s.OpenParen → e ≡ stop.TooDeep t.place → Stops depth room (Part p.Operand ∷ []) ts e
-  group_deep none kind told = too_deep _ none (later (later (later (later first)))) refl refl is (ap terminal kind) (ap fault_of told)
 
 -- no token of the kind is in front where it is missed
 pub not_front : (x : Terminal) (ts : List Token) (e : Stop) → Misses x ts e → IsNotFront x ts
@@ -176,18 +156,6 @@ module _ {depth : ℕ} {room : Room} {x : Named} {place : ℕ} {ts : List Token}
       of_same (ap (λ q. q ∷ []) (λ i. v.Expr (is.line i) (tree.Element (record { name = ap name_of is.is i; line = is.line i }) e)))
       (row_reads _ (later (later first)) refl refl refl (ap terminal is.is) (after_region room t ts (index_front h.front))
       (open_reads less _ (later first) refl refl h.front.shape h.front.is (after counts) r.parses))
-
-  pub element_deep : {place' : ℕ} {behind : List Token} {e : Stop} → HasAt (Mark s.OpenBracket) ts place' behind → depth ≡ 0 → e ≡ stop.TooDeep place' →
-      StopsNamed depth room x place ts e
-  element_deep h none told t is =
-      row_fails _ (later (later first)) refl refl refl (ap terminal is.is) (after_region room t ts (index_front h.front))
-      (too_deep _ none (later first) refl refl h.front.shape h.front.is (ap fault_of told ∙ ap (λ q. Some (of.TooDeep q)) (sym h.at)))
-
-  pub element_many : {inner place' : ℕ} {behind : List Token} {e : Stop} → HasAt (Mark s.OpenBracket) ts place' behind → depth ≡ suc inner → room.nodes ≡ 0 →
-      e ≡ stop.TooMany place' limit.Nodes → StopsNamed depth room x place ts e
-  element_many h less full told t is =
-      row_fails _ (later (later first)) refl refl refl (ap terminal is.is) (after_region room t ts (index_front h.front))
-      (open_many less _ (later first) refl refl h.front.shape h.front.is (ap fault_of told ∙ ap (λ q. Some (of.TooMany q nodes)) (sym h.at)) (no_node room full))
 
   pub element_fails : {inner place' : ℕ} {between : Room} {behind : List Token} {e : Stop} → HasAt (Mark s.OpenBracket) ts place' behind → depth ≡ suc inner →
       Counts room between → Stops inner between (expr ∷ Take (Mark s.CloseBracket) ∷ []) behind e → StopsNamed depth room x place ts e

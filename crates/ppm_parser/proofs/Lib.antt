@@ -7,3 +7,5 @@ pub mod Calls
 pub mod Parameters
 pub mod Declarations
 pub mod Programs
+pub mod Rows
+pub mod Statements

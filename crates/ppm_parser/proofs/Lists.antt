@@ -1,7 +1,7 @@
 -- Lists of parts with commas between them, up to the sign that closes them.
-use Rattle.std.proofs.Common.{◌≡◌, ◌≢◌, ℕ, ◌≤◌, Bool, true, false, List, [], ◌∷◌, ◌++◌, length, refl, sym, ◌∙◌, ap, subst, arith, append_assoc}
+use Rattle.std.proofs.Common.{◌≡◌, ◌≢◌, ℕ, ◌≤◌, false, List, [], ◌∷◌, ◌++◌, length, refl, sym, ◌∙◌, ap, subst, arith, append_assoc}
 use Rattle.std.proofs.lemmas.List.{append-nil as append_nil}
-use Rattle.ppm_grammar.specs.Rows.{In, first, later, Item, Take, Part}
+use Rattle.ppm_grammar.specs.Rows.{In, first, later, Take, Part}
 use Rattle.ppm_grammar.specs.Predictive.{some, can_start, starts}
 use Rattle.ppm_grammar.proofs.TextLemmas.{other_kind}
 use Rattle.ppm_grammar.proofs.StatesLemmas as states
@@ -11,11 +11,11 @@ use Rattle.ppm_grammar.proofs.RowsLemmas.{shut_by}
 use Rattle.ppm_text.specs.declared.token.Sign.{Sign}
 use Rattle.ppm_text.specs.declared.token.Sign.TheVariants as s
 use Rattle.ppm_text.specs.declared.token.Token.{Token}
-use Rattle.ppm_rows.specs.Kinds.{Terminal, Mark, terminal}
+use Rattle.ppm_rows.specs.Kinds.{Mark, terminal}
 use Rattle.ppm_rows.specs.Values.{Value, Lexed}
 use Rattle.ppm_rows.specs.Phrases.{Phrase}
 use Rattle.ppm_rows.specs.Making.{Make, always}
-use Rattle.ppm_rows.specs.Language.{Form, form, sign, language, rows}
+use Rattle.ppm_rows.specs.Language.{form, sign, language, rows}
 use Rattle.ppm_rows.specs.Follow.{may_follow}
 use Rattle.ppm_rows.specs.Limits.{limits}
 use Rattle.ppm_rows.proofs.OneAnswer.{is_predictive_language}

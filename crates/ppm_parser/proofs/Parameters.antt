@@ -1,8 +1,7 @@
 -- Parameters and their lists.
-use Rattle.std.proofs.Common.{◌≡◌, ◌≢◌, ℕ, suc, ◌≤◌, Bool, true, false, List, [], ◌∷◌, ◌++◌, refl, sym, ◌∙◌, ap, subst, arith}
-use Rattle.std.specs.Prelude.{Option, Some, None}
-use Rattle.ppm_grammar.specs.Rows.{first, later, Item, Take, Part}
-use Rattle.ppm_grammar.specs.Limits.{Tally, adds}
+use Rattle.std.proofs.Common.{◌≡◌, ◌≢◌, ℕ, suc, true, false, List, [], ◌∷◌, ◌++◌, refl, sym, ◌∙◌, ap, subst, arith}
+use Rattle.ppm_grammar.specs.Rows.{first, later, Take, Part}
+use Rattle.ppm_grammar.specs.Limits.{adds}
 use Rattle.ppm_grammar.specs.Stack.{next}
 use Rattle.ppm_grammar.specs.Predictive.{starts}
 use Rattle.ppm_grammar.specs.Reading.{FailsState}
@@ -20,12 +19,12 @@ use Rattle.ppm_tree.specs.declared.mode.Mode.{Mode}
 use Rattle.ppm_tree.specs.declared.mode.Mode.TheVariants as mode
 use Rattle.ppm_tree.specs.declared.named.Named.{Named}
 use Rattle.ppm_tree.specs.declared.tree.Parameter.{Parameter}
-use Rattle.ppm_rows.specs.Kinds.{Terminal, Word, Mark, terminal}
+use Rattle.ppm_rows.specs.Kinds.{Word, Mark, terminal}
 use Rattle.ppm_rows.specs.Values.{Value, Lexed}
 use Rattle.ppm_rows.specs.Values as v
 use Rattle.ppm_rows.specs.Phrases as p
 use Rattle.ppm_rows.specs.Making as make
-use Rattle.ppm_rows.specs.Language.{language, name, AnElement}
+use Rattle.ppm_rows.specs.Language.{language, AnElement}
 use Rattle.ppm_rows.specs.Limits.{limits}
 use Rattle.ppm_rows.proofs.OneAnswer.{is_predictive_language}
 use Rattle.ppm_parser.specs.declared.limit.Limit.TheVariants as limit
@@ -35,7 +34,7 @@ use Rattle.ppm_parser.specs.declared.stop.Stop.TheVariants as stop
 use Rattle.ppm_parser.specs.Faults.{fault_of}
 use Rattle.ppm_parser.specs.Room.{Has, with_elements}
 use Rattle.ppm_parser.specs.Fronts.{HasAt, HasName, HasMode, word_of, IsNotFront, Misses, MissesName, MissesMode}
-use Rattle.ppm_parser.specs.Parsing.{Items, Parses, Stops, ParsesClosed}
+use Rattle.ppm_parser.specs.Parsing.{Parses, Stops, ParsesClosed}
 use Rattle.ppm_parser.proofs.Reading.{free, then_reads, then_fails, of_same, read, name_reads, name_fails, row_reads, corner_reads, corner_fails}
 use Rattle.ppm_parser.proofs.Reading.{part_ended, part_unexpected, open_reads, open_fails, named_is, after_list}
 use Rattle.ppm_parser.proofs.Calls.{CountsElement, after_counted, still_of, passes}

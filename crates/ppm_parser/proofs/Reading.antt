@@ -1,18 +1,17 @@
 -- The chains at the language: tokens, counts and rows in the words of the parser's clauses.
-use Rattle.std.proofs.Common.{◌≡◌, ◌≢◌, ℕ, suc, ◌+◌, ◌≤◌, ◌<◌, Bool, true, false, List, [], ◌∷◌, ◌++◌, length, refl, sym, ◌∙◌, ap, subst, arith, inl, inr}
-use Rattle.std.specs.Prelude.{Option, Some, None, ◌⊎◌}
-use Rattle.ppm_grammar.specs.Rows.{In, Item, Take, Part}
+use Rattle.std.proofs.Common.{◌≡◌, ℕ, suc, true, false, List, [], ◌∷◌, ◌++◌, refl, sym, ap, subst, arith, inl, inr}
+use Rattle.std.specs.Prelude.{Some, None}
+use Rattle.ppm_grammar.specs.Rows.{In, Take, Part}
 use Rattle.ppm_grammar.specs.Limits.{Tally, passed, adds, with_count, Anew, after_token}
-use Rattle.ppm_grammar.specs.Predictive.{can_start, starts, may_be_empty, IsPredictive}
+use Rattle.ppm_grammar.specs.Predictive.{can_start, starts, may_be_empty}
 use Rattle.ppm_grammar.specs.Faults as of
 use Rattle.ppm_grammar.specs.Reading.{FailsState}
 use Rattle.ppm_grammar.proofs.TallyLemmas.{remains_free, remains_full}
 use Rattle.ppm_grammar.proofs.StatesLemmas as states
-use Rattle.ppm_text.specs.declared.token.Kind.TheVariants as kind
 use Rattle.ppm_text.specs.declared.token.Token.{Token}
 use Rattle.ppm_tree.specs.Limits.{parameter_limit, node_limit}
 use Rattle.ppm_tree.specs.declared.named.Named.{Named}
-use Rattle.ppm_rows.specs.Kinds.{Terminal, Name, Number, Word, Mark, terminal}
+use Rattle.ppm_rows.specs.Kinds.{Terminal, Name, terminal}
 use Rattle.ppm_rows.specs.Values.{Value, Lexed, name_of, named}
 use Rattle.ppm_rows.specs.Phrases.{Phrase}
 use Rattle.ppm_rows.specs.Language.{Form, language, rows}
@@ -23,8 +22,8 @@ use Rattle.ppm_parser.specs.declared.room.Room.{Room}
 use Rattle.ppm_parser.specs.declared.stop.Stop.{Stop}
 use Rattle.ppm_parser.specs.declared.stop.Stop.TheVariants as stop
 use Rattle.ppm_parser.specs.Faults.{fault_of}
-use Rattle.ppm_parser.specs.Room.{left, Has, with_arrays, with_words, with_procedures, with_elements, with_nodes}
-use Rattle.ppm_parser.specs.Fronts.{InFront, HasFront, HasAt, HasName, Misses, MissesName, IsNotFront}
+use Rattle.ppm_parser.specs.Room.{left, Has, with_elements, with_nodes}
+use Rattle.ppm_parser.specs.Fronts.{InFront, HasFront, HasAt, HasName, Misses, MissesName}
 use Rattle.ppm_parser.specs.Parsing.{Items, Parses, Stops}
 use Rattle.ppm_parser.proofs.Chains as chains
 
@@ -190,17 +189,6 @@ module _ {depth inner : ℕ} (less : depth ≡ suc inner) where
   open_fails row i items opens is kind after b =
       record { fails = chains.open_fails language limits Has free less may_follow is_predictive_language row i items opens is kind after b.fails }
 
-  -- or passes a limit there
-  pub open_many : {room : Room} {which : ℕ} {n : Phrase} {x : Terminal} {t : Token} {ys : Items} {ts behind : List Token} {e : Stop} (row : Form) →
-      In row (rows n) → row.items ≡ Take x ∷ ys → row.opens ≡ true → ts ≡ t ∷ behind → terminal t.kind ≡ x →
-      fault_of e ≡ Some (of.TooMany t.place which) →
-      ((c : Tally) → Has room c → passed limits.most (after_token limits row.counts t behind c) ≡ Some which) → Stops depth room (Part n ∷ []) ts e
-  open_many {room = room} {n = n} {ts = ts} row i items opens is kind told many =
-      record {
-        fails = subst (λ q. FailsState language limits Has depth room (Part n ∷ []) ts q) (sym told)
-            (states.open_too_many language limits Has free less may_follow is_predictive_language row i items opens is kind many);
-      }
-
 -- where no opening is left
 pub too_deep : {depth : ℕ} {room : Room} {n : Phrase} {x : Terminal} {t : Token} {ys : Items} {ts behind : List Token} {e : Stop} (row : Form) → depth ≡ 0 →
     In row (rows n) → row.items ≡ Take x ∷ ys → row.opens ≡ true → ts ≡ t ∷ behind → terminal t.kind ≡ x → fault_of e ≡ Some (of.TooDeep t.place) →
@@ -234,6 +222,3 @@ after_list r r' is c (a, (w, (p, (e, (n, u))))) = subst (λ q. Has q (with_count
 -- a number of which none may come passes its limit
 pub no_node : (r : Room) → r.nodes ≡ 0 → (c : Tally) → Has r c → passed limits.most (adds nodes 1 c) ≡ Some nodes
 no_node r none c h = remains_full nodes node_limit 1 limits.most (left r) c refl h (omega (arith, none))
-
-pub no_element : (r : Room) → r.elements ≡ 0 → (c : Tally) → Has r c → passed limits.most (adds elements 1 c) ≡ Some elements
-no_element r none c h = remains_full elements parameter_limit 1 limits.most (left r) c refl h (omega (arith, none))

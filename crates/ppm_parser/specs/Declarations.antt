@@ -12,7 +12,7 @@ use Rattle.ppm_tree.specs.Tree.{ProgramTree, procedure_of}
 use Rattle.ppm_rows.specs.Values as v
 use Rattle.ppm_rows.specs.Phrases as p
 use Rattle.ppm_rows.specs.Making as make
-use Rattle.ppm_rows.specs.Language.{name, number, sign}
+use Rattle.ppm_rows.specs.Language.{name, sign}
 use Rattle.ppm_rows.specs.Correct.{HasFault}
 use Rattle.ppm_parser.specs.declared.declaration.Declaration.{Declaration}
 use Rattle.ppm_parser.specs.declared.declaration.Declaration.TheVariants as declared

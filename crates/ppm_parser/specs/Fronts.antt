@@ -16,7 +16,7 @@ use Rattle.ppm_tree.specs.declared.operator.Operator.{Operator}
 use Rattle.ppm_rows.specs.declared.level.Level.{Level}
 use Rattle.ppm_rows.specs.declared.level.Level.TheVariants as level
 use Rattle.ppm_rows.specs.Operations.{operator_at}
-use Rattle.ppm_rows.specs.Kinds.{Terminal, Name, Number, Word, Mark, terminal}
+use Rattle.ppm_rows.specs.Kinds.{Terminal, Name, Number, Word, terminal}
 use Rattle.ppm_rows.specs.Phrases.{Phrase}
 use Rattle.ppm_rows.specs.Language.{language}
 use Rattle.ppm_parser.specs.declared.stop.Stop.{Stop}

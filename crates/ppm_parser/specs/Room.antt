@@ -1,8 +1,8 @@
 -- What may still come, and what that says of what was counted.
-use Rattle.std.specs.Prelude.{◌≡◌, ℕ, ◌==◌, if◌then◌else◌}
+use Rattle.std.specs.Prelude.{ℕ, ◌==◌, if◌then◌else◌}
 use Rattle.ppm_grammar.specs.Limits.{Tally, Remains}
 use Rattle.ppm_tree.specs.Limits.{array_limit, word_limit, procedure_limit, parameter_limit, node_limit}
-use Rattle.ppm_rows.specs.Limits.{arrays, words, procedures, elements, nodes, limits}
+use Rattle.ppm_rows.specs.Limits.{arrays, words, procedures, elements, limits}
 use Rattle.ppm_parser.specs.declared.room.Room.{Room}
 
 -- of each number so much may still come

@@ -1,5 +1,5 @@
 -- What the parser's functions answer of statements: the items behind the first token of each.
-use Rattle.std.specs.Prelude.{◌≡◌, ℕ, List, [], ◌∷◌}
+use Rattle.std.specs.Prelude.{◌≡◌, ◌<◌, ℕ, List, [], ◌∷◌, length}
 use Rattle.ppm_grammar.specs.Rows.{Part}
 use Rattle.ppm_text.specs.declared.token.Keyword.TheVariants as k
 use Rattle.ppm_text.specs.declared.token.Sign.TheVariants as s
@@ -70,3 +70,8 @@ pub record ParsesAfterName (n : Phrase) (depth : ℕ) (room : Room) (target : Na
   pub function : Named → Statement
   pub parses : Parses depth room (Part n ∷ []) ts (v.FromName function ∷ []) room' rest
   pub makes : function target ≡ x
+
+-- a statement is in front, of at least one token
+pub record ParsesStatement (depth : ℕ) (room : Room) (ts : List Token) (x : Statement) (room' : Room) (rest : List Token) : Type 0 where
+  pub parses : Parses depth room (Part p.Statement ∷ []) ts (v.OneStatement x ∷ []) room' rest
+  pub smaller : length rest < length ts

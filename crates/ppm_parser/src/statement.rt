@@ -8,7 +8,7 @@ ghost use Rattle.ppm_text.specs.declared.token.Sign.TheVariants as sign;
 ghost use Rattle.ppm_rows.specs.Kinds.{Mark, terminal};
 ghost use Rattle.ppm_parser.specs.Fronts.{IsNotFront, HasGive, NoGive, starts_at, begins};
 ghost use Rattle.ppm_parser.specs.Parsing.{Parses, Stops};
-ghost use Rattle.ppm_parser.specs.Statements.{local_items, choice_items, loop_items, call_items, fork_items, split_items, each_items, ParsesLocal, ParsesChoice, ParsesLoop, ParsesCall, ParsesFork, ParsesSplit, ParsesEach, ParsesAfterName};
+ghost use Rattle.ppm_parser.specs.Statements.{local_items, choice_items, loop_items, call_items, fork_items, split_items, each_items, ParsesLocal, ParsesChoice, ParsesLoop, ParsesCall, ParsesFork, ParsesSplit, ParsesEach, ParsesAfterName, ParsesStatement};
 
 use crate::call::{call, side, with_target};
 use crate::expression::{operation, up_to};
@@ -231,7 +231,7 @@ fn statement(
     tokens: &[Token],
 ) -> Result<(Stmt, Room, &[Token]), Stop>
     ensures { MatchResult result
-        (λ r. Parses depth room (Part phrase.Statement ∷ []) tokens.now (value.OneStatement (statement_of r.0) ∷ []) r.1 r.2.now)
+        (λ r. ParsesStatement depth room tokens.now (statement_of r.0) r.1 r.2.now)
         (Stops depth room (Part phrase.Statement ∷ []) tokens.now) }
 {
     let Some((token, rest)) = tokens.split_first() else {
@@ -297,7 +297,7 @@ fn statements(
 {
     let mut all = Vec::new(alloc);
     let mut rest = tokens;
-    'statements: while has_statement(rest) {
+    'further: while has_statement(rest) {
         let (next, left, after) = statement(alloc, depth, room, rest)?;
         all.push(next)?;
         room = left;

@@ -54,7 +54,6 @@ fn fault_of(alloc: Global, text: &str) -> Result<Option<SyntaxError>, Fail> {
     }
 }
 
-
 #[test]
 fn programs_have_their_tree(rt: HostRuntime) -> Result<(), Fail> {
     let alloc = rt.alloc();
@@ -202,30 +201,95 @@ fn limits_are_reported_at_their_tokens(rt: HostRuntime) -> Result<(), Fail> {
         (written(main, "(", 32, "]"), SyntaxError::TooDeep(53)),
         (written(main, "-", 32, "1"), SyntaxError::TooDeep(53)),
         (written(main, "a[", 32, "1"), SyntaxError::TooDeep(85)),
-        (written("proc f() { ", "if 1 { ", 32, ""), SyntaxError::TooDeep(233)),
-        (written("proc f() { call g(", "(", 31, ""), SyntaxError::TooDeep(48)),
-        (written("", "array a[1];", 64, "array("), SyntaxError::TooMany(704, Limit::Arrays)),
-        (written("", "array a[1];", 1, "array a[4194304("), SyntaxError::TooMany(19, Limit::ArrayWords)),
-        (written("", "", 0, "array a[4194305];"), SyntaxError::TooMany(8, Limit::ArrayWords)),
-        (written("", "proc f(){}", 1024, "proc("), SyntaxError::TooMany(10240, Limit::Procedures)),
-        (written("", "proc f(){each i,j in k{}}", 512, "proc("), SyntaxError::TooMany(12800, Limit::Procedures)),
-        (written("proc f() { ", "each i,j in k{}", 1023, "each("), SyntaxError::TooMany(15356, Limit::Procedures)),
-        (written("proc f(", "mut a,", 12, "mut a"), SyntaxError::TooMany(79, Limit::Elements)),
-        (written("proc f(", "mut a,", 12, "a"), SyntaxError::Expected(79)),
-        (written("proc f() { call g(", "1,", 12, "1"), SyntaxError::TooMany(42, Limit::Elements)),
-        (written("proc f() { call g(", "1,", 12, "a"), SyntaxError::TooMany(42, Limit::Elements)),
-        (written("proc f() { call g(", "1,", 12, "-"), SyntaxError::TooMany(42, Limit::Elements)),
-        (written("proc f() { call g(", "1,", 12, ")"), SyntaxError::Expected(42)),
-        (written(main, "1+", 24, "1"), SyntaxError::TooMany(70, Limit::Nodes)),
-        (written(main, "1+", 24, "a"), SyntaxError::TooMany(70, Limit::Nodes)),
-        (written(main, "1+", 24, "a["), SyntaxError::TooMany(71, Limit::Nodes)),
+        (
+            written("proc f() { ", "if 1 { ", 32, ""),
+            SyntaxError::TooDeep(233),
+        ),
+        (
+            written("proc f() { call g(", "(", 31, ""),
+            SyntaxError::TooDeep(48),
+        ),
+        (
+            written("", "array a[1];", 64, "array("),
+            SyntaxError::TooMany(704, Limit::Arrays),
+        ),
+        (
+            written("", "array a[1];", 1, "array a[4194304("),
+            SyntaxError::TooMany(19, Limit::ArrayWords),
+        ),
+        (
+            written("", "", 0, "array a[4194305];"),
+            SyntaxError::TooMany(8, Limit::ArrayWords),
+        ),
+        (
+            written("", "proc f(){}", 1024, "proc("),
+            SyntaxError::TooMany(10240, Limit::Procedures),
+        ),
+        (
+            written("", "proc f(){each i,j in k{}}", 512, "proc("),
+            SyntaxError::TooMany(12800, Limit::Procedures),
+        ),
+        (
+            written("proc f() { ", "each i,j in k{}", 1023, "each("),
+            SyntaxError::TooMany(15356, Limit::Procedures),
+        ),
+        (
+            written("proc f(", "mut a,", 12, "mut a"),
+            SyntaxError::TooMany(79, Limit::Elements),
+        ),
+        (
+            written("proc f(", "mut a,", 12, "a"),
+            SyntaxError::Expected(79),
+        ),
+        (
+            written("proc f() { call g(", "1,", 12, "1"),
+            SyntaxError::TooMany(42, Limit::Elements),
+        ),
+        (
+            written("proc f() { call g(", "1,", 12, "a"),
+            SyntaxError::TooMany(42, Limit::Elements),
+        ),
+        (
+            written("proc f() { call g(", "1,", 12, "-"),
+            SyntaxError::TooMany(42, Limit::Elements),
+        ),
+        (
+            written("proc f() { call g(", "1,", 12, ")"),
+            SyntaxError::Expected(42),
+        ),
+        (
+            written(main, "1+", 24, "1"),
+            SyntaxError::TooMany(70, Limit::Nodes),
+        ),
+        (
+            written(main, "1+", 24, "a"),
+            SyntaxError::TooMany(70, Limit::Nodes),
+        ),
+        (
+            written(main, "1+", 24, "a["),
+            SyntaxError::TooMany(71, Limit::Nodes),
+        ),
         (written(main, "1+", 24, ")"), SyntaxError::Expected(70)),
         (written(main, "1+", 24, ""), SyntaxError::Ended(70)),
         // A name alone counts at the name where the text ends behind it.
-        (written(main, "1+", 24, "name"), SyntaxError::TooMany(70, Limit::Nodes)),
+        (
+            written(main, "1+", 24, "name"),
+            SyntaxError::TooMany(70, Limit::Nodes),
+        ),
         // Both arguments' nodes are of one statement; the thirteenth argument is also the 49th node.
-        (written("proc f() { fork g(1+", "1+", 20, "1) and h(1+1+1+1"), SyntaxError::TooMany(74, Limit::Nodes)),
-        (written("proc f() { call g(1+1+1+1+1+1+1+1+1+1+1+1+1+", "1,", 12, "1"), SyntaxError::TooMany(68, Limit::Elements)),
+        (
+            written("proc f() { fork g(1+", "1+", 20, "1) and h(1+1+1+1"),
+            SyntaxError::TooMany(74, Limit::Nodes),
+        ),
+        (
+            written(
+                "proc f() { call g(1+1+1+1+1+1+1+1+1+1+1+1+1+",
+                "1,",
+                12,
+                "1",
+            ),
+            SyntaxError::TooMany(68, Limit::Elements),
+        ),
     ];
     for (program, error) in cases {
         let text = program.text(rt.alloc())?;
@@ -238,8 +302,18 @@ fn limits_are_reported_at_their_tokens(rt: HostRuntime) -> Result<(), Fail> {
 fn what_the_limits_allow_is_read(rt: HostRuntime) -> Result<(), Fail> {
     let cases = [
         written("proc f() { let x = ", "1+", 23, "1; let y = a[1]; }"),
-        written("proc f() { ", "if 1 {", 31, "}}}}}}}}}}}}}}}}}}}}}}}}}}}}}}}}"),
-        written("proc f() { let x = ", "(", 31, "1))))))))))))))))))))))))))))))); }"),
+        written(
+            "proc f() { ",
+            "if 1 {",
+            31,
+            "}}}}}}}}}}}}}}}}}}}}}}}}}}}}}}}}",
+        ),
+        written(
+            "proc f() { let x = ",
+            "(",
+            31,
+            "1))))))))))))))))))))))))))))))); }",
+        ),
         written("proc f() { let x = ", "-", 31, "1 + (1); }"),
         written("", "array a[1];", 64, ""),
         written("input a = -", "1, -", 40, "1;"),

@@ -130,9 +130,9 @@ fn shown_statement(alloc: Global, statement: &Stmt) -> Result<String, Fail> {
             let first = shown_name(alloc, first)?;
             let second = shown_name(alloc, second)?;
             let block = shown_block(alloc, block)?;
-            Ok(
-                format!(in alloc; "split@{line} {region} at {size} into {first}, {second} {{{block}}}")?,
-            )
+            Ok(format!(in alloc;
+                "split@{line} {region} at {size} into {first}, {second} {{{block}}}"
+            )?)
         }
         Stmt::Each(index, part, region, block) => {
             let index = shown_name(alloc, index)?;

@@ -1,5 +1,5 @@
 use Rattle.ppm_parser.proofs.Exits.{exit_by}
-use Rattle.ppm_parser.proofs.Declarations.{words_of, length_missing, words_missing, words_many, length_unclosed, array_unended, array_read}
+use Rattle.ppm_parser.proofs.Declarations.{words_of, array_unended, array_read}
 use Rattle.ppm_parser.proofs.declaration.array.Goals as goal
 
 -- the semicolon is missing

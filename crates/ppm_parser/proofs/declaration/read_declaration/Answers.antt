@@ -1,6 +1,6 @@
 use Rattle.std.proofs.Common.{rules}
 use Rattle.ppm_parser.proofs.Exits.{exit_by}
-use Rattle.ppm_parser.proofs.Declarations.{array_many, array_fails, array_declared, procedure_many, procedure_fails, procedure_declared, input_fails, input_declared}
+use Rattle.ppm_parser.proofs.Declarations.{array_fails, array_declared, procedure_fails, procedure_declared, input_fails, input_declared}
 use Rattle.ppm_parser.proofs.declaration.read_declaration.Goals as goal
 
 -- the array stops

@@ -1,8 +1,6 @@
-use Rattle.std.proofs.Common.{rules, ◌≡◌, ℕ, suc, [], ◌∷◌, refl, ap, arith}
+use Rattle.std.proofs.Common.{rules, [], ◌∷◌, refl}
 use Rattle.std.proofs.lemmas.Result.{MatchResult-weaker}
-use Rattle.ppm_tree.specs.Tree.{expression_of}
-use Rattle.ppm_rows.specs.Language.{expr}
-use Rattle.ppm_grammar.specs.Rows.{Take, Part}
+use Rattle.ppm_grammar.specs.Rows.{Take}
 use Rattle.ppm_text.specs.declared.token.Sign.TheVariants as s
 use Rattle.ppm_rows.specs.Kinds.{Mark}
 use Rattle.ppm_parser.proofs.Exits.{exit_by}

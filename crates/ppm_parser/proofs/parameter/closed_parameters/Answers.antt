@@ -1,7 +1,6 @@
 use Rattle.std.proofs.Common.{length, ap, arith}
 use Rattle.ppm_text.specs.declared.token.Sign.TheVariants as s
 use Rattle.ppm_rows.specs.Kinds.{Mark}
-
 use Rattle.ppm_parser.proofs.Exits.{exit_by}
 use Rattle.ppm_parser.proofs.Expressions.{not_front}
 use Rattle.ppm_parser.proofs.Parameters.{no_parameters, parameters_first, parameters_first_fails, parameters_step, parameters_step_fails, parameters_end, parameters_end_fails}
