@@ -1,7 +1,7 @@
 -- Declarations one behind the other make the program.
-use Rattle.std.proofs.Common.{◌≡◌, ◌≢◌, ℕ, ◌+◌, Bool, true, false, List, [], ◌∷◌, ◌++◌, refl, sym, ◌∙◌, ap, subst, arith, append_assoc}
-use Rattle.std.proofs.lemmas.List.{append-nil as append_nil}
-use Rattle.std.specs.Prelude.{Option, Some, None}
+use Rattle.std.proofs.Common.{◌≡◌, ◌≢◌, ℕ, suc, ◌+◌, ◌<◌, ◌≤◌, Bool, true, false, List, [], ◌∷◌, ◌++◌, length, refl, sym, ◌∙◌, ap, subst, arith, append_assoc}
+use Rattle.std.proofs.lemmas.List.{append-nil as append_nil, length-append}
+use Rattle.std.specs.Prelude.{◌==◌, Option, Some, None}
 use Rattle.ppm_grammar.specs.Rows.{In, first, later, Part}
 use Rattle.ppm_grammar.specs.Derivation.{Within, part, nothing, beginning}
 use Rattle.ppm_grammar.specs.Limits.{Tally, none_counted}
@@ -11,6 +11,7 @@ use Rattle.ppm_grammar.specs.Reading.{Reads}
 use Rattle.ppm_grammar.specs.Stack.{fault_at}
 use Rattle.ppm_grammar.proofs.DerivationLemmas.{begins}
 use Rattle.ppm_grammar.proofs.StackLemmas.{next_none}
+use Rattle.ppm_grammar.proofs.TextLemmas.{consumes}
 use Rattle.ppm_grammar.proofs.LeadsLemmas as base
 use Rattle.ppm_grammar.proofs.LeadsLemmas.{LeadsTo, on}
 use Rattle.ppm_grammar.proofs.StatesLemmas as states
@@ -129,3 +130,25 @@ goes_stopped {ts = ts} {room = room} {t = t} {rest = rest} {behind = behind} {e 
     go false none =
         rw is (no_declaration h.tally t behind f none (subst (λ q. fault_at language limits (Within 0 (Part p.Declaration) ∷ []) h.tally q ≡ Some f) is
         ((a.fails.tells 0 h.tally (omega arith) h.has).tells [] f told)))
+
+-- it has one token at least
+pub goes_shorter : {ts rest after : List Token} {d : ProgramTree} {x : Declaration} {room left : Room} → Goes ts d room rest →
+    Parses depth_limit room (Part p.Declaration ∷ []) rest (v.Declares x ∷ []) left after → length after < length rest
+goes_shorter {rest = rest} {after = after} h a =
+    let before = (a.reads 0 h.tally (omega arith) h.has).reads in
+    let b = begins language may_follow is_predictive_language before.derived 0 (Part p.Declaration) (Part p.Source ∷ []) [] refl p.Source further (later first) refl in
+    let s = consumes language before.derived in
+    let some : length before.marks ≡ suc (length b.others) = ap length b.marks in
+    let all : length rest ≡ length s.front + length after = ap length s.shape ∙ length-append s.front after in
+    let each = s.each in omega (arith, some, all, each)
+
+-- where tokens are left, a declaration stops the parser
+pub stops_all : {ts : List Token} {d : ProgramTree} {room : Room} {e : Stop} (rest : List Token) → (length rest == 0) ≡ false → Goes ts d room rest →
+    Stops depth_limit room (Part p.Declaration ∷ []) rest e → TellsStop ts e
+stops_all [] some h a = cc
+stops_all (t ∷ behind) some h a = goes_stopped refl h a
+
+-- where none are, it has the program
+pub ends_all : {ts : List Token} {d : ProgramTree} {room : Room} (rest : List Token) → (length rest == 0) ≡ true → Goes ts d room rest → HasTree ts d
+ends_all [] none h = goes_last h
+ends_all (t ∷ behind) none h = let some : 1 ≤ length (t ∷ behind) = omega arith in absurd (grind (arith, none, some))

@@ -1,6 +1,7 @@
 //! From tokens to the tree of a program.
 ghost use Rattle.std.specs.Prelude.{◌≡◌, IfOk, IfErr, MatchResult};
 ghost use Rattle.ppm_tree.specs.Tree.{tree_of};
+ghost use Rattle.ppm_rows.specs.Values.{no_program};
 ghost use Rattle.ppm_rows.specs.Correct.{HasTree};
 ghost use Rattle.ppm_parser.specs.Faults.{IsFault};
 ghost use Rattle.ppm_parser.specs.Declarations.{declaration_of, declared_tree, with_declaration, TellsStop};
@@ -25,6 +26,17 @@ struct Declared {
 }
 
 impl Declared {
+    /// Nothing is declared.
+    fn none(alloc: Global) -> Declared
+        ensures { declared_tree result ≡ no_program }
+    {
+        Declared {
+            arrays: Vec::new(alloc),
+            procedures: Vec::new(alloc),
+            inputs: Vec::new(alloc),
+        }
+    }
+
     /// What is declared with one thing more.
     fn with(mut self, next: Declaration) -> Result<Declared, Stop>
         ensures tree { IfOk result (λ d. declared_tree d ≡ with_declaration (declared_tree self) (declaration_of next)) }
@@ -45,11 +57,7 @@ fn tree(alloc: Global, tokens: &[Token]) -> Result<Tree, Stop>
         (λ t. HasTree tokens.now (tree_of t))
         (TellsStop tokens.now) }
 {
-    let mut declared = Declared {
-        arrays: Vec::new(alloc),
-        procedures: Vec::new(alloc),
-        inputs: Vec::new(alloc),
-    };
+    let mut declared = Declared::none(alloc);
     let mut room = Room::whole();
     let mut rest = tokens;
     'declarations: while !rest.is_empty() {
