@@ -102,7 +102,8 @@ module _ {T K P V C : Type 0} (g : Grammar T K P V C) (l : Limits T C) where
             let s = same here in
             (rw here tt, rw (s.marks, silent n row i here) (subst (λ q. Keeps l (counting row.counts q ++ (ms ++ more)) ts c) s.marks h))
         go (z ∷ zs) here begun same h =
-            let b = begun z zs here in
-            (rw here (record { first = b.t; behind = b.behind; shape = b.shape }),
-            rw (b.marks, b.shape) (keeps_first row.counts b.m (b.others ++ (ms ++ more)) b.t b.behind c
-            (rw (b.marks, b.shape) at h)))
+            let b = begun z zs here in (
+              rw here (record { first = b.t; behind = b.behind; shape = b.shape }),
+              rw (b.marks, b.shape) (keeps_first row.counts b.m (b.others ++ (ms ++ more)) b.t b.behind c
+                  (rw (b.marks, b.shape) at h)),
+            )

@@ -1,4 +1,4 @@
-use Rattle.std.proofs.Common.{◌≡◌, ◌∙◌, sym}
+use Rattle.std.proofs.Common.{◌∙◌, sym}
 use Rattle.ppm_parser.proofs.Exits.{exit_by}
 use Rattle.ppm_parser.proofs.Programs.{goes_first, goes_on, goes_shorter, stops_all, ends_all}
 use Rattle.ppm_parser.proofs.parsing.tree.Goals as goal
