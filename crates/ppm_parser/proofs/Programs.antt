@@ -1,12 +1,12 @@
 -- Declarations one behind the other make the program.
-use Rattle.std.proofs.Common.{◌≡◌, ◌≢◌, ℕ, suc, ◌+◌, ◌<◌, ◌≤◌, Bool, true, false, List, [], ◌∷◌, ◌++◌, length, refl, sym, ◌∙◌, ap, subst, arith, append_assoc}
+use Rattle.std.proofs.Common.{◌≡◌, ℕ, suc, ◌+◌, ◌<◌, ◌≤◌, Bool, true, false, List, [], ◌∷◌, ◌++◌, length, refl, sym, ◌∙◌, ap, subst, arith, append_assoc}
 use Rattle.std.proofs.lemmas.List.{append-nil as append_nil, length-append}
-use Rattle.std.specs.Prelude.{◌==◌, Option, Some, None}
-use Rattle.ppm_grammar.specs.Rows.{In, first, later, Part}
+use Rattle.std.specs.Prelude.{◌==◌, Some}
+use Rattle.ppm_grammar.specs.Rows.{first, later, Part}
 use Rattle.ppm_grammar.specs.Derivation.{Within, part, nothing, beginning}
 use Rattle.ppm_grammar.specs.Limits.{Tally, none_counted}
-use Rattle.ppm_grammar.specs.Faults.{Fault, Expected}
-use Rattle.ppm_grammar.specs.Predictive.{starts, IsPredictive}
+use Rattle.ppm_grammar.specs.Faults.{Fault, Expected, Ended, TooDeep, TooMany}
+use Rattle.ppm_grammar.specs.Predictive.{starts}
 use Rattle.ppm_grammar.specs.Reading.{Reads}
 use Rattle.ppm_grammar.specs.Stack.{fault_at}
 use Rattle.ppm_grammar.proofs.DerivationLemmas.{begins}
@@ -18,6 +18,7 @@ use Rattle.ppm_grammar.proofs.StatesLemmas as states
 use Rattle.ppm_grammar.proofs.StatesLemmas.{LeadsState}
 use Rattle.ppm_grammar.proofs.Theorem.{parsers_answer}
 use Rattle.ppm_text.specs.declared.token.Token.{Token}
+use Rattle.ppm_text.specs.Tokens.{TextTokens}
 use Rattle.ppm_tree.specs.Limits.{depth_limit}
 use Rattle.ppm_tree.specs.Tree.{ProgramTree}
 use Rattle.ppm_rows.specs.Kinds.{terminal}
@@ -25,15 +26,17 @@ use Rattle.ppm_rows.specs.Values.{Value, Program, Declaration, AnArray, AProcedu
 use Rattle.ppm_rows.specs.Values as v
 use Rattle.ppm_rows.specs.Phrases as p
 use Rattle.ppm_rows.specs.Making as make
-use Rattle.ppm_rows.specs.Language.{Form, form, language, rows}
+use Rattle.ppm_rows.specs.Language.{Form, form, language}
 use Rattle.ppm_rows.specs.Follow.{may_follow}
 use Rattle.ppm_rows.specs.Limits.{limits}
-use Rattle.ppm_rows.specs.Correct.{HasTree, HasFault}
+use Rattle.ppm_rows.specs.Correct.{HasTree}
 use Rattle.ppm_rows.proofs.OneAnswer.{is_predictive_language, is_tested}
 use Rattle.ppm_parser.specs.declared.room.Room.{Room}
 use Rattle.ppm_parser.specs.declared.stop.Stop.{Stop}
+use Rattle.ppm_parser.specs.declared.stop.Stop.TheVariants as stop
+use Rattle.ppm_parser.specs.SyntaxErrorNumbers.{which_of}
 use Rattle.ppm_parser.specs.Room.{Has, whole_room}
-use Rattle.ppm_parser.specs.Faults.{fault_of}
+use Rattle.ppm_parser.specs.Faults.{IsFault, in_text}
 use Rattle.ppm_parser.specs.Parsing.{Parses, Stops}
 use Rattle.ppm_parser.specs.Declarations.{with_declaration, TellsStop}
 use Rattle.ppm_parser.proofs.Reading.{free}
@@ -152,3 +155,11 @@ stops_all (t ∷ behind) some h a = goes_stopped refl h a
 pub ends_all : {ts : List Token} {d : ProgramTree} {room : Room} (rest : List Token) → (length rest == 0) ≡ true → Goes ts d room rest → HasTree ts d
 ends_all [] none h = goes_last h
 ends_all (t ∷ behind) none h = let some : 1 ≤ length (t ∷ behind) = omega arith in absurd (grind (arith, none, some))
+
+-- a stop is the fault of the text's tokens
+pub stop_is : (all : TextTokens) (n : ℕ) (e : Stop) → n ≡ all.text_len → TellsStop all.tokens e → IsFault all (in_text n e)
+stop_is all n (stop.Expected place) same h = h (Expected place) refl
+stop_is all n stop.Ended same h = (h Ended refl, same)
+stop_is all n (stop.TooDeep place) same h = h (TooDeep place) refl
+stop_is all n (stop.TooMany place which) same h = h (TooMany place (which_of which)) refl
+stop_is all n stop.NoMemory same h = tt
