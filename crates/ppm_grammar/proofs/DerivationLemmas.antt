@@ -112,7 +112,7 @@ module _ {T K P V C : Type 0} (g : Grammar T K P V C) where
             }
 
     -- a token that stands in front of what is derived may begin the items
-    allowed : {xs : List (Due K P)} {ts rest : List T} {vs : List V} {ms : List (Mark C)} (f : K → Bool) → Derives g xs ts vs ms rest → Allowed f rest →
+    pub allowed : {xs : List (Due K P)} {ts rest : List T} {vs : List V} {ms : List (Mark C)} (f : K → Bool) → Derives g xs ts vs ms rest → Allowed f rest →
         Allowed (may_begin g (items_of xs) f) ts
     allowed f (nothing {ts = ts}) h = go ts h
       where

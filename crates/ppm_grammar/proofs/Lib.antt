@@ -12,3 +12,4 @@ pub mod TallyLemmas
 pub mod StopsLemmas
 pub mod ItemsLemmas
 pub mod StatesLemmas
+pub mod WalkLemmas

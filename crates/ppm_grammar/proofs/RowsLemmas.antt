@@ -181,6 +181,16 @@ module _ {T K P V C : Type 0} (g : Grammar T K P V C) (l : Limits T C) where
         over : (st : List (Due K P)) → trace g (Within d (Part n) ∷ xs ++ st) ts ≡ trace g (due (inside row d) row.items ++ xs ++ st) ts
         over st = same st ∙ ap (λ q. trace g q ts) (sym (append_assoc (due (inside row d) row.items) xs st))
 
+    -- a part that has tokens goes on with a row that begins with a part and counts nothing, where no other row can begin with the token in front
+    pub leads_other : {c : Tally} {d : ℕ} {n m : P} {ys : List (Item K P)} {xs : List (Due K P)} {ts : List T} (row : Row K P V C) → In row (g.rows n) →
+        may_be_empty g n ≡ false → row.counts ≡ [] → row.items ≡ Part m ∷ ys →
+        ((t : T) (rest : List T) → ts ≡ t ∷ rest → starts g m (g.kind t) ≡ false → starts g n (g.kind t) ≡ false) →
+        LeadsTo g l c (Within d (Part n) ∷ xs) ts (λ vs. row.make (fronts row.items vs) ∷ backs row.items vs) c (due (inside row d) row.items ++ xs) ts
+    leads_other {c = c} {d = d} {n = n} {m = m} {ys = ys} {xs = xs} {ts = ts} row within full none items other =
+        leads_corner {c = c} {d = d} {n = n} {xs = xs} {ts = ts} row within none
+        (λ st. corner_trace d n m row ys within none items ts (xs ++ st) (λ e. rw full refl)
+        (λ t rest is e. rw (next_none g follows p d n (g.kind t) (other t rest is e), full) refl))
+
     -- a part with one row alone, which begins with a part and counts nothing, is that row
     pub leads_only : {c : Tally} {d : ℕ} {n m : P} {ys : List (Item K P)} {xs : List (Due K P)} {ts : List T} (row : Row K P V C) → g.rows n ≡ row ∷ [] →
         row.counts ≡ [] → row.items ≡ Part m ∷ ys →

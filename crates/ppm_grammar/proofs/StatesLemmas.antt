@@ -185,6 +185,17 @@ module _ {T K P V C S : Type 0} (g : Grammar T K P V C) (l : Limits T C) (Has : 
           (ap (λ q. due q row.items ++ due d xs) at ∙ sym (due_both d row.items xs))
           (rows.leads_first g l follows p none row both empty counts items (closed d)))
 
+      -- a row that begins with a part and counts nothing, where no other row can begin with the token in front
+      pub an_other : {s : S} {n m : P} {ys xs : List (Item K P)} {ts : List T} (row : Row K P V C) → In row (g.rows n) → may_be_empty g n ≡ false →
+          row.counts ≡ [] → row.items ≡ Part m ∷ ys → row.opens ≡ false →
+          ((t : T) (rest : List T) → ts ≡ t ∷ rest → starts g m (g.kind t) ≡ false → starts g n (g.kind t) ≡ false) →
+          LeadsState depth s (Part n ∷ xs) ts (λ vs. row.make (fronts row.items vs) ∷ backs row.items vs) s (row.items ++ xs) ts
+      an_other {n = n} {xs = xs} {ts = ts} row i full counts items shut other = same (omega arith) (λ d c deep has.
+          let at : inside row d ≡ d = rw shut refl in
+          subst (λ q. LeadsTo g l c (Within d (Part n) ∷ due d xs) ts (λ vs. row.make (fronts row.items vs) ∷ backs row.items vs) c q ts)
+          (ap (λ q. due q row.items ++ due d xs) at ∙ sym (due_both d row.items xs))
+          (rows.leads_other g l follows p row i full counts items other))
+
       -- the only row of a part
       pub an_only : {s : S} {n m : P} {ys xs : List (Item K P)} {ts : List T} (row : Row K P V C) → g.rows n ≡ row ∷ [] → row.counts ≡ [] →
           row.items ≡ Part m ∷ ys → row.opens ≡ false →

@@ -1,3 +1,4 @@
+use Rattle.ppm_grammar.proofs.WalkLemmas as walks
 use Rattle.ppm_grammar.proofs.Theorem.{parsers_answer}
 use Rattle.ppm_grammar.proofs.laws.parsers_answer.Goals as goal
 

@@ -1,0 +1,11 @@
+pub mod Chains
+pub mod Reading
+pub mod Expressions
+pub mod Exits
+pub mod Lists
+pub mod Calls
+pub mod Parameters
+pub mod Declarations
+pub mod Programs
+pub mod Rows
+pub mod Statements

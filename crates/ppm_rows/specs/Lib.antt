@@ -1,0 +1,9 @@
+pub mod Kinds
+pub mod Values
+pub mod Phrases
+pub mod Operations
+pub mod Making
+pub mod Language
+pub mod Follow
+pub mod Limits
+pub mod Correct
