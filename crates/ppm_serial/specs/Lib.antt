@@ -1,0 +1,6 @@
+pub mod Slots
+pub mod Worth
+pub mod Answers
+pub mod Code
+pub mod Machine
+pub mod ToCome
