@@ -4,3 +4,5 @@ pub mod Answers
 pub mod Code
 pub mod Machine
 pub mod ToCome
+pub mod Names
+pub mod Laying

@@ -61,6 +61,7 @@ abbrev pub passing : Slots → Arrays → List Passed → Slots → Result Slots
 passing f a [] g = Ok g
 passing f a (passed.Number k v ∷ ps) g = then_with (worth f a v) (λ x. passing f a ps (with_local_at g k x))
 passing f a (passed.Region k j ∷ ps) g = passing f a ps (with_region_at g k (get_or f.regions j nowhere))
+passing f a (passed.Nowhere k ∷ ps) g = passing f a ps (with_region_at g k nowhere)
 
 -- the frame that a call makes
 abbrev pub called : Laid → Slots → Arrays → Call → Result Slots Stop

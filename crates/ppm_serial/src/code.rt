@@ -1,10 +1,10 @@
 //! A program laid out: names are slots, and blocks stand one after the other.
-ghost use Rattle.std.specs.Prelude.{◌≡◌, None, Some, ◌+◌, ◌<◌, ◌^◌, map, IfSome, MatchOption};
+ghost use Rattle.std.specs.Prelude.{◌≡◌, None, Some, ◌+◌, ◌<◌, ◌^◌, [], ◌∷◌, ◌++◌, length, IfOk, IfSome, MatchOption, OnOk};
 ghost use Rattle.ppm_serial.specs.Code.{routine_at, step_at};
 
 use ppm_tree::Operator;
 use ppm_words::{NoMemory, Trap};
-use std::alloc::AllocFailed;
+use std::alloc::{AllocFailed, Global};
 use std::marker::Model;
 
 /// Where a run stops before its end.
@@ -59,6 +59,8 @@ pub(crate) enum Value {
 pub(crate) enum Passed {
     Number(usize, Value),
     Region(usize, usize),
+    /// No region.
+    Nowhere(usize),
 }
 
 /// A call: the slot of its target, if any, the callee's place, and what is passed.
@@ -107,16 +109,55 @@ pub(crate) struct Routine {
     pub(crate) give: Option<Value>,
 }
 
+/// Blocks, by their places.
+#[derive(Drop)]
+pub(crate) struct Blocks {
+    blocks: Vec<Vec<Step>>,
+}
+
+impl Model for Blocks {
+    ghost use Rattle.std.specs.Prelude.{List, map};
+    ghost use Rattle.std.specs.Coded.{codes};
+    ghost use Rattle.ppm_serial.specs.declared.code.Step.{Step};
+    ghost use Rattle.ppm_serial.specs.contracts.code.Value as value;
+
+    ghost Value = { List (List Step) };
+
+    ghost coded = { Prim.hlevel (codes, value.the_row.coded) };
+
+    ghost view = { λ b. map (λ s. s.items) b.blocks.items };
+}
+
+impl Blocks {
+    /// One block, which is empty.
+    pub(crate) fn new(alloc: Global) -> Result<Self, NoMemory>
+        ensures { IfOk result (λ b. b ≡ [] ∷ []) }
+    {
+        let mut blocks = Vec::new(alloc);
+        blocks.push(Vec::new(alloc))?;
+        Ok(Blocks { blocks })
+    }
+
+    /// One block more, and its place.
+    pub(crate) fn push(&mut self, steps: Vec<Step>) -> Result<usize, NoMemory>
+        ensures blocks { OnOk result (self.new ≡ self.old ++ steps.items ∷ []) }
+        ensures place { IfOk result (λ place. place ≡ length self.old) }
+    {
+        let place = self.blocks.len();
+        self.blocks.push(steps)?;
+        Ok(place)
+    }
+}
+
 /// The procedures and blocks of a program.
 #[derive(Drop)]
 pub(crate) struct Code {
     routines: Vec<Routine>,
-    blocks: Vec<Vec<Step>>,
+    blocks: Blocks,
     main: usize,
 }
 
 impl Model for Code {
-    ghost use Rattle.std.specs.Prelude.{map};
     ghost use Rattle.std.specs.Coded.{codes};
     ghost use Rattle.ppm_serial.specs.Code.{Laid};
     ghost use Rattle.ppm_serial.specs.contracts.code.Value as value;
@@ -125,17 +166,13 @@ impl Model for Code {
 
     ghost coded = { Prim.hlevel (codes, value.the_row.coded) };
 
-    ghost view = { λ c. record {
-      routines = c.routines.items;
-      blocks = map (λ b. b.items) c.blocks.items;
-      main = c.main;
-    } };
+    ghost view = { λ c. record { routines = c.routines.items; blocks = c.blocks; main = c.main } };
 }
 
 impl Code {
     /// The code with these procedures and blocks.
-    pub(crate) fn new(routines: Vec<Routine>, blocks: Vec<Vec<Step>>, main: usize) -> Self
-        ensures { result ≡ record { routines = routines.items; blocks = map (λ b. b.items) blocks.items; main = main } }
+    pub(crate) fn new(routines: Vec<Routine>, blocks: Blocks, main: usize) -> Self
+        ensures { result ≡ record { routines = routines.items; blocks = blocks; main = main } }
     {
         Code {
             routines,
@@ -156,7 +193,7 @@ impl Code {
         ensures bound { IfSome result (λ s. place.now.at + 1 < 2 ^ 64) }
         ensures value { MatchOption result (step_at self.now place.now ≡ None) (λ s. step_at self.now place.now ≡ Some s.now) }
     {
-        match self.blocks.get(place.block) {
+        match self.blocks.blocks.get(place.block) {
             Some(steps) => steps.get(place.at),
             None => None,
         }

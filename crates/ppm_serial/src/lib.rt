@@ -7,8 +7,15 @@
 
 mod code;
 mod frame;
+mod lay;
+mod names;
 mod region;
 mod run;
+mod serial;
 mod stack;
 mod store;
+#[cfg(test)]
+mod tests;
 mod value;
+
+pub use serial::serial;

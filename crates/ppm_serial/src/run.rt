@@ -8,6 +8,7 @@ ghost use Rattle.ppm_serial.specs.Machine.{sweeping, testing, with_frame};
 
 use crate::code::{Call, Code, Parts, Passed, Place, Step, Stop, Value};
 use crate::frame::Frame;
+use crate::region::Region;
 use crate::stack::{Caller, Rest, Stack, Sweep};
 use crate::store::Store;
 use crate::value::{index_in, split_at, worth};
@@ -43,6 +44,15 @@ impl Run {
                 self.perform(alloc, code, step)
             }
         }
+    }
+
+    /// All steps from the entry of `main` on, until the run ends or stops.
+    pub(crate) fn to_end(&mut self, alloc: Global, code: &Code) -> Result<(), Stop> {
+        self.begin(code, code.main())?;
+        while !self.ended {
+            self.step(alloc, code)?;
+        }
+        Ok(())
     }
 
     /// Spends turns.
@@ -155,6 +165,10 @@ impl Run {
             }
             [Passed::Region(slot, lent), rest @ ..] => {
                 callee.set_region(*slot, self.frame.region(*lent));
+                self.pass(rest, callee)
+            }
+            [Passed::Nowhere(slot), rest @ ..] => {
+                callee.set_region(*slot, Region::nowhere());
                 self.pass(rest, callee)
             }
         }

@@ -51,4 +51,11 @@ impl Store {
             }
         }
     }
+
+    /// The arrays, by their places.
+    pub(crate) fn into_vec(self) -> Vec<Vec<i64>>
+        ensures { map (λ v. v.items) result.items ≡ self }
+    {
+        self.arrays
+    }
 }
