@@ -6,3 +6,4 @@ pub mod Machine
 pub mod ToCome
 pub mod Names
 pub mod Laying
+pub mod Simulation

@@ -7,15 +7,15 @@
 
 mod code;
 mod frame;
+mod interpret;
 mod lay;
 mod names;
 mod region;
 mod run;
-mod serial;
 mod stack;
 mod store;
 #[cfg(test)]
 mod tests;
 mod value;
 
-pub use serial::serial;
+pub use interpret::serial;

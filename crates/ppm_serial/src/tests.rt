@@ -1,5 +1,5 @@
 //! Outcomes of programs worked out by hand.
-use crate::serial::outcome;
+use crate::interpret::outcome;
 use ppm_tree::{Argument, Array, ArrayInput, Expr, Give, Mode, Named, Operator, Parameter, Proc, Side, Stmt, Tree};
 use ppm_words::{Items, Name, NoMemory, Outcome, Trap};
 use std::alloc::Global;

@@ -1,0 +1,208 @@
+-- Each step of a run over slots does what is still to come.
+use Rattle.std.proofs.Common.{◌≡◌, ◌<◌, ◌≤◌, ◌+◌, ◌-◌, ℕ, zero, suc, ℤ, pos, Bool, true, false, List, [], ◌∷◌, Option, Some, None, Result, Ok, Err, refl, sym, ap, subst, arith, ◌∙◌, nat_lt, length, drop, get_or}
+use Rattle.std.specs.Prelude.{if◌then◌else◌, slice_get}
+use Rattle.std.proofs.lemmas.Bool.{ltb-true, ltb-false}
+use Rattle.ppm_tree.specs.declared.named.Named.{Named}
+use Rattle.ppm_tree.specs.Tree.{Expression, Side, Block, Nil, Then, Give, Procedure}
+use Rattle.ppm_tree.specs.Values.{holds}
+use Rattle.ppm_tree.specs.State.{TrapAt, then_with, Region, Regions, Locals, Frame, Arrays, nowhere, with_local, with_region, with_word, with_name, index_in, split_at, first_part, second_part, part_at}
+use Rattle.ppm_tree.specs.State.{evaluate, put_values, procedure_named, entered, both_entered, delivered, empty_frame, with_arguments}
+use Rattle.ppm_tree.specs.Meaning.{Plain, Counts, End, Ended, Trapped, end_of, assigned, stored, chosen, returned, joined, with_parts, with_element, Enters}
+use Rattle.ppm_serial.specs.declared.code.Stop.{Stop}
+use Rattle.ppm_serial.specs.declared.code.Stop.TheVariants as stop
+use Rattle.ppm_serial.specs.declared.code.Value.{Value}
+use Rattle.ppm_serial.specs.declared.code.Call.{Call}
+use Rattle.ppm_serial.specs.declared.code.Parts.{Parts}
+use Rattle.ppm_serial.specs.declared.code.Step.{Step}
+use Rattle.ppm_serial.specs.declared.code.Step.TheVariants as step
+use Rattle.ppm_serial.specs.declared.stack.Rest.{Rest}
+use Rattle.ppm_serial.specs.declared.stack.Rest.TheVariants as rest
+use Rattle.ppm_serial.specs.declared.stack.Sweep.{Sweep}
+use Rattle.ppm_serial.specs.declared.stack.Caller.{Caller}
+use Rattle.ppm_serial.specs.declared.run.Run.{Run}
+use Rattle.ppm_serial.specs.Slots.{Slots, fresh, with_local_at, with_region_at, with_regions}
+use Rattle.ppm_serial.specs.Worth.{worth, stopped}
+use Rattle.ppm_serial.specs.Names.{Slotted, slot_in, names_of, frame_of}
+use Rattle.ppm_serial.specs.Code.{Laid, block_at, step_at, routine_at}
+use Rattle.ppm_serial.specs.Machine.{spending, with_left, with_frame, with_store, with_stack, with_place, with_end, first_of, behind, inside, called, beginning, entering, waiting, delivering}
+use Rattle.ppm_serial.specs.Machine.{sweeping, swept_once, element_frame, setting, putting, choosing, testing, calling, forking, parting, splitting, sweep_begins, doing, spending_some, worth_some}
+use Rattle.ppm_serial.specs.Machine.{returning, crossing, joining, ending, leaving, stepping, stepping_at}
+use Rattle.ppm_serial.specs.Laying.{Fits, IsWorth, IsLocal, IsRegion, IsTarget, IsGive, as_frame, FitsIfAny, IsCall, Stands, Lies, LiesNil, LiesThen, IsRoutine, IsLaid, place_in}
+use Rattle.ppm_serial.specs.Laying.{StandsLet, StandsAssign, StandsPut, StandsIf, StandsWhile, StandsCall, StandsFork, StandsSplit, StandsEach}
+use Rattle.ppm_serial.specs.ToCome.{Item, Behind, Tests, Leaves, Sweeping, Returns, Crosses, Joins, Two, Trap, Opens, of, gave, Later, given_turns, Crossed, After, Block_, Loop_, Sweep_, Shifts}
+use Rattle.ppm_serial.specs.Simulation.{Point, AtBlock, AtLoop, AtEnd, main_named, Way, Stands_at, IsTest, Waits, Sweeps_, Stacks, Empty, OnBlock, OnTest, OnParts, OnSweep, OnCall, OnLeft, OnRight}
+use Rattle.ppm_serial.specs.Simulation.{Shows, InBlock, InLoop, Over, Goes, Traps, Moves}
+use Rattle.ppm_serial.proofs.ToComeLemmas.{same, chain, nil_step, let_step, assign_step, put_step, if_step, split_step, while_step, Tested, loop_step, each_step, swept_step, sweep_step}
+use Rattle.ppm_serial.proofs.ToComeLemmas.{called_step, left_step, right_step, call_step, Branches, fork_step}
+use Rattle.ppm_serial.proofs.SlotLemmas.{wrote_local, wrote_region, fits_local, fits_region, fresh_frame, fresh_fits, none_at, some_at, next_at}
+use Rattle.ppm_serial.proofs.SimulationLemmas.{moves_behind, moves_spent, moves_opened}
+
+-- a way to go on behind no turns, the other way round
+turned : {A B : ℕ → End ℤ → Type 0} → Shifts 0 A B → Shifts 0 B A
+turned {A = A} {B = B} p = record {
+  on = λ n z b. record { rest = n; sum = omega arith; next = p.back n z (record { rest = n; sum = omega arith; next = b }) };
+  back = λ n z w. let v = p.on w.rest z w.next in let e : v.rest ≡ n = (let i = w.sum in let j = v.sum in omega (arith, i, j)) in subst (λ (m : ℕ). B m z) e v.next;
+}
+
+-- so many turns in two parts
+in_parts : (j k : ℕ) {A B : ℕ → End ℤ → Type 0} → Shifts (j + k) A B → Shifts j A (Later k B)
+in_parts j k p = record {
+  on = λ n z a. let w = p.on n z a in record { rest = k + w.rest; sum = let i = w.sum in omega (arith, i); next = record { rest = w.rest; sum = refl; next = w.next } };
+  back = λ n z v. let w = v.next in p.back n z (record { rest = w.rest; sum = (let i = v.sum in let j = w.sum in omega (arith, i, j)); next = w.next });
+}
+
+later : (k : ℕ) {B : ℕ → End ℤ → Type 0} → Shifts k (Later k B) B
+later k = record { on = λ n z w. w; back = λ n z w. w }
+
+module _ (procedures : List Procedure) (c : Laid) (laid : IsLaid procedures c) where
+  -- a run before a block, with its turn spent
+  record Ready (n : Slotted) (b : Block) (f : Frame) (u : Run) (items : List Item) : Type 0 where
+    pub running : u.ended ≡ false
+    pub frame : f ≡ frame_of n u.frame
+    pub fits : Fits n u.frame
+    pub place : Stands_at procedures c n b u.place
+    pub stack : Stacks procedures c n u.stack items
+
+  -- what an expression is worth
+  found : (n : Slotted) (e : Expression) (v : Value) (f : Frame) (s : Slots) (a : Arrays) → IsWorth n e v → f ≡ frame_of n s → worth s a v ≡ stopped (evaluate f a e)
+  found n e v f s a w i = w s a ∙ ap (λ (f : Frame). stopped (evaluate f a e)) (sym i)
+
+  -- the region in a slot
+  region_in : (n : Slotted) (f : Frame) (s : Slots) (x : List ℕ) (k : ℕ) → k ≡ slot_in n.regions x → f ≡ frame_of n s → f.regions x ≡ get_or s.regions k nowhere
+  region_in n f s x k i e = ap (λ (f : Frame). f.regions x) e ∙ ap (λ (k : ℕ). get_or s.regions k nowhere) (sym i)
+
+  -- a run goes on without a turn
+  on_to : (u : Run) {A : ℕ → End ℤ → Type 0} (t : Run) (p : Point) → u.left ≡ t.left → Shows procedures c t p → Shifts 0 A (Way procedures p) → Moves procedures c u.left A (Ok t)
+  on_to u t p e h g = record { point = p; spent = 0; shows = h; sum = omega (arith, e); shifts = g }
+
+  stop_at : {left : ℕ} {A : ℕ → End ℤ → Type 0} {t : TrapAt} (a : Arrays) → Shifts 0 A (Trap t a) → Moves procedures c left A (Err (stop.Trapped t.0 t.1))
+  stop_at a g = record { arrays = a; spent = 0; within = omega arith; shifts = g }
+
+  -- a local gets a value
+  did_set : (n : Slotted) (x : Named) (e : Expression) (b : Block) (k : ℕ) (v : Value) (f : Frame) (u : Run) (items : List Item) → IsLocal n x.name k → IsWorth n e v
+      → Ready n b f u items → Moves procedures c u.left (After procedures (main_named procedures).give (Behind b ∷ items) f.regions (assigned x e f u.store)) (setting k v u)
+  did_set n x e b k v f u items i w r =
+      subst (λ (o : Result ℤ Stop). Moves procedures c u.left (After procedures (main_named procedures).give (Behind b ∷ items) f.regions (assigned x e f u.store))
+      (then_with o (λ x. Ok (with_frame u (with_local_at u.frame k x))))) (sym (found n e v f u.frame u.store w r.frame)) (go (evaluate f u.store e))
+    where
+      go : (o : Result ℤ TrapAt) → Moves procedures c u.left (After procedures (main_named procedures).give (Behind b ∷ items) f.regions
+          (end_of o u.store (λ v. Ended (with_local f x.name v).locals u.store))) (then_with (stopped o) (λ x. Ok (with_frame u (with_local_at u.frame k x))))
+      go (Ok y) = on_to u (with_frame u (with_local_at u.frame k y)) (AtBlock b (with_local f x.name y) u.store items) refl
+          (InBlock n b (with_local f x.name y) (with_frame u (with_local_at u.frame k y)) items r.running
+          (ap (λ (f : Frame). with_local f x.name y) r.frame ∙ wrote_local n u.frame x.name k y i r.fits) (fits_local k y r.fits) r.place r.stack) same
+      go (Err t) = stop_at {t = t} u.store same
+
+  -- the last part of an assignment to an element, and its end
+  abbrev put_last : Named → Run → ℤ → ℤ → Region → Result Run Stop
+  put_last x u y z g = then_with (stopped (index_in x.line g y)) (λ m. Ok (with_store u (with_word u.store g m z)))
+
+  abbrev PutWay : Named → Block → Frame → Run → List Item → Result (ℕ × ℤ) TrapAt → ℕ → End ℤ → Type 0
+  PutWay x b f u items o n z = After procedures (main_named procedures).give (Behind b ∷ items) f.regions
+      (end_of o u.store (λ p. Ended f.locals (with_word u.store (f.regions x.name) p.0 p.1))) n z
+
+  put_third : (n : Slotted) (x : Named) (b : Block) (f : Frame) (u : Run) (items : List Item) → Ready n b f u items → (z : ℤ) (o : Result ℕ TrapAt)
+      → Moves procedures c u.left (PutWay x b f u items (then_with o (λ m. Ok (m, z)))) (then_with (stopped o) (λ m. Ok (with_store u (with_word u.store (f.regions x.name) m z))))
+  put_third n x b f u items r z (Ok m) = on_to u (with_store u (with_word u.store (f.regions x.name) m z)) (AtBlock b f (with_word u.store (f.regions x.name) m z) items) refl
+      (InBlock n b f (with_store u (with_word u.store (f.regions x.name) m z)) items r.running r.frame r.fits r.place r.stack) same
+  put_third n x b f u items r z (Err t) = stop_at {t = t} u.store same
+
+  put_both : (n : Slotted) (x : Named) (b : Block) (f : Frame) (u : Run) (items : List Item) → Ready n b f u items → (o p : Result ℤ TrapAt)
+      → Moves procedures c u.left (PutWay x b f u items (then_with o (λ y. then_with p (λ z. then_with (index_in x.line (f.regions x.name) y) (λ m. Ok (m, z))))))
+      (then_with (stopped o) (λ y. then_with (stopped p) (λ z. put_last x u y z (f.regions x.name))))
+  put_both n x b f u items r (Ok y) (Ok z) = put_third n x b f u items r z (index_in x.line (f.regions x.name) y)
+  put_both n x b f u items r (Ok y) (Err t) = stop_at {t = t} u.store same
+  put_both n x b f u items r (Err t) p = stop_at {t = t} u.store same
+
+  -- an element gets a value
+  did_put : (n : Slotted) (x : Named) (d e : Expression) (b : Block) (k : ℕ) (j v : Value) (f : Frame) (u : Run) (items : List Item) → k ≡ slot_in n.regions x.name
+      → IsWorth n d j → IsWorth n e v → Ready n b f u items
+      → Moves procedures c u.left (After procedures (main_named procedures).give (Behind b ∷ items) f.regions (stored x d e f u.store)) (putting k x.line j v u)
+  did_put n x d e b k j v f u items i w w' r =
+      subst (λ (o : Result ℤ Stop). Moves procedures c u.left (PutWay x b f u items (put_values f u.store x d e))
+      (then_with o (λ y. then_with (worth u.frame u.store v) (λ z. put_last x u y z (get_or u.frame.regions k nowhere)))))
+      (sym (found n d j f u.frame u.store w r.frame))
+      (subst (λ (o : Result ℤ Stop). Moves procedures c u.left (PutWay x b f u items (put_values f u.store x d e))
+      (then_with (stopped (evaluate f u.store d)) (λ y. then_with o (λ z. put_last x u y z (get_or u.frame.regions k nowhere)))))
+      (sym (found n e v f u.frame u.store w' r.frame))
+      (subst (λ (g : Region). Moves procedures c u.left (PutWay x b f u items (put_values f u.store x d e))
+      (then_with (stopped (evaluate f u.store d)) (λ y. then_with (stopped (evaluate f u.store e)) (λ z. put_last x u y z g))))
+      (region_in n f u.frame x.name k i r.frame) (put_both n x b f u items r (evaluate f u.store d) (evaluate f u.store e))))
+
+  -- one of two blocks is entered
+  did_choose : (n : Slotted) (e : Expression) (p q b : Block) (v : Value) (i j : ℕ) (f : Frame) (u : Run) (items : List Item) → IsWorth n e v
+      → Lies procedures c.blocks n p (get_or c.blocks i []) → Lies procedures c.blocks n q (get_or c.blocks j []) → Ready n b f u items
+      → Moves procedures c u.left (Opens (evaluate f u.store e) u.store (λ v. Block_ procedures (main_named procedures).give (chosen (holds v) p q) f u.store (Behind b ∷ items)))
+      (choosing v i j u)
+  did_choose n e p q b v i j f u items w l m r =
+      subst (λ (o : Result ℤ Stop). Moves procedures c u.left (Opens (evaluate f u.store e) u.store
+      (λ v. Block_ procedures (main_named procedures).give (chosen (holds v) p q) f u.store (Behind b ∷ items)))
+      (then_with o (λ x. Ok (if holds x then inside i u.place u else inside j u.place u)))) (sym (found n e v f u.frame u.store w r.frame))
+      (moves_opened procedures c u.left u.store (evaluate f u.store e) (λ v. Block_ procedures (main_named procedures).give (chosen (holds v) p q) f u.store (Behind b ∷ items))
+      (λ x. Ok (if holds x then inside i u.place u else inside j u.place u)) (λ x is. go (holds x)))
+    where
+      go : (h : Bool) → Moves procedures c u.left (Block_ procedures (main_named procedures).give (chosen h p q) f u.store (Behind b ∷ items))
+          (Ok (if h then inside i u.place u else inside j u.place u))
+      go true = on_to u (inside i u.place u) (AtBlock p f u.store (Behind b ∷ items)) refl
+          (InBlock n p f (inside i u.place u) (Behind b ∷ items) r.running r.frame r.fits l (OnBlock n b u.place u.stack items r.place r.stack)) same
+      go false = on_to u (inside j u.place u) (AtBlock q f u.store (Behind b ∷ items)) refl
+          (InBlock n q f (inside j u.place u) (Behind b ∷ items) r.running r.frame r.fits m (OnBlock n b u.place u.stack items r.place r.stack)) same
+
+  -- a loop begins before its test
+  did_loop : (n : Slotted) (e : Expression) (p b : Block) (v : Value) (i j : ℕ) (f : Frame) (u : Run) (items : List Item)
+      → get_or c.blocks i [] ≡ step.Test v j ∷ [] → IsWorth n e v → Lies procedures c.blocks n p (get_or c.blocks j []) → Ready n b f u items
+      → Moves procedures c u.left (Loop_ procedures (main_named procedures).give e p f u.store (Behind b ∷ items)) (Ok (inside i u.place u))
+  did_loop n e p b v i j f u items is w l r = on_to u (inside i u.place u) (AtLoop e p f u.store (Behind b ∷ items)) refl
+      (InLoop n e p f (inside i u.place u) (Behind b ∷ items) r.running r.frame r.fits
+      (record { value = v; block = j; steps = is; first = refl; worth = w; lies = l }) (OnBlock n b u.place u.stack items r.place r.stack)) same
+
+  -- the test of a loop, with its turn spent
+  did_test : (n : Slotted) (e : Expression) (p : Block) (v : Value) (j : ℕ) (f : Frame) (u : Run) (items : List Item) → u.ended ≡ false → f ≡ frame_of n u.frame
+      → Fits n u.frame → IsTest procedures c n e p (first_of u.place.block) → Stands_at procedures c n Nil u.place → IsWorth n e v
+      → Lies procedures c.blocks n p (get_or c.blocks j []) → Stacks procedures c n u.stack items
+      → Moves procedures c u.left (Opens (evaluate f u.store e) u.store (λ v. Tested procedures (main_named procedures).give (holds v) e p f u.store items)) (testing v j u)
+  did_test n e p v j f u items running frame fits test nil w l stack =
+      subst (λ (o : Result ℤ Stop). Moves procedures c u.left (Opens (evaluate f u.store e) u.store
+      (λ v. Tested procedures (main_named procedures).give (holds v) e p f u.store items))
+      (then_with o (λ x. Ok (if holds x then inside j (first_of u.place.block) u else u)))) (sym (found n e v f u.frame u.store w frame))
+      (moves_opened procedures c u.left u.store (evaluate f u.store e) (λ v. Tested procedures (main_named procedures).give (holds v) e p f u.store items)
+      (λ x. Ok (if holds x then inside j (first_of u.place.block) u else u)) (λ x is. go (holds x)))
+    where
+      go : (h : Bool) → Moves procedures c u.left (Tested procedures (main_named procedures).give h e p f u.store items) (Ok (if h then inside j (first_of u.place.block) u else u))
+      go true = on_to u (inside j (first_of u.place.block) u) (AtBlock p f u.store (Tests e p ∷ items)) refl
+          (InBlock n p f (inside j (first_of u.place.block) u) (Tests e p ∷ items) running frame fits l (OnTest n e p (first_of u.place.block) u.stack items test stack)) same
+      go false = on_to u u (AtBlock Nil f u.store items) refl (InBlock n Nil f u items running frame fits nil stack) (turned (nil_step procedures (main_named procedures).give f u.store items))
+
+  -- a split, whose parts are in the block's frame
+  did_split : (n : Slotted) (line : ℕ) (t : Named) (e : Expression) (x y : Named) (p b : Block) (k : ℕ) (v : Value) (q : Parts) (f : Frame) (u : Run) (items : List Item)
+      → k ≡ slot_in n.regions t.name → IsWorth n e v → IsRegion n x.name q.first → IsRegion n y.name q.second → Lies procedures c.blocks n p (get_or c.blocks q.block [])
+      → Ready n b f u items
+      → Moves procedures c u.left (Opens (then_with (evaluate f u.store e) (split_at line (f.regions t.name))) u.store
+      (λ m. Block_ procedures (main_named procedures).give p (with_parts f (f.regions t.name) m x y) u.store (Leaves f.regions ∷ Behind b ∷ items))) (splitting line k v q u)
+  did_split n line t e x y p b k v q f u items i w first second l r =
+      subst (λ (o : Result ℤ Stop). Moves procedures c u.left (Opens (then_with (evaluate f u.store e) (split_at line (f.regions t.name))) u.store Way_)
+      (then_with o (λ m. then_with (stopped (split_at line (get_or u.frame.regions k nowhere) m)) (λ n. Ok (parting k n q u)))))
+      (sym (found n e v f u.frame u.store w r.frame))
+      (subst (λ (g : Region). Moves procedures c u.left (Opens (then_with (evaluate f u.store e) (split_at line (f.regions t.name))) u.store Way_)
+      (then_with (stopped (evaluate f u.store e)) (λ m. then_with (stopped (split_at line g m)) (λ n. Ok (parting k n q u)))))
+      (region_in n f u.frame t.name k i r.frame) (go (evaluate f u.store e)))
+    where
+      Way_ : ℕ → ℕ → End ℤ → Type 0
+      Way_ m = Block_ procedures (main_named procedures).give p (with_parts f (f.regions t.name) m x y) u.store (Leaves f.regions ∷ Behind b ∷ items)
+      made : (m : ℕ) → with_parts f (f.regions t.name) m x y ≡ frame_of n (parting k m q u).frame
+      made m =
+          ap (λ (f : Frame). with_parts f (f.regions t.name) m x y) r.frame
+          ∙ ap (λ (k : ℕ). with_region (with_region (frame_of n u.frame) x.name (first_part m (get_or u.frame.regions k nowhere))) y.name (second_part m (get_or u.frame.regions k nowhere))) (sym i)
+          ∙ ap (λ (f : Frame). with_region f y.name (second_part m (get_or u.frame.regions k nowhere)))
+          (wrote_region n u.frame x.name q.first (first_part m (get_or u.frame.regions k nowhere)) first r.fits)
+          ∙ wrote_region n (with_region_at u.frame q.first (first_part m (get_or u.frame.regions k nowhere))) y.name q.second (second_part m (get_or u.frame.regions k nowhere)) second
+          (fits_region q.first (first_part m (get_or u.frame.regions k nowhere)) r.fits)
+      go2 : (o : Result ℕ TrapAt) → Moves procedures c u.left (Opens o u.store Way_) (then_with (stopped o) (λ n. Ok (parting k n q u)))
+      go2 (Ok m) = on_to u (parting k m q u) (AtBlock p (with_parts f (f.regions t.name) m x y) u.store (Leaves f.regions ∷ Behind b ∷ items)) refl
+          (InBlock n p (with_parts f (f.regions t.name) m x y) (parting k m q u) (Leaves f.regions ∷ Behind b ∷ items) r.running (made m)
+          (fits_region q.second (second_part m (get_or u.frame.regions k nowhere)) (fits_region q.first (first_part m (get_or u.frame.regions k nowhere)) r.fits)) l
+          (OnParts n b f.regions u.frame.regions u.place u.stack items (ap (λ (f : Frame). f.regions) r.frame) r.fits.regions r.place r.stack)) same
+      go2 (Err s) = stop_at {t = s} u.store same
+      go : (o : Result ℤ TrapAt) → Moves procedures c u.left (Opens (then_with o (split_at line (f.regions t.name))) u.store Way_)
+          (then_with (stopped o) (λ m. then_with (stopped (split_at line (f.regions t.name) m)) (λ n. Ok (parting k n q u))))
+      go (Ok m) = go2 (split_at line (f.regions t.name) m)
+      go (Err s) = stop_at {t = s} u.store same
