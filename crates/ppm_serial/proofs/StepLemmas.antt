@@ -54,6 +54,27 @@ in_parts j k p = record {
 later : (k : ℕ) {B : ℕ → End ℤ → Type 0} → Shifts k (Later k B) B
 later k = record { on = λ n z w. w; back = λ n z w. w }
 
+-- two results with one value
+abbrev ok_or : Frame → Result Frame Stop → Frame
+ok_or d (Ok x) = x
+ok_or d (Err e) = d
+
+abbrev err_or : Stop → Result Frame Stop → Stop
+err_or d (Ok x) = d
+err_or d (Err e) = e
+
+abbrev ok_frame : Frame → Result Frame Stop
+ok_frame x = Ok x
+
+abbrev err_frame : Stop → Result Frame Stop
+err_frame x = Err x
+
+ok_value : {x y : Frame} → ok_frame x ≡ ok_frame y → x ≡ y
+ok_value {x = x} e = ap (ok_or x) e
+
+err_value : {x y : Stop} → err_frame x ≡ err_frame y → x ≡ y
+err_value {x = x} e = ap (err_or x) e
+
 module _ (procedures : List Procedure) (c : Laid) (laid : IsLaid procedures c) where
   -- a run before a block, with its turn spent
   record Ready (n : Slotted) (b : Block) (f : Frame) (u : Run) (items : List Item) : Type 0 where
@@ -206,3 +227,190 @@ module _ (procedures : List Procedure) (c : Laid) (laid : IsLaid procedures c) w
           (then_with (stopped o) (λ m. then_with (stopped (split_at line (f.regions t.name) m)) (λ n. Ok (parting k n q u))))
       go (Ok m) = go2 (split_at line (f.regions t.name) m)
       go (Err s) = stop_at {t = s} u.store same
+
+  -- the blocks of an `each` that are still to come
+  did_sweep : (n : Slotted) (i x : Named) (p : Block) (reg : Region) (f : Frame) (from count : ℕ) (b : Block) (w : Sweep) (u : Run) (items : List Item) → u.ended ≡ false
+      → Sweeps_ procedures c n i x p reg f from count b w → Stacks procedures c n u.stack items
+      → Moves procedures c u.left (Sweep_ procedures (main_named procedures).give i x p reg f from count u.store (Behind b ∷ items)) (sweeping w u)
+  did_sweep n i x p reg f from zero b w u items running v stack = go (nat_lt w.next w.region.length) refl
+    where
+      go : (t : Bool) → nat_lt w.next w.region.length ≡ t
+          → Moves procedures c u.left (Sweep_ procedures (main_named procedures).give i x p reg f from zero u.store (Behind b ∷ items))
+          (if t then then_with (spending 8 u) (λ t. Ok (with_place (with_frame (with_stack t (rest.Sweep (swept_once w) ∷ t.stack)) (element_frame w)) (first_of w.block)))
+          else Ok (with_place (with_frame u w.frame) w.place))
+      go true h =
+          let l = ltb-true w.next w.region.length h in let e = v.sum in let j = v.next in let k = ap (λ (r : Region). r.length) v.region in absurd (omega (arith, l, e, j, k))
+      go false h = on_to u (with_place (with_frame u w.frame) w.place) (AtBlock b f u.store items) refl
+          (InBlock n b f (with_place (with_frame u w.frame) w.place) items running v.frame v.fits v.place stack)
+          (swept_step procedures (main_named procedures).give i x p reg f from u.store (Behind b ∷ items))
+  did_sweep n i x p reg f from (suc d) b w u items running v stack = go (nat_lt w.next w.region.length) refl
+    where
+      made : with_element f reg from i x ≡ frame_of n (element_frame w)
+      made =
+          ap (λ (f : Frame). with_element f reg from i x) v.frame
+          ∙ ap (λ (r : Region). with_element (frame_of n w.frame) r from i x) (sym v.region)
+          ∙ ap (λ (k : ℕ). with_element (frame_of n w.frame) w.region k i x) (sym v.next)
+          ∙ ap (λ (f : Frame). with_region f x.name (part_at w.next w.region)) (wrote_local n w.frame i.name w.index (pos w.next) v.index v.fits)
+          ∙ wrote_region n (with_local_at w.frame w.index (pos w.next)) x.name w.part (part_at w.next w.region) v.part (fits_local w.index (pos w.next) v.fits)
+      later_blocks : Sweeps_ procedures c n i x p reg f (suc from) d b (swept_once w)
+      later_blocks = record {
+        frame = v.frame;
+        fits = v.fits;
+        index = v.index;
+        part = v.part;
+        region = v.region;
+        next = ap suc v.next;
+        sum = let e = v.sum in omega (arith, e);
+        block = v.block;
+        place = v.place;
+      }
+      go : (t : Bool) → nat_lt w.next w.region.length ≡ t
+          → Moves procedures c u.left (Sweep_ procedures (main_named procedures).give i x p reg f from (suc d) u.store (Behind b ∷ items))
+          (if t then then_with (spending 8 u) (λ t. Ok (with_place (with_frame (with_stack t (rest.Sweep (swept_once w) ∷ t.stack)) (element_frame w)) (first_of w.block)))
+          else Ok (with_place (with_frame u w.frame) w.place))
+      go true h = moves_spent procedures c 8 u (Sweep_ procedures (main_named procedures).give i x p reg f from (suc d) u.store (Behind b ∷ items))
+          (Block_ procedures (main_named procedures).give p (with_element f reg from i x) u.store (Sweeping i x p reg f (suc from) d ∷ Behind b ∷ items))
+          (λ t. Ok (with_place (with_frame (with_stack t (rest.Sweep (swept_once w) ∷ t.stack)) (element_frame w)) (first_of w.block)))
+          (sweep_step procedures (main_named procedures).give i x p reg f from d u.store (Behind b ∷ items))
+          (λ l. on_to (with_left u (u.left - 8))
+          (with_place (with_frame (with_stack (with_left u (u.left - 8)) (rest.Sweep (swept_once w) ∷ u.stack)) (element_frame w)) (first_of w.block))
+          (AtBlock p (with_element f reg from i x) u.store (Sweeping i x p reg f (suc from) d ∷ Behind b ∷ items)) refl
+          (InBlock n p (with_element f reg from i x) (with_place (with_frame (with_stack (with_left u (u.left - 8)) (rest.Sweep (swept_once w) ∷ u.stack)) (element_frame w)) (first_of w.block))
+          (Sweeping i x p reg f (suc from) d ∷ Behind b ∷ items) running made
+          (fits_region w.part (part_at w.next w.region) (fits_local w.index (pos w.next) v.fits)) v.block
+          (OnSweep n i x p reg f (suc from) d b (swept_once w) u.stack items later_blocks stack)) same)
+      go false h =
+          let l = ltb-false w.next w.region.length h in let e = v.sum in let j = v.next in let k = ap (λ (r : Region). r.length) v.region in absurd (omega (arith, l, e, j, k))
+
+  -- an `each`, with one of its nine turns spent
+  did_each : (n : Slotted) (i x r : Named) (p b : Block) (j k m d : ℕ) (f : Frame) (u : Run) (items : List Item) → IsLocal n i.name j → IsRegion n x.name k
+      → m ≡ slot_in n.regions r.name → Lies procedures c.blocks n p (get_or c.blocks d []) → Ready n b f u items
+      → Moves procedures c u.left (Later 8 (Sweep_ procedures (main_named procedures).give i x p (f.regions r.name) f 0 (f.regions r.name).length u.store (Behind b ∷ items)))
+      (sweep_begins j k m d u)
+  did_each n i x r p b j k m d f u items index part region block h =
+      moves_spent procedures c 8 u
+      (Later 8 (Sweep_ procedures (main_named procedures).give i x p (f.regions r.name) f 0 (f.regions r.name).length u.store (Behind b ∷ items)))
+      (Sweep_ procedures (main_named procedures).give i x p (f.regions r.name) f 0 (f.regions r.name).length u.store (Behind b ∷ items))
+      (λ t. sweeping (record { index = j; part = k; block = d; region = get_or t.frame.regions m nowhere; next = 0; frame = t.frame; place = t.place }) t)
+      (later 8)
+      (λ l. did_sweep n i x p (f.regions r.name) f 0 (f.regions r.name).length b
+      (record { index = j; part = k; block = d; region = get_or u.frame.regions m nowhere; next = 0; frame = u.frame; place = u.place })
+      (with_left u (u.left - 8)) items h.running
+      (record {
+        frame = h.frame;
+        fits = h.fits;
+        index = index;
+        part = part;
+        region = sym (region_in n f u.frame r.name m region h.frame);
+        next = refl;
+        sum = omega arith;
+        block = block;
+        place = h.place;
+      }) h.stack)
+
+  -- a turn of an entry
+  moves_entry : (s : Run) (A B : ℕ → End ℤ → Type 0) → Shifts 1 A B → (1 ≤ s.left → Moves procedures c (s.left - 1) B (Ok (with_left s (s.left - 1)))) → Moves procedures c s.left A (spending 1 s)
+  moves_entry s A B p rest = go (nat_lt s.left 1) refl
+    where
+      go : (t : Bool) → nat_lt s.left 1 ≡ t → Moves procedures c s.left A (if t then Err stop.NotWithin else Ok (with_left s (s.left - 1)))
+      go true e = λ n z a. let w = p.on n z a in let h = w.sum in let l = ltb-true s.left 1 e in omega (arith, h, l)
+      go false e = moves_behind procedures c 1 s.left A B p (ltb-false s.left 1 e) (Ok (with_left s (s.left - 1))) (rest (ltb-false s.left 1 e))
+
+  -- a callee's frame is made, or an argument traps
+  moves_called : (left : ℕ) (a : Arrays) (m : Slotted) (o : Result Slots Stop) (r : Result Frame TrapAt) (way : Frame → ℕ → End ℤ → Type 0) (go : Slots → Result Run Stop)
+      → as_frame m o ≡ stopped r → FitsIfAny m o → ((g : Frame) (s : Slots) → r ≡ Ok g → g ≡ frame_of m s → Fits m s → Moves procedures c left (way g) (go s))
+      → Moves procedures c left (Opens r a way) (then_with o go)
+  moves_called left a m (Ok s) (Ok g) way go e f rest = rest g s refl (sym (ok_value e)) f
+  moves_called left a m (Ok s) (Err t) way go e f rest = cc
+  moves_called left a m (Err x) (Ok g) way go e f rest = cc
+  moves_called left a m (Err x) (Err t) way go e f rest = subst (λ (x : Stop). Moves procedures c left (Trap t a) (Err x)) (sym (err_value e)) (stop_at {t = t} a same)
+
+  -- the procedure that a name stands for, and its names
+  abbrev proc_ : Named → Procedure
+  proc_ x = procedure_named procedures x.name
+
+  -- the procedure that a call names is laid out at its place
+  routine_of : (n : Slotted) (s : Side) (d : Call) → IsCall procedures n s d → IsRoutine procedures c.blocks (proc_ s.callee) (routine_at c d.callee)
+  routine_of n s d i = subst (λ (k : ℕ). IsRoutine procedures c.blocks (proc_ s.callee) (routine_at c k)) (sym i.callee) (laid.routine s.callee.name)
+
+  -- a fresh frame of a callee
+  fresh_of : (n : Slotted) (s : Side) (d : Call) → IsCall procedures n s d → Fits (names_of (proc_ s.callee)) (fresh (routine_at c d.callee).locals (routine_at c d.callee).regions)
+  fresh_of n s d i =
+      let r = routine_of n s d i in
+      subst (λ (j : ℕ). Fits (names_of (proc_ s.callee)) (fresh j (routine_at c d.callee).regions)) (sym r.locals)
+      (subst (λ (j : ℕ). Fits (names_of (proc_ s.callee)) (fresh (length (names_of (proc_ s.callee)).locals) j)) (sym r.regions) (fresh_fits (names_of (proc_ s.callee))))
+
+  -- the frame that a call makes is that of its arguments
+  called_is : (n : Slotted) (s : Side) (d : Call) (f : Frame) (t : Slots) (a : Arrays) → IsCall procedures n s d → Fits n t → f ≡ frame_of n t
+      → as_frame (names_of (proc_ s.callee)) (called c t a d) ≡ stopped (entered procedures f a s)
+  called_is n s d f t a i fits e =
+      let g = fresh (routine_at c d.callee).locals (routine_at c d.callee).regions in
+      let p = i.passed t a g fits (fresh_of n s d i) in
+      p.value ∙ ap (λ (h : Frame). stopped (with_arguments h a (proc_ s.callee).parameters s.arguments (frame_of (names_of (proc_ s.callee)) g))) (sym e)
+      ∙ ap (λ (h : Frame). stopped (with_arguments f a (proc_ s.callee).parameters s.arguments h))
+      (fresh_frame (names_of (proc_ s.callee)) (routine_at c d.callee).locals (routine_at c d.callee).regions)
+
+  called_fits : (n : Slotted) (s : Side) (d : Call) (t : Slots) (a : Arrays) → IsCall procedures n s d → Fits n t → FitsIfAny (names_of (proc_ s.callee)) (called c t a d)
+  called_fits n s d t a i fits = (i.passed t a (fresh (routine_at c d.callee).locals (routine_at c d.callee).regions) fits (fresh_of n s d i)).fits
+
+  -- a procedure begins in a frame, with who waits for it on the stack
+  begins : (p : Procedure) (k : ℕ) (g : Frame) (s : Slots) (r : Rest) (u : Run) (items : List Item) (A : ℕ → End ℤ → Type 0) → IsRoutine procedures c.blocks p (routine_at c k)
+      → u.ended ≡ false → g ≡ frame_of (names_of p) s → Fits (names_of p) s → Stacks procedures c (names_of p) (r ∷ u.stack) items
+      → Shifts 1 A (Block_ procedures (main_named procedures).give p.body g u.store items) → Moves procedures c u.left A (entering c k s r u)
+  begins p k g s r u items A i running e fits stack shift =
+      let t = with_place (with_frame (with_stack u (r ∷ u.stack)) s) (first_of (routine_at c k).body) in
+      moves_entry t A (Block_ procedures (main_named procedures).give p.body g u.store items) shift
+      (λ l. on_to (with_left t (t.left - 1)) (with_left t (t.left - 1)) (AtBlock p.body g u.store items) refl
+      (InBlock (names_of p) p.body g (with_left t (t.left - 1)) items running e fits i.body stack) same)
+
+  -- a call
+  did_call : (n : Slotted) (s : Side) (d : Call) (b : Block) (f : Frame) (u : Run) (items : List Item) → IsCall procedures n s d → Ready n b f u items
+      → Moves procedures c u.left (Opens (entered procedures f u.store s) u.store
+      (λ g. Two (Enters Plain procedures (proc_ s.callee) g u.store) (λ y. After procedures (main_named procedures).give (Behind b ∷ items) f.regions (returned s.target f y))))
+      (calling c d u)
+  did_call n s d b f u items i r =
+      moves_called u.left u.store (names_of (proc_ s.callee)) (called c u.frame u.store d) (entered procedures f u.store s)
+      (λ g. Two (Enters Plain procedures (proc_ s.callee) g u.store) (λ y. After procedures (main_named procedures).give (Behind b ∷ items) f.regions (returned s.target f y)))
+      (λ g. entering c d.callee g (rest.Call (waiting u d.target d.callee)) u)
+      (called_is n s d f u.frame u.store i r.fits r.frame) (called_fits n s d u.frame u.store i r.fits)
+      (λ g t is e fits. begins (proc_ s.callee) d.callee g t (rest.Call (waiting u d.target d.callee)) u (Returns (proc_ s.callee).give s.target f ∷ Behind b ∷ items)
+      (Two (Enters Plain procedures (proc_ s.callee) g u.store) (λ y. After procedures (main_named procedures).give (Behind b ∷ items) f.regions (returned s.target f y)))
+      (routine_of n s d i) r.running e fits
+      (OnCall (names_of (proc_ s.callee)) n (proc_ s.callee).give s.target f b (waiting u d.target d.callee) u.stack items (routine_of n s d i).give
+      (record { frame = r.frame; fits = r.fits; target = i.target; place = r.place }) r.stack)
+      (called_step procedures (main_named procedures).give (proc_ s.callee) g u.store s.target f (Behind b ∷ items)))
+
+  -- two frames are opened, one after the other
+  opens_both : (a : Arrays) (o p : Result Frame TrapAt) (way : Frame × Frame → ℕ → End ℤ → Type 0) → Shifts 0 (Opens (then_with o (λ g. then_with p (λ h. Ok (g, h)))) a way) (Opens o a (λ g. Opens p a (λ h. way (g, h))))
+  opens_both a (Ok g) (Ok h) way = same
+  opens_both a (Ok g) (Err t) way = same
+  opens_both a (Err t) p way = same
+
+  -- a fork
+  did_fork : (n : Slotted) (s t : Side) (d e : Call) (b : Block) (f : Frame) (u : Run) (items : List Item) → IsCall procedures n s d → IsCall procedures n t e → Ready n b f u items
+      → Moves procedures c u.left (Opens (both_entered procedures f u.store s t) u.store (Branches procedures (main_named procedures).give s t b f u.store items)) (forking c d e u)
+  did_fork n s t d e b f u items i j r =
+      moves_behind procedures c 0 u.left (Opens (both_entered procedures f u.store s t) u.store Way_) (Opens (entered procedures f u.store s) u.store (λ g. Opens (entered procedures f u.store t) u.store (λ h. Way_ (g, h))))
+      (opens_both u.store (entered procedures f u.store s) (entered procedures f u.store t) Way_) (omega arith) (forking c d e u)
+      (moves_called (u.left - 0) u.store (names_of (proc_ s.callee)) (called c u.frame u.store d) (entered procedures f u.store s)
+      (λ g. Opens (entered procedures f u.store t) u.store (λ h. Way_ (g, h)))
+      (λ g. then_with (called c u.frame u.store e) (λ h. entering c d.callee g (rest.Left (waiting u d.target d.callee) e.target e.callee h) u))
+      (called_is n s d f u.frame u.store i r.fits r.frame) (called_fits n s d u.frame u.store i r.fits)
+      (λ g v is eq fits. moves_called (u.left - 0) u.store (names_of (proc_ t.callee)) (called c u.frame u.store e) (entered procedures f u.store t) (λ h. Way_ (g, h))
+      (λ h. entering c d.callee v (rest.Left (waiting u d.target d.callee) e.target e.callee h) u)
+      (called_is n t e f u.frame u.store j r.fits r.frame) (called_fits n t e u.frame u.store j r.fits)
+      (λ h w is' eq' fits'. both g v eq fits h w eq' fits')))
+    where
+      Way_ : Frame × Frame → ℕ → End ℤ → Type 0
+      Way_ = Branches procedures (main_named procedures).give s t b f u.store items
+      both : (g : Frame) (v : Slots) → g ≡ frame_of (names_of (proc_ s.callee)) v → Fits (names_of (proc_ s.callee)) v
+          → (h : Frame) (w : Slots) → h ≡ frame_of (names_of (proc_ t.callee)) w → Fits (names_of (proc_ t.callee)) w
+          → Moves procedures c (u.left - 0) (Way_ (g, h)) (entering c d.callee v (rest.Left (waiting u d.target d.callee) e.target e.callee w) u)
+      both g v eq fits h w eq' fits' =
+          let z : u.left ≡ u.left - 0 = omega arith in
+          subst (λ (k : ℕ). Moves procedures c k (Way_ (g, h)) (entering c d.callee v (rest.Left (waiting u d.target d.callee) e.target e.callee w) u)) z
+          (begins (proc_ s.callee) d.callee g v (rest.Left (waiting u d.target d.callee) e.target e.callee w) u
+          (Crosses (proc_ s.callee).give s.target t.target f (proc_ t.callee) h ∷ Behind b ∷ items) (Way_ (g, h)) (routine_of n s d i) r.running eq fits
+          (OnLeft (names_of (proc_ s.callee)) n (proc_ s.callee).give s.target t.target f b t.callee.name e.callee h (waiting u d.target d.callee) e.target w u.stack items
+          j.callee (routine_of n s d i).give (record { frame = r.frame; fits = r.fits; target = i.target; place = r.place }) j.target eq' fits' r.stack)
+          (left_step procedures (main_named procedures).give (proc_ s.callee) g u.store s.target t.target f (proc_ t.callee) h (Behind b ∷ items)))
