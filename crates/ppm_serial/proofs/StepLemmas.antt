@@ -1,6 +1,6 @@
 -- Each step of a run over slots does what is still to come.
 use Rattle.std.proofs.Common.{◌≡◌, ◌<◌, ◌≤◌, ◌+◌, ◌-◌, ℕ, zero, suc, ℤ, pos, Bool, true, false, List, [], ◌∷◌, Option, Some, None, Result, Ok, Err, refl, sym, ap, subst, arith, ◌∙◌, nat_lt, length, drop, get_or}
-use Rattle.std.specs.Prelude.{if◌then◌else◌, slice_get}
+use Rattle.std.specs.Prelude.{if◌then◌else◌, slice_get, codes}
 use Rattle.std.proofs.lemmas.Bool.{ltb-true, ltb-false}
 use Rattle.ppm_tree.specs.declared.named.Named.{Named}
 use Rattle.ppm_tree.specs.Tree.{Expression, Side, Block, Nil, Then, Give, Procedure}
@@ -414,3 +414,103 @@ module _ (procedures : List Procedure) (c : Laid) (laid : IsLaid procedures c) w
           (OnLeft (names_of (proc_ s.callee)) n (proc_ s.callee).give s.target t.target f b t.callee.name e.callee h (waiting u d.target d.callee) e.target w u.stack items
           j.callee (routine_of n s d i).give (record { frame = r.frame; fits = r.fits; target = i.target; place = r.place }) j.target eq' fits' r.stack)
           (left_step procedures (main_named procedures).give (proc_ s.callee) g u.store s.target t.target f (proc_ t.callee) h (Behind b ∷ items)))
+
+  -- a target's slot has the value
+  delivered_is : (m : Slotted) (x : Option Named) (j : Option ℕ) (v : ℤ) (f : Frame) (s : Slots) → IsTarget m x j → f ≡ frame_of m s → Fits m s
+      → (delivered x v f ≡ frame_of m (delivering j v s)) × Fits m (delivering j v s)
+  delivered_is m None None v f s i e h = (e, h)
+  delivered_is m None (Some k) v f s i e h = absurd i
+  delivered_is m (Some x) None v f s i e h = absurd i
+  delivered_is m (Some x) (Some k) v f s i e h = (ap (λ (f : Frame). with_local f x.name v) e ∙ wrote_local m s x.name k v i h, fits_local k v h)
+
+  delivered_regions : (x : Option Named) (v : ℤ) (f : Frame) (rs : Regions) → rs ≡ f.regions → of rs (delivered x v f).locals ≡ delivered x v f
+  delivered_regions None v f rs e = ap (λ (rs : Regions). of rs f.locals) e
+  delivered_regions (Some x) v f rs e = ap (λ (rs : Regions). of rs (with_local f x.name v).locals) e
+
+  regions_stay : (x : Option Named) (v : ℤ) (f : Frame) → f.regions ≡ (delivered x v f).regions
+  regions_stay None v f = refl
+  regions_stay (Some x) v f = refl
+
+  -- a procedure gives its value, and what comes behind it is done
+  moves_given : (n : Slotted) (g : Option Give) (o : Option Value) (f : Frame) (u : Run) (Q : End ℤ → ℕ → End ℤ → Type 0) (go : Run → ℤ → Result Run Stop)
+      → IsGive n g o → f ≡ frame_of n u.frame → ((t : TrapAt) → Shifts 0 (Q (Trapped t u.store)) (Trap t u.store))
+      → ((v : ℤ) (l : ℕ) → Moves procedures c l (Q (Ended v u.store)) (go (with_left u l) v))
+      → Moves procedures c u.left (Later (given_turns g) (Q (gave g f.regions f.locals u.store))) (then_with (spending_some o u) (λ t. then_with (worth_some o t) (λ v. go t v)))
+  moves_given n None None f u Q go i e traps rest =
+      let z : u.left ≡ u.left - 0 = omega arith in
+      moves_behind procedures c 0 u.left (Later 0 (Q (Ended (pos 0) u.store))) (Q (Ended (pos 0) u.store)) (later 0) (omega arith) (go u (pos 0))
+      (subst (λ (k : ℕ). Moves procedures c k (Q (Ended (pos 0) u.store)) (go u (pos 0))) z (rest (pos 0) u.left))
+  moves_given n None (Some v) f u Q go i e traps rest = absurd i
+  moves_given n (Some g) None f u Q go i e traps rest = absurd i
+  moves_given n (Some g) (Some v) f u Q go i e traps rest =
+      moves_spent procedures c 1 u (Later 1 (Q (gave (Some g) f.regions f.locals u.store))) (Q (gave (Some g) f.regions f.locals u.store))
+      (λ t. then_with (worth t.frame t.store v) (λ x. go t x)) (later 1)
+      (λ l. subst (λ (o : Result ℤ Stop). Moves procedures c (u.left - 1) (Q (gave (Some g) f.regions f.locals u.store)) (then_with o (λ x. go (with_left u (u.left - 1)) x)))
+      (sym (found n g.value v f u.frame u.store i e)) (opened (evaluate f u.store g.value)))
+    where
+      opened : (o : Result ℤ TrapAt) → Moves procedures c (u.left - 1) (Q (end_of o u.store (λ v. Ended v u.store))) (then_with (stopped o) (λ x. go (with_left u (u.left - 1)) x))
+      opened (Ok x) = rest x (u.left - 1)
+      opened (Err t) = stop_at {t = t} u.store (traps t)
+
+  -- the end of `main`
+  ends_later : (g : Option Give) (f : Frame) (a : Arrays) → g ≡ (main_named procedures).give
+      → Shifts 0 (After procedures (main_named procedures).give [] f.regions (Ended f.locals a)) (Later (given_turns g) (Way procedures (AtEnd (gave g f.regions f.locals a))))
+  ends_later g f a e = subst (λ (g : Option Give). Shifts 0 (After procedures (main_named procedures).give [] f.regions (Ended f.locals a))
+      (Later (given_turns g) (Way procedures (AtEnd (gave g f.regions f.locals a))))) (sym e) (record {
+    on = λ n z q. record { rest = n; sum = omega arith; next = record { rest = 0; sum = (let i = q.0 in omega (arith, i)); next = (refl, q.1) } };
+    back = λ n z w. let v = w.next in ((let i = w.sum in let j = v.sum in let k = v.next.0 in omega (arith, i, j, k)), v.next.1);
+  })
+
+  -- what comes behind a block is done
+  leaves : (n : Slotted) (f : Frame) (s : Run) (k : List Rest) (items : List Item) → s.ended ≡ false → f ≡ frame_of n s.frame → Fits n s.frame → Stacks procedures c n k items
+      → Moves procedures c s.left (After procedures (main_named procedures).give items f.regions (Ended f.locals s.store)) (leaving c k s)
+  leaves n f s k items running e fits (Empty) =
+      let give = subst (λ (m : ℕ). IsGive (names_of (main_named procedures)) (main_named procedures).give (routine_at c m).give) (sym laid.main) (laid.routine (codes "main")).give in
+      let z : s.left ≡ s.left - 0 = omega arith in
+      moves_behind procedures c 0 s.left (After procedures (main_named procedures).give [] f.regions (Ended f.locals s.store))
+      (Later (given_turns (main_named procedures).give) (Way procedures (AtEnd (gave (main_named procedures).give f.regions f.locals s.store))))
+      (ends_later (main_named procedures).give f s.store refl) (omega arith) (ending c s)
+      (subst (λ (k : ℕ). Moves procedures c k (Later (given_turns (main_named procedures).give) (Way procedures (AtEnd (gave (main_named procedures).give f.regions f.locals s.store)))) (ending c s)) z
+      (moves_given (names_of (main_named procedures)) (main_named procedures).give (routine_at c c.main).give f s (λ y. Way procedures (AtEnd y)) (λ t v. Ok (with_end t)) give e (λ t. same)
+      (λ v l. on_to (with_left s l) (with_end (with_left s l)) (AtEnd (Ended v s.store)) refl (Over v (with_end (with_left s l)) refl) same)))
+  leaves n f s k items running e fits (OnBlock _ b p k' items' place stack) =
+      on_to s (with_place (with_stack s k') p) (AtBlock b f s.store items') refl (InBlock n b f (with_place (with_stack s k') p) items' running e fits place stack) same
+  leaves n f s k items running e fits (OnTest _ t q p k' items' test stack) =
+      on_to s (with_place (with_stack s k') p) (AtLoop t q f s.store items') refl (InLoop n t q f (with_place (with_stack s k') p) items' running e fits test stack) same
+  leaves n f s k items running e fits (OnParts _ b rs old p k' items' is len place stack) =
+      on_to s (with_place (with_frame (with_stack s k') (with_regions s.frame old)) p) (AtBlock b (of rs f.locals) s.store items') refl
+      (InBlock n b (of rs f.locals) (with_place (with_frame (with_stack s k') (with_regions s.frame old)) p) items' running
+      (ap (λ (f : Frame). of rs f.locals) e ∙ ap (λ (rs : Regions). of rs (frame_of n s.frame).locals) is)
+      (record { locals = fits.locals; regions = len }) place stack) same
+  leaves n f s k items running e fits (OnSweep _ i x p r g from count b w k' items' sweep stack) =
+      did_sweep n i x p r g from count b w (with_stack s k') items' running sweep stack
+  leaves n f s k items running e fits (OnCall _ m g x h b q k' items' give waits stack) =
+      moves_given n g (routine_at c q.callee).give f (with_stack s k') (λ y. After procedures (main_named procedures).give (Behind b ∷ items') h.regions (returned x h y))
+      (λ t v. Ok (with_place (with_frame t (delivering q.target v q.frame)) q.place)) give e (λ t. same)
+      (λ v l. let d = delivered_is m x q.target v h q.frame waits.target waits.frame waits.fits in
+      on_to (with_left (with_stack s k') l) (with_place (with_frame (with_left (with_stack s k') l) (delivering q.target v q.frame)) q.place)
+      (AtBlock b (of h.regions (delivered x v h).locals) s.store items') refl
+      (InBlock m b (of h.regions (delivered x v h).locals) (with_place (with_frame (with_left (with_stack s k') l) (delivering q.target v q.frame)) q.place) items' running
+      (delivered_regions x v h h.regions refl ∙ d.0) d.1 waits.place stack) same)
+  leaves n f s k items running e fits (OnLeft _ m g x y h b callee l hh q j v k' items' at give waits target is fits' stack) =
+      moves_given n g (routine_at c q.callee).give f (with_stack s k')
+      (Crossed procedures (procedure_named procedures callee) hh (λ v w. After procedures (main_named procedures).give (Behind b ∷ items') h.regions (joined x y h (Ended v []) w)))
+      (λ t z. entering c l v (rest.Right (record { frame = q.frame; place = q.place; target = j; callee = l }) q.target z) t) give e (λ t. same)
+      (λ z left. let i = subst (λ (m : ℕ). IsRoutine procedures c.blocks (procedure_named procedures callee) (routine_at c m)) (sym at) (laid.routine callee) in
+      begins (procedure_named procedures callee) l hh v (rest.Right (record { frame = q.frame; place = q.place; target = j; callee = l }) q.target z)
+      (with_left (with_stack s k') left) (Joins (procedure_named procedures callee).give x y h z ∷ Behind b ∷ items')
+      (Two (Enters Plain procedures (procedure_named procedures callee) hh s.store) (λ w. After procedures (main_named procedures).give (Behind b ∷ items') h.regions (joined x y h (Ended z []) w)))
+      i running is fits'
+      (OnRight (names_of (procedure_named procedures callee)) m (procedure_named procedures callee).give x y h b (record { frame = q.frame; place = q.place; target = j; callee = l }) q.target z k' items'
+      i.give (record { frame = waits.frame; fits = waits.fits; target = target; place = waits.place }) waits.target stack)
+      (right_step procedures (main_named procedures).give (procedure_named procedures callee) hh s.store x y h z (Behind b ∷ items')))
+  leaves n f s k items running e fits (OnRight _ m g x y h b q j v k' items' give waits target stack) =
+      moves_given n g (routine_at c q.callee).give f (with_stack s k') (λ w. After procedures (main_named procedures).give (Behind b ∷ items') h.regions (joined x y h (Ended v []) w))
+      (λ t w. Ok (with_place (with_frame t (delivering q.target w (delivering j v q.frame))) q.place)) give e (λ t. same)
+      (λ w l. let d = delivered_is m x j v h q.frame target waits.frame waits.fits in
+      let d' = delivered_is m y q.target w (delivered x v h) (delivering j v q.frame) waits.target d.0 d.1 in
+      on_to (with_left (with_stack s k') l) (with_place (with_frame (with_left (with_stack s k') l) (delivering q.target w (delivering j v q.frame))) q.place)
+      (AtBlock b (of h.regions (delivered y w (delivered x v h)).locals) s.store items') refl
+      (InBlock m b (of h.regions (delivered y w (delivered x v h)).locals)
+      (with_place (with_frame (with_left (with_stack s k') l) (delivering q.target w (delivering j v q.frame))) q.place) items' running
+      (delivered_regions y w (delivered x v h) h.regions (regions_stay x v h) ∙ d'.0) d'.1 waits.place stack) same)
