@@ -3,7 +3,8 @@ use Rattle.std.proofs.Common.{◌≡◌, ◌<◌, ◌≤◌, ◌+◌, ◌-◌, �
 use Rattle.std.specs.Prelude.{if◌then◌else◌, slice_get, codes}
 use Rattle.std.proofs.lemmas.Bool.{ltb-true, ltb-false}
 use Rattle.ppm_tree.specs.declared.named.Named.{Named}
-use Rattle.ppm_tree.specs.Tree.{Expression, Side, Block, Nil, Then, Give, Procedure}
+use Rattle.ppm_tree.specs.Tree.{Expression, Side, Statement, Block, Nil, Then, Let, Assign, Put, If, While, Split, Give, Procedure}
+use Rattle.ppm_tree.specs.Tree as tree
 use Rattle.ppm_tree.specs.Values.{holds}
 use Rattle.ppm_tree.specs.State.{TrapAt, then_with, Region, Regions, Locals, Frame, Arrays, nowhere, with_local, with_region, with_word, with_name, index_in, split_at, first_part, second_part, part_at}
 use Rattle.ppm_tree.specs.State.{evaluate, put_values, procedure_named, entered, both_entered, delivered, empty_frame, with_arguments}
@@ -514,3 +515,101 @@ module _ (procedures : List Procedure) (c : Laid) (laid : IsLaid procedures c) w
       (InBlock m b (of h.regions (delivered y w (delivered x v h)).locals)
       (with_place (with_frame (with_left (with_stack s k') l) (delivering q.target w (delivering j v q.frame))) q.place) items' running
       (delivered_regions y w (delivered x v h) h.regions (regions_stay x v h) ∙ d'.0) d'.1 waits.place stack) same)
+
+  -- a statement is done, with its turn
+  statement_moves : (n : Slotted) (st : Statement) (b : Block) (step_ : Step) (f : Frame) (s : Run) (items : List Item) → Stands procedures c.blocks n st step_
+      → Ready n b f (with_place (with_left s (s.left - 1)) (behind s.place)) items
+      → Moves procedures c s.left (Block_ procedures (main_named procedures).give (Then st b) f s.store items) (stepping_at c (Some step_) s)
+  statement_moves n _ b _ f s items (StandsLet x e k v i w) r =
+      let u = with_place (with_left s (s.left - 1)) (behind s.place) in
+      moves_spent procedures c 1 s (Block_ procedures (main_named procedures).give (Then (Let x e) b) f s.store items)
+      (After procedures (main_named procedures).give (Behind b ∷ items) f.regions (assigned x e f s.store))
+      (λ t. doing c (step.Set k v) (with_place t (behind t.place))) (let_step procedures (main_named procedures).give x e b f s.store items) (λ left. did_set n x e b k v f u items i w r)
+  statement_moves n _ b _ f s items (StandsAssign x e k v i w) r =
+      let u = with_place (with_left s (s.left - 1)) (behind s.place) in
+      moves_spent procedures c 1 s (Block_ procedures (main_named procedures).give (Then (Assign x e) b) f s.store items)
+      (After procedures (main_named procedures).give (Behind b ∷ items) f.regions (assigned x e f s.store))
+      (λ t. doing c (step.Set k v) (with_place t (behind t.place))) (assign_step procedures (main_named procedures).give x e b f s.store items) (λ left. did_set n x e b k v f u items i w r)
+  statement_moves n _ b _ f s items (StandsPut x d e k j v i w w') r =
+      let u = with_place (with_left s (s.left - 1)) (behind s.place) in
+      moves_spent procedures c 1 s (Block_ procedures (main_named procedures).give (Then (Put x d e) b) f s.store items)
+      (After procedures (main_named procedures).give (Behind b ∷ items) f.regions (stored x d e f s.store))
+      (λ t. doing c (step.Put k x.line j v) (with_place t (behind t.place))) (put_step procedures (main_named procedures).give x d e b f s.store items) (λ left. did_put n x d e b k j v f u items i w w' r)
+  statement_moves n _ b _ f s items (StandsIf e p q v i j w l m) r =
+      let u = with_place (with_left s (s.left - 1)) (behind s.place) in
+      moves_spent procedures c 1 s (Block_ procedures (main_named procedures).give (Then (If e p q) b) f s.store items)
+      (Opens (evaluate f s.store e) s.store (λ v. Block_ procedures (main_named procedures).give (chosen (holds v) p q) f s.store (Behind b ∷ items)))
+      (λ t. doing c (step.Choose v i j) (with_place t (behind t.place))) (if_step procedures (main_named procedures).give e p q b f s.store items) (λ left. did_choose n e p q b v i j f u items w l m r)
+  statement_moves n _ b _ f s items (StandsWhile e p v i j is w l) r =
+      let u = with_place (with_left s (s.left - 1)) (behind s.place) in
+      moves_spent procedures c 1 s (Block_ procedures (main_named procedures).give (Then (While e p) b) f s.store items)
+      (Loop_ procedures (main_named procedures).give e p f s.store (Behind b ∷ items))
+      (λ t. doing c (step.Loop i) (with_place t (behind t.place))) (while_step procedures (main_named procedures).give e p b f s.store items) (λ left. did_loop n e p b v i j f u items is w l r)
+  statement_moves n _ b _ f s items (StandsCall t d i) r =
+      let u = with_place (with_left s (s.left - 1)) (behind s.place) in
+      moves_spent procedures c 1 s (Block_ procedures (main_named procedures).give (Then (tree.Call t) b) f s.store items)
+      (Opens (entered procedures f s.store t) s.store (λ g. Two (Enters Plain procedures (proc_ t.callee) g s.store) (λ y. After procedures (main_named procedures).give (Behind b ∷ items) f.regions (returned t.target f y))))
+      (λ t. doing c (step.Call d) (with_place t (behind t.place))) (call_step procedures (main_named procedures).give t b f s.store items) (λ left. did_call n t d b f u items i r)
+  statement_moves n _ b _ f s items (StandsFork t o d e i j) r =
+      let u = with_place (with_left s (s.left - 1)) (behind s.place) in
+      moves_spent procedures c 1 s (Block_ procedures (main_named procedures).give (Then (tree.Fork t o) b) f s.store items)
+      (Opens (both_entered procedures f s.store t o) s.store (Branches procedures (main_named procedures).give t o b f s.store items))
+      (λ t. doing c (step.Fork d e) (with_place t (behind t.place))) (fork_step procedures (main_named procedures).give t o b f s.store items) (λ left. did_fork n t o d e b f u items i j r)
+  statement_moves n _ b _ f s items (StandsSplit line t e x y p k v q i w first second l) r =
+      let u = with_place (with_left s (s.left - 1)) (behind s.place) in
+      moves_spent procedures c 1 s (Block_ procedures (main_named procedures).give (Then (Split line t e x y p) b) f s.store items)
+      (Opens (then_with (evaluate f s.store e) (split_at line (f.regions t.name))) s.store (λ m. Block_ procedures (main_named procedures).give p (with_parts f (f.regions t.name) m x y) s.store (Leaves f.regions ∷ Behind b ∷ items)))
+      (λ t. doing c (step.Split line k v q) (with_place t (behind t.place))) (split_step procedures (main_named procedures).give line t e x y p b f s.store items) (λ left. did_split n line t e x y p b k v q f u items i w first second l r)
+  statement_moves n _ b _ f s items (StandsEach i x t p j k m d index part region block) r =
+      let u = with_place (with_left s (s.left - 1)) (behind s.place) in
+      moves_spent procedures c 1 s (Block_ procedures (main_named procedures).give (Then (tree.Each i x t p) b) f s.store items)
+      (Later 8 (Sweep_ procedures (main_named procedures).give i x p (f.regions t.name) f 0 (f.regions t.name).length s.store (Behind b ∷ items)))
+      (λ t. doing c (step.Each j k m d) (with_place t (behind t.place))) (in_parts 1 8 (each_step procedures (main_named procedures).give i x t p b f s.store items)) (λ left. did_each n i x t p b j k m d f u items index part region block r)
+
+  -- a run before a block
+  block_moves : (n : Slotted) (b : Block) (f : Frame) (s : Run) (items : List Item) → s.ended ≡ false → f ≡ frame_of n s.frame → Fits n s.frame
+      → Stacks procedures c n s.stack items → (steps : List Step) → drop s.place.at (block_at c s.place.block) ≡ steps → Lies procedures c.blocks n b steps
+      → Moves procedures c s.left (Block_ procedures (main_named procedures).give b f s.store items) (stepping c s)
+  block_moves n _ f s items running e fits stack _ is (LiesNil) =
+      let z : s.left ≡ s.left - 0 = omega arith in
+      subst (λ (o : Option Step). Moves procedures c s.left (Block_ procedures (main_named procedures).give Nil f s.store items) (stepping_at c o s))
+      (sym (none_at (block_at c s.place.block) s.place.at is))
+      (moves_behind procedures c 0 s.left (Block_ procedures (main_named procedures).give Nil f s.store items) (After procedures (main_named procedures).give items f.regions (Ended f.locals s.store))
+      (nil_step procedures (main_named procedures).give f s.store items) (omega arith) (leaving c s.stack s)
+      (subst (λ (k : ℕ). Moves procedures c k (After procedures (main_named procedures).give items f.regions (Ended f.locals s.store)) (leaving c s.stack s)) z
+      (leaves n f s s.stack items running e fits stack)))
+  block_moves n _ f s items running e fits stack _ is (LiesThen st b step_ steps stands rest_) =
+      subst (λ (o : Option Step). Moves procedures c s.left (Block_ procedures (main_named procedures).give (Then st b) f s.store items) (stepping_at c o s))
+      (sym (some_at (block_at c s.place.block) s.place.at is))
+      (statement_moves n st b step_ f s items stands
+      (record {
+        running = running;
+        frame = e;
+        fits = fits;
+        place = subst (λ (t : List Step). Lies procedures c.blocks n b t) (sym (next_at (block_at c s.place.block) s.place.at is)) rest_;
+        stack = stack;
+      }))
+
+  -- a run before the test of a loop
+  loop_moves : (n : Slotted) (e : Expression) (p : Block) (f : Frame) (s : Run) (items : List Item) → s.ended ≡ false → f ≡ frame_of n s.frame → Fits n s.frame
+      → IsTest procedures c n e p s.place → Stacks procedures c n s.stack items
+      → Moves procedures c s.left (Loop_ procedures (main_named procedures).give e p f s.store items) (stepping c s)
+  loop_moves n e p f s items running eq fits test stack =
+      let is : drop s.place.at (block_at c s.place.block) ≡ step.Test test.value test.block ∷ [] =
+          ap (λ (k : ℕ). drop k (block_at c s.place.block)) test.first ∙ test.steps in
+      let u = with_place (with_left s (s.left - 1)) (behind s.place) in
+      subst (λ (o : Option Step). Moves procedures c s.left (Loop_ procedures (main_named procedures).give e p f s.store items) (stepping_at c o s))
+      (sym (some_at (block_at c s.place.block) s.place.at is))
+      (moves_spent procedures c 1 s (Loop_ procedures (main_named procedures).give e p f s.store items)
+      (Opens (evaluate f s.store e) s.store (λ v. Tested procedures (main_named procedures).give (holds v) e p f s.store items))
+      (λ t. doing c (step.Test test.value test.block) (with_place t (behind t.place)))
+      (loop_step procedures (main_named procedures).give e p f s.store items)
+      (λ l. did_test n e p test.value test.block f u items running eq fits
+      (record { value = test.value; block = test.block; steps = test.steps; first = refl; worth = test.worth; lies = test.lies })
+      (subst (λ (t : List Step). Lies procedures c.blocks n Nil t) (sym (next_at (block_at c s.place.block) s.place.at is)) LiesNil) test.worth test.lies stack))
+
+  -- each step of a run does what is still to come
+  pub moves : (s : Run) (p : Point) → s.ended ≡ false → Shows procedures c s p → Moves procedures c s.left (Way procedures p) (stepping c s)
+  moves s _ running (InBlock n b f _ items on e fits place stack) = block_moves n b f s items on e fits stack (drop s.place.at (block_at c s.place.block)) refl place
+  moves s _ running (InLoop n e p f _ items on eq fits test stack) = loop_moves n e p f s items on eq fits test stack
+  moves s _ running (Over v _ ended) = cc
