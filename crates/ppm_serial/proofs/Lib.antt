@@ -4,3 +4,7 @@ pub mod TreeLemmas
 pub mod SimulationLemmas
 pub mod StepLemmas
 pub mod NameLemmas
+pub mod RunningLemmas
+pub mod WeightLemmas
+pub mod KeepLemmas
+pub mod LayLemmas

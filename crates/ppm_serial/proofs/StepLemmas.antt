@@ -310,7 +310,7 @@ module _ (procedures : List Procedure) (c : Laid) (laid : IsLaid procedures c) w
       }) h.stack)
 
   -- a turn of an entry
-  moves_entry : (s : Run) (A B : ℕ → End ℤ → Type 0) → Shifts 1 A B → (1 ≤ s.left → Moves procedures c (s.left - 1) B (Ok (with_left s (s.left - 1)))) → Moves procedures c s.left A (spending 1 s)
+  pub moves_entry : (s : Run) (A B : ℕ → End ℤ → Type 0) → Shifts 1 A B → (1 ≤ s.left → Moves procedures c (s.left - 1) B (Ok (with_left s (s.left - 1)))) → Moves procedures c s.left A (spending 1 s)
   moves_entry s A B p rest = go (nat_lt s.left 1) refl
     where
       go : (t : Bool) → nat_lt s.left 1 ≡ t → Moves procedures c s.left A (if t then Err stop.NotWithin else Ok (with_left s (s.left - 1)))
@@ -454,7 +454,7 @@ module _ (procedures : List Procedure) (c : Laid) (laid : IsLaid procedures c) w
       opened (Err t) = stop_at {t = t} u.store (traps t)
 
   -- the end of `main`
-  ends_later : (g : Option Give) (f : Frame) (a : Arrays) → g ≡ (main_named procedures).give
+  pub ends_later : (g : Option Give) (f : Frame) (a : Arrays) → g ≡ (main_named procedures).give
       → Shifts 0 (After procedures (main_named procedures).give [] f.regions (Ended f.locals a)) (Later (given_turns g) (Way procedures (AtEnd (gave g f.regions f.locals a))))
   ends_later g f a e = subst (λ (g : Option Give). Shifts 0 (After procedures (main_named procedures).give [] f.regions (Ended f.locals a))
       (Later (given_turns g) (Way procedures (AtEnd (gave g f.regions f.locals a))))) (sym e) (record {

@@ -352,7 +352,7 @@ module _ (procedures : List Procedure) (main : Option Give) where
   }
 
   -- a procedure is entered, and gives at the end of its body
-  enter_on : {p : Procedure} {g : Frame} {a : Arrays} {k : Counts} {y : End ℤ} (Q : End ℤ → ℕ → End ℤ → Type 0)
+  pub enter_on : {p : Procedure} {g : Frame} {a : Arrays} {k : Counts} {y : End ℤ} (Q : End ℤ → ℕ → End ℤ → Type 0)
       → ((stop : TrapAt) (c : Arrays) (n : ℕ) (z : End ℤ) → Q (Trapped stop c) n z → Trap stop c n z) → (m : ℕ) {n : ℕ} (z : End ℤ)
       → Enters Plain procedures p g a k y → Q y m z → n ≡ k.turns + m
       → Later 1 (Two (Runs Plain procedures p.body g a) (Gave p.give g.regions Q)) n z
@@ -376,7 +376,7 @@ module _ (procedures : List Procedure) (main : Option Give) where
     next = record { counts = j; middle = Trapped stop c; rest = m; first = r; second = traps stop c m z q; sum = refl };
   }
 
-  enter_back : (p : Procedure) (g : Frame) (a : Arrays) (Q : End ℤ → ℕ → End ℤ → Type 0)
+  pub enter_back : (p : Procedure) (g : Frame) (a : Arrays) (Q : End ℤ → ℕ → End ℤ → Type 0)
       → ((stop : TrapAt) (c : Arrays) (n : ℕ) (z : End ℤ) → Trap stop c n z → Q (Trapped stop c) n z) → (n m v : ℕ) (z : End ℤ) → {j : Counts} (y : End Locals)
       → Runs Plain procedures p.body g a j y → Gave p.give g.regions Q y m z → v ≡ j.turns + m → n ≡ 1 + v → Two (Enters Plain procedures p g a) Q n z
   enter_back p g a Q traps n m v z {j = j} (Ended l c) r q s t =

@@ -1,14 +1,19 @@
 -- A program's tree and its code: which steps stand for which statements.
-use Rattle.std.specs.Prelude.{◌≡◌, ◌<◌, ℕ, suc, ℤ, List, [], ◌∷◌, ◌++◌, length, get_or, codes, ⊤, Option, Some, None, Result, Ok, Err, if◌then◌else◌}
+use Rattle.std.specs.Prelude.{◌≡◌, ◌<◌, ℕ, suc, ℤ, List, [], ◌∷◌, ◌++◌, length, get_or, map, codes, ⊤, Bool, true, false, Option, Some, None, Result, Ok, Err, if◌then◌else◌}
 use Rattle.std.specs.Str.{bytes_eq}
 use Rattle.ppm_tree.specs.declared.named.Named.{Named}
 use Rattle.ppm_tree.specs.declared.tree.Parameter.{Parameter}
 use Rattle.ppm_tree.specs.Tree.{Expression, Argument, Side, Statement, Block, Nil, Then, Let, Assign, Put, If, While, Split, Give, Procedure}
+use Rattle.ppm_tree.specs.Tree.{expression_of}
 use Rattle.ppm_tree.specs.Tree as tree
-use Rattle.ppm_tree.specs.State.{Arrays, Frame, evaluate, with_arguments, procedure_named}
+use Rattle.ppm_tree.specs.declared.tree.Argument as declared
+use Rattle.ppm_tree.specs.declared.mode.Mode.{Mode}
+use Rattle.ppm_tree.specs.declared.mode.Mode.TheVariants as mode
+use Rattle.ppm_tree.specs.State.{Arrays, Frame, lent, nowhere, evaluate, with_arguments, procedure_named}
 use Rattle.ppm_serial.specs.declared.code.Stop.{Stop}
 use Rattle.ppm_serial.specs.declared.code.Value.{Value}
 use Rattle.ppm_serial.specs.declared.code.Passed.{Passed}
+use Rattle.ppm_serial.specs.declared.code.Passed.TheVariants as passed
 use Rattle.ppm_serial.specs.declared.code.Call.{Call}
 use Rattle.ppm_serial.specs.declared.code.Parts.{Parts}
 use Rattle.ppm_serial.specs.declared.code.Step.{Step}
@@ -117,3 +122,115 @@ pub record IsRoutine (procedures : List Procedure) (blocks : List (List Step)) (
 pub record IsLaid (procedures : List Procedure) (c : Laid) : Type 0 where
   pub main : c.main ≡ place_in procedures (codes "main")
   pub routine : (x : List ℕ) → IsRoutine procedures c.blocks (procedure_named procedures x) (routine_at c (place_in procedures x))
+
+-- a local, or a region, of a name has a slot
+abbrev pub HasLocal : Slotted → List ℕ → Type 0
+HasLocal n x = slot_in n.locals x < length n.locals
+
+abbrev pub HasRegion : Slotted → List ℕ → Type 0
+HasRegion n x = slot_in n.regions x < length n.regions
+
+abbrev pub HasTarget : Slotted → Option Named → Type 0
+HasTarget n None = ⊤
+HasTarget n (Some x) = HasLocal n x.name
+
+abbrev mutual
+  -- all names that a statement writes have slots
+  pub HasWritten : Slotted → Statement → Type 0
+  HasWritten n (Let x e) = HasLocal n x.name
+  HasWritten n (Assign x e) = HasLocal n x.name
+  HasWritten n (Put x i e) = ⊤
+  HasWritten n (If e p c) = HasNames n p × HasNames n c
+  HasWritten n (While e p) = HasNames n p
+  HasWritten n (tree.Call s) = HasTarget n s.target
+  HasWritten n (tree.Fork s t) = HasTarget n s.target × HasTarget n t.target
+  HasWritten n (Split line r e x y p) = HasRegion n x.name × HasRegion n y.name × HasNames n p
+  HasWritten n (tree.Each i x r p) = HasLocal n i.name × HasRegion n x.name × HasNames n p
+
+  -- all names that the statements of a block write do
+  pub HasNames : Slotted → Block → Type 0
+  HasNames n Nil = ⊤
+  HasNames n (Then s b) = HasWritten n s × HasNames n b
+
+-- blocks with others behind them
+abbrev pub Grows : List (List Step) → List (List Step) → Type 0
+Grows old new = (added : List (List Step)) × (new ≡ old ++ added)
+
+-- the region that an argument lends, by its slot
+abbrev pub IsLent : Slotted → Expression → Option ℕ → Type 0
+IsLent n e (Some j) = (s : Slots) → lent (frame_of n s) e ≡ get_or s.regions j nowhere
+IsLent n e None = (f : Frame) → lent f e ≡ nowhere
+
+-- whether a parameter is a number
+abbrev pub is_number : Mode → Bool
+is_number mode.Int = true
+is_number mode.Mut = false
+is_number mode.Ref = false
+
+-- a region is lent to a parameter
+abbrev pub Lends : Slotted → Slotted → List ℕ → Expression → Passed → Type 0
+Lends n m x e (passed.Number k v) = ⊥
+Lends n m x e (passed.Region k j) = (k ≡ slot_in m.regions x) × IsLent n e (Some j)
+Lends n m x e (passed.Nowhere k) = (k ≡ slot_in m.regions x) × IsLent n e None
+
+-- a local gets a value
+abbrev pub Sets : Slotted → List ℕ → Expression → Step → Type 0
+Sets n x e st = (k : ℕ) × (v : Value) × (st ≡ step.Set k v) × (k ≡ slot_in n.locals x) × IsWorth n e v
+
+-- the arguments that declared types hold
+abbrev pub arguments_of : List declared.Argument → List Argument
+arguments_of es = map (λ a. record { line = a.line; value = expression_of a.value }) es
+
+-- what an argument passes to a parameter
+abbrev pub PassesOne : Slotted → Slotted → Parameter → Expression → Passed → Type 0
+PassesOne n m p e (passed.Number k v) = (is_number p.mode ≡ true) × (k ≡ slot_in m.locals p.name.name) × IsWorth n e v
+PassesOne n m p e (passed.Region k j) = (is_number p.mode ≡ false) × Lends n m p.name.name e (passed.Region k j)
+PassesOne n m p e (passed.Nowhere k) = (is_number p.mode ≡ false) × Lends n m p.name.name e (passed.Nowhere k)
+
+-- what arguments pass to parameters, as far as there are both
+pub data PassesAll (n m : Slotted) : List Parameter → List Argument → List Passed → Type 0 where
+  NoParameter : (es : List Argument) → PassesAll n m [] es []
+  NoArgument : (p : Parameter) (ps : List Parameter) → PassesAll n m (p ∷ ps) [] []
+  OneMore : (p : Parameter) (ps : List Parameter) (e : Argument) (es : List Argument) (v : Passed) (vs : List Passed) → PassesOne n m p e.value v
+      → PassesAll n m ps es vs → PassesAll n m (p ∷ ps) (e ∷ es) (v ∷ vs)
+
+-- what is passed, behind what was there
+abbrev pub PassesMore : Slotted → Slotted → List Parameter → List Argument → List Passed → List Passed → Type 0
+PassesMore n m ps es old new = (vs : List Passed) × (new ≡ old ++ vs) × PassesAll n m ps es vs
+
+module _ (procedures : List Procedure) where
+  -- a statement is laid out, with its blocks behind those that were there
+  pub record LaysStep (n : Slotted) (s : Statement) (old new : List (List Step)) (st : Step) : Type 0 where
+    pub grows : Grows old new
+    pub stands : (longer : List (List Step)) → Grows new longer → HasWritten n s → Stands procedures longer n s st
+
+  -- a block is laid out, behind those that were there
+  pub record LaysBlock (n : Slotted) (b : Block) (old new : List (List Step)) (place : ℕ) : Type 0 where
+    pub grows : Grows old new
+    pub lies : (longer : List (List Step)) → Grows new longer → HasNames n b → Lies procedures longer n b (get_or longer place [])
+
+  -- so far the statements of a block are laid out, with these left
+  pub record LaysSome (n : Slotted) (b left : Block) (old new : List (List Step)) (steps : List Step) : Type 0 where
+    pub grows : Grows old new
+    pub names : HasNames n b → HasNames n left
+    pub lies : (longer : List (List Step)) → Grows new longer → HasNames n b → (rest : List Step) → Lies procedures longer n left rest
+        → Lies procedures longer n b (steps ++ rest)
+
+  -- a procedure is laid out
+  pub record LaysRoutine (p : Procedure) (old new : List (List Step)) (r : Routine) : Type 0 where
+    pub grows : Grows old new
+    pub routine : (longer : List (List Step)) → Grows new longer → IsRoutine procedures longer p r
+
+  -- procedures are, one after the other
+  abbrev pub ArePlaced : List (List Step) → List Procedure → List Routine → Type 0
+  ArePlaced blocks [] [] = ⊤
+  ArePlaced blocks [] (r ∷ rs) = ⊥
+  ArePlaced blocks (p ∷ ps) [] = ⊥
+  ArePlaced blocks (p ∷ ps) (r ∷ rs) = IsRoutine procedures blocks p r × ArePlaced blocks ps rs
+
+  -- so they are, behind those that were there
+  pub record LaysMore (ps : List Procedure) (old new : List (List Step)) (before after : List Routine) : Type 0 where
+    pub grows : Grows old new
+    pub added : List Routine
+    pub all : after ≡ before ++ added
+    pub placed : (longer : List (List Step)) → Grows new longer → ArePlaced longer ps added

@@ -7,3 +7,4 @@ pub mod ToCome
 pub mod Names
 pub mod Laying
 pub mod Simulation
+pub mod Running

@@ -1,20 +1,21 @@
 //! A program is laid out: names become slots, and blocks are put one behind the other.
-ghost use Rattle.std.specs.Prelude.{◌≡◌, map, IfOk};
-ghost use Rattle.ppm_tree.specs.Tree.{expression_of, procedure_of, tree_of};
-ghost use Rattle.ppm_serial.specs.Laying.{IsLaid, IsWorth, place_in};
+ghost use Rattle.std.specs.Prelude.{◌≡◌, ◌++◌, ◌∷◌, [], length, map, IfOk, OnOk};
+ghost use Rattle.ppm_serial.specs.declared.code.Step.TheVariants as step;
+ghost use Rattle.ppm_tree.specs.Tree.{block_of, expression_of, give_of, procedure_of, side_of, statement_of, tree_of};
+ghost use Rattle.ppm_serial.specs.Laying.{HasTarget, IsCall, IsGive, IsLaid, IsLent, IsTarget, IsWorth, LaysBlock};
+ghost use Rattle.ppm_serial.specs.Laying.{LaysMore, LaysRoutine, Lends, LaysStep, PassesMore, PassesOne, Sets, arguments_of, place_in};
 ghost use Rattle.ppm_serial.specs.Names.{names_of};
 
 use crate::code::{Blocks, Call, Code, Parts, Passed, Routine, Step, Value};
 use crate::names::Names;
 use ppm_tree::{Argument, Expr, Give, Mode, Named, Parameter, Proc, Side, Stmt, Tree};
-use ppm_words::{Name, NoMemory};
+use ppm_words::NoMemory;
 use std::alloc::Global;
 
-/// The procedures of a program with their names, and the names of the one that is laid out.
+/// The procedures of a program, and the names of the one that is laid out.
 #[derive(Clone, Copy)]
 struct Scope<'a> {
     procedures: &'a [Proc],
-    tables: &'a [Names],
     names: &'a Names,
 }
 
@@ -23,27 +24,14 @@ pub(crate) fn lay(alloc: Global, tree: &Tree) -> Result<Code, NoMemory>
     ensures { IfOk result (λ c. IsLaid (tree_of tree.now).procedures c) }
 {
     let procedures = tree.procedures.as_slice();
-    let tables = tables(alloc, procedures)?;
     let mut blocks = Blocks::new(alloc)?;
-    let routines = routines(alloc, procedures, &tables, &mut blocks)?;
-    let main = place_of(procedures, b"main");
-    Ok(Code::new(routines, blocks, main))
-}
-
-/// The names of each procedure.
-fn tables(alloc: Global, procedures: &[Proc]) -> Result<Vec<Names>, NoMemory>
-    ensures { IfOk result (λ t. t.items ≡ map (λ p. names_of (procedure_of p)) procedures.now) }
-{
-    let mut tables = Vec::new(alloc);
-    for procedure in procedures {
-        let names = Names::of(alloc, procedure)?;
-        tables.push(names)?;
-    }
-    Ok(tables)
+    let mut routines = Vec::new(alloc);
+    lay_all(alloc, procedures, procedures, &mut routines, &mut blocks)?;
+    Ok(Code::new(routines, blocks, place_of(procedures, b"main")))
 }
 
 /// The place of the first procedure with a name, or how many there are.
-fn place_of(procedures: &[Proc], name: &[u8]) -> usize
+pub(crate) fn place_of(procedures: &[Proc], name: &[u8]) -> usize
     ensures { result ≡ place_in (map procedure_of procedures.now) name.now }
 {
     let mut at = 0;
@@ -56,21 +44,37 @@ fn place_of(procedures: &[Proc], name: &[u8]) -> usize
     at
 }
 
-/// All procedures laid out.
-fn routines(alloc: Global, procedures: &[Proc], tables: &[Names], blocks: &mut Blocks) -> Result<Vec<Routine>, NoMemory> {
-    let mut routines = Vec::new(alloc);
-    let mut at = 0;
-    while at < procedures.len() && at < tables.len() {
-        let scope = Scope {
-            procedures,
-            tables,
-            names: &tables[at],
-        };
-        let routine = scope.routine(alloc, &procedures[at], blocks)?;
-        routines.push(routine)?;
-        at += 1;
+/// Procedures laid out behind those that are there.
+fn lay_all(alloc: Global, procedures: &[Proc], left: &[Proc], routines: &mut Vec<Routine>, blocks: &mut Blocks) -> Result<(), NoMemory>
+    ensures { OnOk result (LaysMore (map procedure_of procedures.now) (map procedure_of left.now) blocks.old blocks.new routines.old.items routines.new.items) }
+{
+    match left {
+        [] => Ok(()),
+        [first, rest @ ..] => {
+            let routine = lay_one(alloc, procedures, first, blocks)?;
+            routines.push(routine)?;
+            lay_all(alloc, procedures, rest, routines, blocks)
+        }
     }
-    Ok(routines)
+}
+
+/// A procedure laid out.
+fn lay_one(alloc: Global, procedures: &[Proc], procedure: &Proc, blocks: &mut Blocks) -> Result<Routine, NoMemory>
+    ensures { IfOk result (λ r. LaysRoutine (map procedure_of procedures.now) (procedure_of procedure.now) blocks.old blocks.new r) }
+{
+    let names = Names::of(alloc, procedure)?;
+    let scope = Scope {
+        procedures,
+        names: &names,
+    };
+    let body = scope.block(alloc, &procedure.body, blocks)?;
+    let give = give(alloc, &names, &procedure.give)?;
+    Ok(Routine {
+        locals: names.locals().len(),
+        regions: names.regions().len(),
+        body,
+        give,
+    })
 }
 
 /// An expression laid out.
@@ -100,45 +104,76 @@ fn value(alloc: Global, names: &Names, e: &Expr) -> Result<Value, NoMemory>
     }
 }
 
-/// What an argument passes to a parameter.
-fn passed(alloc: Global, names: &Names, callee: &Names, parameter: &Parameter, e: &Expr) -> Result<Passed, NoMemory> {
-    match parameter.mode {
-        Mode::Int => {
-            let value = value(alloc, names, e)?;
-            Ok(Passed::Number(callee.locals().slot(&parameter.name.name), value))
+/// What a body gives, if anything.
+fn give(alloc: Global, names: &Names, give: &Option<Give>) -> Result<Option<Value>, NoMemory>
+    ensures { IfOk result (λ v. IsGive names.now (give_of give.now) v) }
+{
+    match give {
+        None => Ok(None),
+        Some(give) => {
+            let value = value(alloc, names, &give.value)?;
+            Ok(Some(value))
         }
-        Mode::Mut => Ok(lent(names, callee, &parameter.name, e)),
-        Mode::Ref => Ok(lent(names, callee, &parameter.name, e)),
     }
 }
 
-/// The region that an argument lends to a parameter; an admitted program lends by a name alone.
-fn lent(names: &Names, callee: &Names, parameter: &Named, e: &Expr) -> Passed {
-    let slot = callee.regions().slot(&parameter.name);
+/// The slot of the region that an argument lends; an admitted program lends by a name alone.
+fn lent(names: &Names, e: &Expr) -> Option<usize>
+    ensures { IsLent names.now (expression_of e.now) result }
+{
     match e {
-        Expr::Name(name) => Passed::Region(slot, names.regions().slot(&name.name)),
-        Expr::Number(_) => Passed::Nowhere(slot),
-        Expr::Element(_, _) => Passed::Nowhere(slot),
-        Expr::Len(_) => Passed::Nowhere(slot),
-        Expr::Minus(_, _) => Passed::Nowhere(slot),
-        Expr::Binary(_, _, _, _) => Passed::Nowhere(slot),
+        Expr::Name(name) => Some(names.regions().slot(&name.name)),
+        Expr::Number(_) => None,
+        Expr::Element(_, _) => None,
+        Expr::Len(_) => None,
+        Expr::Minus(_, _) => None,
+        Expr::Binary(_, _, _, _) => None,
     }
+}
+
+/// A region that an argument lends to a parameter.
+fn lend(names: &Names, callee: &Names, parameter: &Named, e: &Expr) -> Passed
+    ensures { Lends names.now callee.now parameter.now.name (expression_of e.now) result }
+{
+    let slot = callee.regions().slot(&parameter.name);
+    match lent(names, e) {
+        Some(region) => Passed::Region(slot, region),
+        None => Passed::Nowhere(slot),
+    }
+}
+
+/// What an argument passes to a parameter.
+fn passed(alloc: Global, names: &Names, callee: &Names, parameter: &Parameter, e: &Expr) -> Result<Passed, NoMemory>
+    ensures { IfOk result (λ v. PassesOne names.now callee.now parameter.now (expression_of e.now) v) }
+{
+    if parameter.mode == Mode::Int {
+        let value = value(alloc, names, e)?;
+        return Ok(Passed::Number(callee.locals().slot(&parameter.name.name), value));
+    }
+    Ok(lend(names, callee, &parameter.name, e))
 }
 
 /// Adds what arguments pass to parameters, as far as there are both.
-fn pass(alloc: Global, names: &Names, callee: &Names, parameters: &[Parameter], arguments: &[Argument], all: &mut Vec<Passed>) -> Result<(), NoMemory> {
-    match (parameters, arguments) {
-        ([parameter, parameters @ ..], [argument, arguments @ ..]) => {
-            let one = passed(alloc, names, callee, parameter, &argument.value)?;
-            all.push(one)?;
-            pass(alloc, names, callee, parameters, arguments, all)
-        }
-        _ => Ok(()),
+fn pass(alloc: Global, names: &Names, callee: &Names, parameters: &[Parameter], arguments: &[Argument], all: &mut Vec<Passed>) -> Result<(), NoMemory>
+    ensures { OnOk result (PassesMore names.now callee.now parameters.now (arguments_of arguments.now) all.old.items all.new.items) }
+{
+    match parameters {
+        [] => Ok(()),
+        [parameter, parameters @ ..] => match arguments {
+            [] => Ok(()),
+            [argument, arguments @ ..] => {
+                let one = passed(alloc, names, callee, parameter, &argument.value)?;
+                all.push(one)?;
+                pass(alloc, names, callee, parameters, arguments, all)
+            }
+        },
     }
 }
 
 /// The slot of a target, if there is one.
-fn target(names: &Names, name: &Option<Named>) -> Option<usize> {
+fn target(names: &Names, name: &Option<Named>) -> Option<usize>
+    ensures { HasTarget names.now name.now → IsTarget names.now name.now result }
+{
     match name {
         None => None,
         Some(name) => Some(names.locals().slot(&name.name)),
@@ -147,12 +182,15 @@ fn target(names: &Names, name: &Option<Named>) -> Option<usize> {
 
 impl<'a> Scope<'a> {
     /// A call or a side of a fork laid out.
-    fn call(&self, alloc: Global, side: &Side) -> Result<Call, NoMemory> {
+    fn call(&self, alloc: Global, side: &Side) -> Result<Call, NoMemory>
+        ensures { IfOk result (λ c. HasTarget self.now.names.now (side_of side.now).target → IsCall (map procedure_of self.now.procedures.now) self.now.names.now (side_of side.now) c) }
+    {
         let callee = place_of(self.procedures, side.callee.name.as_bytes());
         let mut passed = Vec::new(alloc);
-        if callee < self.procedures.len() && callee < self.tables.len() {
+        if callee < self.procedures.len() {
             let parameters = self.procedures[callee].parameters.as_slice();
-            pass(alloc, self.names, &self.tables[callee], parameters, side.arguments.as_slice(), &mut passed)?;
+            let names = Names::of_parameters(alloc, parameters)?;
+            pass(alloc, self.names, &names, parameters, side.arguments.as_slice(), &mut passed)?;
         }
         Ok(Call {
             target: target(self.names, &side.target),
@@ -163,7 +201,9 @@ impl<'a> Scope<'a> {
 
     /// A block laid out behind those that are there, and its place.
     #[cycle(lay)]
-    fn block(&self, alloc: Global, block: &[Stmt], blocks: &mut Blocks) -> Result<usize, NoMemory> {
+    fn block(&self, alloc: Global, block: &[Stmt], blocks: &mut Blocks) -> Result<usize, NoMemory>
+        ensures { IfOk result (λ place. LaysBlock (map procedure_of self.now.procedures.now) self.now.names.now (block_of block.now) blocks.old blocks.new place) }
+    {
         let mut steps = Vec::new(alloc);
         for statement in block {
             let step = self.statement(alloc, statement, blocks)?;
@@ -172,9 +212,11 @@ impl<'a> Scope<'a> {
         blocks.push(steps)
     }
 
-    /// A statement laid out.
+    /// A statement laid out, with its blocks behind those that are there.
     #[cycle(lay)]
-    fn statement(&self, alloc: Global, statement: &Stmt, blocks: &mut Blocks) -> Result<Step, NoMemory> {
+    fn statement(&self, alloc: Global, statement: &Stmt, blocks: &mut Blocks) -> Result<Step, NoMemory>
+        ensures { IfOk result (λ step. LaysStep (map procedure_of self.now.procedures.now) self.now.names.now (statement_of statement.now) blocks.old blocks.new step) }
+    {
         match statement {
             Stmt::Let(name, e) => self.set(alloc, name, e),
             Stmt::Assign(name, e) => self.set(alloc, name, e),
@@ -193,11 +235,13 @@ impl<'a> Scope<'a> {
             Stmt::While(test, block) => {
                 let test = value(alloc, self.names, test)?;
                 let block = self.block(alloc, block, blocks)?;
-                let mut tests = Vec::new(alloc);
-                tests.push(Step::Test(test, block))?;
-                Ok(Step::Loop(blocks.push(tests)?))
+                let place = lay_test(alloc, test, block, blocks)?;
+                Ok(Step::Loop(place))
             }
-            Stmt::Call(side) => Ok(Step::Call(self.call(alloc, side)?)),
+            Stmt::Call(side) => {
+                let call = self.call(alloc, side)?;
+                Ok(Step::Call(call))
+            }
             Stmt::Fork(left, right) => {
                 let left = self.call(alloc, left)?;
                 let right = self.call(alloc, right)?;
@@ -227,28 +271,20 @@ impl<'a> Scope<'a> {
     }
 
     /// A local that gets a value.
-    fn set(&self, alloc: Global, name: &Named, e: &Expr) -> Result<Step, NoMemory> {
+    fn set(&self, alloc: Global, name: &Named, e: &Expr) -> Result<Step, NoMemory>
+        ensures { IfOk result (λ s. Sets self.now.names.now name.now.name (expression_of e.now) s) }
+    {
         let value = value(alloc, self.names, e)?;
         Ok(Step::Set(self.names.locals().slot(&name.name), value))
     }
+}
 
-    /// What a body gives, if anything.
-    fn give(&self, alloc: Global, give: &Option<Give>) -> Result<Option<Value>, NoMemory> {
-        match give {
-            None => Ok(None),
-            Some(give) => Ok(Some(value(alloc, self.names, &give.value)?)),
-        }
-    }
-
-    /// A procedure laid out.
-    fn routine(&self, alloc: Global, procedure: &Proc, blocks: &mut Blocks) -> Result<Routine, NoMemory> {
-        let body = self.block(alloc, &procedure.body, blocks)?;
-        let give = self.give(alloc, &procedure.give)?;
-        Ok(Routine {
-            locals: self.names.locals().len(),
-            regions: self.names.regions().len(),
-            body,
-            give,
-        })
-    }
+/// The test of a loop and its block, in a block of one step.
+fn lay_test(alloc: Global, test: Value, block: usize, blocks: &mut Blocks) -> Result<usize, NoMemory>
+    ensures blocks { OnOk result (blocks.new ≡ blocks.old ++ (step.Test test block ∷ []) ∷ []) }
+    ensures place { IfOk result (λ place. place ≡ length blocks.old) }
+{
+    let mut tests = Vec::new(alloc);
+    tests.push(Step::Test(test, block))?;
+    blocks.push(tests)
 }

@@ -96,6 +96,18 @@ impl Names {
         Ok(names)
     }
 
+    /// The names of parameters.
+    pub(crate) fn of_parameters(alloc: Global, parameters: &[Parameter]) -> Result<Self, NoMemory>
+        ensures { IfOk result (λ n. n ≡ with_parameters no_names parameters.now) }
+    {
+        let mut names = Names {
+            locals: Table::new(alloc),
+            regions: Table::new(alloc),
+        };
+        names.parameters(alloc, parameters)?;
+        Ok(names)
+    }
+
     /// The slots of its locals.
     pub(crate) fn locals(&self) -> &Table
         ensures { result.now ≡ self.now.locals }

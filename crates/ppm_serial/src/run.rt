@@ -1,6 +1,9 @@
 //! A run: one step after the other.
 ghost use Rattle.std.specs.Prelude.{◌≡◌, Ok};
+ghost use Rattle.ppm_tree.specs.Tree.{ProgramTree};
 ghost use Rattle.ppm_serial.specs.Answers.{Does, Gives};
+ghost use Rattle.ppm_serial.specs.Laying.{IsLaid};
+ghost use Rattle.ppm_serial.specs.Running.{Answers, Starts};
 ghost use Rattle.ppm_serial.specs.Machine.{beginning, called, calling, choosing, crossing, delivering, doing, ending};
 ghost use Rattle.ppm_serial.specs.Machine.{entering, forking, give_spending, giving, inside, joining, leaving, passing};
 ghost use Rattle.ppm_serial.specs.Machine.{putting, returning, setting, spending, splitting, stepping, sweep_begins};
@@ -47,7 +50,9 @@ impl Run {
     }
 
     /// All steps from the entry of `main` on, until the run ends or stops.
-    pub(crate) fn to_end(&mut self, alloc: Global, code: &Code) -> Result<(), Stop> {
+    pub(crate) fn to_end(&mut self, alloc: Global, code: &Code) -> Result<(), Stop>
+        ensures { (t : ProgramTree) → IsLaid t.procedures code.now → Starts t self.old → Answers t self.old.left result self.new.store }
+    {
         self.begin(code, code.main())?;
         while !self.ended {
             self.step(alloc, code)?;
