@@ -24,7 +24,7 @@ use Rattle.ppm_serial.proofs.SimulationLemmas.{moves_spent}
 use Rattle.ppm_serial.proofs.StepLemmas.{moves, ends_later, moves_entry}
 
 -- a stop, as a result
-abbrev pub err_ : Stop → Result ℕ Stop
+abbrev pub err_ : {B : Type 0} → Stop → Result B Stop
 err_ e = Err e
 
 module _ (t : ProgramTree) (c : Laid) (laid : IsLaid t.procedures c) where
@@ -97,15 +97,15 @@ module _ (t : ProgramTree) (c : Laid) (laid : IsLaid t.procedures c) where
   -- what a call that does a step answers: the run goes on, or it has its answer
   abbrev pub GoesOrAnswers : {B : Type 0} → ℕ → Result B Stop → Run → Arrays → Type 0
   GoesOrAnswers turns (Ok x) u a = Serves t c turns u
-  GoesOrAnswers turns (Err e) u a = Answers t turns (err_ e) a
+  GoesOrAnswers {B = B} turns (Err e) u a = Answers {B = B} t turns (err_ e) a
 
   answered : {B : Type 0} (turns : ℕ) (s : Run) (spent : ℕ) (A : ℕ → End ℤ → Type 0) → turns ≡ spent + s.left → Shifts spent (Whole t) A → (r : Result B Stop) (u : Run)
       (said : Result Run Stop) (a : Arrays) → Does r u said → Moves t.procedures c s.left A said → GoesOrAnswers turns r u a
   answered turns s spent A e p (Ok x) u said a d m = serves_on turns s spent A e p u (subst (λ (o : Result Run Stop). Moves t.procedures c s.left A o) d m)
-  answered turns s spent A e p (Err (stop.Trapped kind line)) u said a d m =
-      stops_on turns s spent A e p (stop.Trapped kind line) (subst (λ (o : Result Run Stop). Moves t.procedures c s.left A o) d m) a (err_ (stop.Trapped kind line)) refl
-  answered turns s spent A e p (Err stop.NotWithin) u said a d m =
-      stops_on turns s spent A e p stop.NotWithin (subst (λ (o : Result Run Stop). Moves t.procedures c s.left A o) d m) a (err_ stop.NotWithin) refl
+  answered {B = B} turns s spent A e p (Err (stop.Trapped kind line)) u said a d m =
+      stops_on {B = B} turns s spent A e p (stop.Trapped kind line) (subst (λ (o : Result Run Stop). Moves t.procedures c s.left A o) d m) a (err_ (stop.Trapped kind line)) refl
+  answered {B = B} turns s spent A e p (Err stop.NotWithin) u said a d m =
+      stops_on {B = B} turns s spent A e p stop.NotWithin (subst (λ (o : Result Run Stop). Moves t.procedures c s.left A o) d m) a (err_ stop.NotWithin) refl
   answered turns s spent A e p (Err stop.NoMemory) u said a d m = tt
 
   pub begun : {B : Type 0} (s u : Run) (r : Result B Stop) (a : Arrays) → Starts t s → Does r u (beginning c c.main s) → GoesOrAnswers s.left r u a

@@ -2,10 +2,6 @@
 use Rattle.std.proofs.Common.{arith}
 use Rattle.std.proofs.lemmas.Grind.{common_steps}
 use Rattle.std.proofs.lemmas.List.{map-set, get_or-map}
-use Rattle.ppm_serial.proofs.ToComeLemmas as tc
-use Rattle.ppm_serial.proofs.SlotLemmas as sl
-use Rattle.ppm_serial.proofs.RunningLemmas as si
-use Rattle.ppm_serial.proofs.KeepLemmas as we
 use Rattle.ppm_serial.proofs.store.Store.put.Goals as goal
 
 pub returns-then-at-len : goal.returns-then-at-len
