@@ -68,7 +68,7 @@ pub record KeepsBoth (n m : Slotted) : Type 0 where
   pub locals : Keeps n.locals m.locals
   pub regions : Keeps n.regions m.regions
 
-kept : (n : Slotted) → KeepsBoth n n
+pub kept : (n : Slotted) → KeepsBoth n n
 kept n = record { locals = keeps_same n.locals; regions = keeps_same n.regions }
 
 then_kept : {i j k : Slotted} → KeepsBoth i j → KeepsBoth j k → KeepsBoth i k

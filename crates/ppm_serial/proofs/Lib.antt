@@ -8,3 +8,5 @@ pub mod RunningLemmas
 pub mod WeightLemmas
 pub mod KeepLemmas
 pub mod LayLemmas
+pub mod ProgramLemmas
+pub mod EntryLemmas

@@ -8,3 +8,4 @@ pub mod Names
 pub mod Laying
 pub mod Simulation
 pub mod Running
+pub mod Entry

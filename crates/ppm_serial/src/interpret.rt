@@ -1,13 +1,15 @@
 //! The outcome of a program within a number of turns.
-ghost use Rattle.std.specs.Prelude.{IfOk};
+ghost use Rattle.std.specs.Prelude.{◌≡◌, ◌++◌, map, IfOk, OnOk};
 ghost use Rattle.ppm_tree.specs.Tree.{tree_of};
-ghost use Rattle.ppm_tree.specs.Program.{Serial};
+ghost use Rattle.ppm_tree.specs.Program.{Serial, initial_array, initial_arrays, input_of, values_of, whole_from};
+ghost use Rattle.ppm_serial.specs.Entry.{IsBegun, IsMainFrame, lent_to, named_by};
+ghost use Rattle.ppm_serial.specs.Laying.{IsLaid};
 
+use crate::code::{Code, Place, Stop};
 use crate::frame::Frame;
 use crate::lay::lay;
-use crate::region::Region;
-use crate::code::{Code, Place, Stop};
 use crate::names::Names;
+use crate::region::Region;
 use crate::run::Run;
 use crate::stack::Stack;
 use crate::store::Store;
@@ -18,16 +20,23 @@ use std::alloc::Global;
 /// The outcome of a program within a number of turns: the arrays in the end or the first trap, or `NotWithin` exactly
 /// where more turns would be spent. The memory that a run takes is that of its arrays and of the procedures and blocks that
 /// are open at a time, however many turns it spends.
-pub fn serial(alloc: Global, program: &Program, turns: u64) -> Result<Outcome, NoMemory> {
+pub fn serial(alloc: Global, program: &Program, turns: u64) -> Result<Outcome, NoMemory>
+    ensures { IfOk result (λ outcome. Serial (tree_of program.now) turns outcome) }
+{
     outcome(alloc, program.tree(), turns)
 }
 
 /// The same of a tree, whatever its size.
-pub(crate) fn outcome(alloc: Global, tree: &Tree, turns: u64) -> Result<Outcome, NoMemory> {
+pub(crate) fn outcome(alloc: Global, tree: &Tree, turns: u64) -> Result<Outcome, NoMemory>
+    ensures { IfOk result (λ outcome. Serial (tree_of tree.now) turns outcome) }
+{
     let code = lay(alloc, tree)?;
     let mut run = begin(alloc, &code, tree, turns)?;
     match run.to_end(alloc, &code) {
-        Ok(()) => Ok(Outcome::Ended(named(alloc, tree, run.store)?)),
+        Ok(()) => {
+            let arrays = named(alloc, tree, run.store)?;
+            Ok(Outcome::Ended(arrays))
+        }
         Err(Stop::Trapped(trap, line)) => Ok(Outcome::Trapped(trap, line)),
         Err(Stop::NotWithin) => Ok(Outcome::NotWithin),
         Err(Stop::NoMemory) => Err(NoMemory),
@@ -35,7 +44,9 @@ pub(crate) fn outcome(alloc: Global, tree: &Tree, turns: u64) -> Result<Outcome,
 }
 
 /// The values that an array has in front.
-fn input<'a>(inputs: &'a [ArrayInput], name: &Name) -> &'a [i64] {
+fn input<'a>(inputs: &'a [ArrayInput], name: &Name) -> &'a [i64]
+    ensures { result.now ≡ input_of inputs.now name.now }
+{
     for input in inputs {
         if input.name.name.is(name) {
             return input.values.as_slice();
@@ -45,7 +56,9 @@ fn input<'a>(inputs: &'a [ArrayInput], name: &Name) -> &'a [i64] {
 }
 
 /// An array as it starts: the input's values in front, then 0 in each word.
-fn values(alloc: Global, inputs: &[ArrayInput], array: &Array) -> Result<Vec<i64>, NoMemory> {
+fn values(alloc: Global, inputs: &[ArrayInput], array: &Array) -> Result<Vec<i64>, NoMemory>
+    ensures { IfOk result (λ v. v.items ≡ (initial_array inputs.now array.now).values) }
+{
     let mut values = Vec::from_slice(alloc, input(inputs, &array.name.name))?;
     while values.len() < array.words as usize {
         values.push(0)?;
@@ -54,7 +67,9 @@ fn values(alloc: Global, inputs: &[ArrayInput], array: &Array) -> Result<Vec<i64
 }
 
 /// The arrays that a program starts with.
-fn store(alloc: Global, tree: &Tree) -> Result<Store, NoMemory> {
+fn store(alloc: Global, tree: &Tree) -> Result<Store, NoMemory>
+    ensures { IfOk result (λ s. s ≡ values_of (initial_arrays (tree_of tree.now))) }
+{
     let mut arrays = Vec::new(alloc);
     for array in tree.arrays.as_slice() {
         let values = values(alloc, tree.inputs.as_slice(), array)?;
@@ -64,7 +79,9 @@ fn store(alloc: Global, tree: &Tree) -> Result<Store, NoMemory> {
 }
 
 /// The whole of the array with a name.
-fn whole(arrays: &[Array], name: &Name) -> Region {
+fn whole(arrays: &[Array], name: &Name) -> Region
+    ensures { result ≡ whole_from 0 arrays.now name.now }
+{
     let mut at = 0;
     while at < arrays.len() {
         let array = &arrays[at];
@@ -76,8 +93,10 @@ fn whole(arrays: &[Array], name: &Name) -> Region {
     Region::nowhere()
 }
 
-/// The regions of `main`: each parameter is the whole of the array with its name.
-fn lend(frame: &mut Frame, names: &Names, arrays: &[Array], parameters: &[Parameter]) {
+/// Lends to `main`: each parameter is the whole of the array with its name.
+fn lend(frame: &mut Frame, names: &Names, arrays: &[Array], parameters: &[Parameter])
+    ensures { frame.new ≡ lent_to names.now arrays.now parameters.now frame.old }
+{
     match parameters {
         [] => {}
         [first, rest @ ..] => {
@@ -88,17 +107,31 @@ fn lend(frame: &mut Frame, names: &Names, arrays: &[Array], parameters: &[Parame
     }
 }
 
-/// A run before the entry of `main`.
-fn begin(alloc: Global, code: &Code, tree: &Tree, turns: u64) -> Result<Run, NoMemory> {
-    let (locals, regions) = code.sizes(code.main());
+/// The frame of `main`, which is at a place.
+fn main_frame(alloc: Global, code: &Code, tree: &Tree, place: usize) -> Result<Frame, NoMemory>
+    ensures { IfOk result (λ f. IsMainFrame code.now (tree_of tree.now) tree.now.procedures place f) }
+{
+    let (locals, regions) = code.sizes(place);
     let mut frame = Frame::fresh(alloc, locals, regions)?;
-    if let Some(main) = tree.procedures.as_slice().get(code.main()) {
-        let names = Names::of(alloc, main)?;
-        lend(&mut frame, &names, tree.arrays.as_slice(), main.parameters.as_slice());
+    match tree.procedures.as_slice().get(place) {
+        None => Ok(frame),
+        Some(main) => {
+            let names = Names::of(alloc, main)?;
+            lend(&mut frame, &names, tree.arrays.as_slice(), main.parameters.as_slice());
+            Ok(frame)
+        }
     }
+}
+
+/// A run before the entry of `main`.
+fn begin(alloc: Global, code: &Code, tree: &Tree, turns: u64) -> Result<Run, NoMemory>
+    ensures { IfOk result (λ run. IsLaid (tree_of tree.now).procedures code.now → IsBegun (tree_of tree.now) turns run) }
+{
+    let frame = main_frame(alloc, code, tree, code.main())?;
+    let store = store(alloc, tree)?;
     Ok(Run {
         frame,
-        store: store(alloc, tree)?,
+        store,
         stack: Stack::new(alloc),
         place: Place { block: 0, at: 0 },
         left: turns,
@@ -107,12 +140,30 @@ fn begin(alloc: Global, code: &Code, tree: &Tree, turns: u64) -> Result<Run, NoM
 }
 
 /// The arrays with their names, in the order of the program.
-fn named(alloc: Global, tree: &Tree, store: Store) -> Result<Items<NamedArray>, NoMemory> {
+fn named(alloc: Global, tree: &Tree, store: Store) -> Result<Items<NamedArray>, NoMemory>
+    ensures { IfOk result (λ a. a ≡ named_by tree.now.arrays store) }
+{
     let mut all = Vec::new(alloc);
-    for (array, values) in tree.arrays.as_slice().iter().zip(store.into_vec()) {
-        let name = array.name.name.try_clone(alloc)?;
-        let values = Items::from_vec(values);
-        all.push(NamedArray { name, values })?;
-    }
+    let values = store.into_vec();
+    name_all(alloc, tree.arrays.as_slice(), &values, &mut all)?;
     Ok(Items::from_vec(all))
+}
+
+/// Adds arrays with their names and values.
+fn name_all(alloc: Global, arrays: &[Array], values: &[Vec<i64>], all: &mut Vec<NamedArray>) -> Result<(), NoMemory>
+    ensures { OnOk result (all.new.items ≡ all.old.items ++ named_by arrays.now (map (λ v. v.items) values.now)) }
+{
+    match arrays {
+        [] => Ok(()),
+        [array, arrays @ ..] => match values {
+            [] => Ok(()),
+            [first, rest @ ..] => {
+                let name = array.name.name.try_clone(alloc)?;
+                let words = Vec::from_slice(alloc, first)?;
+                let values = Items::from_vec(words);
+                all.push(NamedArray { name, values })?;
+                name_all(alloc, arrays, rest, all)
+            }
+        },
+    }
 }
