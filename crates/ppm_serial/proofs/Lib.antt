@@ -10,3 +10,4 @@ pub mod KeepLemmas
 pub mod LayLemmas
 pub mod ProgramLemmas
 pub mod EntryLemmas
+pub mod PlaceLemmas

@@ -30,3 +30,13 @@ passed_at xs k x d i l e s =
     let t = slot_past xs k x d l e s in
     let j : suc k ≡ k + 1 = omega arith in
     subst (λ (m : ℕ). slot_in xs x ≡ m + slot_in (drop m xs) x) j (omega (arith, i, t))
+
+-- a test that holds exactly where two names are equal
+pub same_bytes : (x y : List ℕ) (b : Bool) → (b ≡ true → x ≡ y) × (x ≡ y → b ≡ true) → b ≡ bytes_eq x y
+same_bytes x y b h = go b refl (bytes_eq x y) refl
+  where
+    go : (p : Bool) → b ≡ p → (q : Bool) → bytes_eq x y ≡ q → b ≡ bytes_eq x y
+    go true e true f = e ∙ sym f
+    go true e false f = absurd (let t = (bytes_eq-Decides x y).1 (h.0 e) in cc)
+    go false e true f = absurd (let t = h.1 ((bytes_eq-Decides x y).0 f) in cc)
+    go false e false f = e ∙ sym f

@@ -1,5 +1,5 @@
 //! The outcome of a program within a number of turns.
-ghost use Rattle.std.specs.Prelude.{◌≡◌, ◌++◌, map, IfOk, OnOk};
+ghost use Rattle.std.specs.Prelude.{◌≡◌, ◌++◌, ◌+◌, ◌<◌, ◌^◌, length, map, IfOk, OnOk};
 ghost use Rattle.ppm_tree.specs.Tree.{tree_of};
 ghost use Rattle.ppm_tree.specs.Program.{Serial, initial_array, initial_arrays, input_of, values_of, whole_from};
 ghost use Rattle.ppm_serial.specs.Entry.{IsBegun, IsMainFrame, lent_to, named_by};
@@ -8,7 +8,7 @@ ghost use Rattle.ppm_serial.specs.Laying.{IsLaid};
 use crate::code::{Code, Place, Stop};
 use crate::frame::Frame;
 use crate::lay::lay;
-use crate::names::Names;
+use crate::names::{Names, same};
 use crate::region::Region;
 use crate::run::Run;
 use crate::stack::Stack;
@@ -47,12 +47,16 @@ pub(crate) fn outcome(alloc: Global, tree: &Tree, turns: u64) -> Result<Outcome,
 fn input<'a>(inputs: &'a [ArrayInput], name: &Name) -> &'a [i64]
     ensures { result.now ≡ input_of inputs.now name.now }
 {
-    for input in inputs {
-        if input.name.name.is(name) {
-            return input.values.as_slice();
+    match inputs {
+        [] => &[],
+        [first, rest @ ..] => {
+            if same(&first.name.name, name) {
+                first.values.as_slice()
+            } else {
+                input(rest, name)
+            }
         }
     }
-    &[]
 }
 
 /// An array as it starts: the input's values in front, then 0 in each word.
@@ -66,31 +70,44 @@ fn values(alloc: Global, inputs: &[ArrayInput], array: &Array) -> Result<Vec<i64
     Ok(values)
 }
 
+/// Adds arrays as they start.
+fn fill(alloc: Global, inputs: &[ArrayInput], arrays: &[Array], all: &mut Vec<Vec<i64>>) -> Result<(), NoMemory>
+    ensures { OnOk result (map (λ v. v.items) all.new.items ≡ map (λ v. v.items) all.old.items ++ values_of (map (initial_array inputs.now) arrays.now)) }
+{
+    match arrays {
+        [] => Ok(()),
+        [first, rest @ ..] => {
+            let words = values(alloc, inputs, first)?;
+            all.push(words)?;
+            fill(alloc, inputs, rest, all)
+        }
+    }
+}
+
 /// The arrays that a program starts with.
 fn store(alloc: Global, tree: &Tree) -> Result<Store, NoMemory>
     ensures { IfOk result (λ s. s ≡ values_of (initial_arrays (tree_of tree.now))) }
 {
     let mut arrays = Vec::new(alloc);
-    for array in tree.arrays.as_slice() {
-        let values = values(alloc, tree.inputs.as_slice(), array)?;
-        arrays.push(values)?;
-    }
+    fill(alloc, tree.inputs.as_slice(), tree.arrays.as_slice(), &mut arrays)?;
     Ok(Store::from_vec(arrays))
 }
 
-/// The whole of the array with a name.
-fn whole(arrays: &[Array], name: &Name) -> Region
-    ensures { result ≡ whole_from 0 arrays.now name.now }
+/// The whole of the array with a name, at the place or behind it.
+fn whole(at: usize, arrays: &[Array], name: &Name) -> Region
+    requires { at + length arrays.now < 2 ^ 64 }
+    ensures { result ≡ whole_from at arrays.now name.now }
 {
-    let mut at = 0;
-    while at < arrays.len() {
-        let array = &arrays[at];
-        if array.name.name.is(name) {
-            return Region::whole(at, array.words);
+    match arrays {
+        [] => Region::nowhere(),
+        [first, rest @ ..] => {
+            if same(&first.name.name, name) {
+                Region::whole(at, first.words)
+            } else {
+                whole(at + 1, rest, name)
+            }
         }
-        at += 1;
     }
-    Region::nowhere()
 }
 
 /// Lends to `main`: each parameter is the whole of the array with its name.
@@ -102,7 +119,7 @@ fn lend(frame: &mut Frame, names: &Names, arrays: &[Array], parameters: &[Parame
         [first, rest @ ..] => {
             lend(frame, names, arrays, rest);
             let name = &first.name.name;
-            frame.set_region(names.regions().slot(name), whole(arrays, name));
+            frame.set_region(names.regions().slot(name), whole(0, arrays, name));
         }
     }
 }

@@ -1,5 +1,6 @@
 //! The names of a procedure, by the slots that they have.
 ghost use Rattle.std.specs.Prelude.{◌≡◌, [], length, IfOk, OnOk};
+ghost use Rattle.std.specs.Str.{bytes_eq};
 ghost use Rattle.ppm_tree.specs.Tree.{block_of, statement_of, procedure_of};
 ghost use Rattle.ppm_serial.specs.Names.{names_of, no_names, noted, slot_in, with_block, with_local_name};
 ghost use Rattle.ppm_serial.specs.Names.{with_parameter, with_parameters, with_region_name, with_statement, with_target};
@@ -8,6 +9,13 @@ use ppm_tree::{Mode, Named, Parameter, Proc, Stmt};
 use ppm_words::{Name, NoMemory};
 use std::alloc::Global;
 use std::marker::Model;
+
+/// Whether two names are the same.
+pub(crate) fn same(x: &Name, y: &Name) -> bool
+    ensures { result ≡ bytes_eq x.now y.now }
+{
+    x.is(y)
+}
 
 /// Names, by their slots.
 #[derive(Drop)]

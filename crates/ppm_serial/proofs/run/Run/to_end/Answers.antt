@@ -20,7 +20,7 @@ loop-self-preserved c t laid starts =
 pub returns-in_err-step : goal.returns-in_err-step
 returns-in_err-step c t laid starts =
     let p = err_from_is_err_and c.from_residual-in_err-step.result c.from_residual-in_err-step.ensures.1 in
-    rw (p.1, p.2) (stepped t c.args.code.now laid c.args.self.now.left c.loop-self.self c.step.new.self (Err c.in_err-step.field-0.0) c.step.new.self.store
+    rw (p.1, p.2) (stepped t c.args.code.now laid {B = Unit {0}} c.args.self.now.left c.loop-self.self c.step.new.self (Err c.in_err-step.field-0.0) c.step.new.self.store
     (c.loop-self.invariant t laid starts) (let h = c.loop-self-test.true in cc) c.in_err-step.ensures)
 
 pub returns : goal.returns
