@@ -11,3 +11,4 @@ pub mod LayLemmas
 pub mod ProgramLemmas
 pub mod EntryLemmas
 pub mod PlaceLemmas
+pub mod ArmLemmas

@@ -1,6 +1,6 @@
 -- Calls, statements, blocks and procedures that are laid out.
-use Rattle.std.proofs.Common.{◌≡◌, ◌<◌, ◌≤◌, ◌+◌, ℕ, zero, suc, ℤ, pos, Bool, true, false, List, [], ◌∷◌, ◌++◌, Option, Some, None, Result, Ok, Err, refl, sym, ap, subst, arith, ◌∙◌, length, get_or, drop, map}
-use Rattle.std.specs.Prelude.{if◌then◌else◌, ⊤, codes}
+use Rattle.std.proofs.Common.{◌≡◌, ◌<◌, ◌≤◌, ◌+◌, ℕ, zero, suc, ℤ, pos, Bool, true, false, List, [], ◌∷◌, ◌++◌, Option, Some, None, Result, Ok, Err, refl, sym, ap, subst, arith, ◌∙◌, length, get_or, drop, take, map, ◌-◌}
+use Rattle.std.specs.Prelude.{if◌then◌else◌, ⊤, codes, OnOk}
 use Rattle.std.specs.Str.{bytes_eq}
 use Rattle.std.proofs.lemmas.List.{append_assoc, append-nil}
 use Rattle.ppm_tree.specs.declared.mode.Mode.TheVariants as mode
@@ -8,7 +8,10 @@ use Rattle.ppm_tree.specs.declared.named.Named.{Named}
 use Rattle.ppm_tree.specs.declared.tree.Parameter.{Parameter}
 use Rattle.ppm_tree.specs.declared.tree.Proc.{Proc}
 use Rattle.ppm_tree.specs.Tree.{Expression, Argument, Side, Statement, Block, Nil, Then, Let, Assign, Put, If, While, Split, Give, Procedure, procedure_of}
+use Rattle.ppm_tree.specs.Tree.{expression_of, side_of}
+use Rattle.ppm_tree.specs.declared.tree.Side as declared_side
 use Rattle.ppm_tree.specs.Tree as tree
+use Rattle.ppm_tree.specs.declared.tree.Argument as declared
 use Rattle.ppm_tree.specs.State.{procedure_named, no_procedure}
 use Rattle.ppm_serial.specs.declared.code.Value.{Value}
 use Rattle.ppm_serial.specs.declared.code.Passed.{Passed}
@@ -23,6 +26,7 @@ use Rattle.ppm_serial.specs.Code.{Laid, no_routine, routine_at}
 use Rattle.ppm_serial.specs.Laying.{IsWorth, IsLocal, IsRegion, IsTarget, place_in, IsCall, Stands, Lies, LiesNil, LiesThen, IsGive, IsRoutine, IsLaid}
 use Rattle.ppm_serial.specs.Laying.{StandsLet, StandsAssign, StandsPut, StandsIf, StandsWhile, StandsCall, StandsFork, StandsSplit, StandsEach}
 use Rattle.ppm_serial.specs.Laying.{HasTarget, HasWritten, HasNames, Grows, is_number, Lends, Sets, PassesOne, PassesAll, NoParameter, NoArgument, OneMore}
+use Rattle.ppm_serial.specs.Laying.{arguments_of}
 use Rattle.ppm_serial.specs.Laying.{LaysStep, LaysBlock, LaysSome, LaysRoutine, ArePlaced, LaysMore, PassesMore}
 use Rattle.ppm_serial.proofs.KeepLemmas.{body_there, parameters_keep, HasParameter, HasParameters, parameters_there, KeepsBoth, kept}
 use Rattle.ppm_serial.proofs.LayLemmas.{passes_all}
@@ -224,3 +228,58 @@ module _ (procedures : List Procedure) where
         subst (λ (rs : List Routine). IsRoutine procedures blocks (procedure_named procedures x) (get_or rs (place_in procedures x) no_routine)) (sym rs)
         (placed_by_name blocks empty procedures more.added (more.placed blocks grows_same) x);
   }
+
+-- what is behind the first element
+take_all : {A : Type 0} (xs : List A) (k : ℕ) → length xs ≤ k → take k xs ≡ xs
+take_all [] zero h = refl
+take_all [] (suc k) h = refl
+take_all (x ∷ xs) zero h = absurd (omega (arith, h))
+take_all (x ∷ xs) (suc k) h = ap (λ (l : List _). x ∷ l) (take_all xs k (omega (arith, h)))
+
+pub behind_first : {A : Type 0} (xs : List A) → 1 ≤ length xs → take (length xs - 1) (drop 1 xs) ≡ drop 1 xs
+behind_first [] l = absurd (omega (arith, l))
+behind_first (x ∷ xs) l = take_all xs (length (x ∷ xs) - 1) (omega arith)
+
+-- nothing is passed without parameters, or without arguments
+pub none_passed : (n m : Slotted) (ps : List Parameter) (es : List Argument) (old : List Passed) → length ps ≡ 0 → PassesMore n m ps es old old
+none_passed n m [] es old e = ([], sym (append-nil old), NoParameter es)
+none_passed n m (p ∷ ps) es old e = absurd (omega (arith, e))
+
+pub none_given : (n m : Slotted) (ps : List Parameter) (es : List declared.Argument) (old : List Passed) → length es ≡ 0 → PassesMore n m ps (arguments_of es) old old
+none_given n m [] es old e = ([], sym (append-nil old), NoParameter (arguments_of es))
+none_given n m (p ∷ ps) [] old e = ([], sym (append-nil old), NoArgument p ps)
+none_given n m (p ∷ ps) (a ∷ es) old e = absurd (omega (arith, e))
+
+-- the first argument is passed, and then the others
+pub first_passed : {E : Type 0} (n m : Slotted) (ps : List Parameter) (es : List declared.Argument) (p : Parameter) (e : declared.Argument) (v : Passed) (old mid new : List Passed)
+    → 1 ≤ length ps → 1 ≤ length es → p ≡ get_or ps 0 p → e ≡ get_or es 0 e → PassesOne n m p (expression_of e.value) v → mid ≡ old ++ v ∷ []
+    → (r : Result (Unit {0}) E) → OnOk r (PassesMore n m (take (length ps - 1) (drop 1 ps)) (arguments_of (take (length es - 1) (drop 1 es))) mid new) → OnOk r (PassesMore n m ps (arguments_of es) old new)
+first_passed n m [] es p e v old mid new l k i j one is r h = absurd (omega (arith, l))
+first_passed n m (q ∷ ps) [] p e v old mid new l k i j one is r h = absurd (omega (arith, k))
+first_passed n m (q ∷ ps) (a ∷ es) p e v old mid new l k i j one is (Ok x) h =
+    more_passed n m q ps (record { line = a.line; value = expression_of a.value }) (arguments_of es) v old mid new
+    (subst (λ (p : Parameter). PassesOne n m p (expression_of a.value) v) i (subst (λ (e : declared.Argument). PassesOne n m p (expression_of e.value) v) j one)) is
+    (subst (λ (qs : List Parameter). PassesMore n m qs (arguments_of es) mid new) (behind_first (q ∷ ps) l)
+    (subst (λ (args : List declared.Argument). PassesMore n m (take (length (q ∷ ps) - 1) ps) (arguments_of args) mid new) (behind_first (a ∷ es) k) h))
+first_passed n m (q ∷ ps) (a ∷ es) p e v old mid new l k i j one is (Err x) h = tt
+
+-- a call of a procedure that is there
+pub call_found : (ps : List Proc) (n : Slotted) (side : declared_side.Side) (c : Call) (p : Proc) (m : Slotted) (params : List Parameter) (args : List declared.Argument) (old new : List Passed)
+    → c.callee ≡ place_in (map procedure_of ps) side.callee.name → c.callee < length ps → p ≡ get_or ps c.callee p → params ≡ p.parameters → m ≡ with_parameters no_names params
+    → args ≡ side.arguments → old ≡ [] → PassesMore n m params (arguments_of args) old new → c.passed.items ≡ new → IsTarget n (side_of side).target c.target
+    → IsCall (map procedure_of ps) n (side_of side) c
+call_found ps n side c p m params args old new at l is ps_are m_is args_are none_ (vs, more, all) new_is t =
+    call_is (map procedure_of ps) n (side_of side) c (procedure_of p)
+    (named_at ps side.callee.name p (subst (λ (k : ℕ). k < length ps) at l) ∙ ap procedure_of (sym (subst (λ (k : ℕ). p ≡ get_or ps k p) at is))) t at
+    (subst (λ (vs : List Passed). PassesAll n (with_parameters no_names p.parameters) p.parameters (side_of side).arguments vs)
+    (sym (new_is ∙ more ∙ ap (λ (o : List Passed). o ++ vs) none_))
+    (subst (λ (args : List declared.Argument). PassesAll n (with_parameters no_names p.parameters) p.parameters (arguments_of args) vs) args_are
+    (subst (λ (qs : List Parameter). PassesAll n (with_parameters no_names qs) qs (arguments_of args) vs) ps_are
+    (subst (λ (m : Slotted). PassesAll n m params (arguments_of args) vs) m_is all))))
+
+-- a call of one that is not
+pub call_missing : (ps : List Proc) (n : Slotted) (side : declared_side.Side) (c : Call) → c.callee ≡ place_in (map procedure_of ps) side.callee.name → length ps ≤ c.callee
+    → c.passed.items ≡ [] → IsTarget n (side_of side).target c.target → IsCall (map procedure_of ps) n (side_of side) c
+call_missing ps n side c at l none_ t =
+    call_is (map procedure_of ps) n (side_of side) c no_procedure (named_nowhere ps side.callee.name (subst (λ (k : ℕ). length ps ≤ k) at l)) t at
+    (subst (λ (vs : List Passed). PassesAll n (with_parameters no_names []) [] (side_of side).arguments vs) (sym none_) (NoParameter (side_of side).arguments))

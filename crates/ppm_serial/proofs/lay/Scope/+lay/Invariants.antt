@@ -6,4 +6,4 @@ use Rattle.ppm_serial.proofs.lay.Scope.+lay.Given as goal
 
 abbrev pub invariant-block-loop-statement : goal.invariant-block-loop-statement
 invariant-block-loop-statement l =
-    LaysSome (map procedure_of l.self.procedures) l.self.names (block_of l.block) (block_of (drop l.statement-index l.block)) l.initial.blocks l.blocks l.steps.items
+    LaysSome (map procedure_of l.self.procedures.now) l.self.names.now (block_of l.block) (block_of (drop l.statement-index l.block)) l.initial.blocks l.blocks l.steps.items
