@@ -33,15 +33,15 @@ pub as_declared : {procedures : List Procedure} {n : Slotted} {s d : Stmt} {t : 
 as_declared {procedures = procedures} {n = n} {old = old} {new = new} {st = st} e f l =
     subst (λ (t : Statement). LaysStep procedures n t old new st) (sym (ap statement_of e ∙ f)) l
 
-pub let_all : {procedures : List Procedure} {n : Slotted} {s : Stmt} {x : Named} {e : Expr} {old : List (List Step)} (r : Result Step NoMemory) → s ≡ declared.Let x e
+pub let_all : (procedures : List Procedure) (n : Slotted) (s : Stmt) (x : Named) (e : Expr) (old : List (List Step)) (r : Result Step NoMemory) → s ≡ declared.Let x e
     → IfOk r (λ st. Sets n x.name (expression_of e) st) → IfOk r (λ st. LaysStep procedures n (statement_of s) old old st)
-let_all {procedures = procedures} {n = n} {x = x} {e = e} {old = old} (Ok st) i h = as_declared i refl (lays_let procedures n x (expression_of e) old st h)
-let_all (Err y) i h = tt
+let_all procedures n s x e old (Ok st) i h = as_declared i refl (lays_let procedures n x (expression_of e) old st h)
+let_all procedures n s x e old (Err y) i h = tt
 
-pub assign_all : {procedures : List Procedure} {n : Slotted} {s : Stmt} {x : Named} {e : Expr} {old : List (List Step)} (r : Result Step NoMemory) → s ≡ declared.Assign x e
+pub assign_all : (procedures : List Procedure) (n : Slotted) (s : Stmt) (x : Named) (e : Expr) (old : List (List Step)) (r : Result Step NoMemory) → s ≡ declared.Assign x e
     → IfOk r (λ st. Sets n x.name (expression_of e) st) → IfOk r (λ st. LaysStep procedures n (statement_of s) old old st)
-assign_all {procedures = procedures} {n = n} {x = x} {e = e} {old = old} (Ok st) i h = as_declared i refl (lays_assign procedures n x (expression_of e) old st h)
-assign_all (Err y) i h = tt
+assign_all procedures n s x e old (Ok st) i h = as_declared i refl (lays_assign procedures n x (expression_of e) old st h)
+assign_all procedures n s x e old (Err y) i h = tt
 
 -- the statements from a place on
 pub next_is : (xs : List Stmt) (i : ℕ) (x : Stmt) → i < length xs → x ≡ get_or xs i x → block_of (drop i xs) ≡ Then (statement_of x) (block_of (drop (i + 1) xs))
@@ -58,8 +58,8 @@ none_left [] (suc i) l = refl
 none_left (y ∷ xs) zero l = absurd (omega (arith, l))
 none_left (y ∷ xs) (suc i) l = none_left xs i (omega (arith, l))
 
-pub block_all : {procedures : List Procedure} {n : Slotted} {b left : Block} {old mid new : List (List Step)} {steps : List Step} (r : Result ℕ NoMemory) → left ≡ Nil
+pub block_all : (procedures : List Procedure) (n : Slotted) (b left : Block) (old mid new : List (List Step)) (steps : List Step) (r : Result ℕ NoMemory) → left ≡ Nil
     → LaysSome procedures n b left old mid steps → OnOk r (new ≡ mid ++ steps ∷ []) → IfOk r (λ place. place ≡ length mid) → IfOk r (λ place. LaysBlock procedures n b old new place)
-block_all {procedures = procedures} {n = n} {b = b} {old = old} {mid = mid} {new = new} {steps = steps} (Ok place) e some is at =
+block_all procedures n b left old mid new steps (Ok place) e some is at =
     lays_all procedures n b old mid new steps place (subst (λ (left : Block). LaysSome procedures n b left old mid steps) e some) is at
-block_all (Err y) e some is at = tt
+block_all procedures n b left old mid new steps (Err y) e some is at = tt

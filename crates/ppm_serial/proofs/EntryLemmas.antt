@@ -3,6 +3,7 @@ use Rattle.std.proofs.Common.{◌≡◌, ◌<◌, ◌≤◌, ◌+◌, ◌-◌, �
 use Rattle.std.specs.Prelude.{if◌then◌else◌, ⊤, codes, slice_get}
 use Rattle.std.specs.Str.{bytes_eq}
 use Rattle.std.proofs.lemmas.Slice.Eq.{bytes_eq-Decides}
+use Rattle.std.proofs.lemmas.List.{append_assoc}
 use Rattle.ppm_words.specs.declared.named_array.NamedArray.{NamedArray}
 use Rattle.ppm_words.specs.declared.outcome.Outcome.{Outcome}
 use Rattle.ppm_words.specs.declared.outcome.Outcome.TheVariants as outcome
@@ -106,3 +107,15 @@ trapped_is t turns kind line e = Within e.ends.counts (Trapped (kind, line) e.ar
 
 pub not_within_is : (t : ProgramTree) (turns : ℕ) → ((k : Counts) (z : End ℤ) → Spends t k z → turns < k.turns) → Serial t turns outcome.NotWithin
 not_within_is t turns h = NotWithin h
+
+-- an array with one 0 more, and one less behind it
+pub filled_on : (xs : List ℤ) (w : ℕ) → length xs < w
+    → (xs ++ pos 0 ∷ []) ++ replicate (w - length (xs ++ pos 0 ∷ [])) (pos 0) ≡ xs ++ replicate (w - length xs) (pos 0)
+filled_on xs w l =
+    let a = one_longer xs in
+    let e : w - length xs ≡ suc (w - length (xs ++ pos 0 ∷ [])) = omega (arith, l, a) in
+    append_assoc xs (pos 0 ∷ []) (replicate (w - length (xs ++ pos 0 ∷ [])) (pos 0)) ∙ ap (λ (j : ℕ). xs ++ replicate j (pos 0)) (sym e)
+  where
+    one_longer : (xs : List ℤ) → length (xs ++ pos 0 ∷ []) ≡ suc (length xs)
+    one_longer [] = refl
+    one_longer (x ∷ xs) = ap suc (one_longer xs)

@@ -21,13 +21,13 @@ block-loop-statement-preserved t c =
     c.in_ok-step.ensures)
 
 pub block-returns : goal.block-returns
-block-returns t c = block_all c.push-2.result (none_left c.args.block.now c.loop-statement.statement-index c.loop-statement-test.false) c.loop-statement.invariant c.push-2.ensures.blocks c.push-2.ensures.place
+block-returns t c = block_all (map procedure_of c.args.self.now.procedures.now) c.args.self.now.names.now (block_of c.args.block.now) (block_of (drop c.loop-statement.statement-index c.args.block.now)) c.args.blocks.now c.loop-statement.blocks c.push-2.new.self c.loop-statement.steps.items c.push-2.result (none_left c.args.block.now c.loop-statement.statement-index c.loop-statement-test.false) c.loop-statement.invariant c.push-2.ensures.blocks c.push-2.ensures.place
 
 pub statement-returns-in-Let : goal.statement-returns-in-Let
-statement-returns-in-Let t c = let_all c.set.result c.in-Let.is c.set.ensures
+statement-returns-in-Let t c = let_all (map procedure_of c.args.self.now.procedures.now) c.args.self.now.names.now c.args.statement.now c.in-Let.name c.in-Let.e c.args.blocks.now c.set.result c.in-Let.is c.set.ensures
 
 pub statement-returns-in-Assign : goal.statement-returns-in-Assign
-statement-returns-in-Assign t c = assign_all c.set-in-Assign.result c.in-Assign.is c.set-in-Assign.ensures
+statement-returns-in-Assign t c = assign_all (map procedure_of c.args.self.now.procedures.now) c.args.self.now.names.now c.args.statement.now c.in-Assign.name c.in-Assign.e c.args.blocks.now c.set-in-Assign.result c.in-Assign.is c.set-in-Assign.ensures
 
 pub statement-returns-in_ok-value-in-Put : goal.statement-returns-in_ok-value-in-Put
 statement-returns-in_ok-value-in-Put t c = as_declared c.in-Put.is refl

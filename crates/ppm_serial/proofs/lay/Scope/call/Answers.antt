@@ -1,5 +1,6 @@
 -- The procedure is at its place, or there is none and nothing is passed.
 use Rattle.std.proofs.Common.{arith, rules, [], ◌≡◌, ◌∙◌, sym, ap, map, List, ℕ}
+use Rattle.ppm_tree.specs.declared.tree.Proc.{Proc}
 use Rattle.ppm_tree.specs.Tree.{procedure_of}
 use Rattle.ppm_serial.specs.declared.code.Call.{Call}
 use Rattle.ppm_serial.specs.Laying.{place_in}
@@ -15,7 +16,7 @@ returns c has =
           call_found c.args.self.now.procedures.now c.args.self.now.names.now c.args.side.now
           (record { target = c.target.result; callee = c.place_of-callee.result; passed = c.if-callee-self.passed }) w.index-self-callee.result w.in_ok-names.names
           w.as_slice-parameters.result.now w.as_slice.result.now c.new-passed.result.items w.pass.new.all.items at (let l = w.if-callee-self.true in omega (arith, l)) w.index-self-callee.is
-          w.as_slice-parameters.ensures w.in_ok-names.ensures w.as_slice.ensures c.new-passed.ensures.items w.in_ok-pass.ensures (ap (λ v. v.items) w.passed-is) (c.target.ensures has)
+          (w.as_slice-parameters.ensures ∙ ap (λ (p : Proc). p.parameters) (sym w.index-self-callee.is)) w.in_ok-names.ensures w.as_slice.ensures c.new-passed.ensures.items w.in_ok-pass.ensures (ap (λ v. v.items) w.passed-is) (c.target.ensures has)
       | else-callee-self w ↦
           call_missing c.args.self.now.procedures.now c.args.self.now.names.now c.args.side.now
           (record { target = c.target.result; callee = c.place_of-callee.result; passed = c.if-callee-self.passed }) at (let l = w.if-callee-self.false in omega (arith, l))
