@@ -283,3 +283,18 @@ pub call_missing : (ps : List Proc) (n : Slotted) (side : declared_side.Side) (c
 call_missing ps n side c at l none_ t =
     call_is (map procedure_of ps) n (side_of side) c no_procedure (named_nowhere ps side.callee.name (subst (λ (k : ℕ). length ps ≤ k) at l)) t at
     (subst (λ (vs : List Passed). PassesAll n (with_parameters no_names []) [] (side_of side).arguments vs) (sym none_) (NoParameter (side_of side).arguments))
+
+-- no procedure is left, or the first one is laid out and then the others
+pub none_laid : (procedures : List Procedure) (left : List Proc) (old : List (List Step)) (before : List Routine) → length left ≡ 0
+    → LaysMore procedures (map procedure_of left) old old before before
+none_laid procedures [] old before e = lays_no_more procedures old before
+none_laid procedures (p ∷ ps) old before e = absurd (omega (arith, e))
+
+pub first_laid : {E : Type 0} (procedures : List Procedure) (left : List Proc) (p : Proc) (old mid new : List (List Step)) (before between after : List Routine) (r : Routine) → 1 ≤ length left
+    → p ≡ get_or left 0 p → LaysRoutine procedures (procedure_of p) old mid r → between ≡ before ++ r ∷ [] → (o : Result (Unit {0}) E)
+    → OnOk o (LaysMore procedures (map procedure_of (take (length left - 1) (drop 1 left))) mid new between after) → OnOk o (LaysMore procedures (map procedure_of left) old new before after)
+first_laid procedures [] p old mid new before between after r l i one is o h = absurd (omega (arith, l))
+first_laid procedures (q ∷ ps) p old mid new before between after r l i one is (Ok x) h =
+    lays_more procedures (procedure_of q) (map procedure_of ps) old mid new before between after r (subst (λ (p : Proc). LaysRoutine procedures (procedure_of p) old mid r) i one) is
+    (subst (λ (qs : List Proc). LaysMore procedures (map procedure_of qs) mid new between after) (behind_first (q ∷ ps) l) h)
+first_laid procedures (q ∷ ps) p old mid new before between after r l i one is (Err x) h = tt
