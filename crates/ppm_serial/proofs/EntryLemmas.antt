@@ -7,6 +7,7 @@ use Rattle.std.proofs.lemmas.List.{append_assoc}
 use Rattle.ppm_words.specs.declared.named_array.NamedArray.{NamedArray}
 use Rattle.ppm_words.specs.declared.outcome.Outcome.{Outcome}
 use Rattle.ppm_words.specs.declared.outcome.Outcome.TheVariants as outcome
+use Rattle.ppm_words.specs.declared.trap.Trap.{Trap as Kind}
 use Rattle.ppm_tree.specs.declared.tree.Parameter.{Parameter}
 use Rattle.ppm_tree.specs.declared.tree.Array.{Array}
 use Rattle.ppm_tree.specs.declared.tree.ArrayInput.{ArrayInput}
@@ -102,8 +103,12 @@ main_frame_is t procedures c f e laid h = go (slice_get procedures c.main) refl 
 pub ended_is : (t : ProgramTree) (turns : ℕ) (a : Arrays) → EndsWith t turns a → Serial t turns (outcome.Ended (with_names (initial_arrays t) a))
 ended_is t turns a e = Within e.ends.counts (Ended e.value a) e.ends.spends e.ends.within
 
-pub trapped_is : (t : ProgramTree) (turns : ℕ) (kind : _) (line : ℕ) → TrapsSo t turns kind line → Serial t turns (outcome.Trapped kind line)
+trapped_is : (t : ProgramTree) (turns : ℕ) (kind : Kind) (line : ℕ) → TrapsSo t turns kind line → Serial t turns (outcome.Trapped kind line)
 trapped_is t turns kind line e = Within e.ends.counts (Trapped (kind, line) e.arrays) e.ends.spends e.ends.within
+
+pub trapped_so : (t : ProgramTree) (turns : ℕ) {k kind : Kind} {l line : ℕ} → k ≡ kind → l ≡ line → TrapsSo t turns kind line → Serial t turns (outcome.Trapped k l)
+trapped_so t turns {kind = kind} {l = l} {line = line} e f s =
+    subst (λ (k : Kind). Serial t turns (outcome.Trapped k l)) (sym e) (subst (λ (l : ℕ). Serial t turns (outcome.Trapped kind l)) (sym f) (trapped_is t turns kind line s))
 
 pub not_within_is : (t : ProgramTree) (turns : ℕ) → ((k : Counts) (z : End ℤ) → Spends t k z → turns < k.turns) → Serial t turns outcome.NotWithin
 not_within_is t turns h = NotWithin h
