@@ -1,11 +1,8 @@
 -- How a run begins and ends.
-use Rattle.std.proofs.Common.{◌≡◌, ◌<◌, ◌≤◌, ◌+◌, ◌-◌, ℕ, zero, suc, ℤ, pos, Bool, true, false, List, [], ◌∷◌, ◌++◌, Option, Some, None, Result, Ok, Err, refl, sym, ap, subst, arith, ◌∙◌, length, get_or, drop, map, replicate}
-use Rattle.std.specs.Prelude.{if◌then◌else◌, ⊤, codes, slice_get}
-use Rattle.std.specs.Str.{bytes_eq}
-use Rattle.std.proofs.lemmas.Slice.Eq.{bytes_eq-Decides}
+use Rattle.std.proofs.Common.{◌≡◌, ◌<◌, ◌≤◌, ◌-◌, ℕ, zero, suc, ℤ, pos, List, [], ◌∷◌, ◌++◌, Option, Some, None, refl, sym, ap, subst, arith, ◌∙◌, length, get_or, map, replicate}
+use Rattle.std.specs.Prelude.{codes, slice_get}
 use Rattle.std.proofs.lemmas.List.{append_assoc}
 use Rattle.ppm_words.specs.declared.named_array.NamedArray.{NamedArray}
-use Rattle.ppm_words.specs.declared.outcome.Outcome.{Outcome}
 use Rattle.ppm_words.specs.declared.outcome.Outcome.TheVariants as outcome
 use Rattle.ppm_words.specs.declared.trap.Trap.{Trap as Kind}
 use Rattle.ppm_tree.specs.declared.tree.Parameter.{Parameter}
@@ -13,18 +10,16 @@ use Rattle.ppm_tree.specs.declared.tree.Array.{Array}
 use Rattle.ppm_tree.specs.declared.tree.ArrayInput.{ArrayInput}
 use Rattle.ppm_tree.specs.declared.tree.Proc.{Proc}
 use Rattle.ppm_tree.specs.Tree.{ProgramTree, Procedure, procedure_of}
-use Rattle.ppm_tree.specs.State.{Frame, Region, Arrays, nowhere, empty_frame, with_region, procedure_named, no_procedure}
+use Rattle.ppm_tree.specs.State.{Frame, Arrays, empty_frame, with_region, procedure_named, no_procedure}
 use Rattle.ppm_tree.specs.Meaning.{Counts, End, Ended, Trapped}
-use Rattle.ppm_tree.specs.Program.{main_of, main_frame, whole_from, input_of, initial_array, initial_arrays, values_of, with_names, outcome_of, Serial, Within, NotWithin}
+use Rattle.ppm_tree.specs.Program.{main_of, main_frame, whole_from, initial_array, initial_arrays, with_names, Serial, Within, NotWithin}
 use Rattle.ppm_tree.specs.Correct.{Spends}
-use Rattle.ppm_serial.specs.declared.code.Stop.{Stop}
-use Rattle.ppm_serial.specs.declared.run.Run.{Run}
-use Rattle.ppm_serial.specs.Slots.{Slots, fresh, with_region_at}
+use Rattle.ppm_serial.specs.Slots.{Slots, fresh}
 use Rattle.ppm_serial.specs.Names.{Slotted, slot_in, names_of, no_names, frame_of}
 use Rattle.ppm_serial.specs.Code.{Laid, routine_at}
-use Rattle.ppm_serial.specs.Laying.{Fits, IsRegion, IsRoutine, IsLaid, place_in}
-use Rattle.ppm_serial.specs.Running.{Starts, EndsSo, EndsWith, TrapsSo}
-use Rattle.ppm_serial.specs.Entry.{lent_to, IsLentTo, IsMainFrame, IsBegun, named_by}
+use Rattle.ppm_serial.specs.Laying.{Fits, IsRoutine, IsLaid, place_in}
+use Rattle.ppm_serial.specs.Running.{EndsWith, TrapsSo}
+use Rattle.ppm_serial.specs.Entry.{lent_to, IsLentTo, IsMainFrame, named_by}
 use Rattle.ppm_serial.proofs.SlotLemmas.{wrote_region, fits_region, fresh_frame, fresh_fits}
 use Rattle.ppm_serial.proofs.KeepLemmas.{HasParameters, parameters_there, parameters_keep}
 use Rattle.ppm_serial.proofs.ProgramLemmas.{named_at, named_nowhere}
@@ -40,10 +35,11 @@ lent_is : (m : Slotted) (arrays : List Array) (ps : List Parameter) (s : Slots) 
     → (main_frame arrays ps ≡ frame_of m (lent_to m arrays ps s)) × Fits m (lent_to m arrays ps s)
 lent_is m arrays [] s h f e = (e, f)
 lent_is m arrays (p ∷ ps) s h f e =
-    let q = lent_is m arrays ps s h.1 f e in
-    (ap (λ (g : Frame). with_region g p.name.name (whole_from 0 arrays p.name.name)) q.0
-    ∙ wrote_region m (lent_to m arrays ps s) p.name.name (slot_in m.regions p.name.name) (whole_from 0 arrays p.name.name) (record { slot = refl; there = h.0.region }) q.1,
-    fits_region (slot_in m.regions p.name.name) (whole_from 0 arrays p.name.name) q.1)
+    let q = lent_is m arrays ps s h.1 f e in (
+      ap (λ (g : Frame). with_region g p.name.name (whole_from 0 arrays p.name.name)) q.0
+          ∙ wrote_region m (lent_to m arrays ps s) p.name.name (slot_in m.regions p.name.name) (whole_from 0 arrays p.name.name) (record { slot = refl; there = h.0.region }) q.1,
+      fits_region (slot_in m.regions p.name.name) (whole_from 0 arrays p.name.name) q.1,
+    )
 
 -- what stands at a place
 abbrev some_or : {A : Type 0} → A → Option A → A
@@ -73,20 +69,25 @@ main_frame_is t procedures c f e laid h = go (slice_get procedures c.main) refl 
   where
     routine : IsRoutine t.procedures c.blocks (main_of t) (routine_at c c.main)
     routine = subst (λ (k : ℕ). IsRoutine t.procedures c.blocks (main_of t) (routine_at c k)) (sym laid.main) (laid.routine (codes "main"))
+
     fits : Fits (names_of (main_of t)) (fresh (routine_at c c.main).locals (routine_at c c.main).regions)
     fits = subst (λ (j : ℕ). Fits (names_of (main_of t)) (fresh j (routine_at c c.main).regions)) (sym routine.locals)
         (subst (λ (j : ℕ). Fits (names_of (main_of t)) (fresh (length (names_of (main_of t)).locals) j)) (sym routine.regions) (fresh_fits (names_of (main_of t))))
+
     nothing : empty_frame ≡ frame_of (names_of (main_of t)) (fresh (routine_at c c.main).locals (routine_at c c.main).regions)
     nothing = sym (fresh_frame (names_of (main_of t)) (routine_at c c.main).locals (routine_at c c.main).regions)
+
     at : c.main ≡ place_in (map procedure_of procedures) (codes "main")
     at = laid.main ∙ ap (λ (ps : List Procedure). place_in ps (codes "main")) e
+
     all : (p : Procedure) → main_of t ≡ p → f ≡ lent_to (names_of p) t.arrays p.parameters (fresh (routine_at c c.main).locals (routine_at c c.main).regions)
         → (main_frame t.arrays (main_of t).parameters ≡ frame_of (names_of (main_of t)) f) × Fits (names_of (main_of t)) f
     all p i is =
         let j = subst (λ (p : Procedure). f ≡ lent_to (names_of p) t.arrays p.parameters (fresh (routine_at c c.main).locals (routine_at c c.main).regions)) (sym i) is in
         let q = lent_is (names_of (main_of t)) t.arrays (main_of t).parameters (fresh (routine_at c c.main).locals (routine_at c c.main).regions)
-            (parameters_there no_names (names_of (main_of t)) (main_of t).parameters (parameters_keep (main_of t))) fits nothing in
+        (parameters_there no_names (names_of (main_of t)) (main_of t).parameters (parameters_keep (main_of t))) fits nothing in
         (q.0 ∙ ap (frame_of (names_of (main_of t))) (sym j), subst (Fits (names_of (main_of t))) (sym j) q.1)
+
     go : (o : Option Proc) → slice_get procedures c.main ≡ o → IsLentTo t o (fresh (routine_at c c.main).locals (routine_at c c.main).regions) f
         → (main_frame t.arrays (main_of t).parameters ≡ frame_of (names_of (main_of t)) f) × Fits (names_of (main_of t)) f
     go (Some p) is q =

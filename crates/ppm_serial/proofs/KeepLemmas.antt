@@ -1,9 +1,9 @@
 -- Names that are noted keep their slots, and all names that a procedure writes are noted.
-use Rattle.std.proofs.Common.{◌≡◌, ◌<◌, ◌≤◌, ◌+◌, ℕ, zero, suc, Bool, true, false, List, [], ◌∷◌, ◌++◌, Option, Some, None, refl, sym, ap, subst, arith, ◌∙◌, length, nat_lt}
+use Rattle.std.proofs.Common.{◌≡◌, ◌<◌, ℕ, suc, Bool, true, false, List, [], ◌∷◌, ◌++◌, Option, Some, None, refl, sym, ap, subst, arith, ◌∙◌, length, nat_lt}
 use Rattle.std.specs.Prelude.{if◌then◌else◌, ⊤}
 use Rattle.std.specs.Str.{bytes_eq}
 use Rattle.std.proofs.lemmas.Slice.Eq.{bytes_eq-Decides}
-use Rattle.std.proofs.lemmas.Bool.{ltb-true, ltb-false}
+use Rattle.std.proofs.lemmas.Bool.{ltb-true}
 use Rattle.ppm_tree.specs.declared.mode.Mode.TheVariants as mode
 use Rattle.ppm_tree.specs.declared.named.Named.{Named}
 use Rattle.ppm_tree.specs.declared.tree.Parameter.{Parameter}
@@ -117,13 +117,17 @@ mutual
   statement_there n m (tree.Fork s t) k =
       (target_there n m s.target (then_kept (target_keeps (with_target n s.target) t.target) k), target_there (with_target n s.target) m t.target k)
   statement_there n m (Split line r e x y p) k =
-      let q = then_kept (block_keeps (with_region_name (with_region_name n x.name) y.name) p) k in
-      ((then_kept (region_keeps (with_region_name n x.name) y.name) q).regions.there x.name (noted_there n.regions x.name),
-      q.regions.there y.name (noted_there (with_region_name n x.name).regions y.name), block_there (with_region_name (with_region_name n x.name) y.name) m p k)
+      let q = then_kept (block_keeps (with_region_name (with_region_name n x.name) y.name) p) k in (
+        (then_kept (region_keeps (with_region_name n x.name) y.name) q).regions.there x.name (noted_there n.regions x.name),
+        q.regions.there y.name (noted_there (with_region_name n x.name).regions y.name),
+        block_there (with_region_name (with_region_name n x.name) y.name) m p k,
+      )
   statement_there n m (tree.Each i x r p) k =
-      let q = then_kept (block_keeps (with_region_name (with_local_name n i.name) x.name) p) k in
-      ((then_kept (region_keeps (with_local_name n i.name) x.name) q).locals.there i.name (noted_there n.locals i.name),
-      q.regions.there x.name (noted_there n.regions x.name), block_there (with_region_name (with_local_name n i.name) x.name) m p k)
+      let q = then_kept (block_keeps (with_region_name (with_local_name n i.name) x.name) p) k in (
+        (then_kept (region_keeps (with_local_name n i.name) x.name) q).locals.there i.name (noted_there n.locals i.name),
+        q.regions.there x.name (noted_there n.regions x.name),
+        block_there (with_region_name (with_local_name n i.name) x.name) m p k,
+      )
 
   block_there : (n m : Slotted) (b : Block) → KeepsBoth (with_block n b) m → HasNames m b
   block_there n m Nil k = tt

@@ -1,7 +1,5 @@
 -- What is laid out stands for what it was made from.
-use Rattle.std.proofs.Common.{◌≡◌, ◌<◌, ◌≤◌, ◌+◌, ℕ, zero, suc, ℤ, pos, Bool, true, false, List, [], ◌∷◌, ◌++◌, Option, Some, None, Result, Ok, Err, refl, sym, ap, subst, arith, ◌∙◌, length, get_or, drop, map}
-use Rattle.std.specs.Prelude.{if◌then◌else◌, ⊤, codes}
-use Rattle.std.specs.Str.{bytes_eq}
+use Rattle.std.proofs.Common.{◌≡◌, ◌<◌, ℕ, ℤ, List, [], ◌∷◌, Option, Some, None, Result, Ok, Err, refl, sym, ap, subst, ◌∙◌, length, get_or}
 use Rattle.ppm_words.specs.declared.trap.Trap.{Trap}
 use Rattle.ppm_tree.specs.declared.operator.Operator.{Operator}
 use Rattle.ppm_tree.specs.declared.mode.Mode.{Mode}
@@ -14,25 +12,17 @@ use Rattle.ppm_tree.specs.Values.{applied, decided, negated}
 use Rattle.ppm_tree.specs.State.{TrapAt, then_with, Frame, Arrays, nowhere, Region, index_in, word_at, unless_decided, evaluate, lent, with_argument, with_arguments, with_local, with_region, procedure_named, no_procedure}
 use Rattle.ppm_tree.specs.State as state
 use Rattle.ppm_serial.specs.declared.code.Stop.{Stop}
-use Rattle.ppm_serial.specs.declared.code.Stop.TheVariants as stop
 use Rattle.ppm_serial.specs.declared.code.Value.{Value}
 use Rattle.ppm_serial.specs.declared.code.Passed.{Passed}
 use Rattle.ppm_serial.specs.declared.code.Passed.TheVariants as passed
-use Rattle.ppm_serial.specs.declared.code.Call.{Call}
-use Rattle.ppm_serial.specs.declared.code.Step.{Step}
-use Rattle.ppm_serial.specs.declared.code.Step.TheVariants as step
-use Rattle.ppm_serial.specs.declared.code.Parts.{Parts}
-use Rattle.ppm_serial.specs.declared.code.Routine.{Routine}
 use Rattle.ppm_serial.specs.Slots.{Slots, with_local_at, with_region_at}
 use Rattle.ppm_serial.specs.Worth.{worth, stopped, at_line, unless}
-use Rattle.ppm_serial.specs.Names.{Slotted, slot_in, names_of, no_names, with_parameters, frame_of}
-use Rattle.ppm_serial.specs.Code.{Laid, no_routine, routine_at}
+use Rattle.ppm_serial.specs.Names.{Slotted, slot_in, frame_of}
 use Rattle.ppm_serial.specs.Machine.{passing}
-use Rattle.ppm_serial.specs.Laying.{Fits, IsWorth, IsLocal, IsRegion, IsTarget, as_frame, FitsIfAny, Passes, place_in, IsCall, Stands, Lies, LiesNil, LiesThen, IsGive, IsRoutine, IsLaid}
-use Rattle.ppm_serial.specs.Laying.{HasTarget, HasWritten, HasNames, Grows, IsLent, is_number, Lends, Sets, PassesOne, PassesAll, NoParameter, NoArgument, OneMore, PassesMore}
-use Rattle.ppm_serial.specs.Laying.{LaysStep, LaysBlock, LaysSome, LaysRoutine, ArePlaced, LaysMore}
+use Rattle.ppm_serial.specs.Laying.{Fits, IsWorth, IsLocal, IsRegion, as_frame, FitsIfAny, Passes}
+use Rattle.ppm_serial.specs.Laying.{is_number, PassesOne, PassesAll, NoParameter, NoArgument, OneMore}
 use Rattle.ppm_serial.proofs.SlotLemmas.{wrote_local, wrote_region, fits_local, fits_region}
-use Rattle.ppm_serial.proofs.KeepLemmas.{body_there, parameters_keep, HasParameter, HasParameters, parameters_there, KeepsBoth}
+use Rattle.ppm_serial.proofs.KeepLemmas.{HasParameter, HasParameters}
 
 -- a trap stops what goes on with a value
 stopped_then : {A B : Type 0} (r : Result A TrapAt) (go : A → Result B TrapAt) → then_with (stopped r) (λ x. stopped (go x)) ≡ stopped (then_with r go)
@@ -135,6 +125,7 @@ passes_one n m p e (passed.Number k v) h (is, at, w) s a g f = by_mode p.mode re
   where
     slot : IsLocal m p.name.name k
     slot = record { slot = at; there = subst (λ (j : ℕ). j < length m.locals) (sym at) (h.local is) }
+
     by_mode : (t : Mode) → p.mode ≡ t → PassesIt n m p e (passed.Number k v) s a g
     by_mode mode.Int q = record {
       value = subst (λ (t : Mode). as_frame m (passing s a (passed.Number k v ∷ []) g) ≡ stopped (with_argument (frame_of n s) a t p.name.name e (frame_of m g))) (sym q)
@@ -147,8 +138,10 @@ passes_one n m p e (passed.Region k j) h (is, q_) s a g f = by_mode p.mode refl
   where
     slot : IsRegion m p.name.name k
     slot = record { slot = q_.0; there = subst (λ (j : ℕ). j < length m.regions) (sym q_.0) h.region }
+
     same_ : frame_of m (with_region_at g k (get_or s.regions j nowhere)) ≡ with_region (frame_of m g) p.name.name (lent (frame_of n s) e)
     same_ = sym (wrote_region m g p.name.name k (get_or s.regions j nowhere) slot f) ∙ ap (with_region (frame_of m g) p.name.name) (sym (q_.1 s))
+
     by_mode : (t : Mode) → p.mode ≡ t → PassesIt n m p e (passed.Region k j) s a g
     by_mode mode.Int q = absurd (let i = sym is ∙ ap is_number q in cc)
     by_mode mode.Mut q = record {
@@ -163,8 +156,10 @@ passes_one n m p e (passed.Nowhere k) h (is, q_) s a g f = by_mode p.mode refl
   where
     slot : IsRegion m p.name.name k
     slot = record { slot = q_.0; there = subst (λ (j : ℕ). j < length m.regions) (sym q_.0) h.region }
+
     same_ : frame_of m (with_region_at g k nowhere) ≡ with_region (frame_of m g) p.name.name (lent (frame_of n s) e)
     same_ = sym (wrote_region m g p.name.name k nowhere slot f) ∙ ap (with_region (frame_of m g) p.name.name) (sym (q_.1 (frame_of n s)))
+
     by_mode : (t : Mode) → p.mode ≡ t → PassesIt n m p e (passed.Nowhere k) s a g
     by_mode mode.Int q = absurd (let i = sym is ∙ ap is_number q in cc)
     by_mode mode.Mut q = record {
@@ -194,7 +189,7 @@ passes_all n m _ _ _ h (NoArgument p ps) s a g f = record { value = refl; fits =
 passes_all n m _ _ _ h (OneMore p ps e es v vs one rest) s a g f =
     let i = passes_one n m p e.value v h.0 one s a g f in
     let r = passed_on n m ps es vs s a (passing s a (v ∷ []) g) (with_argument (frame_of n s) a p.mode p.name.name e.value (frame_of m g)) i.value i.fits
-        (λ g f. passes_all n m ps es vs h.1 rest s a g f) in
+    (λ g f. passes_all n m ps es vs h.1 rest s a g f) in
     record {
       value = ap (as_frame m) (passing_first s a v vs g) ∙ r.0;
       fits = subst (FitsIfAny m) (sym (passing_first s a v vs g)) r.1;

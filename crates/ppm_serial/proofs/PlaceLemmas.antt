@@ -1,5 +1,5 @@
 -- The place of a procedure, found by looking at one after another.
-use Rattle.std.proofs.Common.{◌≡◌, ◌<◌, ◌≤◌, ◌+◌, ℕ, zero, suc, Bool, true, false, List, [], ◌∷◌, refl, sym, ap, subst, arith, ◌∙◌, length, drop, get_or, map}
+use Rattle.std.proofs.Common.{◌≡◌, ◌<◌, ◌+◌, ℕ, zero, suc, Bool, true, false, List, [], ◌∷◌, sym, ap, subst, arith, ◌∙◌, length, drop, get_or, map}
 use Rattle.std.specs.Prelude.{if◌then◌else◌}
 use Rattle.std.specs.Str.{bytes_eq}
 use Rattle.ppm_tree.specs.declared.tree.Proc.{Proc}

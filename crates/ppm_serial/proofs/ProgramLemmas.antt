@@ -1,9 +1,8 @@
 -- Calls, statements, blocks and procedures that are laid out.
-use Rattle.std.proofs.Common.{◌≡◌, ◌<◌, ◌≤◌, ◌+◌, ℕ, zero, suc, ℤ, pos, Bool, true, false, List, [], ◌∷◌, ◌++◌, Option, Some, None, Result, Ok, Err, refl, sym, ap, subst, arith, ◌∙◌, length, get_or, drop, take, map, ◌-◌}
-use Rattle.std.specs.Prelude.{if◌then◌else◌, ⊤, codes, OnOk}
+use Rattle.std.proofs.Common.{◌≡◌, ◌<◌, ◌≤◌, ℕ, zero, suc, Bool, true, false, List, [], ◌∷◌, ◌++◌, Result, Ok, Err, refl, sym, ap, subst, arith, ◌∙◌, length, get_or, drop, take, map, ◌-◌}
+use Rattle.std.specs.Prelude.{if◌then◌else◌, codes, OnOk}
 use Rattle.std.specs.Str.{bytes_eq}
 use Rattle.std.proofs.lemmas.List.{append_assoc, append-nil}
-use Rattle.ppm_tree.specs.declared.mode.Mode.TheVariants as mode
 use Rattle.ppm_tree.specs.declared.named.Named.{Named}
 use Rattle.ppm_tree.specs.declared.tree.Parameter.{Parameter}
 use Rattle.ppm_tree.specs.declared.tree.Proc.{Proc}
@@ -22,13 +21,13 @@ use Rattle.ppm_serial.specs.declared.code.Step.TheVariants as step
 use Rattle.ppm_serial.specs.declared.code.Parts.{Parts}
 use Rattle.ppm_serial.specs.declared.code.Routine.{Routine}
 use Rattle.ppm_serial.specs.Names.{Slotted, slot_in, names_of, no_names, with_parameters}
-use Rattle.ppm_serial.specs.Code.{Laid, no_routine, routine_at}
-use Rattle.ppm_serial.specs.Laying.{IsWorth, IsLocal, IsRegion, IsTarget, place_in, IsCall, Stands, Lies, LiesNil, LiesThen, IsGive, IsRoutine, IsLaid}
+use Rattle.ppm_serial.specs.Code.{no_routine}
+use Rattle.ppm_serial.specs.Laying.{IsWorth, IsTarget, place_in, IsCall, Stands, Lies, LiesNil, LiesThen, IsGive, IsRoutine, IsLaid}
 use Rattle.ppm_serial.specs.Laying.{StandsLet, StandsAssign, StandsPut, StandsIf, StandsWhile, StandsCall, StandsFork, StandsSplit, StandsEach}
-use Rattle.ppm_serial.specs.Laying.{HasTarget, HasWritten, HasNames, Grows, is_number, Lends, Sets, PassesOne, PassesAll, NoParameter, NoArgument, OneMore}
+use Rattle.ppm_serial.specs.Laying.{HasTarget, HasWritten, Grows, Sets, PassesOne, PassesAll, NoParameter, NoArgument, OneMore}
 use Rattle.ppm_serial.specs.Laying.{arguments_of}
 use Rattle.ppm_serial.specs.Laying.{LaysStep, LaysBlock, LaysSome, LaysRoutine, ArePlaced, LaysMore, PassesMore}
-use Rattle.ppm_serial.proofs.KeepLemmas.{body_there, parameters_keep, HasParameter, HasParameters, parameters_there, KeepsBoth, kept}
+use Rattle.ppm_serial.proofs.KeepLemmas.{body_there, parameters_keep, HasParameters, parameters_there, KeepsBoth, kept}
 use Rattle.ppm_serial.proofs.LayLemmas.{passes_all}
 
 grows_same : {a : List (List Step)} → Grows a a

@@ -1,26 +1,23 @@
 -- A whole run: from its start, by its steps, to its answer.
-use Rattle.std.proofs.Common.{◌≡◌, ◌<◌, ◌≤◌, ◌+◌, ◌-◌, ◌*◌, ℕ, zero, suc, ℤ, pos, Bool, true, false, List, [], ◌∷◌, Option, Some, None, Result, Ok, Err, refl, sym, ap, subst, arith, ◌∙◌, nat_lt, length}
-use Rattle.std.specs.Prelude.{if◌then◌else◌, codes, ⊤}
-use Rattle.std.proofs.lemmas.Bool.{ltb-true, ltb-false}
-use Rattle.ppm_tree.specs.Tree.{Procedure, ProgramTree}
-use Rattle.ppm_tree.specs.State.{TrapAt, Frame, Arrays, then_with, nowhere}
-use Rattle.ppm_tree.specs.Values.{holds}
-use Rattle.ppm_tree.specs.Meaning.{Plain, Counts, End, Ended, Trapped, Enters}
+use Rattle.std.proofs.Common.{◌≡◌, ◌+◌, ◌-◌, ℕ, ℤ, true, false, [], Result, Ok, Err, refl, sym, subst, arith}
+use Rattle.std.specs.Prelude.{codes}
+use Rattle.ppm_tree.specs.Tree.{ProgramTree}
+use Rattle.ppm_tree.specs.State.{Frame, Arrays}
+use Rattle.ppm_tree.specs.Meaning.{Plain, End, Ended, Trapped, Enters}
 use Rattle.ppm_tree.specs.Program.{main_of, main_frame, initial_arrays, values_of}
 use Rattle.ppm_tree.specs.Correct.{Spends}
 use Rattle.ppm_serial.specs.declared.code.Stop.{Stop}
 use Rattle.ppm_serial.specs.declared.code.Stop.TheVariants as stop
 use Rattle.ppm_serial.specs.declared.run.Run.{Run}
-use Rattle.ppm_serial.specs.Names.{names_of, frame_of}
+use Rattle.ppm_serial.specs.Names.{names_of}
 use Rattle.ppm_serial.specs.Code.{Laid, routine_at}
-use Rattle.ppm_serial.specs.Machine.{beginning, stepping, spending, with_left, with_place, first_of}
-use Rattle.ppm_serial.specs.Laying.{Fits, IsLaid, IsRoutine}
+use Rattle.ppm_serial.specs.Machine.{beginning, stepping, with_left, with_place, first_of}
+use Rattle.ppm_serial.specs.Laying.{IsLaid, IsRoutine}
 use Rattle.ppm_serial.specs.Answers.{Does}
-use Rattle.ppm_serial.specs.ToCome.{Two, Trap, Later, Gave, After, Block_, Shifts, gave}
-use Rattle.ppm_serial.specs.Simulation.{Point, AtBlock, AtEnd, Way, main_named, Shows, InBlock, InLoop, Over, Goes, Traps, Moves, Stacks, Empty}
-use Rattle.ppm_serial.specs.Running.{Starts, Whole, Serves, EndsSo, EndsWith, TrapsSo, Answers}
+use Rattle.ppm_serial.specs.ToCome.{Two, Gave, After, Block_, Shifts}
+use Rattle.ppm_serial.specs.Simulation.{Point, AtBlock, AtEnd, Way, Shows, InBlock, InLoop, Over, Moves, Stacks, Empty}
+use Rattle.ppm_serial.specs.Running.{Starts, Whole, Serves, EndsWith, Answers}
 use Rattle.ppm_serial.proofs.ToComeLemmas.{same, chain, enter_on, enter_back}
-use Rattle.ppm_serial.proofs.SimulationLemmas.{moves_spent}
 use Rattle.ppm_serial.proofs.StepLemmas.{moves, ends_later, moves_entry}
 
 -- a stop, as a result
@@ -49,10 +46,10 @@ module _ (t : ProgramTree) (c : Laid) (laid : IsLaid t.procedures c) where
     on = λ n z v.
         let w = enter_on t.procedures (main_of t).give (λ y. Way t.procedures (AtEnd y)) (λ s c n z q. q) v.rest z v.first v.second v.sum in
         let u = w.next in record {
-      rest = w.rest;
-      sum = w.sum;
-      next = record { counts = u.counts; middle = u.middle; rest = u.rest; first = u.first; second = after_on f u.rest z u.middle u.second; sum = u.sum };
-    };
+          rest = w.rest;
+          sum = w.sum;
+          next = record { counts = u.counts; middle = u.middle; rest = u.rest; first = u.first; second = after_on f u.rest z u.middle u.second; sum = u.sum };
+        };
     back = λ n z w. let u = w.next in
         enter_back t.procedures (main_of t).give (main_of t) f a (λ y. Way t.procedures (AtEnd y)) (λ s c n z q. q) n u.rest w.rest z u.middle u.first
         (after_back f u.rest z u.middle u.second) u.sum w.sum;
@@ -81,7 +78,7 @@ module _ (t : ProgramTree) (c : Laid) (laid : IsLaid t.procedures c) where
   begin_moves s h =
       let u = with_place s (first_of (routine_at c c.main).body) in
       let routine : IsRoutine t.procedures c.blocks (main_of t) (routine_at c c.main) =
-          subst (λ (k : ℕ). IsRoutine t.procedures c.blocks (main_of t) (routine_at c k)) (sym laid.main) (laid.routine (codes "main")) in
+      subst (λ (k : ℕ). IsRoutine t.procedures c.blocks (main_of t) (routine_at c k)) (sym laid.main) (laid.routine (codes "main")) in
       moves_entry t.procedures c laid u (Whole t) (Block_ t.procedures (main_of t).give (main_of t).body (main_frame t.arrays (main_of t).parameters) s.store [])
       (subst (λ (a : Arrays). Shifts 1 (Whole t) (Block_ t.procedures (main_of t).give (main_of t).body (main_frame t.arrays (main_of t).parameters) a [])) (sym h.store)
       (whole_step (main_frame t.arrays (main_of t).parameters) (values_of (initial_arrays t))))

@@ -1,6 +1,6 @@
 -- What a step spends and leaves, by the ways to go on.
-use Rattle.std.proofs.Common.{◌≡◌, ◌<◌, ◌≤◌, ◌+◌, ◌-◌, ℕ, zero, suc, ℤ, pos, Bool, true, false, List, [], ◌∷◌, Option, Some, None, Result, Ok, Err, refl, sym, ap, subst, arith, ◌∙◌, nat_lt}
-use Rattle.std.specs.Prelude.{if◌then◌else◌, slice_get, drop}
+use Rattle.std.proofs.Common.{◌≡◌, ◌≤◌, ◌+◌, ◌-◌, ℕ, ℤ, Bool, true, false, List, Result, Ok, Err, refl, arith, nat_lt}
+use Rattle.std.specs.Prelude.{if◌then◌else◌}
 use Rattle.std.proofs.lemmas.Bool.{ltb-true, ltb-false}
 use Rattle.ppm_tree.specs.Tree.{Procedure}
 use Rattle.ppm_tree.specs.State.{TrapAt, then_with, Arrays}
@@ -11,8 +11,8 @@ use Rattle.ppm_serial.specs.declared.run.Run.{Run}
 use Rattle.ppm_serial.specs.Code.{Laid}
 use Rattle.ppm_serial.specs.Worth.{stopped}
 use Rattle.ppm_serial.specs.Machine.{spending, with_left}
-use Rattle.ppm_serial.specs.ToCome.{Trap, Opens, Later, Shifts}
-use Rattle.ppm_serial.specs.Simulation.{Point, Way, Goes, Traps, Moves, Shows}
+use Rattle.ppm_serial.specs.ToCome.{Opens, Shifts}
+use Rattle.ppm_serial.specs.Simulation.{Moves}
 use Rattle.ppm_serial.proofs.ToComeLemmas.{same, chain}
 
 module _ (procedures : List Procedure) (c : Laid) where

@@ -1,10 +1,10 @@
 -- Slots and names: a frame of slots after a write is the frame of names after it.
-use Rattle.std.proofs.Common.{◌≡◌, ◌<◌, ◌≤◌, ◌+◌, ℕ, zero, suc, ℤ, pos, Bool, true, false, List, [], ◌∷◌, Option, Some, None, refl, sym, ap, subst, arith, ◌∙◌, length, set, get_or, drop, replicate}
+use Rattle.std.proofs.Common.{◌≡◌, ◌<◌, ℕ, zero, suc, ℤ, pos, Bool, true, false, List, [], ◌∷◌, Some, None, refl, sym, ap, subst, arith, ◌∙◌, length, set, get_or, drop, replicate}
 use Rattle.std.specs.Prelude.{slice_get, if◌then◌else◌}
 use Rattle.std.specs.Str.{bytes_eq}
 use Rattle.std.proofs.lemmas.Slice.Eq.{bytes_eq-Decides}
 use Rattle.std.proofs.lemmas.List.{get_or-set_other, get_or-set_same, length-set}
-use Rattle.ppm_tree.specs.State.{Region, nowhere, Frame, empty_frame, with_local, with_region, with_name}
+use Rattle.ppm_tree.specs.State.{Region, nowhere, empty_frame, with_local, with_region, with_name}
 use Rattle.ppm_serial.specs.Slots.{Slots, fresh, with_local_at, with_region_at}
 use Rattle.ppm_serial.specs.Names.{Slotted, slot_in, frame_of}
 use Rattle.ppm_serial.specs.Laying.{Fits, IsLocal, IsRegion}

@@ -1,14 +1,14 @@
 -- Each step of a run over slots does what is still to come.
-use Rattle.std.proofs.Common.{◌≡◌, ◌<◌, ◌≤◌, ◌+◌, ◌-◌, ℕ, zero, suc, ℤ, pos, Bool, true, false, List, [], ◌∷◌, Option, Some, None, Result, Ok, Err, refl, sym, ap, subst, arith, ◌∙◌, nat_lt, length, drop, get_or}
-use Rattle.std.specs.Prelude.{if◌then◌else◌, slice_get, codes}
+use Rattle.std.proofs.Common.{◌≡◌, ◌≤◌, ◌+◌, ◌-◌, ℕ, zero, suc, ℤ, pos, Bool, true, false, List, [], ◌∷◌, Option, Some, None, Result, Ok, Err, refl, sym, ap, subst, arith, ◌∙◌, nat_lt, length, drop, get_or}
+use Rattle.std.specs.Prelude.{if◌then◌else◌, codes}
 use Rattle.std.proofs.lemmas.Bool.{ltb-true, ltb-false}
 use Rattle.ppm_tree.specs.declared.named.Named.{Named}
 use Rattle.ppm_tree.specs.Tree.{Expression, Side, Statement, Block, Nil, Then, Let, Assign, Put, If, While, Split, Give, Procedure}
 use Rattle.ppm_tree.specs.Tree as tree
 use Rattle.ppm_tree.specs.Values.{holds}
-use Rattle.ppm_tree.specs.State.{TrapAt, then_with, Region, Regions, Locals, Frame, Arrays, nowhere, with_local, with_region, with_word, with_name, index_in, split_at, first_part, second_part, part_at}
-use Rattle.ppm_tree.specs.State.{evaluate, put_values, procedure_named, entered, both_entered, delivered, empty_frame, with_arguments}
-use Rattle.ppm_tree.specs.Meaning.{Plain, Counts, End, Ended, Trapped, end_of, assigned, stored, chosen, returned, joined, with_parts, with_element, Enters}
+use Rattle.ppm_tree.specs.State.{TrapAt, then_with, Region, Regions, Frame, Arrays, nowhere, with_local, with_region, with_word, index_in, split_at, first_part, second_part, part_at}
+use Rattle.ppm_tree.specs.State.{evaluate, put_values, procedure_named, entered, both_entered, delivered, with_arguments}
+use Rattle.ppm_tree.specs.Meaning.{Plain, End, Ended, Trapped, end_of, assigned, stored, chosen, returned, joined, with_parts, with_element, Enters}
 use Rattle.ppm_serial.specs.declared.code.Stop.{Stop}
 use Rattle.ppm_serial.specs.declared.code.Stop.TheVariants as stop
 use Rattle.ppm_serial.specs.declared.code.Value.{Value}
@@ -19,21 +19,20 @@ use Rattle.ppm_serial.specs.declared.code.Step.TheVariants as step
 use Rattle.ppm_serial.specs.declared.stack.Rest.{Rest}
 use Rattle.ppm_serial.specs.declared.stack.Rest.TheVariants as rest
 use Rattle.ppm_serial.specs.declared.stack.Sweep.{Sweep}
-use Rattle.ppm_serial.specs.declared.stack.Caller.{Caller}
 use Rattle.ppm_serial.specs.declared.run.Run.{Run}
 use Rattle.ppm_serial.specs.Slots.{Slots, fresh, with_local_at, with_region_at, with_regions}
 use Rattle.ppm_serial.specs.Worth.{worth, stopped}
 use Rattle.ppm_serial.specs.Names.{Slotted, slot_in, names_of, frame_of}
-use Rattle.ppm_serial.specs.Code.{Laid, block_at, step_at, routine_at}
-use Rattle.ppm_serial.specs.Machine.{spending, with_left, with_frame, with_store, with_stack, with_place, with_end, first_of, behind, inside, called, beginning, entering, waiting, delivering}
+use Rattle.ppm_serial.specs.Code.{Laid, block_at, routine_at}
+use Rattle.ppm_serial.specs.Machine.{spending, with_left, with_frame, with_store, with_stack, with_place, with_end, first_of, behind, inside, called, entering, waiting, delivering}
 use Rattle.ppm_serial.specs.Machine.{sweeping, swept_once, element_frame, setting, putting, choosing, testing, calling, forking, parting, splitting, sweep_begins, doing, spending_some, worth_some}
-use Rattle.ppm_serial.specs.Machine.{returning, crossing, joining, ending, leaving, stepping, stepping_at}
-use Rattle.ppm_serial.specs.Laying.{Fits, IsWorth, IsLocal, IsRegion, IsTarget, IsGive, as_frame, FitsIfAny, IsCall, Stands, Lies, LiesNil, LiesThen, IsRoutine, IsLaid, place_in}
+use Rattle.ppm_serial.specs.Machine.{ending, leaving, stepping, stepping_at}
+use Rattle.ppm_serial.specs.Laying.{Fits, IsWorth, IsLocal, IsRegion, IsTarget, IsGive, as_frame, FitsIfAny, IsCall, Stands, Lies, LiesNil, LiesThen, IsRoutine, IsLaid}
 use Rattle.ppm_serial.specs.Laying.{StandsLet, StandsAssign, StandsPut, StandsIf, StandsWhile, StandsCall, StandsFork, StandsSplit, StandsEach}
 use Rattle.ppm_serial.specs.ToCome.{Item, Behind, Tests, Leaves, Sweeping, Returns, Crosses, Joins, Two, Trap, Opens, of, gave, Later, given_turns, Crossed, After, Block_, Loop_, Sweep_, Shifts}
-use Rattle.ppm_serial.specs.Simulation.{Point, AtBlock, AtLoop, AtEnd, main_named, Way, Stands_at, IsTest, Waits, Sweeps_, Stacks, Empty, OnBlock, OnTest, OnParts, OnSweep, OnCall, OnLeft, OnRight}
-use Rattle.ppm_serial.specs.Simulation.{Shows, InBlock, InLoop, Over, Goes, Traps, Moves}
-use Rattle.ppm_serial.proofs.ToComeLemmas.{same, chain, nil_step, let_step, assign_step, put_step, if_step, split_step, while_step, Tested, loop_step, each_step, swept_step, sweep_step}
+use Rattle.ppm_serial.specs.Simulation.{Point, AtBlock, AtLoop, AtEnd, main_named, Way, Stands_at, IsTest, Sweeps_, Stacks, Empty, OnBlock, OnTest, OnParts, OnSweep, OnCall, OnLeft, OnRight}
+use Rattle.ppm_serial.specs.Simulation.{Shows, InBlock, InLoop, Over, Moves}
+use Rattle.ppm_serial.proofs.ToComeLemmas.{same, nil_step, let_step, assign_step, put_step, if_step, split_step, while_step, Tested, loop_step, each_step, swept_step, sweep_step}
 use Rattle.ppm_serial.proofs.ToComeLemmas.{called_step, left_step, right_step, call_step, Branches, fork_step}
 use Rattle.ppm_serial.proofs.SlotLemmas.{wrote_local, wrote_region, fits_local, fits_region, fresh_frame, fresh_fits, none_at, some_at, next_at}
 use Rattle.ppm_serial.proofs.SimulationLemmas.{moves_behind, moves_spent, moves_opened}
@@ -210,6 +209,7 @@ module _ (procedures : List Procedure) (c : Laid) (laid : IsLaid procedures c) w
     where
       Way_ : ℕ → ℕ → End ℤ → Type 0
       Way_ m = Block_ procedures (main_named procedures).give p (with_parts f (f.regions t.name) m x y) u.store (Leaves f.regions ∷ Behind b ∷ items)
+
       made : (m : ℕ) → with_parts f (f.regions t.name) m x y ≡ frame_of n (parting k m q u).frame
       made m =
           ap (λ (f : Frame). with_parts f (f.regions t.name) m x y) r.frame
@@ -218,12 +218,14 @@ module _ (procedures : List Procedure) (c : Laid) (laid : IsLaid procedures c) w
           (wrote_region n u.frame x.name q.first (first_part m (get_or u.frame.regions k nowhere)) first r.fits)
           ∙ wrote_region n (with_region_at u.frame q.first (first_part m (get_or u.frame.regions k nowhere))) y.name q.second (second_part m (get_or u.frame.regions k nowhere)) second
           (fits_region q.first (first_part m (get_or u.frame.regions k nowhere)) r.fits)
+
       go2 : (o : Result ℕ TrapAt) → Moves procedures c u.left (Opens o u.store Way_) (then_with (stopped o) (λ n. Ok (parting k n q u)))
       go2 (Ok m) = on_to u (parting k m q u) (AtBlock p (with_parts f (f.regions t.name) m x y) u.store (Leaves f.regions ∷ Behind b ∷ items)) refl
           (InBlock n p (with_parts f (f.regions t.name) m x y) (parting k m q u) (Leaves f.regions ∷ Behind b ∷ items) r.running (made m)
           (fits_region q.second (second_part m (get_or u.frame.regions k nowhere)) (fits_region q.first (first_part m (get_or u.frame.regions k nowhere)) r.fits)) l
           (OnParts n b f.regions u.frame.regions u.place u.stack items (ap (λ (f : Frame). f.regions) r.frame) r.fits.regions r.place r.stack)) same
       go2 (Err s) = stop_at {t = s} u.store same
+
       go : (o : Result ℤ TrapAt) → Moves procedures c u.left (Opens (then_with o (split_at line (f.regions t.name))) u.store Way_)
           (then_with (stopped o) (λ m. then_with (stopped (split_at line (f.regions t.name) m)) (λ n. Ok (parting k n q u))))
       go (Ok m) = go2 (split_at line (f.regions t.name) m)
@@ -253,6 +255,7 @@ module _ (procedures : List Procedure) (c : Laid) (laid : IsLaid procedures c) w
           ∙ ap (λ (k : ℕ). with_element (frame_of n w.frame) w.region k i x) (sym v.next)
           ∙ ap (λ (f : Frame). with_region f x.name (part_at w.next w.region)) (wrote_local n w.frame i.name w.index (pos w.next) v.index v.fits)
           ∙ wrote_region n (with_local_at w.frame w.index (pos w.next)) x.name w.part (part_at w.next w.region) v.part (fits_local w.index (pos w.next) v.fits)
+
       later_blocks : Sweeps_ procedures c n i x p reg f (suc from) d b (swept_once w)
       later_blocks = record {
         frame = v.frame;
@@ -265,6 +268,7 @@ module _ (procedures : List Procedure) (c : Laid) (laid : IsLaid procedures c) w
         block = v.block;
         place = v.place;
       }
+
       go : (t : Bool) → nat_lt w.next w.region.length ≡ t
           → Moves procedures c u.left (Sweep_ procedures (main_named procedures).give i x p reg f from (suc d) u.store (Behind b ∷ items))
           (if t then then_with (spending 8 u) (λ t. Ok (with_place (with_frame (with_stack t (rest.Sweep (swept_once w) ∷ t.stack)) (element_frame w)) (first_of w.block)))
@@ -404,6 +408,7 @@ module _ (procedures : List Procedure) (c : Laid) (laid : IsLaid procedures c) w
     where
       Way_ : Frame × Frame → ℕ → End ℤ → Type 0
       Way_ = Branches procedures (main_named procedures).give s t b f u.store items
+
       both : (g : Frame) (v : Slots) → g ≡ frame_of (names_of (proc_ s.callee)) v → Fits (names_of (proc_ s.callee)) v
           → (h : Frame) (w : Slots) → h ≡ frame_of (names_of (proc_ t.callee)) w → Fits (names_of (proc_ t.callee)) w
           → Moves procedures c (u.left - 0) (Way_ (g, h)) (entering c d.callee v (rest.Left (waiting u d.target d.callee) e.target e.callee w) u)
@@ -458,9 +463,9 @@ module _ (procedures : List Procedure) (c : Laid) (laid : IsLaid procedures c) w
       → Shifts 0 (After procedures (main_named procedures).give [] f.regions (Ended f.locals a)) (Later (given_turns g) (Way procedures (AtEnd (gave g f.regions f.locals a))))
   ends_later g f a e = subst (λ (g : Option Give). Shifts 0 (After procedures (main_named procedures).give [] f.regions (Ended f.locals a))
       (Later (given_turns g) (Way procedures (AtEnd (gave g f.regions f.locals a))))) (sym e) (record {
-    on = λ n z q. record { rest = n; sum = omega arith; next = record { rest = 0; sum = (let i = q.0 in omega (arith, i)); next = (refl, q.1) } };
-    back = λ n z w. let v = w.next in ((let i = w.sum in let j = v.sum in let k = v.next.0 in omega (arith, i, j, k)), v.next.1);
-  })
+        on = λ n z q. record { rest = n; sum = omega arith; next = record { rest = 0; sum = (let i = q.0 in omega (arith, i)); next = (refl, q.1) } };
+        back = λ n z w. let v = w.next in ((let i = w.sum in let j = v.sum in let k = v.next.0 in omega (arith, i, j, k)), v.next.1);
+      })
 
   -- what comes behind a block is done
   leaves : (n : Slotted) (f : Frame) (s : Run) (k : List Rest) (items : List Item) → s.ended ≡ false → f ≡ frame_of n s.frame → Fits n s.frame → Stacks procedures c n k items
@@ -596,7 +601,7 @@ module _ (procedures : List Procedure) (c : Laid) (laid : IsLaid procedures c) w
       → Moves procedures c s.left (Loop_ procedures (main_named procedures).give e p f s.store items) (stepping c s)
   loop_moves n e p f s items running eq fits test stack =
       let is : drop s.place.at (block_at c s.place.block) ≡ step.Test test.value test.block ∷ [] =
-          ap (λ (k : ℕ). drop k (block_at c s.place.block)) test.first ∙ test.steps in
+      ap (λ (k : ℕ). drop k (block_at c s.place.block)) test.first ∙ test.steps in
       let u = with_place (with_left s (s.left - 1)) (behind s.place) in
       subst (λ (o : Option Step). Moves procedures c s.left (Loop_ procedures (main_named procedures).give e p f s.store items) (stepping_at c o s))
       (sym (some_at (block_at c s.place.block) s.place.at is))

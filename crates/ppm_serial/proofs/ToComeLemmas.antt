@@ -1,15 +1,15 @@
 -- Each statement of a block that is still to come is a way to go on, behind the turns that it spends.
-use Rattle.std.proofs.Common.{◌≡◌, ℕ, zero, suc, ◌+◌, ℤ, pos, Bool, true, false, List, [], ◌∷◌, Option, Some, None, Result, Ok, Err, refl, sym, ap, subst, arith, ◌∙◌}
+use Rattle.std.proofs.Common.{◌≡◌, ℕ, zero, suc, ◌+◌, ℤ, Bool, true, false, List, [], ◌∷◌, Option, Some, None, Result, Ok, Err, refl, sym, ap, subst, arith, ◌∙◌}
 use Rattle.ppm_tree.specs.declared.named.Named.{Named}
 use Rattle.ppm_tree.specs.Tree.{Expression, Side, Block, Nil, Then, Let, Assign, Put, If, While, Split, Give, Procedure}
 use Rattle.ppm_tree.specs.Tree as tree
 use Rattle.ppm_tree.specs.Values.{holds}
-use Rattle.ppm_tree.specs.State.{TrapAt, then_with, Region, Regions, Locals, Frame, with_locals, Arrays, split_at, evaluate, procedure_named, entered, both_entered}
-use Rattle.ppm_tree.specs.Meaning.{Form, Plain, Counts, spent, both, none, give_turn, given, End, Ended, Trapped, arrays_of, goes_on, assigned, stored, chosen}
+use Rattle.ppm_tree.specs.State.{TrapAt, then_with, Region, Regions, Locals, Frame, Arrays, split_at, evaluate, procedure_named, entered, both_entered}
+use Rattle.ppm_tree.specs.Meaning.{Plain, Counts, spent, both, none, give_turn, given, End, Ended, Trapped, assigned, stored, chosen}
 use Rattle.ppm_tree.specs.Meaning.{returned, joined, with_parts, with_element, Runs, Follows, Loops, Enters, Sweeps}
 use Rattle.ppm_tree.specs.Meaning.{Done, Lets, Assigns, Puts, Ifs, IfTraps, Whiles, Calls, CallTraps, Forks, ForkStops, ForkTraps, Splits, SplitTraps}
 use Rattle.ppm_tree.specs.Meaning.{Eaches, GoesOn, Stops, TestFails, TestTraps, Turns, TurnTraps, Enter, Swept, Sweep, SweepStops}
-use Rattle.ppm_serial.specs.ToCome.{Item, Behind, Tests, Leaves, Sweeping, Returns, Crosses, Joins, Two, Trap, Opens, of, gave, Later, given_turns}
+use Rattle.ppm_serial.specs.ToCome.{Item, Behind, Tests, Leaves, Sweeping, Returns, Crosses, Joins, Two, Trap, Opens, gave, Later, given_turns}
 use Rattle.ppm_serial.specs.ToCome.{Gave, Crossed, After, Block_, Loop_, Sweep_, Shifts}
 
 -- a value or a trap that comes once and again is one
@@ -442,10 +442,10 @@ module _ (procedures : List Procedure) (main : Option Give) where
     on = λ n z t.
         let w = enter_on (Crossed procedures p' h (λ v w. After procedures main K f.regions (joined x y f (Ended v []) w))) (λ stop c n z q. q) t.rest z t.first t.second t.sum in
         let u = w.next in record {
-      rest = w.rest;
-      sum = w.sum;
-      next = record { counts = u.counts; middle = u.middle; rest = u.rest; first = u.first; second = crosses_on p.give x y f p' h K g.regions u.rest z u.middle u.second; sum = u.sum };
-    };
+          rest = w.rest;
+          sum = w.sum;
+          next = record { counts = u.counts; middle = u.middle; rest = u.rest; first = u.first; second = crosses_on p.give x y f p' h K g.regions u.rest z u.middle u.second; sum = u.sum };
+        };
     back = λ n z w. let u = w.next in
         enter_back p g a (Crossed procedures p' h (λ v w. After procedures main K f.regions (joined x y f (Ended v []) w))) (λ stop c n z q. q) n u.rest w.rest z u.middle u.first
         (crosses_back p.give x y f p' h K g.regions u.rest z u.middle u.second) u.sum w.sum;
@@ -469,10 +469,10 @@ module _ (procedures : List Procedure) (main : Option Give) where
     on = λ n z t.
         let w = enter_on (λ w. After procedures main K f.regions (joined x y f (Ended v []) w)) (λ stop c n z q. q) t.rest z t.first t.second t.sum in
         let u = w.next in record {
-      rest = w.rest;
-      sum = w.sum;
-      next = record { counts = u.counts; middle = u.middle; rest = u.rest; first = u.first; second = joins_on p.give x y f v K g.regions u.rest z u.middle u.second; sum = u.sum };
-    };
+          rest = w.rest;
+          sum = w.sum;
+          next = record { counts = u.counts; middle = u.middle; rest = u.rest; first = u.first; second = joins_on p.give x y f v K g.regions u.rest z u.middle u.second; sum = u.sum };
+        };
     back = λ n z w. let u = w.next in
         enter_back p g a (λ w. After procedures main K f.regions (joined x y f (Ended v []) w)) (λ stop c n z q. q) n u.rest w.rest z u.middle u.first
         (joins_back p.give x y f v K g.regions u.rest z u.middle u.second) u.sum w.sum;
@@ -573,7 +573,7 @@ module _ (procedures : List Procedure) (main : Option Give) where
       → c ≡ i.turns + m → n ≡ 1 + c → Block_ procedures main (Then (tree.Fork s t) b) f a K n z
   branches_back s t b f a K p is n m c z (Ended v d) l q e o =
       let u = follows_back b f (joined s.target t.target f (Ended v d) q.middle) K q.rest z
-          (subst (λ (u : End Locals). After procedures main (Behind b ∷ K) f.regions u q.rest z) (joined_any s.target t.target f v [] d q.middle) q.second) in
+      (subst (λ (u : End Locals). After procedures main (Behind b ∷ K) f.regions u q.rest z) (joined_any s.target t.target f v [] d q.middle) q.second) in
       record { counts = _; middle = u.middle; rest = u.rest; first = Forks s t b f p.0 p.1 a is l refl q.first u.first; second = u.second; sum = omega (arith, e, o, q.sum, u.sum) }
   branches_back s t b f a K p is n m c z (Trapped stop d) l q e o =
       record { counts = _; middle = Trapped stop d; rest = m; first = ForkStops s t b f p.0 p.1 a d stop is refl l; second = q; sum = omega (arith, e, o) }

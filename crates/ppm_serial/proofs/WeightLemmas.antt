@@ -1,8 +1,8 @@
 -- Each step of a run makes its weight less.
-use Rattle.std.proofs.Common.{◌≡◌, ◌<◌, ◌≤◌, ◌+◌, ◌-◌, ◌*◌, ℕ, zero, suc, ℤ, pos, Bool, true, false, List, [], ◌∷◌, Option, Some, None, Result, Ok, Err, refl, sym, ap, subst, arith, ◌∙◌, nat_lt, length, get_or}
-use Rattle.std.specs.Prelude.{if◌then◌else◌, ⊤, slice_get}
-use Rattle.std.proofs.lemmas.Bool.{ltb-true, ltb-false}
-use Rattle.ppm_tree.specs.State.{then_with, nowhere, index_in, split_at, with_word}
+use Rattle.std.proofs.Common.{◌≡◌, ◌<◌, ◌≤◌, ◌+◌, ◌-◌, ℕ, ℤ, pos, Bool, true, false, List, [], ◌∷◌, Option, Some, None, Result, Ok, Err, refl, ap, subst, arith, nat_lt, length, get_or}
+use Rattle.std.specs.Prelude.{if◌then◌else◌, ⊤}
+use Rattle.std.proofs.lemmas.Bool.{ltb-false}
+use Rattle.ppm_tree.specs.State.{then_with, nowhere, index_in, split_at}
 use Rattle.ppm_tree.specs.Values.{holds}
 use Rattle.ppm_serial.specs.declared.code.Stop.{Stop}
 use Rattle.ppm_serial.specs.declared.code.Stop.TheVariants as stop
@@ -18,9 +18,9 @@ use Rattle.ppm_serial.specs.Slots.{with_local_at}
 use Rattle.ppm_serial.specs.Code.{Laid, step_at, routine_at}
 use Rattle.ppm_serial.specs.Answers.{Does}
 use Rattle.ppm_serial.specs.Running.{weight}
-use Rattle.ppm_serial.specs.Machine.{spending, with_left, with_frame, with_store, with_stack, with_place, with_end, first_of, behind, inside, called, beginning, entering, waiting, delivering}
-use Rattle.ppm_serial.specs.Machine.{sweeping, swept_once, element_frame, setting, putting, choosing, testing, calling, forking, parting, splitting, sweep_begins, doing, spending_some, worth_some}
-use Rattle.ppm_serial.specs.Machine.{returning, crossing, joining, ending, leaving, stepping, stepping_at}
+use Rattle.ppm_serial.specs.Machine.{spending, with_left, with_frame, with_stack, with_place, with_end, first_of, behind, inside, called}
+use Rattle.ppm_serial.specs.Machine.{sweeping, swept_once, element_frame, doing, spending_some, worth_some}
+use Rattle.ppm_serial.specs.Machine.{leaving, stepping, stepping_at}
 
 -- a run that goes on weighs less than so much
 abbrev pub Lighter : ℕ → Result Run Stop → Type 0

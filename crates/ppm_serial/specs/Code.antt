@@ -1,9 +1,8 @@
 -- A program laid out by slots.
-use Rattle.std.specs.Prelude.{ℕ, List, [], Option, Some, None, get_or, slice_get}
+use Rattle.std.specs.Prelude.{ℕ, List, [], Option, None, get_or, slice_get}
 use Rattle.ppm_serial.specs.declared.code.Routine.{Routine}
 use Rattle.ppm_serial.specs.declared.code.Step.{Step}
 use Rattle.ppm_serial.specs.declared.code.Place.{Place}
-use Rattle.ppm_serial.specs.Slots.{Slots, fresh}
 
 -- the procedures and the blocks of a program, and the place of `main`
 pub record Laid : Type 0 where

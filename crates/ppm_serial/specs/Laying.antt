@@ -1,5 +1,5 @@
 -- A program's tree and its code: which steps stand for which statements.
-use Rattle.std.specs.Prelude.{◌≡◌, ◌<◌, ℕ, suc, ℤ, List, [], ◌∷◌, ◌++◌, length, get_or, map, codes, ⊤, Bool, true, false, Option, Some, None, Result, Ok, Err, if◌then◌else◌}
+use Rattle.std.specs.Prelude.{◌≡◌, ◌<◌, ℕ, suc, List, [], ◌∷◌, ◌++◌, length, get_or, map, codes, ⊤, Bool, true, false, Option, Some, None, Result, Ok, Err, if◌then◌else◌}
 use Rattle.std.specs.Str.{bytes_eq}
 use Rattle.ppm_tree.specs.declared.named.Named.{Named}
 use Rattle.ppm_tree.specs.declared.tree.Parameter.{Parameter}
@@ -19,10 +19,10 @@ use Rattle.ppm_serial.specs.declared.code.Parts.{Parts}
 use Rattle.ppm_serial.specs.declared.code.Step.{Step}
 use Rattle.ppm_serial.specs.declared.code.Step.TheVariants as step
 use Rattle.ppm_serial.specs.declared.code.Routine.{Routine}
-use Rattle.ppm_serial.specs.Slots.{Slots, fresh}
+use Rattle.ppm_serial.specs.Slots.{Slots}
 use Rattle.ppm_serial.specs.Worth.{worth, stopped}
 use Rattle.ppm_serial.specs.Names.{Slotted, slot_in, names_of, frame_of}
-use Rattle.ppm_serial.specs.Code.{Laid, block_at, routine_at}
+use Rattle.ppm_serial.specs.Code.{Laid, routine_at}
 use Rattle.ppm_serial.specs.Machine.{passing}
 
 -- a frame has a slot for each of these names

@@ -1,7 +1,7 @@
 -- One step of a run over slots.
-use Rattle.std.specs.Prelude.{ℕ, suc, ◌-◌, ◌+◌, nat_lt, ℤ, pos, Bool, true, false, List, [], ◌∷◌, Option, Some, None, Result, Ok, Err, if◌then◌else◌, get_or}
+use Rattle.std.specs.Prelude.{ℕ, suc, ◌-◌, nat_lt, ℤ, pos, true, List, [], ◌∷◌, Option, Some, None, Result, Ok, Err, if◌then◌else◌, get_or}
 use Rattle.ppm_tree.specs.Values.{holds}
-use Rattle.ppm_tree.specs.State.{then_with, nowhere, Region, first_part, second_part, part_at, index_in, split_at, with_word, Arrays}
+use Rattle.ppm_tree.specs.State.{then_with, nowhere, first_part, second_part, part_at, index_in, split_at, with_word, Arrays}
 use Rattle.ppm_serial.specs.declared.code.Stop.{Stop}
 use Rattle.ppm_serial.specs.declared.code.Stop.TheVariants as stop
 use Rattle.ppm_serial.specs.declared.code.Value.{Value}

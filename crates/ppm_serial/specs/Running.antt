@@ -1,9 +1,9 @@
 -- A whole run: how it starts, what it has still to do, and what it answers.
-use Rattle.std.specs.Prelude.{◌≡◌, ◌≤◌, ◌<◌, ◌+◌, ◌*◌, ℕ, ℤ, Bool, true, false, List, [], Option, Some, None, Result, Ok, Err, length, codes, ⊤, if◌then◌else◌}
+use Rattle.std.specs.Prelude.{◌≡◌, ◌≤◌, ◌<◌, ◌+◌, ◌*◌, ℕ, ℤ, false, [], Result, Ok, Err, length, ⊤, if◌then◌else◌}
 use Rattle.ppm_words.specs.declared.trap.Trap.{Trap as Kind}
-use Rattle.ppm_tree.specs.Tree.{Procedure, ProgramTree}
-use Rattle.ppm_tree.specs.State.{Frame, Arrays, procedure_named}
-use Rattle.ppm_tree.specs.Meaning.{Plain, Counts, End, Ended, Trapped}
+use Rattle.ppm_tree.specs.Tree.{ProgramTree}
+use Rattle.ppm_tree.specs.State.{Arrays}
+use Rattle.ppm_tree.specs.Meaning.{Counts, End, Ended, Trapped}
 use Rattle.ppm_tree.specs.Program.{main_of, main_frame, initial_arrays, values_of}
 use Rattle.ppm_tree.specs.Correct.{Spends}
 use Rattle.ppm_serial.specs.declared.code.Stop.{Stop}
@@ -11,7 +11,7 @@ use Rattle.ppm_serial.specs.declared.code.Stop.TheVariants as stop
 use Rattle.ppm_serial.specs.declared.run.Run.{Run}
 use Rattle.ppm_serial.specs.Names.{names_of, frame_of}
 use Rattle.ppm_serial.specs.Code.{Laid}
-use Rattle.ppm_serial.specs.Laying.{Fits, IsLaid}
+use Rattle.ppm_serial.specs.Laying.{Fits}
 use Rattle.ppm_serial.specs.ToCome.{Two, Shifts}
 use Rattle.ppm_serial.specs.Simulation.{Point, AtEnd, Way, Shows}
 

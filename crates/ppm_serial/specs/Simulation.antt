@@ -1,14 +1,12 @@
 -- Which runs over slots have which rest of the meaning still to come.
-use Rattle.std.specs.Prelude.{◌≡◌, ◌≤◌, ◌<◌, ◌+◌, ℕ, ℤ, Bool, true, false, List, [], ◌∷◌, Option, Some, None, Result, Ok, Err, length, drop, get_or, codes, ⊤}
-use Rattle.ppm_words.specs.declared.trap.Trap.{Trap as Kind}
+use Rattle.std.specs.Prelude.{◌≡◌, ◌≤◌, ◌<◌, ◌+◌, ℕ, ℤ, true, false, List, [], ◌∷◌, Option, Result, Ok, Err, length, drop, get_or, codes, ⊤}
 use Rattle.ppm_tree.specs.declared.named.Named.{Named}
 use Rattle.ppm_tree.specs.Tree.{Expression, Block, Give, Procedure}
-use Rattle.ppm_tree.specs.State.{TrapAt, Region, Regions, Locals, Frame, Arrays, nowhere, procedure_named}
-use Rattle.ppm_tree.specs.Meaning.{Plain, Counts, End, Ended, Trapped, Enters}
+use Rattle.ppm_tree.specs.State.{TrapAt, Region, Regions, Frame, Arrays, nowhere, procedure_named}
+use Rattle.ppm_tree.specs.Meaning.{End, Ended}
 use Rattle.ppm_serial.specs.declared.code.Stop.{Stop}
 use Rattle.ppm_serial.specs.declared.code.Stop.TheVariants as stop
 use Rattle.ppm_serial.specs.declared.code.Value.{Value}
-use Rattle.ppm_serial.specs.declared.code.Step.{Step}
 use Rattle.ppm_serial.specs.declared.code.Step.TheVariants as step
 use Rattle.ppm_serial.specs.declared.code.Place.{Place}
 use Rattle.ppm_serial.specs.declared.stack.Rest.{Rest}
@@ -16,11 +14,11 @@ use Rattle.ppm_serial.specs.declared.stack.Rest.TheVariants as rest
 use Rattle.ppm_serial.specs.declared.stack.Sweep.{Sweep}
 use Rattle.ppm_serial.specs.declared.stack.Caller.{Caller}
 use Rattle.ppm_serial.specs.declared.run.Run.{Run}
-use Rattle.ppm_serial.specs.Slots.{Slots, with_regions}
+use Rattle.ppm_serial.specs.Slots.{Slots}
 use Rattle.ppm_serial.specs.Names.{Slotted, slot_in, names_of, frame_of}
 use Rattle.ppm_serial.specs.Code.{Laid, block_at, routine_at}
 use Rattle.ppm_serial.specs.Laying.{Fits, IsWorth, IsLocal, IsRegion, IsTarget, IsGive, Lies, place_in}
-use Rattle.ppm_serial.specs.ToCome.{Item, Behind, Tests, Leaves, Sweeping, Returns, Crosses, Joins, Two, Trap, After, Block_, Loop_, Shifts}
+use Rattle.ppm_serial.specs.ToCome.{Item, Behind, Tests, Leaves, Sweeping, Returns, Crosses, Joins, Trap, Block_, Loop_, Shifts}
 
 -- where a run stands in the meaning: before a block, before the test of a loop, or at its end
 pub data Point : Type 0 where

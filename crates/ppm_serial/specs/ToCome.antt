@@ -1,9 +1,9 @@
 -- What is still to come of a run, and what it still spends: the meaning, with the rest of the run as a list.
-use Rattle.std.specs.Prelude.{◌≡◌, ℕ, ◌+◌, ℤ, pos, Bool, true, false, List, [], ◌∷◌, Option, Some, None, Result, Ok, Err, if◌then◌else◌}
+use Rattle.std.specs.Prelude.{◌≡◌, ℕ, ◌+◌, ℤ, pos, List, [], ◌∷◌, Option, Some, None, Result, Ok, Err}
 use Rattle.ppm_tree.specs.declared.named.Named.{Named}
 use Rattle.ppm_tree.specs.Tree.{Expression, Block, Give, Procedure}
 use Rattle.ppm_tree.specs.State.{TrapAt, Region, Regions, Locals, Frame, Arrays, evaluate}
-use Rattle.ppm_tree.specs.Meaning.{Plain, Counts, End, Ended, Trapped, end_of, give_turn, returned, joined, Runs, Loops, Enters, Sweeps}
+use Rattle.ppm_tree.specs.Meaning.{Plain, Counts, End, Ended, Trapped, end_of, returned, joined, Runs, Loops, Enters, Sweeps}
 
 -- what comes behind a block: another block, the tests of a loop, the end of a split's block, further blocks of an `each`, and
 -- who waits for a procedure that gives

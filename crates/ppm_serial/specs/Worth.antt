@@ -2,8 +2,7 @@
 use Rattle.std.specs.Prelude.{ℕ, ℤ, pos, Option, Some, None, Result, Ok, Err, get_or}
 use Rattle.ppm_words.specs.declared.trap.Trap.{Trap}
 use Rattle.ppm_tree.specs.Values.{applied, decided, negated}
-use Rattle.ppm_tree.specs.State.{TrapAt, then_with, nowhere, index_in, word_at, unless_decided, Arrays}
-use Rattle.ppm_tree.specs.State as state
+use Rattle.ppm_tree.specs.State.{TrapAt, then_with, nowhere, index_in, word_at, Arrays}
 use Rattle.ppm_serial.specs.declared.code.Stop.{Stop}
 use Rattle.ppm_serial.specs.declared.code.Stop.TheVariants as stop
 use Rattle.ppm_serial.specs.declared.code.Value.{Value}

@@ -71,7 +71,12 @@ fn values(alloc: Global, inputs: &[ArrayInput], array: &Array) -> Result<Vec<i64
 }
 
 /// Adds arrays as they start.
-fn fill(alloc: Global, inputs: &[ArrayInput], arrays: &[Array], all: &mut Vec<Vec<i64>>) -> Result<(), NoMemory>
+fn fill(
+    alloc: Global,
+    inputs: &[ArrayInput],
+    arrays: &[Array],
+    all: &mut Vec<Vec<i64>>,
+) -> Result<(), NoMemory>
     ensures { OnOk result (map (λ v. v.items) all.new.items ≡ map (λ v. v.items) all.old.items ++ values_of (map (initial_array inputs.now) arrays.now)) }
 {
     match arrays {
@@ -89,7 +94,12 @@ fn store(alloc: Global, tree: &Tree) -> Result<Store, NoMemory>
     ensures { IfOk result (λ s. s ≡ values_of (initial_arrays (tree_of tree.now))) }
 {
     let mut arrays = Vec::new(alloc);
-    fill(alloc, tree.inputs.as_slice(), tree.arrays.as_slice(), &mut arrays)?;
+    fill(
+        alloc,
+        tree.inputs.as_slice(),
+        tree.arrays.as_slice(),
+        &mut arrays,
+    )?;
     Ok(Store::from_vec(arrays))
 }
 
@@ -134,7 +144,12 @@ fn main_frame(alloc: Global, code: &Code, tree: &Tree, place: usize) -> Result<F
         None => Ok(frame),
         Some(main) => {
             let names = Names::of(alloc, main)?;
-            lend(&mut frame, &names, tree.arrays.as_slice(), main.parameters.as_slice());
+            lend(
+                &mut frame,
+                &names,
+                tree.arrays.as_slice(),
+                main.parameters.as_slice(),
+            );
             Ok(frame)
         }
     }
@@ -167,7 +182,12 @@ fn named(alloc: Global, tree: &Tree, store: Store) -> Result<Items<NamedArray>, 
 }
 
 /// Adds arrays with their names and values.
-fn name_all(alloc: Global, arrays: &[Array], values: &[Vec<i64>], all: &mut Vec<NamedArray>) -> Result<(), NoMemory>
+fn name_all(
+    alloc: Global,
+    arrays: &[Array],
+    values: &[Vec<i64>],
+    all: &mut Vec<NamedArray>,
+) -> Result<(), NoMemory>
     ensures { OnOk result (all.new.items ≡ all.old.items ++ named_by arrays.now (map (λ v. v.items) values.now)) }
 {
     match arrays {

@@ -45,7 +45,13 @@ pub(crate) fn place_of(procedures: &[Proc], name: &[u8]) -> usize
 }
 
 /// Procedures laid out behind those that are there.
-fn lay_all(alloc: Global, procedures: &[Proc], left: &[Proc], routines: &mut Vec<Routine>, blocks: &mut Blocks) -> Result<(), NoMemory>
+fn lay_all(
+    alloc: Global,
+    procedures: &[Proc],
+    left: &[Proc],
+    routines: &mut Vec<Routine>,
+    blocks: &mut Blocks,
+) -> Result<(), NoMemory>
     ensures { OnOk result (LaysMore (map procedure_of procedures.now) (map procedure_of left.now) blocks.old blocks.new routines.old.items routines.new.items) }
 {
     match left {
@@ -59,7 +65,12 @@ fn lay_all(alloc: Global, procedures: &[Proc], left: &[Proc], routines: &mut Vec
 }
 
 /// A procedure laid out.
-fn lay_one(alloc: Global, procedures: &[Proc], procedure: &Proc, blocks: &mut Blocks) -> Result<Routine, NoMemory>
+fn lay_one(
+    alloc: Global,
+    procedures: &[Proc],
+    procedure: &Proc,
+    blocks: &mut Blocks,
+) -> Result<Routine, NoMemory>
     ensures { IfOk result (λ r. LaysRoutine (map procedure_of procedures.now) (procedure_of procedure.now) blocks.old blocks.new r) }
 {
     let names = Names::of(alloc, procedure)?;
@@ -143,7 +154,13 @@ fn lend(names: &Names, callee: &Names, parameter: &Named, e: &Expr) -> Passed
 }
 
 /// What an argument passes to a parameter.
-fn passed(alloc: Global, names: &Names, callee: &Names, parameter: &Parameter, e: &Expr) -> Result<Passed, NoMemory>
+fn passed(
+    alloc: Global,
+    names: &Names,
+    callee: &Names,
+    parameter: &Parameter,
+    e: &Expr,
+) -> Result<Passed, NoMemory>
     ensures { IfOk result (λ v. PassesOne names.now callee.now parameter.now (expression_of e.now) v) }
 {
     if parameter.mode == Mode::Int {
@@ -154,7 +171,14 @@ fn passed(alloc: Global, names: &Names, callee: &Names, parameter: &Parameter, e
 }
 
 /// Adds what arguments pass to parameters, as far as there are both.
-fn pass(alloc: Global, names: &Names, callee: &Names, parameters: &[Parameter], arguments: &[Argument], all: &mut Vec<Passed>) -> Result<(), NoMemory>
+fn pass(
+    alloc: Global,
+    names: &Names,
+    callee: &Names,
+    parameters: &[Parameter],
+    arguments: &[Argument],
+    all: &mut Vec<Passed>,
+) -> Result<(), NoMemory>
     ensures { OnOk result (PassesMore names.now callee.now parameters.now (arguments_of arguments.now) all.old.items all.new.items) }
 {
     match parameters {
@@ -190,7 +214,14 @@ impl<'a> Scope<'a> {
         if callee < self.procedures.len() {
             let parameters = self.procedures[callee].parameters.as_slice();
             let names = Names::of_parameters(alloc, parameters)?;
-            pass(alloc, self.names, &names, parameters, side.arguments.as_slice(), &mut passed)?;
+            pass(
+                alloc,
+                self.names,
+                &names,
+                parameters,
+                side.arguments.as_slice(),
+                &mut passed,
+            )?;
         }
         Ok(Call {
             target: target(self.names, &side.target),
@@ -214,7 +245,12 @@ impl<'a> Scope<'a> {
 
     /// A statement laid out, with its blocks behind those that are there.
     #[cycle(lay)]
-    fn statement(&self, alloc: Global, statement: &Stmt, blocks: &mut Blocks) -> Result<Step, NoMemory>
+    fn statement(
+        &self,
+        alloc: Global,
+        statement: &Stmt,
+        blocks: &mut Blocks,
+    ) -> Result<Step, NoMemory>
         ensures { IfOk result (λ step. LaysStep (map procedure_of self.now.procedures.now) self.now.names.now (statement_of statement.now) blocks.old blocks.new step) }
     {
         match statement {
@@ -280,7 +316,12 @@ impl<'a> Scope<'a> {
 }
 
 /// The test of a loop and its block, in a block of one step.
-fn lay_test(alloc: Global, test: Value, block: usize, blocks: &mut Blocks) -> Result<usize, NoMemory>
+fn lay_test(
+    alloc: Global,
+    test: Value,
+    block: usize,
+    blocks: &mut Blocks,
+) -> Result<usize, NoMemory>
     ensures blocks { OnOk result (blocks.new ≡ blocks.old ++ (step.Test test block ∷ []) ∷ []) }
     ensures place { IfOk result (λ place. place ≡ length blocks.old) }
 {

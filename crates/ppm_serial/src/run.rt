@@ -226,12 +226,20 @@ impl Run {
             target: left.target,
             callee: left.callee,
         };
-        self.stack.push(Rest::Left(caller, right.target, right.callee, later))?;
+        self.stack
+            .push(Rest::Left(caller, right.target, right.callee, later))?;
         self.begin(code, left.callee)
     }
 
     /// A split, whose parts have slots in its block.
-    fn split(&mut self, alloc: Global, line: u32, slot: usize, at: &Value, parts: Parts) -> Result<(), Stop>
+    fn split(
+        &mut self,
+        alloc: Global,
+        line: u32,
+        slot: usize,
+        at: &Value,
+        parts: Parts,
+    ) -> Result<(), Stop>
         ensures { Does result self.new (splitting line slot at.now parts self.old) }
     {
         let value = worth(&self.frame, &self.store, at)?;
@@ -249,7 +257,14 @@ impl Run {
     }
 
     /// An `each`, whose start spends 9 turns with that of the statement.
-    fn each(&mut self, alloc: Global, index: usize, part: usize, slot: usize, block: usize) -> Result<(), Stop>
+    fn each(
+        &mut self,
+        alloc: Global,
+        index: usize,
+        part: usize,
+        slot: usize,
+        block: usize,
+    ) -> Result<(), Stop>
         ensures { Does result self.new (sweep_begins index part slot block self.old) }
     {
         self.spend(8)?;
@@ -277,7 +292,8 @@ impl Run {
         self.spend(8)?;
         self.frame = sweep.frame.try_clone(alloc)?;
         self.frame.set_local(sweep.index, sweep.next as i64);
-        self.frame.set_region(sweep.part, sweep.region.element(sweep.next));
+        self.frame
+            .set_region(sweep.part, sweep.region.element(sweep.next));
         self.place = Place {
             block: sweep.block,
             at: 0,
@@ -353,7 +369,14 @@ impl Run {
     }
 
     /// The end of a left branch, behind which the right one begins.
-    fn cross(&mut self, code: &Code, caller: Caller, target: Option<usize>, callee: usize, frame: Frame) -> Result<(), Stop>
+    fn cross(
+        &mut self,
+        code: &Code,
+        caller: Caller,
+        target: Option<usize>,
+        callee: usize,
+        frame: Frame,
+    ) -> Result<(), Stop>
         ensures { Does result self.new (crossing code.now caller target callee frame self.old) }
     {
         self.spend_give(code, caller.callee)?;
@@ -364,11 +387,22 @@ impl Run {
             target,
             callee,
         };
-        self.enter(code, callee, frame, Rest::Right(waiting, caller.target, value))
+        self.enter(
+            code,
+            callee,
+            frame,
+            Rest::Right(waiting, caller.target, value),
+        )
     }
 
     /// The end of a right branch, behind which both values are stored, the left one first.
-    fn join(&mut self, code: &Code, caller: Caller, target: Option<usize>, left: i64) -> Result<(), Stop>
+    fn join(
+        &mut self,
+        code: &Code,
+        caller: Caller,
+        target: Option<usize>,
+        left: i64,
+    ) -> Result<(), Stop>
         ensures { Does result self.new (joining code.now caller target left self.old) }
     {
         self.spend_give(code, caller.callee)?;

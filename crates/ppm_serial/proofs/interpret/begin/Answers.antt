@@ -8,5 +8,5 @@ use Rattle.ppm_serial.proofs.interpret.begin.Goals as goal
 pub returns : goal.returns
 returns c laid =
     let q = main_frame_is (tree_of c.args.tree.now) c.args.tree.now.procedures c.args.code.now c.in_ok-frame.frame refl laid
-        (subst (λ (k : ℕ). IsMainFrame c.args.code.now (tree_of c.args.tree.now) c.args.tree.now.procedures k c.in_ok-frame.frame) c.main.ensures c.in_ok-frame.ensures) in
+    (subst (λ (k : ℕ). IsMainFrame c.args.code.now (tree_of c.args.tree.now) c.args.tree.now.procedures k c.in_ok-frame.frame) c.main.ensures c.in_ok-frame.ensures) in
     record { starts = record { frame = q.0; fits = q.1; store = c.in_ok-store.ensures; stack = c.new.ensures; running = refl }; left = refl }

@@ -1,5 +1,5 @@
 -- Nothing is passed, or the first argument and then the others.
-use Rattle.std.proofs.Common.{arith, rules}
+use Rattle.std.proofs.Common.{arith}
 use Rattle.ppm_serial.proofs.ProgramLemmas.{none_passed, none_given, first_passed}
 use Rattle.ppm_serial.proofs.lay.+pass.Goals as goal
 

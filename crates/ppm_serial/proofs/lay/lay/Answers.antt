@@ -1,5 +1,5 @@
 -- All procedures are laid out behind one empty block.
-use Rattle.std.proofs.Common.{◌≡◌, ◌∙◌, ap, subst, sym, map, List}
+use Rattle.std.proofs.Common.{◌≡◌, subst, sym, map, List}
 use Rattle.ppm_tree.specs.declared.tree.Proc.{Proc}
 use Rattle.ppm_tree.specs.Tree.{procedure_of}
 use Rattle.ppm_serial.specs.Code.{Laid}

@@ -1,5 +1,5 @@
 -- The names, the body and what is given are the procedure's.
-use Rattle.std.proofs.Common.{◌≡◌, ◌∙◌, ap, subst, map, List, length}
+use Rattle.std.proofs.Common.{◌∙◌, ap, subst, map, List, length}
 use Rattle.ppm_tree.specs.declared.tree.Stmt.{Stmt}
 use Rattle.ppm_tree.specs.Tree.{procedure_of, block_of, give_of}
 use Rattle.ppm_serial.specs.Names.{Slotted}

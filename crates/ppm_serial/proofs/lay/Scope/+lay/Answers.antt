@@ -1,10 +1,9 @@
 -- Statements one by one, and blocks.
-use Rattle.std.proofs.Common.{◌≡◌, ◌∙◌, ap, subst, sym, refl, map, List, ℕ, length, drop, arith}
-use Rattle.ppm_tree.specs.Tree.{procedure_of, block_of, statement_of, expression_of, side_of, Then}
-use Rattle.ppm_tree.specs.Tree as tree
+use Rattle.std.proofs.Common.{◌∙◌, ap, subst, refl, map, List, ℕ, drop}
+use Rattle.ppm_tree.specs.Tree.{procedure_of, block_of, statement_of, expression_of, side_of}
 use Rattle.ppm_tree.specs.declared.tree.Stmt.{Stmt}
 use Rattle.ppm_serial.specs.Names.{slot_in}
-use Rattle.ppm_serial.specs.Laying.{LaysStep, LaysBlock, LaysSome}
+use Rattle.ppm_serial.specs.Laying.{LaysBlock, LaysSome}
 use Rattle.ppm_serial.proofs.ProgramLemmas.{lays_none, lays_next, lays_put, lays_if, lays_while, lays_call, lays_fork, lays_split, lays_each}
 use Rattle.ppm_serial.proofs.ArmLemmas.{if_is, while_is, split_is, each_is, as_declared, let_all, assign_all, next_is, none_left, block_all}
 use Rattle.ppm_serial.proofs.lay.Scope.+lay.Goals as goal

@@ -13,7 +13,9 @@ returns-then-is c =
 pub loop-at-preserved : goal.loop-at-preserved
 loop-at-preserved c =
     let l : c.loop-at.at < length c.self.inside.names.items = omega (arith, c.loop-at-test.true, c.len.ensures) in
-    let m = subst (λ (xs : List (List ℕ)). c.loop-at.at < length xs) c.self.view_is l in
-    (passed_at c.args.self.now c.loop-at.at c.args.name.now c.index.result.now c.loop-at.invariant.0 m
-    (subst (λ (xs : List (List ℕ)). c.index.result.now ≡ get_or xs c.loop-at.at c.index.result.now) c.self.view_is c.index.ensures)
-    (λ e. let t = c.is.ensures.1 e in cc), omega (arith, m))
+    let m = subst (λ (xs : List (List ℕ)). c.loop-at.at < length xs) c.self.view_is l in (
+      passed_at c.args.self.now c.loop-at.at c.args.name.now c.index.result.now c.loop-at.invariant.0 m
+          (subst (λ (xs : List (List ℕ)). c.index.result.now ≡ get_or xs c.loop-at.at c.index.result.now) c.self.view_is c.index.ensures)
+          (λ e. let t = c.is.ensures.1 e in cc),
+      omega (arith, m),
+    )

@@ -1,8 +1,6 @@
 -- The entry begins the run, each step does what is still to come, and a stop or the end is the answer.
-use Rattle.std.proofs.Common.{arith, ◌≡◌, Result, Ok, Err, false, true, [], subst, Bool, not, sym, ap, ◌∙◌, ℕ}
+use Rattle.std.proofs.Common.{◌≡◌, Ok, Err, [], subst, ℕ}
 use Rattle.std.proofs.lemmas.Result.{err_from_is_err_and}
-use Rattle.ppm_serial.specs.declared.code.Stop.{Stop}
-use Rattle.ppm_serial.specs.declared.run.Run.{Run}
 use Rattle.ppm_serial.specs.Machine.{beginning}
 use Rattle.ppm_serial.proofs.RunningLemmas.{begun, stepped, over}
 use Rattle.ppm_serial.proofs.run.Run.to_end.Goals as goal

@@ -1,5 +1,4 @@
 -- What the program means is still to be done, and each step leaves less.
-use Rattle.std.proofs.Common.{◌≡◌}
 use Rattle.ppm_tree.specs.Tree.{ProgramTree}
 use Rattle.ppm_serial.specs.Laying.{IsLaid}
 use Rattle.ppm_serial.specs.Running.{Serves, Starts, weight}
