@@ -1,0 +1,14 @@
+pub mod ToComeLemmas
+pub mod SlotLemmas
+pub mod TreeLemmas
+pub mod SimulationLemmas
+pub mod StepLemmas
+pub mod NameLemmas
+pub mod RunningLemmas
+pub mod WeightLemmas
+pub mod KeepLemmas
+pub mod LayLemmas
+pub mod ProgramLemmas
+pub mod EntryLemmas
+pub mod PlaceLemmas
+pub mod ArmLemmas

@@ -1,0 +1,11 @@
+pub mod Slots
+pub mod Worth
+pub mod Answers
+pub mod Code
+pub mod Machine
+pub mod ToCome
+pub mod Names
+pub mod Laying
+pub mod Simulation
+pub mod Running
+pub mod Entry

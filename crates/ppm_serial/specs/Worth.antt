@@ -1,0 +1,36 @@
+-- What expressions over slots are worth.
+use Rattle.std.specs.Prelude.{ℕ, ℤ, pos, Option, Some, None, Result, Ok, Err, get_or}
+use Rattle.ppm_words.specs.declared.trap.Trap.{Trap}
+use Rattle.ppm_tree.specs.Values.{applied, decided, negated}
+use Rattle.ppm_tree.specs.State.{TrapAt, then_with, nowhere, index_in, word_at, Arrays}
+use Rattle.ppm_serial.specs.declared.code.Stop.{Stop}
+use Rattle.ppm_serial.specs.declared.code.Stop.TheVariants as stop
+use Rattle.ppm_serial.specs.declared.code.Value.{Value}
+use Rattle.ppm_serial.specs.declared.code.Value.TheVariants as value
+use Rattle.ppm_serial.specs.Slots.{Slots}
+
+-- a result whose trap stops the run
+abbrev pub stopped : {A : Type 0} → Result A TrapAt → Result A Stop
+stopped (Ok x) = Ok x
+stopped (Err t) = Err (stop.Trapped t.0 t.1)
+
+-- a result whose trap, in a line, stops the run
+abbrev pub at_line : ℕ → Result ℤ Trap → Result ℤ Stop
+at_line line (Ok x) = Ok x
+at_line line (Err t) = Err (stop.Trapped t line)
+
+-- goes on with the right operand where the left one has not decided
+abbrev pub unless : Option ℤ → Result ℤ Stop → Result ℤ Stop
+unless (Some v) right = Ok v
+unless None right = right
+
+-- what an expression over slots is worth
+abbrev pub worth : Slots → Arrays → Value → Result ℤ Stop
+worth s a (value.Number z) = Ok z
+worth s a (value.Local k) = Ok (get_or s.locals k (pos 0))
+worth s a (value.Element' k line p index) =
+    then_with (worth s a index) (λ i. then_with (stopped (index_in line (get_or s.regions k nowhere) i)) (λ j. Ok (word_at a (get_or s.regions k nowhere) j)))
+worth s a (value.Len k) = Ok (pos (get_or s.regions k nowhere).length)
+worth s a (value.Minus' line p e) = then_with (worth s a e) (λ x. at_line line (negated x))
+worth s a (value.Binary' o line p left q right) =
+    then_with (worth s a left) (λ x. unless (decided o x) (then_with (worth s a right) (λ y. at_line line (applied o x y))))
