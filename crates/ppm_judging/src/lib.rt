@@ -7,6 +7,8 @@
 
 mod judging;
 #[cfg(test)]
+mod limit_tests;
+#[cfg(test)]
 mod tests;
 
 pub use judging::{JudgeError, program_of};
