@@ -2,4 +2,8 @@ pub mod ScopeLemmas
 pub mod SiteLemmas
 pub mod PartLemmas
 pub mod SplitLemmas
+pub mod LendLemmas
+pub mod CallLemmas
+pub mod EntryLemmas
+pub mod ComingLemmas
 pub mod Theorem

@@ -8,7 +8,7 @@ use Rattle.ppm_tree.specs.declared.named.Named.{Named}
 use Rattle.ppm_tree.specs.State.{Region, Regions, Frame, first_part, second_part, part_at, with_name}
 use Rattle.ppm_regions.specs.Scope.{Declaration, Scope, declared, is_region, part_mode, is_outer, part, seen_in_split, seen_in_each, in_split, in_each}
 use Rattle.ppm_regions.specs.Scope.{parts_of, element_of, index_of}
-use Rattle.ppm_owning.specs.Words.{ShareNoWord, IsPart}
+use Rattle.ppm_owning.specs.Words.{HasWord, ShareNoWord, IsPart}
 use Rattle.ppm_owning.specs.Owning.{IsSeen, IsWritable, OwnsApart, AreSeparate, Owns, MayWrite}
 use Rattle.ppm_owning.specs.Coming.{split_scope, each_scope, split_frame, each_frame}
 use Rattle.ppm_owning.proofs.ScopeLemmas.{names_same, same_names, names_other, other_names, name_cases, found_cases, none_and_some, some_same}
@@ -229,3 +229,26 @@ module _ (scope : Scope) (r : Named) (whole : IsSeen scope r.name) where
       apart = λ z v m n other. each_apart_at h z v m n other (of_each z m.declaration m.found (mut_is_region m.written) m.shown)
           (of_each v n.declaration n.found n.region n.shown);
     }
+
+  -- two elements' blocks own apart: what the one writes is its element
+  module _ (i x : Named) (f : Frame) (x_new : declared (in_each scope r ++ index_of i ∷ []) x.name ≡ None) (h : OwnsApart scope f.regions)
+      (k l : ℕ) (short : k < (f.regions r.name).length) (short' : l < (f.regions r.name).length) (differ : k ≢ l) where
+    beside_at : (a j : ℕ) (m : MayWrite (each_scope scope r i x) (each_frame f r k i x).regions a j) (o : Owns (each_scope scope r i x)
+        (each_frame f r l i x).regions a j) → OfEach i x f k short x_new m.name m.writable.declaration
+        → OfEach i x f l short' x_new o.name o.seen.declaration → ⊥
+    beside_at a j m o (Around d found same out at) q = true_and_false (ap (λ (e : Declaration). e.outer) same ∙ m.writable.inner)
+    beside_at a j m o (Element same is at) (Element same' is' at') =
+        (elements_share_none (f.regions r.name) k l differ).none a j (subst (λ (q : Region). HasWord q a j) at m.has)
+        (subst (λ (q : Region). HasWord q a j) at' o.has)
+    beside_at a j m o (Element same is at) (Around d' found' same' out' at') =
+        let p = each_origin i x f k short x_new m.name m.writable.declaration (mut_is_region m.writable.written) m.writable.shown (Element same is at) in
+        let q = each_origin i x f l short' x_new o.name o.seen.declaration o.seen.region o.seen.shown (Around d' found' same' out' at') in
+        (apart_by_origin h p q m.writable.written m.writable.inner (λ e. out' (sym e))).none a j m.has o.has
+
+    pub beside : (a j : ℕ) → MayWrite (each_scope scope r i x) (each_frame f r k i x).regions a j
+        → Owns (each_scope scope r i x) (each_frame f r l i x).regions a j → ⊥
+    beside a j m o =
+        let w = m.writable in
+        let s = o.seen in
+        beside_at a j m o (of_each i x f k short x_new m.name w.declaration w.found (mut_is_region w.written) w.shown)
+        (of_each i x f l short' x_new o.name s.declaration s.found s.region s.shown)
