@@ -25,10 +25,10 @@ use Rattle.ppm_owning.proofs.CallLemmas.{AreLent}
 use Rattle.ppm_owning.proofs.EntryLemmas.{SideFacts, side_facts, lends, lends_are, callee_lent, lent_from, lent_apart, lent_separate, main_apart, main_within}
 
 -- both sides of a fork are entered
-abbrev found : {A : Type 0} → A → Result A TrapAt
+abbrev pub found : {A : Type 0} → A → Result A TrapAt
 found x = Ok x
 
-ok_same : {A : Type 0} {x y : A} → found x ≡ found y → x ≡ y
+pub ok_same : {A : Type 0} {x y : A} → found x ≡ found y → x ≡ y
 ok_same p = cc
 
 pub both_found : {A B : Type 0} (r : Result A TrapAt) (s : Result B TrapAt) (x : A) (y : B)

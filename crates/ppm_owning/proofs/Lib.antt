@@ -6,4 +6,7 @@ pub mod LendLemmas
 pub mod CallLemmas
 pub mod EntryLemmas
 pub mod ComingLemmas
+pub mod WordLemmas
+pub mod ExpressionLemmas
+pub mod ChangeLemmas
 pub mod Theorem
