@@ -106,7 +106,7 @@ module _ (form : Form) (t : ProgramTree) (rules : KeepsRules t) (admitted : IsAd
             has = record { array = refl; from = omega arith; below = omega (arith, below) };
           })
 
-  chosen_sites : (scope : Scope) (b : Bool) (s u : Block) → AreSites t (sites_of_block t scope s ++ sites_of_block t scope u)
+  pub chosen_sites : (scope : Scope) (b : Bool) (s u : Block) → AreSites t (sites_of_block t scope s ++ sites_of_block t scope u)
       → AreSites t (sites_of_block t scope (chosen b s u))
   chosen_sites scope true s u h = sites_left t (sites_of_block t scope s) (sites_of_block t scope u) h
   chosen_sites scope false s u h = sites_right t (sites_of_block t scope s) (sites_of_block t scope u) h

@@ -106,6 +106,24 @@ module _ (t : ProgramTree) (rules : KeepsRules t) (admitted : IsAdmitted t) wher
       right = λ a j o m. beside scope r each_whole i x f each_new.1.0 own l k short' short (λ e. differ (sym e)) a j m o;
     }
 
+  -- the arguments of a call, and of the sides of a fork
+  module _ (scope : Scope) (b : Block) (f : Frame) (a : Arrays) where
+    pub call_facts : (s : Side) → AreSites t (sites_of_block t scope (Then (tree.Call s) b)) → SideFacts t scope f a s
+    call_facts s sites =
+        side_facts t scope f a rules s (made_left t scope (uses_of_side t s) (lent_together [] (lent_by t s)) (uses_first t scope (tree.Call s) b sites))
+
+    sides_made : (s u : Side) → AreSites t (sites_of_block t scope (Then (tree.Fork s u) b)) → AreMade t scope (uses_of_side t s ++ uses_of_side t u)
+    sides_made s u sites =
+        made_left t scope (uses_of_side t s ++ uses_of_side t u) (both_targets s.target u.target)
+        (made_left t scope (uses_of_side t s ++ uses_of_side t u ++ both_targets s.target u.target) (lent_together [] (lent_by t s ++ lent_by t u))
+        (uses_first t scope (tree.Fork s u) b sites))
+
+    pub left_facts : (s u : Side) → AreSites t (sites_of_block t scope (Then (tree.Fork s u) b)) → SideFacts t scope f a s
+    left_facts s u sites = side_facts t scope f a rules s (made_left t scope (uses_of_side t s) (uses_of_side t u) (sides_made s u sites))
+
+    pub right_facts : (s u : Side) → AreSites t (sites_of_block t scope (Then (tree.Fork s u) b)) → SideFacts t scope f a u
+    right_facts s u sites = side_facts t scope f a rules u (made_right t scope (uses_of_side t s) (uses_of_side t u) (sides_made s u sites))
+
   -- a call, and the sides of a fork
   module _ (scope : Scope) (s : Side) (b : Block) (f g : Frame) (a : Arrays) (sites : AreSites t (sites_of_block t scope (Then (tree.Call s) b)))
       (is : entered t.procedures f a s ≡ Ok g) where
@@ -113,9 +131,7 @@ module _ (t : ProgramTree) (rules : KeepsRules t) (admitted : IsAdmitted t) wher
     call_uses = uses_first t scope (tree.Call s) b sites
 
     pub call_lent : AreLent f a scope (callee t s).parameters s.arguments empty_frame g
-    call_lent =
-        callee_lent t scope f a rules admitted s g
-        (side_facts t scope f a rules s (made_left t scope (uses_of_side t s) (lent_together [] (lent_by t s)) call_uses)) is
+    call_lent = callee_lent t scope f a rules admitted s g (call_facts scope b f a s sites) is
 
     pub call_clashes : NoClash (lends t scope f a s)
     call_clashes = subst NoClash (lends_are t scope f a s)
@@ -135,11 +151,6 @@ module _ (t : ProgramTree) (rules : KeepsRules t) (admitted : IsAdmitted t) wher
     fork_uses : AreMade t scope (uses_of_side t s ++ uses_of_side t u ++ both_targets s.target u.target ++ lent_together [] together)
     fork_uses = uses_first t scope (tree.Fork s u) b sites
 
-    sides_made : AreMade t scope (uses_of_side t s ++ uses_of_side t u)
-    sides_made =
-        made_left t scope (uses_of_side t s ++ uses_of_side t u) (both_targets s.target u.target)
-        (made_left t scope (uses_of_side t s ++ uses_of_side t u ++ both_targets s.target u.target) (lent_together [] together) fork_uses)
-
     fork_clashes : NoClash (lends t scope f a s ++ lends t scope f a u)
     fork_clashes =
         subst (λ (ls : List Lending). NoClash (ls ++ lends t scope f a u)) (lends_are t scope f a s)
@@ -151,14 +162,10 @@ module _ (t : ProgramTree) (rules : KeepsRules t) (admitted : IsAdmitted t) wher
     entries = both_found (entered t.procedures f a s) (entered t.procedures f a u) g h is
 
     pub left_lent : AreLent f a scope (callee t s).parameters s.arguments empty_frame g
-    left_lent =
-        callee_lent t scope f a rules admitted s g
-        (side_facts t scope f a rules s (made_left t scope (uses_of_side t s) (uses_of_side t u) sides_made)) entries.0
+    left_lent = callee_lent t scope f a rules admitted s g (left_facts scope b f a s u sites) entries.0
 
     pub right_lent : AreLent f a scope (callee t u).parameters u.arguments empty_frame h
-    right_lent =
-        callee_lent t scope f a rules admitted u h
-        (side_facts t scope f a rules u (made_right t scope (uses_of_side t s) (uses_of_side t u) sides_made)) entries.1
+    right_lent = callee_lent t scope f a rules admitted u h (right_facts scope b f a s u sites) entries.1
 
     pub left_comes : ComesFrom (scope_of (callee t s)) g.regions scope f.regions
     left_comes = lent_from t scope f a (callee t s).parameters s.arguments empty_frame g left_lent

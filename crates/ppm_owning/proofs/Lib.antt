@@ -9,4 +9,5 @@ pub mod ComingLemmas
 pub mod WordLemmas
 pub mod ExpressionLemmas
 pub mod ChangeLemmas
+pub mod LocalLemmas
 pub mod Theorem

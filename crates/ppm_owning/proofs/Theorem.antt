@@ -4,6 +4,7 @@ use Rattle.ppm_owning.specs.Correct.{OwnApart, StayWithin, RunInEitherOrder}
 use Rattle.ppm_owning.proofs.PartLemmas.{owns_no_more}
 use Rattle.ppm_owning.proofs.ExpressionLemmas
 use Rattle.ppm_owning.proofs.ChangeLemmas
+use Rattle.ppm_owning.proofs.LocalLemmas
 use Rattle.ppm_owning.proofs.ComingLemmas.{Stands, stands, split_comes, each_comes, elements_beside, call_comes, left_comes, right_comes, sides_separate}
 
 pub apart_everywhere : OwnApart
