@@ -10,4 +10,5 @@ pub mod WordLemmas
 pub mod ExpressionLemmas
 pub mod ChangeLemmas
 pub mod LocalLemmas
+pub mod SwapLemmas
 pub mod Theorem
