@@ -5,7 +5,7 @@ use Rattle.ppm_tree.specs.declared.named.Named.{Named}
 use Rattle.ppm_tree.specs.Tree.{Expression, Side, Statement, Block, Then, Let, Assign, Put, If, While, Split, Each, Give, Procedure, ProgramTree}
 use Rattle.ppm_tree.specs.Tree as tree
 use Rattle.ppm_tree.specs.Values.{holds}
-use Rattle.ppm_tree.specs.State.{TrapAt, then_with, Region, Locals, Frame, with_locals, Arrays, with_word, evaluate, index_in, split_at, put_values}
+use Rattle.ppm_tree.specs.State.{TrapAt, then_with, Region, Regions, Locals, Frame, with_locals, Arrays, with_word, evaluate, index_in, split_at, put_values}
 use Rattle.ppm_tree.specs.Meaning.{Form, Counts, End, Ended, Trapped, arrays_of, end_of, assigned, stored, chosen, returned, joined, first_trap, given}
 use Rattle.ppm_tree.specs.Meaning.{with_element, Runs, Follows, Loops, Enters, Sweeps}
 use Rattle.ppm_tree.specs.Meaning.{Done, Lets, Assigns, Puts, Ifs, IfTraps, Whiles, Calls, CallTraps, Forks, ForkStops, ForkTraps, Splits, SplitTraps}
@@ -156,7 +156,7 @@ module _ (form : Form) (t : ProgramTree) (rules : KeepsRules t) (admitted : IsAd
     changes (Eaches i x r s b f a d w) scope h =
         let inside = λ (k : ℕ) (short : k < (f.regions r.name).length). (owns_no_more (each_comes t rules admitted scope i x r s b h f k short)).written in
         and_then scope (Each i x r s) f
-        (changes_sweeps d (each_scope scope r i x) scope (each_sites t rules admitted scope i x r s b h) (λ k short. inside k (omega (arith, short))))
+        (changes_sweeps d (each_scope scope r i x) scope f.regions (each_sites t rules admitted scope i x r s b h) (λ k past short. inside k (omega (arith, short))))
         (changes_follows w (scope ++ lets_of (Each i x r s)) (sites_behind t scope (Each i x r s) b h))
 
     changes_follows : {b : Block} {f : Frame} {u : End Locals} {k : Counts} {z : End Locals} → Follows form t.procedures b f u k z → (scope : Scope)
@@ -176,13 +176,14 @@ module _ (form : Form) (t : ProgramTree) (rules : KeepsRules t) (admitted : IsAd
     changes_enters (Enter p f a {y = y} r) h =
         subst (λ (c : Arrays). ChangesOnly (MayWrite (scope_of p) f.regions) a c) (sym (given_leaves p.give f y)) (changes r (scope_of p) (sites_of_body t p h))
 
-    changes_sweeps : {i x : Named} {s : Block} {r : Region} {f : Frame} {n m : ℕ} {a : Arrays} {k : Counts} {z : End Locals}
-        → Sweeps form t.procedures i x s r f n m a k z → (scope outer : Scope) → AreSites t (sites_of_block t scope s)
-        → ((k : ℕ) → k < n + m → (j l : ℕ) → MayWrite scope (with_element f r k i x).regions j l → MayWrite outer f.regions j l)
-        → ChangesOnly (MayWrite outer f.regions) a (arrays_of z)
-    changes_sweeps (Swept i x s r f n a) scope outer h inside = unchanged (MayWrite outer f.regions) a
-    changes_sweeps (Sweep i x s r f n m a {y = y} {z = z} d on w) scope outer h inside =
-        let first = changes_more (inside n (omega arith)) (changes d scope h) in
-        let rest = changes_sweeps w scope outer h (λ k short. inside k (omega (arith, short))) in
-        subst (λ (c : Arrays). ChangesOnly (MayWrite outer f.regions) a c) (sym (first_leaves y z)) (changes_on first rest)
-    changes_sweeps (SweepStops i x s r f n m a c stop plain d) scope outer h inside = changes_more (inside n (omega arith)) (changes d scope h)
+    pub changes_sweeps : {i x : Named} {s : Block} {r : Region} {f : Frame} {n m : ℕ} {a : Arrays} {k : Counts} {z : End Locals}
+        → Sweeps form t.procedures i x s r f n m a k z → (scope outer : Scope) (whole : Regions) → AreSites t (sites_of_block t scope s)
+        → ((k : ℕ) → n ≤ k → k < n + m → (j l : ℕ) → MayWrite scope (with_element f r k i x).regions j l → MayWrite outer whole j l)
+        → ChangesOnly (MayWrite outer whole) a (arrays_of z)
+    changes_sweeps (Swept i x s r f n a) scope outer whole h inside = unchanged (MayWrite outer whole) a
+    changes_sweeps (Sweep i x s r f n m a {y = y} {z = z} d on w) scope outer whole h inside =
+        let first = changes_more (inside n (omega arith) (omega arith)) (changes d scope h) in
+        let rest = changes_sweeps w scope outer whole h (λ k past short. inside k (omega (arith, past)) (omega (arith, short))) in
+        subst (λ (c : Arrays). ChangesOnly (MayWrite outer whole) a c) (sym (first_leaves y z)) (changes_on first rest)
+    changes_sweeps (SweepStops i x s r f n m a c stop plain d) scope outer whole h inside =
+        changes_more (inside n (omega arith) (omega arith)) (changes d scope h)

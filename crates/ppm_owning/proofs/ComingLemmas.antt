@@ -3,22 +3,23 @@ use Rattle.std.proofs.Common.{◌≡◌, ◌≢◌, ◌≤◌, ◌<◌, inl, inr
 use Rattle.std.specs.Prelude.{Result, Ok, Err}
 use Rattle.ppm_tree.specs.declared.named.Named.{Named}
 use Rattle.ppm_tree.specs.declared.tree.Array.{Array}
-use Rattle.ppm_tree.specs.Tree.{Expression, Side, Statement, Block, Then, If, While, Split, Each, ProgramTree}
+use Rattle.ppm_tree.specs.Tree.{Expression, Side, Statement, Block, Then, If, While, Split, Each, Procedure, ProgramTree}
 use Rattle.ppm_tree.specs.Tree as tree
-use Rattle.ppm_tree.specs.State.{TrapAt, then_with, Frame, Regions, Arrays, empty_frame, entered, both_entered}
+use Rattle.ppm_tree.specs.State.{TrapAt, then_with, Region, part_at, Frame, Regions, Arrays, empty_frame, entered, both_entered}
 use Rattle.ppm_tree.specs.Program.{main_of}
 use Rattle.ppm_regions.specs.declared.ask.Ask.TheVariants as ask
 use Rattle.ppm_regions.specs.Scope.{Scope, declared, part, in_split, in_each, parts_of, element_of, index_of, lets_of}
 use Rattle.ppm_regions.specs.Uses.{Lending, Asks, uses_in, uses_of_side, both_targets, lent_by, lent_together, declaration_sites, sites_of_block, lendings_of}
 use Rattle.ppm_regions.specs.Admission.{IsAdmitted}
 use Rattle.ppm_regions.specs.Correct.{Makes, KeepsRules}
+use Rattle.ppm_owning.specs.Words.{ShareNoWord, IsPart}
 use Rattle.ppm_owning.specs.Owning.{IsSeen, OwnsApart, LieInArrays, OwnsNoMore, AreSeparate}
-use Rattle.ppm_owning.specs.Coming.{scope_of, callee, split_scope, each_scope, split_frame, each_frame, ComesTo}
+use Rattle.ppm_owning.specs.Coming.{scope_of, callee, split_scope, each_scope, split_frame, each_frame, stretch_frame, ComesTo}
 use Rattle.ppm_owning.specs.Coming.{Main, Behind, InHolds, InElse, InWhile, InSplit, InEach, InCall, InLeft, InRight}
-use Rattle.ppm_owning.proofs.ScopeLemmas.{seen_before, writable_before}
+use Rattle.ppm_owning.proofs.ScopeLemmas.{seen_before, writable_before, owned_before, written_before}
 use Rattle.ppm_owning.proofs.SiteLemmas.{AreSites, sites_left, sites_right, AreMade, made_left, made_right, made_head, uses_first, sites_inside}
 use Rattle.ppm_owning.proofs.SiteLemmas.{sites_behind, callee_sites, sites_of_body, AreNew, are_new}
-use Rattle.ppm_owning.proofs.PartLemmas.{ComesFrom, lie_still, owns_no_more}
+use Rattle.ppm_owning.proofs.PartLemmas.{ComesFrom, lie_still, owns_no_more, owns_on, owns_itself, element_in, elements_share_none, share_none_back}
 use Rattle.ppm_owning.proofs.SplitLemmas.{split_from, split_apart, each_from, each_apart, beside}
 use Rattle.ppm_owning.proofs.LendLemmas.{NoClash, no_clash, no_clash_left, no_clash_right}
 use Rattle.ppm_owning.proofs.CallLemmas.{AreLent}
@@ -95,16 +96,30 @@ module _ (t : ProgramTree) (rules : KeepsRules t) (admitted : IsAdmitted t) wher
         sites_right t (declaration_sites (in_each scope r) (element_of scope r i x)) (sites_of_block t (each_scope scope r i x) s)
         (sites_inside t scope (Each i x r s) b sites)
 
+    pub part_comes : (f : Frame) (q : Region) → IsPart q (f.regions r.name)
+        → ComesFrom (each_scope scope r i x) (stretch_frame f x q).regions scope f.regions
+    part_comes f q short = each_from scope r each_whole i x f q short each_new.1.0
+
     pub each_comes : (f : Frame) (k : ℕ) → k < (f.regions r.name).length
         → ComesFrom (each_scope scope r i x) (each_frame f r k i x).regions scope f.regions
-    each_comes f k short = each_from scope r each_whole i x f k short each_new.1.0
+    each_comes f k short = part_comes f (part_at k (f.regions r.name)) (element_in (f.regions r.name) k short)
+
+    pub part_apart : (f : Frame) (q : Region) → IsPart q (f.regions r.name) → OwnsApart scope f.regions
+        → OwnsApart (each_scope scope r i x) (stretch_frame f x q).regions
+    part_apart f q short own = each_apart scope r each_whole i x f q short each_new.1.0 own
+
+    pub parts_beside : (f : Frame) (q w : Region) → OwnsApart scope f.regions → IsPart q (f.regions r.name) → IsPart w (f.regions r.name) → ShareNoWord q w
+        → AreSeparate (each_scope scope r i x) (stretch_frame f x q).regions (each_scope scope r i x) (stretch_frame f x w).regions
+    parts_beside f q w own short short' differ = record {
+      left = beside scope r each_whole i x f each_new.1.0 own q w short short' differ;
+      right = λ a j o m. beside scope r each_whole i x f each_new.1.0 own w q short' short (share_none_back differ) a j m o;
+    }
 
     pub elements_beside : (f : Frame) (k l : ℕ) → OwnsApart scope f.regions → k < (f.regions r.name).length → l < (f.regions r.name).length → k ≢ l
         → AreSeparate (each_scope scope r i x) (each_frame f r k i x).regions (each_scope scope r i x) (each_frame f r l i x).regions
-    elements_beside f k l own short short' differ = record {
-      left = beside scope r each_whole i x f each_new.1.0 own k l short short' differ;
-      right = λ a j o m. beside scope r each_whole i x f each_new.1.0 own l k short' short (λ e. differ (sym e)) a j m o;
-    }
+    elements_beside f k l own short short' differ =
+        parts_beside f (part_at k (f.regions r.name)) (part_at l (f.regions r.name)) own (element_in (f.regions r.name) k short)
+        (element_in (f.regions r.name) l short') (elements_share_none (f.regions r.name) k l differ)
 
   -- the arguments of a call, and of the sides of a fork
   module _ (scope : Scope) (b : Block) (f : Frame) (a : Arrays) where
@@ -197,23 +212,23 @@ module _ (t : ProgramTree) (rules : KeepsRules t) (admitted : IsAdmitted t) wher
     within = subst (λ (r : Regions). LieInArrays t.arrays scope r) (sym same) h.within;
   }
 
-  pub stands : {scope : Scope} {b : Block} {f : Frame} → ComesTo t scope b f → Stands scope b f
+  pub stands : {p : Procedure} {g : Frame} {scope : Scope} {b : Block} {f : Frame} → ComesTo t p g scope b f → Stands scope b f
   stands Main = record {
     sites = sites_of_body t (main_of t) (callee_sites t _);
     apart = main_apart t.arrays (main_of t).parameters;
     within = main_within t.arrays (main_of t).parameters;
   }
-  stands (Behind scope s b f l c) = behind scope s b f _ refl (stands c)
-  stands (InHolds scope e s u b f c) =
+  stands (Behind p g scope s b f l c) = behind scope s b f _ refl (stands c)
+  stands (InHolds p g scope e s u b f c) =
       let h = stands c in
       branch scope _ s f f refl (sites_left t (sites_of_block t scope s) (sites_of_block t scope u) (sites_inside t scope (If e s u) b h.sites)) h
-  stands (InElse scope e s u b f c) =
+  stands (InElse p g scope e s u b f c) =
       let h = stands c in
       branch scope _ u f f refl (sites_right t (sites_of_block t scope s) (sites_of_block t scope u) (sites_inside t scope (If e s u) b h.sites)) h
-  stands (InWhile scope e s b f l c) =
+  stands (InWhile p g scope e s b f l c) =
       let h = stands c in
       branch scope _ s f _ refl (sites_inside t scope (While e s) b h.sites) h
-  stands (InSplit scope line r e x y s b f n short c) =
+  stands (InSplit p g scope line r e x y s b f n short c) =
       let h = stands c in
       let new = split_new scope line r e x y s b h.sites in
       record {
@@ -221,32 +236,49 @@ module _ (t : ProgramTree) (rules : KeepsRules t) (admitted : IsAdmitted t) wher
         apart = split_apart scope r (split_whole scope line r e x y s b h.sites) x y f n short new.0 new.1.0 h.apart;
         within = lie_still (split_comes scope line r e x y s b h.sites f n short) t.arrays h.within;
       }
-  stands (InEach scope i x r s b f k short c) =
+  stands (InEach p g scope i x r s b f k short c) =
       let h = stands c in
-      let new = each_new scope i x r s b h.sites in
       record {
         sites = each_sites scope i x r s b h.sites;
-        apart = each_apart scope r (each_whole scope i x r s b h.sites) i x f k short new.1.0 h.apart;
+        apart = part_apart scope i x r s b h.sites f (part_at k (f.regions r.name)) (element_in (f.regions r.name) k short) h.apart;
         within = lie_still (each_comes scope i x r s b h.sites f k short) t.arrays h.within;
       }
-  stands (InCall scope s b f g a is c) =
-      let h = stands c in
-      record {
-        sites = body_sites s;
-        apart = call_apart scope s b f g a h.sites is h.apart;
-        within = lie_still (call_comes scope s b f g a h.sites is) t.arrays h.within;
-      }
-  stands (InLeft scope s u b f g h a is c) =
+  stands (InCall p g scope s b f h a is c) =
       let o = stands c in
       record {
         sites = body_sites s;
-        apart = left_apart scope s u b f g h a o.sites is o.apart;
-        within = lie_still (left_comes scope s u b f g h a o.sites is) t.arrays o.within;
+        apart = call_apart scope s b f h a o.sites is o.apart;
+        within = lie_still (call_comes scope s b f h a o.sites is) t.arrays o.within;
       }
-  stands (InRight scope s u b f g h a is c) =
+  stands (InLeft p g scope s u b f l r a is c) =
+      let o = stands c in
+      record {
+        sites = body_sites s;
+        apart = left_apart scope s u b f l r a o.sites is o.apart;
+        within = lie_still (left_comes scope s u b f l r a o.sites is) t.arrays o.within;
+      }
+  stands (InRight p g scope s u b f l r a is c) =
       let o = stands c in
       record {
         sites = body_sites u;
-        apart = right_apart scope s u b f g h a o.sites is o.apart;
-        within = lie_still (right_comes scope s u b f g h a o.sites is) t.arrays o.within;
+        apart = right_apart scope s u b f l r a o.sites is o.apart;
+        within = lie_still (right_comes scope s u b f l r a o.sites is) t.arrays o.within;
       }
+
+  -- and it owns no more than the frame that the procedure was entered with
+  pub at_home : {p : Procedure} {g : Frame} {scope : Scope} {b : Block} {f : Frame} → ComesTo t p g scope b f
+      → OwnsNoMore scope f.regions (scope_of p) g.regions
+  at_home Main = owns_itself (scope_of (main_of t)) _
+  at_home (Behind p g scope s b f l c) =
+      let here : OwnsNoMore (scope ++ lets_of s) f.regions scope f.regions =
+      record { owned = owned_before scope s f.regions; written = written_before scope s f.regions } in
+      owns_on here (at_home c)
+  at_home (InHolds p g scope e s u b f c) = at_home c
+  at_home (InElse p g scope e s u b f c) = at_home c
+  at_home (InWhile p g scope e s b f l c) = at_home c
+  at_home (InSplit p g scope line r e x y s b f n short c) =
+      owns_on (owns_no_more (split_comes scope line r e x y s b (stands c).sites f n short)) (at_home c)
+  at_home (InEach p g scope i x r s b f k short c) = owns_on (owns_no_more (each_comes scope i x r s b (stands c).sites f k short)) (at_home c)
+  at_home (InCall p g scope s b f h a is c) = owns_itself (scope_of (callee t s)) h.regions
+  at_home (InLeft p g scope s u b f l r a is c) = owns_itself (scope_of (callee t s)) l.regions
+  at_home (InRight p g scope s u b f l r a is c) = owns_itself (scope_of (callee t u)) r.regions

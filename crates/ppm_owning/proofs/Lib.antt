@@ -10,5 +10,6 @@ pub mod WordLemmas
 pub mod ExpressionLemmas
 pub mod ChangeLemmas
 pub mod LocalLemmas
+pub mod StretchLemmas
 pub mod SwapLemmas
 pub mod Theorem

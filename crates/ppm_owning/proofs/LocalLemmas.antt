@@ -183,7 +183,8 @@ module _ (form : Form) (t : ProgramTree) (rules : KeepsRules t) (admitted : IsAd
         (c, SplitTraps line r e x y s b f c stop (sym value ∙ is), keeps_itself a c same.shape)
     local (Eaches i x r s b f a d w) scope h c same =
         let inside = λ (k : ℕ) (short : k < (f.regions r.name).length). (owns_no_more (each_comes t rules admitted scope i x r s b h f k short)).owned in
-        let p = local_sweeps d (each_scope scope r i x) scope (each_sites t rules admitted scope i x r s b h) (λ k short. inside k (omega (arith, short))) c same in
+        let p = local_sweeps d (each_scope scope r i x) scope f.regions (each_sites t rules admitted scope i x r s b h)
+        (λ k past short. inside k (omega (arith, short))) c same in
         let q = local_follows w (scope ++ lets_of (Each i x r s)) (sites_behind t scope (Each i x r s) b h) p.0 (same_behind scope (Each i x r s) f same p.2) in
         (q.0, Eaches i x r s b f c p.1 q.1, keeps_on p.2 q.2)
 
@@ -218,21 +219,22 @@ module _ (form : Form) (t : ProgramTree) (rules : KeepsRules t) (admitted : IsAd
         let run = subst₂ (λ (k : Counts) (z : End ℤ). Enters form t.procedures p f c (both (spent 1) (both j k)) z) (turn_over p.give y q.0) gift (Enter p f c q.1) in
         (q.0, run, subst (λ (b : Arrays). KeepsSameness a c b q.0) (sym (given_leaves p.give f y)) q.2)
 
-    local_sweeps : {i x : Named} {s : Block} {r : Region} {f : Frame} {n m : ℕ} {a : Arrays} {k : Counts} {z : End Locals}
-        → Sweeps form t.procedures i x s r f n m a k z → (scope outer : Scope) → AreSites t (sites_of_block t scope s)
-        → ((k : ℕ) → k < n + m → (j l : ℕ) → Owns scope (with_element f r k i x).regions j l → Owns outer f.regions j l)
-        → (c : Arrays) → AreSameAt (Owns outer f.regions) a c
+    pub local_sweeps : {i x : Named} {s : Block} {r : Region} {f : Frame} {n m : ℕ} {a : Arrays} {k : Counts} {z : End Locals}
+        → Sweeps form t.procedures i x s r f n m a k z → (scope outer : Scope) (whole : Regions) → AreSites t (sites_of_block t scope s)
+        → ((k : ℕ) → n ≤ k → k < n + m → (j l : ℕ) → Owns scope (with_element f r k i x).regions j l → Owns outer whole j l)
+        → (c : Arrays) → AreSameAt (Owns outer whole) a c
         → (d : Arrays) × Sweeps form t.procedures i x s r f n m c k (over z d) × KeepsSameness a c (arrays_of z) d
-    local_sweeps (Swept i x s r f n a) scope outer h inside c same = (c, Swept i x s r f n c, keeps_itself a c same.shape)
-    local_sweeps (Sweep i x s r f n m a {j = j} {k = k} {y = y} {z = z} d on w) scope outer h inside c same =
-        let p = local d scope h c (same_less (inside n (omega arith)) same) in
-        let q = local_sweeps w scope outer h (λ k short. inside k (omega (arith, short))) p.0 (same_on same p.2) in
+    local_sweeps (Swept i x s r f n a) scope outer whole h inside c same = (c, Swept i x s r f n c, keeps_itself a c same.shape)
+    local_sweeps (Sweep i x s r f n m a {j = j} {k = k} {y = y} {z = z} d on w) scope outer whole h inside c same =
+        let p = local d scope h c (same_less (inside n (omega arith) (omega arith)) same) in
+        let more = λ (k : ℕ) (past : suc n ≤ k) (short : k < suc n + m). inside k (omega (arith, past)) (omega (arith, short)) in
+        let q = local_sweeps w scope outer whole h more p.0 (same_on same p.2) in
         let rest = subst (λ (b : Arrays). Sweeps form t.procedures i x s r f (suc n) m b k (over z q.0)) (sym (over_has y p.0)) q.1 in
         let run = Sweep i x s r f n m c p.1 (goes_on_over form y p.0 ∙ on) rest in (
           q.0,
           subst (λ (u : End Locals). Sweeps form t.procedures i x s r f n (suc m) c (both (spent 8) (both j k)) u) (first_over y z p.0 q.0) run,
           subst (λ (b : Arrays). KeepsSameness a c b q.0) (sym (first_leaves y z)) (keeps_on p.2 q.2),
         )
-    local_sweeps (SweepStops i x s r f n m a a' stop plain d) scope outer h inside c same =
-        let p = local d scope h c (same_less (inside n (omega arith)) same) in
+    local_sweeps (SweepStops i x s r f n m a a' stop plain d) scope outer whole h inside c same =
+        let p = local d scope h c (same_less (inside n (omega arith) (omega arith)) same) in
         (p.0, SweepStops i x s r f n m c p.0 stop plain p.1, p.2)

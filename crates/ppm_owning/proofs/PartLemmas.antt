@@ -6,6 +6,7 @@ use Rattle.ppm_tree.specs.State.{Region, Regions, first_part, second_part, part_
 use Rattle.ppm_regions.specs.Scope.{Declaration, Scope, declared, is_region}
 use Rattle.ppm_owning.specs.Words.{HasWord, ShareNoWord, IsPart}
 use Rattle.ppm_owning.specs.Owning.{IsSeen, IsWritable, Owns, MayWrite, OwnsApart, words_at, LieInArrays, OwnsNoMore, AreSeparate}
+use Rattle.ppm_owning.specs.Coming.{stretch}
 use Rattle.ppm_owning.proofs.ScopeLemmas.{name_cases, mut_is_region, writable_seen}
 
 pub part_of_itself : (r : Region) → IsPart r r
@@ -31,6 +32,12 @@ second_in r n h = record { array = refl; from = omega arith; to = omega (arith, 
 
 pub element_in : (r : Region) (k : ℕ) → k < r.length → IsPart (part_at k r) r
 element_in r k h = record { array = refl; from = omega arith; to = omega (arith, h) }
+
+pub stretch_in : (r : Region) (n m : ℕ) → n + m ≤ r.length → IsPart (stretch n m r) r
+stretch_in r n m h = record { array = refl; from = omega arith; to = omega (arith, h) }
+
+pub element_of_stretch : (r : Region) (n m k : ℕ) → n ≤ k → k < n + m → IsPart (part_at k r) (stretch n m r)
+element_of_stretch r n m k h l = record { array = refl; from = omega (arith, h); to = omega (arith, l) }
 
 pub halves_share_none : (r : Region) (n : ℕ) → ShareNoWord (first_part n r) (second_part n r)
 halves_share_none r n = record { none = λ a i p q. absurd (omega (arith, p.below, q.from)) }
@@ -93,3 +100,10 @@ module _ {inner : Scope} {parts : Regions} {scope : Scope} {regions : Regions} (
         let to = o.part.to in
         omega (arith, there, same, to);
   }
+
+-- what owns no more than what owns no more
+pub owns_on : {s₁ s₂ s₃ : Scope} {r₁ r₂ r₃ : Regions} → OwnsNoMore s₁ r₁ s₂ r₂ → OwnsNoMore s₂ r₂ s₃ r₃ → OwnsNoMore s₁ r₁ s₃ r₃
+owns_on p q = record { owned = λ a i h. q.owned a i (p.owned a i h); written = λ a i h. q.written a i (p.written a i h) }
+
+pub owns_itself : (s : Scope) (r : Regions) → OwnsNoMore s r s r
+owns_itself s r = record { owned = λ a i h. h; written = λ a i h. h }

@@ -10,7 +10,7 @@ use Rattle.ppm_regions.specs.Scope.{Declaration, Scope, declared, is_region, par
 use Rattle.ppm_regions.specs.Scope.{parts_of, element_of, index_of}
 use Rattle.ppm_owning.specs.Words.{HasWord, ShareNoWord, IsPart}
 use Rattle.ppm_owning.specs.Owning.{IsSeen, IsWritable, OwnsApart, AreSeparate, Owns, MayWrite}
-use Rattle.ppm_owning.specs.Coming.{split_scope, each_scope, split_frame, each_frame}
+use Rattle.ppm_owning.specs.Coming.{split_scope, each_scope, split_frame, stretch_frame}
 use Rattle.ppm_owning.proofs.ScopeLemmas.{names_same, same_names, names_other, other_names, name_cases, found_cases, none_and_some, some_same}
 use Rattle.ppm_owning.proofs.ScopeLemmas.{declared_in_front, declared_behind, declared_name, declared_map, image_of, no_image, writable_seen, mut_is_region}
 use Rattle.ppm_owning.proofs.SiteLemmas.{AreNew}
@@ -159,23 +159,23 @@ module _ (scope : Scope) (r : Named) (whole : IsSeen scope r.name) where
       apart = λ z v m k other. split_apart_at h z v m k other (of_split z m.declaration m.found m.shown) (of_split v k.declaration k.found k.shown);
     }
 
-  -- the same for an element's block of an `each`
-  module _ (i x : Named) (f : Frame) (k : ℕ) (short : k < (f.regions r.name).length)
+  -- the same for the block of an `each`, with any part of the region in the place of an element
+  module _ (i x : Named) (f : Frame) (q : Region) (short : IsPart q (f.regions r.name))
       (x_new : declared (in_each scope r ++ index_of i ∷ []) x.name ≡ None) where
     -- the regions of the block
     abbrev elements : Regions
-    elements = (each_frame f r k i x).regions
+    elements = (stretch_frame f x q).regions
 
     -- a region of the block is one of outside, which is not written there, or the element
     data OfEach (z : List ℕ) (e : Declaration) : Type 0 where
       Around : (d : Declaration) → declared scope z ≡ Some d → seen_in_each r d ≡ e → z ≢ r.name → elements z ≡ f.regions z → OfEach z e
-      Element : x.name ≡ z → part scope r x ≡ e → elements z ≡ part_at k (f.regions r.name) → OfEach z e
+      Element : x.name ≡ z → part scope r x ≡ e → elements z ≡ q → OfEach z e
 
-    at_element : (z : List ℕ) → x.name ≡ z → elements z ≡ part_at k (f.regions r.name)
-    at_element z same = ap (λ (b : Bool). cond b (part_at k (f.regions r.name)) (f.regions z)) (names_same x.name z same)
+    at_element : (z : List ℕ) → x.name ≡ z → elements z ≡ q
+    at_element z same = ap (λ (b : Bool). cond b q (f.regions z)) (names_same x.name z same)
 
     at_around : (z : List ℕ) → x.name ≢ z → elements z ≡ f.regions z
-    at_around z other = ap (λ (b : Bool). cond b (part_at k (f.regions r.name)) (f.regions z)) (names_other x.name z other)
+    at_around z other = ap (λ (b : Bool). cond b q (f.regions z)) (names_other x.name z other)
 
     around : (z : List ℕ) (e c : Declaration) → declared (in_each scope r) z ≡ Some c → c ≡ e → e.hidden ≡ false → OfEach z e
     around z e c there same shown =
@@ -210,7 +210,7 @@ module _ (scope : Scope) (r : Named) (whole : IsSeen scope r.name) where
       part = subst (λ (q : Region). IsPart q (f.regions z)) (sym at) (part_of_itself (f.regions z));
     }
     each_origin z e region shown (Element same is at) =
-        part_origin f.regions x e (elements z) is (subst (λ (q : Region). IsPart q (f.regions r.name)) (sym at) (element_in (f.regions r.name) k short))
+        part_origin f.regions x e (elements z) is (subst (λ (q : Region). IsPart q (f.regions r.name)) (sym at) short)
 
     pub each_from : ComesFrom (each_scope scope r i x) elements scope f.regions
     each_from = record { origin = λ z e found region shown. each_origin z e region shown (of_each z e found region shown) }
@@ -230,25 +230,24 @@ module _ (scope : Scope) (r : Named) (whole : IsSeen scope r.name) where
           (of_each v n.declaration n.found n.region n.shown);
     }
 
-  -- two elements' blocks own apart: what the one writes is its element
+  -- two such blocks own apart: what the one writes is in its part
   module _ (i x : Named) (f : Frame) (x_new : declared (in_each scope r ++ index_of i ∷ []) x.name ≡ None) (h : OwnsApart scope f.regions)
-      (k l : ℕ) (short : k < (f.regions r.name).length) (short' : l < (f.regions r.name).length) (differ : k ≢ l) where
-    beside_at : (a j : ℕ) (m : MayWrite (each_scope scope r i x) (each_frame f r k i x).regions a j) (o : Owns (each_scope scope r i x)
-        (each_frame f r l i x).regions a j) → OfEach i x f k short x_new m.name m.writable.declaration
-        → OfEach i x f l short' x_new o.name o.seen.declaration → ⊥
-    beside_at a j m o (Around d found same out at) q = true_and_false (ap (λ (e : Declaration). e.outer) same ∙ m.writable.inner)
+      (q w : Region) (short : IsPart q (f.regions r.name)) (short' : IsPart w (f.regions r.name)) (differ : ShareNoWord q w) where
+    beside_at : (a j : ℕ) (m : MayWrite (each_scope scope r i x) (stretch_frame f x q).regions a j) (o : Owns (each_scope scope r i x)
+        (stretch_frame f x w).regions a j) → OfEach i x f q short x_new m.name m.writable.declaration
+        → OfEach i x f w short' x_new o.name o.seen.declaration → ⊥
+    beside_at a j m o (Around d found same out at) p = true_and_false (ap (λ (e : Declaration). e.outer) same ∙ m.writable.inner)
     beside_at a j m o (Element same is at) (Element same' is' at') =
-        (elements_share_none (f.regions r.name) k l differ).none a j (subst (λ (q : Region). HasWord q a j) at m.has)
-        (subst (λ (q : Region). HasWord q a j) at' o.has)
+        differ.none a j (subst (λ (q : Region). HasWord q a j) at m.has) (subst (λ (q : Region). HasWord q a j) at' o.has)
     beside_at a j m o (Element same is at) (Around d' found' same' out' at') =
-        let p = each_origin i x f k short x_new m.name m.writable.declaration (mut_is_region m.writable.written) m.writable.shown (Element same is at) in
-        let q = each_origin i x f l short' x_new o.name o.seen.declaration o.seen.region o.seen.shown (Around d' found' same' out' at') in
-        (apart_by_origin h p q m.writable.written m.writable.inner (λ e. out' (sym e))).none a j m.has o.has
+        let p = each_origin i x f q short x_new m.name m.writable.declaration (mut_is_region m.writable.written) m.writable.shown (Element same is at) in
+        let p' = each_origin i x f w short' x_new o.name o.seen.declaration o.seen.region o.seen.shown (Around d' found' same' out' at') in
+        (apart_by_origin h p p' m.writable.written m.writable.inner (λ e. out' (sym e))).none a j m.has o.has
 
-    pub beside : (a j : ℕ) → MayWrite (each_scope scope r i x) (each_frame f r k i x).regions a j
-        → Owns (each_scope scope r i x) (each_frame f r l i x).regions a j → ⊥
+    pub beside : (a j : ℕ) → MayWrite (each_scope scope r i x) (stretch_frame f x q).regions a j
+        → Owns (each_scope scope r i x) (stretch_frame f x w).regions a j → ⊥
     beside a j m o =
-        let w = m.writable in
+        let v = m.writable in
         let s = o.seen in
-        beside_at a j m o (of_each i x f k short x_new m.name w.declaration w.found (mut_is_region w.written) w.shown)
-        (of_each i x f l short' x_new o.name s.declaration s.found s.region s.shown)
+        beside_at a j m o (of_each i x f q short x_new m.name v.declaration v.found (mut_is_region v.written) v.shown)
+        (of_each i x f w short' x_new o.name s.declaration s.found s.region s.shown)

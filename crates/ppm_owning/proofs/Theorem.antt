@@ -1,45 +1,58 @@
 -- The laws, put together.
 use Rattle.std.proofs.Common.{ℕ, ◌<◌, ◌≢◌}
 use Rattle.ppm_tree.specs.declared.named.Named.{Named}
-use Rattle.ppm_tree.specs.Tree.{Side, Block, Then, Each, ProgramTree}
+use Rattle.ppm_tree.specs.Tree.{Side, Block, Then, Each, Procedure, ProgramTree}
 use Rattle.ppm_tree.specs.State.{Frame}
-use Rattle.ppm_tree.specs.Meaning.{Form, Runs, Enters}
+use Rattle.ppm_tree.specs.Meaning.{Form, Runs, Enters, Sweeps}
 use Rattle.ppm_regions.specs.Scope.{Scope}
 use Rattle.ppm_regions.specs.Admission.{IsAdmitted}
 use Rattle.ppm_regions.proofs.Rules.{rules}
-use Rattle.ppm_owning.specs.Coming.{scope_of, callee, each_scope, each_frame, ComesTo, InEach}
+use Rattle.ppm_owning.specs.Coming.{scope_of, callee, each_scope, each_frame, stretch, stretch_frame, ComesTo, InEach}
 use Rattle.ppm_owning.specs.Correct.{OwnApart, IsWithin, StayWithin, MaySwap, RunInEitherOrder}
 use Rattle.ppm_owning.proofs.SiteLemmas.{callee_sites}
-use Rattle.ppm_owning.proofs.PartLemmas.{owns_no_more}
-use Rattle.ppm_owning.proofs.ComingLemmas.{stands, split_comes, each_comes, elements_beside, call_comes, left_comes, right_comes, sides_separate}
-use Rattle.ppm_owning.proofs.ChangeLemmas.{changes, changes_enters}
-use Rattle.ppm_owning.proofs.LocalLemmas.{local, local_enters}
+use Rattle.ppm_owning.proofs.PartLemmas.{owns_no_more, stretch_in, element_of_stretch}
+use Rattle.ppm_owning.proofs.ComingLemmas.{stands, at_home, split_comes, each_comes, each_sites, part_comes, part_apart, parts_beside, elements_beside, call_comes, left_comes, right_comes, sides_separate}
+use Rattle.ppm_owning.proofs.ChangeLemmas.{changes, changes_enters, changes_sweeps}
+use Rattle.ppm_owning.proofs.LocalLemmas.{local, local_enters, local_sweeps}
+use Rattle.ppm_owning.proofs.StretchLemmas.{owned_in, written_in, starts_so}
 use Rattle.ppm_owning.proofs.SwapLemmas.{may_swap, separate_back}
 
 pub apart_everywhere : OwnApart
 apart_everywhere t admitted =
     let keeps = rules t admitted in
     record {
-      apart = λ scope b f c. (stands t keeps admitted c).apart;
-      within = λ scope b f c. (stands t keeps admitted c).within;
-      split = λ scope line r e x y s b f n c short.
+      start = starts_so t admitted;
+      within = λ p g scope b f c. (stands t keeps admitted c).within;
+      apart = λ p g scope b f c. (stands t keeps admitted c).apart;
+      home = λ p g scope b f c. at_home t keeps admitted c;
+      split = λ p g scope line r e x y s b f n c short.
           owns_no_more (split_comes t keeps admitted scope line r e x y s b (stands t keeps admitted c).sites f n short);
-      element = λ scope i x r s b f k c short. owns_no_more (each_comes t keeps admitted scope i x r s b (stands t keeps admitted c).sites f k short);
-      elements = λ scope i x r s b f k l c short short' differ.
+      element = λ p g scope i x r s b f k c short.
+          owns_no_more (each_comes t keeps admitted scope i x r s b (stands t keeps admitted c).sites f k short);
+      elements = λ p g scope i x r s b f k l c short short' differ.
           let h = stands t keeps admitted c in
           elements_beside t keeps admitted scope i x r s b h.sites f k l h.apart short short' differ;
-      call = λ scope s b f g a c is. owns_no_more (call_comes t keeps admitted scope s b f g a (stands t keeps admitted c).sites is);
-      left = λ scope s u b f g h a c is. owns_no_more (left_comes t keeps admitted scope s u b f g h a (stands t keeps admitted c).sites is);
-      right = λ scope s u b f g h a c is. owns_no_more (right_comes t keeps admitted scope s u b f g h a (stands t keeps admitted c).sites is);
-      branches = λ scope s u b f g h a c is.
-          let o = stands t keeps admitted c in
-          sides_separate t keeps admitted scope s u b f g h a o.sites is o.apart;
+      part = λ p g scope i x r s b f q c short.
+          let h = stands t keeps admitted c in (
+            part_apart t keeps admitted scope i x r s b h.sites f q short h.apart,
+            owns_no_more (part_comes t keeps admitted scope i x r s b h.sites f q short)
+          );
+      parts = λ p g scope i x r s b f q w c short short' differ.
+          let h = stands t keeps admitted c in
+          parts_beside t keeps admitted scope i x r s b h.sites f q w h.apart short short' differ;
+      call = λ p g scope s b f h a c is. owns_no_more (call_comes t keeps admitted scope s b f h a (stands t keeps admitted c).sites is);
+      fork = λ p g scope s u b f l r a c is.
+          let o = stands t keeps admitted c in (
+            owns_no_more (left_comes t keeps admitted scope s u b f l r a o.sites is),
+            owns_no_more (right_comes t keeps admitted scope s u b f l r a o.sites is),
+            sides_separate t keeps admitted scope s u b f l r a o.sites is o.apart
+          );
     }
 
 module _ (form : Form) (t : ProgramTree) (admitted : IsAdmitted t) where
-  -- the runs of a block that a run comes to, and those of a procedure
-  block_within : (scope : Scope) (b : Block) (f : Frame) → ComesTo t scope b f → IsWithin scope f (Runs form t.procedures b f)
-  block_within scope b f c =
+  -- the runs of a block that a run comes to
+  block_within : {p : Procedure} {g : Frame} {scope : Scope} {b : Block} {f : Frame} → ComesTo t p g scope b f → IsWithin scope f (Runs form t.procedures b f)
+  block_within {scope = scope} c =
       let keeps = rules t admitted in
       let sites = (stands t keeps admitted c).sites in
       record {
@@ -47,6 +60,23 @@ module _ (form : Form) (t : ProgramTree) (admitted : IsAdmitted t) where
         local = λ a b k z r same. local form t keeps admitted r scope sites b same;
       }
 
+  -- those of an `each` over some indices
+  sweep_within : {p : Procedure} {g : Frame} (scope : Scope) (i x r : Named) (s b : Block) (f : Frame) (n m : ℕ) → ComesTo t p g scope (Then (Each i x r s) b) f
+      → IsWithin (each_scope scope r i x) (stretch_frame f x (stretch n m (f.regions r.name))) (Sweeps form t.procedures i x s (f.regions r.name) f n m)
+  sweep_within scope i x r s b f n m c =
+      let keeps = rules t admitted in
+      let sites = each_sites t keeps admitted scope i x r s b (stands t keeps admitted c).sites in
+      let inner = each_scope scope r i x in
+      let q = stretch n m (f.regions r.name) in
+      let part = element_of_stretch (f.regions r.name) n m in
+      record {
+        changes = λ a k z d. changes_sweeps form t keeps admitted d inner inner (stretch_frame f x q).regions sites
+            (λ k past short. written_in scope f r i x q k (part k past short) inner);
+        local = λ a b k z d same. local_sweeps form t keeps admitted d inner inner (stretch_frame f x q).regions sites
+            (λ k past short. owned_in scope f r i x q k (part k past short) inner) b same;
+      }
+
+  -- and those of a procedure
   call_within : (s : Side) (f : Frame) → IsWithin (scope_of (callee t s)) f (Enters form t.procedures (callee t s) f)
   call_within s f =
       let keeps = rules t admitted in
@@ -57,22 +87,33 @@ module _ (form : Form) (t : ProgramTree) (admitted : IsAdmitted t) where
       }
 
 pub within_everywhere : StayWithin
-within_everywhere form t admitted = record { block = block_within form t admitted; call = call_within form t admitted }
+within_everywhere form t admitted = record {
+  block = λ p g scope b f c. block_within form t admitted c;
+  sweep = λ p g scope i x r s b f n m c short. sweep_within form t admitted scope i x r s b f n m c;
+  call = call_within form t admitted;
+}
 
 pub either_order : RunInEitherOrder
 either_order form t admitted =
     let frames = apart_everywhere t admitted in
     record {
-      left_first = λ scope s u b f g h a c is.
-          may_swap (Enters form t.procedures (callee t s) g) (Enters form t.procedures (callee t u) h) (scope_of (callee t s)) (scope_of (callee t u)) g h
-          (call_within form t admitted s g) (call_within form t admitted u h) (frames.branches scope s u b f g h a c is);
-      right_first = λ scope s u b f g h a c is.
-          may_swap (Enters form t.procedures (callee t u) h) (Enters form t.procedures (callee t s) g) (scope_of (callee t u)) (scope_of (callee t s)) h g
-          (call_within form t admitted u h) (call_within form t admitted s g) (separate_back (frames.branches scope s u b f g h a c is));
-      blocks = λ scope i x r s b f k l c short short' differ.
+      left_first = λ p g scope s u b f l r a c is.
+          may_swap (Enters form t.procedures (callee t s) l) (Enters form t.procedures (callee t u) r) (scope_of (callee t s)) (scope_of (callee t u)) l r
+          (call_within form t admitted s l) (call_within form t admitted u r) (frames.fork p g scope s u b f l r a c is).2;
+      right_first = λ p g scope s u b f l r a c is.
+          may_swap (Enters form t.procedures (callee t u) r) (Enters form t.procedures (callee t s) l) (scope_of (callee t u)) (scope_of (callee t s)) r l
+          (call_within form t admitted u r) (call_within form t admitted s l) (separate_back (frames.fork p g scope s u b f l r a c is).2);
+      blocks = λ p g scope i x r s b f k l c short short' differ.
           may_swap (Runs form t.procedures s (each_frame f r k i x)) (Runs form t.procedures s (each_frame f r l i x)) (each_scope scope r i x)
           (each_scope scope r i x) (each_frame f r k i x) (each_frame f r l i x)
-          (block_within form t admitted (each_scope scope r i x) s (each_frame f r k i x) (InEach scope i x r s b f k short c))
-          (block_within form t admitted (each_scope scope r i x) s (each_frame f r l i x) (InEach scope i x r s b f l short' c))
-          (frames.elements scope i x r s b f k l c short short' differ);
+          (block_within form t admitted (InEach p g scope i x r s b f k short c)) (block_within form t admitted (InEach p g scope i x r s b f l short' c))
+          (frames.elements p g scope i x r s b f k l c short short' differ);
+      sweeps = λ p g scope i x r s b f n m k l c short short' differ.
+          let q = stretch n m (f.regions r.name) in
+          let w = stretch k l (f.regions r.name) in
+          let whole = f.regions r.name in
+          may_swap (Sweeps form t.procedures i x s whole f n m) (Sweeps form t.procedures i x s whole f k l) (each_scope scope r i x) (each_scope scope r i x)
+          (stretch_frame f x q) (stretch_frame f x w) (sweep_within form t admitted scope i x r s b f n m c)
+          (sweep_within form t admitted scope i x r s b f k l c)
+          (frames.parts p g scope i x r s b f q w c (stretch_in whole n m short) (stretch_in whole k l short') differ);
     }

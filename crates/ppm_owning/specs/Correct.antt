@@ -1,42 +1,56 @@
 -- What the frames of an admitted program own, what its runs touch, and that branches may run in either order.
-use Rattle.std.specs.Prelude.{◌≡◌, ◌≢◌, ◌≤◌, ◌<◌, ℕ, ℤ, Ok}
+use Rattle.std.specs.Prelude.{◌≡◌, ◌≢◌, ◌≤◌, ◌<◌, ℕ, ◌+◌, length, Ok}
 use Rattle.ppm_tree.specs.declared.named.Named.{Named}
-use Rattle.ppm_tree.specs.Tree.{Expression, Side, Block, Then, Split, Each, ProgramTree}
+use Rattle.ppm_tree.specs.Tree.{Expression, Side, Block, Then, Split, Each, Procedure, ProgramTree}
 use Rattle.ppm_tree.specs.Tree as tree
-use Rattle.ppm_tree.specs.State.{Locals, Frame, Arrays, entered, both_entered}
-use Rattle.ppm_tree.specs.Meaning.{Form, Counts, End, arrays_of, Runs, Enters}
+use Rattle.ppm_tree.specs.State.{Region, Frame, Arrays, array_at, entered, both_entered}
+use Rattle.ppm_tree.specs.Meaning.{Form, Counts, End, arrays_of, Runs, Enters, Sweeps}
+use Rattle.ppm_tree.specs.Program.{initial_arrays, values_of}
 use Rattle.ppm_regions.specs.Scope.{Scope}
 use Rattle.ppm_regions.specs.Admission.{IsAdmitted}
-use Rattle.ppm_owning.specs.Words.{AreSameAt, ChangesOnly, KeepsSameness, over}
-use Rattle.ppm_owning.specs.Owning.{Owns, MayWrite, OwnsApart, LieInArrays, OwnsNoMore, AreSeparate}
-use Rattle.ppm_owning.specs.Coming.{scope_of, callee, split_scope, each_scope, split_frame, each_frame, ComesTo}
+use Rattle.ppm_owning.specs.Words.{ShareNoWord, IsPart, AreSameAt, ChangesOnly, KeepsSameness, over}
+use Rattle.ppm_owning.specs.Owning.{Owns, MayWrite, OwnsApart, words_at, LieInArrays, OwnsNoMore, AreSeparate}
+use Rattle.ppm_owning.specs.Coming.{scope_of, callee, split_scope, each_scope, split_frame, each_frame}
+use Rattle.ppm_owning.specs.Coming.{stretch, stretch_frame, ComesTo}
 
--- Wherever a run comes to: a region that may be written shares no word with another in force, and each lies in its array. What a
--- statement goes into owns no more than the frame that it stands in; two branches are separate, and so are two blocks of an `each`.
+-- Wherever a run of the program comes to.
 pub record FramesOwnApart (t : ProgramTree) : Type 0 where
-  pub apart : (scope : Scope) (b : Block) (f : Frame) → ComesTo t scope b f → OwnsApart scope f.regions
-  pub within : (scope : Scope) (b : Block) (f : Frame) → ComesTo t scope b f → LieInArrays t.arrays scope f.regions
-  pub split : (scope : Scope) (line : ℕ) (r : Named) (e : Expression) (x y : Named) (s b : Block) (f : Frame) (n : ℕ)
-      → ComesTo t scope (Then (Split line r e x y s) b) f → n ≤ (f.regions r.name).length
+  -- the arrays that it starts with are as long as they are declared, and each region in force lies in its array
+  pub start : (k : ℕ) → length (array_at (values_of (initial_arrays t)) k) ≡ words_at t.arrays k
+  pub within : (p : Procedure) (g : Frame) (scope : Scope) (b : Block) (f : Frame) → ComesTo t p g scope b f → LieInArrays t.arrays scope f.regions
+  -- no region that may be written shares a word with another in force
+  pub apart : (p : Procedure) (g : Frame) (scope : Scope) (b : Block) (f : Frame) → ComesTo t p g scope b f → OwnsApart scope f.regions
+  -- a frame owns no more than the one that its procedure was entered with
+  pub home : (p : Procedure) (g : Frame) (scope : Scope) (b : Block) (f : Frame) → ComesTo t p g scope b f
+      → OwnsNoMore scope f.regions (scope_of p) g.regions
+  -- the block of a split owns no more than what is around it
+  pub split : (p : Procedure) (g : Frame) (scope : Scope) (line : ℕ) (r : Named) (e : Expression) (x y : Named) (s b : Block) (f : Frame) (n : ℕ)
+      → ComesTo t p g scope (Then (Split line r e x y s) b) f → n ≤ (f.regions r.name).length
       → OwnsNoMore (split_scope scope r x y) (split_frame f r n x y).regions scope f.regions
-  pub element : (scope : Scope) (i x r : Named) (s b : Block) (f : Frame) (k : ℕ)
-      → ComesTo t scope (Then (Each i x r s) b) f → k < (f.regions r.name).length
+  -- nor does the block of an `each`, and two of them, of different indices, are separate
+  pub element : (p : Procedure) (g : Frame) (scope : Scope) (i x r : Named) (s b : Block) (f : Frame) (k : ℕ)
+      → ComesTo t p g scope (Then (Each i x r s) b) f → k < (f.regions r.name).length
       → OwnsNoMore (each_scope scope r i x) (each_frame f r k i x).regions scope f.regions
-  pub elements : (scope : Scope) (i x r : Named) (s b : Block) (f : Frame) (k l : ℕ)
-      → ComesTo t scope (Then (Each i x r s) b) f → k < (f.regions r.name).length → l < (f.regions r.name).length → k ≢ l
+  pub elements : (p : Procedure) (g : Frame) (scope : Scope) (i x r : Named) (s b : Block) (f : Frame) (k l : ℕ)
+      → ComesTo t p g scope (Then (Each i x r s) b) f → k < (f.regions r.name).length → l < (f.regions r.name).length → k ≢ l
       → AreSeparate (each_scope scope r i x) (each_frame f r k i x).regions (each_scope scope r i x) (each_frame f r l i x).regions
-  pub call : (scope : Scope) (s : Side) (b : Block) (f g : Frame) (a : Arrays)
-      → ComesTo t scope (Then (tree.Call s) b) f → entered t.procedures f a s ≡ Ok g
-      → OwnsNoMore (scope_of (callee t s)) g.regions scope f.regions
-  pub left : (scope : Scope) (s u : Side) (b : Block) (f g h : Frame) (a : Arrays)
-      → ComesTo t scope (Then (tree.Fork s u) b) f → both_entered t.procedures f a s u ≡ Ok (g, h)
-      → OwnsNoMore (scope_of (callee t s)) g.regions scope f.regions
-  pub right : (scope : Scope) (s u : Side) (b : Block) (f g h : Frame) (a : Arrays)
-      → ComesTo t scope (Then (tree.Fork s u) b) f → both_entered t.procedures f a s u ≡ Ok (g, h)
-      → OwnsNoMore (scope_of (callee t u)) h.regions scope f.regions
-  pub branches : (scope : Scope) (s u : Side) (b : Block) (f g h : Frame) (a : Arrays)
-      → ComesTo t scope (Then (tree.Fork s u) b) f → both_entered t.procedures f a s u ≡ Ok (g, h)
-      → AreSeparate (scope_of (callee t s)) g.regions (scope_of (callee t u)) h.regions
+  -- so it is where any part of the region stands for the element: as where an `each` is halved
+  pub part : (p : Procedure) (g : Frame) (scope : Scope) (i x r : Named) (s b : Block) (f : Frame) (q : Region)
+      → ComesTo t p g scope (Then (Each i x r s) b) f → IsPart q (f.regions r.name)
+      → OwnsApart (each_scope scope r i x) (stretch_frame f x q).regions
+      × OwnsNoMore (each_scope scope r i x) (stretch_frame f x q).regions scope f.regions
+  pub parts : (p : Procedure) (g : Frame) (scope : Scope) (i x r : Named) (s b : Block) (f : Frame) (q w : Region)
+      → ComesTo t p g scope (Then (Each i x r s) b) f → IsPart q (f.regions r.name) → IsPart w (f.regions r.name) → ShareNoWord q w
+      → AreSeparate (each_scope scope r i x) (stretch_frame f x q).regions (each_scope scope r i x) (stretch_frame f x w).regions
+  -- a callee owns no more than its caller, and so it is with both branches of a fork; these are separate
+  pub call : (p : Procedure) (g : Frame) (scope : Scope) (s : Side) (b : Block) (f h : Frame) (a : Arrays)
+      → ComesTo t p g scope (Then (tree.Call s) b) f → entered t.procedures f a s ≡ Ok h
+      → OwnsNoMore (scope_of (callee t s)) h.regions scope f.regions
+  pub fork : (p : Procedure) (g : Frame) (scope : Scope) (s u : Side) (b : Block) (f l r : Frame) (a : Arrays)
+      → ComesTo t p g scope (Then (tree.Fork s u) b) f → both_entered t.procedures f a s u ≡ Ok (l, r)
+      → OwnsNoMore (scope_of (callee t s)) l.regions scope f.regions
+      × OwnsNoMore (scope_of (callee t u)) r.regions scope f.regions
+      × AreSeparate (scope_of (callee t s)) l.regions (scope_of (callee t u)) r.regions
 
 -- so it is in all admitted programs
 abbrev pub OwnApart : Type 0
@@ -49,9 +63,15 @@ pub record IsWithin {A : Type 0} (scope : Scope) (f : Frame) (run : Arrays → C
   pub local : (a b : Arrays) (k : Counts) (z : End A) → run a k z → AreSameAt (Owns scope f.regions) a b
       → (c : Arrays) × run b k (over z c) × KeepsSameness a b (arrays_of z) c
 
--- the runs of each block that a run comes to, and those of the procedure, stay within the frame's words
+-- the runs of each block that a run comes to stay within the frame's words, those of an `each` over some indices within the words
+-- of these elements, and those of a procedure within the words that it was entered with
 pub record StaysWithin (form : Form) (t : ProgramTree) : Type 0 where
-  pub block : (scope : Scope) (b : Block) (f : Frame) → ComesTo t scope b f → IsWithin scope f (Runs form t.procedures b f)
+  pub block : (p : Procedure) (g : Frame) (scope : Scope) (b : Block) (f : Frame) → ComesTo t p g scope b f
+      → IsWithin scope f (Runs form t.procedures b f)
+  pub sweep : (p : Procedure) (g : Frame) (scope : Scope) (i x r : Named) (s b : Block) (f : Frame) (n m : ℕ)
+      → ComesTo t p g scope (Then (Each i x r s) b) f → n + m ≤ (f.regions r.name).length
+      → IsWithin (each_scope scope r i x) (stretch_frame f x (stretch n m (f.regions r.name)))
+          (Sweeps form t.procedures i x s (f.regions r.name) f n m)
   pub call : (s : Side) (f : Frame) → IsWithin (scope_of (callee t s)) f (Enters form t.procedures (callee t s) f)
 
 -- so it is in all admitted programs
@@ -65,15 +85,20 @@ pub record MaySwap {A B : Type 0} (first : Arrays → Counts → End A → Type 
 
 -- the branches of each fork may run in either order, and so may the blocks of an `each`; traps make no difference
 pub record RunsInEitherOrder (form : Form) (t : ProgramTree) : Type 0 where
-  pub left_first : (scope : Scope) (s u : Side) (b : Block) (f g h : Frame) (a : Arrays)
-      → ComesTo t scope (Then (tree.Fork s u) b) f → both_entered t.procedures f a s u ≡ Ok (g, h)
-      → MaySwap (Enters form t.procedures (callee t s) g) (Enters form t.procedures (callee t u) h)
-  pub right_first : (scope : Scope) (s u : Side) (b : Block) (f g h : Frame) (a : Arrays)
-      → ComesTo t scope (Then (tree.Fork s u) b) f → both_entered t.procedures f a s u ≡ Ok (g, h)
-      → MaySwap (Enters form t.procedures (callee t u) h) (Enters form t.procedures (callee t s) g)
-  pub blocks : (scope : Scope) (i x r : Named) (s b : Block) (f : Frame) (k l : ℕ)
-      → ComesTo t scope (Then (Each i x r s) b) f → k < (f.regions r.name).length → l < (f.regions r.name).length → k ≢ l
+  pub left_first : (p : Procedure) (g : Frame) (scope : Scope) (s u : Side) (b : Block) (f l r : Frame) (a : Arrays)
+      → ComesTo t p g scope (Then (tree.Fork s u) b) f → both_entered t.procedures f a s u ≡ Ok (l, r)
+      → MaySwap (Enters form t.procedures (callee t s) l) (Enters form t.procedures (callee t u) r)
+  pub right_first : (p : Procedure) (g : Frame) (scope : Scope) (s u : Side) (b : Block) (f l r : Frame) (a : Arrays)
+      → ComesTo t p g scope (Then (tree.Fork s u) b) f → both_entered t.procedures f a s u ≡ Ok (l, r)
+      → MaySwap (Enters form t.procedures (callee t u) r) (Enters form t.procedures (callee t s) l)
+  pub blocks : (p : Procedure) (g : Frame) (scope : Scope) (i x r : Named) (s b : Block) (f : Frame) (k l : ℕ)
+      → ComesTo t p g scope (Then (Each i x r s) b) f → k < (f.regions r.name).length → l < (f.regions r.name).length → k ≢ l
       → MaySwap (Runs form t.procedures s (each_frame f r k i x)) (Runs form t.procedures s (each_frame f r l i x))
+  -- and those of two stretches of indices
+  pub sweeps : (p : Procedure) (g : Frame) (scope : Scope) (i x r : Named) (s b : Block) (f : Frame) (n m k l : ℕ)
+      → ComesTo t p g scope (Then (Each i x r s) b) f → n + m ≤ (f.regions r.name).length → k + l ≤ (f.regions r.name).length
+      → ShareNoWord (stretch n m (f.regions r.name)) (stretch k l (f.regions r.name))
+      → MaySwap (Sweeps form t.procedures i x s (f.regions r.name) f n m) (Sweeps form t.procedures i x s (f.regions r.name) f k l)
 
 -- so it is in all admitted programs
 abbrev pub RunInEitherOrder : Type 0
