@@ -96,8 +96,18 @@ module _ {A B : Type 0} (first : Arrays → Counts → End A → Type 0) (second
         let same = same_arrays last (arrays_of y) (shape_on (shape_back behind.2.shape) changed'.shape) same_words in
         (between, in_front.1, subst (λ (d : Arrays). first between j (over x d)) same behind.1)
 
+  -- from the same arrays, the second ends behind the first as in front of it
+  from_there : (a : Arrays) (j k : Counts) (x : End A) (y : End B) → first a j x → second a k y → (c : Arrays) × second (arrays_of x) k (over y c)
+  from_there a j k x y run run' =
+      let only = p.changes a j x run in
+      let there = q.local a (arrays_of x) k y run' (record {
+        shape = only.shape;
+        words = λ n i o. sym (only.kept n i (λ m. apart.left n i m o));
+      }) in
+      (there.0, there.1)
+
   pub may_swap : MaySwap first second
-  may_swap = record { swap = swapped }
+  may_swap = record { swap = swapped; behind = from_there }
 
 pub separate_back : {scope other : Scope} {r s : Regions} → AreSeparate scope r other s → AreSeparate other s scope r
 separate_back h = record { left = λ a i m o. h.right a i o m; right = λ a i o m. h.left a i m o }

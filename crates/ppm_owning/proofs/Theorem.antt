@@ -1,8 +1,8 @@
 -- The laws, put together.
-use Rattle.std.proofs.Common.{ℕ, ◌<◌, ◌≢◌}
+use Rattle.std.proofs.Common.{ℕ, List, ◌<◌, ◌≢◌}
 use Rattle.ppm_tree.specs.declared.named.Named.{Named}
 use Rattle.ppm_tree.specs.Tree.{Side, Block, Then, Each, Procedure, ProgramTree}
-use Rattle.ppm_tree.specs.State.{Frame}
+use Rattle.ppm_tree.specs.State.{Frame, procedure_named}
 use Rattle.ppm_tree.specs.Meaning.{Form, Runs, Enters, Sweeps}
 use Rattle.ppm_regions.specs.Scope.{Scope}
 use Rattle.ppm_regions.specs.Admission.{IsAdmitted}
@@ -77,10 +77,11 @@ module _ (form : Form) (t : ProgramTree) (admitted : IsAdmitted t) where
       }
 
   -- and those of a procedure
-  call_within : (s : Side) (f : Frame) → IsWithin (scope_of (callee t s)) f (Enters form t.procedures (callee t s) f)
-  call_within s f =
+  procedure_within : (x : List ℕ) (f : Frame)
+      → IsWithin (scope_of (procedure_named t.procedures x)) f (Enters form t.procedures (procedure_named t.procedures x) f)
+  procedure_within x f =
       let keeps = rules t admitted in
-      let sites = callee_sites t s.callee.name in
+      let sites = callee_sites t x in
       record {
         changes = λ a k z r. changes_enters form t keeps admitted r sites;
         local = λ a b k z r same. local_enters form t keeps admitted r sites b same;
@@ -90,7 +91,7 @@ pub within_everywhere : StayWithin
 within_everywhere form t admitted = record {
   block = λ p g scope b f c. block_within form t admitted c;
   sweep = λ p g scope i x r s b f n m c short. sweep_within form t admitted scope i x r s b f n m c;
-  call = call_within form t admitted;
+  procedure = procedure_within form t admitted;
 }
 
 pub either_order : RunInEitherOrder
@@ -99,10 +100,10 @@ either_order form t admitted =
     record {
       left_first = λ p g scope s u b f l r a c is.
           may_swap (Enters form t.procedures (callee t s) l) (Enters form t.procedures (callee t u) r) (scope_of (callee t s)) (scope_of (callee t u)) l r
-          (call_within form t admitted s l) (call_within form t admitted u r) (frames.fork p g scope s u b f l r a c is).2;
+          (procedure_within form t admitted s.callee.name l) (procedure_within form t admitted u.callee.name r) (frames.fork p g scope s u b f l r a c is).2;
       right_first = λ p g scope s u b f l r a c is.
           may_swap (Enters form t.procedures (callee t u) r) (Enters form t.procedures (callee t s) l) (scope_of (callee t u)) (scope_of (callee t s)) r l
-          (call_within form t admitted u r) (call_within form t admitted s l) (separate_back (frames.fork p g scope s u b f l r a c is).2);
+          (procedure_within form t admitted u.callee.name r) (procedure_within form t admitted s.callee.name l) (separate_back (frames.fork p g scope s u b f l r a c is).2);
       blocks = λ p g scope i x r s b f k l c short short' differ.
           may_swap (Runs form t.procedures s (each_frame f r k i x)) (Runs form t.procedures s (each_frame f r l i x)) (each_scope scope r i x)
           (each_scope scope r i x) (each_frame f r k i x) (each_frame f r l i x)

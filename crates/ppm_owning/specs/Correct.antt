@@ -1,9 +1,9 @@
 -- What the frames of an admitted program own, what its runs touch, and that branches may run in either order.
-use Rattle.std.specs.Prelude.{◌≡◌, ◌≢◌, ◌≤◌, ◌<◌, ℕ, ◌+◌, length, Ok}
+use Rattle.std.specs.Prelude.{◌≡◌, ◌≢◌, ◌≤◌, ◌<◌, ℕ, ◌+◌, List, length, Ok}
 use Rattle.ppm_tree.specs.declared.named.Named.{Named}
 use Rattle.ppm_tree.specs.Tree.{Expression, Side, Block, Then, Split, Each, Procedure, ProgramTree}
 use Rattle.ppm_tree.specs.Tree as tree
-use Rattle.ppm_tree.specs.State.{Region, Frame, Arrays, array_at, entered, both_entered}
+use Rattle.ppm_tree.specs.State.{Region, Frame, Arrays, array_at, procedure_named, entered, both_entered}
 use Rattle.ppm_tree.specs.Meaning.{Form, Counts, End, arrays_of, Runs, Enters, Sweeps}
 use Rattle.ppm_tree.specs.Program.{initial_arrays, values_of}
 use Rattle.ppm_regions.specs.Scope.{Scope}
@@ -64,7 +64,7 @@ pub record IsWithin {A : Type 0} (scope : Scope) (f : Frame) (run : Arrays → C
       → (c : Arrays) × run b k (over z c) × KeepsSameness a b (arrays_of z) c
 
 -- the runs of each block that a run comes to stay within the frame's words, those of an `each` over some indices within the words
--- of these elements, and those of a procedure within the words that it was entered with
+-- of these elements, and those of a procedure, `main` too, within the words of the frame that it is entered with
 pub record StaysWithin (form : Form) (t : ProgramTree) : Type 0 where
   pub block : (p : Procedure) (g : Frame) (scope : Scope) (b : Block) (f : Frame) → ComesTo t p g scope b f
       → IsWithin scope f (Runs form t.procedures b f)
@@ -72,16 +72,18 @@ pub record StaysWithin (form : Form) (t : ProgramTree) : Type 0 where
       → ComesTo t p g scope (Then (Each i x r s) b) f → n + m ≤ (f.regions r.name).length
       → IsWithin (each_scope scope r i x) (stretch_frame f x (stretch n m (f.regions r.name)))
           (Sweeps form t.procedures i x s (f.regions r.name) f n m)
-  pub call : (s : Side) (f : Frame) → IsWithin (scope_of (callee t s)) f (Enters form t.procedures (callee t s) f)
+  pub procedure : (x : List ℕ) (f : Frame) → IsWithin (scope_of (procedure_named t.procedures x)) f (Enters form t.procedures (procedure_named t.procedures x) f)
 
 -- so it is in all admitted programs
 abbrev pub StayWithin : Type 0
 StayWithin = (form : Form) (t : ProgramTree) → IsAdmitted t → StaysWithin form t
 
--- Where the second stretch runs behind the first, it may as well run in front of it: each ends as it did, and the same words are left.
+-- Where the second run comes behind the first, it may as well come in front of it: each ends as it did, and the same words are left.
+-- Where both may begin from the same arrays, the second ends behind the first as it does from these.
 pub record MaySwap {A B : Type 0} (first : Arrays → Counts → End A → Type 0) (second : Arrays → Counts → End B → Type 0) : Type 0 where
   pub swap : (a : Arrays) (j k : Counts) (x : End A) (y : End B) → first a j x → second (arrays_of x) k y
       → (c : Arrays) × second a k (over y c) × first c j (over x (arrays_of y))
+  pub behind : (a : Arrays) (j k : Counts) (x : End A) (y : End B) → first a j x → second a k y → (c : Arrays) × second (arrays_of x) k (over y c)
 
 -- the branches of each fork may run in either order, and so may the blocks of an `each`; traps make no difference
 pub record RunsInEitherOrder (form : Form) (t : ProgramTree) : Type 0 where
