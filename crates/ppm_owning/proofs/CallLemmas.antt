@@ -1,26 +1,24 @@
 -- The frame that a call makes: each of its regions is one that the caller lends, and no two of them clash.
-use Rattle.std.proofs.Common.{◌≡◌, ◌≢◌, inl, inr, cond, Bool, true, false, ℕ, suc, List, [], ◌∷◌, ◌++◌, Option, Some, None, map, length, refl, sym, ap, ◌∙◌, subst, arith}
+use Rattle.std.proofs.Common.{◌≡◌, ◌≢◌, inl, inr, cond, Bool, true, false, ℕ, List, [], ◌∷◌, ◌++◌, Some, None, map, length, refl, sym, ap, ◌∙◌, subst, arith}
 use Rattle.std.specs.Prelude.{Result, Ok, Err, ℤ}
 use Rattle.std.specs.Str.{bytes_eq}
 use Rattle.std.specs.List.{Contains}
 use Rattle.std.proofs.lemmas.List.Elements.{Contains-append_left, Contains-append_right}
 use Rattle.ppm_tree.specs.declared.mode.Mode.{Mode}
 use Rattle.ppm_tree.specs.declared.mode.Mode.TheVariants as mode
-use Rattle.ppm_tree.specs.declared.named.Named.{Named}
 use Rattle.ppm_tree.specs.declared.tree.Parameter.{Parameter}
-use Rattle.ppm_tree.specs.Tree.{Expression, Name, Argument, ProgramTree}
-use Rattle.ppm_tree.specs.State.{TrapAt, then_with, Frame, Region, with_local, with_region, Arrays, evaluate, lent, with_argument, with_arguments}
+use Rattle.ppm_tree.specs.Tree.{Expression, Argument, ProgramTree}
+use Rattle.ppm_tree.specs.State.{TrapAt, then_with, Frame, Region, with_local, Arrays, evaluate, lent, with_argument, with_arguments}
 use Rattle.ppm_regions.specs.Scope.{Declaration, Scope, declared, is_region, of_parameter}
-use Rattle.ppm_regions.specs.Uses.{Lending, Asks, lending_of, lendings_of, uses_of_argument, uses_of_arguments}
+use Rattle.ppm_regions.specs.Uses.{Lending, lending_of, lendings_of, uses_of_argument, uses_of_arguments}
 use Rattle.ppm_regions.specs.Faults.{Clashes}
 use Rattle.ppm_regions.specs.Admission.{IsAdmitted}
-use Rattle.ppm_regions.specs.Correct.{Makes, KeepsRules}
-use Rattle.ppm_owning.specs.Words.{IsPart, ShareNoWord}
-use Rattle.ppm_owning.specs.Owning.{IsSeen, IsWritable, OwnsApart}
-use Rattle.ppm_owning.proofs.ScopeLemmas.{names_same, same_names, names_other, none_and_some, some_same}
+use Rattle.ppm_regions.specs.Correct.{KeepsRules}
+use Rattle.ppm_owning.specs.Words.{IsPart}
+use Rattle.ppm_owning.proofs.ScopeLemmas.{names_same, same_names, none_and_some, some_same}
 use Rattle.ppm_owning.proofs.SiteLemmas.{AreMade, made_left, made_right, AreNew, not_later}
-use Rattle.ppm_owning.proofs.PartLemmas.{Origin, apart_by_origin, part_of_itself}
-use Rattle.ppm_owning.proofs.LendLemmas.{NoClash, no_clash_right, no_clash_between, ask_for, may_lend, lent_name, lending_is}
+use Rattle.ppm_owning.proofs.PartLemmas.{Origin, part_of_itself}
+use Rattle.ppm_owning.proofs.LendLemmas.{NoClash, no_clash_right, no_clash_between, may_lend, lent_name, lending_is}
 
 -- a result without a trap
 abbrev found : {A : Type 0} → A → Result A TrapAt
@@ -118,7 +116,7 @@ module _ (f : Frame) (a : Arrays) where
               };
               named = refl;
             },
-            here
+            here,
           )
 
       -- a declared name is the first parameter's, or one of the rest's

@@ -1,15 +1,14 @@
 -- Wherever a run comes to, the sites are the program's, and the frame owns apart: by recursion on how it comes there.
-use Rattle.std.proofs.Common.{◌≡◌, ◌≢◌, ◌≤◌, ◌<◌, inl, inr, true, false, ℕ, List, [], ◌∷◌, ◌++◌, Some, None, refl, sym, ap, ◌∙◌, subst}
+use Rattle.std.proofs.Common.{◌≡◌, ◌≢◌, ◌≤◌, ◌<◌, ℕ, List, [], ◌++◌, refl, sym, ap, subst}
 use Rattle.std.specs.Prelude.{Result, Ok, Err}
 use Rattle.ppm_tree.specs.declared.named.Named.{Named}
-use Rattle.ppm_tree.specs.declared.tree.Array.{Array}
 use Rattle.ppm_tree.specs.Tree.{Expression, Side, Statement, Block, Then, If, While, Split, Each, Procedure, ProgramTree}
 use Rattle.ppm_tree.specs.Tree as tree
 use Rattle.ppm_tree.specs.State.{TrapAt, then_with, Region, part_at, Frame, Regions, Arrays, empty_frame, entered, both_entered}
 use Rattle.ppm_tree.specs.Program.{main_of}
 use Rattle.ppm_regions.specs.declared.ask.Ask.TheVariants as ask
-use Rattle.ppm_regions.specs.Scope.{Scope, declared, part, in_split, in_each, parts_of, element_of, index_of, lets_of}
-use Rattle.ppm_regions.specs.Uses.{Lending, Asks, uses_in, uses_of_side, both_targets, lent_by, lent_together, declaration_sites, sites_of_block, lendings_of}
+use Rattle.ppm_regions.specs.Scope.{Scope, in_split, in_each, parts_of, element_of, lets_of}
+use Rattle.ppm_regions.specs.Uses.{Lending, Asks, uses_in, uses_of_side, both_targets, lent_by, lent_together, declaration_sites, sites_of_block}
 use Rattle.ppm_regions.specs.Admission.{IsAdmitted}
 use Rattle.ppm_regions.specs.Correct.{Makes, KeepsRules}
 use Rattle.ppm_owning.specs.Words.{ShareNoWord, IsPart}

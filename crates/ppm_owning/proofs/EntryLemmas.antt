@@ -1,25 +1,24 @@
 -- What a callee, two branches and `main` own.
-use Rattle.std.proofs.Common.{◌≡◌, ◌≢◌, ◌≤◌, ◌<◌, ◌+◌, ◌⊎◌, inl, inr, cond, Bool, true, false, ℕ, zero, suc, List, [], ◌∷◌, ◌++◌, Option, Some, None, map, length, refl, sym, ap, ◌∙◌, subst, arith}
-use Rattle.std.specs.Prelude.{Result, Ok, Err}
+use Rattle.std.proofs.Common.{◌≡◌, ◌≢◌, ◌≤◌, ◌+◌, ◌⊎◌, inl, inr, cond, Bool, true, false, ℕ, suc, List, [], ◌∷◌, ◌++◌, Some, map, length, refl, sym, ap, ◌∙◌, subst, arith}
+use Rattle.std.specs.Prelude.{Ok}
 use Rattle.std.specs.Str.{bytes_eq}
 use Rattle.ppm_tree.specs.declared.tree.Parameter.{Parameter}
 use Rattle.ppm_tree.specs.declared.tree.Array.{Array}
 use Rattle.ppm_tree.specs.Tree.{Side, Argument, ProgramTree}
-use Rattle.ppm_tree.specs.State.{TrapAt, then_with, Frame, Region, Regions, Arrays, empty_frame, entered, both_entered}
+use Rattle.ppm_tree.specs.State.{Frame, Region, Arrays, empty_frame, entered}
 use Rattle.ppm_tree.specs.Program.{whole_from, main_frame}
 use Rattle.ppm_regions.specs.Scope.{Declaration, Scope, declared, of_parameter}
-use Rattle.ppm_regions.specs.Uses.{Lending, Calls, lendings_of, uses_of_target, uses_of_arguments, uses_of_side, parameters_of, callee_of, lent_by, lent_together}
-use Rattle.ppm_regions.specs.Faults.{Clashes}
+use Rattle.ppm_regions.specs.Uses.{Lending, Calls, lendings_of, uses_of_target, uses_of_arguments, uses_of_side, parameters_of, callee_of, lent_by}
 use Rattle.ppm_regions.specs.Admission.{IsAdmitted}
 use Rattle.ppm_regions.specs.Correct.{KeepsRules}
-use Rattle.ppm_owning.specs.Words.{HasWord, ShareNoWord}
+use Rattle.ppm_owning.specs.Words.{HasWord}
 use Rattle.ppm_owning.specs.Owning.{OwnsApart, AreSeparate, LieInArrays, words_at}
 use Rattle.ppm_owning.specs.Coming.{scope_of, callee}
-use Rattle.ppm_owning.proofs.ScopeLemmas.{same_names, names_same, none_and_some, mut_is_region}
-use Rattle.ppm_owning.proofs.SiteLemmas.{AreMade, made_left, made_right, made_head, made_tail, are_new, callee_sites, sites_of_parameters, same_parameters}
-use Rattle.ppm_owning.proofs.PartLemmas.{Origin, ComesFrom, apart_by_origin}
-use Rattle.ppm_owning.proofs.LendLemmas.{NoClash, no_clash, no_clash_left, no_clash_right, no_clash_between}
-use Rattle.ppm_owning.proofs.CallLemmas.{AreLent, LentAs, Beside, are_lent}
+use Rattle.ppm_owning.proofs.ScopeLemmas.{same_names, none_and_some, mut_is_region}
+use Rattle.ppm_owning.proofs.SiteLemmas.{AreMade, made_right, made_head, made_tail, are_new, callee_sites, sites_of_parameters, same_parameters}
+use Rattle.ppm_owning.proofs.PartLemmas.{ComesFrom, apart_by_origin}
+use Rattle.ppm_owning.proofs.LendLemmas.{NoClash, no_clash_between}
+use Rattle.ppm_owning.proofs.CallLemmas.{AreLent, are_lent}
 
 module _ (t : ProgramTree) (scope : Scope) (f : Frame) (a : Arrays) where
   -- the arguments of a side, held to the parameters of the procedure that it calls

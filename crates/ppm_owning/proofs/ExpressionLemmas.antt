@@ -1,6 +1,6 @@
 -- An expression depends on no words but those that the frame owns, nor do the arguments of a call.
-use Rattle.std.proofs.Common.{◌≡◌, ◌<◌, ◌+◌, inl, inr, true, ℕ, List, [], ◌∷◌, ◌++◌, Some, None, refl, sym, ap, ap₂, ◌∙◌, subst, arith}
-use Rattle.std.specs.Prelude.{ℤ, pos, Result, Ok, Err}
+use Rattle.std.proofs.Common.{◌≡◌, ◌<◌, ◌+◌, ℕ, List, [], ◌∷◌, refl, ap, ap₂, ◌∙◌, arith}
+use Rattle.std.specs.Prelude.{ℤ, Result, Ok, Err}
 use Rattle.ppm_tree.specs.declared.mode.Mode.{Mode}
 use Rattle.ppm_tree.specs.declared.mode.Mode.TheVariants as mode
 use Rattle.ppm_tree.specs.declared.named.Named.{Named}
@@ -13,12 +13,11 @@ use Rattle.ppm_regions.specs.declared.ask.Ask.TheVariants as ask
 use Rattle.ppm_regions.specs.Scope.{Scope}
 use Rattle.ppm_regions.specs.Uses.{Asks, uses_in, uses_of_argument, uses_of_arguments}
 use Rattle.ppm_regions.specs.Correct.{Makes, KeepsRules}
-use Rattle.ppm_owning.specs.Words.{AreSameAt, HasWord}
+use Rattle.ppm_owning.specs.Words.{AreSameAt}
 use Rattle.ppm_owning.specs.Owning.{Owns}
 use Rattle.ppm_owning.specs.Coming.{callee}
 use Rattle.ppm_owning.proofs.SiteLemmas.{AreMade, made_left, made_right, made_head, made_tail}
 use Rattle.ppm_owning.proofs.WordLemmas.{index_below}
-use Rattle.ppm_owning.proofs.EntryLemmas.{SideFacts}
 
 -- what goes on alike from every value
 pub then_alike : {A B : Type 0} (r : Result A TrapAt) (g h : A → Result B TrapAt) → ((x : A) → r ≡ Ok x → g x ≡ h x) → then_with r g ≡ then_with r h

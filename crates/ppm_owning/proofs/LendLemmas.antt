@@ -1,12 +1,11 @@
 -- Lendings that stand together do not clash, and what an argument lends may be lent.
-use Rattle.std.proofs.Common.{◌≡◌, ◌≢◌, ◌⊎◌, inl, inr, Bool, true, false, ℕ, suc, List, [], ◌∷◌, ◌++◌, Option, Some, None, length, refl, sym, ap, ◌∙◌, subst, arith}
+use Rattle.std.proofs.Common.{◌≡◌, true, false, ℕ, List, [], ◌∷◌, ◌++◌, Some, refl, sym, subst, arith}
 use Rattle.std.specs.List.{Contains}
 use Rattle.std.proofs.lemmas.List.Elements.{Contains-append_left, Contains-append_right, Contains-push}
 use Rattle.ppm_tree.specs.declared.mode.Mode.{Mode}
 use Rattle.ppm_tree.specs.declared.mode.Mode.TheVariants as mode
 use Rattle.ppm_tree.specs.declared.named.Named.{Named}
-use Rattle.ppm_tree.specs.Tree.{Expression, Name, Number, Element, Len, Minus, Binary, Argument, ProgramTree}
-use Rattle.ppm_tree.specs.State.{Frame, Region, Regions}
+use Rattle.ppm_tree.specs.Tree.{Expression, Name, ProgramTree}
 use Rattle.ppm_regions.specs.declared.ask.Ask.{Ask}
 use Rattle.ppm_regions.specs.declared.ask.Ask.TheVariants as ask
 use Rattle.ppm_regions.specs.declared.region_error.RegionError.TheVariants as error
@@ -16,9 +15,8 @@ use Rattle.ppm_regions.specs.Faults.{Clashes}
 use Rattle.ppm_regions.specs.Faults as fault
 use Rattle.ppm_regions.specs.Admission.{IsAdmitted}
 use Rattle.ppm_regions.specs.Correct.{Makes, KeepsRules}
-use Rattle.ppm_regions.proofs.Elements.{contains_head, contains_tail, contains_cases}
+use Rattle.ppm_regions.proofs.Elements.{contains_head, contains_cases}
 use Rattle.ppm_owning.proofs.SiteLemmas.{AreMade, made_head, made_tail}
-use Rattle.ppm_owning.proofs.PartLemmas.{Origin, part_of_itself}
 
 -- no lending clashes with one in front of it
 abbrev pub NoClash : List Lending → Type 0

@@ -1,13 +1,12 @@
 -- A run's end depends on no words but those that its frame owns: by recursion on the run.
-use Rattle.std.proofs.Common.{◌≡◌, ◌≢◌, ◌≤◌, ◌<◌, ◌+◌, inl, inr, Bool, true, false, ℕ, zero, suc, List, [], ◌∷◌, ◌++◌, Option, Some, None, refl, sym, ap, ◌∙◌, subst, subst₂, arith}
-use Rattle.std.specs.Prelude.{ℤ, pos, Result, Ok, Err}
+use Rattle.std.proofs.Common.{◌≡◌, ◌≤◌, ◌<◌, ◌+◌, ℕ, suc, ◌++◌, Option, Some, None, refl, sym, ap, ◌∙◌, subst, subst₂, arith}
+use Rattle.std.specs.Prelude.{ℤ, Result, Ok, Err}
 use Rattle.ppm_tree.specs.declared.named.Named.{Named}
 use Rattle.ppm_tree.specs.Tree.{Expression, Side, Statement, Block, Nil, Then, Let, Assign, Put, If, While, Split, Each, Give, Procedure, ProgramTree}
 use Rattle.ppm_tree.specs.Tree as tree
 use Rattle.ppm_tree.specs.Values.{holds}
-use Rattle.ppm_tree.specs.State.{TrapAt, then_with, Region, Regions, Locals, Frame, with_local, with_locals, Arrays, with_word, evaluate, split_at, put_values, entered}
-use Rattle.ppm_tree.specs.State.{both_entered}
-use Rattle.ppm_tree.specs.Meaning.{Form, Plain, Whole, Counts, spent, both, End, Ended, Trapped, arrays_of, end_of, assigned, stored, chosen, returned, joined}
+use Rattle.ppm_tree.specs.State.{TrapAt, then_with, Region, Regions, Locals, Frame, with_local, with_locals, Arrays, with_word, evaluate, split_at, put_values}
+use Rattle.ppm_tree.specs.Meaning.{Form, Plain, Whole, Counts, spent, both, End, Ended, Trapped, arrays_of, end_of, assigned, stored, returned, joined}
 use Rattle.ppm_tree.specs.Meaning.{first_trap, goes_on, given, give_turn, with_element, Runs, Follows, Loops, Enters, Sweeps}
 use Rattle.ppm_tree.specs.Meaning.{Done, Lets, Assigns, Puts, Ifs, IfTraps, Whiles, Calls, CallTraps, Forks, ForkStops, ForkTraps, Splits, SplitTraps}
 use Rattle.ppm_tree.specs.Meaning.{Eaches, GoesOn, Stops, TestFails, TestTraps, Turns, TurnTraps, Enter, Swept, Sweep, SweepStops}
@@ -15,10 +14,10 @@ use Rattle.ppm_regions.specs.declared.ask.Ask.TheVariants as ask
 use Rattle.ppm_regions.specs.Scope.{Scope, lets_of, scope_behind}
 use Rattle.ppm_regions.specs.Uses.{Asks, uses_in, sites_of_block, sites_of_procedure, sites_of_give}
 use Rattle.ppm_regions.specs.Admission.{IsAdmitted}
-use Rattle.ppm_regions.specs.Correct.{Makes, KeepsRules}
+use Rattle.ppm_regions.specs.Correct.{KeepsRules}
 use Rattle.ppm_owning.specs.Words.{AreSameAt, KeepsSameness, over}
 use Rattle.ppm_owning.specs.Owning.{Owns}
-use Rattle.ppm_owning.specs.Coming.{scope_of, callee, split_scope, each_scope, split_frame, each_frame}
+use Rattle.ppm_owning.specs.Coming.{scope_of, callee, split_scope, each_scope}
 use Rattle.ppm_owning.proofs.ScopeLemmas.{owned_before}
 use Rattle.ppm_owning.proofs.SiteLemmas.{AreSites, AreMade, made_left, made_right, made_tail, made_at, uses_first, sites_inside, sites_behind, callee_sites}
 use Rattle.ppm_owning.proofs.SiteLemmas.{sites_of_body, sites_of_gift}

@@ -1,13 +1,13 @@
 -- Regions that are parts of others, and what comes of a frame whose regions are parts of another's.
-use Rattle.std.proofs.Common.{◌≡◌, ◌≢◌, ◌≤◌, ◌<◌, ◌+◌, ◌-◌, inl, inr, Bool, true, false, ℕ, suc, List, [], ◌∷◌, ◌++◌, Option, Some, None, refl, sym, ap, ◌∙◌, subst, arith}
+use Rattle.std.proofs.Common.{◌≡◌, ◌≢◌, ◌≤◌, ◌<◌, ◌+◌, true, false, ℕ, List, Some, refl, sym, ap, ◌∙◌, arith}
 use Rattle.ppm_tree.specs.declared.mode.Mode.TheVariants as mode
 use Rattle.ppm_tree.specs.declared.tree.Array.{Array}
 use Rattle.ppm_tree.specs.State.{Region, Regions, first_part, second_part, part_at}
 use Rattle.ppm_regions.specs.Scope.{Declaration, Scope, declared, is_region}
 use Rattle.ppm_owning.specs.Words.{HasWord, ShareNoWord, IsPart}
-use Rattle.ppm_owning.specs.Owning.{IsSeen, IsWritable, Owns, MayWrite, OwnsApart, words_at, LieInArrays, OwnsNoMore, AreSeparate}
+use Rattle.ppm_owning.specs.Owning.{IsSeen, IsWritable, OwnsApart, words_at, LieInArrays, OwnsNoMore}
 use Rattle.ppm_owning.specs.Coming.{stretch}
-use Rattle.ppm_owning.proofs.ScopeLemmas.{name_cases, mut_is_region, writable_seen}
+use Rattle.ppm_owning.proofs.ScopeLemmas.{writable_seen}
 
 pub part_of_itself : (r : Region) → IsPart r r
 part_of_itself r = record { array = refl; from = omega arith; to = omega arith }

@@ -1,18 +1,18 @@
 -- The sites of a block are among those of the program, and keep its rules.
-use Rattle.std.proofs.Common.{◌≡◌, ◌≢◌, ◌⊎◌, inl, inr, cond, Bool, true, false, ℕ, zero, suc, List, [], ◌∷◌, ◌++◌, Option, Some, None, map, refl, sym, ap, ◌∙◌, subst, arith}
+use Rattle.std.proofs.Common.{◌≡◌, ◌⊎◌, inl, inr, cond, Bool, true, false, ℕ, List, [], ◌∷◌, ◌++◌, Some, None, map, refl, sym, ap, ◌∙◌, subst, arith}
 use Rattle.std.specs.Str.{bytes_eq}
 use Rattle.std.specs.List.{Contains, flat_map}
 use Rattle.std.proofs.lemmas.List.Elements.{Contains-append_left, Contains-append_right}
 use Rattle.ppm_tree.specs.Tree.{Statement, Let, Assign, Put, If, While, Split, Each, Block, Then, Procedure, ProgramTree}
 use Rattle.ppm_tree.specs.Tree as tree
 use Rattle.ppm_tree.specs.State.{procedure_named, no_procedure}
-use Rattle.ppm_regions.specs.Scope.{Declaration, Scope, first_named, declared, plain, lets_of, of_parameter, scope_behind}
+use Rattle.ppm_regions.specs.Scope.{Declaration, Scope, first_named, declared, lets_of, scope_behind}
 use Rattle.ppm_regions.specs.Uses.{Site, Use, Declares, Begins, Fills, declaration_sites, sites_at, sites_within, sites_of_block, sites_of_procedure, sites_of}
-use Rattle.ppm_regions.specs.Uses.{sites_of_names, uses_of, uses_of_main, parameters_of, callee_of, sites_of_give}
+use Rattle.ppm_regions.specs.Uses.{sites_of_names, uses_of, uses_of_main, parameters_of, sites_of_give}
 use Rattle.ppm_regions.specs.Correct.{Makes, KeepsRules}
 use Rattle.ppm_regions.proofs.Elements.{contains_map, contains_head, contains_tail, contains_cases}
 use Rattle.ppm_owning.specs.Coming.{scope_of}
-use Rattle.ppm_owning.proofs.ScopeLemmas.{names_same, same_names, declared_in_front, declared_behind, found_cases, none_and_some, some_same}
+use Rattle.ppm_owning.proofs.ScopeLemmas.{names_same, same_names, declared_in_front, declared_behind, none_and_some}
 
 module _ (t : ProgramTree) where
   -- these sites are sites of the program

@@ -1,21 +1,18 @@
 -- The parts of a region: what the block of a split and a block of an `each` own comes from the frame around them, and is apart.
-use Rattle.std.proofs.Common.{◌≡◌, ◌≢◌, ◌≤◌, ◌<◌, inl, inr, cond, Bool, true, false, ◌||◌, ℕ, List, [], ◌∷◌, ◌++◌, Option, Some, None, map, refl, sym, ap, ◌∙◌, subst, arith}
+use Rattle.std.proofs.Common.{◌≡◌, ◌≢◌, ◌≤◌, inl, inr, cond, Bool, true, false, ◌||◌, ℕ, List, [], ◌∷◌, ◌++◌, Option, Some, None, refl, sym, ap, ◌∙◌, subst}
 use Rattle.std.specs.Str.{bytes_eq}
-use Rattle.std.specs.Option.{option_map}
-use Rattle.ppm_tree.specs.declared.mode.Mode.{Mode}
 use Rattle.ppm_tree.specs.declared.mode.Mode.TheVariants as mode
 use Rattle.ppm_tree.specs.declared.named.Named.{Named}
-use Rattle.ppm_tree.specs.State.{Region, Regions, Frame, first_part, second_part, part_at, with_name}
+use Rattle.ppm_tree.specs.State.{Region, Regions, Frame, first_part, second_part, with_name}
 use Rattle.ppm_regions.specs.Scope.{Declaration, Scope, declared, is_region, part_mode, is_outer, part, seen_in_split, seen_in_each, in_split, in_each}
 use Rattle.ppm_regions.specs.Scope.{parts_of, element_of, index_of}
 use Rattle.ppm_owning.specs.Words.{HasWord, ShareNoWord, IsPart}
-use Rattle.ppm_owning.specs.Owning.{IsSeen, IsWritable, OwnsApart, AreSeparate, Owns, MayWrite}
+use Rattle.ppm_owning.specs.Owning.{IsSeen, IsWritable, OwnsApart, Owns, MayWrite}
 use Rattle.ppm_owning.specs.Coming.{split_scope, each_scope, split_frame, stretch_frame}
-use Rattle.ppm_owning.proofs.ScopeLemmas.{names_same, same_names, names_other, other_names, name_cases, found_cases, none_and_some, some_same}
-use Rattle.ppm_owning.proofs.ScopeLemmas.{declared_in_front, declared_behind, declared_name, declared_map, image_of, no_image, writable_seen, mut_is_region}
-use Rattle.ppm_owning.proofs.SiteLemmas.{AreNew}
-use Rattle.ppm_owning.proofs.PartLemmas.{Origin, ComesFrom, origin_of, origin_writable, origin_seen, apart_by_origin, part_of_itself, first_in, second_in, element_in}
-use Rattle.ppm_owning.proofs.PartLemmas.{halves_share_none, elements_share_none, share_none_back, parts_share_none, word_of_whole}
+use Rattle.ppm_owning.proofs.ScopeLemmas.{names_same, same_names, names_other, other_names, found_cases, none_and_some, some_same}
+use Rattle.ppm_owning.proofs.ScopeLemmas.{declared_in_front, declared_behind, declared_name, declared_map, image_of, mut_is_region}
+use Rattle.ppm_owning.proofs.PartLemmas.{Origin, ComesFrom, apart_by_origin, part_of_itself, first_in, second_in}
+use Rattle.ppm_owning.proofs.PartLemmas.{halves_share_none, share_none_back}
 
 or_left : (a b : Bool) → a || b ≡ false → a ≡ false
 or_left false b h = refl
@@ -46,7 +43,7 @@ module _ (scope : Scope) (r : Named) (whole : IsSeen scope r.name) where
     shown = whole.shown;
     written = λ m n. (
       sym (mode_of_part (declared scope r.name) whole.declaration whole.found whole.region) ∙ (ap (λ (e : Declaration). e.mode) is ∙ m),
-      sym (outer_of_part (declared scope r.name) whole.declaration whole.found) ∙ (ap (λ (e : Declaration). e.outer) is ∙ n)
+      sym (outer_of_part (declared scope r.name) whole.declaration whole.found) ∙ (ap (λ (e : Declaration). e.outer) is ∙ n),
     );
     part = p;
   }

@@ -1,5 +1,5 @@
 -- What an element's block of an `each` owns is in each stretch with that element; and how long the arrays are at the start.
-use Rattle.std.proofs.Common.{◌≡◌, ◌≤◌, ◌<◌, ◌+◌, ◌-◌, cond, Bool, true, false, ℕ, zero, suc, List, [], ◌∷◌, ◌++◌, Some, map, length, get_or, replicate, refl, sym, ap, ◌∙◌, subst, arith, length-append}
+use Rattle.std.proofs.Common.{◌≡◌, ◌≤◌, ◌-◌, cond, Bool, true, false, ℕ, zero, suc, List, [], ◌∷◌, Some, map, length, replicate, refl, sym, subst, arith, length-append}
 use Rattle.std.specs.Prelude.{pos}
 use Rattle.std.specs.Str.{bytes_eq}
 use Rattle.std.specs.List.{Contains}
@@ -8,7 +8,7 @@ use Rattle.ppm_tree.specs.declared.named.Named.{Named}
 use Rattle.ppm_tree.specs.declared.tree.Array.{Array}
 use Rattle.ppm_tree.specs.declared.tree.ArrayInput.{ArrayInput}
 use Rattle.ppm_tree.specs.Tree.{ProgramTree}
-use Rattle.ppm_tree.specs.State.{Region, Frame, Arrays, array_at, part_at}
+use Rattle.ppm_tree.specs.State.{Region, Frame, array_at, part_at}
 use Rattle.ppm_tree.specs.Program.{input_of, initial_array, initial_arrays, values_of}
 use Rattle.ppm_regions.specs.Scope.{Scope, first_named}
 use Rattle.ppm_regions.specs.Admission.{IsAdmitted}
@@ -16,7 +16,7 @@ use Rattle.ppm_regions.proofs.Elements.{contains_head, contains_tail}
 use Rattle.ppm_regions.proofs.Faultless.{array_is_its_own, fits_its_array}
 use Rattle.ppm_owning.specs.Words.{HasWord, IsPart}
 use Rattle.ppm_owning.specs.Owning.{Owns, MayWrite, words_at}
-use Rattle.ppm_owning.specs.Coming.{each_scope, each_frame, stretch, stretch_frame}
+use Rattle.ppm_owning.specs.Coming.{each_frame, stretch_frame}
 use Rattle.ppm_owning.proofs.ScopeLemmas.{same_names}
 use Rattle.ppm_owning.proofs.PartLemmas.{word_of_whole}
 

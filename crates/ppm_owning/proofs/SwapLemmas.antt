@@ -1,13 +1,13 @@
 -- Two stretches of which neither may write what the other owns may run in either order.
-use Rattle.std.proofs.Common.{◌≡◌, ◌≢◌, ◌<◌, ◌⊎◌, inl, inr, Bool, true, false, ℕ, zero, suc, List, [], ◌∷◌, ext_get_or, refl, sym, ◌∙◌, subst}
+use Rattle.std.proofs.Common.{◌≡◌, ◌≢◌, ◌⊎◌, inl, inr, Bool, true, false, ℕ, [], ext_get_or, refl, sym, ◌∙◌, subst}
 use Rattle.std.specs.Prelude.{ℤ, pos}
 use Rattle.std.specs.Ordering.{int_eq}
 use Rattle.std.proofs.lemmas.Bool.Decides.{Decides-int_eq}
 use Rattle.ppm_tree.specs.State.{Regions, Frame, Arrays, array_at}
 use Rattle.ppm_tree.specs.Meaning.{Counts, End, arrays_of}
 use Rattle.ppm_regions.specs.Scope.{Scope}
-use Rattle.ppm_owning.specs.Words.{word, HaveOneShape, AreSameAt, ChangesOnly, KeepsSameness, over}
-use Rattle.ppm_owning.specs.Owning.{Owns, MayWrite, AreSeparate}
+use Rattle.ppm_owning.specs.Words.{word, HaveOneShape, ChangesOnly, KeepsSameness, over}
+use Rattle.ppm_owning.specs.Owning.{MayWrite, AreSeparate}
 use Rattle.ppm_owning.specs.Correct.{IsWithin, MaySwap}
 use Rattle.ppm_owning.proofs.ScopeLemmas.{written_owned}
 use Rattle.ppm_owning.proofs.WordLemmas.{shape_on, over_has}

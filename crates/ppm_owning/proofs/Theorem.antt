@@ -1,14 +1,14 @@
 -- The laws, put together.
-use Rattle.std.proofs.Common.{ℕ, List, ◌<◌, ◌≢◌}
+use Rattle.std.proofs.Common.{ℕ, List}
 use Rattle.ppm_tree.specs.declared.named.Named.{Named}
-use Rattle.ppm_tree.specs.Tree.{Side, Block, Then, Each, Procedure, ProgramTree}
+use Rattle.ppm_tree.specs.Tree.{Block, Then, Each, Procedure, ProgramTree}
 use Rattle.ppm_tree.specs.State.{Frame, procedure_named}
 use Rattle.ppm_tree.specs.Meaning.{Form, Runs, Enters, Sweeps}
 use Rattle.ppm_regions.specs.Scope.{Scope}
 use Rattle.ppm_regions.specs.Admission.{IsAdmitted}
 use Rattle.ppm_regions.proofs.Rules.{rules}
 use Rattle.ppm_owning.specs.Coming.{scope_of, callee, each_scope, each_frame, stretch, stretch_frame, ComesTo, InEach}
-use Rattle.ppm_owning.specs.Correct.{OwnApart, IsWithin, StayWithin, MaySwap, RunInEitherOrder}
+use Rattle.ppm_owning.specs.Correct.{OwnApart, IsWithin, StayWithin, RunInEitherOrder}
 use Rattle.ppm_owning.proofs.SiteLemmas.{callee_sites}
 use Rattle.ppm_owning.proofs.PartLemmas.{owns_no_more, stretch_in, element_of_stretch}
 use Rattle.ppm_owning.proofs.ComingLemmas.{stands, at_home, split_comes, each_comes, each_sites, part_comes, part_apart, parts_beside, elements_beside, call_comes, left_comes, right_comes, sides_separate}
@@ -35,7 +35,7 @@ apart_everywhere t admitted =
       part = λ p g scope i x r s b f q c short.
           let h = stands t keeps admitted c in (
             part_apart t keeps admitted scope i x r s b h.sites f q short h.apart,
-            owns_no_more (part_comes t keeps admitted scope i x r s b h.sites f q short)
+            owns_no_more (part_comes t keeps admitted scope i x r s b h.sites f q short),
           );
       parts = λ p g scope i x r s b f q w c short short' differ.
           let h = stands t keeps admitted c in
@@ -45,7 +45,7 @@ apart_everywhere t admitted =
           let o = stands t keeps admitted c in (
             owns_no_more (left_comes t keeps admitted scope s u b f l r a o.sites is),
             owns_no_more (right_comes t keeps admitted scope s u b f l r a o.sites is),
-            sides_separate t keeps admitted scope s u b f l r a o.sites is o.apart
+            sides_separate t keeps admitted scope s u b f l r a o.sites is o.apart,
           );
     }
 

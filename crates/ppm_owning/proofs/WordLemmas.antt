@@ -1,10 +1,10 @@
 -- Words of arrays: what a write changes, and how changes and sameness go on.
-use Rattle.std.proofs.Common.{◌≡◌, ◌≢◌, ◌≤◌, ◌<◌, ◌+◌, ◌⊎◌, inl, inr, Bool, true, false, ℕ, List, [], length, get_or, set, refl, sym, ap, ◌∙◌, subst, arith}
+use Rattle.std.proofs.Common.{◌≡◌, ◌≢◌, ◌≤◌, ◌<◌, inl, inr, Bool, true, false, ℕ, List, [], length, get_or, set, refl, sym, ap, ◌∙◌, subst, arith}
 use Rattle.std.proofs.Common.{get_or-set_same, get_or-set_other}
-use Rattle.std.specs.Prelude.{ℤ, pos, negsuc, Result, Ok, Err, nat_lt, nat_le}
+use Rattle.std.specs.Prelude.{ℤ, pos, negsuc, Ok, nat_lt, nat_le}
 use Rattle.std.proofs.lemmas.List.{set_past, length-set}
 use Rattle.std.proofs.lemmas.Bool.{cases_eq, cases_lt, ltb-true, leb-true}
-use Rattle.ppm_tree.specs.State.{TrapAt, Region, Arrays, array_at, with_word, index_in, split_at, tested}
+use Rattle.ppm_tree.specs.State.{Region, Arrays, array_at, index_in, split_at, tested}
 use Rattle.ppm_tree.specs.Meaning.{End, Ended, Trapped, arrays_of}
 use Rattle.ppm_owning.specs.Words.{word, HaveOneShape, AreSameAt, ChangesOnly, KeepsSameness, over}
 

@@ -71,7 +71,7 @@ pub record StaysWithin (form : Form) (t : ProgramTree) : Type 0 where
   pub sweep : (p : Procedure) (g : Frame) (scope : Scope) (i x r : Named) (s b : Block) (f : Frame) (n m : ℕ)
       → ComesTo t p g scope (Then (Each i x r s) b) f → n + m ≤ (f.regions r.name).length
       → IsWithin (each_scope scope r i x) (stretch_frame f x (stretch n m (f.regions r.name)))
-          (Sweeps form t.procedures i x s (f.regions r.name) f n m)
+      (Sweeps form t.procedures i x s (f.regions r.name) f n m)
   pub procedure : (x : List ℕ) (f : Frame) → IsWithin (scope_of (procedure_named t.procedures x)) f (Enters form t.procedures (procedure_named t.procedures x) f)
 
 -- so it is in all admitted programs
