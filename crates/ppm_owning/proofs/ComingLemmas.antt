@@ -13,7 +13,7 @@ use Rattle.ppm_regions.specs.Admission.{IsAdmitted}
 use Rattle.ppm_regions.specs.Correct.{Makes, KeepsRules}
 use Rattle.ppm_owning.specs.Words.{ShareNoWord, IsPart}
 use Rattle.ppm_owning.specs.Owning.{IsSeen, OwnsApart, LieInArrays, OwnsNoMore, AreSeparate}
-use Rattle.ppm_owning.specs.Coming.{scope_of, callee, split_scope, each_scope, split_frame, each_frame, stretch_frame, ComesTo}
+use Rattle.ppm_owning.specs.Coming.{scope_of, callee, split_scope, each_scope, split_frame, each_frame, part_frame, ComesTo}
 use Rattle.ppm_owning.specs.Coming.{Main, Behind, InHolds, InElse, InWhile, InSplit, InEach, InCall, InLeft, InRight}
 use Rattle.ppm_owning.proofs.ScopeLemmas.{seen_before, writable_before, owned_before, written_before}
 use Rattle.ppm_owning.proofs.SiteLemmas.{AreSites, sites_left, sites_right, AreMade, made_left, made_right, made_head, uses_first, sites_inside}
@@ -96,7 +96,7 @@ module _ (t : ProgramTree) (rules : KeepsRules t) (admitted : IsAdmitted t) wher
         (sites_inside t scope (Each i x r s) b sites)
 
     pub part_comes : (f : Frame) (q : Region) → IsPart q (f.regions r.name)
-        → ComesFrom (each_scope scope r i x) (stretch_frame f x q).regions scope f.regions
+        → ComesFrom (each_scope scope r i x) (part_frame f x q).regions scope f.regions
     part_comes f q short = each_from scope r each_whole i x f q short each_new.1.0
 
     pub each_comes : (f : Frame) (k : ℕ) → k < (f.regions r.name).length
@@ -104,11 +104,11 @@ module _ (t : ProgramTree) (rules : KeepsRules t) (admitted : IsAdmitted t) wher
     each_comes f k short = part_comes f (part_at k (f.regions r.name)) (element_in (f.regions r.name) k short)
 
     pub part_apart : (f : Frame) (q : Region) → IsPart q (f.regions r.name) → OwnsApart scope f.regions
-        → OwnsApart (each_scope scope r i x) (stretch_frame f x q).regions
+        → OwnsApart (each_scope scope r i x) (part_frame f x q).regions
     part_apart f q short own = each_apart scope r each_whole i x f q short each_new.1.0 own
 
     pub parts_beside : (f : Frame) (q w : Region) → OwnsApart scope f.regions → IsPart q (f.regions r.name) → IsPart w (f.regions r.name) → ShareNoWord q w
-        → AreSeparate (each_scope scope r i x) (stretch_frame f x q).regions (each_scope scope r i x) (stretch_frame f x w).regions
+        → AreSeparate (each_scope scope r i x) (part_frame f x q).regions (each_scope scope r i x) (part_frame f x w).regions
     parts_beside f q w own short short' differ = record {
       left = beside scope r each_whole i x f each_new.1.0 own q w short short' differ;
       right = λ a j o m. beside scope r each_whole i x f each_new.1.0 own w q short' short (share_none_back differ) a j m o;

@@ -8,7 +8,7 @@ use Rattle.ppm_regions.specs.Scope.{Declaration, Scope, declared, is_region, par
 use Rattle.ppm_regions.specs.Scope.{parts_of, element_of, index_of}
 use Rattle.ppm_owning.specs.Words.{HasWord, ShareNoWord, IsPart}
 use Rattle.ppm_owning.specs.Owning.{IsSeen, IsWritable, OwnsApart, Owns, MayWrite}
-use Rattle.ppm_owning.specs.Coming.{split_scope, each_scope, split_frame, stretch_frame}
+use Rattle.ppm_owning.specs.Coming.{split_scope, each_scope, split_frame, part_frame}
 use Rattle.ppm_owning.proofs.ScopeLemmas.{names_same, same_names, names_other, other_names, found_cases, none_and_some, some_same}
 use Rattle.ppm_owning.proofs.ScopeLemmas.{declared_in_front, declared_behind, declared_name, declared_map, image_of, mut_is_region}
 use Rattle.ppm_owning.proofs.PartLemmas.{Origin, ComesFrom, apart_by_origin, part_of_itself, first_in, second_in}
@@ -161,7 +161,7 @@ module _ (scope : Scope) (r : Named) (whole : IsSeen scope r.name) where
       (x_new : declared (in_each scope r ++ index_of i ∷ []) x.name ≡ None) where
     -- the regions of the block
     abbrev elements : Regions
-    elements = (stretch_frame f x q).regions
+    elements = (part_frame f x q).regions
 
     -- a region of the block is one of outside, which is not written there, or the element
     data OfEach (z : List ℕ) (e : Declaration) : Type 0 where
@@ -230,8 +230,8 @@ module _ (scope : Scope) (r : Named) (whole : IsSeen scope r.name) where
   -- two such blocks own apart: what the one writes is in its part
   module _ (i x : Named) (f : Frame) (x_new : declared (in_each scope r ++ index_of i ∷ []) x.name ≡ None) (h : OwnsApart scope f.regions)
       (q w : Region) (short : IsPart q (f.regions r.name)) (short' : IsPart w (f.regions r.name)) (differ : ShareNoWord q w) where
-    beside_at : (a j : ℕ) (m : MayWrite (each_scope scope r i x) (stretch_frame f x q).regions a j) (o : Owns (each_scope scope r i x)
-        (stretch_frame f x w).regions a j) → OfEach i x f q short x_new m.name m.writable.declaration
+    beside_at : (a j : ℕ) (m : MayWrite (each_scope scope r i x) (part_frame f x q).regions a j) (o : Owns (each_scope scope r i x)
+        (part_frame f x w).regions a j) → OfEach i x f q short x_new m.name m.writable.declaration
         → OfEach i x f w short' x_new o.name o.seen.declaration → ⊥
     beside_at a j m o (Around d found same out at) p = true_and_false (ap (λ (e : Declaration). e.outer) same ∙ m.writable.inner)
     beside_at a j m o (Element same is at) (Element same' is' at') =
@@ -241,8 +241,8 @@ module _ (scope : Scope) (r : Named) (whole : IsSeen scope r.name) where
         let p' = each_origin i x f w short' x_new o.name o.seen.declaration o.seen.region o.seen.shown (Around d' found' same' out' at') in
         (apart_by_origin h p p' m.writable.written m.writable.inner (λ e. out' (sym e))).none a j m.has o.has
 
-    pub beside : (a j : ℕ) → MayWrite (each_scope scope r i x) (stretch_frame f x q).regions a j
-        → Owns (each_scope scope r i x) (stretch_frame f x w).regions a j → ⊥
+    pub beside : (a j : ℕ) → MayWrite (each_scope scope r i x) (part_frame f x q).regions a j
+        → Owns (each_scope scope r i x) (part_frame f x w).regions a j → ⊥
     beside a j m o =
         let v = m.writable in
         let s = o.seen in

@@ -16,23 +16,23 @@ use Rattle.ppm_regions.proofs.Elements.{contains_head, contains_tail}
 use Rattle.ppm_regions.proofs.Faultless.{array_is_its_own, fits_its_array}
 use Rattle.ppm_owning.specs.Words.{HasWord, IsPart}
 use Rattle.ppm_owning.specs.Owning.{Owns, MayWrite, words_at}
-use Rattle.ppm_owning.specs.Coming.{each_frame, stretch_frame}
+use Rattle.ppm_owning.specs.Coming.{each_frame, part_frame}
 use Rattle.ppm_owning.proofs.ScopeLemmas.{same_names}
 use Rattle.ppm_owning.proofs.PartLemmas.{word_of_whole}
 
 module _ (scope : Scope) (f : Frame) (r i x : Named) (q : Region) (k : ℕ) (part : IsPart (part_at k (f.regions r.name)) q) where
   -- the words of a name in the element's frame are words of it in the stretch's
-  word_in : (z : List ℕ) (a j : ℕ) → HasWord ((each_frame f r k i x).regions z) a j → HasWord ((stretch_frame f x q).regions z) a j
+  word_in : (z : List ℕ) (a j : ℕ) → HasWord ((each_frame f r k i x).regions z) a j → HasWord ((part_frame f x q).regions z) a j
   word_in z a j h = go (bytes_eq x.name z) h
     where
       go : (b : Bool) → HasWord (cond b (part_at k (f.regions r.name)) (f.regions z)) a j → HasWord (cond b q (f.regions z)) a j
       go true h = word_of_whole part a j h
       go false h = h
 
-  pub owned_in : (inner : Scope) (a j : ℕ) → Owns inner (each_frame f r k i x).regions a j → Owns inner (stretch_frame f x q).regions a j
+  pub owned_in : (inner : Scope) (a j : ℕ) → Owns inner (each_frame f r k i x).regions a j → Owns inner (part_frame f x q).regions a j
   owned_in inner a j h = record { name = h.name; seen = h.seen; has = word_in h.name a j h.has }
 
-  pub written_in : (inner : Scope) (a j : ℕ) → MayWrite inner (each_frame f r k i x).regions a j → MayWrite inner (stretch_frame f x q).regions a j
+  pub written_in : (inner : Scope) (a j : ℕ) → MayWrite inner (each_frame f r k i x).regions a j → MayWrite inner (part_frame f x q).regions a j
   written_in inner a j h = record { name = h.name; writable = h.writable; has = word_in h.name a j h.has }
 
 -- an input that fits leaves its array as long as it is declared

@@ -8,7 +8,7 @@ use Rattle.ppm_tree.specs.Meaning.{Counts, End, arrays_of}
 use Rattle.ppm_regions.specs.Scope.{Scope}
 use Rattle.ppm_owning.specs.Words.{word, HaveOneShape, ChangesOnly, KeepsSameness, over}
 use Rattle.ppm_owning.specs.Owning.{MayWrite, AreSeparate}
-use Rattle.ppm_owning.specs.Correct.{IsWithin, MaySwap}
+use Rattle.ppm_owning.specs.Correct.{IsWithin, MaySwap, AreUnordered}
 use Rattle.ppm_owning.proofs.ScopeLemmas.{written_owned}
 use Rattle.ppm_owning.proofs.WordLemmas.{shape_on, over_has}
 
@@ -106,8 +106,15 @@ module _ {A B : Type 0} (first : Arrays → Counts → End A → Type 0) (second
       }) in
       (there.0, there.1)
 
-  pub may_swap : MaySwap first second
+  may_swap : MaySwap first second
   may_swap = record { swap = swapped; behind = from_there }
 
-pub separate_back : {scope other : Scope} {r s : Regions} → AreSeparate scope r other s → AreSeparate other s scope r
+separate_back : {scope other : Scope} {r s : Regions} → AreSeparate scope r other s → AreSeparate other s scope r
 separate_back h = record { left = λ a i m o. h.right a i o m; right = λ a i o m. h.left a i m o }
+
+pub unordered : {A B : Type 0} (first : Arrays → Counts → End A → Type 0) (second : Arrays → Counts → End B → Type 0) (scope other : Scope) (f g : Frame)
+    → IsWithin scope f first → IsWithin other g second → AreSeparate scope f.regions other g.regions → AreUnordered first second
+unordered first second scope other f g p q apart = record {
+  forth = may_swap first second scope other f g p q apart;
+  back = may_swap second first other scope g f q p (separate_back apart);
+}

@@ -16,17 +16,19 @@ scope_of p = map of_parameter p.parameters
 abbrev pub callee : ProgramTree → Side → Procedure
 callee t s = procedure_named t.procedures s.callee.name
 
--- what is declared in the block of a split, and in that of an `each`
+-- what is declared in the block of a split
 abbrev pub split_scope : Scope → Named → Named → Named → Scope
 split_scope scope r x y = in_split scope r ++ parts_of scope r x y
 
+-- and in that of an `each`
 abbrev pub each_scope : Scope → Named → Named → Named → Scope
 each_scope scope r i x = in_each scope r ++ element_of scope r i x
 
--- the frame of the block of a split, and of an element's block of an `each`
+-- the frame of the block of a split
 abbrev pub split_frame : Frame → Named → ℕ → Named → Named → Frame
 split_frame f r n x y = with_parts f (f.regions r.name) n x y
 
+-- and of an element's block of an `each`
 abbrev pub each_frame : Frame → Named → ℕ → Named → Named → Frame
 each_frame f r k i x = with_element f (f.regions r.name) k i x
 
@@ -34,9 +36,9 @@ each_frame f r k i x = with_element f (f.regions r.name) k i x
 abbrev pub stretch : ℕ → ℕ → Region → Region
 stretch n m r = first_part m (second_part n r)
 
--- the frame with a stretch of the region of an `each` in the place of its part
-abbrev pub stretch_frame : Frame → Named → Region → Frame
-stretch_frame f x q = with_region f x.name q
+-- the frame with any part of the region of an `each` in the place of an element
+abbrev pub part_frame : Frame → Named → Region → Frame
+part_frame f x q = with_region f x.name q
 
 module _ (t : ProgramTree) where
   -- In the procedure p, entered with the frame g, a run may come to this block in this frame, where these declarations are in force:

@@ -11,46 +11,48 @@ use Rattle.ppm_regions.specs.Admission.{IsAdmitted}
 use Rattle.ppm_owning.specs.Words.{ShareNoWord, IsPart, AreSameAt, ChangesOnly, KeepsSameness, over}
 use Rattle.ppm_owning.specs.Owning.{Owns, MayWrite, OwnsApart, words_at, LieInArrays, OwnsNoMore, AreSeparate}
 use Rattle.ppm_owning.specs.Coming.{scope_of, callee, split_scope, each_scope, split_frame, each_frame}
-use Rattle.ppm_owning.specs.Coming.{stretch, stretch_frame, ComesTo}
+use Rattle.ppm_owning.specs.Coming.{stretch, part_frame, ComesTo}
 
--- Wherever a run of the program comes to.
+-- Where a run stands, in a procedure p entered with the frame g: each region in force lies in its array, none that may be written
+-- shares a word with another, and the frame owns no more than g.
+pub record PlaceIsApart (t : ProgramTree) (p : Procedure) (g : Frame) (scope : Scope) (f : Frame) : Type 0 where
+  pub within : LieInArrays t.arrays scope f.regions
+  pub apart : OwnsApart scope f.regions
+  pub home : OwnsNoMore scope f.regions (scope_of p) g.regions
+
+-- The block of an `each` owns no more than what is around it, and two of them, of different indices, are separate. So it is with any
+-- parts of the region in the place of elements, as where the `each` is halved.
+pub record EachIsApart (scope : Scope) (i x r : Named) (f : Frame) : Type 0 where
+  pub element : (k : ℕ) → k < (f.regions r.name).length → OwnsNoMore (each_scope scope r i x) (each_frame f r k i x).regions scope f.regions
+  pub elements : (k l : ℕ) → k < (f.regions r.name).length → l < (f.regions r.name).length → k ≢ l
+      → AreSeparate (each_scope scope r i x) (each_frame f r k i x).regions (each_scope scope r i x) (each_frame f r l i x).regions
+  pub apart : (q : Region) → IsPart q (f.regions r.name) → OwnsApart (each_scope scope r i x) (part_frame f x q).regions
+  pub part : (q : Region) → IsPart q (f.regions r.name) → OwnsNoMore (each_scope scope r i x) (part_frame f x q).regions scope f.regions
+  pub parts : (q w : Region) → IsPart q (f.regions r.name) → IsPart w (f.regions r.name) → ShareNoWord q w
+      → AreSeparate (each_scope scope r i x) (part_frame f x q).regions (each_scope scope r i x) (part_frame f x w).regions
+
+-- both branches of a fork own no more than what is around it, and are separate
+pub record ForkIsApart (t : ProgramTree) (scope : Scope) (s u : Side) (f left right : Frame) : Type 0 where
+  pub of_left : OwnsNoMore (scope_of (callee t s)) left.regions scope f.regions
+  pub of_right : OwnsNoMore (scope_of (callee t u)) right.regions scope f.regions
+  pub separate : AreSeparate (scope_of (callee t s)) left.regions (scope_of (callee t u)) right.regions
+
+-- Wherever a run of the program comes to, frames own apart; the block of a split and a callee own no more than what is around them.
+-- The arrays that it starts with are as long as they are declared.
 pub record FramesOwnApart (t : ProgramTree) : Type 0 where
-  -- the arrays that it starts with are as long as they are declared, and each region in force lies in its array
   pub start : (k : ℕ) → length (array_at (values_of (initial_arrays t)) k) ≡ words_at t.arrays k
-  pub within : (p : Procedure) (g : Frame) (scope : Scope) (b : Block) (f : Frame) → ComesTo t p g scope b f → LieInArrays t.arrays scope f.regions
-  -- no region that may be written shares a word with another in force
-  pub apart : (p : Procedure) (g : Frame) (scope : Scope) (b : Block) (f : Frame) → ComesTo t p g scope b f → OwnsApart scope f.regions
-  -- a frame owns no more than the one that its procedure was entered with
-  pub home : (p : Procedure) (g : Frame) (scope : Scope) (b : Block) (f : Frame) → ComesTo t p g scope b f
-      → OwnsNoMore scope f.regions (scope_of p) g.regions
-  -- the block of a split owns no more than what is around it
+  pub place : (p : Procedure) (g : Frame) (scope : Scope) (b : Block) (f : Frame) → ComesTo t p g scope b f → PlaceIsApart t p g scope f
   pub split : (p : Procedure) (g : Frame) (scope : Scope) (line : ℕ) (r : Named) (e : Expression) (x y : Named) (s b : Block) (f : Frame) (n : ℕ)
       → ComesTo t p g scope (Then (Split line r e x y s) b) f → n ≤ (f.regions r.name).length
       → OwnsNoMore (split_scope scope r x y) (split_frame f r n x y).regions scope f.regions
-  -- nor does the block of an `each`, and two of them, of different indices, are separate
-  pub element : (p : Procedure) (g : Frame) (scope : Scope) (i x r : Named) (s b : Block) (f : Frame) (k : ℕ)
-      → ComesTo t p g scope (Then (Each i x r s) b) f → k < (f.regions r.name).length
-      → OwnsNoMore (each_scope scope r i x) (each_frame f r k i x).regions scope f.regions
-  pub elements : (p : Procedure) (g : Frame) (scope : Scope) (i x r : Named) (s b : Block) (f : Frame) (k l : ℕ)
-      → ComesTo t p g scope (Then (Each i x r s) b) f → k < (f.regions r.name).length → l < (f.regions r.name).length → k ≢ l
-      → AreSeparate (each_scope scope r i x) (each_frame f r k i x).regions (each_scope scope r i x) (each_frame f r l i x).regions
-  -- so it is where any part of the region stands for the element: as where an `each` is halved
-  pub part : (p : Procedure) (g : Frame) (scope : Scope) (i x r : Named) (s b : Block) (f : Frame) (q : Region)
-      → ComesTo t p g scope (Then (Each i x r s) b) f → IsPart q (f.regions r.name)
-      → OwnsApart (each_scope scope r i x) (stretch_frame f x q).regions
-      × OwnsNoMore (each_scope scope r i x) (stretch_frame f x q).regions scope f.regions
-  pub parts : (p : Procedure) (g : Frame) (scope : Scope) (i x r : Named) (s b : Block) (f : Frame) (q w : Region)
-      → ComesTo t p g scope (Then (Each i x r s) b) f → IsPart q (f.regions r.name) → IsPart w (f.regions r.name) → ShareNoWord q w
-      → AreSeparate (each_scope scope r i x) (stretch_frame f x q).regions (each_scope scope r i x) (stretch_frame f x w).regions
-  -- a callee owns no more than its caller, and so it is with both branches of a fork; these are separate
+  pub each : (p : Procedure) (g : Frame) (scope : Scope) (i x r : Named) (s b : Block) (f : Frame)
+      → ComesTo t p g scope (Then (Each i x r s) b) f → EachIsApart scope i x r f
   pub call : (p : Procedure) (g : Frame) (scope : Scope) (s : Side) (b : Block) (f h : Frame) (a : Arrays)
       → ComesTo t p g scope (Then (tree.Call s) b) f → entered t.procedures f a s ≡ Ok h
       → OwnsNoMore (scope_of (callee t s)) h.regions scope f.regions
-  pub fork : (p : Procedure) (g : Frame) (scope : Scope) (s u : Side) (b : Block) (f l r : Frame) (a : Arrays)
-      → ComesTo t p g scope (Then (tree.Fork s u) b) f → both_entered t.procedures f a s u ≡ Ok (l, r)
-      → OwnsNoMore (scope_of (callee t s)) l.regions scope f.regions
-      × OwnsNoMore (scope_of (callee t u)) r.regions scope f.regions
-      × AreSeparate (scope_of (callee t s)) l.regions (scope_of (callee t u)) r.regions
+  pub fork : (p : Procedure) (g : Frame) (scope : Scope) (s u : Side) (b : Block) (f left right : Frame) (a : Arrays)
+      → ComesTo t p g scope (Then (tree.Fork s u) b) f → both_entered t.procedures f a s u ≡ Ok (left, right)
+      → ForkIsApart t scope s u f left right
 
 -- so it is in all admitted programs
 abbrev pub OwnApart : Type 0
@@ -70,37 +72,40 @@ pub record StaysWithin (form : Form) (t : ProgramTree) : Type 0 where
       → IsWithin scope f (Runs form t.procedures b f)
   pub sweep : (p : Procedure) (g : Frame) (scope : Scope) (i x r : Named) (s b : Block) (f : Frame) (n m : ℕ)
       → ComesTo t p g scope (Then (Each i x r s) b) f → n + m ≤ (f.regions r.name).length
-      → IsWithin (each_scope scope r i x) (stretch_frame f x (stretch n m (f.regions r.name)))
+      → IsWithin (each_scope scope r i x) (part_frame f x (stretch n m (f.regions r.name)))
       (Sweeps form t.procedures i x s (f.regions r.name) f n m)
-  pub procedure : (x : List ℕ) (f : Frame) → IsWithin (scope_of (procedure_named t.procedures x)) f (Enters form t.procedures (procedure_named t.procedures x) f)
+  pub procedure : (x : List ℕ) (f : Frame)
+      → IsWithin (scope_of (procedure_named t.procedures x)) f (Enters form t.procedures (procedure_named t.procedures x) f)
 
 -- so it is in all admitted programs
 abbrev pub StayWithin : Type 0
 StayWithin = (form : Form) (t : ProgramTree) → IsAdmitted t → StaysWithin form t
 
--- Where the second run comes behind the first, it may as well come in front of it: each ends as it did, and the same words are left.
--- Where both may begin from the same arrays, the second ends behind the first as it does from these.
+-- Of two runs: where the second comes behind the first, it may as well come in front of it; each ends as it did, and the same words
+-- are left. Where both may begin from the same arrays, the second ends behind the first as it does from these.
 pub record MaySwap {A B : Type 0} (first : Arrays → Counts → End A → Type 0) (second : Arrays → Counts → End B → Type 0) : Type 0 where
   pub swap : (a : Arrays) (j k : Counts) (x : End A) (y : End B) → first a j x → second (arrays_of x) k y
       → (c : Arrays) × second a k (over y c) × first c j (over x (arrays_of y))
   pub behind : (a : Arrays) (j k : Counts) (x : End A) (y : End B) → first a j x → second a k y → (c : Arrays) × second (arrays_of x) k (over y c)
 
--- the branches of each fork may run in either order, and so may the blocks of an `each`; traps make no difference
+-- two runs may come in either order
+pub record AreUnordered {A B : Type 0} (first : Arrays → Counts → End A → Type 0) (second : Arrays → Counts → End B → Type 0) : Type 0 where
+  pub forth : MaySwap first second
+  pub back : MaySwap second first
+
+-- the branches of each fork may run in either order, and so may the blocks of an `each`, and those of two stretches of its indices;
+-- traps make no difference
 pub record RunsInEitherOrder (form : Form) (t : ProgramTree) : Type 0 where
-  pub left_first : (p : Procedure) (g : Frame) (scope : Scope) (s u : Side) (b : Block) (f l r : Frame) (a : Arrays)
-      → ComesTo t p g scope (Then (tree.Fork s u) b) f → both_entered t.procedures f a s u ≡ Ok (l, r)
-      → MaySwap (Enters form t.procedures (callee t s) l) (Enters form t.procedures (callee t u) r)
-  pub right_first : (p : Procedure) (g : Frame) (scope : Scope) (s u : Side) (b : Block) (f l r : Frame) (a : Arrays)
-      → ComesTo t p g scope (Then (tree.Fork s u) b) f → both_entered t.procedures f a s u ≡ Ok (l, r)
-      → MaySwap (Enters form t.procedures (callee t u) r) (Enters form t.procedures (callee t s) l)
+  pub fork : (p : Procedure) (g : Frame) (scope : Scope) (s u : Side) (b : Block) (f left right : Frame) (a : Arrays)
+      → ComesTo t p g scope (Then (tree.Fork s u) b) f → both_entered t.procedures f a s u ≡ Ok (left, right)
+      → AreUnordered (Enters form t.procedures (callee t s) left) (Enters form t.procedures (callee t u) right)
   pub blocks : (p : Procedure) (g : Frame) (scope : Scope) (i x r : Named) (s b : Block) (f : Frame) (k l : ℕ)
       → ComesTo t p g scope (Then (Each i x r s) b) f → k < (f.regions r.name).length → l < (f.regions r.name).length → k ≢ l
-      → MaySwap (Runs form t.procedures s (each_frame f r k i x)) (Runs form t.procedures s (each_frame f r l i x))
-  -- and those of two stretches of indices
+      → AreUnordered (Runs form t.procedures s (each_frame f r k i x)) (Runs form t.procedures s (each_frame f r l i x))
   pub sweeps : (p : Procedure) (g : Frame) (scope : Scope) (i x r : Named) (s b : Block) (f : Frame) (n m k l : ℕ)
       → ComesTo t p g scope (Then (Each i x r s) b) f → n + m ≤ (f.regions r.name).length → k + l ≤ (f.regions r.name).length
       → ShareNoWord (stretch n m (f.regions r.name)) (stretch k l (f.regions r.name))
-      → MaySwap (Sweeps form t.procedures i x s (f.regions r.name) f n m) (Sweeps form t.procedures i x s (f.regions r.name) f k l)
+      → AreUnordered (Sweeps form t.procedures i x s (f.regions r.name) f n m) (Sweeps form t.procedures i x s (f.regions r.name) f k l)
 
 -- so it is in all admitted programs
 abbrev pub RunInEitherOrder : Type 0
