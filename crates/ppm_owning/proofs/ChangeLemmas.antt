@@ -139,8 +139,10 @@ module _ (form : Form) (t : ProgramTree) (rules : KeepsRules t) (admitted : IsAd
         (changes_follows w (scope ++ lets_of (tree.Call s)) (sites_behind t scope (tree.Call s) b h))
     changes (CallTraps s b f a stop is) scope h = unchanged (MayWrite scope f.regions) a
     changes (Forks s u b f g j a {x = x} {y = y} is l on r w) scope h =
-        let left = changes_more (owns_no_more (left_comes t rules admitted scope s u b f g j a h is)).written (changes_enters l (callee_sites t s.callee.name)) in
-        let right = changes_more (owns_no_more (right_comes t rules admitted scope s u b f g j a h is)).written (changes_enters r (callee_sites t u.callee.name)) in
+        let in_left = (owns_no_more (left_comes t rules admitted scope s u b f g j a h is)).written in
+        let in_right = (owns_no_more (right_comes t rules admitted scope s u b f g j a h is)).written in
+        let left = changes_more in_left (changes_enters l (callee_sites t s.callee.name)) in
+        let right = changes_more in_right (changes_enters r (callee_sites t u.callee.name)) in
         and_then scope (tree.Fork s u) f (subst (λ (c : Arrays). ChangesOnly (MayWrite scope f.regions) a c) (sym
         (joined_leaves s.target u.target f x y)) (changes_on left right))
         (changes_follows w (scope ++ lets_of (tree.Fork s u)) (sites_behind t scope (tree.Fork s u) b h))
@@ -150,13 +152,15 @@ module _ (form : Form) (t : ProgramTree) (rules : KeepsRules t) (admitted : IsAd
     changes (Splits line r e x y s b f a n is d w) scope h =
         let short = at_below line (f.regions r.name) (evaluate f a e) n is in
         let inside = (owns_no_more (split_comes t rules admitted scope line r e x y s b h f n short)).written in
-        and_then scope (Split line r e x y s) f (changes_more inside (changes d (split_scope scope r x y) (split_sites t rules admitted scope line r e x y s b h)))
+        let sites = split_sites t rules admitted scope line r e x y s b h in
+        and_then scope (Split line r e x y s) f (changes_more inside (changes d (split_scope scope r x y) sites))
         (changes_follows w (scope ++ lets_of (Split line r e x y s)) (sites_behind t scope (Split line r e x y s) b h))
     changes (SplitTraps line r e x y s b f a stop is) scope h = unchanged (MayWrite scope f.regions) a
     changes (Eaches i x r s b f a d w) scope h =
         let inside = λ (k : ℕ) (short : k < (f.regions r.name).length). (owns_no_more (each_comes t rules admitted scope i x r s b h f k short)).written in
         and_then scope (Each i x r s) f
-        (changes_sweeps d (each_scope scope r i x) scope f.regions (each_sites t rules admitted scope i x r s b h) (λ k past short. inside k (omega (arith, short))))
+        (changes_sweeps d (each_scope scope r i x) scope f.regions (each_sites t rules admitted scope i x r s b h)
+        (λ k past short. inside k (omega (arith, short))))
         (changes_follows w (scope ++ lets_of (Each i x r s)) (sites_behind t scope (Each i x r s) b h))
 
     changes_follows : {b : Block} {f : Frame} {u : End Locals} {k : Counts} {z : End Locals} → Follows form t.procedures b f u k z → (scope : Scope)

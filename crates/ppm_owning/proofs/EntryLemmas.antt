@@ -1,5 +1,6 @@
 -- What a callee, two branches and `main` own.
-use Rattle.std.proofs.Common.{◌≡◌, ◌≢◌, ◌≤◌, ◌+◌, ◌⊎◌, inl, inr, cond, Bool, true, false, ℕ, suc, List, [], ◌∷◌, ◌++◌, Some, map, length, refl, sym, ap, ◌∙◌, subst, arith}
+use Rattle.std.proofs.Common.{◌≡◌, ◌≢◌, ◌≤◌, ◌+◌, ◌⊎◌, inl, inr, cond, Bool, true, false, ℕ, suc, List, [], ◌∷◌, ◌++◌, Some, map, length}
+use Rattle.std.proofs.Common.{refl, sym, ap, ◌∙◌, subst, arith}
 use Rattle.std.specs.Prelude.{Ok}
 use Rattle.std.specs.Str.{bytes_eq}
 use Rattle.ppm_tree.specs.declared.tree.Parameter.{Parameter}
@@ -64,7 +65,8 @@ module _ (t : ProgramTree) (scope : Scope) (f : Frame) (a : Arrays) where
           (λ e. b.no_clash (record { same = sym b.first.named ∙ (e ∙ b.second.named); written = inl (b.first.same_mode ∙ m.written) }));
     }
 
-  module _ (ps ps' : List Parameter) (args args' : List Argument) (g₀ g h₀ h : Frame) (l : AreLent f a scope ps args g₀ g) (r : AreLent f a scope ps' args' h₀ h)
+  module _ (ps ps' : List Parameter) (args args' : List Argument) (g₀ g h₀ h : Frame) (l : AreLent f a scope ps args g₀ g)
+      (r : AreLent f a scope ps' args' h₀ h)
       (none : NoClash (lendings_of ps args ++ lendings_of ps' args')) (own : OwnsApart scope f.regions) where
     pub lent_separate : AreSeparate (map of_parameter ps) g.regions (map of_parameter ps') h.regions
     lent_separate = record {
@@ -105,7 +107,8 @@ wholes_apart k (b ∷ arrays) x y other a i p q =
     go (bytes_eq b.name.name x) (bytes_eq b.name.name y) refl refl (wholes_apart (suc k) arrays x y other a i) p q
   where
     go : (c d : Bool) → bytes_eq b.name.name x ≡ c → bytes_eq b.name.name y ≡ d
-        → (HasWord (whole_from (suc k) arrays x) a i → HasWord (whole_from (suc k) arrays y) a i → ⊥) → HasWord (first_whole k b arrays c x) a i → HasWord (first_whole k b arrays d y) a i → ⊥
+        → (HasWord (whole_from (suc k) arrays x) a i → HasWord (whole_from (suc k) arrays y) a i → ⊥)
+        → HasWord (first_whole k b arrays c x) a i → HasWord (first_whole k b arrays d y) a i → ⊥
     go true true e e' rest p q = other (sym (same_names b.name.name x e) ∙ same_names b.name.name y e')
     go true false e e' rest p q = let l = whole_behind (suc k) arrays y a i q in omega (arith, l, p.array)
     go false true e e' rest p q = let l = whole_behind (suc k) arrays x a i p in omega (arith, l, q.array)

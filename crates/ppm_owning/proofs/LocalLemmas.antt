@@ -22,7 +22,8 @@ use Rattle.ppm_owning.proofs.ScopeLemmas.{owned_before}
 use Rattle.ppm_owning.proofs.SiteLemmas.{AreSites, AreMade, made_left, made_right, made_tail, made_at, uses_first, sites_inside, sites_behind, callee_sites}
 use Rattle.ppm_owning.proofs.SiteLemmas.{sites_of_body, sites_of_gift}
 use Rattle.ppm_owning.proofs.PartLemmas.{owns_no_more}
-use Rattle.ppm_owning.proofs.ComingLemmas.{split_comes, split_sites, each_comes, each_sites, call_comes, left_comes, right_comes, call_facts, left_facts, right_facts}
+use Rattle.ppm_owning.proofs.ComingLemmas.{split_comes, split_sites, each_comes, each_sites, call_comes, left_comes, right_comes}
+use Rattle.ppm_owning.proofs.ComingLemmas.{call_facts, left_facts, right_facts}
 use Rattle.ppm_owning.proofs.WordLemmas.{put_keeps, keeps_on, keeps_itself, same_on, same_less, over_has}
 use Rattle.ppm_owning.proofs.ExpressionLemmas.{same_value, same_put, same_entered, same_both}
 use Rattle.ppm_owning.proofs.ChangeLemmas.{assigned_leaves, returned_leaves, joined_leaves, first_leaves, given_leaves, at_below, chosen_sites}
@@ -69,7 +70,8 @@ module _ (form : Form) (t : ProgramTree) (rules : KeepsRules t) (admitted : IsAd
   abbrev written_to : Named → Frame → Result (ℕ × ℤ) TrapAt → Arrays → End Locals
   written_to x f r a = end_of r a (λ p. Ended f.locals (with_word a (f.regions x.name) p.0 p.1))
 
-  written_over : (x : Named) (f : Frame) (r : Result (ℕ × ℤ) TrapAt) (a c : Arrays) → written_to x f r c ≡ over (written_to x f r a) (arrays_of (written_to x f r c))
+  written_over : (x : Named) (f : Frame) (r : Result (ℕ × ℤ) TrapAt) (a c : Arrays)
+      → written_to x f r c ≡ over (written_to x f r a) (arrays_of (written_to x f r c))
   written_over x f (Ok p) a c = refl
   written_over x f (Err stop) a c = refl
 
@@ -105,16 +107,19 @@ module _ (form : Form) (t : ProgramTree) (rules : KeepsRules t) (admitted : IsAd
         let value = same_value t rules scope f a c same e (uses_first t scope (Let x e) b h) in
         let start = subst (λ (b : Arrays). KeepsSameness a c b c) (sym (assigned_leaves x e f a)) (keeps_itself a c same.shape) in
         let q = local_follows w (scope ++ lets_of (Let x e)) (sites_behind t scope (Let x e) b h) c (same_behind scope (Let x e) f same start) in
-        (q.0, Lets x e b f c (subst (λ (u : End Locals). Follows form t.procedures b f u k (over z q.0)) (sym (assigned_over x e f a c value)) q.1), keeps_on start q.2)
+        let rest = subst (λ (u : End Locals). Follows form t.procedures b f u k (over z q.0)) (sym (assigned_over x e f a c value)) q.1 in
+        (q.0, Lets x e b f c rest, keeps_on start q.2)
     local (Assigns x e b f a {k = k} {z = z} w) scope h c same =
         let made = made_tail t scope (Asks ask.Assigned x) (uses_in e) (uses_first t scope (Assign x e) b h) in
         let value = same_value t rules scope f a c same e made in
         let start = subst (λ (b : Arrays). KeepsSameness a c b c) (sym (assigned_leaves x e f a)) (keeps_itself a c same.shape) in
         let q = local_follows w (scope ++ lets_of (Assign x e)) (sites_behind t scope (Assign x e) b h) c (same_behind scope (Assign x e) f same start) in
-        (q.0, Assigns x e b f c (subst (λ (u : End Locals). Follows form t.procedures b f u k (over z q.0)) (sym (assigned_over x e f a c value)) q.1), keeps_on start q.2)
+        let rest = subst (λ (u : End Locals). Follows form t.procedures b f u k (over z q.0)) (sym (assigned_over x e f a c value)) q.1 in
+        (q.0, Assigns x e b f c rest, keeps_on start q.2)
     local (Puts x i e b f a {k = k} {z = z} w) scope h c same =
         let made = made_tail t scope (Asks ask.Written x) (uses_in i ++ uses_in e) (uses_first t scope (Put x i e) b h) in
-        let value = same_put t rules scope f a c same x i e (made_left t scope (uses_in i) (uses_in e) made) (made_right t scope (uses_in i) (uses_in e) made) in
+        let index = made_left t scope (uses_in i) (uses_in e) made in
+        let value = same_put t rules scope f a c same x i e index (made_right t scope (uses_in i) (uses_in e) made) in
         let r = put_values f a x i e in
         let start = written_keeps x f r a c same in
         let q = local_follows w (scope ++ lets_of (Put x i e)) (sites_behind t scope (Put x i e) b h) (arrays_of (written_to x f r c))
@@ -153,7 +158,8 @@ module _ (form : Form) (t : ProgramTree) (rules : KeepsRules t) (admitted : IsAd
         let o = local_enters l (callee_sites t s.callee.name) c (same_less in_left same) in
         let p = local_enters r (callee_sites t u.callee.name) o.0 (same_less in_right (same_on same o.2)) in
         let start = subst (λ (b : Arrays). KeepsSameness a c b p.0) (sym (joined_leaves s.target u.target f x y)) (keeps_on o.2 p.2) in
-        let q = local_follows w (scope ++ lets_of (tree.Fork s u)) (sites_behind t scope (tree.Fork s u) b h) p.0 (same_behind scope (tree.Fork s u) f same start) in
+        let then = same_behind scope (tree.Fork s u) f same start in
+        let q = local_follows w (scope ++ lets_of (tree.Fork s u)) (sites_behind t scope (tree.Fork s u) b h) p.0 then in
         let right = subst (λ (b : Arrays). Enters form t.procedures (callee t u) g' b j (over y p.0)) (sym (over_has x o.0)) p.1 in
         let rest = subst (λ (v : End Locals). Follows form t.procedures b f v k (over z q.0)) (sym (joined_over s.target u.target f x y o.0 p.0)) q.1 in
         (q.0, Forks s u b f g g' c (sym entry ∙ is) o.1 (goes_on_over form x o.0 ∙ on) right rest, keeps_on start q.2)
@@ -215,7 +221,8 @@ module _ (form : Form) (t : ProgramTree) (rules : KeepsRules t) (admitted : IsAd
         let q = local r (scope_of p) (sites_of_body t p h) c same in
         let gift = given_over p.give (scope_behind (scope_of p) p.body) f y q.0 (sites_of_gift t p h)
         (same_less (owned_in_front p.body (scope_of p) f.regions) (same_on same q.2)) in
-        let run = subst₂ (λ (k : Counts) (z : End ℤ). Enters form t.procedures p f c (both (spent 1) (both j k)) z) (turn_over p.give y q.0) gift (Enter p f c q.1) in
+        let run = subst₂ (λ (k : Counts) (z : End ℤ). Enters form t.procedures p f c (both (spent 1) (both j k)) z) (turn_over p.give y q.0) gift
+        (Enter p f c q.1) in
         (q.0, run, subst (λ (b : Arrays). KeepsSameness a c b q.0) (sym (given_leaves p.give f y)) q.2)
 
     pub local_sweeps : {i x : Named} {s : Block} {r : Region} {f : Frame} {n m : ℕ} {a : Arrays} {k : Counts} {z : End Locals}

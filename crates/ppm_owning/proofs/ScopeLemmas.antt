@@ -70,7 +70,8 @@ module _ (x : List ℕ) where
   declared_name [] d h = absurd (cc)
   declared_name (c ∷ scope) d h = go (declared_name scope d) (bytes_eq c.name.name x) refl h
     where
-      go : (declared scope x ≡ Some d → d.name.name ≡ x) → (b : Bool) → bytes_eq c.name.name x ≡ b → cond b (Some c) (declared scope x) ≡ Some d → d.name.name ≡ x
+      go : (declared scope x ≡ Some d → d.name.name ≡ x) → (b : Bool) → bytes_eq c.name.name x ≡ b → cond b (Some c) (declared scope x) ≡ Some d
+          → d.name.name ≡ x
       go on true e h = ap (λ (d : Declaration). d.name.name) (sym (some_same {o = Some c} refl h)) ∙ same_names c.name.name x e
       go on false e h = on h
 

@@ -80,7 +80,8 @@ module _ (t : ProgramTree) where
   pub sites_inside : (scope : Scope) (s : Statement) (b : Block) → AreSites (sites_of_block t scope (Then s b)) → AreSites (sites_within t scope s)
   sites_inside scope s b h = sites_right (sites_at scope (uses_of t s)) (sites_within t scope s) (in_front scope s b h)
 
-  pub sites_behind : (scope : Scope) (s : Statement) (b : Block) → AreSites (sites_of_block t scope (Then s b)) → AreSites (sites_of_block t (scope ++ lets_of s) b)
+  pub sites_behind : (scope : Scope) (s : Statement) (b : Block) → AreSites (sites_of_block t scope (Then s b))
+      → AreSites (sites_of_block t (scope ++ lets_of s) b)
   sites_behind scope s b h =
       let first = sites_at scope (uses_of t s) ++ sites_within t scope s ++ declaration_sites scope (lets_of s) in
       sites_right first (sites_of_block t (scope ++ lets_of s) b) (in_parts scope s b h)

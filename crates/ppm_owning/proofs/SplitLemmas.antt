@@ -34,7 +34,8 @@ outer_of_part o d is = ap is_outer is
 
 module _ (scope : Scope) (r : Named) (whole : IsSeen scope r.name) where
   -- the region itself, as the origin of a part
-  abbrev part_origin : (regions : Regions) (x : Named) (e : Declaration) (q : Region) → part scope r x ≡ e → IsPart q (regions r.name) → Origin scope regions e q
+  abbrev part_origin : (regions : Regions) (x : Named) (e : Declaration) (q : Region) → part scope r x ≡ e → IsPart q (regions r.name)
+      → Origin scope regions e q
   part_origin regions x e q is p = record {
     name = r.name;
     declaration = whole.declaration;

@@ -1,5 +1,6 @@
 -- What an element's block of an `each` owns is in each stretch with that element; and how long the arrays are at the start.
-use Rattle.std.proofs.Common.{◌≡◌, ◌≤◌, ◌-◌, cond, Bool, true, false, ℕ, zero, suc, List, [], ◌∷◌, Some, map, length, replicate, refl, sym, subst, arith, length-append}
+use Rattle.std.proofs.Common.{◌≡◌, ◌≤◌, ◌-◌, cond, Bool, true, false, ℕ, zero, suc, List, [], ◌∷◌, Some, map, length, replicate}
+use Rattle.std.proofs.Common.{refl, sym, subst, arith, length-append}
 use Rattle.std.specs.Prelude.{pos}
 use Rattle.std.specs.Str.{bytes_eq}
 use Rattle.std.specs.List.{Contains}

@@ -88,7 +88,10 @@ module _ {A B : Type 0} (first : Arrays → Counts → End A → Type 0) (second
     same_words : (n i : ℕ) → word last n i ≡ word (arrays_of y) n i
     same_words n i = elim (value_cases (word a n i) (word (arrays_of x) n i)) [
       | inr differ ↦ first_changed n i differ
-      | inl same ↦ elim (value_cases (word a n i) (word between n i)) [ inr differ ↦ second_changed n i same differ | inl same' ↦ neither_changed n i same same' ]
+      | inl same ↦ elim (value_cases (word a n i) (word between n i)) [
+        | inr differ ↦ second_changed n i same differ
+        | inl same' ↦ neither_changed n i same same'
+      ]
     ]
 
     swapped : (c : Arrays) × second a k (over y c) × first c j (over x (arrays_of y))

@@ -11,7 +11,8 @@ use Rattle.ppm_owning.specs.Coming.{scope_of, callee, each_scope, each_frame, st
 use Rattle.ppm_owning.specs.Correct.{OwnApart, IsWithin, StayWithin, RunInEitherOrder}
 use Rattle.ppm_owning.proofs.SiteLemmas.{callee_sites}
 use Rattle.ppm_owning.proofs.PartLemmas.{owns_no_more, stretch_in, element_of_stretch}
-use Rattle.ppm_owning.proofs.ComingLemmas.{stands, at_home, split_comes, each_comes, each_sites, part_comes, part_apart, parts_beside, elements_beside, call_comes, left_comes, right_comes, sides_separate}
+use Rattle.ppm_owning.proofs.ComingLemmas.{stands, at_home, split_comes, each_comes, each_sites, part_comes, part_apart, parts_beside}
+use Rattle.ppm_owning.proofs.ComingLemmas.{elements_beside, call_comes, left_comes, right_comes, sides_separate}
 use Rattle.ppm_owning.proofs.ChangeLemmas.{changes, changes_enters, changes_sweeps}
 use Rattle.ppm_owning.proofs.LocalLemmas.{local, local_enters, local_sweeps}
 use Rattle.ppm_owning.proofs.StretchLemmas.{owned_in, written_in, starts_so}
@@ -108,5 +109,6 @@ either_order form t admitted =
           unordered (Sweeps form t.procedures i x s whole f n m) (Sweeps form t.procedures i x s whole f k l) (each_scope scope r i x)
           (each_scope scope r i x) (part_frame f x (stretch n m whole)) (part_frame f x (stretch k l whole))
           (sweep_within form t admitted scope i x r s b f n m c) (sweep_within form t admitted scope i x r s b f k l c)
-          ((frames.each p g scope i x r s b f c).parts (stretch n m whole) (stretch k l whole) (stretch_in whole n m short) (stretch_in whole k l short') differ);
+          ((frames.each p g scope i x r s b f c).parts (stretch n m whole) (stretch k l whole) (stretch_in whole n m short)
+          (stretch_in whole k l short') differ);
     }
