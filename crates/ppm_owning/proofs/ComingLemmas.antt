@@ -8,7 +8,7 @@ use Rattle.ppm_tree.specs.State.{TrapAt, then_with, Region, part_at, Frame, Regi
 use Rattle.ppm_tree.specs.Program.{main_of}
 use Rattle.ppm_regions.specs.declared.ask.Ask.TheVariants as ask
 use Rattle.ppm_regions.specs.Scope.{Scope, in_split, in_each, parts_of, element_of, lets_of}
-use Rattle.ppm_regions.specs.Uses.{Lending, Asks, uses_in, uses_of_side, both_targets, lent_by, lent_together, declaration_sites, sites_of_block}
+use Rattle.ppm_regions.specs.Uses.{Lending, Asks, uses_in, uses_of_side, both_targets, lent_by, lent_together, declaration_sites, sites_of_block, sites_of_procedure}
 use Rattle.ppm_regions.specs.Admission.{IsAdmitted}
 use Rattle.ppm_regions.specs.Correct.{Makes, KeepsRules}
 use Rattle.ppm_owning.specs.Words.{ShareNoWord, IsPart}
@@ -263,6 +263,19 @@ module _ (t : ProgramTree) (rules : KeepsRules t) (admitted : IsAdmitted t) wher
         apart = right_apart scope s u b f l r a o.sites is o.apart;
         within = lie_still (right_comes scope s u b f l r a o.sites is) t.arrays o.within;
       }
+
+  -- the sites of the procedure that it stands in
+  pub home_sites : {p : Procedure} {g : Frame} {scope : Scope} {b : Block} {f : Frame} → ComesTo t p g scope b f → AreSites t (sites_of_procedure t p)
+  home_sites Main = callee_sites t _
+  home_sites (Behind p g scope s b f l c) = home_sites c
+  home_sites (InHolds p g scope e s u b f c) = home_sites c
+  home_sites (InElse p g scope e s u b f c) = home_sites c
+  home_sites (InWhile p g scope e s b f l c) = home_sites c
+  home_sites (InSplit p g scope line r e x y s b f n short c) = home_sites c
+  home_sites (InEach p g scope i x r s b f k short c) = home_sites c
+  home_sites (InCall p g scope s b f h a is c) = callee_sites t s.callee.name
+  home_sites (InLeft p g scope s u b f l r a is c) = callee_sites t s.callee.name
+  home_sites (InRight p g scope s u b f l r a is c) = callee_sites t u.callee.name
 
   -- and it owns no more than the frame that the procedure was entered with
   pub at_home : {p : Procedure} {g : Frame} {scope : Scope} {b : Block} {f : Frame} → ComesTo t p g scope b f

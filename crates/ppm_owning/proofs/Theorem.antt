@@ -8,15 +8,21 @@ use Rattle.ppm_regions.specs.Scope.{Scope}
 use Rattle.ppm_regions.specs.Admission.{IsAdmitted}
 use Rattle.ppm_regions.proofs.Rules.{rules}
 use Rattle.ppm_owning.specs.Coming.{scope_of, callee, each_scope, each_frame, stretch, part_frame, ComesTo, InEach}
-use Rattle.ppm_owning.specs.Correct.{OwnApart, IsWithin, StayWithin, RunInEitherOrder}
+use Rattle.ppm_owning.specs.Correct.{ComeToSites, OwnApart, IsWithin, StayWithin, RunInEitherOrder}
 use Rattle.ppm_owning.proofs.SiteLemmas.{callee_sites}
-use Rattle.ppm_owning.proofs.PartLemmas.{owns_no_more, stretch_in, element_of_stretch}
-use Rattle.ppm_owning.proofs.ComingLemmas.{stands, at_home, split_comes, each_comes, each_sites, part_comes, part_apart, parts_beside}
+use Rattle.ppm_owning.proofs.PartLemmas.{owns_no_more, lie_still, stretch_in, element_of_stretch}
+use Rattle.ppm_owning.proofs.ComingLemmas.{stands, home_sites, at_home, split_comes, each_comes, each_sites, part_comes, part_apart, parts_beside}
 use Rattle.ppm_owning.proofs.ComingLemmas.{elements_beside, call_comes, left_comes, right_comes, sides_separate}
 use Rattle.ppm_owning.proofs.ChangeLemmas.{changes, changes_enters, changes_sweeps}
 use Rattle.ppm_owning.proofs.LocalLemmas.{local, local_enters, local_sweeps}
 use Rattle.ppm_owning.proofs.StretchLemmas.{owned_in, written_in, starts_so}
 use Rattle.ppm_owning.proofs.SwapLemmas.{unordered}
+
+pub sites_everywhere : ComeToSites
+sites_everywhere t p g scope b f admitted c = record {
+  block = (stands t (rules t admitted) admitted c).sites.all;
+  procedure = (home_sites t (rules t admitted) admitted c).all;
+}
 
 pub apart_everywhere : OwnApart
 apart_everywhere t admitted =
@@ -33,6 +39,7 @@ apart_everywhere t admitted =
           record {
             element = λ k short. owns_no_more (each_comes t keeps admitted scope i x r s b h.sites f k short);
             elements = λ k l short short' differ. elements_beside t keeps admitted scope i x r s b h.sites f k l h.apart short short' differ;
+            within = λ q short. lie_still (part_comes t keeps admitted scope i x r s b h.sites f q short) t.arrays h.within;
             apart = λ q short. part_apart t keeps admitted scope i x r s b h.sites f q short h.apart;
             part = λ q short. owns_no_more (part_comes t keeps admitted scope i x r s b h.sites f q short);
             parts = λ q w short short' differ. parts_beside t keeps admitted scope i x r s b h.sites f q w h.apart short short' differ;

@@ -1,5 +1,6 @@
 -- What the frames of an admitted program own, what its runs touch, and that branches may run in either order.
 use Rattle.std.specs.Prelude.{◌≡◌, ◌≢◌, ◌≤◌, ◌<◌, ℕ, ◌+◌, List, length, Ok}
+use Rattle.std.specs.List.{Contains}
 use Rattle.ppm_tree.specs.declared.named.Named.{Named}
 use Rattle.ppm_tree.specs.Tree.{Expression, Side, Block, Then, Split, Each, Procedure, ProgramTree}
 use Rattle.ppm_tree.specs.Tree as tree
@@ -7,11 +8,23 @@ use Rattle.ppm_tree.specs.State.{Region, Frame, Arrays, array_at, procedure_name
 use Rattle.ppm_tree.specs.Meaning.{Form, Counts, End, arrays_of, Runs, Enters, Sweeps}
 use Rattle.ppm_tree.specs.Program.{initial_arrays, values_of}
 use Rattle.ppm_regions.specs.Scope.{Scope}
+use Rattle.ppm_regions.specs.Uses.{Site, sites_of_block, sites_of_procedure, sites_of}
 use Rattle.ppm_regions.specs.Admission.{IsAdmitted}
 use Rattle.ppm_owning.specs.Words.{ShareNoWord, IsPart, AreSameAt, ChangesOnly, KeepsSameness, over}
 use Rattle.ppm_owning.specs.Owning.{Owns, MayWrite, OwnsApart, words_at, LieInArrays, OwnsNoMore, AreSeparate}
 use Rattle.ppm_owning.specs.Coming.{scope_of, callee, split_scope, each_scope, split_frame, each_frame}
 use Rattle.ppm_owning.specs.Coming.{stretch, part_frame, ComesTo}
+
+-- Each site of a block that a run comes to, and of the procedure that it stands in, is a site of the program: so their uses keep its
+-- rules (`KeepsRules`).
+pub record HasSites (t : ProgramTree) (p : Procedure) (scope : Scope) (b : Block) : Type 0 where
+  pub block : (s : Site) → Contains (sites_of_block t scope b) s → Contains (sites_of t) s
+  pub procedure : (s : Site) → Contains (sites_of_procedure t p) s → Contains (sites_of t) s
+
+-- so it is wherever a run comes to
+abbrev pub ComeToSites : Type 0
+ComeToSites =
+    (t : ProgramTree) (p : Procedure) (g : Frame) (scope : Scope) (b : Block) (f : Frame) → IsAdmitted t → ComesTo t p g scope b f → HasSites t p scope b
 
 -- Where a run stands, in a procedure p entered with the frame g: each region in force lies in its array, none that may be written
 -- shares a word with another, and the frame owns no more than g.
@@ -22,10 +35,11 @@ pub record PlaceIsApart (t : ProgramTree) (p : Procedure) (g : Frame) (scope : S
 
 -- The block of an `each` owns no more than what is around it, and two of them, of different indices, are separate. So it is with any
 -- parts of the region in the place of elements, as where the `each` is halved.
-pub record EachIsApart (scope : Scope) (i x r : Named) (f : Frame) : Type 0 where
+pub record EachIsApart (t : ProgramTree) (scope : Scope) (i x r : Named) (f : Frame) : Type 0 where
   pub element : (k : ℕ) → k < (f.regions r.name).length → OwnsNoMore (each_scope scope r i x) (each_frame f r k i x).regions scope f.regions
   pub elements : (k l : ℕ) → k < (f.regions r.name).length → l < (f.regions r.name).length → k ≢ l
       → AreSeparate (each_scope scope r i x) (each_frame f r k i x).regions (each_scope scope r i x) (each_frame f r l i x).regions
+  pub within : (q : Region) → IsPart q (f.regions r.name) → LieInArrays t.arrays (each_scope scope r i x) (part_frame f x q).regions
   pub apart : (q : Region) → IsPart q (f.regions r.name) → OwnsApart (each_scope scope r i x) (part_frame f x q).regions
   pub part : (q : Region) → IsPart q (f.regions r.name) → OwnsNoMore (each_scope scope r i x) (part_frame f x q).regions scope f.regions
   pub parts : (q w : Region) → IsPart q (f.regions r.name) → IsPart w (f.regions r.name) → ShareNoWord q w
@@ -46,7 +60,7 @@ pub record FramesOwnApart (t : ProgramTree) : Type 0 where
       → ComesTo t p g scope (Then (Split line r e x y s) b) f → n ≤ (f.regions r.name).length
       → OwnsNoMore (split_scope scope r x y) (split_frame f r n x y).regions scope f.regions
   pub each : (p : Procedure) (g : Frame) (scope : Scope) (i x r : Named) (s b : Block) (f : Frame)
-      → ComesTo t p g scope (Then (Each i x r s) b) f → EachIsApart scope i x r f
+      → ComesTo t p g scope (Then (Each i x r s) b) f → EachIsApart t scope i x r f
   pub call : (p : Procedure) (g : Frame) (scope : Scope) (s : Side) (b : Block) (f h : Frame) (a : Arrays)
       → ComesTo t p g scope (Then (tree.Call s) b) f → entered t.procedures f a s ≡ Ok h
       → OwnsNoMore (scope_of (callee t s)) h.regions scope f.regions

@@ -8,4 +8,4 @@
 
 mod laws;
 
-pub use laws::{own_apart, run_in_either_order, stay_within};
+pub use laws::{come_to_sites, own_apart, run_in_either_order, stay_within};
