@@ -8,7 +8,8 @@ use Rattle.ppm_tree.specs.State.{TrapAt, then_with, Region, part_at, Frame, Regi
 use Rattle.ppm_tree.specs.Program.{main_of}
 use Rattle.ppm_regions.specs.declared.ask.Ask.TheVariants as ask
 use Rattle.ppm_regions.specs.Scope.{Scope, in_split, in_each, parts_of, element_of, lets_of}
-use Rattle.ppm_regions.specs.Uses.{Lending, Asks, uses_in, uses_of_side, both_targets, lent_by, lent_together, declaration_sites, sites_of_block, sites_of_procedure}
+use Rattle.ppm_regions.specs.Uses.{Lending, Asks, uses_in, uses_of_side, both_targets, lent_by, lent_together, declaration_sites}
+use Rattle.ppm_regions.specs.Uses.{sites_of_block, sites_of_procedure}
 use Rattle.ppm_regions.specs.Admission.{IsAdmitted}
 use Rattle.ppm_regions.specs.Correct.{Makes, KeepsRules}
 use Rattle.ppm_owning.specs.Words.{ShareNoWord, IsPart}
@@ -38,6 +39,20 @@ both_found {A} {B} (Ok u) (Ok v) x y h =
     (ap (λ (p : A × B). found p.0) e, ap (λ (p : A × B). found p.1) e)
 both_found (Ok u) (Err s) x y h = absurd (cc)
 both_found (Err s) r x y h = absurd (cc)
+
+-- a run that stands in a procedure came to its body, in the frame that it was entered with
+pub came_in : {t : ProgramTree} {p : Procedure} {g : Frame} {scope : Scope} {b : Block} {f : Frame} → ComesTo t p g scope b f
+    → ComesTo t p g (scope_of p) p.body g
+came_in Main = Main
+came_in (Behind p g scope s b f l c) = came_in c
+came_in (InHolds p g scope e s u b f c) = came_in c
+came_in (InElse p g scope e s u b f c) = came_in c
+came_in (InWhile p g scope e s b f l c) = came_in c
+came_in (InSplit p g scope line r e x y s b f n short c) = came_in c
+came_in (InEach p g scope i x r s b f k short c) = came_in c
+came_in (InCall p g scope s b f h a is c) = InCall p g scope s b f h a is c
+came_in (InLeft p g scope s u b f l r a is c) = InLeft p g scope s u b f l r a is c
+came_in (InRight p g scope s u b f l r a is c) = InRight p g scope s u b f l r a is c
 
 module _ (t : ProgramTree) (rules : KeepsRules t) (admitted : IsAdmitted t) where
   -- what is known where a run comes to

@@ -27,14 +27,6 @@ names_other x y h = go (bytes_eq x y) refl
     go true e = absurd (h (same_names x y e))
     go false e = e
 
--- two names are the same or not
-pub name_cases : (x y : List ℕ) → (x ≡ y) ⊎ (x ≢ y)
-name_cases x y = go (bytes_eq x y) refl
-  where
-    go : (b : Bool) → bytes_eq x y ≡ b → (x ≡ y) ⊎ (x ≢ y)
-    go true e = inl (same_names x y e)
-    go false e = inr (other_names x y e)
-
 -- something is found or nothing is
 pub found_cases : {A : Type 0} (o : Option A) → (o ≡ None) ⊎ ((x : A) × (o ≡ Some x))
 found_cases None = inl refl
@@ -91,10 +83,6 @@ module _ (x : List ℕ) where
 pub image_of : {A B : Type 0} (g : A → B) (o : Option A) (y : B) → option_map g o ≡ Some y → (x : A) × (o ≡ Some x) × (g x ≡ y)
 image_of g None y h = absurd (none_and_some refl h)
 image_of g (Some x) y h = (x, refl, some_same {o = Some (g x)} refl h)
-
-pub no_image : {A B : Type 0} (g : A → B) (o : Option A) → option_map g o ≡ None → o ≡ None
-no_image g None h = refl
-no_image g (Some x) h = absurd (none_and_some h refl)
 
 -- a statement declares no region
 lets_no_region : (s : Statement) (x : List ℕ) (d : Declaration) → declared (lets_of s) x ≡ Some d → is_region d.mode ≡ true → ⊥

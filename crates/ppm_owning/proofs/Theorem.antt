@@ -11,7 +11,7 @@ use Rattle.ppm_owning.specs.Coming.{scope_of, callee, each_scope, each_frame, st
 use Rattle.ppm_owning.specs.Correct.{ComeToSites, OwnApart, IsWithin, StayWithin, RunInEitherOrder}
 use Rattle.ppm_owning.proofs.SiteLemmas.{callee_sites}
 use Rattle.ppm_owning.proofs.PartLemmas.{owns_no_more, lie_still, stretch_in, element_of_stretch}
-use Rattle.ppm_owning.proofs.ComingLemmas.{stands, home_sites, at_home, split_comes, each_comes, each_sites, part_comes, part_apart, parts_beside}
+use Rattle.ppm_owning.proofs.ComingLemmas.{came_in, stands, home_sites, at_home, split_comes, each_comes, each_sites, part_comes, part_apart, parts_beside}
 use Rattle.ppm_owning.proofs.ComingLemmas.{elements_beside, call_comes, left_comes, right_comes, sides_separate}
 use Rattle.ppm_owning.proofs.ChangeLemmas.{changes, changes_enters, changes_sweeps}
 use Rattle.ppm_owning.proofs.LocalLemmas.{local, local_enters, local_sweeps}
@@ -32,6 +32,7 @@ apart_everywhere t admitted =
       place = λ p g scope b f c.
           let h = stands t keeps admitted c in
           record { within = h.within; apart = h.apart; home = at_home t keeps admitted c };
+      entry = λ p g scope b f c. came_in c;
       split = λ p g scope line r e x y s b f n c short.
           owns_no_more (split_comes t keeps admitted scope line r e x y s b (stands t keeps admitted c).sites f n short);
       each = λ p g scope i x r s b f c.
@@ -95,7 +96,7 @@ module _ (form : Form) (t : ProgramTree) (admitted : IsAdmitted t) where
 pub within_everywhere : StayWithin
 within_everywhere form t admitted = record {
   block = λ p g scope b f c. block_within form t admitted c;
-  sweep = λ p g scope i x r s b f n m c short. sweep_within form t admitted scope i x r s b f n m c;
+  sweep = λ p g scope i x r s b f n m c. sweep_within form t admitted scope i x r s b f n m c;
   procedure = procedure_within form t admitted;
 }
 

@@ -155,7 +155,3 @@ same_less more p = record { shape = p.shape; words = λ k i h. p.words k i (more
 pub over_has : {A : Type 0} (z : End A) (c : Arrays) → arrays_of (over z c) ≡ c
 over_has (Ended x a) c = refl
 over_has (Trapped stop a) c = refl
-
-pub over_itself : {A : Type 0} (z : End A) → over z (arrays_of z) ≡ z
-over_itself (Ended x a) = refl
-over_itself (Trapped stop a) = refl

@@ -51,11 +51,12 @@ pub record ForkIsApart (t : ProgramTree) (scope : Scope) (s u : Side) (f left ri
   pub of_right : OwnsNoMore (scope_of (callee t u)) right.regions scope f.regions
   pub separate : AreSeparate (scope_of (callee t s)) left.regions (scope_of (callee t u)) right.regions
 
--- Wherever a run of the program comes to, frames own apart; the block of a split and a callee own no more than what is around them.
--- The arrays that it starts with are as long as they are declared.
+-- Wherever a run of the program comes to, frames own apart, and so where the procedure was entered; the block of a split and a callee own
+-- no more than what is around them. The arrays that it starts with are as long as they are declared.
 pub record FramesOwnApart (t : ProgramTree) : Type 0 where
   pub start : (k : ℕ) → length (array_at (values_of (initial_arrays t)) k) ≡ words_at t.arrays k
   pub place : (p : Procedure) (g : Frame) (scope : Scope) (b : Block) (f : Frame) → ComesTo t p g scope b f → PlaceIsApart t p g scope f
+  pub entry : (p : Procedure) (g : Frame) (scope : Scope) (b : Block) (f : Frame) → ComesTo t p g scope b f → ComesTo t p g (scope_of p) p.body g
   pub split : (p : Procedure) (g : Frame) (scope : Scope) (line : ℕ) (r : Named) (e : Expression) (x y : Named) (s b : Block) (f : Frame) (n : ℕ)
       → ComesTo t p g scope (Then (Split line r e x y s) b) f → n ≤ (f.regions r.name).length
       → OwnsNoMore (split_scope scope r x y) (split_frame f r n x y).regions scope f.regions
@@ -85,8 +86,7 @@ pub record StaysWithin (form : Form) (t : ProgramTree) : Type 0 where
   pub block : (p : Procedure) (g : Frame) (scope : Scope) (b : Block) (f : Frame) → ComesTo t p g scope b f
       → IsWithin scope f (Runs form t.procedures b f)
   pub sweep : (p : Procedure) (g : Frame) (scope : Scope) (i x r : Named) (s b : Block) (f : Frame) (n m : ℕ)
-      → ComesTo t p g scope (Then (Each i x r s) b) f → n + m ≤ (f.regions r.name).length
-      → IsWithin (each_scope scope r i x) (part_frame f x (stretch n m (f.regions r.name)))
+      → ComesTo t p g scope (Then (Each i x r s) b) f → IsWithin (each_scope scope r i x) (part_frame f x (stretch n m (f.regions r.name)))
       (Sweeps form t.procedures i x s (f.regions r.name) f n m)
   pub procedure : (x : List ℕ) (f : Frame)
       → IsWithin (scope_of (procedure_named t.procedures x)) f (Enters form t.procedures (procedure_named t.procedures x) f)
