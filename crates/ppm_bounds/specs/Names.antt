@@ -45,6 +45,6 @@ abbrev mutual
   free_names Nil = []
   free_names (Then s rest) = (used_by s ++ free_within s) ++ without (lets_of s) (free_names rest)
 
--- how many names of outside the block of an `each` names, with its index and its part
+-- how many names of outside the block of an `each` names; its index and its part are not of outside
 abbrev pub caught_count : Named → Named → Block → ℕ
 caught_count i x block = distinct_count bytes_eq (without (i.name ∷ x.name ∷ []) (free_names block))

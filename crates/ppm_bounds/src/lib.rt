@@ -2,7 +2,7 @@
 //! Model: counts on trees (`specs/Slots`, `specs/Names`, `specs/Capsules`) and their limits (`specs/Bounds`).
 //! Contract: `within_bounds` takes exactly the programs within all bounds, and names the fault of any other
 //! (`specs/Refusals`), which is one (`specs/Correct`).
-//! Stands on `ppm_tree`; the compiler and the command `serial` are to call it.
+//! Stands on `ppm_tree`; `ppm_judging` calls it.
 //! The names of outside are the free names of a block, as in closure conversion; the counts are this project's.
 #![tactic(auto)]
 

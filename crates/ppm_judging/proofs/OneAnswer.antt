@@ -185,7 +185,7 @@ module _ (laws : Laws) (text : List ℕ) (free : (r : Refusal) → IsRefusal tex
       let r = has_tree in
       let no_fault : (e : RegionError) → region.IsRefused r.0 e → e ≢ region_error.NoMemory → ⊥ =
       λ e f given. free (region_refusal e) (by_region (record { tree = r.0; derived = r.1; fault = f; given = given })) in
-      (r.0, record { tree = r.1; admitted = admitted_or_fault r.0 no_fault })
+      (r.0, record { tree = r.1; admitted = admitted_or_fault laws.regions r.0 no_fault })
 
   -- and within the bounds
   has_program : (t : ProgramTree) × HasProgram text t

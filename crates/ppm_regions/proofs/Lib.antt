@@ -11,4 +11,5 @@ pub mod MainLemmas
 pub mod Faultless
 pub mod Inputs
 pub mod Index
+pub mod OneFault
 pub mod Rules

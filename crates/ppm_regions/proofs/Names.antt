@@ -1,8 +1,10 @@
 -- The first item with a name.
-use Rattle.std.proofs.Common.{◌++◌, cond, ◌≡◌, ◌↔◌, ◌<◌, ◌+◌, ℕ, suc, arith, Bool, true, false, IsTrue, List, [], ◌∷◌, Option, Some, None, map, drop, length, get_or, drop-cons, refl, sym, ap, subst, ◌∙◌}
+use Rattle.std.proofs.Common.{◌++◌, cond, ◌≡◌, ◌≢◌, ◌↔◌, ◌<◌, ◌+◌, ℕ, suc, arith, Bool, true, false, IsTrue, List, [], ◌∷◌, Option, Some, None, map, drop, length, get_or, drop-cons, refl, sym, ap, subst, ◌∙◌}
 use Rattle.std.specs.Str.{bytes_eq}
 use Rattle.std.proofs.lemmas.Slice.Eq.{bytes_eq-Decides}
+use Rattle.std.specs.List.{Contains}
 use Rattle.ppm_regions.specs.Scope.{first_named}
+use Rattle.ppm_regions.proofs.Elements.{contains_cases}
 
 pub bytes_same : (x y : List ℕ) → x ≡ y → bytes_eq x y ≡ true
 bytes_same x y e = (bytes_eq-Decides x y).1 e
@@ -99,3 +101,16 @@ module _ {A : Type 0} (name_of : A → List ℕ) where
       go : (b : Bool) → bytes_eq (name_of i) x ≡ b → first_named name_of (xs ++ i ∷ []) x ≡ cond b (Some i) (first_named name_of xs x)
       go true e = new_last xs i x (same_bytes (name_of i) x e) (subst (λ z. first_named name_of xs z ≡ None) (same_bytes (name_of i) x e) h)
       go false e = other_last xs i x (λ same. let t = bytes_same (name_of i) x same in absurd (cc))
+
+-- a name that is not found is that of no item
+pub not_among : {A : Type 0} (name_of : A → List ℕ) (items : List A) (x : List ℕ) → first_named name_of items x ≡ None → (i : A) → Contains items i
+    → name_of i ≢ x
+not_among name_of [] x is i c e = absurd (omega (arith, c.1))
+not_among name_of (j ∷ items) x is i c e = go (bytes_eq (name_of j) x) refl (not_among name_of items x)
+  where
+    go : (b : Bool) → bytes_eq (name_of j) x ≡ b → (first_named name_of items x ≡ None → (k : _) → Contains items k → name_of k ≢ x) → ⊥
+    go true h further = let found = found_head name_of x j items (same_bytes (name_of j) x h) in cc
+    go false h further =
+        contains_cases ⊥ j i items
+        (λ same. let found = found_head name_of x j items (ap name_of same ∙ e) in cc)
+        (λ later. further (sym (found_later name_of x j items (λ f. let t = bytes_same (name_of j) x f in cc)) ∙ is) i later e) c

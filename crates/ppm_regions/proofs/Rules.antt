@@ -1,24 +1,28 @@
 -- The rules that an admitted program keeps.
-use Rattle.std.proofs.Common.{◌≡◌, ◌≢◌, ◌<◌, inl, inr, ℕ, Bool, true, false, List, [], ◌∷◌, Option, Some, None, length, refl, sym, ap, subst, ◌∙◌, arith}
+use Rattle.std.proofs.Common.{◌≡◌, ◌≢◌, ◌<◌, ◌≤◌, inl, inr, ℕ, Bool, true, false, List, [], ◌∷◌, Option, Some, None, length, codes, refl, sym, ap, subst, ◌∙◌, arith}
 use Rattle.std.specs.Prelude.{not}
-use Rattle.std.proofs.lemmas.Bool.{cases_eq}
+use Rattle.std.proofs.lemmas.Bool.{cases_eq, cases_lt}
 use Rattle.std.specs.List.{Contains}
 use Rattle.ppm_tree.specs.declared.mode.Mode.{Mode}
 use Rattle.ppm_tree.specs.declared.mode.Mode.TheVariants as mode
 use Rattle.ppm_tree.specs.declared.named.Named.{Named}
+use Rattle.ppm_tree.specs.declared.tree.Parameter.{Parameter}
+use Rattle.ppm_tree.specs.declared.tree.Array.{Array}
+use Rattle.ppm_tree.specs.declared.tree.ArrayInput.{ArrayInput}
 use Rattle.ppm_tree.specs.Tree.{Give, Procedure, ProgramTree}
 use Rattle.ppm_regions.specs.declared.ask.Ask.{Ask}
 use Rattle.ppm_regions.specs.declared.ask.Ask.TheVariants as ask
 use Rattle.ppm_regions.specs.declared.region_error.RegionError.{RegionError}
 use Rattle.ppm_regions.specs.declared.region_error.RegionError.TheVariants as error
-use Rattle.ppm_regions.specs.Scope.{Declaration, Scope, declared, is_region}
-use Rattle.ppm_regions.specs.Uses.{Lending, Use, Asks, Declares, Calls, Delivers, Lends, callee_of, sites_of}
-use Rattle.ppm_regions.specs.Faults.{fits, asks_region, Clashes, IsWrong, IsFault}
+use Rattle.ppm_regions.specs.Scope.{first_named, Declaration, Scope, declared, is_region}
+use Rattle.ppm_regions.specs.Uses.{Lending, Use, Asks, NoName, Declares, Calls, Delivers, Lends, Targets, Begins, MainTakes, MainGives, Fills}
+use Rattle.ppm_regions.specs.Uses.{callee_of, sites_of}
+use Rattle.ppm_regions.specs.Faults.{fits, asks_region, Clashes, array_named, IsWrong}
 use Rattle.ppm_regions.specs.Faults as fault
-use Rattle.ppm_regions.specs.ErrorNumbers.{number_of, line_of}
-use Rattle.ppm_regions.specs.Admission.{IsFirst, IsAdmitted, ComesFirst, ByNumber, ByLine}
-use Rattle.ppm_regions.specs.Correct.{IsDeclared, IsCalled, GivesValue, Makes, KeepsRules, KeepRules, HaveOneFault}
+use Rattle.ppm_regions.specs.Admission.{IsAdmitted}
+use Rattle.ppm_regions.specs.Correct.{IsDeclared, IsCalled, GivesValue, NamesArray, HasRoom, Makes, KeepsRules, KeepRules}
 use Rattle.ppm_regions.proofs.Faultless.{right_at}
+use Rattle.ppm_regions.proofs.Names.{not_among}
 
 module _ (t : ProgramTree) (admitted : IsAdmitted t) where
   -- a use of an admitted program is not wrong
@@ -91,6 +95,23 @@ module _ (t : ProgramTree) (admitted : IsAdmitted t) where
   valued s x h None is there = absurd (there is)
   valued s x h (Some p) is there = record { procedure = p; found = is; gives = λ none. h (error.NoValue x.line) (fault.NoValue x p is none) }
 
+  there : (s : Scope) → ((e : RegionError) → ¬ IsWrong t s Begins e) → first_named (λ p. p.name.name) t.procedures (codes "main") ≢ None
+  there s h is = h (error.BadMain 0) (fault.NoMain (λ p c. not_among (λ q. q.name.name) t.procedures (codes "main") is p c))
+
+  names_array : (s : Scope) (p : Parameter) → ((e : RegionError) → ¬ IsWrong t s (MainTakes p) e) → NamesArray t p
+  names_array s p h = record {
+    mode = λ int. h (error.BadMain p.name.line) (fault.BadParameter p (inl int));
+    found = λ none. h (error.BadMain p.name.line) (fault.BadParameter p (inr none));
+  }
+
+  has_room : (s : Scope) (i : ArrayInput) → ((e : RegionError) → ¬ IsWrong t s (Fills i) e) → (o : Option Array) → array_named t i.name ≡ o → HasRoom t i
+  has_room s i h None is = absurd (h (error.BadInput i.name.line) (fault.NoArray i is))
+  has_room s i h (Some a) is = record {
+    array = a;
+    found = is;
+    room = elim (cases_lt a.words (length i.values)) [ inl lt ↦ absurd (h (error.BadInput i.name.line) (fault.TooManyValues i a is lt)) | inr le ↦ le ];
+  }
+
   pub rules : KeepsRules t
   rules = record {
     names = λ s a x made. declared_as s a x (right s (Asks a x) made) (declared s x.name) refl;
@@ -98,14 +119,10 @@ module _ (t : ProgramTree) (admitted : IsAdmitted t) where
     calls = λ s x n made. called s x n (right s (Calls x n) made) (callee_of t x) refl;
     values = λ s x made. valued s x (right s (Delivers x) made) (callee_of t x) refl;
     lendings = λ s front l m made within clash. right s (Lends front m) made (error.LentTwice m.name.line) (fault.LentTwice front l m within clash);
+    arguments = λ s line made. right s (NoName line) made (error.WrongKind line) (fault.NoRegion line);
+    targets = λ s x y made same. right s (Targets x y) made (error.TwiceTarget y.line) (fault.TwiceTarget x y same);
+    main = λ s made. there s (right s Begins made);
+    parameters = λ s p made. names_array s p (right s (MainTakes p) made);
+    gives_nothing = λ s g made. right s (MainGives g) made (error.BadMain g.line) (fault.MainHasGive g);
+    inputs = λ s i made. has_room s i (right s (Fills i) made) (array_named t i.name) refl;
   }
-
--- two that come before one another have one number and one line
-same_place : (d e : RegionError) → ComesFirst d e → ComesFirst e d → (number_of d ≡ number_of e) × (line_of d ≡ line_of e)
-same_place d e (ByNumber p) (ByNumber q) = absurd (omega (arith, p, q))
-same_place d e (ByNumber p) (ByLine q r) = absurd (omega (arith, p, q))
-same_place d e (ByLine p q) (ByNumber r) = absurd (omega (arith, p, r))
-same_place d e (ByLine p q) (ByLine r s) = (p, omega (arith, q, s))
-
-pub one_fault : HaveOneFault
-one_fault t d e p q = same_place d e (p.first e q.here) (q.first d p.here)

@@ -2,12 +2,13 @@
 ghost use Rattle.ppm_regions.specs.Correct.{KeepRules, HaveOneFault};
 
 /// In an admitted program each name is declared where it is used, of the kind that is asked for; each procedure that is
-/// called is there, with as many parameters; and no region that is lent to be written is lent twice.
+/// called is there, with as many parameters; no region that is lent to be written is lent twice; and `main` and the inputs have
+/// their arrays.
 pub fn keep_rules()
     ensures law { KeepRules }
 {}
 
-/// A program has one fault that is told, by its number and its line.
+/// A program is admitted, or one fault is told of it, and never both.
 pub fn have_one_fault()
     ensures law { HaveOneFault }
 {}

@@ -1,4 +1,4 @@
-use Rattle.ppm_regions.proofs.Rules.{one_fault}
+use Rattle.ppm_regions.proofs.OneFault.{one_fault}
 use Rattle.ppm_regions.proofs.laws.have_one_fault.Goals as goal
 
 pub returns : goal.returns
