@@ -1,0 +1,2 @@
+pub mod Stmts
+pub mod Appending
