@@ -1,2 +1,11 @@
 pub mod Stmts
 pub mod Appending
+pub mod SpellingLemmas
+pub mod LexingLemmas
+pub mod Reading
+pub mod Fine
+pub mod FineLemmas
+pub mod FormLemmas
+pub mod ExpressionsAgain
+pub mod StatementsAgain
+pub mod ProgramsAgain

@@ -7,11 +7,13 @@
 #![tactic(auto)]
 
 mod expression;
-// mod laws;
+mod laws;
 mod program;
 mod spelling;
 mod statement;
+#[cfg(test)]
+mod tests;
 mod token;
 
-// pub use laws::printed_texts_have_their_tree;
+pub use laws::printed_texts_have_their_tree;
 pub use program::print;
