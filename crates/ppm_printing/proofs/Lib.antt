@@ -7,5 +7,7 @@ pub mod Fine
 pub mod FineLemmas
 pub mod FormLemmas
 pub mod ExpressionsAgain
+pub mod CallsAgain
 pub mod StatementsAgain
+pub mod DeclarationsAgain
 pub mod ProgramsAgain

@@ -18,77 +18,8 @@ use Rattle.ppm_printing.specs.Lines.{bare_name, bare_side, bare_statement, bare_
 use Rattle.ppm_printing.proofs.LexingLemmas.{past, ends, located_from}
 use Rattle.ppm_printing.proofs.Fine.{FineSide, FineStatement, FineBlock, FineGive}
 use Rattle.ppm_printing.proofs.Reading.{Reads, done, take, row, Stands, regroup}
-use Rattle.ppm_printing.proofs.ExpressionsAgain.{in_line, HasExpression, expression_again, arguments_again}
-
--- a call, apart from its target
-abbrev call : Named → List Argument → Side
-call callee arguments = record { target = None; callee = callee; arguments = arguments }
-
-abbrev SameSide : Side → Side → Type 0
-SameSide side again = bare_side again ≡ bare_side side
-
--- the tokens of a call in front of others
-call_split : (side : Side) (more : List Kind) → call_tokens side ++ more
-    ≡ name side.callee ∷ sign s.OpenParen ∷ list_tokens argument_tokens side.arguments ++ (sign s.CloseParen ∷ more)
-call_split side more =
-    ap (λ ks. name side.callee ∷ sign s.OpenParen ∷ ks) (append_assoc (list_tokens argument_tokens side.arguments) (sign s.CloseParen ∷ []) more)
-
--- a call
-call_again : (side : Side) (d p l : ℕ) (more : List Kind) → FineSide side
-    → Stands v.OneSide (SameSide (call side.callee side.arguments)) d g.Call (located_from p l (call_tokens side ++ more)) more
-call_again side d p l more fine =
-    let xs = arguments_again side.arguments d (past (name side.callee) p) (l + ends (name side.callee)) more fine.arguments in
-    regroup v.OneSide (SameSide (call side.callee side.arguments)) d g.Call p l more (call_split side more)
-    (record {
-      again = call (in_line side.callee l) xs.again;
-      same = λ i. record { target = None; callee = bare_name side.callee; arguments = xs.same i };
-      place = xs.place;
-      line = xs.line;
-      reads = λ ys vs rest next. row d g.Call first (take refl (xs.reads _ _ _ done)) next refl;
-    })
-
--- a call for a target
-abbrev for_target : Named → Side → Side
-for_target x side = record { target = Some x; callee = side.callee; arguments = side.arguments }
-
--- a side of a fork, without a target and with one
-plain_side_again : (callee : Named) (arguments : List Argument) (d p l : ℕ) (more : List Kind) → FineSide (call callee arguments)
-    → Stands v.OneSide (SameSide (call callee arguments)) d g.Side (located_from p l (side_tokens (call callee arguments) ++ more)) more
-plain_side_again callee arguments d p l more fine =
-    let xs = arguments_again arguments d (past (name callee) p) (l + ends (name callee)) more fine.arguments in
-    regroup v.OneSide (SameSide (call callee arguments)) d g.Side p l more (call_split (call callee arguments) more)
-    (record {
-      again = call (in_line callee l) xs.again;
-      same = λ i. record { target = None; callee = bare_name callee; arguments = xs.same i };
-      place = xs.place;
-      line = xs.line;
-      reads = λ ys vs rest next. row d g.Side first (take refl (row d g.AfterTarget (later first) (xs.reads _ _ _ done) done refl)) next refl;
-    })
-
-target_side_again : (x callee : Named) (arguments : List Argument) (d p l : ℕ) (more : List Kind) → FineSide (for_target x (call callee arguments))
-    → Stands v.OneSide (SameSide (for_target x (call callee arguments))) d g.Side
-    (located_from p l (side_tokens (for_target x (call callee arguments)) ++ more)) more
-target_side_again x callee arguments d p l more fine =
-    let fine' : FineSide (call callee arguments) = record { target = tt; callee = fine.callee; arguments = fine.arguments } in
-    let c = call_again (call callee arguments) d (past (sign s.Assign) (past (name x) p)) (l + ends (name x) + ends (sign s.Assign)) more fine' in
-    record {
-      again = for_target (in_line x l) c.again;
-      same = λ i. record { target = Some (bare_name x); callee = (c.same i).callee; arguments = (c.same i).arguments };
-      place = c.place;
-      line = c.line;
-      reads = λ ys vs rest next. row d g.Side first (take refl (row d g.AfterTarget first (take refl (c.reads _ _ _ done)) done refl)) next refl;
-    }
-
-side_by : (target : Option Named) (callee : Named) (arguments : List Argument) (d p l : ℕ) (more : List Kind)
-    → FineSide (record { target = target; callee = callee; arguments = arguments })
-    → Stands v.OneSide (SameSide (record { target = target; callee = callee; arguments = arguments })) d g.Side
-    (located_from p l (side_tokens (record { target = target; callee = callee; arguments = arguments }) ++ more)) more
-side_by None callee arguments d p l more fine = plain_side_again callee arguments d p l more fine
-side_by (Some x) callee arguments d p l more fine = target_side_again x callee arguments d p l more fine
-
-side_again : (side : Side) (d p l : ℕ) (more : List Kind) → FineSide side
-    → Stands v.OneSide (SameSide side) d g.Side (located_from p l (side_tokens side ++ more)) more
-side_again side d p l more fine = side_by side.target side.callee side.arguments d p l more fine
+use Rattle.ppm_printing.proofs.ExpressionsAgain.{in_line, expression_again}
+use Rattle.ppm_printing.proofs.CallsAgain.{SameStatement, called_again, fork_again}
 
 -- what is assigned, up to the end of the statement
 assigned_split : (e : Expression) (more : List Kind) → assigned_tokens e ++ more ≡ sign s.Assign ∷ expression_tokens e ++ (sign s.Semicolon ∷ more)
@@ -97,9 +28,6 @@ assigned_split e more = ap (λ ks. sign s.Assign ∷ ks) (append_assoc (expressi
 -- a block in its braces
 abbrev SameBlock : Block → Block → Type 0
 SameBlock b again = bare_block again ≡ bare_block b
-
-abbrev SameStatement : Statement → Statement → Type 0
-SameStatement x again = bare_statement again ≡ bare_statement x
 
 braced_again : (b : Block) (d p l : ℕ) (more : List Kind)
     → Stands v.Statements (SameBlock b) (suc d) g.Statements
@@ -190,72 +118,6 @@ let_again x e d p l more fine =
       line = _;
       reads = λ xs vs rest next.
       row d g.Statement first (take refl (take refl (take refl (h.reads _ _ _ (take refl done))))) next refl;
-    })
-
--- a call that is a statement, without a target and with one
-plain_call_again : (callee : Named) (arguments : List Argument) (d p l : ℕ) (more : List Kind) → FineSide (call callee arguments)
-    → Stands v.OneStatement (SameStatement (tree.Call (call callee arguments))) d g.Statement
-    (located_from p l (statement_tokens (tree.Call (call callee arguments)) ++ more)) more
-plain_call_again callee arguments d p l more fine =
-    let side = call callee arguments in
-    let h = call_again side d (past (word k.Call) p) (l + ends (word k.Call)) (sign s.Semicolon ∷ more) fine in
-    regroup v.OneStatement (SameStatement (tree.Call side)) d g.Statement p l more
-    (ap (λ ks. word k.Call ∷ ks) (append_assoc (call_tokens side) (sign s.Semicolon ∷ []) more))
-    (record {
-      again = tree.Call h.again;
-      same = ap tree.Call h.same;
-      place = _;
-      line = _;
-      reads = λ xs vs rest next.
-      row d g.Statement (later (later (later (later first)))) (take refl (h.reads _ _ _ (take refl done))) next refl;
-    })
-
-target_call_again : (x callee : Named) (arguments : List Argument) (d p l : ℕ) (more : List Kind) → FineSide (for_target x (call callee arguments))
-    → Stands v.OneStatement (SameStatement (tree.Call (for_target x (call callee arguments)))) d g.Statement
-    (located_from p l (statement_tokens (tree.Call (for_target x (call callee arguments))) ++ more)) more
-target_call_again x callee arguments d p l more fine =
-    let side = call callee arguments in
-    let fine' : FineSide side = record { target = tt; callee = fine.callee; arguments = fine.arguments } in
-    let h = call_again side d (past (word k.Call) (past (sign s.Assign) (past (name x) p)))
-    (l + ends (name x) + ends (sign s.Assign) + ends (word k.Call)) (sign s.Semicolon ∷ more) fine' in
-    regroup v.OneStatement (SameStatement (tree.Call (for_target x side))) d g.Statement p l more
-    (ap (λ ks. name x ∷ sign s.Assign ∷ word k.Call ∷ ks) (append_assoc (call_tokens side) (sign s.Semicolon ∷ []) more))
-    (record {
-      again = tree.Call (for_target (in_line x l) h.again);
-      same = λ i. tree.Call (record { target = Some (bare_name x); callee = (h.same i).callee; arguments = (h.same i).arguments });
-      place = _;
-      line = _;
-      reads = λ xs vs rest next.
-      row d g.Statement (later first)
-          (take refl (row d g.AfterName first (take refl (row d g.Assigned (later first) (take refl (h.reads _ _ _ (take refl done))) done refl)) done refl))
-          next refl;
-    })
-
-called_again : (target : Option Named) (callee : Named) (arguments : List Argument) (d p l : ℕ) (more : List Kind)
-    → FineSide (record { target = target; callee = callee; arguments = arguments })
-    → Stands v.OneStatement (SameStatement (tree.Call (record { target = target; callee = callee; arguments = arguments }))) d g.Statement
-    (located_from p l (statement_tokens (tree.Call (record { target = target; callee = callee; arguments = arguments })) ++ more)) more
-called_again None callee arguments d p l more fine = plain_call_again callee arguments d p l more fine
-called_again (Some x) callee arguments d p l more fine = target_call_again x callee arguments d p l more fine
-
--- a fork
-fork_again : (left right : Side) (d p l : ℕ) (more : List Kind) → FineStatement (tree.Fork left right)
-    → Stands v.OneStatement (SameStatement (tree.Fork left right)) d g.Statement (located_from p l (statement_tokens (tree.Fork left right) ++ more)) more
-fork_again left right d p l more fine =
-    let close = sign s.Semicolon ∷ more in
-    let behind = word k.And ∷ side_tokens right ++ close in
-    let a = side_again left d (past (word k.Fork) p) (l + ends (word k.Fork)) behind fine.0 in
-    let b = side_again right d (past (word k.And) a.place) (a.line + ends (word k.And)) close fine.1 in
-    regroup v.OneStatement (SameStatement (tree.Fork left right)) d g.Statement p l more
-    (ap (λ ks. word k.Fork ∷ ks) (append_assoc (side_tokens left ++ word k.And ∷ side_tokens right) (sign s.Semicolon ∷ []) more
-    ∙ append_assoc (side_tokens left) (word k.And ∷ side_tokens right) close))
-    (record {
-      again = tree.Fork a.again b.again;
-      same = λ i. tree.Fork (a.same i) (b.same i);
-      place = _;
-      line = _;
-      reads = λ xs vs rest next.
-      row d g.Statement (later (later (later (later (later first))))) (take refl (a.reads _ _ _ (take refl (b.reads _ _ _ (take refl done))))) next refl;
     })
 
 -- a block in braces, wherever it stands
