@@ -15,10 +15,11 @@ use Rattle.ppm_tree.specs.declared.tree.Stmt.{Stmt}
 use Rattle.ppm_tree.specs.declared.tree.Argument as declared_argument
 use Rattle.ppm_tree.specs.declared.tree.Side as declared_side
 use Rattle.ppm_tree.specs.declared.tree.Tree as declared_tree
-use Rattle.ppm_tree.specs.Tree.{Expression, Statement, Block, Nil, Then, If, While, Split, Each, Procedure, block_of, expression_of, side_of, procedure_of, tree_of}
+use Rattle.ppm_tree.specs.Tree.{Expression, Statement, Block, If, While, Split, Each, Procedure, block_of, expression_of, side_of, procedure_of, tree_of}
 use Rattle.ppm_printing.specs.Spelled.{spaced, text_of, Appends}
-use Rattle.ppm_printing.specs.Canonical.{name, word, sign, expression_tokens, list_tokens, more_tokens, argument_tokens, call_tokens, braced, give_tokens}
-use Rattle.ppm_printing.specs.Canonical.{statement_tokens, block_tokens, else_tokens, parameter_tokens, array_tokens, procedure_tokens, input_tokens, program_tokens}
+use Rattle.ppm_printing.specs.Canonical.{name, word, sign, expression_tokens, list_tokens, argument_tokens, call_tokens, braced, give_tokens}
+use Rattle.ppm_printing.specs.Canonical.{statement_tokens, block_tokens, else_tokens, parameter_tokens, array_tokens, procedure_tokens}
+use Rattle.ppm_printing.specs.Canonical.{input_tokens, program_tokens}
 
 -- one piece behind another
 pub then : (xs ys : List Kind) (a b c : List ℕ) → Appends xs a b → Appends ys b c → Appends (xs ++ ys) a c
@@ -89,7 +90,8 @@ procedure_text p ps body a b c d e f g same also h1 h2 h3 h4 h5 h6 =
     (then (sign s.CloseParen ∷ []) inner e f g h5 (subst (λ x. Appends (braced (block_tokens x ++ give_tokens p.give)) f g) also h6)))))
 
 -- a program, kind by kind
-pub tree_text : (t : declared_tree.Tree) (xs : List Array) (ps : List Proc) (is : List ArrayInput) (a b c d : List ℕ) → xs ≡ t.arrays → ps ≡ t.procedures → is ≡ t.inputs
+pub tree_text : (t : declared_tree.Tree) (xs : List Array) (ps : List Proc) (is : List ArrayInput) (a b c d : List ℕ)
+    → xs ≡ t.arrays → ps ≡ t.procedures → is ≡ t.inputs
     → Appends (flat_map array_tokens xs) a b → Appends (flat_map (λ p. procedure_tokens (procedure_of p)) ps) b c
     → Appends (flat_map input_tokens is) c d → Appends (program_tokens (tree_of t)) a d
 tree_text t xs ps is a b c d e1 e2 e3 f g h =

@@ -1,31 +1,21 @@
 -- The tokens of a call and of a fork derive them, lines apart.
-use Rattle.std.proofs.Common.{◌≡◌, ◌∙◌, ℕ, suc, ◌+◌, List, [], ◌∷◌, ◌++◌, length, map, refl, sym, ap, append_assoc}
-use Rattle.std.specs.Prelude.{pos, negsuc}
-use Rattle.std.specs.List.{AllByRecursion}
-use Rattle.ppm_grammar.specs.Rows.{In, first, later}
-use Rattle.ppm_grammar.specs.Derivation.{due}
+use Rattle.std.proofs.Common.{◌≡◌, ◌∙◌, ℕ, suc, ◌+◌, List, [], ◌∷◌, ◌++◌, map, refl, ap, append_assoc}
+use Rattle.ppm_grammar.specs.Rows.{first, later}
 use Rattle.ppm_text.specs.declared.token.Sign.TheVariants as s
 use Rattle.ppm_text.specs.declared.token.Keyword.TheVariants as k
 use Rattle.ppm_text.specs.declared.token.Kind.{Kind}
-use Rattle.ppm_text.specs.declared.token.Token.{Token}
 use Rattle.ppm_tree.specs.declared.named.Named.{Named}
-use Rattle.ppm_tree.specs.declared.operator.Operator.{Operator}
-use Rattle.ppm_tree.specs.declared.operator.Operator.TheVariants as o
 use Rattle.ppm_tree.specs.Tree.{Argument}
 use Rattle.ppm_tree.specs.Tree as tree
-use Rattle.ppm_rows.specs.declared.level.Level.{Level}
-use Rattle.ppm_rows.specs.declared.level.Level.TheVariants as level
 use Rattle.ppm_rows.specs.Phrases.{Phrase, operand}
 use Rattle.ppm_rows.specs.Phrases as g
 use Rattle.ppm_rows.specs.Values.{Value, Expr, item, from_operand_in}
 use Rattle.ppm_rows.specs.Values as v
-use Rattle.ppm_rows.specs.Operations.{operation, operations}
-use Rattle.ppm_rows.specs.Language.{goes_on, operation_form}
-use Rattle.ppm_printing.specs.Canonical.{name, word, sign, operator_sign, expression_tokens, argument_tokens, list_tokens, more_tokens}
-use Rattle.ppm_printing.specs.Lines.{bare_name, bare_expression, bare_argument}
+use Rattle.ppm_printing.specs.Canonical.{name, word, sign, argument_tokens, list_tokens, more_tokens}
+use Rattle.ppm_printing.specs.Lines.{bare_name, bare_argument}
 use Rattle.ppm_printing.proofs.LexingLemmas.{past, ends, located_from}
 use Rattle.ppm_printing.proofs.Fine.{FineArguments}
-use Rattle.ppm_printing.proofs.Reading.{Reads, done, take, row, Stands, regroup, in_map}
+use Rattle.ppm_printing.proofs.Reading.{done, take, row, Stands, regroup}
 use Rattle.ppm_tree.specs.Tree.{Side, Statement}
 use Rattle.std.specs.Prelude.{Option, Some, None}
 use Rattle.ppm_printing.specs.Canonical.{call_tokens, side_tokens, statement_tokens}
@@ -59,7 +49,7 @@ more_arguments_again (x ∷ xs) d p l more fine =
       place = others.place;
       line = others.line;
       reads = λ xs vs rest next.
-      row d g.MoreArguments (later first)
+          row d g.MoreArguments (later first)
           (take refl (row d g.Argument first (e.reads _ _ _ done) (others.reads _ _ _ done) refl)) next refl;
     })
 
@@ -85,7 +75,7 @@ some_arguments_again (x ∷ xs) d p l more fine =
       place = others.place;
       line = others.line;
       reads = λ xs vs rest next.
-      row d g.SomeArguments (later first) (row d g.Argument first (e.reads _ _ _ done) (others.reads _ _ _ done) refl) next refl;
+          row d g.SomeArguments (later first) (row d g.Argument first (e.reads _ _ _ done) (others.reads _ _ _ done) refl) next refl;
     })
 
 -- arguments in their parentheses
@@ -191,7 +181,7 @@ plain_call_again callee arguments d p l more fine =
       place = _;
       line = _;
       reads = λ xs vs rest next.
-      row d g.Statement (later (later (later (later first)))) (take refl (h.reads _ _ _ (take refl done))) next refl;
+          row d g.Statement (later (later (later (later first)))) (take refl (h.reads _ _ _ (take refl done))) next refl;
     })
 
 target_call_again : (x callee : Named) (arguments : List Argument) (d p l : ℕ) (more : List Kind) → FineSide (for_target x (call callee arguments))
@@ -210,7 +200,7 @@ target_call_again x callee arguments d p l more fine =
       place = _;
       line = _;
       reads = λ xs vs rest next.
-      row d g.Statement (later first)
+          row d g.Statement (later first)
           (take refl (row d g.AfterName first (take refl (row d g.Assigned (later first) (take refl (h.reads _ _ _ (take refl done))) done refl)) done refl))
           next refl;
     })
@@ -239,5 +229,5 @@ fork_again left right d p l more fine =
       place = _;
       line = _;
       reads = λ xs vs rest next.
-      row d g.Statement (later (later (later (later (later first))))) (take refl (a.reads _ _ _ (take refl (b.reads _ _ _ (take refl done))))) next refl;
+          row d g.Statement (later (later (later (later (later first))))) (take refl (a.reads _ _ _ (take refl (b.reads _ _ _ (take refl done))))) next refl;
     })

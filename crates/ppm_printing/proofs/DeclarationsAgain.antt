@@ -1,12 +1,10 @@
 -- The tokens of a declaration derive it, lines apart.
 use Rattle.std.proofs.Common.{◌≡◌, ◌∙◌, ℕ, suc, ◌+◌, ◌≤◌, List, [], ◌∷◌, ◌++◌, length, map, refl, ap, append_assoc, arith}
 use Rattle.std.specs.Prelude.{ℤ, pos, negsuc}
-use Rattle.std.specs.List.{AllByRecursion, flat_map}
 use Rattle.ppm_grammar.specs.Rows.{first, later}
 use Rattle.ppm_text.specs.declared.token.Sign.TheVariants as s
 use Rattle.ppm_text.specs.declared.token.Keyword.TheVariants as k
 use Rattle.ppm_text.specs.declared.token.Kind.{Kind}
-use Rattle.ppm_text.specs.declared.token.Token.{Token}
 use Rattle.ppm_tree.specs.declared.mode.Mode.{Mode}
 use Rattle.ppm_tree.specs.declared.mode.Mode.TheVariants as mode
 use Rattle.ppm_tree.specs.declared.named.Named.{Named}
@@ -17,12 +15,12 @@ use Rattle.ppm_tree.specs.Tree.{Block, Give, Procedure}
 use Rattle.std.specs.Prelude.{Option}
 use Rattle.ppm_rows.specs.Phrases as g
 use Rattle.ppm_rows.specs.Values as v
-use Rattle.ppm_printing.specs.Canonical.{name, number, word, sign, more_tokens, list_tokens, integer_tokens, block_tokens, give_tokens, mode_word, braced}
-use Rattle.ppm_printing.specs.Canonical.{parameter_tokens, array_tokens, procedure_tokens, input_tokens, program_tokens}
-use Rattle.ppm_printing.specs.Lines.{bare_name, bare_block, bare_give, bare_parameter, bare_array, bare_procedure, bare_input, without_lines}
+use Rattle.ppm_printing.specs.Canonical.{name, word, sign, more_tokens, list_tokens, integer_tokens, block_tokens, give_tokens, mode_word, braced}
+use Rattle.ppm_printing.specs.Canonical.{parameter_tokens, array_tokens, procedure_tokens, input_tokens}
+use Rattle.ppm_printing.specs.Lines.{bare_name, bare_block, bare_give, bare_parameter, bare_array, bare_procedure, bare_input}
 use Rattle.ppm_printing.proofs.LexingLemmas.{past, ends, located_from}
-use Rattle.ppm_printing.proofs.Fine.{FineBlock, FineGive, FineProcedure, FineArray, FineInput, FineProgram}
-use Rattle.ppm_printing.proofs.Reading.{Reads, done, take, row, Stands, regroup}
+use Rattle.ppm_printing.proofs.Fine.{FineBlock, FineGive, FineProcedure, FineInput}
+use Rattle.ppm_printing.proofs.Reading.{done, take, row, Stands, regroup}
 use Rattle.ppm_printing.proofs.ExpressionsAgain.{in_line}
 use Rattle.ppm_printing.proofs.StatementsAgain.{statements_again, give_again}
 
@@ -178,7 +176,7 @@ array_again x d p l more = record {
   place = _;
   line = _;
   reads = λ xs vs rest next.
-  row d g.Declaration first
+      row d g.Declaration first
       (take refl (take refl (row d g.Length first (take refl (row (suc d) g.Words first (take refl done) (take refl done) refl)) (take refl done) refl)))
       next refl;
 }
@@ -243,7 +241,7 @@ input_by x (z ∷ zs) d p l more some =
       place = _;
       line = _;
       reads = λ xs vs rest next.
-      row d g.Declaration (later (later first))
+          row d g.Declaration (later (later first))
           (take refl (take refl (take refl (a.reads _ _ _ (others.reads _ _ _ (take refl done)))))) next refl;
     })
 

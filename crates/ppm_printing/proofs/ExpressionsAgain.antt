@@ -1,11 +1,9 @@
 -- The tokens of an expression derive it, lines apart.
-use Rattle.std.proofs.Common.{◌≡◌, ◌∙◌, ℕ, suc, ◌+◌, List, [], ◌∷◌, ◌++◌, length, map, refl, sym, ap, append_assoc}
+use Rattle.std.proofs.Common.{◌≡◌, ◌∙◌, ℕ, suc, ◌+◌, List, [], ◌∷◌, ◌++◌, refl, ap, append_assoc}
 use Rattle.std.specs.Prelude.{pos, negsuc}
-use Rattle.std.specs.List.{AllByRecursion}
 use Rattle.ppm_grammar.specs.Rows.{In, first, later}
 use Rattle.ppm_grammar.specs.Derivation.{due}
 use Rattle.ppm_text.specs.declared.token.Sign.TheVariants as s
-use Rattle.ppm_text.specs.declared.token.Keyword.TheVariants as k
 use Rattle.ppm_text.specs.declared.token.Kind.{Kind}
 use Rattle.ppm_text.specs.declared.token.Token.{Token}
 use Rattle.ppm_tree.specs.declared.named.Named.{Named}
@@ -21,10 +19,10 @@ use Rattle.ppm_rows.specs.Values.{Value, Expr, item, from_operand_in}
 use Rattle.ppm_rows.specs.Values as v
 use Rattle.ppm_rows.specs.Operations.{operation, operations}
 use Rattle.ppm_rows.specs.Language.{goes_on, operation_form}
-use Rattle.ppm_printing.specs.Canonical.{name, word, sign, operator_sign, expression_tokens, argument_tokens, list_tokens, more_tokens}
-use Rattle.ppm_printing.specs.Lines.{bare_name, bare_expression, bare_argument}
+use Rattle.ppm_printing.specs.Canonical.{name, sign, operator_sign, expression_tokens}
+use Rattle.ppm_printing.specs.Lines.{bare_name, bare_expression}
 use Rattle.ppm_printing.proofs.LexingLemmas.{past, ends, located_from}
-use Rattle.ppm_printing.proofs.Fine.{FineExpression, FineArguments}
+use Rattle.ppm_printing.proofs.Fine.{FineExpression}
 use Rattle.ppm_printing.proofs.Reading.{Reads, done, take, row, Stands, regroup, in_map}
 
 -- a name in a line
@@ -171,7 +169,7 @@ joined lv x line d left right ts behind more i a b =
       place = b.place;
       line = b.line;
       reads = λ xs vs rest next.
-      row d (g.Operation lv) first
+          row d (g.Operation lv) first
           (a.reads _ _ _ (row d (g.FromOperand lv) (later (in_map (λ y. operation_form lv y) i)) (take refl (b.reads _ _ _ (none.reads _))) done refl))
           next refl;
     }
@@ -218,7 +216,7 @@ operand_again (tree.Element x index) d p l more fine =
       place = _;
       line = _;
       reads = λ xs vs rest next.
-      row d g.Operand (later (later first))
+          row d g.Operand (later (later first))
           (take refl (row d g.Index (later first) (take refl (i.reads _ _ _ (take refl done))) done refl)) next refl;
     })
 operand_again (tree.Len x) d p l more fine = record {

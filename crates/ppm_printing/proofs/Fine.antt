@@ -1,5 +1,5 @@
 -- Trees whose names, literals and inputs are such, part by part.
-use Rattle.std.proofs.Common.{ℕ, ◌<◌, ◌≤◌, List, [], ◌∷◌, length}
+use Rattle.std.proofs.Common.{◌<◌, ◌≤◌, List, length}
 use Rattle.std.specs.Prelude.{Option, Some, None}
 use Rattle.std.specs.List.{AllByRecursion}
 use Rattle.ppm_words.specs.Limits.{value_bound}

@@ -1,18 +1,18 @@
 -- In a tree within the limits all names, literals and inputs are such.
-use Rattle.std.proofs.Common.{◌≡◌, ◌∙◌, ℕ, ◌+◌, ◌<◌, ◌≤◌, List, [], ◌∷◌, ◌++◌, length, map, refl, subst, arith}
+use Rattle.std.proofs.Common.{◌≤◌, List, [], ◌∷◌, ◌++◌, map, subst, arith}
 use Rattle.std.specs.Prelude.{Option, Some, None}
-use Rattle.std.specs.List.{All, AllByRecursion, flat_map, sum}
+use Rattle.std.specs.List.{AllByRecursion, flat_map, sum}
 use Rattle.std.proofs.lemmas.Grind.{flat_map-append}
 use Rattle.std.proofs.lemmas.List.Elements.{recursion_from_All}
 use Rattle.std.proofs.lemmas.List.Sums.{sum_by-cons}
-use Rattle.ppm_words.specs.Limits.{value_bound}
 use Rattle.ppm_tree.specs.declared.named.Named.{Named}
 use Rattle.ppm_tree.specs.declared.tree.Array.{Array}
 use Rattle.ppm_tree.specs.declared.tree.ArrayInput.{ArrayInput}
 use Rattle.ppm_tree.specs.Tree.{Expression, Argument, Side, Statement, Block, Nil, Then, Give, Procedure, ProgramTree}
 use Rattle.ppm_tree.specs.Tree as tree
 use Rattle.ppm_tree.specs.Parts.{nodes, nodes_of, target_names, side_names, names_of, statement_and_inner, statements_in, gives_of}
-use Rattle.ppm_tree.specs.Limits.{IsNamed, IsNode, IsSmallStatement, IsSmallGive, IsSmall, IsParameter, IsArray, IsArrayInput, IsInputValue, IsWithin, word_limit}
+use Rattle.ppm_tree.specs.Limits.{IsNamed, IsNode, IsSmallStatement, IsSmallGive, IsSmall, IsParameter, IsArray, IsArrayInput, IsInputValue, IsWithin}
+use Rattle.ppm_tree.specs.Limits.{word_limit}
 use Rattle.ppm_printing.proofs.Fine.{FineExpression, FineArguments, FineTarget, FineSide, FineStatement, FineBlock, FineGive, FineProcedure}
 use Rattle.ppm_printing.proofs.Fine.{FineArray, FineInput, FineProgram}
 
@@ -41,13 +41,15 @@ fine_target : (target : Option Named) → AllByRecursion IsNamed (target_names t
 fine_target None h = tt
 fine_target (Some x) h = h.0
 
-fine_side : (side : Side) → AllByRecursion IsNamed (side_names side) → AllByRecursion IsNode (flat_map nodes (map (λ a. a.value) side.arguments)) → FineSide side
+fine_side : (side : Side) → AllByRecursion IsNamed (side_names side)
+    → AllByRecursion IsNode (flat_map nodes (map (λ a. a.value) side.arguments)) → FineSide side
 fine_side side names inner =
     let r = apart IsNamed (target_names side.target) (side.callee ∷ []) names in
     record { target = fine_target side.target r.0; callee = r.1.0; arguments = fine_arguments side.arguments inner }
 
 -- the first of the expressions of a statement
-first_of : (e : Expression) (es : List Expression) → AllByRecursion IsNode (flat_map nodes (e ∷ es)) → FineExpression e × AllByRecursion IsNode (flat_map nodes es)
+first_of : (e : Expression) (es : List Expression) → AllByRecursion IsNode (flat_map nodes (e ∷ es))
+    → FineExpression e × AllByRecursion IsNode (flat_map nodes es)
 first_of e es h = let r = apart IsNode (nodes e) (flat_map nodes es) h in (fine_expression e r.0, r.1)
 
 -- the nodes and the names of a statement

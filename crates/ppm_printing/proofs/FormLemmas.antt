@@ -1,13 +1,11 @@
 -- The tokens of a tree whose names and numbers are such have the form of tokens.
-use Rattle.std.proofs.Common.{◌≡◌, ◌≢◌, ◌∙◌, ℕ, suc, ◌+◌, ◌<◌, ◌≤◌, Bool, true, false, List, [], ◌∷◌, ◌++◌, refl, arith}
+use Rattle.std.proofs.Common.{◌≡◌, ◌≢◌, ℕ, Bool, true, false, List, [], ◌∷◌, ◌++◌, refl, arith}
 use Rattle.std.specs.Prelude.{ℤ, pos, negsuc, cond, map, Option, Some, None}
 use Rattle.std.specs.List.{AllByRecursion, flat_map}
 use Rattle.std.specs.Bool.{Decides}
 use Rattle.std.specs.Str.{bytes_eq}
 use Rattle.std.proofs.lemmas.List.Elements.{recursion_from_All}
 use Rattle.std.proofs.lemmas.Slice.Eq.{bytes_eq-Decides}
-use Rattle.ppm_text.specs.declared.token.Sign.TheVariants as s
-use Rattle.ppm_text.specs.declared.token.Keyword.TheVariants as k
 use Rattle.ppm_text.specs.declared.token.Kind.{Kind}
 use Rattle.ppm_text.specs.Spelling.{spelled, keyword_of, keywords as spellings}
 use Rattle.ppm_text.specs.Tokens.{HasForm}
@@ -18,7 +16,8 @@ use Rattle.ppm_tree.specs.declared.tree.ArrayInput.{ArrayInput}
 use Rattle.ppm_tree.specs.Tree.{Expression, Argument, Side, Statement, Block, Nil, Then, Give, Procedure, ProgramTree}
 use Rattle.ppm_tree.specs.Tree as tree
 use Rattle.ppm_tree.specs.Limits.{IsNamed, IsLiteral, IsInputValue, IsParameter, keywords}
-use Rattle.ppm_printing.specs.Canonical.{name, more_tokens, list_tokens, integer_tokens, expression_tokens, argument_tokens, call_tokens, target_tokens, side_tokens}
+use Rattle.ppm_printing.specs.Canonical.{name, more_tokens, list_tokens, integer_tokens, expression_tokens, argument_tokens}
+use Rattle.ppm_printing.specs.Canonical.{call_tokens, target_tokens, side_tokens}
 use Rattle.ppm_printing.specs.Canonical.{statement_tokens, block_tokens, else_tokens, give_tokens, parameter_tokens, array_tokens, procedure_tokens}
 use Rattle.ppm_printing.specs.Canonical.{input_tokens, program_tokens, braced, assigned_tokens}
 use Rattle.ppm_printing.proofs.Fine.{FineExpression, FineArguments, FineTarget, FineSide, FineStatement, FineBlock, FineGive, FineProcedure}
@@ -97,7 +96,8 @@ value_list_formed (z ∷ zs) h = both (integer_tokens z) _ (value_formed z h.0) 
 
 -- calls
 call_formed : (side : Side) → FineSide side → Formed (call_tokens side)
-call_formed side h = (name_formed side.callee h.callee, (tt, both (list_tokens argument_tokens side.arguments) _ (list_formed side.arguments h.arguments) (tt, tt)))
+call_formed side h =
+    (name_formed side.callee h.callee, (tt, both (list_tokens argument_tokens side.arguments) _ (list_formed side.arguments h.arguments) (tt, tt)))
 
 target_formed : (target : Option Named) → FineTarget target → Formed (target_tokens target)
 target_formed None h = tt
@@ -123,17 +123,27 @@ mutual
   statement_formed (tree.Assign x e) h = (name_formed x h.0, assigned_formed e h.1)
   statement_formed (tree.Put x index e) h =
       (name_formed x h.0, (tt, both (expression_tokens index) _ (expression_formed index h.1) (tt, assigned_formed e h.2)))
-  statement_formed (tree.If e block other) h =
-      (tt, both _ _ (both (expression_tokens e) _ (expression_formed e h.0) (braced_formed (block_tokens block) (block_formed block h.1)))
-      (else_formed other (block_formed other h.2)))
+  statement_formed (tree.If e block other) h = (
+    tt,
+    both _ _ (both (expression_tokens e) _ (expression_formed e h.0) (braced_formed (block_tokens block) (block_formed block h.1)))
+        (else_formed other (block_formed other h.2)),
+  )
   statement_formed (tree.While e block) h =
       (tt, both (expression_tokens e) _ (expression_formed e h.0) (braced_formed (block_tokens block) (block_formed block h.1)))
   statement_formed (tree.Call side) h =
       both _ _ (both (target_tokens side.target) _ (target_formed side.target h.target) (tt, call_formed side h)) (tt, tt)
   statement_formed (tree.Fork left right) h = (tt, both _ _ (both (side_tokens left) _ (side_formed left h.0) (tt, side_formed right h.1)) (tt, tt))
-  statement_formed (tree.Split line r e x y block) h =
-      (tt, (name_formed r h.0, (tt, both (expression_tokens e) _ (expression_formed e h.1)
-      (tt, (name_formed x h.2, (tt, (name_formed y h.3, braced_formed (block_tokens block) (block_formed block h.4))))))))
+  statement_formed (tree.Split line r e x y block) h = (
+    tt,
+    (
+      name_formed r h.0,
+      (
+        tt,
+        both (expression_tokens e) _ (expression_formed e h.1)
+            (tt, (name_formed x h.2, (tt, (name_formed y h.3, braced_formed (block_tokens block) (block_formed block h.4))))),
+      ),
+    ),
+  )
   statement_formed (tree.Each i x r block) h =
       (tt, (name_formed i h.0, (tt, (name_formed x h.1, (tt, (name_formed r h.2, braced_formed (block_tokens block) (block_formed block h.3)))))))
 
@@ -147,9 +157,20 @@ give_formed None h = tt
 give_formed (Some x) h = (tt, both (expression_tokens x.value) _ (expression_formed x.value h) (tt, tt))
 
 procedure_formed : (x : Procedure) → FineProcedure x → Formed (procedure_tokens x)
-procedure_formed x h =
-    (tt, (name_formed x.name h.name, (tt, both (list_tokens parameter_tokens x.parameters) _ (parameter_list_formed x.parameters h.parameters)
-    (tt, braced_formed (block_tokens x.body ++ give_tokens x.give) (both (block_tokens x.body) _ (block_formed x.body h.body) (give_formed x.give h.give))))))
+procedure_formed x h = (
+  tt,
+  (
+    name_formed x.name h.name,
+    (
+      tt,
+      both (list_tokens parameter_tokens x.parameters) _ (parameter_list_formed x.parameters h.parameters) (
+        tt,
+        braced_formed (block_tokens x.body ++ give_tokens x.give)
+            (both (block_tokens x.body) _ (block_formed x.body h.body) (give_formed x.give h.give)),
+      ),
+    ),
+  ),
+)
 
 array_formed : (x : Array) → FineArray x → Formed (array_tokens x)
 array_formed x h = (tt, (name_formed x.name h.name, (tt, (h.words, (tt, (tt, tt))))))

@@ -1,9 +1,9 @@
 -- The text of tokens is lexed into them.
-use Rattle.std.proofs.Common.{◌≡◌, ◌∙◌, ℕ, zero, suc, ◌+◌, ◌≤◌, List, [], ◌∷◌, ◌++◌, length, drop, refl, sym, ap, subst, arith, append_assoc}
+use Rattle.std.proofs.Common.{◌≡◌, ◌∙◌, ℕ, suc, ◌+◌, ◌≤◌, List, [], ◌∷◌, ◌++◌, length, refl, sym, ap, subst, arith, append_assoc}
 use Rattle.std.specs.List.{AllByRecursion}
 use Rattle.std.proofs.Math.Seq.{drop-append_seam}
 use Rattle.std.proofs.lemmas.List.{length-append}
-use Rattle.ppm_words.specs.Limits.{name_limit, value_bound}
+use Rattle.ppm_words.specs.Limits.{name_limit}
 use Rattle.ppm_words.specs.Names.{IsName}
 use Rattle.ppm_text.specs.declared.token.Kind.{Kind}
 use Rattle.ppm_text.specs.declared.token.Kind.TheVariants as kind
@@ -104,7 +104,7 @@ lexed_from [] p l q forms is = (l, subst (λ q. Lexes p l [] [] q l []) (omega (
 lexed_from (k ∷ ks) p l q forms is =
     let split : spaced k ++ text_of ks ≡ token_text k ++ blank_behind k ∷ text_of ks = append_assoc (token_text k) (blank_behind k ∷ []) (text_of ks) in
     let long : length (spaced k ++ text_of ks) ≡ length (token_text k) + suc (length (text_of ks)) =
-        ap length split ∙ length-append (token_text k) (blank_behind k ∷ text_of ks) in
+    ap length split ∙ length-append (token_text k) (blank_behind k ∷ text_of ks) in
     let (m, rest) = lexed_from ks (p + length (token_text k) + 1) (l + ends k) q forms.1 (omega (arith, is, long)) in
     (m, subst (λ bs. Lexes p l bs (located_from p l (k ∷ ks)) q m []) (sym split) (one k (text_of ks) p l q m _ forms.0 rest))
 

@@ -1,29 +1,17 @@
 -- The tokens of a program derive it, lines apart.
-use Rattle.std.proofs.Common.{◌≡◌, ◌∙◌, ℕ, suc, ◌+◌, ◌≤◌, List, [], ◌∷◌, ◌++◌, length, map, refl, ap, append_assoc, arith}
-use Rattle.std.specs.Prelude.{ℤ, pos, negsuc}
+use Rattle.std.proofs.Common.{◌≡◌, ℕ, List, [], ◌∷◌, ◌++◌, refl, append_assoc}
 use Rattle.std.specs.List.{AllByRecursion, flat_map}
 use Rattle.ppm_grammar.specs.Rows.{first, later}
-use Rattle.ppm_text.specs.declared.token.Sign.TheVariants as s
-use Rattle.ppm_text.specs.declared.token.Keyword.TheVariants as k
-use Rattle.ppm_text.specs.declared.token.Kind.{Kind}
-use Rattle.ppm_text.specs.declared.token.Token.{Token}
-use Rattle.ppm_tree.specs.declared.mode.Mode.{Mode}
-use Rattle.ppm_tree.specs.declared.mode.Mode.TheVariants as mode
-use Rattle.ppm_tree.specs.declared.named.Named.{Named}
-use Rattle.ppm_tree.specs.declared.tree.Parameter.{Parameter}
 use Rattle.ppm_tree.specs.declared.tree.Array.{Array}
 use Rattle.ppm_tree.specs.declared.tree.ArrayInput.{ArrayInput}
 use Rattle.ppm_tree.specs.Tree.{Procedure, ProgramTree}
 use Rattle.ppm_rows.specs.Phrases as g
 use Rattle.ppm_rows.specs.Values as v
-use Rattle.ppm_printing.specs.Canonical.{name, number, word, sign, more_tokens, list_tokens, integer_tokens, block_tokens, give_tokens, mode_word, braced}
-use Rattle.ppm_printing.specs.Canonical.{parameter_tokens, array_tokens, procedure_tokens, input_tokens, program_tokens}
-use Rattle.ppm_printing.specs.Lines.{bare_name, bare_block, bare_give, bare_parameter, bare_array, bare_procedure, bare_input, without_lines}
-use Rattle.ppm_printing.proofs.LexingLemmas.{past, ends, located_from}
-use Rattle.ppm_printing.proofs.Fine.{FineProcedure, FineArray, FineInput, FineProgram}
-use Rattle.ppm_printing.proofs.Reading.{Reads, done, take, row, Stands, regroup}
-use Rattle.ppm_printing.proofs.ExpressionsAgain.{in_line}
-use Rattle.ppm_printing.proofs.StatementsAgain.{statements_again, give_again}
+use Rattle.ppm_printing.specs.Canonical.{array_tokens, procedure_tokens, input_tokens, program_tokens}
+use Rattle.ppm_printing.specs.Lines.{without_lines}
+use Rattle.ppm_printing.proofs.LexingLemmas.{located_from}
+use Rattle.ppm_printing.proofs.Fine.{FineProcedure, FineInput, FineProgram}
+use Rattle.ppm_printing.proofs.Reading.{done, row, Stands, regroup}
 use Rattle.ppm_printing.proofs.DeclarationsAgain.{procedure_again, array_again, input_again}
 
 -- what is left of a program: inputs, procedures and inputs, all

@@ -1,5 +1,5 @@
 -- What tokens derive, whatever their marks are, and parts that stand in front of tokens that follow.
-use Rattle.std.proofs.Common.{◌≡◌, ℕ, suc, ◌+◌, List, [], ◌∷◌, ◌++◌, subst, refl, map}
+use Rattle.std.proofs.Common.{◌≡◌, ℕ, List, [], ◌∷◌, ◌++◌, subst, map}
 use Rattle.ppm_grammar.specs.Rows.{In, first, later, Take, Part}
 use Rattle.ppm_grammar.specs.Derivation.{Due, Within, due, Mark, mark, counting, inside, Derives, nothing, token, part}
 use Rattle.ppm_text.specs.declared.token.Kind.{Kind}

@@ -1,23 +1,22 @@
 -- The tokens of a statement and of a block derive them, lines apart.
-use Rattle.std.proofs.Common.{◌≡◌, ◌∙◌, ℕ, suc, ◌+◌, List, [], ◌∷◌, ◌++◌, map, refl, ap, append_assoc}
+use Rattle.std.proofs.Common.{◌≡◌, ◌∙◌, ℕ, suc, ◌+◌, List, [], ◌∷◌, ◌++◌, refl, ap, append_assoc}
 use Rattle.std.specs.Prelude.{Option, Some, None}
 use Rattle.ppm_grammar.specs.Rows.{first, later}
 use Rattle.ppm_text.specs.declared.token.Sign.TheVariants as s
 use Rattle.ppm_text.specs.declared.token.Keyword.TheVariants as k
 use Rattle.ppm_text.specs.declared.token.Kind.{Kind}
-use Rattle.ppm_text.specs.declared.token.Token.{Token}
 use Rattle.ppm_tree.specs.declared.named.Named.{Named}
 use Rattle.ppm_tree.specs.Tree.{Expression, Argument, Side, Statement, Block, Nil, Then, Give}
 use Rattle.ppm_tree.specs.Tree as tree
 use Rattle.ppm_rows.specs.Phrases.{Phrase}
 use Rattle.ppm_rows.specs.Phrases as g
 use Rattle.ppm_rows.specs.Values as v
-use Rattle.ppm_printing.specs.Canonical.{name, word, sign, expression_tokens, argument_tokens, list_tokens, call_tokens, side_tokens, braced}
+use Rattle.ppm_printing.specs.Canonical.{name, word, sign, expression_tokens, braced}
 use Rattle.ppm_printing.specs.Canonical.{assigned_tokens, statement_tokens, block_tokens, else_tokens, give_tokens}
-use Rattle.ppm_printing.specs.Lines.{bare_name, bare_side, bare_statement, bare_block, bare_give}
+use Rattle.ppm_printing.specs.Lines.{bare_name, bare_block, bare_give}
 use Rattle.ppm_printing.proofs.LexingLemmas.{past, ends, located_from}
-use Rattle.ppm_printing.proofs.Fine.{FineSide, FineStatement, FineBlock, FineGive}
-use Rattle.ppm_printing.proofs.Reading.{Reads, done, take, row, Stands, regroup}
+use Rattle.ppm_printing.proofs.Fine.{FineStatement, FineBlock, FineGive}
+use Rattle.ppm_printing.proofs.Reading.{done, take, row, Stands, regroup}
 use Rattle.ppm_printing.proofs.ExpressionsAgain.{in_line, expression_again}
 use Rattle.ppm_printing.proofs.CallsAgain.{SameStatement, called_again, fork_again}
 
@@ -78,7 +77,7 @@ assign_again x e d p l more fine =
       place = _;
       line = _;
       reads = λ xs vs rest next.
-      row d g.Statement (later first)
+          row d g.Statement (later first)
           (take refl (row d g.AfterName first (take refl (row d g.Assigned first (h.reads _ _ _ (take refl done)) done refl)) done refl)) next refl;
     })
 
@@ -99,7 +98,7 @@ put_again x index e d p l more fine =
       place = _;
       line = _;
       reads = λ xs vs rest next.
-      row d g.Statement (later first)
+          row d g.Statement (later first)
           (take refl (row d g.AfterName (later first)
           (row d g.Element first (take refl (i.reads _ _ _ (take refl done))) (take refl (h.reads _ _ _ (take refl done))) refl) done refl)) next refl;
     })
@@ -117,7 +116,7 @@ let_again x e d p l more fine =
       place = _;
       line = _;
       reads = λ xs vs rest next.
-      row d g.Statement first (take refl (take refl (take refl (h.reads _ _ _ (take refl done))))) next refl;
+          row d g.Statement first (take refl (take refl (take refl (h.reads _ _ _ (take refl done))))) next refl;
     })
 
 -- a block in braces, wherever it stands
@@ -146,7 +145,7 @@ if_again e block other d p l more fine holds fails =
       place = b.place;
       line = b.line;
       reads = λ xs vs rest next.
-      row d g.Statement (later (later first)) (take refl (h.reads _ _ _ (a.reads _ _ _ (b.reads _ _ _ done)))) next refl;
+          row d g.Statement (later (later first)) (take refl (h.reads _ _ _ (a.reads _ _ _ (b.reads _ _ _ done)))) next refl;
     })
 
 while_again : (e : Expression) (block : Block) (d p l : ℕ) (more : List Kind) → FineStatement (tree.While e block) → HasBlock block d
@@ -162,7 +161,7 @@ while_again e block d p l more fine holds =
       place = a.place;
       line = a.line;
       reads = λ xs vs rest next.
-      row d g.Statement (later (later (later first))) (take refl (h.reads _ _ _ (a.reads _ _ _ done))) next refl;
+          row d g.Statement (later (later (later first))) (take refl (h.reads _ _ _ (a.reads _ _ _ done))) next refl;
     })
 
 split_again : (line : ℕ) (r : Named) (e : Expression) (x y : Named) (block : Block) (d p l : ℕ) (more : List Kind)
@@ -183,7 +182,7 @@ split_again line r e x y block d p l more fine holds =
       place = a.place;
       line = a.line;
       reads = λ xs vs rest next.
-      row d g.Statement (later (later (later (later (later (later first))))))
+          row d g.Statement (later (later (later (later (later (later first))))))
           (take refl (take refl (take refl (h.reads _ _ _ (take refl (take refl (take refl (take refl (a.reads _ _ _ done)))))))))
           next refl;
     })
@@ -199,7 +198,7 @@ each_again i x r block d p l more holds =
       place = a.place;
       line = a.line;
       reads = λ xs vs rest next.
-      row d g.Statement (later (later (later (later (later (later (later first)))))))
+          row d g.Statement (later (later (later (later (later (later (later first)))))))
           (take refl (take refl (take refl (take refl (take refl (take refl (a.reads _ _ _ done))))))) next refl;
     }
 

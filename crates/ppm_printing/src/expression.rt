@@ -2,7 +2,8 @@
 ghost use Rattle.std.specs.Prelude.{◌≡◌, OnOk};
 ghost use Rattle.ppm_tree.specs.Tree.{expression_of, side_of};
 ghost use Rattle.ppm_printing.specs.Spelled.{Appends};
-ghost use Rattle.ppm_printing.specs.Canonical.{operator_sign as sign_of_operator, expression_tokens, more_tokens, list_tokens, call_tokens, target_tokens, side_tokens};
+ghost use Rattle.ppm_printing.specs.Canonical.{operator_sign as sign_of_operator, expression_tokens, more_tokens, list_tokens};
+ghost use Rattle.ppm_printing.specs.Canonical.{call_tokens, target_tokens, side_tokens};
 
 use crate::token::{push_integer, push_keyword, push_name, push_sign};
 use ppm_text::{Keyword, Sign};
@@ -32,7 +33,11 @@ fn operator_sign(operator: Operator) -> Sign
 }
 
 /// Appends an expression.
-pub(crate) fn push_expression(alloc: Global, text: &mut Vec<u8>, expression: &Expr) -> Result<(), NoMemory>
+pub(crate) fn push_expression(
+    alloc: Global,
+    text: &mut Vec<u8>,
+    expression: &Expr,
+) -> Result<(), NoMemory>
     ensures { OnOk result (Appends (expression_tokens (expression_of expression.now)) text.old.items text.new.items) }
 {
     match expression {
@@ -67,7 +72,11 @@ pub(crate) fn push_expression(alloc: Global, text: &mut Vec<u8>, expression: &Ex
 }
 
 /// Appends arguments, with a comma in front of each.
-fn push_more_arguments(alloc: Global, text: &mut Vec<u8>, arguments: &[Argument]) -> Result<(), NoMemory>
+fn push_more_arguments(
+    alloc: Global,
+    text: &mut Vec<u8>,
+    arguments: &[Argument],
+) -> Result<(), NoMemory>
     ensures { OnOk result (Appends (more_tokens (λ a. expression_tokens (expression_of a.value)) arguments.now) text.old.items text.new.items) }
 {
     let mut left = arguments;

@@ -3,7 +3,8 @@ ghost use Rattle.std.specs.Prelude.{◌≡◌, ◌++◌, IfOk, OnOk};
 ghost use Rattle.std.specs.List.{flat_map};
 ghost use Rattle.ppm_tree.specs.Tree.{block_of, give_of, procedure_of, tree_of};
 ghost use Rattle.ppm_printing.specs.Spelled.{Appends};
-ghost use Rattle.ppm_printing.specs.Canonical.{mode_word as word_of_mode, integer_tokens, more_tokens, list_tokens, parameter_tokens, braced, block_tokens, give_tokens};
+ghost use Rattle.ppm_printing.specs.Canonical.{mode_word as word_of_mode, integer_tokens, more_tokens, list_tokens, parameter_tokens};
+ghost use Rattle.ppm_printing.specs.Canonical.{braced, block_tokens, give_tokens};
 ghost use Rattle.ppm_printing.specs.Canonical.{array_tokens, procedure_tokens, input_tokens, program_tokens, canonical_text};
 
 use crate::expression::push_expression;
@@ -84,7 +85,12 @@ fn push_give(alloc: Global, text: &mut Vec<u8>, give: &Option<Give>) -> Result<(
 }
 
 /// Appends a body.
-fn push_body(alloc: Global, text: &mut Vec<u8>, body: &[Stmt], give: &Option<Give>) -> Result<(), NoMemory>
+fn push_body(
+    alloc: Global,
+    text: &mut Vec<u8>,
+    body: &[Stmt],
+    give: &Option<Give>,
+) -> Result<(), NoMemory>
     ensures { OnOk result (Appends (braced (block_tokens (block_of body.now) ++ give_tokens (give_of give.now))) text.old.items text.new.items) }
 {
     push_sign(text, Sign::OpenBrace)?;

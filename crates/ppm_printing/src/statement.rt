@@ -35,7 +35,12 @@ fn push_let(alloc: Global, text: &mut Vec<u8>, name: &Named, value: &Expr) -> Re
 }
 
 /// Appends an assignment to a local.
-fn push_assign(alloc: Global, text: &mut Vec<u8>, name: &Named, value: &Expr) -> Result<(), NoMemory>
+fn push_assign(
+    alloc: Global,
+    text: &mut Vec<u8>,
+    name: &Named,
+    value: &Expr,
+) -> Result<(), NoMemory>
     ensures { OnOk result (Appends (statement_tokens (Assign name.now (expression_of value.now))) text.old.items text.new.items) }
 {
     push_name(text, name)?;
@@ -44,7 +49,13 @@ fn push_assign(alloc: Global, text: &mut Vec<u8>, name: &Named, value: &Expr) ->
 }
 
 /// Appends an assignment to an element.
-fn push_put(alloc: Global, text: &mut Vec<u8>, region: &Named, index: &Expr, value: &Expr) -> Result<(), NoMemory>
+fn push_put(
+    alloc: Global,
+    text: &mut Vec<u8>,
+    region: &Named,
+    index: &Expr,
+    value: &Expr,
+) -> Result<(), NoMemory>
     ensures { OnOk result
         (Appends (statement_tokens (Put region.now (expression_of index.now) (expression_of value.now))) text.old.items text.new.items) }
 {
@@ -80,7 +91,12 @@ fn push_fork(alloc: Global, text: &mut Vec<u8>, left: &Side, right: &Side) -> Re
 }
 
 /// Appends a keyword and an expression, which stand in front of a block.
-fn push_test(alloc: Global, text: &mut Vec<u8>, keyword: Keyword, test: &Expr) -> Result<(), NoMemory>
+fn push_test(
+    alloc: Global,
+    text: &mut Vec<u8>,
+    keyword: Keyword,
+    test: &Expr,
+) -> Result<(), NoMemory>
     ensures { OnOk result (Appends (word keyword ∷ expression_tokens (expression_of test.now)) text.old.items text.new.items) }
 {
     push_keyword(text, keyword)?;
@@ -100,7 +116,14 @@ fn push_names(text: &mut Vec<u8>, first: &Named, second: &Named) -> Result<(), N
 }
 
 /// Appends what stands in front of the block of a split.
-fn push_split(alloc: Global, text: &mut Vec<u8>, region: &Named, at: &Expr, first: &Named, second: &Named) -> Result<(), NoMemory>
+fn push_split(
+    alloc: Global,
+    text: &mut Vec<u8>,
+    region: &Named,
+    at: &Expr,
+    first: &Named,
+    second: &Named,
+) -> Result<(), NoMemory>
     ensures { OnOk result
         (Appends (word k.Split ∷ name_token region.now ∷ word k.At ∷ expression_tokens (expression_of at.now)
         ++ word k.Into ∷ name_token first.now ∷ sign_token s.Comma ∷ name_token second.now ∷ []) text.old.items text.new.items) }
@@ -114,7 +137,12 @@ fn push_split(alloc: Global, text: &mut Vec<u8>, region: &Named, at: &Expr, firs
 }
 
 /// Appends what stands in front of the block of an `each`.
-fn push_each(text: &mut Vec<u8>, index: &Named, part: &Named, region: &Named) -> Result<(), NoMemory>
+fn push_each(
+    text: &mut Vec<u8>,
+    index: &Named,
+    part: &Named,
+    region: &Named,
+) -> Result<(), NoMemory>
     ensures { OnOk result
         (Appends (word k.Each ∷ name_token index.now ∷ sign_token s.Comma ∷ name_token part.now ∷ word k.In ∷ name_token region.now ∷ [])
         text.old.items text.new.items) }

@@ -41,8 +41,16 @@ fn texts_have_their_canonical_text(rt: HostRuntime) -> Result<(), Fail> {
     let alloc = rt.alloc();
     printed_texts_have_their_tree();
     for (text, want) in TEXTS {
-        assert_eq!(rt; canonical(alloc, text)?.as_slice(), want.as_bytes(), "of {text}");
-        assert_eq!(rt; canonical(alloc, want)?.as_slice(), want.as_bytes(), "of {want}");
+        assert_eq!(rt;
+            canonical(alloc, text)?.as_slice(),
+            want.as_bytes(),
+            "of {text}"
+        );
+        assert_eq!(rt;
+            canonical(alloc, want)?.as_slice(),
+            want.as_bytes(),
+            "of {want}"
+        );
     }
     Ok(())
 }

@@ -7,7 +7,9 @@ use Rattle.ppm_printing.proofs.program.push_procedures.Given as goal
 
 -- what is written, and what is left
 abbrev pub invariant-loop-left : goal.invariant-loop-left
-invariant-loop-left l = l.text.items ++ text_of (flat_map (λ p. procedure_tokens (procedure_of p)) l.left) ≡ l.fn.text.items ++ text_of (flat_map (λ p. procedure_tokens (procedure_of p)) l.procedures)
+invariant-loop-left l =
+    l.text.items ++ text_of (flat_map (λ p. procedure_tokens (procedure_of p)) l.left)
+    ≡ l.fn.text.items ++ text_of (flat_map (λ p. procedure_tokens (procedure_of p)) l.procedures)
 
 abbrev pub decreases-loop-left : goal.decreases-loop-left
 decreases-loop-left l = length l.left
