@@ -11,3 +11,5 @@ pub mod CallsAgain
 pub mod StatementsAgain
 pub mod DeclarationsAgain
 pub mod ProgramsAgain
+pub mod BareLemmas
+pub mod Theorem

@@ -1,5 +1,5 @@
 -- A canonical text has the tree that it was printed from, lines apart.
-use Rattle.std.specs.Prelude.{◌≡◌, ℕ, List}
+use Rattle.std.specs.Prelude.{◌≡◌, ◌↔◌, ℕ, List}
 use Rattle.ppm_text.specs.declared.token.Token.{Token}
 use Rattle.ppm_text.specs.Lexing.{IsTextOf}
 use Rattle.ppm_tree.specs.Tree.{ProgramTree}
@@ -22,3 +22,7 @@ pub record IsTextOfTree (text : List ℕ) (t : ProgramTree) : Type 0 where
 -- so it is with the canonical text of each tree within the limits; it may itself pass those on its length and on openings
 abbrev pub PrintedTextsHaveTheirTree : Type 0
 PrintedTextsHaveTheirTree = (t : ProgramTree) → IsWithin t → IsTextOfTree (canonical_text t) t
+
+-- two programs within the limits have one canonical text exactly where they are the same, lines apart
+abbrev pub CanonicalTextsTellPrograms : Type 0
+CanonicalTextsTellPrograms = (s t : ProgramTree) → IsWithin s → IsWithin t → (canonical_text s ≡ canonical_text t) ↔ (without_lines s ≡ without_lines t)

@@ -15,5 +15,5 @@ mod statement;
 mod tests;
 mod token;
 
-pub use laws::printed_texts_have_their_tree;
+pub use laws::{canonical_texts_tell_programs, printed_texts_have_their_tree};
 pub use program::print;

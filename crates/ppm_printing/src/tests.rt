@@ -1,5 +1,5 @@
 //! Texts with their canonical texts, which were written by hand.
-use crate::{print, printed_texts_have_their_tree};
+use crate::{canonical_texts_tell_programs, print, printed_texts_have_their_tree};
 use ppm_parser::parse;
 use ppm_text::tokens;
 use std::alloc::Global;
@@ -40,6 +40,7 @@ const TEXTS: [(&str, &str); 4] = [
 fn texts_have_their_canonical_text(rt: HostRuntime) -> Result<(), Fail> {
     let alloc = rt.alloc();
     printed_texts_have_their_tree();
+    canonical_texts_tell_programs();
     for (text, want) in TEXTS {
         assert_eq!(rt;
             canonical(alloc, text)?.as_slice(),
