@@ -1,0 +1,4 @@
+pub mod Spelled
+pub mod Canonical
+pub mod Lines
+pub mod Correct

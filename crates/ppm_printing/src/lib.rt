@@ -1,0 +1,19 @@
+//! The canonical text of a program.
+//! Model: the tokens of a tree (`specs/Canonical`), each spelled with one blank behind it (`specs/Spelled`).
+//! Contract: `print` gives the canonical text, and by the grammar that text has the tree again, lines apart
+//! (`specs/Correct`).
+//! Stands on `ppm_tree`, `ppm_text` and `ppm_rows`; no command stands on it yet.
+//! The layout is this project's.
+#![tactic(auto)]
+
+mod expression;
+mod laws;
+mod program;
+mod spelling;
+mod statement;
+#[cfg(test)]
+mod tests;
+mod token;
+
+pub use laws::{canonical_texts_tell_programs, printed_texts_have_their_tree};
+pub use program::print;
