@@ -1,0 +1,5 @@
+pub mod Outcomes
+pub mod Answering
+pub mod Causes
+pub mod Correct
+pub mod Rows
