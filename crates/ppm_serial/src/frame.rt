@@ -1,5 +1,5 @@
 //! The locals and regions of a procedure's run, by their slots.
-ghost use Rattle.std.specs.Prelude.{◌≡◌, pos, get_or, IfOk};
+ghost use Rattle.std.specs.Prelude.{◌≡◌, pos, get_or, IfOk, OnOk};
 ghost use Rattle.ppm_tree.specs.State.{nowhere};
 ghost use Rattle.ppm_serial.specs.Slots.{fresh, with_local_at, with_region_at, with_regions};
 
@@ -46,6 +46,29 @@ impl Frame {
         let locals = Vec::from_elem(alloc, 0, locals)?;
         let regions = Vec::from_elem(alloc, Region::nowhere(), regions)?;
         Ok(Frame { locals, regions })
+    }
+
+    /// The same in the memory of a frame that is over.
+    #[inline(always)]
+    pub(crate) fn renew(
+        &mut self,
+        alloc: Global,
+        locals: usize,
+        regions: usize,
+    ) -> Result<(), NoMemory>
+        ensures { OnOk result (self.new ≡ fresh locals regions) }
+    {
+        if self.locals.len() == locals {
+            self.locals.fill(0);
+        } else {
+            self.locals = Vec::from_elem(alloc, 0, locals)?;
+        }
+        if self.regions.len() == regions {
+            self.regions.fill(Region::nowhere());
+        } else {
+            self.regions = Vec::from_elem(alloc, Region::nowhere(), regions)?;
+        }
+        Ok(())
     }
 
     /// A copy of the frame.
