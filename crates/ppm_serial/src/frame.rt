@@ -80,6 +80,23 @@ impl Frame {
         Ok(Frame { locals, regions })
     }
 
+    /// Becomes a copy of another frame, in its own memory where that has the same sizes.
+    pub(crate) fn copy_from(&mut self, alloc: Global, other: &Frame) -> Result<(), NoMemory>
+        ensures { OnOk result (self.new ≡ other.now) }
+    {
+        if self.locals.len() == other.locals.len() {
+            self.locals.copy_from_slice(&other.locals);
+        } else {
+            self.locals = Vec::from_slice(alloc, &other.locals)?;
+        }
+        if self.regions.len() == other.regions.len() {
+            self.regions.copy_from_slice(&other.regions);
+        } else {
+            self.regions = Vec::from_slice(alloc, &other.regions)?;
+        }
+        Ok(())
+    }
+
     /// The local in a slot, 0 where there is no such slot.
     pub(crate) fn local(&self, slot: usize) -> i64
         ensures { result ≡ get_or self.now.locals slot (pos 0) }

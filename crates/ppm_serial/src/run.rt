@@ -301,7 +301,7 @@ impl Run {
             return Ok(());
         }
         self.spend(8)?;
-        self.frame = sweep.frame.try_clone(alloc)?;
+        self.frame.copy_from(alloc, &sweep.frame)?;
         self.frame.set_local(sweep.index, sweep.next as i64);
         self.frame
             .set_region(sweep.part, sweep.region.element(sweep.next));
