@@ -12,3 +12,4 @@ pub mod ProgramLemmas
 pub mod EntryLemmas
 pub mod PlaceLemmas
 pub mod ArmLemmas
+pub mod WorthLemmas

@@ -1,5 +1,5 @@
 //! The locals and regions of a procedure's run, by their slots.
-ghost use Rattle.std.specs.Prelude.{◌≡◌, pos, get_or, IfOk};
+ghost use Rattle.std.specs.Prelude.{◌≡◌, pos, get_or, IfOk, OnOk};
 ghost use Rattle.ppm_tree.specs.State.{nowhere};
 ghost use Rattle.ppm_serial.specs.Slots.{fresh, with_local_at, with_region_at, with_regions};
 
@@ -48,6 +48,29 @@ impl Frame {
         Ok(Frame { locals, regions })
     }
 
+    /// The same in the memory of a frame that is over.
+    #[inline(always)]
+    pub(crate) fn renew(
+        &mut self,
+        alloc: Global,
+        locals: usize,
+        regions: usize,
+    ) -> Result<(), NoMemory>
+        ensures { OnOk result (self.new ≡ fresh locals regions) }
+    {
+        if self.locals.len() == locals {
+            self.locals.fill(0);
+        } else {
+            self.locals = Vec::from_elem(alloc, 0, locals)?;
+        }
+        if self.regions.len() == regions {
+            self.regions.fill(Region::nowhere());
+        } else {
+            self.regions = Vec::from_elem(alloc, Region::nowhere(), regions)?;
+        }
+        Ok(())
+    }
+
     /// A copy of the frame.
     pub(crate) fn try_clone(&self, alloc: Global) -> Result<Self, NoMemory>
         ensures { IfOk result (λ f. f ≡ self.now) }
@@ -55,6 +78,23 @@ impl Frame {
         let locals = Vec::from_slice(alloc, &self.locals)?;
         let regions = Vec::from_slice(alloc, &self.regions)?;
         Ok(Frame { locals, regions })
+    }
+
+    /// Becomes a copy of another frame, in its own memory where that has the same sizes.
+    pub(crate) fn copy_from(&mut self, alloc: Global, other: &Frame) -> Result<(), NoMemory>
+        ensures { OnOk result (self.new ≡ other.now) }
+    {
+        if self.locals.len() == other.locals.len() {
+            self.locals.copy_from_slice(&other.locals);
+        } else {
+            self.locals = Vec::from_slice(alloc, &other.locals)?;
+        }
+        if self.regions.len() == other.regions.len() {
+            self.regions.copy_from_slice(&other.regions);
+        } else {
+            self.regions = Vec::from_slice(alloc, &other.regions)?;
+        }
+        Ok(())
     }
 
     /// The local in a slot, 0 where there is no such slot.

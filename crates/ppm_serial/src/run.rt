@@ -148,11 +148,13 @@ impl Run {
     }
 
     /// The frame of a callee, with what is passed.
-    fn callee(&self, alloc: Global, code: &Code, call: &Call) -> Result<Frame, Stop>
-        ensures { Gives result (called code.now self.now.frame self.now.store call.now) }
+    #[inline(always)]
+    fn callee(&mut self, alloc: Global, code: &Code, call: &Call) -> Result<Frame, Stop>
+        ensures value { Gives result (called code.now self.old.frame self.old.store call.now) }
+        ensures kept { self.new ≡ self.old }
     {
         let (locals, regions) = code.sizes(call.callee);
-        let mut frame = Frame::fresh(alloc, locals, regions)?;
+        let mut frame = self.stack.frame(alloc, locals, regions)?;
         self.pass(&call.passed, &mut frame)?;
         Ok(frame)
     }
@@ -190,12 +192,21 @@ impl Run {
         self.spend(1)
     }
 
+    /// Goes over to another frame; the one that was there is over.
+    #[inline(always)]
+    fn leave_for(&mut self, frame: Frame)
+        ensures { self.new ≡ with_frame self.old frame }
+    {
+        let over = mem::replace(&mut self.frame, frame);
+        self.stack.spare(over);
+    }
+
     /// Enters a procedure with a frame, and puts on the stack who waits.
     fn enter(&mut self, code: &Code, callee: usize, frame: Frame, rest: Rest) -> Result<(), Stop>
         ensures { Does result self.new (entering code.now callee frame rest self.old) }
     {
         self.stack.push(rest)?;
-        self.frame = frame;
+        self.leave_for(frame);
         self.begin(code, callee)
     }
 
@@ -290,7 +301,7 @@ impl Run {
             return Ok(());
         }
         self.spend(8)?;
-        self.frame = sweep.frame.try_clone(alloc)?;
+        self.frame.copy_from(alloc, &sweep.frame)?;
         self.frame.set_local(sweep.index, sweep.next as i64);
         self.frame
             .set_region(sweep.part, sweep.region.element(sweep.next));
@@ -362,7 +373,7 @@ impl Run {
     {
         self.spend_give(code, caller.callee)?;
         let value = self.give(code, caller.callee)?;
-        self.frame = caller.frame;
+        self.leave_for(caller.frame);
         self.place = caller.place;
         self.deliver(caller.target, value);
         Ok(())
@@ -407,7 +418,7 @@ impl Run {
     {
         self.spend_give(code, caller.callee)?;
         let right = self.give(code, caller.callee)?;
-        self.frame = caller.frame;
+        self.leave_for(caller.frame);
         self.place = caller.place;
         self.deliver(target, left);
         self.deliver(caller.target, right);

@@ -1,10 +1,12 @@
 //! What is still to come in a run.
-ghost use Rattle.std.specs.Prelude.{◌≡◌, ◌∷◌, [], Ok};
+ghost use Rattle.std.specs.Prelude.{◌≡◌, ◌∷◌, [], Ok, IfOk};
 ghost use Rattle.ppm_serial.specs.Answers.{Does, IsPopped};
+ghost use Rattle.ppm_serial.specs.Slots.{fresh};
 
 use crate::code::{Place, Stop};
 use crate::frame::{Frame, Regions};
 use crate::region::Region;
+use ppm_words::NoMemory;
 use std::alloc::Global;
 use std::marker::Model;
 
@@ -56,6 +58,8 @@ pub(crate) enum Rest {
 #[derive(Drop)]
 pub(crate) struct Stack {
     rests: Vec<Rest>,
+    /// Frames that are over, whose memory the next ones take.
+    spare: Vec<Frame>,
 }
 
 impl Model for Stack {
@@ -74,10 +78,12 @@ impl Stack {
     {
         Stack {
             rests: Vec::new(alloc),
+            spare: Vec::new(alloc),
         }
     }
 
     /// Puts one on top.
+    #[inline(always)]
     pub(crate) fn push(&mut self, rest: Rest) -> Result<(), Stop>
         ensures { Does result self.new (Ok (rest ∷ self.old)) }
     {
@@ -86,9 +92,38 @@ impl Stack {
     }
 
     /// Takes the one on top, if there is one.
+    #[inline(always)]
     pub(crate) fn pop(&mut self) -> Option<Rest>
         ensures { IsPopped result self.old self.new }
     {
         self.rests.pop()
+    }
+
+    /// A frame with so many locals, each 0, and so many regions, none of which is anywhere.
+    #[inline(always)]
+    pub(crate) fn frame(
+        &mut self,
+        alloc: Global,
+        locals: usize,
+        regions: usize,
+    ) -> Result<Frame, NoMemory>
+        ensures value { IfOk result (λ f. f ≡ fresh locals regions) }
+        ensures kept { self.new ≡ self.old }
+    {
+        match self.spare.pop() {
+            None => Frame::fresh(alloc, locals, regions),
+            Some(mut frame) => {
+                frame.renew(alloc, locals, regions)?;
+                Ok(frame)
+            }
+        }
+    }
+
+    /// Takes a frame that is over. Where there is no room to keep it, its memory is given back.
+    #[inline(always)]
+    pub(crate) fn spare(&mut self, frame: Frame)
+        ensures kept { self.new ≡ self.old }
+    {
+        let _ = self.spare.push(frame);
     }
 }

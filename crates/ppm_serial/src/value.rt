@@ -1,8 +1,9 @@
 //! What an expression is worth.
-ghost use Rattle.std.specs.Prelude.{◌≡◌};
-ghost use Rattle.ppm_tree.specs.Values.{decided};
-ghost use Rattle.ppm_serial.specs.Worth.{at_line, stopped, worth};
-ghost use Rattle.ppm_tree.specs.State.{index_in, split_at};
+ghost use Rattle.std.specs.Prelude.{◌≡◌, IfSome, Some};
+ghost use Rattle.std.specs.Result.{result_ok};
+ghost use Rattle.ppm_tree.specs.State.{Arrays, index_in, split_at};
+ghost use Rattle.ppm_tree.specs.Values.{applied, decided};
+ghost use Rattle.ppm_serial.specs.Worth.{at_line, stopped, untrapped, worth};
 
 use crate::code::{Stop, Value};
 use crate::frame::Frame;
@@ -22,30 +23,125 @@ fn decide(operator: Operator, x: i64) -> Option<i64>
     }
 }
 
+/// The value of an operator at two values, none where it traps.
+fn operate(operator: Operator, x: i64, y: i64) -> Option<i64>
+    ensures { result ≡ result_ok (applied operator x y) }
+{
+    match operator {
+        Operator::Add => x.checked_add(y),
+        Operator::Sub => x.checked_sub(y),
+        Operator::Mul => x.checked_mul(y),
+        Operator::Div if y == 0 => None,
+        Operator::Div => x.checked_div(y),
+        Operator::Rem if y == 0 => None,
+        Operator::Rem => x.checked_rem(y),
+        Operator::Eq => Some(i64::from(x == y)),
+        Operator::Ne => Some(i64::from(x != y)),
+        Operator::Lt => Some(i64::from(x < y)),
+        Operator::Le => Some(i64::from(x <= y)),
+        Operator::Gt => Some(i64::from(x > y)),
+        Operator::Ge => Some(i64::from(x >= y)),
+        Operator::And => Some(i64::from(x != 0 && y != 0)),
+        Operator::Or => Some(i64::from(x != 0 || y != 0)),
+    }
+}
+
+/// What a number or a local is worth; none of any other expression.
+#[inline(always)]
+fn at_once(frame: &Frame, value: &Value) -> Option<i64>
+    ensures { IfSome result (λ x. (a : Arrays) → untrapped frame.now a value.now ≡ Some x) }
+{
+    match value {
+        Value::Number(number) => Some(*number),
+        Value::Local(slot) => Some(frame.local(*slot)),
+        Value::Element(_, _, _) => None,
+        Value::Len(_) => None,
+        Value::Minus(_, _) => None,
+        Value::Binary(_, _, _, _) => None,
+    }
+}
+
+/// What an expression is worth in a frame, none where it traps. A value and its absence fit into registers, where a trap
+/// with its line does not, so this is tried first.
+#[inline(never)]
+fn untrapped(frame: &Frame, store: &Store, value: &Value) -> Option<i64>
+    ensures { result ≡ untrapped frame.now store.now value.now }
+{
+    match value {
+        Value::Number(number) => Some(*number),
+        Value::Local(slot) => Some(frame.local(*slot)),
+        Value::Element(slot, line, index) => {
+            let index = match at_once(frame, index) {
+                Some(index) => index,
+                None => untrapped(frame, store, index)?,
+            };
+            let region = frame.region(*slot);
+            match index_in(*line, &region, index) {
+                Ok(at) => Some(store.word(region.array(), region.place(at))),
+                Err(_) => None,
+            }
+        }
+        Value::Len(slot) => Some(frame.region(*slot).length() as i64),
+        Value::Minus(_, operand) => {
+            let x = untrapped(frame, store, operand)?;
+            negate(x).ok()
+        }
+        Value::Binary(operator, _, left, right) => {
+            let x = match at_once(frame, left) {
+                Some(x) => x,
+                None => untrapped(frame, store, left)?,
+            };
+            if let Some(value) = decide(*operator, x) {
+                return Some(value);
+            }
+            let y = match at_once(frame, right) {
+                Some(y) => y,
+                None => untrapped(frame, store, right)?,
+            };
+            operate(*operator, x, y)
+        }
+    }
+}
+
 /// What an expression is worth in a frame, or its trap; operands come from left to right.
+#[inline(always)]
 pub(crate) fn worth(frame: &Frame, store: &Store, value: &Value) -> Result<i64, Stop>
+    ensures { result ≡ worth frame.now store.now value.now }
+{
+    if let Some(x) = at_once(frame, value) {
+        return Ok(x);
+    }
+    match untrapped(frame, store, value) {
+        Some(x) => Ok(x),
+        None => trapping(frame, store, value),
+    }
+}
+
+/// The same, for an expression that traps: which trap comes first, and in which line.
+#[inline(never)]
+fn trapping(frame: &Frame, store: &Store, value: &Value) -> Result<i64, Stop>
     ensures { result ≡ worth frame.now store.now value.now }
 {
     match value {
         Value::Number(number) => Ok(*number),
         Value::Local(slot) => Ok(frame.local(*slot)),
         Value::Element(slot, line, index) => {
-            let index = worth(frame, store, index)?;
+            let index = trapping(frame, store, index)?;
             let region = frame.region(*slot);
             let at = index_in(*line, &region, index)?;
             Ok(store.word(region.array(), region.place(at)))
         }
         Value::Len(slot) => Ok(frame.region(*slot).length() as i64),
         Value::Minus(line, operand) => {
-            let x = worth(frame, store, operand)?;
+            let x = trapping(frame, store, operand)?;
             at_line(*line, negate(x))
         }
         Value::Binary(operator, line, left, right) => {
-            let x = worth(frame, store, left)?;
+            let x = trapping(frame, store, left)?;
             if let Some(value) = decide(*operator, x) {
                 return Ok(value);
             }
-            let y = worth(frame, store, right)?;
+            let y = trapping(frame, store, right)?;
             at_line(*line, apply(*operator, x, y))
         }
     }
