@@ -13,3 +13,6 @@ mod verdict;
 
 pub use laws::have_one_answer;
 pub use running::{WATCHERS, run_command};
+
+#[cfg(test)]
+mod tests;
