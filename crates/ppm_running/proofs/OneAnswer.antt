@@ -1,5 +1,5 @@
 -- A text has one answer where it is run: from what is true of its program, and of the program's outcome.
-use Rattle.std.proofs.Common.{◌≡◌, ℕ, List, ap, sym, subst}
+use Rattle.std.proofs.Common.{◌≡◌, ℕ, List, ap, subst}
 use Rattle.ppm_words.specs.declared.named_array.NamedArray.{NamedArray}
 use Rattle.ppm_words.specs.declared.trap.Trap.{Trap}
 use Rattle.ppm_words.specs.declared.outcome.Outcome.{Outcome}
@@ -15,7 +15,7 @@ use Rattle.ppm_judging.specs.Correct.{HaveOneAnswer as TextsHaveOneProgram}
 use Rattle.ppm_straight.specs.Straight.{IsStraight, IsNotCompiled}
 use Rattle.ppm_straight.specs.Correct.{IsOutcome, HaveOneAnswer as ProgramsHaveOneAnswer}
 use Rattle.ppm_running.specs.Verdict.{ComesTo, IsNotCompiledYet, HasNoOutcome, RunHas}
-use Rattle.ppm_running.specs.Correct.{HasOneAnswer, HaveOneAnswer}
+use Rattle.ppm_running.specs.Correct.{HaveOneAnswer}
 
 -- what the crates below show of every text and every program
 pub record Laws : Type 0 where

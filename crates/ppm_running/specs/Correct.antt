@@ -7,8 +7,8 @@ use Rattle.ppm_judging.specs.Correct.{HaveOneAnswer as TextsHaveOneProgram}
 use Rattle.ppm_judging.specs.Refusals.{IsRefusal}
 use Rattle.ppm_running.specs.Verdict.{ComesTo, IsNotCompiledYet, HasNoOutcome, RunHas}
 
--- Two answers of a text are one. One that is not refused, and of which no line is told as not compiled yet, comes to an outcome; one that
--- is, or of which one is, has no program that is straight.
+-- Two answers of a text are one. A text that is neither refused nor told as not compiled yet comes to an outcome; one that is refused or
+-- so told has no program that is straight.
 pub record HasOneAnswer (text : List ℕ) : Type 0 where
   pub one : (a b : Answer) → RunHas text a → RunHas text b → a ≡ b
   pub none : ((r : Refusal) → ¬ IsRefusal text r) → ((line : ℕ) → ¬ IsNotCompiledYet text line) → (o : Outcome) × ComesTo text o

@@ -13,7 +13,8 @@ use std::test::Fail;
 const FIRST: &str = "array a[2]; proc main(mut a) { a[0] = 5; a[1] = a[0] + 2; }";
 
 /// A source that ends with `a 6` after 13 turns.
-const LOOP: &str = "array a[1]; proc main(mut a) { let i = 0; while i < 3 { i = i + 1; a[0] = a[0] + i; } }";
+const LOOP: &str =
+    "array a[1]; proc main(mut a) { let i = 0; while i < 3 { i = i + 1; a[0] = a[0] + i; } }";
 
 /// The bytes for which a sink has room.
 const ROOM: usize = 300_000;

@@ -66,7 +66,13 @@ fn obey<R, S: Source, K: Sink, E: Sink, W: Watch>(
 {
     match read_words(alloc, words) {
         Ok(Some(Command::Run(options))) => run_command(rt, alloc, options, source, out, err, watch),
-        Ok(Some(Command::Serial(options))) => serial_command(alloc, options.turns, source, out, err),
+        Ok(Some(Command::Serial(options))) => serial_command(
+            alloc,
+            options.turns,
+            source,
+            out,
+            err,
+        ),
         Ok(Some(Command::Check)) => check_command(alloc, source, out, err),
         Ok(None) => deliver(alloc, &Answer::WordsRefused, out, err),
         Err(NoMemory) => deliver(alloc, &Answer::NoMemory, out, err),
