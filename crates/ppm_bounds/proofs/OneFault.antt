@@ -1,5 +1,5 @@
 -- A program is within the bounds, or has one fault.
-use Rattle.std.proofs.Common.{◌≡◌, ◌≢◌, ◌≤◌, ◌<◌, ℕ, suc, Bool, true, false, nat_le, List, [], ◌∷◌, refl, ap, arith}
+use Rattle.std.proofs.Common.{◌≡◌, ◌≢◌, ◌≤◌, ℕ, suc, Bool, true, false, nat_le, List, [], ◌∷◌, refl, ap, arith}
 use Rattle.std.specs.List.{AllByRecursion}
 use Rattle.std.proofs.lemmas.Bool.{leb-true, leb-false}
 use Rattle.ppm_tree.specs.Tree.{Statement, Procedure, ProgramTree}
@@ -11,7 +11,7 @@ use Rattle.ppm_bounds.specs.declared.bound_error.BoundError.TheVariants as error
 use Rattle.ppm_bounds.specs.Capsules.{capsule_bound}
 use Rattle.ppm_bounds.specs.Bounds.{limit_of, own_count, count_of, KeepsAt, Keeps, AllKeep, capsule_limit, IsWithinBounds}
 use Rattle.ppm_bounds.specs.Refusals.{IsFirstPast, Here, Behind, IsRefused}
-use Rattle.ppm_bounds.specs.Correct.{IsFault, HasOneFault, HaveOneFault}
+use Rattle.ppm_bounds.specs.Correct.{IsFault, HaveOneFault}
 
 -- a number that cannot but be within a limit is
 within : (m n : ℕ) → ((m ≤ n → ⊥) → ⊥) → m ≤ n

@@ -1,12 +1,2 @@
 pub mod CausesLemmas
-pub mod RefusalLemmas
-pub mod OutcomeLemmas
-pub mod StopLemmas
-pub mod rows
-pub mod ArraysInWords
-pub mod ExpressionRuns
-pub mod StatementRuns
-pub mod NamesResolve
-pub mod BodyRuns
-pub mod WholeRun
-pub mod NameSearch
+pub mod OfAll

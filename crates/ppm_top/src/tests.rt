@@ -1,11 +1,9 @@
 //! The top call over memory: what is written and answered for whole inputs, and where ports fail.
 ghost use Rattle.std.specs.Prelude.{◌≡◌, ◌<◌, IfOk, length};
-ghost use Rattle.ppm_top.specs.Bounds.{watcher_count};
+ghost use Rattle.ppm_running.specs.Watchers.{watcher_count};
 
-use crate::{WATCHERS, have_one_outcome, have_one_refusal, ppm, run_command};
+use crate::{WATCHERS, ppm};
 use ppm_answers::Status;
-use ppm_checking::have_one_answer;
-use ppm_line::RunOptions;
 use ppm_ports::{MemorySink, MemorySource, Recorder, Silent, Source};
 use std::alloc::Global;
 use std::process::Abort;
@@ -14,8 +12,9 @@ use std::test::Fail;
 /// A source that ends with `a 5 7`.
 const FIRST: &str = "array a[2]; proc main(mut a) { a[0] = 5; a[1] = a[0] + 2; }";
 
-/// A source up to a value.
-const VALUE: &str = "array a[1]; proc main(mut a) { a[0] = ";
+/// A source that ends with `a 6` after 13 turns.
+const LOOP: &str =
+    "array a[1]; proc main(mut a) { let i = 0; while i < 3 { i = i + 1; a[0] = a[0] + i; } }";
 
 /// The bytes for which a sink has room.
 const ROOM: usize = 300_000;
@@ -90,30 +89,6 @@ fn ppm_over_memory(
     })
 }
 
-/// A run of a source, over ports that never fail.
-fn run(alloc: Global, text: &[u8]) -> Result<Shown, Fail> {
-    ppm_over_memory(alloc, text, RUN, 4096, NONE)
-}
-
-/// Fails unless the source ends with exactly these arrays.
-fn ends_with(rt: &impl Abort, alloc: Global, text: &str, want: &str) -> Result<(), Fail> {
-    let got = run(alloc, text.as_bytes())?;
-    assert_eq!(rt; got.out.as_slice(), want.as_bytes(), "{text}");
-    assert_eq!(rt; got.err.as_slice(), b"".as_slice(), "{text}");
-    assert_eq!(rt; got.status, Status::Ended, "{text}");
-    Ok(())
-}
-
-/// Fails unless the text is refused for this reason, with nothing on out.
-fn is_refused(rt: &impl Abort, alloc: Global, text: &[u8], reason: &str) -> Result<(), Fail> {
-    let got = run(alloc, text)?;
-    let want = format!(in alloc; "source refused: {reason}\n")?;
-    assert_eq!(rt; got.err.as_slice(), want.as_bytes());
-    assert_eq!(rt; got.out.as_slice(), b"".as_slice(), "{reason}");
-    assert_eq!(rt; got.status, Status::SourceRefused, "{reason}");
-    Ok(())
-}
-
 /// Fails unless the check of a listing answers so: on out where it is accepted, else on err.
 fn is_checked(rt: &impl Abort, alloc: Global, listing: &str, answer: &str) -> Result<(), Fail> {
     let got = ppm_over_memory(alloc, listing.as_bytes(), CHECK, 4096, NONE)?;
@@ -155,37 +130,66 @@ fn sink(alloc: Global, most: usize, failing: &[u64]) -> Result<MemorySink, Fail>
 }
 
 #[test]
-fn sources_are_judged(rt: HostRuntime) -> Result<(), Fail> {
-    let cases = [
-        (FIRST, "a 5 7\n", Status::Ended),
-        ("array a[0]; proc main() { }", "a\n", Status::Ended),
+fn commands_are_obeyed(rt: HostRuntime) -> Result<(), Fail> {
+    // Words and a text, with what is written on out and on err.
+    let cases: [(&[&str], &str, &str, &str, Status); 9] = [
+        (RUN, FIRST, "a 5 7\n", "", Status::Ended),
         (
-            "array a[1];\nproc main(mut a) { a[0] = 9223372036854775807 + 1; }",
-            "trap overflow line 2\n",
-            Status::Trapped,
-        ),
-        (
-            "array a[2]; proc main(mut a) { a[2] = 1; }",
-            "trap index line 1\n",
-            Status::Trapped,
-        ),
-        // A parenthesis has no line of its own: the trap names the line of the sign.
-        (
-            "array a[1]; proc main(mut a) { a[0] = (\n9223372036854775807\n+ (\n1)); }",
-            "trap overflow line 3\n",
-            Status::Trapped,
-        ),
-        (
-            "array a[2]; proc main(mut a) { a[(1)] = ((2 + 3)) + (4); }",
-            "a 0 9\n",
+            &["ppm", "run", "--processors", "1"],
+            FIRST,
+            "a 5 7\n",
+            "",
             Status::Ended,
         ),
+        (
+            RUN,
+            "array a[2]; proc main(mut a) { a[2] = 1; }",
+            "trap index line 1\n",
+            "",
+            Status::Trapped,
+        ),
+        (
+            RUN,
+            "array a[2]; proc ma",
+            "",
+            "source refused: syntax 2 at 19\n",
+            Status::SourceRefused,
+        ),
+        (
+            RUN,
+            "proc main() { let x = 1; }",
+            "",
+            "source refused: not compiled yet line 1\n",
+            Status::SourceRefused,
+        ),
+        (&["ppm", "serial"], FIRST, "a 5 7\n", "", Status::Ended),
+        (
+            &["ppm", "serial", "--turns", "13"],
+            LOOP,
+            "a 6\n",
+            "",
+            Status::Ended,
+        ),
+        (
+            &["ppm", "serial", "--turns", "12"],
+            LOOP,
+            "",
+            "not within 12 turns\n",
+            Status::NotWithin,
+        ),
+        (
+            &["ppm", "check"],
+            FIRST,
+            "",
+            "listing refused: 1 line 1\n",
+            Status::CodeRefused,
+        ),
     ];
-    for (text, out, status) in cases {
+    for (words, text, out, err, status) in cases {
         for most in [1, 4096] {
-            let got = ppm_over_memory(rt.alloc(), text.as_bytes(), RUN, most, NONE)?;
+            let got = ppm_over_memory(rt.alloc(), text.as_bytes(), words, most, NONE)?;
             assert_eq!(rt; got.out.as_slice(), out.as_bytes(), "{text}");
-            assert_eq!(rt; got.err.as_slice(), b"".as_slice(), "{text}");
+            assert_eq!(rt; got.err.as_slice(), err.as_bytes(), "{text}");
             assert_eq!(rt; got.status, status, "{text}");
         }
     }
@@ -283,149 +287,7 @@ fn listings_are_checked(rt: HostRuntime) -> Result<(), Fail> {
         listing.push_str(behind)?;
         is_checked(&rt, alloc, listing.as_str(), answer)?;
     }
-    have_one_answer();
     Ok(())
-}
-
-#[test]
-fn texts_are_refused(rt: HostRuntime) -> Result<(), Fail> {
-    let cases = [
-        (b"x\xc8".as_slice(), "text 1 at 1"),
-        (b"#\xc8".as_slice(), "text 1 at 1"),
-        (b"array a[1]; !".as_slice(), "text 2 at 12"),
-        (b"array a[9223372036854775808];".as_slice(), "text 3 at 8"),
-        (
-            b"proc a23456789012345678901234567890123".as_slice(),
-            "text 4 at 5",
-        ),
-        // The text's own faults come first, wherever they are.
-        (b"; \xc8".as_slice(), "text 1 at 2"),
-        (b"proc main() { let x = 1; }".as_slice(), "syntax 1 at 14"),
-        (b"array a[2]; proc ma".as_slice(), "syntax 2 at 19"),
-        (b"array a[4194305];".as_slice(), "syntax 4 at 8"),
-        (b"proc main() { } proc f() { }".as_slice(), "syntax 4 at 16"),
-        (b"".as_slice(), "region 8 line 0"),
-        (b"proc other() { }".as_slice(), "region 8 line 0"),
-        (b"\nproc main(int n) { }".as_slice(), "region 8 line 2"),
-        (b"proc main(\nmut a) { }".as_slice(), "region 8 line 2"),
-        (
-            b"array a[1]; proc main(mut a) {\na[0] =\nb[0]; }".as_slice(),
-            "region 1 line 3",
-        ),
-        (
-            b"array a[1];\narray a[2]; proc main(mut a) { }".as_slice(),
-            "region 2 line 2",
-        ),
-        (
-            b"array a[1]; proc main(mut a,\nref a) { }".as_slice(),
-            "region 2 line 2",
-        ),
-        (
-            b"array a[1]; proc main(ref a) {\na[0] = 1; }".as_slice(),
-            "region 5 line 2",
-        ),
-        // The least number first.
-        (
-            b"array a[1];\nproc main(int n, ref a) {\na[0] = 1;\nb[0] = 1; }".as_slice(),
-            "region 1 line 4",
-        ),
-    ];
-    for (text, reason) in cases {
-        is_refused(&rt, rt.alloc(), text, reason)?;
-    }
-    have_one_outcome();
-    have_one_refusal();
-    Ok(())
-}
-
-#[test]
-fn fronts_of_a_source_are_refused(rt: HostRuntime) -> Result<(), Fail> {
-    let text = FIRST.as_bytes();
-    assert_eq!(rt; text.len(), 59);
-    for n in 0..59 {
-        let ended = format!(in rt.alloc(); "syntax 2 at {n}")?;
-        let reason = match n {
-            0 | 11 | 12 => "region 8 line 0",
-            1..=4 => "syntax 1 at 0",
-            13..=15 => "syntax 1 at 12",
-            23 | 24 => "syntax 1 at 22",
-            _ => ended.as_str(),
-        };
-        is_refused(&rt, rt.alloc(), &text[..n], reason)?;
-    }
-    ends_with(&rt, rt.alloc(), FIRST, "a 5 7\n")
-}
-
-#[test]
-fn long_texts_are_refused(rt: HostRuntime) -> Result<(), Fail> {
-    let cases = [
-        (1_048_576, "region 8 line 0"),
-        (1_048_577, "text 5 at 1048576"),
-        (1_048_600, "text 5 at 1048576"),
-    ];
-    for (len, reason) in cases {
-        let blanks = vec![in rt.alloc(); b' '; len]?;
-        is_refused(&rt, rt.alloc(), &blanks, reason)?;
-    }
-    Ok(())
-}
-
-#[test]
-fn arrays_are_limited(rt: HostRuntime) -> Result<(), Fail> {
-    let alloc = rt.alloc();
-    // Each has 14 bytes, with its line feed.
-    let mut arrays = String::from_str(alloc, "")?;
-    for n in 0..65 {
-        let array = format!(in alloc; "array b{n:02}[1];\n")?;
-        arrays.push_str(array.as_str())?;
-    }
-    is_refused(&rt, alloc, arrays.as_bytes(), "syntax 4 at 896")
-}
-
-#[test]
-fn parameters_are_limited(rt: HostRuntime) -> Result<(), Fail> {
-    let text = repeated(rt.alloc(), "proc main(", "mut a, ", 12, "mut a) { }")?;
-    is_refused(&rt, rt.alloc(), text.as_bytes(), "syntax 4 at 94")
-}
-
-#[test]
-fn nodes_are_limited(rt: HostRuntime) -> Result<(), Fail> {
-    let alloc = rt.alloc();
-    // The index is a node, and so is each number and each sign.
-    let ones = repeated(alloc, VALUE, "1 + ", 23, "1; }")?;
-    ends_with(&rt, alloc, ones.as_str(), "a 24\n")?;
-    let ones = repeated(alloc, VALUE, "1 + ", 24, "1; }")?;
-    is_refused(&rt, alloc, ones.as_bytes(), "syntax 4 at 132")?;
-    // A parenthesis is none.
-    let ones = repeated(alloc, VALUE, "(1) + ", 23, "((1)); }")?;
-    ends_with(&rt, alloc, ones.as_str(), "a 24\n")
-}
-
-#[test]
-fn openings_are_limited(rt: HostRuntime) -> Result<(), Fail> {
-    let alloc = rt.alloc();
-    // The body's brace is open too, so the 32nd parenthesis is the 33rd opening.
-    let opened = repeated(alloc, VALUE, "(", 31, "1")?;
-    let closed = repeated(alloc, opened.as_str(), ")", 31, "; }")?;
-    ends_with(&rt, alloc, closed.as_str(), "a 1\n")?;
-    let opened = repeated(alloc, VALUE, "(", 32, "1")?;
-    is_refused(&rt, alloc, opened.as_bytes(), "syntax 3 at 69")?;
-    let opened = repeated(alloc, VALUE, "(", 31, "a[0]")?;
-    is_refused(&rt, alloc, opened.as_bytes(), "syntax 3 at 70")?;
-    // Where no text goes on with it, this comes first.
-    let opened = repeated(alloc, VALUE, "(", 31, "1(")?;
-    is_refused(&rt, alloc, opened.as_bytes(), "syntax 1 at 70")
-}
-
-#[test]
-fn capsules_are_limited(rt: HostRuntime) -> Result<(), Fail> {
-    let alloc = rt.alloc();
-    // Four for each statement and two for the procedure.
-    let front = "array a[1]; proc main(mut a) {";
-    let statements = repeated(alloc, front, " a[0] = 1;", 16_383, " }")?;
-    ends_with(&rt, alloc, statements.as_str(), "a 1\n")?;
-    let statements = repeated(alloc, front, " a[0] = 1;", 16_384, " }")?;
-    is_refused(&rt, alloc, statements.as_bytes(), "cut 2 at 0")
 }
 
 #[test]
@@ -434,8 +296,10 @@ fn words_are_judged_before_anything_is_read(rt: HostRuntime) -> Result<(), Fail>
         reads: &[0],
         ..NONE
     };
-    let refused: [&[&str]; 7] = [
+    let refused: [&[&str]; 9] = [
         &["ppm", "check", "x"],
+        &["ppm", "serial", "--turns", "0"],
+        &["ppm", "serial", "--processors", "1"],
         &[],
         &["ppm"],
         &["ppm", "walk"],
@@ -449,9 +313,6 @@ fn words_are_judged_before_anything_is_read(rt: HostRuntime) -> Result<(), Fail>
         assert_eq!(rt; got.err.as_slice(), b"words refused\n".as_slice());
         assert_eq!(rt; got.read_faults, 0);
     }
-    let words = ["ppm", "run", "--processors", "1"];
-    let got = ppm_over_memory(rt.alloc(), FIRST.as_bytes(), &words, 9, NONE)?;
-    assert_eq!(rt; got.out.as_slice(), b"a 5 7\n".as_slice());
     Ok(())
 }
 
@@ -509,13 +370,16 @@ fn a_write_that_fails_makes_status_8(rt: HostRuntime) -> Result<(), Fail> {
 #[test]
 fn a_long_output_is_written_whole(rt: HostRuntime) -> Result<(), Fail> {
     let alloc = rt.alloc();
-    let zeros = repeated(alloc, "a", " 0", 100_000, "\n")?;
-    ends_with(
-        &rt,
-        alloc,
-        "array a[100000]; proc main() { }",
-        zeros.as_str(),
-    )
+    let mut zeros = String::from_str(alloc, "a")?;
+    for _ in 0..100_000 {
+        zeros.push_str(" 0")?;
+    }
+    zeros.push_str("\n")?;
+    let text = b"array a[100000]; proc main() { }".as_slice();
+    let got = ppm_over_memory(alloc, text, RUN, 4096, NONE)?;
+    assert_eq!(rt; got.out.as_slice(), zeros.as_bytes());
+    assert_eq!(rt; got.status, Status::Ended);
+    Ok(())
 }
 
 /// A recorder for each processor that a run may have.
@@ -551,22 +415,7 @@ fn watchers_are_told_nothing(rt: HostRuntime) -> Result<(), Fail> {
         &mut watch,
     );
     assert_eq!(rt; status, Status::Ended);
-    // What is left of the source is the empty text.
-    let status = run_command(
-        &(),
-        alloc,
-        RunOptions { processors: 1 },
-        &mut source,
-        &mut out,
-        &mut err,
-        &mut watch,
-    );
-    assert_eq!(rt; status, Status::SourceRefused);
     assert_eq!(rt; out.bytes(), b"a 5 7\n".as_slice());
-    assert_eq!(rt;
-        err.bytes(),
-        b"source refused: region 8 line 0\n".as_slice()
-    );
     for recorder in &watch {
         assert_eq!(rt; recorder.events().len(), 0);
     }

@@ -3,21 +3,18 @@ ghost use Rattle.std.specs.Prelude.{◌≡◌, length, map};
 ghost use Rattle.std.specs.String.{string_bytes};
 ghost use Rattle.ppm_ports.specs.Ports.{port};
 ghost use Rattle.ppm_ports.specs.Outside.{outside};
-ghost use Rattle.ppm_top.specs.Bounds.{watcher_count};
+ghost use Rattle.ppm_running.specs.Watchers.{watcher_count};
 ghost use Rattle.ppm_top.specs.Causes.{IsAnswered};
 ghost use Rattle.ppm_top.specs.Rows.{ProgramRows};
 
-use crate::laws::{have_one_outcome, have_one_refusal};
-use crate::run::run_command;
 use ppm_answers::{Answer, Status, deliver};
-use ppm_checking::{check_command, have_one_answer};
+use ppm_checking::{check_command, have_one_answer as listings_have_one_answer};
+use ppm_interpreting::{have_one_answer as programs_have_one_answer, serial_command};
 use ppm_line::{Command, read_words};
 use ppm_ports::{Sink, Source, Watch};
+use ppm_running::{have_one_answer as runs_have_one_answer, run_command};
 use ppm_words::NoMemory;
 use std::alloc::Global;
-
-/// The watchers of a call: one for each processor that a run may have.
-pub const WATCHERS: usize = 64;
 
 /// Does what the words ask for: the bytes of `source` are read, the texts of the answer are written on `out` and `err`.
 /// The first word is the program's name. No watcher is told anything yet.
@@ -45,9 +42,9 @@ pub fn ppm<R, S: Source, K: Sink, E: Sink, W: Watch>(
     ensures watchers { length watch.new.items ≡ watcher_count }
 {
     // The rows rest on these laws; the calls do nothing.
-    have_one_outcome();
-    have_one_refusal();
-    have_one_answer();
+    runs_have_one_answer();
+    programs_have_one_answer();
+    listings_have_one_answer();
     obey(rt, alloc, words, source, out, err, watch)
 }
 
@@ -69,6 +66,13 @@ fn obey<R, S: Source, K: Sink, E: Sink, W: Watch>(
 {
     match read_words(alloc, words) {
         Ok(Some(Command::Run(options))) => run_command(rt, alloc, options, source, out, err, watch),
+        Ok(Some(Command::Serial(options))) => serial_command(
+            alloc,
+            options.turns,
+            source,
+            out,
+            err,
+        ),
         Ok(Some(Command::Check)) => check_command(alloc, source, out, err),
         Ok(None) => deliver(alloc, &Answer::WordsRefused, out, err),
         Err(NoMemory) => deliver(alloc, &Answer::NoMemory, out, err),

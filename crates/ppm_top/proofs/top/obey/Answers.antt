@@ -6,6 +6,12 @@ use Rattle.ppm_answers.proofs.Delivered.{fixed_delivered, left_alone}
 use Rattle.ppm_top.proofs.CausesLemmas.{memory_before, by_command}
 use Rattle.ppm_top.proofs.top.obey.Goals as goal
 
+-- the words ask for the serial meaning, which was answered
+pub returns-in-Ok-Some-Serial-clause-answers : goal.returns-in-Ok-Some-Serial-clause-answers
+returns-in-Ok-Some-Serial-clause-answers g c = by_command (map string_bytes c.args.words.now) _ _ (Some (commands.Serial _))
+    (cc (c.in-Ok-Some-Serial.ensures.value, c.in-Ok-Some-Serial.field-0-is, c.in-Ok-Some-Serial.field-0-0-is))
+    (c.serial_command.ensures.answers _)
+
 -- the words ask for a check, which was answered
 pub returns-in-Ok-Some-Check-clause-answers : goal.returns-in-Ok-Some-Check-clause-answers
 returns-in-Ok-Some-Check-clause-answers g c = by_command (map string_bytes c.args.words.now) _ _ (Some commands.Check)

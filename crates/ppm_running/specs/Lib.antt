@@ -1,0 +1,5 @@
+pub mod Verdict
+pub mod Watchers
+pub mod Causes
+pub mod Correct
+pub mod Rows

@@ -1,0 +1,18 @@
+//! The command `run`: what the program of a text comes to, run as capsules.
+//! Model: a text has an answer (`specs/Verdict`): the outcome of its program, or the one refusal of the text, or the line
+//! of the first statement that is not compiled yet.
+//! Contract: `run_command` delivers the answer that the text has which was read, or says that a port failed or memory was
+//! refused (`specs/Causes`); what follows from each status is in `specs/Rows`; a text has one answer (`specs/Correct`).
+//! Stands on `ppm_judging`, `ppm_straight`, `ppm_ports` and `ppm_answers`; `ppm_top` calls it.
+//! The answers are this project's.
+#![tactic(auto)]
+
+mod laws;
+mod running;
+mod verdict;
+
+pub use laws::have_one_answer;
+pub use running::{WATCHERS, run_command};
+
+#[cfg(test)]
+mod tests;

@@ -1,9 +1,0 @@
--- The exits of a `?` in the parser.
-use Rattle.std.proofs.Common.{◌≡◌, MatchResult, Result}
-use Rattle.std.specs.Result.{IsErrAnd}
-use Rattle.std.proofs.lemmas.Result.{err_from_is_err_and}
-use Rattle.ppm_syntax.specs.declared.stop.Stop.{Stop}
-
--- a `?` goes out with the stop of the call before it
-pub exit_by : {T : Type 0} (A : T → Type 0) (Q : Stop → Type 0) (e : Stop) (r : Result T Stop) → IsErrAnd r (λ y. y ≡ e) → Q e → MatchResult r A Q
-exit_by A Q e r is h = let p = err_from_is_err_and r is in rw (p.1, p.2) h

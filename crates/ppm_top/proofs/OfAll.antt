@@ -1,0 +1,134 @@
+-- The rows that all commands share, and those of words that give no command.
+use Rattle.std.proofs.Common.{◌≡◌, ◌⊎◌, ℕ, List, [], ◌∷◌, Option, Some, None}
+use Rattle.std.proofs.Common.{refl, sym, ◌∙◌, subst, inl, inr}
+use Rattle.ppm_ports.specs.Ports.{Fails, Holds}
+use Rattle.ppm_ports.specs.Outside.{Outside}
+use Rattle.ppm_text.specs.Limits.{text_limit}
+use Rattle.ppm_reading.specs.Limits.{text_limit as listing_limit}
+use Rattle.ppm_answers.specs.declared.answer.Answer.{Answer}
+use Rattle.ppm_answers.specs.declared.answer.Answer.TheVariants as answers
+use Rattle.ppm_answers.specs.declared.status.Status.{Status}
+use Rattle.ppm_answers.specs.declared.status.Status.TheVariants as statuses
+use Rattle.ppm_answers.specs.Statuses.{status_of}
+use Rattle.ppm_answers.specs.Delivery.{IsWritten}
+use Rattle.ppm_line.specs.declared.command.Command.{Command}
+use Rattle.ppm_line.specs.declared.command.Command.TheVariants as commands
+use Rattle.ppm_line.specs.Words.{command_of}
+use Rattle.ppm_checking.specs.Verdict.{CheckHas}
+use Rattle.ppm_checking.specs.Correct.{HaveOneAnswer as ListingsHaveOneAnswer}
+use Rattle.ppm_checking.proofs.OfCheck.{check_rows}
+use Rattle.ppm_interpreting.specs.Outcomes.{SerialHas}
+use Rattle.ppm_interpreting.specs.Correct.{HaveOneAnswer as ProgramsHaveOneAnswer}
+use Rattle.ppm_interpreting.proofs.OfSerial.{serial_rows}
+use Rattle.ppm_running.specs.Verdict.{RunHas}
+use Rattle.ppm_running.specs.Correct.{HaveOneAnswer as RunsHaveOneAnswer}
+use Rattle.ppm_running.proofs.OfRun.{run_rows}
+use Rattle.ppm_answers.specs.Reading.{IsUnread, JudgingMay, Answers}
+use Rattle.ppm_answers.specs.Rows.{IsOneOf}
+use Rattle.ppm_top.specs.Causes.{NoCommandMay, CommandMay, IsAnswered}
+use Rattle.ppm_top.specs.Rows.{RefusesWords, ReportsFaults, ProgramRows}
+use Rattle.ppm_answers.proofs.Delivered as delivered
+use Rattle.ppm_answers.proofs.Judged as judged
+
+-- what the causes of a command say of the source: a read fault comes where it failed, and where it failed nothing else comes
+pub record ReportsReads (o : Outside) (may : Answer → Type 0) : Type 0 where
+  pub failed : may answers.ReadFault → Fails o.source
+  pub fails : (answer : Answer) → may answer → ¬ Holds o.source → status_of answer ≡ statuses.ReadFault
+
+judging_reports : (limit : ℕ) (Has : List ℕ → Answer → Type 0) (o : Outside) → ReportsReads o (JudgingMay limit Has o.source)
+judging_reports limit Has o = record { failed = λ h. h.0; fails = λ answer h f. judged.source_failed limit Has o.source answer h f }
+
+none_reports : (o : Outside) → ReportsReads o (NoCommandMay o)
+none_reports o = record { failed = λ h. absurd h; fails = fails } where
+  fails : (answer : Answer) → NoCommandMay o answer → ¬ Holds o.source → status_of answer ≡ statuses.ReadFault
+  fails answers.WordsRefused h f = absurd (f h.holds)
+  fails answers.NoMemory h f = absurd (f h.holds)
+  fails answer h f = absurd h
+
+command_reports : (o : Outside) (command : Option Command) → ReportsReads o (CommandMay command o)
+command_reports o None = none_reports o
+command_reports o (Some (commands.Run options)) = judging_reports text_limit RunHas o
+command_reports o (Some (commands.Serial options)) = judging_reports text_limit (SerialHas options.turns) o
+command_reports o (Some commands.Check) = judging_reports listing_limit CheckHas o
+
+-- an answer of status 7 is a read fault
+read_answer : (may : Answer → Type 0) (answer : Answer) → may answer → status_of answer ≡ statuses.ReadFault → may answers.ReadFault
+read_answer may answers.ReadFault h e = h
+read_answer may answer h e = cc
+
+-- faults are reported exactly, whatever the command is
+reports_faults : (o : Outside) (may : Answer → Type 0) (status : Status) → ReportsReads o may → Answers may o status → ReportsFaults o status
+reports_faults o may status reports a = record {
+  read_fault = read_fault;
+  write_fault = delivered.write_failed o.out o.err a.answer status a.delivered;
+  source_fails = λ f. source_fails (reports.fails a.answer a.cause f) (delivered.own_or_fault o.out o.err a.answer status a.delivered);
+  out_fails = λ f. delivered.fault_makes_8 o.out o.err a.answer status a.delivered (λ out err. f out);
+  err_fails = λ f. delivered.fault_makes_8 o.out o.err a.answer status a.delivered (λ out err. f err);
+} where
+  read_fault : status ≡ statuses.ReadFault → Fails o.source
+  read_fault e =
+      let w = delivered.written o.out o.err a.answer status a.delivered (λ f. cc) in
+      reports.failed (read_answer may a.answer a.cause (sym w.own ∙ e))
+
+  source_fails : status_of a.answer ≡ statuses.ReadFault → (status ≡ statuses.WriteFault) ⊎ IsWritten o.out o.err a.answer status →
+      IsOneOf status (statuses.ReadFault ∷ statuses.WriteFault ∷ [])
+  source_fails r (inl w) = inr (inl w)
+  source_fails r (inr w) = inl (w.own ∙ r)
+
+faults : (words : List (List ℕ)) (o : Outside) (status : Status) → IsAnswered words o status → ReportsFaults o status
+faults words o status a = reports_faults o (CommandMay (command_of words) o) status (command_reports o (command_of words)) a
+
+-- an answer of status 3 comes without a command
+no_command : (command : Option Command) (o : Outside) (answer : Answer) → CommandMay command o answer →
+    status_of answer ≡ statuses.WordsRefused → command ≡ None
+no_command None o answer h e = refl
+no_command (Some (commands.Run options)) o answers.WordsRefused h e = absurd h.2
+no_command (Some (commands.Serial options)) o answers.WordsRefused h e = absurd h.2
+no_command (Some commands.Check) o answers.WordsRefused h e = absurd h.2
+no_command command o answer h e = cc
+
+-- without a command nothing is read, and the words are refused or memory is
+refusal : (o : Outside) (answer : Answer) → NoCommandMay o answer →
+    IsUnread o.source × ((status_of answer ≡ statuses.WordsRefused) ⊎ (status_of answer ≡ statuses.NoMemory))
+refusal o answers.WordsRefused h = (h, inl refl)
+refusal o answers.NoMemory h = (h, inr refl)
+refusal o answer h = absurd h
+
+refuses_words : (words : List (List ℕ)) (o : Outside) (status : Status) → IsAnswered words o status → RefusesWords words o status
+refuses_words words o status a = record {
+  only = only;
+  unread = λ e. (refusal o a.answer (cause e)).0;
+  always = λ e. always (refusal o a.answer (cause e)).1 (delivered.own_or_fault o.out o.err a.answer status a.delivered);
+} where
+  cause : command_of words ≡ None → NoCommandMay o a.answer
+  cause e = subst (λ c. CommandMay c o a.answer) e a.cause
+
+  only : status ≡ statuses.WordsRefused → command_of words ≡ None
+  only e =
+      let w = delivered.written o.out o.err a.answer status a.delivered (λ f. cc) in
+      no_command (command_of words) o a.answer a.cause (sym w.own ∙ e)
+
+  always : (status_of a.answer ≡ statuses.WordsRefused) ⊎ (status_of a.answer ≡ statuses.NoMemory) →
+      (status ≡ statuses.WriteFault) ⊎ IsWritten o.out o.err a.answer status →
+      IsOneOf status (statuses.WordsRefused ∷ statuses.WriteFault ∷ statuses.NoMemory ∷ [])
+  always r (inl f) = inr (inl f)
+  always (inl r) (inr w) = inl (w.own ∙ r)
+  always (inr r) (inr w) = inr (inr (inl (w.own ∙ r)))
+
+-- what the crates of the commands show of every text
+pub record Laws : Type 0 where
+  pub runs : RunsHaveOneAnswer
+  pub programs : ProgramsHaveOneAnswer
+  pub listings : ListingsHaveOneAnswer
+
+-- all rows of the program
+pub program_rows : Laws → (words : List (List ℕ)) (o : Outside) (status : Status) → IsAnswered words o status → ProgramRows words o status
+program_rows laws words o status a = record {
+  run = λ options e. run_rows laws.runs options o status (subst (λ c. Answers (CommandMay c o) o status) e a);
+  serial = λ options e. serial_rows options.turns (laws.programs options.turns) o status
+      (subst (λ c. Answers (CommandMay c o) o status) e a);
+  check = λ e. check_rows o status (subst (λ c. Answers (CommandMay c o) o status) e a) laws.listings;
+  words_refused = refuses_words words o status a;
+  faults = faults words o status a;
+  nothing_on_out = delivered.nothing_on_out o.out o.err a.answer status a.delivered;
+}
