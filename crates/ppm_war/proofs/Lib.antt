@@ -1,5 +1,7 @@
 pub mod CodeLemmas
 pub mod ConflictLemmas
+pub mod DecodedLemmas
+pub mod FirstLemmas
 pub mod MarkLemmas
 pub mod SampleLemmas
 pub mod TidyLemmas

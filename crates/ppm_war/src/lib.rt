@@ -7,6 +7,7 @@
 
 mod checked;
 mod conflict;
+mod firsts;
 mod laws;
 mod paths;
 #[cfg(test)]
