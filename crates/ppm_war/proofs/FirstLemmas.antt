@@ -59,7 +59,7 @@ module _ (P Q : ℕ → Type 0) where
 
 module _ (is : List Instr) (q : May → Type 0) where
   -- how a path begins that is not over
-  record Begins (from to : ℕ) : Type 0 where
+  pub record Begins (from to : ℕ) : Type 0 where
     pub what : May
     pub here : Does is from what
     pub allowed : q what
@@ -67,7 +67,7 @@ module _ (is : List Instr) (q : May → Type 0) where
     pub goes : GoesTo what from next
     pub rest : Path is q next to
 
-  path_begins : (from to : ℕ) → Path is q from to → (from ≡ to) ⊎ Begins from to
+  pub path_begins : (from to : ℕ) → Path is q from to → (from ≡ to) ⊎ Begins from to
   path_begins from _ (Here _) = inl refl
   path_begins from to (Then _ at _ m p here allowed goes) = elim (path_begins from at p) [
     | inl e ↦ inr (record {

@@ -43,7 +43,7 @@ module _ (is : List Instr) (q : May → Type 0) where
   abbrev pub IsMet : (from k to : ℕ) → Type 0
   IsMet from k to = (to ≡ from) ⊎ CameFrom from k to
 
-  path_met : (from k to : ℕ) → to ≤ k → Path is q from to → IsMet from k to
+  pub path_met : (from k to : ℕ) → to ≤ k → Path is q from to → IsMet from k to
   path_met from k to less (Here _) = inl refl
   path_met from k to less (Then _ at _ m p here allowed goes) = inr (record {
     at = at;
@@ -84,7 +84,7 @@ module _ (is : List Instr) (q : May → Type 0) where
 
   module _ (from k : ℕ) (m : May) (here : Does is k m) where
     -- the last instruction passed is that at k, or one below it
-    last : (to : ℕ) → CameFrom from (k + 1) to → CameFrom from k to ⊎ (Path is q from k × q m × GoesTo m k to)
+    pub last : (to : ℕ) → CameFrom from (k + 1) to → CameFrom from k to ⊎ (Path is q from k × q m × GoesTo m k to)
     last to c = by (nat_lt c.at k) refl
       where
         by : (b : Bool) → nat_lt c.at k ≡ b → CameFrom from k to ⊎ (Path is q from k × q m × GoesTo m k to)

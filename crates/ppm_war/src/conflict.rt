@@ -11,6 +11,7 @@ ghost use Rattle.ppm_war.specs.Marks.{IsDecoded, IsMarked};
 ghost use Rattle.ppm_war.specs.Search.{Is, IsAnswer, IsFirst, IsReadBelow, LeadsToWrite, earlier as earlier_of};
 
 use crate::firsts::first_writes;
+use crate::masks::is_free;
 use crate::paths::{decoded, places_from, writes};
 use ppm_code::{Class, Instr, May};
 
@@ -97,7 +98,7 @@ fn conflict_of(mays: &[May], class: Class) -> Option<Found>
 }
 
 /// The class that an instruction may read.
-fn class_read(may: May) -> Option<Class>
+pub(crate) fn class_read(may: May) -> Option<Class>
     ensures { MatchOption result ((class : Class) → may ≡ Read class → ⊥) (λ class. may ≡ Read class) }
 {
     match may {
@@ -148,6 +149,9 @@ fn first_conflict(mays: &[May]) -> Option<Found>
     ensures { (is : List Instr) → IsDecoded is mays.now
         → MatchOption result (HasNoConflict is) (IsFirstConflict is) }
 {
+    if is_free(mays) {
+        return None;
+    }
     let mut found = None;
     let mut place = 0;
     while place < mays.len() {
@@ -158,7 +162,7 @@ fn first_conflict(mays: &[May]) -> Option<Found>
 }
 
 /// The conflict of a capsule with the least read, and then the least write; `None` exactly where no path
-/// has one. Each class that is read takes two passes over the capsule.
+/// has one. Two passes over the capsule tell most that have none, and each class that is read takes two more.
 pub fn conflict_in(instrs: &[Instr]) -> Option<Found>
     requires { length instrs.now ≤ instr_limit }
     ensures { MatchOption result (HasNoConflict instrs.now) (IsFirstConflict instrs.now) }

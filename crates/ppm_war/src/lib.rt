@@ -9,6 +9,7 @@ mod checked;
 mod conflict;
 mod firsts;
 mod laws;
+mod masks;
 mod paths;
 #[cfg(test)]
 mod tests;

@@ -3,6 +3,10 @@ use Rattle.ppm_war.proofs.ConflictLemmas.{all_met}
 use Rattle.ppm_war.proofs.DecodedLemmas.{decoded_length}
 use Rattle.ppm_war.proofs.conflict.first_conflict.Goals as goal
 
+-- none is seen at once
+pub returns-then-is_free : goal.returns-then-is_free
+returns-then-is_free c = λ is d. c.is_free.ensures is d c.if-is_free.true
+
 -- no class so far
 pub loop-place-init : goal.loop-place-init
 loop-place-init c = λ is d read write k below x. omega (arith, below.1)
