@@ -17,7 +17,7 @@ use Rattle.ppm_answers.specs.Rows.{IsOneOf}
 
 -- the statuses at which nothing is written on out
 abbrev pub silent : List Status
-silent = statuses.SourceRefused ∷ statuses.WordsRefused ∷ statuses.ReadFault ∷ statuses.NoMemory ∷ statuses.CodeRefused ∷ []
+silent = statuses.SourceRefused ∷ statuses.WordsRefused ∷ statuses.ReadFault ∷ statuses.NoMemory ∷ statuses.CodeRefused ∷ statuses.NotWithin ∷ []
 
 -- a status is 8, or the answer is written
 pub own_or_fault : (out err : Port) (answer : Answer) (status : Status) → Delivers out err answer status →
@@ -51,7 +51,8 @@ none_of_three status (inr (inl e)) = (λ f. cc, λ f. cc, λ f. cc)
 none_of_three status (inr (inr (inl e))) = (λ f. cc, λ f. cc, λ f. cc)
 none_of_three status (inr (inr (inr (inl e)))) = (λ f. cc, λ f. cc, λ f. cc)
 none_of_three status (inr (inr (inr (inr (inl e))))) = (λ f. cc, λ f. cc, λ f. cc)
-none_of_three status (inr (inr (inr (inr (inr e))))) = absurd e
+none_of_three status (inr (inr (inr (inr (inr (inl e)))))) = (λ f. cc, λ f. cc, λ f. cc)
+none_of_three status (inr (inr (inr (inr (inr (inr e)))))) = absurd e
 
 -- but for arrays, traps and `ok`, an answer has no text on out
 no_text : (answer : Answer) (status : Status) → status ≡ status_of answer → status ≢ statuses.Ended → status ≢ statuses.Trapped →

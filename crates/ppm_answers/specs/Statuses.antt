@@ -9,7 +9,9 @@ use Rattle.ppm_answers.specs.declared.status.Status.TheVariants as statuses
 abbrev pub status_of : Answer → Status
 status_of (answers.Ended arrays) = statuses.Ended
 status_of (answers.Trapped t line) = statuses.Trapped
+status_of (answers.NotWithin turns) = statuses.NotWithin
 status_of (answers.SourceRefused r) = statuses.SourceRefused
+status_of (answers.NotCompiled line) = statuses.SourceRefused
 status_of answers.Accepted = statuses.Ended
 status_of (answers.Conflicting c) = statuses.CodeRefused
 status_of (answers.ListingRefused r) = statuses.CodeRefused
@@ -27,3 +29,4 @@ number_of statuses.ReadFault = 7
 number_of statuses.WriteFault = 8
 number_of statuses.NoMemory = 9
 number_of statuses.CodeRefused = 10
+number_of statuses.NotWithin = 11

@@ -63,6 +63,14 @@ fault_text pass number at place =
 abbrev pub refusal_text : Refusal → List ℕ
 refusal_text r = fault_text (pass_name r.pass) r.number (place_name r.pass) r.place
 
+-- a line with the line of the first statement that is not compiled yet
+abbrev pub not_compiled_text : ℕ → List ℕ
+not_compiled_text line = ended_line (codes "source refused: not compiled yet line " ++ decimal line)
+
+-- a line with the turns within which a run did not end
+abbrev pub not_within_text : ℕ → List ℕ
+not_within_text turns = ended_line (codes "not within " ++ decimal turns ++ codes " turns")
+
 -- what `check` says of a code that it accepts
 abbrev pub accepted_text : List ℕ
 accepted_text = ended_line (codes "ok")
@@ -93,7 +101,9 @@ out_text _ = []
 
 -- what is written on err
 abbrev pub err_text : Answer → List ℕ
+err_text (answers.NotWithin turns) = not_within_text turns
 err_text (answers.SourceRefused r) = refusal_text r
+err_text (answers.NotCompiled line) = not_compiled_text line
 err_text (answers.Conflicting c) = conflict_text c
 err_text (answers.ListingRefused r) = listing_text r
 err_text answers.WordsRefused = ended_line (codes "words refused")

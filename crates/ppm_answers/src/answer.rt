@@ -10,8 +10,12 @@ pub enum Answer {
     Ended(Items<NamedArray>),
     /// The run ended by a trap in this line of the source; lines count from 1.
     Trapped(Trap, u32),
+    /// The run did not end within so many turns.
+    NotWithin(u64),
     /// The text is refused for this reason.
     SourceRefused(Refusal),
+    /// The compiler does not take the statement in this line yet; lines count from 1.
+    NotCompiled(u32),
     /// The text is the listing of a code without conflicts.
     Accepted,
     /// The text is the listing of a code with this conflict.

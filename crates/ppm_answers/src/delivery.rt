@@ -58,7 +58,8 @@ fn own_status(answer: &Answer) -> Status
     match answer {
         Answer::Ended(_) => Status::Ended,
         Answer::Trapped(_, _) => Status::Trapped,
-        Answer::SourceRefused(_) => Status::SourceRefused,
+        Answer::NotWithin(_) => Status::NotWithin,
+        Answer::SourceRefused(_) | Answer::NotCompiled(_) => Status::SourceRefused,
         Answer::Accepted => Status::Ended,
         Answer::Conflicting(_) | Answer::ListingRefused(_) => Status::CodeRefused,
         Answer::WordsRefused => Status::WordsRefused,

@@ -21,10 +21,12 @@ pub enum Status {
     NoMemory = 9,
     /// `check` refuses a code: what was read is no listing, or its code has a conflict.
     CodeRefused = 10,
+    /// The serial run did not end within its turns.
+    NotWithin = 11,
 }
 
 impl Status {
-    /// The number that the program ends with, from 0 to 10.
+    /// The number that the program ends with, from 0 to 11.
     pub fn number(self) -> u8
         ensures { result ≡ number_of self }
     {

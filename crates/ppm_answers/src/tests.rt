@@ -132,6 +132,18 @@ fn answers_have_texts_and_statuses(rt: HostRuntime) -> Result<(), Fail> {
             "source refused: cut 2 at 0\n",
             2,
         ),
+        (
+            Answer::NotCompiled(7),
+            "",
+            "source refused: not compiled yet line 7\n",
+            2,
+        ),
+        (
+            Answer::NotWithin(268_435_456),
+            "",
+            "not within 268435456 turns\n",
+            11,
+        ),
         (Answer::Accepted, "ok\n", "", 0),
         (
             conflicting(Class::Cur(3)),

@@ -4,7 +4,7 @@ ghost use Rattle.std.specs.Cow.{cow_slice_items};
 ghost use Rattle.std.specs.List.{flat_map};
 ghost use Rattle.std.specs.String.{string_bytes};
 ghost use Rattle.ppm_answers.specs.Texts.{IsFixed, out_text, err_text, refusal_text, fault_text, pass_name as name_of_pass, place_name as name_of_place};
-ghost use Rattle.ppm_answers.specs.Texts.{class_text, conflict_text, listing_text};
+ghost use Rattle.ppm_answers.specs.Texts.{class_text, conflict_text, listing_text, not_compiled_text, not_within_text};
 ghost use Rattle.ppm_answers.specs.Texts.{arrays_text, array_text, value_text, trap_text, trap_name as name_of_trap};
 
 use crate::answer::Answer;
@@ -47,6 +47,14 @@ pub fn texts_of(alloc: Global, answer: &Answer) -> Result<(Text, Text), AllocErr
         Answer::SourceRefused(refusal) => Ok((
             CowSlice::Borrowed(none),
             CowSlice::Owned(refusal_text_of(alloc, *refusal)?),
+        )),
+        Answer::NotCompiled(line) => Ok((
+            CowSlice::Borrowed(none),
+            CowSlice::Owned(not_compiled_text_of(alloc, *line)?),
+        )),
+        Answer::NotWithin(turns) => Ok((
+            CowSlice::Borrowed(none),
+            CowSlice::Owned(not_within_text_of(alloc, *turns)?),
         )),
         Answer::Accepted => Ok((CowSlice::Borrowed(ACCEPTED), CowSlice::Borrowed(none))),
         Answer::Conflicting(conflict) => Ok((
@@ -99,6 +107,22 @@ fn listing_text_of(alloc: Global, refusal: ListingRefusal) -> Result<Vec<u8>, Al
 {
     let ListingRefusal { number, line } = refusal;
     let text = format!(in alloc; "listing refused: {number} line {line}\n")?;
+    Ok(text.into_bytes())
+}
+
+/// The line of a statement that is not compiled yet.
+fn not_compiled_text_of(alloc: Global, line: u32) -> Result<Vec<u8>, AllocError>
+    ensures { IfOk result (λ text. text.items ≡ not_compiled_text line) }
+{
+    let text = format!(in alloc; "source refused: not compiled yet line {line}\n")?;
+    Ok(text.into_bytes())
+}
+
+/// The line of a run that did not end within its turns.
+fn not_within_text_of(alloc: Global, turns: u64) -> Result<Vec<u8>, AllocError>
+    ensures { IfOk result (λ text. text.items ≡ not_within_text turns) }
+{
+    let text = format!(in alloc; "not within {turns} turns\n")?;
     Ok(text.into_bytes())
 }
 

@@ -7,3 +7,4 @@ pub mod Used
 pub mod Keeping
 pub mod Sums
 pub mod First
+pub mod OneFault

@@ -4,3 +4,4 @@ pub mod Capsules
 pub mod Bounds
 pub mod Refusals
 pub mod Catching
+pub mod Correct

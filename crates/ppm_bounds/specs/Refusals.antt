@@ -26,3 +26,10 @@ number_of (error.TooManySlots n) = 1
 number_of error.TooManyCapsules = 2
 number_of (error.TooManyCaught n) = 3
 number_of error.NoMemory = 0
+
+-- the procedure that passes a bound; 0 where none is named
+abbrev pub place_of : BoundError → ℕ
+place_of (error.TooManySlots n) = n
+place_of (error.TooManyCaught n) = n
+place_of error.TooManyCapsules = 0
+place_of error.NoMemory = 0

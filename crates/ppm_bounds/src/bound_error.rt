@@ -1,6 +1,6 @@
 //! Why the compiler refuses a program.
 ghost use Rattle.std.specs.Prelude.{◌≡◌};
-ghost use Rattle.ppm_bounds.specs.Refusals.{number_of};
+ghost use Rattle.ppm_bounds.specs.Refusals.{number_of, place_of};
 
 use ppm_words::NoMemory;
 use thiserror::Error;
@@ -32,6 +32,16 @@ impl BoundError {
             BoundError::TooManyCapsules => 2,
             BoundError::TooManyCaught(_) => 3,
             BoundError::NoMemory => 0,
+        }
+    }
+
+    /// The procedure that passes the bound, counted from 0; 0 where none is named.
+    pub fn place(self) -> u32
+        ensures { result ≡ place_of self }
+    {
+        match self {
+            BoundError::TooManySlots(procedure) | BoundError::TooManyCaught(procedure) => procedure,
+            BoundError::TooManyCapsules | BoundError::NoMemory => 0,
         }
     }
 }

@@ -1,7 +1,7 @@
 //! The bounds that the compiler sets on a program: slots of a procedure, names of outside in an `each`, and capsules.
 //! Model: counts on trees (`specs/Slots`, `specs/Names`, `specs/Capsules`) and their limits (`specs/Bounds`).
 //! Contract: `within_bounds` takes exactly the programs within all bounds, and names the fault of any other
-//! (`specs/Refusals`).
+//! (`specs/Refusals`), which is one (`specs/Correct`).
 //! Stands on `ppm_tree`; the compiler and the command `serial` are to call it.
 //! The names of outside are the free names of a block, as in closure conversion; the counts are this project's.
 #![tactic(auto)]
@@ -11,6 +11,7 @@ mod bound_error;
 mod bounding;
 mod capsules;
 mod eaches;
+mod laws;
 mod names;
 mod slots;
 mod stop;
@@ -20,3 +21,4 @@ mod walk;
 
 pub use bound_error::BoundError;
 pub use bounding::within_bounds;
+pub use laws::have_one_fault;

@@ -1,1 +1,5 @@
 pub mod Stops
+pub mod SyntaxFaults
+pub mod RegionFaults
+pub mod OneAnswer
+pub mod WholeText

@@ -1,3 +1,4 @@
 pub mod Programs
 pub mod Refusals
 pub mod Judging
+pub mod Correct

@@ -58,15 +58,8 @@ syntax_refusal e = record { pass = pass.Syntax; number = syntax.number_of e; pla
 abbrev pub region_refusal : RegionError → Refusal
 region_refusal e = record { pass = pass.Region; number = region.number_of e; place = region.line_of e }
 
--- the procedure that passes a bound; 0 where none is named
-abbrev pub bound_place : BoundError → ℕ
-bound_place (bound_error.TooManySlots n) = n
-bound_place (bound_error.TooManyCaught n) = n
-bound_place bound_error.TooManyCapsules = 0
-bound_place bound_error.NoMemory = 0
-
 abbrev pub bound_refusal : BoundError → Refusal
-bound_refusal e = record { pass = pass.Cut; number = bound.number_of e; place = bound_place e }
+bound_refusal e = record { pass = pass.Cut; number = bound.number_of e; place = bound.place_of e }
 
 -- why a text is refused
 pub data IsRefusal (text : List ℕ) : Refusal → Type 0 where

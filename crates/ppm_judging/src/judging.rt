@@ -1,8 +1,7 @@
 //! The program of a text, or why it is refused.
-ghost use Rattle.std.specs.Prelude.{◌≡◌, IfOk, IfErr};
+ghost use Rattle.std.specs.Prelude.{IfOk, IfErr};
 ghost use Rattle.ppm_tree.specs.Tree.{tree_of};
 ghost use Rattle.ppm_judging.specs.Programs.{IsTreeOf, HasProgram, IsAdmittedTreeOf};
-ghost use Rattle.ppm_judging.specs.Refusals.{bound_place};
 ghost use Rattle.ppm_judging.specs.Judging.{MayStop};
 
 use ppm_answers::{Pass, Refusal};
@@ -91,19 +90,9 @@ impl From<BoundError> for JudgeError {
             _ => JudgeError::Refused(Refusal {
                 pass: Pass::Cut,
                 number: e.number(),
-                place: bound_procedure(e),
+                place: e.place(),
             }),
         }
-    }
-}
-
-/// The procedure that passes a bound, counted from 0; 0 where none is named.
-fn bound_procedure(error: BoundError) -> u32
-    ensures { result ≡ bound_place error }
-{
-    match error {
-        BoundError::TooManySlots(procedure) | BoundError::TooManyCaught(procedure) => procedure,
-        BoundError::TooManyCapsules | BoundError::NoMemory => 0,
     }
 }
 

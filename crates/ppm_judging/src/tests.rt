@@ -5,10 +5,10 @@ use std::alloc::Global;
 use std::test::Fail;
 
 /// A pass with the number and the place of its fault; none where the text has a program.
-type Answer = Option<(Pass, u32, u32)>;
+pub(crate) type Answer = Option<(Pass, u32, u32)>;
 
 /// What a text is answered.
-fn answer(alloc: Global, text: &str) -> Result<Answer, Fail> {
+pub(crate) fn answer(alloc: Global, text: &str) -> Result<Answer, Fail> {
     match program_of(alloc, text.as_bytes()) {
         Ok(_) => Ok(None),
         Err(

@@ -113,7 +113,7 @@ abbrev pub command_line : List CommandRule
 command_line =
     command "run"
     (one_processor ∷ later turns ∷ later room ∷ later slots ∷ later looks ∷ later seed ∷ later faults ∷ later takeover ∷ later idle ∷ [])
-    ∷ later_command "serial" (turns ∷ [])
+    ∷ command "serial" (turns ∷ [])
     ∷ later_command "code" []
     ∷ command "check" []
     ∷ later_command "replay" (processors ∷ turns ∷ room ∷ slots ∷ takeover ∷ schedule ∷ [])

@@ -5,10 +5,11 @@ use Rattle.std.specs.Str.Parse.{digits_value, without_leading_plus}
 use Rattle.clap.specs.Words.{Kinds, Row, Text, fault_of, one_of, subcommand_of}
 use Rattle.clap.specs.ValueTests.{is_unsigned_in}
 use Rattle.ppm_line.specs.Application.{ppm_application}
-use Rattle.ppm_line.specs.CommandLine.{Form, Number, OptionRule, one_processor}
+use Rattle.ppm_line.specs.CommandLine.{Form, Number, OptionRule, one_processor, turns}
 use Rattle.ppm_line.specs.declared.command.Command.{Command}
 use Rattle.ppm_line.specs.declared.command.Command.TheVariants as commands
 use Rattle.ppm_line.specs.declared.command.RunOptions.{RunOptions}
+use Rattle.ppm_line.specs.declared.command.SerialOptions.{SerialOptions}
 
 -- the number that decimal digits write; a plus may stand in front
 abbrev pub value_of_digits : Text → ℕ
@@ -31,10 +32,15 @@ number_given o rows = option_and_then (number_in o.form) (one_of o.name rows)
 abbrev pub run_options : List Row → Option RunOptions
 run_options rows = option_map (λ n. record { processors = n }) (number_given one_processor rows)
 
+-- the options of `serial`, if each has a value of its form
+abbrev pub serial_options : List Row → Option SerialOptions
+serial_options rows = option_map (λ n. record { turns = n }) (number_given turns rows)
+
 -- the command of this name, with the options in its matches
 abbrev pub command_named : Text → List Row → Option Command
 command_named name rows =
     if bytes_eq name (codes "run") then option_map (λ o. commands.Run o) (run_options rows)
+    else if bytes_eq name (codes "serial") then option_map (λ o. commands.Serial o) (serial_options rows)
     else if bytes_eq name (codes "check") then Some commands.Check
     else None
 
@@ -59,4 +65,5 @@ IsOfForm _ n = ⊥
 -- each option of the command is in its range
 abbrev pub IsInRange : Command → Type 0
 IsInRange (commands.Run options) = IsOfForm one_processor.form options.processors
+IsInRange (commands.Serial options) = IsOfForm turns.form options.turns
 IsInRange commands.Check = ⊤

@@ -2,9 +2,9 @@
 ghost use Rattle.std.specs.Prelude.{◌≡◌, ◌≤◌, IfSome};
 ghost use Rattle.clap.specs.Words.{found_of, rows_of, subcommand_rows_of};
 ghost use Rattle.ppm_line.specs.Application.{option_rule};
-ghost use Rattle.ppm_line.specs.Words.{IsInRange, command_in, command_named as named_by, kept_in as kept, number_given, run_options as options_in};
+ghost use Rattle.ppm_line.specs.Words.{IsInRange, command_in, command_named as named_by, kept_in as kept, number_given, run_options as options_in, serial_options as serial_options_in};
 
-use crate::table::{NumberOption, PROCESSORS};
+use crate::table::{NumberOption, PROCESSORS, TURNS};
 use clap::ArgMatches;
 
 /// What the program is asked for.
@@ -12,6 +12,8 @@ use clap::ArgMatches;
 pub enum Command {
     /// To run the source that is read.
     Run(RunOptions),
+    /// To interpret the source that is read.
+    Serial(SerialOptions),
     /// To check the listing that is read for conflicts.
     Check,
 }
@@ -21,6 +23,13 @@ pub enum Command {
 pub struct RunOptions {
     /// How many processors there are: from 1 to 1, and 1 by default.
     pub processors: u32,
+}
+
+/// The options of `serial`.
+#[derive(Clone, Copy, Debug, PartialEq, Eq)]
+pub struct SerialOptions {
+    /// How many turns the run may spend: from 1 to 268435456, and 16777216 by default.
+    pub turns: u64,
 }
 
 /// The command of the subcommand that was met, with its options.
@@ -41,6 +50,7 @@ fn command_named(name: &str, matches: &ArgMatches<'_>) -> Option<Command>
 {
     match name {
         "run" => Some(Command::Run(run_options(matches)?)),
+        "serial" => Some(Command::Serial(serial_options(matches)?)),
         "check" => Some(Command::Check),
         _ => None,
     }
@@ -53,6 +63,17 @@ fn run_options(matches: &ArgMatches<'_>) -> Option<RunOptions>
 {
     let processors = number_of(matches, PROCESSORS)?;
     Some(RunOptions { processors })
+}
+
+/// The options of `serial` in its matches.
+fn serial_options(matches: &ArgMatches<'_>) -> Option<SerialOptions>
+    ensures value { result ≡ serial_options_in (rows_of (found_of matches.now)) }
+    ensures in_range { IfSome result (λ o. IsInRange (Command.Serial o)) }
+{
+    let turns = number_of(matches, TURNS)?;
+    Some(SerialOptions {
+        turns: u64::from(turns),
+    })
 }
 
 /// The number of an option in the matches of its command, if its text writes one in the option's range.

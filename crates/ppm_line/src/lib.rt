@@ -11,7 +11,7 @@ mod laws;
 mod line;
 mod table;
 
-pub use command::{Command, RunOptions};
+pub use command::{Command, RunOptions, SerialOptions};
 pub use laws::any_rule_may_be_admitted;
 pub use line::read_words;
 

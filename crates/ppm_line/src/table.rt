@@ -3,6 +3,9 @@
 /// The most processors that a run may have.
 const MOST_PROCESSORS: u32 = 1;
 
+/// The most turns that a run may have.
+const MOST_TURNS: u32 = 268_435_456;
+
 /// A command: its name and its options.
 #[derive(Clone, Copy, Debug)]
 pub(crate) struct CommandRow {
@@ -33,11 +36,23 @@ pub(crate) const PROCESSORS: NumberOption = NumberOption {
     default: "1",
 };
 
+/// How many turns there are.
+pub(crate) const TURNS: NumberOption = NumberOption {
+    name: "turns",
+    low: 1,
+    high: MOST_TURNS,
+    default: "16777216",
+};
+
 /// The commands.
-pub(crate) const COMMANDS: [CommandRow; 2] = [
+pub(crate) const COMMANDS: [CommandRow; 3] = [
     CommandRow {
         name: "run",
         options: &[PROCESSORS],
+    },
+    CommandRow {
+        name: "serial",
+        options: &[TURNS],
     },
     CommandRow {
         name: "check",

@@ -1,5 +1,5 @@
 //! The words that clap's documentation takes and refuses.
-use crate::{Command, RunOptions, any_rule_may_be_admitted, read_words};
+use crate::{Command, RunOptions, SerialOptions, any_rule_may_be_admitted, read_words};
 use std::alloc::Global;
 use std::test::Fail;
 
@@ -15,7 +15,8 @@ fn command_of_words(alloc: Global, words: &[&str]) -> Result<Option<Command>, Fa
 #[test]
 fn words_give_a_command_or_none(rt: HostRuntime) -> Result<(), Fail> {
     let runs = Some(Command::Run(RunOptions { processors: 1 }));
-    let cases: [(&[&str], Option<Command>); 28] = [
+    let within = |turns| Some(Command::Serial(SerialOptions { turns }));
+    let cases: [(&[&str], Option<Command>); 35] = [
         (&["ppm", "run"], runs),
         (&["any", "run"], runs),
         (&["ppm", "run", "--processors", "1"], runs),
@@ -35,7 +36,17 @@ fn words_give_a_command_or_none(rt: HostRuntime) -> Result<(), Fail> {
         (&["ppm", "run", "--turns", "5"], None),
         (&["ppm", "run", "x"], None),
         (&["ppm", "run", "--processors", "1", "x"], None),
-        (&["ppm", "serial"], None),
+        (&["ppm", "serial"], within(16_777_216)),
+        (&["ppm", "serial", "--turns", "1"], within(1)),
+        (&["ppm", "serial", "--turns=+0025"], within(25)),
+        (
+            &["ppm", "serial", "--turns", "268435456"],
+            within(268_435_456),
+        ),
+        (&["ppm", "serial", "--turns", "268435457"], None),
+        (&["ppm", "serial", "--turns", "0"], None),
+        (&["ppm", "serial", "--processors", "1"], None),
+        (&["ppm", "code"], None),
         (&["ppm", "check"], Some(Command::Check)),
         (&["ppm", "check", "x"], None),
         (&["ppm", "check", "--processors", "1"], None),

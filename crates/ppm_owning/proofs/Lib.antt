@@ -1,0 +1,15 @@
+pub mod ScopeLemmas
+pub mod SiteLemmas
+pub mod PartLemmas
+pub mod SplitLemmas
+pub mod LendLemmas
+pub mod CallLemmas
+pub mod EntryLemmas
+pub mod ComingLemmas
+pub mod WordLemmas
+pub mod ExpressionLemmas
+pub mod ChangeLemmas
+pub mod LocalLemmas
+pub mod StretchLemmas
+pub mod SwapLemmas
+pub mod Theorem

@@ -1,0 +1,4 @@
+pub mod Words
+pub mod Owning
+pub mod Coming
+pub mod Correct
