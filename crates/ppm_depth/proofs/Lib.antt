@@ -6,7 +6,6 @@ pub mod FollowLemmas
 pub mod LoopLemmas
 pub mod RestLemmas
 pub mod ResumeLemmas
-pub mod SampleLemmas
 pub mod StackLemmas
 pub mod TurnLemmas
 pub mod WholeLemmas

@@ -1,7 +1,6 @@
 pub mod Image
 pub mod Moves
 pub mod Run
-pub mod Sample
 pub mod Sound
 pub mod Start
 pub mod Stack

@@ -107,7 +107,21 @@ long_refusal text front rest long e = go (line_of front) (ap (standing_from AtVe
     go (Some (part.Capsule c p)) e = first_none text _ e
     go (Some (part.Instr i)) e = first_none text _ e
 
--- or with no whole line
+-- a text whose first whole line does not stand, by that line alone
+pub not_begun : (text front rest : List ℕ) → split 10 text ≡ front ∷ split 10 rest → is_some (standing AtVersion (line_of front)) ≡ false
+    → IsFirstFault text NoSuchForm 1
+not_begun text front rest e none = go (line_of front) (ap (standing_from AtVersion) (lines_of-more text front rest e)) none
+  where
+    go : (l : Option Part) → standing_of text ≡ standing_from AtVersion (l ∷ lines_of rest) → is_some (standing AtVersion l) ≡ false
+        → IsFirstFault text NoSuchForm 1
+    go None e none = first_none text _ e
+    go (Some part.Version) e none = cc
+    go (Some (part.Root q xs)) e none = first_none text _ e
+    go (Some (part.Procedure i s k)) e none = first_none text _ e
+    go (Some (part.Capsule c p)) e none = first_none text _ e
+    go (Some (part.Instr i)) e none = first_none text _ e
+
+-- one that is too long, with no whole line
 pub long_unended : (text : List ℕ) → text_limit < length text → split 10 text ≡ text ∷ [] → IsFirstFault text NoSuchForm 1
 long_unended [] long e = absurd (omega (arith, long))
 long_unended (b ∷ bs) long e = first_none (b ∷ bs) _ (ap (λ ps. standing_from AtVersion (lines_in ps)) e)

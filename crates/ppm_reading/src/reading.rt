@@ -1,5 +1,5 @@
 //! Reads listings.
-ghost use Rattle.std.specs.Prelude.{◌≡◌, ◌≤◌, ◌<◌, length, is_some, if◌then◌else◌, IfOk, IfErr};
+ghost use Rattle.std.specs.Prelude.{◌≡◌, ◌≤◌, ◌<◌, length, is_some, false, if◌then◌else◌, IfOk, IfErr};
 ghost use Rattle.ppm_listing.specs.Listing.{listing_of};
 ghost use Rattle.ppm_listing.specs.Correct.{NumbersFit};
 ghost use Rattle.ppm_reading.specs.Limits.{text_limit};
@@ -68,8 +68,21 @@ fn too_long(alloc: Global, text: &[u8]) -> Result<ListingError, NoMemory>
     }
 }
 
+/// Whether the first line of a text stands, if it has a whole one. Where it does not, the rest need not be read.
+fn begins(alloc: Global, text: &[u8]) -> Result<bool, NoMemory>
+    ensures { IfOk result (λ stands. stands ≡ false → IsRefusal text.now (NoSuchForm 1)) }
+{
+    match cut(text, 10) {
+        Some((bytes, _)) => {
+            let line = read_line(alloc, bytes, &mut Vec::new(alloc))?;
+            Ok(Place::AtVersion.standing(line).is_some())
+        }
+        None => Ok(true),
+    }
+}
+
 /// The code of a listing. `Err` with the first fault of a text that is none, or where memory is refused, which is
-/// taken in proportion to the text.
+/// taken in proportion to the text, but for a text whose first line is no listing's.
 pub fn read_listing(alloc: Global, text: &[u8]) -> Result<Code, ListingError>
     ensures ok { IfOk result (λ code. text.now ≡ listing_of code) }
     ensures fits { IfOk result (λ code. NumbersFit code) }
@@ -77,6 +90,9 @@ pub fn read_listing(alloc: Global, text: &[u8]) -> Result<Code, ListingError>
 {
     if text.len() > TEXT_LIMIT {
         return Err(too_long(alloc, text)?);
+    }
+    if !begins(alloc, text)? {
+        return Err(ListingError::NoSuchForm(1));
     }
     let lines = standing_lines(alloc, text)?;
     let parts = declared(alloc, &lines)?;

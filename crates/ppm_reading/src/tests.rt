@@ -320,3 +320,25 @@ fn a_capsule_has_160_instructions_at_most(rt: HostRuntime) -> Result<(), Fail> {
     reads(&rt, alloc, gives(alloc, 160)?.as_bytes(), 6, 165)?;
     Ok(())
 }
+
+/// So many procedures, each with a capsule of its own.
+fn procedures(alloc: Global, count: u32) -> Result<String, Fail> {
+    let mut text = String::from_str(alloc, "ppm 1\nroot 0\n")?;
+    for number in 0..count {
+        let line = format!(in alloc; "proc {number} slots 0 entry {number}\n")?;
+        text.push_str(line.as_str())?;
+    }
+    for number in 0..count {
+        let lines = format!(in alloc; "capsule {number} proc {number}\nend\n")?;
+        text.push_str(lines.as_str())?;
+    }
+    Ok(text)
+}
+
+#[test]
+fn there_are_1024_procedures_at_most(rt: HostRuntime) -> Result<(), Fail> {
+    let alloc = rt.alloc();
+    reads(&rt, alloc, procedures(alloc, 1024)?.as_bytes(), 0, 0)?;
+    reads(&rt, alloc, procedures(alloc, 1025)?.as_bytes(), 6, 1027)?;
+    Ok(())
+}

@@ -1,7 +1,6 @@
 -- Places are marked in their order: when a place is met, it is marked exactly where a path comes to it.
 use Rattle.std.proofs.Common.{◌≡◌, ◌↔◌, ◌<◌, ◌≤◌, ℕ, zero, suc, ◌+◌, Bool, true, false}
-use Rattle.std.proofs.Common.{List, ◌⊎◌, inl, inr, refl, sym, ap, ◌∙◌, subst, arith, Some, replicate, nat_lt}
-use Rattle.std.specs.Prelude.{slice_get}
+use Rattle.std.proofs.Common.{List, ◌⊎◌, inl, inr, refl, sym, ap, ◌∙◌, subst, arith, replicate, nat_lt}
 use Rattle.std.proofs.lemmas.Bool.{ltb-true, ltb-false}
 use Rattle.ppm_code.specs.Limits.{instr_limit}
 use Rattle.ppm_code.specs.declared.class.May.{May}
@@ -44,7 +43,7 @@ module _ (is : List Instr) (q : May → Type 0) where
   abbrev pub IsMet : (from k to : ℕ) → Type 0
   IsMet from k to = (to ≡ from) ⊎ CameFrom from k to
 
-  path_met : (from k to : ℕ) → to ≤ k → Path is q from to → IsMet from k to
+  pub path_met : (from k to : ℕ) → to ≤ k → Path is q from to → IsMet from k to
   path_met from k to less (Here _) = inl refl
   path_met from k to less (Then _ at _ m p here allowed goes) = inr (record {
     at = at;
@@ -73,35 +72,35 @@ module _ (is : List Instr) (q : May → Type 0) where
     λ h. elim h [ inl e ↦ (marked to less).1 (inr e) | inr c ↦ absurd (omega (arith, c.below, path_forward from c.at c.path)) ],
   )
 
-  -- the instruction at a place is one
-  same_what : (k : ℕ) (i : Instr) (m : May) → slice_get is k ≡ Some i → Does is k m → m ≡ may i
-  same_what k i m e (j, f, g) =
+  -- what the instruction at a place may do is one thing
+  pub same_what : (k : ℕ) (m n : May) → Does is k m → Does is k n → n ≡ m
+  same_what k m n (i, e, f) (j, g, h) =
       let same : j ≡ i = cc in
-      sym g ∙ ap may same
+      sym h ∙ ap may same ∙ f
 
   -- past the instruction at k
   passed : (from k to : ℕ) → CameFrom from k to → CameFrom from (k + 1) to
   passed from k to c = record { at = c.at; below = omega (arith, c.below); what = c.what; path = c.path; here = c.here; allowed = c.allowed; goes = c.goes }
 
-  module _ (from k : ℕ) (i : Instr) (one : slice_get is k ≡ Some i) where
+  module _ (from k : ℕ) (m : May) (here : Does is k m) where
     -- the last instruction passed is that at k, or one below it
-    last : (to : ℕ) → CameFrom from (k + 1) to → CameFrom from k to ⊎ (Path is q from k × q (may i) × GoesTo (may i) k to)
+    pub last : (to : ℕ) → CameFrom from (k + 1) to → CameFrom from k to ⊎ (Path is q from k × q m × GoesTo m k to)
     last to c = by (nat_lt c.at k) refl
       where
-        by : (b : Bool) → nat_lt c.at k ≡ b → CameFrom from k to ⊎ (Path is q from k × q (may i) × GoesTo (may i) k to)
+        by : (b : Bool) → nat_lt c.at k ≡ b → CameFrom from k to ⊎ (Path is q from k × q m × GoesTo m k to)
         by true e = inl (record { at = c.at; below = ltb-true c.at k e; what = c.what; path = c.path; here = c.here; allowed = c.allowed; goes = c.goes })
         by false e =
             let same : c.at ≡ k = omega (arith, c.below, ltb-false c.at k e) in
-            let what = same_what k i c.what one (subst (λ (n : ℕ). Does is n c.what) same c.here) in
+            let what = same_what k m c.what here (subst (λ (n : ℕ). Does is n c.what) same c.here) in
             inr (
               subst (λ (n : ℕ). Path is q from n) same c.path,
               subst q what c.allowed,
-              subst (λ (n : ℕ). GoesTo (may i) n to) same (subst (λ (m : May). GoesTo m c.at to) what c.goes),
+              subst (λ (n : ℕ). GoesTo m n to) same (subst (λ (n : May). GoesTo n c.at to) what c.goes),
             )
 
     pub grown : (old new : List Bool) → k < instr_limit
         → ((to : ℕ) → to < instr_limit → IsMarked old to ↔ IsMet from k to)
-        → ((to : ℕ) → to < instr_limit → IsMarked new to ↔ (IsMarked old to ⊎ (IsMarked old k × q (may i) × GoesTo (may i) k to)))
+        → ((to : ℕ) → to < instr_limit → IsMarked new to ↔ (IsMarked old to ⊎ (IsMarked old k × q m × GoesTo m k to)))
         → (to : ℕ) → to < instr_limit → IsMarked new to ↔ IsMet from (k + 1) to
     grown old new small h p to less = (
       λ n. elim ((p to less).0 n) [
@@ -109,9 +108,9 @@ module _ (is : List Instr) (q : May → Type 0) where
         | inr g ↦ inr (record {
           at = k;
           below = omega arith;
-          what = may i;
+          what = m;
           path = met_path from k k ((h k small).0 g.0);
-          here = (i, one, refl);
+          here = here;
           allowed = g.1;
           goes = g.2;
         })

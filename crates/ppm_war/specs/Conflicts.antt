@@ -1,44 +1,12 @@
 -- The first conflict of a capsule, and of a code.
-use Rattle.std.specs.Prelude.{◌≡◌, ◌<◌, ◌≤◌, ℕ, List, Option, Some, None}
-use Rattle.std.specs.List.{Contains}
+use Rattle.std.specs.Prelude.{◌≡◌, ◌<◌, ◌≤◌, ℕ, List}
 use Rattle.ppm_code.specs.declared.class.Class.{Class}
-use Rattle.ppm_code.specs.declared.class.May.{May}
-use Rattle.ppm_code.specs.declared.class.May.TheVariants.{Write}
 use Rattle.ppm_code.specs.declared.code.CodeParts.{CodeParts}
 use Rattle.ppm_code.specs.declared.instr.Instr.{Instr}
-use Rattle.ppm_code.specs.Paths.{may, IsConflict, HasNoConflict}
+use Rattle.ppm_code.specs.Paths.{IsConflict, HasNoConflict}
 use Rattle.ppm_code.specs.Strands.{instrs_of}
 use Rattle.ppm_war.specs.declared.conflict.Found.{Found}
 use Rattle.ppm_war.specs.declared.checked.Conflict.{Conflict}
-
--- the least number of which it holds, if there is one
-pub record IsFirst (P : ℕ → Type 0) (found : Option ℕ) : Type 0 where
-  pub none : found ≡ None → (n : ℕ) → P n → ⊥
-  pub some : (n : ℕ) → found ≡ Some n → P n
-  pub least : (n k : ℕ) → found ≡ Some n → P k → n ≤ k
-
--- one of the instructions may write the class
-abbrev pub HasWrite : List Instr → Class → Type 0
-HasWrite is c = (i : Instr) × Contains is i × (may i ≡ Write c)
-
--- a write, of whatever class
-abbrev pub IsWrite : May → Type 0
-IsWrite (Write c) = Unit {0}
-IsWrite _ = ⊥
-
--- one of the instructions may write
-abbrev pub HasAnyWrite : List Instr → Type 0
-HasAnyWrite is = (i : Instr) × Contains is i × IsWrite (may i)
-
--- the read at a place, if there is one, is in conflict with no write
-abbrev pub HasNoConflictAt : List Instr → (read : ℕ) → Type 0
-HasNoConflictAt is read = (write : ℕ) (c : Class) → IsConflict is read write c → ⊥
-
--- or it is, and with none before this one
-pub record IsFirstConflictAt (is : List Instr) (read : ℕ) (f : Found) : Type 0 where
-  pub at : f.read_at ≡ read
-  pub conflict : IsConflict is f.read_at f.write_at f.class
-  pub least_write : (write : ℕ) (c : Class) → IsConflict is f.read_at write c → f.write_at ≤ write
 
 -- a conflict of a capsule: no other has a lesser read, and none with this read a lesser write
 pub record IsFirstConflict (is : List Instr) (f : Found) : Type 0 where

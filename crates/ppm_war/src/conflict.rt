@@ -1,13 +1,18 @@
 //! The first conflict of a capsule.
-ghost use Rattle.std.specs.Prelude.{◌≡◌, ◌↔◌, ◌<◌, ◌≤◌, ◌+◌, IfSome, IsTrue, MatchOption, drop, length};
+ghost use Rattle.std.specs.Prelude.{◌≡◌, ◌↔◌, ◌<◌, ◌≤◌, ◌+◌, IsTrue, List, MatchOption, None, get_or, take, length};
+ghost use Rattle.std.specs.List.{Contains};
 ghost use Rattle.ppm_code.specs.Limits.{instr_limit};
-ghost use Rattle.ppm_code.specs.Paths.{Does, HasNoConflict, IsConflict, may};
+ghost use Rattle.ppm_code.specs.Paths.{Exposes, HasNoConflict, IsConflict, Path};
 ghost use Rattle.ppm_code.specs.declared.class.Class.{Class};
 ghost use Rattle.ppm_code.specs.declared.class.May.TheVariants.{Read, Write};
-ghost use Rattle.ppm_war.specs.Conflicts.{HasAnyWrite, HasWrite, IsFirst, IsWrite, IsFirstConflict, HasNoConflictAt, IsFirstConflictAt};
-ghost use Rattle.ppm_war.specs.Marks.{IsMarked};
+ghost use Rattle.ppm_code.specs.declared.instr.Instr.{Instr};
+ghost use Rattle.ppm_war.specs.Conflicts.{IsFirstConflict};
+ghost use Rattle.ppm_war.specs.Marks.{IsDecoded, IsMarked};
+ghost use Rattle.ppm_war.specs.Search.{Is, IsAnswer, IsFirst, IsReadBelow, LeadsToWrite, earlier as earlier_of};
 
-use crate::paths::{places_from, writes};
+use crate::firsts::first_writes;
+use crate::masks::is_free;
+use crate::paths::{decoded, places_from, writes};
 use ppm_code::{Class, Instr, May};
 
 /// A conflict of a capsule: an exposed read and a later write of one class. Places count from 0.
@@ -18,118 +23,150 @@ pub struct Found {
     pub class: Class,
 }
 
-/// Whether a place that is marked writes the class.
-fn is_write(instrs: &[Instr], marks: &[bool; 160], at: usize, class: Class) -> bool
-    requires most { length instrs.now ≤ instr_limit }
-    requires there { at < length instrs.now }
-    ensures { IsTrue result ↔ (IsMarked marks.now at × Does instrs.now at (Write class)) }
+/// Whether what an instruction may do is a read of the class.
+fn reads(may: May, class: Class) -> bool
+    ensures { IsTrue result ↔ (may ≡ Read class) }
 {
-    marks[at] && writes(instrs[at].may(), class)
-}
-
-/// Whether an instruction behind a place may write the class.
-#[tactic(auto, using(std::proofs::lemmas::List::take_rest))]
-fn is_written_behind(instrs: &[Instr], place: usize, class: Class) -> bool
-    requires { place < length instrs.now }
-    ensures { IsTrue result ↔ HasWrite (drop (place + 1) instrs.now) class }
-{
-    instrs[place + 1..]
-        .iter()
-        .any(|instr| writes(instr.may(), class))
-}
-
-/// The first write that is in conflict with a read of the class at a place. No path is followed where no
-/// instruction behind the read may write the class.
-fn write_after(instrs: &[Instr], read_at: usize, class: Class) -> Option<usize>
-    requires most { length instrs.now ≤ instr_limit }
-    requires reads { Does instrs.now read_at (Read class) }
-    ensures first { IsFirst (λ write. IsConflict instrs.now read_at write class) result }
-    ensures bound { IfSome result (λ write. write < length instrs.now) }
-{
-    if !is_written_behind(instrs, read_at, class) {
-        return None;
+    match may {
+        May::Read(read) => read == class,
+        May::Work | May::Write(_) | May::Branch(_) | May::Stop => false,
     }
-    let before = places_from(instrs, 0, Some(class));
+}
+
+/// Whether an instruction of a capsule may write the class.
+fn is_written(mays: &[May], class: Class) -> bool
+    ensures { IsTrue result ↔ Contains mays.now (Write class) }
+{
+    mays.iter().any(|may| writes(*may, class))
+}
+
+/// Whether an instruction in front of a place may read the class.
+fn is_read_before(mays: &[May], place: usize, class: Class) -> bool
+    requires { place < length mays.now }
+    ensures { IsTrue result ↔ Contains (take place mays.now) (Read class) }
+{
+    mays[..place].iter().any(|may| reads(*may, class))
+}
+
+/// The first write that is in conflict with a read of the class at a place, by whether the read is
+/// exposed, and by the first write to which each place leads.
+fn write_after(
+    mays: &[May],
+    before: &[bool; 160],
+    firsts: &[Option<u32>; 161],
+    read_at: usize,
+    class: Class,
+) -> Option<u32>
+    requires most { length mays.now ≤ instr_limit }
+    requires there { read_at < length mays.now }
+    ensures { (is : List Instr) → IsDecoded is mays.now
+        → (IsMarked before.now read_at ↔ Path is (Exposes class) 0 read_at)
+        → IsFirst (LeadsToWrite is class (read_at + 1)) (get_or firsts.now (read_at + 1) None)
+        → IsFirst (λ write. IsConflict is read_at write class) result }
+{
     if !before[read_at] {
         return None;
     }
-    let after = places_from(instrs, read_at + 1, None);
-    let mut write_at = read_at + 1;
-    while write_at < instrs.len() {
-        if is_write(instrs, &after, write_at, class) {
-            return Some(write_at);
+    if !reads(mays[read_at], class) {
+        return None;
+    }
+    firsts[read_at + 1]
+}
+
+/// The first conflict of the class, by what the instructions of a capsule may do.
+fn conflict_of(mays: &[May], class: Class) -> Option<Found>
+    requires { length mays.now ≤ instr_limit }
+    ensures { (is : List Instr) → IsDecoded is mays.now → IsAnswer (Is class) is result }
+{
+    if !is_written(mays, class) {
+        return None;
+    }
+    let before = places_from(mays, 0, Some(class));
+    let firsts = first_writes(mays, class);
+    let mut read_at = 0;
+    while read_at < mays.len() {
+        if let Some(write_at) = write_after(mays, &before, &firsts, read_at, class) {
+            return Some(Found {
+                read_at: read_at as u32,
+                write_at,
+                class,
+            });
         }
-        write_at += 1;
+        read_at += 1;
     }
     None
 }
 
 /// The class that an instruction may read.
-fn class_read(instr: &Instr) -> Option<Class>
-    ensures { MatchOption result
-        ((class : Class) → may instr.now ≡ Read class → ⊥)
-        (λ class. may instr.now ≡ Read class) }
-{
-    match instr.may() {
-        May::Read(class) => Some(class),
-        May::Work => None,
-        May::Write(_) => None,
-        May::Branch(_) => None,
-        May::Stop => None,
-    }
-}
-
-/// The first conflict of the read at a place, if a read is there.
-fn conflict_at(instrs: &[Instr], read_at: usize) -> Option<Found>
-    requires most { length instrs.now ≤ instr_limit }
-    requires there { read_at < length instrs.now }
-    ensures { MatchOption result (HasNoConflictAt instrs.now read_at) (IsFirstConflictAt instrs.now read_at) }
-{
-    match class_read(&instrs[read_at]) {
-        Some(class) => match write_after(instrs, read_at, class) {
-            Some(write_at) => Some(Found {
-                read_at: read_at as u32,
-                write_at: write_at as u32,
-                class,
-            }),
-            None => None,
-        },
-        None => None,
-    }
-}
-
-/// Whether what an instruction may do is a write.
-fn is_any_write(may: May) -> bool
-    ensures { IsTrue result ↔ IsWrite may }
+pub(crate) fn class_read(may: May) -> Option<Class>
+    ensures { MatchOption result ((class : Class) → may ≡ Read class → ⊥) (λ class. may ≡ Read class) }
 {
     match may {
-        May::Write(_) => true,
-        May::Work | May::Read(_) | May::Branch(_) | May::Stop => false,
+        May::Read(class) => Some(class),
+        May::Work | May::Write(_) | May::Branch(_) | May::Stop => None,
     }
 }
 
-/// Whether an instruction of a capsule may write.
-fn has_write(instrs: &[Instr]) -> bool
-    ensures { IsTrue result ↔ HasAnyWrite instrs.now }
+/// That of two conflicts with the lesser read.
+fn earlier(a: Option<Found>, b: Option<Found>) -> Option<Found>
+    ensures { result ≡ earlier_of a b }
 {
-    instrs.iter().any(|instr| is_any_write(instr.may()))
+    match (a, b) {
+        (Some(a), Some(b)) => {
+            if b.read_at < a.read_at {
+                Some(b)
+            } else {
+                Some(a)
+            }
+        }
+        (Some(a), None) => Some(a),
+        (None, b) => b,
+    }
+}
+
+/// The first conflict of the classes that are read up to a place, by that of those below it. A class is
+/// searched where it is read for the first time.
+fn with_class_at(mays: &[May], found: Option<Found>, place: usize) -> Option<Found>
+    requires most { length mays.now ≤ instr_limit }
+    requires there { place < length mays.now }
+    ensures { (is : List Instr) → IsDecoded is mays.now
+        → IsAnswer (IsReadBelow is place) is found → IsAnswer (IsReadBelow is (place + 1)) is result }
+{
+    match class_read(mays[place]) {
+        Some(class) => {
+            if is_read_before(mays, place, class) {
+                return found;
+            }
+            earlier(found, conflict_of(mays, class))
+        }
+        None => found,
+    }
+}
+
+/// The conflict with the least read, and then the least write, by what the instructions may do.
+fn first_conflict(mays: &[May]) -> Option<Found>
+    requires { length mays.now ≤ instr_limit }
+    ensures { (is : List Instr) → IsDecoded is mays.now
+        → MatchOption result (HasNoConflict is) (IsFirstConflict is) }
+{
+    if is_free(mays) {
+        return None;
+    }
+    let mut found = None;
+    let mut place = 0;
+    while place < mays.len() {
+        found = with_class_at(mays, found, place);
+        place += 1;
+    }
+    found
 }
 
 /// The conflict of a capsule with the least read, and then the least write; `None` exactly where no path
-/// has one. In time that grows with the square of its instructions.
+/// has one. Two passes over the capsule tell most that have none, and each class that is read takes two more.
 pub fn conflict_in(instrs: &[Instr]) -> Option<Found>
     requires { length instrs.now ≤ instr_limit }
     ensures { MatchOption result (HasNoConflict instrs.now) (IsFirstConflict instrs.now) }
 {
-    if !has_write(instrs) {
-        return None;
-    }
-    let mut read_at = 0;
-    while read_at < instrs.len() {
-        if let Some(found) = conflict_at(instrs, read_at) {
-            return Some(found);
-        }
-        read_at += 1;
-    }
-    None
+    let mays = decoded(instrs);
+    first_conflict(&mays[..instrs.len()])
 }

@@ -7,7 +7,9 @@
 
 mod checked;
 mod conflict;
+mod firsts;
 mod laws;
+mod masks;
 mod paths;
 #[cfg(test)]
 mod tests;

@@ -1,9 +1,10 @@
 //! The places of a capsule that paths come to.
-ghost use Rattle.std.specs.Prelude.{◌≡◌, ◌↔◌, ◌⊎◌, ◌<◌, ◌≤◌, ℕ, IsTrue, length};
+ghost use Rattle.std.specs.Prelude.{◌≡◌, ◌↔◌, ◌⊎◌, ◌<◌, ◌≤◌, ℕ, IsTrue, List, None, length, take};
 ghost use Rattle.ppm_code.specs.Limits.{instr_limit};
-ghost use Rattle.ppm_code.specs.Paths.{GoesTo, Path, may};
+ghost use Rattle.ppm_code.specs.Paths.{GoesTo, Path};
 ghost use Rattle.ppm_code.specs.declared.class.May.TheVariants.{Write};
-ghost use Rattle.ppm_war.specs.Marks.{Allows, GoesOnTo, IsMarked};
+ghost use Rattle.ppm_code.specs.declared.instr.Instr.{Instr};
+ghost use Rattle.ppm_war.specs.Marks.{Allows, GoesOnTo, IsDecoded, IsMarked};
 
 use ppm_code::{Class, Instr, May};
 
@@ -57,31 +58,53 @@ fn go_on(marks: &mut [bool; 160], may: May, at: usize)
     }
 }
 
-/// Passes the instruction at a place, if the place is marked and the instruction allowed.
-fn pass(marks: &mut [bool; 160], instr: &Instr, at: usize, class: Option<Class>)
+/// Passes an instruction at a place, if the place is marked and the instruction allowed.
+fn pass(marks: &mut [bool; 160], may: May, at: usize, class: Option<Class>)
     requires { at < instr_limit }
     ensures { (to : ℕ) → to < instr_limit
-        → IsMarked marks.new to ↔ (IsMarked marks.old to ⊎ GoesOnTo marks.old class (may instr.now) at to) }
+        → IsMarked marks.new to ↔ (IsMarked marks.old to ⊎ GoesOnTo marks.old class may at to) }
 {
-    if marks[at] {
-        let may = instr.may();
-        if allows(class, may) {
-            go_on(marks, may, at);
-        }
+    if marks[at] && allows(class, may) {
+        go_on(marks, may, at);
     }
 }
 
-/// The places of a capsule that a path comes to from one of them, past instructions that are allowed.
-pub(crate) fn places_from(instrs: &[Instr], from: usize, class: Option<Class>) -> [bool; 160]
+/// What each instruction of a capsule may do.
+pub(crate) fn decoded(instrs: &[Instr]) -> [May; 160]
     requires { length instrs.now ≤ instr_limit }
-    ensures { (to : ℕ) → to < length instrs.now → IsMarked result to ↔ Path instrs.now (Allows class) from to }
+    ensures { IsDecoded instrs.now (take (length instrs.now) result) }
+{
+    let mut mays = [May::Stop; 160];
+    let mut at = 0;
+    while at < instrs.len() {
+        mays[at] = instrs[at].may();
+        at += 1;
+    }
+    mays
+}
+
+/// The places that a path comes to from one of them, past instructions that are allowed, by what the
+/// instructions may do.
+pub(crate) fn places_from(mays: &[May], from: usize, class: Option<Class>) -> [bool; 160]
+    requires { length mays.now ≤ instr_limit }
+    ensures { (is : List Instr) (to : ℕ) → IsDecoded is mays.now → to < length is
+        → IsMarked result to ↔ Path is (Allows class) from to }
 {
     let mut marks = [false; 160];
     mark(&mut marks, from);
     let mut at = from;
-    while at < instrs.len() {
-        pass(&mut marks, &instrs[at], at, class);
+    while at < mays.len() {
+        pass(&mut marks, mays[at], at, class);
         at += 1;
     }
     marks
+}
+
+/// The places of a capsule that any path comes to from one of them.
+pub(crate) fn all_places_from(instrs: &[Instr], from: usize) -> [bool; 160]
+    requires { length instrs.now ≤ instr_limit }
+    ensures { (to : ℕ) → to < length instrs.now → IsMarked result to ↔ Path instrs.now (Allows None) from to }
+{
+    let mays = decoded(instrs);
+    places_from(&mays[..instrs.len()], from, None)
 }

@@ -54,6 +54,9 @@ fn the_first_conflict_is_found(rt: HostRuntime) -> Result<(), Fail> {
         ),
         ([load, branch, end, store, end], found(0, 3, Class::Slot(3))),
         ([load, end, store, end, end], None),
+        ([branch, load, end, store, end], None),
+        ([load, get, put, store, end], found(0, 3, Class::Slot(3))),
+        ([get, load, store, put, end], found(0, 3, Class::Array)),
     ];
     for (instrs, want) in cases {
         assert_eq!(rt; conflict_in(&instrs), want, "of {instrs:?}");

@@ -8,7 +8,7 @@ ghost use Rattle.ppm_war.specs.Stores.{HasBuilder, IsTidyAt, IsTidyIn, IsWithinF
 ghost use Rattle.ppm_war.specs.Marks.{IsMarked};
 ghost use Rattle.ppm_code.specs.Paths.{Any, Path};
 
-use crate::paths::places_from;
+use crate::paths::all_places_from;
 use ppm_code::{Code, End, Instr};
 
 /// The slots of a procedure's frames; none where there is no such procedure.
@@ -151,7 +151,7 @@ fn leads_to_build(code: &Code, instrs: &[Instr], from: usize, word: u32) -> bool
     requires { length instrs.now ≤ instr_limit }
     ensures { IsTrue result ↔ LeadsToBuild code.now instrs.now from word }
 {
-    let marks = places_from(instrs, from, None);
+    let marks = all_places_from(instrs, from);
     let mut at = 0;
     while at < instrs.len() {
         if !is_clear(code, &marks, at, &instrs[at], word) {
@@ -168,7 +168,7 @@ fn is_reached(instrs: &[Instr], at: usize) -> bool
     requires there { at < length instrs.now }
     ensures { IsTrue result ↔ Path instrs.now Any 0 at }
 {
-    places_from(instrs, 0, None)[at]
+    all_places_from(instrs, 0)[at]
 }
 
 /// Whether a store of the word at a place is tidy.

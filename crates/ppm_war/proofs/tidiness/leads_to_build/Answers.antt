@@ -12,7 +12,7 @@ returns-then-not-is_clear c =
     let one = slice_get_read is (length is) c.loop-at.at c.index-instrs-at.result refl c.loop-at-test.true c.index-instrs-at.is in (
       λ f. cc,
       λ all. absurd (is_false c.is_clear.result c.if-not-is_clear.true (c.is_clear.ensures.1 (λ marked.
-          all c.loop-at.at c.index-instrs-at.result ((c.places_from-marks.ensures c.loop-at.at c.loop-at-test.true).0 marked) one))),
+          all c.loop-at.at c.index-instrs-at.result ((c.all_places_from-marks.ensures c.loop-at.at c.loop-at-test.true).0 marked) one))),
     )
 
 -- this instruction may follow, if a path comes to it
@@ -22,7 +22,7 @@ loop-at-preserved c =
     let one = slice_get_read is (length is) c.loop-at.at c.index-instrs-at.result refl c.loop-at-test.true c.index-instrs-at.is in
     and_here (FollowsAt c.args.code.now is c.args.from c.args.word) c.loop-at.at c.loop-at.invariant
     (follows_one c.args.code.now is c.args.from c.args.word c.loop-at.at c.index-instrs-at.result one (λ p.
-    c.is_clear.ensures.0 c.if-not-is_clear.false ((c.places_from-marks.ensures c.loop-at.at c.loop-at-test.true).1 p)))
+    c.is_clear.ensures.0 c.if-not-is_clear.false ((c.all_places_from-marks.ensures c.loop-at.at c.loop-at-test.true).1 p)))
 
 -- all were met
 pub returns : goal.returns
