@@ -130,6 +130,14 @@ fn accepted_capsules_may_be_stopped(rt: HostRuntime) -> Result<(), Fail> {
         "loadslot r1 0\nloadslot r2 1\nget r0 r1 r2 1\nadd r0 r0 r0 1\nstorecur 2 r0\ngive r0\nend\n",
         "room 10\nloadslot r0 3\nstorenew 6 r0\nstorenew 7 r0\ncall 0 0\n",
         "loadslot r0 2\nloadslot r1 0\nput r1 r0 r0 1\nend\n",
+        "put r1 r2 r0 1\nget r0 r1 r2 1\nend\n",
+        "add r0 r0 r0 1\nend\n",
+        "storecur 3 r0\nend\n",
+        "give r63\nend\n",
+        "branchnz r0 1\nend\n",
+        "room 5\nstorenew 4 r0\nend\n",
+        "trap 4 1\n",
+        "next 0\n",
     ];
     for lines in cases {
         let got = judged(rt.alloc(), lines)?;
