@@ -106,22 +106,7 @@ fn is_checked(rt: &impl Abort, alloc: Global, listing: &str, answer: &str) -> Re
     Ok(())
 }
 
-/// `front`, then so many times `item`, then `back`.
-fn repeated(
-    alloc: Global,
-    front: &str,
-    item: &str,
-    times: usize,
-    back: &str,
-) -> Result<String, Fail> {
-    let mut text = String::from_str(alloc, front)?;
-    for _ in 0..times {
-        text.push_str(item)?;
-    }
-    text.push_str(back)?;
-    Ok(text)
-}
-
+/// A sink whose calls fail as given.
 fn sink(alloc: Global, most: usize, failing: &[u64]) -> Result<MemorySink, Fail>
     requires { 0 < most }
 {
