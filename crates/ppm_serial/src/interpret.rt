@@ -47,16 +47,14 @@ pub(crate) fn outcome(alloc: Global, tree: &Tree, turns: u64) -> Result<Outcome,
 fn input<'a>(inputs: &'a [ArrayInput], name: &Name) -> &'a [i64]
     ensures { result.now ≡ input_of inputs.now name.now }
 {
-    match inputs {
-        [] => &[],
-        [first, rest @ ..] => {
-            if same(&first.name.name, name) {
-                first.values.as_slice()
-            } else {
-                input(rest, name)
-            }
+    let mut left = inputs;
+    while let [first, rest @ ..] = left {
+        if same(&first.name.name, name) {
+            return first.values.as_slice();
         }
+        left = rest;
     }
+    &[]
 }
 
 /// An array as it starts: the input's values in front, then 0 in each word.
