@@ -1,4 +1,4 @@
--- A text has one answer, and past the limit it is that of its front.
+-- A text has one answer at most, and past the limit it is that of its front.
 use Rattle.std.specs.Prelude.{◌≡◌, ℕ, ◌<◌, List, ◌++◌, length}
 use Rattle.ppm_text.specs.Limits.{text_limit}
 use Rattle.ppm_answers.specs.declared.answer.Answer.{Answer}

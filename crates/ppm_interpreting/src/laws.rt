@@ -1,10 +1,10 @@
-//! That a text has one answer, shown by a call that does nothing.
+//! That a text has one answer at most, shown by a call that does nothing.
 ghost use Rattle.ppm_interpreting.specs.Correct.{HaveOneAnswer};
 
 use ppm_judging::have_one_answer as have_one_program;
 use ppm_tree::spend_their_turns;
 
-/// A text has one answer within a number of turns; and one that is too long is refused as its front is.
+/// A text has one answer at most within a number of turns; and one that is too long is refused as its front is.
 pub fn have_one_answer()
     ensures law { HaveOneAnswer }
 {

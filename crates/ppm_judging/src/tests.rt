@@ -1,6 +1,8 @@
 //! Texts of the whole language, and why they are refused.
-use crate::{JudgeError, program_of};
+use crate::{JudgeError, have_one_answer, program_of};
 use ppm_answers::{Pass, Refusal};
+use ppm_regions::keep_rules;
+use ppm_rows::{has_one_row, trees_are_within};
 use std::alloc::Global;
 use std::test::Fail;
 
@@ -329,4 +331,12 @@ fn texts_are_answered(rt: HostRuntime) -> Result<(), Fail> {
         assert_eq!(rt; answer(rt.alloc(), text)?, expected, "{text}");
     }
     Ok(())
+}
+
+#[test]
+fn laws_are_called(_rt: HostRuntime) {
+    has_one_row();
+    trees_are_within();
+    keep_rules();
+    have_one_answer();
 }

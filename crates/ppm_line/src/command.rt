@@ -2,7 +2,8 @@
 ghost use Rattle.std.specs.Prelude.{◌≡◌, ◌≤◌, IfSome};
 ghost use Rattle.clap.specs.Words.{found_of, rows_of, subcommand_rows_of};
 ghost use Rattle.ppm_line.specs.Application.{option_rule};
-ghost use Rattle.ppm_line.specs.Words.{IsInRange, command_in, command_named as named_by, kept_in as kept, number_given, run_options as options_in, serial_options as serial_options_in};
+ghost use Rattle.ppm_line.specs.Words.{IsInRange, command_in, command_named as named_by, kept_in as kept, number_given};
+ghost use Rattle.ppm_line.specs.Words.{run_options as options_in, serial_options as serial_options_in};
 
 use crate::table::{NumberOption, PROCESSORS, TURNS};
 use clap::ArgMatches;

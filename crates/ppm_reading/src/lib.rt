@@ -2,7 +2,7 @@
 //! Model: a text is a list of lines, each of a form or of none; a fault is a rule that one line breaks at its place
 //! by what the whole text declares (`specs/Forms`, `specs/Places`, `specs/Faults`).
 //! Contract: `read_listing` answers the code whose listing the text is, or its first fault (`specs/Correct`).
-//! Stands on `ppm_listing`; the command that checks codes is to stand on it.
+//! Stands on `ppm_listing`; `ppm_checking` calls it.
 //! After the input of an assembler, one line an instruction; the forms and faults are this project's.
 #![tactic(auto)]
 

@@ -2,7 +2,7 @@
 //! Model: registers, two slots and the words of all arrays (`specs/Machine`); a code is a list of capsules (`specs/Code`).
 //! Contract: an outcome is the serial meaning's, and a refusal names the first statement that isn't compiled yet, where
 //! there is one (`specs/Correct`, `specs/Straight`).
-//! Stands on `ppm_regions`, `ppm_tree` and `ppm_words`; the command `run` is to stand on it.
+//! Stands on `ppm_regions`, `ppm_tree` and `ppm_words`; `ppm_running` calls it.
 //! The machine and its capsules are after Blelloch, Gibbons, Gu, McGuffey and Shun, SPAA 2018.
 #![tactic(auto)]
 

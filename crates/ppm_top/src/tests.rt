@@ -22,6 +22,9 @@ const ROOM: usize = 300_000;
 /// Words that ask for a run.
 const RUN: &[&str] = &["ppm", "run"];
 
+/// Words that ask for the serial meaning.
+const SERIAL: &[&str] = &["ppm", "serial"];
+
 /// Words that ask for a check.
 const CHECK: &[&str] = &["ppm", "check"];
 
@@ -147,7 +150,7 @@ fn commands_are_obeyed(rt: HostRuntime) -> Result<(), Fail> {
             "source refused: not compiled yet line 1\n",
             Status::SourceRefused,
         ),
-        (&["ppm", "serial"], FIRST, "a 5 7\n", "", Status::Ended),
+        (SERIAL, FIRST, "a 5 7\n", "", Status::Ended),
         (
             &["ppm", "serial", "--turns", "13"],
             LOOP,
@@ -348,6 +351,36 @@ fn a_write_that_fails_makes_status_8(rt: HostRuntime) -> Result<(), Fail> {
         assert_eq!(rt; got.status, Status::WriteFault, "{text}");
         assert_eq!(rt; got.err.as_slice(), front.as_bytes(), "{text}");
         assert_eq!(rt; got.out.as_slice(), b"".as_slice(), "{text}");
+    }
+    Ok(())
+}
+
+#[test]
+fn long_texts_and_bytes_past_ascii_are_refused(rt: HostRuntime) -> Result<(), Fail> {
+    let alloc = rt.alloc();
+    let blanks = vec![in alloc; b' '; 1_048_577]?;
+    let mut arrays = Vec::new(alloc);
+    for number in 0..65 {
+        let line = format!(in alloc; "array b{number:02}[1];\n")?;
+        arrays.extend_from_slice(line.as_bytes())?;
+    }
+    for words in [RUN, SERIAL] {
+        let got = ppm_over_memory(alloc, &blanks, words, 1_048_576, NONE)?;
+        assert_eq!(rt;
+            got.err.as_slice(),
+            b"source refused: text 5 at 1048576\n".as_slice()
+        );
+        let got = ppm_over_memory(alloc, b"x\xc8", words, 4096, NONE)?;
+        assert_eq!(rt;
+            got.err.as_slice(),
+            b"source refused: text 1 at 1\n".as_slice()
+        );
+        let got = ppm_over_memory(alloc, &arrays, words, 4096, NONE)?;
+        assert_eq!(rt;
+            got.err.as_slice(),
+            b"source refused: syntax 4 at 896\n".as_slice()
+        );
+        assert_eq!(rt; got.status, Status::SourceRefused);
     }
     Ok(())
 }

@@ -228,7 +228,7 @@ pub(crate) const PROGRAMS: [(u64, &str, Status, &str); 51] = [
         Status::Ended,
         "a 20\n",
     ),
-    // The values of a fork, each in its target, or in none; the right branch sees what the left one wrote to an array.
+    // The values of a fork, each in its target, or in none.
     (
         TURNS,
         "array a[1]; proc f(int n) { give n; } proc main(mut a) { let x = 0; let y = 0; fork x = f(1) and y = f(2); a[0] = x * 10 + y; }",
