@@ -111,7 +111,8 @@ module _ (f : Frame) (a : Arrays) where
                 found = d.found;
                 region = d.region;
                 shown = d.shown;
-                written = λ m n. d.written m;
+                written = λ m. (d.written m).0;
+                inner = λ m n. (d.written m).1;
                 part = subst (λ (q : Region). IsPart q (f.regions x.0.name)) (sym at) (part_of_itself (f.regions x.0.name));
               };
               named = refl;

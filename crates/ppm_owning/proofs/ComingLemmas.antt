@@ -16,7 +16,7 @@ use Rattle.ppm_owning.specs.Words.{ShareNoWord, IsPart}
 use Rattle.ppm_owning.specs.Owning.{IsSeen, OwnsApart, LieInArrays, OwnsNoMore, AreSeparate}
 use Rattle.ppm_owning.specs.Coming.{scope_of, callee, split_scope, each_scope, split_frame, each_frame, part_frame, ComesTo}
 use Rattle.ppm_owning.specs.Coming.{Main, Behind, InHolds, InElse, InWhile, InSplit, InEach, InCall, InLeft, InRight}
-use Rattle.ppm_owning.proofs.ScopeLemmas.{seen_before, writable_before, owned_before, written_before}
+use Rattle.ppm_owning.proofs.ScopeLemmas.{seen_before, mut_before, owned_before, written_before}
 use Rattle.ppm_owning.proofs.SiteLemmas.{AreSites, sites_left, sites_right, AreMade, made_left, made_right, made_head, uses_first, sites_inside}
 use Rattle.ppm_owning.proofs.SiteLemmas.{sites_behind, callee_sites, sites_of_body, AreNew, are_new}
 use Rattle.ppm_owning.proofs.PartLemmas.{ComesFrom, lie_still, owns_no_more, owns_on, owns_itself, element_in, elements_share_none, share_none_back}
@@ -66,7 +66,7 @@ module _ (t : ProgramTree) (rules : KeepsRules t) (admitted : IsAdmitted t) wher
   behind scope s b f f' same h = record {
     sites = sites_behind t scope s b h.sites;
     apart = subst (λ (r : Regions). OwnsApart (scope ++ lets_of s) r) (sym same)
-        (record { apart = λ x y m n other. h.apart.apart x y (writable_before scope s x m) (seen_before scope s y n) other });
+        (record { apart = λ x y m n other. h.apart.apart x y (mut_before scope s x m) (seen_before scope s y n) other });
     within = subst (λ (r : Regions). LieInArrays t.arrays (scope ++ lets_of s) r) (sym same)
         (record { within = λ x m. h.within.within x (seen_before scope s x m) });
   }

@@ -61,7 +61,7 @@ module _ (t : ProgramTree) (scope : Scope) (f : Frame) (a : Arrays) where
     lent_apart none own = record {
       apart = λ z v m k other.
           let b = h.beside none z v m.declaration k.declaration m.found k.found (mut_is_region m.written) k.region other in
-          apart_by_origin own b.first.origin b.second.origin m.written m.inner
+          apart_by_origin own b.first.origin b.second.origin m.written
           (λ e. b.no_clash (record { same = sym b.first.named ∙ (e ∙ b.second.named); written = inl (b.first.same_mode ∙ m.written) }));
     }
 
@@ -75,14 +75,14 @@ module _ (t : ProgramTree) (scope : Scope) (f : Frame) (a : Arrays) where
           let p = l.lent m.name w.declaration w.found (mut_is_region w.written) in
           let q = r.lent o.name o.seen.declaration o.seen.found o.seen.region in
           let clash = no_clash_between (lendings_of ps args) (lendings_of ps' args') none p.lending q.lending p.among q.among in
-          (apart_by_origin own p.origin q.origin w.written w.inner
+          (apart_by_origin own p.origin q.origin w.written
           (λ e. clash (record { same = sym q.named ∙ (sym e ∙ p.named); written = inr (p.same_mode ∙ w.written) }))).none k i m.has o.has;
       right = λ k i o m.
           let w = m.writable in
           let p = l.lent o.name o.seen.declaration o.seen.found o.seen.region in
           let q = r.lent m.name w.declaration w.found (mut_is_region w.written) in
           let clash = no_clash_between (lendings_of ps args) (lendings_of ps' args') none p.lending q.lending p.among q.among in
-          (apart_by_origin own q.origin p.origin w.written w.inner
+          (apart_by_origin own q.origin p.origin w.written
           (λ e. clash (record { same = sym q.named ∙ (e ∙ p.named); written = inl (q.same_mode ∙ w.written) }))).none k i m.has o.has;
     }
 

@@ -5,7 +5,7 @@ use Rattle.ppm_tree.specs.declared.tree.Array.{Array}
 use Rattle.ppm_tree.specs.State.{Region, Regions, first_part, second_part, part_at}
 use Rattle.ppm_regions.specs.Scope.{Declaration, Scope, declared, is_region}
 use Rattle.ppm_owning.specs.Words.{HasWord, ShareNoWord, IsPart}
-use Rattle.ppm_owning.specs.Owning.{IsSeen, IsWritable, OwnsApart, words_at, LieInArrays, OwnsNoMore}
+use Rattle.ppm_owning.specs.Owning.{IsSeen, IsMut, IsWritable, OwnsApart, words_at, LieInArrays, OwnsNoMore}
 use Rattle.ppm_owning.specs.Coming.{stretch}
 use Rattle.ppm_owning.proofs.ScopeLemmas.{writable_seen}
 
@@ -45,33 +45,37 @@ halves_share_none r n = record { none = λ a i p q. absurd (omega (arith, p.belo
 pub elements_share_none : (r : Region) (k l : ℕ) → k ≢ l → ShareNoWord (part_at k r) (part_at l r)
 elements_share_none r k l h = record { none = λ a i p q. h (omega (arith, p.from, p.below, q.from, q.below)) }
 
--- Where a region comes from, that is declared so: it is a part of one that may be used, and may be written where it may.
+-- Where a region comes from, that is declared so: it is a part of one that may be used, `mut` where it is, and may be written where it may.
 pub record Origin (scope : Scope) (regions : Regions) (e : Declaration) (r : Region) : Type 0 where
   pub name : List ℕ
   pub declaration : Declaration
   pub found : declared scope name ≡ Some declaration
   pub region : is_region declaration.mode ≡ true
   pub shown : declaration.hidden ≡ false
-  pub written : e.mode ≡ mode.Mut → e.outer ≡ false → (declaration.mode ≡ mode.Mut) × (declaration.outer ≡ false)
+  pub written : e.mode ≡ mode.Mut → declaration.mode ≡ mode.Mut
+  pub inner : e.mode ≡ mode.Mut → e.outer ≡ false → declaration.outer ≡ false
   pub part : IsPart r (regions name)
 
 module _ {scope : Scope} {regions : Regions} {e : Declaration} {r : Region} where
   pub origin_seen : (o : Origin scope regions e r) → IsSeen scope o.name
   origin_seen o = record { declaration = o.declaration; found = o.found; region = o.region; shown = o.shown }
 
+  pub origin_mut : (o : Origin scope regions e r) → e.mode ≡ mode.Mut → IsMut scope o.name
+  origin_mut o m = record { declaration = o.declaration; found = o.found; written = o.written m; shown = o.shown }
+
   pub origin_writable : (o : Origin scope regions e r) → e.mode ≡ mode.Mut → e.outer ≡ false → IsWritable scope o.name
   origin_writable o m n = record {
     declaration = o.declaration;
     found = o.found;
-    written = (o.written m n).0;
+    written = o.written m;
     shown = o.shown;
-    inner = (o.written m n).1;
+    inner = o.inner m n;
   }
 
--- of two regions from others of two names, one of which may be written, no word is shared
+-- of two regions from others of two names, one of which is `mut`, no word is shared
 pub apart_by_origin : {scope : Scope} {regions : Regions} {d e : Declaration} {r s : Region} → OwnsApart scope regions
-    → (o : Origin scope regions d r) (p : Origin scope regions e s) → d.mode ≡ mode.Mut → d.outer ≡ false → o.name ≢ p.name → ShareNoWord r s
-apart_by_origin h o p m n other = parts_share_none o.part p.part (h.apart o.name p.name (origin_writable o m n) (origin_seen p) other)
+    → (o : Origin scope regions d r) (p : Origin scope regions e s) → d.mode ≡ mode.Mut → o.name ≢ p.name → ShareNoWord r s
+apart_by_origin h o p m other = parts_share_none o.part p.part (h.apart o.name p.name (origin_mut o m) (origin_seen p) other)
 
 -- frames whose regions all come from those of another
 pub record ComesFrom (inner : Scope) (parts : Regions) (scope : Scope) (regions : Regions) : Type 0 where

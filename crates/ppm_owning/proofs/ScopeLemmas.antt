@@ -8,7 +8,7 @@ use Rattle.ppm_tree.specs.declared.mode.Mode.TheVariants as mode
 use Rattle.ppm_tree.specs.Tree.{Statement, Let, Assign, Put, If, While, Split, Each}
 use Rattle.ppm_tree.specs.Tree as tree
 use Rattle.ppm_regions.specs.Scope.{Declaration, Scope, declared, is_region, lets_of, plain}
-use Rattle.ppm_owning.specs.Owning.{IsSeen, IsWritable, Owns, MayWrite}
+use Rattle.ppm_owning.specs.Owning.{IsSeen, IsMut, IsWritable, Owns, MayWrite}
 use Rattle.ppm_tree.specs.State.{Regions}
 
 pub names_same : (x y : List ℕ) → x ≡ y → bytes_eq x y ≡ true
@@ -114,6 +114,14 @@ mut_is_region e = ap is_region e
 pub seen_before : (scope : Scope) (s : Statement) (x : List ℕ) → IsSeen (scope ++ lets_of s) x → IsSeen scope x
 seen_before scope s x h =
     record { declaration = h.declaration; found = found_before scope s x h.declaration h.found h.region; region = h.region; shown = h.shown }
+
+pub mut_before : (scope : Scope) (s : Statement) (x : List ℕ) → IsMut (scope ++ lets_of s) x → IsMut scope x
+mut_before scope s x h = record {
+  declaration = h.declaration;
+  found = found_before scope s x h.declaration h.found (mut_is_region h.written);
+  written = h.written;
+  shown = h.shown;
+}
 
 pub writable_before : (scope : Scope) (s : Statement) (x : List ℕ) → IsWritable (scope ++ lets_of s) x → IsWritable scope x
 writable_before scope s x h = record {

@@ -7,7 +7,7 @@ use Rattle.ppm_tree.specs.State.{Region, Regions, Frame, first_part, second_part
 use Rattle.ppm_regions.specs.Scope.{Declaration, Scope, declared, is_region, part_mode, is_outer, part, seen_in_split, seen_in_each, in_split, in_each}
 use Rattle.ppm_regions.specs.Scope.{parts_of, element_of, index_of}
 use Rattle.ppm_owning.specs.Words.{HasWord, ShareNoWord, IsPart}
-use Rattle.ppm_owning.specs.Owning.{IsSeen, IsWritable, OwnsApart, Owns, MayWrite}
+use Rattle.ppm_owning.specs.Owning.{IsSeen, IsMut, OwnsApart, Owns, MayWrite}
 use Rattle.ppm_owning.specs.Coming.{split_scope, each_scope, split_frame, part_frame}
 use Rattle.ppm_owning.proofs.ScopeLemmas.{names_same, same_names, names_other, other_names, found_cases, none_and_some, some_same}
 use Rattle.ppm_owning.proofs.ScopeLemmas.{declared_in_front, declared_behind, declared_name, declared_map, image_of, mut_is_region}
@@ -42,10 +42,8 @@ module _ (scope : Scope) (r : Named) (whole : IsSeen scope r.name) where
     found = whole.found;
     region = whole.region;
     shown = whole.shown;
-    written = λ m n. (
-      sym (mode_of_part (declared scope r.name) whole.declaration whole.found whole.region) ∙ (ap (λ (e : Declaration). e.mode) is ∙ m),
-      sym (outer_of_part (declared scope r.name) whole.declaration whole.found) ∙ (ap (λ (e : Declaration). e.outer) is ∙ n),
-    );
+    written = λ m. sym (mode_of_part (declared scope r.name) whole.declaration whole.found whole.region) ∙ (ap (λ (e : Declaration). e.mode) is ∙ m);
+    inner = λ m n. sym (outer_of_part (declared scope r.name) whole.declaration whole.found) ∙ (ap (λ (e : Declaration). e.outer) is ∙ n);
     part = p;
   }
 
@@ -114,7 +112,8 @@ module _ (scope : Scope) (r : Named) (whole : IsSeen scope r.name) where
       found = found;
       region = subst (λ (e : Declaration). is_region e.mode ≡ true) (sym same) region;
       shown = or_left d.hidden (bytes_eq d.name.name r.name) (subst (λ (e : Declaration). e.hidden ≡ false) (sym same) shown);
-      written = λ m n. (subst (λ (e : Declaration). e.mode ≡ mode.Mut) (sym same) m, subst (λ (e : Declaration). e.outer ≡ false) (sym same) n);
+      written = λ m. subst (λ (e : Declaration). e.mode ≡ mode.Mut) (sym same) m;
+      inner = λ m n. subst (λ (e : Declaration). e.outer ≡ false) (sym same) n;
       part = subst (λ (q : Region). IsPart q (f.regions z)) (sym at) (part_of_itself (f.regions z));
     }
     split_origin z e region shown (First same is at) =
@@ -128,7 +127,7 @@ module _ (scope : Scope) (r : Named) (whole : IsSeen scope r.name) where
     share : (z v : List ℕ) (q w : Region) → halves z ≡ q → halves v ≡ w → ShareNoWord q w → ShareNoWord (halves z) (halves v)
     share z v q w p e h = subst (λ (u : Region). ShareNoWord u (halves v)) (sym p) (subst (λ (u : Region). ShareNoWord q u) (sym e) h)
 
-    split_apart_at : OwnsApart scope f.regions → (z v : List ℕ) (m : IsWritable (split_scope scope r x y) z) (k : IsSeen (split_scope scope r x y) v) → z ≢ v
+    split_apart_at : OwnsApart scope f.regions → (z v : List ℕ) (m : IsMut (split_scope scope r x y) z) (k : IsSeen (split_scope scope r x y) v) → z ≢ v
         → OfSplit z m.declaration → OfSplit v k.declaration → ShareNoWord (halves z) (halves v)
     split_apart_at h z v m k other (First same is at) (First same' is' at') = absurd (other (sym same ∙ same'))
     split_apart_at h z v m k other (Second same is at) (Second same' is' at') = absurd (other (sym same ∙ same'))
@@ -138,19 +137,19 @@ module _ (scope : Scope) (r : Named) (whole : IsSeen scope r.name) where
         share z v (second_part n (f.regions r.name)) (first_part n (f.regions r.name)) at at' (share_none_back (halves_share_none (f.regions r.name) n))
     split_apart_at h z v m k other (Outside d found same out at) (Outside d' found' same' out' at') =
         apart_by_origin h (split_origin z m.declaration (mut_is_region m.written) m.shown (Outside d found same out at))
-        (split_origin v k.declaration k.region k.shown (Outside d' found' same' out' at')) m.written m.inner other
+        (split_origin v k.declaration k.region k.shown (Outside d' found' same' out' at')) m.written other
     split_apart_at h z v m k other (Outside d found same out at) (First same' is' at') =
         apart_by_origin h (split_origin z m.declaration (mut_is_region m.written) m.shown (Outside d found same out at))
-        (split_origin v k.declaration k.region k.shown (First same' is' at')) m.written m.inner out
+        (split_origin v k.declaration k.region k.shown (First same' is' at')) m.written out
     split_apart_at h z v m k other (Outside d found same out at) (Second same' is' at') =
         apart_by_origin h (split_origin z m.declaration (mut_is_region m.written) m.shown (Outside d found same out at))
-        (split_origin v k.declaration k.region k.shown (Second same' is' at')) m.written m.inner out
+        (split_origin v k.declaration k.region k.shown (Second same' is' at')) m.written out
     split_apart_at h z v m k other (First same is at) (Outside d' found' same' out' at') =
         apart_by_origin h (split_origin z m.declaration (mut_is_region m.written) m.shown (First same is at))
-        (split_origin v k.declaration k.region k.shown (Outside d' found' same' out' at')) m.written m.inner (λ e. out' (sym e))
+        (split_origin v k.declaration k.region k.shown (Outside d' found' same' out' at')) m.written (λ e. out' (sym e))
     split_apart_at h z v m k other (Second same is at) (Outside d' found' same' out' at') =
         apart_by_origin h (split_origin z m.declaration (mut_is_region m.written) m.shown (Second same is at))
-        (split_origin v k.declaration k.region k.shown (Outside d' found' same' out' at')) m.written m.inner (λ e. out' (sym e))
+        (split_origin v k.declaration k.region k.shown (Outside d' found' same' out' at')) m.written (λ e. out' (sym e))
 
     pub split_apart : OwnsApart scope f.regions → OwnsApart (split_scope scope r x y) halves
     split_apart h = record {
@@ -164,7 +163,7 @@ module _ (scope : Scope) (r : Named) (whole : IsSeen scope r.name) where
     abbrev elements : Regions
     elements = (part_frame f x q).regions
 
-    -- a region of the block is one of outside, which is not written there, or the element
+    -- a region of the block is one of outside, or the element
     data OfEach (z : List ℕ) (e : Declaration) : Type 0 where
       Around : (d : Declaration) → declared scope z ≡ Some d → seen_in_each r d ≡ e → z ≢ r.name → elements z ≡ f.regions z → OfEach z e
       Element : x.name ≡ z → part scope r x ≡ e → elements z ≡ q → OfEach z e
@@ -204,7 +203,8 @@ module _ (scope : Scope) (r : Named) (whole : IsSeen scope r.name) where
       found = found;
       region = subst (λ (e : Declaration). is_region e.mode ≡ true) (sym same) region;
       shown = or_left d.hidden (bytes_eq d.name.name r.name) (subst (λ (e : Declaration). e.hidden ≡ false) (sym same) shown);
-      written = λ m n. absurd (true_and_false (ap (λ (e : Declaration). e.outer) same ∙ n));
+      written = λ m. subst (λ (e : Declaration). e.mode ≡ mode.Mut) (sym same) m;
+      inner = λ m n. absurd (true_and_false (ap (λ (e : Declaration). e.outer) same ∙ n));
       part = subst (λ (q : Region). IsPart q (f.regions z)) (sym at) (part_of_itself (f.regions z));
     }
     each_origin z e region shown (Element same is at) =
@@ -213,14 +213,18 @@ module _ (scope : Scope) (r : Named) (whole : IsSeen scope r.name) where
     pub each_from : ComesFrom (each_scope scope r i x) elements scope f.regions
     each_from = record { origin = λ z e found region shown. each_origin z e region shown (of_each z e found region shown) }
 
-    each_apart_at : OwnsApart scope f.regions → (z v : List ℕ) (m : IsWritable (each_scope scope r i x) z) (n : IsSeen (each_scope scope r i x) v) → z ≢ v
+    each_apart_at : OwnsApart scope f.regions → (z v : List ℕ) (m : IsMut (each_scope scope r i x) z) (n : IsSeen (each_scope scope r i x) v) → z ≢ v
         → OfEach z m.declaration → OfEach v n.declaration → ShareNoWord (elements z) (elements v)
-    each_apart_at h z v m n other (Around d found same out at) q =
-        absurd (true_and_false (ap (λ (e : Declaration). e.outer) same ∙ m.inner))
+    each_apart_at h z v m n other (Around d found same out at) (Around d' found' same' out' at') =
+        apart_by_origin h (each_origin z m.declaration (mut_is_region m.written) m.shown (Around d found same out at))
+        (each_origin v n.declaration n.region n.shown (Around d' found' same' out' at')) m.written other
+    each_apart_at h z v m n other (Around d found same out at) (Element same' is' at') =
+        apart_by_origin h (each_origin z m.declaration (mut_is_region m.written) m.shown (Around d found same out at))
+        (each_origin v n.declaration n.region n.shown (Element same' is' at')) m.written out
     each_apart_at h z v m n other (Element same is at) (Element same' is' at') = absurd (other (sym same ∙ same'))
     each_apart_at h z v m n other (Element same is at) (Around d' found' same' out' at') =
         apart_by_origin h (each_origin z m.declaration (mut_is_region m.written) m.shown (Element same is at))
-        (each_origin v n.declaration n.region n.shown (Around d' found' same' out' at')) m.written m.inner (λ e. out' (sym e))
+        (each_origin v n.declaration n.region n.shown (Around d' found' same' out' at')) m.written (λ e. out' (sym e))
 
     pub each_apart : OwnsApart scope f.regions → OwnsApart (each_scope scope r i x) elements
     each_apart h = record {
@@ -240,7 +244,7 @@ module _ (scope : Scope) (r : Named) (whole : IsSeen scope r.name) where
     beside_at a j m o (Element same is at) (Around d' found' same' out' at') =
         let p = each_origin i x f q short x_new m.name m.writable.declaration (mut_is_region m.writable.written) m.writable.shown (Element same is at) in
         let p' = each_origin i x f w short' x_new o.name o.seen.declaration o.seen.region o.seen.shown (Around d' found' same' out' at') in
-        (apart_by_origin h p p' m.writable.written m.writable.inner (λ e. out' (sym e))).none a j m.has o.has
+        (apart_by_origin h p p' m.writable.written (λ e. out' (sym e))).none a j m.has o.has
 
     pub beside : (a j : ℕ) → MayWrite (each_scope scope r i x) (part_frame f x q).regions a j
         → Owns (each_scope scope r i x) (part_frame f x w).regions a j → ⊥

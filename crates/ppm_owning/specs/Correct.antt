@@ -26,8 +26,8 @@ abbrev pub ComeToSites : Type 0
 ComeToSites =
     (t : ProgramTree) (p : Procedure) (g : Frame) (scope : Scope) (b : Block) (f : Frame) → IsAdmitted t → ComesTo t p g scope b f → HasSites t p scope b
 
--- Where a run stands, in a procedure p entered with the frame g: each region in force lies in its array, none that may be written
--- shares a word with another, and the frame owns no more than g.
+-- Where a run stands, in a procedure p entered with the frame g: each region in force that is not hidden lies in its array, no `mut` one
+-- of them, outer or not, shares a word with another of them, and the frame owns no more than g.
 pub record PlaceIsApart (t : ProgramTree) (p : Procedure) (g : Frame) (scope : Scope) (f : Frame) : Type 0 where
   pub within : LieInArrays t.arrays scope f.regions
   pub apart : OwnsApart scope f.regions

@@ -13,7 +13,14 @@ pub record IsSeen (scope : Scope) (x : List ℕ) : Type 0 where
   pub region : is_region declaration.mode ≡ true
   pub shown : declaration.hidden ≡ false
 
--- a region that may be written: such a one that is `mut`, and not from outside of the block of an `each`
+-- a `mut` region that may be used, be it from outside of the block of an `each` or not
+pub record IsMut (scope : Scope) (x : List ℕ) : Type 0 where
+  pub declaration : Declaration
+  pub found : declared scope x ≡ Some declaration
+  pub written : declaration.mode ≡ mode.Mut
+  pub shown : declaration.hidden ≡ false
+
+-- a region that may be written: such a one, and not from outside of the block of an `each`
 pub record IsWritable (scope : Scope) (x : List ℕ) : Type 0 where
   pub declaration : Declaration
   pub found : declared scope x ≡ Some declaration
@@ -33,9 +40,9 @@ pub record MayWrite (scope : Scope) (regions : Regions) (a i : ℕ) : Type 0 whe
   pub writable : IsWritable scope name
   pub has : HasWord (regions name) a i
 
--- no region that may be written shares a word with another that may be used
+-- no `mut` region that may be used, from outside or not, shares a word with another that may be used
 pub record OwnsApart (scope : Scope) (regions : Regions) : Type 0 where
-  pub apart : (x y : List ℕ) → IsWritable scope x → IsSeen scope y → x ≢ y → ShareNoWord (regions x) (regions y)
+  pub apart : (x y : List ℕ) → IsMut scope x → IsSeen scope y → x ≢ y → ShareNoWord (regions x) (regions y)
 
 -- how many words the array at a place has
 abbrev pub words_at : List Array → ℕ → ℕ

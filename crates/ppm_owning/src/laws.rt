@@ -7,9 +7,10 @@ pub fn come_to_sites()
     ensures law { ComeToSites }
 {}
 
-/// Wherever a run of an admitted program comes to, a region that may be written shares no word with another in force, and
-/// each lies in its array. A block, a callee and a branch own no more than the frame that they are begun in; of the two
-/// branches of a fork none may write what the other owns, and so it is with two blocks of an `each`.
+/// Wherever a run of an admitted program comes to, a `mut` region that is not hidden shares no word with another that is
+/// not hidden, be they from outside of the block of an `each` or not, and each lies in its array. A block, a callee and a
+/// branch own no more than the frame that they are begun in; of the two branches of a fork none may write what the other
+/// owns, and so it is with two blocks of an `each`.
 pub fn own_apart()
     ensures law { OwnApart }
 {}
