@@ -6,6 +6,8 @@
 //! The order of the passes is this project's.
 #![tactic(auto)]
 
+#[cfg(test)]
+mod fault_tests;
 mod judging;
 mod laws;
 #[cfg(test)]
