@@ -1,0 +1,2 @@
+//! Laws.
+ghost use Rattle.ppm_compiling.specs.Correct.{EndAsMeant};

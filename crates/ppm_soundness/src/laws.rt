@@ -1,0 +1,2 @@
+//! Laws.
+ghost use Rattle.ppm_soundness.specs.Correct.{CodeIsSound};

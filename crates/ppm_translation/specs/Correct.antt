@@ -1,0 +1,23 @@
+-- What is true of the code of every program that the compiler takes.
+use Rattle.std.specs.Prelude.{ℕ, List}
+use Rattle.ppm_code.specs.Code.{IsCode}
+use Rattle.ppm_tree.specs.Tree.{ProgramTree}
+use Rattle.ppm_tree.specs.Limits.{IsWithin}
+use Rattle.ppm_tree.specs.State.{procedure_named}
+use Rattle.ppm_regions.specs.Admission.{IsAdmitted}
+use Rattle.ppm_bounds.specs.Bounds.{IsWithinBounds}
+use Rattle.ppm_translation.specs.Fits.{FitsProcedure}
+use Rattle.ppm_translation.specs.Routines.{code_of}
+use Rattle.ppm_translation.specs.Standing.{HasBodies}
+
+-- in each procedure that a name stands for, names have slots of their kind
+abbrev pub NamesHaveSlots : Type 0
+NamesHaveSlots = (t : ProgramTree) → IsAdmitted t → (x : List ℕ) → FitsProcedure t.procedures (procedure_named t.procedures x)
+
+-- the capsules of each procedure stand at its entry
+abbrev pub ProceduresStand : Type 0
+ProceduresStand = (t : ProgramTree) → HasBodies t.procedures (code_of t)
+
+-- it keeps all rules of a code
+abbrev pub KeepsTheRules : Type 0
+KeepsTheRules = (t : ProgramTree) → IsWithin t → IsAdmitted t → IsWithinBounds t → IsCode (code_of t)

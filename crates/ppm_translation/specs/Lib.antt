@@ -1,0 +1,10 @@
+pub mod Layout
+pub mod Expressions
+pub mod Numbers
+pub mod Slots
+pub mod Statements
+pub mod Routines
+pub mod Standing
+pub mod Fits
+pub mod Inputs
+pub mod Correct
