@@ -1,3 +1,9 @@
-//! Laws.
-ghost use Rattle.ppm_translation.specs.Routines.{code_of};
-ghost use Rattle.ppm_translation.specs.Standing.{HasBodies};
+//! What is true of the code of every program, shown by calls that do nothing.
+ghost use Rattle.ppm_translation.specs.Correct.{ProceduresStand};
+
+/// The capsules of each procedure of a program stand in its code from the procedure's entry on, those of a statement one
+/// after the other in the order of the text, and so do those of the hidden procedure of each `each` in it; the frames of
+/// the procedure have as many slots as its names and its spare slots need.
+pub fn procedures_stand()
+    ensures law { ProceduresStand }
+{}

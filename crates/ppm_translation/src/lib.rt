@@ -4,3 +4,5 @@
 #![tactic(auto)]
 
 mod laws;
+
+pub use laws::procedures_stand;
