@@ -1,0 +1,3 @@
+mod LayoutLemmas
+mod CoverLemmas
+mod FitsLemmas
