@@ -1,1 +1,4 @@
+pub mod LayoutLemmas
+mod CoverLemmas
+mod FitsLemmas
 pub mod PlaceLemmas
