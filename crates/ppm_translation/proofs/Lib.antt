@@ -1,3 +1,4 @@
-mod LayoutLemmas
-mod CoverLemmas
-mod FitsLemmas
+pub mod LayoutLemmas
+pub mod CoverLemmas
+pub mod FitsLemmas
+pub mod PlaceLemmas
