@@ -25,10 +25,11 @@ use Rattle.ppm_regions.specs.Uses.{Use, Asks, NoName, Calls, Delivers, lent_toge
 use Rattle.ppm_regions.specs.Uses.{uses_in, uses_of_argument}
 use Rattle.ppm_regions.specs.Uses.{uses_of_arguments, uses_of_target, uses_of_side, uses_of, declaration_sites, sites_within}
 use Rattle.ppm_regions.specs.Uses.{sites_of_block, sites_of_procedure, sites_of_give, sites_at}
+use Rattle.ppm_regions.specs.Uses.{Site, Begins, Fills, sites_of_names, uses_of_main}
 use Rattle.ppm_regions.specs.Admission.{IsAdmitted}
 use Rattle.ppm_regions.specs.Correct.{Makes, KeepsRules}
 use Rattle.ppm_regions.proofs.Rules.{rules}
-use Rattle.ppm_regions.proofs.Elements.{contains_head, contains_tail, contains_map}
+use Rattle.ppm_regions.proofs.Elements.{contains_head, contains_tail, contains_map, contains_cases}
 use Rattle.ppm_regions.proofs.ScopeLemmas.{names_same, found_cases, none_and_some, declared_map}
 use Rattle.ppm_regions.proofs.SiteLemmas.{AreSites, sites_left, sites_right, AreMade, made_left, made_right, made_head, made_tail, made_at}
 use Rattle.ppm_regions.proofs.SiteLemmas.{uses_first, sites_inside}
@@ -440,3 +441,28 @@ module _ (t : ProgramTree) (admitted : IsAdmitted t) where
 
 pub names_have_slots : NamesHaveSlots
 names_have_slots t admitted x = fits_procedure t admitted (procedure_named t.procedures x) (callee_sites t x)
+
+-- a procedure of the program
+procedure_sites : (t : ProgramTree) (p : Procedure) → Contains t.procedures p → AreSites t (sites_of_procedure t p)
+procedure_sites t p c =
+    let names = sites_of_names (map (λ a. a.name) t.arrays) in
+    let others = sites_of_names (map (λ p. p.name) t.procedures) in
+    let inputs = sites_of_names (map (λ i. i.name) t.inputs) in
+    let inside = flat_map (sites_of_procedure t) t.procedures in
+    let outside = sites_at [] (Begins ∷ flat_map uses_of_main t.procedures ++ map Fills t.inputs) in
+    record {
+      all = λ s h. Contains-append_left (names ++ others ++ inputs ++ inside) outside s
+          (Contains-append_right (names ++ others ++ inputs) inside s (contains_flat t.procedures c s h));
+    }
+  where
+    contains_flat : (ps : List Procedure) → Contains ps p → (s : Site) → Contains (sites_of_procedure t p) s
+        → Contains (flat_map (sites_of_procedure t) ps) s
+    contains_flat [] c s h = absurd (omega (arith, c.1))
+    contains_flat (q ∷ ps) c s h =
+        contains_cases (Contains (flat_map (sites_of_procedure t) (q ∷ ps)) s) q p ps
+        (λ e. Contains-append_left (sites_of_procedure t q) (flat_map (sites_of_procedure t) ps) s
+        (subst (λ (p : Procedure). Contains (sites_of_procedure t p) s) (sym e) h))
+        (λ d. Contains-append_right (sites_of_procedure t q) (flat_map (sites_of_procedure t) ps) s (contains_flat ps d s h)) c
+
+pub each_fits : (t : ProgramTree) → IsAdmitted t → (p : Procedure) → Contains t.procedures p → FitsProcedure t.procedures p
+each_fits t admitted p c = fits_procedure t admitted p (procedure_sites t p c)

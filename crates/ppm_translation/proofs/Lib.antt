@@ -1,4 +1,4 @@
 pub mod LayoutLemmas
-mod CoverLemmas
-mod FitsLemmas
+pub mod CoverLemmas
+pub mod FitsLemmas
 pub mod PlaceLemmas
