@@ -1,1 +1,5 @@
 pub mod PlaceLemmas
+pub mod CaughtLemmas
+pub mod SizeLemmas
+pub mod FitLemmas
+pub mod SoundLemmas
