@@ -2,3 +2,4 @@ pub mod ChainLemmas
 pub mod Holding
 pub mod Doing
 pub mod ExprLemmas
+pub mod StepLemmas
