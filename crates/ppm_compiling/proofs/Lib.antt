@@ -1,3 +1,4 @@
 pub mod ChainLemmas
 pub mod Holding
 pub mod Doing
+pub mod SlotLemmas

@@ -1,4 +1,5 @@
 use Rattle.ppm_compiling.proofs.Doing.{CallDoes}
+use Rattle.ppm_compiling.proofs.SlotLemmas.{named_at}
 use Rattle.ppm_compiling.proofs.laws.end_as_meant.Goals as goal
 
 pub returns : goal.returns
