@@ -3,3 +3,6 @@ pub mod Holding
 pub mod Doing
 pub mod StepLemmas
 pub mod SlotLemmas
+pub mod ExprLemmas
+pub mod Places
+pub mod HoldLemmas
