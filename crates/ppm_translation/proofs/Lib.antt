@@ -3,3 +3,4 @@ pub mod CaughtLemmas
 pub mod SizeLemmas
 pub mod FitLemmas
 pub mod SoundLemmas
+pub mod RuleLemmas
