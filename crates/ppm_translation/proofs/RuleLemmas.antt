@@ -99,6 +99,36 @@ there_in (p ∷ ps) (suc q) h = let rest = there_in ps q h in omega (arith, rest
 pub procedure_there : (code : CodeParts) (q : ℕ) → 1 ≤ slots_of code q → IsProcedure code q
 procedure_there code q h = there_in code.procedures q h
 
+-- the nodes of one expression, of two, and of the arguments of two sides
+one_expression : (e : Expression) → All IsNode (nodes e ++ []) → length (nodes e ++ []) ≤ node_limit
+    → AllByRecursion IsNode (nodes e) × length (nodes e) ≤ 48
+one_expression e n count =
+    let l = length-append (nodes e) [] in
+    (all-first IsNode (nodes e) [] (recursion_from_All IsNode (nodes e ++ []) n), omega (arith, l, count))
+
+two_expressions : (e f : Expression) → All IsNode (nodes e ++ (nodes f ++ [])) → length (nodes e ++ (nodes f ++ [])) ≤ node_limit
+    → AllByRecursion IsNode (nodes e) × AllByRecursion IsNode (nodes f) × length (nodes e) + length (nodes f) ≤ 48
+two_expressions e f n count =
+    let both = recursion_from_All IsNode (nodes e ++ (nodes f ++ [])) n in
+    let l = length-append (nodes e) (nodes f ++ []) in
+    let m = length-append (nodes f) [] in (
+      all-first IsNode (nodes e) (nodes f ++ []) both,
+      all-first IsNode (nodes f) [] (all-second IsNode (nodes e) (nodes f ++ []) both),
+      omega (arith, l, m, count),
+    )
+
+abbrev side_nodes : Side → List Expression
+side_nodes s = flat_map nodes (map (λ a. a.value) s.arguments)
+
+two_sides : (s t : Side) → All IsNode (nodes_of (tree.Fork s t)) → length (nodes_of (tree.Fork s t)) ≤ node_limit
+    → AllByRecursion IsNode (side_nodes s) × AllByRecursion IsNode (side_nodes t) × length (side_nodes s) + length (side_nodes t) ≤ 48
+two_sides s t n count =
+    let same : nodes_of (tree.Fork s t) ≡ side_nodes s ++ side_nodes t =
+        flat_map-append nodes (map (λ a. a.value) s.arguments) (map (λ a. a.value) t.arguments) in
+    let both = subst (λ (l : List Expression). AllByRecursion IsNode l) same (recursion_from_All IsNode (nodes_of (tree.Fork s t)) n) in
+    let l = ap length same ∙ length-append (side_nodes s) (side_nodes t) in
+    (all-first IsNode (side_nodes s) (side_nodes t) both, all-second IsNode (side_nodes s) (side_nodes t) both, omega (arith, l, count))
+
 -- what is known of a code as a whole
 pub record IsKnown (procedures : List Procedure) (code : CodeParts) : Type 0 where
   pub bodies : HasBodies procedures code
@@ -311,3 +341,168 @@ module _ (procedures : List Procedure) (code : CodeParts) (known : IsKnown proce
         loads_fit code q is [] layout room names 2 3 stores (caught_have_slots layout block)
         (stores_fit code q is (frame_words slots) 6 0 (suc (suc count)) (3 + count) end asked (omega arith)
         ((callee, at, tt, ap Some same), tt)))))
+
+    -- a hidden procedure is entered, and goes on by halves
+    entry_keeps : (entry : ℕ) → 1 ≤ slots_of code q → IsCapsuleOf code q (halving entry) → IsCapsuleOf code q (element_block entry)
+        → Keeps (entry_code entry)
+    entry_keeps entry room at_halves at_block =
+        capsule_fits code q (entry_code entry) there (omega arith)
+        (closed_behind _ _ (closed_behind _ _ (closed_behind _ _ (closed_behind _ _ (closed_behind _ _ (closed_behind _ _ (closed_behind _ _
+        (closed_behind _ _ (closed_end ends.Finish)))))))))
+        (room, (tt, (tt, (tt, ((omega arith, omega arith), (at_halves, ((omega arith, omega arith), (at_block, (tt, tt)))))))))
+
+    halving_keeps : (entry slots names line : ℕ) → slots_of code q ≡ slots → names + 2 ≤ slots → IsLine line → IsCapsuleOf code q (halved entry)
+        → Keeps (halving_code entry q slots names line)
+    halving_keeps entry slots names line same room fits at =
+        let is = halving_code entry q slots names line in
+        let words = fork_words slots slots in
+        let right_at = 11 + frame_words slots in
+        let end = instr.Ends (ends.Fork q q (halved entry) None None) ∷ [] in
+        let in_right = stores_code (suc (suc right_at)) 6 names end in
+        let right = instr.StoreNew right_at (register 3) ∷ instr.StoreNew (suc right_at) (register 5) ∷ in_right in
+        let in_left = stores_code 13 6 names right in
+        let left = instr.StoreNew 11 (register 2) ∷ instr.StoreNew 12 (register 4) ∷ in_left in
+        let a = names_length 2 6 names left in
+        let b = stores_length 13 6 names right in
+        let c = stores_length (suc (suc right_at)) 6 names end in
+        let few = known.few q in
+        let asked : room_of is ≡ Some words = refl in
+        let size : words ≡ fork_size code q q = λ i. 5 + (6 + sym same i) + (6 + sym same i) in
+        let behind_left = suc (suc (9 + names)) + names in
+        capsule_fits code q is there (omega (arith, a, b, c, few, same, room))
+        (closed_behind _ _ (closed_behind _ _ (closed_behind _ _ (closed_behind _ _ (closed_behind _ _ (closed_behind _ _ (closed_behind _ _
+        (closed_behind _ _ (closed_behind _ _ (closed_names 2 6 names left (closed_behind _ _ (closed_behind _ _ (closed_stores 13 6 names right
+        (closed_behind _ _ (closed_behind _ _ (closed_stores (suc (suc right_at)) 6 names end (closed_end _)))))))))))))))))
+        ((omega arith, omega arith, omega (arith, few, same)), (omega (arith, room, same), (tt, (tt, (fits, (fits, (fits, (omega (arith, room, same), (fits,
+        names_fit code q is 2 6 names 9 left (omega (arith, room, same))
+        ((words, asked, omega (arith, room)), ((words, asked, omega (arith, room)),
+        stores_fit code q is words 13 6 names (suc (suc (9 + names))) right asked (omega (arith, room))
+        ((words, asked, omega (arith, room)), ((words, asked, omega (arith, room)),
+        stores_fit code q is words (suc (suc right_at)) 6 names (suc (suc behind_left)) end asked (omega (arith, room))
+        ((there, there, at, tt, tt, ap Some size), tt))))))))))))))
+
+    -- how a block goes on
+    abbrev pub LastFits : Scope → Layout → Last → Type 0
+    LastFits scope layout (OnTo next) = IsCapsuleOf code q next
+    LastFits scope layout (Gives None) = Unit {0}
+    LastFits scope layout (Gives (Some g)) = FitsExpression scope layout g.value × IsSmallGive g
+
+    last_keeps : (scope : Scope) (layout : Layout) (last : Last) → LastFits scope layout last → length layout ≤ slots_of code q
+        → Keeps (last_code layout last)
+    last_keeps scope layout (OnTo next) f room = onward_keeps next f
+    last_keeps scope layout (Gives None) f room = finish_keeps
+    last_keeps scope layout (Gives (Some g)) f room =
+        give_keeps scope layout g.value room f.0 (recursion_from_All IsNode (nodes g.value) f.1.nodes) f.1.count
+
+    mutual
+      -- the capsules of a statement
+      statement_keeps : (scope : Scope) (layout : Layout) (at h : ℕ) (s : Statement) → FitsStatement procedures scope layout s
+          → AreSmall (statement_and_inner s) → ArePlaced procedures code h (hidden_of layout h s) → low ≤ at → behind s at < high
+          → length layout + most_within s ≤ spare → length layout + length (counted.lets_of s) ≤ spare
+          → spare + spare_by (puts s) (assigns s) ≤ slots_of code q → AllByRecursion Keeps (statement_code procedures spare layout at h s)
+      statement_keeps scope layout at h (tree.Let x e) f small placed first last within lets left =
+          let n = one_expression e small.0.nodes small.0.count in
+          (let_keeps scope layout e (suc at) (omega (arith, lets, left)) f.0 n.0 n.1 (own (suc at) (omega (arith, first)) last), tt)
+      statement_keeps scope layout at h (tree.Assign x e) f small placed first last within lets left =
+          let n = one_expression e small.0.nodes small.0.count in
+          let slot = f.0.has in (
+            value_keeps scope layout e (suc at) (omega (arith, lets, left)) (omega (arith, left)) f.1 n.0 n.1
+                (own (suc at) (omega (arith, first)) (omega (arith, last))),
+            (move_keeps layout x (suc (suc at)) (omega (arith, left)) (omega (arith, slot, lets, left)) (own (suc (suc at)) (omega (arith, first)) last), tt),
+          )
+      statement_keeps scope layout at h (tree.Put x index e) f small placed first last within lets left =
+          let n = two_expressions index e small.0.nodes small.0.count in
+          let slot = f.0.has in
+          let line = line_fits (All-head IsNamed x [] small.0.names).line in (
+            element_keeps scope layout index e (suc at) (omega (arith, lets, left)) (omega (arith, left)) f.1 f.2 n.0 n.1 n.2
+                (own (suc at) (omega (arith, first)) (omega (arith, last))),
+            (put_keeps layout x (suc (suc at)) (omega (arith, left)) (omega (arith, slot, lets, left)) line
+                (own (suc (suc at)) (omega (arith, first)) last), tt),
+          )
+      statement_keeps scope layout at h (tree.If e holds other) f small placed first last within lets left =
+          let n = one_expression e small.0.nodes small.0.count in
+          let between = hidden_behind_block holds h in
+          let behind_first = suc (end_of holds (suc at)) in
+          let next = suc (end_of other behind_first) in
+          let xs = block_code procedures spare layout (suc at) h (OnTo next) holds in
+          let ys = block_code procedures spare layout behind_first between (OnTo next) other in
+          let hidden = hidden_of_block layout h holds in
+          let more = hidden_of_block layout between other in
+          let here = statements_in holds in
+          let there' = statements_in other in
+          let grows = end_grows holds (suc at) in
+          let grows' = end_grows other behind_first in
+          let a = spare_first (has_put holds) (has_assignment holds) (has_put other) (has_assignment other) in
+          let b = spare_second (has_put holds) (has_assignment holds) (has_put other) (has_assignment other) in
+          let on : IsCapsuleOf code q next = own next (omega (arith, first, grows, grows')) last in (
+            test_keeps scope layout e (suc at) behind_first (omega (arith, lets, left)) f.0 n.0 n.1
+                (own (suc at) (omega (arith, first)) (omega (arith, last, grows, grows')))
+                (own behind_first (omega (arith, first, grows)) (omega (arith, last, grows'))),
+            all-append Keeps xs ys
+                (block_keeps scope layout (suc at) h (OnTo next) holds f.1 (all-first IsSmallStatement here there' small.1)
+                (placed_first procedures code hidden more h placed) (omega (arith, first)) (omega (arith, last, grows'))
+                (omega (arith, within)) (omega (arith, left, a)) on)
+                (block_keeps scope layout behind_first between (OnTo next) other f.2 (all-second IsSmallStatement here there' small.1)
+                (placed_second procedures code hidden more h between (hidden_past_block layout h holds) placed) (omega (arith, first, grows))
+                (omega (arith, last)) (omega (arith, within)) (omega (arith, left, b)) on),
+          )
+      statement_keeps scope layout at h (tree.While e block) f small placed first last within lets left =
+          let n = one_expression e small.0.nodes small.0.count in
+          let next = suc (end_of block (suc at)) in
+          let grows = end_grows block (suc at) in (
+            test_keeps scope layout e (suc at) next (omega (arith, lets, left)) f.0 n.0 n.1
+                (own (suc at) (omega (arith, first)) (omega (arith, last, grows))) (own next (omega (arith, first, grows)) last),
+            block_keeps scope layout (suc at) h (OnTo at) block f.1 small.1 placed (omega (arith, first)) (omega (arith, last)) within left
+                (own at first (omega (arith, last, grows))),
+          )
+      statement_keeps scope layout at h (tree.Call s) f small placed first last within lets left =
+          let n = recursion_from_All IsNode (nodes_of (tree.Call s)) small.0.nodes in
+          (call_keeps scope layout s (suc at) (omega (arith, lets, left)) f n small.0.count (own (suc at) (omega (arith, first)) last), tt)
+      statement_keeps scope layout at h (tree.Fork s t) f small placed first last within lets left =
+          let n = two_sides s t small.0.nodes small.0.count in
+          (fork_keeps scope layout s t (suc at) (omega (arith, lets, left)) f.0 f.1 n.0 n.1 n.2 (own (suc at) (omega (arith, first)) last), tt)
+      statement_keeps scope layout at h (tree.Split line r e x y block) f small placed first last within lets left =
+          let n = one_expression e small.0.nodes small.0.count in
+          let next = suc (end_of block (suc at)) in
+          let grows = end_grows block (suc at) in
+          let slot = f.0.has in
+          let fits = line_fits (All-head limits.IsLine line [] small.0.lines) in
+          let parts = length-append layout (x.name ∷ y.name ∷ []) in (
+            split_keeps scope layout line r e (suc at) (omega (arith, within, left)) (omega (arith, slot, lets, left)) fits f.1 n.0 n.1
+                (own (suc at) (omega (arith, first)) (omega (arith, last, grows))),
+            block_keeps (split_scope scope r x y) (with_parts layout x y) (suc at) h (OnTo next) block f.7 small.1 placed (omega (arith, first))
+                (omega (arith, last)) (omega (arith, within, parts)) left (own next (omega (arith, first, grows)) last),
+          )
+      statement_keeps scope layout at h (tree.Each i x r block) f small placed first last within lets left =
+          let slot = f.0.has in
+          (each_keeps layout r block h (suc at) (omega (arith, lets, left)) (omega (arith, slot, lets, left)) placed.0.slots
+          (own (suc at) (omega (arith, first)) last), tt)
+
+      -- and of a block
+      pub block_keeps : (scope : Scope) (layout : Layout) (at h : ℕ) (last : Last) (b : Block) → FitsBlock procedures scope layout b
+          → AreSmall (statements_in b) → ArePlaced procedures code h (hidden_of_block layout h b) → low ≤ at → end_of b at < high
+          → length layout + most_in_force b ≤ spare → spare + spare_slots b ≤ slots_of code q
+          → LastFits (scope_behind scope b) (layout_behind layout b) last → AllByRecursion Keeps (block_code procedures spare layout at h last b)
+      block_keeps scope layout at h last Nil f small placed first high' within left on =
+          (last_keeps scope layout last on (omega (arith, within, left)), tt)
+      block_keeps scope layout at h last (Then s rest) f small placed first high' within left on =
+          let next = behind s at in
+          let later = with_lets layout s in
+          let between = hidden_behind s h in
+          let xs = statement_code procedures spare layout at h s in
+          let ys = block_code procedures spare later next between last rest in
+          let hidden = hidden_of layout h s in
+          let more = hidden_of_block later between rest in
+          let here = statement_and_inner s in
+          let there' = statements_in rest in
+          let grows = behind_grows s at in
+          let grows' = end_grows rest next in
+          let longer = lets_length layout s in
+          let a = spare_first (puts s) (assigns s) (has_put rest) (has_assignment rest) in
+          let b = spare_second (puts s) (assigns s) (has_put rest) (has_assignment rest) in
+          all-append Keeps xs ys
+          (statement_keeps scope layout at h s f.0 (all-first IsSmallStatement here there' small) (placed_first procedures code hidden more h placed)
+          first (omega (arith, high', grows')) (omega (arith, within)) (omega (arith, within)) (omega (arith, left, a)))
+          (block_keeps (scope ++ lets_of s) later next between last rest f.1 (all-second IsSmallStatement here there' small)
+          (placed_second procedures code hidden more h between (hidden_past layout h s) placed) (omega (arith, first, grows)) high'
+          (omega (arith, within, longer)) (omega (arith, left, b)) on)

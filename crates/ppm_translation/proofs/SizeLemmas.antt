@@ -224,6 +224,10 @@ mutual
       let d = eaches-append (statement_and_inner s) (statements_in rest) in
       omega (arith, l, a, b, d)
 
+texts_length : (h : ℕ) (ps : List Procedure) → length (texts_from h ps) ≡ length ps
+texts_length h [] = refl
+texts_length h (p ∷ ps) = ap (λ n. suc n) (texts_length (hidden_behind_block p.body h) ps)
+
 routines_count : (h : ℕ) (ps : List Procedure) → length (texts_from h ps) + length (hidden_from h ps) ≡ sum (map procedures_in ps)
 routines_count h [] = refl
 routines_count h (p ∷ ps) =
@@ -244,6 +248,15 @@ pub procedures_count : (ps : List Procedure) → length (procedures_from 0 (rout
 procedures_count ps =
     let n = length ps in
     procedures_length 0 (routines_of ps) ∙ length-append (texts_from n ps) (hidden_from n ps) ∙ routines_count n ps
+
+-- those of the text are among them
+pub procedures_at_least : (ps : List Procedure) → length ps ≤ length (procedures_from 0 (routines_of ps))
+procedures_at_least ps =
+    let n = length ps in
+    let a = procedures_length 0 (routines_of ps) in
+    let b = length-append (texts_from n ps) (hidden_from n ps) in
+    let c = texts_length n ps in
+    omega (arith, a, b, c)
 
 -- how many capsules a procedure of the code has
 abbrev mutual
