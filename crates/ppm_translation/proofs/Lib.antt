@@ -4,3 +4,4 @@ pub mod SizeLemmas
 pub mod FitLemmas
 pub mod SoundLemmas
 pub mod RuleLemmas
+pub mod KeepLemmas

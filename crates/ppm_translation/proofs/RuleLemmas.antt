@@ -75,7 +75,7 @@ mutual
   behind_grows (tree.Split line r e x y block) at = let a = end_grows block (suc at) in omega (arith, a)
   behind_grows (tree.Each i x r block) at = omega arith
 
-  end_grows : (b : Block) (at : ℕ) → at ≤ end_of b at
+  pub end_grows : (b : Block) (at : ℕ) → at ≤ end_of b at
   end_grows Nil at = omega arith
   end_grows (Then s rest) at = let a = behind_grows s at in let b = end_grows rest (behind s at) in omega (arith, a, b)
 
@@ -240,7 +240,7 @@ module _ (procedures : List Procedure) (code : CodeParts) (known : IsKnown proce
         one_keeps scope layout e (instr.Give (register 0) ∷ instr.Ends ends.Finish ∷ []) room f n count (omega arith)
         (closed_behind _ _ (closed_end ends.Finish)) (tt, (tt, tt))
 
-    finish_keeps : Keeps (instr.Ends ends.Finish ∷ [])
+    pub finish_keeps : Keeps (instr.Ends ends.Finish ∷ [])
     finish_keeps = capsule_fits code q (instr.Ends ends.Finish ∷ []) there (omega arith) (closed_end ends.Finish) (tt, tt)
 
     -- a target is a slot
@@ -343,7 +343,7 @@ module _ (procedures : List Procedure) (code : CodeParts) (known : IsKnown proce
         ((callee, at, tt, ap Some same), tt)))))
 
     -- a hidden procedure is entered, and goes on by halves
-    entry_keeps : (entry : ℕ) → 1 ≤ slots_of code q → IsCapsuleOf code q (halving entry) → IsCapsuleOf code q (element_block entry)
+    pub entry_keeps : (entry : ℕ) → 1 ≤ slots_of code q → IsCapsuleOf code q (halving entry) → IsCapsuleOf code q (element_block entry)
         → Keeps (entry_code entry)
     entry_keeps entry room at_halves at_block =
         capsule_fits code q (entry_code entry) there (omega arith)
@@ -351,7 +351,7 @@ module _ (procedures : List Procedure) (code : CodeParts) (known : IsKnown proce
         (closed_behind _ _ (closed_end ends.Finish)))))))))
         (room, (tt, (tt, (tt, ((omega arith, omega arith), (at_halves, ((omega arith, omega arith), (at_block, (tt, tt)))))))))
 
-    halving_keeps : (entry slots names line : ℕ) → slots_of code q ≡ slots → names + 2 ≤ slots → IsLine line → IsCapsuleOf code q (halved entry)
+    pub halving_keeps : (entry slots names line : ℕ) → slots_of code q ≡ slots → names + 2 ≤ slots → IsLine line → IsCapsuleOf code q (halved entry)
         → Keeps (halving_code entry q slots names line)
     halving_keeps entry slots names line same room fits at =
         let is = halving_code entry q slots names line in
