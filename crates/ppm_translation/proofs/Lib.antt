@@ -1,3 +1,6 @@
+pub mod LayoutLemmas
+pub mod CoverLemmas
+pub mod FitsLemmas
 pub mod PlaceLemmas
 pub mod CaughtLemmas
 pub mod SizeLemmas
