@@ -4,11 +4,9 @@ use Rattle.std.specs.Str.{bytes_eq}
 use Rattle.std.specs.List.{All, AllByRecursion, Contains, flat_map}
 use Rattle.std.proofs.lemmas.List.{length-map}
 use Rattle.std.proofs.lemmas.List.Elements.{All-head, All-weaker, All-from_recursion, recursion_from_All, All-contains_itself, Contains-push}
-use Rattle.ppm_code.specs.declared.act.End.TheVariants as ends
 use Rattle.ppm_code.specs.declared.code.Procedure.{Procedure as CodeProcedure}
 use Rattle.ppm_code.specs.declared.code.Capsule.{Capsule}
 use Rattle.ppm_code.specs.declared.code.CodeParts.{CodeParts}
-use Rattle.ppm_code.specs.declared.instr.Instr.TheVariants as instr
 use Rattle.ppm_code.specs.Code.{IsProcedure, IsCapsule, IsCapsuleOf, IsCode}
 use Rattle.ppm_code.specs.Sizes.{slots_of, slots_in}
 use Rattle.ppm_words.specs.Limits.{array_limit}
@@ -22,7 +20,7 @@ use Rattle.ppm_tree.specs.Program.{main_of, whole_from}
 use Rattle.ppm_tree.specs.Limits.{IsWithin, IsSmall, IsSmallStatement, IsSmallGive}
 use Rattle.ppm_bounds.specs.Bounds.{IsWithinBounds}
 use Rattle.ppm_bounds.proofs.Keeping.{all-append}
-use Rattle.ppm_regions.specs.Scope.{Scope, first_named, plain, scope_behind}
+use Rattle.ppm_regions.specs.Scope.{Scope, first_named, plain, scope_of, scope_behind}
 use Rattle.ppm_regions.specs.Uses.{Use, Fills, Begins, Site, sites_at, declaration_sites, sites_of_names, sites_of_procedure, uses_of_main}
 use Rattle.ppm_regions.specs.Faults as fault
 use Rattle.ppm_regions.specs.Admission.{IsAdmitted}
@@ -33,16 +31,16 @@ use Rattle.ppm_regions.proofs.Faultless.{IsFaultless, faultless_left, faultless_
 use Rattle.ppm_translation.specs.Layout.{Layout, parameter_layout}
 use Rattle.ppm_translation.specs.Numbers.{end_of, element_block}
 use Rattle.ppm_translation.specs.Slots.{named_slots, hidden_named_slots, hidden_slots}
-use Rattle.ppm_translation.specs.Statements.{Instrs, Last, Gives, number_of, entry_code, halving_code, block_code}
-use Rattle.ppm_translation.specs.Routines.{Sweep, Routine, OfText, Hidden, sweep_layout, routine_slots, routine_behind, routines_of, procedures_from, routine_code}
+use Rattle.ppm_translation.specs.Statements.{Instrs, Gives, number_of, halving_code}
+use Rattle.ppm_translation.specs.Routines.{Routine, OfText, Hidden, sweep_layout, routine_slots, routine_behind, routines_of, procedures_from, routine_code}
 use Rattle.ppm_translation.specs.Routines.{capsules_from, code_of}
-use Rattle.ppm_translation.specs.Fits.{FitsGive, FitsProcedure, scope_of, layout_behind}
+use Rattle.ppm_translation.specs.Fits.{FitsGive, FitsProcedure, layout_behind}
 use Rattle.ppm_translation.specs.Correct.{NamesHaveSlots, KeepsTheRules}
 use Rattle.ppm_translation.proofs.PlaceLemmas.{past, past_map, routine_past, of_procedure, found_there, Listed, listed, listed_first, listed_second, Stands}
 use Rattle.ppm_translation.proofs.PlaceLemmas.{stands_listed, ArePlaced, routines_placed, procedures_have}
 use Rattle.ppm_translation.proofs.SizeLemmas.{procedures_count, procedures_at_least, capsules_count}
 use Rattle.ppm_translation.proofs.SoundLemmas.{IsSoundRoutine, AreSound, all_sound, routine_few, most_slots}
-use Rattle.ppm_translation.proofs.RuleLemmas.{IsKnown, Keeps, LastFits, block_keeps, entry_keeps, halving_keeps, finish_keeps, end_grows}
+use Rattle.ppm_translation.proofs.RuleLemmas.{IsKnown, LastFits, block_keeps, entry_keeps, halving_keeps, finish_keeps, end_grows}
 
 -- capsules that stand in a row are those of their procedure
 module _ (procedures : List Procedure) (code : CodeParts) where
@@ -128,12 +126,16 @@ module _ (procedures : List Procedure) (code : CodeParts) where
         let on = sound.block in (
           entry_keeps procedures code known q spare at high there own at (omega (arith, slots)) (own (suc at) (omega arith) (omega (arith, grows)))
               (own (element_block at) (omega arith) (omega (arith, grows))),
-          (subst (λ (k : ℕ). IsCapsule code (of_procedure q (halving_code at k (hidden_slots count s.block) count s.line))) sound.number
-          (halving_keeps procedures code known q spare at high there own at (hidden_slots count s.block) count s.line slots (omega arith) sound.line
-          (own (suc (suc at)) (omega arith) (omega (arith, grows)))),
-          (finish_keeps procedures code known q spare at high there own,
-          block_keeps procedures code known q spare at high there own on.scope (sweep_layout s) (element_block at) (suc s.number) (Gives None) s.block
-              on.fits on.small on.placed (omega arith) (omega arith) (omega arith) (omega (arith, slots)) tt)),
+          (
+            subst (λ (k : ℕ). IsCapsule code (of_procedure q (halving_code at k (hidden_slots count s.block) count s.line))) sound.number
+                (halving_keeps procedures code known q spare at high there own at (hidden_slots count s.block) count s.line slots (omega arith) sound.line
+                (own (suc (suc at)) (omega arith) (omega (arith, grows)))),
+            (
+              finish_keeps procedures code known q spare at high there own,
+              block_keeps procedures code known q spare at high there own on.scope (sweep_layout s) (element_block at) (suc s.number) (Gives None) s.block
+                  on.fits on.small on.placed (omega arith) (omega arith) (omega arith) (omega (arith, slots)) tt,
+            ),
+          ),
         )
 
     all_mapped : (q : ℕ) (xs : List Instrs) → AllByRecursion (λ is. IsCapsule code (of_procedure q is)) xs

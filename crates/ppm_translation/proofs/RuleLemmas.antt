@@ -1,11 +1,10 @@
 -- Each capsule of a procedure keeps the rules of a code.
-use Rattle.std.proofs.Common.{◌≡◌, ◌≢◌, ◌≤◌, ◌<◌, ◌+◌, ◌*◌, ◌||◌, cond, Bool, true, false, max, ℕ, zero, suc, List, [], ◌∷◌, ◌++◌, Option, Some, None, IfSome, length, map, slice_get, refl, sym, ap, ◌∙◌, subst, arith, length-append}
+use Rattle.std.proofs.Common.{◌≡◌, ◌≢◌, ◌≤◌, ◌<◌, ◌+◌, ◌||◌, cond, Bool, true, false, ℕ, zero, suc, List, [], ◌∷◌, ◌++◌, Option, Some, None, IfSome, length, map, slice_get, refl, sym, ap, ◌∙◌, subst, arith, length-append}
 use Rattle.std.specs.List.{All, AllByRecursion, flat_map}
 use Rattle.std.proofs.lemmas.List.Elements.{All-head, recursion_from_All}
 use Rattle.std.proofs.lemmas.Grind.{flat_map-append}
 use Rattle.ppm_code.specs.declared.act.End.TheVariants as ends
 use Rattle.ppm_code.specs.declared.code.Procedure.{Procedure as CodeProcedure}
-use Rattle.ppm_code.specs.declared.code.Capsule.{Capsule}
 use Rattle.ppm_code.specs.declared.code.CodeParts.{CodeParts}
 use Rattle.ppm_code.specs.declared.instr.Instr.TheVariants as instr
 use Rattle.ppm_code.specs.Code.{IsProcedure, IsCapsule, IsCapsuleOf, IsSlot, IsLine, room_of}
@@ -14,29 +13,27 @@ use Rattle.ppm_tree.specs.declared.named.Named.{Named}
 use Rattle.ppm_tree.specs.Tree.{Expression, Argument, Side, Statement, Block, Nil, Then, Give, Procedure}
 use Rattle.ppm_tree.specs.Tree as tree
 use Rattle.ppm_tree.specs.Parts.{nodes, nodes_of, statement_and_inner, statements_in}
-use Rattle.ppm_tree.specs.State.{procedure_named}
 use Rattle.ppm_tree.specs.Limits.{IsNode, IsNamed, IsSmallStatement, IsSmallGive, node_limit}
 use Rattle.ppm_tree.specs.Limits as limits
 use Rattle.ppm_bounds.specs.Slots.{most_within, most_in_force, puts, has_put}
 use Rattle.ppm_bounds.specs.Names as counted
 use Rattle.ppm_bounds.proofs.Keeping.{all-append, all-first, all-second}
-use Rattle.ppm_regions.specs.Scope.{Scope, first_named, lets_of, scope_behind}
+use Rattle.ppm_regions.specs.Scope.{Scope, first_named, lets_of, split_scope, scope_behind}
 use Rattle.ppm_translation.specs.Layout.{Layout, slot_of, target_of, register, caught}
 use Rattle.ppm_translation.specs.Expressions.{size_of, expression_code}
 use Rattle.ppm_translation.specs.Numbers.{behind, end_of, hidden_behind, hidden_behind_block, halving, halved, element_block}
-use Rattle.ppm_translation.specs.Slots.{assigns, has_assignment, spare_slots, named_slots, procedure_slots, hidden_named_slots, hidden_slots, frame_words, fork_words}
+use Rattle.ppm_translation.specs.Slots.{assigns, has_assignment, spare_slots, hidden_slots, frame_words, fork_words}
 use Rattle.ppm_translation.specs.Statements.{Instrs, Last, OnTo, Gives, last_code, onward, let_code, value_code, move_code, element_code, put_code, test_code, split_code}
-use Rattle.ppm_translation.specs.Statements.{give_code, each_code, entry_code, halving_code, arguments_size, arguments_code, paired, stores_code, loads_code, names_code}
-use Rattle.ppm_translation.specs.Statements.{with_lets, with_parts, hidden_layout, number_of, call_code, fork_code, callee_parameters, callee_number, callee_slots}
+use Rattle.ppm_translation.specs.Statements.{each_code, entry_code, halving_code, arguments_size, arguments_code, paired, stores_code}
+use Rattle.ppm_translation.specs.Statements.{with_lets, with_parts, number_of, call_code, fork_code, callee_parameters, callee_number, callee_slots}
 use Rattle.ppm_translation.specs.Statements.{statement_code, block_code}
 use Rattle.ppm_translation.specs.Routines.{hidden_of, hidden_of_block}
 use Rattle.ppm_translation.specs.Standing.{HasBodies}
-use Rattle.ppm_translation.specs.Fits.{split_scope, FitsExpression, FitsTarget, FitsSide, FitsStatement, FitsBlock, FitsGive, layout_behind}
-use Rattle.ppm_translation.specs.Fits as fitting
+use Rattle.ppm_translation.specs.Fits.{FitsExpression, FitsTarget, FitsSide, FitsStatement, FitsBlock, layout_behind}
 use Rattle.ppm_translation.proofs.PlaceLemmas.{of_procedure, ArePlaced, placed_first, placed_second, hidden_past, hidden_past_block}
 use Rattle.ppm_translation.proofs.SizeLemmas.{size_at_most, expression_length, arguments_length, stores_length, loads_length, names_length, arguments_at_most, paired_at_most}
 use Rattle.ppm_translation.proofs.FitLemmas.{IsClosed, closed_end, closed_behind, closed_expression, closed_arguments, closed_stores, closed_loads, closed_names}
-use Rattle.ppm_translation.proofs.FitLemmas.{line_fits, AllFit, moved, capsule_fits, slot_fits, expression_fits, arguments_fit, stores_fit, loads_fit, names_fit}
+use Rattle.ppm_translation.proofs.FitLemmas.{line_fits, AllFit, moved, capsule_fits, expression_fits, arguments_fit, stores_fit, loads_fit, names_fit}
 use Rattle.ppm_translation.proofs.CaughtLemmas.{caught_have_slots}
 use Rattle.ppm_translation.proofs.SoundLemmas.{AreSmall, most_slots}
 
@@ -124,7 +121,7 @@ two_sides : (s t : Side) → All IsNode (nodes_of (tree.Fork s t)) → length (n
     → AllByRecursion IsNode (side_nodes s) × AllByRecursion IsNode (side_nodes t) × length (side_nodes s) + length (side_nodes t) ≤ 48
 two_sides s t n count =
     let same : nodes_of (tree.Fork s t) ≡ side_nodes s ++ side_nodes t =
-        flat_map-append nodes (map (λ a. a.value) s.arguments) (map (λ a. a.value) t.arguments) in
+    flat_map-append nodes (map (λ a. a.value) s.arguments) (map (λ a. a.value) t.arguments) in
     let both = subst (λ (l : List Expression). AllByRecursion IsNode l) same (recursion_from_All IsNode (nodes_of (tree.Fork s t)) n) in
     let l = ap length same ∙ length-append (side_nodes s) (side_nodes t) in
     (all-first IsNode (side_nodes s) (side_nodes t) both, all-second IsNode (side_nodes s) (side_nodes t) both, omega (arith, l, count))
@@ -268,11 +265,12 @@ module _ (procedures : List Procedure) (code : CodeParts) (known : IsKnown proce
         let asked : room_of is ≡ Some (frame_words slots) = refl in
         let same : frame_words slots ≡ frame_size code (callee_number procedures s) = ap (λ n. 6 + n) (sym (callee_has s f.callee)) in
         capsule_fits code q is there (omega (arith, long, more, most, count))
-        (closed_behind _ _ (closed_arguments layout ps s.arguments 0 1 stores (closed_stores 6 0 number end (closed_end _))))
-        ((omega arith, omega arith, omega (arith, few)),
-        arguments_fit code q is scope layout room ps s.arguments 0 1 stores f.arguments n (omega (arith, long, more))
-        (stores_fit code q is (frame_words slots) 6 0 number (1 + size) end asked (omega (arith, in_frame))
-        ((known.callees s.callee.name f.callee, at, target_fits scope layout room s.target f.target, ap Some same), tt)))
+        (closed_behind _ _ (closed_arguments layout ps s.arguments 0 1 stores (closed_stores 6 0 number end (closed_end _)))) (
+          (omega arith, omega arith, omega (arith, few)),
+          arguments_fit code q is scope layout room ps s.arguments 0 1 stores f.arguments n (omega (arith, long, more))
+              (stores_fit code q is (frame_words slots) 6 0 number (1 + size) end asked (omega (arith, in_frame))
+              ((known.callees s.callee.name f.callee, at, target_fits scope layout room s.target f.target, ap Some same), tt)),
+        )
 
     fork_keeps : (scope : Scope) (layout : Layout) (s t : Side) (next : ℕ) → length layout ≤ slots_of code q → FitsSide procedures scope layout s
         → FitsSide procedures scope layout t → AllByRecursion IsNode (flat_map nodes (map (λ a. a.value) s.arguments))
@@ -306,19 +304,28 @@ module _ (procedures : List Procedure) (code : CodeParts) (known : IsKnown proce
         let in_frame' = paired_few t in
         let asked : room_of is ≡ Some words = refl in
         let same : words ≡ fork_size code (callee_number procedures s) (callee_number procedures t) =
-            λ i. 5 + (6 + sym (callee_has s f.callee) i) + (6 + sym (callee_has t g.callee) i) in
+        λ i. 5 + (6 + sym (callee_has s f.callee) i) + (6 + sym (callee_has t g.callee) i) in
         let start : suc size ≡ 1 + size = omega arith in
         capsule_fits code q is there (omega (arith, long, long', more, more', most, most', count))
         (closed_behind _ _ (closed_arguments layout l s.arguments 0 1 second (closed_arguments layout r t.arguments lefts (suc size) in_left
-        (closed_stores 11 0 lefts in_right (closed_stores (11 + frame_words left) lefts rights end (closed_end _))))))
-        ((omega arith, omega arith, omega (arith, few, few')),
-        arguments_fit code q is scope layout room l s.arguments 0 1 second f.arguments n (omega (arith, long))
-        (moved code q is second (suc size) (1 + size) start
-        (arguments_fit code q is scope layout room r t.arguments lefts (suc size) in_left g.arguments m (omega (arith, long, long'))
-        (stores_fit code q is words 11 0 lefts (suc size + size') in_right asked (omega (arith, in_frame))
-        (stores_fit code q is words (11 + frame_words left) lefts rights (suc size + size' + lefts) end asked (omega (arith, in_frame'))
-        ((known.callees s.callee.name f.callee, known.callees t.callee.name g.callee, at, target_fits scope layout room s.target f.target,
-        target_fits scope layout room t.target g.target, ap Some same), tt))))))
+        (closed_stores 11 0 lefts in_right (closed_stores (11 + frame_words left) lefts rights end (closed_end _)))))) (
+          (omega arith, omega arith, omega (arith, few, few')),
+          arguments_fit code q is scope layout room l s.arguments 0 1 second f.arguments n (omega (arith, long))
+              (moved code q is second (suc size) (1 + size) start
+              (arguments_fit code q is scope layout room r t.arguments lefts (suc size) in_left g.arguments m (omega (arith, long, long'))
+              (stores_fit code q is words 11 0 lefts (suc size + size') in_right asked (omega (arith, in_frame))
+              (stores_fit code q is words (11 + frame_words left) lefts rights (suc size + size' + lefts) end asked (omega (arith, in_frame')) (
+                (
+                  known.callees s.callee.name f.callee,
+                  known.callees t.callee.name g.callee,
+                  at,
+                  target_fits scope layout room s.target f.target,
+                  target_fits scope layout room t.target g.target,
+                  ap Some same,
+                ),
+                tt,
+              ))))),
+        )
 
     each_keeps : (layout : Layout) (r : Named) (block : Block) (h next : ℕ) → length layout ≤ slots_of code q → slot_of layout r.name < slots_of code q
         → slots_of code h ≡ hidden_slots (length (caught layout block)) block → IsCapsuleOf code q next → Keeps (each_code layout r block h next)
@@ -336,11 +343,18 @@ module _ (procedures : List Procedure) (code : CodeParts) (known : IsKnown proce
         let same : frame_words slots ≡ frame_size code h = ap (λ n. 6 + n) (sym hidden) in
         let callee : IsProcedure code h = procedure_there code h (omega (arith, hidden)) in
         capsule_fits code q is there (omega (arith, long, more, few, hidden))
-        (closed_behind _ _ (closed_behind _ _ (closed_behind _ _ (closed_loads layout names 2 stores (closed_stores 6 0 (suc (suc count)) end (closed_end _))))))
-        ((omega arith, omega arith, omega (arith, few, hidden)), (slot, (tt,
-        loads_fit code q is [] layout room names 2 3 stores (caught_have_slots layout block)
-        (stores_fit code q is (frame_words slots) 6 0 (suc (suc count)) (3 + count) end asked (omega arith)
-        ((callee, at, tt, ap Some same), tt)))))
+        (closed_behind _ _ (closed_behind _ _ (closed_behind _ _ (closed_loads layout names 2 stores (closed_stores 6 0 (suc (suc count)) end (closed_end _)))))) (
+          (omega arith, omega arith, omega (arith, few, hidden)),
+          (
+            slot,
+            (
+              tt,
+              loads_fit code q is [] layout room names 2 3 stores (caught_have_slots layout block)
+                  (stores_fit code q is (frame_words slots) 6 0 (suc (suc count)) (3 + count) end asked (omega arith)
+                  ((callee, at, tt, ap Some same), tt)),
+            ),
+          ),
+        )
 
     -- a hidden procedure is entered, and goes on by halves
     pub entry_keeps : (entry : ℕ) → 1 ≤ slots_of code q → IsCapsuleOf code q (halving entry) → IsCapsuleOf code q (element_block entry)
@@ -372,14 +386,47 @@ module _ (procedures : List Procedure) (code : CodeParts) (known : IsKnown proce
         capsule_fits code q is there (omega (arith, a, b, c, few, same, room))
         (closed_behind _ _ (closed_behind _ _ (closed_behind _ _ (closed_behind _ _ (closed_behind _ _ (closed_behind _ _ (closed_behind _ _
         (closed_behind _ _ (closed_behind _ _ (closed_names 2 6 names left (closed_behind _ _ (closed_behind _ _ (closed_stores 13 6 names right
-        (closed_behind _ _ (closed_behind _ _ (closed_stores (suc (suc right_at)) 6 names end (closed_end _)))))))))))))))))
-        ((omega arith, omega arith, omega (arith, few, same)), (omega (arith, room, same), (tt, (tt, (fits, (fits, (fits, (omega (arith, room, same), (fits,
-        names_fit code q is 2 6 names 9 left (omega (arith, room, same))
-        ((words, asked, omega (arith, room)), ((words, asked, omega (arith, room)),
-        stores_fit code q is words 13 6 names (suc (suc (9 + names))) right asked (omega (arith, room))
-        ((words, asked, omega (arith, room)), ((words, asked, omega (arith, room)),
-        stores_fit code q is words (suc (suc right_at)) 6 names (suc (suc behind_left)) end asked (omega (arith, room))
-        ((there, there, at, tt, tt, ap Some size), tt))))))))))))))
+        (closed_behind _ _ (closed_behind _ _ (closed_stores (suc (suc right_at)) 6 names end (closed_end _))))))))))))))))) (
+          (omega arith, omega arith, omega (arith, few, same)),
+          (
+            omega (arith, room, same),
+            (
+              tt,
+              (
+                tt,
+                (
+                  fits,
+                  (
+                    fits,
+                    (
+                      fits,
+                      (
+                        omega (arith, room, same),
+                        (
+                          fits,
+                          names_fit code q is 2 6 names 9 left (omega (arith, room, same)) (
+                            (words, asked, omega (arith, room)),
+                            (
+                              (words, asked, omega (arith, room)),
+                              stores_fit code q is words 13 6 names (suc (suc (9 + names))) right asked (omega (arith, room)) (
+                                (words, asked, omega (arith, room)),
+                                (
+                                  (words, asked, omega (arith, room)),
+                                  stores_fit code q is words (suc (suc right_at)) 6 names (suc (suc behind_left)) end asked (omega (arith, room))
+                                      ((there, there, at, tt, tt, ap Some size), tt),
+                                ),
+                              ),
+                            ),
+                          ),
+                        ),
+                      ),
+                    ),
+                  ),
+                ),
+              ),
+            ),
+          ),
+        )
 
     -- how a block goes on
     abbrev pub LastFits : Scope → Layout → Last → Type 0
@@ -416,8 +463,11 @@ module _ (procedures : List Procedure) (code : CodeParts) (known : IsKnown proce
           let line = line_fits (All-head IsNamed x [] small.0.names).line in (
             element_keeps scope layout index e (suc at) (omega (arith, lets, left)) (omega (arith, left)) f.1 f.2 n.0 n.1 n.2
                 (own (suc at) (omega (arith, first)) (omega (arith, last))),
-            (put_keeps layout x (suc (suc at)) (omega (arith, left)) (omega (arith, slot, lets, left)) line
-                (own (suc (suc at)) (omega (arith, first)) last), tt),
+            (
+              put_keeps layout x (suc (suc at)) (omega (arith, left)) (omega (arith, slot, lets, left)) line
+                  (own (suc (suc at)) (omega (arith, first)) last),
+              tt,
+            ),
           )
       statement_keeps scope layout at h (tree.If e holds other) f small placed first last within lets left =
           let n = one_expression e small.0.nodes small.0.count in
@@ -474,9 +524,11 @@ module _ (procedures : List Procedure) (code : CodeParts) (known : IsKnown proce
                 (omega (arith, last)) (omega (arith, within, parts)) left (own next (omega (arith, first, grows)) last),
           )
       statement_keeps scope layout at h (tree.Each i x r block) f small placed first last within lets left =
-          let slot = f.0.has in
-          (each_keeps layout r block h (suc at) (omega (arith, lets, left)) (omega (arith, slot, lets, left)) placed.0.slots
-          (own (suc at) (omega (arith, first)) last), tt)
+          let slot = f.0.has in (
+            each_keeps layout r block h (suc at) (omega (arith, lets, left)) (omega (arith, slot, lets, left)) placed.0.slots
+                (own (suc at) (omega (arith, first)) last),
+            tt,
+          )
 
       -- and of a block
       pub block_keeps : (scope : Scope) (layout : Layout) (at h : ℕ) (last : Last) (b : Block) → FitsBlock procedures scope layout b
