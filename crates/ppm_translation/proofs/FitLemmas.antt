@@ -24,7 +24,8 @@ use Rattle.ppm_bounds.proofs.Keeping.{all-first, all-second}
 use Rattle.ppm_regions.specs.Scope.{Scope}
 use Rattle.ppm_translation.specs.Layout.{Layout, slot_of, register}
 use Rattle.ppm_translation.specs.Expressions.{size_of, branch_size, last_size, operator_code, right_register, branch_code, expression_code}
-use Rattle.ppm_translation.specs.Statements.{Instrs, lent_code, argument_size, argument_code, arguments_size, arguments_code, stores_code, loads_code, names_code}
+use Rattle.ppm_translation.specs.Statements.{Instrs, lent_code, argument_size, argument_code, arguments_size, arguments_code, stores_code}
+use Rattle.ppm_translation.specs.Statements.{loads_code, names_code}
 use Rattle.ppm_translation.specs.Fits.{Has, FitsExpression, FitsLent, FitsArgument, FitsArguments}
 use Rattle.ppm_translation.proofs.SizeLemmas.{last_at_least}
 use Rattle.ppm_translation.proofs.PlaceLemmas.{of_procedure}
@@ -86,7 +87,8 @@ closed_expression layout (tree.Binary o line left right) d at rest h =
     closed_expression layout left d at (branch_code o d (from + size_of right) second) (closed_branch o d (from + size_of right) second
     (closed_expression layout right (right_register o d) from last (closed_operator o line d rest h)))
 
-closed_argument : (layout : Layout) (m : Mode) (e : Expression) (d at : ℕ) (rest : Instrs) → IsClosed rest → IsClosed (argument_code layout m e d at rest)
+closed_argument : (layout : Layout) (m : Mode) (e : Expression) (d at : ℕ) (rest : Instrs) → IsClosed rest
+    → IsClosed (argument_code layout m e d at rest)
 closed_argument layout mode.Int e d at rest h = closed_expression layout e d at rest h
 closed_argument layout mode.Mut e d at rest h = closed_behind _ rest h
 closed_argument layout mode.Ref e d at rest h = closed_behind _ rest h
@@ -153,7 +155,8 @@ module _ (code : CodeParts) (q : ℕ) (is : Instrs) where
   }
 
   -- an operator, and its branch
-  operator_fits : (o : Operator) (line d at : ℕ) (rest : Instrs) → IsLine line → AllFit (at + last_size o) rest → AllFit at (operator_code o line d rest)
+  operator_fits : (o : Operator) (line d at : ℕ) (rest : Instrs) → IsLine line → AllFit (at + last_size o) rest
+      → AllFit at (operator_code o line d rest)
   operator_fits operator.Add line d at rest l h = (l, moved rest (at + 1) (suc at) (omega arith) h)
   operator_fits operator.Sub line d at rest l h = (l, moved rest (at + 1) (suc at) (omega arith) h)
   operator_fits operator.Mul line d at rest l h = (l, moved rest (at + 1) (suc at) (omega arith) h)

@@ -1,5 +1,6 @@
 -- The code of an admitted program within its limits and bounds keeps all rules of a code.
-use Rattle.std.proofs.Common.{◌≡◌, ◌≢◌, ◌≤◌, ◌<◌, ◌+◌, cond, Bool, true, false, ℕ, zero, suc, List, [], ◌∷◌, ◌++◌, Option, Some, None, IfSome, length, map, slice_get, codes, refl, sym, ap, ◌∙◌, subst, arith, inl, inr, eq-or-lt_of_le}
+use Rattle.std.proofs.Common.{◌≡◌, ◌≢◌, ◌≤◌, ◌<◌, ◌+◌, cond, Bool, true, false, ℕ, zero, suc, List, [], ◌∷◌, ◌++◌, Option, Some, None, IfSome}
+use Rattle.std.proofs.Common.{length, map, slice_get, codes, refl, sym, ap, ◌∙◌, subst, arith, inl, inr, eq-or-lt_of_le}
 use Rattle.std.specs.Str.{bytes_eq}
 use Rattle.std.specs.List.{All, AllByRecursion, Contains, flat_map}
 use Rattle.std.proofs.lemmas.List.{length-map}
@@ -32,11 +33,13 @@ use Rattle.ppm_translation.specs.Layout.{Layout, parameter_layout}
 use Rattle.ppm_translation.specs.Numbers.{end_of, element_block}
 use Rattle.ppm_translation.specs.Slots.{named_slots, hidden_named_slots, hidden_slots}
 use Rattle.ppm_translation.specs.Statements.{Instrs, Gives, number_of, halving_code}
-use Rattle.ppm_translation.specs.Routines.{Routine, OfText, Hidden, sweep_layout, routine_slots, routine_behind, routines_of, procedures_from, routine_code}
+use Rattle.ppm_translation.specs.Routines.{Routine, OfText, Hidden, sweep_layout, routine_slots, routine_behind, routines_of, procedures_from}
+use Rattle.ppm_translation.specs.Routines.{routine_code}
 use Rattle.ppm_translation.specs.Routines.{capsules_from, code_of}
 use Rattle.ppm_translation.specs.Fits.{FitsGive, FitsProcedure, layout_behind}
 use Rattle.ppm_translation.specs.Correct.{NamesHaveSlots, KeepsTheRules}
-use Rattle.ppm_translation.proofs.PlaceLemmas.{past, past_map, routine_past, of_procedure, found_there, Listed, listed, listed_first, listed_second, Stands}
+use Rattle.ppm_translation.proofs.PlaceLemmas.{past, past_map, routine_past, of_procedure, found_there, Listed, listed, listed_first, listed_second}
+use Rattle.ppm_translation.proofs.PlaceLemmas.{Stands}
 use Rattle.ppm_translation.proofs.PlaceLemmas.{stands_listed, ArePlaced, routines_placed, procedures_have}
 use Rattle.ppm_translation.proofs.SizeLemmas.{procedures_count, procedures_at_least, capsules_count}
 use Rattle.ppm_translation.proofs.SoundLemmas.{IsSoundRoutine, AreSound, all_sound, routine_few, most_slots}
@@ -100,7 +103,8 @@ module _ (procedures : List Procedure) (code : CodeParts) where
   few_at (p ∷ ps) (suc q) h = few_at ps q h.1
 
   module _ (known : IsKnown procedures code) where
-    give_fits : (q spare low high : ℕ) (there : IsProcedure code q) (own : (n : ℕ) → low ≤ n → n < high → IsCapsuleOf code q n) (scope : Scope) (layout : Layout)
+    give_fits : (q spare low high : ℕ) (there : IsProcedure code q) (own : (n : ℕ) → low ≤ n → n < high
+        → IsCapsuleOf code q n) (scope : Scope) (layout : Layout)
         (g : Option Give) → FitsGive procedures scope layout g → All IsSmallGive (gives_of g)
         → LastFits procedures code known q spare low high there own scope layout (Gives g)
     give_fits q spare low high there own scope layout None f small = tt
@@ -226,7 +230,8 @@ module _ (t : ProgramTree) (admitted : IsAdmitted t) where
       let free = behind_first _ _ h in
       let there = contains_map (plain mode.Int) p.name (map (λ z. z.name) ps) (contains_map (λ z. z.name) p ps later) in
       let new = declares_new t (s ++ plain mode.Int r.name ∷ []) declarations free (plain mode.Int p.name) there in
-      let apart = not_among (λ z. z.name.name) (s ++ plain mode.Int r.name ∷ []) p.name.name new (plain mode.Int r.name) (Contains-push s (plain mode.Int r.name)) in
+      let own = plain mode.Int r.name in
+      let apart = not_among (λ z. z.name.name) (s ++ own ∷ []) p.name.name new own (Contains-push s own) in
       found_later (λ z. z.name.name) p.name.name r ps apart ∙ own_name (s ++ plain mode.Int r.name ∷ []) ps free p later) c
 
   procedure_own : (p : Procedure) → Contains t.procedures p → procedure_named t.procedures p.name.name ≡ p

@@ -1,5 +1,6 @@
 -- Each capsule of a procedure keeps the rules of a code.
-use Rattle.std.proofs.Common.{◌≡◌, ◌≢◌, ◌≤◌, ◌<◌, ◌+◌, ◌||◌, cond, Bool, true, false, ℕ, zero, suc, List, [], ◌∷◌, ◌++◌, Option, Some, None, IfSome, length, map, slice_get, refl, sym, ap, ◌∙◌, subst, arith, length-append}
+use Rattle.std.proofs.Common.{◌≡◌, ◌≢◌, ◌≤◌, ◌<◌, ◌+◌, ◌||◌, cond, Bool, true, false, ℕ, zero, suc, List, [], ◌∷◌, ◌++◌, Option, Some, None, IfSome}
+use Rattle.std.proofs.Common.{length, map, slice_get, refl, sym, ap, ◌∙◌, subst, arith, length-append}
 use Rattle.std.specs.List.{All, AllByRecursion, flat_map}
 use Rattle.std.proofs.lemmas.List.Elements.{All-head, recursion_from_All}
 use Rattle.std.proofs.lemmas.Grind.{flat_map-append}
@@ -23,7 +24,8 @@ use Rattle.ppm_translation.specs.Layout.{Layout, slot_of, target_of, register, c
 use Rattle.ppm_translation.specs.Expressions.{size_of, expression_code}
 use Rattle.ppm_translation.specs.Numbers.{behind, end_of, hidden_behind, hidden_behind_block, halving, halved, element_block}
 use Rattle.ppm_translation.specs.Slots.{assigns, has_assignment, spare_slots, hidden_slots, frame_words, fork_words}
-use Rattle.ppm_translation.specs.Statements.{Instrs, Last, OnTo, Gives, last_code, onward, let_code, value_code, move_code, element_code, put_code, test_code, split_code}
+use Rattle.ppm_translation.specs.Statements.{Instrs, Last, OnTo, Gives, last_code, onward, let_code, value_code, move_code, element_code, put_code}
+use Rattle.ppm_translation.specs.Statements.{test_code, split_code}
 use Rattle.ppm_translation.specs.Statements.{each_code, entry_code, halving_code, arguments_size, arguments_code, paired, stores_code}
 use Rattle.ppm_translation.specs.Statements.{with_lets, with_parts, number_of, call_code, fork_code, callee_parameters, callee_number, callee_slots}
 use Rattle.ppm_translation.specs.Statements.{statement_code, block_code}
@@ -31,8 +33,10 @@ use Rattle.ppm_translation.specs.Routines.{hidden_of, hidden_of_block}
 use Rattle.ppm_translation.specs.Standing.{HasBodies}
 use Rattle.ppm_translation.specs.Fits.{FitsExpression, FitsTarget, FitsSide, FitsStatement, FitsBlock, layout_behind}
 use Rattle.ppm_translation.proofs.PlaceLemmas.{of_procedure, ArePlaced, placed_first, placed_second, hidden_past, hidden_past_block}
-use Rattle.ppm_translation.proofs.SizeLemmas.{size_at_most, expression_length, arguments_length, stores_length, loads_length, names_length, arguments_at_most, paired_at_most}
-use Rattle.ppm_translation.proofs.FitLemmas.{IsClosed, closed_end, closed_behind, closed_expression, closed_arguments, closed_stores, closed_loads, closed_names}
+use Rattle.ppm_translation.proofs.SizeLemmas.{size_at_most, expression_length, arguments_length, stores_length, loads_length, names_length}
+use Rattle.ppm_translation.proofs.SizeLemmas.{arguments_at_most, paired_at_most}
+use Rattle.ppm_translation.proofs.FitLemmas.{IsClosed, closed_end, closed_behind, closed_expression, closed_arguments, closed_stores, closed_loads}
+use Rattle.ppm_translation.proofs.FitLemmas.{closed_names}
 use Rattle.ppm_translation.proofs.FitLemmas.{line_fits, AllFit, moved, capsule_fits, expression_fits, arguments_fit, stores_fit, loads_fit, names_fit}
 use Rattle.ppm_translation.proofs.CaughtLemmas.{caught_have_slots}
 use Rattle.ppm_translation.proofs.SoundLemmas.{AreSmall, most_slots}
@@ -178,13 +182,15 @@ module _ (procedures : List Procedure) (code : CodeParts) (known : IsKnown proce
         one_keeps scope layout e (instr.StoreCur spare (register 0) ∷ onward next) room f n count (omega arith)
         (closed_behind _ _ (closed_end (ends.Next next))) (left, (at, tt))
 
-    move_keeps : (layout : Layout) (x : Named) (next : ℕ) → spare < slots_of code q → slot_of layout x.name < slots_of code q → IsCapsuleOf code q next
+    move_keeps : (layout : Layout) (x : Named) (next : ℕ) → spare < slots_of code q → slot_of layout x.name < slots_of code q
+        → IsCapsuleOf code q next
         → Keeps (move_code layout spare x next)
     move_keeps layout x next left slot at =
         capsule_fits code q (move_code layout spare x next) there (omega arith) (closed_behind _ _ (closed_behind _ _ (closed_end (ends.Next next))))
         (left, (slot, (at, tt)))
 
-    element_keeps : (scope : Scope) (layout : Layout) (index e : Expression) (next : ℕ) → length layout ≤ slots_of code q → suc spare < slots_of code q
+    element_keeps : (scope : Scope) (layout : Layout) (index e : Expression) (next : ℕ) → length layout ≤ slots_of code q
+        → suc spare < slots_of code q
         → FitsExpression scope layout index → FitsExpression scope layout e → AllByRecursion IsNode (nodes index) → AllByRecursion IsNode (nodes e)
         → length (nodes index) + length (nodes e) ≤ 48 → IsCapsuleOf code q next → Keeps (element_code layout spare index e next)
     element_keeps scope layout index e next room left f g n m count at =
@@ -210,7 +216,8 @@ module _ (procedures : List Procedure) (code : CodeParts) (known : IsKnown proce
         (closed_behind _ _ (closed_behind _ _ (closed_behind _ _ (closed_behind _ _ (closed_end (ends.Next next))))))
         (slot, (omega (arith, left), (left, (line, (at, tt)))))
 
-    test_keeps : (scope : Scope) (layout : Layout) (e : Expression) (inside next : ℕ) → length layout ≤ slots_of code q → FitsExpression scope layout e
+    test_keeps : (scope : Scope) (layout : Layout) (e : Expression) (inside next : ℕ) → length layout ≤ slots_of code q
+        → FitsExpression scope layout e
         → AllByRecursion IsNode (nodes e) → length (nodes e) ≤ 48 → IsCapsuleOf code q inside → IsCapsuleOf code q next
         → Keeps (test_code layout e inside next)
     test_keeps scope layout e inside next room f n count at_yes at_no =
@@ -286,7 +293,9 @@ module _ (procedures : List Procedure) (code : CodeParts) (known : IsKnown proce
         let lefts = paired l s.arguments in
         let rights = paired r t.arguments in
         let words = fork_words left right in
-        let end = instr.Ends (ends.Fork (callee_number procedures s) (callee_number procedures t) next (target_of layout s.target) (target_of layout t.target)) ∷ [] in
+        let first = callee_number procedures s in
+        let other = callee_number procedures t in
+        let end = instr.Ends (ends.Fork first other next (target_of layout s.target) (target_of layout t.target)) ∷ [] in
         let in_right = stores_code (11 + frame_words left) lefts rights end in
         let in_left = stores_code 11 0 lefts in_right in
         let size = arguments_size l s.arguments in
@@ -327,7 +336,8 @@ module _ (procedures : List Procedure) (code : CodeParts) (known : IsKnown proce
               ))))),
         )
 
-    each_keeps : (layout : Layout) (r : Named) (block : Block) (h next : ℕ) → length layout ≤ slots_of code q → slot_of layout r.name < slots_of code q
+    each_keeps : (layout : Layout) (r : Named) (block : Block) (h next : ℕ) → length layout ≤ slots_of code q
+        → slot_of layout r.name < slots_of code q
         → slots_of code h ≡ hidden_slots (length (caught layout block)) block → IsCapsuleOf code q next → Keeps (each_code layout r block h next)
     each_keeps layout r block h next room slot hidden at =
         let is = each_code layout r block h next in

@@ -21,7 +21,8 @@ use Rattle.ppm_translation.specs.Layout.{Layout, slot_of, register, parameter_la
 use Rattle.ppm_translation.specs.Expressions.{size_of, branch_size, last_size, operator_code, right_register, branch_code, expression_code}
 use Rattle.ppm_translation.specs.Numbers.{behind, end_of, hidden_behind, hidden_behind_block, element_block}
 use Rattle.ppm_translation.specs.Slots.{named_slots, hidden_named_slots}
-use Rattle.ppm_translation.specs.Statements.{Last, OnTo, Gives, argument_size, argument_code, arguments_size, arguments_code, paired, stores_code, loads_code}
+use Rattle.ppm_translation.specs.Statements.{Last, OnTo, Gives, argument_size, argument_code, arguments_size, arguments_code, paired, stores_code}
+use Rattle.ppm_translation.specs.Statements.{loads_code}
 use Rattle.ppm_translation.specs.Statements.{names_code, with_lets, with_parts, hidden_layout, statement_code, block_code}
 use Rattle.ppm_translation.specs.Routines.{Routine, OfText, Hidden, hidden_of, hidden_of_block, texts_from, hidden_from, routines_of}
 use Rattle.ppm_translation.specs.Routines.{procedures_from, routine_code, capsules_from, routine_behind}
@@ -312,7 +313,8 @@ module _ (procedures : List Procedure) where
         → length (block_code procedures spare layout at h last b) ≡ block_capsules b
     block_length spare layout at h last Nil = refl
     block_length spare layout at h last (Then s rest) =
-        let l = length-append (statement_code procedures spare layout at h s) (block_code procedures spare (with_lets layout s) (behind s at) (hidden_behind s h) last rest) in
+        let front = statement_code procedures spare layout at h s in
+        let l = length-append front (block_code procedures spare (with_lets layout s) (behind s at) (hidden_behind s h) last rest) in
         let a = statement_length spare layout at h s in
         let b = block_length spare (with_lets layout s) (behind s at) (hidden_behind s h) last rest in
         omega (arith, l, a, b)
@@ -320,7 +322,8 @@ module _ (procedures : List Procedure) where
   routine_length : (at : ℕ) (r : Routine) → length (routine_code procedures at r) ≡ routine_capsules r
   routine_length at (OfText p h) = block_length (named_slots p) (parameter_layout p.parameters) at h (Gives p.give) p.body
   routine_length at (Hidden s) =
-      let a = block_length (hidden_named_slots (length s.names) s.block) (s.part ∷ s.index ∷ s.names) (element_block at) (suc s.number) (Gives None) s.block in
+      let spare = hidden_named_slots (length s.names) s.block in
+      let a = block_length spare (s.part ∷ s.index ∷ s.names) (element_block at) (suc s.number) (Gives None) s.block in
       omega (arith, a)
 
   capsules_length : (q at : ℕ) (rs : List Routine) → length (capsules_from procedures q at rs) ≡ all_capsules rs

@@ -20,7 +20,8 @@ use Rattle.ppm_translation.specs.Layout.{Layout, parameter_layout, caught}
 use Rattle.ppm_translation.specs.Numbers.{hidden_behind, hidden_behind_block}
 use Rattle.ppm_translation.specs.Slots.{has_assignment, spare_slots, procedure_slots, hidden_slots}
 use Rattle.ppm_translation.specs.Statements.{with_lets, with_parts, hidden_layout}
-use Rattle.ppm_translation.specs.Routines.{Sweep, Routine, OfText, Hidden, sweep_layout, routine_slots, hidden_of, hidden_of_block, texts_from, hidden_from}
+use Rattle.ppm_translation.specs.Routines.{Sweep, Routine, OfText, Hidden, sweep_layout, routine_slots, hidden_of, hidden_of_block, texts_from}
+use Rattle.ppm_translation.specs.Routines.{hidden_from}
 use Rattle.ppm_translation.specs.Routines.{routines_of}
 use Rattle.ppm_regions.specs.Scope.{split_scope, each_scope}
 use Rattle.ppm_translation.specs.Fits.{FitsStatement, FitsBlock, FitsProcedure}
@@ -54,7 +55,8 @@ abbrev HasFewSlots : Statement → Type 0
 HasFewSlots s = count_of bound.Slots s ≤ limit_of bound.Slots
 
 module _ (procedures : List Procedure) where
-  once_lets : (scope : Scope) (layout : Layout) (s : Statement) → FitsStatement procedures scope layout s → IsEachOnce layout → IsEachOnce (with_lets layout s)
+  once_lets : (scope : Scope) (layout : Layout) (s : Statement) → FitsStatement procedures scope layout s → IsEachOnce layout
+      → IsEachOnce (with_lets layout s)
   once_lets scope layout (tree.Let x e) f h = once_push layout x.name h f.1
   once_lets scope layout (tree.Assign x e) f h = h
   once_lets scope layout (tree.Put x index e) f h = h
