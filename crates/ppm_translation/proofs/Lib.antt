@@ -2,3 +2,8 @@ pub mod LayoutLemmas
 pub mod CoverLemmas
 pub mod FitsLemmas
 pub mod PlaceLemmas
+pub mod CaughtLemmas
+pub mod SizeLemmas
+pub mod FitLemmas
+pub mod SoundLemmas
+pub mod RuleLemmas
