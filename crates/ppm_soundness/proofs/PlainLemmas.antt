@@ -1,9 +1,8 @@
 -- The instructions of a capsule, from the last one on: which classes it reads and writes, and what its stores into a new block build.
-use Rattle.std.proofs.Common.{◌≡◌, ◌<◌, ◌≤◌, inl, inr, ℕ, zero, suc, ◌+◌, List, [], ◌∷◌, length, refl, subst, arith, true, false}
-use Rattle.std.specs.Prelude.{slice_get, Some, pos, max}
+use Rattle.std.proofs.Common.{◌≡◌, ◌<◌, ◌≤◌, inl, inr, ℕ, zero, suc, ◌+◌, List, [], ◌∷◌, refl, subst, arith}
+use Rattle.std.specs.Prelude.{slice_get, Some}
 use Rattle.std.specs.List.{AllByRecursion, Contains}
 use Rattle.ppm_code.specs.declared.act.End.{End}
-use Rattle.ppm_code.specs.declared.act.End.TheVariants as ends
 use Rattle.ppm_code.specs.declared.class.Class.{Class}
 use Rattle.ppm_code.specs.declared.class.Class.TheVariants.{Slot, New, Value, Room, Array}
 use Rattle.ppm_code.specs.declared.class.May.{May}
@@ -12,8 +11,8 @@ use Rattle.ppm_code.specs.declared.code.CodeParts.{CodeParts}
 use Rattle.ppm_code.specs.declared.instr.Instr.{Instr}
 use Rattle.ppm_code.specs.declared.instr.Instr.TheVariants as instr
 use Rattle.ppm_code.specs.declared.register.Register.{Register}
-use Rattle.ppm_code.specs.Paths.{may, Does, GoesTo, Path, Here, Then, HasNoConflict}
-use Rattle.ppm_code.specs.Tidy.{can_trap, Builds, IsBuilder, MayFollow, IsTidyCapsule}
+use Rattle.ppm_code.specs.Paths.{may, GoesTo, Path, Here, Then, HasNoConflict}
+use Rattle.ppm_code.specs.Tidy.{Builds, IsBuilder, MayFollow, IsTidyCapsule}
 use Rattle.ppm_regions.proofs.Elements.{contains_head, contains_tail}
 use Rattle.ppm_translation.specs.Layout.{register}
 use Rattle.ppm_translation.specs.Statements.{stores_code}

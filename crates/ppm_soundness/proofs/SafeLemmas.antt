@@ -1,43 +1,33 @@
 -- The capsules of statements that fit are safe: each reads slots of names and stores into others, or into the new block.
-use Rattle.std.proofs.Common.{◌≡◌, ◌≢◌, ◌<◌, ◌≤◌, inl, inr, ℕ, zero, suc, ◌+◌, List, [], ◌∷◌, ◌++◌, None, Some, length, max, refl, subst, arith}
-use Rattle.std.specs.Prelude.{pos}
+use Rattle.std.proofs.Common.{◌≡◌, ◌≢◌, ◌<◌, ◌≤◌, inl, inr, ℕ, zero, suc, ◌+◌, List, [], ◌∷◌, None, Some, length, refl, arith}
 use Rattle.std.specs.List.{AllByRecursion}
-use Rattle.std.proofs.lemmas.List.{length-append}
-use Rattle.std.proofs.Math.Nat.{le-max_left, le-max_right}
 use Rattle.ppm_code.specs.declared.act.End.TheVariants as ends
 use Rattle.ppm_code.specs.declared.class.Class.{Class}
-use Rattle.ppm_code.specs.declared.class.Class.TheVariants.{Slot, New, Value, Room, Array}
+use Rattle.ppm_code.specs.declared.class.Class.TheVariants.{Slot}
 use Rattle.ppm_code.specs.declared.code.CodeParts.{CodeParts}
-use Rattle.ppm_code.specs.declared.instr.Instr.{Instr}
 use Rattle.ppm_code.specs.declared.instr.Instr.TheVariants as instr
 use Rattle.ppm_code.specs.Sizes.{slots_of}
-use Rattle.ppm_code.specs.Tidy.{Builds}
 use Rattle.ppm_tree.specs.declared.mode.Mode.{Mode}
 use Rattle.ppm_tree.specs.declared.mode.Mode.TheVariants as mode
 use Rattle.ppm_tree.specs.declared.named.Named.{Named}
 use Rattle.ppm_tree.specs.declared.operator.Operator.{Operator}
 use Rattle.ppm_tree.specs.declared.operator.Operator.TheVariants as operator
 use Rattle.ppm_tree.specs.declared.tree.Parameter.{Parameter}
-use Rattle.ppm_tree.specs.Tree.{Expression, Number, Name, Element, Len, Minus, Binary, Argument, Side, Statement, Let, Assign, Put, If, While, Split, Each}
-use Rattle.ppm_tree.specs.Tree.{Block, Nil, Then, Give, Procedure}
-use Rattle.ppm_tree.specs.Tree as tree
+use Rattle.ppm_tree.specs.Tree.{Expression, Number, Name, Element, Len, Minus, Binary, Argument, Side}
+use Rattle.ppm_tree.specs.Tree.{Block, Give, Procedure}
 use Rattle.ppm_tree.specs.State.{procedure_named}
-use Rattle.ppm_bounds.specs.Slots.{most_within, most_in_force}
-use Rattle.ppm_bounds.specs.Names as names
-use Rattle.ppm_regions.specs.Scope.{Scope, first_named, lets_of, scope_behind}
+use Rattle.ppm_regions.specs.Scope.{Scope, first_named}
 use Rattle.ppm_translation.specs.Layout.{Layout, slot_of, register, caught, target_of}
 use Rattle.ppm_translation.specs.Expressions.{size_of, branch_size, right_register, branch_code, operator_code, expression_code}
-use Rattle.ppm_translation.specs.Numbers.{behind, end_of, hidden_behind, hidden_behind_block}
-use Rattle.ppm_translation.specs.Slots.{procedure_slots, named_slots, spare_slots, hidden_slots, frame_words, fork_words}
-use Rattle.ppm_translation.specs.Statements.{Instrs, onward, let_code, value_code, move_code, element_code, put_code, test_code, split_code, lent_code}
-use Rattle.ppm_translation.specs.Statements.{argument_size, argument_code, arguments_size, arguments_code, paired, stores_code, Last, OnTo, Gives, give_code}
-use Rattle.ppm_translation.specs.Statements.{last_code, loads_code, each_code, entry_code, names_code, halving_code, with_lets, with_parts, number_of}
-use Rattle.ppm_translation.specs.Statements.{callee_parameters, callee_number, callee_slots, call_code, fork_code, statement_code, block_code}
-use Rattle.ppm_translation.specs.Routines.{hidden_of, hidden_of_block}
-use Rattle.ppm_translation.specs.Fits.{Has, IsKept, FitsExpression, FitsLent, FitsArgument, FitsArguments, FitsSide, FitsStatement, FitsBlock, FitsGive, layout_behind}
-use Rattle.ppm_translation.specs.Fits.{split_scope}
-use Rattle.ppm_translation.proofs.PlaceLemmas.{ArePlaced, placed_first, placed_second, hidden_past, hidden_past_block}
-use Rattle.ppm_soundness.proofs.PlainLemmas.{Below, IsSafe, IsBuilt, built_end, built_stores, IsPlain, AreSafe, plain_first, end_last, end_first, store_first, built_new, new_first}
+use Rattle.ppm_translation.specs.Slots.{procedure_slots, hidden_slots, frame_words}
+use Rattle.ppm_translation.specs.Statements.{Instrs, onward, let_code, value_code, move_code, element_code, put_code, test_code, split_code}
+use Rattle.ppm_translation.specs.Statements.{lent_code}
+use Rattle.ppm_translation.specs.Statements.{argument_size, argument_code, arguments_size, arguments_code, paired, stores_code, give_code}
+use Rattle.ppm_translation.specs.Statements.{loads_code, each_code, entry_code, names_code, halving_code, number_of}
+use Rattle.ppm_translation.specs.Statements.{callee_parameters, callee_number, callee_slots, call_code, fork_code}
+use Rattle.ppm_translation.specs.Fits.{Has, FitsExpression, FitsLent, FitsArgument, FitsArguments, FitsSide}
+use Rattle.ppm_soundness.proofs.PlainLemmas.{Below, IsSafe, built_end, built_stores, AreSafe, plain_first, end_last, end_first, store_first}
+use Rattle.ppm_soundness.proofs.PlainLemmas.{built_new, new_first}
 use Rattle.ppm_soundness.proofs.PlainLemmas.{give_first, put_first, stores_first, safe}
 
 -- the slots of a capsule that reads nothing else
@@ -58,7 +48,8 @@ module _ (code : CodeParts) where
       plain_first code (Below (length layout)) (instr.LoadSlot (register d) (slot_of layout x)) (loads_code layout names (suc d) rest) all.0
       (safe_loads layout names all.1 (suc d) rest h)
 
-  safe_names : (n slot d count : ℕ) → slot + count ≤ n → (rest : Instrs) → AreSafe code (Below n) rest → AreSafe code (Below n) (names_code slot d count rest)
+  safe_names : (n slot d count : ℕ) → slot + count ≤ n → (rest : Instrs) → AreSafe code (Below n) rest
+      → AreSafe code (Below n) (names_code slot d count rest)
   safe_names n slot d zero enough rest h = h
   safe_names n slot d (suc count) enough rest h =
       plain_first code (Below n) (instr.LoadSlot (register d) slot) (names_code (suc slot) (suc d) count rest) (omega (arith, enough))
@@ -105,7 +96,8 @@ module _ (code : CodeParts) where
         (safe_branch o d (from + size_of right) second
         (safe_expression right fits.1 (right_register o d) from last (safe_operator o line d rest h)))
 
-    safe_lent : (e : Expression) → FitsLent scope layout e → (d : ℕ) (rest : Instrs) → AreSafe code Reads rest → AreSafe code Reads (lent_code layout e d ∷ rest)
+    safe_lent : (e : Expression) → FitsLent scope layout e → (d : ℕ) (rest : Instrs) → AreSafe code Reads rest
+        → AreSafe code Reads (lent_code layout e d ∷ rest)
     safe_lent (Name x) fits d rest h = plain_first code Reads _ rest fits.has h
     safe_lent (Number z) fits d rest h = absurd fits
     safe_lent (Element x index) fits d rest h = absurd fits
@@ -125,7 +117,8 @@ module _ (code : CodeParts) where
     safe_arguments (p ∷ ps) [] fits d at rest h = h
     safe_arguments (p ∷ ps) (a ∷ arguments) fits d at rest h =
         let next = at + argument_size p.mode a.value in
-        safe_argument p.mode a.value fits.0 d at (arguments_code layout ps arguments (suc d) next rest) (safe_arguments ps arguments fits.1 (suc d) next rest h)
+        safe_argument p.mode a.value fits.0 d at (arguments_code layout ps arguments (suc d) next rest)
+        (safe_arguments ps arguments fits.1 (suc d) next rest h)
 
     pub safe_onward : (next : ℕ) → AreSafe code Reads (onward next)
     safe_onward next = end_last code Reads (ends.Next next)
@@ -145,9 +138,11 @@ module _ (code : CodeParts) where
     safe_move spare enough x has next =
         safe code (OnlySlot spare) (move_code layout spare x next)
         (plain_first code (OnlySlot spare) _ _ refl
-        (store_first code (OnlySlot spare) _ _ (onward next) (λ same. omega (arith, same, has, enough)) (end_last code (OnlySlot spare) (ends.Next next))))
+        (store_first code (OnlySlot spare) _ _ (onward next) (λ same. omega (arith, same, has, enough))
+        (end_last code (OnlySlot spare) (ends.Next next))))
 
-    pub safe_element : (spare : ℕ) → length layout ≤ spare → (index e : Expression) → FitsExpression scope layout index → FitsExpression scope layout e
+    pub safe_element : (spare : ℕ) → length layout ≤ spare → (index e : Expression) → FitsExpression scope layout index
+        → FitsExpression scope layout e
         → (next : ℕ) → IsSafe code (element_code layout spare index e next)
     safe_element spare enough index e fits fits' next =
         safe code Reads (element_code layout spare index e next)
@@ -212,22 +207,22 @@ safe_halving code entry hidden slots names line same enough =
     let second = instr.StoreNew right_at (register 3) ∷ more in
     let left = stores_code 13 6 names second in
     let in_right = λ (word : ℕ) (from : right_at ≤ word) (below : word < suc (suc right_at) + names).
-        built_end code e word (inr (omega (arith, from, same), omega (arith, below, same, enough))) in
+    built_end code e word (inr (omega (arith, from, same), omega (arith, below, same, enough))) in
     let in_left = λ (word : ℕ) (from : 11 ≤ word) (below : word < 13 + names).
-        built_new code word right_at (register 3) more (built_new code word (suc right_at) (register 5) right
-        (built_stores code word (suc (suc right_at)) 6 names last
-        (built_end code e word (inl (omega (arith, from), omega (arith, below, same, enough)))))) in
+    built_new code word right_at (register 3) more (built_new code word (suc right_at) (register 5) right
+    (built_stores code word (suc (suc right_at)) 6 names last
+    (built_end code e word (inl (omega (arith, from), omega (arith, below, same, enough)))))) in
     let safe_right = stores_first code R (suc (suc right_at)) 6 names last none
-        (λ word from below. in_right word (omega (arith, from)) below) (end_last code R e) in
+    (λ word from below. in_right word (omega (arith, from)) below) (end_last code R e) in
     let safe_second = new_first code R right_at (register 3) more (none right_at)
-        (built_new code right_at (suc right_at) (register 5) right
-        (built_stores code right_at (suc (suc right_at)) 6 names last (in_right right_at (omega arith) (omega arith))))
-        (new_first code R (suc right_at) (register 5) right (none (suc right_at))
-        (built_stores code (suc right_at) (suc (suc right_at)) 6 names last (in_right (suc right_at) (omega arith) (omega arith))) safe_right) in
+    (built_new code right_at (suc right_at) (register 5) right
+    (built_stores code right_at (suc (suc right_at)) 6 names last (in_right right_at (omega arith) (omega arith))))
+    (new_first code R (suc right_at) (register 5) right (none (suc right_at))
+    (built_stores code (suc right_at) (suc (suc right_at)) 6 names last (in_right (suc right_at) (omega arith) (omega arith))) safe_right) in
     let safe_left = stores_first code R 13 6 names second none (λ word from below. in_left word (omega (arith, from)) below) safe_second in
     let safe_first = new_first code R 11 (register 2) (instr.StoreNew 12 (register 4) ∷ left) (none 11)
-        (built_new code 11 12 (register 4) left (built_stores code 11 13 6 names second (in_left 11 (omega arith) (omega arith))))
-        (new_first code R 12 (register 4) left (none 12) (built_stores code 12 13 6 names second (in_left 12 (omega arith) (omega arith))) safe_left) in
+    (built_new code 11 12 (register 4) left (built_stores code 11 13 6 names second (in_left 11 (omega arith) (omega arith))))
+    (new_first code R 12 (register 4) left (none 12) (built_stores code 12 13 6 names second (in_left 12 (omega arith) (omega arith))) safe_left) in
     safe code R (halving_code entry hidden slots names line)
     (plain_first code R _ _ tt (plain_first code R _ _ (omega arith) (plain_first code R _ _ tt (plain_first code R _ _ tt
     (plain_first code R _ _ tt (plain_first code R _ _ tt (plain_first code R _ _ tt (plain_first code R _ _ (omega arith)
