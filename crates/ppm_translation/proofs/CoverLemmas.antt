@@ -19,11 +19,12 @@ use Rattle.ppm_bounds.specs.Names as names
 use Rattle.ppm_regions.specs.Scope.{Declaration, Scope, declared, seen_in_split, in_split, seen_in_each, in_each, parts_of, index_of, part}
 use Rattle.ppm_regions.specs.Scope.{element_of, lets_of}
 use Rattle.ppm_regions.proofs.Elements.{contains_map}
-use Rattle.ppm_owning.proofs.ScopeLemmas.{names_other, other_names, found_cases, none_and_some}
-use Rattle.ppm_owning.proofs.ScopeLemmas.{declared_in_front, declared_behind, declared_map, image_of}
+use Rattle.ppm_regions.proofs.ScopeLemmas.{names_other, other_names, found_cases, none_and_some}
+use Rattle.ppm_regions.proofs.ScopeLemmas.{declared_in_front, declared_behind, declared_map, image_of}
 use Rattle.ppm_translation.specs.Layout.{Layout, slot_of, caught}
 use Rattle.ppm_translation.specs.Statements.{with_lets, with_parts, hidden_layout}
-use Rattle.ppm_translation.specs.Fits.{Has, IsNew, split_scope, each_scope}
+use Rattle.ppm_regions.specs.Scope.{split_scope, each_scope}
+use Rattle.ppm_translation.specs.Fits.{Has, IsNew}
 use Rattle.ppm_translation.proofs.LayoutLemmas.{has_in_front, has_behind, new_in_both, has_filter, new_filter, contains_without}
 
 -- The layout has no other names than those in force, and it has those of these names that are in force.

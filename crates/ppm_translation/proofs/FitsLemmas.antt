@@ -30,14 +30,15 @@ use Rattle.ppm_regions.specs.Admission.{IsAdmitted}
 use Rattle.ppm_regions.specs.Correct.{Makes, KeepsRules}
 use Rattle.ppm_regions.proofs.Rules.{rules}
 use Rattle.ppm_regions.proofs.Elements.{contains_head, contains_tail, contains_map, contains_cases}
-use Rattle.ppm_owning.proofs.ScopeLemmas.{names_same, found_cases, none_and_some, declared_map}
-use Rattle.ppm_owning.proofs.SiteLemmas.{AreSites, sites_left, sites_right, AreMade, made_left, made_right, made_head, made_tail, made_at}
-use Rattle.ppm_owning.proofs.SiteLemmas.{uses_first, sites_inside}
-use Rattle.ppm_owning.proofs.SiteLemmas.{sites_behind, callee_sites, sites_of_parameters, sites_of_body, sites_of_gift, same_parameters}
-use Rattle.ppm_owning.proofs.SiteLemmas.{AreNew, are_new, not_later}
+use Rattle.ppm_regions.proofs.ScopeLemmas.{names_same, found_cases, none_and_some, declared_map}
+use Rattle.ppm_regions.proofs.SiteLemmas.{AreSites, sites_left, sites_right, AreMade, made_left, made_right, made_head, made_tail, made_at}
+use Rattle.ppm_regions.proofs.SiteLemmas.{uses_first, sites_inside}
+use Rattle.ppm_regions.proofs.SiteLemmas.{sites_behind, callee_sites, sites_of_parameters, sites_of_body, sites_of_gift, same_parameters}
+use Rattle.ppm_regions.proofs.SiteLemmas.{AreNew, are_new, not_later}
 use Rattle.ppm_translation.specs.Layout.{Layout, parameter_layout}
 use Rattle.ppm_translation.specs.Statements.{with_lets, with_parts, hidden_layout}
-use Rattle.ppm_translation.specs.Fits.{IsNew, IsLocal, IsRegion, IsDistinctLayout, scope_of, FitsExpression, FitsLent, FitsArgument}
+use Rattle.ppm_regions.specs.Scope.{scope_of}
+use Rattle.ppm_translation.specs.Fits.{IsNew, IsLocal, IsRegion, IsDistinctLayout, FitsExpression, FitsLent, FitsArgument}
 use Rattle.ppm_translation.specs.Fits.{FitsArguments, FitsTarget}
 use Rattle.ppm_translation.specs.Fits.{layout_behind, FitsSide, FitsStatement, FitsBlock, FitsGive, FitsProcedure}
 use Rattle.ppm_translation.specs.Correct.{NamesHaveSlots}

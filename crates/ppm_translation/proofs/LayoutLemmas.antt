@@ -6,7 +6,7 @@ use Rattle.std.specs.Set.{is_member}
 use Rattle.std.specs.Str.{bytes_eq}
 use Rattle.ppm_bounds.specs.Names.{without}
 use Rattle.ppm_regions.proofs.Elements.{contains_head, contains_tail, contains_cases}
-use Rattle.ppm_owning.proofs.ScopeLemmas.{same_names}
+use Rattle.ppm_regions.proofs.ScopeLemmas.{same_names}
 use Rattle.ppm_translation.specs.Layout.{Layout, slot_of}
 use Rattle.ppm_translation.specs.Fits.{Has, IsNew}
 

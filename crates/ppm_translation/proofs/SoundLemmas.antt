@@ -23,7 +23,8 @@ use Rattle.ppm_translation.specs.Slots.{has_assignment, spare_slots, procedure_s
 use Rattle.ppm_translation.specs.Statements.{with_lets, with_parts, hidden_layout}
 use Rattle.ppm_translation.specs.Routines.{Sweep, Routine, OfText, Hidden, sweep_layout, routine_slots, hidden_of, hidden_of_block, texts_from, hidden_from}
 use Rattle.ppm_translation.specs.Routines.{routines_of}
-use Rattle.ppm_translation.specs.Fits.{split_scope, each_scope, FitsStatement, FitsBlock, FitsProcedure}
+use Rattle.ppm_regions.specs.Scope.{split_scope, each_scope}
+use Rattle.ppm_translation.specs.Fits.{FitsStatement, FitsBlock, FitsProcedure}
 use Rattle.ppm_translation.proofs.PlaceLemmas.{past, ArePlaced, placed_first, placed_second, hidden_past, hidden_past_block, texts_past, past_length}
 use Rattle.ppm_translation.proofs.CaughtLemmas.{IsEachOnce, each_once, once_push, once_parts, once_hidden, caught_is_counted}
 use Rattle.ppm_translation.proofs.FitLemmas.{line_fits}
