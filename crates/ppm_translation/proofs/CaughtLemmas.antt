@@ -1,5 +1,5 @@
 -- Layouts in which no name has two slots, and that the block of an `each` catches no more names of one than are counted.
-use Rattle.std.proofs.Common.{◌≡◌, ◌≢◌, ◌<◌, ◌≤◌, ◌||◌, ◌&&◌, not, cond, Bool, true, false, ℕ, suc, List, [], ◌∷◌, ◌++◌, length, map, refl, sym, ap, ◌∙◌, subst, arith, filter, append_assoc}
+use Rattle.std.proofs.Common.{◌≡◌, ◌≢◌, ◌<◌, ◌≤◌, ◌||◌, ◌&&◌, not, cond, Bool, true, false, ℕ, suc, List, [], ◌∷◌, ◌++◌, length, refl, sym, ap, ◌∙◌, subst, arith, filter, append_assoc}
 use Rattle.std.specs.Str.{bytes_eq}
 use Rattle.std.specs.List.{AllByRecursion, IsDistinct}
 use Rattle.std.specs.Set.{is_member, unique_keys}
@@ -8,10 +8,10 @@ use Rattle.std.proofs.lemmas.Map.Made.{length-le_from_is_member, is_member-filte
 use Rattle.ppm_bounds.specs.Names.{without, free_names, caught_count}
 use Rattle.ppm_bounds.proofs.Members.{same_bytes, has-without, bytes_laws}
 use Rattle.ppm_tree.specs.declared.named.Named.{Named}
-use Rattle.ppm_tree.specs.Tree.{Block, Statement}
+use Rattle.ppm_tree.specs.Tree.{Block}
 use Rattle.ppm_translation.specs.Layout.{Layout, slot_of, caught}
 use Rattle.ppm_translation.specs.Fits.{Has, IsNew, IsDistinctLayout}
-use Rattle.ppm_translation.specs.Statements.{with_lets, with_parts, hidden_layout}
+use Rattle.ppm_translation.specs.Statements.{with_parts, hidden_layout}
 
 true_and_false : {b : Bool} → b ≡ true → b ≡ false → ⊥
 true_and_false p q = cc

@@ -1,9 +1,8 @@
 -- The instructions of expressions, arguments and stores fit wherever they stand in a capsule, if those behind them do.
-use Rattle.std.proofs.Common.{◌≡◌, ◌≢◌, ◌≤◌, ◌<◌, ◌+◌, ℕ, zero, suc, List, [], ◌∷◌, ◌++◌, Option, Some, None, length, map, slice_get, refl, sym, ap, ◌∙◌, subst, arith}
+use Rattle.std.proofs.Common.{◌≡◌, ◌≤◌, ◌<◌, ◌+◌, ℕ, zero, suc, List, [], ◌∷◌, ◌++◌, Some, length, map, slice_get, refl, ap, subst, arith}
 use Rattle.std.specs.List.{All, AllByRecursion, flat_map}
 use Rattle.std.proofs.lemmas.List.Elements.{All-head}
 use Rattle.ppm_code.specs.declared.act.End.{End}
-use Rattle.ppm_code.specs.declared.code.Capsule.{Capsule}
 use Rattle.ppm_code.specs.declared.code.CodeParts.{CodeParts}
 use Rattle.ppm_code.specs.declared.instr.Instr.{Instr}
 use Rattle.ppm_code.specs.declared.instr.Instr.TheVariants as instr
@@ -197,9 +196,13 @@ module _ (code : CodeParts) (q : ℕ) (is : Instrs) where
     expression_fits (tree.Element x index) d at rest f n low h =
         expression_fits index d at
         (instr.LoadSlot (register (suc d)) (slot_of layout x.name) ∷ instr.Get (register d) (register (suc d)) (register d) x.line ∷ rest)
-        f.1 n.1 (omega (arith, low))
-        (slot_fits x.name f.0.has, (name_line (tree.Element x index) x [] refl n.0,
-        moved rest (at + (size_of index + 2)) (suc (suc (at + size_of index))) (omega arith) h))
+        f.1 n.1 (omega (arith, low)) (
+          slot_fits x.name f.0.has,
+          (
+            name_line (tree.Element x index) x [] refl n.0,
+            moved rest (at + (size_of index + 2)) (suc (suc (at + size_of index))) (omega arith) h,
+          ),
+        )
     expression_fits (tree.Len x) d at rest f n low h = (slot_fits x.name f.has, (tt, moved rest (at + 2) (suc (suc at)) (omega arith) h))
     expression_fits (tree.Minus line e) d at rest f n low h = (
       tt,

@@ -7,3 +7,4 @@ pub mod SizeLemmas
 pub mod FitLemmas
 pub mod SoundLemmas
 pub mod RuleLemmas
+pub mod KeepLemmas

@@ -1,11 +1,10 @@
 -- Each capsule of a procedure keeps the rules of a code.
-use Rattle.std.proofs.Common.{◌≡◌, ◌≢◌, ◌≤◌, ◌<◌, ◌+◌, ◌*◌, ◌||◌, cond, Bool, true, false, max, ℕ, zero, suc, List, [], ◌∷◌, ◌++◌, Option, Some, None, IfSome, length, map, slice_get, refl, sym, ap, ◌∙◌, subst, arith, length-append}
+use Rattle.std.proofs.Common.{◌≡◌, ◌≢◌, ◌≤◌, ◌<◌, ◌+◌, ◌||◌, cond, Bool, true, false, ℕ, zero, suc, List, [], ◌∷◌, ◌++◌, Option, Some, None, IfSome, length, map, slice_get, refl, sym, ap, ◌∙◌, subst, arith, length-append}
 use Rattle.std.specs.List.{All, AllByRecursion, flat_map}
 use Rattle.std.proofs.lemmas.List.Elements.{All-head, recursion_from_All}
 use Rattle.std.proofs.lemmas.Grind.{flat_map-append}
 use Rattle.ppm_code.specs.declared.act.End.TheVariants as ends
 use Rattle.ppm_code.specs.declared.code.Procedure.{Procedure as CodeProcedure}
-use Rattle.ppm_code.specs.declared.code.Capsule.{Capsule}
 use Rattle.ppm_code.specs.declared.code.CodeParts.{CodeParts}
 use Rattle.ppm_code.specs.declared.instr.Instr.TheVariants as instr
 use Rattle.ppm_code.specs.Code.{IsProcedure, IsCapsule, IsCapsuleOf, IsSlot, IsLine, room_of}
@@ -14,29 +13,27 @@ use Rattle.ppm_tree.specs.declared.named.Named.{Named}
 use Rattle.ppm_tree.specs.Tree.{Expression, Argument, Side, Statement, Block, Nil, Then, Give, Procedure}
 use Rattle.ppm_tree.specs.Tree as tree
 use Rattle.ppm_tree.specs.Parts.{nodes, nodes_of, statement_and_inner, statements_in}
-use Rattle.ppm_tree.specs.State.{procedure_named}
 use Rattle.ppm_tree.specs.Limits.{IsNode, IsNamed, IsSmallStatement, IsSmallGive, node_limit}
 use Rattle.ppm_tree.specs.Limits as limits
 use Rattle.ppm_bounds.specs.Slots.{most_within, most_in_force, puts, has_put}
 use Rattle.ppm_bounds.specs.Names as counted
 use Rattle.ppm_bounds.proofs.Keeping.{all-append, all-first, all-second}
-use Rattle.ppm_regions.specs.Scope.{Scope, first_named, lets_of, scope_behind}
+use Rattle.ppm_regions.specs.Scope.{Scope, first_named, lets_of, split_scope, scope_behind}
 use Rattle.ppm_translation.specs.Layout.{Layout, slot_of, target_of, register, caught}
 use Rattle.ppm_translation.specs.Expressions.{size_of, expression_code}
 use Rattle.ppm_translation.specs.Numbers.{behind, end_of, hidden_behind, hidden_behind_block, halving, halved, element_block}
-use Rattle.ppm_translation.specs.Slots.{assigns, has_assignment, spare_slots, named_slots, procedure_slots, hidden_named_slots, hidden_slots, frame_words, fork_words}
+use Rattle.ppm_translation.specs.Slots.{assigns, has_assignment, spare_slots, hidden_slots, frame_words, fork_words}
 use Rattle.ppm_translation.specs.Statements.{Instrs, Last, OnTo, Gives, last_code, onward, let_code, value_code, move_code, element_code, put_code, test_code, split_code}
-use Rattle.ppm_translation.specs.Statements.{give_code, each_code, entry_code, halving_code, arguments_size, arguments_code, paired, stores_code, loads_code, names_code}
-use Rattle.ppm_translation.specs.Statements.{with_lets, with_parts, hidden_layout, number_of, call_code, fork_code, callee_parameters, callee_number, callee_slots}
+use Rattle.ppm_translation.specs.Statements.{each_code, entry_code, halving_code, arguments_size, arguments_code, paired, stores_code}
+use Rattle.ppm_translation.specs.Statements.{with_lets, with_parts, number_of, call_code, fork_code, callee_parameters, callee_number, callee_slots}
 use Rattle.ppm_translation.specs.Statements.{statement_code, block_code}
 use Rattle.ppm_translation.specs.Routines.{hidden_of, hidden_of_block}
 use Rattle.ppm_translation.specs.Standing.{HasBodies}
-use Rattle.ppm_translation.specs.Fits.{split_scope, FitsExpression, FitsTarget, FitsSide, FitsStatement, FitsBlock, FitsGive, layout_behind}
-use Rattle.ppm_translation.specs.Fits as fitting
+use Rattle.ppm_translation.specs.Fits.{FitsExpression, FitsTarget, FitsSide, FitsStatement, FitsBlock, layout_behind}
 use Rattle.ppm_translation.proofs.PlaceLemmas.{of_procedure, ArePlaced, placed_first, placed_second, hidden_past, hidden_past_block}
 use Rattle.ppm_translation.proofs.SizeLemmas.{size_at_most, expression_length, arguments_length, stores_length, loads_length, names_length, arguments_at_most, paired_at_most}
 use Rattle.ppm_translation.proofs.FitLemmas.{IsClosed, closed_end, closed_behind, closed_expression, closed_arguments, closed_stores, closed_loads, closed_names}
-use Rattle.ppm_translation.proofs.FitLemmas.{line_fits, AllFit, moved, capsule_fits, slot_fits, expression_fits, arguments_fit, stores_fit, loads_fit, names_fit}
+use Rattle.ppm_translation.proofs.FitLemmas.{line_fits, AllFit, moved, capsule_fits, expression_fits, arguments_fit, stores_fit, loads_fit, names_fit}
 use Rattle.ppm_translation.proofs.CaughtLemmas.{caught_have_slots}
 use Rattle.ppm_translation.proofs.SoundLemmas.{AreSmall, most_slots}
 
@@ -75,7 +72,7 @@ mutual
   behind_grows (tree.Split line r e x y block) at = let a = end_grows block (suc at) in omega (arith, a)
   behind_grows (tree.Each i x r block) at = omega arith
 
-  end_grows : (b : Block) (at : ℕ) → at ≤ end_of b at
+  pub end_grows : (b : Block) (at : ℕ) → at ≤ end_of b at
   end_grows Nil at = omega arith
   end_grows (Then s rest) at = let a = behind_grows s at in let b = end_grows rest (behind s at) in omega (arith, a, b)
 
@@ -98,6 +95,36 @@ there_in (p ∷ ps) (suc q) h = let rest = there_in ps q h in omega (arith, rest
 
 pub procedure_there : (code : CodeParts) (q : ℕ) → 1 ≤ slots_of code q → IsProcedure code q
 procedure_there code q h = there_in code.procedures q h
+
+-- the nodes of one expression, of two, and of the arguments of two sides
+one_expression : (e : Expression) → All IsNode (nodes e ++ []) → length (nodes e ++ []) ≤ node_limit
+    → AllByRecursion IsNode (nodes e) × length (nodes e) ≤ 48
+one_expression e n count =
+    let l = length-append (nodes e) [] in
+    (all-first IsNode (nodes e) [] (recursion_from_All IsNode (nodes e ++ []) n), omega (arith, l, count))
+
+two_expressions : (e f : Expression) → All IsNode (nodes e ++ (nodes f ++ [])) → length (nodes e ++ (nodes f ++ [])) ≤ node_limit
+    → AllByRecursion IsNode (nodes e) × AllByRecursion IsNode (nodes f) × length (nodes e) + length (nodes f) ≤ 48
+two_expressions e f n count =
+    let both = recursion_from_All IsNode (nodes e ++ (nodes f ++ [])) n in
+    let l = length-append (nodes e) (nodes f ++ []) in
+    let m = length-append (nodes f) [] in (
+      all-first IsNode (nodes e) (nodes f ++ []) both,
+      all-first IsNode (nodes f) [] (all-second IsNode (nodes e) (nodes f ++ []) both),
+      omega (arith, l, m, count),
+    )
+
+abbrev side_nodes : Side → List Expression
+side_nodes s = flat_map nodes (map (λ a. a.value) s.arguments)
+
+two_sides : (s t : Side) → All IsNode (nodes_of (tree.Fork s t)) → length (nodes_of (tree.Fork s t)) ≤ node_limit
+    → AllByRecursion IsNode (side_nodes s) × AllByRecursion IsNode (side_nodes t) × length (side_nodes s) + length (side_nodes t) ≤ 48
+two_sides s t n count =
+    let same : nodes_of (tree.Fork s t) ≡ side_nodes s ++ side_nodes t =
+    flat_map-append nodes (map (λ a. a.value) s.arguments) (map (λ a. a.value) t.arguments) in
+    let both = subst (λ (l : List Expression). AllByRecursion IsNode l) same (recursion_from_All IsNode (nodes_of (tree.Fork s t)) n) in
+    let l = ap length same ∙ length-append (side_nodes s) (side_nodes t) in
+    (all-first IsNode (side_nodes s) (side_nodes t) both, all-second IsNode (side_nodes s) (side_nodes t) both, omega (arith, l, count))
 
 -- what is known of a code as a whole
 pub record IsKnown (procedures : List Procedure) (code : CodeParts) : Type 0 where
@@ -210,7 +237,7 @@ module _ (procedures : List Procedure) (code : CodeParts) (known : IsKnown proce
         one_keeps scope layout e (instr.Give (register 0) ∷ instr.Ends ends.Finish ∷ []) room f n count (omega arith)
         (closed_behind _ _ (closed_end ends.Finish)) (tt, (tt, tt))
 
-    finish_keeps : Keeps (instr.Ends ends.Finish ∷ [])
+    pub finish_keeps : Keeps (instr.Ends ends.Finish ∷ [])
     finish_keeps = capsule_fits code q (instr.Ends ends.Finish ∷ []) there (omega arith) (closed_end ends.Finish) (tt, tt)
 
     -- a target is a slot
@@ -238,11 +265,12 @@ module _ (procedures : List Procedure) (code : CodeParts) (known : IsKnown proce
         let asked : room_of is ≡ Some (frame_words slots) = refl in
         let same : frame_words slots ≡ frame_size code (callee_number procedures s) = ap (λ n. 6 + n) (sym (callee_has s f.callee)) in
         capsule_fits code q is there (omega (arith, long, more, most, count))
-        (closed_behind _ _ (closed_arguments layout ps s.arguments 0 1 stores (closed_stores 6 0 number end (closed_end _))))
-        ((omega arith, omega arith, omega (arith, few)),
-        arguments_fit code q is scope layout room ps s.arguments 0 1 stores f.arguments n (omega (arith, long, more))
-        (stores_fit code q is (frame_words slots) 6 0 number (1 + size) end asked (omega (arith, in_frame))
-        ((known.callees s.callee.name f.callee, at, target_fits scope layout room s.target f.target, ap Some same), tt)))
+        (closed_behind _ _ (closed_arguments layout ps s.arguments 0 1 stores (closed_stores 6 0 number end (closed_end _)))) (
+          (omega arith, omega arith, omega (arith, few)),
+          arguments_fit code q is scope layout room ps s.arguments 0 1 stores f.arguments n (omega (arith, long, more))
+              (stores_fit code q is (frame_words slots) 6 0 number (1 + size) end asked (omega (arith, in_frame))
+              ((known.callees s.callee.name f.callee, at, target_fits scope layout room s.target f.target, ap Some same), tt)),
+        )
 
     fork_keeps : (scope : Scope) (layout : Layout) (s t : Side) (next : ℕ) → length layout ≤ slots_of code q → FitsSide procedures scope layout s
         → FitsSide procedures scope layout t → AllByRecursion IsNode (flat_map nodes (map (λ a. a.value) s.arguments))
@@ -276,19 +304,28 @@ module _ (procedures : List Procedure) (code : CodeParts) (known : IsKnown proce
         let in_frame' = paired_few t in
         let asked : room_of is ≡ Some words = refl in
         let same : words ≡ fork_size code (callee_number procedures s) (callee_number procedures t) =
-            λ i. 5 + (6 + sym (callee_has s f.callee) i) + (6 + sym (callee_has t g.callee) i) in
+        λ i. 5 + (6 + sym (callee_has s f.callee) i) + (6 + sym (callee_has t g.callee) i) in
         let start : suc size ≡ 1 + size = omega arith in
         capsule_fits code q is there (omega (arith, long, long', more, more', most, most', count))
         (closed_behind _ _ (closed_arguments layout l s.arguments 0 1 second (closed_arguments layout r t.arguments lefts (suc size) in_left
-        (closed_stores 11 0 lefts in_right (closed_stores (11 + frame_words left) lefts rights end (closed_end _))))))
-        ((omega arith, omega arith, omega (arith, few, few')),
-        arguments_fit code q is scope layout room l s.arguments 0 1 second f.arguments n (omega (arith, long))
-        (moved code q is second (suc size) (1 + size) start
-        (arguments_fit code q is scope layout room r t.arguments lefts (suc size) in_left g.arguments m (omega (arith, long, long'))
-        (stores_fit code q is words 11 0 lefts (suc size + size') in_right asked (omega (arith, in_frame))
-        (stores_fit code q is words (11 + frame_words left) lefts rights (suc size + size' + lefts) end asked (omega (arith, in_frame'))
-        ((known.callees s.callee.name f.callee, known.callees t.callee.name g.callee, at, target_fits scope layout room s.target f.target,
-        target_fits scope layout room t.target g.target, ap Some same), tt))))))
+        (closed_stores 11 0 lefts in_right (closed_stores (11 + frame_words left) lefts rights end (closed_end _)))))) (
+          (omega arith, omega arith, omega (arith, few, few')),
+          arguments_fit code q is scope layout room l s.arguments 0 1 second f.arguments n (omega (arith, long))
+              (moved code q is second (suc size) (1 + size) start
+              (arguments_fit code q is scope layout room r t.arguments lefts (suc size) in_left g.arguments m (omega (arith, long, long'))
+              (stores_fit code q is words 11 0 lefts (suc size + size') in_right asked (omega (arith, in_frame))
+              (stores_fit code q is words (11 + frame_words left) lefts rights (suc size + size' + lefts) end asked (omega (arith, in_frame')) (
+                (
+                  known.callees s.callee.name f.callee,
+                  known.callees t.callee.name g.callee,
+                  at,
+                  target_fits scope layout room s.target f.target,
+                  target_fits scope layout room t.target g.target,
+                  ap Some same,
+                ),
+                tt,
+              ))))),
+        )
 
     each_keeps : (layout : Layout) (r : Named) (block : Block) (h next : ℕ) → length layout ≤ slots_of code q → slot_of layout r.name < slots_of code q
         → slots_of code h ≡ hidden_slots (length (caught layout block)) block → IsCapsuleOf code q next → Keeps (each_code layout r block h next)
@@ -306,8 +343,218 @@ module _ (procedures : List Procedure) (code : CodeParts) (known : IsKnown proce
         let same : frame_words slots ≡ frame_size code h = ap (λ n. 6 + n) (sym hidden) in
         let callee : IsProcedure code h = procedure_there code h (omega (arith, hidden)) in
         capsule_fits code q is there (omega (arith, long, more, few, hidden))
-        (closed_behind _ _ (closed_behind _ _ (closed_behind _ _ (closed_loads layout names 2 stores (closed_stores 6 0 (suc (suc count)) end (closed_end _))))))
-        ((omega arith, omega arith, omega (arith, few, hidden)), (slot, (tt,
-        loads_fit code q is [] layout room names 2 3 stores (caught_have_slots layout block)
-        (stores_fit code q is (frame_words slots) 6 0 (suc (suc count)) (3 + count) end asked (omega arith)
-        ((callee, at, tt, ap Some same), tt)))))
+        (closed_behind _ _ (closed_behind _ _ (closed_behind _ _ (closed_loads layout names 2 stores (closed_stores 6 0 (suc (suc count)) end (closed_end _)))))) (
+          (omega arith, omega arith, omega (arith, few, hidden)),
+          (
+            slot,
+            (
+              tt,
+              loads_fit code q is [] layout room names 2 3 stores (caught_have_slots layout block)
+                  (stores_fit code q is (frame_words slots) 6 0 (suc (suc count)) (3 + count) end asked (omega arith)
+                  ((callee, at, tt, ap Some same), tt)),
+            ),
+          ),
+        )
+
+    -- a hidden procedure is entered, and goes on by halves
+    pub entry_keeps : (entry : ℕ) → 1 ≤ slots_of code q → IsCapsuleOf code q (halving entry) → IsCapsuleOf code q (element_block entry)
+        → Keeps (entry_code entry)
+    entry_keeps entry room at_halves at_block =
+        capsule_fits code q (entry_code entry) there (omega arith)
+        (closed_behind _ _ (closed_behind _ _ (closed_behind _ _ (closed_behind _ _ (closed_behind _ _ (closed_behind _ _ (closed_behind _ _
+        (closed_behind _ _ (closed_end ends.Finish)))))))))
+        (room, (tt, (tt, (tt, ((omega arith, omega arith), (at_halves, ((omega arith, omega arith), (at_block, (tt, tt)))))))))
+
+    pub halving_keeps : (entry slots names line : ℕ) → slots_of code q ≡ slots → names + 2 ≤ slots → IsLine line → IsCapsuleOf code q (halved entry)
+        → Keeps (halving_code entry q slots names line)
+    halving_keeps entry slots names line same room fits at =
+        let is = halving_code entry q slots names line in
+        let words = fork_words slots slots in
+        let right_at = 11 + frame_words slots in
+        let end = instr.Ends (ends.Fork q q (halved entry) None None) ∷ [] in
+        let in_right = stores_code (suc (suc right_at)) 6 names end in
+        let right = instr.StoreNew right_at (register 3) ∷ instr.StoreNew (suc right_at) (register 5) ∷ in_right in
+        let in_left = stores_code 13 6 names right in
+        let left = instr.StoreNew 11 (register 2) ∷ instr.StoreNew 12 (register 4) ∷ in_left in
+        let a = names_length 2 6 names left in
+        let b = stores_length 13 6 names right in
+        let c = stores_length (suc (suc right_at)) 6 names end in
+        let few = known.few q in
+        let asked : room_of is ≡ Some words = refl in
+        let size : words ≡ fork_size code q q = λ i. 5 + (6 + sym same i) + (6 + sym same i) in
+        let behind_left = suc (suc (9 + names)) + names in
+        capsule_fits code q is there (omega (arith, a, b, c, few, same, room))
+        (closed_behind _ _ (closed_behind _ _ (closed_behind _ _ (closed_behind _ _ (closed_behind _ _ (closed_behind _ _ (closed_behind _ _
+        (closed_behind _ _ (closed_behind _ _ (closed_names 2 6 names left (closed_behind _ _ (closed_behind _ _ (closed_stores 13 6 names right
+        (closed_behind _ _ (closed_behind _ _ (closed_stores (suc (suc right_at)) 6 names end (closed_end _))))))))))))))))) (
+          (omega arith, omega arith, omega (arith, few, same)),
+          (
+            omega (arith, room, same),
+            (
+              tt,
+              (
+                tt,
+                (
+                  fits,
+                  (
+                    fits,
+                    (
+                      fits,
+                      (
+                        omega (arith, room, same),
+                        (
+                          fits,
+                          names_fit code q is 2 6 names 9 left (omega (arith, room, same)) (
+                            (words, asked, omega (arith, room)),
+                            (
+                              (words, asked, omega (arith, room)),
+                              stores_fit code q is words 13 6 names (suc (suc (9 + names))) right asked (omega (arith, room)) (
+                                (words, asked, omega (arith, room)),
+                                (
+                                  (words, asked, omega (arith, room)),
+                                  stores_fit code q is words (suc (suc right_at)) 6 names (suc (suc behind_left)) end asked (omega (arith, room))
+                                      ((there, there, at, tt, tt, ap Some size), tt),
+                                ),
+                              ),
+                            ),
+                          ),
+                        ),
+                      ),
+                    ),
+                  ),
+                ),
+              ),
+            ),
+          ),
+        )
+
+    -- how a block goes on
+    abbrev pub LastFits : Scope → Layout → Last → Type 0
+    LastFits scope layout (OnTo next) = IsCapsuleOf code q next
+    LastFits scope layout (Gives None) = Unit {0}
+    LastFits scope layout (Gives (Some g)) = FitsExpression scope layout g.value × IsSmallGive g
+
+    last_keeps : (scope : Scope) (layout : Layout) (last : Last) → LastFits scope layout last → length layout ≤ slots_of code q
+        → Keeps (last_code layout last)
+    last_keeps scope layout (OnTo next) f room = onward_keeps next f
+    last_keeps scope layout (Gives None) f room = finish_keeps
+    last_keeps scope layout (Gives (Some g)) f room =
+        give_keeps scope layout g.value room f.0 (recursion_from_All IsNode (nodes g.value) f.1.nodes) f.1.count
+
+    mutual
+      -- the capsules of a statement
+      statement_keeps : (scope : Scope) (layout : Layout) (at h : ℕ) (s : Statement) → FitsStatement procedures scope layout s
+          → AreSmall (statement_and_inner s) → ArePlaced procedures code h (hidden_of layout h s) → low ≤ at → behind s at < high
+          → length layout + most_within s ≤ spare → length layout + length (counted.lets_of s) ≤ spare
+          → spare + spare_by (puts s) (assigns s) ≤ slots_of code q → AllByRecursion Keeps (statement_code procedures spare layout at h s)
+      statement_keeps scope layout at h (tree.Let x e) f small placed first last within lets left =
+          let n = one_expression e small.0.nodes small.0.count in
+          (let_keeps scope layout e (suc at) (omega (arith, lets, left)) f.0 n.0 n.1 (own (suc at) (omega (arith, first)) last), tt)
+      statement_keeps scope layout at h (tree.Assign x e) f small placed first last within lets left =
+          let n = one_expression e small.0.nodes small.0.count in
+          let slot = f.0.has in (
+            value_keeps scope layout e (suc at) (omega (arith, lets, left)) (omega (arith, left)) f.1 n.0 n.1
+                (own (suc at) (omega (arith, first)) (omega (arith, last))),
+            (move_keeps layout x (suc (suc at)) (omega (arith, left)) (omega (arith, slot, lets, left)) (own (suc (suc at)) (omega (arith, first)) last), tt),
+          )
+      statement_keeps scope layout at h (tree.Put x index e) f small placed first last within lets left =
+          let n = two_expressions index e small.0.nodes small.0.count in
+          let slot = f.0.has in
+          let line = line_fits (All-head IsNamed x [] small.0.names).line in (
+            element_keeps scope layout index e (suc at) (omega (arith, lets, left)) (omega (arith, left)) f.1 f.2 n.0 n.1 n.2
+                (own (suc at) (omega (arith, first)) (omega (arith, last))),
+            (
+              put_keeps layout x (suc (suc at)) (omega (arith, left)) (omega (arith, slot, lets, left)) line
+                  (own (suc (suc at)) (omega (arith, first)) last),
+              tt,
+            ),
+          )
+      statement_keeps scope layout at h (tree.If e holds other) f small placed first last within lets left =
+          let n = one_expression e small.0.nodes small.0.count in
+          let between = hidden_behind_block holds h in
+          let behind_first = suc (end_of holds (suc at)) in
+          let next = suc (end_of other behind_first) in
+          let xs = block_code procedures spare layout (suc at) h (OnTo next) holds in
+          let ys = block_code procedures spare layout behind_first between (OnTo next) other in
+          let hidden = hidden_of_block layout h holds in
+          let more = hidden_of_block layout between other in
+          let here = statements_in holds in
+          let there' = statements_in other in
+          let grows = end_grows holds (suc at) in
+          let grows' = end_grows other behind_first in
+          let a = spare_first (has_put holds) (has_assignment holds) (has_put other) (has_assignment other) in
+          let b = spare_second (has_put holds) (has_assignment holds) (has_put other) (has_assignment other) in
+          let on : IsCapsuleOf code q next = own next (omega (arith, first, grows, grows')) last in (
+            test_keeps scope layout e (suc at) behind_first (omega (arith, lets, left)) f.0 n.0 n.1
+                (own (suc at) (omega (arith, first)) (omega (arith, last, grows, grows')))
+                (own behind_first (omega (arith, first, grows)) (omega (arith, last, grows'))),
+            all-append Keeps xs ys
+                (block_keeps scope layout (suc at) h (OnTo next) holds f.1 (all-first IsSmallStatement here there' small.1)
+                (placed_first procedures code hidden more h placed) (omega (arith, first)) (omega (arith, last, grows'))
+                (omega (arith, within)) (omega (arith, left, a)) on)
+                (block_keeps scope layout behind_first between (OnTo next) other f.2 (all-second IsSmallStatement here there' small.1)
+                (placed_second procedures code hidden more h between (hidden_past_block layout h holds) placed) (omega (arith, first, grows))
+                (omega (arith, last)) (omega (arith, within)) (omega (arith, left, b)) on),
+          )
+      statement_keeps scope layout at h (tree.While e block) f small placed first last within lets left =
+          let n = one_expression e small.0.nodes small.0.count in
+          let next = suc (end_of block (suc at)) in
+          let grows = end_grows block (suc at) in (
+            test_keeps scope layout e (suc at) next (omega (arith, lets, left)) f.0 n.0 n.1
+                (own (suc at) (omega (arith, first)) (omega (arith, last, grows))) (own next (omega (arith, first, grows)) last),
+            block_keeps scope layout (suc at) h (OnTo at) block f.1 small.1 placed (omega (arith, first)) (omega (arith, last)) within left
+                (own at first (omega (arith, last, grows))),
+          )
+      statement_keeps scope layout at h (tree.Call s) f small placed first last within lets left =
+          let n = recursion_from_All IsNode (nodes_of (tree.Call s)) small.0.nodes in
+          (call_keeps scope layout s (suc at) (omega (arith, lets, left)) f n small.0.count (own (suc at) (omega (arith, first)) last), tt)
+      statement_keeps scope layout at h (tree.Fork s t) f small placed first last within lets left =
+          let n = two_sides s t small.0.nodes small.0.count in
+          (fork_keeps scope layout s t (suc at) (omega (arith, lets, left)) f.0 f.1 n.0 n.1 n.2 (own (suc at) (omega (arith, first)) last), tt)
+      statement_keeps scope layout at h (tree.Split line r e x y block) f small placed first last within lets left =
+          let n = one_expression e small.0.nodes small.0.count in
+          let next = suc (end_of block (suc at)) in
+          let grows = end_grows block (suc at) in
+          let slot = f.0.has in
+          let fits = line_fits (All-head limits.IsLine line [] small.0.lines) in
+          let parts = length-append layout (x.name ∷ y.name ∷ []) in (
+            split_keeps scope layout line r e (suc at) (omega (arith, within, left)) (omega (arith, slot, lets, left)) fits f.1 n.0 n.1
+                (own (suc at) (omega (arith, first)) (omega (arith, last, grows))),
+            block_keeps (split_scope scope r x y) (with_parts layout x y) (suc at) h (OnTo next) block f.7 small.1 placed (omega (arith, first))
+                (omega (arith, last)) (omega (arith, within, parts)) left (own next (omega (arith, first, grows)) last),
+          )
+      statement_keeps scope layout at h (tree.Each i x r block) f small placed first last within lets left =
+          let slot = f.0.has in (
+            each_keeps layout r block h (suc at) (omega (arith, lets, left)) (omega (arith, slot, lets, left)) placed.0.slots
+                (own (suc at) (omega (arith, first)) last),
+            tt,
+          )
+
+      -- and of a block
+      pub block_keeps : (scope : Scope) (layout : Layout) (at h : ℕ) (last : Last) (b : Block) → FitsBlock procedures scope layout b
+          → AreSmall (statements_in b) → ArePlaced procedures code h (hidden_of_block layout h b) → low ≤ at → end_of b at < high
+          → length layout + most_in_force b ≤ spare → spare + spare_slots b ≤ slots_of code q
+          → LastFits (scope_behind scope b) (layout_behind layout b) last → AllByRecursion Keeps (block_code procedures spare layout at h last b)
+      block_keeps scope layout at h last Nil f small placed first high' within left on =
+          (last_keeps scope layout last on (omega (arith, within, left)), tt)
+      block_keeps scope layout at h last (Then s rest) f small placed first high' within left on =
+          let next = behind s at in
+          let later = with_lets layout s in
+          let between = hidden_behind s h in
+          let xs = statement_code procedures spare layout at h s in
+          let ys = block_code procedures spare later next between last rest in
+          let hidden = hidden_of layout h s in
+          let more = hidden_of_block later between rest in
+          let here = statement_and_inner s in
+          let there' = statements_in rest in
+          let grows = behind_grows s at in
+          let grows' = end_grows rest next in
+          let longer = lets_length layout s in
+          let a = spare_first (puts s) (assigns s) (has_put rest) (has_assignment rest) in
+          let b = spare_second (puts s) (assigns s) (has_put rest) (has_assignment rest) in
+          all-append Keeps xs ys
+          (statement_keeps scope layout at h s f.0 (all-first IsSmallStatement here there' small) (placed_first procedures code hidden more h placed)
+          first (omega (arith, high', grows')) (omega (arith, within)) (omega (arith, within)) (omega (arith, left, a)))
+          (block_keeps (scope ++ lets_of s) later next between last rest f.1 (all-second IsSmallStatement here there' small)
+          (placed_second procedures code hidden more h between (hidden_past layout h s) placed) (omega (arith, first, grows)) high'
+          (omega (arith, within, longer)) (omega (arith, left, b)) on)
