@@ -20,7 +20,7 @@ use Rattle.ppm_tree.specs.Tree as tree
 use Rattle.ppm_bounds.specs.Slots.{most_within, most_in_force}
 use Rattle.ppm_bounds.specs.Names.{free_names}
 use Rattle.ppm_bounds.specs.Names as names
-use Rattle.ppm_regions.specs.Scope.{Scope, lets_of, scope_behind}
+use Rattle.ppm_regions.specs.Scope.{Scope, lets_of, scope_of, split_scope, each_scope, scope_behind}
 use Rattle.ppm_regions.specs.Admission.{IsAdmitted}
 use Rattle.ppm_regions.proofs.Elements.{contains_head, contains_tail}
 use Rattle.ppm_translation.specs.Layout.{Layout, parameter_layout}
@@ -29,7 +29,7 @@ use Rattle.ppm_translation.specs.Slots.{named_slots, hidden_named_slots, hidden_
 use Rattle.ppm_translation.specs.Statements.{Last, OnTo, Gives, onward, last_code, with_lets, with_parts, hidden_layout, statement_code, block_code}
 use Rattle.ppm_translation.specs.Routines.{Routine, OfText, Hidden, Sweep, sweep_layout, routine_behind, hidden_of, hidden_of_block, texts_from}
 use Rattle.ppm_translation.specs.Routines.{hidden_from, routines_of, routine_code, capsules_from, code_of}
-use Rattle.ppm_translation.specs.Fits.{scope_of, split_scope, each_scope, layout_behind, FitsStatement, FitsBlock, FitsGive, FitsProcedure}
+use Rattle.ppm_translation.specs.Fits.{layout_behind, FitsStatement, FitsBlock, FitsGive, FitsProcedure}
 use Rattle.ppm_translation.proofs.FitsLemmas.{each_fits}
 use Rattle.ppm_translation.proofs.PlaceLemmas.{past, past_length, texts_past, ArePlaced, placed_first, placed_second, hidden_past}
 use Rattle.ppm_translation.proofs.PlaceLemmas.{hidden_past_block}
