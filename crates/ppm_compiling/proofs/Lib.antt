@@ -1,5 +1,8 @@
 pub mod ChainLemmas
 pub mod Holding
 pub mod Doing
-pub mod ExprLemmas
 pub mod StepLemmas
+pub mod SlotLemmas
+pub mod ExprLemmas
+pub mod Places
+pub mod HoldLemmas

@@ -1,6 +1,6 @@
+use Rattle.ppm_compiling.proofs.HoldLemmas.{holds_delivered}
 use Rattle.ppm_compiling.proofs.Doing.{CallDoes}
-use Rattle.ppm_compiling.proofs.ExprLemmas.{expr_meets}
-use Rattle.ppm_compiling.proofs.StepLemmas.{whole, tried, sees}
+use Rattle.ppm_compiling.proofs.Places.{lies}
 use Rattle.ppm_compiling.proofs.laws.end_as_meant.Goals as goal
 
 pub returns : goal.returns
