@@ -1,0 +1,193 @@
+-- Slots that come into registers one after the other, and registers that go into a new block.
+use Rattle.std.proofs.Common.{◌≡◌, ◌≢◌, ◌≤◌, ◌<◌, ◌⊎◌, ℕ, zero, suc, ◌+◌, ◌-◌, cond, Bool, true, false, nat_lt, List, [], ◌∷◌, length, get_or, inl, inr}
+use Rattle.std.proofs.Common.{refl, sym, ap, ◌∙◌, subst, arith}
+use Rattle.std.specs.Prelude.{slice_index, slice_set}
+use Rattle.std.proofs.lemmas.Bool.{lt-ltb, eq-eqb, ne_eqb, cond-true, cond-false}
+use Rattle.std.proofs.lemmas.List.{get_or-set_same, get_or-set_other, length-set}
+use Rattle.ppm_strands.specs.Tree.{Words}
+use Rattle.ppm_capsules.specs.Capsule.{Memory, ending, leaves, asked, store}
+use Rattle.ppm_capsules.specs.Strand.{Own, New, own_of, shared_of}
+use Rattle.ppm_code.specs.declared.instr.Instr.{Instr}
+use Rattle.ppm_code.specs.declared.instr.Instr.TheVariants as instr
+use Rattle.ppm_code.specs.declared.location.FrameWord.{FrameWord}
+use Rattle.ppm_code.specs.declared.location.FrameWord.TheVariants.{Slot}
+use Rattle.ppm_code.specs.declared.register.Register.{Register}
+use Rattle.ppm_code.specs.Acts.{held}
+use Rattle.ppm_code.specs.Locations.{Where, code_locations}
+use Rattle.ppm_code.specs.Capsules.{capsule_from}
+use Rattle.ppm_translation.specs.Layout.{Layout, slot_of, register, register_with}
+use Rattle.ppm_translation.specs.Statements.{loads_code, names_code, stores_code}
+use Rattle.ppm_compiling.proofs.ExprLemmas.{Goes}
+
+-- the register with a number up to 63 has it
+pub index_is : (n : ℕ) → n < 64 → (register n).index ≡ n
+index_is n low = go (nat_lt n 64) refl
+  where
+    go : (b : Bool) (h : nat_lt n 64 ≡ b) → (register_with n b h).index ≡ n
+    go true h = refl
+    go false h = absurd (let t : true ≡ false = sym (lt-ltb n 64 low) ∙ h in cc)
+
+pub held_is : (g : List ℕ) (n : ℕ) → n < 64 → held g (register n) ≡ slice_index g n
+held_is g n low = ap (slice_index g) (index_is n low)
+
+-- a register that has been set, and the others
+pub set_at : (g : List ℕ) (n v : ℕ) → n < 64 → length g ≡ 64 → slice_index (slice_set g (register n).index v) n ≡ v
+set_at g n v low count =
+    ap (λ (k : ℕ). slice_index (slice_set g k v) n) (index_is n low) ∙ get_or-set_same g n v 0 (omega (arith, low, count))
+
+pub set_else : (g : List ℕ) (n v i : ℕ) → n < 64 → i ≢ n → slice_index (slice_set g (register n).index v) i ≡ slice_index g i
+set_else g n v i low other = ap (λ (k : ℕ). slice_index (slice_set g k v) i) (index_is n low) ∙ get_or-set_other g n i v 0 other
+
+pub set_count : (g : List ℕ) (n v : ℕ) → length g ≡ 64 → length (slice_set g n v) ≡ 64
+set_count g n v count = length-set g n v ∙ count
+
+pub goes_same : (W at : ℕ) (is : List Instr) (g : List ℕ) (m : Memory Where) → Goes (capsule_from W at 0 is g) m (capsule_from W at 0 is g) m
+goes_same W at is g m = record { ends = refl; left = refl; asks = refl }
+
+-- so many registers from d on have words, those below are as they were, and there are 64
+pub record Loaded (d count : ℕ) (word : ℕ → ℕ) (g h : List ℕ) : Type 0 where
+  pub words : (k : ℕ) → k < count → slice_index h (d + k) ≡ word k
+  pub keeps : (i : ℕ) → i < d → slice_index h i ≡ slice_index g i
+  pub length_is : length h ≡ 64
+
+none_loaded : (d : ℕ) (word : ℕ → ℕ) (g : List ℕ) → length g ≡ 64 → Loaded d 0 word g g
+none_loaded d word g count = record { words = λ k low. absurd (omega (arith, low)); keeps = λ i low. refl; length_is = count }
+
+-- a register is set, and then those above it are loaded
+loaded_more : (d count : ℕ) (word : ℕ → ℕ) (g h : List ℕ) → d < 64 → length g ≡ 64
+    → Loaded (suc d) count (λ k. word (suc k)) (slice_set g (register d).index (word 0)) h → Loaded d (suc count) word g h
+loaded_more d count word g h low is l = record {
+  words = words_;
+  keeps = λ i below. l.keeps i (omega (arith, below)) ∙ set_else g d (word 0) i low (λ e. absurd (omega (arith, e, below)));
+  length_is = l.length_is;
+}
+  where
+    words_ : (k : ℕ) → k < suc count → slice_index h (d + k) ≡ word k
+    words_ zero below =
+        let first : d + 0 ≡ d = omega arith in
+        ap (slice_index h) first ∙ l.keeps d (omega arith) ∙ set_at g d (word 0) low is
+    words_ (suc k) below =
+        let next : d + suc k ≡ suc d + k = omega arith in
+        ap (slice_index h) next ∙ l.words k (omega (arith, below))
+
+module _ (W : ℕ) (m : Memory Where) where
+  -- the capsule goes through loads, to the instructions of the rest
+  pub record Loads (d count : ℕ) (word : ℕ → ℕ) (at : ℕ) (is rest : List Instr) (g : List ℕ) : Type 0 where
+    pub registers : List ℕ
+    pub number : ℕ
+    pub goes : Goes (capsule_from W at 0 is g) m (capsule_from W number 0 rest registers) m
+    pub loaded : Loaded d count word g registers
+
+  -- a load in front
+  load_more : (d count : ℕ) (word : ℕ → ℕ) (at s : ℕ) (is rest : List Instr) (g : List ℕ) → d < 64 → length g ≡ 64 → m (Own (Slot s)) ≡ word 0
+      → Loads (suc d) count (λ k. word (suc k)) (at + 1) is rest (slice_set g (register d).index (m (Own (Slot s))))
+      → Loads d (suc count) word at (instr.LoadSlot (register d) s ∷ is) rest g
+  load_more d count word at s is rest g low length_is is_word l =
+      let v = m (Own (Slot s)) in
+      let g' = slice_set g (register d).index v in
+      let next : (at + 1) - (at + 1) ≡ 0 = omega arith in
+      record {
+        registers = l.registers;
+        number = l.number;
+        goes = record {
+          ends = ap (λ (z : ℕ). ending code_locations (capsule_from W (at + 1) z is g') m) next ∙ l.goes.ends;
+          left = ap (λ (z : ℕ). leaves code_locations (capsule_from W (at + 1) z is g') m) next ∙ l.goes.left;
+          asks = ap (λ (z : ℕ). asked code_locations (capsule_from W (at + 1) z is g') m) next ∙ l.goes.asks;
+        };
+        loaded = loaded_more d count word g l.registers low length_is
+            (subst (λ (v : ℕ). Loaded (suc d) count (λ k. word (suc k)) (slice_set g (register d).index v) l.registers) is_word l.loaded);
+      }
+
+  pub loads_go : (layout names : Layout) (d at : ℕ) (rest : List Instr) (g : List ℕ) → length g ≡ 64 → d + length names ≤ 64
+      → Loads d (length names) (λ k. m (Own (Slot (slot_of layout (get_or names k []))))) at (loads_code layout names d rest) rest g
+  loads_go layout [] d at rest g count low =
+      record { registers = g; number = at; goes = goes_same W at rest g m; loaded = none_loaded d _ g count }
+  loads_go layout (x ∷ names) d at rest g count low =
+      load_more d (length names) (λ k. m (Own (Slot (slot_of layout (get_or (x ∷ names) k []))))) at (slot_of layout x)
+      (loads_code layout names (suc d) rest) rest g (omega (arith, low)) count refl
+      (loads_go layout names (suc d) (at + 1) rest _ (set_count g (register d).index _ count) (omega (arith, low)))
+
+  pub names_go : (slot d count at : ℕ) (rest : List Instr) (g : List ℕ) → length g ≡ 64 → d + count ≤ 64
+      → Loads d count (λ k. m (Own (Slot (slot + k)))) at (names_code slot d count rest) rest g
+  names_go slot d zero at rest g length_is low =
+      record { registers = g; number = at; goes = goes_same W at rest g m; loaded = none_loaded d _ g length_is }
+  names_go slot d (suc count) at rest g length_is low =
+      let first : slot ≡ slot + 0 = omega arith in
+      let later = names_go (suc slot) (suc d) count (at + 1) rest (slice_set g (register d).index (m (Own (Slot slot))))
+          (set_count g (register d).index _ length_is) (omega (arith, low)) in
+      load_more d count (λ k. m (Own (Slot (slot + k)))) at slot (names_code (suc slot) (suc d) count rest) rest g (omega (arith, low)) length_is
+      (ap (λ (s : ℕ). m (Own (Slot s))) first)
+      (record {
+        registers = later.registers;
+        number = later.number;
+        goes = later.goes;
+        loaded = record {
+          words = λ k low. later.loaded.words k low ∙ ap (λ (s : ℕ). m (Own (Slot s))) (let next : suc slot + k ≡ slot + suc k = omega arith in next);
+          keeps = later.loaded.keeps;
+          length_is = later.loaded.length_is;
+        };
+      })
+
+-- the memory once so many registers, from d on, have been stored in the new block, from an offset on
+abbrev pub stored : List ℕ → (offset d count : ℕ) → Memory Where → Memory Where
+stored h offset d zero m = m
+stored h offset d (suc count) m = stored h (suc offset) (suc d) count (store code_locations m (New offset) (slice_index h d))
+
+pub new_at : (m : Memory Where) (o v : ℕ) → store code_locations m (New o) v (New o) ≡ v
+new_at m o v = cond-true (code_locations.same (New o) (New o)) v (m (New o)) (code_locations.is_self (New o))
+
+pub new_else : (m : Memory Where) (o v i : ℕ) → i ≢ o → store code_locations m (New o) v (New i) ≡ m (New i)
+new_else m o v i other = cond-false _ v (m (New i)) (ne_eqb i o other)
+
+pub stored_else : (h : List ℕ) (offset d count : ℕ) (m : Memory Where) (i : ℕ) → (i < offset) ⊎ (offset + count ≤ i)
+    → stored h offset d count m (New i) ≡ m (New i)
+stored_else h offset d zero m i far = refl
+stored_else h offset d (suc count) m i far =
+    stored_else h (suc offset) (suc d) count (store code_locations m (New offset) (slice_index h d)) i
+    (elim far [ | inl low ↦ inl (omega (arith, low)) | inr high ↦ inr (omega (arith, high)) ])
+    ∙ new_else m offset (slice_index h d) i (elim far [ | inl low ↦ λ e. absurd (omega (arith, low, e)) | inr high ↦ λ e. absurd (omega (arith, high, e)) ])
+
+pub stored_at : (h : List ℕ) (offset d count : ℕ) (m : Memory Where) (k : ℕ) → k < count
+    → stored h offset d count m (New (offset + k)) ≡ slice_index h (d + k)
+stored_at h offset d zero m k low = absurd (omega (arith, low))
+stored_at h offset d (suc count) m zero low =
+    let first : offset + 0 ≡ offset = omega arith in
+    let same : d ≡ d + 0 = omega arith in
+    let m' = store code_locations m (New offset) (slice_index h d) in
+    ap (λ (i : ℕ). stored h (suc offset) (suc d) count m' (New i)) first
+    ∙ stored_else h (suc offset) (suc d) count m' offset (inl (omega arith)) ∙ new_at m offset (slice_index h d) ∙ ap (slice_index h) same
+stored_at h offset d (suc count) m (suc k) low =
+    let next : offset + suc k ≡ suc offset + k = omega arith in
+    let same : suc d + k ≡ d + suc k = omega arith in
+    let m' = store code_locations m (New offset) (slice_index h d) in
+    ap (λ (i : ℕ). stored h (suc offset) (suc d) count m' (New i)) next
+    ∙ stored_at h (suc offset) (suc d) count m' k (omega (arith, low)) ∙ ap (slice_index h) same
+
+-- the frame and the shared words are as they were
+pub stored_own : (h : List ℕ) (offset d count : ℕ) (m : Memory Where) → own_of (stored h offset d count m) ≡ own_of m
+stored_own h offset d zero m = refl
+stored_own h offset d (suc count) m = stored_own h (suc offset) (suc d) count (store code_locations m (New offset) (slice_index h d))
+
+pub stored_shared : (h : List ℕ) (offset d count : ℕ) (m : Memory Where) → shared_of (stored h offset d count m) ≡ shared_of m
+stored_shared h offset d zero m = refl
+stored_shared h offset d (suc count) m = stored_shared h (suc offset) (suc d) count (store code_locations m (New offset) (slice_index h d))
+
+-- the capsule goes through stores, to the instructions of the rest
+pub stores_go : (W offset d count at : ℕ) (rest : List Instr) (h : List ℕ) (m : Memory Where) → d + count ≤ 64
+    → (number : ℕ) × Goes (capsule_from W at 0 (stores_code offset d count rest) h) m (capsule_from W number 0 rest h) (stored h offset d count m)
+stores_go W offset d zero at rest h m low = (at, goes_same W at rest h m)
+stores_go W offset d (suc count) at rest h m low =
+    let next : (at + 1) - (at + 1) ≡ 0 = omega arith in
+    let v = held_is h d (omega (arith, low)) in
+    let p = stores_go W (suc offset) (suc d) count (at + 1) rest h (store code_locations m (New offset) (slice_index h d)) (omega (arith, low)) in
+    let is = stores_code (suc offset) (suc d) count rest in (
+      p.0,
+      record {
+        ends = ap (λ (z : ℕ). ending code_locations (capsule_from W (at + 1) z is h) (store code_locations m (New offset) (held h (register d)))) next
+            ∙ ap (λ (z : ℕ). ending code_locations (capsule_from W (at + 1) 0 is h) (store code_locations m (New offset) z)) v ∙ p.1.ends;
+        left = ap (λ (z : ℕ). leaves code_locations (capsule_from W (at + 1) z is h) (store code_locations m (New offset) (held h (register d)))) next
+            ∙ ap (λ (z : ℕ). leaves code_locations (capsule_from W (at + 1) 0 is h) (store code_locations m (New offset) z)) v ∙ p.1.left;
+        asks = ap (λ (z : ℕ). asked code_locations (capsule_from W (at + 1) z is h) (store code_locations m (New offset) (held h (register d)))) next
+            ∙ ap (λ (z : ℕ). asked code_locations (capsule_from W (at + 1) 0 is h) (store code_locations m (New offset) z)) v ∙ p.1.asks;
+      },
+    )
