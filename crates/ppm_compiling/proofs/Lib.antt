@@ -5,3 +5,5 @@ pub mod ExprLemmas
 pub mod StepLemmas
 pub mod SlotLemmas
 pub mod BlockLemmas
+pub mod TempLemmas
+pub mod EntryLemmas
