@@ -6,18 +6,20 @@ use Rattle.std.proofs.lemmas.Bool.{lt-ltb, eq-eqb, ne_eqb, cond-true, cond-false
 use Rattle.std.proofs.lemmas.List.{get_or-set_same, get_or-set_other, length-set}
 use Rattle.ppm_strands.specs.Tree.{Words}
 use Rattle.ppm_capsules.specs.Capsule.{Memory, ending, leaves, asked, store}
-use Rattle.ppm_capsules.specs.Strand.{Own, New, own_of, shared_of}
+use Rattle.ppm_capsules.specs.Strand.{Own, New, own_of, new_of, shared_of}
 use Rattle.ppm_code.specs.declared.instr.Instr.{Instr}
 use Rattle.ppm_code.specs.declared.instr.Instr.TheVariants as instr
 use Rattle.ppm_code.specs.declared.location.FrameWord.{FrameWord}
-use Rattle.ppm_code.specs.declared.location.FrameWord.TheVariants.{Slot}
+use Rattle.ppm_code.specs.declared.location.FrameWord.TheVariants.{Slot, Value}
 use Rattle.ppm_code.specs.declared.register.Register.{Register}
 use Rattle.ppm_code.specs.Acts.{held}
 use Rattle.ppm_code.specs.Locations.{Where, code_locations}
 use Rattle.ppm_code.specs.Capsules.{capsule_from}
+use Rattle.ppm_code.specs.Strands.{built}
 use Rattle.ppm_translation.specs.Layout.{Layout, slot_of, register, register_with}
 use Rattle.ppm_translation.specs.Statements.{loads_code, names_code, stores_code}
 use Rattle.ppm_compiling.proofs.ExprLemmas.{Goes}
+use Rattle.ppm_compiling.proofs.TempLemmas.{goes_on}
 
 -- the register with a number up to 63 has it
 pub index_is : (n : ℕ) → n < 64 → (register n).index ≡ n
@@ -191,3 +193,65 @@ stores_go W offset d (suc count) at rest h m low =
             ∙ ap (λ (z : ℕ). asked code_locations (capsule_from W (at + 1) 0 is h) (store code_locations m (New offset) z)) v ∙ p.1.asks;
       },
     )
+
+-- The frame of a half in a new block, whose slots begin at o: its part from register `part`, its first index from register `index`, and so
+-- many names from register 6 on.
+module _ (h : List ℕ) (o part index count : ℕ) (m : Memory Where) where
+  abbrev pub half_stored : Memory Where
+  half_stored = stored h (suc (suc o)) 6 count (stored h (suc o) index 1 (stored h o part 1 m))
+
+  pub half_own : own_of half_stored ≡ own_of m
+  half_own = stored_own h (suc (suc o)) 6 count (stored h (suc o) index 1 (stored h o part 1 m))
+
+  pub half_shared : shared_of half_stored ≡ shared_of m
+  half_shared = stored_shared h (suc (suc o)) 6 count (stored h (suc o) index 1 (stored h o part 1 m))
+
+  -- elsewhere the block is as it was
+  pub half_else : (i : ℕ) → (i < o) ⊎ (o + suc (suc count) ≤ i) → half_stored (New i) ≡ m (New i)
+  half_else i far =
+      stored_else h (suc (suc o)) 6 count (stored h (suc o) index 1 (stored h o part 1 m)) i
+      (elim far [ | inl low ↦ inl (omega (arith, low)) | inr high ↦ inr (omega (arith, high)) ])
+      ∙ stored_else h (suc o) index 1 (stored h o part 1 m) i (elim far [ | inl low ↦ inl (omega (arith, low)) | inr high ↦ inr (omega (arith, high)) ])
+      ∙ stored_else h o part 1 m i (elim far [ | inl low ↦ inl (omega (arith, low)) | inr high ↦ inr (omega (arith, high)) ])
+
+  half_part : half_stored (New o) ≡ slice_index h part
+  half_part =
+      stored_else h (suc (suc o)) 6 count (stored h (suc o) index 1 (stored h o part 1 m)) o (inl (omega arith))
+      ∙ stored_else h (suc o) index 1 (stored h o part 1 m) o (inl (omega arith)) ∙ new_at m o (slice_index h part)
+
+  half_index : half_stored (New (suc o)) ≡ slice_index h index
+  half_index =
+      stored_else h (suc (suc o)) 6 count (stored h (suc o) index 1 (stored h o part 1 m)) (suc o) (inl (omega arith))
+      ∙ new_at (stored h o part 1 m) (suc o) (slice_index h index)
+
+  half_name : (k : ℕ) → k < count → half_stored (New (suc (suc o) + k)) ≡ slice_index h (6 + k)
+  half_name k low = stored_at h (suc (suc o)) 6 count (stored h (suc o) index 1 (stored h o part 1 m)) k low
+
+  -- a frame with these slots
+  pub record IsHalf (own : FrameWord → ℕ) : Type 0 where
+    pub at_part : own (Slot 0) ≡ slice_index h part
+    pub at_index : own (Slot 1) ≡ slice_index h index
+    pub names : (k : ℕ) → k < count → own (Slot (suc (suc k))) ≡ slice_index h (6 + k)
+    pub value : own Value ≡ 0
+
+  -- it lies in the block, where that was blank and what is stored later lies elsewhere
+  pub half_built : (later : Memory Where) (frame : ℕ) → frame + 6 ≡ o
+      → ((i : ℕ) → o ≤ i → i < o + suc (suc count) → later (New i) ≡ half_stored (New i)) → later (New (frame + 4)) ≡ 0
+      → IsHalf (built frame (new_of later))
+  half_built later frame is keeps blank = record {
+    at_part = ap (λ (i : ℕ). later (New i)) (let e : frame + (6 + 0) ≡ o = omega (arith, is) in e) ∙ keeps o (omega arith) (omega arith) ∙ half_part;
+    at_index = ap (λ (i : ℕ). later (New i)) (let e : frame + (6 + 1) ≡ suc o = omega (arith, is) in e) ∙ keeps (suc o) (omega arith) (omega arith) ∙ half_index;
+    names = λ k low. ap (λ (i : ℕ). later (New i)) (let e : frame + (6 + suc (suc k)) ≡ suc (suc o) + k = omega (arith, is) in e)
+        ∙ keeps (suc (suc o) + k) (omega arith) (omega (arith, low)) ∙ half_name k low;
+    value = blank;
+  }
+
+  pub half_go : (W at : ℕ) (rest : List Instr) → part < 64 → index < 64 → 6 + count ≤ 64
+      → (number : ℕ) × Goes (capsule_from W at 0 (instr.StoreNew o (register part) ∷ instr.StoreNew (suc o) (register index)
+      ∷ stores_code (suc (suc o)) 6 count rest) h) m (capsule_from W number 0 rest h) half_stored
+  half_go W at rest low_part low_index low =
+      let behind = stores_code (suc (suc o)) 6 count rest in
+      let one = stores_go W o part 1 at (instr.StoreNew (suc o) (register index) ∷ behind) h m (omega (arith, low_part)) in
+      let two = stores_go W (suc o) index 1 one.0 behind h (stored h o part 1 m) (omega (arith, low_index)) in
+      let three = stores_go W (suc (suc o)) 6 count two.0 rest h (stored h (suc o) index 1 (stored h o part 1 m)) low in
+      (three.0, goes_on one.1 (goes_on two.1 three.1))

@@ -7,3 +7,4 @@ pub mod SlotLemmas
 pub mod BlockLemmas
 pub mod TempLemmas
 pub mod EntryLemmas
+pub mod HalvingLemmas
