@@ -1,9 +1,8 @@
 -- Slots that come into registers one after the other, and registers that go into a new block.
-use Rattle.std.proofs.Common.{◌≡◌, ◌≢◌, ◌≤◌, ◌<◌, ◌⊎◌, ℕ, zero, suc, ◌+◌, ◌-◌, cond, Bool, true, false, nat_lt, List, [], ◌∷◌, length, get_or, inl, inr}
+use Rattle.std.proofs.Common.{◌≡◌, ◌≢◌, ◌≤◌, ◌<◌, ◌⊎◌, ℕ, zero, suc, ◌+◌, ◌-◌, List, [], ◌∷◌, length, get_or, inl, inr}
 use Rattle.std.proofs.Common.{refl, sym, ap, ◌∙◌, subst, arith}
 use Rattle.std.specs.Prelude.{slice_index, slice_set}
-use Rattle.std.proofs.lemmas.Bool.{lt-ltb, eq-eqb, ne_eqb, cond-true, cond-false}
-use Rattle.std.proofs.lemmas.List.{get_or-set_same, get_or-set_other, length-set}
+use Rattle.std.proofs.lemmas.Bool.{ne_eqb, cond-true, cond-false}
 use Rattle.ppm_strands.specs.Tree.{Words}
 use Rattle.ppm_capsules.specs.Capsule.{Memory, ending, leaves, asked, store}
 use Rattle.ppm_capsules.specs.Strand.{Own, New, own_of, new_of, shared_of}
@@ -11,40 +10,13 @@ use Rattle.ppm_code.specs.declared.instr.Instr.{Instr}
 use Rattle.ppm_code.specs.declared.instr.Instr.TheVariants as instr
 use Rattle.ppm_code.specs.declared.location.FrameWord.{FrameWord}
 use Rattle.ppm_code.specs.declared.location.FrameWord.TheVariants.{Slot, Value}
-use Rattle.ppm_code.specs.declared.register.Register.{Register}
 use Rattle.ppm_code.specs.Acts.{held}
 use Rattle.ppm_code.specs.Locations.{Where, code_locations}
 use Rattle.ppm_code.specs.Capsules.{capsule_from}
 use Rattle.ppm_code.specs.Strands.{built}
-use Rattle.ppm_translation.specs.Layout.{Layout, slot_of, register, register_with}
+use Rattle.ppm_translation.specs.Layout.{Layout, slot_of, register}
 use Rattle.ppm_translation.specs.Statements.{loads_code, names_code, stores_code}
-use Rattle.ppm_compiling.proofs.ExprLemmas.{Goes}
-use Rattle.ppm_compiling.proofs.TempLemmas.{goes_on}
-
--- the register with a number up to 63 has it
-pub index_is : (n : ℕ) → n < 64 → (register n).index ≡ n
-index_is n low = go (nat_lt n 64) refl
-  where
-    go : (b : Bool) (h : nat_lt n 64 ≡ b) → (register_with n b h).index ≡ n
-    go true h = refl
-    go false h = absurd (let t : true ≡ false = sym (lt-ltb n 64 low) ∙ h in cc)
-
-pub held_is : (g : List ℕ) (n : ℕ) → n < 64 → held g (register n) ≡ slice_index g n
-held_is g n low = ap (slice_index g) (index_is n low)
-
--- a register that has been set, and the others
-pub set_at : (g : List ℕ) (n v : ℕ) → n < 64 → length g ≡ 64 → slice_index (slice_set g (register n).index v) n ≡ v
-set_at g n v low count =
-    ap (λ (k : ℕ). slice_index (slice_set g k v) n) (index_is n low) ∙ get_or-set_same g n v 0 (omega (arith, low, count))
-
-pub set_else : (g : List ℕ) (n v i : ℕ) → n < 64 → i ≢ n → slice_index (slice_set g (register n).index v) i ≡ slice_index g i
-set_else g n v i low other = ap (λ (k : ℕ). slice_index (slice_set g k v) i) (index_is n low) ∙ get_or-set_other g n i v 0 other
-
-pub set_count : (g : List ℕ) (n v : ℕ) → length g ≡ 64 → length (slice_set g n v) ≡ 64
-set_count g n v count = length-set g n v ∙ count
-
-pub goes_same : (W at : ℕ) (is : List Instr) (g : List ℕ) (m : Memory Where) → Goes (capsule_from W at 0 is g) m (capsule_from W at 0 is g) m
-goes_same W at is g m = record { ends = refl; left = refl; asks = refl }
+use Rattle.ppm_compiling.proofs.ExprLemmas.{Goes, goes_on, goes_same, set_at, set_else, set_count, held_at}
 
 -- so many registers from d on have words, those below are as they were, and there are 64
 pub record Loaded (d count : ℕ) (word : ℕ → ℕ) (g h : List ℕ) : Type 0 where
@@ -67,7 +39,7 @@ loaded_more d count word g h low is l = record {
     words_ : (k : ℕ) → k < suc count → slice_index h (d + k) ≡ word k
     words_ zero below =
         let first : d + 0 ≡ d = omega arith in
-        ap (slice_index h) first ∙ l.keeps d (omega arith) ∙ set_at g d (word 0) low is
+        ap (slice_index h) first ∙ l.keeps d (omega arith) ∙ set_at g d (word 0) is low
     words_ (suc k) below =
         let next : d + suc k ≡ suc d + k = omega arith in
         ap (slice_index h) next ∙ l.words k (omega (arith, below))
@@ -103,20 +75,20 @@ module _ (W : ℕ) (m : Memory Where) where
   pub loads_go : (layout names : Layout) (d at : ℕ) (rest : List Instr) (g : List ℕ) → length g ≡ 64 → d + length names ≤ 64
       → Loads d (length names) (λ k. m (Own (Slot (slot_of layout (get_or names k []))))) at (loads_code layout names d rest) rest g
   loads_go layout [] d at rest g count low =
-      record { registers = g; number = at; goes = goes_same W at rest g m; loaded = none_loaded d _ g count }
+      record { registers = g; number = at; goes = goes_same (capsule_from W at 0 rest g) m; loaded = none_loaded d _ g count }
   loads_go layout (x ∷ names) d at rest g count low =
       load_more d (length names) (λ k. m (Own (Slot (slot_of layout (get_or (x ∷ names) k []))))) at (slot_of layout x)
       (loads_code layout names (suc d) rest) rest g (omega (arith, low)) count refl
-      (loads_go layout names (suc d) (at + 1) rest _ (set_count g (register d).index _ count) (omega (arith, low)))
+      (loads_go layout names (suc d) (at + 1) rest _ (set_count g d _ count) (omega (arith, low)))
 
   pub names_go : (slot d count at : ℕ) (rest : List Instr) (g : List ℕ) → length g ≡ 64 → d + count ≤ 64
       → Loads d count (λ k. m (Own (Slot (slot + k)))) at (names_code slot d count rest) rest g
   names_go slot d zero at rest g length_is low =
-      record { registers = g; number = at; goes = goes_same W at rest g m; loaded = none_loaded d _ g length_is }
+      record { registers = g; number = at; goes = goes_same (capsule_from W at 0 rest g) m; loaded = none_loaded d _ g length_is }
   names_go slot d (suc count) at rest g length_is low =
       let first : slot ≡ slot + 0 = omega arith in
       let later = names_go (suc slot) (suc d) count (at + 1) rest (slice_set g (register d).index (m (Own (Slot slot))))
-          (set_count g (register d).index _ length_is) (omega (arith, low)) in
+          (set_count g d _ length_is) (omega (arith, low)) in
       load_more d count (λ k. m (Own (Slot (slot + k)))) at slot (names_code (suc slot) (suc d) count rest) rest g (omega (arith, low)) length_is
       (ap (λ (s : ℕ). m (Own (Slot s))) first)
       (record {
@@ -177,10 +149,10 @@ stored_shared h offset d (suc count) m = stored_shared h (suc offset) (suc d) co
 -- the capsule goes through stores, to the instructions of the rest
 pub stores_go : (W offset d count at : ℕ) (rest : List Instr) (h : List ℕ) (m : Memory Where) → d + count ≤ 64
     → (number : ℕ) × Goes (capsule_from W at 0 (stores_code offset d count rest) h) m (capsule_from W number 0 rest h) (stored h offset d count m)
-stores_go W offset d zero at rest h m low = (at, goes_same W at rest h m)
+stores_go W offset d zero at rest h m low = (at, goes_same (capsule_from W at 0 rest h) m)
 stores_go W offset d (suc count) at rest h m low =
     let next : (at + 1) - (at + 1) ≡ 0 = omega arith in
-    let v = held_is h d (omega (arith, low)) in
+    let v = held_at h d (omega (arith, low)) in
     let p = stores_go W (suc offset) (suc d) count (at + 1) rest h (store code_locations m (New offset) (slice_index h d)) (omega (arith, low)) in
     let is = stores_code (suc offset) (suc d) count rest in (
       p.0,

@@ -19,7 +19,8 @@ use Rattle.ppm_tree.specs.Meaning.{Ended, assigned, stored, given}
 use Rattle.ppm_owning.specs.Coming.{stretch}
 use Rattle.ppm_regions.specs.Scope.{Scope, declared, plain}
 use Rattle.ppm_translation.specs.Layout.{Layout, target_of, parameter_layout, caught}
-use Rattle.ppm_translation.specs.Fits.{IsNew, IsDistinctLayout, IsLocal, IsRegion, split_scope, each_scope, FitsExpression, FitsSide}
+use Rattle.ppm_regions.specs.Scope.{split_scope, each_scope}
+use Rattle.ppm_translation.specs.Fits.{IsNew, IsDistinctLayout, IsLocal, IsRegion, FitsExpression, FitsSide}
 use Rattle.ppm_translation.specs.Numbers.{halving, halved, element_block}
 use Rattle.ppm_translation.specs.Slots.{hidden_slots, frame_words, fork_words}
 use Rattle.ppm_translation.specs.Statements.{onward, let_code, value_code, move_code, element_code, put_code, test_code, split_code, give_code}

@@ -24,27 +24,23 @@ use Rattle.ppm_tree.specs.declared.named.Named.{Named}
 use Rattle.ppm_tree.specs.Tree.{Block}
 use Rattle.ppm_tree.specs.State.{Region, Frame, Arrays}
 use Rattle.ppm_owning.specs.Coming.{stretch}
-use Rattle.ppm_regions.specs.Scope.{Scope, declared}
+use Rattle.ppm_regions.specs.Scope.{Scope, declared, each_scope}
 use Rattle.ppm_translation.specs.Layout.{Layout, slot_of, caught, register}
-use Rattle.ppm_translation.specs.Fits.{IsNew, IsDistinctLayout, IsRegion, each_scope}
+use Rattle.ppm_translation.specs.Fits.{IsNew, IsDistinctLayout, IsRegion}
 use Rattle.ppm_translation.specs.Numbers.{halving, element_block}
 use Rattle.ppm_translation.specs.Slots.{hidden_slots, frame_words}
 use Rattle.ppm_translation.specs.Statements.{each_code, entry_code, loads_code, stores_code, hidden_layout}
 use Rattle.ppm_compiling.proofs.ChainLemmas.{cost, Chain}
 use Rattle.ppm_compiling.proofs.Holding.{HoldsValue, Holds, offset_of, region_word, sweep_frame, at_work, waits, strands}
 use Rattle.ppm_compiling.proofs.Doing.{InHand, Entered, EntryDoes, EachDoes}
-use Rattle.ppm_compiling.proofs.ExprLemmas.{Goes}
-use Rattle.ppm_compiling.proofs.TempLemmas.{goes_on, goes_equal}
+use Rattle.ppm_compiling.proofs.ExprLemmas.{Goes, goes_on, goes_equal, set_count, holds_number}
 use Rattle.ppm_compiling.proofs.StepLemmas.{start_at, opens_at, whole}
 use Rattle.ppm_compiling.proofs.SlotLemmas.{sweep_holds, each_catches}
-use Rattle.ppm_compiling.proofs.BlockLemmas.{Loads, loads_go, stored, stored_at, stored_else, stored_own, stored_shared, stores_go, set_count}
+use Rattle.ppm_compiling.proofs.BlockLemmas.{Loads, loads_go, stored, stored_at, stored_else, stored_own, stored_shared, stores_go}
 
 -- a small number is its own value
 pub value_is : (n : ℕ) → n < 2 ^ 63 → value_of n ≡ pos n
-value_is n low = ap (λ (b : Bool). if b then pos n else negsuc (2 ^ 64 - 1 - n)) (lt-ltb n (2 ^ 63) low)
-
-pub holds_number : (n : ℕ) → n < 2 ^ 63 → HoldsValue n (pos n)
-holds_number n low = record { value = value_is n low; below = omega (arith, low) }
+value_is n low = (holds_number n low).value
 
 -- how many words a region's word says
 pub length_is : (lengths : List ℕ) (r : Region) → r.length < 2 ^ 32 → length_of (region_word lengths r) ≡ r.length

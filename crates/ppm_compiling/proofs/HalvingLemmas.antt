@@ -28,21 +28,19 @@ use Rattle.ppm_tree.specs.declared.named.Named.{Named}
 use Rattle.ppm_tree.specs.Tree.{Block}
 use Rattle.ppm_tree.specs.State.{Region, Frame, Arrays}
 use Rattle.ppm_owning.specs.Coming.{stretch}
-use Rattle.ppm_regions.specs.Scope.{Scope, declared}
+use Rattle.ppm_regions.specs.Scope.{Scope, declared, each_scope}
 use Rattle.ppm_translation.specs.Layout.{Layout, slot_of, caught, register}
-use Rattle.ppm_translation.specs.Fits.{each_scope}
 use Rattle.ppm_translation.specs.Numbers.{halving, halved}
 use Rattle.ppm_translation.specs.Slots.{hidden_slots, frame_words, fork_words}
 use Rattle.ppm_translation.specs.Statements.{halving_code, names_code, stores_code, hidden_layout}
 use Rattle.ppm_compiling.proofs.ChainLemmas.{cost, Chain}
 use Rattle.ppm_compiling.proofs.Holding.{HoldsValue, Holds, offset_of, region_word, sweep_frame, at_work, waits, strands}
 use Rattle.ppm_compiling.proofs.Doing.{HalvingDoes}
-use Rattle.ppm_compiling.proofs.ExprLemmas.{Goes}
-use Rattle.ppm_compiling.proofs.TempLemmas.{goes_on, goes_equal, sets, loads}
+use Rattle.ppm_compiling.proofs.ExprLemmas.{Goes, goes_on, goes_equal, sets, set_count, holds_number}
 use Rattle.ppm_compiling.proofs.StepLemmas.{start_at, opens_at, whole}
 use Rattle.ppm_compiling.proofs.SlotLemmas.{sweep_holds, half_catches, part_slot, index_slot}
-use Rattle.ppm_compiling.proofs.BlockLemmas.{Loads, names_go, half_stored, half_own, half_shared, half_else, IsHalf, half_built, half_go, set_count}
-use Rattle.ppm_compiling.proofs.EntryLemmas.{value_is, holds_number}
+use Rattle.ppm_compiling.proofs.BlockLemmas.{Loads, names_go, half_stored, half_own, half_shared, half_else, IsHalf, half_built, half_go}
+use Rattle.ppm_compiling.proofs.EntryLemmas.{value_is}
 
 -- half of a small number
 pub half_does : (line : ℕ) (d : Register) (m : ℕ) → m ≤ 4194304 → quotient_of line d (value_of m) (value_of 2) ≡ Sets d (m / 2)

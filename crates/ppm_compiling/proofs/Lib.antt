@@ -1,10 +1,11 @@
 pub mod ChainLemmas
 pub mod Holding
 pub mod Doing
-pub mod ExprLemmas
 pub mod StepLemmas
 pub mod SlotLemmas
+pub mod ExprLemmas
+pub mod Places
+pub mod HoldLemmas
 pub mod BlockLemmas
-pub mod TempLemmas
 pub mod EntryLemmas
 pub mod HalvingLemmas

@@ -11,11 +11,12 @@ use Rattle.ppm_tree.specs.declared.mode.Mode.TheVariants as mode
 use Rattle.ppm_tree.specs.Tree.{Block}
 use Rattle.ppm_tree.specs.State.{Region, Frame}
 use Rattle.ppm_owning.specs.Coming.{stretch}
-use Rattle.ppm_owning.proofs.ScopeLemmas.{names_same, same_names, names_other, found_cases, none_and_some, some_same}
-use Rattle.ppm_owning.proofs.ScopeLemmas.{declared_in_front, declared_behind, declared_name, declared_map, image_of}
+use Rattle.ppm_regions.proofs.ScopeLemmas.{names_same, same_names, names_other, found_cases, none_and_some, some_same}
+use Rattle.ppm_regions.proofs.ScopeLemmas.{declared_in_front, declared_behind, declared_name, declared_map, image_of}
 use Rattle.ppm_regions.specs.Scope.{Declaration, Scope, declared, is_region, part, part_mode, index_of, in_each, element_of, seen_in_each}
 use Rattle.ppm_translation.specs.Layout.{Layout, slot_of, caught}
-use Rattle.ppm_translation.specs.Fits.{Has, each_scope}
+use Rattle.ppm_regions.specs.Scope.{each_scope}
+use Rattle.ppm_translation.specs.Fits.{Has}
 use Rattle.ppm_translation.specs.Statements.{hidden_layout}
 use Rattle.ppm_compiling.proofs.Holding.{HoldsValue, Holds, region_word, sweep_frame}
 
