@@ -8,3 +8,6 @@ pub mod Places
 pub mod HoldLemmas
 pub mod Given
 pub mod SweepLemmas
+pub mod BlockLemmas
+pub mod EntryLemmas
+pub mod HalvingLemmas
