@@ -11,3 +11,5 @@ pub mod SweepLemmas
 pub mod BlockLemmas
 pub mod EntryLemmas
 pub mod HalvingLemmas
+pub mod SmallLemmas
+pub mod ReachLemmas

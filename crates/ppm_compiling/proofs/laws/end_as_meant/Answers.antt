@@ -1,3 +1,5 @@
+use Rattle.ppm_compiling.proofs.SmallLemmas.{small_fork}
+use Rattle.ppm_compiling.proofs.ReachLemmas.{call_reaches}
 use Rattle.ppm_compiling.proofs.SweepLemmas.{end_stands}
 use Rattle.ppm_compiling.proofs.Given.{Given}
 use Rattle.ppm_compiling.proofs.HoldLemmas.{holds_delivered}
