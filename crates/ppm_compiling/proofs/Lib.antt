@@ -13,3 +13,4 @@ pub mod EntryLemmas
 pub mod HalvingLemmas
 pub mod SmallLemmas
 pub mod ReachLemmas
+pub mod Forward

@@ -1,3 +1,4 @@
+use Rattle.ppm_compiling.proofs.Forward.{goes_onward}
 use Rattle.ppm_compiling.proofs.SmallLemmas.{small_fork}
 use Rattle.ppm_compiling.proofs.ReachLemmas.{call_reaches}
 use Rattle.ppm_compiling.proofs.SweepLemmas.{end_stands}
