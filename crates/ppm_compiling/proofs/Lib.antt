@@ -9,3 +9,4 @@ pub mod HoldLemmas
 pub mod BlockLemmas
 pub mod EntryLemmas
 pub mod HalvingLemmas
+pub mod ArgumentLemmas
