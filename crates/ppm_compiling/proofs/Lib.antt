@@ -10,3 +10,5 @@ pub mod BlockLemmas
 pub mod EntryLemmas
 pub mod HalvingLemmas
 pub mod ArgumentLemmas
+pub mod CallLemmas
+pub mod ForkLemmas
