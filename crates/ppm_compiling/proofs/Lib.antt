@@ -6,6 +6,8 @@ pub mod SlotLemmas
 pub mod ExprLemmas
 pub mod Places
 pub mod HoldLemmas
+pub mod Given
+pub mod SweepLemmas
 pub mod BlockLemmas
 pub mod EntryLemmas
 pub mod HalvingLemmas

@@ -1,3 +1,5 @@
+use Rattle.ppm_compiling.proofs.SweepLemmas.{end_stands}
+use Rattle.ppm_compiling.proofs.Given.{Given}
 use Rattle.ppm_compiling.proofs.HoldLemmas.{holds_delivered}
 use Rattle.ppm_compiling.proofs.Doing.{CallDoes}
 use Rattle.ppm_compiling.proofs.Places.{lies}
