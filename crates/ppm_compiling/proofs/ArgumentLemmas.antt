@@ -1,5 +1,5 @@
 -- The arguments of a call: they come into registers, one after the other, as they make the callee's frame.
-use Rattle.std.proofs.Common.{◌≡◌, ◌≤◌, ◌<◌, ℕ, zero, suc, ◌+◌, cond, Bool, true, false, ℤ, List, [], ◌∷◌, Some, Result, Ok, Err, map, length}
+use Rattle.std.proofs.Common.{◌≡◌, ◌≤◌, ◌<◌, ℕ, suc, ◌+◌, cond, Bool, true, false, List, [], ◌∷◌, Some, Result, Ok, Err, map, length}
 use Rattle.std.proofs.Common.{refl, sym, ap, ◌∙◌, subst, subst₂, arith}
 use Rattle.std.specs.Prelude.{slice_index, slice_set}
 use Rattle.std.specs.List.{All, sum}
@@ -23,20 +23,21 @@ use Rattle.ppm_tree.specs.Limits.{IsNode}
 use Rattle.ppm_tree.specs.Parts.{nodes}
 use Rattle.ppm_tree.specs.Tree.{Expression, Argument}
 use Rattle.ppm_tree.specs.Tree as tree
-use Rattle.ppm_tree.specs.State.{TrapAt, Frame, Arrays, Region, with_local, with_region, evaluate, with_argument, with_arguments}
+use Rattle.ppm_tree.specs.State.{TrapAt, Frame, Arrays, with_local, with_region, evaluate, with_argument, with_arguments}
 use Rattle.ppm_regions.specs.Scope.{Declaration, Scope, declared, is_region, of_parameter}
 use Rattle.ppm_regions.proofs.ScopeLemmas.{names_same, same_names, some_same}
 use Rattle.ppm_translation.specs.Layout.{Layout, slot_of, parameter_layout, register}
 use Rattle.ppm_translation.specs.Expressions.{size_of, expression_code}
-use Rattle.ppm_translation.specs.Fits.{Has, IsNew, IsDistinctLayout, IsRegion, FitsArgument, FitsArguments}
+use Rattle.ppm_translation.specs.Fits.{IsNew, IsDistinctLayout, IsRegion, FitsArgument, FitsArguments}
 use Rattle.ppm_translation.specs.Statements.{argument_size, argument_code, arguments_size, arguments_code, paired}
 use Rattle.ppm_compiling.proofs.Holding.{HoldsValue, Holds, region_word}
 use Rattle.ppm_compiling.proofs.Doing.{argument_nodes}
-use Rattle.ppm_compiling.proofs.ExprLemmas.{Goes, goes_same, loads, InReg, set_at, set_count, set_keeps, Meets, meets_at, bind_meets, all_front, all_behind}
+use Rattle.ppm_compiling.proofs.ExprLemmas.{goes_same, loads, InReg, set_at, set_count, set_keeps, Meets, meets_at, bind_meets, all_front, all_behind}
 use Rattle.ppm_compiling.proofs.ExprLemmas.{some_node, Sees, region_held, expr_meets}
 
 -- what is known of the registers may be said otherwise
-pub meets_as : {A : Type 0} (W at : ℕ) (rest : List Instr) (K L : A → List ℕ → Type 0) (p : Capsule Where End) (m : Memory Where) (t : Result A TrapAt)
+pub meets_as : {A : Type 0} (W at : ℕ) (rest : List Instr) (K L : A → List ℕ → Type 0) (p : Capsule Where End) (m : Memory Where)
+    (t : Result A TrapAt)
     → ((v : A) (h : List ℕ) → K v h → L v h) → Meets W at rest K p m t → Meets W at rest L p m t
 meets_as W at rest K L p m (Ok v) on h = (h.0, h.1, on v h.0 h.2)
 meets_as W at rest K L p m (Err stop) on h = h
@@ -89,7 +90,8 @@ module _ (lengths : List ℕ) where
     count = count;
   }
 
-  module _ (p : Parameter) (ps : List Parameter) (before middle after : Frame) (d : ℕ) (g h' h : List ℕ) (new : IsNew (parameter_layout ps) p.name.name)
+  module _ (p : Parameter) (ps : List Parameter) (before middle after : Frame) (d : ℕ) (g h' h : List ℕ)
+      (new : IsNew (parameter_layout ps) p.name.name)
       (first : Given p.mode p.name.name before d g middle h') (rest : AreGiven ps middle (suc d) h' after h) where
     abbrev slot_by : Bool → List ℕ → ℕ
     slot_by b y = cond b 0 (suc (slot_of (parameter_layout ps) y))
@@ -104,9 +106,10 @@ module _ (lengths : List ℕ) where
         → cond b (Some (of_parameter p)) (declared (map of_parameter ps) y) ≡ Some e
         → HoldsValue (slice_index h (d + slot_by b y)) (after.locals y)
     local_by y e kind true same found =
-        let is_kind : is_region p.mode ≡ false = ap (λ (e : Declaration). is_region e.mode) (some_same {o = Some (of_parameter p)} refl found) ∙ kind in
+        let is_kind : is_region p.mode ≡ false =
+        ap (λ (e : Declaration). is_region e.mode) (some_same {o = Some (of_parameter p)} refl found) ∙ kind in
         let is_value : middle.locals p.name.name ≡ after.locals y =
-            sym (rest.other_locals p.name.name new) ∙ ap after.locals (same_names p.name.name y same) in
+        sym (rest.other_locals p.name.name new) ∙ ap after.locals (same_names p.name.name y same) in
         subst₂ HoldsValue (sym first_slot) is_value (first.local is_kind)
     local_by y e kind false same found = subst (λ (w : ℕ). HoldsValue w (after.locals y)) (later_slot y) (rest.local y e found kind)
 
@@ -114,7 +117,8 @@ module _ (lengths : List ℕ) where
         → cond b (Some (of_parameter p)) (declared (map of_parameter ps) y) ≡ Some e
         → slice_index h (d + slot_by b y) ≡ region_word lengths (after.regions y)
     region_by y e kind true same found =
-        let is_kind : is_region p.mode ≡ true = ap (λ (e : Declaration). is_region e.mode) (some_same {o = Some (of_parameter p)} refl found) ∙ kind in
+        let is_kind : is_region p.mode ≡ true =
+        ap (λ (e : Declaration). is_region e.mode) (some_same {o = Some (of_parameter p)} refl found) ∙ kind in
         first_slot ∙ first.region is_kind
         ∙ ap (region_word lengths) (sym (rest.other_regions p.name.name new) ∙ ap after.regions (same_names p.name.name y same))
     region_by y e kind false same found = sym (later_slot y) ∙ rest.region y e found kind
@@ -139,12 +143,14 @@ module _ (lengths : List ℕ) where
       → ((k : ℕ) → k < length (parameter_layout ps) → own (Slot k) ≡ slice_index h (d + k)) → own Value ≡ 0
       → Holds lengths (map of_parameter ps) (parameter_layout ps) after own
   given_holds ps before after d g h own given slots value = record {
-    local = λ y e found kind has. subst (λ (w : ℕ). HoldsValue w (after.locals y)) (sym (slots (slot_of (parameter_layout ps) y) has)) (given.local y e found kind);
+    local = λ y e found kind has. subst (λ (w : ℕ). HoldsValue w (after.locals y))
+        (sym (slots (slot_of (parameter_layout ps) y) has)) (given.local y e found kind);
     region = λ y e found kind has. slots (slot_of (parameter_layout ps) y) has ∙ given.region y e found kind;
     value = value;
   }
 
-module _ (lengths : List ℕ) (scope : Scope) (layout : Layout) (f : Frame) (arrays : Arrays) (m : Memory Where) (s : Sees lengths scope layout f arrays m) where
+module _ (lengths : List ℕ) (scope : Scope) (layout : Layout) (f : Frame) (arrays : Arrays) (m : Memory Where)
+    (s : Sees lengths scope layout f arrays m) where
   abbrev W : ℕ
   W = sum lengths
 

@@ -1,6 +1,6 @@
 -- A call: one capsule asks for the block, evaluates the arguments, and stores them into the callee's frame.
-use Rattle.std.proofs.Common.{◌≡◌, ◌≤◌, ◌<◌, ℕ, zero, suc, ◌+◌, List, [], ◌∷◌, None, Result, Ok, Err, length, inl, replicate}
-use Rattle.std.proofs.Common.{refl, sym, ap, ◌∙◌, subst, subst₂, arith}
+use Rattle.std.proofs.Common.{◌≡◌, ◌≤◌, ◌<◌, ℕ, ◌+◌, List, [], ◌∷◌, None, Result, Ok, Err, length, inl, replicate}
+use Rattle.std.proofs.Common.{refl, ap, ◌∙◌, subst₂, arith}
 use Rattle.std.specs.Prelude.{slice_index}
 use Rattle.std.specs.List.{sum}
 use Rattle.ppm_strands.specs.Tree.{Words, Strand, Call as Calling}
@@ -22,10 +22,11 @@ use Rattle.ppm_tree.specs.State.{TrapAt, Frame, Arrays, empty_frame, entered}
 use Rattle.ppm_regions.specs.Scope.{Scope}
 use Rattle.ppm_translation.specs.Layout.{Layout, parameter_layout, target_of}
 use Rattle.ppm_translation.specs.Slots.{frame_words}
-use Rattle.ppm_translation.specs.Statements.{arguments_size, arguments_code, paired, stores_code, callee_parameters, callee_slots, callee_number, call_code}
+use Rattle.ppm_translation.specs.Statements.{arguments_size, arguments_code, paired, stores_code, call_code}
+use Rattle.ppm_translation.specs.Statements.{callee_parameters, callee_slots, callee_number}
 use Rattle.ppm_compiling.proofs.ChainLemmas.{cost, Chain}
 use Rattle.ppm_compiling.proofs.Holding.{at_work, waits, strands, Called}
-use Rattle.ppm_compiling.proofs.Doing.{CallDoes, argument_nodes}
+use Rattle.ppm_compiling.proofs.Doing.{CallDoes}
 use Rattle.ppm_compiling.proofs.ExprLemmas.{goes_on, Meets}
 use Rattle.ppm_compiling.proofs.StepLemmas.{start_at, sees, whole}
 use Rattle.ppm_compiling.proofs.BlockLemmas.{stored, stored_at, stored_else, stored_own, stored_shared, stores_go}
@@ -74,16 +75,17 @@ module _ (lengths : List ℕ) (code : CodeParts) (scope : Scope) (layout : Layou
         let goes = goes_on h.1 stores.1 in
         let own' = built 0 (new_of m') in
         let at_slot : (k : ℕ) → k < length (parameter_layout parameters) → own' (Slot k) ≡ slice_index regs (0 + k) =
-            λ k low. ap (λ (i : ℕ). m' (New i)) (let e : 0 + (6 + k) ≡ 6 + k = omega arith in e)
-                ∙ stored_at regs 6 0 count m_ k (omega (arith, low, same)) in
+        λ k low. ap (λ (i : ℕ). m' (New i)) (let e : 0 + (6 + k) ≡ 6 + k = omega arith in e)
+        ∙ stored_at regs 6 0 count m_ k (omega (arith, low, same)) in
         let callee = at_work own' (entry_of code (callee_number procedures s)) in
         let chain = whole lengths code at (call_code procedures layout s next) stands own a end_ m' room goes.ends goes.left
-            (ap (λ (z : ℕ). room + z) goes.asks ∙ (let e : room + 0 ≡ room = omega arith in e)) in (
+        (ap (λ (z : ℕ). room + z) goes.asks ∙ (let e : room + 0 ≡ room = omega arith in e)) in (
           callee,
           record {
             own = own';
             at = refl;
-            holds = given_holds lengths parameters empty_frame g 0 (replicate 64 0) regs own' h.2 at_slot (stored_else regs 6 0 count m_ 4 (inl (omega arith)));
+            holds = given_holds lengths parameters empty_frame g 0 (replicate 64 0) regs own' h.2 at_slot
+                (stored_else regs 6 0 count m_ 4 (inl (omega arith)));
           },
           subst₂ (λ o b. Chain (strands lengths code) (cost 1 1 0 room) (Strand (at_work own at)) a
               (Calling (waits o next None (target_of layout s.target)) (Strand callee)) b)
@@ -95,5 +97,5 @@ module _ (lengths : List ℕ) (code : CodeParts) (scope : Scope) (layout : Layou
       let ps = callee_parameters procedures s in
       let few = paired_few ps s.arguments in
       finish s stands (paired_is scope layout ps s.arguments fits.arguments) (omega (arith, few, small.count)) (entered procedures f arrays s)
-      (arguments_meet lengths scope layout f arrays m_ (sees lengths code scope layout f own a arrays at hand) ps s.arguments empty_frame 0 1 (rest_ s)
-      (replicate 64 0) fits.arguments distinct small.each (omega (arith, small.count)) refl)
+      (arguments_meet lengths scope layout f arrays m_ (sees lengths code scope layout f own a arrays at hand) ps s.arguments empty_frame 0 1
+      (rest_ s) (replicate 64 0) fits.arguments distinct small.each (omega (arith, small.count)) refl)

@@ -1,6 +1,6 @@
 -- A fork: one capsule asks for the block, evaluates the arguments of both branches, and stores them into the two new frames.
-use Rattle.std.proofs.Common.{◌≡◌, ◌≤◌, ◌<◌, ℕ, zero, suc, ◌+◌, List, [], ◌∷◌, ◌++◌, Option, Result, Ok, Err, length, map, max, inl, inr, replicate}
-use Rattle.std.proofs.Common.{refl, sym, ap, ◌∙◌, subst, subst₂, arith}
+use Rattle.std.proofs.Common.{◌≡◌, ◌≤◌, ◌<◌, ℕ, suc, ◌+◌, List, [], ◌∷◌, Result, Ok, Err, length, inl, inr, replicate}
+use Rattle.std.proofs.Common.{refl, ap, ◌∙◌, subst₂, arith}
 use Rattle.std.specs.Prelude.{slice_index}
 use Rattle.std.specs.List.{sum}
 use Rattle.std.proofs.lemmas.List.{length-append, length-map}
@@ -25,14 +25,15 @@ use Rattle.ppm_tree.specs.State.{TrapAt, then_with, Frame, Arrays, empty_frame, 
 use Rattle.ppm_regions.specs.Scope.{Scope}
 use Rattle.ppm_translation.specs.Layout.{Layout, parameter_layout, target_of}
 use Rattle.ppm_translation.specs.Slots.{frame_words, fork_words, procedure_slots}
-use Rattle.ppm_translation.specs.Statements.{arguments_size, arguments_code, paired, stores_code, callee_parameters, callee_slots, callee_number, fork_code}
+use Rattle.ppm_translation.specs.Statements.{arguments_size, arguments_code, paired, stores_code, fork_code}
+use Rattle.ppm_translation.specs.Statements.{callee_parameters, callee_slots, callee_number}
 use Rattle.ppm_compiling.proofs.ChainLemmas.{cost, Chain}
 use Rattle.ppm_compiling.proofs.Holding.{at_work, waits, strands, Forked}
 use Rattle.ppm_compiling.proofs.Doing.{ForkDoes, argument_nodes}
 use Rattle.ppm_compiling.proofs.ExprLemmas.{goes_on, goes_same, Meets, meets_at, bind_meets, all_front, all_behind}
 use Rattle.ppm_compiling.proofs.StepLemmas.{start_at, sees, whole}
 use Rattle.ppm_compiling.proofs.BlockLemmas.{stored, stored_at, stored_else, stored_own, stored_shared, stores_go}
-use Rattle.ppm_compiling.proofs.ArgumentLemmas.{AreGiven, arguments_meet, paired_is, paired_few, given_holds, meets_as}
+use Rattle.ppm_compiling.proofs.ArgumentLemmas.{AreGiven, arguments_meet, paired_is, paired_few, given_holds}
 
 -- a procedure has a slot for each parameter
 parameters_fit : (p : Procedure) → length (parameter_layout p.parameters) ≤ procedure_slots p
@@ -113,22 +114,22 @@ module _ (lengths : List ℕ) (code : CodeParts) (scope : Scope) (layout : Layou
         let left = built left_at (new_of m2) in
         let right = built frame (new_of m2) in
         let left_slot : (k : ℕ) → k < length (parameter_layout lefts) → left (Slot k) ≡ slice_index h.2.between (0 + k) =
-            λ k below. ap (λ (i : ℕ). m2 (New i)) (let e : 5 + (6 + k) ≡ 11 + k = omega arith in e)
-                ∙ stored_else regs right_offset left_count right_count m1 (11 + k) (inl (omega (arith, below, same_left, low)))
-                ∙ stored_at regs 11 0 left_count m_ k (omega (arith, below, same_left))
-                ∙ h.2.right.keeps (0 + k) (omega (arith, below, same_left)) in
+        λ k below. ap (λ (i : ℕ). m2 (New i)) (let e : 5 + (6 + k) ≡ 11 + k = omega arith in e)
+        ∙ stored_else regs right_offset left_count right_count m1 (11 + k) (inl (omega (arith, below, same_left, low)))
+        ∙ stored_at regs 11 0 left_count m_ k (omega (arith, below, same_left))
+        ∙ h.2.right.keeps (0 + k) (omega (arith, below, same_left)) in
         let right_slot : (k : ℕ) → k < length (parameter_layout rights) → right (Slot k) ≡ slice_index regs (left_count + k) =
-            λ k below. ap (λ (i : ℕ). m2 (New i)) (let e : frame + (6 + k) ≡ right_offset + k = omega (arith, slots) in e)
-                ∙ stored_at regs right_offset left_count right_count m1 k (omega (arith, below, same_right)) in
+        λ k below. ap (λ (i : ℕ). m2 (New i)) (let e : frame + (6 + k) ≡ right_offset + k = omega (arith, slots) in e)
+        ∙ stored_at regs right_offset left_count right_count m1 k (omega (arith, below, same_right)) in
         let left_value : left Value ≡ 0 =
-            stored_else regs right_offset left_count right_count m1 9 (inl (omega arith)) ∙ stored_else regs 11 0 left_count m_ 9 (inl (omega arith)) in
+        stored_else regs right_offset left_count right_count m1 9 (inl (omega arith)) ∙ stored_else regs 11 0 left_count m_ 9 (inl (omega arith)) in
         let right_value : right Value ≡ 0 =
-            stored_else regs right_offset left_count right_count m1 (frame + 4) (inl (omega (arith, slots)))
-            ∙ stored_else regs 11 0 left_count m_ (frame + 4) (inr (omega (arith, slots, low))) in
+        stored_else regs right_offset left_count right_count m1 (frame + 4) (inl (omega (arith, slots)))
+        ∙ stored_else regs 11 0 left_count m_ (frame + 4) (inr (omega (arith, slots, low))) in
         let left_callee = at_work left (entry_of code (callee_number procedures s)) in
         let right_callee = at_work right (entry_of code (callee_number procedures u)) in
         let chain = whole lengths code at (fork_code procedures layout s u next) stands own a end_ m2 room goes.ends goes.left
-            (ap (λ (z : ℕ). room + z) goes.asks ∙ (let e : room + 0 ≡ room = omega arith in e)) in (
+        (ap (λ (z : ℕ). room + z) goes.asks ∙ (let e : room + 0 ≡ room = omega arith in e)) in (
           left_callee,
           right_callee,
           record {
@@ -166,12 +167,13 @@ module _ (lengths : List ℕ) (code : CodeParts) (scope : Scope) (layout : Layou
       (both_entered procedures f arrays s u)
       (bind_meets W (middle_ s u) (behind_ s u) (right_arguments s u) (rest_ s u) (AreGiven lengths ps empty_frame 0 zeros) (BothGiven s u)
       (arguments_ s u) m_ (entered procedures f arrays s) (λ g. then_with (entered procedures f arrays u) (λ h. Ok (g, h)))
-      (meets_at W left_end (middle_ s u) (right_arguments s u) (AreGiven lengths ps empty_frame 0 zeros) (arguments_ s u) m_ (entered procedures f arrays s)
-      (omega arith)
+      (meets_at W left_end (middle_ s u) (right_arguments s u) (AreGiven lengths ps empty_frame 0 zeros) (arguments_ s u) m_
+      (entered procedures f arrays s) (omega arith)
       (arguments_meet lengths scope layout f arrays m_ sees_ ps s.arguments empty_frame 0 1 (right_arguments s u) zeros fits_s.arguments distinct_s
       (all_front IsNode left_nodes right_nodes small.each) (omega (arith, both, small.count)) refl)) (λ g between k.
       bind_meets W (behind_ s u) (behind_ s u) (rest_ s u) (rest_ s u) (AreGiven lengths qs empty_frame (left_count s u) between) (BothGiven s u)
       (capsule_from W (middle_ s u) 0 (right_arguments s u) between) m_ (entered procedures f arrays u) (λ h. Ok (g, h))
-      (arguments_meet lengths scope layout f arrays m_ sees_ qs u.arguments empty_frame (left_count s u) (middle_ s u) (rest_ s u) between fits_u.arguments
-      distinct_u (all_behind IsNode left_nodes right_nodes small.each) (omega (arith, few_left, both, small.count)) k.count) (λ h regs j.
+      (arguments_meet lengths scope layout f arrays m_ sees_ qs u.arguments empty_frame (left_count s u) (middle_ s u) (rest_ s u) between
+      fits_u.arguments distinct_u (all_behind IsNode left_nodes right_nodes small.each)
+      (omega (arith, few_left, both, small.count)) k.count) (λ h regs j.
       (regs, goes_same (capsule_from W (behind_ s u) 0 (rest_ s u) regs) m_, record { between = between; left = k; right = j }))))

@@ -1,16 +1,15 @@
 -- The hidden procedure of an `each` halves what it has in hand: it forks itself over both halves.
-use Rattle.std.proofs.Common.{◌≡◌, ◌≢◌, ◌≤◌, ◌<◌, ℕ, zero, suc, ◌+◌, ◌*◌, ◌/◌, ◌%◌, ◌^◌, Bool, true, false, nat_lt, nat_le, pos, List, [], ◌∷◌, None, length}
+use Rattle.std.proofs.Common.{◌≡◌, ◌≤◌, ◌<◌, ℕ, suc, ◌+◌, ◌*◌, ◌/◌, ◌^◌, Bool, nat_lt, nat_le, pos, List, [], ◌∷◌, None, length}
 use Rattle.std.proofs.Common.{inl, inr, replicate, refl, sym, ap, ap₂, ◌∙◌, subst, subst₂, arith}
-use Rattle.std.specs.Prelude.{slice_index, slice_set, if◌then◌else◌, ◌-◌, ◌&&◌, ◌+ℤ◌, int_div}
+use Rattle.std.specs.Prelude.{slice_index, slice_set, if◌then◌else◌, ◌-◌, ◌&&◌, ◌+ℤ◌}
 use Rattle.std.specs.List.{sum}
 use Rattle.std.proofs.lemmas.Bool.{lt-ltb, le-leb}
 use Rattle.std.proofs.lemmas.Nat.{div-mul-add, mod-mul-add}
-use Rattle.ppm_strands.specs.Tree.{Words, Tree, Strand, Fork as Forking}
+use Rattle.ppm_strands.specs.Tree.{Words, Strand, Fork as Forking}
 use Rattle.ppm_capsules.specs.Capsule.{Memory, Ends}
-use Rattle.ppm_capsules.specs.Strand.{New, own_of, shared_of, new_of}
+use Rattle.ppm_capsules.specs.Strand.{new_of}
 use Rattle.ppm_words.specs.TwosComplement.{value_of}
 use Rattle.ppm_words.specs.declared.trap.Trap.TheVariants.{Overflow, Split}
-use Rattle.ppm_code.specs.declared.act.Act.{Act}
 use Rattle.ppm_code.specs.declared.act.Act.TheVariants.{Sets}
 use Rattle.ppm_code.specs.declared.act.End.{End}
 use Rattle.ppm_code.specs.declared.act.End.TheVariants as ends
@@ -18,27 +17,25 @@ use Rattle.ppm_code.specs.declared.code.CodeParts.{CodeParts}
 use Rattle.ppm_code.specs.declared.instr.Instr.{Instr}
 use Rattle.ppm_code.specs.declared.instr.Instr.TheVariants as instr
 use Rattle.ppm_code.specs.declared.location.FrameWord.{FrameWord}
-use Rattle.ppm_code.specs.declared.location.FrameWord.TheVariants.{Slot, Value}
+use Rattle.ppm_code.specs.declared.location.FrameWord.TheVariants.{Slot}
 use Rattle.ppm_code.specs.declared.register.Register.{Register}
 use Rattle.ppm_code.specs.Acts.{start_of, length_of, traps, quotient_of, cut_left_of, cut_right_of, whole as fitting}
 use Rattle.ppm_code.specs.Sizes.{slots_of, left_at, right_at}
 use Rattle.ppm_code.specs.Locations.{Where}
-use Rattle.ppm_code.specs.Capsules.{capsule_of, capsule_from}
+use Rattle.ppm_code.specs.Capsules.{capsule_from}
 use Rattle.ppm_code.specs.Strands.{instrs_of, entry_of, built}
-use Rattle.ppm_tree.specs.declared.named.Named.{Named}
-use Rattle.ppm_tree.specs.Tree.{Block}
-use Rattle.ppm_tree.specs.State.{Region, Frame, Arrays}
+use Rattle.ppm_tree.specs.State.{Frame, Arrays}
 use Rattle.ppm_owning.specs.Coming.{stretch}
-use Rattle.ppm_regions.specs.Scope.{Scope, declared, each_scope}
-use Rattle.ppm_translation.specs.Layout.{Layout, slot_of, caught, register}
+use Rattle.ppm_regions.specs.Scope.{Scope}
+use Rattle.ppm_translation.specs.Layout.{Layout, caught, register}
 use Rattle.ppm_translation.specs.Numbers.{halving, halved}
 use Rattle.ppm_translation.specs.Slots.{hidden_slots, frame_words, fork_words}
-use Rattle.ppm_translation.specs.Statements.{halving_code, names_code, stores_code, hidden_layout}
+use Rattle.ppm_translation.specs.Statements.{halving_code, names_code, stores_code}
 use Rattle.ppm_compiling.proofs.ChainLemmas.{cost, Chain}
-use Rattle.ppm_compiling.proofs.Holding.{HoldsValue, Holds, offset_of, region_word, sweep_frame, at_work, waits, strands}
+use Rattle.ppm_compiling.proofs.Holding.{HoldsValue, offset_of, region_word, at_work, waits, strands}
 use Rattle.ppm_compiling.proofs.Doing.{HalvingDoes}
 use Rattle.ppm_compiling.proofs.ExprLemmas.{Goes, goes_on, goes_equal, sets, set_count, holds_number}
-use Rattle.ppm_compiling.proofs.StepLemmas.{start_at, opens_at, whole}
+use Rattle.ppm_compiling.proofs.StepLemmas.{start_at, whole}
 use Rattle.ppm_compiling.proofs.SlotLemmas.{sweep_holds, half_catches, part_slot, index_slot}
 use Rattle.ppm_compiling.proofs.BlockLemmas.{Loads, names_go, half_stored, half_own, half_shared, half_else, IsHalf, half_built, half_go}
 use Rattle.ppm_compiling.proofs.EntryLemmas.{value_is}
@@ -74,7 +71,8 @@ module _ (line : ℕ) (d : Register) (start count at : ℕ) (low : count ≤ 419
 
   right_does : start ≤ 4194304 → cut_right_of line d word_ at ≡ Sets d ((start + at) * 2 ^ 32 + (count - at))
   right_does small =
-      ap₂ (λ (s n : ℕ). if nat_le at n && nat_lt (s + at) (2 ^ 32) then Sets d ((s + at) * 2 ^ 32 + (n - at)) else traps Split line) is_start is_length
+      ap₂ (λ (s n : ℕ). if nat_le at n && nat_lt (s + at) (2 ^ 32) then Sets d ((s + at) * 2 ^ 32 + (n - at)) else traps Split line)
+      is_start is_length
       ∙ ap₂ (λ (b c : Bool). if b && c then Sets d ((start + at) * 2 ^ 32 + (count - at)) else traps Split line) (le-leb at count within)
       (lt-ltb (start + at) (2 ^ 32) (omega (arith, small, within, low)))
 
@@ -134,7 +132,7 @@ module _ (lengths : List ℕ) (code : CodeParts) (scope : Scope) (layout : Layou
           let three = sets W 6 (instr.CutRight (register 3) (register 0) (register 1) line) at_index with_left (register 3) right is_right in
           let five = sets W 8 (instr.Add (register 5) (register 4) (register 1) line) rest with_index (register 5) total is_total in
           let loaded : Goes (capsule_from W 7 0 at_index with_right) m_ (capsule_from W 8 0 at_sum with_index) m_ =
-              record { ends = refl; left = refl; asks = refl } in
+          record { ends = refl; left = refl; asks = refl } in
           goes_on (goes_equal (capsule_from W 4 0 at_half with_length) (capsule_from W 5 0 at_left with_half) m_ one)
           (goes_on (goes_equal (capsule_from W 5 0 at_left with_half) (capsule_from W 6 0 at_right with_left) m_ two)
           (goes_on (goes_equal (capsule_from W 6 0 at_right with_left) (capsule_from W 7 0 at_index with_right) m_ three)
@@ -179,7 +177,7 @@ module _ (lengths : List ℕ) (code : CodeParts) (scope : Scope) (layout : Layou
     stores_goes =
         let first = half_go registers 11 2 4 count m_ W named.number right_stores (omega arith) (omega arith) (omega (arith, few)) in
         let second = half_go registers right_offset 3 5 count with_left_frame W first.0 (instr.Ends end_ ∷ []) (omega arith) (omega arith)
-            (omega (arith, few)) in
+        (omega (arith, few)) in
         goes_on first.1 second.1
 
     -- all instructions behind the room
@@ -190,7 +188,8 @@ module _ (lengths : List ℕ) (code : CodeParts) (scope : Scope) (layout : Layou
         → Goes (capsule_from W 4 0 (at_half half left right total line (names_code 2 6 count left_stores)) (with_length half left right total)) m_
         (Ends end_) with_frames
     all_goes is_half is_left is_right is_total =
-        goes_on (front_goes half left right total line (names_code 2 6 count left_stores) is_half is_left is_right is_total) (goes_on named.goes stores_goes)
+        goes_on (front_goes half left right total line (names_code 2 6 count left_stores) is_half is_left is_right is_total)
+        (goes_on named.goes stores_goes)
 
     -- the two frames, and what they keep of this one
     left_frame : 2 + count ≤ slots → IsHalf registers 11 2 4 count m_ (built left_at (new_of with_frames))
@@ -200,7 +199,8 @@ module _ (lengths : List ℕ) (code : CodeParts) (scope : Scope) (layout : Layou
 
     right_frame : 2 + count ≤ slots → slots_of code h ≡ slots
         → IsHalf registers right_offset 3 5 count with_left_frame (built (right_at code h) (new_of with_frames))
-    right_frame fit is = half_built registers right_offset 3 5 count with_left_frame with_frames (right_at code h) (omega (arith, is)) (λ k low high. refl)
+    right_frame fit is = half_built registers right_offset 3 5 count with_left_frame with_frames (right_at code h) (omega (arith, is))
+        (λ k low high. refl)
         (half_else registers right_offset 3 5 count with_left_frame (right_at code h + 4) (inl (omega (arith, is)))
         ∙ half_else registers 11 2 4 count m_ (right_at code h + 4) (inr (omega (arith, is, fit))))
 
@@ -219,7 +219,7 @@ module _ (lengths : List ℕ) (code : CodeParts) (scope : Scope) (layout : Layou
         let first = built left_at (new_of with_frames) in
         let second = built (right_at code h) (new_of with_frames) in
         let chain = whole lengths code (halving at) (halving_code at h slots count line) stands own a end_ with_frames room goes.ends goes.left
-            (ap (λ (z : ℕ). room + z) goes.asks ∙ (let e : room + 0 ≡ room = omega arith in e)) in
+        (ap (λ (z : ℕ). room + z) goes.asks ∙ (let e : room + 0 ≡ room = omega arith in e)) in
         subst (λ (e : ℕ). Chain (strands lengths code) (cost 1 1 1 room) (Strand (at_work own (halving at))) a
         (Forking (waits own (halved at) None None) (Strand (at_work first e)) (Strand (at_work second e))) a) (sym is_entry)
         (subst₂ (λ (w : FrameWord → ℕ) (b : Words). Chain (strands lengths code) (cost 1 1 1 room) (Strand (at_work own (halving at))) a
@@ -245,12 +245,12 @@ module _ (lengths : List ℕ) (code : CodeParts) (scope : Scope) (layout : Layou
       let is_part : own (Slot 0) ≡ start * 2 ^ 32 + m = part_slot lengths scope layout f i x r block other no_i no_x q n m own holds in
       let is_index = index_slot lengths scope layout f i x r block other no_i no_x q n m own holds in
       let goes = all_goes h slots count r.line half left right total few
-          (ap (λ (w : ℕ). quotient_of r.line (register 1) (value_of (length_of w)) (value_of 2)) is_part
-          ∙ ap (λ (k : ℕ). quotient_of r.line (register 1) (value_of k) (value_of 2)) (is_length r.line (register 1) start m half small smaller)
-          ∙ half_does r.line (register 1) m small)
-          (ap (λ (w : ℕ). cut_left_of r.line (register 2) w half) is_part ∙ left_does r.line (register 2) start m half small smaller)
-          (ap (λ (w : ℕ). cut_right_of r.line (register 3) w half) is_part ∙ right_does r.line (register 3) start m half small smaller small_start)
-          (sum_does r.line (register 5) (own (Slot 1)) n half is_index.value small_n small_half) in
+      (ap (λ (w : ℕ). quotient_of r.line (register 1) (value_of (length_of w)) (value_of 2)) is_part
+      ∙ ap (λ (k : ℕ). quotient_of r.line (register 1) (value_of k) (value_of 2)) (is_length r.line (register 1) start m half small smaller)
+      ∙ half_does r.line (register 1) m small)
+      (ap (λ (w : ℕ). cut_left_of r.line (register 2) w half) is_part ∙ left_does r.line (register 2) start m half small smaller)
+      (ap (λ (w : ℕ). cut_right_of r.line (register 3) w half) is_part ∙ right_does r.line (register 3) start m half small smaller small_start)
+      (sum_does r.line (register 5) (own (Slot 1)) n half is_index.value small_n small_half) in
       let loaded = (named h slots count r.line half left right total few).loaded in
       let keeps = kept h slots count r.line half left right total few in
       let first = left_frame h slots count r.line half left right total few fit in
@@ -259,7 +259,7 @@ module _ (lengths : List ℕ) (code : CodeParts) (scope : Scope) (layout : Layou
       let first_own = built left_at (new_of memory) in
       let second_own = built (right_at code h) (new_of memory) in
       let right_is : right ≡ region_word lengths (stretch (n + half) (m - half) q) =
-          ap (λ (s : ℕ). s * 2 ^ 32 + (m - half)) (let e : start + half ≡ offset_of lengths q.array + (q.start + (n + half)) = omega arith in e) in (
+      ap (λ (s : ℕ). s * 2 ^ 32 + (m - half)) (let e : start + half ≡ offset_of lengths q.array + (q.start + (n + half)) = omega arith in e) in (
         first_own,
         second_own,
         sweep_holds lengths scope layout f i x r block other no_i no_x q first_own n half
