@@ -14,3 +14,6 @@ pub mod HalvingLemmas
 pub mod SmallLemmas
 pub mod ReachLemmas
 pub mod Forward
+pub mod ArgumentLemmas
+pub mod CallLemmas
+pub mod ForkLemmas

@@ -8,6 +8,9 @@ use Rattle.ppm_compiling.proofs.Doing.{CallDoes}
 use Rattle.ppm_compiling.proofs.Places.{lies}
 use Rattle.ppm_compiling.proofs.EntryLemmas.{each_does}
 use Rattle.ppm_compiling.proofs.HalvingLemmas.{halving_does}
+use Rattle.ppm_compiling.proofs.ArgumentLemmas.{arguments_meet}
+use Rattle.ppm_compiling.proofs.CallLemmas.{call_does}
+use Rattle.ppm_compiling.proofs.ForkLemmas.{fork_does}
 use Rattle.ppm_compiling.proofs.laws.end_as_meant.Goals as goal
 
 pub returns : goal.returns
