@@ -107,7 +107,7 @@ module _ (W : ℕ) where
   skip : (here k n : ℕ) (i : Instr) (is : List Instr) (g : List ℕ) → k ≡ suc n → capsule_from W here k (i ∷ is) g ≡ capsule_from W (here + 1) n is g
   skip here k n i is g e = ap (λ (k : ℕ). capsule_from W here k (i ∷ is) g) e
 
-  here_is : (here there n : ℕ) (is : List Instr) (g : List ℕ) → here ≡ there → capsule_from W here n is g ≡ capsule_from W there n is g
+  pub here_is : (here there n : ℕ) (is : List Instr) (g : List ℕ) → here ≡ there → capsule_from W here n is g ≡ capsule_from W there n is g
   here_is here there n is g e = ap (λ (here : ℕ). capsule_from W here n is g) e
 
   skip_branch : (o : Operator) (here d target k n : ℕ) (is : List Instr) (g : List ℕ) → k ≡ branch_size o + n

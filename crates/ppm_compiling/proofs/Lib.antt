@@ -6,3 +6,5 @@ pub mod SlotLemmas
 pub mod ExprLemmas
 pub mod Places
 pub mod HoldLemmas
+pub mod HoldMore
+pub mod StatementLemmas
