@@ -8,3 +8,5 @@ pub mod Places
 pub mod HoldLemmas
 pub mod HoldMore
 pub mod StatementLemmas
+pub mod PutLemmas
+pub mod SplitLemmas

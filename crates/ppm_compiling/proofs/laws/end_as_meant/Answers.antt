@@ -1,6 +1,8 @@
 use Rattle.ppm_compiling.proofs.HoldLemmas.{holds_delivered}
 use Rattle.ppm_compiling.proofs.HoldMore.{holds_let}
 use Rattle.ppm_compiling.proofs.StatementLemmas.{let_does}
+use Rattle.ppm_compiling.proofs.PutLemmas.{put_does}
+use Rattle.ppm_compiling.proofs.SplitLemmas.{split_does}
 use Rattle.ppm_compiling.proofs.Doing.{CallDoes}
 use Rattle.ppm_compiling.proofs.Places.{lies}
 use Rattle.ppm_compiling.proofs.laws.end_as_meant.Goals as goal
