@@ -6,7 +6,7 @@ pub mod SlotLemmas
 pub mod ExprLemmas
 pub mod Places
 pub mod HoldLemmas
-pub mod HoldMore
+pub mod StoreLemmas
 pub mod StatementLemmas
 pub mod PutLemmas
 pub mod SplitLemmas

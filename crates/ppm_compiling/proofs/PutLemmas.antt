@@ -1,18 +1,17 @@
 -- What the capsules of `x[i] = e` do: index and value go into the spare slots, and the next capsule puts.
-use Rattle.std.proofs.Common.{◌≡◌, ◌≢◌, ◌≤◌, ◌<◌, ℕ, zero, suc, ◌+◌, ◌==◌, ℤ, pos, cond, Bool, true, false, List, [], ◌∷◌, ◌++◌, Option, Some, None, Result, Ok, Err}
+use Rattle.std.proofs.Common.{◌≡◌, ◌≤◌, ◌<◌, ℕ, zero, suc, ◌+◌, ◌==◌, ℤ, pos, cond, List, [], ◌∷◌, ◌++◌, Some, Result, Ok, Err}
 use Rattle.std.proofs.Common.{length, get_or, set, refl, sym, ap, ap₂, ◌∙◌, subst, subst₂, arith, inl, inr}
 use Rattle.std.proofs.Common.{get_or-set_same}
 use Rattle.std.specs.Prelude.{slice_index, slice_set}
 use Rattle.std.specs.List.{sum}
 use Rattle.std.proofs.lemmas.Bool.{cases_eq, cases_lt, cond-true, cond-false, eq-eqb, ne_eqb}
 use Rattle.std.proofs.lemmas.List.{get_or_past, length-append}
-use Rattle.ppm_words.specs.TwosComplement.{word_of, value_of}
-use Rattle.ppm_strands.specs.Tree.{Words, Strand, Over}
+use Rattle.ppm_words.specs.TwosComplement.{word_of}
+use Rattle.ppm_strands.specs.Tree.{Words, Strand}
 use Rattle.ppm_capsules.specs.Capsule.{Ends, Memory, store}
 use Rattle.ppm_capsules.specs.Strand.{Own, Shared}
 use Rattle.ppm_code.specs.declared.act.Step.{Step}
 use Rattle.ppm_code.specs.declared.act.Step.TheVariants.{Stores}
-use Rattle.ppm_code.specs.declared.act.End.{End}
 use Rattle.ppm_code.specs.declared.act.End.TheVariants as ends
 use Rattle.ppm_code.specs.declared.code.CodeParts.{CodeParts}
 use Rattle.ppm_code.specs.declared.instr.Instr.{Instr}
@@ -23,12 +22,12 @@ use Rattle.ppm_code.specs.declared.location.Location.TheVariants.{Frame as OwnWo
 use Rattle.ppm_code.specs.Acts.{does, held, at_element, element_of}
 use Rattle.ppm_code.specs.Locations.{Where, code_locations}
 use Rattle.ppm_code.specs.Capsules.{capsule_from, capsule_of}
-use Rattle.ppm_code.specs.Strands.{Trapped as TrappedAt, with_value, instrs_of}
+use Rattle.ppm_code.specs.Strands.{with_value, instrs_of}
 use Rattle.ppm_tree.specs.declared.named.Named.{Named}
 use Rattle.ppm_tree.specs.Limits.{IsNode}
 use Rattle.ppm_tree.specs.Parts.{nodes}
 use Rattle.ppm_tree.specs.Tree.{Expression}
-use Rattle.ppm_tree.specs.State.{TrapAt, then_with, Region, Locals, Frame, Arrays, array_at, with_word, index_in, evaluate, put_values}
+use Rattle.ppm_tree.specs.State.{TrapAt, then_with, Region, Locals, Frame, Arrays, array_at, with_word, index_in, evaluate}
 use Rattle.ppm_tree.specs.Meaning.{End as Ending, Ended, end_of}
 use Rattle.ppm_owning.proofs.WordLemmas.{put_lengths, put_other}
 use Rattle.ppm_regions.specs.Scope.{Scope}
@@ -38,10 +37,11 @@ use Rattle.ppm_translation.specs.Fits.{IsRegion, FitsExpression}
 use Rattle.ppm_translation.specs.Statements.{onward, element_code, put_code}
 use Rattle.ppm_compiling.proofs.ChainLemmas.{cost, Chain, chain_then, chain_weaken}
 use Rattle.ppm_compiling.proofs.Doing.{AreSmall, InHand, PutDoes}
-use Rattle.ppm_compiling.proofs.ExprLemmas.{Goes, goes_on, goes_equal, goes_same, stores, loads, stops, held_at, set_at, set_else, set_count, InReg, Meets, bind_meets, expr_meets}
-use Rattle.ppm_compiling.proofs.ExprLemmas.{word_is, IsPlaced, at_index, element_acts, index_below, sum_cons, array_within, region_held, region_placed, here_is, all_front, all_behind}
+use Rattle.ppm_compiling.proofs.ExprLemmas.{Goes, goes_on, goes_equal, goes_same, stores, loads, stops, held_at, set_at, set_else, set_count, InReg}
+use Rattle.ppm_compiling.proofs.ExprLemmas.{Meets, bind_meets, expr_meets}
+use Rattle.ppm_compiling.proofs.ExprLemmas.{word_is, IsPlaced, at_index, element_acts, index_below, all_front, all_behind}
 use Rattle.ppm_compiling.proofs.Holding.{HoldsValue, Holds, Shows, offset_of, region_word, Reaches, at_work, strands}
-use Rattle.ppm_compiling.proofs.HoldMore.{stored_slot, other_slot, holds_behind}
+use Rattle.ppm_compiling.proofs.StoreLemmas.{stored_slot, other_slot, holds_behind}
 use Rattle.ppm_compiling.proofs.StatementLemmas.{zeros, zeros_count, onward_goes, front_held}
 use Rattle.ppm_compiling.proofs.StepLemmas.{start_at, sees, whole, Tried, tried}
 
@@ -89,7 +89,8 @@ module _ (lengths : List ℕ) (a : Words) (arrays : Arrays) (shows : Shows lengt
       word_ k i below = elim (cases_eq (offset_of lengths k + i) address) [
         | inl e ↦
             let one = one_address lengths k n i j below low e in
-            subst₂ HoldsValue (sym (cond-true (offset_of lengths k + i == address) w (a (offset_of lengths k + i)) (eq-eqb (offset_of lengths k + i) address e)))
+            subst₂ HoldsValue (sym (cond-true (offset_of lengths k + i == address) w (a (offset_of lengths k + i))
+            (eq-eqb (offset_of lengths k + i) address e)))
             (sym (ap₂ (λ (k i : ℕ). get_or (array_at changed k) i (pos 0)) one.0 one.1 ∙ put_here)) is
         | inr other ↦
             subst₂ HoldsValue
@@ -138,8 +139,10 @@ module _ (lengths : List ℕ) (code : CodeParts) (scope : Scope) (layout : Layou
         bind_meets W (0 + size_of i) n second rest (λ v h. InReg 0 zeros v h) InTwo (capsule_of W first_code) now (evaluate f arrays i) _
         (expr_meets lengths scope layout f arrays now seen i 0 0 second zeros fits_i (all_front IsNode (nodes i) (nodes e) small.each)
         (omega (arith, count)) zeros_count) (λ v h k.
-        bind_meets W n n rest rest (λ v h'. InReg 1 h v h') InTwo (capsule_from W (0 + size_of i) 0 second h) now (evaluate f arrays e) (λ u. Ok (v, u))
-        (meets_here h (expr_meets lengths scope layout f arrays now seen e 1 (size_of i) rest h fits_e (all_behind IsNode (nodes i) (nodes e) small.each)
+        bind_meets W n n rest rest (λ v h'. InReg 1 h v h') InTwo (capsule_from W (0 + size_of i) 0 second h) now (evaluate f arrays e)
+        (λ u. Ok (v, u))
+        (meets_here h (expr_meets lengths scope layout f arrays now seen e 1 (size_of i) rest h fits_e
+        (all_behind IsNode (nodes i) (nodes e) small.each)
         (omega (arith, count)) k.count)) (λ u h' j. (
           h',
           goes_same _ now,
@@ -162,9 +165,9 @@ module _ (lengths : List ℕ) (code : CodeParts) (scope : Scope) (layout : Layou
         subst₂ (λ (w u : ℕ). Goes (capsule_from W n 0 rest h) now (Ends (ends.Next (suc at)))
         (store code_locations (store code_locations now (Own (Slot spare)) w) (Own (Slot (suc spare))) u)) is_index is_value
         (goes_on (stores W n (instr.StoreCur spare (register 0)) (instr.StoreCur (suc spare) (register 1) ∷ onward (suc at)) h (OwnWord (Slot spare))
-            (held h (register 0)) now refl)
+        (held h (register 0)) now refl)
         (goes_on (stores W (n + 1) (instr.StoreCur (suc spare) (register 1)) (onward (suc at)) h (OwnWord (Slot (suc spare))) (held h (register 1))
-            (store code_locations now (Own (Slot spare)) (held h (register 0))) refl)
+        (store code_locations now (Own (Slot spare)) (held h (register 0))) refl)
         (onward_goes W (n + 1 + 1) (suc at) h _)))
 
     -- the frame with the spare slots filled
@@ -242,7 +245,11 @@ module _ (lengths : List ℕ) (code : CodeParts) (scope : Scope) (layout : Layou
           ∙ stored_slot (with_value (Some spare) (word_of j) own) (suc spare) (word_of v)
 
       placed : IsPlaced lengths r
-      placed = record { small = hand.small; within = hand.lies.within x.name is_region.declaration is_region.found is_region.kind (is_region.seen refl) }
+      placed = record {
+        small = hand.small;
+        within = hand.lies.within x.name is_region.declaration is_region.found is_region.kind
+            (is_region.seen refl);
+      }
 
       abbrev step : ℕ → Step
       step y = Stores (Array y) (word_of v)
@@ -255,7 +262,8 @@ module _ (lengths : List ℕ) (code : CodeParts) (scope : Scope) (layout : Layou
 
       loaded : Goes (capsule_of W (put_code layout spare x next)) then_ (capsule_from W (0 + 1 + 1 + 1) 0 (put ∷ onward next) h) then_
       loaded =
-          goes_on (loads W 0 load (load_index ∷ load_value ∷ put ∷ onward next) zeros (OwnWord (Slot (slot_of layout x.name))) (register 0) then_ refl)
+          goes_on (loads W 0 load (load_index ∷ load_value ∷ put ∷ onward next) zeros (OwnWord (Slot (slot_of layout x.name)))
+          (register 0) then_ refl)
           (goes_on (loads W (0 + 1) load_index (load_value ∷ put ∷ onward next) g (OwnWord (Slot spare)) (register 1) then_ refl)
           (loads W (0 + 1 + 1) load_value (put ∷ onward next) g' (OwnWord (Slot (suc spare))) (register 2) then_ refl))
 
@@ -271,8 +279,8 @@ module _ (lengths : List ℕ) (code : CodeParts) (scope : Scope) (layout : Layou
               let below = index_below x.line r j k e in
               let m = store code_locations then_ (Shared y) (word_of v) in
               let goes = goes_on loaded (goes_on
-                  (stores W (0 + 1 + 1 + 1) put (onward next) h (Array y) (word_of v) then_ (act ∙ ap (at_index lengths r placed step) e))
-                  (onward_goes W (0 + 1 + 1 + 1 + 1) next h m)) in (
+              (stores W (0 + 1 + 1 + 1) put (onward next) h (Array y) (word_of v) then_ (act ∙ ap (at_index lengths r placed step) e))
+              (onward_goes W (0 + 1 + 1 + 1 + 1) next h m)) in (
                 from,
                 with_shared a y (word_of v),
                 holds_from,
@@ -281,11 +289,16 @@ module _ (lengths : List ℕ) (code : CodeParts) (scope : Scope) (layout : Layou
               )
           by (Err stop) e =
               let goes = goes_on loaded (goes_equal _ _ then_
-                  (stops W (0 + 1 + 1 + 1) put (onward next) h (ends.Trap stop.0 stop.1) (act ∙ ap (at_index lengths r placed step) e))) in
-              (a, hand.shows, whole lengths code (suc at) (put_code layout spare x next) stands from a (ends.Trap stop.0 stop.1) then_ 0 goes.ends goes.left goes.asks)
+              (stops W (0 + 1 + 1 + 1) put (onward next) h (ends.Trap stop.0 stop.1) (act ∙ ap (at_index lengths r placed step) e))) in (
+                a,
+                hand.shows,
+                whole lengths code (suc at) (put_code layout spare x next) stands from a
+                    (ends.Trap stop.0 stop.1) then_ 0 goes.ends goes.left goes.asks,
+              )
 
     -- both capsules
-    module _ (first_stands : instrs_of code at ≡ element_code layout spare i e (suc at)) (stands : instrs_of code (suc at) ≡ put_code layout spare x next) where
+    module _ (first_stands : instrs_of code at ≡ element_code layout spare i e (suc at))
+        (stands : instrs_of code (suc at) ≡ put_code layout spare x next) where
       small_index : AreSmall (nodes i)
       small_index = record { count = omega (arith, count); each = all_front IsNode (nodes i) (nodes e) small.each }
 
@@ -335,7 +348,8 @@ module _ (lengths : List ℕ) (code : CodeParts) (scope : Scope) (layout : Layou
       put_done : Done (evaluate f arrays i) (evaluate f arrays e)
       put_done =
           finish (evaluate f arrays i) (evaluate f arrays e)
-          (tried lengths code at first_code first_stands own a (capsule_of W first_code) 0 refl refl (omega arith) n rest InTwo (both_values i e) values_meet
+          (tried lengths code at first_code first_stands own a (capsule_of W first_code) 0 refl refl (omega arith) n rest InTwo
+          (both_values i e) values_meet
           (λ p. ends.Next (suc at)) spares stores_both)
           (front_held lengths code scope layout f own a arrays at next i hand fits_i small_index)
           (front_held lengths code scope layout f own a arrays at next e hand fits_e small_value)

@@ -1,13 +1,13 @@
 -- What the capsule of a split does: both parts go into the first slots that no name has.
-use Rattle.std.proofs.Common.{◌≡◌, ◌≢◌, ◌≤◌, ◌<◌, ℕ, zero, suc, ◌+◌, ◌-◌, ◌*◌, ◌^◌, ◌==◌, ℤ, pos, negsuc, cond, Bool, true, false, nat_lt, List, [], ◌∷◌, ◌++◌}
-use Rattle.std.proofs.Common.{Option, Some, None, Result, Ok, Err, map, length, get_or, refl, sym, ap, ap₂, ◌∙◌, subst, subst₂, arith, inl, inr}
+use Rattle.std.proofs.Common.{◌≡◌, ◌≢◌, ℕ, suc, ◌+◌, ◌-◌, ◌*◌, ◌^◌, ℤ, pos, negsuc, cond, Bool, true, false, nat_lt, List, [], ◌∷◌}
+use Rattle.std.proofs.Common.{Some, None, Result, Ok, Err, length, refl, sym, ap, ap₂, ◌∙◌, subst, subst₂, arith, inl, inr}
 use Rattle.std.specs.Prelude.{nat_le, slice_index, slice_set, ◌&&◌}
 use Rattle.std.specs.List.{sum}
 use Rattle.std.specs.Str.{bytes_eq}
-use Rattle.std.proofs.lemmas.Bool.{lt-ltb, le-leb, lt-leb, leb-true}
-use Rattle.ppm_words.specs.TwosComplement.{word_of, value_of}
+use Rattle.std.proofs.lemmas.Bool.{lt-ltb, lt-leb, leb-true}
+use Rattle.ppm_words.specs.TwosComplement.{word_of}
 use Rattle.ppm_words.specs.declared.trap.Trap.TheVariants as trap
-use Rattle.ppm_strands.specs.Tree.{Words, Strand, Over}
+use Rattle.ppm_strands.specs.Tree.{Words}
 use Rattle.ppm_capsules.specs.Capsule.{Ends, Memory, store}
 use Rattle.ppm_capsules.specs.Strand.{Own}
 use Rattle.ppm_code.specs.declared.act.Act.{Act}
@@ -20,28 +20,28 @@ use Rattle.ppm_code.specs.declared.location.FrameWord.{FrameWord}
 use Rattle.ppm_code.specs.declared.location.FrameWord.TheVariants.{Slot}
 use Rattle.ppm_code.specs.declared.location.Location.TheVariants.{Frame as OwnWord}
 use Rattle.ppm_code.specs.declared.register.Register.{Register}
-use Rattle.ppm_code.specs.Acts.{does, held, traps, start_of, length_of, cut_left_of, cut_right_of}
+use Rattle.ppm_code.specs.Acts.{does, held, traps, cut_left_of, cut_right_of}
 use Rattle.ppm_code.specs.Locations.{Where, code_locations}
 use Rattle.ppm_code.specs.Capsules.{capsule_from, capsule_of}
-use Rattle.ppm_code.specs.Strands.{with_value, instrs_of}
+use Rattle.ppm_code.specs.Strands.{with_value}
 use Rattle.ppm_tree.specs.declared.named.Named.{Named}
-use Rattle.ppm_tree.specs.Parts.{nodes}
 use Rattle.ppm_tree.specs.Tree.{Expression}
 use Rattle.ppm_tree.specs.State.{TrapAt, then_with, tested, Region, first_part, second_part, Frame, Arrays, split_at, evaluate}
 use Rattle.ppm_tree.specs.Meaning.{with_parts as parts_frame}
 use Rattle.ppm_regions.specs.Scope.{Declaration, Scope, declared, is_region, part, in_split, parts_of, seen_in_split, split_scope}
-use Rattle.ppm_regions.proofs.ScopeLemmas.{declared_in_front, declared_behind, declared_map, image_of, names_same, same_names, names_other, found_cases, some_same, none_and_some}
+use Rattle.ppm_regions.proofs.ScopeLemmas.{declared_in_front, declared_behind, declared_map, image_of, names_same, same_names, names_other}
+use Rattle.ppm_regions.proofs.ScopeLemmas.{found_cases, some_same, none_and_some}
 use Rattle.ppm_translation.specs.Layout.{Layout, slot_of, register}
-use Rattle.ppm_translation.specs.Expressions.{size_of, expression_code}
-use Rattle.ppm_translation.specs.Fits.{Has, IsNew, IsRegion, FitsExpression}
+use Rattle.ppm_translation.specs.Expressions.{size_of}
+use Rattle.ppm_translation.specs.Fits.{Has, IsNew, IsRegion}
 use Rattle.ppm_translation.specs.Statements.{onward, split_code, with_parts}
 use Rattle.ppm_translation.proofs.LayoutLemmas.{slot_in_front}
-use Rattle.ppm_compiling.proofs.ChainLemmas.{cost, Chain}
-use Rattle.ppm_compiling.proofs.Doing.{AreSmall, InHand, SplitDoes}
-use Rattle.ppm_compiling.proofs.ExprLemmas.{Goes, goes_on, goes_equal, goes_same, sets, stores, loads, stops, held_at, set_at, set_else, set_count, InReg, Meets, bind_meets}
+use Rattle.ppm_compiling.proofs.Doing.{InHand, SplitDoes}
+use Rattle.ppm_compiling.proofs.ExprLemmas.{Goes, goes_on, goes_equal, sets, stores, loads, stops, held_at, set_at, set_else, set_count, InReg, Meets}
+use Rattle.ppm_compiling.proofs.ExprLemmas.{bind_meets}
 use Rattle.ppm_compiling.proofs.ExprLemmas.{word_is, value_fits, IsPlaced, region_short, region_end, region_length, region_start}
-use Rattle.ppm_compiling.proofs.Holding.{HoldsValue, Holds, offset_of, region_word, Parted, at_work, strands}
-use Rattle.ppm_compiling.proofs.HoldMore.{stored_slot, other_slot, slot_behind, has_before, first_slot, next_slot, apart_from}
+use Rattle.ppm_compiling.proofs.Holding.{HoldsValue, Holds, offset_of, region_word, Parted}
+use Rattle.ppm_compiling.proofs.StoreLemmas.{stored_slot, other_slot, slot_behind, has_before, first_slot, next_slot, apart_from}
 use Rattle.ppm_compiling.proofs.SlotLemmas.{part_is_region}
 use Rattle.ppm_compiling.proofs.StatementLemmas.{zeros, onward_goes, front}
 use Rattle.ppm_compiling.proofs.StepLemmas.{start_at, Tried, tried}
@@ -93,17 +93,18 @@ module _ (lengths : List ℕ) (scope : Scope) (layout : Layout) (f : Frame) (own
 
   -- an older name is as it was
   older : (z : List ℕ) (d : Declaration) → declared scope z ≡ Some d → Has longer z
-      → Has layout z × (with_both (Slot (slot_of longer z)) ≡ own (Slot (slot_of layout z))) × (bytes_eq x.name z ≡ false) × (bytes_eq y.name z ≡ false)
+      → Has layout z × (with_both (Slot (slot_of longer z)) ≡ own (Slot (slot_of layout z))) × (bytes_eq x.name z ≡ false)
+      × (bytes_eq y.name z ≡ false)
   older z d found has =
       let not_x = apart_from scope x.name z d no_x found in
       let not_y = apart_from scope y.name z d no_y found in
       let past : IsNew (x.name ∷ y.name ∷ []) z =
-          next_slot x.name z (y.name ∷ []) not_x ∙ ap (λ (n : ℕ). suc n) (next_slot y.name z [] not_y) in
+      next_slot x.name z (y.name ∷ []) not_x ∙ ap (λ (n : ℕ). suc n) (next_slot y.name z [] not_y) in
       let old : Has layout z = has_before z layout (x.name ∷ y.name ∷ []) past has in (
         old,
         ap (λ (k : ℕ). with_both (Slot k)) (slot_in_front z layout (x.name ∷ y.name ∷ []) old)
             ∙ other_slot (with_value (Some (length layout)) (region_word lengths (first_part n q)) own) (suc (length layout))
-                (region_word lengths (second_part n q)) (slot_of layout z) (λ e. absurd (omega (arith, e, old)))
+            (region_word lengths (second_part n q)) (slot_of layout z) (λ e. absurd (omega (arith, e, old)))
             ∙ other_slot own (length layout) (region_word lengths (first_part n q)) (slot_of layout z) (λ e. absurd (omega (arith, e, old))),
         names_other x.name z not_x,
         names_other y.name z not_y,
@@ -112,7 +113,7 @@ module _ (lengths : List ℕ) (scope : Scope) (layout : Layout) (f : Frame) (own
   first_held : with_both (Slot (slot_of longer x.name)) ≡ region_word lengths (first_part n q)
   first_held =
       let slot : slot_of longer x.name ≡ length layout =
-          slot_behind x.name layout (x.name ∷ y.name ∷ []) new_x ∙ omega (arith, first_slot x.name (y.name ∷ [])) in
+      slot_behind x.name layout (x.name ∷ y.name ∷ []) new_x ∙ omega (arith, first_slot x.name (y.name ∷ [])) in
       ap (λ (k : ℕ). with_both (Slot k)) slot
       ∙ other_slot (with_value (Some (length layout)) (region_word lengths (first_part n q)) own) (suc (length layout))
       (region_word lengths (second_part n q)) (length layout) (λ e. absurd (omega (arith, e)))
@@ -121,10 +122,11 @@ module _ (lengths : List ℕ) (scope : Scope) (layout : Layout) (f : Frame) (own
   second_held : with_both (Slot (slot_of longer y.name)) ≡ region_word lengths (second_part n q)
   second_held =
       let slot : slot_of longer y.name ≡ suc (length layout) =
-          slot_behind y.name layout (x.name ∷ y.name ∷ []) new_y
-          ∙ omega (arith, next_slot x.name y.name (y.name ∷ []) other, first_slot y.name []) in
+      slot_behind y.name layout (x.name ∷ y.name ∷ []) new_y
+      ∙ omega (arith, next_slot x.name y.name (y.name ∷ []) other, first_slot y.name []) in
       ap (λ (k : ℕ). with_both (Slot k)) slot
-      ∙ stored_slot (with_value (Some (length layout)) (region_word lengths (first_part n q)) own) (suc (length layout)) (region_word lengths (second_part n q))
+      ∙ stored_slot (with_value (Some (length layout)) (region_word lengths (first_part n q)) own) (suc (length layout))
+      (region_word lengths (second_part n q))
 
   -- which region a name stands for, by whether it is a part
   abbrev region_by : (is_second is_first : Bool) → List ℕ → Region
@@ -195,7 +197,8 @@ module _ (lengths : List ℕ) (q : Region) (placed : IsPlaced lengths q) (line :
   pub cut_right : (d : Register) (w : ℕ) (v : ℤ) → HoldsValue w v
       → cut_right_of line d (region_word lengths q) w ≡ cut d (λ n. second_part n q) (split_at line q v)
   cut_right d w v h =
-      ap₂ (λ (length start : ℕ). cond (nat_le w length && nat_lt (start + w) (2 ^ 32)) (Sets d ((start + w) * 2 ^ 32 + (length - w))) (traps trap.Split line))
+      ap₂ (λ (length start : ℕ). cond (nat_le w length && nat_lt (start + w) (2 ^ 32)) (Sets d ((start + w) * 2 ^ 32 + (length - w)))
+      (traps trap.Split line))
       (region_length lengths q placed) (region_start lengths q placed) ∙ by v h (word_is w v h)
     where
       act : ℕ → Bool → Bool → Act
@@ -227,7 +230,8 @@ module _ (lengths : List ℕ) (code : CodeParts) (scope : Scope) (layout : Layou
   abbrev now : Memory Where
   now = start_at lengths code own at a
 
-  module _ (line : ℕ) (r : Named) (e : Expression) (x y : Named) (hand : InHand lengths code scope layout f own a arrays) (is : IsRegion scope layout r) where
+  module _ (line : ℕ) (r : Named) (e : Expression) (x y : Named) (hand : InHand lengths code scope layout f own a arrays)
+      (is : IsRegion scope layout r) where
     abbrev q : Region
     q = f.regions r.name
 
@@ -273,16 +277,17 @@ module _ (lengths : List ℕ) (code : CodeParts) (scope : Scope) (layout : Layou
         g_place = held_at g 0 (omega arith) ∙ set_else h 1 (own (Slot (slot_of layout r.name))) 0 (omega arith) (λ e. absurd (omega (arith, e)))
 
         left_act : does W left g ≡ cut lengths q placed line (register 2) (λ n. first_part n q) (split_at line q v)
-        left_act = ap₂ (λ (q w : ℕ). cut_left_of line (register 2) q w) g_region g_place ∙ cut_left lengths q placed line (register 2) (slice_index h 0) v k.value
+        left_act = ap₂ (λ (q w : ℕ). cut_left_of line (register 2) q w) g_region g_place
+            ∙ cut_left lengths q placed line (register 2) (slice_index h 0) v k.value
 
         right_act : (u : ℕ) → does W right (slice_set g (register 2).index u)
             ≡ cut lengths q placed line (register 3) (λ n. second_part n q) (split_at line q v)
         right_act u =
             ap₂ (λ (q w : ℕ). cut_right_of line (register 3) q w)
             (held_at (slice_set g (register 2).index u) 1 (omega arith) ∙ set_else g 2 u 1 (omega arith) (λ e. absurd (omega (arith, e)))
-                ∙ sym (held_at g 1 (omega arith)) ∙ g_region)
+            ∙ sym (held_at g 1 (omega arith)) ∙ g_region)
             (held_at (slice_set g (register 2).index u) 0 (omega arith) ∙ set_else g 2 u 0 (omega arith) (λ e. absurd (omega (arith, e)))
-                ∙ sym (held_at g 0 (omega arith)) ∙ g_place)
+            ∙ sym (held_at g 0 (omega arith)) ∙ g_place)
             ∙ cut_right lengths q placed line (register 3) (slice_index h 0) v k.value
 
         by : (t : Result ℕ TrapAt) → split_at line q v ≡ t
@@ -294,8 +299,10 @@ module _ (lengths : List ℕ) (code : CodeParts) (scope : Scope) (layout : Layou
             let g'_count = set_count g 2 u g_count in (
               slice_set g' (register 3).index u',
               goes_on loaded (goes_equal _ _ now
-                  (sets W (n + 1) left (right ∷ keep) g (register 2) u (left_act ∙ ap (cut lengths q placed line (register 2) (λ n. first_part n q)) s)
-                  ∙ sets W (n + 1 + 1) right keep g' (register 3) u' (right_act u ∙ ap (cut lengths q placed line (register 3) (λ n. second_part n q)) s))),
+                  (sets W (n + 1) left (right ∷ keep) g (register 2) u
+                  (left_act ∙ ap (cut lengths q placed line (register 2) (λ n. first_part n q)) s)
+                  ∙ sets W (n + 1 + 1) right keep g' (register 3) u'
+                  (right_act u ∙ ap (cut lengths q placed line (register 3) (λ n. second_part n q)) s))),
               record {
                 first = set_else g' 3 u' 2 (omega arith) (λ e. absurd (omega (arith, e))) ∙ set_at g 2 u g_count (omega arith);
                 second = set_at g' 3 u' g'_count (omega arith);
@@ -318,9 +325,9 @@ module _ (lengths : List ℕ) (code : CodeParts) (scope : Scope) (layout : Layou
         (store code_locations (store code_locations now (Own (Slot l)) w) (Own (Slot (suc l))) u))
         (held_at h 2 (omega arith) ∙ k.first) (held_at h 3 (omega arith) ∙ k.second)
         (goes_on (stores W n (instr.StoreCur l (register 2)) (instr.StoreCur (suc l) (register 3) ∷ onward next) h (OwnWord (Slot l))
-            (held h (register 2)) now refl)
+        (held h (register 2)) now refl)
         (goes_on (stores W (n + 1) (instr.StoreCur (suc l) (register 3)) (onward next) h (OwnWord (Slot (suc l))) (held h (register 3))
-            (store code_locations now (Own (Slot l)) (held h (register 2))) refl)
+        (store code_locations now (Own (Slot l)) (held h (register 2))) refl)
         (onward_goes W (n + 1 + 1) next h _)))
 
   pub split_does : SplitDoes lengths code scope layout f own a arrays at next
@@ -330,7 +337,8 @@ module _ (lengths : List ℕ) (code : CodeParts) (scope : Scope) (layout : Layou
       let rest = load line r e x y hand is ∷ left line r e x y hand is ∷ right line r e x y hand is ∷ keep line r e x y hand is in
       finish (then_with (evaluate f arrays e) (split_at line (f.regions r.name)))
       (tried lengths code at (split_code layout line r e next) stands own a p 0 refl refl (omega arith)
-      (n + 1 + 1 + 1) (keep line r e x y hand is) (InParts lengths (f.regions r.name)) (then_with (evaluate f arrays e) (split_at line (f.regions r.name)))
+      (n + 1 + 1 + 1) (keep line r e x y hand is) (InParts lengths (f.regions r.name))
+      (then_with (evaluate f arrays e) (split_at line (f.regions r.name)))
       (bind_meets W n (n + 1 + 1 + 1) rest (keep line r e x y hand is) (λ v h. InReg 0 zeros v h) (InParts lengths (f.regions r.name)) p now
       (evaluate f arrays e) (split_at line (f.regions r.name))
       (front lengths code scope layout f own a arrays at next e rest hand fits small) (cuts_meet line r e x y hand is n))

@@ -1,10 +1,10 @@
 -- What the capsules of `let`, `x = e`, tests, `give` and the ends of blocks do.
-use Rattle.std.proofs.Common.{◌≡◌, ◌≤◌, ◌<◌, ℕ, zero, suc, ◌+◌, ◌==◌, ◌^◌, ℤ, pos, cond, Bool, true, false, List, [], ◌∷◌, ◌++◌, Option, Some, None, Result, Ok, Err}
-use Rattle.std.proofs.Common.{length, replicate, refl, sym, ap, ◌∙◌, subst, subst₂, arith}
+use Rattle.std.proofs.Common.{◌≡◌, ℕ, suc, ◌+◌, ◌==◌, ℤ, pos, cond, Bool, true, false, List, [], ◌∷◌, ◌++◌, Some, None, Result, Ok, Err}
+use Rattle.std.proofs.Common.{length, replicate, refl, sym, ap, ◌∙◌, subst, arith}
 use Rattle.std.specs.Prelude.{slice_index, slice_set, not}
 use Rattle.std.specs.List.{sum}
 use Rattle.std.specs.Ordering.{int_eq}
-use Rattle.ppm_words.specs.TwosComplement.{word_of, value_of}
+use Rattle.ppm_words.specs.TwosComplement.{word_of}
 use Rattle.ppm_strands.specs.Tree.{Words, Strand, Over}
 use Rattle.ppm_capsules.specs.Capsule.{Ends, Memory, store}
 use Rattle.ppm_capsules.specs.Strand.{Own}
@@ -18,30 +18,29 @@ use Rattle.ppm_code.specs.declared.instr.Instr.TheVariants as instr
 use Rattle.ppm_code.specs.declared.location.FrameWord.{FrameWord}
 use Rattle.ppm_code.specs.declared.location.FrameWord.TheVariants.{Slot, Value}
 use Rattle.ppm_code.specs.declared.location.Location.TheVariants.{Frame as OwnWord}
-use Rattle.ppm_code.specs.Acts.{does, held}
+use Rattle.ppm_code.specs.Acts.{held}
 use Rattle.ppm_code.specs.Locations.{Where, code_locations}
 use Rattle.ppm_code.specs.Capsules.{capsule_from, capsule_of}
 use Rattle.ppm_code.specs.Strands.{Gave, with_value, instrs_of}
-use Rattle.ppm_tree.specs.declared.named.Named.{Named}
 use Rattle.ppm_tree.specs.declared.mode.Mode.TheVariants as mode
 use Rattle.ppm_tree.specs.Parts.{nodes}
-use Rattle.ppm_tree.specs.Tree.{Expression, Give}
+use Rattle.ppm_tree.specs.Tree.{Expression}
 use Rattle.ppm_tree.specs.Values.{holds}
 use Rattle.ppm_tree.specs.State.{TrapAt, Frame, Arrays, with_local, evaluate}
-use Rattle.ppm_tree.specs.Meaning.{Ended, end_of, assigned, given}
-use Rattle.ppm_regions.specs.Scope.{Scope, declared, plain}
+use Rattle.ppm_tree.specs.Meaning.{Ended, end_of}
+use Rattle.ppm_regions.specs.Scope.{Scope, plain}
 use Rattle.ppm_translation.specs.Layout.{Layout, slot_of, register}
 use Rattle.ppm_translation.specs.Expressions.{size_of, expression_code}
-use Rattle.ppm_translation.specs.Fits.{IsNew, IsLocal, FitsExpression}
-use Rattle.ppm_translation.specs.Statements.{onward, let_code, value_code, move_code, test_code, give_code}
-use Rattle.ppm_compiling.proofs.ChainLemmas.{cost, both_costs, Chain, chain_then, chain_weaken}
+use Rattle.ppm_translation.specs.Fits.{FitsExpression}
+use Rattle.ppm_translation.specs.Statements.{onward, test_code}
+use Rattle.ppm_compiling.proofs.ChainLemmas.{cost, Chain, chain_then, chain_weaken}
 use Rattle.ppm_compiling.proofs.Doing.{AreSmall, InHand, LetDoes, AssignDoes, TestDoes, GiveDoes, OnwardDoes, FinishDoes}
-use Rattle.ppm_compiling.proofs.ExprLemmas.{Goes, goes_on, goes_equal, goes_same, stores, loads, stops, jumps, passes, held_at, set_at, InReg, Meets, Runs, expr_meets}
-use Rattle.ppm_compiling.proofs.ExprLemmas.{word_is, same_words, holds_number, here_is}
-use Rattle.ppm_compiling.proofs.Holding.{HoldsValue, Holds, Shows, Reaches, Returns, Tested, at_work, strands, which}
+use Rattle.ppm_compiling.proofs.ExprLemmas.{Goes, goes_on, goes_equal, stores, loads, stops, jumps, passes, held_at, set_at, InReg, Meets, expr_meets}
+use Rattle.ppm_compiling.proofs.ExprLemmas.{word_is, same_words, holds_number}
+use Rattle.ppm_compiling.proofs.Holding.{HoldsValue, Reaches, Returns, Tested, at_work, strands, which}
 use Rattle.ppm_compiling.proofs.HoldLemmas.{holds_delivered}
-use Rattle.ppm_compiling.proofs.HoldMore.{stored_slot, holds_behind, holds_let}
-use Rattle.ppm_compiling.proofs.StepLemmas.{start_at, opens_at, sees, whole, Tried, tried}
+use Rattle.ppm_compiling.proofs.StoreLemmas.{stored_slot, holds_behind, holds_let}
+use Rattle.ppm_compiling.proofs.StepLemmas.{start_at, sees, whole, Tried, tried}
 
 -- in all registers stands 0 at first
 abbrev pub zeros : List ℕ
@@ -56,10 +55,12 @@ onward_goes W n next h m = goes_equal _ _ m (stops W n (instr.Ends (ends.Next ne
 
 -- a value is stored in a slot
 pub store_goes : (W n i : ℕ) (rest : List Instr) (g h : List ℕ) (m : Memory Where) (v : ℤ) → InReg 0 g v h
-    → Goes (capsule_from W n 0 (instr.StoreCur i (register 0) ∷ rest) h) m (capsule_from W (n + 1) 0 rest h) (store code_locations m (Own (Slot i)) (word_of v))
+    → Goes (capsule_from W n 0 (instr.StoreCur i (register 0) ∷ rest) h) m (capsule_from W (n + 1) 0 rest h)
+    (store code_locations m (Own (Slot i)) (word_of v))
 store_goes W n i rest g h m v k =
     let is : held h (register 0) ≡ word_of v = held_at h 0 (omega arith) ∙ word_is (slice_index h 0) v k.value in
-    subst (λ (w : ℕ). Goes (capsule_from W n 0 (instr.StoreCur i (register 0) ∷ rest) h) m (capsule_from W (n + 1) 0 rest h) (store code_locations m (Own (Slot i)) w))
+    subst (λ (w : ℕ). Goes (capsule_from W n 0 (instr.StoreCur i (register 0) ∷ rest) h) m (capsule_from W (n + 1) 0 rest h)
+    (store code_locations m (Own (Slot i)) w))
     is (stores W n (instr.StoreCur i (register 0)) rest h (OwnWord (Slot i)) (held h (register 0)) m refl)
 
 -- the word of a value that an expression has
@@ -75,7 +76,8 @@ module _ (lengths : List ℕ) (code : CodeParts) (scope : Scope) (layout : Layou
   W = sum lengths
 
   -- an expression at the front of a capsule
-  pub front : (e : Expression) (rest : List Instr) → InHand lengths code scope layout f own a arrays → FitsExpression scope layout e → AreSmall (nodes e)
+  pub front : (e : Expression) (rest : List Instr) → InHand lengths code scope layout f own a arrays → FitsExpression scope layout e
+      → AreSmall (nodes e)
       → Meets W (0 + size_of e) rest (λ v h. InReg 0 zeros v h) (capsule_of W (expression_code layout e 0 0 rest)) now (evaluate f arrays e)
   front e rest hand fits small =
       expr_meets lengths scope layout f arrays now (sees lengths code scope layout f own a arrays at hand) e 0 0 rest zeros fits small.each
@@ -108,7 +110,8 @@ module _ (lengths : List ℕ) (code : CodeParts) (scope : Scope) (layout : Layou
       → Tried lengths code 0 at (λ v. ends.Next to) (λ v. store code_locations now (Own (Slot i)) (word_of v)) own a (evaluate f arrays e)
   kept i to e stands hand fits small =
       let n = 0 + size_of e in
-      front_tried (expression_code layout e 0 0 (instr.StoreCur i (register 0) ∷ onward to)) e (instr.StoreCur i (register 0) ∷ onward to) refl stands hand fits small
+      front_tried (expression_code layout e 0 0 (instr.StoreCur i (register 0) ∷ onward to)) e
+      (instr.StoreCur i (register 0) ∷ onward to) refl stands hand fits small
       (λ v. ends.Next to) (λ v. store code_locations now (Own (Slot i)) (word_of v)) (λ v h k.
       goes_on (store_goes W n i (onward to) zeros h now v k) (onward_goes W (n + 1) to h (store code_locations now (Own (Slot i)) (word_of v))))
 
@@ -132,7 +135,8 @@ module _ (lengths : List ℕ) (code : CodeParts) (scope : Scope) (layout : Layou
 
   -- a test: past the first end where the value is 0
   test_goes : (e : Expression) (inside : ℕ) (v : ℤ) (h : List ℕ) → InReg 0 zeros v h
-      → Goes (capsule_from W (0 + size_of e) 0 (instr.BranchZero (register 0) (suc (suc (size_of e))) ∷ instr.Ends (ends.Next inside) ∷ onward next) h) now
+      → Goes (capsule_from W (0 + size_of e) 0 (instr.BranchZero (register 0) (suc (suc (size_of e))) ∷ instr.Ends (ends.Next inside) ∷ onward next)
+      h) now
       (Ends (ends.Next (which (holds v) inside next))) now
   test_goes e inside v h k = by (int_eq v (pos 0)) refl
     where
@@ -154,7 +158,8 @@ module _ (lengths : List ℕ) (code : CodeParts) (scope : Scope) (layout : Layou
       by : (b : Bool) → int_eq v (pos 0) ≡ b
           → Goes (capsule_from W n 0 (branch ∷ instr.Ends (ends.Next inside) ∷ onward next) h) now (Ends (ends.Next (which (not b) inside next))) now
       by true t =
-          goes_on (goes_equal _ _ now (jumps W n branch (instr.Ends (ends.Next inside) ∷ onward next) h target 1 (ap choice (is_nought ∙ t)) (omega arith)))
+          goes_on (goes_equal _ _ now (jumps W n branch (instr.Ends (ends.Next inside) ∷ onward next) h target 1 (ap choice (is_nought ∙ t))
+          (omega arith)))
           (onward_goes W (n + 1 + 1) next h now)
       by false t =
           goes_on (goes_equal _ _ now (passes W n branch (instr.Ends (ends.Next inside) ∷ onward next) h (ap choice (is_nought ∙ t))))
@@ -182,7 +187,8 @@ module _ (lengths : List ℕ) (code : CodeParts) (scope : Scope) (layout : Layou
   )
 
   give_value : (e : Expression) → InHand lengths code scope layout f own a arrays
-      → instrs_of code at ≡ expression_code layout e 0 0 (instr.Give (register 0) ∷ instr.Ends ends.Finish ∷ []) → FitsExpression scope layout e → AreSmall (nodes e)
+      → instrs_of code at ≡ expression_code layout e 0 0 (instr.Give (register 0) ∷ instr.Ends ends.Finish ∷ []) → FitsExpression scope layout e
+      → AreSmall (nodes e)
       → Returns lengths code (cost 1 1 0 0) (Strand (at_work own at)) a (end_of (evaluate f arrays e) arrays (λ v. Ended v arrays))
   give_value e hand stands fits small =
       finish (evaluate f arrays e) (front_tried (expression_code layout e 0 0 rest) e rest refl stands hand fits small (λ v. ends.Finish) memory
@@ -202,7 +208,8 @@ module _ (lengths : List ℕ) (code : CodeParts) (scope : Scope) (layout : Layou
           → Goes (capsule_from W n 0 rest h) now (capsule_from W (n + 1) 0 (instr.Ends ends.Finish ∷ []) h) (memory v)
       gives v h k =
           let is : held h (register 0) ≡ word_of v = held_at h 0 (omega arith) ∙ word_is (slice_index h 0) v k.value in
-          subst (λ (w : ℕ). Goes (capsule_from W n 0 rest h) now (capsule_from W (n + 1) 0 (instr.Ends ends.Finish ∷ []) h) (store code_locations now (Own Value) w))
+          subst (λ (w : ℕ). Goes (capsule_from W n 0 rest h) now (capsule_from W (n + 1) 0 (instr.Ends ends.Finish ∷ []) h)
+          (store code_locations now (Own Value) w))
           is (stores W n (instr.Give (register 0)) (instr.Ends ends.Finish ∷ []) h (OwnWord Value) (held h (register 0)) now refl)
 
       finish : (t : Result ℤ TrapAt) → Tried lengths code 0 at (λ v. ends.Finish) memory own a t → ((v : ℤ) → t ≡ Ok v → HoldsValue (word_of v) v)
@@ -249,8 +256,8 @@ module _ (lengths : List ℕ) (code : CodeParts) (scope : Scope) (layout : Layou
       goes =
           goes_on (loads W 0 load (keep ∷ onward next) zeros (OwnWord (Slot spare)) (register 0) m refl)
           (goes_on (subst (λ (w : ℕ). Goes (capsule_from W (0 + 1) 0 (keep ∷ onward next) h) m (capsule_from W (0 + 1 + 1) 0 (onward next) h)
-              (store code_locations m (Own (Slot i)) w)) held_is
-              (stores W (0 + 1) keep (onward next) h (OwnWord (Slot i)) (held h (register 0)) m refl))
+          (store code_locations m (Own (Slot i)) w)) held_is
+          (stores W (0 + 1) keep (onward next) h (OwnWord (Slot i)) (held h (register 0)) m refl))
           (onward_goes W (0 + 1 + 1) next h (store code_locations m (Own (Slot i)) w)))
 
   pub assign_does : AssignDoes lengths code scope layout f own a arrays at next
@@ -260,13 +267,15 @@ module _ (lengths : List ℕ) (code : CodeParts) (scope : Scope) (layout : Layou
       finish : (t : Result ℤ TrapAt)
           → Tried lengths code 0 at (λ v. ends.Next (suc at)) (λ v. store code_locations now (Own (Slot spare)) (word_of v)) own a t
           → ((v : ℤ) → t ≡ Ok v → HoldsValue (word_of v) v)
-          → Reaches lengths code scope layout f (cost 1 2 0 0) (Strand (at_work own at)) a next (end_of t arrays (λ v. Ended (with_local f x.name v).locals arrays))
+          → Reaches lengths code scope layout f (cost 1 2 0 0) (Strand (at_work own at)) a next
+          (end_of t arrays (λ v. Ended (with_local f x.name v).locals arrays))
       finish (Ok v) c is =
           let w = word_of v in
           let from = with_value (Some spare) w own in (
             with_value (Some (slot_of layout x.name)) w from,
             a,
-            holds_delivered lengths scope layout f from (Some x) w v is_local (is v refl) (holds_behind lengths scope layout f own hand.holds spare w far),
+            holds_delivered lengths scope layout f from (Some x) w v is_local (is v refl)
+                (holds_behind lengths scope layout f own hand.holds spare w far),
             hand.shows,
             chain_weaken (strands lengths code) (record { least = omega arith; most = omega arith; forks = refl; words = refl })
                 (chain_then (strands lengths code) c (moved spare (slot_of layout x.name) from w (stored_slot own spare w) moves)),

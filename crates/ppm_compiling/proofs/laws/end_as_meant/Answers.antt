@@ -1,5 +1,5 @@
 use Rattle.ppm_compiling.proofs.HoldLemmas.{holds_delivered}
-use Rattle.ppm_compiling.proofs.HoldMore.{holds_let}
+use Rattle.ppm_compiling.proofs.StoreLemmas.{holds_let}
 use Rattle.ppm_compiling.proofs.StatementLemmas.{let_does}
 use Rattle.ppm_compiling.proofs.PutLemmas.{put_does}
 use Rattle.ppm_compiling.proofs.SplitLemmas.{split_does}
