@@ -10,3 +10,8 @@ pub mod StoreLemmas
 pub mod StatementLemmas
 pub mod PutLemmas
 pub mod SplitLemmas
+pub mod Given
+pub mod SweepLemmas
+pub mod BlockLemmas
+pub mod EntryLemmas
+pub mod HalvingLemmas

@@ -188,6 +188,36 @@ module _ (lengths : List ℕ) (scope : Scope) (layout : Layout) (f : Frame) (i x
             ∙ h.region y (seen_in_each r d) (seen y d found) kind (omega (arith, is_slot, has))
             ∙ ap (λ (b : Bool). region_word lengths (cond b (stretch n m q) (f.regions y))) o.0
 
+    not_around : (y : List ℕ) → declared scope y ≡ None → declared (in_each scope r) y ≡ None
+    not_around y none = declared_map y (seen_in_each r) (λ d. refl) scope ∙ ap (option_map (seen_in_each r)) none
+
+    -- the slots of the part and of the first index
+    pub part_slot : (n m : ℕ) (own : FrameWord → ℕ) → Holds lengths inner hidden (sweep_frame f q n m i x) own
+        → own (Slot 0) ≡ region_word lengths (stretch n m q)
+    part_slot n m own h =
+        let same = names_same x.name x.name refl in
+        let found : declared inner x.name ≡ Some (part scope r x) =
+            declared_behind x.name (in_each scope r) (element_of scope r i x) (not_around x.name no_x)
+            ∙ ap (λ (c : Bool). cond c (Some (index_of i)) (cond (bytes_eq x.name x.name) (Some (part scope r x)) None)) (names_other i.name x.name other)
+            ∙ ap (λ (c : Bool). cond c (Some (part scope r x)) None) same in
+        let is_slot : slot_of hidden x.name ≡ 0 = ap (λ (b : Bool). slot_by b (bytes_eq i.name x.name) x.name) same in
+        ap (λ (k : ℕ). own (Slot k)) (sym is_slot)
+        ∙ h.region x.name (part scope r x) found (part_is_region (declared scope r.name)) (omega (arith, is_slot))
+        ∙ ap (λ (b : Bool). region_word lengths (cond b (stretch n m q) (f.regions x.name))) same
+
+    pub index_slot : (n m : ℕ) (own : FrameWord → ℕ) → Holds lengths inner hidden (sweep_frame f q n m i x) own → HoldsValue (own (Slot 1)) (pos n)
+    index_slot n m own h =
+        let same = names_same i.name i.name refl in
+        let not_x = names_other x.name i.name (λ e. other (sym e)) in
+        let found : declared inner i.name ≡ Some (index_of i) =
+            declared_behind i.name (in_each scope r) (element_of scope r i x) (not_around i.name no_i)
+            ∙ ap (λ (c : Bool). cond c (Some (index_of i)) (cond (bytes_eq x.name i.name) (Some (part scope r x)) None)) same in
+        let is_slot : slot_of hidden i.name ≡ 1 =
+            ap (λ (b : Bool). slot_by b (bytes_eq i.name i.name) i.name) not_x ∙ ap (λ (b : Bool). slot_by false b i.name) same in
+        let is_value : (sweep_frame f q n m i x).locals i.name ≡ pos n = ap (λ (b : Bool). cond b (pos n) (f.locals i.name)) same in
+        subst (λ (k : ℕ). HoldsValue (own (Slot k)) (pos n)) is_slot
+        (subst (HoldsValue (own (Slot (slot_of hidden i.name)))) is_value (h.local i.name (index_of i) found refl (omega (arith, is_slot))))
+
   -- where slots are loaded from those of the names, they are caught
   pub each_catches : (own own' : FrameWord → ℕ) → Holds lengths scope layout f own
       → ((k : ℕ) → k < length names → own' (Slot (suc (suc k))) ≡ own (Slot (slot_of layout (get_or names k [])))) → Catches own'

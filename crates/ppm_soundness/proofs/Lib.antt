@@ -1,0 +1,3 @@
+mod PlainLemmas
+mod SafeLemmas
+mod BlockLemmas

@@ -1,3 +1,5 @@
+use Rattle.ppm_compiling.proofs.SweepLemmas.{end_stands}
+use Rattle.ppm_compiling.proofs.Given.{Given}
 use Rattle.ppm_compiling.proofs.HoldLemmas.{holds_delivered}
 use Rattle.ppm_compiling.proofs.StoreLemmas.{holds_let}
 use Rattle.ppm_compiling.proofs.StatementLemmas.{let_does}
@@ -5,6 +7,8 @@ use Rattle.ppm_compiling.proofs.PutLemmas.{put_does}
 use Rattle.ppm_compiling.proofs.SplitLemmas.{split_does}
 use Rattle.ppm_compiling.proofs.Doing.{CallDoes}
 use Rattle.ppm_compiling.proofs.Places.{lies}
+use Rattle.ppm_compiling.proofs.EntryLemmas.{each_does}
+use Rattle.ppm_compiling.proofs.HalvingLemmas.{halving_does}
 use Rattle.ppm_compiling.proofs.laws.end_as_meant.Goals as goal
 
 pub returns : goal.returns
