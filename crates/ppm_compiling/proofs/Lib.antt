@@ -15,3 +15,9 @@ pub mod SweepLemmas
 pub mod BlockLemmas
 pub mod EntryLemmas
 pub mod HalvingLemmas
+pub mod SmallLemmas
+pub mod ReachLemmas
+pub mod Forward
+pub mod ArgumentLemmas
+pub mod CallLemmas
+pub mod ForkLemmas

@@ -178,3 +178,11 @@ module _ (t : ProgramTree) where
     within = λ x d found region shown. ((apart_everywhere t admitted).place w.p w.g scope b f w.comes).within.within x
         (record { declaration = d; found = found; region = region; shown = shown });
   }
+
+  -- a hidden procedure has few names of outside
+  pub each_few : (scope : Scope) (layout : Layout) (spare : ℕ) (i x r : Named) (s b : Block) (f : Frame) → Place scope layout spare (Then (Each i x r s) b) f
+      → length (caught layout s) ≤ 24
+  each_few scope layout spare i x r s b f w =
+      let m = modest_inner (Each i x r s) b w.modest in
+      let count = caught_is_counted layout i x s w.once w.fits.0.1 w.fits.0.2 in
+      omega (arith, count, m.1.0)
