@@ -43,6 +43,7 @@ use Rattle.ppm_tree.specs.Tree.{Expression}
 use Rattle.ppm_tree.specs.Tree as tree
 use Rattle.ppm_tree.specs.Values.{fits, in_range, divided, holds, truth, applied, decided, negated}
 use Rattle.ppm_tree.specs.State.{TrapAt, then_with, at_line, tested, unless_decided, Region, Frame, Arrays, array_at, word_at, index_in, evaluate}
+use Rattle.ppm_owning.proofs.WordLemmas.{index_below}
 use Rattle.ppm_regions.specs.Scope.{Declaration, Scope, declared, is_region}
 use Rattle.ppm_translation.specs.Layout.{Layout, slot_of, register_with, register}
 use Rattle.ppm_translation.specs.Expressions.{branch_size, last_size, size_of, truth_code, operator_code, right_register, branch_code}
@@ -514,15 +515,6 @@ module _ (lengths : List ℕ) (r : Region) (placed : IsPlaced lengths r) where
           let fit = value_fits w (negsuc k) h in
           ap (λ (b : Bool). act w b (nat_lt (offset_of lengths r.array + r.start + w) (sum lengths)))
           (le-ltb w r.length (omega (arith, fit.sfits, e, region_short)))
-
--- an index of a region is below its length
-pub index_below : (line : ℕ) (r : Region) (i : ℤ) (k : ℕ) → index_in line r i ≡ Ok k → k < r.length
-index_below line r (pos j) k e = by (nat_lt j r.length) refl e
-  where
-    by : (b : Bool) → nat_lt j r.length ≡ b → tested b (trap.Index, line) j ≡ Ok k → k < r.length
-    by true low e = let same : j ≡ k = cc in let below = ltb-true j r.length low in omega (arith, below, same)
-    by false low e = cc
-index_below line r (negsuc j) k e = cc
 
 -- what holds of all of two lists
 pub all_front : {X : Type 0} (P : X → Type 0) (xs ys : List X) → All P (xs ++ ys) → All P xs

@@ -29,7 +29,7 @@ use Rattle.ppm_tree.specs.Parts.{nodes}
 use Rattle.ppm_tree.specs.Tree.{Expression}
 use Rattle.ppm_tree.specs.State.{TrapAt, then_with, Region, Locals, Frame, Arrays, array_at, with_word, index_in, evaluate}
 use Rattle.ppm_tree.specs.Meaning.{End as Ending, Ended, end_of}
-use Rattle.ppm_owning.proofs.WordLemmas.{put_lengths, put_other}
+use Rattle.ppm_owning.proofs.WordLemmas.{index_below, put_lengths, put_other}
 use Rattle.ppm_regions.specs.Scope.{Scope}
 use Rattle.ppm_translation.specs.Layout.{Layout, slot_of, register}
 use Rattle.ppm_translation.specs.Expressions.{size_of, expression_code}
@@ -39,7 +39,7 @@ use Rattle.ppm_compiling.proofs.ChainLemmas.{cost, Chain, chain_then, chain_weak
 use Rattle.ppm_compiling.proofs.Doing.{AreSmall, InHand, PutDoes}
 use Rattle.ppm_compiling.proofs.ExprLemmas.{Goes, goes_on, goes_equal, goes_same, stores, loads, stops, held_at, set_at, set_else, set_count, InReg}
 use Rattle.ppm_compiling.proofs.ExprLemmas.{Meets, bind_meets, expr_meets}
-use Rattle.ppm_compiling.proofs.ExprLemmas.{word_is, IsPlaced, at_index, element_acts, index_below, all_front, all_behind}
+use Rattle.ppm_compiling.proofs.ExprLemmas.{word_is, IsPlaced, at_index, element_acts, all_front, all_behind}
 use Rattle.ppm_compiling.proofs.Holding.{HoldsValue, Holds, Shows, offset_of, region_word, Reaches, at_work, strands}
 use Rattle.ppm_compiling.proofs.StoreLemmas.{stored_slot, other_slot, holds_behind}
 use Rattle.ppm_compiling.proofs.StatementLemmas.{zeros, zeros_count, onward_goes, front_held}
