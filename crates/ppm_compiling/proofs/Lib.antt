@@ -6,6 +6,10 @@ pub mod SlotLemmas
 pub mod ExprLemmas
 pub mod Places
 pub mod HoldLemmas
+pub mod StoreLemmas
+pub mod StatementLemmas
+pub mod PutLemmas
+pub mod SplitLemmas
 pub mod Given
 pub mod SweepLemmas
 pub mod BlockLemmas
