@@ -65,12 +65,14 @@ abbrev pub over_of : End Locals → Outcome
 over_of (Ended l arrays) = Gave 0
 over_of (Trapped stop arrays) = TrappedAt stop.0 stop.1
 
+-- where a stretch ended, the locals are as they were
+abbrev pub HasLocals : Frame → End Locals → Type 0
+HasLocals f (Ended l arrays) = l ≡ f.locals
+HasLocals f (Trapped stop arrays) = Unit {0}
+
 first_arrays : (y z : End Locals) → arrays_of (first_trap y z) ≡ arrays_of z
 first_arrays (Ended l a) z = refl
 first_arrays (Trapped stop a) z = refl
-
-first_alone : (f : Frame) (y : End Locals) → first_trap y (Ended f.locals (arrays_of y)) ≡ first_trap y (Ended f.locals (arrays_of y))
-first_alone f y = refl
 
 module _ (t : ProgramTree) (code : CodeParts) (given : Given t code)
     (spare : ℕ) (scope : Scope) (layout : Layout) (at h : ℕ) (f : Frame) (i x r : Named) (block : Block)
@@ -109,6 +111,15 @@ module _ (t : ProgramTree) (code : CodeParts) (given : Given t code)
     NoLeaf : (n : ℕ) (arrays : Arrays) → Leaves n zero arrays none (Ended f.locals arrays)
     Leaf : (n m : ℕ) (arrays : Arrays) (j : Counts) (y : End Locals) {k : Counts} {z : End Locals} → LeafDoes n arrays j y → Leaves (suc n) m (arrays_of y) k z
         → Leaves n (suc m) arrays (both (spent 8) (both j k)) (first_trap y z)
+
+  -- behind all of them the locals are as they were
+  pub leaves_locals : {n m : ℕ} {arrays : Arrays} {k : Counts} {z : End Locals} → Leaves n m arrays k z → HasLocals f z
+  leaves_locals (NoLeaf n arrays) = refl
+  leaves_locals (Leaf n m arrays j y {z = z} d rest) = first y z (leaves_locals rest)
+    where
+      first : (y z : End Locals) → HasLocals f z → HasLocals f (first_trap y z)
+      first (Ended l a) z h = h
+      first (Trapped stop a) z h = tt
 
   -- two parts of them
   record Halves (n n' p m : ℕ) (arrays : Arrays) (k : Counts) (z : End Locals) : Type 0 where
