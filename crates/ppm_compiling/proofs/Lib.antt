@@ -11,3 +11,4 @@ pub mod SweepLemmas
 pub mod BlockLemmas
 pub mod EntryLemmas
 pub mod HalvingLemmas
+pub mod LimitLemmas
