@@ -12,3 +12,4 @@ pub mod BlockLemmas
 pub mod EntryLemmas
 pub mod HalvingLemmas
 pub mod LimitLemmas
+pub mod CountLemmas

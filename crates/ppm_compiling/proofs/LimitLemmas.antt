@@ -15,11 +15,11 @@ use Rattle.ppm_compiling.proofs.Given.{IsModestProcedure}
 -- what holds of each procedure, and of none, holds of the one that a name stands for
 of_named : (P : Procedure → Type 0) → P no_procedure → (ps : List Procedure) → AllByRecursion P ps → (x : List ℕ) → P (procedure_named ps x)
 of_named P none [] all x = none
-of_named P none (p ∷ ps) all x = go (bytes_eq p.name.name x)
+of_named P none (p ∷ ps) all x = go (bytes_eq p.name.name x) (of_named P none ps all.1 x)
   where
-    go : (b : Bool) → P (cond b p (procedure_named ps x))
-    go true = all.0
-    go false = of_named P none ps all.1 x
+    go : (b : Bool) → P (procedure_named ps x) → P (cond b p (procedure_named ps x))
+    go true rest = all.0
+    go false rest = rest
 
 -- of a weaker fact
 weaker : {A : Type 0} (P Q : A → Type 0) → ((x : A) → P x → Q x) → (xs : List A) → AllByRecursion P xs → AllByRecursion Q xs
