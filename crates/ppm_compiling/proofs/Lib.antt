@@ -13,3 +13,4 @@ pub mod EntryLemmas
 pub mod HalvingLemmas
 pub mod LimitLemmas
 pub mod CountLemmas
+pub mod RootLemmas
