@@ -11,7 +11,7 @@ use Rattle.ppm_tree.specs.declared.mode.Mode.{Mode}
 use Rattle.ppm_tree.specs.declared.mode.Mode.TheVariants as mode
 use Rattle.ppm_tree.specs.declared.named.Named.{Named}
 use Rattle.ppm_tree.specs.declared.tree.Parameter.{Parameter}
-use Rattle.ppm_tree.specs.Tree.{Expression, Argument, Side, Statement, Let, Assign, Put, If, While, Split, Each, Block, Nil, Then, Procedure}
+use Rattle.ppm_tree.specs.Tree.{Expression, Argument, Statement, Let, Assign, Put, If, While, Split, Each, Block, Nil, Then, Procedure}
 use Rattle.ppm_tree.specs.Tree as tree
 use Rattle.ppm_tree.specs.Parts.{nodes, node_names, nodes_of, target_names}
 use Rattle.ppm_regions.specs.Scope.{Scope, lets_of, split_scope, each_scope}
@@ -20,9 +20,10 @@ use Rattle.ppm_bounds.specs.Names as names
 use Rattle.ppm_bounds.proofs.Keeping.{all-append}
 use Rattle.ppm_bounds.proofs.Members.{same_bytes, has-without, has-append, bytes_laws}
 use Rattle.ppm_translation.specs.Layout.{Layout, slot_of, caught}
-use Rattle.ppm_translation.specs.Fits.{Has, IsNew, IsKept, FitsExpression, FitsLent, FitsArgument, FitsArguments, FitsTarget, FitsSide, FitsStatement, FitsBlock}
+use Rattle.ppm_translation.specs.Fits.{Has, IsNew, IsKept, FitsExpression, FitsLent, FitsArgument, FitsArguments, FitsTarget}
+use Rattle.ppm_translation.specs.Fits.{FitsStatement, FitsBlock}
 use Rattle.ppm_translation.specs.Statements.{with_lets, with_parts, hidden_layout}
-use Rattle.ppm_translation.proofs.CaughtLemmas.{IsEachOnce, new_absent, once_hidden}
+use Rattle.ppm_translation.proofs.CaughtLemmas.{IsEachOnce, new_absent}
 
 -- the name is one of the layout
 abbrev In : Layout → List ℕ → Type 0
@@ -247,7 +248,8 @@ by_parts layout s rest used within behind =
 module _ (procedures : List Procedure) where
   mutual
     -- the free names in the blocks of a statement
-    within_in : (scope : Scope) (layout : Layout) (s : Statement) → FitsStatement procedures scope layout s → AllByRecursion (In layout) (free_within s)
+    within_in : (scope : Scope) (layout : Layout) (s : Statement) → FitsStatement procedures scope layout s
+        → AllByRecursion (In layout) (free_within s)
     within_in scope layout (Let x e) f = tt
     within_in scope layout (Assign x e) f = tt
     within_in scope layout (Put x index e) f = tt
@@ -283,17 +285,18 @@ module _ (procedures : List Procedure) where
   own_new : (layout : Layout) (i x : Named) → IsNew layout i.name → IsNew layout x.name → (q : List ℕ)
       → is_member bytes_eq (i.name ∷ x.name ∷ []) q ≡ true → is_member bytes_eq layout q ≡ false
   own_new layout i x new_i new_x q h =
-      of_member (λ z. is_member bytes_eq layout z ≡ false) (i.name ∷ x.name ∷ []) (new_absent layout i.name new_i, (new_absent layout x.name new_x, tt)) q h
+      of_member (λ z. is_member bytes_eq layout z ≡ false) (i.name ∷ x.name ∷ [])
+      (new_absent layout i.name new_i, (new_absent layout x.name new_x, tt)) q h
 
-  pub counted : (scope : Scope) (layout : Layout) (i x r : Named) (block : Block) → IsEachOnce layout → IsNew layout i.name → IsNew layout x.name
-      → FitsBlock procedures (each_scope scope r i x) (hidden_layout layout i x block) block
+  pub counted : (scope : Scope) (layout : Layout) (i x r : Named) (block : Block) → IsEachOnce layout → IsNew layout i.name
+      → IsNew layout x.name → FitsBlock procedures (each_scope scope r i x) (hidden_layout layout i x block) block
       → length (caught layout block) ≡ distinct_count bytes_eq (without (i.name ∷ x.name ∷ []) (free_names block))
   counted scope layout i x r block once new_i new_x fits =
-      length-from_keys bytes_laws (caught layout block) (without (i.name ∷ x.name ∷ []) (free_names block))
-      (once_filter (is_member bytes_eq (free_names block)) layout once)
+      let outside = without (i.name ∷ x.name ∷ []) (free_names block) in
+      let free = free_in (each_scope scope r i x) (hidden_layout layout i x block) block fits in
+      length-from_keys bytes_laws (caught layout block) outside (once_filter (is_member bytes_eq (free_names block)) layout once)
       (λ q. caught_member layout block q
       ∙ alike (is_member bytes_eq layout q) (is_member bytes_eq (free_names block) q) (is_member bytes_eq (i.name ∷ x.name ∷ []) q)
-      (λ free other. outside_in layout i x block q other
-      (of_member (In (hidden_layout layout i x block)) (free_names block) (free_in (each_scope scope r i x) (hidden_layout layout i x block) block fits) q free))
+      (λ used other. outside_in layout i x block q other (of_member (In (hidden_layout layout i x block)) (free_names block) free q used))
       (own_new layout i x new_i new_x q)
       ∙ sym (has-without (i.name ∷ x.name ∷ []) (free_names block) q))

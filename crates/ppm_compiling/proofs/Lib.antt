@@ -14,3 +14,4 @@ pub mod HalvingLemmas
 pub mod LimitLemmas
 pub mod CountLemmas
 pub mod RootLemmas
+pub mod GivenLemmas

@@ -1,15 +1,15 @@
 -- Within the limits and the bounds each procedure that a name stands for is small, and the arrays have few words.
-use Rattle.std.proofs.Common.{◌≡◌, ◌≤◌, cond, Bool, true, false, ℕ, List, [], ◌∷◌, Option, Some, None, length, arith, subst}
+use Rattle.std.proofs.Common.{◌≡◌, ◌≤◌, cond, Bool, true, false, ℕ, List, [], ◌∷◌, Option, Some, length, arith, subst}
 use Rattle.std.specs.Str.{bytes_eq}
 use Rattle.std.specs.List.{All, AllByRecursion, sum}
 use Rattle.std.proofs.lemmas.List.Elements.{All-head, recursion_from_All}
-use Rattle.ppm_tree.specs.Tree.{Statement, Give, Procedure, ProgramTree}
+use Rattle.ppm_tree.specs.Tree.{Give, Procedure, ProgramTree}
 use Rattle.ppm_tree.specs.Parts.{nodes, nodes_of, statements_in, gives_of}
 use Rattle.ppm_tree.specs.Limits.{IsSmallStatement, IsSmallGive, IsSmall, IsWithin}
 use Rattle.ppm_tree.specs.State.{no_procedure, procedure_named}
 use Rattle.ppm_bounds.specs.declared.bound.Bound.TheVariants as bound
 use Rattle.ppm_bounds.specs.Bounds.{Keeps, IsWithinBounds}
-use Rattle.ppm_compiling.proofs.Places.{IsModest, lengths_of}
+use Rattle.ppm_compiling.proofs.Places.{lengths_of}
 use Rattle.ppm_compiling.proofs.Given.{IsModestProcedure}
 
 -- what holds of each procedure, and of none, holds of the one that a name stands for

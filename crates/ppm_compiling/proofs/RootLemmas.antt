@@ -1,5 +1,5 @@
 -- The two ends of a run: the words and the root's frame with which it begins, and the outcome that is said of its end.
-use Rattle.std.proofs.Common.{◌≡◌, ◌≢◌, ◌<◌, ℕ, zero, suc, ◌+◌, ◌*◌, ◌^◌, ℤ, pos, negsuc, cond, Bool, true, false, List, [], ◌∷◌, ◌++◌, Option, Some, None}
+use Rattle.std.proofs.Common.{◌≡◌, ◌≢◌, ◌<◌, ℕ, zero, suc, ◌+◌, ◌*◌, ◌^◌, ℤ, pos, negsuc, cond, Bool, true, false, List, [], ◌∷◌, ◌++◌, Some, None}
 use Rattle.std.proofs.Common.{get_or, map, length, codes, refl, sym, ap, ap₂, ◌∙◌, subst, arith}
 use Rattle.std.specs.Prelude.{FitsSigned}
 use Rattle.std.specs.Int.{w64}
@@ -12,13 +12,10 @@ use Rattle.ppm_strands.specs.Tree.{Words, Strand}
 use Rattle.ppm_words.specs.TwosComplement.{word_of, value_of}
 use Rattle.ppm_words.proofs.TwosComplementLemmas.{value_of-word_of, word_of-below}
 use Rattle.ppm_words.specs.declared.named_array.NamedArray.{NamedArray}
-use Rattle.ppm_words.specs.declared.outcome.Outcome.{Outcome}
 use Rattle.ppm_words.specs.declared.outcome.Outcome.TheVariants as outcome
-use Rattle.ppm_code.specs.declared.location.FrameWord.TheVariants.{Slot}
 use Rattle.ppm_code.specs.Strands.{entry_of, Gave, Trapped as TrappedAt}
 use Rattle.ppm_depth.specs.Start.{words_in, words_of, regions_from, root_own, root_strand}
-use Rattle.ppm_depth.specs.Run.{values_at, arrays_at, said_of}
-use Rattle.ppm_tree.specs.declared.mode.Mode.TheVariants as mode
+use Rattle.ppm_depth.specs.Run.{strands_of, values_at, arrays_at, said_of}
 use Rattle.ppm_tree.specs.declared.tree.Array.{Array}
 use Rattle.ppm_tree.specs.declared.tree.Parameter.{Parameter}
 use Rattle.ppm_tree.specs.Tree.{Procedure, ProgramTree}
@@ -27,10 +24,9 @@ use Rattle.ppm_tree.specs.State.{TrapAt, Region, Arrays, array_at, procedure_nam
 use Rattle.ppm_tree.specs.Meaning.{Form, Counts, End, Ended, Trapped, arrays_of}
 use Rattle.ppm_tree.specs.Program.{values_of, with_names, whole_from, main_frame, main_of, outcome_of, Means}
 use Rattle.ppm_regions.specs.Scope.{Declaration, declared, first_named, is_region, of_parameter, scope_of}
-use Rattle.ppm_regions.specs.Uses.{Use, Site, Begins, MainTakes, MainGives, Fills, sites_at, sites_of, sites_of_names, sites_of_procedure, uses_of_main}
-use Rattle.ppm_regions.specs.Faults.{array_named}
+use Rattle.ppm_regions.specs.Uses.{Use, Begins, MainTakes, MainGives, Fills, sites_at, sites_of_names, sites_of_procedure, uses_of_main}
 use Rattle.ppm_regions.specs.Admission.{IsAdmitted}
-use Rattle.ppm_regions.specs.Correct.{Makes, NamesArray}
+use Rattle.ppm_regions.specs.Correct.{NamesArray}
 use Rattle.ppm_regions.proofs.Elements.{contains_head, contains_tail, contains_map}
 use Rattle.ppm_regions.proofs.MainLemmas.{number_is}
 use Rattle.ppm_regions.proofs.Rules.{rules}
@@ -42,7 +38,7 @@ use Rattle.ppm_translation.specs.Layout.{slot_of, parameter_layout}
 use Rattle.ppm_translation.specs.Fits.{Has}
 use Rattle.ppm_translation.specs.Routines.{code_of}
 use Rattle.ppm_translation.specs.Statements.{number_of}
-use Rattle.ppm_compiling.proofs.Holding.{HoldsValue, offset_of, region_word, Shows, Holds, at_work}
+use Rattle.ppm_compiling.proofs.Holding.{HoldsValue, offset_of, region_word, Shows, Holds, at_work, strands}
 use Rattle.ppm_compiling.proofs.Places.{lengths_of}
 
 -- how long the arrays of an input are
@@ -77,7 +73,8 @@ first_word a input i low =
     ap (words_of (words_in (a ∷ input))) same
     ∙ get_or_append_left (map word_of a.values) (words_in input) 0 i (omega (arith, low, count)) ∙ get_or-map word_of a.values i (pos 0) 0 low
 
-later_word : (a : NamedArray) (input : List NamedArray) (o i : ℕ) → words_of (words_in (a ∷ input)) (length a.values + o + i) ≡ words_of (words_in input) (o + i)
+later_word : (a : NamedArray) (input : List NamedArray) (o i : ℕ)
+    → words_of (words_in (a ∷ input)) (length a.values + o + i) ≡ words_of (words_in input) (o + i)
 later_word a input o i =
     let count = length-map a.values word_of in
     let same : length a.values + o + i ≡ length (map word_of a.values) + (o + i) = omega (arith, count) in
@@ -114,6 +111,10 @@ count_words (a ∷ input) =
 pub words_counted : (t : ProgramTree) (input : List NamedArray) → IsInputOf t input → length (words_in input) ≡ sum (lengths_of t)
 words_counted t input is = count_words input ∙ ap sum is.lengths
 
+-- so the code's strands over the input are those over arrays of these lengths
+pub strands_are : (t : ProgramTree) (input : List NamedArray) → IsInputOf t input → strands_of (code_of t) input ≡ strands (lengths_of t) (code_of t)
+strands_are t input is = rw (words_counted t input is) refl
+
 -- the region word of an array of the input
 region_begins : (start : ℕ) (input : List NamedArray) (k : ℕ) → k < length input
     → get_or (regions_from start input) k 0 ≡ (start + offset_of (lengths_in input) k) * 2 ^ 32 + get_or (lengths_in input) k 0
@@ -123,25 +124,29 @@ region_begins start (a ∷ input) (suc k) low =
     let rest = region_begins (start + length a.values) input k (omega (arith, low)) in
     omega (arith, rest)
 
+-- the whole of the array at a place, under a number
+abbrev whole_array : ℕ → List Array → ℕ → Region
+whole_array n arrays i = record { array = n; start = 0; length = get_or (map (λ a. a.words) arrays) i 0 }
+
 -- the whole of an array that has the name
 whole_at : (k : ℕ) (arrays : List Array) (x : List ℕ) → first_named (λ a. a.name.name) arrays x ≢ None
-    → (i : ℕ) × (i < length arrays) × (whole_from k arrays x ≡ record { array = k + i; start = 0; length = get_or (map (λ a. a.words) arrays) i 0 })
+    → (i : ℕ) × (i < length arrays) × (whole_from k arrays x ≡ whole_array (k + i) arrays i)
 whole_at k [] x there = absurd (there refl)
 whole_at k (a ∷ arrays) x there = go (bytes_eq a.name.name x) (whole_at (suc k) arrays x) there
   where
     go : (b : Bool) → (first_named (λ a. a.name.name) arrays x ≢ None
-        → (i : ℕ) × (i < length arrays) × (whole_from (suc k) arrays x ≡ record { array = suc k + i; start = 0; length = get_or (map (λ a. a.words) arrays) i 0 }))
+        → (i : ℕ) × (i < length arrays) × (whole_from (suc k) arrays x ≡ whole_array (suc k + i) arrays i))
         → cond b (Some a) (first_named (λ a. a.name.name) arrays x) ≢ None
-        → (i : ℕ) × (i < suc (length arrays)) × (cond b (record { array = k; start = 0; length = a.words }) (whole_from (suc k) arrays x)
-        ≡ record { array = k + i; start = 0; length = get_or (map (λ a. a.words) (a ∷ arrays)) i 0 })
+        → (i : ℕ) × (i < suc (length arrays))
+        × (cond b (record { array = k; start = 0; length = a.words }) (whole_from (suc k) arrays x) ≡ whole_array (k + i) (a ∷ arrays) i)
     go true rest there =
         let same : k ≡ k + 0 = omega arith in
-        (0, omega arith, ap (λ (n : ℕ). record { array = n; start = 0; length = a.words }) same)
+        (0, omega arith, ap (λ (n : ℕ). whole_array n (a ∷ arrays) 0) same)
     go false rest there =
         let r = rest there in
         let same : suc k + r.0 ≡ k + suc r.0 = omega arith in
         let low : suc r.0 < suc (length arrays) = omega (arith, r.1) in
-        (suc r.0, low, r.2 ∙ ap (λ (n : ℕ). record { array = n; start = 0; length = get_or (map (λ a. a.words) arrays) r.0 0 }) same)
+        (suc r.0, low, r.2 ∙ ap (λ (n : ℕ). whole_array n arrays r.0) same)
 
 -- The root's slots: that of a parameter has the region word of the array with its name.
 root_slot : (rs : List ℕ) (arrays : List Array) (ps : List Parameter) (z : List ℕ) → Has (parameter_layout ps) z
@@ -154,8 +159,8 @@ root_slot rs arrays (p ∷ ps) z has = go (bytes_eq p.name.name z) refl has (roo
         → (Has (parameter_layout ps) z
         → get_or (map (λ a. get_or rs a 0) (map (λ p. (whole_from 0 arrays p.name.name).array) ps)) (slot_of (parameter_layout ps) z) 0
         ≡ get_or rs (whole_from 0 arrays z).array 0)
-        → get_or (map (λ a. get_or rs a 0) (map (λ p. (whole_from 0 arrays p.name.name).array) (p ∷ ps))) (cond b 0 (suc (slot_of (parameter_layout ps) z))) 0
-        ≡ get_or rs (whole_from 0 arrays z).array 0
+        → get_or (map (λ a. get_or rs a 0) (map (λ p. (whole_from 0 arrays p.name.name).array) (p ∷ ps)))
+        (cond b 0 (suc (slot_of (parameter_layout ps) z))) 0 ≡ get_or rs (whole_from 0 arrays z).array 0
     go true e has rest = ap (λ (n : List ℕ). get_or rs (whole_from 0 arrays n).array 0) (same_names p.name.name z e)
     go false e has rest = rest (omega (arith, has))
 
@@ -229,10 +234,10 @@ module _ (t : ProgramTree) (input : List NamedArray) (admitted : IsAdmitted t) (
   whole_word z there =
       let w = whole_at 0 t.arrays z there in
       let first : 0 + w.0 ≡ w.0 = omega arith in
-      let whole = w.2 ∙ ap (λ (n : ℕ). record { array = n; start = 0; length = get_or (lengths_of t) w.0 0 }) first in
+      let whole = w.2 ∙ ap (λ (n : ℕ). whole_array n t.arrays w.0) first in
       let low : w.0 < length input = let m = as_many in omega (arith, m, w.1) in
-      let begins : get_or (regions_from 0 input) w.0 0 ≡ (0 + offset_of (lengths_of t) w.0) * 2 ^ 32 + get_or (lengths_of t) w.0 0 =
-      subst (λ (ls : List ℕ). get_or (regions_from 0 input) w.0 0 ≡ (0 + offset_of ls w.0) * 2 ^ 32 + get_or ls w.0 0) is.lengths (region_begins 0 input w.0 low) in
+      let begins = subst (λ (ls : List ℕ). get_or (regions_from 0 input) w.0 0 ≡ (0 + offset_of ls w.0) * 2 ^ 32 + get_or ls w.0 0) is.lengths
+      (region_begins 0 input w.0 low) in
       subst (λ (r : Region). get_or (regions_from 0 input) r.array 0 ≡ region_word (lengths_of t) r) (sym whole) (omega (arith, begins))
 
   -- the root's frame holds that of `main`
@@ -256,32 +261,34 @@ pub root_begins : (t : ProgramTree) (input : List NamedArray)
 root_begins t input = refl
 
 -- the values that words stand for, from an address on
-values_shown : (b : Words) (start : ℕ) (v : List ℤ) → ((i : ℕ) → i < length v → value_of (b (start + i)) ≡ get_or v i (pos 0)) → values_at b start (length v) ≡ v
+values_shown : (b : Words) (start : ℕ) (v : List ℤ) → ((i : ℕ) → i < length v → value_of (b (start + i)) ≡ get_or v i (pos 0))
+    → values_at b start (length v) ≡ v
 values_shown b start [] h = refl
 values_shown b start (x ∷ v) h =
     let first : start ≡ start + 0 = omega arith in
     let rest : values_at b (start + 1) (length v) ≡ v = values_shown b (start + 1) v (λ i low.
-        let same : start + 1 + i ≡ start + suc i = omega arith in
-        ap (λ (a : ℕ). value_of (b a)) same ∙ h (suc i) (omega (arith, low))) in
+    let same : start + 1 + i ≡ start + suc i = omega arith in
+    ap (λ (a : ℕ). value_of (b a)) same ∙ h (suc i) (omega (arith, low))) in
     ap₂ (λ (x : ℤ) (v : List ℤ). x ∷ v) (ap (λ (a : ℕ). value_of (b a)) first ∙ h 0 (omega arith)) rest
 
 -- the arrays that words show, from an address on
 pub arrays_shown : (b : Words) (start : ℕ) (input : List NamedArray) (arrays : Arrays) → length arrays ≡ length input
     → ((k : ℕ) → length (array_at arrays k) ≡ get_or (lengths_in input) k 0)
-    → ((k i : ℕ) → i < get_or (lengths_in input) k 0 → value_of (b (start + (offset_of (lengths_in input) k + i))) ≡ get_or (array_at arrays k) i (pos 0))
+    → ((k i : ℕ) → i < get_or (lengths_in input) k 0
+    → value_of (b (start + (offset_of (lengths_in input) k + i))) ≡ get_or (array_at arrays k) i (pos 0))
     → arrays_at b start input ≡ with_names input arrays
 arrays_shown b start [] arrays count shape word = refl
 arrays_shown b start (a ∷ input) [] count shape word = absurd (omega (arith, count))
 arrays_shown b start (a ∷ input) (v ∷ arrays) count shape word =
     let values : values_at b start (length a.values) ≡ v =
     ap (values_at b start) (sym (shape 0)) ∙ values_shown b start v (λ i low.
-        let same : start + i ≡ start + (0 + i) = omega arith in
-        ap (λ (x : ℕ). value_of (b x)) same ∙ word 0 i (let e = shape 0 in omega (arith, low, e))) in
+    let same : start + i ≡ start + (0 + i) = omega arith in
+    ap (λ (x : ℕ). value_of (b x)) same ∙ word 0 i (let e = shape 0 in omega (arith, low, e))) in
     let rest : arrays_at b (start + length a.values) input ≡ with_names input arrays =
     arrays_shown b (start + length a.values) input arrays (omega (arith, count)) (λ k. shape (suc k)) (λ k i low.
-        let o = offset_of (lengths_in input) k in
-        let same : start + length a.values + (o + i) ≡ start + (length a.values + o + i) = omega arith in
-        ap (λ (x : ℕ). value_of (b x)) same ∙ word (suc k) i low) in
+    let o = offset_of (lengths_in input) k in
+    let same : start + length a.values + (o + i) ≡ start + (length a.values + o + i) = omega arith in
+    ap (λ (x : ℕ). value_of (b x)) same ∙ word (suc k) i low) in
     ap₂ (λ (v : List ℤ) (xs : List NamedArray). record { name = a.name; values = v } ∷ xs) values rest
 
 -- What is said of the end of a run whose words show arrays, as many as the input's. `Shows` alone does not say how many: an array of no
@@ -291,8 +298,8 @@ pub said_shown : (t : ProgramTree) (input : List NamedArray) → IsInputOf t inp
 said_shown t input is b arrays word v count shown =
     let s = subst (λ (lengths : List ℕ). Shows lengths b arrays) (sym is.lengths) shown in
     ap outcome.Ended (arrays_shown b 0 input arrays count s.shape (λ k i low.
-        let same : 0 + (offset_of (lengths_in input) k + i) ≡ offset_of (lengths_in input) k + i = omega arith in
-        ap (λ (x : ℕ). value_of (b x)) same ∙ (s.word k i low).value))
+    let same : 0 + (offset_of (lengths_in input) k + i) ≡ offset_of (lengths_in input) k + i = omega arith in
+    ap (λ (x : ℕ). value_of (b x)) same ∙ (s.word k i low).value))
 
 -- and of one that trapped
 pub said_trapped : (input : List NamedArray) (b : Words) (stop : TrapAt) (arrays : Arrays)
