@@ -1,9 +1,8 @@
 -- Slots that come into registers one after the other, and registers that go into a new block.
 use Rattle.std.proofs.Common.{◌≡◌, ◌≢◌, ◌≤◌, ◌<◌, ◌⊎◌, ℕ, zero, suc, ◌+◌, ◌-◌, List, [], ◌∷◌, length, get_or, inl, inr}
-use Rattle.std.proofs.Common.{refl, sym, ap, ◌∙◌, subst, arith}
+use Rattle.std.proofs.Common.{refl, ap, ◌∙◌, subst, arith}
 use Rattle.std.specs.Prelude.{slice_index, slice_set}
 use Rattle.std.proofs.lemmas.Bool.{ne_eqb, cond-true, cond-false}
-use Rattle.ppm_strands.specs.Tree.{Words}
 use Rattle.ppm_capsules.specs.Capsule.{Memory, ending, leaves, asked, store}
 use Rattle.ppm_capsules.specs.Strand.{Own, New, own_of, new_of, shared_of}
 use Rattle.ppm_code.specs.declared.instr.Instr.{Instr}
@@ -88,7 +87,7 @@ module _ (W : ℕ) (m : Memory Where) where
   names_go slot d (suc count) at rest g length_is low =
       let first : slot ≡ slot + 0 = omega arith in
       let later = names_go (suc slot) (suc d) count (at + 1) rest (slice_set g (register d).index (m (Own (Slot slot))))
-          (set_count g d _ length_is) (omega (arith, low)) in
+      (set_count g d _ length_is) (omega (arith, low)) in
       load_more d count (λ k. m (Own (Slot (slot + k)))) at slot (names_code (suc slot) (suc d) count rest) rest g (omega (arith, low)) length_is
       (ap (λ (s : ℕ). m (Own (Slot s))) first)
       (record {
@@ -118,8 +117,9 @@ pub stored_else : (h : List ℕ) (offset d count : ℕ) (m : Memory Where) (i : 
 stored_else h offset d zero m i far = refl
 stored_else h offset d (suc count) m i far =
     stored_else h (suc offset) (suc d) count (store code_locations m (New offset) (slice_index h d)) i
-    (elim far [ | inl low ↦ inl (omega (arith, low)) | inr high ↦ inr (omega (arith, high)) ])
-    ∙ new_else m offset (slice_index h d) i (elim far [ | inl low ↦ λ e. absurd (omega (arith, low, e)) | inr high ↦ λ e. absurd (omega (arith, high, e)) ])
+    (elim far [ inl low ↦ inl (omega (arith, low)) | inr high ↦ inr (omega (arith, high)) ])
+    ∙ new_else m offset (slice_index h d) i
+    (elim far [ inl low ↦ λ e. absurd (omega (arith, low, e)) | inr high ↦ λ e. absurd (omega (arith, high, e)) ])
 
 pub stored_at : (h : List ℕ) (offset d count : ℕ) (m : Memory Where) (k : ℕ) → k < count
     → stored h offset d count m (New (offset + k)) ≡ slice_index h (d + k)
@@ -182,9 +182,9 @@ module _ (h : List ℕ) (o part index count : ℕ) (m : Memory Where) where
   pub half_else : (i : ℕ) → (i < o) ⊎ (o + suc (suc count) ≤ i) → half_stored (New i) ≡ m (New i)
   half_else i far =
       stored_else h (suc (suc o)) 6 count (stored h (suc o) index 1 (stored h o part 1 m)) i
-      (elim far [ | inl low ↦ inl (omega (arith, low)) | inr high ↦ inr (omega (arith, high)) ])
-      ∙ stored_else h (suc o) index 1 (stored h o part 1 m) i (elim far [ | inl low ↦ inl (omega (arith, low)) | inr high ↦ inr (omega (arith, high)) ])
-      ∙ stored_else h o part 1 m i (elim far [ | inl low ↦ inl (omega (arith, low)) | inr high ↦ inr (omega (arith, high)) ])
+      (elim far [ inl low ↦ inl (omega (arith, low)) | inr high ↦ inr (omega (arith, high)) ])
+      ∙ stored_else h (suc o) index 1 (stored h o part 1 m) i (elim far [ inl low ↦ inl (omega (arith, low)) | inr high ↦ inr (omega (arith, high)) ])
+      ∙ stored_else h o part 1 m i (elim far [ inl low ↦ inl (omega (arith, low)) | inr high ↦ inr (omega (arith, high)) ])
 
   half_part : half_stored (New o) ≡ slice_index h part
   half_part =
@@ -212,7 +212,8 @@ module _ (h : List ℕ) (o part index count : ℕ) (m : Memory Where) where
       → IsHalf (built frame (new_of later))
   half_built later frame is keeps blank = record {
     at_part = ap (λ (i : ℕ). later (New i)) (let e : frame + (6 + 0) ≡ o = omega (arith, is) in e) ∙ keeps o (omega arith) (omega arith) ∙ half_part;
-    at_index = ap (λ (i : ℕ). later (New i)) (let e : frame + (6 + 1) ≡ suc o = omega (arith, is) in e) ∙ keeps (suc o) (omega arith) (omega arith) ∙ half_index;
+    at_index = ap (λ (i : ℕ). later (New i)) (let e : frame + (6 + 1) ≡ suc o = omega (arith, is) in e)
+        ∙ keeps (suc o) (omega arith) (omega arith) ∙ half_index;
     names = λ k low. ap (λ (i : ℕ). later (New i)) (let e : frame + (6 + suc (suc k)) ≡ suc (suc o) + k = omega (arith, is) in e)
         ∙ keeps (suc (suc o) + k) (omega arith) (omega (arith, low)) ∙ half_name k low;
     value = blank;

@@ -1,13 +1,13 @@
 -- An `each`: its hidden procedure is called with the whole region, and where it is entered it goes on by how many elements are in hand.
-use Rattle.std.proofs.Common.{◌≡◌, ◌≢◌, ◌≤◌, ◌<◌, ℕ, zero, suc, ◌+◌, ◌*◌, ◌%◌, ◌^◌, Bool, true, false, nat_lt, cond, pos, List, [], ◌∷◌, None, length, get_or, replicate}
-use Rattle.std.proofs.Common.{inl, inr, refl, sym, ap, ◌∙◌, subst, subst₂, arith}
-use Rattle.std.specs.Prelude.{slice_index, slice_set, int_lt, negsuc, if◌then◌else◌, ◌-◌}
+use Rattle.std.proofs.Common.{◌≡◌, ◌≤◌, ◌<◌, ℕ, zero, suc, ◌+◌, ◌*◌, ◌^◌, Bool, pos, List, [], ◌∷◌, None, length, replicate}
+use Rattle.std.proofs.Common.{inl, refl, sym, ap, ◌∙◌, subst, subst₂, arith}
+use Rattle.std.specs.Prelude.{slice_index, slice_set, int_lt, if◌then◌else◌}
 use Rattle.std.specs.List.{sum}
 use Rattle.std.proofs.lemmas.Bool.{lt-ltb}
 use Rattle.std.proofs.lemmas.Nat.{mod-mul-add}
-use Rattle.ppm_strands.specs.Tree.{Words, Tree, Strand, Call as Calling, Over}
+use Rattle.ppm_strands.specs.Tree.{Words, Strand, Call as Calling, Over}
 use Rattle.ppm_capsules.specs.Capsule.{Memory, Capsule}
-use Rattle.ppm_capsules.specs.Strand.{New, own_of, shared_of, new_of}
+use Rattle.ppm_capsules.specs.Strand.{New, new_of}
 use Rattle.ppm_words.specs.TwosComplement.{value_of}
 use Rattle.ppm_code.specs.declared.act.End.{End}
 use Rattle.ppm_code.specs.declared.act.End.TheVariants as ends
@@ -15,28 +15,25 @@ use Rattle.ppm_code.specs.declared.code.CodeParts.{CodeParts}
 use Rattle.ppm_code.specs.declared.instr.Instr.{Instr}
 use Rattle.ppm_code.specs.declared.instr.Instr.TheVariants as instr
 use Rattle.ppm_code.specs.declared.location.FrameWord.{FrameWord}
-use Rattle.ppm_code.specs.declared.location.FrameWord.TheVariants.{Slot, Value}
+use Rattle.ppm_code.specs.declared.location.FrameWord.TheVariants.{Slot}
 use Rattle.ppm_code.specs.Acts.{length_of}
 use Rattle.ppm_code.specs.Locations.{Where}
 use Rattle.ppm_code.specs.Capsules.{capsule_of, capsule_from}
-use Rattle.ppm_code.specs.Strands.{Gave, instrs_of, entry_of, built}
-use Rattle.ppm_tree.specs.declared.named.Named.{Named}
-use Rattle.ppm_tree.specs.Tree.{Block}
+use Rattle.ppm_code.specs.Strands.{Gave, entry_of, built}
 use Rattle.ppm_tree.specs.State.{Region, Frame, Arrays}
 use Rattle.ppm_owning.specs.Coming.{stretch}
-use Rattle.ppm_regions.specs.Scope.{Scope, declared, each_scope}
+use Rattle.ppm_regions.specs.Scope.{Scope}
 use Rattle.ppm_translation.specs.Layout.{Layout, slot_of, caught, register}
-use Rattle.ppm_translation.specs.Fits.{IsNew, IsDistinctLayout, IsRegion}
 use Rattle.ppm_translation.specs.Numbers.{halving, element_block}
 use Rattle.ppm_translation.specs.Slots.{hidden_slots, frame_words}
-use Rattle.ppm_translation.specs.Statements.{each_code, entry_code, loads_code, stores_code, hidden_layout}
+use Rattle.ppm_translation.specs.Statements.{each_code, entry_code, stores_code}
 use Rattle.ppm_compiling.proofs.ChainLemmas.{cost, Chain}
-use Rattle.ppm_compiling.proofs.Holding.{HoldsValue, Holds, offset_of, region_word, sweep_frame, at_work, waits, strands}
-use Rattle.ppm_compiling.proofs.Doing.{InHand, Entered, EntryDoes, EachDoes}
+use Rattle.ppm_compiling.proofs.Holding.{HoldsValue, offset_of, region_word, at_work, waits, strands}
+use Rattle.ppm_compiling.proofs.Doing.{Entered, EntryDoes, EachDoes}
 use Rattle.ppm_compiling.proofs.ExprLemmas.{Goes, goes_on, goes_equal, set_count, holds_number}
-use Rattle.ppm_compiling.proofs.StepLemmas.{start_at, opens_at, whole}
+use Rattle.ppm_compiling.proofs.StepLemmas.{start_at, whole}
 use Rattle.ppm_compiling.proofs.SlotLemmas.{sweep_holds, each_catches}
-use Rattle.ppm_compiling.proofs.BlockLemmas.{Loads, loads_go, stored, stored_at, stored_else, stored_own, stored_shared, stores_go}
+use Rattle.ppm_compiling.proofs.BlockLemmas.{loads_go, stored, stored_at, stored_else, stored_own, stored_shared, stores_go}
 
 -- a small number is its own value
 pub value_is : (n : ℕ) → n < 2 ^ 63 → value_of n ≡ pos n
@@ -94,7 +91,8 @@ module _ (lengths : List ℕ) (code : CodeParts) (scope : Scope) (layout : Layou
           whole lengths code at (entry_code at) stands own a (ends.Next (element_block at)) m_ 0 g.ends g.left g.asks
       go (suc (suc k)) low is =
           let c = suc (suc k) in
-          let g = goes_on (to_branches c (counted c low is)) (goes_equal (at_branches c (many_of c)) (at_branches c 1) m_ (ap (at_branches c) (more_than_one k low))) in
+          let g = goes_on (to_branches c (counted c low is))
+          (goes_equal (at_branches c (many_of c)) (at_branches c 1) m_ (ap (at_branches c) (more_than_one k low))) in
           whole lengths code at (entry_code at) stands own a (ends.Next (halving at)) m_ 0 g.ends g.left g.asks
 
   pub each_does : EachDoes lengths code scope layout f own a arrays at next
@@ -107,24 +105,26 @@ module _ (lengths : List ℕ) (code : CodeParts) (scope : Scope) (layout : Layou
       let g = slice_set (slice_set (replicate 64 0) 0 w) 1 0 in
       let last : List Instr = instr.Ends (ends.Call h next None) ∷ [] in
       let rest = stores_code 6 0 count last in
-      let l = loads_go W m_ layout names 2 3 rest g (set_count (slice_set (replicate 64 0) 0 w) 1 0 (set_count (replicate 64 0) 0 w refl)) (omega (arith, few)) in
+      let sixty_four = set_count (slice_set (replicate 64 0) 0 w) 1 0 (set_count (replicate 64 0) 0 w refl) in
+      let l = loads_go W m_ layout names 2 3 rest g sixty_four (omega (arith, few)) in
       let s = stores_go W 6 0 count l.number last l.registers m_ (omega (arith, few)) in
       let m' = stored l.registers 6 0 count m_ in
       let goes = goes_on l.goes s.1 in
       let own' = built 0 (new_of m') in
       let at_slot : (k : ℕ) → k < count → own' (Slot k) ≡ slice_index l.registers k =
-          λ k low. ap (λ (i : ℕ). m' (New i)) (let e : 0 + (6 + k) ≡ 6 + k = omega arith in e) ∙ stored_at l.registers 6 0 count m_ k low
-              ∙ ap (slice_index l.registers) (let e : 0 + k ≡ k = omega arith in e) in
+      λ k low. ap (λ (i : ℕ). m' (New i)) (let e : 0 + (6 + k) ≡ 6 + k = omega arith in e) ∙ stored_at l.registers 6 0 count m_ k low
+      ∙ ap (slice_index l.registers) (let e : 0 + k ≡ k = omega arith in e) in
       let start_is : region_word lengths q ≡ region_word lengths (stretch 0 q.length q) =
-          ap (λ (k : ℕ). (offset_of lengths q.array + k) * 2 ^ 32 + q.length) (let e : q.start ≡ q.start + 0 = omega arith in e) in
+      ap (λ (k : ℕ). (offset_of lengths q.array + k) * 2 ^ 32 + q.length) (let e : q.start ≡ q.start + 0 = omega arith in e) in
       let catches = each_catches lengths scope layout f i x r block other no_i no_x own own' hand.holds
-          (λ k low. at_slot (suc (suc k)) (omega (arith, low)) ∙ ap (slice_index l.registers) (let e : suc (suc k) ≡ 2 + k = omega arith in e)
-          ∙ l.loaded.words k low) in
+      (λ k low. at_slot (suc (suc k)) (omega (arith, low)) ∙ ap (slice_index l.registers) (let e : suc (suc k) ≡ 2 + k = omega arith in e)
+      ∙ l.loaded.words k low) in
       let chain = whole lengths code at (each_code layout r block h next) stands own a (ends.Call h next None) m' room goes.ends goes.left
-          (ap (λ (z : ℕ). room + z) goes.asks ∙ (let e : room + 0 ≡ room = omega arith in e)) in (
+      (ap (λ (z : ℕ). room + z) goes.asks ∙ (let e : room + 0 ≡ room = omega arith in e)) in (
         own',
         sweep_holds lengths scope layout f i x r block other no_i no_x q own' 0 q.length catches
-            (at_slot 0 (omega arith) ∙ l.loaded.keeps 0 (omega arith) ∙ hand.holds.region r.name region.declaration region.found region.kind region.has ∙ start_is)
+            (at_slot 0 (omega arith) ∙ l.loaded.keeps 0 (omega arith)
+            ∙ hand.holds.region r.name region.declaration region.found region.kind region.has ∙ start_is)
             (subst (λ (v : ℕ). HoldsValue v (pos 0)) (sym (at_slot 1 (omega arith) ∙ l.loaded.keeps 1 (omega arith))) (holds_number 0 (omega arith)))
             (stored_else l.registers 6 0 count m_ 4 (inl (omega arith))),
         subst₂ (λ (o : FrameWord → ℕ) (b : Words). Chain (strands lengths code) (cost 1 1 0 room) (Strand (at_work own at)) a

@@ -1,7 +1,8 @@
 -- The code of an expression, whatever follows: its value comes into the register, or its trap ends the strand; nothing is written.
-use Rattle.std.proofs.Common.{◌≡◌, ◌<◌, ◌≤◌, ℕ, zero, suc, ◌+◌, ◌-◌, ◌*◌, ◌/◌, ◌%◌, ◌^◌, max, Bool, true, false, cond, nat_lt, ℤ, pos, negsuc}
-use Rattle.std.proofs.Common.{List, [], ◌∷◌, ◌++◌, Option, Result, Ok, Err, Some, None, get_or, length, refl, sym, ap, ap₂, ◌∙◌, subst, subst₂, arith}
-use Rattle.std.specs.Prelude.{slice_index, slice_set, ◌==◌, ◌+ℤ◌, ◌-ℤ◌, ◌*ℤ◌, neg_ℤ, int_lt, int_le, int_div, int_rem, unsigned_abs, not, ◌&&◌, ◌||◌, FitsSigned}
+use Rattle.std.proofs.Common.{◌≡◌, ◌<◌, ◌≤◌, ℕ, zero, suc, ◌+◌, ◌-◌, ◌*◌, ◌^◌, Bool, true, false, cond, nat_lt, ℤ, pos, negsuc}
+use Rattle.std.proofs.Common.{List, [], ◌∷◌, ◌++◌, Result, Ok, Err, Some, None, get_or, length, refl, sym, ap, ap₂, ◌∙◌, subst, arith}
+use Rattle.std.specs.Prelude.{slice_index, slice_set, ◌==◌, ◌+ℤ◌, ◌-ℤ◌, ◌*ℤ◌, neg_ℤ, int_lt, int_le, int_div, int_rem, unsigned_abs, not, ◌&&◌, ◌||◌}
+use Rattle.std.specs.Prelude.{FitsSigned}
 use Rattle.std.specs.Int.{w64}
 use Rattle.std.specs.List.{All, sum}
 use Rattle.std.specs.Ordering.{int_eq}
@@ -13,7 +14,6 @@ use Rattle.std.proofs.lemmas.List.{get_or-set_same, get_or-set_other, length-set
 use Rattle.std.proofs.lemmas.List.Elements.{All-head, All-tail, All-take, All-drop}
 use Rattle.std.proofs.lemmas.List.Sums.{sum_by-cons}
 use Rattle.ppm_words.specs.TwosComplement.{word_of, value_of}
-use Rattle.ppm_words.specs.declared.trap.Trap.{Trap}
 use Rattle.ppm_words.specs.declared.trap.Trap.TheVariants as trap
 use Rattle.ppm_words.proofs.TwosComplementLemmas.{value_of-word_of, word_of-below, value_of-fits}
 use Rattle.ppm_capsules.specs.Capsule.{Capsule, Ends, Memory, ending, leaves, asked, store}
@@ -21,7 +21,7 @@ use Rattle.ppm_capsules.specs.Strand.{Own, Shared}
 use Rattle.ppm_code.specs.declared.act.Act.{Act}
 use Rattle.ppm_code.specs.declared.act.Act.TheVariants.{Sets, Passes, Jumps, Steps, Ends as Stops}
 use Rattle.ppm_code.specs.declared.act.Step.{Step}
-use Rattle.ppm_code.specs.declared.act.Step.TheVariants.{Loads, Stores, Asks}
+use Rattle.ppm_code.specs.declared.act.Step.TheVariants.{Loads, Stores}
 use Rattle.ppm_code.specs.declared.act.End.{End}
 use Rattle.ppm_code.specs.declared.act.End.TheVariants.{Trap as Trapping}
 use Rattle.ppm_code.specs.declared.instr.Instr.{Instr}
@@ -43,9 +43,11 @@ use Rattle.ppm_tree.specs.Tree.{Expression}
 use Rattle.ppm_tree.specs.Tree as tree
 use Rattle.ppm_tree.specs.Values.{fits, in_range, divided, holds, truth, applied, decided, negated}
 use Rattle.ppm_tree.specs.State.{TrapAt, then_with, at_line, tested, unless_decided, Region, Frame, Arrays, array_at, word_at, index_in, evaluate}
+use Rattle.ppm_owning.proofs.WordLemmas.{index_below}
 use Rattle.ppm_regions.specs.Scope.{Declaration, Scope, declared, is_region}
 use Rattle.ppm_translation.specs.Layout.{Layout, slot_of, register_with, register}
-use Rattle.ppm_translation.specs.Expressions.{branch_size, last_size, size_of, truth_code, operator_code, right_register, branch_code, expression_code}
+use Rattle.ppm_translation.specs.Expressions.{branch_size, last_size, size_of, truth_code, operator_code, right_register, branch_code}
+use Rattle.ppm_translation.specs.Expressions.{expression_code}
 use Rattle.ppm_translation.specs.Fits.{Has, IsKept, FitsExpression}
 use Rattle.ppm_compiling.proofs.Holding.{HoldsValue, offset_of, region_word, Lies}
 
@@ -88,7 +90,7 @@ module _ (W at : ℕ) (i : Instr) (is : List Instr) (g : List ℕ) where
   loads l r m e =
       let h = slice_set g r.index (m (location_of l)) in
       let first : Goes (capsule_from W at 0 (i ∷ is) g) m (capsule_from W (at + 1) ((at + 1) - (at + 1)) is h) m =
-          goes_on (goes_equal _ _ m (acted (Steps (Loads l r)) e)) (record { ends = refl; left = refl; asks = refl }) in
+      goes_on (goes_equal _ _ m (acted (Steps (Loads l r)) e)) (record { ends = refl; left = refl; asks = refl }) in
       goes_on first (goes_equal _ _ m (from_first ((at + 1) - (at + 1)) h (omega arith)))
 
   pub stores : (l : Location) (v : ℕ) (m : Memory Where) → does W i g ≡ Steps (Stores l v)
@@ -96,7 +98,7 @@ module _ (W at : ℕ) (i : Instr) (is : List Instr) (g : List ℕ) where
   stores l v m e =
       let m' = store code_locations m (location_of l) v in
       let first : Goes (capsule_from W at 0 (i ∷ is) g) m (capsule_from W (at + 1) ((at + 1) - (at + 1)) is g) m' =
-          goes_on (goes_equal _ _ m (acted (Steps (Stores l v)) e)) (record { ends = refl; left = refl; asks = refl }) in
+      goes_on (goes_equal _ _ m (acted (Steps (Stores l v)) e)) (record { ends = refl; left = refl; asks = refl }) in
       goes_on first (goes_equal _ _ m' (from_first ((at + 1) - (at + 1)) g (omega arith)))
 
   pub stops : (e : End) → does W i g ≡ Stops e → capsule_from W at 0 (i ∷ is) g ≡ Ends e
@@ -107,7 +109,7 @@ module _ (W : ℕ) where
   skip : (here k n : ℕ) (i : Instr) (is : List Instr) (g : List ℕ) → k ≡ suc n → capsule_from W here k (i ∷ is) g ≡ capsule_from W (here + 1) n is g
   skip here k n i is g e = ap (λ (k : ℕ). capsule_from W here k (i ∷ is) g) e
 
-  here_is : (here there n : ℕ) (is : List Instr) (g : List ℕ) → here ≡ there → capsule_from W here n is g ≡ capsule_from W there n is g
+  pub here_is : (here there n : ℕ) (is : List Instr) (g : List ℕ) → here ≡ there → capsule_from W here n is g ≡ capsule_from W there n is g
   here_is here there n is g e = ap (λ (here : ℕ). capsule_from W here n is g) e
 
   skip_branch : (o : Operator) (here d target k n : ℕ) (is : List Instr) (g : List ℕ) → k ≡ branch_size o + n
@@ -164,12 +166,14 @@ module _ (W : ℕ) where
       let load = instr.LoadSlot (register (suc d)) (slot_of layout x.name) in
       let get = instr.Get (register d) (register (suc d)) (register d) x.line in
       skip_expression layout index here d at (load ∷ get ∷ rest) g k (2 + n) (omega (arith, is))
-      ∙ skip_two (here + size_of index) (2 + n) n load get rest g refl ∙ here_is (here + size_of index + 2) (here + (size_of index + 2)) n rest g (omega arith)
+      ∙ skip_two (here + size_of index) (2 + n) n load get rest g refl
+      ∙ here_is (here + size_of index + 2) (here + (size_of index + 2)) n rest g (omega arith)
   skip_expression layout (tree.Len x) here d at rest g k n is =
       skip_two here k n (instr.LoadSlot (register d) (slot_of layout x.name)) (instr.Len (register d) (register d)) rest g (omega (arith, is))
   skip_expression layout (tree.Minus line e) here d at rest g k n is =
       let sub = instr.Sub (register d) (register d) (register (suc d)) line in
-      skip here k (size_of e + (1 + n)) (instr.Const (register d) (pos 0)) (expression_code layout e (suc d) (suc at) (sub ∷ rest)) g (omega (arith, is))
+      skip here k (size_of e + (1 + n)) (instr.Const (register d) (pos 0)) (expression_code layout e (suc d) (suc at) (sub ∷ rest)) g
+      (omega (arith, is))
       ∙ skip_expression layout e (here + 1) (suc d) (suc at) (sub ∷ rest) g (size_of e + (1 + n)) (1 + n) refl
       ∙ skip (here + 1 + size_of e) (1 + n) n sub rest g (omega arith)
       ∙ here_is (here + 1 + size_of e + 1) (here + (suc (size_of e) + 1)) n rest g (omega arith)
@@ -234,12 +238,14 @@ Meets W at rest K p m (Ok v) = (h : List ℕ) × Goes p m (capsule_from W at 0 r
 Meets W at rest K p m (Err stop) = Goes p m (Ends (Trapping stop.0 stop.1)) m
 
 module _ (W : ℕ) where
-  pub goes_meets : {A : Type 0} (at : ℕ) (rest : List Instr) (K : A → List ℕ → Type 0) (p q : Capsule Where End) (m : Memory Where) (t : Result A TrapAt)
+  pub goes_meets : {A : Type 0} (at : ℕ) (rest : List Instr) (K : A → List ℕ → Type 0) (p q : Capsule Where End) (m : Memory Where)
+      (t : Result A TrapAt)
       → Goes p m q m → Meets W at rest K q m t → Meets W at rest K p m t
   goes_meets at rest K p q m (Ok v) g h = (h.0, goes_on g h.1, h.2)
   goes_meets at rest K p q m (Err stop) g h = goes_on g h
 
-  pub meets_at : {A : Type 0} (at at' : ℕ) (rest : List Instr) (K : A → List ℕ → Type 0) (p : Capsule Where End) (m : Memory Where) (t : Result A TrapAt)
+  pub meets_at : {A : Type 0} (at at' : ℕ) (rest : List Instr) (K : A → List ℕ → Type 0) (p : Capsule Where End) (m : Memory Where)
+      (t : Result A TrapAt)
       → at ≡ at' → Meets W at rest K p m t → Meets W at' rest K p m t
   meets_at at at' rest K p m t e h = subst (λ (at : ℕ). Meets W at rest K p m t) e h
 
@@ -371,7 +377,8 @@ module _ (W : ℕ) (m : Memory Where) (g h : List ℕ) (d : ℕ) (low : suc d < 
       by false s true t = set_meets i at rest (word_of z) z (e ∙ ap₂ choice (same_zero y ∙ s) (same_fits (int_div x y) ∙ t)) (holds_word z (fit s t))
       by false s false t = stop_meets i at rest (trap.Overflow, line) (e ∙ ap₂ choice (same_zero y ∙ s) (same_fits (int_div x y) ∙ t))
 
-  compare_meets : (i : Instr) (at : ℕ) (rest : List Instr) (b : Bool) → does W i h ≡ Sets (register d) (cond b 1 0) → comes_to at 1 (i ∷ rest) rest (Ok (truth b))
+  compare_meets : (i : Instr) (at : ℕ) (rest : List Instr) (b : Bool) → does W i h ≡ Sets (register d) (cond b 1 0)
+      → comes_to at 1 (i ∷ rest) rest (Ok (truth b))
   compare_meets i at rest b e = set_meets i at rest (cond b 1 0) (truth b) e (holds_truth b)
 
   module _ (x y : ℤ) (hx : HoldsValue (slice_index h d) x) (hy : HoldsValue (slice_index h (suc d)) y) where
@@ -430,20 +437,21 @@ module _ (W : ℕ) (m : Memory Where) (g h : List ℕ) (d : ℕ) (low : suc d < 
         (ap₂ (λ (x y : ℤ). Sets (register d) (cond (int_le y x) 1 0)) first second)
 
   -- 1 where the word in the register isn't 0, else 0
-  pub truth_meets : (v : ℤ) → HoldsValue (slice_index h d) v → (at : ℕ) (rest : List Instr) → comes_to at 2 (truth_code d rest) rest (Ok (truth (holds v)))
+  pub truth_meets : (v : ℤ) → HoldsValue (slice_index h d) v → (at : ℕ) (rest : List Instr)
+      → comes_to at 2 (truth_code d rest) rest (Ok (truth (holds v)))
   truth_meets v hv at rest =
       let zeroed = slice_set h (register (suc d)).index 0 in
       let last = instr.NotEqual (register d) (register d) (register (suc d)) in
       let step : held zeroed (register d) ≡ slice_index h d =
-          held_at zeroed d (omega (arith, low)) ∙ set_keeps h (suc d) 0 d low (omega arith) in
+      held_at zeroed d (omega (arith, low)) ∙ set_keeps h (suc d) 0 d low (omega arith) in
       let zero_is : held zeroed (register (suc d)) ≡ 0 = held_at zeroed (suc d) low ∙ set_at h (suc d) 0 count low in
       let same : (held zeroed (register d) == held zeroed (register (suc d))) ≡ int_eq v (pos 0) =
-          ap₂ (λ (w u : ℕ). w == u) step zero_is ∙ same_words (slice_index h d) 0 v (pos 0) hv (holds_number 0 (omega arith)) in
+      ap₂ (λ (w u : ℕ). w == u) step zero_is ∙ same_words (slice_index h d) 0 v (pos 0) hv (holds_number 0 (omega arith)) in
       let b = not (int_eq v (pos 0)) in (
         slice_set zeroed (register d).index (cond b 1 0),
         goes_equal _ _ m (sets W at (instr.Const (register (suc d)) (pos 0)) (last ∷ rest) h (register (suc d)) 0 refl
             ∙ sets W (at + 1) last rest zeroed (register d) (cond b 1 0)
-                (ap (λ (b : Bool). Sets (register d) (cond b 0 1)) same ∙ ap (Sets (register d)) (turned (int_eq v (pos 0))))
+            (ap (λ (b : Bool). Sets (register d) (cond b 0 1)) same ∙ ap (Sets (register d)) (turned (int_eq v (pos 0))))
             ∙ here_is W (at + 1 + 1) (at + 2) 0 rest (slice_set zeroed (register d).index (cond b 1 0)) (omega arith)),
         in_reg g zeroed d (cond b 1 0) (truth b) (omega (arith, low)) (set_count h (suc d) 0 count)
             (λ i below. set_keeps h (suc d) 0 i low (omega (arith, below)) ∙ keeps i below) (holds_truth b),
@@ -501,20 +509,12 @@ module _ (lengths : List ℕ) (r : Region) (placed : IsPlaced lengths r) where
       by : (i : ℤ) → HoldsValue w i → w ≡ word_of i
           → act w (nat_lt w r.length) (nat_lt (offset_of lengths r.array + r.start + w) (sum lengths)) ≡ at_index step (index_in line r i)
       by (pos k) h e =
-          ap (λ (w : ℕ). act w (nat_lt w r.length) (nat_lt (offset_of lengths r.array + r.start + w) (sum lengths))) e ∙ at_number k (nat_lt k r.length) refl
+          ap (λ (w : ℕ). act w (nat_lt w r.length) (nat_lt (offset_of lengths r.array + r.start + w) (sum lengths))) e
+          ∙ at_number k (nat_lt k r.length) refl
       by (negsuc k) h e =
           let fit = value_fits w (negsuc k) h in
           ap (λ (b : Bool). act w b (nat_lt (offset_of lengths r.array + r.start + w) (sum lengths)))
           (le-ltb w r.length (omega (arith, fit.sfits, e, region_short)))
-
--- an index of a region is below its length
-pub index_below : (line : ℕ) (r : Region) (i : ℤ) (k : ℕ) → index_in line r i ≡ Ok k → k < r.length
-index_below line r (pos j) k e = by (nat_lt j r.length) refl e
-  where
-    by : (b : Bool) → nat_lt j r.length ≡ b → tested b (trap.Index, line) j ≡ Ok k → k < r.length
-    by true low e = let same : j ≡ k = cc in let below = ltb-true j r.length low in omega (arith, below, same)
-    by false low e = cc
-index_below line r (negsuc j) k e = cc
 
 -- what holds of all of two lists
 pub all_front : {X : Type 0} (P : X → Type 0) (xs ys : List X) → All P (xs ++ ys) → All P xs
@@ -542,7 +542,8 @@ pub record Sees (lengths : List ℕ) (scope : Scope) (layout : Layout) (f : Fram
   pub word : (k i : ℕ) → i < get_or lengths k 0 → HoldsValue (m (Shared (offset_of lengths k + i))) (get_or (array_at arrays k) i (pos 0))
   pub lies : Lies lengths scope f
 
-module _ (lengths : List ℕ) (scope : Scope) (layout : Layout) (f : Frame) (arrays : Arrays) (m : Memory Where) (s : Sees lengths scope layout f arrays m) where
+module _ (lengths : List ℕ) (scope : Scope) (layout : Layout) (f : Frame) (arrays : Arrays) (m : Memory Where)
+    (s : Sees lengths scope layout f arrays m) where
   abbrev W : ℕ
   W = sum lengths
 
@@ -589,7 +590,7 @@ module _ (lengths : List ℕ) (scope : Scope) (layout : Layout) (f : Frame) (arr
   -- behind the left operand of `&&` and `||`: past the right one, or through it
   module _ (right : Expression) (d here : ℕ) (rest : List Instr) (g h : List ℕ) (x : ℤ) (low : suc d < 64) (is_x : InReg d g x h)
       (runs : Meets W (here + 1 + size_of right) (truth_code d rest) (InReg d h)
-          (capsule_from W (here + 1) 0 (expression_code layout right d (here + 1) (truth_code d rest)) h) m (evaluate f arrays right)) where
+      (capsule_from W (here + 1) 0 (expression_code layout right d (here + 1) (truth_code d rest)) h) m (evaluate f arrays right)) where
     abbrev code : List Instr
     code = expression_code layout right d (here + 1) (truth_code d rest)
 
@@ -608,9 +609,10 @@ module _ (lengths : List ℕ) (scope : Scope) (layout : Layout) (f : Frame) (arr
     past_meets : (branch : Instr) → does W branch h ≡ Jumps target
         → Meets W done rest (InReg d g) (capsule_from W here 0 (branch ∷ code) h) m (Ok (truth (holds x)))
     past_meets branch e =
-        goes_meets W done rest (InReg d g) (capsule_from W here 0 (branch ∷ code) h) (capsule_from W target 0 (truth_code d rest) h) m (Ok (truth (holds x)))
+        goes_meets W done rest (InReg d g) (capsule_from W here 0 (branch ∷ code) h) (capsule_from W target 0 (truth_code d rest) h) m
+        (Ok (truth (holds x)))
         (goes_equal _ _ m (jumps W here branch code h target (size_of right) e refl
-            ∙ skip_expression W layout right (here + 1) d (here + 1) (truth_code d rest) h (size_of right) 0 (omega arith)))
+        ∙ skip_expression W layout right (here + 1) d (here + 1) (truth_code d rest) h (size_of right) 0 (omega arith)))
         (truth_meets W m g h d low is_x.count is_x.keeps x is_x.value target rest)
 
     -- through it
@@ -689,7 +691,7 @@ module _ (lengths : List ℕ) (scope : Scope) (layout : Layout) (f : Frame) (arr
       let low : d < 64 = omega (arith, room) in
       let length = instr.Len (register d) (register d) in
       let is_length : length_of (held h (register d)) ≡ r.length =
-          ap length_of (held_at h d low ∙ set_at g d q count low ∙ region_held x.name fits) ∙ region_length lengths r (region_placed x.name fits) in (
+      ap length_of (held_at h d low ∙ set_at g d q count low ∙ region_held x.name fits) ∙ region_length lengths r (region_placed x.name fits) in (
         slice_set h (register d).index r.length,
         goes_on (loads W at (instr.LoadSlot (register d) slot) (length ∷ rest) g (OwnWord (Slot slot)) (register d) m refl)
             (goes_equal _ _ m (sets W (at + 1) length rest h (register d) r.length (ap (Sets (register d)) is_length)
@@ -732,14 +734,15 @@ module _ (lengths : List ℕ) (scope : Scope) (layout : Layout) (f : Frame) (arr
       let n = suc at + size_of e in
       let done = at + (suc (size_of e) + 1) in
       bind_meets W n done (sub ∷ rest) rest (InReg (suc d) h) (InReg d g) _ m (evaluate f arrays e) _
-      (goes_meets W n (sub ∷ rest) (InReg (suc d) h) (capsule_from W at 0 (zero_code ∷ code) g) (capsule_from W (suc at) 0 code h) m (evaluate f arrays e)
+      (goes_meets W n (sub ∷ rest) (InReg (suc d) h) (capsule_from W at 0 (zero_code ∷ code) g) (capsule_from W (suc at) 0 code h) m
+      (evaluate f arrays e)
       (goes_equal _ _ m (sets W at zero_code code g (register d) 0 refl ∙ here_is W (at + 1) (suc at) 0 code h (omega arith)))
       (p (suc d) (suc at) (sub ∷ rest) h fits (All-tail IsNode (tree.Minus line e) (nodes e) small) (omega (arith, room)) (set_count g d 0 count)))
       (λ v i j.
       let keeps : (z : ℕ) → z < d → slice_index i z ≡ slice_index g z =
-          λ z below. j.keeps z (omega (arith, below)) ∙ set_keeps g d 0 z low' below in
+      λ z below. j.keeps z (omega (arith, below)) ∙ set_keeps g d 0 z low' below in
       let nought : value_of (held i (register d)) ≡ pos 0 =
-          ap value_of (held_at i d low' ∙ j.keeps d (omega arith) ∙ set_at g d 0 count low') in
+      ap value_of (held_at i d low' ∙ j.keeps d (omega arith) ∙ set_at g d 0 count low') in
       let value : value_of (held i (register (suc d))) ≡ v = ap value_of (held_at i (suc d) low) ∙ j.value.value in
       meets_at W (n + 1) done rest (InReg d g) (capsule_from W n 0 (sub ∷ rest) i) m (at_line line (negated v)) (omega arith)
       (whole_meets W m g i d low j.count keeps sub n line rest (neg_ℤ v)
@@ -772,7 +775,8 @@ module _ (lengths : List ℕ) (scope : Scope) (layout : Layout) (f : Frame) (arr
       (goes_meets W (from + size_of right) last (InReg (suc d) h) (capsule_from W n 0 mid h) (capsule_from W from 0 mid h) m (evaluate f arrays right)
       (goes_equal _ _ m (here_is W n from 0 mid h (omega arith)))
       (q (suc d) from last h fits.1 (all_behind IsNode (nodes left) (nodes right) parts) (omega (arith, fit, some_node left)) k.count)) (λ y i j.
-      meets_at W (from + size_of right + 1) done rest (InReg d g) (capsule_from W (from + size_of right) 0 last i) m (at_line line (applied o x y)) (omega arith)
+      meets_at W (from + size_of right + 1) done rest (InReg d g) (capsule_from W (from + size_of right) 0 last i) m (at_line line (applied o x y))
+      (omega arith)
       (plain_meets W m g i d low j.count (λ z below. j.keeps z (omega (arith, below)) ∙ k.keeps z below) x y
       (subst (λ (w : ℕ). HoldsValue w x) (sym (j.keeps d (omega arith))) k.value) j.value o plain (from + size_of right) line rest)))
 

@@ -22,7 +22,7 @@ use Rattle.ppm_translation.specs.Statements.{hidden_layout}
 use Rattle.ppm_translation.proofs.CaughtLemmas.{IsEachOnce}
 use Rattle.ppm_compiling.specs.Correct.{words_begun}
 use Rattle.ppm_compiling.proofs.ChainLemmas.{Cost, cost}
-use Rattle.ppm_compiling.proofs.Doing.{LetDoes, AssignDoes, PutDoes, TestDoes, SplitDoes, GiveDoes, OnwardDoes, FinishDoes, CallDoes, ForkDoes, EachDoes, EntryDoes, HalvingDoes}
+use Rattle.ppm_compiling.proofs.Doing.{AreSmall, LetDoes, AssignDoes, PutDoes, TestDoes, SplitDoes, GiveDoes, OnwardDoes, FinishDoes, CallDoes, ForkDoes, EachDoes, EntryDoes, HalvingDoes}
 use Rattle.ppm_compiling.proofs.Places.{IsModest, lengths_of}
 
 module _ (lengths : List ℕ) (code : CodeParts) where
@@ -49,7 +49,7 @@ module _ (lengths : List ℕ) (code : CodeParts) where
 pub record IsModestProcedure (p : Procedure) : Type 0 where
   pub body : IsModest p.body
   pub few : named_slots p ≤ 24
-  pub give : (g : Give) → p.give ≡ Some g → length (nodes g.value) ≤ 48
+  pub give : (g : Give) → p.give ≡ Some g → AreSmall (nodes g.value)
 
 -- what is given
 pub record Given (t : ProgramTree) (code : CodeParts) : Type 0 where

@@ -1,43 +1,41 @@
 -- The hidden procedure of an `each` halves what it has in hand: it forks itself over both halves.
-use Rattle.std.proofs.Common.{◌≡◌, ◌≢◌, ◌≤◌, ◌<◌, ℕ, zero, suc, ◌+◌, ◌*◌, ◌/◌, ◌%◌, ◌^◌, Bool, true, false, nat_lt, nat_le, pos, List, [], ◌∷◌, None, length}
+use Rattle.std.proofs.Common.{◌≡◌, ◌≤◌, ◌<◌, ℕ, suc, ◌+◌, ◌*◌, ◌/◌, ◌^◌, Bool, nat_lt, nat_le, pos, List, [], ◌∷◌, None, length}
 use Rattle.std.proofs.Common.{inl, inr, replicate, refl, sym, ap, ap₂, ◌∙◌, subst, subst₂, arith}
-use Rattle.std.specs.Prelude.{slice_index, slice_set, if◌then◌else◌, ◌-◌, ◌&&◌, ◌+ℤ◌, int_div}
+use Rattle.std.specs.Prelude.{slice_index, slice_set, if◌then◌else◌, ◌-◌, ◌&&◌, ◌+ℤ◌}
 use Rattle.std.specs.List.{sum}
 use Rattle.std.proofs.lemmas.Bool.{lt-ltb, le-leb}
 use Rattle.std.proofs.lemmas.Nat.{div-mul-add, mod-mul-add}
-use Rattle.ppm_strands.specs.Tree.{Words, Tree, Strand, Fork as Forking}
-use Rattle.ppm_capsules.specs.Capsule.{Memory, Capsule}
-use Rattle.ppm_capsules.specs.Strand.{New, own_of, shared_of, new_of}
+use Rattle.ppm_strands.specs.Tree.{Words, Strand, Fork as Forking}
+use Rattle.ppm_capsules.specs.Capsule.{Memory, Ends}
+use Rattle.ppm_capsules.specs.Strand.{new_of}
 use Rattle.ppm_words.specs.TwosComplement.{value_of}
 use Rattle.ppm_words.specs.declared.trap.Trap.TheVariants.{Overflow, Split}
-use Rattle.ppm_code.specs.declared.act.Act.{Act}
 use Rattle.ppm_code.specs.declared.act.Act.TheVariants.{Sets}
+use Rattle.ppm_code.specs.declared.act.End.{End}
 use Rattle.ppm_code.specs.declared.act.End.TheVariants as ends
 use Rattle.ppm_code.specs.declared.code.CodeParts.{CodeParts}
 use Rattle.ppm_code.specs.declared.instr.Instr.{Instr}
 use Rattle.ppm_code.specs.declared.instr.Instr.TheVariants as instr
 use Rattle.ppm_code.specs.declared.location.FrameWord.{FrameWord}
-use Rattle.ppm_code.specs.declared.location.FrameWord.TheVariants.{Slot, Value}
+use Rattle.ppm_code.specs.declared.location.FrameWord.TheVariants.{Slot}
 use Rattle.ppm_code.specs.declared.register.Register.{Register}
 use Rattle.ppm_code.specs.Acts.{start_of, length_of, traps, quotient_of, cut_left_of, cut_right_of, whole as fitting}
 use Rattle.ppm_code.specs.Sizes.{slots_of, left_at, right_at}
 use Rattle.ppm_code.specs.Locations.{Where}
-use Rattle.ppm_code.specs.Capsules.{capsule_of, capsule_from}
+use Rattle.ppm_code.specs.Capsules.{capsule_from}
 use Rattle.ppm_code.specs.Strands.{instrs_of, entry_of, built}
-use Rattle.ppm_tree.specs.declared.named.Named.{Named}
-use Rattle.ppm_tree.specs.Tree.{Block}
-use Rattle.ppm_tree.specs.State.{Region, Frame, Arrays}
+use Rattle.ppm_tree.specs.State.{Frame, Arrays}
 use Rattle.ppm_owning.specs.Coming.{stretch}
-use Rattle.ppm_regions.specs.Scope.{Scope, declared, each_scope}
-use Rattle.ppm_translation.specs.Layout.{Layout, slot_of, caught, register}
+use Rattle.ppm_regions.specs.Scope.{Scope}
+use Rattle.ppm_translation.specs.Layout.{Layout, caught, register}
 use Rattle.ppm_translation.specs.Numbers.{halving, halved}
 use Rattle.ppm_translation.specs.Slots.{hidden_slots, frame_words, fork_words}
-use Rattle.ppm_translation.specs.Statements.{halving_code, names_code, stores_code, hidden_layout}
+use Rattle.ppm_translation.specs.Statements.{halving_code, names_code, stores_code}
 use Rattle.ppm_compiling.proofs.ChainLemmas.{cost, Chain}
-use Rattle.ppm_compiling.proofs.Holding.{HoldsValue, Holds, offset_of, region_word, sweep_frame, at_work, waits, strands}
+use Rattle.ppm_compiling.proofs.Holding.{HoldsValue, offset_of, region_word, at_work, waits, strands}
 use Rattle.ppm_compiling.proofs.Doing.{HalvingDoes}
 use Rattle.ppm_compiling.proofs.ExprLemmas.{Goes, goes_on, goes_equal, sets, set_count, holds_number}
-use Rattle.ppm_compiling.proofs.StepLemmas.{start_at, opens_at, whole}
+use Rattle.ppm_compiling.proofs.StepLemmas.{start_at, whole}
 use Rattle.ppm_compiling.proofs.SlotLemmas.{sweep_holds, half_catches, part_slot, index_slot}
 use Rattle.ppm_compiling.proofs.BlockLemmas.{Loads, names_go, half_stored, half_own, half_shared, half_else, IsHalf, half_built, half_go}
 use Rattle.ppm_compiling.proofs.EntryLemmas.{value_is}
@@ -73,7 +71,8 @@ module _ (line : ℕ) (d : Register) (start count at : ℕ) (low : count ≤ 419
 
   right_does : start ≤ 4194304 → cut_right_of line d word_ at ≡ Sets d ((start + at) * 2 ^ 32 + (count - at))
   right_does small =
-      ap₂ (λ (s n : ℕ). if nat_le at n && nat_lt (s + at) (2 ^ 32) then Sets d ((s + at) * 2 ^ 32 + (n - at)) else traps Split line) is_start is_length
+      ap₂ (λ (s n : ℕ). if nat_le at n && nat_lt (s + at) (2 ^ 32) then Sets d ((s + at) * 2 ^ 32 + (n - at)) else traps Split line)
+      is_start is_length
       ∙ ap₂ (λ (b c : Bool). if b && c then Sets d ((start + at) * 2 ^ 32 + (count - at)) else traps Split line) (le-leb at count within)
       (lt-ltb (start + at) (2 ^ 32) (omega (arith, small, within, low)))
 
@@ -133,7 +132,7 @@ module _ (lengths : List ℕ) (code : CodeParts) (scope : Scope) (layout : Layou
           let three = sets W 6 (instr.CutRight (register 3) (register 0) (register 1) line) at_index with_left (register 3) right is_right in
           let five = sets W 8 (instr.Add (register 5) (register 4) (register 1) line) rest with_index (register 5) total is_total in
           let loaded : Goes (capsule_from W 7 0 at_index with_right) m_ (capsule_from W 8 0 at_sum with_index) m_ =
-              record { ends = refl; left = refl; asks = refl } in
+          record { ends = refl; left = refl; asks = refl } in
           goes_on (goes_equal (capsule_from W 4 0 at_half with_length) (capsule_from W 5 0 at_left with_half) m_ one)
           (goes_on (goes_equal (capsule_from W 5 0 at_left with_half) (capsule_from W 6 0 at_right with_left) m_ two)
           (goes_on (goes_equal (capsule_from W 6 0 at_right with_left) (capsule_from W 7 0 at_index with_right) m_ three)
@@ -145,73 +144,132 @@ module _ (lengths : List ℕ) (code : CodeParts) (scope : Scope) (layout : Layou
         (set_count with_length 1 half (set_count (slice_set (slice_set (replicate 64 0) 0 (own (Slot 0))) 1 (length_of (own (Slot 0)))) 2 2
         (set_count (slice_set (replicate 64 0) 0 (own (Slot 0))) 1 (length_of (own (Slot 0))) (set_count (replicate 64 0) 0 (own (Slot 0)) refl)))))))
 
+  -- what stands behind these: the names, and then both frames are stored
+  module _ (h slots count line : ℕ) (half left right total : ℕ) (few : count ≤ 24) where
+    abbrev end_ : End
+    end_ = ends.Fork h h (halved at) None None
+
+    abbrev right_offset : ℕ
+    right_offset = 11 + frame_words slots
+
+    abbrev right_stores : List Instr
+    right_stores =
+        instr.StoreNew right_offset (register 3) ∷ instr.StoreNew (suc right_offset) (register 5)
+        ∷ stores_code (suc (suc right_offset)) 6 count (instr.Ends end_ ∷ [])
+
+    abbrev left_stores : List Instr
+    left_stores = instr.StoreNew 11 (register 2) ∷ instr.StoreNew 12 (register 4) ∷ stores_code 13 6 count right_stores
+
+    named : Loads W m_ 6 count (λ k. own (Slot (2 + k))) 9 (names_code 2 6 count left_stores) left_stores (with_total half left right total)
+    named = names_go W m_ 2 6 count 9 left_stores (with_total half left right total) (with_total_count half left right total) (omega (arith, few))
+
+    -- the registers then, and the memory with the left frame and with both
+    abbrev registers : List ℕ
+    registers = named.registers
+
+    abbrev with_left_frame : Memory Where
+    with_left_frame = half_stored registers 11 2 4 count m_
+
+    abbrev with_frames : Memory Where
+    with_frames = half_stored registers right_offset 3 5 count with_left_frame
+
+    stores_goes : Goes (capsule_from W named.number 0 left_stores registers) m_ (Ends end_) with_frames
+    stores_goes =
+        let first = half_go registers 11 2 4 count m_ W named.number right_stores (omega arith) (omega arith) (omega (arith, few)) in
+        let second = half_go registers right_offset 3 5 count with_left_frame W first.0 (instr.Ends end_ ∷ []) (omega arith) (omega arith)
+        (omega (arith, few)) in
+        goes_on first.1 second.1
+
+    -- all instructions behind the room
+    all_goes : quotient_of line (register 1) (value_of (length_of (own (Slot 0)))) (value_of 2) ≡ Sets (register 1) half
+        → cut_left_of line (register 2) (own (Slot 0)) half ≡ Sets (register 2) left
+        → cut_right_of line (register 3) (own (Slot 0)) half ≡ Sets (register 3) right
+        → fitting line (register 5) (value_of (own (Slot 1)) +ℤ value_of half) ≡ Sets (register 5) total
+        → Goes (capsule_from W 4 0 (at_half half left right total line (names_code 2 6 count left_stores)) (with_length half left right total)) m_
+        (Ends end_) with_frames
+    all_goes is_half is_left is_right is_total =
+        goes_on (front_goes half left right total line (names_code 2 6 count left_stores) is_half is_left is_right is_total)
+        (goes_on named.goes stores_goes)
+
+    -- the two frames, and what they keep of this one
+    left_frame : 2 + count ≤ slots → IsHalf registers 11 2 4 count m_ (built left_at (new_of with_frames))
+    left_frame fit = half_built registers 11 2 4 count m_ with_frames 5 refl
+        (λ k low high. half_else registers right_offset 3 5 count with_left_frame k (inl (omega (arith, high, fit))))
+        (half_else registers right_offset 3 5 count with_left_frame 9 (inl (omega arith)) ∙ half_else registers 11 2 4 count m_ 9 (inl (omega arith)))
+
+    right_frame : 2 + count ≤ slots → slots_of code h ≡ slots
+        → IsHalf registers right_offset 3 5 count with_left_frame (built (right_at code h) (new_of with_frames))
+    right_frame fit is = half_built registers right_offset 3 5 count with_left_frame with_frames (right_at code h) (omega (arith, is))
+        (λ k low high. refl)
+        (half_else registers right_offset 3 5 count with_left_frame (right_at code h + 4) (inl (omega (arith, is)))
+        ∙ half_else registers 11 2 4 count m_ (right_at code h + 4) (inr (omega (arith, is, fit))))
+
+    kept : (k : ℕ) → k < count → slice_index registers (6 + k) ≡ own (Slot (suc (suc k)))
+    kept k low = named.loaded.words k low ∙ ap (λ (s : ℕ). own (Slot s)) (let e : 2 + k ≡ suc (suc k) = omega arith in e)
+
+    -- the whole capsule
+    forks : instrs_of code (halving at) ≡ halving_code at h slots count line → at ≡ entry_of code h
+        → Goes (capsule_from W 4 0 (at_half half left right total line (names_code 2 6 count left_stores)) (with_length half left right total)) m_
+        (Ends end_) with_frames
+        → Chain (strands lengths code) (cost 1 1 1 (fork_words slots slots)) (Strand (at_work own (halving at))) a
+        (Forking (waits own (halved at) None None) (Strand (at_work (built left_at (new_of with_frames)) at))
+        (Strand (at_work (built (right_at code h) (new_of with_frames)) at))) a
+    forks stands is_entry goes =
+        let room = fork_words slots slots in
+        let first = built left_at (new_of with_frames) in
+        let second = built (right_at code h) (new_of with_frames) in
+        let chain = whole lengths code (halving at) (halving_code at h slots count line) stands own a end_ with_frames room goes.ends goes.left
+        (ap (λ (z : ℕ). room + z) goes.asks ∙ (let e : room + 0 ≡ room = omega arith in e)) in
+        subst (λ (e : ℕ). Chain (strands lengths code) (cost 1 1 1 room) (Strand (at_work own (halving at))) a
+        (Forking (waits own (halved at) None None) (Strand (at_work first e)) (Strand (at_work second e))) a) (sym is_entry)
+        (subst₂ (λ (w : FrameWord → ℕ) (b : Words). Chain (strands lengths code) (cost 1 1 1 room) (Strand (at_work own (halving at))) a
+        (Forking (waits w (halved at) None None) (Strand (at_work first (entry_of code h))) (Strand (at_work second (entry_of code h)))) b)
+        (half_own registers right_offset 3 5 count with_left_frame ∙ half_own registers 11 2 4 count m_)
+        (half_shared registers right_offset 3 5 count with_left_frame ∙ half_shared registers 11 2 4 count m_) chain)
+
   pub halving_does : HalvingDoes lengths code scope layout f own a arrays at next
   halving_does i x r block h q n m stands has_slots is_entry holds new_i new_x other no_i no_x distinct few bound within two =
       let count = length (caught layout block) in
       let slots = hidden_slots count block in
-      let room = fork_words slots slots in
       let half = m / 2 in
       let start = offset_of lengths q.array + (q.start + n) in
-      let left_word = start * 2 ^ 32 + half in
-      let right_word = (start + half) * 2 ^ 32 + (m - half) in
+      let left = start * 2 ^ 32 + half in
+      let right = (start + half) * 2 ^ 32 + (m - half) in
       let total = n + half in
       let smaller : half ≤ m = omega arith in
       let small : m ≤ 4194304 = omega (arith, within) in
       let small_n : n ≤ 4194304 = omega (arith, within) in
       let small_half : half ≤ 4194304 = omega (arith, small, smaller) in
       let small_start : start ≤ 4194304 = omega (arith, bound) in
+      let fit : 2 + count ≤ slots = omega arith in
       let is_part : own (Slot 0) ≡ start * 2 ^ 32 + m = part_slot lengths scope layout f i x r block other no_i no_x q n m own holds in
       let is_index = index_slot lengths scope layout f i x r block other no_i no_x q n m own holds in
-      let last : List Instr = instr.Ends (ends.Fork h h (halved at) None None) ∷ [] in
-      let o = 11 + frame_words slots in
-      let at_second : List Instr =
-          instr.StoreNew o (register 3) ∷ instr.StoreNew (suc o) (register 5) ∷ stores_code (suc (suc o)) 6 count last in
-      let at_first : List Instr = instr.StoreNew 11 (register 2) ∷ instr.StoreNew 12 (register 4) ∷ stores_code 13 6 count at_second in
-      let at_names = names_code 2 6 count at_first in
-      let front = front_goes half left_word right_word total r.line at_names
-          (ap (λ (w : ℕ). quotient_of r.line (register 1) (value_of (length_of w)) (value_of 2)) is_part
-          ∙ ap (λ (k : ℕ). quotient_of r.line (register 1) (value_of k) (value_of 2)) (is_length r.line (register 1) start m half small smaller)
-          ∙ half_does r.line (register 1) m small)
-          (ap (λ (w : ℕ). cut_left_of r.line (register 2) w half) is_part ∙ left_does r.line (register 2) start m half small smaller)
-          (ap (λ (w : ℕ). cut_right_of r.line (register 3) w half) is_part ∙ right_does r.line (register 3) start m half small smaller small_start)
-          (sum_does r.line (register 5) (own (Slot 1)) n half is_index.value small_n small_half) in
-      let g = with_total half left_word right_word total in
-      let l = names_go W m_ 2 6 count 9 at_first g (with_total_count half left_word right_word total) (omega (arith, few)) in
-      let regs = l.registers in
-      let m1 = half_stored regs 11 2 4 count m_ in
-      let m2 = half_stored regs o 3 5 count m1 in
-      let first = half_go regs 11 2 4 count m_ W l.number at_second (omega arith) (omega arith) (omega (arith, few)) in
-      let second = half_go regs o 3 5 count m1 W first.0 last (omega arith) (omega arith) (omega (arith, few)) in
-      let goes = goes_on front (goes_on l.goes (goes_on first.1 second.1)) in
-      let frame = right_at code h in
-      let left = built left_at (new_of m2) in
-      let right = built frame (new_of m2) in
-      let left_half = half_built regs 11 2 4 count m_ m2 5 refl (λ k low high. half_else regs o 3 5 count m1 k (inl (omega (arith, high))))
-          (half_else regs o 3 5 count m1 9 (inl (omega arith)) ∙ half_else regs 11 2 4 count m_ 9 (inl (omega arith))) in
-      let right_half = half_built regs o 3 5 count m1 m2 frame (omega (arith, has_slots)) (λ k low high. refl)
-          (half_else regs o 3 5 count m1 (frame + 4) (inl (omega (arith, has_slots)))
-          ∙ half_else regs 11 2 4 count m_ (frame + 4) (inr (omega (arith, has_slots)))) in
-      let kept : (k : ℕ) → k < count → slice_index regs (6 + k) ≡ own (Slot (suc (suc k))) =
-          λ k low. l.loaded.words k low ∙ ap (λ (s : ℕ). own (Slot s)) (let e : 2 + k ≡ suc (suc k) = omega arith in e) in
-      let left_catches = half_catches lengths scope layout f i x r block other no_i no_x q n m own left holds
-          (λ k low. left_half.names k low ∙ kept k low) in
-      let right_catches = half_catches lengths scope layout f i x r block other no_i no_x q n m own right holds
-          (λ k low. right_half.names k low ∙ kept k low) in
-      let right_is : right_word ≡ region_word lengths (stretch (n + half) (m - half) q) =
-          ap (λ (s : ℕ). s * 2 ^ 32 + (m - half)) (let e : start + half ≡ offset_of lengths q.array + (q.start + (n + half)) = omega arith in e) in
-      let chain = whole lengths code (halving at) (halving_code at h slots count r.line) stands own a (ends.Fork h h (halved at) None None) m2 room
-          goes.ends goes.left (ap (λ (z : ℕ). room + z) goes.asks ∙ (let e : room + 0 ≡ room = omega arith in e)) in (
-        left,
-        right,
-        sweep_holds lengths scope layout f i x r block other no_i no_x q left n half left_catches (left_half.at_part ∙ l.loaded.keeps 2 (omega arith))
-            (subst (λ (v : ℕ). HoldsValue v (pos n)) (sym (left_half.at_index ∙ l.loaded.keeps 4 (omega arith))) is_index) left_half.value,
-        sweep_holds lengths scope layout f i x r block other no_i no_x q right (n + half) (m - half) right_catches
-            (right_half.at_part ∙ l.loaded.keeps 3 (omega arith) ∙ right_is)
-            (subst (λ (v : ℕ). HoldsValue v (pos total)) (sym (right_half.at_index ∙ l.loaded.keeps 5 (omega arith)))
-            (holds_number total (omega (arith, small_n, small_half)))) right_half.value,
-        subst (λ (e : ℕ). Chain (strands lengths code) (cost 1 1 1 room) (Strand (at_work own (halving at))) a
-            (Forking (waits own (halved at) None None) (Strand (at_work left e)) (Strand (at_work right e))) a) (sym is_entry)
-            (subst₂ (λ (w : FrameWord → ℕ) (b : Words). Chain (strands lengths code) (cost 1 1 1 room) (Strand (at_work own (halving at))) a
-            (Forking (waits w (halved at) None None) (Strand (at_work left (entry_of code h))) (Strand (at_work right (entry_of code h)))) b)
-            (half_own regs o 3 5 count m1 ∙ half_own regs 11 2 4 count m_) (half_shared regs o 3 5 count m1 ∙ half_shared regs 11 2 4 count m_) chain),
+      let goes = all_goes h slots count r.line half left right total few
+      (ap (λ (w : ℕ). quotient_of r.line (register 1) (value_of (length_of w)) (value_of 2)) is_part
+      ∙ ap (λ (k : ℕ). quotient_of r.line (register 1) (value_of k) (value_of 2)) (is_length r.line (register 1) start m half small smaller)
+      ∙ half_does r.line (register 1) m small)
+      (ap (λ (w : ℕ). cut_left_of r.line (register 2) w half) is_part ∙ left_does r.line (register 2) start m half small smaller)
+      (ap (λ (w : ℕ). cut_right_of r.line (register 3) w half) is_part ∙ right_does r.line (register 3) start m half small smaller small_start)
+      (sum_does r.line (register 5) (own (Slot 1)) n half is_index.value small_n small_half) in
+      let loaded = (named h slots count r.line half left right total few).loaded in
+      let keeps = kept h slots count r.line half left right total few in
+      let first = left_frame h slots count r.line half left right total few fit in
+      let second = right_frame h slots count r.line half left right total few fit has_slots in
+      let memory = with_frames h slots count r.line half left right total few in
+      let first_own = built left_at (new_of memory) in
+      let second_own = built (right_at code h) (new_of memory) in
+      let right_is : right ≡ region_word lengths (stretch (n + half) (m - half) q) =
+      ap (λ (s : ℕ). s * 2 ^ 32 + (m - half)) (let e : start + half ≡ offset_of lengths q.array + (q.start + (n + half)) = omega arith in e) in (
+        first_own,
+        second_own,
+        sweep_holds lengths scope layout f i x r block other no_i no_x q first_own n half
+            (half_catches lengths scope layout f i x r block other no_i no_x q n m own first_own holds (λ k low. first.names k low ∙ keeps k low))
+            (first.at_part ∙ loaded.keeps 2 (omega arith))
+            (subst (λ (v : ℕ). HoldsValue v (pos n)) (sym (first.at_index ∙ loaded.keeps 4 (omega arith))) is_index) first.value,
+        sweep_holds lengths scope layout f i x r block other no_i no_x q second_own total (m - half)
+            (half_catches lengths scope layout f i x r block other no_i no_x q n m own second_own holds (λ k low. second.names k low ∙ keeps k low))
+            (second.at_part ∙ loaded.keeps 3 (omega arith) ∙ right_is)
+            (subst (λ (v : ℕ). HoldsValue v (pos total)) (sym (second.at_index ∙ loaded.keeps 5 (omega arith)))
+            (holds_number total (omega (arith, small_n, small_half)))) second.value,
+        forks h slots count r.line half left right total few stands is_entry goes,
       )

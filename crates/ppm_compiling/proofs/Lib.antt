@@ -6,6 +6,10 @@ pub mod SlotLemmas
 pub mod ExprLemmas
 pub mod Places
 pub mod HoldLemmas
+pub mod StoreLemmas
+pub mod StatementLemmas
+pub mod PutLemmas
+pub mod SplitLemmas
 pub mod Given
 pub mod SweepLemmas
 pub mod BlockLemmas
@@ -15,3 +19,9 @@ pub mod LimitLemmas
 pub mod CountLemmas
 pub mod RootLemmas
 pub mod GivenLemmas
+pub mod SmallLemmas
+pub mod ReachLemmas
+pub mod Forward
+pub mod ArgumentLemmas
+pub mod CallLemmas
+pub mod ForkLemmas

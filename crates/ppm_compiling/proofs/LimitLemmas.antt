@@ -1,10 +1,10 @@
 -- Within the limits and the bounds each procedure that a name stands for is small, and the arrays have few words.
-use Rattle.std.proofs.Common.{◌≡◌, ◌≤◌, cond, Bool, true, false, ℕ, List, [], ◌∷◌, Option, Some, length, arith, subst}
+use Rattle.std.proofs.Common.{◌≡◌, ◌≤◌, cond, Bool, true, false, ℕ, List, [], ◌∷◌, Option, Some, arith, subst}
 use Rattle.std.specs.Str.{bytes_eq}
 use Rattle.std.specs.List.{All, AllByRecursion, sum}
 use Rattle.std.proofs.lemmas.List.Elements.{All-head, recursion_from_All}
 use Rattle.ppm_tree.specs.Tree.{Give, Procedure, ProgramTree}
-use Rattle.ppm_tree.specs.Parts.{nodes, nodes_of, statements_in, gives_of}
+use Rattle.ppm_tree.specs.Parts.{statements_in, gives_of}
 use Rattle.ppm_tree.specs.Limits.{IsSmallStatement, IsSmallGive, IsSmall, IsWithin}
 use Rattle.ppm_tree.specs.State.{no_procedure, procedure_named}
 use Rattle.ppm_bounds.specs.declared.bound.Bound.TheVariants as bound
@@ -51,16 +51,12 @@ keeps_none = record { own = omega arith; hidden = tt }
 
 pub modest_procedures : (t : ProgramTree) → IsWithin t → IsWithinBounds t → (x : List ℕ) → IsModestProcedure (procedure_named t.procedures x)
 modest_procedures t within bounds x =
-    let p = procedure_named t.procedures x in
     let small = small_parts t within x in
     let few = of_named (Keeps bound.Slots) keeps_none t.procedures bounds.slots x in
     record {
-      body = record {
-        nodes = weaker IsSmallStatement (λ s. length (nodes_of s) ≤ 48) (λ s h. h.count) (statements_in p.body) small.statements;
-        slots = few.hidden;
-      };
+      body = record { small = small.statements; slots = few.hidden };
       few = omega (arith, few.own);
-      give = λ g e. (small.give g e).count;
+      give = λ g e. let h = small.give g e in record { count = h.count; each = h.nodes };
     }
 
 pub small_arrays : (t : ProgramTree) → IsWithin t → sum (lengths_of t) ≤ 4194304
