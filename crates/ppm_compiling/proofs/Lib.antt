@@ -15,6 +15,10 @@ pub mod SweepLemmas
 pub mod BlockLemmas
 pub mod EntryLemmas
 pub mod HalvingLemmas
+pub mod LimitLemmas
+pub mod CountLemmas
+pub mod RootLemmas
+pub mod GivenLemmas
 pub mod SmallLemmas
 pub mod ReachLemmas
 pub mod Forward
