@@ -155,7 +155,7 @@ module _ (t : ProgramTree) (code : CodeParts) (facts : Given t code) where
       }
     where
       named_room : (p : Procedure) → length (parameter_layout p.parameters) + most_in_force p.body ≤ named_slots p
-      named_room p = let same = length-map (λ (p : Parameter). p.name.name) p.parameters in omega (arith, same)
+      named_room p = let same = length-map p.parameters (λ (p : Parameter). p.name.name) in omega (arith, same)
 
   -- the region of an `each` lies in its array
   pub each_inside : (scope : Scope) (layout : Layout) (spare : ℕ) (i x r : Named) (s b : Block) (f : Frame) → Place t scope layout spare (Then (Each i x r s) b) f
