@@ -12,8 +12,6 @@ mod image;
 mod laws;
 mod store;
 mod strand;
-#[cfg(test)]
-mod tests;
 
 pub use depth::{DepthRun, depth_first};
 pub use laws::orders_come_to_one_end;

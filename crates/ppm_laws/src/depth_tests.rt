@@ -3,8 +3,8 @@ ghost use Rattle.std.specs.Prelude.{◌≡◌, ◌↔◌, ◌<◌, IfOk, IfSome,
 ghost use Rattle.std.specs.List.{All};
 ghost use Rattle.ppm_code.specs.Tidy.{IsTidy};
 
-use crate::{DepthRun, depth_first, orders_come_to_one_end};
 use ppm_code::Code;
+use ppm_depth::{DepthRun, depth_first, orders_come_to_one_end};
 use ppm_reading::read_listing;
 use ppm_war::tidy;
 use ppm_words::{Input, Items, Name, NamedArray, Outcome, Trap};
