@@ -63,9 +63,13 @@ fault_text pass number at place =
 abbrev pub refusal_text : Refusal → List ℕ
 refusal_text r = fault_text (pass_name r.pass) r.number (place_name r.pass) r.place
 
--- a line with the line of the first statement that is not compiled yet
-abbrev pub not_compiled_text : ℕ → List ℕ
-not_compiled_text line = ended_line (codes "source refused: not compiled yet line " ++ decimal line)
+-- a line with the processor that has no turns left
+abbrev pub turns_text : ℕ → List ℕ
+turns_text processor = ended_line (codes "out of turns: processor " ++ decimal processor)
+
+-- a line with the place that has no room left
+abbrev pub room_text : ℕ → List ℕ
+room_text place = ended_line (codes "out of room: place " ++ decimal place)
 
 -- a line with the turns within which a run did not end
 abbrev pub not_within_text : ℕ → List ℕ
@@ -96,14 +100,16 @@ listing_text r = ended_line (codes "listing refused: " ++ decimal r.number ++ co
 abbrev pub out_text : Answer → List ℕ
 out_text (answers.Ended arrays) = arrays_text arrays
 out_text (answers.Trapped t line) = trap_text t line
+out_text (answers.Listed listing) = listing
 out_text answers.Accepted = accepted_text
 out_text _ = []
 
 -- what is written on err
 abbrev pub err_text : Answer → List ℕ
 err_text (answers.NotWithin turns) = not_within_text turns
+err_text (answers.OutOfTurns processor) = turns_text processor
+err_text (answers.OutOfRoom place) = room_text place
 err_text (answers.SourceRefused r) = refusal_text r
-err_text (answers.NotCompiled line) = not_compiled_text line
 err_text (answers.Conflicting c) = conflict_text c
 err_text (answers.ListingRefused r) = listing_text r
 err_text answers.WordsRefused = ended_line (codes "words refused")

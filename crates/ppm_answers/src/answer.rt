@@ -12,10 +12,14 @@ pub enum Answer {
     Trapped(Trap, u32),
     /// The run did not end within so many turns.
     NotWithin(u64),
+    /// This processor has no turns left, and the run has not ended; processors count from 0.
+    OutOfTurns(u32),
+    /// The pool of this place has no room for a block that the run asks for; places count from 0.
+    OutOfRoom(u32),
+    /// The program of the text is compiled to the code with this listing.
+    Listed(Items<u8>),
     /// The text is refused for this reason.
     SourceRefused(Refusal),
-    /// The compiler does not take the statement in this line yet; lines count from 1.
-    NotCompiled(u32),
     /// The text is the listing of a code without conflicts.
     Accepted,
     /// The text is the listing of a code with this conflict.

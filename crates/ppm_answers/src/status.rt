@@ -5,7 +5,7 @@ ghost use Rattle.ppm_answers.specs.Statuses.{number_of};
 /// How the program ends, by the number that it hands to its caller.
 #[derive(Clone, Copy, Debug, PartialEq, Eq)]
 pub enum Status {
-    /// The run ended, and its arrays are on out; or `check` accepts a code.
+    /// The run ended, and its arrays are on out; or the listing of a code is; or `check` accepts a code.
     Ended = 0,
     /// The run ended by a trap, which is reported on out.
     Trapped = 1,
@@ -13,6 +13,10 @@ pub enum Status {
     SourceRefused = 2,
     /// The words give no command.
     WordsRefused = 3,
+    /// A processor has no turns left.
+    OutOfTurns = 4,
+    /// A place has no room left.
+    OutOfRoom = 5,
     /// The source of bytes failed.
     ReadFault = 7,
     /// Out or err failed, and may have a front of its text.

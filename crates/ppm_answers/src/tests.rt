@@ -133,10 +133,17 @@ fn answers_have_texts_and_statuses(rt: HostRuntime) -> Result<(), Fail> {
             2,
         ),
         (
-            Answer::NotCompiled(7),
+            Answer::OutOfTurns(0),
             "",
-            "source refused: not compiled yet line 7\n",
-            2,
+            "out of turns: processor 0\n",
+            4,
+        ),
+        (Answer::OutOfRoom(7), "", "out of room: place 7\n", 5),
+        (
+            Answer::Listed(Items::from_vec(b"ppm 1\nroot 0\n".to_vec(alloc)?)),
+            "ppm 1\nroot 0\n",
+            "",
+            0,
         ),
         (
             Answer::NotWithin(268_435_456),

@@ -4,7 +4,7 @@ ghost use Rattle.std.specs.Cow.{cow_slice_items};
 ghost use Rattle.std.specs.List.{flat_map};
 ghost use Rattle.std.specs.String.{string_bytes};
 ghost use Rattle.ppm_answers.specs.Texts.{IsFixed, out_text, err_text, refusal_text, fault_text, pass_name as name_of_pass, place_name as name_of_place};
-ghost use Rattle.ppm_answers.specs.Texts.{class_text, conflict_text, listing_text, not_compiled_text, not_within_text};
+ghost use Rattle.ppm_answers.specs.Texts.{class_text, conflict_text, listing_text, not_within_text, turns_text, room_text};
 ghost use Rattle.ppm_answers.specs.Texts.{arrays_text, array_text, value_text, trap_text, trap_name as name_of_trap};
 
 use crate::answer::Answer;
@@ -48,13 +48,21 @@ pub fn texts_of(alloc: Global, answer: &Answer) -> Result<(Text, Text), AllocErr
             CowSlice::Borrowed(none),
             CowSlice::Owned(refusal_text_of(alloc, *refusal)?),
         )),
-        Answer::NotCompiled(line) => Ok((
-            CowSlice::Borrowed(none),
-            CowSlice::Owned(not_compiled_text_of(alloc, *line)?),
-        )),
         Answer::NotWithin(turns) => Ok((
             CowSlice::Borrowed(none),
             CowSlice::Owned(not_within_text_of(alloc, *turns)?),
+        )),
+        Answer::OutOfTurns(processor) => Ok((
+            CowSlice::Borrowed(none),
+            CowSlice::Owned(turns_text_of(alloc, *processor)?),
+        )),
+        Answer::OutOfRoom(place) => Ok((
+            CowSlice::Borrowed(none),
+            CowSlice::Owned(room_text_of(alloc, *place)?),
+        )),
+        Answer::Listed(listing) => Ok((
+            CowSlice::Owned(listing.as_slice().to_vec(alloc)?),
+            CowSlice::Borrowed(none),
         )),
         Answer::Accepted => Ok((CowSlice::Borrowed(ACCEPTED), CowSlice::Borrowed(none))),
         Answer::Conflicting(conflict) => Ok((
@@ -110,11 +118,19 @@ fn listing_text_of(alloc: Global, refusal: ListingRefusal) -> Result<Vec<u8>, Al
     Ok(text.into_bytes())
 }
 
-/// The line of a statement that is not compiled yet.
-fn not_compiled_text_of(alloc: Global, line: u32) -> Result<Vec<u8>, AllocError>
-    ensures { IfOk result (λ text. text.items ≡ not_compiled_text line) }
+/// The line of a processor that has no turns left.
+fn turns_text_of(alloc: Global, processor: u32) -> Result<Vec<u8>, AllocError>
+    ensures { IfOk result (λ text. text.items ≡ turns_text processor) }
 {
-    let text = format!(in alloc; "source refused: not compiled yet line {line}\n")?;
+    let text = format!(in alloc; "out of turns: processor {processor}\n")?;
+    Ok(text.into_bytes())
+}
+
+/// The line of a place that has no room left.
+fn room_text_of(alloc: Global, place: u32) -> Result<Vec<u8>, AllocError>
+    ensures { IfOk result (λ text. text.items ≡ room_text place) }
+{
+    let text = format!(in alloc; "out of room: place {place}\n")?;
     Ok(text.into_bytes())
 }
 

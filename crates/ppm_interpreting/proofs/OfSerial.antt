@@ -56,6 +56,7 @@ module _ (turns : ℕ) where
       arrays_answer : (answer : Answer) → HasRead turns o answer → IsWritten o.out o.err answer status → status ≡ statuses.Ended →
           WritesArrays turns o
       arrays_answer (answers.Ended arrays) h w e = (arrays, h, w.out_takes.0)
+      arrays_answer (answers.Listed listing) h w e = absurd h.2
       arrays_answer answers.Accepted h w e = absurd h.2
       arrays_answer answer h w e = let own = w.own in cc
 
@@ -69,7 +70,6 @@ module _ (turns : ℕ) where
       refusal_answer : (answer : Answer) → HasRead turns o answer → IsWritten o.out o.err answer status →
           status ≡ statuses.SourceRefused → WritesRefusal turns o
       refusal_answer (answers.SourceRefused r) h w e = (r, h, w.err_takes.0)
-      refusal_answer (answers.NotCompiled line) h w e = absurd h.2
       refusal_answer answer h w e = let own = w.own in cc
 
       -- an answer of status 11 is that more turns are spent

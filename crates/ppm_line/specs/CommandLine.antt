@@ -112,9 +112,9 @@ idle = choice "idle" "leave" "park"
 abbrev pub command_line : List CommandRule
 command_line =
     command "run"
-    (one_processor ∷ later turns ∷ later room ∷ later slots ∷ later looks ∷ later seed ∷ later faults ∷ later takeover ∷ later idle ∷ [])
+    (one_processor ∷ turns ∷ room ∷ later slots ∷ later looks ∷ later seed ∷ later faults ∷ later takeover ∷ later idle ∷ [])
     ∷ command "serial" (turns ∷ [])
-    ∷ later_command "code" []
+    ∷ command "code" []
     ∷ command "check" []
     ∷ later_command "replay" (processors ∷ turns ∷ room ∷ slots ∷ takeover ∷ schedule ∷ [])
     ∷ later_command "self" (few_processors ∷ number "size" 1 4096 64 ∷ seed ∷ number "count" 0 4096 0 ∷ [])

@@ -5,7 +5,7 @@ use Rattle.std.specs.Str.Parse.{digits_value, without_leading_plus}
 use Rattle.clap.specs.Words.{Kinds, Row, Text, fault_of, one_of, subcommand_of}
 use Rattle.clap.specs.ValueTests.{is_unsigned_in}
 use Rattle.ppm_line.specs.Application.{ppm_application}
-use Rattle.ppm_line.specs.CommandLine.{Form, Number, OptionRule, one_processor, turns}
+use Rattle.ppm_line.specs.CommandLine.{Form, Number, OptionRule, one_processor, turns, room}
 use Rattle.ppm_line.specs.declared.command.Command.{Command}
 use Rattle.ppm_line.specs.declared.command.Command.TheVariants as commands
 use Rattle.ppm_line.specs.declared.command.RunOptions.{RunOptions}
@@ -30,7 +30,9 @@ number_given o rows = option_and_then (number_in o.form) (one_of o.name rows)
 
 -- the options of `run`, if each has a value of its form
 abbrev pub run_options : List Row → Option RunOptions
-run_options rows = option_map (λ n. record { processors = n }) (number_given one_processor rows)
+run_options rows =
+    option_and_then (λ p. option_and_then (λ n. option_map (λ w. record { processors = p; turns = n; room = w })
+    (number_given room rows)) (number_given turns rows)) (number_given one_processor rows)
 
 -- the options of `serial`, if each has a value of its form
 abbrev pub serial_options : List Row → Option SerialOptions
@@ -41,6 +43,7 @@ abbrev pub command_named : Text → List Row → Option Command
 command_named name rows =
     if bytes_eq name (codes "run") then option_map (λ o. commands.Run o) (run_options rows)
     else if bytes_eq name (codes "serial") then option_map (λ o. commands.Serial o) (serial_options rows)
+    else if bytes_eq name (codes "code") then Some commands.Code
     else if bytes_eq name (codes "check") then Some commands.Check
     else None
 
@@ -64,6 +67,8 @@ IsOfForm _ n = ⊥
 
 -- each option of the command is in its range
 abbrev pub IsInRange : Command → Type 0
-IsInRange (commands.Run options) = IsOfForm one_processor.form options.processors
+IsInRange (commands.Run options) =
+    IsOfForm one_processor.form options.processors × IsOfForm turns.form options.turns × IsOfForm room.form options.room
 IsInRange (commands.Serial options) = IsOfForm turns.form options.turns
+IsInRange commands.Code = ⊤
 IsInRange commands.Check = ⊤

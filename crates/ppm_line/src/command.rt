@@ -5,7 +5,7 @@ ghost use Rattle.ppm_line.specs.Application.{option_rule};
 ghost use Rattle.ppm_line.specs.Words.{IsInRange, command_in, command_named as named_by, kept_in as kept, number_given};
 ghost use Rattle.ppm_line.specs.Words.{run_options as options_in, serial_options as serial_options_in};
 
-use crate::table::{NumberOption, PROCESSORS, TURNS};
+use crate::table::{NumberOption, PROCESSORS, ROOM, TURNS};
 use clap::ArgMatches;
 
 /// What the program is asked for.
@@ -15,6 +15,8 @@ pub enum Command {
     Run(RunOptions),
     /// To interpret the source that is read.
     Serial(SerialOptions),
+    /// To list the code of the source that is read.
+    Code,
     /// To check the listing that is read for conflicts.
     Check,
 }
@@ -24,6 +26,10 @@ pub enum Command {
 pub struct RunOptions {
     /// How many processors there are: from 1 to 1, and 1 by default.
     pub processors: u32,
+    /// How many turns each processor may spend: from 1 to 268435456, and 16777216 by default.
+    pub turns: u64,
+    /// How many words the pool of a place has: from 64 to 1048576, and 65536 by default.
+    pub room: u32,
 }
 
 /// The options of `serial`.
@@ -52,6 +58,7 @@ fn command_named(name: &str, matches: &ArgMatches<'_>) -> Option<Command>
     match name {
         "run" => Some(Command::Run(run_options(matches)?)),
         "serial" => Some(Command::Serial(serial_options(matches)?)),
+        "code" => Some(Command::Code),
         "check" => Some(Command::Check),
         _ => None,
     }
@@ -63,7 +70,13 @@ fn run_options(matches: &ArgMatches<'_>) -> Option<RunOptions>
     ensures in_range { IfSome result (λ o. IsInRange (Command.Run o)) }
 {
     let processors = number_of(matches, PROCESSORS)?;
-    Some(RunOptions { processors })
+    let turns = number_of(matches, TURNS)?;
+    let room = number_of(matches, ROOM)?;
+    Some(RunOptions {
+        processors,
+        turns: u64::from(turns),
+        room,
+    })
 }
 
 /// The options of `serial` in its matches.

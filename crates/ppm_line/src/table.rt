@@ -6,6 +6,9 @@ const MOST_PROCESSORS: u32 = 1;
 /// The most turns that a run may have.
 const MOST_TURNS: u32 = 268_435_456;
 
+/// The most words that the pool of a place may have.
+const MOST_ROOM: u32 = 1_048_576;
+
 /// A command: its name and its options.
 #[derive(Clone, Copy, Debug)]
 pub(crate) struct CommandRow {
@@ -44,15 +47,27 @@ pub(crate) const TURNS: NumberOption = NumberOption {
     default: "16777216",
 };
 
+/// How many words the pool of a place has.
+pub(crate) const ROOM: NumberOption = NumberOption {
+    name: "room",
+    low: 64,
+    high: MOST_ROOM,
+    default: "65536",
+};
+
 /// The commands.
-pub(crate) const COMMANDS: [CommandRow; 3] = [
+pub(crate) const COMMANDS: [CommandRow; 4] = [
     CommandRow {
         name: "run",
-        options: &[PROCESSORS],
+        options: &[PROCESSORS, TURNS, ROOM],
     },
     CommandRow {
         name: "serial",
         options: &[TURNS],
+    },
+    CommandRow {
+        name: "code",
+        options: &[],
     },
     CommandRow {
         name: "check",

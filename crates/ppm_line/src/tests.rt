@@ -14,9 +14,16 @@ fn command_of_words(alloc: Global, words: &[&str]) -> Result<Option<Command>, Fa
 
 #[test]
 fn words_give_a_command_or_none(rt: HostRuntime) -> Result<(), Fail> {
-    let runs = Some(Command::Run(RunOptions { processors: 1 }));
+    let runs_with = |turns, room| {
+        Some(Command::Run(RunOptions {
+            processors: 1,
+            turns,
+            room,
+        }))
+    };
+    let runs = runs_with(16_777_216, 65_536);
     let within = |turns| Some(Command::Serial(SerialOptions { turns }));
-    let cases: [(&[&str], Option<Command>); 35] = [
+    let cases: [(&[&str], Option<Command>); 46] = [
         (&["ppm", "run"], runs),
         (&["any", "run"], runs),
         (&["ppm", "run", "--processors", "1"], runs),
@@ -33,7 +40,23 @@ fn words_give_a_command_or_none(rt: HostRuntime) -> Result<(), Fail> {
         ),
         (&["ppm", "--processors", "1", "run"], None),
         (&["ppm", "run", "--processors=-1"], None),
-        (&["ppm", "run", "--turns", "5"], None),
+        (&["ppm", "run", "--turns", "5"], runs_with(5, 65_536)),
+        (
+            &["ppm", "run", "--room", "64", "--turns=268435456"],
+            runs_with(268_435_456, 64),
+        ),
+        (
+            &["ppm", "run", "--room", "1048576"],
+            runs_with(16_777_216, 1_048_576),
+        ),
+        (&["ppm", "run", "--turns", "0"], None),
+        (&["ppm", "run", "--turns", "268435457"], None),
+        (&["ppm", "run", "--room", "63"], None),
+        (&["ppm", "run", "--room", "1048577"], None),
+        (&["ppm", "run", "--slots", "64"], None),
+        (&["ppm", "code", "--turns", "5"], None),
+        (&["ppm", "code", "x"], None),
+        (&["ppm", "serial", "--room", "64"], None),
         (&["ppm", "run", "x"], None),
         (&["ppm", "run", "--processors", "1", "x"], None),
         (&["ppm", "serial"], within(16_777_216)),
@@ -46,7 +69,7 @@ fn words_give_a_command_or_none(rt: HostRuntime) -> Result<(), Fail> {
         (&["ppm", "serial", "--turns", "268435457"], None),
         (&["ppm", "serial", "--turns", "0"], None),
         (&["ppm", "serial", "--processors", "1"], None),
-        (&["ppm", "code"], None),
+        (&["ppm", "code"], Some(Command::Code)),
         (&["ppm", "check"], Some(Command::Check)),
         (&["ppm", "check", "x"], None),
         (&["ppm", "check", "--processors", "1"], None),

@@ -1,4 +1,0 @@
-pub mod Straight
-pub mod Correct
-pub mod Code
-pub mod Machine
