@@ -1,2 +1,4 @@
+pub mod InputLemmas
+pub mod OutcomeLemmas
 pub mod OneAnswer
 pub mod OfRun

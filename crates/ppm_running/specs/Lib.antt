@@ -1,3 +1,4 @@
+pub mod Running
 pub mod Verdict
 pub mod Watchers
 pub mod Causes

@@ -1,45 +1,47 @@
 -- What `run` says of a text.
-use Rattle.std.specs.Prelude.{ℕ, List, ⊤}
+use Rattle.std.specs.Prelude.{◌≡◌, ℕ, List, ⊤, Bool, true, false, nat_le}
 use Rattle.ppm_words.specs.declared.outcome.Outcome.{Outcome}
 use Rattle.ppm_words.specs.declared.outcome.Outcome.TheVariants as outcome
+use Rattle.ppm_depth.specs.declared.depth.DepthRun.{DepthRun}
 use Rattle.ppm_tree.specs.Tree.{ProgramTree}
-use Rattle.ppm_tree.specs.Program.{main_of}
 use Rattle.ppm_judging.specs.Programs.{HasProgram}
 use Rattle.ppm_judging.specs.Refusals.{IsRefusal}
-use Rattle.ppm_straight.specs.Straight.{IsStraight, IsNotCompiled}
-use Rattle.ppm_straight.specs.Correct.{IsOutcome}
 use Rattle.ppm_answers.specs.declared.answer.Answer.{Answer}
 use Rattle.ppm_answers.specs.declared.answer.Answer.TheVariants as answers
+use Rattle.ppm_line.specs.declared.command.RunOptions.{RunOptions}
+use Rattle.ppm_running.specs.Running.{IsOutcome, HasRoom, PassesRoom, PassesTurns}
 
--- the text has a program, which is straight, and this is the program's outcome
-pub record ComesTo (text : List ℕ) (o : Outcome) : Type 0 where
-  pub tree : ProgramTree
-  pub program : HasProgram text tree
-  pub straight : IsStraight tree
-  pub outcome : IsOutcome tree o
+-- The answer that a program has where it is run: its outcome, where its run stays within the turns and the room, else which of
+-- them it passes. The turns are judged first. One processor runs, and its place is the one place.
+abbrev pub ProgramHas : RunOptions → ProgramTree → Answer → Type 0
+ProgramHas options t (answers.Ended arrays) = HasRoom options t × IsOutcome t (outcome.Ended arrays)
+ProgramHas options t (answers.Trapped trap line) = HasRoom options t × IsOutcome t (outcome.Trapped trap line)
+ProgramHas options t (answers.OutOfTurns processor) = (processor ≡ 0) × PassesTurns options t
+ProgramHas options t (answers.OutOfRoom place) = (place ≡ 0) × PassesRoom options t
+ProgramHas options t _ = ⊥
 
--- the text has a program, whose first statement that is not compiled yet is told by this line
-pub record IsNotCompiledYet (text : List ℕ) (line : ℕ) : Type 0 where
-  pub tree : ProgramTree
-  pub program : HasProgram text tree
-  pub first : IsNotCompiled (main_of tree) line
-
--- the text has no program that is straight
-abbrev pub HasNoOutcome : List ℕ → Type 0
-HasNoOutcome text = (t : ProgramTree) → HasProgram text t → ¬ IsStraight t
-
--- the answer that a text has where it is run
-abbrev pub RunHas : List ℕ → Answer → Type 0
-RunHas text (answers.Ended arrays) = ComesTo text (outcome.Ended arrays)
-RunHas text (answers.Trapped t line) = ComesTo text (outcome.Trapped t line)
-RunHas text (answers.SourceRefused r) = IsRefusal text r
-RunHas text (answers.NotCompiled line) = IsNotCompiledYet text line
-RunHas text _ = ⊥
+-- the answer that a text has where it is run: that of its program, or its refusal
+abbrev pub RunHas : RunOptions → List ℕ → Answer → Type 0
+RunHas options text (answers.SourceRefused r) = IsRefusal text r
+RunHas options text answer = (t : ProgramTree) × HasProgram text t × ProgramHas options t answer
 
 -- the answers of a program that is run; and memory can always be refused
-abbrev pub ProgramMay : ProgramTree → Answer → Type 0
-ProgramMay t (answers.Ended arrays) = IsStraight t × IsOutcome t (outcome.Ended arrays)
-ProgramMay t (answers.Trapped trap line) = IsStraight t × IsOutcome t (outcome.Trapped trap line)
-ProgramMay t (answers.NotCompiled line) = IsNotCompiled (main_of t) line
-ProgramMay t answers.NoMemory = ⊤
-ProgramMay t _ = ⊥
+abbrev pub ProgramMay : RunOptions → ProgramTree → Answer → Type 0
+ProgramMay options t answers.NoMemory = ⊤
+ProgramMay options t answer = ProgramHas options t answer
+
+-- an outcome as an answer
+abbrev pub told : Outcome → Answer
+told (outcome.Ended arrays) = answers.Ended arrays
+told (outcome.Trapped trap line) = answers.Trapped trap line
+told outcome.NotWithin = answers.OutOfTurns 0
+
+-- an outcome as an answer, by whether there is room for the blocks
+abbrev pub told_by : (has_room : Bool) → Outcome → Answer
+told_by has_room outcome.NotWithin = answers.OutOfTurns 0
+told_by true o = told o
+told_by false o = answers.OutOfRoom 0
+
+-- the answer that a depth-first run is, with so many words of room
+abbrev pub answer_of : (room : ℕ) → DepthRun → Answer
+answer_of room run = told_by (nat_le run.block_words room) run.outcome

@@ -1,14 +1,20 @@
 //! That a text has one answer, shown by a call that does nothing.
 ghost use Rattle.ppm_running.specs.Correct.{HaveOneAnswer};
 
+use ppm_compiling::end_as_meant;
 use ppm_judging::have_one_answer as texts_have_one_program;
-use ppm_straight::have_one_answer as programs_have_one_answer;
+use ppm_rows::trees_are_within;
+use ppm_tree::{end_whole, spend_their_turns};
 
-/// A text comes to one outcome, or is refused for one reason, or is not compiled yet at one line, and is no two of these.
+/// With each options a text has one answer: it is refused for one reason, or its program comes to one outcome within the
+/// turns and the room, or takes more turns, or asks for more room.
 pub fn have_one_answer()
     ensures law { HaveOneAnswer }
 {
     // The law rests on these; the calls do nothing.
     texts_have_one_program();
-    programs_have_one_answer();
+    trees_are_within();
+    spend_their_turns();
+    end_whole();
+    end_as_meant();
 }

@@ -22,7 +22,8 @@ use std::alloc::Global;
 /// The watchers of a run: one for each processor that it may have.
 pub const WATCHERS: usize = 64;
 
-/// Runs the text that is read: its arrays or its trap are written on `out`, its refusal on `err`.
+/// Runs the text that is read, as capsules, within so many turns and so many words of blocks: its arrays or its trap are
+/// written on `out`, its refusal or which of these it passes on `err`.
 /// There is a watcher for each of 64 processors. No watcher is told anything yet.
 pub fn run_command<R, S: Source, K: Sink, E: Sink, W: Watch>(
     rt: &R,
@@ -42,28 +43,28 @@ pub fn run_command<R, S: Source, K: Sink, E: Sink, W: Watch>(
         (map W.told watch.old.items) (map W.told watch.new.items) in Answers (RunMay options o) o result }
 
     // What follows from each status.
-    ensures rows { RunRows (outside (port S.left S.fault_count source.old source.new)
+    ensures rows { RunRows options (outside (port S.left S.fault_count source.old source.new)
         (port K.written K.fault_count out.old out.new) (port E.written E.fault_count err.old err.new)
         (map W.told watch.old.items) (map W.told watch.new.items)) result }
 
     ensures watchers { length watch.new.items ≡ watcher_count }
 {
-    // Threads, options and watchers come with more processors than one.
+    // Threads and watchers come with more processors than one.
     let _ = rt;
-    let _ = options;
     let _ = &watch;
     // The rows rest on this law; the call does nothing.
     have_one_answer();
-    let answer = run_answer(alloc, source);
+    let answer = run_answer(alloc, options, source);
     deliver(alloc, &answer, out, err)
 }
 
 /// The answer of `run`: what is read, to its end or one byte past the limit of a text, is judged.
-fn run_answer<S: Source>(alloc: Global, source: &mut S) -> Answer
-    ensures { JudgingMay text_limit RunHas (port S.left S.fault_count source.old source.new) result }
+fn run_answer<S: Source>(alloc: Global, options: RunOptions, source: &mut S) -> Answer
+    requires options { IsInRange (commands.Run options) }
+    ensures { JudgingMay text_limit (RunHas options) (port S.left S.fault_count source.old source.new) result }
 {
     match read_whole(alloc, source, TEXT_LIMIT) {
-        Ok(text) => text_answer(alloc, &text),
+        Ok(text) => text_answer(alloc, options, &text),
         Err(ReadError::Failed) => Answer::ReadFault,
         Err(ReadError::NoMemory) => Answer::NoMemory,
     }

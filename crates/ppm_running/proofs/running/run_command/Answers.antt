@@ -7,9 +7,10 @@ use Rattle.ppm_running.proofs.running.run_command.Goals as goal
 
 -- the answer was delivered, or out of memory in its place
 pub returns-clause-answers : goal.returns-clause-answers
-returns-clause-answers g c = judging_delivered text_limit RunHas _ _ _ refl c.run_answer-answer.ensures c.deliver.ensures
+returns-clause-answers g c =
+    judging_delivered text_limit (RunHas c.args.options) _ _ _ refl c.run_answer-answer.ensures c.deliver.ensures
 
 -- and the rows follow from it
 pub returns-clause-rows : goal.returns-clause-rows
-returns-clause-rows g c = run_rows c.have_one_answer.ensures.law c.args.options _ _
-    (judging_delivered text_limit RunHas _ _ _ refl c.run_answer-answer.ensures c.deliver.ensures)
+returns-clause-rows g c = run_rows c.args.options (c.have_one_answer.ensures.law c.args.options) _ _
+    (judging_delivered text_limit (RunHas c.args.options) _ _ _ refl c.run_answer-answer.ensures c.deliver.ensures)
