@@ -12,14 +12,16 @@ use Rattle.ppm_line.specs.declared.command.Command.TheVariants as commands
 use Rattle.ppm_checking.specs.Verdict.{CheckHas}
 use Rattle.ppm_interpreting.specs.Outcomes.{SerialHas}
 use Rattle.ppm_running.specs.Verdict.{RunHas}
+use Rattle.ppm_showing.specs.Verdict.{CodeHas}
 use Rattle.ppm_line.specs.Words.{command_of}
 use Rattle.ppm_top.specs.Causes.{CommandMay, IsAnswered}
 
 -- where nothing was read, out of memory may be the answer, whatever the command is
 pub memory_before : (command : Option Command) (o : Outside) → IsUnread o.source → CommandMay command o answers.NoMemory
 memory_before None o h = h
-memory_before (Some (commands.Run options)) o h = judged.memory_before text_limit RunHas o.source h
+memory_before (Some (commands.Run options)) o h = judged.memory_before text_limit (RunHas options) o.source h
 memory_before (Some (commands.Serial options)) o h = judged.memory_before text_limit (SerialHas options.turns) o.source h
+memory_before (Some commands.Code) o h = record { has = judged.memory_before text_limit CodeHas o.source h; listed = tt }
 memory_before (Some commands.Check) o h = judged.memory_before listing_limit CheckHas o.source h
 
 -- an answer of the command that the words give answers the words

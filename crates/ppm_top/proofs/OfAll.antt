@@ -23,10 +23,15 @@ use Rattle.ppm_interpreting.proofs.OfSerial.{serial_rows}
 use Rattle.ppm_running.specs.Verdict.{RunHas}
 use Rattle.ppm_running.specs.Correct.{HaveOneAnswer as RunsHaveOneAnswer}
 use Rattle.ppm_running.proofs.OfRun.{run_rows}
+use Rattle.ppm_showing.specs.Verdict.{CodeHas}
+use Rattle.ppm_showing.specs.Causes.{CodeMay}
+use Rattle.ppm_showing.specs.Correct.{HaveOneAnswer as CodesHaveOneAnswer}
+use Rattle.ppm_showing.specs.Rows.{WritesListing, CodeRows}
+use Rattle.ppm_showing.proofs.OfCode.{code_rows}
 use Rattle.ppm_answers.specs.Reading.{IsUnread, JudgingMay, Answers}
 use Rattle.ppm_answers.specs.Rows.{IsOneOf}
 use Rattle.ppm_top.specs.Causes.{NoCommandMay, CommandMay, IsAnswered}
-use Rattle.ppm_top.specs.Rows.{RefusesWords, ReportsFaults, ProgramRows}
+use Rattle.ppm_top.specs.Rows.{RefusesWords, ReportsFaults, WritesAccepted, ShowsByWords, ProgramRows}
 use Rattle.ppm_answers.proofs.Delivered as delivered
 use Rattle.ppm_answers.proofs.Judged as judged
 
@@ -38,6 +43,12 @@ pub record ReportsReads (o : Outside) (may : Answer → Type 0) : Type 0 where
 judging_reports : (limit : ℕ) (Has : List ℕ → Answer → Type 0) (o : Outside) → ReportsReads o (JudgingMay limit Has o.source)
 judging_reports limit Has o = record { failed = λ h. h.0; fails = λ answer h f. judged.source_failed limit Has o.source answer h f }
 
+code_reports : (o : Outside) → ReportsReads o (CodeMay o)
+code_reports o = record {
+  failed = λ h. h.has.0;
+  fails = λ answer h f. judged.source_failed text_limit CodeHas o.source answer h.has f;
+}
+
 none_reports : (o : Outside) → ReportsReads o (NoCommandMay o)
 none_reports o = record { failed = λ h. absurd h; fails = fails } where
   fails : (answer : Answer) → NoCommandMay o answer → ¬ Holds o.source → status_of answer ≡ statuses.ReadFault
@@ -47,8 +58,9 @@ none_reports o = record { failed = λ h. absurd h; fails = fails } where
 
 command_reports : (o : Outside) (command : Option Command) → ReportsReads o (CommandMay command o)
 command_reports o None = none_reports o
-command_reports o (Some (commands.Run options)) = judging_reports text_limit RunHas o
+command_reports o (Some (commands.Run options)) = judging_reports text_limit (RunHas options) o
 command_reports o (Some (commands.Serial options)) = judging_reports text_limit (SerialHas options.turns) o
+command_reports o (Some commands.Code) = code_reports o
 command_reports o (Some commands.Check) = judging_reports listing_limit CheckHas o
 
 -- an answer of status 7 is a read fault
@@ -82,8 +94,9 @@ faults words o status a = reports_faults o (CommandMay (command_of words) o) sta
 no_command : (command : Option Command) (o : Outside) (answer : Answer) → CommandMay command o answer →
     status_of answer ≡ statuses.WordsRefused → command ≡ None
 no_command None o answer h e = refl
-no_command (Some (commands.Run options)) o answers.WordsRefused h e = absurd h.2
+no_command (Some (commands.Run options)) o answers.WordsRefused h e = absurd h.2.2
 no_command (Some (commands.Serial options)) o answers.WordsRefused h e = absurd h.2
+no_command (Some commands.Code) o answers.WordsRefused h e = absurd h.has.2
 no_command (Some commands.Check) o answers.WordsRefused h e = absurd h.2
 no_command command o answer h e = cc
 
@@ -119,14 +132,30 @@ refuses_words words o status a = record {
 pub record Laws : Type 0 where
   pub runs : RunsHaveOneAnswer
   pub programs : ProgramsHaveOneAnswer
+  pub codes : CodesHaveOneAnswer
   pub listings : ListingsHaveOneAnswer
+
+-- a listing that `code` writes is one that `check` accepts
+accepted : (o : Outside) → WritesListing o → WritesAccepted o
+accepted o w = (w.listing, w.gets, record {
+  code = w.free.code;
+  listed = record { code = w.free.rules; fits = w.free.fits; same = w.free.same };
+  free = w.free.free;
+})
+
+-- the rows of `code`
+shows : CodesHaveOneAnswer → (words : List (List ℕ)) (o : Outside) (status : Status) → IsAnswered words o status → ShowsByWords words o status
+shows law words o status a = record { rows = rows; accepted = λ e ended. accepted o ((rows e).listed ended) } where
+  rows : command_of words ≡ Some commands.Code → CodeRows o status
+  rows e = code_rows law o status (subst (λ c. Answers (CommandMay c o) o status) e a)
 
 -- all rows of the program
 pub program_rows : Laws → (words : List (List ℕ)) (o : Outside) (status : Status) → IsAnswered words o status → ProgramRows words o status
 program_rows laws words o status a = record {
-  run = λ options e. run_rows laws.runs options o status (subst (λ c. Answers (CommandMay c o) o status) e a);
+  run = λ options e. run_rows options (laws.runs options) o status (subst (λ c. Answers (CommandMay c o) o status) e a);
   serial = λ options e. serial_rows options.turns (laws.programs options.turns) o status
       (subst (λ c. Answers (CommandMay c o) o status) e a);
+  code = shows laws.codes words o status a;
   check = λ e. check_rows o status (subst (λ c. Answers (CommandMay c o) o status) e a) laws.listings;
   words_refused = refuses_words words o status a;
   faults = faults words o status a;

@@ -1,8 +1,9 @@
 -- What follows from each status: the rows of the table that a reader looks for.
 use Rattle.std.specs.Prelude.{◌≡◌, ◌⊎◌, ℕ, List, [], ◌∷◌, Some, None}
 use Rattle.std.specs.Io.KnownBytes.{Keeps}
-use Rattle.ppm_ports.specs.Ports.{Fails, Holds}
+use Rattle.ppm_ports.specs.Ports.{Fails, Gets, Holds}
 use Rattle.ppm_ports.specs.Outside.{Outside}
+use Rattle.ppm_answers.specs.declared.answer.Answer.TheVariants as answers
 use Rattle.ppm_answers.specs.declared.status.Status.{Status}
 use Rattle.ppm_answers.specs.declared.status.Status.TheVariants as statuses
 use Rattle.ppm_answers.specs.Reading.{IsUnread}
@@ -11,18 +12,29 @@ use Rattle.ppm_line.specs.declared.command.Command.TheVariants as commands
 use Rattle.ppm_line.specs.declared.command.RunOptions.{RunOptions}
 use Rattle.ppm_line.specs.declared.command.SerialOptions.{SerialOptions}
 use Rattle.ppm_line.specs.Words.{command_of}
+use Rattle.ppm_checking.specs.Verdict.{CheckHas}
 use Rattle.ppm_checking.specs.Rows.{CheckRows}
 use Rattle.ppm_interpreting.specs.Rows.{SerialRows}
 use Rattle.ppm_running.specs.Rows.{RunRows}
+use Rattle.ppm_showing.specs.Rows.{CodeRows}
 
--- the rows of `run` hold where the words ask for a run, with any options
+-- the rows of `run` hold where the words ask for a run, with these options
 abbrev pub RunsByWords : List (List ℕ) → Outside → Status → Type 0
-RunsByWords words o status = (options : RunOptions) → command_of words ≡ Some (commands.Run options) → RunRows o status
+RunsByWords words o status = (options : RunOptions) → command_of words ≡ Some (commands.Run options) → RunRows options o status
 
 -- those of `serial` hold where they ask for it, with as many turns
 abbrev pub InterpretsByWords : List (List ℕ) → Outside → Status → Type 0
 InterpretsByWords words o status =
     (options : SerialOptions) → command_of words ≡ Some (commands.Serial options) → SerialRows options.turns o status
+
+-- what `code` writes on out, `check` accepts
+abbrev pub WritesAccepted : Outside → Type 0
+WritesAccepted o = (listing : List ℕ) × Gets o.out listing × CheckHas listing answers.Accepted
+
+-- those of `code` where they ask for that
+pub record ShowsByWords (words : List (List ℕ)) (o : Outside) (status : Status) : Type 0 where
+  pub rows : command_of words ≡ Some commands.Code → CodeRows o status
+  pub accepted : command_of words ≡ Some commands.Code → status ≡ statuses.Ended → WritesAccepted o
 
 -- and those of `check` where they ask for that
 abbrev pub ChecksByWords : List (List ℕ) → Outside → Status → Type 0
@@ -46,13 +58,14 @@ pub record ReportsFaults (o : Outside) (status : Status) : Type 0 where
 -- at each status but 0, 1 and 8 nothing is written on out
 abbrev pub IsSilentOnOut : Outside → Status → Type 0
 IsSilentOnOut o status =
-    IsOneOf status (statuses.SourceRefused ∷ statuses.WordsRefused ∷ statuses.ReadFault ∷ statuses.NoMemory ∷ statuses.CodeRefused
-    ∷ statuses.NotWithin ∷ []) → Keeps o.out.before o.out.now
+    IsOneOf status (statuses.SourceRefused ∷ statuses.WordsRefused ∷ statuses.OutOfTurns ∷ statuses.OutOfRoom ∷ statuses.ReadFault
+    ∷ statuses.NoMemory ∷ statuses.CodeRefused ∷ statuses.NotWithin ∷ []) → Keeps o.out.before o.out.now
 
 -- the rows of the program: those of each command, those of words that give none, and those that all commands share
 pub record ProgramRows (words : List (List ℕ)) (o : Outside) (status : Status) : Type 0 where
   pub run : RunsByWords words o status
   pub serial : InterpretsByWords words o status
+  pub code : ShowsByWords words o status
   pub check : ChecksByWords words o status
   pub words_refused : RefusesWords words o status
   pub faults : ReportsFaults o status

@@ -16,6 +16,15 @@ const FIRST: &str = "array a[2]; proc main(mut a) { a[0] = 5; a[1] = a[0] + 2; }
 const LOOP: &str =
     "array a[1]; proc main(mut a) { let i = 0; while i < 3 { i = i + 1; a[0] = a[0] + i; } }";
 
+/// A hundred calls, each in the one before.
+const CALLS: &str =
+    "array a[1]; proc f(mut a, int n) { if n > 0 { call f(a, n - 1); a[0] = a[0] + 1; } } proc main(mut a) { call f(a, 100); }";
+
+/// A sum by halves.
+const SUM: &str =
+    "array a[4]; input a = 1, 2, 3, 4;\nproc sum(mut a) { if len a > 1 { split a at len a / 2 into l, r { fork sum(l) and sum(r); \
+      l[0] = l[0] + r[0]; } } }\nproc main(mut a) { call sum(a); }";
+
 /// The bytes for which a sink has room.
 const ROOM: usize = 300_000;
 
@@ -120,7 +129,7 @@ fn sink(alloc: Global, most: usize, failing: &[u64]) -> Result<MemorySink, Fail>
 #[test]
 fn commands_are_obeyed(rt: HostRuntime) -> Result<(), Fail> {
     // Words and a text, with what is written on out and on err.
-    let cases: [(&[&str], &str, &str, &str, Status); 9] = [
+    let cases: [(&[&str], &str, &str, &str, Status); 14] = [
         (RUN, FIRST, "a 5 7\n", "", Status::Ended),
         (
             &["ppm", "run", "--processors", "1"],
@@ -143,11 +152,34 @@ fn commands_are_obeyed(rt: HostRuntime) -> Result<(), Fail> {
             "source refused: syntax 2 at 19\n",
             Status::SourceRefused,
         ),
+        (RUN, "proc main() { let x = 1; }", "", "", Status::Ended),
+        (RUN, LOOP, "a 6\n", "", Status::Ended),
         (
-            RUN,
-            "proc main() { let x = 1; }",
+            &["ppm", "run", "--turns", "5"],
+            FIRST,
             "",
-            "source refused: not compiled yet line 1\n",
+            "out of turns: processor 0\n",
+            Status::OutOfTurns,
+        ),
+        (
+            &["ppm", "run", "--processors", "1", "--room", "64"],
+            CALLS,
+            "",
+            "out of room: place 0\n",
+            Status::OutOfRoom,
+        ),
+        (
+            &["ppm", "code"],
+            "proc main() { }",
+            "ppm 1\nroot 0\nproc 0 slots 0 entry 0\ncapsule 0 proc 0\nend\n",
+            "",
+            Status::Ended,
+        ),
+        (
+            &["ppm", "code"],
+            "array a[2]; proc ma",
+            "",
+            "source refused: syntax 2 at 19\n",
             Status::SourceRefused,
         ),
         (SERIAL, FIRST, "a 5 7\n", "", Status::Ended),
@@ -279,19 +311,32 @@ fn listings_are_checked(rt: HostRuntime) -> Result<(), Fail> {
 }
 
 #[test]
+fn what_is_listed_is_accepted(rt: HostRuntime) -> Result<(), Fail> {
+    for text in [FIRST, LOOP, CALLS, SUM] {
+        let listed = ppm_over_memory(rt.alloc(), text.as_bytes(), &["ppm", "code"], 4096, NONE)?;
+        assert_eq!(rt; listed.status, Status::Ended, "{text}");
+        let checked = ppm_over_memory(rt.alloc(), &listed.out, CHECK, 4096, NONE)?;
+        assert_eq!(rt; checked.out.as_slice(), b"ok\n".as_slice(), "{text}");
+        assert_eq!(rt; checked.status, Status::Ended, "{text}");
+    }
+    Ok(())
+}
+
+#[test]
 fn words_are_judged_before_anything_is_read(rt: HostRuntime) -> Result<(), Fail> {
     let reads_fail = Failing {
         reads: &[0],
         ..NONE
     };
-    let refused: [&[&str]; 9] = [
+    let refused: [&[&str]; 10] = [
         &["ppm", "check", "x"],
         &["ppm", "serial", "--turns", "0"],
         &["ppm", "serial", "--processors", "1"],
         &[],
         &["ppm"],
         &["ppm", "walk"],
-        &["ppm", "run", "--turns", "5"],
+        &["ppm", "run", "--turns", "0"],
+        &["ppm", "code", "x"],
         &["ppm", "run", "--processors", "2"],
         &["ppm", "run", "--processors"],
     ];

@@ -13,6 +13,7 @@ use ppm_interpreting::{have_one_answer as programs_have_one_answer, serial_comma
 use ppm_line::{Command, read_words};
 use ppm_ports::{Sink, Source, Watch};
 use ppm_running::{have_one_answer as runs_have_one_answer, run_command};
+use ppm_showing::{code_command, have_one_answer as codes_have_one_answer};
 use ppm_words::NoMemory;
 use std::alloc::Global;
 
@@ -44,6 +45,7 @@ pub fn ppm<R, S: Source, K: Sink, E: Sink, W: Watch>(
     // The rows rest on these laws; the calls do nothing.
     runs_have_one_answer();
     programs_have_one_answer();
+    codes_have_one_answer();
     listings_have_one_answer();
     obey(rt, alloc, words, source, out, err, watch)
 }
@@ -73,6 +75,7 @@ fn obey<R, S: Source, K: Sink, E: Sink, W: Watch>(
             out,
             err,
         ),
+        Ok(Some(Command::Code)) => code_command(alloc, source, out, err),
         Ok(Some(Command::Check)) => check_command(alloc, source, out, err),
         Ok(None) => deliver(alloc, &Answer::WordsRefused, out, err),
         Err(NoMemory) => deliver(alloc, &Answer::NoMemory, out, err),

@@ -12,6 +12,12 @@ returns-in-Ok-Some-Serial-clause-answers g c = by_command (map string_bytes c.ar
     (cc (c.in-Ok-Some-Serial.ensures.value, c.in-Ok-Some-Serial.field-0-is, c.in-Ok-Some-Serial.field-0-0-is))
     (c.serial_command.ensures.answers _)
 
+-- the words ask for the code, which was listed
+pub returns-in-Ok-Some-Code-clause-answers : goal.returns-in-Ok-Some-Code-clause-answers
+returns-in-Ok-Some-Code-clause-answers g c = by_command (map string_bytes c.args.words.now) _ _ (Some commands.Code)
+    (cc (c.in-Ok-Some-Code.ensures.value, c.in-Ok-Some-Code.field-0-is, c.in-Ok-Some-Code.field-0-0-is))
+    (c.code_command.ensures.answers _)
+
 -- the words ask for a check, which was answered
 pub returns-in-Ok-Some-Check-clause-answers : goal.returns-in-Ok-Some-Check-clause-answers
 returns-in-Ok-Some-Check-clause-answers g c = by_command (map string_bytes c.args.words.now) _ _ (Some commands.Check)

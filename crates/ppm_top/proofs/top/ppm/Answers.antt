@@ -6,5 +6,6 @@ pub returns-clause-rows : goal.returns-clause-rows
 returns-clause-rows g c = program_rows (record {
   runs = c.have_one_answer.ensures.law;
   programs = c.have_one_answer-2.ensures.law;
-  listings = c.have_one_answer-3.ensures.law;
+  codes = c.have_one_answer-3.ensures.law;
+  listings = c.have_one_answer-4.ensures.law;
 }) _ _ _ c.obey.ensures.answers

@@ -1,0 +1,4 @@
+pub mod Verdict
+pub mod Causes
+pub mod Correct
+pub mod Rows
