@@ -70,7 +70,7 @@ abbrev pub HasLocals : Frame → End Locals → Type 0
 HasLocals f (Ended l arrays) = l ≡ f.locals
 HasLocals f (Trapped stop arrays) = Unit {0}
 
-first_arrays : (y z : End Locals) → arrays_of (first_trap y z) ≡ arrays_of z
+pub first_arrays : (y z : End Locals) → arrays_of (first_trap y z) ≡ arrays_of z
 first_arrays (Ended l a) z = refl
 first_arrays (Trapped stop a) z = refl
 

@@ -1,0 +1,228 @@
+-- For each n a block has an end, or its code makes at least n capsules in turn: by recursion on n.
+use Rattle.std.proofs.Common.{◌⊎◌, inl, inr, ◌≡◌, ◌≢◌, ◌≤◌, ◌<◌, ℕ, ℤ, zero, suc, ◌+◌, ◌-◌, ◌*◌, Bool, true, false, List, [], ◌∷◌, ◌++◌, Option, Some, None, Result, Ok, Err}
+use Rattle.std.proofs.lemmas.Bool.{leb-true}
+use Rattle.std.proofs.lemmas.List.{length-map}
+use Rattle.std.proofs.Common.{pos, negsuc, nat_le, subst₂, get_or, map, length, refl, sym, ap, ◌∙◌, subst, arith}
+use Rattle.std.specs.List.{sum, sum_by}
+use Rattle.std.proofs.lemmas.List.Sums.{sum_by-append}
+use Rattle.ppm_strands.specs.Tree.{Words, Code, Strand, Call as Calling, Fork as Forking, Over}
+use Rattle.ppm_code.specs.declared.code.CodeParts.{CodeParts}
+use Rattle.ppm_code.specs.declared.location.FrameWord.{FrameWord}
+use Rattle.ppm_code.specs.Strands.{Result as Outcome, Gave, Trapped as TrappedAt, instrs_of, entry_of}
+use Rattle.ppm_tree.specs.declared.named.Named.{Named}
+use Rattle.ppm_tree.specs.Tree.{Expression, Side, Statement, Block, Nil, Then, Let, Assign, Put, If, While, Split, Each, Give, Procedure, ProgramTree}
+use Rattle.ppm_tree.specs.Tree as tree
+use Rattle.ppm_tree.specs.Limits.{IsSmallStatement}
+use Rattle.ppm_words.specs.declared.trap.Trap.TheVariants as trap
+use Rattle.ppm_tree.specs.Parts.{nodes}
+use Rattle.ppm_tree.specs.Values.{holds}
+use Rattle.ppm_tree.specs.State.{TrapAt, then_with, tested, Region, Locals, Frame, with_locals, Arrays, split_at, evaluate, procedure_named, entered, both_entered}
+use Rattle.ppm_tree.specs.Meaning.{Plain, Whole, Counts, spent, none, both, began, forked, swept, End, Ended, Trapped, arrays_of, assigned, stored, chosen}
+use Rattle.ppm_tree.specs.Meaning.{returned, joined, first_trap, given, give_turn, with_element, with_parts as parts_frame, Runs, Follows, Loops, Enters, Sweeps}
+use Rattle.ppm_tree.specs.Meaning.{Done, Lets, Assigns, Puts, Ifs, IfTraps, Whiles, Calls, CallTraps, Forks, ForkStops, ForkTraps, Splits, SplitTraps}
+use Rattle.ppm_tree.specs.Meaning.{Eaches, GoesOn, Stops, TestFails, TestTraps, Turns, TurnTraps, Enter, Swept, Sweep, SweepStops}
+use Rattle.ppm_tree.specs.Meaning as run
+use Rattle.ppm_regions.specs.Scope.{Scope, scope_of, split_scope, each_scope, lets_of, scope_behind}
+use Rattle.ppm_tree.specs.declared.tree.Parameter.{Parameter}
+use Rattle.ppm_bounds.specs.Slots.{most_in_force}
+use Rattle.ppm_owning.specs.Coming.{ComesTo, callee, InCall, InLeft, InRight}
+use Rattle.ppm_translation.specs.Layout.{Layout, target_of, parameter_layout, caught}
+use Rattle.ppm_translation.specs.Fits.{FitsExpression, FitsBlock, FitsProcedure, FitsSide, FitsGive, layout_behind}
+use Rattle.ppm_translation.specs.Numbers.{behind, end_of, hidden_behind, hidden_behind_block, element_block}
+use Rattle.ppm_translation.specs.Slots.{named_slots, procedure_slots, hidden_named_slots, hidden_slots, frame_words, fork_words}
+use Rattle.ppm_translation.specs.Standing.{HasStatement, HasBlock, HasBody}
+use Rattle.ppm_translation.specs.Statements.{Last, OnTo, Gives, onward, with_lets, with_parts, hidden_layout, number_of}
+use Rattle.ppm_translation.proofs.CaughtLemmas.{each_once}
+use Rattle.ppm_compiling.specs.Correct.{words_begun}
+use Rattle.ppm_compiling.proofs.ChainLemmas.{Cost, cost, both_costs, IsWithinCost, Chain, chain_none, chain_then, chain_weaken, chain_under, chain_return}
+use Rattle.ppm_compiling.proofs.Holding.{CodeFrame, offset_of, Shows, Lies, Holds, sweep_frame, which, at_work, waits, strands, CodeTree, Reaches, Returns, Tested, Parted, Called, Forked}
+use Rattle.ppm_compiling.proofs.Doing.{InHand, AreSmall}
+use Rattle.ppm_compiling.proofs.ExprLemmas.{array_within}
+use Rattle.ppm_compiling.proofs.Places.{lengths_of, Place, modest_inner, behind_place, holds_place, else_place, while_place, split_place, each_place, each_few, lies}
+use Rattle.ppm_compiling.proofs.Given.{IsModestProcedure, Given, words_of, budget}
+use Rattle.ppm_compiling.proofs.SmallLemmas.{small_let, small_assign, small_put, small_if, small_while, small_split, small_call, small_fork}
+use Rattle.ppm_compiling.proofs.ChainLemmas.{Long, long_none, long_then, long_under, long_left, long_right, chain_left}
+use Rattle.ppm_compiling.proofs.SweepLemmas.{first_arrays}
+use Rattle.ppm_compiling.proofs.Forward.{runs, loops, enters, sweeps}
+use Rattle.ppm_compiling.proofs.Constructs.{each_begun}
+use Rattle.ppm_compiling.proofs.Constructs.{not_plain, split_low, words_both, small_first, chosen_hidden, chosen_place, chosen_has, callee_place, each_inside, each_words, gives, element_front}
+use Rattle.ppm_compiling.proofs.Constructs.{let_made, assign_made, put_made, if_tested, if_made, call_tried, call_begun, call_made, fork_tried, fork_begun, fork_made}
+use Rattle.ppm_compiling.proofs.Constructs.{split_tried, split_made, each_made, loop_tested, turn_made}
+use Rattle.ppm_compiling.proofs.SweepLemmas.{end_stands, once_distinct, over_of, HasLocals, Leaves, NoLeaf, Leaf, leaves_locals, swept as swept_all}
+use Rattle.ppm_compiling.proofs.ReachLemmas.{Reached, Returned, chain_reaches, reaches_more, reaches_on, chain_returns, call_reaches, fork_reaches, reaches_front, reaches_locals}
+use Rattle.ppm_compiling.proofs.ReachLemmas.{reaches_same, reaches_whole, lies_at_end, lies_locals}
+
+module _ (t : ProgramTree) (code : CodeParts) (facts : Given t code) where
+  abbrev lens : List ℕ
+  lens = lengths_of t
+
+  abbrev ps : List Procedure
+  ps = t.procedures
+
+  abbrev c_ : Code CodeFrame Outcome
+  c_ = strands lens code
+
+  abbrev Far : ℕ → (FrameWord → ℕ) → ℕ → Words → Type 0
+  Far n own at a = Long c_ n (Strand (at_work own at)) a
+
+  -- a block, a loop, a procedure has an end, or its code goes on for so many capsules
+  abbrev pub OfBlock : ℕ → Block → Frame → Arrays → (FrameWord → ℕ) → ℕ → Words → Type 0
+  OfBlock n b f arrays own at a = ((k : Counts) × (z : End Locals) × Runs Whole ps b f arrays k z) ⊎ Far n own at a
+
+  abbrev OfLoop : ℕ → Expression → Block → Frame → Arrays → (FrameWord → ℕ) → ℕ → Words → Type 0
+  OfLoop n e s f arrays own at a = ((k : Counts) × (z : End Locals) × Loops Whole ps e s f arrays k z) ⊎ Far n own at a
+
+  abbrev pub OfBody : ℕ → Procedure → Frame → Arrays → (FrameWord → ℕ) → ℕ → Words → Type 0
+  OfBody n p f arrays own at a = ((k : Counts) × (z : End ℤ) × Enters Whole ps p f arrays k z) ⊎ Far n own at a
+
+  -- all of them, for one number of capsules
+  pub record Goes (n : ℕ) : Type 0 where
+    pub block : (b : Block) (f : Frame) (arrays : Arrays) (scope : Scope) (layout : Layout) (spare at h : ℕ) (last : Last) (own : FrameWord → ℕ) (a : Words)
+        → Place t scope layout spare b f → HasBlock ps code spare layout at h last b → Holds lens scope layout f own → Shows lens a arrays
+        → OfBlock n b f arrays own at a
+    pub loop : (e : Expression) (s : Block) (f : Frame) (arrays : Arrays) (scope : Scope) (layout : Layout) (spare at h : ℕ) (own : FrameWord → ℕ) (a : Words)
+        → ((l : Locals) → Place t scope layout spare s (with_locals f l)) → FitsExpression scope layout e → AreSmall (nodes e)
+        → HasStatement ps code spare layout at h (While e s) → Holds lens scope layout f own → Shows lens a arrays
+        → OfLoop n e s f arrays own at a
+
+  less : {n : ℕ} {u : CodeTree lens code} {a : Words} → Long c_ (suc n) u a → Long c_ n u a
+  less l = (l.0, l.1, l.2, l.3, omega (arith, l.4))
+
+  -- behind what costs nothing known
+  after : {n : ℕ} {k : Cost} {u v : CodeTree lens code} {a b : Words} → 1 ≤ k.least → Chain c_ k u a v b → Long c_ n v b → Long c_ (suc n) u a
+  after {n = n} some p l = long_then c_ n some p l
+
+  module _ (n : ℕ) (p : Goes n) where
+    -- a procedure
+    of_body : (x : List ℕ) (g : Frame) (arrays : Arrays) (own : FrameWord → ℕ) (a : Words)
+        → Place t (scope_of (procedure_named ps x)) (parameter_layout (procedure_named ps x).parameters) (named_slots (procedure_named ps x)) (procedure_named ps x).body g
+        → HasBody ps code (number_of ps x) (procedure_named ps x)
+        → Holds lens (scope_of (procedure_named ps x)) (parameter_layout (procedure_named ps x).parameters) g own → Shows lens a arrays
+        → OfBody n (procedure_named ps x) g arrays own (entry_of code (number_of ps x)) a
+    of_body x g arrays own a place has held shows =
+        let q = procedure_named ps x in
+        elim (p.block q.body g arrays (scope_of q) (parameter_layout q.parameters) (named_slots q) (entry_of code (number_of ps x)) has.h (Gives q.give) own a place has.body held shows) [
+          | inl d ↦ inl (_, _, Enter q g arrays d.2)
+          | inr l ↦ inr l
+        ]
+
+    module _ (scope : Scope) (layout : Layout) (spare at h : ℕ) (last : Last) (b : Block) (f : Frame) (own : FrameWord → ℕ) (a : Words) (arrays : Arrays)
+        (held : Holds lens scope layout f own) (shows : Shows lens a arrays) where
+      abbrev Of : Statement → Type 0
+      Of s = OfBlock (suc n) (Then s b) f arrays own at a
+
+      abbrev Here_ : Statement → Type 0
+      Here_ s = Place t scope layout spare (Then s b) f
+
+      abbrev Stands_ : Statement → Type 0
+      Stands_ s = HasBlock ps code spare layout at h last (Then s b)
+
+      -- what stands behind a statement that has been run
+      rest : (s : Statement) (j : Cost) (y : End Locals) → 1 ≤ j.least → Here_ s → Stands_ s
+          → Reached lens code (scope ++ lets_of s) (with_lets layout s) f j (Strand (at_work own at)) a (behind s at) y
+          → ((k : Counts) × (z : End Locals) × Follows Whole ps b f y k z) ⊎ Far (suc n) own at a
+      rest s j (Trapped stop c) some place has q = inl (none, Trapped stop c, Stops b f stop c)
+      rest s j (Ended l c) some place has q =
+          let m = q.made in
+          elim (p.block b (with_locals f l) c (scope ++ lets_of s) (with_lets layout s) spare (behind s at) (hidden_behind s h) last m.0 m.1
+          (behind_place t scope layout spare s b f l place) has.1 m.2 m.3) [
+            | inl d ↦ inl (d.0, d.1, GoesOn b f l c d.2)
+            | inr l ↦ inr (after some m.4 l)
+          ]
+
+      of_let : (x : Named) (e : Expression) → Here_ (Let x e) → Stands_ (Let x e) → Of (Let x e)
+      of_let x e place has =
+          elim (rest (Let x e) (cost 1 1 0 0) (assigned x e f arrays) (omega arith) place has
+          (let_made t code facts scope layout spare at h last b f own a arrays held shows x e place has)) [
+            | inl d ↦ inl (_, _, Lets x e b f arrays d.2)
+            | inr l ↦ inr l
+          ]
+
+      of_assign : (x : Named) (e : Expression) → Here_ (Assign x e) → Stands_ (Assign x e) → Of (Assign x e)
+      of_assign x e place has =
+          elim (rest (Assign x e) (cost 1 2 0 0) (assigned x e f arrays) (omega arith) place has
+          (assign_made t code facts scope layout spare at h last b f own a arrays held shows x e place has)) [
+            | inl d ↦ inl (_, _, Assigns x e b f arrays d.2)
+            | inr l ↦ inr l
+          ]
+
+      of_put : (x : Named) (i e : Expression) → Here_ (Put x i e) → Stands_ (Put x i e) → Of (Put x i e)
+      of_put x i e place has =
+          elim (rest (Put x i e) (cost 1 2 0 0) (stored x i e f arrays) (omega arith) place has
+          (put_made t code facts scope layout spare at h last b f own a arrays held shows x i e place has)) [
+            | inl d ↦ inl (_, _, Puts x i e b f arrays d.2)
+            | inr l ↦ inr l
+          ]
+
+      of_if : (e : Expression) (s u : Block) → Here_ (If e s u) → Stands_ (If e s u) → (r : Result ℤ TrapAt) → evaluate f arrays e ≡ r → Of (If e s u)
+      of_if e s u place has (Err stop) is = inl (_, _, IfTraps e s u b f arrays stop is)
+      of_if e s u place has (Ok v) is =
+          let first = suc (end_of s (suc at)) in
+          let c = holds v in
+          let test = if_tested t code facts scope layout spare at h last b f own a arrays held shows e s u place has (Ok v) is in
+          let stands = chosen_has t code facts c spare layout at h e s u has.0 in
+          let inside = chosen_place t code facts c scope layout spare e s u b f place in
+          elim (p.block (chosen c s u) f arrays scope layout spare (which c (suc at) first) (chosen_hidden t code facts c s h) (OnTo (suc (end_of u first))) own a inside stands held shows) [
+            | inr l ↦ inr (after (omega arith) test l)
+            | inl d ↦ behind_it d.0 d.1 d.2 test stands inside
+          ]
+        where
+          behind_it : (j : Counts) (y : End Locals) → Runs Whole ps (chosen (holds v) s u) f arrays j y
+              → Chain c_ (cost 1 1 0 0) (Strand (at_work own at)) a (Strand (at_work own (which (holds v) (suc at) (suc (end_of s (suc at)))))) a
+              → HasBlock ps code spare layout (which (holds v) (suc at) (suc (end_of s (suc at)))) (chosen_hidden t code facts (holds v) s h)
+              (OnTo (suc (end_of u (suc (end_of s (suc at)))))) (chosen (holds v) s u) → Place t scope layout spare (chosen (holds v) s u) f → Of (If e s u)
+          behind_it j y d test stands inside =
+              let first = suc (end_of s (suc at)) in
+              let c = holds v in
+              let body = runs t code facts d scope layout spare (which c (suc at) first) (chosen_hidden t code facts c s h) (OnTo (suc (end_of u first))) own a inside stands held shows in
+              elim (rest (If e s u) (cost 1 (2 * j.turns + 2) j.forks (words_of t j)) y (omega arith) place has
+              (if_made t code facts scope layout spare at h last b f own a arrays held shows e s u c j y has test body)) [
+                | inl w ↦ inl (_, _, Ifs e s u b f arrays v is d w.2)
+                | inr l ↦ inr l
+              ]
+
+      of_call : (s : Side) → Here_ (tree.Call s) → Stands_ (tree.Call s) → (r : Result Frame TrapAt) → entered ps f arrays s ≡ r → Of (tree.Call s)
+      of_call s place has (Err stop) is = inl (_, _, CallTraps s b f arrays stop is)
+      of_call s place has (Ok g) is =
+          let x = s.callee.name in
+          let q = call_begun t code facts scope layout spare at h last b f own a arrays held shows s g place has is in
+          let inner = callee_place t code facts s g (InCall place.p place.g scope s b f g arrays is place.comes) in
+          let stands = facts.stands.each x place.fits.0.callee in
+          elim (of_body x g arrays q.callee_own a inner stands q.callee_holds shows) [
+            | inr l ↦ inr (after (omega arith) q.chain (long_under c_ (waits own (suc at) None (target_of layout s.target)) n l))
+            | inl d ↦ behind_it d.0 d.1 d.2
+          ]
+        where
+          behind_it : (j : Counts) (y : End ℤ) → Enters Whole ps (procedure_named ps s.callee.name) g arrays j y → Of (tree.Call s)
+          behind_it j y d =
+              let x = s.callee.name in
+              let q = call_begun t code facts scope layout spare at h last b f own a arrays held shows s g place has is in
+              let inner = callee_place t code facts s g (InCall place.p place.g scope s b f g arrays is place.comes) in
+              let back = enters t code facts d (number_of ps x) q.callee_own a inner (facts.stands.each x place.fits.0.callee) (facts.fits x) (facts.modest x) q.callee_holds shows in
+              elim (rest (tree.Call s) (cost 1 (2 * j.turns + 1) j.forks (frame_words (procedure_slots (procedure_named ps x)) + words_of t j)) (returned s.target f y) (omega arith) place has
+              (call_made t code facts scope layout spare at h last b f own a arrays held shows s g j y place q back)) [
+                | inl w ↦ inl (_, _, Calls s b f g arrays is d w.2)
+                | inr l ↦ inr l
+              ]
+
+      of_split : (line : ℕ) (r : Named) (e : Expression) (x y : Named) (s : Block) → Here_ (Split line r e x y s) → Stands_ (Split line r e x y s) → (v : Result ℕ TrapAt)
+          → then_with (evaluate f arrays e) (split_at line (f.regions r.name)) ≡ v → Of (Split line r e x y s)
+      of_split line r e x y s place has (Err stop) is = inl (_, _, SplitTraps line r e x y s b f arrays stop is)
+      of_split line r e x y s place has (Ok m) is =
+          let q = split_tried t code facts scope layout spare at h last b f own a arrays held shows line r e x y s place has (Ok m) is in
+          let inside = split_place t scope layout spare line r e x y s b f m (split_low line (f.regions r.name) (evaluate f arrays e) m is) place in
+          elim (p.block s (parts_frame f (f.regions r.name) m x y) arrays (split_scope scope r x y) (with_parts layout x y) spare (suc at) h (OnTo (suc (end_of s (suc at)))) q.0 a inside has.0.1 q.1 shows) [
+            | inr l ↦ inr (after (omega arith) q.2 l)
+            | inl d ↦ behind_it d.0 d.1 d.2
+          ]
+        where
+          behind_it : (j : Counts) (u : End Locals) → Runs Whole ps s (parts_frame f (f.regions r.name) m x y) arrays j u → Of (Split line r e x y s)
+          behind_it j u d =
+              let q = split_tried t code facts scope layout spare at h last b f own a arrays held shows line r e x y s place has (Ok m) is in
+              let inside = split_place t scope layout spare line r e x y s b f m (split_low line (f.regions r.name) (evaluate f arrays e) m is) place in
+              let body = runs t code facts d (split_scope scope r x y) (with_parts layout x y) spare (suc at) h (OnTo (suc (end_of s (suc at)))) q.0 a inside has.0.1 q.1 shows in
+              elim (rest (Split line r e x y s) (cost 1 (2 * j.turns + 2) j.forks (words_of t j)) u (omega arith) place has
+              (split_made t code facts scope layout spare at h last b f own a arrays held shows line r e x y s m j u q.0 place has q.2 body)) [
+                | inl w ↦ inl (_, _, Splits line r e x y s b f arrays m is d w.2)
+                | inr l ↦ inr l
+              ]
