@@ -44,11 +44,12 @@ use Rattle.ppm_compiling.proofs.SmallLemmas.{small_let, small_assign, small_put,
 use Rattle.ppm_compiling.proofs.ChainLemmas.{Long, long_none, long_then, long_under, long_left, long_right, chain_left}
 use Rattle.ppm_compiling.proofs.SweepLemmas.{first_arrays}
 use Rattle.ppm_compiling.proofs.Forward.{runs, loops, enters, sweeps}
-use Rattle.ppm_compiling.proofs.Constructs.{each_begun}
+use Rattle.ppm_compiling.proofs.Constructs.{ForkBegun, each_begun}
 use Rattle.ppm_compiling.proofs.Constructs.{not_plain, split_low, words_both, small_first, chosen_hidden, chosen_place, chosen_has, callee_place, each_inside, each_words, gives, element_front}
 use Rattle.ppm_compiling.proofs.Constructs.{let_made, assign_made, put_made, if_tested, if_made, call_tried, call_begun, call_made, fork_tried, fork_begun, fork_made}
 use Rattle.ppm_compiling.proofs.Constructs.{split_tried, split_made, each_made, loop_tested, turn_made}
 use Rattle.ppm_compiling.proofs.SweepLemmas.{end_stands, once_distinct, over_of, HasLocals, Leaves, NoLeaf, Leaf, leaves_locals, swept as swept_all}
+use Rattle.ppm_compiling.proofs.ReachLemmas.{IsOver, returned_over}
 use Rattle.ppm_compiling.proofs.ReachLemmas.{Reached, Returned, chain_reaches, reaches_more, reaches_on, chain_returns, call_reaches, fork_reaches, reaches_front, reaches_locals}
 use Rattle.ppm_compiling.proofs.ReachLemmas.{reaches_same, reaches_whole, lies_at_end, lies_locals}
 
@@ -226,3 +227,98 @@ module _ (t : ProgramTree) (code : CodeParts) (facts : Given t code) where
                 | inl w ↦ inl (_, _, Splits line r e x y s b f arrays m is d w.2)
                 | inr l ↦ inr l
               ]
+
+      -- a fork whose left branch has an end
+      of_fork : (s u : Side) → Here_ (tree.Fork s u) → Stands_ (tree.Fork s u) → (r : Result (Frame × Frame) TrapAt) → both_entered ps f arrays s u ≡ r → Of (tree.Fork s u)
+      of_fork s u place has (Err stop) is = inl (_, _, ForkTraps s u b f arrays stop is)
+      of_fork s u place has (Ok (g, g')) is =
+          elim (of_body m g arrays begun.left_own a first (facts.stands.each m sides.0.callee) begun.left_holds shows) [
+            | inr l ↦ inr (after (omega arith) begun.chain (long_left c_ waiting (Strand (at_work begun.right_own (entry_of code (number_of ps k)))) n l))
+            | inl d ↦ right_ d.0 d.1 d.2
+          ]
+        where
+          m : List ℕ
+          m = s.callee.name
+
+          k : List ℕ
+          k = u.callee.name
+
+          sides : FitsSide ps scope layout s × FitsSide ps scope layout u
+          sides = place.fits.0
+
+          begun : ForkBegun t code facts scope layout spare at h last b f own a arrays held shows s u g g'
+          begun = fork_begun t code facts scope layout spare at h last b f own a arrays held shows s u g g' place has is
+
+          waiting : CodeFrame
+          waiting = waits own (suc at) (target_of layout s.target) (target_of layout u.target)
+
+          first : Place t (scope_of (callee t s)) (parameter_layout (callee t s).parameters) (named_slots (callee t s)) (callee t s).body g
+          first = callee_place t code facts s g (InLeft place.p place.g scope s u b f g g' arrays is place.comes)
+
+          second : Place t (scope_of (callee t u)) (parameter_layout (callee t u).parameters) (named_slots (callee t u)) (callee t u).body g'
+          second = callee_place t code facts u g' (InRight place.p place.g scope s u b f g g' arrays is place.comes)
+
+          left_back : (i : Counts) (x : End ℤ) → Enters Whole ps (procedure_named ps m) g arrays i x
+              → Returned lens code (budget t i) (Strand (at_work begun.left_own (entry_of code (number_of ps m)))) a x
+          left_back i x l = enters t code facts l (number_of ps m) begun.left_own a first (facts.stands.each m sides.0.callee) (facts.fits m) (facts.modest m) begun.left_holds shows
+
+          both_ : (i j : Counts) (x y : End ℤ) → Enters Whole ps (procedure_named ps m) g arrays i x → Enters Whole ps (procedure_named ps k) g' (arrays_of x) j y → Of (tree.Fork s u)
+          both_ i j x y l r =
+              let more : (c : Words) → Shows lens c (arrays_of x) → Returned lens code (budget t j) (Strand (at_work begun.right_own (entry_of code (number_of ps k)))) c y =
+              λ c shown. enters t code facts r (number_of ps k) begun.right_own c second (facts.stands.each k sides.1.callee) (facts.fits k) (facts.modest k) begun.right_holds shown in
+              elim (rest (tree.Fork s u) (cost 1 (2 * i.turns + 2 * j.turns + 1) (i.forks + j.forks + 1)
+              (fork_words (procedure_slots (procedure_named ps m)) (procedure_slots (procedure_named ps k)) + words_of t i + words_of t j)) (joined s.target u.target f x y)
+              (omega arith) place has (fork_made t code facts scope layout spare at h last b f own a arrays held shows s u g g' i j x y place begun (left_back i x l) more)) [
+                | inl w ↦ inl (_, _, Forks s u b f g g' arrays is l refl r w.2)
+                | inr q ↦ inr q
+              ]
+
+          -- behind the left branch
+          right_ : (i : Counts) (x : End ℤ) → Enters Whole ps (procedure_named ps m) g arrays i x → Of (tree.Fork s u)
+          right_ i x l =
+              let over = returned_over lens code x (left_back i x l) in
+              elim (of_body k g' (arrays_of x) begun.right_own over.behind second (facts.stands.each k sides.1.callee) begun.right_holds over.shows) [
+                | inr q ↦ inr (after (omega arith) (chain_then c_ begun.chain (chain_left c_ waiting (Strand (at_work begun.right_own (entry_of code (number_of ps k)))) over.chain))
+                    (long_right c_ waiting over.outcome n q))
+                | inl d ↦ both_ i d.0 x d.1 l d.2
+              ]
+
+      of_while : (e : Expression) (s : Block) → Here_ (While e s) → Stands_ (While e s) → OfLoop (suc n) e s f arrays own at a → Of (While e s)
+      of_while e s place has (inr l) = inr l
+      of_while e s place has (inl (j, y, d)) =
+          let small = small_while e s (small_first t code facts (While e s) b place) in
+          let q = loops t code facts d scope layout spare at h own a (λ l. while_place t scope layout spare e s b f l place) place.fits.0.0 small has.0 held shows in
+          elim (rest (While e s) (cost 1 (2 * j.turns) j.forks (words_of t j)) y (omega arith) place has (reaches_same lens code y q)) [
+            | inl w ↦ inl (_, _, Whiles e s b f arrays d w.2)
+            | inr l ↦ inr l
+          ]
+
+    -- a loop for one capsule more
+    next_loop : (e : Expression) (s : Block) (f : Frame) (arrays : Arrays) (scope : Scope) (layout : Layout) (spare at h : ℕ) (own : FrameWord → ℕ) (a : Words)
+        → ((l : Locals) → Place t scope layout spare s (with_locals f l)) → FitsExpression scope layout e → AreSmall (nodes e)
+        → HasStatement ps code spare layout at h (While e s) → Holds lens scope layout f own → Shows lens a arrays
+        → (r : Result ℤ TrapAt) → evaluate f arrays e ≡ r → OfLoop (suc n) e s f arrays own at a
+    next_loop e s f arrays scope layout spare at h own a place fits small has held shows (Err stop) is = inl (_, _, TestTraps e s f arrays stop is)
+    next_loop e s f arrays scope layout spare at h own a place fits small has held shows (Ok v) is =
+        choose (holds v) refl (loop_tested t code facts scope layout spare at h e s f own a arrays place fits small has held shows (Ok v) is)
+      where
+        turn : holds v ≡ true → Chain c_ (cost 1 1 0 0) (Strand (at_work own at)) a (Strand (at_work own (suc at))) a → (j : Counts) (y : End Locals)
+            → Runs Whole ps s f arrays j y → OfLoop (suc n) e s f arrays own at a
+        turn passes test j (Trapped stop c) d = inl (_, _, TurnTraps e s f arrays c v stop is passes d)
+        turn passes test j (Ended l c) d =
+            let body = runs t code facts d scope layout spare (suc at) h (OnTo at) own a (place f.locals) has.1 held shows in
+            let m = (turn_made t code facts scope layout spare at h e s f own a j (Ended l c) has test body).made in
+            elim (p.loop e s (with_locals f l) c scope layout spare at h m.0 m.1 place fits small has m.2 m.3) [
+              | inl w ↦ inl (_, _, Turns e s f arrays c v l is passes d w.2)
+              | inr q ↦ inr (after (omega arith) m.4 q)
+            ]
+
+        choose : (c : Bool) → holds v ≡ c → Chain c_ (cost 1 1 0 0) (Strand (at_work own at)) a (Strand (at_work own (which (holds v) (suc at) (suc (end_of s (suc at)))))) a
+            → OfLoop (suc n) e s f arrays own at a
+        choose false fails test = inl (_, _, TestFails e s f arrays v is fails)
+        choose true passes test =
+            let to = subst (λ (c : Bool). Chain c_ (cost 1 1 0 0) (Strand (at_work own at)) a (Strand (at_work own (which c (suc at) (suc (end_of s (suc at)))))) a) passes test in
+            elim (p.block s f arrays scope layout spare (suc at) h (OnTo at) own a (place f.locals) has.1 held shows) [
+              | inl d ↦ turn passes to d.0 d.1 d.2
+              | inr l ↦ inr (after (omega arith) to l)
+            ]
