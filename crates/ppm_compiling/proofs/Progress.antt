@@ -1,5 +1,5 @@
 -- For each n a block has an end, or its code makes at least n capsules in turn: by recursion on n.
-use Rattle.std.proofs.Common.{◌⊎◌, inl, inr, ◌≡◌, ◌≢◌, ◌≤◌, ◌<◌, ℕ, ℤ, zero, suc, ◌+◌, ◌-◌, ◌*◌, Bool, true, false, List, [], ◌∷◌, ◌++◌, Option, Some, None, Result, Ok, Err}
+use Rattle.std.proofs.Common.{◌/◌, ◌⊎◌, inl, inr, ◌≡◌, ◌≢◌, ◌≤◌, ◌<◌, ℕ, ℤ, zero, suc, ◌+◌, ◌-◌, ◌*◌, Bool, true, false, List, [], ◌∷◌, ◌++◌, Option, Some, None, Result, Ok, Err}
 use Rattle.std.proofs.lemmas.Bool.{leb-true}
 use Rattle.std.proofs.lemmas.List.{length-map}
 use Rattle.std.proofs.Common.{pos, negsuc, nat_le, subst₂, get_or, map, length, refl, sym, ap, ◌∙◌, subst, arith}
@@ -28,7 +28,7 @@ use Rattle.ppm_bounds.specs.Slots.{most_in_force}
 use Rattle.ppm_owning.specs.Coming.{ComesTo, callee, InCall, InLeft, InRight}
 use Rattle.ppm_translation.specs.Layout.{Layout, target_of, parameter_layout, caught}
 use Rattle.ppm_translation.specs.Fits.{FitsExpression, FitsBlock, FitsProcedure, FitsSide, FitsGive, layout_behind}
-use Rattle.ppm_translation.specs.Numbers.{behind, end_of, hidden_behind, hidden_behind_block, element_block}
+use Rattle.ppm_translation.specs.Numbers.{behind, end_of, hidden_behind, hidden_behind_block, element_block, halving, halved}
 use Rattle.ppm_translation.specs.Slots.{named_slots, procedure_slots, hidden_named_slots, hidden_slots, frame_words, fork_words}
 use Rattle.ppm_translation.specs.Standing.{HasStatement, HasBlock, HasBody}
 use Rattle.ppm_translation.specs.Statements.{Last, OnTo, Gives, onward, with_lets, with_parts, hidden_layout, number_of}
@@ -42,7 +42,7 @@ use Rattle.ppm_compiling.proofs.Places.{lengths_of, Place, modest_inner, behind_
 use Rattle.ppm_compiling.proofs.Given.{IsModestProcedure, Given, words_of, budget}
 use Rattle.ppm_compiling.proofs.SmallLemmas.{small_let, small_assign, small_put, small_if, small_while, small_split, small_call, small_fork}
 use Rattle.ppm_compiling.proofs.ChainLemmas.{Long, long_none, long_then, long_under, long_left, long_right, chain_left}
-use Rattle.ppm_compiling.proofs.SweepLemmas.{first_arrays}
+use Rattle.ppm_compiling.proofs.SweepLemmas.{first_arrays, part_slot, small_word}
 use Rattle.ppm_compiling.proofs.Forward.{runs, loops, enters, sweeps}
 use Rattle.ppm_compiling.proofs.Constructs.{ForkBegun, each_begun}
 use Rattle.ppm_compiling.proofs.Constructs.{not_plain, split_low, words_both, small_first, chosen_hidden, chosen_place, chosen_has, callee_place, each_inside, each_words, gives, element_front}
@@ -52,6 +52,19 @@ use Rattle.ppm_compiling.proofs.SweepLemmas.{end_stands, once_distinct, over_of,
 use Rattle.ppm_compiling.proofs.ReachLemmas.{IsOver, returned_over}
 use Rattle.ppm_compiling.proofs.ReachLemmas.{Reached, Returned, chain_reaches, reaches_more, reaches_on, chain_returns, call_reaches, fork_reaches, reaches_front, reaches_locals}
 use Rattle.ppm_compiling.proofs.ReachLemmas.{reaches_same, reaches_whole, lies_at_end, lies_locals}
+
+-- one stretch of an `each` behind another is a stretch
+joined_sweeps : (procedures : List Procedure) {i x : Named} {s : Block} {q : Region} {f : Frame} {n m : ℕ} {c : Arrays} {k : Counts} {z : End Locals}
+    → Sweeps Whole procedures i x s q f n m c k z → (n' m' total : ℕ) → n' ≡ n + m → total ≡ m + m' → {k' : Counts} {z' : End Locals}
+    → Sweeps Whole procedures i x s q f n' m' (arrays_of z) k' z' → (j : Counts) × (y : End Locals) × Sweeps Whole procedures i x s q f n total c j y
+joined_sweeps procedures (Swept i x s q f n c) n' m' total e is {k' = k'} {z' = z'} w =
+    (k', z', subst₂ (λ (n m : ℕ). Sweeps Whole procedures i x s q f n m c k' z') (let same : n' ≡ n = omega (arith, e) in same) (let same : m' ≡ total = omega (arith, is) in same) w)
+joined_sweeps procedures (SweepStops i x s q f n m c c' stop plain d) n' m' total e is w = absurd (not_plain plain)
+joined_sweeps procedures (Sweep i x s q f n m c {y = y} {z = z} d on more) n' m' total e is {k' = k'} {z' = z'} w =
+    let w' = subst (λ (c : Arrays). Sweeps Whole procedures i x s q f n' m' c k' z') (first_arrays y z) w in
+    let r = joined_sweeps procedures more n' m' (m + m') (omega (arith, e)) refl w' in
+    let same : suc (m + m') ≡ total = omega (arith, is) in
+    subst (λ (total : ℕ). (j : Counts) × (y : End Locals) × Sweeps Whole procedures i x s q f n total c j y) same (_, _, Sweep i x s q f n (m + m') c d refl r.2)
 
 module _ (t : ProgramTree) (code : CodeParts) (facts : Given t code) where
   abbrev lens : List ℕ
@@ -293,6 +306,108 @@ module _ (t : ProgramTree) (code : CodeParts) (facts : Given t code) where
             | inr l ↦ inr l
           ]
 
+      module _ (i x r : Named) (s : Block) (place : Here_ (Each i x r s)) (has : Stands_ (Each i x r s)) where
+        abbrev q_ : Region
+        q_ = f.regions r.name
+
+        abbrev entry_ : ℕ
+        entry_ = entry_of code h
+
+        abbrev inner_ : Scope
+        inner_ = each_scope scope r i x
+
+        abbrev hidden_ : Layout
+        hidden_ = hidden_layout layout i x s
+
+        abbrev OfSweep : (n' m : ℕ) → Arrays → (FrameWord → ℕ) → Words → Type 0
+        OfSweep n' m c own' a' = ((k : Counts) × (z : End Locals) × Sweeps Whole ps i x s q_ f n' m c k z) ⊎ Far n own' entry_ a'
+
+        few_ : length (caught layout s) ≤ 24
+        few_ = each_few t scope layout spare i x r s b f place
+
+        inside_ : offset_of lens q_.array + q_.start + q_.length ≤ 4194304
+        inside_ = each_inside t code facts scope layout spare i x r s b f place
+
+        -- so many elements, by halves
+        of_sweep : (fuel m n' : ℕ) (c : Arrays) (own' : FrameWord → ℕ) (a' : Words) → m ≤ fuel → n' + m ≤ q_.length
+            → Holds lens inner_ hidden_ (sweep_frame f q_ n' m i x) own' → Shows lens a' c → OfSweep n' m c own' a'
+        of_sweep fuel zero n' c own' a' most low held' shows' = inl (_, _, Swept i x s q_ f n' c)
+        of_sweep fuel (suc zero) n' c own' a' most low held' shows' =
+            let slot = part_slot t code facts spare scope layout at h f i x r s has.0 place.fits.0 place.once (each_few t scope layout spare i x r s b f place) (each_inside t code facts scope layout spare i x r s b f place) n' 1 own' held' in
+            let enters_ = facts.does.entry scope layout f own' a' c entry_ entry_ q_ n' 1 has.0.1 slot (omega arith) held'.value in
+            let there = each_place t scope layout spare i x r s b f n' (omega (arith, low)) place in
+            elim (p.block s (with_element f q_ n' i x) c inner_ hidden_ (hidden_named_slots (length (caught layout s)) s) (element_block entry_) (suc h) (Gives None) own' a' there has.0.5 held' shows') [
+              | inl d ↦ inl (_, _, Sweep i x s q_ f n' 0 c d.2 refl (Swept i x s q_ f (suc n') (arrays_of d.1)))
+              | inr l ↦ inr (less (after (omega arith) enters_ l))
+            ]
+        of_sweep zero (suc (suc m)) n' c own' a' most low held' shows' = absurd (omega (arith, most))
+        of_sweep (suc fuel) (suc (suc m)) n' c own' a' most low held' shows' =
+            elim (of_sweep fuel first n' c forks.0 a' (omega (arith, most)) (omega (arith, low)) forks.2 shows') [
+              | inr l ↦ inr (less (after (omega arith) begins (long_left c_ waiting (Strand (at_work forks.1 entry_)) n l)))
+              | inl d ↦ second_ (λ c own'' a'' held'' shows''. of_sweep fuel (suc (suc m) - suc (suc m) / 2) (n' + suc (suc m) / 2) c own'' a''
+                  (omega (arith, most)) (omega (arith, low)) held'' shows'') d.0 d.1 d.2
+            ]
+          where
+            total : ℕ
+            total = suc (suc m)
+
+            first : ℕ
+            first = suc (suc m) / 2
+
+            waiting : CodeFrame
+            waiting = waits own' (halved entry_) None None
+
+            slots_ : ℕ
+            slots_ = hidden_slots (length (caught layout s)) s
+
+            forks : (left right : FrameWord → ℕ) × Holds lens inner_ hidden_ (sweep_frame f q_ n' (suc (suc m) / 2) i x) left
+                × Holds lens inner_ hidden_ (sweep_frame f q_ (n' + suc (suc m) / 2) (suc (suc m) - suc (suc m) / 2) i x) right
+                × Chain c_ (cost 1 1 1 (fork_words (hidden_slots (length (caught layout s)) s) (hidden_slots (length (caught layout s)) s))) (Strand (at_work own' (halving entry_))) a'
+                (Forking (waits own' (halved entry_) None None) (Strand (at_work left entry_)) (Strand (at_work right entry_))) a'
+            forks =
+                let fits = place.fits.0 in
+                let low_word = small_word t code facts spare scope layout at h f i x r s has.0 fits place.once few_ inside_ n' (suc (suc m)) low in
+                facts.does.halving scope layout f own' a' c entry_ entry_ i x r s h q_ n' (suc (suc m)) has.0.2 has.0.4 refl held'
+                fits.1 fits.2 fits.3 fits.4 fits.5 (once_distinct layout place.once) few_ low_word (omega (arith, low, inside_)) (omega arith)
+
+            begins : Chain c_ (both_costs (cost 1 1 0 0) (cost 1 1 1 (fork_words (hidden_slots (length (caught layout s)) s) (hidden_slots (length (caught layout s)) s)))) (Strand (at_work own' entry_)) a'
+                (Forking (waits own' (halved entry_) None None) (Strand (at_work forks.0 entry_)) (Strand (at_work forks.1 entry_))) a'
+            begins =
+                let slot = part_slot t code facts spare scope layout at h f i x r s has.0 place.fits.0 place.once few_ inside_ n' (suc (suc m)) own' held' in
+                chain_then c_ (facts.does.entry scope layout f own' a' c entry_ entry_ q_ n' (suc (suc m)) has.0.1 slot (omega (arith, low, inside_)) held'.value) forks.4
+
+            -- behind the first half
+            second_ : ((c : Arrays) (own'' : FrameWord → ℕ) (a'' : Words) → Holds lens inner_ hidden_ (sweep_frame f q_ (n' + suc (suc m) / 2) (suc (suc m) - suc (suc m) / 2) i x) own''
+                → Shows lens a'' c → OfSweep (n' + suc (suc m) / 2) (suc (suc m) - suc (suc m) / 2) c own'' a'') → (k : Counts) (z : End Locals) → Sweeps Whole ps i x s q_ f n' (suc (suc m) / 2) c k z → OfSweep n' (suc (suc m)) c own' a'
+            second_ again k z d =
+                let fits = place.fits.0 in
+                let leaves = sweeps t code facts d scope layout spare at h r b place has.0 refl (omega (arith, low)) in
+                let over = swept_all t code facts spare scope layout at h f i x r s has.0 fits place.once (each_few t scope layout spare i x r s b f place) (each_inside t code facts scope layout spare i x r s b f place)
+                (suc (suc m) / 2) n' c forks.0 a' (omega (arith, low)) leaves forks.2 shows' in
+                elim (again (arrays_of z) forks.1 over.behind forks.3 over.shows) [
+                  | inr l ↦ inr (less (after (omega arith) (chain_then c_ begins (chain_left c_ (waits own' (halved entry_) None None) (Strand (at_work forks.1 entry_)) over.chain))
+                      (long_right c_ (waits own' (halved entry_) None None) (over_of z) n l)))
+                  | inl e ↦ inl (joined_sweeps ps d (n' + suc (suc m) / 2) (suc (suc m) - suc (suc m) / 2) (suc (suc m)) refl (omega arith) e.2)
+                ]
+
+        of_each : Of (Each i x r s)
+        of_each =
+            let begun = each_begun t code facts scope layout spare at h last b f own a arrays held shows i x r s place has in
+            elim (of_sweep q_.length q_.length 0 arrays begun.0 a (omega arith) (omega arith) begun.1 shows) [
+              | inr l ↦ inr (after (omega arith) begun.2 (long_under c_ (waits own (suc at) None None) n l))
+              | inl d ↦ behind_it d.0 d.1 d.2
+            ]
+          where
+            behind_it : (j : Counts) (y : End Locals) → Sweeps Whole ps i x s q_ f 0 q_.length arrays j y → Of (Each i x r s)
+            behind_it j y d =
+                let leaves = sweeps t code facts d scope layout spare at h r b place has.0 refl (omega arith) in
+                let slots = hidden_slots (length (caught layout s)) s in
+                elim (rest (Each i x r s) (cost 1 (2 * j.turns + 2) (q_.length - 1 + j.forks) (frame_words slots + ((q_.length - 1) * fork_words slots slots + words_of t j))) y (omega arith) place has
+                (each_made t code facts scope layout spare at h last b f own a arrays held shows i x r s place has j y leaves)) [
+                  | inl w ↦ inl (_, _, Eaches i x r s b f arrays d w.2)
+                  | inr l ↦ inr l
+                ]
+
     -- a loop for one capsule more
     next_loop : (e : Expression) (s : Block) (f : Frame) (arrays : Arrays) (scope : Scope) (layout : Layout) (spare at h : ℕ) (own : FrameWord → ℕ) (a : Words)
         → ((l : Locals) → Place t scope layout spare s (with_locals f l)) → FitsExpression scope layout e → AreSmall (nodes e)
@@ -322,3 +437,40 @@ module _ (t : ProgramTree) (code : CodeParts) (facts : Given t code) where
               | inl d ↦ turn passes to d.0 d.1 d.2
               | inr l ↦ inr (after (omega arith) to l)
             ]
+
+    -- a block for one capsule more
+    next_block : (b : Block) (f : Frame) (arrays : Arrays) (scope : Scope) (layout : Layout) (spare at h : ℕ) (last : Last) (own : FrameWord → ℕ) (a : Words)
+        → Place t scope layout spare b f → HasBlock ps code spare layout at h last b → Holds lens scope layout f own → Shows lens a arrays
+        → OfBlock (suc n) b f arrays own at a
+    next_block Nil f arrays scope layout spare at h last own a place has held shows = inl (_, _, Done f arrays)
+    next_block (Then (Let x e) b) f arrays scope layout spare at h last own a place has held shows = of_let scope layout spare at h last b f own a arrays held shows x e place has
+    next_block (Then (Assign x e) b) f arrays scope layout spare at h last own a place has held shows =
+        of_assign scope layout spare at h last b f own a arrays held shows x e place has
+    next_block (Then (Put x i e) b) f arrays scope layout spare at h last own a place has held shows =
+        of_put scope layout spare at h last b f own a arrays held shows x i e place has
+    next_block (Then (If e s u) b) f arrays scope layout spare at h last own a place has held shows =
+        of_if scope layout spare at h last b f own a arrays held shows e s u place has (evaluate f arrays e) refl
+    next_block (Then (While e s) b) f arrays scope layout spare at h last own a place has held shows =
+        of_while scope layout spare at h last b f own a arrays held shows e s place has
+        (next_loop e s f arrays scope layout spare at h own a (λ l. while_place t scope layout spare e s b f l place) place.fits.0.0
+        (small_while e s (small_first t code facts (While e s) b place)) has.0 held shows (evaluate f arrays e) refl)
+    next_block (Then (tree.Call s) b) f arrays scope layout spare at h last own a place has held shows =
+        of_call scope layout spare at h last b f own a arrays held shows s place has (entered ps f arrays s) refl
+    next_block (Then (tree.Fork s u) b) f arrays scope layout spare at h last own a place has held shows =
+        of_fork scope layout spare at h last b f own a arrays held shows s u place has (both_entered ps f arrays s u) refl
+    next_block (Then (Split line r e x y s) b) f arrays scope layout spare at h last own a place has held shows =
+        of_split scope layout spare at h last b f own a arrays held shows line r e x y s place has (then_with (evaluate f arrays e) (split_at line (f.regions r.name))) refl
+    next_block (Then (Each i x r s) b) f arrays scope layout spare at h last own a place has held shows =
+        of_each scope layout spare at h last b f own a arrays held shows i x r s place has
+
+  -- for each number of capsules
+  pub progress : (n : ℕ) → Goes n
+  progress zero = record {
+    block = λ b f arrays scope layout spare at h last own a place has held shows. inr (long_none c_ (Strand (at_work own at)) a);
+    loop = λ e s f arrays scope layout spare at h own a place fits small has held shows. inr (long_none c_ (Strand (at_work own at)) a);
+  }
+  progress (suc n) = record {
+    block = next_block n (progress n);
+    loop = λ e s f arrays scope layout spare at h own a place fits small has held shows.
+        next_loop n (progress n) e s f arrays scope layout spare at h own a place fits small has held shows (evaluate f arrays e) refl;
+  }
