@@ -1,5 +1,5 @@
 -- Chains of steps in turn, with bounds on the capsules and with the forks and block words that they count.
-use Rattle.std.proofs.Common.{◌≡◌, ◌≤◌, ℕ, suc, ◌+◌, refl, sym, ap, ◌∙◌, subst, arith}
+use Rattle.std.proofs.Common.{◌≡◌, ◌≤◌, ℕ, suc, ◌+◌, refl, ◌∙◌, subst, arith}
 use Rattle.ppm_strands.specs.Tree.{Words, Tree, Call, Fork, Over, Code}
 use Rattle.ppm_strands.specs.Run.{Counts as CapsuleCounts, none, plus, rejoin}
 use Rattle.ppm_strands.specs.Ahead.{Step, Return, Join, Done, More}

@@ -1,52 +1,41 @@
 -- What a block means its code does: a chain of steps in turn, by recursion on the run.
-use Rattle.std.proofs.Common.{◌≡◌, ◌≢◌, ◌≤◌, ◌<◌, ℕ, ℤ, zero, suc, ◌+◌, ◌-◌, ◌*◌, Bool, true, false, List, [], ◌∷◌, ◌++◌, Option, Some, None, Result, Ok, Err}
-use Rattle.std.proofs.lemmas.Bool.{leb-true}
-use Rattle.std.proofs.lemmas.List.{length-map}
-use Rattle.std.proofs.Common.{pos, negsuc, nat_le, subst₂, get_or, map, length, refl, sym, ap, ◌∙◌, subst, arith}
-use Rattle.std.specs.List.{sum, sum_by}
-use Rattle.std.proofs.lemmas.List.Sums.{sum_by-append}
-use Rattle.ppm_strands.specs.Tree.{Words, Code, Strand, Call as Calling, Fork as Forking, Over}
+use Rattle.std.proofs.Common.{◌≡◌, ◌≤◌, ℕ, ℤ, suc, ◌+◌, ◌-◌, ◌*◌, Bool, List, ◌++◌, None, Ok, Err}
+use Rattle.std.proofs.Common.{length, refl, sym, subst, arith}
+use Rattle.ppm_strands.specs.Tree.{Words, Code, Strand, Over}
 use Rattle.ppm_code.specs.declared.code.CodeParts.{CodeParts}
 use Rattle.ppm_code.specs.declared.location.FrameWord.{FrameWord}
-use Rattle.ppm_code.specs.Strands.{Result as Outcome, Gave, Trapped as TrappedAt, instrs_of, entry_of}
+use Rattle.ppm_code.specs.Strands.{Result as Outcome, Trapped as TrappedAt, entry_of}
 use Rattle.ppm_tree.specs.declared.named.Named.{Named}
 use Rattle.ppm_tree.specs.Tree.{Expression, Side, Statement, Block, Nil, Then, Let, Assign, Put, If, While, Split, Each, Give, Procedure, ProgramTree}
 use Rattle.ppm_tree.specs.Tree as tree
-use Rattle.ppm_tree.specs.Limits.{IsSmallStatement}
-use Rattle.ppm_words.specs.declared.trap.Trap.TheVariants as trap
 use Rattle.ppm_tree.specs.Parts.{nodes}
 use Rattle.ppm_tree.specs.Values.{holds}
-use Rattle.ppm_tree.specs.State.{TrapAt, then_with, tested, Region, Locals, Frame, with_locals, Arrays, split_at, evaluate, procedure_named, entered, both_entered}
+use Rattle.ppm_tree.specs.State.{TrapAt, Region, Locals, Frame, with_locals, Arrays, evaluate, procedure_named}
 use Rattle.ppm_tree.specs.Meaning.{Plain, Whole, Counts, spent, none, both, began, forked, swept, End, Ended, Trapped, arrays_of, assigned, stored, chosen}
 use Rattle.ppm_tree.specs.Meaning.{returned, joined, first_trap, given, give_turn, with_element, Runs, Follows, Loops, Enters, Sweeps}
 use Rattle.ppm_tree.specs.Meaning.{Done, Lets, Assigns, Puts, Ifs, IfTraps, Whiles, Calls, CallTraps, Forks, ForkStops, ForkTraps, Splits, SplitTraps}
 use Rattle.ppm_tree.specs.Meaning.{Eaches, GoesOn, Stops, TestFails, TestTraps, Turns, TurnTraps, Enter, Swept, Sweep, SweepStops}
 use Rattle.ppm_tree.specs.Meaning as run
 use Rattle.ppm_regions.specs.Scope.{Scope, scope_of, split_scope, each_scope, lets_of, scope_behind}
-use Rattle.ppm_tree.specs.declared.tree.Parameter.{Parameter}
-use Rattle.ppm_bounds.specs.Slots.{most_in_force}
-use Rattle.ppm_owning.specs.Coming.{ComesTo, callee, InCall, InLeft, InRight}
-use Rattle.ppm_translation.specs.Layout.{Layout, target_of, parameter_layout, caught}
-use Rattle.ppm_translation.specs.Fits.{FitsExpression, FitsBlock, FitsProcedure, FitsSide, FitsGive, layout_behind}
-use Rattle.ppm_translation.specs.Numbers.{behind, end_of, hidden_behind, hidden_behind_block, element_block}
+use Rattle.ppm_owning.specs.Coming.{InCall, InLeft, InRight}
+use Rattle.ppm_translation.specs.Layout.{Layout, parameter_layout, caught}
+use Rattle.ppm_translation.specs.Fits.{FitsExpression, FitsProcedure, layout_behind}
+use Rattle.ppm_translation.specs.Numbers.{behind, end_of, hidden_behind, element_block}
 use Rattle.ppm_translation.specs.Slots.{named_slots, procedure_slots, hidden_named_slots, hidden_slots, frame_words, fork_words}
 use Rattle.ppm_translation.specs.Standing.{HasStatement, HasBlock, HasBody}
-use Rattle.ppm_translation.specs.Statements.{Last, OnTo, Gives, onward, with_lets, with_parts, hidden_layout, number_of}
-use Rattle.ppm_translation.proofs.CaughtLemmas.{each_once}
-use Rattle.ppm_compiling.specs.Correct.{words_begun}
-use Rattle.ppm_compiling.proofs.ChainLemmas.{Cost, cost, both_costs, IsWithinCost, Chain, chain_none, chain_then, chain_weaken, chain_under, chain_return}
-use Rattle.ppm_compiling.proofs.Holding.{CodeFrame, offset_of, Shows, Lies, Holds, sweep_frame, which, at_work, waits, strands, CodeTree, Reaches, Returns, Tested, Parted, Called, Forked}
-use Rattle.ppm_compiling.proofs.Doing.{InHand, AreSmall}
-use Rattle.ppm_compiling.proofs.ExprLemmas.{array_within}
-use Rattle.ppm_compiling.proofs.Places.{lengths_of, Place, modest_inner, behind_place, holds_place, else_place, while_place, split_place, each_place, each_few, lies}
+use Rattle.ppm_translation.specs.Statements.{Last, OnTo, Gives, with_lets, with_parts, hidden_layout, number_of}
+use Rattle.ppm_compiling.proofs.ChainLemmas.{Cost, cost, both_costs, IsWithinCost, Chain, chain_none, chain_weaken}
+use Rattle.ppm_compiling.proofs.Holding.{CodeFrame, Shows, Holds, which, at_work, strands, CodeTree}
+use Rattle.ppm_compiling.proofs.Doing.{AreSmall}
+use Rattle.ppm_compiling.proofs.Places.{lengths_of, Place, behind_place, while_place, split_place, each_place, each_few}
 use Rattle.ppm_compiling.proofs.Given.{IsModestProcedure, Given, words_of, budget}
-use Rattle.ppm_compiling.proofs.SmallLemmas.{small_let, small_assign, small_put, small_if, small_while, small_split, small_call, small_fork}
+use Rattle.ppm_compiling.proofs.SmallLemmas.{small_while}
 use Rattle.ppm_compiling.proofs.Constructs.{not_plain, split_low, words_both, small_first, chosen_hidden, chosen_place, chosen_has, callee_place, each_inside, each_words, gives, element_front}
 use Rattle.ppm_compiling.proofs.Constructs.{let_made, assign_made, put_made, if_tested, if_made, call_tried, call_begun, call_made, fork_tried, fork_begun, fork_made}
 use Rattle.ppm_compiling.proofs.Constructs.{split_tried, split_made, each_made, loop_tested, turn_made}
-use Rattle.ppm_compiling.proofs.SweepLemmas.{end_stands, once_distinct, over_of, HasLocals, Leaves, NoLeaf, Leaf, leaves_locals, swept as swept_all}
-use Rattle.ppm_compiling.proofs.ReachLemmas.{Reached, Returned, chain_reaches, reaches_more, reaches_on, chain_returns, call_reaches, fork_reaches, reaches_front, reaches_locals}
-use Rattle.ppm_compiling.proofs.ReachLemmas.{reaches_same, reaches_whole, lies_at_end, lies_locals}
+use Rattle.ppm_compiling.proofs.SweepLemmas.{Leaves, NoLeaf, Leaf}
+use Rattle.ppm_compiling.proofs.ReachLemmas.{Reached, Returned, chain_reaches, reaches_front, reaches_locals}
+use Rattle.ppm_compiling.proofs.ReachLemmas.{reaches_same}
 
 module _ (t : ProgramTree) (code : CodeParts) (facts : Given t code) where
   abbrev lens : List ℕ
@@ -70,12 +59,18 @@ module _ (t : ProgramTree) (code : CodeParts) (facts : Given t code) where
         → Place t scope layout spare b f → HasBlock ps code spare layout at h last b → Holds lens scope layout f own → Shows lens a arrays
         → Reached lens code (scope_behind scope b) (layout_behind layout b) f (budget t k) (Strand (at_work own at)) a (end_of b at) z
     runs (Done f arrays) scope layout spare at h last own a place has held shows = record {
-      made = (own, a, record { local = held.local; region = held.region; value = held.value }, shows, chain_weaken c_ (record {
+      made = (
+        own,
+        a,
+        record { local = held.local; region = held.region; value = held.value },
+        shows,
+        chain_weaken c_ (record {
           least = omega arith;
           most = omega arith;
           forks = omega arith;
           words = omega (arith);
-        }) (chain_none c_ (Strand (at_work own at)) a));
+        }) (chain_none c_ (Strand (at_work own at)) a),
+      );
     }
     runs (Lets x e b f arrays {k = k} w) scope layout spare at h last own a place has held shows =
         follows w (Let x e) scope layout spare at h last (Strand (at_work own at)) a (cost 1 1 0 0) (budget t (both (spent 1) k)) place has.1
@@ -241,12 +236,16 @@ module _ (t : ProgramTree) (code : CodeParts) (facts : Given t code) where
         reaches_locals lens code f l z (chain_reaches lens code z m.4 rest w)
     follows (Stops b f stop arrays) s scope layout spare at h last u a j total place has q w =
         let m = q.made in record {
-          made = (m.0, m.1, chain_weaken c_ (record {
-            least = omega (arith, w.least);
-            most = omega (arith, w.most);
-            forks = omega (arith, w.forks);
-            words = omega (arith, w.words);
-          }) m.2);
+          made = (
+            m.0,
+            m.1,
+            chain_weaken c_ (record {
+              least = omega (arith, w.least);
+              most = omega (arith, w.most);
+              forks = omega (arith, w.forks);
+              words = omega (arith, w.words);
+            }) m.2,
+          );
         }
 
     -- a loop, from its test on
@@ -259,12 +258,18 @@ module _ (t : ProgramTree) (code : CodeParts) (facts : Given t code) where
         let next = suc (end_of s (suc at)) in
         let test = loop_tested t code facts scope layout spare at h e s f own a arrays place fits small has held shows (Ok v) is in
         let to = subst (λ (c : Bool). Chain c_ (cost 1 1 0 0) (Strand (at_work own at)) a (Strand (at_work own (which c (suc at) next))) a) fails test in record {
-          made = (own, a, record { local = held.local; region = held.region; value = held.value }, shows, chain_weaken c_ (record {
-          least = omega arith;
-          most = omega arith;
-          forks = omega arith;
-          words = omega (arith);
-        }) to);
+          made = (
+            own,
+            a,
+            record { local = held.local; region = held.region; value = held.value },
+            shows,
+            chain_weaken c_ (record {
+              least = omega arith;
+              most = omega arith;
+              forks = omega arith;
+              words = omega (arith);
+            }) to,
+          );
         }
     loops (TestTraps e s f arrays stop is) scope layout spare at h own a place fits small has held shows =
         trapped a arrays stop shows (loop_tested t code facts scope layout spare at h e s f own a arrays place fits small has held shows (Err stop) is) (record {
@@ -295,12 +300,16 @@ module _ (t : ProgramTree) (code : CodeParts) (facts : Given t code) where
         let body = runs r scope layout spare (suc at) h (OnTo at) own a (place f.locals) has.1 held shows in
         let m = (turn_made t code facts scope layout spare at h e s f own a j (Trapped stop b) has to body).made in
         let w1 = words_both t code facts (spent 1) j in record {
-          made = (m.0, m.1, chain_weaken c_ (record {
-          least = omega arith;
-          most = omega arith;
-          forks = omega arith;
-          words = omega (arith, w1);
-        }) m.2);
+          made = (
+            m.0,
+            m.1,
+            chain_weaken c_ (record {
+              least = omega arith;
+              most = omega arith;
+              forks = omega arith;
+              words = omega (arith, w1);
+            }) m.2,
+          );
         }
 
     -- a procedure, from its entry on

@@ -1,5 +1,5 @@
 -- What the simulation stands on: what each construct's capsules do, and that the code and the names of a program are as they are to be.
-use Rattle.std.proofs.Common.{◌≡◌, ◌≢◌, ◌≤◌, ℕ, ◌+◌, ◌*◌, List, [], ◌∷◌, Option, Some, None, map, length}
+use Rattle.std.proofs.Common.{◌≡◌, ◌≤◌, ℕ, ◌*◌, List, [], ◌∷◌, Some, length}
 use Rattle.std.specs.List.{sum, sum_by}
 use Rattle.std.specs.Set.{distinct_count}
 use Rattle.std.specs.Str.{bytes_eq}
@@ -11,7 +11,7 @@ use Rattle.ppm_tree.specs.Tree.{Block, Give, Procedure, ProgramTree}
 use Rattle.ppm_tree.specs.Parts.{nodes}
 use Rattle.ppm_tree.specs.State.{Frame, Arrays, procedure_named}
 use Rattle.ppm_tree.specs.Meaning.{Counts}
-use Rattle.ppm_regions.specs.Scope.{Scope, each_scope, first_named}
+use Rattle.ppm_regions.specs.Scope.{Scope, each_scope}
 use Rattle.ppm_regions.specs.Admission.{IsAdmitted}
 use Rattle.ppm_bounds.specs.Names.{without, free_names}
 use Rattle.ppm_translation.specs.Layout.{Layout, caught}

@@ -1,9 +1,9 @@
 -- Frames that hold a meaning's frame still do in front of what was declared, and with a value in a target.
-use Rattle.std.proofs.Common.{◌≡◌, ◌≢◌, ◌<◌, ℕ, ℤ, cond, Bool, true, false, List, [], ◌∷◌, ◌++◌, Option, Some, None, map, get_or, ◌==◌, length, refl, sym, ap, ◌∙◌, subst, subst₂, arith, append-nil}
-use Rattle.std.proofs.lemmas.Bool.{cond-false, cond-true, eq-eqb, ne_eqb}
+use Rattle.std.proofs.Common.{◌≡◌, ℕ, ℤ, cond, Bool, true, false, List, [], ◌∷◌, ◌++◌, Option, Some, None, map, get_or, ◌==◌, refl, sym, ap, ◌∙◌, subst, append-nil}
+use Rattle.std.proofs.lemmas.Bool.{eq-eqb, ne_eqb}
 use Rattle.std.specs.Str.{bytes_eq}
 use Rattle.ppm_code.specs.declared.location.FrameWord.{FrameWord}
-use Rattle.ppm_code.specs.declared.location.FrameWord.TheVariants.{Slot, Value}
+use Rattle.ppm_code.specs.declared.location.FrameWord.TheVariants.{Slot}
 use Rattle.ppm_code.specs.Strands.{with_value}
 use Rattle.ppm_tree.specs.declared.named.Named.{Named}
 use Rattle.ppm_tree.specs.Tree.{Statement, Let, Assign, Put, If, While, Split, Each}
@@ -11,7 +11,7 @@ use Rattle.ppm_tree.specs.Tree as tree
 use Rattle.ppm_tree.specs.State.{Region, Frame, Locals, with_locals, delivered, first_part, second_part}
 use Rattle.ppm_tree.specs.Meaning.{with_parts as parts_frame}
 use Rattle.ppm_regions.specs.Scope.{Declaration, Scope, declared, is_region, lets_of, split_scope, parts_of, seen_in_split}
-use Rattle.ppm_regions.proofs.ScopeLemmas.{declared_in_front, declared_map, names_same, same_names, names_other, other_names, found_cases, some_same, none_and_some}
+use Rattle.ppm_regions.proofs.ScopeLemmas.{declared_in_front, declared_map, same_names, names_other, other_names, some_same, none_and_some}
 use Rattle.std.specs.Option.{option_map}
 use Rattle.ppm_translation.specs.Layout.{Layout, slot_of, target_of}
 use Rattle.ppm_translation.specs.Fits.{Has, FitsTarget}

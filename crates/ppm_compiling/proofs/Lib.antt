@@ -27,3 +27,4 @@ pub mod CallLemmas
 pub mod ForkLemmas
 pub mod Forward
 pub mod Progress
+pub mod Theorem

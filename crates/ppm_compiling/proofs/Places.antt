@@ -1,25 +1,25 @@
 -- Where a block of a program stands with a frame, a scope and a layout, and how one goes from there.
-use Rattle.std.proofs.Common.{◌≡◌, ◌≢◌, ◌≤◌, ◌<◌, ℕ, zero, suc, ◌+◌, List, [], ◌∷◌, ◌++◌, Option, Some, None, Ok, map, length, refl, sym, ap, ◌∙◌, subst, arith, append-nil, length-append}
-use Rattle.std.specs.List.{AllByRecursion, sum}
+use Rattle.std.proofs.Common.{◌≤◌, ◌<◌, ℕ, ◌+◌, List, [], ◌∷◌, ◌++◌, map, length, arith, length-append}
+use Rattle.std.specs.List.{AllByRecursion}
 use Rattle.ppm_tree.specs.declared.named.Named.{Named}
 use Rattle.ppm_tree.specs.Tree.{Expression, Side, Statement, Block, Nil, Then, Let, Assign, Put, If, While, Split, Each, Procedure, ProgramTree}
 use Rattle.ppm_tree.specs.Tree as tree
 use Rattle.ppm_tree.specs.Limits.{IsSmallStatement}
 use Rattle.ppm_tree.specs.Parts.{statement_and_inner, statements_in}
-use Rattle.ppm_tree.specs.State.{Frame, Locals, Arrays, with_locals, procedure_named, entered, both_entered}
-use Rattle.ppm_regions.specs.Scope.{Scope, scope_of, split_scope, each_scope, lets_of}
+use Rattle.ppm_tree.specs.State.{Frame, Locals, with_locals}
+use Rattle.ppm_regions.specs.Scope.{Scope, split_scope, each_scope, lets_of}
 use Rattle.ppm_regions.specs.Admission.{IsAdmitted}
 use Rattle.ppm_bounds.specs.declared.bound.Bound.TheVariants as bound
 use Rattle.ppm_bounds.specs.Bounds.{count_of}
 use Rattle.ppm_bounds.specs.Slots.{most_in_force}
 use Rattle.ppm_bounds.proofs.Keeping.{all-first, all-second}
-use Rattle.ppm_owning.specs.Coming.{ComesTo, Behind, InHolds, InElse, InWhile, InSplit, InEach, InCall, InLeft, InRight, callee, split_frame, each_frame}
+use Rattle.ppm_owning.specs.Coming.{ComesTo, Behind, InHolds, InElse, InWhile, InSplit, InEach, split_frame, each_frame}
 use Rattle.ppm_owning.proofs.Theorem.{apart_everywhere}
-use Rattle.ppm_translation.specs.Layout.{Layout, parameter_layout, caught}
-use Rattle.ppm_translation.specs.Fits.{IsDistinctLayout, FitsStatement, FitsBlock, FitsProcedure}
-use Rattle.ppm_translation.specs.Slots.{named_slots, hidden_named_slots}
+use Rattle.ppm_translation.specs.Layout.{Layout, caught}
+use Rattle.ppm_translation.specs.Fits.{FitsStatement, FitsBlock}
+use Rattle.ppm_translation.specs.Slots.{hidden_named_slots}
 use Rattle.ppm_translation.specs.Statements.{with_lets, with_parts, hidden_layout}
-use Rattle.ppm_translation.proofs.CaughtLemmas.{IsEachOnce, each_once, once_push, once_parts, once_hidden, caught_is_counted}
+use Rattle.ppm_translation.proofs.CaughtLemmas.{IsEachOnce, once_push, once_parts, once_hidden, caught_is_counted}
 use Rattle.ppm_compiling.proofs.Holding.{Lies}
 
 -- the statements of a block are small, and so are the hidden procedures in it

@@ -1,57 +1,45 @@
 -- For each n a block has an end, or its code makes at least n capsules in turn: by recursion on n.
-use Rattle.std.proofs.Common.{◌/◌, ◌⊎◌, inl, inr, ◌≡◌, ◌≢◌, ◌≤◌, ◌<◌, ℕ, ℤ, zero, suc, ◌+◌, ◌-◌, ◌*◌, Bool, true, false, List, [], ◌∷◌, ◌++◌, Option, Some, None, Result, Ok, Err}
-use Rattle.std.proofs.lemmas.Bool.{leb-true}
-use Rattle.std.proofs.lemmas.List.{length-map}
-use Rattle.std.proofs.Common.{pos, negsuc, nat_le, subst₂, get_or, map, length, refl, sym, ap, ◌∙◌, subst, arith}
-use Rattle.std.specs.List.{sum, sum_by}
-use Rattle.std.proofs.lemmas.List.Sums.{sum_by-append}
-use Rattle.ppm_strands.specs.Tree.{Words, Code, Strand, Call as Calling, Fork as Forking, Over}
+use Rattle.std.proofs.Common.{◌/◌, ◌⊎◌, inl, inr, ◌≡◌, ◌≤◌, ℕ, ℤ, zero, suc, ◌+◌, ◌-◌, ◌*◌, Bool, true, false, List, ◌++◌, None, Result, Ok, Err}
+use Rattle.std.proofs.Common.{subst₂, length, refl, subst, arith}
+use Rattle.ppm_strands.specs.Tree.{Words, Code, Strand, Fork as Forking}
 use Rattle.ppm_code.specs.declared.code.CodeParts.{CodeParts}
 use Rattle.ppm_code.specs.declared.location.FrameWord.{FrameWord}
-use Rattle.ppm_code.specs.Strands.{Result as Outcome, Gave, Trapped as TrappedAt, instrs_of, entry_of}
+use Rattle.ppm_code.specs.Strands.{Result as Outcome, entry_of}
 use Rattle.ppm_tree.specs.declared.named.Named.{Named}
 use Rattle.ppm_tree.specs.Tree.{Expression, Side, Statement, Block, Nil, Then, Let, Assign, Put, If, While, Split, Each, Give, Procedure, ProgramTree}
 use Rattle.ppm_tree.specs.Tree as tree
-use Rattle.ppm_tree.specs.Limits.{IsSmallStatement}
-use Rattle.ppm_words.specs.declared.trap.Trap.TheVariants as trap
 use Rattle.ppm_tree.specs.Parts.{nodes}
 use Rattle.ppm_tree.specs.Values.{holds}
-use Rattle.ppm_tree.specs.State.{TrapAt, then_with, tested, Region, Locals, Frame, with_locals, Arrays, split_at, evaluate, procedure_named, entered, both_entered}
-use Rattle.ppm_tree.specs.Meaning.{Plain, Whole, Counts, spent, none, both, began, forked, swept, End, Ended, Trapped, arrays_of, assigned, stored, chosen}
-use Rattle.ppm_tree.specs.Meaning.{returned, joined, first_trap, given, give_turn, with_element, with_parts as parts_frame, Runs, Follows, Loops, Enters, Sweeps}
-use Rattle.ppm_tree.specs.Meaning.{Done, Lets, Assigns, Puts, Ifs, IfTraps, Whiles, Calls, CallTraps, Forks, ForkStops, ForkTraps, Splits, SplitTraps}
+use Rattle.ppm_tree.specs.State.{TrapAt, then_with, Region, Locals, Frame, with_locals, Arrays, split_at, evaluate, procedure_named, entered, both_entered}
+use Rattle.ppm_tree.specs.Meaning.{Whole, Counts, none, End, Ended, Trapped, arrays_of, assigned, stored, chosen}
+use Rattle.ppm_tree.specs.Meaning.{returned, joined, with_element, with_parts as parts_frame, Runs, Follows, Loops, Enters, Sweeps}
+use Rattle.ppm_tree.specs.Meaning.{Done, Lets, Assigns, Puts, Ifs, IfTraps, Whiles, Calls, CallTraps, Forks, ForkTraps, Splits, SplitTraps}
 use Rattle.ppm_tree.specs.Meaning.{Eaches, GoesOn, Stops, TestFails, TestTraps, Turns, TurnTraps, Enter, Swept, Sweep, SweepStops}
-use Rattle.ppm_tree.specs.Meaning as run
-use Rattle.ppm_regions.specs.Scope.{Scope, scope_of, split_scope, each_scope, lets_of, scope_behind}
-use Rattle.ppm_tree.specs.declared.tree.Parameter.{Parameter}
-use Rattle.ppm_bounds.specs.Slots.{most_in_force}
-use Rattle.ppm_owning.specs.Coming.{ComesTo, callee, InCall, InLeft, InRight}
+use Rattle.ppm_regions.specs.Scope.{Scope, scope_of, split_scope, each_scope, lets_of}
+use Rattle.ppm_owning.specs.Coming.{callee, InCall, InLeft, InRight}
 use Rattle.ppm_translation.specs.Layout.{Layout, target_of, parameter_layout, caught}
-use Rattle.ppm_translation.specs.Fits.{FitsExpression, FitsBlock, FitsProcedure, FitsSide, FitsGive, layout_behind}
-use Rattle.ppm_translation.specs.Numbers.{behind, end_of, hidden_behind, hidden_behind_block, element_block, halving, halved}
+use Rattle.ppm_translation.specs.Fits.{FitsExpression, FitsSide}
+use Rattle.ppm_translation.specs.Numbers.{behind, end_of, hidden_behind, element_block, halving, halved}
 use Rattle.ppm_translation.specs.Slots.{named_slots, procedure_slots, hidden_named_slots, hidden_slots, frame_words, fork_words}
 use Rattle.ppm_translation.specs.Standing.{HasStatement, HasBlock, HasBody}
-use Rattle.ppm_translation.specs.Statements.{Last, OnTo, Gives, onward, with_lets, with_parts, hidden_layout, number_of}
-use Rattle.ppm_translation.proofs.CaughtLemmas.{each_once}
-use Rattle.ppm_compiling.specs.Correct.{words_begun}
-use Rattle.ppm_compiling.proofs.ChainLemmas.{Cost, cost, both_costs, IsWithinCost, Chain, chain_none, chain_then, chain_weaken, chain_under, chain_return}
-use Rattle.ppm_compiling.proofs.Holding.{CodeFrame, offset_of, Shows, Lies, Holds, sweep_frame, which, at_work, waits, strands, CodeTree, Reaches, Returns, Tested, Parted, Called, Forked}
-use Rattle.ppm_compiling.proofs.Doing.{InHand, AreSmall}
-use Rattle.ppm_compiling.proofs.ExprLemmas.{array_within}
-use Rattle.ppm_compiling.proofs.Places.{lengths_of, Place, modest_inner, behind_place, holds_place, else_place, while_place, split_place, each_place, each_few, lies}
-use Rattle.ppm_compiling.proofs.Given.{IsModestProcedure, Given, words_of, budget}
-use Rattle.ppm_compiling.proofs.SmallLemmas.{small_let, small_assign, small_put, small_if, small_while, small_split, small_call, small_fork}
+use Rattle.ppm_translation.specs.Statements.{Last, OnTo, Gives, with_lets, with_parts, hidden_layout, number_of}
+use Rattle.ppm_compiling.proofs.ChainLemmas.{Cost, cost, both_costs, Chain, chain_then}
+use Rattle.ppm_compiling.proofs.Holding.{CodeFrame, offset_of, Shows, Holds, sweep_frame, which, at_work, waits, strands, CodeTree}
+use Rattle.ppm_compiling.proofs.Doing.{AreSmall}
+use Rattle.ppm_compiling.proofs.Places.{lengths_of, Place, behind_place, while_place, split_place, each_place, each_few}
+use Rattle.ppm_compiling.proofs.Given.{Given, words_of, budget}
+use Rattle.ppm_compiling.proofs.SmallLemmas.{small_while}
 use Rattle.ppm_compiling.proofs.ChainLemmas.{Long, long_none, long_then, long_under, long_left, long_right, chain_left}
 use Rattle.ppm_compiling.proofs.SweepLemmas.{first_arrays, part_slot, small_word}
 use Rattle.ppm_compiling.proofs.Forward.{runs, loops, enters, sweeps}
 use Rattle.ppm_compiling.proofs.Constructs.{ForkBegun, each_begun}
-use Rattle.ppm_compiling.proofs.Constructs.{not_plain, split_low, words_both, small_first, chosen_hidden, chosen_place, chosen_has, callee_place, each_inside, each_words, gives, element_front}
-use Rattle.ppm_compiling.proofs.Constructs.{let_made, assign_made, put_made, if_tested, if_made, call_tried, call_begun, call_made, fork_tried, fork_begun, fork_made}
+use Rattle.ppm_compiling.proofs.Constructs.{not_plain, split_low, small_first, chosen_hidden, chosen_place, chosen_has, callee_place, each_inside}
+use Rattle.ppm_compiling.proofs.Constructs.{let_made, assign_made, put_made, if_tested, if_made, call_begun, call_made, fork_begun, fork_made}
 use Rattle.ppm_compiling.proofs.Constructs.{split_tried, split_made, each_made, loop_tested, turn_made}
-use Rattle.ppm_compiling.proofs.SweepLemmas.{end_stands, once_distinct, over_of, HasLocals, Leaves, NoLeaf, Leaf, leaves_locals, swept as swept_all}
-use Rattle.ppm_compiling.proofs.ReachLemmas.{IsOver, returned_over}
-use Rattle.ppm_compiling.proofs.ReachLemmas.{Reached, Returned, chain_reaches, reaches_more, reaches_on, chain_returns, call_reaches, fork_reaches, reaches_front, reaches_locals}
-use Rattle.ppm_compiling.proofs.ReachLemmas.{reaches_same, reaches_whole, lies_at_end, lies_locals}
+use Rattle.ppm_compiling.proofs.SweepLemmas.{once_distinct, over_of, swept as swept_all}
+use Rattle.ppm_compiling.proofs.ReachLemmas.{returned_over}
+use Rattle.ppm_compiling.proofs.ReachLemmas.{Reached, Returned}
+use Rattle.ppm_compiling.proofs.ReachLemmas.{reaches_same}
 
 -- one stretch of an `each` behind another is a stretch
 joined_sweeps : (procedures : List Procedure) {i x : Named} {s : Block} {q : Region} {f : Frame} {n m : ℕ} {c : Arrays} {k : Counts} {z : End Locals}

@@ -1,13 +1,12 @@
 -- Stretches that follow one another, calls that return and forks that join.
-use Rattle.std.proofs.Common.{◌≡◌, ◌≤◌, ℕ, ℤ, ◌+◌, ◌++◌, List, Option, Some, None, refl, sym, ap, subst, arith, [], append-nil}
-use Rattle.std.specs.List.{sum}
+use Rattle.std.proofs.Common.{◌≡◌, ℕ, ℤ, ◌++◌, List, Option, Some, None, refl, sym, subst, arith, [], append-nil}
 use Rattle.ppm_strands.specs.Tree.{Words, Code, Strand, Call as Calling, Fork as Forking, Over}
 use Rattle.ppm_code.specs.declared.code.CodeParts.{CodeParts}
 use Rattle.ppm_code.specs.declared.location.FrameWord.{FrameWord}
 use Rattle.ppm_code.specs.Strands.{Result as Outcome, Gave, Trapped as TrappedAt, with_value}
 use Rattle.ppm_tree.specs.declared.named.Named.{Named}
 use Rattle.ppm_tree.specs.Tree.{Statement, Block, Nil, Then}
-use Rattle.ppm_tree.specs.State.{TrapAt, Frame, Locals, Arrays, with_locals, delivered}
+use Rattle.ppm_tree.specs.State.{Frame, Locals, Arrays, with_locals, delivered}
 use Rattle.ppm_tree.specs.Meaning.{End, Ended, Trapped, returned, joined, arrays_of, with_parts as parts_frame}
 use Rattle.ppm_regions.specs.Scope.{Scope, declared, lets_of, split_scope, scope_behind}
 use Rattle.ppm_owning.proofs.ScopeLemmas.{seen_before}
@@ -15,7 +14,7 @@ use Rattle.ppm_translation.specs.Layout.{Layout, target_of}
 use Rattle.ppm_translation.specs.Fits.{FitsTarget, layout_behind}
 use Rattle.ppm_translation.specs.Statements.{with_lets, with_parts}
 use Rattle.ppm_compiling.proofs.ChainLemmas.{Cost, cost, both_costs, IsWithinCost, Chain, chain_then, chain_weaken, chain_under, chain_left, chain_right, chain_return, chain_join}
-use Rattle.ppm_compiling.proofs.Holding.{CodeFrame, HoldsValue, Lies, Shows, Holds, at_work, waits, strands, CodeTree, Reaches, Returns}
+use Rattle.ppm_compiling.proofs.Holding.{CodeFrame, Lies, Shows, Holds, at_work, waits, strands, CodeTree, Reaches, Returns}
 use Rattle.ppm_compiling.proofs.HoldLemmas.{holds_before, holds_whole, holds_delivered}
 
 module _ (lengths : List ℕ) (code : CodeParts) where
@@ -44,18 +43,32 @@ module _ (lengths : List ℕ) (code : CodeParts) where
   pub reaches_on : {scope : Scope} {layout : Layout} {f : Frame} {k total : Cost} {t : CodeTree lengths code} {a : Words} (at next : ℕ) (z : End Locals)
       → ((own : FrameWord → ℕ) (b : Words) → Chain c_ (cost 1 1 0 0) (Strand (at_work own at)) b (Strand (at_work own next)) b)
       → Reached scope layout f k t a at z → IsWithinCost (both_costs k (cost 0 1 0 0)) total → Reached scope layout f total t a next z
-  reaches_on at next (Ended l arrays) go q w = let m = q.made in record { made = (m.0, m.1, m.2, m.3, chain_weaken c_ (record {
-    least = omega (arith, w.least);
-    most = omega (arith, w.most);
-    forks = omega (arith, w.forks);
-    words = omega (arith, w.words);
-  }) (chain_then c_ m.4 (go m.0 m.1))) }
-  reaches_on at next (Trapped stop arrays) go q w = let m = q.made in record { made = (m.0, m.1, chain_weaken c_ (record {
-    least = omega (arith, w.least);
-    most = omega (arith, w.most);
-    forks = omega (arith, w.forks);
-    words = omega (arith, w.words);
-  }) m.2) }
+  reaches_on at next (Ended l arrays) go q w = let m = q.made in record {
+    made = (
+      m.0,
+      m.1,
+      m.2,
+      m.3,
+      chain_weaken c_ (record {
+        least = omega (arith, w.least);
+        most = omega (arith, w.most);
+        forks = omega (arith, w.forks);
+        words = omega (arith, w.words);
+      }) (chain_then c_ m.4 (go m.0 m.1)),
+    );
+  }
+  reaches_on at next (Trapped stop arrays) go q w = let m = q.made in record {
+    made = (
+      m.0,
+      m.1,
+      chain_weaken c_ (record {
+        least = omega (arith, w.least);
+        most = omega (arith, w.most);
+        forks = omega (arith, w.forks);
+        words = omega (arith, w.words);
+      }) m.2,
+    );
+  }
 
   pub chain_returns : {j k total : Cost} {t u : CodeTree lengths code} {a b : Words} (z : End ℤ) → Chain c_ j t a u b → Returned k u b z
       → IsWithinCost (both_costs j k) total → Returned total t a z
@@ -92,20 +105,24 @@ module _ (lengths : List ℕ) (code : CodeParts) where
       → Reached scope layout f k (Calling (waits own next None (target_of layout x)) t) a next (returned x f y)
   call_reaches {scope = scope} {layout = layout} {f = f} own x next (Ended v arrays) fits holds q =
       let g = waits own next None (target_of layout x) in
-      let m = q.made in record { made = (
-        with_value (target_of layout x) m.0 own,
-        m.1,
-        as_locals f x v (holds_delivered lengths scope layout f own x m.0 v fits m.2 holds),
-        m.3,
-        chain_return c_ g (Gave m.0) (Strand (at_work (with_value (target_of layout x) m.0 own) next)) refl (chain_under c_ g m.4),
-      ) }
+      let m = q.made in record {
+        made = (
+          with_value (target_of layout x) m.0 own,
+          m.1,
+          as_locals f x v (holds_delivered lengths scope layout f own x m.0 v fits m.2 holds),
+          m.3,
+          chain_return c_ g (Gave m.0) (Strand (at_work (with_value (target_of layout x) m.0 own) next)) refl (chain_under c_ g m.4),
+        );
+      }
   call_reaches {layout = layout} own x next (Trapped stop arrays) fits holds q =
       let g = waits own next None (target_of layout x) in
-      let m = q.made in record { made = (
-        m.0,
-        m.1,
-        chain_return c_ g (TrappedAt stop.0 stop.1) (Over (TrappedAt stop.0 stop.1)) refl (chain_under c_ g m.2),
-      ) }
+      let m = q.made in record {
+        made = (
+          m.0,
+          m.1,
+          chain_return c_ g (TrappedAt stop.0 stop.1) (Over (TrappedAt stop.0 stop.1)) refl (chain_under c_ g m.2),
+        );
+      }
 
   -- a frame goes on behind both its branches
   pub fork_reaches : {scope : Scope} {layout : Layout} {f : Frame} (own : FrameWord → ℕ) (x y : Option Named) {j k : Cost} (left right : CodeTree lengths code) {a : Words} (next : ℕ)
@@ -115,42 +132,50 @@ module _ (lengths : List ℕ) (code : CodeParts) where
   fork_reaches {scope = scope} {layout = layout} {f = f} own x y left right next (Ended m arrays) (Ended n arrays') fits_x fits_y holds p more =
       let g = waits own next (target_of layout x) (target_of layout y) in
       let q = p.made in
-      let r = (more q.1 q.3).made in record { made = (
-        with_value (target_of layout y) r.0 (with_value (target_of layout x) q.0 own),
-        r.1,
-        both_locals f x y m n (holds_delivered lengths scope layout (delivered x m f) (with_value (target_of layout x) q.0 own) y r.0 n fits_y r.2
-            (holds_delivered lengths scope layout f own x q.0 m fits_x q.2 holds)),
-        r.3,
-        chain_join c_ g (Gave q.0) (Gave r.0) (Strand (at_work (with_value (target_of layout y) r.0 (with_value (target_of layout x) q.0 own)) next)) refl
-            (chain_then c_ (chain_left c_ g right q.4) (chain_right c_ g (Gave q.0) r.4)),
-      ) }
+      let r = (more q.1 q.3).made in record {
+        made = (
+          with_value (target_of layout y) r.0 (with_value (target_of layout x) q.0 own),
+          r.1,
+          both_locals f x y m n (holds_delivered lengths scope layout (delivered x m f) (with_value (target_of layout x) q.0 own) y r.0 n fits_y r.2
+              (holds_delivered lengths scope layout f own x q.0 m fits_x q.2 holds)),
+          r.3,
+          chain_join c_ g (Gave q.0) (Gave r.0) (Strand (at_work (with_value (target_of layout y) r.0 (with_value (target_of layout x) q.0 own)) next)) refl
+              (chain_then c_ (chain_left c_ g right q.4) (chain_right c_ g (Gave q.0) r.4)),
+        );
+      }
   fork_reaches {layout = layout} own x y left right next (Ended m arrays) (Trapped stop arrays') fits_x fits_y holds p more =
       let g = waits own next (target_of layout x) (target_of layout y) in
       let q = p.made in
-      let r = (more q.1 q.3).made in record { made = (
-        r.0,
-        r.1,
-        chain_join c_ g (Gave q.0) (TrappedAt stop.0 stop.1) (Over (TrappedAt stop.0 stop.1)) refl
-            (chain_then c_ (chain_left c_ g right q.4) (chain_right c_ g (Gave q.0) r.2)),
-      ) }
+      let r = (more q.1 q.3).made in record {
+        made = (
+          r.0,
+          r.1,
+          chain_join c_ g (Gave q.0) (TrappedAt stop.0 stop.1) (Over (TrappedAt stop.0 stop.1)) refl
+              (chain_then c_ (chain_left c_ g right q.4) (chain_right c_ g (Gave q.0) r.2)),
+        );
+      }
   fork_reaches {layout = layout} own x y left right next (Trapped stop arrays) (Ended n arrays') fits_x fits_y holds p more =
       let g = waits own next (target_of layout x) (target_of layout y) in
       let q = p.made in
-      let r = (more q.0 q.1).made in record { made = (
-        r.1,
-        r.3,
-        chain_join c_ g (TrappedAt stop.0 stop.1) (Gave r.0) (Over (TrappedAt stop.0 stop.1)) refl
-            (chain_then c_ (chain_left c_ g right q.2) (chain_right c_ g (TrappedAt stop.0 stop.1) r.4)),
-      ) }
+      let r = (more q.0 q.1).made in record {
+        made = (
+          r.1,
+          r.3,
+          chain_join c_ g (TrappedAt stop.0 stop.1) (Gave r.0) (Over (TrappedAt stop.0 stop.1)) refl
+              (chain_then c_ (chain_left c_ g right q.2) (chain_right c_ g (TrappedAt stop.0 stop.1) r.4)),
+        );
+      }
   fork_reaches {layout = layout} own x y left right next (Trapped stop arrays) (Trapped stop' arrays') fits_x fits_y holds p more =
       let g = waits own next (target_of layout x) (target_of layout y) in
       let q = p.made in
-      let r = (more q.0 q.1).made in record { made = (
-        r.0,
-        r.1,
-        chain_join c_ g (TrappedAt stop.0 stop.1) (TrappedAt stop'.0 stop'.1) (Over (TrappedAt stop.0 stop.1)) refl
-            (chain_then c_ (chain_left c_ g right q.2) (chain_right c_ g (TrappedAt stop.0 stop.1) r.2)),
-      ) }
+      let r = (more q.0 q.1).made in record {
+        made = (
+          r.0,
+          r.1,
+          chain_join c_ g (TrappedAt stop.0 stop.1) (TrappedAt stop'.0 stop'.1) (Over (TrappedAt stop.0 stop.1)) refl
+              (chain_then c_ (chain_left c_ g right q.2) (chain_right c_ g (TrappedAt stop.0 stop.1) r.2)),
+        );
+      }
 
   -- what is held behind a block is held in front of it
   holds_front_of : (b : Block) (scope : Scope) (layout : Layout) (f : Frame) (own : FrameWord → ℕ) → Holds lengths (scope_behind scope b) (layout_behind layout b) f own

@@ -1,36 +1,34 @@
 -- The hidden procedure of an `each` runs the blocks of its elements from the first one on, by halves: what each block does, all do.
-use Rattle.std.proofs.Common.{◌≡◌, ◌≢◌, ◌≤◌, ◌<◌, ℕ, ℤ, zero, suc, ◌+◌, ◌-◌, ◌*◌, ◌/◌, ◌^◌, cond, Bool, true, false, List, [], ◌∷◌, Option, Some, None, get_or, length}
+use Rattle.std.proofs.Common.{◌≡◌, ◌≤◌, ◌<◌, ℕ, zero, suc, ◌+◌, ◌-◌, ◌*◌, ◌/◌, ◌^◌, cond, Bool, false, List, [], ◌∷◌, Some, None, length}
 use Rattle.std.proofs.Common.{refl, sym, ap, ◌∙◌, subst, arith}
-use Rattle.std.specs.List.{AllByRecursion, IsDistinct, sum, sum_by}
+use Rattle.std.specs.List.{AllByRecursion, IsDistinct}
 use Rattle.std.specs.Str.{bytes_eq}
 use Rattle.std.proofs.lemmas.List.Sums.{sum_by-append}
-use Rattle.ppm_strands.specs.Tree.{Words, Tree, Strand, Call as Calling, Fork as Forking, Over}
+use Rattle.ppm_strands.specs.Tree.{Words, Strand, Fork as Forking, Over}
 use Rattle.ppm_code.specs.declared.act.End.TheVariants as ends
 use Rattle.ppm_code.specs.declared.instr.Instr.TheVariants as instr
 use Rattle.ppm_code.specs.declared.code.CodeParts.{CodeParts}
 use Rattle.ppm_code.specs.declared.location.FrameWord.{FrameWord}
 use Rattle.ppm_code.specs.declared.location.FrameWord.TheVariants.{Slot, Value}
-use Rattle.ppm_code.specs.Sizes.{slots_of}
 use Rattle.ppm_code.specs.Strands.{Result as Outcome, Gave, Trapped as TrappedAt, instrs_of, entry_of}
 use Rattle.ppm_tree.specs.declared.named.Named.{Named}
 use Rattle.ppm_tree.specs.Tree.{Block, Nil, Then, ProgramTree}
 use Rattle.ppm_tree.specs.Tree as tree
 use Rattle.ppm_tree.specs.State.{Region, Frame, Locals, Arrays}
-use Rattle.ppm_tree.specs.Meaning.{Counts, spent, none, both, End, Ended, Trapped, arrays_of, first_trap, Begun}
+use Rattle.ppm_tree.specs.Meaning.{Counts, spent, none, both, End, Ended, Trapped, arrays_of, first_trap}
 use Rattle.ppm_owning.specs.Coming.{stretch}
 use Rattle.std.specs.Option.{option_map}
 use Rattle.ppm_regions.specs.Scope.{Scope, each_scope, declared, in_each, element_of, seen_in_each, index_of, part}
 use Rattle.ppm_regions.proofs.ScopeLemmas.{names_same, names_other, other_names, declared_map, declared_behind}
 use Rattle.ppm_translation.specs.Layout.{Layout, slot_of, caught}
 use Rattle.ppm_translation.specs.Fits.{IsNew, IsDistinctLayout, FitsStatement, layout_behind}
-use Rattle.ppm_translation.specs.Numbers.{end_of, halving, halved, element_block, behind, hidden_behind}
-use Rattle.ppm_translation.specs.Slots.{hidden_slots, hidden_named_slots, frame_words, fork_words}
+use Rattle.ppm_translation.specs.Numbers.{end_of, halved, element_block, behind, hidden_behind}
+use Rattle.ppm_translation.specs.Slots.{hidden_slots, hidden_named_slots, fork_words}
 use Rattle.ppm_translation.specs.Standing.{HasStatement, HasBlock}
 use Rattle.ppm_translation.specs.Statements.{Last, Gives, last_code, with_lets, hidden_layout}
 use Rattle.ppm_translation.proofs.CaughtLemmas.{IsEachOnce}
-
 use Rattle.ppm_compiling.specs.Correct.{words_begun}
-use Rattle.ppm_compiling.proofs.ChainLemmas.{Cost, cost, both_costs, IsWithinCost, Chain, chain_then, chain_weaken, chain_left, chain_right, chain_join}
+use Rattle.ppm_compiling.proofs.ChainLemmas.{Cost, cost, both_costs, Chain, chain_then, chain_weaken, chain_left, chain_right, chain_join}
 use Rattle.ppm_compiling.proofs.Holding.{offset_of, region_word, Shows, Holds, sweep_frame, at_work, waits, strands, CodeTree, Reaches}
 use Rattle.ppm_compiling.proofs.SlotLemmas.{part_is_region}
 use Rattle.ppm_compiling.proofs.Doing.{Entered}
@@ -313,7 +311,7 @@ module _ (t : ProgramTree) (code : CodeParts) (given : Given t code)
       let cut = halves first second n (n + first) total arrays refl (omega arith) l in
       let enters = given.does.entry scope layout f own a arrays entry entry q n total stands.1 (part_slot n total own holds) (omega (arith, low, inside)) holds.value in
       let forks = given.does.halving scope layout f own a arrays entry entry i x r block h q n total stands.2 stands.4 refl holds
-          fits.1 fits.2 fits.3 fits.4 fits.5 (once_distinct layout once) names_few (small_word n total low) (omega (arith, low, inside)) (omega arith) in
+      fits.1 fits.2 fits.3 fits.4 fits.5 (once_distinct layout once) names_few (small_word n total low) (omega (arith, low, inside)) (omega arith) in
       let left = sweep fuel first n arrays forks.0 a (omega (arith, most)) (omega arith) (omega (arith, low)) cut.front forks.2 shows in
       let right = sweep fuel second (n + first) (arrays_of cut.end) forks.1 left.behind (omega (arith, most)) (omega arith) (omega (arith, low)) cut.back forks.3 left.shows in
       let joined = joined_over own _ _ a left.behind right.behind _ _ cut.end cut.rest stands.3 holds.value left.chain right.chain in
