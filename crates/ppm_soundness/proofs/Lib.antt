@@ -1,2 +1,4 @@
 pub mod CalmLemmas
 pub mod OwnLemmas
+pub mod TameLemmas
+pub mod TameExpressions
