@@ -1,6 +1,6 @@
 -- What the capsules of each construct do, one statement a construct: in front a frame that holds the meaning's frame, behind a chain.
 use Rattle.std.proofs.Common.{◌≡◌, ◌≢◌, ◌≤◌, ◌<◌, ℕ, zero, suc, ◌+◌, ◌-◌, ◌*◌, ◌/◌, ◌^◌, List, [], ◌∷◌, ◌++◌, Option, Some, None, length, map}
-use Rattle.std.specs.List.{sum, flat_map}
+use Rattle.std.specs.List.{All, sum, flat_map}
 use Rattle.ppm_strands.specs.Tree.{Words, Strand, Call as Calling, Fork as Forking, Over}
 use Rattle.ppm_code.specs.declared.act.End.TheVariants as ends
 use Rattle.ppm_code.specs.declared.instr.Instr.TheVariants as instr
@@ -12,19 +12,26 @@ use Rattle.ppm_code.specs.Strands.{Gave, instrs_of, entry_of}
 use Rattle.ppm_tree.specs.declared.named.Named.{Named}
 use Rattle.ppm_tree.specs.declared.mode.Mode.TheVariants as mode
 use Rattle.ppm_tree.specs.Tree.{Expression, Argument, Side, Block, Give, Procedure}
+use Rattle.ppm_tree.specs.Limits.{IsNode}
 use Rattle.ppm_tree.specs.Parts.{nodes}
 use Rattle.ppm_tree.specs.State.{then_with, Region, Frame, Arrays, split_at, evaluate, entered, both_entered, procedure_named}
 use Rattle.ppm_tree.specs.Meaning.{Ended, assigned, stored, given}
 use Rattle.ppm_owning.specs.Coming.{stretch}
 use Rattle.ppm_regions.specs.Scope.{Scope, declared, plain}
 use Rattle.ppm_translation.specs.Layout.{Layout, target_of, parameter_layout, caught}
-use Rattle.ppm_translation.specs.Fits.{IsNew, IsDistinctLayout, IsLocal, IsRegion, split_scope, each_scope, FitsExpression, FitsSide}
+use Rattle.ppm_regions.specs.Scope.{split_scope, each_scope}
+use Rattle.ppm_translation.specs.Fits.{IsNew, IsDistinctLayout, IsLocal, IsRegion, FitsExpression, FitsSide}
 use Rattle.ppm_translation.specs.Numbers.{halving, halved, element_block}
 use Rattle.ppm_translation.specs.Slots.{hidden_slots, frame_words, fork_words}
 use Rattle.ppm_translation.specs.Statements.{onward, let_code, value_code, move_code, element_code, put_code, test_code, split_code, give_code}
 use Rattle.ppm_translation.specs.Statements.{each_code, entry_code, halving_code, with_parts, hidden_layout, callee_slots, callee_number, call_code, fork_code}
 use Rattle.ppm_compiling.proofs.ChainLemmas.{cost, Chain}
 use Rattle.ppm_compiling.proofs.Holding.{Shows, Lies, Holds, region_word, sweep_frame, at_work, waits, strands, Reaches, Returns, Tested, Parted, Called, Forked}
+
+-- nodes of expressions that keep the limits: as many as a statement may have, and each literal a value
+pub record AreSmall (es : List Expression) : Type 0 where
+  pub count : length es ≤ 48
+  pub each : All IsNode es
 
 -- the nodes of arguments
 abbrev pub argument_nodes : List Argument → List Expression
@@ -41,37 +48,37 @@ module _ (lengths : List ℕ) (code : CodeParts) where
   module _ (scope : Scope) (layout : Layout) (f : Frame) (own : FrameWord → ℕ) (a : Words) (arrays : Arrays) (at next : ℕ) where
     abbrev pub LetDoes : Type 0
     LetDoes = (x : Named) (e : Expression) → InHand scope layout f own a arrays
-        → instrs_of code at ≡ let_code layout e next → FitsExpression scope layout e → length (nodes e) ≤ 48
+        → instrs_of code at ≡ let_code layout e next → FitsExpression scope layout e → AreSmall (nodes e)
         → IsNew layout x.name → declared scope x.name ≡ None
         → Reaches lengths code (scope ++ plain mode.Int x ∷ []) (layout ++ x.name ∷ []) f (cost 1 1 0 0) (Strand (at_work own at)) a next (assigned x e f arrays)
 
     abbrev pub AssignDoes : Type 0
     AssignDoes = (spare : ℕ) (x : Named) (e : Expression) → InHand scope layout f own a arrays → length layout ≤ spare
         → instrs_of code at ≡ value_code layout spare e (suc at) → instrs_of code (suc at) ≡ move_code layout spare x next
-        → IsLocal scope layout x → FitsExpression scope layout e → length (nodes e) ≤ 48
+        → IsLocal scope layout x → FitsExpression scope layout e → AreSmall (nodes e)
         → Reaches lengths code scope layout f (cost 1 2 0 0) (Strand (at_work own at)) a next (assigned x e f arrays)
 
     abbrev pub PutDoes : Type 0
     PutDoes = (spare : ℕ) (x : Named) (i e : Expression) → InHand scope layout f own a arrays → length layout ≤ spare
         → instrs_of code at ≡ element_code layout spare i e (suc at) → instrs_of code (suc at) ≡ put_code layout spare x next
-        → IsRegion scope layout x → FitsExpression scope layout i → FitsExpression scope layout e → length (nodes i ++ nodes e) ≤ 48
+        → IsRegion scope layout x → FitsExpression scope layout i → FitsExpression scope layout e → AreSmall (nodes i ++ nodes e)
         → Reaches lengths code scope layout f (cost 1 2 0 0) (Strand (at_work own at)) a next (stored x i e f arrays)
 
     abbrev pub TestDoes : Type 0
     TestDoes = (inside : ℕ) (e : Expression) → InHand scope layout f own a arrays
-        → instrs_of code at ≡ test_code layout e inside next → FitsExpression scope layout e → length (nodes e) ≤ 48
+        → instrs_of code at ≡ test_code layout e inside next → FitsExpression scope layout e → AreSmall (nodes e)
         → Tested lengths code own a at inside next (evaluate f arrays e)
 
     abbrev pub SplitDoes : Type 0
     SplitDoes = (line : ℕ) (r : Named) (e : Expression) (x y : Named) → InHand scope layout f own a arrays
-        → instrs_of code at ≡ split_code layout line r e next → IsRegion scope layout r → FitsExpression scope layout e → length (nodes e) ≤ 48
+        → instrs_of code at ≡ split_code layout line r e next → IsRegion scope layout r → FitsExpression scope layout e → AreSmall (nodes e)
         → IsNew layout x.name → IsNew layout y.name → x.name ≢ y.name → declared scope x.name ≡ None → declared scope y.name ≡ None
         → Parted lengths code (split_scope scope r x y) (with_parts layout x y) f (f.regions r.name) x y own a at next
         (then_with (evaluate f arrays e) (split_at line (f.regions r.name)))
 
     abbrev pub GiveDoes : Type 0
     GiveDoes = (g : Option Give) → InHand scope layout f own a arrays
-        → instrs_of code at ≡ give_code layout g → ((h : Give) → g ≡ Some h → FitsExpression scope layout h.value × (length (nodes h.value) ≤ 48))
+        → instrs_of code at ≡ give_code layout g → ((h : Give) → g ≡ Some h → FitsExpression scope layout h.value × AreSmall (nodes h.value))
         → Returns lengths code (cost 1 1 0 0) (Strand (at_work own at)) a (given g f (Ended f.locals arrays))
 
     abbrev pub OnwardDoes : Type 0
@@ -86,7 +93,7 @@ module _ (lengths : List ℕ) (code : CodeParts) where
       CallDoes = (s : Side) → InHand scope layout f own a arrays
           → instrs_of code at ≡ call_code procedures layout s next → FitsSide procedures scope layout s
           → IsDistinctLayout (parameter_layout (procedure_named procedures s.callee.name).parameters)
-          → length (argument_nodes s.arguments) ≤ 48
+          → AreSmall (argument_nodes s.arguments)
           → Called lengths code procedures s (cost 1 1 0 (frame_words (callee_slots procedures s))) own a at next (target_of layout s.target)
           (entered procedures f arrays s)
 
@@ -96,7 +103,7 @@ module _ (lengths : List ℕ) (code : CodeParts) where
           → IsDistinctLayout (parameter_layout (procedure_named procedures s.callee.name).parameters)
           → IsDistinctLayout (parameter_layout (procedure_named procedures u.callee.name).parameters)
           → slots_of code (callee_number procedures s) ≡ callee_slots procedures s
-          → length (argument_nodes s.arguments ++ argument_nodes u.arguments) ≤ 48
+          → AreSmall (argument_nodes s.arguments ++ argument_nodes u.arguments)
           → Forked lengths code procedures s u (fork_words (callee_slots procedures s) (callee_slots procedures u)) own a at next
           (target_of layout s.target) (target_of layout u.target) (both_entered procedures f arrays s u)
 

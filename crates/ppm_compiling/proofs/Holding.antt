@@ -17,7 +17,8 @@ use Rattle.ppm_tree.specs.Meaning.{End, Ended, Trapped, with_parts as parts_fram
 use Rattle.ppm_owning.specs.Coming.{stretch}
 use Rattle.ppm_regions.specs.Scope.{Declaration, Scope, declared, is_region}
 use Rattle.ppm_translation.specs.Layout.{Layout, slot_of, parameter_layout}
-use Rattle.ppm_translation.specs.Fits.{Has, scope_of}
+use Rattle.ppm_regions.specs.Scope.{scope_of}
+use Rattle.ppm_translation.specs.Fits.{Has}
 use Rattle.ppm_translation.specs.Statements.{number_of}
 use Rattle.ppm_compiling.proofs.ChainLemmas.{Cost, cost, Chain}
 

@@ -1,6 +1,6 @@
 -- That the code of a program ends exactly where the program does, as it means.
 use Rattle.std.specs.Prelude.{◌≡◌, ◌≤◌, ◌<◌, ◌⊎◌, ℕ, ◌+◌, ◌-◌, ◌*◌, ℤ, pos, negsuc, List, [], ◌∷◌, length, map}
-use Rattle.std.specs.List.{All, sum}
+use Rattle.std.specs.List.{sum_by}
 use Rattle.std.specs.Set.{distinct_count}
 use Rattle.std.specs.Str.{bytes_eq}
 use Rattle.ppm_strands.specs.Tree.{Words, Tree}
@@ -43,7 +43,7 @@ pub record IsEndOf (t : ProgramTree) (input : List NamedArray) (e : CapsuleEnd R
   pub outcome : said_of input e.words e.outcome ≡ outcome_of input z
   pub capsules : e.counts.capsules ≤ 2 * k.turns
   pub forks : e.counts.forks ≡ k.forks
-  pub block_words : e.counts.block_words ≡ sum (map (words_begun t.procedures) k.begun)
+  pub block_words : e.counts.block_words ≡ sum_by (words_begun t.procedures) k.begun
 
 -- From an input the program, run whole, has an end exactly where its code's depth-first run has one, and it is the same. Where it has none the
 -- code runs as many capsules as one likes.

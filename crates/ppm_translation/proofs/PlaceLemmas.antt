@@ -187,6 +187,7 @@ module _ (procedures : List Procedure) (code : CodeParts) where
           ap instrs_in own.0,
           ap instrs_in own.1.0,
           ap instrs_in own.1.1.0,
+          r.0.slots,
           block_has h (hidden_named_slots names block) (hidden_layout layout i x block) (element_block (entry_of code h)) (suc h) (Gives None) block
               own.1.1.1 r.1,
         )

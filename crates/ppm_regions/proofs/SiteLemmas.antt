@@ -11,8 +11,8 @@ use Rattle.ppm_regions.specs.Uses.{Site, Use, Declares, Begins, Fills, declarati
 use Rattle.ppm_regions.specs.Uses.{sites_of_names, uses_of, uses_of_main, parameters_of, sites_of_give}
 use Rattle.ppm_regions.specs.Correct.{Makes, KeepsRules}
 use Rattle.ppm_regions.proofs.Elements.{contains_map, contains_head, contains_tail, contains_cases}
-use Rattle.ppm_owning.specs.Coming.{scope_of}
-use Rattle.ppm_owning.proofs.ScopeLemmas.{names_same, same_names, declared_in_front, declared_behind, none_and_some}
+use Rattle.ppm_regions.specs.Scope.{scope_of}
+use Rattle.ppm_regions.proofs.ScopeLemmas.{names_same, same_names, declared_in_front, declared_behind, none_and_some}
 
 module _ (t : ProgramTree) where
   -- these sites are sites of the program
