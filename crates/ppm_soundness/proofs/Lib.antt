@@ -2,3 +2,4 @@ pub mod CalmLemmas
 pub mod OwnLemmas
 pub mod TameLemmas
 pub mod TameExpressions
+pub mod StandLemmas
