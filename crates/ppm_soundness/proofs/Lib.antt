@@ -3,3 +3,4 @@ pub mod OwnLemmas
 pub mod TameLemmas
 pub mod TameExpressions
 pub mod StandLemmas
+pub mod LevelLemmas

@@ -1,5 +1,5 @@
 -- The array words that a scope with its regions owns, as addresses: the arrays lie one after the other.
-use Rattle.std.proofs.Common.{◌≡◌, ◌≢◌, ◌≤◌, ◌<◌, ℕ, zero, suc, ◌+◌, ◌*◌, ◌/◌, ◌%◌, ◌^◌, List, [], ◌∷◌, map, get_or, length, refl, sym, ap, ◌∙◌, subst, arith, ◌-◌, ap₂}
+use Rattle.std.proofs.Common.{◌≡◌, ◌≤◌, ◌<◌, ℕ, zero, suc, ◌+◌, ◌*◌, ◌^◌, List, [], ◌∷◌, map, refl, sym, ap, ◌∙◌, subst, arith, ◌-◌, ap₂}
 use Rattle.std.specs.List.{sum}
 use Rattle.std.proofs.lemmas.Nat.{div-mul-add, mod-mul-add}
 use Rattle.std.proofs.lemmas.List.Sums.{sum_by-cons}
@@ -7,7 +7,6 @@ use Rattle.ppm_code.specs.Acts.{start_of, length_of}
 use Rattle.ppm_tree.specs.declared.tree.Array.{Array}
 use Rattle.ppm_tree.specs.State.{Region, Regions, first_part, second_part}
 use Rattle.ppm_regions.specs.Scope.{Scope}
-use Rattle.ppm_owning.specs.Words.{HasWord}
 use Rattle.ppm_owning.specs.Owning.{IsSeen, IsWritable, Owns, MayWrite, words_at, LieInArrays, OwnsNoMore, AreSeparate}
 use Rattle.ppm_owning.proofs.ScopeLemmas.{written_owned, writable_seen}
 use Rattle.ppm_soundness.proofs.CalmLemmas.{IsLess, AreApart}

@@ -1,40 +1,29 @@
 -- Where a frame of the code may stand: at a block of a procedure, in which the slots hold the regions that are in force, and behind which it
 -- goes on in blocks around.
-use Rattle.std.proofs.Common.{◌≡◌, ◌≢◌, ◌≤◌, ◌<◌, ℕ, zero, suc, ◌+◌, ◌==◌, cond, Bool, true, false, List, [], ◌∷◌, ◌++◌, Option, Some, None, length, inl, inr, ◌⊎◌, refl, sym, ap, ◌∙◌, subst, arith}
+use Rattle.std.proofs.Common.{◌≡◌, ◌≢◌, ◌≤◌, ◌<◌, ℕ, suc, ◌+◌, ◌==◌, cond, Bool, true, false, List, [], ◌∷◌, ◌++◌, Option, Some, None, length, refl, sym, ap, ◌∙◌, subst, arith}
 use Rattle.std.specs.Str.{bytes_eq}
 use Rattle.std.proofs.lemmas.Bool.{eqb-true, eq-eqb}
-use Rattle.ppm_strands.specs.Tree.{Tree}
 use Rattle.ppm_capsules.specs.Capsule.{Memory, store}
-use Rattle.ppm_capsules.specs.Strand.{Frame as CapsuleFrame, Own, own_of}
-use Rattle.ppm_code.specs.declared.act.End.TheVariants as ends
+use Rattle.ppm_capsules.specs.Strand.{Own, own_of}
 use Rattle.ppm_code.specs.declared.code.CodeParts.{CodeParts}
-use Rattle.ppm_code.specs.declared.instr.Instr.TheVariants as instr
 use Rattle.ppm_code.specs.declared.location.FrameWord.{FrameWord}
 use Rattle.ppm_code.specs.declared.location.FrameWord.TheVariants.{Slot}
 use Rattle.ppm_code.specs.Locations.{Where, code_locations}
-use Rattle.ppm_code.specs.Strands.{Point, Result, instrs_of, entry_of, with_value}
-use Rattle.ppm_tree.specs.declared.named.Named.{Named}
+use Rattle.ppm_code.specs.Strands.{with_value}
 use Rattle.ppm_tree.specs.Tree.{Expression, Statement, Block, Nil, Then, Procedure, ProgramTree}
 use Rattle.ppm_tree.specs.Tree as tree
-use Rattle.ppm_tree.specs.State.{Frame, Region, Regions}
+use Rattle.ppm_tree.specs.State.{Frame}
 use Rattle.ppm_regions.specs.Scope.{Declaration, Scope, declared, is_region, lets_of, scope_behind}
 use Rattle.ppm_regions.specs.Uses.{sites_of_block}
-use Rattle.ppm_owning.specs.Words.{IsPart}
 use Rattle.ppm_owning.specs.Owning.{IsSeen, OwnsApart, LieInArrays, OwnsNoMore}
-use Rattle.ppm_regions.specs.Scope.{each_scope}
-use Rattle.ppm_owning.specs.Coming.{part_frame}
-use Rattle.ppm_regions.proofs.ScopeLemmas.{same_names, names_same, declared_in_front, none_and_some, some_same}
-use Rattle.ppm_owning.proofs.ScopeLemmas.{seen_before, mut_before, owned_before, written_before}
-use Rattle.ppm_regions.proofs.SiteLemmas.{AreSites, sites_behind}
+use Rattle.ppm_regions.proofs.ScopeLemmas.{same_names, some_same}
+use Rattle.ppm_regions.proofs.SiteLemmas.{AreSites}
 use Rattle.ppm_bounds.specs.Slots.{most_in_force}
 use Rattle.ppm_translation.specs.Layout.{Layout, slot_of, caught}
-use Rattle.ppm_translation.specs.Numbers.{behind, hidden_behind, halving}
+use Rattle.ppm_translation.specs.Numbers.{behind, hidden_behind}
 use Rattle.ppm_translation.specs.Statements.{Last, OnTo, Gives, with_lets, with_parts, hidden_layout}
-use Rattle.ppm_translation.specs.Routines.{hidden_of, hidden_of_block}
-use Rattle.ppm_translation.specs.Standing.{HasStatement, HasBlock}
-use Rattle.ppm_translation.specs.Fits.{Has, IsNew, IsKept, FitsStatement, FitsBlock, FitsGive, layout_behind}
-use Rattle.ppm_translation.proofs.LayoutLemmas.{slot_in_front, has_in_front}
-use Rattle.ppm_translation.proofs.PlaceLemmas.{ArePlaced, placed_second, hidden_past}
+use Rattle.ppm_translation.specs.Standing.{HasBlock}
+use Rattle.ppm_translation.specs.Fits.{Has, IsKept, FitsBlock, FitsGive, layout_behind}
 use Rattle.ppm_soundness.proofs.OwnLemmas.{Label, region_word}
 
 -- the blocks of each `each` catch so few names that these and what else a hidden procedure loads have registers of their own
@@ -185,7 +174,6 @@ module _ (t : ProgramTree) (code : CodeParts) where
   -- what is known of a level whatever the frame's words are
   pub record Stays (l : Label) (v : Level) : Type 0 where
     pub stands : HasBlock t.procedures code v.spare v.layout v.at v.h v.last v.block
-    pub placed : ArePlaced t.procedures code v.h (hidden_of_block v.layout v.h v.block)
     pub fits : FitsBlock t.procedures v.scope v.layout v.block
     pub gives : LastFits v.scope v.layout v.block v.last
     pub room : length v.layout + most_in_force v.block ≤ v.spare

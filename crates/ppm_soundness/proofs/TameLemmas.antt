@@ -1,13 +1,13 @@
 -- Capsules that are tame: each word that one reads is owned, each that it writes may be written, and what its end opens is as it is to be.
 -- One lemma an instruction says that it may stand in front of what is tame.
-use Rattle.std.proofs.Common.{◌≡◌, ◌≢◌, ◌≤◌, ◌<◌, ℕ, zero, suc, ◌+◌, ◌-◌, ◌==◌, max, nat_lt, Bool, true, false, ◌&&◌, cond, List, [], ◌∷◌, Option, Some, None, slice_set, slice_index, length, get_or, inl, inr, refl, sym, ap, ◌∙◌, subst, arith}
-use Rattle.std.specs.Prelude.{ℤ, pos, int_div, int_rem, ◌+ℤ◌, ◌-ℤ◌, ◌*ℤ◌}
+use Rattle.std.proofs.Common.{◌≡◌, ◌≢◌, ◌≤◌, ◌<◌, ℕ, ◌+◌, ◌-◌, ◌==◌, max, nat_lt, Bool, true, false, ◌&&◌, cond, List, [], ◌∷◌, Some, None, slice_set, length, inl, inr, refl, sym, ◌∙◌, subst, arith}
+use Rattle.std.specs.Prelude.{ℤ, int_div}
 use Rattle.std.proofs.lemmas.Bool.{ltb-true, ltb-false}
 use Rattle.std.proofs.lemmas.List.{length-set, get_or-set_same, get_or-set_other}
 use Rattle.ppm_strands.specs.Tree.{Has}
 use Rattle.ppm_capsules.specs.Capsule.{Capsule, Reads, Writes, Asks as AsksFor, Ends, Memory, is_in, store, ending, leaves, written, exposed_past}
 use Rattle.ppm_capsules.specs.Strand.{Own, New as NewWord, Shared, addresses, own_of, new_of}
-use Rattle.ppm_words.specs.TwosComplement.{word_of, value_of}
+use Rattle.ppm_words.specs.TwosComplement.{word_of}
 use Rattle.ppm_words.specs.declared.trap.Trap.{Trap}
 use Rattle.ppm_words.specs.declared.trap.Trap.TheVariants.{Overflow, DivZero}
 use Rattle.ppm_words.specs.declared.trap.Trap.TheVariants as trap
@@ -20,7 +20,7 @@ use Rattle.ppm_code.specs.declared.act.End.TheVariants.{Trap as Trapped}
 use Rattle.ppm_code.specs.declared.act.Act.{Act}
 use Rattle.ppm_code.specs.declared.act.Act.TheVariants.{Sets, Passes, Jumps, Steps, Ends as Stops}
 use Rattle.ppm_code.specs.declared.act.Step.{Step}
-use Rattle.ppm_code.specs.declared.act.Step.TheVariants.{Loads, Stores, Asks}
+use Rattle.ppm_code.specs.declared.act.Step.TheVariants.{Loads, Stores}
 use Rattle.ppm_code.specs.declared.instr.Instr.{Instr}
 use Rattle.ppm_code.specs.declared.instr.Instr.TheVariants as instr
 use Rattle.ppm_code.specs.Acts.{held, does, is_zero, fits, traps, whole, divided, start_of, length_of, element_of, at_element}
