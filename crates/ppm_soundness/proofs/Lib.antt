@@ -4,3 +4,4 @@ pub mod TameLemmas
 pub mod TameExpressions
 pub mod StandLemmas
 pub mod LevelLemmas
+pub mod BlockLemmas

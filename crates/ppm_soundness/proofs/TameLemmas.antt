@@ -1,8 +1,8 @@
 -- Capsules that are tame: each word that one reads is owned, each that it writes may be written, and what its end opens is as it is to be.
 -- One lemma an instruction says that it may stand in front of what is tame.
-use Rattle.std.proofs.Common.{◌≡◌, ◌≢◌, ◌≤◌, ◌<◌, ℕ, ◌+◌, ◌-◌, ◌==◌, max, nat_lt, Bool, true, false, ◌&&◌, cond, List, [], ◌∷◌, Some, None, slice_set, length, inl, inr, refl, sym, ◌∙◌, subst, arith}
+use Rattle.std.proofs.Common.{◌≡◌, ◌≢◌, ◌≤◌, ◌<◌, ℕ, ◌+◌, ◌-◌, ◌*◌, ◌^◌, nat_le, ◌==◌, max, nat_lt, Bool, true, false, ◌&&◌, cond, List, [], ◌∷◌, Some, None, slice_set, length, inl, inr, refl, sym, ◌∙◌, subst, arith}
 use Rattle.std.specs.Prelude.{ℤ, int_div}
-use Rattle.std.proofs.lemmas.Bool.{ltb-true, ltb-false}
+use Rattle.std.proofs.lemmas.Bool.{ltb-true, ltb-false, leb-true}
 use Rattle.std.proofs.lemmas.List.{length-set, get_or-set_same, get_or-set_other}
 use Rattle.ppm_strands.specs.Tree.{Has}
 use Rattle.ppm_capsules.specs.Capsule.{Capsule, Reads, Writes, Asks as AsksFor, Ends, Memory, is_in, store, ending, leaves, written, exposed_past}
@@ -231,6 +231,27 @@ module _ (world : World) where
         go : (b : Bool) → Tame (at_act (λ t k. capsule_from world.words (here + 1) (t - (here + 1)) is k) (here + 1) (cond b Passes (Jumps target)) g) m
         go true = onward here is g m on
         go false = there
+
+    -- the parts of a region
+    pub go_cut_left : (d a b : Register) (line : ℕ) → (held g b ≤ length_of (held g a)
+        → Goes (here + 1) is (slice_set g d.index (start_of (held g a) * 2 ^ 32 + held g b)) m) → Goes here (instr.CutLeft d a b line ∷ is) g m
+    go_cut_left d a b line h = go (nat_le (held g b) (length_of (held g a))) refl
+      where
+        go : (c : Bool) → nat_le (held g b) (length_of (held g a)) ≡ c
+            → Tame (at_act (λ t k. capsule_from world.words (here + 1) (t - (here + 1)) is k) (here + 1)
+            (cond c (Sets d (start_of (held g a) * 2 ^ 32 + held g b)) (traps trap.Split line)) g) m
+        go true e = onward here is (slice_set g d.index (start_of (held g a) * 2 ^ 32 + held g b)) m (h (leb-true (held g b) (length_of (held g a)) e))
+        go false e = tame_end (Trapped trap.Split line) m (world.trapped trap.Split line (own_of m) (new_of m))
+
+    pub go_cut_right : (d a b : Register) (line : ℕ)
+        → Goes (here + 1) is (slice_set g d.index ((start_of (held g a) + held g b) * 2 ^ 32 + (length_of (held g a) - held g b))) m
+        → Goes here (instr.CutRight d a b line ∷ is) g m
+    go_cut_right d a b line h = go (nat_le (held g b) (length_of (held g a)) && nat_lt (start_of (held g a) + held g b) (2 ^ 32))
+      where
+        go : (c : Bool) → Tame (at_act (λ t k. capsule_from world.words (here + 1) (t - (here + 1)) is k) (here + 1)
+            (cond c (Sets d ((start_of (held g a) + held g b) * 2 ^ 32 + (length_of (held g a) - held g b))) (traps trap.Split line)) g) m
+        go true = onward here is (slice_set g d.index ((start_of (held g a) + held g b) * 2 ^ 32 + (length_of (held g a) - held g b))) m h
+        go false = tame_end (Trapped trap.Split line) m (world.trapped trap.Split line (own_of m) (new_of m))
 
     -- an element of a region
     at_found : (line region index : ℕ) (step : ℕ → Step)
