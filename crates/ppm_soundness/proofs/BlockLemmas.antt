@@ -55,6 +55,18 @@ use Rattle.ppm_soundness.proofs.StandLemmas.{Level, level, IsUnder, under_itself
 use Rattle.ppm_soundness.proofs.StandLemmas.{LastFits, Stays, Holds, Leads, IsOver, GoesOn, leads_on, IsAt, at_on, leads_onto}
 use Rattle.ppm_soundness.proofs.LevelLemmas.{behind_at, under_behind, has_cases, has_one, has_none, IsSwept, element_level, element_at, Runs, Begins, Moves, Puts, Enters, Halves, IsDone, Waits, ForCallee, ForHalves}
 
+-- the registers with which a capsule begins
+abbrev pub zeros : List ℕ
+zeros = replicate 64 0
+
+-- the same declarations in a block inside, and around it
+pub under_same : (scope : Scope) (layout : Layout) (v w : Level) → v.layout ≡ layout → w.layout ≡ layout → v.scope ≡ scope → w.scope ≡ scope ++ []
+    → IsUnder w v
+under_same scope layout v w p q r s = record {
+  front = λ x has. (subst (λ (k : Layout). Has k x) (q ∙ sym p) has, ap (λ (k : Layout). slot_of k x) (p ∙ sym q));
+  stays = λ x d f region. (d, subst (λ (k : Scope). declared k x ≡ Some d) (s ∙ append-nil scope ∙ sym r) f, region);
+}
+
 module _ (t : ProgramTree) (code : CodeParts) (rules : KeepsRules t) (admitted : IsAdmitted t) (short : AreShort t.arrays) (words : ℕ) (l : Label) where
   -- what the frame owns, and what ends are to open
   abbrev pub world : World
@@ -65,9 +77,6 @@ module _ (t : ProgramTree) (code : CodeParts) (rules : KeepsRules t) (admitted :
     Opens = λ e own new. IsGood (OwnsWord t.arrays) (WritesWord t.arrays) (Runs t code rules admitted) (Waits t code rules admitted) l (opens code e own new);
     trapped = λ trap line own new. tt;
   }
-
-  abbrev pub zeros : List ℕ
-  zeros = replicate 64 0
 
   pub zeros_kept : (d : ℕ) → Keeps d zeros zeros
   zeros_kept d = keeps_itself d zeros refl
@@ -105,7 +114,7 @@ module _ (t : ProgramTree) (code : CodeParts) (rules : KeepsRules t) (admitted :
     pub step_back : (s : Statement) (own : FrameWord → ℕ) → IsAt t code l own (front s) → IsAt t code l own (back s)
     step_back s own a = behind_at t code rules admitted l spare scope layout at h last s rest frame own a
 
-    let_tame : (x : Named) (e : Expression) → IsAt t code l (own_of m) (front (tree.Let x e)) → Goes world 0 (let_code layout e (suc at)) zeros m
+    pub let_tame : (x : Named) (e : Expression) → IsAt t code l (own_of m) (front (tree.Let x e)) → Goes world 0 (let_code layout e (suc at)) zeros m
     let_tame x e a =
         let v = front (tree.Let x e) in
         value_tame m v a e a.stays.fits.0.0 0 0 0 (instr.StoreCur (length layout) (register 0) ∷ onward (suc at)) zeros zeros refl (zeros_kept 0) (λ g k.
@@ -118,7 +127,7 @@ module _ (t : ProgramTree) (code : CodeParts) (rules : KeepsRules t) (admitted :
     spare_off : (s : Statement) (k : ℕ) → IsAt t code l (own_of m) (front s) → spare ≤ k → IsOff (front s) k
     spare_off s k a low = let r = a.stays.room in off_behind (front s) k (omega (arith, r, low))
 
-    assign_tame : (x : Named) (e : Expression) → IsAt t code l (own_of m) (front (tree.Assign x e)) → Goes world 0 (value_code layout spare e (suc at)) zeros m
+    pub assign_tame : (x : Named) (e : Expression) → IsAt t code l (own_of m) (front (tree.Assign x e)) → Goes world 0 (value_code layout spare e (suc at)) zeros m
     assign_tame x e a =
         let v = front (tree.Assign x e) in
         value_tame m v a e a.stays.fits.0.1 0 0 0 (instr.StoreCur spare (register 0) ∷ onward (suc at)) zeros zeros refl (zeros_kept 0) (λ g k.
@@ -139,7 +148,7 @@ module _ (t : ProgramTree) (code : CodeParts) (rules : KeepsRules t) (admitted :
         (next_tame m' 2 g (back (tree.Assign x e)) (step_back (tree.Assign x e) (own_of m')
         (stored m v slot (held g (register 0)) (off_local v x.name a.stays.fits.0.0) a))))
 
-    element_tame : (x : Named) (index e : Expression) → IsAt t code l (own_of m) (front (tree.Put x index e))
+    pub element_tame : (x : Named) (index e : Expression) → IsAt t code l (own_of m) (front (tree.Put x index e))
         → Goes world 0 (element_code layout spare index e (suc at)) zeros m
     element_tame x index e a =
         let s = tree.Put x index e in
@@ -189,7 +198,7 @@ module _ (t : ProgramTree) (code : CodeParts) (rules : KeepsRules t) (admitted :
         (λ y. next_tame (store code_locations m (Shared y) (held k (register 2))) 4 k (back s) (step_back s (own_of m) a)))))
 
     -- a test
-    test_tame : (s : Statement) (a : IsAt t code l (own_of m) (front s)) (e : Expression) → FitsExpression scope layout e → (inside next : Level)
+    pub test_tame : (s : Statement) (a : IsAt t code l (own_of m) (front s)) (e : Expression) → FitsExpression scope layout e → (inside next : Level)
         → IsAt t code l (own_of m) inside → IsAt t code l (own_of m) next → Goes world 0 (test_code layout e inside.at next.at) zeros m
     test_tame s a e fits inside next b c =
         let v = front s in
@@ -201,14 +210,7 @@ module _ (t : ProgramTree) (code : CodeParts) (rules : KeepsRules t) (admitted :
         (next_tame m (u + 1 + 1) g next c))
         (go_end world (u + 1) (onward next.at) g m (ends.Next inside.at) (Begins inside refl b)))
 
-    -- the same declarations in a block inside, and around it
-    under_same : (v w : Level) → v.layout ≡ layout → w.layout ≡ layout → v.scope ≡ scope → w.scope ≡ scope ++ [] → IsUnder w v
-    under_same v w p q r s = record {
-      front = λ x has. (subst (λ (k : Layout). Has k x) (q ∙ sym p) has, ap (λ (k : Layout). slot_of k x) (p ∙ sym q));
-      stays = λ x d f region. (d, subst (λ (k : Scope). declared k x ≡ Some d) (s ∙ append-nil scope ∙ sym r) f, region);
-    }
-
-    if_tame : (e : Expression) (b c : Block) → IsAt t code l (own_of m) (front (tree.If e b c)) → Goes world 0 (instrs_of code at) zeros m
+    pub if_tame : (e : Expression) (b c : Block) → IsAt t code l (own_of m) (front (tree.If e b c)) → Goes world 0 (instrs_of code at) zeros m
     if_tame e b c a =
         let s = tree.If e b c in
         let first = suc (end_of b (suc at)) in
@@ -232,7 +234,7 @@ module _ (t : ProgramTree) (code : CodeParts) (rules : KeepsRules t) (admitted :
             home = a.stays.home;
           };
           holds = record { holds = a.holds.holds };
-          leads = leads_onto t code l (own_of m) inside (back s) refl (under_same inside (back s) refl refl refl refl) outer;
+          leads = leads_onto t code l (own_of m) inside (back s) refl (under_same scope layout inside (back s) refl refl refl refl) outer;
         } in
         let at_other : IsAt t code l (own_of m) other = record {
           stays = record {
@@ -247,11 +249,11 @@ module _ (t : ProgramTree) (code : CodeParts) (rules : KeepsRules t) (admitted :
             home = a.stays.home;
           };
           holds = record { holds = a.holds.holds };
-          leads = leads_onto t code l (own_of m) other (back s) refl (under_same other (back s) refl refl refl refl) outer;
+          leads = leads_onto t code l (own_of m) other (back s) refl (under_same scope layout other (back s) refl refl refl refl) outer;
         } in
         subst (λ (is : List Instr). Goes world 0 is zeros m) (sym a.stays.stands.0.0) (test_tame s a e a.stays.fits.0.0 inside other at_inside at_other)
 
-    while_tame : (e : Expression) (b : Block) → IsAt t code l (own_of m) (front (tree.While e b)) → Goes world 0 (instrs_of code at) zeros m
+    pub while_tame : (e : Expression) (b : Block) → IsAt t code l (own_of m) (front (tree.While e b)) → Goes world 0 (instrs_of code at) zeros m
     while_tame e b a =
         let s = tree.While e b in
         let inside = level spare scope layout (suc at) h (OnTo at) b frame in
@@ -291,7 +293,7 @@ module _ (t : ProgramTree) (code : CodeParts) (rules : KeepsRules t) (admitted :
         subst (λ (n : ℕ). Goes world 0 (onward n) zeros m) (sym (next_is next w.at (sym e ∙ is)))
         (next_tame m 0 zeros w (record { stays = stays; holds = holds; leads = leads }))
 
-    nil_tame : (last : Last) → IsAt t code l (own_of m) (level spare scope layout at h last Nil frame) → Goes world 0 (last_code layout last) zeros m
+    pub nil_tame : (last : Last) → IsAt t code l (own_of m) (level spare scope layout at h last Nil frame) → Goes world 0 (last_code layout last) zeros m
     nil_tame (OnTo next) a = onto_tame next (level spare scope layout at h (OnTo next) Nil frame) refl a.leads
     nil_tame (Gives None) a = over_tame 0 [] zeros m
     nil_tame (Gives (Some g)) a =

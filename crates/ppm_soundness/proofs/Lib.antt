@@ -5,3 +5,4 @@ pub mod TameExpressions
 pub mod StandLemmas
 pub mod LevelLemmas
 pub mod BlockLemmas
+pub mod SplitTame
