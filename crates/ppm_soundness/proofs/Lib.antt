@@ -6,3 +6,4 @@ pub mod StandLemmas
 pub mod LevelLemmas
 pub mod BlockLemmas
 pub mod SplitTame
+pub mod GivenLemmas
