@@ -7,3 +7,4 @@ pub mod LevelLemmas
 pub mod BlockLemmas
 pub mod SplitTame
 pub mod GivenLemmas
+pub mod CallTame
