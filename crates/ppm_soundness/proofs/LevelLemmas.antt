@@ -148,7 +148,7 @@ module _ (t : ProgramTree) (code : CodeParts) (rules : KeepsRules t) (admitted :
     }
 
   -- the block of an `each` whose part is this region
-  pub record IsSwept (own : FrameWord → ℕ) (entry : ℕ) : Type 0 where
+  pub record IsSwept (own : FrameWord → ℕ) : Type 0 where
     pub around : Label
     pub spare : ℕ
     pub scope : Scope
@@ -163,14 +163,14 @@ module _ (t : ProgramTree) (code : CodeParts) (rules : KeepsRules t) (admitted :
     pub rest : Block
     pub frame : Frame
     pub q : Region
-    pub entered : entry ≡ entry_of code h
     pub stays : Stays t code around (level spare scope layout at h last (Then (tree.Each i x r block) rest) frame)
     pub part : IsPart q (frame.regions r.name)
     pub home : OwnsNoMore (each_scope scope r i x) (part_frame frame x q).regions l.scope l.regions
+    pub first : own (Slot 0) ≡ region_word t.arrays q
     pub holds : (z : List ℕ) → IsSeen (each_scope scope r i x) z → Has (hidden_layout layout i x block) z
         → own (Slot (slot_of (hidden_layout layout i x block) z)) ≡ region_word t.arrays ((part_frame frame x q).regions z)
 
-  module _ (own : FrameWord → ℕ) (entry : ℕ) (w : IsSwept own entry) where
+  module _ (own : FrameWord → ℕ) (w : IsSwept own) where
     abbrev pub element_level : Level
     element_level =
         level (hidden_named_slots (length (caught w.layout w.block)) w.block) (each_scope w.scope w.r w.i w.x) (hidden_layout w.layout w.i w.x w.block)
@@ -200,8 +200,8 @@ module _ (t : ProgramTree) (code : CodeParts) (rules : KeepsRules t) (admitted :
         → f.point.capsule ≡ suc at → IsAt t code l f.own (level spare scope layout at h last (Then (tree.Assign x e) rest) frame) → Runs f
     Puts : (spare : ℕ) (scope : Scope) (layout : Layout) (at h : ℕ) (last : Last) (x : Named) (index e : Expression) (rest : Block) (frame : Frame)
         → f.point.capsule ≡ suc at → IsAt t code l f.own (level spare scope layout at h last (Then (tree.Put x index e) rest) frame) → Runs f
-    Enters : (entry : ℕ) → f.point.capsule ≡ entry → IsSwept f.own entry → Runs f
-    Halves : (entry : ℕ) → f.point.capsule ≡ halving entry → IsSwept f.own entry → Runs f
+    Enters : (w : IsSwept f.own) → f.point.capsule ≡ entry_of code w.h → Runs f
+    Halves : (w : IsSwept f.own) → f.point.capsule ≡ halving (entry_of code w.h) → Runs f
     IsDone : instrs_of code f.point.capsule ≡ instr.Ends ends.Finish ∷ [] → Runs f
 
   pub data Waits (g : CapsuleFrame FrameWord Point) : Type 0 where

@@ -8,3 +8,5 @@ pub mod BlockLemmas
 pub mod SplitTame
 pub mod GivenLemmas
 pub mod CallTame
+pub mod EachTame
+pub mod HalfTame
