@@ -58,7 +58,7 @@ use Rattle.ppm_owning.proofs.SplitLemmas.{split_apart}
 use Rattle.ppm_owning.proofs.ComingLemmas.{split_comes, split_new, split_sites, split_whole}
 use Rattle.std.specs.Option.{option_map}
 use Rattle.std.specs.Prelude.{◌||◌}
-use Rattle.ppm_soundness.proofs.BlockLemmas.{world, zeros, zeros_kept, owned, value_tame, next_tame, stored, step_back, under_same}
+use Rattle.ppm_soundness.proofs.BlockTame.{world, zeros, zeros_kept, owned, value_tame, next_tame, stored, step_back, under_same}
 use Rattle.std.specs.Prelude.{Ok}
 use Rattle.std.proofs.lemmas.List.{length-map}
 use Rattle.std.specs.List.{Contains, All}

@@ -4,7 +4,7 @@ pub mod TameLemmas
 pub mod TameExpressions
 pub mod StandLemmas
 pub mod LevelLemmas
-pub mod BlockLemmas
+pub mod BlockTame
 pub mod SplitTame
 pub mod GivenLemmas
 pub mod CallTame

@@ -58,7 +58,7 @@ use Rattle.ppm_owning.proofs.SplitLemmas.{split_apart}
 use Rattle.ppm_owning.proofs.ComingLemmas.{split_comes, split_new, split_sites, split_whole}
 use Rattle.std.specs.Option.{option_map}
 use Rattle.std.specs.Prelude.{◌||◌}
-use Rattle.ppm_soundness.proofs.BlockLemmas.{world, zeros, zeros_kept, owned, value_tame, next_tame, stored, step_back, under_same}
+use Rattle.ppm_soundness.proofs.BlockTame.{world, zeros, zeros_kept, owned, value_tame, next_tame, stored, step_back, under_same}
 
 -- a region that is seen through a change of declarations, and behind none of more declarations, is seen without it
 pub seen_back : (g : Declaration → Declaration) → ((d : Declaration) → (g d).name.name ≡ d.name.name) → ((d : Declaration) → (g d).mode ≡ d.mode)
