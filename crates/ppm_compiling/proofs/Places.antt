@@ -4,7 +4,8 @@ use Rattle.std.specs.List.{AllByRecursion, sum}
 use Rattle.ppm_tree.specs.declared.named.Named.{Named}
 use Rattle.ppm_tree.specs.Tree.{Expression, Side, Statement, Block, Nil, Then, Let, Assign, Put, If, While, Split, Each, Procedure, ProgramTree}
 use Rattle.ppm_tree.specs.Tree as tree
-use Rattle.ppm_tree.specs.Parts.{nodes_of, statement_and_inner, statements_in}
+use Rattle.ppm_tree.specs.Limits.{IsSmallStatement}
+use Rattle.ppm_tree.specs.Parts.{statement_and_inner, statements_in}
 use Rattle.ppm_tree.specs.State.{Frame, Locals, Arrays, with_locals, procedure_named, entered, both_entered}
 use Rattle.ppm_regions.specs.Scope.{Scope, scope_of, split_scope, each_scope, lets_of}
 use Rattle.ppm_regions.specs.Admission.{IsAdmitted}
@@ -23,19 +24,19 @@ use Rattle.ppm_compiling.proofs.Holding.{Lies}
 
 -- the statements of a block are small, and so are the hidden procedures in it
 pub record IsModest (b : Block) : Type 0 where
-  pub nodes : AllByRecursion (λ s. length (nodes_of s) ≤ 48) (statements_in b)
+  pub small : AllByRecursion IsSmallStatement (statements_in b)
   pub slots : AllByRecursion (λ s. count_of bound.Slots s ≤ 24) (statements_in b)
 
 pub modest_behind : (s : Statement) (b : Block) → IsModest (Then s b) → IsModest b
 modest_behind s b m = record {
-  nodes = all-second (λ s. length (nodes_of s) ≤ 48) (statement_and_inner s) (statements_in b) m.nodes;
+  small = all-second IsSmallStatement (statement_and_inner s) (statements_in b) m.small;
   slots = all-second (λ s. count_of bound.Slots s ≤ 24) (statement_and_inner s) (statements_in b) m.slots;
 }
 
-pub modest_inner : (s : Statement) (b : Block) → IsModest (Then s b) → AllByRecursion (λ s. length (nodes_of s) ≤ 48) (statement_and_inner s)
+pub modest_inner : (s : Statement) (b : Block) → IsModest (Then s b) → AllByRecursion IsSmallStatement (statement_and_inner s)
     × AllByRecursion (λ s. count_of bound.Slots s ≤ 24) (statement_and_inner s)
 modest_inner s b m = (
-  all-first (λ s. length (nodes_of s) ≤ 48) (statement_and_inner s) (statements_in b) m.nodes,
+  all-first IsSmallStatement (statement_and_inner s) (statements_in b) m.small,
   all-first (λ s. count_of bound.Slots s ≤ 24) (statement_and_inner s) (statements_in b) m.slots,
 )
 
@@ -103,7 +104,7 @@ module _ (t : ProgramTree) where
     room = omega (arith, w.room);
     few = w.few;
     modest = record {
-      nodes = all-first (λ s. length (nodes_of s) ≤ 48) (statements_in s) (statements_in u) m.0.1;
+      small = all-first IsSmallStatement (statements_in s) (statements_in u) m.0.1;
       slots = all-first (λ s. count_of bound.Slots s ≤ 24) (statements_in s) (statements_in u) m.1.1;
     };
   }
@@ -119,7 +120,7 @@ module _ (t : ProgramTree) where
     room = omega (arith, w.room);
     few = w.few;
     modest = record {
-      nodes = all-second (λ s. length (nodes_of s) ≤ 48) (statements_in s) (statements_in u) m.0.1;
+      small = all-second IsSmallStatement (statements_in s) (statements_in u) m.0.1;
       slots = all-second (λ s. count_of bound.Slots s ≤ 24) (statements_in s) (statements_in u) m.1.1;
     };
   }
@@ -134,7 +135,7 @@ module _ (t : ProgramTree) where
     once = w.once;
     room = omega (arith, w.room);
     few = w.few;
-    modest = record { nodes = m.0.1; slots = m.1.1 };
+    modest = record { small = m.0.1; slots = m.1.1 };
   }
 
   -- in the block of a split
@@ -151,7 +152,7 @@ module _ (t : ProgramTree) where
         once = once_parts layout x y w.once w.fits.0.2 w.fits.0.3 w.fits.0.4;
         room = omega (arith, w.room, longer);
         few = w.few;
-        modest = record { nodes = m.0.1; slots = m.1.1 };
+        modest = record { small = m.0.1; slots = m.1.1 };
       }
 
   -- in the block of an `each`, in its hidden procedure
@@ -168,7 +169,7 @@ module _ (t : ProgramTree) where
         once = once_hidden layout i x s w.once w.fits.0.1 w.fits.0.2 w.fits.0.3;
         room = omega (arith);
         few = omega (arith, count, m.1.0);
-        modest = record { nodes = m.0.1; slots = m.1.1 };
+        modest = record { small = m.0.1; slots = m.1.1 };
       }
 
   -- the regions in force lie in their arrays
@@ -177,3 +178,11 @@ module _ (t : ProgramTree) where
     within = λ x d found region shown. ((apart_everywhere t admitted).place w.p w.g scope b f w.comes).within.within x
         (record { declaration = d; found = found; region = region; shown = shown });
   }
+
+  -- a hidden procedure has few names of outside
+  pub each_few : (scope : Scope) (layout : Layout) (spare : ℕ) (i x r : Named) (s b : Block) (f : Frame) → Place scope layout spare (Then (Each i x r s) b) f
+      → length (caught layout s) ≤ 24
+  each_few scope layout spare i x r s b f w =
+      let m = modest_inner (Each i x r s) b w.modest in
+      let count = caught_is_counted layout i x s w.once w.fits.0.1 w.fits.0.2 in
+      omega (arith, count, m.1.0)

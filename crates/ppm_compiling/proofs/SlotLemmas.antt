@@ -1,6 +1,6 @@
 -- Slots of names in layouts, and how a frame of the hidden procedure of an `each` is held.
-use Rattle.std.proofs.Common.{◌≡◌, ◌≢◌, ◌<◌, ◌^◌, ℕ, zero, suc, ◌+◌, pos, cond, Bool, true, false, List, [], ◌∷◌, ◌++◌, Some, None, get_or, length, inl, inr}
-use Rattle.std.proofs.Common.{Option, map, refl, sym, ap, ◌∙◌, subst, arith}
+use Rattle.std.proofs.Common.{◌≡◌, ◌≢◌, ◌<◌, ℕ, suc, pos, cond, Bool, true, false, List, [], ◌∷◌, Some, None, get_or, length, inl, inr}
+use Rattle.std.proofs.Common.{Option, refl, sym, ap, ◌∙◌, subst, arith}
 use Rattle.std.specs.List.{filter}
 use Rattle.std.specs.Str.{bytes_eq}
 use Rattle.std.specs.Option.{option_map}
@@ -12,7 +12,7 @@ use Rattle.ppm_tree.specs.Tree.{Block}
 use Rattle.ppm_tree.specs.State.{Region, Frame}
 use Rattle.ppm_owning.specs.Coming.{stretch}
 use Rattle.ppm_regions.proofs.ScopeLemmas.{names_same, same_names, names_other, found_cases, none_and_some, some_same}
-use Rattle.ppm_regions.proofs.ScopeLemmas.{declared_in_front, declared_behind, declared_name, declared_map, image_of}
+use Rattle.ppm_regions.proofs.ScopeLemmas.{declared_in_front, declared_behind, declared_map, image_of}
 use Rattle.ppm_regions.specs.Scope.{Declaration, Scope, declared, is_region, part, part_mode, index_of, in_each, element_of, seen_in_each}
 use Rattle.ppm_translation.specs.Layout.{Layout, slot_of, caught}
 use Rattle.ppm_regions.specs.Scope.{each_scope}
@@ -98,7 +98,8 @@ module _ (lengths : List ℕ) (scope : Scope) (layout : Layout) (f : Frame) (i x
   inside : (y : List ℕ) (e : Declaration) → declared inner y ≡ Some e → Has hidden y → Inside y e
   inside y e found has = elim (found_cases (declared (in_each scope r) y)) [
     | inr c ↦ around c.0 c.1 (some_same (declared_in_front y (in_each scope r) (element_of scope r i x) c.0 c.1) found)
-    | inl none ↦ go (bytes_eq i.name y) refl (bytes_eq x.name y) refl (sym (declared_behind y (in_each scope r) (element_of scope r i x) none) ∙ found)
+    | inl none ↦ go (bytes_eq i.name y) refl (bytes_eq x.name y) refl
+        (sym (declared_behind y (in_each scope r) (element_of scope r i x) none) ∙ found)
   ]
     where
       around : (c : Declaration) → declared (in_each scope r) y ≡ Some c → c ≡ e → Inside y e
@@ -177,7 +178,8 @@ module _ (lengths : List ℕ) (scope : Scope) (layout : Layout) (f : Frame) (i x
             let is_slot = has_slot y d found in
             let is_value : (sweep_frame f q n m i x).locals y ≡ f.locals y = ap (λ (b : Bool). cond b (pos n) (f.locals y)) o.1 in
             subst (λ (w : ℕ). HoldsValue w (f.locals y)) (ap (λ (k : ℕ). own (Slot k)) is_slot ∙ sym (keeps (slot_of names y) has))
-            (subst (HoldsValue (own (Slot (slot_of hidden y)))) is_value (h.local y (seen_in_each r d) (seen y d found) kind (omega (arith, is_slot, has))))
+            (subst (HoldsValue (own (Slot (slot_of hidden y)))) is_value
+            (h.local y (seen_in_each r d) (seen y d found) kind (omega (arith, is_slot, has))))
 
         region_ : (y : List ℕ) (d : Declaration) → declared scope y ≡ Some d → is_region d.mode ≡ true → Has names y
             → own' (Slot (suc (suc (slot_of names y)))) ≡ region_word lengths (f.regions y)
@@ -188,11 +190,42 @@ module _ (lengths : List ℕ) (scope : Scope) (layout : Layout) (f : Frame) (i x
             ∙ h.region y (seen_in_each r d) (seen y d found) kind (omega (arith, is_slot, has))
             ∙ ap (λ (b : Bool). region_word lengths (cond b (stretch n m q) (f.regions y))) o.0
 
+    not_around : (y : List ℕ) → declared scope y ≡ None → declared (in_each scope r) y ≡ None
+    not_around y none = declared_map y (seen_in_each r) (λ d. refl) scope ∙ ap (option_map (seen_in_each r)) none
+
+    -- the slots of the part and of the first index
+    pub part_slot : (n m : ℕ) (own : FrameWord → ℕ) → Holds lengths inner hidden (sweep_frame f q n m i x) own
+        → own (Slot 0) ≡ region_word lengths (stretch n m q)
+    part_slot n m own h =
+        let same = names_same x.name x.name refl in
+        let found : declared inner x.name ≡ Some (part scope r x) =
+        declared_behind x.name (in_each scope r) (element_of scope r i x) (not_around x.name no_x)
+        ∙ ap (λ (c : Bool). cond c (Some (index_of i)) (cond (bytes_eq x.name x.name) (Some (part scope r x)) None)) (names_other i.name x.name other)
+        ∙ ap (λ (c : Bool). cond c (Some (part scope r x)) None) same in
+        let is_slot : slot_of hidden x.name ≡ 0 = ap (λ (b : Bool). slot_by b (bytes_eq i.name x.name) x.name) same in
+        ap (λ (k : ℕ). own (Slot k)) (sym is_slot)
+        ∙ h.region x.name (part scope r x) found (part_is_region (declared scope r.name)) (omega (arith, is_slot))
+        ∙ ap (λ (b : Bool). region_word lengths (cond b (stretch n m q) (f.regions x.name))) same
+
+    pub index_slot : (n m : ℕ) (own : FrameWord → ℕ) → Holds lengths inner hidden (sweep_frame f q n m i x) own → HoldsValue (own (Slot 1)) (pos n)
+    index_slot n m own h =
+        let same = names_same i.name i.name refl in
+        let not_x = names_other x.name i.name (λ e. other (sym e)) in
+        let found : declared inner i.name ≡ Some (index_of i) =
+        declared_behind i.name (in_each scope r) (element_of scope r i x) (not_around i.name no_i)
+        ∙ ap (λ (c : Bool). cond c (Some (index_of i)) (cond (bytes_eq x.name i.name) (Some (part scope r x)) None)) same in
+        let is_slot : slot_of hidden i.name ≡ 1 =
+        ap (λ (b : Bool). slot_by b (bytes_eq i.name i.name) i.name) not_x ∙ ap (λ (b : Bool). slot_by false b i.name) same in
+        let is_value : (sweep_frame f q n m i x).locals i.name ≡ pos n = ap (λ (b : Bool). cond b (pos n) (f.locals i.name)) same in
+        subst (λ (k : ℕ). HoldsValue (own (Slot k)) (pos n)) is_slot
+        (subst (HoldsValue (own (Slot (slot_of hidden i.name)))) is_value (h.local i.name (index_of i) found refl (omega (arith, is_slot))))
+
   -- where slots are loaded from those of the names, they are caught
   pub each_catches : (own own' : FrameWord → ℕ) → Holds lengths scope layout f own
       → ((k : ℕ) → k < length names → own' (Slot (suc (suc k))) ≡ own (Slot (slot_of layout (get_or names k [])))) → Catches own'
   each_catches own own' h keeps = record {
-    local = λ y d found kind has. subst (λ (w : ℕ). HoldsValue w (f.locals y)) (sym (at_slot y has)) (h.local y d found kind (kept_has _ layout y has));
+    local = λ y d found kind has. subst (λ (w : ℕ). HoldsValue w (f.locals y)) (sym (at_slot y has))
+        (h.local y d found kind (kept_has _ layout y has));
     region = λ y d found kind has. at_slot y has ∙ h.region y d found kind (kept_has _ layout y has);
   }
     where

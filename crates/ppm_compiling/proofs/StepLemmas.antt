@@ -1,7 +1,7 @@
 -- One capsule of the code as a chain, and frames that hold the locals.
-use Rattle.std.proofs.Common.{◌≡◌, ◌≤◌, ◌<◌, ℕ, zero, suc, ◌+◌, List, Option, Some, None, Result, Ok, Err, replicate, refl, sym, ap, ◌∙◌, subst, subst₂, arith}
+use Rattle.std.proofs.Common.{◌≡◌, ℕ, ◌+◌, List, Result, Ok, Err, ap, ◌∙◌, subst, subst₂, arith}
 use Rattle.std.specs.List.{sum}
-use Rattle.ppm_strands.specs.Tree.{Words, Tree, Strand, Over, forks_in}
+use Rattle.ppm_strands.specs.Tree.{Words, Strand, Over, forks_in}
 use Rattle.ppm_strands.specs.Run.{none, plus, of_capsule}
 use Rattle.ppm_strands.specs.Ahead.{Capsule as OneCapsule, Done}
 use Rattle.ppm_strands.proofs.OrderLemmas.{before}
@@ -18,7 +18,7 @@ use Rattle.ppm_code.specs.Strands.{Trapped as TrappedAt, instrs_of, table_of, at
 use Rattle.ppm_tree.specs.State.{TrapAt, Frame, Arrays}
 use Rattle.ppm_regions.specs.Scope.{Scope}
 use Rattle.ppm_translation.specs.Layout.{Layout}
-use Rattle.ppm_compiling.proofs.ChainLemmas.{Cost, cost, Chain, chain_weaken}
+use Rattle.ppm_compiling.proofs.ChainLemmas.{cost, Chain}
 use Rattle.ppm_compiling.proofs.Doing.{InHand}
 use Rattle.ppm_compiling.proofs.ExprLemmas.{Goes, Meets, Sees}
 use Rattle.ppm_compiling.proofs.Holding.{CodeTree, at_work, strands}
@@ -47,7 +47,7 @@ module _ (lengths : List ℕ) (code : CodeParts) where
   whole at is stands own a e m w is_e is_m is_w =
       let f = at_work own at in
       let P : End → Memory Where → ℕ → Type 0 =
-          λ e m w. Chain (strands lengths code) (cost 1 1 (forks_in (opens_at at e m)) w) (Strand f) a (opens_at at e m) (shared_of m) in
+      λ e m w. Chain (strands lengths code) (cost 1 1 (forks_in (opens_at at e m)) w) (Strand f) a (opens_at at e m) (shared_of m) in
       let s = start_at own at a in
       let Q : Capsule Where End → Type 0 = λ p. P (ending code_locations p s) (leaves code_locations p s) (asked code_locations p s) in
       let base : Q (capsule_of (sum lengths) (instrs_of code at)) = (
@@ -66,7 +66,8 @@ module _ (lengths : List ℕ) (code : CodeParts) where
   -- a capsule that evaluates, and then goes on with what it got, or traps
   abbrev pub Tried : {A : Type 0} → (w at : ℕ) → (A → End) → (A → Memory Where) → (FrameWord → ℕ) → Words → Result A TrapAt → Type 0
   Tried w at e m own a (Ok v) =
-      Chain (strands lengths code) (cost 1 1 (forks_in (opens_at at (e v) (m v))) w) (Strand (at_work own at)) a (opens_at at (e v) (m v)) (shared_of (m v))
+      Chain (strands lengths code) (cost 1 1 (forks_in (opens_at at (e v) (m v))) w) (Strand (at_work own at)) a (opens_at at (e v) (m v))
+      (shared_of (m v))
   Tried w at e m own a (Err stop) = Chain (strands lengths code) (cost 1 1 0 w) (Strand (at_work own at)) a (Over (TrappedAt stop.0 stop.1)) a
 
   -- p is the capsule behind an ask for w words, if there is one in front

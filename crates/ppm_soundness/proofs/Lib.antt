@@ -1,12 +1,15 @@
-pub mod CalmLemmas
-pub mod OwnLemmas
-pub mod TameLemmas
-pub mod TameExpressions
-pub mod StandLemmas
-pub mod LevelLemmas
-pub mod BlockTame
-pub mod SplitTame
-pub mod GivenLemmas
-pub mod CallTame
-pub mod EachTame
-pub mod HalfTame
+mod PlainLemmas
+mod SafeLemmas
+mod BlockLemmas
+mod CalmLemmas
+mod OwnLemmas
+mod TameLemmas
+mod TameExpressions
+mod StandLemmas
+mod LevelLemmas
+mod BlockTame
+mod SplitTame
+mod GivenLemmas
+mod CallTame
+mod EachTame
+mod HalfTame

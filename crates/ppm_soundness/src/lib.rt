@@ -5,3 +5,5 @@
 #![tactic(auto)]
 
 mod laws;
+
+pub use laws::{may_be_stopped, store_tidily};

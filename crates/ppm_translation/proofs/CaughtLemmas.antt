@@ -1,5 +1,6 @@
 -- Layouts in which no name has two slots, and that the block of an `each` catches no more names of one than are counted.
-use Rattle.std.proofs.Common.{◌≡◌, ◌≢◌, ◌<◌, ◌≤◌, ◌||◌, ◌&&◌, not, cond, Bool, true, false, ℕ, suc, List, [], ◌∷◌, ◌++◌, length, map, refl, sym, ap, ◌∙◌, subst, arith, filter, append_assoc}
+use Rattle.std.proofs.Common.{◌≡◌, ◌≢◌, ◌<◌, ◌≤◌, ◌||◌, ◌&&◌, not, cond, Bool, true, false, ℕ, suc, List, [], ◌∷◌, ◌++◌, length, refl, sym, ap, ◌∙◌}
+use Rattle.std.proofs.Common.{subst, arith, filter, append_assoc}
 use Rattle.std.specs.Str.{bytes_eq}
 use Rattle.std.specs.List.{AllByRecursion, IsDistinct}
 use Rattle.std.specs.Set.{is_member, unique_keys}
@@ -8,10 +9,10 @@ use Rattle.std.proofs.lemmas.Map.Made.{length-le_from_is_member, is_member-filte
 use Rattle.ppm_bounds.specs.Names.{without, free_names, caught_count}
 use Rattle.ppm_bounds.proofs.Members.{same_bytes, has-without, bytes_laws}
 use Rattle.ppm_tree.specs.declared.named.Named.{Named}
-use Rattle.ppm_tree.specs.Tree.{Block, Statement}
+use Rattle.ppm_tree.specs.Tree.{Block}
 use Rattle.ppm_translation.specs.Layout.{Layout, slot_of, caught}
 use Rattle.ppm_translation.specs.Fits.{Has, IsNew, IsDistinctLayout}
-use Rattle.ppm_translation.specs.Statements.{with_lets, with_parts, hidden_layout}
+use Rattle.ppm_translation.specs.Statements.{with_parts, hidden_layout}
 
 true_and_false : {b : Bool} → b ≡ true → b ≡ false → ⊥
 true_and_false p q = cc
@@ -79,11 +80,13 @@ other_bytes x y h = go (bytes_eq x y) refl
     go false e = e
 
 -- a name that is none of either list is none of both
-absent_both : (xs : List (List ℕ)) (y q : List ℕ) → is_member bytes_eq xs q ≡ false → bytes_eq q y ≡ false → is_member bytes_eq (xs ++ y ∷ []) q ≡ false
+absent_both : (xs : List (List ℕ)) (y q : List ℕ) → is_member bytes_eq xs q ≡ false → bytes_eq q y ≡ false
+    → is_member bytes_eq (xs ++ y ∷ []) q ≡ false
 absent_both [] y q h e = ap (λ b. b || false) e
 absent_both (x ∷ xs) y q h e = go (bytes_eq q x) h (absent_both xs y q)
   where
-    go : (b : Bool) → (b || is_member bytes_eq xs q) ≡ false → (is_member bytes_eq xs q ≡ false → bytes_eq q y ≡ false → is_member bytes_eq (xs ++ y ∷ []) q ≡ false)
+    go : (b : Bool) → (b || is_member bytes_eq xs q) ≡ false → (is_member bytes_eq xs q ≡ false → bytes_eq q y ≡ false
+        → is_member bytes_eq (xs ++ y ∷ []) q ≡ false)
         → (b || is_member bytes_eq (xs ++ y ∷ []) q) ≡ false
     go true h rest = h
     go false h rest = rest h e
@@ -97,7 +100,8 @@ once_parts layout x y h new_x new_y apart =
     (IsDistinct-push bytes_laws (layout ++ x.name ∷ []) y.name first (absent_both layout x.name y.name (new_absent layout y.name new_y) other))
 
 -- what is caught are names of the layout that are free in the block
-caught_member : (layout : Layout) (block : Block) (q : List ℕ) → is_member bytes_eq (caught layout block) q ≡ (is_member bytes_eq layout q && is_member bytes_eq (free_names block) q)
+caught_member : (layout : Layout) (block : Block) (q : List ℕ)
+    → is_member bytes_eq (caught layout block) q ≡ (is_member bytes_eq layout q && is_member bytes_eq (free_names block) q)
 caught_member layout block q =
     is_member-filter bytes_laws (is_member bytes_eq (free_names block)) q (member_alike (free_names block) q) layout
 
@@ -117,12 +121,10 @@ pub once_hidden : (layout : Layout) (i x : Named) (block : Block) → IsEachOnce
 once_hidden layout i x block h new_i new_x apart =
     let names = caught layout block in
     let once : IsEachOnce names = once_filter (is_member bytes_eq (free_names block)) layout h in
-    let index : IsEachOnce (i.name ∷ names) = IsDistinct-cons bytes_eq i.name names (absent_apart names i.name (caught_absent layout block i.name new_i)) once in
+    let index : IsEachOnce (i.name ∷ names) =
+    IsDistinct-cons bytes_eq i.name names (absent_apart names i.name (caught_absent layout block i.name new_i)) once in
     IsDistinct-cons bytes_eq x.name (i.name ∷ names)
     (other_bytes x.name i.name (λ e. apart (sym e)), absent_apart names x.name (caught_absent layout block x.name new_x)) index
-
-pub once_lets : (layout : Layout) (x : Named) → IsEachOnce layout → IsNew layout x.name → IsEachOnce (layout ++ x.name ∷ [])
-once_lets layout x h new = once_push layout x.name h new
 
 -- each key once are still all keys
 unique_members : (xs : List (List ℕ)) (q : List ℕ) → is_member bytes_eq xs q ≡ true → is_member bytes_eq (unique_keys bytes_eq xs) q ≡ true
@@ -153,7 +155,8 @@ caught_is_counted layout i x block h new_i new_x =
     (once_filter (is_member bytes_eq (free_names block)) layout h)
     (λ q m. unique_members (without (i.name ∷ x.name ∷ []) (free_names block)) q (free q m))
   where
-    free : (q : List ℕ) → is_member bytes_eq (caught layout block) q ≡ true → is_member bytes_eq (without (i.name ∷ x.name ∷ []) (free_names block)) q ≡ true
+    free : (q : List ℕ) → is_member bytes_eq (caught layout block) q ≡ true
+        → is_member bytes_eq (without (i.name ∷ x.name ∷ []) (free_names block)) q ≡ true
     free q m =
         let both = sym (caught_member layout block q) ∙ m in
         let here = first_of_both (is_member bytes_eq layout q) (is_member bytes_eq (free_names block) q) both in

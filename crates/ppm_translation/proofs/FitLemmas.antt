@@ -1,9 +1,8 @@
 -- The instructions of expressions, arguments and stores fit wherever they stand in a capsule, if those behind them do.
-use Rattle.std.proofs.Common.{◌≡◌, ◌≢◌, ◌≤◌, ◌<◌, ◌+◌, ℕ, zero, suc, List, [], ◌∷◌, ◌++◌, Option, Some, None, length, map, slice_get, refl, sym, ap, ◌∙◌, subst, arith}
+use Rattle.std.proofs.Common.{◌≡◌, ◌≤◌, ◌<◌, ◌+◌, ℕ, zero, suc, List, [], ◌∷◌, ◌++◌, Some, length, map, slice_get, refl, ap, subst, arith}
 use Rattle.std.specs.List.{All, AllByRecursion, flat_map}
 use Rattle.std.proofs.lemmas.List.Elements.{All-head}
 use Rattle.ppm_code.specs.declared.act.End.{End}
-use Rattle.ppm_code.specs.declared.code.Capsule.{Capsule}
 use Rattle.ppm_code.specs.declared.code.CodeParts.{CodeParts}
 use Rattle.ppm_code.specs.declared.instr.Instr.{Instr}
 use Rattle.ppm_code.specs.declared.instr.Instr.TheVariants as instr
@@ -25,7 +24,8 @@ use Rattle.ppm_bounds.proofs.Keeping.{all-first, all-second}
 use Rattle.ppm_regions.specs.Scope.{Scope}
 use Rattle.ppm_translation.specs.Layout.{Layout, slot_of, register}
 use Rattle.ppm_translation.specs.Expressions.{size_of, branch_size, last_size, operator_code, right_register, branch_code, expression_code}
-use Rattle.ppm_translation.specs.Statements.{Instrs, lent_code, argument_size, argument_code, arguments_size, arguments_code, stores_code, loads_code, names_code}
+use Rattle.ppm_translation.specs.Statements.{Instrs, lent_code, argument_size, argument_code, arguments_size, arguments_code, stores_code}
+use Rattle.ppm_translation.specs.Statements.{loads_code, names_code}
 use Rattle.ppm_translation.specs.Fits.{Has, FitsExpression, FitsLent, FitsArgument, FitsArguments}
 use Rattle.ppm_translation.proofs.SizeLemmas.{last_at_least}
 use Rattle.ppm_translation.proofs.PlaceLemmas.{of_procedure}
@@ -87,7 +87,8 @@ closed_expression layout (tree.Binary o line left right) d at rest h =
     closed_expression layout left d at (branch_code o d (from + size_of right) second) (closed_branch o d (from + size_of right) second
     (closed_expression layout right (right_register o d) from last (closed_operator o line d rest h)))
 
-closed_argument : (layout : Layout) (m : Mode) (e : Expression) (d at : ℕ) (rest : Instrs) → IsClosed rest → IsClosed (argument_code layout m e d at rest)
+closed_argument : (layout : Layout) (m : Mode) (e : Expression) (d at : ℕ) (rest : Instrs) → IsClosed rest
+    → IsClosed (argument_code layout m e d at rest)
 closed_argument layout mode.Int e d at rest h = closed_expression layout e d at rest h
 closed_argument layout mode.Mut e d at rest h = closed_behind _ rest h
 closed_argument layout mode.Ref e d at rest h = closed_behind _ rest h
@@ -154,7 +155,8 @@ module _ (code : CodeParts) (q : ℕ) (is : Instrs) where
   }
 
   -- an operator, and its branch
-  operator_fits : (o : Operator) (line d at : ℕ) (rest : Instrs) → IsLine line → AllFit (at + last_size o) rest → AllFit at (operator_code o line d rest)
+  operator_fits : (o : Operator) (line d at : ℕ) (rest : Instrs) → IsLine line → AllFit (at + last_size o) rest
+      → AllFit at (operator_code o line d rest)
   operator_fits operator.Add line d at rest l h = (l, moved rest (at + 1) (suc at) (omega arith) h)
   operator_fits operator.Sub line d at rest l h = (l, moved rest (at + 1) (suc at) (omega arith) h)
   operator_fits operator.Mul line d at rest l h = (l, moved rest (at + 1) (suc at) (omega arith) h)
@@ -197,9 +199,13 @@ module _ (code : CodeParts) (q : ℕ) (is : Instrs) where
     expression_fits (tree.Element x index) d at rest f n low h =
         expression_fits index d at
         (instr.LoadSlot (register (suc d)) (slot_of layout x.name) ∷ instr.Get (register d) (register (suc d)) (register d) x.line ∷ rest)
-        f.1 n.1 (omega (arith, low))
-        (slot_fits x.name f.0.has, (name_line (tree.Element x index) x [] refl n.0,
-        moved rest (at + (size_of index + 2)) (suc (suc (at + size_of index))) (omega arith) h))
+        f.1 n.1 (omega (arith, low)) (
+          slot_fits x.name f.0.has,
+          (
+            name_line (tree.Element x index) x [] refl n.0,
+            moved rest (at + (size_of index + 2)) (suc (suc (at + size_of index))) (omega arith) h,
+          ),
+        )
     expression_fits (tree.Len x) d at rest f n low h = (slot_fits x.name f.has, (tt, moved rest (at + 2) (suc (suc at)) (omega arith) h))
     expression_fits (tree.Minus line e) d at rest f n low h = (
       tt,

@@ -6,3 +6,5 @@ pub mod CaughtLemmas
 pub mod SizeLemmas
 pub mod FitLemmas
 pub mod SoundLemmas
+pub mod RuleLemmas
+pub mod KeepLemmas

@@ -1,5 +1,6 @@
 -- What the code of a program lists stands at its numbers: the capsules of each procedure from its entry on, one after the other.
-use Rattle.std.proofs.Common.{◌≡◌, ◌≢◌, ℕ, suc, ◌+◌, cond, Bool, true, false, List, [], ◌∷◌, ◌++◌, Some, None, length, map, slice_get, refl, sym, ap, ◌∙◌, subst, arith}
+use Rattle.std.proofs.Common.{◌≡◌, ◌≢◌, ◌<◌, ℕ, zero, suc, ◌+◌, cond, Bool, true, false, List, [], ◌∷◌, ◌++◌, Some, None, length, map, slice_get}
+use Rattle.std.proofs.Common.{refl, sym, ap, ◌∙◌, subst, arith}
 use Rattle.std.specs.Str.{bytes_eq}
 use Rattle.ppm_code.specs.declared.code.Capsule.{Capsule}
 use Rattle.ppm_code.specs.declared.code.CodeParts.{CodeParts}
@@ -13,7 +14,8 @@ use Rattle.ppm_translation.specs.Layout.{Layout, parameter_layout, caught}
 use Rattle.ppm_translation.specs.Numbers.{behind, end_of, hidden_behind, hidden_behind_block, element_block}
 use Rattle.ppm_translation.specs.Slots.{named_slots, hidden_named_slots}
 use Rattle.ppm_translation.specs.Statements.{Instrs, Last, OnTo, Gives, with_lets, with_parts, hidden_layout, statement_code, block_code, number_of}
-use Rattle.ppm_translation.specs.Routines.{Routine, OfText, Hidden, routine_slots, routine_behind, hidden_of, hidden_of_block, texts_from, hidden_from}
+use Rattle.ppm_translation.specs.Routines.{Routine, OfText, Hidden, routine_slots, routine_behind, hidden_of, hidden_of_block, texts_from}
+use Rattle.ppm_translation.specs.Routines.{hidden_from}
 use Rattle.ppm_translation.specs.Routines.{routines_of, procedures_from, routine_code, capsules_from, code_of}
 use Rattle.ppm_translation.specs.Standing.{HasStatement, HasBlock, HasBody}
 use Rattle.ppm_translation.specs.Correct.{ProceduresStand}
@@ -38,7 +40,8 @@ past_map f (x ∷ xs) n = past_map f xs (suc n)
 -- the numbers of capsules are those that the lists of capsules give
 module _ (procedures : List Procedure) where
   mutual
-    pub statement_past : (spare : ℕ) (layout : Layout) (at h : ℕ) (s : Statement) → past (statement_code procedures spare layout at h s) at ≡ behind s at
+    pub statement_past : (spare : ℕ) (layout : Layout) (at h : ℕ) (s : Statement)
+        → past (statement_code procedures spare layout at h s) at ≡ behind s at
     statement_past spare layout at h (tree.Let x e) = refl
     statement_past spare layout at h (tree.Assign x e) = refl
     statement_past spare layout at h (tree.Put x index e) = refl
@@ -95,6 +98,12 @@ pub texts_past : (h : ℕ) (ps : List Procedure) (n : ℕ) → past (texts_from 
 texts_past h [] n = refl
 texts_past h (p ∷ ps) n = texts_past (hidden_behind_block p.body h) ps (suc n)
 
+-- what is found in a list is in it
+pub found_there : {A : Type 0} {x : A} (xs : List A) (n : ℕ) → slice_get xs n ≡ Some x → n < length xs
+found_there [] n h = absurd (cc)
+found_there (y ∷ xs) zero h = omega arith
+found_there (y ∷ xs) (suc n) h = let rest = found_there xs n h in omega (arith, rest)
+
 -- a capsule with the number of its procedure
 abbrev pub of_procedure : ℕ → Instrs → Capsule
 of_procedure q is = record { procedure = q; instrs = is }
@@ -139,6 +148,7 @@ module _ (procedures : List Procedure) (code : CodeParts) where
 
   -- a procedure of the code stands at its entry, and its frames have its slots
   pub record IsPlaced (q : ℕ) (r : Routine) : Type 0 where
+    pub there : q < length code.procedures
     pub slots : slots_of code q ≡ routine_slots r
     pub stands : Stands q (entry_of code q) (routine_code procedures (entry_of code q) r)
 
@@ -250,7 +260,11 @@ module _ (procedures : List Procedure) (code : CodeParts) where
           (listed_first (map (of_procedure q) (routine_code procedures at r)) (capsules_from procedures (suc q) (routine_behind r at) rs) at c)
 
       placed : IsPlaced q r
-      placed = record { slots = ap slots_in first; stands = subst (λ (k : ℕ). Stands q k (routine_code procedures k r)) entry stands }
+      placed = record {
+        there = found_there code.procedures q first;
+        slots = ap slots_in first;
+        stands = subst (λ (k : ℕ). Stands q k (routine_code procedures k r)) entry stands;
+      }
 
       later : (i : ℕ) → slice_get code.procedures (i + suc q) ≡ slice_get (procedures_from (routine_behind r at) rs) i
       later i = let e : i + suc q ≡ suc i + q = omega arith in ap (slice_get code.procedures) e ∙ h (suc i)

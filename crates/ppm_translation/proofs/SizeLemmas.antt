@@ -1,5 +1,5 @@
 -- How many instructions capsules have, and how many capsules and procedures a code.
-use Rattle.std.proofs.Common.{◌≡◌, ◌≤◌, ◌<◌, ◌+◌, ◌*◌, ℕ, zero, suc, List, [], ◌∷◌, ◌++◌, None, length, map, refl, sym, ap, ◌∙◌, subst, arith, length-append}
+use Rattle.std.proofs.Common.{◌≡◌, ◌≤◌, ◌+◌, ◌*◌, ℕ, zero, suc, List, [], ◌∷◌, ◌++◌, None, length, map, refl, ap, ◌∙◌, arith, length-append}
 use Rattle.std.specs.List.{sum, flat_map}
 use Rattle.std.proofs.lemmas.List.{length-map, map-append}
 use Rattle.std.proofs.lemmas.List.Sums.{sum_by-append, sum_by-cons}
@@ -10,20 +10,21 @@ use Rattle.ppm_tree.specs.declared.mode.Mode.TheVariants as mode
 use Rattle.ppm_tree.specs.declared.tree.Parameter.{Parameter}
 use Rattle.ppm_tree.specs.Tree.{Expression, Argument, Statement, Block, Nil, Then, Procedure}
 use Rattle.ppm_tree.specs.Tree as tree
-use Rattle.ppm_tree.specs.Parts.{nodes, statement_and_inner, statements_in, eaches_of, gives_of}
+use Rattle.ppm_tree.specs.Parts.{nodes, statement_and_inner, statements_in, eaches_of}
 use Rattle.ppm_tree.specs.Limits.{procedures_in}
 use Rattle.ppm_bounds.specs.Capsules.{capsules_at, capsules_of}
 use Rattle.ppm_bounds.proofs.Sums.{need, need-append, need_of_procedure}
 use Rattle.ppm_code.specs.declared.code.Capsule.{Capsule}
 use Rattle.ppm_code.specs.declared.instr.Instr.{Instr}
 use Rattle.ppm_code.specs.declared.instr.Instr.TheVariants as instr
-use Rattle.ppm_translation.specs.Layout.{Layout, slot_of, register, parameter_layout, caught}
+use Rattle.ppm_translation.specs.Layout.{Layout, slot_of, register, parameter_layout}
 use Rattle.ppm_translation.specs.Expressions.{size_of, branch_size, last_size, operator_code, right_register, branch_code, expression_code}
 use Rattle.ppm_translation.specs.Numbers.{behind, end_of, hidden_behind, hidden_behind_block, element_block}
 use Rattle.ppm_translation.specs.Slots.{named_slots, hidden_named_slots}
-use Rattle.ppm_translation.specs.Statements.{Instrs, Last, OnTo, Gives, argument_size, argument_code, arguments_size, arguments_code, paired, stores_code, loads_code}
+use Rattle.ppm_translation.specs.Statements.{Last, OnTo, Gives, argument_size, argument_code, arguments_size, arguments_code, paired, stores_code}
+use Rattle.ppm_translation.specs.Statements.{loads_code}
 use Rattle.ppm_translation.specs.Statements.{names_code, with_lets, with_parts, hidden_layout, statement_code, block_code}
-use Rattle.ppm_translation.specs.Routines.{Sweep, Routine, OfText, Hidden, hidden_of, hidden_of_block, texts_from, hidden_from, routines_of}
+use Rattle.ppm_translation.specs.Routines.{Routine, OfText, Hidden, hidden_of, hidden_of_block, texts_from, hidden_from, routines_of}
 use Rattle.ppm_translation.specs.Routines.{procedures_from, routine_code, capsules_from, routine_behind}
 
 -- an operator has at least one instruction behind its operands, and three at most beside them
@@ -111,7 +112,7 @@ expression_length layout (tree.Element x index) d at rest =
     (instr.LoadSlot (register (suc d)) (slot_of layout x.name) ∷ instr.Get (register d) (register (suc d)) (register d) x.line ∷ rest) in
     omega (arith, h)
 expression_length layout (tree.Len x) d at rest = omega arith
-expression_length layout (tree.Minus line e) d at rest = 
+expression_length layout (tree.Minus line e) d at rest =
     let h = expression_length layout e (suc d) (suc at) (instr.Sub (register d) (register d) (register (suc d)) line ∷ rest) in omega (arith, h)
 expression_length layout (tree.Binary o line left right) d at rest =
     let from = at + size_of left + branch_size o in
@@ -224,6 +225,10 @@ mutual
       let d = eaches-append (statement_and_inner s) (statements_in rest) in
       omega (arith, l, a, b, d)
 
+texts_length : (h : ℕ) (ps : List Procedure) → length (texts_from h ps) ≡ length ps
+texts_length h [] = refl
+texts_length h (p ∷ ps) = ap (λ n. suc n) (texts_length (hidden_behind_block p.body h) ps)
+
 routines_count : (h : ℕ) (ps : List Procedure) → length (texts_from h ps) + length (hidden_from h ps) ≡ sum (map procedures_in ps)
 routines_count h [] = refl
 routines_count h (p ∷ ps) =
@@ -244,6 +249,15 @@ pub procedures_count : (ps : List Procedure) → length (procedures_from 0 (rout
 procedures_count ps =
     let n = length ps in
     procedures_length 0 (routines_of ps) ∙ length-append (texts_from n ps) (hidden_from n ps) ∙ routines_count n ps
+
+-- those of the text are among them
+pub procedures_at_least : (ps : List Procedure) → length ps ≤ length (procedures_from 0 (routines_of ps))
+procedures_at_least ps =
+    let n = length ps in
+    let a = procedures_length 0 (routines_of ps) in
+    let b = length-append (texts_from n ps) (hidden_from n ps) in
+    let c = texts_length n ps in
+    omega (arith, a, b, c)
 
 -- how many capsules a procedure of the code has
 abbrev mutual
@@ -299,15 +313,17 @@ module _ (procedures : List Procedure) where
         → length (block_code procedures spare layout at h last b) ≡ block_capsules b
     block_length spare layout at h last Nil = refl
     block_length spare layout at h last (Then s rest) =
-        let l = length-append (statement_code procedures spare layout at h s) (block_code procedures spare (with_lets layout s) (behind s at) (hidden_behind s h) last rest) in
+        let front = statement_code procedures spare layout at h s in
+        let l = length-append front (block_code procedures spare (with_lets layout s) (behind s at) (hidden_behind s h) last rest) in
         let a = statement_length spare layout at h s in
         let b = block_length spare (with_lets layout s) (behind s at) (hidden_behind s h) last rest in
         omega (arith, l, a, b)
 
   routine_length : (at : ℕ) (r : Routine) → length (routine_code procedures at r) ≡ routine_capsules r
   routine_length at (OfText p h) = block_length (named_slots p) (parameter_layout p.parameters) at h (Gives p.give) p.body
-  routine_length at (Hidden s) = 
-      let a = block_length (hidden_named_slots (length s.names) s.block) (s.part ∷ s.index ∷ s.names) (element_block at) (suc s.number) (Gives None) s.block in
+  routine_length at (Hidden s) =
+      let spare = hidden_named_slots (length s.names) s.block in
+      let a = block_length spare (s.part ∷ s.index ∷ s.names) (element_block at) (suc s.number) (Gives None) s.block in
       omega (arith, a)
 
   capsules_length : (q at : ℕ) (rs : List Routine) → length (capsules_from procedures q at rs) ≡ all_capsules rs

@@ -1,11 +1,10 @@
 -- What is known of each procedure of a code, those of the text and hidden ones: names have slots, nothing passes a limit, and the hidden
 -- procedures in it are placed.
-use Rattle.std.proofs.Common.{◌≡◌, ◌≢◌, ◌≤◌, ◌<◌, ◌+◌, cond, Bool, true, false, max, ℕ, suc, List, [], ◌∷◌, ◌++◌, Option, Some, None, length, map, refl, sym, ap, ◌∙◌, subst, arith}
-use Rattle.std.specs.List.{All, AllByRecursion}
+use Rattle.std.proofs.Common.{◌≡◌, ◌≤◌, ◌+◌, cond, Bool, true, false, ℕ, suc, List, [], ◌∷◌, ◌++◌, length, refl, sym, subst, arith}
+use Rattle.std.specs.List.{AllByRecursion}
 use Rattle.std.proofs.lemmas.List.Elements.{All-head, All-tail, recursion_from_All}
 use Rattle.ppm_code.specs.declared.code.CodeParts.{CodeParts}
 use Rattle.ppm_code.specs.Code.{IsLine}
-use Rattle.ppm_tree.specs.declared.named.Named.{Named}
 use Rattle.ppm_tree.specs.Tree.{Statement, Block, Nil, Then, Procedure}
 use Rattle.ppm_tree.specs.Tree as tree
 use Rattle.ppm_tree.specs.Parts.{statement_and_inner, statements_in}
@@ -21,7 +20,8 @@ use Rattle.ppm_translation.specs.Layout.{Layout, parameter_layout, caught}
 use Rattle.ppm_translation.specs.Numbers.{hidden_behind, hidden_behind_block}
 use Rattle.ppm_translation.specs.Slots.{has_assignment, spare_slots, procedure_slots, hidden_slots}
 use Rattle.ppm_translation.specs.Statements.{with_lets, with_parts, hidden_layout}
-use Rattle.ppm_translation.specs.Routines.{Sweep, Routine, OfText, Hidden, sweep_layout, routine_slots, hidden_of, hidden_of_block, texts_from, hidden_from}
+use Rattle.ppm_translation.specs.Routines.{Sweep, Routine, OfText, Hidden, sweep_layout, routine_slots, hidden_of, hidden_of_block, texts_from}
+use Rattle.ppm_translation.specs.Routines.{hidden_from}
 use Rattle.ppm_translation.specs.Routines.{routines_of}
 use Rattle.ppm_regions.specs.Scope.{split_scope, each_scope}
 use Rattle.ppm_translation.specs.Fits.{FitsStatement, FitsBlock, FitsProcedure}
@@ -55,7 +55,8 @@ abbrev HasFewSlots : Statement → Type 0
 HasFewSlots s = count_of bound.Slots s ≤ limit_of bound.Slots
 
 module _ (procedures : List Procedure) where
-  once_lets : (scope : Scope) (layout : Layout) (s : Statement) → FitsStatement procedures scope layout s → IsEachOnce layout → IsEachOnce (with_lets layout s)
+  once_lets : (scope : Scope) (layout : Layout) (s : Statement) → FitsStatement procedures scope layout s → IsEachOnce layout
+      → IsEachOnce (with_lets layout s)
   once_lets scope layout (tree.Let x e) f h = once_push layout x.name h f.1
   once_lets scope layout (tree.Assign x e) f h = h
   once_lets scope layout (tree.Put x index e) f h = h
@@ -130,7 +131,7 @@ module _ (procedures : List Procedure) where
           let inner = each_scope scope r i x in
           let own = hidden_layout layout i x block in
           let names : IsNamed r =
-              All-head IsNamed r [] (All-tail IsNamed x (r ∷ []) (All-tail IsNamed i (x ∷ r ∷ []) small.0.names)) in (
+          All-head IsNamed r [] (All-tail IsNamed x (r ∷ []) (All-tail IsNamed i (x ∷ r ∷ []) small.0.names)) in (
             record {
               number = refl;
               line = line_fits names.line;
@@ -172,7 +173,7 @@ module _ (procedures : List Procedure) where
         let own = placed_first procedures code xs ys h placed in
         let rest = texts_sound ps (suc q) next fits.1 small.1 few.1 (placed_second procedures code xs ys h next count placed) in
         let body = block_sound _ layout h p.body fits.0.body (recursion_from_All IsSmallStatement (statements_in p.body) small.0.statements) few.0.hidden
-            (each_once layout fits.0.distinct) own in
+        (each_once layout fits.0.distinct) own in
         ((record { fits = fits.0; small = small.0; slots = text_slots p few.0.own; placed = own }, rest.0), sound-append xs ys h next count body rest.1)
 
     pub all_sound : AllByRecursion (FitsProcedure procedures) procedures → AllByRecursion IsSmall procedures

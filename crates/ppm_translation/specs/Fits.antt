@@ -1,5 +1,5 @@
 -- That the names of a block are those that its layout has, each of the kind that is asked for. An admitted program's blocks fit.
-use Rattle.std.specs.Prelude.{◌≡◌, ◌≢◌, ◌<◌, ℕ, Bool, true, false, List, [], ◌∷◌, ◌++◌, Option, Some, None, length, map}
+use Rattle.std.specs.Prelude.{◌≡◌, ◌≢◌, ◌<◌, ℕ, Bool, true, false, List, [], ◌∷◌, ◌++◌, Option, Some, None, length}
 use Rattle.ppm_tree.specs.declared.mode.Mode.{Mode}
 use Rattle.ppm_tree.specs.declared.mode.Mode.TheVariants as mode
 use Rattle.ppm_tree.specs.declared.named.Named.{Named}
