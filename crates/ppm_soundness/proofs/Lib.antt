@@ -13,3 +13,6 @@ mod GivenLemmas
 mod CallTame
 mod EachTame
 mod HalfTame
+mod FewLemmas
+mod CodeTame
+mod RootTame
