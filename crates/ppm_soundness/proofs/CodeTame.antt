@@ -1,105 +1,32 @@
 -- The code respects what frames own: each of its capsules is tame, and frames go on as they may.
-use Rattle.std.proofs.Common.{◌≡◌, ◌≢◌, ◌≤◌, ◌<◌, ℕ, zero, suc, ◌+◌, ◌-◌, ◌*◌, ◌^◌, ◌==◌, max, cond, Bool, true, false, List, [], ◌∷◌, ◌++◌, Option, Some, None, length, map, replicate, slice_set, inl, inr, ◌⊎◌, refl, sym, ap, ◌∙◌, subst, arith}
-use Rattle.std.specs.Prelude.{pos}
-use Rattle.std.specs.Str.{bytes_eq}
-use Rattle.std.proofs.lemmas.List.{length-append, append-nil}
-use Rattle.ppm_capsules.specs.Capsule.{Capsule, Memory, store}
-use Rattle.ppm_capsules.specs.Strand.{Frame as CapsuleFrame, Own, New as NewWord, Shared, own_of, new_of}
-use Rattle.ppm_code.specs.declared.act.End.{End}
+use Rattle.std.proofs.Common.{ℕ, List, [], sym, subst}
+use Rattle.ppm_capsules.specs.Capsule.{Memory}
+use Rattle.ppm_capsules.specs.Strand.{Frame as CapsuleFrame, own_of}
 use Rattle.ppm_code.specs.declared.act.End.TheVariants as ends
 use Rattle.ppm_code.specs.declared.code.CodeParts.{CodeParts}
 use Rattle.ppm_code.specs.declared.instr.Instr.{Instr}
-use Rattle.ppm_code.specs.declared.instr.Instr.TheVariants as instr
 use Rattle.ppm_code.specs.declared.location.FrameWord.{FrameWord}
-use Rattle.ppm_code.specs.declared.location.FrameWord.TheVariants.{Slot, Value}
-use Rattle.ppm_code.specs.declared.register.Register.{Register}
-use Rattle.ppm_code.specs.Acts.{held, start_of, length_of}
-use Rattle.ppm_code.specs.Capsules.{capsule_from}
 use Rattle.ppm_code.specs.Locations.{Where, code_locations}
-use Rattle.ppm_code.specs.Sizes.{slots_of, frame_size, right_at}
-use Rattle.ppm_code.specs.Strands.{Point, Result, instrs_of, entry_of, opens, built, begun, at_capsule}
-use Rattle.ppm_tree.specs.declared.mode.Mode.{Mode}
-use Rattle.ppm_tree.specs.declared.mode.Mode.TheVariants as mode
-use Rattle.ppm_tree.specs.declared.named.Named.{Named}
-use Rattle.ppm_tree.specs.declared.tree.Parameter.{Parameter}
+use Rattle.ppm_code.specs.Strands.{Point, Result, instrs_of}
 use Rattle.ppm_tree.specs.Tree.{Expression, Argument, Side, Statement, Block, Nil, Then, Procedure, ProgramTree}
 use Rattle.ppm_tree.specs.Tree as tree
-use Rattle.ppm_tree.specs.State.{Frame, Region, Regions, Arrays, empty_frame, lent, with_region, with_local, with_arguments, procedure_named, first_part, second_part}
-use Rattle.ppm_regions.specs.Scope.{Declaration, Scope, declared, is_region, of_parameter, lets_of, scope_behind, scope_of, split_scope, each_scope, in_split, in_each, parts_of, element_of, part, seen_in_split, seen_in_each, first_named}
+use Rattle.ppm_tree.specs.State.{Frame}
+use Rattle.ppm_regions.specs.Scope.{Scope}
 use Rattle.ppm_regions.specs.Admission.{IsAdmitted}
 use Rattle.ppm_regions.specs.Correct.{KeepsRules}
-use Rattle.ppm_regions.specs.declared.ask.Ask.TheVariants as ask
-use Rattle.ppm_regions.specs.Uses.{Lending, Asks, uses_in, sites_of_block, lendings_of, uses_of_arguments, uses_of_argument}
-use Rattle.ppm_regions.proofs.ScopeLemmas.{same_names, names_same, names_other, other_names, declared_in_front, declared_behind, declared_map, image_of, found_cases, none_and_some, some_same}
-use Rattle.ppm_regions.proofs.SiteLemmas.{AreSites, sites_behind, sites_inside, sites_left, sites_right, AreMade, made_head, made_left, made_right, uses_first}
-use Rattle.ppm_owning.specs.Words.{IsPart}
-use Rattle.ppm_owning.specs.Owning.{IsSeen, IsWritable, OwnsNoMore, OwnsApart, AreSeparate}
-use Rattle.ppm_owning.specs.Coming.{part_frame, split_frame, callee}
-use Rattle.ppm_owning.proofs.PartLemmas.{ComesFrom, lie_still, owns_on, owns_no_more, first_in, second_in, halves_share_none, part_of_itself}
-use Rattle.ppm_bounds.specs.Slots.{most_in_force}
-use Rattle.ppm_translation.specs.Layout.{Layout, slot_of, target_of, parameter_layout, caught, register}
-use Rattle.ppm_translation.specs.Expressions.{size_of, expression_code}
-use Rattle.ppm_translation.specs.Numbers.{behind, end_of, hidden_behind, hidden_behind_block, halving, halved, element_block}
-use Rattle.ppm_translation.specs.Slots.{named_slots, procedure_slots, hidden_named_slots, hidden_slots, frame_words, fork_words}
-use Rattle.ppm_translation.specs.Statements.{Instrs, onward, let_code, value_code, move_code, element_code, put_code, test_code, split_code, give_code, last_code, Last, OnTo, Gives, with_lets, with_parts, hidden_layout}
-use Rattle.ppm_translation.specs.Statements.{lent_code, argument_size, argument_code, arguments_size, arguments_code, paired, stores_code, loads_code, names_code, each_code, entry_code, halving_code, number_of, callee_parameters, callee_number, callee_slots, call_code, fork_code}
-use Rattle.ppm_translation.specs.Fits.{Has, IsNew, IsKept, IsLocal, IsRegion, FitsExpression, FitsArgument, FitsArguments, FitsTarget, FitsSide, FitsStatement, FitsBlock, FitsProcedure, IsDistinctLayout}
-use Rattle.ppm_translation.specs.Standing.{HasBodies}
-use Rattle.ppm_translation.proofs.LayoutLemmas.{slot_in_front, has_in_front}
-use Rattle.ppm_soundness.proofs.CalmLemmas.{IsGood, IsLess, AreApart}
-use Rattle.ppm_soundness.proofs.OwnLemmas.{Label, region_word, OwnsWord, WritesWord, AreShort, owned_at, written_at, seen_short, start_is, length_is, first_word, second_word, less_label, apart_labels}
-use Rattle.ppm_soundness.proofs.TameLemmas.{World, Tame, Goes, IsFile, file_set, held_set, held_other, registers_differ, Keeps, keeps_itself, keeps_set, keeps_on}
-use Rattle.ppm_soundness.proofs.TameLemmas.{go_set, go_work, go_load, go_store, go_give, go_new, go_room, go_end, go_zero, go_get, go_put, go_cut_left, go_cut_right, whole_works, divided_works}
-use Rattle.ppm_soundness.proofs.TameExpressions.{tame_expression}
-use Rattle.ppm_soundness.proofs.StandLemmas.{Level, level, IsUnder, under_itself, under_on, IsSame, same_itself, same_on, same_store, IsOff, AreOff, off_behind, off_local, store_other, store_here, seen_of, one_slot}
-use Rattle.ppm_soundness.proofs.StandLemmas.{LastFits, Stays, Holds, Leads, IsOver, GoesOn, leads_on, IsAt, at_on, leads_onto}
-use Rattle.ppm_soundness.proofs.LevelLemmas.{behind_at, under_behind, has_cases, has_one, has_none, IsSwept, element_level, element_at, Runs, Begins, Moves, Puts, Enters, Halves, IsDone, Waits, ForCallee, ForHalves}
-use Rattle.ppm_owning.proofs.SplitLemmas.{split_apart}
-use Rattle.ppm_owning.proofs.ComingLemmas.{split_comes, split_new, split_sites, split_whole}
-use Rattle.std.specs.Option.{option_map}
-use Rattle.std.specs.Prelude.{◌||◌}
-use Rattle.ppm_soundness.proofs.BlockTame.{world, zeros, zeros_kept, owned, value_tame, next_tame, stored, step_back, under_same}
-use Rattle.std.specs.Prelude.{Ok}
-use Rattle.std.proofs.lemmas.List.{length-map}
-use Rattle.std.specs.List.{Contains, All}
-use Rattle.ppm_tree.specs.State.{then_with, with_argument}
-use Rattle.ppm_regions.specs.Uses.{lending_of, lent_together, lent_by, uses_of_side, both_targets}
-use Rattle.ppm_regions.proofs.SiteLemmas.{are_new, callee_sites, sites_of_body, sites_of_parameters, AreNew}
-use Rattle.ppm_owning.proofs.PartLemmas.{owns_itself}
-use Rattle.ppm_owning.proofs.LendLemmas.{NoClash, no_clash, no_clash_left, no_clash_right}
-use Rattle.ppm_owning.proofs.CallLemmas.{AreLent, are_lent}
-use Rattle.ppm_owning.proofs.EntryLemmas.{SideFacts, lends, lends_are, lent_from, lent_apart, lent_separate}
-use Rattle.ppm_owning.proofs.ComingLemmas.{call_facts, left_facts, right_facts}
-use Rattle.ppm_soundness.proofs.TameExpressions.{moved}
-use Rattle.ppm_regions.specs.Uses.{Use}
-use Rattle.ppm_regions.specs.Correct.{Makes}
-use Rattle.ppm_regions.proofs.SiteLemmas.{made_tail}
-use Rattle.ppm_regions.proofs.Elements.{contains_cases}
-use Rattle.ppm_soundness.proofs.GivenLemmas.{plain_arguments, given, IsLent, given_held, lent_kept, lendings_plain, given_lent}
-use Rattle.ppm_translation.specs.Fits.{FitsLent}
-use Rattle.std.proofs.lemmas.Bool.{eqb-true, eq-eqb}
-use Rattle.ppm_owning.specs.Owning.{LieInArrays}
-use Rattle.ppm_translation.specs.Standing.{HasBody}
-use Rattle.ppm_soundness.proofs.StandLemmas.{Few}
-use Rattle.std.specs.Prelude.{int_lt}
-use Rattle.std.specs.List.{filter}
-use Rattle.std.specs.Set.{is_member}
-use Rattle.ppm_regions.specs.Scope.{index_of}
-use Rattle.ppm_bounds.specs.Names.{free_names}
-use Rattle.ppm_words.specs.TwosComplement.{word_of, value_of}
-use Rattle.ppm_owning.specs.Words.{HasWord}
-use Rattle.ppm_owning.specs.Owning.{Owns, MayWrite}
-use Rattle.ppm_owning.proofs.PartLemmas.{word_of_whole}
-use Rattle.ppm_owning.proofs.ComingLemmas.{part_comes, parts_beside}
-use Rattle.ppm_soundness.proofs.SplitTame.{seen_back, or_left}
-use Rattle.ppm_soundness.proofs.CallTame.{IsStored, new_other, new_here, same_words, stores_tame}
-use Rattle.ppm_code.specs.Acts.{whole}
-use Rattle.std.specs.Prelude.{◌+ℤ◌, int_div}
-use Rattle.ppm_soundness.proofs.EachTame.{has_all, part_on, part_shorter, smaller_owns, AreLoaded, names_tame, swept_holds}
+use Rattle.ppm_translation.specs.Layout.{Layout}
+use Rattle.ppm_translation.specs.Statements.{Last}
+use Rattle.ppm_soundness.proofs.CalmLemmas.{IsGood}
+use Rattle.ppm_soundness.proofs.OwnLemmas.{Label, OwnsWord, WritesWord, AreShort}
+use Rattle.ppm_soundness.proofs.TameLemmas.{Goes}
+use Rattle.ppm_soundness.proofs.TameLemmas.{go_end}
+use Rattle.ppm_soundness.proofs.StandLemmas.{level}
+use Rattle.ppm_soundness.proofs.StandLemmas.{IsAt, at_on}
+use Rattle.ppm_soundness.proofs.LevelLemmas.{Runs, Begins, Moves, Puts, Enters, Halves, IsDone, Waits, ForCallee, ForHalves}
+use Rattle.ppm_soundness.proofs.BlockTame.{world, zeros}
 use Rattle.ppm_strands.specs.Tree.{Words}
 
 use Rattle.ppm_capsules.specs.Strand.{start, code_of as strands_in}
-use Rattle.ppm_code.specs.Capsules.{capsule_of}
 use Rattle.ppm_code.specs.Strands.{table_of, kept, resume, Gave, Trapped, with_value}
 use Rattle.ppm_soundness.proofs.CalmLemmas.{Respects}
 use Rattle.ppm_soundness.proofs.OwnLemmas.{writes_owned}
