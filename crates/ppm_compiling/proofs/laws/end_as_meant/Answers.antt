@@ -1,6 +1,6 @@
 use Rattle.ppm_compiling.proofs.GivenLemmas.{all_given}
 use Rattle.ppm_compiling.proofs.RootLemmas.{root_holds}
-use Rattle.ppm_compiling.proofs.Forward.{goes_onward}
+use Rattle.ppm_compiling.proofs.Forward.{runs}
 use Rattle.ppm_compiling.proofs.SmallLemmas.{small_fork}
 use Rattle.ppm_compiling.proofs.ReachLemmas.{call_reaches}
 use Rattle.ppm_compiling.proofs.SweepLemmas.{end_stands}
