@@ -1,5 +1,8 @@
 -- The capsules of a call and of a fork are tame: a callee owns what is lent to it, and two branches own apart.
-use Rattle.std.proofs.Common.{◌≡◌, ◌≢◌, ◌≤◌, ◌<◌, ℕ, zero, suc, ◌+◌, ◌==◌, cond, Bool, true, false, List, [], ◌∷◌, ◌++◌, Option, Some, None, length, slice_set, refl, sym, ap, ◌∙◌, subst, arith}
+use Rattle.std.proofs.Common.{◌≡◌, ◌≢◌, ◌≤◌, ◌<◌, ℕ, zero, suc, ◌+◌, ◌==◌, cond, Bool, true, false, List, [], ◌∷◌, ◌++◌, Option, Some, None}
+use Rattle.std.proofs.Common.{length, slice_set, refl, sym, ap, ◌∙◌, subst, arith}
+use Rattle.std.proofs.lemmas.List.{length-map}
+use Rattle.std.proofs.lemmas.Bool.{eqb-true, eq-eqb}
 use Rattle.ppm_capsules.specs.Capsule.{Memory, store}
 use Rattle.ppm_capsules.specs.Strand.{Own, New as NewWord, own_of, new_of}
 use Rattle.ppm_code.specs.declared.act.End.TheVariants as ends
@@ -22,39 +25,28 @@ use Rattle.ppm_tree.specs.State.{Frame, empty_frame, lent, procedure_named}
 use Rattle.ppm_regions.specs.Scope.{Scope, is_region, scope_of, first_named}
 use Rattle.ppm_regions.specs.Admission.{IsAdmitted}
 use Rattle.ppm_regions.specs.Correct.{KeepsRules}
-use Rattle.ppm_regions.specs.Uses.{Lending, lendings_of}
-use Rattle.ppm_regions.proofs.SiteLemmas.{made_right, uses_first}
-use Rattle.ppm_owning.specs.Owning.{OwnsApart, AreSeparate}
+use Rattle.ppm_regions.specs.Uses.{Lending, lendings_of, lent_together, lent_by, uses_of_side, both_targets}
+use Rattle.ppm_regions.proofs.SiteLemmas.{made_right, uses_first, callee_sites, sites_of_body}
+use Rattle.ppm_owning.specs.Owning.{OwnsApart, AreSeparate, LieInArrays}
 use Rattle.ppm_owning.specs.Coming.{callee}
-use Rattle.ppm_owning.proofs.PartLemmas.{ComesFrom, lie_still, owns_on, owns_no_more}
-use Rattle.ppm_translation.specs.Layout.{Layout, slot_of, target_of, parameter_layout, register}
-use Rattle.ppm_translation.specs.Slots.{named_slots, frame_words, fork_words}
-use Rattle.ppm_translation.specs.Statements.{Last, Gives}
-use Rattle.ppm_translation.specs.Statements.{lent_code, argument_size, argument_code, arguments_size, arguments_code, paired, stores_code, number_of, callee_number, callee_slots}
-use Rattle.ppm_translation.specs.Fits.{FitsArgument, FitsArguments, FitsTarget, FitsProcedure}
-use Rattle.ppm_translation.specs.Standing.{HasBodies}
-use Rattle.ppm_soundness.proofs.OwnLemmas.{Label, region_word, AreShort, less_label, apart_labels}
-use Rattle.ppm_soundness.proofs.TameLemmas.{World, Goes, held_set, Keeps, keeps_itself, keeps_set, keeps_on}
-use Rattle.ppm_soundness.proofs.TameLemmas.{go_load, go_new, go_room, go_end}
-use Rattle.ppm_soundness.proofs.StandLemmas.{Level, level, IsUnder, IsSame, IsOff, AreOff, off_local, seen_of}
-use Rattle.ppm_soundness.proofs.StandLemmas.{IsOver, IsAt, at_on}
-use Rattle.ppm_soundness.proofs.LevelLemmas.{behind_at, Runs, Begins, ForCallee}
-use Rattle.ppm_soundness.proofs.BlockTame.{world, zeros, zeros_kept, value_tame, under_same}
-use Rattle.std.proofs.lemmas.List.{length-map}
-use Rattle.ppm_regions.specs.Uses.{lent_together, lent_by, uses_of_side, both_targets}
-use Rattle.ppm_regions.proofs.SiteLemmas.{callee_sites, sites_of_body}
-use Rattle.ppm_owning.proofs.PartLemmas.{owns_itself}
+use Rattle.ppm_owning.proofs.PartLemmas.{ComesFrom, lie_still, owns_on, owns_no_more, owns_itself}
 use Rattle.ppm_owning.proofs.LendLemmas.{NoClash, no_clash, no_clash_left, no_clash_right}
 use Rattle.ppm_owning.proofs.CallLemmas.{AreLent}
 use Rattle.ppm_owning.proofs.EntryLemmas.{lends_are, lent_from, lent_apart, lent_separate}
 use Rattle.ppm_owning.proofs.ComingLemmas.{call_facts, left_facts, right_facts}
+use Rattle.ppm_translation.specs.Layout.{Layout, slot_of, target_of, parameter_layout, register}
+use Rattle.ppm_translation.specs.Slots.{named_slots, frame_words, fork_words}
+use Rattle.ppm_translation.specs.Statements.{Last, Gives, lent_code, argument_size, argument_code, arguments_size, arguments_code, paired}
+use Rattle.ppm_translation.specs.Statements.{stores_code, number_of, callee_number, callee_slots}
+use Rattle.ppm_translation.specs.Fits.{FitsArgument, FitsArguments, FitsTarget, FitsProcedure, FitsLent}
+use Rattle.ppm_translation.specs.Standing.{HasBodies, HasBody}
+use Rattle.ppm_soundness.proofs.OwnLemmas.{Label, region_word, AreShort, less_label, apart_labels}
+use Rattle.ppm_soundness.proofs.TameLemmas.{World, Goes, held_set, Keeps, keeps_itself, keeps_set, keeps_on, go_load, go_new, go_room, go_end}
+use Rattle.ppm_soundness.proofs.StandLemmas.{Level, level, IsUnder, IsSame, IsOff, AreOff, off_local, seen_of, IsOver, IsAt, at_on, Few}
+use Rattle.ppm_soundness.proofs.LevelLemmas.{behind_at, Runs, Begins, ForCallee}
+use Rattle.ppm_soundness.proofs.BlockTame.{world, zeros, zeros_kept, value_tame, under_same}
 use Rattle.ppm_soundness.proofs.TameExpressions.{moved}
 use Rattle.ppm_soundness.proofs.GivenLemmas.{plain_arguments, given, IsLent, given_held, lent_kept, lendings_plain, given_lent}
-use Rattle.ppm_translation.specs.Fits.{FitsLent}
-use Rattle.std.proofs.lemmas.Bool.{eqb-true, eq-eqb}
-use Rattle.ppm_owning.specs.Owning.{LieInArrays}
-use Rattle.ppm_translation.specs.Standing.{HasBody}
-use Rattle.ppm_soundness.proofs.StandLemmas.{Few}
 
 -- so many words of the new block are those of registers, and all others are as they were
 pub record IsStored (offset d count : ℕ) (g : List ℕ) (m new : Memory Where) : Type 0 where
@@ -285,7 +277,7 @@ module _ (t : ProgramTree) (code : CodeParts) (rules : KeepsRules t) (admitted :
           let right_is = lends_are t scope frame [] u ∙ sym (lendings_plain (callee t u).parameters u.arguments) in
           let uses = uses_first t scope (tree.Fork s u) rest a.stays.sites in
           let none = no_clash t scope rules [] both
-              (made_right t scope (uses_of_side t s ++ uses_of_side t u ++ both_targets s.target u.target) (lent_together [] both) uses) in
+          (made_right t scope (uses_of_side t s ++ uses_of_side t u ++ both_targets s.target u.target) (lent_together [] both) uses) in
           subst (λ (ls : List Lending). NoClash (ls ++ lendings_of (callee t u).parameters (plain_arguments (callee t u).parameters u.arguments))) left_is
           (subst (λ (ls : List Lending). NoClash (lent_by t s ++ ls)) right_is none)
 

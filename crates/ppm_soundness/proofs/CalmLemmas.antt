@@ -82,7 +82,7 @@ module _ {F O : Type 0} {L : Type 0} (Owns MayWrite : L → ℕ → Type 0) (Run
           let left = ih good.1 t a good.3 in
           let right = ih good.2 u a good.4 in
           let later = λ (d p : End O). ih l (rejoin c g d.outcome p.outcome) p.words
-              (respects.resumes l (c.kept g d.outcome) (joined c d.outcome p.outcome) (respects.keeps l g d.outcome good.0)) in
+          (respects.resumes l (c.kept g d.outcome) (joined c d.outcome p.outcome) (respects.keeps l g d.outcome good.0)) in
           record {
             calm = (
               left.calm,

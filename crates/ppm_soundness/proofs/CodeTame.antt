@@ -1,13 +1,14 @@
 -- The code respects what frames own: each of its capsules is tame, and frames go on as they may.
 use Rattle.std.proofs.Common.{ℕ, List, [], sym, subst}
+use Rattle.ppm_strands.specs.Tree.{Words}
 use Rattle.ppm_capsules.specs.Capsule.{Memory}
-use Rattle.ppm_capsules.specs.Strand.{Frame as CapsuleFrame, own_of}
+use Rattle.ppm_capsules.specs.Strand.{Frame as CapsuleFrame, own_of, start, code_of as strands_in}
 use Rattle.ppm_code.specs.declared.act.End.TheVariants as ends
 use Rattle.ppm_code.specs.declared.code.CodeParts.{CodeParts}
 use Rattle.ppm_code.specs.declared.instr.Instr.{Instr}
 use Rattle.ppm_code.specs.declared.location.FrameWord.{FrameWord}
 use Rattle.ppm_code.specs.Locations.{Where, code_locations}
-use Rattle.ppm_code.specs.Strands.{Point, Result, instrs_of}
+use Rattle.ppm_code.specs.Strands.{Point, Result, instrs_of, table_of, kept, resume, Gave, Trapped, with_value}
 use Rattle.ppm_tree.specs.Tree.{Expression, Argument, Side, Statement, Block, Nil, Then, Procedure, ProgramTree}
 use Rattle.ppm_tree.specs.Tree as tree
 use Rattle.ppm_tree.specs.State.{Frame}
@@ -16,22 +17,12 @@ use Rattle.ppm_regions.specs.Admission.{IsAdmitted}
 use Rattle.ppm_regions.specs.Correct.{KeepsRules}
 use Rattle.ppm_translation.specs.Layout.{Layout}
 use Rattle.ppm_translation.specs.Statements.{Last}
-use Rattle.ppm_soundness.proofs.CalmLemmas.{IsGood}
-use Rattle.ppm_soundness.proofs.OwnLemmas.{Label, OwnsWord, WritesWord, AreShort}
-use Rattle.ppm_soundness.proofs.TameLemmas.{Goes}
-use Rattle.ppm_soundness.proofs.TameLemmas.{go_end}
-use Rattle.ppm_soundness.proofs.StandLemmas.{level}
-use Rattle.ppm_soundness.proofs.StandLemmas.{IsAt, at_on}
+use Rattle.ppm_soundness.proofs.CalmLemmas.{IsGood, Respects}
+use Rattle.ppm_soundness.proofs.OwnLemmas.{Label, OwnsWord, WritesWord, AreShort, writes_owned}
+use Rattle.ppm_soundness.proofs.TameLemmas.{Goes, go_end}
+use Rattle.ppm_soundness.proofs.StandLemmas.{level, IsAt, at_on, same_value}
 use Rattle.ppm_soundness.proofs.LevelLemmas.{Runs, Begins, Moves, Puts, Enters, Halves, IsDone, Waits, ForCallee, ForHalves}
-use Rattle.ppm_soundness.proofs.BlockTame.{world, zeros}
-use Rattle.ppm_strands.specs.Tree.{Words}
-
-use Rattle.ppm_capsules.specs.Strand.{start, code_of as strands_in}
-use Rattle.ppm_code.specs.Strands.{table_of, kept, resume, Gave, Trapped, with_value}
-use Rattle.ppm_soundness.proofs.CalmLemmas.{Respects}
-use Rattle.ppm_soundness.proofs.OwnLemmas.{writes_owned}
-use Rattle.ppm_soundness.proofs.StandLemmas.{same_value}
-use Rattle.ppm_soundness.proofs.BlockTame.{let_tame, assign_tame, move_tame, element_tame, put_tame, if_tame, while_tame, nil_tame}
+use Rattle.ppm_soundness.proofs.BlockTame.{world, zeros, let_tame, assign_tame, move_tame, element_tame, put_tame, if_tame, while_tame, nil_tame}
 use Rattle.ppm_soundness.proofs.SplitTame.{split_tame}
 use Rattle.ppm_soundness.proofs.CallTame.{Facts, call_tame, fork_tame}
 use Rattle.ppm_soundness.proofs.EachTame.{each_tame, entry_tame}

@@ -1,9 +1,14 @@
 -- The capsules of an `each` and of its hidden procedure are tame: each half owns its own part, and reads the names of outside.
-use Rattle.std.proofs.Common.{◌≡◌, ◌≢◌, ◌≤◌, ◌<◌, ℕ, zero, suc, ◌+◌, cond, Bool, true, false, List, [], ◌∷◌, ◌++◌, Some, None, length, slice_set, inl, inr, refl, sym, ap, ◌∙◌, subst, arith}
-use Rattle.std.specs.Prelude.{pos}
+use Rattle.std.proofs.Common.{◌≡◌, ◌≢◌, ◌≤◌, ◌<◌, ℕ, zero, suc, ◌+◌, cond, Bool, true, false, List, [], ◌∷◌, ◌++◌, Some, None, length, slice_set}
+use Rattle.std.proofs.Common.{inl, inr, refl, sym, ap, ◌∙◌, subst, arith}
+use Rattle.std.specs.Prelude.{pos, int_lt}
 use Rattle.std.specs.Str.{bytes_eq}
+use Rattle.std.specs.Option.{option_map}
+use Rattle.std.specs.List.{filter}
+use Rattle.std.specs.Set.{is_member}
 use Rattle.ppm_capsules.specs.Capsule.{Memory}
 use Rattle.ppm_capsules.specs.Strand.{Own, New as NewWord, own_of, new_of}
+use Rattle.ppm_words.specs.TwosComplement.{word_of, value_of}
 use Rattle.ppm_code.specs.declared.act.End.TheVariants as ends
 use Rattle.ppm_code.specs.declared.code.CodeParts.{CodeParts}
 use Rattle.ppm_code.specs.declared.instr.Instr.{Instr}
@@ -17,39 +22,29 @@ use Rattle.ppm_tree.specs.declared.named.Named.{Named}
 use Rattle.ppm_tree.specs.Tree.{Expression, Argument, Side, Statement, Block, Nil, Then, Procedure, ProgramTree}
 use Rattle.ppm_tree.specs.Tree as tree
 use Rattle.ppm_tree.specs.State.{Frame, Region}
-use Rattle.ppm_regions.specs.Scope.{Declaration, Scope, declared, is_region, each_scope, in_each, element_of, part, seen_in_each}
+use Rattle.ppm_regions.specs.Scope.{Declaration, Scope, declared, is_region, each_scope, in_each, element_of, part, seen_in_each, index_of}
 use Rattle.ppm_regions.specs.Admission.{IsAdmitted}
 use Rattle.ppm_regions.specs.Correct.{KeepsRules}
-use Rattle.ppm_regions.proofs.ScopeLemmas.{same_names, names_same, names_other, other_names, declared_behind, declared_map, none_and_some, some_same}
-use Rattle.ppm_owning.specs.Words.{IsPart}
+use Rattle.ppm_regions.proofs.ScopeLemmas.{same_names, names_same, names_other, other_names, declared_behind, declared_map, none_and_some}
+use Rattle.ppm_regions.proofs.ScopeLemmas.{some_same}
+use Rattle.ppm_owning.specs.Words.{IsPart, HasWord}
 use Rattle.ppm_owning.specs.Owning.{IsSeen, OwnsNoMore}
 use Rattle.ppm_owning.specs.Coming.{part_frame}
-use Rattle.ppm_owning.proofs.PartLemmas.{owns_on, owns_no_more, part_of_itself}
+use Rattle.ppm_owning.proofs.PartLemmas.{owns_on, owns_no_more, part_of_itself, owns_itself, word_of_whole}
+use Rattle.ppm_owning.proofs.ComingLemmas.{part_comes}
+use Rattle.ppm_bounds.specs.Names.{free_names}
 use Rattle.ppm_translation.specs.Layout.{Layout, slot_of, caught, register}
 use Rattle.ppm_translation.specs.Numbers.{hidden_behind_block, halving, element_block}
 use Rattle.ppm_translation.specs.Slots.{hidden_slots, frame_words}
-use Rattle.ppm_translation.specs.Statements.{Last, hidden_layout}
-use Rattle.ppm_translation.specs.Statements.{stores_code, loads_code, names_code}
+use Rattle.ppm_translation.specs.Statements.{Last, hidden_layout, stores_code, loads_code, names_code}
 use Rattle.ppm_translation.specs.Fits.{Has}
 use Rattle.ppm_soundness.proofs.OwnLemmas.{Label, region_word, AreShort, less_label}
-use Rattle.ppm_soundness.proofs.TameLemmas.{World, Goes, held_set, Keeps, keeps_itself, keeps_set, keeps_on}
-use Rattle.ppm_soundness.proofs.TameLemmas.{go_set, go_load, go_room, go_end, go_zero}
-use Rattle.ppm_soundness.proofs.StandLemmas.{Level, level, seen_of}
-use Rattle.ppm_soundness.proofs.StandLemmas.{IsAt, at_on}
+use Rattle.ppm_soundness.proofs.TameLemmas.{World, Goes, held_set, Keeps, keeps_itself, keeps_set, keeps_on, go_set, go_load, go_room, go_end}
+use Rattle.ppm_soundness.proofs.TameLemmas.{go_zero}
+use Rattle.ppm_soundness.proofs.StandLemmas.{Level, level, seen_of, IsAt, at_on}
 use Rattle.ppm_soundness.proofs.LevelLemmas.{behind_at, has_one, has_none, IsSwept, element_level, element_at, Begins, Enters, Halves, ForCallee}
-use Rattle.std.specs.Option.{option_map}
 use Rattle.ppm_soundness.proofs.BlockTame.{world, zeros, zeros_kept}
-use Rattle.ppm_owning.proofs.PartLemmas.{owns_itself}
 use Rattle.ppm_soundness.proofs.TameExpressions.{moved}
-use Rattle.std.specs.Prelude.{int_lt}
-use Rattle.std.specs.List.{filter}
-use Rattle.std.specs.Set.{is_member}
-use Rattle.ppm_regions.specs.Scope.{index_of}
-use Rattle.ppm_bounds.specs.Names.{free_names}
-use Rattle.ppm_words.specs.TwosComplement.{word_of, value_of}
-use Rattle.ppm_owning.specs.Words.{HasWord}
-use Rattle.ppm_owning.proofs.PartLemmas.{word_of_whole}
-use Rattle.ppm_owning.proofs.ComingLemmas.{part_comes}
 use Rattle.ppm_soundness.proofs.SplitTame.{seen_back, or_left}
 use Rattle.ppm_soundness.proofs.CallTame.{same_words, stores_tame}
 

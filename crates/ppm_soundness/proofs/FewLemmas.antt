@@ -1,27 +1,26 @@
 -- What holds of all procedures of a program within its limits and bounds: few parameters, and blocks of an `each` that catch few names.
 use Rattle.std.proofs.Common.{◌≤◌, ℕ, cond, Bool, true, false, List, [], ◌∷◌, ◌++◌, length, arith}
 use Rattle.std.specs.Str.{bytes_eq}
+use Rattle.std.specs.List.{AllByRecursion}
+use Rattle.std.proofs.lemmas.List.Elements.{recursion_from_All}
 use Rattle.ppm_tree.specs.Tree.{Expression, Argument, Side, Statement, Block, Nil, Then, Procedure, ProgramTree}
 use Rattle.ppm_tree.specs.Tree as tree
 use Rattle.ppm_tree.specs.State.{procedure_named}
+use Rattle.ppm_tree.specs.Parts.{statement_and_inner, statements_in}
+use Rattle.ppm_tree.specs.Limits.{IsWithin, IsSmall}
 use Rattle.ppm_regions.specs.Scope.{Scope, lets_of, scope_of, split_scope, each_scope}
 use Rattle.ppm_regions.specs.Admission.{IsAdmitted}
-use Rattle.ppm_translation.specs.Layout.{Layout, parameter_layout}
-use Rattle.ppm_translation.specs.Statements.{with_lets, with_parts, hidden_layout}
-use Rattle.ppm_translation.specs.Fits.{FitsStatement, FitsBlock}
-use Rattle.ppm_soundness.proofs.StandLemmas.{Few}
 use Rattle.ppm_bounds.specs.declared.bound.Bound.TheVariants as bound
 use Rattle.ppm_bounds.specs.Bounds.{IsWithinBounds, Keeps as KeepsBound, KeepsAt, count_of, limit_of}
 use Rattle.ppm_bounds.proofs.Keeping.{all-first, all-second}
-use Rattle.std.specs.List.{AllByRecursion}
-use Rattle.std.proofs.lemmas.List.Elements.{recursion_from_All}
-use Rattle.ppm_tree.specs.Parts.{statement_and_inner, statements_in}
-use Rattle.ppm_tree.specs.Limits.{IsWithin, IsSmall}
+use Rattle.ppm_translation.specs.Layout.{Layout, parameter_layout}
+use Rattle.ppm_translation.specs.Statements.{with_lets, with_parts, hidden_layout}
+use Rattle.ppm_translation.specs.Fits.{FitsStatement, FitsBlock}
 use Rattle.ppm_translation.proofs.CaughtLemmas.{IsEachOnce, each_once, once_push, once_parts, once_hidden, caught_is_counted}
 use Rattle.ppm_translation.proofs.FitsLemmas.{names_have_slots}
 use Rattle.ppm_translation.proofs.PlaceLemmas.{procedures_have}
 use Rattle.ppm_translation.specs.Routines.{code_of}
-use Rattle.ppm_soundness.proofs.StandLemmas.{FewIn}
+use Rattle.ppm_soundness.proofs.StandLemmas.{Few, FewIn}
 use Rattle.ppm_soundness.proofs.CallTame.{Facts}
 
 abbrev CatchesFew : Statement → Type 0

@@ -1,6 +1,7 @@
 -- The regions that a call gives to its callee, whatever the values of its other arguments are.
-use Rattle.std.proofs.Common.{◌≡◌, ◌≤◌, ◌<◌, ℕ, suc, ◌+◌, cond, Bool, true, false, List, [], ◌∷◌, ◌++◌, Some, length, map, refl, sym, ap, ◌∙◌, subst, arith}
-use Rattle.std.specs.Prelude.{pos}
+use Rattle.std.proofs.Common.{◌≡◌, ◌≤◌, ◌<◌, ℕ, suc, ◌+◌, cond, Bool, true, false, List, [], ◌∷◌, ◌++◌, Some, length, map, refl, sym, ap, ◌∙◌}
+use Rattle.std.proofs.Common.{subst, arith}
+use Rattle.std.specs.Prelude.{pos, Ok}
 use Rattle.std.specs.Str.{bytes_eq}
 use Rattle.ppm_code.specs.Acts.{held}
 use Rattle.ppm_tree.specs.declared.mode.Mode.{Mode}
@@ -8,28 +9,21 @@ use Rattle.ppm_tree.specs.declared.mode.Mode.TheVariants as mode
 use Rattle.ppm_tree.specs.declared.tree.Parameter.{Parameter}
 use Rattle.ppm_tree.specs.Tree.{Expression, Argument, Side, Statement, Block, Nil, Then, Procedure, ProgramTree}
 use Rattle.ppm_tree.specs.Tree as tree
-use Rattle.ppm_tree.specs.State.{Frame, Region, empty_frame, lent, with_region, with_local, with_arguments}
+use Rattle.ppm_tree.specs.State.{Frame, Region, empty_frame, lent, with_region, with_local, with_arguments, then_with, with_argument}
 use Rattle.ppm_regions.specs.Scope.{Declaration, Scope, declared, is_region, of_parameter, scope_of}
 use Rattle.ppm_regions.specs.Admission.{IsAdmitted}
-use Rattle.ppm_regions.specs.Correct.{KeepsRules}
-use Rattle.ppm_regions.specs.Uses.{Lending, lendings_of, uses_of_arguments, uses_of_argument}
+use Rattle.ppm_regions.specs.Correct.{KeepsRules, Makes}
+use Rattle.ppm_regions.specs.Uses.{Lending, lendings_of, uses_of_arguments, uses_of_argument, lending_of, Use}
 use Rattle.ppm_regions.proofs.ScopeLemmas.{same_names, none_and_some, some_same}
-use Rattle.ppm_regions.proofs.SiteLemmas.{AreMade, made_head, made_left, made_right}
+use Rattle.ppm_regions.proofs.SiteLemmas.{AreMade, made_head, made_left, made_right, are_new, callee_sites, sites_of_parameters, made_tail}
+use Rattle.ppm_regions.proofs.Elements.{contains_cases}
 use Rattle.ppm_owning.specs.Coming.{callee}
+use Rattle.ppm_owning.proofs.CallLemmas.{AreLent, are_lent}
+use Rattle.ppm_owning.proofs.EntryLemmas.{SideFacts}
 use Rattle.ppm_translation.specs.Layout.{slot_of, parameter_layout, register}
 use Rattle.ppm_translation.specs.Statements.{paired}
 use Rattle.ppm_translation.specs.Fits.{IsNew, IsDistinctLayout}
 use Rattle.ppm_soundness.proofs.TameLemmas.{Keeps}
-use Rattle.std.specs.Prelude.{Ok}
-use Rattle.ppm_tree.specs.State.{then_with, with_argument}
-use Rattle.ppm_regions.specs.Uses.{lending_of}
-use Rattle.ppm_regions.proofs.SiteLemmas.{are_new, callee_sites, sites_of_parameters}
-use Rattle.ppm_owning.proofs.CallLemmas.{AreLent, are_lent}
-use Rattle.ppm_owning.proofs.EntryLemmas.{SideFacts}
-use Rattle.ppm_regions.specs.Uses.{Use}
-use Rattle.ppm_regions.specs.Correct.{Makes}
-use Rattle.ppm_regions.proofs.SiteLemmas.{made_tail}
-use Rattle.ppm_regions.proofs.Elements.{contains_cases}
 
 -- an argument with 0 in place of a value
 abbrev pub plain_argument : Mode → Argument → Argument

@@ -1,8 +1,10 @@
 -- A hidden procedure that goes on by halves: it forks itself over both halves of its part, and gives both the names of outside.
-use Rattle.std.proofs.Common.{◌≡◌, ◌≤◌, ◌<◌, ℕ, suc, ◌+◌, ◌-◌, ◌*◌, ◌^◌, cond, Bool, List, [], ◌∷◌, None, length, slice_set, refl, sym, ap, ◌∙◌, subst, arith}
-use Rattle.std.specs.Prelude.{pos}
+use Rattle.std.proofs.Common.{◌≡◌, ◌≤◌, ◌<◌, ℕ, suc, ◌+◌, ◌-◌, ◌*◌, ◌^◌, cond, Bool, List, [], ◌∷◌, None, length, slice_set, refl, sym, ap, ◌∙◌}
+use Rattle.std.proofs.Common.{subst, arith}
+use Rattle.std.specs.Prelude.{pos, ◌+ℤ◌, int_div}
 use Rattle.ppm_capsules.specs.Capsule.{Memory, store}
 use Rattle.ppm_capsules.specs.Strand.{Own, New as NewWord, own_of, new_of}
+use Rattle.ppm_words.specs.TwosComplement.{word_of, value_of}
 use Rattle.ppm_code.specs.declared.act.End.TheVariants as ends
 use Rattle.ppm_code.specs.declared.code.CodeParts.{CodeParts}
 use Rattle.ppm_code.specs.declared.instr.Instr.{Instr}
@@ -20,24 +22,22 @@ use Rattle.ppm_regions.specs.Admission.{IsAdmitted}
 use Rattle.ppm_regions.specs.Correct.{KeepsRules}
 use Rattle.ppm_owning.specs.Words.{IsPart}
 use Rattle.ppm_owning.specs.Coming.{part_frame}
-use Rattle.ppm_owning.proofs.PartLemmas.{owns_on, first_in, second_in, halves_share_none}
+use Rattle.ppm_owning.proofs.PartLemmas.{owns_on, first_in, second_in, halves_share_none, owns_itself}
+use Rattle.ppm_owning.proofs.ComingLemmas.{parts_beside}
 use Rattle.ppm_translation.specs.Layout.{Layout, slot_of, caught, register}
 use Rattle.ppm_translation.specs.Numbers.{halving, halved}
 use Rattle.ppm_translation.specs.Slots.{hidden_slots, frame_words, fork_words}
-use Rattle.ppm_translation.specs.Statements.{Instrs, hidden_layout}
-use Rattle.ppm_translation.specs.Statements.{stores_code, names_code}
+use Rattle.ppm_translation.specs.Statements.{Instrs, hidden_layout, stores_code, names_code}
 use Rattle.ppm_soundness.proofs.CalmLemmas.{IsLess, AreApart}
-use Rattle.ppm_soundness.proofs.OwnLemmas.{Label, region_word, OwnsWord, WritesWord, AreShort, seen_short, length_is, first_word, second_word, less_label, apart_labels}
+use Rattle.ppm_soundness.proofs.OwnLemmas.{Label, region_word, OwnsWord, WritesWord, AreShort, seen_short, length_is, first_word, second_word}
+use Rattle.ppm_soundness.proofs.OwnLemmas.{less_label, apart_labels}
 use Rattle.ppm_soundness.proofs.TameLemmas.{World, Goes, IsFile, file_set, held_set, held_other, registers_differ, keeps_itself, keeps_set}
-use Rattle.ppm_soundness.proofs.TameLemmas.{go_set, go_work, go_load, go_new, go_room, go_end, go_cut_left, go_cut_right, whole_works, divided_works}
+use Rattle.ppm_soundness.proofs.TameLemmas.{go_set, go_work, go_load, go_new, go_room, go_end, go_cut_left, go_cut_right, whole_works}
+use Rattle.ppm_soundness.proofs.TameLemmas.{divided_works}
 use Rattle.ppm_soundness.proofs.StandLemmas.{seen_of}
 use Rattle.ppm_soundness.proofs.LevelLemmas.{IsSwept, Runs, Enters, ForHalves}
 use Rattle.ppm_soundness.proofs.BlockTame.{world, zeros, zeros_kept}
-use Rattle.ppm_owning.proofs.PartLemmas.{owns_itself}
-use Rattle.ppm_words.specs.TwosComplement.{word_of, value_of}
-use Rattle.ppm_owning.proofs.ComingLemmas.{parts_beside}
 use Rattle.ppm_soundness.proofs.CallTame.{new_other, new_here, stores_tame}
-use Rattle.std.specs.Prelude.{◌+ℤ◌, int_div}
 use Rattle.ppm_soundness.proofs.EachTame.{part_on, part_shorter, smaller_owns, AreLoaded, names_tame, swept_holds}
 
 module _ (t : ProgramTree) (code : CodeParts) (rules : KeepsRules t) (admitted : IsAdmitted t) (short : AreShort t.arrays) (words : ℕ) (l : Label)

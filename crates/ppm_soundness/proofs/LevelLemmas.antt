@@ -1,5 +1,6 @@
 -- How a frame that stands at a block goes on: behind its first statement, in its blocks, and in those of an `each`.
-use Rattle.std.proofs.Common.{◌≡◌, ◌≤◌, ◌<◌, ℕ, suc, ◌+◌, cond, Bool, true, false, List, [], ◌∷◌, ◌++◌, None, length, inl, inr, ◌⊎◌, refl, ap, ◌∙◌, subst, arith}
+use Rattle.std.proofs.Common.{◌≡◌, ◌≤◌, ◌<◌, ℕ, suc, ◌+◌, cond, Bool, true, false, List, [], ◌∷◌, ◌++◌, None, length, inl, inr, ◌⊎◌, refl, ap}
+use Rattle.std.proofs.Common.{◌∙◌, subst, arith}
 use Rattle.std.specs.Str.{bytes_eq}
 use Rattle.std.proofs.lemmas.List.{length-append}
 use Rattle.ppm_capsules.specs.Strand.{Frame as CapsuleFrame}
@@ -32,8 +33,7 @@ use Rattle.ppm_translation.specs.Statements.{Last, OnTo, Gives, with_lets, hidde
 use Rattle.ppm_translation.specs.Fits.{Has, FitsStatement}
 use Rattle.ppm_translation.proofs.LayoutLemmas.{slot_in_front, has_in_front}
 use Rattle.ppm_soundness.proofs.OwnLemmas.{Label, region_word}
-use Rattle.ppm_soundness.proofs.StandLemmas.{Level, level, IsUnder, same_itself, AreOff}
-use Rattle.ppm_soundness.proofs.StandLemmas.{LastFits, Stays, IsOver, leads_on, IsAt}
+use Rattle.ppm_soundness.proofs.StandLemmas.{Level, level, IsUnder, same_itself, AreOff, LastFits, Stays, IsOver, leads_on, IsAt}
 
 -- a name of a longer layout is one of the front, or one behind
 pub has_cases : (x : List ℕ) (layout more : Layout) → Has (layout ++ more) x

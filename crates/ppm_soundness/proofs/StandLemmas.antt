@@ -1,6 +1,7 @@
 -- Where a frame of the code may stand: at a block of a procedure, in which the slots hold the regions that are in force, and behind which it
 -- goes on in blocks around.
-use Rattle.std.proofs.Common.{◌≡◌, ◌≢◌, ◌≤◌, ◌<◌, ℕ, suc, ◌+◌, ◌==◌, cond, Bool, true, false, List, [], ◌∷◌, ◌++◌, Option, Some, None, length, refl, sym, ap, ◌∙◌, subst, arith}
+use Rattle.std.proofs.Common.{◌≡◌, ◌≢◌, ◌≤◌, ◌<◌, ℕ, suc, ◌+◌, ◌==◌, cond, Bool, true, false, List, [], ◌∷◌, ◌++◌, Option, Some, None, length}
+use Rattle.std.proofs.Common.{refl, sym, ap, ◌∙◌, subst, arith}
 use Rattle.std.specs.Str.{bytes_eq}
 use Rattle.std.proofs.lemmas.Bool.{eqb-true, eq-eqb}
 use Rattle.ppm_capsules.specs.Capsule.{Memory, store}
@@ -15,9 +16,9 @@ use Rattle.ppm_tree.specs.Tree as tree
 use Rattle.ppm_tree.specs.State.{Frame}
 use Rattle.ppm_regions.specs.Scope.{Declaration, Scope, declared, is_region, lets_of, scope_behind}
 use Rattle.ppm_regions.specs.Uses.{sites_of_block}
-use Rattle.ppm_owning.specs.Owning.{IsSeen, OwnsApart, LieInArrays, OwnsNoMore}
 use Rattle.ppm_regions.proofs.ScopeLemmas.{same_names, some_same}
 use Rattle.ppm_regions.proofs.SiteLemmas.{AreSites}
+use Rattle.ppm_owning.specs.Owning.{IsSeen, OwnsApart, LieInArrays, OwnsNoMore}
 use Rattle.ppm_bounds.specs.Slots.{most_in_force}
 use Rattle.ppm_translation.specs.Layout.{Layout, slot_of, caught}
 use Rattle.ppm_translation.specs.Numbers.{behind, hidden_behind}
