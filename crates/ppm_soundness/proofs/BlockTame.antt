@@ -52,14 +52,16 @@ under_same scope layout v w p q r s = record {
   stays = λ x d f region. (d, subst (λ (k : Scope). declared k x ≡ Some d) (s ∙ append-nil scope ∙ sym r) f, region);
 }
 
-module _ (t : ProgramTree) (code : CodeParts) (rules : KeepsRules t) (admitted : IsAdmitted t) (short : AreShort t.arrays) (words : ℕ) (l : Label) where
+module _ (t : ProgramTree) (code : CodeParts) (rules : KeepsRules t) (admitted : IsAdmitted t) (short : AreShort t.arrays) (words : ℕ)
+    (l : Label) where
   -- what the frame owns, and what ends are to open
   abbrev pub world : World
   world = record {
     words = words;
     Owns = OwnsWord t.arrays l;
     May = WritesWord t.arrays l;
-    Opens = λ e own new. IsGood (OwnsWord t.arrays) (WritesWord t.arrays) (Runs t code rules admitted) (Waits t code rules admitted) l (opens code e own new);
+    Opens = λ e own new. IsGood (OwnsWord t.arrays) (WritesWord t.arrays) (Runs t code rules admitted) (Waits t code rules admitted) l
+        (opens code e own new);
     trapped = λ trap line own new. tt;
   }
 
@@ -99,10 +101,12 @@ module _ (t : ProgramTree) (code : CodeParts) (rules : KeepsRules t) (admitted :
     pub step_back : (s : Statement) (own : FrameWord → ℕ) → IsAt t code l own (front s) → IsAt t code l own (back s)
     step_back s own a = behind_at t code rules admitted l spare scope layout at h last s rest frame own a
 
-    pub let_tame : (x : Named) (e : Expression) → IsAt t code l (own_of m) (front (tree.Let x e)) → Goes world 0 (let_code layout e (suc at)) zeros m
+    pub let_tame : (x : Named) (e : Expression) → IsAt t code l (own_of m) (front (tree.Let x e))
+        → Goes world 0 (let_code layout e (suc at)) zeros m
     let_tame x e a =
         let v = front (tree.Let x e) in
-        value_tame m v a e a.stays.fits.0.0 0 0 0 (instr.StoreCur (length layout) (register 0) ∷ onward (suc at)) zeros zeros refl (zeros_kept 0) (λ g k.
+        value_tame m v a e a.stays.fits.0.0 0 0 0 (instr.StoreCur (length layout) (register 0) ∷ onward (suc at)) zeros zeros refl
+        (zeros_kept 0) (λ g k.
         let m' = store code_locations m (Own (Slot (length layout))) (held g (register 0)) in
         go_store world (0 + size_of e) (onward (suc at)) g m (length layout) (register 0)
         (next_tame m' (0 + size_of e + 1) g (back (tree.Let x e)) (step_back (tree.Let x e) (own_of m')
@@ -112,7 +116,8 @@ module _ (t : ProgramTree) (code : CodeParts) (rules : KeepsRules t) (admitted :
     spare_off : (s : Statement) (k : ℕ) → IsAt t code l (own_of m) (front s) → spare ≤ k → IsOff (front s) k
     spare_off s k a low = let r = a.stays.room in off_behind (front s) k (omega (arith, r, low))
 
-    pub assign_tame : (x : Named) (e : Expression) → IsAt t code l (own_of m) (front (tree.Assign x e)) → Goes world 0 (value_code layout spare e (suc at)) zeros m
+    pub assign_tame : (x : Named) (e : Expression) → IsAt t code l (own_of m) (front (tree.Assign x e))
+        → Goes world 0 (value_code layout spare e (suc at)) zeros m
     assign_tame x e a =
         let v = front (tree.Assign x e) in
         value_tame m v a e a.stays.fits.0.1 0 0 0 (instr.StoreCur spare (register 0) ∷ onward (suc at)) zeros zeros refl (zeros_kept 0) (λ g k.
@@ -121,7 +126,8 @@ module _ (t : ProgramTree) (code : CodeParts) (rules : KeepsRules t) (admitted :
         (go_end world (0 + size_of e + 1) [] g m' (ends.Next (suc at)) (Moves spare scope layout at h last x e rest frame refl
         (stored m v spare (held g (register 0)) (spare_off (tree.Assign x e) spare a (omega arith)) a))))
 
-    pub move_tame : (x : Named) (e : Expression) → IsAt t code l (own_of m) (front (tree.Assign x e)) → Goes world 0 (move_code layout spare x (suc (suc at))) zeros m
+    pub move_tame : (x : Named) (e : Expression) → IsAt t code l (own_of m) (front (tree.Assign x e))
+        → Goes world 0 (move_code layout spare x (suc (suc at))) zeros m
     move_tame x e a =
         let v = front (tree.Assign x e) in
         let slot = slot_of layout x.name in
@@ -179,16 +185,19 @@ module _ (t : ProgramTree) (code : CodeParts) (rules : KeepsRules t) (admitted :
         (go_load world 1 (instr.LoadSlot (register 2) (suc spare) ∷ put) f m (register 1) spare
         (go_load world 2 put g m (register 2) (suc spare)
         (go_put world 3 (onward (suc (suc at))) k m (register 0) (register 1) (register 2) x.line
-        (λ i low. written_at t.arrays short l scope frame.regions a.stays.within a.stays.home x.name writable (held k (register 0)) i (is ∙ holds) low)
+        (λ i low. written_at t.arrays short l scope frame.regions a.stays.within a.stays.home x.name writable (held k (register 0)) i (is
+        ∙ holds) low)
         (λ y. next_tame (store code_locations m (Shared y) (held k (register 2))) 4 k (back s) (step_back s (own_of m) a)))))
 
     -- a test
-    pub test_tame : (s : Statement) (a : IsAt t code l (own_of m) (front s)) (e : Expression) → FitsExpression scope layout e → (inside next : Level)
+    pub test_tame : (s : Statement) (a : IsAt t code l (own_of m) (front s)) (e : Expression) → FitsExpression scope layout e
+        → (inside next : Level)
         → IsAt t code l (own_of m) inside → IsAt t code l (own_of m) next → Goes world 0 (test_code layout e inside.at next.at) zeros m
     test_tame s a e fits inside next b c =
         let v = front s in
         let u = 0 + size_of e in
-        value_tame m v a e fits 0 0 0 (instr.BranchZero (register 0) (suc (suc (size_of e))) ∷ instr.Ends (ends.Next inside.at) ∷ onward next.at) zeros zeros refl (zeros_kept 0) (λ g k.
+        value_tame m v a e fits 0 0 0 (instr.BranchZero (register 0) (suc (suc (size_of e))) ∷ instr.Ends
+        (ends.Next inside.at) ∷ onward next.at) zeros zeros refl (zeros_kept 0) (λ g k.
         go_zero world u (instr.Ends (ends.Next inside.at) ∷ onward next.at) g m (register 0) (suc (suc (size_of e)))
         (let skipped : max (suc (suc (size_of e))) (u + 1) - (u + 1) ≡ 1 = omega arith in
         subst (λ (n : ℕ). Tame world (capsule_from words (u + 1) n (instr.Ends (ends.Next inside.at) ∷ onward next.at) g) m) (sym skipped)
@@ -236,7 +245,8 @@ module _ (t : ProgramTree) (code : CodeParts) (rules : KeepsRules t) (admitted :
           holds = record { holds = a.holds.holds };
           leads = leads_onto t code l (own_of m) other (back s) refl (under_same scope layout other (back s) refl refl refl refl) outer;
         } in
-        subst (λ (is : List Instr). Goes world 0 is zeros m) (sym a.stays.stands.0.0) (test_tame s a e a.stays.fits.0.0 inside other at_inside at_other)
+        subst (λ (is : List Instr). Goes world 0 is zeros m) (sym a.stays.stands.0.0)
+        (test_tame s a e a.stays.fits.0.0 inside other at_inside at_other)
 
     pub while_tame : (e : Expression) (b : Block) → IsAt t code l (own_of m) (front (tree.While e b)) → Goes world 0 (instrs_of code at) zeros m
     while_tame e b a =
@@ -256,7 +266,11 @@ module _ (t : ProgramTree) (code : CodeParts) (rules : KeepsRules t) (admitted :
             home = a.stays.home;
           };
           holds = record { holds = a.holds.holds };
-          leads = leads_onto t code l (own_of m) inside (front s) refl (record { front = λ x has. (has, refl); stays = λ x d f region. (d, f, region) }) a;
+          leads = leads_onto t code l (own_of m) inside (front s) refl (record {
+            front = λ x has. (has, refl);
+            stays = λ x d f region.
+                (d, f, region);
+          }) a;
         } in
         subst (λ (is : List Instr). Goes world 0 is zeros m) (sym a.stays.stands.0.0)
         (test_tame s a e a.stays.fits.0.0 inside (back s) at_inside (step_back s (own_of m) a))
@@ -278,10 +292,12 @@ module _ (t : ProgramTree) (code : CodeParts) (rules : KeepsRules t) (admitted :
         subst (λ (n : ℕ). Goes world 0 (onward n) zeros m) (sym (next_is next w.at (sym e ∙ is)))
         (next_tame m 0 zeros w (record { stays = stays; holds = holds; leads = leads }))
 
-    pub nil_tame : (last : Last) → IsAt t code l (own_of m) (level spare scope layout at h last Nil frame) → Goes world 0 (last_code layout last) zeros m
+    pub nil_tame : (last : Last) → IsAt t code l (own_of m) (level spare scope layout at h last Nil frame)
+        → Goes world 0 (last_code layout last) zeros m
     nil_tame (OnTo next) a = onto_tame next (level spare scope layout at h (OnTo next) Nil frame) refl a.leads
     nil_tame (Gives None) a = over_tame 0 [] zeros m
     nil_tame (Gives (Some g)) a =
-        value_tame m (level spare scope layout at h (Gives (Some g)) Nil frame) a g.value a.stays.gives 0 0 0 (instr.Give (register 0) ∷ instr.Ends ends.Finish ∷ []) zeros zeros refl (zeros_kept 0) (λ f k.
+        value_tame m (level spare scope layout at h (Gives (Some g)) Nil frame) a g.value a.stays.gives 0 0 0 (instr.Give
+        (register 0) ∷ instr.Ends ends.Finish ∷ []) zeros zeros refl (zeros_kept 0) (λ f k.
         go_give world (0 + size_of g.value) (instr.Ends ends.Finish ∷ []) f m (register 0)
         (over_tame (0 + size_of g.value + 1) [] f (store code_locations m (Own Value) (held f (register 0)))))

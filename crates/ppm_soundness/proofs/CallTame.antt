@@ -78,7 +78,8 @@ off_under w v k u h = record {
 
 module _ (world : World) where
   pub stores_tame : (count offset d here : ℕ) (is : List Instr) (g : List ℕ) (m : Memory Where)
-      → ((new : Memory Where) → IsStored offset d count g m new → Goes world (here + count) is g new) → Goes world here (stores_code offset d count is) g m
+      → ((new : Memory Where) → IsStored offset d count g m new → Goes world (here + count) is g new)
+      → Goes world here (stores_code offset d count is) g m
   stores_tame zero offset d here is g m go =
       moved world m is g here (here + zero) (omega arith)
       (go m (record { own = λ s. refl; within = λ j low. absurd (omega (arith, low)); front = λ o low. refl }))
@@ -92,7 +93,8 @@ module _ (world : World) where
         front = λ o low. st.front o (omega (arith, low)) ∙ new_other m o offset (held g (register d)) (λ e. omega (arith, e, low));
       }))))
     where
-      first : (j : ℕ) → j < suc count → (new : Memory Where) → IsStored (suc offset) (suc d) count g (store code_locations m (NewWord offset) (held g (register d))) new
+      first : (j : ℕ) → j < suc count → (new : Memory Where)
+          → IsStored (suc offset) (suc d) count g (store code_locations m (NewWord offset) (held g (register d))) new
           → new (NewWord (offset + j)) ≡ held g (register (d + j))
       first zero low new st =
           let e : offset + 0 ≡ offset = omega arith in
@@ -136,8 +138,10 @@ module _ (t : ProgramTree) (code : CodeParts) (rules : KeepsRules t) (admitted :
     lent_tame (tree.Minus n e) fits d here is f g keep go = absurd fits
     lent_tame (tree.Binary o n e u) fits d here is f g keep go = absurd fits
 
-    argument_tame : (o : Mode) (e : Expression) → FitsArgument v.scope v.layout o e → (d at here : ℕ) (is : List Instr) (f g : List ℕ) → at ≡ here → Keeps d f g
-        → ((h : List ℕ) → Keeps d f h → (is_region o ≡ true → held h (register d) ≡ region_word t.arrays (lent v.frame e)) → Goes all (here + argument_size o e) is h m)
+    argument_tame : (o : Mode) (e : Expression) → FitsArgument v.scope v.layout o e → (d at here : ℕ) (is : List Instr) (f g : List ℕ)
+        → at ≡ here → Keeps d f g
+        → ((h : List ℕ) → Keeps d f h → (is_region o ≡ true → held h (register d) ≡ region_word t.arrays (lent v.frame e))
+        → Goes all (here + argument_size o e) is h m)
         → Goes all here (argument_code v.layout o e d at is) g m
     argument_tame mode.Int e fits d at here is f g at_is keep go =
         value_tame t code rules admitted short words l m v a e fits d at here is f g at_is keep (λ h k. go h k (λ r. absurd (never r)))
@@ -157,7 +161,8 @@ module _ (t : ProgramTree) (code : CodeParts) (rules : KeepsRules t) (admitted :
     arguments_tame (p ∷ ps) (b ∷ args) fits d at here is f g at_is few keep go =
         let n = argument_size p.mode b.value in
         argument_tame p.mode b.value fits.0 d at here (arguments_code v.layout ps args (suc d) (at + n) is) f g at_is keep (λ h k one.
-        arguments_tame ps args fits.1 (suc d) (at + n) (here + n) is h h (omega (arith, at_is)) (omega (arith, few)) (keeps_itself (suc d) h k.file) (λ h' k' rest.
+        arguments_tame ps args fits.1 (suc d) (at + n) (here + n) is h h (omega (arith, at_is)) (omega (arith, few)) (keeps_itself
+        (suc d) h k.file) (λ h' k' rest.
         moved all m is h' (here + n + arguments_size ps args) (here + (n + arguments_size ps args)) (omega arith)
         (go h' (keeps_on d (suc d) f h h' (omega arith) k k') (λ r. k'.kept d (omega arith) (omega (arith, few)) ∙ one r, rest))))
 
@@ -181,7 +186,8 @@ module _ (t : ProgramTree) (code : CodeParts) (rules : KeepsRules t) (admitted :
 
       abbrev callee_level : Level
       callee_level =
-          level (named_slots (callee t s)) (scope_of (callee t s)) (parameter_layout (callee t s).parameters) (entry_of code (callee_number t.procedures s))
+          level (named_slots (callee t s)) (scope_of (callee t s)) (parameter_layout (callee t s).parameters) (entry_of code
+          (callee_number t.procedures s))
           body.h (Gives (callee t s).give) (callee t s).body entered_frame
 
       pub callee_runs : (g : List ℕ) (d : ℕ) (own : FrameWord → ℕ) → IsLentAll g d own
@@ -204,7 +210,8 @@ module _ (t : ProgramTree) (code : CodeParts) (rules : KeepsRules t) (admitted :
             };
             holds = record {
               holds = λ x seen has.
-                  let there = given_held frame (region_word t.arrays) g p.parameters s.arguments empty_frame d fit.distinct count h.lent x seen.declaration seen.found seen.region in
+                  let there = given_held frame (region_word t.arrays) g p.parameters s.arguments empty_frame d fit.distinct count h.lent x
+                  seen.declaration seen.found seen.region in
                   h.slots (slot_of (parameter_layout p.parameters) x) there.0 ∙ there.1;
             };
             leads = IsOver callee_level (callee t s).give refl;
@@ -250,7 +257,8 @@ module _ (t : ProgramTree) (code : CodeParts) (rules : KeepsRules t) (admitted :
           let u = 1 + arguments_size ps s.arguments in
           subst (λ (is : List Instr). Goes all 0 is zeros m) (sym a.stays.stands.0)
           (go_room all 0 (arguments_code layout ps s.arguments 0 1 stores) zeros m (frame_words (callee_slots t.procedures s))
-          (arguments_tame m v a ps s.arguments a.stays.fits.0.arguments 0 1 1 stores zeros zeros refl (omega (arith, below, narrow)) (zeros_kept t code rules admitted short words l 0) (λ g k lent.
+          (arguments_tame m v a ps s.arguments a.stays.fits.0.arguments 0 1 1 stores zeros zeros refl (omega (arith, below, narrow))
+          (zeros_kept t code rules admitted short words l 0) (λ g k lent.
           stores_tame all n 6 0 u (instr.Ends end ∷ []) g m (λ new st.
           go_end all (u + n) [] g new end (
             ForCallee w refl (behind_at t code rules admitted l spare scope layout at h last (tree.Call s) rest frame (own_of new)
@@ -258,15 +266,21 @@ module _ (t : ProgramTree) (code : CodeParts) (rules : KeepsRules t) (admitted :
                 (target_off (tree.Call s) w s.target (under_same scope layout v w refl refl refl refl) a.stays.fits.0.target),
             entered_label scope frame s,
             callee_runs scope frame s a.stays.fits.0.callee facts_here.count call_comes_from call_is_apart a.stays.within g 0 (built 0 (new_of new))
-                (record { lent = lent; slots = λ j low. (let e : 0 + (6 + j) ≡ 6 + j = omega arith in ap (λ (o : ℕ). new (NewWord o)) e) ∙ st.within j low }),
+                (record {
+                  lent = lent;
+                  slots = λ j low. (let e : 0 + (6 + j) ≡ 6 + j = omega arith in ap (λ (o : ℕ). new (NewWord o)) e)
+                      ∙ st.within j low;
+                }),
             less_label t.arrays (entered_label scope frame s) l (owns_on (owns_no_more call_comes_from) a.stays.home),
           )))))
 
     module _ (s u : Side) (m : Memory Where) (a : IsAt t code l (own_of m) (around (tree.Fork s u))) where
-      abbrev left_given : AreLent frame [] scope (callee t s).parameters (plain_arguments (callee t s).parameters s.arguments) empty_frame (entered_frame scope frame s)
+      abbrev left_given : AreLent frame [] scope (callee t s).parameters (plain_arguments (callee t s).parameters s.arguments) empty_frame
+          (entered_frame scope frame s)
       left_given = given_lent t scope rules admitted frame s (left_facts t rules admitted scope rest frame [] s u a.stays.sites)
 
-      abbrev right_given : AreLent frame [] scope (callee t u).parameters (plain_arguments (callee t u).parameters u.arguments) empty_frame (entered_frame scope frame u)
+      abbrev right_given : AreLent frame [] scope (callee t u).parameters (plain_arguments (callee t u).parameters u.arguments) empty_frame
+          (entered_frame scope frame u)
       right_given = given_lent t scope rules admitted frame u (right_facts t rules admitted scope rest frame [] s u a.stays.sites)
 
       no_clashes : NoClash (lendings_of (callee t s).parameters (plain_arguments (callee t s).parameters s.arguments)
@@ -278,16 +292,19 @@ module _ (t : ProgramTree) (code : CodeParts) (rules : KeepsRules t) (admitted :
           let uses = uses_first t scope (tree.Fork s u) rest a.stays.sites in
           let none = no_clash t scope rules [] both
           (made_right t scope (uses_of_side t s ++ uses_of_side t u ++ both_targets s.target u.target) (lent_together [] both) uses) in
-          subst (λ (ls : List Lending). NoClash (ls ++ lendings_of (callee t u).parameters (plain_arguments (callee t u).parameters u.arguments))) left_is
+          subst (λ (ls : List Lending). NoClash (ls ++ lendings_of (callee t u).parameters (plain_arguments
+          (callee t u).parameters u.arguments))) left_is
           (subst (λ (ls : List Lending). NoClash (lent_by t s ++ ls)) right_is none)
 
       left_comes_from : ComesFrom (scope_of (callee t s)) (entered_frame scope frame s).regions scope frame.regions
       left_comes_from =
-          lent_from t scope frame [] (callee t s).parameters (plain_arguments (callee t s).parameters s.arguments) empty_frame (entered_frame scope frame s) left_given
+          lent_from t scope frame [] (callee t s).parameters (plain_arguments (callee t s).parameters s.arguments) empty_frame
+          (entered_frame scope frame s) left_given
 
       right_comes_from : ComesFrom (scope_of (callee t u)) (entered_frame scope frame u).regions scope frame.regions
       right_comes_from =
-          lent_from t scope frame [] (callee t u).parameters (plain_arguments (callee t u).parameters u.arguments) empty_frame (entered_frame scope frame u) right_given
+          lent_from t scope frame [] (callee t u).parameters (plain_arguments (callee t u).parameters u.arguments) empty_frame
+          (entered_frame scope frame u) right_given
 
       abbrev left_lends : List Lending
       left_lends = lendings_of (callee t s).parameters (plain_arguments (callee t s).parameters s.arguments)
@@ -297,18 +314,22 @@ module _ (t : ProgramTree) (code : CodeParts) (rules : KeepsRules t) (admitted :
 
       left_is_apart : OwnsApart (scope_of (callee t s)) (entered_frame scope frame s).regions
       left_is_apart =
-          lent_apart t scope frame [] (callee t s).parameters (plain_arguments (callee t s).parameters s.arguments) empty_frame (entered_frame scope frame s) left_given
+          lent_apart t scope frame [] (callee t s).parameters (plain_arguments (callee t s).parameters s.arguments) empty_frame
+          (entered_frame scope frame s) left_given
           (no_clash_left left_lends right_lends no_clashes) a.stays.apart
 
       right_is_apart : OwnsApart (scope_of (callee t u)) (entered_frame scope frame u).regions
       right_is_apart =
-          lent_apart t scope frame [] (callee t u).parameters (plain_arguments (callee t u).parameters u.arguments) empty_frame (entered_frame scope frame u) right_given
+          lent_apart t scope frame [] (callee t u).parameters (plain_arguments (callee t u).parameters u.arguments) empty_frame
+          (entered_frame scope frame u) right_given
           (no_clash_right left_lends right_lends no_clashes) a.stays.apart
 
-      sides_are_apart : AreSeparate (scope_of (callee t s)) (entered_frame scope frame s).regions (scope_of (callee t u)) (entered_frame scope frame u).regions
+      sides_are_apart : AreSeparate (scope_of (callee t s)) (entered_frame scope frame s).regions (scope_of (callee t u))
+          (entered_frame scope frame u).regions
       sides_are_apart =
           lent_separate t scope frame [] (callee t s).parameters (callee t u).parameters (plain_arguments (callee t s).parameters s.arguments)
-          (plain_arguments (callee t u).parameters u.arguments) empty_frame (entered_frame scope frame s) empty_frame (entered_frame scope frame u) left_given right_given
+          (plain_arguments (callee t u).parameters u.arguments) empty_frame (entered_frame scope frame s) empty_frame
+          (entered_frame scope frame u) left_given right_given
           no_clashes a.stays.apart
 
       pub fork_tame : Goes all 0 (instrs_of code at) zeros m
@@ -340,9 +361,11 @@ module _ (t : ProgramTree) (code : CodeParts) (rules : KeepsRules t) (admitted :
           let c = b + arguments_size qs u.arguments in
           let under = under_same scope layout v w refl refl refl refl in
           subst (λ (is : List Instr). Goes all 0 is zeros m) (sym a.stays.stands.0)
-          (go_room all 0 (arguments_code layout ps s.arguments 0 1 (arguments_code layout qs u.arguments n (suc (arguments_size ps s.arguments)) left_stores)) zeros m
+          (go_room all 0 (arguments_code layout ps s.arguments 0 1 (arguments_code layout qs u.arguments n (suc
+          (arguments_size ps s.arguments)) left_stores)) zeros m
           (fork_words slots (callee_slots t.procedures u))
-          (arguments_tame m v a ps s.arguments fits.0.arguments 0 1 1 (arguments_code layout qs u.arguments n (suc (arguments_size ps s.arguments)) left_stores) zeros zeros
+          (arguments_tame m v a ps s.arguments fits.0.arguments 0 1 1 (arguments_code layout qs u.arguments n (suc
+          (arguments_size ps s.arguments)) left_stores) zeros zeros
           refl (omega (arith, below, narrow)) (zeros_kept t code rules admitted short words l 0) (λ f j lent.
           arguments_tame m v a qs u.arguments fits.1.arguments n (suc (arguments_size ps s.arguments)) b left_stores f f (omega arith)
           (omega (arith, below, below', narrow, narrow')) (keeps_itself n f j.file) (λ g i lent'.
@@ -354,18 +377,20 @@ module _ (t : ProgramTree) (code : CodeParts) (rules : KeepsRules t) (admitted :
                 (target_off (tree.Fork s u) w s.target under fits.0.target) (target_off (tree.Fork s u) w u.target under fits.1.target),
             entered_label scope frame s,
             entered_label scope frame u,
-            callee_runs scope frame s fits.0.callee left_count.count left_comes_from left_is_apart a.stays.within g 0 (built 5 (new_of new)) (record {
-              lent = lent_kept frame (region_word t.arrays) f g ps s.arguments 0 n (omega arith) (omega (arith, below, narrow)) i lent;
-              slots = λ j low.
-                  (let e : 5 + (6 + j) ≡ 11 + j = omega arith in ap (λ (o : ℕ). new (NewWord o)) e)
-                  ∙ st'.front (11 + j) (omega (arith, low, below)) ∙ st.within j low;
-            }),
-            callee_runs scope frame u fits.1.callee right_count.count right_comes_from right_is_apart a.stays.within g n (built (right_at code left) (new_of new)) (record {
-              lent = lent';
-              slots = λ j low.
-                  (let e : (5 + (6 + slots_of code left)) + (6 + j) ≡ right_at' + j = omega (arith, size_is) in ap (λ (o : ℕ). new (NewWord o)) e)
-                  ∙ st'.within j low;
-            }),
+            callee_runs scope frame s fits.0.callee left_count.count left_comes_from left_is_apart a.stays.within g 0 (built 5 (new_of new))
+                (record {
+                  lent = lent_kept frame (region_word t.arrays) f g ps s.arguments 0 n (omega arith) (omega (arith, below, narrow)) i lent;
+                  slots = λ j low.
+                      (let e : 5 + (6 + j) ≡ 11 + j = omega arith in ap (λ (o : ℕ). new (NewWord o)) e)
+                      ∙ st'.front (11 + j) (omega (arith, low, below)) ∙ st.within j low;
+                }),
+            callee_runs scope frame u fits.1.callee right_count.count right_comes_from right_is_apart a.stays.within g n (built
+                (right_at code left) (new_of new)) (record {
+                  lent = lent';
+                  slots = λ j low.
+                      (let e : (5 + (6 + slots_of code left)) + (6 + j) ≡ right_at' + j = omega (arith, size_is) in ap (λ (o : ℕ). new (NewWord o)) e)
+                      ∙ st'.within j low;
+                }),
             less_label t.arrays (entered_label scope frame s) l (owns_on (owns_no_more left_comes_from) a.stays.home),
             less_label t.arrays (entered_label scope frame u) l (owns_on (owns_no_more right_comes_from) a.stays.home),
             apart_labels t.arrays (entered_label scope frame s) (entered_label scope frame u) sides_are_apart,

@@ -22,7 +22,8 @@ module _ {F O : Type 0} {L : Type 0} (Owns MayWrite : L → ℕ → Type 0) (Run
   abbrev pub IsGood : L → Tree F O → Type 0
   IsGood l (Strand f) = Runs l f
   IsGood l (Call g t) = Waits l g × (m : L) × IsGood m t × IsLess Owns MayWrite m l
-  IsGood l (Fork g t u) = Waits l g × (m : L) × (k : L) × IsGood m t × IsGood k u × IsLess Owns MayWrite m l × IsLess Owns MayWrite k l × AreApart Owns MayWrite m k
+  IsGood l (Fork g t u) =
+      Waits l g × (m : L) × (k : L) × IsGood m t × IsGood k u × IsLess Owns MayWrite m l × IsLess Owns MayWrite k l × AreApart Owns MayWrite m k
   IsGood l (Over o) = Unit {0}
 
   -- what the code is to do with such frames

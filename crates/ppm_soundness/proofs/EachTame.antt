@@ -57,7 +57,8 @@ has_all test (y ∷ layout) z h = go (test y) h (has_all test layout z)
     later true h = omega arith
     later false h = omega (arith, h)
 
-    kept : (b : Bool) → cond b 0 (suc (slot_of (filter test layout) z)) < suc (length (filter test layout)) → (Has (filter test layout) z → Has layout z)
+    kept : (b : Bool) → cond b 0 (suc (slot_of (filter test layout) z)) < suc (length (filter test layout)) → (Has (filter test layout) z
+        → Has layout z)
         → cond b 0 (suc (slot_of layout z)) < suc (length layout)
     kept true h rest = omega arith
     kept false h rest = let l = rest (omega (arith, h)) in omega (arith, l)
@@ -78,7 +79,8 @@ no_region e i h region =
 -- a region of the block that is not the part is one of outside
 each_seen : (scope : Scope) (r i x : Named) (z : List ℕ) → x.name ≢ z → IsSeen (each_scope scope r i x) z → IsSeen scope z
 each_seen scope r i x z other seen =
-    seen_back (seen_in_each r) (λ d. refl) (λ d. refl) (λ d h. or_left d.hidden (bytes_eq d.name.name r.name) h) scope (element_of scope r i x) z none seen
+    seen_back (seen_in_each r) (λ d. refl) (λ d. refl) (λ d h. or_left d.hidden (bytes_eq d.name.name r.name) h) scope
+    (element_of scope r i x) z none seen
   where
     none : (e : Declaration) → declared (element_of scope r i x) z ≡ Some e → is_region e.mode ≡ true → ⊥
     none e h region = go (bytes_eq i.name z) (bytes_eq x.name z) refl h
@@ -92,7 +94,8 @@ each_seen scope r i x z other seen =
 index_unseen : (scope : Scope) (r i x : Named) (z : List ℕ) → i.name ≡ z → declared scope i.name ≡ None → IsSeen (each_scope scope r i x) z → ⊥
 index_unseen scope r i x z same fresh seen =
     let none : declared (in_each scope r) z ≡ None =
-    declared_map z (seen_in_each r) (λ d. refl) scope ∙ ap (option_map (seen_in_each r)) (subst (λ (y : List ℕ). declared scope y ≡ None) same fresh) in
+    declared_map z (seen_in_each r) (λ d. refl) scope
+    ∙ ap (option_map (seen_in_each r)) (subst (λ (y : List ℕ). declared scope y ≡ None) same fresh) in
     let here = ap (λ (b : Bool). cond b (Some (index_of i)) (declared (part scope r x ∷ []) z)) (names_same i.name z same) in
     no_region seen.declaration i (sym (declared_behind z (in_each scope r) (element_of scope r i x) none ∙ here) ∙ seen.found) seen.region
 
@@ -111,7 +114,8 @@ pub part_shorter : {p q : Region} → IsPart p q → p.length ≤ q.length
 part_shorter a = omega (arith, a.from, a.to)
 
 -- a smaller part owns less
-pub smaller_owns : (scope : Scope) (frame : Frame) (x : Named) (p q : Region) → IsPart p q → OwnsNoMore scope (part_frame frame x p).regions scope (part_frame frame x q).regions
+pub smaller_owns : (scope : Scope) (frame : Frame) (x : Named) (p q : Region) → IsPart p q
+    → OwnsNoMore scope (part_frame frame x p).regions scope (part_frame frame x q).regions
 smaller_owns scope frame x p q a = record {
   owned = λ k i o. record { name = o.name; seen = o.seen; has = go k i o.name (bytes_eq x.name o.name) o.has };
   written = λ k i o. record { name = o.name; writable = o.writable; has = go k i o.name (bytes_eq x.name o.name) o.has };
@@ -127,7 +131,8 @@ module _ (world : World) (m : Memory Where) where
     pub loaded : (z : List ℕ) → Has names z → held h (register (d + slot_of names z)) ≡ m (Own (Slot (slot_of layout z)))
 
   pub loads_tame : (layout names : Layout) (d here : ℕ) (is : List Instr) (f g : List ℕ) → d + length names ≤ 63 → Keeps d f g
-      → ((h : List ℕ) → Keeps d f h → IsLoaded layout names d h → Goes world (here + length names) is h m) → Goes world here (loads_code layout names d is) g m
+      → ((h : List ℕ) → Keeps d f h → IsLoaded layout names d h → Goes world (here + length names) is h m)
+      → Goes world here (loads_code layout names d is) g m
   loads_tame layout [] d here is f g few keep go =
       moved world m is g here (here + 0) (omega arith) (go g keep (record { loaded = λ z has. absurd (has_none z has) }))
   loads_tame layout (y ∷ names) d here is f g few keep go =
@@ -156,7 +161,8 @@ module _ (world : World) (m : Memory Where) where
     pub loaded : (j : ℕ) → j < count → held h (register (d + j)) ≡ m (Own (Slot (slot + j)))
 
   pub names_tame : (count slot d here : ℕ) (is : List Instr) (f g : List ℕ) → d + count ≤ 63 → Keeps d f g
-      → ((h : List ℕ) → Keeps d f h → AreLoaded slot d count h → Goes world (here + count) is h m) → Goes world here (names_code slot d count is) g m
+      → ((h : List ℕ) → Keeps d f h → AreLoaded slot d count h → Goes world (here + count) is h m)
+      → Goes world here (names_code slot d count is) g m
   names_tame zero slot d here is f g few keep go =
       moved world m is g here (here + 0) (omega arith) (go g keep (record { loaded = λ j low. absurd (omega (arith, low)) }))
   names_tame (suc count) slot d here is f g few keep go =
@@ -185,7 +191,8 @@ module _ (t : ProgramTree) (code : CodeParts) (rules : KeepsRules t) (admitted :
   -- the slots of a hidden procedure hold its part, and the regions of outside
   pub swept_holds : (scope : Scope) (layout : Layout) (i x r : Named) (block : Block) (frame : Frame) (q : Region) (own : FrameWord → ℕ)
       → declared scope i.name ≡ None → own (Slot 0) ≡ region_word t.arrays q
-      → ((z : List ℕ) → IsSeen (each_scope scope r i x) z → x.name ≢ z → Has (caught layout block) z → bytes_eq x.name z ≡ false → bytes_eq i.name z ≡ false
+      → ((z : List ℕ) → IsSeen (each_scope scope r i x) z → x.name ≢ z → Has (caught layout block) z → bytes_eq x.name z ≡ false
+      → bytes_eq i.name z ≡ false
       → own (Slot (suc (suc (slot_of (caught layout block) z)))) ≡ region_word t.arrays (frame.regions z))
       → (z : List ℕ) → IsSeen (each_scope scope r i x) z → Has (hidden_layout layout i x block) z
       → own (Slot (slot_of (hidden_layout layout i x block) z)) ≡ region_word t.arrays ((part_frame frame x q).regions z)
@@ -278,7 +285,8 @@ module _ (t : ProgramTree) (code : CodeParts) (rules : KeepsRules t) (admitted :
                   ∙ (let e : 0 + suc (suc (slot_of names z)) ≡ 2 + slot_of names z = omega arith in ap (λ (o : ℕ). held g (register o)) e)
                   ∙ loads.loaded z has ∙ a.holds.holds z before (has_all (is_member bytes_eq (free_names block)) layout z has));
             }) refl,
-            less_label t.arrays part_label l (owns_on (owns_no_more (part_comes t rules admitted scope i x r block rest a.stays.sites frame whole_part (part_of_itself whole_part)))
+            less_label t.arrays part_label l (owns_on (owns_no_more
+                (part_comes t rules admitted scope i x r block rest a.stays.sites frame whole_part (part_of_itself whole_part)))
                 a.stays.home),
           )))))))
 
@@ -303,9 +311,12 @@ module _ (t : ProgramTree) (code : CodeParts) (rules : KeepsRules t) (admitted :
           (go_end all 7 last g4 m (ends.Next (element_block entry))
           (Begins (element_level t code rules admitted l (own_of m) w) refl (element_at t code rules admitted l (own_of m) w))) in
           subst (λ (is : List Instr). Goes all 0 is zeros m) (sym w.stays.stands.0.1)
-          (go_load all 0 (instr.Len (register 0) (register 0) ∷ instr.Const (register 1) (pos 1) ∷ instr.Less (register 2) (register 1) (register 0) ∷ rest) zeros m (register 0) 0
-          (go_set all 1 (instr.Const (register 1) (pos 1) ∷ instr.Less (register 2) (register 1) (register 0) ∷ rest) g1 m (instr.Len (register 0) (register 0)) (register 0) n refl
-          (go_set all 2 (instr.Less (register 2) (register 1) (register 0) ∷ rest) g2 m (instr.Const (register 1) (pos 1)) (register 1) (word_of (pos 1)) refl
+          (go_load all 0 (instr.Len (register 0) (register 0) ∷ instr.Const (register 1) (pos 1) ∷ instr.Less (register 2) (register 1)
+          (register 0) ∷ rest) zeros m (register 0) 0
+          (go_set all 1 (instr.Const (register 1) (pos 1) ∷ instr.Less (register 2) (register 1) (register 0) ∷ rest) g1 m (instr.Len
+          (register 0) (register 0)) (register 0) n refl
+          (go_set all 2 (instr.Less (register 2) (register 1) (register 0) ∷ rest) g2 m (instr.Const (register 1) (pos 1)) (register 1) (word_of
+          (pos 1)) refl
           (go_set all 3 rest g3 m (instr.Less (register 2) (register 1) (register 0)) (register 2) b refl
           (go_zero all 4 (instr.Ends (ends.Next (halving entry)) ∷ one) g4 m (register 2) 6 ends_one
           (go_end all 5 one g4 m (ends.Next (halving entry)) (Halves w refl)))))))

@@ -26,7 +26,8 @@ use Rattle.ppm_soundness.proofs.CallTame.{Facts}
 abbrev CatchesFew : Statement → Type 0
 CatchesFew s = count_of bound.Caught s ≤ limit_of bound.Caught
 
-once_lets : (procedures : List Procedure) (scope : Scope) (layout : Layout) (s : Statement) → FitsStatement procedures scope layout s → IsEachOnce layout
+once_lets : (procedures : List Procedure) (scope : Scope) (layout : Layout) (s : Statement) → FitsStatement procedures scope layout s
+    → IsEachOnce layout
     → IsEachOnce (with_lets layout s)
 once_lets ps scope layout (tree.Let x e) f h = once_push layout x.name h f.1
 once_lets ps scope layout (tree.Assign x e) f h = h
@@ -40,7 +41,8 @@ once_lets ps scope layout (tree.Each i x r block) f h = h
 
 module _ (procedures : List Procedure) where
   mutual
-    few_in : (scope : Scope) (layout : Layout) (s : Statement) → FitsStatement procedures scope layout s → KeepsAt bound.Caught (statement_and_inner s)
+    few_in : (scope : Scope) (layout : Layout) (s : Statement) → FitsStatement procedures scope layout s
+        → KeepsAt bound.Caught (statement_and_inner s)
         → IsEachOnce layout → FewIn layout s
     few_in scope layout (tree.Let x e) f few once = tt
     few_in scope layout (tree.Assign x e) f few once = tt
@@ -68,11 +70,13 @@ module _ (procedures : List Procedure) where
         let here = statement_and_inner s in
         let there = statements_in rest in (
           few_in scope layout s f.0 (all-first CatchesFew here there few) once,
-          few_block (scope ++ lets_of s) (with_lets layout s) rest f.1 (all-second CatchesFew here there few) (once_lets procedures scope layout s f.0 once),
+          few_block (scope ++ lets_of s) (with_lets layout s) rest f.1 (all-second CatchesFew here there few)
+              (once_lets procedures scope layout s f.0 once),
         )
 
 -- of each procedure that a name stands for
-narrow_named : (procedures : List Procedure) → AllByRecursion IsSmall procedures → (x : List ℕ) → length (procedure_named procedures x).parameters ≤ 12
+narrow_named : (procedures : List Procedure) → AllByRecursion IsSmall procedures → (x : List ℕ)
+    → length (procedure_named procedures x).parameters ≤ 12
 narrow_named [] all x = omega arith
 narrow_named (p ∷ procedures) all x = go (bytes_eq p.name.name x) (narrow_named procedures all.1 x)
   where

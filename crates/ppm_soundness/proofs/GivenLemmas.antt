@@ -53,7 +53,8 @@ module _ (f : Frame) where
   one_is mode.Mut x a g = refl
   one_is mode.Ref x a g = refl
 
-  pub given_is : (ps : List Parameter) (args : List Argument) (g : Frame) → with_arguments f [] ps (plain_arguments ps args) g ≡ Ok (given ps args g)
+  pub given_is : (ps : List Parameter) (args : List Argument) (g : Frame)
+      → with_arguments f [] ps (plain_arguments ps args) g ≡ Ok (given ps args g)
   given_is [] args g = refl
   given_is (p ∷ ps) [] g = refl
   given_is (p ∷ ps) (a ∷ args) g =
@@ -61,7 +62,8 @@ module _ (f : Frame) where
       ∙ given_is ps args (given_one p.mode p.name.name a.value g)
 
   -- the regions of other names stay
-  one_leaves : (m : Mode) (x : List ℕ) (e : Expression) (g : Frame) (z : List ℕ) → bytes_eq x z ≡ false → (given_one m x e g).regions z ≡ g.regions z
+  one_leaves : (m : Mode) (x : List ℕ) (e : Expression) (g : Frame) (z : List ℕ) → bytes_eq x z ≡ false
+      → (given_one m x e g).regions z ≡ g.regions z
   one_leaves mode.Int x e g z h = refl
   one_leaves mode.Mut x e g z h = ap (λ (b : Bool). cond b (lent f e) (g.regions z)) h
   one_leaves mode.Ref x e g z h = ap (λ (b : Bool). cond b (lent f e) (g.regions z)) h
@@ -72,7 +74,8 @@ module _ (f : Frame) where
   one_gives mode.Mut x e g z r h = ap (λ (b : Bool). cond b (lent f e) (g.regions z)) h
   one_gives mode.Ref x e g z r h = ap (λ (b : Bool). cond b (lent f e) (g.regions z)) h
 
-  given_other : (ps : List Parameter) (args : List Argument) (g : Frame) (x : List ℕ) → IsNew (parameter_layout ps) x → (given ps args g).regions x ≡ g.regions x
+  given_other : (ps : List Parameter) (args : List Argument) (g : Frame) (x : List ℕ) → IsNew (parameter_layout ps) x
+      → (given ps args g).regions x ≡ g.regions x
   given_other [] args g x new = refl
   given_other (p ∷ ps) [] g x new = refl
   given_other (p ∷ ps) (a ∷ args) g x new =
@@ -94,7 +97,8 @@ module _ (f : Frame) where
 
     -- so each region of the callee is in the register of its parameter
     pub given_held : (ps : List Parameter) (args : List Argument) (g : Frame) (d : ℕ) → IsDistinctLayout (parameter_layout ps)
-        → length ps ≡ length args → IsLent ps args d → (x : List ℕ) (e : Declaration) → declared (map of_parameter ps) x ≡ Some e → is_region e.mode ≡ true
+        → length ps ≡ length args → IsLent ps args d → (x : List ℕ) (e : Declaration) → declared (map of_parameter ps) x ≡ Some e
+        → is_region e.mode ≡ true
         → (slot_of (parameter_layout ps) x < paired ps args)
         × (held h (register (d + slot_of (parameter_layout ps) x)) ≡ word ((given ps args g).regions x))
     given_held [] args g d distinct count lent x e found region = absurd (none_and_some refl found)
@@ -108,7 +112,8 @@ module _ (f : Frame) where
             × (held h (register (suc d + slot_of (parameter_layout ps) x))
             ≡ word ((given ps args (given_one p.mode p.name.name a.value g)).regions x)))
             → (cond b 0 (suc (slot_of (parameter_layout ps) x)) < suc (paired ps args))
-            × (held h (register (d + cond b 0 (suc (slot_of (parameter_layout ps) x)))) ≡ word ((given ps args (given_one p.mode p.name.name a.value g)).regions x))
+            × (held h (register (d + cond b 0 (suc (slot_of (parameter_layout ps) x)))) ≡ word ((given ps args
+            (given_one p.mode p.name.name a.value g)).regions x))
         go true same found later =
             let is = some_same {o = Some (of_parameter p)} refl found in
             let here : is_region p.mode ≡ true = subst (λ (c : Declaration). is_region c.mode ≡ true) (sym is) region in
@@ -116,7 +121,8 @@ module _ (f : Frame) where
             let new = subst (λ (z : List ℕ). IsNew (parameter_layout ps) z) (same_names p.name.name x same) distinct.0 in (
               omega arith,
               ap (λ (k : ℕ). held h (register k)) zero_on ∙ lent.0 here
-                  ∙ ap word (sym (given_other ps args (given_one p.mode p.name.name a.value g) x new ∙ one_gives p.mode p.name.name a.value g x here same)),
+                  ∙ ap word (sym (given_other ps args (given_one p.mode p.name.name a.value g) x new
+                  ∙ one_gives p.mode p.name.name a.value g x here same)),
             )
         go false same found later =
             let rest = later found in
@@ -125,7 +131,8 @@ module _ (f : Frame) where
             (omega (arith, low), ap (λ (k : ℕ). held h (register k)) on ∙ rest.1)
 
   -- registers that are kept still hold them
-  pub lent_kept : (word : Region → ℕ) (g h : List ℕ) (ps : List Parameter) (args : List Argument) (d e : ℕ) → d + paired ps args ≤ e → e ≤ 63 → Keeps e g h
+  pub lent_kept : (word : Region → ℕ) (g h : List ℕ) (ps : List Parameter) (args : List Argument) (d e : ℕ) → d + paired ps args ≤ e → e ≤ 63
+      → Keeps e g h
       → IsLent word g ps args d → IsLent word h ps args d
   lent_kept word g h [] args d e low few k lent = tt
   lent_kept word g h (p ∷ ps) [] d e low few k lent = tt

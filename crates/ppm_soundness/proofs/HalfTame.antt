@@ -70,7 +70,8 @@ module _ (t : ProgramTree) (code : CodeParts) (rules : KeepsRules t) (admitted :
   part_short =
       let r = w.r in
       let fits = w.stays.fits.0.0 in
-      let all_short = seen_short t.arrays short w.around w.scope w.frame.regions w.stays.within w.stays.home r.name (seen_of w.scope w.layout r.name fits) in
+      let all_short = seen_short t.arrays short w.around w.scope w.frame.regions w.stays.within w.stays.home r.name
+      (seen_of w.scope w.layout r.name fits) in
       let less = part_shorter w.part in
       omega (arith, all_short, less)
 
@@ -96,7 +97,9 @@ module _ (t : ProgramTree) (code : CodeParts) (rules : KeepsRules t) (admitted :
     part = part_on part w.part;
     home = owns_itself inner (part_frame w.frame w.x q).regions;
     first = first;
-    holds = swept_holds t code rules admitted short words w.scope w.layout w.i w.x w.r w.block w.frame q own w.stays.fits.0.4 first (λ z seen other has p e.
+    holds =
+        swept_holds t code rules admitted short words w.scope w.layout w.i w.x w.r w.block w.frame q own w.stays.fits.0.4 first
+        (λ z seen other has p e.
         let slot = slot_of names z in
         let here : slot_of (hidden_layout w.layout w.i w.x w.block) z ≡ suc (suc slot) =
         ap (λ (b : Bool). cond b 0 (suc (slot_of (w.i.name ∷ names) z))) p ∙ ap (λ (b : Bool). suc (cond b 0 (suc slot))) e in
@@ -115,7 +118,8 @@ module _ (t : ProgramTree) (code : CodeParts) (rules : KeepsRules t) (admitted :
   half_less : (q : Region) → IsPart q w.q → IsLess (OwnsWord t.arrays) (WritesWord t.arrays) (label_of q) l
   half_less q part = less_label t.arrays (label_of q) l (owns_on (smaller_owns inner w.frame w.x q w.q part) w.home)
 
-  halves_apart : (n : ℕ) → n ≤ w.q.length → AreApart (OwnsWord t.arrays) (WritesWord t.arrays) (label_of (first_part n w.q)) (label_of (second_part n w.q))
+  halves_apart : (n : ℕ) → n ≤ w.q.length
+      → AreApart (OwnsWord t.arrays) (WritesWord t.arrays) (label_of (first_part n w.q)) (label_of (second_part n w.q))
   halves_apart n low =
       apart_labels t.arrays (label_of (first_part n w.q)) (label_of (second_part n w.q))
       (parts_beside t rules admitted w.scope w.i w.x w.r w.block w.rest w.stays.sites w.frame (first_part n w.q) (second_part n w.q) w.stays.apart
@@ -128,13 +132,15 @@ module _ (t : ProgramTree) (code : CodeParts) (rules : KeepsRules t) (admitted :
   ending = instr.Ends (ends.Fork w.h w.h (halved entry) None None) ∷ []
 
   abbrev right_stores : Instrs
-  right_stores = instr.StoreNew right_frame (register 3) ∷ instr.StoreNew (suc right_frame) (register 5) ∷ stores_code (suc (suc right_frame)) 6 count ending
+  right_stores =
+      instr.StoreNew right_frame (register 3) ∷ instr.StoreNew (suc right_frame) (register 5) ∷ stores_code (suc (suc right_frame)) 6 count ending
 
   abbrev left_stores : Instrs
   left_stores = instr.StoreNew 11 (register 2) ∷ instr.StoreNew 12 (register 4) ∷ stores_code 13 6 count right_stores
 
   -- both frames are built
-  stores_end : (here n : ℕ) (g : List ℕ) → n ≤ w.q.length → held g (register 2) ≡ region_of (first_part n w.q) → held g (register 3) ≡ region_of (second_part n w.q)
+  stores_end : (here n : ℕ) (g : List ℕ) → n ≤ w.q.length → held g (register 2) ≡ region_of (first_part n w.q)
+      → held g (register 3) ≡ region_of (second_part n w.q)
       → AreLoaded all m 2 6 count g → Goes all here left_stores g m
   stores_end here n g low two three loads =
       let m1 = store code_locations m (NewWord 11) (held g (register 2)) in
@@ -145,7 +151,8 @@ module _ (t : ProgramTree) (code : CodeParts) (rules : KeepsRules t) (admitted :
       let u = here + 1 + 1 + count in
       let m4 = store code_locations m3 (NewWord right_frame) (held g (register 3)) in
       let m5 = store code_locations m4 (NewWord (suc right_frame)) (held g (register 5)) in
-      go_new all u (instr.StoreNew (suc right_frame) (register 5) ∷ stores_code (suc (suc right_frame)) 6 count ending) g m3 right_frame (register 3)
+      go_new all u (instr.StoreNew (suc right_frame) (register 5) ∷ stores_code (suc (suc right_frame)) 6 count ending) g m3 right_frame
+      (register 3)
       (go_new all (u + 1) (stores_code (suc (suc right_frame)) 6 count ending) g m4 (suc right_frame) (register 5)
       (stores_tame all count (suc (suc right_frame)) 6 (u + 1 + 1) ending g m5 (λ m6 st'.
       let front : (o : ℕ) → o < right_frame → m6 (NewWord o) ≡ m3 (NewWord o) =
@@ -165,7 +172,8 @@ module _ (t : ProgramTree) (code : CodeParts) (rules : KeepsRules t) (admitted :
       λ j before. (let e : 5 + (6 + (2 + j)) ≡ 13 + j = omega arith in ap (λ (o : ℕ). m6 (NewWord o)) e)
       ∙ front (13 + j) (omega (arith, before)) ∙ st.within j before ∙ loads.loaded j before in
       let right_others : (j : ℕ) → j < count → right_own (Slot (2 + j)) ≡ m (Own (Slot (2 + j))) =
-      λ j before. (let e : (5 + (6 + slots_of code w.h)) + (6 + (2 + j)) ≡ suc (suc right_frame) + j = omega (arith, size_is) in ap (λ (o : ℕ). m6 (NewWord o)) e)
+      λ j before. (let e : (5 + (6 + slots_of code w.h)) + (6 + (2 + j)) ≡ suc (suc right_frame) + j = omega (arith, size_is) in ap (λ
+      (o : ℕ). m6 (NewWord o)) e)
       ∙ st'.within j before ∙ loads.loaded j before in
       go_end all (u + 1 + 1 + count) [] g m6 (ends.Fork w.h w.h (halved entry) None None) (
         ForHalves w.stays.stands.0.3,
@@ -196,7 +204,8 @@ module _ (t : ProgramTree) (code : CodeParts) (rules : KeepsRules t) (admitted :
       let g4 = slice_set g3 (register 4).index v in
       let k4 = keeps_set 4 4 v g3 g3 (omega arith) (keeps_itself 4 g3 file3) in
       let same_n : held g2 (register 1) ≡ n = held_other g (register 2) (register 1) one (registers_differ 1 2 (omega arith) (omega arith)) in
-      let same_w : held g2 (register 0) ≡ held g (register 0) = held_other g (register 2) (register 0) one (registers_differ 0 2 (omega arith) (omega arith)) in
+      let same_w : held g2 (register 0) ≡ held g (register 0) = held_other g (register 2) (register 0) one (registers_differ 0 2 (omega arith)
+      (omega arith)) in
       let holds : held g (register 0) ≡ region_of w.q = is ∙ w.first in
       let at_two : held g3 (register 2) ≡ region_of (first_part n w.q) =
       held_other g2 (register 3) (register 2) two (registers_differ 2 3 (omega arith) (omega arith)) ∙ held_set g (register 2) one file
@@ -207,11 +216,13 @@ module _ (t : ProgramTree) (code : CodeParts) (rules : KeepsRules t) (admitted :
       ∙ ap (λ (k : ℕ). (start_of (region_of w.q) + k) * 2 ^ 32 + (length_of (region_of w.q) - k)) same_n ∙ second_word t.arrays w.q part_short n in
       let add = instr.Add (register 5) (register 4) (register 1) line in
       let more = names_code 2 6 count left_stores in
-      go_cut_left all here (instr.CutRight (register 3) (register 0) (register 1) line ∷ instr.LoadSlot (register 4) 1 ∷ add ∷ more) g m (register 2) (register 0) (register 1) line (λ low.
+      go_cut_left all here (instr.CutRight (register 3) (register 0) (register 1) line ∷ instr.LoadSlot (register 4) 1 ∷ add ∷ more) g m
+      (register 2) (register 0) (register 1) line (λ low.
       let inside : n ≤ w.q.length = subst (λ (k : ℕ). n ≤ k) (ap length_of holds ∙ length_is t.arrays w.q part_short) low in
       go_cut_right all (here + 1) (instr.LoadSlot (register 4) 1 ∷ add ∷ more) g2 m (register 3) (register 0) (register 1) line
       (go_load all (here + 1 + 1) (add ∷ more) g3 m (register 4) 1
-      (go_work all (here + 1 + 1 + 1) more g4 m add (register 5) (whole_works all line (register 5) (value_of (held g4 (register 4)) +ℤ value_of (held g4 (register 1)))) (λ s.
+      (go_work all (here + 1 + 1 + 1) more g4 m add (register 5) (whole_works all line (register 5) (value_of (held g4 (register 4)) +ℤ value_of
+      (held g4 (register 1)))) (λ s.
       let g5 = slice_set g4 (register 5).index s in
       let k5 = keeps_set 4 5 s g3 g4 (omega arith) k4 in
       names_tame all m count 2 6 (here + 1 + 1 + 1 + 1) left_stores g5 g5 (omega (arith, few)) (keeps_itself 6 g5 k5.file) (λ h k loads.
@@ -234,7 +245,8 @@ module _ (t : ProgramTree) (code : CodeParts) (rules : KeepsRules t) (admitted :
       let g3 = slice_set g2 (register 2).index (word_of (pos 2)) in
       let k3 = keeps_set 1 2 (word_of (pos 2)) g1 g2 (omega arith) k2 in
       subst (λ (is : List Instr). Goes all 0 is zeros m) (sym w.stays.stands.0.2)
-      (go_room all 0 (instr.LoadSlot (register 0) 0 ∷ instr.Len (register 1) (register 0) ∷ instr.Const (register 2) (pos 2) ∷ div ∷ cuts) zeros m (fork_words slots slots)
+      (go_room all 0 (instr.LoadSlot (register 0) 0 ∷ instr.Len (register 1) (register 0) ∷ instr.Const (register 2)
+      (pos 2) ∷ div ∷ cuts) zeros m (fork_words slots slots)
       (go_load all 1 (instr.Len (register 1) (register 0) ∷ instr.Const (register 2) (pos 2) ∷ div ∷ cuts) zeros m (register 0) 0
       (go_set all 2 (instr.Const (register 2) (pos 2) ∷ div ∷ cuts) g1 m (instr.Len (register 1) (register 0)) (register 1) n refl
       (go_set all 3 (div ∷ cuts) g2 m (instr.Const (register 2) (pos 2)) (register 2) (word_of (pos 2)) refl

@@ -63,7 +63,8 @@ pub has_none : (x : List ℕ) → Has [] x → ⊥
 has_none x h = omega (arith, h)
 
 -- the names that a statement adds
-lets_front : (s : Statement) (layout : Layout) (x : List ℕ) → Has layout x → Has (with_lets layout s) x × (slot_of (with_lets layout s) x ≡ slot_of layout x)
+lets_front : (s : Statement) (layout : Layout) (x : List ℕ) → Has layout x
+    → Has (with_lets layout s) x × (slot_of (with_lets layout s) x ≡ slot_of layout x)
 lets_front (tree.Let y e) layout x h = (has_in_front x layout (y.name ∷ []) h, slot_in_front x layout (y.name ∷ []) h)
 lets_front (tree.Assign y e) layout x h = (h, refl)
 lets_front (tree.Put y i e) layout x h = (h, refl)
@@ -118,7 +119,8 @@ module _ (t : ProgramTree) (code : CodeParts) (rules : KeepsRules t) (admitted :
       stays = λ x d f r. (d, declared_in_front x scope (lets_of s) d f, r);
     }
 
-    behind_gives : (last : Last) → LastFits t code scope layout (Then s rest) last → LastFits t code (scope ++ lets_of s) (with_lets layout s) rest last
+    behind_gives : (last : Last) → LastFits t code scope layout (Then s rest) last
+        → LastFits t code (scope ++ lets_of s) (with_lets layout s) rest last
     behind_gives (OnTo next) h = h
     behind_gives (Gives g) h = h
 
@@ -173,7 +175,8 @@ module _ (t : ProgramTree) (code : CodeParts) (rules : KeepsRules t) (admitted :
   module _ (own : FrameWord → ℕ) (w : IsSwept own) where
     abbrev pub element_level : Level
     element_level =
-        level (hidden_named_slots (length (caught w.layout w.block)) w.block) (each_scope w.scope w.r w.i w.x) (hidden_layout w.layout w.i w.x w.block)
+        level (hidden_named_slots (length (caught w.layout w.block)) w.block) (each_scope w.scope w.r w.i w.x)
+        (hidden_layout w.layout w.i w.x w.block)
         (element_block (entry_of code w.h)) (suc w.h) (Gives None) w.block (part_frame w.frame w.x w.q)
 
     pub element_at : IsAt t code l own element_level

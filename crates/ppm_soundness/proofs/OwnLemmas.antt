@@ -106,7 +106,8 @@ module _ (arrays : List Array) (r : Region) (short : r.length < 2 ^ 32) where
   pub first_word : (n : ℕ) → start_of (region_word arrays r) * 2 ^ 32 + n ≡ region_word arrays (first_part n r)
   first_word n = ap (λ (s : ℕ). s * 2 ^ 32 + n) start_is
 
-  pub second_word : (n : ℕ) → (start_of (region_word arrays r) + n) * 2 ^ 32 + (length_of (region_word arrays r) - n) ≡ region_word arrays (second_part n r)
+  pub second_word : (n : ℕ)
+      → (start_of (region_word arrays r) + n) * 2 ^ 32 + (length_of (region_word arrays r) - n) ≡ region_word arrays (second_part n r)
   second_word n =
       let s : offset_of arrays r.array + r.start + n ≡ offset_of arrays r.array + (r.start + n) = omega arith in
       ap₂ (λ (s l : ℕ). (s + n) * 2 ^ 32 + (l - n)) start_is length_is ∙ ap (λ (s : ℕ). s * 2 ^ 32 + (r.length - n)) s
@@ -117,7 +118,8 @@ module _ (arrays : List Array) (all : AreShort arrays) (l : Label) (scope : Scop
   pub seen_short : (x : List ℕ) → IsSeen scope x → (regions x).length < 2 ^ 32
   seen_short x seen = let w = within.within x seen in let s = all.short (regions x).array in omega (arith, w, s)
 
-  pub owned_at : (x : List ℕ) → IsSeen scope x → (w i : ℕ) → w ≡ region_word arrays (regions x) → i < length_of w → OwnsWord arrays l (start_of w + i)
+  pub owned_at : (x : List ℕ) → IsSeen scope x → (w i : ℕ) → w ≡ region_word arrays (regions x) → i < length_of w
+      → OwnsWord arrays l (start_of w + i)
   owned_at x seen w i is low =
       let r = regions x in
       let s = ap start_of is ∙ start_is arrays r (seen_short x seen) in

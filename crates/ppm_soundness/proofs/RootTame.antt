@@ -143,7 +143,8 @@ asked_of_main (q ∷ procedures) p c = go (bytes_eq q.name.name (codes "main")) 
         → Contains (uses_if q b ++ flat_map uses_of_main procedures) (MainTakes p)
     go true c rest =
         Contains-append_left (uses_if q true) (flat_map uses_of_main procedures) (MainTakes p)
-        (Contains-append_left (map MainTakes q.parameters) (map MainGives (gives_of q.give)) (MainTakes p) (contains_map MainTakes p q.parameters c))
+        (Contains-append_left (map MainTakes q.parameters) (map MainGives (gives_of q.give)) (MainTakes p)
+        (contains_map MainTakes p q.parameters c))
     go false c rest = rest c
 
 module _ (t : ProgramTree) (admitted : IsAdmitted t) where
@@ -155,7 +156,11 @@ module _ (t : ProgramTree) (admitted : IsAdmitted t) where
   made_of u c =
       let front = sites_of_names (map (λ a. a.name) t.arrays) ++ sites_of_names (map (λ p. p.name) t.procedures)
       ++ sites_of_names (map (λ i. i.name) t.inputs) ++ flat_map (sites_of_procedure t) t.procedures in
-      Contains-append_right front (sites_at [] asked) (record { scope = []; made = u }) (contains_map (λ u. record { scope = []; made = u }) u asked c)
+      Contains-append_right front (sites_at [] asked) (record {
+        scope =
+            [];
+        made = u;
+      }) (contains_map (λ u. record { scope = []; made = u }) u asked c)
 
   main_is : first_named (λ p. p.name.name) t.procedures (codes "main") ≢ None
   main_is = (rules t admitted).main [] (made_of BeginsAt (contains_head BeginsAt (flat_map uses_of_main t.procedures ++ map Fills t.inputs)))
@@ -225,7 +230,8 @@ module _ (t : ProgramTree) (admitted : IsAdmitted t) where
 
       pub root_is_calm : AreShort t.arrays → Calm (strands_of (code_of t) input) (root_strand (code_of t) input) (words_of (words_in input))
       root_is_calm short =
-          good_is_calm (OwnsWord t.arrays) (WritesWord t.arrays) (Runs t (code_of t) (rules t admitted) admitted) (Waits t (code_of t) (rules t admitted) admitted)
+          good_is_calm (OwnsWord t.arrays) (WritesWord t.arrays) (Runs t (code_of t) (rules t admitted) admitted) (Waits t (code_of t)
+          (rules t admitted) admitted)
           (strands_of (code_of t) input) (respects t (code_of t) (rules t admitted) admitted short (length (words_in input)) known) main_label
           (root_strand (code_of t) input) (words_of (words_in input)) root_runs
 

@@ -64,42 +64,49 @@ pub or_left : (a b : Bool) → a || b ≡ false → a ≡ false
 or_left false b h = refl
 or_left true b h = absurd (cc)
 
-true_or_false : {b : Bool} → b ≡ true → b ≡ false → ⊥
-true_or_false p q = cc
-
 -- a region of the block of a split that is none of its parts
 split_seen : (scope : Scope) (r x y : Named) (z : List ℕ) → x.name ≢ z → y.name ≢ z → IsSeen (split_scope scope r x y) z → IsSeen scope z
 split_seen scope r x y z p q seen =
-    seen_back (seen_in_split r) (λ d. refl) (λ d. refl) (λ d h. or_left d.hidden (bytes_eq d.name.name r.name) h) scope (parts_of scope r x y) z none seen
+    seen_back (seen_in_split r) (λ d. refl) (λ d. refl) (λ d h. or_left d.hidden (bytes_eq d.name.name r.name) h) scope
+    (parts_of scope r x y) z none seen
   where
     none : (e : Declaration) → declared (parts_of scope r x y) z ≡ Some e → is_region e.mode ≡ true → ⊥
     none e h region = go (bytes_eq x.name z) (bytes_eq y.name z) refl refl h
       where
-        go : (a b : Bool) → bytes_eq x.name z ≡ a → bytes_eq y.name z ≡ b → cond a (Some (part scope r x)) (cond b (Some (part scope r y)) None) ≡ Some e → ⊥
+        go : (a b : Bool) → bytes_eq x.name z ≡ a → bytes_eq y.name z ≡ b
+            → cond a (Some (part scope r x)) (cond b (Some (part scope r y)) None) ≡ Some e → ⊥
         go true b i j h = p (same_names x.name z i)
         go false true i j h = q (same_names y.name z j)
         go false false i j h = none_and_some refl h
 
 -- what names stand for in the block
-at_first : (frame : Frame) (r x y : Named) (n : ℕ) (z : List ℕ) → x.name ≡ z → x.name ≢ y.name → (split_frame frame r n x y).regions z ≡ first_part n (frame.regions r.name)
+at_first : (frame : Frame) (r x y : Named) (n : ℕ) (z : List ℕ) → x.name ≡ z → x.name ≢ y.name
+    → (split_frame frame r n x y).regions z ≡ first_part n (frame.regions r.name)
 at_first frame r x y n z same other =
-    ap (λ (b : Bool). cond b (second_part n (frame.regions r.name)) (cond (bytes_eq x.name z) (first_part n (frame.regions r.name)) (frame.regions z)))
+    ap (λ (b : Bool). cond b (second_part n (frame.regions r.name)) (cond (bytes_eq x.name z) (first_part n (frame.regions r.name))
+    (frame.regions z)))
     (names_other y.name z (λ e. other (same ∙ sym e)))
     ∙ ap (λ (b : Bool). cond b (first_part n (frame.regions r.name)) (frame.regions z)) (names_same x.name z same)
 
-at_second : (frame : Frame) (r x y : Named) (n : ℕ) (z : List ℕ) → y.name ≡ z → (split_frame frame r n x y).regions z ≡ second_part n (frame.regions r.name)
+at_second : (frame : Frame) (r x y : Named) (n : ℕ) (z : List ℕ) → y.name ≡ z
+    → (split_frame frame r n x y).regions z ≡ second_part n (frame.regions r.name)
 at_second frame r x y n z same =
-    ap (λ (b : Bool). cond b (second_part n (frame.regions r.name)) (cond (bytes_eq x.name z) (first_part n (frame.regions r.name)) (frame.regions z)))
+    ap (λ (b : Bool). cond b (second_part n (frame.regions r.name)) (cond (bytes_eq x.name z) (first_part n (frame.regions r.name))
+    (frame.regions z)))
     (names_same y.name z same)
 
-at_neither : (frame : Frame) (r x y : Named) (n : ℕ) (z : List ℕ) → x.name ≢ z → y.name ≢ z → (split_frame frame r n x y).regions z ≡ frame.regions z
+at_neither : (frame : Frame) (r x y : Named) (n : ℕ) (z : List ℕ) → x.name ≢ z → y.name ≢ z
+    → (split_frame frame r n x y).regions z ≡ frame.regions z
 at_neither frame r x y n z p q =
-    ap (λ (b : Bool). cond b (second_part n (frame.regions r.name)) (cond (bytes_eq x.name z) (first_part n (frame.regions r.name)) (frame.regions z)))
+    ap (λ (b : Bool). cond b (second_part n (frame.regions r.name)) (cond (bytes_eq x.name z) (first_part n (frame.regions r.name))
+    (frame.regions z)))
     (names_other y.name z q)
     ∙ ap (λ (b : Bool). cond b (first_part n (frame.regions r.name)) (frame.regions z)) (names_other x.name z p)
 
-module _ (t : ProgramTree) (code : CodeParts) (rules : KeepsRules t) (admitted : IsAdmitted t) (short : AreShort t.arrays) (words : ℕ) (l : Label) where
-  module _ (spare : ℕ) (scope : Scope) (layout : Layout) (at h : ℕ) (last : Last) (line : ℕ) (r : Named) (e : Expression) (x y : Named) (block rest : Block)
+module _ (t : ProgramTree) (code : CodeParts) (rules : KeepsRules t) (admitted : IsAdmitted t) (short : AreShort t.arrays) (words : ℕ)
+    (l : Label) where
+  module _ (spare : ℕ) (scope : Scope) (layout : Layout) (at h : ℕ) (last : Last) (line : ℕ) (r : Named) (e : Expression) (x y : Named)
+      (block rest : Block)
       (frame : Frame) where
     abbrev statement : Statement
     statement = tree.Split line r e x y block
@@ -108,7 +115,9 @@ module _ (t : ProgramTree) (code : CodeParts) (rules : KeepsRules t) (admitted :
     around = level spare scope layout at h last (Then statement rest) frame
 
     abbrev inside : ℕ → Level
-    inside n = level spare (split_scope scope r x y) (with_parts layout x y) (suc at) h (OnTo (suc (end_of block (suc at)))) block (split_frame frame r n x y)
+    inside n =
+        level spare (split_scope scope r x y) (with_parts layout x y) (suc at) h (OnTo (suc (end_of block (suc at)))) block
+        (split_frame frame r n x y)
 
     under_parts : (n : ℕ) → IsUnder around (inside n)
     under_parts n = record {
@@ -133,7 +142,8 @@ module _ (t : ProgramTree) (code : CodeParts) (rules : KeepsRules t) (admitted :
       holds_whole = a.holds.holds r.name (seen_of scope layout r.name a.stays.fits.0.0) a.stays.fits.0.0.has
 
       whole_short : whole.length < 2 ^ 32
-      whole_short = seen_short t.arrays short l scope frame.regions a.stays.within a.stays.home r.name (seen_of scope layout r.name a.stays.fits.0.0)
+      whole_short =
+          seen_short t.arrays short l scope frame.regions a.stays.within a.stays.home r.name (seen_of scope layout r.name a.stays.fits.0.0)
 
       within_whole : n ≤ whole.length
       within_whole = subst (λ (k : ℕ). n ≤ k) (ap length_of holds_whole ∙ length_is t.arrays whole whole_short) low
@@ -157,13 +167,15 @@ module _ (t : ProgramTree) (code : CodeParts) (rules : KeepsRules t) (admitted :
             ∙ ap (region_word t.arrays) (sym (at_neither frame r x y n z p q))
         | inr j ↦ elim (has_one z x.name (y.name ∷ []) j.0) [
           | inl is ↦
-              let slot : slot_of (with_parts layout x y) z ≡ length layout = j.1 ∙ (let f = ap (λ (b : Bool). cond b 0 (suc (slot_of (y.name ∷ []) z))) (names_same x.name z is) in omega (arith, f)) in
+              let slot : slot_of (with_parts layout x y) z ≡ length layout = j.1
+              ∙ (let f = ap (λ (b : Bool). cond b 0 (suc (slot_of (y.name ∷ []) z))) (names_same x.name z is) in omega (arith, f)) in
               ap (λ (k : ℕ). new (Slot k)) slot ∙ first ∙ ap (λ (w : ℕ). start_of w * 2 ^ 32 + n) holds_whole
               ∙ first_word t.arrays whole whole_short n ∙ ap (region_word t.arrays) (sym (at_first frame r x y n z is a.stays.fits.0.4))
           | inr k ↦ elim (has_one z y.name [] k.0) [
             | inl is ↦
                 let slot : slot_of (with_parts layout x y) z ≡ suc (length layout) =
-                j.1 ∙ (let f = ap (λ (b : Bool). cond b 0 (suc (slot_of (y.name ∷ []) z))) k.1 in let g = ap (λ (b : Bool). cond b 0 (suc 0)) (names_same y.name z is) in omega (arith, f, g)) in
+                j.1 ∙ (let f = ap (λ (b : Bool). cond b 0 (suc (slot_of (y.name ∷ []) z))) k.1 in let g = ap (λ (b : Bool). cond b 0 (suc 0))
+                (names_same y.name z is) in omega (arith, f, g)) in
                 ap (λ (k : ℕ). new (Slot k)) slot ∙ second ∙ ap (λ (w : ℕ). (start_of w + n) * 2 ^ 32 + (length_of w - n)) holds_whole
                 ∙ second_word t.arrays whole whole_short n ∙ ap (region_word t.arrays) (sym (at_second frame r x y n z is))
             | inr none ↦ absurd (has_none z none.0)
@@ -177,7 +189,8 @@ module _ (t : ProgramTree) (code : CodeParts) (rules : KeepsRules t) (admitted :
           let fresh = split_new t rules admitted scope line r e x y block rest sites in
           let size = length-append layout (x.name ∷ y.name ∷ []) in
           let room = a.stays.room in
-          let outer = behind_at t code rules admitted l spare scope layout at h last statement rest frame new (at_on t code l own new around same a) in
+          let outer = behind_at t code rules admitted l spare scope layout at h last statement rest frame new
+          (at_on t code l own new around same a) in
           let behind_level = level spare (scope ++ []) layout (suc (end_of block (suc at))) (hidden_behind_block block h) last rest frame in
           record {
             stays = record {
@@ -187,7 +200,8 @@ module _ (t : ProgramTree) (code : CodeParts) (rules : KeepsRules t) (admitted :
               room = omega (arith, size, room);
               few = a.stays.few.0;
               sites = split_sites t rules admitted scope line r e x y block rest sites;
-              apart = split_apart scope r (split_whole t rules admitted scope line r e x y block rest sites) x y frame n within_whole fresh.0 fresh.1.0 a.stays.apart;
+              apart = split_apart scope r
+                  (split_whole t rules admitted scope line r e x y block rest sites) x y frame n within_whole fresh.0 fresh.1.0 a.stays.apart;
               within = lie_still comes t.arrays a.stays.within;
               home = owns_on (owns_no_more comes) a.stays.home;
             };
@@ -218,21 +232,26 @@ module _ (t : ProgramTree) (code : CodeParts) (rules : KeepsRules t) (admitted :
           let two = (start_of (held g2 (register 1)) + held g2 (register 0)) * 2 ^ 32 + (length_of (held g2 (register 1)) - held g2 (register 0)) in
           let g3 = slice_set g2 (register 3).index two in
           let same_n : held g2 (register 0) ≡ n = held_other g (register 2) (register 0) one (registers_differ 0 2 (omega arith) (omega arith)) in
-          let same_w : held g2 (register 1) ≡ w = held_other g (register 2) (register 1) one (registers_differ 1 2 (omega arith) (omega arith)) ∙ is in
-          let at_two : held g3 (register 2) ≡ one = held_other g2 (register 3) (register 2) two (registers_differ 2 3 (omega arith) (omega arith)) ∙ held_set g (register 2) one file in
+          let same_w : held g2 (register 1) ≡ w = held_other g (register 2) (register 1) one (registers_differ 1 2 (omega arith) (omega arith))
+          ∙ is in
+          let at_two : held g3 (register 2) ≡ one = held_other g2 (register 3) (register 2) two (registers_differ 2 3 (omega arith)
+          (omega arith)) ∙ held_set g (register 2) one file in
           let at_three : held g3 (register 3) ≡ two = held_set g2 (register 3) two file2 in
           let m1 = store code_locations m (Own (Slot (length layout))) (held g3 (register 2)) in
           let m2 = store code_locations m1 (Own (Slot (suc (length layout)))) (held g3 (register 3)) in
           let same : IsSame around (own_of m) (own_of m2) =
-          same_on around (own_of m) (own_of m1) (own_of m2) (same_store around m (length layout) (held g3 (register 2)) (off_behind around (length layout) (omega arith)))
+          same_on around (own_of m) (own_of m1) (own_of m2) (same_store around m (length layout) (held g3 (register 2)) (off_behind around
+          (length layout) (omega arith)))
           (same_store around m1 (suc (length layout)) (held g3 (register 3)) (off_behind around (suc (length layout)) (omega arith))) in
-          go_cut_left all here (instr.CutRight (register 3) (register 1) (register 0) line ∷ into) g m (register 2) (register 1) (register 0) line (λ low.
+          go_cut_left all here (instr.CutRight (register 3) (register 1) (register 0) line ∷ into) g m (register 2) (register 1)
+          (register 0) line (λ low.
           go_cut_right all (here + 1) into g2 m (register 3) (register 1) (register 0) line
           (go_store all (here + 1 + 1) (instr.StoreCur (suc (length layout)) (register 3) ∷ onward (suc at)) g3 m (length layout) (register 2)
           (go_store all (here + 1 + 1 + 1) (onward (suc at)) g3 m1 (suc (length layout)) (register 3)
           (next_tame t code rules admitted short words l m2 (here + 1 + 1 + 1 + 1) g3 (inside n)
           (split_inside (own_of m) (own_of m2) n a same (subst (λ (k : ℕ). n ≤ length_of k) is low)
-          (store_other m1 (length layout) (suc (length layout)) (held g3 (register 3)) (λ e. omega (arith, e)) ∙ store_here m (length layout) (held g3 (register 2)) ∙ at_two
+          (store_other m1 (length layout) (suc (length layout)) (held g3 (register 3)) (λ e. omega (arith, e))
+          ∙ store_here m (length layout) (held g3 (register 2)) ∙ at_two
           ∙ ap (λ (k : ℕ). start_of k * 2 ^ 32 + n) is)
           (store_here m1 (suc (length layout)) (held g3 (register 3)) ∙ at_three
           ∙ ap (λ (k : ℕ). (start_of k + held g2 (register 0)) * 2 ^ 32 + (length_of k - held g2 (register 0))) same_w
@@ -241,11 +260,14 @@ module _ (t : ProgramTree) (code : CodeParts) (rules : KeepsRules t) (admitted :
       pub split_tame : Goes (world t code rules admitted short words l) 0 (instrs_of code at) zeros m
       split_tame =
           let all = world t code rules admitted short words l in
-          let parts = instr.CutLeft (register 2) (register 1) (register 0) line ∷ instr.CutRight (register 3) (register 1) (register 0) line ∷ into in
+          let parts = instr.CutLeft (register 2) (register 1) (register 0) line ∷ instr.CutRight (register 3) (register 1)
+          (register 0) line ∷ into in
           let u = 0 + size_of e in
           subst (λ (is : List Instr). Goes all 0 is zeros m) (sym a.stays.stands.0.0)
-          (value_tame t code rules admitted short words l m around a e a.stays.fits.0.1 0 0 0 (instr.LoadSlot (register 1) slot ∷ parts) zeros zeros refl
+          (value_tame t code rules admitted short words l m around a e a.stays.fits.0.1 0 0 0 (instr.LoadSlot
+          (register 1) slot ∷ parts) zeros zeros refl
           (zeros_kept t code rules admitted short words l 0) (λ g k.
           let w = m (Own (Slot slot)) in
           let g1 = slice_set g (register 1).index w in
-          go_load all u parts g m (register 1) slot (parts_tame (u + 1) g1 (file_set g (register 1).index w k.file) (held_set g (register 1) w k.file))))
+          go_load all u parts g m (register 1) slot (parts_tame (u + 1) g1 (file_set g (register 1).index w k.file) (held_set g
+          (register 1) w k.file))))

@@ -1,6 +1,6 @@
 -- Where a frame of the code may stand: at a block of a procedure, in which the slots hold the regions that are in force, and behind which it
 -- goes on in blocks around.
-use Rattle.std.proofs.Common.{◌≡◌, ◌≢◌, ◌≤◌, ◌<◌, ℕ, suc, ◌+◌, ◌==◌, cond, Bool, true, false, List, [], ◌∷◌, ◌++◌, Option, Some, None, length}
+use Rattle.std.proofs.Common.{◌≡◌, ◌≢◌, ◌≤◌, ◌<◌, ℕ, suc, ◌+◌, ◌==◌, cond, Bool, true, false, List, [], ◌∷◌, Option, Some, None, length}
 use Rattle.std.proofs.Common.{refl, sym, ap, ◌∙◌, subst, arith}
 use Rattle.std.specs.Str.{bytes_eq}
 use Rattle.std.proofs.lemmas.Bool.{eqb-true, eq-eqb}
@@ -14,14 +14,13 @@ use Rattle.ppm_code.specs.Strands.{with_value}
 use Rattle.ppm_tree.specs.Tree.{Expression, Statement, Block, Nil, Then, Procedure, ProgramTree}
 use Rattle.ppm_tree.specs.Tree as tree
 use Rattle.ppm_tree.specs.State.{Frame}
-use Rattle.ppm_regions.specs.Scope.{Declaration, Scope, declared, is_region, lets_of, scope_behind}
+use Rattle.ppm_regions.specs.Scope.{Declaration, Scope, declared, is_region, scope_behind}
 use Rattle.ppm_regions.specs.Uses.{sites_of_block}
 use Rattle.ppm_regions.proofs.ScopeLemmas.{same_names, some_same}
 use Rattle.ppm_regions.proofs.SiteLemmas.{AreSites}
 use Rattle.ppm_owning.specs.Owning.{IsSeen, OwnsApart, LieInArrays, OwnsNoMore}
 use Rattle.ppm_bounds.specs.Slots.{most_in_force}
 use Rattle.ppm_translation.specs.Layout.{Layout, slot_of, caught}
-use Rattle.ppm_translation.specs.Numbers.{behind, hidden_behind}
 use Rattle.ppm_translation.specs.Statements.{Last, OnTo, Gives, with_lets, with_parts, hidden_layout}
 use Rattle.ppm_translation.specs.Standing.{HasBlock}
 use Rattle.ppm_translation.specs.Fits.{Has, IsKept, FitsBlock, FitsGive, layout_behind}
@@ -62,11 +61,6 @@ level spare scope layout at h last block frame = record {
   block = block;
   frame = frame;
 }
-
--- the level behind the first statement of its block
-abbrev pub level_behind : Level → Statement → Block → Level
-level_behind v s rest =
-    level v.spare (v.scope ++ lets_of s) (with_lets v.layout s) (behind s v.at) (hidden_behind s v.h) v.last rest v.frame
 
 -- the regions of one level stay in their slots, and in force, in another inside of it
 pub record IsUnder (w v : Level) : Type 0 where
@@ -145,7 +139,8 @@ one_slot [] x y h e = absurd (omega (arith, h))
 one_slot (z ∷ layout) x y h e = go (bytes_eq z x) (bytes_eq z y) refl refl h e (one_slot layout x y)
   where
     go : (b c : Bool) → bytes_eq z x ≡ b → bytes_eq z y ≡ c → cond b 0 (suc (slot_of layout x)) < suc (length layout)
-        → cond b 0 (suc (slot_of layout x)) ≡ cond c 0 (suc (slot_of layout y)) → (Has layout x → slot_of layout x ≡ slot_of layout y → x ≡ y) → x ≡ y
+        → cond b 0 (suc (slot_of layout x)) ≡ cond c 0 (suc (slot_of layout y)) → (Has layout x → slot_of layout x ≡ slot_of layout y → x ≡ y)
+        → x ≡ y
     go true true p q h e rest = sym (same_names z x p) ∙ same_names z y q
     go true false p q h e rest = absurd (omega (arith, e))
     go false true p q h e rest = absurd (omega (arith, e))
@@ -196,7 +191,8 @@ module _ (t : ProgramTree) (code : CodeParts) where
     IsOver : (v : Level) (g : Option tree.Give) → v.last ≡ Gives g → Leads l own v
     GoesOn : (v w : Level) → v.last ≡ OnTo w.at → IsUnder w v → Stays l w → Holds w own → Leads l own w → Leads l own v
 
-  pub leads_on : (l : Label) (own new : FrameWord → ℕ) (v w : Level) → w.last ≡ v.last → IsUnder v w → IsSame v own new → Leads l own v → Leads l new w
+  pub leads_on : (l : Label) (own new : FrameWord → ℕ) (v w : Level) → w.last ≡ v.last → IsUnder v w → IsSame v own new → Leads l own v
+      → Leads l new w
   leads_on l own new v w e u s (IsOver _ g is) = IsOver w g (e ∙ is)
   leads_on l own new v w e u s (GoesOn _ o is under stays holds leads) =
       let same = same_under o v own new under s in

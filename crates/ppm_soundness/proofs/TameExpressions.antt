@@ -78,24 +78,29 @@ module _ (words : ℕ) (g : List ℕ) where
   past_operator operator.Ge line d is here there k n e f =
       shift (operator_code operator.Ge line d is) here here k (suc n) (omega (arith, e)) refl ∙ shift is (here + 1) there n n refl f
 
-  pub past_expression : (layout : Layout) (e : Expression) (d at : ℕ) (is : List Instr) (here there k n : ℕ) → k ≡ size_of e + n → there ≡ here + size_of e
+  pub past_expression : (layout : Layout) (e : Expression) (d at : ℕ) (is : List Instr) (here there k n : ℕ) → k ≡ size_of e + n
+      → there ≡ here + size_of e
       → capsule_from words here k (expression_code layout e d at is) g ≡ capsule_from words there n is g
   past_expression layout (tree.Number z) d at is here there k n p q =
       shift (instr.Const (register d) z ∷ is) here here k (suc n) (omega (arith, p)) refl ∙ shift is (here + 1) there n n refl q
   past_expression layout (tree.Name x) d at is here there k n p q =
-      shift (instr.LoadSlot (register d) (slot_of layout x.name) ∷ is) here here k (suc n) (omega (arith, p)) refl ∙ shift is (here + 1) there n n refl q
+      shift (instr.LoadSlot (register d) (slot_of layout x.name) ∷ is) here here k (suc n) (omega (arith, p)) refl
+      ∙ shift is (here + 1) there n n refl q
   past_expression layout (tree.Element x index) d at is here there k n p q =
       let u = here + size_of index in
-      past_expression layout index d at (instr.LoadSlot (register (suc d)) (slot_of layout x.name) ∷ instr.Get (register d) (register (suc d)) (register d) x.line ∷ is)
+      past_expression layout index d at (instr.LoadSlot (register (suc d)) (slot_of layout x.name) ∷ instr.Get (register d) (register (suc d))
+      (register d) x.line ∷ is)
       here u k (suc (suc n)) (omega (arith, p)) refl
       ∙ shift is (u + 1 + 1) there n n refl (omega (arith, q))
   past_expression layout (tree.Len x) d at is here there k n p q =
-      shift (instr.LoadSlot (register d) (slot_of layout x.name) ∷ instr.Len (register d) (register d) ∷ is) here here k (suc (suc n)) (omega (arith, p)) refl
+      shift (instr.LoadSlot (register d) (slot_of layout x.name) ∷ instr.Len (register d) (register d) ∷ is) here here k (suc (suc n)) (omega
+      (arith, p)) refl
       ∙ shift is (here + 1 + 1) there n n refl (omega (arith, q))
   past_expression layout (tree.Minus line e) d at is here there k n p q =
       let rest = instr.Sub (register d) (register d) (register (suc d)) line ∷ is in
       let u = here + 1 + size_of e in
-      shift (instr.Const (register d) (pos 0) ∷ expression_code layout e (suc d) (suc at) rest) here here k (suc (size_of e + suc n)) (omega (arith, p)) refl
+      shift (instr.Const (register d) (pos 0) ∷ expression_code layout e (suc d) (suc at) rest) here here k (suc (size_of e + suc n)) (omega
+      (arith, p)) refl
       ∙ past_expression layout e (suc d) (suc at) rest (here + 1) u (size_of e + suc n) (suc n) refl refl
       ∙ shift is (u + 1) there n n refl (omega (arith, q))
   past_expression layout (tree.Binary o line left right) d at is here there k n p q =
@@ -118,18 +123,25 @@ module _ (world : World) (m : Memory Where) where
   pub moved : (is : List Instr) (g : List ℕ) (here there : ℕ) → there ≡ here → Goes world there is g m → Goes world here is g m
   moved is g here there e h = subst (λ (n : ℕ). Goes world n is g m) e h
 
-  module _ (line d here there : ℕ) (is : List Instr) (f g : List ℕ) (keep : Keeps d f g) (go : (h : List ℕ) → Keeps d f h → Goes world there is h m) where
+  module _ (line d here there : ℕ) (is : List Instr) (f g : List ℕ) (keep : Keeps d f g) (go : (h : List ℕ) → Keeps d f h
+      → Goes world there is h m) where
     set_there : there ≡ here + 1 → (v : ℕ) → Goes world (here + 1) is (slice_set g (register d).index v) m
-    set_there e v = moved is (slice_set g (register d).index v) (here + 1) there e (go (slice_set g (register d).index v) (keeps_set d d v f g (omega arith) keep))
+    set_there e v =
+        moved is (slice_set g (register d).index v) (here + 1) there e (go (slice_set g (register d).index v) (keeps_set d d v f g
+        (omega arith) keep))
 
     truth : there ≡ here + 2 → Goes world here (truth_code d is) g m
     truth e =
         let g' = slice_set g (register (suc d)).index (word_of (pos 0)) in
-        go_set world here (instr.NotEqual (register d) (register d) (register (suc d)) ∷ is) g m (instr.Const (register (suc d)) (pos 0)) (register (suc d)) (word_of (pos 0)) refl
-        (go_set world (here + 1) is g' m (instr.NotEqual (register d) (register d) (register (suc d))) (register d) (cond (held g' (register d) == held g' (register (suc d))) 0 1) refl
-        (moved is (slice_set g' (register d).index (cond (held g' (register d) == held g' (register (suc d))) 0 1)) (here + 1 + 1) there (omega (arith, e))
+        go_set world here (instr.NotEqual (register d) (register d) (register (suc d)) ∷ is) g m (instr.Const (register (suc d)) (pos 0))
+        (register (suc d)) (word_of (pos 0)) refl
+        (go_set world (here + 1) is g' m (instr.NotEqual (register d) (register d) (register (suc d))) (register d) (cond (held g'
+        (register d) == held g' (register (suc d))) 0 1) refl
+        (moved is (slice_set g' (register d).index (cond (held g' (register d) == held g' (register (suc d))) 0 1)) (here + 1 + 1) there (omega
+        (arith, e))
         (go (slice_set g' (register d).index (cond (held g' (register d) == held g' (register (suc d))) 0 1))
-        (keeps_set d d (cond (held g' (register d) == held g' (register (suc d))) 0 1) f g' (omega arith) (keeps_set d (suc d) (word_of (pos 0)) f g (omega arith) keep)))))
+        (keeps_set d d (cond (held g' (register d) == held g' (register (suc d))) 0 1) f g' (omega arith) (keeps_set d (suc d) (word_of
+        (pos 0)) f g (omega arith) keep)))))
 
     abbrev left_ : ℕ
     left_ = held g (register d)
@@ -187,10 +199,12 @@ module _ (world : World) (scope : Scope) (layout : Layout) (m : Memory Where)
       → ((h : List ℕ) → Keeps d f h → Goes world there is h m) → Goes world here (expression_code layout e d at is) g m
 
   -- with an operator that may go past its right operand
-  module _ (left right : Expression) (tames_left : Tames left) (tames_right : Tames right) (line d at here there : ℕ) (is : List Instr) (f g : List ℕ)
+  module _ (left right : Expression) (tames_left : Tames left) (tames_right : Tames right) (line d at here there : ℕ) (is : List Instr)
+      (f g : List ℕ)
       (at_is : at ≡ here) (keep : Keeps d f g) (go : (h : List ℕ) → Keeps d f h → Goes world there is h m) where
     plain_tame : (o : Operator) → branch_size o ≡ 0 → right_register o d ≡ suc d
-        → ((target : ℕ) (rest : List Instr) → branch_code o d target rest ≡ rest) → there ≡ here + (size_of left + branch_size o + size_of right + last_size o)
+        → ((target : ℕ) (rest : List Instr) → branch_code o d target rest ≡ rest)
+        → there ≡ here + (size_of left + branch_size o + size_of right + last_size o)
         → Goes world here (expression_code layout (tree.Binary o line left right) d at is) g m
     plain_tame o none reg branch e =
         let from = at + size_of left + branch_size o in
@@ -221,9 +235,11 @@ module _ (world : World) (scope : Scope) (layout : Layout) (m : Memory Where)
         → Goes world (u + 1) (expression_code layout right d from (operator_code o line d is)) h m
     into_right o from u h two e t k =
         let w = u + 1 + size_of right in
-        tames_right d from (u + 1) w (operator_code o line d is) f h e refl k (λ h' k'. operator_tame world m line d w there is f h' k' go o (omega (arith, t, two)))
+        tames_right d from (u + 1) w (operator_code o line d is) f h e refl k (λ h' k'. operator_tame world m line d w there is f h' k' go o
+        (omega (arith, t, two)))
 
-    and_tame : there ≡ here + (size_of left + 1 + size_of right + 2) → Goes world here (expression_code layout (tree.Binary operator.And line left right) d at is) g m
+    and_tame : there ≡ here + (size_of left + 1 + size_of right + 2)
+        → Goes world here (expression_code layout (tree.Binary operator.And line left right) d at is) g m
     and_tame e =
         let from = at + size_of left + 1 in
         let u = here + size_of left in
@@ -233,7 +249,8 @@ module _ (world : World) (scope : Scope) (layout : Layout) (m : Memory Where)
         (past_right operator.And d from (from + size_of right) u h refl (omega (arith, at_is)) (omega (arith, e)) k)
         (into_right operator.And from u h refl (omega (arith, at_is)) (omega (arith, e)) k))
 
-    or_tame : there ≡ here + (size_of left + 1 + size_of right + 2) → Goes world here (expression_code layout (tree.Binary operator.Or line left right) d at is) g m
+    or_tame : there ≡ here + (size_of left + 1 + size_of right + 2)
+        → Goes world here (expression_code layout (tree.Binary operator.Or line left right) d at is) g m
     or_tame e =
         let from = at + size_of left + 1 in
         let u = here + size_of left in
@@ -267,7 +284,8 @@ module _ (world : World) (scope : Scope) (layout : Layout) (m : Memory Where)
   tame_expression (tree.Name x) fits d at here there is f g at_is e keep go =
       let v = m (Own (Slot (slot_of layout x.name))) in
       let h = slice_set g (register d).index v in
-      go_load world here is g m (register d) (slot_of layout x.name) (moved world m is h (here + 1) there e (go h (keeps_set d d v f g (omega arith) keep)))
+      go_load world here is g m (register d) (slot_of layout x.name) (moved world m is h (here + 1) there e (go h (keeps_set d d v f g
+      (omega arith) keep)))
   tame_expression (tree.Element x index) fits d at here there is f g at_is e keep go =
       let slot = slot_of layout x.name in
       let w = m (Own (Slot slot)) in
@@ -297,9 +315,11 @@ module _ (world : World) (scope : Scope) (layout : Layout) (m : Memory Where)
       let k = keeps_set d d (word_of (pos 0)) f g (omega arith) keep in
       let u = here + 1 + size_of x in
       let sub = instr.Sub (register d) (register d) (register (suc d)) line in
-      go_set world here (expression_code layout x (suc d) (suc at) (sub ∷ is)) g m (instr.Const (register d) (pos 0)) (register d) (word_of (pos 0)) refl
+      go_set world here (expression_code layout x (suc d) (suc at) (sub ∷ is)) g m (instr.Const (register d) (pos 0)) (register d) (word_of
+      (pos 0)) refl
       (tame_expression x fits (suc d) (suc at) (here + 1) u (sub ∷ is) h h (omega (arith, at_is)) refl (keeps_itself (suc d) h k.file) (λ h' k'.
-      go_work world u is h' m sub (register d) (whole_works world line (register d) (value_of (held h' (register d)) -ℤ value_of (held h' (register (suc d)))))
+      go_work world u is h' m sub (register d) (whole_works world line (register d) (value_of (held h' (register d)) -ℤ value_of (held h'
+      (register (suc d)))))
       (λ v. moved world m is (slice_set h' (register d).index v) (u + 1) there (omega (arith, e))
       (go (slice_set h' (register d).index v) (keeps_set d d v f h' (omega arith) (keeps_on d (suc d) f h h' (omega arith) k k'))))))
   tame_expression (tree.Binary o line left right) fits d at here there is f g at_is e keep go =

@@ -104,7 +104,8 @@ module _ (world : World) where
     pub opens : world.Opens (ending code_locations p m) (own_of (leaves code_locations p m)) (new_of (leaves code_locations p m))
 
   -- steps
-  tame_read : (l : Where) (go : ℕ → Capsule Where End) (m : Memory Where) → ((x : ℕ) → Has x (addresses (l ∷ [])) → world.Owns x) → Tame (go (m l)) m
+  tame_read : (l : Where) (go : ℕ → Capsule Where End) (m : Memory Where) → ((x : ℕ) → Has x (addresses (l ∷ [])) → world.Owns x)
+      → Tame (go (m l)) m
       → Tame (Reads l go) m
   tame_read l go m here h = record {
     reads = λ w x i. either w (is_in code_locations l w) x i;
@@ -127,16 +128,20 @@ module _ (world : World) where
   pub tame_own : (s : FrameWord) (go : ℕ → Capsule Where End) (m : Memory Where) → Tame (go (m (Own s))) m → Tame (Reads (Own s) go) m
   tame_own s go m h = tame_read (Own s) go m (λ x j. absurd j) h
 
-  pub tame_shared : (y : ℕ) (go : ℕ → Capsule Where End) (m : Memory Where) → world.Owns y → Tame (go (m (Shared y))) m → Tame (Reads (Shared y) go) m
+  pub tame_shared : (y : ℕ) (go : ℕ → Capsule Where End) (m : Memory Where) → world.Owns y → Tame (go (m (Shared y))) m
+      → Tame (Reads (Shared y) go) m
   tame_shared y go m here h = tame_read (Shared y) go m (λ x j. elim j [ inl e ↦ subst world.Owns (sym e) here | inr k ↦ absurd k ]) h
 
-  pub tame_store : (s : FrameWord) (v : ℕ) (go : Capsule Where End) (m : Memory Where) → Tame go (store code_locations m (Own s) v) → Tame (Writes (Own s) v go) m
+  pub tame_store : (s : FrameWord) (v : ℕ) (go : Capsule Where End) (m : Memory Where) → Tame go (store code_locations m (Own s) v)
+      → Tame (Writes (Own s) v go) m
   tame_store s v go m h = record { reads = λ w x i. h.reads (Own s ∷ w) x i; writes = h.writes; opens = h.opens }
 
-  pub tame_build : (o v : ℕ) (go : Capsule Where End) (m : Memory Where) → Tame go (store code_locations m (NewWord o) v) → Tame (Writes (NewWord o) v go) m
+  pub tame_build : (o v : ℕ) (go : Capsule Where End) (m : Memory Where) → Tame go (store code_locations m (NewWord o) v)
+      → Tame (Writes (NewWord o) v go) m
   tame_build o v go m h = record { reads = λ w x i. h.reads (NewWord o ∷ w) x i; writes = h.writes; opens = h.opens }
 
-  pub tame_put : (y v : ℕ) (go : Capsule Where End) (m : Memory Where) → world.May y → Tame go (store code_locations m (Shared y) v) → Tame (Writes (Shared y) v go) m
+  pub tame_put : (y v : ℕ) (go : Capsule Where End) (m : Memory Where) → world.May y → Tame go (store code_locations m (Shared y) v)
+      → Tame (Writes (Shared y) v go) m
   tame_put y v go m here h = record {
     reads = λ w x i. h.reads (Shared y ∷ w) x i;
     writes = λ x i. elim i [ inl e ↦ subst world.May (sym e) here | inr j ↦ h.writes x j ];
@@ -182,24 +187,28 @@ module _ (world : World) where
       go false = set_or_trap (fits (int_div x y)) d (word_of z) Overflow line
 
   module _ (here : ℕ) (is : List Instr) (g : List ℕ) (m : Memory Where) where
-    pub go_set : (i : Instr) (d : Register) (v : ℕ) → does world.words i g ≡ Sets d v → Goes (here + 1) is (slice_set g d.index v) m → Goes here (i ∷ is) g m
+    pub go_set : (i : Instr) (d : Register) (v : ℕ) → does world.words i g ≡ Sets d v → Goes (here + 1) is (slice_set g d.index v) m
+        → Goes here (i ∷ is) g m
     go_set i d v e h =
         subst (λ (a : Act). Tame (at_act (λ t k. capsule_from world.words (here + 1) (t - (here + 1)) is k) (here + 1) a g) m) (sym e)
         (onward here is (slice_set g d.index v) m h)
 
-    pub go_work : (i : Instr) (d : Register) → Works d (does world.words i g) → ((v : ℕ) → Goes (here + 1) is (slice_set g d.index v) m) → Goes here (i ∷ is) g m
+    pub go_work : (i : Instr) (d : Register) → Works d (does world.words i g) → ((v : ℕ) → Goes (here + 1) is (slice_set g d.index v) m)
+        → Goes here (i ∷ is) g m
     go_work i d w h = go (does world.words i g) w
       where
         go : (a : Act) → Works d a → Tame (at_act (λ t k. capsule_from world.words (here + 1) (t - (here + 1)) is k) (here + 1) a g) m
         go a (Set v) = onward here is (slice_set g d.index v) m (h v)
         go a (Stop t line) = tame_end (Trapped t line) m (world.trapped t line (own_of m) (new_of m))
 
-    pub go_load : (d : Register) (slot : ℕ) → Goes (here + 1) is (slice_set g d.index (m (Own (Slot slot)))) m → Goes here (instr.LoadSlot d slot ∷ is) g m
+    pub go_load : (d : Register) (slot : ℕ) → Goes (here + 1) is (slice_set g d.index (m (Own (Slot slot)))) m
+        → Goes here (instr.LoadSlot d slot ∷ is) g m
     go_load d slot h =
         tame_own (Slot slot) (λ v. capsule_from world.words (here + 1) ((here + 1) - (here + 1)) is (slice_set g d.index v)) m
         (onward here is (slice_set g d.index (m (Own (Slot slot)))) m h)
 
-    pub go_store : (slot : ℕ) (d : Register) → Goes (here + 1) is g (store code_locations m (Own (Slot slot)) (held g d)) → Goes here (instr.StoreCur slot d ∷ is) g m
+    pub go_store : (slot : ℕ) (d : Register) → Goes (here + 1) is g (store code_locations m (Own (Slot slot)) (held g d))
+        → Goes here (instr.StoreCur slot d ∷ is) g m
     go_store slot d h =
         tame_store (Slot slot) (held g d) (capsule_from world.words (here + 1) ((here + 1) - (here + 1)) is g) m
         (onward here is g (store code_locations m (Own (Slot slot)) (held g d)) h)
@@ -209,7 +218,8 @@ module _ (world : World) where
         tame_store Value (held g d) (capsule_from world.words (here + 1) ((here + 1) - (here + 1)) is g) m
         (onward here is g (store code_locations m (Own Value) (held g d)) h)
 
-    pub go_new : (o : ℕ) (d : Register) → Goes (here + 1) is g (store code_locations m (NewWord o) (held g d)) → Goes here (instr.StoreNew o d ∷ is) g m
+    pub go_new : (o : ℕ) (d : Register) → Goes (here + 1) is g (store code_locations m (NewWord o) (held g d))
+        → Goes here (instr.StoreNew o d ∷ is) g m
     go_new o d h =
         tame_build o (held g d) (capsule_from world.words (here + 1) ((here + 1) - (here + 1)) is g) m
         (onward here is g (store code_locations m (NewWord o) (held g d)) h)
@@ -220,17 +230,21 @@ module _ (world : World) where
     pub go_end : (e : End) → world.Opens e (own_of m) (new_of m) → Goes here (instr.Ends e ∷ is) g m
     go_end e h = tame_end e m h
 
-    pub go_zero : (d : Register) (target : ℕ) → Then here (max target (here + 1)) is g m → Goes (here + 1) is g m → Goes here (instr.BranchZero d target ∷ is) g m
+    pub go_zero : (d : Register) (target : ℕ) → Then here (max target (here + 1)) is g m → Goes (here + 1) is g m
+        → Goes here (instr.BranchZero d target ∷ is) g m
     go_zero d target there on = go (held g d == 0)
       where
-        go : (b : Bool) → Tame (at_act (λ t k. capsule_from world.words (here + 1) (t - (here + 1)) is k) (here + 1) (cond b (Jumps target) Passes) g) m
+        go : (b : Bool)
+            → Tame (at_act (λ t k. capsule_from world.words (here + 1) (t - (here + 1)) is k) (here + 1) (cond b (Jumps target) Passes) g) m
         go true = there
         go false = onward here is g m on
 
-    pub go_other : (d : Register) (target : ℕ) → Then here (max target (here + 1)) is g m → Goes (here + 1) is g m → Goes here (instr.BranchNonZero d target ∷ is) g m
+    pub go_other : (d : Register) (target : ℕ) → Then here (max target (here + 1)) is g m → Goes (here + 1) is g m
+        → Goes here (instr.BranchNonZero d target ∷ is) g m
     go_other d target there on = go (held g d == 0)
       where
-        go : (b : Bool) → Tame (at_act (λ t k. capsule_from world.words (here + 1) (t - (here + 1)) is k) (here + 1) (cond b Passes (Jumps target)) g) m
+        go : (b : Bool)
+            → Tame (at_act (λ t k. capsule_from world.words (here + 1) (t - (here + 1)) is k) (here + 1) (cond b Passes (Jumps target)) g) m
         go true = onward here is g m on
         go false = there
 
@@ -242,7 +256,8 @@ module _ (world : World) where
         go : (c : Bool) → nat_le (held g b) (length_of (held g a)) ≡ c
             → Tame (at_act (λ t k. capsule_from world.words (here + 1) (t - (here + 1)) is k) (here + 1)
             (cond c (Sets d (start_of (held g a) * 2 ^ 32 + held g b)) (traps trap.Split line)) g) m
-        go true e = onward here is (slice_set g d.index (start_of (held g a) * 2 ^ 32 + held g b)) m (h (leb-true (held g b) (length_of (held g a)) e))
+        go true e =
+            onward here is (slice_set g d.index (start_of (held g a) * 2 ^ 32 + held g b)) m (h (leb-true (held g b) (length_of (held g a)) e))
         go false e = tame_end (Trapped trap.Split line) m (world.trapped trap.Split line (own_of m) (new_of m))
 
     pub go_cut_right : (d a b : Register) (line : ℕ)
@@ -259,11 +274,13 @@ module _ (world : World) where
     at_found : (line region index : ℕ) (step : ℕ → Step)
         → ((y : ℕ) → y ≡ start_of region + index → index < length_of region
         → Tame (at_act (λ t k. capsule_from world.words (here + 1) (t - (here + 1)) is k) (here + 1) (Steps (step y)) g) m)
-        → Tame (at_act (λ t k. capsule_from world.words (here + 1) (t - (here + 1)) is k) (here + 1) (at_element line (element_of world.words region index) step) g) m
+        → Tame (at_act (λ t k. capsule_from world.words (here + 1) (t - (here + 1)) is k) (here + 1) (at_element line
+        (element_of world.words region index) step) g) m
     at_found line region index step h = go (nat_lt index (length_of region)) (nat_lt (start_of region + index) world.words) refl
       where
         go : (a b : Bool) → nat_lt index (length_of region) ≡ a
-            → Tame (at_act (λ t k. capsule_from world.words (here + 1) (t - (here + 1)) is k) (here + 1) (at_element line (cond (a && b) (Some (start_of region + index)) None) step) g) m
+            → Tame (at_act (λ t k. capsule_from world.words (here + 1) (t - (here + 1)) is k) (here + 1) (at_element line (cond (a && b) (Some
+            (start_of region + index)) None) step) g) m
         go true true e = h (start_of region + index) refl (ltb-true index (length_of region) e)
         go true false e = tame_end (Trapped trap.Index line) m (world.trapped trap.Index line (own_of m) (new_of m))
         go false b e = tame_end (Trapped trap.Index line) m (world.trapped trap.Index line (own_of m) (new_of m))
