@@ -129,7 +129,7 @@ module _ (t : ProgramTree) (code : CodeParts) (facts : Given t code) where
         let q = loops l scope layout spare at h own a (λ l. while_place t scope layout spare e s b f l place) place.fits.0.0 small has.0 held shows in
         let w1 = words_both t code facts (spent 1) (both j k) in
         let w2 = words_both t code facts j k in
-        follows w (While e s) scope layout spare at h last (Strand (at_work own at)) a (budget t j) (budget t (both (spent 1) (both j k))) place has.1
+        follows w (While e s) scope layout spare at h last (Strand (at_work own at)) a (cost 1 (2 * j.turns) j.forks (words_of t j)) (budget t (both (spent 1) (both j k))) place has.1
         (reaches_same lens code y q) (record {
           least = omega arith;
           most = omega arith;
@@ -254,7 +254,7 @@ module _ (t : ProgramTree) (code : CodeParts) (facts : Given t code) where
         → (scope : Scope) (layout : Layout) (spare at h : ℕ) (own : FrameWord → ℕ) (a : Words)
         → ((l : Locals) → Place t scope layout spare s (with_locals f l)) → FitsExpression scope layout e → AreSmall (nodes e)
         → HasStatement ps code spare layout at h (While e s) → Holds lens scope layout f own → Shows lens a arrays
-        → Reached lens code scope layout f (budget t k) (Strand (at_work own at)) a (suc (end_of s (suc at))) z
+        → Reached lens code scope layout f (cost 1 (2 * k.turns) k.forks (words_of t k)) (Strand (at_work own at)) a (suc (end_of s (suc at))) z
     loops (TestFails e s f arrays v is fails) scope layout spare at h own a place fits small has held shows =
         let next = suc (end_of s (suc at)) in
         let test = loop_tested t code facts scope layout spare at h e s f own a arrays place fits small has held shows (Ok v) is in

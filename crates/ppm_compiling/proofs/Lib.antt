@@ -26,3 +26,4 @@ pub mod ArgumentLemmas
 pub mod CallLemmas
 pub mod ForkLemmas
 pub mod Forward
+pub mod Progress

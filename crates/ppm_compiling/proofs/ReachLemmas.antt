@@ -62,6 +62,17 @@ module _ (lengths : List ℕ) (code : CodeParts) where
   chain_returns (Ended v arrays) p q w = let m = q.made in record { made = (m.0, m.1, m.2, m.3, chain_weaken c_ w (chain_then c_ p m.4)) }
   chain_returns (Trapped stop arrays) p q w = let m = q.made in record { made = (m.0, m.1, chain_weaken c_ w (chain_then c_ p m.2)) }
 
+  -- a procedure that has been run is over
+  pub record IsOver (k : Cost) (t : CodeTree lengths code) (a : Words) (arrays : Arrays) : Type 0 where
+    pub outcome : Outcome
+    pub behind : Words
+    pub shows : Shows lengths behind arrays
+    pub chain : Chain c_ k t a (Over outcome) behind
+
+  pub returned_over : {k : Cost} {t : CodeTree lengths code} {a : Words} (z : End ℤ) → Returned k t a z → IsOver k t a (arrays_of z)
+  returned_over (Ended v arrays) q = let m = q.made in record { outcome = Gave m.0; behind = m.1; shows = m.3; chain = m.4 }
+  returned_over (Trapped stop arrays) q = let m = q.made in record { outcome = TrappedAt stop.0 stop.1; behind = m.0; shows = m.1; chain = m.2 }
+
   -- a frame with a value delivered has its regions still
   as_locals : {scope : Scope} {layout : Layout} {own : FrameWord → ℕ} (f : Frame) (x : Option Named) (v : ℤ) → Holds lengths scope layout (delivered x v f) own
       → Holds lengths scope layout (with_locals f (delivered x v f).locals) own

@@ -70,7 +70,7 @@ abbrev pub HasLocals : Frame → End Locals → Type 0
 HasLocals f (Ended l arrays) = l ≡ f.locals
 HasLocals f (Trapped stop arrays) = Unit {0}
 
-first_arrays : (y z : End Locals) → arrays_of (first_trap y z) ≡ arrays_of z
+pub first_arrays : (y z : End Locals) → arrays_of (first_trap y z) ≡ arrays_of z
 first_arrays (Ended l a) z = refl
 first_arrays (Trapped stop a) z = refl
 
@@ -276,7 +276,7 @@ module _ (t : ProgramTree) (code : CodeParts) (given : Given t code)
       }) (chain_then (strands lengths code) joined (over_now (halved entry) own c is empty))
 
   -- the region in hand is small
-  small_word : (n m : ℕ) → n + m ≤ q.length → region_word lengths (stretch n m q) ≤ 4194304 * 2 ^ 32 + 4194304
+  pub small_word : (n m : ℕ) → n + m ≤ q.length → region_word lengths (stretch n m q) ≤ 4194304 * 2 ^ 32 + 4194304
   small_word n m low = omega (arith, inside, low)
 
   part_declared : declared inner x.name ≡ Some (part scope r x)
@@ -289,7 +289,7 @@ module _ (t : ProgramTree) (code : CodeParts) (given : Given t code)
   part_first : slot_of hidden x.name ≡ 0
   part_first = ap (λ (b : Bool). cond b 0 (suc (slot_of (i.name ∷ caught layout block) x.name))) (names_same x.name x.name refl)
 
-  part_slot : (n m : ℕ) (own : FrameWord → ℕ) → Holds lengths inner hidden (sweep_frame f q n m i x) own → own (Slot 0) ≡ region_word lengths (stretch n m q)
+  pub part_slot : (n m : ℕ) (own : FrameWord → ℕ) → Holds lengths inner hidden (sweep_frame f q n m i x) own → own (Slot 0) ≡ region_word lengths (stretch n m q)
   part_slot n m own holds =
       ap (λ (k : ℕ). own (Slot k)) (sym part_first)
       ∙ holds.region x.name (part scope r x) part_declared (part_is_region (declared scope r.name)) (let low : 0 < length hidden = omega arith in subst (λ (k : ℕ). k < length hidden) (sym part_first) low)

@@ -1,3 +1,4 @@
+use Rattle.ppm_compiling.proofs.Progress.{progress}
 use Rattle.ppm_compiling.proofs.GivenLemmas.{all_given}
 use Rattle.ppm_compiling.proofs.RootLemmas.{root_holds}
 use Rattle.ppm_compiling.proofs.Forward.{runs}
