@@ -1,5 +1,5 @@
 //! Reads listings.
-ghost use Rattle.std.specs.Prelude.{◌≡◌, ◌≤◌, ◌<◌, length, is_some, false, if◌then◌else◌, IfOk, IfErr};
+ghost use Rattle.std.specs.Prelude.{◌≡◌, ◌≤◌, ◌<◌, nat_lt, length, is_some, false, if◌then◌else◌, IfOk, IfErr};
 ghost use Rattle.ppm_listing.specs.Listing.{listing_of};
 ghost use Rattle.ppm_listing.specs.Correct.{NumbersFit};
 ghost use Rattle.ppm_reading.specs.Limits.{text_limit};
@@ -44,8 +44,15 @@ fn standing_lines(alloc: Global, text: &[u8]) -> Result<Vec<Option<Part>>, NoMem
     Ok(lines)
 }
 
+/// Whether so many bytes are more than a listing may have.
+pub(crate) fn is_too_long(bytes: usize) -> bool
+    ensures { result ≡ nat_lt text_limit bytes }
+{
+    bytes > TEXT_LIMIT
+}
+
 /// The fault of a text with too many bytes, by its first line: that stands, or it does not.
-fn too_long_by(line: Option<Part>) -> ListingError
+pub(crate) fn too_long_by(line: Option<Part>) -> ListingError
     ensures { result ≡ (if is_some (standing AtVersion line) then NotThere 1 else NoSuchForm 1) }
 {
     match Place::AtVersion.standing(line) {
@@ -88,7 +95,7 @@ pub fn read_listing(alloc: Global, text: &[u8]) -> Result<Code, ListingError>
     ensures fits { IfOk result (λ code. NumbersFit code) }
     ensures err { IfErr result (IsRefusal text.now) }
 {
-    if text.len() > TEXT_LIMIT {
+    if is_too_long(text.len()) {
         return Err(too_long(alloc, text)?);
     }
     if !begins(alloc, text)? {

@@ -1,7 +1,10 @@
 //! Texts with their first faults, and listings that are read and written again.
-use crate::{faults_tell_listings, read_listing};
+use crate::part::Part;
+use crate::reading::{is_too_long, too_long_by};
+use crate::{ListingError, faults_tell_listings, read_listing};
 use ppm_listing::write_listing;
 use std::alloc::Global;
+use std::ops::Range;
 use std::process::Abort;
 use std::test::Fail;
 
@@ -341,4 +344,35 @@ fn there_are_1024_procedures_at_most(rt: HostRuntime) -> Result<(), Fail> {
     reads(&rt, alloc, procedures(alloc, 1024)?.as_bytes(), 0, 0)?;
     reads(&rt, alloc, procedures(alloc, 1025)?.as_bytes(), 6, 1027)?;
     Ok(())
+}
+
+/// Lines of so many capsules behind others, each with an `end` alone.
+fn push_capsules(text: &mut String, alloc: Global, numbers: Range<u32>) -> Result<(), Fail> {
+    for number in numbers {
+        let lines = format!(in alloc; "capsule {number} proc 0\nend\n")?;
+        text.push_str(lines.as_str())?;
+    }
+    Ok(())
+}
+
+#[test]
+fn there_are_65535_capsules_at_most(rt: HostRuntime) -> Result<(), Fail> {
+    let alloc = rt.alloc();
+    let mut text = String::from_str(alloc, "ppm 1\nroot 0\nproc 0 slots 0 entry 0\n")?;
+    push_capsules(&mut text, alloc, 0..65_535)?;
+    reads(&rt, alloc, text.as_bytes(), 0, 0)?;
+    push_capsules(&mut text, alloc, 65_535..65_536)?;
+    reads(&rt, alloc, text.as_bytes(), 6, 131_074)?;
+    Ok(())
+}
+
+/// No listing has so many bytes: a full one has fewer. A text of the limit has the fault that it would have with more; with
+/// a byte more it is told at its first line. A test of 512 MiB would be one of memory.
+#[test]
+fn a_text_has_536870912_bytes_at_most(rt: HostRuntime) {
+    for (bytes, want) in [(0, false), (536_870_912, false), (536_870_913, true)] {
+        assert_eq!(rt; is_too_long(bytes), want, "{bytes}");
+    }
+    assert_eq!(rt; too_long_by(Some(Part::Version)), ListingError::NotThere(1));
+    assert_eq!(rt; too_long_by(None), ListingError::NoSuchForm(1));
 }

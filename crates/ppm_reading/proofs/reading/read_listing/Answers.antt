@@ -1,6 +1,7 @@
-use Rattle.std.proofs.Common.{◌∙◌, sym, ap, subst}
+use Rattle.std.proofs.Common.{◌∙◌, sym, ap, subst, length, ltb-false}
 use Rattle.ppm_listing.specs.Listing.{listing_of}
 use Rattle.ppm_listing.specs.Correct.{NumbersFit}
+use Rattle.ppm_reading.specs.Limits.{text_limit}
 use Rattle.ppm_reading.specs.Correct.{IsRefusal}
 use Rattle.ppm_reading.proofs.ReadingLemmas.{found_listing, found_refusal}
 use Rattle.ppm_reading.proofs.reading.read_listing.Goals as goal
@@ -9,7 +10,7 @@ use Rattle.ppm_reading.proofs.reading.read_listing.Goals as goal
 pub returns-in-Some-clause-err : goal.returns-in-Some-clause-err
 returns-in-Some-clause-err c =
     subst (IsRefusal c.args.text.now) (sym c.at.ensures) (found_refusal c.args.text.now c.in_ok-parts.parts c.in_ok-lines.lines.items
-    c.deref.result.now c.if-text-gt-TEXT_LIMIT.false
+    c.deref.result.now (ltb-false text_limit (length c.args.text.now) (sym c.is_too_long.ensures ∙ c.if-is_too_long.false))
     c.in_ok-lines.ensures.lines c.deref.ensures.value c.in_ok-parts.ensures c.deref-2.result.now c.deref-2.ensures.value c.in-Some.fault c.in-Some.line
     c.in-Some.ensures)
 
