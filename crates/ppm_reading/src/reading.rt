@@ -7,6 +7,7 @@ ghost use Rattle.ppm_reading.specs.Places.{standing};
 ghost use Rattle.ppm_reading.specs.declared.place.Place.TheVariants.{AtVersion};
 ghost use Rattle.ppm_reading.specs.declared.listing_error.ListingError.TheVariants.{NotThere, NoSuchForm};
 ghost use Rattle.ppm_reading.specs.Correct.{IsRefusal, standing_of};
+ghost use Rattle.ppm_reading.specs.Fronts.{HasRead};
 
 use crate::cut::cut;
 use crate::declared::declared;
@@ -14,6 +15,7 @@ use crate::first::first_fault;
 use crate::listing_error::ListingError;
 use crate::part::{Part, read_line};
 use crate::place::Place;
+use crate::reader::Reader;
 use crate::token::Token;
 use ppm_code::Code;
 use ppm_words::NoMemory;
@@ -22,26 +24,24 @@ use std::alloc::Global;
 /// The bytes of a listing, at most.
 pub const TEXT_LIMIT: usize = 536_870_912;
 
-/// The lines of a text, each as it stands.
-fn standing_lines(alloc: Global, text: &[u8]) -> Result<Vec<Option<Part>>, NoMemory>
+/// What was read of a text, line by line.
+fn read_lines(alloc: Global, text: &[u8]) -> Result<Reader, NoMemory>
     requires { length text.now ≤ text_limit }
-    ensures lines { IfOk result (λ lines. lines.items ≡ standing_of text.now) }
-    ensures most { IfOk result (λ lines. length lines.items ≤ length text.now) }
+    ensures lines { IfOk result (λ r. HasRead r (standing_of text.now)) }
+    ensures most { IfOk result (λ r. length r.kept.items ≤ length text.now) }
 {
-    let mut lines = Vec::new(alloc);
+    let mut reader = Reader::new(alloc);
     let mut tokens = Vec::new(alloc);
-    let mut place = Place::AtVersion;
     let mut left = text;
     while let Some((bytes, rest)) = cut(left, 10) {
-        let line = place.standing(read_line(alloc, bytes, &mut tokens)?);
-        place = place.next(&line);
-        lines.push(line)?;
+        reader.take(read_line(alloc, bytes, &mut tokens)?)?;
         left = rest;
     }
-    if !left.is_empty() {
-        lines.push(None)?;
+    if left.is_empty() {
+        return Ok(reader);
     }
-    Ok(lines)
+    reader.take(None)?;
+    Ok(reader)
 }
 
 /// Whether so many bytes are more than a listing may have.
@@ -88,8 +88,8 @@ fn begins(alloc: Global, text: &[u8]) -> Result<bool, NoMemory>
     }
 }
 
-/// The code of a listing. `Err` with the first fault of a text that is none, or where memory is refused, which is
-/// taken in proportion to the text, but for a text whose first line is no listing's.
+/// The code of a listing. `Err` with the first fault of a text that is none, or where memory is refused: no more lines are
+/// kept than the largest code has.
 pub fn read_listing(alloc: Global, text: &[u8]) -> Result<Code, ListingError>
     ensures ok { IfOk result (λ code. text.now ≡ listing_of code) }
     ensures fits { IfOk result (λ code. NumbersFit code) }
@@ -101,10 +101,9 @@ pub fn read_listing(alloc: Global, text: &[u8]) -> Result<Code, ListingError>
     if !begins(alloc, text)? {
         return Err(ListingError::NoSuchForm(1));
     }
-    let lines = standing_lines(alloc, text)?;
-    let parts = declared(alloc, &lines)?;
-    match first_fault(&parts, &lines) {
+    let read = read_lines(alloc, text)?;
+    match first_fault(&read.outline, &read.kept) {
         Some((fault, line)) => Err(fault.at(line + 1)),
-        None => Ok(Code::from_parts(parts)),
+        None => Ok(Code::from_parts(declared(alloc, &read.kept)?)),
     }
 }

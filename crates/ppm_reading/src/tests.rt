@@ -256,6 +256,42 @@ const TEXTS: [(&'static str, u32, u32); 26] = [
     ),
 ];
 
+/// What follows the first where a line has no form: those behind it still declare what those before it name. A line of many words.
+const BROKEN: [(&'static str, u32, u32); 8] = [
+    ("next 1\nfoo\nend\ncapsule 1 proc 0\nend\n", 1, 6),
+    ("next 1\nfoo\nend\ncapsule 1 proc 1\nend\n", 6, 5),
+    ("next 1\nfoo\nend\n", 6, 5),
+    ("branchz r0 3\nfoo\nend\nend\n", 1, 6),
+    ("branchz r0 4\nfoo\nend\nend\n", 3, 5),
+    ("room 11\ncall 1 0\nfoo\n", 6, 6),
+    ("add r0 r0 r0 1 1 1 1 1\nend\n", 1, 5),
+    ("end         \n", 1, 5),
+];
+
+/// Likewise whole texts: the root's line alone may have many words.
+const BROKEN_TEXTS: [(&'static str, u32, u32); 4] = [
+    (
+        "ppm 1\nroot 1\nfoo\nproc 0 slots 4 entry 0\nproc 1 slots 1 entry 0\ncapsule 0 proc 0\nend\n",
+        1,
+        3,
+    ),
+    (
+        "ppm 1\nroot 0 0 1 2 3 4 5 6 7 8\nproc 0 slots 9 entry 0\ncapsule 0 proc 0\nend\n",
+        0,
+        0,
+    ),
+    (
+        "ppm 1\nroot 0 0 1 2 3 4 5 6 7 8\nfoo\nproc 0 slots 8 entry 0\ncapsule 0 proc 0\nend\n",
+        2,
+        2,
+    ),
+    (
+        "ppm 1\nroot 0 0 1 2 3 4 5 6 7 r8\nproc 0 slots 9 entry 0\ncapsule 0 proc 0\nend\n",
+        1,
+        2,
+    ),
+];
+
 /// The number and the line of the first fault; both 0 where the text is a listing, which is then written again.
 fn reads(rt: &impl Abort, alloc: Global, text: &[u8], number: u32, line: u32) -> Result<(), Fail> {
     match read_listing(alloc, text) {
@@ -292,6 +328,26 @@ fn lines_of_a_capsule_have_their_first_faults(rt: HostRuntime) -> Result<(), Fai
     }
     for (rest, number, line) in OF_ONE_SLOT {
         reads_behind(&rt, alloc, ONE_SLOT, rest, number, line)?;
+    }
+    Ok(())
+}
+
+#[test]
+fn lines_behind_a_broken_one_declare(rt: HostRuntime) -> Result<(), Fail> {
+    let alloc = rt.alloc();
+    for (rest, number, line) in BROKEN {
+        reads_behind(&rt, alloc, FOUR_SLOTS, rest, number, line)?;
+    }
+    for (text, number, line) in BROKEN_TEXTS {
+        reads(&rt, alloc, text.as_bytes(), number, line)?;
+    }
+    // two lines and 160 more in one capsule: a branch may lead to the last of them, and not behind it
+    for (target, number, line) in [(161, 1, 6), (162, 3, 5)] {
+        let mut text = format!(in alloc; "{FOUR_SLOTS}branchz r0 {target}\nfoo\n")?;
+        for _ in 0..160 {
+            text.push_str("end\n")?;
+        }
+        reads(&rt, alloc, text.as_bytes(), number, line)?;
     }
     Ok(())
 }
