@@ -416,7 +416,7 @@ fn there_are_65535_capsules_at_most(rt: HostRuntime) -> Result<(), Fail> {
     let alloc = rt.alloc();
     let mut text = String::from_str(alloc, "ppm 1\nroot 0\nproc 0 slots 0 entry 0\n")?;
     push_capsules(&mut text, alloc, 0..65_535)?;
-    reads(&rt, alloc, text.as_bytes(), 0, 0)?;
+    assert!(rt; read_listing(alloc, text.as_bytes()).is_ok());
     push_capsules(&mut text, alloc, 65_535..65_536)?;
     reads(&rt, alloc, text.as_bytes(), 6, 131_074)?;
     Ok(())
