@@ -8,3 +8,5 @@ pub mod FitLemmas
 pub mod SoundLemmas
 pub mod RuleLemmas
 pub mod KeepLemmas
+pub mod BareLemmas
+pub mod LineLemmas

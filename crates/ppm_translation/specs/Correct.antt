@@ -1,5 +1,5 @@
 -- What is true of the code of every program that the compiler takes.
-use Rattle.std.specs.Prelude.{ℕ, List}
+use Rattle.std.specs.Prelude.{◌≡◌, ℕ, List}
 use Rattle.ppm_code.specs.Code.{IsCode}
 use Rattle.ppm_tree.specs.Tree.{ProgramTree}
 use Rattle.ppm_tree.specs.Limits.{IsWithin}
@@ -7,6 +7,7 @@ use Rattle.ppm_tree.specs.State.{procedure_named}
 use Rattle.ppm_regions.specs.Admission.{IsAdmitted}
 use Rattle.ppm_bounds.specs.Bounds.{IsWithinBounds}
 use Rattle.ppm_translation.specs.Fits.{FitsProcedure}
+use Rattle.ppm_translation.specs.Lines.{without_lines, code_without_lines}
 use Rattle.ppm_translation.specs.Routines.{code_of}
 use Rattle.ppm_translation.specs.Standing.{HasBodies}
 
@@ -21,3 +22,7 @@ ProceduresStand = (t : ProgramTree) → HasBodies t.procedures (code_of t)
 -- it keeps all rules of a code
 abbrev pub KeepsTheRules : Type 0
 KeepsTheRules = (t : ProgramTree) → IsWithin t → IsAdmitted t → IsWithinBounds t → IsCode (code_of t)
+
+-- trees that are the same, lines apart, have codes that are the same, lines apart
+abbrev pub LinesAlone : Type 0
+LinesAlone = (t u : ProgramTree) → without_lines t ≡ without_lines u → code_without_lines (code_of t) ≡ code_without_lines (code_of u)

@@ -1,5 +1,5 @@
 //! What is true of the code of every program, shown by calls that do nothing.
-ghost use Rattle.ppm_translation.specs.Correct.{KeepsTheRules, NamesHaveSlots, ProceduresStand};
+ghost use Rattle.ppm_translation.specs.Correct.{KeepsTheRules, LinesAlone, NamesHaveSlots, ProceduresStand};
 
 /// In each procedure of an admitted program the names that are used at a place have slots in the layout there, and a
 /// declaration of their kind in force; names that are declared are new; a side of a call or fork has a procedure, with as
@@ -19,4 +19,10 @@ pub fn procedures_stand()
 /// there, branches lead forward, room is asked for first and as much as the end takes, and all parts are within their limits.
 pub fn keeps_the_rules()
     ensures law { KeepsTheRules }
+{}
+
+/// Two trees that are the same but for lines have codes that are the same but for lines: the text's layout and comments change no
+/// number, slot or instruction, and a line is only what a trap names.
+pub fn lines_alone()
+    ensures law { LinesAlone }
 {}
