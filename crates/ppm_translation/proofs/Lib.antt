@@ -10,3 +10,4 @@ pub mod RuleLemmas
 pub mod KeepLemmas
 pub mod BareLemmas
 pub mod LineLemmas
+pub mod ApartLemmas

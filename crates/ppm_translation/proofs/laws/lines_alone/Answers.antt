@@ -1,4 +1,4 @@
-use Rattle.ppm_translation.proofs.LineLemmas.{lines_alone}
+use Rattle.ppm_translation.proofs.ApartLemmas.{lines_alone}
 use Rattle.ppm_translation.proofs.laws.lines_alone.Goals as goal
 
 pub returns : goal.returns
