@@ -11,3 +11,4 @@ pub mod KeepLemmas
 pub mod BareLemmas
 pub mod LineLemmas
 pub mod ApartLemmas
+pub mod FewLemmas

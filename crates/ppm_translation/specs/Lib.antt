@@ -8,4 +8,5 @@ pub mod Standing
 pub mod Fits
 pub mod Inputs
 pub mod Lines
+pub mod Counts
 pub mod Correct
