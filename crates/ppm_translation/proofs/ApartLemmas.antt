@@ -1,11 +1,9 @@
 -- Trees that differ in lines alone have codes that differ in lines alone: a code without its lines is that of the tree without its lines.
-use Rattle.std.proofs.Common.{◌≡◌, ◌+◌, ℕ, zero, suc, List, [], ◌∷◌, ◌++◌, length, map, refl, ap, sym, ◌∙◌}
-use Rattle.std.specs.Prelude.{Option, Some, None, codes}
+use Rattle.std.proofs.Common.{◌≡◌, ℕ, suc, List, [], ◌∷◌, ◌++◌, length, map, refl, ap, sym, ◌∙◌}
+use Rattle.std.specs.Prelude.{None, codes}
 use Rattle.std.proofs.lemmas.List.{length-map, map-append}
 use Rattle.ppm_code.specs.declared.act.End.TheVariants as ends
 use Rattle.ppm_code.specs.declared.instr.Instr.TheVariants as instr
-use Rattle.ppm_code.specs.declared.code.Procedure.{Procedure as CodeProcedure}
-use Rattle.ppm_code.specs.declared.code.Capsule.{Capsule}
 use Rattle.ppm_tree.specs.declared.tree.Parameter.{Parameter}
 use Rattle.ppm_tree.specs.declared.tree.Array.{Array}
 use Rattle.ppm_tree.specs.Tree.{Statement, Block, Nil, Then, Procedure, ProgramTree}
@@ -13,13 +11,13 @@ use Rattle.ppm_tree.specs.Tree as tree
 use Rattle.ppm_tree.specs.Program.{main_of, whole_from}
 use Rattle.ppm_translation.specs.Layout.{Layout, parameter_layout, caught}
 use Rattle.ppm_translation.specs.Numbers.{behind, end_of, hidden_behind, hidden_behind_block, element_block}
-use Rattle.ppm_translation.specs.Slots.{named_slots, procedure_slots, hidden_named_slots, hidden_slots}
-use Rattle.ppm_translation.specs.Statements.{Instrs, Last, OnTo, Gives, move_code, put_code, test_code, split_code, each_code, call_code, fork_code}
-use Rattle.ppm_translation.specs.Statements.{let_code, value_code, element_code, entry_code, halving_code, with_lets, with_parts, statement_code, block_code}
+use Rattle.ppm_translation.specs.Slots.{named_slots, hidden_named_slots, hidden_slots}
+use Rattle.ppm_translation.specs.Statements.{Instrs, Last, OnTo, Gives, move_code, put_code, test_code, split_code}
+use Rattle.ppm_translation.specs.Statements.{entry_code, halving_code, with_lets, with_parts, statement_code, block_code}
 use Rattle.ppm_translation.specs.Routines.{Sweep, sweep_layout, Routine, OfText, Hidden, routine_slots, routine_behind, hidden_of, hidden_of_block}
 use Rattle.ppm_translation.specs.Routines.{texts_from, hidden_from, routines_of, procedures_from, routine_code, capsules_from, code_of}
 use Rattle.ppm_translation.specs.Correct.{LinesAlone}
-use Rattle.ppm_translation.specs.Lines.{bare_name, bare_expression, bare_side, bare_statement, bare_block, bare_give}
+use Rattle.ppm_translation.specs.Lines.{bare_name, bare_expression, bare_statement, bare_block, bare_give}
 use Rattle.ppm_translation.specs.Lines.{bare_parameter, bare_array, bare_procedure, without_lines, bare_capsule, code_without_lines}
 use Rattle.ppm_translation.proofs.BareLemmas.{behind_bare, end_bare, hidden_behind_bare, hidden_behind_block_bare, with_lets_bare, caught_bare}
 use Rattle.ppm_translation.proofs.BareLemmas.{named_slots_bare, procedure_slots_bare, hidden_named_bare, hidden_slots_bare, parameter_layout_bare}
@@ -57,20 +55,23 @@ module _ (procedures : List Procedure) where
         let next_same = sym (end_bare other first) in
         let hidden_same = sym (hidden_behind_block_bare holds h) in
         ap (λ cs. bare (test_code layout e (suc at) first) ∷ cs)
-            (bare_all-append (block_code procedures spare layout (suc at) h (OnTo next) holds) (block_code procedures spare layout first hidden (OnTo next) other))
+        (bare_all-append (block_code procedures spare layout (suc at) h (OnTo next) holds)
+        (block_code procedures spare layout first hidden (OnTo next) other))
         ∙ (λ i. t i ∷ (l i ++ r i))
         ∙ (λ i. test_code layout (bare_expression e) (suc at) first
-            ∷ (block_code others spare layout (suc at) h (OnTo (suc (next_same i))) (bare_block holds)
-               ++ block_code others spare layout first (hidden_same i) (OnTo (suc (next_same i))) (bare_block other)))
+        ∷ (block_code others spare layout (suc at) h (OnTo (suc (next_same i))) (bare_block holds)
+        ++ block_code others spare layout first (hidden_same i) (OnTo (suc (next_same i))) (bare_block other)))
         ∙ (λ i. test_code layout (bare_expression e) (suc at) (suc (first_same i))
-            ∷ (block_code others spare layout (suc at) h (OnTo (suc (end_of (bare_block other) (suc (first_same i))))) (bare_block holds)
-               ++ block_code others spare layout (suc (first_same i)) (hidden_behind_block (bare_block holds) h)
-                  (OnTo (suc (end_of (bare_block other) (suc (first_same i))))) (bare_block other)))
+        ∷ (block_code others spare layout (suc at) h (OnTo (suc (end_of (bare_block other) (suc (first_same i))))) (bare_block holds)
+        ++ block_code others spare layout (suc (first_same i)) (hidden_behind_block (bare_block holds) h)
+        (OnTo (suc (end_of (bare_block other) (suc (first_same i))))) (bare_block other)))
     statement_bare spare layout at h (tree.While e block) =
         let t = test_bare layout e (suc at) (suc (end_of block (suc at))) in
         let b = block_bare spare layout (suc at) h (OnTo at) block in
         let same = sym (end_bare block (suc at)) in
-        (λ i. t i ∷ b i) ∙ (λ i. test_code layout (bare_expression e) (suc at) (suc (same i)) ∷ block_code others spare layout (suc at) h (OnTo at) (bare_block block))
+        (λ i. t i ∷ b i)
+        ∙ (λ i. test_code layout (bare_expression e) (suc at) (suc (same i))
+        ∷ block_code others spare layout (suc at) h (OnTo at) (bare_block block))
     statement_bare spare layout at h (tree.Call s) = ap (λ is. is ∷ []) (call_bare procedures layout s (suc at))
     statement_bare spare layout at h (tree.Fork s t) = ap (λ is. is ∷ []) (fork_bare procedures layout s t (suc at))
     statement_bare spare layout at h (tree.Split line r e x y block) =
@@ -79,7 +80,7 @@ module _ (procedures : List Procedure) where
         let same = sym (end_bare block (suc at)) in
         (λ i. t i ∷ b i)
         ∙ (λ i. split_code layout 0 (bare_name r) (bare_expression e) (suc at)
-            ∷ block_code others spare (with_parts layout x y) (suc at) h (OnTo (suc (same i))) (bare_block block))
+        ∷ block_code others spare (with_parts layout x y) (suc at) h (OnTo (suc (same i))) (bare_block block))
     statement_bare spare layout at h (tree.Each i x r block) = ap (λ is. is ∷ []) (each_bare layout r block h (suc at))
 
     block_bare : (spare : ℕ) (layout : Layout) (at h : ℕ) (last : Last) (b : Block)
@@ -92,10 +93,10 @@ module _ (procedures : List Procedure) where
         let at_same = sym (behind_bare s at) in
         let h_same = sym (hidden_behind_bare s h) in
         bare_all-append (statement_code procedures spare layout at h s)
-            (block_code procedures spare (with_lets layout s) (behind s at) (hidden_behind s h) last rest)
+        (block_code procedures spare (with_lets layout s) (behind s at) (hidden_behind s h) last rest)
         ∙ (λ i. front i ++ more i)
         ∙ (λ i. statement_code others spare layout at h (bare_statement s)
-            ++ block_code others spare (layout_same i) (at_same i) (h_same i) (bare_last last) (bare_block rest))
+        ++ block_code others spare (layout_same i) (at_same i) (h_same i) (bare_last last) (bare_block rest))
 
 -- procedures of the code, whose blocks are in no line
 abbrev bare_sweep : Sweep → Sweep
@@ -132,8 +133,9 @@ mutual
       let names = caught_bare layout block in
       let b = hidden_block_bare (x.name ∷ i.name ∷ caught layout block) (suc h) block in
       (λ j. Hidden (record { number = h; line = 0; part = x.name; index = i.name; names = names j; block = bare_block block })
-          ∷ hidden_of_block (x.name ∷ i.name ∷ names j) (suc h) (bare_block block))
-      ∙ ap (λ rs. Hidden (record { number = h; line = 0; part = x.name; index = i.name; names = caught layout block; block = bare_block block }) ∷ rs) b
+      ∷ hidden_of_block (x.name ∷ i.name ∷ names j) (suc h) (bare_block block))
+      ∙ ap (λ rs. Hidden (record { number = h; line = 0; part = x.name; index = i.name; names = caught layout block; block = bare_block block })
+      ∷ rs) b
 
   hidden_block_bare : (layout : Layout) (h : ℕ) (b : Block) → hidden_of_block layout h (bare_block b) ≡ map bare_routine (hidden_of_block layout h b)
   hidden_block_bare layout h Nil = refl
@@ -194,10 +196,11 @@ module _ (procedures : List Procedure) where
       let b = block_bare procedures (hidden_named_slots names s.block) (sweep_layout s) (element_block at) (suc s.number) (Gives None) s.block in
       (λ i. entry_code at ∷ halves i ∷ (instr.Ends ends.Finish ∷ []) ∷ b i)
       ∙ (λ i. entry_code at ∷ halving_code at s.number (slots i) names 0 ∷ (instr.Ends ends.Finish ∷ [])
-          ∷ block_code (bares procedures) (spare i) (sweep_layout s) (element_block at) (suc s.number) (Gives None) (bare_block s.block))
+      ∷ block_code (bares procedures) (spare i) (sweep_layout s) (element_block at) (suc s.number) (Gives None) (bare_block s.block))
 
   own_bare : (q : ℕ) (capsules : List Instrs)
-      → map bare_capsule (map (λ is. record { procedure = q; instrs = is }) capsules) ≡ map (λ is. record { procedure = q; instrs = is }) (bare_all capsules)
+      → map bare_capsule (map (λ is. record { procedure = q; instrs = is }) capsules)
+      ≡ map (λ is. record { procedure = q; instrs = is }) (bare_all capsules)
   own_bare q [] = refl
   own_bare q (is ∷ capsules) = ap (λ cs. record { procedure = q; instrs = bare is } ∷ cs) (own_bare q capsules)
 
@@ -210,13 +213,14 @@ module _ (procedures : List Procedure) where
       let more = capsules_bare (suc q) (routine_behind r at) rs in
       let next = sym (routine_behind_bare r at) in
       map-append bare_capsule (map (λ is. record { procedure = q; instrs = is }) (routine_code procedures at r))
-          (capsules_from procedures (suc q) (routine_behind r at) rs)
+      (capsules_from procedures (suc q) (routine_behind r at) rs)
       ∙ (λ i. own i ++ more i)
       ∙ (λ i. map (λ is. record { procedure = q; instrs = is }) (code i) ++ capsules_from (bares procedures) (suc q) (next i) (map bare_routine rs))
 
 -- the arrays of a program's parameters
 arrays_bare : (arrays : List Array) (ps : List Parameter)
-    → map (λ p. (whole_from 0 (map bare_array arrays) p.name.name).array) (map bare_parameter ps) ≡ map (λ p. (whole_from 0 arrays p.name.name).array) ps
+    → map (λ p. (whole_from 0 (map bare_array arrays) p.name.name).array) (map bare_parameter ps)
+    ≡ map (λ p. (whole_from 0 arrays p.name.name).array) ps
 arrays_bare arrays [] = refl
 arrays_bare arrays (p ∷ ps) =
     let w = whole_bare 0 arrays p.name.name in
@@ -229,7 +233,7 @@ code_bare t =
     let root = sym (number_bare t.procedures (codes "main")) in
     let main = named_bare t.procedures (codes "main") in
     let arrays = sym (arrays_bare t.arrays (main_of t).parameters)
-        ∙ ap (λ (p : Procedure). map (λ q. (whole_from 0 (map bare_array t.arrays) q.name.name).array) p.parameters) (sym main) in
+    ∙ ap (λ (p : Procedure). map (λ q. (whole_from 0 (map bare_array t.arrays) q.name.name).array) p.parameters) (sym main) in
     let routines = sym (routines_bare t.procedures) in
     let procedures = sym (procedures_bare 0 (routines_of t.procedures)) ∙ ap (procedures_from 0) routines in
     let capsules = capsules_bare t.procedures 0 0 (routines_of t.procedures) ∙ ap (capsules_from (bares t.procedures) 0 0) routines in

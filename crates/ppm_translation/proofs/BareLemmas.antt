@@ -1,5 +1,5 @@
 -- What a tree's lines do not change: the sizes of code, the numbers of capsules and procedures, slots and names.
-use Rattle.std.proofs.Common.{◌≡◌, ◌+◌, ℕ, zero, suc, List, [], ◌∷◌, ◌++◌, length, map, max, refl, ap, sym, ◌∙◌, Bool, true, false, ◌||◌, if◌then◌else◌}
+use Rattle.std.proofs.Common.{◌≡◌, ◌+◌, ℕ, suc, List, [], ◌∷◌, ◌++◌, length, map, max, refl, ap, sym, ◌∙◌, Bool, true, false, ◌||◌, if◌then◌else◌}
 use Rattle.std.specs.Prelude.{Option, Some, None}
 use Rattle.std.specs.List.{filter, flat_map}
 use Rattle.std.specs.Set.{is_member}
@@ -22,7 +22,7 @@ use Rattle.ppm_translation.specs.Expressions.{size_of, branch_size, last_size}
 use Rattle.ppm_translation.specs.Numbers.{behind, end_of, hidden_behind, hidden_behind_block}
 use Rattle.ppm_translation.specs.Slots.{assigns, has_assignment, spare_slots, named_slots, procedure_slots, hidden_named_slots, hidden_slots}
 use Rattle.ppm_translation.specs.Statements.{argument_size, arguments_size, paired, with_lets, number_of}
-use Rattle.ppm_translation.specs.Lines.{bare_name, bare_expression, bare_argument, bare_target, bare_side, bare_statement, bare_block}
+use Rattle.ppm_translation.specs.Lines.{bare_expression, bare_argument, bare_target, bare_statement, bare_block}
 use Rattle.ppm_translation.specs.Lines.{bare_parameter, bare_array, bare_procedure}
 
 -- the size of an expression, and of arguments
@@ -51,7 +51,8 @@ arguments_size_bare (p ∷ ps) (a ∷ arguments) =
     let k = arguments_size_bare ps arguments in
     λ i. h i + k i
 
-pub paired_bare : (ps : List Parameter) (arguments : List Argument) → paired (map bare_parameter ps) (map bare_argument arguments) ≡ paired ps arguments
+pub paired_bare : (ps : List Parameter) (arguments : List Argument)
+    → paired (map bare_parameter ps) (map bare_argument arguments) ≡ paired ps arguments
 paired_bare [] arguments = refl
 paired_bare (p ∷ ps) [] = refl
 paired_bare (p ∷ ps) (a ∷ arguments) = ap (λ n. suc n) (paired_bare ps arguments)
@@ -205,7 +206,7 @@ used_bare : (s : Statement) → used_by (bare_statement s) ≡ used_by s
 used_bare s =
     let acted = acted_on_bare s in
     let named = ap (λ es. spelled (flat_map node_names (flat_map nodes es))) (expressions_bare s)
-        ∙ ap (λ es. spelled (flat_map node_names es)) (all_nodes_bare (expressions_of s)) ∙ all_node_names_bare (nodes_of s) in
+    ∙ ap (λ es. spelled (flat_map node_names es)) (all_nodes_bare (expressions_of s)) ∙ all_node_names_bare (nodes_of s) in
     spelled-append (acted_on (bare_statement s)) (flat_map node_names (nodes_of (bare_statement s))) ∙ (λ i. acted i ++ named i)
     ∙ sym (spelled-append (acted_on s) (flat_map node_names (nodes_of s)))
 

@@ -1,11 +1,8 @@
 -- Trees that differ in lines alone have codes that differ in lines alone: a code without its lines is that of the tree without its lines.
-use Rattle.std.proofs.Common.{◌≡◌, ◌+◌, ℕ, zero, suc, pos, List, [], ◌∷◌, ◌++◌, length, map, refl, ap, sym, ◌∙◌}
-use Rattle.std.specs.Prelude.{Option, Some, None, codes}
-use Rattle.std.proofs.lemmas.List.{length-map, map-append}
+use Rattle.std.proofs.Common.{◌≡◌, ◌+◌, ℕ, zero, suc, pos, List, [], ◌∷◌, length, map, refl, ap, sym, ◌∙◌}
+use Rattle.std.specs.Prelude.{Some, None}
 use Rattle.ppm_code.specs.declared.act.End.TheVariants as ends
-use Rattle.ppm_code.specs.declared.instr.Instr.{Instr}
 use Rattle.ppm_code.specs.declared.instr.Instr.TheVariants as instr
-use Rattle.ppm_code.specs.declared.code.Capsule.{Capsule}
 use Rattle.ppm_tree.specs.declared.operator.Operator.{Operator}
 use Rattle.ppm_tree.specs.declared.operator.Operator.TheVariants as operator
 use Rattle.ppm_tree.specs.declared.mode.Mode.{Mode}
@@ -15,19 +12,18 @@ use Rattle.ppm_tree.specs.declared.tree.Parameter.{Parameter}
 use Rattle.ppm_tree.specs.Tree.{Expression, Argument, Side, Statement, Block, Nil, Then, Give, Procedure, ProgramTree}
 use Rattle.ppm_tree.specs.Tree as tree
 use Rattle.ppm_tree.specs.State.{procedure_named}
-use Rattle.ppm_tree.specs.Program.{main_of, whole_from}
-use Rattle.ppm_translation.specs.Layout.{Layout, slot_of, target_of, register, parameter_layout, caught}
+use Rattle.ppm_translation.specs.Layout.{Layout, slot_of, target_of, register, caught}
 use Rattle.ppm_translation.specs.Expressions.{size_of, branch_size, operator_code, right_register, branch_code, expression_code}
-use Rattle.ppm_translation.specs.Numbers.{behind, end_of, hidden_behind, hidden_behind_block, halved, element_block}
-use Rattle.ppm_translation.specs.Slots.{procedure_slots, named_slots, hidden_named_slots, hidden_slots, frame_words, fork_words}
-use Rattle.ppm_translation.specs.Statements.{Instrs, Last, OnTo, Gives, onward, let_code, value_code, element_code, test_code, split_code, lent_code}
-use Rattle.ppm_translation.specs.Statements.{argument_size, argument_code, arguments_size, arguments_code, paired, stores_code, give_code, last_code}
-use Rattle.ppm_translation.specs.Statements.{loads_code, each_code, entry_code, names_code, halving_code, with_lets, with_parts}
-use Rattle.ppm_translation.specs.Statements.{callee_parameters, callee_number, callee_slots, call_code, fork_code, statement_code, block_code}
-use Rattle.ppm_translation.specs.Lines.{bare_name, bare_expression, bare_argument, bare_target, bare_side, bare_statement, bare_block, bare_give}
-use Rattle.ppm_translation.specs.Lines.{bare_parameter, bare_array, bare_procedure, without_lines, bare_instr, bare_capsule, code_without_lines}
-use Rattle.ppm_translation.proofs.BareLemmas.{size_bare, argument_size_bare, arguments_size_bare, paired_bare, target_bare, behind_bare, end_bare}
-use Rattle.ppm_translation.proofs.BareLemmas.{hidden_behind_bare, hidden_behind_block_bare, with_lets_bare, caught_bare}
+use Rattle.ppm_translation.specs.Numbers.{halved}
+use Rattle.ppm_translation.specs.Slots.{procedure_slots, hidden_slots, frame_words, fork_words}
+use Rattle.ppm_translation.specs.Statements.{Instrs, Last, OnTo, Gives, onward, element_code, test_code, split_code, lent_code}
+use Rattle.ppm_translation.specs.Statements.{argument_size, argument_code, arguments_size, arguments_code, paired, stores_code, last_code}
+use Rattle.ppm_translation.specs.Statements.{loads_code, each_code, names_code, halving_code}
+use Rattle.ppm_translation.specs.Statements.{callee_parameters, callee_number, callee_slots, call_code, fork_code}
+use Rattle.ppm_translation.specs.Lines.{bare_name, bare_expression, bare_argument, bare_target, bare_side, bare_block, bare_give}
+use Rattle.ppm_translation.specs.Lines.{bare_parameter, bare_procedure, bare_instr}
+use Rattle.ppm_translation.proofs.BareLemmas.{size_bare, argument_size_bare, arguments_size_bare, paired_bare, target_bare}
+use Rattle.ppm_translation.proofs.BareLemmas.{caught_bare}
 use Rattle.ppm_translation.proofs.BareLemmas.{procedure_slots_bare, hidden_slots_bare, named_bare, number_bare}
 
 -- instructions in no line
@@ -84,13 +80,13 @@ expression_bare layout (tree.Binary o line left right) d at rest =
     let r = sym (size_bare right) in
     expression_bare layout left d at (branch_code o d (from + size_of right) second)
     ∙ ap (expression_code layout (bare_expression left) d at)
-      (branch_bare o d (from + size_of right) second
-       ∙ ap (branch_code o d (from + size_of right))
-         (expression_bare layout right (right_register o d) from last
-          ∙ ap (expression_code layout (bare_expression right) (right_register o d) from) (operator_bare o line d rest)))
+    (branch_bare o d (from + size_of right) second
+    ∙ ap (branch_code o d (from + size_of right))
+    (expression_bare layout right (right_register o d) from last
+    ∙ ap (expression_code layout (bare_expression right) (right_register o d) from) (operator_bare o line d rest)))
     ∙ (λ i. expression_code layout (bare_expression left) d at
-        (branch_code o d (at + l i + branch_size o + r i)
-         (expression_code layout (bare_expression right) (right_register o d) (at + l i + branch_size o) (operator_code o 0 d (bare rest)))))
+    (branch_code o d (at + l i + branch_size o + r i)
+    (expression_code layout (bare_expression right) (right_register o d) (at + l i + branch_size o) (operator_code o 0 d (bare rest)))))
 
 -- the codes of single capsules
 pub element_bare : (layout : Layout) (spare : ℕ) (index value : Expression) (next : ℕ)
@@ -108,7 +104,7 @@ test_bare layout e inside next =
     let n = sym (size_bare e) in
     expression_bare layout e 0 0 (instr.BranchZero (register 0) (suc (suc (size_of e))) ∷ instr.Ends (ends.Next inside) ∷ onward next)
     ∙ (λ i. expression_code layout (bare_expression e) 0 0
-        (instr.BranchZero (register 0) (suc (suc (n i))) ∷ instr.Ends (ends.Next inside) ∷ onward next))
+    (instr.BranchZero (register 0) (suc (suc (n i))) ∷ instr.Ends (ends.Next inside) ∷ onward next))
 
 pub split_bare : (layout : Layout) (line : ℕ) (r : Named) (e : Expression) (next : ℕ)
     → bare (split_code layout line r e next) ≡ split_code layout 0 (bare_name r) (bare_expression e) next
@@ -132,7 +128,8 @@ argument_bare layout mode.Mut e d at rest = ap (λ i. i ∷ bare rest) (lent_bar
 argument_bare layout mode.Ref e d at rest = ap (λ i. i ∷ bare rest) (lent_bare layout e d)
 
 arguments_bare : (layout : Layout) (ps : List Parameter) (arguments : List Argument) (d at : ℕ) (rest : Instrs)
-    → bare (arguments_code layout ps arguments d at rest) ≡ arguments_code layout (map bare_parameter ps) (map bare_argument arguments) d at (bare rest)
+    → bare (arguments_code layout ps arguments d at rest)
+    ≡ arguments_code layout (map bare_parameter ps) (map bare_argument arguments) d at (bare rest)
 arguments_bare layout [] arguments d at rest = refl
 arguments_bare layout (p ∷ ps) [] d at rest = refl
 arguments_bare layout (p ∷ ps) (a ∷ arguments) d at rest =
@@ -141,7 +138,7 @@ arguments_bare layout (p ∷ ps) (a ∷ arguments) d at rest =
     argument_bare layout p.mode a.value d at (arguments_code layout ps arguments (suc d) (at + size) rest)
     ∙ ap (argument_code layout p.mode (bare_expression a.value) d at) (arguments_bare layout ps arguments (suc d) (at + size) rest)
     ∙ (λ i. argument_code layout p.mode (bare_expression a.value) d at
-        (arguments_code layout (map bare_parameter ps) (map bare_argument arguments) (suc d) (at + n i) (bare rest)))
+    (arguments_code layout (map bare_parameter ps) (map bare_argument arguments) (suc d) (at + n i) (bare rest)))
 
 stores_bare : (offset d count : ℕ) (rest : Instrs) → bare (stores_code offset d count rest) ≡ stores_code offset d count (bare rest)
 stores_bare offset d zero rest = refl
@@ -177,10 +174,10 @@ each_bare layout r block hidden next =
     let names = caught layout block in
     let call = instr.Ends (ends.Call hidden next None) ∷ [] in
     let front = λ (is : Instrs). instr.Room (frame_words (hidden_slots (length names) block)) ∷ instr.LoadSlot (register 0) (slot_of layout r.name)
-        ∷ instr.Const (register 1) (pos 0) ∷ is in
+    ∷ instr.Const (register 1) (pos 0) ∷ is in
     let same = sym (caught_bare layout block) in
     ap front (loads_bare layout names 2 (stores_code 6 0 (suc (suc (length names))) call)
-        ∙ ap (loads_code layout names 2) (stores_bare 6 0 (suc (suc (length names))) call))
+    ∙ ap (loads_code layout names 2) (stores_bare 6 0 (suc (suc (length names))) call))
     ∙ ap (λ slots. each_with layout r names slots hidden next) (sym (hidden_slots_bare (length names) block))
     ∙ ap (λ (names : Layout). each_with layout r names (hidden_slots (length names) (bare_block block)) hidden next) same
 
@@ -192,15 +189,16 @@ halving_bare entry hidden slots names line =
     let rights = instr.StoreNew right_at (register 3) ∷ instr.StoreNew (suc right_at) (register 5) ∷ stores_code (suc (suc right_at)) 6 names fork in
     let lefts = instr.StoreNew left_at (register 2) ∷ instr.StoreNew (suc left_at) (register 4) ∷ stores_code (suc (suc left_at)) 6 names rights in
     let front = λ (is : Instrs). instr.Room (fork_words slots slots)
-        ∷ instr.LoadSlot (register 0) 0 ∷ instr.Len (register 1) (register 0) ∷ instr.Const (register 2) (pos 2)
-        ∷ instr.Div (register 1) (register 1) (register 2) 0
-        ∷ instr.CutLeft (register 2) (register 0) (register 1) 0 ∷ instr.CutRight (register 3) (register 0) (register 1) 0
-        ∷ instr.LoadSlot (register 4) 1 ∷ instr.Add (register 5) (register 4) (register 1) 0 ∷ is in
+    ∷ instr.LoadSlot (register 0) 0 ∷ instr.Len (register 1) (register 0) ∷ instr.Const (register 2) (pos 2)
+    ∷ instr.Div (register 1) (register 1) (register 2) 0
+    ∷ instr.CutLeft (register 2) (register 0) (register 1) 0 ∷ instr.CutRight (register 3) (register 0) (register 1) 0
+    ∷ instr.LoadSlot (register 4) 1 ∷ instr.Add (register 5) (register 4) (register 1) 0 ∷ is in
     ap front (names_bare 2 6 names lefts
-        ∙ ap (λ (is : Instrs). names_code 2 6 names (instr.StoreNew left_at (register 2) ∷ instr.StoreNew (suc left_at) (register 4) ∷ is))
-          (stores_bare (suc (suc left_at)) 6 names rights
-           ∙ ap (λ (is : Instrs). stores_code (suc (suc left_at)) 6 names (instr.StoreNew right_at (register 3) ∷ instr.StoreNew (suc right_at) (register 5) ∷ is))
-             (stores_bare (suc (suc right_at)) 6 names fork)))
+    ∙ ap (λ (is : Instrs). names_code 2 6 names (instr.StoreNew left_at (register 2) ∷ instr.StoreNew (suc left_at) (register 4) ∷ is))
+    (stores_bare (suc (suc left_at)) 6 names rights
+    ∙ ap (λ (is : Instrs). stores_code (suc (suc left_at)) 6 names
+    (instr.StoreNew right_at (register 3) ∷ instr.StoreNew (suc right_at) (register 5) ∷ is))
+    (stores_bare (suc (suc right_at)) 6 names fork)))
 
 -- a fork, from its numbers
 abbrev fork_with : Layout → (l r : List Parameter) → (xs ys : List Argument) → (left_slots right_slots lefts rights size : ℕ) → Instrs → Instrs
@@ -212,17 +210,17 @@ fork_with layout l r xs ys left_slots right_slots lefts rights size end =
 fork_with_bare : (layout : Layout) (l r : List Parameter) (xs ys : List Argument) (left_slots right_slots lefts rights size : ℕ) (end : Instrs)
     → bare (fork_with layout l r xs ys left_slots right_slots lefts rights size end)
     ≡ fork_with layout (map bare_parameter l) (map bare_parameter r) (map bare_argument xs) (map bare_argument ys)
-      left_slots right_slots lefts rights size (bare end)
+    left_slots right_slots lefts rights size (bare end)
 fork_with_bare layout l r xs ys left_slots right_slots lefts rights size end =
     let right_stores = stores_code (11 + frame_words left_slots) lefts rights end in
     let left_stores = stores_code 11 0 lefts right_stores in
     ap (λ (is : Instrs). instr.Room (fork_words left_slots right_slots) ∷ is)
     (arguments_bare layout l xs 0 1 (arguments_code layout r ys lefts (suc size) left_stores)
-     ∙ ap (arguments_code layout (map bare_parameter l) (map bare_argument xs) 0 1)
-       (arguments_bare layout r ys lefts (suc size) left_stores
-        ∙ ap (arguments_code layout (map bare_parameter r) (map bare_argument ys) lefts (suc size))
-          (stores_bare 11 0 lefts right_stores
-           ∙ ap (stores_code 11 0 lefts) (stores_bare (11 + frame_words left_slots) lefts rights end))))
+    ∙ ap (arguments_code layout (map bare_parameter l) (map bare_argument xs) 0 1)
+    (arguments_bare layout r ys lefts (suc size) left_stores
+    ∙ ap (arguments_code layout (map bare_parameter r) (map bare_argument ys) lefts (suc size))
+    (stores_bare 11 0 lefts right_stores
+    ∙ ap (stores_code 11 0 lefts) (stores_bare (11 + frame_words left_slots) lefts rights end))))
 
 module _ (procedures : List Procedure) where
   -- the procedures without their lines
@@ -246,15 +244,15 @@ module _ (procedures : List Procedure) where
       let n = sym (paired_bare ps s.arguments) in
       let parameters = sym (callee_parameters_bare s) in
       ap (λ (is : Instrs). instr.Room (frame_words (callee_slots procedures s)) ∷ is)
-          (arguments_bare layout ps s.arguments 0 1 (stores_code 6 0 (paired ps s.arguments) end)
-           ∙ ap (arguments_code layout (map bare_parameter ps) (map bare_argument s.arguments) 0 1) (stores_bare 6 0 (paired ps s.arguments) end))
+      (arguments_bare layout ps s.arguments 0 1 (stores_code 6 0 (paired ps s.arguments) end)
+      ∙ ap (arguments_code layout (map bare_parameter ps) (map bare_argument s.arguments) 0 1) (stores_bare 6 0 (paired ps s.arguments) end))
       ∙ (λ i. instr.Room (frame_words (words i))
-          ∷ arguments_code layout (map bare_parameter ps) (map bare_argument s.arguments) 0 1
-          (stores_code 6 0 (n i) (instr.Ends (ends.Call (q i) next (to i)) ∷ [])))
+      ∷ arguments_code layout (map bare_parameter ps) (map bare_argument s.arguments) 0 1
+      (stores_code 6 0 (n i) (instr.Ends (ends.Call (q i) next (to i)) ∷ [])))
       ∙ (λ i. instr.Room (frame_words (callee_slots bares (bare_side s)))
-          ∷ arguments_code layout (parameters i) (map bare_argument s.arguments) 0 1
-          (stores_code 6 0 (paired (parameters i) (map bare_argument s.arguments))
-          (instr.Ends (ends.Call (callee_number bares (bare_side s)) next (target_of layout (bare_target s.target))) ∷ [])))
+      ∷ arguments_code layout (parameters i) (map bare_argument s.arguments) 0 1
+      (stores_code 6 0 (paired (parameters i) (map bare_argument s.arguments))
+      (instr.Ends (ends.Call (callee_number bares (bare_side s)) next (target_of layout (bare_target s.target))) ∷ [])))
 
   pub fork_bare : (layout : Layout) (s t : Side) (next : ℕ)
       → bare (fork_code procedures layout s t next) ≡ fork_code bares layout (bare_side s) (bare_side t) next
@@ -278,10 +276,12 @@ module _ (procedures : List Procedure) where
       let l_same = sym (callee_parameters_bare s) in
       let r_same = sym (callee_parameters_bare t) in
       fork_with_bare layout l r s.arguments t.arguments (callee_slots procedures s) (callee_slots procedures t) lefts rights size
-      (instr.Ends (ends.Fork (callee_number procedures s) (callee_number procedures t) next (target_of layout s.target) (target_of layout t.target)) ∷ [])
-      ∙ (λ i. fork_with layout (map bare_parameter l) (map bare_parameter r) xs ys (left_slots i) (right_slots i) (lefts_same i) (rights_same i) (size_same i)
-          (instr.Ends (ends.Fork (p i) (q i) next (left_to i) (right_to i)) ∷ []))
+      (instr.Ends (ends.Fork (callee_number procedures s) (callee_number procedures t) next
+      (target_of layout s.target) (target_of layout t.target)) ∷ [])
+      ∙ (λ i. fork_with layout (map bare_parameter l) (map bare_parameter r) xs ys (left_slots i) (right_slots i)
+      (lefts_same i) (rights_same i) (size_same i)
+      (instr.Ends (ends.Fork (p i) (q i) next (left_to i) (right_to i)) ∷ []))
       ∙ (λ i. fork_with layout (l_same i) (r_same i) xs ys (callee_slots bares (bare_side s)) (callee_slots bares (bare_side t))
-          (paired (l_same i) xs) (paired (r_same i) ys) (arguments_size (l_same i) xs)
-          (instr.Ends (ends.Fork (callee_number bares (bare_side s)) (callee_number bares (bare_side t)) next
-           (target_of layout (bare_target s.target)) (target_of layout (bare_target t.target))) ∷ []))
+      (paired (l_same i) xs) (paired (r_same i) ys) (arguments_size (l_same i) xs)
+      (instr.Ends (ends.Fork (callee_number bares (bare_side s)) (callee_number bares (bare_side t)) next
+      (target_of layout (bare_target s.target)) (target_of layout (bare_target t.target))) ∷ []))

@@ -30,4 +30,5 @@ LinesAlone = (t u : ProgramTree) → without_lines t ≡ without_lines u → cod
 
 -- each procedure of a code, by its number, has as many capsules as its statements allow, at most
 abbrev pub FewCapsules : Type 0
-FewCapsules = (t : ProgramTree) (q : ℕ) → IfSome (slice_get (routines_of t.procedures) q) (λ r. capsules_among q (code_of t).capsules ≤ most_capsules r)
+FewCapsules =
+    (t : ProgramTree) (q : ℕ) → IfSome (slice_get (routines_of t.procedures) q) (λ r. capsules_among q (code_of t).capsules ≤ most_capsules r)
