@@ -1,5 +1,5 @@
 -- Trees that differ in lines alone have codes that differ in lines alone: a code without its lines is that of the tree without its lines.
-use Rattle.std.proofs.Common.{◌≡◌, ℕ, suc, List, [], ◌∷◌, ◌++◌, length, map, refl, ap, sym, ◌∙◌}
+use Rattle.std.proofs.Common.{◌≡◌, ℕ, suc, List, [], ◌∷◌, ◌++◌, length, map, refl, ap, ap₂, sym, ◌∙◌}
 use Rattle.std.specs.Prelude.{None, codes}
 use Rattle.std.proofs.lemmas.List.{length-map, map-append}
 use Rattle.ppm_code.specs.declared.act.End.TheVariants as ends
@@ -240,4 +240,6 @@ code_bare t =
     λ i. record { root = root i; arrays = arrays i; procedures = procedures i; capsules = capsules i }
 
 pub lines_alone : LinesAlone
-lines_alone t u same = code_bare t ∙ ap code_of same ∙ sym (code_bare u)
+lines_alone t u arrays procedures =
+    code_bare t ∙ ap₂ (λ (arrays : List Array) (procedures : List Procedure). code_of (record { arrays = arrays; procedures = procedures; inputs = [] })) arrays procedures
+    ∙ sym (code_bare u)

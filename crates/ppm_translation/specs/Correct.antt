@@ -24,9 +24,10 @@ ProceduresStand = (t : ProgramTree) → HasBodies t.procedures (code_of t)
 abbrev pub KeepsTheRules : Type 0
 KeepsTheRules = (t : ProgramTree) → IsWithin t → IsAdmitted t → IsWithinBounds t → IsCode (code_of t)
 
--- trees that are the same, lines apart, have codes that are the same, lines apart
+-- trees whose arrays and procedures are the same, lines apart, have codes that are the same, lines apart; the text's input has no part in it
 abbrev pub LinesAlone : Type 0
-LinesAlone = (t u : ProgramTree) → without_lines t ≡ without_lines u → code_without_lines (code_of t) ≡ code_without_lines (code_of u)
+LinesAlone = (t u : ProgramTree) → (without_lines t).arrays ≡ (without_lines u).arrays → (without_lines t).procedures ≡ (without_lines u).procedures
+    → code_without_lines (code_of t) ≡ code_without_lines (code_of u)
 
 -- each procedure of a code, by its number, has as many capsules as its statements allow, at most
 abbrev pub FewCapsules : Type 0

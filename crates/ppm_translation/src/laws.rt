@@ -21,7 +21,7 @@ pub fn keeps_the_rules()
     ensures law { KeepsTheRules }
 {}
 
-/// Two trees that are the same but for lines have codes that are the same but for lines: the text's layout and comments change no
+/// Two trees whose arrays and procedures are the same but for lines have codes that are the same but for lines: the layout and the comments of a text change no
 /// number, slot or instruction, and a line is only what a trap names.
 pub fn lines_alone()
     ensures law { LinesAlone }
