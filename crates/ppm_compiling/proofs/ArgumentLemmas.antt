@@ -30,7 +30,8 @@ use Rattle.ppm_translation.specs.Layout.{Layout, slot_of, parameter_layout, regi
 use Rattle.ppm_translation.specs.Expressions.{size_of, expression_code}
 use Rattle.ppm_translation.specs.Fits.{IsNew, IsDistinctLayout, IsRegion, FitsArgument, FitsArguments}
 use Rattle.ppm_translation.specs.Statements.{argument_size, argument_code, arguments_size, arguments_code, paired}
-use Rattle.ppm_compiling.proofs.Holding.{HoldsValue, Holds, region_word}
+use Rattle.ppm_translation.proofs.RegionWords.{region_word}
+use Rattle.ppm_compiling.proofs.Holding.{HoldsValue, Holds}
 use Rattle.ppm_compiling.proofs.Doing.{argument_nodes}
 use Rattle.ppm_compiling.proofs.ExprLemmas.{goes_same, loads, InReg, set_at, set_count, set_keeps, Meets, meets_at, bind_meets, all_front, all_behind}
 use Rattle.ppm_compiling.proofs.ExprLemmas.{some_node, Sees, region_held, expr_meets}

@@ -28,12 +28,13 @@ use Rattle.ppm_translation.specs.Slots.{named_slots, procedure_slots, hidden_slo
 use Rattle.ppm_translation.specs.Standing.{HasStatement, HasBlock, HasBody}
 use Rattle.ppm_translation.specs.Statements.{Last, OnTo, Gives, with_lets, with_parts, hidden_layout, number_of}
 use Rattle.ppm_translation.proofs.CaughtLemmas.{each_once}
+use Rattle.ppm_translation.proofs.RegionWords.{lengths_of, offset_of}
 use Rattle.ppm_compiling.specs.Correct.{words_begun}
 use Rattle.ppm_compiling.proofs.ChainLemmas.{Cost, cost, Chain, chain_weaken, chain_under, chain_return}
-use Rattle.ppm_compiling.proofs.Holding.{CodeFrame, offset_of, Shows, Holds, sweep_frame, which, at_work, waits, strands, CodeTree, Tested, Parted, Called, Forked}
+use Rattle.ppm_compiling.proofs.Holding.{CodeFrame, Shows, Holds, sweep_frame, which, at_work, waits, strands, CodeTree, Tested, Parted, Called, Forked}
 use Rattle.ppm_compiling.proofs.Doing.{InHand, AreSmall}
 use Rattle.ppm_compiling.proofs.ExprLemmas.{array_within}
-use Rattle.ppm_compiling.proofs.Places.{lengths_of, Place, modest_inner, holds_place, else_place, each_few, lies}
+use Rattle.ppm_compiling.proofs.Places.{Place, modest_inner, holds_place, else_place, each_few, lies}
 use Rattle.ppm_compiling.proofs.Given.{IsModestProcedure, Given, words_of, budget}
 use Rattle.ppm_compiling.proofs.SmallLemmas.{small_let, small_assign, small_put, small_if, small_split, small_call, small_fork}
 use Rattle.ppm_compiling.proofs.SweepLemmas.{end_stands, once_distinct, over_of, HasLocals, Leaves, leaves_locals, swept as swept_all}
@@ -74,7 +75,7 @@ split_low line r (Ok (negsuc k)) n is = absurd (clash is)
 
 module _ (t : ProgramTree) (code : CodeParts) (facts : Given t code) where
   abbrev pub lens : List ℕ
-  lens = lengths_of t
+  lens = lengths_of t.arrays
 
   abbrev pub ps : List Procedure
   ps = t.procedures

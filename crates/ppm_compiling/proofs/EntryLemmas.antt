@@ -27,8 +27,9 @@ use Rattle.ppm_translation.specs.Layout.{Layout, slot_of, caught, register}
 use Rattle.ppm_translation.specs.Numbers.{halving, element_block}
 use Rattle.ppm_translation.specs.Slots.{hidden_slots, frame_words}
 use Rattle.ppm_translation.specs.Statements.{each_code, entry_code, stores_code}
+use Rattle.ppm_translation.proofs.RegionWords.{offset_of, region_word}
 use Rattle.ppm_compiling.proofs.ChainLemmas.{cost, Chain}
-use Rattle.ppm_compiling.proofs.Holding.{HoldsValue, offset_of, region_word, at_work, waits, strands}
+use Rattle.ppm_compiling.proofs.Holding.{HoldsValue, at_work, waits, strands}
 use Rattle.ppm_compiling.proofs.Doing.{Entered, EntryDoes, EachDoes}
 use Rattle.ppm_compiling.proofs.ExprLemmas.{Goes, goes_on, goes_equal, set_count, holds_number}
 use Rattle.ppm_compiling.proofs.StepLemmas.{start_at, whole}

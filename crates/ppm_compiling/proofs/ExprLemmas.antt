@@ -49,7 +49,8 @@ use Rattle.ppm_translation.specs.Layout.{Layout, slot_of, register_with, registe
 use Rattle.ppm_translation.specs.Expressions.{branch_size, last_size, size_of, truth_code, operator_code, right_register, branch_code}
 use Rattle.ppm_translation.specs.Expressions.{expression_code}
 use Rattle.ppm_translation.specs.Fits.{Has, IsKept, FitsExpression}
-use Rattle.ppm_compiling.proofs.Holding.{HoldsValue, offset_of, region_word, Lies}
+use Rattle.ppm_translation.proofs.RegionWords.{offset_of, region_word}
+use Rattle.ppm_compiling.proofs.Holding.{HoldsValue, Lies}
 
 -- p from m does what q from m' does
 pub record Goes (p : Capsule Where End) (m : Memory Where) (q : Capsule Where End) (m' : Memory Where) : Type 0 where

@@ -24,10 +24,11 @@ use Rattle.ppm_translation.specs.Numbers.{behind, end_of, hidden_behind, element
 use Rattle.ppm_translation.specs.Slots.{named_slots, procedure_slots, hidden_named_slots, hidden_slots, frame_words, fork_words}
 use Rattle.ppm_translation.specs.Standing.{HasStatement, HasBlock, HasBody}
 use Rattle.ppm_translation.specs.Statements.{Last, OnTo, Gives, with_lets, with_parts, hidden_layout, number_of}
+use Rattle.ppm_translation.proofs.RegionWords.{lengths_of}
 use Rattle.ppm_compiling.proofs.ChainLemmas.{Cost, cost, both_costs, IsWithinCost, Chain, chain_none, chain_weaken}
 use Rattle.ppm_compiling.proofs.Holding.{CodeFrame, Shows, Holds, which, at_work, strands, CodeTree}
 use Rattle.ppm_compiling.proofs.Doing.{AreSmall}
-use Rattle.ppm_compiling.proofs.Places.{lengths_of, Place, behind_place, while_place, split_place, each_place, each_few}
+use Rattle.ppm_compiling.proofs.Places.{Place, behind_place, while_place, split_place, each_place, each_few}
 use Rattle.ppm_compiling.proofs.Given.{IsModestProcedure, Given, words_of, budget}
 use Rattle.ppm_compiling.proofs.SmallLemmas.{small_while}
 use Rattle.ppm_compiling.proofs.Constructs.{not_plain, split_low, words_both, small_first, chosen_hidden, chosen_place, chosen_has, callee_place, each_inside, each_words, gives, element_front}
@@ -39,7 +40,7 @@ use Rattle.ppm_compiling.proofs.ReachLemmas.{reaches_same}
 
 module _ (t : ProgramTree) (code : CodeParts) (facts : Given t code) where
   abbrev lens : List ℕ
-  lens = lengths_of t
+  lens = lengths_of t.arrays
 
   abbrev ps : List Procedure
   ps = t.procedures

@@ -20,10 +20,11 @@ use Rattle.ppm_translation.specs.Slots.{named_slots}
 use Rattle.ppm_translation.specs.Standing.{HasBodies}
 use Rattle.ppm_translation.specs.Statements.{hidden_layout}
 use Rattle.ppm_translation.proofs.CaughtLemmas.{IsEachOnce}
+use Rattle.ppm_translation.proofs.RegionWords.{lengths_of}
 use Rattle.ppm_compiling.specs.Correct.{words_begun}
 use Rattle.ppm_compiling.proofs.ChainLemmas.{Cost, cost}
 use Rattle.ppm_compiling.proofs.Doing.{AreSmall, LetDoes, AssignDoes, PutDoes, TestDoes, SplitDoes, GiveDoes, OnwardDoes, FinishDoes, CallDoes, ForkDoes, EachDoes, EntryDoes, HalvingDoes}
-use Rattle.ppm_compiling.proofs.Places.{IsModest, lengths_of}
+use Rattle.ppm_compiling.proofs.Places.{IsModest}
 
 module _ (lengths : List ℕ) (code : CodeParts) where
   abbrev pub Everywhere : (Scope → Layout → Frame → (FrameWord → ℕ) → Words → Arrays → ℕ → ℕ → Type 0) → Type 0
@@ -53,12 +54,12 @@ pub record IsModestProcedure (p : Procedure) : Type 0 where
 
 -- what is given
 pub record Given (t : ProgramTree) (code : CodeParts) : Type 0 where
-  pub does : AllDo (lengths_of t) code t.procedures
+  pub does : AllDo (lengths_of t.arrays) code t.procedures
   pub stands : HasBodies t.procedures code
   pub fits : (x : List ℕ) → FitsProcedure t.procedures (procedure_named t.procedures x)
   pub modest : (x : List ℕ) → IsModestProcedure (procedure_named t.procedures x)
   pub admitted : IsAdmitted t
-  pub small : sum (lengths_of t) ≤ 4194304
+  pub small : sum (lengths_of t.arrays) ≤ 4194304
   pub counted : (scope : Scope) (layout : Layout) (i x r : Named) (block : Block) → IsEachOnce layout → IsNew layout i.name → IsNew layout x.name
       → FitsBlock t.procedures (each_scope scope r i x) (hidden_layout layout i x block) block
       → length (caught layout block) ≡ distinct_count bytes_eq (without (i.name ∷ x.name ∷ []) (free_names block))

@@ -31,8 +31,9 @@ use Rattle.ppm_translation.specs.Layout.{Layout, caught, register}
 use Rattle.ppm_translation.specs.Numbers.{halving, halved}
 use Rattle.ppm_translation.specs.Slots.{hidden_slots, frame_words, fork_words}
 use Rattle.ppm_translation.specs.Statements.{halving_code, names_code, stores_code}
+use Rattle.ppm_translation.proofs.RegionWords.{offset_of, region_word}
 use Rattle.ppm_compiling.proofs.ChainLemmas.{cost, Chain}
-use Rattle.ppm_compiling.proofs.Holding.{HoldsValue, offset_of, region_word, at_work, waits, strands}
+use Rattle.ppm_compiling.proofs.Holding.{HoldsValue, at_work, waits, strands}
 use Rattle.ppm_compiling.proofs.Doing.{HalvingDoes}
 use Rattle.ppm_compiling.proofs.ExprLemmas.{Goes, goes_on, goes_equal, sets, set_count, holds_number}
 use Rattle.ppm_compiling.proofs.StepLemmas.{start_at, whole}

@@ -17,7 +17,8 @@ use Rattle.ppm_translation.specs.Layout.{Layout, slot_of, target_of}
 use Rattle.ppm_translation.specs.Fits.{Has, FitsTarget}
 use Rattle.ppm_translation.specs.Statements.{with_lets, with_parts}
 use Rattle.ppm_translation.proofs.LayoutLemmas.{slot_in_front, has_in_front}
-use Rattle.ppm_compiling.proofs.Holding.{HoldsValue, Holds, region_word}
+use Rattle.ppm_translation.proofs.RegionWords.{region_word}
+use Rattle.ppm_compiling.proofs.Holding.{HoldsValue, Holds}
 use Rattle.ppm_compiling.proofs.SlotLemmas.{named_at}
 
 -- names with one slot are one

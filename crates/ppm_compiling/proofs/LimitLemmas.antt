@@ -9,7 +9,7 @@ use Rattle.ppm_tree.specs.Limits.{IsSmallStatement, IsSmallGive, IsSmall, IsWith
 use Rattle.ppm_tree.specs.State.{no_procedure, procedure_named}
 use Rattle.ppm_bounds.specs.declared.bound.Bound.TheVariants as bound
 use Rattle.ppm_bounds.specs.Bounds.{Keeps, IsWithinBounds}
-use Rattle.ppm_compiling.proofs.Places.{lengths_of}
+use Rattle.ppm_translation.proofs.RegionWords.{lengths_of}
 use Rattle.ppm_compiling.proofs.Given.{IsModestProcedure}
 
 -- what holds of each procedure, and of none, holds of the one that a name stands for
@@ -59,5 +59,5 @@ modest_procedures t within bounds x =
       give = λ g e. let h = small.give g e in record { count = h.count; each = h.nodes };
     }
 
-pub small_arrays : (t : ProgramTree) → IsWithin t → sum (lengths_of t) ≤ 4194304
+pub small_arrays : (t : ProgramTree) → IsWithin t → sum (lengths_of t.arrays) ≤ 4194304
 small_arrays t within = within.words

@@ -20,6 +20,7 @@ use Rattle.ppm_translation.specs.Fits.{FitsStatement, FitsBlock}
 use Rattle.ppm_translation.specs.Slots.{hidden_named_slots}
 use Rattle.ppm_translation.specs.Statements.{with_lets, with_parts, hidden_layout}
 use Rattle.ppm_translation.proofs.CaughtLemmas.{IsEachOnce, once_push, once_parts, once_hidden, caught_is_counted}
+use Rattle.ppm_translation.proofs.RegionWords.{lengths_of}
 use Rattle.ppm_compiling.proofs.Holding.{Lies}
 
 -- the statements of a block are small, and so are the hidden procedures in it
@@ -41,10 +42,6 @@ modest_inner s b m = (
 )
 
 module _ (t : ProgramTree) where
-  -- how long the arrays of the program are
-  abbrev pub lengths_of : List ℕ
-  lengths_of = map (λ a. a.words) t.arrays
-
   -- a run may come to the block in the frame; the names in force have slots below the spare ones
   pub record Place (scope : Scope) (layout : Layout) (spare : ℕ) (b : Block) (f : Frame) : Type 0 where
     pub p : Procedure
@@ -173,7 +170,7 @@ module _ (t : ProgramTree) where
       }
 
   -- the regions in force lie in their arrays
-  pub lies : (scope : Scope) (layout : Layout) (spare : ℕ) (b : Block) (f : Frame) → IsAdmitted t → Place scope layout spare b f → Lies lengths_of scope f
+  pub lies : (scope : Scope) (layout : Layout) (spare : ℕ) (b : Block) (f : Frame) → IsAdmitted t → Place scope layout spare b f → Lies (lengths_of t.arrays) scope f
   lies scope layout spare b f admitted w = record {
     within = λ x d found region shown. ((apart_everywhere t admitted).place w.p w.g scope b f w.comes).within.within x
         (record { declaration = d; found = found; region = region; shown = shown });

@@ -23,10 +23,11 @@ use Rattle.ppm_translation.specs.Numbers.{behind, end_of, hidden_behind, element
 use Rattle.ppm_translation.specs.Slots.{named_slots, procedure_slots, hidden_named_slots, hidden_slots, frame_words, fork_words}
 use Rattle.ppm_translation.specs.Standing.{HasStatement, HasBlock, HasBody}
 use Rattle.ppm_translation.specs.Statements.{Last, OnTo, Gives, with_lets, with_parts, hidden_layout, number_of}
+use Rattle.ppm_translation.proofs.RegionWords.{lengths_of, offset_of}
 use Rattle.ppm_compiling.proofs.ChainLemmas.{Cost, cost, both_costs, Chain, chain_then}
-use Rattle.ppm_compiling.proofs.Holding.{CodeFrame, offset_of, Shows, Holds, sweep_frame, which, at_work, waits, strands, CodeTree}
+use Rattle.ppm_compiling.proofs.Holding.{CodeFrame, Shows, Holds, sweep_frame, which, at_work, waits, strands, CodeTree}
 use Rattle.ppm_compiling.proofs.Doing.{AreSmall}
-use Rattle.ppm_compiling.proofs.Places.{lengths_of, Place, behind_place, while_place, split_place, each_place, each_few}
+use Rattle.ppm_compiling.proofs.Places.{Place, behind_place, while_place, split_place, each_place, each_few}
 use Rattle.ppm_compiling.proofs.Given.{Given, words_of, budget}
 use Rattle.ppm_compiling.proofs.SmallLemmas.{small_while}
 use Rattle.ppm_compiling.proofs.ChainLemmas.{Long, long_none, long_then, long_under, long_left, long_right, chain_left}
@@ -56,7 +57,7 @@ joined_sweeps procedures (Sweep i x s q f n m c {y = y} {z = z} d on more) n' m'
 
 module _ (t : ProgramTree) (code : CodeParts) (facts : Given t code) where
   abbrev lens : List ℕ
-  lens = lengths_of t
+  lens = lengths_of t.arrays
 
   abbrev ps : List Procedure
   ps = t.procedures

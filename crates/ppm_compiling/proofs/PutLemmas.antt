@@ -35,12 +35,13 @@ use Rattle.ppm_translation.specs.Layout.{Layout, slot_of, register}
 use Rattle.ppm_translation.specs.Expressions.{size_of, expression_code}
 use Rattle.ppm_translation.specs.Fits.{IsRegion, FitsExpression}
 use Rattle.ppm_translation.specs.Statements.{onward, element_code, put_code}
+use Rattle.ppm_translation.proofs.RegionWords.{offset_of, region_word}
 use Rattle.ppm_compiling.proofs.ChainLemmas.{cost, Chain, chain_then, chain_weaken}
 use Rattle.ppm_compiling.proofs.Doing.{AreSmall, InHand, PutDoes}
 use Rattle.ppm_compiling.proofs.ExprLemmas.{Goes, goes_on, goes_equal, goes_same, stores, loads, stops, held_at, set_at, set_else, set_count, InReg}
 use Rattle.ppm_compiling.proofs.ExprLemmas.{Meets, bind_meets, expr_meets}
 use Rattle.ppm_compiling.proofs.ExprLemmas.{word_is, IsPlaced, at_index, element_acts, all_front, all_behind}
-use Rattle.ppm_compiling.proofs.Holding.{HoldsValue, Holds, Shows, offset_of, region_word, Reaches, at_work, strands}
+use Rattle.ppm_compiling.proofs.Holding.{HoldsValue, Holds, Shows, Reaches, at_work, strands}
 use Rattle.ppm_compiling.proofs.StoreLemmas.{stored_slot, other_slot, holds_behind}
 use Rattle.ppm_compiling.proofs.StatementLemmas.{zeros, zeros_count, onward_goes, front_held}
 use Rattle.ppm_compiling.proofs.StepLemmas.{start_at, sees, whole, Tried, tried}

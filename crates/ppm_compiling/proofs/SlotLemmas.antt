@@ -18,7 +18,8 @@ use Rattle.ppm_translation.specs.Layout.{Layout, slot_of, caught}
 use Rattle.ppm_regions.specs.Scope.{each_scope}
 use Rattle.ppm_translation.specs.Fits.{Has}
 use Rattle.ppm_translation.specs.Statements.{hidden_layout}
-use Rattle.ppm_compiling.proofs.Holding.{HoldsValue, Holds, region_word, sweep_frame}
+use Rattle.ppm_translation.proofs.RegionWords.{region_word}
+use Rattle.ppm_compiling.proofs.Holding.{HoldsValue, Holds, sweep_frame}
 
 -- at the slot of a name stands the name
 pub named_at : (layout : Layout) (x : List ℕ) → Has layout x → get_or layout (slot_of layout x) [] ≡ x

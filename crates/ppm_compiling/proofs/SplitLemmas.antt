@@ -36,11 +36,12 @@ use Rattle.ppm_translation.specs.Expressions.{size_of}
 use Rattle.ppm_translation.specs.Fits.{Has, IsNew, IsRegion}
 use Rattle.ppm_translation.specs.Statements.{onward, split_code, with_parts}
 use Rattle.ppm_translation.proofs.LayoutLemmas.{slot_in_front}
+use Rattle.ppm_translation.proofs.RegionWords.{offset_of, region_word}
 use Rattle.ppm_compiling.proofs.Doing.{InHand, SplitDoes}
 use Rattle.ppm_compiling.proofs.ExprLemmas.{Goes, goes_on, goes_equal, sets, stores, loads, stops, held_at, set_at, set_else, set_count, InReg, Meets}
 use Rattle.ppm_compiling.proofs.ExprLemmas.{bind_meets}
 use Rattle.ppm_compiling.proofs.ExprLemmas.{word_is, value_fits, IsPlaced, region_short, region_end, region_length, region_start}
-use Rattle.ppm_compiling.proofs.Holding.{HoldsValue, Holds, offset_of, region_word, Parted}
+use Rattle.ppm_compiling.proofs.Holding.{HoldsValue, Holds, Parted}
 use Rattle.ppm_compiling.proofs.StoreLemmas.{stored_slot, other_slot, slot_behind, has_before, first_slot, next_slot, apart_from}
 use Rattle.ppm_compiling.proofs.SlotLemmas.{part_is_region}
 use Rattle.ppm_compiling.proofs.StatementLemmas.{zeros, onward_goes, front}

@@ -27,12 +27,12 @@ use Rattle.ppm_translation.specs.Slots.{hidden_slots, hidden_named_slots, fork_w
 use Rattle.ppm_translation.specs.Standing.{HasStatement, HasBlock}
 use Rattle.ppm_translation.specs.Statements.{Last, Gives, last_code, with_lets, hidden_layout}
 use Rattle.ppm_translation.proofs.CaughtLemmas.{IsEachOnce}
+use Rattle.ppm_translation.proofs.RegionWords.{lengths_of, offset_of, region_word}
 use Rattle.ppm_compiling.specs.Correct.{words_begun}
 use Rattle.ppm_compiling.proofs.ChainLemmas.{Cost, cost, both_costs, Chain, chain_then, chain_weaken, chain_left, chain_right, chain_join}
-use Rattle.ppm_compiling.proofs.Holding.{offset_of, region_word, Shows, Holds, sweep_frame, at_work, waits, strands, CodeTree, Reaches}
+use Rattle.ppm_compiling.proofs.Holding.{Shows, Holds, sweep_frame, at_work, waits, strands, CodeTree, Reaches}
 use Rattle.ppm_compiling.proofs.SlotLemmas.{part_is_region}
 use Rattle.ppm_compiling.proofs.Doing.{Entered}
-use Rattle.ppm_compiling.proofs.Places.{lengths_of}
 use Rattle.ppm_compiling.proofs.Given.{Given, words_of, budget}
 
 -- names that differ have slots of their own
@@ -76,9 +76,9 @@ module _ (t : ProgramTree) (code : CodeParts) (given : Given t code)
     (spare : ℕ) (scope : Scope) (layout : Layout) (at h : ℕ) (f : Frame) (i x r : Named) (block : Block)
     (stands : HasStatement t.procedures code spare layout at h (tree.Each i x r block)) (fits : FitsStatement t.procedures scope layout (tree.Each i x r block))
     (once : IsEachOnce layout) (names_few : length (caught layout block) ≤ 24)
-    (inside : offset_of (lengths_of t) (f.regions r.name).array + (f.regions r.name).start + (f.regions r.name).length ≤ 4194304) where
+    (inside : offset_of (lengths_of t.arrays) (f.regions r.name).array + (f.regions r.name).start + (f.regions r.name).length ≤ 4194304) where
   abbrev lengths : List ℕ
-  lengths = lengths_of t
+  lengths = lengths_of t.arrays
 
   abbrev q : Region
   q = f.regions r.name

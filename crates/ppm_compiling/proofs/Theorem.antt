@@ -31,10 +31,12 @@ use Rattle.ppm_translation.specs.Slots.{named_slots}
 use Rattle.ppm_translation.specs.Routines.{code_of}
 use Rattle.ppm_translation.specs.Statements.{number_of}
 use Rattle.ppm_translation.specs.Standing.{HasBody}
+use Rattle.ppm_translation.proofs.MainLemmas.{main_is}
 use Rattle.ppm_translation.proofs.CaughtLemmas.{each_once}
+use Rattle.ppm_translation.proofs.RegionWords.{lengths_of}
 use Rattle.ppm_compiling.specs.Correct.{IsEndOf, EndsAsMeant, EndAsMeant}
 use Rattle.ppm_compiling.proofs.Holding.{CodeFrame, at_work, strands}
-use Rattle.ppm_compiling.proofs.Places.{lengths_of, Place}
+use Rattle.ppm_compiling.proofs.Places.{Place}
 use Rattle.ppm_compiling.proofs.Given.{AllDo, Given, budget}
 use Rattle.ppm_compiling.proofs.GivenLemmas.{all_given}
 use Rattle.ppm_compiling.proofs.ReachLemmas.{Returned}
@@ -50,21 +52,21 @@ use Rattle.ppm_compiling.proofs.Forward.{enters}
 use Rattle.ppm_compiling.proofs.Progress.{OfBlock, progress}
 
 -- all constructs do what they are to do
-all_do : (t : ProgramTree) → AllDo (lengths_of t) (code_of t) t.procedures
+all_do : (t : ProgramTree) → AllDo (lengths_of t.arrays) (code_of t) t.procedures
 all_do t = record {
-  let_ = let_does (lengths_of t) (code_of t);
-  assign = assign_does (lengths_of t) (code_of t);
-  put = put_does (lengths_of t) (code_of t);
-  test = test_does (lengths_of t) (code_of t);
-  split = split_does (lengths_of t) (code_of t);
-  give = give_does (lengths_of t) (code_of t);
-  onward = onward_does (lengths_of t) (code_of t);
-  finish = finish_does (lengths_of t) (code_of t);
-  call = λ scope layout f own a arrays at next. call_does (lengths_of t) (code_of t) scope layout f own a arrays at next t.procedures;
-  fork = λ scope layout f own a arrays at next. fork_does (lengths_of t) (code_of t) scope layout f own a arrays at next t.procedures;
-  each = each_does (lengths_of t) (code_of t);
-  entry = entry_does (lengths_of t) (code_of t);
-  halving = halving_does (lengths_of t) (code_of t);
+  let_ = let_does (lengths_of t.arrays) (code_of t);
+  assign = assign_does (lengths_of t.arrays) (code_of t);
+  put = put_does (lengths_of t.arrays) (code_of t);
+  test = test_does (lengths_of t.arrays) (code_of t);
+  split = split_does (lengths_of t.arrays) (code_of t);
+  give = give_does (lengths_of t.arrays) (code_of t);
+  onward = onward_does (lengths_of t.arrays) (code_of t);
+  finish = finish_does (lengths_of t.arrays) (code_of t);
+  call = λ scope layout f own a arrays at next. call_does (lengths_of t.arrays) (code_of t) scope layout f own a arrays at next t.procedures;
+  fork = λ scope layout f own a arrays at next. fork_does (lengths_of t.arrays) (code_of t) scope layout f own a arrays at next t.procedures;
+  each = each_does (lengths_of t.arrays) (code_of t);
+  entry = entry_does (lengths_of t.arrays) (code_of t);
+  halving = halving_does (lengths_of t.arrays) (code_of t);
 }
 
 module _ (t : ProgramTree) (within : IsWithin t) (admitted : IsAdmitted t) (bounds : IsWithinBounds t) (input : List NamedArray) (is : IsInputOf t input) where
@@ -84,7 +86,7 @@ module _ (t : ProgramTree) (within : IsWithin t) (admitted : IsAdmitted t) (boun
   a = words_of (words_in input)
 
   abbrev c_ : Code CodeFrame Outcome
-  c_ = strands (lengths_of t) (code_of t)
+  c_ = strands (lengths_of t.arrays) (code_of t)
 
   abbrev root : Tree CodeFrame Outcome
   root = Strand (at_work own (entry_of (code_of t) (number_of t.procedures main)))
@@ -93,16 +95,8 @@ module _ (t : ProgramTree) (within : IsWithin t) (admitted : IsAdmitted t) (boun
   same_strands : strands_of (code_of t) input ≡ c_
   same_strands = strands_are t input is
 
-  has_main : first_named (λ p. p.name.name) t.procedures main ≢ None
-  has_main =
-      let uses = Begins ∷ flat_map uses_of_main t.procedures ++ map Fills t.inputs in
-      let names = sites_of_names (map (λ a. a.name) t.arrays) ++ sites_of_names (map (λ p. p.name) t.procedures)
-      ++ sites_of_names (map (λ i. i.name) t.inputs) ++ flat_map (sites_of_procedure t) t.procedures in
-      (rules t admitted).main [] (Contains-append_right names (sites_at [] uses) (record { scope = []; made = Begins })
-      (contains_head (record { scope = []; made = Begins }) (sites_at [] (flat_map uses_of_main t.procedures ++ map Fills t.inputs))))
-
   body : HasBody t.procedures (code_of t) (number_of t.procedures main) p
-  body = facts.stands.each main has_main
+  body = facts.stands.each main (main_is t admitted)
 
   place : Place t (scope_of p) (parameter_layout p.parameters) (named_slots p) p.body (main_frame t.arrays p.parameters)
   place =
@@ -119,7 +113,7 @@ module _ (t : ProgramTree) (within : IsWithin t) (admitted : IsAdmitted t) (boun
         modest = modest.body;
       }
 
-  back : (k : Counts) (z : End ℤ) → Means Whole t (values_of input) k z → Returned (lengths_of t) (code_of t) (budget t k) root a z
+  back : (k : Counts) (z : End ℤ) → Means Whole t (values_of input) k z → Returned (lengths_of t.arrays) (code_of t) (budget t k) root a z
   back k z run = enters t (code_of t) facts run (number_of t.procedures main) own a place body (facts.fits main) (facts.modest main)
       (root_holds t input admitted is) (input_shown t input is)
 
@@ -127,7 +121,7 @@ module _ (t : ProgramTree) (within : IsWithin t) (admitted : IsAdmitted t) (boun
   abbrev End_ : Counts → End ℤ → Type 0
   End_ k z = (e : CapsuleEnd Outcome) × Ends c_ root a e × IsEndOf t input e k z
 
-  ends_by : (k : Counts) (z : End ℤ) → length (arrays_of z) ≡ length input → Returned (lengths_of t) (code_of t) (budget t k) root a z → End_ k z
+  ends_by : (k : Counts) (z : End ℤ) → length (arrays_of z) ≡ length input → Returned (lengths_of t.arrays) (code_of t) (budget t k) root a z → End_ k z
   ends_by k (Ended v arrays) count q =
       let m = q.made in
       let d : CapsuleEnd Outcome = record { outcome = Gave m.0; words = m.1; counts = nothing } in

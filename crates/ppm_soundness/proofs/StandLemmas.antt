@@ -24,7 +24,8 @@ use Rattle.ppm_translation.specs.Layout.{Layout, slot_of, caught}
 use Rattle.ppm_translation.specs.Statements.{Last, OnTo, Gives, with_lets, with_parts, hidden_layout}
 use Rattle.ppm_translation.specs.Standing.{HasBlock}
 use Rattle.ppm_translation.specs.Fits.{Has, IsKept, FitsBlock, FitsGive, layout_behind}
-use Rattle.ppm_soundness.proofs.OwnLemmas.{Label, region_word}
+use Rattle.ppm_translation.proofs.RegionWords.{lengths_of, region_word}
+use Rattle.ppm_soundness.proofs.OwnLemmas.{Label}
 
 -- the blocks of each `each` catch so few names that these and what else a hidden procedure loads have registers of their own
 abbrev mutual
@@ -181,7 +182,7 @@ module _ (t : ProgramTree) (code : CodeParts) where
 
   -- the slots hold the regions
   pub record Holds (v : Level) (own : FrameWord → ℕ) : Type 0 where
-    pub holds : (x : List ℕ) → IsSeen v.scope x → Has v.layout x → own (Slot (slot_of v.layout x)) ≡ region_word t.arrays (v.frame.regions x)
+    pub holds : (x : List ℕ) → IsSeen v.scope x → Has v.layout x → own (Slot (slot_of v.layout x)) ≡ region_word (lengths_of t.arrays) (v.frame.regions x)
 
   pub holds_on : (v : Level) (own new : FrameWord → ℕ) → IsSame v own new → Holds v own → Holds v new
   holds_on v own new s h = record { holds = λ x seen has. s.same x seen.declaration seen.found seen.region has ∙ h.holds x seen has }

@@ -38,6 +38,7 @@ use Rattle.ppm_translation.specs.Routines.{routine_code}
 use Rattle.ppm_translation.specs.Routines.{capsules_from, code_of}
 use Rattle.ppm_translation.specs.Fits.{FitsGive, FitsProcedure, layout_behind}
 use Rattle.ppm_translation.specs.Correct.{NamesHaveSlots, KeepsTheRules}
+use Rattle.ppm_translation.proofs.MainLemmas.{main_is}
 use Rattle.ppm_translation.proofs.PlaceLemmas.{past, past_map, routine_past, of_procedure, found_there, Listed, listed, listed_first, listed_second}
 use Rattle.ppm_translation.proofs.PlaceLemmas.{Stands}
 use Rattle.ppm_translation.proofs.PlaceLemmas.{stands_listed, ArePlaced, routines_placed, procedures_have}
@@ -208,13 +209,6 @@ module _ (t : ProgramTree) (admitted : IsAdmitted t) where
   abbrev outside : List Use
   outside = Begins ∷ flat_map uses_of_main t.procedures ++ map Fills t.inputs
 
-  -- there is a `main`
-  main_found : first_named (λ p. p.name.name) t.procedures (codes "main") ≢ None
-  main_found none =
-      right_at t (sites_at [] outside) (faultless_right t (array_sites ++ procedure_sites ++ input_sites ++ inside) (sites_at [] outside) admitted.faultless)
-      (record { scope = []; made = Begins }) (contains_map (λ u. record { scope = []; made = u }) Begins outside (contains_head Begins _))
-      (error.BadMain 0) (fault.NoMain (not_among (λ p. p.name.name) t.procedures (codes "main") none))
-
   behind_first : (site : Site) (more : List Site) → IsFaultless t (site ∷ more) → IsFaultless t more
   behind_first site more h = faultless_right t (site ∷ []) more h
 
@@ -271,7 +265,7 @@ module _ (t : ProgramTree) (admitted : IsAdmitted t) where
     keeps_all =
         let ps = t.procedures in
         let main = main_of t in
-        let root = (procedures_have t).each (codes "main") main_found in
+        let root = (procedures_have t).each (codes "main") (main_is t admitted) in
         let slots = root.slots in
         let arrays = length-map main.parameters (λ p. (whole_from 0 t.arrays p.name.name).array) in
         let procedures = procedures_count ps in
@@ -279,7 +273,7 @@ module _ (t : ProgramTree) (admitted : IsAdmitted t) where
         let limit = within.procedure_count in
         let bound = bounded.capsules in
         record {
-          root = callees (codes "main") main_found;
+          root = callees (codes "main") (main_is t admitted);
           root_slots = omega (arith, slots, arrays);
           arrays = All-from_recursion (λ a. a < array_limit) (code_of t).arrays (wholes_below t.arrays main.parameters within.array_count);
           procedures_most = omega (arith, procedures, limit);
