@@ -30,14 +30,14 @@ use Rattle.ppm_translation.specs.Statements.{Last, OnTo, Gives, with_lets, with_
 use Rattle.ppm_translation.proofs.CaughtLemmas.{each_once}
 use Rattle.ppm_translation.proofs.RegionWords.{lengths_of, offset_of}
 use Rattle.ppm_compiling.specs.Correct.{words_begun}
-use Rattle.ppm_compiling.proofs.ChainLemmas.{Cost, cost, Chain, chain_weaken, chain_under, chain_return}
+use Rattle.ppm_compiling.proofs.ChainLemmas.{Cost, cost, within_cost, Chain, chain_weaken, chain_under, chain_return}
 use Rattle.ppm_compiling.proofs.Holding.{CodeFrame, Shows, Holds, sweep_frame, which, at_work, waits, strands, CodeTree, Tested, Parted, Called, Forked}
 use Rattle.ppm_compiling.proofs.Doing.{InHand, AreSmall}
 use Rattle.ppm_compiling.proofs.ExprLemmas.{array_within}
 use Rattle.ppm_compiling.proofs.Places.{Place, modest_inner, holds_place, else_place, each_few, lies}
-use Rattle.ppm_compiling.proofs.Given.{IsModestProcedure, Given, words_of, budget}
+use Rattle.ppm_compiling.proofs.Given.{IsModestProcedure, Given, words_of, words_both, budget}
 use Rattle.ppm_compiling.proofs.SmallLemmas.{small_let, small_assign, small_put, small_if, small_split, small_call, small_fork}
-use Rattle.ppm_compiling.proofs.SweepLemmas.{end_stands, once_distinct, over_of, HasLocals, Leaves, leaves_locals, swept as swept_all}
+use Rattle.ppm_compiling.proofs.SweepLemmas.{end_stands, over_of, HasLocals, Leaves, leaves_locals, swept as swept_all}
 use Rattle.ppm_compiling.proofs.ReachLemmas.{Reached, Returned, chain_reaches, reaches_on, chain_returns, call_reaches, fork_reaches, reaches_front}
 use Rattle.ppm_compiling.proofs.ReachLemmas.{reaches_same, reaches_whole, lies_at_end, lies_locals}
 
@@ -80,11 +80,8 @@ module _ (t : ProgramTree) (code : CodeParts) (facts : Given t code) where
   abbrev pub ps : List Procedure
   ps = t.procedures
 
-  abbrev pub c_ : Code CodeFrame Outcome
-  c_ = strands lens code
-
-  pub words_both : (j k : Counts) → words_of t (both j k) ≡ words_of t j + words_of t k
-  words_both j k = sum_by-append (words_begun ps) j.begun k.begun
+  abbrev pub here : Code CodeFrame Outcome
+  here = strands lens code
 
   pub in_hand : (scope : Scope) (layout : Layout) (spare : ℕ) (b : Block) (f : Frame) (own : FrameWord → ℕ) (a : Words) (arrays : Arrays) → Place t scope layout spare b f
       → Holds lens scope layout f own → Shows lens a arrays → InHand lens code scope layout f own a arrays
@@ -119,7 +116,7 @@ module _ (t : ProgramTree) (code : CodeParts) (facts : Given t code) where
 
   -- a block goes on at its end
   pub goes_onward : (b : Block) (spare : ℕ) (layout : Layout) (at h next : ℕ) → HasBlock ps code spare layout at h (OnTo next) b → (own : FrameWord → ℕ) (a : Words)
-      → Chain c_ (cost 1 1 0 0) (Strand (at_work own (end_of b at))) a (Strand (at_work own next)) a
+      → Chain here (cost 1 1 0 0) (Strand (at_work own (end_of b at))) a (Strand (at_work own next)) a
   goes_onward b spare layout at h next has own a =
       facts.does.onward [] layout (record { regions = λ x. record { array = 0; start = 0; length = 0 }; locals = λ x. pos 0 }) own a [] (end_of b at) next
       (end_stands t code b spare layout at h (OnTo next) has)
@@ -173,7 +170,7 @@ module _ (t : ProgramTree) (code : CodeParts) (facts : Given t code) where
 
   -- the frame goes on behind its `each`
   pub each_reaches : (scope : Scope) (layout : Layout) (f : Frame) (own : FrameWord → ℕ) (next : ℕ) (u : CodeTree lens code) (a b : Words) (k : Cost) (y : End Locals)
-      → HasLocals f y → Holds lens scope layout f own → Shows lens b (arrays_of y) → Chain c_ k u a (Over (over_of y)) b
+      → HasLocals f y → Holds lens scope layout f own → Shows lens b (arrays_of y) → Chain here k u a (Over (over_of y)) b
       → Reached lens code scope layout f k (Calling (waits own next None None) u) a next y
   each_reaches scope layout f own next u a b k (Ended l arrays) same held shows chain =
       let g = waits own next None None in record {
@@ -182,12 +179,12 @@ module _ (t : ProgramTree) (code : CodeParts) (facts : Given t code) where
           b,
           subst (λ (l : Locals). Holds lens scope layout (with_locals f l) own) (sym same) (record { local = held.local; region = held.region; value = held.value }),
           shows,
-          chain_return c_ g (Gave 0) (Strand (at_work own next)) refl (chain_under c_ g chain),
+          chain_return here g (Gave 0) (Strand (at_work own next)) refl (chain_under here g chain),
         );
       }
   each_reaches scope layout f own next u a b k (Trapped stop arrays) same held shows chain =
       let g = waits own next None None in record {
-        made = (b, shows, chain_return c_ g (TrappedAt stop.0 stop.1) (Over (TrappedAt stop.0 stop.1)) refl (chain_under c_ g chain));
+        made = (b, shows, chain_return here g (TrappedAt stop.0 stop.1) (Over (TrappedAt stop.0 stop.1)) refl (chain_under here g chain));
       }
 
   -- a `give` forks nothing and begins nothing
@@ -210,12 +207,7 @@ module _ (t : ProgramTree) (code : CodeParts) (facts : Given t code) where
     made = (
       m.0,
       m.1,
-      chain_weaken c_ (record {
-        least = omega arith;
-        most = omega arith;
-        forks = omega arith;
-        words = let w1 = words_both (spent 1) (both j none) in let w2 = words_both j none in omega (arith, w1, w2);
-      }) m.2,
+      chain_weaken here (within_cost (omega arith) (omega arith) (omega arith) (let w1 = words_both t (spent 1) (both j none) in let w2 = words_both t j none in omega (arith, w1, w2))) m.2,
     );
   }
   gives p f (Ended l arrays) j q own a place has fits modest reached =
@@ -237,14 +229,9 @@ module _ (t : ProgramTree) (code : CodeParts) (facts : Given t code) where
       let back : Returned lens code (cost 1 1 0 0) (Strand (at_work m.0 at)) m.1 (given p.give f (Ended l arrays)) =
       subst (λ (z : End ℤ). Returned lens code (cost 1 1 0 0) (Strand (at_work m.0 at)) m.1 z) (given_same p.give f l arrays) (record { made = gift }) in
       let free = turn_free p.give (Ended l arrays) in
-      let w1 = words_both (spent 1) (both j turn) in
-      let w2 = words_both j turn in
-      chain_returns lens code (given p.give f (Ended l arrays)) m.4 back (record {
-        least = omega arith;
-        most = omega arith;
-        forks = omega (arith, free.0);
-        words = omega (arith, free.1, w1, w2);
-      })
+      let w1 = words_both t (spent 1) (both j turn) in
+      let w2 = words_both t j turn in
+      chain_returns lens code (given p.give f (Ended l arrays)) m.4 back (within_cost (omega arith) (omega arith) (omega (arith, free.0)) (omega (arith, free.1, w1, w2)))
 
   -- the frame of one element, by its region
   pub element_front : (f : Frame) (q r : Region) (n : ℕ) (i x : Named) → q ≡ r → with_element f q n i x ≡ sweep_frame f r n 1 i x
@@ -257,8 +244,8 @@ module _ (t : ProgramTree) (code : CodeParts) (facts : Given t code) where
     from_here = Strand (at_work own at)
 
     -- behind the statement, in front of the rest
-    abbrev pub Done_ : Statement → Cost → End Locals → Type 0
-    Done_ s k y = Reached lens code (scope ++ lets_of s) (with_lets layout s) f k (Strand (at_work own at)) a (behind s at) y
+    abbrev pub Made : Statement → Cost → End Locals → Type 0
+    Made s k y = Reached lens code (scope ++ lets_of s) (with_lets layout s) f k (Strand (at_work own at)) a (behind s at) y
 
     abbrev pub Here : Statement → Type 0
     Here s = Place t scope layout spare (Then s b) f
@@ -266,19 +253,19 @@ module _ (t : ProgramTree) (code : CodeParts) (facts : Given t code) where
     abbrev pub Stands : Statement → Type 0
     Stands s = HasBlock ps code spare layout at h last (Then s b)
 
-    pub let_made : (x : Named) (e : Expression) → Here (Let x e) → Stands (Let x e) → Done_ (Let x e) (cost 1 1 0 0) (assigned x e f arrays)
+    pub let_made : (x : Named) (e : Expression) → Here (Let x e) → Stands (Let x e) → Made (Let x e) (cost 1 1 0 0) (assigned x e f arrays)
     let_made x e place has = record {
-      made = facts.does.let_ scope layout f own a arrays at (suc at) x e (in_hand scope layout spare (Then (Let x e) b) f own a arrays place held shows) has.0
+      made = facts.does.declare scope layout f own a arrays at (suc at) x e (in_hand scope layout spare (Then (Let x e) b) f own a arrays place held shows) has.0
           place.fits.0.0 (small_let x e (small_first (Let x e) b place)) place.fits.0.1 place.fits.0.2;
     }
 
-    pub assign_made : (x : Named) (e : Expression) → Here (Assign x e) → Stands (Assign x e) → Done_ (Assign x e) (cost 1 2 0 0) (assigned x e f arrays)
+    pub assign_made : (x : Named) (e : Expression) → Here (Assign x e) → Stands (Assign x e) → Made (Assign x e) (cost 1 2 0 0) (assigned x e f arrays)
     assign_made x e place has = reaches_same lens code (assigned x e f arrays) (record {
       made = facts.does.assign scope layout f own a arrays at (suc (suc at)) spare x e (in_hand scope layout spare (Then (Assign x e) b) f own a arrays place held shows)
           (omega (arith, place.room)) has.0.0 has.0.1 place.fits.0.0 place.fits.0.1 (small_assign x e (small_first (Assign x e) b place));
     })
 
-    pub put_made : (x : Named) (i e : Expression) → Here (Put x i e) → Stands (Put x i e) → Done_ (Put x i e) (cost 1 2 0 0) (stored x i e f arrays)
+    pub put_made : (x : Named) (i e : Expression) → Here (Put x i e) → Stands (Put x i e) → Made (Put x i e) (cost 1 2 0 0) (stored x i e f arrays)
     put_made x i e place has = reaches_same lens code (stored x i e f arrays) (record {
       made = facts.does.put scope layout f own a arrays at (suc (suc at)) spare x i e (in_hand scope layout spare (Then (Put x i e) b) f own a arrays place held shows)
           (omega (arith, place.room)) has.0.0 has.0.1 place.fits.0.0 place.fits.0.1 place.fits.0.2 (small_put x i e (small_first (Put x i e) b place));
@@ -294,28 +281,18 @@ module _ (t : ProgramTree) (code : CodeParts) (facts : Given t code) where
         place.fits.0.0 (small_if e s u (small_first (If e s u) b place)))
 
     pub if_made : (e : Expression) (s u : Block) (c : Bool) (j : Counts) (y : End Locals) → Stands (If e s u)
-        → Chain c_ (cost 1 1 0 0) (Strand (at_work own at)) a (Strand (at_work own (which c (suc at) (suc (end_of s (suc at)))))) a
+        → Chain here (cost 1 1 0 0) (Strand (at_work own at)) a (Strand (at_work own (which c (suc at) (suc (end_of s (suc at)))))) a
         → Reached lens code (scope_behind scope (chosen c s u)) (layout_behind layout (chosen c s u)) f (budget t j)
         (Strand (at_work own (which c (suc at) (suc (end_of s (suc at)))))) a (end_of (chosen c s u) (which c (suc at) (suc (end_of s (suc at))))) y
-        → Done_ (If e s u) (cost 1 (2 * j.turns + 2) j.forks (words_of t j)) y
+        → Made (If e s u) (cost 1 (2 * j.turns + 2) j.forks (words_of t j)) y
     if_made e s u c j y has test body =
         let first = suc (end_of s (suc at)) in
         let next = suc (end_of u first) in
         let from = which c (suc at) first in
         let on = reaches_on lens code {total = cost 0 (2 * j.turns + 1) j.forks (words_of t j)} (end_of (chosen c s u) from) next y
         (goes_onward (chosen c s u) spare layout from (chosen_hidden c s h) next (chosen_has c spare layout at h e s u has.0))
-        (reaches_front lens code (chosen c s u) y body) (record {
-          least = omega arith;
-          most = omega arith;
-          forks = omega arith;
-          words = omega arith;
-        }) in
-        reaches_same lens code y (chain_reaches lens code {total = cost 1 (2 * j.turns + 2) j.forks (words_of t j)} y test on (record {
-          least = omega arith;
-          most = omega arith;
-          forks = omega arith;
-          words = omega arith;
-        }))
+        (reaches_front lens code (chosen c s u) y body) (within_cost (omega arith) (omega arith) (omega arith) (omega arith)) in
+        reaches_same lens code y (chain_reaches lens code {total = cost 1 (2 * j.turns + 2) j.forks (words_of t j)} y test on (within_cost (omega arith) (omega arith) (omega arith) (omega arith)))
 
     -- a call: the callee's frame, and then the callee
     pub call_tried : (s : Side) → Here (tree.Call s) → Stands (tree.Call s) → (r : Result Frame TrapAt) → entered ps f arrays s ≡ r
@@ -331,7 +308,7 @@ module _ (t : ProgramTree) (code : CodeParts) (facts : Given t code) where
     pub record CallBegun (s : Side) (g : Frame) : Type 0 where
       pub callee_own : FrameWord → ℕ
       pub callee_holds : Holds lens (scope_of (procedure_named ps s.callee.name)) (parameter_layout (procedure_named ps s.callee.name).parameters) g callee_own
-      pub chain : Chain c_ (cost 1 1 0 (frame_words (procedure_slots (procedure_named ps s.callee.name)))) (Strand (at_work own at)) a
+      pub chain : Chain here (cost 1 1 0 (frame_words (procedure_slots (procedure_named ps s.callee.name)))) (Strand (at_work own at)) a
           (Calling (waits own (suc at) None (target_of layout s.target)) (Strand (at_work callee_own (entry_of code (number_of ps s.callee.name))))) a
 
     pub call_begun : (s : Side) (g : Frame) → Here (tree.Call s) → Stands (tree.Call s) → entered ps f arrays s ≡ Ok g → CallBegun s g
@@ -340,22 +317,17 @@ module _ (t : ProgramTree) (code : CodeParts) (facts : Given t code) where
         let words = frame_words (procedure_slots (procedure_named ps s.callee.name)) in record {
           callee_own = q.1.own;
           callee_holds = q.1.holds;
-          chain = subst (λ (c : CodeFrame). Chain c_ (cost 1 1 0 words) (Strand (at_work own at)) a (Calling (waits own (suc at) None (target_of layout s.target)) (Strand c)) a) q.1.at q.2;
+          chain = subst (λ (c : CodeFrame). Chain here (cost 1 1 0 words) (Strand (at_work own at)) a (Calling (waits own (suc at) None (target_of layout s.target)) (Strand c)) a) q.1.at q.2;
         }
 
     pub call_made : (s : Side) (g : Frame) (j : Counts) (y : End ℤ) → Here (tree.Call s) → (q : CallBegun s g)
         → Returned lens code (budget t j) (Strand (at_work q.callee_own (entry_of code (number_of ps s.callee.name)))) a y
-        → Done_ (tree.Call s) (cost 1 (2 * j.turns + 1) j.forks (frame_words (procedure_slots (procedure_named ps s.callee.name)) + words_of t j)) (returned s.target f y)
+        → Made (tree.Call s) (cost 1 (2 * j.turns + 1) j.forks (frame_words (procedure_slots (procedure_named ps s.callee.name)) + words_of t j)) (returned s.target f y)
     call_made s g j y place q back =
         let words = frame_words (procedure_slots (procedure_named ps s.callee.name)) in
         reaches_same lens code (returned s.target f y)
         (chain_reaches lens code {total = cost 1 (2 * j.turns + 1) j.forks (words + words_of t j)} (returned s.target f y) q.chain
-        (call_reaches lens code own s.target (suc at) y place.fits.0.target held back) (record {
-          least = omega arith;
-          most = omega arith;
-          forks = omega arith;
-          words = omega arith;
-        }))
+        (call_reaches lens code own s.target (suc at) y place.fits.0.target held back) (within_cost (omega arith) (omega arith) (omega arith) (omega arith)))
 
     -- a fork: the frames of both branches, and then these
     abbrev pub forking_words : Side → Side → ℕ
@@ -376,7 +348,7 @@ module _ (t : ProgramTree) (code : CodeParts) (facts : Given t code) where
       pub right_own : FrameWord → ℕ
       pub left_holds : Holds lens (scope_of (procedure_named ps s.callee.name)) (parameter_layout (procedure_named ps s.callee.name).parameters) g left_own
       pub right_holds : Holds lens (scope_of (procedure_named ps u.callee.name)) (parameter_layout (procedure_named ps u.callee.name).parameters) g' right_own
-      pub chain : Chain c_ (cost 1 1 1 (forking_words s u)) (Strand (at_work own at)) a
+      pub chain : Chain here (cost 1 1 1 (forking_words s u)) (Strand (at_work own at)) a
           (Forking (waits own (suc at) (target_of layout s.target) (target_of layout u.target)) (Strand (at_work left_own (entry_of code (number_of ps s.callee.name))))
           (Strand (at_work right_own (entry_of code (number_of ps u.callee.name))))) a
 
@@ -387,14 +359,14 @@ module _ (t : ProgramTree) (code : CodeParts) (facts : Given t code) where
           right_own = q.3.own;
           left_holds = q.2.holds;
           right_holds = q.3.holds;
-          chain = subst₂ (λ (c d : CodeFrame). Chain c_ (cost 1 1 1 (forking_words s u)) (Strand (at_work own at)) a
+          chain = subst₂ (λ (c d : CodeFrame). Chain here (cost 1 1 1 (forking_words s u)) (Strand (at_work own at)) a
               (Forking (waits own (suc at) (target_of layout s.target) (target_of layout u.target)) (Strand c) (Strand d)) a) q.2.at q.3.at q.4;
         }
 
     pub fork_made : (s u : Side) (g g' : Frame) (i j : Counts) (x y : End ℤ) → Here (tree.Fork s u) → (q : ForkBegun s u g g')
         → Returned lens code (budget t i) (Strand (at_work q.left_own (entry_of code (number_of ps s.callee.name)))) a x
         → ((c : Words) → Shows lens c (arrays_of x) → Returned lens code (budget t j) (Strand (at_work q.right_own (entry_of code (number_of ps u.callee.name)))) c y)
-        → Done_ (tree.Fork s u) (cost 1 (2 * i.turns + 2 * j.turns + 1) (i.forks + j.forks + 1) (forking_words s u + words_of t i + words_of t j))
+        → Made (tree.Fork s u) (cost 1 (2 * i.turns + 2 * j.turns + 1) (i.forks + j.forks + 1) (forking_words s u + words_of t i + words_of t j))
         (joined s.target u.target f x y)
     fork_made s u g g' i j x y place q back more =
         let sides = place.fits.0 in
@@ -403,12 +375,7 @@ module _ (t : ProgramTree) (code : CodeParts) (facts : Given t code) where
         let joins = fork_reaches lens code own s.target u.target left right (suc at) x y sides.0.target sides.1.target held back more in
         reaches_same lens code (joined s.target u.target f x y)
         (chain_reaches lens code {total = cost 1 (2 * i.turns + 2 * j.turns + 1) (i.forks + j.forks + 1) (forking_words s u + words_of t i + words_of t j)}
-        (joined s.target u.target f x y) q.chain joins (record {
-          least = omega arith;
-          most = omega arith;
-          forks = omega arith;
-          words = omega arith;
-        }))
+        (joined s.target u.target f x y) q.chain joins (within_cost (omega arith) (omega arith) (omega arith) (omega arith)))
 
     -- a split, and then its block
     pub split_tried : (line : ℕ) (r : Named) (e : Expression) (x y : Named) (s : Block) → Here (Split line r e x y s) → Stands (Split line r e x y s)
@@ -421,33 +388,23 @@ module _ (t : ProgramTree) (code : CodeParts) (facts : Given t code) where
         fits.0 fits.1 (small_split line r e x y s (small_first (Split line r e x y s) b place)) fits.2 fits.3 fits.4 fits.5 fits.6)
 
     pub split_made : (line : ℕ) (r : Named) (e : Expression) (x y : Named) (s : Block) (n : ℕ) (j : Counts) (u : End Locals) (own' : FrameWord → ℕ)
-        → Here (Split line r e x y s) → Stands (Split line r e x y s) → Chain c_ (cost 1 1 0 0) (Strand (at_work own at)) a (Strand (at_work own' (suc at))) a
+        → Here (Split line r e x y s) → Stands (Split line r e x y s) → Chain here (cost 1 1 0 0) (Strand (at_work own at)) a (Strand (at_work own' (suc at))) a
         → Reached lens code (scope_behind (split_scope scope r x y) s) (layout_behind (with_parts layout x y) s) (parts_frame f (f.regions r.name) n x y) (budget t j)
         (Strand (at_work own' (suc at))) a (end_of s (suc at)) u
-        → Done_ (Split line r e x y s) (cost 1 (2 * j.turns + 2) j.forks (words_of t j)) u
+        → Made (Split line r e x y s) (cost 1 (2 * j.turns + 2) j.forks (words_of t j)) u
     split_made line r e x y s n j u own' place has parted body =
         let next = suc (end_of s (suc at)) in
         let fits = place.fits.0 in
         let whole : Reached lens code scope layout f (budget t j) (Strand (at_work own' (suc at))) a (end_of s (suc at)) u =
         reaches_whole lens code r x y n u fits.5 fits.6 (reaches_front lens code s u body) in
         let on : Reached lens code scope layout f (cost 0 (2 * j.turns + 1) j.forks (words_of t j)) (Strand (at_work own' (suc at))) a next u =
-        reaches_on lens code (end_of s (suc at)) next u (goes_onward s spare (with_parts layout x y) (suc at) h next has.0.1) whole (record {
-          least = omega arith;
-          most = omega arith;
-          forks = omega arith;
-          words = omega arith;
-        }) in
-        reaches_same lens code u (chain_reaches lens code {total = cost 1 (2 * j.turns + 2) j.forks (words_of t j)} u parted on (record {
-          least = omega arith;
-          most = omega arith;
-          forks = omega arith;
-          words = omega arith;
-        }))
+        reaches_on lens code (end_of s (suc at)) next u (goes_onward s spare (with_parts layout x y) (suc at) h next has.0.1) whole (within_cost (omega arith) (omega arith) (omega arith) (omega arith)) in
+        reaches_same lens code u (chain_reaches lens code {total = cost 1 (2 * j.turns + 2) j.forks (words_of t j)} u parted on (within_cost (omega arith) (omega arith) (omega arith) (omega arith)))
 
     -- an `each`, and then the blocks of its elements
     module _ (i x r : Named) (s : Block) (place : Here (Each i x r s)) (has : Stands (Each i x r s)) where
-      abbrev pub slots_ : ℕ
-      slots_ = hidden_slots (length (caught layout s)) s
+      abbrev pub slots : ℕ
+      slots = hidden_slots (length (caught layout s)) s
 
       abbrev pub elements : ℕ
       elements = (f.regions r.name).length
@@ -458,14 +415,14 @@ module _ (t : ProgramTree) (code : CodeParts) (facts : Given t code) where
 
       pub each_begun : (own' : FrameWord → ℕ)
           × Holds lens (each_scope scope r i x) (hidden_layout layout i x s) (sweep_frame f (f.regions r.name) 0 elements i x) own'
-          × Chain c_ (cost 1 1 0 (frame_words slots_)) (Strand (at_work own at)) a (Calling (waits own (suc at) None None) (Strand (at_work own' (entry_of code h)))) a
+          × Chain here (cost 1 1 0 (frame_words slots)) (Strand (at_work own at)) a (Calling (waits own (suc at) None None) (Strand (at_work own' (entry_of code h)))) a
       each_begun =
           let fits = place.fits.0 in
           facts.does.each scope layout f own a arrays at (suc at) i x r s h (in_hand scope layout spare (Then (Each i x r s) b) f own a arrays place held shows) has.0.0
-          fits.0 fits.1 fits.2 fits.3 fits.4 fits.5 (once_distinct layout place.once) (each_few t scope layout spare i x r s b f place)
+          fits.0 fits.3 fits.4 fits.5 (each_few t scope layout spare i x r s b f place)
 
       pub each_made : (j : Counts) (y : End Locals) → AreLeaves 0 elements arrays j y
-          → Done_ (Each i x r s) (cost 1 (2 * j.turns + 2) (elements - 1 + j.forks) (frame_words slots_ + ((elements - 1) * fork_words slots_ slots_ + words_of t j))) y
+          → Made (Each i x r s) (cost 1 (2 * j.turns + 2) (elements - 1 + j.forks) (frame_words slots + ((elements - 1) * fork_words slots slots + words_of t j))) y
       each_made j y leaves =
           let fits = place.fits.0 in
           let few = each_few t scope layout spare i x r s b f place in
@@ -473,15 +430,10 @@ module _ (t : ProgramTree) (code : CodeParts) (facts : Given t code) where
           let to = each_begun in
           let all = swept_all t code facts spare scope layout at h f i x r s has.0 fits place.once few inside elements 0 arrays to.0 a (omega arith) leaves to.1 shows in
           let forks = elements - 1 + j.forks in
-          let words = (elements - 1) * fork_words slots_ slots_ + words_of t j in
+          let words = (elements - 1) * fork_words slots slots + words_of t j in
           let on = each_reaches scope layout f own (suc at) (Strand (at_work to.0 (entry_of code h))) a all.behind (cost 1 (2 * j.turns + 1) forks words) y
           (leaves_locals t code facts spare scope layout at h f i x r s has.0 fits place.once few inside leaves) held all.shows all.chain in
-          reaches_same lens code y (chain_reaches lens code {total = cost 1 (2 * j.turns + 2) forks (frame_words slots_ + words)} y to.2 on (record {
-            least = omega arith;
-            most = omega arith;
-            forks = omega arith;
-            words = omega arith;
-          }))
+          reaches_same lens code y (chain_reaches lens code {total = cost 1 (2 * j.turns + 2) forks (frame_words slots + words)} y to.2 on (within_cost (omega arith) (omega arith) (omega arith) (omega arith)))
 
   -- one turn of a loop: the test, the block, and back
   pub loop_tested : (scope : Scope) (layout : Layout) (spare at h : ℕ) (e : Expression) (s : Block) (f : Frame) (own : FrameWord → ℕ) (a : Words) (arrays : Arrays)
@@ -494,20 +446,10 @@ module _ (t : ProgramTree) (code : CodeParts) (facts : Given t code) where
       (facts.does.test scope layout f own a arrays at next (suc at) e (loop_hand scope layout spare s f own a arrays place held shows) has.0 fits small)
 
   pub turn_made : (scope : Scope) (layout : Layout) (spare at h : ℕ) (e : Expression) (s : Block) (f : Frame) (own : FrameWord → ℕ) (a : Words) (j : Counts) (y : End Locals)
-      → HasStatement ps code spare layout at h (While e s) → Chain c_ (cost 1 1 0 0) (Strand (at_work own at)) a (Strand (at_work own (suc at))) a
+      → HasStatement ps code spare layout at h (While e s) → Chain here (cost 1 1 0 0) (Strand (at_work own at)) a (Strand (at_work own (suc at))) a
       → Reached lens code (scope_behind scope s) (layout_behind layout s) f (budget t j) (Strand (at_work own (suc at))) a (end_of s (suc at)) y
       → Reached lens code scope layout f (cost 1 (2 * j.turns + 2) j.forks (words_of t j)) (Strand (at_work own at)) a at y
   turn_made scope layout spare at h e s f own a j y has test body =
       let on = reaches_on lens code {total = cost 0 (2 * j.turns + 1) j.forks (words_of t j)} (end_of s (suc at)) at y (goes_onward s spare layout (suc at) h at has.1)
-      (reaches_front lens code s y body) (record {
-        least = omega arith;
-        most = omega arith;
-        forks = omega arith;
-        words = omega arith;
-      }) in
-      chain_reaches lens code y test on (record {
-        least = omega arith;
-        most = omega arith;
-        forks = omega arith;
-        words = omega arith;
-      })
+      (reaches_front lens code s y body) (within_cost (omega arith) (omega arith) (omega arith) (omega arith)) in
+      chain_reaches lens code y test on (within_cost (omega arith) (omega arith) (omega arith) (omega arith))

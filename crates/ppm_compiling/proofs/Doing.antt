@@ -112,8 +112,7 @@ module _ (lengths : List ℕ) (code : CodeParts) where
     abbrev pub EachDoes : Type 0
     EachDoes = (i x r : Named) (block : Block) (h : ℕ) → InHand scope layout f own a arrays
         → instrs_of code at ≡ each_code layout r block h next → IsRegion scope layout r
-        → IsNew layout i.name → IsNew layout x.name → i.name ≢ x.name → declared scope i.name ≡ None → declared scope x.name ≡ None
-        → IsDistinctLayout layout → length (caught layout block) ≤ 24
+        → i.name ≢ x.name → declared scope i.name ≡ None → declared scope x.name ≡ None → length (caught layout block) ≤ 24
         → (own' : FrameWord → ℕ)
         × Holds lengths (each_scope scope r i x) (hidden_layout layout i x block) (sweep_frame f (f.regions r.name) 0 (f.regions r.name).length i x) own'
         × Chain (strands lengths code) (cost 1 1 0 (frame_words (hidden_slots (length (caught layout block)) block))) (Strand (at_work own at)) a
@@ -126,8 +125,7 @@ module _ (lengths : List ℕ) (code : CodeParts) where
     Entered (suc (suc m)) = Chain (strands lengths code) (cost 1 1 0 0) (Strand (at_work own at)) a (Strand (at_work own (halving at))) a
 
     abbrev pub EntryDoes : Type 0
-    EntryDoes = (q : Region) (n m : ℕ) → instrs_of code at ≡ entry_code at → own (Slot 0) ≡ region_word lengths (stretch n m q) → m ≤ 4194304
-        → own Value ≡ 0 → Entered m
+    EntryDoes = (start m : ℕ) → instrs_of code at ≡ entry_code at → own (Slot 0) ≡ start * 2 ^ 32 + m → m ≤ 4194304 → own Value ≡ 0 → Entered m
 
     -- it halves what it has in hand; `at` is where it was entered, and the scope and layout are those around the `each`
     abbrev pub HalvingDoes : Type 0
@@ -135,9 +133,8 @@ module _ (lengths : List ℕ) (code : CodeParts) where
         → instrs_of code (halving at) ≡ halving_code at h (hidden_slots (length (caught layout block)) block) (length (caught layout block)) r.line
         → slots_of code h ≡ hidden_slots (length (caught layout block)) block → at ≡ entry_of code h
         → Holds lengths (each_scope scope r i x) (hidden_layout layout i x block) (sweep_frame f q n m i x) own
-        → IsNew layout i.name → IsNew layout x.name → i.name ≢ x.name → declared scope i.name ≡ None → declared scope x.name ≡ None
-        → IsDistinctLayout layout → length (caught layout block) ≤ 24
-        → region_word lengths (stretch n m q) ≤ 4194304 * 2 ^ 32 + 4194304 → n + m ≤ 4194304 → 2 ≤ m
+        → i.name ≢ x.name → declared scope i.name ≡ None → declared scope x.name ≡ None → length (caught layout block) ≤ 24
+        → region_word lengths (stretch n m q) ≤ 4194304 * 2 ^ 32 + 4194304 → n + m ≤ 4194304
         → (left right : FrameWord → ℕ)
         × Holds lengths (each_scope scope r i x) (hidden_layout layout i x block) (sweep_frame f q n (m / 2) i x) left
         × Holds lengths (each_scope scope r i x) (hidden_layout layout i x block) (sweep_frame f q (n + m / 2) (m - m / 2) i x) right

@@ -25,13 +25,13 @@ use Rattle.ppm_translation.specs.Slots.{named_slots, procedure_slots, hidden_nam
 use Rattle.ppm_translation.specs.Standing.{HasStatement, HasBlock, HasBody}
 use Rattle.ppm_translation.specs.Statements.{Last, OnTo, Gives, with_lets, with_parts, hidden_layout, number_of}
 use Rattle.ppm_translation.proofs.RegionWords.{lengths_of}
-use Rattle.ppm_compiling.proofs.ChainLemmas.{Cost, cost, both_costs, IsWithinCost, Chain, chain_none, chain_weaken}
+use Rattle.ppm_compiling.proofs.ChainLemmas.{Cost, cost, both_costs, IsWithinCost, within_cost, Chain, chain_none, chain_weaken}
 use Rattle.ppm_compiling.proofs.Holding.{CodeFrame, Shows, Holds, which, at_work, strands, CodeTree}
 use Rattle.ppm_compiling.proofs.Doing.{AreSmall}
 use Rattle.ppm_compiling.proofs.Places.{Place, behind_place, while_place, split_place, each_place, each_few}
-use Rattle.ppm_compiling.proofs.Given.{IsModestProcedure, Given, words_of, budget}
+use Rattle.ppm_compiling.proofs.Given.{IsModestProcedure, Given, words_of, words_both, budget}
 use Rattle.ppm_compiling.proofs.SmallLemmas.{small_while}
-use Rattle.ppm_compiling.proofs.Constructs.{not_plain, split_low, words_both, small_first, chosen_hidden, chosen_place, chosen_has, callee_place, each_inside, each_words, gives, element_front}
+use Rattle.ppm_compiling.proofs.Constructs.{not_plain, split_low, small_first, chosen_hidden, chosen_place, chosen_has, callee_place, each_inside, each_words, gives, element_front}
 use Rattle.ppm_compiling.proofs.Constructs.{let_made, assign_made, put_made, if_tested, if_made, call_tried, call_begun, call_made, fork_tried, fork_begun, fork_made}
 use Rattle.ppm_compiling.proofs.Constructs.{split_tried, split_made, each_made, loop_tested, turn_made}
 use Rattle.ppm_compiling.proofs.SweepLemmas.{Leaves, NoLeaf, Leaf}
@@ -45,14 +45,14 @@ module _ (t : ProgramTree) (code : CodeParts) (facts : Given t code) where
   abbrev ps : List Procedure
   ps = t.procedures
 
-  abbrev c_ : Code CodeFrame Outcome
-  c_ = strands lens code
+  abbrev here : Code CodeFrame Outcome
+  here = strands lens code
 
   -- a trap at the first capsule of a statement
   trapped : {scope : Scope} {layout : Layout} {f : Frame} {own : FrameWord → ℕ} {at next : ℕ} {j k : Cost} (a : Words) (arrays : Arrays) (stop : TrapAt) → Shows lens a arrays
-      → Chain c_ j (Strand (at_work own at)) a (Over (TrappedAt stop.0 stop.1)) a → IsWithinCost j k
+      → Chain here j (Strand (at_work own at)) a (Over (TrappedAt stop.0 stop.1)) a → IsWithinCost j k
       → Reached lens code scope layout f k (Strand (at_work own at)) a next (Trapped stop arrays)
-  trapped a arrays stop shows q w = record { made = (a, shows, chain_weaken c_ w q) }
+  trapped a arrays stop shows q w = record { made = (a, shows, chain_weaken here w q) }
 
   mutual
     pub runs : {b : Block} {f : Frame} {arrays : Arrays} {k : Counts} {z : End Locals} → Runs Whole ps b f arrays k z
@@ -65,95 +65,50 @@ module _ (t : ProgramTree) (code : CodeParts) (facts : Given t code) where
         a,
         record { local = held.local; region = held.region; value = held.value },
         shows,
-        chain_weaken c_ (record {
-          least = omega arith;
-          most = omega arith;
-          forks = omega arith;
-          words = omega (arith);
-        }) (chain_none c_ (Strand (at_work own at)) a),
+        chain_weaken here (within_cost (omega arith) (omega arith) (omega arith) (omega arith)) (chain_none here (Strand (at_work own at)) a),
       );
     }
     runs (Lets x e b f arrays {k = k} w) scope layout spare at h last own a place has held shows =
         follows w (Let x e) scope layout spare at h last (Strand (at_work own at)) a (cost 1 1 0 0) (budget t (both (spent 1) k)) place has.1
-        (let_made t code facts scope layout spare at h last b f own a arrays held shows x e place has) (record {
-          least = omega arith;
-          most = omega arith;
-          forks = omega arith;
-          words = omega (arith);
-        })
+        (let_made t code facts scope layout spare at h last b f own a arrays held shows x e place has) (within_cost (omega arith) (omega arith) (omega arith) (omega arith))
     runs (Assigns x e b f arrays {k = k} w) scope layout spare at h last own a place has held shows =
         follows w (Assign x e) scope layout spare at h last (Strand (at_work own at)) a (cost 1 2 0 0) (budget t (both (spent 1) k)) place has.1
-        (assign_made t code facts scope layout spare at h last b f own a arrays held shows x e place has) (record {
-          least = omega arith;
-          most = omega arith;
-          forks = omega arith;
-          words = omega (arith);
-        })
+        (assign_made t code facts scope layout spare at h last b f own a arrays held shows x e place has) (within_cost (omega arith) (omega arith) (omega arith) (omega arith))
     runs (Puts x i e b f arrays {k = k} w) scope layout spare at h last own a place has held shows =
         follows w (Put x i e) scope layout spare at h last (Strand (at_work own at)) a (cost 1 2 0 0) (budget t (both (spent 1) k)) place has.1
-        (put_made t code facts scope layout spare at h last b f own a arrays held shows x i e place has) (record {
-          least = omega arith;
-          most = omega arith;
-          forks = omega arith;
-          words = omega (arith);
-        })
+        (put_made t code facts scope layout spare at h last b f own a arrays held shows x i e place has) (within_cost (omega arith) (omega arith) (omega arith) (omega arith))
     runs (Ifs e s u b f arrays v {j = j} {k = k} {y = y} is inner w) scope layout spare at h last own a place has held shows =
         let first = suc (end_of s (suc at)) in
         let c = holds v in
         let test = if_tested t code facts scope layout spare at h last b f own a arrays held shows e s u place has (Ok v) is in
         let body = runs inner scope layout spare (which c (suc at) first) (chosen_hidden t code facts c s h) (OnTo (suc (end_of u first))) own a
         (chosen_place t code facts c scope layout spare e s u b f place) (chosen_has t code facts c spare layout at h e s u has.0) held shows in
-        let w1 = words_both t code facts (spent 1) (both j k) in
-        let w2 = words_both t code facts j k in
+        let w1 = words_both t (spent 1) (both j k) in
+        let w2 = words_both t j k in
         follows w (If e s u) scope layout spare at h last (Strand (at_work own at)) a (cost 1 (2 * j.turns + 2) j.forks (words_of t j))
         (budget t (both (spent 1) (both j k))) place has.1
-        (if_made t code facts scope layout spare at h last b f own a arrays held shows e s u c j y has test body) (record {
-          least = omega arith;
-          most = omega arith;
-          forks = omega arith;
-          words = omega (arith, w1, w2);
-        })
+        (if_made t code facts scope layout spare at h last b f own a arrays held shows e s u c j y has test body) (within_cost (omega arith) (omega arith) (omega arith) (omega (arith, w1, w2)))
     runs (IfTraps e s u b f arrays stop is) scope layout spare at h last own a place has held shows =
-        trapped a arrays stop shows (if_tested t code facts scope layout spare at h last b f own a arrays held shows e s u place has (Err stop) is) (record {
-          least = omega arith;
-          most = omega arith;
-          forks = omega arith;
-          words = omega (arith);
-        })
+        trapped a arrays stop shows (if_tested t code facts scope layout spare at h last b f own a arrays held shows e s u place has (Err stop) is) (within_cost (omega arith) (omega arith) (omega arith) (omega arith))
     runs (Whiles e s b f arrays {j = j} {k = k} {y = y} l w) scope layout spare at h last own a place has held shows =
         let small = small_while e s (small_first t code facts (While e s) b place) in
         let q = loops l scope layout spare at h own a (λ l. while_place t scope layout spare e s b f l place) place.fits.0.0 small has.0 held shows in
-        let w1 = words_both t code facts (spent 1) (both j k) in
-        let w2 = words_both t code facts j k in
+        let w1 = words_both t (spent 1) (both j k) in
+        let w2 = words_both t j k in
         follows w (While e s) scope layout spare at h last (Strand (at_work own at)) a (cost 1 (2 * j.turns) j.forks (words_of t j)) (budget t (both (spent 1) (both j k))) place has.1
-        (reaches_same lens code y q) (record {
-          least = omega arith;
-          most = omega arith;
-          forks = omega arith;
-          words = omega (arith, w1, w2);
-        })
+        (reaches_same lens code y q) (within_cost (omega arith) (omega arith) (omega arith) (omega (arith, w1, w2)))
     runs (Calls s b f g arrays {j = j} {k = k} {y = y} is enter w) scope layout spare at h last own a place has held shows =
         let x = s.callee.name in
         let q = call_begun t code facts scope layout spare at h last b f own a arrays held shows s g place has is in
         let inner = callee_place t code facts s g (InCall place.p place.g scope s b f g arrays is place.comes) in
         let back = enters enter (number_of ps x) q.callee_own a inner (facts.stands.each x place.fits.0.callee) (facts.fits x) (facts.modest x) q.callee_holds shows in
-        let w1 = words_both t code facts (began (run.Call x)) (both j k) in
-        let w2 = words_both t code facts j k in
+        let w1 = words_both t (began (run.Call x)) (both j k) in
+        let w2 = words_both t j k in
         follows w (tree.Call s) scope layout spare at h last (Strand (at_work own at)) a
         (cost 1 (2 * j.turns + 1) j.forks (frame_words (procedure_slots (procedure_named ps x)) + words_of t j)) (budget t (both (began (run.Call x)) (both j k))) place has.1
-        (call_made t code facts scope layout spare at h last b f own a arrays held shows s g j y place q back) (record {
-          least = omega arith;
-          most = omega arith;
-          forks = omega arith;
-          words = omega (arith, w1, w2);
-        })
+        (call_made t code facts scope layout spare at h last b f own a arrays held shows s g j y place q back) (within_cost (omega arith) (omega arith) (omega arith) (omega (arith, w1, w2)))
     runs (CallTraps s b f arrays stop is) scope layout spare at h last own a place has held shows =
-        trapped a arrays stop shows (call_tried t code facts scope layout spare at h last b f own a arrays held shows s place has (Err stop) is) (record {
-          least = omega arith;
-          most = omega arith;
-          forks = omega arith;
-          words = omega (arith);
-        })
+        trapped a arrays stop shows (call_tried t code facts scope layout spare at h last b f own a arrays held shows s place has (Err stop) is) (within_cost (omega arith) (omega arith) (omega arith) (omega arith))
     runs (Forks s u b f g g' arrays {i = i} {j = j} {k = k} {x = x} {y = y} is l on r w) scope layout spare at h last own a place has held shows =
         let m = s.callee.name in
         let n = u.callee.name in
@@ -165,64 +120,39 @@ module _ (t : ProgramTree) (code : CodeParts) (facts : Given t code) where
         let more : (c : Words) → Shows lens c (arrays_of x) → Returned lens code (budget t j) (Strand (at_work q.right_own (entry_of code (number_of ps n)))) c y =
         λ c shown. enters r (number_of ps n) q.right_own c second (facts.stands.each n sides.1.callee) (facts.fits n) (facts.modest n) q.right_holds shown in
         let words = fork_words (procedure_slots (procedure_named ps m)) (procedure_slots (procedure_named ps n)) in
-        let w1 = words_both t code facts (forked s u) (both i (both j k)) in
-        let w2 = words_both t code facts i (both j k) in
-        let w3 = words_both t code facts j k in
+        let w1 = words_both t (forked s u) (both i (both j k)) in
+        let w2 = words_both t i (both j k) in
+        let w3 = words_both t j k in
         follows w (tree.Fork s u) scope layout spare at h last (Strand (at_work own at)) a
         (cost 1 (2 * i.turns + 2 * j.turns + 1) (i.forks + j.forks + 1) (words + words_of t i + words_of t j))
         (budget t (both (forked s u) (both i (both j k)))) place has.1
-        (fork_made t code facts scope layout spare at h last b f own a arrays held shows s u g g' i j x y place q back more) (record {
-          least = omega arith;
-          most = omega arith;
-          forks = omega arith;
-          words = omega (arith, w1, w2, w3);
-        })
+        (fork_made t code facts scope layout spare at h last b f own a arrays held shows s u g g' i j x y place q back more) (within_cost (omega arith) (omega arith) (omega arith) (omega (arith, w1, w2, w3)))
     runs (ForkStops s u b f g g' arrays c stop is plain l) scope layout spare at h last own a place has held shows = absurd (not_plain plain)
     runs (ForkTraps s u b f arrays stop is) scope layout spare at h last own a place has held shows =
-        trapped a arrays stop shows (fork_tried t code facts scope layout spare at h last b f own a arrays held shows s u place has (Err stop) is) (record {
-          least = omega arith;
-          most = omega arith;
-          forks = omega arith;
-          words = omega (arith);
-        })
+        trapped a arrays stop shows (fork_tried t code facts scope layout spare at h last b f own a arrays held shows s u place has (Err stop) is) (within_cost (omega arith) (omega arith) (omega arith) (omega arith))
     runs (Splits line r e x y s b f arrays n {j = j} {k = k} {u = u} is inner w) scope layout spare at h last own a place has held shows =
         let next = suc (end_of s (suc at)) in
         let q = split_tried t code facts scope layout spare at h last b f own a arrays held shows line r e x y s place has (Ok n) is in
         let inside = split_place t scope layout spare line r e x y s b f n (split_low line (f.regions r.name) (evaluate f arrays e) n is) place in
         let body = runs inner (split_scope scope r x y) (with_parts layout x y) spare (suc at) h (OnTo next) q.0 a inside has.0.1 q.1 shows in
-        let w1 = words_both t code facts (spent 1) (both j k) in
-        let w2 = words_both t code facts j k in
+        let w1 = words_both t (spent 1) (both j k) in
+        let w2 = words_both t j k in
         follows w (Split line r e x y s) scope layout spare at h last (Strand (at_work own at)) a (cost 1 (2 * j.turns + 2) j.forks (words_of t j))
         (budget t (both (spent 1) (both j k))) place has.1
-        (split_made t code facts scope layout spare at h last b f own a arrays held shows line r e x y s n j u q.0 place has q.2 body) (record {
-          least = omega arith;
-          most = omega arith;
-          forks = omega arith;
-          words = omega (arith, w1, w2);
-        })
+        (split_made t code facts scope layout spare at h last b f own a arrays held shows line r e x y s n j u q.0 place has q.2 body) (within_cost (omega arith) (omega arith) (omega arith) (omega (arith, w1, w2)))
     runs (SplitTraps line r e x y s b f arrays stop is) scope layout spare at h last own a place has held shows =
-        trapped a arrays stop shows (split_tried t code facts scope layout spare at h last b f own a arrays held shows line r e x y s place has (Err stop) is) (record {
-          least = omega arith;
-          most = omega arith;
-          forks = omega arith;
-          words = omega (arith);
-        })
+        trapped a arrays stop shows (split_tried t code facts scope layout spare at h last b f own a arrays held shows line r e x y s place has (Err stop) is) (within_cost (omega arith) (omega arith) (omega arith) (omega arith))
     runs (Eaches i x r s b f arrays {j = j} {k = k} {y = y} d w) scope layout spare at h last own a place has held shows =
         let m = (f.regions r.name).length in
         let leaves = sweeps d scope layout spare at h r b place has.0 refl (omega arith) in
         let slots = hidden_slots (length (caught layout s)) s in
         let words = (m - 1) * fork_words slots slots + words_of t j in
-        let w1 = words_both t code facts (swept i x r s m) (both j k) in
-        let w2 = words_both t code facts j k in
+        let w1 = words_both t (swept i x r s m) (both j k) in
+        let w2 = words_both t j k in
         let w3 = each_words t code facts scope layout spare i x r s b f m place in
         follows w (Each i x r s) scope layout spare at h last (Strand (at_work own at)) a (cost 1 (2 * j.turns + 2) (m - 1 + j.forks) (frame_words slots + words))
         (budget t (both (swept i x r s m) (both j k))) place has.1
-        (each_made t code facts scope layout spare at h last b f own a arrays held shows i x r s place has j y leaves) (record {
-          least = omega arith;
-          most = omega arith;
-          forks = omega arith;
-          words = omega (arith, w1, w2, w3);
-        })
+        (each_made t code facts scope layout spare at h last b f own a arrays held shows i x r s place has j y leaves) (within_cost (omega arith) (omega arith) (omega arith) (omega (arith, w1, w2, w3)))
 
     -- what stands behind a statement that has been run
     pub follows : {b : Block} {f : Frame} {k : Counts} {y z : End Locals} → Follows Whole ps b f y k z → (s : Statement)
@@ -240,12 +170,7 @@ module _ (t : ProgramTree) (code : CodeParts) (facts : Given t code) where
           made = (
             m.0,
             m.1,
-            chain_weaken c_ (record {
-              least = omega (arith, w.least);
-              most = omega (arith, w.most);
-              forks = omega (arith, w.forks);
-              words = omega (arith, w.words);
-            }) m.2,
+            chain_weaken here (within_cost (omega (arith, w.least)) (omega (arith, w.most)) (omega (arith, w.forks)) (omega (arith, w.words))) m.2,
           );
         }
 
@@ -258,58 +183,38 @@ module _ (t : ProgramTree) (code : CodeParts) (facts : Given t code) where
     loops (TestFails e s f arrays v is fails) scope layout spare at h own a place fits small has held shows =
         let next = suc (end_of s (suc at)) in
         let test = loop_tested t code facts scope layout spare at h e s f own a arrays place fits small has held shows (Ok v) is in
-        let to = subst (λ (c : Bool). Chain c_ (cost 1 1 0 0) (Strand (at_work own at)) a (Strand (at_work own (which c (suc at) next))) a) fails test in record {
+        let to = subst (λ (c : Bool). Chain here (cost 1 1 0 0) (Strand (at_work own at)) a (Strand (at_work own (which c (suc at) next))) a) fails test in record {
           made = (
             own,
             a,
             record { local = held.local; region = held.region; value = held.value },
             shows,
-            chain_weaken c_ (record {
-              least = omega arith;
-              most = omega arith;
-              forks = omega arith;
-              words = omega (arith);
-            }) to,
+            chain_weaken here (within_cost (omega arith) (omega arith) (omega arith) (omega arith)) to,
           );
         }
     loops (TestTraps e s f arrays stop is) scope layout spare at h own a place fits small has held shows =
-        trapped a arrays stop shows (loop_tested t code facts scope layout spare at h e s f own a arrays place fits small has held shows (Err stop) is) (record {
-          least = omega arith;
-          most = omega arith;
-          forks = omega arith;
-          words = omega (arith);
-        })
+        trapped a arrays stop shows (loop_tested t code facts scope layout spare at h e s f own a arrays place fits small has held shows (Err stop) is) (within_cost (omega arith) (omega arith) (omega arith) (omega arith))
     loops (Turns e s f arrays b v l {j = j} {k = k} {z = z} is passes r more) scope layout spare at h own a place fits small has held shows =
         let next = suc (end_of s (suc at)) in
         let test = loop_tested t code facts scope layout spare at h e s f own a arrays place fits small has held shows (Ok v) is in
-        let to = subst (λ (c : Bool). Chain c_ (cost 1 1 0 0) (Strand (at_work own at)) a (Strand (at_work own (which c (suc at) next))) a) passes test in
+        let to = subst (λ (c : Bool). Chain here (cost 1 1 0 0) (Strand (at_work own at)) a (Strand (at_work own (which c (suc at) next))) a) passes test in
         let body = runs r scope layout spare (suc at) h (OnTo at) own a (place f.locals) has.1 held shows in
         let m = (turn_made t code facts scope layout spare at h e s f own a j (Ended l b) has to body).made in
         let rest = loops more scope layout spare at h m.0 m.1 place fits small has m.2 m.3 in
-        let w1 = words_both t code facts (spent 1) (both j k) in
-        let w2 = words_both t code facts j k in
-        reaches_locals lens code f l z (chain_reaches lens code z m.4 rest (record {
-          least = omega arith;
-          most = omega arith;
-          forks = omega arith;
-          words = omega (arith, w1, w2);
-        }))
+        let w1 = words_both t (spent 1) (both j k) in
+        let w2 = words_both t j k in
+        reaches_locals lens code f l z (chain_reaches lens code z m.4 rest (within_cost (omega arith) (omega arith) (omega arith) (omega (arith, w1, w2))))
     loops (TurnTraps e s f arrays b v stop {j = j} is passes r) scope layout spare at h own a place fits small has held shows =
         let next = suc (end_of s (suc at)) in
         let test = loop_tested t code facts scope layout spare at h e s f own a arrays place fits small has held shows (Ok v) is in
-        let to = subst (λ (c : Bool). Chain c_ (cost 1 1 0 0) (Strand (at_work own at)) a (Strand (at_work own (which c (suc at) next))) a) passes test in
+        let to = subst (λ (c : Bool). Chain here (cost 1 1 0 0) (Strand (at_work own at)) a (Strand (at_work own (which c (suc at) next))) a) passes test in
         let body = runs r scope layout spare (suc at) h (OnTo at) own a (place f.locals) has.1 held shows in
         let m = (turn_made t code facts scope layout spare at h e s f own a j (Trapped stop b) has to body).made in
-        let w1 = words_both t code facts (spent 1) j in record {
+        let w1 = words_both t (spent 1) j in record {
           made = (
             m.0,
             m.1,
-            chain_weaken c_ (record {
-              least = omega arith;
-              most = omega arith;
-              forks = omega arith;
-              words = omega (arith, w1);
-            }) m.2,
+            chain_weaken here (within_cost (omega arith) (omega arith) (omega arith) (omega (arith, w1))) m.2,
           );
         }
 

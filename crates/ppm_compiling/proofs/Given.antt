@@ -1,8 +1,9 @@
 -- What the simulation stands on: what each construct's capsules do, and that the code and the names of a program are as they are to be.
-use Rattle.std.proofs.Common.{◌≡◌, ◌≤◌, ℕ, ◌*◌, List, [], ◌∷◌, Some, length}
+use Rattle.std.proofs.Common.{◌≡◌, ◌≤◌, ℕ, ◌+◌, ◌*◌, List, [], ◌∷◌, Some, length}
 use Rattle.std.specs.List.{sum, sum_by}
 use Rattle.std.specs.Set.{distinct_count}
 use Rattle.std.specs.Str.{bytes_eq}
+use Rattle.std.proofs.lemmas.List.Sums.{sum_by-append}
 use Rattle.ppm_strands.specs.Tree.{Words}
 use Rattle.ppm_code.specs.declared.code.CodeParts.{CodeParts}
 use Rattle.ppm_code.specs.declared.location.FrameWord.{FrameWord}
@@ -10,7 +11,7 @@ use Rattle.ppm_tree.specs.declared.named.Named.{Named}
 use Rattle.ppm_tree.specs.Tree.{Block, Give, Procedure, ProgramTree}
 use Rattle.ppm_tree.specs.Parts.{nodes}
 use Rattle.ppm_tree.specs.State.{Frame, Arrays, procedure_named}
-use Rattle.ppm_tree.specs.Meaning.{Counts}
+use Rattle.ppm_tree.specs.Meaning.{Counts, both}
 use Rattle.ppm_regions.specs.Scope.{Scope, each_scope}
 use Rattle.ppm_regions.specs.Admission.{IsAdmitted}
 use Rattle.ppm_bounds.specs.Names.{without, free_names}
@@ -32,7 +33,7 @@ module _ (lengths : List ℕ) (code : CodeParts) where
 
   -- all constructs
   pub record AllDo (procedures : List Procedure) : Type 0 where
-    pub let_ : Everywhere (LetDoes lengths code)
+    pub declare : Everywhere (LetDoes lengths code)
     pub assign : Everywhere (AssignDoes lengths code)
     pub put : Everywhere (PutDoes lengths code)
     pub test : Everywhere (TestDoes lengths code)
@@ -67,6 +68,9 @@ pub record Given (t : ProgramTree) (code : CodeParts) : Type 0 where
 -- what a stretch may cost: two capsules a turn, its forks, and the words of the frames that it begins
 abbrev pub words_of : ProgramTree → Counts → ℕ
 words_of t k = sum_by (words_begun t.procedures) k.begun
+
+pub words_both : (t : ProgramTree) (j k : Counts) → words_of t (both j k) ≡ words_of t j + words_of t k
+words_both t j k = sum_by-append (words_begun t.procedures) j.begun k.begun
 
 abbrev pub budget : ProgramTree → Counts → Cost
 budget t k = cost 0 (2 * k.turns) k.forks (words_of t k)

@@ -83,11 +83,11 @@ module _ (lengths : List ℕ) (a : Words) (arrays : Arrays) (shows : Shows lengt
       ∙ get_or-set_same (array_at arrays n) j v (pos 0) (omega (arith, shows.shape n, low))
 
   pub shows_put : Shows lengths (with_shared a address w) changed
-  shows_put = record { shape = λ k. put_lengths arrays n j v k ∙ shows.shape k; word = word_ }
+  shows_put = record { shape = λ k. put_lengths arrays n j v k ∙ shows.shape k; word = held_word }
     where
-      word_ : (k i : ℕ) → i < get_or lengths k 0
+      held_word : (k i : ℕ) → i < get_or lengths k 0
           → HoldsValue (with_shared a address w (offset_of lengths k + i)) (get_or (array_at changed k) i (pos 0))
-      word_ k i below = elim (cases_eq (offset_of lengths k + i) address) [
+      held_word k i below = elim (cases_eq (offset_of lengths k + i) address) [
         | inl e ↦
             let one = one_address lengths k n i j below low e in
             subst₂ HoldsValue (sym (cond-true (offset_of lengths k + i == address) w (a (offset_of lengths k + i))
@@ -192,8 +192,8 @@ module _ (lengths : List ℕ) (code : CodeParts) (scope : Scope) (layout : Layou
       abbrev from : FrameWord → ℕ
       from = filled (word_of j) (word_of v)
 
-      abbrev then_ : Memory Where
-      then_ = start_at lengths code from (suc at) a
+      abbrev at_second : Memory Where
+      at_second = start_at lengths code from (suc at) a
 
       abbrev load : Instr
       load = instr.LoadSlot (register 0) (slot_of layout x.name)
@@ -261,12 +261,12 @@ module _ (lengths : List ℕ) (code : CodeParts) (scope : Scope) (layout : Layou
           ∙ ap₂ (λ (q w : ℕ). at_element x.line (element_of W q w) step) at_region at_place
           ∙ element_acts lengths r placed x.line (word_of j) j step is_index
 
-      loaded : Goes (capsule_of W (put_code layout spare x next)) then_ (capsule_from W (0 + 1 + 1 + 1) 0 (put ∷ onward next) h) then_
+      loaded : Goes (capsule_of W (put_code layout spare x next)) at_second (capsule_from W (0 + 1 + 1 + 1) 0 (put ∷ onward next) h) at_second
       loaded =
           goes_on (loads W 0 load (load_index ∷ load_value ∷ put ∷ onward next) zeros (OwnWord (Slot (slot_of layout x.name)))
-          (register 0) then_ refl)
-          (goes_on (loads W (0 + 1) load_index (load_value ∷ put ∷ onward next) g (OwnWord (Slot spare)) (register 1) then_ refl)
-          (loads W (0 + 1 + 1) load_value (put ∷ onward next) g' (OwnWord (Slot (suc spare))) (register 2) then_ refl))
+          (register 0) at_second refl)
+          (goes_on (loads W (0 + 1) load_index (load_value ∷ put ∷ onward next) g (OwnWord (Slot spare)) (register 1) at_second refl)
+          (loads W (0 + 1 + 1) load_value (put ∷ onward next) g' (OwnWord (Slot (suc spare))) (register 2) at_second refl))
 
       put_reaches : Reaches lengths code scope layout f (cost 1 1 0 0) (Strand (at_work from (suc at))) a next
           (behind_put (placed_value v (index_in x.line r j)))
@@ -278,9 +278,9 @@ module _ (lengths : List ℕ) (code : CodeParts) (scope : Scope) (layout : Layou
           by (Ok k) e =
               let y = offset_of lengths r.array + (r.start + k) in
               let below = index_below x.line r j k e in
-              let m = store code_locations then_ (Shared y) (word_of v) in
+              let m = store code_locations at_second (Shared y) (word_of v) in
               let goes = goes_on loaded (goes_on
-              (stores W (0 + 1 + 1 + 1) put (onward next) h (Array y) (word_of v) then_ (act ∙ ap (at_index lengths r placed step) e))
+              (stores W (0 + 1 + 1 + 1) put (onward next) h (Array y) (word_of v) at_second (act ∙ ap (at_index lengths r placed step) e))
               (onward_goes W (0 + 1 + 1 + 1 + 1) next h m)) in (
                 from,
                 with_shared a y (word_of v),
@@ -289,12 +289,12 @@ module _ (lengths : List ℕ) (code : CodeParts) (scope : Scope) (layout : Layou
                 whole lengths code (suc at) (put_code layout spare x next) stands from a (ends.Next next) m 0 goes.ends goes.left goes.asks,
               )
           by (Err stop) e =
-              let goes = goes_on loaded (goes_equal _ _ then_
+              let goes = goes_on loaded (goes_equal _ _ at_second
               (stops W (0 + 1 + 1 + 1) put (onward next) h (ends.Trap stop.0 stop.1) (act ∙ ap (at_index lengths r placed step) e))) in (
                 a,
                 hand.shows,
                 whole lengths code (suc at) (put_code layout spare x next) stands from a
-                    (ends.Trap stop.0 stop.1) then_ 0 goes.ends goes.left goes.asks,
+                    (ends.Trap stop.0 stop.1) at_second 0 goes.ends goes.left goes.asks,
               )
 
     -- both capsules

@@ -13,13 +13,13 @@ use Rattle.ppm_owning.proofs.ScopeLemmas.{seen_before}
 use Rattle.ppm_translation.specs.Layout.{Layout, target_of}
 use Rattle.ppm_translation.specs.Fits.{FitsTarget, layout_behind}
 use Rattle.ppm_translation.specs.Statements.{with_lets, with_parts}
-use Rattle.ppm_compiling.proofs.ChainLemmas.{Cost, cost, both_costs, IsWithinCost, Chain, chain_then, chain_weaken, chain_under, chain_left, chain_right, chain_return, chain_join}
+use Rattle.ppm_compiling.proofs.ChainLemmas.{Cost, cost, both_costs, IsWithinCost, within_cost, Chain, chain_then, chain_weaken, chain_under, chain_left, chain_right, chain_return, chain_join}
 use Rattle.ppm_compiling.proofs.Holding.{CodeFrame, Lies, Shows, Holds, at_work, waits, strands, CodeTree, Reaches, Returns}
 use Rattle.ppm_compiling.proofs.HoldLemmas.{holds_before, holds_whole, holds_delivered}
 
 module _ (lengths : List ℕ) (code : CodeParts) where
-  abbrev c_ : Code CodeFrame Outcome
-  c_ = strands lengths code
+  abbrev here : Code CodeFrame Outcome
+  here = strands lengths code
 
   -- a stretch and a procedure that have been run, as records
   pub record Reached (scope : Scope) (layout : Layout) (f : Frame) (k : Cost) (t : CodeTree lengths code) (a : Words) (next : ℕ) (z : End Locals) : Type 0 where
@@ -30,18 +30,18 @@ module _ (lengths : List ℕ) (code : CodeParts) where
 
   -- a stretch behind a chain
   pub chain_reaches : {scope : Scope} {layout : Layout} {f : Frame} {j k total : Cost} {t u : CodeTree lengths code} {a b : Words} {next : ℕ} (z : End Locals)
-      → Chain c_ j t a u b → Reached scope layout f k u b next z → IsWithinCost (both_costs j k) total → Reached scope layout f total t a next z
-  chain_reaches (Ended l arrays) p q w = let m = q.made in record { made = (m.0, m.1, m.2, m.3, chain_weaken c_ w (chain_then c_ p m.4)) }
-  chain_reaches (Trapped stop arrays) p q w = let m = q.made in record { made = (m.0, m.1, chain_weaken c_ w (chain_then c_ p m.2)) }
+      → Chain here j t a u b → Reached scope layout f k u b next z → IsWithinCost (both_costs j k) total → Reached scope layout f total t a next z
+  chain_reaches (Ended l arrays) p q w = let m = q.made in record { made = (m.0, m.1, m.2, m.3, chain_weaken here w (chain_then here p m.4)) }
+  chain_reaches (Trapped stop arrays) p q w = let m = q.made in record { made = (m.0, m.1, chain_weaken here w (chain_then here p m.2)) }
 
   pub reaches_more : {scope : Scope} {layout : Layout} {f : Frame} {k total : Cost} {t : CodeTree lengths code} {a : Words} {next : ℕ} (z : End Locals)
       → Reached scope layout f k t a next z → IsWithinCost k total → Reached scope layout f total t a next z
-  reaches_more (Ended l arrays) q w = let m = q.made in record { made = (m.0, m.1, m.2, m.3, chain_weaken c_ w m.4) }
-  reaches_more (Trapped stop arrays) q w = let m = q.made in record { made = (m.0, m.1, chain_weaken c_ w m.2) }
+  reaches_more (Ended l arrays) q w = let m = q.made in record { made = (m.0, m.1, m.2, m.3, chain_weaken here w m.4) }
+  reaches_more (Trapped stop arrays) q w = let m = q.made in record { made = (m.0, m.1, chain_weaken here w m.2) }
 
   -- a capsule that only goes on, behind a stretch that ended; behind a trap it isn't run
   pub reaches_on : {scope : Scope} {layout : Layout} {f : Frame} {k total : Cost} {t : CodeTree lengths code} {a : Words} (at next : ℕ) (z : End Locals)
-      → ((own : FrameWord → ℕ) (b : Words) → Chain c_ (cost 1 1 0 0) (Strand (at_work own at)) b (Strand (at_work own next)) b)
+      → ((own : FrameWord → ℕ) (b : Words) → Chain here (cost 1 1 0 0) (Strand (at_work own at)) b (Strand (at_work own next)) b)
       → Reached scope layout f k t a at z → IsWithinCost (both_costs k (cost 0 1 0 0)) total → Reached scope layout f total t a next z
   reaches_on at next (Ended l arrays) go q w = let m = q.made in record {
     made = (
@@ -49,38 +49,28 @@ module _ (lengths : List ℕ) (code : CodeParts) where
       m.1,
       m.2,
       m.3,
-      chain_weaken c_ (record {
-        least = omega (arith, w.least);
-        most = omega (arith, w.most);
-        forks = omega (arith, w.forks);
-        words = omega (arith, w.words);
-      }) (chain_then c_ m.4 (go m.0 m.1)),
+      chain_weaken here (within_cost (omega (arith, w.least)) (omega (arith, w.most)) (omega (arith, w.forks)) (omega (arith, w.words))) (chain_then here m.4 (go m.0 m.1)),
     );
   }
   reaches_on at next (Trapped stop arrays) go q w = let m = q.made in record {
     made = (
       m.0,
       m.1,
-      chain_weaken c_ (record {
-        least = omega (arith, w.least);
-        most = omega (arith, w.most);
-        forks = omega (arith, w.forks);
-        words = omega (arith, w.words);
-      }) m.2,
+      chain_weaken here (within_cost (omega (arith, w.least)) (omega (arith, w.most)) (omega (arith, w.forks)) (omega (arith, w.words))) m.2,
     );
   }
 
-  pub chain_returns : {j k total : Cost} {t u : CodeTree lengths code} {a b : Words} (z : End ℤ) → Chain c_ j t a u b → Returned k u b z
+  pub chain_returns : {j k total : Cost} {t u : CodeTree lengths code} {a b : Words} (z : End ℤ) → Chain here j t a u b → Returned k u b z
       → IsWithinCost (both_costs j k) total → Returned total t a z
-  chain_returns (Ended v arrays) p q w = let m = q.made in record { made = (m.0, m.1, m.2, m.3, chain_weaken c_ w (chain_then c_ p m.4)) }
-  chain_returns (Trapped stop arrays) p q w = let m = q.made in record { made = (m.0, m.1, chain_weaken c_ w (chain_then c_ p m.2)) }
+  chain_returns (Ended v arrays) p q w = let m = q.made in record { made = (m.0, m.1, m.2, m.3, chain_weaken here w (chain_then here p m.4)) }
+  chain_returns (Trapped stop arrays) p q w = let m = q.made in record { made = (m.0, m.1, chain_weaken here w (chain_then here p m.2)) }
 
   -- a procedure that has been run is over
   pub record IsOver (k : Cost) (t : CodeTree lengths code) (a : Words) (arrays : Arrays) : Type 0 where
     pub outcome : Outcome
     pub behind : Words
     pub shows : Shows lengths behind arrays
-    pub chain : Chain c_ k t a (Over outcome) behind
+    pub chain : Chain here k t a (Over outcome) behind
 
   pub returned_over : {k : Cost} {t : CodeTree lengths code} {a : Words} (z : End ℤ) → Returned k t a z → IsOver k t a (arrays_of z)
   returned_over (Ended v arrays) q = let m = q.made in record { outcome = Gave m.0; behind = m.1; shows = m.3; chain = m.4 }
@@ -111,7 +101,7 @@ module _ (lengths : List ℕ) (code : CodeParts) where
           m.1,
           as_locals f x v (holds_delivered lengths scope layout f own x m.0 v fits m.2 holds),
           m.3,
-          chain_return c_ g (Gave m.0) (Strand (at_work (with_value (target_of layout x) m.0 own) next)) refl (chain_under c_ g m.4),
+          chain_return here g (Gave m.0) (Strand (at_work (with_value (target_of layout x) m.0 own) next)) refl (chain_under here g m.4),
         );
       }
   call_reaches {layout = layout} own x next (Trapped stop arrays) fits holds q =
@@ -120,7 +110,7 @@ module _ (lengths : List ℕ) (code : CodeParts) where
         made = (
           m.0,
           m.1,
-          chain_return c_ g (TrappedAt stop.0 stop.1) (Over (TrappedAt stop.0 stop.1)) refl (chain_under c_ g m.2),
+          chain_return here g (TrappedAt stop.0 stop.1) (Over (TrappedAt stop.0 stop.1)) refl (chain_under here g m.2),
         );
       }
 
@@ -139,8 +129,8 @@ module _ (lengths : List ℕ) (code : CodeParts) where
           both_locals f x y m n (holds_delivered lengths scope layout (delivered x m f) (with_value (target_of layout x) q.0 own) y r.0 n fits_y r.2
               (holds_delivered lengths scope layout f own x q.0 m fits_x q.2 holds)),
           r.3,
-          chain_join c_ g (Gave q.0) (Gave r.0) (Strand (at_work (with_value (target_of layout y) r.0 (with_value (target_of layout x) q.0 own)) next)) refl
-              (chain_then c_ (chain_left c_ g right q.4) (chain_right c_ g (Gave q.0) r.4)),
+          chain_join here g (Gave q.0) (Gave r.0) (Strand (at_work (with_value (target_of layout y) r.0 (with_value (target_of layout x) q.0 own)) next)) refl
+              (chain_then here (chain_left here g right q.4) (chain_right here g (Gave q.0) r.4)),
         );
       }
   fork_reaches {layout = layout} own x y left right next (Ended m arrays) (Trapped stop arrays') fits_x fits_y holds p more =
@@ -150,8 +140,8 @@ module _ (lengths : List ℕ) (code : CodeParts) where
         made = (
           r.0,
           r.1,
-          chain_join c_ g (Gave q.0) (TrappedAt stop.0 stop.1) (Over (TrappedAt stop.0 stop.1)) refl
-              (chain_then c_ (chain_left c_ g right q.4) (chain_right c_ g (Gave q.0) r.2)),
+          chain_join here g (Gave q.0) (TrappedAt stop.0 stop.1) (Over (TrappedAt stop.0 stop.1)) refl
+              (chain_then here (chain_left here g right q.4) (chain_right here g (Gave q.0) r.2)),
         );
       }
   fork_reaches {layout = layout} own x y left right next (Trapped stop arrays) (Ended n arrays') fits_x fits_y holds p more =
@@ -161,8 +151,8 @@ module _ (lengths : List ℕ) (code : CodeParts) where
         made = (
           r.1,
           r.3,
-          chain_join c_ g (TrappedAt stop.0 stop.1) (Gave r.0) (Over (TrappedAt stop.0 stop.1)) refl
-              (chain_then c_ (chain_left c_ g right q.2) (chain_right c_ g (TrappedAt stop.0 stop.1) r.4)),
+          chain_join here g (TrappedAt stop.0 stop.1) (Gave r.0) (Over (TrappedAt stop.0 stop.1)) refl
+              (chain_then here (chain_left here g right q.2) (chain_right here g (TrappedAt stop.0 stop.1) r.4)),
         );
       }
   fork_reaches {layout = layout} own x y left right next (Trapped stop arrays) (Trapped stop' arrays') fits_x fits_y holds p more =
@@ -172,8 +162,8 @@ module _ (lengths : List ℕ) (code : CodeParts) where
         made = (
           r.0,
           r.1,
-          chain_join c_ g (TrappedAt stop.0 stop.1) (TrappedAt stop'.0 stop'.1) (Over (TrappedAt stop.0 stop.1)) refl
-              (chain_then c_ (chain_left c_ g right q.2) (chain_right c_ g (TrappedAt stop.0 stop.1) r.2)),
+          chain_join here g (TrappedAt stop.0 stop.1) (TrappedAt stop'.0 stop'.1) (Over (TrappedAt stop.0 stop.1)) refl
+              (chain_then here (chain_left here g right q.2) (chain_right here g (TrappedAt stop.0 stop.1) r.2)),
         );
       }
 

@@ -163,7 +163,7 @@ module _ (lengths : List ℕ) (scope : Scope) (layout : Layout) (f : Frame) (i x
     -- its halves catch what it has caught
     pub half_catches : (n m : ℕ) (own own' : FrameWord → ℕ) → Holds lengths inner hidden (sweep_frame f q n m i x) own
         → ((k : ℕ) → k < length names → own' (Slot (suc (suc k))) ≡ own (Slot (suc (suc k)))) → Catches own'
-    half_catches n m own own' h keeps = record { local = local_; region = region_ }
+    half_catches n m own own' h keeps = record { local = local_held; region = region_held }
       where
         seen : (y : List ℕ) (d : Declaration) → declared scope y ≡ Some d → declared inner y ≡ Some (seen_in_each r d)
         seen y d found = declared_in_front y (in_each scope r) (element_of scope r i x) (seen_in_each r d)
@@ -172,9 +172,9 @@ module _ (lengths : List ℕ) (scope : Scope) (layout : Layout) (f : Frame) (i x
         has_slot : (y : List ℕ) (d : Declaration) → declared scope y ≡ Some d → slot_of hidden y ≡ suc (suc (slot_of names y))
         has_slot y d found = let o = outside y d found in caught_slot y o.0 o.1
 
-        local_ : (y : List ℕ) (d : Declaration) → declared scope y ≡ Some d → is_region d.mode ≡ false → Has names y
+        local_held : (y : List ℕ) (d : Declaration) → declared scope y ≡ Some d → is_region d.mode ≡ false → Has names y
             → HoldsValue (own' (Slot (suc (suc (slot_of names y))))) (f.locals y)
-        local_ y d found kind has =
+        local_held y d found kind has =
             let o = outside y d found in
             let is_slot = has_slot y d found in
             let is_value : (sweep_frame f q n m i x).locals y ≡ f.locals y = ap (λ (b : Bool). cond b (pos n) (f.locals y)) o.1 in
@@ -182,9 +182,9 @@ module _ (lengths : List ℕ) (scope : Scope) (layout : Layout) (f : Frame) (i x
             (subst (HoldsValue (own (Slot (slot_of hidden y)))) is_value
             (h.local y (seen_in_each r d) (seen y d found) kind (omega (arith, is_slot, has))))
 
-        region_ : (y : List ℕ) (d : Declaration) → declared scope y ≡ Some d → is_region d.mode ≡ true → Has names y
+        region_held : (y : List ℕ) (d : Declaration) → declared scope y ≡ Some d → is_region d.mode ≡ true → Has names y
             → own' (Slot (suc (suc (slot_of names y)))) ≡ region_word lengths (f.regions y)
-        region_ y d found kind has =
+        region_held y d found kind has =
             let o = outside y d found in
             let is_slot = has_slot y d found in
             keeps (slot_of names y) has ∙ ap (λ (k : ℕ). own (Slot k)) (sym is_slot)

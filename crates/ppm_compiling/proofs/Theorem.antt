@@ -54,7 +54,7 @@ use Rattle.ppm_compiling.proofs.Progress.{OfBlock, progress}
 -- all constructs do what they are to do
 all_do : (t : ProgramTree) → AllDo (lengths_of t.arrays) (code_of t) t.procedures
 all_do t = record {
-  let_ = let_does (lengths_of t.arrays) (code_of t);
+  declare = let_does (lengths_of t.arrays) (code_of t);
   assign = assign_does (lengths_of t.arrays) (code_of t);
   put = put_does (lengths_of t.arrays) (code_of t);
   test = test_does (lengths_of t.arrays) (code_of t);
@@ -85,14 +85,14 @@ module _ (t : ProgramTree) (within : IsWithin t) (admitted : IsAdmitted t) (boun
   abbrev a : Words
   a = words_of (words_in input)
 
-  abbrev c_ : Code CodeFrame Outcome
-  c_ = strands (lengths_of t.arrays) (code_of t)
+  abbrev here : Code CodeFrame Outcome
+  here = strands (lengths_of t.arrays) (code_of t)
 
   abbrev root : Tree CodeFrame Outcome
   root = Strand (at_work own (entry_of (code_of t) (number_of t.procedures main)))
 
   -- the strands of the code, over the input
-  same_strands : strands_of (code_of t) input ≡ c_
+  same_strands : strands_of (code_of t) input ≡ here
   same_strands = strands_are t input is
 
   body : HasBody t.procedures (code_of t) (number_of t.procedures main) p
@@ -118,16 +118,16 @@ module _ (t : ProgramTree) (within : IsWithin t) (admitted : IsAdmitted t) (boun
       (root_holds t input admitted is) (input_shown t input is)
 
   -- the end of the code, from a chain to it
-  abbrev End_ : Counts → End ℤ → Type 0
-  End_ k z = (e : CapsuleEnd Outcome) × Ends c_ root a e × IsEndOf t input e k z
+  abbrev EndOf : Counts → End ℤ → Type 0
+  EndOf k z = (e : CapsuleEnd Outcome) × Ends here root a e × IsEndOf t input e k z
 
-  ends_by : (k : Counts) (z : End ℤ) → length (arrays_of z) ≡ length input → Returned (lengths_of t.arrays) (code_of t) (budget t k) root a z → End_ k z
+  ends_by : (k : Counts) (z : End ℤ) → length (arrays_of z) ≡ length input → Returned (lengths_of t.arrays) (code_of t) (budget t k) root a z → EndOf k z
   ends_by k (Ended v arrays) count q =
       let m = q.made in
       let d : CapsuleEnd Outcome = record { outcome = Gave m.0; words = m.1; counts = nothing } in
       let e = with_counts m.4.0 d in (
         e,
-        (chains_keep_ends c_ m.4.0 root (Over (Gave m.0)) a m.1 m.4.1.0 m.4.1.1 e).1 (d, (1, refl), refl),
+        (chains_keep_ends here m.4.0 root (Over (Gave m.0)) a m.1 m.4.1.0 m.4.1.1 e).1 (d, (1, refl), refl),
         record {
           outcome = said_shown t input is m.1 arrays m.0 v count m.3;
           capsules = omega (arith, m.4.2.most);
@@ -140,7 +140,7 @@ module _ (t : ProgramTree) (within : IsWithin t) (admitted : IsAdmitted t) (boun
       let d : CapsuleEnd Outcome = record { outcome = TrappedAt stop.0 stop.1; words = m.0; counts = nothing } in
       let e = with_counts m.2.0 d in (
         e,
-        (chains_keep_ends c_ m.2.0 root (Over (TrappedAt stop.0 stop.1)) a m.0 m.2.1.0 m.2.1.1 e).1 (d, (1, refl), refl),
+        (chains_keep_ends here m.2.0 root (Over (TrappedAt stop.0 stop.1)) a m.0 m.2.1.0 m.2.1.1 e).1 (d, (1, refl), refl),
         record {
           outcome = said_trapped input m.0 stop arrays;
           capsules = omega (arith, m.2.2.most);
@@ -149,32 +149,32 @@ module _ (t : ProgramTree) (within : IsWithin t) (admitted : IsAdmitted t) (boun
         },
       )
 
-  ends_ : (k : Counts) (z : End ℤ) → Means Whole t (values_of input) k z → End_ k z
-  ends_ k z run = ends_by k z (run_keeps_count Whole t admitted input k z run) (back k z run)
+  code_ends : (k : Counts) (z : End ℤ) → Means Whole t (values_of input) k z → EndOf k z
+  code_ends k z run = ends_by k z (run_keeps_count Whole t admitted input k z run) (back k z run)
 
   -- the meaning has an end, or the code goes on for so many capsules
   goes : (n : ℕ) → OfBlock t (code_of t) facts n p.body (main_frame t.arrays p.parameters) (values_of input) own (entry_of (code_of t) (number_of t.procedures main)) a
   goes n = (progress t (code_of t) facts n).block p.body (main_frame t.arrays p.parameters) (values_of input) (scope_of p) (parameter_layout p.parameters) (named_slots p)
       (entry_of (code_of t) (number_of t.procedures main)) body.h _ own a place body.body (root_holds t input admitted is) (input_shown t input is)
 
-  ends_only_ : (e : CapsuleEnd Outcome) → Ends c_ root a e → (k : Counts) × (z : End ℤ) × Means Whole t (values_of input) k z × IsEndOf t input e k z
-  ends_only_ e h = elim (goes (suc e.counts.capsules)) [
+  code_ends_only : (e : CapsuleEnd Outcome) → Ends here root a e → (k : Counts) × (z : End ℤ) × Means Whole t (values_of input) k z × IsEndOf t input e k z
+  code_ends_only e h = elim (goes (suc e.counts.capsules)) [
     | inl d ↦ of_run (Enter p (main_frame t.arrays p.parameters) (values_of input) d.2)
     | inr l ↦
-        let d = (chains_keep_ends c_ l.0 root l.1 a l.2 l.3.0 l.3.1 e).0 h in
+        let d = (chains_keep_ends here l.0 root l.1 a l.2 l.3.0 l.3.1 e).0 h in
         let same = ap (λ (z : CapsuleEnd Outcome). z.counts.capsules) d.2 in
         absurd (omega (arith, same, l.4))
   ]
     where
       of_run : {k : Counts} {z : End ℤ} → Means Whole t (values_of input) k z → (k : Counts) × (z : End ℤ) × Means Whole t (values_of input) k z × IsEndOf t input e k z
       of_run {k = k} {z = z} run =
-          let q = ends_ k z run in
-          (k, z, run, subst (λ (d : CapsuleEnd Outcome). IsEndOf t input d k z) (one_end c_ root a q.0 e q.1 h) q.2)
+          let q = code_ends k z run in
+          (k, z, run, subst (λ (d : CapsuleEnd Outcome). IsEndOf t input d k z) (one_end here root a q.0 e q.1 h) q.2)
 
   pub as_meant : EndsAsMeant t input
   as_meant = record {
-    ends = λ k z run. let q = ends_ k z run in (q.0, subst (λ (c : Code CodeFrame Outcome). Ends c root a q.0) (sym same_strands) q.1, q.2);
-    ends_only = λ e h. ends_only_ e (subst (λ (c : Code CodeFrame Outcome). Ends c root a e) same_strands h);
+    ends = λ k z run. let q = code_ends k z run in (q.0, subst (λ (c : Code CodeFrame Outcome). Ends c root a q.0) (sym same_strands) q.1, q.2);
+    ends_only = λ e h. code_ends_only e (subst (λ (c : Code CodeFrame Outcome). Ends c root a e) same_strands h);
     goes_on = λ n. elim (goes n) [
       | inl d ↦ inl (_, _, Enter p (main_frame t.arrays p.parameters) (values_of input) d.2)
       | inr l ↦ inr (l.0, l.1, l.2, subst (λ (c : Code CodeFrame Outcome). StepsInTurn c l.0 root a l.1 l.2) (sym same_strands) l.3, l.4)
