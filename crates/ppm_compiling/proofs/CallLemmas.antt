@@ -61,7 +61,8 @@ module _ (lengths : List ℕ) (code : CodeParts) (scope : Scope) (layout : Layou
     from_arguments = capsule_from W 1 0 (arguments_code layout parameters s.arguments 0 1 behind_arguments) (replicate 64 0)
 
     abbrev Came : Result Frame TrapAt → Type 0
-    Came t = Meets W (1 + arguments_size parameters s.arguments) behind_arguments (AreGiven lengths parameters empty_frame 0 (replicate 64 0)) from_arguments at_start t
+    Came t = Meets W (1 + arguments_size parameters s.arguments) behind_arguments
+        (AreGiven lengths parameters empty_frame 0 (replicate 64 0)) from_arguments at_start t
 
     finish : instrs_of code at ≡ call_code procedures layout s next → count ≡ length (parameter_layout parameters) → count ≤ 64
         → (t : Result Frame TrapAt) → Came t → Called lengths code procedures s (cost 1 1 0 room) own a at next (target_of layout s.target) t
@@ -71,7 +72,8 @@ module _ (lengths : List ℕ) (code : CodeParts) (scope : Scope) (layout : Layou
     finish stands same few (Ok g) h =
         let regs = h.0 in
         let m' = stored regs 6 0 count at_start in
-        let stores = stores_go W 6 0 count (1 + arguments_size parameters s.arguments) (instr.Ends call_end ∷ []) regs at_start (omega (arith, few)) in
+        let stores = stores_go W 6 0 count (1 + arguments_size parameters s.arguments) (instr.Ends call_end ∷ []) regs at_start
+        (omega (arith, few)) in
         let goes = goes_on h.1 stores.1 in
         let own' = built 0 (new_of m') in
         let at_slot : (k : ℕ) → k < length (parameter_layout parameters) → own' (Slot k) ≡ slice_index regs (0 + k) =

@@ -105,7 +105,8 @@ module _ {F O : Type 0} (c : Code F O) where
     },
   )
 
-  pub chain_return : (g : F) (o : O) (v : Tree F O) {k : Cost} {t : Tree F O} {a b : Words} → c.resume g o ≡ v → Chain k t a (Call g (Over o)) b → Chain k t a v b
+  pub chain_return : (g : F) (o : O) (v : Tree F O) {k : Cost} {t : Tree F O} {a b : Words} → c.resume g o ≡ v → Chain k t a (Call g (Over o)) b
+      → Chain k t a v b
   chain_return g o v {k = k} {t = t} {a = a} {b = b} is p = subst (λ (w : Tree F O). Chain k t a w b) is (chain_last p (Return g o b) tt)
 
   pub chain_join : (g : F) (o p : O) (v : Tree F O) {k : Cost} {t : Tree F O} {a b : Words}

@@ -66,7 +66,8 @@ module _ (lengths : List ℕ) (code : CodeParts) (scope : Scope) (layout : Layou
       ap (λ z. if int_lt (pos 1) z then 1 else 0) (value_is (suc (suc k)) (omega (arith, low)))
       ∙ ap (λ (b : Bool). if b then 1 else 0) (lt-ltb 1 (suc (suc k)) (omega arith))
 
-  to_branches : (count : ℕ) → length_of (own (Slot 0)) ≡ count → Goes (capsule_of W (entry_code at)) at_start (at_branches count (many_of count)) at_start
+  to_branches : (count : ℕ) → length_of (own (Slot 0)) ≡ count
+      → Goes (capsule_of W (entry_code at)) at_start (at_branches count (many_of count)) at_start
   to_branches count is = goes_on (record { ends = refl; left = refl; asks = refl })
       (goes_equal (at_branches (length_of (own (Slot 0))) (many_of (length_of (own (Slot 0))))) (at_branches count (many_of count)) at_start
       (ap (λ (n : ℕ). at_branches n (many_of n)) is))

@@ -122,7 +122,8 @@ module _ (lengths : List ℕ) (code : CodeParts) (scope : Scope) (layout : Layou
         λ k below. ap (λ (i : ℕ). m2 (New i)) (let e : frame + (6 + k) ≡ right_offset + k = omega (arith, slots) in e)
         ∙ stored_at regs right_offset left_count right_count m1 k (omega (arith, below, same_right)) in
         let left_value : left Value ≡ 0 =
-        stored_else regs right_offset left_count right_count m1 9 (inl (omega arith)) ∙ stored_else regs 11 0 left_count at_start 9 (inl (omega arith)) in
+        stored_else regs right_offset left_count right_count m1 9 (inl (omega arith))
+        ∙ stored_else regs 11 0 left_count at_start 9 (inl (omega arith)) in
         let right_value : right Value ≡ 0 =
         stored_else regs right_offset left_count right_count m1 (frame + 4) (inl (omega (arith, slots)))
         ∙ stored_else regs 11 0 left_count at_start (frame + 4) (inr (omega (arith, slots, low))) in
@@ -165,15 +166,23 @@ module _ (lengths : List ℕ) (code : CodeParts) (scope : Scope) (layout : Layou
       let zeros : List ℕ = replicate 64 0 in
       finish s u stands slots same_left same_right (omega (arith, few_left, few_right, both, small.count)) (omega (arith, same_left, fit))
       (both_entered procedures f arrays s u)
-      (bind_meets W (right_from s u) (stores_from s u) (right_arguments s u) (behind_arguments s u) (AreGiven lengths ps empty_frame 0 zeros) (BothGiven s u)
+      (bind_meets W (right_from s u) (stores_from s u) (right_arguments s u) (behind_arguments s u) (AreGiven lengths ps empty_frame 0 zeros)
+      (BothGiven s u)
       (from_arguments s u) at_start (entered procedures f arrays s) (λ g. then_with (entered procedures f arrays u) (λ h. Ok (g, h)))
       (meets_at W left_end (right_from s u) (right_arguments s u) (AreGiven lengths ps empty_frame 0 zeros) (from_arguments s u) at_start
       (entered procedures f arrays s) (omega arith)
-      (arguments_meet lengths scope layout f arrays at_start seen ps s.arguments empty_frame 0 1 (right_arguments s u) zeros fits_s.arguments distinct_s
+      (arguments_meet lengths scope layout f arrays at_start seen ps s.arguments empty_frame 0 1
+      (right_arguments s u) zeros fits_s.arguments distinct_s
       (all_front IsNode left_nodes right_nodes small.each) (omega (arith, both, small.count)) refl)) (λ g between k.
-      bind_meets W (stores_from s u) (stores_from s u) (behind_arguments s u) (behind_arguments s u) (AreGiven lengths qs empty_frame (left_count s u) between) (BothGiven s u)
+      bind_meets W (stores_from s u) (stores_from s u) (behind_arguments s u) (behind_arguments s u)
+      (AreGiven lengths qs empty_frame (left_count s u) between) (BothGiven s u)
       (capsule_from W (right_from s u) 0 (right_arguments s u) between) at_start (entered procedures f arrays u) (λ h. Ok (g, h))
-      (arguments_meet lengths scope layout f arrays at_start seen qs u.arguments empty_frame (left_count s u) (right_from s u) (behind_arguments s u) between
+      (arguments_meet lengths scope layout f arrays at_start seen qs u.arguments empty_frame (left_count s u) (right_from s u)
+      (behind_arguments s u) between
       fits_u.arguments distinct_u (all_behind IsNode left_nodes right_nodes small.each)
-      (omega (arith, few_left, both, small.count)) k.count) (λ h regs j.
-      (regs, goes_same (capsule_from W (stores_from s u) 0 (behind_arguments s u) regs) at_start, record { between = between; left = k; right = j }))))
+      (omega (arith, few_left, both, small.count)) k.count) (λ h regs j. (
+        regs,
+        goes_same (capsule_from W (stores_from s u) 0
+            (behind_arguments s u) regs) at_start,
+        record { between = between; left = k; right = j },
+      ))))

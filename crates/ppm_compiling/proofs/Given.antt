@@ -24,12 +24,14 @@ use Rattle.ppm_translation.proofs.CaughtLemmas.{IsEachOnce}
 use Rattle.ppm_translation.proofs.RegionWords.{lengths_of}
 use Rattle.ppm_compiling.specs.Correct.{words_begun}
 use Rattle.ppm_compiling.proofs.ChainLemmas.{Cost, cost}
-use Rattle.ppm_compiling.proofs.Doing.{AreSmall, LetDoes, AssignDoes, PutDoes, TestDoes, SplitDoes, GiveDoes, OnwardDoes, FinishDoes, CallDoes, ForkDoes, EachDoes, EntryDoes, HalvingDoes}
+use Rattle.ppm_compiling.proofs.Doing.{AreSmall, LetDoes, AssignDoes, PutDoes, TestDoes, SplitDoes, GiveDoes, OnwardDoes, FinishDoes}
+use Rattle.ppm_compiling.proofs.Doing.{CallDoes, ForkDoes, EachDoes, EntryDoes, HalvingDoes}
 use Rattle.ppm_compiling.proofs.Places.{IsModest}
 
 module _ (lengths : List ℕ) (code : CodeParts) where
   abbrev pub Everywhere : (Scope → Layout → Frame → (FrameWord → ℕ) → Words → Arrays → ℕ → ℕ → Type 0) → Type 0
-  Everywhere P = (scope : Scope) (layout : Layout) (f : Frame) (own : FrameWord → ℕ) (a : Words) (arrays : Arrays) (at next : ℕ) → P scope layout f own a arrays at next
+  Everywhere P = (scope : Scope) (layout : Layout) (f : Frame) (own : FrameWord → ℕ) (a : Words) (arrays : Arrays) (at next : ℕ)
+      → P scope layout f own a arrays at next
 
   -- all constructs
   pub record AllDo (procedures : List Procedure) : Type 0 where

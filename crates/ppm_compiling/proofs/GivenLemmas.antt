@@ -11,7 +11,8 @@ use Rattle.ppm_compiling.proofs.CountLemmas.{counted}
 use Rattle.ppm_compiling.proofs.Given.{AllDo, Given}
 use Rattle.ppm_compiling.proofs.LimitLemmas.{modest_procedures, small_arrays}
 
-pub all_given : (t : ProgramTree) → IsWithin t → IsAdmitted t → IsWithinBounds t → AllDo (lengths_of t.arrays) (code_of t) t.procedures → Given t (code_of t)
+pub all_given : (t : ProgramTree) → IsWithin t → IsAdmitted t → IsWithinBounds t → AllDo (lengths_of t.arrays) (code_of t) t.procedures
+    → Given t (code_of t)
 all_given t within admitted bounds does = record {
   does = does;
   stands = procedures_have t;

@@ -162,7 +162,8 @@ module _ (lengths : List ℕ) (code : CodeParts) (scope : Scope) (layout : Layou
     left_stores = instr.StoreNew 11 (register 2) ∷ instr.StoreNew 12 (register 4) ∷ stores_code 13 6 count right_stores
 
     named : Loads W at_start 6 count (λ k. own (Slot (2 + k))) 9 (names_code 2 6 count left_stores) left_stores (with_total half left right total)
-    named = names_go W at_start 2 6 count 9 left_stores (with_total half left right total) (with_total_count half left right total) (omega (arith, few))
+    named = names_go W at_start 2 6 count 9 left_stores (with_total half left right total) (with_total_count half left right total)
+        (omega (arith, few))
 
     -- the registers then, and the memory with the left frame and with both
     abbrev registers : List ℕ
@@ -186,7 +187,8 @@ module _ (lengths : List ℕ) (code : CodeParts) (scope : Scope) (layout : Layou
         → cut_left_of line (register 2) (own (Slot 0)) half ≡ Sets (register 2) left
         → cut_right_of line (register 3) (own (Slot 0)) half ≡ Sets (register 3) right
         → fitting line (register 5) (value_of (own (Slot 1)) +ℤ value_of half) ≡ Sets (register 5) total
-        → Goes (capsule_from W 4 0 (at_half half left right total line (names_code 2 6 count left_stores)) (with_length half left right total)) at_start
+        → Goes (capsule_from W 4 0 (at_half half left right total line (names_code 2 6 count left_stores))
+        (with_length half left right total)) at_start
         (Ends fork_end) with_frames
     all_goes is_half is_left is_right is_total =
         goes_on (front_goes half left right total line (names_code 2 6 count left_stores) is_half is_left is_right is_total)
@@ -196,7 +198,8 @@ module _ (lengths : List ℕ) (code : CodeParts) (scope : Scope) (layout : Layou
     left_frame : 2 + count ≤ slots → IsHalf registers 11 2 4 count at_start (built left_at (new_of with_frames))
     left_frame fit = half_built registers 11 2 4 count at_start with_frames 5 refl
         (λ k low high. half_else registers right_offset 3 5 count with_left_frame k (inl (omega (arith, high, fit))))
-        (half_else registers right_offset 3 5 count with_left_frame 9 (inl (omega arith)) ∙ half_else registers 11 2 4 count at_start 9 (inl (omega arith)))
+        (half_else registers right_offset 3 5 count with_left_frame 9 (inl (omega arith))
+        ∙ half_else registers 11 2 4 count at_start 9 (inl (omega arith)))
 
     right_frame : 2 + count ≤ slots → slots_of code h ≡ slots
         → IsHalf registers right_offset 3 5 count with_left_frame (built (right_at code h) (new_of with_frames))
@@ -210,7 +213,8 @@ module _ (lengths : List ℕ) (code : CodeParts) (scope : Scope) (layout : Layou
 
     -- the whole capsule
     forks : instrs_of code (halving at) ≡ halving_code at h slots count line → at ≡ entry_of code h
-        → Goes (capsule_from W 4 0 (at_half half left right total line (names_code 2 6 count left_stores)) (with_length half left right total)) at_start
+        → Goes (capsule_from W 4 0 (at_half half left right total line (names_code 2 6 count left_stores))
+        (with_length half left right total)) at_start
         (Ends fork_end) with_frames
         → Chain (strands lengths code) (cost 1 1 1 (fork_words slots slots)) (Strand (at_work own (halving at))) a
         (Forking (waits own (halved at) None None) (Strand (at_work (built left_at (new_of with_frames)) at))

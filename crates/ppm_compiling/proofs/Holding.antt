@@ -1,5 +1,6 @@
 -- How the frames of the code hold the frames of the meaning, and its shared words the arrays.
-use Rattle.std.proofs.Common.{◌≡◌, ◌≤◌, ◌<◌, ℕ, zero, suc, ◌+◌, ◌*◌, ◌^◌, ℤ, pos, Bool, true, false, List, [], ◌∷◌, Option, Some, None, Result, Ok, Err, get_or, length}
+use Rattle.std.proofs.Common.{◌≡◌, ◌≤◌, ◌<◌, ℕ, zero, suc, ◌+◌, ◌*◌, ◌^◌, ℤ, pos, Bool, true, false, List, [], ◌∷◌, Option, Some, None}
+use Rattle.std.proofs.Common.{Result, Ok, Err, get_or, length}
 use Rattle.std.specs.List.{sum}
 use Rattle.ppm_strands.specs.Tree.{Words, Tree, Strand, Call as Calling, Fork as Forking, Over, Code}
 use Rattle.ppm_capsules.specs.Strand.{Frame as CapsuleFrame, code_of}
@@ -122,7 +123,8 @@ module _ (lengths : List ℕ) (code : CodeParts) where
     Called s k own a at next to (Err stop) = Fails k (Strand (at_work own at)) a stop
 
     -- a fork has been begun; where the arguments trap none is counted
-    abbrev pub Forked : Side → Side → (words : ℕ) → (FrameWord → ℕ) → Words → (at next : ℕ) → (left_to to : Option ℕ) → Result (Frame × Frame) TrapAt → Type 0
+    abbrev pub Forked : Side → Side → (words : ℕ) → (FrameWord → ℕ) → Words → (at next : ℕ) → (left_to to : Option ℕ) → Result (Frame × Frame) TrapAt
+        → Type 0
     Forked s u words own a at next left_to to (Ok g) =
         (left right : CodeFrame) × Enters s g.0 left × Enters u g.1 right
         × Chain strands (cost 1 1 1 words) (Strand (at_work own at)) a (Forking (waits own next left_to to) (Strand left) (Strand right)) a

@@ -93,7 +93,8 @@ word_begins (a ∷ input) all (suc k) i low =
     (word_begins input all.1 k i low)
 
 -- the words with which a run begins show the input's arrays
-pub input_shown : (t : ProgramTree) (input : List NamedArray) → IsInputOf t input → Shows (lengths_of t.arrays) (words_of (words_in input)) (values_of input)
+pub input_shown : (t : ProgramTree) (input : List NamedArray) → IsInputOf t input
+    → Shows (lengths_of t.arrays) (words_of (words_in input)) (values_of input)
 input_shown t input is =
     subst (λ (lengths : List ℕ). Shows lengths (words_of (words_in input)) (values_of input)) is.lengths (record {
       shape = shape_begins input;
@@ -114,7 +115,8 @@ pub words_counted : (t : ProgramTree) (input : List NamedArray) → IsInputOf t 
 words_counted t input is = count_words input ∙ ap sum is.lengths
 
 -- so the code's strands over the input are those over arrays of these lengths
-pub strands_are : (t : ProgramTree) (input : List NamedArray) → IsInputOf t input → strands_of (code_of t) input ≡ strands (lengths_of t.arrays) (code_of t)
+pub strands_are : (t : ProgramTree) (input : List NamedArray) → IsInputOf t input
+    → strands_of (code_of t) input ≡ strands (lengths_of t.arrays) (code_of t)
 strands_are t input is = rw (words_counted t input is) refl
 
 -- the region word of an array of the input
@@ -145,7 +147,8 @@ module _ (t : ProgramTree) (input : List NamedArray) (admitted : IsAdmitted t) (
       omega (arith, begins)
 
   -- the root's frame holds that of `main`
-  pub root_holds : Holds (lengths_of t.arrays) (scope_of (main_of t)) (parameter_layout (main_of t).parameters) (main_frame t.arrays (main_of t).parameters)
+  pub root_holds : Holds (lengths_of t.arrays) (scope_of (main_of t)) (parameter_layout (main_of t).parameters)
+      (main_frame t.arrays (main_of t).parameters)
       (root_own (code_of t) input)
   root_holds = record {
     local = λ x d found kind has.

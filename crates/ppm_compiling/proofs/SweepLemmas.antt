@@ -29,7 +29,8 @@ use Rattle.ppm_translation.specs.Statements.{Last, Gives, last_code, with_lets, 
 use Rattle.ppm_translation.proofs.CaughtLemmas.{IsEachOnce}
 use Rattle.ppm_translation.proofs.RegionWords.{lengths_of, offset_of, region_word}
 use Rattle.ppm_compiling.specs.Correct.{words_begun}
-use Rattle.ppm_compiling.proofs.ChainLemmas.{Cost, cost, both_costs, within_cost, Chain, chain_then, chain_weaken, chain_left, chain_right, chain_join}
+use Rattle.ppm_compiling.proofs.ChainLemmas.{Cost, cost, both_costs, within_cost, Chain, chain_then, chain_weaken, chain_left, chain_right}
+use Rattle.ppm_compiling.proofs.ChainLemmas.{chain_join}
 use Rattle.ppm_compiling.proofs.Holding.{CodeFrame, Shows, Holds, sweep_frame, at_work, waits, strands, CodeTree, Reaches}
 use Rattle.ppm_compiling.proofs.SlotLemmas.{part_slot}
 use Rattle.ppm_compiling.proofs.Doing.{Entered}
@@ -63,7 +64,8 @@ first_arrays (Trapped stop a) z = refl
 
 module _ (t : ProgramTree) (code : CodeParts) (given : Given t code)
     (spare : ℕ) (scope : Scope) (layout : Layout) (at h : ℕ) (f : Frame) (i x r : Named) (block : Block)
-    (stands : HasStatement t.procedures code spare layout at h (tree.Each i x r block)) (fits : FitsStatement t.procedures scope layout (tree.Each i x r block))
+    (stands : HasStatement t.procedures code spare layout at h (tree.Each i x r block))
+    (fits : FitsStatement t.procedures scope layout (tree.Each i x r block))
     (once : IsEachOnce layout) (names_few : length (caught layout block) ≤ 24)
     (inside : offset_of (lengths_of t.arrays) (f.regions r.name).array + (f.regions r.name).start + (f.regions r.name).length ≤ 4194304) where
   abbrev lengths : List ℕ
@@ -99,7 +101,8 @@ module _ (t : ProgramTree) (code : CodeParts) (given : Given t code)
   -- what the blocks of so many elements do, from one on
   pub data Leaves : (n m : ℕ) → Arrays → Counts → End Locals → Type 0 where
     NoLeaf : (n : ℕ) (arrays : Arrays) → Leaves n zero arrays none (Ended f.locals arrays)
-    Leaf : (n m : ℕ) (arrays : Arrays) (j : Counts) (y : End Locals) {k : Counts} {z : End Locals} → LeafDoes n arrays j y → Leaves (suc n) m (arrays_of y) k z
+    Leaf : (n m : ℕ) (arrays : Arrays) (j : Counts) (y : End Locals) {k : Counts} {z : End Locals} → LeafDoes n arrays j y
+        → Leaves (suc n) m (arrays_of y) k z
         → Leaves n (suc m) arrays (both (spent 8) (both j k)) (first_trap y z)
 
   -- behind all of them the locals are as they were
@@ -129,7 +132,8 @@ module _ (t : ProgramTree) (code : CodeParts) (given : Given t code)
   first_assoc (Trapped stop a) (Ended l b) w = refl
   first_assoc (Trapped stop a) (Trapped s b) w = refl
 
-  halves : (p m n n' total : ℕ) (arrays : Arrays) {k : Counts} {z : End Locals} → n' ≡ n + p → total ≡ p + m → Leaves n total arrays k z → Halves n n' p m arrays k z
+  halves : (p m n n' total : ℕ) (arrays : Arrays) {k : Counts} {z : End Locals} → n' ≡ n + p → total ≡ p + m → Leaves n total arrays k z
+      → Halves n n' p m arrays k z
   halves zero m n n' total arrays {k = k} {z = z} e is l = record {
     first = none;
     second = k;
@@ -203,8 +207,10 @@ module _ (t : ProgramTree) (code : CodeParts) (given : Given t code)
         forked = omega arith;
         asked = omega (arith, w1);
         shows = shown;
-        chain = chain_weaken here (within_cost (omega arith) (omega arith) (omega arith) (omega arith)) (chain_then here (chain_then here enters chain) (over_now (end_of block (element_block entry)) own' then_words
-            (end_stands t code block (hidden_named_slots (length (caught layout block)) block) hidden (element_block entry) (suc h) (Gives None) stands.5) held.value));
+        chain = chain_weaken here (within_cost (omega arith) (omega arith) (omega arith) (omega arith))
+            (chain_then here (chain_then here enters chain) (over_now (end_of block (element_block entry)) own' then_words
+            (end_stands t code block (hidden_named_slots (length (caught layout block)) block) hidden (element_block entry) (suc h)
+            (Gives None) stands.5) held.value));
       }
       go (Trapped stop b) enters (then_words, shown, chain) = record {
         most = 2 * j.turns + 2;
@@ -222,20 +228,24 @@ module _ (t : ProgramTree) (code : CodeParts) (given : Given t code)
   joined_over : (own : FrameWord → ℕ) (left right : CodeTree lengths code) (a b c : Words) (j k : Cost) (y z : End Locals)
       → instrs_of code (halved entry) ≡ instr.Ends ends.Finish ∷ [] → own Value ≡ 0
       → Chain here j left a (Over (over_of y)) b → Chain here k right b (Over (over_of z)) c
-      → Chain here (both_costs (both_costs j k) (cost 0 1 0 0)) (Forking (waits own (halved entry) None None) left right) a (Over (over_of (first_trap y z))) c
+      → Chain here (both_costs (both_costs j k) (cost 0 1 0 0)) (Forking (waits own (halved entry) None None) left right) a
+      (Over (over_of (first_trap y z))) c
   joined_over own left right a b c j k (Trapped stop d) z is empty p q =
       let g = waits own (halved entry) None None in
       let both = chain_then here (chain_left here g right p) (chain_right here g (TrappedAt stop.0 stop.1) q) in
-      chain_weaken here (within_cost (omega arith) (omega arith) (omega arith) (omega arith)) (chain_join here g (TrappedAt stop.0 stop.1) (over_of z) (Over (TrappedAt stop.0 stop.1)) refl both)
+      chain_weaken here (within_cost (omega arith) (omega arith) (omega arith) (omega arith))
+      (chain_join here g (TrappedAt stop.0 stop.1) (over_of z) (Over (TrappedAt stop.0 stop.1)) refl both)
   joined_over own left right a b c j k (Ended l d) (Trapped stop e) is empty p q =
       let g = waits own (halved entry) None None in
       let both = chain_then here (chain_left here g right p) (chain_right here g (Gave 0) q) in
-      chain_weaken here (within_cost (omega arith) (omega arith) (omega arith) (omega arith)) (chain_join here g (Gave 0) (TrappedAt stop.0 stop.1) (Over (TrappedAt stop.0 stop.1)) refl both)
+      chain_weaken here (within_cost (omega arith) (omega arith) (omega arith) (omega arith))
+      (chain_join here g (Gave 0) (TrappedAt stop.0 stop.1) (Over (TrappedAt stop.0 stop.1)) refl both)
   joined_over own left right a b c j k (Ended l d) (Ended m e) is empty p q =
       let g = waits own (halved entry) None None in
       let both = chain_then here (chain_left here g right p) (chain_right here g (Gave 0) q) in
       let joined = chain_join here g (Gave 0) (Gave 0) (Strand (at_work own (halved entry))) refl both in
-      chain_weaken here (within_cost (omega arith) (omega arith) (omega arith) (omega arith)) (chain_then here joined (over_now (halved entry) own c is empty))
+      chain_weaken here (within_cost (omega arith) (omega arith) (omega arith) (omega arith))
+      (chain_then here joined (over_now (halved entry) own c is empty))
 
   -- the region in hand is small
   pub small_word : (n m : ℕ) → n + m ≤ q.length → region_word lengths (stretch n m q) ≤ 4194304 * 2 ^ 32 + 4194304
@@ -248,7 +258,8 @@ module _ (t : ProgramTree) (code : CodeParts) (given : Given t code)
 
   -- the entry, the fork, both halves, and the end
   abbrev steps : (m1 f1 w1 m2 f2 w2 : ℕ) → Cost
-  steps m1 f1 w1 m2 f2 w2 = both_costs (both_costs (cost 1 1 0 0) (cost 1 1 1 forking)) (both_costs (both_costs (cost 1 m1 f1 w1) (cost 1 m2 f2 w2)) (cost 0 1 0 0))
+  steps m1 f1 w1 m2 f2 w2 = both_costs (both_costs (cost 1 1 0 0) (cost 1 1 1 forking))
+      (both_costs (both_costs (cost 1 m1 f1 w1) (cost 1 m2 f2 w2)) (cost 0 1 0 0))
 
   -- so many elements, by halves
   sweep : (fuel m n : ℕ) (arrays : Arrays) (own : FrameWord → ℕ) (a : Words) {k : Counts} {z : End Locals} → m ≤ fuel → 1 ≤ m → n + m ≤ q.length
@@ -262,11 +273,13 @@ module _ (t : ProgramTree) (code : CodeParts) (given : Given t code)
       let first : ℕ = total / 2 in
       let second : ℕ = total - total / 2 in
       let cut = halves first second n (n + first) total arrays refl (omega arith) l in
-      let enters = given.does.entry scope layout f own a arrays entry entry _ total stands.1 (part_in_hand n total own holds) (omega (arith, low, inside)) holds.value in
+      let enters = given.does.entry scope layout f own a arrays entry entry _ total stands.1 (part_in_hand n total own holds)
+      (omega (arith, low, inside)) holds.value in
       let forks = given.does.halving scope layout f own a arrays entry entry i x r block h q n total stands.2 stands.4 refl holds
       fits.3 fits.4 fits.5 names_few (small_word n total low) (omega (arith, low, inside)) in
       let left = sweep fuel first n arrays forks.0 a (omega (arith, most)) (omega arith) (omega (arith, low)) cut.front forks.2 shows in
-      let right = sweep fuel second (n + first) (arrays_of cut.end) forks.1 left.behind (omega (arith, most)) (omega arith) (omega (arith, low)) cut.back forks.3 left.shows in
+      let right = sweep fuel second (n + first) (arrays_of cut.end) forks.1 left.behind (omega (arith, most)) (omega arith)
+      (omega (arith, low)) cut.back forks.3 left.shows in
       let joined = joined_over own _ _ a left.behind right.behind _ _ cut.end cut.rest stands.3 holds.value left.chain right.chain in
       let product = times total first second forking (omega arith) in record {
         most = 4 + left.most + right.most;
@@ -277,7 +290,8 @@ module _ (t : ProgramTree) (code : CodeParts) (given : Given t code)
         forked = omega (arith, left.forked, right.forked, cut.forks);
         asked = omega (arith, left.asked, right.asked, cut.words, product);
         shows = subst (λ (b : Arrays). Shows lengths right.behind b) (sym (first_arrays cut.end cut.rest) ∙ ap arrays_of cut.whole) right.shows;
-        chain = chain_weaken here (within_cost (omega arith) (omega arith) (omega arith) (omega arith)) (subst (λ (z : End Locals). Chain here (steps left.most left.forks left.words right.most right.forks right.words)
+        chain = chain_weaken here (within_cost (omega arith) (omega arith) (omega arith) (omega arith))
+            (subst (λ (z : End Locals). Chain here (steps left.most left.forks left.words right.most right.forks right.words)
             (Strand (at_work own entry)) a (Over (over_of z)) right.behind) cut.whole
             (chain_then here (chain_then here enters forks.4) joined));
       }
@@ -294,7 +308,8 @@ module _ (t : ProgramTree) (code : CodeParts) (given : Given t code)
   swept zero n arrays own a low (NoLeaf n0 b) holds shows = record {
     behind = a;
     shows = shows;
-    chain = chain_weaken here (within_cost (omega arith) (omega arith) (omega arith) (omega arith)) (given.does.entry scope layout f own a arrays entry entry _ 0 stands.1 (part_in_hand n 0 own holds) (omega arith) holds.value);
+    chain = chain_weaken here (within_cost (omega arith) (omega arith) (omega arith) (omega arith))
+        (given.does.entry scope layout f own a arrays entry entry _ 0 stands.1 (part_in_hand n 0 own holds) (omega arith) holds.value);
   }
   swept (suc m) n arrays own a {k = k} low l holds shows =
       let s = sweep (suc m) (suc m) n arrays own a (omega arith) (omega arith) low l holds shows in
@@ -302,5 +317,6 @@ module _ (t : ProgramTree) (code : CodeParts) (given : Given t code)
       let product : suc m * forking ≡ forking + m * forking = times_suc m forking in record {
         behind = s.behind;
         shows = s.shows;
-        chain = chain_weaken here (within_cost (omega arith) (omega (arith, s.few)) (omega (arith, s.forked)) (omega (arith, s.asked, product) ∙ ap (λ (e : ℕ). e * forking + words_of t k) (sym less))) s.chain;
+        chain = chain_weaken here (within_cost (omega arith) (omega (arith, s.few)) (omega (arith, s.forked))
+            (omega (arith, s.asked, product) ∙ ap (λ (e : ℕ). e * forking + words_of t k) (sym less))) s.chain;
       }

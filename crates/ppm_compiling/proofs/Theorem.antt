@@ -69,7 +69,8 @@ all_do t = record {
   halving = halving_does (lengths_of t.arrays) (code_of t);
 }
 
-module _ (t : ProgramTree) (within : IsWithin t) (admitted : IsAdmitted t) (bounds : IsWithinBounds t) (input : List NamedArray) (is : IsInputOf t input) where
+module _ (t : ProgramTree) (within : IsWithin t) (admitted : IsAdmitted t) (bounds : IsWithinBounds t) (input : List NamedArray)
+    (is : IsInputOf t input) where
   facts : Given t (code_of t)
   facts = all_given t within admitted bounds (all_do t)
 
@@ -121,7 +122,8 @@ module _ (t : ProgramTree) (within : IsWithin t) (admitted : IsAdmitted t) (boun
   abbrev EndOf : Counts → End ℤ → Type 0
   EndOf k z = (e : CapsuleEnd Outcome) × Ends here root a e × IsEndOf t input e k z
 
-  ends_by : (k : Counts) (z : End ℤ) → length (arrays_of z) ≡ length input → Returned (lengths_of t.arrays) (code_of t) (budget t k) root a z → EndOf k z
+  ends_by : (k : Counts) (z : End ℤ) → length (arrays_of z) ≡ length input → Returned (lengths_of t.arrays) (code_of t) (budget t k) root a z
+      → EndOf k z
   ends_by k (Ended v arrays) count q =
       let m = q.made in
       let d : CapsuleEnd Outcome = record { outcome = Gave m.0; words = m.1; counts = nothing } in
@@ -153,11 +155,14 @@ module _ (t : ProgramTree) (within : IsWithin t) (admitted : IsAdmitted t) (boun
   code_ends k z run = ends_by k z (run_keeps_count Whole t admitted input k z run) (back k z run)
 
   -- the meaning has an end, or the code goes on for so many capsules
-  goes : (n : ℕ) → OfBlock t (code_of t) facts n p.body (main_frame t.arrays p.parameters) (values_of input) own (entry_of (code_of t) (number_of t.procedures main)) a
-  goes n = (progress t (code_of t) facts n).block p.body (main_frame t.arrays p.parameters) (values_of input) (scope_of p) (parameter_layout p.parameters) (named_slots p)
+  goes : (n : ℕ) → OfBlock t (code_of t) facts n p.body (main_frame t.arrays p.parameters) (values_of input) own
+      (entry_of (code_of t) (number_of t.procedures main)) a
+  goes n = (progress t (code_of t) facts n).block p.body (main_frame t.arrays p.parameters) (values_of input) (scope_of p)
+      (parameter_layout p.parameters) (named_slots p)
       (entry_of (code_of t) (number_of t.procedures main)) body.h _ own a place body.body (root_holds t input admitted is) (input_shown t input is)
 
-  code_ends_only : (e : CapsuleEnd Outcome) → Ends here root a e → (k : Counts) × (z : End ℤ) × Means Whole t (values_of input) k z × IsEndOf t input e k z
+  code_ends_only : (e : CapsuleEnd Outcome) → Ends here root a e → (k : Counts) × (z : End ℤ) × Means Whole t (values_of input) k z
+      × IsEndOf t input e k z
   code_ends_only e h = elim (goes (suc e.counts.capsules)) [
     | inl d ↦ of_run (Enter p (main_frame t.arrays p.parameters) (values_of input) d.2)
     | inr l ↦
@@ -166,7 +171,8 @@ module _ (t : ProgramTree) (within : IsWithin t) (admitted : IsAdmitted t) (boun
         absurd (omega (arith, same, l.4))
   ]
     where
-      of_run : {k : Counts} {z : End ℤ} → Means Whole t (values_of input) k z → (k : Counts) × (z : End ℤ) × Means Whole t (values_of input) k z × IsEndOf t input e k z
+      of_run : {k : Counts} {z : End ℤ} → Means Whole t (values_of input) k z → (k : Counts) × (z : End ℤ) × Means Whole t (values_of input) k z
+          × IsEndOf t input e k z
       of_run {k = k} {z = z} run =
           let q = code_ends k z run in
           (k, z, run, subst (λ (d : CapsuleEnd Outcome). IsEndOf t input d k z) (one_end here root a q.0 e q.1 h) q.2)

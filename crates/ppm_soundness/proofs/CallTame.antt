@@ -154,7 +154,8 @@ module _ (t : ProgramTree) (code : CodeParts) (rules : KeepsRules t) (admitted :
 
     pub arguments_tame : (ps : List Parameter) (args : List Argument) → FitsArguments v.scope v.layout ps args → (d at here : ℕ) (is : List Instr)
         (f g : List ℕ) → at ≡ here → d + paired ps args ≤ 63 → Keeps d f g
-        → ((h : List ℕ) → Keeps d f h → IsLent v.frame (region_word (lengths_of t.arrays)) h ps args d → Goes all (here + arguments_size ps args) is h m)
+        → ((h : List ℕ) → Keeps d f h → IsLent v.frame (region_word (lengths_of t.arrays)) h ps args d
+        → Goes all (here + arguments_size ps args) is h m)
         → Goes all here (arguments_code v.layout ps args d at is) g m
     arguments_tame [] [] fits d at here is f g at_is few keep go = moved all m is g here (here + 0) (omega arith) (go g keep tt)
     arguments_tame [] (b ∷ args) fits d at here is f g at_is few keep go = absurd fits
@@ -211,7 +212,8 @@ module _ (t : ProgramTree) (code : CodeParts) (rules : KeepsRules t) (admitted :
             };
             holds = record {
               holds = λ x seen has.
-                  let there = given_held frame (region_word (lengths_of t.arrays)) g p.parameters s.arguments empty_frame d fit.distinct count h.lent x
+                  let there =
+                  given_held frame (region_word (lengths_of t.arrays)) g p.parameters s.arguments empty_frame d fit.distinct count h.lent x
                   seen.declaration seen.found seen.region in
                   h.slots (slot_of (parameter_layout p.parameters) x) there.0 ∙ there.1;
             };
@@ -380,7 +382,8 @@ module _ (t : ProgramTree) (code : CodeParts) (rules : KeepsRules t) (admitted :
             entered_label scope frame u,
             callee_runs scope frame s fits.0.callee left_count.count left_comes_from left_is_apart a.stays.within g 0 (built 5 (new_of new))
                 (record {
-                  lent = lent_kept frame (region_word (lengths_of t.arrays)) f g ps s.arguments 0 n (omega arith) (omega (arith, below, narrow)) i lent;
+                  lent = lent_kept frame (region_word (lengths_of t.arrays)) f g ps s.arguments 0 n (omega arith)
+                      (omega (arith, below, narrow)) i lent;
                   slots = λ j low.
                       (let e : 5 + (6 + j) ≡ 11 + j = omega arith in ap (λ (o : ℕ). new (NewWord o)) e)
                       ∙ st'.front (11 + j) (omega (arith, low, below)) ∙ st.within j low;

@@ -48,7 +48,8 @@ module _ (arrays : List Array) where
   }
 
 -- words of two arrays differ
-pub one_word : (arrays : List Array) (a b i j : ℕ) → i < words_at arrays a → j < words_at arrays b → offset_of (lengths_of arrays) a + i ≡ offset_of (lengths_of arrays) b + j
+pub one_word : (arrays : List Array) (a b i j : ℕ) → i < words_at arrays a → j < words_at arrays b
+    → offset_of (lengths_of arrays) a + i ≡ offset_of (lengths_of arrays) b + j
     → (a ≡ b) × (i ≡ j)
 one_word [] a b i j p q e = absurd (omega (arith, p))
 one_word (c ∷ arrays) zero zero i j p q e = (refl, omega (arith, e))
@@ -98,7 +99,8 @@ module _ (arrays : List Array) (r : Region) (short : r.length < 2 ^ 32) where
   first_word n = ap (λ (s : ℕ). s * 2 ^ 32 + n) start_is
 
   pub second_word : (n : ℕ)
-      → (start_of (region_word (lengths_of arrays) r) + n) * 2 ^ 32 + (length_of (region_word (lengths_of arrays) r) - n) ≡ region_word (lengths_of arrays) (second_part n r)
+      → (start_of (region_word (lengths_of arrays) r) + n) * 2 ^ 32 + (length_of (region_word (lengths_of arrays) r) - n) ≡ region_word
+      (lengths_of arrays) (second_part n r)
   second_word n =
       let s : offset_of (lengths_of arrays) r.array + r.start + n ≡ offset_of (lengths_of arrays) r.array + (r.start + n) = omega arith in
       ap₂ (λ (s l : ℕ). (s + n) * 2 ^ 32 + (l - n)) start_is length_is ∙ ap (λ (s : ℕ). s * 2 ^ 32 + (r.length - n)) s

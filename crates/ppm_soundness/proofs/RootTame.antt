@@ -81,7 +81,8 @@ module _ (t : ProgramTree) (admitted : IsAdmitted t) where
     main_label = record { scope = scope_of (main_of t); regions = first_frame.regions }
 
     root_holds : (x : List ℕ) → IsSeen (scope_of (main_of t)) x → Has (parameter_layout (main_of t).parameters) x
-        → root_own (code_of t) input (Slot (slot_of (parameter_layout (main_of t).parameters) x)) ≡ region_word (lengths_of t.arrays) (first_frame.regions x)
+        → root_own (code_of t) input (Slot (slot_of (parameter_layout (main_of t).parameters) x)) ≡ region_word (lengths_of t.arrays)
+        (first_frame.regions x)
     root_holds x seen has =
         let ps = (main_of t).parameters in
         root_region t admitted (regions_from 0 input) words_begin x seen.declaration seen.found has

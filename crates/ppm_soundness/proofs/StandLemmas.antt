@@ -182,7 +182,8 @@ module _ (t : ProgramTree) (code : CodeParts) where
 
   -- the slots hold the regions
   pub record Holds (v : Level) (own : FrameWord → ℕ) : Type 0 where
-    pub holds : (x : List ℕ) → IsSeen v.scope x → Has v.layout x → own (Slot (slot_of v.layout x)) ≡ region_word (lengths_of t.arrays) (v.frame.regions x)
+    pub holds : (x : List ℕ) → IsSeen v.scope x → Has v.layout x
+        → own (Slot (slot_of v.layout x)) ≡ region_word (lengths_of t.arrays) (v.frame.regions x)
 
   pub holds_on : (v : Level) (own new : FrameWord → ℕ) → IsSame v own new → Holds v own → Holds v new
   holds_on v own new s h = record { holds = λ x seen has. s.same x seen.declaration seen.found seen.region has ∙ h.holds x seen has }

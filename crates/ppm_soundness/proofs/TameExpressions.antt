@@ -163,10 +163,12 @@ module _ (world : World) (m : Memory Where) where
         (whole_works world line (register d) (value_of left_word *ℤ value_of right_word)) (set_there e)
     operator_tame operator.Div e =
         go_work world here is g m (instr.Div (register d) (register d) (register (suc d)) line) (register d)
-        (divided_works world line (register d) (value_of left_word) (value_of right_word) (int_div (value_of left_word) (value_of right_word))) (set_there e)
+        (divided_works world line (register d) (value_of left_word) (value_of right_word) (int_div (value_of left_word) (value_of right_word)))
+        (set_there e)
     operator_tame operator.Rem e =
         go_work world here is g m (instr.Rem (register d) (register d) (register (suc d)) line) (register d)
-        (divided_works world line (register d) (value_of left_word) (value_of right_word) (int_rem (value_of left_word) (value_of right_word))) (set_there e)
+        (divided_works world line (register d) (value_of left_word) (value_of right_word) (int_rem (value_of left_word) (value_of right_word)))
+        (set_there e)
     operator_tame operator.Eq e =
         let v = cond (left_word == right_word) 1 0 in
         go_set world here is g m (instr.Equal (register d) (register d) (register (suc d))) (register d) v refl (set_there e v)

@@ -72,14 +72,16 @@ module _ (procedures : List Procedure) (code : CodeParts) where
       → Stands procedures code q at (routine_code procedures at r)
   first_listed q at r rs h =
       stands_listed procedures code q at (routine_code procedures at r)
-      (listed_first procedures code (map (of_procedure q) (routine_code procedures at r)) (capsules_from procedures (suc q) (routine_behind r at) rs) at h)
+      (listed_first procedures code (map (of_procedure q) (routine_code procedures at r))
+      (capsules_from procedures (suc q) (routine_behind r at) rs) at h)
 
   later_listed : (q at : ℕ) (r : Routine) (rs : List Routine) → Listed procedures code at (capsules_from procedures q at (r ∷ rs))
       → Listed procedures code (routine_behind r at) (capsules_from procedures (suc q) (routine_behind r at) rs)
   later_listed q at r rs h =
       subst (λ (k : ℕ). Listed procedures code k (capsules_from procedures (suc q) (routine_behind r at) rs))
       (past_map (of_procedure q) (routine_code procedures at r) at ∙ routine_past procedures at r)
-      (listed_second procedures code (map (of_procedure q) (routine_code procedures at r)) (capsules_from procedures (suc q) (routine_behind r at) rs) at h)
+      (listed_second procedures code (map (of_procedure q) (routine_code procedures at r))
+      (capsules_from procedures (suc q) (routine_behind r at) rs) at h)
 
   -- each procedure is entered at a capsule of its own
   entries_own : (rs : List Routine) (q at : ℕ) → Listed procedures code at (capsules_from procedures q at rs) → (n : ℕ)
@@ -133,11 +135,13 @@ module _ (procedures : List Procedure) (code : CodeParts) where
               (own (element_block at) (omega arith) (omega (arith, grows))),
           (
             subst (λ (k : ℕ). IsCapsule code (of_procedure q (halving_code at k (hidden_slots count s.block) count s.line))) sound.number
-                (halving_keeps procedures code known q spare at high there own at (hidden_slots count s.block) count s.line slots (omega arith) sound.line
+                (halving_keeps procedures code known q spare at high there own at (hidden_slots count s.block) count s.line slots
+                (omega arith) sound.line
                 (own (suc (suc at)) (omega arith) (omega (arith, grows)))),
             (
               finish_keeps procedures code known q spare at high there own,
-              block_keeps procedures code known q spare at high there own on.scope (sweep_layout s) (element_block at) (suc s.number) (Gives None) s.block
+              block_keeps procedures code known q spare at high there own on.scope (sweep_layout s) (element_block at) (suc s.number)
+                  (Gives None) s.block
                   on.fits on.small on.placed (omega arith) (omega arith) (omega arith) (omega (arith, slots)) tt,
             ),
           ),
@@ -235,7 +239,8 @@ module _ (t : ProgramTree) (admitted : IsAdmitted t) where
       (faultless_left t (array_sites ++ procedure_sites ++ input_sites) inside
       (faultless_left t (array_sites ++ procedure_sites ++ input_sites ++ inside) (sites_at [] outside) admitted.faultless)))) p c)
 
-  module _ (names : (x : List ℕ) → FitsProcedure t.procedures (procedure_named t.procedures x)) (within : IsWithin t) (bounded : IsWithinBounds t) where
+  module _ (names : (x : List ℕ) → FitsProcedure t.procedures (procedure_named t.procedures x)) (within : IsWithin t)
+      (bounded : IsWithinBounds t) where
     all_fit : AllByRecursion (FitsProcedure t.procedures) t.procedures
     all_fit = recursion_from_All (FitsProcedure t.procedures) t.procedures
         (All-weaker (Contains t.procedures) (FitsProcedure t.procedures)

@@ -100,7 +100,8 @@ module _ (t : ProgramTree) (admitted : IsAdmitted t) where
   made_of u c =
       let front = sites_of_names (map (λ a. a.name) t.arrays) ++ sites_of_names (map (λ p. p.name) t.procedures)
       ++ sites_of_names (map (λ i. i.name) t.inputs) ++ flat_map (sites_of_procedure t) t.procedures in
-      Contains-append_right front (sites_at [] asked) (record { scope = []; made = u }) (contains_map (λ u. record { scope = []; made = u }) u asked c)
+      Contains-append_right front (sites_at [] asked) (record { scope = []; made = u })
+      (contains_map (λ u. record { scope = []; made = u }) u asked c)
 
   -- there is a `main`
   pub main_is : first_named (λ p. p.name.name) t.procedures (codes "main") ≢ None
