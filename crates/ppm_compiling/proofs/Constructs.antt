@@ -261,9 +261,6 @@ module _ (t : ProgramTree) (code : CodeParts) (facts : Given t code) where
   module _ (scope : Scope) (layout : Layout) (spare at h : ℕ) (last : Last) (b : Block) (f : Frame) (own : FrameWord → ℕ) (a : Words)
       (arrays : Arrays)
       (held : Holds lens scope layout f own) (shows : Shows lens a arrays) where
-    abbrev from_here : CodeTree lens code
-    from_here = Strand (at_work own at)
-
     -- behind the statement, in front of the rest
     abbrev pub Made : Statement → Cost → End Locals → Type 0
     Made s k y = Reached lens code (scope ++ lets_of s) (with_lets layout s) f k (Strand (at_work own at)) a (behind s at) y

@@ -342,10 +342,10 @@ module _ (t : ProgramTree) (code : CodeParts) (facts : Given t code) where
         abbrev OfSweep : (n' m : ℕ) → Arrays → (FrameWord → ℕ) → Words → Type 0
         OfSweep n' m c own' a' = ((k : Counts) × (z : End Locals) × Sweeps Whole ps i x s whole f n' m c k z) ⊎ Far n own' entry a'
 
-        few : length (caught layout s) ≤ 24
+        abbrev few : length (caught layout s) ≤ 24
         few = each_few t scope layout spare i x r s b f place
 
-        inside : offset_of lens whole.array + whole.start + whole.length ≤ 4194304
+        abbrev inside : offset_of lens whole.array + whole.start + whole.length ≤ 4194304
         inside = each_inside t code facts scope layout spare i x r s b f place
 
         -- so many elements, by halves
@@ -354,7 +354,7 @@ module _ (t : ProgramTree) (code : CodeParts) (facts : Given t code) where
         of_sweep fuel zero n' c own' a' most low held' shows' = inl (_, _, Swept i x s whole f n' c)
         of_sweep fuel (suc zero) n' c own' a' most low held' shows' =
             let slot = part_in_hand t code facts spare scope layout at h f i x r s has.0 place.fits.0 place.once
-            (each_few t scope layout spare i x r s b f place) (each_inside t code facts scope layout spare i x r s b f place) n' 1 own' held' in
+            few inside n' 1 own' held' in
             let entering = facts.does.entry scope layout f own' a' c entry entry _ 1 has.0.1 slot (omega arith) held'.value in
             let there = each_place t scope layout spare i x r s b f n' (omega (arith, low)) place in
             elim (p.block s (with_element f whole n' i x) c inner hidden (hidden_named_slots (length (caught layout s)) s) (element_block entry)
@@ -370,17 +370,11 @@ module _ (t : ProgramTree) (code : CodeParts) (facts : Given t code) where
                   (omega (arith, most)) (omega (arith, low)) held'' shows'') d.0 d.1 d.2
             ]
           where
-            total : ℕ
-            total = suc (suc m)
-
             first : ℕ
             first = suc (suc m) / 2
 
             waiting : CodeFrame
             waiting = waits own' (halved entry) None None
-
-            slots : ℕ
-            slots = hidden_slots (length (caught layout s)) s
 
             forks : (left right : FrameWord → ℕ) × Holds lens inner hidden (sweep_frame f whole n' (suc (suc m) / 2) i x) left
                 × Holds lens inner hidden (sweep_frame f whole (n' + suc (suc m) / 2) (suc (suc m) - suc (suc m) / 2) i x) right
@@ -412,7 +406,7 @@ module _ (t : ProgramTree) (code : CodeParts) (facts : Given t code) where
                 let fits = place.fits.0 in
                 let leaves = sweeps t code facts d scope layout spare at h r b place has.0 refl (omega (arith, low)) in
                 let over = swept_all t code facts spare scope layout at h f i x r s has.0 fits place.once
-                (each_few t scope layout spare i x r s b f place) (each_inside t code facts scope layout spare i x r s b f place)
+                few inside
                 (suc (suc m) / 2) n' c forks.0 a' (omega (arith, low)) leaves forks.2 shows' in
                 elim (again (arrays_of z) forks.1 over.behind forks.3 over.shows) [
                   | inr l ↦ inr

@@ -37,12 +37,6 @@ module _ (lengths : List ℕ) (code : CodeParts) where
   chain_reaches (Ended l arrays) p q w = let m = q.made in record { made = (m.0, m.1, m.2, m.3, chain_weaken here w (chain_then here p m.4)) }
   chain_reaches (Trapped stop arrays) p q w = let m = q.made in record { made = (m.0, m.1, chain_weaken here w (chain_then here p m.2)) }
 
-  pub reaches_more : {scope : Scope} {layout : Layout} {f : Frame} {k total : Cost} {t : CodeTree lengths code} {a : Words} {next : ℕ}
-      (z : End Locals)
-      → Reached scope layout f k t a next z → IsWithinCost k total → Reached scope layout f total t a next z
-  reaches_more (Ended l arrays) q w = let m = q.made in record { made = (m.0, m.1, m.2, m.3, chain_weaken here w m.4) }
-  reaches_more (Trapped stop arrays) q w = let m = q.made in record { made = (m.0, m.1, chain_weaken here w m.2) }
-
   -- a capsule that only goes on, behind a stretch that ended; behind a trap it isn't run
   pub reaches_on : {scope : Scope} {layout : Layout} {f : Frame} {k total : Cost} {t : CodeTree lengths code} {a : Words} (at next : ℕ)
       (z : End Locals)

@@ -159,11 +159,6 @@ module _ (t : ProgramTree) (input : List NamedArray) (admitted : IsAdmitted t) (
     value = refl;
   }
 
--- the strand with which a run begins: the root at its entry
-pub root_begins : (t : ProgramTree) (input : List NamedArray)
-    → root_strand (code_of t) input ≡ Strand (at_work (root_own (code_of t) input) (entry_of (code_of t) (number_of t.procedures (codes "main"))))
-root_begins t input = refl
-
 -- the values that words stand for, from an address on
 values_shown : (b : Words) (start : ℕ) (v : List ℤ) → ((i : ℕ) → i < length v → value_of (b (start + i)) ≡ get_or v i (pos 0))
     → values_at b start (length v) ≡ v
