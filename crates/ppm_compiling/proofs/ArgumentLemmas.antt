@@ -37,7 +37,7 @@ use Rattle.ppm_compiling.proofs.ExprLemmas.{goes_same, loads, InReg, set_at, set
 use Rattle.ppm_compiling.proofs.ExprLemmas.{some_node, Sees, region_held, expr_meets}
 
 -- what is known of the registers may be said otherwise
-pub meets_as : {A : Type 0} (W at : ℕ) (rest : List Instr) (K L : A → List ℕ → Type 0) (p : Capsule Where End) (m : Memory Where)
+meets_as : {A : Type 0} (W at : ℕ) (rest : List Instr) (K L : A → List ℕ → Type 0) (p : Capsule Where End) (m : Memory Where)
     (t : Result A TrapAt)
     → ((v : A) (h : List ℕ) → K v h → L v h) → Meets W at rest K p m t → Meets W at rest L p m t
 meets_as W at rest K L p m (Ok v) on h = (h.0, h.1, on v h.0 h.2)

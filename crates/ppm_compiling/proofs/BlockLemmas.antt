@@ -106,10 +106,10 @@ abbrev pub stored : List ℕ → (offset d count : ℕ) → Memory Where → Mem
 stored h offset d zero m = m
 stored h offset d (suc count) m = stored h (suc offset) (suc d) count (store code_locations m (New offset) (slice_index h d))
 
-pub new_at : (m : Memory Where) (o v : ℕ) → store code_locations m (New o) v (New o) ≡ v
+new_at : (m : Memory Where) (o v : ℕ) → store code_locations m (New o) v (New o) ≡ v
 new_at m o v = cond-true (code_locations.same (New o) (New o)) v (m (New o)) (code_locations.is_self (New o))
 
-pub new_else : (m : Memory Where) (o v i : ℕ) → i ≢ o → store code_locations m (New o) v (New i) ≡ m (New i)
+new_else : (m : Memory Where) (o v i : ℕ) → i ≢ o → store code_locations m (New o) v (New i) ≡ m (New i)
 new_else m o v i other = cond-false _ v (m (New i)) (ne_eqb i o other)
 
 pub stored_else : (h : List ℕ) (offset d count : ℕ) (m : Memory Where) (i : ℕ) → (i < offset) ⊎ (offset + count ≤ i)

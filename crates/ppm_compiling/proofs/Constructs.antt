@@ -29,13 +29,12 @@ use Rattle.ppm_translation.specs.Slots.{named_slots, procedure_slots, hidden_slo
 use Rattle.ppm_translation.specs.Standing.{HasStatement, HasBlock, HasBody}
 use Rattle.ppm_translation.specs.Statements.{Last, OnTo, Gives, with_lets, with_parts, hidden_layout, number_of}
 use Rattle.ppm_translation.proofs.CaughtLemmas.{each_once}
-use Rattle.ppm_translation.proofs.RegionWords.{lengths_of, offset_of}
+use Rattle.ppm_translation.proofs.RegionWords.{array_within, lengths_of, offset_of}
 use Rattle.ppm_compiling.specs.Correct.{words_begun}
 use Rattle.ppm_compiling.proofs.ChainLemmas.{Cost, cost, within_cost, Chain, chain_weaken, chain_under, chain_return}
 use Rattle.ppm_compiling.proofs.Holding.{CodeFrame, Shows, Holds, sweep_frame, which, at_work, waits, strands, CodeTree, Tested, Parted}
 use Rattle.ppm_compiling.proofs.Holding.{Called, Forked}
 use Rattle.ppm_compiling.proofs.Doing.{InHand, AreSmall}
-use Rattle.ppm_compiling.proofs.ExprLemmas.{array_within}
 use Rattle.ppm_compiling.proofs.Places.{Place, modest_inner, holds_place, else_place, each_few, lies}
 use Rattle.ppm_compiling.proofs.Given.{IsModestProcedure, Given, words_of, words_both, budget}
 use Rattle.ppm_compiling.proofs.SmallLemmas.{small_let, small_assign, small_put, small_if, small_split, small_call, small_fork}

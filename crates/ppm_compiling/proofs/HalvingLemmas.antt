@@ -42,7 +42,7 @@ use Rattle.ppm_compiling.proofs.BlockLemmas.{Loads, names_go, half_stored, half_
 use Rattle.ppm_compiling.proofs.EntryLemmas.{value_is}
 
 -- half of a small number
-pub half_does : (line : ℕ) (d : Register) (m : ℕ) → m ≤ 4194304 → quotient_of line d (value_of m) (value_of 2) ≡ Sets d (m / 2)
+half_does : (line : ℕ) (d : Register) (m : ℕ) → m ≤ 4194304 → quotient_of line d (value_of m) (value_of 2) ≡ Sets d (m / 2)
 half_does line d m low =
     ap (λ z. quotient_of line d z (value_of 2)) (value_is m (omega (arith, low)))
     ∙ ap (λ (b : Bool). if b then Sets d (m / 2) else traps Overflow line) (lt-ltb (m / 2) (2 ^ 63) (omega (arith, low)))

@@ -23,7 +23,7 @@ use Rattle.ppm_compiling.proofs.Holding.{HoldsValue, Holds}
 use Rattle.ppm_compiling.proofs.SlotLemmas.{named_at}
 
 -- names with one slot are one
-pub one_name : (layout : Layout) (x y : List ℕ) → Has layout x → Has layout y → slot_of layout x ≡ slot_of layout y → x ≡ y
+one_name : (layout : Layout) (x y : List ℕ) → Has layout x → Has layout y → slot_of layout x ≡ slot_of layout y → x ≡ y
 one_name layout x y hx hy e = sym (named_at layout x hx) ∙ ap (λ (k : ℕ). get_or layout k []) e ∙ named_at layout y hy
 
 module _ (lengths : List ℕ) where

@@ -40,7 +40,7 @@ parts_of_small p s = record {
 no_parts : HasSmallParts no_procedure
 no_parts = record { statements = tt; give = λ g e. absurd (cc) }
 
-pub small_parts : (t : ProgramTree) → IsWithin t → (x : List ℕ) → HasSmallParts (procedure_named t.procedures x)
+small_parts : (t : ProgramTree) → IsWithin t → (x : List ℕ) → HasSmallParts (procedure_named t.procedures x)
 small_parts t within x =
     of_named HasSmallParts no_parts t.procedures
     (weaker IsSmall HasSmallParts parts_of_small t.procedures (recursion_from_All IsSmall t.procedures within.procedures)) x

@@ -28,7 +28,7 @@ pub record IsModest (b : Block) : Type 0 where
   pub small : AllByRecursion IsSmallStatement (statements_in b)
   pub slots : AllByRecursion (λ s. count_of bound.Slots s ≤ 24) (statements_in b)
 
-pub modest_behind : (s : Statement) (b : Block) → IsModest (Then s b) → IsModest b
+modest_behind : (s : Statement) (b : Block) → IsModest (Then s b) → IsModest b
 modest_behind s b m = record {
   small = all-second IsSmallStatement (statement_and_inner s) (statements_in b) m.small;
   slots = all-second (λ s. count_of bound.Slots s ≤ 24) (statement_and_inner s) (statements_in b) m.slots;

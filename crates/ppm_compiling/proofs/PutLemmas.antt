@@ -35,7 +35,7 @@ use Rattle.ppm_translation.specs.Layout.{Layout, slot_of, register}
 use Rattle.ppm_translation.specs.Expressions.{size_of, expression_code}
 use Rattle.ppm_translation.specs.Fits.{IsRegion, FitsExpression}
 use Rattle.ppm_translation.specs.Statements.{onward, element_code, put_code}
-use Rattle.ppm_translation.proofs.RegionWords.{offset_of, region_word}
+use Rattle.ppm_translation.proofs.RegionWords.{one_address, offset_of, region_word}
 use Rattle.ppm_compiling.proofs.ChainLemmas.{cost, Chain, chain_then, chain_weaken}
 use Rattle.ppm_compiling.proofs.Doing.{AreSmall, InHand, PutDoes}
 use Rattle.ppm_compiling.proofs.ExprLemmas.{Goes, goes_on, goes_equal, goes_same, stores, loads, stops, held_at, set_at, set_else, set_count, InReg}
@@ -45,16 +45,6 @@ use Rattle.ppm_compiling.proofs.Holding.{HoldsValue, Holds, Shows, Reaches, at_w
 use Rattle.ppm_compiling.proofs.StoreLemmas.{stored_slot, other_slot, holds_behind}
 use Rattle.ppm_compiling.proofs.StatementLemmas.{zeros, zeros_count, onward_goes, front_held}
 use Rattle.ppm_compiling.proofs.StepLemmas.{start_at, sees, whole, Tried, tried}
-
--- words of arrays at one address are one word
-pub one_address : (lengths : List ℕ) (j k i l : ℕ) → i < get_or lengths j 0 → l < get_or lengths k 0
-    → offset_of lengths j + i ≡ offset_of lengths k + l → (j ≡ k) × (i ≡ l)
-one_address [] j k i l low below e = absurd (omega (arith, low))
-one_address (n ∷ lengths) zero zero i l low below e = (refl, omega (arith, e))
-one_address (n ∷ lengths) zero (suc k) i l low below e = absurd (omega (arith, e, low))
-one_address (n ∷ lengths) (suc j) zero i l low below e = absurd (omega (arith, e, below))
-one_address (n ∷ lengths) (suc j) (suc k) i l low below e =
-    let rest = one_address lengths j k i l low below (omega (arith, e)) in (ap (λ (n : ℕ). suc n) rest.0, rest.1)
 
 -- the words of the arrays with one at an address
 abbrev pub with_shared : Words → (x w : ℕ) → Words

@@ -41,19 +41,17 @@ use Rattle.ppm_translation.specs.Routines.{code_of}
 use Rattle.ppm_translation.specs.Statements.{number_of}
 use Rattle.ppm_translation.proofs.MainLemmas.{whole_array, declared_parameter, main_names, root_region}
 use Rattle.ppm_translation.proofs.RegionWords.{lengths_of, offset_of, region_word}
+use Rattle.ppm_compiling.proofs.ExprLemmas.{holds_word}
 use Rattle.ppm_compiling.proofs.Holding.{HoldsValue, Shows, Holds, at_work, strands}
 
 -- how long the arrays of an input are
 abbrev lengths_in : List NamedArray → List ℕ
 lengths_in input = map (λ a. length a.values) input
 
--- the word of a value stands for it
-value_fits : (v : ℤ) → IsValue v → FitsSigned w64 v
-value_fits (pos n) is = record { sfits = omega (arith, is) }
-value_fits (negsuc n) is = record { sfits = omega (arith, is) }
-
-word_holds : (v : ℤ) → IsValue v → HoldsValue (word_of v) v
-word_holds v is = record { value = value_of-word_of v (value_fits v is); below = word_of-below v (value_fits v is) }
+-- a value of an input has a word
+input_fits : (v : ℤ) → IsValue v → FitsSigned w64 v
+input_fits (pos n) is = record { sfits = omega (arith, is) }
+input_fits (negsuc n) is = record { sfits = omega (arith, is) }
 
 -- what holds of each holds of the one at a place
 at_place : {A : Type 0} (P : A → Type 0) (xs : List A) (i : ℕ) (d : A) → AllByRecursion P xs → i < length xs → P (get_or xs i d)
@@ -87,7 +85,8 @@ word_begins : (input : List NamedArray) → AllByRecursion (λ a. All IsValue a.
 word_begins [] all k i low = absurd (omega (arith, low))
 word_begins (a ∷ input) all zero i low =
     subst (λ (w : ℕ). HoldsValue w (get_or a.values i (pos 0))) (sym (first_word a input i low))
-    (word_holds (get_or a.values i (pos 0)) (at_place IsValue a.values i (pos 0) (recursion_from_All IsValue a.values all.0) low))
+    (holds_word (get_or a.values i (pos 0)) (input_fits (get_or a.values i (pos 0))
+    (at_place IsValue a.values i (pos 0) (recursion_from_All IsValue a.values all.0) low)))
 word_begins (a ∷ input) all (suc k) i low =
     subst (λ (w : ℕ). HoldsValue w (get_or (array_at (values_of input) k) i (pos 0))) (sym (later_word a input (offset_of (lengths_in input) k) i))
     (word_begins input all.1 k i low)
@@ -111,7 +110,7 @@ count_words (a ∷ input) =
     let all = sum_by-cons (λ (n : ℕ). n) (length a.values) (lengths_in input) in
     omega (arith, both, few, rest, all)
 
-pub words_counted : (t : ProgramTree) (input : List NamedArray) → IsInputOf t input → length (words_in input) ≡ sum (lengths_of t.arrays)
+words_counted : (t : ProgramTree) (input : List NamedArray) → IsInputOf t input → length (words_in input) ≡ sum (lengths_of t.arrays)
 words_counted t input is = count_words input ∙ ap sum is.lengths
 
 -- so the code's strands over the input are those over arrays of these lengths
@@ -171,7 +170,7 @@ values_shown b start (x ∷ v) h =
     ap₂ (λ (x : ℤ) (v : List ℤ). x ∷ v) (ap (λ (a : ℕ). value_of (b a)) first ∙ h 0 (omega arith)) rest
 
 -- the arrays that words show, from an address on
-pub arrays_shown : (b : Words) (start : ℕ) (input : List NamedArray) (arrays : Arrays) → length arrays ≡ length input
+arrays_shown : (b : Words) (start : ℕ) (input : List NamedArray) (arrays : Arrays) → length arrays ≡ length input
     → ((k : ℕ) → length (array_at arrays k) ≡ get_or (lengths_in input) k 0)
     → ((k i : ℕ) → i < get_or (lengths_in input) k 0
     → value_of (b (start + (offset_of (lengths_in input) k + i))) ≡ get_or (array_at arrays k) i (pos 0))

@@ -32,7 +32,7 @@ named_at (y ∷ layout) x h = go (named_at layout x) (bytes_eq y x) refl h
     go on false e h = on (omega (arith, h))
 
 -- a name that a filter keeps was there
-pub kept_has : (p : List ℕ → Bool) (layout : Layout) (x : List ℕ) → Has (filter p layout) x → Has layout x
+kept_has : (p : List ℕ → Bool) (layout : Layout) (x : List ℕ) → Has (filter p layout) x → Has layout x
 kept_has p [] x h = h
 kept_has p (y ∷ layout) x h = go (kept_has p layout x) (p y) h (bytes_eq y x) refl
   where

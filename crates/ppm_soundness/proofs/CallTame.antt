@@ -69,7 +69,7 @@ new_here m j k v e = ap (λ (b : Bool). cond b v (m (NewWord j))) (eq-eqb j k e)
 pub same_words : (v : Level) (m new : Memory Where) → ((s : FrameWord) → new (Own s) ≡ m (Own s)) → IsSame v (own_of m) (own_of new)
 same_words v m new h = record { same = λ x d f r has. h (Slot (slot_of v.layout x)) }
 
-pub off_under : (w v : Level) (k : ℕ) → IsUnder w v → IsOff v k → IsOff w k
+off_under : (w v : Level) (k : ℕ) → IsUnder w v → IsOff v k → IsOff w k
 off_under w v k u h = record {
   off = λ x d f r has e.
       let a = u.front x has in

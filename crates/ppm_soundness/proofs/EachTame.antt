@@ -50,7 +50,7 @@ use Rattle.ppm_soundness.proofs.SplitTame.{seen_back, or_left}
 use Rattle.ppm_soundness.proofs.CallTame.{same_words, stores_tame}
 
 -- a name that is caught has a slot in the layout
-pub has_all : (test : List ℕ → Bool) (layout : Layout) (z : List ℕ) → Has (filter test layout) z → Has layout z
+has_all : (test : List ℕ → Bool) (layout : Layout) (z : List ℕ) → Has (filter test layout) z → Has layout z
 has_all test [] z h = h
 has_all test (y ∷ layout) z h = go (test y) h (has_all test layout z)
   where

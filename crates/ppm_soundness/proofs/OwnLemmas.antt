@@ -9,7 +9,7 @@ use Rattle.ppm_tree.specs.State.{Region, Regions, first_part, second_part}
 use Rattle.ppm_regions.specs.Scope.{Scope}
 use Rattle.ppm_owning.specs.Owning.{IsSeen, IsWritable, Owns, MayWrite, words_at, LieInArrays, OwnsNoMore, AreSeparate}
 use Rattle.ppm_owning.proofs.ScopeLemmas.{written_owned, writable_seen}
-use Rattle.ppm_translation.proofs.RegionWords.{lengths_of, offset_of, region_word}
+use Rattle.ppm_translation.proofs.RegionWords.{array_within, one_address, lengths_of, offset_of, region_word}
 use Rattle.ppm_soundness.proofs.CalmLemmas.{IsLess, AreApart}
 
 -- what a frame owns: the regions in force that may be used
@@ -47,27 +47,15 @@ module _ (arrays : List Array) where
     written = λ x o. record { array = o.array; index = o.index; may = h.written o.array o.index o.may; below = o.below; is = o.is };
   }
 
--- words of two arrays differ
-pub one_word : (arrays : List Array) (a b i j : ℕ) → i < words_at arrays a → j < words_at arrays b
-    → offset_of (lengths_of arrays) a + i ≡ offset_of (lengths_of arrays) b + j
-    → (a ≡ b) × (i ≡ j)
-one_word [] a b i j p q e = absurd (omega (arith, p))
-one_word (c ∷ arrays) zero zero i j p q e = (refl, omega (arith, e))
-one_word (c ∷ arrays) zero (suc b) i j p q e = absurd (omega (arith, p, e))
-one_word (c ∷ arrays) (suc a) zero i j p q e = absurd (omega (arith, q, e))
-one_word (c ∷ arrays) (suc a) (suc b) i j p q e =
-    let rest = one_word arrays a b i j p q (omega (arith, e)) in
-    (ap suc rest.0, rest.1)
-
 module _ (arrays : List Array) where
   pub apart_labels : (m k : Label) → AreSeparate m.scope m.regions k.scope k.regions → AreApart (OwnsWord arrays) (WritesWord arrays) m k
   apart_labels m k h = record {
     left = λ x w o.
-        let same = one_word arrays w.array o.array w.index o.index w.below o.below (sym w.is ∙ o.is) in
+        let same = one_address (lengths_of arrays) w.array o.array w.index o.index w.below o.below (sym w.is ∙ o.is) in
         h.left w.array w.index w.may (subst (λ (a : ℕ). Owns k.scope k.regions a w.index) (sym same.0)
         (subst (λ (i : ℕ). Owns k.scope k.regions o.array i) (sym same.1) o.owns));
     right = λ x o w.
-        let same = one_word arrays o.array w.array o.index w.index o.below w.below (sym o.is ∙ w.is) in
+        let same = one_address (lengths_of arrays) o.array w.array o.index w.index o.below w.below (sym o.is ∙ w.is) in
         h.right o.array o.index o.owns (subst (λ (a : ℕ). MayWrite k.scope k.regions a o.index) (sym same.0)
         (subst (λ (i : ℕ). MayWrite k.scope k.regions w.array i) (sym same.1) w.may));
   }
@@ -76,16 +64,8 @@ module _ (arrays : List Array) where
 pub record AreShort (arrays : List Array) : Type 0 where
   pub short : (a : ℕ) → words_at arrays a < 2 ^ 32
 
-words_below : (arrays : List Array) (a : ℕ) → words_at arrays a ≤ sum (map (λ b. b.words) arrays)
-words_below [] a = omega arith
-words_below (b ∷ arrays) zero = let e = sum_by-cons (λ (n : ℕ). n) b.words (map (λ b. b.words) arrays) in omega (arith, e)
-words_below (b ∷ arrays) (suc a) =
-    let e = sum_by-cons (λ (n : ℕ). n) b.words (map (λ b. b.words) arrays) in
-    let rest = words_below arrays a in
-    omega (arith, e, rest)
-
 pub short_arrays : (arrays : List Array) → sum (map (λ b. b.words) arrays) < 2 ^ 32 → AreShort arrays
-short_arrays arrays h = record { short = λ a. let l = words_below arrays a in omega (arith, l, h) }
+short_arrays arrays h = record { short = λ a. let l = array_within (lengths_of arrays) a in omega (arith, l, h) }
 
 module _ (arrays : List Array) (r : Region) (short : r.length < 2 ^ 32) where
   pub start_is : start_of (region_word (lengths_of arrays) r) ≡ offset_of (lengths_of arrays) r.array + r.start
