@@ -1,4 +1,6 @@
 pub mod LayoutLemmas
+pub mod RegionWords
+pub mod MainLemmas
 pub mod CoverLemmas
 pub mod FitsLemmas
 pub mod PlaceLemmas
