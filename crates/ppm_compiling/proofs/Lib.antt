@@ -21,7 +21,10 @@ pub mod RootLemmas
 pub mod GivenLemmas
 pub mod SmallLemmas
 pub mod ReachLemmas
-pub mod Forward
+pub mod Constructs
 pub mod ArgumentLemmas
 pub mod CallLemmas
 pub mod ForkLemmas
+pub mod Forward
+pub mod Progress
+pub mod Theorem

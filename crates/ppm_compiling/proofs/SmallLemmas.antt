@@ -1,6 +1,5 @@
 -- The nodes of a statement's expressions are small.
-use Rattle.std.proofs.Common.{◌≡◌, ◌≤◌, ℕ, List, [], ◌∷◌, ◌++◌, map, length, refl, sym, ap, ap₂, ◌∙◌, subst, append-nil}
-use Rattle.std.specs.List.{All, flat_map}
+use Rattle.std.proofs.Common.{◌≡◌, ℕ, List, [], ◌++◌, map, ap, ap₂, ◌∙◌, subst, append-nil}
 use Rattle.std.proofs.lemmas.List.Folds.{flat_map-map}
 use Rattle.std.proofs.lemmas.Grind.{flat_map-append}
 use Rattle.ppm_tree.specs.declared.named.Named.{Named}
@@ -40,5 +39,6 @@ small_call s h = subst AreSmall (flat_map-map nodes (λ (a : Argument). a.value)
 pub small_fork : (s u : Side) → IsSmallStatement (tree.Fork s u) → AreSmall (argument_nodes s.arguments ++ argument_nodes u.arguments)
 small_fork s u h = subst AreSmall
     (flat_map-append nodes (map (λ (a : Argument). a.value) s.arguments) (map (λ (a : Argument). a.value) u.arguments)
-    ∙ ap₂ (λ (xs ys : List Expression). xs ++ ys) (flat_map-map nodes (λ (a : Argument). a.value) s.arguments) (flat_map-map nodes (λ (a : Argument). a.value) u.arguments))
+    ∙ ap₂ (λ (xs ys : List Expression). xs ++ ys) (flat_map-map nodes (λ (a : Argument). a.value) s.arguments)
+    (flat_map-map nodes (λ (a : Argument). a.value) u.arguments))
     (small_nodes (tree.Fork s u) h)

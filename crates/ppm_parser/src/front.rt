@@ -1,8 +1,8 @@
 //! What stands in front of some tokens.
-ghost use Rattle.std.specs.Prelude.{◌≡◌, MatchOption, MatchResult};
+ghost use Rattle.std.specs.Prelude.{◌≡◌, IsTrue, MatchOption, MatchResult};
 ghost use Rattle.ppm_tree.specs.declared.mode.Mode.{Mode};
 ghost use Rattle.ppm_rows.specs.Kinds.{Word, Mark};
-ghost use Rattle.ppm_parser.specs.Fronts.{HasFront, HasAt, HasName, HasNumber, HasLiteral, HasMode, HasOperator, Misses, MissesName, MissesNumber, MissesMode, NoOperator};
+ghost use Rattle.ppm_parser.specs.Fronts.{HasFront, HasAt, HasName, HasNumber, HasLiteral, HasMode, HasOperator, Misses, MissesName, MissesNumber, MissesMode, NoOperator, NoneWithin};
 
 use crate::stop::Stop;
 use ppm_rows::{Level, operator};
@@ -166,5 +166,55 @@ pub fn operator_in(level: Level, tokens: &[Token]) -> Option<(Operator, u32, u32
             None => None,
         },
         _ => None,
+    }
+}
+
+/// Whether no operator of the level is in front.
+fn is_free(level: Level, tokens: &[Token]) -> bool
+    ensures { IsTrue result → NoOperator level tokens.now }
+{
+    match operator_in(level, tokens) {
+        Some(_) => false,
+        None => true,
+    }
+}
+
+/// Whether no operator of the level is in front, nor of one that binds more.
+pub fn has_none(level: Level, tokens: &[Token]) -> bool
+    ensures { IsTrue result → NoneWithin level tokens.now }
+{
+    if !is_free(Level::Product, tokens) {
+        return false;
+    }
+    match level {
+        Level::Product => true,
+        Level::Sum => is_free(Level::Sum, tokens),
+        Level::Comparison => {
+            if !is_free(Level::Sum, tokens) {
+                return false;
+            }
+            is_free(Level::Comparison, tokens)
+        }
+        Level::Both => {
+            if !is_free(Level::Sum, tokens) {
+                return false;
+            }
+            if !is_free(Level::Comparison, tokens) {
+                return false;
+            }
+            is_free(Level::Both, tokens)
+        }
+        Level::Either => {
+            if !is_free(Level::Sum, tokens) {
+                return false;
+            }
+            if !is_free(Level::Comparison, tokens) {
+                return false;
+            }
+            if !is_free(Level::Both, tokens) {
+                return false;
+            }
+            is_free(Level::Either, tokens)
+        }
     }
 }

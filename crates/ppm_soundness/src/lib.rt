@@ -6,4 +6,4 @@
 
 mod laws;
 
-pub use laws::{may_be_stopped, store_tidily};
+pub use laws::{code_is_sound, may_be_stopped, store_tidily};
