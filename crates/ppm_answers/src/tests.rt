@@ -132,12 +132,7 @@ fn answers_have_texts_and_statuses(rt: HostRuntime) -> Result<(), Fail> {
             "source refused: cut 2 at 0\n",
             2,
         ),
-        (
-            Answer::OutOfTurns(0),
-            "",
-            "out of turns: processor 0\n",
-            4,
-        ),
+        (Answer::OutOfTurns(0), "", "out of turns: processor 0\n", 4),
         (Answer::OutOfRoom(7), "", "out of room: place 7\n", 5),
         (
             Answer::Listed(Items::from_vec(b"ppm 1\nroot 0\n".to_vec(alloc)?)),

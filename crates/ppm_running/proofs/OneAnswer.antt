@@ -129,25 +129,37 @@ module _ (laws : Laws) (options : RunOptions) where
       where
         by : (b : Bool) → nat_le (turns_of t e) options.turns ≡ b → (c : Bool) → nat_le (words_of_blocks t e) options.room ≡ c
             → (a : Answer) × ProgramHas options t a
-        by false p c q =
-            (answers.OutOfTurns 0, (refl, λ d ends.
-            subst (λ (d : End Result). options.turns < turns_of t d) (same_end t e d comes ends)
-            (let more = leb-false (turns_of t e) options.turns p in omega (arith, more))))
-        by true p false q = (answers.OutOfRoom 0, (refl, record {
-          end = e;
-          comes = comes;
-          turns = leb-true (turns_of t e) options.turns p;
-          room = let more = leb-false (words_of_blocks t e) options.room q in omega (arith, more);
-        }))
+        by false p c q = (
+          answers.OutOfTurns 0,
+          (
+            refl,
+            λ d ends.
+                subst (λ (d : End Result). options.turns < turns_of t d) (same_end t e d comes ends)
+                (let more = leb-false (turns_of t e) options.turns p in omega (arith, more)),
+          ),
+        )
+        by true p false q = (
+          answers.OutOfRoom 0,
+          (
+            refl,
+            record {
+              end = e;
+              comes = comes;
+              turns = leb-true (turns_of t e) options.turns p;
+              room = let more = leb-false (words_of_blocks t e) options.room q in omega (arith, more);
+            },
+          ),
+        )
         by true p true q =
             let room : HasRoom options t = record {
               end = e;
               comes = comes;
               turns = leb-true (turns_of t e) options.turns p;
               room = leb-true (words_of_blocks t e) options.room q;
-            } in
-            (told (said_of (initial_arrays t) e.words e.outcome),
-            has_told laws.whole t means options (said_of (initial_arrays t) e.words e.outcome) room (said_is_outcome laws.whole t means e comes))
+            } in (
+              told (said_of (initial_arrays t) e.words e.outcome),
+              has_told laws.whole t means options (said_of (initial_arrays t) e.words e.outcome) room (said_is_outcome laws.whole t means e comes),
+            )
 
     -- or as many capsules are run as pass the turns
     goes_on : (i : CapsuleCounts) (u : Tree (Frame FrameWord Point) Result) (b : Words) → BeginsWith (code_of t) (initial_arrays t) i u b

@@ -243,7 +243,12 @@ const SOURCES: [((u64, u32), &str, &str, Status); 33] = [
         "a 36 2 7 4 26 6 15 8\n",
         Status::Ended,
     ),
-    ((25_600, PLACE_ROOM), SUM_OF_FOUR, "a 10 2 7 4\n", Status::Ended),
+    (
+        (25_600, PLACE_ROOM),
+        SUM_OF_FOUR,
+        "a 10 2 7 4\n",
+        Status::Ended,
+    ),
     // Room on both sides of what the blocks have.
     ((TURNS, 99), SUM_OF_FOUR, "a 10 2 7 4\n", Status::Ended),
     (
@@ -281,7 +286,12 @@ const SOURCES: [((u64, u32), &str, &str, Status); 33] = [
     ),
     (DEFAULT, LOOP, "a 6\n", Status::Ended),
     (DEFAULT, FIBONACCI, "a 55\n", Status::Ended),
-    (DEFAULT, EACH, "a 1 5 11 19 29\nb 1 2 3 4 5\n", Status::Ended),
+    (
+        DEFAULT,
+        EACH,
+        "a 1 5 11 19 29\nb 1 2 3 4 5\n",
+        Status::Ended,
+    ),
     (
         DEFAULT,
         "array a[0]; proc main(mut a) { each i, x in a { x[0] = i; } }",
@@ -372,7 +382,14 @@ fn long_sources_are_run(rt: HostRuntime) -> Result<(), Fail> {
     // Four capsules for each statement and two for the procedure, and 65,535 at most.
     let front = "array a[1]; proc main(mut a) {";
     let statements = repeated(alloc, front, " a[0] = 1;", 16_383, " }")?;
-    shows(&rt, alloc, DEFAULT, statements.as_str(), "a 1\n", Status::Ended)?;
+    shows(
+        &rt,
+        alloc,
+        DEFAULT,
+        statements.as_str(),
+        "a 1\n",
+        Status::Ended,
+    )?;
     let statements = repeated(alloc, front, " a[0] = 1;", 16_384, " }")?;
     is_refused(&rt, alloc, statements.as_str(), "cut 2 at 0")?;
     // The index is a node, and so is each number and each sign, and 48 at most.

@@ -137,11 +137,15 @@ pub record Laws : Type 0 where
 
 -- a listing that `code` writes is one that `check` accepts
 accepted : (o : Outside) → WritesListing o → WritesAccepted o
-accepted o w = (w.listing, w.gets, record {
-  code = w.free.code;
-  listed = record { code = w.free.rules; fits = w.free.fits; same = w.free.same };
-  free = w.free.free;
-})
+accepted o w = (
+  w.listing,
+  w.gets,
+  record {
+    code = w.free.code;
+    listed = record { code = w.free.rules; fits = w.free.fits; same = w.free.same };
+    free = w.free.free;
+  },
+)
 
 -- the rows of `code`
 shows : CodesHaveOneAnswer → (words : List (List ℕ)) (o : Outside) (status : Status) → IsAnswered words o status → ShowsByWords words o status
