@@ -23,13 +23,21 @@ use Rattle.ppm_showing.specs.Causes.{CodeMay}
 use Rattle.ppm_showing.specs.Correct.{HaveOneAnswer}
 use Rattle.ppm_showing.specs.Rows.{WritesListing, WritesRefusal, CodeRows}
 
+-- where an answer may come whose texts are made, out of memory may come in its place
+memory_may : (o : Outside) (a : Answer) → JudgingMay text_limit CodeHas o.source a → ¬ IsFixed a → JudgingMay text_limit CodeHas o.source answers.NoMemory
+memory_may o a h made = go (judged.by_cause text_limit CodeHas o.source a h) where
+  go : (a ≡ answers.ReadFault) ⊎ ((a ≡ answers.NoMemory) ⊎ ReadHas text_limit CodeHas o.source a) → JudgingMay text_limit CodeHas o.source answers.NoMemory
+  go (inl e) = absurd (made (subst IsFixed (sym e) tt))
+  go (inr (inl e)) = absurd (made (subst IsFixed (sym e) tt))
+  go (inr (inr r)) = ((r.0, r.1.whole.most, r.1.whole.front), r.1.holds)
+
 -- what was delivered of an answer of the command is the answer, or out of memory in its place
 pub code_delivered : (o : Outside) (a : Answer) (status : Status) → o.told_now ≡ o.told_before → JudgingMay text_limit CodeHas o.source a →
     IsListed a → Delivers o.out o.err a status ⊎ ((¬ IsFixed a) × Delivers o.out o.err answers.NoMemory status) → Answers (CodeMay o) o status
 code_delivered o a status told h listed (inl d) = record { answer = a; cause = record { has = h; listed = listed }; delivered = d; told = told }
 code_delivered o a status told h listed (inr d) = record {
   answer = answers.NoMemory;
-  cause = record { has = judged.memory_may text_limit CodeHas o.source a h d.0; listed = tt };
+  cause = record { has = memory_may o a h d.0; listed = tt };
   delivered = d.1;
   told = told;
 }
