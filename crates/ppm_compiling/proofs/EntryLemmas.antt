@@ -20,7 +20,7 @@ use Rattle.ppm_code.specs.Acts.{length_of}
 use Rattle.ppm_code.specs.Locations.{Where}
 use Rattle.ppm_code.specs.Capsules.{capsule_of, capsule_from}
 use Rattle.ppm_code.specs.Strands.{Gave, entry_of, built}
-use Rattle.ppm_tree.specs.State.{Region, Frame, Arrays}
+use Rattle.ppm_tree.specs.State.{Frame, Arrays}
 use Rattle.ppm_owning.specs.Coming.{stretch}
 use Rattle.ppm_regions.specs.Scope.{Scope}
 use Rattle.ppm_translation.specs.Layout.{Layout, slot_of, caught, register}

@@ -1,5 +1,5 @@
 -- What the capsules of `x[i] = e` do: index and value go into the spare slots, and the next capsule puts.
-use Rattle.std.proofs.Common.{◌≡◌, ◌≤◌, ◌<◌, ℕ, zero, suc, ◌+◌, ◌==◌, ℤ, pos, cond, List, [], ◌∷◌, ◌++◌, Some, Result, Ok, Err}
+use Rattle.std.proofs.Common.{◌≡◌, ◌≤◌, ◌<◌, ℕ, suc, ◌+◌, ◌==◌, ℤ, pos, cond, List, [], ◌∷◌, ◌++◌, Some, Result, Ok, Err}
 use Rattle.std.proofs.Common.{length, get_or, set, refl, sym, ap, ap₂, ◌∙◌, subst, subst₂, arith, inl, inr}
 use Rattle.std.proofs.Common.{get_or-set_same}
 use Rattle.std.specs.Prelude.{slice_index, slice_set}

@@ -23,12 +23,10 @@ use Rattle.ppm_bounds.specs.Bounds.{IsWithinBounds}
 use Rattle.ppm_bounds.proofs.Keeping.{all-append}
 use Rattle.ppm_regions.specs.Scope.{Scope, first_named, plain, scope_of, scope_behind}
 use Rattle.ppm_regions.specs.Uses.{Use, Fills, Begins, Site, sites_at, declaration_sites, sites_of_names, sites_of_procedure, uses_of_main}
-use Rattle.ppm_regions.specs.Faults as fault
 use Rattle.ppm_regions.specs.Admission.{IsAdmitted}
-use Rattle.ppm_regions.specs.declared.region_error.RegionError.TheVariants as error
-use Rattle.ppm_regions.proofs.Elements.{contains_map, contains_head, contains_cases}
+use Rattle.ppm_regions.proofs.Elements.{contains_map, contains_cases}
 use Rattle.ppm_regions.proofs.Names.{found_head, found_later, not_among}
-use Rattle.ppm_regions.proofs.Faultless.{IsFaultless, faultless_left, faultless_right, right_at, declares_new}
+use Rattle.ppm_regions.proofs.Faultless.{IsFaultless, faultless_left, faultless_right, declares_new}
 use Rattle.ppm_translation.specs.Layout.{Layout, parameter_layout}
 use Rattle.ppm_translation.specs.Numbers.{end_of, element_block}
 use Rattle.ppm_translation.specs.Slots.{named_slots, hidden_named_slots, hidden_slots}
