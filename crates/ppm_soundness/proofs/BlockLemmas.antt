@@ -35,6 +35,7 @@ use Rattle.ppm_translation.proofs.PlaceLemmas.{past, past_length, texts_past, Ar
 use Rattle.ppm_translation.proofs.PlaceLemmas.{hidden_past_block}
 use Rattle.ppm_translation.proofs.PlaceLemmas.{routines_placed, procedures_have}
 use Rattle.ppm_translation.proofs.CaughtLemmas.{caught_have_slots}
+use Rattle.ppm_translation.proofs.LayoutLemmas.{lets_length}
 use Rattle.ppm_soundness.proofs.PlainLemmas.{all_at, Below, IsSafe, end_last, safe}
 use Rattle.ppm_soundness.proofs.SafeLemmas.{safe_onward, safe_let, safe_value, safe_move, safe_element, safe_put, safe_test, safe_split}
 use Rattle.ppm_soundness.proofs.SafeLemmas.{safe_give, safe_each}
@@ -54,18 +55,6 @@ all_map f P Q go (y ∷ ys) h = (go y h.0, all_map f P Q go ys h.1)
 all_each : {X : Type 0} (P Q : X → Type 0) → ((x : X) → Q x → P x) → (xs : List X) → AllByRecursion Q xs → All P xs
 all_each P Q go [] h = All-nil P
 all_each P Q go (x ∷ xs) h = All-cons P x xs (go x h.0) (all_each P Q go xs h.1)
-
--- a statement adds no more names than are counted
-lets_within : (layout : Layout) (s : Statement) → length (with_lets layout s) ≡ length layout + length (names.lets_of s)
-lets_within layout (Let x e) = length-append layout (x.name ∷ [])
-lets_within layout (Assign x e) = omega arith
-lets_within layout (Put x i e) = omega arith
-lets_within layout (If e s u) = omega arith
-lets_within layout (While e s) = omega arith
-lets_within layout (tree.Call s) = omega arith
-lets_within layout (tree.Fork s u) = omega arith
-lets_within layout (Split line r e x y s) = omega arith
-lets_within layout (Each i x r s) = omega arith
 
 module _ (procedures : List Procedure) (code : CodeParts) (have : HasSlots procedures code) where
   -- what a block ends with fits
@@ -135,7 +124,7 @@ module _ (procedures : List Procedure) (code : CodeParts) (have : HasSlots proce
         let counted = length (names.lets_of s) + most_in_force rest in
         let l = le-max_left (most_within s) counted in
         let r = le-max_right (most_within s) counted in
-        let longer = lets_within layout s in
+        let longer = lets_length layout s in
         all_both (IsSafe code) (statement_code procedures spare layout at h s)
         (block_code procedures spare (with_lets layout s) (behind s at) (hidden_behind s h) last rest)
         (safe_statement s scope layout spare at h fits.0 (omega (arith, enough, l)) (placed_first procedures code own more h placed))

@@ -16,7 +16,7 @@ use Rattle.ppm_bounds.proofs.Keeping.{all-first, all-second}
 use Rattle.ppm_translation.specs.Layout.{Layout, parameter_layout}
 use Rattle.ppm_translation.specs.Statements.{with_lets, with_parts, hidden_layout}
 use Rattle.ppm_translation.specs.Fits.{FitsStatement, FitsBlock}
-use Rattle.ppm_translation.proofs.CaughtLemmas.{IsEachOnce, each_once, once_push, once_parts, once_hidden, caught_is_counted}
+use Rattle.ppm_translation.proofs.CaughtLemmas.{once_lets, IsEachOnce, each_once, once_push, once_parts, once_hidden, caught_is_counted}
 use Rattle.ppm_translation.proofs.FitsLemmas.{names_have_slots}
 use Rattle.ppm_translation.proofs.PlaceLemmas.{procedures_have}
 use Rattle.ppm_translation.specs.Routines.{code_of}
@@ -25,19 +25,6 @@ use Rattle.ppm_soundness.proofs.CallTame.{Facts}
 
 abbrev CatchesFew : Statement → Type 0
 CatchesFew s = count_of bound.Caught s ≤ limit_of bound.Caught
-
-once_lets : (procedures : List Procedure) (scope : Scope) (layout : Layout) (s : Statement) → FitsStatement procedures scope layout s
-    → IsEachOnce layout
-    → IsEachOnce (with_lets layout s)
-once_lets ps scope layout (tree.Let x e) f h = once_push layout x.name h f.1
-once_lets ps scope layout (tree.Assign x e) f h = h
-once_lets ps scope layout (tree.Put x index e) f h = h
-once_lets ps scope layout (tree.If e holds other) f h = h
-once_lets ps scope layout (tree.While e block) f h = h
-once_lets ps scope layout (tree.Call s) f h = h
-once_lets ps scope layout (tree.Fork s t) f h = h
-once_lets ps scope layout (tree.Split line r e x y block) f h = h
-once_lets ps scope layout (tree.Each i x r block) f h = h
 
 module _ (procedures : List Procedure) where
   mutual

@@ -31,7 +31,7 @@ use Rattle.ppm_translation.specs.Numbers.{behind, hidden_behind, halving, elemen
 use Rattle.ppm_translation.specs.Slots.{hidden_named_slots}
 use Rattle.ppm_translation.specs.Statements.{Last, OnTo, Gives, with_lets, hidden_layout}
 use Rattle.ppm_translation.specs.Fits.{Has, FitsStatement}
-use Rattle.ppm_translation.proofs.LayoutLemmas.{slot_in_front, has_in_front}
+use Rattle.ppm_translation.proofs.LayoutLemmas.{lets_room, slot_in_front, has_in_front}
 use Rattle.ppm_translation.proofs.RegionWords.{lengths_of, region_word}
 use Rattle.ppm_soundness.proofs.OwnLemmas.{Label}
 use Rattle.ppm_soundness.proofs.StandLemmas.{Level, level, IsUnder, same_itself, AreOff, LastFits, Stays, IsOver, leads_on, IsAt}
@@ -93,18 +93,6 @@ lets_back ps (tree.Call s) scope layout x fits seen h = h
 lets_back ps (tree.Fork s u) scope layout x fits seen h = h
 lets_back ps (tree.Split l r e y z s) scope layout x fits seen h = h
 lets_back ps (tree.Each i y r s) scope layout x fits seen h = h
-
-lets_room : (s : Statement) (rest : Block) (layout : Layout) (spare : ℕ) → length layout + most_in_force (Then s rest) ≤ spare
-    → length (with_lets layout s) + most_in_force rest ≤ spare
-lets_room (tree.Let y e) rest layout spare h = let n = length-append layout (y.name ∷ []) in omega (arith, h, n)
-lets_room (tree.Assign y e) rest layout spare h = omega (arith, h)
-lets_room (tree.Put y i e) rest layout spare h = omega (arith, h)
-lets_room (tree.If e s u) rest layout spare h = omega (arith, h)
-lets_room (tree.While e s) rest layout spare h = omega (arith, h)
-lets_room (tree.Call s) rest layout spare h = omega (arith, h)
-lets_room (tree.Fork s u) rest layout spare h = omega (arith, h)
-lets_room (tree.Split l r e y z s) rest layout spare h = omega (arith, h)
-lets_room (tree.Each i y r s) rest layout spare h = omega (arith, h)
 
 module _ (t : ProgramTree) (code : CodeParts) (rules : KeepsRules t) (admitted : IsAdmitted t) (l : Label) where
   module _ (spare : ℕ) (scope : Scope) (layout : Layout) (at h : ℕ) (last : Last) (s : Statement) (rest : Block) (frame : Frame) where

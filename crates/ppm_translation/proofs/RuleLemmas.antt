@@ -32,6 +32,7 @@ use Rattle.ppm_translation.specs.Statements.{statement_code, block_code}
 use Rattle.ppm_translation.specs.Routines.{hidden_of, hidden_of_block}
 use Rattle.ppm_translation.specs.Standing.{HasBodies}
 use Rattle.ppm_translation.specs.Fits.{FitsExpression, FitsTarget, FitsSide, FitsStatement, FitsBlock, layout_behind}
+use Rattle.ppm_translation.proofs.LayoutLemmas.{lets_length}
 use Rattle.ppm_translation.proofs.PlaceLemmas.{of_procedure, ArePlaced, placed_first, placed_second, hidden_past, hidden_past_block}
 use Rattle.ppm_translation.proofs.SizeLemmas.{size_at_most, expression_length, arguments_length, stores_length, loads_length, names_length}
 use Rattle.ppm_translation.proofs.SizeLemmas.{arguments_at_most, paired_at_most}
@@ -79,17 +80,6 @@ mutual
   pub end_grows : (b : Block) (at : ℕ) → at ≤ end_of b at
   end_grows Nil at = omega arith
   end_grows (Then s rest) at = let a = behind_grows s at in let b = end_grows rest (behind s at) in omega (arith, a, b)
-
-lets_length : (layout : Layout) (s : Statement) → length (with_lets layout s) ≡ length layout + length (counted.lets_of s)
-lets_length layout (tree.Let x e) = length-append layout (x.name ∷ [])
-lets_length layout (tree.Assign x e) = omega arith
-lets_length layout (tree.Put x index e) = omega arith
-lets_length layout (tree.If e holds other) = omega arith
-lets_length layout (tree.While e block) = omega arith
-lets_length layout (tree.Call s) = omega arith
-lets_length layout (tree.Fork s t) = omega arith
-lets_length layout (tree.Split line r e x y block) = omega arith
-lets_length layout (tree.Each i x r block) = omega arith
 
 -- a procedure with slots is there
 there_in : (ps : List CodeProcedure) (q : ℕ) → 1 ≤ slots_in (slice_get ps q) → q < length ps
