@@ -1,8 +1,8 @@
 -- The code of an expression, whatever follows: its value comes into the register, or its trap ends the strand; nothing is written.
-use Rattle.std.proofs.Common.{◌≡◌, ◌<◌, ◌≤◌, ℕ, zero, suc, ◌+◌, ◌-◌, ◌^◌, Bool, true, false, cond, nat_lt, ℤ, pos, negsuc}
-use Rattle.std.proofs.Common.{List, [], ◌∷◌, ◌++◌, Result, Ok, Err, Some, None, get_or, length, refl, sym, ap, ap₂, ◌∙◌, subst, arith}
-use Rattle.std.specs.Prelude.{slice_index, slice_set, ◌==◌, ◌+ℤ◌, ◌-ℤ◌, ◌*ℤ◌, neg_ℤ, int_lt, int_le, int_div, int_rem, unsigned_abs, not, ◌&&◌, ◌||◌}
-use Rattle.std.specs.Prelude.{FitsSigned}
+use Rattle.std.proofs.Common.{◌≡◌, ◌<◌, ◌≤◌, ℕ, zero, suc, ◌+◌, ◌-◌, ◌^◌, Bool, true, false, cond, nat_lt, ℤ, pos, negsuc, List, [], ◌∷◌}
+use Rattle.std.proofs.Common.{◌++◌, Result, Ok, Err, Some, None, get_or, length, refl, sym, ap, ap₂, ◌∙◌, subst, arith}
+use Rattle.std.specs.Prelude.{slice_index, slice_set, ◌==◌, ◌+ℤ◌, ◌-ℤ◌, ◌*ℤ◌, neg_ℤ, int_lt, int_le}
+use Rattle.std.specs.Prelude.{int_div, int_rem, unsigned_abs, not, ◌&&◌, ◌||◌, FitsSigned}
 use Rattle.std.specs.Int.{w64}
 use Rattle.std.specs.List.{All, sum}
 use Rattle.std.specs.Ordering.{int_eq}
@@ -45,8 +45,8 @@ use Rattle.ppm_tree.specs.State.{TrapAt, then_with, at_line, tested, unless_deci
 use Rattle.ppm_owning.proofs.WordLemmas.{index_below}
 use Rattle.ppm_regions.specs.Scope.{Declaration, Scope, declared, is_region}
 use Rattle.ppm_translation.specs.Layout.{Layout, slot_of, register_with, register}
-use Rattle.ppm_translation.specs.Expressions.{branch_size, last_size, size_of, truth_code, operator_code, right_register, branch_code}
-use Rattle.ppm_translation.specs.Expressions.{expression_code}
+use Rattle.ppm_translation.specs.Expressions.{branch_size, last_size, size_of, truth_code, operator_code}
+use Rattle.ppm_translation.specs.Expressions.{right_register, branch_code, expression_code}
 use Rattle.ppm_translation.specs.Fits.{Has, IsKept, FitsExpression}
 use Rattle.ppm_translation.proofs.RegionWords.{array_within, offset_of, region_word}
 use Rattle.ppm_compiling.proofs.Holding.{HoldsValue, Lies}

@@ -2,8 +2,7 @@
 use Rattle.std.proofs.Common.{◌≤◌, ◌<◌, ℕ, ◌+◌, [], ◌∷◌, ◌++◌, length, arith, length-append}
 use Rattle.std.specs.List.{AllByRecursion}
 use Rattle.ppm_tree.specs.declared.named.Named.{Named}
-use Rattle.ppm_tree.specs.Tree.{Expression, Side, Statement, Block, Nil, Then, Let, Assign, Put, If, While, Split, Each, Procedure, ProgramTree}
-use Rattle.ppm_tree.specs.Tree as tree
+use Rattle.ppm_tree.specs.Tree.{Expression, Statement, Block, Then, If, While, Split, Each, Procedure, ProgramTree}
 use Rattle.ppm_tree.specs.Limits.{IsSmallStatement}
 use Rattle.ppm_tree.specs.Parts.{statement_and_inner, statements_in}
 use Rattle.ppm_tree.specs.State.{Frame, Locals, with_locals}
@@ -16,11 +15,11 @@ use Rattle.ppm_bounds.proofs.Keeping.{all-first, all-second}
 use Rattle.ppm_owning.specs.Coming.{ComesTo, Behind, InHolds, InElse, InWhile, InSplit, InEach, split_frame, each_frame}
 use Rattle.ppm_owning.proofs.Theorem.{apart_everywhere}
 use Rattle.ppm_translation.specs.Layout.{Layout, caught}
-use Rattle.ppm_translation.specs.Fits.{FitsStatement, FitsBlock}
+use Rattle.ppm_translation.specs.Fits.{FitsBlock}
 use Rattle.ppm_translation.specs.Slots.{hidden_named_slots}
 use Rattle.ppm_translation.specs.Statements.{with_lets, with_parts, hidden_layout}
 use Rattle.ppm_translation.proofs.LayoutLemmas.{lets_room}
-use Rattle.ppm_translation.proofs.CaughtLemmas.{IsEachOnce, once_lets, once_push, once_parts, once_hidden, caught_is_counted}
+use Rattle.ppm_translation.proofs.CaughtLemmas.{IsEachOnce, once_lets, once_parts, once_hidden, caught_is_counted}
 use Rattle.ppm_translation.proofs.RegionWords.{lengths_of}
 use Rattle.ppm_compiling.proofs.Holding.{Lies}
 

@@ -1,6 +1,6 @@
 -- The two ends of a run: the words and the root's frame with which it begins, and the outcome that is said of its end.
-use Rattle.std.proofs.Common.{◌≡◌, ◌<◌, ℕ, zero, suc, ◌+◌, ◌*◌, ◌^◌, ℤ, pos, negsuc, List, [], ◌∷◌}
-use Rattle.std.proofs.Common.{get_or, map, length, codes, refl, sym, ap, ap₂, ◌∙◌, subst, arith}
+use Rattle.std.proofs.Common.{◌≡◌, ◌<◌, ℕ, zero, suc, ◌+◌, ◌*◌, ◌^◌, ℤ, pos, negsuc, List, [], ◌∷◌, get_or}
+use Rattle.std.proofs.Common.{map, length, codes, refl, sym, ap, ap₂, ◌∙◌, subst, arith}
 use Rattle.std.specs.Prelude.{FitsSigned}
 use Rattle.std.specs.Int.{w64}
 use Rattle.std.specs.List.{All, AllByRecursion, sum}

@@ -1,6 +1,5 @@
 -- The hidden procedure of an `each` runs the blocks of its elements from the first one on, by halves: what each block does, all do.
-use Rattle.std.proofs.Common.{◌≡◌, ◌≤◌, ℕ, zero, suc, ◌+◌, ◌-◌, ◌*◌, ◌/◌, ◌^◌, List, [], ◌∷◌, None, length}
-use Rattle.std.proofs.Common.{refl, sym, ap, ◌∙◌, subst, arith}
+use Rattle.std.proofs.Common.{◌≡◌, ◌≤◌, ℕ, zero, suc, ◌+◌, ◌-◌, ◌*◌, ◌/◌, ◌^◌, List, [], ◌∷◌, None, length, refl, sym, ap, ◌∙◌, subst, arith}
 use Rattle.ppm_strands.specs.Tree.{Words, Code, Strand, Fork as Forking, Over}
 use Rattle.ppm_code.specs.declared.act.End.TheVariants as ends
 use Rattle.ppm_code.specs.declared.instr.Instr.TheVariants as instr
@@ -23,8 +22,8 @@ use Rattle.ppm_translation.specs.Standing.{HasStatement, HasBlock}
 use Rattle.ppm_translation.specs.Statements.{Last, Gives, last_code, with_lets, hidden_layout}
 use Rattle.ppm_translation.proofs.CaughtLemmas.{IsEachOnce}
 use Rattle.ppm_translation.proofs.RegionWords.{lengths_of, offset_of, region_word}
-use Rattle.ppm_compiling.proofs.ChainLemmas.{Cost, cost, both_costs, within_cost, Chain, chain_then, chain_weaken, chain_left, chain_right}
-use Rattle.ppm_compiling.proofs.ChainLemmas.{chain_join}
+use Rattle.ppm_compiling.proofs.ChainLemmas.{Cost, cost, both_costs, within_cost, Chain, chain_then}
+use Rattle.ppm_compiling.proofs.ChainLemmas.{chain_weaken, chain_left, chain_right, chain_join}
 use Rattle.ppm_compiling.proofs.Holding.{CodeFrame, Shows, Holds, sweep_frame, at_work, waits, strands, CodeTree, Reaches}
 use Rattle.ppm_compiling.proofs.SlotLemmas.{part_slot}
 use Rattle.ppm_compiling.proofs.Doing.{Entered}

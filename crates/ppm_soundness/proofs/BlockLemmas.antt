@@ -1,6 +1,5 @@
 -- All capsules of an admitted program are safe.
-use Rattle.std.proofs.Common.{◌≡◌, ◌≤◌, ℕ, suc, ◌+◌, List, [], ◌∷◌, ◌++◌, None, Some, length, map}
-use Rattle.std.proofs.Common.{refl, ap, arith}
+use Rattle.std.proofs.Common.{◌≡◌, ◌≤◌, ℕ, suc, ◌+◌, List, [], ◌∷◌, ◌++◌, None, Some, length, map, refl, ap, arith}
 use Rattle.std.specs.List.{All, AllByRecursion, Contains}
 use Rattle.std.specs.Prelude.{slice_get, Option}
 use Rattle.std.proofs.lemmas.List.{length-append}
@@ -27,19 +26,17 @@ use Rattle.ppm_translation.specs.Layout.{Layout, parameter_layout}
 use Rattle.ppm_translation.specs.Numbers.{behind, end_of, hidden_behind, hidden_behind_block, element_block}
 use Rattle.ppm_translation.specs.Slots.{named_slots, hidden_named_slots, hidden_slots}
 use Rattle.ppm_translation.specs.Statements.{Last, OnTo, Gives, onward, last_code, with_lets, with_parts, hidden_layout, statement_code, block_code}
-use Rattle.ppm_translation.specs.Routines.{Routine, OfText, Hidden, Sweep, sweep_layout, routine_behind, hidden_of, hidden_of_block, texts_from}
-use Rattle.ppm_translation.specs.Routines.{hidden_from, routines_of, routine_code, capsules_from, code_of}
+use Rattle.ppm_translation.specs.Routines.{Routine, OfText, Hidden, Sweep, sweep_layout, routine_behind, hidden_of, hidden_of_block}
+use Rattle.ppm_translation.specs.Routines.{texts_from, hidden_from, routines_of, routine_code, capsules_from, code_of}
 use Rattle.ppm_translation.specs.Fits.{layout_behind, FitsStatement, FitsBlock, FitsGive, FitsProcedure}
 use Rattle.ppm_translation.proofs.FitsLemmas.{each_fits}
-use Rattle.ppm_translation.proofs.PlaceLemmas.{past, past_length, texts_past, ArePlaced, placed_first, placed_second, hidden_past}
-use Rattle.ppm_translation.proofs.PlaceLemmas.{hidden_past_block}
-use Rattle.ppm_translation.proofs.PlaceLemmas.{routines_placed, procedures_have}
+use Rattle.ppm_translation.proofs.PlaceLemmas.{past, past_length, texts_past, ArePlaced, placed_first, placed_second}
+use Rattle.ppm_translation.proofs.PlaceLemmas.{hidden_past, hidden_past_block, routines_placed, procedures_have}
 use Rattle.ppm_translation.proofs.CaughtLemmas.{caught_have_slots}
 use Rattle.ppm_translation.proofs.LayoutLemmas.{lets_length}
 use Rattle.ppm_soundness.proofs.PlainLemmas.{all_at, Below, IsSafe, end_last, safe}
 use Rattle.ppm_soundness.proofs.SafeLemmas.{safe_onward, safe_let, safe_value, safe_move, safe_element, safe_put, safe_test, safe_split}
-use Rattle.ppm_soundness.proofs.SafeLemmas.{safe_give, safe_each}
-use Rattle.ppm_soundness.proofs.SafeLemmas.{safe_entry, safe_halving, HasSlots, safe_call, safe_fork}
+use Rattle.ppm_soundness.proofs.SafeLemmas.{safe_give, safe_each, safe_entry, safe_halving, HasSlots, safe_call, safe_fork}
 use Rattle.ppm_soundness.specs.Correct.{MayBeStopped, StoresTidily}
 
 -- what holds of each element of two lists holds of each of both together

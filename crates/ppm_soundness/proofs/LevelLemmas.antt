@@ -1,8 +1,7 @@
 -- How a frame that stands at a block goes on: behind its first statement, in its blocks, and in those of an `each`.
-use Rattle.std.proofs.Common.{◌≡◌, ◌≤◌, ◌<◌, ℕ, suc, ◌+◌, cond, Bool, true, false, List, [], ◌∷◌, ◌++◌, None, length, inl, inr, ◌⊎◌, refl, ap}
-use Rattle.std.proofs.Common.{◌∙◌, subst, arith}
+use Rattle.std.proofs.Common.{◌≡◌, ◌<◌, ℕ, suc, ◌+◌, cond, Bool, true, false, List, [], ◌∷◌, ◌++◌}
+use Rattle.std.proofs.Common.{None, length, inl, inr, ◌⊎◌, refl, ap, ◌∙◌, subst, arith}
 use Rattle.std.specs.Str.{bytes_eq}
-use Rattle.std.proofs.lemmas.List.{length-append}
 use Rattle.ppm_capsules.specs.Strand.{Frame as CapsuleFrame}
 use Rattle.ppm_code.specs.declared.act.End.TheVariants as ends
 use Rattle.ppm_code.specs.declared.code.CodeParts.{CodeParts}
@@ -25,7 +24,6 @@ use Rattle.ppm_owning.specs.Coming.{part_frame}
 use Rattle.ppm_owning.proofs.ScopeLemmas.{seen_before, mut_before, owned_before, written_before}
 use Rattle.ppm_owning.proofs.PartLemmas.{lie_still}
 use Rattle.ppm_owning.proofs.ComingLemmas.{each_sites, part_apart, part_comes}
-use Rattle.ppm_bounds.specs.Slots.{most_in_force}
 use Rattle.ppm_translation.specs.Layout.{Layout, slot_of, caught}
 use Rattle.ppm_translation.specs.Numbers.{behind, hidden_behind, halving, element_block}
 use Rattle.ppm_translation.specs.Slots.{hidden_named_slots}

@@ -1,5 +1,6 @@
 -- The slots of names in longer layouts, and in those of which some names are left out.
-use Rattle.std.proofs.Common.{◌≡◌, ◌≤◌, ◌<◌, ◌+◌, length-append, cond, Bool, true, false, ℕ, suc, List, [], ◌∷◌, ◌++◌, length, refl, sym, ap, ◌∙◌, subst, arith}
+use Rattle.std.proofs.Common.{◌≡◌, ◌≤◌, ◌<◌, ◌+◌, length-append, cond, Bool, true, false, ℕ, suc, List, []}
+use Rattle.std.proofs.Common.{◌∷◌, ◌++◌, length, refl, sym, ap, ◌∙◌, subst, arith}
 use Rattle.std.specs.Prelude.{not}
 use Rattle.std.proofs.Math.Nat.{le-max_right}
 use Rattle.std.specs.List.{Contains, filter}

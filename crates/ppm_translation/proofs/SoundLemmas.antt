@@ -20,13 +20,12 @@ use Rattle.ppm_translation.specs.Layout.{Layout, parameter_layout, caught}
 use Rattle.ppm_translation.specs.Numbers.{hidden_behind, hidden_behind_block}
 use Rattle.ppm_translation.specs.Slots.{has_assignment, spare_slots, procedure_slots, hidden_slots}
 use Rattle.ppm_translation.specs.Statements.{with_lets, with_parts, hidden_layout}
-use Rattle.ppm_translation.specs.Routines.{Sweep, Routine, OfText, Hidden, sweep_layout, routine_slots, hidden_of, hidden_of_block, texts_from}
-use Rattle.ppm_translation.specs.Routines.{hidden_from}
-use Rattle.ppm_translation.specs.Routines.{routines_of}
+use Rattle.ppm_translation.specs.Routines.{Sweep, Routine, OfText, Hidden, sweep_layout, routine_slots, hidden_of}
+use Rattle.ppm_translation.specs.Routines.{hidden_of_block, texts_from, hidden_from, routines_of}
 use Rattle.ppm_regions.specs.Scope.{split_scope, each_scope}
 use Rattle.ppm_translation.specs.Fits.{FitsStatement, FitsBlock, FitsProcedure}
 use Rattle.ppm_translation.proofs.PlaceLemmas.{past, ArePlaced, placed_first, placed_second, hidden_past, hidden_past_block, texts_past, past_length}
-use Rattle.ppm_translation.proofs.CaughtLemmas.{IsEachOnce, once_lets, each_once, once_push, once_parts, once_hidden, caught_is_counted}
+use Rattle.ppm_translation.proofs.CaughtLemmas.{IsEachOnce, once_lets, each_once, once_parts, once_hidden, caught_is_counted}
 use Rattle.ppm_translation.proofs.FitLemmas.{line_fits}
 
 -- at most one spare slot is not counted by the bounds
