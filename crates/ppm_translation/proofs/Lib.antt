@@ -11,3 +11,7 @@ pub mod FitLemmas
 pub mod SoundLemmas
 pub mod RuleLemmas
 pub mod KeepLemmas
+pub mod BareLemmas
+pub mod LineLemmas
+pub mod ApartLemmas
+pub mod FewLemmas
