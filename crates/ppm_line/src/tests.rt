@@ -23,7 +23,7 @@ fn words_give_a_command_or_none(rt: HostRuntime) -> Result<(), Fail> {
     };
     let runs = runs_with(16_777_216, 65_536);
     let within = |turns| Some(Command::Serial(SerialOptions { turns }));
-    let cases: [(&[&str], Option<Command>); 46] = [
+    let cases: [(&[&str], Option<Command>); 45] = [
         (&["ppm", "run"], runs),
         (&["any", "run"], runs),
         (&["ppm", "run", "--processors", "1"], runs),
