@@ -5,6 +5,7 @@ pub mod Members
 pub mod Notes
 pub mod Used
 pub mod Keeping
+pub mod NoEach
 pub mod Sums
 pub mod First
 pub mod OneFault

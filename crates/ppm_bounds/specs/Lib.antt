@@ -4,4 +4,5 @@ pub mod Capsules
 pub mod Bounds
 pub mod Refusals
 pub mod Catching
+pub mod Sought
 pub mod Correct

@@ -10,6 +10,7 @@ ghost use Rattle.ppm_bounds.specs.Catching.{Notes, Tells, HasEachOnce};
 use crate::bound::{Bound, CAUGHT_LIMIT, SLOT_LIMIT};
 use crate::names::Names;
 use crate::slots::{names_fit, own_slots_fit, put_slots};
+use crate::sought::has_each;
 use crate::stop::Stop;
 use crate::walk::Walk;
 use ppm_tree::{Named, Proc, Stmt};
@@ -170,6 +171,9 @@ pub fn keeps(alloc: Global, bound: Bound, procedure: &Proc) -> Result<bool, NoMe
 {
     if !own_keeps(bound, procedure) {
         return Ok(false);
+    }
+    if !has_each(&procedure.body) {
+        return Ok(true);
     }
     let mut walk = Walk::new(alloc);
     match in_block(alloc, bound, &mut walk, &procedure.body) {

@@ -14,6 +14,7 @@ mod eaches;
 mod laws;
 mod names;
 mod slots;
+mod sought;
 mod stop;
 #[cfg(test)]
 mod tests;

@@ -1,12 +1,11 @@
 -- That the code of a program ends exactly where the program does, as it means.
-use Rattle.std.specs.Prelude.{◌≡◌, ◌≤◌, ◌<◌, ◌⊎◌, ℕ, ◌+◌, ◌-◌, ◌*◌, ℤ, pos, negsuc, List, [], ◌∷◌, length, map}
-use Rattle.std.specs.List.{All, sum}
+use Rattle.std.specs.Prelude.{◌≡◌, ◌≤◌, ◌⊎◌, ℕ, ◌+◌, ◌-◌, ◌*◌, ℤ, List, [], ◌∷◌}
+use Rattle.std.specs.List.{sum_by}
 use Rattle.std.specs.Set.{distinct_count}
 use Rattle.std.specs.Str.{bytes_eq}
 use Rattle.ppm_strands.specs.Tree.{Words, Tree}
 use Rattle.ppm_strands.specs.Run.{Counts as CapsuleCounts, End as CapsuleEnd}
 use Rattle.ppm_capsules.specs.Strand.{Frame as CapsuleFrame}
-use Rattle.ppm_words.specs.Limits.{value_bound}
 use Rattle.ppm_words.specs.declared.named_array.NamedArray.{NamedArray}
 use Rattle.ppm_code.specs.declared.location.FrameWord.{FrameWord}
 use Rattle.ppm_code.specs.Strands.{Point, Result}
@@ -43,7 +42,7 @@ pub record IsEndOf (t : ProgramTree) (input : List NamedArray) (e : CapsuleEnd R
   pub outcome : said_of input e.words e.outcome ≡ outcome_of input z
   pub capsules : e.counts.capsules ≤ 2 * k.turns
   pub forks : e.counts.forks ≡ k.forks
-  pub block_words : e.counts.block_words ≡ sum (map (words_begun t.procedures) k.begun)
+  pub block_words : e.counts.block_words ≡ sum_by (words_begun t.procedures) k.begun
 
 -- From an input the program, run whole, has an end exactly where its code's depth-first run has one, and it is the same. Where it has none the
 -- code runs as many capsules as one likes.

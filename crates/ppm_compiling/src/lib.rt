@@ -5,3 +5,5 @@
 #![tactic(auto)]
 
 mod laws;
+
+pub use laws::end_as_meant;

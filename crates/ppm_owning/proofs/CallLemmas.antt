@@ -15,8 +15,8 @@ use Rattle.ppm_regions.specs.Faults.{Clashes}
 use Rattle.ppm_regions.specs.Admission.{IsAdmitted}
 use Rattle.ppm_regions.specs.Correct.{KeepsRules}
 use Rattle.ppm_owning.specs.Words.{IsPart}
-use Rattle.ppm_owning.proofs.ScopeLemmas.{names_same, same_names, none_and_some, some_same}
-use Rattle.ppm_owning.proofs.SiteLemmas.{AreMade, made_left, made_right, AreNew, not_later}
+use Rattle.ppm_regions.proofs.ScopeLemmas.{names_same, same_names, none_and_some, some_same}
+use Rattle.ppm_regions.proofs.SiteLemmas.{AreMade, made_left, made_right, AreNew, not_later}
 use Rattle.ppm_owning.proofs.PartLemmas.{Origin, part_of_itself}
 use Rattle.ppm_owning.proofs.LendLemmas.{NoClash, no_clash_right, no_clash_between, may_lend, lent_name, lending_is}
 

@@ -17,9 +17,9 @@ use Rattle.ppm_regions.specs.Admission.{IsAdmitted}
 use Rattle.ppm_regions.specs.Correct.{Makes, KeepsRules}
 use Rattle.ppm_owning.specs.Words.{ChangesOnly}
 use Rattle.ppm_owning.specs.Owning.{MayWrite}
-use Rattle.ppm_owning.specs.Coming.{scope_of, split_scope, each_scope}
+use Rattle.ppm_regions.specs.Scope.{scope_of, split_scope, each_scope}
 use Rattle.ppm_owning.proofs.ScopeLemmas.{written_before}
-use Rattle.ppm_owning.proofs.SiteLemmas.{AreSites, sites_left, sites_right, made_head, uses_first, sites_inside, sites_behind, callee_sites, sites_of_body}
+use Rattle.ppm_regions.proofs.SiteLemmas.{AreSites, sites_left, sites_right, made_head, uses_first, sites_inside, sites_behind, callee_sites, sites_of_body}
 use Rattle.ppm_owning.proofs.PartLemmas.{owns_no_more}
 use Rattle.ppm_owning.proofs.ComingLemmas.{split_comes, split_sites, each_comes, each_sites, call_comes, left_comes, right_comes}
 use Rattle.ppm_owning.proofs.WordLemmas.{index_below, split_below, unchanged, changes_on, changes_more, put_changes}

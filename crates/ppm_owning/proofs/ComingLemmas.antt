@@ -14,11 +14,12 @@ use Rattle.ppm_regions.specs.Admission.{IsAdmitted}
 use Rattle.ppm_regions.specs.Correct.{Makes, KeepsRules}
 use Rattle.ppm_owning.specs.Words.{ShareNoWord, IsPart}
 use Rattle.ppm_owning.specs.Owning.{IsSeen, OwnsApart, LieInArrays, OwnsNoMore, AreSeparate}
-use Rattle.ppm_owning.specs.Coming.{scope_of, callee, split_scope, each_scope, split_frame, each_frame, part_frame, ComesTo}
+use Rattle.ppm_regions.specs.Scope.{scope_of, split_scope, each_scope}
+use Rattle.ppm_owning.specs.Coming.{callee, split_frame, each_frame, part_frame, ComesTo}
 use Rattle.ppm_owning.specs.Coming.{Main, Behind, InHolds, InElse, InWhile, InSplit, InEach, InCall, InLeft, InRight}
 use Rattle.ppm_owning.proofs.ScopeLemmas.{seen_before, mut_before, owned_before, written_before}
-use Rattle.ppm_owning.proofs.SiteLemmas.{AreSites, sites_left, sites_right, AreMade, made_left, made_right, made_head, uses_first, sites_inside}
-use Rattle.ppm_owning.proofs.SiteLemmas.{sites_behind, callee_sites, sites_of_body, AreNew, are_new}
+use Rattle.ppm_regions.proofs.SiteLemmas.{AreSites, sites_left, sites_right, AreMade, made_left, made_right, made_head, uses_first, sites_inside}
+use Rattle.ppm_regions.proofs.SiteLemmas.{sites_behind, callee_sites, sites_of_body, AreNew, are_new}
 use Rattle.ppm_owning.proofs.PartLemmas.{ComesFrom, lie_still, owns_no_more, owns_on, owns_itself, element_in, elements_share_none, share_none_back}
 use Rattle.ppm_owning.proofs.SplitLemmas.{split_from, split_apart, each_from, each_apart, beside}
 use Rattle.ppm_owning.proofs.LendLemmas.{NoClash, no_clash, no_clash_left, no_clash_right}

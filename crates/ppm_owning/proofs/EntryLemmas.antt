@@ -14,9 +14,11 @@ use Rattle.ppm_regions.specs.Admission.{IsAdmitted}
 use Rattle.ppm_regions.specs.Correct.{KeepsRules}
 use Rattle.ppm_owning.specs.Words.{HasWord}
 use Rattle.ppm_owning.specs.Owning.{OwnsApart, AreSeparate, LieInArrays, words_at}
-use Rattle.ppm_owning.specs.Coming.{scope_of, callee}
-use Rattle.ppm_owning.proofs.ScopeLemmas.{same_names, none_and_some, mut_is_region}
-use Rattle.ppm_owning.proofs.SiteLemmas.{AreMade, made_right, made_head, made_tail, are_new, callee_sites, sites_of_parameters, same_parameters}
+use Rattle.ppm_regions.specs.Scope.{scope_of}
+use Rattle.ppm_owning.specs.Coming.{callee}
+use Rattle.ppm_regions.proofs.ScopeLemmas.{same_names, none_and_some}
+use Rattle.ppm_owning.proofs.ScopeLemmas.{mut_is_region}
+use Rattle.ppm_regions.proofs.SiteLemmas.{AreMade, made_right, made_head, made_tail, are_new, callee_sites, sites_of_parameters, same_parameters}
 use Rattle.ppm_owning.proofs.PartLemmas.{ComesFrom, apart_by_origin}
 use Rattle.ppm_owning.proofs.LendLemmas.{NoClash, no_clash_between}
 use Rattle.ppm_owning.proofs.CallLemmas.{AreLent, are_lent}

@@ -16,7 +16,7 @@ use Rattle.ppm_regions.specs.Correct.{Makes, KeepsRules}
 use Rattle.ppm_owning.specs.Words.{AreSameAt}
 use Rattle.ppm_owning.specs.Owning.{Owns}
 use Rattle.ppm_owning.specs.Coming.{callee}
-use Rattle.ppm_owning.proofs.SiteLemmas.{AreMade, made_left, made_right, made_head, made_tail}
+use Rattle.ppm_regions.proofs.SiteLemmas.{AreMade, made_left, made_right, made_head, made_tail}
 use Rattle.ppm_owning.proofs.WordLemmas.{index_below}
 
 -- what goes on alike from every value

@@ -16,7 +16,7 @@ use Rattle.ppm_regions.specs.Faults as fault
 use Rattle.ppm_regions.specs.Admission.{IsAdmitted}
 use Rattle.ppm_regions.specs.Correct.{Makes, KeepsRules}
 use Rattle.ppm_regions.proofs.Elements.{contains_head, contains_cases}
-use Rattle.ppm_owning.proofs.SiteLemmas.{AreMade, made_head, made_tail}
+use Rattle.ppm_regions.proofs.SiteLemmas.{AreMade, made_head, made_tail}
 
 -- no lending clashes with one in front of it
 abbrev pub NoClash : List Lending → Type 0

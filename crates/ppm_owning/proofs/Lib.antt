@@ -1,5 +1,4 @@
 pub mod ScopeLemmas
-pub mod SiteLemmas
 pub mod PartLemmas
 pub mod SplitLemmas
 pub mod LendLemmas

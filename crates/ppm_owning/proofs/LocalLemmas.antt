@@ -17,10 +17,11 @@ use Rattle.ppm_regions.specs.Admission.{IsAdmitted}
 use Rattle.ppm_regions.specs.Correct.{KeepsRules}
 use Rattle.ppm_owning.specs.Words.{AreSameAt, KeepsSameness, over}
 use Rattle.ppm_owning.specs.Owning.{Owns}
-use Rattle.ppm_owning.specs.Coming.{scope_of, callee, split_scope, each_scope}
+use Rattle.ppm_regions.specs.Scope.{scope_of, split_scope, each_scope}
+use Rattle.ppm_owning.specs.Coming.{callee}
 use Rattle.ppm_owning.proofs.ScopeLemmas.{owned_before}
-use Rattle.ppm_owning.proofs.SiteLemmas.{AreSites, AreMade, made_left, made_right, made_tail, made_at, uses_first, sites_inside, sites_behind, callee_sites}
-use Rattle.ppm_owning.proofs.SiteLemmas.{sites_of_body, sites_of_gift}
+use Rattle.ppm_regions.proofs.SiteLemmas.{AreSites, AreMade, made_left, made_right, made_tail, made_at, uses_first, sites_inside, sites_behind, callee_sites}
+use Rattle.ppm_regions.proofs.SiteLemmas.{sites_of_body, sites_of_gift}
 use Rattle.ppm_owning.proofs.PartLemmas.{owns_no_more}
 use Rattle.ppm_owning.proofs.ComingLemmas.{split_comes, split_sites, each_comes, each_sites, call_comes, left_comes, right_comes}
 use Rattle.ppm_owning.proofs.ComingLemmas.{call_facts, left_facts, right_facts}

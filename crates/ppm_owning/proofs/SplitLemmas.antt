@@ -8,9 +8,11 @@ use Rattle.ppm_regions.specs.Scope.{Declaration, Scope, declared, is_region, par
 use Rattle.ppm_regions.specs.Scope.{parts_of, element_of, index_of}
 use Rattle.ppm_owning.specs.Words.{HasWord, ShareNoWord, IsPart}
 use Rattle.ppm_owning.specs.Owning.{IsSeen, IsMut, OwnsApart, Owns, MayWrite}
-use Rattle.ppm_owning.specs.Coming.{split_scope, each_scope, split_frame, part_frame}
-use Rattle.ppm_owning.proofs.ScopeLemmas.{names_same, same_names, names_other, other_names, found_cases, none_and_some, some_same}
-use Rattle.ppm_owning.proofs.ScopeLemmas.{declared_in_front, declared_behind, declared_name, declared_map, image_of, mut_is_region}
+use Rattle.ppm_regions.specs.Scope.{split_scope, each_scope}
+use Rattle.ppm_owning.specs.Coming.{split_frame, part_frame}
+use Rattle.ppm_regions.proofs.ScopeLemmas.{names_same, same_names, names_other, other_names, found_cases, none_and_some, some_same}
+use Rattle.ppm_regions.proofs.ScopeLemmas.{declared_in_front, declared_behind, declared_name, declared_map, image_of}
+use Rattle.ppm_owning.proofs.ScopeLemmas.{mut_is_region}
 use Rattle.ppm_owning.proofs.PartLemmas.{Origin, ComesFrom, apart_by_origin, part_of_itself, first_in, second_in}
 use Rattle.ppm_owning.proofs.PartLemmas.{halves_share_none, share_none_back}
 

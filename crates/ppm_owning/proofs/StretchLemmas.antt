@@ -18,7 +18,7 @@ use Rattle.ppm_regions.proofs.Faultless.{array_is_its_own, fits_its_array}
 use Rattle.ppm_owning.specs.Words.{HasWord, IsPart}
 use Rattle.ppm_owning.specs.Owning.{Owns, MayWrite, words_at}
 use Rattle.ppm_owning.specs.Coming.{each_frame, part_frame}
-use Rattle.ppm_owning.proofs.ScopeLemmas.{same_names}
+use Rattle.ppm_regions.proofs.ScopeLemmas.{same_names}
 use Rattle.ppm_owning.proofs.PartLemmas.{word_of_whole}
 
 module _ (scope : Scope) (f : Frame) (r i x : Named) (q : Region) (k : ℕ) (part : IsPart (part_at k (f.regions r.name)) q) where

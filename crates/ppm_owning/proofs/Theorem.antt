@@ -7,9 +7,10 @@ use Rattle.ppm_tree.specs.Meaning.{Form, Runs, Enters, Sweeps}
 use Rattle.ppm_regions.specs.Scope.{Scope}
 use Rattle.ppm_regions.specs.Admission.{IsAdmitted}
 use Rattle.ppm_regions.proofs.Rules.{rules}
-use Rattle.ppm_owning.specs.Coming.{scope_of, callee, each_scope, each_frame, stretch, part_frame, ComesTo, InEach}
+use Rattle.ppm_regions.specs.Scope.{scope_of, each_scope}
+use Rattle.ppm_owning.specs.Coming.{callee, each_frame, stretch, part_frame, ComesTo, InEach}
 use Rattle.ppm_owning.specs.Correct.{ComeToSites, OwnApart, IsWithin, StayWithin, RunInEitherOrder}
-use Rattle.ppm_owning.proofs.SiteLemmas.{callee_sites}
+use Rattle.ppm_regions.proofs.SiteLemmas.{callee_sites}
 use Rattle.ppm_owning.proofs.PartLemmas.{owns_no_more, lie_still, stretch_in, element_of_stretch}
 use Rattle.ppm_owning.proofs.ComingLemmas.{came_in, stands, home_sites, at_home, split_comes, each_comes, each_sites, part_comes, part_apart, parts_beside}
 use Rattle.ppm_owning.proofs.ComingLemmas.{elements_beside, call_comes, left_comes, right_comes, sides_separate}

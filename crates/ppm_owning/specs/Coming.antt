@@ -6,23 +6,11 @@ use Rattle.ppm_tree.specs.Tree as tree
 use Rattle.ppm_tree.specs.State.{Region, first_part, second_part, Locals, Frame, with_region, with_locals, Arrays, procedure_named, entered, both_entered}
 use Rattle.ppm_tree.specs.Meaning.{with_parts, with_element}
 use Rattle.ppm_tree.specs.Program.{main_frame, main_of}
-use Rattle.ppm_regions.specs.Scope.{Scope, of_parameter, in_split, parts_of, in_each, element_of, lets_of}
-
--- what is declared in front of a procedure's body: its parameters
-abbrev pub scope_of : Procedure → Scope
-scope_of p = map of_parameter p.parameters
+use Rattle.ppm_regions.specs.Scope.{Scope, scope_of, split_scope, each_scope, lets_of}
 
 -- the procedure that a side calls
 abbrev pub callee : ProgramTree → Side → Procedure
 callee t s = procedure_named t.procedures s.callee.name
-
--- what is declared in the block of a split
-abbrev pub split_scope : Scope → Named → Named → Named → Scope
-split_scope scope r x y = in_split scope r ++ parts_of scope r x y
-
--- and in that of an `each`
-abbrev pub each_scope : Scope → Named → Named → Named → Scope
-each_scope scope r i x = in_each scope r ++ element_of scope r i x
 
 -- the frame of the block of a split
 abbrev pub split_frame : Frame → Named → ℕ → Named → Named → Frame

@@ -12,7 +12,8 @@ use Rattle.ppm_regions.specs.Uses.{Site, sites_of_block, sites_of_procedure, sit
 use Rattle.ppm_regions.specs.Admission.{IsAdmitted}
 use Rattle.ppm_owning.specs.Words.{ShareNoWord, IsPart, AreSameAt, ChangesOnly, KeepsSameness, over}
 use Rattle.ppm_owning.specs.Owning.{Owns, MayWrite, OwnsApart, words_at, LieInArrays, OwnsNoMore, AreSeparate}
-use Rattle.ppm_owning.specs.Coming.{scope_of, callee, split_scope, each_scope, split_frame, each_frame}
+use Rattle.ppm_regions.specs.Scope.{scope_of, split_scope, each_scope}
+use Rattle.ppm_owning.specs.Coming.{callee, split_frame, each_frame}
 use Rattle.ppm_owning.specs.Coming.{stretch, part_frame, ComesTo}
 
 -- Each site of a block that a run comes to, and of the procedure that it stands in, is a site of the program: so their uses keep its

@@ -36,7 +36,7 @@ use Rattle.ppm_parser.specs.declared.stop.Stop.{Stop}
 use Rattle.ppm_parser.specs.declared.stop.Stop.TheVariants as stop
 use Rattle.ppm_parser.specs.Faults.{fault_of}
 use Rattle.ppm_parser.specs.Room.{Has, with_nodes}
-use Rattle.ppm_parser.specs.Fronts.{InFront, HasAt, HasName, HasOperator, Misses, NoOperator, IsNotFront, line_of, comes_once}
+use Rattle.ppm_parser.specs.Fronts.{InFront, HasAt, HasName, HasOperator, Misses, NoOperator, NoneWithin, IsNotFront, line_of, comes_once}
 use Rattle.ppm_parser.specs.Parsing.{Parses, Stops, ParsesExpression, ParsesFrom, ParsesUpTo, IsNameAt, ParsesNamed, StopsNamed}
 use Rattle.ppm_parser.proofs.Reading.{then_reads, then_fails, front_fails, read, of_same, name_reads}
 use Rattle.ppm_parser.proofs.Reading.{row_reads, row_fails, row_many, only_reads, only_fails, past_reads}
@@ -305,3 +305,52 @@ module _ {depth : ℕ} {room : Room} {ts behind : List Token} {t : Token} (shape
 -- a literal keeps its value
 pub literal_value : (n : ℕ) (z : ℤ) → z ≡ pos n → n < value_bound → to_z w64 (of_z w64 z) ≡ pos n
 literal_value n z is small = rw is (to_z-of_z w64 (pos n) (omega (arith, ints, small)))
+
+module _ {depth : ℕ} {room : Room} {ts : List Token} where
+  -- an operand behind which no operator stands is the operation of each level in turn
+  module _ {room' : Room} {rest : List Token} {e : Expression} (a : ParsesExpression depth room p.Operand ts e room' rest) where
+    product_read : NoneWithin level.Product rest → ParsesExpression depth room (p.Operation level.Product) ts e room' rest
+    product_read none = operation_read level.Product a (stay_read level.Product none)
+
+    sum_read : NoneWithin level.Sum rest → ParsesExpression depth room (p.Operation level.Sum) ts e room' rest
+    sum_read none = operation_read level.Sum (product_read none.1) (stay_read level.Sum none.0)
+
+    comparison_read : NoneWithin level.Comparison rest → ParsesExpression depth room (p.Operation level.Comparison) ts e room' rest
+    comparison_read none = operation_read level.Comparison (sum_read (none.1, none.2)) (stay_read level.Comparison none.0)
+
+    both_read : NoneWithin level.Both rest → ParsesExpression depth room (p.Operation level.Both) ts e room' rest
+    both_read none = operation_read level.Both (comparison_read (none.1, none.2, none.3)) (stay_read level.Both none.0)
+
+    either_read : NoneWithin level.Either rest → ParsesExpression depth room (p.Operation level.Either) ts e room' rest
+    either_read none = operation_read level.Either (both_read (none.1, none.2, none.3, none.4)) (stay_read level.Either none.0)
+
+    pub plain_read : (level : Level) → NoneWithin level rest → ParsesExpression depth room (p.Operation level) ts e room' rest
+    plain_read level.Either none = either_read none
+    plain_read level.Both none = both_read none
+    plain_read level.Comparison none = comparison_read none
+    plain_read level.Sum none = sum_read none
+    plain_read level.Product none = product_read none
+
+  -- where it stops, so does each
+  module _ {e : Stop} (h : Stops depth room (Part p.Operand ∷ []) ts e) where
+    product_stops : Stops depth room (Part (p.Operation level.Product) ∷ []) ts e
+    product_stops = operation_front level.Product h
+
+    sum_stops : Stops depth room (Part (p.Operation level.Sum) ∷ []) ts e
+    sum_stops = operation_front level.Sum product_stops
+
+    comparison_stops : Stops depth room (Part (p.Operation level.Comparison) ∷ []) ts e
+    comparison_stops = operation_front level.Comparison sum_stops
+
+    both_stops : Stops depth room (Part (p.Operation level.Both) ∷ []) ts e
+    both_stops = operation_front level.Both comparison_stops
+
+    either_stops : Stops depth room (Part (p.Operation level.Either) ∷ []) ts e
+    either_stops = operation_front level.Either both_stops
+
+    pub plain_stops : (level : Level) → Stops depth room (Part (p.Operation level) ∷ []) ts e
+    plain_stops level.Either = either_stops
+    plain_stops level.Both = both_stops
+    plain_stops level.Comparison = comparison_stops
+    plain_stops level.Sum = sum_stops
+    plain_stops level.Product = product_stops

@@ -112,6 +112,14 @@ abbrev pub NoOperator : Level → List Token → Type 0
 NoOperator level [] = Unit {0}
 NoOperator level (t ∷ ts) = (sign : Sign) → t.kind ≡ kind.Sign sign → operator_at level sign ≡ None
 
+-- no operator of the level is in front, nor of one that binds more
+abbrev pub NoneWithin : Level → List Token → Type 0
+NoneWithin level.Product ts = NoOperator level.Product ts
+NoneWithin level.Sum ts = NoOperator level.Sum ts × NoOperator level.Product ts
+NoneWithin level.Comparison ts = NoOperator level.Comparison ts × NoOperator level.Sum ts × NoOperator level.Product ts
+NoneWithin level.Both ts = NoOperator level.Both ts × NoOperator level.Comparison ts × NoOperator level.Sum ts × NoOperator level.Product ts
+NoneWithin level.Either ts = NoOperator level.Either ts × NoOperator level.Both ts × NoOperator level.Comparison ts × NoOperator level.Sum ts × NoOperator level.Product ts
+
 -- the line of the first token
 abbrev pub line_of : List Token → ℕ
 line_of [] = 1

@@ -1,5 +1,5 @@
 //! From tokens to an expression.
-ghost use Rattle.std.specs.Prelude.{MatchResult, IfOk, ◌≡◌};
+ghost use Rattle.std.specs.Prelude.{MatchResult, IfOk, IsTrue, ◌≡◌, drop};
 ghost use Rattle.ppm_tree.specs.Tree.{expression_of};
 ghost use Rattle.ppm_tree.specs.Tree as tree;
 ghost use Rattle.ppm_rows.specs.Kinds.{Mark};
@@ -8,10 +8,10 @@ ghost use Rattle.ppm_rows.specs.Phrases.{operand};
 ghost use Rattle.ppm_rows.specs.Phrases as phrase;
 ghost use Rattle.ppm_grammar.specs.Rows.{Take, Part};
 ghost use Rattle.std.specs.Prelude.{[], ◌∷◌};
-ghost use Rattle.ppm_parser.specs.Fronts.{comes_once};
+ghost use Rattle.ppm_parser.specs.Fronts.{comes_once, NoneWithin};
 ghost use Rattle.ppm_parser.specs.Parsing.{ParsesExpression, ParsesFrom, ParsesUpTo, ParsesNamed, StopsNamed, Stops};
 
-use crate::front::{name, operator_in, take};
+use crate::front::{has_none, name, operator_in, take};
 use crate::room::{Room, deeper};
 use crate::stop::Stop;
 use ppm_rows::Level;
@@ -138,6 +138,21 @@ pub fn up_to(
     Ok((whole, room, rest))
 }
 
+/// Whether an operand of one token is in front, and behind it no operator of the level or of one that binds more. Such an
+/// operand is read at once, and not by way of all levels.
+fn is_plain(level: Level, tokens: &[Token]) -> bool
+    ensures { IsTrue result → NoneWithin level (drop 1 tokens.now) }
+{
+    match tokens {
+        [first, rest @ ..] => match &first.kind {
+            Kind::Number(_) => has_none(level, rest),
+            Kind::Name(_) => take(rest, Sign::OpenBracket).is_err() && has_none(level, rest),
+            Kind::Keyword(_) | Kind::Sign(_) => false,
+        },
+        [] => false,
+    }
+}
+
 /// The operation of the level in front, the room that it leaves, and the tokens behind it.
 #[cycle(expression)]
 pub fn operation(
@@ -151,6 +166,12 @@ pub fn operation(
         (λ r. ParsesExpression depth room (phrase.Operation level) tokens.now (expression_of r.0) r.1 r.2.now)
         (Stops depth room (Part (phrase.Operation level) ∷ []) tokens.now) }
 {
+    if is_plain(level, tokens) {
+        let (whole, left, rest) = operand(alloc, depth, room, tokens)?;
+        if has_none(level, rest) {
+            return Ok((whole, left, rest));
+        }
+    }
     let (first, room, rest) = operand_of(alloc, depth, room, level, tokens)?;
     further(alloc, depth, room, level, first, rest)
 }

@@ -1,8 +1,8 @@
 //! What stands in front of some tokens.
-ghost use Rattle.std.specs.Prelude.{◌≡◌, MatchOption, MatchResult};
+ghost use Rattle.std.specs.Prelude.{◌≡◌, IsTrue, MatchOption, MatchResult};
 ghost use Rattle.ppm_tree.specs.declared.mode.Mode.{Mode};
 ghost use Rattle.ppm_rows.specs.Kinds.{Word, Mark};
-ghost use Rattle.ppm_parser.specs.Fronts.{HasFront, HasAt, HasName, HasNumber, HasLiteral, HasMode, HasOperator, Misses, MissesName, MissesNumber, MissesMode, NoOperator};
+ghost use Rattle.ppm_parser.specs.Fronts.{HasFront, HasAt, HasName, HasNumber, HasLiteral, HasMode, HasOperator, Misses, MissesName, MissesNumber, MissesMode, NoOperator, NoneWithin};
 
 use crate::stop::Stop;
 use ppm_rows::{Level, operator};
@@ -166,5 +166,21 @@ pub fn operator_in(level: Level, tokens: &[Token]) -> Option<(Operator, u32, u32
             None => None,
         },
         _ => None,
+    }
+}
+
+/// Whether no operator of the level is in front, nor of one that binds more.
+pub fn has_none(level: Level, tokens: &[Token]) -> bool
+    ensures { IsTrue result → NoneWithin level tokens.now }
+{
+    let None = operator_in(level, tokens) else {
+        return false;
+    };
+    match level {
+        Level::Either => has_none(Level::Both, tokens),
+        Level::Both => has_none(Level::Comparison, tokens),
+        Level::Comparison => has_none(Level::Sum, tokens),
+        Level::Sum => has_none(Level::Product, tokens),
+        Level::Product => true,
     }
 }

@@ -295,7 +295,7 @@ fn statements(
         (λ r. Parses depth room (Part phrase.Statements ∷ []) tokens.now (value.Statements (block_of r.0.items) ∷ []) r.1 r.2.now)
         (Stops depth room (Part phrase.Statements ∷ []) tokens.now) }
 {
-    let mut all = Vec::new(alloc);
+    let mut all = Vec::with_capacity(alloc, 1)?;
     let mut rest = tokens;
     'further: while has_statement(rest) {
         let (next, left, after) = statement(alloc, depth, room, rest)?;

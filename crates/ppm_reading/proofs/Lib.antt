@@ -14,3 +14,7 @@ mod LawLemmas
 mod WrittenLemmas
 mod PartsLemmas
 mod NoFaultLemmas
+mod OutlineLemmas
+mod AgreeLemmas
+mod FrontLemmas
+mod LongLemmas

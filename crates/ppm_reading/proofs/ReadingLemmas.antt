@@ -1,5 +1,5 @@
 -- A text without a fault is the listing of the code that it declares.
-use Rattle.std.proofs.Common.{◌≡◌, ◌∙◌, ℕ, ◌+◌, ◌≤◌, true, List, [], ◌∷◌, map, length, Option, Some, None, refl, sym, ap, subst, arith}
+use Rattle.std.proofs.Common.{◌≡◌, ◌∙◌, ℕ, true, List, [], ◌∷◌, map, Some, None, refl, sym, ap, subst, arith}
 use Rattle.std.specs.List.{AllByRecursion}
 use Rattle.std.proofs.lemmas.Bool.{both_ways}
 use Rattle.ppm_code.specs.declared.code.CodeParts.{CodeParts}
@@ -9,21 +9,17 @@ use Rattle.ppm_reading.specs.declared.part.Part.{Part}
 use Rattle.ppm_reading.specs.declared.part.Part.TheVariants as part
 use Rattle.ppm_reading.specs.declared.place.Place.{Place}
 use Rattle.ppm_reading.specs.declared.place.Place.TheVariants.{AtVersion}
-use Rattle.ppm_reading.specs.declared.listing_error.Fault.{Fault}
-use Rattle.ppm_reading.specs.Limits.{text_limit}
-use Rattle.ppm_reading.specs.ErrorNumbers.{refusal_at}
 use Rattle.ppm_reading.specs.Tokens.{split}
 use Rattle.ppm_reading.specs.Forms.{lines_of}
 use Rattle.ppm_reading.specs.Places.{next, code_in}
-use Rattle.ppm_reading.specs.Faults.{KeepsRules, IsFirstBreak}
-use Rattle.ppm_reading.specs.Correct.{standing_of, IsListing, IsRefusal}
+use Rattle.ppm_reading.specs.Faults.{KeepsRules}
+use Rattle.ppm_reading.specs.Correct.{standing_of, IsListing}
 use Rattle.ppm_reading.proofs.FormLemmas.{small_limit, IsSmallLine, IsWholePart, part_line}
 use Rattle.ppm_reading.proofs.LineLemmas.{split_some, joined-split, text_written}
 use Rattle.ppm_reading.proofs.SaidLemmas.{line_says}
 use Rattle.ppm_reading.proofs.CleanLemmas.{AllClean, IsClean, all_clean}
 use Rattle.ppm_reading.proofs.CodeLemmas.{make_code}
 use Rattle.ppm_reading.proofs.SmallLemmas.{lines_small}
-use Rattle.ppm_reading.proofs.FaultLemmas.{first_fault_of, refusal_of}
 
 -- a part that breaks no rule is whole
 whole_part : (code : CodeParts) (place : Place) (x : Part) → IsClean code place x → IsWholePart x
@@ -53,19 +49,3 @@ text_is_listing text h =
       fits = subst (AllByRecursion LineFits) made.lines fits;
       same = sym (joined-split 10 text) ∙ written ∙ ap text_of made.lines;
     })
-
--- likewise by lines and a code that were found for it
-pub found_listing : (text : List ℕ) (parts : CodeParts) (lines seen : List (Option Part)) → lines ≡ standing_of text → seen ≡ lines → parts ≡ code_in seen
-    → (again : List (Option Part)) → again ≡ lines → KeepsRules parts AtVersion again → IsListing text parts
-found_listing text parts lines seen e f g again h kept =
-    let code : parts ≡ code_in (standing_of text) = g ∙ ap code_in (f ∙ e) in
-    subst (IsListing text) (sym code) (text_is_listing text (subst (λ c. KeepsRules c AtVersion (standing_of text)) code
-    (subst (KeepsRules parts AtVersion) (h ∙ e) kept)))
-
-pub found_refusal : (text : List ℕ) (parts : CodeParts) (lines seen : List (Option Part)) → length text ≤ text_limit → lines ≡ standing_of text → seen ≡ lines
-    → parts ≡ code_in seen → (again : List (Option Part)) → again ≡ lines → (fault : Fault) (number : ℕ)
-    → IsFirstBreak parts AtVersion again fault number → IsRefusal text (refusal_at fault (number + 1))
-found_refusal text parts lines seen few e f g again h fault number first =
-    let code : parts ≡ code_in (standing_of text) = g ∙ ap code_in (f ∙ e) in
-    refusal_of text fault (number + 1) (first_fault_of text fault number few (subst (λ c. IsFirstBreak c AtVersion (standing_of text) fault number) code
-    (subst (λ ls. IsFirstBreak parts AtVersion ls fault number) (h ∙ e) first)))

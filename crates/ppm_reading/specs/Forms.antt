@@ -202,6 +202,11 @@ abbrev pub part_in : List Token → Option Part
 part_in (Name k ∷ ts) = if has_form k ts then Some (part_of k ts) else None
 part_in _ = None
 
+-- whether a token may stand behind eight others: only the root's line is so long, and has numbers
+abbrev pub may_go_on : List Token → Token → Bool
+may_go_on (Name keyword.Root ∷ ts) t = is_number t
+may_go_on _ t = false
+
 -- what the bytes of a line say, without its line feed
 abbrev pub line_of : List ℕ → Option Part
 line_of bytes = part_in (tokens_of bytes)

@@ -5,3 +5,5 @@ pub mod Forms
 pub mod Places
 pub mod Faults
 pub mod Correct
+pub mod Outlines
+pub mod Fronts

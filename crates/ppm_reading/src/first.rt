@@ -5,13 +5,13 @@ ghost use Rattle.ppm_reading.specs.declared.listing_error.Fault.TheVariants.{Not
 ghost use Rattle.ppm_reading.specs.declared.place.Place.TheVariants.{AtVersion};
 
 use crate::listing_error::Fault;
+use crate::outline::Outline;
 use crate::part::Part;
 use crate::place::Place;
 use crate::rules::{has_wrong_room, is_no_end, is_not_forward, is_not_there, is_out_of_range};
-use ppm_code::CodeParts;
 
 /// The rule of the least number that a line of some form breaks.
-fn part_fault(code: &CodeParts, place: Place, part: &Part) -> Option<Fault>
+fn part_fault(code: &Outline, place: Place, part: &Part) -> Option<Fault>
     ensures { IsLeastRule code.now place (Some part.now) result }
 {
     if is_out_of_range(code, place, part) {
@@ -33,7 +33,7 @@ fn part_fault(code: &CodeParts, place: Place, part: &Part) -> Option<Fault>
 }
 
 /// The rule of the least number that a line breaks.
-fn line_fault(code: &CodeParts, place: Place, line: &Option<Part>) -> Option<Fault>
+fn line_fault(code: &Outline, place: Place, line: &Option<Part>) -> Option<Fault>
     ensures { IsLeastRule code.now place line.now result }
 {
     match line {
@@ -53,7 +53,7 @@ fn ends_early(place: Place) -> bool
 }
 
 /// The first fault of lines that declare a code, with its line from 0.
-pub(crate) fn first_fault(code: &CodeParts, lines: &[Option<Part>]) -> Option<(Fault, u32)>
+pub(crate) fn first_fault(code: &Outline, lines: &[Option<Part>]) -> Option<(Fault, u32)>
     requires { length lines.now + 1 < 2 ^ 32 }
     ensures { MatchOption result
         (KeepsRules code.now AtVersion lines.now)

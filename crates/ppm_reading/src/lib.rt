@@ -15,8 +15,10 @@ mod laws;
 mod listing_error;
 mod number;
 mod operand;
+mod outline;
 mod part;
 mod place;
+mod reader;
 mod reading;
 mod rules;
 #[cfg(test)]

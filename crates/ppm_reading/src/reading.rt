@@ -1,5 +1,5 @@
 //! Reads listings.
-ghost use Rattle.std.specs.Prelude.{◌≡◌, ◌≤◌, ◌<◌, length, is_some, false, if◌then◌else◌, IfOk, IfErr};
+ghost use Rattle.std.specs.Prelude.{◌≡◌, ◌≤◌, ◌<◌, nat_lt, length, is_some, false, if◌then◌else◌, IfOk, IfErr};
 ghost use Rattle.ppm_listing.specs.Listing.{listing_of};
 ghost use Rattle.ppm_listing.specs.Correct.{NumbersFit};
 ghost use Rattle.ppm_reading.specs.Limits.{text_limit};
@@ -7,6 +7,7 @@ ghost use Rattle.ppm_reading.specs.Places.{standing};
 ghost use Rattle.ppm_reading.specs.declared.place.Place.TheVariants.{AtVersion};
 ghost use Rattle.ppm_reading.specs.declared.listing_error.ListingError.TheVariants.{NotThere, NoSuchForm};
 ghost use Rattle.ppm_reading.specs.Correct.{IsRefusal, standing_of};
+ghost use Rattle.ppm_reading.specs.Fronts.{HasRead};
 
 use crate::cut::cut;
 use crate::declared::declared;
@@ -14,6 +15,7 @@ use crate::first::first_fault;
 use crate::listing_error::ListingError;
 use crate::part::{Part, read_line};
 use crate::place::Place;
+use crate::reader::Reader;
 use crate::token::Token;
 use ppm_code::Code;
 use ppm_words::NoMemory;
@@ -22,30 +24,35 @@ use std::alloc::Global;
 /// The bytes of a listing, at most.
 pub const TEXT_LIMIT: usize = 536_870_912;
 
-/// The lines of a text, each as it stands.
-fn standing_lines(alloc: Global, text: &[u8]) -> Result<Vec<Option<Part>>, NoMemory>
+/// What was read of a text, line by line.
+fn read_lines(alloc: Global, text: &[u8]) -> Result<Reader, NoMemory>
     requires { length text.now ≤ text_limit }
-    ensures lines { IfOk result (λ lines. lines.items ≡ standing_of text.now) }
-    ensures most { IfOk result (λ lines. length lines.items ≤ length text.now) }
+    ensures lines { IfOk result (λ r. HasRead r (standing_of text.now)) }
+    ensures most { IfOk result (λ r. length r.kept.items ≤ length text.now) }
 {
-    let mut lines = Vec::new(alloc);
+    let mut reader = Reader::new(alloc);
     let mut tokens = Vec::new(alloc);
-    let mut place = Place::AtVersion;
     let mut left = text;
     while let Some((bytes, rest)) = cut(left, 10) {
-        let line = place.standing(read_line(alloc, bytes, &mut tokens)?);
-        place = place.next(&line);
-        lines.push(line)?;
+        reader.take(read_line(alloc, bytes, &mut tokens)?)?;
         left = rest;
     }
-    if !left.is_empty() {
-        lines.push(None)?;
+    if left.is_empty() {
+        return Ok(reader);
     }
-    Ok(lines)
+    reader.take(None)?;
+    Ok(reader)
+}
+
+/// Whether so many bytes are more than a listing may have.
+pub(crate) fn is_too_long(bytes: usize) -> bool
+    ensures { result ≡ nat_lt text_limit bytes }
+{
+    bytes > TEXT_LIMIT
 }
 
 /// The fault of a text with too many bytes, by its first line: that stands, or it does not.
-fn too_long_by(line: Option<Part>) -> ListingError
+pub(crate) fn too_long_by(line: Option<Part>) -> ListingError
     ensures { result ≡ (if is_some (standing AtVersion line) then NotThere 1 else NoSuchForm 1) }
 {
     match Place::AtVersion.standing(line) {
@@ -81,23 +88,22 @@ fn begins(alloc: Global, text: &[u8]) -> Result<bool, NoMemory>
     }
 }
 
-/// The code of a listing. `Err` with the first fault of a text that is none, or where memory is refused, which is
-/// taken in proportion to the text, but for a text whose first line is no listing's.
+/// The code of a listing. `Err` with the first fault of a text that is none, or where memory is refused: no more lines are
+/// kept than the largest code has.
 pub fn read_listing(alloc: Global, text: &[u8]) -> Result<Code, ListingError>
     ensures ok { IfOk result (λ code. text.now ≡ listing_of code) }
     ensures fits { IfOk result (λ code. NumbersFit code) }
     ensures err { IfErr result (IsRefusal text.now) }
 {
-    if text.len() > TEXT_LIMIT {
+    if is_too_long(text.len()) {
         return Err(too_long(alloc, text)?);
     }
     if !begins(alloc, text)? {
         return Err(ListingError::NoSuchForm(1));
     }
-    let lines = standing_lines(alloc, text)?;
-    let parts = declared(alloc, &lines)?;
-    match first_fault(&parts, &lines) {
+    let read = read_lines(alloc, text)?;
+    match first_fault(&read.outline, &read.kept) {
         Some((fault, line)) => Err(fault.at(line + 1)),
-        None => Ok(Code::from_parts(parts)),
+        None => Ok(Code::from_parts(declared(alloc, &read.kept)?)),
     }
 }

@@ -6,9 +6,10 @@ ghost use Rattle.ppm_reading.specs.Faults as rule;
 ghost use Rattle.std.specs.List.{list_any};
 ghost use Rattle.ppm_words.specs.Limits.{array_limit};
 
+use crate::outline::Outline;
 use crate::part::Part;
 use crate::place::Place;
-use ppm_code::{CodeParts, End, Instr};
+use ppm_code::{End, Instr};
 
 /// Whether a line of the source is out of range.
 fn is_no_line(line: u32) -> bool
@@ -34,79 +35,42 @@ fn is_end(instr: Instr) -> bool
     matches!(instr, Instr::Ends(_))
 }
 
-/// Whether a procedure is there.
-fn is_procedure(code: &CodeParts, procedure: u32) -> bool
-    ensures { result ≡ rule.is_procedure code.now procedure }
-{
-    (procedure as usize) < code.procedures.as_slice().len()
-}
-
-/// Whether a capsule is there, and one of a procedure.
-fn is_capsule_of(code: &CodeParts, procedure: u32, capsule: u32) -> bool
-    ensures { result ≡ rule.is_capsule_of code.now procedure capsule }
-{
-    match code.capsules.as_slice().get(capsule as usize) {
-        Some(capsule) => capsule.procedure == procedure,
-        None => false,
-    }
-}
-
-/// The slots of a procedure; none where there is no procedure.
-fn slots_of(code: &CodeParts, procedure: u32) -> u32
-    ensures { result ≡ slots_in_code code.now procedure }
-{
-    match code.procedures.as_slice().get(procedure as usize) {
-        Some(procedure) => procedure.slots,
-        None => 0,
-    }
-}
-
 /// The words of a frame of a procedure.
-fn frame_size(code: &CodeParts, procedure: u32) -> u64
+fn frame_size(code: &Outline, procedure: u32) -> u64
     ensures value { result ≡ frame_words code.now procedure }
     ensures bound { result < 2 ^ 33 }
 {
-    6 + u64::from(slots_of(code, procedure))
+    6 + u64::from(code.slots_of(procedure))
 }
 
 /// The words of a fork block.
-fn fork_size(code: &CodeParts, left: u32, right: u32) -> u64
+fn fork_size(code: &Outline, left: u32, right: u32) -> u64
     ensures { result ≡ fork_words code.now left right }
 {
     5 + frame_size(code, left) + frame_size(code, right)
 }
 
-/// How many instructions a capsule has.
-fn instr_count(code: &CodeParts, capsule: u32) -> usize
-    ensures { result ≡ length (instrs_of code.now capsule) }
-{
-    match code.capsules.as_slice().get(capsule as usize) {
-        Some(capsule) => capsule.instrs.as_slice().len(),
-        None => 0,
-    }
-}
-
 /// Whether a number of an end of a procedure's capsule is out of range.
-fn end_out_of_range(code: &CodeParts, procedure: u32, end: End) -> bool
+fn end_out_of_range(code: &Outline, procedure: u32, end: End) -> bool
     ensures { result ≡ rule.end_out_of_range code.now procedure end }
 {
     match end {
         End::Next { .. } | End::Finish => false,
         End::Trap { line, .. } => is_no_line(line),
-        End::Call { to, .. } => is_no_slot(slots_of(code, procedure), to),
+        End::Call { to, .. } => is_no_slot(code.slots_of(procedure), to),
         End::Fork {
             left_to,
             right_to,
             ..
         } => {
-            let slots = slots_of(code, procedure);
+            let slots = code.slots_of(procedure);
             is_no_slot(slots, left_to) || is_no_slot(slots, right_to)
         }
     }
 }
 
 /// Likewise of an instruction.
-fn instr_out_of_range(code: &CodeParts, procedure: u32, instr: Instr) -> bool
+fn instr_out_of_range(code: &Outline, procedure: u32, instr: Instr) -> bool
     ensures { result ≡ rule.instr_out_of_range code.now procedure instr }
 {
     match instr {
@@ -120,7 +84,7 @@ fn instr_out_of_range(code: &CodeParts, procedure: u32, instr: Instr) -> bool
         | Instr::Get { line, .. }
         | Instr::Put { line, .. } => is_no_line(line),
         Instr::LoadSlot { slot, .. } | Instr::StoreCur { slot, .. } => {
-            slots_of(code, procedure) <= slot
+            code.slots_of(procedure) <= slot
         }
         Instr::Room { words } => words == 0 || words > 1_048_576,
         Instr::Ends(end) => end_out_of_range(code, procedure, end),
@@ -153,14 +117,14 @@ fn any_past_limit(arrays: &[u32]) -> bool
 }
 
 /// Whether the root has more arrays than its procedure slots.
-fn is_too_many(code: &CodeParts, procedure: u32, arrays: &[u32]) -> bool
+fn is_too_many(code: &Outline, procedure: u32, arrays: &[u32]) -> bool
     ensures { result ≡ (rule.is_procedure code.now procedure && nat_lt (slots_in_code code.now procedure) (length arrays.now)) }
 {
-    is_procedure(code, procedure) && (slots_of(code, procedure) as usize) < arrays.len()
+    code.is_procedure(procedure) && (code.slots_of(procedure) as usize) < arrays.len()
 }
 
 /// 2: whether a number of a line is out of range.
-pub(crate) fn is_out_of_range(code: &CodeParts, place: Place, part: &Part) -> bool
+pub(crate) fn is_out_of_range(code: &Outline, place: Place, part: &Part) -> bool
     ensures { result ≡ rule.is_out_of_range code.now place part.now }
 {
     match part {
@@ -197,17 +161,17 @@ fn target_of(instr: Instr) -> Option<u32>
 }
 
 /// Whether an instruction at a place of a capsule is a branch that does not lead forward in it.
-fn instr_not_forward(code: &CodeParts, capsule: u32, at: u32, instr: Instr) -> bool
+fn instr_not_forward(code: &Outline, capsule: u32, at: u32, instr: Instr) -> bool
     ensures { result ≡ rule.instr_not_forward code.now capsule at instr }
 {
     match target_of(instr) {
-        Some(target) => branches_badly(at, instr_count(code, capsule), target),
+        Some(target) => branches_badly(at, code.instr_count(capsule), target),
         None => false,
     }
 }
 
 /// 3: whether a line is a branch that does not lead forward in its capsule.
-pub(crate) fn is_not_forward(code: &CodeParts, place: Place, part: &Part) -> bool
+pub(crate) fn is_not_forward(code: &Outline, place: Place, part: &Part) -> bool
     ensures { result ≡ rule.is_not_forward code.now place part.now }
 {
     match place {
@@ -224,18 +188,18 @@ pub(crate) fn is_not_forward(code: &CodeParts, place: Place, part: &Part) -> boo
 }
 
 /// Whether an instruction is the last of its capsule and no end.
-fn is_last_without_end(code: &CodeParts, capsule: u32, at: u32, instr: Instr) -> bool
+fn is_last_without_end(code: &Outline, capsule: u32, at: u32, instr: Instr) -> bool
     ensures { result ≡ ((at + 1 == length (instrs_of code.now capsule)) && not (rule.is_end instr)) }
 {
-    at as usize + 1 == instr_count(code, capsule) && !is_end(instr)
+    at as usize + 1 == code.instr_count(capsule) && !is_end(instr)
 }
 
 /// 4: whether a capsule has no instructions, or its last one is no end.
-pub(crate) fn is_no_end(code: &CodeParts, place: Place, part: &Part) -> bool
+pub(crate) fn is_no_end(code: &Outline, place: Place, part: &Part) -> bool
     ensures { result ≡ rule.is_no_end code.now place part.now }
 {
     match part {
-        Part::Capsule { number, .. } => instr_count(code, *number) == 0,
+        Part::Capsule { number, .. } => code.instr_count(*number) == 0,
         Part::Instr(instr) => match *instr {
             Some(instr) => match place {
                 Place::Within { capsule, at, .. } => is_last_without_end(code, capsule, at, instr),
@@ -268,14 +232,14 @@ fn is_past_room(room: Option<u32>, offset: u32) -> bool
 }
 
 /// Whether both procedures are there.
-fn are_procedures(code: &CodeParts, left: u32, right: u32) -> bool
+fn are_procedures(code: &Outline, left: u32, right: u32) -> bool
     ensures { result ≡ (rule.is_procedure code.now left && rule.is_procedure code.now right) }
 {
-    is_procedure(code, left) && is_procedure(code, right)
+    code.is_procedure(left) && code.is_procedure(right)
 }
 
 /// Whether an instruction asks for room behind the first place, or takes room that there is not.
-fn instr_has_wrong_room(code: &CodeParts, at: u32, room: Option<u32>, instr: Instr) -> bool
+fn instr_has_wrong_room(code: &Outline, at: u32, room: Option<u32>, instr: Instr) -> bool
     ensures { result ≡ rule.instr_has_wrong_room code.now at room instr }
 {
     match instr {
@@ -284,7 +248,7 @@ fn instr_has_wrong_room(code: &CodeParts, at: u32, room: Option<u32>, instr: Ins
         Instr::Ends(End::Call { procedure, .. }) => {
             is_no_room_of(
                 room,
-                is_procedure(code, procedure),
+                code.is_procedure(procedure),
                 frame_size(code, procedure),
             )
         }
@@ -298,7 +262,7 @@ fn instr_has_wrong_room(code: &CodeParts, at: u32, room: Option<u32>, instr: Ins
 }
 
 /// 5: whether a line breaks the rule on room.
-pub(crate) fn has_wrong_room(code: &CodeParts, place: Place, part: &Part) -> bool
+pub(crate) fn has_wrong_room(code: &Outline, place: Place, part: &Part) -> bool
     ensures { result ≡ rule.has_wrong_room code.now place part.now }
 {
     match place {
@@ -315,31 +279,31 @@ pub(crate) fn has_wrong_room(code: &CodeParts, place: Place, part: &Part) -> boo
 }
 
 /// Whether an end of a procedure's capsule names what is not there.
-fn end_not_there(code: &CodeParts, procedure: u32, end: End) -> bool
+fn end_not_there(code: &Outline, procedure: u32, end: End) -> bool
     ensures { result ≡ rule.end_not_there code.now procedure end }
 {
     match end {
         End::Finish | End::Trap { .. } => false,
-        End::Next { capsule } => !is_capsule_of(code, procedure, capsule),
+        End::Next { capsule } => !code.is_capsule_of(procedure, capsule),
         End::Call {
             procedure: callee,
             capsule,
             ..
-        } => !(is_procedure(code, callee) && is_capsule_of(code, procedure, capsule)),
+        } => !(code.is_procedure(callee) && code.is_capsule_of(procedure, capsule)),
         End::Fork {
             left,
             right,
             capsule,
             ..
         } => {
-            !(is_procedure(code, left)
-                && (is_procedure(code, right) && is_capsule_of(code, procedure, capsule)))
+            !(code.is_procedure(left)
+                && (code.is_procedure(right) && code.is_capsule_of(procedure, capsule)))
         }
     }
 }
 
 /// Whether an instruction does.
-fn instr_not_there(code: &CodeParts, procedure: u32, instr: Instr) -> bool
+fn instr_not_there(code: &Outline, procedure: u32, instr: Instr) -> bool
     ensures { result ≡ rule.instr_not_there code.now procedure instr }
 {
     match instr {
@@ -349,7 +313,7 @@ fn instr_not_there(code: &CodeParts, procedure: u32, instr: Instr) -> bool
 }
 
 /// Whether the line of an instruction does, or is one too many in its capsule.
-fn line_not_there(code: &CodeParts, procedure: u32, at: u32, instr: Option<Instr>) -> bool
+fn line_not_there(code: &Outline, procedure: u32, at: u32, instr: Option<Instr>) -> bool
     ensures { result ≡ rule.line_not_there code.now procedure at instr }
 {
     match instr {
@@ -359,17 +323,17 @@ fn line_not_there(code: &CodeParts, procedure: u32, at: u32, instr: Option<Instr
 }
 
 /// 6: whether a line names what is not there, or is one too many.
-pub(crate) fn is_not_there(code: &CodeParts, place: Place, part: &Part) -> bool
+pub(crate) fn is_not_there(code: &Outline, place: Place, part: &Part) -> bool
     ensures { result ≡ rule.is_not_there code.now place part.now }
 {
     match part {
         Part::Version => false,
-        Part::Root { procedure, .. } => !is_procedure(code, *procedure),
+        Part::Root { procedure, .. } => !code.is_procedure(*procedure),
         Part::Procedure { number, entry, .. } => {
-            *number >= 1024 || !is_capsule_of(code, *number, *entry)
+            *number >= 1024 || !code.is_capsule_of(*number, *entry)
         }
         Part::Capsule { number, procedure } => {
-            *number >= 65_535 || !is_procedure(code, *procedure)
+            *number >= 65_535 || !code.is_procedure(*procedure)
         }
         Part::Instr(instr) => match place {
             Place::Within { procedure, at, .. } => line_not_there(code, procedure, at, *instr),

@@ -1,7 +1,10 @@
 //! Texts with their first faults, and listings that are read and written again.
-use crate::{faults_tell_listings, read_listing};
+use crate::part::Part;
+use crate::reading::{is_too_long, too_long_by};
+use crate::{ListingError, faults_tell_listings, read_listing};
 use ppm_listing::write_listing;
 use std::alloc::Global;
+use std::ops::Range;
 use std::process::Abort;
 use std::test::Fail;
 
@@ -253,6 +256,42 @@ const TEXTS: [(&'static str, u32, u32); 26] = [
     ),
 ];
 
+/// What follows the first where a line has no form: those behind it still declare what those before it name. A line of many words.
+const BROKEN: [(&'static str, u32, u32); 8] = [
+    ("next 1\nfoo\nend\ncapsule 1 proc 0\nend\n", 1, 6),
+    ("next 1\nfoo\nend\ncapsule 1 proc 1\nend\n", 6, 5),
+    ("next 1\nfoo\nend\n", 6, 5),
+    ("branchz r0 3\nfoo\nend\nend\n", 1, 6),
+    ("branchz r0 4\nfoo\nend\nend\n", 3, 5),
+    ("room 11\ncall 1 0\nfoo\n", 6, 6),
+    ("add r0 r0 r0 1 1 1 1 1\nend\n", 1, 5),
+    ("end         \n", 1, 5),
+];
+
+/// Likewise whole texts: the root's line alone may have many words.
+const BROKEN_TEXTS: [(&'static str, u32, u32); 4] = [
+    (
+        "ppm 1\nroot 1\nfoo\nproc 0 slots 4 entry 0\nproc 1 slots 1 entry 0\ncapsule 0 proc 0\nend\n",
+        1,
+        3,
+    ),
+    (
+        "ppm 1\nroot 0 0 1 2 3 4 5 6 7 8\nproc 0 slots 9 entry 0\ncapsule 0 proc 0\nend\n",
+        0,
+        0,
+    ),
+    (
+        "ppm 1\nroot 0 0 1 2 3 4 5 6 7 8\nfoo\nproc 0 slots 8 entry 0\ncapsule 0 proc 0\nend\n",
+        2,
+        2,
+    ),
+    (
+        "ppm 1\nroot 0 0 1 2 3 4 5 6 7 r8\nproc 0 slots 9 entry 0\ncapsule 0 proc 0\nend\n",
+        1,
+        2,
+    ),
+];
+
 /// The number and the line of the first fault; both 0 where the text is a listing, which is then written again.
 fn reads(rt: &impl Abort, alloc: Global, text: &[u8], number: u32, line: u32) -> Result<(), Fail> {
     match read_listing(alloc, text) {
@@ -289,6 +328,26 @@ fn lines_of_a_capsule_have_their_first_faults(rt: HostRuntime) -> Result<(), Fai
     }
     for (rest, number, line) in OF_ONE_SLOT {
         reads_behind(&rt, alloc, ONE_SLOT, rest, number, line)?;
+    }
+    Ok(())
+}
+
+#[test]
+fn lines_behind_a_broken_one_declare(rt: HostRuntime) -> Result<(), Fail> {
+    let alloc = rt.alloc();
+    for (rest, number, line) in BROKEN {
+        reads_behind(&rt, alloc, FOUR_SLOTS, rest, number, line)?;
+    }
+    for (text, number, line) in BROKEN_TEXTS {
+        reads(&rt, alloc, text.as_bytes(), number, line)?;
+    }
+    // two lines and 160 more in one capsule: a branch may lead to the last of them, and not behind it
+    for (target, number, line) in [(161, 1, 6), (162, 3, 5)] {
+        let mut text = format!(in alloc; "{FOUR_SLOTS}branchz r0 {target}\nfoo\n")?;
+        for _ in 0..160 {
+            text.push_str("end\n")?;
+        }
+        reads(&rt, alloc, text.as_bytes(), number, line)?;
     }
     Ok(())
 }
@@ -341,4 +400,35 @@ fn there_are_1024_procedures_at_most(rt: HostRuntime) -> Result<(), Fail> {
     reads(&rt, alloc, procedures(alloc, 1024)?.as_bytes(), 0, 0)?;
     reads(&rt, alloc, procedures(alloc, 1025)?.as_bytes(), 6, 1027)?;
     Ok(())
+}
+
+/// Lines of so many capsules behind others, each with an `end` alone.
+fn push_capsules(text: &mut String, alloc: Global, numbers: Range<u32>) -> Result<(), Fail> {
+    for number in numbers {
+        let lines = format!(in alloc; "capsule {number} proc 0\nend\n")?;
+        text.push_str(lines.as_str())?;
+    }
+    Ok(())
+}
+
+#[test]
+fn there_are_65535_capsules_at_most(rt: HostRuntime) -> Result<(), Fail> {
+    let alloc = rt.alloc();
+    let mut text = String::from_str(alloc, "ppm 1\nroot 0\nproc 0 slots 0 entry 0\n")?;
+    push_capsules(&mut text, alloc, 0..65_535)?;
+    assert!(rt; read_listing(alloc, text.as_bytes()).is_ok());
+    push_capsules(&mut text, alloc, 65_535..65_536)?;
+    reads(&rt, alloc, text.as_bytes(), 6, 131_074)?;
+    Ok(())
+}
+
+/// No listing has so many bytes: a full one has fewer. A text of the limit has the fault that it would have with more; with
+/// a byte more it is told at its first line. A test of 512 MiB would be one of memory.
+#[test]
+fn a_text_has_536870912_bytes_at_most(rt: HostRuntime) {
+    for (bytes, want) in [(0, false), (536_870_912, false), (536_870_913, true)] {
+        assert_eq!(rt; is_too_long(bytes), want, "{bytes}");
+    }
+    assert_eq!(rt; too_long_by(Some(Part::Version)), ListingError::NotThere(1));
+    assert_eq!(rt; too_long_by(None), ListingError::NoSuchForm(1));
 }

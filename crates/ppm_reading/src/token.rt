@@ -1,7 +1,8 @@
 //! The tokens of a line as they are written, with numbers of any size.
 ghost use Rattle.std.specs.Prelude.{◌≡◌, OnOk};
 ghost use Rattle.std.specs.Str.{bytes_eq};
-ghost use Rattle.ppm_reading.specs.Tokens.{spelled, keyword_of, named as named_token, minus as minus_token, token_of, tokens_of};
+ghost use Rattle.ppm_reading.specs.Tokens.{spelled, keyword_of, named as named_token, minus as minus_token, token_of};
+ghost use Rattle.ppm_reading.specs.Forms.{part_in, line_of, may_go_on as goes_on};
 
 use crate::cut::cut;
 use crate::number::{is_digit, is_numeral, value};
@@ -142,18 +143,33 @@ fn token_in(word: &[u8]) -> Token
     }
 }
 
-/// Puts the tokens of a line in place of others.
+/// Whether a token may stand behind eight others.
+fn may_go_on(tokens: &[Token], token: Token) -> bool
+    ensures { result ≡ goes_on tokens.now token }
+{
+    match tokens {
+        [Token::Name(Keyword::Root), ..] => matches!(token, Token::Number(_)),
+        _ => false,
+    }
+}
+
+/// Puts the tokens of a line in place of others; none where it has so many that it has no form.
 pub(crate) fn read_tokens(
     alloc: Global,
     line: &[u8],
     tokens: &mut Vec<Token>,
 ) -> Result<(), NoMemory>
-    ensures { OnOk result (tokens.new.items ≡ tokens_of line.now) }
+    ensures { OnOk result (part_in tokens.new.items ≡ line_of line.now) }
 {
     tokens.clear();
     let mut left = line;
     while let Some((word, rest)) = cut(left, 32) {
-        tokens.push(token_in(word))?;
+        let token = token_in(word);
+        if tokens.len() >= 8 && !may_go_on(tokens, token) {
+            tokens.clear();
+            return Ok(());
+        }
+        tokens.push(token)?;
         left = rest;
     }
     tokens.push(token_in(left))?;

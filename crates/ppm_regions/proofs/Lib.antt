@@ -13,3 +13,5 @@ pub mod Inputs
 pub mod Index
 pub mod OneFault
 pub mod Rules
+pub mod ScopeLemmas
+pub mod SiteLemmas

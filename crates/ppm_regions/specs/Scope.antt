@@ -5,7 +5,7 @@ pub use Rattle.ppm_tree.specs.declared.mode.Mode.{Mode}
 use Rattle.ppm_tree.specs.declared.mode.Mode.TheVariants as mode
 use Rattle.ppm_tree.specs.declared.named.Named.{Named}
 use Rattle.ppm_tree.specs.declared.tree.Parameter.{Parameter}
-use Rattle.ppm_tree.specs.Tree.{Statement, Block, Nil, Then}
+use Rattle.ppm_tree.specs.Tree.{Statement, Block, Nil, Then, Procedure}
 use Rattle.ppm_tree.specs.Tree as tree
 
 -- A declaration: a region (`mut` or `ref`), or a local (`int`). A hidden region may not be used; in the block of an `each`,
@@ -99,3 +99,15 @@ lets_of s = []
 abbrev pub scope_behind : Scope → Block → Scope
 scope_behind scope Nil = scope
 scope_behind scope (Then s rest) = scope_behind (scope ++ lets_of s) rest
+
+-- what is declared in front of a procedure's body: its parameters
+abbrev pub scope_of : Procedure → Scope
+scope_of p = map of_parameter p.parameters
+
+-- what is declared in the block of a split
+abbrev pub split_scope : Scope → Named → Named → Named → Scope
+split_scope scope r x y = in_split scope r ++ parts_of scope r x y
+
+-- and in that of an `each`
+abbrev pub each_scope : Scope → Named → Named → Named → Scope
+each_scope scope r i x = in_each scope r ++ element_of scope r i x

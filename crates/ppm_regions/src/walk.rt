@@ -59,6 +59,9 @@ fn in_inner<'a>(
 ) -> Result<Option<RegionError>, NoMemory>
     ensures { IfOk result (IsLeast (tree_of procedures.now) (sites_of_block (tree_of procedures.now) scope.now (block_of block.now))) }
 {
+    if block.is_empty() {
+        return Ok(None);
+    }
     let mut inner = copied(alloc, scope)?;
     in_block(alloc, procedures, &mut inner, block)
 }

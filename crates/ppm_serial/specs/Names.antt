@@ -1,5 +1,7 @@
 -- The slots of a procedure's names.
-use Rattle.std.specs.Prelude.{ℕ, suc, nat_lt, List, [], ◌∷◌, ◌++◌, length, get_or, pos, Option, Some, None, if◌then◌else◌}
+use Rattle.std.specs.Prelude.{◌≡◌, Vec, ℕ, suc, nat_lt, List, [], ◌∷◌, ◌++◌, length, get_or, pos, Option, Some, None, if◌then◌else◌}
+use Rattle.std.specs.declared.alloc.Global.{Global}
+use Rattle.std.specs.HashMap.{HashMap, get_by}
 use Rattle.std.specs.Str.{bytes_eq}
 use Rattle.ppm_tree.specs.declared.mode.Mode.{Mode}
 use Rattle.ppm_tree.specs.declared.mode.Mode.TheVariants as mode
@@ -18,6 +20,14 @@ slot_in (n ∷ names) x = if bytes_eq n x then 0 else suc (slot_in names x)
 -- names with one more, unless it is there
 abbrev pub noted : List (List ℕ) → List ℕ → List (List ℕ)
 noted names x = if nat_lt (slot_in names x) (length names) then names else names ++ x ∷ []
+
+-- the slot of a name that is there
+abbrev pub slot_if : List (List ℕ) → List ℕ → Option ℕ
+slot_if names x = if nat_lt (slot_in names x) (length names) then Some (slot_in names x) else None
+
+-- a map has the slot of each name
+abbrev pub IsIndex : {S : Type 0} → HashMap (Vec ℕ Global) ℕ S → List (List ℕ) → Type 0
+IsIndex slots names = (x : List ℕ) → get_by (λ k. bytes_eq x k.items) slots ≡ slot_if names x
 
 -- the names of a procedure, by their slots
 pub record Slotted : Type 0 where

@@ -8,6 +8,7 @@ ghost use Rattle.ppm_serial.specs.Names.{with_parameter, with_parameters, with_r
 use ppm_tree::{Mode, Named, Parameter, Proc, Stmt};
 use ppm_words::{Name, NoMemory};
 use std::alloc::Global;
+use std::collections::HashMap;
 use std::marker::Model;
 
 /// Whether two names are the same.
@@ -21,6 +22,8 @@ pub(crate) fn same(x: &Name, y: &Name) -> bool
 #[derive(Drop)]
 pub(crate) struct Table {
     names: Vec<Name>,
+    /// The slot of each name.
+    slots: HashMap<Vec<u8>, usize>,
 }
 
 impl Model for Table {
@@ -29,6 +32,10 @@ impl Model for Table {
     ghost Value = { List (List ℕ) };
 
     ghost view = { λ t. t.names.items };
+
+    ghost use Rattle.ppm_serial.specs.Names.{IsIndex};
+
+    ghost invariant = { λ t. IsIndex t.slots t.names.items };
 }
 
 impl Table {
@@ -38,6 +45,7 @@ impl Table {
     {
         Table {
             names: Vec::new(alloc),
+            slots: HashMap::new(alloc),
         }
     }
 
@@ -52,14 +60,10 @@ impl Table {
     pub(crate) fn slot(&self, name: &Name) -> usize
         ensures { result ≡ slot_in self.now name.now }
     {
-        let mut at = 0;
-        while at < self.names.len() {
-            if self.names[at].is(name) {
-                return at;
-            }
-            at += 1;
+        match self.slots.get(name.as_bytes()) {
+            Some(slot) => *slot,
+            None => self.names.len(),
         }
-        at
     }
 
     /// Adds a name that is not there.
@@ -70,7 +74,11 @@ impl Table {
             return Ok(());
         }
         let copy = name.try_clone(alloc)?;
-        self.names.push(copy)?;
+        let bytes = Vec::from_slice(alloc, name.as_bytes())?;
+        self.names.reserve(1)?;
+        let slot = self.names.len();
+        self.slots.insert(bytes, slot)?;
+        self.names.push_reserved(copy);
         Ok(())
     }
 }

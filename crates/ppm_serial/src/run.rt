@@ -112,6 +112,7 @@ impl Run {
     }
 
     /// Enters a block, behind which another place comes.
+    #[inline(always)]
     fn inside(&mut self, block: usize, place: Place) -> Result<(), Stop>
         ensures { Does result self.new (Ok (inside block place self.old)) }
     {
@@ -163,22 +164,21 @@ impl Run {
     fn pass(&self, passed: &[Passed], callee: &mut Frame) -> Result<(), Stop>
         ensures { Does result callee.new (passing self.now.frame self.now.store passed.now callee.old) }
     {
-        match passed {
-            [] => Ok(()),
-            [Passed::Number(slot, value), rest @ ..] => {
-                let value = worth(&self.frame, &self.store, value)?;
-                callee.set_local(*slot, value);
-                self.pass(rest, callee)
-            }
-            [Passed::Region(slot, lent), rest @ ..] => {
-                callee.set_region(*slot, self.frame.region(*lent));
-                self.pass(rest, callee)
-            }
-            [Passed::Nowhere(slot), rest @ ..] => {
-                callee.set_region(*slot, Region::nowhere());
-                self.pass(rest, callee)
+        let mut left = passed;
+        while let [first, rest @ ..] = left {
+            left = rest;
+            match first {
+                Passed::Number(slot, value) => {
+                    let value = worth(&self.frame, &self.store, value)?;
+                    callee.set_local(*slot, value);
+                }
+                Passed::Region(slot, lent) => {
+                    callee.set_region(*slot, self.frame.region(*lent));
+                }
+                Passed::Nowhere(slot) => callee.set_region(*slot, Region::nowhere()),
             }
         }
+        Ok(())
     }
 
     /// A procedure begins in the frame that is there; its entry spends a turn.
@@ -214,7 +214,9 @@ impl Run {
     fn call(&mut self, alloc: Global, code: &Code, call: &Call) -> Result<(), Stop>
         ensures { Does result self.new (calling code.now call.now self.old) }
     {
-        let frame = self.callee(alloc, code, call)?;
+        let (locals, regions) = code.sizes(call.callee);
+        let mut frame = self.stack.frame(alloc, locals, regions)?;
+        self.pass(&call.passed, &mut frame)?;
         let caller = Caller {
             frame: mem::replace(&mut self.frame, frame),
             place: self.place,

@@ -14,11 +14,11 @@ use Rattle.ppm_translation.specs.Routines.{code_of}
 
 -- what is stored into a new block is a slot of a frame that the end builds, and nothing can trap in between
 abbrev pub StoresTidily : Type 0
-StoresTidily = (t : ProgramTree) → IsWithin t → IsAdmitted t → IsWithinBounds t → IsTidy (code_of t)
+StoresTidily = (t : ProgramTree) → IsAdmitted t → IsTidy (code_of t)
 
 -- no path of any of its capsules has a write-after-read conflict, so each may be stopped anywhere and begun again
 abbrev pub MayBeStopped : Type 0
-MayBeStopped = (t : ProgramTree) → IsWithin t → IsAdmitted t → IsWithinBounds t → (number : ℕ) → HasNoConflict (instrs_of (code_of t) number)
+MayBeStopped = (t : ProgramTree) → IsAdmitted t → (number : ℕ) → HasNoConflict (instrs_of (code_of t) number)
 
 -- and of two branches of a fork, each strand of them begun from the words at its own fork, neither writes what the other touches
 abbrev pub CodeIsSound : Type 0

@@ -5,3 +5,5 @@
 #![tactic(auto)]
 
 mod laws;
+
+pub use laws::{code_is_sound, may_be_stopped, store_tidily};

@@ -1,6 +1,7 @@
 -- A token has one spelling, and bytes have one longest token in front.
-use Rattle.std.proofs.Common.{◌≡◌, ℕ, zero, suc, ◌<◌, ◌≤◌, Bool, true, false, cond, nat_le, ◌&&◌, List, [], ◌∷◌, length, take, Some}
+use Rattle.std.proofs.Common.{◌≡◌, ℕ, zero, suc, ◌<◌, ◌≤◌, Bool, true, false, cond, nat_le, ◌&&◌, List, [], ◌∷◌, length, take, Some, None}
 use Rattle.std.proofs.Common.{arith, refl, ◌⊎◌, inl, inr, subst}
+use Rattle.std.specs.Prelude.{Option}
 use Rattle.std.proofs.lemmas.Bool.{leb-true}
 use Rattle.std.proofs.lemmas.List.{length-take-le}
 use Rattle.std.proofs.lemmas.Slice.Eq.{bytes_eq-Decides}
@@ -11,11 +12,12 @@ use Rattle.ppm_words.specs.Limits.{name_limit}
 use Rattle.ppm_words.specs.Names.{is_digit, is_name_byte, IsName}
 use Rattle.ppm_text.specs.declared.byte_class.ByteClass.{ByteClass}
 use Rattle.ppm_text.specs.declared.byte_class.ByteClass.TheVariants.{Letter, Digit, LineFeed, Blank, Hash, Mark, High}
+use Rattle.ppm_text.specs.declared.token.Keyword.{Keyword}
 use Rattle.ppm_text.specs.declared.token.Sign.{Sign}
 use Rattle.ppm_text.specs.declared.token.Kind.{Kind}
 use Rattle.ppm_text.specs.declared.token.Kind.TheVariants as kind
 use Rattle.ppm_text.specs.Bytes.{class_of, BeginsWith}
-use Rattle.ppm_text.specs.Spelling.{spelled, signs, sign_of, IsIdentifier, IsDigits}
+use Rattle.ppm_text.specs.Spelling.{spelled, keywords, keyword_of, signs, sign_of, IsIdentifier, IsDigits}
 use Rattle.ppm_text.specs.Spelling.{Spells, a_keyword, a_name, a_number, a_sign, NoneLonger, BeginsNoToken, Longest}
 use Rattle.ppm_text.specs.Scanning.{IsSignOf, IsNoSign}
 use Rattle.ppm_text.proofs.BytesLemmas.{prefix_first, all_taken, run_beyond, letter_byte, digit_byte, name_byte, prefix_le}
@@ -80,6 +82,33 @@ mark_passes (b ∷ bs) h =
 sign_is_mark : (bytes : List ℕ) (found : Sign) → sign_of bytes ≡ Some found → IsMark bytes
 unfolding sign_of
 sign_is_mark bytes found is = mark_passes bytes (row_passes is_mark signs refl bytes found is)
+
+-- bytes with the length of no sign are none
+pub no_sign : (bytes : List ℕ) → (1 ≤ length bytes → length bytes ≤ 2 → ⊥) → None ≡ sign_of bytes
+no_sign bytes other = go (sign_of bytes) refl
+  where
+    some : (w : List ℕ) → IsMark w → (1 ≤ length w) × (length w ≤ 2)
+    some [] mark = absurd mark
+    some (b ∷ bs) mark = (omega arith, omega (arith, mark.1))
+
+    go : (o : Option Sign) → sign_of bytes ≡ o → None ≡ o
+    go None is = refl
+    go (Some found) is = let within = some bytes (sign_is_mark bytes found is) in absurd (other within.0 within.1)
+
+-- whether bytes have the length of a keyword
+abbrev has_word_length : List ℕ → Bool
+has_word_length bytes = nat_le 2 (length bytes) && nat_le (length bytes) 5
+
+-- bytes with the length of no keyword are none
+pub no_keyword : (bytes : List ℕ) → (2 ≤ length bytes → length bytes ≤ 5 → ⊥) → None ≡ keyword_of bytes
+unfolding keyword_of
+no_keyword bytes other = go (spelled keywords bytes) refl
+  where
+    go : (o : Option Keyword) → spelled keywords bytes ≡ o → None ≡ o
+    go None is = refl
+    go (Some found) is =
+        let passes = both_hold (nat_le 2 (length bytes)) (nat_le (length bytes) 5) (row_passes has_word_length keywords refl bytes found is) in
+        absurd (other (leb-true 2 (length bytes) passes.0) (leb-true (length bytes) 5 passes.1))
 
 -- nothing is spelled by no bytes
 pub spells_something : {bytes : List ℕ} {k : Kind} → Spells bytes k → bytes ≡ [] → ⊥

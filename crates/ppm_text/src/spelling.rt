@@ -1,89 +1,131 @@
-//! How keywords and signs are spelled.
-ghost use Rattle.std.specs.Prelude.{◌≡◌, map};
-ghost use Rattle.std.specs.Str.{bytes_eq};
-ghost use Rattle.ppm_text.specs.Spelling.{spelled, keyword_of, sign_of};
+//! How keywords and signs are spelled: by their length, then byte by byte, since a text is mostly of them.
+ghost use Rattle.std.specs.Prelude.{◌≡◌, [], ◌∷◌};
+ghost use Rattle.ppm_text.specs.Spelling.{keyword_of, sign_of};
 
 use crate::token::{Keyword, Sign};
 
-/// The keywords.
-const KEYWORDS: [(&[u8], Keyword); 20] = [
-    (b"array", Keyword::Array),
-    (b"proc", Keyword::Proc),
-    (b"input", Keyword::Input),
-    (b"mut", Keyword::Mut),
-    (b"ref", Keyword::Ref),
-    (b"int", Keyword::Int),
-    (b"let", Keyword::Let),
-    (b"if", Keyword::If),
-    (b"else", Keyword::Else),
-    (b"while", Keyword::While),
-    (b"call", Keyword::Call),
-    (b"fork", Keyword::Fork),
-    (b"and", Keyword::And),
-    (b"split", Keyword::Split),
-    (b"at", Keyword::At),
-    (b"into", Keyword::Into),
-    (b"len", Keyword::Len),
-    (b"each", Keyword::Each),
-    (b"in", Keyword::In),
-    (b"give", Keyword::Give),
-];
-
-/// The signs.
-const SIGNS: [(&[u8], Sign); 22] = [
-    (b"[", Sign::OpenBracket),
-    (b"]", Sign::CloseBracket),
-    (b"(", Sign::OpenParen),
-    (b")", Sign::CloseParen),
-    (b"{", Sign::OpenBrace),
-    (b"}", Sign::CloseBrace),
-    (b";", Sign::Semicolon),
-    (b",", Sign::Comma),
-    (b"=", Sign::Assign),
-    (b"+", Sign::Plus),
-    (b"-", Sign::Minus),
-    (b"*", Sign::Times),
-    (b"/", Sign::Divide),
-    (b"%", Sign::Remainder),
-    (b"==", Sign::Equal),
-    (b"!=", Sign::NotEqual),
-    (b"<", Sign::Less),
-    (b"<=", Sign::LessEqual),
-    (b">", Sign::Greater),
-    (b">=", Sign::GreaterEqual),
-    (b"&&", Sign::Both),
-    (b"||", Sign::Either),
-];
-
-fn same_bytes(a: &[u8], b: &[u8]) -> bool
-    ensures { result ≡ bytes_eq a.now b.now }
+/// The keyword of these two bytes.
+#[tactic(auto, unfolding(crate::specs::Spelling::keyword_of))]
+fn keyword_of_two(a: u8, b: u8) -> Option<Keyword>
+    ensures { result ≡ keyword_of (a ∷ b ∷ []) }
 {
-    a == b
+    match (a, b) {
+        (b'i', b'f') => Some(Keyword::If),
+        (b'a', b't') => Some(Keyword::At),
+        (b'i', b'n') => Some(Keyword::In),
+        _ => None,
+    }
 }
 
-/// What the table says of the bytes, by its first row that has them.
-fn lookup<K: Copy + Drop>(mut table: &[(&[u8], K)], bytes: &[u8]) -> Option<K>
-    ensures { result ≡ spelled (map (λ row. (row.0.now, row.1)) table.entry.now) bytes.now }
+/// The keyword of these three bytes.
+#[tactic(auto, unfolding(crate::specs::Spelling::keyword_of))]
+fn keyword_of_three(a: u8, b: u8, c: u8) -> Option<Keyword>
+    ensures { result ≡ keyword_of (a ∷ b ∷ c ∷ []) }
 {
-    while let [row, rest @ ..] = table {
-        if same_bytes(row.0, bytes) {
-            return Some(row.1);
-        }
-        table = rest;
+    match (a, b, c) {
+        (b'm', b'u', b't') => Some(Keyword::Mut),
+        (b'r', b'e', b'f') => Some(Keyword::Ref),
+        (b'i', b'n', b't') => Some(Keyword::Int),
+        (b'l', b'e', b't') => Some(Keyword::Let),
+        (b'a', b'n', b'd') => Some(Keyword::And),
+        (b'l', b'e', b'n') => Some(Keyword::Len),
+        _ => None,
     }
-    None
+}
+
+/// The keyword of these four bytes.
+#[tactic(auto, unfolding(crate::specs::Spelling::keyword_of))]
+fn keyword_of_four(a: u8, b: u8, c: u8, d: u8) -> Option<Keyword>
+    ensures { result ≡ keyword_of (a ∷ b ∷ c ∷ d ∷ []) }
+{
+    match (a, b, c, d) {
+        (b'p', b'r', b'o', b'c') => Some(Keyword::Proc),
+        (b'e', b'l', b's', b'e') => Some(Keyword::Else),
+        (b'c', b'a', b'l', b'l') => Some(Keyword::Call),
+        (b'f', b'o', b'r', b'k') => Some(Keyword::Fork),
+        (b'i', b'n', b't', b'o') => Some(Keyword::Into),
+        (b'e', b'a', b'c', b'h') => Some(Keyword::Each),
+        (b'g', b'i', b'v', b'e') => Some(Keyword::Give),
+        _ => None,
+    }
+}
+
+/// The keyword of these five bytes.
+#[tactic(auto, unfolding(crate::specs::Spelling::keyword_of))]
+fn keyword_of_five(a: u8, b: u8, c: u8, d: u8, e: u8) -> Option<Keyword>
+    ensures { result ≡ keyword_of (a ∷ b ∷ c ∷ d ∷ e ∷ []) }
+{
+    match (a, b, c, d, e) {
+        (b'a', b'r', b'r', b'a', b'y') => Some(Keyword::Array),
+        (b'i', b'n', b'p', b'u', b't') => Some(Keyword::Input),
+        (b'w', b'h', b'i', b'l', b'e') => Some(Keyword::While),
+        (b's', b'p', b'l', b'i', b't') => Some(Keyword::Split),
+        _ => None,
+    }
 }
 
 /// The keyword of this spelling.
 pub fn keyword(bytes: &[u8]) -> Option<Keyword>
     ensures { result ≡ keyword_of bytes.now }
 {
-    lookup(&KEYWORDS, bytes)
+    match *bytes {
+        [a, b] => keyword_of_two(a, b),
+        [a, b, c] => keyword_of_three(a, b, c),
+        [a, b, c, d] => keyword_of_four(a, b, c, d),
+        [a, b, c, d, e] => keyword_of_five(a, b, c, d, e),
+        _ => None,
+    }
+}
+
+/// The sign of this byte.
+#[tactic(auto, unfolding(crate::specs::Spelling::sign_of))]
+fn sign_of_one(a: u8) -> Option<Sign>
+    ensures { result ≡ sign_of (a ∷ []) }
+{
+    match a {
+        b'[' => Some(Sign::OpenBracket),
+        b']' => Some(Sign::CloseBracket),
+        b'(' => Some(Sign::OpenParen),
+        b')' => Some(Sign::CloseParen),
+        b'{' => Some(Sign::OpenBrace),
+        b'}' => Some(Sign::CloseBrace),
+        b';' => Some(Sign::Semicolon),
+        b',' => Some(Sign::Comma),
+        b'=' => Some(Sign::Assign),
+        b'+' => Some(Sign::Plus),
+        b'-' => Some(Sign::Minus),
+        b'*' => Some(Sign::Times),
+        b'/' => Some(Sign::Divide),
+        b'%' => Some(Sign::Remainder),
+        b'<' => Some(Sign::Less),
+        b'>' => Some(Sign::Greater),
+        _ => None,
+    }
+}
+
+/// The sign of these two bytes.
+#[tactic(auto, unfolding(crate::specs::Spelling::sign_of))]
+fn sign_of_two(a: u8, b: u8) -> Option<Sign>
+    ensures { result ≡ sign_of (a ∷ b ∷ []) }
+{
+    match (a, b) {
+        (b'=', b'=') => Some(Sign::Equal),
+        (b'!', b'=') => Some(Sign::NotEqual),
+        (b'<', b'=') => Some(Sign::LessEqual),
+        (b'>', b'=') => Some(Sign::GreaterEqual),
+        (b'&', b'&') => Some(Sign::Both),
+        (b'|', b'|') => Some(Sign::Either),
+        _ => None,
+    }
 }
 
 /// The sign of this spelling.
 pub fn sign(bytes: &[u8]) -> Option<Sign>
     ensures { result ≡ sign_of bytes.now }
 {
-    lookup(&SIGNS, bytes)
+    match *bytes {
+        [a] => sign_of_one(a),
+        [a, b] => sign_of_two(a, b),
+        _ => None,
+    }
 }

@@ -1,5 +1,5 @@
 -- That the names of a block are those that its layout has, each of the kind that is asked for. An admitted program's blocks fit.
-use Rattle.std.specs.Prelude.{◌≡◌, ◌≢◌, ◌<◌, ℕ, Bool, true, false, List, [], ◌∷◌, ◌++◌, Option, Some, None, length, map}
+use Rattle.std.specs.Prelude.{◌≡◌, ◌≢◌, ◌<◌, ℕ, Bool, true, false, List, [], ◌∷◌, ◌++◌, Option, Some, None, length}
 use Rattle.ppm_tree.specs.declared.mode.Mode.{Mode}
 use Rattle.ppm_tree.specs.declared.mode.Mode.TheVariants as mode
 use Rattle.ppm_tree.specs.declared.named.Named.{Named}
@@ -7,7 +7,7 @@ use Rattle.ppm_tree.specs.declared.tree.Parameter.{Parameter}
 use Rattle.ppm_tree.specs.Tree.{Expression, Argument, Side, Statement, Block, Nil, Then, Give, Procedure, ProgramTree}
 use Rattle.ppm_tree.specs.Tree as tree
 use Rattle.ppm_tree.specs.State.{procedure_named}
-use Rattle.ppm_regions.specs.Scope.{Declaration, Scope, declared, is_region, first_named, lets_of, in_split, parts_of, in_each, element_of, of_parameter, scope_behind}
+use Rattle.ppm_regions.specs.Scope.{Declaration, Scope, declared, is_region, first_named, lets_of, scope_of, split_scope, each_scope, scope_behind}
 use Rattle.ppm_translation.specs.Layout.{Layout, slot_of, parameter_layout}
 use Rattle.ppm_translation.specs.Statements.{with_lets, with_parts, hidden_layout}
 
@@ -37,17 +37,6 @@ IsRegion scope layout x = IsKept scope layout true x.name
 abbrev pub IsDistinctLayout : Layout → Type 0
 IsDistinctLayout [] = Unit {0}
 IsDistinctLayout (x ∷ layout) = (slot_of layout x ≡ length layout) × IsDistinctLayout layout
-
--- the declarations in front of a procedure's body
-abbrev pub scope_of : Procedure → Scope
-scope_of p = map of_parameter p.parameters
-
--- the declarations in the block of a split, and in that of an `each`
-abbrev pub split_scope : Scope → Named → Named → Named → Scope
-split_scope scope r x y = in_split scope r ++ parts_of scope r x y
-
-abbrev pub each_scope : Scope → Named → Named → Named → Scope
-each_scope scope r i x = in_each scope r ++ element_of scope r i x
 
 abbrev pub FitsExpression : Scope → Layout → Expression → Type 0
 FitsExpression scope layout (tree.Number z) = Unit {0}

@@ -1,5 +1,5 @@
 -- The inputs with which a program's code may be run.
-use Rattle.std.specs.Prelude.{◌≡◌, ◌<◌, ℕ, ℤ, pos, negsuc, List, length, map}
+use Rattle.std.specs.Prelude.{◌≡◌, ◌<◌, ℤ, pos, negsuc, List, length, map}
 use Rattle.std.specs.List.{All}
 use Rattle.ppm_words.specs.Limits.{value_bound}
 use Rattle.ppm_words.specs.declared.named_array.NamedArray.{NamedArray}

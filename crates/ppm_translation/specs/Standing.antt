@@ -1,4 +1,4 @@
--- That the capsules of a statement, of a block and of a procedure stand in a code, at their numbers.
+-- That the capsules of a statement, of a block and of a procedure stand in a code, at their numbers, and that frames have their slots.
 use Rattle.std.specs.Prelude.{◌≡◌, ◌≢◌, ℕ, suc, List, [], ◌∷◌, None, length}
 use Rattle.ppm_code.specs.declared.act.End.TheVariants as ends
 use Rattle.ppm_code.specs.declared.instr.Instr.TheVariants as instr
@@ -42,6 +42,7 @@ module _ (procedures : List Procedure) (code : CodeParts) where
         × (instrs_of code entry ≡ entry_code entry)
         × (instrs_of code (halving entry) ≡ halving_code entry h (hidden_slots names block) names r.line)
         × (instrs_of code (halved entry) ≡ instr.Ends ends.Finish ∷ [])
+        × (slots_of code h ≡ hidden_slots names block)
         × HasBlock (hidden_named_slots names block) (hidden_layout layout i x block) (element_block entry) (suc h) (Gives None) block
 
     pub HasBlock : (spare : ℕ) → Layout → (at h : ℕ) → Last → Block → Type 0

@@ -4,3 +4,5 @@
 #![tactic(auto)]
 
 mod laws;
+
+pub use laws::{keeps_the_rules, names_have_slots, procedures_stand};

@@ -6,7 +6,7 @@ use Rattle.ppm_rows.specs.Kinds.{Mark}
 use Rattle.ppm_parser.proofs.Exits.{exit_by}
 use Rattle.ppm_parser.proofs.Reading.{then_reads, then_fails, front_fails, take_reads, take_fails}
 use Rattle.ppm_parser.proofs.Expressions.{counts_of, not_front, number_read, len_read, minus_read, minus_fails, group_read, group_fails}
-use Rattle.ppm_parser.proofs.Expressions.{alone_read, alone_many, element_read, element_fails, operation_read, operation_front, operation_fails}
+use Rattle.ppm_parser.proofs.Expressions.{alone_read, alone_many, element_read, element_fails, operation_read, operation_front, operation_fails, plain_read, plain_stops}
 use Rattle.ppm_parser.proofs.Expressions.{stay_read, further_many, further_front, once_read, further_read, further_fails, name_read, name_stops, literal_value}
 use Rattle.ppm_parser.specs.Parsing.{IsNameAt}
 use Rattle.ppm_parser.proofs.expression.+expression.Goals as goal
@@ -105,10 +105,21 @@ operand-returns-in_ok-inner-in-Sign-OpenParen t c =
     (λ r h. group_read c.in-Some.ensures.cases.0 c.in_ok-inner-in-Sign-OpenParen.ensures (search rules) h)
     (λ e h. group_fails c.in-Some.ensures.cases.0 c.in_ok-inner-in-Sign-OpenParen.ensures (search rules) h)
 
+-- the one operand stops
+pub operation-returns-in_err-whole : goal.operation-returns-in_err-whole
+operation-returns-in_err-whole t c =
+    exit_by _ _ _ c.from_residual.result c.from_residual.ensures.1
+    (plain_stops c.in_err-whole.ensures c.args.level)
+
+-- it is the whole operation
+pub operation-returns-then-has_none : goal.operation-returns-then-has_none
+operation-returns-then-has_none t c =
+    plain_read c.in_ok-whole.ensures c.args.level (c.has_none.ensures c.if-has_none.true)
+
 -- the first operand stops
 pub operation-returns-in_err-first : goal.operation-returns-in_err-first
 operation-returns-in_err-first t c =
-    exit_by _ _ _ c.from_residual.result c.from_residual.ensures.1
+    exit_by _ _ _ c.from_residual-in_err-first.result c.from_residual-in_err-first.ensures.1
     (operation_front c.args.level c.in_err-first.ensures)
 
 -- the first operand goes on

@@ -192,12 +192,12 @@ statement-returns-in_ok-room-in-Keyword-Each t c =
 -- none was read
 pub statements-further-init : goal.statements-further-init
 statements-further-init t c =
-    rw c.new-all.ensures.items (runs_start c.args.depth c.args.room c.args.tokens.now)
+    rw c.in_ok-all.ensures.items (runs_start c.args.depth c.args.room c.args.tokens.now)
 
 -- a further one stops
 pub statements-returns-in_err-next : goal.statements-returns-in_err-next
 statements-returns-in_err-next t c =
-    exit_by _ _ _ c.from_residual.result c.from_residual.ensures.1
+    exit_by _ _ _ c.from_residual-in_err-next.result c.from_residual-in_err-next.ensures.1
     (runs_fail c.further.invariant (search rules) c.in_err-next.ensures)
 
 -- behind it stand fewer tokens

@@ -1,5 +1,4 @@
-use Rattle.std.proofs.Common.{◌≡◌, ◌∙◌, sym, ap, subst, is_some, false}
-use Rattle.ppm_reading.specs.Correct.{IsRefusal}
+use Rattle.std.proofs.Common.{◌∙◌, sym, ap, is_some}
 use Rattle.ppm_reading.specs.Places.{standing}
 use Rattle.ppm_reading.specs.declared.place.Place.TheVariants.{AtVersion}
 use Rattle.ppm_reading.proofs.FaultLemmas.{not_begun}

@@ -1,8 +1,11 @@
-use Rattle.std.proofs.Common.{rules}
-use Rattle.ppm_text.specs.Spelling.{keyword_of}
+use Rattle.std.proofs.Common.{arith}
+use Rattle.ppm_text.proofs.SpellingLemmas.{no_keyword}
 use Rattle.ppm_text.proofs.spelling.keyword.Goals as goal
 
--- the code's table is the definition's
-pub returns : goal.returns
-unfolding keyword_of
-returns c = search rules
+-- no keyword has so few bytes
+pub returns-in_default : goal.returns-in_default
+returns-in_default c = no_keyword c.args.bytes.now (λ few many. omega (arith, few, c.in_default.len_below))
+
+-- or so many
+pub returns-in_default-2 : goal.returns-in_default-2
+returns-in_default-2 c = no_keyword c.args.bytes.now (λ few many. omega (arith, many, c.in_default.len_at_least))

@@ -1,21 +1,15 @@
--- The name at the place is the one, or the search goes on behind it.
-use Rattle.std.proofs.Common.{arith, subst, ◌<◌, length, List, ℕ, ◌≡◌, get_or}
-use Rattle.ppm_serial.proofs.NameLemmas.{found_at, passed_at}
+use Rattle.std.proofs.Common.{arith}
+use Rattle.ppm_serial.proofs.NameLemmas.{slot_found, slot_missed}
 use Rattle.ppm_serial.proofs.names.Table.slot.Goals as goal
 
-pub returns-then-is : goal.returns-then-is
-returns-then-is c =
-    let l : c.loop-at.at < length c.self.inside.names.items = omega (arith, c.loop-at-test.true, c.len.ensures) in
-    found_at c.args.self.now c.loop-at.at c.args.name.now c.index.result.now c.loop-at.invariant.0
-    (subst (λ (xs : List (List ℕ)). c.loop-at.at < length xs) c.self.view_is l)
-    (subst (λ (xs : List (List ℕ)). c.index.result.now ≡ get_or xs c.loop-at.at c.index.result.now) c.self.view_is c.index.ensures) (c.is.ensures.0 c.if-is.true)
+-- the map has the slot of the name
+pub returns-in-Some : goal.returns-in-Some
+returns-in-Some c =
+    slot_found c.self.inside.slots c.self.inside.names.items c.args.self.now c.as_bytes.result.now c.args.name.now c.self.invariant c.self.view_is c.as_bytes.ensures.value
+    c.in-Some.slot.now c.in-Some.ensures.value
 
-pub loop-at-preserved : goal.loop-at-preserved
-loop-at-preserved c =
-    let l : c.loop-at.at < length c.self.inside.names.items = omega (arith, c.loop-at-test.true, c.len.ensures) in
-    let m = subst (λ (xs : List (List ℕ)). c.loop-at.at < length xs) c.self.view_is l in (
-      passed_at c.args.self.now c.loop-at.at c.args.name.now c.index.result.now c.loop-at.invariant.0 m
-          (subst (λ (xs : List (List ℕ)). c.index.result.now ≡ get_or xs c.loop-at.at c.index.result.now) c.self.view_is c.index.ensures)
-          (λ e. let t = c.is.ensures.1 e in cc),
-      omega (arith, m),
-    )
+-- there is no such name
+pub returns-in-None : goal.returns-in-None
+returns-in-None c =
+    slot_missed c.self.inside.slots c.self.inside.names.items c.args.self.now c.as_bytes.result.now c.args.name.now c.self.invariant c.self.view_is c.as_bytes.ensures.value
+    c.len.result (omega (arith, c.len.ensures)) c.in-None.ensures.value

@@ -1,0 +1,23 @@
+-- All that the simulation stands on, once each construct's capsules do what it means.
+use Rattle.ppm_tree.specs.Tree.{ProgramTree}
+use Rattle.ppm_tree.specs.Limits.{IsWithin}
+use Rattle.ppm_regions.specs.Admission.{IsAdmitted}
+use Rattle.ppm_bounds.specs.Bounds.{IsWithinBounds}
+use Rattle.ppm_translation.specs.Routines.{code_of}
+use Rattle.ppm_translation.proofs.FitsLemmas.{names_have_slots}
+use Rattle.ppm_translation.proofs.PlaceLemmas.{procedures_have}
+use Rattle.ppm_compiling.proofs.CountLemmas.{counted}
+use Rattle.ppm_compiling.proofs.Given.{AllDo, Given}
+use Rattle.ppm_compiling.proofs.LimitLemmas.{modest_procedures, small_arrays}
+use Rattle.ppm_compiling.proofs.Places.{lengths_of}
+
+pub all_given : (t : ProgramTree) → IsWithin t → IsAdmitted t → IsWithinBounds t → AllDo (lengths_of t) (code_of t) t.procedures → Given t (code_of t)
+all_given t within admitted bounds does = record {
+  does = does;
+  stands = procedures_have t;
+  fits = names_have_slots t admitted;
+  modest = modest_procedures t within bounds;
+  admitted = admitted;
+  small = small_arrays t within;
+  counted = counted t.procedures;
+}
