@@ -5,3 +5,4 @@ pub mod Members
 pub mod Slotting
 pub mod Storing
 pub mod Bodies
+pub mod Drafting

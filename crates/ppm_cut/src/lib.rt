@@ -10,6 +10,7 @@ mod body;
 mod callees;
 mod calling;
 mod counts;
+mod draft;
 mod each;
 mod expression;
 mod free;
@@ -22,5 +23,6 @@ mod slots;
 
 pub use body::{Home, Last, push_block};
 pub use callees::Callees;
+pub use draft::Draft;
 pub use each::{entry_capsule, finish_capsule, halving_capsule};
 pub use layout::{Layout, hidden_layout};
