@@ -1,5 +1,5 @@
 -- Arguments for parameters, in pairs.
-use Rattle.std.proofs.Common.{◌≡◌, ◌+◌, ℕ, arith, List, [], ◌∷◌, length, min, refl}
+use Rattle.std.proofs.Common.{◌≡◌, arith, List, [], ◌∷◌, length, min}
 use Rattle.ppm_tree.specs.declared.tree.Argument as declared_argument
 use Rattle.ppm_tree.specs.declared.tree.Parameter.{Parameter}
 use Rattle.ppm_translation.specs.Statements.{paired}

@@ -1,10 +1,9 @@
 -- The slot of a name, name by name.
-use Rattle.std.proofs.Common.{◌≡◌, ◌↔◌, ◌<◌, ◌≤◌, ◌+◌, ℕ, suc, arith, not, Bool, true, false, IsTrue, List, [], ◌∷◌, ◌++◌, drop, length, get_or, refl, sym, ap, ◌∙◌}
+use Rattle.std.proofs.Common.{◌≡◌, ◌↔◌, ◌<◌, ◌≤◌, ◌+◌, ℕ, suc, arith, not, Bool, true, false, IsTrue, List, drop, length, get_or, refl, sym, ap, ◌∙◌}
 use Rattle.std.specs.Bool.{if◌then◌else◌}
 use Rattle.std.specs.Str.{bytes_eq}
 use Rattle.ppm_bounds.proofs.Blocks.{ahead}
 use Rattle.ppm_bounds.proofs.Members.{test_is}
-use Rattle.std.specs.List.{filter}
 use Rattle.std.proofs.lemmas.List.Filters.{length-filter_both}
 use Rattle.std.specs.Set.{is_member}
 use Rattle.ppm_tree.specs.Tree.{Block}

@@ -1,6 +1,5 @@
 -- How capsules grow by instructions, and codes by capsules.
 use Rattle.std.specs.Prelude.{◌≡◌, ℕ, suc, pos, List, ◌∷◌, ◌++◌, map}
-use Rattle.ppm_code.specs.declared.instr.Instr.{Instr}
 use Rattle.ppm_code.specs.declared.code.Capsule.{Capsule}
 use Rattle.ppm_code.specs.declared.instr.Instr.TheVariants as instr
 use Rattle.ppm_translation.specs.Layout.{register}

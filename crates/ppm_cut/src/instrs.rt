@@ -66,7 +66,9 @@ pub fn push_cut_left(
     at_number: u32,
     line: u32,
 ) -> Result<(), NoMemory>
-    ensures { OnOk result (Grows (λ rest. instr.CutLeft (register_of to_number) (register_of region_number) (register_of at_number) line ∷ rest) body.old.items body.new.items) }
+    ensures { OnOk result (Grows
+        (λ rest. instr.CutLeft (register_of to_number) (register_of region_number) (register_of at_number) line ∷ rest)
+        body.old.items body.new.items) }
 {
     let to = register(to_number);
     let region = register(region_number);
@@ -90,7 +92,9 @@ pub fn push_cut_right(
     at_number: u32,
     line: u32,
 ) -> Result<(), NoMemory>
-    ensures { OnOk result (Grows (λ rest. instr.CutRight (register_of to_number) (register_of region_number) (register_of at_number) line ∷ rest) body.old.items body.new.items) }
+    ensures { OnOk result (Grows
+        (λ rest. instr.CutRight (register_of to_number) (register_of region_number) (register_of at_number) line ∷ rest)
+        body.old.items body.new.items) }
 {
     let to = register(to_number);
     let region = register(region_number);
@@ -114,7 +118,9 @@ pub fn push_sum(
     right_number: u32,
     line: u32,
 ) -> Result<(), NoMemory>
-    ensures { OnOk result (Grows (λ rest. instr.Add (register_of to_number) (register_of left_number) (register_of right_number) line ∷ rest) body.old.items body.new.items) }
+    ensures { OnOk result (Grows
+        (λ rest. instr.Add (register_of to_number) (register_of left_number) (register_of right_number) line ∷ rest)
+        body.old.items body.new.items) }
 {
     let to = register(to_number);
     let left = register(left_number);
@@ -138,7 +144,9 @@ pub fn push_quotient(
     right_number: u32,
     line: u32,
 ) -> Result<(), NoMemory>
-    ensures { OnOk result (Grows (λ rest. instr.Div (register_of to_number) (register_of left_number) (register_of right_number) line ∷ rest) body.old.items body.new.items) }
+    ensures { OnOk result (Grows
+        (λ rest. instr.Div (register_of to_number) (register_of left_number) (register_of right_number) line ∷ rest)
+        body.old.items body.new.items) }
 {
     let to = register(to_number);
     let left = register(left_number);
@@ -161,7 +169,9 @@ pub fn push_less(
     left_number: u32,
     right_number: u32,
 ) -> Result<(), NoMemory>
-    ensures { OnOk result (Grows (λ rest. instr.Less (register_of to_number) (register_of left_number) (register_of right_number) ∷ rest) body.old.items body.new.items) }
+    ensures { OnOk result (Grows
+        (λ rest. instr.Less (register_of to_number) (register_of left_number) (register_of right_number) ∷ rest)
+        body.old.items body.new.items) }
 {
     let to = register(to_number);
     let left = register(left_number);
@@ -189,7 +199,9 @@ pub fn push_put(
     from_number: u32,
     line: u32,
 ) -> Result<(), NoMemory>
-    ensures { OnOk result (Grows (λ rest. instr.Put (register_of region_number) (register_of index_number) (register_of from_number) line ∷ rest) body.old.items body.new.items) }
+    ensures { OnOk result (Grows
+        (λ rest. instr.Put (register_of region_number) (register_of index_number) (register_of from_number) line ∷ rest)
+        body.old.items body.new.items) }
 {
     let region = register(region_number);
     let index = register(index_number);

@@ -1,7 +1,7 @@
-use Rattle.std.proofs.Common.{◌≡◌, ◌≤◌, ◌+◌, ◌++◌, suc, length, arith, sym, ap, ◌∙◌}
+use Rattle.std.proofs.Common.{◌≡◌, ◌+◌, ◌++◌, suc, length, arith, ap, ◌∙◌}
 use Rattle.ppm_code.specs.declared.instr.Instr.TheVariants as instr
 use Rattle.ppm_tree.specs.Tree.{block_of}
-use Rattle.ppm_translation.specs.Layout.{caught, slot_of, register}
+use Rattle.ppm_translation.specs.Layout.{caught, register}
 use Rattle.ppm_translation.specs.Slots.{frame_words, hidden_slots}
 use Rattle.ppm_translation.specs.Statements.{loads_code, stores_code}
 use Rattle.ppm_cut.proofs.Growing.{then, made, at_number, at_place}

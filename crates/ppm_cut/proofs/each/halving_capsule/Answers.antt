@@ -1,7 +1,6 @@
-use Rattle.std.proofs.Common.{◌≡◌, ◌+◌, suc, arith, sym, ap, ◌∙◌}
+use Rattle.std.proofs.Common.{◌≡◌, ◌+◌, suc, arith}
 use Rattle.ppm_code.specs.declared.act.End.TheVariants as ends
 use Rattle.ppm_code.specs.declared.instr.Instr.TheVariants as instr
-use Rattle.ppm_translation.specs.Layout.{slot_of, register}
 use Rattle.ppm_cut.proofs.Growing.{then, made, at_number, at_place}
 use Rattle.std.specs.Prelude.{None}
 use Rattle.ppm_translation.specs.Slots.{frame_words}

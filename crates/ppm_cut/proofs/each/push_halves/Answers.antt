@@ -1,9 +1,5 @@
 use Rattle.std.proofs.lemmas.Result.{on_ok_weaker}
-use Rattle.std.proofs.Common.{◌≡◌, ◌+◌, suc, arith, ap, ◌∙◌}
-use Rattle.ppm_code.specs.declared.act.End.TheVariants as ends
-use Rattle.ppm_code.specs.declared.instr.Instr.TheVariants as instr
-use Rattle.ppm_translation.specs.Layout.{slot_of, register}
-use Rattle.ppm_cut.proofs.Growing.{then, made, at_number, at_place}
+use Rattle.ppm_cut.proofs.Growing.{then}
 use Rattle.ppm_cut.proofs.each.push_halves.Goals as goal
 
 pub returns : goal.returns

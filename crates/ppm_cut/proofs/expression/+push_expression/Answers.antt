@@ -1,4 +1,4 @@
-use Rattle.std.proofs.Common.{◌≡◌, ◌+◌, suc, arith, sym, ap, ◌∙◌}
+use Rattle.std.proofs.Common.{◌+◌, arith, sym, ap, ◌∙◌}
 use Rattle.std.proofs.lemmas.Result.{on_ok_weaker}
 use Rattle.ppm_tree.specs.Tree.{Minus, expression_of}
 use Rattle.ppm_cut.proofs.Growing.{minus_grown}

@@ -1,4 +1,4 @@
-use Rattle.std.proofs.Common.{◌≡◌, refl, ◌+◌, drop, sym, ap, ◌∙◌}
+use Rattle.std.proofs.Common.{refl, ◌+◌, drop, sym, ap, ◌∙◌}
 use Rattle.ppm_tree.specs.Tree.{statement_of, block_of}
 use Rattle.ppm_bounds.specs.Names.{free_names, free_within}
 use Rattle.ppm_bounds.specs.Catching.{has}

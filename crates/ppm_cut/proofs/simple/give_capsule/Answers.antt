@@ -1,8 +1,5 @@
-use Rattle.std.proofs.Common.{◌≡◌, ◌+◌, suc, arith, sym, ap, ◌∙◌}
-use Rattle.ppm_code.specs.declared.act.End.TheVariants as ends
-use Rattle.ppm_code.specs.declared.instr.Instr.TheVariants as instr
-use Rattle.ppm_translation.specs.Layout.{slot_of, register}
-use Rattle.ppm_cut.proofs.Growing.{then, made, at_number, at_place}
+use Rattle.std.proofs.Common.{sym, ap, ◌∙◌}
+use Rattle.ppm_cut.proofs.Growing.{then, made}
 use Rattle.ppm_tree.specs.Tree.{give_of}
 use Rattle.ppm_translation.specs.Statements.{give_code}
 use Rattle.ppm_cut.proofs.simple.give_capsule.Goals as goal

@@ -1,4 +1,4 @@
-use Rattle.std.proofs.Common.{◌≡◌, ◌++◌, drop, map}
+use Rattle.std.proofs.Common.{◌≡◌, ◌++◌, drop}
 use Rattle.ppm_translation.specs.Layout.{parameter_layout}
 use Rattle.ppm_cut.proofs.layout.Layout.of_parameters.Given as goal
 
