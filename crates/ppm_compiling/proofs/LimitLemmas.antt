@@ -9,7 +9,7 @@ use Rattle.ppm_tree.specs.Limits.{IsSmallStatement, IsSmallGive, IsSmall, IsWith
 use Rattle.ppm_tree.specs.State.{no_procedure, procedure_named}
 use Rattle.ppm_bounds.specs.declared.bound.Bound.TheVariants as bound
 use Rattle.ppm_bounds.specs.Bounds.{Keeps, IsWithinBounds}
-use Rattle.ppm_compiling.proofs.Places.{lengths_of}
+use Rattle.ppm_translation.proofs.RegionWords.{lengths_of}
 use Rattle.ppm_compiling.proofs.Given.{IsModestProcedure}
 
 -- what holds of each procedure, and of none, holds of the one that a name stands for
@@ -40,7 +40,7 @@ parts_of_small p s = record {
 no_parts : HasSmallParts no_procedure
 no_parts = record { statements = tt; give = λ g e. absurd (cc) }
 
-pub small_parts : (t : ProgramTree) → IsWithin t → (x : List ℕ) → HasSmallParts (procedure_named t.procedures x)
+small_parts : (t : ProgramTree) → IsWithin t → (x : List ℕ) → HasSmallParts (procedure_named t.procedures x)
 small_parts t within x =
     of_named HasSmallParts no_parts t.procedures
     (weaker IsSmall HasSmallParts parts_of_small t.procedures (recursion_from_All IsSmall t.procedures within.procedures)) x
@@ -59,5 +59,5 @@ modest_procedures t within bounds x =
       give = λ g e. let h = small.give g e in record { count = h.count; each = h.nodes };
     }
 
-pub small_arrays : (t : ProgramTree) → IsWithin t → sum (lengths_of t) ≤ 4194304
+pub small_arrays : (t : ProgramTree) → IsWithin t → sum (lengths_of t.arrays) ≤ 4194304
 small_arrays t within = within.words

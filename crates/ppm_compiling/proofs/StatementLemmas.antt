@@ -54,7 +54,7 @@ pub onward_goes : (W n next : ℕ) (h : List ℕ) (m : Memory Where) → Goes (c
 onward_goes W n next h m = goes_equal _ _ m (stops W n (instr.Ends (ends.Next next)) [] h (ends.Next next) refl)
 
 -- a value is stored in a slot
-pub store_goes : (W n i : ℕ) (rest : List Instr) (g h : List ℕ) (m : Memory Where) (v : ℤ) → InReg 0 g v h
+store_goes : (W n i : ℕ) (rest : List Instr) (g h : List ℕ) (m : Memory Where) (v : ℤ) → InReg 0 g v h
     → Goes (capsule_from W n 0 (instr.StoreCur i (register 0) ∷ rest) h) m (capsule_from W (n + 1) 0 rest h)
     (store code_locations m (Own (Slot i)) (word_of v))
 store_goes W n i rest g h m v k =
@@ -64,7 +64,7 @@ store_goes W n i rest g h m v k =
     is (stores W n (instr.StoreCur i (register 0)) rest h (OwnWord (Slot i)) (held h (register 0)) m refl)
 
 -- the word of a value that an expression has
-pub of_word : {g h : List ℕ} {d : ℕ} (v : ℤ) → InReg d g v h → HoldsValue (word_of v) v
+of_word : {g h : List ℕ} {d : ℕ} (v : ℤ) → InReg d g v h → HoldsValue (word_of v) v
 of_word {h = h} {d = d} v k = subst (λ (w : ℕ). HoldsValue w v) (word_is (slice_index h d) v k.value) k.value
 
 module _ (lengths : List ℕ) (code : CodeParts) (scope : Scope) (layout : Layout) (f : Frame) (own : FrameWord → ℕ) (a : Words) (arrays : Arrays)

@@ -42,7 +42,7 @@ use Rattle.ppm_soundness.proofs.SafeLemmas.{safe_entry, safe_halving, HasSlots, 
 use Rattle.ppm_soundness.specs.Correct.{MayBeStopped, StoresTidily}
 
 -- what holds of each element of two lists holds of each of both together
-pub all_both : {X : Type 0} (P : X → Type 0) (xs ys : List X) → AllByRecursion P xs → AllByRecursion P ys → AllByRecursion P (xs ++ ys)
+all_both : {X : Type 0} (P : X → Type 0) (xs ys : List X) → AllByRecursion P xs → AllByRecursion P ys → AllByRecursion P (xs ++ ys)
 all_both P [] ys h k = k
 all_both P (x ∷ xs) ys h k = (h.0, all_both P xs ys h.1 k)
 

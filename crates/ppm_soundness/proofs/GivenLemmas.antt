@@ -154,7 +154,7 @@ lendings_plain (p ∷ ps) (a ∷ args) =
     one mode.Mut = refl
     one mode.Ref = refl
 
-pub plain_count : (ps : List Parameter) (args : List Argument) → length (plain_arguments ps args) ≡ length args
+plain_count : (ps : List Parameter) (args : List Argument) → length (plain_arguments ps args) ≡ length args
 plain_count [] args = refl
 plain_count (p ∷ ps) [] = refl
 plain_count (p ∷ ps) (a ∷ args) = ap suc (plain_count ps args)

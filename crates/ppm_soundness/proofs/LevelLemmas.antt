@@ -32,7 +32,8 @@ use Rattle.ppm_translation.specs.Slots.{hidden_named_slots}
 use Rattle.ppm_translation.specs.Statements.{Last, OnTo, Gives, with_lets, hidden_layout}
 use Rattle.ppm_translation.specs.Fits.{Has, FitsStatement}
 use Rattle.ppm_translation.proofs.LayoutLemmas.{slot_in_front, has_in_front}
-use Rattle.ppm_soundness.proofs.OwnLemmas.{Label, region_word}
+use Rattle.ppm_translation.proofs.RegionWords.{lengths_of, region_word}
+use Rattle.ppm_soundness.proofs.OwnLemmas.{Label}
 use Rattle.ppm_soundness.proofs.StandLemmas.{Level, level, IsUnder, same_itself, AreOff, LastFits, Stays, IsOver, leads_on, IsAt}
 
 -- a name of a longer layout is one of the front, or one behind
@@ -168,9 +169,9 @@ module _ (t : ProgramTree) (code : CodeParts) (rules : KeepsRules t) (admitted :
     pub stays : Stays t code around (level spare scope layout at h last (Then (tree.Each i x r block) rest) frame)
     pub part : IsPart q (frame.regions r.name)
     pub home : OwnsNoMore (each_scope scope r i x) (part_frame frame x q).regions l.scope l.regions
-    pub first : own (Slot 0) ≡ region_word t.arrays q
+    pub first : own (Slot 0) ≡ region_word (lengths_of t.arrays) q
     pub holds : (z : List ℕ) → IsSeen (each_scope scope r i x) z → Has (hidden_layout layout i x block) z
-        → own (Slot (slot_of (hidden_layout layout i x block) z)) ≡ region_word t.arrays ((part_frame frame x q).regions z)
+        → own (Slot (slot_of (hidden_layout layout i x block) z)) ≡ region_word (lengths_of t.arrays) ((part_frame frame x q).regions z)
 
   module _ (own : FrameWord → ℕ) (w : IsSwept own) where
     abbrev pub element_level : Level

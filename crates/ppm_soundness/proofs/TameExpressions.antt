@@ -143,47 +143,49 @@ module _ (world : World) (m : Memory Where) where
         (keeps_set d d (cond (held g' (register d) == held g' (register (suc d))) 0 1) f g' (omega arith) (keeps_set d (suc d) (word_of
         (pos 0)) f g (omega arith) keep)))))
 
-    abbrev left_ : ℕ
-    left_ = held g (register d)
+    abbrev left_word : ℕ
+    left_word = held g (register d)
 
-    abbrev right_ : ℕ
-    right_ = held g (register (suc d))
+    abbrev right_word : ℕ
+    right_word = held g (register (suc d))
 
     operator_tame : (o : Operator) → there ≡ here + last_size o → Goes world here (operator_code o line d is) g m
     operator_tame operator.And e = truth e
     operator_tame operator.Or e = truth e
     operator_tame operator.Add e =
         go_work world here is g m (instr.Add (register d) (register d) (register (suc d)) line) (register d)
-        (whole_works world line (register d) (value_of left_ +ℤ value_of right_)) (set_there e)
+        (whole_works world line (register d) (value_of left_word +ℤ value_of right_word)) (set_there e)
     operator_tame operator.Sub e =
         go_work world here is g m (instr.Sub (register d) (register d) (register (suc d)) line) (register d)
-        (whole_works world line (register d) (value_of left_ -ℤ value_of right_)) (set_there e)
+        (whole_works world line (register d) (value_of left_word -ℤ value_of right_word)) (set_there e)
     operator_tame operator.Mul e =
         go_work world here is g m (instr.Mul (register d) (register d) (register (suc d)) line) (register d)
-        (whole_works world line (register d) (value_of left_ *ℤ value_of right_)) (set_there e)
+        (whole_works world line (register d) (value_of left_word *ℤ value_of right_word)) (set_there e)
     operator_tame operator.Div e =
         go_work world here is g m (instr.Div (register d) (register d) (register (suc d)) line) (register d)
-        (divided_works world line (register d) (value_of left_) (value_of right_) (int_div (value_of left_) (value_of right_))) (set_there e)
+        (divided_works world line (register d) (value_of left_word) (value_of right_word) (int_div (value_of left_word) (value_of right_word)))
+        (set_there e)
     operator_tame operator.Rem e =
         go_work world here is g m (instr.Rem (register d) (register d) (register (suc d)) line) (register d)
-        (divided_works world line (register d) (value_of left_) (value_of right_) (int_rem (value_of left_) (value_of right_))) (set_there e)
+        (divided_works world line (register d) (value_of left_word) (value_of right_word) (int_rem (value_of left_word) (value_of right_word)))
+        (set_there e)
     operator_tame operator.Eq e =
-        let v = cond (left_ == right_) 1 0 in
+        let v = cond (left_word == right_word) 1 0 in
         go_set world here is g m (instr.Equal (register d) (register d) (register (suc d))) (register d) v refl (set_there e v)
     operator_tame operator.Ne e =
-        let v = cond (left_ == right_) 0 1 in
+        let v = cond (left_word == right_word) 0 1 in
         go_set world here is g m (instr.NotEqual (register d) (register d) (register (suc d))) (register d) v refl (set_there e v)
     operator_tame operator.Lt e =
-        let v = cond (int_lt (value_of left_) (value_of right_)) 1 0 in
+        let v = cond (int_lt (value_of left_word) (value_of right_word)) 1 0 in
         go_set world here is g m (instr.Less (register d) (register d) (register (suc d))) (register d) v refl (set_there e v)
     operator_tame operator.Le e =
-        let v = cond (int_le (value_of left_) (value_of right_)) 1 0 in
+        let v = cond (int_le (value_of left_word) (value_of right_word)) 1 0 in
         go_set world here is g m (instr.AtMost (register d) (register d) (register (suc d))) (register d) v refl (set_there e v)
     operator_tame operator.Gt e =
-        let v = cond (int_lt (value_of right_) (value_of left_)) 1 0 in
+        let v = cond (int_lt (value_of right_word) (value_of left_word)) 1 0 in
         go_set world here is g m (instr.Less (register d) (register (suc d)) (register d)) (register d) v refl (set_there e v)
     operator_tame operator.Ge e =
-        let v = cond (int_le (value_of right_) (value_of left_)) 1 0 in
+        let v = cond (int_le (value_of right_word) (value_of left_word)) 1 0 in
         go_set world here is g m (instr.AtMost (register d) (register (suc d)) (register d)) (register d) v refl (set_there e v)
 
 -- how far a branch goes past

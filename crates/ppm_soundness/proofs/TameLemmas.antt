@@ -45,14 +45,14 @@ pub held_other : (g : List ℕ) (d e : Register) (v : ℕ) → e.index ≢ d.ind
 held_other g d e v other = get_or-set_other g d.index e.index v 0 other
 
 -- the number of a register, and the last one for all larger numbers
-pub register_low : (n : ℕ) → n < 63 → (register n).index ≡ n
+register_low : (n : ℕ) → n < 63 → (register n).index ≡ n
 register_low n h = go (nat_lt n 64) refl
   where
     go : (b : Bool) (e : nat_lt n 64 ≡ b) → (register_with n b e).index ≡ n
     go true e = refl
     go false e = let high = ltb-false n 64 e in absurd (omega (arith, high, h))
 
-pub register_high : (n : ℕ) → 63 ≤ n → (register n).index ≡ 63
+register_high : (n : ℕ) → 63 ≤ n → (register n).index ≡ 63
 register_high n h = go (nat_lt n 64) refl
   where
     go : (b : Bool) (e : nat_lt n 64 ≡ b) → (register_with n b e).index ≡ 63

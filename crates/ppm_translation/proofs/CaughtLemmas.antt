@@ -14,7 +14,7 @@ use Rattle.ppm_translation.specs.Layout.{Layout, slot_of, caught}
 use Rattle.ppm_translation.specs.Fits.{Has, IsNew, IsDistinctLayout}
 use Rattle.ppm_translation.specs.Statements.{with_parts, hidden_layout}
 
-true_and_false : {b : Bool} → b ≡ true → b ≡ false → ⊥
+pub true_and_false : {b : Bool} → b ≡ true → b ≡ false → ⊥
 true_and_false p q = cc
 
 -- a new name is none of the layout
@@ -60,7 +60,7 @@ unfolding IsDistinct
 each_once [] h = tt
 each_once (x ∷ layout) h = IsDistinct-cons bytes_eq x layout (absent_apart layout x (new_absent layout x h.0)) (each_once layout h.1)
 
-once_filter : (test : List ℕ → Bool) (layout : Layout) → IsEachOnce layout → IsEachOnce (filter test layout)
+pub once_filter : (test : List ℕ → Bool) (layout : Layout) → IsEachOnce layout → IsEachOnce (filter test layout)
 unfolding IsDistinct
 once_filter test [] h = tt
 once_filter test (x ∷ layout) h = go (test x) (once_filter test layout h.1)
@@ -100,12 +100,12 @@ once_parts layout x y h new_x new_y apart =
     (IsDistinct-push bytes_laws (layout ++ x.name ∷ []) y.name first (absent_both layout x.name y.name (new_absent layout y.name new_y) other))
 
 -- what is caught are names of the layout that are free in the block
-caught_member : (layout : Layout) (block : Block) (q : List ℕ)
+pub caught_member : (layout : Layout) (block : Block) (q : List ℕ)
     → is_member bytes_eq (caught layout block) q ≡ (is_member bytes_eq layout q && is_member bytes_eq (free_names block) q)
 caught_member layout block q =
     is_member-filter bytes_laws (is_member bytes_eq (free_names block)) q (member_alike (free_names block) q) layout
 
-first_of_both : (a b : Bool) → (a && b) ≡ true → a ≡ true
+pub first_of_both : (a b : Bool) → (a && b) ≡ true → a ≡ true
 first_of_both true b h = refl
 first_of_both false b h = h
 

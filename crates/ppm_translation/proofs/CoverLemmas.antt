@@ -155,10 +155,10 @@ covers_elements names scope layout r i x block within h =
     has_own d e f false false h = absurd (none_and_some refl h)
 
 -- the free names of a block: those that its first statement uses, those in that one's blocks, and those of the rest
-abbrev free_by_parts : Statement → Block → List (List ℕ)
+abbrev pub free_by_parts : Statement → Block → List (List ℕ)
 free_by_parts s rest = (used_by s ++ free_within s) ++ without (names.lets_of s) (free_names rest)
 
-free_parts : (s : Statement) (rest : Block) → free_names (Then s rest) ≡ free_by_parts s rest
+pub free_parts : (s : Statement) (rest : Block) → free_names (Then s rest) ≡ free_by_parts s rest
 free_parts (Let x e) rest = refl
 free_parts (Assign x e) rest = refl
 free_parts (Put x i e) rest = refl

@@ -79,7 +79,8 @@ closed_expression layout (tree.Element x index) d at rest h =
     (closed_behind _ _ (closed_behind _ rest h))
 closed_expression layout (tree.Len x) d at rest h = closed_behind _ _ (closed_behind _ rest h)
 closed_expression layout (tree.Minus line e) d at rest h =
-    closed_behind _ _ (closed_expression layout e (suc d) (suc at) (instr.Sub (register d) (register d) (register (suc d)) line ∷ rest) (closed_behind _ rest h))
+    closed_behind _ _ (closed_expression layout e (suc d) (suc at) (instr.Sub (register d) (register d) (register (suc d)) line ∷ rest)
+    (closed_behind _ rest h))
 closed_expression layout (tree.Binary o line left right) d at rest h =
     let from = at + size_of left + branch_size o in
     let last = operator_code o line d rest in
@@ -104,7 +105,8 @@ closed_arguments layout (p ∷ ps) (a ∷ arguments) d at rest h =
 
 pub closed_stores : (offset d count : ℕ) (rest : Instrs) → IsClosed rest → IsClosed (stores_code offset d count rest)
 closed_stores offset d zero rest h = h
-closed_stores offset d (suc count) rest h = closed_behind _ (stores_code (suc offset) (suc d) count rest) (closed_stores (suc offset) (suc d) count rest h)
+closed_stores offset d (suc count) rest h =
+    closed_behind _ (stores_code (suc offset) (suc d) count rest) (closed_stores (suc offset) (suc d) count rest h)
 
 pub closed_loads : (layout names : Layout) (d : ℕ) (rest : Instrs) → IsClosed rest → IsClosed (loads_code layout names d rest)
 closed_loads layout [] d rest h = h

@@ -92,7 +92,8 @@ mutual
   hidden_past_block layout h Nil = refl
   hidden_past_block layout h (Then s rest) =
       let ys = hidden_of_block (with_lets layout s) (hidden_behind s h) rest in
-      past_append (hidden_of layout h s) ys h ∙ ap (past ys) (hidden_past layout h s) ∙ hidden_past_block (with_lets layout s) (hidden_behind s h) rest
+      past_append (hidden_of layout h s) ys h ∙ ap (past ys) (hidden_past layout h s)
+      ∙ hidden_past_block (with_lets layout s) (hidden_behind s h) rest
 
 pub texts_past : (h : ℕ) (ps : List Procedure) (n : ℕ) → past (texts_from h ps) n ≡ past ps n
 texts_past h [] n = refl

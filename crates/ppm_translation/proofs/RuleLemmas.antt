@@ -207,7 +207,8 @@ module _ (procedures : List Procedure) (code : CodeParts) (known : IsKnown proce
         (closed_behind _ _ (closed_behind _ _ (closed_end (ends.Next next))))))
         (expression_fits code q is scope layout room index 0 0 value f n (omega (arith, long))
         (moved code q is value (size_of index) (0 + size_of index) start
-        (expression_fits code q is scope layout room e 1 (size_of index) tail g m (omega (arith, long, more)) (omega (arith, left), (left, (at, tt))))))
+        (expression_fits code q is scope layout room e 1 (size_of index) tail g m (omega (arith, long, more))
+        (omega (arith, left), (left, (at, tt))))))
 
     put_keeps : (layout : Layout) (x : Named) (next : ℕ) → suc spare < slots_of code q → slot_of layout x.name < slots_of code q → IsLine x.line
         → IsCapsuleOf code q next → Keeps (put_code layout spare x next)
@@ -353,7 +354,8 @@ module _ (procedures : List Procedure) (code : CodeParts) (known : IsKnown proce
         let same : frame_words slots ≡ frame_size code h = ap (λ n. 6 + n) (sym hidden) in
         let callee : IsProcedure code h = procedure_there code h (omega (arith, hidden)) in
         capsule_fits code q is there (omega (arith, long, more, few, hidden))
-        (closed_behind _ _ (closed_behind _ _ (closed_behind _ _ (closed_loads layout names 2 stores (closed_stores 6 0 (suc (suc count)) end (closed_end _)))))) (
+        (closed_behind _ _
+        (closed_behind _ _ (closed_behind _ _ (closed_loads layout names 2 stores (closed_stores 6 0 (suc (suc count)) end (closed_end _)))))) (
           (omega arith, omega arith, omega (arith, few, hidden)),
           (
             slot,
@@ -465,7 +467,11 @@ module _ (procedures : List Procedure) (code : CodeParts) (known : IsKnown proce
           let slot = f.0.has in (
             value_keeps scope layout e (suc at) (omega (arith, lets, left)) (omega (arith, left)) f.1 n.0 n.1
                 (own (suc at) (omega (arith, first)) (omega (arith, last))),
-            (move_keeps layout x (suc (suc at)) (omega (arith, left)) (omega (arith, slot, lets, left)) (own (suc (suc at)) (omega (arith, first)) last), tt),
+            (
+              move_keeps layout x (suc (suc at)) (omega (arith, left)) (omega (arith, slot, lets, left))
+                  (own (suc (suc at)) (omega (arith, first)) last),
+              tt,
+            ),
           )
       statement_keeps scope layout at h (tree.Put x index e) f small placed first last within lets left =
           let n = two_expressions index e small.0.nodes small.0.count in

@@ -364,7 +364,8 @@ mutual
   statement_need layout h (tree.Each i x r block) =
       let a = block_need (hidden_layout layout i x block) (suc h) block in
       let c = sum_by-cons (λ x. x) 22 (map capsules_at (statements_in block)) in
-      let d = sum_by-cons (λ x. x) (3 + block_capsules block) (map routine_capsules (hidden_of_block (hidden_layout layout i x block) (suc h) block)) in
+      let d = sum_by-cons (λ x. x) (3 + block_capsules block)
+      (map routine_capsules (hidden_of_block (hidden_layout layout i x block) (suc h) block)) in
       omega (arith, a, c, d)
 
   -- a block has one capsule more, with which it ends

@@ -135,7 +135,8 @@ module _ (procedures : List Procedure) where
             record {
               number = refl;
               line = line_fits names.line;
-              slots = sweep_slots (length (caught layout block)) (caught_count i x block) block (caught_is_counted layout i x block once f.1 f.2) few.0;
+              slots = sweep_slots (length (caught layout block)) (caught_count i x block) block
+                  (caught_is_counted layout i x block once f.1 f.2) few.0;
               block = record { scope = inner; fits = f.6; small = small.1; placed = placed.1 };
             },
             block_sound inner own (suc h) block f.6 small.1 few.1 (once_hidden layout i x block once f.1 f.2 f.3) placed.1,
@@ -172,9 +173,21 @@ module _ (procedures : List Procedure) where
         let count = hidden_past_block layout h p.body in
         let own = placed_first procedures code xs ys h placed in
         let rest = texts_sound ps (suc q) next fits.1 small.1 few.1 (placed_second procedures code xs ys h next count placed) in
-        let body = block_sound _ layout h p.body fits.0.body (recursion_from_All IsSmallStatement (statements_in p.body) small.0.statements) few.0.hidden
-        (each_once layout fits.0.distinct) own in
-        ((record { fits = fits.0; small = small.0; slots = text_slots p few.0.own; placed = own }, rest.0), sound-append xs ys h next count body rest.1)
+        let body = block_sound _ layout h p.body fits.0.body
+        (recursion_from_All IsSmallStatement (statements_in p.body) small.0.statements) few.0.hidden
+        (each_once layout fits.0.distinct) own in (
+          (
+            record {
+              fits = fits.0;
+              small = small.0;
+              slots = text_slots p few.0.own;
+              placed =
+                  own;
+            },
+            rest.0,
+          ),
+          sound-append xs ys h next count body rest.1,
+        )
 
     pub all_sound : AllByRecursion (FitsProcedure procedures) procedures → AllByRecursion IsSmall procedures
         → AllByRecursion (Keeps bound.Slots) procedures → ArePlaced procedures code 0 (routines_of procedures) → AreSound 0 (routines_of procedures)
