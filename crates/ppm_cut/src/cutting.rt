@@ -1,15 +1,27 @@
 //! The code of a program.
+ghost use Rattle.std.specs.Prelude.{◌≡◌, ◌≤◌, ◌+◌, [], length, map, codes, IfOk, OnOk};
+ghost use Rattle.std.specs.List.{AllByRecursion};
+ghost use Rattle.ppm_tree.specs.Tree.{procedure_of, tree_of};
+ghost use Rattle.ppm_tree.specs.Program.{whole_from};
+ghost use Rattle.ppm_regions.specs.Admission.{IsAdmitted};
+ghost use Rattle.ppm_bounds.specs.Bounds.{IsWithinBounds};
+ghost use Rattle.ppm_translation.specs.Routines.{code_of, texts_from, hidden_from};
+ghost use Rattle.ppm_cut.specs.Counts.{count_limit, own_counts, hidden_counts, IsShortProcedure, IsSmallProcedure};
+ghost use Rattle.ppm_cut.specs.Drafts.{Drafts};
+
 use crate::callees::Callees;
 use crate::counts::hidden_behind_block;
 use crate::draft::Draft;
 use crate::layout::Layout;
 use ppm_code::{Code, CodeParts};
-use ppm_tree::{Array, Parameter, Proc, Program};
+use ppm_tree::{Array, Parameter, Proc, Program, Tree};
 use ppm_words::{Items, Name, NoMemory};
 use std::alloc::Global;
 
 /// The number of the array with a name; 0 where there is none.
 fn array_of(arrays: &[Array], name: &Name) -> u32
+    requires few { length arrays.now ≤ 64 }
+    ensures { result ≡ (whole_from 0 arrays.now name.now).array }
 {
     let mut number = 0;
     for array in arrays {
@@ -27,6 +39,8 @@ fn arrays_of(
     arrays: &[Array],
     parameters: &[Parameter],
 ) -> Result<Vec<u32>, NoMemory>
+    requires few { length arrays.now ≤ 64 }
+    ensures { IfOk result (λ numbers. numbers.items ≡ map (λ p. (whole_from 0 arrays.now p.name.name).array) parameters.now) }
 {
     let mut numbers = Vec::new(alloc);
     for parameter in parameters {
@@ -42,6 +56,16 @@ fn push_texts(
     callees: &Callees<'_>,
     procedures: &[Proc],
 ) -> Result<(), NoMemory>
+    requires empty { draft.old.procedures.items ≡ [] }
+    requires next { draft.old.next ≡ 0 }
+    requires callees { length callees.now ≤ 1024 }
+    requires parameters { AllByRecursion (λ p. length p.parameters ≤ 12) callees.now }
+    requires few { length procedures.now ≤ 1024 }
+    requires short { AllByRecursion (λ p. IsShortProcedure (procedure_of p)) procedures.now }
+    requires counts { own_counts (map procedure_of procedures.now) + hidden_counts (map procedure_of procedures.now) ≤ 65535 }
+    ensures drafts { OnOk result (Drafts (map procedure_of callees.now)
+        (texts_from (length procedures.now) (map procedure_of procedures.now)) draft.old draft.new) }
+    ensures next { OnOk result (draft.new.next ≤ own_counts (map procedure_of procedures.now)) }
 {
     let mut number = 0;
     let mut hidden = procedures.len() as u32;
@@ -60,6 +84,15 @@ fn push_hiddens(
     callees: &Callees<'_>,
     procedures: &[Proc],
 ) -> Result<(), NoMemory>
+    requires number { length draft.old.procedures.items ≡ length procedures.now }
+    requires callees { length callees.now ≤ 1024 }
+    requires parameters { AllByRecursion (λ p. length p.parameters ≤ 12) callees.now }
+    requires few { length procedures.now ≤ 1024 }
+    requires short { AllByRecursion (λ p. IsShortProcedure (procedure_of p)) procedures.now }
+    requires counts { own_counts (map procedure_of procedures.now) + hidden_counts (map procedure_of procedures.now) ≤ 65535 }
+    requires next { draft.old.next ≤ own_counts (map procedure_of procedures.now) }
+    ensures drafts { OnOk result (Drafts (map procedure_of callees.now)
+        (hidden_from (length procedures.now) (map procedure_of procedures.now)) draft.old draft.new) }
 {
     let mut hidden = procedures.len() as u32;
     for procedure in procedures {
@@ -70,10 +103,15 @@ fn push_hiddens(
     Ok(())
 }
 
-/// The parts of a program's code.
-fn parts_of(alloc: Global, program: &Program) -> Result<CodeParts, NoMemory>
+/// The parts of the code of a tree whose counts are small.
+fn parts_of(alloc: Global, tree: &Tree) -> Result<CodeParts, NoMemory>
+    requires arrays { length (tree_of tree.now).arrays ≤ 64 }
+    requires few { length (tree_of tree.now).procedures ≤ 1024 }
+    requires short { AllByRecursion (λ p. IsShortProcedure (procedure_of p)) tree.now.procedures }
+    requires small { AllByRecursion (λ p. IsSmallProcedure (procedure_of p)) tree.now.procedures }
+    requires counts { own_counts (tree_of tree.now).procedures + hidden_counts (tree_of tree.now).procedures ≤ 65535 }
+    ensures { IfOk result (λ parts. parts ≡ code_of (tree_of tree.now)) }
 {
-    let tree = program.tree();
     let procedures = tree.procedures.as_slice();
     let callees = Callees::new(alloc, procedures)?;
     let mut draft = Draft::new(alloc);
@@ -89,9 +127,12 @@ fn parts_of(alloc: Global, program: &Program) -> Result<CodeParts, NoMemory>
     })
 }
 
-/// The code of a program that was admitted and is within the bounds.
+/// The code of a program that was admitted and is within the compiler's bounds.
 pub fn cut(alloc: Global, program: &Program) -> Result<Code, NoMemory>
+    requires admitted { IsAdmitted (tree_of program.now) }
+    requires bounded { IsWithinBounds (tree_of program.now) }
+    ensures code { IfOk result (λ code. code ≡ code_of (tree_of program.now)) }
 {
-    let parts = parts_of(alloc, program)?;
+    let parts = parts_of(alloc, program.tree())?;
     Ok(Code::from_parts(parts))
 }

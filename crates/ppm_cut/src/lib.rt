@@ -10,6 +10,7 @@ mod body;
 mod callees;
 mod calling;
 mod counts;
+mod cutting;
 mod draft;
 mod each;
 mod expression;
@@ -23,6 +24,7 @@ mod slots;
 
 pub use body::{Home, Last, push_block};
 pub use callees::Callees;
+pub use cutting::cut;
 pub use draft::Draft;
 pub use each::{entry_capsule, finish_capsule, halving_capsule};
 pub use layout::{Layout, hidden_layout};
