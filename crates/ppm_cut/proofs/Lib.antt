@@ -6,3 +6,4 @@ pub mod Slotting
 pub mod Storing
 pub mod Bodies
 pub mod Drafting
+pub mod Limits
