@@ -1,6 +1,5 @@
 -- A call: one capsule asks for the block, evaluates the arguments, and stores them into the callee's frame.
-use Rattle.std.proofs.Common.{◌≡◌, ◌≤◌, ◌<◌, ℕ, ◌+◌, List, [], ◌∷◌, None, Result, Ok, Err, length, inl, replicate}
-use Rattle.std.proofs.Common.{refl, ap, ◌∙◌, subst₂, arith}
+use Rattle.std.proofs.Common.{◌≡◌, ◌≤◌, ◌<◌, ℕ, ◌+◌, List, [], ◌∷◌, None, Result, Ok, Err, length, inl, replicate, refl, ap, ◌∙◌, subst₂, arith}
 use Rattle.std.specs.Prelude.{slice_index}
 use Rattle.std.specs.List.{sum}
 use Rattle.ppm_strands.specs.Tree.{Words, Strand, Call as Calling}

@@ -3,7 +3,6 @@ use Rattle.std.proofs.Common.{◌≡◌, ◌≤◌, ℕ, ℤ, suc, ◌+◌, ◌-
 use Rattle.std.proofs.lemmas.Bool.{leb-true}
 use Rattle.std.proofs.lemmas.List.{length-map}
 use Rattle.std.proofs.Common.{pos, negsuc, nat_le, subst₂, length, refl, sym, ap, ◌∙◌, subst, arith}
-use Rattle.std.proofs.lemmas.List.Sums.{sum_by-append}
 use Rattle.ppm_strands.specs.Tree.{Words, Code, Strand, Call as Calling, Fork as Forking, Over}
 use Rattle.ppm_code.specs.declared.code.CodeParts.{CodeParts}
 use Rattle.ppm_code.specs.declared.location.FrameWord.{FrameWord}
@@ -14,10 +13,10 @@ use Rattle.ppm_tree.specs.Tree as tree
 use Rattle.ppm_tree.specs.Limits.{IsSmallStatement}
 use Rattle.ppm_words.specs.declared.trap.Trap.TheVariants as trap
 use Rattle.ppm_tree.specs.Parts.{nodes}
-use Rattle.ppm_tree.specs.State.{TrapAt, then_with, tested, Region, Locals, Frame, with_locals, Arrays, split_at, evaluate, procedure_named}
-use Rattle.ppm_tree.specs.State.{entered, both_entered}
-use Rattle.ppm_tree.specs.Meaning.{Plain, Whole, Counts, spent, none, both, swept, End, Ended, Trapped, arrays_of, assigned, stored, chosen}
-use Rattle.ppm_tree.specs.Meaning.{returned, joined, given, give_turn, with_element, with_parts as parts_frame}
+use Rattle.ppm_tree.specs.State.{TrapAt, then_with, tested, Region, Locals, Frame, with_locals, Arrays}
+use Rattle.ppm_tree.specs.State.{split_at, evaluate, procedure_named, entered, both_entered}
+use Rattle.ppm_tree.specs.Meaning.{Plain, Whole, Counts, spent, none, both, swept, End, Ended, Trapped, arrays_of, assigned, stored}
+use Rattle.ppm_tree.specs.Meaning.{chosen, returned, joined, given, give_turn, with_element, with_parts as parts_frame}
 use Rattle.ppm_regions.specs.Scope.{Scope, scope_of, split_scope, each_scope, lets_of, scope_behind}
 use Rattle.ppm_tree.specs.declared.tree.Parameter.{Parameter}
 use Rattle.ppm_bounds.specs.Slots.{most_in_force}
@@ -30,17 +29,16 @@ use Rattle.ppm_translation.specs.Standing.{HasStatement, HasBlock, HasBody}
 use Rattle.ppm_translation.specs.Statements.{Last, OnTo, Gives, with_lets, with_parts, hidden_layout, number_of}
 use Rattle.ppm_translation.proofs.CaughtLemmas.{each_once}
 use Rattle.ppm_translation.proofs.RegionWords.{array_within, lengths_of, offset_of}
-use Rattle.ppm_compiling.specs.Correct.{words_begun}
 use Rattle.ppm_compiling.proofs.ChainLemmas.{Cost, cost, within_cost, Chain, chain_weaken, chain_under, chain_return}
-use Rattle.ppm_compiling.proofs.Holding.{CodeFrame, Shows, Holds, sweep_frame, which, at_work, waits, strands, CodeTree, Tested, Parted}
-use Rattle.ppm_compiling.proofs.Holding.{Called, Forked}
+use Rattle.ppm_compiling.proofs.Holding.{CodeFrame, Shows, Holds, sweep_frame, which, at_work, waits}
+use Rattle.ppm_compiling.proofs.Holding.{strands, CodeTree, Tested, Parted, Called, Forked}
 use Rattle.ppm_compiling.proofs.Doing.{InHand, AreSmall}
 use Rattle.ppm_compiling.proofs.Places.{Place, modest_inner, holds_place, else_place, each_few, lies}
 use Rattle.ppm_compiling.proofs.Given.{IsModestProcedure, Given, words_of, words_both, budget}
 use Rattle.ppm_compiling.proofs.SmallLemmas.{small_let, small_assign, small_put, small_if, small_split, small_call, small_fork}
 use Rattle.ppm_compiling.proofs.SweepLemmas.{end_stands, over_of, HasLocals, Leaves, leaves_locals, swept as swept_all}
-use Rattle.ppm_compiling.proofs.ReachLemmas.{Reached, Returned, chain_reaches, reaches_on, chain_returns, call_reaches, fork_reaches, reaches_front}
-use Rattle.ppm_compiling.proofs.ReachLemmas.{reaches_same, reaches_whole, lies_at_end, lies_locals}
+use Rattle.ppm_compiling.proofs.ReachLemmas.{Reached, Returned, chain_reaches, reaches_on, chain_returns, call_reaches, fork_reaches}
+use Rattle.ppm_compiling.proofs.ReachLemmas.{reaches_front, reaches_same, reaches_whole, lies_at_end, lies_locals}
 
 zero_front : (n : ℕ) → 0 + n ≡ n
 zero_front n = omega arith

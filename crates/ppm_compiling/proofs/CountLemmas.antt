@@ -1,12 +1,11 @@
 -- The block of an `each` catches exactly the names of outside that are counted: each free name of a block that fits has a slot.
-use Rattle.std.proofs.Common.{◌≡◌, ◌<◌, ◌||◌, ◌&&◌, not, cond, Bool, true, false, ℕ, suc, List, [], ◌∷◌, ◌++◌, Option, Some, None, map, length}
-use Rattle.std.proofs.Common.{refl, sym, ap, ◌∙◌, subst, arith, filter}
-use Rattle.std.specs.List.{AllByRecursion, IsDistinct, flat_map}
+use Rattle.std.proofs.Common.{◌≡◌, ◌<◌, ◌||◌, ◌&&◌, not, cond, Bool, true, false, ℕ, suc, List, [], ◌∷◌, ◌++◌}
+use Rattle.std.proofs.Common.{Option, Some, None, map, length, refl, sym, ap, ◌∙◌, subst, arith}
+use Rattle.std.specs.List.{AllByRecursion, flat_map}
 use Rattle.std.specs.Set.{is_member, distinct_count}
 use Rattle.std.specs.Str.{bytes_eq}
 use Rattle.std.proofs.lemmas.Grind.{flat_map-append}
-use Rattle.std.proofs.lemmas.Map.Keys.{IsDistinct-cons}
-use Rattle.std.proofs.lemmas.Map.Made.{length-from_keys, is_member-filter}
+use Rattle.std.proofs.lemmas.Map.Made.{length-from_keys}
 use Rattle.ppm_tree.specs.declared.mode.Mode.{Mode}
 use Rattle.ppm_tree.specs.declared.mode.Mode.TheVariants as mode
 use Rattle.ppm_tree.specs.declared.named.Named.{Named}
@@ -20,8 +19,8 @@ use Rattle.ppm_bounds.specs.Names as names
 use Rattle.ppm_bounds.proofs.Keeping.{all-append}
 use Rattle.ppm_bounds.proofs.Members.{same_bytes, has-without, has-append, bytes_laws}
 use Rattle.ppm_translation.specs.Layout.{Layout, slot_of, caught}
-use Rattle.ppm_translation.specs.Fits.{Has, IsNew, IsKept, FitsExpression, FitsLent, FitsArgument, FitsArguments, FitsTarget}
-use Rattle.ppm_translation.specs.Fits.{FitsStatement, FitsBlock}
+use Rattle.ppm_translation.specs.Fits.{Has, IsNew, IsKept, FitsExpression, FitsLent, FitsArgument}
+use Rattle.ppm_translation.specs.Fits.{FitsArguments, FitsTarget, FitsStatement, FitsBlock}
 use Rattle.ppm_translation.specs.Statements.{with_lets, with_parts, hidden_layout}
 use Rattle.ppm_translation.proofs.CaughtLemmas.{IsEachOnce, true_and_false, new_absent, once_filter, caught_member, first_of_both}
 use Rattle.ppm_translation.proofs.CoverLemmas.{free_parts}

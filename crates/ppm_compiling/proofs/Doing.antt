@@ -23,9 +23,9 @@ use Rattle.ppm_regions.specs.Scope.{split_scope, each_scope}
 use Rattle.ppm_translation.specs.Fits.{IsNew, IsDistinctLayout, IsLocal, IsRegion, FitsExpression, FitsSide}
 use Rattle.ppm_translation.specs.Numbers.{halving, halved, element_block}
 use Rattle.ppm_translation.specs.Slots.{hidden_slots, frame_words, fork_words}
-use Rattle.ppm_translation.specs.Statements.{onward, let_code, value_code, move_code, element_code, put_code, test_code, split_code, give_code}
-use Rattle.ppm_translation.specs.Statements.{each_code, entry_code, halving_code, with_parts, hidden_layout, callee_slots, callee_number}
-use Rattle.ppm_translation.specs.Statements.{call_code, fork_code}
+use Rattle.ppm_translation.specs.Statements.{onward, let_code, value_code, move_code, element_code, put_code, test_code}
+use Rattle.ppm_translation.specs.Statements.{split_code, give_code, each_code, entry_code, halving_code, with_parts}
+use Rattle.ppm_translation.specs.Statements.{hidden_layout, callee_slots, callee_number, call_code, fork_code}
 use Rattle.ppm_translation.proofs.RegionWords.{region_word}
 use Rattle.ppm_compiling.proofs.ChainLemmas.{cost, Chain}
 use Rattle.ppm_compiling.proofs.Holding.{Shows, Lies, Holds, sweep_frame, at_work, waits, strands, Reaches, Returns, Tested, Parted, Called, Forked}

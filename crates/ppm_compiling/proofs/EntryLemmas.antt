@@ -1,6 +1,6 @@
 -- An `each`: its hidden procedure is called with the whole region, and where it is entered it goes on by how many elements are in hand.
-use Rattle.std.proofs.Common.{◌≡◌, ◌≤◌, ◌<◌, ℕ, zero, suc, ◌+◌, ◌*◌, ◌^◌, Bool, pos, List, [], ◌∷◌, None, length, replicate}
-use Rattle.std.proofs.Common.{inl, refl, sym, ap, ◌∙◌, subst, subst₂, arith}
+use Rattle.std.proofs.Common.{◌≡◌, ◌≤◌, ◌<◌, ℕ, zero, suc, ◌+◌, ◌*◌, ◌^◌, Bool, pos, List, [], ◌∷◌, None, length}
+use Rattle.std.proofs.Common.{replicate, inl, refl, sym, ap, ◌∙◌, subst, subst₂, arith}
 use Rattle.std.specs.Prelude.{slice_index, slice_set, int_lt, if◌then◌else◌}
 use Rattle.std.specs.List.{sum}
 use Rattle.std.proofs.lemmas.Bool.{lt-ltb}
@@ -20,7 +20,7 @@ use Rattle.ppm_code.specs.Acts.{length_of}
 use Rattle.ppm_code.specs.Locations.{Where}
 use Rattle.ppm_code.specs.Capsules.{capsule_of, capsule_from}
 use Rattle.ppm_code.specs.Strands.{Gave, entry_of, built}
-use Rattle.ppm_tree.specs.State.{Region, Frame, Arrays}
+use Rattle.ppm_tree.specs.State.{Frame, Arrays}
 use Rattle.ppm_owning.specs.Coming.{stretch}
 use Rattle.ppm_regions.specs.Scope.{Scope}
 use Rattle.ppm_translation.specs.Layout.{Layout, slot_of, caught, register}

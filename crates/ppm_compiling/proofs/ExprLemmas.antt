@@ -1,8 +1,8 @@
 -- The code of an expression, whatever follows: its value comes into the register, or its trap ends the strand; nothing is written.
-use Rattle.std.proofs.Common.{◌≡◌, ◌<◌, ◌≤◌, ℕ, zero, suc, ◌+◌, ◌-◌, ◌^◌, Bool, true, false, cond, nat_lt, ℤ, pos, negsuc}
-use Rattle.std.proofs.Common.{List, [], ◌∷◌, ◌++◌, Result, Ok, Err, Some, None, get_or, length, refl, sym, ap, ap₂, ◌∙◌, subst, arith}
-use Rattle.std.specs.Prelude.{slice_index, slice_set, ◌==◌, ◌+ℤ◌, ◌-ℤ◌, ◌*ℤ◌, neg_ℤ, int_lt, int_le, int_div, int_rem, unsigned_abs, not, ◌&&◌, ◌||◌}
-use Rattle.std.specs.Prelude.{FitsSigned}
+use Rattle.std.proofs.Common.{◌≡◌, ◌<◌, ◌≤◌, ℕ, zero, suc, ◌+◌, ◌-◌, ◌^◌, Bool, true, false, cond, nat_lt, ℤ, pos, negsuc, List, [], ◌∷◌}
+use Rattle.std.proofs.Common.{◌++◌, Result, Ok, Err, Some, None, get_or, length, refl, sym, ap, ap₂, ◌∙◌, subst, arith}
+use Rattle.std.specs.Prelude.{slice_index, slice_set, ◌==◌, ◌+ℤ◌, ◌-ℤ◌, ◌*ℤ◌, neg_ℤ, int_lt, int_le}
+use Rattle.std.specs.Prelude.{int_div, int_rem, unsigned_abs, not, ◌&&◌, ◌||◌, FitsSigned}
 use Rattle.std.specs.Int.{w64}
 use Rattle.std.specs.List.{All, sum}
 use Rattle.std.specs.Ordering.{int_eq}
@@ -12,7 +12,6 @@ use Rattle.std.proofs.lemmas.Int.{rem_below, ints}
 use Rattle.std.proofs.lemmas.Nat.{mod-mul-add, div-mul-add}
 use Rattle.std.proofs.lemmas.List.{get_or-set_same, get_or-set_other, length-set, length-append, take_at, drop_at}
 use Rattle.std.proofs.lemmas.List.Elements.{All-head, All-tail, All-take, All-drop}
-use Rattle.std.proofs.lemmas.List.Sums.{sum_by-cons}
 use Rattle.ppm_words.specs.TwosComplement.{word_of, value_of}
 use Rattle.ppm_words.specs.declared.trap.Trap.TheVariants as trap
 use Rattle.ppm_words.proofs.TwosComplementLemmas.{value_of-word_of, word_of-below, value_of-fits}
@@ -46,8 +45,8 @@ use Rattle.ppm_tree.specs.State.{TrapAt, then_with, at_line, tested, unless_deci
 use Rattle.ppm_owning.proofs.WordLemmas.{index_below}
 use Rattle.ppm_regions.specs.Scope.{Declaration, Scope, declared, is_region}
 use Rattle.ppm_translation.specs.Layout.{Layout, slot_of, register_with, register}
-use Rattle.ppm_translation.specs.Expressions.{branch_size, last_size, size_of, truth_code, operator_code, right_register, branch_code}
-use Rattle.ppm_translation.specs.Expressions.{expression_code}
+use Rattle.ppm_translation.specs.Expressions.{branch_size, last_size, size_of, truth_code, operator_code}
+use Rattle.ppm_translation.specs.Expressions.{right_register, branch_code, expression_code}
 use Rattle.ppm_translation.specs.Fits.{Has, IsKept, FitsExpression}
 use Rattle.ppm_translation.proofs.RegionWords.{array_within, offset_of, region_word}
 use Rattle.ppm_compiling.proofs.Holding.{HoldsValue, Lies}

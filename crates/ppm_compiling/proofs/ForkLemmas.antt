@@ -1,6 +1,5 @@
 -- A fork: one capsule asks for the block, evaluates the arguments of both branches, and stores them into the two new frames.
-use Rattle.std.proofs.Common.{◌≡◌, ◌≤◌, ◌<◌, ℕ, suc, ◌+◌, List, [], ◌∷◌, Result, Ok, Err, length, inl, inr, replicate}
-use Rattle.std.proofs.Common.{refl, ap, ◌∙◌, subst₂, arith}
+use Rattle.std.proofs.Common.{◌≡◌, ◌≤◌, ◌<◌, ℕ, suc, ◌+◌, List, [], ◌∷◌, Result, Ok, Err, length, inl, inr, replicate, refl, ap, ◌∙◌, subst₂, arith}
 use Rattle.std.specs.Prelude.{slice_index}
 use Rattle.std.specs.List.{sum}
 use Rattle.std.proofs.lemmas.List.{length-append, length-map}

@@ -1,6 +1,5 @@
 -- What a block means its code does: a chain of steps in turn, by recursion on the run.
-use Rattle.std.proofs.Common.{◌≡◌, ◌≤◌, ℕ, ℤ, suc, ◌+◌, ◌-◌, ◌*◌, Bool, List, ◌++◌, None, Ok, Err}
-use Rattle.std.proofs.Common.{length, refl, sym, subst, arith}
+use Rattle.std.proofs.Common.{◌≡◌, ◌≤◌, ℕ, ℤ, suc, ◌+◌, ◌-◌, ◌*◌, Bool, List, ◌++◌, None, Ok, Err, length, refl, sym, subst, arith}
 use Rattle.ppm_strands.specs.Tree.{Words, Code, Strand, Over}
 use Rattle.ppm_code.specs.declared.code.CodeParts.{CodeParts}
 use Rattle.ppm_code.specs.declared.location.FrameWord.{FrameWord}
@@ -11,10 +10,9 @@ use Rattle.ppm_tree.specs.Tree as tree
 use Rattle.ppm_tree.specs.Parts.{nodes}
 use Rattle.ppm_tree.specs.Values.{holds}
 use Rattle.ppm_tree.specs.State.{TrapAt, Region, Locals, Frame, with_locals, Arrays, evaluate, procedure_named}
-use Rattle.ppm_tree.specs.Meaning.{Plain, Whole, Counts, spent, none, both, began, forked, swept, End, Ended, Trapped, arrays_of, assigned}
-use Rattle.ppm_tree.specs.Meaning.{stored, chosen}
-use Rattle.ppm_tree.specs.Meaning.{returned, joined, first_trap, given, give_turn, with_element, Runs, Follows, Loops, Enters, Sweeps}
-use Rattle.ppm_tree.specs.Meaning.{Done, Lets, Assigns, Puts, Ifs, IfTraps, Whiles, Calls, CallTraps, Forks, ForkStops, ForkTraps, Splits, SplitTraps}
+use Rattle.ppm_tree.specs.Meaning.{Plain, Whole, Counts, spent, none, both, began, forked, swept, End, Ended, Trapped, arrays_of, assigned, stored}
+use Rattle.ppm_tree.specs.Meaning.{chosen, returned, joined, first_trap, given, give_turn, with_element, Runs, Follows, Loops, Enters, Sweeps, Done}
+use Rattle.ppm_tree.specs.Meaning.{Lets, Assigns, Puts, Ifs, IfTraps, Whiles, Calls, CallTraps, Forks, ForkStops, ForkTraps, Splits, SplitTraps}
 use Rattle.ppm_tree.specs.Meaning.{Eaches, GoesOn, Stops, TestFails, TestTraps, Turns, TurnTraps, Enter, Swept, Sweep, SweepStops}
 use Rattle.ppm_tree.specs.Meaning as run
 use Rattle.ppm_regions.specs.Scope.{Scope, scope_of, split_scope, each_scope, lets_of, scope_behind}
@@ -33,13 +31,11 @@ use Rattle.ppm_compiling.proofs.Places.{Place, behind_place, while_place, split_
 use Rattle.ppm_compiling.proofs.Given.{IsModestProcedure, Given, words_of, words_both, budget}
 use Rattle.ppm_compiling.proofs.SmallLemmas.{small_while}
 use Rattle.ppm_compiling.proofs.Constructs.{not_plain, split_low, small_first, chosen_hidden, chosen_place, chosen_has, callee_place}
-use Rattle.ppm_compiling.proofs.Constructs.{each_inside, each_words, gives, element_front}
-use Rattle.ppm_compiling.proofs.Constructs.{let_made, assign_made, put_made, if_tested, if_made, call_tried, call_begun, call_made}
-use Rattle.ppm_compiling.proofs.Constructs.{fork_tried, fork_begun, fork_made}
-use Rattle.ppm_compiling.proofs.Constructs.{split_tried, split_made, each_made, loop_tested, turn_made}
+use Rattle.ppm_compiling.proofs.Constructs.{each_inside, each_words, gives, element_front, let_made, assign_made, put_made, if_tested}
+use Rattle.ppm_compiling.proofs.Constructs.{if_made, call_tried, call_begun, call_made, fork_tried, fork_begun, fork_made, split_tried}
+use Rattle.ppm_compiling.proofs.Constructs.{split_made, each_made, loop_tested, turn_made}
 use Rattle.ppm_compiling.proofs.SweepLemmas.{Leaves, NoLeaf, Leaf}
-use Rattle.ppm_compiling.proofs.ReachLemmas.{Reached, Returned, chain_reaches, reaches_front, reaches_locals}
-use Rattle.ppm_compiling.proofs.ReachLemmas.{reaches_same}
+use Rattle.ppm_compiling.proofs.ReachLemmas.{Reached, Returned, chain_reaches, reaches_front, reaches_locals, reaches_same}
 
 module _ (t : ProgramTree) (code : CodeParts) (facts : Given t code) where
   abbrev lens : List ℕ

@@ -24,8 +24,8 @@ use Rattle.ppm_translation.proofs.CaughtLemmas.{IsEachOnce}
 use Rattle.ppm_translation.proofs.RegionWords.{lengths_of}
 use Rattle.ppm_compiling.specs.Correct.{words_begun}
 use Rattle.ppm_compiling.proofs.ChainLemmas.{Cost, cost}
-use Rattle.ppm_compiling.proofs.Doing.{AreSmall, LetDoes, AssignDoes, PutDoes, TestDoes, SplitDoes, GiveDoes, OnwardDoes, FinishDoes}
-use Rattle.ppm_compiling.proofs.Doing.{CallDoes, ForkDoes, EachDoes, EntryDoes, HalvingDoes}
+use Rattle.ppm_compiling.proofs.Doing.{AreSmall, LetDoes, AssignDoes, PutDoes, TestDoes, SplitDoes, GiveDoes, OnwardDoes}
+use Rattle.ppm_compiling.proofs.Doing.{FinishDoes, CallDoes, ForkDoes, EachDoes, EntryDoes, HalvingDoes}
 use Rattle.ppm_compiling.proofs.Places.{IsModest}
 
 module _ (lengths : List ℕ) (code : CodeParts) where

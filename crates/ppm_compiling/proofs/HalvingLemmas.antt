@@ -1,6 +1,6 @@
 -- The hidden procedure of an `each` halves what it has in hand: it forks itself over both halves.
-use Rattle.std.proofs.Common.{◌≡◌, ◌≤◌, ◌<◌, ℕ, suc, ◌+◌, ◌*◌, ◌/◌, ◌^◌, Bool, nat_lt, nat_le, pos, List, [], ◌∷◌, None, length}
-use Rattle.std.proofs.Common.{inl, inr, replicate, refl, sym, ap, ap₂, ◌∙◌, subst, subst₂, arith}
+use Rattle.std.proofs.Common.{◌≡◌, ◌≤◌, ◌<◌, ℕ, suc, ◌+◌, ◌*◌, ◌/◌, ◌^◌, Bool, nat_lt, nat_le, pos, List, [], ◌∷◌, None}
+use Rattle.std.proofs.Common.{length, inl, inr, replicate, refl, sym, ap, ap₂, ◌∙◌, subst, subst₂, arith}
 use Rattle.std.specs.Prelude.{slice_index, slice_set, if◌then◌else◌, ◌-◌, ◌&&◌, ◌+ℤ◌}
 use Rattle.std.specs.List.{sum}
 use Rattle.std.proofs.lemmas.Bool.{lt-ltb, le-leb}

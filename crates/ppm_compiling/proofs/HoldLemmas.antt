@@ -1,6 +1,6 @@
 -- Frames that hold a meaning's frame still do in front of what was declared, and with a value in a target.
-use Rattle.std.proofs.Common.{◌≡◌, ℕ, ℤ, cond, Bool, true, false, List, [], ◌∷◌, ◌++◌, Option, Some, None, map, get_or, ◌==◌, refl, sym, ap}
-use Rattle.std.proofs.Common.{◌∙◌, subst, append-nil}
+use Rattle.std.proofs.Common.{◌≡◌, ℕ, ℤ, cond, Bool, true, false, List, [], ◌∷◌, ◌++◌, Option, Some, None}
+use Rattle.std.proofs.Common.{map, get_or, ◌==◌, refl, sym, ap, ◌∙◌, subst, append-nil}
 use Rattle.std.proofs.lemmas.Bool.{eq-eqb, ne_eqb}
 use Rattle.std.specs.Str.{bytes_eq}
 use Rattle.ppm_code.specs.declared.location.FrameWord.{FrameWord}

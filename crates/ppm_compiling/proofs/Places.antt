@@ -1,9 +1,8 @@
 -- Where a block of a program stands with a frame, a scope and a layout, and how one goes from there.
-use Rattle.std.proofs.Common.{◌≤◌, ◌<◌, ℕ, ◌+◌, List, [], ◌∷◌, ◌++◌, map, length, arith, length-append}
+use Rattle.std.proofs.Common.{◌≤◌, ◌<◌, ℕ, ◌+◌, [], ◌∷◌, ◌++◌, length, arith, length-append}
 use Rattle.std.specs.List.{AllByRecursion}
 use Rattle.ppm_tree.specs.declared.named.Named.{Named}
-use Rattle.ppm_tree.specs.Tree.{Expression, Side, Statement, Block, Nil, Then, Let, Assign, Put, If, While, Split, Each, Procedure, ProgramTree}
-use Rattle.ppm_tree.specs.Tree as tree
+use Rattle.ppm_tree.specs.Tree.{Expression, Statement, Block, Then, If, While, Split, Each, Procedure, ProgramTree}
 use Rattle.ppm_tree.specs.Limits.{IsSmallStatement}
 use Rattle.ppm_tree.specs.Parts.{statement_and_inner, statements_in}
 use Rattle.ppm_tree.specs.State.{Frame, Locals, with_locals}
@@ -16,10 +15,11 @@ use Rattle.ppm_bounds.proofs.Keeping.{all-first, all-second}
 use Rattle.ppm_owning.specs.Coming.{ComesTo, Behind, InHolds, InElse, InWhile, InSplit, InEach, split_frame, each_frame}
 use Rattle.ppm_owning.proofs.Theorem.{apart_everywhere}
 use Rattle.ppm_translation.specs.Layout.{Layout, caught}
-use Rattle.ppm_translation.specs.Fits.{FitsStatement, FitsBlock}
+use Rattle.ppm_translation.specs.Fits.{FitsBlock}
 use Rattle.ppm_translation.specs.Slots.{hidden_named_slots}
 use Rattle.ppm_translation.specs.Statements.{with_lets, with_parts, hidden_layout}
-use Rattle.ppm_translation.proofs.CaughtLemmas.{IsEachOnce, once_push, once_parts, once_hidden, caught_is_counted}
+use Rattle.ppm_translation.proofs.LayoutLemmas.{lets_room}
+use Rattle.ppm_translation.proofs.CaughtLemmas.{IsEachOnce, once_lets, once_parts, once_hidden, caught_is_counted}
 use Rattle.ppm_translation.proofs.RegionWords.{lengths_of}
 use Rattle.ppm_compiling.proofs.Holding.{Lies}
 
@@ -62,33 +62,11 @@ module _ (t : ProgramTree) where
     g = w.g;
     comes = Behind w.p w.g scope s b f l w.comes;
     fits = w.fits.1;
-    once = once_behind s w.fits.0 w.once;
-    room = room_behind s w.room;
+    once = once_lets t.procedures scope layout s w.fits.0 w.once;
+    room = lets_room s b layout spare w.room;
     few = w.few;
     modest = modest_behind s b w.modest;
   }
-    where
-      once_behind : (s : Statement) → FitsStatement t.procedures scope layout s → IsEachOnce layout → IsEachOnce (with_lets layout s)
-      once_behind (Let x e) fits once = once_push layout x.name once fits.1
-      once_behind (Assign x e) fits once = once
-      once_behind (Put x i e) fits once = once
-      once_behind (If e u v) fits once = once
-      once_behind (While e u) fits once = once
-      once_behind (tree.Call u) fits once = once
-      once_behind (tree.Fork u v) fits once = once
-      once_behind (Split line r e x y u) fits once = once
-      once_behind (Each i x r u) fits once = once
-
-      room_behind : (s : Statement) → length layout + most_in_force (Then s b) ≤ spare → length (with_lets layout s) + most_in_force b ≤ spare
-      room_behind (Let x e) room = let longer = length-append layout (x.name ∷ []) in omega (arith, room, longer)
-      room_behind (Assign x e) room = omega (arith, room)
-      room_behind (Put x i e) room = omega (arith, room)
-      room_behind (If e u v) room = omega (arith, room)
-      room_behind (While e u) room = omega (arith, room)
-      room_behind (tree.Call u) room = omega (arith, room)
-      room_behind (tree.Fork u v) room = omega (arith, room)
-      room_behind (Split line r e x y u) room = omega (arith, room)
-      room_behind (Each i x r u) room = omega (arith, room)
 
   -- in the blocks of an `if` and of a loop
   pub holds_place : (scope : Scope) (layout : Layout) (spare : ℕ) (e : Expression) (s u b : Block) (f : Frame)

@@ -1,6 +1,6 @@
 -- For each n a block has an end, or its code makes at least n capsules in turn: by recursion on n.
-use Rattle.std.proofs.Common.{◌/◌, ◌⊎◌, inl, inr, ◌≡◌, ◌≤◌, ℕ, ℤ, zero, suc, ◌+◌, ◌-◌, ◌*◌, Bool, true, false, List, ◌++◌, None, Result, Ok, Err}
-use Rattle.std.proofs.Common.{subst₂, length, refl, subst, arith}
+use Rattle.std.proofs.Common.{◌/◌, ◌⊎◌, inl, inr, ◌≡◌, ◌≤◌, ℕ, ℤ, zero, suc, ◌+◌, ◌-◌, ◌*◌, Bool, true, false, List}
+use Rattle.std.proofs.Common.{◌++◌, None, Result, Ok, Err, subst₂, length, refl, subst, arith}
 use Rattle.ppm_strands.specs.Tree.{Words, Code, Strand, Fork as Forking}
 use Rattle.ppm_code.specs.declared.code.CodeParts.{CodeParts}
 use Rattle.ppm_code.specs.declared.location.FrameWord.{FrameWord}
@@ -10,12 +10,12 @@ use Rattle.ppm_tree.specs.Tree.{Expression, Side, Statement, Block, Nil, Then, L
 use Rattle.ppm_tree.specs.Tree as tree
 use Rattle.ppm_tree.specs.Parts.{nodes}
 use Rattle.ppm_tree.specs.Values.{holds}
-use Rattle.ppm_tree.specs.State.{TrapAt, then_with, Region, Locals, Frame, with_locals, Arrays, split_at, evaluate, procedure_named, entered}
-use Rattle.ppm_tree.specs.State.{both_entered}
-use Rattle.ppm_tree.specs.Meaning.{Whole, Counts, none, End, Ended, Trapped, arrays_of, assigned, stored, chosen}
-use Rattle.ppm_tree.specs.Meaning.{returned, joined, with_element, with_parts as parts_frame, Runs, Follows, Loops, Enters, Sweeps}
-use Rattle.ppm_tree.specs.Meaning.{Done, Lets, Assigns, Puts, Ifs, IfTraps, Whiles, Calls, CallTraps, Forks, ForkTraps, Splits, SplitTraps}
-use Rattle.ppm_tree.specs.Meaning.{Eaches, GoesOn, Stops, TestFails, TestTraps, Turns, TurnTraps, Enter, Swept, Sweep, SweepStops}
+use Rattle.ppm_tree.specs.State.{TrapAt, then_with, Region, Locals, Frame, with_locals, Arrays, split_at}
+use Rattle.ppm_tree.specs.State.{evaluate, procedure_named, entered, both_entered}
+use Rattle.ppm_tree.specs.Meaning.{Whole, Counts, none, End, Ended, Trapped, arrays_of, assigned, stored, chosen, returned, joined}
+use Rattle.ppm_tree.specs.Meaning.{with_element, with_parts as parts_frame, Runs, Follows, Loops, Enters, Sweeps, Done, Lets, Assigns, Puts}
+use Rattle.ppm_tree.specs.Meaning.{Ifs, IfTraps, Whiles, Calls, CallTraps, Forks, ForkTraps, Splits, SplitTraps, Eaches, GoesOn, Stops}
+use Rattle.ppm_tree.specs.Meaning.{TestFails, TestTraps, Turns, TurnTraps, Enter, Swept, Sweep, SweepStops}
 use Rattle.ppm_regions.specs.Scope.{Scope, scope_of, split_scope, each_scope, lets_of}
 use Rattle.ppm_owning.specs.Coming.{callee, InCall, InLeft, InRight}
 use Rattle.ppm_translation.specs.Layout.{Layout, target_of, parameter_layout, caught}
@@ -34,14 +34,11 @@ use Rattle.ppm_compiling.proofs.SmallLemmas.{small_while}
 use Rattle.ppm_compiling.proofs.ChainLemmas.{Long, long_none, long_then, long_under, long_left, long_right, chain_left}
 use Rattle.ppm_compiling.proofs.SweepLemmas.{first_arrays, part_in_hand, small_word}
 use Rattle.ppm_compiling.proofs.Forward.{runs, loops, enters, sweeps}
-use Rattle.ppm_compiling.proofs.Constructs.{ForkBegun, each_begun}
-use Rattle.ppm_compiling.proofs.Constructs.{not_plain, split_low, small_first, chosen_hidden, chosen_place, chosen_has, callee_place, each_inside}
-use Rattle.ppm_compiling.proofs.Constructs.{let_made, assign_made, put_made, if_tested, if_made, call_begun, call_made, fork_begun, fork_made}
-use Rattle.ppm_compiling.proofs.Constructs.{split_tried, split_made, each_made, loop_tested, turn_made}
+use Rattle.ppm_compiling.proofs.Constructs.{ForkBegun, each_begun, not_plain, split_low, small_first, chosen_hidden, chosen_place, chosen_has}
+use Rattle.ppm_compiling.proofs.Constructs.{callee_place, each_inside, let_made, assign_made, put_made, if_tested, if_made, call_begun, call_made}
+use Rattle.ppm_compiling.proofs.Constructs.{fork_begun, fork_made, split_tried, split_made, each_made, loop_tested, turn_made}
 use Rattle.ppm_compiling.proofs.SweepLemmas.{over_of, swept as swept_all}
-use Rattle.ppm_compiling.proofs.ReachLemmas.{returned_over}
-use Rattle.ppm_compiling.proofs.ReachLemmas.{Reached, Returned}
-use Rattle.ppm_compiling.proofs.ReachLemmas.{reaches_same}
+use Rattle.ppm_compiling.proofs.ReachLemmas.{returned_over, Reached, Returned, reaches_same}
 
 -- one stretch of an `each` behind another is a stretch
 joined_sweeps : (procedures : List Procedure) {i x : Named} {s : Block} {q : Region} {f : Frame} {n m : ℕ} {c : Arrays} {k : Counts} {z : End Locals}

@@ -1,7 +1,6 @@
 -- What the capsules of `x[i] = e` do: index and value go into the spare slots, and the next capsule puts.
-use Rattle.std.proofs.Common.{◌≡◌, ◌≤◌, ◌<◌, ℕ, zero, suc, ◌+◌, ◌==◌, ℤ, pos, cond, List, [], ◌∷◌, ◌++◌, Some, Result, Ok, Err}
-use Rattle.std.proofs.Common.{length, get_or, set, refl, sym, ap, ap₂, ◌∙◌, subst, subst₂, arith, inl, inr}
-use Rattle.std.proofs.Common.{get_or-set_same}
+use Rattle.std.proofs.Common.{◌≡◌, ◌≤◌, ◌<◌, ℕ, suc, ◌+◌, ◌==◌, ℤ, pos, cond, List, [], ◌∷◌, ◌++◌, Some, Result, Ok, Err, length}
+use Rattle.std.proofs.Common.{get_or, set, refl, sym, ap, ap₂, ◌∙◌, subst, subst₂, arith, inl, inr, get_or-set_same}
 use Rattle.std.specs.Prelude.{slice_index, slice_set}
 use Rattle.std.specs.List.{sum}
 use Rattle.std.proofs.lemmas.Bool.{cases_eq, cases_lt, cond-true, cond-false, eq-eqb, ne_eqb}
@@ -39,8 +38,7 @@ use Rattle.ppm_translation.proofs.RegionWords.{one_address, offset_of, region_wo
 use Rattle.ppm_compiling.proofs.ChainLemmas.{cost, Chain, chain_then, chain_weaken}
 use Rattle.ppm_compiling.proofs.Doing.{AreSmall, InHand, PutDoes}
 use Rattle.ppm_compiling.proofs.ExprLemmas.{Goes, goes_on, goes_equal, goes_same, stores, loads, stops, held_at, set_at, set_else, set_count, InReg}
-use Rattle.ppm_compiling.proofs.ExprLemmas.{Meets, bind_meets, expr_meets}
-use Rattle.ppm_compiling.proofs.ExprLemmas.{word_is, IsPlaced, at_index, element_acts, all_front, all_behind}
+use Rattle.ppm_compiling.proofs.ExprLemmas.{Meets, bind_meets, expr_meets, word_is, IsPlaced, at_index, element_acts, all_front, all_behind}
 use Rattle.ppm_compiling.proofs.Holding.{HoldsValue, Holds, Shows, Reaches, at_work, strands}
 use Rattle.ppm_compiling.proofs.StoreLemmas.{stored_slot, other_slot, holds_behind}
 use Rattle.ppm_compiling.proofs.StatementLemmas.{zeros, zeros_count, onward_goes, front_held}

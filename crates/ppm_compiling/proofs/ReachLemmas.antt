@@ -13,8 +13,8 @@ use Rattle.ppm_owning.proofs.ScopeLemmas.{seen_before}
 use Rattle.ppm_translation.specs.Layout.{Layout, target_of}
 use Rattle.ppm_translation.specs.Fits.{FitsTarget, layout_behind}
 use Rattle.ppm_translation.specs.Statements.{with_lets, with_parts}
-use Rattle.ppm_compiling.proofs.ChainLemmas.{Cost, cost, both_costs, IsWithinCost, within_cost, Chain, chain_then, chain_weaken, chain_under}
-use Rattle.ppm_compiling.proofs.ChainLemmas.{chain_left, chain_right, chain_return, chain_join}
+use Rattle.ppm_compiling.proofs.ChainLemmas.{Cost, cost, both_costs, IsWithinCost, within_cost, Chain, chain_then, chain_weaken}
+use Rattle.ppm_compiling.proofs.ChainLemmas.{chain_under, chain_left, chain_right, chain_return, chain_join}
 use Rattle.ppm_compiling.proofs.Holding.{CodeFrame, Lies, Shows, Holds, at_work, waits, strands, CodeTree, Reaches, Returns}
 use Rattle.ppm_compiling.proofs.HoldLemmas.{holds_before, holds_whole, holds_delivered}
 

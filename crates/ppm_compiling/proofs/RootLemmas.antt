@@ -1,48 +1,36 @@
 -- The two ends of a run: the words and the root's frame with which it begins, and the outcome that is said of its end.
-use Rattle.std.proofs.Common.{◌≡◌, ◌≢◌, ◌<◌, ℕ, zero, suc, ◌+◌, ◌*◌, ◌^◌, ℤ, pos, negsuc, cond, Bool, true, false, List, [], ◌∷◌, ◌++◌, Some, None}
-use Rattle.std.proofs.Common.{get_or, map, length, codes, refl, sym, ap, ap₂, ◌∙◌, subst, arith}
+use Rattle.std.proofs.Common.{◌≡◌, ◌<◌, ℕ, zero, suc, ◌+◌, ◌*◌, ◌^◌, ℤ, pos, negsuc, List, [], ◌∷◌, get_or}
+use Rattle.std.proofs.Common.{map, length, codes, refl, sym, ap, ap₂, ◌∙◌, subst, arith}
 use Rattle.std.specs.Prelude.{FitsSigned}
 use Rattle.std.specs.Int.{w64}
-use Rattle.std.specs.List.{All, AllByRecursion, Contains, flat_map, sum}
-use Rattle.std.specs.Str.{bytes_eq}
+use Rattle.std.specs.List.{All, AllByRecursion, sum}
 use Rattle.std.proofs.lemmas.List.{get_or_append_left, get_or-append-add, get_or-map, length-map, length-append}
-use Rattle.std.proofs.lemmas.List.Elements.{Contains-append_left, Contains-append_right, recursion_from_All}
+use Rattle.std.proofs.lemmas.List.Elements.{recursion_from_All}
 use Rattle.std.proofs.lemmas.List.Sums.{sum_by-cons}
-use Rattle.ppm_strands.specs.Tree.{Words, Strand}
+use Rattle.ppm_strands.specs.Tree.{Words}
 use Rattle.ppm_words.specs.TwosComplement.{word_of, value_of}
-use Rattle.ppm_words.proofs.TwosComplementLemmas.{value_of-word_of, word_of-below}
 use Rattle.ppm_words.specs.declared.named_array.NamedArray.{NamedArray}
 use Rattle.ppm_words.specs.declared.outcome.Outcome.TheVariants as outcome
-use Rattle.ppm_code.specs.Strands.{entry_of, Gave, Trapped as TrappedAt}
-use Rattle.ppm_depth.specs.Start.{words_in, words_of, regions_from, root_own, root_strand}
+use Rattle.ppm_code.specs.Strands.{Gave, Trapped as TrappedAt}
+use Rattle.ppm_depth.specs.Start.{words_in, words_of, regions_from, root_own}
 use Rattle.ppm_depth.specs.Run.{strands_of, values_at, arrays_at, said_of}
-use Rattle.ppm_tree.specs.declared.tree.Array.{Array}
-use Rattle.ppm_tree.specs.declared.tree.Parameter.{Parameter}
-use Rattle.ppm_tree.specs.Tree.{Procedure, ProgramTree}
-use Rattle.ppm_tree.specs.Parts.{gives_of}
-use Rattle.ppm_tree.specs.State.{TrapAt, Region, Arrays, array_at, procedure_named}
+use Rattle.ppm_tree.specs.Tree.{ProgramTree}
+use Rattle.ppm_tree.specs.State.{TrapAt, Arrays, array_at}
 use Rattle.ppm_tree.specs.Meaning.{Form, Counts, End, Ended, Trapped, arrays_of}
-use Rattle.ppm_tree.specs.Program.{values_of, with_names, whole_from, main_frame, main_of, outcome_of, Means}
-use Rattle.ppm_regions.specs.Scope.{Declaration, declared, first_named, is_region, of_parameter, scope_of}
-use Rattle.ppm_regions.specs.Uses.{Use, Begins, MainTakes, MainGives, Fills, sites_at, sites_of_names, sites_of_procedure, uses_of_main}
+use Rattle.ppm_tree.specs.Program.{values_of, with_names, main_frame, main_of, outcome_of, Means}
+use Rattle.ppm_regions.specs.Scope.{Declaration, is_region, scope_of}
 use Rattle.ppm_regions.specs.Admission.{IsAdmitted}
-use Rattle.ppm_regions.specs.Correct.{NamesArray}
-use Rattle.ppm_regions.proofs.Elements.{contains_head, contains_tail, contains_map}
 use Rattle.ppm_regions.proofs.MainLemmas.{number_is}
-use Rattle.ppm_regions.proofs.Rules.{rules}
-use Rattle.ppm_regions.proofs.ScopeLemmas.{same_names, none_and_some, some_same}
 use Rattle.ppm_owning.specs.Words.{HaveOneShape}
 use Rattle.ppm_owning.proofs.EntryLemmas.{main_regions}
 use Rattle.ppm_owning.proofs.Theorem.{within_everywhere}
 use Rattle.ppm_translation.specs.Inputs.{IsValue, IsInputOf}
-use Rattle.ppm_translation.specs.Layout.{slot_of, parameter_layout}
-use Rattle.ppm_translation.specs.Fits.{Has}
+use Rattle.ppm_translation.specs.Layout.{parameter_layout}
 use Rattle.ppm_translation.specs.Routines.{code_of}
-use Rattle.ppm_translation.specs.Statements.{number_of}
 use Rattle.ppm_translation.proofs.MainLemmas.{whole_array, declared_parameter, main_names, root_region}
 use Rattle.ppm_translation.proofs.RegionWords.{lengths_of, offset_of, region_word}
 use Rattle.ppm_compiling.proofs.ExprLemmas.{holds_word}
-use Rattle.ppm_compiling.proofs.Holding.{HoldsValue, Shows, Holds, at_work, strands}
+use Rattle.ppm_compiling.proofs.Holding.{HoldsValue, Shows, Holds, strands}
 
 -- how long the arrays of an input are
 abbrev lengths_in : List NamedArray → List ℕ

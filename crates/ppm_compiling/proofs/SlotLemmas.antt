@@ -1,6 +1,6 @@
 -- Slots of names in layouts, and how a frame of the hidden procedure of an `each` is held.
-use Rattle.std.proofs.Common.{◌≡◌, ◌≢◌, ◌<◌, ℕ, suc, pos, cond, Bool, true, false, List, [], ◌∷◌, Some, None, get_or, length, inl, inr}
-use Rattle.std.proofs.Common.{Option, refl, sym, ap, ◌∙◌, subst, arith}
+use Rattle.std.proofs.Common.{◌≡◌, ◌≢◌, ◌<◌, ℕ, suc, pos, cond, Bool, true, false, List, [], ◌∷◌, Some, None}
+use Rattle.std.proofs.Common.{get_or, length, inl, inr, Option, refl, sym, ap, ◌∙◌, subst, arith}
 use Rattle.std.specs.List.{filter}
 use Rattle.std.specs.Str.{bytes_eq}
 use Rattle.std.specs.Option.{option_map}

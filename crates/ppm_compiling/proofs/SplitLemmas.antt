@@ -1,6 +1,6 @@
 -- What the capsule of a split does: both parts go into the first slots that no name has.
-use Rattle.std.proofs.Common.{◌≡◌, ◌≢◌, ℕ, suc, ◌+◌, ◌-◌, ◌*◌, ◌^◌, ℤ, pos, negsuc, cond, Bool, true, false, nat_lt, List, [], ◌∷◌}
-use Rattle.std.proofs.Common.{Some, None, Result, Ok, Err, length, refl, sym, ap, ap₂, ◌∙◌, subst, subst₂, arith, inl, inr}
+use Rattle.std.proofs.Common.{◌≡◌, ◌≢◌, ℕ, suc, ◌+◌, ◌-◌, ◌*◌, ◌^◌, ℤ, pos, negsuc, cond, Bool, true, false, nat_lt, List, [], ◌∷◌, Some}
+use Rattle.std.proofs.Common.{None, Result, Ok, Err, length, refl, sym, ap, ap₂, ◌∙◌, subst, subst₂, arith, inl, inr}
 use Rattle.std.specs.Prelude.{nat_le, slice_index, slice_set, ◌&&◌}
 use Rattle.std.specs.List.{sum}
 use Rattle.std.specs.Str.{bytes_eq}
@@ -29,8 +29,8 @@ use Rattle.ppm_tree.specs.Tree.{Expression}
 use Rattle.ppm_tree.specs.State.{TrapAt, then_with, tested, Region, first_part, second_part, Frame, Arrays, split_at, evaluate}
 use Rattle.ppm_tree.specs.Meaning.{with_parts as parts_frame}
 use Rattle.ppm_regions.specs.Scope.{Declaration, Scope, declared, is_region, part, in_split, parts_of, seen_in_split, split_scope}
-use Rattle.ppm_regions.proofs.ScopeLemmas.{declared_in_front, declared_behind, declared_map, image_of, names_same, same_names, names_other}
-use Rattle.ppm_regions.proofs.ScopeLemmas.{found_cases, some_same, none_and_some}
+use Rattle.ppm_regions.proofs.ScopeLemmas.{declared_in_front, declared_behind, declared_map, image_of, names_same}
+use Rattle.ppm_regions.proofs.ScopeLemmas.{same_names, names_other, found_cases, some_same, none_and_some}
 use Rattle.ppm_translation.specs.Layout.{Layout, slot_of, register}
 use Rattle.ppm_translation.specs.Expressions.{size_of}
 use Rattle.ppm_translation.specs.Fits.{Has, IsNew, IsRegion}
@@ -39,8 +39,7 @@ use Rattle.ppm_translation.proofs.LayoutLemmas.{slot_in_front}
 use Rattle.ppm_translation.proofs.RegionWords.{offset_of, region_word}
 use Rattle.ppm_compiling.proofs.Doing.{InHand, SplitDoes}
 use Rattle.ppm_compiling.proofs.ExprLemmas.{Goes, goes_on, goes_equal, sets, stores, loads, stops, held_at, set_at, set_else, set_count, InReg, Meets}
-use Rattle.ppm_compiling.proofs.ExprLemmas.{bind_meets}
-use Rattle.ppm_compiling.proofs.ExprLemmas.{word_is, value_fits, IsPlaced, region_short, region_end, region_length, region_start}
+use Rattle.ppm_compiling.proofs.ExprLemmas.{bind_meets, word_is, value_fits, IsPlaced, region_short, region_end, region_length, region_start}
 use Rattle.ppm_compiling.proofs.Holding.{HoldsValue, Holds, Parted}
 use Rattle.ppm_compiling.proofs.StoreLemmas.{stored_slot, other_slot, slot_behind, has_before, first_slot, next_slot, apart_from}
 use Rattle.ppm_compiling.proofs.SlotLemmas.{part_is_region}

@@ -1,6 +1,6 @@
 -- What the capsules of `let`, `x = e`, tests, `give` and the ends of blocks do.
-use Rattle.std.proofs.Common.{◌≡◌, ℕ, suc, ◌+◌, ◌==◌, ℤ, pos, cond, Bool, true, false, List, [], ◌∷◌, ◌++◌, Some, None, Result, Ok, Err}
-use Rattle.std.proofs.Common.{length, replicate, refl, sym, ap, ◌∙◌, subst, arith}
+use Rattle.std.proofs.Common.{◌≡◌, ℕ, suc, ◌+◌, ◌==◌, ℤ, pos, cond, Bool, true, false, List, [], ◌∷◌, ◌++◌, Some, None}
+use Rattle.std.proofs.Common.{Result, Ok, Err, length, replicate, refl, sym, ap, ◌∙◌, subst, arith}
 use Rattle.std.specs.Prelude.{slice_index, slice_set, not}
 use Rattle.std.specs.List.{sum}
 use Rattle.std.specs.Ordering.{int_eq}
@@ -35,8 +35,8 @@ use Rattle.ppm_translation.specs.Fits.{FitsExpression}
 use Rattle.ppm_translation.specs.Statements.{onward, test_code}
 use Rattle.ppm_compiling.proofs.ChainLemmas.{cost, Chain, chain_then, chain_weaken}
 use Rattle.ppm_compiling.proofs.Doing.{AreSmall, InHand, LetDoes, AssignDoes, TestDoes, GiveDoes, OnwardDoes, FinishDoes}
-use Rattle.ppm_compiling.proofs.ExprLemmas.{Goes, goes_on, goes_equal, stores, loads, stops, jumps, passes, held_at, set_at, InReg, Meets, expr_meets}
-use Rattle.ppm_compiling.proofs.ExprLemmas.{word_is, same_words, holds_number}
+use Rattle.ppm_compiling.proofs.ExprLemmas.{Goes, goes_on, goes_equal, stores, loads, stops, jumps, passes, held_at, set_at}
+use Rattle.ppm_compiling.proofs.ExprLemmas.{InReg, Meets, expr_meets, word_is, same_words, holds_number}
 use Rattle.ppm_compiling.proofs.Holding.{HoldsValue, Reaches, Returns, Tested, at_work, strands, which}
 use Rattle.ppm_compiling.proofs.HoldLemmas.{holds_delivered}
 use Rattle.ppm_compiling.proofs.StoreLemmas.{stored_slot, holds_behind, holds_let}

@@ -1,9 +1,5 @@
 -- The hidden procedure of an `each` runs the blocks of its elements from the first one on, by halves: what each block does, all do.
-use Rattle.std.proofs.Common.{◌≡◌, ◌≤◌, ◌<◌, ℕ, zero, suc, ◌+◌, ◌-◌, ◌*◌, ◌/◌, ◌^◌, cond, Bool, false, List, [], ◌∷◌, Some, None, length}
-use Rattle.std.proofs.Common.{refl, sym, ap, ◌∙◌, subst, arith}
-use Rattle.std.specs.List.{AllByRecursion, IsDistinct}
-use Rattle.std.specs.Str.{bytes_eq}
-use Rattle.std.proofs.lemmas.List.Sums.{sum_by-append}
+use Rattle.std.proofs.Common.{◌≡◌, ◌≤◌, ℕ, zero, suc, ◌+◌, ◌-◌, ◌*◌, ◌/◌, ◌^◌, List, [], ◌∷◌, None, length, refl, sym, ap, ◌∙◌, subst, arith}
 use Rattle.ppm_strands.specs.Tree.{Words, Code, Strand, Fork as Forking, Over}
 use Rattle.ppm_code.specs.declared.act.End.TheVariants as ends
 use Rattle.ppm_code.specs.declared.instr.Instr.TheVariants as instr
@@ -17,20 +13,17 @@ use Rattle.ppm_tree.specs.Tree as tree
 use Rattle.ppm_tree.specs.State.{Region, Frame, Locals, Arrays}
 use Rattle.ppm_tree.specs.Meaning.{Counts, spent, none, both, End, Ended, Trapped, arrays_of, first_trap}
 use Rattle.ppm_owning.specs.Coming.{stretch}
-use Rattle.std.specs.Option.{option_map}
-use Rattle.ppm_regions.specs.Scope.{Scope, each_scope, declared, in_each, element_of, seen_in_each, index_of, part}
-use Rattle.ppm_regions.proofs.ScopeLemmas.{names_same, names_other, other_names, declared_map, declared_behind}
-use Rattle.ppm_translation.specs.Layout.{Layout, slot_of, caught}
-use Rattle.ppm_translation.specs.Fits.{IsNew, IsDistinctLayout, FitsStatement, layout_behind}
+use Rattle.ppm_regions.specs.Scope.{Scope, each_scope}
+use Rattle.ppm_translation.specs.Layout.{Layout, caught}
+use Rattle.ppm_translation.specs.Fits.{FitsStatement, layout_behind}
 use Rattle.ppm_translation.specs.Numbers.{end_of, halved, element_block, behind, hidden_behind}
 use Rattle.ppm_translation.specs.Slots.{hidden_slots, hidden_named_slots, fork_words}
 use Rattle.ppm_translation.specs.Standing.{HasStatement, HasBlock}
 use Rattle.ppm_translation.specs.Statements.{Last, Gives, last_code, with_lets, hidden_layout}
 use Rattle.ppm_translation.proofs.CaughtLemmas.{IsEachOnce}
 use Rattle.ppm_translation.proofs.RegionWords.{lengths_of, offset_of, region_word}
-use Rattle.ppm_compiling.specs.Correct.{words_begun}
-use Rattle.ppm_compiling.proofs.ChainLemmas.{Cost, cost, both_costs, within_cost, Chain, chain_then, chain_weaken, chain_left, chain_right}
-use Rattle.ppm_compiling.proofs.ChainLemmas.{chain_join}
+use Rattle.ppm_compiling.proofs.ChainLemmas.{Cost, cost, both_costs, within_cost, Chain, chain_then}
+use Rattle.ppm_compiling.proofs.ChainLemmas.{chain_weaken, chain_left, chain_right, chain_join}
 use Rattle.ppm_compiling.proofs.Holding.{CodeFrame, Shows, Holds, sweep_frame, at_work, waits, strands, CodeTree, Reaches}
 use Rattle.ppm_compiling.proofs.SlotLemmas.{part_slot}
 use Rattle.ppm_compiling.proofs.Doing.{Entered}

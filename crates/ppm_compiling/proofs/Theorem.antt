@@ -1,6 +1,5 @@
 -- The theorem, from the two directions.
-use Rattle.std.proofs.Common.{◌≡◌, ◌≢◌, inl, inr, ℕ, ℤ, suc, List, [], ◌∷◌, ◌++◌, None, codes, length, map, refl, sym, ap, subst, arith}
-use Rattle.std.specs.List.{flat_map}
+use Rattle.std.proofs.Common.{◌≡◌, inl, inr, ℕ, ℤ, suc, List, codes, length, refl, sym, ap, subst, arith}
 use Rattle.std.proofs.lemmas.List.{length-map}
 use Rattle.ppm_strands.specs.Tree.{Words, Tree, Code, Strand, Over}
 use Rattle.ppm_strands.specs.Run.{none as nothing, End as CapsuleEnd, with_counts, Ends}
@@ -17,12 +16,8 @@ use Rattle.ppm_tree.specs.Tree.{Procedure, ProgramTree}
 use Rattle.ppm_tree.specs.Limits.{IsWithin}
 use Rattle.ppm_tree.specs.Meaning.{Whole, Counts, End, Ended, Trapped, arrays_of, Enter}
 use Rattle.ppm_tree.specs.Program.{values_of, main_of, main_frame, Means}
-use Rattle.ppm_regions.specs.Scope.{scope_of, first_named}
-use Rattle.ppm_regions.specs.Uses.{Begins, Fills, uses_of_main, sites_at, sites_of_names, sites_of_procedure}
-use Rattle.ppm_regions.proofs.Elements.{contains_head}
-use Rattle.std.proofs.lemmas.List.Elements.{Contains-append_right}
+use Rattle.ppm_regions.specs.Scope.{scope_of}
 use Rattle.ppm_regions.specs.Admission.{IsAdmitted}
-use Rattle.ppm_regions.proofs.Rules.{rules}
 use Rattle.ppm_bounds.specs.Bounds.{IsWithinBounds}
 use Rattle.ppm_owning.specs.Coming.{Main}
 use Rattle.ppm_translation.specs.Inputs.{IsInputOf}

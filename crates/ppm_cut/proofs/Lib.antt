@@ -7,3 +7,4 @@ pub mod Storing
 pub mod Bodies
 pub mod Drafting
 pub mod Texts
+pub mod Limits

@@ -1,6 +1,6 @@
 -- The capsules of a call and of a fork are tame: a callee owns what is lent to it, and two branches own apart.
-use Rattle.std.proofs.Common.{◌≡◌, ◌≢◌, ◌≤◌, ◌<◌, ℕ, zero, suc, ◌+◌, ◌==◌, cond, Bool, true, false, List, [], ◌∷◌, ◌++◌, Option, Some, None}
-use Rattle.std.proofs.Common.{length, slice_set, refl, sym, ap, ◌∙◌, subst, arith}
+use Rattle.std.proofs.Common.{◌≡◌, ◌≢◌, ◌≤◌, ◌<◌, ℕ, zero, suc, ◌+◌, ◌==◌, cond, Bool, true, false, List, [], ◌∷◌, ◌++◌}
+use Rattle.std.proofs.Common.{Option, Some, None, length, slice_set, refl, sym, ap, ◌∙◌, subst, arith}
 use Rattle.std.proofs.lemmas.List.{length-map}
 use Rattle.std.proofs.lemmas.Bool.{eqb-true, eq-eqb}
 use Rattle.ppm_capsules.specs.Capsule.{Memory, store}
@@ -36,8 +36,8 @@ use Rattle.ppm_owning.proofs.EntryLemmas.{lends_are, lent_from, lent_apart, lent
 use Rattle.ppm_owning.proofs.ComingLemmas.{call_facts, left_facts, right_facts}
 use Rattle.ppm_translation.specs.Layout.{Layout, slot_of, target_of, parameter_layout, register}
 use Rattle.ppm_translation.specs.Slots.{named_slots, frame_words, fork_words}
-use Rattle.ppm_translation.specs.Statements.{Last, Gives, lent_code, argument_size, argument_code, arguments_size, arguments_code, paired}
-use Rattle.ppm_translation.specs.Statements.{stores_code, number_of, callee_number, callee_slots}
+use Rattle.ppm_translation.specs.Statements.{Last, Gives, lent_code, argument_size, argument_code, arguments_size, arguments_code}
+use Rattle.ppm_translation.specs.Statements.{paired, stores_code, number_of, callee_number, callee_slots}
 use Rattle.ppm_translation.specs.Fits.{FitsArgument, FitsArguments, FitsTarget, FitsProcedure, FitsLent}
 use Rattle.ppm_translation.specs.Standing.{HasBodies, HasBody}
 use Rattle.ppm_translation.proofs.RegionWords.{lengths_of, region_word}

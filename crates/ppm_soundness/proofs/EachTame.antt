@@ -1,6 +1,6 @@
 -- The capsules of an `each` and of its hidden procedure are tame: each half owns its own part, and reads the names of outside.
-use Rattle.std.proofs.Common.{◌≡◌, ◌≢◌, ◌≤◌, ◌<◌, ℕ, zero, suc, ◌+◌, cond, Bool, true, false, List, [], ◌∷◌, ◌++◌, Some, None, length, slice_set}
-use Rattle.std.proofs.Common.{inl, inr, refl, sym, ap, ◌∙◌, subst, arith}
+use Rattle.std.proofs.Common.{◌≡◌, ◌≢◌, ◌≤◌, ◌<◌, ℕ, zero, suc, ◌+◌, cond, Bool, true, false, List, [], ◌∷◌, ◌++◌, Some}
+use Rattle.std.proofs.Common.{None, length, slice_set, inl, inr, refl, sym, ap, ◌∙◌, subst, arith}
 use Rattle.std.specs.Prelude.{pos, int_lt}
 use Rattle.std.specs.Str.{bytes_eq}
 use Rattle.std.specs.Option.{option_map}
@@ -25,8 +25,7 @@ use Rattle.ppm_tree.specs.State.{Frame, Region}
 use Rattle.ppm_regions.specs.Scope.{Declaration, Scope, declared, is_region, each_scope, in_each, element_of, part, seen_in_each, index_of}
 use Rattle.ppm_regions.specs.Admission.{IsAdmitted}
 use Rattle.ppm_regions.specs.Correct.{KeepsRules}
-use Rattle.ppm_regions.proofs.ScopeLemmas.{same_names, names_same, names_other, other_names, declared_behind, declared_map, none_and_some}
-use Rattle.ppm_regions.proofs.ScopeLemmas.{some_same}
+use Rattle.ppm_regions.proofs.ScopeLemmas.{same_names, names_same, names_other, other_names, declared_behind, declared_map, none_and_some, some_same}
 use Rattle.ppm_owning.specs.Words.{IsPart, HasWord}
 use Rattle.ppm_owning.specs.Owning.{IsSeen, OwnsNoMore}
 use Rattle.ppm_owning.specs.Coming.{part_frame}
@@ -40,8 +39,8 @@ use Rattle.ppm_translation.specs.Statements.{Last, hidden_layout, stores_code, l
 use Rattle.ppm_translation.specs.Fits.{Has}
 use Rattle.ppm_translation.proofs.RegionWords.{lengths_of, region_word}
 use Rattle.ppm_soundness.proofs.OwnLemmas.{Label, AreShort, less_label}
-use Rattle.ppm_soundness.proofs.TameLemmas.{World, Goes, held_set, Keeps, keeps_itself, keeps_set, keeps_on, go_set, go_load, go_room, go_end}
-use Rattle.ppm_soundness.proofs.TameLemmas.{go_zero}
+use Rattle.ppm_soundness.proofs.TameLemmas.{World, Goes, held_set, Keeps, keeps_itself, keeps_set, keeps_on}
+use Rattle.ppm_soundness.proofs.TameLemmas.{go_set, go_load, go_room, go_end, go_zero}
 use Rattle.ppm_soundness.proofs.StandLemmas.{Level, level, seen_of, IsAt, at_on}
 use Rattle.ppm_soundness.proofs.LevelLemmas.{behind_at, has_one, has_none, IsSwept, element_level, element_at, Begins, Enters, Halves, ForCallee}
 use Rattle.ppm_soundness.proofs.BlockTame.{world, zeros, zeros_kept}

@@ -1,8 +1,7 @@
 -- The array words that a scope with its regions owns, as addresses: the arrays lie one after the other.
-use Rattle.std.proofs.Common.{◌≡◌, ◌≤◌, ◌<◌, ℕ, zero, suc, ◌+◌, ◌*◌, ◌^◌, List, [], ◌∷◌, map, refl, sym, ap, ◌∙◌, subst, arith, ◌-◌, ap₂}
+use Rattle.std.proofs.Common.{◌≡◌, ◌<◌, ℕ, ◌+◌, ◌*◌, ◌^◌, List, map, refl, sym, ap, ◌∙◌, subst, arith, ◌-◌, ap₂}
 use Rattle.std.specs.List.{sum}
 use Rattle.std.proofs.lemmas.Nat.{div-mul-add, mod-mul-add}
-use Rattle.std.proofs.lemmas.List.Sums.{sum_by-cons}
 use Rattle.ppm_code.specs.Acts.{start_of, length_of}
 use Rattle.ppm_tree.specs.declared.tree.Array.{Array}
 use Rattle.ppm_tree.specs.State.{Region, Regions, first_part, second_part}

@@ -1,31 +1,20 @@
 -- The root's frame holds the regions of `main`; so the tree with which a run begins is calm, and the code is sound.
-use Rattle.std.proofs.Common.{◌≡◌, ◌≢◌, ◌<◌, ℕ, zero, suc, ◌+◌, ◌*◌, ◌^◌, cond, Bool, true, false, List, [], ◌∷◌, ◌++◌, Some, None, length, map}
-use Rattle.std.proofs.Common.{refl, sym, ap, ◌∙◌, subst, arith}
-use Rattle.std.specs.Str.{bytes_eq}
+use Rattle.std.proofs.Common.{◌≡◌, ◌<◌, ℕ, zero, suc, ◌+◌, ◌*◌, ◌^◌, List, [], ◌∷◌, length, map, refl, sym, ap, ◌∙◌, arith}
 use Rattle.std.proofs.lemmas.List.{length-map}
-use Rattle.std.specs.List.{Contains, flat_map}
 use Rattle.std.specs.Prelude.{codes, get_or}
-use Rattle.std.proofs.lemmas.List.Elements.{Contains-append_left, Contains-append_right}
 use Rattle.ppm_strands.specs.Calm.{Calm}
 use Rattle.ppm_words.specs.declared.named_array.NamedArray.{NamedArray}
 use Rattle.ppm_code.specs.declared.location.FrameWord.TheVariants.{Slot}
 use Rattle.ppm_code.specs.Strands.{entry_of, at_capsule}
 use Rattle.ppm_depth.specs.Start.{words_in, words_of, regions_from, root_own, root_strand}
 use Rattle.ppm_depth.specs.Run.{strands_of}
-use Rattle.ppm_tree.specs.declared.tree.Parameter.{Parameter}
-use Rattle.ppm_tree.specs.Tree.{Procedure, ProgramTree}
-use Rattle.ppm_tree.specs.State.{Frame, Region, procedure_named}
+use Rattle.ppm_tree.specs.Tree.{ProgramTree}
+use Rattle.ppm_tree.specs.State.{Frame}
 use Rattle.ppm_tree.specs.declared.tree.Array.{Array}
-use Rattle.ppm_tree.specs.Parts.{gives_of}
-use Rattle.ppm_tree.specs.Program.{whole_from, main_frame, main_of}
-use Rattle.ppm_regions.specs.Scope.{Declaration, declared, of_parameter, scope_of, first_named}
+use Rattle.ppm_tree.specs.Program.{main_frame, main_of}
+use Rattle.ppm_regions.specs.Scope.{scope_of}
 use Rattle.ppm_regions.specs.Admission.{IsAdmitted}
-use Rattle.ppm_regions.proofs.ScopeLemmas.{same_names, none_and_some}
 use Rattle.ppm_regions.proofs.SiteLemmas.{callee_sites, sites_of_body}
-use Rattle.ppm_regions.specs.Uses.{Use, Begins as BeginsAt, MainTakes, MainGives, Fills, sites_at, sites_of_names, sites_of_procedure}
-use Rattle.ppm_regions.specs.Uses.{uses_of_main}
-use Rattle.ppm_regions.specs.Correct.{Makes, NamesArray}
-use Rattle.ppm_regions.proofs.Elements.{contains_head, contains_tail, contains_map}
 use Rattle.ppm_regions.proofs.Rules.{rules}
 use Rattle.ppm_owning.specs.Owning.{IsSeen}
 use Rattle.ppm_owning.proofs.PartLemmas.{owns_itself}

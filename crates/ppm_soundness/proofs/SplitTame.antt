@@ -1,6 +1,6 @@
 -- The capsule of a split is tame: the parts of the region are in the slots of their names in its block.
-use Rattle.std.proofs.Common.{◌≡◌, ◌≢◌, ◌≤◌, ◌<◌, ℕ, suc, ◌+◌, ◌-◌, ◌*◌, ◌^◌, cond, Bool, true, false, List, [], ◌∷◌, ◌++◌, Some, None, length}
-use Rattle.std.proofs.Common.{map, slice_set, inl, inr, refl, sym, ap, ◌∙◌, subst, arith}
+use Rattle.std.proofs.Common.{◌≡◌, ◌≢◌, ◌≤◌, ◌<◌, ℕ, suc, ◌+◌, ◌-◌, ◌*◌, ◌^◌, cond, Bool, true, false, List, [], ◌∷◌, ◌++◌, Some}
+use Rattle.std.proofs.Common.{None, length, map, slice_set, inl, inr, refl, sym, ap, ◌∙◌, subst, arith}
 use Rattle.std.specs.Str.{bytes_eq}
 use Rattle.std.proofs.lemmas.List.{length-append}
 use Rattle.std.specs.Option.{option_map}
@@ -22,8 +22,8 @@ use Rattle.ppm_tree.specs.State.{Frame, Region, first_part, second_part}
 use Rattle.ppm_regions.specs.Scope.{Declaration, Scope, declared, is_region, split_scope, in_split, parts_of, part, seen_in_split}
 use Rattle.ppm_regions.specs.Admission.{IsAdmitted}
 use Rattle.ppm_regions.specs.Correct.{KeepsRules}
-use Rattle.ppm_regions.proofs.ScopeLemmas.{same_names, names_same, names_other, declared_in_front, declared_behind, declared_map, image_of}
-use Rattle.ppm_regions.proofs.ScopeLemmas.{found_cases, none_and_some, some_same}
+use Rattle.ppm_regions.proofs.ScopeLemmas.{same_names, names_same, names_other, declared_in_front, declared_behind}
+use Rattle.ppm_regions.proofs.ScopeLemmas.{declared_map, image_of, found_cases, none_and_some, some_same}
 use Rattle.ppm_owning.specs.Owning.{IsSeen}
 use Rattle.ppm_owning.specs.Coming.{split_frame}
 use Rattle.ppm_owning.proofs.PartLemmas.{ComesFrom, lie_still, owns_on, owns_no_more}
@@ -37,10 +37,10 @@ use Rattle.ppm_translation.specs.Fits.{Has, IsNew}
 use Rattle.ppm_translation.proofs.LayoutLemmas.{slot_in_front, has_in_front}
 use Rattle.ppm_translation.proofs.RegionWords.{lengths_of, region_word}
 use Rattle.ppm_soundness.proofs.OwnLemmas.{Label, AreShort, seen_short, length_is, first_word, second_word}
-use Rattle.ppm_soundness.proofs.TameLemmas.{Goes, IsFile, file_set, held_set, held_other, registers_differ, go_load, go_store, go_cut_left}
-use Rattle.ppm_soundness.proofs.TameLemmas.{go_cut_right}
-use Rattle.ppm_soundness.proofs.StandLemmas.{Level, level, IsUnder, under_on, IsSame, same_on, same_store, off_behind, store_other, store_here}
-use Rattle.ppm_soundness.proofs.StandLemmas.{seen_of, IsAt, at_on, leads_onto}
+use Rattle.ppm_soundness.proofs.TameLemmas.{Goes, IsFile, file_set, held_set, held_other, registers_differ}
+use Rattle.ppm_soundness.proofs.TameLemmas.{go_load, go_store, go_cut_left, go_cut_right}
+use Rattle.ppm_soundness.proofs.StandLemmas.{Level, level, IsUnder, under_on, IsSame, same_on, same_store, off_behind}
+use Rattle.ppm_soundness.proofs.StandLemmas.{store_other, store_here, seen_of, IsAt, at_on, leads_onto}
 use Rattle.ppm_soundness.proofs.LevelLemmas.{behind_at, has_cases, has_one, has_none}
 use Rattle.ppm_soundness.proofs.BlockTame.{world, zeros, zeros_kept, value_tame, next_tame, under_same}
 

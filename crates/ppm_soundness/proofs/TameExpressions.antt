@@ -1,6 +1,5 @@
 -- An expression in front of what is tame is tame: it reads elements of regions alone, and uses no register below its own.
-use Rattle.std.proofs.Common.{◌≡◌, ◌<◌, ℕ, suc, ◌+◌, ◌-◌, ◌==◌, max, cond, int_lt, int_le, List, ◌∷◌, slice_set, refl, sym, ap, ◌∙◌, subst}
-use Rattle.std.proofs.Common.{arith}
+use Rattle.std.proofs.Common.{◌≡◌, ◌<◌, ℕ, suc, ◌+◌, ◌-◌, ◌==◌, max, cond, int_lt, int_le, List, ◌∷◌, slice_set, refl, sym, ap, ◌∙◌, subst, arith}
 use Rattle.std.specs.Prelude.{pos, ◌+ℤ◌, ◌-ℤ◌, ◌*ℤ◌, int_div, int_rem}
 use Rattle.ppm_capsules.specs.Capsule.{Capsule, Memory}
 use Rattle.ppm_capsules.specs.Strand.{Own}
@@ -19,11 +18,11 @@ use Rattle.ppm_tree.specs.Tree.{Expression}
 use Rattle.ppm_tree.specs.Tree as tree
 use Rattle.ppm_regions.specs.Scope.{Scope}
 use Rattle.ppm_translation.specs.Layout.{Layout, slot_of, register}
-use Rattle.ppm_translation.specs.Expressions.{last_size, branch_size, size_of, truth_code, operator_code, right_register, branch_code}
-use Rattle.ppm_translation.specs.Expressions.{expression_code}
+use Rattle.ppm_translation.specs.Expressions.{last_size, branch_size, size_of, truth_code, operator_code}
+use Rattle.ppm_translation.specs.Expressions.{right_register, branch_code, expression_code}
 use Rattle.ppm_translation.specs.Fits.{IsRegion, FitsExpression}
-use Rattle.ppm_soundness.proofs.TameLemmas.{World, Tame, Goes, Then, Keeps, keeps_itself, keeps_set, keeps_on, held_set, go_set, go_work}
-use Rattle.ppm_soundness.proofs.TameLemmas.{go_load, go_get, go_zero, go_other, whole_works, divided_works}
+use Rattle.ppm_soundness.proofs.TameLemmas.{World, Tame, Goes, Then, Keeps, keeps_itself, keeps_set, keeps_on, held_set, go_set}
+use Rattle.ppm_soundness.proofs.TameLemmas.{go_work, go_load, go_get, go_zero, go_other, whole_works, divided_works}
 
 -- instructions that are passed over
 module _ (words : ℕ) (g : List ℕ) where

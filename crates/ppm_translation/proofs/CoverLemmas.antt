@@ -1,6 +1,6 @@
 -- That a layout has the names that a block uses, and no others than those in force.
-use Rattle.std.proofs.Common.{◌≡◌, ◌<◌, inl, inr, cond, Bool, true, false, ℕ, suc, List, [], ◌∷◌, ◌++◌, Option, Some, None, map, length}
-use Rattle.std.proofs.Common.{refl, sym, ap, ◌∙◌, subst, arith}
+use Rattle.std.proofs.Common.{◌≡◌, ◌<◌, inl, inr, cond, Bool, true, false, ℕ, suc, List, [], ◌∷◌, ◌++◌, Option}
+use Rattle.std.proofs.Common.{Some, None, map, length, refl, sym, ap, ◌∙◌, subst, arith}
 use Rattle.std.specs.Prelude.{◌||◌}
 use Rattle.std.specs.Option.{option_map}
 use Rattle.std.specs.List.{Contains, flat_map}
@@ -16,8 +16,8 @@ use Rattle.ppm_tree.specs.Tree as tree
 use Rattle.ppm_tree.specs.Parts.{node_names, nodes_of}
 use Rattle.ppm_bounds.specs.Names.{without, acted_on, used_by, free_within, free_names}
 use Rattle.ppm_bounds.specs.Names as names
-use Rattle.ppm_regions.specs.Scope.{Declaration, Scope, declared, seen_in_split, in_split, seen_in_each, in_each, parts_of, index_of, part}
-use Rattle.ppm_regions.specs.Scope.{element_of, lets_of}
+use Rattle.ppm_regions.specs.Scope.{Declaration, Scope, declared, seen_in_split, in_split, seen_in_each}
+use Rattle.ppm_regions.specs.Scope.{in_each, parts_of, index_of, part, element_of, lets_of}
 use Rattle.ppm_regions.proofs.Elements.{contains_map}
 use Rattle.ppm_regions.proofs.ScopeLemmas.{names_other, other_names, found_cases, none_and_some}
 use Rattle.ppm_regions.proofs.ScopeLemmas.{declared_in_front, declared_behind, declared_map, image_of}

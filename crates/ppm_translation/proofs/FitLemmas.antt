@@ -24,8 +24,8 @@ use Rattle.ppm_bounds.proofs.Keeping.{all-first, all-second}
 use Rattle.ppm_regions.specs.Scope.{Scope}
 use Rattle.ppm_translation.specs.Layout.{Layout, slot_of, register}
 use Rattle.ppm_translation.specs.Expressions.{size_of, branch_size, last_size, operator_code, right_register, branch_code, expression_code}
-use Rattle.ppm_translation.specs.Statements.{Instrs, lent_code, argument_size, argument_code, arguments_size, arguments_code, stores_code}
-use Rattle.ppm_translation.specs.Statements.{loads_code, names_code}
+use Rattle.ppm_translation.specs.Statements.{Instrs, lent_code, argument_size, argument_code, arguments_size}
+use Rattle.ppm_translation.specs.Statements.{arguments_code, stores_code, loads_code, names_code}
 use Rattle.ppm_translation.specs.Fits.{Has, FitsExpression, FitsLent, FitsArgument, FitsArguments}
 use Rattle.ppm_translation.proofs.SizeLemmas.{last_at_least}
 use Rattle.ppm_translation.proofs.PlaceLemmas.{of_procedure}

@@ -23,25 +23,21 @@ use Rattle.ppm_bounds.specs.Bounds.{IsWithinBounds}
 use Rattle.ppm_bounds.proofs.Keeping.{all-append}
 use Rattle.ppm_regions.specs.Scope.{Scope, first_named, plain, scope_of, scope_behind}
 use Rattle.ppm_regions.specs.Uses.{Use, Fills, Begins, Site, sites_at, declaration_sites, sites_of_names, sites_of_procedure, uses_of_main}
-use Rattle.ppm_regions.specs.Faults as fault
 use Rattle.ppm_regions.specs.Admission.{IsAdmitted}
-use Rattle.ppm_regions.specs.declared.region_error.RegionError.TheVariants as error
-use Rattle.ppm_regions.proofs.Elements.{contains_map, contains_head, contains_cases}
+use Rattle.ppm_regions.proofs.Elements.{contains_map, contains_cases}
 use Rattle.ppm_regions.proofs.Names.{found_head, found_later, not_among}
-use Rattle.ppm_regions.proofs.Faultless.{IsFaultless, faultless_left, faultless_right, right_at, declares_new}
+use Rattle.ppm_regions.proofs.Faultless.{IsFaultless, faultless_left, faultless_right, declares_new}
 use Rattle.ppm_translation.specs.Layout.{Layout, parameter_layout}
 use Rattle.ppm_translation.specs.Numbers.{end_of, element_block}
 use Rattle.ppm_translation.specs.Slots.{named_slots, hidden_named_slots, hidden_slots}
 use Rattle.ppm_translation.specs.Statements.{Instrs, Gives, number_of, halving_code}
-use Rattle.ppm_translation.specs.Routines.{Routine, OfText, Hidden, sweep_layout, routine_slots, routine_behind, routines_of, procedures_from}
-use Rattle.ppm_translation.specs.Routines.{routine_code}
-use Rattle.ppm_translation.specs.Routines.{capsules_from, code_of}
+use Rattle.ppm_translation.specs.Routines.{Routine, OfText, Hidden, sweep_layout, routine_slots, routine_behind}
+use Rattle.ppm_translation.specs.Routines.{routines_of, procedures_from, routine_code, capsules_from, code_of}
 use Rattle.ppm_translation.specs.Fits.{FitsGive, FitsProcedure, layout_behind}
 use Rattle.ppm_translation.specs.Correct.{NamesHaveSlots, KeepsTheRules}
 use Rattle.ppm_translation.proofs.MainLemmas.{main_is}
-use Rattle.ppm_translation.proofs.PlaceLemmas.{past, past_map, routine_past, of_procedure, found_there, Listed, listed, listed_first, listed_second}
-use Rattle.ppm_translation.proofs.PlaceLemmas.{Stands}
-use Rattle.ppm_translation.proofs.PlaceLemmas.{stands_listed, ArePlaced, routines_placed, procedures_have}
+use Rattle.ppm_translation.proofs.PlaceLemmas.{past, past_map, routine_past, of_procedure, found_there, Listed, listed, listed_first}
+use Rattle.ppm_translation.proofs.PlaceLemmas.{listed_second, Stands, stands_listed, ArePlaced, routines_placed, procedures_have}
 use Rattle.ppm_translation.proofs.SizeLemmas.{procedures_count, procedures_at_least, capsules_count}
 use Rattle.ppm_translation.proofs.SoundLemmas.{IsSoundRoutine, AreSound, all_sound, routine_few, most_slots}
 use Rattle.ppm_translation.proofs.RuleLemmas.{IsKnown, LastFits, block_keeps, entry_keeps, halving_keeps, finish_keeps, end_grows}

@@ -1,4 +1,5 @@
 pub mod LayoutLemmas
+pub mod NamedLemmas
 pub mod RegionWords
 pub mod MainLemmas
 pub mod CoverLemmas

@@ -1,6 +1,6 @@
 -- Each capsule of a procedure keeps the rules of a code.
-use Rattle.std.proofs.Common.{◌≡◌, ◌≢◌, ◌≤◌, ◌<◌, ◌+◌, ◌||◌, cond, Bool, true, false, ℕ, zero, suc, List, [], ◌∷◌, ◌++◌, Option, Some, None, IfSome}
-use Rattle.std.proofs.Common.{length, map, slice_get, refl, sym, ap, ◌∙◌, subst, arith, length-append}
+use Rattle.std.proofs.Common.{◌≡◌, ◌≢◌, ◌≤◌, ◌<◌, ◌+◌, ◌||◌, cond, Bool, true, false, ℕ, zero, suc, List, [], ◌∷◌, ◌++◌, Option, Some}
+use Rattle.std.proofs.Common.{None, IfSome, length, map, slice_get, refl, sym, ap, ◌∙◌, subst, arith, length-append}
 use Rattle.std.specs.List.{All, AllByRecursion, flat_map}
 use Rattle.std.proofs.lemmas.List.Elements.{All-head, recursion_from_All}
 use Rattle.std.proofs.lemmas.Grind.{flat_map-append}
@@ -24,20 +24,20 @@ use Rattle.ppm_translation.specs.Layout.{Layout, slot_of, target_of, register, c
 use Rattle.ppm_translation.specs.Expressions.{size_of, expression_code}
 use Rattle.ppm_translation.specs.Numbers.{behind, end_of, hidden_behind, hidden_behind_block, halving, halved, element_block}
 use Rattle.ppm_translation.specs.Slots.{assigns, has_assignment, spare_slots, hidden_slots, frame_words, fork_words}
-use Rattle.ppm_translation.specs.Statements.{Instrs, Last, OnTo, Gives, last_code, onward, let_code, value_code, move_code, element_code, put_code}
-use Rattle.ppm_translation.specs.Statements.{test_code, split_code}
-use Rattle.ppm_translation.specs.Statements.{each_code, entry_code, halving_code, arguments_size, arguments_code, paired, stores_code}
-use Rattle.ppm_translation.specs.Statements.{with_lets, with_parts, number_of, call_code, fork_code, callee_parameters, callee_number, callee_slots}
-use Rattle.ppm_translation.specs.Statements.{statement_code, block_code}
+use Rattle.ppm_translation.specs.Statements.{Instrs, Last, OnTo, Gives, last_code, onward, let_code, value_code, move_code, element_code}
+use Rattle.ppm_translation.specs.Statements.{put_code, test_code, split_code, each_code, entry_code, halving_code, arguments_size}
+use Rattle.ppm_translation.specs.Statements.{arguments_code, paired, stores_code, with_lets, with_parts, number_of, call_code, fork_code}
+use Rattle.ppm_translation.specs.Statements.{callee_parameters, callee_number, callee_slots, statement_code, block_code}
 use Rattle.ppm_translation.specs.Routines.{hidden_of, hidden_of_block}
 use Rattle.ppm_translation.specs.Standing.{HasBodies}
 use Rattle.ppm_translation.specs.Fits.{FitsExpression, FitsTarget, FitsSide, FitsStatement, FitsBlock, layout_behind}
+use Rattle.ppm_translation.proofs.LayoutLemmas.{lets_length}
 use Rattle.ppm_translation.proofs.PlaceLemmas.{of_procedure, ArePlaced, placed_first, placed_second, hidden_past, hidden_past_block}
-use Rattle.ppm_translation.proofs.SizeLemmas.{size_at_most, expression_length, arguments_length, stores_length, loads_length, names_length}
-use Rattle.ppm_translation.proofs.SizeLemmas.{arguments_at_most, paired_at_most}
-use Rattle.ppm_translation.proofs.FitLemmas.{IsClosed, closed_end, closed_behind, closed_expression, closed_arguments, closed_stores, closed_loads}
-use Rattle.ppm_translation.proofs.FitLemmas.{closed_names}
-use Rattle.ppm_translation.proofs.FitLemmas.{line_fits, AllFit, moved, capsule_fits, expression_fits, arguments_fit, stores_fit, loads_fit, names_fit}
+use Rattle.ppm_translation.proofs.SizeLemmas.{size_at_most, expression_length, arguments_length, stores_length}
+use Rattle.ppm_translation.proofs.SizeLemmas.{loads_length, names_length, arguments_at_most, paired_at_most}
+use Rattle.ppm_translation.proofs.FitLemmas.{IsClosed, closed_end, closed_behind, closed_expression, closed_arguments}
+use Rattle.ppm_translation.proofs.FitLemmas.{closed_stores, closed_loads, closed_names, line_fits, AllFit, moved, capsule_fits}
+use Rattle.ppm_translation.proofs.FitLemmas.{expression_fits, arguments_fit, stores_fit, loads_fit, names_fit}
 use Rattle.ppm_translation.proofs.CaughtLemmas.{caught_have_slots}
 use Rattle.ppm_translation.proofs.SoundLemmas.{AreSmall, most_slots}
 
@@ -79,17 +79,6 @@ mutual
   pub end_grows : (b : Block) (at : ℕ) → at ≤ end_of b at
   end_grows Nil at = omega arith
   end_grows (Then s rest) at = let a = behind_grows s at in let b = end_grows rest (behind s at) in omega (arith, a, b)
-
-lets_length : (layout : Layout) (s : Statement) → length (with_lets layout s) ≡ length layout + length (counted.lets_of s)
-lets_length layout (tree.Let x e) = length-append layout (x.name ∷ [])
-lets_length layout (tree.Assign x e) = omega arith
-lets_length layout (tree.Put x index e) = omega arith
-lets_length layout (tree.If e holds other) = omega arith
-lets_length layout (tree.While e block) = omega arith
-lets_length layout (tree.Call s) = omega arith
-lets_length layout (tree.Fork s t) = omega arith
-lets_length layout (tree.Split line r e x y block) = omega arith
-lets_length layout (tree.Each i x r block) = omega arith
 
 -- a procedure with slots is there
 there_in : (ps : List CodeProcedure) (q : ℕ) → 1 ≤ slots_in (slice_get ps q) → q < length ps
