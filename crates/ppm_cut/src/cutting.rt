@@ -25,7 +25,7 @@ fn array_of(arrays: &[Array], name: &Name) -> u32
 {
     let mut number = 0;
     for array in arrays {
-        if array.name.name.is(name) {
+        if array.name.name.as_bytes() == name.as_bytes() {
             return number;
         }
         number += 1;
