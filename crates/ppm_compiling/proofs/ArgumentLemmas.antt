@@ -1,6 +1,6 @@
 -- The arguments of a call: they come into registers, one after the other, as they make the callee's frame.
-use Rattle.std.proofs.Common.{◌≡◌, ◌≤◌, ◌<◌, ℕ, suc, ◌+◌, cond, Bool, true, false, List, [], ◌∷◌, Some, Result, Ok, Err, map, length}
-use Rattle.std.proofs.Common.{refl, sym, ap, ◌∙◌, subst, subst₂, arith}
+use Rattle.std.proofs.Common.{◌≡◌, ◌≤◌, ◌<◌, ℕ, suc, ◌+◌, cond, Bool, true, false, List, [], ◌∷◌, Some, Result, Ok}
+use Rattle.std.proofs.Common.{Err, map, length, refl, sym, ap, ◌∙◌, subst, subst₂, arith}
 use Rattle.std.specs.Prelude.{slice_index, slice_set}
 use Rattle.std.specs.List.{All, sum}
 use Rattle.std.specs.Str.{bytes_eq}
@@ -30,13 +30,14 @@ use Rattle.ppm_translation.specs.Layout.{Layout, slot_of, parameter_layout, regi
 use Rattle.ppm_translation.specs.Expressions.{size_of, expression_code}
 use Rattle.ppm_translation.specs.Fits.{IsNew, IsDistinctLayout, IsRegion, FitsArgument, FitsArguments}
 use Rattle.ppm_translation.specs.Statements.{argument_size, argument_code, arguments_size, arguments_code, paired}
-use Rattle.ppm_compiling.proofs.Holding.{HoldsValue, Holds, region_word}
+use Rattle.ppm_translation.proofs.RegionWords.{region_word}
+use Rattle.ppm_compiling.proofs.Holding.{HoldsValue, Holds}
 use Rattle.ppm_compiling.proofs.Doing.{argument_nodes}
-use Rattle.ppm_compiling.proofs.ExprLemmas.{goes_same, loads, InReg, set_at, set_count, set_keeps, Meets, meets_at, bind_meets, all_front, all_behind}
-use Rattle.ppm_compiling.proofs.ExprLemmas.{some_node, Sees, region_held, expr_meets}
+use Rattle.ppm_compiling.proofs.ExprLemmas.{goes_same, loads, InReg, set_at, set_count, set_keeps, Meets, meets_at, bind_meets}
+use Rattle.ppm_compiling.proofs.ExprLemmas.{all_front, all_behind, some_node, Sees, region_held, expr_meets}
 
 -- what is known of the registers may be said otherwise
-pub meets_as : {A : Type 0} (W at : ℕ) (rest : List Instr) (K L : A → List ℕ → Type 0) (p : Capsule Where End) (m : Memory Where)
+meets_as : {A : Type 0} (W at : ℕ) (rest : List Instr) (K L : A → List ℕ → Type 0) (p : Capsule Where End) (m : Memory Where)
     (t : Result A TrapAt)
     → ((v : A) (h : List ℕ) → K v h → L v h) → Meets W at rest K p m t → Meets W at rest L p m t
 meets_as W at rest K L p m (Ok v) on h = (h.0, h.1, on v h.0 h.2)

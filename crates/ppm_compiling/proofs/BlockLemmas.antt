@@ -1,6 +1,5 @@
 -- Slots that come into registers one after the other, and registers that go into a new block.
-use Rattle.std.proofs.Common.{◌≡◌, ◌≢◌, ◌≤◌, ◌<◌, ◌⊎◌, ℕ, zero, suc, ◌+◌, ◌-◌, List, [], ◌∷◌, length, get_or, inl, inr}
-use Rattle.std.proofs.Common.{refl, ap, ◌∙◌, subst, arith}
+use Rattle.std.proofs.Common.{◌≡◌, ◌≢◌, ◌≤◌, ◌<◌, ◌⊎◌, ℕ, zero, suc, ◌+◌, ◌-◌, List, [], ◌∷◌, length, get_or, inl, inr, refl, ap, ◌∙◌, subst, arith}
 use Rattle.std.specs.Prelude.{slice_index, slice_set}
 use Rattle.std.proofs.lemmas.Bool.{ne_eqb, cond-true, cond-false}
 use Rattle.ppm_capsules.specs.Capsule.{Memory, ending, leaves, asked, store}
@@ -30,16 +29,16 @@ none_loaded d word g count = record { words = λ k low. absurd (omega (arith, lo
 loaded_more : (d count : ℕ) (word : ℕ → ℕ) (g h : List ℕ) → d < 64 → length g ≡ 64
     → Loaded (suc d) count (λ k. word (suc k)) (slice_set g (register d).index (word 0)) h → Loaded d (suc count) word g h
 loaded_more d count word g h low is l = record {
-  words = words_;
+  words = loaded_words;
   keeps = λ i below. l.keeps i (omega (arith, below)) ∙ set_else g d (word 0) i low (λ e. absurd (omega (arith, e, below)));
   length_is = l.length_is;
 }
   where
-    words_ : (k : ℕ) → k < suc count → slice_index h (d + k) ≡ word k
-    words_ zero below =
+    loaded_words : (k : ℕ) → k < suc count → slice_index h (d + k) ≡ word k
+    loaded_words zero below =
         let first : d + 0 ≡ d = omega arith in
         ap (slice_index h) first ∙ l.keeps d (omega arith) ∙ set_at g d (word 0) is low
-    words_ (suc k) below =
+    loaded_words (suc k) below =
         let next : d + suc k ≡ suc d + k = omega arith in
         ap (slice_index h) next ∙ l.words k (omega (arith, below))
 
@@ -106,10 +105,10 @@ abbrev pub stored : List ℕ → (offset d count : ℕ) → Memory Where → Mem
 stored h offset d zero m = m
 stored h offset d (suc count) m = stored h (suc offset) (suc d) count (store code_locations m (New offset) (slice_index h d))
 
-pub new_at : (m : Memory Where) (o v : ℕ) → store code_locations m (New o) v (New o) ≡ v
+new_at : (m : Memory Where) (o v : ℕ) → store code_locations m (New o) v (New o) ≡ v
 new_at m o v = cond-true (code_locations.same (New o) (New o)) v (m (New o)) (code_locations.is_self (New o))
 
-pub new_else : (m : Memory Where) (o v i : ℕ) → i ≢ o → store code_locations m (New o) v (New i) ≡ m (New i)
+new_else : (m : Memory Where) (o v i : ℕ) → i ≢ o → store code_locations m (New o) v (New i) ≡ m (New i)
 new_else m o v i other = cond-false _ v (m (New i)) (ne_eqb i o other)
 
 pub stored_else : (h : List ℕ) (offset d count : ℕ) (m : Memory Where) (i : ℕ) → (i < offset) ⊎ (offset + count ≤ i)

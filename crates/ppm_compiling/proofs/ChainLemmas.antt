@@ -34,6 +34,10 @@ pub record IsWithinCost (j k : Cost) : Type 0 where
   pub forks : j.forks ≡ k.forks
   pub words : j.words ≡ k.words
 
+-- from its four parts
+pub within_cost : {j k : Cost} → k.least ≤ j.least → j.most ≤ k.most → j.forks ≡ k.forks → j.words ≡ k.words → IsWithinCost j k
+within_cost least most forks words = record { least = least; most = most; forks = forks; words = words }
+
 module _ {F O : Type 0} (c : Code F O) where
   abbrev pub Chain : Cost → Tree F O → Words → Tree F O → Words → Type 0
   Chain k t a u b = (i : CapsuleCounts) × StepsInTurn c i t a u b × KeepsTo k i
@@ -101,7 +105,8 @@ module _ {F O : Type 0} (c : Code F O) where
     },
   )
 
-  pub chain_return : (g : F) (o : O) (v : Tree F O) {k : Cost} {t : Tree F O} {a b : Words} → c.resume g o ≡ v → Chain k t a (Call g (Over o)) b → Chain k t a v b
+  pub chain_return : (g : F) (o : O) (v : Tree F O) {k : Cost} {t : Tree F O} {a b : Words} → c.resume g o ≡ v → Chain k t a (Call g (Over o)) b
+      → Chain k t a v b
   chain_return g o v {k = k} {t = t} {a = a} {b = b} is p = subst (λ (w : Tree F O). Chain k t a w b) is (chain_last p (Return g o b) tt)
 
   pub chain_join : (g : F) (o p : O) (v : Tree F O) {k : Cost} {t : Tree F O} {a b : Words}

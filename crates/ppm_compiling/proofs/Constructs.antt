@@ -3,7 +3,6 @@ use Rattle.std.proofs.Common.{◌≡◌, ◌≤◌, ℕ, ℤ, suc, ◌+◌, ◌-
 use Rattle.std.proofs.lemmas.Bool.{leb-true}
 use Rattle.std.proofs.lemmas.List.{length-map}
 use Rattle.std.proofs.Common.{pos, negsuc, nat_le, subst₂, length, refl, sym, ap, ◌∙◌, subst, arith}
-use Rattle.std.proofs.lemmas.List.Sums.{sum_by-append}
 use Rattle.ppm_strands.specs.Tree.{Words, Code, Strand, Call as Calling, Fork as Forking, Over}
 use Rattle.ppm_code.specs.declared.code.CodeParts.{CodeParts}
 use Rattle.ppm_code.specs.declared.location.FrameWord.{FrameWord}
@@ -14,9 +13,10 @@ use Rattle.ppm_tree.specs.Tree as tree
 use Rattle.ppm_tree.specs.Limits.{IsSmallStatement}
 use Rattle.ppm_words.specs.declared.trap.Trap.TheVariants as trap
 use Rattle.ppm_tree.specs.Parts.{nodes}
-use Rattle.ppm_tree.specs.State.{TrapAt, then_with, tested, Region, Locals, Frame, with_locals, Arrays, split_at, evaluate, procedure_named, entered, both_entered}
-use Rattle.ppm_tree.specs.Meaning.{Plain, Whole, Counts, spent, none, both, swept, End, Ended, Trapped, arrays_of, assigned, stored, chosen}
-use Rattle.ppm_tree.specs.Meaning.{returned, joined, given, give_turn, with_element, with_parts as parts_frame}
+use Rattle.ppm_tree.specs.State.{TrapAt, then_with, tested, Region, Locals, Frame, with_locals, Arrays}
+use Rattle.ppm_tree.specs.State.{split_at, evaluate, procedure_named, entered, both_entered}
+use Rattle.ppm_tree.specs.Meaning.{Plain, Whole, Counts, spent, none, both, swept, End, Ended, Trapped, arrays_of, assigned, stored}
+use Rattle.ppm_tree.specs.Meaning.{chosen, returned, joined, given, give_turn, with_element, with_parts as parts_frame}
 use Rattle.ppm_regions.specs.Scope.{Scope, scope_of, split_scope, each_scope, lets_of, scope_behind}
 use Rattle.ppm_tree.specs.declared.tree.Parameter.{Parameter}
 use Rattle.ppm_bounds.specs.Slots.{most_in_force}
@@ -28,17 +28,17 @@ use Rattle.ppm_translation.specs.Slots.{named_slots, procedure_slots, hidden_slo
 use Rattle.ppm_translation.specs.Standing.{HasStatement, HasBlock, HasBody}
 use Rattle.ppm_translation.specs.Statements.{Last, OnTo, Gives, with_lets, with_parts, hidden_layout, number_of}
 use Rattle.ppm_translation.proofs.CaughtLemmas.{each_once}
-use Rattle.ppm_compiling.specs.Correct.{words_begun}
-use Rattle.ppm_compiling.proofs.ChainLemmas.{Cost, cost, Chain, chain_weaken, chain_under, chain_return}
-use Rattle.ppm_compiling.proofs.Holding.{CodeFrame, offset_of, Shows, Holds, sweep_frame, which, at_work, waits, strands, CodeTree, Tested, Parted, Called, Forked}
+use Rattle.ppm_translation.proofs.RegionWords.{array_within, lengths_of, offset_of}
+use Rattle.ppm_compiling.proofs.ChainLemmas.{Cost, cost, within_cost, Chain, chain_weaken, chain_under, chain_return}
+use Rattle.ppm_compiling.proofs.Holding.{CodeFrame, Shows, Holds, sweep_frame, which, at_work, waits}
+use Rattle.ppm_compiling.proofs.Holding.{strands, CodeTree, Tested, Parted, Called, Forked}
 use Rattle.ppm_compiling.proofs.Doing.{InHand, AreSmall}
-use Rattle.ppm_compiling.proofs.ExprLemmas.{array_within}
-use Rattle.ppm_compiling.proofs.Places.{lengths_of, Place, modest_inner, holds_place, else_place, each_few, lies}
-use Rattle.ppm_compiling.proofs.Given.{IsModestProcedure, Given, words_of, budget}
+use Rattle.ppm_compiling.proofs.Places.{Place, modest_inner, holds_place, else_place, each_few, lies}
+use Rattle.ppm_compiling.proofs.Given.{IsModestProcedure, Given, words_of, words_both, budget}
 use Rattle.ppm_compiling.proofs.SmallLemmas.{small_let, small_assign, small_put, small_if, small_split, small_call, small_fork}
-use Rattle.ppm_compiling.proofs.SweepLemmas.{end_stands, once_distinct, over_of, HasLocals, Leaves, leaves_locals, swept as swept_all}
-use Rattle.ppm_compiling.proofs.ReachLemmas.{Reached, Returned, chain_reaches, reaches_on, chain_returns, call_reaches, fork_reaches, reaches_front}
-use Rattle.ppm_compiling.proofs.ReachLemmas.{reaches_same, reaches_whole, lies_at_end, lies_locals}
+use Rattle.ppm_compiling.proofs.SweepLemmas.{end_stands, over_of, HasLocals, Leaves, leaves_locals, swept as swept_all}
+use Rattle.ppm_compiling.proofs.ReachLemmas.{Reached, Returned, chain_reaches, reaches_on, chain_returns, call_reaches, fork_reaches}
+use Rattle.ppm_compiling.proofs.ReachLemmas.{reaches_front, reaches_same, reaches_whole, lies_at_end, lies_locals}
 
 zero_front : (n : ℕ) → 0 + n ≡ n
 zero_front n = omega arith
@@ -74,23 +74,22 @@ split_low line r (Ok (negsuc k)) n is = absurd (clash is)
 
 module _ (t : ProgramTree) (code : CodeParts) (facts : Given t code) where
   abbrev pub lens : List ℕ
-  lens = lengths_of t
+  lens = lengths_of t.arrays
 
   abbrev pub ps : List Procedure
   ps = t.procedures
 
-  abbrev pub c_ : Code CodeFrame Outcome
-  c_ = strands lens code
+  abbrev pub here : Code CodeFrame Outcome
+  here = strands lens code
 
-  pub words_both : (j k : Counts) → words_of t (both j k) ≡ words_of t j + words_of t k
-  words_both j k = sum_by-append (words_begun ps) j.begun k.begun
-
-  pub in_hand : (scope : Scope) (layout : Layout) (spare : ℕ) (b : Block) (f : Frame) (own : FrameWord → ℕ) (a : Words) (arrays : Arrays) → Place t scope layout spare b f
+  pub in_hand : (scope : Scope) (layout : Layout) (spare : ℕ) (b : Block) (f : Frame) (own : FrameWord → ℕ) (a : Words) (arrays : Arrays)
+      → Place t scope layout spare b f
       → Holds lens scope layout f own → Shows lens a arrays → InHand lens code scope layout f own a arrays
   in_hand scope layout spare b f own a arrays place h s =
       record { small = facts.small; holds = h; shows = s; lies = lies t scope layout spare b f facts.admitted place }
 
-  pub small_first : (s : Statement) (b : Block) {scope : Scope} {layout : Layout} {spare : ℕ} {f : Frame} → Place t scope layout spare (Then s b) f → IsSmallStatement s
+  pub small_first : (s : Statement) (b : Block) {scope : Scope} {layout : Layout} {spare : ℕ} {f : Frame} → Place t scope layout spare (Then s b) f
+      → IsSmallStatement s
   small_first (Let x e) b place = (modest_inner (Let x e) b place.modest).0.0
   small_first (Assign x e) b place = (modest_inner (Assign x e) b place.modest).0.0
   small_first (Put x i e) b place = (modest_inner (Put x i e) b place.modest).0.0
@@ -106,26 +105,32 @@ module _ (t : ProgramTree) (code : CodeParts) (facts : Given t code) where
   chosen_hidden true s h = h
   chosen_hidden false s h = hidden_behind_block s h
 
-  pub chosen_place : (c : Bool) (scope : Scope) (layout : Layout) (spare : ℕ) (e : Expression) (s u b : Block) (f : Frame) → Place t scope layout spare (Then (If e s u) b) f
+  pub chosen_place : (c : Bool) (scope : Scope) (layout : Layout) (spare : ℕ) (e : Expression) (s u b : Block) (f : Frame)
+      → Place t scope layout spare (Then (If e s u) b) f
       → Place t scope layout spare (chosen c s u) f
   chosen_place true scope layout spare e s u b f w = holds_place t scope layout spare e s u b f w
   chosen_place false scope layout spare e s u b f w = else_place t scope layout spare e s u b f w
 
-  pub chosen_has : (c : Bool) (spare : ℕ) (layout : Layout) (at h : ℕ) (e : Expression) (s u : Block) → HasStatement ps code spare layout at h (If e s u)
-      → HasBlock ps code spare layout (which c (suc at) (suc (end_of s (suc at)))) (chosen_hidden c s h) (OnTo (suc (end_of u (suc (end_of s (suc at)))))) (chosen c s u)
+  pub chosen_has : (c : Bool) (spare : ℕ) (layout : Layout) (at h : ℕ) (e : Expression) (s u : Block)
+      → HasStatement ps code spare layout at h (If e s u)
+      → HasBlock ps code spare layout (which c (suc at) (suc (end_of s (suc at)))) (chosen_hidden c s h)
+      (OnTo (suc (end_of u (suc (end_of s (suc at)))))) (chosen c s u)
   chosen_has true spare layout at h e s u has = has.1
   chosen_has false spare layout at h e s u has = has.2
 
   -- a block goes on at its end
-  pub goes_onward : (b : Block) (spare : ℕ) (layout : Layout) (at h next : ℕ) → HasBlock ps code spare layout at h (OnTo next) b → (own : FrameWord → ℕ) (a : Words)
-      → Chain c_ (cost 1 1 0 0) (Strand (at_work own (end_of b at))) a (Strand (at_work own next)) a
+  pub goes_onward : (b : Block) (spare : ℕ) (layout : Layout) (at h next : ℕ) → HasBlock ps code spare layout at h (OnTo next) b
+      → (own : FrameWord → ℕ) (a : Words)
+      → Chain here (cost 1 1 0 0) (Strand (at_work own (end_of b at))) a (Strand (at_work own next)) a
   goes_onward b spare layout at h next has own a =
-      facts.does.onward [] layout (record { regions = λ x. record { array = 0; start = 0; length = 0 }; locals = λ x. pos 0 }) own a [] (end_of b at) next
+      facts.does.onward [] layout (record { regions = λ x. record { array = 0; start = 0; length = 0 }; locals = λ x. pos 0 }) own a []
+      (end_of b at) next
       (end_stands t code b spare layout at h (OnTo next) has)
 
   -- at a loop's test
   pub loop_hand : (scope : Scope) (layout : Layout) (spare : ℕ) (s : Block) (f : Frame) (own : FrameWord → ℕ) (a : Words) (arrays : Arrays)
-      → ((l : Locals) → Place t scope layout spare s (with_locals f l)) → Holds lens scope layout f own → Shows lens a arrays → InHand lens code scope layout f own a arrays
+      → ((l : Locals) → Place t scope layout spare s (with_locals f l)) → Holds lens scope layout f own → Shows lens a arrays
+      → InHand lens code scope layout f own a arrays
   loop_hand scope layout spare s f own a arrays place h shows = record {
     small = facts.small;
     holds = h;
@@ -153,16 +158,20 @@ module _ (t : ProgramTree) (code : CodeParts) (facts : Given t code) where
       named_room p = let same = length-map p.parameters (λ (p : Parameter). p.name.name) in omega (arith, same)
 
   -- the region of an `each` lies in its array
-  pub each_inside : (scope : Scope) (layout : Layout) (spare : ℕ) (i x r : Named) (s b : Block) (f : Frame) → Place t scope layout spare (Then (Each i x r s) b) f
+  pub each_inside : (scope : Scope) (layout : Layout) (spare : ℕ) (i x r : Named) (s b : Block) (f : Frame)
+      → Place t scope layout spare (Then (Each i x r s) b) f
       → offset_of lens (f.regions r.name).array + (f.regions r.name).start + (f.regions r.name).length ≤ 4194304
   each_inside scope layout spare i x r s b f place =
       let region = place.fits.0.0 in
-      let within = (lies t scope layout spare (Then (Each i x r s) b) f facts.admitted place).within r.name region.declaration region.found region.kind (region.seen refl) in
+      let within =
+      (lies t scope layout spare (Then (Each i x r s) b) f facts.admitted place).within r.name region.declaration region.found region.kind
+      (region.seen refl) in
       let array = array_within lens (f.regions r.name).array in
       omega (arith, within, array, facts.small)
 
   -- what an `each` begins
-  pub each_words : (scope : Scope) (layout : Layout) (spare : ℕ) (i x r : Named) (s b : Block) (f : Frame) (m : ℕ) → Place t scope layout spare (Then (Each i x r s) b) f
+  pub each_words : (scope : Scope) (layout : Layout) (spare : ℕ) (i x r : Named) (s b : Block) (f : Frame) (m : ℕ)
+      → Place t scope layout spare (Then (Each i x r s) b) f
       → words_of t (swept i x r s m) ≡ frame_words (hidden_slots (length (caught layout s)) s)
       + (m - 1) * fork_words (hidden_slots (length (caught layout s)) s) (hidden_slots (length (caught layout s)) s)
   each_words scope layout spare i x r s b f m place =
@@ -171,22 +180,24 @@ module _ (t : ProgramTree) (code : CodeParts) (facts : Given t code) where
       (sym (facts.counted scope layout i x r s place.once fits.1 fits.2 fits.6))
 
   -- the frame goes on behind its `each`
-  pub each_reaches : (scope : Scope) (layout : Layout) (f : Frame) (own : FrameWord → ℕ) (next : ℕ) (u : CodeTree lens code) (a b : Words) (k : Cost) (y : End Locals)
-      → HasLocals f y → Holds lens scope layout f own → Shows lens b (arrays_of y) → Chain c_ k u a (Over (over_of y)) b
+  pub each_reaches : (scope : Scope) (layout : Layout) (f : Frame) (own : FrameWord → ℕ) (next : ℕ) (u : CodeTree lens code) (a b : Words) (k : Cost)
+      (y : End Locals)
+      → HasLocals f y → Holds lens scope layout f own → Shows lens b (arrays_of y) → Chain here k u a (Over (over_of y)) b
       → Reached lens code scope layout f k (Calling (waits own next None None) u) a next y
   each_reaches scope layout f own next u a b k (Ended l arrays) same held shows chain =
       let g = waits own next None None in record {
         made = (
           own,
           b,
-          subst (λ (l : Locals). Holds lens scope layout (with_locals f l) own) (sym same) (record { local = held.local; region = held.region; value = held.value }),
+          subst (λ (l : Locals). Holds lens scope layout (with_locals f l) own) (sym same)
+              (record { local = held.local; region = held.region; value = held.value }),
           shows,
-          chain_return c_ g (Gave 0) (Strand (at_work own next)) refl (chain_under c_ g chain),
+          chain_return here g (Gave 0) (Strand (at_work own next)) refl (chain_under here g chain),
         );
       }
   each_reaches scope layout f own next u a b k (Trapped stop arrays) same held shows chain =
       let g = waits own next None None in record {
-        made = (b, shows, chain_return c_ g (TrappedAt stop.0 stop.1) (Over (TrappedAt stop.0 stop.1)) refl (chain_under c_ g chain));
+        made = (b, shows, chain_return here g (TrappedAt stop.0 stop.1) (Over (TrappedAt stop.0 stop.1)) refl (chain_under here g chain));
       }
 
   -- a `give` forks nothing and begins nothing
@@ -195,7 +206,8 @@ module _ (t : ProgramTree) (code : CodeParts) (facts : Given t code) where
   turn_free None (Ended l arrays) = (refl, refl)
   turn_free (Some g) (Ended l arrays) = (refl, refl)
 
-  pub given_same : (g : Option Give) (f : Frame) (l : Locals) (arrays : Arrays) → given g (with_locals f l) (Ended l arrays) ≡ given g f (Ended l arrays)
+  pub given_same : (g : Option Give) (f : Frame) (l : Locals) (arrays : Arrays)
+      → given g (with_locals f l) (Ended l arrays) ≡ given g f (Ended l arrays)
   given_same None f l arrays = refl
   given_same (Some g) f l arrays = refl
 
@@ -209,12 +221,8 @@ module _ (t : ProgramTree) (code : CodeParts) (facts : Given t code) where
     made = (
       m.0,
       m.1,
-      chain_weaken c_ (record {
-        least = omega arith;
-        most = omega arith;
-        forks = omega arith;
-        words = let w1 = words_both (spent 1) (both j none) in let w2 = words_both j none in omega (arith, w1, w2);
-      }) m.2,
+      chain_weaken here (within_cost (omega arith) (omega arith) (omega arith)
+          (let w1 = words_both t (spent 1) (both j none) in let w2 = words_both t j none in omega (arith, w1, w2))) m.2,
     );
   }
   gives p f (Ended l arrays) j q own a place has fits modest reached =
@@ -234,30 +242,25 @@ module _ (t : ProgramTree) (code : CodeParts) (facts : Given t code) where
       let gift = facts.does.give scope layout (with_locals f l) m.0 m.1 arrays at at p.give hand stands
       (λ g e. (subst (FitsGive ps scope layout) e fits.give, modest.give g e)) in
       let back : Returned lens code (cost 1 1 0 0) (Strand (at_work m.0 at)) m.1 (given p.give f (Ended l arrays)) =
-      subst (λ (z : End ℤ). Returned lens code (cost 1 1 0 0) (Strand (at_work m.0 at)) m.1 z) (given_same p.give f l arrays) (record { made = gift }) in
+      subst (λ (z : End ℤ). Returned lens code (cost 1 1 0 0) (Strand (at_work m.0 at)) m.1 z) (given_same p.give f l arrays)
+      (record { made = gift }) in
       let free = turn_free p.give (Ended l arrays) in
-      let w1 = words_both (spent 1) (both j turn) in
-      let w2 = words_both j turn in
-      chain_returns lens code (given p.give f (Ended l arrays)) m.4 back (record {
-        least = omega arith;
-        most = omega arith;
-        forks = omega (arith, free.0);
-        words = omega (arith, free.1, w1, w2);
-      })
+      let w1 = words_both t (spent 1) (both j turn) in
+      let w2 = words_both t j turn in
+      chain_returns lens code (given p.give f (Ended l arrays)) m.4 back
+      (within_cost (omega arith) (omega arith) (omega (arith, free.0)) (omega (arith, free.1, w1, w2)))
 
   -- the frame of one element, by its region
   pub element_front : (f : Frame) (q r : Region) (n : ℕ) (i x : Named) → q ≡ r → with_element f q n i x ≡ sweep_frame f r n 1 i x
   element_front f q r n i x e = ap (λ (q : Region). with_element f q n i x) e
 
   -- What each statement's capsules do, as a stretch from the frame in which it is begun: with what its parts have been seen to do.
-  module _ (scope : Scope) (layout : Layout) (spare at h : ℕ) (last : Last) (b : Block) (f : Frame) (own : FrameWord → ℕ) (a : Words) (arrays : Arrays)
+  module _ (scope : Scope) (layout : Layout) (spare at h : ℕ) (last : Last) (b : Block) (f : Frame) (own : FrameWord → ℕ) (a : Words)
+      (arrays : Arrays)
       (held : Holds lens scope layout f own) (shows : Shows lens a arrays) where
-    abbrev from_here : CodeTree lens code
-    from_here = Strand (at_work own at)
-
     -- behind the statement, in front of the rest
-    abbrev pub Done_ : Statement → Cost → End Locals → Type 0
-    Done_ s k y = Reached lens code (scope ++ lets_of s) (with_lets layout s) f k (Strand (at_work own at)) a (behind s at) y
+    abbrev pub Made : Statement → Cost → End Locals → Type 0
+    Made s k y = Reached lens code (scope ++ lets_of s) (with_lets layout s) f k (Strand (at_work own at)) a (behind s at) y
 
     abbrev pub Here : Statement → Type 0
     Here s = Place t scope layout spare (Then s b) f
@@ -265,22 +268,27 @@ module _ (t : ProgramTree) (code : CodeParts) (facts : Given t code) where
     abbrev pub Stands : Statement → Type 0
     Stands s = HasBlock ps code spare layout at h last (Then s b)
 
-    pub let_made : (x : Named) (e : Expression) → Here (Let x e) → Stands (Let x e) → Done_ (Let x e) (cost 1 1 0 0) (assigned x e f arrays)
+    pub let_made : (x : Named) (e : Expression) → Here (Let x e) → Stands (Let x e) → Made (Let x e) (cost 1 1 0 0) (assigned x e f arrays)
     let_made x e place has = record {
-      made = facts.does.let_ scope layout f own a arrays at (suc at) x e (in_hand scope layout spare (Then (Let x e) b) f own a arrays place held shows) has.0
+      made = facts.does.declare scope layout f own a arrays at (suc at) x e
+          (in_hand scope layout spare (Then (Let x e) b) f own a arrays place held shows) has.0
           place.fits.0.0 (small_let x e (small_first (Let x e) b place)) place.fits.0.1 place.fits.0.2;
     }
 
-    pub assign_made : (x : Named) (e : Expression) → Here (Assign x e) → Stands (Assign x e) → Done_ (Assign x e) (cost 1 2 0 0) (assigned x e f arrays)
+    pub assign_made : (x : Named) (e : Expression) → Here (Assign x e) → Stands (Assign x e)
+        → Made (Assign x e) (cost 1 2 0 0) (assigned x e f arrays)
     assign_made x e place has = reaches_same lens code (assigned x e f arrays) (record {
-      made = facts.does.assign scope layout f own a arrays at (suc (suc at)) spare x e (in_hand scope layout spare (Then (Assign x e) b) f own a arrays place held shows)
+      made = facts.does.assign scope layout f own a arrays at (suc (suc at)) spare x e
+          (in_hand scope layout spare (Then (Assign x e) b) f own a arrays place held shows)
           (omega (arith, place.room)) has.0.0 has.0.1 place.fits.0.0 place.fits.0.1 (small_assign x e (small_first (Assign x e) b place));
     })
 
-    pub put_made : (x : Named) (i e : Expression) → Here (Put x i e) → Stands (Put x i e) → Done_ (Put x i e) (cost 1 2 0 0) (stored x i e f arrays)
+    pub put_made : (x : Named) (i e : Expression) → Here (Put x i e) → Stands (Put x i e) → Made (Put x i e) (cost 1 2 0 0) (stored x i e f arrays)
     put_made x i e place has = reaches_same lens code (stored x i e f arrays) (record {
-      made = facts.does.put scope layout f own a arrays at (suc (suc at)) spare x i e (in_hand scope layout spare (Then (Put x i e) b) f own a arrays place held shows)
-          (omega (arith, place.room)) has.0.0 has.0.1 place.fits.0.0 place.fits.0.1 place.fits.0.2 (small_put x i e (small_first (Put x i e) b place));
+      made = facts.does.put scope layout f own a arrays at (suc (suc at)) spare x i e
+          (in_hand scope layout spare (Then (Put x i e) b) f own a arrays place held shows)
+          (omega (arith, place.room)) has.0.0 has.0.1 place.fits.0.0 place.fits.0.1 place.fits.0.2
+          (small_put x i e (small_first (Put x i e) b place));
     })
 
     -- an `if`: its test, and then the block that was chosen
@@ -289,48 +297,43 @@ module _ (t : ProgramTree) (code : CodeParts) (facts : Given t code) where
     if_tested e s u place has r is =
         let first = suc (end_of s (suc at)) in
         subst (λ (v : Result ℤ TrapAt). Tested lens code own a at (suc at) first v) is
-        (facts.does.test scope layout f own a arrays at first (suc at) e (in_hand scope layout spare (Then (If e s u) b) f own a arrays place held shows) has.0.0
+        (facts.does.test scope layout f own a arrays at first (suc at) e
+        (in_hand scope layout spare (Then (If e s u) b) f own a arrays place held shows) has.0.0
         place.fits.0.0 (small_if e s u (small_first (If e s u) b place)))
 
     pub if_made : (e : Expression) (s u : Block) (c : Bool) (j : Counts) (y : End Locals) → Stands (If e s u)
-        → Chain c_ (cost 1 1 0 0) (Strand (at_work own at)) a (Strand (at_work own (which c (suc at) (suc (end_of s (suc at)))))) a
+        → Chain here (cost 1 1 0 0) (Strand (at_work own at)) a (Strand (at_work own (which c (suc at) (suc (end_of s (suc at)))))) a
         → Reached lens code (scope_behind scope (chosen c s u)) (layout_behind layout (chosen c s u)) f (budget t j)
         (Strand (at_work own (which c (suc at) (suc (end_of s (suc at)))))) a (end_of (chosen c s u) (which c (suc at) (suc (end_of s (suc at))))) y
-        → Done_ (If e s u) (cost 1 (2 * j.turns + 2) j.forks (words_of t j)) y
+        → Made (If e s u) (cost 1 (2 * j.turns + 2) j.forks (words_of t j)) y
     if_made e s u c j y has test body =
         let first = suc (end_of s (suc at)) in
         let next = suc (end_of u first) in
         let from = which c (suc at) first in
         let on = reaches_on lens code {total = cost 0 (2 * j.turns + 1) j.forks (words_of t j)} (end_of (chosen c s u) from) next y
         (goes_onward (chosen c s u) spare layout from (chosen_hidden c s h) next (chosen_has c spare layout at h e s u has.0))
-        (reaches_front lens code (chosen c s u) y body) (record {
-          least = omega arith;
-          most = omega arith;
-          forks = omega arith;
-          words = omega arith;
-        }) in
-        reaches_same lens code y (chain_reaches lens code {total = cost 1 (2 * j.turns + 2) j.forks (words_of t j)} y test on (record {
-          least = omega arith;
-          most = omega arith;
-          forks = omega arith;
-          words = omega arith;
-        }))
+        (reaches_front lens code (chosen c s u) y body) (within_cost (omega arith) (omega arith) (omega arith) (omega arith)) in
+        reaches_same lens code y (chain_reaches lens code {total = cost 1 (2 * j.turns + 2) j.forks (words_of t j)} y test on
+        (within_cost (omega arith) (omega arith) (omega arith) (omega arith)))
 
     -- a call: the callee's frame, and then the callee
     pub call_tried : (s : Side) → Here (tree.Call s) → Stands (tree.Call s) → (r : Result Frame TrapAt) → entered ps f arrays s ≡ r
-        → Called lens code ps s (cost 1 1 0 (frame_words (procedure_slots (procedure_named ps s.callee.name)))) own a at (suc at) (target_of layout s.target) r
+        → Called lens code ps s (cost 1 1 0 (frame_words (procedure_slots (procedure_named ps s.callee.name)))) own a at (suc at)
+        (target_of layout s.target) r
     call_tried s place has r is =
         let x = s.callee.name in
         let words = frame_words (procedure_slots (procedure_named ps x)) in
         subst (λ (v : Result Frame TrapAt). Called lens code ps s (cost 1 1 0 words) own a at (suc at) (target_of layout s.target) v) is
-        (facts.does.call scope layout f own a arrays at (suc at) s (in_hand scope layout spare (Then (tree.Call s) b) f own a arrays place held shows) has.0
+        (facts.does.call scope layout f own a arrays at (suc at) s
+        (in_hand scope layout spare (Then (tree.Call s) b) f own a arrays place held shows) has.0
         place.fits.0 (facts.fits x).distinct (small_call s (small_first (tree.Call s) b place)))
 
     -- the callee at its entry
     pub record CallBegun (s : Side) (g : Frame) : Type 0 where
       pub callee_own : FrameWord → ℕ
-      pub callee_holds : Holds lens (scope_of (procedure_named ps s.callee.name)) (parameter_layout (procedure_named ps s.callee.name).parameters) g callee_own
-      pub chain : Chain c_ (cost 1 1 0 (frame_words (procedure_slots (procedure_named ps s.callee.name)))) (Strand (at_work own at)) a
+      pub callee_holds : Holds lens (scope_of (procedure_named ps s.callee.name))
+          (parameter_layout (procedure_named ps s.callee.name).parameters) g callee_own
+      pub chain : Chain here (cost 1 1 0 (frame_words (procedure_slots (procedure_named ps s.callee.name)))) (Strand (at_work own at)) a
           (Calling (waits own (suc at) None (target_of layout s.target)) (Strand (at_work callee_own (entry_of code (number_of ps s.callee.name))))) a
 
     pub call_begun : (s : Side) (g : Frame) → Here (tree.Call s) → Stands (tree.Call s) → entered ps f arrays s ≡ Ok g → CallBegun s g
@@ -339,61 +342,68 @@ module _ (t : ProgramTree) (code : CodeParts) (facts : Given t code) where
         let words = frame_words (procedure_slots (procedure_named ps s.callee.name)) in record {
           callee_own = q.1.own;
           callee_holds = q.1.holds;
-          chain = subst (λ (c : CodeFrame). Chain c_ (cost 1 1 0 words) (Strand (at_work own at)) a (Calling (waits own (suc at) None (target_of layout s.target)) (Strand c)) a) q.1.at q.2;
+          chain = subst (λ (c : CodeFrame). Chain here (cost 1 1 0 words) (Strand (at_work own at)) a
+              (Calling (waits own (suc at) None (target_of layout s.target)) (Strand c)) a) q.1.at q.2;
         }
 
     pub call_made : (s : Side) (g : Frame) (j : Counts) (y : End ℤ) → Here (tree.Call s) → (q : CallBegun s g)
         → Returned lens code (budget t j) (Strand (at_work q.callee_own (entry_of code (number_of ps s.callee.name)))) a y
-        → Done_ (tree.Call s) (cost 1 (2 * j.turns + 1) j.forks (frame_words (procedure_slots (procedure_named ps s.callee.name)) + words_of t j)) (returned s.target f y)
+        → Made (tree.Call s) (cost 1 (2 * j.turns + 1) j.forks (frame_words (procedure_slots (procedure_named ps s.callee.name)) + words_of t j))
+        (returned s.target f y)
     call_made s g j y place q back =
         let words = frame_words (procedure_slots (procedure_named ps s.callee.name)) in
         reaches_same lens code (returned s.target f y)
         (chain_reaches lens code {total = cost 1 (2 * j.turns + 1) j.forks (words + words_of t j)} (returned s.target f y) q.chain
-        (call_reaches lens code own s.target (suc at) y place.fits.0.target held back) (record {
-          least = omega arith;
-          most = omega arith;
-          forks = omega arith;
-          words = omega arith;
-        }))
+        (call_reaches lens code own s.target (suc at) y place.fits.0.target held back)
+        (within_cost (omega arith) (omega arith) (omega arith) (omega arith)))
 
     -- a fork: the frames of both branches, and then these
     abbrev pub forking_words : Side → Side → ℕ
     forking_words s u = fork_words (procedure_slots (procedure_named ps s.callee.name)) (procedure_slots (procedure_named ps u.callee.name))
 
-    pub fork_tried : (s u : Side) → Here (tree.Fork s u) → Stands (tree.Fork s u) → (r : Result (Frame × Frame) TrapAt) → both_entered ps f arrays s u ≡ r
+    pub fork_tried : (s u : Side) → Here (tree.Fork s u) → Stands (tree.Fork s u) → (r : Result (Frame × Frame) TrapAt)
+        → both_entered ps f arrays s u ≡ r
         → Forked lens code ps s u (forking_words s u) own a at (suc at) (target_of layout s.target) (target_of layout u.target) r
     fork_tried s u place has r is =
         let m = s.callee.name in
         let n = u.callee.name in
         let sides = place.fits.0 in
-        subst (λ (v : Result (Frame × Frame) TrapAt). Forked lens code ps s u (forking_words s u) own a at (suc at) (target_of layout s.target) (target_of layout u.target) v) is
-        (facts.does.fork scope layout f own a arrays at (suc at) s u (in_hand scope layout spare (Then (tree.Fork s u) b) f own a arrays place held shows) has.0 sides.0 sides.1
-        (facts.fits m).distinct (facts.fits n).distinct (facts.stands.each m sides.0.callee).slots (small_fork s u (small_first (tree.Fork s u) b place)))
+        subst (λ (v : Result (Frame × Frame) TrapAt). Forked lens code ps s u (forking_words s u) own a at (suc at) (target_of layout s.target)
+        (target_of layout u.target) v) is
+        (facts.does.fork scope layout f own a arrays at (suc at) s u
+        (in_hand scope layout spare (Then (tree.Fork s u) b) f own a arrays place held shows) has.0 sides.0 sides.1
+        (facts.fits m).distinct (facts.fits n).distinct (facts.stands.each m sides.0.callee).slots
+        (small_fork s u (small_first (tree.Fork s u) b place)))
 
     pub record ForkBegun (s u : Side) (g g' : Frame) : Type 0 where
       pub left_own : FrameWord → ℕ
       pub right_own : FrameWord → ℕ
-      pub left_holds : Holds lens (scope_of (procedure_named ps s.callee.name)) (parameter_layout (procedure_named ps s.callee.name).parameters) g left_own
-      pub right_holds : Holds lens (scope_of (procedure_named ps u.callee.name)) (parameter_layout (procedure_named ps u.callee.name).parameters) g' right_own
-      pub chain : Chain c_ (cost 1 1 1 (forking_words s u)) (Strand (at_work own at)) a
-          (Forking (waits own (suc at) (target_of layout s.target) (target_of layout u.target)) (Strand (at_work left_own (entry_of code (number_of ps s.callee.name))))
+      pub left_holds : Holds lens (scope_of (procedure_named ps s.callee.name))
+          (parameter_layout (procedure_named ps s.callee.name).parameters) g left_own
+      pub right_holds : Holds lens (scope_of (procedure_named ps u.callee.name))
+          (parameter_layout (procedure_named ps u.callee.name).parameters) g' right_own
+      pub chain : Chain here (cost 1 1 1 (forking_words s u)) (Strand (at_work own at)) a
+          (Forking (waits own (suc at) (target_of layout s.target) (target_of layout u.target))
+          (Strand (at_work left_own (entry_of code (number_of ps s.callee.name))))
           (Strand (at_work right_own (entry_of code (number_of ps u.callee.name))))) a
 
-    pub fork_begun : (s u : Side) (g g' : Frame) → Here (tree.Fork s u) → Stands (tree.Fork s u) → both_entered ps f arrays s u ≡ Ok (g, g') → ForkBegun s u g g'
+    pub fork_begun : (s u : Side) (g g' : Frame) → Here (tree.Fork s u) → Stands (tree.Fork s u) → both_entered ps f arrays s u ≡ Ok (g, g')
+        → ForkBegun s u g g'
     fork_begun s u g g' place has is =
         let q = fork_tried s u place has (Ok (g, g')) is in record {
           left_own = q.2.own;
           right_own = q.3.own;
           left_holds = q.2.holds;
           right_holds = q.3.holds;
-          chain = subst₂ (λ (c d : CodeFrame). Chain c_ (cost 1 1 1 (forking_words s u)) (Strand (at_work own at)) a
+          chain = subst₂ (λ (c d : CodeFrame). Chain here (cost 1 1 1 (forking_words s u)) (Strand (at_work own at)) a
               (Forking (waits own (suc at) (target_of layout s.target) (target_of layout u.target)) (Strand c) (Strand d)) a) q.2.at q.3.at q.4;
         }
 
     pub fork_made : (s u : Side) (g g' : Frame) (i j : Counts) (x y : End ℤ) → Here (tree.Fork s u) → (q : ForkBegun s u g g')
         → Returned lens code (budget t i) (Strand (at_work q.left_own (entry_of code (number_of ps s.callee.name)))) a x
-        → ((c : Words) → Shows lens c (arrays_of x) → Returned lens code (budget t j) (Strand (at_work q.right_own (entry_of code (number_of ps u.callee.name)))) c y)
-        → Done_ (tree.Fork s u) (cost 1 (2 * i.turns + 2 * j.turns + 1) (i.forks + j.forks + 1) (forking_words s u + words_of t i + words_of t j))
+        → ((c : Words) → Shows lens c (arrays_of x)
+        → Returned lens code (budget t j) (Strand (at_work q.right_own (entry_of code (number_of ps u.callee.name)))) c y)
+        → Made (tree.Fork s u) (cost 1 (2 * i.turns + 2 * j.turns + 1) (i.forks + j.forks + 1) (forking_words s u + words_of t i + words_of t j))
         (joined s.target u.target f x y)
     fork_made s u g g' i j x y place q back more =
         let sides = place.fits.0 in
@@ -401,13 +411,9 @@ module _ (t : ProgramTree) (code : CodeParts) (facts : Given t code) where
         let right = Strand (at_work q.right_own (entry_of code (number_of ps u.callee.name))) in
         let joins = fork_reaches lens code own s.target u.target left right (suc at) x y sides.0.target sides.1.target held back more in
         reaches_same lens code (joined s.target u.target f x y)
-        (chain_reaches lens code {total = cost 1 (2 * i.turns + 2 * j.turns + 1) (i.forks + j.forks + 1) (forking_words s u + words_of t i + words_of t j)}
-        (joined s.target u.target f x y) q.chain joins (record {
-          least = omega arith;
-          most = omega arith;
-          forks = omega arith;
-          words = omega arith;
-        }))
+        (chain_reaches lens code {total = cost 1 (2 * i.turns + 2 * j.turns + 1) (i.forks + j.forks + 1)
+        (forking_words s u + words_of t i + words_of t j)}
+        (joined s.target u.target f x y) q.chain joins (within_cost (omega arith) (omega arith) (omega arith) (omega arith)))
 
     -- a split, and then its block
     pub split_tried : (line : ℕ) (r : Named) (e : Expression) (x y : Named) (s : Block) → Here (Split line r e x y s) → Stands (Split line r e x y s)
@@ -415,98 +421,91 @@ module _ (t : ProgramTree) (code : CodeParts) (facts : Given t code) where
         → Parted lens code (split_scope scope r x y) (with_parts layout x y) f (f.regions r.name) x y own a at (suc at) v
     split_tried line r e x y s place has v is =
         let fits = place.fits.0 in
-        subst (λ (v : Result ℕ TrapAt). Parted lens code (split_scope scope r x y) (with_parts layout x y) f (f.regions r.name) x y own a at (suc at) v) is
-        (facts.does.split scope layout f own a arrays at (suc at) line r e x y (in_hand scope layout spare (Then (Split line r e x y s) b) f own a arrays place held shows) has.0.0
+        subst (λ (v : Result ℕ TrapAt). Parted lens code (split_scope scope r x y) (with_parts layout x y) f (f.regions r.name) x y own a at
+        (suc at) v) is
+        (facts.does.split scope layout f own a arrays at (suc at) line r e x y
+        (in_hand scope layout spare (Then (Split line r e x y s) b) f own a arrays place held shows) has.0.0
         fits.0 fits.1 (small_split line r e x y s (small_first (Split line r e x y s) b place)) fits.2 fits.3 fits.4 fits.5 fits.6)
 
     pub split_made : (line : ℕ) (r : Named) (e : Expression) (x y : Named) (s : Block) (n : ℕ) (j : Counts) (u : End Locals) (own' : FrameWord → ℕ)
-        → Here (Split line r e x y s) → Stands (Split line r e x y s) → Chain c_ (cost 1 1 0 0) (Strand (at_work own at)) a (Strand (at_work own' (suc at))) a
-        → Reached lens code (scope_behind (split_scope scope r x y) s) (layout_behind (with_parts layout x y) s) (parts_frame f (f.regions r.name) n x y) (budget t j)
+        → Here (Split line r e x y s) → Stands (Split line r e x y s)
+        → Chain here (cost 1 1 0 0) (Strand (at_work own at)) a (Strand (at_work own' (suc at))) a
+        → Reached lens code (scope_behind (split_scope scope r x y) s) (layout_behind (with_parts layout x y) s)
+        (parts_frame f (f.regions r.name) n x y) (budget t j)
         (Strand (at_work own' (suc at))) a (end_of s (suc at)) u
-        → Done_ (Split line r e x y s) (cost 1 (2 * j.turns + 2) j.forks (words_of t j)) u
+        → Made (Split line r e x y s) (cost 1 (2 * j.turns + 2) j.forks (words_of t j)) u
     split_made line r e x y s n j u own' place has parted body =
         let next = suc (end_of s (suc at)) in
         let fits = place.fits.0 in
         let whole : Reached lens code scope layout f (budget t j) (Strand (at_work own' (suc at))) a (end_of s (suc at)) u =
         reaches_whole lens code r x y n u fits.5 fits.6 (reaches_front lens code s u body) in
         let on : Reached lens code scope layout f (cost 0 (2 * j.turns + 1) j.forks (words_of t j)) (Strand (at_work own' (suc at))) a next u =
-        reaches_on lens code (end_of s (suc at)) next u (goes_onward s spare (with_parts layout x y) (suc at) h next has.0.1) whole (record {
-          least = omega arith;
-          most = omega arith;
-          forks = omega arith;
-          words = omega arith;
-        }) in
-        reaches_same lens code u (chain_reaches lens code {total = cost 1 (2 * j.turns + 2) j.forks (words_of t j)} u parted on (record {
-          least = omega arith;
-          most = omega arith;
-          forks = omega arith;
-          words = omega arith;
-        }))
+        reaches_on lens code (end_of s (suc at)) next u (goes_onward s spare (with_parts layout x y) (suc at) h next has.0.1) whole
+        (within_cost (omega arith) (omega arith) (omega arith) (omega arith)) in
+        reaches_same lens code u (chain_reaches lens code {total = cost 1 (2 * j.turns + 2) j.forks (words_of t j)} u parted on
+        (within_cost (omega arith) (omega arith) (omega arith) (omega arith)))
 
     -- an `each`, and then the blocks of its elements
     module _ (i x r : Named) (s : Block) (place : Here (Each i x r s)) (has : Stands (Each i x r s)) where
-      abbrev pub slots_ : ℕ
-      slots_ = hidden_slots (length (caught layout s)) s
+      abbrev pub slots : ℕ
+      slots = hidden_slots (length (caught layout s)) s
 
       abbrev pub elements : ℕ
       elements = (f.regions r.name).length
 
       abbrev pub AreLeaves : (n m : ℕ) → Arrays → Counts → End Locals → Type 0
-      AreLeaves = Leaves t code facts spare scope layout at h f i x r s has.0 place.fits.0 place.once (each_few t scope layout spare i x r s b f place)
+      AreLeaves = Leaves t code facts spare scope layout at h f i x r s has.0 place.fits.0 place.once
+          (each_few t scope layout spare i x r s b f place)
           (each_inside scope layout spare i x r s b f place)
 
       pub each_begun : (own' : FrameWord → ℕ)
           × Holds lens (each_scope scope r i x) (hidden_layout layout i x s) (sweep_frame f (f.regions r.name) 0 elements i x) own'
-          × Chain c_ (cost 1 1 0 (frame_words slots_)) (Strand (at_work own at)) a (Calling (waits own (suc at) None None) (Strand (at_work own' (entry_of code h)))) a
+          × Chain here (cost 1 1 0 (frame_words slots)) (Strand (at_work own at)) a
+          (Calling (waits own (suc at) None None) (Strand (at_work own' (entry_of code h)))) a
       each_begun =
           let fits = place.fits.0 in
-          facts.does.each scope layout f own a arrays at (suc at) i x r s h (in_hand scope layout spare (Then (Each i x r s) b) f own a arrays place held shows) has.0.0
-          fits.0 fits.1 fits.2 fits.3 fits.4 fits.5 (once_distinct layout place.once) (each_few t scope layout spare i x r s b f place)
+          facts.does.each scope layout f own a arrays at (suc at) i x r s h
+          (in_hand scope layout spare (Then (Each i x r s) b) f own a arrays place held shows) has.0.0
+          fits.0 fits.3 fits.4 fits.5 (each_few t scope layout spare i x r s b f place)
 
       pub each_made : (j : Counts) (y : End Locals) → AreLeaves 0 elements arrays j y
-          → Done_ (Each i x r s) (cost 1 (2 * j.turns + 2) (elements - 1 + j.forks) (frame_words slots_ + ((elements - 1) * fork_words slots_ slots_ + words_of t j))) y
+          → Made (Each i x r s) (cost 1 (2 * j.turns + 2) (elements - 1 + j.forks)
+          (frame_words slots + ((elements - 1) * fork_words slots slots + words_of t j))) y
       each_made j y leaves =
           let fits = place.fits.0 in
           let few = each_few t scope layout spare i x r s b f place in
           let inside = each_inside scope layout spare i x r s b f place in
           let to = each_begun in
-          let all = swept_all t code facts spare scope layout at h f i x r s has.0 fits place.once few inside elements 0 arrays to.0 a (omega arith) leaves to.1 shows in
+          let all = swept_all t code facts spare scope layout at h f i x r s has.0 fits place.once few inside elements 0 arrays to.0 a
+          (omega arith) leaves to.1 shows in
           let forks = elements - 1 + j.forks in
-          let words = (elements - 1) * fork_words slots_ slots_ + words_of t j in
-          let on = each_reaches scope layout f own (suc at) (Strand (at_work to.0 (entry_of code h))) a all.behind (cost 1 (2 * j.turns + 1) forks words) y
+          let words = (elements - 1) * fork_words slots slots + words_of t j in
+          let on = each_reaches scope layout f own (suc at) (Strand (at_work to.0 (entry_of code h))) a all.behind
+          (cost 1 (2 * j.turns + 1) forks words) y
           (leaves_locals t code facts spare scope layout at h f i x r s has.0 fits place.once few inside leaves) held all.shows all.chain in
-          reaches_same lens code y (chain_reaches lens code {total = cost 1 (2 * j.turns + 2) forks (frame_words slots_ + words)} y to.2 on (record {
-            least = omega arith;
-            most = omega arith;
-            forks = omega arith;
-            words = omega arith;
-          }))
+          reaches_same lens code y (chain_reaches lens code {total = cost 1 (2 * j.turns + 2) forks (frame_words slots + words)} y to.2 on
+          (within_cost (omega arith) (omega arith) (omega arith) (omega arith)))
 
   -- one turn of a loop: the test, the block, and back
-  pub loop_tested : (scope : Scope) (layout : Layout) (spare at h : ℕ) (e : Expression) (s : Block) (f : Frame) (own : FrameWord → ℕ) (a : Words) (arrays : Arrays)
+  pub loop_tested : (scope : Scope) (layout : Layout) (spare at h : ℕ) (e : Expression) (s : Block) (f : Frame) (own : FrameWord → ℕ) (a : Words)
+      (arrays : Arrays)
       → ((l : Locals) → Place t scope layout spare s (with_locals f l)) → FitsExpression scope layout e → AreSmall (nodes e)
-      → HasStatement ps code spare layout at h (While e s) → Holds lens scope layout f own → Shows lens a arrays → (r : Result ℤ TrapAt) → evaluate f arrays e ≡ r
+      → HasStatement ps code spare layout at h (While e s) → Holds lens scope layout f own → Shows lens a arrays → (r : Result ℤ TrapAt)
+      → evaluate f arrays e ≡ r
       → Tested lens code own a at (suc at) (suc (end_of s (suc at))) r
   loop_tested scope layout spare at h e s f own a arrays place fits small has held shows r is =
       let next = suc (end_of s (suc at)) in
       subst (λ (v : Result ℤ TrapAt). Tested lens code own a at (suc at) next v) is
-      (facts.does.test scope layout f own a arrays at next (suc at) e (loop_hand scope layout spare s f own a arrays place held shows) has.0 fits small)
+      (facts.does.test scope layout f own a arrays at next (suc at) e
+      (loop_hand scope layout spare s f own a arrays place held shows) has.0 fits small)
 
-  pub turn_made : (scope : Scope) (layout : Layout) (spare at h : ℕ) (e : Expression) (s : Block) (f : Frame) (own : FrameWord → ℕ) (a : Words) (j : Counts) (y : End Locals)
-      → HasStatement ps code spare layout at h (While e s) → Chain c_ (cost 1 1 0 0) (Strand (at_work own at)) a (Strand (at_work own (suc at))) a
+  pub turn_made : (scope : Scope) (layout : Layout) (spare at h : ℕ) (e : Expression) (s : Block) (f : Frame) (own : FrameWord → ℕ) (a : Words)
+      (j : Counts) (y : End Locals)
+      → HasStatement ps code spare layout at h (While e s) → Chain here (cost 1 1 0 0) (Strand (at_work own at)) a (Strand (at_work own (suc at))) a
       → Reached lens code (scope_behind scope s) (layout_behind layout s) f (budget t j) (Strand (at_work own (suc at))) a (end_of s (suc at)) y
       → Reached lens code scope layout f (cost 1 (2 * j.turns + 2) j.forks (words_of t j)) (Strand (at_work own at)) a at y
   turn_made scope layout spare at h e s f own a j y has test body =
-      let on = reaches_on lens code {total = cost 0 (2 * j.turns + 1) j.forks (words_of t j)} (end_of s (suc at)) at y (goes_onward s spare layout (suc at) h at has.1)
-      (reaches_front lens code s y body) (record {
-        least = omega arith;
-        most = omega arith;
-        forks = omega arith;
-        words = omega arith;
-      }) in
-      chain_reaches lens code y test on (record {
-        least = omega arith;
-        most = omega arith;
-        forks = omega arith;
-        words = omega arith;
-      })
+      let on = reaches_on lens code {total = cost 0 (2 * j.turns + 1) j.forks (words_of t j)} (end_of s (suc at)) at y
+      (goes_onward s spare layout (suc at) h at has.1)
+      (reaches_front lens code s y body) (within_cost (omega arith) (omega arith) (omega arith) (omega arith)) in
+      chain_reaches lens code y test on (within_cost (omega arith) (omega arith) (omega arith) (omega arith))

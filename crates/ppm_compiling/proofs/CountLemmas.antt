@@ -1,12 +1,11 @@
 -- The block of an `each` catches exactly the names of outside that are counted: each free name of a block that fits has a slot.
-use Rattle.std.proofs.Common.{◌≡◌, ◌<◌, ◌||◌, ◌&&◌, not, cond, Bool, true, false, ℕ, suc, List, [], ◌∷◌, ◌++◌, Option, Some, None, map, length}
-use Rattle.std.proofs.Common.{refl, sym, ap, ◌∙◌, subst, arith, filter}
-use Rattle.std.specs.List.{AllByRecursion, IsDistinct, flat_map}
+use Rattle.std.proofs.Common.{◌≡◌, ◌<◌, ◌||◌, ◌&&◌, not, cond, Bool, true, false, ℕ, suc, List, [], ◌∷◌, ◌++◌}
+use Rattle.std.proofs.Common.{Option, Some, None, map, length, refl, sym, ap, ◌∙◌, subst, arith}
+use Rattle.std.specs.List.{AllByRecursion, flat_map}
 use Rattle.std.specs.Set.{is_member, distinct_count}
 use Rattle.std.specs.Str.{bytes_eq}
 use Rattle.std.proofs.lemmas.Grind.{flat_map-append}
-use Rattle.std.proofs.lemmas.Map.Keys.{IsDistinct-cons}
-use Rattle.std.proofs.lemmas.Map.Made.{length-from_keys, is_member-filter}
+use Rattle.std.proofs.lemmas.Map.Made.{length-from_keys}
 use Rattle.ppm_tree.specs.declared.mode.Mode.{Mode}
 use Rattle.ppm_tree.specs.declared.mode.Mode.TheVariants as mode
 use Rattle.ppm_tree.specs.declared.named.Named.{Named}
@@ -20,17 +19,15 @@ use Rattle.ppm_bounds.specs.Names as names
 use Rattle.ppm_bounds.proofs.Keeping.{all-append}
 use Rattle.ppm_bounds.proofs.Members.{same_bytes, has-without, has-append, bytes_laws}
 use Rattle.ppm_translation.specs.Layout.{Layout, slot_of, caught}
-use Rattle.ppm_translation.specs.Fits.{Has, IsNew, IsKept, FitsExpression, FitsLent, FitsArgument, FitsArguments, FitsTarget}
-use Rattle.ppm_translation.specs.Fits.{FitsStatement, FitsBlock}
+use Rattle.ppm_translation.specs.Fits.{Has, IsNew, IsKept, FitsExpression, FitsLent, FitsArgument}
+use Rattle.ppm_translation.specs.Fits.{FitsArguments, FitsTarget, FitsStatement, FitsBlock}
 use Rattle.ppm_translation.specs.Statements.{with_lets, with_parts, hidden_layout}
-use Rattle.ppm_translation.proofs.CaughtLemmas.{IsEachOnce, new_absent}
+use Rattle.ppm_translation.proofs.CaughtLemmas.{IsEachOnce, true_and_false, new_absent, once_filter, caught_member, first_of_both}
+use Rattle.ppm_translation.proofs.CoverLemmas.{free_parts}
 
 -- the name is one of the layout
 abbrev In : Layout → List ℕ → Type 0
 In layout x = is_member bytes_eq layout x ≡ true
-
-true_and_false : {b : Bool} → b ≡ true → b ≡ false → ⊥
-true_and_false p q = cc
 
 -- a name with a slot is one of the layout
 slot_in : (layout : Layout) (x : List ℕ) → Has layout x → In layout x
@@ -161,36 +158,6 @@ module _ (scope : Scope) (layout : Layout) where
     used_in (Split line r e x y s) f = (kept_in f.0, one_in e f.1)
     used_in (Each i x r s) f = (kept_in f.0, tt)
 
--- a part of a layout without a name twice is one
-all_filter : {A : Type 0} (P : A → Type 0) (test : A → Bool) (zs : List A) → AllByRecursion P zs → AllByRecursion P (filter test zs)
-all_filter P test [] h = tt
-all_filter P test (z ∷ zs) h = go (test z) (all_filter P test zs h.1)
-  where
-    go : (b : Bool) → AllByRecursion P (filter test zs) → AllByRecursion P (cond b (z ∷ filter test zs) (filter test zs))
-    go true rest = (h.0, rest)
-    go false rest = rest
-
-once_filter : (test : List ℕ → Bool) (layout : Layout) → IsEachOnce layout → IsEachOnce (filter test layout)
-unfolding IsDistinct
-once_filter test [] h = tt
-once_filter test (x ∷ layout) h = go (test x) (once_filter test layout h.1)
-  where
-    go : (b : Bool) → IsEachOnce (filter test layout) → IsEachOnce (cond b (x ∷ filter test layout) (filter test layout))
-    go true rest = IsDistinct-cons bytes_eq x (filter test layout) (all_filter (λ y. bytes_eq x y ≡ false) test layout h.0) rest
-    go false rest = rest
-
--- of two tests both hold, and the first of them does
-first_of_both : (a b : Bool) → (a && b) ≡ true → a ≡ true
-first_of_both true b h = refl
-first_of_both false b h = h
-
--- the names that a block catches
-caught_member : (layout : Layout) (block : Block) (q : List ℕ)
-    → is_member bytes_eq (caught layout block) q ≡ (is_member bytes_eq layout q && is_member bytes_eq (free_names block) q)
-caught_member layout block q =
-    is_member-filter bytes_laws (is_member bytes_eq (free_names block)) q
-    (λ x e. ap (λ z. is_member bytes_eq (free_names block) z) (same_bytes q x e)) layout
-
 -- a name of the hidden procedure that is neither its part nor its index is caught
 not_own : (a b c : Bool) → (a || (b || c)) ≡ true → (b || (a || false)) ≡ false → c ≡ true
 not_own true true c h g = absurd (true_and_false refl g)
@@ -208,19 +175,6 @@ outside_in : (layout : Layout) (i x : Named) (block : Block) (q : List ℕ) → 
 outside_in layout i x block q other h =
     first_of_both (is_member bytes_eq layout q) (is_member bytes_eq (free_names block) q)
     (sym (caught_member layout block q) ∙ hidden_in layout i x block q h other)
-
--- the free names of a block, by parts
-free_parts : (s : Statement) (rest : Block)
-    → free_names (Then s rest) ≡ (used_by s ++ free_within s) ++ without (names.lets_of s) (free_names rest)
-free_parts (Let x e) rest = refl
-free_parts (Assign x e) rest = refl
-free_parts (Put x i e) rest = refl
-free_parts (If e s u) rest = refl
-free_parts (While e s) rest = refl
-free_parts (tree.Call s) rest = refl
-free_parts (tree.Fork s u) rest = refl
-free_parts (Split line r e x y s) rest = refl
-free_parts (Each i x r s) rest = refl
 
 -- those behind a statement, but for the name that it declares
 behind_in : (layout : Layout) (s : Statement) (xs : List (List ℕ)) → AllByRecursion (In (with_lets layout s)) xs

@@ -23,10 +23,12 @@ use Rattle.ppm_regions.specs.Scope.{split_scope, each_scope}
 use Rattle.ppm_translation.specs.Fits.{IsNew, IsDistinctLayout, IsLocal, IsRegion, FitsExpression, FitsSide}
 use Rattle.ppm_translation.specs.Numbers.{halving, halved, element_block}
 use Rattle.ppm_translation.specs.Slots.{hidden_slots, frame_words, fork_words}
-use Rattle.ppm_translation.specs.Statements.{onward, let_code, value_code, move_code, element_code, put_code, test_code, split_code, give_code}
-use Rattle.ppm_translation.specs.Statements.{each_code, entry_code, halving_code, with_parts, hidden_layout, callee_slots, callee_number, call_code, fork_code}
+use Rattle.ppm_translation.specs.Statements.{onward, let_code, value_code, move_code, element_code, put_code, test_code}
+use Rattle.ppm_translation.specs.Statements.{split_code, give_code, each_code, entry_code, halving_code, with_parts}
+use Rattle.ppm_translation.specs.Statements.{hidden_layout, callee_slots, callee_number, call_code, fork_code}
+use Rattle.ppm_translation.proofs.RegionWords.{region_word}
 use Rattle.ppm_compiling.proofs.ChainLemmas.{cost, Chain}
-use Rattle.ppm_compiling.proofs.Holding.{Shows, Lies, Holds, region_word, sweep_frame, at_work, waits, strands, Reaches, Returns, Tested, Parted, Called, Forked}
+use Rattle.ppm_compiling.proofs.Holding.{Shows, Lies, Holds, sweep_frame, at_work, waits, strands, Reaches, Returns, Tested, Parted, Called, Forked}
 
 -- nodes of expressions that keep the limits: as many as a statement may have, and each literal a value
 pub record AreSmall (es : List Expression) : Type 0 where
@@ -50,7 +52,8 @@ module _ (lengths : List ℕ) (code : CodeParts) where
     LetDoes = (x : Named) (e : Expression) → InHand scope layout f own a arrays
         → instrs_of code at ≡ let_code layout e next → FitsExpression scope layout e → AreSmall (nodes e)
         → IsNew layout x.name → declared scope x.name ≡ None
-        → Reaches lengths code (scope ++ plain mode.Int x ∷ []) (layout ++ x.name ∷ []) f (cost 1 1 0 0) (Strand (at_work own at)) a next (assigned x e f arrays)
+        → Reaches lengths code (scope ++ plain mode.Int x ∷ []) (layout ++ x.name ∷ []) f (cost 1 1 0 0) (Strand (at_work own at)) a next
+        (assigned x e f arrays)
 
     abbrev pub AssignDoes : Type 0
     AssignDoes = (spare : ℕ) (x : Named) (e : Expression) → InHand scope layout f own a arrays → length layout ≤ spare
@@ -82,7 +85,8 @@ module _ (lengths : List ℕ) (code : CodeParts) where
         → Returns lengths code (cost 1 1 0 0) (Strand (at_work own at)) a (given g f (Ended f.locals arrays))
 
     abbrev pub OnwardDoes : Type 0
-    OnwardDoes = instrs_of code at ≡ onward next → Chain (strands lengths code) (cost 1 1 0 0) (Strand (at_work own at)) a (Strand (at_work own next)) a
+    OnwardDoes = instrs_of code at ≡ onward next
+        → Chain (strands lengths code) (cost 1 1 0 0) (Strand (at_work own at)) a (Strand (at_work own next)) a
 
     abbrev pub FinishDoes : Type 0
     FinishDoes = instrs_of code at ≡ instr.Ends ends.Finish ∷ [] → own Value ≡ 0
@@ -111,10 +115,10 @@ module _ (lengths : List ℕ) (code : CodeParts) where
     abbrev pub EachDoes : Type 0
     EachDoes = (i x r : Named) (block : Block) (h : ℕ) → InHand scope layout f own a arrays
         → instrs_of code at ≡ each_code layout r block h next → IsRegion scope layout r
-        → IsNew layout i.name → IsNew layout x.name → i.name ≢ x.name → declared scope i.name ≡ None → declared scope x.name ≡ None
-        → IsDistinctLayout layout → length (caught layout block) ≤ 24
+        → i.name ≢ x.name → declared scope i.name ≡ None → declared scope x.name ≡ None → length (caught layout block) ≤ 24
         → (own' : FrameWord → ℕ)
-        × Holds lengths (each_scope scope r i x) (hidden_layout layout i x block) (sweep_frame f (f.regions r.name) 0 (f.regions r.name).length i x) own'
+        × Holds lengths (each_scope scope r i x) (hidden_layout layout i x block)
+        (sweep_frame f (f.regions r.name) 0 (f.regions r.name).length i x) own'
         × Chain (strands lengths code) (cost 1 1 0 (frame_words (hidden_slots (length (caught layout block)) block))) (Strand (at_work own at)) a
         (Calling (waits own next None None) (Strand (at_work own' (entry_of code h)))) a
 
@@ -125,8 +129,7 @@ module _ (lengths : List ℕ) (code : CodeParts) where
     Entered (suc (suc m)) = Chain (strands lengths code) (cost 1 1 0 0) (Strand (at_work own at)) a (Strand (at_work own (halving at))) a
 
     abbrev pub EntryDoes : Type 0
-    EntryDoes = (q : Region) (n m : ℕ) → instrs_of code at ≡ entry_code at → own (Slot 0) ≡ region_word lengths (stretch n m q) → m ≤ 4194304
-        → own Value ≡ 0 → Entered m
+    EntryDoes = (start m : ℕ) → instrs_of code at ≡ entry_code at → own (Slot 0) ≡ start * 2 ^ 32 + m → m ≤ 4194304 → own Value ≡ 0 → Entered m
 
     -- it halves what it has in hand; `at` is where it was entered, and the scope and layout are those around the `each`
     abbrev pub HalvingDoes : Type 0
@@ -134,9 +137,8 @@ module _ (lengths : List ℕ) (code : CodeParts) where
         → instrs_of code (halving at) ≡ halving_code at h (hidden_slots (length (caught layout block)) block) (length (caught layout block)) r.line
         → slots_of code h ≡ hidden_slots (length (caught layout block)) block → at ≡ entry_of code h
         → Holds lengths (each_scope scope r i x) (hidden_layout layout i x block) (sweep_frame f q n m i x) own
-        → IsNew layout i.name → IsNew layout x.name → i.name ≢ x.name → declared scope i.name ≡ None → declared scope x.name ≡ None
-        → IsDistinctLayout layout → length (caught layout block) ≤ 24
-        → region_word lengths (stretch n m q) ≤ 4194304 * 2 ^ 32 + 4194304 → n + m ≤ 4194304 → 2 ≤ m
+        → i.name ≢ x.name → declared scope i.name ≡ None → declared scope x.name ≡ None → length (caught layout block) ≤ 24
+        → region_word lengths (stretch n m q) ≤ 4194304 * 2 ^ 32 + 4194304 → n + m ≤ 4194304
         → (left right : FrameWord → ℕ)
         × Holds lengths (each_scope scope r i x) (hidden_layout layout i x block) (sweep_frame f q n (m / 2) i x) left
         × Holds lengths (each_scope scope r i x) (hidden_layout layout i x block) (sweep_frame f q (n + m / 2) (m - m / 2) i x) right

@@ -1,6 +1,6 @@
 -- An `each`: its hidden procedure is called with the whole region, and where it is entered it goes on by how many elements are in hand.
-use Rattle.std.proofs.Common.{◌≡◌, ◌≤◌, ◌<◌, ℕ, zero, suc, ◌+◌, ◌*◌, ◌^◌, Bool, pos, List, [], ◌∷◌, None, length, replicate}
-use Rattle.std.proofs.Common.{inl, refl, sym, ap, ◌∙◌, subst, subst₂, arith}
+use Rattle.std.proofs.Common.{◌≡◌, ◌≤◌, ◌<◌, ℕ, zero, suc, ◌+◌, ◌*◌, ◌^◌, Bool, pos, List, [], ◌∷◌, None, length}
+use Rattle.std.proofs.Common.{replicate, inl, refl, sym, ap, ◌∙◌, subst, subst₂, arith}
 use Rattle.std.specs.Prelude.{slice_index, slice_set, int_lt, if◌then◌else◌}
 use Rattle.std.specs.List.{sum}
 use Rattle.std.proofs.lemmas.Bool.{lt-ltb}
@@ -20,15 +20,16 @@ use Rattle.ppm_code.specs.Acts.{length_of}
 use Rattle.ppm_code.specs.Locations.{Where}
 use Rattle.ppm_code.specs.Capsules.{capsule_of, capsule_from}
 use Rattle.ppm_code.specs.Strands.{Gave, entry_of, built}
-use Rattle.ppm_tree.specs.State.{Region, Frame, Arrays}
+use Rattle.ppm_tree.specs.State.{Frame, Arrays}
 use Rattle.ppm_owning.specs.Coming.{stretch}
 use Rattle.ppm_regions.specs.Scope.{Scope}
 use Rattle.ppm_translation.specs.Layout.{Layout, slot_of, caught, register}
 use Rattle.ppm_translation.specs.Numbers.{halving, element_block}
 use Rattle.ppm_translation.specs.Slots.{hidden_slots, frame_words}
 use Rattle.ppm_translation.specs.Statements.{each_code, entry_code, stores_code}
+use Rattle.ppm_translation.proofs.RegionWords.{offset_of, region_word}
 use Rattle.ppm_compiling.proofs.ChainLemmas.{cost, Chain}
-use Rattle.ppm_compiling.proofs.Holding.{HoldsValue, offset_of, region_word, at_work, waits, strands}
+use Rattle.ppm_compiling.proofs.Holding.{HoldsValue, at_work, waits, strands}
 use Rattle.ppm_compiling.proofs.Doing.{Entered, EntryDoes, EachDoes}
 use Rattle.ppm_compiling.proofs.ExprLemmas.{Goes, goes_on, goes_equal, set_count, holds_number}
 use Rattle.ppm_compiling.proofs.StepLemmas.{start_at, whole}
@@ -39,17 +40,13 @@ use Rattle.ppm_compiling.proofs.BlockLemmas.{loads_go, stored, stored_at, stored
 pub value_is : (n : ℕ) → n < 2 ^ 63 → value_of n ≡ pos n
 value_is n low = (holds_number n low).value
 
--- how many words a region's word says
-pub length_is : (lengths : List ℕ) (r : Region) → r.length < 2 ^ 32 → length_of (region_word lengths r) ≡ r.length
-length_is lengths r low = mod-mul-add (offset_of lengths r.array + r.start) (2 ^ 32) r.length low
-
 module _ (lengths : List ℕ) (code : CodeParts) (scope : Scope) (layout : Layout) (f : Frame) (own : FrameWord → ℕ) (a : Words) (arrays : Arrays)
     (at next : ℕ) where
   abbrev W : ℕ
   W = sum lengths
 
-  abbrev m_ : Memory Where
-  m_ = start_at lengths code own at a
+  abbrev at_start : Memory Where
+  at_start = start_at lengths code own at a
 
   -- the branches, where register 0 has the length and register 2 says whether it is more than one
   abbrev branches : List Instr
@@ -69,34 +66,35 @@ module _ (lengths : List ℕ) (code : CodeParts) (scope : Scope) (layout : Layou
       ap (λ z. if int_lt (pos 1) z then 1 else 0) (value_is (suc (suc k)) (omega (arith, low)))
       ∙ ap (λ (b : Bool). if b then 1 else 0) (lt-ltb 1 (suc (suc k)) (omega arith))
 
-  to_branches : (count : ℕ) → length_of (own (Slot 0)) ≡ count → Goes (capsule_of W (entry_code at)) m_ (at_branches count (many_of count)) m_
+  to_branches : (count : ℕ) → length_of (own (Slot 0)) ≡ count
+      → Goes (capsule_of W (entry_code at)) at_start (at_branches count (many_of count)) at_start
   to_branches count is = goes_on (record { ends = refl; left = refl; asks = refl })
-      (goes_equal (at_branches (length_of (own (Slot 0))) (many_of (length_of (own (Slot 0))))) (at_branches count (many_of count)) m_
+      (goes_equal (at_branches (length_of (own (Slot 0))) (many_of (length_of (own (Slot 0))))) (at_branches count (many_of count)) at_start
       (ap (λ (n : ℕ). at_branches n (many_of n)) is))
 
   pub entry_does : EntryDoes lengths code scope layout f own a arrays at next
-  entry_does q n m stands is_part small at_value = go m small refl
+  entry_does start m stands is_part small at_value = go m small refl
     where
       counted : (k : ℕ) → k ≤ 4194304 → k ≡ m → length_of (own (Slot 0)) ≡ k
       counted k low is =
-          ap length_of is_part ∙ length_is lengths (stretch n m q) (let l : m < 2 ^ 32 = omega (arith, low, is) in l) ∙ sym is
+          ap length_of is_part ∙ mod-mul-add start (2 ^ 32) m (omega (arith, low, is)) ∙ sym is
 
       go : (k : ℕ) → k ≤ 4194304 → k ≡ m → Entered lengths code scope layout f own a arrays at next k
       go zero low is =
           let g = to_branches 0 (counted 0 low is) in
           subst (λ (v : ℕ). Chain (strands lengths code) (cost 1 1 0 0) (Strand (at_work own at)) a (Over (Gave v)) a) at_value
-          (whole lengths code at (entry_code at) stands own a ends.Finish m_ 0 g.ends g.left g.asks)
+          (whole lengths code at (entry_code at) stands own a ends.Finish at_start 0 g.ends g.left g.asks)
       go (suc zero) low is =
           let g = to_branches 1 (counted 1 low is) in
-          whole lengths code at (entry_code at) stands own a (ends.Next (element_block at)) m_ 0 g.ends g.left g.asks
+          whole lengths code at (entry_code at) stands own a (ends.Next (element_block at)) at_start 0 g.ends g.left g.asks
       go (suc (suc k)) low is =
           let c = suc (suc k) in
           let g = goes_on (to_branches c (counted c low is))
-          (goes_equal (at_branches c (many_of c)) (at_branches c 1) m_ (ap (at_branches c) (more_than_one k low))) in
-          whole lengths code at (entry_code at) stands own a (ends.Next (halving at)) m_ 0 g.ends g.left g.asks
+          (goes_equal (at_branches c (many_of c)) (at_branches c 1) at_start (ap (at_branches c) (more_than_one k low))) in
+          whole lengths code at (entry_code at) stands own a (ends.Next (halving at)) at_start 0 g.ends g.left g.asks
 
   pub each_does : EachDoes lengths code scope layout f own a arrays at next
-  each_does i x r block h hand stands region new_i new_x other no_i no_x distinct few =
+  each_does i x r block h hand stands region other no_i no_x few =
       let names = caught layout block in
       let count = suc (suc (length names)) in
       let room = frame_words (hidden_slots (length names) block) in
@@ -106,13 +104,13 @@ module _ (lengths : List ℕ) (code : CodeParts) (scope : Scope) (layout : Layou
       let last : List Instr = instr.Ends (ends.Call h next None) ∷ [] in
       let rest = stores_code 6 0 count last in
       let sixty_four = set_count (slice_set (replicate 64 0) 0 w) 1 0 (set_count (replicate 64 0) 0 w refl) in
-      let l = loads_go W m_ layout names 2 3 rest g sixty_four (omega (arith, few)) in
-      let s = stores_go W 6 0 count l.number last l.registers m_ (omega (arith, few)) in
-      let m' = stored l.registers 6 0 count m_ in
+      let l = loads_go W at_start layout names 2 3 rest g sixty_four (omega (arith, few)) in
+      let s = stores_go W 6 0 count l.number last l.registers at_start (omega (arith, few)) in
+      let m' = stored l.registers 6 0 count at_start in
       let goes = goes_on l.goes s.1 in
       let own' = built 0 (new_of m') in
       let at_slot : (k : ℕ) → k < count → own' (Slot k) ≡ slice_index l.registers k =
-      λ k low. ap (λ (i : ℕ). m' (New i)) (let e : 0 + (6 + k) ≡ 6 + k = omega arith in e) ∙ stored_at l.registers 6 0 count m_ k low
+      λ k low. ap (λ (i : ℕ). m' (New i)) (let e : 0 + (6 + k) ≡ 6 + k = omega arith in e) ∙ stored_at l.registers 6 0 count at_start k low
       ∙ ap (slice_index l.registers) (let e : 0 + k ≡ k = omega arith in e) in
       let start_is : region_word lengths q ≡ region_word lengths (stretch 0 q.length q) =
       ap (λ (k : ℕ). (offset_of lengths q.array + k) * 2 ^ 32 + q.length) (let e : q.start ≡ q.start + 0 = omega arith in e) in
@@ -126,8 +124,8 @@ module _ (lengths : List ℕ) (code : CodeParts) (scope : Scope) (layout : Layou
             (at_slot 0 (omega arith) ∙ l.loaded.keeps 0 (omega arith)
             ∙ hand.holds.region r.name region.declaration region.found region.kind region.has ∙ start_is)
             (subst (λ (v : ℕ). HoldsValue v (pos 0)) (sym (at_slot 1 (omega arith) ∙ l.loaded.keeps 1 (omega arith))) (holds_number 0 (omega arith)))
-            (stored_else l.registers 6 0 count m_ 4 (inl (omega arith))),
+            (stored_else l.registers 6 0 count at_start 4 (inl (omega arith))),
         subst₂ (λ (o : FrameWord → ℕ) (b : Words). Chain (strands lengths code) (cost 1 1 0 room) (Strand (at_work own at)) a
             (Calling (waits o next None None) (Strand (at_work own' (entry_of code h)))) b)
-            (stored_own l.registers 6 0 count m_) (stored_shared l.registers 6 0 count m_) chain,
+            (stored_own l.registers 6 0 count at_start) (stored_shared l.registers 6 0 count at_start) chain,
       )

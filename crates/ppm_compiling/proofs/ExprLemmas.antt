@@ -1,8 +1,8 @@
 -- The code of an expression, whatever follows: its value comes into the register, or its trap ends the strand; nothing is written.
-use Rattle.std.proofs.Common.{◌≡◌, ◌<◌, ◌≤◌, ℕ, zero, suc, ◌+◌, ◌-◌, ◌^◌, Bool, true, false, cond, nat_lt, ℤ, pos, negsuc}
-use Rattle.std.proofs.Common.{List, [], ◌∷◌, ◌++◌, Result, Ok, Err, Some, None, get_or, length, refl, sym, ap, ap₂, ◌∙◌, subst, arith}
-use Rattle.std.specs.Prelude.{slice_index, slice_set, ◌==◌, ◌+ℤ◌, ◌-ℤ◌, ◌*ℤ◌, neg_ℤ, int_lt, int_le, int_div, int_rem, unsigned_abs, not, ◌&&◌, ◌||◌}
-use Rattle.std.specs.Prelude.{FitsSigned}
+use Rattle.std.proofs.Common.{◌≡◌, ◌<◌, ◌≤◌, ℕ, zero, suc, ◌+◌, ◌-◌, ◌^◌, Bool, true, false, cond, nat_lt, ℤ, pos, negsuc, List, [], ◌∷◌}
+use Rattle.std.proofs.Common.{◌++◌, Result, Ok, Err, Some, None, get_or, length, refl, sym, ap, ap₂, ◌∙◌, subst, arith}
+use Rattle.std.specs.Prelude.{slice_index, slice_set, ◌==◌, ◌+ℤ◌, ◌-ℤ◌, ◌*ℤ◌, neg_ℤ, int_lt, int_le}
+use Rattle.std.specs.Prelude.{int_div, int_rem, unsigned_abs, not, ◌&&◌, ◌||◌, FitsSigned}
 use Rattle.std.specs.Int.{w64}
 use Rattle.std.specs.List.{All, sum}
 use Rattle.std.specs.Ordering.{int_eq}
@@ -12,7 +12,6 @@ use Rattle.std.proofs.lemmas.Int.{rem_below, ints}
 use Rattle.std.proofs.lemmas.Nat.{mod-mul-add, div-mul-add}
 use Rattle.std.proofs.lemmas.List.{get_or-set_same, get_or-set_other, length-set, length-append, take_at, drop_at}
 use Rattle.std.proofs.lemmas.List.Elements.{All-head, All-tail, All-take, All-drop}
-use Rattle.std.proofs.lemmas.List.Sums.{sum_by-cons}
 use Rattle.ppm_words.specs.TwosComplement.{word_of, value_of}
 use Rattle.ppm_words.specs.declared.trap.Trap.TheVariants as trap
 use Rattle.ppm_words.proofs.TwosComplementLemmas.{value_of-word_of, word_of-below, value_of-fits}
@@ -46,10 +45,11 @@ use Rattle.ppm_tree.specs.State.{TrapAt, then_with, at_line, tested, unless_deci
 use Rattle.ppm_owning.proofs.WordLemmas.{index_below}
 use Rattle.ppm_regions.specs.Scope.{Declaration, Scope, declared, is_region}
 use Rattle.ppm_translation.specs.Layout.{Layout, slot_of, register_with, register}
-use Rattle.ppm_translation.specs.Expressions.{branch_size, last_size, size_of, truth_code, operator_code, right_register, branch_code}
-use Rattle.ppm_translation.specs.Expressions.{expression_code}
+use Rattle.ppm_translation.specs.Expressions.{branch_size, last_size, size_of, truth_code, operator_code}
+use Rattle.ppm_translation.specs.Expressions.{right_register, branch_code, expression_code}
 use Rattle.ppm_translation.specs.Fits.{Has, IsKept, FitsExpression}
-use Rattle.ppm_compiling.proofs.Holding.{HoldsValue, offset_of, region_word, Lies}
+use Rattle.ppm_translation.proofs.RegionWords.{array_within, offset_of, region_word}
+use Rattle.ppm_compiling.proofs.Holding.{HoldsValue, Lies}
 
 -- p from m does what q from m' does
 pub record Goes (p : Capsule Where End) (m : Memory Where) (q : Capsule Where End) (m' : Memory Where) : Type 0 where
@@ -202,7 +202,7 @@ register_index_by : (n : ℕ) (small : Bool) (h : nat_lt n 64 ≡ small) → n <
 register_index_by n true h low = refl
 register_index_by n false h low = let far : 64 ≤ n = ltb-false n 64 h in absurd (omega (arith, far, low))
 
-pub register_index : (n : ℕ) → n < 64 → (register n).index ≡ n
+register_index : (n : ℕ) → n < 64 → (register n).index ≡ n
 register_index n low = register_index_by n (nat_lt n 64) refl low
 
 -- a register that has been set, and the others
@@ -221,7 +221,7 @@ pub set_keeps : (g : List ℕ) (d w i : ℕ) → d < 64 → i < d → slice_inde
 set_keeps g d w i low below = set_else g d w i low (λ e. absurd (omega (arith, e, below)))
 
 -- the value of a register that has been set, where those below are as they were
-pub in_reg : (g h : List ℕ) (d w : ℕ) (v : ℤ) → d < 64 → length h ≡ 64 → ((i : ℕ) → i < d → slice_index h i ≡ slice_index g i) → HoldsValue w v
+in_reg : (g h : List ℕ) (d w : ℕ) (v : ℤ) → d < 64 → length h ≡ 64 → ((i : ℕ) → i < d → slice_index h i ≡ slice_index g i) → HoldsValue w v
     → InReg d g v (slice_set h (register d).index w)
 in_reg g h d w v low count keeps is = record {
   value = subst (λ (w : ℕ). HoldsValue w v) (sym (set_at h d w count low)) is;
@@ -256,7 +256,7 @@ module _ (W : ℕ) where
   bind_meets n at mid rest K L p m (Err stop) f h go = h
 
 -- a number that passes the test is a value, by the language as by the code
-pub fits_signed : (z : ℤ) → fits z ≡ true → FitsSigned w64 z
+fits_signed : (z : ℤ) → fits z ≡ true → FitsSigned w64 z
 fits_signed (pos n) e = grind arith
 fits_signed (negsuc n) e = grind arith
 
@@ -278,7 +278,7 @@ value_fits w v h = subst (λ (v : ℤ). FitsSigned w64 v) h.value (value_of-fits
 pub holds_number : (n : ℕ) → n < 2 ^ 63 → HoldsValue n (pos n)
 holds_number n low = holds_word (pos n) (record { sfits = low })
 
-pub word_of-value_of : (w : ℕ) → w < 2 ^ 64 → word_of (value_of w) ≡ w
+word_of-value_of : (w : ℕ) → w < 2 ^ 64 → word_of (value_of w) ≡ w
 word_of-value_of w low = by (nat_lt w (2 ^ 63))
   where
     by : (b : Bool) → word_of (cond b (pos w) (negsuc (2 ^ 64 - 1 - w))) ≡ w
@@ -456,15 +456,6 @@ module _ (W : ℕ) (m : Memory Where) (g h : List ℕ) (d : ℕ) (low : suc d < 
         in_reg g zeroed d (cond b 1 0) (truth b) (omega (arith, low)) (set_count h (suc d) 0 count)
             (λ i below. set_keeps h (suc d) 0 i low (omega (arith, below)) ∙ keeps i below) (holds_truth b),
       )
-
--- Regions lie within the words of all arrays.
-pub sum_cons : (n : ℕ) (lengths : List ℕ) → sum (n ∷ lengths) ≡ n + sum lengths
-sum_cons n lengths = sum_by-cons (λ (n : ℕ). n) n lengths
-
-pub array_within : (lengths : List ℕ) (k : ℕ) → offset_of lengths k + get_or lengths k 0 ≤ sum lengths
-array_within [] k = omega arith
-array_within (n ∷ lengths) zero = omega (arith, sum_cons n lengths)
-array_within (n ∷ lengths) (suc k) = let rest = array_within lengths k in omega (arith, rest, sum_cons n lengths)
 
 -- a region that lies in its array, of arrays with so many words together at most
 pub record IsPlaced (lengths : List ℕ) (r : Region) : Type 0 where

@@ -1,8 +1,9 @@
 -- What the simulation stands on: what each construct's capsules do, and that the code and the names of a program are as they are to be.
-use Rattle.std.proofs.Common.{◌≡◌, ◌≤◌, ℕ, ◌*◌, List, [], ◌∷◌, Some, length}
+use Rattle.std.proofs.Common.{◌≡◌, ◌≤◌, ℕ, ◌+◌, ◌*◌, List, [], ◌∷◌, Some, length}
 use Rattle.std.specs.List.{sum, sum_by}
 use Rattle.std.specs.Set.{distinct_count}
 use Rattle.std.specs.Str.{bytes_eq}
+use Rattle.std.proofs.lemmas.List.Sums.{sum_by-append}
 use Rattle.ppm_strands.specs.Tree.{Words}
 use Rattle.ppm_code.specs.declared.code.CodeParts.{CodeParts}
 use Rattle.ppm_code.specs.declared.location.FrameWord.{FrameWord}
@@ -10,7 +11,7 @@ use Rattle.ppm_tree.specs.declared.named.Named.{Named}
 use Rattle.ppm_tree.specs.Tree.{Block, Give, Procedure, ProgramTree}
 use Rattle.ppm_tree.specs.Parts.{nodes}
 use Rattle.ppm_tree.specs.State.{Frame, Arrays, procedure_named}
-use Rattle.ppm_tree.specs.Meaning.{Counts}
+use Rattle.ppm_tree.specs.Meaning.{Counts, both}
 use Rattle.ppm_regions.specs.Scope.{Scope, each_scope}
 use Rattle.ppm_regions.specs.Admission.{IsAdmitted}
 use Rattle.ppm_bounds.specs.Names.{without, free_names}
@@ -20,18 +21,21 @@ use Rattle.ppm_translation.specs.Slots.{named_slots}
 use Rattle.ppm_translation.specs.Standing.{HasBodies}
 use Rattle.ppm_translation.specs.Statements.{hidden_layout}
 use Rattle.ppm_translation.proofs.CaughtLemmas.{IsEachOnce}
+use Rattle.ppm_translation.proofs.RegionWords.{lengths_of}
 use Rattle.ppm_compiling.specs.Correct.{words_begun}
 use Rattle.ppm_compiling.proofs.ChainLemmas.{Cost, cost}
-use Rattle.ppm_compiling.proofs.Doing.{AreSmall, LetDoes, AssignDoes, PutDoes, TestDoes, SplitDoes, GiveDoes, OnwardDoes, FinishDoes, CallDoes, ForkDoes, EachDoes, EntryDoes, HalvingDoes}
-use Rattle.ppm_compiling.proofs.Places.{IsModest, lengths_of}
+use Rattle.ppm_compiling.proofs.Doing.{AreSmall, LetDoes, AssignDoes, PutDoes, TestDoes, SplitDoes, GiveDoes, OnwardDoes}
+use Rattle.ppm_compiling.proofs.Doing.{FinishDoes, CallDoes, ForkDoes, EachDoes, EntryDoes, HalvingDoes}
+use Rattle.ppm_compiling.proofs.Places.{IsModest}
 
 module _ (lengths : List ℕ) (code : CodeParts) where
   abbrev pub Everywhere : (Scope → Layout → Frame → (FrameWord → ℕ) → Words → Arrays → ℕ → ℕ → Type 0) → Type 0
-  Everywhere P = (scope : Scope) (layout : Layout) (f : Frame) (own : FrameWord → ℕ) (a : Words) (arrays : Arrays) (at next : ℕ) → P scope layout f own a arrays at next
+  Everywhere P = (scope : Scope) (layout : Layout) (f : Frame) (own : FrameWord → ℕ) (a : Words) (arrays : Arrays) (at next : ℕ)
+      → P scope layout f own a arrays at next
 
   -- all constructs
   pub record AllDo (procedures : List Procedure) : Type 0 where
-    pub let_ : Everywhere (LetDoes lengths code)
+    pub declare : Everywhere (LetDoes lengths code)
     pub assign : Everywhere (AssignDoes lengths code)
     pub put : Everywhere (PutDoes lengths code)
     pub test : Everywhere (TestDoes lengths code)
@@ -53,12 +57,12 @@ pub record IsModestProcedure (p : Procedure) : Type 0 where
 
 -- what is given
 pub record Given (t : ProgramTree) (code : CodeParts) : Type 0 where
-  pub does : AllDo (lengths_of t) code t.procedures
+  pub does : AllDo (lengths_of t.arrays) code t.procedures
   pub stands : HasBodies t.procedures code
   pub fits : (x : List ℕ) → FitsProcedure t.procedures (procedure_named t.procedures x)
   pub modest : (x : List ℕ) → IsModestProcedure (procedure_named t.procedures x)
   pub admitted : IsAdmitted t
-  pub small : sum (lengths_of t) ≤ 4194304
+  pub small : sum (lengths_of t.arrays) ≤ 4194304
   pub counted : (scope : Scope) (layout : Layout) (i x r : Named) (block : Block) → IsEachOnce layout → IsNew layout i.name → IsNew layout x.name
       → FitsBlock t.procedures (each_scope scope r i x) (hidden_layout layout i x block) block
       → length (caught layout block) ≡ distinct_count bytes_eq (without (i.name ∷ x.name ∷ []) (free_names block))
@@ -66,6 +70,9 @@ pub record Given (t : ProgramTree) (code : CodeParts) : Type 0 where
 -- what a stretch may cost: two capsules a turn, its forks, and the words of the frames that it begins
 abbrev pub words_of : ProgramTree → Counts → ℕ
 words_of t k = sum_by (words_begun t.procedures) k.begun
+
+pub words_both : (t : ProgramTree) (j k : Counts) → words_of t (both j k) ≡ words_of t j + words_of t k
+words_both t j k = sum_by-append (words_begun t.procedures) j.begun k.begun
 
 abbrev pub budget : ProgramTree → Counts → Cost
 budget t k = cost 0 (2 * k.turns) k.forks (words_of t k)

@@ -6,12 +6,13 @@ use Rattle.ppm_bounds.specs.Bounds.{IsWithinBounds}
 use Rattle.ppm_translation.specs.Routines.{code_of}
 use Rattle.ppm_translation.proofs.FitsLemmas.{names_have_slots}
 use Rattle.ppm_translation.proofs.PlaceLemmas.{procedures_have}
+use Rattle.ppm_translation.proofs.RegionWords.{lengths_of}
 use Rattle.ppm_compiling.proofs.CountLemmas.{counted}
 use Rattle.ppm_compiling.proofs.Given.{AllDo, Given}
 use Rattle.ppm_compiling.proofs.LimitLemmas.{modest_procedures, small_arrays}
-use Rattle.ppm_compiling.proofs.Places.{lengths_of}
 
-pub all_given : (t : ProgramTree) → IsWithin t → IsAdmitted t → IsWithinBounds t → AllDo (lengths_of t) (code_of t) t.procedures → Given t (code_of t)
+pub all_given : (t : ProgramTree) → IsWithin t → IsAdmitted t → IsWithinBounds t → AllDo (lengths_of t.arrays) (code_of t) t.procedures
+    → Given t (code_of t)
 all_given t within admitted bounds does = record {
   does = does;
   stands = procedures_have t;

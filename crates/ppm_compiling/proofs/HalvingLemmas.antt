@@ -1,6 +1,6 @@
 -- The hidden procedure of an `each` halves what it has in hand: it forks itself over both halves.
-use Rattle.std.proofs.Common.{◌≡◌, ◌≤◌, ◌<◌, ℕ, suc, ◌+◌, ◌*◌, ◌/◌, ◌^◌, Bool, nat_lt, nat_le, pos, List, [], ◌∷◌, None, length}
-use Rattle.std.proofs.Common.{inl, inr, replicate, refl, sym, ap, ap₂, ◌∙◌, subst, subst₂, arith}
+use Rattle.std.proofs.Common.{◌≡◌, ◌≤◌, ◌<◌, ℕ, suc, ◌+◌, ◌*◌, ◌/◌, ◌^◌, Bool, nat_lt, nat_le, pos, List, [], ◌∷◌, None}
+use Rattle.std.proofs.Common.{length, inl, inr, replicate, refl, sym, ap, ap₂, ◌∙◌, subst, subst₂, arith}
 use Rattle.std.specs.Prelude.{slice_index, slice_set, if◌then◌else◌, ◌-◌, ◌&&◌, ◌+ℤ◌}
 use Rattle.std.specs.List.{sum}
 use Rattle.std.proofs.lemmas.Bool.{lt-ltb, le-leb}
@@ -31,8 +31,9 @@ use Rattle.ppm_translation.specs.Layout.{Layout, caught, register}
 use Rattle.ppm_translation.specs.Numbers.{halving, halved}
 use Rattle.ppm_translation.specs.Slots.{hidden_slots, frame_words, fork_words}
 use Rattle.ppm_translation.specs.Statements.{halving_code, names_code, stores_code}
+use Rattle.ppm_translation.proofs.RegionWords.{offset_of, region_word}
 use Rattle.ppm_compiling.proofs.ChainLemmas.{cost, Chain}
-use Rattle.ppm_compiling.proofs.Holding.{HoldsValue, offset_of, region_word, at_work, waits, strands}
+use Rattle.ppm_compiling.proofs.Holding.{HoldsValue, at_work, waits, strands}
 use Rattle.ppm_compiling.proofs.Doing.{HalvingDoes}
 use Rattle.ppm_compiling.proofs.ExprLemmas.{Goes, goes_on, goes_equal, sets, set_count, holds_number}
 use Rattle.ppm_compiling.proofs.StepLemmas.{start_at, whole}
@@ -41,7 +42,7 @@ use Rattle.ppm_compiling.proofs.BlockLemmas.{Loads, names_go, half_stored, half_
 use Rattle.ppm_compiling.proofs.EntryLemmas.{value_is}
 
 -- half of a small number
-pub half_does : (line : ℕ) (d : Register) (m : ℕ) → m ≤ 4194304 → quotient_of line d (value_of m) (value_of 2) ≡ Sets d (m / 2)
+half_does : (line : ℕ) (d : Register) (m : ℕ) → m ≤ 4194304 → quotient_of line d (value_of m) (value_of 2) ≡ Sets d (m / 2)
 half_does line d m low =
     ap (λ z. quotient_of line d z (value_of 2)) (value_is m (omega (arith, low)))
     ∙ ap (λ (b : Bool). if b then Sets d (m / 2) else traps Overflow line) (lt-ltb (m / 2) (2 ^ 63) (omega (arith, low)))
@@ -55,21 +56,21 @@ sum_does line d word n k is low_n low_k =
 
 -- the word of a region with this start and length, cut
 module _ (line : ℕ) (d : Register) (start count at : ℕ) (low : count ≤ 4194304) (within : at ≤ count) where
-  abbrev word_ : ℕ
-  word_ = start * 2 ^ 32 + count
+  abbrev whole_word : ℕ
+  whole_word = start * 2 ^ 32 + count
 
-  is_start : start_of word_ ≡ start
+  is_start : start_of whole_word ≡ start
   is_start = div-mul-add start (2 ^ 32) count (omega (arith, low))
 
-  is_length : length_of word_ ≡ count
+  is_length : length_of whole_word ≡ count
   is_length = mod-mul-add start (2 ^ 32) count (omega (arith, low))
 
-  left_does : cut_left_of line d word_ at ≡ Sets d (start * 2 ^ 32 + at)
+  left_does : cut_left_of line d whole_word at ≡ Sets d (start * 2 ^ 32 + at)
   left_does =
       ap₂ (λ (s n : ℕ). if nat_le at n then Sets d (s * 2 ^ 32 + at) else traps Split line) is_start is_length
       ∙ ap (λ (b : Bool). if b then Sets d (start * 2 ^ 32 + at) else traps Split line) (le-leb at count within)
 
-  right_does : start ≤ 4194304 → cut_right_of line d word_ at ≡ Sets d ((start + at) * 2 ^ 32 + (count - at))
+  right_does : start ≤ 4194304 → cut_right_of line d whole_word at ≡ Sets d ((start + at) * 2 ^ 32 + (count - at))
   right_does small =
       ap₂ (λ (s n : ℕ). if nat_le at n && nat_lt (s + at) (2 ^ 32) then Sets d ((s + at) * 2 ^ 32 + (n - at)) else traps Split line)
       is_start is_length
@@ -81,8 +82,8 @@ module _ (lengths : List ℕ) (code : CodeParts) (scope : Scope) (layout : Layou
   abbrev W : ℕ
   W = sum lengths
 
-  abbrev m_ : Memory Where
-  m_ = start_at lengths code own (halving at) a
+  abbrev at_start : Memory Where
+  at_start = start_at lengths code own (halving at) a
 
   -- the registers, one after the other
   module _ (half left right total : ℕ) where
@@ -125,18 +126,18 @@ module _ (lengths : List ℕ) (code : CodeParts) (scope : Scope) (layout : Layou
           → cut_left_of line (register 2) (own (Slot 0)) half ≡ Sets (register 2) left
           → cut_right_of line (register 3) (own (Slot 0)) half ≡ Sets (register 3) right
           → fitting line (register 5) (value_of (own (Slot 1)) +ℤ value_of half) ≡ Sets (register 5) total
-          → Goes (capsule_from W 4 0 at_half with_length) m_ (capsule_from W 9 0 rest with_total) m_
+          → Goes (capsule_from W 4 0 at_half with_length) at_start (capsule_from W 9 0 rest with_total) at_start
       front_goes is_half is_left is_right is_total =
           let one = sets W 4 (instr.Div (register 1) (register 1) (register 2) line) at_left with_length (register 1) half is_half in
           let two = sets W 5 (instr.CutLeft (register 2) (register 0) (register 1) line) at_right with_half (register 2) left is_left in
           let three = sets W 6 (instr.CutRight (register 3) (register 0) (register 1) line) at_index with_left (register 3) right is_right in
           let five = sets W 8 (instr.Add (register 5) (register 4) (register 1) line) rest with_index (register 5) total is_total in
-          let loaded : Goes (capsule_from W 7 0 at_index with_right) m_ (capsule_from W 8 0 at_sum with_index) m_ =
+          let loaded : Goes (capsule_from W 7 0 at_index with_right) at_start (capsule_from W 8 0 at_sum with_index) at_start =
           record { ends = refl; left = refl; asks = refl } in
-          goes_on (goes_equal (capsule_from W 4 0 at_half with_length) (capsule_from W 5 0 at_left with_half) m_ one)
-          (goes_on (goes_equal (capsule_from W 5 0 at_left with_half) (capsule_from W 6 0 at_right with_left) m_ two)
-          (goes_on (goes_equal (capsule_from W 6 0 at_right with_left) (capsule_from W 7 0 at_index with_right) m_ three)
-          (goes_on loaded (goes_equal (capsule_from W 8 0 at_sum with_index) (capsule_from W 9 0 rest with_total) m_ five))))
+          goes_on (goes_equal (capsule_from W 4 0 at_half with_length) (capsule_from W 5 0 at_left with_half) at_start one)
+          (goes_on (goes_equal (capsule_from W 5 0 at_left with_half) (capsule_from W 6 0 at_right with_left) at_start two)
+          (goes_on (goes_equal (capsule_from W 6 0 at_right with_left) (capsule_from W 7 0 at_index with_right) at_start three)
+          (goes_on loaded (goes_equal (capsule_from W 8 0 at_sum with_index) (capsule_from W 9 0 rest with_total) at_start five))))
 
     with_total_count : length with_total ≡ 64
     with_total_count =
@@ -146,8 +147,8 @@ module _ (lengths : List ℕ) (code : CodeParts) (scope : Scope) (layout : Layou
 
   -- what stands behind these: the names, and then both frames are stored
   module _ (h slots count line : ℕ) (half left right total : ℕ) (few : count ≤ 24) where
-    abbrev end_ : End
-    end_ = ends.Fork h h (halved at) None None
+    abbrev fork_end : End
+    fork_end = ends.Fork h h (halved at) None None
 
     abbrev right_offset : ℕ
     right_offset = 11 + frame_words slots
@@ -155,28 +156,29 @@ module _ (lengths : List ℕ) (code : CodeParts) (scope : Scope) (layout : Layou
     abbrev right_stores : List Instr
     right_stores =
         instr.StoreNew right_offset (register 3) ∷ instr.StoreNew (suc right_offset) (register 5)
-        ∷ stores_code (suc (suc right_offset)) 6 count (instr.Ends end_ ∷ [])
+        ∷ stores_code (suc (suc right_offset)) 6 count (instr.Ends fork_end ∷ [])
 
     abbrev left_stores : List Instr
     left_stores = instr.StoreNew 11 (register 2) ∷ instr.StoreNew 12 (register 4) ∷ stores_code 13 6 count right_stores
 
-    named : Loads W m_ 6 count (λ k. own (Slot (2 + k))) 9 (names_code 2 6 count left_stores) left_stores (with_total half left right total)
-    named = names_go W m_ 2 6 count 9 left_stores (with_total half left right total) (with_total_count half left right total) (omega (arith, few))
+    named : Loads W at_start 6 count (λ k. own (Slot (2 + k))) 9 (names_code 2 6 count left_stores) left_stores (with_total half left right total)
+    named = names_go W at_start 2 6 count 9 left_stores (with_total half left right total) (with_total_count half left right total)
+        (omega (arith, few))
 
     -- the registers then, and the memory with the left frame and with both
     abbrev registers : List ℕ
     registers = named.registers
 
     abbrev with_left_frame : Memory Where
-    with_left_frame = half_stored registers 11 2 4 count m_
+    with_left_frame = half_stored registers 11 2 4 count at_start
 
     abbrev with_frames : Memory Where
     with_frames = half_stored registers right_offset 3 5 count with_left_frame
 
-    stores_goes : Goes (capsule_from W named.number 0 left_stores registers) m_ (Ends end_) with_frames
+    stores_goes : Goes (capsule_from W named.number 0 left_stores registers) at_start (Ends fork_end) with_frames
     stores_goes =
-        let first = half_go registers 11 2 4 count m_ W named.number right_stores (omega arith) (omega arith) (omega (arith, few)) in
-        let second = half_go registers right_offset 3 5 count with_left_frame W first.0 (instr.Ends end_ ∷ []) (omega arith) (omega arith)
+        let first = half_go registers 11 2 4 count at_start W named.number right_stores (omega arith) (omega arith) (omega (arith, few)) in
+        let second = half_go registers right_offset 3 5 count with_left_frame W first.0 (instr.Ends fork_end ∷ []) (omega arith) (omega arith)
         (omega (arith, few)) in
         goes_on first.1 second.1
 
@@ -185,32 +187,35 @@ module _ (lengths : List ℕ) (code : CodeParts) (scope : Scope) (layout : Layou
         → cut_left_of line (register 2) (own (Slot 0)) half ≡ Sets (register 2) left
         → cut_right_of line (register 3) (own (Slot 0)) half ≡ Sets (register 3) right
         → fitting line (register 5) (value_of (own (Slot 1)) +ℤ value_of half) ≡ Sets (register 5) total
-        → Goes (capsule_from W 4 0 (at_half half left right total line (names_code 2 6 count left_stores)) (with_length half left right total)) m_
-        (Ends end_) with_frames
+        → Goes (capsule_from W 4 0 (at_half half left right total line (names_code 2 6 count left_stores))
+        (with_length half left right total)) at_start
+        (Ends fork_end) with_frames
     all_goes is_half is_left is_right is_total =
         goes_on (front_goes half left right total line (names_code 2 6 count left_stores) is_half is_left is_right is_total)
         (goes_on named.goes stores_goes)
 
     -- the two frames, and what they keep of this one
-    left_frame : 2 + count ≤ slots → IsHalf registers 11 2 4 count m_ (built left_at (new_of with_frames))
-    left_frame fit = half_built registers 11 2 4 count m_ with_frames 5 refl
+    left_frame : 2 + count ≤ slots → IsHalf registers 11 2 4 count at_start (built left_at (new_of with_frames))
+    left_frame fit = half_built registers 11 2 4 count at_start with_frames 5 refl
         (λ k low high. half_else registers right_offset 3 5 count with_left_frame k (inl (omega (arith, high, fit))))
-        (half_else registers right_offset 3 5 count with_left_frame 9 (inl (omega arith)) ∙ half_else registers 11 2 4 count m_ 9 (inl (omega arith)))
+        (half_else registers right_offset 3 5 count with_left_frame 9 (inl (omega arith))
+        ∙ half_else registers 11 2 4 count at_start 9 (inl (omega arith)))
 
     right_frame : 2 + count ≤ slots → slots_of code h ≡ slots
         → IsHalf registers right_offset 3 5 count with_left_frame (built (right_at code h) (new_of with_frames))
     right_frame fit is = half_built registers right_offset 3 5 count with_left_frame with_frames (right_at code h) (omega (arith, is))
         (λ k low high. refl)
         (half_else registers right_offset 3 5 count with_left_frame (right_at code h + 4) (inl (omega (arith, is)))
-        ∙ half_else registers 11 2 4 count m_ (right_at code h + 4) (inr (omega (arith, is, fit))))
+        ∙ half_else registers 11 2 4 count at_start (right_at code h + 4) (inr (omega (arith, is, fit))))
 
     kept : (k : ℕ) → k < count → slice_index registers (6 + k) ≡ own (Slot (suc (suc k)))
     kept k low = named.loaded.words k low ∙ ap (λ (s : ℕ). own (Slot s)) (let e : 2 + k ≡ suc (suc k) = omega arith in e)
 
     -- the whole capsule
     forks : instrs_of code (halving at) ≡ halving_code at h slots count line → at ≡ entry_of code h
-        → Goes (capsule_from W 4 0 (at_half half left right total line (names_code 2 6 count left_stores)) (with_length half left right total)) m_
-        (Ends end_) with_frames
+        → Goes (capsule_from W 4 0 (at_half half left right total line (names_code 2 6 count left_stores))
+        (with_length half left right total)) at_start
+        (Ends fork_end) with_frames
         → Chain (strands lengths code) (cost 1 1 1 (fork_words slots slots)) (Strand (at_work own (halving at))) a
         (Forking (waits own (halved at) None None) (Strand (at_work (built left_at (new_of with_frames)) at))
         (Strand (at_work (built (right_at code h) (new_of with_frames)) at))) a
@@ -218,17 +223,17 @@ module _ (lengths : List ℕ) (code : CodeParts) (scope : Scope) (layout : Layou
         let room = fork_words slots slots in
         let first = built left_at (new_of with_frames) in
         let second = built (right_at code h) (new_of with_frames) in
-        let chain = whole lengths code (halving at) (halving_code at h slots count line) stands own a end_ with_frames room goes.ends goes.left
+        let chain = whole lengths code (halving at) (halving_code at h slots count line) stands own a fork_end with_frames room goes.ends goes.left
         (ap (λ (z : ℕ). room + z) goes.asks ∙ (let e : room + 0 ≡ room = omega arith in e)) in
         subst (λ (e : ℕ). Chain (strands lengths code) (cost 1 1 1 room) (Strand (at_work own (halving at))) a
         (Forking (waits own (halved at) None None) (Strand (at_work first e)) (Strand (at_work second e))) a) (sym is_entry)
         (subst₂ (λ (w : FrameWord → ℕ) (b : Words). Chain (strands lengths code) (cost 1 1 1 room) (Strand (at_work own (halving at))) a
         (Forking (waits w (halved at) None None) (Strand (at_work first (entry_of code h))) (Strand (at_work second (entry_of code h)))) b)
-        (half_own registers right_offset 3 5 count with_left_frame ∙ half_own registers 11 2 4 count m_)
-        (half_shared registers right_offset 3 5 count with_left_frame ∙ half_shared registers 11 2 4 count m_) chain)
+        (half_own registers right_offset 3 5 count with_left_frame ∙ half_own registers 11 2 4 count at_start)
+        (half_shared registers right_offset 3 5 count with_left_frame ∙ half_shared registers 11 2 4 count at_start) chain)
 
   pub halving_does : HalvingDoes lengths code scope layout f own a arrays at next
-  halving_does i x r block h q n m stands has_slots is_entry holds new_i new_x other no_i no_x distinct few bound within two =
+  halving_does i x r block h q n m stands has_slots is_entry holds other no_i no_x few bound within =
       let count = length (caught layout block) in
       let slots = hidden_slots count block in
       let half = m / 2 in

@@ -1,5 +1,6 @@
 -- Frames that hold a meaning's frame still do in front of what was declared, and with a value in a target.
-use Rattle.std.proofs.Common.{◌≡◌, ℕ, ℤ, cond, Bool, true, false, List, [], ◌∷◌, ◌++◌, Option, Some, None, map, get_or, ◌==◌, refl, sym, ap, ◌∙◌, subst, append-nil}
+use Rattle.std.proofs.Common.{◌≡◌, ℕ, ℤ, cond, Bool, true, false, List, [], ◌∷◌, ◌++◌, Option, Some, None}
+use Rattle.std.proofs.Common.{map, get_or, ◌==◌, refl, sym, ap, ◌∙◌, subst, append-nil}
 use Rattle.std.proofs.lemmas.Bool.{eq-eqb, ne_eqb}
 use Rattle.std.specs.Str.{bytes_eq}
 use Rattle.ppm_code.specs.declared.location.FrameWord.{FrameWord}
@@ -17,16 +18,18 @@ use Rattle.ppm_translation.specs.Layout.{Layout, slot_of, target_of}
 use Rattle.ppm_translation.specs.Fits.{Has, FitsTarget}
 use Rattle.ppm_translation.specs.Statements.{with_lets, with_parts}
 use Rattle.ppm_translation.proofs.LayoutLemmas.{slot_in_front, has_in_front}
-use Rattle.ppm_compiling.proofs.Holding.{HoldsValue, Holds, region_word}
+use Rattle.ppm_translation.proofs.RegionWords.{region_word}
+use Rattle.ppm_compiling.proofs.Holding.{HoldsValue, Holds}
 use Rattle.ppm_compiling.proofs.SlotLemmas.{named_at}
 
 -- names with one slot are one
-pub one_name : (layout : Layout) (x y : List ℕ) → Has layout x → Has layout y → slot_of layout x ≡ slot_of layout y → x ≡ y
+one_name : (layout : Layout) (x y : List ℕ) → Has layout x → Has layout y → slot_of layout x ≡ slot_of layout y → x ≡ y
 one_name layout x y hx hy e = sym (named_at layout x hx) ∙ ap (λ (k : ℕ). get_or layout k []) e ∙ named_at layout y hy
 
 module _ (lengths : List ℕ) where
   -- in front of what was declared further on
-  pub holds_front : (scope more : Scope) (layout others : Layout) (f : Frame) (own : FrameWord → ℕ) → Holds lengths (scope ++ more) (layout ++ others) f own
+  pub holds_front : (scope more : Scope) (layout others : Layout) (f : Frame) (own : FrameWord → ℕ)
+      → Holds lengths (scope ++ more) (layout ++ others) f own
       → Holds lengths scope layout f own
   holds_front scope more layout others f own h = record {
     local = λ x d found kind has. subst (λ (k : ℕ). HoldsValue (own (Slot k)) (f.locals x)) (slot_in_front x layout others has)
@@ -36,7 +39,8 @@ module _ (lengths : List ℕ) where
     value = h.value;
   }
 
-  no_names : (scope : Scope) (layout : Layout) (f : Frame) (own : FrameWord → ℕ) → Holds lengths (scope ++ []) layout f own → Holds lengths scope layout f own
+  no_names : (scope : Scope) (layout : Layout) (f : Frame) (own : FrameWord → ℕ) → Holds lengths (scope ++ []) layout f own
+      → Holds lengths scope layout f own
   no_names scope layout f own h = subst (λ (s : Scope). Holds lengths s layout f own) (append-nil scope) h
 
   -- behind a statement what was in front of it is held
@@ -85,7 +89,8 @@ module _ (lengths : List ℕ) where
   holds_delivered scope layout f own None word v fits value h = record { local = h.local; region = h.region; value = h.value }
   holds_delivered scope layout f own (Some x) word v fits value h = record {
     local = λ z d found kind has. at z has (h.local z d found kind has) (bytes_eq x.name z) refl;
-    region = λ z d found kind has. ap (λ (b : Bool). cond b word (own (Slot (slot_of layout z)))) (other_slot z d found kind has) ∙ h.region z d found kind has;
+    region = λ z d found kind has. ap (λ (b : Bool). cond b word (own (Slot (slot_of layout z)))) (other_slot z d found kind has)
+        ∙ h.region z d found kind has;
     value = h.value;
   }
     where

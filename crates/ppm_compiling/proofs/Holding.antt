@@ -1,5 +1,5 @@
 -- How the frames of the code hold the frames of the meaning, and its shared words the arrays.
-use Rattle.std.proofs.Common.{◌≡◌, ◌≤◌, ◌<◌, ℕ, zero, suc, ◌+◌, ◌*◌, ◌^◌, ℤ, pos, Bool, true, false, List, [], ◌∷◌, Option, Some, None, Result, Ok, Err, get_or, length}
+use Rattle.std.proofs.Common.{◌≡◌, ◌≤◌, ◌<◌, ℕ, ◌+◌, ◌^◌, ℤ, pos, Bool, true, false, List, Option, Some, None, Result, Ok, Err, get_or, length}
 use Rattle.std.specs.List.{sum}
 use Rattle.ppm_strands.specs.Tree.{Words, Tree, Strand, Call as Calling, Fork as Forking, Over, Code}
 use Rattle.ppm_capsules.specs.Strand.{Frame as CapsuleFrame, code_of}
@@ -20,6 +20,7 @@ use Rattle.ppm_translation.specs.Layout.{Layout, slot_of, parameter_layout}
 use Rattle.ppm_regions.specs.Scope.{scope_of}
 use Rattle.ppm_translation.specs.Fits.{Has}
 use Rattle.ppm_translation.specs.Statements.{number_of}
+use Rattle.ppm_translation.proofs.RegionWords.{offset_of, region_word}
 use Rattle.ppm_compiling.proofs.ChainLemmas.{Cost, cost, Chain}
 
 -- a word stands for a value
@@ -27,17 +28,7 @@ pub record HoldsValue (word : ℕ) (v : ℤ) : Type 0 where
   pub value : value_of word ≡ v
   pub below : word < 2 ^ 64
 
--- the first word of an array, where arrays of these lengths lie one after the other
-abbrev pub offset_of : List ℕ → ℕ → ℕ
-offset_of [] k = 0
-offset_of (n ∷ lengths) zero = 0
-offset_of (n ∷ lengths) (suc k) = n + offset_of lengths k
-
 module _ (lengths : List ℕ) where
-  -- the word of a region
-  abbrev pub region_word : Region → ℕ
-  region_word r = (offset_of lengths r.array + r.start) * 2 ^ 32 + r.length
-
   -- the shared words are those of the arrays
   pub record Shows (a : Words) (arrays : Arrays) : Type 0 where
     pub shape : (k : ℕ) → length (array_at arrays k) ≡ get_or lengths k 0
@@ -53,7 +44,7 @@ module _ (lengths : List ℕ) where
     pub local : (x : List ℕ) (d : Declaration) → declared scope x ≡ Some d → is_region d.mode ≡ false → Has layout x
         → HoldsValue (own (Slot (slot_of layout x))) (f.locals x)
     pub region : (x : List ℕ) (d : Declaration) → declared scope x ≡ Some d → is_region d.mode ≡ true → Has layout x
-        → own (Slot (slot_of layout x)) ≡ region_word (f.regions x)
+        → own (Slot (slot_of layout x)) ≡ region_word lengths (f.regions x)
     pub value : own Value ≡ 0
 
 -- the frame of the meaning that the hidden procedure of an `each` has in hand: the elements of the region q from n on, m of them
@@ -131,7 +122,8 @@ module _ (lengths : List ℕ) (code : CodeParts) where
     Called s k own a at next to (Err stop) = Fails k (Strand (at_work own at)) a stop
 
     -- a fork has been begun; where the arguments trap none is counted
-    abbrev pub Forked : Side → Side → (words : ℕ) → (FrameWord → ℕ) → Words → (at next : ℕ) → (left_to to : Option ℕ) → Result (Frame × Frame) TrapAt → Type 0
+    abbrev pub Forked : Side → Side → (words : ℕ) → (FrameWord → ℕ) → Words → (at next : ℕ) → (left_to to : Option ℕ) → Result (Frame × Frame) TrapAt
+        → Type 0
     Forked s u words own a at next left_to to (Ok g) =
         (left right : CodeFrame) × Enters s g.0 left × Enters u g.1 right
         × Chain strands (cost 1 1 1 words) (Strand (at_work own at)) a (Forking (waits own next left_to to) (Strand left) (Strand right)) a

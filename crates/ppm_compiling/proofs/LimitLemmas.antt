@@ -1,6 +1,5 @@
 -- Within the limits and the bounds each procedure that a name stands for is small, and the arrays have few words.
-use Rattle.std.proofs.Common.{◌≡◌, ◌≤◌, cond, Bool, true, false, ℕ, List, [], ◌∷◌, Option, Some, arith, subst}
-use Rattle.std.specs.Str.{bytes_eq}
+use Rattle.std.proofs.Common.{◌≡◌, ◌≤◌, ℕ, List, [], Option, Some, arith, subst}
 use Rattle.std.specs.List.{All, AllByRecursion, sum}
 use Rattle.std.proofs.lemmas.List.Elements.{All-head, recursion_from_All}
 use Rattle.ppm_tree.specs.Tree.{Give, Procedure, ProgramTree}
@@ -9,22 +8,9 @@ use Rattle.ppm_tree.specs.Limits.{IsSmallStatement, IsSmallGive, IsSmall, IsWith
 use Rattle.ppm_tree.specs.State.{no_procedure, procedure_named}
 use Rattle.ppm_bounds.specs.declared.bound.Bound.TheVariants as bound
 use Rattle.ppm_bounds.specs.Bounds.{Keeps, IsWithinBounds}
-use Rattle.ppm_compiling.proofs.Places.{lengths_of}
+use Rattle.ppm_translation.proofs.RegionWords.{lengths_of}
+use Rattle.ppm_translation.proofs.NamedLemmas.{of_named, weaker}
 use Rattle.ppm_compiling.proofs.Given.{IsModestProcedure}
-
--- what holds of each procedure, and of none, holds of the one that a name stands for
-of_named : (P : Procedure → Type 0) → P no_procedure → (ps : List Procedure) → AllByRecursion P ps → (x : List ℕ) → P (procedure_named ps x)
-of_named P none [] all x = none
-of_named P none (p ∷ ps) all x = go (bytes_eq p.name.name x) (of_named P none ps all.1 x)
-  where
-    go : (b : Bool) → P (procedure_named ps x) → P (cond b p (procedure_named ps x))
-    go true rest = all.0
-    go false rest = rest
-
--- of a weaker fact
-weaker : {A : Type 0} (P Q : A → Type 0) → ((x : A) → P x → Q x) → (xs : List A) → AllByRecursion P xs → AllByRecursion Q xs
-weaker P Q h [] all = tt
-weaker P Q h (x ∷ xs) all = (h x all.0, weaker P Q h xs all.1)
 
 -- what limits say of the statements of a procedure and of what it gives
 pub record HasSmallParts (p : Procedure) : Type 0 where
@@ -40,7 +26,7 @@ parts_of_small p s = record {
 no_parts : HasSmallParts no_procedure
 no_parts = record { statements = tt; give = λ g e. absurd (cc) }
 
-pub small_parts : (t : ProgramTree) → IsWithin t → (x : List ℕ) → HasSmallParts (procedure_named t.procedures x)
+small_parts : (t : ProgramTree) → IsWithin t → (x : List ℕ) → HasSmallParts (procedure_named t.procedures x)
 small_parts t within x =
     of_named HasSmallParts no_parts t.procedures
     (weaker IsSmall HasSmallParts parts_of_small t.procedures (recursion_from_All IsSmall t.procedures within.procedures)) x
@@ -59,5 +45,5 @@ modest_procedures t within bounds x =
       give = λ g e. let h = small.give g e in record { count = h.count; each = h.nodes };
     }
 
-pub small_arrays : (t : ProgramTree) → IsWithin t → sum (lengths_of t) ≤ 4194304
+pub small_arrays : (t : ProgramTree) → IsWithin t → sum (lengths_of t.arrays) ≤ 4194304
 small_arrays t within = within.words

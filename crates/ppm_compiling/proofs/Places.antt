@@ -1,9 +1,8 @@
 -- Where a block of a program stands with a frame, a scope and a layout, and how one goes from there.
-use Rattle.std.proofs.Common.{◌≤◌, ◌<◌, ℕ, ◌+◌, List, [], ◌∷◌, ◌++◌, map, length, arith, length-append}
+use Rattle.std.proofs.Common.{◌≤◌, ◌<◌, ℕ, ◌+◌, [], ◌∷◌, ◌++◌, length, arith, length-append}
 use Rattle.std.specs.List.{AllByRecursion}
 use Rattle.ppm_tree.specs.declared.named.Named.{Named}
-use Rattle.ppm_tree.specs.Tree.{Expression, Side, Statement, Block, Nil, Then, Let, Assign, Put, If, While, Split, Each, Procedure, ProgramTree}
-use Rattle.ppm_tree.specs.Tree as tree
+use Rattle.ppm_tree.specs.Tree.{Expression, Statement, Block, Then, If, While, Split, Each, Procedure, ProgramTree}
 use Rattle.ppm_tree.specs.Limits.{IsSmallStatement}
 use Rattle.ppm_tree.specs.Parts.{statement_and_inner, statements_in}
 use Rattle.ppm_tree.specs.State.{Frame, Locals, with_locals}
@@ -16,10 +15,12 @@ use Rattle.ppm_bounds.proofs.Keeping.{all-first, all-second}
 use Rattle.ppm_owning.specs.Coming.{ComesTo, Behind, InHolds, InElse, InWhile, InSplit, InEach, split_frame, each_frame}
 use Rattle.ppm_owning.proofs.Theorem.{apart_everywhere}
 use Rattle.ppm_translation.specs.Layout.{Layout, caught}
-use Rattle.ppm_translation.specs.Fits.{FitsStatement, FitsBlock}
+use Rattle.ppm_translation.specs.Fits.{FitsBlock}
 use Rattle.ppm_translation.specs.Slots.{hidden_named_slots}
 use Rattle.ppm_translation.specs.Statements.{with_lets, with_parts, hidden_layout}
-use Rattle.ppm_translation.proofs.CaughtLemmas.{IsEachOnce, once_push, once_parts, once_hidden, caught_is_counted}
+use Rattle.ppm_translation.proofs.LayoutLemmas.{lets_room}
+use Rattle.ppm_translation.proofs.CaughtLemmas.{IsEachOnce, once_lets, once_parts, once_hidden, caught_is_counted}
+use Rattle.ppm_translation.proofs.RegionWords.{lengths_of}
 use Rattle.ppm_compiling.proofs.Holding.{Lies}
 
 -- the statements of a block are small, and so are the hidden procedures in it
@@ -27,7 +28,7 @@ pub record IsModest (b : Block) : Type 0 where
   pub small : AllByRecursion IsSmallStatement (statements_in b)
   pub slots : AllByRecursion (λ s. count_of bound.Slots s ≤ 24) (statements_in b)
 
-pub modest_behind : (s : Statement) (b : Block) → IsModest (Then s b) → IsModest b
+modest_behind : (s : Statement) (b : Block) → IsModest (Then s b) → IsModest b
 modest_behind s b m = record {
   small = all-second IsSmallStatement (statement_and_inner s) (statements_in b) m.small;
   slots = all-second (λ s. count_of bound.Slots s ≤ 24) (statement_and_inner s) (statements_in b) m.slots;
@@ -41,10 +42,6 @@ modest_inner s b m = (
 )
 
 module _ (t : ProgramTree) where
-  -- how long the arrays of the program are
-  abbrev pub lengths_of : List ℕ
-  lengths_of = map (λ a. a.words) t.arrays
-
   -- a run may come to the block in the frame; the names in force have slots below the spare ones
   pub record Place (scope : Scope) (layout : Layout) (spare : ℕ) (b : Block) (f : Frame) : Type 0 where
     pub p : Procedure
@@ -57,43 +54,23 @@ module _ (t : ProgramTree) where
     pub modest : IsModest b
 
   -- behind a statement: whatever the locals are there
-  pub behind_place : (scope : Scope) (layout : Layout) (spare : ℕ) (s : Statement) (b : Block) (f : Frame) (l : Locals) → Place scope layout spare (Then s b) f
+  pub behind_place : (scope : Scope) (layout : Layout) (spare : ℕ) (s : Statement) (b : Block) (f : Frame) (l : Locals)
+      → Place scope layout spare (Then s b) f
       → Place (scope ++ lets_of s) (with_lets layout s) spare b (with_locals f l)
   behind_place scope layout spare s b f l w = record {
     p = w.p;
     g = w.g;
     comes = Behind w.p w.g scope s b f l w.comes;
     fits = w.fits.1;
-    once = once_behind s w.fits.0 w.once;
-    room = room_behind s w.room;
+    once = once_lets t.procedures scope layout s w.fits.0 w.once;
+    room = lets_room s b layout spare w.room;
     few = w.few;
     modest = modest_behind s b w.modest;
   }
-    where
-      once_behind : (s : Statement) → FitsStatement t.procedures scope layout s → IsEachOnce layout → IsEachOnce (with_lets layout s)
-      once_behind (Let x e) fits once = once_push layout x.name once fits.1
-      once_behind (Assign x e) fits once = once
-      once_behind (Put x i e) fits once = once
-      once_behind (If e u v) fits once = once
-      once_behind (While e u) fits once = once
-      once_behind (tree.Call u) fits once = once
-      once_behind (tree.Fork u v) fits once = once
-      once_behind (Split line r e x y u) fits once = once
-      once_behind (Each i x r u) fits once = once
-
-      room_behind : (s : Statement) → length layout + most_in_force (Then s b) ≤ spare → length (with_lets layout s) + most_in_force b ≤ spare
-      room_behind (Let x e) room = let longer = length-append layout (x.name ∷ []) in omega (arith, room, longer)
-      room_behind (Assign x e) room = omega (arith, room)
-      room_behind (Put x i e) room = omega (arith, room)
-      room_behind (If e u v) room = omega (arith, room)
-      room_behind (While e u) room = omega (arith, room)
-      room_behind (tree.Call u) room = omega (arith, room)
-      room_behind (tree.Fork u v) room = omega (arith, room)
-      room_behind (Split line r e x y u) room = omega (arith, room)
-      room_behind (Each i x r u) room = omega (arith, room)
 
   -- in the blocks of an `if` and of a loop
-  pub holds_place : (scope : Scope) (layout : Layout) (spare : ℕ) (e : Expression) (s u b : Block) (f : Frame) → Place scope layout spare (Then (If e s u) b) f
+  pub holds_place : (scope : Scope) (layout : Layout) (spare : ℕ) (e : Expression) (s u b : Block) (f : Frame)
+      → Place scope layout spare (Then (If e s u) b) f
       → Place scope layout spare s f
   holds_place scope layout spare e s u b f w = let m = modest_inner (If e s u) b w.modest in record {
     p = w.p;
@@ -109,7 +86,8 @@ module _ (t : ProgramTree) where
     };
   }
 
-  pub else_place : (scope : Scope) (layout : Layout) (spare : ℕ) (e : Expression) (s u b : Block) (f : Frame) → Place scope layout spare (Then (If e s u) b) f
+  pub else_place : (scope : Scope) (layout : Layout) (spare : ℕ) (e : Expression) (s u b : Block) (f : Frame)
+      → Place scope layout spare (Then (If e s u) b) f
       → Place scope layout spare u f
   else_place scope layout spare e s u b f w = let m = modest_inner (If e s u) b w.modest in record {
     p = w.p;
@@ -125,7 +103,8 @@ module _ (t : ProgramTree) where
     };
   }
 
-  pub while_place : (scope : Scope) (layout : Layout) (spare : ℕ) (e : Expression) (s b : Block) (f : Frame) (l : Locals) → Place scope layout spare (Then (While e s) b) f
+  pub while_place : (scope : Scope) (layout : Layout) (spare : ℕ) (e : Expression) (s b : Block) (f : Frame) (l : Locals)
+      → Place scope layout spare (Then (While e s) b) f
       → Place scope layout spare s (with_locals f l)
   while_place scope layout spare e s b f l w = let m = modest_inner (While e s) b w.modest in record {
     p = w.p;
@@ -173,14 +152,16 @@ module _ (t : ProgramTree) where
       }
 
   -- the regions in force lie in their arrays
-  pub lies : (scope : Scope) (layout : Layout) (spare : ℕ) (b : Block) (f : Frame) → IsAdmitted t → Place scope layout spare b f → Lies lengths_of scope f
+  pub lies : (scope : Scope) (layout : Layout) (spare : ℕ) (b : Block) (f : Frame) → IsAdmitted t → Place scope layout spare b f
+      → Lies (lengths_of t.arrays) scope f
   lies scope layout spare b f admitted w = record {
     within = λ x d found region shown. ((apart_everywhere t admitted).place w.p w.g scope b f w.comes).within.within x
         (record { declaration = d; found = found; region = region; shown = shown });
   }
 
   -- a hidden procedure has few names of outside
-  pub each_few : (scope : Scope) (layout : Layout) (spare : ℕ) (i x r : Named) (s b : Block) (f : Frame) → Place scope layout spare (Then (Each i x r s) b) f
+  pub each_few : (scope : Scope) (layout : Layout) (spare : ℕ) (i x r : Named) (s b : Block) (f : Frame)
+      → Place scope layout spare (Then (Each i x r s) b) f
       → length (caught layout s) ≤ 24
   each_few scope layout spare i x r s b f w =
       let m = modest_inner (Each i x r s) b w.modest in

@@ -1,7 +1,6 @@
 -- What the capsules of `x[i] = e` do: index and value go into the spare slots, and the next capsule puts.
-use Rattle.std.proofs.Common.{◌≡◌, ◌≤◌, ◌<◌, ℕ, zero, suc, ◌+◌, ◌==◌, ℤ, pos, cond, List, [], ◌∷◌, ◌++◌, Some, Result, Ok, Err}
-use Rattle.std.proofs.Common.{length, get_or, set, refl, sym, ap, ap₂, ◌∙◌, subst, subst₂, arith, inl, inr}
-use Rattle.std.proofs.Common.{get_or-set_same}
+use Rattle.std.proofs.Common.{◌≡◌, ◌≤◌, ◌<◌, ℕ, suc, ◌+◌, ◌==◌, ℤ, pos, cond, List, [], ◌∷◌, ◌++◌, Some, Result, Ok, Err, length}
+use Rattle.std.proofs.Common.{get_or, set, refl, sym, ap, ap₂, ◌∙◌, subst, subst₂, arith, inl, inr, get_or-set_same}
 use Rattle.std.specs.Prelude.{slice_index, slice_set}
 use Rattle.std.specs.List.{sum}
 use Rattle.std.proofs.lemmas.Bool.{cases_eq, cases_lt, cond-true, cond-false, eq-eqb, ne_eqb}
@@ -35,25 +34,15 @@ use Rattle.ppm_translation.specs.Layout.{Layout, slot_of, register}
 use Rattle.ppm_translation.specs.Expressions.{size_of, expression_code}
 use Rattle.ppm_translation.specs.Fits.{IsRegion, FitsExpression}
 use Rattle.ppm_translation.specs.Statements.{onward, element_code, put_code}
+use Rattle.ppm_translation.proofs.RegionWords.{one_address, offset_of, region_word}
 use Rattle.ppm_compiling.proofs.ChainLemmas.{cost, Chain, chain_then, chain_weaken}
 use Rattle.ppm_compiling.proofs.Doing.{AreSmall, InHand, PutDoes}
 use Rattle.ppm_compiling.proofs.ExprLemmas.{Goes, goes_on, goes_equal, goes_same, stores, loads, stops, held_at, set_at, set_else, set_count, InReg}
-use Rattle.ppm_compiling.proofs.ExprLemmas.{Meets, bind_meets, expr_meets}
-use Rattle.ppm_compiling.proofs.ExprLemmas.{word_is, IsPlaced, at_index, element_acts, all_front, all_behind}
-use Rattle.ppm_compiling.proofs.Holding.{HoldsValue, Holds, Shows, offset_of, region_word, Reaches, at_work, strands}
+use Rattle.ppm_compiling.proofs.ExprLemmas.{Meets, bind_meets, expr_meets, word_is, IsPlaced, at_index, element_acts, all_front, all_behind}
+use Rattle.ppm_compiling.proofs.Holding.{HoldsValue, Holds, Shows, Reaches, at_work, strands}
 use Rattle.ppm_compiling.proofs.StoreLemmas.{stored_slot, other_slot, holds_behind}
 use Rattle.ppm_compiling.proofs.StatementLemmas.{zeros, zeros_count, onward_goes, front_held}
 use Rattle.ppm_compiling.proofs.StepLemmas.{start_at, sees, whole, Tried, tried}
-
--- words of arrays at one address are one word
-pub one_address : (lengths : List ℕ) (j k i l : ℕ) → i < get_or lengths j 0 → l < get_or lengths k 0
-    → offset_of lengths j + i ≡ offset_of lengths k + l → (j ≡ k) × (i ≡ l)
-one_address [] j k i l low below e = absurd (omega (arith, low))
-one_address (n ∷ lengths) zero zero i l low below e = (refl, omega (arith, e))
-one_address (n ∷ lengths) zero (suc k) i l low below e = absurd (omega (arith, e, low))
-one_address (n ∷ lengths) (suc j) zero i l low below e = absurd (omega (arith, e, below))
-one_address (n ∷ lengths) (suc j) (suc k) i l low below e =
-    let rest = one_address lengths j k i l low below (omega (arith, e)) in (ap (λ (n : ℕ). suc n) rest.0, rest.1)
 
 -- the words of the arrays with one at an address
 abbrev pub with_shared : Words → (x w : ℕ) → Words
@@ -82,11 +71,11 @@ module _ (lengths : List ℕ) (a : Words) (arrays : Arrays) (shows : Shows lengt
       ∙ get_or-set_same (array_at arrays n) j v (pos 0) (omega (arith, shows.shape n, low))
 
   pub shows_put : Shows lengths (with_shared a address w) changed
-  shows_put = record { shape = λ k. put_lengths arrays n j v k ∙ shows.shape k; word = word_ }
+  shows_put = record { shape = λ k. put_lengths arrays n j v k ∙ shows.shape k; word = held_word }
     where
-      word_ : (k i : ℕ) → i < get_or lengths k 0
+      held_word : (k i : ℕ) → i < get_or lengths k 0
           → HoldsValue (with_shared a address w (offset_of lengths k + i)) (get_or (array_at changed k) i (pos 0))
-      word_ k i below = elim (cases_eq (offset_of lengths k + i) address) [
+      held_word k i below = elim (cases_eq (offset_of lengths k + i) address) [
         | inl e ↦
             let one = one_address lengths k n i j below low e in
             subst₂ HoldsValue (sym (cond-true (offset_of lengths k + i == address) w (a (offset_of lengths k + i))
@@ -191,8 +180,8 @@ module _ (lengths : List ℕ) (code : CodeParts) (scope : Scope) (layout : Layou
       abbrev from : FrameWord → ℕ
       from = filled (word_of j) (word_of v)
 
-      abbrev then_ : Memory Where
-      then_ = start_at lengths code from (suc at) a
+      abbrev at_second : Memory Where
+      at_second = start_at lengths code from (suc at) a
 
       abbrev load : Instr
       load = instr.LoadSlot (register 0) (slot_of layout x.name)
@@ -260,12 +249,12 @@ module _ (lengths : List ℕ) (code : CodeParts) (scope : Scope) (layout : Layou
           ∙ ap₂ (λ (q w : ℕ). at_element x.line (element_of W q w) step) at_region at_place
           ∙ element_acts lengths r placed x.line (word_of j) j step is_index
 
-      loaded : Goes (capsule_of W (put_code layout spare x next)) then_ (capsule_from W (0 + 1 + 1 + 1) 0 (put ∷ onward next) h) then_
+      loaded : Goes (capsule_of W (put_code layout spare x next)) at_second (capsule_from W (0 + 1 + 1 + 1) 0 (put ∷ onward next) h) at_second
       loaded =
           goes_on (loads W 0 load (load_index ∷ load_value ∷ put ∷ onward next) zeros (OwnWord (Slot (slot_of layout x.name)))
-          (register 0) then_ refl)
-          (goes_on (loads W (0 + 1) load_index (load_value ∷ put ∷ onward next) g (OwnWord (Slot spare)) (register 1) then_ refl)
-          (loads W (0 + 1 + 1) load_value (put ∷ onward next) g' (OwnWord (Slot (suc spare))) (register 2) then_ refl))
+          (register 0) at_second refl)
+          (goes_on (loads W (0 + 1) load_index (load_value ∷ put ∷ onward next) g (OwnWord (Slot spare)) (register 1) at_second refl)
+          (loads W (0 + 1 + 1) load_value (put ∷ onward next) g' (OwnWord (Slot (suc spare))) (register 2) at_second refl))
 
       put_reaches : Reaches lengths code scope layout f (cost 1 1 0 0) (Strand (at_work from (suc at))) a next
           (behind_put (placed_value v (index_in x.line r j)))
@@ -277,9 +266,9 @@ module _ (lengths : List ℕ) (code : CodeParts) (scope : Scope) (layout : Layou
           by (Ok k) e =
               let y = offset_of lengths r.array + (r.start + k) in
               let below = index_below x.line r j k e in
-              let m = store code_locations then_ (Shared y) (word_of v) in
+              let m = store code_locations at_second (Shared y) (word_of v) in
               let goes = goes_on loaded (goes_on
-              (stores W (0 + 1 + 1 + 1) put (onward next) h (Array y) (word_of v) then_ (act ∙ ap (at_index lengths r placed step) e))
+              (stores W (0 + 1 + 1 + 1) put (onward next) h (Array y) (word_of v) at_second (act ∙ ap (at_index lengths r placed step) e))
               (onward_goes W (0 + 1 + 1 + 1 + 1) next h m)) in (
                 from,
                 with_shared a y (word_of v),
@@ -288,12 +277,12 @@ module _ (lengths : List ℕ) (code : CodeParts) (scope : Scope) (layout : Layou
                 whole lengths code (suc at) (put_code layout spare x next) stands from a (ends.Next next) m 0 goes.ends goes.left goes.asks,
               )
           by (Err stop) e =
-              let goes = goes_on loaded (goes_equal _ _ then_
+              let goes = goes_on loaded (goes_equal _ _ at_second
               (stops W (0 + 1 + 1 + 1) put (onward next) h (ends.Trap stop.0 stop.1) (act ∙ ap (at_index lengths r placed step) e))) in (
                 a,
                 hand.shows,
                 whole lengths code (suc at) (put_code layout spare x next) stands from a
-                    (ends.Trap stop.0 stop.1) then_ 0 goes.ends goes.left goes.asks,
+                    (ends.Trap stop.0 stop.1) at_second 0 goes.ends goes.left goes.asks,
               )
 
     -- both capsules

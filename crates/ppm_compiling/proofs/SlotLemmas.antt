@@ -1,6 +1,6 @@
 -- Slots of names in layouts, and how a frame of the hidden procedure of an `each` is held.
-use Rattle.std.proofs.Common.{◌≡◌, ◌≢◌, ◌<◌, ℕ, suc, pos, cond, Bool, true, false, List, [], ◌∷◌, Some, None, get_or, length, inl, inr}
-use Rattle.std.proofs.Common.{Option, refl, sym, ap, ◌∙◌, subst, arith}
+use Rattle.std.proofs.Common.{◌≡◌, ◌≢◌, ◌<◌, ℕ, suc, pos, cond, Bool, true, false, List, [], ◌∷◌, Some, None}
+use Rattle.std.proofs.Common.{get_or, length, inl, inr, Option, refl, sym, ap, ◌∙◌, subst, arith}
 use Rattle.std.specs.List.{filter}
 use Rattle.std.specs.Str.{bytes_eq}
 use Rattle.std.specs.Option.{option_map}
@@ -18,7 +18,8 @@ use Rattle.ppm_translation.specs.Layout.{Layout, slot_of, caught}
 use Rattle.ppm_regions.specs.Scope.{each_scope}
 use Rattle.ppm_translation.specs.Fits.{Has}
 use Rattle.ppm_translation.specs.Statements.{hidden_layout}
-use Rattle.ppm_compiling.proofs.Holding.{HoldsValue, Holds, region_word, sweep_frame}
+use Rattle.ppm_translation.proofs.RegionWords.{region_word}
+use Rattle.ppm_compiling.proofs.Holding.{HoldsValue, Holds, sweep_frame}
 
 -- at the slot of a name stands the name
 pub named_at : (layout : Layout) (x : List ℕ) → Has layout x → get_or layout (slot_of layout x) [] ≡ x
@@ -31,7 +32,7 @@ named_at (y ∷ layout) x h = go (named_at layout x) (bytes_eq y x) refl h
     go on false e h = on (omega (arith, h))
 
 -- a name that a filter keeps was there
-pub kept_has : (p : List ℕ → Bool) (layout : Layout) (x : List ℕ) → Has (filter p layout) x → Has layout x
+kept_has : (p : List ℕ → Bool) (layout : Layout) (x : List ℕ) → Has (filter p layout) x → Has layout x
 kept_has p [] x h = h
 kept_has p (y ∷ layout) x h = go (kept_has p layout x) (p y) h (bytes_eq y x) refl
   where
@@ -162,7 +163,7 @@ module _ (lengths : List ℕ) (scope : Scope) (layout : Layout) (f : Frame) (i x
     -- its halves catch what it has caught
     pub half_catches : (n m : ℕ) (own own' : FrameWord → ℕ) → Holds lengths inner hidden (sweep_frame f q n m i x) own
         → ((k : ℕ) → k < length names → own' (Slot (suc (suc k))) ≡ own (Slot (suc (suc k)))) → Catches own'
-    half_catches n m own own' h keeps = record { local = local_; region = region_ }
+    half_catches n m own own' h keeps = record { local = local_held; region = region_held }
       where
         seen : (y : List ℕ) (d : Declaration) → declared scope y ≡ Some d → declared inner y ≡ Some (seen_in_each r d)
         seen y d found = declared_in_front y (in_each scope r) (element_of scope r i x) (seen_in_each r d)
@@ -171,9 +172,9 @@ module _ (lengths : List ℕ) (scope : Scope) (layout : Layout) (f : Frame) (i x
         has_slot : (y : List ℕ) (d : Declaration) → declared scope y ≡ Some d → slot_of hidden y ≡ suc (suc (slot_of names y))
         has_slot y d found = let o = outside y d found in caught_slot y o.0 o.1
 
-        local_ : (y : List ℕ) (d : Declaration) → declared scope y ≡ Some d → is_region d.mode ≡ false → Has names y
+        local_held : (y : List ℕ) (d : Declaration) → declared scope y ≡ Some d → is_region d.mode ≡ false → Has names y
             → HoldsValue (own' (Slot (suc (suc (slot_of names y))))) (f.locals y)
-        local_ y d found kind has =
+        local_held y d found kind has =
             let o = outside y d found in
             let is_slot = has_slot y d found in
             let is_value : (sweep_frame f q n m i x).locals y ≡ f.locals y = ap (λ (b : Bool). cond b (pos n) (f.locals y)) o.1 in
@@ -181,9 +182,9 @@ module _ (lengths : List ℕ) (scope : Scope) (layout : Layout) (f : Frame) (i x
             (subst (HoldsValue (own (Slot (slot_of hidden y)))) is_value
             (h.local y (seen_in_each r d) (seen y d found) kind (omega (arith, is_slot, has))))
 
-        region_ : (y : List ℕ) (d : Declaration) → declared scope y ≡ Some d → is_region d.mode ≡ true → Has names y
+        region_held : (y : List ℕ) (d : Declaration) → declared scope y ≡ Some d → is_region d.mode ≡ true → Has names y
             → own' (Slot (suc (suc (slot_of names y)))) ≡ region_word lengths (f.regions y)
-        region_ y d found kind has =
+        region_held y d found kind has =
             let o = outside y d found in
             let is_slot = has_slot y d found in
             keeps (slot_of names y) has ∙ ap (λ (k : ℕ). own (Slot k)) (sym is_slot)

@@ -39,5 +39,6 @@ small_call s h = subst AreSmall (flat_map-map nodes (λ (a : Argument). a.value)
 pub small_fork : (s u : Side) → IsSmallStatement (tree.Fork s u) → AreSmall (argument_nodes s.arguments ++ argument_nodes u.arguments)
 small_fork s u h = subst AreSmall
     (flat_map-append nodes (map (λ (a : Argument). a.value) s.arguments) (map (λ (a : Argument). a.value) u.arguments)
-    ∙ ap₂ (λ (xs ys : List Expression). xs ++ ys) (flat_map-map nodes (λ (a : Argument). a.value) s.arguments) (flat_map-map nodes (λ (a : Argument). a.value) u.arguments))
+    ∙ ap₂ (λ (xs ys : List Expression). xs ++ ys) (flat_map-map nodes (λ (a : Argument). a.value) s.arguments)
+    (flat_map-map nodes (λ (a : Argument). a.value) u.arguments))
     (small_nodes (tree.Fork s u) h)

@@ -1,6 +1,6 @@
 -- What the capsule of a split does: both parts go into the first slots that no name has.
-use Rattle.std.proofs.Common.{◌≡◌, ◌≢◌, ℕ, suc, ◌+◌, ◌-◌, ◌*◌, ◌^◌, ℤ, pos, negsuc, cond, Bool, true, false, nat_lt, List, [], ◌∷◌}
-use Rattle.std.proofs.Common.{Some, None, Result, Ok, Err, length, refl, sym, ap, ap₂, ◌∙◌, subst, subst₂, arith, inl, inr}
+use Rattle.std.proofs.Common.{◌≡◌, ◌≢◌, ℕ, suc, ◌+◌, ◌-◌, ◌*◌, ◌^◌, ℤ, pos, negsuc, cond, Bool, true, false, nat_lt, List, [], ◌∷◌, Some}
+use Rattle.std.proofs.Common.{None, Result, Ok, Err, length, refl, sym, ap, ap₂, ◌∙◌, subst, subst₂, arith, inl, inr}
 use Rattle.std.specs.Prelude.{nat_le, slice_index, slice_set, ◌&&◌}
 use Rattle.std.specs.List.{sum}
 use Rattle.std.specs.Str.{bytes_eq}
@@ -29,18 +29,18 @@ use Rattle.ppm_tree.specs.Tree.{Expression}
 use Rattle.ppm_tree.specs.State.{TrapAt, then_with, tested, Region, first_part, second_part, Frame, Arrays, split_at, evaluate}
 use Rattle.ppm_tree.specs.Meaning.{with_parts as parts_frame}
 use Rattle.ppm_regions.specs.Scope.{Declaration, Scope, declared, is_region, part, in_split, parts_of, seen_in_split, split_scope}
-use Rattle.ppm_regions.proofs.ScopeLemmas.{declared_in_front, declared_behind, declared_map, image_of, names_same, same_names, names_other}
-use Rattle.ppm_regions.proofs.ScopeLemmas.{found_cases, some_same, none_and_some}
+use Rattle.ppm_regions.proofs.ScopeLemmas.{declared_in_front, declared_behind, declared_map, image_of, names_same}
+use Rattle.ppm_regions.proofs.ScopeLemmas.{same_names, names_other, found_cases, some_same, none_and_some}
 use Rattle.ppm_translation.specs.Layout.{Layout, slot_of, register}
 use Rattle.ppm_translation.specs.Expressions.{size_of}
 use Rattle.ppm_translation.specs.Fits.{Has, IsNew, IsRegion}
 use Rattle.ppm_translation.specs.Statements.{onward, split_code, with_parts}
 use Rattle.ppm_translation.proofs.LayoutLemmas.{slot_in_front}
+use Rattle.ppm_translation.proofs.RegionWords.{offset_of, region_word}
 use Rattle.ppm_compiling.proofs.Doing.{InHand, SplitDoes}
 use Rattle.ppm_compiling.proofs.ExprLemmas.{Goes, goes_on, goes_equal, sets, stores, loads, stops, held_at, set_at, set_else, set_count, InReg, Meets}
-use Rattle.ppm_compiling.proofs.ExprLemmas.{bind_meets}
-use Rattle.ppm_compiling.proofs.ExprLemmas.{word_is, value_fits, IsPlaced, region_short, region_end, region_length, region_start}
-use Rattle.ppm_compiling.proofs.Holding.{HoldsValue, Holds, offset_of, region_word, Parted}
+use Rattle.ppm_compiling.proofs.ExprLemmas.{bind_meets, word_is, value_fits, IsPlaced, region_short, region_end, region_length, region_start}
+use Rattle.ppm_compiling.proofs.Holding.{HoldsValue, Holds, Parted}
 use Rattle.ppm_compiling.proofs.StoreLemmas.{stored_slot, other_slot, slot_behind, has_before, first_slot, next_slot, apart_from}
 use Rattle.ppm_compiling.proofs.SlotLemmas.{part_is_region}
 use Rattle.ppm_compiling.proofs.StatementLemmas.{zeros, onward_goes, front}
@@ -137,28 +137,28 @@ module _ (lengths : List ℕ) (scope : Scope) (layout : Layout) (f : Frame) (own
 
   pub holds_split : Holds lengths inner longer parted with_both
   holds_split = record {
-    local = λ z e found kind has. local_ z e kind has (inside z e found);
-    region = λ z e found kind has. region_ z e kind has (inside z e found);
+    local = λ z e found kind has. local_held z e kind has (inside z e found);
+    region = λ z e found kind has. region_held z e kind has (inside z e found);
     value = h.value;
   }
     where
-      local_ : (z : List ℕ) (e : Declaration) → is_region e.mode ≡ false → Has longer z → Inside z e
+      local_held : (z : List ℕ) (e : Declaration) → is_region e.mode ≡ false → Has longer z → Inside z e
           → HoldsValue (with_both (Slot (slot_of longer z))) (f.locals z)
-      local_ z e kind has (IsOlder d found same) =
+      local_held z e kind has (IsOlder d found same) =
           let o = older z d found has in subst (λ (w : ℕ). HoldsValue w (f.locals z)) (sym o.1) (h.local z d found (same ∙ kind) o.0)
-      local_ z e kind has (IsFirst same region) = absurd (clash (sym region ∙ kind))
-      local_ z e kind has (IsSecond same region) = absurd (clash (sym region ∙ kind))
+      local_held z e kind has (IsFirst same region) = absurd (clash (sym region ∙ kind))
+      local_held z e kind has (IsSecond same region) = absurd (clash (sym region ∙ kind))
 
-      region_ : (z : List ℕ) (e : Declaration) → is_region e.mode ≡ true → Has longer z → Inside z e
+      region_held : (z : List ℕ) (e : Declaration) → is_region e.mode ≡ true → Has longer z → Inside z e
           → with_both (Slot (slot_of longer z)) ≡ region_word lengths (parted.regions z)
-      region_ z e kind has (IsOlder d found same) =
+      region_held z e kind has (IsOlder d found same) =
           let o = older z d found has in
           o.1 ∙ h.region z d found (same ∙ kind) o.0 ∙ ap₂ (λ (b c : Bool). region_word lengths (region_by b c z)) (sym o.3) (sym o.2)
-      region_ z e kind has (IsFirst same region) =
+      region_held z e kind has (IsFirst same region) =
           subst (λ (z : List ℕ). with_both (Slot (slot_of longer z)) ≡ region_word lengths (parted.regions z)) same
           (first_held ∙ ap₂ (λ (b c : Bool). region_word lengths (region_by b c x.name))
           (sym (names_other y.name x.name (λ e. other (sym e)))) (sym (names_same x.name x.name refl)))
-      region_ z e kind has (IsSecond same region) =
+      region_held z e kind has (IsSecond same region) =
           subst (λ (z : List ℕ). with_both (Slot (slot_of longer z)) ≡ region_word lengths (parted.regions z)) same
           (second_held ∙ ap (λ (b : Bool). region_word lengths (region_by b (bytes_eq x.name y.name) y.name)) (sym (names_same y.name y.name refl)))
 

@@ -1,6 +1,6 @@
 -- What the capsules of `let`, `x = e`, tests, `give` and the ends of blocks do.
-use Rattle.std.proofs.Common.{◌≡◌, ℕ, suc, ◌+◌, ◌==◌, ℤ, pos, cond, Bool, true, false, List, [], ◌∷◌, ◌++◌, Some, None, Result, Ok, Err}
-use Rattle.std.proofs.Common.{length, replicate, refl, sym, ap, ◌∙◌, subst, arith}
+use Rattle.std.proofs.Common.{◌≡◌, ℕ, suc, ◌+◌, ◌==◌, ℤ, pos, cond, Bool, true, false, List, [], ◌∷◌, ◌++◌, Some, None}
+use Rattle.std.proofs.Common.{Result, Ok, Err, length, replicate, refl, sym, ap, ◌∙◌, subst, arith}
 use Rattle.std.specs.Prelude.{slice_index, slice_set, not}
 use Rattle.std.specs.List.{sum}
 use Rattle.std.specs.Ordering.{int_eq}
@@ -35,8 +35,8 @@ use Rattle.ppm_translation.specs.Fits.{FitsExpression}
 use Rattle.ppm_translation.specs.Statements.{onward, test_code}
 use Rattle.ppm_compiling.proofs.ChainLemmas.{cost, Chain, chain_then, chain_weaken}
 use Rattle.ppm_compiling.proofs.Doing.{AreSmall, InHand, LetDoes, AssignDoes, TestDoes, GiveDoes, OnwardDoes, FinishDoes}
-use Rattle.ppm_compiling.proofs.ExprLemmas.{Goes, goes_on, goes_equal, stores, loads, stops, jumps, passes, held_at, set_at, InReg, Meets, expr_meets}
-use Rattle.ppm_compiling.proofs.ExprLemmas.{word_is, same_words, holds_number}
+use Rattle.ppm_compiling.proofs.ExprLemmas.{Goes, goes_on, goes_equal, stores, loads, stops, jumps, passes, held_at, set_at}
+use Rattle.ppm_compiling.proofs.ExprLemmas.{InReg, Meets, expr_meets, word_is, same_words, holds_number}
 use Rattle.ppm_compiling.proofs.Holding.{HoldsValue, Reaches, Returns, Tested, at_work, strands, which}
 use Rattle.ppm_compiling.proofs.HoldLemmas.{holds_delivered}
 use Rattle.ppm_compiling.proofs.StoreLemmas.{stored_slot, holds_behind, holds_let}
@@ -54,7 +54,7 @@ pub onward_goes : (W n next : ℕ) (h : List ℕ) (m : Memory Where) → Goes (c
 onward_goes W n next h m = goes_equal _ _ m (stops W n (instr.Ends (ends.Next next)) [] h (ends.Next next) refl)
 
 -- a value is stored in a slot
-pub store_goes : (W n i : ℕ) (rest : List Instr) (g h : List ℕ) (m : Memory Where) (v : ℤ) → InReg 0 g v h
+store_goes : (W n i : ℕ) (rest : List Instr) (g h : List ℕ) (m : Memory Where) (v : ℤ) → InReg 0 g v h
     → Goes (capsule_from W n 0 (instr.StoreCur i (register 0) ∷ rest) h) m (capsule_from W (n + 1) 0 rest h)
     (store code_locations m (Own (Slot i)) (word_of v))
 store_goes W n i rest g h m v k =
@@ -64,7 +64,7 @@ store_goes W n i rest g h m v k =
     is (stores W n (instr.StoreCur i (register 0)) rest h (OwnWord (Slot i)) (held h (register 0)) m refl)
 
 -- the word of a value that an expression has
-pub of_word : {g h : List ℕ} {d : ℕ} (v : ℤ) → InReg d g v h → HoldsValue (word_of v) v
+of_word : {g h : List ℕ} {d : ℕ} (v : ℤ) → InReg d g v h → HoldsValue (word_of v) v
 of_word {h = h} {d = d} v k = subst (λ (w : ℕ). HoldsValue w v) (word_is (slice_index h d) v k.value) k.value
 
 module _ (lengths : List ℕ) (code : CodeParts) (scope : Scope) (layout : Layout) (f : Frame) (own : FrameWord → ℕ) (a : Words) (arrays : Arrays)

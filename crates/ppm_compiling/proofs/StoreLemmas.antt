@@ -1,6 +1,6 @@
 -- Frames with a word stored in a slot, and with new names behind those of a layout.
-use Rattle.std.proofs.Common.{◌≡◌, ◌≢◌, ◌≤◌, ◌<◌, ℕ, suc, ◌+◌, ◌==◌, ℤ, cond, Bool, true, false, List, [], ◌∷◌, ◌++◌, Some, None, length}
-use Rattle.std.proofs.Common.{refl, sym, ap, ◌∙◌, subst, subst₂, arith, inl, inr}
+use Rattle.std.proofs.Common.{◌≡◌, ◌≢◌, ◌≤◌, ◌<◌, ℕ, suc, ◌+◌, ◌==◌, ℤ, cond, Bool, true, false, List, [], ◌∷◌, ◌++◌}
+use Rattle.std.proofs.Common.{Some, None, length, refl, sym, ap, ◌∙◌, subst, subst₂, arith, inl, inr}
 use Rattle.std.proofs.lemmas.Bool.{cond-false, cond-true, eq-eqb, ne_eqb}
 use Rattle.std.specs.Str.{bytes_eq}
 use Rattle.ppm_code.specs.declared.location.FrameWord.{FrameWord}
@@ -10,8 +10,8 @@ use Rattle.ppm_tree.specs.declared.named.Named.{Named}
 use Rattle.ppm_tree.specs.declared.mode.Mode.TheVariants as mode
 use Rattle.ppm_tree.specs.State.{Frame, with_local}
 use Rattle.ppm_regions.specs.Scope.{Declaration, Scope, declared, is_region, plain}
-use Rattle.ppm_regions.proofs.ScopeLemmas.{declared_in_front, declared_behind, names_same, same_names, names_other, found_cases, some_same}
-use Rattle.ppm_regions.proofs.ScopeLemmas.{none_and_some}
+use Rattle.ppm_regions.proofs.ScopeLemmas.{declared_in_front, declared_behind, names_same, same_names}
+use Rattle.ppm_regions.proofs.ScopeLemmas.{names_other, found_cases, some_same, none_and_some}
 use Rattle.ppm_translation.specs.Layout.{Layout, slot_of}
 use Rattle.ppm_translation.specs.Fits.{Has, IsNew}
 use Rattle.ppm_translation.proofs.LayoutLemmas.{slot_in_front}

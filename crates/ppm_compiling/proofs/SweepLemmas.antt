@@ -1,10 +1,6 @@
 -- The hidden procedure of an `each` runs the blocks of its elements from the first one on, by halves: what each block does, all do.
-use Rattle.std.proofs.Common.{◌≡◌, ◌≤◌, ◌<◌, ℕ, zero, suc, ◌+◌, ◌-◌, ◌*◌, ◌/◌, ◌^◌, cond, Bool, false, List, [], ◌∷◌, Some, None, length}
-use Rattle.std.proofs.Common.{refl, sym, ap, ◌∙◌, subst, arith}
-use Rattle.std.specs.List.{AllByRecursion, IsDistinct}
-use Rattle.std.specs.Str.{bytes_eq}
-use Rattle.std.proofs.lemmas.List.Sums.{sum_by-append}
-use Rattle.ppm_strands.specs.Tree.{Words, Strand, Fork as Forking, Over}
+use Rattle.std.proofs.Common.{◌≡◌, ◌≤◌, ℕ, zero, suc, ◌+◌, ◌-◌, ◌*◌, ◌/◌, ◌^◌, List, [], ◌∷◌, None, length, refl, sym, ap, ◌∙◌, subst, arith}
+use Rattle.ppm_strands.specs.Tree.{Words, Code, Strand, Fork as Forking, Over}
 use Rattle.ppm_code.specs.declared.act.End.TheVariants as ends
 use Rattle.ppm_code.specs.declared.instr.Instr.TheVariants as instr
 use Rattle.ppm_code.specs.declared.code.CodeParts.{CodeParts}
@@ -17,34 +13,21 @@ use Rattle.ppm_tree.specs.Tree as tree
 use Rattle.ppm_tree.specs.State.{Region, Frame, Locals, Arrays}
 use Rattle.ppm_tree.specs.Meaning.{Counts, spent, none, both, End, Ended, Trapped, arrays_of, first_trap}
 use Rattle.ppm_owning.specs.Coming.{stretch}
-use Rattle.std.specs.Option.{option_map}
-use Rattle.ppm_regions.specs.Scope.{Scope, each_scope, declared, in_each, element_of, seen_in_each, index_of, part}
-use Rattle.ppm_regions.proofs.ScopeLemmas.{names_same, names_other, other_names, declared_map, declared_behind}
-use Rattle.ppm_translation.specs.Layout.{Layout, slot_of, caught}
-use Rattle.ppm_translation.specs.Fits.{IsNew, IsDistinctLayout, FitsStatement, layout_behind}
+use Rattle.ppm_regions.specs.Scope.{Scope, each_scope}
+use Rattle.ppm_translation.specs.Layout.{Layout, caught}
+use Rattle.ppm_translation.specs.Fits.{FitsStatement, layout_behind}
 use Rattle.ppm_translation.specs.Numbers.{end_of, halved, element_block, behind, hidden_behind}
 use Rattle.ppm_translation.specs.Slots.{hidden_slots, hidden_named_slots, fork_words}
 use Rattle.ppm_translation.specs.Standing.{HasStatement, HasBlock}
 use Rattle.ppm_translation.specs.Statements.{Last, Gives, last_code, with_lets, hidden_layout}
 use Rattle.ppm_translation.proofs.CaughtLemmas.{IsEachOnce}
-use Rattle.ppm_compiling.specs.Correct.{words_begun}
-use Rattle.ppm_compiling.proofs.ChainLemmas.{Cost, cost, both_costs, Chain, chain_then, chain_weaken, chain_left, chain_right, chain_join}
-use Rattle.ppm_compiling.proofs.Holding.{offset_of, region_word, Shows, Holds, sweep_frame, at_work, waits, strands, CodeTree, Reaches}
-use Rattle.ppm_compiling.proofs.SlotLemmas.{part_is_region}
+use Rattle.ppm_translation.proofs.RegionWords.{lengths_of, offset_of, region_word}
+use Rattle.ppm_compiling.proofs.ChainLemmas.{Cost, cost, both_costs, within_cost, Chain, chain_then}
+use Rattle.ppm_compiling.proofs.ChainLemmas.{chain_weaken, chain_left, chain_right, chain_join}
+use Rattle.ppm_compiling.proofs.Holding.{CodeFrame, Shows, Holds, sweep_frame, at_work, waits, strands, CodeTree, Reaches}
+use Rattle.ppm_compiling.proofs.SlotLemmas.{part_slot}
 use Rattle.ppm_compiling.proofs.Doing.{Entered}
-use Rattle.ppm_compiling.proofs.Places.{lengths_of}
-use Rattle.ppm_compiling.proofs.Given.{Given, words_of, budget}
-
--- names that differ have slots of their own
-absent_new : (layout : Layout) (x : List ℕ) → AllByRecursion (λ y. bytes_eq x y ≡ false) layout → IsNew layout x
-absent_new [] x h = refl
-absent_new (y ∷ layout) x h =
-    ap (λ (b : Bool). cond b 0 (suc (slot_of layout x))) (names_other y x (λ e. other_names x y h.0 (sym e))) ∙ ap suc (absent_new layout x h.1)
-
-pub once_distinct : (layout : Layout) → IsEachOnce layout → IsDistinctLayout layout
-unfolding IsDistinct
-once_distinct [] h = tt
-once_distinct (x ∷ layout) h = (absent_new layout x h.0, once_distinct layout h.1)
+use Rattle.ppm_compiling.proofs.Given.{Given, words_of, words_both, budget}
 
 -- the last capsule of a block stands at its end
 pub end_stands : (t : ProgramTree) (code : CodeParts) (b : Block) (spare : ℕ) (layout : Layout) (at h : ℕ) (last : Last)
@@ -74,11 +57,15 @@ first_arrays (Trapped stop a) z = refl
 
 module _ (t : ProgramTree) (code : CodeParts) (given : Given t code)
     (spare : ℕ) (scope : Scope) (layout : Layout) (at h : ℕ) (f : Frame) (i x r : Named) (block : Block)
-    (stands : HasStatement t.procedures code spare layout at h (tree.Each i x r block)) (fits : FitsStatement t.procedures scope layout (tree.Each i x r block))
+    (stands : HasStatement t.procedures code spare layout at h (tree.Each i x r block))
+    (fits : FitsStatement t.procedures scope layout (tree.Each i x r block))
     (once : IsEachOnce layout) (names_few : length (caught layout block) ≤ 24)
-    (inside : offset_of (lengths_of t) (f.regions r.name).array + (f.regions r.name).start + (f.regions r.name).length ≤ 4194304) where
+    (inside : offset_of (lengths_of t.arrays) (f.regions r.name).array + (f.regions r.name).start + (f.regions r.name).length ≤ 4194304) where
   abbrev lengths : List ℕ
-  lengths = lengths_of t
+  lengths = lengths_of t.arrays
+
+  abbrev here : Code CodeFrame Outcome
+  here = strands lengths code
 
   abbrev q : Region
   q = f.regions r.name
@@ -107,7 +94,8 @@ module _ (t : ProgramTree) (code : CodeParts) (given : Given t code)
   -- what the blocks of so many elements do, from one on
   pub data Leaves : (n m : ℕ) → Arrays → Counts → End Locals → Type 0 where
     NoLeaf : (n : ℕ) (arrays : Arrays) → Leaves n zero arrays none (Ended f.locals arrays)
-    Leaf : (n m : ℕ) (arrays : Arrays) (j : Counts) (y : End Locals) {k : Counts} {z : End Locals} → LeafDoes n arrays j y → Leaves (suc n) m (arrays_of y) k z
+    Leaf : (n m : ℕ) (arrays : Arrays) (j : Counts) (y : End Locals) {k : Counts} {z : End Locals} → LeafDoes n arrays j y
+        → Leaves (suc n) m (arrays_of y) k z
         → Leaves n (suc m) arrays (both (spent 8) (both j k)) (first_trap y z)
 
   -- behind all of them the locals are as they were
@@ -137,10 +125,8 @@ module _ (t : ProgramTree) (code : CodeParts) (given : Given t code)
   first_assoc (Trapped stop a) (Ended l b) w = refl
   first_assoc (Trapped stop a) (Trapped s b) w = refl
 
-  words_both : (j k : Counts) → words_of t (both j k) ≡ words_of t j + words_of t k
-  words_both j k = sum_by-append (words_begun t.procedures) j.begun k.begun
-
-  halves : (p m n n' total : ℕ) (arrays : Arrays) {k : Counts} {z : End Locals} → n' ≡ n + p → total ≡ p + m → Leaves n total arrays k z → Halves n n' p m arrays k z
+  halves : (p m n n' total : ℕ) (arrays : Arrays) {k : Counts} {z : End Locals} → n' ≡ n + p → total ≡ p + m → Leaves n total arrays k z
+      → Halves n n' p m arrays k z
   halves zero m n n' total arrays {k = k} {z = z} e is l = record {
     first = none;
     second = k;
@@ -157,10 +143,10 @@ module _ (t : ProgramTree) (code : CodeParts) (given : Given t code)
   halves (suc p) m n n' total arrays e is (NoLeaf n0 b) = absurd (omega (arith, is))
   halves (suc p) m n n' total arrays e is (Leaf n0 m' b j y {k = k} {z = z} d rest) =
       let s = halves p m (suc n) n' m' (arrays_of y) (omega (arith, e)) (omega (arith, is)) rest in
-      let w1 = words_both (spent 8) (both j k) in
-      let w2 = words_both j k in
-      let v1 = words_both (spent 8) (both j s.first) in
-      let v2 = words_both j s.first in record {
+      let w1 = words_both t (spent 8) (both j k) in
+      let w2 = words_both t j k in
+      let v1 = words_both t (spent 8) (both j s.first) in
+      let v2 = words_both t j s.first in record {
         first = both (spent 8) (both j s.first);
         second = s.second;
         end = first_trap y s.end;
@@ -184,11 +170,11 @@ module _ (t : ProgramTree) (code : CodeParts) (given : Given t code)
     pub forked : forks + 1 ≡ m + k.forks
     pub asked : words + forking ≡ m * forking + words_of t k
     pub shows : Shows lengths behind (arrays_of z)
-    pub chain : Chain (strands lengths code) (cost 1 most forks words) (Strand (at_work own entry)) a (Over (over_of z)) behind
+    pub chain : Chain here (cost 1 most forks words) (Strand (at_work own entry)) a (Over (over_of z)) behind
 
   -- the capsule that only ends
   over_now : (k : ℕ) (own : FrameWord → ℕ) (a : Words) → instrs_of code k ≡ instr.Ends ends.Finish ∷ [] → own Value ≡ 0
-      → Chain (strands lengths code) (cost 1 1 0 0) (Strand (at_work own k)) a (Over (Gave 0)) a
+      → Chain here (cost 1 1 0 0) (Strand (at_work own k)) a (Over (Gave 0)) a
   over_now k own a is empty = given.does.finish scope layout f own a [] k k is empty
 
   -- one element: its block, and the end
@@ -197,10 +183,10 @@ module _ (t : ProgramTree) (code : CodeParts) (given : Given t code)
       → own (Slot 0) ≡ region_word lengths (stretch n 1 q)
       → Sweeps 1 (both (spent 8) (both j none)) own a (first_trap y (Ended f.locals (arrays_of y)))
   leaf n arrays own a j y d holds shows is =
-      go y (given.does.entry scope layout f own a arrays entry entry q n 1 stands.1 is (omega arith) holds.value) (d own a holds shows)
+      go y (given.does.entry scope layout f own a arrays entry entry _ 1 stands.1 is (omega arith) holds.value) (d own a holds shows)
     where
       w1 : words_of t (both (spent 8) (both j none)) ≡ words_of t j
-      w1 = let u = words_both (spent 8) (both j none) in let v = words_both j none in omega (arith, u, v)
+      w1 = let u = words_both t (spent 8) (both j none) in let v = words_both t j none in omega (arith, u, v)
 
       go : (y : End Locals) → Entered lengths code scope layout f own a arrays entry entry 1
           → Reaches lengths code inner hidden (sweep_frame f q n 1 i x) (budget t j) (Strand (at_work own (element_block entry))) a
@@ -214,13 +200,10 @@ module _ (t : ProgramTree) (code : CodeParts) (given : Given t code)
         forked = omega arith;
         asked = omega (arith, w1);
         shows = shown;
-        chain = chain_weaken (strands lengths code) (record {
-          least = omega arith;
-          most = omega arith;
-          forks = omega arith;
-          words = omega arith;
-        }) (chain_then (strands lengths code) (chain_then (strands lengths code) enters chain) (over_now (end_of block (element_block entry)) own' then_words
-            (end_stands t code block (hidden_named_slots (length (caught layout block)) block) hidden (element_block entry) (suc h) (Gives None) stands.5) held.value));
+        chain = chain_weaken here (within_cost (omega arith) (omega arith) (omega arith) (omega arith))
+            (chain_then here (chain_then here enters chain) (over_now (end_of block (element_block entry)) own' then_words
+            (end_stands t code block (hidden_named_slots (length (caught layout block)) block) hidden (element_block entry) (suc h)
+            (Gives None) stands.5) held.value));
       }
       go (Trapped stop b) enters (then_words, shown, chain) = record {
         most = 2 * j.turns + 2;
@@ -231,89 +214,65 @@ module _ (t : ProgramTree) (code : CodeParts) (given : Given t code)
         forked = omega arith;
         asked = omega (arith, w1);
         shows = shown;
-        chain = chain_weaken (strands lengths code) (record {
-          least = omega arith;
-          most = omega arith;
-          forks = omega arith;
-          words = omega arith;
-        }) (chain_then (strands lengths code) enters chain);
+        chain = chain_weaken here (within_cost (omega arith) (omega arith) (omega arith) (omega arith)) (chain_then here enters chain);
       }
 
   -- both halves are over, and so is the whole
   joined_over : (own : FrameWord → ℕ) (left right : CodeTree lengths code) (a b c : Words) (j k : Cost) (y z : End Locals)
       → instrs_of code (halved entry) ≡ instr.Ends ends.Finish ∷ [] → own Value ≡ 0
-      → Chain (strands lengths code) j left a (Over (over_of y)) b → Chain (strands lengths code) k right b (Over (over_of z)) c
-      → Chain (strands lengths code) (both_costs (both_costs j k) (cost 0 1 0 0)) (Forking (waits own (halved entry) None None) left right) a (Over (over_of (first_trap y z))) c
+      → Chain here j left a (Over (over_of y)) b → Chain here k right b (Over (over_of z)) c
+      → Chain here (both_costs (both_costs j k) (cost 0 1 0 0)) (Forking (waits own (halved entry) None None) left right) a
+      (Over (over_of (first_trap y z))) c
   joined_over own left right a b c j k (Trapped stop d) z is empty p q =
       let g = waits own (halved entry) None None in
-      let both = chain_then (strands lengths code) (chain_left (strands lengths code) g right p) (chain_right (strands lengths code) g (TrappedAt stop.0 stop.1) q) in
-      chain_weaken (strands lengths code) (record {
-        least = omega arith;
-        most = omega arith;
-        forks = omega arith;
-        words = omega arith;
-      }) (chain_join (strands lengths code) g (TrappedAt stop.0 stop.1) (over_of z) (Over (TrappedAt stop.0 stop.1)) refl both)
+      let both = chain_then here (chain_left here g right p) (chain_right here g (TrappedAt stop.0 stop.1) q) in
+      chain_weaken here (within_cost (omega arith) (omega arith) (omega arith) (omega arith))
+      (chain_join here g (TrappedAt stop.0 stop.1) (over_of z) (Over (TrappedAt stop.0 stop.1)) refl both)
   joined_over own left right a b c j k (Ended l d) (Trapped stop e) is empty p q =
       let g = waits own (halved entry) None None in
-      let both = chain_then (strands lengths code) (chain_left (strands lengths code) g right p) (chain_right (strands lengths code) g (Gave 0) q) in
-      chain_weaken (strands lengths code) (record {
-        least = omega arith;
-        most = omega arith;
-        forks = omega arith;
-        words = omega arith;
-      }) (chain_join (strands lengths code) g (Gave 0) (TrappedAt stop.0 stop.1) (Over (TrappedAt stop.0 stop.1)) refl both)
+      let both = chain_then here (chain_left here g right p) (chain_right here g (Gave 0) q) in
+      chain_weaken here (within_cost (omega arith) (omega arith) (omega arith) (omega arith))
+      (chain_join here g (Gave 0) (TrappedAt stop.0 stop.1) (Over (TrappedAt stop.0 stop.1)) refl both)
   joined_over own left right a b c j k (Ended l d) (Ended m e) is empty p q =
       let g = waits own (halved entry) None None in
-      let both = chain_then (strands lengths code) (chain_left (strands lengths code) g right p) (chain_right (strands lengths code) g (Gave 0) q) in
-      let joined = chain_join (strands lengths code) g (Gave 0) (Gave 0) (Strand (at_work own (halved entry))) refl both in
-      chain_weaken (strands lengths code) (record {
-        least = omega arith;
-        most = omega arith;
-        forks = omega arith;
-        words = omega arith;
-      }) (chain_then (strands lengths code) joined (over_now (halved entry) own c is empty))
+      let both = chain_then here (chain_left here g right p) (chain_right here g (Gave 0) q) in
+      let joined = chain_join here g (Gave 0) (Gave 0) (Strand (at_work own (halved entry))) refl both in
+      chain_weaken here (within_cost (omega arith) (omega arith) (omega arith) (omega arith))
+      (chain_then here joined (over_now (halved entry) own c is empty))
 
   -- the region in hand is small
   pub small_word : (n m : ℕ) → n + m ≤ q.length → region_word lengths (stretch n m q) ≤ 4194304 * 2 ^ 32 + 4194304
   small_word n m low = omega (arith, inside, low)
 
-  part_declared : declared inner x.name ≡ Some (part scope r x)
-  part_declared =
-      let gone = declared_map x.name (seen_in_each r) (λ d. refl) scope ∙ ap (option_map (seen_in_each r)) fits.5 in
-      declared_behind x.name (in_each scope r) (element_of scope r i x) gone
-      ∙ ap (λ (b : Bool). cond b (Some (index_of i)) (cond (bytes_eq x.name x.name) (Some (part scope r x)) None)) (names_other i.name x.name fits.3)
-      ∙ ap (λ (b : Bool). cond b (Some (part scope r x)) None) (names_same x.name x.name refl)
-
-  part_first : slot_of hidden x.name ≡ 0
-  part_first = ap (λ (b : Bool). cond b 0 (suc (slot_of (i.name ∷ caught layout block) x.name))) (names_same x.name x.name refl)
-
-  pub part_slot : (n m : ℕ) (own : FrameWord → ℕ) → Holds lengths inner hidden (sweep_frame f q n m i x) own → own (Slot 0) ≡ region_word lengths (stretch n m q)
-  part_slot n m own holds =
-      ap (λ (k : ℕ). own (Slot k)) (sym part_first)
-      ∙ holds.region x.name (part scope r x) part_declared (part_is_region (declared scope r.name)) (let low : 0 < length hidden = omega arith in subst (λ (k : ℕ). k < length hidden) (sym part_first) low)
-      ∙ ap (λ (b : Bool). region_word lengths (cond b (stretch n m q) (f.regions x.name))) (names_same x.name x.name refl)
+  -- the part stands in its slot
+  pub part_in_hand : (n m : ℕ) (own : FrameWord → ℕ) → Holds lengths inner hidden (sweep_frame f q n m i x) own
+      → own (Slot 0) ≡ region_word lengths (stretch n m q)
+  part_in_hand n m own holds = part_slot lengths scope layout f i x r block fits.3 fits.4 fits.5 q n m own holds
 
   -- the entry, the fork, both halves, and the end
   abbrev steps : (m1 f1 w1 m2 f2 w2 : ℕ) → Cost
-  steps m1 f1 w1 m2 f2 w2 = both_costs (both_costs (cost 1 1 0 0) (cost 1 1 1 forking)) (both_costs (both_costs (cost 1 m1 f1 w1) (cost 1 m2 f2 w2)) (cost 0 1 0 0))
+  steps m1 f1 w1 m2 f2 w2 = both_costs (both_costs (cost 1 1 0 0) (cost 1 1 1 forking))
+      (both_costs (both_costs (cost 1 m1 f1 w1) (cost 1 m2 f2 w2)) (cost 0 1 0 0))
 
   -- so many elements, by halves
   sweep : (fuel m n : ℕ) (arrays : Arrays) (own : FrameWord → ℕ) (a : Words) {k : Counts} {z : End Locals} → m ≤ fuel → 1 ≤ m → n + m ≤ q.length
       → Leaves n m arrays k z → Holds lengths inner hidden (sweep_frame f q n m i x) own → Shows lengths a arrays → Sweeps m k own a z
   sweep fuel zero n arrays own a most some low l holds shows = absurd (omega (arith, some))
   sweep fuel (suc zero) n arrays own a most some low (Leaf n0 zero b j y d (NoLeaf n1 c)) holds shows =
-      leaf n arrays own a j y d holds shows (part_slot n 1 own holds)
+      leaf n arrays own a j y d holds shows (part_in_hand n 1 own holds)
   sweep zero (suc (suc m)) n arrays own a most some low l holds shows = absurd (omega (arith, most))
   sweep (suc fuel) (suc (suc m)) n arrays own a {k = k} {z = z} most some low l holds shows =
       let total : ℕ = suc (suc m) in
       let first : ℕ = total / 2 in
       let second : ℕ = total - total / 2 in
       let cut = halves first second n (n + first) total arrays refl (omega arith) l in
-      let enters = given.does.entry scope layout f own a arrays entry entry q n total stands.1 (part_slot n total own holds) (omega (arith, low, inside)) holds.value in
+      let enters = given.does.entry scope layout f own a arrays entry entry _ total stands.1 (part_in_hand n total own holds)
+      (omega (arith, low, inside)) holds.value in
       let forks = given.does.halving scope layout f own a arrays entry entry i x r block h q n total stands.2 stands.4 refl holds
-      fits.1 fits.2 fits.3 fits.4 fits.5 (once_distinct layout once) names_few (small_word n total low) (omega (arith, low, inside)) (omega arith) in
+      fits.3 fits.4 fits.5 names_few (small_word n total low) (omega (arith, low, inside)) in
       let left = sweep fuel first n arrays forks.0 a (omega (arith, most)) (omega arith) (omega (arith, low)) cut.front forks.2 shows in
-      let right = sweep fuel second (n + first) (arrays_of cut.end) forks.1 left.behind (omega (arith, most)) (omega arith) (omega (arith, low)) cut.back forks.3 left.shows in
+      let right = sweep fuel second (n + first) (arrays_of cut.end) forks.1 left.behind (omega (arith, most)) (omega arith)
+      (omega (arith, low)) cut.back forks.3 left.shows in
       let joined = joined_over own _ _ a left.behind right.behind _ _ cut.end cut.rest stands.3 holds.value left.chain right.chain in
       let product = times total first second forking (omega arith) in record {
         most = 4 + left.most + right.most;
@@ -324,21 +283,17 @@ module _ (t : ProgramTree) (code : CodeParts) (given : Given t code)
         forked = omega (arith, left.forked, right.forked, cut.forks);
         asked = omega (arith, left.asked, right.asked, cut.words, product);
         shows = subst (λ (b : Arrays). Shows lengths right.behind b) (sym (first_arrays cut.end cut.rest) ∙ ap arrays_of cut.whole) right.shows;
-        chain = chain_weaken (strands lengths code) (record {
-          least = omega arith;
-          most = omega arith;
-          forks = omega arith;
-          words = omega arith;
-        }) (subst (λ (z : End Locals). Chain (strands lengths code) (steps left.most left.forks left.words right.most right.forks right.words)
+        chain = chain_weaken here (within_cost (omega arith) (omega arith) (omega arith) (omega arith))
+            (subst (λ (z : End Locals). Chain here (steps left.most left.forks left.words right.most right.forks right.words)
             (Strand (at_work own entry)) a (Over (over_of z)) right.behind) cut.whole
-            (chain_then (strands lengths code) (chain_then (strands lengths code) enters forks.4) joined));
+            (chain_then here (chain_then here enters forks.4) joined));
       }
 
   -- all elements, from none on
   pub record Swept (m : ℕ) (k : Counts) (own : FrameWord → ℕ) (a : Words) (z : End Locals) : Type 0 where
     pub behind : Words
     pub shows : Shows lengths behind (arrays_of z)
-    pub chain : Chain (strands lengths code) (cost 1 (2 * k.turns + 1) (m - 1 + k.forks) ((m - 1) * forking + words_of t k)) (Strand (at_work own entry)) a
+    pub chain : Chain here (cost 1 (2 * k.turns + 1) (m - 1 + k.forks) ((m - 1) * forking + words_of t k)) (Strand (at_work own entry)) a
         (Over (over_of z)) behind
 
   pub swept : (m n : ℕ) (arrays : Arrays) (own : FrameWord → ℕ) (a : Words) {k : Counts} {z : End Locals} → n + m ≤ q.length
@@ -346,12 +301,8 @@ module _ (t : ProgramTree) (code : CodeParts) (given : Given t code)
   swept zero n arrays own a low (NoLeaf n0 b) holds shows = record {
     behind = a;
     shows = shows;
-    chain = chain_weaken (strands lengths code) (record {
-      least = omega arith;
-      most = omega arith;
-      forks = omega arith;
-      words = omega arith;
-    }) (given.does.entry scope layout f own a arrays entry entry q n 0 stands.1 (part_slot n 0 own holds) (omega arith) holds.value);
+    chain = chain_weaken here (within_cost (omega arith) (omega arith) (omega arith) (omega arith))
+        (given.does.entry scope layout f own a arrays entry entry _ 0 stands.1 (part_in_hand n 0 own holds) (omega arith) holds.value);
   }
   swept (suc m) n arrays own a {k = k} low l holds shows =
       let s = sweep (suc m) (suc m) n arrays own a (omega arith) (omega arith) low l holds shows in
@@ -359,10 +310,6 @@ module _ (t : ProgramTree) (code : CodeParts) (given : Given t code)
       let product : suc m * forking ≡ forking + m * forking = times_suc m forking in record {
         behind = s.behind;
         shows = s.shows;
-        chain = chain_weaken (strands lengths code) (record {
-          least = omega arith;
-          most = omega (arith, s.few);
-          forks = omega (arith, s.forked);
-          words = omega (arith, s.asked, product) ∙ ap (λ (e : ℕ). e * forking + words_of t k) (sym less);
-        }) s.chain;
+        chain = chain_weaken here (within_cost (omega arith) (omega (arith, s.few)) (omega (arith, s.forked))
+            (omega (arith, s.asked, product) ∙ ap (λ (e : ℕ). e * forking + words_of t k) (sym less))) s.chain;
       }

@@ -1,6 +1,5 @@
 -- The theorem, from the two directions.
-use Rattle.std.proofs.Common.{◌≡◌, ◌≢◌, inl, inr, ℕ, ℤ, suc, List, [], ◌∷◌, ◌++◌, None, codes, length, map, refl, sym, ap, subst, arith}
-use Rattle.std.specs.List.{flat_map}
+use Rattle.std.proofs.Common.{◌≡◌, inl, inr, ℕ, ℤ, suc, List, codes, length, refl, sym, ap, subst, arith}
 use Rattle.std.proofs.lemmas.List.{length-map}
 use Rattle.ppm_strands.specs.Tree.{Words, Tree, Code, Strand, Over}
 use Rattle.ppm_strands.specs.Run.{none as nothing, End as CapsuleEnd, with_counts, Ends}
@@ -17,12 +16,8 @@ use Rattle.ppm_tree.specs.Tree.{Procedure, ProgramTree}
 use Rattle.ppm_tree.specs.Limits.{IsWithin}
 use Rattle.ppm_tree.specs.Meaning.{Whole, Counts, End, Ended, Trapped, arrays_of, Enter}
 use Rattle.ppm_tree.specs.Program.{values_of, main_of, main_frame, Means}
-use Rattle.ppm_regions.specs.Scope.{scope_of, first_named}
-use Rattle.ppm_regions.specs.Uses.{Begins, Fills, uses_of_main, sites_at, sites_of_names, sites_of_procedure}
-use Rattle.ppm_regions.proofs.Elements.{contains_head}
-use Rattle.std.proofs.lemmas.List.Elements.{Contains-append_right}
+use Rattle.ppm_regions.specs.Scope.{scope_of}
 use Rattle.ppm_regions.specs.Admission.{IsAdmitted}
-use Rattle.ppm_regions.proofs.Rules.{rules}
 use Rattle.ppm_bounds.specs.Bounds.{IsWithinBounds}
 use Rattle.ppm_owning.specs.Coming.{Main}
 use Rattle.ppm_translation.specs.Inputs.{IsInputOf}
@@ -31,10 +26,12 @@ use Rattle.ppm_translation.specs.Slots.{named_slots}
 use Rattle.ppm_translation.specs.Routines.{code_of}
 use Rattle.ppm_translation.specs.Statements.{number_of}
 use Rattle.ppm_translation.specs.Standing.{HasBody}
+use Rattle.ppm_translation.proofs.MainLemmas.{main_is}
 use Rattle.ppm_translation.proofs.CaughtLemmas.{each_once}
+use Rattle.ppm_translation.proofs.RegionWords.{lengths_of}
 use Rattle.ppm_compiling.specs.Correct.{IsEndOf, EndsAsMeant, EndAsMeant}
 use Rattle.ppm_compiling.proofs.Holding.{CodeFrame, at_work, strands}
-use Rattle.ppm_compiling.proofs.Places.{lengths_of, Place}
+use Rattle.ppm_compiling.proofs.Places.{Place}
 use Rattle.ppm_compiling.proofs.Given.{AllDo, Given, budget}
 use Rattle.ppm_compiling.proofs.GivenLemmas.{all_given}
 use Rattle.ppm_compiling.proofs.ReachLemmas.{Returned}
@@ -50,24 +47,25 @@ use Rattle.ppm_compiling.proofs.Forward.{enters}
 use Rattle.ppm_compiling.proofs.Progress.{OfBlock, progress}
 
 -- all constructs do what they are to do
-all_do : (t : ProgramTree) → AllDo (lengths_of t) (code_of t) t.procedures
+all_do : (t : ProgramTree) → AllDo (lengths_of t.arrays) (code_of t) t.procedures
 all_do t = record {
-  let_ = let_does (lengths_of t) (code_of t);
-  assign = assign_does (lengths_of t) (code_of t);
-  put = put_does (lengths_of t) (code_of t);
-  test = test_does (lengths_of t) (code_of t);
-  split = split_does (lengths_of t) (code_of t);
-  give = give_does (lengths_of t) (code_of t);
-  onward = onward_does (lengths_of t) (code_of t);
-  finish = finish_does (lengths_of t) (code_of t);
-  call = λ scope layout f own a arrays at next. call_does (lengths_of t) (code_of t) scope layout f own a arrays at next t.procedures;
-  fork = λ scope layout f own a arrays at next. fork_does (lengths_of t) (code_of t) scope layout f own a arrays at next t.procedures;
-  each = each_does (lengths_of t) (code_of t);
-  entry = entry_does (lengths_of t) (code_of t);
-  halving = halving_does (lengths_of t) (code_of t);
+  declare = let_does (lengths_of t.arrays) (code_of t);
+  assign = assign_does (lengths_of t.arrays) (code_of t);
+  put = put_does (lengths_of t.arrays) (code_of t);
+  test = test_does (lengths_of t.arrays) (code_of t);
+  split = split_does (lengths_of t.arrays) (code_of t);
+  give = give_does (lengths_of t.arrays) (code_of t);
+  onward = onward_does (lengths_of t.arrays) (code_of t);
+  finish = finish_does (lengths_of t.arrays) (code_of t);
+  call = λ scope layout f own a arrays at next. call_does (lengths_of t.arrays) (code_of t) scope layout f own a arrays at next t.procedures;
+  fork = λ scope layout f own a arrays at next. fork_does (lengths_of t.arrays) (code_of t) scope layout f own a arrays at next t.procedures;
+  each = each_does (lengths_of t.arrays) (code_of t);
+  entry = entry_does (lengths_of t.arrays) (code_of t);
+  halving = halving_does (lengths_of t.arrays) (code_of t);
 }
 
-module _ (t : ProgramTree) (within : IsWithin t) (admitted : IsAdmitted t) (bounds : IsWithinBounds t) (input : List NamedArray) (is : IsInputOf t input) where
+module _ (t : ProgramTree) (within : IsWithin t) (admitted : IsAdmitted t) (bounds : IsWithinBounds t) (input : List NamedArray)
+    (is : IsInputOf t input) where
   facts : Given t (code_of t)
   facts = all_given t within admitted bounds (all_do t)
 
@@ -83,26 +81,18 @@ module _ (t : ProgramTree) (within : IsWithin t) (admitted : IsAdmitted t) (boun
   abbrev a : Words
   a = words_of (words_in input)
 
-  abbrev c_ : Code CodeFrame Outcome
-  c_ = strands (lengths_of t) (code_of t)
+  abbrev here : Code CodeFrame Outcome
+  here = strands (lengths_of t.arrays) (code_of t)
 
   abbrev root : Tree CodeFrame Outcome
   root = Strand (at_work own (entry_of (code_of t) (number_of t.procedures main)))
 
   -- the strands of the code, over the input
-  same_strands : strands_of (code_of t) input ≡ c_
+  same_strands : strands_of (code_of t) input ≡ here
   same_strands = strands_are t input is
 
-  has_main : first_named (λ p. p.name.name) t.procedures main ≢ None
-  has_main =
-      let uses = Begins ∷ flat_map uses_of_main t.procedures ++ map Fills t.inputs in
-      let names = sites_of_names (map (λ a. a.name) t.arrays) ++ sites_of_names (map (λ p. p.name) t.procedures)
-      ++ sites_of_names (map (λ i. i.name) t.inputs) ++ flat_map (sites_of_procedure t) t.procedures in
-      (rules t admitted).main [] (Contains-append_right names (sites_at [] uses) (record { scope = []; made = Begins })
-      (contains_head (record { scope = []; made = Begins }) (sites_at [] (flat_map uses_of_main t.procedures ++ map Fills t.inputs))))
-
   body : HasBody t.procedures (code_of t) (number_of t.procedures main) p
-  body = facts.stands.each main has_main
+  body = facts.stands.each main (main_is t admitted)
 
   place : Place t (scope_of p) (parameter_layout p.parameters) (named_slots p) p.body (main_frame t.arrays p.parameters)
   place =
@@ -119,21 +109,22 @@ module _ (t : ProgramTree) (within : IsWithin t) (admitted : IsAdmitted t) (boun
         modest = modest.body;
       }
 
-  back : (k : Counts) (z : End ℤ) → Means Whole t (values_of input) k z → Returned (lengths_of t) (code_of t) (budget t k) root a z
+  back : (k : Counts) (z : End ℤ) → Means Whole t (values_of input) k z → Returned (lengths_of t.arrays) (code_of t) (budget t k) root a z
   back k z run = enters t (code_of t) facts run (number_of t.procedures main) own a place body (facts.fits main) (facts.modest main)
       (root_holds t input admitted is) (input_shown t input is)
 
   -- the end of the code, from a chain to it
-  abbrev End_ : Counts → End ℤ → Type 0
-  End_ k z = (e : CapsuleEnd Outcome) × Ends c_ root a e × IsEndOf t input e k z
+  abbrev EndOf : Counts → End ℤ → Type 0
+  EndOf k z = (e : CapsuleEnd Outcome) × Ends here root a e × IsEndOf t input e k z
 
-  ends_by : (k : Counts) (z : End ℤ) → length (arrays_of z) ≡ length input → Returned (lengths_of t) (code_of t) (budget t k) root a z → End_ k z
+  ends_by : (k : Counts) (z : End ℤ) → length (arrays_of z) ≡ length input → Returned (lengths_of t.arrays) (code_of t) (budget t k) root a z
+      → EndOf k z
   ends_by k (Ended v arrays) count q =
       let m = q.made in
       let d : CapsuleEnd Outcome = record { outcome = Gave m.0; words = m.1; counts = nothing } in
       let e = with_counts m.4.0 d in (
         e,
-        (chains_keep_ends c_ m.4.0 root (Over (Gave m.0)) a m.1 m.4.1.0 m.4.1.1 e).1 (d, (1, refl), refl),
+        (chains_keep_ends here m.4.0 root (Over (Gave m.0)) a m.1 m.4.1.0 m.4.1.1 e).1 (d, (1, refl), refl),
         record {
           outcome = said_shown t input is m.1 arrays m.0 v count m.3;
           capsules = omega (arith, m.4.2.most);
@@ -146,7 +137,7 @@ module _ (t : ProgramTree) (within : IsWithin t) (admitted : IsAdmitted t) (boun
       let d : CapsuleEnd Outcome = record { outcome = TrappedAt stop.0 stop.1; words = m.0; counts = nothing } in
       let e = with_counts m.2.0 d in (
         e,
-        (chains_keep_ends c_ m.2.0 root (Over (TrappedAt stop.0 stop.1)) a m.0 m.2.1.0 m.2.1.1 e).1 (d, (1, refl), refl),
+        (chains_keep_ends here m.2.0 root (Over (TrappedAt stop.0 stop.1)) a m.0 m.2.1.0 m.2.1.1 e).1 (d, (1, refl), refl),
         record {
           outcome = said_trapped input m.0 stop arrays;
           capsules = omega (arith, m.2.2.most);
@@ -155,32 +146,36 @@ module _ (t : ProgramTree) (within : IsWithin t) (admitted : IsAdmitted t) (boun
         },
       )
 
-  ends_ : (k : Counts) (z : End ℤ) → Means Whole t (values_of input) k z → End_ k z
-  ends_ k z run = ends_by k z (run_keeps_count Whole t admitted input k z run) (back k z run)
+  code_ends : (k : Counts) (z : End ℤ) → Means Whole t (values_of input) k z → EndOf k z
+  code_ends k z run = ends_by k z (run_keeps_count Whole t admitted input k z run) (back k z run)
 
   -- the meaning has an end, or the code goes on for so many capsules
-  goes : (n : ℕ) → OfBlock t (code_of t) facts n p.body (main_frame t.arrays p.parameters) (values_of input) own (entry_of (code_of t) (number_of t.procedures main)) a
-  goes n = (progress t (code_of t) facts n).block p.body (main_frame t.arrays p.parameters) (values_of input) (scope_of p) (parameter_layout p.parameters) (named_slots p)
+  goes : (n : ℕ) → OfBlock t (code_of t) facts n p.body (main_frame t.arrays p.parameters) (values_of input) own
+      (entry_of (code_of t) (number_of t.procedures main)) a
+  goes n = (progress t (code_of t) facts n).block p.body (main_frame t.arrays p.parameters) (values_of input) (scope_of p)
+      (parameter_layout p.parameters) (named_slots p)
       (entry_of (code_of t) (number_of t.procedures main)) body.h _ own a place body.body (root_holds t input admitted is) (input_shown t input is)
 
-  ends_only_ : (e : CapsuleEnd Outcome) → Ends c_ root a e → (k : Counts) × (z : End ℤ) × Means Whole t (values_of input) k z × IsEndOf t input e k z
-  ends_only_ e h = elim (goes (suc e.counts.capsules)) [
+  code_ends_only : (e : CapsuleEnd Outcome) → Ends here root a e → (k : Counts) × (z : End ℤ) × Means Whole t (values_of input) k z
+      × IsEndOf t input e k z
+  code_ends_only e h = elim (goes (suc e.counts.capsules)) [
     | inl d ↦ of_run (Enter p (main_frame t.arrays p.parameters) (values_of input) d.2)
     | inr l ↦
-        let d = (chains_keep_ends c_ l.0 root l.1 a l.2 l.3.0 l.3.1 e).0 h in
+        let d = (chains_keep_ends here l.0 root l.1 a l.2 l.3.0 l.3.1 e).0 h in
         let same = ap (λ (z : CapsuleEnd Outcome). z.counts.capsules) d.2 in
         absurd (omega (arith, same, l.4))
   ]
     where
-      of_run : {k : Counts} {z : End ℤ} → Means Whole t (values_of input) k z → (k : Counts) × (z : End ℤ) × Means Whole t (values_of input) k z × IsEndOf t input e k z
+      of_run : {k : Counts} {z : End ℤ} → Means Whole t (values_of input) k z → (k : Counts) × (z : End ℤ) × Means Whole t (values_of input) k z
+          × IsEndOf t input e k z
       of_run {k = k} {z = z} run =
-          let q = ends_ k z run in
-          (k, z, run, subst (λ (d : CapsuleEnd Outcome). IsEndOf t input d k z) (one_end c_ root a q.0 e q.1 h) q.2)
+          let q = code_ends k z run in
+          (k, z, run, subst (λ (d : CapsuleEnd Outcome). IsEndOf t input d k z) (one_end here root a q.0 e q.1 h) q.2)
 
   pub as_meant : EndsAsMeant t input
   as_meant = record {
-    ends = λ k z run. let q = ends_ k z run in (q.0, subst (λ (c : Code CodeFrame Outcome). Ends c root a q.0) (sym same_strands) q.1, q.2);
-    ends_only = λ e h. ends_only_ e (subst (λ (c : Code CodeFrame Outcome). Ends c root a e) same_strands h);
+    ends = λ k z run. let q = code_ends k z run in (q.0, subst (λ (c : Code CodeFrame Outcome). Ends c root a q.0) (sym same_strands) q.1, q.2);
+    ends_only = λ e h. code_ends_only e (subst (λ (c : Code CodeFrame Outcome). Ends c root a e) same_strands h);
     goes_on = λ n. elim (goes n) [
       | inl d ↦ inl (_, _, Enter p (main_frame t.arrays p.parameters) (values_of input) d.2)
       | inr l ↦ inr (l.0, l.1, l.2, subst (λ (c : Code CodeFrame Outcome). StepsInTurn c l.0 root a l.1 l.2) (sym same_strands) l.3, l.4)

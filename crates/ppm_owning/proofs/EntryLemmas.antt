@@ -132,7 +132,7 @@ whole_ends k (b ∷ arrays) x = go (bytes_eq b.name.name x) (whole_ends (suc k) 
 
 -- the parameters of `main` stand for whole arrays
 module _ (arrays : List Array) where
-  main_regions : (ps : List Parameter) (z : List ℕ) (e : Declaration) → declared (map of_parameter ps) z ≡ Some e
+  pub main_regions : (ps : List Parameter) (z : List ℕ) (e : Declaration) → declared (map of_parameter ps) z ≡ Some e
       → (main_frame arrays ps).regions z ≡ whole_from 0 arrays z
   main_regions [] z e h = absurd (none_and_some refl h)
   main_regions (p ∷ ps) z e h = go (bytes_eq p.name.name z) refl (main_regions ps z e) h

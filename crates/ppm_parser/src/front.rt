@@ -169,18 +169,52 @@ pub fn operator_in(level: Level, tokens: &[Token]) -> Option<(Operator, u32, u32
     }
 }
 
+/// Whether no operator of the level is in front.
+fn is_free(level: Level, tokens: &[Token]) -> bool
+    ensures { IsTrue result → NoOperator level tokens.now }
+{
+    match operator_in(level, tokens) {
+        Some(_) => false,
+        None => true,
+    }
+}
+
 /// Whether no operator of the level is in front, nor of one that binds more.
 pub fn has_none(level: Level, tokens: &[Token]) -> bool
     ensures { IsTrue result → NoneWithin level tokens.now }
 {
-    let None = operator_in(level, tokens) else {
+    if !is_free(Level::Product, tokens) {
         return false;
-    };
+    }
     match level {
-        Level::Either => has_none(Level::Both, tokens),
-        Level::Both => has_none(Level::Comparison, tokens),
-        Level::Comparison => has_none(Level::Sum, tokens),
-        Level::Sum => has_none(Level::Product, tokens),
         Level::Product => true,
+        Level::Sum => is_free(Level::Sum, tokens),
+        Level::Comparison => {
+            if !is_free(Level::Sum, tokens) {
+                return false;
+            }
+            is_free(Level::Comparison, tokens)
+        }
+        Level::Both => {
+            if !is_free(Level::Sum, tokens) {
+                return false;
+            }
+            if !is_free(Level::Comparison, tokens) {
+                return false;
+            }
+            is_free(Level::Both, tokens)
+        }
+        Level::Either => {
+            if !is_free(Level::Sum, tokens) {
+                return false;
+            }
+            if !is_free(Level::Comparison, tokens) {
+                return false;
+            }
+            if !is_free(Level::Both, tokens) {
+                return false;
+            }
+            is_free(Level::Either, tokens)
+        }
     }
 }

@@ -1,6 +1,5 @@
 -- All capsules of an admitted program are safe.
-use Rattle.std.proofs.Common.{◌≡◌, ◌≤◌, ℕ, suc, ◌+◌, List, [], ◌∷◌, ◌++◌, None, Some, length, map}
-use Rattle.std.proofs.Common.{refl, ap, arith}
+use Rattle.std.proofs.Common.{◌≡◌, ◌≤◌, ℕ, suc, ◌+◌, List, [], ◌∷◌, ◌++◌, None, Some, length, map, refl, ap, arith}
 use Rattle.std.specs.List.{All, AllByRecursion, Contains}
 use Rattle.std.specs.Prelude.{slice_get, Option}
 use Rattle.std.proofs.lemmas.List.{length-append}
@@ -27,22 +26,21 @@ use Rattle.ppm_translation.specs.Layout.{Layout, parameter_layout}
 use Rattle.ppm_translation.specs.Numbers.{behind, end_of, hidden_behind, hidden_behind_block, element_block}
 use Rattle.ppm_translation.specs.Slots.{named_slots, hidden_named_slots, hidden_slots}
 use Rattle.ppm_translation.specs.Statements.{Last, OnTo, Gives, onward, last_code, with_lets, with_parts, hidden_layout, statement_code, block_code}
-use Rattle.ppm_translation.specs.Routines.{Routine, OfText, Hidden, Sweep, sweep_layout, routine_behind, hidden_of, hidden_of_block, texts_from}
-use Rattle.ppm_translation.specs.Routines.{hidden_from, routines_of, routine_code, capsules_from, code_of}
+use Rattle.ppm_translation.specs.Routines.{Routine, OfText, Hidden, Sweep, sweep_layout, routine_behind, hidden_of, hidden_of_block}
+use Rattle.ppm_translation.specs.Routines.{texts_from, hidden_from, routines_of, routine_code, capsules_from, code_of}
 use Rattle.ppm_translation.specs.Fits.{layout_behind, FitsStatement, FitsBlock, FitsGive, FitsProcedure}
 use Rattle.ppm_translation.proofs.FitsLemmas.{each_fits}
-use Rattle.ppm_translation.proofs.PlaceLemmas.{past, past_length, texts_past, ArePlaced, placed_first, placed_second, hidden_past}
-use Rattle.ppm_translation.proofs.PlaceLemmas.{hidden_past_block}
-use Rattle.ppm_translation.proofs.PlaceLemmas.{routines_placed, procedures_have}
+use Rattle.ppm_translation.proofs.PlaceLemmas.{past, past_length, texts_past, ArePlaced, placed_first, placed_second}
+use Rattle.ppm_translation.proofs.PlaceLemmas.{hidden_past, hidden_past_block, routines_placed, procedures_have}
 use Rattle.ppm_translation.proofs.CaughtLemmas.{caught_have_slots}
+use Rattle.ppm_translation.proofs.LayoutLemmas.{lets_length}
 use Rattle.ppm_soundness.proofs.PlainLemmas.{all_at, Below, IsSafe, end_last, safe}
 use Rattle.ppm_soundness.proofs.SafeLemmas.{safe_onward, safe_let, safe_value, safe_move, safe_element, safe_put, safe_test, safe_split}
-use Rattle.ppm_soundness.proofs.SafeLemmas.{safe_give, safe_each}
-use Rattle.ppm_soundness.proofs.SafeLemmas.{safe_entry, safe_halving, HasSlots, safe_call, safe_fork}
+use Rattle.ppm_soundness.proofs.SafeLemmas.{safe_give, safe_each, safe_entry, safe_halving, HasSlots, safe_call, safe_fork}
 use Rattle.ppm_soundness.specs.Correct.{MayBeStopped, StoresTidily}
 
 -- what holds of each element of two lists holds of each of both together
-pub all_both : {X : Type 0} (P : X → Type 0) (xs ys : List X) → AllByRecursion P xs → AllByRecursion P ys → AllByRecursion P (xs ++ ys)
+all_both : {X : Type 0} (P : X → Type 0) (xs ys : List X) → AllByRecursion P xs → AllByRecursion P ys → AllByRecursion P (xs ++ ys)
 all_both P [] ys h k = k
 all_both P (x ∷ xs) ys h k = (h.0, all_both P xs ys h.1 k)
 
@@ -54,18 +52,6 @@ all_map f P Q go (y ∷ ys) h = (go y h.0, all_map f P Q go ys h.1)
 all_each : {X : Type 0} (P Q : X → Type 0) → ((x : X) → Q x → P x) → (xs : List X) → AllByRecursion Q xs → All P xs
 all_each P Q go [] h = All-nil P
 all_each P Q go (x ∷ xs) h = All-cons P x xs (go x h.0) (all_each P Q go xs h.1)
-
--- a statement adds no more names than are counted
-lets_within : (layout : Layout) (s : Statement) → length (with_lets layout s) ≡ length layout + length (names.lets_of s)
-lets_within layout (Let x e) = length-append layout (x.name ∷ [])
-lets_within layout (Assign x e) = omega arith
-lets_within layout (Put x i e) = omega arith
-lets_within layout (If e s u) = omega arith
-lets_within layout (While e s) = omega arith
-lets_within layout (tree.Call s) = omega arith
-lets_within layout (tree.Fork s u) = omega arith
-lets_within layout (Split line r e x y s) = omega arith
-lets_within layout (Each i x r s) = omega arith
 
 module _ (procedures : List Procedure) (code : CodeParts) (have : HasSlots procedures code) where
   -- what a block ends with fits
@@ -135,7 +121,7 @@ module _ (procedures : List Procedure) (code : CodeParts) (have : HasSlots proce
         let counted = length (names.lets_of s) + most_in_force rest in
         let l = le-max_left (most_within s) counted in
         let r = le-max_right (most_within s) counted in
-        let longer = lets_within layout s in
+        let longer = lets_length layout s in
         all_both (IsSafe code) (statement_code procedures spare layout at h s)
         (block_code procedures spare (with_lets layout s) (behind s at) (hidden_behind s h) last rest)
         (safe_statement s scope layout spare at h fits.0 (omega (arith, enough, l)) (placed_first procedures code own more h placed))

@@ -1,6 +1,6 @@
 -- The capsules of statements without calls are tame.
-use Rattle.std.proofs.Common.{◌≡◌, ◌≤◌, ◌<◌, ℕ, suc, ◌+◌, ◌-◌, max, List, [], ◌∷◌, ◌++◌, Option, Some, None, length, replicate, slice_set, refl}
-use Rattle.std.proofs.Common.{sym, ap, ◌∙◌, subst, arith}
+use Rattle.std.proofs.Common.{◌≡◌, ◌≤◌, ◌<◌, ℕ, suc, ◌+◌, ◌-◌, max, List, [], ◌∷◌, ◌++◌, Option, Some, None}
+use Rattle.std.proofs.Common.{length, replicate, slice_set, refl, sym, ap, ◌∙◌, subst, arith}
 use Rattle.std.proofs.lemmas.List.{append-nil}
 use Rattle.ppm_capsules.specs.Capsule.{Memory, store}
 use Rattle.ppm_capsules.specs.Strand.{Own, Shared, own_of}
@@ -28,16 +28,16 @@ use Rattle.ppm_owning.specs.Owning.{IsWritable}
 use Rattle.ppm_translation.specs.Layout.{Layout, slot_of, register}
 use Rattle.ppm_translation.specs.Expressions.{size_of, expression_code}
 use Rattle.ppm_translation.specs.Numbers.{behind, end_of, hidden_behind, hidden_behind_block}
-use Rattle.ppm_translation.specs.Statements.{onward, let_code, value_code, move_code, element_code, put_code, test_code, last_code, Last, OnTo}
-use Rattle.ppm_translation.specs.Statements.{Gives, with_lets}
+use Rattle.ppm_translation.specs.Statements.{onward, let_code, value_code, move_code, element_code, put_code}
+use Rattle.ppm_translation.specs.Statements.{test_code, last_code, Last, OnTo, Gives, with_lets}
 use Rattle.ppm_translation.specs.Fits.{Has, IsRegion, FitsExpression}
 use Rattle.ppm_soundness.proofs.CalmLemmas.{IsGood}
 use Rattle.ppm_soundness.proofs.OwnLemmas.{Label, OwnsWord, WritesWord, AreShort, owned_at, written_at}
-use Rattle.ppm_soundness.proofs.TameLemmas.{World, Tame, Goes, held_set, held_other, registers_differ, Keeps, keeps_itself, go_load, go_store}
-use Rattle.ppm_soundness.proofs.TameLemmas.{go_give, go_end, go_zero, go_put}
+use Rattle.ppm_soundness.proofs.TameLemmas.{World, Tame, Goes, held_set, held_other, registers_differ, Keeps}
+use Rattle.ppm_soundness.proofs.TameLemmas.{keeps_itself, go_load, go_store, go_give, go_end, go_zero, go_put}
 use Rattle.ppm_soundness.proofs.TameExpressions.{tame_expression}
-use Rattle.ppm_soundness.proofs.StandLemmas.{Level, level, IsUnder, same_store, IsOff, off_behind, off_local, seen_of, Leads, IsOver, GoesOn}
-use Rattle.ppm_soundness.proofs.StandLemmas.{IsAt, at_on, leads_onto}
+use Rattle.ppm_soundness.proofs.StandLemmas.{Level, level, IsUnder, same_store, IsOff, off_behind, off_local, seen_of}
+use Rattle.ppm_soundness.proofs.StandLemmas.{Leads, IsOver, GoesOn, IsAt, at_on, leads_onto}
 use Rattle.ppm_soundness.proofs.LevelLemmas.{behind_at, Runs, Begins, Moves, Puts, Waits}
 
 -- the registers with which a capsule begins

@@ -1,6 +1,6 @@
 -- The capsules of a call and of a fork are tame: a callee owns what is lent to it, and two branches own apart.
-use Rattle.std.proofs.Common.{◌≡◌, ◌≢◌, ◌≤◌, ◌<◌, ℕ, zero, suc, ◌+◌, ◌==◌, cond, Bool, true, false, List, [], ◌∷◌, ◌++◌, Option, Some, None}
-use Rattle.std.proofs.Common.{length, slice_set, refl, sym, ap, ◌∙◌, subst, arith}
+use Rattle.std.proofs.Common.{◌≡◌, ◌≢◌, ◌≤◌, ◌<◌, ℕ, zero, suc, ◌+◌, ◌==◌, cond, Bool, true, false, List, [], ◌∷◌, ◌++◌}
+use Rattle.std.proofs.Common.{Option, Some, None, length, slice_set, refl, sym, ap, ◌∙◌, subst, arith}
 use Rattle.std.proofs.lemmas.List.{length-map}
 use Rattle.std.proofs.lemmas.Bool.{eqb-true, eq-eqb}
 use Rattle.ppm_capsules.specs.Capsule.{Memory, store}
@@ -36,11 +36,12 @@ use Rattle.ppm_owning.proofs.EntryLemmas.{lends_are, lent_from, lent_apart, lent
 use Rattle.ppm_owning.proofs.ComingLemmas.{call_facts, left_facts, right_facts}
 use Rattle.ppm_translation.specs.Layout.{Layout, slot_of, target_of, parameter_layout, register}
 use Rattle.ppm_translation.specs.Slots.{named_slots, frame_words, fork_words}
-use Rattle.ppm_translation.specs.Statements.{Last, Gives, lent_code, argument_size, argument_code, arguments_size, arguments_code, paired}
-use Rattle.ppm_translation.specs.Statements.{stores_code, number_of, callee_number, callee_slots}
+use Rattle.ppm_translation.specs.Statements.{Last, Gives, lent_code, argument_size, argument_code, arguments_size, arguments_code}
+use Rattle.ppm_translation.specs.Statements.{paired, stores_code, number_of, callee_number, callee_slots}
 use Rattle.ppm_translation.specs.Fits.{FitsArgument, FitsArguments, FitsTarget, FitsProcedure, FitsLent}
 use Rattle.ppm_translation.specs.Standing.{HasBodies, HasBody}
-use Rattle.ppm_soundness.proofs.OwnLemmas.{Label, region_word, AreShort, less_label, apart_labels}
+use Rattle.ppm_translation.proofs.RegionWords.{lengths_of, region_word}
+use Rattle.ppm_soundness.proofs.OwnLemmas.{Label, AreShort, less_label, apart_labels}
 use Rattle.ppm_soundness.proofs.TameLemmas.{World, Goes, held_set, Keeps, keeps_itself, keeps_set, keeps_on, go_load, go_new, go_room, go_end}
 use Rattle.ppm_soundness.proofs.StandLemmas.{Level, level, IsUnder, IsSame, IsOff, AreOff, off_local, seen_of, IsOver, IsAt, at_on, Few}
 use Rattle.ppm_soundness.proofs.LevelLemmas.{behind_at, Runs, Begins, ForCallee}
@@ -68,7 +69,7 @@ new_here m j k v e = ap (λ (b : Bool). cond b v (m (NewWord j))) (eq-eqb j k e)
 pub same_words : (v : Level) (m new : Memory Where) → ((s : FrameWord) → new (Own s) ≡ m (Own s)) → IsSame v (own_of m) (own_of new)
 same_words v m new h = record { same = λ x d f r has. h (Slot (slot_of v.layout x)) }
 
-pub off_under : (w v : Level) (k : ℕ) → IsUnder w v → IsOff v k → IsOff w k
+off_under : (w v : Level) (k : ℕ) → IsUnder w v → IsOff v k → IsOff w k
 off_under w v k u h = record {
   off = λ x d f r has e.
       let a = u.front x has in
@@ -125,7 +126,7 @@ module _ (t : ProgramTree) (code : CodeParts) (rules : KeepsRules t) (admitted :
 
   module _ (m : Memory Where) (v : Level) (a : IsAt t code l (own_of m) v) where
     lent_tame : (e : Expression) → FitsLent v.scope v.layout e → (d here : ℕ) (is : List Instr) (f g : List ℕ) → Keeps d f g
-        → ((h : List ℕ) → Keeps d f h → held h (register d) ≡ region_word t.arrays (lent v.frame e) → Goes all (here + 1) is h m)
+        → ((h : List ℕ) → Keeps d f h → held h (register d) ≡ region_word (lengths_of t.arrays) (lent v.frame e) → Goes all (here + 1) is h m)
         → Goes all here (lent_code v.layout e d ∷ is) g m
     lent_tame (tree.Name x) fits d here is f g keep go =
         let w = m (Own (Slot (slot_of v.layout x.name))) in
@@ -140,7 +141,7 @@ module _ (t : ProgramTree) (code : CodeParts) (rules : KeepsRules t) (admitted :
 
     argument_tame : (o : Mode) (e : Expression) → FitsArgument v.scope v.layout o e → (d at here : ℕ) (is : List Instr) (f g : List ℕ)
         → at ≡ here → Keeps d f g
-        → ((h : List ℕ) → Keeps d f h → (is_region o ≡ true → held h (register d) ≡ region_word t.arrays (lent v.frame e))
+        → ((h : List ℕ) → Keeps d f h → (is_region o ≡ true → held h (register d) ≡ region_word (lengths_of t.arrays) (lent v.frame e))
         → Goes all (here + argument_size o e) is h m)
         → Goes all here (argument_code v.layout o e d at is) g m
     argument_tame mode.Int e fits d at here is f g at_is keep go =
@@ -153,7 +154,8 @@ module _ (t : ProgramTree) (code : CodeParts) (rules : KeepsRules t) (admitted :
 
     pub arguments_tame : (ps : List Parameter) (args : List Argument) → FitsArguments v.scope v.layout ps args → (d at here : ℕ) (is : List Instr)
         (f g : List ℕ) → at ≡ here → d + paired ps args ≤ 63 → Keeps d f g
-        → ((h : List ℕ) → Keeps d f h → IsLent v.frame (region_word t.arrays) h ps args d → Goes all (here + arguments_size ps args) is h m)
+        → ((h : List ℕ) → Keeps d f h → IsLent v.frame (region_word (lengths_of t.arrays)) h ps args d
+        → Goes all (here + arguments_size ps args) is h m)
         → Goes all here (arguments_code v.layout ps args d at is) g m
     arguments_tame [] [] fits d at here is f g at_is few keep go = moved all m is g here (here + 0) (omega arith) (go g keep tt)
     arguments_tame [] (b ∷ args) fits d at here is f g at_is few keep go = absurd fits
@@ -175,7 +177,7 @@ module _ (t : ProgramTree) (code : CodeParts) (rules : KeepsRules t) (admitted :
     entered_label = record { scope = scope_of (callee t s); regions = entered_frame.regions }
 
     pub record IsLentAll (g : List ℕ) (d : ℕ) (own : FrameWord → ℕ) : Type 0 where
-      pub lent : IsLent frame (region_word t.arrays) g (callee t s).parameters s.arguments d
+      pub lent : IsLent frame (region_word (lengths_of t.arrays)) g (callee t s).parameters s.arguments d
       pub slots : (j : ℕ) → j < paired (callee t s).parameters s.arguments → own (Slot j) ≡ held g (register (d + j))
 
     module _ (fits : first_named (λ p. p.name.name) t.procedures s.callee.name ≢ None) (count : length (callee t s).parameters ≡ length s.arguments)
@@ -210,7 +212,8 @@ module _ (t : ProgramTree) (code : CodeParts) (rules : KeepsRules t) (admitted :
             };
             holds = record {
               holds = λ x seen has.
-                  let there = given_held frame (region_word t.arrays) g p.parameters s.arguments empty_frame d fit.distinct count h.lent x
+                  let there =
+                  given_held frame (region_word (lengths_of t.arrays)) g p.parameters s.arguments empty_frame d fit.distinct count h.lent x
                   seen.declaration seen.found seen.region in
                   h.slots (slot_of (parameter_layout p.parameters) x) there.0 ∙ there.1;
             };
@@ -379,7 +382,8 @@ module _ (t : ProgramTree) (code : CodeParts) (rules : KeepsRules t) (admitted :
             entered_label scope frame u,
             callee_runs scope frame s fits.0.callee left_count.count left_comes_from left_is_apart a.stays.within g 0 (built 5 (new_of new))
                 (record {
-                  lent = lent_kept frame (region_word t.arrays) f g ps s.arguments 0 n (omega arith) (omega (arith, below, narrow)) i lent;
+                  lent = lent_kept frame (region_word (lengths_of t.arrays)) f g ps s.arguments 0 n (omega arith)
+                      (omega (arith, below, narrow)) i lent;
                   slots = λ j low.
                       (let e : 5 + (6 + j) ≡ 11 + j = omega arith in ap (λ (o : ℕ). new (NewWord o)) e)
                       ∙ st'.front (11 + j) (omega (arith, low, below)) ∙ st.within j low;

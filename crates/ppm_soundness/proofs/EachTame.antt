@@ -1,6 +1,6 @@
 -- The capsules of an `each` and of its hidden procedure are tame: each half owns its own part, and reads the names of outside.
-use Rattle.std.proofs.Common.{◌≡◌, ◌≢◌, ◌≤◌, ◌<◌, ℕ, zero, suc, ◌+◌, cond, Bool, true, false, List, [], ◌∷◌, ◌++◌, Some, None, length, slice_set}
-use Rattle.std.proofs.Common.{inl, inr, refl, sym, ap, ◌∙◌, subst, arith}
+use Rattle.std.proofs.Common.{◌≡◌, ◌≢◌, ◌≤◌, ◌<◌, ℕ, zero, suc, ◌+◌, cond, Bool, true, false, List, [], ◌∷◌, ◌++◌, Some}
+use Rattle.std.proofs.Common.{None, length, slice_set, inl, inr, refl, sym, ap, ◌∙◌, subst, arith}
 use Rattle.std.specs.Prelude.{pos, int_lt}
 use Rattle.std.specs.Str.{bytes_eq}
 use Rattle.std.specs.Option.{option_map}
@@ -25,8 +25,7 @@ use Rattle.ppm_tree.specs.State.{Frame, Region}
 use Rattle.ppm_regions.specs.Scope.{Declaration, Scope, declared, is_region, each_scope, in_each, element_of, part, seen_in_each, index_of}
 use Rattle.ppm_regions.specs.Admission.{IsAdmitted}
 use Rattle.ppm_regions.specs.Correct.{KeepsRules}
-use Rattle.ppm_regions.proofs.ScopeLemmas.{same_names, names_same, names_other, other_names, declared_behind, declared_map, none_and_some}
-use Rattle.ppm_regions.proofs.ScopeLemmas.{some_same}
+use Rattle.ppm_regions.proofs.ScopeLemmas.{same_names, names_same, names_other, other_names, declared_behind, declared_map, none_and_some, some_same}
 use Rattle.ppm_owning.specs.Words.{IsPart, HasWord}
 use Rattle.ppm_owning.specs.Owning.{IsSeen, OwnsNoMore}
 use Rattle.ppm_owning.specs.Coming.{part_frame}
@@ -38,9 +37,10 @@ use Rattle.ppm_translation.specs.Numbers.{hidden_behind_block, halving, element_
 use Rattle.ppm_translation.specs.Slots.{hidden_slots, frame_words}
 use Rattle.ppm_translation.specs.Statements.{Last, hidden_layout, stores_code, loads_code, names_code}
 use Rattle.ppm_translation.specs.Fits.{Has}
-use Rattle.ppm_soundness.proofs.OwnLemmas.{Label, region_word, AreShort, less_label}
-use Rattle.ppm_soundness.proofs.TameLemmas.{World, Goes, held_set, Keeps, keeps_itself, keeps_set, keeps_on, go_set, go_load, go_room, go_end}
-use Rattle.ppm_soundness.proofs.TameLemmas.{go_zero}
+use Rattle.ppm_translation.proofs.RegionWords.{lengths_of, region_word}
+use Rattle.ppm_soundness.proofs.OwnLemmas.{Label, AreShort, less_label}
+use Rattle.ppm_soundness.proofs.TameLemmas.{World, Goes, held_set, Keeps, keeps_itself, keeps_set, keeps_on}
+use Rattle.ppm_soundness.proofs.TameLemmas.{go_set, go_load, go_room, go_end, go_zero}
 use Rattle.ppm_soundness.proofs.StandLemmas.{Level, level, seen_of, IsAt, at_on}
 use Rattle.ppm_soundness.proofs.LevelLemmas.{behind_at, has_one, has_none, IsSwept, element_level, element_at, Begins, Enters, Halves, ForCallee}
 use Rattle.ppm_soundness.proofs.BlockTame.{world, zeros, zeros_kept}
@@ -49,7 +49,7 @@ use Rattle.ppm_soundness.proofs.SplitTame.{seen_back, or_left}
 use Rattle.ppm_soundness.proofs.CallTame.{same_words, stores_tame}
 
 -- a name that is caught has a slot in the layout
-pub has_all : (test : List ℕ → Bool) (layout : Layout) (z : List ℕ) → Has (filter test layout) z → Has layout z
+has_all : (test : List ℕ → Bool) (layout : Layout) (z : List ℕ) → Has (filter test layout) z → Has layout z
 has_all test [] z h = h
 has_all test (y ∷ layout) z h = go (test y) h (has_all test layout z)
   where
@@ -190,23 +190,23 @@ module _ (world : World) (m : Memory Where) where
 module _ (t : ProgramTree) (code : CodeParts) (rules : KeepsRules t) (admitted : IsAdmitted t) (short : AreShort t.arrays) (words : ℕ) where
   -- the slots of a hidden procedure hold its part, and the regions of outside
   pub swept_holds : (scope : Scope) (layout : Layout) (i x r : Named) (block : Block) (frame : Frame) (q : Region) (own : FrameWord → ℕ)
-      → declared scope i.name ≡ None → own (Slot 0) ≡ region_word t.arrays q
+      → declared scope i.name ≡ None → own (Slot 0) ≡ region_word (lengths_of t.arrays) q
       → ((z : List ℕ) → IsSeen (each_scope scope r i x) z → x.name ≢ z → Has (caught layout block) z → bytes_eq x.name z ≡ false
       → bytes_eq i.name z ≡ false
-      → own (Slot (suc (suc (slot_of (caught layout block) z)))) ≡ region_word t.arrays (frame.regions z))
+      → own (Slot (suc (suc (slot_of (caught layout block) z)))) ≡ region_word (lengths_of t.arrays) (frame.regions z))
       → (z : List ℕ) → IsSeen (each_scope scope r i x) z → Has (hidden_layout layout i x block) z
-      → own (Slot (slot_of (hidden_layout layout i x block) z)) ≡ region_word t.arrays ((part_frame frame x q).regions z)
+      → own (Slot (slot_of (hidden_layout layout i x block) z)) ≡ region_word (lengths_of t.arrays) ((part_frame frame x q).regions z)
   swept_holds scope layout i x r block frame q own fresh first others z seen has = elim (has_one z x.name (i.name ∷ caught layout block) has) [
     | inl same ↦
         ap (λ (b : Bool). own (Slot (cond b 0 (suc (slot_of (i.name ∷ caught layout block) z))))) (names_same x.name z same) ∙ first
-        ∙ ap (region_word t.arrays) (sym (at_part frame x q z same))
+        ∙ ap (region_word (lengths_of t.arrays)) (sym (at_part frame x q z same))
     | inr j ↦ elim (has_one z i.name (caught layout block) j.0) [
       | inl same ↦ absurd (index_unseen scope r i x z same fresh seen)
       | inr k ↦
           let other = other_names x.name z j.1 in
           ap (λ (b : Bool). own (Slot (cond b 0 (suc (slot_of (i.name ∷ caught layout block) z))))) j.1
           ∙ ap (λ (b : Bool). own (Slot (suc (cond b 0 (suc (slot_of (caught layout block) z)))))) k.1
-          ∙ others z seen other k.0 j.1 k.1 ∙ ap (region_word t.arrays) (sym (at_outside frame x q z other))
+          ∙ others z seen other k.0 j.1 k.1 ∙ ap (region_word (lengths_of t.arrays)) (sym (at_outside frame x q z other))
     ]
   ]
 
@@ -253,7 +253,7 @@ module _ (t : ProgramTree) (code : CodeParts) (rules : KeepsRules t) (admitted :
           let own = built 0 (new_of new) in
           let slots : (j : ℕ) → j < n → own (Slot j) ≡ held g (register (0 + j)) =
           λ j low. (let e : 0 + (6 + j) ≡ 6 + j = omega arith in ap (λ (o : ℕ). new (NewWord o)) e) ∙ st.within j low in
-          let first : own (Slot 0) ≡ region_word t.arrays whole_part =
+          let first : own (Slot 0) ≡ region_word (lengths_of t.arrays) whole_part =
           slots 0 (omega arith) ∙ k.kept 0 (omega arith) (omega arith) ∙ k2.kept 0 (omega arith) (omega arith)
           ∙ held_set zeros (register 0) (m (Own (Slot slot))) refl ∙ holds_whole in
           go_end all (3 + length names + n) [] g new end (

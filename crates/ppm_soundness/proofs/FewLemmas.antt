@@ -1,7 +1,5 @@
 -- What holds of all procedures of a program within its limits and bounds: few parameters, and blocks of an `each` that catch few names.
-use Rattle.std.proofs.Common.{◌≤◌, ℕ, cond, Bool, true, false, List, [], ◌∷◌, ◌++◌, length, arith}
-use Rattle.std.specs.Str.{bytes_eq}
-use Rattle.std.specs.List.{AllByRecursion}
+use Rattle.std.proofs.Common.{◌≤◌, List, ◌++◌, length, arith}
 use Rattle.std.proofs.lemmas.List.Elements.{recursion_from_All}
 use Rattle.ppm_tree.specs.Tree.{Expression, Argument, Side, Statement, Block, Nil, Then, Procedure, ProgramTree}
 use Rattle.ppm_tree.specs.Tree as tree
@@ -16,7 +14,8 @@ use Rattle.ppm_bounds.proofs.Keeping.{all-first, all-second}
 use Rattle.ppm_translation.specs.Layout.{Layout, parameter_layout}
 use Rattle.ppm_translation.specs.Statements.{with_lets, with_parts, hidden_layout}
 use Rattle.ppm_translation.specs.Fits.{FitsStatement, FitsBlock}
-use Rattle.ppm_translation.proofs.CaughtLemmas.{IsEachOnce, each_once, once_push, once_parts, once_hidden, caught_is_counted}
+use Rattle.ppm_translation.proofs.NamedLemmas.{of_named, weaker}
+use Rattle.ppm_translation.proofs.CaughtLemmas.{once_lets, IsEachOnce, each_once, once_parts, once_hidden, caught_is_counted}
 use Rattle.ppm_translation.proofs.FitsLemmas.{names_have_slots}
 use Rattle.ppm_translation.proofs.PlaceLemmas.{procedures_have}
 use Rattle.ppm_translation.specs.Routines.{code_of}
@@ -26,18 +25,11 @@ use Rattle.ppm_soundness.proofs.CallTame.{Facts}
 abbrev CatchesFew : Statement → Type 0
 CatchesFew s = count_of bound.Caught s ≤ limit_of bound.Caught
 
-once_lets : (procedures : List Procedure) (scope : Scope) (layout : Layout) (s : Statement) → FitsStatement procedures scope layout s
-    → IsEachOnce layout
-    → IsEachOnce (with_lets layout s)
-once_lets ps scope layout (tree.Let x e) f h = once_push layout x.name h f.1
-once_lets ps scope layout (tree.Assign x e) f h = h
-once_lets ps scope layout (tree.Put x index e) f h = h
-once_lets ps scope layout (tree.If e holds other) f h = h
-once_lets ps scope layout (tree.While e block) f h = h
-once_lets ps scope layout (tree.Call s) f h = h
-once_lets ps scope layout (tree.Fork s t) f h = h
-once_lets ps scope layout (tree.Split line r e x y block) f h = h
-once_lets ps scope layout (tree.Each i x r block) f h = h
+abbrev CatchesFewWithin : Procedure → Type 0
+CatchesFewWithin p = KeepsAt bound.Caught (statements_in p.body)
+
+abbrev HasFewParameters : Procedure → Type 0
+HasFewParameters p = length p.parameters ≤ 12
 
 module _ (procedures : List Procedure) where
   mutual
@@ -74,34 +66,16 @@ module _ (procedures : List Procedure) where
               (once_lets procedures scope layout s f.0 once),
         )
 
--- of each procedure that a name stands for
-narrow_named : (procedures : List Procedure) → AllByRecursion IsSmall procedures → (x : List ℕ)
-    → length (procedure_named procedures x).parameters ≤ 12
-narrow_named [] all x = omega arith
-narrow_named (p ∷ procedures) all x = go (bytes_eq p.name.name x) (narrow_named procedures all.1 x)
-  where
-    go : (b : Bool) → length (procedure_named procedures x).parameters ≤ 12 → length (cond b p (procedure_named procedures x)).parameters ≤ 12
-    go true rest = all.0.count
-    go false rest = rest
-
-kept_named : (procedures : List Procedure) → AllByRecursion (KeepsBound bound.Caught) procedures → (x : List ℕ)
-    → KeepsAt bound.Caught (statements_in (procedure_named procedures x).body)
-kept_named [] all x = tt
-kept_named (p ∷ procedures) all x = go (bytes_eq p.name.name x) (kept_named procedures all.1 x)
-  where
-    go : (b : Bool) → KeepsAt bound.Caught (statements_in (procedure_named procedures x).body)
-        → KeepsAt bound.Caught (statements_in (cond b p (procedure_named procedures x)).body)
-    go true rest = all.0.hidden
-    go false rest = rest
-
 pub facts : (t : ProgramTree) → IsWithin t → IsAdmitted t → IsWithinBounds t → Facts t (code_of t)
 facts t small admitted bounds = record {
   stand = procedures_have t;
   fit = names_have_slots t admitted;
-  narrow = narrow_named t.procedures (recursion_from_All IsSmall t.procedures small.procedures);
+  narrow = of_named HasFewParameters (omega arith) t.procedures
+      (weaker IsSmall HasFewParameters (λ p s. s.count) t.procedures (recursion_from_All IsSmall t.procedures small.procedures));
   few = λ x.
       let p = procedure_named t.procedures x in
       let fit = names_have_slots t admitted x in
-      few_block t.procedures (scope_of p) (parameter_layout p.parameters) p.body fit.body (kept_named t.procedures bounds.caught x)
+      few_block t.procedures (scope_of p) (parameter_layout p.parameters) p.body fit.body
+      (of_named CatchesFewWithin tt t.procedures (weaker (KeepsBound bound.Caught) CatchesFewWithin (λ p k. k.hidden) t.procedures bounds.caught) x)
       (each_once (parameter_layout p.parameters) fit.distinct);
 }

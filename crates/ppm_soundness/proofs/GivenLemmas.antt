@@ -1,6 +1,6 @@
 -- The regions that a call gives to its callee, whatever the values of its other arguments are.
-use Rattle.std.proofs.Common.{◌≡◌, ◌≤◌, ◌<◌, ℕ, suc, ◌+◌, cond, Bool, true, false, List, [], ◌∷◌, ◌++◌, Some, length, map, refl, sym, ap, ◌∙◌}
-use Rattle.std.proofs.Common.{subst, arith}
+use Rattle.std.proofs.Common.{◌≡◌, ◌≤◌, ◌<◌, ℕ, suc, ◌+◌, cond, Bool, true, false, List, [], ◌∷◌, ◌++◌}
+use Rattle.std.proofs.Common.{Some, length, map, refl, sym, ap, ◌∙◌, subst, arith}
 use Rattle.std.specs.Prelude.{pos, Ok}
 use Rattle.std.specs.Str.{bytes_eq}
 use Rattle.ppm_code.specs.Acts.{held}
@@ -154,7 +154,7 @@ lendings_plain (p ∷ ps) (a ∷ args) =
     one mode.Mut = refl
     one mode.Ref = refl
 
-pub plain_count : (ps : List Parameter) (args : List Argument) → length (plain_arguments ps args) ≡ length args
+plain_count : (ps : List Parameter) (args : List Argument) → length (plain_arguments ps args) ≡ length args
 plain_count [] args = refl
 plain_count (p ∷ ps) [] = refl
 plain_count (p ∷ ps) (a ∷ args) = ap suc (plain_count ps args)

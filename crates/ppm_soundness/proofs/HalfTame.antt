@@ -1,6 +1,6 @@
 -- A hidden procedure that goes on by halves: it forks itself over both halves of its part, and gives both the names of outside.
-use Rattle.std.proofs.Common.{◌≡◌, ◌≤◌, ◌<◌, ℕ, suc, ◌+◌, ◌-◌, ◌*◌, ◌^◌, cond, Bool, List, [], ◌∷◌, None, length, slice_set, refl, sym, ap, ◌∙◌}
-use Rattle.std.proofs.Common.{subst, arith}
+use Rattle.std.proofs.Common.{◌≡◌, ◌≤◌, ◌<◌, ℕ, suc, ◌+◌, ◌-◌, ◌*◌, ◌^◌, cond, Bool, List, [], ◌∷◌, None}
+use Rattle.std.proofs.Common.{length, slice_set, refl, sym, ap, ◌∙◌, subst, arith}
 use Rattle.std.specs.Prelude.{pos, ◌+ℤ◌, int_div}
 use Rattle.ppm_capsules.specs.Capsule.{Memory, store}
 use Rattle.ppm_capsules.specs.Strand.{Own, New as NewWord, own_of, new_of}
@@ -28,12 +28,12 @@ use Rattle.ppm_translation.specs.Layout.{Layout, slot_of, caught, register}
 use Rattle.ppm_translation.specs.Numbers.{halving, halved}
 use Rattle.ppm_translation.specs.Slots.{hidden_slots, frame_words, fork_words}
 use Rattle.ppm_translation.specs.Statements.{Instrs, hidden_layout, stores_code, names_code}
+use Rattle.ppm_translation.proofs.RegionWords.{lengths_of, region_word}
 use Rattle.ppm_soundness.proofs.CalmLemmas.{IsLess, AreApart}
-use Rattle.ppm_soundness.proofs.OwnLemmas.{Label, region_word, OwnsWord, WritesWord, AreShort, seen_short, length_is, first_word, second_word}
-use Rattle.ppm_soundness.proofs.OwnLemmas.{less_label, apart_labels}
-use Rattle.ppm_soundness.proofs.TameLemmas.{World, Goes, IsFile, file_set, held_set, held_other, registers_differ, keeps_itself, keeps_set}
-use Rattle.ppm_soundness.proofs.TameLemmas.{go_set, go_work, go_load, go_new, go_room, go_end, go_cut_left, go_cut_right, whole_works}
-use Rattle.ppm_soundness.proofs.TameLemmas.{divided_works}
+use Rattle.ppm_soundness.proofs.OwnLemmas.{Label, OwnsWord, WritesWord, AreShort, seen_short, length_is}
+use Rattle.ppm_soundness.proofs.OwnLemmas.{first_word, second_word, less_label, apart_labels}
+use Rattle.ppm_soundness.proofs.TameLemmas.{World, Goes, IsFile, file_set, held_set, held_other, registers_differ, keeps_itself, keeps_set, go_set}
+use Rattle.ppm_soundness.proofs.TameLemmas.{go_work, go_load, go_new, go_room, go_end, go_cut_left, go_cut_right, whole_works, divided_works}
 use Rattle.ppm_soundness.proofs.StandLemmas.{seen_of}
 use Rattle.ppm_soundness.proofs.LevelLemmas.{IsSwept, Runs, Enters, ForHalves}
 use Rattle.ppm_soundness.proofs.BlockTame.{world, zeros, zeros_kept}
@@ -58,7 +58,7 @@ module _ (t : ProgramTree) (code : CodeParts) (rules : KeepsRules t) (admitted :
   slots = hidden_slots count w.block
 
   abbrev region_of : Region → ℕ
-  region_of = region_word t.arrays
+  region_of = region_word (lengths_of t.arrays)
 
   abbrev inner : Scope
   inner = each_scope w.scope w.r w.i w.x

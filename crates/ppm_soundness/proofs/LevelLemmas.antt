@@ -1,8 +1,7 @@
 -- How a frame that stands at a block goes on: behind its first statement, in its blocks, and in those of an `each`.
-use Rattle.std.proofs.Common.{◌≡◌, ◌≤◌, ◌<◌, ℕ, suc, ◌+◌, cond, Bool, true, false, List, [], ◌∷◌, ◌++◌, None, length, inl, inr, ◌⊎◌, refl, ap}
-use Rattle.std.proofs.Common.{◌∙◌, subst, arith}
+use Rattle.std.proofs.Common.{◌≡◌, ◌<◌, ℕ, suc, ◌+◌, cond, Bool, true, false, List, [], ◌∷◌, ◌++◌}
+use Rattle.std.proofs.Common.{None, length, inl, inr, ◌⊎◌, refl, ap, ◌∙◌, subst, arith}
 use Rattle.std.specs.Str.{bytes_eq}
-use Rattle.std.proofs.lemmas.List.{length-append}
 use Rattle.ppm_capsules.specs.Strand.{Frame as CapsuleFrame}
 use Rattle.ppm_code.specs.declared.act.End.TheVariants as ends
 use Rattle.ppm_code.specs.declared.code.CodeParts.{CodeParts}
@@ -25,14 +24,14 @@ use Rattle.ppm_owning.specs.Coming.{part_frame}
 use Rattle.ppm_owning.proofs.ScopeLemmas.{seen_before, mut_before, owned_before, written_before}
 use Rattle.ppm_owning.proofs.PartLemmas.{lie_still}
 use Rattle.ppm_owning.proofs.ComingLemmas.{each_sites, part_apart, part_comes}
-use Rattle.ppm_bounds.specs.Slots.{most_in_force}
 use Rattle.ppm_translation.specs.Layout.{Layout, slot_of, caught}
 use Rattle.ppm_translation.specs.Numbers.{behind, hidden_behind, halving, element_block}
 use Rattle.ppm_translation.specs.Slots.{hidden_named_slots}
 use Rattle.ppm_translation.specs.Statements.{Last, OnTo, Gives, with_lets, hidden_layout}
 use Rattle.ppm_translation.specs.Fits.{Has, FitsStatement}
-use Rattle.ppm_translation.proofs.LayoutLemmas.{slot_in_front, has_in_front}
-use Rattle.ppm_soundness.proofs.OwnLemmas.{Label, region_word}
+use Rattle.ppm_translation.proofs.LayoutLemmas.{lets_room, slot_in_front, has_in_front}
+use Rattle.ppm_translation.proofs.RegionWords.{lengths_of, region_word}
+use Rattle.ppm_soundness.proofs.OwnLemmas.{Label}
 use Rattle.ppm_soundness.proofs.StandLemmas.{Level, level, IsUnder, same_itself, AreOff, LastFits, Stays, IsOver, leads_on, IsAt}
 
 -- a name of a longer layout is one of the front, or one behind
@@ -92,18 +91,6 @@ lets_back ps (tree.Call s) scope layout x fits seen h = h
 lets_back ps (tree.Fork s u) scope layout x fits seen h = h
 lets_back ps (tree.Split l r e y z s) scope layout x fits seen h = h
 lets_back ps (tree.Each i y r s) scope layout x fits seen h = h
-
-lets_room : (s : Statement) (rest : Block) (layout : Layout) (spare : ℕ) → length layout + most_in_force (Then s rest) ≤ spare
-    → length (with_lets layout s) + most_in_force rest ≤ spare
-lets_room (tree.Let y e) rest layout spare h = let n = length-append layout (y.name ∷ []) in omega (arith, h, n)
-lets_room (tree.Assign y e) rest layout spare h = omega (arith, h)
-lets_room (tree.Put y i e) rest layout spare h = omega (arith, h)
-lets_room (tree.If e s u) rest layout spare h = omega (arith, h)
-lets_room (tree.While e s) rest layout spare h = omega (arith, h)
-lets_room (tree.Call s) rest layout spare h = omega (arith, h)
-lets_room (tree.Fork s u) rest layout spare h = omega (arith, h)
-lets_room (tree.Split l r e y z s) rest layout spare h = omega (arith, h)
-lets_room (tree.Each i y r s) rest layout spare h = omega (arith, h)
 
 module _ (t : ProgramTree) (code : CodeParts) (rules : KeepsRules t) (admitted : IsAdmitted t) (l : Label) where
   module _ (spare : ℕ) (scope : Scope) (layout : Layout) (at h : ℕ) (last : Last) (s : Statement) (rest : Block) (frame : Frame) where
@@ -168,9 +155,9 @@ module _ (t : ProgramTree) (code : CodeParts) (rules : KeepsRules t) (admitted :
     pub stays : Stays t code around (level spare scope layout at h last (Then (tree.Each i x r block) rest) frame)
     pub part : IsPart q (frame.regions r.name)
     pub home : OwnsNoMore (each_scope scope r i x) (part_frame frame x q).regions l.scope l.regions
-    pub first : own (Slot 0) ≡ region_word t.arrays q
+    pub first : own (Slot 0) ≡ region_word (lengths_of t.arrays) q
     pub holds : (z : List ℕ) → IsSeen (each_scope scope r i x) z → Has (hidden_layout layout i x block) z
-        → own (Slot (slot_of (hidden_layout layout i x block) z)) ≡ region_word t.arrays ((part_frame frame x q).regions z)
+        → own (Slot (slot_of (hidden_layout layout i x block) z)) ≡ region_word (lengths_of t.arrays) ((part_frame frame x q).regions z)
 
   module _ (own : FrameWord → ℕ) (w : IsSwept own) where
     abbrev pub element_level : Level

@@ -1,25 +1,15 @@
 -- The array words that a scope with its regions owns, as addresses: the arrays lie one after the other.
-use Rattle.std.proofs.Common.{◌≡◌, ◌≤◌, ◌<◌, ℕ, zero, suc, ◌+◌, ◌*◌, ◌^◌, List, [], ◌∷◌, map, refl, sym, ap, ◌∙◌, subst, arith, ◌-◌, ap₂}
+use Rattle.std.proofs.Common.{◌≡◌, ◌<◌, ℕ, ◌+◌, ◌*◌, ◌^◌, List, map, refl, sym, ap, ◌∙◌, subst, arith, ◌-◌, ap₂}
 use Rattle.std.specs.List.{sum}
 use Rattle.std.proofs.lemmas.Nat.{div-mul-add, mod-mul-add}
-use Rattle.std.proofs.lemmas.List.Sums.{sum_by-cons}
 use Rattle.ppm_code.specs.Acts.{start_of, length_of}
 use Rattle.ppm_tree.specs.declared.tree.Array.{Array}
 use Rattle.ppm_tree.specs.State.{Region, Regions, first_part, second_part}
 use Rattle.ppm_regions.specs.Scope.{Scope}
 use Rattle.ppm_owning.specs.Owning.{IsSeen, IsWritable, Owns, MayWrite, words_at, LieInArrays, OwnsNoMore, AreSeparate}
 use Rattle.ppm_owning.proofs.ScopeLemmas.{written_owned, writable_seen}
+use Rattle.ppm_translation.proofs.RegionWords.{array_within, one_address, lengths_of, offset_of, region_word}
 use Rattle.ppm_soundness.proofs.CalmLemmas.{IsLess, AreApart}
-
--- the address of the first word of an array
-abbrev pub offset_of : List Array → ℕ → ℕ
-offset_of [] a = 0
-offset_of (b ∷ arrays) zero = 0
-offset_of (b ∷ arrays) (suc a) = b.words + offset_of arrays a
-
--- the word of a region
-abbrev pub region_word : List Array → Region → ℕ
-region_word arrays r = (offset_of arrays r.array + r.start) * 2 ^ 32 + r.length
 
 -- what a frame owns: the regions in force that may be used
 pub record Label : Type 0 where
@@ -32,14 +22,14 @@ module _ (arrays : List Array) where
     pub index : ℕ
     pub owns : Owns l.scope l.regions array index
     pub below : index < words_at arrays array
-    pub is : x ≡ offset_of arrays array + index
+    pub is : x ≡ offset_of (lengths_of arrays) array + index
 
   pub record WritesWord (l : Label) (x : ℕ) : Type 0 where
     pub array : ℕ
     pub index : ℕ
     pub may : MayWrite l.scope l.regions array index
     pub below : index < words_at arrays array
-    pub is : x ≡ offset_of arrays array + index
+    pub is : x ≡ offset_of (lengths_of arrays) array + index
 
   pub writes_owned : (l : Label) (x : ℕ) → WritesWord l x → OwnsWord l x
   writes_owned l x h = record {
@@ -56,26 +46,15 @@ module _ (arrays : List Array) where
     written = λ x o. record { array = o.array; index = o.index; may = h.written o.array o.index o.may; below = o.below; is = o.is };
   }
 
--- words of two arrays differ
-pub one_word : (arrays : List Array) (a b i j : ℕ) → i < words_at arrays a → j < words_at arrays b → offset_of arrays a + i ≡ offset_of arrays b + j
-    → (a ≡ b) × (i ≡ j)
-one_word [] a b i j p q e = absurd (omega (arith, p))
-one_word (c ∷ arrays) zero zero i j p q e = (refl, omega (arith, e))
-one_word (c ∷ arrays) zero (suc b) i j p q e = absurd (omega (arith, p, e))
-one_word (c ∷ arrays) (suc a) zero i j p q e = absurd (omega (arith, q, e))
-one_word (c ∷ arrays) (suc a) (suc b) i j p q e =
-    let rest = one_word arrays a b i j p q (omega (arith, e)) in
-    (ap suc rest.0, rest.1)
-
 module _ (arrays : List Array) where
   pub apart_labels : (m k : Label) → AreSeparate m.scope m.regions k.scope k.regions → AreApart (OwnsWord arrays) (WritesWord arrays) m k
   apart_labels m k h = record {
     left = λ x w o.
-        let same = one_word arrays w.array o.array w.index o.index w.below o.below (sym w.is ∙ o.is) in
+        let same = one_address (lengths_of arrays) w.array o.array w.index o.index w.below o.below (sym w.is ∙ o.is) in
         h.left w.array w.index w.may (subst (λ (a : ℕ). Owns k.scope k.regions a w.index) (sym same.0)
         (subst (λ (i : ℕ). Owns k.scope k.regions o.array i) (sym same.1) o.owns));
     right = λ x o w.
-        let same = one_word arrays o.array w.array o.index w.index o.below w.below (sym o.is ∙ w.is) in
+        let same = one_address (lengths_of arrays) o.array w.array o.index w.index o.below w.below (sym o.is ∙ w.is) in
         h.right o.array o.index o.owns (subst (λ (a : ℕ). MayWrite k.scope k.regions a o.index) (sym same.0)
         (subst (λ (i : ℕ). MayWrite k.scope k.regions w.array i) (sym same.1) w.may));
   }
@@ -84,32 +63,25 @@ module _ (arrays : List Array) where
 pub record AreShort (arrays : List Array) : Type 0 where
   pub short : (a : ℕ) → words_at arrays a < 2 ^ 32
 
-words_below : (arrays : List Array) (a : ℕ) → words_at arrays a ≤ sum (map (λ b. b.words) arrays)
-words_below [] a = omega arith
-words_below (b ∷ arrays) zero = let e = sum_by-cons (λ (n : ℕ). n) b.words (map (λ b. b.words) arrays) in omega (arith, e)
-words_below (b ∷ arrays) (suc a) =
-    let e = sum_by-cons (λ (n : ℕ). n) b.words (map (λ b. b.words) arrays) in
-    let rest = words_below arrays a in
-    omega (arith, e, rest)
-
 pub short_arrays : (arrays : List Array) → sum (map (λ b. b.words) arrays) < 2 ^ 32 → AreShort arrays
-short_arrays arrays h = record { short = λ a. let l = words_below arrays a in omega (arith, l, h) }
+short_arrays arrays h = record { short = λ a. let l = array_within (lengths_of arrays) a in omega (arith, l, h) }
 
 module _ (arrays : List Array) (r : Region) (short : r.length < 2 ^ 32) where
-  pub start_is : start_of (region_word arrays r) ≡ offset_of arrays r.array + r.start
-  start_is = div-mul-add (offset_of arrays r.array + r.start) (2 ^ 32) r.length short
+  pub start_is : start_of (region_word (lengths_of arrays) r) ≡ offset_of (lengths_of arrays) r.array + r.start
+  start_is = div-mul-add (offset_of (lengths_of arrays) r.array + r.start) (2 ^ 32) r.length short
 
-  pub length_is : length_of (region_word arrays r) ≡ r.length
-  length_is = mod-mul-add (offset_of arrays r.array + r.start) (2 ^ 32) r.length short
+  pub length_is : length_of (region_word (lengths_of arrays) r) ≡ r.length
+  length_is = mod-mul-add (offset_of (lengths_of arrays) r.array + r.start) (2 ^ 32) r.length short
 
   -- the words of the parts of a region
-  pub first_word : (n : ℕ) → start_of (region_word arrays r) * 2 ^ 32 + n ≡ region_word arrays (first_part n r)
+  pub first_word : (n : ℕ) → start_of (region_word (lengths_of arrays) r) * 2 ^ 32 + n ≡ region_word (lengths_of arrays) (first_part n r)
   first_word n = ap (λ (s : ℕ). s * 2 ^ 32 + n) start_is
 
   pub second_word : (n : ℕ)
-      → (start_of (region_word arrays r) + n) * 2 ^ 32 + (length_of (region_word arrays r) - n) ≡ region_word arrays (second_part n r)
+      → (start_of (region_word (lengths_of arrays) r) + n) * 2 ^ 32 + (length_of (region_word (lengths_of arrays) r) - n) ≡ region_word
+      (lengths_of arrays) (second_part n r)
   second_word n =
-      let s : offset_of arrays r.array + r.start + n ≡ offset_of arrays r.array + (r.start + n) = omega arith in
+      let s : offset_of (lengths_of arrays) r.array + r.start + n ≡ offset_of (lengths_of arrays) r.array + (r.start + n) = omega arith in
       ap₂ (λ (s l : ℕ). (s + n) * 2 ^ 32 + (l - n)) start_is length_is ∙ ap (λ (s : ℕ). s * 2 ^ 32 + (r.length - n)) s
 
 -- the words of a region in force are words that the label owns
@@ -118,7 +90,7 @@ module _ (arrays : List Array) (all : AreShort arrays) (l : Label) (scope : Scop
   pub seen_short : (x : List ℕ) → IsSeen scope x → (regions x).length < 2 ^ 32
   seen_short x seen = let w = within.within x seen in let s = all.short (regions x).array in omega (arith, w, s)
 
-  pub owned_at : (x : List ℕ) → IsSeen scope x → (w i : ℕ) → w ≡ region_word arrays (regions x) → i < length_of w
+  pub owned_at : (x : List ℕ) → IsSeen scope x → (w i : ℕ) → w ≡ region_word (lengths_of arrays) (regions x) → i < length_of w
       → OwnsWord arrays l (start_of w + i)
   owned_at x seen w i is low =
       let r = regions x in
@@ -134,7 +106,7 @@ module _ (arrays : List Array) (all : AreShort arrays) (l : Label) (scope : Scop
         is = omega (arith, s);
       }
 
-  pub written_at : (x : List ℕ) → IsWritable scope x → (w i : ℕ) → w ≡ region_word arrays (regions x) → i < length_of w
+  pub written_at : (x : List ℕ) → IsWritable scope x → (w i : ℕ) → w ≡ region_word (lengths_of arrays) (regions x) → i < length_of w
       → WritesWord arrays l (start_of w + i)
   written_at x may w i is low =
       let r = regions x in

@@ -13,22 +13,19 @@ use Rattle.ppm_tree.specs.declared.named.Named.{Named}
 use Rattle.ppm_tree.specs.declared.operator.Operator.{Operator}
 use Rattle.ppm_tree.specs.declared.operator.Operator.TheVariants as operator
 use Rattle.ppm_tree.specs.declared.tree.Parameter.{Parameter}
-use Rattle.ppm_tree.specs.Tree.{Expression, Number, Name, Element, Len, Minus, Binary, Argument, Side}
-use Rattle.ppm_tree.specs.Tree.{Block, Give, Procedure}
+use Rattle.ppm_tree.specs.Tree.{Expression, Number, Name, Element, Len, Minus, Binary, Argument, Side, Block, Give, Procedure}
 use Rattle.ppm_tree.specs.State.{procedure_named}
 use Rattle.ppm_regions.specs.Scope.{Scope, first_named}
 use Rattle.ppm_translation.specs.Layout.{Layout, slot_of, register, caught, target_of}
 use Rattle.ppm_translation.specs.Expressions.{size_of, branch_size, right_register, branch_code, operator_code, expression_code}
 use Rattle.ppm_translation.specs.Slots.{procedure_slots, hidden_slots, frame_words}
 use Rattle.ppm_translation.specs.Statements.{Instrs, onward, let_code, value_code, move_code, element_code, put_code, test_code, split_code}
-use Rattle.ppm_translation.specs.Statements.{lent_code}
-use Rattle.ppm_translation.specs.Statements.{argument_size, argument_code, arguments_size, arguments_code, paired, stores_code, give_code}
-use Rattle.ppm_translation.specs.Statements.{loads_code, each_code, entry_code, names_code, halving_code, number_of}
+use Rattle.ppm_translation.specs.Statements.{lent_code, argument_size, argument_code, arguments_size, arguments_code, paired, stores_code}
+use Rattle.ppm_translation.specs.Statements.{give_code, loads_code, each_code, entry_code, names_code, halving_code, number_of}
 use Rattle.ppm_translation.specs.Statements.{callee_parameters, callee_number, callee_slots, call_code, fork_code}
 use Rattle.ppm_translation.specs.Fits.{Has, FitsExpression, FitsLent, FitsArgument, FitsArguments, FitsSide}
-use Rattle.ppm_soundness.proofs.PlainLemmas.{Below, IsSafe, built_end, built_stores, AreSafe, plain_first, end_last, end_first, store_first}
-use Rattle.ppm_soundness.proofs.PlainLemmas.{built_new, new_first}
-use Rattle.ppm_soundness.proofs.PlainLemmas.{give_first, put_first, stores_first, safe}
+use Rattle.ppm_soundness.proofs.PlainLemmas.{Below, IsSafe, built_end, built_stores, AreSafe, plain_first, end_last, end_first}
+use Rattle.ppm_soundness.proofs.PlainLemmas.{store_first, built_new, new_first, give_first, put_first, stores_first, safe}
 
 -- the slots of a capsule that reads nothing else
 abbrev OnlySlot : ℕ → Class → Type 0

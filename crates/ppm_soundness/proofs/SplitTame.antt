@@ -1,6 +1,6 @@
 -- The capsule of a split is tame: the parts of the region are in the slots of their names in its block.
-use Rattle.std.proofs.Common.{◌≡◌, ◌≢◌, ◌≤◌, ◌<◌, ℕ, suc, ◌+◌, ◌-◌, ◌*◌, ◌^◌, cond, Bool, true, false, List, [], ◌∷◌, ◌++◌, Some, None, length}
-use Rattle.std.proofs.Common.{map, slice_set, inl, inr, refl, sym, ap, ◌∙◌, subst, arith}
+use Rattle.std.proofs.Common.{◌≡◌, ◌≢◌, ◌≤◌, ◌<◌, ℕ, suc, ◌+◌, ◌-◌, ◌*◌, ◌^◌, cond, Bool, true, false, List, [], ◌∷◌, ◌++◌, Some}
+use Rattle.std.proofs.Common.{None, length, map, slice_set, inl, inr, refl, sym, ap, ◌∙◌, subst, arith}
 use Rattle.std.specs.Str.{bytes_eq}
 use Rattle.std.proofs.lemmas.List.{length-append}
 use Rattle.std.specs.Option.{option_map}
@@ -22,8 +22,8 @@ use Rattle.ppm_tree.specs.State.{Frame, Region, first_part, second_part}
 use Rattle.ppm_regions.specs.Scope.{Declaration, Scope, declared, is_region, split_scope, in_split, parts_of, part, seen_in_split}
 use Rattle.ppm_regions.specs.Admission.{IsAdmitted}
 use Rattle.ppm_regions.specs.Correct.{KeepsRules}
-use Rattle.ppm_regions.proofs.ScopeLemmas.{same_names, names_same, names_other, declared_in_front, declared_behind, declared_map, image_of}
-use Rattle.ppm_regions.proofs.ScopeLemmas.{found_cases, none_and_some, some_same}
+use Rattle.ppm_regions.proofs.ScopeLemmas.{same_names, names_same, names_other, declared_in_front, declared_behind}
+use Rattle.ppm_regions.proofs.ScopeLemmas.{declared_map, image_of, found_cases, none_and_some, some_same}
 use Rattle.ppm_owning.specs.Owning.{IsSeen}
 use Rattle.ppm_owning.specs.Coming.{split_frame}
 use Rattle.ppm_owning.proofs.PartLemmas.{ComesFrom, lie_still, owns_on, owns_no_more}
@@ -35,11 +35,12 @@ use Rattle.ppm_translation.specs.Numbers.{end_of, hidden_behind_block}
 use Rattle.ppm_translation.specs.Statements.{Instrs, onward, Last, OnTo, with_parts}
 use Rattle.ppm_translation.specs.Fits.{Has, IsNew}
 use Rattle.ppm_translation.proofs.LayoutLemmas.{slot_in_front, has_in_front}
-use Rattle.ppm_soundness.proofs.OwnLemmas.{Label, region_word, AreShort, seen_short, length_is, first_word, second_word}
-use Rattle.ppm_soundness.proofs.TameLemmas.{Goes, IsFile, file_set, held_set, held_other, registers_differ, go_load, go_store, go_cut_left}
-use Rattle.ppm_soundness.proofs.TameLemmas.{go_cut_right}
-use Rattle.ppm_soundness.proofs.StandLemmas.{Level, level, IsUnder, under_on, IsSame, same_on, same_store, off_behind, store_other, store_here}
-use Rattle.ppm_soundness.proofs.StandLemmas.{seen_of, IsAt, at_on, leads_onto}
+use Rattle.ppm_translation.proofs.RegionWords.{lengths_of, region_word}
+use Rattle.ppm_soundness.proofs.OwnLemmas.{Label, AreShort, seen_short, length_is, first_word, second_word}
+use Rattle.ppm_soundness.proofs.TameLemmas.{Goes, IsFile, file_set, held_set, held_other, registers_differ}
+use Rattle.ppm_soundness.proofs.TameLemmas.{go_load, go_store, go_cut_left, go_cut_right}
+use Rattle.ppm_soundness.proofs.StandLemmas.{Level, level, IsUnder, under_on, IsSame, same_on, same_store, off_behind}
+use Rattle.ppm_soundness.proofs.StandLemmas.{store_other, store_here, seen_of, IsAt, at_on, leads_onto}
 use Rattle.ppm_soundness.proofs.LevelLemmas.{behind_at, has_cases, has_one, has_none}
 use Rattle.ppm_soundness.proofs.BlockTame.{world, zeros, zeros_kept, value_tame, next_tame, under_same}
 
@@ -138,7 +139,7 @@ module _ (t : ProgramTree) (code : CodeParts) (rules : KeepsRules t) (admitted :
       abbrev whole : Region
       whole = frame.regions r.name
 
-      holds_whole : own (Slot (slot_of layout r.name)) ≡ region_word t.arrays whole
+      holds_whole : own (Slot (slot_of layout r.name)) ≡ region_word (lengths_of t.arrays) whole
       holds_whole = a.holds.holds r.name (seen_of scope layout r.name a.stays.fits.0.0) a.stays.fits.0.0.has
 
       whole_short : whole.length < 2 ^ 32
@@ -156,7 +157,7 @@ module _ (t : ProgramTree) (code : CodeParts) (rules : KeepsRules t) (admitted :
       not_new w z new has same = let s = ap (slot_of layout) same in omega (arith, new, has, s)
 
       holds_in : (z : List ℕ) → IsSeen (split_scope scope r x y) z → Has (with_parts layout x y) z
-          → new (Slot (slot_of (with_parts layout x y) z)) ≡ region_word t.arrays ((split_frame frame r n x y).regions z)
+          → new (Slot (slot_of (with_parts layout x y) z)) ≡ region_word (lengths_of t.arrays) ((split_frame frame r n x y).regions z)
       holds_in z seen has = elim (has_cases z layout (x.name ∷ y.name ∷ []) has) [
         | inl had ↦
             let p = not_new x z a.stays.fits.0.2 had in
@@ -164,20 +165,20 @@ module _ (t : ProgramTree) (code : CodeParts) (rules : KeepsRules t) (admitted :
             let before = split_seen scope r x y z p q seen in
             ap (λ (k : ℕ). new (Slot k)) (slot_in_front z layout (x.name ∷ y.name ∷ []) had)
             ∙ same.same z before.declaration before.found before.region had ∙ a.holds.holds z before had
-            ∙ ap (region_word t.arrays) (sym (at_neither frame r x y n z p q))
+            ∙ ap (region_word (lengths_of t.arrays)) (sym (at_neither frame r x y n z p q))
         | inr j ↦ elim (has_one z x.name (y.name ∷ []) j.0) [
           | inl is ↦
               let slot : slot_of (with_parts layout x y) z ≡ length layout = j.1
               ∙ (let f = ap (λ (b : Bool). cond b 0 (suc (slot_of (y.name ∷ []) z))) (names_same x.name z is) in omega (arith, f)) in
               ap (λ (k : ℕ). new (Slot k)) slot ∙ first ∙ ap (λ (w : ℕ). start_of w * 2 ^ 32 + n) holds_whole
-              ∙ first_word t.arrays whole whole_short n ∙ ap (region_word t.arrays) (sym (at_first frame r x y n z is a.stays.fits.0.4))
+              ∙ first_word t.arrays whole whole_short n ∙ ap (region_word (lengths_of t.arrays)) (sym (at_first frame r x y n z is a.stays.fits.0.4))
           | inr k ↦ elim (has_one z y.name [] k.0) [
             | inl is ↦
                 let slot : slot_of (with_parts layout x y) z ≡ suc (length layout) =
                 j.1 ∙ (let f = ap (λ (b : Bool). cond b 0 (suc (slot_of (y.name ∷ []) z))) k.1 in let g = ap (λ (b : Bool). cond b 0 (suc 0))
                 (names_same y.name z is) in omega (arith, f, g)) in
                 ap (λ (k : ℕ). new (Slot k)) slot ∙ second ∙ ap (λ (w : ℕ). (start_of w + n) * 2 ^ 32 + (length_of w - n)) holds_whole
-                ∙ second_word t.arrays whole whole_short n ∙ ap (region_word t.arrays) (sym (at_second frame r x y n z is))
+                ∙ second_word t.arrays whole whole_short n ∙ ap (region_word (lengths_of t.arrays)) (sym (at_second frame r x y n z is))
             | inr none ↦ absurd (has_none z none.0)
           ]
         ]

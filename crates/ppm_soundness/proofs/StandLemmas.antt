@@ -1,7 +1,7 @@
 -- Where a frame of the code may stand: at a block of a procedure, in which the slots hold the regions that are in force, and behind which it
 -- goes on in blocks around.
-use Rattle.std.proofs.Common.{◌≡◌, ◌≢◌, ◌≤◌, ◌<◌, ℕ, suc, ◌+◌, ◌==◌, cond, Bool, true, false, List, [], ◌∷◌, Option, Some, None, length}
-use Rattle.std.proofs.Common.{refl, sym, ap, ◌∙◌, subst, arith}
+use Rattle.std.proofs.Common.{◌≡◌, ◌≢◌, ◌≤◌, ◌<◌, ℕ, suc, ◌+◌, ◌==◌, cond, Bool, true, false, List, [], ◌∷◌}
+use Rattle.std.proofs.Common.{Option, Some, None, length, refl, sym, ap, ◌∙◌, subst, arith}
 use Rattle.std.specs.Str.{bytes_eq}
 use Rattle.std.proofs.lemmas.Bool.{eqb-true, eq-eqb}
 use Rattle.ppm_capsules.specs.Capsule.{Memory, store}
@@ -24,7 +24,8 @@ use Rattle.ppm_translation.specs.Layout.{Layout, slot_of, caught}
 use Rattle.ppm_translation.specs.Statements.{Last, OnTo, Gives, with_lets, with_parts, hidden_layout}
 use Rattle.ppm_translation.specs.Standing.{HasBlock}
 use Rattle.ppm_translation.specs.Fits.{Has, IsKept, FitsBlock, FitsGive, layout_behind}
-use Rattle.ppm_soundness.proofs.OwnLemmas.{Label, region_word}
+use Rattle.ppm_translation.proofs.RegionWords.{lengths_of, region_word}
+use Rattle.ppm_soundness.proofs.OwnLemmas.{Label}
 
 -- the blocks of each `each` catch so few names that these and what else a hidden procedure loads have registers of their own
 abbrev mutual
@@ -68,7 +69,7 @@ pub record IsUnder (w v : Level) : Type 0 where
   pub stays : (x : List ℕ) (d : Declaration) → declared w.scope x ≡ Some d → is_region d.mode ≡ true
       → (e : Declaration) × (declared v.scope x ≡ Some e) × (is_region e.mode ≡ true)
 
-pub under_itself : (v : Level) → IsUnder v v
+under_itself : (v : Level) → IsUnder v v
 under_itself v = record { front = λ x h. (h, refl); stays = λ x d f r. (d, f, r) }
 
 pub under_on : (u v w : Level) → IsUnder u v → IsUnder v w → IsUnder u w
@@ -88,7 +89,7 @@ same_itself v own = record { same = λ x d f r h. refl }
 pub same_on : (v : Level) (a b c : FrameWord → ℕ) → IsSame v a b → IsSame v b c → IsSame v a c
 same_on v a b c p q = record { same = λ x d f r h. q.same x d f r h ∙ p.same x d f r h }
 
-pub same_under : (w v : Level) (own new : FrameWord → ℕ) → IsUnder w v → IsSame v own new → IsSame w own new
+same_under : (w v : Level) (own new : FrameWord → ℕ) → IsUnder w v → IsSame v own new → IsSame w own new
 same_under w v own new u s = record {
   same = λ x d f r h.
       let a = u.front x h in
@@ -134,7 +135,7 @@ pub off_behind : (v : Level) (k : ℕ) → length v.layout ≤ k → IsOff v k
 off_behind v k h = record { off = λ x d f r has e. omega (arith, h, has, e) }
 
 -- two names have two slots
-pub one_slot : (layout : Layout) (x y : List ℕ) → Has layout x → slot_of layout x ≡ slot_of layout y → x ≡ y
+one_slot : (layout : Layout) (x y : List ℕ) → Has layout x → slot_of layout x ≡ slot_of layout y → x ≡ y
 one_slot [] x y h e = absurd (omega (arith, h))
 one_slot (z ∷ layout) x y h e = go (bytes_eq z x) (bytes_eq z y) refl refl h e (one_slot layout x y)
   where
@@ -181,7 +182,8 @@ module _ (t : ProgramTree) (code : CodeParts) where
 
   -- the slots hold the regions
   pub record Holds (v : Level) (own : FrameWord → ℕ) : Type 0 where
-    pub holds : (x : List ℕ) → IsSeen v.scope x → Has v.layout x → own (Slot (slot_of v.layout x)) ≡ region_word t.arrays (v.frame.regions x)
+    pub holds : (x : List ℕ) → IsSeen v.scope x → Has v.layout x
+        → own (Slot (slot_of v.layout x)) ≡ region_word (lengths_of t.arrays) (v.frame.regions x)
 
   pub holds_on : (v : Level) (own new : FrameWord → ℕ) → IsSame v own new → Holds v own → Holds v new
   holds_on v own new s h = record { holds = λ x seen has. s.same x seen.declaration seen.found seen.region has ∙ h.holds x seen has }

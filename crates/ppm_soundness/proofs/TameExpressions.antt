@@ -1,6 +1,5 @@
 -- An expression in front of what is tame is tame: it reads elements of regions alone, and uses no register below its own.
-use Rattle.std.proofs.Common.{◌≡◌, ◌<◌, ℕ, suc, ◌+◌, ◌-◌, ◌==◌, max, cond, int_lt, int_le, List, ◌∷◌, slice_set, refl, sym, ap, ◌∙◌, subst}
-use Rattle.std.proofs.Common.{arith}
+use Rattle.std.proofs.Common.{◌≡◌, ◌<◌, ℕ, suc, ◌+◌, ◌-◌, ◌==◌, max, cond, int_lt, int_le, List, ◌∷◌, slice_set, refl, sym, ap, ◌∙◌, subst, arith}
 use Rattle.std.specs.Prelude.{pos, ◌+ℤ◌, ◌-ℤ◌, ◌*ℤ◌, int_div, int_rem}
 use Rattle.ppm_capsules.specs.Capsule.{Capsule, Memory}
 use Rattle.ppm_capsules.specs.Strand.{Own}
@@ -19,11 +18,11 @@ use Rattle.ppm_tree.specs.Tree.{Expression}
 use Rattle.ppm_tree.specs.Tree as tree
 use Rattle.ppm_regions.specs.Scope.{Scope}
 use Rattle.ppm_translation.specs.Layout.{Layout, slot_of, register}
-use Rattle.ppm_translation.specs.Expressions.{last_size, branch_size, size_of, truth_code, operator_code, right_register, branch_code}
-use Rattle.ppm_translation.specs.Expressions.{expression_code}
+use Rattle.ppm_translation.specs.Expressions.{last_size, branch_size, size_of, truth_code, operator_code}
+use Rattle.ppm_translation.specs.Expressions.{right_register, branch_code, expression_code}
 use Rattle.ppm_translation.specs.Fits.{IsRegion, FitsExpression}
-use Rattle.ppm_soundness.proofs.TameLemmas.{World, Tame, Goes, Then, Keeps, keeps_itself, keeps_set, keeps_on, held_set, go_set, go_work}
-use Rattle.ppm_soundness.proofs.TameLemmas.{go_load, go_get, go_zero, go_other, whole_works, divided_works}
+use Rattle.ppm_soundness.proofs.TameLemmas.{World, Tame, Goes, Then, Keeps, keeps_itself, keeps_set, keeps_on, held_set, go_set}
+use Rattle.ppm_soundness.proofs.TameLemmas.{go_work, go_load, go_get, go_zero, go_other, whole_works, divided_works}
 
 -- instructions that are passed over
 module _ (words : ℕ) (g : List ℕ) where
@@ -143,47 +142,49 @@ module _ (world : World) (m : Memory Where) where
         (keeps_set d d (cond (held g' (register d) == held g' (register (suc d))) 0 1) f g' (omega arith) (keeps_set d (suc d) (word_of
         (pos 0)) f g (omega arith) keep)))))
 
-    abbrev left_ : ℕ
-    left_ = held g (register d)
+    abbrev left_word : ℕ
+    left_word = held g (register d)
 
-    abbrev right_ : ℕ
-    right_ = held g (register (suc d))
+    abbrev right_word : ℕ
+    right_word = held g (register (suc d))
 
     operator_tame : (o : Operator) → there ≡ here + last_size o → Goes world here (operator_code o line d is) g m
     operator_tame operator.And e = truth e
     operator_tame operator.Or e = truth e
     operator_tame operator.Add e =
         go_work world here is g m (instr.Add (register d) (register d) (register (suc d)) line) (register d)
-        (whole_works world line (register d) (value_of left_ +ℤ value_of right_)) (set_there e)
+        (whole_works world line (register d) (value_of left_word +ℤ value_of right_word)) (set_there e)
     operator_tame operator.Sub e =
         go_work world here is g m (instr.Sub (register d) (register d) (register (suc d)) line) (register d)
-        (whole_works world line (register d) (value_of left_ -ℤ value_of right_)) (set_there e)
+        (whole_works world line (register d) (value_of left_word -ℤ value_of right_word)) (set_there e)
     operator_tame operator.Mul e =
         go_work world here is g m (instr.Mul (register d) (register d) (register (suc d)) line) (register d)
-        (whole_works world line (register d) (value_of left_ *ℤ value_of right_)) (set_there e)
+        (whole_works world line (register d) (value_of left_word *ℤ value_of right_word)) (set_there e)
     operator_tame operator.Div e =
         go_work world here is g m (instr.Div (register d) (register d) (register (suc d)) line) (register d)
-        (divided_works world line (register d) (value_of left_) (value_of right_) (int_div (value_of left_) (value_of right_))) (set_there e)
+        (divided_works world line (register d) (value_of left_word) (value_of right_word) (int_div (value_of left_word) (value_of right_word)))
+        (set_there e)
     operator_tame operator.Rem e =
         go_work world here is g m (instr.Rem (register d) (register d) (register (suc d)) line) (register d)
-        (divided_works world line (register d) (value_of left_) (value_of right_) (int_rem (value_of left_) (value_of right_))) (set_there e)
+        (divided_works world line (register d) (value_of left_word) (value_of right_word) (int_rem (value_of left_word) (value_of right_word)))
+        (set_there e)
     operator_tame operator.Eq e =
-        let v = cond (left_ == right_) 1 0 in
+        let v = cond (left_word == right_word) 1 0 in
         go_set world here is g m (instr.Equal (register d) (register d) (register (suc d))) (register d) v refl (set_there e v)
     operator_tame operator.Ne e =
-        let v = cond (left_ == right_) 0 1 in
+        let v = cond (left_word == right_word) 0 1 in
         go_set world here is g m (instr.NotEqual (register d) (register d) (register (suc d))) (register d) v refl (set_there e v)
     operator_tame operator.Lt e =
-        let v = cond (int_lt (value_of left_) (value_of right_)) 1 0 in
+        let v = cond (int_lt (value_of left_word) (value_of right_word)) 1 0 in
         go_set world here is g m (instr.Less (register d) (register d) (register (suc d))) (register d) v refl (set_there e v)
     operator_tame operator.Le e =
-        let v = cond (int_le (value_of left_) (value_of right_)) 1 0 in
+        let v = cond (int_le (value_of left_word) (value_of right_word)) 1 0 in
         go_set world here is g m (instr.AtMost (register d) (register d) (register (suc d))) (register d) v refl (set_there e v)
     operator_tame operator.Gt e =
-        let v = cond (int_lt (value_of right_) (value_of left_)) 1 0 in
+        let v = cond (int_lt (value_of right_word) (value_of left_word)) 1 0 in
         go_set world here is g m (instr.Less (register d) (register (suc d)) (register d)) (register d) v refl (set_there e v)
     operator_tame operator.Ge e =
-        let v = cond (int_le (value_of right_) (value_of left_)) 1 0 in
+        let v = cond (int_le (value_of right_word) (value_of left_word)) 1 0 in
         go_set world here is g m (instr.AtMost (register d) (register (suc d)) (register d)) (register d) v refl (set_there e v)
 
 -- how far a branch goes past

@@ -1,13 +1,12 @@
 -- Capsules that are tame: each word that one reads is owned, each that it writes may be written, and what its end opens is as it is to be.
 -- One lemma an instruction says that it may stand in front of what is tame.
-use Rattle.std.proofs.Common.{◌≡◌, ◌≢◌, ◌≤◌, ◌<◌, ℕ, ◌+◌, ◌-◌, ◌*◌, ◌^◌, nat_le, ◌==◌, max, nat_lt, Bool, true, false, ◌&&◌, cond, List, [], ◌∷◌}
-use Rattle.std.proofs.Common.{Some, None, slice_set, length, inl, inr, refl, sym, ◌∙◌, subst, arith}
+use Rattle.std.proofs.Common.{◌≡◌, ◌≢◌, ◌≤◌, ◌<◌, ℕ, ◌+◌, ◌-◌, ◌*◌, ◌^◌, nat_le, ◌==◌, max, nat_lt, Bool, true, false, ◌&&◌, cond}
+use Rattle.std.proofs.Common.{List, [], ◌∷◌, Some, None, slice_set, length, inl, inr, refl, sym, ◌∙◌, subst, arith}
 use Rattle.std.specs.Prelude.{ℤ, int_div}
 use Rattle.std.proofs.lemmas.Bool.{ltb-true, ltb-false, leb-true}
 use Rattle.std.proofs.lemmas.List.{length-set, get_or-set_same, get_or-set_other}
 use Rattle.ppm_strands.specs.Tree.{Has}
-use Rattle.ppm_capsules.specs.Capsule.{Capsule, Reads, Writes, Asks as AsksFor, Ends, Memory, is_in, store, ending, leaves, written}
-use Rattle.ppm_capsules.specs.Capsule.{exposed_past}
+use Rattle.ppm_capsules.specs.Capsule.{Capsule, Reads, Writes, Asks as AsksFor, Ends, Memory, is_in, store, ending, leaves, written, exposed_past}
 use Rattle.ppm_capsules.specs.Strand.{Own, New as NewWord, Shared, addresses, own_of, new_of}
 use Rattle.ppm_words.specs.TwosComplement.{word_of}
 use Rattle.ppm_words.specs.declared.trap.Trap.{Trap}
@@ -45,14 +44,14 @@ pub held_other : (g : List ℕ) (d e : Register) (v : ℕ) → e.index ≢ d.ind
 held_other g d e v other = get_or-set_other g d.index e.index v 0 other
 
 -- the number of a register, and the last one for all larger numbers
-pub register_low : (n : ℕ) → n < 63 → (register n).index ≡ n
+register_low : (n : ℕ) → n < 63 → (register n).index ≡ n
 register_low n h = go (nat_lt n 64) refl
   where
     go : (b : Bool) (e : nat_lt n 64 ≡ b) → (register_with n b e).index ≡ n
     go true e = refl
     go false e = let high = ltb-false n 64 e in absurd (omega (arith, high, h))
 
-pub register_high : (n : ℕ) → 63 ≤ n → (register n).index ≡ 63
+register_high : (n : ℕ) → 63 ≤ n → (register n).index ≡ 63
 register_high n h = go (nat_lt n 64) refl
   where
     go : (b : Bool) (e : nat_lt n 64 ≡ b) → (register_with n b e).index ≡ 63

@@ -1,6 +1,6 @@
 -- Layouts in which no name has two slots, and that the block of an `each` catches no more names of one than are counted.
-use Rattle.std.proofs.Common.{◌≡◌, ◌≢◌, ◌<◌, ◌≤◌, ◌||◌, ◌&&◌, not, cond, Bool, true, false, ℕ, suc, List, [], ◌∷◌, ◌++◌, length, refl, sym, ap, ◌∙◌}
-use Rattle.std.proofs.Common.{subst, arith, filter, append_assoc}
+use Rattle.std.proofs.Common.{◌≡◌, ◌≢◌, ◌<◌, ◌≤◌, ◌||◌, ◌&&◌, not, cond, Bool, true, false, ℕ, suc, List, [], ◌∷◌}
+use Rattle.std.proofs.Common.{◌++◌, length, refl, sym, ap, ◌∙◌, subst, arith, filter, append_assoc}
 use Rattle.std.specs.Str.{bytes_eq}
 use Rattle.std.specs.List.{AllByRecursion, IsDistinct}
 use Rattle.std.specs.Set.{is_member, unique_keys}
@@ -9,12 +9,14 @@ use Rattle.std.proofs.lemmas.Map.Made.{length-le_from_is_member, is_member-filte
 use Rattle.ppm_bounds.specs.Names.{without, free_names, caught_count}
 use Rattle.ppm_bounds.proofs.Members.{same_bytes, has-without, bytes_laws}
 use Rattle.ppm_tree.specs.declared.named.Named.{Named}
-use Rattle.ppm_tree.specs.Tree.{Block}
+use Rattle.ppm_tree.specs.Tree.{Statement, Block, Procedure}
+use Rattle.ppm_tree.specs.Tree as tree
+use Rattle.ppm_regions.specs.Scope.{Scope}
 use Rattle.ppm_translation.specs.Layout.{Layout, slot_of, caught}
-use Rattle.ppm_translation.specs.Fits.{Has, IsNew, IsDistinctLayout}
-use Rattle.ppm_translation.specs.Statements.{with_parts, hidden_layout}
+use Rattle.ppm_translation.specs.Fits.{Has, IsNew, IsDistinctLayout, FitsStatement}
+use Rattle.ppm_translation.specs.Statements.{with_lets, with_parts, hidden_layout}
 
-true_and_false : {b : Bool} → b ≡ true → b ≡ false → ⊥
+pub true_and_false : {b : Bool} → b ≡ true → b ≡ false → ⊥
 true_and_false p q = cc
 
 -- a new name is none of the layout
@@ -60,7 +62,7 @@ unfolding IsDistinct
 each_once [] h = tt
 each_once (x ∷ layout) h = IsDistinct-cons bytes_eq x layout (absent_apart layout x (new_absent layout x h.0)) (each_once layout h.1)
 
-once_filter : (test : List ℕ → Bool) (layout : Layout) → IsEachOnce layout → IsEachOnce (filter test layout)
+pub once_filter : (test : List ℕ → Bool) (layout : Layout) → IsEachOnce layout → IsEachOnce (filter test layout)
 unfolding IsDistinct
 once_filter test [] h = tt
 once_filter test (x ∷ layout) h = go (test x) (once_filter test layout h.1)
@@ -71,6 +73,20 @@ once_filter test (x ∷ layout) h = go (test x) (once_filter test layout h.1)
 
 pub once_push : (layout : Layout) (x : List ℕ) → IsEachOnce layout → IsNew layout x → IsEachOnce (layout ++ x ∷ [])
 once_push layout x h new = IsDistinct-push bytes_laws layout x h (new_absent layout x new)
+
+-- behind a statement that fits
+pub once_lets : (procedures : List Procedure) (scope : Scope) (layout : Layout) (s : Statement) → FitsStatement procedures scope layout s
+    → IsEachOnce layout
+    → IsEachOnce (with_lets layout s)
+once_lets procedures scope layout (tree.Let x e) f h = once_push layout x.name h f.1
+once_lets procedures scope layout (tree.Assign x e) f h = h
+once_lets procedures scope layout (tree.Put x index e) f h = h
+once_lets procedures scope layout (tree.If e holds other) f h = h
+once_lets procedures scope layout (tree.While e block) f h = h
+once_lets procedures scope layout (tree.Call s) f h = h
+once_lets procedures scope layout (tree.Fork s t) f h = h
+once_lets procedures scope layout (tree.Split line r e x y block) f h = h
+once_lets procedures scope layout (tree.Each i x r block) f h = h
 
 other_bytes : (x y : List ℕ) → x ≢ y → bytes_eq x y ≡ false
 other_bytes x y h = go (bytes_eq x y) refl
@@ -100,12 +116,12 @@ once_parts layout x y h new_x new_y apart =
     (IsDistinct-push bytes_laws (layout ++ x.name ∷ []) y.name first (absent_both layout x.name y.name (new_absent layout y.name new_y) other))
 
 -- what is caught are names of the layout that are free in the block
-caught_member : (layout : Layout) (block : Block) (q : List ℕ)
+pub caught_member : (layout : Layout) (block : Block) (q : List ℕ)
     → is_member bytes_eq (caught layout block) q ≡ (is_member bytes_eq layout q && is_member bytes_eq (free_names block) q)
 caught_member layout block q =
     is_member-filter bytes_laws (is_member bytes_eq (free_names block)) q (member_alike (free_names block) q) layout
 
-first_of_both : (a b : Bool) → (a && b) ≡ true → a ≡ true
+pub first_of_both : (a b : Bool) → (a && b) ≡ true → a ≡ true
 first_of_both true b h = refl
 first_of_both false b h = h
 

@@ -1,6 +1,6 @@
 -- That a layout has the names that a block uses, and no others than those in force.
-use Rattle.std.proofs.Common.{◌≡◌, ◌<◌, inl, inr, cond, Bool, true, false, ℕ, suc, List, [], ◌∷◌, ◌++◌, Option, Some, None, map, length}
-use Rattle.std.proofs.Common.{refl, sym, ap, ◌∙◌, subst, arith}
+use Rattle.std.proofs.Common.{◌≡◌, ◌<◌, inl, inr, cond, Bool, true, false, ℕ, suc, List, [], ◌∷◌, ◌++◌, Option}
+use Rattle.std.proofs.Common.{Some, None, map, length, refl, sym, ap, ◌∙◌, subst, arith}
 use Rattle.std.specs.Prelude.{◌||◌}
 use Rattle.std.specs.Option.{option_map}
 use Rattle.std.specs.List.{Contains, flat_map}
@@ -16,8 +16,8 @@ use Rattle.ppm_tree.specs.Tree as tree
 use Rattle.ppm_tree.specs.Parts.{node_names, nodes_of}
 use Rattle.ppm_bounds.specs.Names.{without, acted_on, used_by, free_within, free_names}
 use Rattle.ppm_bounds.specs.Names as names
-use Rattle.ppm_regions.specs.Scope.{Declaration, Scope, declared, seen_in_split, in_split, seen_in_each, in_each, parts_of, index_of, part}
-use Rattle.ppm_regions.specs.Scope.{element_of, lets_of}
+use Rattle.ppm_regions.specs.Scope.{Declaration, Scope, declared, seen_in_split, in_split, seen_in_each}
+use Rattle.ppm_regions.specs.Scope.{in_each, parts_of, index_of, part, element_of, lets_of}
 use Rattle.ppm_regions.proofs.Elements.{contains_map}
 use Rattle.ppm_regions.proofs.ScopeLemmas.{names_other, other_names, found_cases, none_and_some}
 use Rattle.ppm_regions.proofs.ScopeLemmas.{declared_in_front, declared_behind, declared_map, image_of}
@@ -155,10 +155,10 @@ covers_elements names scope layout r i x block within h =
     has_own d e f false false h = absurd (none_and_some refl h)
 
 -- the free names of a block: those that its first statement uses, those in that one's blocks, and those of the rest
-abbrev free_by_parts : Statement → Block → List (List ℕ)
+abbrev pub free_by_parts : Statement → Block → List (List ℕ)
 free_by_parts s rest = (used_by s ++ free_within s) ++ without (names.lets_of s) (free_names rest)
 
-free_parts : (s : Statement) (rest : Block) → free_names (Then s rest) ≡ free_by_parts s rest
+pub free_parts : (s : Statement) (rest : Block) → free_names (Then s rest) ≡ free_by_parts s rest
 free_parts (Let x e) rest = refl
 free_parts (Assign x e) rest = refl
 free_parts (Put x i e) rest = refl

@@ -24,8 +24,8 @@ use Rattle.ppm_bounds.proofs.Keeping.{all-first, all-second}
 use Rattle.ppm_regions.specs.Scope.{Scope}
 use Rattle.ppm_translation.specs.Layout.{Layout, slot_of, register}
 use Rattle.ppm_translation.specs.Expressions.{size_of, branch_size, last_size, operator_code, right_register, branch_code, expression_code}
-use Rattle.ppm_translation.specs.Statements.{Instrs, lent_code, argument_size, argument_code, arguments_size, arguments_code, stores_code}
-use Rattle.ppm_translation.specs.Statements.{loads_code, names_code}
+use Rattle.ppm_translation.specs.Statements.{Instrs, lent_code, argument_size, argument_code, arguments_size}
+use Rattle.ppm_translation.specs.Statements.{arguments_code, stores_code, loads_code, names_code}
 use Rattle.ppm_translation.specs.Fits.{Has, FitsExpression, FitsLent, FitsArgument, FitsArguments}
 use Rattle.ppm_translation.proofs.SizeLemmas.{last_at_least}
 use Rattle.ppm_translation.proofs.PlaceLemmas.{of_procedure}
@@ -79,7 +79,8 @@ closed_expression layout (tree.Element x index) d at rest h =
     (closed_behind _ _ (closed_behind _ rest h))
 closed_expression layout (tree.Len x) d at rest h = closed_behind _ _ (closed_behind _ rest h)
 closed_expression layout (tree.Minus line e) d at rest h =
-    closed_behind _ _ (closed_expression layout e (suc d) (suc at) (instr.Sub (register d) (register d) (register (suc d)) line ∷ rest) (closed_behind _ rest h))
+    closed_behind _ _ (closed_expression layout e (suc d) (suc at) (instr.Sub (register d) (register d) (register (suc d)) line ∷ rest)
+    (closed_behind _ rest h))
 closed_expression layout (tree.Binary o line left right) d at rest h =
     let from = at + size_of left + branch_size o in
     let last = operator_code o line d rest in
@@ -104,7 +105,8 @@ closed_arguments layout (p ∷ ps) (a ∷ arguments) d at rest h =
 
 pub closed_stores : (offset d count : ℕ) (rest : Instrs) → IsClosed rest → IsClosed (stores_code offset d count rest)
 closed_stores offset d zero rest h = h
-closed_stores offset d (suc count) rest h = closed_behind _ (stores_code (suc offset) (suc d) count rest) (closed_stores (suc offset) (suc d) count rest h)
+closed_stores offset d (suc count) rest h =
+    closed_behind _ (stores_code (suc offset) (suc d) count rest) (closed_stores (suc offset) (suc d) count rest h)
 
 pub closed_loads : (layout names : Layout) (d : ℕ) (rest : Instrs) → IsClosed rest → IsClosed (loads_code layout names d rest)
 closed_loads layout [] d rest h = h

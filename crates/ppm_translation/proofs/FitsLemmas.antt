@@ -1,6 +1,6 @@
 -- The blocks of an admitted program fit.
-use Rattle.std.proofs.Common.{◌≡◌, ◌≢◌, inl, inr, cond, Bool, true, false, ℕ, List, [], ◌∷◌, ◌++◌, Option, Some, None, map, length, refl}
-use Rattle.std.proofs.Common.{sym, ap, ◌∙◌, subst, arith}
+use Rattle.std.proofs.Common.{◌≡◌, ◌≢◌, inl, inr, cond, Bool, true, false, ℕ, List, [], ◌∷◌, ◌++◌, Option}
+use Rattle.std.proofs.Common.{Some, None, map, length, refl, sym, ap, ◌∙◌, subst, arith}
 use Rattle.std.specs.Prelude.{not}
 use Rattle.std.specs.Option.{option_map}
 use Rattle.std.specs.List.{Contains, flat_map}
@@ -11,40 +11,34 @@ use Rattle.ppm_tree.specs.declared.mode.Mode.{Mode}
 use Rattle.ppm_tree.specs.declared.mode.Mode.TheVariants as mode
 use Rattle.ppm_tree.specs.declared.named.Named.{Named}
 use Rattle.ppm_tree.specs.declared.tree.Parameter.{Parameter}
-use Rattle.ppm_tree.specs.Tree.{Expression, Number, Name, Element, Len, Minus, Binary, Argument, Side, Statement, Let, Assign, Put, If}
-use Rattle.ppm_tree.specs.Tree.{While, Split, Each}
-use Rattle.ppm_tree.specs.Tree.{Block, Nil, Then, Give, Procedure, ProgramTree}
+use Rattle.ppm_tree.specs.Tree.{Expression, Number, Name, Element, Len, Minus, Binary, Argument, Side, Statement, Let, Assign}
+use Rattle.ppm_tree.specs.Tree.{Put, If, While, Split, Each, Block, Nil, Then, Give, Procedure, ProgramTree}
 use Rattle.ppm_tree.specs.Tree as tree
 use Rattle.ppm_tree.specs.Parts.{nodes, node_names, nodes_of, target_names}
 use Rattle.ppm_tree.specs.State.{procedure_named}
 use Rattle.ppm_bounds.specs.Names.{acted_on, free_within, free_names}
 use Rattle.ppm_regions.specs.declared.ask.Ask.TheVariants as ask
-use Rattle.ppm_regions.specs.Scope.{Declaration, Scope, declared, is_region, seen_in_split, in_split, seen_in_each, in_each, parts_of}
-use Rattle.ppm_regions.specs.Scope.{element_of, part, index_of, of_parameter, lets_of, scope_behind}
-use Rattle.ppm_regions.specs.Uses.{Use, Asks, NoName, Calls, Delivers, lent_together, lent_by, both_targets, callee_of, parameters_of}
-use Rattle.ppm_regions.specs.Uses.{uses_in, uses_of_argument}
-use Rattle.ppm_regions.specs.Uses.{uses_of_arguments, uses_of_target, uses_of_side, uses_of, declaration_sites, sites_within}
-use Rattle.ppm_regions.specs.Uses.{sites_of_block, sites_of_procedure, sites_of_give, sites_at}
-use Rattle.ppm_regions.specs.Uses.{Site, Begins, Fills, sites_of_names, uses_of_main}
+use Rattle.ppm_regions.specs.Scope.{Declaration, Scope, declared, is_region, seen_in_split, in_split, seen_in_each, in_each}
+use Rattle.ppm_regions.specs.Scope.{parts_of, element_of, part, index_of, of_parameter, lets_of, scope_behind}
+use Rattle.ppm_regions.specs.Uses.{Use, Asks, NoName, Calls, Delivers, lent_together, lent_by, both_targets, callee_of, parameters_of, uses_in}
+use Rattle.ppm_regions.specs.Uses.{uses_of_argument, uses_of_arguments, uses_of_target, uses_of_side, uses_of, declaration_sites, sites_within}
+use Rattle.ppm_regions.specs.Uses.{sites_of_block, sites_of_procedure, sites_of_give, sites_at, Site, Begins, Fills, sites_of_names, uses_of_main}
 use Rattle.ppm_regions.specs.Admission.{IsAdmitted}
 use Rattle.ppm_regions.specs.Correct.{Makes, KeepsRules}
 use Rattle.ppm_regions.proofs.Rules.{rules}
 use Rattle.ppm_regions.proofs.Elements.{contains_head, contains_tail, contains_map, contains_cases}
 use Rattle.ppm_regions.proofs.ScopeLemmas.{names_same, found_cases, none_and_some, declared_map}
-use Rattle.ppm_regions.proofs.SiteLemmas.{AreSites, sites_left, sites_right, AreMade, made_left, made_right, made_head, made_tail, made_at}
-use Rattle.ppm_regions.proofs.SiteLemmas.{uses_first, sites_inside}
-use Rattle.ppm_regions.proofs.SiteLemmas.{sites_behind, callee_sites, sites_of_parameters, sites_of_body, sites_of_gift, same_parameters}
-use Rattle.ppm_regions.proofs.SiteLemmas.{AreNew, are_new, not_later}
+use Rattle.ppm_regions.proofs.SiteLemmas.{AreSites, sites_left, sites_right, AreMade, made_left, made_right, made_head, made_tail}
+use Rattle.ppm_regions.proofs.SiteLemmas.{made_at, uses_first, sites_inside, sites_behind, callee_sites, sites_of_parameters}
+use Rattle.ppm_regions.proofs.SiteLemmas.{sites_of_body, sites_of_gift, same_parameters, AreNew, are_new, not_later}
 use Rattle.ppm_translation.specs.Layout.{Layout, parameter_layout}
 use Rattle.ppm_translation.specs.Statements.{with_lets, with_parts, hidden_layout}
 use Rattle.ppm_regions.specs.Scope.{scope_of}
-use Rattle.ppm_translation.specs.Fits.{IsNew, IsLocal, IsRegion, IsDistinctLayout, FitsExpression, FitsLent, FitsArgument}
-use Rattle.ppm_translation.specs.Fits.{FitsArguments, FitsTarget}
-use Rattle.ppm_translation.specs.Fits.{layout_behind, FitsSide, FitsStatement, FitsBlock, FitsGive, FitsProcedure}
+use Rattle.ppm_translation.specs.Fits.{IsNew, IsLocal, IsRegion, IsDistinctLayout, FitsExpression, FitsLent, FitsArgument, FitsArguments}
+use Rattle.ppm_translation.specs.Fits.{FitsTarget, layout_behind, FitsSide, FitsStatement, FitsBlock, FitsGive, FitsProcedure}
 use Rattle.ppm_translation.specs.Correct.{NamesHaveSlots}
 use Rattle.ppm_translation.proofs.CoverLemmas.{Covers, covers_fewer, names_declared, new_there, has_there, none_in_both, covers_parts}
-use Rattle.ppm_translation.proofs.CoverLemmas.{covers_elements, covers_more}
-use Rattle.ppm_translation.proofs.CoverLemmas.{AreNamed, free_here, free_inside, covers_behind}
+use Rattle.ppm_translation.proofs.CoverLemmas.{covers_elements, covers_more, AreNamed, free_here, free_inside, covers_behind}
 
 -- of what is used, parts are
 named_left : (names : List (List ℕ)) (xs ys : List Named) → AreNamed names (xs ++ ys) → AreNamed names xs

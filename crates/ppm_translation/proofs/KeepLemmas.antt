@@ -23,24 +23,21 @@ use Rattle.ppm_bounds.specs.Bounds.{IsWithinBounds}
 use Rattle.ppm_bounds.proofs.Keeping.{all-append}
 use Rattle.ppm_regions.specs.Scope.{Scope, first_named, plain, scope_of, scope_behind}
 use Rattle.ppm_regions.specs.Uses.{Use, Fills, Begins, Site, sites_at, declaration_sites, sites_of_names, sites_of_procedure, uses_of_main}
-use Rattle.ppm_regions.specs.Faults as fault
 use Rattle.ppm_regions.specs.Admission.{IsAdmitted}
-use Rattle.ppm_regions.specs.declared.region_error.RegionError.TheVariants as error
-use Rattle.ppm_regions.proofs.Elements.{contains_map, contains_head, contains_cases}
+use Rattle.ppm_regions.proofs.Elements.{contains_map, contains_cases}
 use Rattle.ppm_regions.proofs.Names.{found_head, found_later, not_among}
-use Rattle.ppm_regions.proofs.Faultless.{IsFaultless, faultless_left, faultless_right, right_at, declares_new}
+use Rattle.ppm_regions.proofs.Faultless.{IsFaultless, faultless_left, faultless_right, declares_new}
 use Rattle.ppm_translation.specs.Layout.{Layout, parameter_layout}
 use Rattle.ppm_translation.specs.Numbers.{end_of, element_block}
 use Rattle.ppm_translation.specs.Slots.{named_slots, hidden_named_slots, hidden_slots}
 use Rattle.ppm_translation.specs.Statements.{Instrs, Gives, number_of, halving_code}
-use Rattle.ppm_translation.specs.Routines.{Routine, OfText, Hidden, sweep_layout, routine_slots, routine_behind, routines_of, procedures_from}
-use Rattle.ppm_translation.specs.Routines.{routine_code}
-use Rattle.ppm_translation.specs.Routines.{capsules_from, code_of}
+use Rattle.ppm_translation.specs.Routines.{Routine, OfText, Hidden, sweep_layout, routine_slots, routine_behind}
+use Rattle.ppm_translation.specs.Routines.{routines_of, procedures_from, routine_code, capsules_from, code_of}
 use Rattle.ppm_translation.specs.Fits.{FitsGive, FitsProcedure, layout_behind}
 use Rattle.ppm_translation.specs.Correct.{NamesHaveSlots, KeepsTheRules}
-use Rattle.ppm_translation.proofs.PlaceLemmas.{past, past_map, routine_past, of_procedure, found_there, Listed, listed, listed_first, listed_second}
-use Rattle.ppm_translation.proofs.PlaceLemmas.{Stands}
-use Rattle.ppm_translation.proofs.PlaceLemmas.{stands_listed, ArePlaced, routines_placed, procedures_have}
+use Rattle.ppm_translation.proofs.MainLemmas.{main_is}
+use Rattle.ppm_translation.proofs.PlaceLemmas.{past, past_map, routine_past, of_procedure, found_there, Listed, listed, listed_first}
+use Rattle.ppm_translation.proofs.PlaceLemmas.{listed_second, Stands, stands_listed, ArePlaced, routines_placed, procedures_have}
 use Rattle.ppm_translation.proofs.SizeLemmas.{procedures_count, procedures_at_least, capsules_count}
 use Rattle.ppm_translation.proofs.SoundLemmas.{IsSoundRoutine, AreSound, all_sound, routine_few, most_slots}
 use Rattle.ppm_translation.proofs.RuleLemmas.{IsKnown, LastFits, block_keeps, entry_keeps, halving_keeps, finish_keeps, end_grows}
@@ -71,14 +68,16 @@ module _ (procedures : List Procedure) (code : CodeParts) where
       → Stands procedures code q at (routine_code procedures at r)
   first_listed q at r rs h =
       stands_listed procedures code q at (routine_code procedures at r)
-      (listed_first procedures code (map (of_procedure q) (routine_code procedures at r)) (capsules_from procedures (suc q) (routine_behind r at) rs) at h)
+      (listed_first procedures code (map (of_procedure q) (routine_code procedures at r))
+      (capsules_from procedures (suc q) (routine_behind r at) rs) at h)
 
   later_listed : (q at : ℕ) (r : Routine) (rs : List Routine) → Listed procedures code at (capsules_from procedures q at (r ∷ rs))
       → Listed procedures code (routine_behind r at) (capsules_from procedures (suc q) (routine_behind r at) rs)
   later_listed q at r rs h =
       subst (λ (k : ℕ). Listed procedures code k (capsules_from procedures (suc q) (routine_behind r at) rs))
       (past_map (of_procedure q) (routine_code procedures at r) at ∙ routine_past procedures at r)
-      (listed_second procedures code (map (of_procedure q) (routine_code procedures at r)) (capsules_from procedures (suc q) (routine_behind r at) rs) at h)
+      (listed_second procedures code (map (of_procedure q) (routine_code procedures at r))
+      (capsules_from procedures (suc q) (routine_behind r at) rs) at h)
 
   -- each procedure is entered at a capsule of its own
   entries_own : (rs : List Routine) (q at : ℕ) → Listed procedures code at (capsules_from procedures q at rs) → (n : ℕ)
@@ -132,11 +131,13 @@ module _ (procedures : List Procedure) (code : CodeParts) where
               (own (element_block at) (omega arith) (omega (arith, grows))),
           (
             subst (λ (k : ℕ). IsCapsule code (of_procedure q (halving_code at k (hidden_slots count s.block) count s.line))) sound.number
-                (halving_keeps procedures code known q spare at high there own at (hidden_slots count s.block) count s.line slots (omega arith) sound.line
+                (halving_keeps procedures code known q spare at high there own at (hidden_slots count s.block) count s.line slots
+                (omega arith) sound.line
                 (own (suc (suc at)) (omega arith) (omega (arith, grows)))),
             (
               finish_keeps procedures code known q spare at high there own,
-              block_keeps procedures code known q spare at high there own on.scope (sweep_layout s) (element_block at) (suc s.number) (Gives None) s.block
+              block_keeps procedures code known q spare at high there own on.scope (sweep_layout s) (element_block at) (suc s.number)
+                  (Gives None) s.block
                   on.fits on.small on.placed (omega arith) (omega arith) (omega arith) (omega (arith, slots)) tt,
             ),
           ),
@@ -208,13 +209,6 @@ module _ (t : ProgramTree) (admitted : IsAdmitted t) where
   abbrev outside : List Use
   outside = Begins ∷ flat_map uses_of_main t.procedures ++ map Fills t.inputs
 
-  -- there is a `main`
-  main_found : first_named (λ p. p.name.name) t.procedures (codes "main") ≢ None
-  main_found none =
-      right_at t (sites_at [] outside) (faultless_right t (array_sites ++ procedure_sites ++ input_sites ++ inside) (sites_at [] outside) admitted.faultless)
-      (record { scope = []; made = Begins }) (contains_map (λ u. record { scope = []; made = u }) Begins outside (contains_head Begins _))
-      (error.BadMain 0) (fault.NoMain (not_among (λ p. p.name.name) t.procedures (codes "main") none))
-
   behind_first : (site : Site) (more : List Site) → IsFaultless t (site ∷ more) → IsFaultless t more
   behind_first site more h = faultless_right t (site ∷ []) more h
 
@@ -241,7 +235,8 @@ module _ (t : ProgramTree) (admitted : IsAdmitted t) where
       (faultless_left t (array_sites ++ procedure_sites ++ input_sites) inside
       (faultless_left t (array_sites ++ procedure_sites ++ input_sites ++ inside) (sites_at [] outside) admitted.faultless)))) p c)
 
-  module _ (names : (x : List ℕ) → FitsProcedure t.procedures (procedure_named t.procedures x)) (within : IsWithin t) (bounded : IsWithinBounds t) where
+  module _ (names : (x : List ℕ) → FitsProcedure t.procedures (procedure_named t.procedures x)) (within : IsWithin t)
+      (bounded : IsWithinBounds t) where
     all_fit : AllByRecursion (FitsProcedure t.procedures) t.procedures
     all_fit = recursion_from_All (FitsProcedure t.procedures) t.procedures
         (All-weaker (Contains t.procedures) (FitsProcedure t.procedures)
@@ -271,7 +266,7 @@ module _ (t : ProgramTree) (admitted : IsAdmitted t) where
     keeps_all =
         let ps = t.procedures in
         let main = main_of t in
-        let root = (procedures_have t).each (codes "main") main_found in
+        let root = (procedures_have t).each (codes "main") (main_is t admitted) in
         let slots = root.slots in
         let arrays = length-map main.parameters (λ p. (whole_from 0 t.arrays p.name.name).array) in
         let procedures = procedures_count ps in
@@ -279,7 +274,7 @@ module _ (t : ProgramTree) (admitted : IsAdmitted t) where
         let limit = within.procedure_count in
         let bound = bounded.capsules in
         record {
-          root = callees (codes "main") main_found;
+          root = callees (codes "main") (main_is t admitted);
           root_slots = omega (arith, slots, arrays);
           arrays = All-from_recursion (λ a. a < array_limit) (code_of t).arrays (wholes_below t.arrays main.parameters within.array_count);
           procedures_most = omega (arith, procedures, limit);

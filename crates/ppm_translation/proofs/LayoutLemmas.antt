@@ -1,14 +1,21 @@
 -- The slots of names in longer layouts, and in those of which some names are left out.
-use Rattle.std.proofs.Common.{◌≡◌, ◌<◌, cond, Bool, true, false, ℕ, suc, List, [], ◌∷◌, ◌++◌, length, refl, sym, ap, ◌∙◌, subst, arith}
+use Rattle.std.proofs.Common.{◌≡◌, ◌≤◌, ◌<◌, ◌+◌, length-append, cond, Bool, true, false, ℕ, suc, List, []}
+use Rattle.std.proofs.Common.{◌∷◌, ◌++◌, length, refl, sym, ap, ◌∙◌, subst, arith}
 use Rattle.std.specs.Prelude.{not}
+use Rattle.std.proofs.Math.Nat.{le-max_right}
 use Rattle.std.specs.List.{Contains, filter}
 use Rattle.std.specs.Set.{is_member}
 use Rattle.std.specs.Str.{bytes_eq}
 use Rattle.ppm_bounds.specs.Names.{without}
+use Rattle.ppm_bounds.specs.Names as names
+use Rattle.ppm_bounds.specs.Slots.{most_within, most_in_force}
+use Rattle.ppm_tree.specs.Tree.{Statement, Block, Then}
+use Rattle.ppm_tree.specs.Tree as tree
 use Rattle.ppm_regions.proofs.Elements.{contains_head, contains_tail, contains_cases}
 use Rattle.ppm_regions.proofs.ScopeLemmas.{same_names}
 use Rattle.ppm_translation.specs.Layout.{Layout, slot_of}
 use Rattle.ppm_translation.specs.Fits.{Has, IsNew}
+use Rattle.ppm_translation.specs.Statements.{with_lets}
 
 module _ (x : List ℕ) where
   -- a slot stays in a longer layout
@@ -102,3 +109,23 @@ contains_filter test x passes (y ∷ xs) c =
 pub contains_without : (names from : List (List ℕ)) (x : List ℕ) → is_member bytes_eq names x ≡ false → Contains from x
     → Contains (without names from) x
 contains_without names from x e c = contains_filter (λ y. not (is_member bytes_eq names y)) x (ap not e) from c
+
+-- a statement adds as many names as are counted
+pub lets_length : (layout : Layout) (s : Statement) → length (with_lets layout s) ≡ length layout + length (names.lets_of s)
+lets_length layout (tree.Let x e) = length-append layout (x.name ∷ [])
+lets_length layout (tree.Assign x e) = omega arith
+lets_length layout (tree.Put x index e) = omega arith
+lets_length layout (tree.If e holds other) = omega arith
+lets_length layout (tree.While e block) = omega arith
+lets_length layout (tree.Call s) = omega arith
+lets_length layout (tree.Fork s t) = omega arith
+lets_length layout (tree.Split line r e x y block) = omega arith
+lets_length layout (tree.Each i x r block) = omega arith
+
+-- the names in force in the rest of a block have room where those of the block have
+pub lets_room : (s : Statement) (rest : Block) (layout : Layout) (spare : ℕ) → length layout + most_in_force (Then s rest) ≤ spare
+    → length (with_lets layout s) + most_in_force rest ≤ spare
+lets_room s rest layout spare h =
+    let longer = lets_length layout s in
+    let counted = le-max_right (most_within s) (length (names.lets_of s) + most_in_force rest) in
+    omega (arith, h, longer, counted)

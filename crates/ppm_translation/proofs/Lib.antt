@@ -1,4 +1,7 @@
 pub mod LayoutLemmas
+pub mod NamedLemmas
+pub mod RegionWords
+pub mod MainLemmas
 pub mod CoverLemmas
 pub mod FitsLemmas
 pub mod PlaceLemmas
@@ -8,3 +11,7 @@ pub mod FitLemmas
 pub mod SoundLemmas
 pub mod RuleLemmas
 pub mod KeepLemmas
+pub mod BareLemmas
+pub mod LineLemmas
+pub mod ApartLemmas
+pub mod FewLemmas

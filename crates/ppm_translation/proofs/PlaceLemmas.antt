@@ -1,6 +1,6 @@
 -- What the code of a program lists stands at its numbers: the capsules of each procedure from its entry on, one after the other.
-use Rattle.std.proofs.Common.{◌≡◌, ◌≢◌, ◌<◌, ℕ, zero, suc, ◌+◌, cond, Bool, true, false, List, [], ◌∷◌, ◌++◌, Some, None, length, map, slice_get}
-use Rattle.std.proofs.Common.{refl, sym, ap, ◌∙◌, subst, arith}
+use Rattle.std.proofs.Common.{◌≡◌, ◌≢◌, ◌<◌, ℕ, zero, suc, ◌+◌, cond, Bool, true, false, List, [], ◌∷◌, ◌++◌, Some}
+use Rattle.std.proofs.Common.{None, length, map, slice_get, refl, sym, ap, ◌∙◌, subst, arith}
 use Rattle.std.specs.Str.{bytes_eq}
 use Rattle.ppm_code.specs.declared.code.Capsule.{Capsule}
 use Rattle.ppm_code.specs.declared.code.CodeParts.{CodeParts}
@@ -15,8 +15,7 @@ use Rattle.ppm_translation.specs.Numbers.{behind, end_of, hidden_behind, hidden_
 use Rattle.ppm_translation.specs.Slots.{named_slots, hidden_named_slots}
 use Rattle.ppm_translation.specs.Statements.{Instrs, Last, OnTo, Gives, with_lets, with_parts, hidden_layout, statement_code, block_code, number_of}
 use Rattle.ppm_translation.specs.Routines.{Routine, OfText, Hidden, routine_slots, routine_behind, hidden_of, hidden_of_block, texts_from}
-use Rattle.ppm_translation.specs.Routines.{hidden_from}
-use Rattle.ppm_translation.specs.Routines.{routines_of, procedures_from, routine_code, capsules_from, code_of}
+use Rattle.ppm_translation.specs.Routines.{hidden_from, routines_of, procedures_from, routine_code, capsules_from, code_of}
 use Rattle.ppm_translation.specs.Standing.{HasStatement, HasBlock, HasBody}
 use Rattle.ppm_translation.specs.Correct.{ProceduresStand}
 
@@ -92,7 +91,8 @@ mutual
   hidden_past_block layout h Nil = refl
   hidden_past_block layout h (Then s rest) =
       let ys = hidden_of_block (with_lets layout s) (hidden_behind s h) rest in
-      past_append (hidden_of layout h s) ys h ∙ ap (past ys) (hidden_past layout h s) ∙ hidden_past_block (with_lets layout s) (hidden_behind s h) rest
+      past_append (hidden_of layout h s) ys h ∙ ap (past ys) (hidden_past layout h s)
+      ∙ hidden_past_block (with_lets layout s) (hidden_behind s h) rest
 
 pub texts_past : (h : ℕ) (ps : List Procedure) (n : ℕ) → past (texts_from h ps) n ≡ past ps n
 texts_past h [] n = refl

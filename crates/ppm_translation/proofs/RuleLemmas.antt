@@ -1,6 +1,6 @@
 -- Each capsule of a procedure keeps the rules of a code.
-use Rattle.std.proofs.Common.{◌≡◌, ◌≢◌, ◌≤◌, ◌<◌, ◌+◌, ◌||◌, cond, Bool, true, false, ℕ, zero, suc, List, [], ◌∷◌, ◌++◌, Option, Some, None, IfSome}
-use Rattle.std.proofs.Common.{length, map, slice_get, refl, sym, ap, ◌∙◌, subst, arith, length-append}
+use Rattle.std.proofs.Common.{◌≡◌, ◌≢◌, ◌≤◌, ◌<◌, ◌+◌, ◌||◌, cond, Bool, true, false, ℕ, zero, suc, List, [], ◌∷◌, ◌++◌, Option, Some}
+use Rattle.std.proofs.Common.{None, IfSome, length, map, slice_get, refl, sym, ap, ◌∙◌, subst, arith, length-append}
 use Rattle.std.specs.List.{All, AllByRecursion, flat_map}
 use Rattle.std.proofs.lemmas.List.Elements.{All-head, recursion_from_All}
 use Rattle.std.proofs.lemmas.Grind.{flat_map-append}
@@ -24,20 +24,20 @@ use Rattle.ppm_translation.specs.Layout.{Layout, slot_of, target_of, register, c
 use Rattle.ppm_translation.specs.Expressions.{size_of, expression_code}
 use Rattle.ppm_translation.specs.Numbers.{behind, end_of, hidden_behind, hidden_behind_block, halving, halved, element_block}
 use Rattle.ppm_translation.specs.Slots.{assigns, has_assignment, spare_slots, hidden_slots, frame_words, fork_words}
-use Rattle.ppm_translation.specs.Statements.{Instrs, Last, OnTo, Gives, last_code, onward, let_code, value_code, move_code, element_code, put_code}
-use Rattle.ppm_translation.specs.Statements.{test_code, split_code}
-use Rattle.ppm_translation.specs.Statements.{each_code, entry_code, halving_code, arguments_size, arguments_code, paired, stores_code}
-use Rattle.ppm_translation.specs.Statements.{with_lets, with_parts, number_of, call_code, fork_code, callee_parameters, callee_number, callee_slots}
-use Rattle.ppm_translation.specs.Statements.{statement_code, block_code}
+use Rattle.ppm_translation.specs.Statements.{Instrs, Last, OnTo, Gives, last_code, onward, let_code, value_code, move_code, element_code}
+use Rattle.ppm_translation.specs.Statements.{put_code, test_code, split_code, each_code, entry_code, halving_code, arguments_size}
+use Rattle.ppm_translation.specs.Statements.{arguments_code, paired, stores_code, with_lets, with_parts, number_of, call_code, fork_code}
+use Rattle.ppm_translation.specs.Statements.{callee_parameters, callee_number, callee_slots, statement_code, block_code}
 use Rattle.ppm_translation.specs.Routines.{hidden_of, hidden_of_block}
 use Rattle.ppm_translation.specs.Standing.{HasBodies}
 use Rattle.ppm_translation.specs.Fits.{FitsExpression, FitsTarget, FitsSide, FitsStatement, FitsBlock, layout_behind}
+use Rattle.ppm_translation.proofs.LayoutLemmas.{lets_length}
 use Rattle.ppm_translation.proofs.PlaceLemmas.{of_procedure, ArePlaced, placed_first, placed_second, hidden_past, hidden_past_block}
-use Rattle.ppm_translation.proofs.SizeLemmas.{size_at_most, expression_length, arguments_length, stores_length, loads_length, names_length}
-use Rattle.ppm_translation.proofs.SizeLemmas.{arguments_at_most, paired_at_most}
-use Rattle.ppm_translation.proofs.FitLemmas.{IsClosed, closed_end, closed_behind, closed_expression, closed_arguments, closed_stores, closed_loads}
-use Rattle.ppm_translation.proofs.FitLemmas.{closed_names}
-use Rattle.ppm_translation.proofs.FitLemmas.{line_fits, AllFit, moved, capsule_fits, expression_fits, arguments_fit, stores_fit, loads_fit, names_fit}
+use Rattle.ppm_translation.proofs.SizeLemmas.{size_at_most, expression_length, arguments_length, stores_length}
+use Rattle.ppm_translation.proofs.SizeLemmas.{loads_length, names_length, arguments_at_most, paired_at_most}
+use Rattle.ppm_translation.proofs.FitLemmas.{IsClosed, closed_end, closed_behind, closed_expression, closed_arguments}
+use Rattle.ppm_translation.proofs.FitLemmas.{closed_stores, closed_loads, closed_names, line_fits, AllFit, moved, capsule_fits}
+use Rattle.ppm_translation.proofs.FitLemmas.{expression_fits, arguments_fit, stores_fit, loads_fit, names_fit}
 use Rattle.ppm_translation.proofs.CaughtLemmas.{caught_have_slots}
 use Rattle.ppm_translation.proofs.SoundLemmas.{AreSmall, most_slots}
 
@@ -79,17 +79,6 @@ mutual
   pub end_grows : (b : Block) (at : ℕ) → at ≤ end_of b at
   end_grows Nil at = omega arith
   end_grows (Then s rest) at = let a = behind_grows s at in let b = end_grows rest (behind s at) in omega (arith, a, b)
-
-lets_length : (layout : Layout) (s : Statement) → length (with_lets layout s) ≡ length layout + length (counted.lets_of s)
-lets_length layout (tree.Let x e) = length-append layout (x.name ∷ [])
-lets_length layout (tree.Assign x e) = omega arith
-lets_length layout (tree.Put x index e) = omega arith
-lets_length layout (tree.If e holds other) = omega arith
-lets_length layout (tree.While e block) = omega arith
-lets_length layout (tree.Call s) = omega arith
-lets_length layout (tree.Fork s t) = omega arith
-lets_length layout (tree.Split line r e x y block) = omega arith
-lets_length layout (tree.Each i x r block) = omega arith
 
 -- a procedure with slots is there
 there_in : (ps : List CodeProcedure) (q : ℕ) → 1 ≤ slots_in (slice_get ps q) → q < length ps
@@ -207,7 +196,8 @@ module _ (procedures : List Procedure) (code : CodeParts) (known : IsKnown proce
         (closed_behind _ _ (closed_behind _ _ (closed_end (ends.Next next))))))
         (expression_fits code q is scope layout room index 0 0 value f n (omega (arith, long))
         (moved code q is value (size_of index) (0 + size_of index) start
-        (expression_fits code q is scope layout room e 1 (size_of index) tail g m (omega (arith, long, more)) (omega (arith, left), (left, (at, tt))))))
+        (expression_fits code q is scope layout room e 1 (size_of index) tail g m (omega (arith, long, more))
+        (omega (arith, left), (left, (at, tt))))))
 
     put_keeps : (layout : Layout) (x : Named) (next : ℕ) → suc spare < slots_of code q → slot_of layout x.name < slots_of code q → IsLine x.line
         → IsCapsuleOf code q next → Keeps (put_code layout spare x next)
@@ -353,7 +343,8 @@ module _ (procedures : List Procedure) (code : CodeParts) (known : IsKnown proce
         let same : frame_words slots ≡ frame_size code h = ap (λ n. 6 + n) (sym hidden) in
         let callee : IsProcedure code h = procedure_there code h (omega (arith, hidden)) in
         capsule_fits code q is there (omega (arith, long, more, few, hidden))
-        (closed_behind _ _ (closed_behind _ _ (closed_behind _ _ (closed_loads layout names 2 stores (closed_stores 6 0 (suc (suc count)) end (closed_end _)))))) (
+        (closed_behind _ _
+        (closed_behind _ _ (closed_behind _ _ (closed_loads layout names 2 stores (closed_stores 6 0 (suc (suc count)) end (closed_end _)))))) (
           (omega arith, omega arith, omega (arith, few, hidden)),
           (
             slot,
@@ -465,7 +456,11 @@ module _ (procedures : List Procedure) (code : CodeParts) (known : IsKnown proce
           let slot = f.0.has in (
             value_keeps scope layout e (suc at) (omega (arith, lets, left)) (omega (arith, left)) f.1 n.0 n.1
                 (own (suc at) (omega (arith, first)) (omega (arith, last))),
-            (move_keeps layout x (suc (suc at)) (omega (arith, left)) (omega (arith, slot, lets, left)) (own (suc (suc at)) (omega (arith, first)) last), tt),
+            (
+              move_keeps layout x (suc (suc at)) (omega (arith, left)) (omega (arith, slot, lets, left))
+                  (own (suc (suc at)) (omega (arith, first)) last),
+              tt,
+            ),
           )
       statement_keeps scope layout at h (tree.Put x index e) f small placed first last within lets left =
           let n = two_expressions index e small.0.nodes small.0.count in

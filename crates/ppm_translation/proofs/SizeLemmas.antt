@@ -22,10 +22,9 @@ use Rattle.ppm_translation.specs.Expressions.{size_of, branch_size, last_size, o
 use Rattle.ppm_translation.specs.Numbers.{behind, end_of, hidden_behind, hidden_behind_block, element_block}
 use Rattle.ppm_translation.specs.Slots.{named_slots, hidden_named_slots}
 use Rattle.ppm_translation.specs.Statements.{Last, OnTo, Gives, argument_size, argument_code, arguments_size, arguments_code, paired, stores_code}
-use Rattle.ppm_translation.specs.Statements.{loads_code}
-use Rattle.ppm_translation.specs.Statements.{names_code, with_lets, with_parts, hidden_layout, statement_code, block_code}
-use Rattle.ppm_translation.specs.Routines.{Routine, OfText, Hidden, hidden_of, hidden_of_block, texts_from, hidden_from, routines_of}
-use Rattle.ppm_translation.specs.Routines.{procedures_from, routine_code, capsules_from, routine_behind}
+use Rattle.ppm_translation.specs.Statements.{loads_code, names_code, with_lets, with_parts, hidden_layout, statement_code, block_code}
+use Rattle.ppm_translation.specs.Routines.{Routine, OfText, Hidden, hidden_of, hidden_of_block, texts_from, hidden_from}
+use Rattle.ppm_translation.specs.Routines.{routines_of, procedures_from, routine_code, capsules_from, routine_behind}
 
 -- an operator has at least one instruction behind its operands, and three at most beside them
 pub last_at_least : (o : Operator) → 1 ≤ last_size o
@@ -364,7 +363,8 @@ mutual
   statement_need layout h (tree.Each i x r block) =
       let a = block_need (hidden_layout layout i x block) (suc h) block in
       let c = sum_by-cons (λ x. x) 22 (map capsules_at (statements_in block)) in
-      let d = sum_by-cons (λ x. x) (3 + block_capsules block) (map routine_capsules (hidden_of_block (hidden_layout layout i x block) (suc h) block)) in
+      let d = sum_by-cons (λ x. x) (3 + block_capsules block)
+      (map routine_capsules (hidden_of_block (hidden_layout layout i x block) (suc h) block)) in
       omega (arith, a, c, d)
 
   -- a block has one capsule more, with which it ends

@@ -20,13 +20,12 @@ use Rattle.ppm_translation.specs.Layout.{Layout, parameter_layout, caught}
 use Rattle.ppm_translation.specs.Numbers.{hidden_behind, hidden_behind_block}
 use Rattle.ppm_translation.specs.Slots.{has_assignment, spare_slots, procedure_slots, hidden_slots}
 use Rattle.ppm_translation.specs.Statements.{with_lets, with_parts, hidden_layout}
-use Rattle.ppm_translation.specs.Routines.{Sweep, Routine, OfText, Hidden, sweep_layout, routine_slots, hidden_of, hidden_of_block, texts_from}
-use Rattle.ppm_translation.specs.Routines.{hidden_from}
-use Rattle.ppm_translation.specs.Routines.{routines_of}
+use Rattle.ppm_translation.specs.Routines.{Sweep, Routine, OfText, Hidden, sweep_layout, routine_slots, hidden_of}
+use Rattle.ppm_translation.specs.Routines.{hidden_of_block, texts_from, hidden_from, routines_of}
 use Rattle.ppm_regions.specs.Scope.{split_scope, each_scope}
 use Rattle.ppm_translation.specs.Fits.{FitsStatement, FitsBlock, FitsProcedure}
 use Rattle.ppm_translation.proofs.PlaceLemmas.{past, ArePlaced, placed_first, placed_second, hidden_past, hidden_past_block, texts_past, past_length}
-use Rattle.ppm_translation.proofs.CaughtLemmas.{IsEachOnce, each_once, once_push, once_parts, once_hidden, caught_is_counted}
+use Rattle.ppm_translation.proofs.CaughtLemmas.{IsEachOnce, once_lets, each_once, once_parts, once_hidden, caught_is_counted}
 use Rattle.ppm_translation.proofs.FitLemmas.{line_fits}
 
 -- at most one spare slot is not counted by the bounds
@@ -55,18 +54,6 @@ abbrev HasFewSlots : Statement → Type 0
 HasFewSlots s = count_of bound.Slots s ≤ limit_of bound.Slots
 
 module _ (procedures : List Procedure) where
-  once_lets : (scope : Scope) (layout : Layout) (s : Statement) → FitsStatement procedures scope layout s → IsEachOnce layout
-      → IsEachOnce (with_lets layout s)
-  once_lets scope layout (tree.Let x e) f h = once_push layout x.name h f.1
-  once_lets scope layout (tree.Assign x e) f h = h
-  once_lets scope layout (tree.Put x index e) f h = h
-  once_lets scope layout (tree.If e holds other) f h = h
-  once_lets scope layout (tree.While e block) f h = h
-  once_lets scope layout (tree.Call s) f h = h
-  once_lets scope layout (tree.Fork s t) f h = h
-  once_lets scope layout (tree.Split line r e x y block) f h = h
-  once_lets scope layout (tree.Each i x r block) f h = h
-
   module _ (code : CodeParts) where
     -- a block, with the layout in front of it and the number of its first hidden procedure
     pub record IsSound (layout : Layout) (h : ℕ) (b : Block) : Type 0 where
@@ -135,7 +122,8 @@ module _ (procedures : List Procedure) where
             record {
               number = refl;
               line = line_fits names.line;
-              slots = sweep_slots (length (caught layout block)) (caught_count i x block) block (caught_is_counted layout i x block once f.1 f.2) few.0;
+              slots = sweep_slots (length (caught layout block)) (caught_count i x block) block
+                  (caught_is_counted layout i x block once f.1 f.2) few.0;
               block = record { scope = inner; fits = f.6; small = small.1; placed = placed.1 };
             },
             block_sound inner own (suc h) block f.6 small.1 few.1 (once_hidden layout i x block once f.1 f.2 f.3) placed.1,
@@ -157,7 +145,7 @@ module _ (procedures : List Procedure) where
           (statement_sound scope layout h s f.0 (all-first IsSmallStatement here there small) (all-first HasFewSlots here there few) once
           (placed_first procedures code xs ys h placed))
           (block_sound (scope ++ lets_of s) later next rest f.1 (all-second IsSmallStatement here there small) (all-second HasFewSlots here there few)
-          (once_lets scope layout s f.0 once) (placed_second procedures code xs ys h next count placed))
+          (once_lets procedures scope layout s f.0 once) (placed_second procedures code xs ys h next count placed))
 
     -- the procedures of a list, and the hidden ones in them
     texts_sound : (ps : List Procedure) (q h : ℕ) → AllByRecursion (FitsProcedure procedures) ps → AllByRecursion IsSmall ps
@@ -172,9 +160,21 @@ module _ (procedures : List Procedure) where
         let count = hidden_past_block layout h p.body in
         let own = placed_first procedures code xs ys h placed in
         let rest = texts_sound ps (suc q) next fits.1 small.1 few.1 (placed_second procedures code xs ys h next count placed) in
-        let body = block_sound _ layout h p.body fits.0.body (recursion_from_All IsSmallStatement (statements_in p.body) small.0.statements) few.0.hidden
-        (each_once layout fits.0.distinct) own in
-        ((record { fits = fits.0; small = small.0; slots = text_slots p few.0.own; placed = own }, rest.0), sound-append xs ys h next count body rest.1)
+        let body = block_sound _ layout h p.body fits.0.body
+        (recursion_from_All IsSmallStatement (statements_in p.body) small.0.statements) few.0.hidden
+        (each_once layout fits.0.distinct) own in (
+          (
+            record {
+              fits = fits.0;
+              small = small.0;
+              slots = text_slots p few.0.own;
+              placed =
+                  own;
+            },
+            rest.0,
+          ),
+          sound-append xs ys h next count body rest.1,
+        )
 
     pub all_sound : AllByRecursion (FitsProcedure procedures) procedures → AllByRecursion IsSmall procedures
         → AllByRecursion (Keeps bound.Slots) procedures → ArePlaced procedures code 0 (routines_of procedures) → AreSound 0 (routines_of procedures)

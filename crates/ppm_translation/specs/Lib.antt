@@ -7,4 +7,6 @@ pub mod Routines
 pub mod Standing
 pub mod Fits
 pub mod Inputs
+pub mod Lines
+pub mod Counts
 pub mod Correct

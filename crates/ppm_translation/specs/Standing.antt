@@ -12,8 +12,9 @@ use Rattle.ppm_regions.specs.Scope.{first_named}
 use Rattle.ppm_translation.specs.Layout.{Layout, parameter_layout, caught}
 use Rattle.ppm_translation.specs.Numbers.{behind, end_of, hidden_behind, hidden_behind_block, halving, halved, element_block}
 use Rattle.ppm_translation.specs.Slots.{named_slots, procedure_slots, hidden_named_slots, hidden_slots}
-use Rattle.ppm_translation.specs.Statements.{Last, OnTo, Gives, last_code, let_code, value_code, move_code, element_code, put_code, test_code, split_code}
-use Rattle.ppm_translation.specs.Statements.{each_code, entry_code, halving_code, hidden_layout, with_lets, with_parts, call_code, fork_code, number_of}
+use Rattle.ppm_translation.specs.Statements.{Last, OnTo, Gives, last_code, let_code, value_code, move_code, element_code}
+use Rattle.ppm_translation.specs.Statements.{put_code, test_code, split_code, each_code, entry_code, halving_code, hidden_layout}
+use Rattle.ppm_translation.specs.Statements.{with_lets, with_parts, call_code, fork_code, number_of}
 
 module _ (procedures : List Procedure) (code : CodeParts) where
   abbrev mutual

@@ -120,12 +120,14 @@ abbrev pub each_code : Layout → Named → Block → (hidden next : ℕ) → In
 each_code layout r block hidden next =
     let names = caught layout block in
     instr.Room (frame_words (hidden_slots (length names) block)) ∷ instr.LoadSlot (register 0) (slot_of layout r.name)
-    ∷ instr.Const (register 1) (pos 0) ∷ loads_code layout names 2 (stores_code 6 0 (suc (suc (length names))) (instr.Ends (ends.Call hidden next None) ∷ []))
+    ∷ instr.Const (register 1) (pos 0)
+    ∷ loads_code layout names 2 (stores_code 6 0 (suc (suc (length names))) (instr.Ends (ends.Call hidden next None) ∷ []))
 
 -- The hidden procedure is entered: where its part has more than one element it goes on by halves, where it has one at the block.
 abbrev pub entry_code : (entry : ℕ) → Instrs
 entry_code entry =
-    instr.LoadSlot (register 0) 0 ∷ instr.Len (register 0) (register 0) ∷ instr.Const (register 1) (pos 1) ∷ instr.Less (register 2) (register 1) (register 0)
+    instr.LoadSlot (register 0) 0 ∷ instr.Len (register 0) (register 0) ∷ instr.Const (register 1) (pos 1)
+    ∷ instr.Less (register 2) (register 1) (register 0)
     ∷ instr.BranchZero (register 2) 6 ∷ instr.Ends (ends.Next (halving entry)) ∷ instr.BranchZero (register 0) 8
     ∷ instr.Ends (ends.Next (element_block entry)) ∷ instr.Ends ends.Finish ∷ []
 

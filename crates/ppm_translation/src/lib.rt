@@ -5,4 +5,4 @@
 
 mod laws;
 
-pub use laws::{keeps_the_rules, names_have_slots, procedures_stand};
+pub use laws::{few_capsules, keeps_the_rules, lines_alone, names_have_slots, procedures_stand};
