@@ -1,7 +1,7 @@
 -- Procedures behind procedures.
 use Rattle.std.proofs.Common.{◌≡◌, ◌≤◌, ◌+◌, ℕ, suc, not, arith, List, [], ◌∷◌, ◌++◌, None, map, length, refl, sym, ap, subst, ◌∙◌}
 use Rattle.std.proofs.Common.{append_assoc, length-append}
-use Rattle.std.proofs.lemmas.List.{map-append, append-nil}
+use Rattle.std.proofs.lemmas.List.{append-nil}
 use Rattle.std.proofs.lemmas.List.Filters.{length-filter_both}
 use Rattle.std.specs.Set.{is_member}
 use Rattle.std.specs.Str.{bytes_eq}
@@ -10,11 +10,11 @@ use Rattle.ppm_code.specs.declared.instr.Instr.TheVariants as instr
 use Rattle.ppm_code.specs.declared.code.Capsule.{Capsule}
 use Rattle.ppm_bounds.specs.Names.{free_names}
 use Rattle.ppm_tree.specs.declared.named.Named.{Named}
-use Rattle.ppm_tree.specs.Tree.{Expression, Statement, Block, Nil, Then, Let, Assign, Put, If, While, Call, Fork, Split, Each, Procedure}
+use Rattle.ppm_tree.specs.Tree.{Expression, Statement, Block, Nil, Then, If, Each, Procedure}
 use Rattle.ppm_translation.specs.Layout.{Layout, caught}
 use Rattle.ppm_translation.specs.Numbers.{hidden_behind, hidden_behind_block, element_block}
 use Rattle.ppm_translation.specs.Slots.{hidden_named_slots, hidden_slots}
-use Rattle.ppm_translation.specs.Statements.{Instrs, Last, Gives, with_lets, with_parts, entry_code, halving_code, block_code}
+use Rattle.ppm_translation.specs.Statements.{Instrs, Gives, with_lets, entry_code, halving_code, block_code}
 use Rattle.ppm_translation.specs.Routines.{Routine, Hidden, Sweep, sweep_layout, routine_slots, routine_behind, procedures_from, capsules_from}
 use Rattle.ppm_translation.specs.Routines.{hidden_of, hidden_of_block, routine_code}
 use Rattle.ppm_translation.proofs.PlaceLemmas.{past_length, hidden_past, hidden_past_block}

@@ -31,7 +31,7 @@ push_hidden-push_hidden_block-requires-in-If t c =
     let same = ap (λ xs. hidden_behind_block (block_of xs) c.args.hidden) again in
     let first = c.in_ok-push_hidden_block-in-If.ensures in
     let number = number_behind_block (map procedure_of c.args.callees.now) c.args.layout.now c.args.hidden (block_of c.deref.result.now) c.args.self.now c.push_hidden_block.new.self first.drafts c.requires.number
-        ∙ sym same ∙ sym c.hidden_behind_block-next.ensures.value in
+    ∙ sym same ∙ sym c.hidden_behind_block-next.ensures.value in
     (omega (arith, ap own_count e, ap hidden_count e), (c.requires.procedures, (c.requires.parameters, (number, (omega (arith, ap own_count e, ap hidden_count e, ap length first.layout), (omega (arith, ap hidden_count e, first.next), (omega (arith, ap hidden_count e, alike, c.hidden_behind_block-next.ensures.within), (subst IsShort e c.requires.short).2)))))))
 
 pub push_hidden-push_hidden_block-requires-in-While : goal.push_hidden-push_hidden_block-requires-in-While
@@ -129,7 +129,7 @@ push_hidden-returns-in_ok-push_sweep-in-Each-clause-drafts t c =
     let inner = c.in_ok-inner-in-Each.ensures ∙ ap (λ xs. c.in-Each.part.name ∷ c.in-Each.index.name ∷ caught c.args.layout.now (block_of xs)) (c.deref-in-Each.ensures.value ∙ sym c.deref-in-Each-3.ensures.value) in
     let next : c.args.hidden + 1 ≡ suc c.args.hidden = omega arith in
     let one = subst (λ xs. Drafts procedures (Hidden (record { number = c.args.hidden; line = c.in-Each.region.line; part = c.in-Each.part.name; index = c.in-Each.index.name; names = names; block = block_of xs }) ∷ []) c.args.self.now c.push_sweep.new.self)
-        again (sweep.drafts c.in-Each.part.name c.in-Each.index.name names inner) in
+    again (sweep.drafts c.in-Each.part.name c.in-Each.index.name names inner) in
     on_ok_weaker c.push_hidden_block-in-Each.result (λ d.
     each_drafts procedures c.args.layout.now _ c.args.hidden _ (statement_of c.args.statement.now) c.in-Each.index c.in-Each.part c.in-Each.region block
     c.args.self.now c.push_sweep.new.self c.push_hidden_block-in-Each.new.self e next (sweep.layout ∙ inner) one d) c.push_hidden_block-in-Each.ensures.drafts

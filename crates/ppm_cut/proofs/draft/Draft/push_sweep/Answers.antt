@@ -1,4 +1,4 @@
-use Rattle.std.proofs.Common.{◌≡◌, ◌+◌, ◌-◌, ◌++◌, [], ◌∷◌, suc, map, length, refl, ap, ◌∙◌, arith}
+use Rattle.std.proofs.Common.{◌≡◌, ◌+◌, ◌-◌, ◌++◌, [], ◌∷◌, suc, map, length, ap, ◌∙◌, arith}
 use Rattle.ppm_tree.specs.Tree.{block_of, procedure_of}
 use Rattle.ppm_translation.specs.Numbers.{end_of}
 use Rattle.ppm_translation.specs.Slots.{hidden_slots, hidden_named_slots}
