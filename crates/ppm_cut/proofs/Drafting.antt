@@ -24,7 +24,8 @@ use Rattle.ppm_cut.specs.Drafts.{Drafts, behind_all}
 use Rattle.ppm_cut.proofs.Growing.{adds_then}
 
 -- what is still to be added behind some statements of a block is what was to be added, behind what was added
-pub record Rest (procedures : List Procedure) (start : Layout) (hidden : ℕ) (all : Block) (layout : Layout) (next : ℕ) (rest : Block) (old now : Draft) : Type 0 where
+pub record Rest (procedures : List Procedure) (start : Layout) (hidden : ℕ) (all : Block) (layout : Layout) (next : ℕ) (rest : Block)
+    (old now : Draft) : Type 0 where
   pub added : List Routine
   pub drafts : Drafts procedures added old now
   pub is : hidden_of_block start hidden all ≡ added ++ hidden_of_block layout next rest
@@ -57,7 +58,8 @@ module _ (procedures : List Procedure) where
 
   pub drafts_count : (xs : List Routine) (a b : Draft) → Drafts procedures xs a b → length b.procedures.items ≡ length a.procedures.items + length xs
   drafts_count xs a b h =
-      ap length h.procedures_are ∙ length-append a.procedures.items (procedures_from a.next xs) ∙ ap (λ n. length a.procedures.items + n) (procs_length xs a.next)
+      ap length h.procedures_are ∙ length-append a.procedures.items (procedures_from a.next xs) ∙ ap (λ n. length a.procedures.items + n)
+      (procs_length xs a.next)
 
   pub drafts_then : (xs ys : List Routine) (a b c : Draft) → Drafts procedures xs a b → Drafts procedures ys b c → Drafts procedures (xs ++ ys) a c
   drafts_then xs ys a b c h g = record {
@@ -79,7 +81,8 @@ module _ (procedures : List Procedure) where
       → Drafts procedures (r ∷ []) a b
   drafts_one r a b p added n = record {
     procedures_are = p;
-    capsules_are = added.whole ∙ ap (λ l. a.capsules.items ++ l) (sym (append-nil (map (capsule_of (length a.procedures.items)) (routine_code procedures a.next r))));
+    capsules_are = added.whole ∙ ap (λ l. a.capsules.items ++ l)
+        (sym (append-nil (map (capsule_of (length a.procedures.items)) (routine_code procedures a.next r))));
     next_is = n;
   }
 
@@ -127,8 +130,8 @@ module _ (procedures : List Procedure) where
   pub rest_start : (layout : Layout) (h : ℕ) (b : Block) (a : Draft) → Rest procedures layout h b layout h b a a
   rest_start layout h b a = record { added = []; drafts = drafts_none a; is = refl }
 
-  pub rest_step : (start : Layout) (hidden : ℕ) (all : Block) (layout : Layout) (next : ℕ) (b rest : Block) (s : Statement) (more : Layout) (behind : ℕ)
-      (x y z : Draft) → b ≡ Then s rest → more ≡ with_lets layout s → behind ≡ hidden_behind s next
+  pub rest_step : (start : Layout) (hidden : ℕ) (all : Block) (layout : Layout) (next : ℕ) (b rest : Block) (s : Statement) (more : Layout)
+      (behind : ℕ) (x y z : Draft) → b ≡ Then s rest → more ≡ with_lets layout s → behind ≡ hidden_behind s next
       → Rest procedures start hidden all layout next b x y → Drafts procedures (hidden_of layout next s) y z
       → Rest procedures start hidden all more behind rest x z
   rest_step start hidden all layout next b rest s more behind x y z e p q r d =
@@ -155,7 +158,8 @@ module _ (procedures : List Procedure) where
       → Adds s.number (first ∷ []) a m1 → Adds s.number (second ∷ []) m1 m2 → Adds s.number (third ∷ []) m2 m3
       → Adds s.number (block_code procedures spare layout next hidden (Gives None) s.block) m3 z
       → Adds q (routine_code procedures at (Hidden s)) a z
-  sweep_added s q at count slots spare next hidden layout first second third {a = a} {m1 = m1} {m2 = m2} {m3 = m3} {z = z} p0 p1 p2 p3 p4 p5 p6 c1 c2 c3 f g h k =
+  sweep_added s q at count slots spare next hidden layout first second third {a = a} {m1 = m1} {m2 = m2} {m3 = m3} {z = z}
+      p0 p1 p2 p3 p4 p5 p6 c1 c2 c3 f g h k =
       let n = s.number in
       let names = length s.names in
       let halves = c2 ∙ ap (λ m. halving_code at n m count s.line) p2 ∙ ap (λ m. halving_code at n (hidden_slots names s.block) m s.line) p1 in
