@@ -1,7 +1,5 @@
 -- How a code grows by procedures.
 use Rattle.std.specs.Prelude.{◌≡◌, ℕ, List, [], ◌∷◌, ◌++◌, length}
-use Rattle.ppm_code.specs.declared.code.Procedure.{Procedure as CodeProcedure}
-use Rattle.ppm_code.specs.declared.code.Capsule.{Capsule}
 use Rattle.ppm_tree.specs.Tree.{Procedure}
 use Rattle.ppm_translation.specs.Routines.{Routine, routine_behind, procedures_from, capsules_from}
 use Rattle.ppm_cut.specs.declared.draft.Draft.{Draft}
