@@ -10,7 +10,7 @@ use Rattle.ppm_code.specs.declared.instr.Instr.TheVariants as instr
 use Rattle.ppm_code.specs.declared.code.Capsule.{Capsule}
 use Rattle.ppm_bounds.specs.Names.{free_names}
 use Rattle.ppm_tree.specs.declared.named.Named.{Named}
-use Rattle.ppm_tree.specs.Tree.{Expression, Statement, Block, Nil, Then, If, Each, Procedure}
+use Rattle.ppm_tree.specs.Tree.{Expression, Statement, Block, Then, If, Each, Procedure}
 use Rattle.ppm_translation.specs.Layout.{Layout, caught}
 use Rattle.ppm_translation.specs.Numbers.{hidden_behind, hidden_behind_block, element_block}
 use Rattle.ppm_translation.specs.Slots.{hidden_named_slots, hidden_slots}
@@ -126,10 +126,7 @@ module _ (procedures : List Procedure) where
       (drafts_then (Hidden (record { number = h; line = r.line; part = p.name; index = i.name; names = caught layout b; block = b }) ∷ [])
       (hidden_of_block inner (suc h) b) x y z f g2)
 
-  -- in front of a block, behind one more statement, and behind all
-  pub rest_start : (layout : Layout) (h : ℕ) (b : Block) (a : Draft) → Rest procedures layout h b layout h b a a
-  rest_start layout h b a = record { added = []; drafts = drafts_none a; is = refl }
-
+  -- behind one more statement of a block
   pub rest_step : (start : Layout) (hidden : ℕ) (all : Block) (layout : Layout) (next : ℕ) (b rest : Block) (s : Statement) (more : Layout)
       (behind : ℕ) (x y z : Draft) → b ≡ Then s rest → more ≡ with_lets layout s → behind ≡ hidden_behind s next
       → Rest procedures start hidden all layout next b x y → Drafts procedures (hidden_of layout next s) y z
@@ -144,11 +141,6 @@ module _ (procedures : List Procedure) where
             ∙ ap (λ l. (r.added ++ mine) ++ hidden_of_block l (hidden_behind s next) rest) (sym p)
             ∙ ap (λ n. (r.added ++ mine) ++ hidden_of_block more n rest) (sym q);
       }
-
-  pub rest_end : (start : Layout) (hidden : ℕ) (all : Block) (layout : Layout) (next : ℕ) (b : Block) (x y : Draft) → b ≡ Nil
-      → Rest procedures start hidden all layout next b x y → Drafts procedures (hidden_of_block start hidden all) x y
-  rest_end start hidden all layout next b x y e r =
-      subst (λ l. Drafts procedures l x y) (sym (r.is ∙ ap (λ c. r.added ++ hidden_of_block layout next c) e ∙ append-nil r.added)) r.drafts
 
   -- the capsules of a hidden procedure
   pub sweep_added : (s : Sweep) (q at count slots spare next hidden : ℕ) (layout : Layout) (first second third : Instrs) {a m1 m2 m3 z : List Capsule}

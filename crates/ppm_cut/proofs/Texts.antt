@@ -1,46 +1,16 @@
 -- Procedures of which some are added, and the others are still to be added.
-use Rattle.std.proofs.Common.{◌≡◌, ◌≤◌, ◌+◌, ℕ, suc, arith, List, [], ◌∷◌, ◌++◌, length, refl, sym, ap, subst, ◌∙◌, append_assoc, length-append}
+use Rattle.std.proofs.Common.{◌≡◌, ◌≤◌, ℕ, suc, List, [], ◌∷◌, ◌++◌, length, refl, sym, ap, subst, ◌∙◌, append_assoc}
 use Rattle.std.specs.List.{AllByRecursion}
 use Rattle.std.proofs.lemmas.List.{append-nil}
 use Rattle.ppm_tree.specs.declared.tree.Proc.{Proc}
 use Rattle.ppm_code.specs.declared.code.CodeParts.{CodeParts}
-use Rattle.ppm_tree.specs.Tree.{Statement, Block, Nil, Then, Procedure, ProgramTree, procedure_of}
-use Rattle.ppm_tree.specs.Tree as tree
-use Rattle.ppm_translation.specs.Layout.{Layout, caught}
-use Rattle.ppm_translation.specs.Numbers.{hidden_behind, hidden_behind_block}
-use Rattle.ppm_translation.specs.Statements.{with_lets, with_parts}
-use Rattle.ppm_translation.specs.Routines.{Routine, hidden_of, hidden_of_block, texts_from, hidden_from, routines_of, procedures_from, capsules_from, code_of}
+use Rattle.ppm_tree.specs.Tree.{Procedure, ProgramTree, procedure_of}
+use Rattle.ppm_translation.specs.Numbers.{hidden_behind_block}
+use Rattle.ppm_translation.specs.Routines.{Routine, texts_from, hidden_from, routines_of, procedures_from, capsules_from, code_of}
 use Rattle.ppm_cut.specs.declared.draft.Draft.{Draft}
 use Rattle.ppm_cut.specs.Counts.{IsSmallProcedure}
 use Rattle.ppm_cut.specs.Drafts.{Drafts}
 use Rattle.ppm_cut.proofs.Drafting.{drafts_none, drafts_then}
-
-mutual
-  -- the numbers of hidden procedures follow on each other
-  pub hidden_length : (layout : Layout) (h : ℕ) (s : Statement) → h + length (hidden_of layout h s) ≡ hidden_behind s h
-  hidden_length layout h (tree.If e holds other) =
-      let first = hidden_length_block layout h holds in
-      let second = hidden_length_block layout (hidden_behind_block holds h) other in
-      let both = length-append (hidden_of_block layout h holds) (hidden_of_block layout (hidden_behind_block holds h) other) in
-      omega (arith, first, second, both)
-  hidden_length layout h (tree.While e block) = hidden_length_block layout h block
-  hidden_length layout h (tree.Split line r e x y block) = hidden_length_block (with_parts layout x y) h block
-  hidden_length layout h (tree.Each i x r block) =
-      let inner = hidden_length_block (x.name ∷ i.name ∷ caught layout block) (suc h) block in
-      omega (arith, inner)
-  hidden_length layout h (tree.Let x e) = omega arith
-  hidden_length layout h (tree.Assign x e) = omega arith
-  hidden_length layout h (tree.Put x index e) = omega arith
-  hidden_length layout h (tree.Call s) = omega arith
-  hidden_length layout h (tree.Fork s t) = omega arith
-
-  pub hidden_length_block : (layout : Layout) (h : ℕ) (b : Block) → h + length (hidden_of_block layout h b) ≡ hidden_behind_block b h
-  hidden_length_block layout h Nil = omega arith
-  hidden_length_block layout h (Then s rest) =
-      let first = hidden_length layout h s in
-      let second = hidden_length_block (with_lets layout s) (hidden_behind s h) rest in
-      let both = length-append (hidden_of layout h s) (hidden_of_block (with_lets layout s) (hidden_behind s h) rest) in
-      omega (arith, first, second, both)
 
 -- of all procedures these are left
 pub record Left (procedures : List Procedure) (all left : List Routine) (old now : Draft) : Type 0 where
@@ -84,5 +54,5 @@ parts_are t root arrays a b c no_procedures no_capsules none first second e f =
     let both = drafts_then t.procedures (texts_from n t.procedures) (hidden_from n t.procedures) a b c first second in
     let procedures = both.procedures_are ∙ ap (λ l. l ++ procedures_from a.next all) no_procedures ∙ ap (λ at. procedures_from at all) none in
     let capsules = both.capsules_are ∙ ap (λ l. l ++ capsules_from t.procedures (length a.procedures.items) a.next all) no_capsules
-        ∙ ap (λ l. capsules_from t.procedures (length l) a.next all) no_procedures ∙ ap (λ at. capsules_from t.procedures 0 at all) none in
+    ∙ ap (λ l. capsules_from t.procedures (length l) a.next all) no_procedures ∙ ap (λ at. capsules_from t.procedures 0 at all) none in
     λ i. record { root = e i; arrays = f i; procedures = procedures i; capsules = capsules i }

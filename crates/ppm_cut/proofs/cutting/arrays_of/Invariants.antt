@@ -6,4 +6,4 @@ use Rattle.ppm_cut.proofs.cutting.arrays_of.Given as goal
 abbrev pub invariant-loop-parameter : goal.invariant-loop-parameter
 invariant-loop-parameter l =
     l.numbers.items ++ map (λ p. (whole_from 0 l.arrays p.name.name).array) (drop l.parameter-index l.parameters)
-        ≡ map (λ p. (whole_from 0 l.arrays p.name.name).array) l.parameters
+    ≡ map (λ p. (whole_from 0 l.arrays p.name.name).array) l.parameters

@@ -1,4 +1,4 @@
-use Rattle.std.proofs.Common.{◌≡◌, ◌≤◌, ◌+◌, [], arith, length, map, codes, ap, sym, subst, ◌∙◌}
+use Rattle.std.proofs.Common.{◌≡◌, ◌≤◌, arith, length, map, codes, ap, sym, subst, ◌∙◌}
 use Rattle.std.proofs.lemmas.List.{length-map}
 use Rattle.std.specs.List.{AllByRecursion}
 use Rattle.ppm_tree.specs.Tree.{procedure_of, tree_of}
@@ -37,15 +37,15 @@ returns c =
     let few = sym (length-map c.args.tree.now.procedures procedure_of) in
     let slice = c.as_slice-procedures.ensures in
     let texts_are : texts_from (length c.as_slice-procedures.result.now) (map procedure_of c.as_slice-procedures.result.now) ≡ texts_from n t.procedures
-        = λ i. texts_from ((ap length slice ∙ few) i) (map procedure_of (slice i)) in
+    = λ i. texts_from ((ap length slice ∙ few) i) (map procedure_of (slice i)) in
     let hidden_are : hidden_from (length c.as_slice-procedures.result.now) (map procedure_of c.as_slice-procedures.result.now) ≡ hidden_from n t.procedures
-        = λ i. hidden_from ((ap length slice ∙ few) i) (map procedure_of (slice i)) in
+    = λ i. hidden_from ((ap length slice ∙ few) i) (map procedure_of (slice i)) in
     let texts = subst (λ rs. Drafts t.procedures rs c.new-draft.result c.push_texts.new.draft) texts_are
-        (subst (λ l. Drafts (map procedure_of l) (texts_from (length c.as_slice-procedures.result.now) (map procedure_of c.as_slice-procedures.result.now))
-            c.new-draft.result c.push_texts.new.draft) ps c.in_ok-push_texts.ensures.drafts) in
+    (subst (λ l. Drafts (map procedure_of l) (texts_from (length c.as_slice-procedures.result.now) (map procedure_of c.as_slice-procedures.result.now))
+    c.new-draft.result c.push_texts.new.draft) ps c.in_ok-push_texts.ensures.drafts) in
     let hidden = subst (λ rs. Drafts t.procedures rs c.push_texts.new.draft c.push_hiddens.new.draft) hidden_are
-        (subst (λ l. Drafts (map procedure_of l) (hidden_from (length c.as_slice-procedures.result.now) (map procedure_of c.as_slice-procedures.result.now))
-            c.push_texts.new.draft c.push_hiddens.new.draft) ps c.in_ok-push_hiddens.ensures.drafts) in
+    (subst (λ l. Drafts (map procedure_of l) (hidden_from (length c.as_slice-procedures.result.now) (map procedure_of c.as_slice-procedures.result.now))
+    c.push_texts.new.draft c.push_hiddens.new.draft) ps c.in_ok-push_hiddens.ensures.drafts) in
     let root = c.find-root.ensures.number ∙ ap (λ l. number_of (map procedure_of l) (codes "main")) ps in
     let parameters = c.find-root.ensures.parameters ∙ ap (λ l. (procedure_named (map procedure_of l) (codes "main")).parameters) ps in
     let arrays = c.in_ok-arrays.ensures ∙ (λ i. map (λ p. (whole_from 0 (c.as_slice.ensures i) p.name.name).array) (parameters i)) in

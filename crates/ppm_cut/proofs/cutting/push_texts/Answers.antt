@@ -1,4 +1,4 @@
-use Rattle.std.proofs.Common.{◌≡◌, ◌≤◌, ◌<◌, ◌+◌, [], ◌∷◌, suc, drop, length, map, ap, sym, subst, ◌∙◌, arith}
+use Rattle.std.proofs.Common.{◌+◌, [], ◌∷◌, drop, length, map, ap, sym, subst, ◌∙◌, arith}
 use Rattle.std.specs.List.{AllByRecursion}
 use Rattle.ppm_tree.specs.Tree.{block_of, procedure_of}
 use Rattle.ppm_bounds.proofs.Blocks.{ahead}
