@@ -1,4 +1,4 @@
--- That the code of a program ends exactly where the program does, as it means.
+-- That the code of a program ends exactly where the program does when both branches of each fork are run whole, as it means.
 use Rattle.std.specs.Prelude.{◌≡◌, ◌≤◌, ◌⊎◌, ℕ, ◌+◌, ◌-◌, ◌*◌, ℤ, List, [], ◌∷◌}
 use Rattle.std.specs.List.{sum_by}
 use Rattle.std.specs.Set.{distinct_count}
@@ -37,7 +37,8 @@ module _ (procedures : List Procedure) where
   words_begun (Each i x r block m) =
       frame_words (slots_of_each i x block) + (m - 1) * fork_words (slots_of_each i x block) (slots_of_each i x block)
 
--- the depth-first end of the code is that of the meaning: the outcome, two capsules a turn at most, the same forks, and the words of the frames
+-- the depth-first end of the code is that of the meaning: the outcome, two capsules a turn at most, the same forks, and the words of the blocks that
+-- its calls, its forks and each `each` ask for, also where arguments trap; the root's frame is counted beside
 pub record IsEndOf (t : ProgramTree) (input : List NamedArray) (e : CapsuleEnd Result) (k : Counts) (z : End ℤ) : Type 0 where
   pub outcome : said_of input e.words e.outcome ≡ outcome_of input z
   pub capsules : e.counts.capsules ≤ 2 * k.turns

@@ -1,7 +1,8 @@
-//! That the code of a program ends exactly where the program does, as it means, with every input for its arrays.
+//! That the code of a program ends exactly where the program does when both branches of each fork are run whole, as it means, with every
+//! input for its arrays.
 //! Model: the serial meaning of `ppm_tree`, run whole, and the depth-first run of `ppm_depth`.
-//! Contract: the outcome, at most two capsules a turn, the forks and the words of the frames, both ways (`specs/Correct`).
-//! Stands on `ppm_translation`, `ppm_depth` and the chains in turn of `ppm_strands`.
+//! Contract: the outcome, at most two capsules a turn, the forks and the words of the blocks, both ways (`end_as_meant`).
+//! Stands on `ppm_translation`, `ppm_depth` and the chains in turn of `ppm_strands`; `ppm_running` rests on it.
 #![tactic(auto)]
 
 mod laws;

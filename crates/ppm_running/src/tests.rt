@@ -142,7 +142,7 @@ const EACH: &str =
 const DEFAULT: (u64, u32) = (TURNS, PLACE_ROOM);
 
 /// Turns and room, sources, and what is answered.
-const SOURCES: [((u64, u32), &str, &str, Status); 33] = [
+const SOURCES: [((u64, u32), &str, &str, Status); 36] = [
     (DEFAULT, FIRST, "a 5 7\n", Status::Ended),
     (DEFAULT, "array a[0]; proc main() { }", "a\n", Status::Ended),
     (DEFAULT, "proc main() { let x = 1; }", "", Status::Ended),
@@ -271,7 +271,20 @@ const SOURCES: [((u64, u32), &str, &str, Status); 33] = [
         "out of room: place 0\n",
         Status::OutOfRoom,
     ),
+    // A left branch that traps does not stop a right one that has no end.
+    (
+        (25_600, PLACE_ROOM),
+        "array a[1]; proc f(mut a) { a[0] = 1 / 0; } proc g() { while 1 { } } proc main(mut a) { fork f(a) and g(); }",
+        "out of turns: processor 0\n",
+        Status::OutOfTurns,
+    ),
     // Of both, the turns are told.
+    (
+        (25_600, PLACE_ROOM),
+        "proc f() { call f(); } proc main() { call f(); }",
+        "out of turns: processor 0\n",
+        Status::OutOfTurns,
+    ),
     (
         (256, 64),
         CALLS,
@@ -291,6 +304,12 @@ const SOURCES: [((u64, u32), &str, &str, Status); 33] = [
         EACH,
         "a 1 5 11 19 29\nb 1 2 3 4 5\n",
         Status::Ended,
+    ),
+    (
+        DEFAULT,
+        "array a[5]; array b[5]; input b = 1, 2, 3, 4, 5; proc main(mut a, ref b) { each i, x in a { x[0] = 10 / (i - 2); } }",
+        "trap divzero line 1\n",
+        Status::Trapped,
     ),
     (
         DEFAULT,

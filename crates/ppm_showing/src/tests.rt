@@ -64,6 +64,16 @@ fn codes_are_listed(rt: HostRuntime) -> Result<(), Fail> {
             "ppm 1\nroot 0\nproc 0 slots 0 entry 0\ncapsule 0 proc 0\nend\n",
         ),
         (
+            "array a[2]; proc main(mut a) { a[0] = 5; a[1] = a[0] + 2; }",
+            Status::Ended,
+            "ppm 1\nroot 0 0\nproc 0 slots 3 entry 0\n\
+             capsule 0 proc 0\nconst r0 0\nconst r1 5\nstorecur 1 r0\nstorecur 2 r1\nnext 1\n\
+             capsule 1 proc 0\nloadslot r0 0\nloadslot r1 1\nloadslot r2 2\nput r0 r1 r2 1\nnext 2\n\
+             capsule 2 proc 0\nconst r0 1\nconst r1 0\nloadslot r2 0\nget r1 r2 r1 1\nconst r2 2\nadd r1 r1 r2 1\nstorecur 1 r0\nstorecur 2 r1\nnext 3\n\
+             capsule 3 proc 0\nloadslot r0 0\nloadslot r1 1\nloadslot r2 2\nput r0 r1 r2 1\nnext 4\n\
+             capsule 4 proc 0\nend\n",
+        ),
+        (
             "array a[2]; proc ma",
             Status::SourceRefused,
             "source refused: syntax 2 at 19\n",

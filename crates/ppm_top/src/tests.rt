@@ -25,6 +25,15 @@ const SUM: &str =
     "array a[4]; input a = 1, 2, 3, 4;\nproc sum(mut a) { if len a > 1 { split a at len a / 2 into l, r { fork sum(l) and sum(r); \
       l[0] = l[0] + r[0]; } } }\nproc main(mut a) { call sum(a); }";
 
+/// Forks that give values.
+const FIBONACCI: &str =
+    "array a[1]; proc fib(int n) { let r = n; if n > 1 { let x = 0; let y = 0; fork x = fib(n - 1) and y = fib(n - 2); r = x + y; \
+      } give r; }\nproc main(mut a) { let v = 0; v = call fib(10); a[0] = v; }";
+
+/// Blocks for each element.
+const EACH: &str =
+    "array a[5]; array b[5]; input b = 1, 2, 3, 4, 5; proc main(mut a, ref b) { each i, x in a { x[0] = b[i] * b[i] + i; } }";
+
 /// The bytes for which a sink has room.
 const ROOM: usize = 300_000;
 
@@ -312,7 +321,7 @@ fn listings_are_checked(rt: HostRuntime) -> Result<(), Fail> {
 
 #[test]
 fn what_is_listed_is_accepted(rt: HostRuntime) -> Result<(), Fail> {
-    for text in [FIRST, LOOP, CALLS, SUM] {
+    for text in [FIRST, LOOP, CALLS, SUM, FIBONACCI, EACH] {
         let listed = ppm_over_memory(rt.alloc(), text.as_bytes(), &["ppm", "code"], 4096, NONE)?;
         assert_eq!(rt; listed.status, Status::Ended, "{text}");
         let checked = ppm_over_memory(rt.alloc(), &listed.out, CHECK, 4096, NONE)?;
