@@ -4,9 +4,9 @@ use Rattle.ppm_cells.specs.declared.entry.Entry.{Entry}
 use Rattle.ppm_cells.specs.declared.entry.Entry.TheVariants.{Empty, Local, Job, Taken}
 use Rattle.ppm_cells.specs.declared.shape.Takeover.{Takeover}
 use Rattle.ppm_cells.specs.declared.shape.Takeover.TheVariants.{ByPlaces, ByEntries}
-use Rattle.ppm_deque.specs.Change.{tag_of, IsTaken, IsTakenBy, OwnerChanges, Takes, Changes, OthersChange, OthersTake, BoardChanges}
+use Rattle.ppm_deque.specs.Change.{tag_of, IsJob, IsTaken, IsTakenBy, OwnerChanges, Takes, Changes, OthersChange, OthersTake, BoardChanges}
 use Rattle.ppm_deque.specs.Order.{Chain, Stays, Then, Later, LaterByOthers, LaterByThieves, LaterOnBoard}
-use Rattle.ppm_deque.specs.Correct.{NeverReturns, TakenStays, OthersTakeForThemselves, OthersLeaveOwn}
+use Rattle.ppm_deque.specs.Correct.{NeverReturns, TakenStays, OthersTakeForThemselves, OthersLeaveOwn, OwnStaysUnlessJob}
 
 -- a change of what is not taken, which raises the tag
 abbrev Rises : (old new : Entry) → Type 0
@@ -133,6 +133,20 @@ module _ (how : Takeover) (place : ℕ) where
 
   pub others_leave_own : OthersLeaveOwn how place
   others_leave_own = record {
+    goes_on = joined (OthersTake how place);
     lawful = widened (OthersTake how place) (OthersChange how place) (λ old new h. (inr h.0, h.1));
     once = once;
   }
+
+-- with takeover by places a thief takes a job
+takes_jobs : (thief : ℕ) (old new : Entry) → Takes ByPlaces thief old new → IsJob old
+takes_jobs thief (Job tag block) new h = tt
+takes_jobs thief (Empty tag) new h = absurd h
+takes_jobs thief (Local tag block) new h = absurd h
+takes_jobs thief (Taken tag taker) new h = absurd h
+
+pub own_stays : (place : ℕ) → OwnStaysUnlessJob place
+own_stays place old new no_job later = elim (once ByPlaces place old new later) [
+  | inl same ↦ same
+  | inr took ↦ absurd (no_job (takes_jobs took.0 old new took.2))
+]

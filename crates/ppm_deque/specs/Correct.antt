@@ -2,8 +2,8 @@
 use Rattle.std.specs.Prelude.{◌≡◌, ◌≢◌, ◌⊎◌, ◌↔◌, ℕ, ◌<◌, Some, IfSome}
 use Rattle.ppm_cells.specs.declared.entry.Entry.{Entry}
 use Rattle.ppm_cells.specs.declared.shape.Takeover.{Takeover}
-use Rattle.ppm_cells.specs.declared.shape.Takeover.TheVariants.{ByEntries}
-use Rattle.ppm_deque.specs.Change.{tag_of, IsTaken, IsTakenBy, Takes}
+use Rattle.ppm_cells.specs.declared.shape.Takeover.TheVariants.{ByPlaces, ByEntries}
+use Rattle.ppm_deque.specs.Change.{tag_of, IsJob, IsTaken, IsTakenBy, Takes}
 use Rattle.ppm_deque.specs.Transitions.{pushed_above, pushed_job, popped_below, popped_above, stolen, inherited, posted, TriesTo}
 use Rattle.ppm_deque.specs.Order.{Later, LaterByOthers, LaterByThieves, LaterOnBoard}
 
@@ -41,12 +41,16 @@ pub record OthersTakeForThemselves (how : Takeover) (place : ℕ) : Type 0 where
   pub lawful : (old new : Entry) → LaterByOthers how place old new → Later how old new
   pub not_by_place : (old new : Entry) → LaterByOthers how place old new → (IsTakenBy place old → ⊥) → IsTakenBy place new → ⊥
 
--- what others do to the place's own entry: it stays, or it was a job or was local, and is now taken by another. Where
--- places are taken over whole it was a job
+-- what others do to the place's own entry: it stays, or it is now taken by another
 pub record OthersLeaveOwn (how : Takeover) (place : ℕ) : Type 0 where
+  pub goes_on : (old mid new : Entry) → LaterByThieves how place old mid → LaterByThieves how place mid new → LaterByThieves how place old new
   pub lawful : (old new : Entry) → LaterByThieves how place old new → LaterByOthers how place old new
   pub once : (old new : Entry) → LaterByThieves how place old new
       → (old ≡ new) ⊎ ((thief : ℕ) × (thief < 64) × Takes how thief old new × (IsTakenBy place new → ⊥))
+
+-- where places are taken over whole, others take nothing but jobs
+abbrev pub OwnStaysUnlessJob : (place : ℕ) → Type 0
+OwnStaysUnlessJob place = (old new : Entry) → (IsJob old → ⊥) → LaterByThieves ByPlaces place old new → old ≡ new
 
 -- a place has won an entry exactly where that entry is what its theft or its inheriting makes of what it saw
 abbrev pub WonWasMade : Type 0

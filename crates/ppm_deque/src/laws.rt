@@ -4,7 +4,7 @@ ghost use Rattle.ppm_cells.specs.declared.shape.Takeover.{Takeover};
 ghost use Rattle.ppm_deque.specs.Change.{Changes, BoardChanges};
 ghost use Rattle.ppm_deque.specs.Order.{Later, LaterOnBoard};
 ghost use Rattle.ppm_deque.specs.Correct.{TransitionsGoOn, NeverReturns, TakenStays, WonWasMade};
-ghost use Rattle.ppm_deque.specs.Correct.{OthersTakeForThemselves, OthersLeaveOwn};
+ghost use Rattle.ppm_deque.specs.Correct.{OthersTakeForThemselves, OthersLeaveOwn, OwnStaysUnlessJob};
 
 /// Each transition goes on in the order of its entry.
 pub fn transitions_go_on()
@@ -30,9 +30,10 @@ pub fn others_take_for_themselves()
     ensures law { (how : Takeover) (place : ℕ) → OthersTakeForThemselves how place }
 {}
 
-/// Others do nothing to an owner's entry but take it, once.
+/// Others do nothing to an owner's entry but take it, once; with takeover by places they take jobs alone.
 pub fn others_leave_the_own_entries()
-    ensures law { (how : Takeover) (place : ℕ) → OthersLeaveOwn how place }
+    ensures taken { (how : Takeover) (place : ℕ) → OthersLeaveOwn how place }
+    ensures places { (place : ℕ) → OwnStaysUnlessJob place }
 {}
 
 /// Who has won an entry, as `won` tells it, has made of it what `steal` or `inherit` gave.
