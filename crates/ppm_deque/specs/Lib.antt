@@ -1,0 +1,4 @@
+pub mod Change
+pub mod Transitions
+pub mod Order
+pub mod Correct

@@ -1,0 +1,3 @@
+pub mod Change
+pub mod Order
+pub mod Correct
