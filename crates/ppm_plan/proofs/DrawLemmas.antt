@@ -39,14 +39,14 @@ pub one_more : (p n m : ℕ) (s s1 s2 s3 : List ℕ) (u v z : ℕ) (items more a
     → more ≡ items ++ item_drawn p u v z ∷ [] → items ++ items_drawn p n s ≡ all → more ++ items_drawn p m s3 ≡ all
 one_more p n m s s1 s2 s3 u v z items more all e e1 e2 e3 h whole =
     let first : (items ++ item_drawn p u v z ∷ []) ++ items_drawn p m s3 ≡ items ++ item_drawn p u v z ∷ items_drawn p m s3 =
-        append_assoc items (item_drawn p u v z ∷ []) (items_drawn p m s3) in
+    append_assoc items (item_drawn p u v z ∷ []) (items_drawn p m s3) in
     let third : items ++ item_drawn p u v z ∷ items_drawn p m s3
-        ≡ items ++ item_drawn p u v (word_of s2) ∷ items_drawn p m (after_word s2) =
-        ap (λ q. items ++ item_drawn p u v q.0 ∷ items_drawn p m q.1) e3 in
+    ≡ items ++ item_drawn p u v (word_of s2) ∷ items_drawn p m (after_word s2) =
+    ap (λ q. items ++ item_drawn p u v q.0 ∷ items_drawn p m q.1) e3 in
     let second : items ++ item_drawn p u v (word_of s2) ∷ items_drawn p m (after_word s2)
-        ≡ items ++ item_drawn p u (word_of s1) (word_of (after_word s1)) ∷ items_drawn p m (after_word (after_word s1)) =
-        ap (λ q. items ++ item_drawn p u q.0 (word_of q.1) ∷ items_drawn p m (after_word q.1)) e2 in
+    ≡ items ++ item_drawn p u (word_of s1) (word_of (after_word s1)) ∷ items_drawn p m (after_word (after_word s1)) =
+    ap (λ q. items ++ item_drawn p u q.0 (word_of q.1) ∷ items_drawn p m (after_word q.1)) e2 in
     let begin : items ++ item_drawn p u (word_of s1) (word_of (after_word s1)) ∷ items_drawn p m (after_word (after_word s1))
-        ≡ items ++ items_drawn p (suc m) s =
-        ap (λ q. items ++ item_drawn p q.0 (word_of q.1) (word_of (after_word q.1)) ∷ items_drawn p m (after_word (after_word q.1))) e1 in
+    ≡ items ++ items_drawn p (suc m) s =
+    ap (λ q. items ++ item_drawn p q.0 (word_of q.1) (word_of (after_word q.1)) ∷ items_drawn p m (after_word (after_word q.1))) e1 in
     ap (λ l. l ++ items_drawn p m s3) h ∙ first ∙ third ∙ second ∙ begin ∙ ap (λ k. items ++ items_drawn p k s) (sym e) ∙ whole

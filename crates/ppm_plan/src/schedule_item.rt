@@ -16,10 +16,7 @@ pub const MOST_TIMES: u32 = 268_435_456;
 #[derive(Clone, Copy, Debug, PartialEq, Eq)]
 pub enum ScheduledAct {
     /// It makes a step. If the step looks for work, it looks at this victim; at the next one in turn where none is stated.
-    Step {
-        processor: u32,
-        victim: Option<u32>,
-    },
+    Step { processor: u32, victim: Option<u32> },
     /// A fault befalls it.
     Fails { processor: u32, fault: Fault },
 }

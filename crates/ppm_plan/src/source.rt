@@ -45,7 +45,8 @@ fn push_values(
 }
 
 /// The procedures that sum an array by halves.
-const PROCEDURES: &str = "proc sum(mut a) { if len a > 1 { split a at len a / 2 into l, r { fork sum(l) and sum(r); l[0] = l[0] + r[0]; } } }\nproc main(mut a) { call sum(a); }";
+const PROCEDURES: &str =
+    "proc sum(mut a) { if len a > 1 { split a at len a / 2 into l, r { fork sum(l) and sum(r); l[0] = l[0] + r[0]; } } }\nproc main(mut a) { call sum(a); }";
 
 /// A source that sums an array of `size` values, from 1 to 4,096, by halves: element i is `(seed + 31 i) mod 1000`.
 pub fn make_source(alloc: Global, size: u32, seed: u32) -> Result<Vec<u8>, NoMemory>

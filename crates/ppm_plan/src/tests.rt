@@ -102,7 +102,11 @@ const SCHEDULES: [(&str, u32, Answer); 30] = [
 #[test]
 fn schedules_are_read(rt: HostRuntime) -> Result<(), Fail> {
     for (text, processors, answer) in SCHEDULES {
-        assert_eq!(rt; schedule_keeper(rt.alloc(), text, processors), answer, "{text}");
+        assert_eq!(rt;
+            schedule_keeper(rt.alloc(), text, processors),
+            answer,
+            "{text}"
+        );
     }
     Ok(())
 }
@@ -192,10 +196,26 @@ fn victims_are_those_words(rt: HostRuntime) {
 }
 
 const DRAWN: [PlanItem; 4] = [
-    PlanItem { processor: 27, turn: 57485, fault: Fault::Hard },
-    PlanItem { processor: 22, turn: 28580, fault: Fault::Soft },
-    PlanItem { processor: 7, turn: 61985, fault: Fault::Hard },
-    PlanItem { processor: 22, turn: 58953, fault: Fault::Soft },
+    PlanItem {
+        processor: 27,
+        turn: 57485,
+        fault: Fault::Hard,
+    },
+    PlanItem {
+        processor: 22,
+        turn: 28580,
+        fault: Fault::Soft,
+    },
+    PlanItem {
+        processor: 7,
+        turn: 61985,
+        fault: Fault::Hard,
+    },
+    PlanItem {
+        processor: 22,
+        turn: 58953,
+        fault: Fault::Soft,
+    },
 ];
 
 #[test]
@@ -206,7 +226,8 @@ fn plans_are_drawn(rt: HostRuntime) -> Result<(), Fail> {
     Ok(())
 }
 
-const SOURCE: &str = "array a[4];\ninput a = 7, 38, 69, 100;\nproc sum(mut a) { if len a > 1 { split a at len a / 2 into l, r { fork sum(l) and sum(r); l[0] = l[0] + r[0]; } } }\nproc main(mut a) { call sum(a); }";
+const SOURCE: &str =
+    "array a[4];\ninput a = 7, 38, 69, 100;\nproc sum(mut a) { if len a > 1 { split a at len a / 2 into l, r { fork sum(l) and sum(r); l[0] = l[0] + r[0]; } } }\nproc main(mut a) { call sum(a); }";
 
 #[test]
 fn a_source_is_made(rt: HostRuntime) -> Result<(), Fail> {
