@@ -1,5 +1,5 @@
 -- What a word stands for, by how it is read, and the word of it.
-use Rattle.std.specs.Prelude.{ℕ, ◌^◌, ◌<◌, Option, Some, None}
+use Rattle.std.specs.Prelude.{ℕ, Option, Some, None}
 use Rattle.ppm_cells.specs.Restart.{restart_of, restart_word, IsRestart}
 use Rattle.ppm_cells.specs.Entry.{entry_of, entry_word, IsEntry}
 use Rattle.ppm_cells.specs.Holder.{holder_of, holder_word, IsHolder}
@@ -36,7 +36,7 @@ word_of Unreadable = 0
 
 -- each number of it fits its field
 abbrev pub IsContent : Content → Type 0
-IsContent (ANumber number) = number < 2 ^ 64
+IsContent (ANumber number) = Unit {0}
 IsContent (ARestart restart) = IsRestart restart
 IsContent (AnEntry entry) = IsEntry entry
 IsContent (AHolder holder) = IsHolder holder

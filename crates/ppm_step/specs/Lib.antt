@@ -4,3 +4,4 @@ pub mod Points
 pub mod Rows
 pub mod Frames
 pub mod Standings
+pub mod Facts

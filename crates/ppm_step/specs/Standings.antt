@@ -56,23 +56,40 @@ abbrev pub point_is_there : Shape → Seat → Point → Bool
 point_is_there s seat SeekHolder = true
 point_is_there s seat point = is_there s (cell_at seat 0 point)
 
+-- what a row asks next is there
+abbrev pub then_is_there : Shape → Seat → Then → Bool
+then_is_there s seat (Load point) = point_is_there s seat point
+then_is_there s seat (Install restart) = restart_is_there s restart
+then_is_there s seat (Fork block) = restart_is_there s (forked seat block)
+then_is_there s seat (Begin block frame bottom) = restart_is_there s (begun frame bottom)
+then_is_there s seat (Move place) = nat_lt place s.processors
+then_is_there s seat _ = false
+
+abbrev pub row_is_there : Shape → Seat → Row → Bool
+row_is_there s seat (Now next) = then_is_there s seat next
+row_is_there s seat (Store cell content next) = is_there s cell
+row_is_there s seat (Exchange cell old new next) = is_there s cell
+
+-- so does what a capsule asks
+abbrev pub rest_is_there : Shape → Seat → Rest → Bool
+rest_is_there s seat (Loads cell go) = is_there s cell
+rest_is_there s seat (Stores cell content rest) = is_there s cell
+rest_is_there s seat Full = true
+rest_is_there s seat (Installs kind) = restart_is_there s (record { kind = kind; bottom = seat.restart.bottom })
+rest_is_there s seat Breaks = false
+
 -- within a row, or at broken words
 abbrev pub within_if : Seat → Row → Bool → Standing
 within_if seat row true = IsWithin seat row
 within_if seat row false = IsBroken seat.place
 
--- within a capsule: its next word is there
+-- likewise within a capsule
 abbrev pub running_if : Seat → (frame copy : ℕ) → Rest → Bool → Standing
 running_if seat frame copy rest true = IsRunning seat frame copy rest
 running_if seat frame copy rest false = IsBroken seat.place
 
 abbrev pub running : Shape → Seat → (frame copy : ℕ) → Rest → Standing
-running s seat frame copy (Loads cell go) = running_if seat frame copy (Loads cell go) (is_there s cell)
-running s seat frame copy (Stores cell content rest) = running_if seat frame copy (Stores cell content rest) (is_there s cell)
-running s seat frame copy Full = IsRunning seat frame copy Full
-running s seat frame copy (Installs kind) =
-    running_if seat frame copy (Installs kind) (restart_is_there s (record { kind = kind; bottom = seat.restart.bottom }))
-running s seat frame copy Breaks = IsBroken seat.place
+running s seat frame copy rest = running_if seat frame copy rest (rest_is_there s seat rest)
 
 -- a capsule begins with registers of 0, and without a new block
 abbrev pub enters : Shape → CodeParts → Seat → RestartKind → Option Capsule → Standing
@@ -82,19 +99,13 @@ enters s code seat kind capsule = IsBroken seat.place
 
 -- where a processor stands with this left of its row
 abbrev pub stands_then : Shape → CodeParts → Seat → Then → Standing
-stands_then s code seat (Load point) = within_if seat (Now (Load point)) (point_is_there s seat point)
-stands_then s code seat (Install restart) = within_if seat (Now (Install restart)) (restart_is_there s restart)
-stands_then s code seat (Fork block) = within_if seat (Now (Fork block)) (restart_is_there s (forked seat block))
-stands_then s code seat (Begin block frame bottom) = within_if seat (Now (Begin block frame bottom)) (restart_is_there s (begun frame bottom))
-stands_then s code seat (Move place) = within_if seat (Now (Move place)) (nat_lt place s.processors)
 stands_then s code seat (Enter capsule) = enters s code seat seat.restart.kind (slice_get code.capsules capsule)
 stands_then s code seat Again = IsAt seat.place (Some seat.restart)
-stands_then s code seat Broken = IsBroken seat.place
+stands_then s code seat next = within_if seat (Now next) (then_is_there s seat next)
 
 abbrev pub stands : Shape → CodeParts → Seat → Row → Standing
 stands s code seat (Now next) = stands_then s code seat next
-stands s code seat (Store cell content next) = within_if seat (Store cell content next) (is_there s cell)
-stands s code seat (Exchange cell old new next) = within_if seat (Exchange cell old new next) (is_there s cell)
+stands s code seat row = within_if seat row (row_is_there s seat row)
 
 -- a row begins, if the restart word names what is there
 abbrev pub begins_if : Shape → CodeParts → Seat → Bool → Standing

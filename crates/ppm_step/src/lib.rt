@@ -3,9 +3,19 @@
 
 mod ask;
 mod content;
+mod bid;
+mod closed;
+mod entries;
+mod found;
 mod frame;
+mod join;
+mod pop;
+mod push;
 mod row;
+mod seek;
+mod steal;
 mod there;
+mod unwind;
 
 pub use ask::Want;
 pub use frame::Put;

@@ -1,6 +1,12 @@
 //! The rows: what is left of a capsule of the scheduler, up to its end.
+ghost use Rattle.std.specs.Prelude.{◌≡◌, ◌+◌};
+ghost use Rattle.ppm_step.specs.Rows.{left_begins};
+ghost use Rattle.ppm_step.specs.declared.row.Row.TheVariants.{Now};
+ghost use Rattle.ppm_step.specs.declared.row.Then.TheVariants.{Load, Broken};
+ghost use Rattle.ppm_step.specs.Facts.{IsAddress};
+
 use crate::content::Content;
-use ppm_cells::{Cell, Entry, Finish, Holder, LinkKind, Restart, Side};
+use ppm_cells::{Cell, Entry, Finish, Holder, LinkKind, Restart, RestartKind, Side};
 
 /// Who carries a place on, which place, and its restart word as it was read.
 #[derive(Clone, Copy, Debug, PartialEq, Eq)]
@@ -138,4 +144,47 @@ pub enum Row {
         new: Content,
         then: Then,
     },
+}
+
+impl Seat {
+    ghost use Rattle.std.specs.Prelude.{◌≡◌};
+    ghost use Rattle.ppm_step.specs.Rows.{with_kind};
+
+    /// The place goes on with a kind, its bottom as it is.
+    pub fn with_kind(&self, kind: RestartKind) -> Then
+        ensures { result ≡ with_kind self.now kind }
+    {
+        Then::Install(Restart {
+            kind,
+            bottom: self.restart.bottom,
+        })
+    }
+}
+
+/// The left branch of a block begins, with this bottom.
+pub fn left_begins(block: u32, bottom: u32) -> Then
+    requires { IsAddress block }
+    ensures { result ≡ left_begins block bottom }
+{
+    Then::Install(Restart {
+        kind: RestartKind::Run {
+            frame: block + 5,
+            copy: 0,
+        },
+        bottom,
+    })
+}
+
+/// Words with which no row goes on.
+pub fn broken() -> Row
+    ensures { result ≡ Now Broken }
+{
+    Row::Now(Then::Broken)
+}
+
+/// A load, and what it finds.
+pub fn load(point: Point) -> Row
+    ensures { result ≡ Now (Load point) }
+{
+    Row::Now(Then::Load(point))
 }
