@@ -1,5 +1,5 @@
 -- What always holds of where a processor stands: its numbers fit the words, and what it asks next is there.
-use Rattle.std.specs.Prelude.{◌≡◌, ℕ, ◌+◌, ◌-◌, ◌^◌, ◌<◌, ◌≤◌, true, Option, Some, None, IfSome, length}
+use Rattle.std.specs.Prelude.{◌≡◌, ℕ, ◌+◌, ◌^◌, ◌<◌, true, IfSome}
 use Rattle.ppm_cells.specs.Entry.{IsEntry}
 use Rattle.ppm_cells.specs.Fields.{Fit}
 use Rattle.ppm_cells.specs.Finish.{IsFinish}
@@ -10,7 +10,8 @@ use Rattle.ppm_cells.specs.declared.restart.Restart.{Restart}
 use Rattle.ppm_cells.specs.declared.shape.Shape.{Shape}
 use Rattle.ppm_code.specs.Code.{IsLine}
 use Rattle.ppm_code.specs.declared.act.End.{End}
-use Rattle.ppm_code.specs.declared.act.End.TheVariants.{Next, Finish, Trap, Call, Fork as Forks}
+use Rattle.ppm_code.specs.declared.act.End.TheVariants.{Trap}
+use Rattle.ppm_step.specs.declared.frame.Home.{Home}
 use Rattle.ppm_step.specs.declared.row.Seat.{Seat}
 use Rattle.ppm_step.specs.declared.row.Point.{Point}
 use Rattle.ppm_step.specs.declared.row.Point.TheVariants.{Header, BumpLink, PushOrder, PushAbove, PushBottom, UnwindLink, UnwindOutcome, Target, GivenValue}
@@ -77,6 +78,17 @@ abbrev pub IsRow : Row → Type 0
 IsRow (Now next) = IsThen next
 IsRow (Store cell content next) = IsContent content × IsThen next
 IsRow (Exchange cell old new next) = IsContent old × IsContent new × IsThen next
+
+-- a frame, a copy and a block
+pub record IsHome (home : Home) : Type 0 where
+  pub frame : IsAddress home.frame
+  pub copy : home.copy < 2
+  pub block : IsAddress home.block
+
+-- a trap at the end of a capsule has its line in the source
+abbrev pub IsEnd : End → Type 0
+IsEnd (Trap trap line) = IsLine line
+IsEnd _ = Unit {0}
 
 -- a processor, its place, and a restart word that names what is there
 pub record IsSeat (s : Shape) (seat : Seat) : Type 0 where

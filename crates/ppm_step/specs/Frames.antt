@@ -16,14 +16,15 @@ use Rattle.ppm_capsules.specs.Capsule.{Capsule, Reads, Writes, Asks, Ends}
 use Rattle.ppm_capsules.specs.Strand.{Own, New, Shared}
 use Rattle.ppm_code.specs.Locations.{Where}
 use Rattle.ppm_code.specs.Sizes.{frame_size, fork_size}
+use Rattle.ppm_code.specs.Strands.{entry_of}
 use Rattle.ppm_code.specs.declared.act.End.{End}
 use Rattle.ppm_code.specs.declared.act.End.TheVariants.{Next, Finish, Trap, Call, Fork}
 use Rattle.ppm_code.specs.declared.code.CodeParts.{CodeParts}
-use Rattle.ppm_code.specs.declared.code.Procedure.{Procedure}
 use Rattle.ppm_code.specs.declared.location.FrameWord.TheVariants.{Slot, Value}
 use Rattle.ppm_step.specs.declared.content.Content.{Content}
 use Rattle.ppm_step.specs.declared.content.Content.TheVariants.{ANumber, ALink, AFinish}
 use Rattle.ppm_step.specs.declared.frame.Put.{Put}
+use Rattle.ppm_step.specs.declared.frame.Home.{Home}
 use Rattle.ppm_step.specs.declared.row.Seat.{Seat}
 use Rattle.ppm_step.specs.Points.{outcome_word, header_word, value_word, target_word, offset_word}
 
@@ -36,11 +37,11 @@ pub data Rest : Type 0 where
   Breaks : Rest
 
 -- the word of a location, in a frame and with a new block
-abbrev pub cell_of : (frame block : ℕ) → Where → Cell
-cell_of frame block (Own (Slot slot)) = BlockWord (frame + 6 + slot)
-cell_of frame block (Own Value) = value_word frame
-cell_of frame block (New offset) = BlockWord (block + offset)
-cell_of frame block (Shared index) = ArrayWord index
+abbrev pub cell_of : Home → Where → Cell
+cell_of home (Own (Slot slot)) = BlockWord (home.frame + 6 + slot)
+cell_of home (Own Value) = value_word home.frame
+cell_of home (New offset) = BlockWord (home.block + offset)
+cell_of home (Shared index) = ArrayWord index
 
 -- the copy that is not in use
 abbrev pub other_copy : ℕ → ℕ
@@ -53,86 +54,79 @@ put cell content = record { cell = cell; content = content }
 abbrev pub link : (kind : LinkKind) → (size : ℕ) → Content
 link kind size = ALink (record { kind = kind; size = size })
 
--- the capsule with which a procedure begins
-abbrev pub entry_in : Option Procedure → ℕ
-entry_in None = 0
-entry_in (Some procedure) = procedure.entry
-
-abbrev pub entry_of : CodeParts → (procedure : ℕ) → ℕ
-entry_of code procedure = entry_in (slice_get code.procedures procedure)
-
 -- the target word of a slot: one more, or 0
 abbrev pub target_of : Option ℕ → ℕ
 target_of None = 0
 target_of (Some slot) = slot + 1
 
-module _ (code : CodeParts) (frame copy block : ℕ) where
-  -- the frame is to go on with a capsule
-  abbrev pub goes_on : (capsule : ℕ) → Put
-  goes_on capsule = put (header_word frame (other_copy copy)) (ANumber capsule)
+-- the frame is to go on with a capsule
+abbrev pub goes_on : Home → (capsule : ℕ) → Put
+goes_on home capsule = put (header_word home.frame (other_copy home.copy)) (ANumber capsule)
 
+module _ (code : CodeParts) (home : Home) where
   -- the stores of a call, without and with a target
   abbrev pub call_puts : (procedure capsule : ℕ) → Option ℕ → List Put
   call_puts procedure capsule None =
-      put (BlockWord block) (link (CallLink frame (other_copy copy)) (frame_size code procedure))
-      ∷ put (outcome_word block) (AFinish Ended)
-      ∷ put (header_word block 0) (ANumber (entry_of code procedure))
-      ∷ goes_on capsule ∷ []
+      put (BlockWord home.block) (link (CallLink home.frame (other_copy home.copy)) (frame_size code procedure))
+      ∷ put (outcome_word home.block) (AFinish Ended)
+      ∷ put (header_word home.block 0) (ANumber (entry_of code procedure))
+      ∷ goes_on home capsule ∷ []
   call_puts procedure capsule (Some slot) =
-      put (BlockWord block) (link (CallLink frame (other_copy copy)) (frame_size code procedure))
-      ∷ put (outcome_word block) (AFinish Ended)
-      ∷ put (header_word block 0) (ANumber (entry_of code procedure))
-      ∷ put (target_word block) (ANumber (slot + 1))
-      ∷ goes_on capsule ∷ []
+      put (BlockWord home.block) (link (CallLink home.frame (other_copy home.copy)) (frame_size code procedure))
+      ∷ put (outcome_word home.block) (AFinish Ended)
+      ∷ put (header_word home.block 0) (ANumber (entry_of code procedure))
+      ∷ put (target_word home.block) (ANumber (slot + 1))
+      ∷ goes_on home capsule ∷ []
 
   -- the stores of a fork, where `right_at` is where its right frame lies
   abbrev pub fork_puts : (left right capsule right_at : ℕ) → List Put
   fork_puts left right capsule right_at =
-      put (BlockWord block) (link (ForkLink frame (other_copy copy)) (fork_size code left right))
-      ∷ put (offset_word block) (ANumber (5 + frame_size code left))
-      ∷ put (BlockWord (block + 5)) (link (Branch Left block) (frame_size code left))
-      ∷ put (outcome_word (block + 5)) (AFinish Ended)
-      ∷ put (header_word (block + 5) 0) (ANumber (entry_of code left))
-      ∷ put (BlockWord right_at) (link (Branch Right block) (frame_size code right))
+      put (BlockWord home.block) (link (ForkLink home.frame (other_copy home.copy)) (fork_size code left right))
+      ∷ put (offset_word home.block) (ANumber (5 + frame_size code left))
+      ∷ put (BlockWord (home.block + 5)) (link (Branch Left home.block) (frame_size code left))
+      ∷ put (outcome_word (home.block + 5)) (AFinish Ended)
+      ∷ put (header_word (home.block + 5) 0) (ANumber (entry_of code left))
+      ∷ put (BlockWord right_at) (link (Branch Right home.block) (frame_size code right))
       ∷ put (outcome_word right_at) (AFinish Ended)
       ∷ put (header_word right_at 0) (ANumber (entry_of code right))
-      ∷ goes_on capsule ∷ []
+      ∷ goes_on home capsule ∷ []
 
   -- and of one with targets
   abbrev pub fork_to_puts : (left right capsule right_at left_target right_target : ℕ) → List Put
   fork_to_puts left right capsule right_at left_target right_target =
-      put (BlockWord block) (link (ForkLink frame (other_copy copy)) (fork_size code left right))
-      ∷ put (offset_word block) (ANumber (5 + frame_size code left))
-      ∷ put (BlockWord (block + 5)) (link (Branch Left block) (frame_size code left))
-      ∷ put (outcome_word (block + 5)) (AFinish Ended)
-      ∷ put (header_word (block + 5) 0) (ANumber (entry_of code left))
-      ∷ put (target_word (block + 5)) (ANumber left_target)
-      ∷ put (BlockWord right_at) (link (Branch Right block) (frame_size code right))
+      put (BlockWord home.block) (link (ForkLink home.frame (other_copy home.copy)) (fork_size code left right))
+      ∷ put (offset_word home.block) (ANumber (5 + frame_size code left))
+      ∷ put (BlockWord (home.block + 5)) (link (Branch Left home.block) (frame_size code left))
+      ∷ put (outcome_word (home.block + 5)) (AFinish Ended)
+      ∷ put (header_word (home.block + 5) 0) (ANumber (entry_of code left))
+      ∷ put (target_word (home.block + 5)) (ANumber left_target)
+      ∷ put (BlockWord right_at) (link (Branch Right home.block) (frame_size code right))
       ∷ put (outcome_word right_at) (AFinish Ended)
       ∷ put (header_word right_at 0) (ANumber (entry_of code right))
       ∷ put (target_word right_at) (ANumber right_target)
-      ∷ goes_on capsule ∷ []
+      ∷ goes_on home capsule ∷ []
 
+  -- with targets, if one is named
   abbrev pub fork_puts_by : (left right capsule : ℕ) → (left_to right_to : Option ℕ) → List Put
-  fork_puts_by left right capsule None None = fork_puts left right capsule (block + (5 + frame_size code left))
+  fork_puts_by left right capsule None None = fork_puts left right capsule (home.block + (5 + frame_size code left))
   fork_puts_by left right capsule left_to right_to =
-      fork_to_puts left right capsule (block + (5 + frame_size code left)) (target_of left_to) (target_of right_to)
+      fork_to_puts left right capsule (home.block + (5 + frame_size code left)) (target_of left_to) (target_of right_to)
 
   -- the stores of an end, in order
   abbrev pub puts : End → List Put
-  puts (Next capsule) = goes_on capsule ∷ []
+  puts (Next capsule) = goes_on home capsule ∷ []
   puts Finish = []
-  puts (Trap trap line) = put (outcome_word frame) (AFinish (Trapped trap line)) ∷ []
+  puts (Trap trap line) = put (outcome_word home.frame) (AFinish (Trapped trap line)) ∷ []
   puts (Call procedure capsule to) = call_puts procedure capsule to
   puts (Fork left right capsule left_to right_to) = fork_puts_by left right capsule left_to right_to
 
-  -- and what it installs
-  abbrev pub installed : End → RestartKind
-  installed (Next capsule) = Run frame (other_copy copy)
-  installed Finish = Unwind frame
-  installed (Trap trap line) = Unwind frame
-  installed (Call procedure capsule to) = Bump block
-  installed (Fork left right capsule left_to right_to) = Bump block
+-- and what it installs
+abbrev pub installed : Home → End → RestartKind
+installed home (Next capsule) = Run home.frame (other_copy home.copy)
+installed home Finish = Unwind home.frame
+installed home (Trap trap line) = Unwind home.frame
+installed home (Call procedure capsule to) = Bump home.block
+installed home (Fork left right capsule left_to right_to) = Bump home.block
 
 -- these stores from the n-th on, and then the rest
 abbrev pub storing : (n : ℕ) → List Put → Rest → Rest
@@ -141,19 +135,21 @@ storing zero (p ∷ ps) rest = Stores p.cell p.content (storing zero ps rest)
 storing (suc n) (p ∷ ps) rest = storing n ps rest
 
 -- the end of a capsule, from its n-th store on
-abbrev pub ending : CodeParts → (frame copy block : ℕ) → End → (n : ℕ) → Rest
-ending code frame copy block e n = storing n (puts code frame copy block e) (Installs (installed code frame copy block e))
+abbrev pub ending : CodeParts → Home → End → (n : ℕ) → Rest
+ending code home e n = storing n (puts code home e) (Installs (installed home e))
 
 -- with the room counter: it is no less than the pool's first word, and the words that are asked for are in the pool
 abbrev pub asks : (pool room counter words : ℕ) → Rest → Rest
 asks pool room counter words rest = if nat_lt counter pool then Breaks else (if nat_le (counter + words) (pool + room) then rest else Full)
 
+-- the block is built at the room counter
+abbrev pub at_counter : Home → (counter : ℕ) → Home
+at_counter home counter = record { frame = home.frame; copy = home.copy; block = counter }
+
 -- what a capsule asks of the words
-abbrev pub rest_of : Shape → CodeParts → (place frame copy block : ℕ) → Capsule Where End → Rest
-rest_of s code place frame copy block (Reads location go) =
-    Loads (cell_of frame block location) (λ word. rest_of s code place frame copy block (go word))
-rest_of s code place frame copy block (Writes location word go) =
-    Stores (cell_of frame block location) (ANumber word) (rest_of s code place frame copy block go)
-rest_of s code place frame copy block (Asks words go) =
-    Loads (RoomCounter place) (λ counter. asks (pool_at s place) s.room counter words (rest_of s code place frame copy counter go))
-rest_of s code place frame copy block (Ends e) = ending code frame copy block e 0
+abbrev pub rest_of : Shape → CodeParts → (place : ℕ) → Home → Capsule Where End → Rest
+rest_of s code place home (Reads location go) = Loads (cell_of home location) (λ word. rest_of s code place home (go word))
+rest_of s code place home (Writes location word go) = Stores (cell_of home location) (ANumber word) (rest_of s code place home go)
+rest_of s code place home (Asks words go) =
+    Loads (RoomCounter place) (λ counter. asks (pool_at s place) s.room counter words (rest_of s code place (at_counter home counter) go))
+rest_of s code place home (Ends e) = ending code home e 0

@@ -5,3 +5,5 @@ pub mod Rows
 pub mod Frames
 pub mod Standings
 pub mod Facts
+pub mod Stages
+pub mod Locals

@@ -36,7 +36,7 @@ pub data Standing : Type 0 where
   IsPlaced : (place : ℕ) → Standing
   IsAt : (place : ℕ) → Option Restart → Standing
   IsWithin : Seat → Row → Standing
-  IsRunning : Seat → (frame copy : ℕ) → Rest → Standing
+  IsRunning : Seat → Rest → Standing
   IsBroken : (place : ℕ) → Standing
   IsDone : Standing
 
@@ -84,17 +84,17 @@ within_if seat row true = IsWithin seat row
 within_if seat row false = IsBroken seat.place
 
 -- likewise within a capsule
-abbrev pub running_if : Seat → (frame copy : ℕ) → Rest → Bool → Standing
-running_if seat frame copy rest true = IsRunning seat frame copy rest
-running_if seat frame copy rest false = IsBroken seat.place
+abbrev pub running_if : Seat → Rest → Bool → Standing
+running_if seat rest true = IsRunning seat rest
+running_if seat rest false = IsBroken seat.place
 
-abbrev pub running : Shape → Seat → (frame copy : ℕ) → Rest → Standing
-running s seat frame copy rest = running_if seat frame copy rest (rest_is_there s seat rest)
+abbrev pub running : Shape → Seat → Rest → Standing
+running s seat rest = running_if seat rest (rest_is_there s seat rest)
 
 -- a capsule begins with registers of 0, and without a new block
 abbrev pub enters : Shape → CodeParts → Seat → RestartKind → Option Capsule → Standing
 enters s code seat (Run frame copy) (Some capsule) =
-    running s seat frame copy (rest_of s code seat.place frame copy 0 (capsule_of s.arrays capsule.instrs))
+    running s seat (rest_of s code seat.place (record { frame = frame; copy = copy; block = 0 }) (capsule_of s.arrays capsule.instrs))
 enters s code seat kind capsule = IsBroken seat.place
 
 -- where a processor stands with this left of its row
@@ -147,7 +147,7 @@ wanted s own victim IsLost = WantsLoad (address s (CarryWord own))
 wanted s own victim (IsPlaced place) = WantsLoad (address s (RestartWord place))
 wanted s own victim (IsAt place restart) = WantsLoad (address s FinishWord)
 wanted s own victim (IsWithin seat row) = wanted_row s seat victim row
-wanted s own victim (IsRunning seat frame copy rest) = wanted_rest s seat rest
+wanted s own victim (IsRunning seat rest) = wanted_rest s seat rest
 wanted s own victim (IsBroken place) = WantsExchange (address s FinishWord) 0 (finish_word (BrokenAt place))
 wanted s own victim IsDone = Nothing
 
@@ -166,12 +166,12 @@ went_row s code seat victim found (Now next) = went_then s code seat victim foun
 went_row s code seat victim found (Store cell content next) = stands_then s code seat next
 went_row s code seat victim found (Exchange cell old new next) = stands_then s code seat next
 
-abbrev pub went_rest : Shape → Seat → (frame copy found : ℕ) → Rest → Standing
-went_rest s seat frame copy found (Loads cell go) = running s seat frame copy (go found)
-went_rest s seat frame copy found (Stores cell content rest) = running s seat frame copy rest
-went_rest s seat frame copy found Full = IsAt seat.place (Some seat.restart)
-went_rest s seat frame copy found (Installs kind) = IsAt seat.place (Some (record { kind = kind; bottom = seat.restart.bottom }))
-went_rest s seat frame copy found Breaks = IsBroken seat.place
+abbrev pub went_rest : Shape → Seat → (found : ℕ) → Rest → Standing
+went_rest s seat found (Loads cell go) = running s seat (go found)
+went_rest s seat found (Stores cell content rest) = running s seat rest
+went_rest s seat found Full = IsAt seat.place (Some seat.restart)
+went_rest s seat found (Installs kind) = IsAt seat.place (Some (record { kind = kind; bottom = seat.restart.bottom }))
+went_rest s seat found Breaks = IsBroken seat.place
 
 -- the carried place, if it is one
 abbrev pub placed : Shape → (place : ℕ) → Standing
@@ -187,6 +187,6 @@ went s code own victim found IsLost = placed s found
 went s code own victim found (IsPlaced place) = IsAt place (restart_of found)
 went s code own victim found (IsAt place restart) = at_finish s code own place restart found
 went s code own victim found (IsWithin seat row) = went_row s code seat victim found row
-went s code own victim found (IsRunning seat frame copy rest) = went_rest s seat frame copy found rest
+went s code own victim found (IsRunning seat rest) = went_rest s seat found rest
 went s code own victim found (IsBroken place) = IsDone
 went s code own victim found IsDone = IsDone
