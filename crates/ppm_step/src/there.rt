@@ -1,5 +1,7 @@
 //! Whether what a word names is there.
-ghost use Rattle.std.specs.Prelude.{◌≡◌, IsTrue};
+ghost use Rattle.std.specs.Prelude.{◌≡◌, ◌<◌, true};
+ghost use Rattle.ppm_cells.specs.Cells.{address, word_count};
+ghost use Rattle.ppm_cells.specs.Restart.{restart_word};
 ghost use Rattle.ppm_step.specs.There.{is_there, kind_is_there, bottom_is_there, restart_is_there};
 
 use ppm_cells::{Cell, Restart, RestartKind, Shape};
@@ -49,4 +51,22 @@ pub fn restart_there(shape: &Shape, restart: Restart) -> bool
     ensures { result ≡ restart_is_there shape.now restart }
 {
     restart.bottom >= 1 && restart.bottom < shape.slots && kind_there(shape, restart.kind)
+}
+
+/// The address of a cell that is there.
+pub fn address(shape: &Shape, cell: Cell) -> u32
+    requires { is_there shape.now cell ≡ true }
+    ensures value { result ≡ address shape.now cell }
+    ensures within { result < word_count shape.now }
+{
+    shape.address(cell)
+}
+
+/// The word of a restart that names what is there.
+pub fn restart_word(shape: &Shape, restart: Restart) -> u64
+    requires { restart_is_there shape.now restart ≡ true }
+    ensures { result ≡ restart_word restart }
+{
+    let _ = shape.word_count();
+    restart.pack()
 }
