@@ -6,7 +6,9 @@ use Rattle.std.proofs.lemmas.Option.{slice_get_within, get_or_from_slice_get}
 use Rattle.ppm_capsules.specs.Capsule.{Capsule, Reads, Writes, Asks as AsksFor, Ends as EndsAt}
 use Rattle.ppm_words.specs.TwosComplement.{word_of, value_of}
 use Rattle.ppm_code.specs.Acts.{does, held, fits, is_zero, whole, divided, cut_left_of, cut_right_of, element_of, at_element, length_of, start_of}
-use Rattle.ppm_code.specs.Capsules.{capsule_from, at_act}
+use Rattle.ppm_code.specs.Capsules.{capsule_from, at_act, reached}
+use Rattle.ppm_code.specs.declared.work.Reached.{Reached}
+use Rattle.ppm_code.specs.declared.work.Reached.TheVariants.{AtEnd}
 use Rattle.ppm_code.specs.Code.{Fits, EndFits, IsCode, IsCapsule, IsLine}
 use Rattle.ppm_code.specs.Locations.{Where}
 use Rattle.ppm_code.specs.declared.act.Act.{Act}
@@ -137,3 +139,12 @@ code_ends_well code is_code number c one words skip g =
         subst (IsCapsule code) (get_or_from_slice_get code.capsules number c c one)
         (is_code.capsules number c (slice_get_within code.capsules number c one)) in
     ends_from words 0 skip c.instrs g (λ at i h e. does_well code c.procedure c.instrs at words i h (fit.each at i e))
+
+-- so does the end that register work comes to
+pub reached_end : (code : CodeParts) → IsCode code → (number : ℕ) (c : CodeCapsule) → slice_get code.capsules number ≡ Some c
+    → (words skip next : ℕ) (is : List Instr) (g h : List ℕ) (what : Reached) (e : End) → is ≡ c.instrs
+    → capsule_from words 0 skip is g ≡ reached words is next what h → what ≡ AtEnd e → IsEnd e
+reached_end code is_code number c one words skip next is g h what e same left at =
+    let begins = subst (λ (l : List Instr). EndsWell (capsule_from words 0 skip l g)) (sym same) (code_ends_well code is_code number c one words skip g) in
+    let ends = subst EndsWell left begins in
+    subst (λ (r : Reached). EndsWell (reached words is next r h)) at ends

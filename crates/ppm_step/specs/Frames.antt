@@ -1,5 +1,5 @@
 -- The row of a capsule of a frame: what its instructions ask of cells, and the stores of its end.
-use Rattle.std.specs.Prelude.{ℕ, zero, suc, ◌+◌, ◌-◌, nat_lt, nat_le, if◌then◌else◌, List, [], ◌∷◌, Option, Some, None, slice_get}
+use Rattle.std.specs.Prelude.{◌≡◌, ℕ, zero, suc, ◌+◌, ◌-◌, nat_lt, nat_le, if◌then◌else◌, List, [], ◌∷◌, Option, Some, None, slice_get}
 use Rattle.ppm_cells.specs.Cells.{pool_at}
 use Rattle.ppm_cells.specs.declared.cell.Cell.{Cell}
 use Rattle.ppm_cells.specs.declared.cell.Cell.TheVariants.{RoomCounter, BlockWord, ArrayWord}
@@ -137,6 +137,11 @@ storing (suc n) (p ∷ ps) rest = storing n ps rest
 -- the end of a capsule, from its n-th store on
 abbrev pub ending : CodeParts → Home → End → (n : ℕ) → Rest
 ending code home e n = storing n (puts code home e) (Installs (installed home e))
+
+-- the store that comes next at an end is this one; or there is none, and the restart word is installed
+abbrev pub IsNext : CodeParts → Home → End → (n : ℕ) → Option Put → Type 0
+IsNext code home e n None = ending code home e n ≡ Installs (installed home e)
+IsNext code home e n (Some p) = ending code home e n ≡ Stores p.cell p.content (ending code home e (n + 1))
 
 -- with the room counter: it is no less than the pool's first word, and the words that are asked for are in the pool
 abbrev pub asks : (pool room counter words : ℕ) → Rest → Rest

@@ -7,3 +7,4 @@ pub mod Standings
 pub mod Facts
 pub mod Stages
 pub mod Locals
+pub mod State

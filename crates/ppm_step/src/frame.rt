@@ -89,12 +89,12 @@ fn target_of(to: Option<u32>) -> u64
 }
 
 impl Home {
-    ghost use Rattle.std.specs.Prelude.{◌≡◌, ◌+◌, slice_get, IfSome, Some};
+    ghost use Rattle.std.specs.Prelude.{◌≡◌, ◌+◌, ◌<◌, slice_get, IfSome, Some};
     ghost use Rattle.ppm_code.specs.Sizes.{frame_size};
     ghost use Rattle.ppm_cells.specs.declared.link.LinkKind.TheVariants.{Branch};
     ghost use Rattle.ppm_step.specs.Contents.{IsContent};
     ghost use Rattle.ppm_step.specs.Facts.{IsEnd, IsHome};
-    ghost use Rattle.ppm_step.specs.Frames.{puts, call_puts, fork_puts, fork_to_puts, fork_puts_by, installed, goes_on, other_copy, target_of};
+    ghost use Rattle.ppm_step.specs.Frames.{puts, call_puts, fork_puts, fork_to_puts, fork_puts_by, installed, goes_on, other_copy, target_of, IsNext};
 
     /// The copy that is not in use.
     fn other(&self) -> u32
@@ -124,6 +124,7 @@ impl Home {
         requires { IsHome self.now }
         ensures value { result ≡ slice_get (call_puts code.now self.now procedure capsule to) n }
         ensures fits { IfSome result (λ p. IsContent p.content) }
+        ensures few { IfSome result (λ p. n < 11) }
     {
         let caller = LinkKind::Call {
             frame: self.frame,
@@ -154,6 +155,7 @@ impl Home {
         requires { IsHome self.now }
         ensures value { result ≡ slice_get (fork_puts code.now self.now left right capsule (self.now.block + (5 + frame_size code.now left))) n }
         ensures fits { IfSome result (λ p. IsContent p.content) }
+        ensures few { IfSome result (λ p. n < 11) }
     {
         let at = self.block + 5;
         let offset = 5 + size_of(code, left);
@@ -190,6 +192,7 @@ impl Home {
         ensures value { result ≡ slice_get (fork_to_puts code.now self.now left right capsule (self.now.block + (5 + frame_size code.now left))
             (target_of targets.0) (target_of targets.1)) n }
         ensures fits { IfSome result (λ p. IsContent p.content) }
+        ensures few { IfSome result (λ p. n < 11) }
     {
         let at = self.block + 5;
         let offset = 5 + size_of(code, left);
@@ -226,6 +229,7 @@ impl Home {
         requires { IsHome self.now }
         ensures value { result ≡ slice_get (fork_puts_by code.now self.now procedures.0 procedures.1 capsule targets.0 targets.1) n }
         ensures fits { IfSome result (λ p. IsContent p.content) }
+        ensures few { IfSome result (λ p. n < 11) }
     {
         let (left, right) = procedures;
         match targets {
@@ -237,11 +241,12 @@ impl Home {
     }
 
     /// The n-th store of an end; `None` behind the last one.
-    pub fn put(&self, code: &Code, end: End, n: usize) -> Option<Put>
+    fn put(&self, code: &Code, end: End, n: usize) -> Option<Put>
         requires home { IsHome self.now }
         requires end { IsEnd end }
         ensures value { result ≡ slice_get (puts code.now self.now end) n }
         ensures fits { IfSome result (λ p. IsContent p.content) }
+        ensures few { IfSome result (λ p. n < 11) }
     {
         match end {
             End::Next { capsule } => if n == 0 {
@@ -273,6 +278,18 @@ impl Home {
                 right_to,
             } => self.fork_put_by(code, (left, right), capsule, (left_to, right_to), n),
         }
+    }
+
+    /// The n-th store of an end, which comes next; `None` where the restart word does.
+    #[tactic(auto, using(crate::proofs::StoringLemmas::ending_by))]
+    pub fn next_put(&self, code: &Code, end: End, n: usize) -> Option<Put>
+        requires home { IsHome self.now }
+        requires end { IsEnd end }
+        ensures next { IsNext code.now self.now end n result }
+        ensures few { IfSome result (λ p. n < 11) }
+        ensures fits { IfSome result (λ p. IsContent p.content) }
+    {
+        self.put(code, end, n)
     }
 
     /// What an end installs.
