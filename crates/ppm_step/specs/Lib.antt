@@ -8,3 +8,4 @@ pub mod Facts
 pub mod Stages
 pub mod Locals
 pub mod State
+pub mod Told

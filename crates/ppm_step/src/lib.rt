@@ -28,5 +28,5 @@ pub use content::{Content, Reading};
 pub use running::{Running, Stage};
 pub use going::Going;
 pub use local::{Local, Stand};
-pub use turn::{Act, Next, Turn, Why};
+pub use turn::{Act, Next, Told, Turn, Why};
 pub use row::{Point, Row, Seat, Then};

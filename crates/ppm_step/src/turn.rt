@@ -1,4 +1,5 @@
 //! The acts of processors, and what is told of them.
+use ppm_words::Event;
 
 /// Why a processor quits.
 #[derive(Clone, Copy, Debug, PartialEq, Eq)]
@@ -40,4 +41,13 @@ pub enum Next {
     Seek,
     /// None.
     Done,
+}
+
+/// What is told of a turn: its event, `None` where the processor was done before; whether it was work; and what the processor's coming
+/// step is.
+#[derive(Clone, Copy, Debug, PartialEq, Eq)]
+pub struct Told {
+    pub event: Option<Event>,
+    pub work: bool,
+    pub next: Next,
 }
