@@ -1,6 +1,6 @@
 -- Where a processor stands, the word step that comes next, and where it stands after it.
-use Rattle.std.specs.Prelude.{ℕ, zero, suc, ◌==◌, nat_lt, if◌then◌else◌, Bool, true, false, Option, Some, None, slice_get}
-use Rattle.ppm_cells.specs.Cells.{address}
+use Rattle.std.specs.Prelude.{ℕ, zero, suc, ◌<◌, ◌==◌, nat_lt, if◌then◌else◌, Bool, true, false, Option, Some, None, slice_get}
+use Rattle.ppm_cells.specs.Cells.{address, word_count}
 use Rattle.ppm_cells.specs.Finish.{finish_word}
 use Rattle.ppm_cells.specs.Restart.{restart_of, restart_word}
 use Rattle.ppm_cells.specs.declared.cell.Cell.{Cell}
@@ -190,3 +190,10 @@ went s code own victim found (IsWithin seat row) = went_row s code seat victim f
 went s code own victim found (IsRunning seat rest) = went_rest s seat found rest
 went s code own victim found (IsBroken place) = IsDone
 went s code own victim found IsDone = IsDone
+
+-- the word of a want is there
+abbrev pub WantIsWithin : Shape → Want → Type 0
+WantIsWithin s (WantsLoad at) = at < word_count s
+WantIsWithin s (WantsStore at word) = at < word_count s
+WantIsWithin s (WantsExchange at old new) = at < word_count s
+WantIsWithin s Nothing = Unit {0}

@@ -13,6 +13,7 @@ mod join;
 mod local;
 mod pop;
 mod push;
+mod rest;
 mod row;
 mod running;
 mod seek;
