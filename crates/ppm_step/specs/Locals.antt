@@ -8,7 +8,7 @@ use Rattle.ppm_step.specs.declared.local.Stand.{Stand}
 use Rattle.ppm_step.specs.declared.local.Stand.TheVariants.{Lost, Placed, At, Within, Runs, Broken, Done}
 use Rattle.ppm_step.specs.Facts.{IsRow, IsSeat}
 use Rattle.ppm_step.specs.Stages.{rest_at, IsRunning}
-use Rattle.ppm_step.specs.Standings.{Standing, IsLost, IsPlaced, IsAt, IsWithin, IsRunning as IsRunningAt, IsBroken, IsDone, row_is_there}
+use Rattle.ppm_step.specs.Standings.{Standing, IsLost, IsPlaced, IsAt, IsWithin, IsRunning as IsRunningAt, IsBroken, IsDone, row_is_there, went_rest}
 
 -- as the rules say it
 abbrev pub standing_at : Shape → CodeParts → List ℕ → Stand → Standing
@@ -36,3 +36,11 @@ StandsFor s code own registers Done = Unit {0}
 pub record IsLocal (s : Shape) (code : CodeParts) (local : Local) : Type 0 where
   pub own : local.own < s.processors
   pub stand : StandsFor s code local.own local.registers local.stand
+
+-- where it stands after a step of a capsule under way; else where it stood
+abbrev pub went_running : Shape → CodeParts → List ℕ → (found : ℕ) → Stand → Standing
+went_running s code registers found (Runs running) = went_rest s running.seat found (rest_at s code running running.stage registers)
+went_running s code registers found stand = standing_at s code registers stand
+
+abbrev pub went_if_running : Shape → CodeParts → Local → (found : ℕ) → Standing
+went_if_running s code local found = went_running s code local.registers found local.stand
