@@ -1,0 +1,6 @@
+mod CutLemmas
+mod NumberLemmas
+mod DrawLemmas
+mod SourceLemmas
+mod ReadingLemmas
+mod AnswerLemmas

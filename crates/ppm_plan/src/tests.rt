@@ -1,0 +1,242 @@
+//! Tables of plans, schedules and draws.
+ghost use Rattle.std.specs.Int.{IsInRange};
+
+use super::*;
+use rand_core::SeedableRng;
+use rand_core::utils::NextWord;
+use rand_xoshiro::Xoshiro256PlusPlus;
+use std::alloc::Global;
+use std::test::Fail;
+
+/// What a reader answers to a text: the keeper, or the error.
+type Answer = Result<u32, PlanError>;
+
+fn plan_keeper(alloc: Global, text: &str, processors: u32) -> Answer
+    requires { IsInRange 1 64 processors }
+{
+    match read_plan(alloc, text.as_bytes(), processors) {
+        Ok(plan) => Ok(plan.keeper()),
+        Err(error) => Err(error),
+    }
+}
+
+fn schedule_keeper(alloc: Global, text: &str, processors: u32) -> Answer
+    requires { IsInRange 1 64 processors }
+{
+    match read_schedule(alloc, text.as_bytes(), processors) {
+        Ok(schedule) => Ok(schedule.keeper()),
+        Err(error) => Err(error),
+    }
+}
+
+const PLANS: [(&str, u32, Answer); 26] = [
+    ("none", 1, Ok(0)),
+    ("0@0s", 1, Ok(0)),
+    ("0@4294967295s", 1, Ok(0)),
+    ("0@4294967296s", 1, Err(PlanError::BadItem(1))),
+    ("0@99999999999999999999999s", 1, Err(PlanError::BadItem(1))),
+    ("0@00s", 1, Err(PlanError::BadItem(1))),
+    ("00@0s", 1, Err(PlanError::BadItem(1))),
+    ("0@0s,0@07h", 2, Err(PlanError::BadItem(2))),
+    ("", 1, Err(PlanError::BadItem(1))),
+    ("none,0@0s", 1, Err(PlanError::BadItem(1))),
+    ("0@0s,", 1, Err(PlanError::BadItem(2))),
+    ("0@0s,,0@0s", 1, Err(PlanError::BadItem(2))),
+    ("0@", 2, Err(PlanError::BadItem(1))),
+    ("0@s", 2, Err(PlanError::BadItem(1))),
+    ("0@1", 2, Err(PlanError::BadItem(1))),
+    ("0@1x", 2, Err(PlanError::BadItem(1))),
+    ("0@1ss", 2, Err(PlanError::BadItem(1))),
+    ("0@1s ", 2, Err(PlanError::BadItem(1))),
+    ("+0@1s", 2, Err(PlanError::BadItem(1))),
+    ("2@0s,0@", 2, Err(PlanError::BadItem(2))),
+    ("2@0s", 2, Err(PlanError::NoSuchProcessor(1))),
+    ("0@3h,1@3h,2@0s", 2, Err(PlanError::NoSuchProcessor(3))),
+    ("0@3h,1@3h", 2, Err(PlanError::AllKilled)),
+    ("0@3h,1@3h", 3, Ok(2)),
+    ("1@3h,0@5s", 2, Ok(0)),
+    ("63@0s,0@1h,1@1h,3@1h", 64, Ok(2)),
+];
+
+#[test]
+fn plans_are_read(rt: HostRuntime) -> Result<(), Fail> {
+    for (text, processors, answer) in PLANS {
+        assert_eq!(rt; plan_keeper(rt.alloc(), text, processors), answer, "{text}");
+    }
+    Ok(())
+}
+
+const SCHEDULES: [(&str, u32, Answer); 30] = [
+    ("none", 1, Ok(0)),
+    ("0*40,1>0*60,0!s", 2, Ok(0)),
+    ("0,1,2,1!h", 3, Ok(0)),
+    ("0!h,1!h,0", 3, Ok(2)),
+    ("0!h,1!h", 2, Err(PlanError::AllKilled)),
+    ("0*1", 1, Ok(0)),
+    ("0*268435456", 1, Ok(0)),
+    ("0*268435457", 1, Err(PlanError::BadItem(1))),
+    ("0*0", 1, Err(PlanError::BadItem(1))),
+    ("0*01", 1, Err(PlanError::BadItem(1))),
+    ("0*", 1, Err(PlanError::BadItem(1))),
+    ("0*1*1", 1, Err(PlanError::BadItem(1))),
+    ("0>0*2", 1, Ok(0)),
+    ("0*2>0", 1, Err(PlanError::BadItem(1))),
+    ("0>", 1, Err(PlanError::BadItem(1))),
+    (">0", 1, Err(PlanError::BadItem(1))),
+    ("0>00", 1, Err(PlanError::BadItem(1))),
+    ("0>0>0", 1, Err(PlanError::BadItem(1))),
+    ("0!s*2", 1, Err(PlanError::BadItem(1))),
+    ("0>0!s", 1, Err(PlanError::BadItem(1))),
+    ("0!", 1, Err(PlanError::BadItem(1))),
+    ("0!x", 1, Err(PlanError::BadItem(1))),
+    ("0!ss", 1, Err(PlanError::BadItem(1))),
+    ("", 1, Err(PlanError::BadItem(1))),
+    ("0,none", 1, Err(PlanError::BadItem(2))),
+    ("0,1,x", 1, Err(PlanError::BadItem(3))),
+    ("0,0>1", 1, Err(PlanError::NoSuchProcessor(2))),
+    ("0,1>0", 1, Err(PlanError::NoSuchProcessor(2))),
+    ("0,1!s", 1, Err(PlanError::NoSuchProcessor(2))),
+    ("0>63,63>0", 64, Ok(0)),
+];
+
+#[test]
+fn schedules_are_read(rt: HostRuntime) -> Result<(), Fail> {
+    for (text, processors, answer) in SCHEDULES {
+        assert_eq!(rt;
+            schedule_keeper(rt.alloc(), text, processors),
+            answer,
+            "{text}"
+        );
+    }
+    Ok(())
+}
+
+#[test]
+fn a_schedule_keeps_its_runs(rt: HostRuntime) -> Result<(), Fail> {
+    match read_schedule(rt.alloc(), b"0*40,1>0*60,1!h", 2) {
+        Ok(schedule) => {
+            let steps = ScheduleItem {
+                act: ScheduledAct::Step {
+                    processor: 1,
+                    victim: Some(0),
+                },
+                times: 60,
+            };
+            assert_eq!(rt; schedule.items().len(), 3);
+            assert_eq!(rt; schedule.items().get(1), Some(&steps));
+        }
+        Err(error) => assert!(rt; false, "{error}"),
+    }
+    Ok(())
+}
+
+const TURNS: [(u32, u32, Option<Fault>); 6] = [
+    (1, 3, Some(Fault::Hard)),
+    (1, 4, Some(Fault::Hard)),
+    (0, 3, Some(Fault::Soft)),
+    (0, 4, None),
+    (1, 0, None),
+    (2, 3, None),
+];
+
+#[test]
+fn hard_wins(rt: HostRuntime) -> Result<(), Fail> {
+    match read_plan(rt.alloc(), b"1@3s,1@3h,0@3s,1@4h,1@4s", 2) {
+        Ok(plan) => {
+            for (processor, turn, fault) in TURNS {
+                assert_eq!(rt; plan.at(processor, turn), fault, "{processor}@{turn}");
+            }
+        }
+        Err(error) => assert!(rt; false, "{error}"),
+    }
+    Ok(())
+}
+
+/// So many soft faults of processor 0.
+fn many(alloc: Global, count: u32) -> Result<Vec<u8>, Fail> {
+    let mut text = Vec::from_slice(alloc, b"0@0s")?;
+    for _ in 1..count {
+        text.extend_from_slice(b",0@0s")?;
+    }
+    Ok(text)
+}
+
+#[test]
+fn items_are_4096_at_most(rt: HostRuntime) -> Result<(), Fail> {
+    let most = many(rt.alloc(), 4096)?;
+    let more = many(rt.alloc(), 4097)?;
+    assert!(rt; read_plan(rt.alloc(), &most, 1).is_ok());
+    match read_plan(rt.alloc(), &more, 1) {
+        Ok(_) => assert!(rt; false),
+        Err(error) => assert_eq!(rt; error, PlanError::TooManyFaults),
+    }
+    Ok(())
+}
+
+// The next values are from the reference code of SplitMix64 and Xoshiro256++ by Blackman and Vigna, run by a script.
+
+#[test]
+fn words_are_those_of_the_reference(rt: HostRuntime) {
+    let mut words = Xoshiro256PlusPlus::seed_from_u64(0);
+    assert_eq!(rt; words.next_word(), 5987356902031041503);
+    assert_eq!(rt; words.next_word(), 7051070477665621255);
+    assert_eq!(rt; words.next_word(), 6633766593972829180);
+}
+
+#[test]
+fn victims_are_those_words(rt: HostRuntime) {
+    let mut victims = Victims::new(7, 2, 5);
+    for victim in [0, 3, 0, 1, 3, 3, 1, 1, 4, 1] {
+        assert_eq!(rt; victims.next(), victim);
+    }
+    let mut far = Victims::new(4294967295, 63, 64);
+    for victim in [38, 5, 45, 46, 53, 59, 27, 31, 30, 47] {
+        assert_eq!(rt; far.next(), victim);
+    }
+}
+
+const DRAWN: [PlanItem; 4] = [
+    PlanItem {
+        processor: 27,
+        turn: 57485,
+        fault: Fault::Hard,
+    },
+    PlanItem {
+        processor: 22,
+        turn: 28580,
+        fault: Fault::Soft,
+    },
+    PlanItem {
+        processor: 7,
+        turn: 61985,
+        fault: Fault::Hard,
+    },
+    PlanItem {
+        processor: 22,
+        turn: 58953,
+        fault: Fault::Soft,
+    },
+];
+
+#[test]
+fn plans_are_drawn(rt: HostRuntime) -> Result<(), Fail> {
+    let plan = seeded_plan(rt.alloc(), 1, 64, 4)?;
+    assert!(rt; plan.items() == &DRAWN[..]);
+    assert_eq!(rt; plan.keeper(), 0);
+    Ok(())
+}
+
+const SOURCE: &str =
+    "array a[4];\ninput a = 7, 38, 69, 100;\nproc sum(mut a) { if len a > 1 { split a at len a / 2 into l, r { fork sum(l) and sum(r); l[0] = l[0] + r[0]; } } }\nproc main(mut a) { call sum(a); }";
+
+#[test]
+fn a_source_is_made(rt: HostRuntime) -> Result<(), Fail> {
+    let text = make_source(rt.alloc(), 4, 7)?;
+    assert!(rt; text.as_slice() == SOURCE.as_bytes());
+    Ok(())
+}
+
+#[test]
+fn laws_are_called(_rt: HostRuntime) {
+    have_one_answer();
+}
