@@ -4,3 +4,4 @@ mod DrawLemmas
 mod SourceLemmas
 mod ReadingLemmas
 mod AnswerLemmas
+mod TableLemmas

@@ -83,3 +83,11 @@ pub record IsAccepted {A : Type 0} (form : Form A) (text : List ℕ) (p : ℕ) (
   pub has : HasItems form text items
   pub keeper : ℕ
   pub obeyed : MayBeObeyed form p items keeper
+
+-- the number of a refusal; 0 where memory was refused, which is no fault of the text
+abbrev pub number_of : PlanError → ℕ
+number_of (BadItem n) = 1
+number_of (NoSuchProcessor n) = 2
+number_of TooManyFaults = 3
+number_of AllKilled = 4
+number_of NoMemory = 0

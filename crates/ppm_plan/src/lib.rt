@@ -7,6 +7,7 @@
 
 mod cut;
 mod fault;
+mod fault_table;
 mod item;
 mod judging;
 mod laws;

@@ -1,16 +1,17 @@
 //! Fault plans.
 ghost use Rattle.std.specs.Prelude.{◌≡◌, ◌≤◌, IfOk, IfErr};
-ghost use Rattle.std.specs.List.{list_any};
 ghost use Rattle.std.specs.Int.{IsInRange};
 ghost use Rattle.ppm_plan.specs.Forms.{plan_form};
 ghost use Rattle.ppm_plan.specs.Refusals.{IsAccepted, IsRefused, IsKeeper};
-ghost use Rattle.ppm_plan.specs.Faults.{fault_at, is_at, is_hard_at};
+ghost use Rattle.ppm_plan.specs.Faults.{fault_at};
 
 use crate::fault::Fault;
+use crate::fault_table::{FaultTable, look_up, table_of};
 use crate::judging::keeper_of;
 use crate::plan_error::PlanError;
 use crate::plan_item::PlanItem;
 use crate::reading::read_items;
+use ppm_words::NoMemory;
 use std::alloc::Global;
 use std::marker::Model;
 
@@ -19,6 +20,7 @@ use std::marker::Model;
 #[derive(Debug, Drop)]
 pub struct Plan {
     items: Vec<PlanItem>,
+    faults: FaultTable,
     keeper: u32,
 }
 
@@ -27,62 +29,35 @@ impl Model for Plan {
     ghost use Rattle.ppm_plan.specs.declared.plan_item.PlanItem.{PlanItem};
     ghost use Rattle.ppm_plan.specs.Forms.{plan_form};
     ghost use Rattle.ppm_plan.specs.Refusals.{IsKeeper};
+    ghost use Rattle.ppm_plan.specs.Tables.{Shows};
 
     ghost Value = { List PlanItem };
 
     ghost view = { λ p. p.items.items };
 
-    ghost invariant = { λ p. IsKeeper plan_form p.items.items p.keeper };
-}
-
-/// Whether some item is of this turn.
-fn any_at(items: &[PlanItem], processor: u32, turn: u32) -> bool
-    ensures { result ≡ list_any (is_at processor turn) items.now }
-{
-    let mut left = items;
-    while let [item, rest @ ..] = left {
-        if item.is_at(processor, turn) {
-            return true;
-        }
-        left = rest;
-    }
-    false
-}
-
-/// Whether some item is a hard fault of this turn.
-fn any_hard_at(items: &[PlanItem], processor: u32, turn: u32) -> bool
-    ensures { result ≡ list_any (is_hard_at processor turn) items.now }
-{
-    let mut left = items;
-    while let [item, rest @ ..] = left {
-        if item.is_hard_at(processor, turn) {
-            return true;
-        }
-        left = rest;
-    }
-    false
+    ghost invariant = { λ p. IsKeeper plan_form p.items.items p.keeper × Shows p.faults p.items.items };
 }
 
 impl Plan {
     /// The plan of these items, whose keeper is known.
-    pub(crate) fn with_keeper(items: Vec<PlanItem>, keeper: u32) -> Plan
+    pub(crate) fn with_keeper(alloc: Global, items: Vec<PlanItem>, keeper: u32) -> Result<Plan, NoMemory>
         requires { IsKeeper plan_form items.items keeper }
-        ensures { result ≡ items.items }
+        ensures { IfOk result (λ plan. plan ≡ items.items) }
     {
-        Plan { items, keeper }
+        let faults = table_of(alloc, &items)?;
+        Ok(Plan {
+            items,
+            faults,
+            keeper,
+        })
     }
 
-    /// The fault of a turn of a processor, both from 0. Of two items for one turn a hard one wins.
+    /// The fault of a turn of a processor, both from 0. Of two items for one turn a hard one wins. The time grows as the
+    /// logarithm of the number of items.
     pub fn at(&self, processor: u32, turn: u32) -> Option<Fault>
         ensures { result ≡ fault_at self.now processor turn }
     {
-        if any_hard_at(&self.items, processor, turn) {
-            return Some(Fault::Hard);
-        }
-        if any_at(&self.items, processor, turn) {
-            return Some(Fault::Soft);
-        }
-        None
+        look_up(&self.faults, processor, turn)
     }
 
     /// The least processor without a hard fault.
@@ -109,5 +84,6 @@ pub fn read_plan(alloc: Global, text: &[u8], processors: u32) -> Result<Plan, Pl
 {
     let items: Vec<PlanItem> = read_items(alloc, text)?;
     let keeper = keeper_of(&items, processors)?;
-    Ok(Plan::with_keeper(items, keeper))
+    let plan = Plan::with_keeper(alloc, items, keeper)?;
+    Ok(plan)
 }

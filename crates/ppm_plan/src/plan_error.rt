@@ -1,6 +1,8 @@
 //! Why a text is no plan, or no schedule.
 ghost use Rattle.std.specs.Prelude.{◌≡◌};
+ghost use Rattle.ppm_plan.specs.Refusals.{number_of};
 
+use ppm_words::NoMemory;
 use std::alloc::{AllocError, AllocFailed};
 use thiserror::Error;
 
@@ -24,6 +26,21 @@ pub enum PlanError {
     NoMemory,
 }
 
+impl PlanError {
+    /// The number of the fault: 1 `BadItem`, 2 `NoSuchProcessor`, 3 `TooManyFaults`, 4 `AllKilled`; 0 where memory was refused.
+    pub fn number(self) -> u32
+        ensures { result ≡ number_of self }
+    {
+        match self {
+            PlanError::BadItem(_) => 1,
+            PlanError::NoSuchProcessor(_) => 2,
+            PlanError::TooManyFaults => 3,
+            PlanError::AllKilled => 4,
+            PlanError::NoMemory => 0,
+        }
+    }
+}
+
 impl<T: Drop> From<AllocFailed<T>> for PlanError {
     ghost use Rattle.std.specs.Prelude.{◌≡◌};
     ghost use Rattle.ppm_plan.specs.declared.plan_error.PlanError.TheVariants.{NoMemory};
@@ -42,6 +59,17 @@ impl From<AllocError> for PlanError {
     ghost from_gives = { λ _ e. e ≡ NoMemory };
 
     fn from(_: AllocError) -> Self {
+        PlanError::NoMemory
+    }
+}
+
+impl From<NoMemory> for PlanError {
+    ghost use Rattle.std.specs.Prelude.{◌≡◌};
+    ghost use Rattle.ppm_plan.specs.declared.plan_error.PlanError.TheVariants.{NoMemory};
+
+    ghost from_gives = { λ _ e. e ≡ NoMemory };
+
+    fn from(_: NoMemory) -> Self {
         PlanError::NoMemory
     }
 }

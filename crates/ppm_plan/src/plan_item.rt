@@ -1,7 +1,6 @@
 //! The items of plans.
 ghost use Rattle.std.specs.Prelude.{◌≡◌};
 ghost use Rattle.ppm_plan.specs.Items.{plan_item_of, ended_by as ended_by_letter, timed_by as timed_by_letter};
-ghost use Rattle.ppm_plan.specs.Faults.{is_at as at, is_hard_at as hard_at};
 
 use crate::cut::cut;
 use crate::fault::Fault;
@@ -72,21 +71,5 @@ impl Item for PlanItem {
 
     fn kills(&self, processor: u32) -> bool {
         self.fault.is_hard() && self.processor == processor
-    }
-}
-
-impl PlanItem {
-    /// Whether it is of this turn.
-    pub(crate) fn is_at(&self, processor: u32, turn: u32) -> bool
-        ensures { result ≡ at processor turn self.now }
-    {
-        self.processor == processor && self.turn == turn
-    }
-
-    /// Whether it is a hard fault of this turn.
-    pub(crate) fn is_hard_at(&self, processor: u32, turn: u32) -> bool
-        ensures { result ≡ hard_at processor turn self.now }
-    {
-        self.processor == processor && self.turn == turn && self.fault.is_hard()
     }
 }

@@ -68,5 +68,5 @@ pub fn seeded_plan(alloc: Global, seed: u32, processors: u32, count: u32) -> Res
 {
     let words = Xoshiro256PlusPlus::seed_from_u64(u64::from(seed));
     let items = draw(alloc, words, processors, count)?;
-    Ok(Plan::with_keeper(items, 0))
+    Plan::with_keeper(alloc, items, 0)
 }
