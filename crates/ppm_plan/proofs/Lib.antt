@@ -5,3 +5,6 @@ mod SourceLemmas
 mod ReadingLemmas
 mod AnswerLemmas
 mod TableLemmas
+mod SpellingLemmas
+mod PlanItemLemmas
+mod ScheduleItemLemmas

@@ -71,7 +71,7 @@ numeral_some : (ds : List ℕ) → is_numeral ds ≡ true → 0 < length ds
 numeral_some [] h = absurd (both_ways false refl h)
 numeral_some (d ∷ ds) h = omega arith
 
-numeral_parts : (ds : List ℕ) → is_numeral ds ≡ true → (list_all is_digit ds ≡ true) × (get_or ds 0 0 ≡ 48 → length ds ≡ 1)
+pub numeral_parts : (ds : List ℕ) → is_numeral ds ≡ true → (list_all is_digit ds ≡ true) × (get_or ds 0 0 ≡ 48 → length ds ≡ 1)
 numeral_parts [] h = absurd (both_ways false refl h)
 numeral_parts (d ∷ ds) h = go (d == 48) refl h
   where

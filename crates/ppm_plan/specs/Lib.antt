@@ -9,3 +9,4 @@ pub mod Tables
 pub mod Draws
 pub mod Sources
 pub mod Correct
+pub mod Spellings
