@@ -8,3 +8,6 @@ mod TableLemmas
 mod SpellingLemmas
 mod PlanItemLemmas
 mod ScheduleItemLemmas
+mod AmongLemmas
+mod TextLemmas
+mod SaidLemmas

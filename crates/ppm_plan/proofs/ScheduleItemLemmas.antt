@@ -20,7 +20,7 @@ abbrev step : (c : ℕ) (victim : Option ℕ) (n : ℕ) → ScheduleItem
 step c victim n = record { act = Step c victim; times = n }
 
 -- a step's text has no sign that its numbers and its victim's sign have not
-step_lacks : (separator c : ℕ) (victim : Option ℕ) → is_digit separator ≡ false → lacks separator (62 ∷ []) ≡ true → FitsAct (Step c victim)
+pub step_lacks : (separator c : ℕ) (victim : Option ℕ) → is_digit separator ≡ false → lacks separator (62 ∷ []) ≡ true → FitsAct (Step c victim)
     → lacks separator (act_text (Step c victim)) ≡ true
 step_lacks separator c None h apart fits = both_lack separator (decimal c) [] (decimal_lacks separator c h fits.0) refl
 step_lacks separator c (Some v) h apart fits =

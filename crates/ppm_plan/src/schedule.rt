@@ -1,8 +1,10 @@
 //! Schedules.
-ghost use Rattle.std.specs.Prelude.{◌≡◌, ◌≤◌, IfOk, IfErr};
+ghost use Rattle.std.specs.Prelude.{◌≡◌, ◌≤◌, ◌<◌, IfOk, IfErr, IfSome, length};
 ghost use Rattle.std.specs.Int.{IsInRange};
+ghost use Rattle.std.specs.List.{All, slice_get};
 ghost use Rattle.ppm_plan.specs.Forms.{schedule_form};
-ghost use Rattle.ppm_plan.specs.Refusals.{IsAccepted, IsRefused, IsKeeper};
+ghost use Rattle.ppm_plan.specs.Refusals.{IsAccepted, IsRefused, IsKeeper, MayBeObeyed, HasItems};
+ghost use Rattle.ppm_plan.specs.Schedules.{IsItemAmong};
 
 use crate::judging::keeper_of;
 use crate::plan_error::PlanError;
@@ -11,47 +13,75 @@ use crate::schedule_item::ScheduleItem;
 use std::alloc::Global;
 use std::marker::Model;
 
-/// A schedule: which processor acts next. Some processor has no hard fault. It is seen as its items, in the order of the
-/// text; a step that is made many times is one item.
+/// A schedule: which processor acts next. Some processor has no hard fault. It is seen as the number of processors for which
+/// it is, and its items in the order of the text; a step that is made many times is one item. So it takes as much memory as
+/// its text, and whoever obeys it goes through the items by their places and never through the single acts.
 #[derive(Debug, Drop)]
 pub struct Schedule {
     items: Vec<ScheduleItem>,
+    processors: u32,
     keeper: u32,
 }
 
 impl Model for Schedule {
-    ghost use Rattle.std.specs.Prelude.{List};
-    ghost use Rattle.ppm_plan.specs.declared.schedule_item.ScheduleItem.{ScheduleItem};
+    ghost use Rattle.std.specs.Prelude.{◌<◌};
+    ghost use Rattle.std.specs.List.{All};
     ghost use Rattle.ppm_plan.specs.Forms.{schedule_form};
     ghost use Rattle.ppm_plan.specs.Refusals.{IsKeeper};
+    ghost use Rattle.ppm_plan.specs.Schedules.{Scheduled, IsItemAmong};
 
-    ghost Value = { List ScheduleItem };
+    ghost Value = { Scheduled };
 
-    ghost view = { λ s. s.items.items };
+    ghost view = { λ s. record { processors = s.processors; items = s.items.items } };
 
-    ghost invariant = { λ s. IsKeeper schedule_form s.items.items s.keeper };
+    ghost invariant = { λ s. IsKeeper schedule_form s.items.items s.keeper × (s.keeper < s.processors) × All (IsItemAmong s.processors) s.items.items };
 }
 
 impl Schedule {
-    fn with_keeper(items: Vec<ScheduleItem>, keeper: u32) -> Schedule
-        requires { IsKeeper schedule_form items.items keeper }
-        ensures { result ≡ items.items }
+    fn with_keeper(items: Vec<ScheduleItem>, processors: u32, keeper: u32) -> Schedule
+        requires kept { IsKeeper schedule_form items.items keeper }
+        requires below { keeper < processors }
+        requires among { All (IsItemAmong processors) items.items }
+        ensures items { result.items ≡ items.items }
+        ensures processors { result.processors ≡ processors }
     {
-        Schedule { items, keeper }
+        Schedule {
+            items,
+            processors,
+            keeper,
+        }
+    }
+
+    /// For how many processors it is.
+    pub fn processors(&self) -> u32
+        ensures { result ≡ self.now.processors }
+    {
+        self.processors
     }
 
     /// The least processor without a hard fault.
     pub fn keeper(&self) -> u32
-        ensures { IsKeeper schedule_form self.now result }
+        ensures keeper { IsKeeper schedule_form self.now.items result }
+        ensures below { result < self.now.processors }
     {
         self.keeper
     }
 
     /// The items, in the order of the text.
     pub fn items(&self) -> &[ScheduleItem]
-        ensures { result.now ≡ self.now }
+        ensures items { result.now ≡ self.now.items }
+        ensures among { All (IsItemAmong self.now.processors) result.now }
     {
         &self.items
+    }
+
+    /// The item at a place, from 0; `None` past the last. Its processors are below those of the schedule, and a step is made
+    /// from 1 to 268,435,456 times.
+    pub fn item(&self, index: usize) -> Option<ScheduleItem>
+        ensures value { result ≡ slice_get self.now.items index }
+        ensures among { IfSome result (IsItemAmong self.now.processors) }
+    {
+        self.items.get(index).copied()
     }
 }
 
@@ -60,10 +90,11 @@ impl Schedule {
 /// fault `c!s` or `c!h`. `Err` with the one reason why it is none.
 pub fn read_schedule(alloc: Global, text: &[u8], processors: u32) -> Result<Schedule, PlanError>
     requires { IsInRange 1 64 processors }
-    ensures schedule { IfOk result (IsAccepted schedule_form text.now processors) }
+    ensures schedule { IfOk result (λ schedule. IsAccepted schedule_form text.now processors schedule.items) }
+    ensures processors { IfOk result (λ schedule. schedule.processors ≡ processors) }
     ensures refused { IfErr result (IsRefused schedule_form text.now processors) }
 {
     let items: Vec<ScheduleItem> = read_items(alloc, text)?;
     let keeper = keeper_of(&items, processors)?;
-    Ok(Schedule::with_keeper(items, keeper))
+    Ok(Schedule::with_keeper(items, processors, keeper))
 }

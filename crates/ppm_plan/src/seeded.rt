@@ -64,9 +64,10 @@ fn draw(
 pub fn seeded_plan(alloc: Global, seed: u32, processors: u32, count: u32) -> Result<Plan, NoMemory>
     requires range { IsInRange 1 64 processors }
     requires most { count ≤ 4096 }
-    ensures { IfOk result (λ plan. plan ≡ items_drawn processors count (seeded seed)) }
+    ensures items { IfOk result (λ plan. plan.items ≡ items_drawn processors count (seeded seed)) }
+    ensures processors { IfOk result (λ plan. plan.processors ≡ processors) }
 {
     let words = Xoshiro256PlusPlus::seed_from_u64(u64::from(seed));
     let items = draw(alloc, words, processors, count)?;
-    Plan::with_keeper(alloc, items, 0)
+    Plan::with_keeper(alloc, items, processors, 0)
 }
