@@ -69,4 +69,4 @@ pub all_among : (text : List ℕ) (p : ℕ) (items : List ScheduleItem) → HasI
     → first_at (schedule_form.is_outside p) 1 items ≡ None → All (IsItemAmong p) items
 all_among text p items h k =
     All-from_recursion (IsItemAmong p) items (all_read schedule_form.reading (schedule_form.is_outside p) (IsItemAmong p)
-        (λ piece i e f. record { act = act_among p i.act f; times = done piece i (item_back piece i e) }) (pieces_of text) items 1 h k)
+    (λ piece i e f. record { act = act_among p i.act f; times = done piece i (item_back piece i e) }) (pieces_of text) items 1 h k)

@@ -74,9 +74,10 @@ item_back piece i = go (halves_of 64 piece) refl
     named front behind None e whole h = absurd (none-some i h)
     named front behind (Some c) e whole h =
         let k = timed_back c behind i h in
-        let n = number_back front c e in
-        (record { processor = subst (λ d. d < 2 ^ 32) (sym k.0) n.0; turn = k.1 },
-            whole ∙ ap (λ l. l ++ 64 ∷ behind) (n.1 ∙ ap decimal (sym k.0)) ∙ ap (λ l. decimal i.processor ++ 64 ∷ l) k.2 ∙ sym (grouped i))
+        let n = number_back front c e in (
+          record { processor = subst (λ d. d < 2 ^ 32) (sym k.0) n.0; turn = k.1 },
+          whole ∙ ap (λ l. l ++ 64 ∷ behind) (n.1 ∙ ap decimal (sym k.0)) ∙ ap (λ l. decimal i.processor ++ 64 ∷ l) k.2 ∙ sym (grouped i),
+        )
 
     go : (o : Option (List ℕ × List ℕ)) → halves_of 64 piece ≡ o → timed_halves o ≡ Some i → FitsPlanItem i × (piece ≡ plan_item_text i)
     go None e h = absurd (none-some i h)

@@ -60,7 +60,7 @@ item_read piece i (Times c victim n fits low high) =
     let small : n < 2 ^ 32 = omega (arith, high) in
     let whole = act_text (Step c victim) ++ 42 ∷ decimal n in
     ap (failing_or_steps whole) (no_halves 33 whole (both_lack 33 (act_text (Step c victim)) (42 ∷ decimal n) (step_lacks 33 c victim refl refl fits)
-        (both_lack 33 (42 ∷ []) (decimal n) refl (decimal_lacks 33 n refl small))))
+    (both_lack 33 (42 ∷ []) (decimal n) refl (decimal_lacks 33 n refl small))))
     ∙ ap (repeated whole) (halves_at 42 (act_text (Step c victim)) (decimal n) (step_lacks 42 c victim refl refl fits))
     ∙ ap (λ o. steps_times (act_text (Step c victim)) (times_in_range o)) (number_read n small)
     ∙ ap (steps_times (act_text (Step c victim))) (times_read n low high) ∙ steps_read c victim n fits

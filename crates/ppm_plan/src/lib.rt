@@ -26,7 +26,10 @@ mod victims;
 
 pub use fault::Fault;
 pub use judging::ITEM_LIMIT;
-pub use laws::{have_one_answer, plan_items_read_as_written, schedule_items_read_as_written, texts_read_as_written};
+pub use laws::{
+    have_one_answer, plan_items_read_as_written, schedule_items_read_as_written,
+    texts_read_as_written,
+};
 pub use plan::{Plan, read_plan};
 pub use plan_error::PlanError;
 pub use plan_item::PlanItem;

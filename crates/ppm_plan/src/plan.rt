@@ -41,7 +41,12 @@ impl Model for Plan {
 
 impl Plan {
     /// The plan of these items, whose keeper is known.
-    pub(crate) fn with_keeper(alloc: Global, items: Vec<PlanItem>, processors: u32, keeper: u32) -> Result<Plan, NoMemory>
+    pub(crate) fn with_keeper(
+        alloc: Global,
+        items: Vec<PlanItem>,
+        processors: u32,
+        keeper: u32,
+    ) -> Result<Plan, NoMemory>
         requires kept { IsKeeper plan_form items.items keeper }
         requires below { keeper < processors }
         ensures items { IfOk result (λ plan. plan.items ≡ items.items) }

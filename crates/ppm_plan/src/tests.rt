@@ -29,7 +29,7 @@ fn schedule_keeper(alloc: Global, text: &str, processors: u32) -> Answer
     }
 }
 
-const PLANS: [(&str, u32, Answer); 26] = [
+const PLANS: [(&str, u32, Answer); 32] = [
     ("none", 1, Ok(0)),
     ("0@0s", 1, Ok(0)),
     ("0@4294967295s", 1, Ok(0)),
@@ -56,6 +56,12 @@ const PLANS: [(&str, u32, Answer); 26] = [
     ("0@3h,1@3h", 3, Ok(2)),
     ("1@3h,0@5s", 2, Ok(0)),
     ("63@0s,0@1h,1@1h,3@1h", 64, Ok(2)),
+    ("63@0s,64@0s", 64, Err(PlanError::NoSuchProcessor(2))),
+    ("4294967295@0s", 64, Err(PlanError::NoSuchProcessor(1))),
+    ("4294967296@0s", 64, Err(PlanError::BadItem(1))),
+    ("0@3h", 1, Err(PlanError::AllKilled)),
+    ("0@0s,none", 1, Err(PlanError::BadItem(2))),
+    ("None", 1, Err(PlanError::BadItem(1))),
 ];
 
 #[test]
@@ -66,7 +72,7 @@ fn plans_are_read(rt: HostRuntime) -> Result<(), Fail> {
     Ok(())
 }
 
-const SCHEDULES: [(&str, u32, Answer); 30] = [
+const SCHEDULES: [(&str, u32, Answer); 37] = [
     ("none", 1, Ok(0)),
     ("0*40,1>0*60,0!s", 2, Ok(0)),
     ("0,1,2,1!h", 3, Ok(0)),
@@ -97,6 +103,13 @@ const SCHEDULES: [(&str, u32, Answer); 30] = [
     ("0,1>0", 1, Err(PlanError::NoSuchProcessor(2))),
     ("0,1!s", 1, Err(PlanError::NoSuchProcessor(2))),
     ("0>63,63>0", 64, Ok(0)),
+    ("0>64", 64, Err(PlanError::NoSuchProcessor(1))),
+    ("63,64", 64, Err(PlanError::NoSuchProcessor(2))),
+    ("0>0*268435456", 1, Ok(0)),
+    ("0>0*268435457", 1, Err(PlanError::BadItem(1))),
+    ("0>0*0", 1, Err(PlanError::BadItem(1))),
+    ("0*4294967296", 1, Err(PlanError::BadItem(1))),
+    ("0!h", 1, Err(PlanError::AllKilled)),
 ];
 
 #[test]
@@ -111,19 +124,53 @@ fn schedules_are_read(rt: HostRuntime) -> Result<(), Fail> {
     Ok(())
 }
 
+const ITEMS: [ScheduleItem; 5] = [
+    ScheduleItem {
+        act: ScheduledAct::Step {
+            processor: 0,
+            victim: None,
+        },
+        times: 268_435_456,
+    },
+    ScheduleItem {
+        act: ScheduledAct::Step {
+            processor: 1,
+            victim: Some(0),
+        },
+        times: 60,
+    },
+    ScheduleItem {
+        act: ScheduledAct::Step {
+            processor: 1,
+            victim: None,
+        },
+        times: 1,
+    },
+    ScheduleItem {
+        act: ScheduledAct::Fails {
+            processor: 0,
+            fault: Fault::Soft,
+        },
+        times: 1,
+    },
+    ScheduleItem {
+        act: ScheduledAct::Fails {
+            processor: 1,
+            fault: Fault::Hard,
+        },
+        times: 1,
+    },
+];
+
 #[test]
-fn a_schedule_keeps_its_runs(rt: HostRuntime) -> Result<(), Fail> {
-    match read_schedule(rt.alloc(), b"0*40,1>0*60,1!h", 2) {
+fn a_schedule_has_its_items_by_place(rt: HostRuntime) -> Result<(), Fail> {
+    match read_schedule(rt.alloc(), b"0*268435456,1>0*60,1,0!s,1!h", 2) {
         Ok(schedule) => {
-            let steps = ScheduleItem {
-                act: ScheduledAct::Step {
-                    processor: 1,
-                    victim: Some(0),
-                },
-                times: 60,
-            };
-            assert_eq!(rt; schedule.items().len(), 3);
-            assert_eq!(rt; schedule.items().get(1), Some(&steps));
+            assert_eq!(rt; schedule.processors(), 2);
+            assert!(rt; schedule.items() == &ITEMS[..]);
+            assert_eq!(rt; schedule.item(0), Some(ITEMS[0]));
+            assert_eq!(rt; schedule.item(4), Some(ITEMS[4]));
+            assert_eq!(rt; schedule.item(5), None);
         }
         Err(error) => assert!(rt; false, "{error}"),
     }
@@ -143,6 +190,7 @@ const TURNS: [(u32, u32, Option<Fault>); 6] = [
 fn hard_wins(rt: HostRuntime) -> Result<(), Fail> {
     match read_plan(rt.alloc(), b"1@3s,1@3h,0@3s,1@4h,1@4s", 2) {
         Ok(plan) => {
+            assert_eq!(rt; plan.processors(), 2);
             for (processor, turn, fault) in TURNS {
                 assert_eq!(rt; plan.at(processor, turn), fault, "{processor}@{turn}");
             }
@@ -152,25 +200,59 @@ fn hard_wins(rt: HostRuntime) -> Result<(), Fail> {
     Ok(())
 }
 
-/// So many soft faults of processor 0.
-fn many(alloc: Global, count: u32) -> Result<Vec<u8>, Fail> {
-    let mut text = Vec::from_slice(alloc, b"0@0s")?;
+/// So many times one item.
+fn many(alloc: Global, item: &[u8], count: u32) -> Result<Vec<u8>, Fail> {
+    let mut text = Vec::from_slice(alloc, item)?;
     for _ in 1..count {
-        text.extend_from_slice(b",0@0s")?;
+        text.extend_from_slice(b",")?;
+        text.extend_from_slice(item)?;
     }
     Ok(text)
 }
 
 #[test]
-fn items_are_4096_at_most(rt: HostRuntime) -> Result<(), Fail> {
-    let most = many(rt.alloc(), 4096)?;
-    let more = many(rt.alloc(), 4097)?;
+fn plans_have_4096_items_at_most(rt: HostRuntime) -> Result<(), Fail> {
+    let most = many(rt.alloc(), b"0@0s", 4096)?;
+    let more = many(rt.alloc(), b"0@0s", 4097)?;
     assert!(rt; read_plan(rt.alloc(), &most, 1).is_ok());
     match read_plan(rt.alloc(), &more, 1) {
         Ok(_) => assert!(rt; false),
         Err(error) => assert_eq!(rt; error, PlanError::TooManyFaults),
     }
     Ok(())
+}
+
+#[test]
+fn schedules_have_4096_items_at_most(rt: HostRuntime) -> Result<(), Fail> {
+    let most = many(rt.alloc(), b"0*268435456", 4096)?;
+    let more = many(rt.alloc(), b"0*268435456", 4097)?;
+    assert!(rt; read_schedule(rt.alloc(), &most, 1).is_ok());
+    match read_schedule(rt.alloc(), &more, 1) {
+        Ok(_) => assert!(rt; false),
+        Err(error) => assert_eq!(rt; error, PlanError::TooManyFaults),
+    }
+    Ok(())
+}
+
+const NUMBERS: [(PlanError, u32); 5] = [
+    (PlanError::BadItem(9), 1),
+    (PlanError::NoSuchProcessor(9), 2),
+    (PlanError::TooManyFaults, 3),
+    (PlanError::AllKilled, 4),
+    (PlanError::NoMemory, 0),
+];
+
+#[test]
+fn refusals_have_numbers(rt: HostRuntime) {
+    for (error, number) in NUMBERS {
+        assert_eq!(rt; error.number(), number);
+    }
+}
+
+#[test]
+fn hard_faults_are_hard(rt: HostRuntime) {
+    assert!(rt; Fault::Hard.is_hard());
+    assert!(rt; !Fault::Soft.is_hard());
 }
 
 // The next values are from the reference code of SplitMix64 and Xoshiro256++ by Blackman and Vigna, run by a script.
@@ -223,6 +305,10 @@ fn plans_are_drawn(rt: HostRuntime) -> Result<(), Fail> {
     let plan = seeded_plan(rt.alloc(), 1, 64, 4)?;
     assert!(rt; plan.items() == &DRAWN[..]);
     assert_eq!(rt; plan.keeper(), 0);
+    assert_eq!(rt; plan.processors(), 64);
+    assert_eq!(rt; plan.at(27, 57485), Some(Fault::Hard));
+    assert_eq!(rt; plan.at(22, 28580), Some(Fault::Soft));
+    assert_eq!(rt; plan.at(22, 57485), None);
     Ok(())
 }
 
@@ -236,7 +322,20 @@ fn a_source_is_made(rt: HostRuntime) -> Result<(), Fail> {
     Ok(())
 }
 
+const LEAST_SOURCE: &str =
+    "array a[1];\ninput a = 295;\nproc sum(mut a) { if len a > 1 { split a at len a / 2 into l, r { fork sum(l) and sum(r); l[0] = l[0] + r[0]; } } }\nproc main(mut a) { call sum(a); }";
+
+#[test]
+fn a_source_may_have_one_value(rt: HostRuntime) -> Result<(), Fail> {
+    let text = make_source(rt.alloc(), 1, 4294967295)?;
+    assert!(rt; text.as_slice() == LEAST_SOURCE.as_bytes());
+    Ok(())
+}
+
 #[test]
 fn laws_are_called(_rt: HostRuntime) {
     have_one_answer();
+    plan_items_read_as_written();
+    schedule_items_read_as_written();
+    texts_read_as_written();
 }

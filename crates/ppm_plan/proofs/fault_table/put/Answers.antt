@@ -11,5 +11,5 @@ returns c processor turn =
     let told = c.graver.ensures ∙ ap (λ met. graver met c.args.item.fault) c.look_up-met.ensures in
     item_put (get by_turn c.insert.new.self) (get by_turn c.args.table.now) c.args.item
     (λ k. c.in_ok-insert.ensures.updates.0 k
-        ∙ ap (λ f. cond (is_eq (by_turn (c.args.item.processor, c.args.item.turn) k)) (Some f) (get by_turn c.args.table.now k)) told)
+    ∙ ap (λ f. cond (is_eq (by_turn (c.args.item.processor, c.args.item.turn) k)) (Some f) (get by_turn c.args.table.now k)) told)
     processor turn
