@@ -1,5 +1,5 @@
 -- Items of an accepted schedule name processors that are there, and say how often an act may be done.
-use Rattle.std.proofs.Common.{◌≡◌, ◌∙◌, ℕ, ◌+◌, ◌<◌, ◌≤◌, nat_lt, Bool, true, false, ◌||◌, not, cond, List, [], ◌∷◌, map, length, Option, Some, None, refl, ap, sym, subst, arith, ltb-true}
+use Rattle.std.proofs.Common.{◌≡◌, ℕ, ◌+◌, ◌<◌, nat_lt, Bool, true, false, ◌||◌, not, cond, List, [], ◌∷◌, map, length, Option, Some, None, refl, ap, sym, arith, ltb-true}
 use Rattle.std.proofs.lemmas.Bool.{both_ways}
 use Rattle.std.proofs.lemmas.Option.{none-some}
 use Rattle.std.proofs.lemmas.List.Elements.{All-from_recursion}
@@ -8,11 +8,10 @@ use Rattle.ppm_plan.specs.declared.schedule_item.ScheduledAct.{ScheduledAct}
 use Rattle.ppm_plan.specs.declared.schedule_item.ScheduledAct.TheVariants.{Step, Fails}
 use Rattle.ppm_plan.specs.declared.schedule_item.ScheduleItem.{ScheduleItem}
 use Rattle.ppm_plan.specs.Pieces.{pieces_of}
-use Rattle.ppm_plan.specs.Items.{most_times, WritesScheduleItem, Once, Times}
-use Rattle.ppm_plan.specs.Forms.{Form, schedule_form, victim_outside, act_outside}
+use Rattle.ppm_plan.specs.Items.{WritesScheduleItem, Once, Times}
+use Rattle.ppm_plan.specs.Forms.{schedule_form, victim_outside, act_outside}
 use Rattle.ppm_plan.specs.Refusals.{first_at, HasItems}
-use Rattle.ppm_plan.specs.Schedules.{IsVictimAmong, IsActAmong, MayBeDone, IsItemAmong}
-use Rattle.ppm_plan.proofs.SpellingLemmas.{same_there}
+use Rattle.ppm_plan.specs.Schedules.{IsActAmong, MayBeDone, IsItemAmong}
 use Rattle.ppm_plan.proofs.ScheduleItemLemmas.{item_back}
 
 -- the first of a list, or else another

@@ -9,5 +9,6 @@ mod SpellingLemmas
 mod PlanItemLemmas
 mod ScheduleItemLemmas
 mod AmongLemmas
+mod ActLemmas
 mod TextLemmas
 mod SaidLemmas

@@ -1,11 +1,11 @@
 -- The texts of plans and of schedules are read as they are written.
-use Rattle.std.proofs.Common.{◌≡◌, ◌∙◌, ℕ, ◌^◌, ◌<◌, Bool, true, false, List, [], ◌∷◌, ◌++◌, decimal, refl, ap, arith}
+use Rattle.std.proofs.Common.{◌≡◌, ◌∙◌, ℕ, true, List, [], ◌∷◌, ◌++◌, decimal, refl, ap, arith}
 use Rattle.ppm_plan.specs.declared.fault.Fault.{Fault}
 use Rattle.ppm_plan.specs.declared.fault.Fault.TheVariants.{Soft, Hard}
 use Rattle.ppm_plan.specs.declared.plan_item.PlanItem.{PlanItem}
 use Rattle.ppm_plan.specs.declared.schedule_item.ScheduledAct.TheVariants.{Step, Fails}
 use Rattle.ppm_plan.specs.declared.schedule_item.ScheduleItem.{ScheduleItem}
-use Rattle.ppm_plan.specs.Items.{letter_of, act_text, most_times, WritesScheduleItem, Once, Times}
+use Rattle.ppm_plan.specs.Items.{letter_of, act_text, WritesScheduleItem, Once, Times}
 use Rattle.ppm_plan.specs.Forms.{plan_form, schedule_form}
 use Rattle.ppm_plan.specs.Spellings.{WritesPlanItem}
 use Rattle.ppm_plan.proofs.SpellingLemmas.{lacks, decimal_lacks, both_lack}

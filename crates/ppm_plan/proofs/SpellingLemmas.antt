@@ -1,5 +1,5 @@
 -- Numbers and halves, as they are written and read.
-use Rattle.std.proofs.Common.{◌≡◌, ◌∙◌, ℕ, ◌+◌, ◌^◌, ◌<◌, ◌≤◌, ◌==◌, nat_le, nat_lt, Bool, true, false, ◌&&◌, not, cond}
+use Rattle.std.proofs.Common.{◌≡◌, ◌∙◌, ℕ, ◌^◌, ◌<◌, ◌==◌, nat_lt, Bool, true, false, not, cond}
 use Rattle.std.proofs.Common.{List, [], ◌∷◌, ◌++◌, Option, Some, None, decimal, refl, ap, sym, arith, lt-ltb, ltb-true, eq-eqb, eqb-true, ne_eqb}
 use Rattle.std.proofs.lemmas.Bool.{both_ways}
 use Rattle.std.proofs.lemmas.Option.{none-some}
@@ -8,7 +8,7 @@ use Rattle.std.specs.Cmp.Derive.{both_true}
 use Rattle.std.specs.List.{list_all}
 use Rattle.ppm_plan.specs.Pieces.{halves_of, more_in_front}
 use Rattle.ppm_plan.specs.Numbers.{is_digit, is_numeral, value, number_of}
-use Rattle.ppm_plan.proofs.NumberLemmas.{both_parts, decimal-value, numeral-decimal, value-decimal, digit_bounds, numeral_parts}
+use Rattle.ppm_plan.proofs.NumberLemmas.{both_parts, decimal-value, numeral-decimal, value-decimal, numeral_parts}
 
 -- nothing is not something
 pub absent : {A : Type 0} (o : Option A) (a : A) → o ≡ None → o ≡ Some a → ⊥

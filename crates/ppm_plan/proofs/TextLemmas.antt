@@ -1,18 +1,14 @@
 -- Texts are read as they are written, whatever the items are.
 use Rattle.std.proofs.Common.{◌≡◌, ◌∙◌, ◌↔◌, ℕ, ◌≤◌, ◌==◌, Bool, true, false, not, cond, List, [], ◌∷◌, ◌++◌, map, length, Option, Some, None, codes}
-use Rattle.std.proofs.Common.{refl, ap, sym, subst, arith, eqb-true, eq-eqb}
+use Rattle.std.proofs.Common.{refl, ap, sym, subst, arith, eqb-true}
 use Rattle.std.proofs.lemmas.Bool.{both_ways}
 use Rattle.std.proofs.lemmas.Option.{none-some}
 use Rattle.std.proofs.lemmas.Slice.Eq.{bytes_eq-Decides}
 use Rattle.std.specs.Str.{bytes_eq}
-use Rattle.ppm_plan.specs.declared.plan_item.PlanItem.{PlanItem}
-use Rattle.ppm_plan.specs.declared.schedule_item.ScheduledAct.TheVariants.{Step, Fails}
-use Rattle.ppm_plan.specs.declared.schedule_item.ScheduleItem.{ScheduleItem}
-use Rattle.ppm_plan.specs.Pieces.{in_front, split, pieces_of}
-use Rattle.ppm_plan.specs.Items.{letter_of, act_text, most_times, WritesScheduleItem, Once, Times}
-use Rattle.ppm_plan.specs.Forms.{Form, plan_form, schedule_form}
+use Rattle.ppm_plan.specs.Pieces.{in_front, split}
+use Rattle.ppm_plan.specs.Forms.{Form}
 use Rattle.ppm_plan.specs.Refusals.{HasItems}
-use Rattle.ppm_plan.specs.Spellings.{WritesPlanItem, WritesInTurn, Last, More, WritesAll}
+use Rattle.ppm_plan.specs.Spellings.{WritesInTurn, Last, More, WritesAll}
 use Rattle.ppm_plan.proofs.NumberLemmas.{both_parts}
 use Rattle.ppm_plan.proofs.SpellingLemmas.{lacks}
 

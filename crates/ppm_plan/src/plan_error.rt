@@ -27,7 +27,8 @@ pub enum PlanError {
 }
 
 impl PlanError {
-    /// The number of the fault: 1 `BadItem`, 2 `NoSuchProcessor`, 3 `TooManyFaults`, 4 `AllKilled`; 0 where memory was refused.
+    /// The number of the fault: 1 `BadItem`, 2 `NoSuchProcessor`, 3 `TooManyFaults`, 4 `AllKilled`; 0 where memory was
+    /// refused.
     pub fn number(self) -> u32
         ensures { result ≡ number_of self }
     {

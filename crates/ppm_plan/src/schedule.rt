@@ -1,9 +1,10 @@
 //! Schedules.
-ghost use Rattle.std.specs.Prelude.{◌≡◌, ◌≤◌, ◌<◌, IfOk, IfErr, IfSome, length};
+ghost use Rattle.std.specs.Prelude.{◌≡◌, ◌≤◌, ◌<◌, ◌^◌, IfOk, IfErr, IfSome, length};
 ghost use Rattle.std.specs.Int.{IsInRange};
 ghost use Rattle.std.specs.List.{All, slice_get};
+ghost use Rattle.ppm_plan.specs.Faults.{acts_of};
 ghost use Rattle.ppm_plan.specs.Forms.{schedule_form};
-ghost use Rattle.ppm_plan.specs.Refusals.{IsAccepted, IsRefused, IsKeeper, MayBeObeyed, HasItems};
+ghost use Rattle.ppm_plan.specs.Refusals.{IsAccepted, IsRefused, IsKeeper, item_limit};
 ghost use Rattle.ppm_plan.specs.Schedules.{IsItemAmong};
 
 use crate::judging::keeper_of;
@@ -13,9 +14,9 @@ use crate::schedule_item::ScheduleItem;
 use std::alloc::Global;
 use std::marker::Model;
 
-/// A schedule: which processor acts next. Some processor has no hard fault. It is seen as the number of processors for which
-/// it is, and its items in the order of the text; a step that is made many times is one item. So it takes as much memory as
-/// its text, and whoever obeys it goes through the items by their places and never through the single acts.
+/// A schedule: which processor acts next. Some processor has no hard fault. It is seen as the number of processors for
+/// which it is, and its items in the order of the text; a step that is made many times is one item. So it takes as much
+/// memory as its text, and whoever obeys it goes through the items by their places.
 #[derive(Debug, Drop)]
 pub struct Schedule {
     items: Vec<ScheduleItem>,
@@ -24,23 +25,47 @@ pub struct Schedule {
 }
 
 impl Model for Schedule {
-    ghost use Rattle.std.specs.Prelude.{◌<◌};
+    ghost use Rattle.std.specs.Prelude.{◌<◌, ◌≤◌, length};
     ghost use Rattle.std.specs.List.{All};
     ghost use Rattle.ppm_plan.specs.Forms.{schedule_form};
-    ghost use Rattle.ppm_plan.specs.Refusals.{IsKeeper};
+    ghost use Rattle.ppm_plan.specs.Refusals.{IsKeeper, item_limit};
     ghost use Rattle.ppm_plan.specs.Schedules.{Scheduled, IsItemAmong};
 
     ghost Value = { Scheduled };
 
     ghost view = { λ s. record { processors = s.processors; items = s.items.items } };
 
-    ghost invariant = { λ s. IsKeeper schedule_form s.items.items s.keeper × (s.keeper < s.processors) × All (IsItemAmong s.processors) s.items.items };
+    ghost invariant = { λ s. IsKeeper schedule_form s.items.items s.keeper × (s.keeper < s.processors) × (length s.items.items ≤ item_limit)
+        × All (IsItemAmong s.processors) s.items.items };
+}
+
+/// How often an item is done.
+fn times_of(item: ScheduleItem) -> u64
+    ensures value { result ≡ item.times }
+    ensures bound { result < 2 ^ 32 }
+{
+    u64::from(item.times)
+}
+
+/// How many acts some items stand for.
+fn acts_in(items: &[ScheduleItem]) -> u64
+    requires { length items.now ≤ item_limit }
+    ensures { result ≡ length (acts_of items.now) }
+{
+    let mut count: u64 = 0;
+    let mut left = items;
+    while let [item, rest @ ..] = left {
+        count += times_of(*item);
+        left = rest;
+    }
+    count
 }
 
 impl Schedule {
     fn with_keeper(items: Vec<ScheduleItem>, processors: u32, keeper: u32) -> Schedule
         requires kept { IsKeeper schedule_form items.items keeper }
         requires below { keeper < processors }
+        requires few { length items.items ≤ item_limit }
         requires among { All (IsItemAmong processors) items.items }
         ensures items { result.items ≡ items.items }
         ensures processors { result.processors ≡ processors }
@@ -75,19 +100,26 @@ impl Schedule {
         &self.items
     }
 
-    /// The item at a place, from 0; `None` past the last. Its processors are below those of the schedule, and a step is made
-    /// from 1 to 268,435,456 times.
+    /// The item at a place, from 0; `None` past the last. It names processors below those of the schedule. A step is
+    /// made from 1 to 268,435,456 times, a fault happens once.
     pub fn item(&self, index: usize) -> Option<ScheduleItem>
         ensures value { result ≡ slice_get self.now.items index }
         ensures among { IfSome result (IsItemAmong self.now.processors) }
     {
         self.items.get(index).copied()
     }
+
+    /// How many acts all items stand for, at most 2^40.
+    pub fn act_count(&self) -> u64
+        ensures { result ≡ length (acts_of self.now.items) }
+    {
+        acts_in(&self.items)
+    }
 }
 
-/// The schedule that a text says for `processors` processors, from 1 to 64: `none`, or items with commas between them. An
-/// item is a step `c` or `c>v` (of processor c, with victim v), perhaps with `*n` behind it (n from 1 to 268,435,456), or a
-/// fault `c!s` or `c!h`. `Err` with the one reason why it is none.
+/// The schedule that a text says for `processors` processors, from 1 to 64: `none`, or items with commas between them.
+/// An item is a step `c` or `c>v` (of processor c, with victim v), perhaps with `*n` behind it (n from 1 to
+/// 268,435,456), or a fault `c!s` or `c!h`. `Err` with the one reason why it is none.
 pub fn read_schedule(alloc: Global, text: &[u8], processors: u32) -> Result<Schedule, PlanError>
     requires { IsInRange 1 64 processors }
     ensures schedule { IfOk result (λ schedule. IsAccepted schedule_form text.now processors schedule.items) }

@@ -1,4 +1,5 @@
 //! Tables of plans, schedules and draws.
+ghost use Rattle.std.specs.Prelude.{◌↔◌, IsTrue};
 ghost use Rattle.std.specs.Int.{IsInRange};
 
 use super::*;
@@ -11,18 +12,28 @@ use std::test::Fail;
 /// What a reader answers to a text: the keeper, or the error.
 type Answer = Result<u32, PlanError>;
 
-fn plan_keeper(alloc: Global, text: &str, processors: u32) -> Answer
-    requires { IsInRange 1 64 processors }
+/// Whether there may be so many processors.
+fn is_count(processors: u32) -> bool
+    ensures { IsTrue result ↔ IsInRange 1 64 processors }
 {
+    1 <= processors && processors <= 64
+}
+
+/// For 1 to 64 processors; `NoMemory`, which no row of a table has, for another number.
+fn plan_keeper(alloc: Global, text: &str, processors: u32) -> Answer {
+    if !is_count(processors) {
+        return Err(PlanError::NoMemory);
+    }
     match read_plan(alloc, text.as_bytes(), processors) {
         Ok(plan) => Ok(plan.keeper()),
         Err(error) => Err(error),
     }
 }
 
-fn schedule_keeper(alloc: Global, text: &str, processors: u32) -> Answer
-    requires { IsInRange 1 64 processors }
-{
+fn schedule_keeper(alloc: Global, text: &str, processors: u32) -> Answer {
+    if !is_count(processors) {
+        return Err(PlanError::NoMemory);
+    }
     match read_schedule(alloc, text.as_bytes(), processors) {
         Ok(schedule) => Ok(schedule.keeper()),
         Err(error) => Err(error),
@@ -171,6 +182,7 @@ fn a_schedule_has_its_items_by_place(rt: HostRuntime) -> Result<(), Fail> {
             assert_eq!(rt; schedule.item(0), Some(ITEMS[0]));
             assert_eq!(rt; schedule.item(4), Some(ITEMS[4]));
             assert_eq!(rt; schedule.item(5), None);
+            assert_eq!(rt; schedule.act_count(), 268_435_519);
         }
         Err(error) => assert!(rt; false, "{error}"),
     }
@@ -226,7 +238,10 @@ fn plans_have_4096_items_at_most(rt: HostRuntime) -> Result<(), Fail> {
 fn schedules_have_4096_items_at_most(rt: HostRuntime) -> Result<(), Fail> {
     let most = many(rt.alloc(), b"0*268435456", 4096)?;
     let more = many(rt.alloc(), b"0*268435456", 4097)?;
-    assert!(rt; read_schedule(rt.alloc(), &most, 1).is_ok());
+    match read_schedule(rt.alloc(), &most, 1) {
+        Ok(schedule) => assert_eq!(rt; schedule.act_count(), 1_099_511_627_776),
+        Err(error) => assert!(rt; false, "{error}"),
+    }
     match read_schedule(rt.alloc(), &more, 1) {
         Ok(_) => assert!(rt; false),
         Err(error) => assert_eq!(rt; error, PlanError::TooManyFaults),
