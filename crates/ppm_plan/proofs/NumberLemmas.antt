@@ -103,10 +103,3 @@ numeral-decimal (suc n) h = numeral_from (decimal (suc n)) (digits_decimal own (
 
 pub value-decimal : (n : ℕ) → n < 2 ^ 64 → value (decimal n) ≡ n
 value-decimal n h = omega (arith, digits_value-decimal own n h)
-
--- the first digit is one
-pub first_digit : (d : ℕ) (ds : List ℕ) → is_numeral (d ∷ ds) ≡ true → is_digit d ≡ true
-first_digit d ds h = (both_parts (is_digit d) (list_all is_digit ds) (numeral_parts (d ∷ ds) h).0).0
-
-pub digit_bounds : (d : ℕ) → is_digit d ≡ true → (48 ≤ d) × (d ≤ 57)
-digit_bounds d h = range_of_digit d h

@@ -10,10 +10,6 @@ use Rattle.ppm_plan.specs.Pieces.{halves_of, more_in_front}
 use Rattle.ppm_plan.specs.Numbers.{is_digit, is_numeral, value, number_of}
 use Rattle.ppm_plan.proofs.NumberLemmas.{both_parts, decimal-value, numeral-decimal, value-decimal, numeral_parts}
 
--- nothing is not something
-pub absent : {A : Type 0} (o : Option A) (a : A) → o ≡ None → o ≡ Some a → ⊥
-absent o a e f = none-some a (sym e ∙ f)
-
 -- what is there, or else something
 pub there_or : {A : Type 0} → A → Option A → A
 there_or a None = a
