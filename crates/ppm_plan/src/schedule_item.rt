@@ -15,7 +15,8 @@ pub const MOST_TIMES: u32 = 268_435_456;
 /// What one processor does. Processors count from 0.
 #[derive(Clone, Copy, Debug, PartialEq, Eq)]
 pub enum ScheduledAct {
-    /// It makes a step. If the step looks for work, it looks at this victim; at the next one in turn where none is stated.
+    /// It makes a step. If the step looks for work, it looks at this victim; where none is stated, at the one whose turn
+    /// it is.
     Step { processor: u32, victim: Option<u32> },
     /// A fault befalls it.
     Fails { processor: u32, fault: Fault },
