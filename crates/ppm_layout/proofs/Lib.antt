@@ -1,0 +1,5 @@
+pub mod InputLemmas
+pub mod OneLemmas
+pub mod RootLemmas
+pub mod RowLemmas
+pub mod ValueLemmas
