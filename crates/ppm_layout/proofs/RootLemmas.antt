@@ -113,7 +113,8 @@ module _ (code : CodeParts) (input : List NamedArray) (s : Shape) (keeper : ℕ)
   link : link_of (read s image.words (BlockWord (pool_at s keeper))) ≡ Some (root_link (frame_size code code.root))
   link =
       let most : 31 < 2 ^ 28 = lit< tt in
-      ap link_of (pool_word 0 (omega (arith, s.within.room_least)))
+      let first : pool_at s keeper ≡ pool_at s keeper + 0 = omega arith in
+      ap (λ n. link_of (read s image.words (BlockWord n))) first ∙ ap link_of (pool_word 0 (omega (arith, s.within.room_least)))
       ∙ unpack-pack link_word IsLink link_of links_exact (root_link (frame_size code code.root))
       ((lit< tt, (lit< tt, tt)), omega (arith, slots_few, most))
 

@@ -19,7 +19,7 @@ length_processors : (processors : ℕ) → length (processor_words processors) �
 length_processors processors =
     let both = length-append (carries processors) (replicate processors 0) in
     let left = length-range_with_len 0 processors in
-    let right = length-replicate processors 0 in
+    let right = length-replicate {A = ℕ} processors 0 in
     omega (arith, both, left, right)
 
 carry_read : (processors processor : ℕ) → processor < processors → get_or (processor_words processors) (1 + processor) 0 ≡ processor
@@ -147,7 +147,7 @@ module _ (s : Shape) (keeper size : ℕ) (frame : List ℕ) where
     read_all FinishWord h = in_front 0 (omega arith)
     read_all (CarryWord processor) h = in_front (1 + processor) (omega (arith, h)) ∙ carry_read s.processors processor h
     read_all (DeadWord processor) h = in_front (1 + s.processors + processor) (omega (arith, h)) ∙ dead_read s.processors processor h
-    read_all (RestartWord place) h = in_place place 0 (place_at s place) h (omega arith) refl
+    read_all (RestartWord place) h = in_place place 0 (place_at s place) h (omega arith) (omega arith)
     read_all (MessageWord place) h = in_place place 1 (place_at s place + 1) h (omega arith) refl
     read_all (HolderWord place) h = in_place place 2 (place_at s place + 2) h (omega arith) refl
     read_all (Top place) h = in_place place 3 (place_at s place + 3) h (omega arith) refl

@@ -3,7 +3,9 @@ ghost use Rattle.std.specs.Prelude.{◌≡◌, ◌++◌, ◌<◌, ◌≤◌, IfO
 ghost use Rattle.std.specs.List.{All};
 ghost use Rattle.ppm_words.specs.Inputs.{value_count, IsInput};
 ghost use Rattle.ppm_words.specs.TwosComplement.{word_of};
-ghost use Rattle.ppm_layout.specs.Opening.{array_words};
+ghost use Rattle.ppm_code.specs.Sizes.{frame_size};
+ghost use Rattle.ppm_layout.specs.Opening.{array_words, root_frame};
+ghost use Rattle.ppm_layout.specs.Rows.{all_words};
 ghost use Rattle.ppm_layout.specs.Image.{IsImageOf};
 
 use crate::images::Image;
@@ -47,8 +49,35 @@ fn lengths_of(alloc: Global, arrays: &[NamedArray]) -> Result<Vec<u32>, NoMemory
     Ok(lengths)
 }
 
-/// The image of a code and its input on a machine of this shape: the place of the keeper begins with the root's frame,
-/// and all others look for work.
+/// All words: those in front of the places, the places and the arrays.
+fn words_of(
+    alloc: Global,
+    code: &Code,
+    arrays: &[NamedArray],
+    shape: Shape,
+    keeper: u32,
+) -> Result<Vec<u64>, NoMemory>
+    requires keeper { keeper < shape.processors }
+    requires named { All (λ number. number < length arrays.now) code.now.arrays }
+    requires input { IsInput arrays.now }
+    ensures { IfOk result (λ words. words.items
+        ≡ all_words shape keeper (frame_size code.now code.now.root) (root_frame code.now arrays.now) (array_words arrays.now)) }
+{
+    let root = root_of(alloc, code, arrays)?;
+    let start = Start {
+        shape,
+        keeper,
+        root,
+    };
+    let mut words = Vec::with_capacity(alloc, shape.word_count() as usize)?;
+    push_processors(&mut words, shape.processors)?;
+    start.push_places(&mut words)?;
+    push_arrays(&mut words, arrays)?;
+    Ok(words)
+}
+
+/// The image of a code and its input on a machine of this shape. The place of the keeper, a processor of the shape, is to
+/// run the root's frame, and all others look for work. `Err` only where memory is refused.
 pub fn image(
     alloc: Global,
     code: &Code,
@@ -62,16 +91,7 @@ pub fn image(
     ensures image { IfOk result (IsImageOf code.now input.now shape keeper) }
 {
     let arrays = input.arrays();
-    let root = root_of(alloc, code, arrays)?;
-    let start = Start {
-        shape,
-        keeper,
-        root,
-    };
-    let mut words = Vec::with_capacity(alloc, shape.word_count() as usize)?;
-    push_processors(&mut words, shape.processors)?;
-    start.push_places(&mut words)?;
-    push_arrays(&mut words, arrays)?;
+    let words = words_of(alloc, code, arrays, shape, keeper)?;
     let lengths = lengths_of(alloc, arrays)?;
     Ok(Image {
         shape,

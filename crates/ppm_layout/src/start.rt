@@ -1,5 +1,5 @@
 //! Where a run begins: the places, and the root's frame in the pool of one of them.
-ghost use Rattle.std.specs.Prelude.{◌≡◌, ◌++◌, ◌<◌, ◌≤◌, OnOk, map};
+ghost use Rattle.std.specs.Prelude.{◌≡◌, ◌+◌, ◌++◌, ◌<◌, ◌≤◌, OnOk};
 ghost use Rattle.ppm_cells.specs.Cells.{arrays_at};
 ghost use Rattle.ppm_layout.specs.Opening.{first_restart, first_block, first_room};
 ghost use Rattle.ppm_layout.specs.Rows.{place_head, block_words, place_words, places};

@@ -1,0 +1,40 @@
+use Rattle.std.proofs.Common.{◌≡◌, ℕ, List, length, map, refl, subst, ◌∙◌}
+use Rattle.ppm_words.specs.declared.named_array.NamedArray.{NamedArray}
+use Rattle.ppm_code.specs.Sizes.{frame_size}
+use Rattle.ppm_layout.specs.Opening.{array_words, root_frame}
+use Rattle.ppm_layout.specs.Rows.{all_words}
+use Rattle.ppm_layout.proofs.ImageLemmas.{sized, opened}
+use Rattle.ppm_layout.proofs.opening.image.Goals as goal
+
+-- as many words as the shape has
+pub invariant_of-result : goal.invariant_of-result
+invariant_of-result c =
+    let code = c.args.code.now in
+    let s = c.args.shape in
+    let keeper = c.args.keeper in
+    let IsRow : List NamedArray → Type 0
+    = λ xs. c.in_ok-words.words.items ≡ all_words s keeper (frame_size code code.root) (root_frame code xs) (array_words xs) in
+    let AreLengths : List NamedArray → Type 0 = λ xs. c.in_ok-lengths.lengths.items ≡ map (λ (a : NamedArray). length a.values) xs in
+    let words = c.from_vec-2.ensures ∙ subst IsRow c.arrays-arrays.ensures.value c.in_ok-words.ensures in
+    let lengths = c.from_vec.ensures ∙ subst AreLengths c.arrays-arrays.ensures.value c.in_ok-lengths.ensures in
+    record { sized = sized code c.args.input.now s keeper c.from_vec.result c.from_vec-2.result c.requires.keeper c.requires.arrays lengths words }
+
+-- each in its cell
+pub returns : goal.returns
+returns c =
+    let code = c.args.code.now in
+    let s = c.args.shape in
+    let keeper = c.args.keeper in
+    let IsRow : List NamedArray → Type 0
+    = λ xs. c.in_ok-words.words.items ≡ all_words s keeper (frame_size code code.root) (root_frame code xs) (array_words xs) in
+    let AreLengths : List NamedArray → Type 0 = λ xs. c.in_ok-lengths.lengths.items ≡ map (λ (a : NamedArray). length a.values) xs in
+    let words = c.from_vec-2.ensures ∙ subst IsRow c.arrays-arrays.ensures.value c.in_ok-words.ensures in
+    let lengths = c.from_vec.ensures ∙ subst AreLengths c.arrays-arrays.ensures.value c.in_ok-lengths.ensures in
+    record {
+      image = record {
+        shape_is = refl;
+        keeper_is = refl;
+        lengths_are = lengths;
+        opened = opened code c.args.input.now s keeper c.from_vec-2.result words;
+      };
+    }
