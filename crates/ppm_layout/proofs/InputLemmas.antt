@@ -7,7 +7,6 @@ use Rattle.std.proofs.lemmas.List.{take_all}
 use Rattle.std.proofs.lemmas.Option.{slice_get-get_or}
 use Rattle.ppm_words.specs.declared.named_array.NamedArray.{NamedArray}
 use Rattle.ppm_words.specs.Inputs.{value_count}
-use Rattle.ppm_cells.specs.declared.region.Region.{Region}
 use Rattle.ppm_layout.specs.Opening.{values_in, whole_array}
 
 counted : (input : List NamedArray) → value_count input ≡ sum_by (λ (a : NamedArray). length a.values) input

@@ -7,7 +7,6 @@ use Rattle.ppm_cells.specs.declared.cell.Cell.{Cell}
 use Rattle.ppm_cells.specs.Cells.{word_count, address, IsCell}
 use Rattle.ppm_cells.proofs.CellLemmas.{all}
 use Rattle.ppm_code.specs.declared.code.CodeParts.{CodeParts}
-use Rattle.ppm_layout.specs.Opening.{opening}
 use Rattle.ppm_layout.specs.Image.{IsImageOf}
 use Rattle.ppm_layout.specs.declared.images.Image.{Image}
 

@@ -1,5 +1,5 @@
 -- The keeper's pool begins with the root's frame.
-use Rattle.std.proofs.Common.{◌≡◌, ℕ, ◌+◌, ◌-◌, ◌^◌, ◌<◌, ◌≤◌, List, [], ◌∷◌, ◌++◌, length, map, get_or, Some, true, false, cond, eqb, leb, ltb, refl, sym, ap, ◌∙◌, arith, lit<, inl, inr}
+use Rattle.std.proofs.Common.{◌≡◌, ℕ, ◌+◌, ◌-◌, ◌^◌, ◌<◌, ◌≤◌, List, [], ◌∷◌, length, map, get_or, Some, eqb, leb, ltb, refl, sym, ap, ◌∙◌, arith, lit<, inl, inr}
 use Rattle.std.specs.List.{All}
 use Rattle.std.specs.Prelude.{slice_get}
 use Rattle.std.proofs.lemmas.Bool.{eq-eqb, le-leb, lt-ltb, le-ltb, cases_lt, cond-true, cond-false}
@@ -24,10 +24,9 @@ use Rattle.ppm_cells.proofs.RegionLemmas.{regions_exact}
 use Rattle.ppm_code.specs.declared.code.CodeParts.{CodeParts}
 use Rattle.ppm_code.specs.declared.location.FrameWord.{FrameWord}
 use Rattle.ppm_code.specs.declared.location.FrameWord.TheVariants.{Slot, Value}
-use Rattle.ppm_code.specs.Code.{IsCode}
 use Rattle.ppm_code.specs.Limits.{slot_limit}
 use Rattle.ppm_code.specs.declared.code.Procedure.{Procedure}
-use Rattle.ppm_code.specs.Sizes.{slots_in, slots_of, frame_size, slot_at, value_at}
+use Rattle.ppm_code.specs.Sizes.{slots_in, slots_of, frame_size, slot_at}
 use Rattle.ppm_code.specs.Strands.{entry_of, at_capsule}
 use Rattle.ppm_layout.specs.declared.images.Image.{Image}
 use Rattle.ppm_layout.specs.Opening.{whole_array, root_link, root_frame}

@@ -1,6 +1,5 @@
 -- The words in the order of their addresses are those of the cells.
 use Rattle.std.proofs.Common.{◌≡◌, ℕ, zero, suc, inl, inr, ◌+◌, ◌-◌, ◌*◌, ◌<◌, ◌≤◌, List, ◌++◌, length, get_or, replicate, refl, sym, ap, ◌∙◌, arith}
-use Rattle.std.specs.List.{range_with_len}
 use Rattle.std.proofs.Math.Nat.{mul-le-mul_right}
 use Rattle.std.proofs.lemmas.Bool.{cases_lt}
 use Rattle.std.proofs.lemmas.List.{get_or_append_left, get_or-append_right, get_or-append-add, get_or-replicate, length-append, length-replicate}
@@ -44,12 +43,12 @@ module _ (s : Shape) (keeper size : ℕ) (frame : List ℕ) where
   -- the words of one place, and of so many
   length_place : (place : ℕ) → length (place_words s keeper size frame place) ≡ place_size s
   length_place place =
-      let head = place_head s keeper size frame place in
-      let pool = block_words s keeper size frame (pool_at s place) s.room in
+      let head = place_head s keeper size place in
+      let pool = block_words s keeper frame (pool_at s place) s.room in
       let all = length-append (head ++ entry_words s.slots) pool in
       let front = length-append head (entry_words s.slots) in
       let entries = length-map-range_with_len (λ slot. entry_word (first_entry slot)) 0 s.slots in
-      let blocks = length-map-range_with_len (first_block s keeper size frame) (pool_at s place) s.room in
+      let blocks = length-map-range_with_len (first_block s keeper frame) (pool_at s place) s.room in
       omega (arith, all, front, entries, blocks)
 
   length_places : (count : ℕ) → length (places s keeper size frame count) ≡ count * place_size s
@@ -81,8 +80,8 @@ module _ (s : Shape) (keeper size : ℕ) (frame : List ℕ) where
   -- the entries and the pool of a place
   entry_read : (place slot : ℕ) → slot < s.slots → get_or (place_words s keeper size frame place) (5 + slot) 0 ≡ entry_word (first_entry slot)
   entry_read place slot h =
-      let head = place_head s keeper size frame place in
-      let pool = block_words s keeper size frame (pool_at s place) s.room in
+      let head = place_head s keeper size place in
+      let pool = block_words s keeper frame (pool_at s place) s.room in
       let front = length-append head (entry_words s.slots) in
       let entries = length-map-range_with_len (λ n. entry_word (first_entry n)) 0 s.slots in
       let index : 5 + slot - 5 ≡ slot = omega arith in
@@ -92,16 +91,16 @@ module _ (s : Shape) (keeper size : ℕ) (frame : List ℕ) where
       ∙ get_or-map-range_with_len (λ n. entry_word (first_entry n)) 0 s.slots slot slot 0 h (omega arith)
 
   block_read : (place far : ℕ) → far < s.room
-      → get_or (place_words s keeper size frame place) (5 + s.slots + far) 0 ≡ first_block s keeper size frame (pool_at s place + far)
+      → get_or (place_words s keeper size frame place) (5 + s.slots + far) 0 ≡ first_block s keeper frame (pool_at s place + far)
   block_read place far h =
-      let head = place_head s keeper size frame place in
-      let pool = block_words s keeper size frame (pool_at s place) s.room in
+      let head = place_head s keeper size place in
+      let pool = block_words s keeper frame (pool_at s place) s.room in
       let front = length-append head (entry_words s.slots) in
       let entries = length-map-range_with_len (λ n. entry_word (first_entry n)) 0 s.slots in
       let index : 5 + s.slots + far - (5 + s.slots) ≡ far = omega arith in
       get_or-append_right (head ++ entry_words s.slots) pool (5 + s.slots) (5 + s.slots + far) 0 (omega (arith, front, entries)) (omega arith)
       ∙ ap (λ n. get_or pool n 0) index
-      ∙ get_or-map-range_with_len (first_block s keeper size frame) (pool_at s place) s.room far (pool_at s place + far) 0 h refl
+      ∙ get_or-map-range_with_len (first_block s keeper frame) (pool_at s place) s.room far (pool_at s place + far) 0 h refl
 
   module _ (arrays : List ℕ) where
     -- in front of the places
@@ -158,7 +157,7 @@ module _ (s : Shape) (keeper size : ℕ) (frame : List ℕ) where
         let far : ℕ = at - pool_at s h.place in
         let is : pool_at s h.place + far ≡ at = omega (arith, h.begun) in
         in_place h.place (5 + s.slots + far) at h.is_place (omega (arith, h.begun, h.ended)) (omega (arith, h.begun))
-        ∙ block_read h.place far (omega (arith, h.begun, h.ended)) ∙ ap (first_block s keeper size frame) is
+        ∙ block_read h.place far (omega (arith, h.begun, h.ended)) ∙ ap (first_block s keeper frame) is
     read_all (ArrayWord index) h = in_arrays index
 
     -- and there are as many as the shape has

@@ -1,12 +1,11 @@
 -- The words of an image stand for their values.
-use Rattle.std.proofs.Common.{◌≡◌, ℕ, ◌+◌, ◌*◌, ◌^◌, ◌<◌, ◌≤◌, List, Some, true, false, cond, eqb, refl, ap, ◌∙◌, arith, lit<, lit≤, suc}
+use Rattle.std.proofs.Common.{◌≡◌, ℕ, ◌+◌, ◌*◌, ◌^◌, ◌<◌, ◌≤◌, List, Some, cond, eqb, refl, ap, ◌∙◌, arith, lit<, lit≤, suc}
 use Rattle.std.proofs.Math.Nat.{mul-le-mul_right}
 use Rattle.std.proofs.lemmas.Bool.{cond_both, eq-eqb, ne_eqb}
 use Rattle.ppm_words.specs.declared.named_array.NamedArray.{NamedArray}
 use Rattle.ppm_cells.specs.declared.shape.Shape.{Shape}
 use Rattle.ppm_cells.specs.declared.cell.Cell.TheVariants.{FinishWord, RestartWord, HolderWord, EntryWord}
 use Rattle.ppm_cells.specs.declared.finish.Finish.TheVariants.{Unset}
-use Rattle.ppm_cells.specs.declared.restart.Restart.{Restart}
 use Rattle.ppm_cells.specs.declared.restart.RestartKind.TheVariants.{Run, Seek}
 use Rattle.ppm_cells.specs.Cells.{place_size, pool_at}
 use Rattle.ppm_cells.specs.Entry.{entry_word, IsEntry, entry_of}

@@ -1,6 +1,5 @@
 -- The laws of images: what their words stand for, that they begin with the root's strand, and that there is one of them.
 use Rattle.std.specs.Prelude.{◌≡◌, ℕ, ◌+◌, ◌<◌, ◌≤◌, List, Some, length, get_or}
-use Rattle.std.specs.List.{All}
 use Rattle.ppm_words.specs.Inputs.{IsInput}
 use Rattle.ppm_words.specs.declared.named_array.NamedArray.{NamedArray}
 use Rattle.ppm_cells.specs.Cells.{pool_at}
@@ -23,11 +22,10 @@ use Rattle.ppm_layout.specs.Image.{IsImageOf}
 use Rattle.ppm_layout.specs.Root.{strand_at, root_strand}
 use Rattle.ppm_layout.specs.declared.images.Image.{Image}
 
--- an image of a code and an input whose arrays it names
+-- an image of a code and an input
 pub record Opens (code : CodeParts) (input : List NamedArray) (s : Shape) (keeper : ℕ) (image : Image) : Type 0 where
   pub code_is : IsCode code
   pub input_is : IsInput input
-  pub named : All (λ number. number < length input) code.arrays
   pub below : keeper < s.processors
   pub image_is : IsImageOf code input s keeper image
 

@@ -1,5 +1,5 @@
 -- The opening words: what stands in each cell of a machine before its first step.
-use Rattle.std.specs.Prelude.{◌≡◌, ℕ, ◌+◌, ◌-◌, ◌==◌, nat_le, if◌then◌else◌, ℤ, List, [], ◌∷◌, Option, Some, None, length, map, take, get_or, slice_get}
+use Rattle.std.specs.Prelude.{ℕ, ◌+◌, ◌-◌, ◌==◌, nat_le, if◌then◌else◌, ℤ, List, [], ◌∷◌, Option, Some, None, length, map, take, get_or, slice_get}
 use Rattle.std.specs.List.{flat_map}
 use Rattle.ppm_words.specs.TwosComplement.{word_of}
 use Rattle.ppm_words.specs.Inputs.{value_count}
@@ -22,7 +22,6 @@ use Rattle.ppm_cells.specs.declared.link.Link.{Link}
 use Rattle.ppm_cells.specs.declared.link.LinkKind.TheVariants.{Root}
 use Rattle.ppm_cells.specs.declared.region.Region.{Region}
 use Rattle.ppm_cells.specs.declared.restart.Restart.{Restart}
-use Rattle.ppm_cells.specs.declared.restart.RestartKind.{RestartKind}
 use Rattle.ppm_cells.specs.declared.restart.RestartKind.TheVariants.{Run, Seek}
 use Rattle.ppm_cells.specs.declared.shape.Shape.{Shape}
 use Rattle.ppm_code.specs.declared.code.CodeParts.{CodeParts}
@@ -61,36 +60,32 @@ first_entry slot = if slot == 0 then Taken 0 0 else (if slot == 1 then Local 0 0
 abbrev pub first_holder : (place : ℕ) → Holder
 first_holder place = record { tag = 0; processor = place }
 
--- with the keeper's place, the size of the root's frame, and those of its words that need not be 0
-module _ (s : Shape) (keeper size : ℕ) (frame : List ℕ) where
-  -- what a place does: the keeper's runs the root's frame, all others look for work
-  abbrev pub first_kind : (place : ℕ) → RestartKind
-  first_kind place = if place == keeper then Run (pool_at s keeper) 0 else Seek
+-- what a place does: the keeper's runs the root's frame, all others look for work
+abbrev pub first_restart : Shape → (keeper place : ℕ) → Restart
+first_restart s keeper place = record { kind = if place == keeper then Run (pool_at s keeper) 0 else Seek; bottom = 1 }
 
-  abbrev pub first_restart : (place : ℕ) → Restart
-  first_restart place = record { kind = first_kind place; bottom = 1 }
+-- the first word of its pool that is free, where the root's frame has so many words
+abbrev pub first_room : Shape → (keeper size place : ℕ) → ℕ
+first_room s keeper size place = if place == keeper then pool_at s place + size else pool_at s place
 
-  -- the first word of its pool that is free
-  abbrev pub first_room : (place : ℕ) → ℕ
-  first_room place = if place == keeper then pool_at s place + size else pool_at s place
+-- a word of the pools, by its address: the root's frame begins the pool of the keeper's place, and all else is 0
+abbrev pub first_block : Shape → (keeper : ℕ) → (frame : List ℕ) → (at : ℕ) → ℕ
+first_block s keeper frame at = if nat_le (pool_at s keeper) at then get_or frame (at - pool_at s keeper) 0 else 0
 
-  -- a word of the pools, by its address: the root's frame begins the pool of the keeper's place
-  abbrev pub first_block : (at : ℕ) → ℕ
-  first_block at = if nat_le (pool_at s keeper) at then get_or frame (at - pool_at s keeper) 0 else 0
-
-  -- the word that opens a cell, where the arrays have these words
-  abbrev pub opening_with : (arrays : List ℕ) → Cell → ℕ
-  opening_with arrays FinishWord = finish_word Unset
-  opening_with arrays (CarryWord processor) = processor
-  opening_with arrays (DeadWord processor) = 0
-  opening_with arrays (RestartWord place) = restart_word (first_restart place)
-  opening_with arrays (MessageWord place) = 0
-  opening_with arrays (HolderWord place) = holder_word (first_holder place)
-  opening_with arrays (Top place) = 1
-  opening_with arrays (RoomCounter place) = first_room place
-  opening_with arrays (EntryWord place slot) = entry_word (first_entry slot)
-  opening_with arrays (BlockWord at) = first_block at
-  opening_with arrays (ArrayWord index) = get_or arrays index 0
+-- the word with which a cell opens, where the root's frame has so many words, of which these are not 0, and the arrays have these
+module _ (s : Shape) (keeper size : ℕ) (frame arrays : List ℕ) where
+  abbrev pub opening_with : Cell → ℕ
+  opening_with FinishWord = finish_word Unset
+  opening_with (CarryWord processor) = processor
+  opening_with (DeadWord processor) = 0
+  opening_with (RestartWord place) = restart_word (first_restart s keeper place)
+  opening_with (MessageWord place) = 0
+  opening_with (HolderWord place) = holder_word (first_holder place)
+  opening_with (Top place) = 1
+  opening_with (RoomCounter place) = first_room s keeper size place
+  opening_with (EntryWord place slot) = entry_word (first_entry slot)
+  opening_with (BlockWord at) = first_block s keeper frame at
+  opening_with (ArrayWord index) = get_or arrays index 0
 
 -- the word with which a cell opens, for a code, its input, the machine's shape and the keeper
 abbrev pub opening : CodeParts → List NamedArray → Shape → (keeper : ℕ) → Cell → ℕ

@@ -10,7 +10,7 @@ use Rattle.ppm_cells.specs.declared.shape.Shape.{Shape}
 use Rattle.ppm_code.specs.declared.code.CodeParts.{CodeParts}
 use Rattle.ppm_code.specs.declared.location.FrameWord.{FrameWord}
 use Rattle.ppm_code.specs.declared.location.FrameWord.TheVariants.{Slot, Value}
-use Rattle.ppm_code.specs.Sizes.{slots_of, slot_at, value_at}
+use Rattle.ppm_code.specs.Sizes.{slot_at, value_at}
 use Rattle.ppm_code.specs.Strands.{Point, Result, at_capsule, root_of}
 use Rattle.ppm_layout.specs.Opening.{whole_array}
 

@@ -1,5 +1,5 @@
 -- The opening words in the order of their addresses.
-use Rattle.std.specs.Prelude.{ℕ, zero, suc, ◌+◌, List, [], ◌∷◌, ◌++◌, map, replicate}
+use Rattle.std.specs.Prelude.{ℕ, zero, suc, List, [], ◌∷◌, ◌++◌, map, replicate}
 use Rattle.std.specs.List.{range_with_len}
 use Rattle.ppm_cells.specs.Cells.{pool_at}
 use Rattle.ppm_cells.specs.Entry.{entry_word}
@@ -21,20 +21,19 @@ processor_words processors = finish_word Unset ∷ (carries processors ++ replic
 abbrev pub entry_words : ℕ → List ℕ
 entry_words slots = map (λ slot. entry_word (first_entry slot)) (range_with_len 0 slots)
 
+-- the five words with which a place begins
+abbrev pub place_head : Shape → (keeper size place : ℕ) → List ℕ
+place_head s keeper size place =
+    restart_word (first_restart s keeper place) ∷ 0 ∷ holder_word (first_holder place) ∷ 1 ∷ first_room s keeper size place ∷ []
+
+-- so many words of the pools, from an address on
+abbrev pub block_words : Shape → (keeper : ℕ) → (frame : List ℕ) → (at count : ℕ) → List ℕ
+block_words s keeper frame at count = map (first_block s keeper frame) (range_with_len at count)
+
 module _ (s : Shape) (keeper size : ℕ) (frame : List ℕ) where
-  -- the five words with which a place begins
-  abbrev pub place_head : ℕ → List ℕ
-  place_head place =
-      restart_word (first_restart s keeper size frame place) ∷ 0 ∷ holder_word (first_holder place) ∷ 1
-      ∷ first_room s keeper size frame place ∷ []
-
-  -- so many words of the pools, from an address on
-  abbrev pub block_words : (at count : ℕ) → List ℕ
-  block_words at count = map (first_block s keeper size frame) (range_with_len at count)
-
   -- a place: five words, its entries, its pool
   abbrev pub place_words : ℕ → List ℕ
-  place_words place = (place_head place ++ entry_words s.slots) ++ block_words (pool_at s place) s.room
+  place_words place = (place_head s keeper size place ++ entry_words s.slots) ++ block_words s keeper frame (pool_at s place) s.room
 
   -- the first so many places
   abbrev pub places : ℕ → List ℕ

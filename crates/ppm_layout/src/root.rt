@@ -54,11 +54,7 @@ fn push_regions(
 }
 
 /// The frame of a code's root, with the regions of its arrays.
-pub(crate) fn root_of(
-    alloc: Global,
-    code: &Code,
-    arrays: &[NamedArray],
-) -> Result<Root, NoMemory>
+pub(crate) fn root_of(alloc: Global, code: &Code, arrays: &[NamedArray]) -> Result<Root, NoMemory>
     requires named { All (λ n. n < length arrays.now) code.now.arrays }
     requires input { IsInput arrays.now }
     ensures size { IfOk result (λ root. root.size ≡ frame_size_of code.now code.now.root) }

@@ -56,4 +56,3 @@ pub(crate) fn push_entries(words: &mut Vec<u64>, slots: u32) -> Result<(), NoMem
     }
     Ok(())
 }
-

@@ -23,7 +23,7 @@ impl Start {
     /// With what a place goes on: the keeper's with the root's frame, all others with looking for work.
     fn restart_of(&self, place: u32) -> Restart
         ensures value { result
-            ≡ first_restart self.now.shape self.now.keeper self.now.root.size self.now.root.frame.items place }
+            ≡ first_restart self.now.shape self.now.keeper place }
     {
         let frame = self.shape.pool_at(self.keeper);
         let kind = if place == self.keeper {
@@ -38,7 +38,7 @@ impl Start {
     fn room_of(&self, place: u32) -> u32
         requires { place < self.now.shape.processors }
         ensures { result
-            ≡ first_room self.now.shape self.now.keeper self.now.root.size self.now.root.frame.items place }
+            ≡ first_room self.now.shape self.now.keeper self.now.root.size place }
     {
         let pool = self.shape.pool_at(place);
         if place == self.keeper {
@@ -51,7 +51,7 @@ impl Start {
     /// The word at an address of the pools.
     fn block_word(&self, at: u32) -> u64
         ensures { result
-            ≡ first_block self.now.shape self.now.keeper self.now.root.size self.now.root.frame.items at }
+            ≡ first_block self.now.shape self.now.keeper self.now.root.frame.items at }
     {
         let frame = self.shape.pool_at(self.keeper);
         if frame <= at {
@@ -66,7 +66,7 @@ impl Start {
     fn push_head(&self, words: &mut Vec<u64>, place: u32) -> Result<(), NoMemory>
         requires { place < self.now.shape.processors }
         ensures { OnOk result (words.new.items ≡ words.old.items
-            ++ place_head self.now.shape self.now.keeper self.now.root.size self.now.root.frame.items place) }
+            ++ place_head self.now.shape self.now.keeper self.now.root.size place) }
     {
         let holder = Holder {
             tag: 0,
@@ -84,7 +84,7 @@ impl Start {
     fn push_blocks(&self, words: &mut Vec<u64>, at: u32, count: u32) -> Result<(), NoMemory>
         requires { at + count ≤ arrays_at self.now.shape }
         ensures { OnOk result (words.new.items ≡ words.old.items
-            ++ block_words self.now.shape self.now.keeper self.now.root.size self.now.root.frame.items at count) }
+            ++ block_words self.now.shape self.now.keeper self.now.root.frame.items at count) }
     {
         for done in 0..count {
             words.push(self.block_word(at + done))?;

@@ -1,4 +1,4 @@
-use Rattle.std.proofs.Common.{◌≡◌, ℕ, List, length, map, refl, subst, ◌∙◌}
+use Rattle.std.proofs.Common.{◌≡◌, List, length, map, refl, subst, ◌∙◌}
 use Rattle.ppm_words.specs.declared.named_array.NamedArray.{NamedArray}
 use Rattle.ppm_code.specs.Sizes.{frame_size}
 use Rattle.ppm_layout.specs.Opening.{array_words, root_frame}

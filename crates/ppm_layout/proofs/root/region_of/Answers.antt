@@ -1,6 +1,5 @@
-use Rattle.std.proofs.Common.{◌≡◌, ◌<◌, ◌^◌, ℕ, ℤ, List, length, ap, ◌∙◌, arith, lit<}
+use Rattle.std.proofs.Common.{◌<◌, ◌^◌, ℕ, ℤ, List, length, ap, ◌∙◌, arith, lit<}
 use Rattle.ppm_words.specs.declared.named_array.NamedArray.{NamedArray}
-use Rattle.ppm_cells.specs.declared.region.Region.{Region}
 use Rattle.ppm_layout.proofs.InputLemmas.{next_within, within_front, whole_is}
 use Rattle.ppm_layout.proofs.root.region_of.Goals as goal
 

@@ -5,4 +5,4 @@ use Rattle.ppm_layout.proofs.start.Start.push_blocks.Given as goal
 -- the words so far
 abbrev pub invariant-loop-done : goal.invariant-loop-done
 invariant-loop-done l =
-    l.words.items ≡ l.fn.words.items ++ block_words l.self.shape l.self.keeper l.self.root.size l.self.root.frame.items l.fn.at l.done
+    l.words.items ≡ l.fn.words.items ++ block_words l.self.shape l.self.keeper l.self.root.frame.items l.fn.at l.done
