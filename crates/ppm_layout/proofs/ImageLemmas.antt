@@ -14,9 +14,9 @@ use Rattle.ppm_code.specs.declared.code.CodeParts.{CodeParts}
 use Rattle.ppm_code.specs.Sizes.{frame_size}
 use Rattle.ppm_layout.specs.Sized.{IsSized}
 use Rattle.ppm_layout.specs.Opening.{array_words, root_frame, opening}
-use Rattle.ppm_layout.specs.Rows.{all_words}
+use Rattle.ppm_layout.specs.Sequence.{all_words}
 use Rattle.ppm_layout.proofs.InputLemmas.{value_count-cons}
-use Rattle.ppm_layout.proofs.RowLemmas.{read_all, length_all}
+use Rattle.ppm_layout.proofs.SequenceLemmas.{read_all, length_all}
 
 -- the words of the arrays are as many as their values
 length_arrays : (input : List NamedArray) → length (array_words input) ≡ value_count input

@@ -1,8 +1,8 @@
 pub mod ImageLemmas
 pub mod InputLemmas
 pub mod OneLemmas
-pub mod RootLemmas
 pub mod RangeLemmas
-pub mod RowLemmas
+pub mod RootLemmas
 pub mod SampleLemmas
+pub mod SequenceLemmas
 pub mod ValueLemmas

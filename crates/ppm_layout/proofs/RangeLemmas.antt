@@ -1,4 +1,4 @@
--- Words in a row, up to one more.
+-- Words one after the other, up to one more.
 use Rattle.std.proofs.Common.{◌≡◌, ℕ, zero, suc, ◌+◌, List, [], ◌∷◌, ◌++◌, sym, ap, ◌∙◌, arith}
 use Rattle.std.specs.List.{range_with_len}
 use Rattle.std.proofs.lemmas.List.{append_assoc}
@@ -16,8 +16,8 @@ range_more n =
     let one : n + 1 ≡ suc n = omega arith in
     ap (range_with_len 0) one ∙ range_from 0 n ∙ ap (λ k. range_with_len 0 n ++ k ∷ []) is
 
--- a word is pushed behind a row, and that is the row with one more
-pub pushed : (old row longer words new : List ℕ) (w x : ℕ) → new ≡ words ++ w ∷ [] → words ≡ old ++ row → w ≡ x → longer ≡ row ++ x ∷ []
+-- a word is pushed behind others, and these are then one more
+pub pushed : (old some longer words new : List ℕ) (w x : ℕ) → new ≡ words ++ w ∷ [] → words ≡ old ++ some → w ≡ x → longer ≡ some ++ x ∷ []
     → new ≡ old ++ longer
-pushed old row longer words new w x push here value more =
-    push ∙ ap (λ ws. ws ++ w ∷ []) here ∙ ap (λ k. (old ++ row) ++ k ∷ []) value ∙ append_assoc old row (x ∷ []) ∙ ap (λ r. old ++ r) (sym more)
+pushed old some longer words new w x push here value more =
+    push ∙ ap (λ ws. ws ++ w ∷ []) here ∙ ap (λ k. (old ++ some) ++ k ∷ []) value ∙ append_assoc old some (x ∷ []) ∙ ap (λ r. old ++ r) (sym more)

@@ -9,7 +9,7 @@ mod images;
 mod laws;
 mod opening;
 mod root;
-mod row;
+mod sequence;
 mod start;
 #[cfg(test)]
 mod tests;

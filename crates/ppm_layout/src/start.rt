@@ -2,10 +2,10 @@
 ghost use Rattle.std.specs.Prelude.{◌≡◌, ◌+◌, ◌++◌, ◌<◌, ◌≤◌, OnOk};
 ghost use Rattle.ppm_cells.specs.Cells.{arrays_at};
 ghost use Rattle.ppm_layout.specs.Opening.{first_restart, first_block, first_room};
-ghost use Rattle.ppm_layout.specs.Rows.{place_head, block_words, place_words, places};
+ghost use Rattle.ppm_layout.specs.Sequence.{place_head, block_words, place_words, places};
 
 use crate::root::Root;
-use crate::row::push_entries;
+use crate::sequence::push_entries;
 use ppm_cells::{Holder, Restart, RestartKind, Shape};
 use ppm_words::NoMemory;
 
@@ -22,8 +22,7 @@ pub struct Start {
 impl Start {
     /// With what a place goes on: the keeper's with the root's frame, all others with looking for work.
     fn restart_of(&self, place: u32) -> Restart
-        ensures value { result
-            ≡ first_restart self.now.shape self.now.keeper place }
+        ensures { result ≡ first_restart self.now.shape self.now.keeper place }
     {
         let frame = self.shape.pool_at(self.keeper);
         let kind = if place == self.keeper {
@@ -37,8 +36,7 @@ impl Start {
     /// The first word of a place's pool that is free.
     fn room_of(&self, place: u32) -> u32
         requires { place < self.now.shape.processors }
-        ensures { result
-            ≡ first_room self.now.shape self.now.keeper self.now.root.size place }
+        ensures { result ≡ first_room self.now.shape self.now.keeper self.now.root.size place }
     {
         let pool = self.shape.pool_at(place);
         if place == self.keeper {
@@ -50,8 +48,7 @@ impl Start {
 
     /// The word at an address of the pools.
     fn block_word(&self, at: u32) -> u64
-        ensures { result
-            ≡ first_block self.now.shape self.now.keeper self.now.root.frame.items at }
+        ensures { result ≡ first_block self.now.shape self.now.keeper self.now.root.frame.items at }
     {
         let frame = self.shape.pool_at(self.keeper);
         if frame <= at {

@@ -2,7 +2,7 @@ use Rattle.std.proofs.Common.{◌≡◌, List, length, map, refl, subst, ◌∙�
 use Rattle.ppm_words.specs.declared.named_array.NamedArray.{NamedArray}
 use Rattle.ppm_code.specs.Sizes.{frame_size}
 use Rattle.ppm_layout.specs.Opening.{array_words, root_frame}
-use Rattle.ppm_layout.specs.Rows.{all_words}
+use Rattle.ppm_layout.specs.Sequence.{all_words}
 use Rattle.ppm_layout.proofs.ImageLemmas.{sized, opened}
 use Rattle.ppm_layout.proofs.opening.image.Goals as goal
 

@@ -1,7 +1,7 @@
 use Rattle.std.proofs.Common.{◌+◌, refl}
 use Rattle.std.proofs.lemmas.List.FromFn.{map-range_with_len_more}
 use Rattle.ppm_layout.specs.Opening.{first_block}
-use Rattle.ppm_layout.specs.Rows.{block_words}
+use Rattle.ppm_layout.specs.Sequence.{block_words}
 use Rattle.ppm_layout.proofs.RangeLemmas.{pushed}
 use Rattle.ppm_layout.proofs.start.Start.push_blocks.Goals as goal
 

@@ -1,5 +1,5 @@
 use Rattle.std.proofs.Common.{◌≡◌, ◌++◌}
-use Rattle.ppm_layout.specs.Rows.{block_words}
+use Rattle.ppm_layout.specs.Sequence.{block_words}
 use Rattle.ppm_layout.proofs.start.Start.push_blocks.Given as goal
 
 -- the words so far

@@ -1,5 +1,5 @@
 use Rattle.std.proofs.Common.{◌≡◌, ◌++◌}
-use Rattle.ppm_layout.specs.Rows.{places}
+use Rattle.ppm_layout.specs.Sequence.{places}
 use Rattle.ppm_layout.proofs.start.Start.push_places.Given as goal
 
 -- the places so far

@@ -1,7 +1,7 @@
 use Rattle.std.proofs.Common.{◌+◌}
 use Rattle.std.specs.List.{range_with_len}
 use Rattle.ppm_layout.proofs.RangeLemmas.{range_more, pushed}
-use Rattle.ppm_layout.proofs.row.push_carries.Goals as goal
+use Rattle.ppm_layout.proofs.sequence.push_carries.Goals as goal
 
 -- the next processor carries the next place
 pub loop-processor-preserved : goal.loop-processor-preserved

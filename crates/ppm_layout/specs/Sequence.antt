@@ -1,4 +1,4 @@
--- The opening words in the order of their addresses.
+-- The opening words one after the other, in the order of their addresses.
 use Rattle.std.specs.Prelude.{ℕ, zero, suc, List, [], ◌∷◌, ◌++◌, map, replicate}
 use Rattle.std.specs.List.{range_with_len}
 use Rattle.ppm_cells.specs.Cells.{pool_at}
@@ -10,10 +10,11 @@ use Rattle.ppm_cells.specs.declared.finish.Finish.TheVariants.{Unset}
 use Rattle.ppm_cells.specs.declared.shape.Shape.{Shape}
 use Rattle.ppm_layout.specs.Opening.{first_restart, first_holder, first_room, first_entry, first_block}
 
--- in front of the places: the finish word, what each processor carries, and that none is dead
+-- each processor carries the place of its number
 abbrev pub carries : ℕ → List ℕ
 carries processors = range_with_len 0 processors
 
+-- in front of the places: the finish word, what each processor carries, and that none is dead
 abbrev pub processor_words : ℕ → List ℕ
 processor_words processors = finish_word Unset ∷ (carries processors ++ replicate processors 0)
 

@@ -2,9 +2,9 @@ use Rattle.std.proofs.Common.{◌+◌, ap, ◌∙◌, arith}
 use Rattle.std.proofs.lemmas.List.FromFn.{map-range_with_len_more}
 use Rattle.ppm_cells.specs.Entry.{entry_word}
 use Rattle.ppm_layout.specs.Opening.{first_entry}
-use Rattle.ppm_layout.specs.Rows.{entry_words}
+use Rattle.ppm_layout.specs.Sequence.{entry_words}
 use Rattle.ppm_layout.proofs.RangeLemmas.{pushed}
-use Rattle.ppm_layout.proofs.row.push_entries.Goals as goal
+use Rattle.ppm_layout.proofs.sequence.push_entries.Goals as goal
 
 -- the entry in the next slot
 pub loop-slot-preserved : goal.loop-slot-preserved

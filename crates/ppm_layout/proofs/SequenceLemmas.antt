@@ -11,7 +11,7 @@ use Rattle.ppm_cells.specs.declared.cell.Cell.TheVariants.{Top, RoomCounter, Ent
 use Rattle.ppm_cells.specs.Cells.{place_size, place_at, pool_at, arrays_at, word_count, address, IsCell}
 use Rattle.ppm_cells.specs.Entry.{entry_word}
 use Rattle.ppm_layout.specs.Opening.{first_entry, first_block, opening_with}
-use Rattle.ppm_layout.specs.Rows.{carries, processor_words, entry_words, place_head, block_words, place_words, places, all_words}
+use Rattle.ppm_layout.specs.Sequence.{carries, processor_words, entry_words, place_head, block_words, place_words, places, all_words}
 
 -- the words in front of the places
 length_processors : (processors : ℕ) → length (processor_words processors) ≡ 1 + 2 * processors

@@ -1,5 +1,5 @@
 use Rattle.std.proofs.Common.{◌≡◌, ◌++◌, replicate}
-use Rattle.ppm_layout.proofs.row.push_zeros.Given as goal
+use Rattle.ppm_layout.proofs.sequence.push_zeros.Given as goal
 
 -- so many are there
 abbrev pub invariant-loop : goal.invariant-loop

@@ -1,7 +1,7 @@
-//! The opening words in the order of their addresses.
+//! The opening words one after the other, but for those that tell of the root.
 ghost use Rattle.std.specs.Prelude.{◌≡◌, ◌++◌, OnOk, replicate};
 ghost use Rattle.ppm_layout.specs.Opening.{first_entry};
-ghost use Rattle.ppm_layout.specs.Rows.{carries, processor_words, entry_words};
+ghost use Rattle.ppm_layout.specs.Sequence.{carries, processor_words, entry_words};
 
 use ppm_cells::{Entry, Finish};
 use ppm_words::NoMemory;

@@ -1,6 +1,6 @@
 use Rattle.std.proofs.Common.{◌≡◌, ◌++◌}
-use Rattle.ppm_layout.specs.Rows.{entry_words}
-use Rattle.ppm_layout.proofs.row.push_entries.Given as goal
+use Rattle.ppm_layout.specs.Sequence.{entry_words}
+use Rattle.ppm_layout.proofs.sequence.push_entries.Given as goal
 
 -- those of the slots so far
 abbrev pub invariant-loop-slot : goal.invariant-loop-slot
