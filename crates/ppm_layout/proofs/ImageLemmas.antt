@@ -14,7 +14,7 @@ use Rattle.ppm_code.specs.declared.code.CodeParts.{CodeParts}
 use Rattle.ppm_code.specs.Sizes.{frame_size}
 use Rattle.ppm_layout.specs.Sized.{IsSized}
 use Rattle.ppm_layout.specs.Opening.{array_words, root_frame, opening}
-use Rattle.ppm_layout.specs.Sequence.{all_words}
+use Rattle.ppm_layout.specs.Sequence.{opening_words}
 use Rattle.ppm_layout.proofs.InputLemmas.{value_count-cons}
 use Rattle.ppm_layout.proofs.SequenceLemmas.{read_all, length_all}
 
@@ -33,7 +33,7 @@ module _ (code : CodeParts) (input : List NamedArray) (s : Shape) (keeper : ℕ)
   -- it has the shape's size
   pub sized : (lengths words : List ℕ) → keeper < s.processors → s.arrays ≡ value_count input
       → lengths ≡ map (λ (a : NamedArray). length a.values) input
-      → words ≡ all_words s keeper (frame_size code code.root) (root_frame code input) (array_words input) → IsSized s keeper lengths words
+      → words ≡ opening_words code input s keeper → IsSized s keeper lengths words
   sized lengths words below arrays is_lengths is_words = record {
     words_are = ap (λ (ws : List ℕ). length ws) is_words
         ∙ length_all s keeper (frame_size code code.root) (root_frame code input) (array_words input) (length_arrays input ∙ sym arrays);
@@ -42,7 +42,7 @@ module _ (code : CodeParts) (input : List NamedArray) (s : Shape) (keeper : ℕ)
   }
 
   -- and each cell has its opening word
-  pub opened : (words : List ℕ) → words ≡ all_words s keeper (frame_size code code.root) (root_frame code input) (array_words input)
+  pub opened : (words : List ℕ) → words ≡ opening_words code input s keeper
       → (c : Cell) → IsCell s c → read s words c ≡ opening code input s keeper c
   opened words is_words c there =
       ap (λ (ws : List ℕ). read s ws c) is_words

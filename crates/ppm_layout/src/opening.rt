@@ -3,9 +3,8 @@ ghost use Rattle.std.specs.Prelude.{◌≡◌, ◌++◌, ◌<◌, ◌≤◌, IfO
 ghost use Rattle.std.specs.List.{All};
 ghost use Rattle.ppm_words.specs.Inputs.{value_count, IsInput};
 ghost use Rattle.ppm_words.specs.TwosComplement.{word_of};
-ghost use Rattle.ppm_code.specs.Sizes.{frame_size};
-ghost use Rattle.ppm_layout.specs.Opening.{array_words, root_frame};
-ghost use Rattle.ppm_layout.specs.Sequence.{all_words};
+ghost use Rattle.ppm_layout.specs.Opening.{array_words};
+ghost use Rattle.ppm_layout.specs.Sequence.{opening_words};
 ghost use Rattle.ppm_layout.specs.Image.{IsImageOf};
 
 use crate::images::Image;
@@ -60,8 +59,7 @@ fn words_of(
     requires keeper { keeper < shape.processors }
     requires named { All (λ number. number < length arrays.now) code.now.arrays }
     requires input { IsInput arrays.now }
-    ensures { IfOk result (λ words. words.items
-        ≡ all_words shape keeper (frame_size code.now code.now.root) (root_frame code.now arrays.now) (array_words arrays.now)) }
+    ensures { IfOk result (λ words. words.items ≡ opening_words code.now arrays.now shape keeper) }
 {
     let root = root_of(alloc, code, arrays)?;
     let start = Start {

@@ -1,8 +1,6 @@
 use Rattle.std.proofs.Common.{◌≡◌, List, length, map, refl, subst, ◌∙◌}
 use Rattle.ppm_words.specs.declared.named_array.NamedArray.{NamedArray}
-use Rattle.ppm_code.specs.Sizes.{frame_size}
-use Rattle.ppm_layout.specs.Opening.{array_words, root_frame}
-use Rattle.ppm_layout.specs.Sequence.{all_words}
+use Rattle.ppm_layout.specs.Sequence.{opening_words}
 use Rattle.ppm_layout.proofs.ImageLemmas.{sized, opened}
 use Rattle.ppm_layout.proofs.opening.image.Goals as goal
 
@@ -12,10 +10,9 @@ invariant_of-result c =
     let code = c.args.code.now in
     let s = c.args.shape in
     let keeper = c.args.keeper in
-    let IsRow : List NamedArray → Type 0
-    = λ xs. c.in_ok-words.words.items ≡ all_words s keeper (frame_size code code.root) (root_frame code xs) (array_words xs) in
+    let AreWords : List NamedArray → Type 0 = λ xs. c.in_ok-words.words.items ≡ opening_words code xs s keeper in
     let AreLengths : List NamedArray → Type 0 = λ xs. c.in_ok-lengths.lengths.items ≡ map (λ (a : NamedArray). length a.values) xs in
-    let words = c.from_vec-2.ensures ∙ subst IsRow c.arrays-arrays.ensures.value c.in_ok-words.ensures in
+    let words = c.from_vec-2.ensures ∙ subst AreWords c.arrays-arrays.ensures.value c.in_ok-words.ensures in
     let lengths = c.from_vec.ensures ∙ subst AreLengths c.arrays-arrays.ensures.value c.in_ok-lengths.ensures in
     record { sized = sized code c.args.input.now s keeper c.from_vec.result c.from_vec-2.result c.requires.keeper c.requires.arrays lengths words }
 
@@ -25,10 +22,9 @@ returns c =
     let code = c.args.code.now in
     let s = c.args.shape in
     let keeper = c.args.keeper in
-    let IsRow : List NamedArray → Type 0
-    = λ xs. c.in_ok-words.words.items ≡ all_words s keeper (frame_size code code.root) (root_frame code xs) (array_words xs) in
+    let AreWords : List NamedArray → Type 0 = λ xs. c.in_ok-words.words.items ≡ opening_words code xs s keeper in
     let AreLengths : List NamedArray → Type 0 = λ xs. c.in_ok-lengths.lengths.items ≡ map (λ (a : NamedArray). length a.values) xs in
-    let words = c.from_vec-2.ensures ∙ subst IsRow c.arrays-arrays.ensures.value c.in_ok-words.ensures in
+    let words = c.from_vec-2.ensures ∙ subst AreWords c.arrays-arrays.ensures.value c.in_ok-words.ensures in
     let lengths = c.from_vec.ensures ∙ subst AreLengths c.arrays-arrays.ensures.value c.in_ok-lengths.ensures in
     record {
       image = record {
