@@ -1,5 +1,5 @@
 //! The image with which a run begins.
-ghost use Rattle.std.specs.Prelude.{◌≡◌, ◌++◌, ◌<◌, ◌≤◌, IfOk, OnOk, length, map};
+ghost use Rattle.std.specs.Prelude.{◌≡◌, ◌++◌, ◌<◌, IfOk, OnOk, length, map};
 ghost use Rattle.std.specs.List.{All};
 ghost use Rattle.ppm_words.specs.Inputs.{value_count, IsInput};
 ghost use Rattle.ppm_words.specs.TwosComplement.{word_of};
