@@ -1,5 +1,5 @@
 -- What a program starts with is an input for its arrays, and its code's root names arrays of each input for them.
-use Rattle.std.proofs.Common.{◌≡◌, ◌≢◌, ◌<◌, ◌≤◌, ◌+◌, ◌-◌, ℕ, zero, suc, ℤ, pos, negsuc, cond, Bool, true, false, List, [], ◌∷◌}
+use Rattle.std.proofs.Common.{◌≡◌, ◌≢◌, ◌<◌, ◌≤◌, ◌-◌, ℕ, zero, suc, ℤ, pos, negsuc, cond, Bool, true, false, List, [], ◌∷◌}
 use Rattle.std.proofs.Common.{Some, None, map, length, replicate, refl, sym, ap, ap₂, subst, arith, length-append}
 use Rattle.std.specs.List.{All, Contains}
 use Rattle.std.specs.Str.{bytes_eq}
