@@ -1,0 +1,11 @@
+pub mod Contents
+pub mod There
+pub mod Points
+pub mod Rows
+pub mod Frames
+pub mod Standings
+pub mod Facts
+pub mod Stages
+pub mod Locals
+pub mod State
+pub mod Told

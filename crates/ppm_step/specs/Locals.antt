@@ -1,0 +1,46 @@
+-- Where a processor stands, as its registers say it.
+use Rattle.std.specs.Prelude.{◌≡◌, ℕ, ◌<◌, true, List, Option, Some, None, IfSome}
+use Rattle.ppm_cells.specs.Restart.{IsRestart}
+use Rattle.ppm_cells.specs.declared.shape.Shape.{Shape}
+use Rattle.ppm_code.specs.declared.code.CodeParts.{CodeParts}
+use Rattle.ppm_step.specs.declared.local.Local.{Local}
+use Rattle.ppm_step.specs.declared.local.Stand.{Stand}
+use Rattle.ppm_step.specs.declared.local.Stand.TheVariants.{Lost, Placed, At, Within, Runs, Broken, Done}
+use Rattle.ppm_step.specs.Facts.{IsRow, IsSeat}
+use Rattle.ppm_step.specs.Stages.{rest_at, IsRunning}
+use Rattle.ppm_step.specs.Standings.{Standing, IsLost, IsPlaced, IsAt, IsWithin, IsRunning as IsRunningAt, IsBroken, IsDone, row_is_there, went_rest}
+
+-- as the rules say it
+abbrev pub standing_at : Shape → CodeParts → List ℕ → Stand → Standing
+standing_at s code registers Lost = IsLost
+standing_at s code registers (Placed place) = IsPlaced place
+standing_at s code registers (At place restart) = IsAt place restart
+standing_at s code registers (Within seat row) = IsWithin seat row
+standing_at s code registers (Runs running) = IsRunningAt running.seat (rest_at s code running running.stage registers)
+standing_at s code registers (Broken place) = IsBroken place
+standing_at s code registers Done = IsDone
+
+abbrev pub standing_of : Shape → CodeParts → Local → Standing
+standing_of s code local = standing_at s code local.registers local.stand
+
+-- what always holds of a processor's state with this shape and this code
+abbrev pub StandsFor : Shape → CodeParts → (own : ℕ) → List ℕ → Stand → Type 0
+StandsFor s code own registers Lost = Unit {0}
+StandsFor s code own registers (Placed place) = place < s.processors
+StandsFor s code own registers (At place restart) = (place < s.processors) × IfSome restart IsRestart
+StandsFor s code own registers (Within seat row) = IsSeat s seat × (seat.own ≡ own) × IsRow row × (row_is_there s seat row ≡ true)
+StandsFor s code own registers (Runs running) = IsRunning s code running registers × (running.seat.own ≡ own)
+StandsFor s code own registers (Broken place) = place < 65
+StandsFor s code own registers Done = Unit {0}
+
+pub record IsLocal (s : Shape) (code : CodeParts) (local : Local) : Type 0 where
+  pub own : local.own < s.processors
+  pub stand : StandsFor s code local.own local.registers local.stand
+
+-- where it stands after a step of a capsule under way; else where it stood
+abbrev pub went_running : Shape → CodeParts → List ℕ → (found : ℕ) → Stand → Standing
+went_running s code registers found (Runs running) = went_rest s running.seat found (rest_at s code running running.stage registers)
+went_running s code registers found stand = standing_at s code registers stand
+
+abbrev pub went_if_running : Shape → CodeParts → Local → (found : ℕ) → Standing
+went_if_running s code local found = went_running s code local.registers found local.stand

@@ -1,0 +1,33 @@
+//! The step of the machine: what a processor does next, and what comes of it.
+#![tactic(auto)]
+
+mod ask;
+mod content;
+mod bid;
+mod closed;
+mod entries;
+mod found;
+mod frame;
+mod going;
+mod join;
+mod local;
+mod pop;
+mod push;
+mod rest;
+mod row;
+mod running;
+mod seek;
+mod stages;
+mod steal;
+mod there;
+mod turn;
+mod unwind;
+
+pub use ask::Want;
+pub use frame::{Home, Put};
+pub use content::{Content, Reading};
+pub use running::{Running, Stage};
+pub use going::Going;
+pub use local::{Local, Stand};
+pub use turn::{Act, Next, Told, Turn, Why};
+pub use row::{Point, Row, Seat, Then};

@@ -1,0 +1,231 @@
+//! How a capsule of a frame goes on, from one word step to the next.
+ghost use Rattle.std.specs.Prelude.{◌≡◌, ◌<◌, true, length, replicate};
+ghost use Rattle.ppm_cells.specs.Finish.{finish_word};
+ghost use Rattle.ppm_cells.specs.declared.finish.Finish.TheVariants.{OutOfRoom};
+ghost use Rattle.ppm_code.specs.Locations.{location_of};
+ghost use Rattle.ppm_step.specs.Frames.{cell_of};
+ghost use Rattle.ppm_step.specs.Facts.{IsHome};
+ghost use Rattle.ppm_step.specs.There.{is_there};
+
+use crate::ask::Want;
+use crate::frame::Home;
+use crate::going::Going;
+use crate::running::{Running, Stage};
+use crate::there::{address, cell_is_there, restart_there, restart_word};
+use ppm_cells::{Cell, Finish, Restart, RestartKind, Shape};
+use ppm_code::{Code, End, FrameWord, Instr, Location, Reached, Step, reach};
+
+/// Whether the word of a location is there.
+pub fn location_is_there(shape: &Shape, home: &Home, location: Location) -> bool
+    requires { IsHome home.now }
+    ensures { result ≡ is_there shape.now (cell_of home.now (location_of location)) }
+{
+    let words = u64::from(shape.word_count());
+    match location {
+        Location::Frame(FrameWord::Slot(slot)) => {
+            u64::from(home.frame) + 6 + u64::from(slot) < words
+        }
+        Location::Frame(FrameWord::Value) => u64::from(home.frame) + 4 < words,
+        Location::New(offset) => u64::from(home.block) + u64::from(offset) < words,
+        Location::Array(index) => index < u64::from(shape.arrays),
+    }
+}
+
+/// The word of a location that is there.
+pub fn location_cell(shape: &Shape, home: &Home, location: Location) -> Cell
+    requires home { IsHome home.now }
+    requires there { is_there shape.now (cell_of home.now (location_of location)) ≡ true }
+    ensures { result ≡ cell_of home.now (location_of location) }
+{
+    let _ = shape.slots;
+    match location {
+        Location::Frame(FrameWord::Slot(slot)) => Cell::BlockWord {
+            address: home.frame + 6 + slot,
+        },
+        Location::Frame(FrameWord::Value) => Cell::BlockWord {
+            address: home.frame + 4,
+        },
+        Location::New(offset) => Cell::BlockWord {
+            address: home.block + offset,
+        },
+        Location::Array(index) => Cell::ArrayWord {
+            index: index as u32,
+        },
+    }
+}
+
+impl Running {
+    ghost use Rattle.std.specs.Prelude.{◌≡◌, ◌<◌, ◌+◌, ℕ, true, length};
+    ghost use Rattle.ppm_cells.specs.Cells.{word_count};
+    ghost use Rattle.ppm_step.specs.Frames.{Installs, installed, ending};
+    ghost use Rattle.ppm_step.specs.Facts.{IsHome, IsEnd};
+    ghost use Rattle.ppm_step.specs.Standings.{rest_is_there, running, running_if, wanted_rest, went_rest, WantIsWithin};
+    ghost use Rattle.ppm_step.specs.Stages.{rest_at, rest_from, asked, went_on, IsRunning, IsStage, WentOn};
+
+    /// The restart of a kind at its place.
+    fn restart(&self, kind: RestartKind) -> Restart
+        ensures { result ≡ record { kind = kind; bottom = self.now.seat.restart.bottom } }
+    {
+        Restart {
+            kind,
+            bottom: self.seat.restart.bottom,
+        }
+    }
+
+    /// Whether the n-th store of its end, or what it installs, is there.
+    fn put_is_there(&self, shape: &Shape, code: &Code, end: End, n: usize) -> bool
+        requires home { IsHome self.now.home }
+        requires end { IsEnd end }
+        ensures { result ≡ rest_is_there shape.now self.now.seat (ending code.now self.now.home end n) }
+    {
+        match self.home.next_put(code, end, n) {
+            Some(put) => cell_is_there(shape, put.cell),
+            None => restart_there(shape, self.restart(self.home.installed(end))),
+        }
+    }
+
+    /// Does the register work up to the next word step, and tells whether that is there.
+    pub fn go_on(&mut self, shape: &Shape, code: &Code, registers: &mut [u64; 64]) -> bool
+        requires home { IsHome self.old.home }
+        requires place { self.old.seat.place < shape.now.processors }
+        ensures left { rest_at shape.now code.now self.new self.new.stage registers.new ≡ rest_from shape.now code.now self.old self.old.next registers.old }
+        ensures there { result ≡ rest_is_there shape.now self.new.seat (rest_at shape.now code.now self.new self.new.stage registers.new) }
+        ensures stage { IsStage self.new.stage }
+        ensures seat { self.new.seat ≡ self.old.seat }
+        ensures home_stays { self.new.home ≡ self.old.home }
+        ensures capsule { self.new.capsule ≡ self.old.capsule }
+    {
+        let _ = code.parts().root;
+        let Some(capsule) = code.capsule(self.capsule) else {
+            self.stage = Stage::Ending(End::Finish, 0);
+            return self.put_is_there(shape, code, End::Finish, 0);
+        };
+        let stop = reach(
+            capsule.instrs.as_slice(),
+            u64::from(shape.arrays),
+            self.next,
+            registers,
+        );
+        self.next = stop.next;
+        match stop.what {
+            Reached::Before(step) => {
+                self.stage = Stage::Before(step);
+                match step {
+                    Step::Loads(location, _) | Step::Stores(location, _) => {
+                        location_is_there(shape, &self.home, location)
+                    }
+                    Step::Asks(_) => true,
+                }
+            }
+            Reached::AtEnd(end) => {
+                self.stage = Stage::Ending(end, 0);
+                self.put_is_there(shape, code, end, 0)
+            }
+        }
+    }
+
+    /// The word step that comes next.
+    pub fn want(&self, shape: &Shape, code: &Code, registers: &[u64; 64]) -> Want
+        requires { IsRunning shape.now code.now self.now registers.now }
+        ensures value { result ≡ wanted_rest shape.now self.now.seat (rest_at shape.now code.now self.now self.now.stage registers.now) }
+        ensures within { WantIsWithin shape.now result }
+    {
+        let _ = registers.len();
+        match self.stage {
+            Stage::Before(Step::Loads(location, _)) => {
+                Want::Loads(address(shape, location_cell(shape, &self.home, location)))
+            }
+            Stage::Before(Step::Stores(location, word)) => {
+                Want::Stores(address(shape, location_cell(shape, &self.home, location)), word)
+            }
+            Stage::Before(Step::Asks(_)) => Want::Loads(address(
+                shape,
+                Cell::RoomCounter {
+                    place: self.seat.place,
+                },
+            )),
+            Stage::Ending(end, n) => match self.home.next_put(code, end, n) {
+                Some(put) => Want::Stores(address(shape, put.cell), put.content.word()),
+                None => {
+                    let cell = Cell::RestartWord {
+                        place: self.seat.place,
+                    };
+                    let restart = self.restart(self.home.installed(end));
+                    Want::Stores(address(shape, cell), restart_word(shape, restart))
+                }
+            },
+            Stage::Filled => {
+                let full = Finish::OutOfRoom {
+                    place: self.seat.place,
+                };
+                Want::Exchanges(address(shape, Cell::FinishWord), 0, full.pack())
+            }
+        }
+    }
+
+    /// Takes the words of its new block, if the pool has them.
+    fn ask(
+        &mut self,
+        shape: &Shape,
+        code: &Code,
+        registers: &mut [u64; 64],
+        words: u32,
+        counter: u64,
+    ) -> bool
+        requires home { IsHome self.old.home }
+        requires place { self.old.seat.place < shape.now.processors }
+        requires stage_before { IsStage self.old.stage }
+        ensures stands { running_if self.old.seat (rest_at shape.now code.now self.new self.new.stage registers.new) result
+            ≡ running shape.now self.old.seat (asked shape.now code.now self.old counter words registers.old) }
+        ensures there { result ≡ true → rest_is_there shape.now self.new.seat (rest_at shape.now code.now self.new self.new.stage registers.new) ≡ true }
+        ensures home_fits { IsHome self.new.home }
+        ensures stage { IsStage self.new.stage }
+        ensures seat { self.new.seat ≡ self.old.seat }
+        ensures capsule { self.new.capsule ≡ self.old.capsule }
+    {
+        let pool = u64::from(shape.pool_at(self.seat.place));
+        if counter < pool {
+            return false;
+        }
+        if counter > pool + u64::from(shape.room) || u64::from(words) > pool + u64::from(shape.room) - counter {
+            self.stage = Stage::Filled;
+            return true;
+        }
+        self.home.block = counter as u32;
+        self.go_on(shape, code, registers)
+    }
+
+    /// Goes on with what the word step found.
+    pub fn observe(
+        &mut self,
+        shape: &Shape,
+        code: &Code,
+        registers: &mut [u64; 64],
+        found: u64,
+    ) -> Going
+        requires { IsRunning shape.now code.now self.old registers.old }
+        ensures stands { went_on self.old.seat (rest_at shape.now code.now self.new self.new.stage registers.new) result
+            ≡ went_rest shape.now self.old.seat found (rest_at shape.now code.now self.old self.old.stage registers.old) }
+        ensures holds { WentOn shape.now code.now self.new registers.new result }
+        ensures seat { self.new.seat ≡ self.old.seat }
+    {
+        match self.stage {
+            Stage::Before(Step::Loads(_, to)) => {
+                registers[usize::from(to.index)] = found;
+                Going::Went(self.go_on(shape, code, registers))
+            }
+            Stage::Before(Step::Stores(_, _)) => Going::Went(self.go_on(shape, code, registers)),
+            Stage::Before(Step::Asks(words)) => {
+                Going::Went(self.ask(shape, code, registers, words, found))
+            }
+            Stage::Ending(end, n) => match self.home.next_put(code, end, n) {
+                None => Going::Installed(self.restart(self.home.installed(end))),
+                Some(_) => {
+                    self.stage = Stage::Ending(end, n + 1);
+                    Going::Went(self.put_is_there(shape, code, end, n + 1))
+                }
+            },
+            Stage::Filled => Going::Installed(self.seat.restart),
+        }
+    }
+}
