@@ -51,10 +51,21 @@ returns-clause-told c =
         omega (arith, c.requires.among.processor, c.self.invariant.1.count, same) in
     let at = slice_get_read c.self.inside.locals.items _ c.args.turn.processor c.index_mut-local.result.now refl less c.index_mut-local.ensures.value in
     let own = (c.self.invariant.1.each c.args.turn.processor c.index_mut-local.result.now at).own in
+    let m : Holding = record {
+      shape = c.self.inside.shape;
+      code = c.self.inside.code;
+      array_lengths = c.self.inside.array_lengths.items;
+      words = c.self.inside.words.items;
+      locals = c.self.inside.locals.items;
+      forks = c.self.inside.forks;
+      takes = c.self.inside.takes;
+      work = c.self.inside.work;
+      turns = c.self.inside.turns;
+    } in
     rw (sym c.self.view_is) (
-      told_is _ c.args.turn c.index_mut-local.result.now c.act_on-event.new.local c.act_on-event.new.words.items
+      told_is m c.args.turn c.index_mut-local.result.now c.act_on-event.new.local c.act_on-event.new.words.items
           c.act_on-event.result c.is_work_by-work.result c.next-next.result
-          (has_acted _ c.args.turn _ _ _ at own c.act_on-event.ensures.words c.act_on-event.ensures.stands)
+          (has_acted m c.args.turn _ _ _ at own c.act_on-event.ensures.words c.act_on-event.ensures.stands)
           own
           c.act_on-event.ensures.event
           (c.is_work_by-work.ensures c.self.inside.shape c.self.inside.code)
