@@ -71,7 +71,7 @@ stands_at m n old e = slice_get-map (standing_of m.shape m.code) m.locals n ∙ 
 -- the state after the turn
 pub happens_is : (m : Holding) (turn : Turn) (old : Local) → slice_get m.locals turn.processor ≡ Some old
     → happens m.shape m.code (seen m).state turn
-      ≡ state_acted m.shape m.code (seen m).state turn.processor turn.act (standing_of m.shape m.code old)
+    ≡ state_acted m.shape m.code (seen m).state turn.processor turn.act (standing_of m.shape m.code old)
 happens_is m turn old e =
     ap (λ found. acts m.shape m.code (seen m).state turn.processor turn.act (stand_in found)) (stands_at m turn.processor old e)
     ∙ acts_are m.shape m.code (seen m).state turn.processor turn.act (standing_of m.shape m.code old) (stands_at m turn.processor old e)
@@ -109,15 +109,15 @@ with_turn m n new words forks takes work = record {
 
 pub stand_path : (m : Holding) (turn : Turn) (old new : Local) (words : List ℕ) → HasActed m turn old new words
     → map (standing_of m.shape m.code) (set m.locals turn.processor new)
-      ≡ set (seen m).state.stand turn.processor
-          (stand_acted m.shape m.code turn.processor turn.act m.words (standing_of m.shape m.code old))
+    ≡ set (seen m).state.stand turn.processor
+    (stand_acted m.shape m.code turn.processor turn.act m.words (standing_of m.shape m.code old))
 stand_path m turn old new words h =
     map-set (standing_of m.shape m.code) m.locals turn.processor new
     ∙ ap (λ standing. set (seen m).state.stand turn.processor standing) h.stands
 
 pub state_path : (m : Holding) (turn : Turn) (old new : Local) (words : List ℕ) → HasActed m turn old new words
     → record { words = words; stand = map (standing_of m.shape m.code) (set m.locals turn.processor new) }
-      ≡ happens m.shape m.code (seen m).state turn
+    ≡ happens m.shape m.code (seen m).state turn
 state_path m turn old new words h =
     (λ i. record { words = h.words_are i; stand = stand_path m turn old new words h i })
     ∙ sym (happens_is m turn old h.at)
@@ -133,8 +133,8 @@ turned_is m turn old new words forks takes work h f t w =
     let fs : forks ≡ length (forks_of (seen m).state turn) = f ∙ sym (ap (λ found. forks_at turn.act (stand_in found)) stands) in
     let ts : takes ≡ length (takes_of (seen m).state turn) = t ∙ sym (ap (λ found. takes_at turn.act (stand_in found)) stands) in
     let ws : work ≡ length (work_of (seen m).state turn) =
-        w ∙ work_is m.shape m.code turn.processor turn.act (standing_of m.shape m.code old)
-        ∙ sym (ap (λ found. length (step_by (λ st. work_next turn.processor (next_of st)) turn.act (stand_in found))) stands) in
+    w ∙ work_is m.shape m.code turn.processor turn.act (standing_of m.shape m.code old)
+    ∙ sym (ap (λ found. length (step_by (λ st. work_next turn.processor (next_of st)) turn.act (stand_in found))) stands) in
     λ i. record {
       shape = m.shape;
       code = m.code;
@@ -157,11 +157,11 @@ told_is m turn old new words event work next h own told w n =
     let stands = stands_at m turn.processor old h.at in
     let e = subst (λ (k : ℕ). event ≡ event_acted m.shape m.code k turn.act m.words (standing_of m.shape m.code old)) own told in
     let es = e ∙ event_is m.shape m.code (seen m).state turn (standing_of m.shape m.code old)
-        ∙ sym (ap (λ found. event_by m.shape m.code (seen m).state turn (stand_in found)) stands) in
+    ∙ sym (ap (λ found. event_by m.shape m.code (seen m).state turn (stand_in found)) stands) in
     let ws = w ∙ sym (ap (λ found. is_work_turn m.shape m.code turn.act (stand_in found)) stands) in
     let after = ap (λ found. next_of (stand_in found))
-        (get_changed (seen m).state.stand turn.processor
-          (stand_acted m.shape m.code turn.processor turn.act m.words (standing_of m.shape m.code old)) (standing_of m.shape m.code old) stands) in
+    (get_changed (seen m).state.stand turn.processor
+    (stand_acted m.shape m.code turn.processor turn.act m.words (standing_of m.shape m.code old)) (standing_of m.shape m.code old) stands) in
     let ns = n ∙ ap (λ standing. next_of standing) h.stands ∙ sym after
-        ∙ sym (ap (λ (state : State). next_of (stand_of state turn.processor)) (happens_is m turn old h.at)) in
+    ∙ sym (ap (λ (state : State). next_of (stand_of state turn.processor)) (happens_is m turn old h.at)) in
     λ i. record { event = es i; work = ws i; next = ns i }

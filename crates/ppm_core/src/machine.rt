@@ -4,7 +4,7 @@ ghost use Rattle.std.specs.List.{All, sum};
 ghost use Rattle.ppm_cells.specs.Cells.{arrays_at};
 ghost use Rattle.ppm_core.specs.Acts.{IsTurnAmong, seeks_holder_at, is_done_at};
 ghost use Rattle.ppm_core.specs.Machine.{AreLocals, seen};
-ghost use Rattle.ppm_core.specs.Situation.{loaded, turned, run_on, finish_in, ending_of, array_in};
+ghost use Rattle.ppm_core.specs.Situation.{array_in, ending_of, finish_in, loaded, run_on, turned};
 ghost use Rattle.ppm_step.specs.Locals.{standing_of};
 ghost use Rattle.ppm_step.specs.Standings.{IsLost};
 ghost use Rattle.ppm_step.specs.State.{stand_of, next_of};
@@ -41,15 +41,15 @@ impl Model for Machine {
     ghost Value = { Holding };
 
     ghost view = { λ m. record {
-        shape = m.shape;
-        code = m.code;
-        array_lengths = m.array_lengths.items;
-        words = m.words.items;
-        locals = m.locals.items;
-        forks = m.forks;
-        takes = m.takes;
-        work = m.work;
-        turns = m.turns
+      shape = m.shape;
+      code = m.code;
+      array_lengths = m.array_lengths.items;
+      words = m.words.items;
+      locals = m.locals.items;
+      forks = m.forks;
+      takes = m.takes;
+      work = m.work;
+      turns = m.turns;
     } };
 
     ghost invariant = { λ m. AreStores m.shape m.array_lengths.items m.words.items × AreLocals m.shape m.code m.locals.items
@@ -170,8 +170,8 @@ impl Machine {
         self.words[at as usize]
     }
 
-    /// How the run has ended.
-    pub fn ending(&self) -> Ending
+    /// How the run has ended, as the finish word says.
+    pub fn outcome(&self) -> Ending
         ensures { result ≡ ending_of (finish_in (seen self.now)) }
     {
         let word = self.finish_word();
