@@ -14,10 +14,10 @@ pub follow_on : (s : Shape) (code : CodeParts) → FollowOn s code
 follow_on s code state [] more = refl
 follow_on s code state (turn ∷ turns) more = follow_on s code (happens s code state turn) turns more
 
-pub tell_on : (s : Shape) (code : CodeParts) → TellOn s code
-tell_on s code told state [] more = refl
-tell_on s code told state (turn ∷ turns) more =
-    ap (λ rest. told state turn ++ rest) (tell_on s code told (happens s code state turn) turns more)
+pub tell_on : (X : Type 0) (s : Shape) (code : CodeParts) → TellOn X s code
+tell_on X s code told state [] more = refl
+tell_on X s code told state (turn ∷ turns) more =
+    ap (λ rest. told state turn ++ rest) (tell_on X s code told (happens s code state turn) turns more)
     ∙ sym (append_assoc (told state turn) (along s code told (happens s code state turn) turns) (along s code told (after s code (happens s code state turn) turns) more))
 
 pub done_is_done : (s : Shape) (code : CodeParts) → DoneIsDone s code

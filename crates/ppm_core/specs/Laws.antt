@@ -10,9 +10,9 @@ use Rattle.ppm_step.specs.State.{State, stand_of, happens, after, along}
 abbrev pub FollowOn : Shape → CodeParts → Type 0
 FollowOn s code = (state : State) (first more : List Turn) → after s code state (first ++ more) ≡ after s code (after s code state first) more
 
--- so does what they tell
-abbrev pub TellOn : Shape → CodeParts → Type 0
-TellOn s code = (told : State → Turn → List ℕ) (state : State) (first more : List Turn)
+-- so does what they tell, whatever is told
+abbrev pub TellOn : Type 0 → Shape → CodeParts → Type 0
+TellOn X s code = (told : State → Turn → List X) (state : State) (first more : List Turn)
     → along s code told state (first ++ more) ≡ along s code told state first ++ along s code told (after s code state first) more
 
 -- a processor that is done changes nothing
