@@ -1,5 +1,5 @@
 -- Lists with one element changed, or one more.
-use Rattle.std.proofs.Common.{◌≡◌, ℕ, zero, suc, ◌<◌, List, [], ◌∷◌, ◌++◌, length, set, slice_get, Some, ◌⊎◌, inl, inr, refl, ap, arith}
+use Rattle.std.proofs.Common.{◌≡◌, ℕ, zero, suc, List, [], ◌∷◌, ◌++◌, length, set, slice_get, Some, ◌⊎◌, inl, inr, refl, ap}
 
 -- what stands at a place, where one has changed
 again : {X : Type 0} (n m : ℕ) (x y : X) (zs : List X) → ((m ≡ n) × (x ≡ y)) ⊎ (slice_get zs m ≡ Some y)

@@ -1,5 +1,5 @@
 -- One turn: what is done to one processor and to the words is what the rules make of the state.
-use Rattle.std.proofs.Common.{◌≡◌, ◌∙◌, ℕ, zero, suc, ◌+◌, ◌<◌, Bool, true, false, if◌then◌else◌, List, [], ◌∷◌, length, map, set, slice_get, option_map, Option, Some, None, refl, sym, ap, subst, arith}
+use Rattle.std.proofs.Common.{◌≡◌, ◌∙◌, ℕ, ◌+◌, Bool, if◌then◌else◌, List, length, map, set, slice_get, option_map, Option, Some, refl, sym, ap, subst}
 use Rattle.std.proofs.lemmas.List.{map-set}
 use Rattle.std.proofs.lemmas.Option.{slice_get-map}
 use Rattle.ppm_cells.specs.declared.shape.Shape.{Shape}
@@ -10,7 +10,6 @@ use Rattle.ppm_step.specs.declared.turn.Act.{Act}
 use Rattle.ppm_step.specs.declared.turn.Act.TheVariants.{Step, Soft, Hard, Quit}
 use Rattle.ppm_step.specs.declared.turn.Next.{Next}
 use Rattle.ppm_step.specs.declared.turn.Next.TheVariants.{Work, Look, Seek, Done}
-use Rattle.ppm_step.specs.declared.turn.Told.{Told}
 use Rattle.ppm_step.specs.declared.turn.Turn.{Turn}
 use Rattle.ppm_step.specs.Locals.{standing_of}
 use Rattle.ppm_step.specs.Standings.{Standing, IsLost, IsPlaced, IsAt, IsWithin, IsRunning, IsBroken, IsDone}
@@ -18,7 +17,7 @@ use Rattle.ppm_step.specs.State.{State, stand_in, stand_of, acts, happens, next_
 use Rattle.ppm_step.specs.Told.{event_by, is_work_turn, told_of}
 use Rattle.ppm_core.specs.Acts.{words_acted, stand_acted, event_acted, forks_at, takes_at}
 use Rattle.ppm_core.specs.Machine.{Holding, seen}
-use Rattle.ppm_core.specs.Situation.{Situation, turned}
+use Rattle.ppm_core.specs.Situation.{turned}
 use Rattle.ppm_core.proofs.ListLemmas.{get_changed, set_same}
 
 abbrev pub state_acted : Shape → CodeParts → State → (own : ℕ) → Act → Standing → State

@@ -1,5 +1,5 @@
 -- What an act of one processor makes of the words, where the processor stands then, and what is told of it.
-use Rattle.std.specs.Prelude.{ℕ, ◌<◌, Bool, true, false, List, [], ◌∷◌, length, Option, Some, None}
+use Rattle.std.specs.Prelude.{ℕ, ◌<◌, Bool, true, false, List, length, Option, Some, None}
 use Rattle.ppm_cells.specs.declared.shape.Shape.{Shape}
 use Rattle.ppm_code.specs.declared.code.CodeParts.{CodeParts}
 use Rattle.ppm_words.specs.declared.event.Event.{Event}
@@ -12,7 +12,7 @@ use Rattle.ppm_step.specs.declared.row.Then.{Then}
 use Rattle.ppm_step.specs.declared.row.Then.TheVariants.{Load}
 use Rattle.ppm_step.specs.declared.row.Row.{Row}
 use Rattle.ppm_step.specs.declared.row.Row.TheVariants.{Now}
-use Rattle.ppm_step.specs.Standings.{Standing, IsLost, IsPlaced, IsAt, IsWithin, IsRunning, IsBroken, IsDone}
+use Rattle.ppm_step.specs.Standings.{Standing, IsWithin, IsDone}
 use Rattle.ppm_step.specs.State.{want_of, stand_after, found_in, words_after, step_by, row_by, fork_row, take_row}
 use Rattle.ppm_step.specs.Told.{act_event, place_of}
 

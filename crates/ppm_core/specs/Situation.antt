@@ -1,5 +1,5 @@
 -- A machine as its contracts see it, and what turns make of it.
-use Rattle.std.specs.Prelude.{ℕ, zero, suc, ◌+◌, List, [], ◌∷◌, length, take, drop, get_or, Option, Some, None}
+use Rattle.std.specs.Prelude.{ℕ, zero, suc, ◌+◌, List, length, take, drop, get_or, Option, Some, None}
 use Rattle.std.specs.List.{sum}
 use Rattle.ppm_cells.specs.Cells.{arrays_at}
 use Rattle.ppm_cells.specs.Finish.{finish_of}

@@ -1,4 +1,3 @@
-use Rattle.std.proofs.Common.{◌≤◌}
 use Rattle.ppm_core.proofs.LocalLemmas.{AreLost}
 use Rattle.ppm_core.proofs.machine.lost_locals.Given as goal
 

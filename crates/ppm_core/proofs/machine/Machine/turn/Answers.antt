@@ -1,7 +1,6 @@
-use Rattle.std.proofs.Common.{◌≡◌, ◌∙◌, ℕ, ◌<◌, length, if◌then◌else◌, Some, slice_get, refl, sym, ap, arith}
+use Rattle.std.proofs.Common.{◌∙◌, ◌<◌, length, if◌then◌else◌, refl, sym, ap, arith}
 use Rattle.std.proofs.lemmas.Option.{slice_get_read}
-use Rattle.ppm_core.specs.Machine.{Holding, seen}
-use Rattle.ppm_core.specs.Situation.{turned}
+use Rattle.ppm_core.specs.Machine.{Holding}
 use Rattle.ppm_core.proofs.LocalLemmas.{one_changed}
 use Rattle.ppm_core.proofs.TurnLemmas.{has_acted, turned_is, told_is}
 use Rattle.ppm_core.proofs.machine.Machine.turn.Goals as goal
