@@ -2,7 +2,7 @@
 ghost use Rattle.std.specs.Prelude.{◌≡◌, ◌<◌, ◌↔◌, IfOk, IfSome, IsTrue, length};
 ghost use Rattle.std.specs.List.{All};
 ghost use Rattle.ppm_words.specs.Inputs.{value_count};
-ghost use Rattle.ppm_core.specs.Acts.{IsActAmong};
+ghost use Rattle.ppm_core.specs.Acts.{IsActAmong, IsTurnAmong};
 
 use ppm_cells::{Finish, Shape};
 use ppm_code::Code;
@@ -94,6 +94,24 @@ fn take_turn(machine: &mut Machine, processor: u32, act: Act) -> Option<Told> {
         return None;
     }
     Some(machine.turn(Turn { processor, act }))
+}
+
+/// Whether the processor and the victim of a turn are there.
+fn is_turn_among(processors: u32, turn: &Turn) -> bool
+    ensures { IsTrue result ↔ IsTurnAmong processors turn.now }
+{
+    turn.processor < processors && is_among(processors, turn.act)
+}
+
+/// The turns of a list, if there are such processors.
+fn take_turns(machine: &mut Machine, turns: &[Turn]) -> bool {
+    let processors = machine.processors();
+    let all = turns.iter().all(|turn| is_turn_among(processors, turn));
+    if !all || turns.len() > 1000 || machine.turns() > 100_000 {
+        return false;
+    }
+    machine.run_along(turns);
+    true
 }
 
 /// Processors in turn, until the finish word isn't 0; how many turns there were.
@@ -202,6 +220,37 @@ fn a_dead_one_is_done(rt: HostRuntime) -> Result<(), Fail> {
     let told = take_turn(&mut machine, 0, Act::Step { victim: 0 }).ok_or("a processor")?;
     assert_eq!(rt; told.event, None);
     assert_eq!(rt; machine.turns(), 2);
+    Ok(())
+}
+
+#[test]
+fn two_begin(rt: HostRuntime) -> Result<(), Fail> {
+    let alloc = rt.alloc();
+    let mut machine = fork_machine(alloc, 2, false)?;
+    // Carry and restart word, and then the finish word.
+    let first = Turn {
+        processor: 0,
+        act: Act::Step { victim: 1 },
+    };
+    let second = Turn {
+        processor: 1,
+        act: Act::Step { victim: 0 },
+    };
+    let turns = [first, second, first, second];
+    assert!(rt; take_turns(&mut machine, &turns));
+    assert!(rt; machine.processors() > 1);
+    if machine.processors() > 1 {
+        assert_eq!(rt; machine.next(0), Next::Look);
+        assert_eq!(rt; machine.next(1), Next::Seek);
+        assert!(rt; !machine.seeks_holder(1));
+    }
+    assert!(rt; take_turns(&mut machine, &[first, second]));
+    if machine.processors() > 1 {
+        assert_eq!(rt; machine.next(0), Next::Work);
+        assert!(rt; machine.seeks_holder(1));
+        assert!(rt; !machine.is_done(1));
+    }
+    assert_eq!(rt; machine.turns(), 6);
     Ok(())
 }
 
