@@ -41,12 +41,7 @@ pub(crate) fn outcome(alloc: Global, tree: &Tree, turns: u64) -> Result<Outcome,
 
 /// The same of a tree that is laid out.
 #[inline(always)]
-fn outcome_of(
-    alloc: Global,
-    code: &Code,
-    tree: &Tree,
-    turns: u64,
-) -> Result<Outcome, NoMemory>
+fn outcome_of(alloc: Global, code: &Code, tree: &Tree, turns: u64) -> Result<Outcome, NoMemory>
     ensures { IfOk result (λ outcome. IsLaid (tree_of tree.now).procedures code.now → Serial (tree_of tree.now) turns outcome) }
 {
     let mut run = begin(alloc, code, tree, turns)?;
