@@ -11,13 +11,19 @@ use ppm_serial::serial;
 use ppm_tree::Program;
 use ppm_words::{NoMemory, Outcome};
 use std::alloc::Global;
+use std::mem::ManuallyDrop;
 
 /// What `serial` says of a text: the outcome of its program within so many turns, or its refusal.
 pub(crate) fn text_answer(alloc: Global, turns: u64, text: &[u8]) -> Answer
     ensures { TextMay (SerialHas turns) text.now result }
 {
     match program_of(alloc, text) {
-        Ok(admitted) => program_answer(alloc, turns, admitted.program()),
+        Ok(admitted) => {
+            let answer = program_answer(alloc, turns, admitted.program());
+            // The command ends: the system takes back at once what would be given back node by node.
+            let _admitted = ManuallyDrop::new(admitted);
+            answer
+        }
         Err(JudgeError::Refused(refusal)) => Answer::SourceRefused(refusal),
         Err(JudgeError::NoMemory) => Answer::NoMemory,
     }

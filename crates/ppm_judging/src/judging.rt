@@ -1,6 +1,8 @@
 //! The program of a text, or why it is refused.
 ghost use Rattle.std.specs.Prelude.{IfOk, IfErr};
 ghost use Rattle.ppm_tree.specs.Tree.{tree_of};
+ghost use Rattle.ppm_rows.specs.Correct.{HasTree};
+ghost use Rattle.ppm_parser.specs.Faults.{IsFault};
 ghost use Rattle.ppm_judging.specs.Programs.{IsTreeOf, HasProgram, IsAdmittedTreeOf};
 ghost use Rattle.ppm_judging.specs.Judging.{MayStop};
 
@@ -8,9 +10,10 @@ use ppm_answers::{Pass, Refusal};
 use ppm_bounds::{BoundError, within_bounds};
 use ppm_parser::{SyntaxError, parse};
 use ppm_regions::{Admitted, RegionError, admit};
-use ppm_text::{TextError, tokens};
+use ppm_text::{TextError, Tokens, tokens};
 use ppm_tree::Program;
 use std::alloc::Global;
+use std::mem::ManuallyDrop;
 use thiserror::Error;
 
 /// Why a text has no program.
@@ -96,13 +99,23 @@ impl From<BoundError> for JudgeError {
     }
 }
 
+/// The program of the tokens, or their fault. What the tokens hold is not given back name by name.
+fn parsed(alloc: Global, all: Tokens) -> Result<Program, SyntaxError>
+    ensures tree { IfOk result (λ program. HasTree all.tokens (tree_of program)) }
+    ensures fault { IfErr result (λ error. IsFault all error) }
+{
+    let program = parse(alloc, &all);
+    let _tokens = ManuallyDrop::new(all);
+    program
+}
+
 /// The tree of a text within the limits.
 fn derived_of(alloc: Global, text: &[u8]) -> Result<Program, JudgeError>
     ensures tree { IfOk result (λ s. IsTreeOf text.now (tree_of s)) }
     ensures refused { IfErr result (MayStop text.now) }
 {
     let all = tokens(alloc, text)?;
-    let program = parse(alloc, &all)?;
+    let program = parsed(alloc, all)?;
     Ok(program)
 }
 
@@ -119,12 +132,19 @@ fn admitted_of(alloc: Global, text: &[u8]) -> Result<Admitted, JudgeError>
 }
 
 /// The program of a text, admitted and within the bounds of the compiler, or the one reason for which it is refused:
-/// its bytes are judged first, then its tokens, then names and regions, then the bounds.
+/// its bytes are judged first, then its tokens, then names and regions, then the bounds. Its tokens, and the tree of a text
+/// that passes a bound, stay in memory to the end of the process, where the system takes all back at once.
 pub fn program_of(alloc: Global, text: &[u8]) -> Result<Admitted, JudgeError>
     ensures program { IfOk result (λ a. HasProgram text.now (tree_of a)) }
     ensures refused { IfErr result (MayStop text.now) }
 {
     let admitted = admitted_of(alloc, text)?;
-    within_bounds(alloc, admitted.program())?;
-    Ok(admitted)
+    match within_bounds(alloc, admitted.program()) {
+        Ok(()) => Ok(admitted),
+        Err(error) => {
+            // Nor is the tree, node by node.
+            let _admitted = ManuallyDrop::new(admitted);
+            Err(JudgeError::from(error))
+        }
+    }
 }

@@ -6,6 +6,7 @@
 #![tactic(auto)]
 
 mod code;
+mod content;
 mod frame;
 mod interpret;
 mod lay;

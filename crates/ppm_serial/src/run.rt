@@ -161,6 +161,7 @@ impl Run {
     }
 
     /// Passes what a call passes, from left to right.
+    #[inline(always)]
     fn pass(&self, passed: &[Passed], callee: &mut Frame) -> Result<(), Stop>
         ensures { Does result callee.new (passing self.now.frame self.now.store passed.now callee.old) }
     {

@@ -4,7 +4,8 @@ ghost use Rattle.ppm_serial.specs.Answers.{Does, IsPopped};
 ghost use Rattle.ppm_serial.specs.Slots.{fresh};
 
 use crate::code::{Place, Stop};
-use crate::frame::{Frame, Regions};
+use crate::content::Regions;
+use crate::frame::Frame;
 use crate::region::Region;
 use ppm_words::NoMemory;
 use std::alloc::Global;

@@ -6,6 +6,7 @@ ghost use Rattle.ppm_tree.specs.Values.{applied, decided};
 ghost use Rattle.ppm_serial.specs.Worth.{at_line, stopped, untrapped, worth};
 
 use crate::code::{Stop, Value};
+use crate::content::Content;
 use crate::frame::Frame;
 use crate::region::Region;
 use crate::store::Store;
@@ -48,12 +49,12 @@ fn operate(operator: Operator, x: i64, y: i64) -> Option<i64>
 
 /// What a number or a local is worth; none of any other expression.
 #[inline(always)]
-fn at_once(frame: &Frame, value: &Value) -> Option<i64>
-    ensures { IfSome result (λ x. (a : Arrays) → untrapped frame.now a value.now ≡ Some x) }
+fn at_once(content: &Content, value: &Value) -> Option<i64>
+    ensures { IfSome result (λ x. (a : Arrays) → untrapped content.now a value.now ≡ Some x) }
 {
     match value {
         Value::Number(number) => Some(*number),
-        Value::Local(slot) => Some(frame.local(*slot)),
+        Value::Local(slot) => Some(content.local(*slot)),
         Value::Element(_, _, _) => None,
         Value::Len(_) => None,
         Value::Minus(_, _) => None,
@@ -64,39 +65,39 @@ fn at_once(frame: &Frame, value: &Value) -> Option<i64>
 /// What an expression is worth in a frame, none where it traps. A value and its absence fit into registers, where a trap
 /// with its line does not, so this is tried first.
 #[inline(never)]
-fn untrapped(frame: &Frame, store: &Store, value: &Value) -> Option<i64>
-    ensures { result ≡ untrapped frame.now store.now value.now }
+fn untrapped(content: &Content, store: &Store, value: &Value) -> Option<i64>
+    ensures { result ≡ untrapped content.now store.now value.now }
 {
     match value {
         Value::Number(number) => Some(*number),
-        Value::Local(slot) => Some(frame.local(*slot)),
+        Value::Local(slot) => Some(content.local(*slot)),
         Value::Element(slot, line, index) => {
-            let index = match at_once(frame, index) {
+            let index = match at_once(content, index) {
                 Some(index) => index,
-                None => untrapped(frame, store, index)?,
+                None => untrapped(content, store, index)?,
             };
-            let region = frame.region(*slot);
+            let region = content.region(*slot);
             match index_in(*line, &region, index) {
                 Ok(at) => Some(store.word(region.array(), region.place(at))),
                 Err(_) => None,
             }
         }
-        Value::Len(slot) => Some(frame.region(*slot).length() as i64),
+        Value::Len(slot) => Some(content.region(*slot).length() as i64),
         Value::Minus(_, operand) => {
-            let x = untrapped(frame, store, operand)?;
+            let x = untrapped(content, store, operand)?;
             negate(x).ok()
         }
         Value::Binary(operator, _, left, right) => {
-            let x = match at_once(frame, left) {
+            let x = match at_once(content, left) {
                 Some(x) => x,
-                None => untrapped(frame, store, left)?,
+                None => untrapped(content, store, left)?,
             };
             if let Some(value) = decide(*operator, x) {
                 return Some(value);
             }
-            let y = match at_once(frame, right) {
+            let y = match at_once(content, right) {
                 Some(y) => y,
-                None => untrapped(frame, store, right)?,
+                None => untrapped(content, store, right)?,
             };
             operate(*operator, x, y)
         }
@@ -108,40 +109,41 @@ fn untrapped(frame: &Frame, store: &Store, value: &Value) -> Option<i64>
 pub(crate) fn worth(frame: &Frame, store: &Store, value: &Value) -> Result<i64, Stop>
     ensures { result ≡ worth frame.now store.now value.now }
 {
-    if let Some(x) = at_once(frame, value) {
+    let content = frame.content();
+    if let Some(x) = at_once(content, value) {
         return Ok(x);
     }
-    match untrapped(frame, store, value) {
+    match untrapped(content, store, value) {
         Some(x) => Ok(x),
-        None => trapping(frame, store, value),
+        None => trapping(content, store, value),
     }
 }
 
 /// The same, for an expression that traps: which trap comes first, and in which line.
 #[inline(never)]
-fn trapping(frame: &Frame, store: &Store, value: &Value) -> Result<i64, Stop>
-    ensures { result ≡ worth frame.now store.now value.now }
+fn trapping(content: &Content, store: &Store, value: &Value) -> Result<i64, Stop>
+    ensures { result ≡ worth content.now store.now value.now }
 {
     match value {
         Value::Number(number) => Ok(*number),
-        Value::Local(slot) => Ok(frame.local(*slot)),
+        Value::Local(slot) => Ok(content.local(*slot)),
         Value::Element(slot, line, index) => {
-            let index = trapping(frame, store, index)?;
-            let region = frame.region(*slot);
+            let index = trapping(content, store, index)?;
+            let region = content.region(*slot);
             let at = index_in(*line, &region, index)?;
             Ok(store.word(region.array(), region.place(at)))
         }
-        Value::Len(slot) => Ok(frame.region(*slot).length() as i64),
+        Value::Len(slot) => Ok(content.region(*slot).length() as i64),
         Value::Minus(line, operand) => {
-            let x = trapping(frame, store, operand)?;
+            let x = trapping(content, store, operand)?;
             at_line(*line, negate(x))
         }
         Value::Binary(operator, line, left, right) => {
-            let x = trapping(frame, store, left)?;
+            let x = trapping(content, store, left)?;
             if let Some(value) = decide(*operator, x) {
                 return Ok(value);
             }
-            let y = trapping(frame, store, right)?;
+            let y = trapping(content, store, right)?;
             at_line(*line, apply(*operator, x, y))
         }
     }

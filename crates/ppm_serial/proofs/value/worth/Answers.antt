@@ -4,8 +4,13 @@ use Rattle.ppm_serial.proofs.WorthLemmas.{worth_is}
 use Rattle.ppm_serial.proofs.value.worth.Goals as goal
 
 pub returns-in-Some : goal.returns-in-Some
-returns-in-Some c = let e = worth_is c.args.frame.now c.args.store.now c.args.value.now c.in-Some.x (c.in-Some.ensures c.args.store.now) in search (rules, e)
+returns-in-Some c =
+    let e = worth_is _ c.args.store.now c.args.value.now c.in-Some.x (c.in-Some.ensures c.args.store.now) in
+    let f = c.content-content.ensures in
+    search (rules, e, f)
 
 pub returns-in-Some-untrapped : goal.returns-in-Some-untrapped
 returns-in-Some-untrapped c =
-    let e = worth_is c.args.frame.now c.args.store.now c.args.value.now c.in-Some-untrapped.x (sym c.in-Some-untrapped.ensures) in search (rules, e)
+    let e = worth_is _ c.args.store.now c.args.value.now c.in-Some-untrapped.x (sym c.in-Some-untrapped.ensures) in
+    let f = c.content-content.ensures in
+    search (rules, e, f)

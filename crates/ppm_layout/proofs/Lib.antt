@@ -1,0 +1,8 @@
+pub mod ImageLemmas
+pub mod InputLemmas
+pub mod OneLemmas
+pub mod RangeLemmas
+pub mod RootLemmas
+pub mod SampleLemmas
+pub mod SequenceLemmas
+pub mod ValueLemmas

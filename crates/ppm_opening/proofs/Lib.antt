@@ -1,0 +1,2 @@
+mod RegionLemmas
+mod Theorem

@@ -1,0 +1,14 @@
+mod CutLemmas
+mod NumberLemmas
+mod DrawLemmas
+mod SourceLemmas
+mod ReadingLemmas
+mod AnswerLemmas
+mod TableLemmas
+mod SpellingLemmas
+mod PlanItemLemmas
+mod ScheduleItemLemmas
+mod AmongLemmas
+mod ActLemmas
+mod TextLemmas
+mod SaidLemmas

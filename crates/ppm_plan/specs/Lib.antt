@@ -1,0 +1,13 @@
+pub mod Pieces
+pub mod Numbers
+pub mod Items
+pub mod Forms
+pub mod Refusals
+pub mod Fronts
+pub mod Faults
+pub mod Schedules
+pub mod Tables
+pub mod Draws
+pub mod Sources
+pub mod Correct
+pub mod Spellings
