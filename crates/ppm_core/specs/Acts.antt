@@ -1,0 +1,72 @@
+-- What an act of one processor makes of the words, where the processor stands then, and what is told of it.
+use Rattle.std.specs.Prelude.{ℕ, ◌<◌, Bool, true, false, List, [], ◌∷◌, length, Option, Some, None}
+use Rattle.ppm_cells.specs.declared.shape.Shape.{Shape}
+use Rattle.ppm_code.specs.declared.code.CodeParts.{CodeParts}
+use Rattle.ppm_words.specs.declared.event.Event.{Event}
+use Rattle.ppm_step.specs.declared.turn.Act.{Act}
+use Rattle.ppm_step.specs.declared.turn.Act.TheVariants.{Step, Soft, Hard, Quit}
+use Rattle.ppm_step.specs.declared.turn.Turn.{Turn}
+use Rattle.ppm_step.specs.declared.row.Point.{Point}
+use Rattle.ppm_step.specs.declared.row.Point.TheVariants.{SeekHolder}
+use Rattle.ppm_step.specs.declared.row.Then.{Then}
+use Rattle.ppm_step.specs.declared.row.Then.TheVariants.{Load}
+use Rattle.ppm_step.specs.declared.row.Row.{Row}
+use Rattle.ppm_step.specs.declared.row.Row.TheVariants.{Now}
+use Rattle.ppm_step.specs.Standings.{Standing, IsLost, IsPlaced, IsAt, IsWithin, IsRunning, IsBroken, IsDone}
+use Rattle.ppm_step.specs.State.{want_of, stand_after, found_in, words_after, step_by, row_by, fork_row, take_row}
+use Rattle.ppm_step.specs.Told.{act_event, place_of}
+
+-- the victim that a step names is a processor
+abbrev pub IsActAmong : (processors : ℕ) → Act → Type 0
+IsActAmong processors (Step victim) = victim < processors
+IsActAmong processors Soft = Unit {0}
+IsActAmong processors Hard = Unit {0}
+IsActAmong processors (Quit why) = Unit {0}
+
+-- so is the processor whose turn it is
+pub record IsTurnAmong (processors : ℕ) (turn : Turn) : Type 0 where
+  pub processor : turn.processor < processors
+  pub act : IsActAmong processors turn.act
+
+-- whether a processor takes no step any more
+abbrev pub is_done_at : Standing → Bool
+is_done_at IsDone = true
+is_done_at standing = false
+
+-- whether the coming step is the load of a holder word, for which a turn names the victim
+abbrev pub seeks_point : Point → Bool
+seeks_point SeekHolder = true
+seeks_point point = false
+
+abbrev pub seeks_then : Then → Bool
+seeks_then (Load point) = seeks_point point
+seeks_then next = false
+
+abbrev pub seeks_row : Row → Bool
+seeks_row (Now next) = seeks_then next
+seeks_row row = false
+
+abbrev pub seeks_holder_at : Standing → Bool
+seeks_holder_at (IsWithin seat row) = seeks_row row
+seeks_holder_at standing = false
+
+-- the forks and takes of an act by a processor that stands there
+abbrev pub forks_at : Act → Standing → ℕ
+forks_at act standing = length (step_by (row_by fork_row) act standing)
+
+abbrev pub takes_at : Act → Standing → ℕ
+takes_at act standing = length (step_by (row_by take_row) act standing)
+
+-- of one that is done nothing comes
+module _ (s : Shape) (code : CodeParts) (own : ℕ) (act : Act) (words : List ℕ) where
+  abbrev pub words_acted : Standing → List ℕ
+  words_acted IsDone = words
+  words_acted standing = words_after words (want_of s code own act standing)
+
+  abbrev pub stand_acted : Standing → Standing
+  stand_acted IsDone = IsDone
+  stand_acted standing = stand_after s code own act (found_in words (want_of s code own act standing)) standing
+
+  abbrev pub event_acted : Standing → Option Event
+  event_acted IsDone = None
+  event_acted standing = Some (act_event words (place_of standing) act (want_of s code own act standing))

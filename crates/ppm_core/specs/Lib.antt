@@ -1,0 +1,4 @@
+pub mod Acts
+pub mod Situation
+pub mod Machine
+pub mod Laws

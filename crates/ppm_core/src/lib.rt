@@ -1,0 +1,19 @@
+//! The machine: words, a code, and processors that take turns on them.
+//! Model: a state of words and standings, along a list of turns (`specs/Situation`).
+//! Contract: a turn is one item of a run, and what it tells is that item's; a list of turns is the run of the list.
+//! Stands on `ppm_step` and `ppm_layout`; whoever follows a schedule, or shares the words among threads, stands on it.
+//! After the parallel persistent memory of Blelloch et al., SPAA 2018.
+#![tactic(auto)]
+
+mod acts;
+mod ending;
+mod laws;
+mod machine;
+#[cfg(test)]
+mod tests;
+
+pub use ending::Ending;
+pub use laws::{done_is_done, turns_follow_on, turns_tell_on};
+pub use machine::Machine;
+pub use ppm_layout::Image;
+pub use ppm_step::{Act, Next, Told, Turn, Why};

@@ -1,0 +1,262 @@
+//! The machine.
+ghost use Rattle.std.specs.Prelude.{◌≡◌, ◌<◌, ◌≤◌, ◌+◌, ◌^◌, IfOk, length, map, replicate, get_or};
+ghost use Rattle.std.specs.List.{All, sum, take};
+ghost use Rattle.ppm_cells.specs.Cells.{arrays_at};
+ghost use Rattle.ppm_core.specs.Acts.{IsTurnAmong, seeks_holder_at, is_done_at};
+ghost use Rattle.ppm_core.specs.Machine.{AreLocals};
+ghost use Rattle.ppm_core.specs.Situation.{loaded, turned, run_on, finish_in, ending_of, array_in};
+ghost use Rattle.ppm_step.specs.Locals.{standing_of};
+ghost use Rattle.ppm_step.specs.Standings.{IsLost};
+ghost use Rattle.ppm_step.specs.State.{stand_of, next_of};
+ghost use Rattle.ppm_step.specs.Told.{told_of};
+
+use crate::acts::{act_on, forks_by, is_done, is_work_by, seeks_holder, takes_by};
+use crate::ending::Ending;
+use ppm_cells::{Cell, Finish, Shape};
+use ppm_code::Code;
+use ppm_layout::Image;
+use ppm_step::{Local, Next, Told, Turn};
+use ppm_words::NoMemory;
+use std::alloc::Global;
+use std::marker::Model;
+
+/// A machine: its words, and its processors at their places. It is seen as its sizes, code and arrays' lengths, its state, and
+/// the counts of its turns since it was loaded.
+#[derive(Drop)]
+pub struct Machine {
+    shape: Shape,
+    code: Code,
+    array_lengths: Vec<u32>,
+    words: Vec<u64>,
+    locals: Vec<Local>,
+    forks: u64,
+    takes: u64,
+    work: u64,
+    turns: u64,
+}
+
+impl Model for Machine {
+    ghost use Rattle.std.specs.Prelude.{map};
+    ghost use Rattle.ppm_core.specs.Machine.{AreLocals, AreCounts, AreStores};
+    ghost use Rattle.ppm_core.specs.Situation.{Situation};
+    ghost use Rattle.ppm_step.specs.Locals.{standing_of};
+
+    ghost Value = { Situation };
+
+    ghost view = { λ m. record {
+        shape = m.shape;
+        code = m.code;
+        array_lengths = m.array_lengths.items;
+        state = record { words = m.words.items; stand = map (standing_of m.shape m.code) m.locals.items };
+        forks = m.forks;
+        takes = m.takes;
+        work = m.work;
+        turns = m.turns
+    } };
+
+    ghost invariant = { λ m. AreStores m.shape m.array_lengths.items m.words.items × AreLocals m.shape m.code m.locals.items
+        × AreCounts m.forks m.takes m.work m.turns };
+}
+
+/// All processors of a machine, each lost.
+fn lost_locals(alloc: Global, shape: &Shape, code: &Code) -> Result<Vec<Local>, NoMemory>
+    ensures locals { IfOk result (λ locals. AreLocals shape.now code.now locals.items) }
+    ensures stand { IfOk result (λ locals. map (standing_of shape.now code.now) locals.items ≡ replicate shape.now.processors IsLost) }
+{
+    let mut locals = Vec::new(alloc);
+    for own in 0..shape.processors {
+        locals.push(Local::lost(own))?;
+    }
+    Ok(locals)
+}
+
+/// The sum of some lengths.
+fn total(lengths: &[u32]) -> u32
+    requires { sum lengths.now < 2 ^ 32 }
+    ensures { result ≡ sum lengths.now }
+{
+    let mut total = 0;
+    let mut left = lengths;
+    while let [first, rest @ ..] = left {
+        total += *first;
+        left = rest;
+    }
+    total
+}
+
+impl Machine {
+    /// The machine with the words of an image, before its first turn: its processors know nothing. `Err` only where memory is
+    /// refused.
+    pub fn load(alloc: Global, image: Image, code: Code) -> Result<Machine, NoMemory>
+        ensures { IfOk result (λ machine. machine ≡ loaded image.shape code image.lengths image.words) }
+    {
+        let shape = image.shape;
+        let locals = lost_locals(alloc, &shape, &code)?;
+        Ok(Machine {
+            shape,
+            code,
+            array_lengths: image.lengths.into_vec(),
+            words: image.words.into_vec(),
+            locals,
+            forks: 0,
+            takes: 0,
+            work: 0,
+            turns: 0,
+        })
+    }
+
+    /// One turn: the act of a processor, which does nothing where the processor is done. Processor and victim are below the
+    /// number of processors, and there were fewer than 2^62 turns. It takes no memory, and the same time whatever the words are.
+    pub fn turn(&mut self, turn: Turn) -> Told
+        requires among { IsTurnAmong self.old.shape.processors turn }
+        requires few { self.old.turns < 2 ^ 62 }
+        ensures machine { self.new ≡ turned self.old turn }
+        ensures told { result ≡ told_of self.old.shape self.old.code self.old.state turn }
+    {
+        let local = &mut self.locals[turn.processor as usize];
+        let forks = forks_by(local, turn.act);
+        let takes = takes_by(local, turn.act);
+        let work = is_work_by(local, turn.act);
+        let event = act_on(local, &mut self.words, &self.shape, &self.code, turn.act);
+        let next = local.next();
+        self.forks += forks;
+        self.takes += takes;
+        self.work += u64::from(work);
+        self.turns += 1;
+        Told { event, work, next }
+    }
+
+    /// The turns of a list, in their order.
+    pub fn run_along(&mut self, turns: &[Turn])
+        requires among { All (IsTurnAmong self.old.shape.processors) turns.now }
+        requires few { self.old.turns + length turns.now ≤ 2 ^ 62 }
+        ensures { self.new ≡ run_on self.old turns.now }
+    {
+        let mut left = turns;
+        while let [turn, rest @ ..] = left {
+            self.turn(*turn);
+            left = rest;
+        }
+    }
+
+    /// What the coming step of a processor is.
+    pub fn next(&self, processor: u32) -> Next
+        requires { processor < self.now.shape.processors }
+        ensures { result ≡ next_of (stand_of self.now.state processor) }
+    {
+        self.locals[processor as usize].next()
+    }
+
+    /// Whether a processor takes no step any more.
+    pub fn is_done(&self, processor: u32) -> bool
+        requires { processor < self.now.shape.processors }
+        ensures { result ≡ is_done_at (stand_of self.now.state processor) }
+    {
+        is_done(&self.locals[processor as usize])
+    }
+
+    /// Whether a processor's coming step is the load of a holder word: the one step for which its turn names the victim.
+    pub fn seeks_holder(&self, processor: u32) -> bool
+        requires { processor < self.now.shape.processors }
+        ensures { result ≡ seeks_holder_at (stand_of self.now.state processor) }
+    {
+        seeks_holder(&self.locals[processor as usize])
+    }
+
+    /// The finish word.
+    pub fn finish_word(&self) -> u64
+        ensures { result ≡ finish_in self.now }
+    {
+        let at = self.shape.address(Cell::FinishWord);
+        self.words[at as usize]
+    }
+
+    /// How the run has ended.
+    pub fn ending(&self) -> Ending
+        ensures { result ≡ ending_of (finish_in self.now) }
+    {
+        let word = self.finish_word();
+        if word == 0 {
+            return Ending::NotYet;
+        }
+        match Finish::unpack(word) {
+            Some(finish) => Ending::With(finish),
+            None => Ending::Unknown,
+        }
+    }
+
+    /// All words, by their addresses.
+    pub fn words(&self) -> &[u64]
+        ensures { result.now ≡ self.now.state.words }
+    {
+        &self.words
+    }
+
+    /// How many arrays there are.
+    pub fn arrays(&self) -> usize
+        ensures { result ≡ length self.now.array_lengths }
+    {
+        self.array_lengths.len()
+    }
+
+    /// The words of an array, by its number, which is below that of the arrays.
+    pub fn array(&self, number: usize) -> &[u64]
+        requires { number < length self.now.array_lengths }
+        ensures { result.now ≡ array_in self.now number }
+    {
+        let lengths = self.array_lengths.as_slice();
+        let start = self.shape.arrays_at() + total(&lengths[..number]);
+        let start = start as usize;
+        &self.words[start..start + lengths[number] as usize]
+    }
+
+    /// The sizes.
+    pub fn shape(&self) -> Shape
+        ensures { result ≡ self.now.shape }
+    {
+        self.shape
+    }
+
+    /// The code.
+    pub fn code(&self) -> &Code
+        ensures { result.now ≡ self.now.code }
+    {
+        &self.code
+    }
+
+    /// How many processors there are, 1 to 64.
+    pub fn processors(&self) -> u32
+        ensures value { result ≡ self.now.shape.processors }
+        ensures range { (1 ≤ result) × (result ≤ 64) }
+    {
+        self.shape.processors
+    }
+
+    /// How many forks there were since it was loaded.
+    pub fn forks(&self) -> u64
+        ensures { result ≡ self.now.forks }
+    {
+        self.forks
+    }
+
+    /// How many right branches were taken.
+    pub fn takes(&self) -> u64
+        ensures { result ≡ self.now.takes }
+    {
+        self.takes
+    }
+
+    /// How many turns were work.
+    pub fn work(&self) -> u64
+        ensures { result ≡ self.now.work }
+    {
+        self.work
+    }
+
+    /// How many turns there were, those of processors that were done among them.
+    pub fn turns(&self) -> u64
+        ensures { result ≡ self.now.turns }
+    {
+        self.turns
+    }
+}

@@ -1,0 +1,1 @@
+//! Machines that run small codes.
