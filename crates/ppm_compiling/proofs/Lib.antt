@@ -18,6 +18,7 @@ pub mod HalvingLemmas
 pub mod LimitLemmas
 pub mod CountLemmas
 pub mod RootLemmas
+pub mod InputLemmas
 pub mod GivenLemmas
 pub mod SmallLemmas
 pub mod ReachLemmas

@@ -117,7 +117,7 @@ region_begins start (a ∷ input) (suc k) low =
 
 module _ (t : ProgramTree) (input : List NamedArray) (admitted : IsAdmitted t) (is : IsInputOf t input) where
   -- as many arrays as the program declares
-  as_many : length input ≡ length t.arrays
+  pub as_many : length input ≡ length t.arrays
   as_many =
       let a = length-map input (λ a. a.name) in
       let b = length-map t.arrays (λ a. a.name.name) in

@@ -1,4 +1,4 @@
-pub mod InputLemmas
+pub mod ProgramLemmas
 pub mod OutcomeLemmas
 pub mod OneAnswer
 pub mod OfRun

@@ -24,12 +24,13 @@ use Rattle.ppm_judging.specs.Programs.{HasProgram}
 use Rattle.ppm_judging.specs.Refusals.{IsRefusal}
 use Rattle.ppm_judging.specs.Correct.{HaveOneAnswer as TextsHaveOneProgram}
 use Rattle.ppm_translation.specs.Routines.{code_of}
+use Rattle.ppm_compiling.specs.Beginning.{StartWithInput}
 use Rattle.ppm_compiling.specs.Correct.{EndAsMeant, EndsAsMeant}
 use Rattle.ppm_line.specs.declared.command.RunOptions.{RunOptions}
 use Rattle.ppm_running.specs.Running.{IsOutcome, CodeEnds, turns_of, words_of_blocks, HasRoom, PassesRoom, PassesTurns}
 use Rattle.ppm_running.specs.Verdict.{ProgramHas, RunHas, told}
 use Rattle.ppm_running.specs.Correct.{HaveOneAnswer}
-use Rattle.ppm_running.proofs.InputLemmas.{tree_within, starts_with_input}
+use Rattle.ppm_running.proofs.ProgramLemmas.{tree_within}
 use Rattle.ppm_running.proofs.OutcomeLemmas.{said_is_outcome, has_told}
 
 -- what the crates below show of every text and every program
@@ -38,6 +39,7 @@ pub record Laws : Type 0 where
   pub within : TreesAreWithin
   pub spends : SpendTheirTurns
   pub whole : EndWhole
+  pub starts : StartWithInput
   pub means : EndAsMeant
 
 module _ (laws : Laws) (options : RunOptions) where
@@ -184,7 +186,7 @@ module _ (laws : Laws) (options : RunOptions) where
       let has : (t : ProgramTree) × HasProgram text t = (laws.texts text).none free in
       let within = tree_within laws.within text has.0 has.1.admitted.tree in
       let means = laws.means has.0 within has.1.admitted.admitted has.1.bounded (initial_arrays has.0)
-      (starts_with_input has.0 within has.1.admitted.admitted) in
+      (laws.starts has.0 within has.1.admitted.admitted) in
       let a = program_has has.0 means in
       (a.0, lifted text has.0 has.1 a.0 a.1)
 

@@ -1,7 +1,7 @@
 //! That a text has one answer, shown by a call that does nothing.
 ghost use Rattle.ppm_running.specs.Correct.{HaveOneAnswer};
 
-use ppm_compiling::end_as_meant;
+use ppm_compiling::{end_as_meant, start_with_input};
 use ppm_judging::have_one_answer as texts_have_one_program;
 use ppm_rows::trees_are_within;
 use ppm_tree::{end_whole, spend_their_turns};
@@ -16,5 +16,6 @@ pub fn have_one_answer()
     trees_are_within();
     spend_their_turns();
     end_whole();
+    start_with_input();
     end_as_meant();
 }

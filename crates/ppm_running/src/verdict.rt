@@ -12,7 +12,7 @@ ghost use Rattle.ppm_running.specs.Running.{capsule_turns};
 ghost use Rattle.ppm_running.specs.Verdict.{ProgramMay, RunHas, answer_of as answer_in};
 
 use ppm_answers::Answer;
-use ppm_compiling::end_as_meant;
+use ppm_compiling::{end_as_meant, name_arrays, start_with_input};
 use ppm_cut::cut;
 use ppm_depth::{DepthRun, depth_first};
 use ppm_judging::{JudgeError, program_of};
@@ -47,6 +47,7 @@ fn program_answer(alloc: Global, options: RunOptions, program: &Admitted) -> Ans
     // What is said of the run rests on these laws; the calls do nothing.
     end_as_meant();
     end_whole();
+    start_with_input();
     // What the type of its tree keeps is known once its tree was seen.
     let _ = program.program().tree();
     match capsules_of(alloc, options.turns, program) {
@@ -62,8 +63,12 @@ fn capsules_of(alloc: Global, turns: u64, program: &Admitted) -> Result<DepthRun
     ensures { IfOk result
         (IsDepthRun (code_of (tree_of program.now)) (initial_arrays (tree_of program.now)) (turns / capsule_turns)) }
 {
-    // A code of the compiler is tidy; the call does nothing.
+    // A code of the compiler is tidy, and its root names arrays of what the program starts with; the calls do nothing.
     store_tidily();
+    start_with_input();
+    name_arrays();
+    // What the type of its tree keeps is known once its tree was seen.
+    let _ = program.program().tree();
     let code = cut(alloc, program.program())?;
     depth_first(alloc, &code, program.input(), turns / CAPSULE_TURNS)
 }

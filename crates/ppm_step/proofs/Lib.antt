@@ -1,3 +1,4 @@
 pub mod EndLemmas
 pub mod ThereLemmas
 pub mod StoringLemmas
+pub mod EnterLemmas

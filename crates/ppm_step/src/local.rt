@@ -1,5 +1,7 @@
 //! Where a processor stands, the word step that comes next, and where it stands after it.
-ghost use Rattle.std.specs.Prelude.{◌≡◌, Some};
+ghost use Rattle.std.specs.Prelude.{◌≡◌, true, Some};
+ghost use Rattle.ppm_cells.specs.Restart.{IsRestart};
+ghost use Rattle.ppm_step.specs.There.{restart_is_there};
 ghost use Rattle.ppm_step.specs.State.{step_of};
 ghost use Rattle.ppm_step.specs.declared.local.Stand.TheVariants.{At};
 
@@ -163,6 +165,11 @@ impl Local {
             self.stand = Stand::Broken { place };
             return;
         }
+        let Some(found) = code.capsule(number as u32) else {
+            self.stand = Stand::Broken { place };
+            return;
+        };
+        let _ = found.procedure;
         let mut running = Running {
             seat,
             home: Home {
@@ -246,10 +253,12 @@ impl Local {
                 let row = found_at(shape, &seat, victim, point, content);
                 self.stand_with(shape, code, seat, row);
             }
-            Row::Now(Then::Install(restart)) => self.stand = at(seat, restart),
-            Row::Now(Then::Fork { block }) => self.stand = at(seat, forked(&seat, block)),
+            Row::Now(Then::Install(restart)) => self.stand = installed(shape, seat, restart),
+            Row::Now(Then::Fork { block }) => {
+                self.stand = installed(shape, seat, forked(&seat, block));
+            }
             Row::Now(Then::Begin { frame, bottom, .. }) => {
-                self.stand = at(seat, begun(frame, bottom));
+                self.stand = installed(shape, seat, begun(frame, bottom));
             }
             Row::Now(Then::Move { place }) => self.stand = Stand::Placed { place },
             Row::Now(next) => self.stand_with(shape, code, seat, Row::Now(next)),
@@ -266,10 +275,10 @@ impl Local {
         ensures holds { IsLocal shape.now code.now self.new }
         ensures own_stays { self.new.own ≡ self.old.own }
     {
-        if let Stand::Runs(running) = &mut self.stand {
+        if let Stand::Runs(mut running) = self.stand {
             let seat = running.seat;
             match running.observe(shape, code, &mut self.registers, found) {
-                Going::Went(true) => {}
+                Going::Went(true) => self.stand = Stand::Runs(running),
                 Going::Went(false) => self.stand = Stand::Broken { place: seat.place },
                 Going::Installed(restart) => self.stand = at(seat, restart),
             }
@@ -315,6 +324,17 @@ fn at(seat: Seat, restart: Restart) -> Stand
         place: seat.place,
         restart: Some(restart),
     }
+}
+
+/// The same with one that was installed.
+#[tactic(auto, using(crate::proofs::ThereLemmas::restart_fits))]
+fn installed(shape: &Shape, seat: Seat, restart: Restart) -> Stand
+    requires { restart_is_there shape.now restart ≡ true }
+    ensures value { result ≡ At seat.place (Some restart) }
+    ensures fits { IsRestart restart }
+{
+    let _ = shape.word_count();
+    at(seat, restart)
 }
 
 /// Whether the steps of a capsule are work.

@@ -59,7 +59,7 @@ impl Running {
     ghost use Rattle.ppm_cells.specs.Cells.{word_count};
     ghost use Rattle.ppm_step.specs.Frames.{Installs, installed, ending};
     ghost use Rattle.ppm_step.specs.Facts.{IsHome, IsEnd};
-    ghost use Rattle.ppm_step.specs.Standings.{rest_is_there, running, running_if, wanted_rest, went_rest};
+    ghost use Rattle.ppm_step.specs.Standings.{rest_is_there, running, running_if, wanted_rest, went_rest, WantIsWithin};
     ghost use Rattle.ppm_step.specs.Stages.{rest_at, rest_from, asked, went_on, IsRunning, IsStage, WentOn};
 
     /// The restart of a kind at its place.
@@ -127,7 +127,8 @@ impl Running {
     /// The word step that comes next.
     pub fn want(&self, shape: &Shape, code: &Code, registers: &[u64; 64]) -> Want
         requires { IsRunning shape.now code.now self.now registers.now }
-        ensures { result ≡ wanted_rest shape.now self.now.seat (rest_at shape.now code.now self.now self.now.stage registers.now) }
+        ensures value { result ≡ wanted_rest shape.now self.now.seat (rest_at shape.now code.now self.now self.now.stage registers.now) }
+        ensures within { WantIsWithin shape.now result }
     {
         let _ = registers.len();
         match self.stage {
@@ -157,7 +158,7 @@ impl Running {
                 let full = Finish::OutOfRoom {
                     place: self.seat.place,
                 };
-                Want::Exchanges(0, 0, full.pack())
+                Want::Exchanges(address(shape, Cell::FinishWord), 0, full.pack())
             }
         }
     }

@@ -9,6 +9,7 @@ returns c = record {
     within = c.trees_are_within.ensures.law;
     spends = c.spend_their_turns.ensures.law;
     whole = c.end_whole.ensures.law;
+    starts = c.start_with_input.ensures.law;
     means = c.end_as_meant.ensures.law;
   });
 }
