@@ -1,0 +1,5 @@
+pub mod CourseLemmas
+pub mod IdleLemmas
+pub mod DoesLemmas
+pub mod ReadyLemmas
+pub mod ListLemmas
