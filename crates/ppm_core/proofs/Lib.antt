@@ -1,0 +1,4 @@
+pub mod ListLemmas
+pub mod LocalLemmas
+pub mod RunLemmas
+pub mod TurnLemmas

@@ -1,5 +1,5 @@
 //! What an act of one processor does.
-ghost use Rattle.std.specs.Prelude.{◌≡◌, ◌<◌, ℕ, List, length};
+ghost use Rattle.std.specs.Prelude.{◌≡◌, ◌<◌, ℕ, List, if◌then◌else◌};
 ghost use Rattle.ppm_cells.specs.Memory.{AreWordsOf};
 ghost use Rattle.ppm_cells.specs.declared.shape.Shape.{Shape};
 ghost use Rattle.ppm_code.specs.declared.code.CodeParts.{CodeParts};
@@ -79,7 +79,7 @@ pub(crate) fn takes_by(local: &Local, act: Act) -> u64
 
 /// Whether the act is a step of work.
 pub(crate) fn is_work_by(local: &Local, act: Act) -> bool
-    ensures { (s : Shape) (code : CodeParts) → result ≡ is_work_turn act (standing_of s code local.now) }
+    ensures { (s : Shape) (code : CodeParts) → result ≡ is_work_turn s code act (standing_of s code local.now) }
 {
     let Act::Step { .. } = act else {
         return false;
@@ -90,8 +90,16 @@ pub(crate) fn is_work_by(local: &Local, act: Act) -> bool
     }
 }
 
-/// The word with which a processor quits.
-fn quit_word(own: u32, why: Why) -> Finish
+/// 1 where it holds, else 0.
+pub(crate) fn count_of(holds: bool) -> u64
+    ensures value { result ≡ (if holds then 1 else 0) }
+    ensures bound { result < 2 }
+{
+    if holds { 1 } else { 0 }
+}
+
+/// The finish with which a processor quits.
+fn quit_finish(own: u32, why: Why) -> Finish
     ensures { result ≡ quit_with own why }
 {
     match why {
@@ -113,7 +121,7 @@ fn want_by(local: &Local, shape: &Shape, code: &Code, act: Act) -> Want
         Act::Soft => Want::Nothing,
         Act::Hard => Want::Stores(shape.address(Cell::DeadWord { processor: own }), 1),
         Act::Quit(why) => {
-            let finish = quit_word(own, why);
+            let finish = quit_finish(own, why);
             Want::Exchanges(shape.address(Cell::FinishWord), 0, finish.pack())
         }
     }

@@ -6,17 +6,14 @@ ghost use Rattle.ppm_core.specs.Laws.{FollowOn, TellOn, DoneIsDone};
 /// The turns of a list behind another one go on from what the first has made.
 pub fn turns_follow_on()
     ensures { (s : Shape) (code : CodeParts) → FollowOn s code }
-{
-}
+{}
 
 /// What they tell comes behind what the first has told.
 pub fn turns_tell_on()
     ensures { (s : Shape) (code : CodeParts) → TellOn s code }
-{
-}
+{}
 
 /// A turn of a processor that is done changes nothing.
 pub fn done_is_done()
     ensures { (s : Shape) (code : CodeParts) → DoneIsDone s code }
-{
-}
+{}

@@ -9,8 +9,6 @@ mod acts;
 mod ending;
 mod laws;
 mod machine;
-#[cfg(test)]
-mod tests;
 
 pub use ending::Ending;
 pub use laws::{done_is_done, turns_follow_on, turns_tell_on};

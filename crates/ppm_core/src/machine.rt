@@ -1,16 +1,16 @@
 //! The machine.
 ghost use Rattle.std.specs.Prelude.{◌≡◌, ◌<◌, ◌≤◌, ◌+◌, ◌^◌, IfOk, length, map, replicate, get_or};
-ghost use Rattle.std.specs.List.{All, sum, take};
+ghost use Rattle.std.specs.List.{All, sum};
 ghost use Rattle.ppm_cells.specs.Cells.{arrays_at};
 ghost use Rattle.ppm_core.specs.Acts.{IsTurnAmong, seeks_holder_at, is_done_at};
-ghost use Rattle.ppm_core.specs.Machine.{AreLocals};
-ghost use Rattle.ppm_core.specs.Situation.{loaded, turned, run_on, finish_in, ending_of, array_in};
+ghost use Rattle.ppm_core.specs.Machine.{AreLocals, seen};
+ghost use Rattle.ppm_core.specs.Situation.{array_in, ending_of, finish_in, loaded, run_on, turned};
 ghost use Rattle.ppm_step.specs.Locals.{standing_of};
 ghost use Rattle.ppm_step.specs.Standings.{IsLost};
 ghost use Rattle.ppm_step.specs.State.{stand_of, next_of};
 ghost use Rattle.ppm_step.specs.Told.{told_of};
 
-use crate::acts::{act_on, forks_by, is_done, is_work_by, seeks_holder, takes_by};
+use crate::acts::{act_on, count_of, forks_by, is_done, is_work_by, seeks_holder, takes_by};
 use crate::ending::Ending;
 use ppm_cells::{Cell, Finish, Shape};
 use ppm_code::Code;
@@ -36,22 +36,20 @@ pub struct Machine {
 }
 
 impl Model for Machine {
-    ghost use Rattle.std.specs.Prelude.{map};
-    ghost use Rattle.ppm_core.specs.Machine.{AreLocals, AreCounts, AreStores};
-    ghost use Rattle.ppm_core.specs.Situation.{Situation};
-    ghost use Rattle.ppm_step.specs.Locals.{standing_of};
+    ghost use Rattle.ppm_core.specs.Machine.{Holding, AreLocals, AreCounts, AreStores};
 
-    ghost Value = { Situation };
+    ghost Value = { Holding };
 
     ghost view = { λ m. record {
-        shape = m.shape;
-        code = m.code;
-        array_lengths = m.array_lengths.items;
-        state = record { words = m.words.items; stand = map (standing_of m.shape m.code) m.locals.items };
-        forks = m.forks;
-        takes = m.takes;
-        work = m.work;
-        turns = m.turns
+      shape = m.shape;
+      code = m.code;
+      array_lengths = m.array_lengths.items;
+      words = m.words.items;
+      locals = m.locals.items;
+      forks = m.forks;
+      takes = m.takes;
+      work = m.work;
+      turns = m.turns;
     } };
 
     ghost invariant = { λ m. AreStores m.shape m.array_lengths.items m.words.items × AreLocals m.shape m.code m.locals.items
@@ -88,7 +86,7 @@ impl Machine {
     /// The machine with the words of an image, before its first turn: its processors know nothing. `Err` only where memory is
     /// refused.
     pub fn load(alloc: Global, image: Image, code: Code) -> Result<Machine, NoMemory>
-        ensures { IfOk result (λ machine. machine ≡ loaded image.shape code image.lengths image.words) }
+        ensures { IfOk result (λ machine. seen machine ≡ loaded image.shape code image.lengths image.words) }
     {
         let shape = image.shape;
         let locals = lost_locals(alloc, &shape, &code)?;
@@ -110,18 +108,19 @@ impl Machine {
     pub fn turn(&mut self, turn: Turn) -> Told
         requires among { IsTurnAmong self.old.shape.processors turn }
         requires few { self.old.turns < 2 ^ 62 }
-        ensures machine { self.new ≡ turned self.old turn }
-        ensures told { result ≡ told_of self.old.shape self.old.code self.old.state turn }
+        ensures machine { seen self.new ≡ turned (seen self.old) turn }
+        ensures told { result ≡ told_of self.old.shape self.old.code (seen self.old).state turn }
     {
         let local = &mut self.locals[turn.processor as usize];
         let forks = forks_by(local, turn.act);
         let takes = takes_by(local, turn.act);
         let work = is_work_by(local, turn.act);
+        let works = count_of(work);
         let event = act_on(local, &mut self.words, &self.shape, &self.code, turn.act);
         let next = local.next();
         self.forks += forks;
         self.takes += takes;
-        self.work += u64::from(work);
+        self.work += works;
         self.turns += 1;
         Told { event, work, next }
     }
@@ -130,7 +129,7 @@ impl Machine {
     pub fn run_along(&mut self, turns: &[Turn])
         requires among { All (IsTurnAmong self.old.shape.processors) turns.now }
         requires few { self.old.turns + length turns.now ≤ 2 ^ 62 }
-        ensures { self.new ≡ run_on self.old turns.now }
+        ensures { seen self.new ≡ run_on (seen self.old) turns.now }
     {
         let mut left = turns;
         while let [turn, rest @ ..] = left {
@@ -142,7 +141,7 @@ impl Machine {
     /// What the coming step of a processor is.
     pub fn next(&self, processor: u32) -> Next
         requires { processor < self.now.shape.processors }
-        ensures { result ≡ next_of (stand_of self.now.state processor) }
+        ensures { result ≡ next_of (stand_of (seen self.now).state processor) }
     {
         self.locals[processor as usize].next()
     }
@@ -150,7 +149,7 @@ impl Machine {
     /// Whether a processor takes no step any more.
     pub fn is_done(&self, processor: u32) -> bool
         requires { processor < self.now.shape.processors }
-        ensures { result ≡ is_done_at (stand_of self.now.state processor) }
+        ensures { result ≡ is_done_at (stand_of (seen self.now).state processor) }
     {
         is_done(&self.locals[processor as usize])
     }
@@ -158,22 +157,22 @@ impl Machine {
     /// Whether a processor's coming step is the load of a holder word: the one step for which its turn names the victim.
     pub fn seeks_holder(&self, processor: u32) -> bool
         requires { processor < self.now.shape.processors }
-        ensures { result ≡ seeks_holder_at (stand_of self.now.state processor) }
+        ensures { result ≡ seeks_holder_at (stand_of (seen self.now).state processor) }
     {
         seeks_holder(&self.locals[processor as usize])
     }
 
     /// The finish word.
     pub fn finish_word(&self) -> u64
-        ensures { result ≡ finish_in self.now }
+        ensures { result ≡ finish_in (seen self.now) }
     {
         let at = self.shape.address(Cell::FinishWord);
         self.words[at as usize]
     }
 
-    /// How the run has ended.
-    pub fn ending(&self) -> Ending
-        ensures { result ≡ ending_of (finish_in self.now) }
+    /// How the run has ended, as the finish word says.
+    pub fn outcome(&self) -> Ending
+        ensures { result ≡ ending_of (finish_in (seen self.now)) }
     {
         let word = self.finish_word();
         if word == 0 {
@@ -187,7 +186,7 @@ impl Machine {
 
     /// All words, by their addresses.
     pub fn words(&self) -> &[u64]
-        ensures { result.now ≡ self.now.state.words }
+        ensures { result.now ≡ self.now.words }
     {
         &self.words
     }
@@ -202,7 +201,7 @@ impl Machine {
     /// The words of an array, by its number, which is below that of the arrays.
     pub fn array(&self, number: usize) -> &[u64]
         requires { number < length self.now.array_lengths }
-        ensures { result.now ≡ array_in self.now number }
+        ensures { result.now ≡ array_in (seen self.now) number }
     {
         let lengths = self.array_lengths.as_slice();
         let start = self.shape.arrays_at() + total(&lengths[..number]);

@@ -1,10 +1,9 @@
 -- The ends of a code's capsules name lines of the source.
-use Rattle.std.proofs.Common.{◌≡◌, ◌<◌, ℕ, zero, suc, ◌+◌, ◌-◌, ◌==◌, max, Bool, true, false, List, [], ◌∷◌, refl, sym, subst, slice_set, Option, Some, None}
+use Rattle.std.proofs.Common.{◌≡◌, ℕ, zero, suc, ◌+◌, ◌-◌, ◌==◌, max, Bool, true, false, List, [], ◌∷◌, refl, sym, subst, slice_set, Option, Some, None}
 use Rattle.std.specs.Prelude.{◌^◌, ℤ, ◌+ℤ◌, ◌-ℤ◌, ◌*ℤ◌, int_div, int_rem, nat_lt, nat_le, if◌then◌else◌, ◌&&◌, slice_get}
-use Rattle.std.specs.List.{All}
 use Rattle.std.proofs.lemmas.Option.{slice_get_within, get_or_from_slice_get}
 use Rattle.ppm_capsules.specs.Capsule.{Capsule, Reads, Writes, Asks as AsksFor, Ends as EndsAt}
-use Rattle.ppm_words.specs.TwosComplement.{word_of, value_of}
+use Rattle.ppm_words.specs.TwosComplement.{value_of}
 use Rattle.ppm_code.specs.Acts.{does, held, fits, is_zero, whole, divided, cut_left_of, cut_right_of, element_of, at_element, length_of, start_of}
 use Rattle.ppm_code.specs.Capsules.{capsule_from, at_act, reached}
 use Rattle.ppm_code.specs.declared.work.Reached.{Reached}
@@ -136,8 +135,8 @@ pub code_ends_well : (code : CodeParts) → IsCode code → (number : ℕ) (c : 
     → (words skip : ℕ) (g : List ℕ) → EndsWell (capsule_from words 0 skip c.instrs g)
 code_ends_well code is_code number c one words skip g =
     let fit : IsCapsule code c =
-        subst (IsCapsule code) (get_or_from_slice_get code.capsules number c c one)
-        (is_code.capsules number c (slice_get_within code.capsules number c one)) in
+    subst (IsCapsule code) (get_or_from_slice_get code.capsules number c c one)
+    (is_code.capsules number c (slice_get_within code.capsules number c one)) in
     ends_from words 0 skip c.instrs g (λ at i h e. does_well code c.procedure c.instrs at words i h (fit.each at i e))
 
 -- so does the end that register work comes to

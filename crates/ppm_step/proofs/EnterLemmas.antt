@@ -1,5 +1,5 @@
 -- A capsule of a frame begins.
-use Rattle.std.proofs.Common.{◌≡◌, ℕ, Bool, List, refl, sym, ap, subst, ◌∙◌, Option, Some}
+use Rattle.std.proofs.Common.{◌≡◌, ℕ, Bool, sym, ap, ◌∙◌, Option, Some}
 use Rattle.std.specs.Prelude.{slice_get, replicate}
 use Rattle.ppm_cells.specs.declared.restart.RestartKind.{RestartKind}
 use Rattle.ppm_cells.specs.declared.restart.RestartKind.TheVariants.{Run}
@@ -11,7 +11,7 @@ use Rattle.ppm_code.specs.declared.code.CodeParts.{CodeParts}
 use Rattle.ppm_step.specs.declared.frame.Home.{Home}
 use Rattle.ppm_step.specs.declared.row.Seat.{Seat}
 use Rattle.ppm_step.specs.Frames.{Rest, rest_of}
-use Rattle.ppm_step.specs.Standings.{Standing, running_if, rest_is_there, enters}
+use Rattle.ppm_step.specs.Standings.{running_if, rest_is_there, enters}
 
 -- with what register work has left, and whether that is there
 pub enters_on : (s : Shape) (code : CodeParts) (seat t : Seat) (frame copy number : ℕ) (c : Capsule) (rest : Rest) (there : Bool)

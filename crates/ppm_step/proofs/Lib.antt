@@ -2,3 +2,4 @@ pub mod EndLemmas
 pub mod ThereLemmas
 pub mod StoringLemmas
 pub mod EnterLemmas
+pub mod SampleLemmas

@@ -1,5 +1,5 @@
 -- What is there has an address, and what a restart names then fits its word.
-use Rattle.std.proofs.Common.{◌≡◌, ◌<◌, ◌≤◌, ℕ, ◌+◌, ◌*◌, ◌^◌, Bool, true, false, refl, arith}
+use Rattle.std.proofs.Common.{◌≡◌, ◌<◌, ◌≤◌, ℕ, ◌^◌, Bool, true, false, refl, arith}
 use Rattle.std.specs.Prelude.{nat_lt, nat_le, ◌&&◌}
 use Rattle.std.proofs.lemmas.Bool.{ltb-true}
 use Rattle.ppm_cells.specs.Cells.{word_count, IsAddressable}
@@ -58,17 +58,20 @@ module _ (s : Shape) (few : word_count s ≤ 75497921) where
   kind_fits (Pop2 block) h = (low block h, (omega arith, tt))
   kind_fits Seek h = (omega arith, tt)
   kind_fits (Steal victim slot) h =
-      let two = both (nat_lt victim s.processors) (nat_lt slot s.slots) h in
-      (omega (arith, ltb-true slot s.slots two.1, s.within.slots_most),
-      (omega (arith, ltb-true victim s.processors two.0, s.within.processors_most), (omega arith, tt)))
+      let two = both (nat_lt victim s.processors) (nat_lt slot s.slots) h in (
+        omega (arith, ltb-true slot s.slots two.1, s.within.slots_most),
+        (omega (arith, ltb-true victim s.processors two.0, s.within.processors_most), (omega arith, tt)),
+      )
   kind_fits (Check victim slot) h =
-      let two = both (nat_lt victim s.processors) (nat_lt slot s.slots) h in
-      (omega (arith, ltb-true slot s.slots two.1, s.within.slots_most),
-      (omega (arith, ltb-true victim s.processors two.0, s.within.processors_most), (omega arith, tt)))
+      let two = both (nat_lt victim s.processors) (nat_lt slot s.slots) h in (
+        omega (arith, ltb-true slot s.slots two.1, s.within.slots_most),
+        (omega (arith, ltb-true victim s.processors two.0, s.within.processors_most), (omega arith, tt)),
+      )
   kind_fits (Take victim dead) h =
-      let two = both (nat_lt victim s.processors) (nat_lt dead s.processors) h in
-      (omega (arith, ltb-true dead s.processors two.1, s.within.processors_most),
-      (omega (arith, ltb-true victim s.processors two.0, s.within.processors_most), (omega arith, tt)))
+      let two = both (nat_lt victim s.processors) (nat_lt dead s.processors) h in (
+        omega (arith, ltb-true dead s.processors two.1, s.within.processors_most),
+        (omega (arith, ltb-true victim s.processors two.0, s.within.processors_most), (omega arith, tt)),
+      )
   kind_fits (Take2 victim) h = (omega (arith, ltb-true victim s.processors h, s.within.processors_most), (omega arith, tt))
 
   -- a restart that names what is there fits its word

@@ -6,7 +6,6 @@ use Rattle.ppm_cells.specs.Finish.{IsFinish}
 use Rattle.ppm_cells.specs.Holder.{IsHolder}
 use Rattle.ppm_cells.specs.Link.{link_address}
 use Rattle.ppm_cells.specs.Restart.{IsRestart}
-use Rattle.ppm_cells.specs.declared.restart.Restart.{Restart}
 use Rattle.ppm_cells.specs.declared.shape.Shape.{Shape}
 use Rattle.ppm_code.specs.Code.{IsLine}
 use Rattle.ppm_code.specs.declared.act.End.{End}
@@ -19,7 +18,7 @@ use Rattle.ppm_step.specs.declared.row.Point.TheVariants.{JoinOrder, JoinLink, J
 use Rattle.ppm_step.specs.declared.row.Point.TheVariants.{SeekHolder, SeekDead, SeekTop, SeekEntry, SeekClosed, StealMessage, TakenMessage, TakenEntry}
 use Rattle.ppm_step.specs.declared.row.Point.TheVariants.{ClosedRestart, ClosedLink, ClosedBottom, BidMessage, BidAgain, BidHolder}
 use Rattle.ppm_step.specs.declared.row.Then.{Then}
-use Rattle.ppm_step.specs.declared.row.Then.TheVariants.{Load, Install, Fork, Begin, Move, Enter, Again, Broken}
+use Rattle.ppm_step.specs.declared.row.Then.TheVariants.{Load}
 use Rattle.ppm_step.specs.declared.row.Row.{Row}
 use Rattle.ppm_step.specs.declared.row.Row.TheVariants.{Now, Store, Exchange}
 use Rattle.ppm_step.specs.Contents.{IsContent}

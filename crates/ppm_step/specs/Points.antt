@@ -1,6 +1,5 @@
 -- The loads of the rows: which word each is of, and how it is read.
 use Rattle.std.specs.Prelude.{ℕ, ◌+◌, ◌-◌}
-use Rattle.ppm_cells.specs.Sides.{side_number}
 use Rattle.ppm_cells.specs.declared.cell.Cell.{Cell}
 use Rattle.ppm_cells.specs.declared.cell.Cell.TheVariants.{DeadWord, RestartWord, MessageWord, HolderWord, Top, EntryWord, BlockWord}
 use Rattle.ppm_step.specs.declared.content.Reading.{Reading}

@@ -1,13 +1,12 @@
 -- The rows of the restart kinds, but for what the capsule of a frame does: a line of the rules each.
 use Rattle.std.specs.Prelude.{ℕ, zero, suc, ◌+◌, ◌-◌, ◌^◌, ◌==◌, nat_lt, if◌then◌else◌, Bool, true, false, ◌&&◌, ◌||◌, Option, Some, None}
 use Rattle.ppm_cells.specs.Cells.{word_count}
-use Rattle.ppm_cells.specs.Sides.{side_number}
 use Rattle.ppm_cells.specs.declared.cell.Cell.{Cell}
-use Rattle.ppm_cells.specs.declared.cell.Cell.TheVariants.{FinishWord, CarryWord, DeadWord, RestartWord, MessageWord, HolderWord, Top, RoomCounter, EntryWord, BlockWord, ArrayWord}
+use Rattle.ppm_cells.specs.declared.cell.Cell.TheVariants.{FinishWord, MessageWord, HolderWord, Top, RoomCounter, EntryWord, BlockWord}
 use Rattle.ppm_cells.specs.declared.entry.Entry.{Entry}
 use Rattle.ppm_cells.specs.declared.entry.Entry.TheVariants.{Empty, Local, Job, Taken}
 use Rattle.ppm_cells.specs.declared.finish.Finish.{Finish}
-use Rattle.ppm_cells.specs.declared.finish.Finish.TheVariants.{Unset, Ended, Trapped, OutOfTurns, OutOfRoom, Stopped, Broken as BrokenAt}
+use Rattle.ppm_cells.specs.declared.finish.Finish.TheVariants.{Ended, Trapped}
 use Rattle.ppm_cells.specs.declared.holder.Holder.{Holder}
 use Rattle.ppm_cells.specs.declared.link.Link.{Link}
 use Rattle.ppm_cells.specs.declared.link.LinkKind.{LinkKind}
@@ -26,7 +25,7 @@ use Rattle.ppm_hold.specs.Change.{bid_of}
 use Rattle.ppm_join.specs.Order.{first, both}
 use Rattle.ppm_join.specs.Outcome.{outcome_of_both}
 use Rattle.ppm_step.specs.declared.content.Content.{Content}
-use Rattle.ppm_step.specs.declared.content.Content.TheVariants.{ANumber, ARestart, AnEntry, AHolder, ALink, AFinish, Unreadable}
+use Rattle.ppm_step.specs.declared.content.Content.TheVariants.{ANumber, ARestart, AnEntry, AHolder, ALink, AFinish}
 use Rattle.ppm_step.specs.declared.row.Seat.{Seat}
 use Rattle.ppm_step.specs.declared.row.Point.{Point}
 use Rattle.ppm_step.specs.declared.row.Point.TheVariants.{Header, BumpLink, PushOrder, PushAbove, PushBottom, UnwindLink, UnwindOutcome, Target, GivenValue}

@@ -1,10 +1,9 @@
 -- Where a processor stands, the word step that comes next, and where it stands after it.
-use Rattle.std.specs.Prelude.{ℕ, zero, suc, ◌<◌, ◌==◌, nat_lt, if◌then◌else◌, Bool, true, false, Option, Some, None, slice_get}
+use Rattle.std.specs.Prelude.{ℕ, zero, suc, ◌<◌, nat_lt, if◌then◌else◌, Bool, true, false, Option, Some, None, slice_get}
 use Rattle.ppm_cells.specs.Cells.{address, word_count}
 use Rattle.ppm_cells.specs.Finish.{finish_word}
 use Rattle.ppm_cells.specs.Restart.{restart_of, restart_word}
-use Rattle.ppm_cells.specs.declared.cell.Cell.{Cell}
-use Rattle.ppm_cells.specs.declared.cell.Cell.TheVariants.{FinishWord, CarryWord, DeadWord, RestartWord}
+use Rattle.ppm_cells.specs.declared.cell.Cell.TheVariants.{FinishWord, CarryWord, RestartWord}
 use Rattle.ppm_cells.specs.declared.finish.Finish.TheVariants.{OutOfRoom, Broken as BrokenAt}
 use Rattle.ppm_cells.specs.declared.restart.Restart.{Restart}
 use Rattle.ppm_cells.specs.declared.restart.RestartKind.{RestartKind}
@@ -13,12 +12,11 @@ use Rattle.ppm_cells.specs.declared.shape.Shape.{Shape}
 use Rattle.ppm_code.specs.Capsules.{capsule_of}
 use Rattle.ppm_code.specs.declared.code.Capsule.{Capsule}
 use Rattle.ppm_code.specs.declared.code.CodeParts.{CodeParts}
-use Rattle.ppm_step.specs.declared.content.Content.{Content}
 use Rattle.ppm_step.specs.declared.row.Seat.{Seat}
 use Rattle.ppm_step.specs.declared.row.Point.{Point}
 use Rattle.ppm_step.specs.declared.row.Point.TheVariants.{SeekHolder}
 use Rattle.ppm_step.specs.declared.row.Then.{Then}
-use Rattle.ppm_step.specs.declared.row.Then.TheVariants.{Load, Install, Fork, Begin, Move, Enter, Again, Broken}
+use Rattle.ppm_step.specs.declared.row.Then.TheVariants.{Load, Install, Fork, Begin, Move, Enter, Again}
 use Rattle.ppm_step.specs.declared.row.Row.{Row}
 use Rattle.ppm_step.specs.declared.row.Row.TheVariants.{Now, Store, Exchange}
 use Rattle.ppm_step.specs.declared.ask.Want.{Want}
@@ -26,7 +24,7 @@ use Rattle.ppm_step.specs.declared.ask.Want.TheVariants.{Loads as WantsLoad, Sto
 use Rattle.ppm_step.specs.Contents.{content_of, word_of}
 use Rattle.ppm_step.specs.There.{is_there, restart_is_there}
 use Rattle.ppm_step.specs.Points.{cell_at, reading_at}
-use Rattle.ppm_step.specs.Rows.{with_kind, found_at, row_of}
+use Rattle.ppm_step.specs.Rows.{found_at, row_of}
 use Rattle.ppm_step.specs.Frames.{Rest, Loads, Stores, Full, Installs, Breaks, rest_of}
 
 -- where a processor stands: it has lost its registers, knows its place, knows its restart word too, is within a row or within a capsule

@@ -1,5 +1,5 @@
 -- The words and the processors of a machine, and what a list of turns makes of them.
-use Rattle.std.specs.Prelude.{ℕ, zero, suc, ◌+◌, ◌==◌, if◌then◌else◌, Bool, true, false, List, [], ◌∷◌, ◌++◌, Option, Some, None, slice_get, slice_index, slice_set, replicate}
+use Rattle.std.specs.Prelude.{ℕ, ◌==◌, if◌then◌else◌, Bool, true, false, List, [], ◌∷◌, ◌++◌, Option, Some, None, slice_get, slice_index, slice_set, replicate}
 use Rattle.ppm_cells.specs.Cells.{address}
 use Rattle.ppm_cells.specs.Finish.{finish_word}
 use Rattle.ppm_cells.specs.declared.cell.Cell.TheVariants.{FinishWord, DeadWord}
@@ -7,15 +7,14 @@ use Rattle.ppm_cells.specs.declared.finish.Finish.{Finish}
 use Rattle.ppm_cells.specs.declared.finish.Finish.TheVariants.{OutOfTurns, Stopped}
 use Rattle.ppm_cells.specs.declared.restart.Restart.{Restart}
 use Rattle.ppm_cells.specs.declared.restart.RestartKind.{RestartKind}
-use Rattle.ppm_cells.specs.declared.restart.RestartKind.TheVariants.{Run, Bump, Push1, Push2, Unwind, Arrive, Join, Pop1, Pop2, Seek, Steal, Check, Take, Take2}
+use Rattle.ppm_cells.specs.declared.restart.RestartKind.TheVariants.{Run, Bump, Push1, Push2, Unwind, Arrive, Join, Pop1, Pop2, Seek}
 use Rattle.ppm_cells.specs.declared.shape.Shape.{Shape}
 use Rattle.ppm_code.specs.declared.code.CodeParts.{CodeParts}
 use Rattle.ppm_step.specs.declared.ask.Want.{Want}
 use Rattle.ppm_step.specs.declared.ask.Want.TheVariants.{Loads, Stores, Exchanges, Nothing}
-use Rattle.ppm_step.specs.declared.row.Then.{Then}
-use Rattle.ppm_step.specs.declared.row.Then.TheVariants.{Load, Install, Fork, Begin, Move, Enter, Again, Broken}
+use Rattle.ppm_step.specs.declared.row.Then.TheVariants.{Fork, Begin}
 use Rattle.ppm_step.specs.declared.row.Row.{Row}
-use Rattle.ppm_step.specs.declared.row.Row.TheVariants.{Now, Store, Exchange}
+use Rattle.ppm_step.specs.declared.row.Row.TheVariants.{Now}
 use Rattle.ppm_step.specs.declared.turn.Why.{Why}
 use Rattle.ppm_step.specs.declared.turn.Why.TheVariants.{Turns, Watch}
 use Rattle.ppm_step.specs.declared.turn.Act.{Act}

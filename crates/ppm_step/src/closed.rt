@@ -24,7 +24,14 @@ fn go_on_at_bottom(seat: &Seat, victim: u32, kind: RestartKind) -> Row
         | RestartKind::Join { .. } => Row::Now(seat.with_kind(kind)),
         RestartKind::Bump { block } => load(Point::ClosedLink { block }),
         RestartKind::Push2 { block } => Row::Now(seat.with_kind(RestartKind::Push1 { block })),
-        RestartKind::Steal { victim: other, slot } | RestartKind::Check { victim: other, slot } => {
+        RestartKind::Steal {
+            victim: other,
+            slot,
+        }
+        | RestartKind::Check {
+            victim: other,
+            slot,
+        } => {
             load(Point::TakenMessage {
                 by: victim,
                 victim: other,

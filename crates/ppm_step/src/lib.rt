@@ -2,9 +2,9 @@
 #![tactic(auto)]
 
 mod ask;
-mod content;
 mod bid;
 mod closed;
+mod content;
 mod entries;
 mod found;
 mod frame;
@@ -19,15 +19,17 @@ mod running;
 mod seek;
 mod stages;
 mod steal;
+#[cfg(test)]
+mod tests;
 mod there;
 mod turn;
 mod unwind;
 
 pub use ask::Want;
-pub use frame::{Home, Put};
 pub use content::{Content, Reading};
-pub use running::{Running, Stage};
+pub use frame::{Home, Put};
 pub use going::Going;
 pub use local::{Local, Stand};
-pub use turn::{Act, Next, Told, Turn, Why};
 pub use row::{Point, Row, Seat, Then};
+pub use running::{Running, Stage};
+pub use turn::{Act, Next, Told, Turn, Why};

@@ -24,15 +24,25 @@ pub enum Stand {
     /// It has lost its registers, and does not know its place.
     Lost,
     /// It knows its place.
-    Placed { place: u32 },
+    Placed {
+        place: u32,
+    },
     /// It knows the restart word of its place; `None` where that is broken.
-    At { place: u32, restart: Option<Restart> },
+    At {
+        place: u32,
+        restart: Option<Restart>,
+    },
     /// It is within a row.
-    Within { seat: Seat, row: Row },
+    Within {
+        seat: Seat,
+        row: Row,
+    },
     /// It is within a capsule of a frame.
     Runs(Running),
     /// It has met broken words at its place, 64 where that isn't known.
-    Broken { place: u32 },
+    Broken {
+        place: u32,
+    },
     /// It takes no step any more.
     Done,
 }
@@ -94,10 +104,12 @@ impl Local {
         match self.stand {
             Stand::Lost | Stand::Placed { .. } | Stand::Broken { .. } => Next::Look,
             Stand::At { restart, .. } => match restart {
-                Some(Restart {
-                    kind: RestartKind::Seek,
-                    ..
-                }) => Next::Seek,
+                Some(
+                    Restart {
+                        kind: RestartKind::Seek,
+                        ..
+                    },
+                ) => Next::Seek,
                 _ => Next::Look,
             },
             Stand::Within { seat, .. } => step_of(seat.restart.kind),
@@ -132,9 +144,7 @@ impl Local {
                     processor: self.own,
                 },
             )),
-            Stand::Placed { place } => {
-                Want::Loads(address(shape, Cell::RestartWord { place }))
-            }
+            Stand::Placed { place } => { Want::Loads(address(shape, Cell::RestartWord { place })) }
             Stand::At { .. } => Want::Loads(address(shape, Cell::FinishWord)),
             Stand::Within { seat, row } => want_row(shape, &seat, victim, row),
             Stand::Runs(running) => running.want(shape, code, &self.registers),
@@ -237,7 +247,15 @@ impl Local {
     }
 
     /// Goes on with what a row has found.
-    fn observe_row(&mut self, shape: &Shape, code: &Code, victim: u32, found: u64, seat: Seat, row: Row)
+    fn observe_row(
+        &mut self,
+        shape: &Shape,
+        code: &Code,
+        victim: u32,
+        found: u64,
+        seat: Seat,
+        row: Row,
+    )
         requires seat { IsSeat shape.now seat }
         requires own { seat.own ≡ self.old.own }
         requires carrier { self.old.own < shape.now.processors }

@@ -200,7 +200,9 @@ fn want_then(shape: &Shape, seat: &Seat, victim: u32, next: Then) -> Want
         Then::Fork { block } => install(shape, seat, forked(seat, block)),
         Then::Begin { frame, bottom, .. } => install(shape, seat, begun(frame, bottom)),
         Then::Move { place } => {
-            let cell = Cell::CarryWord { processor: seat.own };
+            let cell = Cell::CarryWord {
+                processor: seat.own,
+            };
             Want::Stores(address(shape, cell), u64::from(place))
         }
         Then::Enter { .. } | Then::Again | Then::Broken => Want::Nothing,

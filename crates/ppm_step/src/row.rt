@@ -20,19 +20,35 @@ pub struct Seat {
 #[derive(Clone, Copy, Debug, PartialEq, Eq)]
 pub enum Point {
     /// The number of the capsule with which a frame goes on.
-    Header { frame: u32, copy: u32 },
+    Header {
+        frame: u32,
+        copy: u32,
+    },
     /// The link of a block that is built.
-    BumpLink { block: u32 },
+    BumpLink {
+        block: u32,
+    },
     /// Whether one strand runs both branches of the block.
-    PushOrder { block: u32 },
+    PushOrder {
+        block: u32,
+    },
     /// The entry above the bottom.
-    PushAbove { block: u32 },
+    PushAbove {
+        block: u32,
+    },
     /// The entry at the bottom.
-    PushBottom { block: u32 },
+    PushBottom {
+        block: u32,
+    },
     /// The link of a frame that is over.
-    UnwindLink { frame: u32 },
+    UnwindLink {
+        frame: u32,
+    },
     /// Its outcome.
-    UnwindOutcome { frame: u32, link: LinkKind },
+    UnwindOutcome {
+        frame: u32,
+        link: LinkKind,
+    },
     /// The slot and one more into which the frame's value goes in the frame `to`, or 0; behind it comes the right branch of a block, if
     /// one is named, and else `to` goes on with this copy.
     Target {
@@ -50,11 +66,20 @@ pub enum Point {
         right_of: Option<u32>,
     },
     /// Which branch of a block came first.
-    JoinOrder { block: u32, side: Side },
+    JoinOrder {
+        block: u32,
+        side: Side,
+    },
     /// The link of a block whose last branch has come.
-    JoinLink { block: u32 },
+    JoinLink {
+        block: u32,
+    },
     /// The outcome of its left branch.
-    JoinLeft { block: u32, to: u32, copy: u32 },
+    JoinLeft {
+        block: u32,
+        to: u32,
+        copy: u32,
+    },
     /// And of its right one.
     JoinRight {
         block: u32,
@@ -63,29 +88,59 @@ pub enum Point {
         left: Finish,
     },
     /// Where the frame of its right branch lies, for the value of that frame.
-    RightFrame { block: u32, to: u32, copy: u32 },
+    RightFrame {
+        block: u32,
+        to: u32,
+        copy: u32,
+    },
     /// Where the frame of the right branch lies, which is to begin with this bottom.
-    Offset { block: u32, bottom: u32 },
+    Offset {
+        block: u32,
+        bottom: u32,
+    },
     /// The entry below the bottom.
     PopBelow,
     /// The same, once it was got back.
-    PopAgain { block: u32 },
+    PopAgain {
+        block: u32,
+    },
     /// The entry at the bottom, which is to be emptied.
-    PopAbove { block: u32 },
+    PopAbove {
+        block: u32,
+    },
     /// Who holds the victim.
     SeekHolder,
     /// Whether that processor is dead.
-    SeekDead { victim: u32, holder: Holder },
+    SeekDead {
+        victim: u32,
+        holder: Holder,
+    },
     /// The top of the victim's deque.
-    SeekTop { victim: u32 },
+    SeekTop {
+        victim: u32,
+    },
     /// The entry there.
-    SeekEntry { victim: u32, slot: u32 },
+    SeekEntry {
+        victim: u32,
+        slot: u32,
+    },
     /// Whether the victim is closed, whose entry there is local.
-    SeekClosed { victim: u32, slot: u32, entry: Entry },
+    SeekClosed {
+        victim: u32,
+        slot: u32,
+        entry: Entry,
+    },
     /// The entry that is to be taken.
-    StealMessage { victim: u32, slot: u32 },
+    StealMessage {
+        victim: u32,
+        slot: u32,
+    },
     /// The entry that the place `by` was after in this slot.
-    TakenMessage { by: u32, victim: u32, slot: u32 },
+    TakenMessage {
+        by: u32,
+        victim: u32,
+        slot: u32,
+    },
     /// Whether that place has taken it.
     TakenEntry {
         by: u32,
@@ -94,17 +149,35 @@ pub enum Point {
         message: Entry,
     },
     /// Where a closed place went on, whose local entry in this slot was taken; the block is that of the entry.
-    ClosedRestart { victim: u32, slot: u32, block: u32 },
+    ClosedRestart {
+        victim: u32,
+        slot: u32,
+        block: u32,
+    },
     /// The link of the block that the closed place had built.
-    ClosedLink { block: u32 },
+    ClosedLink {
+        block: u32,
+    },
     /// The bottom of the closed place, which was to become a job.
-    ClosedBottom { victim: u32, slot: u32, block: u32 },
+    ClosedBottom {
+        victim: u32,
+        slot: u32,
+        block: u32,
+    },
     /// The bid that this place has made.
-    BidMessage { victim: u32, dead: u32 },
+    BidMessage {
+        victim: u32,
+        dead: u32,
+    },
     /// The same, after the exchange.
-    BidAgain { victim: u32 },
+    BidAgain {
+        victim: u32,
+    },
     /// Whether it stands.
-    BidHolder { victim: u32, message: Holder },
+    BidHolder {
+        victim: u32,
+        message: Holder,
+    },
 }
 
 /// What follows a word step of a row.

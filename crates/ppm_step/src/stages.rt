@@ -136,7 +136,10 @@ impl Running {
                 Want::Loads(address(shape, location_cell(shape, &self.home, location)))
             }
             Stage::Before(Step::Stores(location, word)) => {
-                Want::Stores(address(shape, location_cell(shape, &self.home, location)), word)
+                Want::Stores(
+                    address(shape, location_cell(shape, &self.home, location)),
+                    word,
+                )
             }
             Stage::Before(Step::Asks(_)) => Want::Loads(address(
                 shape,
@@ -187,7 +190,9 @@ impl Running {
         if counter < pool {
             return false;
         }
-        if counter > pool + u64::from(shape.room) || u64::from(words) > pool + u64::from(shape.room) - counter {
+        if counter > pool + u64::from(shape.room)
+            || u64::from(words) > pool + u64::from(shape.room) - counter
+        {
             self.stage = Stage::Filled;
             return true;
         }

@@ -109,14 +109,7 @@ fn go_on_with(seat: &Seat, victim: u32, slot: u32, message: Entry) -> Row
 }
 
 /// If the place has taken it, it is gone on with.
-pub fn check_entry(
-    seat: &Seat,
-    by: u32,
-    victim: u32,
-    slot: u32,
-    message: Entry,
-    now: Entry,
-) -> Row
+pub fn check_entry(seat: &Seat, by: u32, victim: u32, slot: u32, message: Entry, now: Entry) -> Row
     requires by { by < 64 }
     requires victim { victim < 64 }
     requires slot { slot < 65536 }

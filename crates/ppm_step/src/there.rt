@@ -12,7 +12,8 @@ pub fn cell_is_there(shape: &Shape, cell: Cell) -> bool
 {
     match cell {
         Cell::FinishWord => true,
-        Cell::CarryWord { processor } | Cell::DeadWord { processor } => processor < shape.processors,
+        Cell::CarryWord { processor } | Cell::DeadWord { processor } => processor
+            < shape.processors,
         Cell::RestartWord { place }
         | Cell::MessageWord { place }
         | Cell::HolderWord { place }

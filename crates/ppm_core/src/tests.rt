@@ -1,1 +1,0 @@
-//! Machines that run small codes.
