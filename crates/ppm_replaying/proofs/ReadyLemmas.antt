@@ -1,12 +1,11 @@
 -- The counts stay far from their ends.
-use Rattle.std.proofs.Common.{◌≡◌, refl, ℕ, zero, suc, ◌+◌, ◌-◌, ◌<◌, ◌≤◌, Bool, true, false, List, [], ◌∷◌, ap, if◌then◌else◌, slice_index, slice_set, replicate, get_or}
-use Rattle.std.proofs.lemmas.List.{get_or-replicate}
+use Rattle.std.proofs.Common.{arith, ◌≡◌, refl, ℕ, zero, suc, ◌+◌, ◌-◌, ◌<◌, ◌≤◌, Bool, true, false, List, [], ◌∷◌, ap, if◌then◌else◌, slice_index, slice_set, replicate}
 use Rattle.ppm_plan.specs.declared.schedule_item.ScheduledAct.{ScheduledAct}
 use Rattle.ppm_plan.specs.declared.schedule_item.ScheduledAct.TheVariants as scheduled
 use Rattle.ppm_step.specs.declared.turn.Turn.{Turn}
 use Rattle.ppm_core.specs.Situation.{Situation, turned}
 use Rattle.ppm_replaying.specs.declared.following.Way.{Way}
-use Rattle.ppm_replaying.specs.Course.{Course, seeks, loads_of, loads_behind}
+use Rattle.ppm_replaying.specs.Course.{Course, seeks, loads_behind}
 use Rattle.ppm_replaying.specs.Following.{course, IsReady}
 
 -- one count is one more
@@ -26,16 +25,16 @@ one_more_load : (w : Course) (act : ScheduledAct) (c : ℕ) → slice_index (loa
 one_more_load w (scheduled.Step processor stated) c = one_more_if (seeks w processor) w.loads processor c
 one_more_load w (scheduled.Fails processor fault) c = omega arith
 
-pub ready_behind : {m m' : Situation} {way v : Way} {act : ScheduledAct} {turn : Turn} → IsReady m way → 0 < way.left
+pub ready_behind : {m m' : Situation} {way v : Way} (act : ScheduledAct) (turn : Turn) → IsReady m way → 0 < way.left
     → v.loads ≡ loads_behind (course m way) act → v.left ≡ way.left → m' ≡ turned m turn
     → IsReady m' (record { loads = v.loads; left = v.left - 1 })
-ready_behind {m} {m'} {way} {v} {act} ready some loads left is = record {
+ready_behind {m} {m'} {way} {v} act turn ready some loads left is = record {
   turns = omega (arith, ready.turns, some, left, ap (λ k. k.turns) is);
   loads = λ c. few c;
 }
   where
-  few : (c : ℕ) → slice_index v.loads c + (v.left - 1) ≤ 1099511627776
-  few c = omega (arith, ready.loads c, some, left, ap (λ xs. slice_index xs c) loads, one_more_load (course m way) act c)
+    few : (c : ℕ) → slice_index v.loads c + (v.left - 1) ≤ 1099511627776
+    few c = omega (arith, ready.loads c, some, left, ap (λ xs. slice_index xs c) loads, one_more_load (course m way) act c)
 
 -- at the beginning no load was made
 none_at : (n c : ℕ) → slice_index (replicate n 0) c ≡ 0

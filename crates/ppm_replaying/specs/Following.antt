@@ -1,6 +1,5 @@
 -- What the calls that follow a schedule know and say of the machine and of what they count.
 use Rattle.std.specs.Prelude.{◌≡◌, ℕ, ◌+◌, ◌<◌, ◌≤◌, ◌^◌, List, slice_index}
-use Rattle.ppm_plan.specs.declared.schedule_item.ScheduledAct.{ScheduledAct}
 use Rattle.ppm_core.specs.Situation.{Situation, run_on}
 use Rattle.ppm_replaying.specs.declared.following.Way.{Way}
 use Rattle.ppm_replaying.specs.Course.{Due, Course, behind_all, turns_of}

@@ -1,5 +1,5 @@
 -- The run of a schedule.
-use Rattle.std.specs.Prelude.{ℕ, zero, suc, ◌+◌, List, [], ◌++◌, map, replicate}
+use Rattle.std.specs.Prelude.{ℕ, zero, suc, List, [], ◌++◌, map, replicate}
 use Rattle.std.specs.List.{range_with_len}
 use Rattle.ppm_cells.specs.declared.shape.Shape.{Shape}
 use Rattle.ppm_code.specs.declared.code.CodeParts.{CodeParts}

@@ -3,7 +3,7 @@ ghost use Rattle.std.specs.Prelude.{◌≡◌, ◌<◌, ◌≤◌, ◌^◌, ◌+
 ghost use Rattle.std.specs.List.{All};
 ghost use Rattle.ppm_core.specs.Acts.{is_done_at, seeks_holder_at, IsTurnAmong};
 ghost use Rattle.ppm_plan.specs.Schedules.{IsActAmong, IsItemAmong, IsVictimAmong};
-ghost use Rattle.ppm_core.specs.Stub.{situation_of};
+ghost use Rattle.ppm_core.specs.Machine.{seen};
 ghost use Rattle.ppm_step.specs.State.{stand_of};
 ghost use Rattle.ppm_replaying.specs.Course.{Listed, InRound, act_by as act_of_fault, processor_of, victim_at, victim_of, turn_of, loads_behind, is_open, is_made};
 ghost use Rattle.ppm_replaying.specs.Schedules.{listed, round, rounds, followed};
@@ -55,12 +55,12 @@ fn victim_at(processors: u32, processor: u32, j: u64, stated: Option<u32>) -> u3
 
 /// The turn that an act is. A step that loads a holder word as it seeks work is counted.
 fn turn_of(machine: &Machine, way: &mut Way, act: ScheduledAct) -> Turn
-    requires among { IsActAmong (situation_of machine.now).shape.processors act }
-    requires ready { IsReady (situation_of machine.now) way.old }
-    ensures turn { result ≡ turn_of (situation_of machine.now).shape.processors (course (situation_of machine.now) way.old) act }
-    ensures loads { way.new.loads ≡ loads_behind (course (situation_of machine.now) way.old) act }
+    requires among { IsActAmong (seen machine.now).shape.processors act }
+    requires ready { IsReady (seen machine.now) way.old }
+    ensures turn { result ≡ turn_of (seen machine.now).shape.processors (course (seen machine.now) way.old) act }
+    ensures loads { way.new.loads ≡ loads_behind (course (seen machine.now) way.old) act }
     ensures left { way.new.left ≡ way.old.left }
-    ensures is_among { IsTurnAmong (situation_of machine.now).shape.processors result }
+    ensures is_among { IsTurnAmong (seen machine.now).shape.processors result }
 {
     match act {
         ScheduledAct::Step { processor, victim } => {
@@ -84,12 +84,12 @@ fn turn_of(machine: &Machine, way: &mut Way, act: ScheduledAct) -> Turn
 
 /// Makes an act, where one is left and its processor isn't done.
 fn make(machine: &mut Machine, way: &mut Way, act: ScheduledAct)
-    requires among { IsActAmong (situation_of machine.old).shape.processors act }
-    requires ready { IsReady (situation_of machine.old) way.old }
+    requires among { IsActAmong (seen machine.old).shape.processors act }
+    requires ready { IsReady (seen machine.old) way.old }
     requires left { 0 < way.old.left }
-    requires lives { is_done_at (stand_of (situation_of machine.old).state (processor_of act)) ≡ false }
-    ensures does { Does (Listed act ∷ []) (situation_of machine.old) way.old (situation_of machine.new) way.new }
-    ensures ready { IsReady (situation_of machine.new) way.new }
+    requires lives { is_done_at (stand_of (seen machine.old).state (processor_of act)) ≡ false }
+    ensures does { Does (Listed act ∷ []) (seen machine.old) way.old (seen machine.new) way.new }
+    ensures ready { IsReady (seen machine.new) way.new }
 {
     let turn = turn_of(machine, way, act);
     machine.turn(turn);
@@ -98,10 +98,10 @@ fn make(machine: &mut Machine, way: &mut Way, act: ScheduledAct)
 
 /// Makes an act of the list so often, if its processor isn't done.
 fn repeat(machine: &mut Machine, way: &mut Way, act: ScheduledAct, times: u32)
-    requires among { IsActAmong (situation_of machine.old).shape.processors act }
-    requires ready { IsReady (situation_of machine.old) way.old }
-    ensures does { Does (replicate times (Listed act)) (situation_of machine.old) way.old (situation_of machine.new) way.new }
-    ensures ready { IsReady (situation_of machine.new) way.new }
+    requires among { IsActAmong (seen machine.old).shape.processors act }
+    requires ready { IsReady (seen machine.old) way.old }
+    ensures does { Does (replicate times (Listed act)) (seen machine.old) way.old (seen machine.new) way.new }
+    ensures ready { IsReady (seen machine.new) way.new }
 {
     let processor = processor_of(act);
     let mut left = times;
@@ -119,10 +119,10 @@ fn repeat(machine: &mut Machine, way: &mut Way, act: ScheduledAct, times: u32)
 
 /// Makes the acts of a list.
 fn list(machine: &mut Machine, way: &mut Way, items: &[ScheduleItem])
-    requires among { All (IsItemAmong (situation_of machine.old).shape.processors) items.now }
-    requires ready { IsReady (situation_of machine.old) way.old }
-    ensures does { Does (listed items.now) (situation_of machine.old) way.old (situation_of machine.new) way.new }
-    ensures ready { IsReady (situation_of machine.new) way.new }
+    requires among { All (IsItemAmong (seen machine.old).shape.processors) items.now }
+    requires ready { IsReady (seen machine.old) way.old }
+    ensures does { Does (listed items.now) (seen machine.old) way.old (seen machine.new) way.new }
+    ensures ready { IsReady (seen machine.new) way.new }
 {
     let mut left = items;
     while let [item, rest @ ..] = left {
@@ -133,10 +133,10 @@ fn list(machine: &mut Machine, way: &mut Way, items: &[ScheduleItem])
 
 /// Makes the step of a processor behind the list, if it isn't done.
 fn step(machine: &mut Machine, way: &mut Way, processor: u32)
-    requires among { processor < (situation_of machine.old).shape.processors }
-    requires ready { IsReady (situation_of machine.old) way.old }
-    ensures does { Does (InRound processor ∷ []) (situation_of machine.old) way.old (situation_of machine.new) way.new }
-    ensures ready { IsReady (situation_of machine.new) way.new }
+    requires among { processor < (seen machine.old).shape.processors }
+    requires ready { IsReady (seen machine.old) way.old }
+    ensures does { Does (InRound processor ∷ []) (seen machine.old) way.old (seen machine.new) way.new }
+    ensures ready { IsReady (seen machine.new) way.new }
 {
     if way.left == 0 {
         return;
@@ -156,9 +156,9 @@ fn step(machine: &mut Machine, way: &mut Way, processor: u32)
 
 /// Lets each processor make a step, from 0.
 fn go_round(machine: &mut Machine, way: &mut Way)
-    requires ready { IsReady (situation_of machine.old) way.old }
-    ensures does { Does (round (situation_of machine.old).shape.processors) (situation_of machine.old) way.old (situation_of machine.new) way.new }
-    ensures ready { IsReady (situation_of machine.new) way.new }
+    requires ready { IsReady (seen machine.old) way.old }
+    ensures does { Does (round (seen machine.old).shape.processors) (seen machine.old) way.old (seen machine.new) way.new }
+    ensures ready { IsReady (seen machine.new) way.new }
 {
     let processors = machine.processors();
     let mut processor = 0;
@@ -170,9 +170,9 @@ fn go_round(machine: &mut Machine, way: &mut Way)
 
 /// Lets the processors make steps in turn, while the finish word says nothing.
 fn go_on(machine: &mut Machine, way: &mut Way, count: u64)
-    requires ready { IsReady (situation_of machine.old) way.old }
-    ensures does { Does (rounds (situation_of machine.old).shape.processors count) (situation_of machine.old) way.old (situation_of machine.new) way.new }
-    ensures ready { IsReady (situation_of machine.new) way.new }
+    requires ready { IsReady (seen machine.old) way.old }
+    ensures does { Does (rounds (seen machine.old).shape.processors count) (seen machine.old) way.old (seen machine.new) way.new }
+    ensures ready { IsReady (seen machine.new) way.new }
 {
     let mut left = count;
     while left > 0 {
@@ -190,10 +190,10 @@ fn go_on(machine: &mut Machine, way: &mut Way, count: u64)
 /// Makes the run of a schedule, of at most so many acts, 2^40 at most: the acts of its list, and behind these those of all processors in
 /// turn, until the finish word says how the run ended. An act of a processor that is done isn't made, and isn't counted.
 pub fn follow(machine: &mut Machine, schedule: &Schedule, turns: u64)
-    requires processors { schedule.now.processors ≡ (situation_of machine.old).shape.processors }
+    requires processors { schedule.now.processors ≡ (seen machine.old).shape.processors }
     requires turns { turns ≤ 2 ^ 40 }
-    requires few { (situation_of machine.old).turns ≤ 2 ^ 61 }
-    ensures { situation_of machine.new ≡ followed (situation_of machine.old) schedule.now.items turns }
+    requires few { (seen machine.old).turns ≤ 2 ^ 61 }
+    ensures { seen machine.new ≡ followed (seen machine.old) schedule.now.items turns }
 {
     let mut way = Way {
         loads: [0; 64],

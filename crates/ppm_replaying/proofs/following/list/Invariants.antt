@@ -1,6 +1,6 @@
 use Rattle.std.proofs.Common.{◌≡◌, length}
 use Rattle.std.specs.List.{All}
-use Rattle.ppm_core.specs.Stub.{situation_of}
+use Rattle.ppm_core.specs.Machine.{seen}
 use Rattle.ppm_plan.specs.Schedules.{IsItemAmong}
 use Rattle.ppm_replaying.specs.Schedules.{listed}
 use Rattle.ppm_replaying.specs.Following.{IsReady, LeadsTo}
@@ -9,10 +9,10 @@ use Rattle.ppm_replaying.proofs.following.list.Given as goal
 -- what is left, behind what was done, is all
 abbrev pub invariant-loop-left : goal.invariant-loop-left
 invariant-loop-left l =
-    LeadsTo (listed l.items) (listed l.left) (situation_of l.initial.machine) l.initial.way (situation_of l.machine) l.way
-    × IsReady (situation_of l.machine) l.way
-    × ((situation_of l.machine).shape ≡ (situation_of l.initial.machine).shape)
-    × All (IsItemAmong (situation_of l.initial.machine).shape.processors) l.left
+    LeadsTo (listed l.items) (listed l.left) (seen l.initial.machine) l.initial.way (seen l.machine) l.way
+    × IsReady (seen l.machine) l.way
+    × ((seen l.machine).shape ≡ (seen l.initial.machine).shape)
+    × All (IsItemAmong (seen l.initial.machine).shape.processors) l.left
 
 abbrev pub decreases-loop-left : goal.decreases-loop-left
 decreases-loop-left l = length l.left
