@@ -3,3 +3,4 @@ pub mod IdleLemmas
 pub mod DoesLemmas
 pub mod ReadyLemmas
 pub mod ListLemmas
+pub mod SampleLemmas
