@@ -18,7 +18,7 @@ use Rattle.ppm_answers.specs.Rows.{IsOneOf}
 -- the statuses at which nothing is written on out
 abbrev pub silent : List Status
 silent = statuses.SourceRefused ∷ statuses.WordsRefused ∷ statuses.OutOfTurns ∷ statuses.OutOfRoom ∷ statuses.ReadFault ∷ statuses.NoMemory
-    ∷ statuses.CodeRefused ∷ statuses.NotWithin ∷ []
+    ∷ statuses.CodeRefused ∷ statuses.NotWithin ∷ statuses.Broken ∷ []
 
 -- a status is 8, or the answer is written
 pub own_or_fault : (out err : Port) (answer : Answer) (status : Status) → Delivers out err answer status →
@@ -55,13 +55,16 @@ none_of_three status (inr (inr (inr (inr (inl e))))) = (λ f. cc, λ f. cc, λ f
 none_of_three status (inr (inr (inr (inr (inr (inl e)))))) = (λ f. cc, λ f. cc, λ f. cc)
 none_of_three status (inr (inr (inr (inr (inr (inr (inl e))))))) = (λ f. cc, λ f. cc, λ f. cc)
 none_of_three status (inr (inr (inr (inr (inr (inr (inr (inl e)))))))) = (λ f. cc, λ f. cc, λ f. cc)
-none_of_three status (inr (inr (inr (inr (inr (inr (inr (inr e)))))))) = absurd e
+none_of_three status (inr (inr (inr (inr (inr (inr (inr (inr (inl e))))))))) = (λ f. cc, λ f. cc, λ f. cc)
+none_of_three status (inr (inr (inr (inr (inr (inr (inr (inr (inr e))))))))) = absurd e
 
 -- but for arrays, traps, listings and `ok`, an answer has no text on out
 no_text : (answer : Answer) (status : Status) → status ≡ status_of answer → status ≢ statuses.Ended → status ≢ statuses.Trapped →
     out_text answer ≡ []
 no_text (answers.Ended arrays) status e n m = absurd (n e)
 no_text (answers.Trapped t line) status e n m = absurd (m e)
+no_text (answers.EndedWith arrays tally) status e n m = absurd (n e)
+no_text (answers.TrappedWith t line tally) status e n m = absurd (m e)
 no_text (answers.Listed listing) status e n m = absurd (n e)
 no_text answers.Accepted status e n m = absurd (n e)
 no_text answer status e n m = refl

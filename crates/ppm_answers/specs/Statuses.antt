@@ -9,15 +9,20 @@ use Rattle.ppm_answers.specs.declared.status.Status.TheVariants as statuses
 abbrev pub status_of : Answer → Status
 status_of (answers.Ended arrays) = statuses.Ended
 status_of (answers.Trapped t line) = statuses.Trapped
+status_of (answers.EndedWith arrays tally) = statuses.Ended
+status_of (answers.TrappedWith t line tally) = statuses.Trapped
+status_of (answers.Unfinished acts) = statuses.OutOfTurns
 status_of (answers.NotWithin turns) = statuses.NotWithin
 status_of (answers.OutOfTurns processor) = statuses.OutOfTurns
 status_of (answers.OutOfRoom place) = statuses.OutOfRoom
+status_of (answers.Broken place) = statuses.Broken
 status_of (answers.Listed listing) = statuses.Ended
 status_of (answers.SourceRefused r) = statuses.SourceRefused
 status_of answers.Accepted = statuses.Ended
 status_of (answers.Conflicting c) = statuses.CodeRefused
 status_of (answers.ListingRefused r) = statuses.CodeRefused
 status_of answers.WordsRefused = statuses.WordsRefused
+status_of (answers.PlanRefused number) = statuses.WordsRefused
 status_of answers.ReadFault = statuses.ReadFault
 status_of answers.NoMemory = statuses.NoMemory
 
@@ -34,3 +39,4 @@ number_of statuses.WriteFault = 8
 number_of statuses.NoMemory = 9
 number_of statuses.CodeRefused = 10
 number_of statuses.NotWithin = 11
+number_of statuses.Broken = 13

@@ -12,6 +12,7 @@ use Rattle.ppm_answers.specs.declared.conflict.Class.{Class}
 use Rattle.ppm_answers.specs.declared.conflict.Class.TheVariants as class
 use Rattle.ppm_answers.specs.declared.conflict.Conflict.{Conflict}
 use Rattle.ppm_answers.specs.declared.conflict.ListingRefusal.{ListingRefusal}
+use Rattle.ppm_answers.specs.declared.tally.Tally.{Tally}
 use Rattle.ppm_answers.specs.declared.answer.Answer.{Answer}
 use Rattle.ppm_answers.specs.declared.answer.Answer.TheVariants as answers
 
@@ -75,6 +76,22 @@ room_text place = ended_line (codes "out of room: place " ++ decimal place)
 abbrev pub not_within_text : ℕ → List ℕ
 not_within_text turns = ended_line (codes "not within " ++ decimal turns ++ codes " turns")
 
+-- a line with the acts within which a replay did not end
+abbrev pub unfinished_text : ℕ → List ℕ
+unfinished_text acts = ended_line (codes "unfinished after " ++ decimal acts ++ codes " turns")
+
+-- a line with the place whose words are broken
+abbrev pub broken_text : ℕ → List ℕ
+broken_text place = ended_line (codes "saved words broken: place " ++ decimal place)
+
+-- a line with the fault's number of a plan or schedule
+abbrev pub plan_text : ℕ → List ℕ
+plan_text number = ended_line (codes "plan refused: " ++ decimal number)
+
+-- a line with the forks and the takes of a replay
+abbrev pub tally_text : Tally → List ℕ
+tally_text t = ended_line (codes "forks " ++ decimal t.forks ++ codes " takes " ++ decimal t.takes)
+
 -- what `check` says of a code that it accepts
 abbrev pub accepted_text : List ℕ
 accepted_text = ended_line (codes "ok")
@@ -100,6 +117,8 @@ listing_text r = ended_line (codes "listing refused: " ++ decimal r.number ++ co
 abbrev pub out_text : Answer → List ℕ
 out_text (answers.Ended arrays) = arrays_text arrays
 out_text (answers.Trapped t line) = trap_text t line
+out_text (answers.EndedWith arrays tally) = arrays_text arrays ++ tally_text tally
+out_text (answers.TrappedWith t line tally) = trap_text t line ++ tally_text tally
 out_text (answers.Listed listing) = listing
 out_text answers.Accepted = accepted_text
 out_text _ = []
@@ -109,6 +128,9 @@ abbrev pub err_text : Answer → List ℕ
 err_text (answers.NotWithin turns) = not_within_text turns
 err_text (answers.OutOfTurns processor) = turns_text processor
 err_text (answers.OutOfRoom place) = room_text place
+err_text (answers.Unfinished acts) = unfinished_text acts
+err_text (answers.Broken place) = broken_text place
+err_text (answers.PlanRefused number) = plan_text number
 err_text (answers.SourceRefused r) = refusal_text r
 err_text (answers.Conflicting c) = conflict_text c
 err_text (answers.ListingRefused r) = listing_text r

@@ -1,6 +1,7 @@
 //! What a command answers.
 use crate::conflict::{Conflict, ListingRefusal};
 use crate::refusal::Refusal;
+use crate::tally::Tally;
 use ppm_words::{Items, NamedArray, Trap};
 
 /// What a command answers, before any of it is written.
@@ -10,12 +11,20 @@ pub enum Answer {
     Ended(Items<NamedArray>),
     /// The run ended by a trap in this line of the source; lines count from 1.
     Trapped(Trap, u32),
+    /// The replay ended with these arrays, in the order in which the program declares them, and with this tally.
+    EndedWith(Items<NamedArray>, Tally),
+    /// The replay ended by a trap in this line of the source, and with this tally; lines count from 1.
+    TrappedWith(Trap, u32, Tally),
+    /// The replay did not end within so many acts.
+    Unfinished(u64),
     /// The run did not end within so many turns.
     NotWithin(u64),
     /// This processor has no turns left, and the run has not ended; processors count from 0.
     OutOfTurns(u32),
     /// The pool of this place has no room for a block that the run asks for; places count from 0.
     OutOfRoom(u32),
+    /// The words of the run are broken at this place; places count from 0, and 64 is for a place that isn't known.
+    Broken(u32),
     /// The program of the text is compiled to the code with this listing.
     Listed(Items<u8>),
     /// The text is refused for this reason.
@@ -28,6 +37,8 @@ pub enum Answer {
     ListingRefused(ListingRefusal),
     /// The words give no command.
     WordsRefused,
+    /// The plan or schedule among the words has the fault of this number, from 1 to 4.
+    PlanRefused(u32),
     /// The source of bytes failed.
     ReadFault,
     /// Memory was refused.

@@ -56,15 +56,16 @@ fn own_status(answer: &Answer) -> Status
     ensures { result ≡ status_of answer.now }
 {
     match answer {
-        Answer::Ended(_) => Status::Ended,
-        Answer::Trapped(_, _) => Status::Trapped,
+        Answer::Ended(_) | Answer::EndedWith(_, _) => Status::Ended,
+        Answer::Trapped(_, _) | Answer::TrappedWith(_, _, _) => Status::Trapped,
         Answer::NotWithin(_) => Status::NotWithin,
-        Answer::OutOfTurns(_) => Status::OutOfTurns,
+        Answer::OutOfTurns(_) | Answer::Unfinished(_) => Status::OutOfTurns,
         Answer::OutOfRoom(_) => Status::OutOfRoom,
+        Answer::Broken(_) => Status::Broken,
         Answer::SourceRefused(_) => Status::SourceRefused,
         Answer::Listed(_) | Answer::Accepted => Status::Ended,
         Answer::Conflicting(_) | Answer::ListingRefused(_) => Status::CodeRefused,
-        Answer::WordsRefused => Status::WordsRefused,
+        Answer::WordsRefused | Answer::PlanRefused(_) => Status::WordsRefused,
         Answer::ReadFault => Status::ReadFault,
         Answer::NoMemory => Status::NoMemory,
     }

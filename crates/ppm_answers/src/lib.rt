@@ -10,6 +10,7 @@ mod conflict;
 mod delivery;
 mod refusal;
 mod status;
+mod tally;
 mod texts;
 
 pub use answer::Answer;
@@ -17,6 +18,7 @@ pub use conflict::{Class, Conflict, ListingRefusal};
 pub use delivery::deliver;
 pub use refusal::{Pass, Refusal};
 pub use status::Status;
+pub use tally::Tally;
 
 #[cfg(test)]
 mod tests;

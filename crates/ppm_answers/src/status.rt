@@ -11,9 +11,9 @@ pub enum Status {
     Trapped = 1,
     /// The source is refused.
     SourceRefused = 2,
-    /// The words give no command.
+    /// The words give no command, or the plan or schedule among them is refused.
     WordsRefused = 3,
-    /// A processor has no turns left.
+    /// A processor has no turns left, or a replay has not ended within its acts.
     OutOfTurns = 4,
     /// A place has no room left.
     OutOfRoom = 5,
@@ -27,10 +27,12 @@ pub enum Status {
     CodeRefused = 10,
     /// The serial run did not end within its turns.
     NotWithin = 11,
+    /// The words of the run are broken.
+    Broken = 13,
 }
 
 impl Status {
-    /// The number that the program ends with, from 0 to 11.
+    /// The number that the program ends with, from 0 to 13.
     pub fn number(self) -> u8
         ensures { result ≡ number_of self }
     {

@@ -1,7 +1,7 @@
 //! Each answer's texts and status, and ports that fail.
 ghost use Rattle.std.specs.Prelude.{◌<◌};
 
-use crate::{Answer, Class, Conflict, ListingRefusal, Pass, Refusal, Status, deliver};
+use crate::{Answer, Class, Conflict, ListingRefusal, Pass, Refusal, Status, Tally, deliver};
 use ppm_ports::{MemorySink, Sink};
 use ppm_words::{Items, Name, NamedArray, Trap};
 use std::alloc::Global;
@@ -47,14 +47,18 @@ fn array(alloc: Global, name: Name, values: &[i64]) -> Result<NamedArray, Fail> 
     })
 }
 
-/// The answer of a run that ended with two arrays.
-fn two_arrays(alloc: Global) -> Result<Answer, Fail> {
+/// Two arrays, one without words.
+fn two_arrays(alloc: Global) -> Result<Items<NamedArray>, Fail> {
     let first = Name::from_bytes(Vec::from_slice(alloc, b"a")?);
     let second = Name::from_bytes(Vec::from_slice(alloc, b"b_2")?);
     let mut arrays = Vec::new(alloc);
     arrays.push(array(alloc, first, &[5, -7, i64::MIN])?)?;
     arrays.push(array(alloc, second, &[])?)?;
-    Ok(Answer::Ended(Items::from_vec(arrays)))
+    Ok(Items::from_vec(arrays))
+}
+
+fn tally(forks: u64, takes: u64) -> Tally {
+    Tally { forks, takes }
 }
 
 fn refused(pass: Pass, number: u32, place: u32) -> Answer {
@@ -79,7 +83,7 @@ fn answers_have_texts_and_statuses(rt: HostRuntime) -> Result<(), Fail> {
     let alloc = rt.alloc();
     let cases = [
         (
-            two_arrays(alloc)?,
+            Answer::Ended(two_arrays(alloc)?),
             "a 5 -7 -9223372036854775808\nb_2\n",
             "",
             0,
@@ -108,6 +112,21 @@ fn answers_have_texts_and_statuses(rt: HostRuntime) -> Result<(), Fail> {
             "",
             1,
         ),
+        (
+            Answer::EndedWith(two_arrays(alloc)?, tally(3, 4_294_967_296)),
+            "a 5 -7 -9223372036854775808\nb_2\nforks 3 takes 4294967296\n",
+            "",
+            0,
+        ),
+        (
+            Answer::TrappedWith(Trap::DivZero, 4, tally(12, 0)),
+            "trap divzero line 4\nforks 12 takes 0\n",
+            "",
+            1,
+        ),
+        (Answer::Unfinished(1), "", "unfinished after 1 turns\n", 4),
+        (Answer::PlanRefused(4), "", "plan refused: 4\n", 3),
+        (Answer::Broken(64), "", "saved words broken: place 64\n", 13),
         (
             refused(Pass::Text, 5, 1_048_576),
             "",

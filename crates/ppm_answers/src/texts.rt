@@ -5,11 +5,13 @@ ghost use Rattle.std.specs.List.{flat_map};
 ghost use Rattle.std.specs.String.{string_bytes};
 ghost use Rattle.ppm_answers.specs.Texts.{IsFixed, out_text, err_text, refusal_text, fault_text, pass_name as name_of_pass, place_name as name_of_place};
 ghost use Rattle.ppm_answers.specs.Texts.{class_text, conflict_text, listing_text, not_within_text, turns_text, room_text};
+ghost use Rattle.ppm_answers.specs.Texts.{unfinished_text, broken_text, plan_text};
 ghost use Rattle.ppm_answers.specs.Texts.{arrays_text, array_text, value_text, trap_text, trap_name as name_of_trap};
 
 use crate::answer::Answer;
 use crate::conflict::{Class, Conflict, ListingRefusal};
 use crate::refusal::{Pass, Refusal};
+use crate::tally::with_tally;
 use ppm_words::{NamedArray, Trap};
 use std::alloc::{AllocError, Global};
 use std::borrow::CowSlice;
@@ -44,6 +46,20 @@ pub fn texts_of(alloc: Global, answer: &Answer) -> Result<(Text, Text), AllocErr
             CowSlice::Owned(trap_text_of(alloc, *trap, *line)?),
             CowSlice::Borrowed(none),
         )),
+        Answer::EndedWith(arrays, tally) => {
+            let text = arrays_text_of(alloc, arrays.as_slice())?;
+            Ok((
+                CowSlice::Owned(with_tally(alloc, text, *tally)?),
+                CowSlice::Borrowed(none),
+            ))
+        }
+        Answer::TrappedWith(trap, line, tally) => {
+            let text = trap_text_of(alloc, *trap, *line)?;
+            Ok((
+                CowSlice::Owned(with_tally(alloc, text, *tally)?),
+                CowSlice::Borrowed(none),
+            ))
+        }
         Answer::SourceRefused(refusal) => Ok((
             CowSlice::Borrowed(none),
             CowSlice::Owned(refusal_text_of(alloc, *refusal)?),
@@ -59,6 +75,18 @@ pub fn texts_of(alloc: Global, answer: &Answer) -> Result<(Text, Text), AllocErr
         Answer::OutOfRoom(place) => Ok((
             CowSlice::Borrowed(none),
             CowSlice::Owned(room_text_of(alloc, *place)?),
+        )),
+        Answer::Unfinished(acts) => Ok((
+            CowSlice::Borrowed(none),
+            CowSlice::Owned(unfinished_text_of(alloc, *acts)?),
+        )),
+        Answer::Broken(place) => Ok((
+            CowSlice::Borrowed(none),
+            CowSlice::Owned(broken_text_of(alloc, *place)?),
+        )),
+        Answer::PlanRefused(number) => Ok((
+            CowSlice::Borrowed(none),
+            CowSlice::Owned(plan_text_of(alloc, *number)?),
         )),
         Answer::Listed(listing) => Ok((
             CowSlice::Owned(listing.as_slice().to_vec(alloc)?),
@@ -131,6 +159,30 @@ fn room_text_of(alloc: Global, place: u32) -> Result<Vec<u8>, AllocError>
     ensures { IfOk result (λ text. text.items ≡ room_text place) }
 {
     let text = format!(in alloc; "out of room: place {place}\n")?;
+    Ok(text.into_bytes())
+}
+
+/// The line of a replay that did not end within its acts.
+fn unfinished_text_of(alloc: Global, acts: u64) -> Result<Vec<u8>, AllocError>
+    ensures { IfOk result (λ text. text.items ≡ unfinished_text acts) }
+{
+    let text = format!(in alloc; "unfinished after {acts} turns\n")?;
+    Ok(text.into_bytes())
+}
+
+/// The line of words that are broken at a place.
+fn broken_text_of(alloc: Global, place: u32) -> Result<Vec<u8>, AllocError>
+    ensures { IfOk result (λ text. text.items ≡ broken_text place) }
+{
+    let text = format!(in alloc; "saved words broken: place {place}\n")?;
+    Ok(text.into_bytes())
+}
+
+/// The line of a plan or schedule that is refused.
+fn plan_text_of(alloc: Global, number: u32) -> Result<Vec<u8>, AllocError>
+    ensures { IfOk result (λ text. text.items ≡ plan_text number) }
+{
+    let text = format!(in alloc; "plan refused: {number}\n")?;
     Ok(text.into_bytes())
 }
 

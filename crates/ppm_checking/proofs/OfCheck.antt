@@ -51,6 +51,7 @@ module _ (o : Outside) (status : Status) (a : Answers (CheckMay o) o status) whe
   ok_answer : (answer : Answer) → HasRead answer → IsWritten o.out o.err answer status → status ≡ statuses.Ended → WritesOk o
   ok_answer answers.Accepted h w e = (h, w.out_takes.0)
   ok_answer (answers.Ended arrays) h w e = absurd h.2
+  ok_answer (answers.EndedWith arrays tally) h w e = absurd h.2
   ok_answer (answers.Listed listing) h w e = absurd h.2
   ok_answer answer h w e = let own = w.own in cc
 

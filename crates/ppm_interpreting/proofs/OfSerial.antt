@@ -56,6 +56,7 @@ module _ (turns : ℕ) where
       arrays_answer : (answer : Answer) → HasRead turns o answer → IsWritten o.out o.err answer status → status ≡ statuses.Ended →
           WritesArrays turns o
       arrays_answer (answers.Ended arrays) h w e = (arrays, h, w.out_takes.0)
+      arrays_answer (answers.EndedWith arrays tally) h w e = absurd h.2
       arrays_answer (answers.Listed listing) h w e = absurd h.2
       arrays_answer answers.Accepted h w e = absurd h.2
       arrays_answer answer h w e = let own = w.own in cc
@@ -64,6 +65,7 @@ module _ (turns : ℕ) where
       trap_answer : (answer : Answer) → HasRead turns o answer → IsWritten o.out o.err answer status → status ≡ statuses.Trapped →
           WritesTrap turns o
       trap_answer (answers.Trapped t line) h w e = (t, line, h, w.out_takes.0)
+      trap_answer (answers.TrappedWith t line tally) h w e = absurd h.2
       trap_answer answer h w e = let own = w.own in cc
 
       -- an answer of status 2 is a refusal

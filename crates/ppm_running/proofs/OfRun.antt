@@ -58,6 +58,7 @@ module _ (options : RunOptions) where
       arrays_answer : (answer : Answer) → HasRead options o answer → IsWritten o.out o.err answer status → status ≡ statuses.Ended →
           WritesArrays options o
       arrays_answer (answers.Ended arrays) h w e = (arrays, h, w.out_takes.0)
+      arrays_answer (answers.EndedWith arrays tally) h w e = absurd h.2.2
       arrays_answer (answers.Listed listing) h w e = absurd h.2.2
       arrays_answer answers.Accepted h w e = absurd h.2.2
       arrays_answer answer h w e = let own = w.own in cc
@@ -66,6 +67,7 @@ module _ (options : RunOptions) where
       trap_answer : (answer : Answer) → HasRead options o answer → IsWritten o.out o.err answer status → status ≡ statuses.Trapped →
           WritesTrap options o
       trap_answer (answers.Trapped t line) h w e = (t, line, h, w.out_takes.0)
+      trap_answer (answers.TrappedWith t line tally) h w e = absurd h.2.2
       trap_answer answer h w e = let own = w.own in cc
 
       -- an answer of status 2 is a refusal
@@ -79,6 +81,7 @@ module _ (options : RunOptions) where
           WritesOutOfTurns options o
       turns_answer (answers.OutOfTurns processor) h w e =
           (subst (λ m. HasRead options o (answers.OutOfTurns m)) h.2.2.0 h, subst (λ m. Gets o.err (turns_text m)) h.2.2.0 w.err_takes.0)
+      turns_answer (answers.Unfinished acts) h w e = absurd h.2.2
       turns_answer answer h w e = let own = w.own in cc
 
       -- an answer of status 5 is of place 0

@@ -76,6 +76,7 @@ module _ (law : HaveOneAnswer) where
     listing_answer : (answer : Answer) → CodeMay o answer → IsWritten o.out o.err answer status → status ≡ statuses.Ended → WritesListing o
     listing_answer (answers.Listed listing) h w e = record { listing = listing; read = h.has; gets = w.out_takes.0; free = h.listed }
     listing_answer (answers.Ended arrays) h w e = absurd h.has.2
+    listing_answer (answers.EndedWith arrays tally) h w e = absurd h.has.2
     listing_answer answers.Accepted h w e = absurd h.has.2
     listing_answer answer h w e = let own = w.own in cc
 

@@ -98,6 +98,10 @@ no_command (Some (commands.Run options)) o answers.WordsRefused h e = absurd h.2
 no_command (Some (commands.Serial options)) o answers.WordsRefused h e = absurd h.2
 no_command (Some commands.Code) o answers.WordsRefused h e = absurd h.has.2
 no_command (Some commands.Check) o answers.WordsRefused h e = absurd h.2
+no_command (Some (commands.Run options)) o (answers.PlanRefused number) h e = absurd h.2.2
+no_command (Some (commands.Serial options)) o (answers.PlanRefused number) h e = absurd h.2
+no_command (Some commands.Code) o (answers.PlanRefused number) h e = absurd h.has.2
+no_command (Some commands.Check) o (answers.PlanRefused number) h e = absurd h.2
 no_command command o answer h e = cc
 
 -- without a command nothing is read, and the words are refused or memory is

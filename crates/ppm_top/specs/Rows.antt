@@ -59,7 +59,7 @@ pub record ReportsFaults (o : Outside) (status : Status) : Type 0 where
 abbrev pub IsSilentOnOut : Outside → Status → Type 0
 IsSilentOnOut o status =
     IsOneOf status (statuses.SourceRefused ∷ statuses.WordsRefused ∷ statuses.OutOfTurns ∷ statuses.OutOfRoom ∷ statuses.ReadFault
-    ∷ statuses.NoMemory ∷ statuses.CodeRefused ∷ statuses.NotWithin ∷ []) → Keeps o.out.before o.out.now
+    ∷ statuses.NoMemory ∷ statuses.CodeRefused ∷ statuses.NotWithin ∷ statuses.Broken ∷ []) → Keeps o.out.before o.out.now
 
 -- the rows of the program: those of each command, those of words that give none, and those that all commands share
 pub record ProgramRows (words : List (List ℕ)) (o : Outside) (status : Status) : Type 0 where

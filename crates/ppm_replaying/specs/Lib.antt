@@ -1,0 +1,4 @@
+pub mod Course
+pub mod Schedules
+pub mod Following
+pub mod Says
