@@ -2,3 +2,5 @@ pub mod Course
 pub mod Schedules
 pub mod Following
 pub mod Says
+pub mod Verdict
+pub mod Causes

@@ -1,2 +1,3 @@
 pub mod CausesLemmas
 pub mod OfAll
+pub mod OfReplay

@@ -138,7 +138,7 @@ fn sink(alloc: Global, most: usize, failing: &[u64]) -> Result<MemorySink, Fail>
 #[test]
 fn commands_are_obeyed(rt: HostRuntime) -> Result<(), Fail> {
     // Words and a text, with what is written on out and on err.
-    let cases: [(&[&str], &str, &str, &str, Status); 14] = [
+    let cases: [(&[&str], &str, &str, &str, Status); 17] = [
         (RUN, FIRST, "a 5 7\n", "", Status::Ended),
         (
             &["ppm", "run", "--processors", "1"],
@@ -212,6 +212,27 @@ fn commands_are_obeyed(rt: HostRuntime) -> Result<(), Fail> {
             "",
             "listing refused: 1 line 1\n",
             Status::CodeRefused,
+        ),
+        (
+            &["ppm", "replay", "--processors", "2", "--schedule", "0*40,1>0*60,0!s"],
+            SUM,
+            "a 10 2 7 4\nforks 3 takes 3\n",
+            "",
+            Status::Ended,
+        ),
+        (
+            &["ppm", "replay", "--turns", "1"],
+            FIRST,
+            "",
+            "unfinished after 1 turns\n",
+            Status::OutOfTurns,
+        ),
+        (
+            &["ppm", "replay", "--schedule", "0,1*0"],
+            FIRST,
+            "",
+            "plan refused: 1\n",
+            Status::WordsRefused,
         ),
     ];
     for (words, text, out, err, status) in cases {
@@ -355,6 +376,12 @@ fn words_are_judged_before_anything_is_read(rt: HostRuntime) -> Result<(), Fail>
         assert_eq!(rt; got.err.as_slice(), b"words refused\n".as_slice());
         assert_eq!(rt; got.read_faults, 0);
     }
+    // So it is where a schedule is refused.
+    let words = ["ppm", "replay", "--processors", "2", "--schedule", "0!h,1!h"];
+    let got = ppm_over_memory(rt.alloc(), FIRST.as_bytes(), &words, 9, reads_fail)?;
+    assert_eq!(rt; got.status, Status::WordsRefused);
+    assert_eq!(rt; got.err.as_slice(), b"plan refused: 4\n".as_slice());
+    assert_eq!(rt; got.read_faults, 0);
     Ok(())
 }
 
