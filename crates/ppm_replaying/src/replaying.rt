@@ -1,7 +1,7 @@
 //! The command `replay`.
-ghost use Rattle.std.specs.Prelude.{◌≡◌, []};
+ghost use Rattle.std.specs.Prelude.{◌≡◌};
 ghost use Rattle.ppm_ports.specs.Ports.{port};
-ghost use Rattle.ppm_ports.specs.Outside.{outside};
+ghost use Rattle.ppm_ports.specs.Outside.{ToldLists, outside};
 ghost use Rattle.ppm_answers.specs.Reading.{Answers, JudgingMay};
 ghost use Rattle.ppm_line.specs.Words.{AreReplayed};
 ghost use Rattle.ppm_text.specs.Limits.{text_limit};
@@ -29,10 +29,10 @@ pub fn replay_command<S: Source, K: Sink, E: Sink>(
 ) -> Status
     requires options { AreReplayed options }
 
-    // An answer that the command's causes allow, and its texts.
-    ensures answers { let o = outside (port S.left S.fault_count source.old source.new)
-        (port K.written K.fault_count out.old out.new) (port E.written E.fault_count err.old err.new) [] [] in
-        Answers (ReplayMay options schedule.now o.source) o result }
+    // An answer that the command's causes allow, and its texts; no watcher is told anything.
+    ensures answers { (told : ToldLists) → let o = outside (port S.left S.fault_count source.old source.new)
+        (port K.written K.fault_count out.old out.new) (port E.written E.fault_count err.old err.new)
+        told told in Answers (ReplayMay options schedule.now o.source) o result }
 {
     let answer = replay_answer(alloc, options, schedule, source);
     deliver(alloc, &answer, out, err)
