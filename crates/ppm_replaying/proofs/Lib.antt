@@ -4,3 +4,4 @@ pub mod DoesLemmas
 pub mod ReadyLemmas
 pub mod ListLemmas
 pub mod SampleLemmas
+pub mod ReplayLemmas
