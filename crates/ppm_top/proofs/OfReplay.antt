@@ -28,7 +28,8 @@ use Rattle.ppm_answers.specs.Rows.{IsOneOf, GoesWell}
 use Rattle.ppm_answers.proofs.Delivered as delivered
 use Rattle.ppm_answers.proofs.Judged as judged
 use Rattle.ppm_line.specs.declared.replay.ReplayOptions.{ReplayOptions}
-use Rattle.ppm_replaying.specs.Verdict.{ReplayHas, finished, answer_by}
+use Rattle.ppm_replaying.specs.Says.{finished, answer_by}
+use Rattle.ppm_replaying.specs.Verdict.{ReplayHas}
 use Rattle.ppm_replaying.specs.Causes.{IsRefusedBy, Judges, ReplayMay}
 use Rattle.ppm_top.specs.Replays.{HasReplayed, WritesArrays, WritesTrap, WritesRefusal, WritesUnfinished, WritesSpent, WritesNoRoom, WritesBroken, RefusesSchedule, ReplayRows}
 
