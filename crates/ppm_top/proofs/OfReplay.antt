@@ -31,7 +31,8 @@ use Rattle.ppm_line.specs.declared.replay.ReplayOptions.{ReplayOptions}
 use Rattle.ppm_replaying.specs.Says.{finished, answer_by}
 use Rattle.ppm_replaying.specs.Verdict.{ReplayHas}
 use Rattle.ppm_replaying.specs.Causes.{IsRefusedBy, Judges, ReplayMay}
-use Rattle.ppm_top.specs.Replays.{HasReplayed, WritesArrays, WritesTrap, WritesRefusal, WritesUnfinished, WritesSpent, WritesNoRoom, WritesBroken, RefusesSchedule, ReplayRows}
+use Rattle.ppm_top.specs.Replays.{HasReplayed, WritesArrays, WritesTrap, WritesRefusal, WritesUnfinished, WritesSpent}
+use Rattle.ppm_top.specs.Replays.{WritesNoRoom, WritesBroken, RefusesSchedule, ReplayRows}
 
 -- the answers that a text has where it is replayed for so many acts
 abbrev pub IsOfReplay : (turns : ℕ) → Answer → Type 0
