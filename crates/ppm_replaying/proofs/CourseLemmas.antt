@@ -30,7 +30,7 @@ module _ (s : Shape) (code : CodeParts) where
   counts_on told n state first more =
       omega (
         arith,
-        ap length (tell_on s code told state first more)
+        ap length (tell_on ℕ s code told state first more)
             ∙ length-append (along s code told state first) (along s code told (after s code state first) more),
       )
 
