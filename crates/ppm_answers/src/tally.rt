@@ -9,7 +9,7 @@ use std::alloc::{AllocError, Global};
 pub struct Tally {
     /// How many forks were made.
     pub forks: u64,
-    /// How many jobs were taken.
+    /// How many right branches were taken, by thieves or by their own processors.
     pub takes: u64,
 }
 
