@@ -4,3 +4,7 @@ pub mod DoesLemmas
 pub mod ReadyLemmas
 pub mod ListLemmas
 pub mod SampleLemmas
+pub mod MadeLemmas
+pub mod RoundLemmas
+pub mod SkipLemmas
+pub mod LoadLemmas

@@ -37,7 +37,7 @@ ready_behind {m} {m'} {way} {v} act turn ready some loads left is = record {
     few c = omega (arith, ready.loads c, some, left, ap (λ xs. slice_index xs c) loads, one_more_load (course m way) act c)
 
 -- at the beginning no load was made
-none_at : (n c : ℕ) → slice_index (replicate n 0) c ≡ 0
+pub none_at : (n c : ℕ) → slice_index (replicate n 0) c ≡ 0
 none_at zero c = refl
 none_at (suc n) zero = refl
 none_at (suc n) (suc c) = none_at n c

@@ -7,9 +7,11 @@
 
 mod arrays;
 mod following;
+mod laws;
 mod saying;
 #[cfg(test)]
 mod tests;
 
 pub use following::follow;
+pub use laws::{schedules_go_on, schedules_keep_order, schedules_skip_done};
 pub use saying::answer_of;

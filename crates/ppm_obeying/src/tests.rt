@@ -1,7 +1,7 @@
 //! Schedules that a machine of two processors follows, with a code that ends at once.
 ghost use Rattle.std.specs.Prelude.{◌≡◌, IfOk, []};
 
-use crate::{answer_of, follow};
+use crate::{answer_of, follow, schedules_go_on, schedules_keep_order, schedules_skip_done};
 use ppm_answers::{Answer, Tally};
 use ppm_cells::Shape;
 use ppm_code::{Capsule, Code, CodeParts, End, Instr, Procedure};
@@ -94,4 +94,11 @@ fn follows_schedules(rt: HostRuntime) -> Result<(), Fail> {
         ends_within(&rt, alloc, schedule, acts)?;
     }
     Ok(())
+}
+
+#[test]
+fn states_laws() {
+    schedules_go_on();
+    schedules_keep_order();
+    schedules_skip_done();
 }

@@ -1,0 +1,21 @@
+//! What is true of the run of each schedule, shown by calls that do nothing.
+ghost use Rattle.ppm_cells.specs.declared.shape.Shape.{Shape};
+ghost use Rattle.ppm_code.specs.declared.code.CodeParts.{CodeParts};
+ghost use Rattle.ppm_obeying.specs.Laws.{MakesNoMore, GoesOn, SkipsDone, KeepsOrder};
+
+/// The run of a schedule is as long as it can be: it has no more turns than may be made, and it stops before only where
+/// the finish word isn't 0 or all processors are done.
+pub fn schedules_go_on()
+    ensures no_more { (s : Shape) (code : CodeParts) → MakesNoMore s code }
+    ensures no_fewer { (s : Shape) (code : CodeParts) → GoesOn s code }
+{}
+
+/// No turn of it is of a processor that is done.
+pub fn schedules_skip_done()
+    ensures { (s : Shape) (code : CodeParts) → SkipsDone s code }
+{}
+
+/// Its turns are those of the acts that are due, in their order, each with the victim that the rule names.
+pub fn schedules_keep_order()
+    ensures { (s : Shape) (code : CodeParts) → KeepsOrder s code }
+{}
