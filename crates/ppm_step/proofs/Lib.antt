@@ -3,3 +3,7 @@ pub mod ThereLemmas
 pub mod StoringLemmas
 pub mod EnterLemmas
 pub mod SampleLemmas
+pub mod PlainLemmas
+pub mod SparingLemmas
+pub mod RestLemmas
+pub mod FinishLemmas

@@ -9,3 +9,4 @@ pub mod Stages
 pub mod Locals
 pub mod State
 pub mod Told
+pub mod Laws

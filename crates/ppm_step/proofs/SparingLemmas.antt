@@ -1,0 +1,377 @@
+-- What comes of a row or of a capsule stores nothing into the finish word: it is exchanged from 0 alone.
+use Rattle.std.proofs.Common.{◌≡◌, ◌<◌, ◌+◌, ◌*◌, ◌⊎◌, inl, inr, refl, arith, ℕ, zero, suc, Bool, true, false, Option, Some, None, ◌==◌}
+use Rattle.std.specs.Prelude.{◌-◌, ◌^◌, ◌&&◌, if◌then◌else◌, nat_lt}
+use Rattle.ppm_cells.specs.Cells.{address, place_at, place_size, word_count}
+use Rattle.ppm_cells.specs.declared.cell.Cell.{Cell}
+use Rattle.ppm_cells.specs.declared.cell.Cell.TheVariants.{EntryWord, BlockWord}
+use Rattle.ppm_cells.specs.declared.entry.Entry.{Entry}
+use Rattle.ppm_cells.specs.declared.entry.Entry.TheVariants.{Empty, Local, Job, Taken}
+use Rattle.ppm_cells.specs.declared.finish.Finish.{Finish}
+use Rattle.ppm_cells.specs.declared.finish.Finish.TheVariants.{Unset, Ended, Trapped, OutOfTurns, OutOfRoom, Stopped, Broken as BrokenAt}
+use Rattle.ppm_cells.specs.declared.holder.Holder.{Holder}
+use Rattle.ppm_cells.specs.declared.link.Link.{Link}
+use Rattle.ppm_cells.specs.declared.link.LinkKind.{LinkKind}
+use Rattle.ppm_cells.specs.declared.link.LinkKind.TheVariants.{Root, Call as CallLink, Branch, Fork as ForkLink}
+use Rattle.ppm_cells.specs.declared.restart.Restart.{Restart}
+use Rattle.ppm_cells.specs.declared.restart.RestartKind.{RestartKind}
+use Rattle.ppm_cells.specs.declared.restart.RestartKind.TheVariants.{Run, Bump, Push1, Push2, Unwind, Arrive, Join, Pop1, Pop2, Seek, Steal, Check, Take, Take2}
+use Rattle.ppm_cells.specs.declared.shape.Shape.{Shape}
+use Rattle.ppm_cells.specs.declared.shape.Takeover.{Takeover}
+use Rattle.ppm_cells.specs.declared.shape.Takeover.TheVariants.{ByPlaces, ByEntries}
+use Rattle.ppm_cells.specs.declared.side.Side.{Side}
+use Rattle.ppm_cells.specs.declared.side.Side.TheVariants.{Left, Right}
+use Rattle.ppm_deque.specs.Change.{tag_of}
+use Rattle.ppm_deque.specs.Transitions.{pushed_above, pushed_job, popped_above}
+use Rattle.ppm_join.specs.Order.{first, both}
+use Rattle.ppm_join.specs.Outcome.{outcome_of_both}
+use Rattle.ppm_step.specs.declared.content.Content.{Content}
+use Rattle.ppm_step.specs.declared.content.Content.TheVariants.{ANumber, ARestart, AnEntry, AHolder, ALink, AFinish}
+use Rattle.ppm_step.specs.declared.row.Seat.{Seat}
+use Rattle.ppm_step.specs.declared.row.Point.{Point}
+use Rattle.ppm_step.specs.declared.row.Point.TheVariants.{Header, BumpLink, PushOrder, PushAbove, PushBottom, UnwindLink, UnwindOutcome, Target, GivenValue}
+use Rattle.ppm_step.specs.declared.row.Point.TheVariants.{JoinOrder, JoinLink, JoinLeft, JoinRight, RightFrame, Offset, PopBelow, PopAgain, PopAbove}
+use Rattle.ppm_step.specs.declared.row.Point.TheVariants.{SeekHolder, SeekDead, SeekTop, SeekEntry, SeekClosed, StealMessage, TakenMessage, TakenEntry}
+use Rattle.ppm_step.specs.declared.row.Point.TheVariants.{ClosedRestart, ClosedLink, ClosedBottom, BidMessage, BidAgain, BidHolder}
+use Rattle.ppm_step.specs.declared.row.Then.{Then}
+use Rattle.ppm_step.specs.declared.row.Then.TheVariants.{Load, Begin, Move, Enter, Again, Broken}
+use Rattle.ppm_step.specs.declared.row.Row.{Row}
+use Rattle.ppm_step.specs.declared.row.Row.TheVariants.{Now, Store, Exchange}
+use Rattle.ppm_step.specs.Contents.{word_of}
+use Rattle.ppm_step.specs.There.{restart_is_there}
+use Rattle.ppm_step.specs.Rows.{on_number, on_restart, on_entry, on_holder, on_link, on_outcome, with_kind, if_there, raised, tried, changed, bumped, pushes, push_at, push_by_order, push_above, push_bottom, left_begins}
+use Rattle.ppm_step.specs.Rows.{unwind_by, branch_outcome, unwound, after_value, target_found, value_found, is_inline, is_last, joins, join_by_order, join_by, joined, right_begins, right_value}
+use Rattle.ppm_step.specs.Rows.{pop_below, pop_again, pop_above, seek_held, seek_by, seek_holder, bids, seek_dead, seek_top, notes, passes, passes_by, local_by, seek_entry, seek_closed, taken_so, steals, can_be_taken, taken_message, took, goes_on_with, taken_entry}
+use Rattle.ppm_step.specs.Rows.{at_bottom, above_bottom, below_bottom, by_slot, follows, closed_link, closed_bottom, lowered, makes_bid, bid_again, bid_holder, found_at, by_places, row_of}
+use Rattle.ppm_step.specs.Laws.{IsProposedWord}
+
+-- the words of places lie behind those of processors
+pub behind_first : (s : Shape) (place more : ℕ) → 0 < place_at s place + more
+behind_first s place more = positive s.processors (place * place_size s) more
+  where
+    positive : (p x m : ℕ) → 0 < 1 + 2 * p + x + m
+    positive p x m = omega arith
+
+pub place_first : (s : Shape) (place : ℕ) → 0 < place_at s place
+place_first s place = positive s.processors (place * place_size s)
+  where
+    positive : (p x : ℕ) → 0 < 1 + 2 * p + x
+    positive p x = omega arith
+
+module _ (s : Shape) where
+  -- the row stores elsewhere, or exchanges the finish word from 0 for one that may be proposed
+  abbrev pub SparesRow : Row → Type 0
+  SparesRow (Now next) = Unit {0}
+  SparesRow (Store cell content next) = 0 < address s cell
+  SparesRow (Exchange cell old new next) = (0 < address s cell) ⊎ ((word_of old ≡ 0) × IsProposedWord (word_of new))
+
+  either : (b : Bool) (x y : Row) → SparesRow x → SparesRow y → SparesRow (if b then x else y)
+  either true x y p q = p
+  either false x y p q = q
+
+  -- what is read otherwise is broken
+  number : (w : Content) (go : ℕ → Row) → ((n : ℕ) → SparesRow (go n)) → SparesRow (on_number w go)
+  number (ANumber n) go h = h n
+  number w go h = tt
+
+  restart : (w : Content) (go : Restart → Row) → ((r : Restart) → SparesRow (go r)) → SparesRow (on_restart w go)
+  restart (ARestart r) go h = h r
+  restart w go h = tt
+
+  entry : (w : Content) (go : Entry → Row) → ((e : Entry) → SparesRow (go e)) → SparesRow (on_entry w go)
+  entry (AnEntry e) go h = h e
+  entry w go h = tt
+
+  holder : (w : Content) (go : Holder → Row) → ((k : Holder) → SparesRow (go k)) → SparesRow (on_holder w go)
+  holder (AHolder k) go h = h k
+  holder w go h = tt
+
+  link : (w : Content) (go : Link → Row) → ((l : Link) → SparesRow (go l)) → SparesRow (on_link w go)
+  link (ALink l) go h = h l
+  link w go h = tt
+
+  -- an outcome is an end or a trap
+  outcome : (w : Content) (go : Finish → Row) → SparesRow (go Ended) → ((trap : _) (line : ℕ) → SparesRow (go (Trapped trap line))) → SparesRow (on_outcome w go)
+  outcome (AFinish Ended) go h k = h
+  outcome (AFinish (Trapped trap line)) go h k = k trap line
+  outcome (AFinish finish) go h k = tt
+  outcome w go h k = tt
+
+  -- a change of an entry
+  tries : (cell : Cell) (old : Entry) (new : Option Entry) (next : Then) → 0 < address s cell → SparesRow (tried cell old new next)
+  tries cell old None next far = tt
+  tries cell old (Some new) next far = by (nat_lt (tag_of old + 1) (2 ^ 34))
+    where
+      by : (b : Bool) → SparesRow (raised cell old new next b)
+      by true = inl far
+      by false = tt
+
+  changes : (cell : Cell) (old : Entry) (new : Option Entry) (next : Then) → 0 < address s cell → SparesRow (changed cell old new next)
+  changes cell old None next far = tt
+  changes cell old (Some new) next far = tries cell old (Some new) next far
+
+  entry_far : (place slot : ℕ) → 0 < address s (EntryWord place slot)
+  entry_far place slot = positive s.processors (place * place_size s) slot
+    where
+      positive : (p x m : ℕ) → 0 < 1 + 2 * p + x + 5 + m
+      positive p x m = omega arith
+
+  there : (at : ℕ) (row : Row) → SparesRow row → SparesRow (if_there s at row)
+  there at row h = either (nat_lt at (word_count s)) row (Now Broken) h tt
+
+  bumps : (seat : Seat) (block size : ℕ) (kind : LinkKind) → SparesRow (bumped seat block size kind)
+  bumps seat block size (CallLink frame copy) = behind_first s seat.place 4
+  bumps seat block size (ForkLink frame copy) = behind_first s seat.place 4
+  bumps seat block size Root = tt
+  bumps seat block size (Branch side up) = tt
+
+  pushes_on : (seat : Seat) (block : ℕ) (takeover : Takeover) → SparesRow (pushes seat block takeover)
+  pushes_on seat block ByPlaces = tt
+  pushes_on seat block ByEntries = tt
+
+  pushes_at : (seat : Seat) (takeover : Takeover) (block : ℕ) (last : Bool) → SparesRow (push_at seat takeover block last)
+  pushes_at seat takeover block true = omega arith
+  pushes_at seat takeover block false = pushes_on seat block takeover
+
+  unwinds : (frame : ℕ) (kind : LinkKind) → SparesRow (unwind_by frame kind)
+  unwinds frame Root = tt
+  unwinds frame (CallLink to copy) = tt
+  unwinds frame (Branch side block) = tt
+  unwinds frame (ForkLink to copy) = tt
+
+  branch_far : (side : Side) (block : ℕ) → 0 < address s (branch_outcome side block)
+  branch_far Left block = omega arith
+  branch_far Right block = omega arith
+
+  unwound_ended : (seat : Seat) (frame : ℕ) (kind : LinkKind) → SparesRow (unwound seat frame kind Ended)
+  unwound_ended seat frame Root = inr (refl, record { finish = Ended; is_proposed = tt; word_is = refl })
+  unwound_ended seat frame (CallLink to copy) = tt
+  unwound_ended seat frame (Branch side block) = branch_far side block
+  unwound_ended seat frame (ForkLink to copy) = tt
+
+  unwound_trapped : (seat : Seat) (frame : ℕ) (kind : LinkKind) (trap : _) (line : ℕ) → SparesRow (unwound seat frame kind (Trapped trap line))
+  unwound_trapped seat frame Root trap line = inr (refl, record { finish = Trapped trap line; is_proposed = tt; word_is = refl })
+  unwound_trapped seat frame (CallLink to copy) trap line = omega arith
+  unwound_trapped seat frame (Branch side block) trap line = branch_far side block
+  unwound_trapped seat frame (ForkLink to copy) trap line = tt
+
+  targets : (seat : Seat) (frame to copy : ℕ) (right_of : Option ℕ) (target : ℕ) → SparesRow (target_found seat frame to copy right_of target)
+  targets seat frame to copy right_of zero = tt
+  targets seat frame to copy right_of (suc slot) = tt
+
+  valued : (seat : Seat) (to copy target : ℕ) (right_of : Option ℕ) (value : ℕ) → SparesRow (value_found s seat to copy target right_of value)
+  valued seat to copy target right_of value =
+      there (to + 5 + target) (Store (BlockWord (to + 5 + target)) (ANumber value) (after_value seat to copy right_of)) (omega arith)
+
+  joins_by : (seat : Seat) (block : ℕ) (a b c : Bool) → SparesRow (joins seat block a b c)
+  joins_by seat block true b c = tt
+  joins_by seat block false true c = tt
+  joins_by seat block false false true = tt
+  joins_by seat block false false false = tt
+
+  joins_link : (block : ℕ) (kind : LinkKind) → SparesRow (join_by block kind)
+  joins_link block Root = tt
+  joins_link block (CallLink to copy) = tt
+  joins_link block (Branch side up) = tt
+  joins_link block (ForkLink to copy) = tt
+
+  -- both outcomes: what they come to is an end or a trap
+  joined_by : (seat : Seat) (block to copy : ℕ) (outcome : Finish) → SparesRow (joined seat block to copy outcome)
+  joined_by seat block to copy Ended = tt
+  joined_by seat block to copy Unset = omega arith
+  joined_by seat block to copy (Trapped trap line) = omega arith
+  joined_by seat block to copy (OutOfTurns processor) = omega arith
+  joined_by seat block to copy (OutOfRoom place) = omega arith
+  joined_by seat block to copy Stopped = omega arith
+  joined_by seat block to copy (BrokenAt place) = omega arith
+
+  pops_below : (seat : Seat) (e : Entry) → SparesRow (pop_below seat e)
+  pops_below seat (Empty tag) = tt
+  pops_below seat (Local tag block) = tt
+  pops_below seat (Job tag block) =
+      tries (EntryWord seat.place (seat.restart.bottom - 1)) (Job tag block) (Some (Local (tag + 1) block)) (with_kind seat (Pop2 block))
+      (entry_far seat.place (seat.restart.bottom - 1))
+  pops_below seat (Taken tag taker) = tt
+
+  pops_again : (seat : Seat) (block : ℕ) (e : Entry) → SparesRow (pop_again seat block e)
+  pops_again seat block (Empty tag) = tt
+  pops_again seat block (Local tag old) = tt
+  pops_again seat block (Job tag old) = tt
+  pops_again seat block (Taken tag taker) = tt
+
+  seeks_held : (seat : Seat) (victim : ℕ) (k : Holder) (own : Bool) → SparesRow (seek_held s seat victim k own)
+  seeks_held seat victim k true = tt
+  seeks_held seat victim k false = tt
+
+  seeks_by : (seat : Seat) (victim : ℕ) (k : Holder) (takeover : Takeover) → SparesRow (seek_by s seat victim k takeover)
+  seeks_by seat victim k ByPlaces = seeks_held seat victim k (k.processor == seat.own)
+  seeks_by seat victim k ByEntries = tt
+
+  bids_for : (seat : Seat) (victim : ℕ) (k : Holder) (can : Bool) → SparesRow (bids seat victim k can)
+  bids_for seat victim k true = behind_first s seat.place 1
+  bids_for seat victim k false = tt
+
+  passes_on : (victim slot : ℕ) (takeover : Takeover) → SparesRow (passes_by s victim slot takeover)
+  passes_on victim slot ByPlaces = inl (behind_first s victim 3)
+  passes_on victim slot ByEntries = either (nat_lt (slot + 1) s.slots) (passes victim slot) (Now Again) (inl (behind_first s victim 3)) tt
+
+  local_on : (victim slot : ℕ) (e : Entry) (takeover : Takeover) → SparesRow (local_by victim slot e takeover)
+  local_on victim slot e ByPlaces = tt
+  local_on victim slot e ByEntries = tt
+
+  seeks_entry : (seat : Seat) (victim slot : ℕ) (e : Entry) → SparesRow (seek_entry s seat victim slot e)
+  seeks_entry seat victim slot (Empty tag) = tt
+  seeks_entry seat victim slot (Local tag block) = local_on victim slot (Local tag block) s.takeover
+  seeks_entry seat victim slot (Job tag block) = behind_first s seat.place 1
+  seeks_entry seat victim slot (Taken tag taker) = passes_on victim slot s.takeover
+
+  goes_with : (seat : Seat) (victim slot : ℕ) (e : Entry) → SparesRow (goes_on_with seat victim slot e)
+  goes_with seat victim slot (Empty tag) = tt
+  goes_with seat victim slot (Local tag block) = tt
+  goes_with seat victim slot (Job tag block) = tt
+  goes_with seat victim slot (Taken tag taker) = tt
+
+  bottom_kind : (seat : Seat) (victim : ℕ) (kind : RestartKind) → SparesRow (at_bottom seat victim kind)
+  bottom_kind seat victim (Run frame copy) = tt
+  bottom_kind seat victim (Bump block) = tt
+  bottom_kind seat victim (Push1 block) = tt
+  bottom_kind seat victim (Push2 block) = tt
+  bottom_kind seat victim (Unwind frame) = tt
+  bottom_kind seat victim (Arrive block side) = tt
+  bottom_kind seat victim (Join block side) = tt
+  bottom_kind seat victim (Steal other slot) = tt
+  bottom_kind seat victim (Check other slot) = tt
+  bottom_kind seat victim kind = tt
+
+  above_kind : (seat : Seat) (victim bottom : ℕ) (kind : RestartKind) → SparesRow (above_bottom seat victim bottom kind)
+  above_kind seat victim bottom (Push2 block) = tt
+  above_kind seat victim bottom kind = tt
+
+  below_kind : (seat : Seat) (block : ℕ) (kind : RestartKind) → SparesRow (below_bottom seat block kind)
+  below_kind seat block Pop1 = tt
+  below_kind seat block (Pop2 other) = tt
+  below_kind seat block kind = tt
+
+  slots_by : (seat : Seat) (victim slot block : ℕ) (closed : Restart) → SparesRow (by_slot seat victim slot block closed)
+  slots_by seat victim slot block closed =
+      let last : Row = if slot + 1 == closed.bottom then below_bottom seat block closed.kind else Now (with_kind seat Seek) in
+      let second : Row = if slot == closed.bottom + 1 then above_bottom seat victim closed.bottom closed.kind else last in
+      either (slot == closed.bottom) (at_bottom seat victim closed.kind) second (bottom_kind seat victim closed.kind)
+      (either (slot == closed.bottom + 1) (above_bottom seat victim closed.bottom closed.kind) last (above_kind seat victim closed.bottom closed.kind)
+      (either (slot + 1 == closed.bottom) (below_bottom seat block closed.kind) (Now (with_kind seat Seek)) (below_kind seat block closed.kind) tt))
+
+  closed_by : (seat : Seat) (block : ℕ) (kind : LinkKind) → SparesRow (closed_link seat block kind)
+  closed_by seat block Root = tt
+  closed_by seat block (CallLink frame copy) = tt
+  closed_by seat block (Branch side up) = tt
+  closed_by seat block (ForkLink frame copy) = tt
+
+  bottom_by : (seat : Seat) (block : ℕ) (e : Entry) → SparesRow (closed_bottom seat block e)
+  bottom_by seat block (Taken tag taker) =
+      either (nat_lt taker 64) (Now (left_begins block seat.restart.bottom)) (Now (with_kind seat Seek)) tt tt
+  bottom_by seat block (Empty tag) = tt
+  bottom_by seat block (Local tag other) = tt
+  bottom_by seat block (Job tag other) = tt
+
+  lowers : (tag : ℕ) (seat : Seat) (victim dead : ℕ) (k : Holder) → SparesRow (lowered tag seat victim dead k)
+  lowers zero seat victim dead k = tt
+  lowers (suc tag) seat victim dead k = inl (behind_first s victim 2)
+
+  -- how a row goes on with what it has loaded
+  pub found_spares : (seat : Seat) (victim : ℕ) (point : Point) (w : Content) → SparesRow (found_at s seat victim point w)
+  found_spares seat victim (Header frame copy) w = number w (λ capsule. Now (Enter capsule)) (λ capsule. tt)
+  found_spares seat victim (BumpLink block) w =
+      link w (λ l. bumped seat block l.size l.kind) (λ l. bumps seat block l.size l.kind)
+  found_spares seat victim (PushOrder block) w =
+      number w (push_by_order seat block)
+      (λ order. either (order == both) (Now (left_begins block seat.restart.bottom)) (Now (Load (PushAbove block))) tt tt)
+  found_spares seat victim (PushAbove block) w =
+      entry w (push_above seat block)
+      (λ e. tries (EntryWord seat.place (seat.restart.bottom + 1)) e (pushed_above e) (with_kind seat (Push2 block))
+      (entry_far seat.place (seat.restart.bottom + 1)))
+  found_spares seat victim (PushBottom block) w =
+      entry w (push_bottom seat block)
+      (λ e. tries (EntryWord seat.place seat.restart.bottom) e (pushed_job e block) (left_begins block (seat.restart.bottom + 1))
+      (entry_far seat.place seat.restart.bottom))
+  found_spares seat victim (UnwindLink frame) w = link w (λ l. unwind_by frame l.kind) (λ l. unwinds frame l.kind)
+  found_spares seat victim (UnwindOutcome frame kind) w =
+      outcome w (unwound seat frame kind) (unwound_ended seat frame kind) (unwound_trapped seat frame kind)
+  found_spares seat victim (Target frame to copy right_of) w =
+      number w (target_found seat frame to copy right_of) (targets seat frame to copy right_of)
+  found_spares seat victim (GivenValue frame to copy target right_of) w =
+      number w (value_found s seat to copy target right_of) (valued seat to copy target right_of)
+  found_spares seat victim (JoinOrder block side) w =
+      number w (join_by_order seat block side)
+      (λ order. joins_by seat block (order == first side) (is_inline order side) (is_last order side))
+  found_spares seat victim (JoinLink block) w = link w (λ l. join_by block l.kind) (λ l. joins_link block l.kind)
+  found_spares seat victim (JoinLeft block to copy) w =
+      outcome w (λ left. Now (Load (JoinRight block to copy left))) tt (λ trap line. tt)
+  found_spares seat victim (JoinRight block to copy left) w =
+      outcome w (λ right. joined seat block to copy (outcome_of_both left right)) (joined_by seat block to copy (outcome_of_both left Ended))
+      (λ trap line. joined_by seat block to copy (outcome_of_both left (Trapped trap line)))
+  found_spares seat victim (RightFrame block to copy) w =
+      number w (right_value s block to copy)
+      (λ offset. there (block + offset) (Now (Load (Target (block + offset) to copy None))) tt)
+  found_spares seat victim (Offset block bottom) w =
+      number w (right_begins s block bottom) (λ offset. there (block + offset) (Now (Begin block (block + offset) bottom)) tt)
+  found_spares seat victim PopBelow w = entry w (pop_below seat) (pops_below seat)
+  found_spares seat victim (PopAgain block) w = entry w (pop_again seat block) (pops_again seat block)
+  found_spares seat victim (PopAbove block) w =
+      entry w (pop_above seat block)
+      (λ e. tries (EntryWord seat.place seat.restart.bottom) e (popped_above e) (Load (Offset block (seat.restart.bottom - 1)))
+      (entry_far seat.place seat.restart.bottom))
+  found_spares seat victim SeekHolder w =
+      holder w (seek_holder s seat victim)
+      (λ k. either (victim == seat.place) (Now Again) (seek_by s seat victim k s.takeover) tt (seeks_by seat victim k s.takeover))
+  found_spares seat victim (SeekDead v k) w =
+      number w (seek_dead seat v k)
+      (λ dead. either (dead == 1) (bids seat v k (nat_lt (k.tag + 1) (2 ^ 58))) (Now (Load (SeekTop v)))
+      (bids_for seat v k (nat_lt (k.tag + 1) (2 ^ 58))) tt)
+  found_spares seat victim (SeekTop v) w =
+      number w (seek_top s v) (λ top. either (nat_lt top s.slots) (Now (Load (SeekEntry v top))) (Now Broken) tt tt)
+  found_spares seat victim (SeekEntry v slot) w = entry w (seek_entry s seat v slot) (seeks_entry seat v slot)
+  found_spares seat victim (SeekClosed v slot e) w =
+      number w (seek_closed seat v slot e) (λ dead. either (dead == 1) (notes seat v slot e) (Now Again) (behind_first s seat.place 1) tt)
+  found_spares seat victim (StealMessage v slot) w =
+      entry w (steals s seat v slot)
+      (λ e. changes (EntryWord v slot) e (taken_so s.takeover seat.place e) (with_kind seat (Check v slot)) (entry_far v slot))
+  found_spares seat victim (TakenMessage by v slot) w =
+      entry w (taken_message s by v slot)
+      (λ e. either (can_be_taken s.takeover e) (Now (Load (TakenEntry by v slot e))) (Now Broken) tt tt)
+  found_spares seat victim (TakenEntry by v slot message) w =
+      entry w (taken_entry seat by v slot message)
+      (λ e. either (took by message e) (goes_on_with seat v slot message) (Now (with_kind seat Seek)) (goes_with seat v slot message) tt)
+  found_spares seat victim (ClosedRestart v slot block) w =
+      restart w (follows s seat v slot block)
+      (λ r. either (restart_is_there s r) (by_slot seat v slot block r) (Now Broken) (slots_by seat v slot block r) tt)
+  found_spares seat victim (ClosedLink block) w = link w (λ l. closed_link seat block l.kind) (λ l. closed_by seat block l.kind)
+  found_spares seat victim (ClosedBottom v slot block) w = entry w (closed_bottom seat block) (bottom_by seat block)
+  found_spares seat victim (BidMessage v dead) w =
+      holder w (makes_bid seat v dead)
+      (λ k. either (k.processor == seat.own) (lowered k.tag seat v dead k) (Now (with_kind seat Seek)) (lowers k.tag seat v dead k) tt)
+  found_spares seat victim (BidAgain v) w =
+      holder w (bid_again seat v)
+      (λ k. either (k.processor == seat.own) (Now (Load (BidHolder v k))) (Now (with_kind seat Seek)) tt tt)
+  found_spares seat victim (BidHolder v message) w =
+      holder w (bid_holder seat v message)
+      (λ k. either ((message.tag == k.tag) && (message.processor == k.processor)) (Now (Move v)) (Now (with_kind seat Seek)) tt tt)
+
+  places_spare : (takeover : Takeover) (row : Row) → SparesRow row → SparesRow (by_places takeover row)
+  places_spare ByPlaces row h = h
+  places_spare ByEntries row h = tt
+
+  -- how the row of a kind begins
+  pub begun_spares : (seat : Seat) (kind : RestartKind) → SparesRow (row_of s seat kind)
+  begun_spares seat (Run frame copy) = tt
+  begun_spares seat (Bump block) = tt
+  begun_spares seat (Push1 block) = pushes_at seat s.takeover block (seat.restart.bottom + 1 == s.slots)
+  begun_spares seat (Push2 block) = tt
+  begun_spares seat (Unwind frame) = tt
+  begun_spares seat (Arrive block side) = inl (omega arith)
+  begun_spares seat (Join block side) = tt
+  begun_spares seat Pop1 = tt
+  begun_spares seat (Pop2 block) = tt
+  begun_spares seat Seek = tt
+  begun_spares seat (Steal victim slot) = tt
+  begun_spares seat (Check victim slot) = tt
+  begun_spares seat (Take victim dead) = places_spare s.takeover (Now (Load (BidMessage victim dead))) tt
+  begun_spares seat (Take2 victim) = places_spare s.takeover (Now (Load (BidAgain victim))) tt
