@@ -7,4 +7,7 @@ pub mod SampleLemmas
 pub mod MadeLemmas
 pub mod RoundLemmas
 pub mod SkipLemmas
+pub mod DueLemmas
 pub mod LoadLemmas
+pub mod LeavingLemmas
+pub mod KeeperLemmas

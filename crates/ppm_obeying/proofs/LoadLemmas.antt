@@ -1,6 +1,6 @@
 -- The loads of holder words that are counted along a run are those of its turns.
-use Rattle.std.proofs.Common.{◌≡◌, ◌≢◌, ◌<◌, ◌≤◌, ◌+◌, ◌⊎◌, inl, inr, refl, sym, ap, ◌∙◌, subst, arith, ℕ, zero, suc, Bool, true, false, List, [], ◌∷◌, ◌++◌, length, ◌==◌, if◌then◌else◌, map, replicate, slice_index, slice_set, length-append}
-use Rattle.std.specs.List.{All, range_with_len}
+use Rattle.std.proofs.Common.{◌≡◌, ◌≢◌, ◌<◌, ◌≤◌, ◌+◌, ◌⊎◌, inl, inr, refl, sym, ap, ◌∙◌, subst, arith, ℕ, zero, suc, Bool, true, false, List, [], ◌∷◌, ◌++◌, length, ◌==◌, if◌then◌else◌, slice_index, slice_set, length-append}
+use Rattle.std.specs.List.{All, AllByRecursion}
 use Rattle.std.proofs.lemmas.Bool.Decides.{eqb_tells}
 use Rattle.std.proofs.lemmas.List.{length-set, get_or-set_same, get_or-set_other}
 use Rattle.ppm_cells.specs.declared.shape.Shape.{Shape}
@@ -15,61 +15,33 @@ use Rattle.ppm_step.specs.declared.turn.Turn.{Turn}
 use Rattle.ppm_step.specs.State.{State, stand_of, after, along}
 use Rattle.ppm_core.specs.Acts.{seeks_holder_at}
 use Rattle.ppm_core.proofs.RunLemmas.{tell_on}
-use Rattle.ppm_obeying.specs.Course.{Due, Listed, InRound, Course, act_of, processor_of, victim_of, turn_of, seeks, loads_of, loads_behind, behind, turns_in, behind_all, turns_of}
-use Rattle.ppm_obeying.specs.Schedules.{listed, round, rounds, dues_of, beginning}
+use Rattle.ppm_obeying.specs.Course.{Due, Listed, Course, act_of, processor_of, victim_of, turn_of, seeks, loads_of, loads_behind, behind, turns_in, behind_all, turns_of}
+use Rattle.ppm_obeying.specs.Schedules.{dues_of, beginning}
 use Rattle.ppm_obeying.specs.Laws.{load_of, loads_made, turn_behind, IsDue, KeepsOrder}
-use Rattle.ppm_obeying.proofs.ListLemmas.{listed_front}
+use Rattle.ppm_obeying.proofs.DueLemmas.{all_front, all_due}
 use Rattle.ppm_obeying.proofs.ReadyLemmas.{none_at}
 use Rattle.ppm_obeying.proofs.MadeLemmas.{Makes, Skips, made_or_not, state_in, state_at, Splits, splits}
 
 -- what is due is of processors that there can be
-abbrev pub AreFew : List Due → Type 0
-AreFew [] = Unit {0}
-AreFew (due ∷ dues) = (processor_of (act_of due) < 64) × AreFew dues
+abbrev pub IsFew : Due → Type 0
+IsFew due = processor_of (act_of due) < 64
 
-few_both : (first more : List Due) → AreFew first → AreFew more → AreFew (first ++ more)
-few_both [] more few also = also
-few_both (due ∷ first) more few also = (few.0, few_both first more few.1 also)
-
-few_front : (before rest : List Due) (due : Due) → AreFew (before ++ (due ∷ rest)) → AreFew before
-few_front [] rest due few = tt
-few_front (d ∷ before) rest due few = (few.0, few_front before rest due few.1)
-
-few_at : (before rest : List Due) (due : Due) → AreFew (before ++ (due ∷ rest)) → processor_of (act_of due) < 64
-few_at [] rest due few = few.0
-few_at (d ∷ before) rest due few = few_at before rest due few.1
-
-few_same : (n : ℕ) (due : Due) → processor_of (act_of due) < 64 → AreFew (replicate n due)
-few_same zero due few = tt
-few_same (suc n) due few = (few, few_same n due few)
-
--- a round
-few_range : (a n : ℕ) → a + n ≤ 64 → AreFew (map InRound (range_with_len a n))
-few_range a zero fits = tt
-few_range a (suc n) fits = (omega (arith, fits), few_range (a + 1) n (omega (arith, fits)))
-
-few_rounds : (processors count : ℕ) → processors ≤ 64 → AreFew (rounds processors count)
-few_rounds processors zero fits = tt
-few_rounds processors (suc count) fits =
-    few_both (round processors) (rounds processors count) (few_range 0 processors (omega (arith, fits))) (few_rounds processors count fits)
-
--- the list
 act_few : (processors : ℕ) (act : ScheduledAct) → processors ≤ 64 → IsActAmong processors act → processor_of act < 64
 act_few processors (scheduled.Step processor stated) fits among = omega (arith, fits, among.0)
 act_few processors (scheduled.Fails processor fault) fits among = omega (arith, fits, among)
 
-few_listed : (processors : ℕ) (items : List ScheduleItem) → processors ≤ 64 → All (IsItemAmong processors) items → AreFew (listed items)
-few_listed processors [] fits among = tt
-few_listed processors (item ∷ items) fits among =
-    subst AreFew (sym (listed_front item items))
-    (few_both (replicate item.times (Listed item.act)) (listed items)
-    (few_same item.times (Listed item.act) (act_few processors item.act fits (among 0 item (omega arith)).act))
-    (few_listed processors items fits (λ k d less. among (suc k) d (omega (arith, less)))))
+items_few : (processors : ℕ) (items : List ScheduleItem) → processors ≤ 64 → All (IsItemAmong processors) items
+    → AllByRecursion (λ item. IsFew (Listed item.act)) items
+items_few processors [] fits among = tt
+items_few processors (item ∷ items) fits among = (
+  act_few processors item.act fits (among 0 item (omega arith)).act,
+  items_few processors items fits (λ k d less. among (suc k) d (omega (arith, less))),
+)
 
-few_dues : (processors : ℕ) (items : List ScheduleItem) (turns : ℕ) → processors ≤ 64 → All (IsItemAmong processors) items
-    → AreFew (dues_of processors items turns)
+pub few_dues : (processors : ℕ) (items : List ScheduleItem) (turns : ℕ) → processors ≤ 64 → All (IsItemAmong processors) items
+    → AllByRecursion IsFew (dues_of processors items turns)
 few_dues processors items turns fits among =
-    few_both (listed items) (rounds processors turns) (few_listed processors items fits among) (few_rounds processors turns fits)
+    all_due IsFew processors items turns (items_few processors items fits among) (λ processor less. omega (arith, fits, less))
 
 -- a count is one more at its own processor, and as it was at others
 at_own : (xs : List ℕ) (q : ℕ) (b : Bool) → q < length xs
@@ -145,7 +117,7 @@ module _ (s : Shape) (code : CodeParts) where
       ∙ ap (λ (state : State). length (along s code (load_of p) w.state (turns_in s code w due))
       + length (along s code (load_of p) state (turns_of s code (behind s code w due) dues))) (sym (state_in s code w due))
 
-  pub loads_at : (w : Course) (dues : List Due) (p : ℕ) → length w.loads ≡ 64 → AreFew dues
+  pub loads_at : (w : Course) (dues : List Due) (p : ℕ) → length w.loads ≡ 64 → AllByRecursion IsFew dues
       → loads_of (behind_all s code w dues) p ≡ loads_of w p + length (along s code (load_of p) w.state (turns_of s code w dues))
   loads_at w [] p all few = omega arith
   loads_at w (due ∷ dues) p all few =
@@ -167,26 +139,29 @@ module _ (s : Shape) (code : CodeParts) where
       turn_with k j = record { processor = q; act = Step (victim_of s.processors q j stated (seeks_holder_at (stand_of k q))) }
   turn_same state w first (scheduled.Fails q fault) same count = refl
 
+  -- the turn of what is due behind these
+  pub turn_at : (state : State) (turns : ℕ) (before : List Due) (due : Due) → AllByRecursion IsFew before
+      → turn_of s.processors (behind_all s code (beginning state turns) before) (act_of due)
+      ≡ turn_behind s code state (turns_of s code (beginning state turns) before) (act_of due)
+  turn_at state turns before due few =
+      turn_same state (behind_all s code (beginning state turns) before) (turns_of s code (beginning state turns) before) (act_of due)
+      (state_at s code (beginning state turns) before)
+      (loads_at (beginning state turns) before (processor_of (act_of due)) refl few ∙ omega (arith, none_at 64 (processor_of (act_of due))))
+
   in_order : (state : State) (items : List ScheduleItem) (turns : ℕ) (first : List Turn) (turn : Turn) → s.processors ≤ 64
       → All (IsItemAmong s.processors) items
       → Splits s code (beginning state turns) (dues_of s.processors items turns) first turn → IsDue s code state items turns first turn
   in_order state items turns first turn fits among p =
-      let w = behind_all s code (beginning state turns) p.before in
-      let few = subst AreFew p.dues_are (few_dues s.processors items turns fits among) in
-      let act = act_of p.due in
-      let same : w.state ≡ after s code state first =
-      state_at s code (beginning state turns) p.before ∙ ap (after s code state) p.turns_before in
-      let count : loads_of w (processor_of act) ≡ loads_made s code (processor_of act) state first =
-      loads_at (beginning state turns) p.before (processor_of act) refl (few_front p.before p.rest p.due few)
-      ∙ omega (arith, none_at 64 (processor_of act))
-      ∙ ap (loads_made s code (processor_of act) state) p.turns_before in
+      let few = subst (AllByRecursion IsFew) p.dues_are (few_dues s.processors items turns fits among) in
       record {
         before = p.before;
         due = p.due;
         rest = p.rest;
         dues = p.dues_are;
         turns_before = p.turns_before;
-        turn_is = p.turn_is ∙ turn_same state w first act same count;
+        turn_is =
+            p.turn_is ∙ turn_at state turns p.before p.due (all_front IsFew p.before p.rest p.due few)
+            ∙ ap (λ ts. turn_behind s code state ts (act_of p.due)) p.turns_before;
       }
 
   pub keeps_order : s.processors ≤ 64 → KeepsOrder s code

@@ -8,10 +8,18 @@ use Rattle.ppm_core.specs.Acts.{is_done_at}
 use Rattle.ppm_core.proofs.RunLemmas.{follow_on}
 use Rattle.ppm_obeying.specs.Course.{Due, Course, act_of, processor_of, turn_of, is_open, is_made, behind_act, behind, turns_in, behind_all, turns_of}
 
+false_is_not_true : false ≡ true → ⊥
+false_is_not_true e = cc
+
 -- three tests that hold
 first_holds : (a b c : Bool) → (a && b && c) ≡ true → a ≡ true
 first_holds true b c e = refl
 first_holds false b c e = e
+
+second_holds : (a b c : Bool) → (a && b && c) ≡ true → b ≡ true
+second_holds true true c e = refl
+second_holds true false c e = e
+second_holds false b c e = absurd (false_is_not_true e)
 
 third_holds : (a b c : Bool) → (a && b && not c) ≡ true → c ≡ false
 third_holds a b false e = refl
@@ -23,9 +31,10 @@ some_left : (n : ℕ) → nat_lt 0 n ≡ true → 0 < n
 some_left n e = grind (arith, e)
 
 module _ (s : Shape) (code : CodeParts) where
-  -- it is made: its processor lives, and an act is left
+  -- it is made: an act is left, it is open, and its processor lives
   pub record Makes (w : Course) (due : Due) : Type 0 where
     pub left : 0 < w.left
+    pub is_open : is_open s code w.state due ≡ true
     pub lives : is_done_at (stand_of w.state (processor_of (act_of due))) ≡ false
     pub turns : turns_in s code w due ≡ turn_of s.processors w (act_of due) ∷ []
     pub course : behind s code w due ≡ behind_act s code w (act_of due)
@@ -39,6 +48,9 @@ module _ (s : Shape) (code : CodeParts) where
   by_test : (w : Course) (due : Due) (b : Bool) → is_made s code w due ≡ b → Makes w due ⊎ Skips w due
   by_test w due true is = inl (record {
     left = some_left w.left (first_holds (nat_lt 0 w.left) (is_open s code w.state due) (not (is_done_at (stand_of w.state (processor_of (act_of due))))) is);
+    is_open =
+        second_holds (nat_lt 0 w.left) (is_open s code w.state due)
+        (not (is_done_at (stand_of w.state (processor_of (act_of due))))) is;
     lives = third_holds (nat_lt 0 w.left) (is_open s code w.state due) (is_done_at (stand_of w.state (processor_of (act_of due)))) is;
     turns = ap (λ b. if b then turn_of s.processors w (act_of due) ∷ [] else []) is;
     course = ap (λ b. if b then behind_act s code w (act_of due) else w) is;

@@ -13,5 +13,5 @@ mod saying;
 mod tests;
 
 pub use following::follow;
-pub use laws::{schedules_go_on, schedules_keep_order, schedules_skip_done};
+pub use laws::{schedules_go_on, schedules_keep_order, schedules_skip_done, unfinished_is_exact};
 pub use saying::answer_of;

@@ -1,13 +1,17 @@
 //! Schedules that a machine of two processors follows, with a code that ends at once.
 ghost use Rattle.std.specs.Prelude.{◌≡◌, IfOk, []};
 
-use crate::{answer_of, follow, schedules_go_on, schedules_keep_order, schedules_skip_done};
+use crate::{
+    answer_of, follow, schedules_go_on, schedules_keep_order, schedules_skip_done,
+    unfinished_is_exact,
+};
 use ppm_answers::{Answer, Tally};
 use ppm_cells::Shape;
 use ppm_code::{Capsule, Code, CodeParts, End, Instr, Procedure};
 use ppm_core::Machine;
 use ppm_layout::image;
 use ppm_plan::read_schedule;
+use ppm_step::{done_has_cause, finish_stays};
 use ppm_words::{Input, Items};
 use std::alloc::Global;
 use std::process::Abort;
@@ -101,4 +105,7 @@ fn states_laws() {
     schedules_go_on();
     schedules_keep_order();
     schedules_skip_done();
+    unfinished_is_exact();
+    done_has_cause();
+    finish_stays();
 }

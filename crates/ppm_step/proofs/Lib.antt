@@ -6,4 +6,7 @@ pub mod SampleLemmas
 pub mod PlainLemmas
 pub mod SparingLemmas
 pub mod RestLemmas
+pub mod StandLemmas
+pub mod WordLemmas
+pub mod ActLemmas
 pub mod FinishLemmas

@@ -1,0 +1,163 @@
+-- What an act asks of the finish word, and where its processor stands after it.
+use Rattle.std.proofs.Common.{◌≡◌, ◌≢◌, ◌<◌, ◌+◌, ◌*◌, ◌⊎◌, inl, inr, refl, sym, ap, ◌∙◌, subst, arith, ℕ, zero, suc, Bool, true, false, List, [], ◌∷◌, ◌++◌, Option, Some, None, ◌==◌, length, replicate, slice_index, slice_set}
+use Rattle.std.specs.Prelude.{if◌then◌else◌, nat_lt, slice_get}
+use Rattle.std.specs.List.{AllByRecursion}
+use Rattle.std.proofs.lemmas.Bool.Decides.{eqb_tells}
+use Rattle.std.proofs.lemmas.List.{length-set, get_or-set_other, get_or-set_same}
+use Rattle.ppm_cells.specs.Cells.{address, place_size}
+use Rattle.ppm_cells.specs.Fields.{number_of}
+use Rattle.ppm_cells.specs.Finish.{finish_word}
+use Rattle.ppm_cells.specs.Memory.{AreWordsOf}
+use Rattle.ppm_cells.specs.declared.cell.Cell.TheVariants.{CarryWord}
+use Rattle.ppm_cells.specs.declared.finish.Finish.TheVariants.{OutOfRoom, Broken as BrokenAt}
+use Rattle.ppm_cells.specs.declared.restart.Restart.{Restart}
+use Rattle.ppm_cells.specs.declared.restart.RestartKind.{RestartKind}
+use Rattle.ppm_cells.specs.declared.restart.RestartKind.TheVariants.{Run}
+use Rattle.ppm_cells.specs.declared.shape.Shape.{Shape}
+use Rattle.ppm_code.specs.Capsules.{capsule_of}
+use Rattle.ppm_code.specs.Code.{IsCode}
+use Rattle.ppm_code.specs.declared.code.Capsule.{Capsule}
+use Rattle.ppm_code.specs.declared.code.CodeParts.{CodeParts}
+use Rattle.ppm_step.specs.declared.ask.Want.{Want}
+use Rattle.ppm_step.specs.declared.ask.Want.TheVariants.{Loads as WantsLoad, Stores as WantsStore, Exchanges as WantsExchange, Nothing}
+use Rattle.ppm_step.specs.declared.row.Seat.{Seat}
+use Rattle.ppm_step.specs.declared.row.Then.{Then}
+use Rattle.ppm_step.specs.declared.row.Then.TheVariants.{Load, Install, Fork, Begin, Move, Enter, Again, Broken}
+use Rattle.ppm_step.specs.declared.row.Row.{Row}
+use Rattle.ppm_step.specs.declared.row.Row.TheVariants.{Now, Store, Exchange}
+use Rattle.ppm_step.specs.declared.turn.Act.{Act}
+use Rattle.ppm_step.specs.declared.turn.Act.TheVariants.{Step, Soft, Hard, Quit}
+use Rattle.ppm_step.specs.declared.turn.Turn.{Turn}
+use Rattle.ppm_step.specs.Contents.{content_of}
+use Rattle.ppm_step.specs.Points.{reading_at}
+use Rattle.ppm_step.specs.Rows.{found_at, row_of}
+use Rattle.ppm_step.specs.There.{restart_is_there}
+use Rattle.ppm_step.specs.Frames.{Rest, Loads, Stores, Full, Installs, Breaks, rest_of}
+use Rattle.ppm_step.specs.Standings.{Standing, IsLost, IsPlaced, IsAt, IsWithin, IsRunning, IsBroken, IsDone, unknown_place, then_is_there, row_is_there, rest_is_there, within_if, running_if, enters, stands_then, stands, begins_if, begins, wanted_then, wanted_row, wanted_rest, wanted, went_then, went_row, went_rest, placed, at_finish, went}
+use Rattle.ppm_step.specs.State.{State, stand_in, stand_of, found_in, words_after, want_of, stand_after, acts, happens, after, opening}
+use Rattle.ppm_step.specs.Laws.{IsStruck, IsNoQuit, IsProposedWord, FinishStays, FinishIsProposed, DoneHasCause}
+use Rattle.ppm_step.proofs.PlainLemmas.{capsule_plain}
+use Rattle.ppm_step.proofs.SparingLemmas.{place_first, SparesRow, found_spares, begun_spares}
+use Rattle.ppm_step.proofs.RestLemmas.{SparesRest, plain_spares}
+use Rattle.ppm_step.proofs.StandLemmas.{Spares, begins_spares, went_row_spares, went_rest_spares, placed_spares, no_done}
+use Rattle.ppm_step.proofs.WordLemmas.{Asks, WordGoes, word_goes, length_stays, exchanged, kept_over}
+
+-- the finish word that says that words are broken
+broken_some : (place : ℕ) → finish_word (BrokenAt place) ≢ 0
+unfolding number_of
+broken_some place e = omega (arith, e)
+
+module _ (s : Shape) (code : CodeParts) (is : IsCode code) where
+  -- what comes next asks nothing else of the finish word
+  asks_then : (seat : Seat) (victim : ℕ) (next : Then) → Asks IsProposedWord (wanted_then s seat victim next)
+  asks_then seat victim (Load point) = tt
+  asks_then seat victim (Install restart) = place_first s seat.place
+  asks_then seat victim (Fork block) = place_first s seat.place
+  asks_then seat victim (Begin block frame bottom) = place_first s seat.place
+  asks_then seat victim (Move place) = omega arith
+  asks_then seat victim (Enter capsule) = tt
+  asks_then seat victim Again = tt
+  asks_then seat victim Broken = tt
+
+  asks_rest : (seat : Seat) (rest : Rest) → SparesRest s rest → Asks IsProposedWord (wanted_rest s seat rest)
+  asks_rest seat (Loads cell go) h = tt
+  asks_rest seat (Stores cell content rest) h = h.0
+  asks_rest seat Full h = inr (refl, record { finish = OutOfRoom seat.place; is_proposed = tt; word_is = refl })
+  asks_rest seat (Installs kind) h = place_first s seat.place
+  asks_rest seat Breaks h = tt
+
+  asks_step : (own victim : ℕ) (standing : Standing) → Spares s standing → Asks IsProposedWord (wanted s own victim standing)
+  asks_step own victim IsLost h = tt
+  asks_step own victim (IsPlaced place) h = tt
+  asks_step own victim (IsAt place restart) h = tt
+  asks_step own victim (IsWithin seat (Now next)) h = asks_then seat victim next
+  asks_step own victim (IsWithin seat (Store cell content next)) h = h
+  asks_step own victim (IsWithin seat (Exchange cell old new next)) h = h
+  asks_step own victim (IsRunning seat rest) h = asks_rest seat rest h
+  asks_step own victim (IsBroken place) h = inr (refl, record { finish = BrokenAt place; is_proposed = tt; word_is = refl })
+  asks_step own victim IsDone h = absurd h
+
+  -- an act asks the finish word of nothing else, but for a quit
+  pub asks_act : (own : ℕ) (act : Act) (standing : Standing) → Spares s standing
+      → Asks (λ word. IsNoQuit act → IsProposedWord word) (want_of s code own act standing)
+  asks_act own (Step victim) standing h =
+      weakened (wanted s own victim standing) (asks_step own victim standing h)
+    where
+      weakened : (want : Want) → Asks IsProposedWord want → Asks (λ word. IsNoQuit (Step victim) → IsProposedWord word) want
+      weakened (WantsLoad at) k = tt
+      weakened (WantsStore at word) k = k
+      weakened (WantsExchange at old new) (inl far) = inl far
+      weakened (WantsExchange at old new) (inr p) = inr (p.0, λ none. p.1)
+      weakened Nothing k = tt
+  asks_act own Soft standing h = tt
+  asks_act own Hard standing h = omega arith
+  asks_act own (Quit why) standing h = inr (refl, λ quits. absurd quits)
+
+  -- where a processor stands after an act: it is done by a hard fault, or where the finish word then isn't 0
+  abbrev pub IsDoneBy : Act → (words : List ℕ) → Want → Type 0
+  IsDoneBy act words want = (act ≡ Hard) ⊎ (0 < length words → slice_index (words_after words want) 0 ≢ 0)
+
+  abbrev pub StandsAfter : Act → (words : List ℕ) → Want → Standing → Type 0
+  StandsAfter act words want next = Spares s next ⊎ ((next ≡ IsDone) × IsDoneBy act words want)
+
+  -- the load of the finish word
+  at_word : (act : Act) (words : List ℕ) (own place : ℕ) (restart : Option Restart) (found : ℕ) → slice_index words 0 ≡ found
+      → StandsAfter act words (WantsLoad 0) (at_finish s code own place restart found)
+  at_word act words own place restart zero e = inl (begins_spares s code is own place restart)
+  at_word act words own place restart (suc found) e = inr (refl, inr (λ long none. omega (arith, e, none)))
+
+  after_step : (own victim : ℕ) (words : List ℕ) (standing : Standing) → Spares s standing
+      → StandsAfter (Step victim) words (wanted s own victim standing)
+      (went s code own victim (found_in words (wanted s own victim standing)) standing)
+  after_step own victim words IsLost h = inl (placed_spares s (slice_index words (address s (CarryWord own))))
+  after_step own victim words (IsPlaced place) h = inl tt
+  after_step own victim words (IsAt place restart) h = at_word (Step victim) words own place restart (slice_index words 0) refl
+  after_step own victim words (IsWithin seat row) h =
+      inl (went_row_spares s code is seat victim (found_in words (wanted_row s seat victim row)) row)
+  after_step own victim words (IsRunning seat rest) h = inl (went_rest_spares s code is seat (found_in words (wanted_rest s seat rest)) rest h)
+  after_step own victim words (IsBroken place) h = inr (refl, inr (exchanged words (finish_word (BrokenAt place)) (broken_some place)))
+  after_step own victim words IsDone h = absurd h
+
+  pub after_act : (own : ℕ) (act : Act) (words : List ℕ) (standing : Standing) → Spares s standing
+      → StandsAfter act words (want_of s code own act standing)
+      (stand_after s code own act (found_in words (want_of s code own act standing)) standing)
+  after_act own (Step victim) words standing h = after_step own victim words standing h
+  after_act own Soft words standing h = inl tt
+  after_act own Hard words standing h = inr (refl, inl refl)
+  after_act own (Quit why) words standing h = inl tt
+
+  -- an act of a processor that is not done
+  abbrev pub acted : State → (own : ℕ) → Act → Standing → State
+  acted state own act standing =
+      let want = want_of s code own act standing in
+      record {
+        words = words_after state.words want;
+        stand = slice_set state.stand own (stand_after s code own act (found_in state.words want) standing);
+      }
+
+  pub acts_live : (state : State) (own : ℕ) (act : Act) (standing : Standing) → Spares s standing
+      → acts s code state own act standing ≡ acted state own act standing
+  acts_live state own act IsLost h = refl
+  acts_live state own act (IsPlaced place) h = refl
+  acts_live state own act (IsAt place restart) h = refl
+  acts_live state own act (IsWithin seat row) h = refl
+  acts_live state own act (IsRunning seat rest) h = refl
+  acts_live state own act (IsBroken place) h = refl
+  acts_live state own act IsDone h = absurd h
+
+  -- where processors stand once one has moved
+  pub moved : (stand : List Standing) (p q : ℕ) (next : Standing)
+      → ((q ≡ p) × (stand_in (slice_get (slice_set stand p next) q) ≡ next))
+      ⊎ (stand_in (slice_get (slice_set stand p next) q) ≡ stand_in (slice_get stand q))
+  moved [] p q next = inr refl
+  moved (x ∷ stand) zero zero next = inl (refl, refl)
+  moved (x ∷ stand) zero (suc q) next = inr refl
+  moved (x ∷ stand) (suc p) zero next = inr refl
+  moved (x ∷ stand) (suc p) (suc q) next = by (moved stand p q next)
+    where
+      by : ((q ≡ p) × (stand_in (slice_get (slice_set stand p next) q) ≡ next))
+          ⊎ (stand_in (slice_get (slice_set stand p next) q) ≡ stand_in (slice_get stand q))
+          → ((suc q ≡ suc p) × (stand_in (slice_get (slice_set stand p next) q) ≡ next))
+          ⊎ (stand_in (slice_get (slice_set stand p next) q) ≡ stand_in (slice_get stand q))
+      by (inl t) = inl (ap suc t.0, t.1)
+      by (inr t) = inr t
