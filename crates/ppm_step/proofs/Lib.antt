@@ -3,3 +3,4 @@ pub mod ThereLemmas
 pub mod StoringLemmas
 pub mod EnterLemmas
 pub mod SampleLemmas
+pub mod NextLemmas

@@ -225,19 +225,19 @@ fn load_address(shape: &Shape, seat: &Seat, victim: u32, point: Point) -> u32
 }
 
 /// The word step that comes next in a row.
-pub fn want_row(shape: &Shape, seat: &Seat, victim: u32, row: Row) -> Want
+pub fn want_row(shape: &Shape, seat: &Seat, victim: u32, row: &Row) -> Want
     requires seat { IsSeat shape.now seat.now }
     requires victim { victim < shape.now.processors }
-    requires row { IsRow row }
-    requires there { row_is_there shape.now seat.now row ≡ true }
-    ensures value { result ≡ wanted_row shape.now seat.now victim row }
+    requires row { IsRow row.now }
+    requires there { row_is_there shape.now seat.now row.now ≡ true }
+    ensures value { result ≡ wanted_row shape.now seat.now victim row.now }
     ensures within { WantIsWithin shape.now result }
 {
     match row {
-        Row::Now(next) => want_then(shape, seat, victim, next),
-        Row::Store { cell, content, .. } => Want::Stores(address(shape, cell), content.word()),
+        Row::Now(next) => want_then(shape, seat, victim, *next),
+        Row::Store { cell, content, .. } => Want::Stores(address(shape, *cell), content.word()),
         Row::Exchange { cell, old, new, .. } => {
-            Want::Exchanges(address(shape, cell), old.word(), new.word())
+            Want::Exchanges(address(shape, *cell), old.word(), new.word())
         }
     }
 }
