@@ -61,9 +61,9 @@ impl Local {
     ghost use Rattle.ppm_cells.specs.declared.shape.Shape.{Shape};
     ghost use Rattle.ppm_code.specs.declared.code.CodeParts.{CodeParts};
     ghost use Rattle.ppm_cells.specs.Restart.{restart_of};
-    ghost use Rattle.ppm_step.specs.Facts.{IsPoint, IsRow, IsSeat};
+    ghost use Rattle.ppm_step.specs.Facts.{IsPoint, IsRow, IsSeat, IsThen};
     ghost use Rattle.ppm_step.specs.Locals.{standing_of, went_if_running, IsLocal};
-    ghost use Rattle.ppm_step.specs.Standings.{IsLost, IsAt, IsBroken, IsDone, wanted, went, enters, begins, stands, row_is_there, went_row, went_rest, WantIsWithin};
+    ghost use Rattle.ppm_step.specs.Standings.{IsLost, IsAt, IsBroken, IsDone, wanted, went, enters, begins, stands, then_is_there, went_then, went_rest, WantIsWithin};
     ghost use Rattle.ppm_code.specs.declared.act.End.TheVariants.{Next as GoesTo};
     ghost use Rattle.ppm_step.specs.Frames.{ending};
     ghost use Rattle.ppm_step.specs.Rows.{row_of};
@@ -243,20 +243,20 @@ impl Local {
 
     /// Stands with this left of its row.
     #[inline(never)]
-    fn stand_with(&mut self, shape: &Shape, code: &Code, seat: Seat, row: Row)
+    fn stand_with(&mut self, shape: &Shape, code: &Code, seat: Seat, row: &Row)
         requires seat { IsSeat shape.now seat }
         requires own { seat.own ≡ self.old.own }
         requires carrier { self.old.own < shape.now.processors }
-        requires row { IsRow row }
-        ensures stands { standing_of shape.now code.now self.new ≡ stands shape.now code.now seat row }
+        requires row { IsRow row.now }
+        ensures stands { standing_of shape.now code.now self.new ≡ stands shape.now code.now seat row.now }
         ensures holds { IsLocal shape.now code.now self.new }
         ensures own_stays { self.new.own ≡ self.old.own }
     {
         match row {
-            Row::Now(Then::Enter { capsule }) => self.enter(shape, code, seat, capsule),
+            Row::Now(Then::Enter { capsule }) => self.enter(shape, code, seat, *capsule),
             Row::Now(Then::Again) => self.stand = at(seat, seat.restart),
             _ => if row_there(shape, &seat, row) {
-                self.stand = Stand::Within { seat, row };
+                self.stand = Stand::Within { seat, row: *row };
             } else {
                 self.meet_broken(seat.place);
             },
@@ -295,7 +295,7 @@ impl Local {
         ensures own_stays { self.new.own ≡ self.old.own }
     {
         let row = row_of(shape, &seat);
-        self.stand_with(shape, code, seat, row);
+        self.stand_with(shape, code, seat, &row);
     }
 
     /// Begins the row of its restart word.
@@ -339,43 +339,40 @@ impl Local {
         }
     }
 
-    /// Goes on with what a row has found.
+    /// Goes on with what a row has found, whose next step this was.
     #[inline(never)]
-    fn observe_row(
+    fn observe_then(
         &mut self,
         shape: &Shape,
         code: &Code,
         victim: u32,
         found: u64,
         seat: Seat,
-        row: Row,
+        next: &Then,
     )
         requires seat { IsSeat shape.now seat }
         requires own { seat.own ≡ self.old.own }
         requires carrier { self.old.own < shape.now.processors }
-        requires row { IsRow row }
-        requires there { row_is_there shape.now seat row ≡ true }
-        ensures stands { standing_of shape.now code.now self.new ≡ went_row shape.now code.now seat victim found row }
+        requires next { IsThen next.now }
+        requires there { then_is_there shape.now seat next.now ≡ true }
+        ensures stands { standing_of shape.now code.now self.new ≡ went_then shape.now code.now seat victim found next.now }
         ensures holds { IsLocal shape.now code.now self.new }
         ensures own_stays { self.new.own ≡ self.old.own }
     {
-        match row {
-            Row::Now(Then::Load(point)) => {
+        match next {
+            Then::Load(point) => {
                 let content = Content::of(reading_at(point), found);
                 let row = found_at(shape, &seat, victim, point, content);
-                self.stand_with(shape, code, seat, row);
+                self.stand_with(shape, code, seat, &row);
             }
-            Row::Now(Then::Install(restart)) => self.stand = installed(shape, seat, restart),
-            Row::Now(Then::Fork { block }) => {
-                self.stand = installed(shape, seat, forked(&seat, block));
+            Then::Install(restart) => self.stand = installed(shape, seat, *restart),
+            Then::Fork { block } => self.stand = installed(shape, seat, forked(&seat, *block)),
+            Then::Begin { frame, bottom, .. } => {
+                self.stand = installed(shape, seat, begun(*frame, *bottom));
             }
-            Row::Now(Then::Begin { frame, bottom, .. }) => {
-                self.stand = installed(shape, seat, begun(frame, bottom));
-            }
-            Row::Now(Then::Move { place }) => self.stand = Stand::Placed { place },
-            Row::Now(next) => self.stand_with(shape, code, seat, Row::Now(next)),
-            Row::Store { then, .. } | Row::Exchange { then, .. } => {
-                self.stand_with(shape, code, seat, Row::Now(then));
+            Then::Move { place } => self.stand = Stand::Placed { place: *place },
+            Then::Enter { .. } | Then::Again | Then::Broken => {
+                self.stand_with(shape, code, seat, &Row::Now(*next));
             }
         }
     }
@@ -460,7 +457,18 @@ impl Local {
                 seat,
                 row: Row::Now(Then::Load(Point::Header { .. })),
             } => self.enter(shape, code, seat, found),
-            Stand::Within { seat, row } => self.observe_row(shape, code, victim, found, seat, row),
+            Stand::Within {
+                seat,
+                row: Row::Now(next),
+            } => self.observe_then(shape, code, victim, found, seat, &next),
+            Stand::Within {
+                seat,
+                row: Row::Store { then, .. },
+            } => self.stand_with(shape, code, seat, &Row::Now(then)),
+            Stand::Within {
+                seat,
+                row: Row::Exchange { then, .. },
+            } => self.stand_with(shape, code, seat, &Row::Now(then)),
             Stand::Runs(running) => match running.stage {
                 Stage::Ending(End::Next { capsule }, n) => {
                     self.observe_next(shape, code, running, capsule, n);
