@@ -10,10 +10,10 @@ use crate::content::Content;
 use crate::found::{found_at, row_of};
 use crate::frame::Home;
 use crate::going::Going;
-use crate::rest::{begun, forked, reading_at, row_there, want_row};
+use crate::rest::{begun, forked, reading_at, then_there, want_row};
 use crate::row::{Point, Row, Seat, Then};
 use crate::running::{Running, Stage};
-use crate::there::{address, restart_there};
+use crate::there::{address, cell_is_there, restart_there};
 use crate::turn::Next;
 use ppm_cells::{Cell, Finish, Restart, RestartKind, Shape};
 use ppm_code::{Code, End};
@@ -63,7 +63,7 @@ impl Local {
     ghost use Rattle.ppm_cells.specs.Restart.{restart_of};
     ghost use Rattle.ppm_step.specs.Facts.{IsPoint, IsRow, IsSeat, IsThen};
     ghost use Rattle.ppm_step.specs.Locals.{standing_of, went_if_running, IsLocal};
-    ghost use Rattle.ppm_step.specs.Standings.{IsLost, IsAt, IsBroken, IsDone, wanted, went, enters, begins, stands, then_is_there, went_then, went_rest, WantIsWithin};
+    ghost use Rattle.ppm_step.specs.Standings.{IsLost, IsAt, IsBroken, IsDone, wanted, went, enters, begins, stands, stands_then, then_is_there, went_then, went_rest, WantIsWithin};
     ghost use Rattle.ppm_code.specs.declared.act.End.TheVariants.{Next as GoesTo};
     ghost use Rattle.ppm_step.specs.Frames.{ending};
     ghost use Rattle.ppm_step.specs.Rows.{row_of};
@@ -241,8 +241,36 @@ impl Local {
         }
     }
 
+    /// Stands with this next in its row.
+    fn stand_then(&mut self, shape: &Shape, code: &Code, seat: Seat, next: &Then)
+        requires seat { IsSeat shape.now seat }
+        requires own { seat.own ≡ self.old.own }
+        requires carrier { self.old.own < shape.now.processors }
+        requires next { IsThen next.now }
+        ensures stands { standing_of shape.now code.now self.new ≡ stands_then shape.now code.now seat next.now }
+        ensures holds { IsLocal shape.now code.now self.new }
+        ensures own_stays { self.new.own ≡ self.old.own }
+    {
+        match next {
+            Then::Enter { capsule } => self.enter(shape, code, seat, *capsule),
+            Then::Again => self.stand = at(seat, seat.restart),
+            Then::Load(_)
+            | Then::Install(_)
+            | Then::Fork { .. }
+            | Then::Begin { .. }
+            | Then::Move { .. }
+            | Then::Broken => if then_there(shape, &seat, next) {
+                self.stand = Stand::Within {
+                    seat,
+                    row: Row::Now(*next),
+                };
+            } else {
+                self.meet_broken(seat.place);
+            },
+        }
+    }
+
     /// Stands with this left of its row.
-    #[inline(never)]
     fn stand_with(&mut self, shape: &Shape, code: &Code, seat: Seat, row: &Row)
         requires seat { IsSeat shape.now seat }
         requires own { seat.own ≡ self.old.own }
@@ -253,13 +281,14 @@ impl Local {
         ensures own_stays { self.new.own ≡ self.old.own }
     {
         match row {
-            Row::Now(Then::Enter { capsule }) => self.enter(shape, code, seat, *capsule),
-            Row::Now(Then::Again) => self.stand = at(seat, seat.restart),
-            _ => if row_there(shape, &seat, row) {
-                self.stand = Stand::Within { seat, row: *row };
-            } else {
-                self.meet_broken(seat.place);
-            },
+            Row::Now(next) => self.stand_then(shape, code, seat, next),
+            Row::Store { cell, .. } | Row::Exchange { cell, .. } => {
+                if cell_is_there(shape, *cell) {
+                    self.stand = Stand::Within { seat, row: *row };
+                } else {
+                    self.meet_broken(seat.place);
+                }
+            }
         }
     }
 
@@ -340,7 +369,6 @@ impl Local {
     }
 
     /// Goes on with what a row has found, whose next step this was.
-    #[inline(never)]
     fn observe_then(
         &mut self,
         shape: &Shape,
@@ -372,7 +400,7 @@ impl Local {
             }
             Then::Move { place } => self.stand = Stand::Placed { place: *place },
             Then::Enter { .. } | Then::Again | Then::Broken => {
-                self.stand_with(shape, code, seat, &Row::Now(*next));
+                self.stand_then(shape, code, seat, next);
             }
         }
     }
@@ -431,9 +459,9 @@ impl Local {
         }
     }
 
-    /// Goes on with what the word step found; after a store or an exchange that is not looked at.
-    #[inline(always)]
-    pub fn observe(&mut self, shape: &Shape, code: &Code, victim: u32, found: u64)
+    /// Goes on with what any word step found.
+    #[inline(never)]
+    fn observe_any(&mut self, shape: &Shape, code: &Code, victim: u32, found: u64)
         requires local { IsLocal shape.now code.now self.old }
         ensures stands { standing_of shape.now code.now self.new ≡ went shape.now code.now self.old.own victim found (standing_of shape.now code.now self.old) }
         ensures holds { IsLocal shape.now code.now self.new }
@@ -455,20 +483,40 @@ impl Local {
             },
             Stand::Within {
                 seat,
-                row: Row::Now(Then::Load(Point::Header { .. })),
-            } => self.enter(shape, code, seat, found),
-            Stand::Within {
-                seat,
                 row: Row::Now(next),
             } => self.observe_then(shape, code, victim, found, seat, &next),
             Stand::Within {
                 seat,
                 row: Row::Store { then, .. },
-            } => self.stand_with(shape, code, seat, &Row::Now(then)),
+            } => self.stand_then(shape, code, seat, &then),
             Stand::Within {
                 seat,
                 row: Row::Exchange { then, .. },
-            } => self.stand_with(shape, code, seat, &Row::Now(then)),
+            } => self.stand_then(shape, code, seat, &then),
+            Stand::Runs(_) => self.observe_running(shape, code, found),
+            Stand::Broken { .. } | Stand::Done => self.die(),
+        }
+    }
+
+    /// Goes on with what the word step found; after a store or an exchange that is not looked at.
+    #[inline(always)]
+    pub fn observe(&mut self, shape: &Shape, code: &Code, victim: u32, found: u64)
+        requires local { IsLocal shape.now code.now self.old }
+        ensures stands { standing_of shape.now code.now self.new ≡ went shape.now code.now self.old.own victim found (standing_of shape.now code.now self.old) }
+        ensures holds { IsLocal shape.now code.now self.new }
+        ensures own { self.new.own ≡ self.old.own }
+    {
+        // The steps of a capsule that goes on with another one are done here, without a copy of what is left of a row.
+        match self.stand {
+            Stand::At { place, restart } => if found == 0 {
+                self.begin(shape, code, place, restart);
+            } else {
+                self.die();
+            },
+            Stand::Within {
+                seat,
+                row: Row::Now(Then::Load(Point::Header { .. })),
+            } => self.enter(shape, code, seat, found),
             Stand::Runs(running) => match running.stage {
                 Stage::Ending(End::Next { capsule }, n) => {
                     self.observe_next(shape, code, running, capsule, n);
@@ -477,7 +525,11 @@ impl Local {
                     self.observe_running(shape, code, found);
                 }
             },
-            Stand::Broken { .. } | Stand::Done => self.die(),
+            Stand::Lost
+            | Stand::Placed { .. }
+            | Stand::Within { .. }
+            | Stand::Broken { .. }
+            | Stand::Done => self.observe_any(shape, code, victim, found),
         }
     }
 }

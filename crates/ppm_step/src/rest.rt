@@ -147,7 +147,7 @@ pub fn begun(frame: u32, bottom: u32) -> Restart
 }
 
 /// Whether what a row asks next is there.
-fn then_there(shape: &Shape, seat: &Seat, next: &Then) -> bool
+pub fn then_there(shape: &Shape, seat: &Seat, next: &Then) -> bool
     requires seat { IsSeat shape.now seat.now }
     requires next { IsThen next.now }
     ensures { result ≡ then_is_there shape.now seat.now next.now }
@@ -159,18 +159,6 @@ fn then_there(shape: &Shape, seat: &Seat, next: &Then) -> bool
         Then::Begin { frame, bottom, .. } => restart_there(shape, begun(*frame, *bottom)),
         Then::Move { place } => *place < shape.processors,
         Then::Enter { .. } | Then::Again | Then::Broken => false,
-    }
-}
-
-/// The same of a whole row.
-pub fn row_there(shape: &Shape, seat: &Seat, row: &Row) -> bool
-    requires seat { IsSeat shape.now seat.now }
-    requires row { IsRow row.now }
-    ensures { result ≡ row_is_there shape.now seat.now row.now }
-{
-    match row {
-        Row::Now(next) => then_there(shape, seat, next),
-        Row::Store { cell, .. } | Row::Exchange { cell, .. } => cell_is_there(shape, *cell),
     }
 }
 

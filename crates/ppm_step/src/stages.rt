@@ -61,7 +61,7 @@ impl Running {
     ghost use Rattle.ppm_cells.specs.Cells.{word_count};
     ghost use Rattle.ppm_step.specs.Frames.{Installs, installed, ending};
     ghost use Rattle.ppm_step.specs.declared.running.Stage.TheVariants.{Ending};
-    ghost use Rattle.ppm_step.specs.Facts.{IsHome, IsEnd};
+    ghost use Rattle.ppm_step.specs.Facts.{IsHome, IsEnd, IsSeat};
     ghost use Rattle.ppm_step.specs.Standings.{rest_is_there, running, running_if, wanted_rest, went_rest, WantIsWithin};
     ghost use Rattle.ppm_step.specs.Stages.{rest_at, rest_from, asked, went_on, IsRunning, IsStage, WentOn};
 
@@ -157,6 +157,28 @@ impl Running {
         }
     }
 
+    /// The n-th store of an end, or of what it installs.
+    #[inline(never)]
+    fn want_put(&self, shape: &Shape, code: &Code, end: End, n: usize) -> Want
+        requires seat { IsSeat shape.now self.now.seat }
+        requires home { IsHome self.now.home }
+        requires end { IsEnd end }
+        requires there { rest_is_there shape.now self.now.seat (ending code.now self.now.home end n) ≡ true }
+        ensures value { result ≡ wanted_rest shape.now self.now.seat (ending code.now self.now.home end n) }
+        ensures within { WantIsWithin shape.now result }
+    {
+        match self.home.next_put(code, end, n) {
+            Some(put) => Want::Stores(address(shape, put.cell), put.content.word()),
+            None => {
+                let cell = Cell::RestartWord {
+                    place: self.seat.place,
+                };
+                let restart = self.restart(self.home.installed(end));
+                Want::Stores(address(shape, cell), restart_word(shape, restart))
+            }
+        }
+    }
+
     /// The word step that comes next.
     #[inline(always)]
     pub fn want(&self, shape: &Shape, code: &Code, registers: &[u64; 64]) -> Want
@@ -190,16 +212,7 @@ impl Running {
                 let restart = self.restart(self.home.goes_round());
                 Want::Stores(address(shape, cell), restart_word(shape, restart))
             },
-            Stage::Ending(end, n) => match self.home.next_put(code, end, n) {
-                Some(put) => Want::Stores(address(shape, put.cell), put.content.word()),
-                None => {
-                    let cell = Cell::RestartWord {
-                        place: self.seat.place,
-                    };
-                    let restart = self.restart(self.home.installed(end));
-                    Want::Stores(address(shape, cell), restart_word(shape, restart))
-                }
-            },
+            Stage::Ending(end, n) => self.want_put(shape, code, end, n),
             Stage::Filled => {
                 let full = Finish::OutOfRoom {
                     place: self.seat.place,
