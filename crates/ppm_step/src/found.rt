@@ -73,7 +73,6 @@ pub fn row_of(shape: &Shape, seat: &Seat) -> Row
 }
 
 /// How a row goes on with a number.
-#[inline(always)]
 fn found_number(shape: &Shape, seat: &Seat, point: &Point, number: u64) -> Row
     requires seat { IsSeat shape.now seat.now }
     requires point { IsPoint point.now }
@@ -111,7 +110,6 @@ fn found_number(shape: &Shape, seat: &Seat, point: &Point, number: u64) -> Row
 }
 
 /// How a row goes on with an entry.
-#[inline(always)]
 fn found_entry(shape: &Shape, seat: &Seat, point: &Point, entry: Entry) -> Row
     requires seat { IsSeat shape.now seat.now }
     requires point { IsPoint point.now }
@@ -140,7 +138,6 @@ fn found_entry(shape: &Shape, seat: &Seat, point: &Point, entry: Entry) -> Row
 }
 
 /// How a row goes on with a holder.
-#[inline(always)]
 fn found_holder(shape: &Shape, seat: &Seat, victim: u32, point: &Point, holder: Holder) -> Row
     requires seat { IsSeat shape.now seat.now }
     requires point { IsPoint point.now }
@@ -158,7 +155,6 @@ fn found_holder(shape: &Shape, seat: &Seat, victim: u32, point: &Point, holder: 
 }
 
 /// How a row goes on with a link.
-#[inline(always)]
 fn found_link(seat: &Seat, point: &Point, link: Link) -> Row
     requires point { IsPoint point.now }
     requires link { IsLink link }
@@ -175,7 +171,6 @@ fn found_link(seat: &Seat, point: &Point, link: Link) -> Row
 }
 
 /// How a row goes on with an outcome; other finish words are broken.
-#[inline(always)]
 fn found_finish(seat: &Seat, point: &Point, finish: Finish) -> Row
     requires point { IsPoint point.now }
     requires finish { IsFinish finish }
@@ -204,7 +199,6 @@ fn found_finish(seat: &Seat, point: &Point, finish: Finish) -> Row
 }
 
 /// How a row goes on with a restart word.
-#[inline(always)]
 fn found_restart(shape: &Shape, seat: &Seat, point: &Point, restart: Restart) -> Row
     requires seat { IsSeat shape.now seat.now }
     requires point { IsPoint point.now }
@@ -223,7 +217,6 @@ fn found_restart(shape: &Shape, seat: &Seat, point: &Point, restart: Restart) ->
 }
 
 /// How a row goes on with what it has loaded, where the turn names this victim.
-#[inline(always)]
 pub fn found_at(shape: &Shape, seat: &Seat, victim: u32, point: &Point, content: Content) -> Row
     requires seat { IsSeat shape.now seat.now }
     requires point { IsPoint point.now }

@@ -242,6 +242,7 @@ impl Local {
     }
 
     /// Stands with this next in its row.
+    #[inline(always)]
     fn stand_then(&mut self, shape: &Shape, code: &Code, seat: Seat, next: &Then)
         requires seat { IsSeat shape.now seat }
         requires own { seat.own ≡ self.old.own }
@@ -271,6 +272,7 @@ impl Local {
     }
 
     /// Stands with this left of its row.
+    #[inline(always)]
     fn stand_with(&mut self, shape: &Shape, code: &Code, seat: Seat, row: &Row)
         requires seat { IsSeat shape.now seat }
         requires own { seat.own ≡ self.old.own }
