@@ -9,6 +9,7 @@ ghost use Rattle.ppm_step.specs.Locals.{IsLocal, standing_of};
 ghost use Rattle.ppm_step.specs.Standings.{WantIsWithin};
 ghost use Rattle.ppm_step.specs.State.{want_of, stand_after, found_in, words_after, quit_with};
 ghost use Rattle.ppm_step.specs.Told.{step_event, act_event, is_work_turn};
+ghost use Rattle.ppm_step.specs.declared.turn.Act.TheVariants.{Step};
 
 use ppm_cells::{Cell, Finish, Shape};
 use ppm_code::Code;
@@ -204,6 +205,63 @@ fn event_by(place: u32, act: Act, want: Want, found: u64) -> Event
 
 /// Does the act, and tells its event; `None` where the processor is done, and nothing changes.
 pub(crate) fn act_on(
+    local: &mut Local,
+    words: &mut Vec<u64>,
+    shape: &Shape,
+    code: &Code,
+    act: Act,
+) -> Option<Event>
+    requires local { IsLocal shape.now code.now local.old }
+    requires act { IsActAmong shape.now.processors act }
+    requires words { AreWordsOf shape.now words.old.items }
+    ensures words { words.new.items
+        ≡ words_acted shape.now code.now local.old.own act words.old.items (standing_of shape.now code.now local.old) }
+    ensures stands { standing_of shape.now code.now local.new
+        ≡ stand_acted shape.now code.now local.old.own act words.old.items (standing_of shape.now code.now local.old) }
+    ensures event { result ≡ event_acted shape.now code.now local.old.own act words.old.items (standing_of shape.now code.now local.old) }
+    ensures holds { IsLocal shape.now code.now local.new }
+    ensures own { local.new.own ≡ local.old.own }
+    ensures count { AreWordsOf shape.now words.new.items }
+{
+    match act {
+        Act::Step { victim } => step_on(local, words, shape, code, victim),
+        Act::Soft | Act::Hard | Act::Quit(_) => do_act(local, words, shape, code, act),
+    }
+}
+
+/// Makes the word step that comes next, where the turn names this victim.
+fn step_on(
+    local: &mut Local,
+    words: &mut Vec<u64>,
+    shape: &Shape,
+    code: &Code,
+    victim: u32,
+) -> Option<Event>
+    requires local { IsLocal shape.now code.now local.old }
+    requires victim { victim < shape.now.processors }
+    requires words { AreWordsOf shape.now words.old.items }
+    ensures words { words.new.items
+        ≡ words_acted shape.now code.now local.old.own (Step victim) words.old.items (standing_of shape.now code.now local.old) }
+    ensures stands { standing_of shape.now code.now local.new
+        ≡ stand_acted shape.now code.now local.old.own (Step victim) words.old.items (standing_of shape.now code.now local.old) }
+    ensures event { result ≡ event_acted shape.now code.now local.old.own (Step victim) words.old.items (standing_of shape.now code.now local.old) }
+    ensures holds { IsLocal shape.now code.now local.new }
+    ensures own { local.new.own ≡ local.old.own }
+    ensures count { AreWordsOf shape.now words.new.items }
+{
+    if is_done(local) {
+        return None;
+    }
+    let place = local.place();
+    let want = local.want(shape, code, victim);
+    let found = make(words, shape, want);
+    local.observe(shape, code, victim, found);
+    Some(step_event(place, want, found))
+}
+
+/// Does an act, a step or another one.
+#[inline(never)]
+fn do_act(
     local: &mut Local,
     words: &mut Vec<u64>,
     shape: &Shape,

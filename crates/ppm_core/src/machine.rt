@@ -113,15 +113,15 @@ impl Machine {
     {
         let local = &mut self.locals[turn.processor as usize];
         let forks = forks_by(local, turn.act);
+        self.forks += forks;
         let takes = takes_by(local, turn.act);
+        self.takes += takes;
         let work = is_work_by(local, turn.act);
         let works = count_of(work);
-        let event = act_on(local, &mut self.words, &self.shape, &self.code, turn.act);
-        let next = local.next();
-        self.forks += forks;
-        self.takes += takes;
         self.work += works;
         self.turns += 1;
+        let event = act_on(local, &mut self.words, &self.shape, &self.code, turn.act);
+        let next = local.next();
         Told { event, work, next }
     }
 

@@ -10,3 +10,4 @@ pub mod StandLemmas
 pub mod WordLemmas
 pub mod ActLemmas
 pub mod FinishLemmas
+pub mod NextLemmas

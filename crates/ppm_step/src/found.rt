@@ -73,13 +73,13 @@ pub fn row_of(shape: &Shape, seat: &Seat) -> Row
 }
 
 /// How a row goes on with a number.
-fn found_number(shape: &Shape, seat: &Seat, point: Point, number: u64) -> Row
+fn found_number(shape: &Shape, seat: &Seat, point: &Point, number: u64) -> Row
     requires seat { IsSeat shape.now seat.now }
-    requires point { IsPoint point }
-    ensures value { (victim : ℕ) → result ≡ found_at shape.now seat.now victim point (ANumber number) }
+    requires point { IsPoint point.now }
+    ensures value { (victim : ℕ) → result ≡ found_at shape.now seat.now victim point.now (ANumber number) }
     ensures fits { IsRow result }
 {
-    match point {
+    match *point {
         Point::Header { .. } => Row::Now(Then::Enter { capsule: number }),
         Point::PushOrder { block } => push_order(seat, block, number),
         Point::Target {
@@ -110,14 +110,14 @@ fn found_number(shape: &Shape, seat: &Seat, point: Point, number: u64) -> Row
 }
 
 /// How a row goes on with an entry.
-fn found_entry(shape: &Shape, seat: &Seat, point: Point, entry: Entry) -> Row
+fn found_entry(shape: &Shape, seat: &Seat, point: &Point, entry: Entry) -> Row
     requires seat { IsSeat shape.now seat.now }
-    requires point { IsPoint point }
+    requires point { IsPoint point.now }
     requires entry { IsEntry entry }
-    ensures value { (victim : ℕ) → result ≡ found_at shape.now seat.now victim point (AnEntry entry) }
+    ensures value { (victim : ℕ) → result ≡ found_at shape.now seat.now victim point.now (AnEntry entry) }
     ensures fits { IsRow result }
 {
-    match point {
+    match *point {
         Point::PushAbove { block } => make_above(seat, block, entry),
         Point::PushBottom { block } => make_job(seat, block, entry),
         Point::PopBelow => get_back(seat, entry),
@@ -138,14 +138,14 @@ fn found_entry(shape: &Shape, seat: &Seat, point: Point, entry: Entry) -> Row
 }
 
 /// How a row goes on with a holder.
-fn found_holder(shape: &Shape, seat: &Seat, victim: u32, point: Point, holder: Holder) -> Row
+fn found_holder(shape: &Shape, seat: &Seat, victim: u32, point: &Point, holder: Holder) -> Row
     requires seat { IsSeat shape.now seat.now }
-    requires point { IsPoint point }
+    requires point { IsPoint point.now }
     requires holder { IsHolder holder }
-    ensures value { result ≡ found_at shape.now seat.now victim point (AHolder holder) }
+    ensures value { result ≡ found_at shape.now seat.now victim point.now (AHolder holder) }
     ensures fits { IsRow result }
 {
-    match point {
+    match *point {
         Point::SeekHolder => seek_held(shape, seat, victim, holder),
         Point::BidMessage { victim, dead } => make_bid(seat, victim, dead, holder),
         Point::BidAgain { victim } => check_bid(seat, victim, holder),
@@ -155,13 +155,13 @@ fn found_holder(shape: &Shape, seat: &Seat, victim: u32, point: Point, holder: H
 }
 
 /// How a row goes on with a link.
-fn found_link(seat: &Seat, point: Point, link: Link) -> Row
-    requires point { IsPoint point }
+fn found_link(seat: &Seat, point: &Point, link: Link) -> Row
+    requires point { IsPoint point.now }
     requires link { IsLink link }
-    ensures value { (s : Shape) (victim : ℕ) → result ≡ found_at s seat.now victim point (ALink link) }
+    ensures value { (s : Shape) (victim : ℕ) → result ≡ found_at s seat.now victim point.now (ALink link) }
     ensures fits { IsRow result }
 {
-    match point {
+    match *point {
         Point::BumpLink { block } => bump(seat, block, link),
         Point::UnwindLink { frame } => unwind_link(frame, link.kind),
         Point::JoinLink { block } => join_link(block, link.kind),
@@ -171,16 +171,16 @@ fn found_link(seat: &Seat, point: Point, link: Link) -> Row
 }
 
 /// How a row goes on with an outcome; other finish words are broken.
-fn found_finish(seat: &Seat, point: Point, finish: Finish) -> Row
-    requires point { IsPoint point }
+fn found_finish(seat: &Seat, point: &Point, finish: Finish) -> Row
+    requires point { IsPoint point.now }
     requires finish { IsFinish finish }
-    ensures value { (s : Shape) (victim : ℕ) → result ≡ found_at s seat.now victim point (AFinish finish) }
+    ensures value { (s : Shape) (victim : ℕ) → result ≡ found_at s seat.now victim point.now (AFinish finish) }
     ensures fits { IsRow result }
 {
     if !finish.is_outcome() {
         return broken();
     }
-    match point {
+    match *point {
         Point::UnwindOutcome { frame, link } => unwind_outcome(seat, frame, link, finish),
         Point::JoinLeft { block, to, copy } => load(Point::JoinRight {
             block,
@@ -199,14 +199,14 @@ fn found_finish(seat: &Seat, point: Point, finish: Finish) -> Row
 }
 
 /// How a row goes on with a restart word.
-fn found_restart(shape: &Shape, seat: &Seat, point: Point, restart: Restart) -> Row
+fn found_restart(shape: &Shape, seat: &Seat, point: &Point, restart: Restart) -> Row
     requires seat { IsSeat shape.now seat.now }
-    requires point { IsPoint point }
+    requires point { IsPoint point.now }
     requires restart { IsRestart restart }
-    ensures value { (victim : ℕ) → result ≡ found_at shape.now seat.now victim point (ARestart restart) }
+    ensures value { (victim : ℕ) → result ≡ found_at shape.now seat.now victim point.now (ARestart restart) }
     ensures fits { IsRow result }
 {
-    match point {
+    match *point {
         Point::ClosedRestart {
             victim,
             slot,
@@ -217,11 +217,11 @@ fn found_restart(shape: &Shape, seat: &Seat, point: Point, restart: Restart) -> 
 }
 
 /// How a row goes on with what it has loaded, where the turn names this victim.
-pub fn found_at(shape: &Shape, seat: &Seat, victim: u32, point: Point, content: Content) -> Row
+pub fn found_at(shape: &Shape, seat: &Seat, victim: u32, point: &Point, content: Content) -> Row
     requires seat { IsSeat shape.now seat.now }
-    requires point { IsPoint point }
+    requires point { IsPoint point.now }
     requires content { IsContent content }
-    ensures value { result ≡ found_at shape.now seat.now victim point content }
+    ensures value { result ≡ found_at shape.now seat.now victim point.now content }
     ensures fits { IsRow result }
 {
     match content {

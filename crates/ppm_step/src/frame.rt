@@ -89,7 +89,9 @@ fn target_of(to: Option<u32>) -> u64
 }
 
 impl Home {
-    ghost use Rattle.std.specs.Prelude.{◌≡◌, ◌+◌, ◌<◌, slice_get, IfSome, Some};
+    ghost use Rattle.std.specs.Prelude.{◌≡◌, ◌+◌, ◌^◌, ◌<◌, slice_get, IfSome, Some};
+    ghost use Rattle.ppm_cells.specs.declared.restart.RestartKind.TheVariants.{Run};
+    ghost use Rattle.ppm_step.specs.Points.{header_word};
     ghost use Rattle.ppm_code.specs.Sizes.{frame_size};
     ghost use Rattle.ppm_cells.specs.declared.link.LinkKind.TheVariants.{Branch};
     ghost use Rattle.ppm_step.specs.Contents.{IsContent};
@@ -102,6 +104,28 @@ impl Home {
         ensures { result ≡ other_copy self.now.copy }
     {
         1 - self.copy
+    }
+
+    /// The address of the header that is not in use.
+    #[inline(always)]
+    pub fn header(&self) -> u32
+        requires { IsHome self.now }
+        ensures value { BlockWord result ≡ header_word self.now.frame (other_copy self.now.copy) }
+        ensures bound { result < 2 ^ 28 + 4 }
+    {
+        self.frame + 2 + self.other()
+    }
+
+    /// The frame goes on with the other copy of its header.
+    #[inline(always)]
+    pub fn goes_round(&self) -> RestartKind
+        requires { IsHome self.now }
+        ensures { result ≡ Run self.now.frame (other_copy self.now.copy) }
+    {
+        RestartKind::Run {
+            frame: self.frame,
+            copy: self.other(),
+        }
     }
 
     /// The frame is to go on with a capsule.
@@ -282,6 +306,7 @@ impl Home {
 
     /// The n-th store of an end, which comes next; `None` where the restart word does.
     #[tactic(auto, using(crate::proofs::StoringLemmas::ending_by))]
+    #[inline(never)]
     pub fn next_put(&self, code: &Code, end: End, n: usize) -> Option<Put>
         requires home { IsHome self.now }
         requires end { IsEnd end }
@@ -298,10 +323,7 @@ impl Home {
         ensures { result ≡ installed self.now end }
     {
         match end {
-            End::Next { .. } => RestartKind::Run {
-                frame: self.frame,
-                copy: self.other(),
-            },
+            End::Next { .. } => self.goes_round(),
             End::Finish | End::Trap { .. } => RestartKind::Unwind { frame: self.frame },
             End::Call { .. } | End::Fork { .. } => RestartKind::Bump { block: self.block },
         }

@@ -10,13 +10,13 @@ use crate::content::Content;
 use crate::found::{found_at, row_of};
 use crate::frame::Home;
 use crate::going::Going;
-use crate::rest::{begun, forked, reading_at, row_there, want_row};
-use crate::row::{Row, Seat, Then};
+use crate::rest::{begun, forked, reading_at, then_there, want_row};
+use crate::row::{Point, Row, Seat, Then};
 use crate::running::{Running, Stage};
-use crate::there::{address, restart_there};
+use crate::there::{address, cell_is_there, restart_there};
 use crate::turn::Next;
 use ppm_cells::{Cell, Finish, Restart, RestartKind, Shape};
-use ppm_code::Code;
+use ppm_code::{Code, End};
 
 /// Where a processor stands.
 #[derive(Clone, Copy, Debug, PartialEq, Eq)]
@@ -60,10 +60,19 @@ impl Local {
     ghost use Rattle.ppm_cells.specs.Restart.{IsRestart};
     ghost use Rattle.ppm_cells.specs.declared.shape.Shape.{Shape};
     ghost use Rattle.ppm_code.specs.declared.code.CodeParts.{CodeParts};
-    ghost use Rattle.ppm_step.specs.Facts.{IsRow, IsSeat};
+    ghost use Rattle.ppm_cells.specs.Restart.{restart_of};
+    ghost use Rattle.ppm_step.specs.Facts.{IsPoint, IsRow, IsSeat, IsThen};
     ghost use Rattle.ppm_step.specs.Locals.{standing_of, went_if_running, IsLocal};
-    ghost use Rattle.ppm_step.specs.Standings.{IsLost, IsDone, wanted, went, enters, begins, stands, row_is_there, went_row, WantIsWithin};
+    ghost use Rattle.ppm_step.specs.Standings.{IsLost, IsAt, IsBroken, IsDone, wanted, went, enters, begins, stands, stands_then, then_is_there, went_then, went_rest, WantIsWithin};
+    ghost use Rattle.ppm_code.specs.declared.act.End.TheVariants.{Next as GoesTo};
+    ghost use Rattle.ppm_step.specs.Frames.{ending};
+    ghost use Rattle.ppm_step.specs.Rows.{row_of};
+    ghost use Rattle.ppm_step.specs.Stages.{IsRunning};
+    ghost use Rattle.ppm_step.specs.declared.running.Stage.TheVariants.{Ending};
     ghost use Rattle.ppm_step.specs.State.{next_of};
+    ghost use Rattle.ppm_step.specs.declared.row.Point.TheVariants.{Header};
+    ghost use Rattle.ppm_step.specs.declared.row.Row.TheVariants.{Now};
+    ghost use Rattle.ppm_step.specs.declared.row.Then.TheVariants.{Load};
     ghost use Rattle.ppm_step.specs.Told.{place_of};
 
     /// A processor that has lost its registers, as at the beginning.
@@ -89,6 +98,7 @@ impl Local {
     }
 
     /// It takes no step any more.
+    #[inline(never)]
     pub fn die(&mut self)
         ensures own { self.new.own ≡ self.old.own }
         ensures stands { (s : Shape) (code : CodeParts) → standing_of s code self.new ≡ IsDone }
@@ -131,33 +141,65 @@ impl Local {
     }
 
     /// The word step that comes next, where the turn names this victim.
+    #[inline(always)]
     pub fn want(&self, shape: &Shape, code: &Code, victim: u32) -> Want
         requires local { IsLocal shape.now code.now self.now }
         requires victim { victim < shape.now.processors }
         ensures value { result ≡ wanted shape.now self.now.own victim (standing_of shape.now code.now self.now) }
         ensures within { WantIsWithin shape.now result }
     {
-        match self.stand {
+        match &self.stand {
             Stand::Lost => Want::Loads(address(
                 shape,
                 Cell::CarryWord {
                     processor: self.own,
                 },
             )),
-            Stand::Placed { place } => { Want::Loads(address(shape, Cell::RestartWord { place })) }
+            Stand::Placed { place } => {
+                Want::Loads(address(shape, Cell::RestartWord { place: *place }))
+            }
             Stand::At { .. } => Want::Loads(address(shape, Cell::FinishWord)),
-            Stand::Within { seat, row } => want_row(shape, &seat, victim, row),
+            Stand::Within {
+                row: Row::Now(Then::Load(Point::Header { frame, copy })),
+                ..
+            } => Want::Loads(*frame + 2 + *copy),
+            Stand::Within { seat, row } => want_row(shape, seat, victim, row),
             Stand::Runs(running) => running.want(shape, code, &self.registers),
             Stand::Broken { place } => Want::Exchanges(
                 address(shape, Cell::FinishWord),
                 0,
-                Finish::Broken { place }.pack(),
+                Finish::Broken { place: *place }.pack(),
             ),
             Stand::Done => Want::Nothing,
         }
     }
 
+    /// It has met broken words at a place, 64 where that isn't known.
+    #[inline(never)]
+    fn meet_broken(&mut self, place: u32)
+        requires { place < 65 }
+        ensures stands { (s : Shape) (code : CodeParts) → standing_of s code self.new ≡ IsBroken place }
+        ensures holds { (s : Shape) (code : CodeParts) → self.old.own < s.processors → IsLocal s code self.new }
+        ensures own_stays { self.new.own ≡ self.old.own }
+    {
+        self.stand = Stand::Broken { place };
+    }
+
+    /// It has read the restart word of its place.
+    #[inline(never)]
+    fn read_restart(&mut self, place: u32, found: u64)
+        ensures stands { (s : Shape) (code : CodeParts) → standing_of s code self.new ≡ IsAt place (restart_of found) }
+        ensures holds { (s : Shape) (code : CodeParts) → self.old.own < s.processors → place < s.processors → IsLocal s code self.new }
+        ensures own_stays { self.new.own ≡ self.old.own }
+    {
+        self.stand = Stand::At {
+            place,
+            restart: Restart::unpack(found),
+        };
+    }
+
     /// Enters the capsule with a number, if that is in the code.
+    #[inline(always)]
     fn enter(&mut self, shape: &Shape, code: &Code, seat: Seat, number: u64)
         requires seat { IsSeat shape.now seat }
         requires own { seat.own ≡ self.old.own }
@@ -168,15 +210,15 @@ impl Local {
     {
         let place = seat.place;
         let RestartKind::Run { frame, copy } = seat.restart.kind else {
-            self.stand = Stand::Broken { place };
+            self.meet_broken(place);
             return;
         };
         if number >= code.parts().capsules.as_slice().len() as u64 {
-            self.stand = Stand::Broken { place };
+            self.meet_broken(place);
             return;
         }
         let Some(found) = code.capsule(number as u32) else {
-            self.stand = Stand::Broken { place };
+            self.meet_broken(place);
             return;
         };
         let _ = found.procedure;
@@ -195,32 +237,100 @@ impl Local {
         if running.go_on(shape, code, &mut self.registers) {
             self.stand = Stand::Runs(running);
         } else {
-            self.stand = Stand::Broken { place };
+            self.meet_broken(place);
         }
     }
 
-    /// Stands with this left of its row.
-    fn stand_with(&mut self, shape: &Shape, code: &Code, seat: Seat, row: Row)
+    /// Stands with this next in its row.
+    #[inline(always)]
+    fn stand_then(&mut self, shape: &Shape, code: &Code, seat: Seat, next: &Then)
         requires seat { IsSeat shape.now seat }
         requires own { seat.own ≡ self.old.own }
         requires carrier { self.old.own < shape.now.processors }
-        requires row { IsRow row }
-        ensures stands { standing_of shape.now code.now self.new ≡ stands shape.now code.now seat row }
+        requires next { IsThen next.now }
+        ensures stands { standing_of shape.now code.now self.new ≡ stands_then shape.now code.now seat next.now }
         ensures holds { IsLocal shape.now code.now self.new }
         ensures own_stays { self.new.own ≡ self.old.own }
     {
-        match row {
-            Row::Now(Then::Enter { capsule }) => self.enter(shape, code, seat, capsule),
-            Row::Now(Then::Again) => self.stand = at(seat, seat.restart),
-            _ => if row_there(shape, &seat, row) {
-                self.stand = Stand::Within { seat, row };
+        match next {
+            Then::Enter { capsule } => self.enter(shape, code, seat, *capsule),
+            Then::Again => self.stand = at(seat, seat.restart),
+            Then::Load(_)
+            | Then::Install(_)
+            | Then::Fork { .. }
+            | Then::Begin { .. }
+            | Then::Move { .. }
+            | Then::Broken => if then_there(shape, &seat, next) {
+                self.stand = Stand::Within {
+                    seat,
+                    row: Row::Now(*next),
+                };
             } else {
-                self.stand = Stand::Broken { place: seat.place };
+                self.meet_broken(seat.place);
             },
         }
     }
 
+    /// Stands with this left of its row.
+    #[inline(always)]
+    fn stand_with(&mut self, shape: &Shape, code: &Code, seat: Seat, row: &Row)
+        requires seat { IsSeat shape.now seat }
+        requires own { seat.own ≡ self.old.own }
+        requires carrier { self.old.own < shape.now.processors }
+        requires row { IsRow row.now }
+        ensures stands { standing_of shape.now code.now self.new ≡ stands shape.now code.now seat row.now }
+        ensures holds { IsLocal shape.now code.now self.new }
+        ensures own_stays { self.new.own ≡ self.old.own }
+    {
+        match row {
+            Row::Now(next) => self.stand_then(shape, code, seat, next),
+            Row::Store { cell, .. } | Row::Exchange { cell, .. } => {
+                if cell_is_there(shape, *cell) {
+                    self.stand = Stand::Within { seat, row: *row };
+                } else {
+                    self.meet_broken(seat.place);
+                }
+            }
+        }
+    }
+
+    /// Stands before the load of the header of a frame.
+    #[inline(always)]
+    fn stand_at_header(&mut self, shape: &Shape, seat: Seat, frame: u32, copy: u32)
+        requires seat { IsSeat shape.now seat }
+        requires own { seat.own ≡ self.old.own }
+        requires carrier { self.old.own < shape.now.processors }
+        requires point { IsPoint (Header frame copy) }
+        ensures stands { (code : CodeParts) → standing_of shape.now code self.new ≡ stands shape.now code seat (Now (Load (Header frame copy))) }
+        ensures holds { (code : CodeParts) → IsLocal shape.now code self.new }
+        ensures own_stays { self.new.own ≡ self.old.own }
+    {
+        if frame + 2 + copy >= shape.word_count() {
+            self.meet_broken(seat.place);
+            return;
+        }
+        self.stand = Stand::Within {
+            seat,
+            row: Row::Now(Then::Load(Point::Header { frame, copy })),
+        };
+    }
+
+    /// Begins the row of a seat.
+    #[inline(never)]
+    fn begin_row(&mut self, shape: &Shape, code: &Code, seat: Seat)
+        requires seat { IsSeat shape.now seat }
+        requires own { seat.own ≡ self.old.own }
+        requires carrier { self.old.own < shape.now.processors }
+        ensures stands { standing_of shape.now code.now self.new ≡ stands shape.now code.now seat (row_of shape.now seat seat.restart.kind) }
+        ensures holds { IsLocal shape.now code.now self.new }
+        ensures own_stays { self.new.own ≡ self.old.own }
+    {
+        let row = row_of(shape, &seat);
+        self.stand_with(shape, code, seat, &row);
+    }
+
     /// Begins the row of its restart word.
+    #[inline(always)]
     fn begin(&mut self, shape: &Shape, code: &Code, place: u32, restart: Option<Restart>)
         requires place { place < shape.now.processors }
         requires restart { IfSome restart IsRestart }
@@ -230,11 +340,11 @@ impl Local {
         ensures own_stays { self.new.own ≡ self.old.own }
     {
         let Some(restart) = restart else {
-            self.stand = Stand::Broken { place };
+            self.meet_broken(place);
             return;
         };
         if !restart_there(shape, restart) {
-            self.stand = Stand::Broken { place };
+            self.meet_broken(place);
             return;
         }
         let seat = Seat {
@@ -242,51 +352,63 @@ impl Local {
             place,
             restart,
         };
-        let row = row_of(shape, &seat);
-        self.stand_with(shape, code, seat, row);
+        match restart.kind {
+            RestartKind::Run { frame, copy } => self.stand_at_header(shape, seat, frame, copy),
+            RestartKind::Bump { .. }
+            | RestartKind::Push1 { .. }
+            | RestartKind::Push2 { .. }
+            | RestartKind::Unwind { .. }
+            | RestartKind::Arrive { .. }
+            | RestartKind::Join { .. }
+            | RestartKind::Pop1
+            | RestartKind::Pop2 { .. }
+            | RestartKind::Seek
+            | RestartKind::Steal { .. }
+            | RestartKind::Check { .. }
+            | RestartKind::Take { .. }
+            | RestartKind::Take2 { .. } => self.begin_row(shape, code, seat),
+        }
     }
 
-    /// Goes on with what a row has found.
-    fn observe_row(
+    /// Goes on with what a row has found, whose next step this was.
+    fn observe_then(
         &mut self,
         shape: &Shape,
         code: &Code,
         victim: u32,
         found: u64,
         seat: Seat,
-        row: Row,
+        next: &Then,
     )
         requires seat { IsSeat shape.now seat }
         requires own { seat.own ≡ self.old.own }
         requires carrier { self.old.own < shape.now.processors }
-        requires row { IsRow row }
-        requires there { row_is_there shape.now seat row ≡ true }
-        ensures stands { standing_of shape.now code.now self.new ≡ went_row shape.now code.now seat victim found row }
+        requires next { IsThen next.now }
+        requires there { then_is_there shape.now seat next.now ≡ true }
+        ensures stands { standing_of shape.now code.now self.new ≡ went_then shape.now code.now seat victim found next.now }
         ensures holds { IsLocal shape.now code.now self.new }
         ensures own_stays { self.new.own ≡ self.old.own }
     {
-        match row {
-            Row::Now(Then::Load(point)) => {
+        match next {
+            Then::Load(point) => {
                 let content = Content::of(reading_at(point), found);
                 let row = found_at(shape, &seat, victim, point, content);
-                self.stand_with(shape, code, seat, row);
+                self.stand_with(shape, code, seat, &row);
             }
-            Row::Now(Then::Install(restart)) => self.stand = installed(shape, seat, restart),
-            Row::Now(Then::Fork { block }) => {
-                self.stand = installed(shape, seat, forked(&seat, block));
+            Then::Install(restart) => self.stand = installed(shape, seat, *restart),
+            Then::Fork { block } => self.stand = installed(shape, seat, forked(&seat, *block)),
+            Then::Begin { frame, bottom, .. } => {
+                self.stand = installed(shape, seat, begun(*frame, *bottom));
             }
-            Row::Now(Then::Begin { frame, bottom, .. }) => {
-                self.stand = installed(shape, seat, begun(frame, bottom));
-            }
-            Row::Now(Then::Move { place }) => self.stand = Stand::Placed { place },
-            Row::Now(next) => self.stand_with(shape, code, seat, Row::Now(next)),
-            Row::Store { then, .. } | Row::Exchange { then, .. } => {
-                self.stand_with(shape, code, seat, Row::Now(then));
+            Then::Move { place } => self.stand = Stand::Placed { place: *place },
+            Then::Enter { .. } | Then::Again | Then::Broken => {
+                self.stand_then(shape, code, seat, next);
             }
         }
     }
 
     /// Goes on with what a step of a capsule has found.
+    #[inline(never)]
     fn observe_running(&mut self, shape: &Shape, code: &Code, found: u64)
         requires local { IsLocal shape.now code.now self.old }
         ensures stands { standing_of shape.now code.now self.new ≡ went_if_running shape.now code.now self.old found }
@@ -294,42 +416,122 @@ impl Local {
         ensures own_stays { self.new.own ≡ self.old.own }
     {
         if let Stand::Runs(mut running) = self.stand {
-            let seat = running.seat;
+            let place = running.seat.place;
             match running.observe(shape, code, &mut self.registers, found) {
                 Going::Went(true) => self.stand = Stand::Runs(running),
-                Going::Went(false) => self.stand = Stand::Broken { place: seat.place },
-                Going::Installed(restart) => self.stand = at(seat, restart),
+                Going::Went(false) => self.meet_broken(place),
+                Going::Installed(restart) => {
+                    self.stand = Stand::At {
+                        place,
+                        restart: Some(restart),
+                    };
+                }
             }
         }
     }
 
-    /// Goes on with what the word step found; after a store or an exchange that is not looked at.
-    pub fn observe(&mut self, shape: &Shape, code: &Code, victim: u32, found: u64)
+    /// Goes on behind the n-th store of the end that goes on with a capsule, or behind the store of its restart word.
+    #[inline(always)]
+    #[tactic(auto, using(crate::proofs::ThereLemmas::restart_fits))]
+    fn observe_next(&mut self, shape: &Shape, code: &Code, running: Running, capsule: u32, n: usize)
+        requires running { IsRunning shape.now code.now running self.old.registers }
+        requires own { running.seat.own ≡ self.old.own }
+        requires carrier { self.old.own < shape.now.processors }
+        requires stage { running.stage ≡ Ending (GoesTo capsule) n }
+        ensures stands { (found : ℕ) → standing_of shape.now code.now self.new
+            ≡ went_rest shape.now running.seat found (ending code.now running.home (GoesTo capsule) n) }
+        ensures holds { IsLocal shape.now code.now self.new }
+        ensures own_stays { self.new.own ≡ self.old.own }
+    {
+        let place = running.seat.place;
+        if n > 0 {
+            self.stand = Stand::At {
+                place,
+                restart: Some(running.restart(running.home.goes_round())),
+            };
+            return;
+        }
+        if running.next_is_there(shape, 1) {
+            self.stand = Stand::Runs(Running {
+                stage: Stage::Ending(End::Next { capsule }, 1),
+                ..running
+            });
+        } else {
+            self.meet_broken(place);
+        }
+    }
+
+    /// Goes on with what any word step found.
+    #[inline(never)]
+    fn observe_any(&mut self, shape: &Shape, code: &Code, victim: u32, found: u64)
         requires local { IsLocal shape.now code.now self.old }
         ensures stands { standing_of shape.now code.now self.new ≡ went shape.now code.now self.old.own victim found (standing_of shape.now code.now self.old) }
         ensures holds { IsLocal shape.now code.now self.new }
         ensures own { self.new.own ≡ self.old.own }
     {
         match self.stand {
-            Stand::Lost => self.stand = if found < u64::from(shape.processors) {
-                Stand::Placed {
+            Stand::Lost => if found < u64::from(shape.processors) {
+                self.stand = Stand::Placed {
                     place: found as u32,
-                }
+                };
             } else {
-                Stand::Broken { place: 64 }
+                self.meet_broken(64);
             },
-            Stand::Placed { place } => self.stand = Stand::At {
-                place,
-                restart: Restart::unpack(found),
-            },
+            Stand::Placed { place } => self.read_restart(place, found),
             Stand::At { place, restart } => if found == 0 {
                 self.begin(shape, code, place, restart);
             } else {
-                self.stand = Stand::Done;
+                self.die();
             },
-            Stand::Within { seat, row } => self.observe_row(shape, code, victim, found, seat, row),
+            Stand::Within {
+                seat,
+                row: Row::Now(next),
+            } => self.observe_then(shape, code, victim, found, seat, &next),
+            Stand::Within {
+                seat,
+                row: Row::Store { then, .. },
+            } => self.stand_then(shape, code, seat, &then),
+            Stand::Within {
+                seat,
+                row: Row::Exchange { then, .. },
+            } => self.stand_then(shape, code, seat, &then),
             Stand::Runs(_) => self.observe_running(shape, code, found),
-            Stand::Broken { .. } | Stand::Done => self.stand = Stand::Done,
+            Stand::Broken { .. } | Stand::Done => self.die(),
+        }
+    }
+
+    /// Goes on with what the word step found; after a store or an exchange that is not looked at.
+    #[inline(always)]
+    pub fn observe(&mut self, shape: &Shape, code: &Code, victim: u32, found: u64)
+        requires local { IsLocal shape.now code.now self.old }
+        ensures stands { standing_of shape.now code.now self.new ≡ went shape.now code.now self.old.own victim found (standing_of shape.now code.now self.old) }
+        ensures holds { IsLocal shape.now code.now self.new }
+        ensures own { self.new.own ≡ self.old.own }
+    {
+        // The steps of a capsule that goes on with another one are done here, without a copy of what is left of a row.
+        match self.stand {
+            Stand::At { place, restart } => if found == 0 {
+                self.begin(shape, code, place, restart);
+            } else {
+                self.die();
+            },
+            Stand::Within {
+                seat,
+                row: Row::Now(Then::Load(Point::Header { .. })),
+            } => self.enter(shape, code, seat, found),
+            Stand::Runs(running) => match running.stage {
+                Stage::Ending(End::Next { capsule }, n) => {
+                    self.observe_next(shape, code, running, capsule, n);
+                }
+                Stage::Before(_) | Stage::Ending(..) | Stage::Filled => {
+                    self.observe_running(shape, code, found);
+                }
+            },
+            Stand::Lost
+            | Stand::Placed { .. }
+            | Stand::Within { .. }
+            | Stand::Broken { .. }
+            | Stand::Done => self.observe_any(shape, code, victim, found),
         }
     }
 }

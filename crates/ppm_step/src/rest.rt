@@ -14,15 +14,15 @@ use crate::there::{address, cell_is_there, restart_there, restart_word};
 use ppm_cells::{Cell, Restart, RestartKind, Shape};
 
 /// The word that a load is of, where the turn names this victim.
-pub fn cell_at(seat: &Seat, victim: u32, point: Point) -> Cell
+pub fn cell_at(seat: &Seat, victim: u32, point: &Point) -> Cell
     requires restart { IsRestart seat.now.restart }
     requires bottom { 1 ≤ seat.now.restart.bottom }
-    requires point { IsPoint point }
-    ensures { result ≡ cell_at seat.now victim point }
+    requires point { IsPoint point.now }
+    ensures { result ≡ cell_at seat.now victim point.now }
 {
     let place = seat.place;
     let bottom = seat.restart.bottom;
-    match point {
+    match *point {
         Point::Header { frame, copy } => Cell::BlockWord {
             address: frame + 2 + copy,
         },
@@ -75,10 +75,10 @@ pub fn cell_at(seat: &Seat, victim: u32, point: Point) -> Cell
 }
 
 /// How it is read.
-pub fn reading_at(point: Point) -> Reading
-    ensures { result ≡ reading_at point }
+pub fn reading_at(point: &Point) -> Reading
+    ensures { result ≡ reading_at point.now }
 {
-    match point {
+    match *point {
         Point::Header { .. }
         | Point::PushOrder { .. }
         | Point::Target { .. }
@@ -115,12 +115,12 @@ pub fn reading_at(point: Point) -> Reading
 }
 
 /// Whether the word of a load is there.
-fn point_there(shape: &Shape, seat: &Seat, point: Point) -> bool
+fn point_there(shape: &Shape, seat: &Seat, point: &Point) -> bool
     requires seat { IsSeat shape.now seat.now }
-    requires point { IsPoint point }
-    ensures { result ≡ point_is_there shape.now seat.now point }
+    requires point { IsPoint point.now }
+    ensures { result ≡ point_is_there shape.now seat.now point.now }
 {
-    match point {
+    match *point {
         Point::SeekHolder => true,
         _ => cell_is_there(shape, cell_at(seat, 0, point)),
     }
@@ -147,30 +147,18 @@ pub fn begun(frame: u32, bottom: u32) -> Restart
 }
 
 /// Whether what a row asks next is there.
-fn then_there(shape: &Shape, seat: &Seat, next: Then) -> bool
+pub fn then_there(shape: &Shape, seat: &Seat, next: &Then) -> bool
     requires seat { IsSeat shape.now seat.now }
-    requires next { IsThen next }
-    ensures { result ≡ then_is_there shape.now seat.now next }
+    requires next { IsThen next.now }
+    ensures { result ≡ then_is_there shape.now seat.now next.now }
 {
     match next {
         Then::Load(point) => point_there(shape, seat, point),
-        Then::Install(restart) => restart_there(shape, restart),
-        Then::Fork { block } => restart_there(shape, forked(seat, block)),
-        Then::Begin { frame, bottom, .. } => restart_there(shape, begun(frame, bottom)),
-        Then::Move { place } => place < shape.processors,
+        Then::Install(restart) => restart_there(shape, *restart),
+        Then::Fork { block } => restart_there(shape, forked(seat, *block)),
+        Then::Begin { frame, bottom, .. } => restart_there(shape, begun(*frame, *bottom)),
+        Then::Move { place } => *place < shape.processors,
         Then::Enter { .. } | Then::Again | Then::Broken => false,
-    }
-}
-
-/// The same of a whole row.
-pub fn row_there(shape: &Shape, seat: &Seat, row: Row) -> bool
-    requires seat { IsSeat shape.now seat.now }
-    requires row { IsRow row }
-    ensures { result ≡ row_is_there shape.now seat.now row }
-{
-    match row {
-        Row::Now(next) => then_there(shape, seat, next),
-        Row::Store { cell, .. } | Row::Exchange { cell, .. } => cell_is_there(shape, cell),
     }
 }
 
@@ -186,58 +174,58 @@ fn install(shape: &Shape, seat: &Seat, restart: Restart) -> Want
 }
 
 /// The word step of what follows.
-fn want_then(shape: &Shape, seat: &Seat, victim: u32, next: Then) -> Want
+fn want_then(shape: &Shape, seat: &Seat, victim: u32, next: &Then) -> Want
     requires seat { IsSeat shape.now seat.now }
     requires victim { victim < shape.now.processors }
-    requires next { IsThen next }
-    requires there { then_is_there shape.now seat.now next ≡ true }
-    ensures value { result ≡ wanted_then shape.now seat.now victim next }
+    requires next { IsThen next.now }
+    requires there { then_is_there shape.now seat.now next.now ≡ true }
+    ensures value { result ≡ wanted_then shape.now seat.now victim next.now }
     ensures within { WantIsWithin shape.now result }
 {
     match next {
         Then::Load(point) => Want::Loads(load_address(shape, seat, victim, point)),
-        Then::Install(restart) => install(shape, seat, restart),
-        Then::Fork { block } => install(shape, seat, forked(seat, block)),
-        Then::Begin { frame, bottom, .. } => install(shape, seat, begun(frame, bottom)),
+        Then::Install(restart) => install(shape, seat, *restart),
+        Then::Fork { block } => install(shape, seat, forked(seat, *block)),
+        Then::Begin { frame, bottom, .. } => install(shape, seat, begun(*frame, *bottom)),
         Then::Move { place } => {
             let cell = Cell::CarryWord {
                 processor: seat.own,
             };
-            Want::Stores(address(shape, cell), u64::from(place))
+            Want::Stores(address(shape, cell), u64::from(*place))
         }
         Then::Enter { .. } | Then::Again | Then::Broken => Want::Nothing,
     }
 }
 
 /// The address of a load.
-fn load_address(shape: &Shape, seat: &Seat, victim: u32, point: Point) -> u32
+fn load_address(shape: &Shape, seat: &Seat, victim: u32, point: &Point) -> u32
     requires seat { IsSeat shape.now seat.now }
     requires victim { victim < shape.now.processors }
-    requires point { IsPoint point }
-    requires there { point_is_there shape.now seat.now point ≡ true }
-    ensures value { result ≡ address shape.now (cell_at seat.now victim point) }
+    requires point { IsPoint point.now }
+    requires there { point_is_there shape.now seat.now point.now ≡ true }
+    ensures value { result ≡ address shape.now (cell_at seat.now victim point.now) }
     ensures within { result < word_count shape.now }
 {
-    match point {
+    match *point {
         Point::SeekHolder => address(shape, Cell::HolderWord { place: victim }),
         _ => address(shape, cell_at(seat, victim, point)),
     }
 }
 
 /// The word step that comes next in a row.
-pub fn want_row(shape: &Shape, seat: &Seat, victim: u32, row: Row) -> Want
+pub fn want_row(shape: &Shape, seat: &Seat, victim: u32, row: &Row) -> Want
     requires seat { IsSeat shape.now seat.now }
     requires victim { victim < shape.now.processors }
-    requires row { IsRow row }
-    requires there { row_is_there shape.now seat.now row ≡ true }
-    ensures value { result ≡ wanted_row shape.now seat.now victim row }
+    requires row { IsRow row.now }
+    requires there { row_is_there shape.now seat.now row.now ≡ true }
+    ensures value { result ≡ wanted_row shape.now seat.now victim row.now }
     ensures within { WantIsWithin shape.now result }
 {
     match row {
         Row::Now(next) => want_then(shape, seat, victim, next),
-        Row::Store { cell, content, .. } => Want::Stores(address(shape, cell), content.word()),
+        Row::Store { cell, content, .. } => Want::Stores(address(shape, *cell), content.word()),
         Row::Exchange { cell, old, new, .. } => {
-            Want::Exchanges(address(shape, cell), old.word(), new.word())
+            Want::Exchanges(address(shape, *cell), old.word(), new.word())
         }
     }
 }

@@ -249,6 +249,7 @@ pub fn left_begins(block: u32, bottom: u32) -> Then
 }
 
 /// Words with which no row goes on.
+#[inline(always)]
 pub fn broken() -> Row
     ensures { result ≡ Now Broken }
 {
@@ -256,6 +257,7 @@ pub fn broken() -> Row
 }
 
 /// A load, and what it finds.
+#[inline(always)]
 pub fn load(point: Point) -> Row
     ensures { result ≡ Now (Load point) }
 {

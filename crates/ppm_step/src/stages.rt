@@ -56,14 +56,17 @@ pub fn location_cell(shape: &Shape, home: &Home, location: Location) -> Cell
 
 impl Running {
     ghost use Rattle.std.specs.Prelude.{◌≡◌, ◌<◌, ◌+◌, ℕ, true, length};
+    ghost use Rattle.ppm_code.specs.declared.act.End.TheVariants.{Next};
+    ghost use Rattle.ppm_code.specs.declared.code.CodeParts.{CodeParts};
     ghost use Rattle.ppm_cells.specs.Cells.{word_count};
     ghost use Rattle.ppm_step.specs.Frames.{Installs, installed, ending};
-    ghost use Rattle.ppm_step.specs.Facts.{IsHome, IsEnd};
+    ghost use Rattle.ppm_step.specs.declared.running.Stage.TheVariants.{Ending};
+    ghost use Rattle.ppm_step.specs.Facts.{IsHome, IsEnd, IsSeat};
     ghost use Rattle.ppm_step.specs.Standings.{rest_is_there, running, running_if, wanted_rest, went_rest, WantIsWithin};
     ghost use Rattle.ppm_step.specs.Stages.{rest_at, rest_from, asked, went_on, IsRunning, IsStage, WentOn};
 
     /// The restart of a kind at its place.
-    fn restart(&self, kind: RestartKind) -> Restart
+    pub fn restart(&self, kind: RestartKind) -> Restart
         ensures { result ≡ record { kind = kind; bottom = self.now.seat.restart.bottom } }
     {
         Restart {
@@ -73,6 +76,7 @@ impl Running {
     }
 
     /// Whether the n-th store of its end, or what it installs, is there.
+    #[inline(never)]
     fn put_is_there(&self, shape: &Shape, code: &Code, end: End, n: usize) -> bool
         requires home { IsHome self.now.home }
         requires end { IsEnd end }
@@ -84,7 +88,36 @@ impl Running {
         }
     }
 
+    /// Whether the n-th store of the end that goes on with a capsule, or what it installs, is there.
+    #[inline(always)]
+    pub fn next_is_there(&self, shape: &Shape, n: usize) -> bool
+        requires { IsHome self.now.home }
+        ensures { (code : CodeParts) (capsule : ℕ) → result ≡ rest_is_there shape.now self.now.seat (ending code self.now.home (Next capsule) n) }
+    {
+        if n == 0 {
+            self.home.header() < shape.word_count()
+        } else {
+            restart_there(shape, self.restart(self.home.goes_round()))
+        }
+    }
+
+    /// Stands before the first store of an end, and tells whether that is there.
+    #[inline(never)]
+    fn begin_end(&mut self, shape: &Shape, code: &Code, end: End) -> bool
+        requires home { IsHome self.old.home }
+        requires end { IsEnd end }
+        ensures stage { self.new.stage ≡ Ending end 0 }
+        ensures there { result ≡ rest_is_there shape.now self.old.seat (ending code.now self.old.home end 0) }
+        ensures seat { self.new.seat ≡ self.old.seat }
+        ensures home_stays { self.new.home ≡ self.old.home }
+        ensures capsule { self.new.capsule ≡ self.old.capsule }
+    {
+        self.stage = Stage::Ending(end, 0);
+        self.put_is_there(shape, code, end, 0)
+    }
+
     /// Does the register work up to the next word step, and tells whether that is there.
+    #[inline(never)]
     pub fn go_on(&mut self, shape: &Shape, code: &Code, registers: &mut [u64; 64]) -> bool
         requires home { IsHome self.old.home }
         requires place { self.old.seat.place < shape.now.processors }
@@ -97,8 +130,7 @@ impl Running {
     {
         let _ = code.parts().root;
         let Some(capsule) = code.capsule(self.capsule) else {
-            self.stage = Stage::Ending(End::Finish, 0);
-            return self.put_is_there(shape, code, End::Finish, 0);
+            return self.begin_end(shape, code, End::Finish);
         };
         let stop = reach(
             capsule.instrs.as_slice(),
@@ -108,6 +140,10 @@ impl Running {
         );
         self.next = stop.next;
         match stop.what {
+            Reached::AtEnd(End::Next { capsule }) => {
+                self.stage = Stage::Ending(End::Next { capsule }, 0);
+                self.next_is_there(shape, 0)
+            }
             Reached::Before(step) => {
                 self.stage = Stage::Before(step);
                 match step {
@@ -117,14 +153,34 @@ impl Running {
                     Step::Asks(_) => true,
                 }
             }
-            Reached::AtEnd(end) => {
-                self.stage = Stage::Ending(end, 0);
-                self.put_is_there(shape, code, end, 0)
+            Reached::AtEnd(end) => self.begin_end(shape, code, end),
+        }
+    }
+
+    /// The n-th store of an end, or of what it installs.
+    #[inline(never)]
+    fn want_put(&self, shape: &Shape, code: &Code, end: End, n: usize) -> Want
+        requires seat { IsSeat shape.now self.now.seat }
+        requires home { IsHome self.now.home }
+        requires end { IsEnd end }
+        requires there { rest_is_there shape.now self.now.seat (ending code.now self.now.home end n) ≡ true }
+        ensures value { result ≡ wanted_rest shape.now self.now.seat (ending code.now self.now.home end n) }
+        ensures within { WantIsWithin shape.now result }
+    {
+        match self.home.next_put(code, end, n) {
+            Some(put) => Want::Stores(address(shape, put.cell), put.content.word()),
+            None => {
+                let cell = Cell::RestartWord {
+                    place: self.seat.place,
+                };
+                let restart = self.restart(self.home.installed(end));
+                Want::Stores(address(shape, cell), restart_word(shape, restart))
             }
         }
     }
 
     /// The word step that comes next.
+    #[inline(always)]
     pub fn want(&self, shape: &Shape, code: &Code, registers: &[u64; 64]) -> Want
         requires { IsRunning shape.now code.now self.now registers.now }
         ensures value { result ≡ wanted_rest shape.now self.now.seat (rest_at shape.now code.now self.now self.now.stage registers.now) }
@@ -147,16 +203,16 @@ impl Running {
                     place: self.seat.place,
                 },
             )),
-            Stage::Ending(end, n) => match self.home.next_put(code, end, n) {
-                Some(put) => Want::Stores(address(shape, put.cell), put.content.word()),
-                None => {
-                    let cell = Cell::RestartWord {
-                        place: self.seat.place,
-                    };
-                    let restart = self.restart(self.home.installed(end));
-                    Want::Stores(address(shape, cell), restart_word(shape, restart))
-                }
+            Stage::Ending(End::Next { capsule }, n) => if n == 0 {
+                Want::Stores(self.home.header(), u64::from(capsule))
+            } else {
+                let cell = Cell::RestartWord {
+                    place: self.seat.place,
+                };
+                let restart = self.restart(self.home.goes_round());
+                Want::Stores(address(shape, cell), restart_word(shape, restart))
             },
+            Stage::Ending(end, n) => self.want_put(shape, code, end, n),
             Stage::Filled => {
                 let full = Finish::OutOfRoom {
                     place: self.seat.place,
@@ -167,6 +223,7 @@ impl Running {
     }
 
     /// Takes the words of its new block, if the pool has them.
+    #[inline(never)]
     fn ask(
         &mut self,
         shape: &Shape,
@@ -201,6 +258,7 @@ impl Running {
     }
 
     /// Goes on with what the word step found.
+    #[inline(always)]
     pub fn observe(
         &mut self,
         shape: &Shape,

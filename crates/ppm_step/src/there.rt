@@ -7,6 +7,7 @@ ghost use Rattle.ppm_step.specs.There.{is_there, kind_is_there, bottom_is_there,
 use ppm_cells::{Cell, Restart, RestartKind, Shape};
 
 /// Whether the cell is one of the shape's.
+#[inline(always)]
 pub fn cell_is_there(shape: &Shape, cell: Cell) -> bool
     ensures { result ≡ is_there shape.now cell }
 {
@@ -55,12 +56,25 @@ pub fn restart_there(shape: &Shape, restart: Restart) -> bool
 }
 
 /// The address of a cell that is there.
+#[inline(always)]
 pub fn address(shape: &Shape, cell: Cell) -> u32
     requires { is_there shape.now cell ≡ true }
     ensures value { result ≡ address shape.now cell }
     ensures within { result < word_count shape.now }
 {
-    shape.address(cell)
+    match cell {
+        Cell::BlockWord { address } => address,
+        Cell::FinishWord
+        | Cell::CarryWord { .. }
+        | Cell::DeadWord { .. }
+        | Cell::RestartWord { .. }
+        | Cell::MessageWord { .. }
+        | Cell::HolderWord { .. }
+        | Cell::Top { .. }
+        | Cell::RoomCounter { .. }
+        | Cell::EntryWord { .. }
+        | Cell::ArrayWord { .. } => shape.address(cell),
+    }
 }
 
 /// The word of a restart that names what is there.

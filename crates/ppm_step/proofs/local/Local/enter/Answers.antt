@@ -1,4 +1,4 @@
-use Rattle.std.proofs.Common.{◌≡◌, Bool, false, subst}
+use Rattle.std.proofs.Common.{◌≡◌, ◌∙◌, Bool, false, subst}
 use Rattle.std.specs.Prelude.{slice_get}
 use Rattle.ppm_step.specs.declared.row.Seat.{Seat}
 use Rattle.ppm_step.specs.Standings.{running_if, enters}
@@ -19,7 +19,7 @@ returns-then-go_on-clause-stands c =
 -- or is not
 pub returns-else-go_on-clause-stands : goal.returns-else-go_on-clause-stands
 returns-else-go_on-clause-stands c =
-    subst (λ (t : Seat). running_if t (rest_at c.args.shape.now c.args.code.now c.go_on.new.self c.go_on.new.self.stage c.go_on.new.registers) false
+    c.meet_broken-else-go_on.ensures.stands c.args.shape.now c.args.code.now ∙ subst (λ (t : Seat). running_if t (rest_at c.args.shape.now c.args.code.now c.go_on.new.self c.go_on.new.self.stage c.go_on.new.registers) false
     ≡ enters c.args.shape.now c.args.code.now c.args.seat c.args.seat.restart.kind (slice_get c.args.code.now.capsules c.args.number))
     c.go_on.ensures.seat
     (subst (λ (b : Bool). running_if c.go_on.new.self.seat (rest_at c.args.shape.now c.args.code.now c.go_on.new.self c.go_on.new.self.stage c.go_on.new.registers) b
