@@ -6,10 +6,10 @@ use Rattle.std.proofs.lemmas.List.Sums.{fold-append}
 use Rattle.clap.specs.Words.{App, with_rule, with_subcommand}
 use Rattle.ppm_line.specs.Application.{argument_of, command_rule, option_rule, command_application, with_commands, with_options}
 use Rattle.ppm_line.specs.declared.table.CommandRow.{CommandRow}
-use Rattle.ppm_line.specs.declared.table.NumberOption.{NumberOption}
+use Rattle.ppm_line.specs.declared.table.OptionRow.{OptionRow}
 
 -- the options up to one more are those before it and that one
-pub with_option_more : (a : App) (options : List NumberOption) (i : ℕ) (d : NumberOption) → i < length options →
+pub with_option_more : (a : App) (options : List OptionRow) (i : ℕ) (d : OptionRow) → i < length options →
     with_options a (map option_rule (take (i + 1) options))
     ≡ with_rule (with_options a (map option_rule (take i options))) (argument_of (option_rule (get_or options i d)))
 with_option_more a options i d h =

@@ -5,9 +5,12 @@ use Rattle.clap.specs.Simple.{on_top}
 use Rattle.clap.specs.declared.builder.ArgAction.TheVariants.{Set}
 use Rattle.clap.specs.declared.builder.value_parser.ValueParser.{ValueParser}
 use Rattle.clap.specs.declared.builder.value_parser.ValueParser.TheVariants as parsers
-use Rattle.ppm_line.specs.CommandLine.{CommandRule, Form, Number, Choice, AnyText, OptionRule, admitted, command_line}
+use Rattle.ppm_line.specs.CommandLine.{CommandRule, Form, Number, Choice, AnyText, OptionRule, admitted, command_line, free_text}
 use Rattle.ppm_line.specs.declared.table.CommandRow.{CommandRow}
 use Rattle.ppm_line.specs.declared.table.NumberOption.{NumberOption}
+use Rattle.ppm_line.specs.declared.table.ChoiceOption.{ChoiceOption}
+use Rattle.ppm_line.specs.declared.table.OptionRow.{OptionRow}
+use Rattle.ppm_line.specs.declared.table.OptionRow.TheVariants as row
 
 -- what clap asks of a value: to be a number in the range; of a choice and of a text it asks nothing
 abbrev pub parser_of : Form → Option ValueParser
@@ -49,8 +52,19 @@ abbrev pub ppm_application : App
 ppm_application = application_of (admitted command_line)
 
 -- the rule that a row of the source states of a number option
-abbrev pub option_rule : NumberOption → OptionRule
-option_rule o = record { name = o.name.now; form = Number o.low o.high; default = o.default.now; admitted = true }
+abbrev pub number_rule : NumberOption → OptionRule
+number_rule o = record { name = o.name.now; form = Number o.low o.high; default = o.default.now; admitted = true }
+
+-- of a choice of two words
+abbrev pub choice_rule : ChoiceOption → OptionRule
+choice_rule o =
+    record { name = o.name.now; form = Choice (o.first.now ∷ o.second.now ∷ []); default = o.first.now; admitted = true }
+
+-- of any option
+abbrev pub option_rule : OptionRow → OptionRule
+option_rule (row.Number o) = number_rule o
+option_rule (row.Choice o) = choice_rule o
+option_rule (row.Text o) = free_text o.name.now o.default.now
 
 -- and of a command
 abbrev pub command_rule : CommandRow → CommandRule

@@ -40,6 +40,10 @@ choice name first second = record {
 abbrev pub text : String → String → OptionRule
 text name default = record { name = codes name; form = AnyText; default = codes default; admitted = true }
 
+-- an option by its name and its default, whose value is any text
+abbrev pub free_text : Text → Text → OptionRule
+free_text name default = record { name = name; form = AnyText; default = default; admitted = true }
+
 -- a command with its options
 abbrev pub command : String → List OptionRule → CommandRule
 command name options = record { name = codes name; options = options; admitted = true }
@@ -116,7 +120,7 @@ command_line =
     ∷ command "serial" (turns ∷ [])
     ∷ command "code" []
     ∷ command "check" []
-    ∷ later_command "replay" (processors ∷ turns ∷ room ∷ slots ∷ takeover ∷ schedule ∷ [])
+    ∷ command "replay" (processors ∷ turns ∷ room ∷ slots ∷ takeover ∷ schedule ∷ [])
     ∷ later_command "self" (few_processors ∷ number "size" 1 4096 64 ∷ seed ∷ number "count" 0 4096 0 ∷ [])
     ∷ later_command "stop"
     (few_processors ∷ number "after" 0 268435456 0 ∷ number "room" 64 65536 16384 ∷ number "slots" 2 4096 256 ∷ schedule ∷ [])

@@ -2,10 +2,11 @@
 ghost use Rattle.std.specs.Prelude.{◌≡◌, IfOk, false, map};
 ghost use Rattle.clap.specs.Words.{app_of, rule_of};
 ghost use Rattle.clap.specs.declared.builder.command.Command.TheViews.{out-Command as fields_of};
-ghost use Rattle.ppm_line.specs.Application.{argument_of, bare_application, command_rule, option_rule};
+ghost use Rattle.ppm_line.specs.Application.{argument_of, bare_application, command_rule, number_rule, option_rule};
+ghost use Rattle.ppm_line.specs.CommandLine.{free_text};
 ghost use Rattle.ppm_line.specs.Application.{ppm_application, command_application, with_commands};
 
-use crate::table::{COMMANDS, CommandRow, NumberOption};
+use crate::table::{COMMANDS, CommandRow, NumberOption, OptionRow};
 use clap::builder::ValueParser;
 use clap::{Arg, ArgAction, Command};
 use std::alloc::{AllocError, Global};
@@ -51,8 +52,31 @@ fn subcommand<'a>(alloc: Global, command: CommandRow) -> Result<Command<'a>, All
 }
 
 /// The argument that an option is.
-fn argument<'a>(alloc: Global, option: NumberOption) -> Arg<'a>
+fn argument<'a>(alloc: Global, option: OptionRow) -> Arg<'a>
     ensures rule { rule_of result ≡ argument_of (option_rule option) }
+    ensures local { result.global ≡ false }
+{
+    match option {
+        OptionRow::Number(number) => number_argument(alloc, number),
+        OptionRow::Choice(choice) => text_argument(alloc, choice.name, choice.first),
+        OptionRow::Text(text) => text_argument(alloc, text.name, text.default),
+    }
+}
+
+/// The argument that an option is whose value is any text, as far as clap is told.
+fn text_argument<'a>(alloc: Global, name: &'static str, default: &'static str) -> Arg<'a>
+    ensures rule { rule_of result ≡ argument_of (free_text name.now default.now) }
+    ensures local { result.global ≡ false }
+{
+    Arg::new(alloc, name)
+        .long(name)
+        .action(ArgAction::Set)
+        .default_value(default)
+}
+
+/// The argument that an option is whose value is a number.
+fn number_argument<'a>(alloc: Global, option: NumberOption) -> Arg<'a>
+    ensures rule { rule_of result ≡ argument_of (number_rule option) }
     ensures local { result.global ≡ false }
 {
     Arg::new(alloc, option.name)

@@ -1,15 +1,18 @@
 //! What the words of the command line ask for.
-ghost use Rattle.std.specs.Prelude.{◌≡◌, ◌≤◌, IfSome};
+ghost use Rattle.std.specs.Prelude.{◌≡◌, ◌≤◌, IfOk, IfSome};
 ghost use Rattle.clap.specs.Words.{found_of, rows_of, subcommand_rows_of};
-ghost use Rattle.ppm_line.specs.Application.{option_rule};
-ghost use Rattle.ppm_line.specs.Words.{IsInRange, command_in, command_named as named_by, kept_in as kept, number_given};
+ghost use Rattle.ppm_line.specs.Application.{number_rule};
+ghost use Rattle.ppm_line.specs.Words.{IsInRange, command_in, command_named as named_by, plain_named, kept_in as kept, number_given};
 ghost use Rattle.ppm_line.specs.Words.{run_options as options_in, serial_options as serial_options_in};
 
-use crate::table::{NumberOption, PROCESSORS, ROOM, TURNS};
+use crate::replay::{ReplayOptions, replay_command};
+use crate::table::{NumberOption, ONE_PROCESSOR, ROOM, TURNS};
 use clap::ArgMatches;
+use ppm_words::Items;
+use std::alloc::{AllocError, Global};
 
 /// What the program is asked for.
-#[derive(Clone, Copy, Debug, PartialEq, Eq)]
+#[derive(Debug, Drop)]
 pub enum Command {
     /// To run the source that is read.
     Run(RunOptions),
@@ -19,6 +22,8 @@ pub enum Command {
     Code,
     /// To check the listing that is read for conflicts.
     Check,
+    /// To replay the source that is read, by a schedule, of which these are the bytes.
+    Replay(ReplayOptions, Items<u8>),
 }
 
 /// The options of `run`.
@@ -40,19 +45,37 @@ pub struct SerialOptions {
 }
 
 /// The command of the subcommand that was met, with its options.
-pub(crate) fn command_by(matches: &ArgMatches<'_>) -> Option<Command>
-    ensures value { result ≡ command_in (subcommand_rows_of matches.now) }
-    ensures in_range { IfSome result IsInRange }
+pub(crate) fn command_by(
+    alloc: Global,
+    matches: &ArgMatches<'_>,
+) -> Result<Option<Command>, AllocError>
+    ensures value { IfOk result (λ c. c ≡ command_in (subcommand_rows_of matches.now)) }
+    ensures in_range { IfOk result (λ c. IfSome c IsInRange) }
 {
     match matches.subcommand() {
-        Some((name, own)) => command_named(name, own),
-        None => None,
+        Some((name, own)) => command_named(alloc, name, own),
+        None => Ok(None),
     }
 }
 
 /// The command of this name, with the options in its matches.
-fn command_named(name: &str, matches: &ArgMatches<'_>) -> Option<Command>
-    ensures value { result ≡ named_by name.now (rows_of (found_of matches.now)) }
+fn command_named(
+    alloc: Global,
+    name: &str,
+    matches: &ArgMatches<'_>,
+) -> Result<Option<Command>, AllocError>
+    ensures value { IfOk result (λ c. c ≡ named_by name.now (rows_of (found_of matches.now))) }
+    ensures in_range { IfOk result (λ c. IfSome c IsInRange) }
+{
+    match name {
+        "replay" => replay_command(alloc, matches),
+        _ => Ok(plain_command(name, matches)),
+    }
+}
+
+/// The command of this name among those that have no text in them, with the options in its matches.
+fn plain_command(name: &str, matches: &ArgMatches<'_>) -> Option<Command>
+    ensures value { result ≡ plain_named name.now (rows_of (found_of matches.now)) }
     ensures in_range { IfSome result IsInRange }
 {
     match name {
@@ -69,7 +92,7 @@ fn run_options(matches: &ArgMatches<'_>) -> Option<RunOptions>
     ensures value { result ≡ options_in (rows_of (found_of matches.now)) }
     ensures in_range { IfSome result (λ o. IsInRange (Command.Run o)) }
 {
-    let processors = number_of(matches, PROCESSORS)?;
+    let processors = number_of(matches, ONE_PROCESSOR)?;
     let turns = number_of(matches, TURNS)?;
     let room = number_of(matches, ROOM)?;
     Some(RunOptions {
@@ -91,8 +114,8 @@ fn serial_options(matches: &ArgMatches<'_>) -> Option<SerialOptions>
 }
 
 /// The number of an option in the matches of its command, if its text writes one in the option's range.
-fn number_of(matches: &ArgMatches<'_>, option: NumberOption) -> Option<u32>
-    ensures value { result ≡ number_given (option_rule option) (rows_of (found_of matches.now)) }
+pub(crate) fn number_of(matches: &ArgMatches<'_>, option: NumberOption) -> Option<u32>
+    ensures value { result ≡ number_given (number_rule option) (rows_of (found_of matches.now)) }
     ensures in_range { IfSome result (λ n. (option.low ≤ n) × (n ≤ option.high)) }
 {
     let number = matches.get_one::<u32>(option.name)?;

@@ -9,11 +9,13 @@ mod application;
 mod command;
 mod laws;
 mod line;
+mod replay;
 mod table;
 
 pub use command::{Command, RunOptions, SerialOptions};
 pub use laws::any_rule_may_be_admitted;
 pub use line::read_words;
+pub use replay::{ReplayOptions, TakeoverName};
 
 #[cfg(test)]
 mod tests;

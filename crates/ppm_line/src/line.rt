@@ -17,7 +17,10 @@ pub fn read_words(alloc: Global, words: &[String]) -> Result<Option<Command>, No
 {
     let ppm = ppm_command(alloc)?;
     match ppm.try_get_matches_from(words) {
-        Ok(matches) => Ok(command_by(&matches)),
+        Ok(matches) => {
+            let command = command_by(alloc, &matches)?;
+            Ok(command)
+        }
         Err(error) => match error.kind() {
             ErrorKind::OutOfMemory => Err(NoMemory),
             _ => Ok(None),

@@ -3,11 +3,17 @@
 /// The most processors that a run may have.
 const MOST_PROCESSORS: u32 = 1;
 
+/// The most processors that a replay may have.
+const MOST_REPLAYED: u32 = 64;
+
 /// The most turns that a run may have.
 const MOST_TURNS: u32 = 268_435_456;
 
 /// The most words that the pool of a place may have.
 const MOST_ROOM: u32 = 1_048_576;
+
+/// The most entries that the deque of a place may have.
+const MOST_SLOTS: u32 = 65_536;
 
 /// A command: its name and its options.
 #[derive(Clone, Copy, Debug)]
@@ -15,7 +21,18 @@ pub(crate) struct CommandRow {
     /// Its name.
     pub(crate) name: &'static str,
     /// Its options.
-    pub(crate) options: &'static [NumberOption],
+    pub(crate) options: &'static [OptionRow],
+}
+
+/// An option of a command, by the form of its value.
+#[derive(Clone, Copy, Debug)]
+pub(crate) enum OptionRow {
+    /// One whose value is a whole number.
+    Number(NumberOption),
+    /// One whose value is one of two words.
+    Choice(ChoiceOption),
+    /// One whose value is any text.
+    Text(TextOption),
 }
 
 /// An option `--name` whose value is a whole number.
@@ -31,12 +48,40 @@ pub(crate) struct NumberOption {
     pub(crate) default: &'static str,
 }
 
-/// How many processors there are.
-pub(crate) const PROCESSORS: NumberOption = NumberOption {
+/// An option `--name` whose value is one of two words.
+#[derive(Clone, Copy, Debug)]
+pub(crate) struct ChoiceOption {
+    /// Its name, without the two hyphens.
+    pub(crate) name: &'static str,
+    /// The word that stands for the value where the option is not given.
+    pub(crate) first: &'static str,
+    /// The other word.
+    pub(crate) second: &'static str,
+}
+
+/// An option `--name` whose value is any text.
+#[derive(Clone, Copy, Debug)]
+pub(crate) struct TextOption {
+    /// Its name, without the two hyphens.
+    pub(crate) name: &'static str,
+    /// The word that stands for the value where the option is not given.
+    pub(crate) default: &'static str,
+}
+
+/// How many processors there are in a run.
+pub(crate) const ONE_PROCESSOR: NumberOption = NumberOption {
     name: "processors",
     low: 1,
     high: MOST_PROCESSORS,
     default: "1",
+};
+
+/// How many processors there are in a replay.
+pub(crate) const PROCESSORS: NumberOption = NumberOption {
+    name: "processors",
+    low: 1,
+    high: MOST_REPLAYED,
+    default: "4",
 };
 
 /// How many turns there are.
@@ -55,15 +100,40 @@ pub(crate) const ROOM: NumberOption = NumberOption {
     default: "65536",
 };
 
+/// How many entries the deque of a place has.
+pub(crate) const SLOTS: NumberOption = NumberOption {
+    name: "slots",
+    low: 2,
+    high: MOST_SLOTS,
+    default: "4096",
+};
+
+/// What is taken over of a processor that stopped for ever.
+pub(crate) const TAKEOVER: ChoiceOption = ChoiceOption {
+    name: "takeover",
+    first: "place",
+    second: "entry",
+};
+
+/// The schedule of acts.
+pub(crate) const SCHEDULE: TextOption = TextOption {
+    name: "schedule",
+    default: "none",
+};
+
 /// The commands.
-pub(crate) const COMMANDS: [CommandRow; 4] = [
+pub(crate) const COMMANDS: [CommandRow; 5] = [
     CommandRow {
         name: "run",
-        options: &[PROCESSORS, TURNS, ROOM],
+        options: &[
+            OptionRow::Number(ONE_PROCESSOR),
+            OptionRow::Number(TURNS),
+            OptionRow::Number(ROOM),
+        ],
     },
     CommandRow {
         name: "serial",
-        options: &[TURNS],
+        options: &[OptionRow::Number(TURNS)],
     },
     CommandRow {
         name: "code",
@@ -72,5 +142,16 @@ pub(crate) const COMMANDS: [CommandRow; 4] = [
     CommandRow {
         name: "check",
         options: &[],
+    },
+    CommandRow {
+        name: "replay",
+        options: &[
+            OptionRow::Number(PROCESSORS),
+            OptionRow::Number(TURNS),
+            OptionRow::Number(ROOM),
+            OptionRow::Number(SLOTS),
+            OptionRow::Choice(TAKEOVER),
+            OptionRow::Text(SCHEDULE),
+        ],
     },
 ];

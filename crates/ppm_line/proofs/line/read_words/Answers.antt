@@ -7,10 +7,10 @@ use Rattle.ppm_line.proofs.line.read_words.Goals as goal
 pub returns-in-Ok-clause-value : goal.returns-in-Ok-clause-value
 returns-in-Ok-clause-value c =
     given _ _ _ _ c.in_ok-ppm.ensures (c.in-Ok.ensures.kinds (ap is_simple_and_free c.in_ok-ppm.ensures ∙ ppm_is_free))
-    (c.in-Ok.ensures.matches (ap is_simple c.in_ok-ppm.ensures ∙ ppm_is_simple)).1 c.command_by.ensures.value
+    (c.in-Ok.ensures.matches (ap is_simple c.in_ok-ppm.ensures ∙ ppm_is_simple)).1 c.in_ok-command-in-Ok.ensures.value
 
 pub returns-in-Ok-clause-in_range : goal.returns-in-Ok-clause-in_range
-returns-in-Ok-clause-in_range c = c.command_by.ensures.in_range
+returns-in-Ok-clause-in_range c = c.in_ok-command-in-Ok.ensures.in_range
 
 -- an error other than want of memory is a fault of the words
 pub returns-clause-value : goal.returns-clause-value
