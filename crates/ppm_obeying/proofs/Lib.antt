@@ -4,3 +4,8 @@ pub mod DoesLemmas
 pub mod ReadyLemmas
 pub mod ListLemmas
 pub mod SampleLemmas
+pub mod PlannedLemmas
+pub mod LoadingLemmas
+pub mod ReplayLemmas
+pub mod OneReplay
+pub mod OfReplay
