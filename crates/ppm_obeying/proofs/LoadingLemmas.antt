@@ -77,6 +77,20 @@ module _ (sizes : Sizes) where
     pub begins_turns : (m : Situation) → Begins sizes t keeper m → m.turns ≡ 0
     begins_turns m b = ap (λ (x : Situation). x.turns) b.loads
 
+    -- a machine that was loaded from the image of the program's code and input
+    pub begins : (code : CodeParts) (input : List NamedArray) (count : ℕ) (shape : Shape) (image : Image) (m : Situation)
+        → code ≡ code_of t → input ≡ initial_arrays t → count ≡ value_count input → HasShape sizes count shape
+        → IsImageOf code input shape keeper image → m ≡ loaded image.shape code image.lengths image.words → Begins sizes t keeper m
+    begins code input count shape image m is_code is_input counted has opens loads = record {
+      shape = shape;
+      sized = subst (λ (n : ℕ). HasShape sizes n shape) (counted ∙ ap (λ (i : List NamedArray). value_count i) is_input) has;
+      image = image;
+      opens = subst (λ (i : List NamedArray). IsImageOf (code_of t) i shape keeper image) is_input
+          (subst (λ (c : CodeParts). IsImageOf c input shape keeper image) is_code opens);
+      loads = loads ∙ ap (λ (s : Shape). loaded s code image.lengths image.words) opens.shape_is
+          ∙ ap (λ (c : CodeParts). loaded shape c image.lengths image.words) is_code;
+    }
+
     -- two of them are one
     pub one_beginning : ImagesAreOne → (m n : Situation) → Begins sizes t keeper m → Begins sizes t keeper n → m ≡ n
     one_beginning images m n b c =

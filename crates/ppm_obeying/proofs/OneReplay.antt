@@ -26,7 +26,7 @@ use Rattle.ppm_obeying.specs.Says.{answer_in}
 use Rattle.ppm_obeying.specs.Schedules.{followed}
 use Rattle.ppm_obeying.specs.Replays.{sizes_of, ProgramHas, TextHas, HaveOneAnswer}
 use Rattle.ppm_obeying.proofs.LoadingLemmas.{one_beginning, some_beginning}
-use Rattle.ppm_obeying.proofs.PlannedLemmas.{AreAnswers, one_answer}
+use Rattle.ppm_obeying.proofs.PlannedLemmas.{one_answer, some_answer}
 use Rattle.ppm_obeying.proofs.ReplayLemmas.{replayed_sizes, of_text, plain}
 
 -- what the crates below show of every text, every image and every schedule
@@ -111,6 +111,11 @@ module _ (laws : Laws) (options : ReplayOptions) where
 
 -- so it is with all options and all schedules
 pub have_one_answer : Laws → HaveOneAnswer
-have_one_answer laws options schedule are =
-    one_answer schedule_form schedule options.processors (TextHas options) text_limit laws.plans.schedules
-    (record { one = one laws options; some = some laws options are schedule; front = front laws options; plain = plain options })
+have_one_answer laws = record {
+  one = λ options schedule.
+      one_answer schedule_form schedule options.processors (TextHas options) text_limit laws.plans.schedules
+      (record { one = one laws options; front = front laws options; plain = plain options });
+  some = λ options schedule are.
+      some_answer schedule_form schedule options.processors (TextHas options) text_limit laws.plans.schedules (plain options)
+      (some laws options are schedule);
+}

@@ -24,7 +24,7 @@ use Rattle.ppm_answers.proofs.Delivered.{written, write_failed, own_or_fault}
 use Rattle.ppm_answers.proofs.Judged as judged
 use Rattle.ppm_answers.proofs.WholeText.{whole_read}
 use Rattle.ppm_judging.specs.Refusals.{IsRefusal}
-use Rattle.ppm_obeying.specs.Planned.{IsRefusedBy, HasByItems, PlannedHas, IsUnreadIfRefused, PlannedMay, HasOneAnswer, refusal_of}
+use Rattle.ppm_obeying.specs.Planned.{IsRefusedBy, HasByItems, PlannedHas, IsUnreadIfRefused, PlannedMay, HasOneAnswer, HasSomeAnswer, refusal_of}
 
 -- a port that holds does not fail
 holds_or_fails : (p : Port) → Holds p → Fails p → ⊥
@@ -35,13 +35,16 @@ module _ {A : Type 0} (form : Form A) (plan : List ℕ) (processors : ℕ) (Has 
   abbrev pub IsPlain : Type 0
   IsPlain = (items : List A) (text : List ℕ) (number : ℕ) → ¬ Has items text (answers.PlanRefused number)
 
-  -- the answers that texts have by items: by the same items one each; a text that is not refused has one by items that may be obeyed
+  -- the answers that texts have by items: by the same items one each
   pub record AreAnswers : Type 0 where
     pub one : (items : List A) (text : List ℕ) (a b : Answer) → Has items text a → Has items text b → a ≡ b
-    pub some : (items : List A) (text : List ℕ) → IsAccepted form plan processors items → ((r : Refusal) → ¬ IsRefusal text r)
-        → (a : Answer) × Has items text a
     pub front : (items : List A) (text rest : List ℕ) (a : Answer) → limit < length text → Has items text a → Has items (text ++ rest) a
     pub plain : IsPlain
+
+  -- and a text that is not refused has one, by items that may be obeyed
+  abbrev pub IsAnswered : Type 0
+  IsAnswered = (items : List A) (text : List ℕ) → IsAccepted form plan processors items → ((r : Refusal) → ¬ IsRefusal text r)
+      → (a : Answer) × Has items text a
 
   abbrev PH : List ℕ → Answer → Type 0
   PH text a = PlannedHas form plan processors Has text a
@@ -53,9 +56,9 @@ module _ {A : Type 0} (form : Form A) (plan : List ℕ) (processors : ℕ) (Has 
   Refused number = IsRefusedBy form plan processors number
 
   -- an answer by items is one with the plan
-  lifted : AreAnswers → (text : List ℕ) (a : Answer) → HasByItems form plan processors Has text a → PH text a
-  lifted are text (answers.PlanRefused number) h = absurd (are.plain h.items text number h.has)
-  lifted are text a h = h
+  lifted : IsPlain → (text : List ℕ) (a : Answer) → HasByItems form plan processors Has text a → PH text a
+  lifted plain text (answers.PlanRefused number) h = absurd (plain h.items text number h.has)
+  lifted plain text a h = h
 
   -- and one with the plan is that the plan is refused, or one by items
   of_plan : (text : List ℕ) (a : Answer) → PH text a →
@@ -95,13 +98,13 @@ module _ {A : Type 0} (form : Form A) (plan : List ℕ) (processors : ℕ) (Has 
             are.one i.items text a b i.has (subst (λ (x : List A). Has x text b) same j.has)
 
     -- a text that is not refused has one
-    some : AreAnswers → (text : List ℕ) → ((r : Refusal) → ¬ IsRefusal text r) → (a : Answer) × PH text a
-    some are text free = go (law.some plan processors)
+    pub some_answer : IsPlain → IsAnswered → HasSomeAnswer form plan processors Has
+    some_answer plain answered text free = go (law.some plan processors)
       where
         go : SomeAccepted form plan processors ⊎ SomeRefused form plan processors → (a : Answer) × PH text a
         go (inl h) =
-            let a = are.some h.items text h.accepted free in
-            (a.0, lifted are text a.0 (record { items = h.items; accepted = h.accepted; has = a.1 }))
+            let a = answered h.items text h.accepted free in
+            (a.0, lifted plain text a.0 (record { items = h.items; accepted = h.accepted; has = a.1 }))
         go (inr h) = (
           answers.PlanRefused (number_of h.error),
           record { error = h.error; of_text = h.of_text; refused = h.refused; number_is = refl },
@@ -114,11 +117,11 @@ module _ {A : Type 0} (form : Form A) (plan : List ℕ) (processors : ℕ) (Has 
         go : ((number : ℕ) × Refused number × (a ≡ answers.PlanRefused number)) ⊎ HasByItems form plan processors Has text a
             → PH (text ++ rest) a
         go (inl (n, r, e)) = subst (PH (text ++ rest)) (sym e) r
-        go (inr i) = lifted are (text ++ rest) a
+        go (inr i) = lifted are.plain (text ++ rest) a
             (record { items = i.items; accepted = i.accepted; has = are.front i.items text rest a long i.has })
 
     pub one_answer : AreAnswers → HasOneAnswer form plan processors Has limit
-    one_answer are = record { one = one are; some = some are; front = front are }
+    one_answer are = record { one = one are; front = front are }
 
   -- where nothing was read, memory may be wanting
   pub memory_before : (source : Port) → IsUnread source → May source answers.NoMemory

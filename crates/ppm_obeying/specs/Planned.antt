@@ -45,9 +45,11 @@ module _ {A : Type 0} (form : Form A) (plan : List ℕ) (processors : ℕ) (Has 
   PlannedMay limit source (answers.PlanRefused number) = IsRefusedBy form plan processors number × IsUnread source
   PlannedMay limit source answer = JudgingMay limit PlannedHas source answer × IsUnreadIfRefused source
 
-  -- With such a plan two answers of a text are one, and a text has one where the plan is refused, and where the text is not. What stands
-  -- behind more bytes than a text may have changes none.
+  -- with such a plan two answers of a text are one, and what stands behind more bytes than a text may have changes none
   pub record HasOneAnswer (limit : ℕ) : Type 0 where
     pub one : (text : List ℕ) (a b : Answer) → PlannedHas text a → PlannedHas text b → a ≡ b
-    pub some : (text : List ℕ) → ((r : Refusal) → ¬ IsRefusal text r) → (a : Answer) × PlannedHas text a
     pub front : (text rest : List ℕ) (a : Answer) → limit < length text → PlannedHas text a → PlannedHas (text ++ rest) a
+
+  -- and a text that is not refused has one
+  abbrev pub HasSomeAnswer : Type 0
+  HasSomeAnswer = (text : List ℕ) → ((r : Refusal) → ¬ IsRefusal text r) → (a : Answer) × PlannedHas text a

@@ -16,7 +16,7 @@ use Rattle.ppm_line.specs.declared.replay.ReplayOptions.{ReplayOptions}
 use Rattle.ppm_line.specs.Words.{AreReplayed}
 use Rattle.ppm_obeying.specs.declared.loading.Sizes.{Sizes}
 use Rattle.ppm_obeying.specs.Loading.{Begins, takeover_of}
-use Rattle.ppm_obeying.specs.Planned.{PlannedHas, PlannedMay, HasOneAnswer}
+use Rattle.ppm_obeying.specs.Planned.{PlannedHas, PlannedMay, HasOneAnswer, HasSomeAnswer}
 use Rattle.ppm_obeying.specs.Says.{answer_in}
 use Rattle.ppm_obeying.specs.Schedules.{followed}
 
@@ -47,7 +47,9 @@ abbrev pub ReplayMay : ReplayOptions → (schedule : List ℕ) → Port → Answ
 ReplayMay options schedule source answer =
     PlannedMay schedule_form schedule options.processors (TextHas options) text_limit source answer
 
--- a text has one answer with all options in their ranges and all schedules
-abbrev pub HaveOneAnswer : Type 0
-HaveOneAnswer = (options : ReplayOptions) (schedule : List ℕ) → AreReplayed options
-    → HasOneAnswer schedule_form schedule options.processors (TextHas options) text_limit
+-- With all options and all schedules two answers of a text are one; with options in their ranges a text that is not refused has one.
+pub record HaveOneAnswer : Type 0 where
+  pub one : (options : ReplayOptions) (schedule : List ℕ)
+      → HasOneAnswer schedule_form schedule options.processors (TextHas options) text_limit
+  pub some : (options : ReplayOptions) (schedule : List ℕ) → AreReplayed options
+      → HasSomeAnswer schedule_form schedule options.processors (TextHas options)

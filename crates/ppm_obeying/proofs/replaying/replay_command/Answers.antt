@@ -18,4 +18,4 @@ returns-clause-rows g c told = replay_rows c.args.options c.args.schedule.now _ 
     (planned_delivered schedule_form c.args.schedule.now c.args.options.processors (TextHas c.args.options) text_limit _ _ _ refl
     c.replay_answer-answer.ensures c.deliver.ensures)
     c.have_one_answer-2.ensures.law
-    (c.have_one_answer.ensures.law c.args.options c.args.schedule.now c.requires.options)
+    (c.have_one_answer.ensures.law.one c.args.options c.args.schedule.now)
