@@ -1,101 +1,70 @@
 -- The rows of `replay`.
 use Rattle.std.proofs.Common.{◌≡◌, ◌≢◌, ◌⊎◌, ℕ, List, [], ◌∷◌}
 use Rattle.std.proofs.Common.{refl, sym, ap, ◌∙◌, subst, inl, inr}
+use Rattle.ppm_words.specs.declared.named_array.NamedArray.{NamedArray}
+use Rattle.ppm_words.specs.declared.trap.Trap.{Trap}
 use Rattle.ppm_ports.specs.Ports.{Gets}
 use Rattle.ppm_ports.specs.Outside.{Outside}
 use Rattle.ppm_text.specs.Limits.{text_limit}
 use Rattle.ppm_plan.specs.Correct.{HaveOneAnswer as PlansHaveOneAnswer}
 use Rattle.ppm_plan.specs.Forms.{schedule_form}
+use Rattle.ppm_answers.specs.declared.refusal.Refusal.{Refusal}
+use Rattle.ppm_answers.specs.declared.tally.Tally.{Tally}
 use Rattle.ppm_answers.specs.declared.answer.Answer.{Answer}
 use Rattle.ppm_answers.specs.declared.answer.Answer.TheVariants as answers
 use Rattle.ppm_answers.specs.declared.status.Status.{Status}
 use Rattle.ppm_answers.specs.declared.status.Status.TheVariants as statuses
 use Rattle.ppm_answers.specs.Statuses.{status_of}
-use Rattle.ppm_answers.specs.Texts.{unfinished_text}
+use Rattle.ppm_answers.specs.Texts.{out_text, err_text}
 use Rattle.ppm_answers.specs.Delivery.{IsWritten}
-use Rattle.ppm_answers.specs.Reading.{Answers}
+use Rattle.ppm_answers.specs.Reading.{IsUnread, ReadHas, Answers}
 use Rattle.ppm_answers.specs.Rows.{IsOneOf, GoesWell}
 use Rattle.ppm_line.specs.declared.replay.ReplayOptions.{ReplayOptions}
-use Rattle.ppm_obeying.specs.Planned.{HasOneAnswer}
-use Rattle.ppm_obeying.specs.Replays.{TextHas, ReplayHas, ReplayMay}
+use Rattle.ppm_obeying.specs.Planned.{IsRefusedBy, HasByItems, HasOneAnswer}
+use Rattle.ppm_obeying.specs.Replays.{TextHas, ReplayMay}
 use Rattle.ppm_obeying.specs.ReplayRows.{HasRead, WritesArrays, WritesTrap, WritesRefusal, WritesUnfinished, WritesSpent}
 use Rattle.ppm_obeying.specs.ReplayRows.{WritesNoRoom, WritesBroken, RefusesSchedule, ReplayRows}
 use Rattle.ppm_obeying.proofs.PlannedLemmas as planned
-use Rattle.ppm_obeying.proofs.ReplayLemmas.{IsOfReplay, of_replay}
+use Rattle.ppm_obeying.proofs.ReplayLemmas.{IsOfText, kind_of_text, plain, arrays_only, trap_only, refusal_only, never_refused, turns_only, room_only, broken_only}
+
+-- the status of a schedule that is refused is none of the others
+not_ended : statuses.WordsRefused ≢ statuses.Ended
+not_ended e = cc
+
+not_trapped : statuses.WordsRefused ≢ statuses.Trapped
+not_trapped e = cc
+
+not_refused : statuses.WordsRefused ≢ statuses.SourceRefused
+not_refused e = cc
+
+not_unfinished : statuses.WordsRefused ≢ statuses.OutOfTurns
+not_unfinished e = cc
+
+not_out_of_room : statuses.WordsRefused ≢ statuses.OutOfRoom
+not_out_of_room e = cc
+
+not_broken : statuses.WordsRefused ≢ statuses.Broken
+not_broken e = cc
 
 module _ (options : ReplayOptions) (schedule : List ℕ) (o : Outside) (status : Status)
     (a : Answers (ReplayMay options schedule o.source) o status) where
-  -- an answer of the text that was read is of few kinds
-  kind : (answer : Answer) → HasRead options schedule o answer → IsOfReplay options.turns answer
-  kind answer h = of_replay options schedule h.0 answer h.2
+  -- the text that was read has the answer by the schedule's items
+  abbrev ReadByItems : Answer → Type 0
+  ReadByItems answer = ReadHas text_limit (HasByItems schedule_form schedule options.processors (TextHas options)) o.source answer
 
-  -- an answer of status 0 is arrays
-  arrays_answer : (answer : Answer) → HasRead options schedule o answer → IsOfReplay options.turns answer
-      → IsWritten o.out o.err answer status → status ≡ statuses.Ended → WritesArrays options schedule o
-  arrays_answer (answers.EndedWith arrays tally) h k w e = (arrays, tally, h, w.out_takes.0)
-  arrays_answer (answers.Ended arrays) h k w e = absurd k
-  arrays_answer (answers.Listed listing) h k w e = absurd k
-  arrays_answer answers.Accepted h k w e = absurd k
-  arrays_answer answer h k w e = let own = w.own in cc
-
-  -- of status 1 a trap
-  trap_answer : (answer : Answer) → HasRead options schedule o answer → IsOfReplay options.turns answer
-      → IsWritten o.out o.err answer status → status ≡ statuses.Trapped → WritesTrap options schedule o
-  trap_answer (answers.TrappedWith t line tally) h k w e = (t, line, tally, h, w.out_takes.0)
-  trap_answer (answers.Trapped t line) h k w e = absurd k
-  trap_answer answer h k w e = let own = w.own in cc
-
-  -- of status 2 a refusal
-  refusal_answer : (answer : Answer) → HasRead options schedule o answer → IsWritten o.out o.err answer status
-      → status ≡ statuses.SourceRefused → WritesRefusal options schedule o
-  refusal_answer (answers.SourceRefused r) h w e = (r, h, w.err_takes.0)
-  refusal_answer answer h w e = let own = w.own in cc
-
-  -- of status 4 that there is no end within the acts, or a processor without turns
-  unfinished_answer : (answer : Answer) → HasRead options schedule o answer → IsOfReplay options.turns answer
-      → IsWritten o.out o.err answer status → status ≡ statuses.OutOfTurns
-      → WritesUnfinished options schedule o ⊎ WritesSpent options schedule o
-  unfinished_answer (answers.Unfinished n) h k w e = inl (
-    subst (λ (x : ℕ). HasRead options schedule o (answers.Unfinished x)) k h,
-    subst (λ (x : ℕ). Gets o.err (unfinished_text x)) k w.err_takes.0,
-  )
-  unfinished_answer (answers.OutOfTurns processor) h k w e = inr (processor, h, w.err_takes.0)
-  unfinished_answer answer h k w e = let own = w.own in cc
-
-  -- of status 5 a place without room
-  room_answer : (answer : Answer) → HasRead options schedule o answer → IsWritten o.out o.err answer status
-      → status ≡ statuses.OutOfRoom → WritesNoRoom options schedule o
-  room_answer (answers.OutOfRoom place) h w e = (place, h, w.err_takes.0)
-  room_answer answer h w e = let own = w.own in cc
-
-  -- of status 13 that the words are broken
-  broken_answer : (answer : Answer) → HasRead options schedule o answer → IsWritten o.out o.err answer status
-      → status ≡ statuses.Broken → WritesBroken options schedule o
-  broken_answer (answers.Broken place) h w e = (place, h, w.err_takes.0)
-  broken_answer answer h w e = let own = w.own in cc
-
-  -- of status 3 that the schedule is refused, which left the source unread
-  plan_answer : (answer : Answer) → HasRead options schedule o answer → IsOfReplay options.turns answer
-      → IsWritten o.out o.err answer status → status ≡ statuses.WordsRefused → RefusesSchedule options schedule o
-  plan_answer (answers.PlanRefused number) h k w e = record {
-    number = number;
-    refused = h.2;
-    unread = planned.unread schedule_form schedule options.processors (TextHas options) text_limit o.source a.answer a.cause number h.2;
-    gets = w.err_takes.0;
-  }
-  plan_answer answers.WordsRefused h k w e = absurd k
-  plan_answer answer h k w e = let own = w.own in cc
+  -- which is of few kinds
+  kind : (answer : Answer) → ReadByItems answer → IsOfText options.turns answer
+  kind answer h = kind_of_text options h.2.items h.0 answer h.2.has
 
   -- the statuses where all goes well
   abbrev Statuses : Type 0
   Statuses = IsOneOf status (statuses.Ended ∷ statuses.Trapped ∷ statuses.SourceRefused ∷ statuses.WordsRefused ∷ statuses.OutOfTurns
       ∷ statuses.OutOfRoom ∷ statuses.Broken ∷ [])
 
-  status_among : (answer : Answer) → IsOfReplay options.turns answer → status ≡ status_of answer → Statuses
+  status_among : (answer : Answer) → IsOfText options.turns answer → status ≡ status_of answer → Statuses
   status_among (answers.EndedWith arrays tally) k e = inl e
   status_among (answers.TrappedWith t line tally) k e = inr (inl e)
   status_among (answers.SourceRefused r) k e = inr (inr (inl e))
-  status_among (answers.PlanRefused number) k e = inr (inr (inr (inl e)))
   status_among (answers.Unfinished n) k e = inr (inr (inr (inr (inl e))))
   status_among (answers.OutOfTurns processor) k e = inr (inr (inr (inr (inl e))))
   status_among (answers.OutOfRoom place) k e = inr (inr (inr (inr (inr (inl e)))))
@@ -106,64 +75,135 @@ module _ (options : ReplayOptions) (schedule : List ℕ) (o : Outside) (status :
   abbrev Told : Type 0
   Told = planned.Told schedule_form schedule options.processors (TextHas options) text_limit o status a
 
-  told : status ≢ statuses.ReadFault → status ≢ statuses.WriteFault → status ≢ statuses.NoMemory → Told
-  told = planned.told schedule_form schedule options.processors (TextHas options) text_limit o status a
+  abbrev Refuses : Type 0
+  Refuses = (number : ℕ) × IsRefusedBy schedule_form schedule options.processors number × IsUnread o.source
+      × IsWritten o.out o.err (answers.PlanRefused number) status
+
+  -- the same, with the kind of the answer
+  data Says : Type 0 where
+    OfSchedule : Refuses → Says
+    OfRead : (answer : Answer) → HasRead options schedule o answer → IsOfText options.turns answer
+        → IsWritten o.out o.err answer status → Says
+
+  says : Told → Says
+  says (inl p) = OfSchedule p
+  says (inr t) = OfRead t.0
+      (planned.read_has schedule_form schedule options.processors (TextHas options) text_limit (plain options) o.source t.0 t.1) (kind t.0 t.1) t.2
+
+  said : status ≢ statuses.ReadFault → status ≢ statuses.WriteFault → status ≢ statuses.NoMemory → Says
+  said r w m = says (planned.told schedule_form schedule options.processors (TextHas options) text_limit o status a r w m)
 
   ended : status ≡ statuses.Ended → WritesArrays options schedule o
-  ended e = go (told (λ f. cc) (λ f. cc) (λ f. cc))
+  ended e = go (said (λ f. cc) (λ f. cc) (λ f. cc))
     where
-      go : Told → WritesArrays options schedule o
-      go (inl p) = let own = p.3.own in cc
-      go (inr t) = arrays_answer t.0 t.1 (kind t.0 t.1) t.2 e
+      by : (answer : Answer) → HasRead options schedule o answer → IsWritten o.out o.err answer status
+          → (arrays : List NamedArray) × (tally : Tally) × (answer ≡ answers.EndedWith arrays tally) → WritesArrays options schedule o
+      by answer h w (arrays, tally, is) = (
+        arrays,
+        tally,
+        subst (HasRead options schedule o) is h,
+        subst (λ (x : Answer). Gets o.out (out_text x)) is w.out_takes.0,
+      )
+
+      go : Says → WritesArrays options schedule o
+      go (OfSchedule p) = absurd (not_ended (sym p.3.own ∙ e))
+      go (OfRead answer h k w) = by answer h w (arrays_only options.turns answer k (sym w.own ∙ e))
 
   trapped : status ≡ statuses.Trapped → WritesTrap options schedule o
-  trapped e = go (told (λ f. cc) (λ f. cc) (λ f. cc))
+  trapped e = go (said (λ f. cc) (λ f. cc) (λ f. cc))
     where
-      go : Told → WritesTrap options schedule o
-      go (inl p) = let own = p.3.own in cc
-      go (inr t) = trap_answer t.0 t.1 (kind t.0 t.1) t.2 e
+      by : (answer : Answer) → HasRead options schedule o answer → IsWritten o.out o.err answer status
+          → (t : Trap) × (line : ℕ) × (tally : Tally) × (answer ≡ answers.TrappedWith t line tally) → WritesTrap options schedule o
+      by answer h w (t, line, tally, is) = (
+        t,
+        line,
+        tally,
+        subst (HasRead options schedule o) is h,
+        subst (λ (x : Answer). Gets o.out (out_text x)) is w.out_takes.0,
+      )
+
+      go : Says → WritesTrap options schedule o
+      go (OfSchedule p) = absurd (not_trapped (sym p.3.own ∙ e))
+      go (OfRead answer h k w) = by answer h w (trap_only options.turns answer k (sym w.own ∙ e))
 
   refused : status ≡ statuses.SourceRefused → WritesRefusal options schedule o
-  refused e = go (told (λ f. cc) (λ f. cc) (λ f. cc))
+  refused e = go (said (λ f. cc) (λ f. cc) (λ f. cc))
     where
-      go : Told → WritesRefusal options schedule o
-      go (inl p) = let own = p.3.own in cc
-      go (inr t) = refusal_answer t.0 t.1 t.2 e
+      by : (answer : Answer) → HasRead options schedule o answer → IsWritten o.out o.err answer status
+          → (r : Refusal) × (answer ≡ answers.SourceRefused r) → WritesRefusal options schedule o
+      by answer h w (r, is) = (
+        r,
+        subst (HasRead options schedule o) is h,
+        subst (λ (x : Answer). Gets o.err (err_text x)) is w.err_takes.0,
+      )
 
-  unfinished : status ≡ statuses.OutOfTurns → WritesUnfinished options schedule o ⊎ WritesSpent options schedule o
-  unfinished e = go (told (λ f. cc) (λ f. cc) (λ f. cc))
-    where
-      go : Told → WritesUnfinished options schedule o ⊎ WritesSpent options schedule o
-      go (inl p) = let own = p.3.own in cc
-      go (inr t) = unfinished_answer t.0 t.1 (kind t.0 t.1) t.2 e
-
-  out_of_room : status ≡ statuses.OutOfRoom → WritesNoRoom options schedule o
-  out_of_room e = go (told (λ f. cc) (λ f. cc) (λ f. cc))
-    where
-      go : Told → WritesNoRoom options schedule o
-      go (inl p) = let own = p.3.own in cc
-      go (inr t) = room_answer t.0 t.1 t.2 e
-
-  broken : status ≡ statuses.Broken → WritesBroken options schedule o
-  broken e = go (told (λ f. cc) (λ f. cc) (λ f. cc))
-    where
-      go : Told → WritesBroken options schedule o
-      go (inl p) = let own = p.3.own in cc
-      go (inr t) = broken_answer t.0 t.1 t.2 e
+      go : Says → WritesRefusal options schedule o
+      go (OfSchedule p) = absurd (not_refused (sym p.3.own ∙ e))
+      go (OfRead answer h k w) = by answer h w (refusal_only answer (sym w.own ∙ e))
 
   pub schedule_refused : status ≡ statuses.WordsRefused → RefusesSchedule options schedule o
-  schedule_refused e = go (told (λ f. cc) (λ f. cc) (λ f. cc))
+  schedule_refused e = go (said (λ f. cc) (λ f. cc) (λ f. cc))
     where
-      go : Told → RefusesSchedule options schedule o
-      go (inl p) = record { number = p.0; refused = p.1; unread = p.2; gets = p.3.err_takes.0 }
-      go (inr t) = plan_answer t.0 t.1 (kind t.0 t.1) t.2 e
+      go : Says → RefusesSchedule options schedule o
+      go (OfSchedule p) = record { number = p.0; refused = p.1; unread = p.2; gets = p.3.err_takes.0 }
+      go (OfRead answer h k w) = absurd (never_refused options.turns answer k (sym w.own ∙ e))
+
+  unfinished : status ≡ statuses.OutOfTurns → WritesUnfinished options schedule o ⊎ WritesSpent options schedule o
+  unfinished e = go (said (λ f. cc) (λ f. cc) (λ f. cc))
+    where
+      by : (answer : Answer) → HasRead options schedule o answer → IsWritten o.out o.err answer status
+          → (answer ≡ answers.Unfinished options.turns) ⊎ ((processor : ℕ) × (answer ≡ answers.OutOfTurns processor))
+          → WritesUnfinished options schedule o ⊎ WritesSpent options schedule o
+      by answer h w (inl only) = inl (
+        subst (HasRead options schedule o) only h,
+        subst (λ (x : Answer). Gets o.err (err_text x)) only w.err_takes.0,
+      )
+      by answer h w (inr only) = inr (
+        only.0,
+        subst (HasRead options schedule o) only.1 h,
+        subst (λ (x : Answer). Gets o.err (err_text x)) only.1 w.err_takes.0,
+      )
+
+      go : Says → WritesUnfinished options schedule o ⊎ WritesSpent options schedule o
+      go (OfSchedule p) = absurd (not_unfinished (sym p.3.own ∙ e))
+      go (OfRead answer h k w) = by answer h w (turns_only options.turns answer k (sym w.own ∙ e))
+
+  out_of_room : status ≡ statuses.OutOfRoom → WritesNoRoom options schedule o
+  out_of_room e = go (said (λ f. cc) (λ f. cc) (λ f. cc))
+    where
+      by : (answer : Answer) → HasRead options schedule o answer → IsWritten o.out o.err answer status
+          → (place : ℕ) × (answer ≡ answers.OutOfRoom place) → WritesNoRoom options schedule o
+      by answer h w (place, is) = (
+        place,
+        subst (HasRead options schedule o) is h,
+        subst (λ (x : Answer). Gets o.err (err_text x)) is w.err_takes.0,
+      )
+
+      go : Says → WritesNoRoom options schedule o
+      go (OfSchedule p) = absurd (not_out_of_room (sym p.3.own ∙ e))
+      go (OfRead answer h k w) = by answer h w (room_only answer (sym w.own ∙ e))
+
+  broken : status ≡ statuses.Broken → WritesBroken options schedule o
+  broken e = go (said (λ f. cc) (λ f. cc) (λ f. cc))
+    where
+      by : (answer : Answer) → HasRead options schedule o answer → IsWritten o.out o.err answer status
+          → (place : ℕ) × (answer ≡ answers.Broken place) → WritesBroken options schedule o
+      by answer h w (place, is) = (
+        place,
+        subst (HasRead options schedule o) is h,
+        subst (λ (x : Answer). Gets o.err (err_text x)) is w.err_takes.0,
+      )
+
+      go : Says → WritesBroken options schedule o
+      go (OfSchedule p) = absurd (not_broken (sym p.3.own ∙ e))
+      go (OfRead answer h k w) = by answer h w (broken_only answer (sym w.own ∙ e))
 
   goes_well : GoesWell o status → Statuses
-  goes_well well = go (planned.told_well schedule_form schedule options.processors (TextHas options) text_limit o status a well)
+  goes_well well = go (says (planned.told_well schedule_form schedule options.processors (TextHas options) text_limit o status a well))
     where
-      go : Told → Statuses
-      go (inl p) = inr (inr (inr (inl p.3.own)))
-      go (inr t) = status_among t.0 (kind t.0 t.1) t.2.own
+      go : Says → Statuses
+      go (OfSchedule p) = inr (inr (inr (inl p.3.own)))
+      go (OfRead answer h k w) = status_among answer k w.own
 
   pub replay_rows : PlansHaveOneAnswer → HasOneAnswer schedule_form schedule options.processors (TextHas options) text_limit
       → ReplayRows options schedule o status
@@ -176,7 +216,7 @@ module _ (options : ReplayOptions) (schedule : List ℕ) (o : Outside) (status :
     out_of_room = out_of_room;
     broken = broken;
     judged = goes_well;
-    shown = planned.shown schedule_form schedule options.processors (TextHas options) text_limit o status a law;
-    known = planned.known schedule_form schedule options.processors (TextHas options) text_limit o status a law;
+    shown = planned.shown schedule_form schedule options.processors (TextHas options) text_limit o status a (plain options) law;
+    known = planned.known schedule_form schedule options.processors (TextHas options) text_limit o status a (plain options) law;
     refuses = planned.refuses schedule_form schedule options.processors (TextHas options) text_limit o status a plans.schedules;
   }

@@ -1,5 +1,5 @@
 -- A text has one answer where it is replayed: its program begins one run, with the one keeper of the schedule.
-use Rattle.std.proofs.Common.{◌≡◌, ◌⊎◌, ◌<◌, ℕ, true, false, List, ◌++◌, length, refl, sym, ap, ◌∙◌, subst, inl, inr, arith}
+use Rattle.std.proofs.Common.{◌≡◌, ◌⊎◌, ◌<◌, ◌≤◌, ℕ, true, false, List, ◌++◌, length, refl, sym, ap, ◌∙◌, subst, inl, inr, arith}
 use Rattle.std.proofs.lemmas.Bool.{cases_lt}
 use Rattle.ppm_text.specs.Limits.{text_limit}
 use Rattle.ppm_text.proofs.LexingLemmas.{lexed_stands}
@@ -47,10 +47,10 @@ one_keeper form items k l h j = go (cases_lt k l) (cases_lt l k)
     spared_twice : (c : ℕ) → is_killed form c items ≡ false → is_killed form c items ≡ true → ⊥
     spared_twice c e f = cc
 
-    go : (k < l) ⊎ ¬ (k < l) → (l < k) ⊎ ¬ (l < k) → k ≡ l
+    go : (k < l) ⊎ (l ≤ k) → (l < k) ⊎ (k ≤ l) → k ≡ l
     go (inl less) more = absurd (spared_twice k h.spared (j.least k less))
-    go (inr not_less) (inl more) = absurd (spared_twice l j.spared (h.least l more))
-    go (inr not_less) (inr not_more) = omega (arith, not_less, not_more)
+    go (inr least) (inl more) = absurd (spared_twice l j.spared (h.least l more))
+    go (inr least) (inr most) = omega (arith, least, most)
 
 module _ (laws : Laws) (options : ReplayOptions) where
   -- a program has one answer by items

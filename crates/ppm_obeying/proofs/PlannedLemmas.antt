@@ -26,10 +26,6 @@ use Rattle.ppm_answers.proofs.WholeText.{whole_read}
 use Rattle.ppm_judging.specs.Refusals.{IsRefusal}
 use Rattle.ppm_obeying.specs.Planned.{IsRefusedBy, HasByItems, PlannedHas, IsUnreadIfRefused, PlannedMay, HasOneAnswer, HasSomeAnswer, refusal_of}
 
--- a port that holds does not fail
-holds_or_fails : (p : Port) → Holds p → Fails p → ⊥
-holds_or_fails p h f = omega (arith, h, f)
-
 module _ {A : Type 0} (form : Form A) (plan : List ℕ) (processors : ℕ) (Has : List A → List ℕ → Answer → Type 0) (limit : ℕ) where
   -- no answer of a text by items is that a plan is refused
   abbrev pub IsPlain : Type 0
@@ -74,13 +70,10 @@ module _ {A : Type 0} (form : Form A) (plan : List ℕ) (processors : ℕ) (Has 
     -- with a plan that is accepted, an answer by its items may be given
     pub by_items : IsPlain → (items : List A) → IsAccepted form plan processors items → (source : Port) (a : Answer)
         → JudgingMay limit (Has items) source a → May source a
-    by_items plain items accepted source answers.ReadFault h = (h, λ number r. absurd (apart items accepted number r))
+    by_items plain items accepted source answers.ReadFault h = (h, record { items = items; accepted = accepted })
     by_items plain items accepted source answers.NoMemory h = (h, λ number r. absurd (apart items accepted number r))
     by_items plain items accepted source (answers.PlanRefused number) h = absurd (plain items h.0 number h.2)
-    by_items plain items accepted source a h = (
-      (h.0, h.1, record { items = items; accepted = accepted; has = h.2 }),
-      λ number r. absurd (apart items accepted number r),
-    )
+    by_items plain items accepted source a h = (h.0, h.1, record { items = items; accepted = accepted; has = h.2 })
 
     -- two answers of a text are one
     one : AreAnswers → (text : List ℕ) (a b : Answer) → PH text a → PH text b → a ≡ b
@@ -136,43 +129,50 @@ module _ {A : Type 0} (form : Form A) (plan : List ℕ) (processors : ℕ) (Has 
   refused_may AllKilled r source h = (record { error = AllKilled; of_text = refl; refused = r; number_is = refl }, h)
   refused_may NoMemory r source h = memory_before source h
 
+  -- the text that was read has the answer by the plan's items
+  abbrev ReadByItems : Port → Answer → Type 0
+  ReadByItems source a = ReadHas limit (HasByItems form plan processors Has) source a
+
+  pub read_has : IsPlain → (source : Port) (a : Answer) → ReadByItems source a → ReadHas limit PH source a
+  read_has plain source a h = (h.0, h.1, lifted plain h.0 a h.2)
+
   -- an answer of the command is a read fault, want of memory, that the plan is refused, or that of the text that was read
   abbrev Cause : Port → Answer → Type 0
-  Cause source a = (a ≡ answers.ReadFault) ⊎ ((a ≡ answers.NoMemory)
-      ⊎ (((number : ℕ) × Refused number × IsUnread source × (a ≡ answers.PlanRefused number)) ⊎ ReadHas limit PH source a))
+  Cause source a = ((a ≡ answers.ReadFault) × SomeAccepted form plan processors) ⊎ ((a ≡ answers.NoMemory)
+      ⊎ (((number : ℕ) × Refused number × IsUnread source × (a ≡ answers.PlanRefused number)) ⊎ ReadByItems source a))
 
   by_cause : (source : Port) (a : Answer) → May source a → Cause source a
-  by_cause source answers.ReadFault h = inl refl
+  by_cause source answers.ReadFault h = inl (refl, h.1)
   by_cause source answers.NoMemory h = inr (inl refl)
   by_cause source (answers.PlanRefused number) h = inr (inr (inl (number, h.0, h.1, refl)))
-  by_cause source a h = inr (inr (inr h.0))
-
-  -- nothing was read where the plan is refused
-  pub unread : (source : Port) (a : Answer) → May source a → IsUnreadIfRefused form plan processors Has source
-  unread source (answers.PlanRefused number) h = λ n r. h.1
-  unread source a h = h.1
+  by_cause source a h = inr (inr (inr h))
 
   -- where an answer may come whose texts are made, out of memory may come in its place
-  memory_may : (source : Port) (a : Answer) → May source a → ¬ IsFixed a → May source answers.NoMemory
-  memory_may source a h made = go (by_cause source a h)
+  memory_may : PlansHaveOneAnswer form → (source : Port) (a : Answer) → May source a → ¬ IsFixed a → May source answers.NoMemory
+  memory_may law source a h made = go (by_cause source a h)
     where
       go : Cause source a → May source answers.NoMemory
-      go (inl e) = absurd (made (subst IsFixed (sym e) tt))
+      go (inl (e, some)) = absurd (made (subst IsFixed (sym e) tt))
       go (inr (inl e)) = absurd (made (subst IsFixed (sym e) tt))
       go (inr (inr (inl p))) = memory_before source p.2
-      go (inr (inr (inr r))) = (((r.0, r.1.whole.most, r.1.whole.front), r.1.holds), unread source a h)
+      go (inr (inr (inr r))) = (
+        ((r.0, r.1.whole.most, r.1.whole.front), r.1.holds),
+        λ number x. absurd (apart law r.2.items r.2.accepted number x),
+      )
 
   -- what was delivered of an answer of the command is the answer, or out of memory in its place
-  pub planned_delivered : (o : Outside) (a : Answer) (status : Status) → o.told_now ≡ o.told_before → May o.source a
-      → Delivers o.out o.err a status ⊎ ((¬ IsFixed a) × Delivers o.out o.err answers.NoMemory status) → Answers (May o.source) o status
-  planned_delivered o a status told h (inl d) = record { answer = a; cause = h; delivered = d; told = told }
-  planned_delivered o a status told h (inr d) =
-      record { answer = answers.NoMemory; cause = memory_may o.source a h d.0; delivered = d.1; told = told }
+  pub planned_delivered : PlansHaveOneAnswer form → (o : Outside) (a : Answer) (status : Status) → o.told_now ≡ o.told_before
+      → May o.source a → Delivers o.out o.err a status ⊎ ((¬ IsFixed a) × Delivers o.out o.err answers.NoMemory status) → Answers (May o.source) o status
+  planned_delivered law o a status told h (inl d) = record { answer = a; cause = h; delivered = d; told = told }
+  planned_delivered law o a status told h (inr d) =
+      record { answer = answers.NoMemory; cause = memory_may law o.source a h d.0; delivered = d.1; told = told }
 
   -- where the source failed, the answer is a read fault
   pub source_failed : (source : Port) (a : Answer) → May source a → ¬ Holds source → status_of a ≡ statuses.ReadFault
+  source_failed source answers.ReadFault h f = refl
+  source_failed source answers.NoMemory h f = absurd (f h.0.1)
   source_failed source (answers.PlanRefused number) h f = absurd (f h.1.holds)
-  source_failed source a h f = judged.source_failed limit PH source a h.0 f
+  source_failed source a h f = absurd (f h.1.holds)
 
   -- an answer of status 7 is a read fault, and the source failed
   pub read_fault : (source : Port) (a : Answer) → May source a → status_of a ≡ statuses.ReadFault → Fails source
@@ -183,7 +183,7 @@ module _ {A : Type 0} (form : Form A) (plan : List ℕ) (processors : ℕ) (Has 
     -- what is written: that the plan is refused, with nothing read, or an answer of the text that was read
     abbrev pub Told : Type 0
     Told = ((number : ℕ) × Refused number × IsUnread o.source × IsWritten o.out o.err (answers.PlanRefused number) status)
-        ⊎ ((answer : Answer) × ReadHas limit PH o.source answer × IsWritten o.out o.err answer status)
+        ⊎ ((answer : Answer) × ReadByItems o.source answer × IsWritten o.out o.err answer status)
 
     -- so it is at each status but those of faults and of want of memory
     pub told : status ≢ statuses.ReadFault → status ≢ statuses.WriteFault → status ≢ statuses.NoMemory → Told
@@ -193,7 +193,7 @@ module _ {A : Type 0} (form : Form A) (plan : List ℕ) (processors : ℕ) (Has 
         own = written o.out o.err a.answer status a.delivered w
 
         go : Cause o.source a.answer → Told
-        go (inl e) = absurd (r (own.own ∙ ap status_of e))
+        go (inl (e, some)) = absurd (r (own.own ∙ ap status_of e))
         go (inr (inl e)) = absurd (m (own.own ∙ ap status_of e))
         go (inr (inr (inl p))) = inl (p.0, p.1, p.2, subst (λ (x : Answer). IsWritten o.out o.err x status) p.3 own)
         go (inr (inr (inr h))) = inr (a.answer, h, own)
@@ -214,27 +214,23 @@ module _ {A : Type 0} (form : Form A) (plan : List ℕ) (processors : ℕ) (Has 
     -- where the plan is refused, nothing was read, and the status is 3, or 8 or 9
     pub refuses : PlansHaveOneAnswer form → (number : ℕ) → Refused number
         → IsUnread o.source × IsOneOf status (statuses.WordsRefused ∷ statuses.WriteFault ∷ statuses.NoMemory ∷ [])
-    refuses law number r = (left, go (own_or_fault o.out o.err a.answer status a.delivered) (by_cause o.source a.answer a.cause))
+    refuses law number r = (unread a.answer a.cause, go (own_or_fault o.out o.err a.answer status a.delivered) (by_cause o.source a.answer a.cause))
       where
-        left : IsUnread o.source
-        left = unread o.source a.answer a.cause number r
-
-        by_text : (text : List ℕ) (answer : Answer) → PH text answer → status ≡ status_of answer → status ≡ statuses.WordsRefused
-        by_text text answer h e = elim (of_plan text answer h) [
-          | inl p ↦ e ∙ ap status_of p.2
-          | inr i ↦ absurd (apart law i.items i.accepted number r)
-        ]
+        unread : (answer : Answer) → May o.source answer → IsUnread o.source
+        unread answers.ReadFault h = absurd (apart law h.1.items h.1.accepted number r)
+        unread answers.NoMemory h = h.1 number r
+        unread (answers.PlanRefused n) h = h.1
+        unread answer h = absurd (apart law h.2.items h.2.accepted number r)
 
         go : (status ≡ statuses.WriteFault) ⊎ IsWritten o.out o.err a.answer status → Cause o.source a.answer
             → IsOneOf status (statuses.WordsRefused ∷ statuses.WriteFault ∷ statuses.NoMemory ∷ [])
         go (inl f) c = inr (inl f)
-        go (inr w) (inl e) =
-            absurd (holds_or_fails o.source left.holds (read_fault o.source a.answer a.cause (ap status_of e)))
+        go (inr w) (inl (e, some)) = absurd (apart law some.items some.accepted number r)
         go (inr w) (inr (inl e)) = inr (inr (inl (w.own ∙ ap status_of e)))
         go (inr w) (inr (inr (inl p))) = inl (w.own ∙ ap status_of p.3)
-        go (inr w) (inr (inr (inr h))) = inl (by_text h.0 a.answer h.2 w.own)
+        go (inr w) (inr (inr (inr h))) = absurd (apart law h.2.items h.2.accepted number r)
 
-    module _ (law : HasOneAnswer form plan processors Has limit) where
+    module _ (plain : IsPlain) (law : HasOneAnswer form plan processors Has limit) where
       -- what a text that was read has for an answer, the whole text has
       whole : (all : List ℕ) (now : Option (List ℕ)) (text : List ℕ) (answer : Answer) → ReadsTo limit (Some all) now text
           → PH text answer → PH all answer
@@ -253,7 +249,7 @@ module _ {A : Type 0} (form : Form A) (plan : List ℕ) (processors : ℕ) (Has 
           go : Told → (answer : Answer) × PH all answer × IsWritten o.out o.err answer status
           go (inl (number, r, left, w)) = (answers.PlanRefused number, r, w)
           go (inr (answer, r, w)) =
-              (answer, whole all o.source.now r.0 answer (subst (λ l. ReadsTo limit l o.source.now r.0) e r.1.whole) r.2, w)
+              (answer, whole all o.source.now r.0 answer (subst (λ l. ReadsTo limit l o.source.now r.0) e r.1.whole) (lifted plain r.0 answer r.2), w)
 
       -- and the answer that it has is written
       pub shown : (all : List ℕ) → o.source.before ≡ Some all → GoesWell o status → (answer : Answer) → PH all answer

@@ -3,13 +3,13 @@ use Rattle.std.specs.Prelude.{◌≡◌, ℕ, ◌<◌, true, List, ◌++◌, len
 use Rattle.ppm_ports.specs.Ports.{Port}
 use Rattle.ppm_plan.specs.declared.plan_error.PlanError.{PlanError}
 use Rattle.ppm_plan.specs.declared.plan_error.PlanError.TheVariants as errors
-use Rattle.ppm_plan.specs.Correct.{is_of_text}
+use Rattle.ppm_plan.specs.Correct.{is_of_text, SomeAccepted}
 use Rattle.ppm_plan.specs.Forms.{Form}
 use Rattle.ppm_plan.specs.Refusals.{IsAccepted, IsRefused, number_of}
 use Rattle.ppm_answers.specs.declared.refusal.Refusal.{Refusal}
 use Rattle.ppm_answers.specs.declared.answer.Answer.{Answer}
 use Rattle.ppm_answers.specs.declared.answer.Answer.TheVariants as answers
-use Rattle.ppm_answers.specs.Reading.{IsUnread, JudgingMay}
+use Rattle.ppm_answers.specs.Reading.{IsUnread, ReadingMay, ReadHas}
 use Rattle.ppm_judging.specs.Refusals.{IsRefusal}
 
 -- the plan, a text of this form for so many processors, is refused by this number
@@ -40,10 +40,13 @@ module _ {A : Type 0} (form : Form A) (plan : List ℕ) (processors : ℕ) (Has 
   abbrev pub IsUnreadIfRefused : Port → Type 0
   IsUnreadIfRefused source = (number : ℕ) → IsRefusedBy form plan processors number → IsUnread source
 
-  -- the answers of a command that reads up to a limit and judges what it has read by the plan
+  -- The answers of a command that reads up to a limit and judges what it has read by the plan: that the plan is refused, and nothing was
+  -- read; want of memory; a read fault, where the plan may be obeyed; and the answer of the text that was read, by the plan's items.
   abbrev pub PlannedMay : (limit : ℕ) → Port → Answer → Type 0
   PlannedMay limit source (answers.PlanRefused number) = IsRefusedBy form plan processors number × IsUnread source
-  PlannedMay limit source answer = JudgingMay limit PlannedHas source answer × IsUnreadIfRefused source
+  PlannedMay limit source answers.NoMemory = ReadingMay limit source answers.NoMemory × IsUnreadIfRefused source
+  PlannedMay limit source answers.ReadFault = ReadingMay limit source answers.ReadFault × SomeAccepted form plan processors
+  PlannedMay limit source answer = ReadHas limit HasByItems source answer
 
   -- with such a plan two answers of a text are one, and what stands behind more bytes than a text may have changes none
   pub record HasOneAnswer (limit : ℕ) : Type 0 where

@@ -77,5 +77,6 @@ pub fn load(
     let input = program.input();
     let shape = shape_of(sizes, count_of(input.arrays()));
     let words = image(alloc, &code, input, shape, keeper)?;
-    Machine::load(alloc, words, code)
+    let machine = Machine::load(alloc, words, code)?;
+    Ok(machine)
 }

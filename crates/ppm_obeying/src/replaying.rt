@@ -121,7 +121,8 @@ fn replayed(
 {
     let mut machine = load(alloc, sizes_of(options), program, schedule.keeper())?;
     follow(&mut machine, schedule, options.turns);
-    answer_of(alloc, &machine, program.input().arrays(), options.turns)
+    let answer = answer_of(alloc, &machine, program.input().arrays(), options.turns)?;
+    Ok(answer)
 }
 
 /// The machine's sizes, as the options say them.
