@@ -11,3 +11,8 @@ pub mod DueLemmas
 pub mod LoadLemmas
 pub mod LeavingLemmas
 pub mod KeeperLemmas
+pub mod PlannedLemmas
+pub mod LoadingLemmas
+pub mod ReplayLemmas
+pub mod OneReplay
+pub mod OfReplay

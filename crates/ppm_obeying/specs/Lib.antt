@@ -3,3 +3,7 @@ pub mod Schedules
 pub mod Following
 pub mod Says
 pub mod Laws
+pub mod Loading
+pub mod Planned
+pub mod Replays
+pub mod ReplayRows

@@ -13,6 +13,7 @@ use Rattle.ppm_answers.specs.Statuses.{status_of}
 use Rattle.ppm_answers.specs.Delivery.{IsWritten}
 use Rattle.ppm_line.specs.declared.command.Command.{Command}
 use Rattle.ppm_line.specs.declared.command.Command.TheVariants as commands
+use Rattle.ppm_line.specs.declared.replay.ReplayOptions.{ReplayOptions}
 use Rattle.ppm_line.specs.Words.{command_of}
 use Rattle.ppm_checking.specs.Verdict.{CheckHas}
 use Rattle.ppm_checking.specs.Correct.{HaveOneAnswer as ListingsHaveOneAnswer}
@@ -20,6 +21,12 @@ use Rattle.ppm_checking.proofs.OfCheck.{check_rows}
 use Rattle.ppm_interpreting.specs.Outcomes.{SerialHas}
 use Rattle.ppm_interpreting.specs.Correct.{HaveOneAnswer as ProgramsHaveOneAnswer}
 use Rattle.ppm_interpreting.proofs.OfSerial.{serial_rows}
+use Rattle.ppm_plan.specs.Correct.{HaveOneAnswer as SchedulesHaveOneAnswer}
+use Rattle.ppm_plan.specs.Forms.{schedule_form}
+use Rattle.ppm_obeying.specs.ReplayRows.{RefusesSchedule}
+use Rattle.ppm_obeying.specs.Replays.{ReplayMay, TextHas, HaveOneAnswer as ReplaysHaveOneAnswer}
+use Rattle.ppm_obeying.proofs.OfReplay as of_replay
+use Rattle.ppm_obeying.proofs.PlannedLemmas as planned
 use Rattle.ppm_running.specs.Verdict.{RunHas}
 use Rattle.ppm_running.specs.Correct.{HaveOneAnswer as RunsHaveOneAnswer}
 use Rattle.ppm_running.proofs.OfRun.{run_rows}
@@ -31,7 +38,7 @@ use Rattle.ppm_showing.proofs.OfCode.{code_rows}
 use Rattle.ppm_answers.specs.Reading.{IsUnread, JudgingMay, Answers}
 use Rattle.ppm_answers.specs.Rows.{IsOneOf}
 use Rattle.ppm_top.specs.Causes.{NoCommandMay, CommandMay, IsAnswered}
-use Rattle.ppm_top.specs.Rows.{RefusesWords, ReportsFaults, WritesAccepted, ShowsByWords, ProgramRows}
+use Rattle.ppm_top.specs.Rows.{HasRefusedSchedule, RefusesWords, ReportsFaults, WritesAccepted, ShowsByWords, ProgramRows}
 use Rattle.ppm_answers.proofs.Delivered as delivered
 use Rattle.ppm_answers.proofs.Judged as judged
 
@@ -49,6 +56,13 @@ code_reports o = record {
   fails = λ answer h f. judged.source_failed text_limit CodeHas o.source answer h.has f;
 }
 
+replay_reports : (options : ReplayOptions) (schedule : List ℕ) (o : Outside) → ReportsReads o (ReplayMay options schedule o.source)
+replay_reports options schedule o = record {
+  failed = λ h. h.0.0;
+  fails = λ answer h f.
+      planned.source_failed schedule_form schedule options.processors (TextHas options) text_limit o.source answer h f;
+}
+
 none_reports : (o : Outside) → ReportsReads o (NoCommandMay o)
 none_reports o = record { failed = λ h. absurd h; fails = fails } where
   fails : (answer : Answer) → NoCommandMay o answer → ¬ Holds o.source → status_of answer ≡ statuses.ReadFault
@@ -62,6 +76,7 @@ command_reports o (Some (commands.Run options)) = judging_reports text_limit (Ru
 command_reports o (Some (commands.Serial options)) = judging_reports text_limit (SerialHas options.turns) o
 command_reports o (Some commands.Code) = code_reports o
 command_reports o (Some commands.Check) = judging_reports listing_limit CheckHas o
+command_reports o (Some (commands.Replay options schedule)) = replay_reports options schedule o
 
 -- an answer of status 7 is a read fault
 read_answer : (may : Answer → Type 0) (answer : Answer) → may answer → status_of answer ≡ statuses.ReadFault → may answers.ReadFault
@@ -90,10 +105,14 @@ reports_faults o may status reports a = record {
 faults : (words : List (List ℕ)) (o : Outside) (status : Status) → IsAnswered words o status → ReportsFaults o status
 faults words o status a = reports_faults o (CommandMay (command_of words) o) status (command_reports o (command_of words)) a
 
--- an answer of status 3 comes without a command
+-- an answer of status 3 comes without a command, or with one to replay
+abbrev pub IsReplay : Option Command → Type 0
+IsReplay command = (options : ReplayOptions) × (schedule : List ℕ) × (command ≡ Some (commands.Replay options schedule))
+
 no_command : (command : Option Command) (o : Outside) (answer : Answer) → CommandMay command o answer →
-    status_of answer ≡ statuses.WordsRefused → command ≡ None
-no_command None o answer h e = refl
+    status_of answer ≡ statuses.WordsRefused → (command ≡ None) ⊎ IsReplay command
+no_command None o answer h e = inl refl
+no_command (Some (commands.Replay options schedule)) o answer h e = inr (options, schedule, refl)
 no_command (Some (commands.Run options)) o answers.WordsRefused h e = absurd h.2.2
 no_command (Some (commands.Serial options)) o answers.WordsRefused h e = absurd h.2
 no_command (Some commands.Code) o answers.WordsRefused h e = absurd h.has.2
@@ -120,10 +139,19 @@ refuses_words words o status a = record {
   cause : command_of words ≡ None → NoCommandMay o a.answer
   cause e = subst (λ c. CommandMay c o a.answer) e a.cause
 
-  only : status ≡ statuses.WordsRefused → command_of words ≡ None
+  only : status ≡ statuses.WordsRefused → (command_of words ≡ None) ⊎ HasRefusedSchedule words o
   only e =
       let w = delivered.written o.out o.err a.answer status a.delivered (λ f. cc) in
-      no_command (command_of words) o a.answer a.cause (sym w.own ∙ e)
+      by_words (no_command (command_of words) o a.answer a.cause (sym w.own ∙ e)) where
+    refuses : (options : ReplayOptions) (schedule : List ℕ) → command_of words ≡ Some (commands.Replay options schedule) →
+        RefusesSchedule options schedule o
+    refuses options schedule c =
+        of_replay.schedule_refused options schedule o status (subst (λ x. Answers (CommandMay x o) o status) c a) e
+
+    by_words : (command_of words ≡ None) ⊎ IsReplay (command_of words) → (command_of words ≡ None) ⊎ HasRefusedSchedule words o
+    by_words (inl n) = inl n
+    by_words (inr (options, schedule, c)) =
+        inr (record { options = options; schedule = schedule; command = c; refuses = refuses options schedule c })
 
   always : (status_of a.answer ≡ statuses.WordsRefused) ⊎ (status_of a.answer ≡ statuses.NoMemory) →
       (status ≡ statuses.WriteFault) ⊎ IsWritten o.out o.err a.answer status →
@@ -138,6 +166,8 @@ pub record Laws : Type 0 where
   pub programs : ProgramsHaveOneAnswer
   pub codes : CodesHaveOneAnswer
   pub listings : ListingsHaveOneAnswer
+  pub schedules : SchedulesHaveOneAnswer
+  pub replays : ReplaysHaveOneAnswer
 
 -- a listing that `code` writes is one that `check` accepts
 accepted : (o : Outside) → WritesListing o → WritesAccepted o
@@ -165,6 +195,8 @@ program_rows laws words o status a = record {
       (subst (λ c. Answers (CommandMay c o) o status) e a);
   code = shows laws.codes words o status a;
   check = λ e. check_rows o status (subst (λ c. Answers (CommandMay c o) o status) e a) laws.listings;
+  replay = λ options schedule e. of_replay.replay_rows options schedule o status
+      (subst (λ c. Answers (CommandMay c o) o status) e a) laws.schedules (laws.replays.one options schedule);
   words_refused = refuses_words words o status a;
   faults = faults words o status a;
   nothing_on_out = delivered.nothing_on_out o.out o.err a.answer status a.delivered;

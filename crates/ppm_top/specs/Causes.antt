@@ -10,6 +10,7 @@ use Rattle.ppm_line.specs.declared.command.Command.TheVariants as commands
 use Rattle.ppm_line.specs.Words.{command_of}
 use Rattle.ppm_checking.specs.Causes.{CheckMay}
 use Rattle.ppm_interpreting.specs.Causes.{SerialMay}
+use Rattle.ppm_obeying.specs.Replays.{ReplayMay}
 use Rattle.ppm_running.specs.Causes.{RunMay}
 use Rattle.ppm_showing.specs.Causes.{CodeMay}
 
@@ -26,6 +27,7 @@ CommandMay (Some (commands.Run options)) o answer = RunMay options o answer
 CommandMay (Some (commands.Serial options)) o answer = SerialMay options.turns o answer
 CommandMay (Some commands.Code) o answer = CodeMay o answer
 CommandMay (Some commands.Check) o answer = CheckMay o answer
+CommandMay (Some (commands.Replay options schedule)) o answer = ReplayMay options schedule o.source answer
 
 -- an answer of the command that the words give was delivered
 abbrev pub IsAnswered : List (List ℕ) → Outside → Status → Type 0

@@ -11,12 +11,14 @@ use Rattle.ppm_answers.specs.Rows.{IsOneOf}
 use Rattle.ppm_line.specs.declared.command.Command.TheVariants as commands
 use Rattle.ppm_line.specs.declared.command.RunOptions.{RunOptions}
 use Rattle.ppm_line.specs.declared.command.SerialOptions.{SerialOptions}
+use Rattle.ppm_line.specs.declared.replay.ReplayOptions.{ReplayOptions}
 use Rattle.ppm_line.specs.Words.{command_of}
 use Rattle.ppm_checking.specs.Verdict.{CheckHas}
 use Rattle.ppm_checking.specs.Rows.{CheckRows}
 use Rattle.ppm_interpreting.specs.Rows.{SerialRows}
 use Rattle.ppm_running.specs.Rows.{RunRows}
 use Rattle.ppm_showing.specs.Rows.{CodeRows}
+use Rattle.ppm_obeying.specs.ReplayRows.{RefusesSchedule, ReplayRows}
 
 -- the rows of `run` hold where the words ask for a run, with these options
 abbrev pub RunsByWords : List (List ℕ) → Outside → Status → Type 0
@@ -40,9 +42,22 @@ pub record ShowsByWords (words : List (List ℕ)) (o : Outside) (status : Status
 abbrev pub ChecksByWords : List (List ℕ) → Outside → Status → Type 0
 ChecksByWords words o status = command_of words ≡ Some commands.Check → CheckRows o status
 
--- Status 3 comes only where the words give no command. Then nothing is read, and the status is 3, or 8 or 9.
+-- those of `replay` where they ask for that, with these options and this schedule
+abbrev pub ReplaysByWords : List (List ℕ) → Outside → Status → Type 0
+ReplaysByWords words o status = (options : ReplayOptions) (schedule : List ℕ) → command_of words ≡ Some (commands.Replay options schedule) →
+    ReplayRows options schedule o status
+
+-- the words ask for a replay by a schedule that is refused; then nothing is read
+pub record HasRefusedSchedule (words : List (List ℕ)) (o : Outside) : Type 0 where
+  pub options : ReplayOptions
+  pub schedule : List ℕ
+  pub command : command_of words ≡ Some (commands.Replay options schedule)
+  pub refuses : RefusesSchedule options schedule o
+
+-- Status 3 comes only where the words give no command, or ask for a replay by a schedule that is refused. Where they give no command,
+-- nothing is read, and the status is 3, or 8 or 9.
 pub record RefusesWords (words : List (List ℕ)) (o : Outside) (status : Status) : Type 0 where
-  pub only : status ≡ statuses.WordsRefused → command_of words ≡ None
+  pub only : status ≡ statuses.WordsRefused → (command_of words ≡ None) ⊎ HasRefusedSchedule words o
   pub unread : command_of words ≡ None → IsUnread o.source
   pub always : command_of words ≡ None → IsOneOf status (statuses.WordsRefused ∷ statuses.WriteFault ∷ statuses.NoMemory ∷ [])
 
@@ -67,6 +82,7 @@ pub record ProgramRows (words : List (List ℕ)) (o : Outside) (status : Status)
   pub serial : InterpretsByWords words o status
   pub code : ShowsByWords words o status
   pub check : ChecksByWords words o status
+  pub replay : ReplaysByWords words o status
   pub words_refused : RefusesWords words o status
   pub faults : ReportsFaults o status
   pub nothing_on_out : IsSilentOnOut o status

@@ -25,6 +25,11 @@ const SUM: &str =
     "array a[4]; input a = 1, 2, 3, 4;\nproc sum(mut a) { if len a > 1 { split a at len a / 2 into l, r { fork sum(l) and sum(r); \
       l[0] = l[0] + r[0]; } } }\nproc main(mut a) { call sum(a); }";
 
+/// The same of eight.
+const SUM_OF_EIGHT: &str =
+    "array a[8]; input a = 1, 2, 3, 4, 5, 6, 7, 8;\nproc sum(mut a) { if len a > 1 { split a at len a / 2 into l, r { fork sum(l) and \
+      sum(r); l[0] = l[0] + r[0]; } } }\nproc main(mut a) { call sum(a); }";
+
 /// Forks that give values.
 const FIBONACCI: &str =
     "array a[1]; proc fib(int n) { let r = n; if n > 1 { let x = 0; let y = 0; fork x = fib(n - 1) and y = fib(n - 2); r = x + y; \
@@ -225,6 +230,190 @@ fn commands_are_obeyed(rt: HostRuntime) -> Result<(), Fail> {
     Ok(())
 }
 
+/// Options of a replay, sources, and what is answered: on out where it ends, at its end or in a trap, else on err.
+const REPLAYS: [(&[&str], &str, &str, Status); 16] = [
+    (
+        &["--processors", "1"],
+        SUM,
+        "a 10 2 7 4\nforks 3 takes 3\n",
+        Status::Ended,
+    ),
+    (
+        &["--processors", "2"],
+        SUM,
+        "a 10 2 7 4\nforks 3 takes 3\n",
+        Status::Ended,
+    ),
+    (
+        &["--processors", "64", "--room", "256", "--slots", "2"],
+        SUM,
+        "a 10 2 7 4\nforks 3 takes 3\n",
+        Status::Ended,
+    ),
+    (
+        &["--processors", "2"],
+        SUM_OF_EIGHT,
+        "a 36 2 7 4 26 6 15 8\nforks 7 takes 7\n",
+        Status::Ended,
+    ),
+    (
+        &["--processors", "2", "--schedule", "0*40,1>0*60,0!s"],
+        SUM,
+        "a 10 2 7 4\nforks 3 takes 3\n",
+        Status::Ended,
+    ),
+    (
+        &[],
+        "proc main() { let x = 1; }",
+        "forks 0 takes 0\n",
+        Status::Ended,
+    ),
+    (
+        &[],
+        FIBONACCI,
+        "a 55\nforks 88 takes 88\n",
+        Status::Ended,
+    ),
+    (
+        &[],
+        EACH,
+        "a 1 5 11 19 29\nb 1 2 3 4 5\nforks 4 takes 4\n",
+        Status::Ended,
+    ),
+    (
+        &[],
+        "array a[2]; proc main(mut a) { a[2] = 1; }",
+        "trap index line 1\nforks 0 takes 0\n",
+        Status::Trapped,
+    ),
+    (
+        &[],
+        "array a[2]; proc ma",
+        "source refused: syntax 2 at 19\n",
+        Status::SourceRefused,
+    ),
+    (
+        &["--turns", "1"],
+        FIRST,
+        "unfinished after 1 turns\n",
+        Status::OutOfTurns,
+    ),
+    (
+        &["--processors", "1", "--room", "98"],
+        SUM,
+        "out of room: place 0\n",
+        Status::OutOfRoom,
+    ),
+    (
+        &["--processors", "65"],
+        SUM,
+        "words refused\n",
+        Status::WordsRefused,
+    ),
+    (
+        &["--schedule", "0,1*0"],
+        SUM,
+        "plan refused: 1\n",
+        Status::WordsRefused,
+    ),
+    (
+        &["--processors", "2", "--schedule", "0>2"],
+        SUM,
+        "plan refused: 2\n",
+        Status::WordsRefused,
+    ),
+    (
+        &["--processors", "2", "--schedule", "0!h,1!h"],
+        SUM,
+        "plan refused: 4\n",
+        Status::WordsRefused,
+    ),
+];
+
+/// Words that ask for a replay with these options.
+fn replay_words<'a>(alloc: Global, options: &[&'a str]) -> Result<Vec<&'a str>, Fail> {
+    let mut words = vec![in alloc; "ppm", "replay"]?;
+    for option in options {
+        words.push(*option)?;
+    }
+    Ok(words)
+}
+
+/// Fails unless a source is replayed so with these options.
+fn is_replayed(
+    rt: &impl Abort,
+    alloc: Global,
+    options: &[&str],
+    text: &str,
+    answer: &str,
+    status: Status,
+) -> Result<(), Fail> {
+    let words = replay_words(alloc, options)?;
+    let got = ppm_over_memory(alloc, text.as_bytes(), &words, 4096, NONE)?;
+    let (out, err) = match status {
+        Status::Ended | Status::Trapped => (answer, ""),
+        _ => ("", answer),
+    };
+    assert_eq!(rt; got.out.as_slice(), out.as_bytes(), "{text}");
+    assert_eq!(rt; got.err.as_slice(), err.as_bytes(), "{text}");
+    assert_eq!(rt; got.status, status, "{text}");
+    Ok(())
+}
+
+#[test]
+fn sources_are_replayed(rt: HostRuntime) -> Result<(), Fail> {
+    for (options, text, answer, status) in REPLAYS {
+        is_replayed(&rt, rt.alloc(), options, text, answer, status)?;
+    }
+    Ok(())
+}
+
+/// So many processors, a round of steps of all of them, what comes behind some rounds, and what may be taken over.
+const FAULTS: [(&str, &str, &str, &str); 7] = [
+    ("3", "0,1,2", "1!h", "place"),
+    ("3", "0,1,2", "0!s", "place"),
+    ("3", "0,1,2", "1!s", "entry"),
+    ("3", "0,1,2", "2!s", "place"),
+    ("3", "0,1,2", "1!h", "entry"),
+    ("4", "0,1,2,3", "1!h,2!h", "place"),
+    ("4", "0,1,2,3", "1!h,2!h", "entry"),
+];
+
+/// So many times `round`, and then `last`, with commas between them.
+fn schedule_of(alloc: Global, round: &str, times: usize, last: &str) -> Result<String, Fail> {
+    let mut text = String::new(alloc);
+    for _ in 0..times {
+        text.push_str(round)?;
+        text.push_str(",")?;
+    }
+    text.push_str(last)?;
+    Ok(text)
+}
+
+#[test]
+fn a_replay_is_the_same_with_faults_anywhere(rt: HostRuntime) -> Result<(), Fail> {
+    for (processors, round, last, takeover) in FAULTS {
+        for times in [0, 7, 52, 185, 400] {
+            let schedule = schedule_of(rt.alloc(), round, times, last)?;
+            let options = [
+                "--room",
+                "256",
+                "--slots",
+                "2",
+                "--processors",
+                processors,
+                "--takeover",
+                takeover,
+                "--schedule",
+                schedule.as_str(),
+            ];
+            let answer = "a 10 2 7 4\nforks 3 takes 3\n";
+            is_replayed(&rt, rt.alloc(), &options, SUM, answer, Status::Ended)?;
+        }
+    }
+    Ok(())
+}
+
 #[test]
 fn listings_are_checked(rt: HostRuntime) -> Result<(), Fail> {
     let alloc = rt.alloc();
@@ -355,6 +544,12 @@ fn words_are_judged_before_anything_is_read(rt: HostRuntime) -> Result<(), Fail>
         assert_eq!(rt; got.err.as_slice(), b"words refused\n".as_slice());
         assert_eq!(rt; got.read_faults, 0);
     }
+    // So it is where a schedule is refused.
+    let words = ["ppm", "replay", "--processors", "2", "--schedule", "0!h,1!h"];
+    let got = ppm_over_memory(rt.alloc(), FIRST.as_bytes(), &words, 9, reads_fail)?;
+    assert_eq!(rt; got.status, Status::WordsRefused);
+    assert_eq!(rt; got.err.as_slice(), b"plan refused: 4\n".as_slice());
+    assert_eq!(rt; got.read_faults, 0);
     Ok(())
 }
 

@@ -11,6 +11,8 @@ use ppm_answers::{Answer, Status, deliver};
 use ppm_checking::{check_command, have_one_answer as listings_have_one_answer};
 use ppm_interpreting::{have_one_answer as programs_have_one_answer, serial_command};
 use ppm_line::{Command, read_words};
+use ppm_obeying::{have_one_answer as replays_have_one_answer, replay_command};
+use ppm_plan::have_one_answer as schedules_have_one_answer;
 use ppm_ports::{Sink, Source, Watch};
 use ppm_running::{have_one_answer as runs_have_one_answer, run_command};
 use ppm_showing::{code_command, have_one_answer as codes_have_one_answer};
@@ -47,6 +49,8 @@ pub fn ppm<R, S: Source, K: Sink, E: Sink, W: Watch>(
     programs_have_one_answer();
     codes_have_one_answer();
     listings_have_one_answer();
+    schedules_have_one_answer();
+    replays_have_one_answer();
     obey(rt, alloc, words, source, out, err, watch)
 }
 
@@ -77,6 +81,14 @@ fn obey<R, S: Source, K: Sink, E: Sink, W: Watch>(
         ),
         Ok(Some(Command::Code)) => code_command(alloc, source, out, err),
         Ok(Some(Command::Check)) => check_command(alloc, source, out, err),
+        Ok(Some(Command::Replay(options, schedule))) => replay_command(
+            alloc,
+            options,
+            schedule.as_slice(),
+            source,
+            out,
+            err,
+        ),
         Ok(None) => deliver(alloc, &Answer::WordsRefused, out, err),
         Err(NoMemory) => deliver(alloc, &Answer::NoMemory, out, err),
     }

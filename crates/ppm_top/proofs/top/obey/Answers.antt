@@ -24,6 +24,12 @@ returns-in-Ok-Some-Check-clause-answers g c = by_command (map string_bytes c.arg
     (cc (c.in-Ok-Some-Check.ensures.value, c.in-Ok-Some-Check.field-0-is, c.in-Ok-Some-Check.field-0-0-is))
     (c.check_command.ensures.answers _)
 
+-- the words ask for a replay, which was answered
+pub returns-in-Ok-Some-Replay-clause-answers : goal.returns-in-Ok-Some-Replay-clause-answers
+returns-in-Ok-Some-Replay-clause-answers g c = by_command (map string_bytes c.args.words.now) _ _ (Some (commands.Replay _ _))
+    (cc (c.in-Ok-Some-Replay.ensures.value, c.in-Ok-Some-Replay.field-0-is, c.in-Ok-Some-Replay.field-0-0-is))
+    (c.replay_command.ensures.answers _)
+
 -- the words give no command, and nothing was read
 pub returns-in-Ok-None-clause-answers : goal.returns-in-Ok-None-clause-answers
 returns-in-Ok-None-clause-answers g c = by_command (map string_bytes c.args.words.now) _ _ None

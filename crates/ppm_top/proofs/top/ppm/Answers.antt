@@ -8,4 +8,6 @@ returns-clause-rows g c = program_rows (record {
   programs = c.have_one_answer-2.ensures.law;
   codes = c.have_one_answer-3.ensures.law;
   listings = c.have_one_answer-4.ensures.law;
+  schedules = c.have_one_answer-5.ensures.law;
+  replays = c.have_one_answer-6.ensures.law;
 }) _ _ _ c.obey.ensures.answers
