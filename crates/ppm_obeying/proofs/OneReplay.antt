@@ -102,8 +102,7 @@ module _ (laws : Laws) (options : ReplayOptions) where
       let within = tree_within laws.within text has.0 has.1.admitted.tree in
       let m = some_beginning (sizes_of options) has.0 accepted.keeper (replayed_sizes options are) accepted.obeyed.below within
       has.1.admitted.admitted in
-      let a : Answer = answer_in (followed m.0 items options.turns) (initial_arrays has.0) options.turns in
-      (
+      let a : Answer = answer_in (followed m.0 items options.turns) (initial_arrays has.0) options.turns in (
         a,
         of_text options items text has.0 has.1 a
             (record { keeper = accepted.keeper; spared = accepted.obeyed.kept; start = m.0; begins = m.1; says = refl }),

@@ -24,7 +24,7 @@ use Rattle.ppm_answers.proofs.Delivered.{written, write_failed, own_or_fault}
 use Rattle.ppm_answers.proofs.Judged as judged
 use Rattle.ppm_answers.proofs.WholeText.{whole_read}
 use Rattle.ppm_judging.specs.Refusals.{IsRefusal}
-use Rattle.ppm_obeying.specs.Planned.{IsRefusedBy, HasByItems, PlannedHas, IsUnreadIfRefused, PlannedMay, HasOneAnswer, HasSomeAnswer, refusal_of}
+use Rattle.ppm_obeying.specs.Planned.{IsRefusedBy, HasByItems, PlannedHas, PlannedMay, HasOneAnswer, HasSomeAnswer, refusal_of}
 
 module _ {A : Type 0} (form : Form A) (plan : List ℕ) (processors : ℕ) (Has : List A → List ℕ → Answer → Type 0) (limit : ℕ) where
   -- no answer of a text by items is that a plan is refused
