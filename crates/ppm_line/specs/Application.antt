@@ -9,6 +9,7 @@ use Rattle.ppm_line.specs.CommandLine.{CommandRule, Form, Number, Choice, AnyTex
 use Rattle.ppm_line.specs.declared.table.CommandRow.{CommandRow}
 use Rattle.ppm_line.specs.declared.table.NumberOption.{NumberOption}
 use Rattle.ppm_line.specs.declared.table.ChoiceOption.{ChoiceOption}
+use Rattle.ppm_line.specs.declared.table.TextOption.{TextOption}
 use Rattle.ppm_line.specs.declared.table.OptionRow.{OptionRow}
 use Rattle.ppm_line.specs.declared.table.OptionRow.TheVariants as row
 
@@ -53,18 +54,22 @@ ppm_application = application_of (admitted command_line)
 
 -- the rule that a row of the source states of a number option
 abbrev pub number_rule : NumberOption → OptionRule
-number_rule o = record { name = o.name.now; form = Number o.low o.high; default = o.default.now; admitted = true }
+number_rule o = record { name = o.name.now; form = Number o.low o.high; default = o.default.now }
 
 -- of a choice of two words
 abbrev pub choice_rule : ChoiceOption → OptionRule
 choice_rule o =
-    record { name = o.name.now; form = Choice (o.first.now ∷ o.second.now ∷ []); default = o.first.now; admitted = true }
+    record { name = o.name.now; form = Choice (o.first.now ∷ o.second.now ∷ []); default = o.first.now }
+
+-- of a text
+abbrev pub text_rule : TextOption → OptionRule
+text_rule o = free_text o.name.now o.default.now
 
 -- of any option
 abbrev pub option_rule : OptionRow → OptionRule
 option_rule (row.Number o) = number_rule o
 option_rule (row.Choice o) = choice_rule o
-option_rule (row.Text o) = free_text o.name.now o.default.now
+option_rule (row.Text o) = text_rule o
 
 -- and of a command
 abbrev pub command_rule : CommandRow → CommandRule

@@ -1,9 +1,9 @@
 -- The command line as a table of rules: the nine commands, their options with ranges and defaults, and which of these are admitted today.
 use Prim.Native.String.{String}
-use Rattle.std.specs.Prelude.{ℕ, Bool, true, false, List, [], ◌∷◌, codes, decimal, filter, map}
+use Rattle.std.specs.Prelude.{ℕ, Bool, true, false, List, [], ◌∷◌, codes, decimal, filter, not, nat_eq}
 use Rattle.clap.specs.Words.{Text}
 
--- what the value of an option is: a whole number from the least to the most, one of these words, or any text
+-- what the value of an option is: a whole number from the least to the most, one of these words, or any text that does not begin with a hyphen
 pub data Form : Type 0 where
   Number : ℕ → ℕ → Form
   Choice : List Text → Form
@@ -14,7 +14,6 @@ pub record OptionRule : Type 0 where
   pub name : Text
   pub form : Form
   pub default : Text
-  pub admitted : Bool
 
 -- a command: its name and its options
 pub record CommandRule : Type 0 where
@@ -25,7 +24,7 @@ pub record CommandRule : Type 0 where
 -- an option whose value is a whole number in a range, with its default
 abbrev pub number : String → ℕ → ℕ → ℕ → OptionRule
 number name low high default =
-    record { name = codes name; form = Number low high; default = decimal default; admitted = true }
+    record { name = codes name; form = Number low high; default = decimal default }
 
 -- an option whose value is one of two words, the first of which is the default
 abbrev pub choice : String → String → String → OptionRule
@@ -33,24 +32,24 @@ choice name first second = record {
   name = codes name;
   form = Choice (codes first ∷ codes second ∷ []);
   default = codes first;
-  admitted = true;
 }
 
--- an option whose value is any text, with its default
-abbrev pub text : String → String → OptionRule
-text name default = record { name = codes name; form = AnyText; default = codes default; admitted = true }
+-- a text that does not begin with a hyphen
+abbrev pub is_free_text : Text → Bool
+is_free_text [] = true
+is_free_text (c ∷ text) = not (nat_eq c 45)
 
--- an option by its name and its default, whose value is any text
+-- an option whose value is any such text, by its name and its default
 abbrev pub free_text : Text → Text → OptionRule
-free_text name default = record { name = name; form = AnyText; default = default; admitted = true }
+free_text name default = record { name = name; form = AnyText; default = default }
+
+-- the same, the two written as strings
+abbrev pub text : String → String → OptionRule
+text name default = free_text (codes name) (codes default)
 
 -- a command with its options
 abbrev pub command : String → List OptionRule → CommandRule
 command name options = record { name = codes name; options = options; admitted = true }
-
--- an option that its command does not admit yet
-abbrev pub later : OptionRule → OptionRule
-later o = record o { admitted = false }
 
 -- a command that is not admitted yet
 abbrev pub later_command : String → List OptionRule → CommandRule
@@ -112,11 +111,11 @@ idle = choice "idle" "leave" "park"
 
 -- ---- the commands
 
--- the whole command line; a word `later` is taken away where its rule is admitted
+-- the whole command line; a `later_command` becomes a `command` where it is admitted
 abbrev pub command_line : List CommandRule
 command_line =
     command "run"
-    (one_processor ∷ turns ∷ room ∷ later slots ∷ later looks ∷ later seed ∷ later faults ∷ later takeover ∷ later idle ∷ [])
+    (one_processor ∷ turns ∷ room ∷ slots ∷ looks ∷ seed ∷ faults ∷ takeover ∷ idle ∷ [])
     ∷ command "serial" (turns ∷ [])
     ∷ command "code" []
     ∷ command "check" []
@@ -128,10 +127,6 @@ command_line =
     ∷ later_command "ram" (processors ∷ turns ∷ room ∷ slots ∷ looks ∷ seed ∷ faults ∷ takeover ∷ idle ∷ [])
     ∷ []
 
--- the admitted options of a command
-abbrev pub with_admitted_options : CommandRule → CommandRule
-with_admitted_options c = record c { options = filter (λ o. o.admitted) c.options }
-
--- the admitted commands with their admitted options
+-- the admitted commands
 abbrev pub admitted : List CommandRule → List CommandRule
-admitted table = map with_admitted_options (filter (λ c. c.admitted) table)
+admitted table = filter (λ c. c.admitted) table

@@ -4,13 +4,13 @@ use Rattle.std.specs.List.{list_all, list_any}
 use Rattle.std.specs.Str.{bytes_eq}
 use Rattle.clap.specs.Words.{Text}
 use Rattle.clap.specs.ValueTests.{is_unsigned_in}
-use Rattle.ppm_line.specs.CommandLine.{CommandRule, Form, Number, Choice, AnyText}
+use Rattle.ppm_line.specs.CommandLine.{CommandRule, Form, Number, Choice, AnyText, is_free_text}
 
 -- the word is a value of this form
 abbrev pub is_value_of : Form → Text → Bool
 is_value_of (Number low high) word = is_unsigned_in low high word
 is_value_of (Choice words) word = list_any (bytes_eq word) words
-is_value_of AnyText word = true
+is_value_of AnyText word = is_free_text word
 
 -- no name stands twice
 abbrev pub are_distinct : List Text → Bool

@@ -1,12 +1,12 @@
 //! What the words of the command line ask for.
-ghost use Rattle.std.specs.Prelude.{◌≡◌, ◌≤◌, IfOk, IfSome};
+ghost use Rattle.std.specs.Prelude.{◌≡◌, IfOk, IfSome};
 ghost use Rattle.clap.specs.Words.{found_of, rows_of, subcommand_rows_of};
-ghost use Rattle.ppm_line.specs.Application.{number_rule};
-ghost use Rattle.ppm_line.specs.Words.{IsInRange, command_in, command_named as named_by, plain_named, kept_in as kept, number_given};
-ghost use Rattle.ppm_line.specs.Words.{run_options as options_in, serial_options as serial_options_in};
+ghost use Rattle.ppm_line.specs.Words.{IsInRange, command_in, command_named as named_by, serial_in};
 
+use crate::getters::number_of;
 use crate::replay::{ReplayOptions, replay_command};
-use crate::table::{NumberOption, ONE_PROCESSOR, ROOM, TURNS};
+use crate::run::{RunOptions, run_command};
+use crate::table::TURNS;
 use clap::ArgMatches;
 use ppm_words::Items;
 use std::alloc::{AllocError, Global};
@@ -14,8 +14,8 @@ use std::alloc::{AllocError, Global};
 /// What the program is asked for.
 #[derive(Debug, Drop)]
 pub enum Command {
-    /// To run the source that is read.
-    Run(RunOptions),
+    /// To run the source that is read, under a plan of faults, of which these are the bytes.
+    Run(RunOptions, Items<u8>),
     /// To interpret the source that is read.
     Serial(SerialOptions),
     /// To list the code of the source that is read.
@@ -24,17 +24,6 @@ pub enum Command {
     Check,
     /// To replay the source that is read, by a schedule, of which these are the bytes.
     Replay(ReplayOptions, Items<u8>),
-}
-
-/// The options of `run`.
-#[derive(Clone, Copy, Debug, PartialEq, Eq)]
-pub struct RunOptions {
-    /// How many processors there are: from 1 to 1, and 1 by default.
-    pub processors: u32,
-    /// How many turns each processor may spend: from 1 to 268435456, and 16777216 by default.
-    pub turns: u64,
-    /// How many words the pool of a place has: from 64 to 1048576, and 65536 by default.
-    pub room: u32,
 }
 
 /// The options of `serial`.
@@ -68,68 +57,22 @@ fn command_named(
     ensures in_range { IfOk result (λ c. IfSome c IsInRange) }
 {
     match name {
+        "run" => run_command(alloc, matches),
+        "serial" => Ok(serial_command(matches)),
+        "code" => Ok(Some(Command::Code)),
+        "check" => Ok(Some(Command::Check)),
         "replay" => replay_command(alloc, matches),
-        _ => Ok(plain_command(name, matches)),
+        _ => Ok(None),
     }
 }
 
-/// The command of this name among those that have no text in them, with the options in its matches.
-fn plain_command(name: &str, matches: &ArgMatches<'_>) -> Option<Command>
-    ensures value { result ≡ plain_named name.now (rows_of (found_of matches.now)) }
+/// The command `serial` with the options in its matches.
+fn serial_command(matches: &ArgMatches<'_>) -> Option<Command>
+    ensures value { result ≡ serial_in (rows_of (found_of matches.now)) }
     ensures in_range { IfSome result IsInRange }
 {
-    match name {
-        "run" => Some(Command::Run(run_options(matches)?)),
-        "serial" => Some(Command::Serial(serial_options(matches)?)),
-        "code" => Some(Command::Code),
-        "check" => Some(Command::Check),
-        _ => None,
-    }
-}
-
-/// The options of `run` in its matches.
-fn run_options(matches: &ArgMatches<'_>) -> Option<RunOptions>
-    ensures value { result ≡ options_in (rows_of (found_of matches.now)) }
-    ensures in_range { IfSome result (λ o. IsInRange (Command.Run o)) }
-{
-    let processors = number_of(matches, ONE_PROCESSOR)?;
     let turns = number_of(matches, TURNS)?;
-    let room = number_of(matches, ROOM)?;
-    Some(RunOptions {
-        processors,
+    Some(Command::Serial(SerialOptions {
         turns: u64::from(turns),
-        room,
-    })
-}
-
-/// The options of `serial` in its matches.
-fn serial_options(matches: &ArgMatches<'_>) -> Option<SerialOptions>
-    ensures value { result ≡ serial_options_in (rows_of (found_of matches.now)) }
-    ensures in_range { IfSome result (λ o. IsInRange (Command.Serial o)) }
-{
-    let turns = number_of(matches, TURNS)?;
-    Some(SerialOptions {
-        turns: u64::from(turns),
-    })
-}
-
-/// The number of an option in the matches of its command, if its text writes one in the option's range.
-pub(crate) fn number_of(matches: &ArgMatches<'_>, option: NumberOption) -> Option<u32>
-    ensures value { result ≡ number_given (number_rule option) (rows_of (found_of matches.now)) }
-    ensures in_range { IfSome result (λ n. (option.low ≤ n) × (n ≤ option.high)) }
-{
-    let number = matches.get_one::<u32>(option.name)?;
-    kept_in(number, option.low, option.high)
-}
-
-/// The number, if it is in the range.
-fn kept_in(number: u32, low: u32, high: u32) -> Option<u32>
-    ensures value { result ≡ kept low high number }
-    ensures in_range { IfSome result (λ n. (low ≤ n) × (n ≤ high)) }
-{
-    if low <= number && number <= high {
-        Some(number)
-    } else {
-        None
-    }
+    }))
 }

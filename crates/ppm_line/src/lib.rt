@@ -7,15 +7,18 @@
 
 mod application;
 mod command;
+mod getters;
 mod laws;
 mod line;
 mod replay;
+mod run;
 mod table;
 
-pub use command::{Command, RunOptions, SerialOptions};
+pub use command::{Command, SerialOptions};
 pub use laws::any_rule_may_be_admitted;
 pub use line::read_words;
 pub use replay::{ReplayOptions, TakeoverName};
+pub use run::{IdleName, RunOptions};
 
 #[cfg(test)]
 mod tests;

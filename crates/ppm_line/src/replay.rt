@@ -1,12 +1,12 @@
 //! The command `replay`, as its words give it.
-ghost use Rattle.std.specs.Prelude.{◌≡◌, IfOk, IfSome, option_map};
+ghost use Rattle.std.specs.Prelude.{◌≡◌, IfOk, IfSome};
 ghost use Rattle.clap.specs.Words.{found_of, rows_of};
-ghost use Rattle.ppm_line.specs.Words.{IsInRange, AreReplayed, replay_in, replay_options as options_in, takeover_given, takeover_named, text_given};
+ghost use Rattle.ppm_line.specs.Words.{AreReplayed, IsInRange, replay_in, replay_options as options_in, takeover_given};
 
-use crate::command::{Command, number_of};
+use crate::command::Command;
+use crate::getters::{bytes_of, choice_of, number_of};
 use crate::table::{PROCESSORS, ROOM, SCHEDULE, SLOTS, TAKEOVER, TURNS};
 use clap::ArgMatches;
-use ppm_words::Items;
 use std::alloc::{AllocError, Global};
 
 /// What is taken over of a processor that stopped for ever, as the words name it.
@@ -42,11 +42,8 @@ pub(crate) fn replay_command(
     ensures in_range { IfOk result (λ c. IfSome c IsInRange) }
 {
     match replay_options(matches) {
-        Some(options) => match text_of(matches, SCHEDULE.name) {
-            Some(schedule) => {
-                let bytes = schedule.as_bytes().to_vec(alloc)?;
-                Ok(Some(Command::Replay(options, Items::from_vec(bytes))))
-            }
+        Some(options) => match bytes_of(alloc, matches, SCHEDULE)? {
+            Some(schedule) => Ok(Some(Command::Replay(options, schedule))),
             None => Ok(None),
         },
         None => Ok(None),
@@ -73,27 +70,8 @@ fn replay_options(matches: &ArgMatches<'_>) -> Option<ReplayOptions>
 }
 
 /// What is taken over, if the matches name it by one of the two words.
-fn takeover_of(matches: &ArgMatches<'_>) -> Option<TakeoverName>
+pub(crate) fn takeover_of(matches: &ArgMatches<'_>) -> Option<TakeoverName>
     ensures { result ≡ takeover_given (rows_of (found_of matches.now)) }
 {
-    let word = text_of(matches, TAKEOVER.name)?;
-    named(word)
-}
-
-/// What this word names.
-fn named(word: &str) -> Option<TakeoverName>
-    ensures { result ≡ takeover_named word.now }
-{
-    match word {
-        "place" => Some(TakeoverName::Place),
-        "entry" => Some(TakeoverName::Entry),
-        _ => None,
-    }
-}
-
-/// The text of the option of this name in the matches of its command.
-fn text_of<'a>(matches: &ArgMatches<'a>, name: &str) -> Option<&'a str>
-    ensures { option_map (λ s. s.now) result ≡ text_given name.now (rows_of (found_of matches.now)) }
-{
-    matches.get_str(name)
+    choice_of(matches, TAKEOVER, TakeoverName::Place, TakeoverName::Entry)
 }

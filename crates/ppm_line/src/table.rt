@@ -15,6 +15,9 @@ const MOST_ROOM: u32 = 1_048_576;
 /// The most entries that the deque of a place may have.
 const MOST_SLOTS: u32 = 65_536;
 
+/// The most looks for work in a row.
+const MOST_LOOKS: u32 = 1_048_576;
+
 /// A command: its name and its options.
 #[derive(Clone, Copy, Debug)]
 pub(crate) struct CommandRow {
@@ -108,11 +111,40 @@ pub(crate) const SLOTS: NumberOption = NumberOption {
     default: "4096",
 };
 
+/// How many looks for work in a row a processor makes before it leaves or parks.
+pub(crate) const LOOKS: NumberOption = NumberOption {
+    name: "looks",
+    low: 1,
+    high: MOST_LOOKS,
+    default: "1000",
+};
+
+/// Where the random victims begin.
+pub(crate) const SEED: NumberOption = NumberOption {
+    name: "seed",
+    low: 0,
+    high: u32::MAX,
+    default: "1",
+};
+
+/// The plan of faults.
+pub(crate) const FAULTS: TextOption = TextOption {
+    name: "faults",
+    default: "none",
+};
+
 /// What is taken over of a processor that stopped for ever.
 pub(crate) const TAKEOVER: ChoiceOption = ChoiceOption {
     name: "takeover",
     first: "place",
     second: "entry",
+};
+
+/// What a processor does that finds no work.
+pub(crate) const IDLE: ChoiceOption = ChoiceOption {
+    name: "idle",
+    first: "leave",
+    second: "park",
 };
 
 /// The schedule of acts.
@@ -129,6 +161,12 @@ pub(crate) const COMMANDS: [CommandRow; 5] = [
             OptionRow::Number(ONE_PROCESSOR),
             OptionRow::Number(TURNS),
             OptionRow::Number(ROOM),
+            OptionRow::Number(SLOTS),
+            OptionRow::Number(LOOKS),
+            OptionRow::Number(SEED),
+            OptionRow::Text(FAULTS),
+            OptionRow::Choice(TAKEOVER),
+            OptionRow::Choice(IDLE),
         ],
     },
     CommandRow {

@@ -1,10 +1,31 @@
 //! The words that clap's documentation takes and refuses.
 use crate::{
-    Command, ReplayOptions, RunOptions, SerialOptions, TakeoverName, any_rule_may_be_admitted,
-    read_words,
+    Command, IdleName, ReplayOptions, RunOptions, SerialOptions, TakeoverName,
+    any_rule_may_be_admitted, read_words,
 };
 use std::alloc::Global;
 use std::test::Fail;
+
+/// The options of a run of which the words give none.
+const RUN: RunOptions = RunOptions {
+    processors: 1,
+    turns: 16_777_216,
+    room: 65_536,
+    slots: 4_096,
+    looks: 1_000,
+    seed: 1,
+    takeover: TakeoverName::Place,
+    idle: IdleName::Leave,
+};
+
+/// The options of a replay of which the words give none.
+const REPLAY: ReplayOptions = ReplayOptions {
+    processors: 4,
+    turns: 16_777_216,
+    room: 65_536,
+    slots: 4_096,
+    takeover: TakeoverName::Place,
+};
 
 /// A command without its texts.
 #[derive(Clone, Copy, Debug, PartialEq, Eq)]
@@ -18,7 +39,7 @@ enum Plain {
 
 fn shown(command: &Command) -> Plain {
     match command {
-        Command::Run(options) => Plain::Run(*options),
+        Command::Run(options, _) => Plain::Run(*options),
         Command::Serial(options) => Plain::Serial(*options),
         Command::Code => Plain::Code,
         Command::Check => Plain::Check,
@@ -26,7 +47,7 @@ fn shown(command: &Command) -> Plain {
     }
 }
 
-/// The command of the words behind the program's name.
+/// The command of the words.
 fn command_of_words(alloc: Global, words: &[&str]) -> Result<Option<Command>, Fail> {
     let mut given = Vec::new(alloc);
     for word in words {
@@ -35,53 +56,24 @@ fn command_of_words(alloc: Global, words: &[&str]) -> Result<Option<Command>, Fa
     Ok(read_words(alloc, &given).map_err(|_| "memory")?)
 }
 
+/// The command of this name with these words behind it.
+fn command_with(alloc: Global, name: &str, words: &[&str]) -> Result<Option<Command>, Fail> {
+    let mut all = Vec::new(alloc);
+    all.push("ppm")?;
+    all.push(name)?;
+    for word in words {
+        all.push(*word)?;
+    }
+    command_of_words(alloc, &all)
+}
+
 #[test]
 fn words_give_a_command_or_none(rt: HostRuntime) -> Result<(), Fail> {
-    let runs_with = |turns, room| {
-        Some(Plain::Run(RunOptions {
-            processors: 1,
-            turns,
-            room,
-        }))
-    };
-    let runs = runs_with(16_777_216, 65_536);
     let within = |turns| Some(Plain::Serial(SerialOptions { turns }));
-    let cases: [(&[&str], Option<Plain>); 45] = [
-        (&["ppm", "run"], runs),
-        (&["any", "run"], runs),
-        (&["ppm", "run", "--processors", "1"], runs),
-        (&["ppm", "run", "--processors=1"], runs),
-        (&["ppm", "run", "--processors", "+1"], runs),
-        (&["ppm", "run", "--processors", "001"], runs),
-        (&["ppm", "run", "--processors", "2"], None),
-        (&["ppm", "run", "--processors", "0"], None),
-        (&["ppm", "run", "--processors", "one"], None),
-        (&["ppm", "run", "--processors"], None),
-        (
-            &["ppm", "run", "--processors", "1", "--processors", "1"],
-            None,
-        ),
-        (&["ppm", "--processors", "1", "run"], None),
-        (&["ppm", "run", "--processors=-1"], None),
-        (&["ppm", "run", "--turns", "5"], runs_with(5, 65_536)),
-        (
-            &["ppm", "run", "--room", "64", "--turns=268435456"],
-            runs_with(268_435_456, 64),
-        ),
-        (
-            &["ppm", "run", "--room", "1048576"],
-            runs_with(16_777_216, 1_048_576),
-        ),
-        (&["ppm", "run", "--turns", "0"], None),
-        (&["ppm", "run", "--turns", "268435457"], None),
-        (&["ppm", "run", "--room", "63"], None),
-        (&["ppm", "run", "--room", "1048577"], None),
-        (&["ppm", "run", "--slots", "64"], None),
-        (&["ppm", "code", "--turns", "5"], None),
-        (&["ppm", "code", "x"], None),
-        (&["ppm", "serial", "--room", "64"], None),
-        (&["ppm", "run", "x"], None),
-        (&["ppm", "run", "--processors", "1", "x"], None),
+    let cases: [(&[&str], Option<Plain>); 29] = [
+        (&["ppm", "run"], Some(Plain::Run(RUN))),
+        (&["any", "run"], Some(Plain::Run(RUN))),
+        (&["ppm", "replay"], Some(Plain::Replay(REPLAY))),
         (&["ppm", "serial"], within(16_777_216)),
         (&["ppm", "serial", "--turns", "1"], within(1)),
         (&["ppm", "serial", "--turns=+0025"], within(25)),
@@ -92,84 +84,174 @@ fn words_give_a_command_or_none(rt: HostRuntime) -> Result<(), Fail> {
         (&["ppm", "serial", "--turns", "268435457"], None),
         (&["ppm", "serial", "--turns", "0"], None),
         (&["ppm", "serial", "--processors", "1"], None),
+        (&["ppm", "serial", "--room", "64"], None),
         (&["ppm", "code"], Some(Plain::Code)),
+        (&["ppm", "code", "--turns", "5"], None),
+        (&["ppm", "code", "x"], None),
         (&["ppm", "check"], Some(Plain::Check)),
         (&["ppm", "check", "x"], None),
         (&["ppm", "check", "--processors", "1"], None),
         (&["ppm", "check", "--help"], None),
         (&["ppm", "check", "check"], None),
+        (&["ppm", "--processors", "1", "run"], None),
+        (&["ppm", "run", "x"], None),
+        (&["ppm", "run", "--processors", "1", "x"], None),
+        (&["ppm", "run", "--help"], None),
         (&["ppm", "runs"], None),
         (&["ppm"], None),
         (&["ppm", "--help"], None),
-        (&["ppm", "run", "--help"], None),
         (&["ppm", "help"], None),
         (&["ppm", "--version"], None),
+        (&[], None),
     ];
     for (words, command) in cases {
         let got = command_of_words(rt.alloc(), words)?;
         assert_eq!(rt; got.as_ref().map(shown), command, "{words:?}");
     }
-    let none = command_of_words(rt.alloc(), &[])?;
-    assert_eq!(rt; none.as_ref().map(shown), None);
     Ok(())
 }
 
-/// The options of a replay with these numbers.
-fn replays(
-    processors: u32,
-    turns: u64,
-    room: u32,
-    slots: u32,
-    takeover: TakeoverName,
-) -> ReplayOptions {
-    ReplayOptions {
-        processors,
-        turns,
-        room,
-        slots,
-        takeover,
-    }
-}
-
 #[test]
-fn words_give_a_replay(rt: HostRuntime) -> Result<(), Fail> {
-    let place = TakeoverName::Place;
-    let usual = replays(4, 16_777_216, 65_536, 4_096, place);
-    let entries = replays(4, 16_777_216, 65_536, 4_096, TakeoverName::Entry);
-    let least = replays(1, 1, 64, 2, place);
-    let most = replays(64, 268_435_456, 1_048_576, 65_536, place);
-    let cases: [(&[&str], ReplayOptions, &str); 9] = [
-        (&["ppm", "replay"], usual, "none"),
-        (&["ppm", "replay", "--schedule", "none"], usual, "none"),
+fn words_give_a_run(rt: HostRuntime) -> Result<(), Fail> {
+    let least = RunOptions {
+        processors: 1,
+        turns: 1,
+        room: 64,
+        slots: 2,
+        looks: 1,
+        seed: 0,
+        takeover: TakeoverName::Entry,
+        idle: IdleName::Park,
+    };
+    let most = RunOptions {
+        processors: 1,
+        turns: 268_435_456,
+        room: 1_048_576,
+        slots: 65_536,
+        looks: 1_048_576,
+        seed: 4_294_967_295,
+        takeover: TakeoverName::Place,
+        idle: IdleName::Leave,
+    };
+    let cases: [(&[&str], RunOptions, &str); 17] = [
+        (&["--processors", "1"], RUN, "none"),
+        (&["--processors=+001"], RUN, "none"),
+        (&["--turns", "5"], RunOptions { turns: 5, ..RUN }, "none"),
+        (&["--room", "64"], RunOptions { room: 64, ..RUN }, "none"),
+        (&["--slots", "64"], RunOptions { slots: 64, ..RUN }, "none"),
+        (&["--looks", "64"], RunOptions { looks: 64, ..RUN }, "none"),
+        (&["--seed", "64"], RunOptions { seed: 64, ..RUN }, "none"),
+        (&["--seed=+007"], RunOptions { seed: 7, ..RUN }, "none"),
+        (&["--faults", "0@5s,1@9h"], RUN, "0@5s,1@9h"),
+        (&["--faults=x y"], RUN, "x y"),
+        (&["--faults="], RUN, ""),
+        (&["--takeover", "place"], RUN, "none"),
         (
-            &["ppm", "replay", "--schedule", "0*40,1>0*60,0!s"],
-            usual,
-            "0*40,1>0*60,0!s",
+            &["--takeover", "entry"],
+            RunOptions {
+                takeover: TakeoverName::Entry,
+                ..RUN
+            },
+            "none",
         ),
-        (&["ppm", "replay", "--schedule=x y"], usual, "x y"),
-        (&["ppm", "replay", "--schedule="], usual, ""),
-        (&["ppm", "replay", "--takeover", "place"], usual, "none"),
+        (&["--idle", "leave"], RUN, "none"),
         (
-            &["ppm", "replay", "--takeover=entry", "--schedule", "1!h"],
-            entries,
-            "1!h",
-        ),
-        (
-            &[
-                "ppm",
-                "replay",
-                "--processors=1",
-                "--turns=1",
-                "--room=64",
-                "--slots=2",
-            ],
-            least,
+            &["--idle=park"],
+            RunOptions {
+                idle: IdleName::Park,
+                ..RUN
+            },
             "none",
         ),
         (
             &[
-                "ppm",
-                "replay",
+                "--processors=1",
+                "--turns=1",
+                "--room=64",
+                "--slots=2",
+                "--looks=1",
+                "--seed=0",
+                "--faults=0@0s",
+                "--takeover=entry",
+                "--idle=park",
+            ],
+            least,
+            "0@0s",
+        ),
+        (
+            &[
+                "--idle",
+                "leave",
+                "--takeover",
+                "place",
+                "--seed",
+                "4294967295",
+                "--looks",
+                "1048576",
+                "--slots",
+                "65536",
+                "--room",
+                "1048576",
+                "--turns",
+                "268435456",
+            ],
+            most,
+            "none",
+        ),
+    ];
+    for (words, options, plan) in cases {
+        match command_with(rt.alloc(), "run", words)? {
+            Some(Command::Run(got, bytes)) => {
+                assert_eq!(rt; got, options, "{words:?}");
+                assert_eq!(rt; bytes.as_slice(), plan.as_bytes());
+            }
+            _ => return Err(Fail::from("another command")),
+        }
+    }
+    Ok(())
+}
+
+#[test]
+fn words_give_a_replay(rt: HostRuntime) -> Result<(), Fail> {
+    let least = ReplayOptions {
+        processors: 1,
+        turns: 1,
+        room: 64,
+        slots: 2,
+        takeover: TakeoverName::Entry,
+    };
+    let most = ReplayOptions {
+        processors: 64,
+        turns: 268_435_456,
+        room: 1_048_576,
+        slots: 65_536,
+        takeover: TakeoverName::Place,
+    };
+    let cases: [(&[&str], ReplayOptions, &str); 6] = [
+        (&["--schedule", "none"], REPLAY, "none"),
+        (
+            &["--schedule", "0*40,1>0*60,0!s"],
+            REPLAY,
+            "0*40,1>0*60,0!s",
+        ),
+        (&["--schedule=x y"], REPLAY, "x y"),
+        (&["--schedule="], REPLAY, ""),
+        (
+            &[
+                "--processors=1",
+                "--turns=1",
+                "--room=64",
+                "--slots=2",
+                "--takeover=entry",
+                "--schedule=1!h",
+            ],
+            least,
+            "1!h",
+        ),
+        (
+            &[
+                "--takeover",
+                "place",
                 "--slots",
                 "65536",
                 "--room",
@@ -184,7 +266,7 @@ fn words_give_a_replay(rt: HostRuntime) -> Result<(), Fail> {
         ),
     ];
     for (words, options, schedule) in cases {
-        match command_of_words(rt.alloc(), words)? {
+        match command_with(rt.alloc(), "replay", words)? {
             Some(Command::Replay(got, bytes)) => {
                 assert_eq!(rt; got, options, "{words:?}");
                 assert_eq!(rt; bytes.as_slice(), schedule.as_bytes());
@@ -195,38 +277,66 @@ fn words_give_a_replay(rt: HostRuntime) -> Result<(), Fail> {
     Ok(())
 }
 
+/// A command, one of its options, a value of it, and words that are none.
+type OptionCase = (
+    &'static str,
+    &'static str,
+    &'static str,
+    &'static [&'static str],
+);
+
 #[test]
-fn words_give_no_replay(rt: HostRuntime) -> Result<(), Fail> {
-    let cases: [&[&str]; 18] = [
-        &["ppm", "replay", "--processors", "0"],
-        &["ppm", "replay", "--processors", "65"],
-        &["ppm", "replay", "--processors", "two"],
-        &["ppm", "replay", "--turns", "0"],
-        &["ppm", "replay", "--turns", "268435457"],
-        &["ppm", "replay", "--room", "63"],
-        &["ppm", "replay", "--room", "1048577"],
-        &["ppm", "replay", "--slots", "1"],
-        &["ppm", "replay", "--slots", "65537"],
-        &["ppm", "replay", "--takeover", "x"],
-        &["ppm", "replay", "--takeover", "places"],
-        &["ppm", "replay", "--takeover="],
-        &[
-            "ppm",
-            "replay",
-            "--takeover",
-            "place",
-            "--takeover",
-            "place",
-        ],
-        &["ppm", "replay", "--schedule"],
-        &["ppm", "replay", "--schedule", "0", "--schedule", "0"],
-        &["ppm", "replay", "--schedule", "-1"],
-        &["ppm", "replay", "--faults", "none"],
-        &["ppm", "replay", "0"],
+fn values_out_of_form_are_refused(rt: HostRuntime) -> Result<(), Fail> {
+    let cases: [OptionCase; 15] = [
+        ("run", "--processors", "1", &["0", "2", "one", "+", ""]),
+        ("run", "--turns", "1", &["0", "268435457"]),
+        ("run", "--room", "64", &["63", "1048577"]),
+        ("run", "--slots", "2", &["1", "65537"]),
+        ("run", "--looks", "1", &["0", "1048577"]),
+        ("run", "--seed", "0", &["-1", "4294967296", "0x1", "1 "]),
+        ("run", "--faults", "none", &["-1", "--idle"]),
+        ("run", "--takeover", "entry", &["x", "places", "Place", ""]),
+        ("run", "--idle", "park", &["x", "place", "leav", "-"]),
+        ("replay", "--processors", "1", &["0", "65", "two"]),
+        ("replay", "--turns", "1", &["0", "268435457"]),
+        ("replay", "--room", "64", &["63", "1048577"]),
+        ("replay", "--slots", "2", &["1", "65537"]),
+        ("replay", "--takeover", "place", &["leave", "entries", ""]),
+        ("replay", "--schedule", "0", &["-1", "--room"]),
     ];
-    for words in cases {
-        let got = command_of_words(rt.alloc(), words)?;
-        assert_eq!(rt; got.as_ref().map(shown), None, "{words:?}");
+    for (name, option, value, others) in cases {
+        let once = command_with(rt.alloc(), name, &[option, value])?;
+        assert!(rt; once.is_some(), "{name} {option} {value}");
+        let twice = command_with(rt.alloc(), name, &[option, value, option, value])?;
+        assert!(rt; twice.is_none(), "{name} {option} twice");
+        let bare = command_with(rt.alloc(), name, &[option])?;
+        assert!(rt; bare.is_none(), "{name} {option}");
+        for other in others {
+            let refused = command_with(rt.alloc(), name, &[option, *other])?;
+            assert!(rt; refused.is_none(), "{name} {option} {other}");
+        }
+    }
+    Ok(())
+}
+
+#[test]
+fn words_that_are_no_options_are_refused(rt: HostRuntime) -> Result<(), Fail> {
+    let cases: [(&str, &[&str]); 11] = [
+        ("run", &["--faults=-1"]),
+        ("run", &["--faults=-"]),
+        ("run", &["--seed=-1"]),
+        ("run", &["--idle=-"]),
+        ("run", &["--schedule", "none"]),
+        ("run", &["--seeds", "1"]),
+        ("run", &["-seed", "1"]),
+        ("replay", &["--schedule=-1"]),
+        ("replay", &["--faults", "none"]),
+        ("replay", &["--idle", "leave"]),
+        ("replay", &["0"]),
+    ];
+    for (name, words) in cases {
+        let refused = command_with(rt.alloc(), name, words)?;
+        assert!(rt; refused.is_none(), "{name} {words:?}");
     }
     Ok(())
 }

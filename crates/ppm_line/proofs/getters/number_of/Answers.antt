@@ -3,7 +3,7 @@ use Rattle.std.specs.Str.Parse.{ParsesUnsigned, ExplainsUnsignedError, HasUnsign
 use Rattle.clap.specs.Words.{found_of}
 use Rattle.ppm_line.specs.Words.{kept_in}
 use Rattle.ppm_line.proofs.OptionLemmas.{number_read}
-use Rattle.ppm_line.proofs.command.number_of.Goals as goal
+use Rattle.ppm_line.proofs.getters.number_of.Goals as goal
 
 -- the getter read none
 pub returns-in_err-number-clause-value : goal.returns-in_err-number-clause-value

@@ -1,7 +1,7 @@
 use Rattle.std.proofs.Common.{◌∙◌}
 use Rattle.clap.specs.Words.{found_of}
 use Rattle.clap.proofs.WalkLemmas.{first_value-rows}
-use Rattle.ppm_line.proofs.replay.text_of.Goals as goal
+use Rattle.ppm_line.proofs.getters.text_of.Goals as goal
 
 -- the first value in the matches is that of the rows
 pub returns : goal.returns
