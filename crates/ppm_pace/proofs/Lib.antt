@@ -1,0 +1,4 @@
+pub mod KeeperLemmas
+pub mod CountLemmas
+pub mod ChoiceLemmas
+pub mod AloneLemmas

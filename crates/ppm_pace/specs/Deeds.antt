@@ -1,0 +1,27 @@
+-- The acts of one processor in a run.
+use Rattle.std.specs.Prelude.{◌≡◌, ℕ, ◌==◌, if◌then◌else◌, List, [], ◌∷◌}
+use Rattle.ppm_cells.specs.declared.shape.Shape.{Shape}
+use Rattle.ppm_code.specs.declared.code.CodeParts.{CodeParts}
+use Rattle.ppm_step.specs.declared.turn.Act.{Act}
+use Rattle.ppm_step.specs.declared.turn.Turn.{Turn}
+use Rattle.ppm_step.specs.Standings.{Standing}
+use Rattle.ppm_step.specs.State.{State, stand_of, along}
+
+-- an act of a processor, and where it stood before it
+pub record Deed : Type 0 where
+  pub stood : Standing
+  pub act : Act
+
+-- the one that a turn is, if it is a turn of this processor
+abbrev pub deeds_by : (processor : ℕ) → State → Turn → List Deed
+deeds_by processor state turn =
+    if turn.processor == processor then record { stood = stand_of state processor; act = turn.act } ∷ [] else []
+
+-- those of the turns of a run, in order
+abbrev pub deeds_of : Shape → CodeParts → (processor : ℕ) → State → List Turn → List Deed
+deeds_of s code processor = along s code (deeds_by processor)
+
+-- turns of this processor alone
+abbrev pub AreOf : (processor : ℕ) → List Turn → Type 0
+AreOf processor [] = Unit {0}
+AreOf processor (turn ∷ turns) = (turn.processor ≡ processor) × AreOf processor turns

@@ -1,0 +1,4 @@
+pub mod Deeds
+pub mod Obeying
+pub mod Paces
+pub mod Laws

@@ -1,0 +1,23 @@
+//! The limits of a run.
+
+/// What a processor does where it has looked for work long enough.
+#[derive(Clone, Copy, Debug, PartialEq, Eq)]
+pub enum Idle {
+    /// It leaves the run.
+    Leave,
+    /// It parks until another processor wakes it.
+    Park,
+}
+
+/// The limits of a run, the same for each processor.
+#[derive(Clone, Copy, Debug, PartialEq, Eq)]
+pub struct Limits {
+    /// How many work turns a processor makes; in place of one more it quits.
+    pub turns: u64,
+    /// After so many looks in a row a processor rests where it would seek work again, unless it is the keeper.
+    pub looks: u32,
+    /// The seed of the victims that are drawn at random.
+    pub seed: u32,
+    /// What a processor does that rests.
+    pub idle: Idle,
+}
