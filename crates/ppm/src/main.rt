@@ -9,7 +9,7 @@ ghost use Rattle.std.specs.Prelude.{◌≡◌, ◌++◌, IfOk, length};
 ghost use Rattle.std.specs.Process.{exit_status};
 ghost use Rattle.std.specs.Vec.Iter.{into_iter_items};
 ghost use Rattle.ppm_ports.specs.Ports.{port};
-ghost use Rattle.ppm_running.specs.Watchers.{watcher_count};
+ghost use Rattle.ppm_obeying.specs.Watchers.{watcher_count};
 ghost use Rattle.ppm.specs.Ending.{AreWords, EndsWith};
 
 use ppm_answers::{Answer, deliver};
@@ -19,6 +19,7 @@ use std::alloc::{AllocError, Global};
 use std::env::Args;
 use std::io::ErrorKind;
 use std::process::ExitCode;
+use std::sync::Wait;
 use std::{env, io};
 
 fn main(rt: HostRuntime) -> ExitCode {
@@ -35,7 +36,7 @@ fn main(rt: HostRuntime) -> ExitCode {
 /// Does what the words of the command line ask for, and tells no watcher anything.
 /// The exit code is the number of the status. Where memory is refused for the words or the watchers, nothing is read, and
 /// the answer is out of memory.
-fn program<R, S: Source, K: Sink, E: Sink>(
+fn program<R: Wait, S: Source, K: Sink, E: Sink>(
     rt: &R,
     alloc: Global,
     given: io::Result<Args>,

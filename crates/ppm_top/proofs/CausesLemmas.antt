@@ -11,23 +11,24 @@ use Rattle.ppm_line.specs.declared.command.Command.{Command}
 use Rattle.ppm_line.specs.declared.command.Command.TheVariants as commands
 use Rattle.ppm_checking.specs.Verdict.{CheckHas}
 use Rattle.ppm_interpreting.specs.Outcomes.{SerialHas}
-use Rattle.ppm_running.specs.Verdict.{RunHas}
 use Rattle.ppm_showing.specs.Verdict.{CodeHas}
 use Rattle.ppm_line.specs.Words.{command_of}
 use Rattle.ppm_top.specs.Causes.{CommandMay, IsAnswered}
-use Rattle.ppm_plan.specs.Forms.{schedule_form}
-use Rattle.ppm_obeying.specs.Replays.{TextHas}
+use Rattle.ppm_plan.specs.Forms.{plan_form, schedule_form}
+use Rattle.ppm_obeying.specs.Replays.{TextHas as ReplayTextHas}
+use Rattle.ppm_obeying.specs.Runs.{TextHas as RunTextHas}
 use Rattle.ppm_obeying.proofs.PlannedLemmas as planned
 
 -- where nothing was read, out of memory may be the answer, whatever the command is
 pub memory_before : (command : Option Command) (o : Outside) → IsUnread o.source → CommandMay command o answers.NoMemory
 memory_before None o h = h
-memory_before (Some (commands.Run options)) o h = judged.memory_before text_limit (RunHas options) o.source h
+memory_before (Some (commands.Run options plan)) o h =
+    planned.memory_before plan_form plan options.processors (RunTextHas options) text_limit o.source h
 memory_before (Some (commands.Serial options)) o h = judged.memory_before text_limit (SerialHas options.turns) o.source h
 memory_before (Some commands.Code) o h = record { has = judged.memory_before text_limit CodeHas o.source h; listed = tt }
 memory_before (Some commands.Check) o h = judged.memory_before listing_limit CheckHas o.source h
-memory_before (Some (commands.Replay options schedule)) o h = 
-    planned.memory_before schedule_form schedule options.processors (TextHas options) text_limit o.source h
+memory_before (Some (commands.Replay options schedule)) o h =
+    planned.memory_before schedule_form schedule options.processors (ReplayTextHas options) text_limit o.source h
 
 -- an answer of the command that the words give answers the words
 pub by_command : (words : List (List ℕ)) (o : Outside) (status : Status) (command : Option Command) → command_of words ≡ command →

@@ -14,6 +14,7 @@ use Rattle.ppm_answers.specs.Delivery.{IsWritten}
 use Rattle.ppm_line.specs.declared.command.Command.{Command}
 use Rattle.ppm_line.specs.declared.command.Command.TheVariants as commands
 use Rattle.ppm_line.specs.declared.replay.ReplayOptions.{ReplayOptions}
+use Rattle.ppm_line.specs.declared.run.RunOptions.{RunOptions}
 use Rattle.ppm_line.specs.Words.{command_of}
 use Rattle.ppm_checking.specs.Verdict.{CheckHas}
 use Rattle.ppm_checking.specs.Correct.{HaveOneAnswer as ListingsHaveOneAnswer}
@@ -21,15 +22,16 @@ use Rattle.ppm_checking.proofs.OfCheck.{check_rows}
 use Rattle.ppm_interpreting.specs.Outcomes.{SerialHas}
 use Rattle.ppm_interpreting.specs.Correct.{HaveOneAnswer as ProgramsHaveOneAnswer}
 use Rattle.ppm_interpreting.proofs.OfSerial.{serial_rows}
-use Rattle.ppm_plan.specs.Correct.{HaveOneAnswer as SchedulesHaveOneAnswer}
-use Rattle.ppm_plan.specs.Forms.{schedule_form}
+use Rattle.ppm_plan.specs.Correct.{HaveOneAnswer as PlansHaveOneAnswer}
+use Rattle.ppm_plan.specs.Forms.{Form, plan_form, schedule_form}
+use Rattle.ppm_obeying.specs.Planned.{PlannedMay}
 use Rattle.ppm_obeying.specs.ReplayRows.{RefusesSchedule}
-use Rattle.ppm_obeying.specs.Replays.{ReplayMay, TextHas, HaveOneAnswer as ReplaysHaveOneAnswer}
+use Rattle.ppm_obeying.specs.Replays.{TextHas as ReplayTextHas, HaveOneAnswer as ReplaysHaveOneAnswer}
+use Rattle.ppm_obeying.specs.RunRows.{RefusesPlan}
+use Rattle.ppm_obeying.specs.Runs.{TextHas as RunTextHas, AnswersAreOne}
 use Rattle.ppm_obeying.proofs.OfReplay as of_replay
+use Rattle.ppm_obeying.proofs.OfRun as of_run
 use Rattle.ppm_obeying.proofs.PlannedLemmas as planned
-use Rattle.ppm_running.specs.Verdict.{RunHas}
-use Rattle.ppm_running.specs.Correct.{HaveOneAnswer as RunsHaveOneAnswer}
-use Rattle.ppm_running.proofs.OfRun.{run_rows}
 use Rattle.ppm_showing.specs.Verdict.{CodeHas}
 use Rattle.ppm_showing.specs.Causes.{CodeMay}
 use Rattle.ppm_showing.specs.Correct.{HaveOneAnswer as CodesHaveOneAnswer}
@@ -38,7 +40,7 @@ use Rattle.ppm_showing.proofs.OfCode.{code_rows}
 use Rattle.ppm_answers.specs.Reading.{IsUnread, JudgingMay, Answers}
 use Rattle.ppm_answers.specs.Rows.{IsOneOf}
 use Rattle.ppm_top.specs.Causes.{NoCommandMay, CommandMay, IsAnswered}
-use Rattle.ppm_top.specs.Rows.{HasRefusedSchedule, RefusesWords, ReportsFaults, WritesAccepted, ShowsByWords, ProgramRows}
+use Rattle.ppm_top.specs.Rows.{HasRefusedPlan, OfRun, OfReplay, RefusesWords, ReportsFaults, WritesAccepted, ShowsByWords, ProgramRows}
 use Rattle.ppm_answers.proofs.Delivered as delivered
 use Rattle.ppm_answers.proofs.Judged as judged
 
@@ -56,11 +58,11 @@ code_reports o = record {
   fails = λ answer h f. judged.source_failed text_limit CodeHas o.source answer h.has f;
 }
 
-replay_reports : (options : ReplayOptions) (schedule : List ℕ) (o : Outside) → ReportsReads o (ReplayMay options schedule o.source)
-replay_reports options schedule o = record {
+planned_reports : {A : Type 0} (form : Form A) (plan : List ℕ) (processors : ℕ) (Has : List A → List ℕ → Answer → Type 0) (o : Outside)
+    → ReportsReads o (PlannedMay form plan processors Has text_limit o.source)
+planned_reports form plan processors Has o = record {
   failed = λ h. h.0.0;
-  fails = λ answer h f.
-      planned.source_failed schedule_form schedule options.processors (TextHas options) text_limit o.source answer h f;
+  fails = λ answer h f. planned.source_failed form plan processors Has text_limit o.source answer h f;
 }
 
 none_reports : (o : Outside) → ReportsReads o (NoCommandMay o)
@@ -72,11 +74,12 @@ none_reports o = record { failed = λ h. absurd h; fails = fails } where
 
 command_reports : (o : Outside) (command : Option Command) → ReportsReads o (CommandMay command o)
 command_reports o None = none_reports o
-command_reports o (Some (commands.Run options)) = judging_reports text_limit (RunHas options) o
+command_reports o (Some (commands.Run options plan)) = planned_reports plan_form plan options.processors (RunTextHas options) o
 command_reports o (Some (commands.Serial options)) = judging_reports text_limit (SerialHas options.turns) o
 command_reports o (Some commands.Code) = code_reports o
 command_reports o (Some commands.Check) = judging_reports listing_limit CheckHas o
-command_reports o (Some (commands.Replay options schedule)) = replay_reports options schedule o
+command_reports o (Some (commands.Replay options schedule)) =
+    planned_reports schedule_form schedule options.processors (ReplayTextHas options) o
 
 -- an answer of status 7 is a read fault
 read_answer : (may : Answer → Type 0) (answer : Answer) → may answer → status_of answer ≡ statuses.ReadFault → may answers.ReadFault
@@ -105,19 +108,19 @@ reports_faults o may status reports a = record {
 faults : (words : List (List ℕ)) (o : Outside) (status : Status) → IsAnswered words o status → ReportsFaults o status
 faults words o status a = reports_faults o (CommandMay (command_of words) o) status (command_reports o (command_of words)) a
 
--- an answer of status 3 comes without a command, or with one to replay
-abbrev pub IsReplay : Option Command → Type 0
-IsReplay command = (options : ReplayOptions) × (schedule : List ℕ) × (command ≡ Some (commands.Replay options schedule))
+-- an answer of status 3 comes without a command, or with one that names a plan or a schedule
+data IsPlanned (command : Option Command) : Type 0 where
+  IsRun : (options : RunOptions) (plan : List ℕ) → command ≡ Some (commands.Run options plan) → IsPlanned command
+  IsReplay : (options : ReplayOptions) (schedule : List ℕ) → command ≡ Some (commands.Replay options schedule) → IsPlanned command
 
 no_command : (command : Option Command) (o : Outside) (answer : Answer) → CommandMay command o answer →
-    status_of answer ≡ statuses.WordsRefused → (command ≡ None) ⊎ IsReplay command
+    status_of answer ≡ statuses.WordsRefused → (command ≡ None) ⊎ IsPlanned command
 no_command None o answer h e = inl refl
-no_command (Some (commands.Replay options schedule)) o answer h e = inr (options, schedule, refl)
-no_command (Some (commands.Run options)) o answers.WordsRefused h e = absurd h.2.2
+no_command (Some (commands.Run options plan)) o answer h e = inr (IsRun options plan refl)
+no_command (Some (commands.Replay options schedule)) o answer h e = inr (IsReplay options schedule refl)
 no_command (Some (commands.Serial options)) o answers.WordsRefused h e = absurd h.2
 no_command (Some commands.Code) o answers.WordsRefused h e = absurd h.has.2
 no_command (Some commands.Check) o answers.WordsRefused h e = absurd h.2
-no_command (Some (commands.Run options)) o (answers.PlanRefused number) h e = absurd h.2.2
 no_command (Some (commands.Serial options)) o (answers.PlanRefused number) h e = absurd h.2
 no_command (Some commands.Code) o (answers.PlanRefused number) h e = absurd h.has.2
 no_command (Some commands.Check) o (answers.PlanRefused number) h e = absurd h.2
@@ -139,7 +142,7 @@ refuses_words words o status a = record {
   cause : command_of words ≡ None → NoCommandMay o a.answer
   cause e = subst (λ c. CommandMay c o a.answer) e a.cause
 
-  only : status ≡ statuses.WordsRefused → (command_of words ≡ None) ⊎ HasRefusedSchedule words o
+  only : status ≡ statuses.WordsRefused → (command_of words ≡ None) ⊎ HasRefusedPlan words o
   only e =
       let w = delivered.written o.out o.err a.answer status a.delivered (λ f. cc) in
       by_words (no_command (command_of words) o a.answer a.cause (sym w.own ∙ e)) where
@@ -148,10 +151,14 @@ refuses_words words o status a = record {
     refuses options schedule c =
         of_replay.schedule_refused options schedule o status (subst (λ x. Answers (CommandMay x o) o status) c a) e
 
-    by_words : (command_of words ≡ None) ⊎ IsReplay (command_of words) → (command_of words ≡ None) ⊎ HasRefusedSchedule words o
+    refuses_plan : (options : RunOptions) (plan : List ℕ) → command_of words ≡ Some (commands.Run options plan) →
+        RefusesPlan options plan o
+    refuses_plan options plan c = of_run.plan_refused options plan o status (subst (λ x. Answers (CommandMay x o) o status) c a) e
+
+    by_words : (command_of words ≡ None) ⊎ IsPlanned (command_of words) → (command_of words ≡ None) ⊎ HasRefusedPlan words o
     by_words (inl n) = inl n
-    by_words (inr (options, schedule, c)) =
-        inr (record { options = options; schedule = schedule; command = c; refuses = refuses options schedule c })
+    by_words (inr (IsRun options plan c)) = inr (OfRun options plan c (refuses_plan options plan c))
+    by_words (inr (IsReplay options schedule c)) = inr (OfReplay options schedule c (refuses options schedule c))
 
   always : (status_of a.answer ≡ statuses.WordsRefused) ⊎ (status_of a.answer ≡ statuses.NoMemory) →
       (status ≡ statuses.WriteFault) ⊎ IsWritten o.out o.err a.answer status →
@@ -162,11 +169,11 @@ refuses_words words o status a = record {
 
 -- what the crates of the commands show of every text
 pub record Laws : Type 0 where
-  pub runs : RunsHaveOneAnswer
+  pub runs : AnswersAreOne
   pub programs : ProgramsHaveOneAnswer
   pub codes : CodesHaveOneAnswer
   pub listings : ListingsHaveOneAnswer
-  pub schedules : SchedulesHaveOneAnswer
+  pub plans : PlansHaveOneAnswer
   pub replays : ReplaysHaveOneAnswer
 
 -- a listing that `code` writes is one that `check` accepts
@@ -190,13 +197,14 @@ shows law words o status a = record { rows = rows; accepted = λ e ended. accept
 -- all rows of the program
 pub program_rows : Laws → (words : List (List ℕ)) (o : Outside) (status : Status) → IsAnswered words o status → ProgramRows words o status
 program_rows laws words o status a = record {
-  run = λ options e. run_rows options (laws.runs options) o status (subst (λ c. Answers (CommandMay c o) o status) e a);
+  run = λ options plan e. of_run.run_rows options plan o status
+      (subst (λ c. Answers (CommandMay c o) o status) e a) laws.plans (laws.runs options plan);
   serial = λ options e. serial_rows options.turns (laws.programs options.turns) o status
       (subst (λ c. Answers (CommandMay c o) o status) e a);
   code = shows laws.codes words o status a;
   check = λ e. check_rows o status (subst (λ c. Answers (CommandMay c o) o status) e a) laws.listings;
   replay = λ options schedule e. of_replay.replay_rows options schedule o status
-      (subst (λ c. Answers (CommandMay c o) o status) e a) laws.schedules (laws.replays.one options schedule);
+      (subst (λ c. Answers (CommandMay c o) o status) e a) laws.plans (laws.replays.one options schedule);
   words_refused = refuses_words words o status a;
   faults = faults words o status a;
   nothing_on_out = delivered.nothing_on_out o.out o.err a.answer status a.delivered;

@@ -11,7 +11,7 @@ use Rattle.ppm_line.specs.Words.{command_of}
 use Rattle.ppm_checking.specs.Causes.{CheckMay}
 use Rattle.ppm_interpreting.specs.Causes.{SerialMay}
 use Rattle.ppm_obeying.specs.Replays.{ReplayMay}
-use Rattle.ppm_running.specs.Causes.{RunMay}
+use Rattle.ppm_obeying.specs.Runs.{RunMay}
 use Rattle.ppm_showing.specs.Causes.{CodeMay}
 
 -- the answers where the words give no command
@@ -23,7 +23,7 @@ NoCommandMay o _ = ⊥
 -- the answers of a command, or of none
 abbrev pub CommandMay : Option Command → Outside → Answer → Type 0
 CommandMay None o answer = NoCommandMay o answer
-CommandMay (Some (commands.Run options)) o answer = RunMay options o answer
+CommandMay (Some (commands.Run options plan)) o answer = RunMay options plan o.source answer
 CommandMay (Some (commands.Serial options)) o answer = SerialMay options.turns o answer
 CommandMay (Some commands.Code) o answer = CodeMay o answer
 CommandMay (Some commands.Check) o answer = CheckMay o answer

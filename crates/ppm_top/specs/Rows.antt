@@ -9,20 +9,21 @@ use Rattle.ppm_answers.specs.declared.status.Status.TheVariants as statuses
 use Rattle.ppm_answers.specs.Reading.{IsUnread}
 use Rattle.ppm_answers.specs.Rows.{IsOneOf}
 use Rattle.ppm_line.specs.declared.command.Command.TheVariants as commands
-use Rattle.ppm_line.specs.declared.command.RunOptions.{RunOptions}
 use Rattle.ppm_line.specs.declared.command.SerialOptions.{SerialOptions}
 use Rattle.ppm_line.specs.declared.replay.ReplayOptions.{ReplayOptions}
+use Rattle.ppm_line.specs.declared.run.RunOptions.{RunOptions}
 use Rattle.ppm_line.specs.Words.{command_of}
 use Rattle.ppm_checking.specs.Verdict.{CheckHas}
 use Rattle.ppm_checking.specs.Rows.{CheckRows}
 use Rattle.ppm_interpreting.specs.Rows.{SerialRows}
-use Rattle.ppm_running.specs.Rows.{RunRows}
 use Rattle.ppm_showing.specs.Rows.{CodeRows}
 use Rattle.ppm_obeying.specs.ReplayRows.{RefusesSchedule, ReplayRows}
+use Rattle.ppm_obeying.specs.RunRows.{RefusesPlan, RunRows}
 
--- the rows of `run` hold where the words ask for a run, with these options
+-- the rows of `run` hold where the words ask for a run, with these options and this plan
 abbrev pub RunsByWords : List (List ℕ) → Outside → Status → Type 0
-RunsByWords words o status = (options : RunOptions) → command_of words ≡ Some (commands.Run options) → RunRows options o status
+RunsByWords words o status =
+    (options : RunOptions) (plan : List ℕ) → command_of words ≡ Some (commands.Run options plan) → RunRows options plan o status
 
 -- those of `serial` hold where they ask for it, with as many turns
 abbrev pub InterpretsByWords : List (List ℕ) → Outside → Status → Type 0
@@ -47,17 +48,17 @@ abbrev pub ReplaysByWords : List (List ℕ) → Outside → Status → Type 0
 ReplaysByWords words o status = (options : ReplayOptions) (schedule : List ℕ) → command_of words ≡ Some (commands.Replay options schedule) →
     ReplayRows options schedule o status
 
--- the words ask for a replay by a schedule that is refused; then nothing is read
-pub record HasRefusedSchedule (words : List (List ℕ)) (o : Outside) : Type 0 where
-  pub options : ReplayOptions
-  pub schedule : List ℕ
-  pub command : command_of words ≡ Some (commands.Replay options schedule)
-  pub refuses : RefusesSchedule options schedule o
+-- the words ask for a run by a plan, or for a replay by a schedule, that is refused; then nothing is read
+pub data HasRefusedPlan (words : List (List ℕ)) (o : Outside) : Type 0 where
+  OfRun : (options : RunOptions) (plan : List ℕ) → command_of words ≡ Some (commands.Run options plan) → RefusesPlan options plan o
+      → HasRefusedPlan words o
+  OfReplay : (options : ReplayOptions) (schedule : List ℕ) → command_of words ≡ Some (commands.Replay options schedule)
+      → RefusesSchedule options schedule o → HasRefusedPlan words o
 
--- Status 3 comes only where the words give no command, or ask for a replay by a schedule that is refused. Where they give no command,
+-- Status 3 comes only where the words give no command, or name a plan or a schedule that is refused. Where they give no command,
 -- nothing is read, and the status is 3, or 8 or 9.
 pub record RefusesWords (words : List (List ℕ)) (o : Outside) (status : Status) : Type 0 where
-  pub only : status ≡ statuses.WordsRefused → (command_of words ≡ None) ⊎ HasRefusedSchedule words o
+  pub only : status ≡ statuses.WordsRefused → (command_of words ≡ None) ⊎ HasRefusedPlan words o
   pub unread : command_of words ≡ None → IsUnread o.source
   pub always : command_of words ≡ None → IsOneOf status (statuses.WordsRefused ∷ statuses.WriteFault ∷ statuses.NoMemory ∷ [])
 

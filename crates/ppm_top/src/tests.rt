@@ -1,12 +1,13 @@
 //! The top call over memory: what is written and answered for whole inputs, and where ports fail.
 ghost use Rattle.std.specs.Prelude.{◌≡◌, ◌<◌, IfOk, length};
-ghost use Rattle.ppm_running.specs.Watchers.{watcher_count};
+ghost use Rattle.ppm_obeying.specs.Watchers.{watcher_count};
 
 use crate::{WATCHERS, ppm};
 use ppm_answers::Status;
 use ppm_ports::{MemorySink, MemorySource, Recorder, Silent, Source};
 use std::alloc::Global;
 use std::process::Abort;
+use std::sync::Wait;
 use std::test::Fail;
 
 /// A source that ends with `a 5 7`.
@@ -82,6 +83,7 @@ const NONE: Failing<'static> = Failing {
 
 /// A call over memory whose ports move at most `most` bytes at a time.
 fn ppm_over_memory(
+    rt: &impl Wait,
     alloc: Global,
     text: &[u8],
     words: &[&str],
@@ -99,7 +101,7 @@ fn ppm_over_memory(
     let mut err = sink(alloc, most, failing.errs)?;
     let mut watch = vec![in alloc; Silent; WATCHERS]?;
     let status = ppm(
-        &(),
+        rt,
         alloc,
         &given,
         &mut source,
@@ -116,8 +118,13 @@ fn ppm_over_memory(
 }
 
 /// Fails unless the check of a listing answers so: on out where it is accepted, else on err.
-fn is_checked(rt: &impl Abort, alloc: Global, listing: &str, answer: &str) -> Result<(), Fail> {
-    let got = ppm_over_memory(alloc, listing.as_bytes(), CHECK, 4096, NONE)?;
+fn is_checked<R: Abort + Wait>(
+    rt: &R,
+    alloc: Global,
+    listing: &str,
+    answer: &str,
+) -> Result<(), Fail> {
+    let got = ppm_over_memory(rt, alloc, listing.as_bytes(), CHECK, 4096, NONE)?;
     let line = format!(in alloc; "{answer}\n")?;
     let nothing = b"".as_slice();
     if answer == "ok" {
@@ -221,7 +228,7 @@ fn commands_are_obeyed(rt: HostRuntime) -> Result<(), Fail> {
     ];
     for (words, text, out, err, status) in cases {
         for most in [1, 4096] {
-            let got = ppm_over_memory(rt.alloc(), text.as_bytes(), words, most, NONE)?;
+            let got = ppm_over_memory(&rt, rt.alloc(), text.as_bytes(), words, most, NONE)?;
             assert_eq!(rt; got.out.as_slice(), out.as_bytes(), "{text}");
             assert_eq!(rt; got.err.as_slice(), err.as_bytes(), "{text}");
             assert_eq!(rt; got.status, status, "{text}");
@@ -340,8 +347,8 @@ fn replay_words<'a>(alloc: Global, options: &[&'a str]) -> Result<Vec<&'a str>, 
 }
 
 /// Fails unless a source is replayed so with these options.
-fn is_replayed(
-    rt: &impl Abort,
+fn is_replayed<R: Abort + Wait>(
+    rt: &R,
     alloc: Global,
     options: &[&str],
     text: &str,
@@ -349,7 +356,7 @@ fn is_replayed(
     status: Status,
 ) -> Result<(), Fail> {
     let words = replay_words(alloc, options)?;
-    let got = ppm_over_memory(alloc, text.as_bytes(), &words, 4096, NONE)?;
+    let got = ppm_over_memory(rt, alloc, text.as_bytes(), &words, 4096, NONE)?;
     let (out, err) = match status {
         Status::Ended | Status::Trapped => (answer, ""),
         _ => ("", answer),
@@ -511,9 +518,9 @@ fn listings_are_checked(rt: HostRuntime) -> Result<(), Fail> {
 #[test]
 fn what_is_listed_is_accepted(rt: HostRuntime) -> Result<(), Fail> {
     for text in [FIRST, LOOP, CALLS, SUM, FIBONACCI, EACH] {
-        let listed = ppm_over_memory(rt.alloc(), text.as_bytes(), &["ppm", "code"], 4096, NONE)?;
+        let listed = ppm_over_memory(&rt, rt.alloc(), text.as_bytes(), &["ppm", "code"], 4096, NONE)?;
         assert_eq!(rt; listed.status, Status::Ended, "{text}");
-        let checked = ppm_over_memory(rt.alloc(), &listed.out, CHECK, 4096, NONE)?;
+        let checked = ppm_over_memory(&rt, rt.alloc(), &listed.out, CHECK, 4096, NONE)?;
         assert_eq!(rt; checked.out.as_slice(), b"ok\n".as_slice(), "{text}");
         assert_eq!(rt; checked.status, Status::Ended, "{text}");
     }
@@ -539,14 +546,14 @@ fn words_are_judged_before_anything_is_read(rt: HostRuntime) -> Result<(), Fail>
         &["ppm", "run", "--processors"],
     ];
     for words in refused {
-        let got = ppm_over_memory(rt.alloc(), FIRST.as_bytes(), words, 9, reads_fail)?;
+        let got = ppm_over_memory(&rt, rt.alloc(), FIRST.as_bytes(), words, 9, reads_fail)?;
         assert_eq!(rt; got.status, Status::WordsRefused);
         assert_eq!(rt; got.err.as_slice(), b"words refused\n".as_slice());
         assert_eq!(rt; got.read_faults, 0);
     }
     // So it is where a schedule is refused.
     let words = ["ppm", "replay", "--processors", "2", "--schedule", "0!h,1!h"];
-    let got = ppm_over_memory(rt.alloc(), FIRST.as_bytes(), &words, 9, reads_fail)?;
+    let got = ppm_over_memory(&rt, rt.alloc(), FIRST.as_bytes(), &words, 9, reads_fail)?;
     assert_eq!(rt; got.status, Status::WordsRefused);
     assert_eq!(rt; got.err.as_slice(), b"plan refused: 4\n".as_slice());
     assert_eq!(rt; got.read_faults, 0);
@@ -558,6 +565,7 @@ fn each_read_fails_in_turn(rt: HostRuntime) -> Result<(), Fail> {
     // One read for each byte, and one that finds the end.
     for call in 0..FIRST.len() as u64 + 1 {
         let got = ppm_over_memory(
+            &rt,
             rt.alloc(),
             FIRST.as_bytes(),
             RUN,
@@ -577,7 +585,7 @@ fn each_read_fails_in_turn(rt: HostRuntime) -> Result<(), Fail> {
 #[test]
 fn a_write_that_fails_makes_status_8(rt: HostRuntime) -> Result<(), Fail> {
     let failing = Failing { outs: &[1], ..NONE };
-    let got = ppm_over_memory(rt.alloc(), FIRST.as_bytes(), RUN, 2, failing)?;
+    let got = ppm_over_memory(&rt, rt.alloc(), FIRST.as_bytes(), RUN, 2, failing)?;
     assert_eq!(rt; got.status, Status::WriteFault);
     assert_eq!(rt; got.out.as_slice(), b"a ".as_slice());
     assert_eq!(rt; got.err.as_slice(), b"write fault\n".as_slice());
@@ -596,7 +604,7 @@ fn a_write_that_fails_makes_status_8(rt: HostRuntime) -> Result<(), Fail> {
         (FIRST, RUN, both, "read"),
     ];
     for (text, words, failing, front) in cases {
-        let got = ppm_over_memory(rt.alloc(), text.as_bytes(), words, 4, failing)?;
+        let got = ppm_over_memory(&rt, rt.alloc(), text.as_bytes(), words, 4, failing)?;
         assert_eq!(rt; got.status, Status::WriteFault, "{text}");
         assert_eq!(rt; got.err.as_slice(), front.as_bytes(), "{text}");
         assert_eq!(rt; got.out.as_slice(), b"".as_slice(), "{text}");
@@ -614,17 +622,17 @@ fn long_texts_and_bytes_past_ascii_are_refused(rt: HostRuntime) -> Result<(), Fa
         arrays.extend_from_slice(line.as_bytes())?;
     }
     for words in [RUN, SERIAL] {
-        let got = ppm_over_memory(alloc, &blanks, words, 1_048_576, NONE)?;
+        let got = ppm_over_memory(&rt, alloc, &blanks, words, 1_048_576, NONE)?;
         assert_eq!(rt;
             got.err.as_slice(),
             b"source refused: text 5 at 1048576\n".as_slice()
         );
-        let got = ppm_over_memory(alloc, b"x\xc8", words, 4096, NONE)?;
+        let got = ppm_over_memory(&rt, alloc, b"x\xc8", words, 4096, NONE)?;
         assert_eq!(rt;
             got.err.as_slice(),
             b"source refused: text 1 at 1\n".as_slice()
         );
-        let got = ppm_over_memory(alloc, &arrays, words, 4096, NONE)?;
+        let got = ppm_over_memory(&rt, alloc, &arrays, words, 4096, NONE)?;
         assert_eq!(rt;
             got.err.as_slice(),
             b"source refused: syntax 4 at 896\n".as_slice()
@@ -643,7 +651,7 @@ fn a_long_output_is_written_whole(rt: HostRuntime) -> Result<(), Fail> {
     }
     zeros.push_str("\n")?;
     let text = b"array a[100000]; proc main() { }".as_slice();
-    let got = ppm_over_memory(alloc, text, RUN, 4096, NONE)?;
+    let got = ppm_over_memory(&rt, alloc, text, RUN, 4096, NONE)?;
     assert_eq!(rt; got.out.as_slice(), zeros.as_bytes());
     assert_eq!(rt; got.status, Status::Ended);
     Ok(())
@@ -673,7 +681,7 @@ fn watchers_are_told_nothing(rt: HostRuntime) -> Result<(), Fail> {
     let mut out = sink(alloc, 9, &[])?;
     let mut err = sink(alloc, 9, &[])?;
     let status = ppm(
-        &(),
+        rt,
         alloc,
         &given,
         &mut source,

@@ -3,7 +3,7 @@ ghost use Rattle.std.specs.Prelude.{◌≡◌, length, map};
 ghost use Rattle.std.specs.String.{string_bytes};
 ghost use Rattle.ppm_ports.specs.Ports.{port};
 ghost use Rattle.ppm_ports.specs.Outside.{outside};
-ghost use Rattle.ppm_running.specs.Watchers.{watcher_count};
+ghost use Rattle.ppm_obeying.specs.Watchers.{watcher_count};
 ghost use Rattle.ppm_top.specs.Causes.{IsAnswered};
 ghost use Rattle.ppm_top.specs.Rows.{ProgramRows};
 
@@ -11,17 +11,20 @@ use ppm_answers::{Answer, Status, deliver};
 use ppm_checking::{check_command, have_one_answer as listings_have_one_answer};
 use ppm_interpreting::{have_one_answer as programs_have_one_answer, serial_command};
 use ppm_line::{Command, read_words};
-use ppm_obeying::{have_one_answer as replays_have_one_answer, replay_command};
-use ppm_plan::have_one_answer as schedules_have_one_answer;
+use ppm_obeying::{
+    answers_are_one as runs_have_one_answer, have_one_answer as replays_have_one_answer,
+    replay_command, run_command,
+};
+use ppm_plan::have_one_answer as plans_have_one_answer;
 use ppm_ports::{Sink, Source, Watch};
-use ppm_running::{have_one_answer as runs_have_one_answer, run_command};
 use ppm_showing::{code_command, have_one_answer as codes_have_one_answer};
 use ppm_words::NoMemory;
 use std::alloc::Global;
+use std::sync::Wait;
 
 /// Does what the words ask for: the bytes of `source` are read, the texts of the answer are written on `out` and `err`.
-/// The first word is the program's name. No watcher is told anything yet.
-pub fn ppm<R, S: Source, K: Sink, E: Sink, W: Watch>(
+/// The first word is the program's name. No watcher is told anything yet. A run may never return.
+pub fn ppm<R: Wait, S: Source, K: Sink, E: Sink, W: Watch>(
     rt: &R,
     alloc: Global,
     words: &[String],
@@ -49,13 +52,13 @@ pub fn ppm<R, S: Source, K: Sink, E: Sink, W: Watch>(
     programs_have_one_answer();
     codes_have_one_answer();
     listings_have_one_answer();
-    schedules_have_one_answer();
+    plans_have_one_answer();
     replays_have_one_answer();
     obey(rt, alloc, words, source, out, err, watch)
 }
 
 /// Does the command that the words give, or answers that they give none.
-fn obey<R, S: Source, K: Sink, E: Sink, W: Watch>(
+fn obey<R: Wait, S: Source, K: Sink, E: Sink, W: Watch>(
     rt: &R,
     alloc: Global,
     words: &[String],
@@ -71,7 +74,16 @@ fn obey<R, S: Source, K: Sink, E: Sink, W: Watch>(
     ensures watchers { length watch.new.items ≡ watcher_count }
 {
     match read_words(alloc, words) {
-        Ok(Some(Command::Run(options))) => run_command(rt, alloc, options, source, out, err, watch),
+        Ok(Some(Command::Run(options, faults))) => run_command(
+            rt,
+            alloc,
+            options,
+            faults.as_slice(),
+            source,
+            out,
+            err,
+            watch,
+        ),
         Ok(Some(Command::Serial(options))) => serial_command(
             alloc,
             options.turns,

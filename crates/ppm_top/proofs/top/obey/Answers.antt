@@ -24,6 +24,12 @@ returns-in-Ok-Some-Check-clause-answers g c = by_command (map string_bytes c.arg
     (cc (c.in-Ok-Some-Check.ensures.value, c.in-Ok-Some-Check.field-0-is, c.in-Ok-Some-Check.field-0-0-is))
     (c.check_command.ensures.answers _)
 
+-- the words ask for a run, which was answered
+pub returns-in-Ok-Some-Run-clause-answers : goal.returns-in-Ok-Some-Run-clause-answers
+returns-in-Ok-Some-Run-clause-answers g c = by_command (map string_bytes c.args.words.now) _ _ (Some (commands.Run _ _))
+    (cc (c.in-Ok-Some-Run.ensures.value, c.in-Ok-Some-Run.field-0-is, c.in-Ok-Some-Run.field-0-0-is))
+    c.run_command.ensures.answers
+
 -- the words ask for a replay, which was answered
 pub returns-in-Ok-Some-Replay-clause-answers : goal.returns-in-Ok-Some-Replay-clause-answers
 returns-in-Ok-Some-Replay-clause-answers g c = by_command (map string_bytes c.args.words.now) _ _ (Some (commands.Replay _ _))

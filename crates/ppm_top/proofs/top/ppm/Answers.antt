@@ -4,10 +4,10 @@ use Rattle.ppm_top.proofs.top.ppm.Goals as goal
 -- the rows follow from the answer that was delivered
 pub returns-clause-rows : goal.returns-clause-rows
 returns-clause-rows g c = program_rows (record {
-  runs = c.have_one_answer.ensures.law;
-  programs = c.have_one_answer-2.ensures.law;
-  codes = c.have_one_answer-3.ensures.law;
-  listings = c.have_one_answer-4.ensures.law;
-  schedules = c.have_one_answer-5.ensures.law;
-  replays = c.have_one_answer-6.ensures.law;
+  runs = c.answers_are_one.ensures.law;
+  programs = c.have_one_answer.ensures.law;
+  codes = c.have_one_answer-2.ensures.law;
+  listings = c.have_one_answer-3.ensures.law;
+  plans = c.have_one_answer-4.ensures.law;
+  replays = c.have_one_answer-5.ensures.law;
 }) _ _ _ c.obey.ensures.answers

@@ -1,4 +1,0 @@
-pub mod ProgramLemmas
-pub mod OutcomeLemmas
-pub mod OneAnswer
-pub mod OfRun
