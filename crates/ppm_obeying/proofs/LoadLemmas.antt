@@ -1,5 +1,6 @@
 -- The loads of holder words that are counted along a run are those of its turns.
-use Rattle.std.proofs.Common.{◌≡◌, ◌≢◌, ◌<◌, ◌≤◌, ◌+◌, ◌⊎◌, inl, inr, refl, sym, ap, ◌∙◌, subst, arith, ℕ, zero, suc, Bool, true, false, List, [], ◌∷◌, ◌++◌, length, ◌==◌, if◌then◌else◌, slice_index, slice_set, length-append}
+use Rattle.std.proofs.Common.{◌≡◌, ◌≢◌, ◌<◌, ◌≤◌, ◌+◌, ◌⊎◌, inl, inr, refl, sym, ap, ◌∙◌, subst, arith, ℕ, zero, suc, Bool, true, false, List, []}
+use Rattle.std.proofs.Common.{◌∷◌, ◌++◌, length, ◌==◌, if◌then◌else◌, slice_index, slice_set, length-append}
 use Rattle.std.specs.List.{All, AllByRecursion}
 use Rattle.std.proofs.lemmas.Bool.Decides.{eqb_tells}
 use Rattle.std.proofs.lemmas.List.{length-set, get_or-set_same, get_or-set_other}
@@ -15,7 +16,8 @@ use Rattle.ppm_step.specs.declared.turn.Turn.{Turn}
 use Rattle.ppm_step.specs.State.{State, stand_of, after, along}
 use Rattle.ppm_core.specs.Acts.{seeks_holder_at}
 use Rattle.ppm_core.proofs.RunLemmas.{tell_on}
-use Rattle.ppm_obeying.specs.Course.{Due, Listed, Course, act_of, processor_of, victim_of, turn_of, seeks, loads_of, loads_behind, behind, turns_in, behind_all, turns_of}
+use Rattle.ppm_obeying.specs.Course.{Due, Listed, Course, act_of, processor_of, victim_of, turn_of, seeks, loads_of, loads_behind, behind, turns_in}
+use Rattle.ppm_obeying.specs.Course.{behind_all, turns_of}
 use Rattle.ppm_obeying.specs.Schedules.{dues_of, beginning}
 use Rattle.ppm_obeying.specs.Laws.{load_of, loads_made, turn_behind, IsDue, KeepsOrder}
 use Rattle.ppm_obeying.proofs.DueLemmas.{all_front, all_due}
@@ -57,7 +59,8 @@ one_load : (xs : List ℕ) (q p : ℕ) (b c : Bool) → q < length xs → ((c �
     → slice_index (if b then slice_set xs q (slice_index xs q + 1) else xs) p
     ≡ slice_index xs p + length ((if c then (if b then p ∷ [] else []) else []) ++ [])
 one_load xs q p b c less (inl same) =
-    subst (λ k. slice_index (if b then slice_set xs q (slice_index xs q + 1) else xs) k ≡ slice_index xs k + length ((if b then k ∷ [] else []) ++ []))
+    subst
+    (λ k. slice_index (if b then slice_set xs q (slice_index xs q + 1) else xs) k ≡ slice_index xs k + length ((if b then k ∷ [] else []) ++ []))
     same.1 (at_own xs q b less)
     ∙ ap (λ (t : Bool). slice_index xs p + length ((if t then (if b then p ∷ [] else []) else []) ++ [])) (sym same.0)
 one_load xs q p b c less (inr other) =

@@ -1,5 +1,6 @@
 -- What comes of what is due: whether it is made, and the state, the turns and the acts left then.
-use Rattle.std.proofs.Common.{◌≡◌, ◌<◌, ◌+◌, ◌⊎◌, inl, inr, refl, sym, ap, ◌∙◌, arith, ℕ, Bool, true, false, List, [], ◌∷◌, ◌++◌, length, nat_lt, not, ◌&&◌, if◌then◌else◌, length-append}
+use Rattle.std.proofs.Common.{◌≡◌, ◌<◌, ◌+◌, ◌⊎◌, inl, inr, refl, sym, ap, ◌∙◌, arith, ℕ, Bool, true, false, List, [], ◌∷◌, ◌++◌, length, nat_lt, not}
+use Rattle.std.proofs.Common.{◌&&◌, if◌then◌else◌, length-append}
 use Rattle.ppm_cells.specs.declared.shape.Shape.{Shape}
 use Rattle.ppm_code.specs.declared.code.CodeParts.{CodeParts}
 use Rattle.ppm_step.specs.declared.turn.Turn.{Turn}
@@ -47,7 +48,9 @@ module _ (s : Shape) (code : CodeParts) where
 
   by_test : (w : Course) (due : Due) (b : Bool) → is_made s code w due ≡ b → Makes w due ⊎ Skips w due
   by_test w due true is = inl (record {
-    left = some_left w.left (first_holds (nat_lt 0 w.left) (is_open s code w.state due) (not (is_done_at (stand_of w.state (processor_of (act_of due))))) is);
+    left =
+        some_left w.left
+        (first_holds (nat_lt 0 w.left) (is_open s code w.state due) (not (is_done_at (stand_of w.state (processor_of (act_of due))))) is);
     is_open =
         second_holds (nat_lt 0 w.left) (is_open s code w.state due)
         (not (is_done_at (stand_of w.state (processor_of (act_of due))))) is;
@@ -130,7 +133,8 @@ module _ (s : Shape) (code : CodeParts) where
   }
 
   by_first : (w : Course) (due : Due) (dues : List Due) (first more : List Turn) (turn : Turn) → Makes w due ⊎ Skips w due
-      → ((front more : List Turn) → turns_of s code (behind s code w due) dues ≡ front ++ (turn ∷ more) → Splits (behind s code w due) dues front turn)
+      → ((front more : List Turn) → turns_of s code (behind s code w due) dues ≡ front ++ (turn ∷ more)
+      → Splits (behind s code w due) dues front turn)
       → turns_in s code w due ++ turns_of s code (behind s code w due) dues ≡ first ++ (turn ∷ more) → Splits w (due ∷ dues) first turn
   by_first w due dues first more turn (inr k) go e =
       later w due dues [] first turn k.turns (go first more (ap (λ ts. ts ++ turns_of s code (behind s code w due) dues) (sym k.turns) ∙ e))

@@ -1,46 +1,32 @@
 -- What an act asks of the finish word, and where its processor stands after it.
-use Rattle.std.proofs.Common.{◌≡◌, ◌≢◌, ◌<◌, ◌+◌, ◌*◌, ◌⊎◌, inl, inr, refl, sym, ap, ◌∙◌, subst, arith, ℕ, zero, suc, Bool, true, false, List, [], ◌∷◌, ◌++◌, Option, Some, None, ◌==◌, length, replicate, slice_index, slice_set}
-use Rattle.std.specs.Prelude.{if◌then◌else◌, nat_lt, slice_get}
-use Rattle.std.specs.List.{AllByRecursion}
-use Rattle.std.proofs.lemmas.Bool.Decides.{eqb_tells}
-use Rattle.std.proofs.lemmas.List.{length-set, get_or-set_other, get_or-set_same}
-use Rattle.ppm_cells.specs.Cells.{address, place_size}
+use Rattle.std.proofs.Common.{◌≡◌, ◌≢◌, ◌<◌, ◌⊎◌, inl, inr, refl, ap, arith, ℕ, zero, suc, List, [], ◌∷◌, Option, length, slice_index, slice_set}
+use Rattle.std.specs.Prelude.{slice_get}
+use Rattle.ppm_cells.specs.Cells.{address}
 use Rattle.ppm_cells.specs.Fields.{number_of}
 use Rattle.ppm_cells.specs.Finish.{finish_word}
-use Rattle.ppm_cells.specs.Memory.{AreWordsOf}
 use Rattle.ppm_cells.specs.declared.cell.Cell.TheVariants.{CarryWord}
 use Rattle.ppm_cells.specs.declared.finish.Finish.TheVariants.{OutOfRoom, Broken as BrokenAt}
 use Rattle.ppm_cells.specs.declared.restart.Restart.{Restart}
-use Rattle.ppm_cells.specs.declared.restart.RestartKind.{RestartKind}
-use Rattle.ppm_cells.specs.declared.restart.RestartKind.TheVariants.{Run}
 use Rattle.ppm_cells.specs.declared.shape.Shape.{Shape}
-use Rattle.ppm_code.specs.Capsules.{capsule_of}
 use Rattle.ppm_code.specs.Code.{IsCode}
-use Rattle.ppm_code.specs.declared.code.Capsule.{Capsule}
 use Rattle.ppm_code.specs.declared.code.CodeParts.{CodeParts}
 use Rattle.ppm_step.specs.declared.ask.Want.{Want}
 use Rattle.ppm_step.specs.declared.ask.Want.TheVariants.{Loads as WantsLoad, Stores as WantsStore, Exchanges as WantsExchange, Nothing}
 use Rattle.ppm_step.specs.declared.row.Seat.{Seat}
 use Rattle.ppm_step.specs.declared.row.Then.{Then}
 use Rattle.ppm_step.specs.declared.row.Then.TheVariants.{Load, Install, Fork, Begin, Move, Enter, Again, Broken}
-use Rattle.ppm_step.specs.declared.row.Row.{Row}
 use Rattle.ppm_step.specs.declared.row.Row.TheVariants.{Now, Store, Exchange}
 use Rattle.ppm_step.specs.declared.turn.Act.{Act}
 use Rattle.ppm_step.specs.declared.turn.Act.TheVariants.{Step, Soft, Hard, Quit}
-use Rattle.ppm_step.specs.declared.turn.Turn.{Turn}
-use Rattle.ppm_step.specs.Contents.{content_of}
-use Rattle.ppm_step.specs.Points.{reading_at}
-use Rattle.ppm_step.specs.Rows.{found_at, row_of}
-use Rattle.ppm_step.specs.There.{restart_is_there}
-use Rattle.ppm_step.specs.Frames.{Rest, Loads, Stores, Full, Installs, Breaks, rest_of}
-use Rattle.ppm_step.specs.Standings.{Standing, IsLost, IsPlaced, IsAt, IsWithin, IsRunning, IsBroken, IsDone, unknown_place, then_is_there, row_is_there, rest_is_there, within_if, running_if, enters, stands_then, stands, begins_if, begins, wanted_then, wanted_row, wanted_rest, wanted, went_then, went_row, went_rest, placed, at_finish, went}
-use Rattle.ppm_step.specs.State.{State, stand_in, stand_of, found_in, words_after, want_of, stand_after, acts, happens, after, opening}
-use Rattle.ppm_step.specs.Laws.{IsStruck, IsNoQuit, IsProposedWord, FinishStays, FinishIsProposed, DoneHasCause}
-use Rattle.ppm_step.proofs.PlainLemmas.{capsule_plain}
-use Rattle.ppm_step.proofs.SparingLemmas.{place_first, SparesRow, found_spares, begun_spares}
-use Rattle.ppm_step.proofs.RestLemmas.{SparesRest, plain_spares}
-use Rattle.ppm_step.proofs.StandLemmas.{Spares, begins_spares, went_row_spares, went_rest_spares, placed_spares, no_done}
-use Rattle.ppm_step.proofs.WordLemmas.{Asks, WordGoes, word_goes, length_stays, exchanged, kept_over}
+use Rattle.ppm_step.specs.Frames.{Rest, Loads, Stores, Full, Installs, Breaks}
+use Rattle.ppm_step.specs.Standings.{Standing, IsLost, IsPlaced, IsAt, IsWithin, IsRunning, IsBroken, IsDone, wanted_then, wanted_row, wanted_rest}
+use Rattle.ppm_step.specs.Standings.{wanted, at_finish, went}
+use Rattle.ppm_step.specs.State.{State, stand_in, found_in, words_after, want_of, stand_after, acts}
+use Rattle.ppm_step.specs.Laws.{IsNoQuit, IsProposedWord}
+use Rattle.ppm_step.proofs.SparingLemmas.{place_first}
+use Rattle.ppm_step.proofs.RestLemmas.{SparesRest}
+use Rattle.ppm_step.proofs.StandLemmas.{Spares, begins_spares, went_row_spares, went_rest_spares, placed_spares}
+use Rattle.ppm_step.proofs.WordLemmas.{Asks, exchanged}
 
 -- the finish word that says that words are broken
 broken_some : (place : ℕ) → finish_word (BrokenAt place) ≢ 0

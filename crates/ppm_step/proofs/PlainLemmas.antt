@@ -18,7 +18,8 @@ use Rattle.ppm_code.specs.declared.act.End.TheVariants.{Next, Finish, Trap, Call
 use Rattle.ppm_code.specs.declared.code.Capsule.{Capsule as CodeCapsule}
 use Rattle.ppm_code.specs.declared.code.CodeParts.{CodeParts}
 use Rattle.ppm_code.specs.declared.instr.Instr.{Instr}
-use Rattle.ppm_code.specs.declared.instr.Instr.TheVariants.{Const, Move, Add, Sub, Mul, Div, Rem, Equal, NotEqual, Less, AtMost, Len, CutLeft, CutRight}
+use Rattle.ppm_code.specs.declared.instr.Instr.TheVariants.{Const, Move, Add, Sub, Mul, Div, Rem, Equal, NotEqual, Less, AtMost, Len, CutLeft}
+use Rattle.ppm_code.specs.declared.instr.Instr.TheVariants.{CutRight}
 use Rattle.ppm_code.specs.declared.instr.Instr.TheVariants.{LoadSlot, StoreCur, Give, Get, Put, BranchZero, BranchNonZero, Room, StoreNew, Ends}
 use Rattle.ppm_code.specs.declared.location.Location.TheVariants.{Array}
 use Rattle.ppm_code.specs.declared.register.Register.{Register}

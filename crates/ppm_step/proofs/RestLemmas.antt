@@ -6,13 +6,15 @@ use Rattle.ppm_capsules.specs.Strand.{Own, New, Shared}
 use Rattle.ppm_cells.specs.Cells.{address, pool_at, place_size}
 use Rattle.ppm_cells.specs.declared.shape.Shape.{Shape}
 use Rattle.ppm_code.specs.Locations.{Where}
+use Rattle.ppm_code.specs.Sizes.{frame_size}
 use Rattle.ppm_code.specs.declared.act.End.{End}
 use Rattle.ppm_code.specs.declared.act.End.TheVariants.{Next, Finish, Trap, Call, Fork}
 use Rattle.ppm_code.specs.declared.code.CodeParts.{CodeParts}
 use Rattle.ppm_code.specs.declared.location.FrameWord.TheVariants.{Slot, Value}
 use Rattle.ppm_step.specs.declared.frame.Put.{Put}
 use Rattle.ppm_step.specs.declared.frame.Home.{Home}
-use Rattle.ppm_step.specs.Frames.{Rest, Loads, Stores, Full, Installs, Breaks, cell_of, fork_puts_by, puts, installed, storing, asks, at_counter, rest_of}
+use Rattle.ppm_step.specs.Frames.{Rest, Loads, Stores, Full, Installs, Breaks, cell_of, fork_puts_by, fork_to_puts, puts, installed, storing, asks, at_counter}
+use Rattle.ppm_step.specs.Frames.{rest_of}
 use Rattle.ppm_step.proofs.PlainLemmas.{IsOld, EndsPlainly, IsPlain}
 
 module _ (s : Shape) where
@@ -35,16 +37,23 @@ module _ (s : Shape) where
   stored (suc n) (p ∷ ps) rest far h = stored n ps rest far.1 h
 
   module _ (code : CodeParts) where
+    far_targets : (home : Home) (left right capsule right_at left_target right_target : ℕ) → 0 < home.block → 0 < right_at
+        → AreFar (fork_to_puts code home left right capsule right_at left_target right_target)
+    far_targets home left right capsule right_at left_target right_target block there = (
+      block,
+      (omega arith, (omega arith, (omega arith, (omega arith, (omega arith, (there, (omega arith, (omega arith, (omega arith, (omega arith, tt)))))))))),
+    )
+
     far_fork : (home : Home) (left right capsule : ℕ) (left_to right_to : Option ℕ) → 0 < home.block
         → AreFar (fork_puts_by code home left right capsule left_to right_to)
     far_fork home left right capsule None None block =
         (block, (omega arith, (omega arith, (omega arith, (omega arith, (omega (arith, block), (omega arith, (omega arith, (omega arith, tt)))))))))
     far_fork home left right capsule None (Some r) block =
-        (block, (omega arith, (omega arith, (omega arith, (omega arith, (omega arith, (omega (arith, block), (omega arith, (omega arith, (omega arith, (omega arith, tt)))))))))))
+        far_targets home left right capsule (home.block + (5 + frame_size code left)) 0 (r + 1) block (omega (arith, block))
     far_fork home left right capsule (Some l) None block =
-        (block, (omega arith, (omega arith, (omega arith, (omega arith, (omega arith, (omega (arith, block), (omega arith, (omega arith, (omega arith, (omega arith, tt)))))))))))
+        far_targets home left right capsule (home.block + (5 + frame_size code left)) (l + 1) 0 block (omega (arith, block))
     far_fork home left right capsule (Some l) (Some r) block =
-        (block, (omega arith, (omega arith, (omega arith, (omega arith, (omega arith, (omega (arith, block), (omega arith, (omega arith, (omega arith, (omega arith, tt)))))))))))
+        far_targets home left right capsule (home.block + (5 + frame_size code left)) (l + 1) (r + 1) block (omega (arith, block))
 
     -- with a block in a pool all ends store elsewhere, without one those that build none
     far_block : (home : Home) (e : End) → 0 < home.block → AreFar (puts code home e)

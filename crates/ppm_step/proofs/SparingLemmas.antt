@@ -1,6 +1,7 @@
 -- What comes of a row or of a capsule stores nothing into the finish word: it is exchanged from 0 alone.
 use Rattle.std.proofs.Common.{◌≡◌, ◌<◌, ◌+◌, ◌*◌, ◌⊎◌, inl, inr, refl, arith, ℕ, zero, suc, Bool, true, false, Option, Some, None, ◌==◌}
 use Rattle.std.specs.Prelude.{◌-◌, ◌^◌, ◌&&◌, if◌then◌else◌, nat_lt}
+use Rattle.ppm_words.specs.declared.trap.Trap.{Trap}
 use Rattle.ppm_cells.specs.Cells.{address, place_at, place_size, word_count}
 use Rattle.ppm_cells.specs.declared.cell.Cell.{Cell}
 use Rattle.ppm_cells.specs.declared.cell.Cell.TheVariants.{EntryWord, BlockWord}
@@ -14,7 +15,8 @@ use Rattle.ppm_cells.specs.declared.link.LinkKind.{LinkKind}
 use Rattle.ppm_cells.specs.declared.link.LinkKind.TheVariants.{Root, Call as CallLink, Branch, Fork as ForkLink}
 use Rattle.ppm_cells.specs.declared.restart.Restart.{Restart}
 use Rattle.ppm_cells.specs.declared.restart.RestartKind.{RestartKind}
-use Rattle.ppm_cells.specs.declared.restart.RestartKind.TheVariants.{Run, Bump, Push1, Push2, Unwind, Arrive, Join, Pop1, Pop2, Seek, Steal, Check, Take, Take2}
+use Rattle.ppm_cells.specs.declared.restart.RestartKind.TheVariants.{Run, Bump, Push1, Push2, Unwind, Arrive, Join, Pop1, Pop2, Seek, Steal, Check}
+use Rattle.ppm_cells.specs.declared.restart.RestartKind.TheVariants.{Take, Take2}
 use Rattle.ppm_cells.specs.declared.shape.Shape.{Shape}
 use Rattle.ppm_cells.specs.declared.shape.Takeover.{Takeover}
 use Rattle.ppm_cells.specs.declared.shape.Takeover.TheVariants.{ByPlaces, ByEntries}
@@ -28,9 +30,11 @@ use Rattle.ppm_step.specs.declared.content.Content.{Content}
 use Rattle.ppm_step.specs.declared.content.Content.TheVariants.{ANumber, ARestart, AnEntry, AHolder, ALink, AFinish}
 use Rattle.ppm_step.specs.declared.row.Seat.{Seat}
 use Rattle.ppm_step.specs.declared.row.Point.{Point}
-use Rattle.ppm_step.specs.declared.row.Point.TheVariants.{Header, BumpLink, PushOrder, PushAbove, PushBottom, UnwindLink, UnwindOutcome, Target, GivenValue}
+use Rattle.ppm_step.specs.declared.row.Point.TheVariants.{Header, BumpLink, PushOrder, PushAbove, PushBottom, UnwindLink, UnwindOutcome, Target}
+use Rattle.ppm_step.specs.declared.row.Point.TheVariants.{GivenValue}
 use Rattle.ppm_step.specs.declared.row.Point.TheVariants.{JoinOrder, JoinLink, JoinLeft, JoinRight, RightFrame, Offset, PopBelow, PopAgain, PopAbove}
-use Rattle.ppm_step.specs.declared.row.Point.TheVariants.{SeekHolder, SeekDead, SeekTop, SeekEntry, SeekClosed, StealMessage, TakenMessage, TakenEntry}
+use Rattle.ppm_step.specs.declared.row.Point.TheVariants.{SeekHolder, SeekDead, SeekTop, SeekEntry, SeekClosed, StealMessage, TakenMessage}
+use Rattle.ppm_step.specs.declared.row.Point.TheVariants.{TakenEntry}
 use Rattle.ppm_step.specs.declared.row.Point.TheVariants.{ClosedRestart, ClosedLink, ClosedBottom, BidMessage, BidAgain, BidHolder}
 use Rattle.ppm_step.specs.declared.row.Then.{Then}
 use Rattle.ppm_step.specs.declared.row.Then.TheVariants.{Load, Begin, Move, Enter, Again, Broken}
@@ -38,10 +42,14 @@ use Rattle.ppm_step.specs.declared.row.Row.{Row}
 use Rattle.ppm_step.specs.declared.row.Row.TheVariants.{Now, Store, Exchange}
 use Rattle.ppm_step.specs.Contents.{word_of}
 use Rattle.ppm_step.specs.There.{restart_is_there}
-use Rattle.ppm_step.specs.Rows.{on_number, on_restart, on_entry, on_holder, on_link, on_outcome, with_kind, if_there, raised, tried, changed, bumped, pushes, push_at, push_by_order, push_above, push_bottom, left_begins}
-use Rattle.ppm_step.specs.Rows.{unwind_by, branch_outcome, unwound, after_value, target_found, value_found, is_inline, is_last, joins, join_by_order, join_by, joined, right_begins, right_value}
-use Rattle.ppm_step.specs.Rows.{pop_below, pop_again, pop_above, seek_held, seek_by, seek_holder, bids, seek_dead, seek_top, notes, passes, passes_by, local_by, seek_entry, seek_closed, taken_so, steals, can_be_taken, taken_message, took, goes_on_with, taken_entry}
-use Rattle.ppm_step.specs.Rows.{at_bottom, above_bottom, below_bottom, by_slot, follows, closed_link, closed_bottom, lowered, makes_bid, bid_again, bid_holder, found_at, by_places, row_of}
+use Rattle.ppm_step.specs.Rows.{on_number, on_restart, on_entry, on_holder, on_link, on_outcome, with_kind, if_there, raised, tried, changed, bumped}
+use Rattle.ppm_step.specs.Rows.{pushes, push_at, push_by_order, push_above, push_bottom, left_begins}
+use Rattle.ppm_step.specs.Rows.{unwind_by, branch_outcome, unwound, after_value, target_found, value_found, is_inline, is_last, joins, join_by_order}
+use Rattle.ppm_step.specs.Rows.{join_by, joined, right_begins, right_value}
+use Rattle.ppm_step.specs.Rows.{pop_below, pop_again, pop_above, seek_held, seek_by, seek_holder, bids, seek_dead, seek_top, notes, passes, passes_by}
+use Rattle.ppm_step.specs.Rows.{local_by, seek_entry, seek_closed, taken_so, steals, can_be_taken, taken_message, took, goes_on_with, taken_entry}
+use Rattle.ppm_step.specs.Rows.{at_bottom, above_bottom, below_bottom, by_slot, follows, closed_link, closed_bottom, lowered, makes_bid, bid_again}
+use Rattle.ppm_step.specs.Rows.{bid_holder, found_at, by_places, row_of}
 use Rattle.ppm_step.specs.Laws.{IsProposedWord}
 
 -- the words of places lie behind those of processors
@@ -90,7 +98,8 @@ module _ (s : Shape) where
   link w go h = tt
 
   -- an outcome is an end or a trap
-  outcome : (w : Content) (go : Finish → Row) → SparesRow (go Ended) → ((trap : _) (line : ℕ) → SparesRow (go (Trapped trap line))) → SparesRow (on_outcome w go)
+  outcome : (w : Content) (go : Finish → Row) → SparesRow (go Ended) → ((trap : Trap) (line : ℕ) → SparesRow (go (Trapped trap line)))
+      → SparesRow (on_outcome w go)
   outcome (AFinish Ended) go h k = h
   outcome (AFinish (Trapped trap line)) go h k = k trap line
   outcome (AFinish finish) go h k = tt
@@ -148,7 +157,7 @@ module _ (s : Shape) where
   unwound_ended seat frame (Branch side block) = branch_far side block
   unwound_ended seat frame (ForkLink to copy) = tt
 
-  unwound_trapped : (seat : Seat) (frame : ℕ) (kind : LinkKind) (trap : _) (line : ℕ) → SparesRow (unwound seat frame kind (Trapped trap line))
+  unwound_trapped : (seat : Seat) (frame : ℕ) (kind : LinkKind) (trap : Trap) (line : ℕ) → SparesRow (unwound seat frame kind (Trapped trap line))
   unwound_trapped seat frame Root trap line = inr (refl, record { finish = Trapped trap line; is_proposed = tt; word_is = refl })
   unwound_trapped seat frame (CallLink to copy) trap line = omega arith
   unwound_trapped seat frame (Branch side block) trap line = branch_far side block
