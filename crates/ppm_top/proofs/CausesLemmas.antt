@@ -15,9 +15,9 @@ use Rattle.ppm_showing.specs.Verdict.{CodeHas}
 use Rattle.ppm_line.specs.Words.{command_of}
 use Rattle.ppm_top.specs.Causes.{CommandMay, IsAnswered}
 use Rattle.ppm_plan.specs.Forms.{plan_form, schedule_form}
-use Rattle.ppm_obeying.specs.Replays.{TextHas as ReplayTextHas}
-use Rattle.ppm_obeying.specs.Runs.{TextHas as RunTextHas}
-use Rattle.ppm_obeying.proofs.PlannedLemmas as planned
+use Rattle.ppm_running.specs.Replays.{TextHas as ReplayTextHas}
+use Rattle.ppm_running.specs.Runs.{TextHas as RunTextHas}
+use Rattle.ppm_running.proofs.PlannedLemmas as planned
 
 -- where nothing was read, out of memory may be the answer, whatever the command is
 pub memory_before : (command : Option Command) (o : Outside) → IsUnread o.source → CommandMay command o answers.NoMemory

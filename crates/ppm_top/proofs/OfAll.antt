@@ -24,14 +24,14 @@ use Rattle.ppm_interpreting.specs.Correct.{HaveOneAnswer as ProgramsHaveOneAnswe
 use Rattle.ppm_interpreting.proofs.OfSerial.{serial_rows}
 use Rattle.ppm_plan.specs.Correct.{HaveOneAnswer as PlansHaveOneAnswer}
 use Rattle.ppm_plan.specs.Forms.{Form, plan_form, schedule_form}
-use Rattle.ppm_obeying.specs.Planned.{PlannedMay}
-use Rattle.ppm_obeying.specs.ReplayRows.{RefusesSchedule}
-use Rattle.ppm_obeying.specs.Replays.{TextHas as ReplayTextHas, HaveOneAnswer as ReplaysHaveOneAnswer}
-use Rattle.ppm_obeying.specs.RunRows.{RefusesPlan}
-use Rattle.ppm_obeying.specs.Runs.{TextHas as RunTextHas, AnswersAreOne}
-use Rattle.ppm_obeying.proofs.OfReplay as of_replay
-use Rattle.ppm_obeying.proofs.OfRun as of_run
-use Rattle.ppm_obeying.proofs.PlannedLemmas as planned
+use Rattle.ppm_running.specs.Planned.{PlannedMay}
+use Rattle.ppm_running.specs.ReplayRows.{RefusesSchedule}
+use Rattle.ppm_running.specs.Replays.{TextHas as ReplayTextHas, HaveOneAnswer as ReplaysHaveOneAnswer}
+use Rattle.ppm_running.specs.RunRows.{RefusesPlan}
+use Rattle.ppm_running.specs.Runs.{TextHas as RunTextHas, AnswersAreOne}
+use Rattle.ppm_running.proofs.OfReplay as of_replay
+use Rattle.ppm_running.proofs.OfRun as of_run
+use Rattle.ppm_running.proofs.PlannedLemmas as planned
 use Rattle.ppm_showing.specs.Verdict.{CodeHas}
 use Rattle.ppm_showing.specs.Causes.{CodeMay}
 use Rattle.ppm_showing.specs.Correct.{HaveOneAnswer as CodesHaveOneAnswer}

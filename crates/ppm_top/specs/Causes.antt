@@ -10,8 +10,8 @@ use Rattle.ppm_line.specs.declared.command.Command.TheVariants as commands
 use Rattle.ppm_line.specs.Words.{command_of}
 use Rattle.ppm_checking.specs.Causes.{CheckMay}
 use Rattle.ppm_interpreting.specs.Causes.{SerialMay}
-use Rattle.ppm_obeying.specs.Replays.{ReplayMay}
-use Rattle.ppm_obeying.specs.Runs.{RunMay}
+use Rattle.ppm_running.specs.Replays.{ReplayMay}
+use Rattle.ppm_running.specs.Runs.{RunMay}
 use Rattle.ppm_showing.specs.Causes.{CodeMay}
 
 -- the answers where the words give no command

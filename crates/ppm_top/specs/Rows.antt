@@ -17,8 +17,8 @@ use Rattle.ppm_checking.specs.Verdict.{CheckHas}
 use Rattle.ppm_checking.specs.Rows.{CheckRows}
 use Rattle.ppm_interpreting.specs.Rows.{SerialRows}
 use Rattle.ppm_showing.specs.Rows.{CodeRows}
-use Rattle.ppm_obeying.specs.ReplayRows.{RefusesSchedule, ReplayRows}
-use Rattle.ppm_obeying.specs.RunRows.{RefusesPlan, RunRows}
+use Rattle.ppm_running.specs.ReplayRows.{RefusesSchedule, ReplayRows}
+use Rattle.ppm_running.specs.RunRows.{RefusesPlan, RunRows}
 
 -- the rows of `run` hold where the words ask for a run, with these options and this plan
 abbrev pub RunsByWords : List (List ℕ) → Outside → Status → Type 0

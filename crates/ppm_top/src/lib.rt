@@ -9,7 +9,7 @@
 
 mod top;
 
-pub use ppm_obeying::WATCHERS;
+pub use ppm_running::WATCHERS;
 pub use top::ppm;
 
 #[cfg(test)]

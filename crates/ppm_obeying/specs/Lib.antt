@@ -1,9 +1,0 @@
-pub mod Course
-pub mod Schedules
-pub mod Following
-pub mod Says
-pub mod Laws
-pub mod Loading
-pub mod Planned
-pub mod Replays
-pub mod ReplayRows

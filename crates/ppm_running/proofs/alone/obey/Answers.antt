@@ -1,0 +1,13 @@
+use Rattle.std.proofs.Common.{refl, sym, ◌∙◌}
+use Rattle.ppm_running.proofs.AloneLemmas.{begins}
+use Rattle.ppm_running.proofs.alone.obey.Goals as goal
+
+-- nothing is done
+pub loop-init : goal.loop-init
+loop-init g c = (
+  tt,
+  tt,
+  begins c.args.plan.now c.args.limits c.processors.result c.first-pace.ensures.number (c.first-pace.ensures.pace c.args.limits) c.requires.begins
+      (c.processors.ensures.value ∙ sym c.requires.processors) c.new-victims.ensures,
+  refl,
+)

@@ -1,0 +1,47 @@
+use Rattle.std.proofs.Common.{◌≡◌, ◌-◌, suc, subst, ap, ◌∙◌, arith}
+use Rattle.ppm_core.specs.Machine.{seen}
+use Rattle.ppm_running.specs.Course.{InRound}
+use Rattle.ppm_running.specs.Schedules.{round, rounds}
+use Rattle.ppm_running.specs.Following.{course, Does}
+use Rattle.ppm_running.proofs.DoesLemmas.{goes_on_by, ends, ends_by, shape_stays}
+use Rattle.ppm_running.proofs.IdleLemmas.{all_rounds, none_left, not_open, is_shut}
+use Rattle.ppm_running.proofs.following.go_on.Goals as goal
+
+-- no act is left
+pub returns-then-way-eq0-clause-does : goal.returns-then-way-eq0-clause-does
+returns-then-way-eq0-clause-does c =
+    let m = seen c.loop-left.machine in
+    let w = course m c.loop-left.way in
+    let p = (seen c.args.machine.now).shape.processors in
+    ends (rounds p c.args.count) (rounds p c.loop-left.left) c.loop-left.invariant.0
+    (all_rounds m.shape m.code w (λ k. none_left m.shape m.code w (InRound k) c.if-way-eq0.true) p c.loop-left.left)
+
+-- the finish word says how the run ended
+pub returns-then-finish_word-ne0-clause-does : goal.returns-then-finish_word-ne0-clause-does
+returns-then-finish_word-ne0-clause-does c =
+    let m = seen c.loop-left.machine in
+    let w = course m c.loop-left.way in
+    let p = (seen c.args.machine.now).shape.processors in
+    ends (rounds p c.args.count) (rounds p c.loop-left.left) c.loop-left.invariant.0
+    (all_rounds m.shape m.code w
+    (λ k. not_open m.shape m.code w (InRound k) (is_shut _ _ c.finish_word.ensures c.if-finish_word-ne0.true)) p c.loop-left.left)
+
+-- one round more
+pub loop-left-preserved : goal.loop-left-preserved
+loop-left-preserved c =
+    let p = (seen c.args.machine.now).shape.processors in
+    let more : c.loop-left.left ≡ suc (c.loop-left.left - 1) = omega (arith, c.loop-left-test.true) in
+    let does = subst (λ s. Does (round s.processors) (seen c.loop-left.machine) c.loop-left.way (seen c.go_round.new.machine) c.go_round.new.way)
+    c.loop-left.invariant.2 c.go_round.ensures.does in (
+      goes_on_by (rounds p c.args.count) (rounds p c.loop-left.left) (round p) (rounds p (c.loop-left.left - 1))
+          (ap (rounds p) more) c.loop-left.invariant.0 does,
+      c.go_round.ensures.ready,
+      shape_stays c.go_round.ensures.does ∙ c.loop-left.invariant.2,
+    )
+
+-- all rounds
+pub returns-clause-does : goal.returns-clause-does
+returns-clause-does c =
+    let p = (seen c.args.machine.now).shape.processors in
+    let none : c.loop-left.left ≡ 0 = omega (arith, c.loop-left-test.false) in
+    ends_by (rounds p c.args.count) (rounds p c.loop-left.left) (ap (rounds p) none) c.loop-left.invariant.0

@@ -1,0 +1,11 @@
+use Rattle.std.proofs.Common.{◌∙◌}
+use Rattle.ppm_tree.specs.Tree.{tree_of}
+use Rattle.ppm_running.proofs.RunLemmas.{program_has}
+use Rattle.ppm_running.proofs.running.ran.Goals as goal
+
+-- what is said of the machine behind the run
+pub returns : goal.returns
+returns g c =
+    program_has c.args.options c.args.plan.now (tree_of c.args.program.now) _ _ _ _ _ _ _ c.sizes_of.ensures c.limits_of.ensures
+    c.requires.processors c.keeper.ensures.keeper c.in_ok-machine.ensures c.obey.ensures (c.arrays.ensures.value ∙ c.input.ensures.value)
+    c.in_ok-answer.ensures

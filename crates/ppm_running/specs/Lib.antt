@@ -1,0 +1,14 @@
+pub mod Course
+pub mod Schedules
+pub mod Following
+pub mod Says
+pub mod Laws
+pub mod Loading
+pub mod Planned
+pub mod Replays
+pub mod ReplayRows
+pub mod Alone
+pub mod Going
+pub mod Runs
+pub mod RunRows
+pub mod Watchers

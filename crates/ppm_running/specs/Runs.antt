@@ -1,0 +1,94 @@
+-- What `run` answers, and when it may.
+use Rattle.std.specs.Prelude.{◌≡◌, ℕ, List}
+use Rattle.ppm_ports.specs.Ports.{Port}
+use Rattle.ppm_text.specs.Limits.{text_limit}
+use Rattle.ppm_cells.specs.declared.finish.Finish.{Finish}
+use Rattle.ppm_cells.specs.declared.finish.Finish.TheVariants as finishes
+use Rattle.ppm_core.specs.declared.ending.Ending.{Ending}
+use Rattle.ppm_core.specs.declared.ending.Ending.TheVariants.{NotYet, With, Unknown}
+use Rattle.ppm_core.specs.Situation.{Situation, finish_in, ending_of}
+use Rattle.ppm_pace.specs.declared.limits.Idle.{Idle}
+use Rattle.ppm_pace.specs.declared.limits.Idle.TheVariants as idles
+use Rattle.ppm_pace.specs.declared.limits.Limits.{Limits}
+use Rattle.ppm_pace.specs.Obeying.{nothing_done}
+use Rattle.ppm_plan.specs.declared.plan_item.PlanItem.{PlanItem}
+use Rattle.ppm_plan.specs.Forms.{plan_form}
+use Rattle.ppm_plan.specs.Refusals.{IsKeeper}
+use Rattle.ppm_plan.specs.Schedules.{Planned}
+use Rattle.ppm_tree.specs.Tree.{ProgramTree}
+use Rattle.ppm_tree.specs.Program.{initial_arrays}
+use Rattle.ppm_judging.specs.Programs.{HasProgram}
+use Rattle.ppm_judging.specs.Refusals.{IsRefusal}
+use Rattle.ppm_words.specs.declared.named_array.NamedArray.{NamedArray}
+use Rattle.ppm_answers.specs.declared.answer.Answer.{Answer}
+use Rattle.ppm_answers.specs.declared.answer.Answer.TheVariants as answers
+use Rattle.ppm_line.specs.declared.run.RunOptions.{RunOptions}
+use Rattle.ppm_line.specs.declared.run.IdleName.{IdleName}
+use Rattle.ppm_line.specs.declared.run.IdleName.TheVariants as names
+use Rattle.ppm_running.specs.declared.loading.Sizes.{Sizes}
+use Rattle.ppm_running.specs.Alone.{ObeysTo}
+use Rattle.ppm_running.specs.Loading.{Begins, takeover_of}
+use Rattle.ppm_running.specs.Planned.{PlannedHas, PlannedMay, HasOneAnswer}
+use Rattle.ppm_running.specs.Says.{arrays_from}
+
+-- the machine's sizes and the limits, as the options say them
+abbrev pub sizes_of : RunOptions → Sizes
+sizes_of o = record { processors = o.processors; room = o.room; slots = o.slots; takeover = takeover_of o.takeover }
+
+abbrev pub idle_of : IdleName → Idle
+idle_of names.Leave = idles.Leave
+idle_of names.Park = idles.Park
+
+abbrev pub limits_of : RunOptions → Limits
+limits_of o = record { turns = o.turns; looks = o.looks; seed = o.seed; idle = idle_of o.idle }
+
+-- the plan with these items
+abbrev pub plan_of : RunOptions → List PlanItem → Planned
+plan_of options items = record { processors = options.processors; items = items }
+
+-- what a finish word is answered by, with these arrays. The last two come of no run
+abbrev pub answer_of : Situation → List NamedArray → Finish → Answer
+answer_of m arrays finishes.Ended = answers.Ended (arrays_from m 0 arrays)
+answer_of m arrays (finishes.Trapped trap line) = answers.Trapped trap line
+answer_of m arrays (finishes.OutOfRoom place) = answers.OutOfRoom place
+answer_of m arrays (finishes.OutOfTurns processor) = answers.OutOfTurns processor
+answer_of m arrays (finishes.Broken place) = answers.Broken place
+answer_of m arrays finishes.Stopped = answers.Broken 64
+answer_of m arrays finishes.Unset = answers.Broken 64
+
+abbrev pub answer_by : Situation → List NamedArray → Ending → Answer
+answer_by m arrays (With finish) = answer_of m arrays finish
+answer_by m arrays NotYet = answers.Broken 64
+answer_by m arrays Unknown = answers.Broken 64
+
+-- the answer that a machine's words are behind a run from these arrays
+abbrev pub answer_in : Situation → List NamedArray → Answer
+answer_in m arrays = answer_by m arrays (ending_of (finish_in m))
+
+-- the answer of a program by the items of a plan: what the machine's words say behind a run in which its one processor, 0, obeys the plan and
+-- the limits, from the machine with which a run of the program begins, with the plan's keeper
+pub record ProgramHas (options : RunOptions) (items : List PlanItem) (t : ProgramTree) (answer : Answer) : Type 0 where
+  pub keeper : ℕ
+  pub spared : IsKeeper plan_form items keeper
+  pub start : Situation
+  pub begins : Begins (sizes_of options) t keeper start
+  pub end : Situation
+  pub obeys : ObeysTo (plan_of options items) (limits_of options) nothing_done start end
+  pub says : answer ≡ answer_in end (initial_arrays t)
+
+-- that of a text: its program's, or its refusal
+abbrev pub TextHas : RunOptions → List PlanItem → List ℕ → Answer → Type 0
+TextHas options items text (answers.SourceRefused r) = IsRefusal text r
+TextHas options items text answer = (t : ProgramTree) × HasProgram text t × ProgramHas options items t answer
+
+-- the answer of a text with such options and such a plan: that the plan is refused, or that by its items
+abbrev pub RunHas : RunOptions → (plan : List ℕ) → List ℕ → Answer → Type 0
+RunHas options plan text answer = PlannedHas plan_form plan options.processors (TextHas options) text answer
+
+-- the answers of `run` with such options and such a plan
+abbrev pub RunMay : RunOptions → (plan : List ℕ) → Port → Answer → Type 0
+RunMay options plan source answer = PlannedMay plan_form plan options.processors (TextHas options) text_limit source answer
+
+-- two answers of a text are one, with all options in their ranges and all plans
+abbrev pub AnswersAreOne : Type 0
+AnswersAreOne = (options : RunOptions) (plan : List ℕ) → HasOneAnswer plan_form plan options.processors (TextHas options) text_limit

@@ -1,0 +1,33 @@
+//! Commands that run a machine: a program's machine is loaded, and obeys a schedule; `replay`.
+//! Model: what a schedule says is a list of acts that are due (`specs/Schedules`); which are made, and as which turns, is `specs/Course`.
+//! Contract: `follow` makes of a machine exactly what those turns make of it; `answer_of` is what its words then say (`specs/Says`);
+//! `replay_command` delivers the one answer of a text (`specs/Replays`), where its schedule is not refused (`specs/Planned`).
+//! Stands on `ppm_core`, `ppm_plan`, `ppm_judging`, `ppm_cut` and `ppm_answers`; `ppm_top` calls it.
+//! The schedules and their rules are this project's.
+#![tactic(auto)]
+
+mod alone;
+mod arrays;
+mod following;
+mod laws;
+mod loading;
+mod one_replay;
+mod one_run;
+mod planned;
+mod replaying;
+#[cfg(test)]
+mod run_tests;
+mod running;
+mod saying;
+#[cfg(test)]
+mod tests;
+
+pub use alone::obey;
+pub use following::follow;
+pub use laws::{schedules_go_on, schedules_keep_order, schedules_skip_done, unfinished_is_exact};
+pub use loading::{Sizes, load};
+pub use one_replay::have_one_answer;
+pub use one_run::answers_are_one;
+pub use replaying::replay_command;
+pub use running::{WATCHERS, run_command};
+pub use saying::answer_of;
