@@ -234,12 +234,7 @@ const SOURCES: [((u64, u32), &str, &str, Status); 36] = [
         "a 36 2 7 4 26 6 15 8\n",
         Status::Ended,
     ),
-    (
-        (25_600, 2_048),
-        SUM_OF_FOUR,
-        "a 10 2 7 4\n",
-        Status::Ended,
-    ),
+    ((25_600, 2_048), SUM_OF_FOUR, "a 10 2 7 4\n", Status::Ended),
     // Room on both sides of what the blocks have.
     ((16_777_216, 99), SUM_OF_FOUR, "a 10 2 7 4\n", Status::Ended),
     (
@@ -289,12 +284,7 @@ const SOURCES: [((u64, u32), &str, &str, Status); 36] = [
         Status::Ended,
     ),
     (DEFAULT, LOOP, "a 6\n", Status::Ended),
-    (
-        (16_777_216, 8_192),
-        FIBONACCI,
-        "a 55\n",
-        Status::Ended,
-    ),
+    ((16_777_216, 8_192), FIBONACCI, "a 55\n", Status::Ended),
     (
         DEFAULT,
         EACH,
@@ -333,7 +323,11 @@ fn sources_are_run(rt: HostRuntime) -> Result<(), Fail> {
 const PLANS: [(&str, &str, Status); 9] = [
     ("0@0s", "a 6\n", Status::Ended),
     ("0@3s,0@4s,0@4s,0@11s", "a 6\n", Status::Ended),
-    ("0@10s,0@20s,0@30s,0@40s,0@50s,0@60s", "a 6\n", Status::Ended),
+    (
+        "0@10s,0@20s,0@30s,0@40s,0@50s,0@60s",
+        "a 6\n",
+        Status::Ended,
+    ),
     ("0@4294967295s", "a 6\n", Status::Ended),
     ("0@3h", "plan refused: 4\n", Status::WordsRefused),
     ("1@0s", "plan refused: 2\n", Status::WordsRefused),

@@ -154,11 +154,7 @@ fn ran<R: Wait>(
 }
 
 /// What is said of a machine behind a run, by its finish word: these arrays with its values, its trap, or why there are none.
-fn answer_of(
-    alloc: Global,
-    machine: &Machine,
-    arrays: &[NamedArray],
-) -> Result<Answer, NoMemory>
+fn answer_of(alloc: Global, machine: &Machine, arrays: &[NamedArray]) -> Result<Answer, NoMemory>
     requires lengths { (seen machine.now).array_lengths ≡ map (λ a. length a.values) arrays.now }
     ensures { IfOk result (λ answer. answer ≡ answer_in (seen machine.now) arrays.now) }
 {
