@@ -1,5 +1,5 @@
 -- What holds of all that is due of a schedule.
-use Rattle.std.proofs.Common.{◌≡◌, ◌<◌, ◌≤◌, ◌+◌, sym, subst, arith, ℕ, zero, suc, List, [], ◌∷◌, ◌++◌, map, replicate}
+use Rattle.std.proofs.Common.{◌<◌, ◌+◌, sym, subst, arith, ℕ, zero, suc, List, [], ◌∷◌, ◌++◌, map, replicate}
 use Rattle.std.specs.List.{AllByRecursion, range_with_len}
 use Rattle.ppm_plan.specs.declared.schedule_item.ScheduleItem.{ScheduleItem}
 use Rattle.ppm_running.specs.Course.{Due, Listed, InRound}

@@ -1,11 +1,11 @@
 -- The keeper of a schedule lives while the finish word is 0, and no processor quits.
-use Rattle.std.proofs.Common.{◌≡◌, ◌≢◌, ◌<◌, ◌+◌, ◌⊎◌, inl, inr, refl, sym, ap, ◌∙◌, subst, arith, ℕ, zero, suc, Bool, true, false, List, [], ◌∷◌}
-use Rattle.std.proofs.Common.{◌++◌, length, ◌==◌, ◌&&◌, ◌||◌, Option, Some, None}
+use Rattle.std.proofs.Common.{◌≡◌, ◌≢◌, ◌<◌, ◌⊎◌, inl, inr, refl, sym, ap, ◌∙◌, subst, arith, ℕ, zero, suc, Bool, true, false, List, [], ◌∷◌}
+use Rattle.std.proofs.Common.{◌++◌, length, ◌==◌, ◌||◌, Option, Some, None}
 use Rattle.std.specs.List.{AllByRecursion, list_any}
 use Rattle.std.proofs.lemmas.Bool.{eq-eqb}
 use Rattle.ppm_cells.specs.Fields.{number_of}
 use Rattle.ppm_cells.specs.Finish.{finish_word, finish_of, IsFinish}
-use Rattle.ppm_cells.specs.Memory.{read, AreWordsOf}
+use Rattle.ppm_cells.specs.Memory.{read}
 use Rattle.ppm_cells.specs.declared.cell.Cell.TheVariants.{FinishWord}
 use Rattle.ppm_cells.specs.declared.finish.Finish.{Finish}
 use Rattle.ppm_cells.specs.declared.finish.Finish.TheVariants as finishes
@@ -20,17 +20,15 @@ use Rattle.ppm_plan.specs.declared.schedule_item.ScheduledAct.{ScheduledAct}
 use Rattle.ppm_plan.specs.declared.schedule_item.ScheduledAct.TheVariants as scheduled
 use Rattle.ppm_plan.specs.Forms.{act_kills, schedule_form}
 use Rattle.ppm_plan.specs.Refusals.{is_killed, IsKeeper}
-use Rattle.ppm_step.specs.declared.turn.Act.{Act}
-use Rattle.ppm_step.specs.declared.turn.Act.TheVariants.{Step, Soft, Hard, Quit}
+use Rattle.ppm_step.specs.declared.turn.Act.TheVariants.{Hard}
 use Rattle.ppm_step.specs.declared.turn.Turn.{Turn}
 use Rattle.ppm_step.specs.Standings.{IsDone}
 use Rattle.ppm_step.specs.State.{State, stand_of, after, opening}
 use Rattle.ppm_step.specs.Laws.{IsStruck, IsNoQuit, IsProposed, IsProposedWord}
 use Rattle.ppm_step.proofs.FinishLemmas.{finish_is_proposed, done_has_cause}
 use Rattle.ppm_core.specs.Situation.{loaded, finish_in, ending_by, ending_of}
-use Rattle.ppm_core.specs.declared.ending.Ending.{Ending}
-use Rattle.ppm_core.specs.declared.ending.Ending.TheVariants.{NotYet, With, Unknown}
-use Rattle.ppm_running.specs.Course.{Due, Listed, InRound, Course, act_of, turn_of, behind, turns_in, behind_all, turns_of}
+use Rattle.ppm_core.specs.declared.ending.Ending.TheVariants.{With}
+use Rattle.ppm_running.specs.Course.{Due, Listed, Course, act_of, turn_of, behind, turns_in, behind_all, turns_of}
 use Rattle.ppm_running.specs.Schedules.{dues_of, beginning, schedule_turns, followed}
 use Rattle.ppm_running.specs.Laws.{IsOver, AllMade, Finished, NoneLeft, UnfinishedIsExact, NoneQuits}
 use Rattle.ppm_running.proofs.DueLemmas.{all_at, all_due}

@@ -1,8 +1,8 @@
 -- What is due is left out for one of three reasons, and for no other.
-use Rattle.std.proofs.Common.{◌≡◌, ◌≢◌, ◌<◌, ◌≤◌, ◌+◌, ◌⊎◌, inl, inr, refl, sym, ap, ◌∙◌, subst, arith, ℕ, zero, suc, Bool, true, false, List, []}
+use Rattle.std.proofs.Common.{◌≡◌, ◌≢◌, ◌≤◌, ◌⊎◌, inl, inr, refl, sym, ap, ◌∙◌, subst, arith, ℕ, Bool, true, false, List, []}
 use Rattle.std.proofs.Common.{◌∷◌, ◌++◌}
-use Rattle.std.proofs.Common.{length, nat_lt, not, ◌&&◌, ◌==◌}
-use Rattle.std.specs.List.{All, AllByRecursion}
+use Rattle.std.proofs.Common.{nat_lt, not, ◌&&◌, ◌==◌}
+use Rattle.std.specs.List.{AllByRecursion}
 use Rattle.std.proofs.lemmas.List.{append-nil}
 use Rattle.std.proofs.lemmas.Bool.{eq-eqb}
 use Rattle.std.proofs.lemmas.Bool.Decides.{eqb_tells}
@@ -10,14 +10,12 @@ use Rattle.ppm_cells.specs.Memory.{read}
 use Rattle.ppm_cells.specs.declared.cell.Cell.TheVariants.{FinishWord}
 use Rattle.ppm_cells.specs.declared.shape.Shape.{Shape}
 use Rattle.ppm_code.specs.declared.code.CodeParts.{CodeParts}
-use Rattle.ppm_plan.specs.declared.schedule_item.ScheduleItem.{ScheduleItem}
 use Rattle.ppm_step.specs.declared.turn.Turn.{Turn}
-use Rattle.ppm_step.specs.Standings.{IsDone}
 use Rattle.ppm_step.specs.State.{State, stand_of, after}
 use Rattle.ppm_core.specs.Acts.{is_done_at}
 use Rattle.ppm_running.specs.Course.{Due, Listed, InRound, Course, act_of, processor_of, is_open, is_made, turn_of, turns_in, behind_all, turns_of}
-use Rattle.ppm_running.specs.Schedules.{dues_of, beginning}
-use Rattle.ppm_running.specs.Laws.{IsShut, IsLeftOut, NoTurnLeft, OfDone, Shut, turn_behind, ComesNext, LeavesOutNoMore}
+use Rattle.ppm_running.specs.Schedules.{beginning}
+use Rattle.ppm_running.specs.Laws.{IsShut, IsLeftOut, NoTurnLeft, OfDone, Shut, ComesNext, LeavesOutNoMore}
 use Rattle.ppm_running.proofs.CourseLemmas.{turns_of_both}
 use Rattle.ppm_running.proofs.DueLemmas.{all_front}
 use Rattle.ppm_running.proofs.LoadLemmas.{IsFew, few_dues, turn_at}
