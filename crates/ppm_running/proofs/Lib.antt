@@ -21,3 +21,5 @@ pub mod AloneLemmas
 pub mod RunLemmas
 pub mod OneRun
 pub mod OfRun
+pub mod FinishLemmas
+pub mod SpentLemmas

@@ -1,5 +1,5 @@
 -- The answers that programs and texts have where they are run are of few kinds.
-use Rattle.std.proofs.Common.{◌≡◌, ◌≤◌, ◌∙◌, ℕ, zero, suc, List, slice_get, replicate, arith, refl, sym, ap, subst, lit≤}
+use Rattle.std.proofs.Common.{◌≡◌, ◌≢◌, ◌⊎◌, ◌≤◌, ◌∙◌, ℕ, zero, suc, List, slice_get, replicate, arith, refl, sym, ap, subst, lit≤}
 use Rattle.ppm_words.specs.declared.named_array.NamedArray.{NamedArray}
 use Rattle.ppm_words.specs.declared.trap.Trap.{Trap}
 use Rattle.ppm_ports.specs.Ports.{Port}
@@ -13,6 +13,7 @@ use Rattle.ppm_plan.specs.declared.plan_item.PlanItem.{PlanItem}
 use Rattle.ppm_plan.specs.Forms.{plan_form}
 use Rattle.ppm_plan.specs.Refusals.{IsKeeper}
 use Rattle.ppm_plan.specs.Schedules.{Planned}
+use Rattle.ppm_step.specs.Laws.{IsProposedWord}
 use Rattle.ppm_step.specs.Standings.{IsLost}
 use Rattle.ppm_step.specs.State.{stand_in, stand_of}
 use Rattle.ppm_pace.specs.declared.limits.Limits.{Limits}
@@ -149,8 +150,10 @@ same_plan options plan same = λ i. record { processors = same i; items = plan.i
 pub program_has : (options : RunOptions) (plan : Planned) (t : ProgramTree) (sizes : Sizes) (limits : Limits) (keeper : ℕ)
     (start end : Situation) (arrays : List NamedArray) (a : Answer) → sizes ≡ sizes_of options → limits ≡ limits_of options
     → plan.processors ≡ options.processors → IsKeeper plan_form plan.items keeper → Begins sizes t keeper start
-    → ObeysTo plan limits nothing_done start end → arrays ≡ initial_arrays t → a ≡ answer_in end arrays → ProgramHas options plan.items t a
-program_has options plan t sizes limits keeper start end arrays a sizes_are limits_are same spared begins obeys arrays_are says = record {
+    → ObeysTo plan limits nothing_done start end → finish_in end ≢ 0
+    → IsProposedWord (finish_in end) ⊎ (end.work ≡ limits.turns) → arrays ≡ initial_arrays t → a ≡ answer_in end arrays
+    → ProgramHas options plan.items t a
+program_has options plan t sizes limits keeper start end arrays a sizes_are limits_are same spared begins obeys finished spent arrays_are says = record {
   keeper = keeper;
   spared = spared;
   start = start;
@@ -159,6 +162,8 @@ program_has options plan t sizes limits keeper start end arrays a sizes_are limi
   obeys =
       subst (λ (p : Planned). ObeysTo p (limits_of options) nothing_done start end) (same_plan options plan same)
       (subst (λ (l : Limits). ObeysTo plan l nothing_done start end) limits_are obeys);
+  finished = finished;
+  spent = subst (λ (l : Limits). IsProposedWord (finish_in end) ⊎ (end.work ≡ l.turns)) limits_are spent;
   says = says ∙ ap (answer_in end) arrays_are;
 }
 

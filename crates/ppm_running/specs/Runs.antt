@@ -1,5 +1,5 @@
 -- What `run` answers, and when it may.
-use Rattle.std.specs.Prelude.{◌≡◌, ℕ, List}
+use Rattle.std.specs.Prelude.{◌≡◌, ◌≢◌, ◌⊎◌, ℕ, List}
 use Rattle.ppm_ports.specs.Ports.{Port}
 use Rattle.ppm_text.specs.Limits.{text_limit}
 use Rattle.ppm_cells.specs.declared.finish.Finish.{Finish}
@@ -15,6 +15,7 @@ use Rattle.ppm_plan.specs.declared.plan_item.PlanItem.{PlanItem}
 use Rattle.ppm_plan.specs.Forms.{plan_form}
 use Rattle.ppm_plan.specs.Refusals.{IsKeeper}
 use Rattle.ppm_plan.specs.Schedules.{Planned}
+use Rattle.ppm_step.specs.Laws.{IsProposedWord}
 use Rattle.ppm_tree.specs.Tree.{ProgramTree}
 use Rattle.ppm_tree.specs.Program.{initial_arrays}
 use Rattle.ppm_judging.specs.Programs.{HasProgram}
@@ -66,7 +67,8 @@ abbrev pub answer_in : Situation → List NamedArray → Answer
 answer_in m arrays = answer_by m arrays (ending_of (finish_in m))
 
 -- the answer of a program by the items of a plan: what the machine's words say behind a run in which its one processor, 0, obeys the plan and
--- the limits, from the machine with which a run of the program begins, with the plan's keeper
+-- the limits, from the machine with which a run of the program begins, with the plan's keeper; its finish
+-- word isn't 0, and is one that steps propose, or the processor has made all its work turns
 pub record ProgramHas (options : RunOptions) (items : List PlanItem) (t : ProgramTree) (answer : Answer) : Type 0 where
   pub keeper : ℕ
   pub spared : IsKeeper plan_form items keeper
@@ -74,6 +76,8 @@ pub record ProgramHas (options : RunOptions) (items : List PlanItem) (t : Progra
   pub begins : Begins (sizes_of options) t keeper start
   pub end : Situation
   pub obeys : ObeysTo (plan_of options items) (limits_of options) nothing_done start end
+  pub finished : finish_in end ≢ 0
+  pub spent : IsProposedWord (finish_in end) ⊎ (end.work ≡ options.turns)
   pub says : answer ≡ answer_in end (initial_arrays t)
 
 -- that of a text: its program's, or its refusal

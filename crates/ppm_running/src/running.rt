@@ -148,6 +148,8 @@ fn ran<R: Wait>(
     ensures { IfOk result (ProgramHas options plan.now.items (tree_of program.now)) }
 {
     let mut machine = load(alloc, sizes_of(options), program, plan.keeper())?;
+    // What the type of its code keeps is known once its parts were seen.
+    let _ = machine.code().parts();
     obey(rt, &mut machine, plan, limits_of(options));
     let answer = answer_of(alloc, &machine, program.input().arrays())?;
     Ok(answer)

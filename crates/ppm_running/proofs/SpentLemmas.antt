@@ -1,0 +1,197 @@
+-- A processor that obeys quits only where its work turns are spent, and makes no more.
+use Rattle.std.proofs.Common.{◌≡◌, ◌≢◌, ◌≤◌, ◌<◌, ◌⊎◌, ◌&&◌, ◌+◌, inl, inr, refl, sym, ap, ◌∙◌, subst, arith, ℕ, Bool, true, false, nat_le, List, [], ◌∷◌, ◌++◌, length, Option, Some, None, if◌then◌else◌}
+use Rattle.std.specs.List.{AllByRecursion}
+use Rattle.std.proofs.lemmas.Bool.{leb-true, leb-false}
+use Rattle.std.proofs.lemmas.List.{length-append}
+use Rattle.ppm_cells.specs.Fields.{number_of}
+use Rattle.ppm_cells.specs.Finish.{finish_word}
+use Rattle.ppm_cells.specs.declared.finish.Finish.TheVariants.{Unset}
+use Rattle.ppm_cells.specs.Memory.{AreWordsOf, read}
+use Rattle.ppm_cells.specs.declared.cell.Cell.TheVariants.{FinishWord}
+use Rattle.ppm_cells.specs.declared.shape.Shape.{Shape}
+use Rattle.ppm_code.specs.Code.{IsCode}
+use Rattle.ppm_code.specs.declared.code.CodeParts.{CodeParts}
+use Rattle.ppm_plan.specs.declared.fault.Fault.{Fault}
+use Rattle.ppm_plan.specs.declared.fault.Fault.TheVariants as faults
+use Rattle.ppm_plan.specs.Schedules.{Planned}
+use Rattle.ppm_step.specs.declared.turn.Act.{Act}
+use Rattle.ppm_step.specs.declared.turn.Act.TheVariants.{Step, Soft, Hard, Quit}
+use Rattle.ppm_step.specs.declared.turn.Turn.{Turn}
+use Rattle.ppm_step.specs.declared.turn.Why.{Why}
+use Rattle.ppm_step.specs.declared.turn.Why.TheVariants.{Turns}
+use Rattle.ppm_step.specs.Laws.{IsNoQuit, IsProposedWord, finish_at}
+use Rattle.ppm_step.specs.Standings.{Standing}
+use Rattle.ppm_step.specs.State.{State, stand_of, happens, after, along, opening, next_of, work_of, work_next, step_by}
+use Rattle.ppm_step.proofs.FinishLemmas.{finish_is_proposed}
+use Rattle.ppm_core.specs.Situation.{Situation, loaded, run_on, finish_in}
+use Rattle.ppm_core.proofs.TurnLemmas.{work_is as work_counts}
+use Rattle.ppm_pace.specs.declared.limits.Limits.{Limits}
+use Rattle.ppm_pace.specs.Deeds.{AreOf}
+use Rattle.ppm_pace.specs.Obeying.{Past, nothing_done, is_work, is_step, is_work_deed, fault_of, faulted, next_act, next_step, behind}
+use Rattle.ppm_pace.proofs.AloneLemmas.{deed_of, ObeysFrom}
+use Rattle.ppm_tree.specs.Tree.{ProgramTree}
+use Rattle.ppm_translation.specs.Routines.{code_of}
+use Rattle.ppm_running.specs.declared.loading.Sizes.{Sizes}
+use Rattle.ppm_running.specs.Alone.{ObeysTo}
+use Rattle.ppm_running.specs.Loading.{Begins}
+use Rattle.ppm_running.proofs.AloneLemmas.{work_is}
+use Rattle.ppm_running.proofs.FinishLemmas.{first_obeys}
+
+-- one more, or none
+one_or_none : (work : Bool) (n : ℕ) → (if work then n + 1 else n) ≡ n + (if work then 1 else 0)
+one_or_none true n = refl
+one_or_none false n = omega arith
+
+-- an act passes no limit on work turns
+within_by : (f : Option Fault) (work full : Bool) (n most victim : ℕ) → nat_le most n ≡ full → n ≤ most
+    → (if is_step (faulted f (if work && full then Quit Turns else Step victim)) && work then n + 1 else n) ≤ most
+within_by None true true n most victim is h = h
+within_by None true false n most victim is h = omega (arith, leb-false most n is)
+within_by None false full n most victim is h = h
+within_by (Some faults.Soft) work full n most victim is h = h
+within_by (Some faults.Hard) work full n most victim is h = h
+
+-- and a quit comes where it is reached
+reached_by : (f : Option Fault) (work full : Bool) (n most victim : ℕ) (why : Why) → nat_le most n ≡ full
+    → Quit why ≡ faulted f (if work && full then Quit Turns else Step victim) → most ≤ n
+reached_by None true true n most victim why is e = leb-true most n is
+reached_by None true false n most victim why is e = cc
+reached_by None false full n most victim why is e = cc
+reached_by (Some faults.Soft) work full n most victim why is e = cc
+reached_by (Some faults.Hard) work full n most victim why is e = cc
+
+-- a turn is a quit, or none is
+pub record SomeQuit (c : ℕ) (turns : List Turn) : Type 0 where
+  pub first : List Turn
+  pub why : Why
+  pub more : List Turn
+  pub turns_are : turns ≡ first ++ (record { processor = c; act = Quit why } ∷ more)
+
+quit_or_none : (c : ℕ) (turns : List Turn) → AreOf c turns → AllByRecursion (λ turn. IsNoQuit turn.act) turns ⊎ SomeQuit c turns
+quit_or_none c [] own = inl tt
+quit_or_none c (turn ∷ turns) own = go turn.act refl (quit_or_none c turns own.1)
+  where
+    quits : (why : Why) → turn.act ≡ Quit why → turn ≡ record { processor = c; act = Quit why }
+    quits why is = λ i. record { processor = own.0 i; act = is i }
+
+    behind_it : IsNoQuit turn.act → AllByRecursion (λ t. IsNoQuit t.act) turns ⊎ SomeQuit c turns
+        → AllByRecursion (λ t. IsNoQuit t.act) (turn ∷ turns) ⊎ SomeQuit c (turn ∷ turns)
+    behind_it none (inl all) = inl (none, all)
+    behind_it none (inr q) =
+        inr (record { first = turn ∷ q.first; why = q.why; more = q.more; turns_are = ap (λ l. turn ∷ l) q.turns_are })
+
+    go : (act : Act) → turn.act ≡ act → AllByRecursion (λ t. IsNoQuit t.act) turns ⊎ SomeQuit c turns
+        → AllByRecursion (λ t. IsNoQuit t.act) (turn ∷ turns) ⊎ SomeQuit c (turn ∷ turns)
+    go (Step victim) is rest = behind_it (subst IsNoQuit (sym is) tt) rest
+    go Soft is rest = behind_it (subst IsNoQuit (sym is) tt) rest
+    go Hard is rest = behind_it (subst IsNoQuit (sym is) tt) rest
+    go (Quit why) is rest =
+        inr (record { first = []; why = why; more = turns; turns_are = ap (λ t. t ∷ turns) (quits why is) })
+
+module _ (s : Shape) (code : CodeParts) (plan : Planned) (limits : Limits) (c : ℕ) where
+  -- the work turns of a run
+  abbrev work_in : State → List Turn → ℕ
+  work_in state turns = length (along s code work_of state turns)
+
+  turn_counts : (state : State) (turn : Turn) → turn.processor ≡ c
+      → length (work_of state turn) ≡ (if is_work_deed (deed_of c state turn) then 1 else 0)
+  turn_counts state turn e =
+      sym (work_counts s code turn.processor turn.act (stand_of state turn.processor))
+      ∙ ap (λ b. if b then 1 else 0) (work_is s code turn.act (stand_of state turn.processor))
+      ∙ ap (λ p. if is_work_deed (record { stood = stand_of state p; act = turn.act }) then 1 else 0) e
+
+  -- those behind one turn
+  work_behind : (past : Past) (state : State) (turn : Turn) (turns : List Turn) → turn.processor ≡ c
+      → past.work + work_in state (turn ∷ turns) ≡ (behind past (deed_of c state turn)).work + work_in (happens s code state turn) turns
+  work_behind past state turn turns e =
+      omega (
+      arith,
+      length-append (work_of state turn) (along s code work_of (happens s code state turn) turns),
+      turn_counts state turn e,
+      one_or_none (is_work_deed (deed_of c state turn)) past.work
+      )
+
+  at_most : (past : Past) (state : State) (turns : List Turn) → AreOf c turns → ObeysFrom s code plan limits c past state turns
+      → past.work ≤ limits.turns → past.work + work_in state turns ≤ limits.turns
+  at_most past state [] own obeys h = omega (arith, h)
+  at_most past state (turn ∷ turns) own obeys h =
+      let f = first_obeys s code plan limits c past state turn turns own.0 obeys in
+      let stood = stand_of state c in
+      let few : (behind past (deed_of c state turn)).work ≤ limits.turns =
+      subst (λ a. (behind past (record { stood = stood; act = a })).work ≤ limits.turns) (sym f.1)
+      (within_by (fault_of plan.items c past.acts) (is_work (next_of stood)) (nat_le limits.turns past.work) past.work limits.turns _ refl h) in
+      let rest = at_most (behind past (deed_of c state turn)) (happens s code state turn) turns own.1 f.2 few in
+      omega (arith, rest, work_behind past state turn turns own.0)
+
+  spent : (past : Past) (state : State) (first more : List Turn) (why : Why) → AreOf c (first ++ record { processor = c; act = Quit why } ∷ more)
+      → ObeysFrom s code plan limits c past state (first ++ record { processor = c; act = Quit why } ∷ more)
+      → limits.turns ≤ past.work + work_in state (first ++ record { processor = c; act = Quit why } ∷ more)
+  spent past state [] more why own obeys =
+      let f = first_obeys s code plan limits c past state (record { processor = c; act = Quit why }) more own.0 obeys in
+      let stood = stand_of state c in
+      let full =
+      reached_by (fault_of plan.items c past.acts) (is_work (next_of stood)) (nat_le limits.turns past.work) past.work limits.turns _ why refl f.1 in
+      omega (arith, full)
+  spent past state (turn ∷ first) more why own obeys =
+      let turns = first ++ record { processor = c; act = Quit why } ∷ more in
+      let f = first_obeys s code plan limits c past state turn turns own.0 obeys in
+      let rest = spent (behind past (deed_of c state turn)) (happens s code state turn) first more why own.1 f.2 in
+      omega (arith, rest, work_behind past state turn turns own.0)
+
+  -- behind a run in which it obeys, from words that say nothing, the finish word says nothing, or what steps propose, or its work turns are spent
+  pub run_is_spent : (words : List ℕ) (turns : List Turn) → IsCode code → read s words FinishWord ≡ 0 → AreOf c turns
+      → ObeysFrom s code plan limits c nothing_done (opening words s.processors) turns
+      → finish_at s (after s code (opening words s.processors) turns) ≢ 0
+      → IsProposedWord (finish_at s (after s code (opening words s.processors) turns))
+      ⊎ (work_in (opening words s.processors) turns ≡ limits.turns)
+  run_is_spent words turns code_is unset own obeys some = go (quit_or_none c turns own)
+    where
+      start : State
+      start = opening words s.processors
+
+      of_none : (finish_at s (after s code start turns) ≡ read s words FinishWord) ⊎ IsProposedWord (finish_at s (after s code start turns))
+          → IsProposedWord (finish_at s (after s code start turns)) ⊎ (work_in start turns ≡ limits.turns)
+      of_none (inl same) = absurd (some (same ∙ unset))
+      of_none (inr proposed) = inl proposed
+
+      go : AllByRecursion (λ turn. IsNoQuit turn.act) turns ⊎ SomeQuit c turns
+          → IsProposedWord (finish_at s (after s code start turns)) ⊎ (work_in start turns ≡ limits.turns)
+      go (inl none) = of_none (finish_is_proposed s code code_is words turns none)
+      go (inr q) =
+          let most = at_most nothing_done start turns own obeys (omega arith) in
+          let least = subst (λ l. limits.turns ≤ nothing_done.work + work_in start l) (sym q.turns_are)
+          (spent nothing_done start q.first q.more q.why (subst (AreOf c) q.turns_are own)
+          (subst (ObeysFrom s code plan limits c nothing_done start) q.turns_are obeys)) in
+          inr (omega (arith, most, least))
+
+-- no finish
+unset_is : finish_word Unset ≡ 0
+unfolding number_of
+unset_is = refl
+
+-- so it is behind a run of a program's machine
+pub has_spent : (sizes : Sizes) (t : ProgramTree) (keeper : ℕ) (plan : Planned) (limits : Limits) (start end : Situation)
+    → Begins sizes t keeper start → IsCode start.code → ObeysTo plan limits nothing_done start end → finish_in end ≢ 0
+    → IsProposedWord (finish_in end) ⊎ (end.work ≡ limits.turns)
+has_spent sizes t keeper plan limits start end b code_is obeys some =
+    go (run_is_spent b.shape (code_of t) plan limits 0 b.image.words o.turns is unset o.own o.obeys (λ none. some (says ∙ none)))
+  where
+    first : Situation
+    first = loaded b.shape (code_of t) b.image.lengths b.image.words
+
+    o : ObeysTo plan limits nothing_done first end
+    o = subst (λ (m : Situation). ObeysTo plan limits nothing_done m end) b.loads obeys
+
+    is : IsCode (code_of t)
+    is = subst IsCode (ap (λ (m : Situation). m.code) b.loads) code_is
+
+    unset : read b.shape b.image.words FinishWord ≡ 0
+    unset = b.opens.opened FinishWord tt ∙ unset_is
+
+    says : finish_in end ≡ finish_in (run_on first o.turns)
+    says = ap finish_in o.makes
+
+    go : IsProposedWord (finish_in (run_on first o.turns)) ⊎ (length (along b.shape (code_of t) work_of (opening b.image.words b.shape.processors) o.turns) ≡ limits.turns)
+        → IsProposedWord (finish_in end) ⊎ (end.work ≡ limits.turns)
+    go (inl proposed) = inl (subst IsProposedWord (sym says) proposed)
+    go (inr all) = inr (omega (arith, ap (λ (m : Situation). m.work) o.makes, all))
