@@ -105,10 +105,10 @@ module _ (s : Shape) (code : CodeParts) (plan : Planned) (limits : Limits) (c : 
       → past.work + work_in state (turn ∷ turns) ≡ (behind past (deed_of c state turn)).work + work_in (happens s code state turn) turns
   work_behind past state turn turns e =
       omega (
-      arith,
-      length-append (work_of state turn) (along s code work_of (happens s code state turn) turns),
-      turn_counts state turn e,
-      one_or_none (is_work_deed (deed_of c state turn)) past.work
+        arith,
+        length-append (work_of state turn) (along s code work_of (happens s code state turn) turns),
+        turn_counts state turn e,
+        one_or_none (is_work_deed (deed_of c state turn)) past.work,
       )
 
   at_most : (past : Past) (state : State) (turns : List Turn) → AreOf c turns → ObeysFrom s code plan limits c past state turns

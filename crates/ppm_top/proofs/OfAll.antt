@@ -146,19 +146,19 @@ refuses_words words o status a = record {
   only e =
       let w = delivered.written o.out o.err a.answer status a.delivered (λ f. cc) in
       by_words (no_command (command_of words) o a.answer a.cause (sym w.own ∙ e)) where
-    refuses : (options : ReplayOptions) (schedule : List ℕ) → command_of words ≡ Some (commands.Replay options schedule) →
-        RefusesSchedule options schedule o
-    refuses options schedule c =
-        of_replay.schedule_refused options schedule o status (subst (λ x. Answers (CommandMay x o) o status) c a) e
+        refuses : (options : ReplayOptions) (schedule : List ℕ) → command_of words ≡ Some (commands.Replay options schedule) →
+            RefusesSchedule options schedule o
+        refuses options schedule c =
+            of_replay.schedule_refused options schedule o status (subst (λ x. Answers (CommandMay x o) o status) c a) e
 
-    refuses_plan : (options : RunOptions) (plan : List ℕ) → command_of words ≡ Some (commands.Run options plan) →
-        RefusesPlan options plan o
-    refuses_plan options plan c = of_run.plan_refused options plan o status (subst (λ x. Answers (CommandMay x o) o status) c a) e
+        refuses_plan : (options : RunOptions) (plan : List ℕ) → command_of words ≡ Some (commands.Run options plan) →
+            RefusesPlan options plan o
+        refuses_plan options plan c = of_run.plan_refused options plan o status (subst (λ x. Answers (CommandMay x o) o status) c a) e
 
-    by_words : (command_of words ≡ None) ⊎ IsPlanned (command_of words) → (command_of words ≡ None) ⊎ HasRefusedPlan words o
-    by_words (inl n) = inl n
-    by_words (inr (IsRun options plan c)) = inr (OfRun options plan c (refuses_plan options plan c))
-    by_words (inr (IsReplay options schedule c)) = inr (OfReplay options schedule c (refuses options schedule c))
+        by_words : (command_of words ≡ None) ⊎ IsPlanned (command_of words) → (command_of words ≡ None) ⊎ HasRefusedPlan words o
+        by_words (inl n) = inl n
+        by_words (inr (IsRun options plan c)) = inr (OfRun options plan c (refuses_plan options plan c))
+        by_words (inr (IsReplay options schedule c)) = inr (OfReplay options schedule c (refuses options schedule c))
 
   always : (status_of a.answer ≡ statuses.WordsRefused) ⊎ (status_of a.answer ≡ statuses.NoMemory) →
       (status ≡ statuses.WriteFault) ⊎ IsWritten o.out o.err a.answer status →

@@ -275,12 +275,7 @@ const REPLAYS: [(&[&str], &str, &str, Status); 16] = [
         "forks 0 takes 0\n",
         Status::Ended,
     ),
-    (
-        &[],
-        FIBONACCI,
-        "a 55\nforks 88 takes 88\n",
-        Status::Ended,
-    ),
+    (&[], FIBONACCI, "a 55\nforks 88 takes 88\n", Status::Ended),
     (
         &[],
         EACH,
@@ -371,52 +366,6 @@ fn is_replayed<R: Abort + Wait>(
 fn sources_are_replayed(rt: HostRuntime) -> Result<(), Fail> {
     for (options, text, answer, status) in REPLAYS {
         is_replayed(&rt, rt.alloc(), options, text, answer, status)?;
-    }
-    Ok(())
-}
-
-/// So many processors, a round of steps of all of them, what comes behind some rounds, and what may be taken over.
-const FAULTS: [(&str, &str, &str, &str); 7] = [
-    ("3", "0,1,2", "1!h", "place"),
-    ("3", "0,1,2", "0!s", "place"),
-    ("3", "0,1,2", "1!s", "entry"),
-    ("3", "0,1,2", "2!s", "place"),
-    ("3", "0,1,2", "1!h", "entry"),
-    ("4", "0,1,2,3", "1!h,2!h", "place"),
-    ("4", "0,1,2,3", "1!h,2!h", "entry"),
-];
-
-/// So many times `round`, and then `last`, with commas between them.
-fn schedule_of(alloc: Global, round: &str, times: usize, last: &str) -> Result<String, Fail> {
-    let mut text = String::new(alloc);
-    for _ in 0..times {
-        text.push_str(round)?;
-        text.push_str(",")?;
-    }
-    text.push_str(last)?;
-    Ok(text)
-}
-
-#[test]
-fn a_replay_is_the_same_with_faults_anywhere(rt: HostRuntime) -> Result<(), Fail> {
-    for (processors, round, last, takeover) in FAULTS {
-        for times in [0, 7, 52, 185, 400] {
-            let schedule = schedule_of(rt.alloc(), round, times, last)?;
-            let options = [
-                "--room",
-                "256",
-                "--slots",
-                "2",
-                "--processors",
-                processors,
-                "--takeover",
-                takeover,
-                "--schedule",
-                schedule.as_str(),
-            ];
-            let answer = "a 10 2 7 4\nforks 3 takes 3\n";
-            is_replayed(&rt, rt.alloc(), &options, SUM, answer, Status::Ended)?;
-        }
     }
     Ok(())
 }
@@ -518,7 +467,14 @@ fn listings_are_checked(rt: HostRuntime) -> Result<(), Fail> {
 #[test]
 fn what_is_listed_is_accepted(rt: HostRuntime) -> Result<(), Fail> {
     for text in [FIRST, LOOP, CALLS, SUM, FIBONACCI, EACH] {
-        let listed = ppm_over_memory(&rt, rt.alloc(), text.as_bytes(), &["ppm", "code"], 4096, NONE)?;
+        let listed = ppm_over_memory(
+            &rt,
+            rt.alloc(),
+            text.as_bytes(),
+            &["ppm", "code"],
+            4096,
+            NONE,
+        )?;
         assert_eq!(rt; listed.status, Status::Ended, "{text}");
         let checked = ppm_over_memory(&rt, rt.alloc(), &listed.out, CHECK, 4096, NONE)?;
         assert_eq!(rt; checked.out.as_slice(), b"ok\n".as_slice(), "{text}");
@@ -552,7 +508,14 @@ fn words_are_judged_before_anything_is_read(rt: HostRuntime) -> Result<(), Fail>
         assert_eq!(rt; got.read_faults, 0);
     }
     // So it is where a schedule is refused.
-    let words = ["ppm", "replay", "--processors", "2", "--schedule", "0!h,1!h"];
+    let words = [
+        "ppm",
+        "replay",
+        "--processors",
+        "2",
+        "--schedule",
+        "0!h,1!h",
+    ];
     let got = ppm_over_memory(&rt, rt.alloc(), FIRST.as_bytes(), &words, 9, reads_fail)?;
     assert_eq!(rt; got.status, Status::WordsRefused);
     assert_eq!(rt; got.err.as_slice(), b"plan refused: 4\n".as_slice());
