@@ -237,121 +237,139 @@ fn commands_are_obeyed(rt: HostRuntime) -> Result<(), Fail> {
     Ok(())
 }
 
-/// Options of a replay, sources, and what is answered: on out where it ends, at its end or in a trap, else on err.
+/// Words that ask for a replay, sources, and what is answered: on out where it ends, at its end or in a trap, else on err.
 const REPLAYS: [(&[&str], &str, &str, Status); 16] = [
     (
-        &["--processors", "1"],
+        &["ppm", "replay", "--processors", "1"],
         SUM,
         "a 10 2 7 4\nforks 3 takes 3\n",
         Status::Ended,
     ),
     (
-        &["--processors", "2"],
+        &["ppm", "replay", "--processors", "2"],
         SUM,
         "a 10 2 7 4\nforks 3 takes 3\n",
         Status::Ended,
     ),
     (
-        &["--processors", "64", "--room", "256", "--slots", "2"],
+        &[
+            "ppm",
+            "replay",
+            "--processors",
+            "64",
+            "--room",
+            "256",
+            "--slots",
+            "2",
+        ],
         SUM,
         "a 10 2 7 4\nforks 3 takes 3\n",
         Status::Ended,
     ),
     (
-        &["--processors", "2"],
+        &["ppm", "replay", "--processors", "2"],
         SUM_OF_EIGHT,
         "a 36 2 7 4 26 6 15 8\nforks 7 takes 7\n",
         Status::Ended,
     ),
     (
-        &["--processors", "2", "--schedule", "0*40,1>0*60,0!s"],
+        &[
+            "ppm",
+            "replay",
+            "--processors",
+            "2",
+            "--schedule",
+            "0*40,1>0*60,0!s",
+        ],
         SUM,
         "a 10 2 7 4\nforks 3 takes 3\n",
         Status::Ended,
     ),
     (
-        &[],
+        &["ppm", "replay"],
         "proc main() { let x = 1; }",
         "forks 0 takes 0\n",
         Status::Ended,
     ),
-    (&[], FIBONACCI, "a 55\nforks 88 takes 88\n", Status::Ended),
     (
-        &[],
+        &["ppm", "replay"],
+        FIBONACCI,
+        "a 55\nforks 88 takes 88\n",
+        Status::Ended,
+    ),
+    (
+        &["ppm", "replay"],
         EACH,
         "a 1 5 11 19 29\nb 1 2 3 4 5\nforks 4 takes 4\n",
         Status::Ended,
     ),
     (
-        &[],
+        &["ppm", "replay"],
         "array a[2]; proc main(mut a) { a[2] = 1; }",
         "trap index line 1\nforks 0 takes 0\n",
         Status::Trapped,
     ),
     (
-        &[],
+        &["ppm", "replay"],
         "array a[2]; proc ma",
         "source refused: syntax 2 at 19\n",
         Status::SourceRefused,
     ),
     (
-        &["--turns", "1"],
+        &["ppm", "replay", "--turns", "1"],
         FIRST,
         "unfinished after 1 turns\n",
         Status::OutOfTurns,
     ),
     (
-        &["--processors", "1", "--room", "98"],
+        &["ppm", "replay", "--processors", "1", "--room", "98"],
         SUM,
         "out of room: place 0\n",
         Status::OutOfRoom,
     ),
     (
-        &["--processors", "65"],
+        &["ppm", "replay", "--processors", "65"],
         SUM,
         "words refused\n",
         Status::WordsRefused,
     ),
     (
-        &["--schedule", "0,1*0"],
+        &["ppm", "replay", "--schedule", "0,1*0"],
         SUM,
         "plan refused: 1\n",
         Status::WordsRefused,
     ),
     (
-        &["--processors", "2", "--schedule", "0>2"],
+        &["ppm", "replay", "--processors", "2", "--schedule", "0>2"],
         SUM,
         "plan refused: 2\n",
         Status::WordsRefused,
     ),
     (
-        &["--processors", "2", "--schedule", "0!h,1!h"],
+        &[
+            "ppm",
+            "replay",
+            "--processors",
+            "2",
+            "--schedule",
+            "0!h,1!h",
+        ],
         SUM,
         "plan refused: 4\n",
         Status::WordsRefused,
     ),
 ];
 
-/// Words that ask for a replay with these options.
-fn replay_words<'a>(alloc: Global, options: &[&'a str]) -> Result<Vec<&'a str>, Fail> {
-    let mut words = vec![in alloc; "ppm", "replay"]?;
-    for option in options {
-        words.push(*option)?;
-    }
-    Ok(words)
-}
-
-/// Fails unless a source is replayed so with these options.
+/// Fails unless a source is replayed so with these words.
 fn is_replayed<R: Abort + Wait>(
     rt: &R,
     alloc: Global,
-    options: &[&str],
+    words: &[&str],
     text: &str,
     answer: &str,
     status: Status,
 ) -> Result<(), Fail> {
-    let words = replay_words(alloc, options)?;
-    let got = ppm_over_memory(rt, alloc, text.as_bytes(), &words, 4096, NONE)?;
+    let got = ppm_over_memory(rt, alloc, text.as_bytes(), words, 4096, NONE)?;
     let (out, err) = match status {
         Status::Ended | Status::Trapped => (answer, ""),
         _ => ("", answer),
@@ -364,8 +382,8 @@ fn is_replayed<R: Abort + Wait>(
 
 #[test]
 fn sources_are_replayed(rt: HostRuntime) -> Result<(), Fail> {
-    for (options, text, answer, status) in REPLAYS {
-        is_replayed(&rt, rt.alloc(), options, text, answer, status)?;
+    for (words, text, answer, status) in REPLAYS {
+        is_replayed(&rt, rt.alloc(), words, text, answer, status)?;
     }
     Ok(())
 }
