@@ -22,6 +22,7 @@ mod row;
 mod running;
 mod seek;
 mod stages;
+mod standing;
 mod steal;
 #[cfg(test)]
 mod tests;

@@ -17,4 +17,8 @@ from_parts-requires c =
       c.in_ok-fork.ensures,
       c.in_ok-fork_to.ensures,
       c.in_ok-trap.ensures,
+      c.calling.ensures,
+      c.calling-2.ensures,
+      c.forking.ensures,
+      c.forking-2.ensures,
     ) sample_is_code
