@@ -662,7 +662,7 @@ fn watchers_are_told_nothing(rt: HostRuntime) -> Result<(), Fail> {
     let mut out = sink(alloc, 9, &[])?;
     let mut err = sink(alloc, 9, &[])?;
     let status = ppm(
-        rt,
+        &rt,
         alloc,
         &given,
         &mut source,
