@@ -104,7 +104,8 @@ impl Machine {
     }
 
     /// One turn: the act of a processor, which does nothing where the processor is done. Processor and victim are below the
-    /// number of processors, and there were fewer than 2^62 turns. It takes no memory, and the same time whatever the words are.
+    /// number of processors, and there were fewer than 2^62 turns. It takes no memory. Its time depends neither on how many words there
+    /// are nor on the turns before: at most one capsule's instructions lie between two word steps.
     pub fn turn(&mut self, turn: Turn) -> Told
         requires among { IsTurnAmong self.old.shape.processors turn }
         requires few { self.old.turns < 2 ^ 62 }

@@ -13,6 +13,7 @@ pub mod LeavingLemmas
 pub mod KeeperLemmas
 pub mod PlannedLemmas
 pub mod LoadingLemmas
+pub mod ExactLemmas
 pub mod ReplayLemmas
 pub mod OneReplay
 pub mod OfReplay

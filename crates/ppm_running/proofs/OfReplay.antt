@@ -1,5 +1,5 @@
 -- The rows of `replay`.
-use Rattle.std.proofs.Common.{◌≡◌, ◌≢◌, ◌⊎◌, ℕ, List, [], ◌∷◌}
+use Rattle.std.proofs.Common.{◌≡◌, ◌≢◌, ℕ, List, [], ◌∷◌}
 use Rattle.std.proofs.Common.{sym, ◌∙◌, subst, inl, inr}
 use Rattle.ppm_words.specs.declared.named_array.NamedArray.{NamedArray}
 use Rattle.ppm_words.specs.declared.trap.Trap.{Trap}
@@ -22,7 +22,7 @@ use Rattle.ppm_answers.specs.Rows.{IsOneOf, GoesWell}
 use Rattle.ppm_line.specs.declared.replay.ReplayOptions.{ReplayOptions}
 use Rattle.ppm_running.specs.Planned.{IsRefusedBy, HasByItems, HasOneAnswer}
 use Rattle.ppm_running.specs.Replays.{TextHas, ReplayMay}
-use Rattle.ppm_running.specs.ReplayRows.{HasRead, WritesArrays, WritesTrap, WritesRefusal, WritesUnfinished, WritesSpent}
+use Rattle.ppm_running.specs.ReplayRows.{HasRead, WritesArrays, WritesTrap, WritesRefusal, WritesUnfinished}
 use Rattle.ppm_running.specs.ReplayRows.{WritesNoRoom, WritesBroken, RefusesSchedule, ReplayRows}
 use Rattle.ppm_running.proofs.PlannedLemmas as planned
 use Rattle.ppm_running.proofs.ReplayLemmas.{IsOfText, kind_of_text, plain, arrays_only, trap_only, refusal_only, never_refused, turns_only, room_only, broken_only}
@@ -66,7 +66,6 @@ module _ (options : ReplayOptions) (schedule : List ℕ) (o : Outside) (status :
   status_among (answers.TrappedWith t line tally) k e = inr (inl e)
   status_among (answers.SourceRefused r) k e = inr (inr (inl e))
   status_among (answers.Unfinished n) k e = inr (inr (inr (inr (inl e))))
-  status_among (answers.OutOfTurns processor) k e = inr (inr (inr (inr (inl e))))
   status_among (answers.OutOfRoom place) k e = inr (inr (inr (inr (inr (inl e)))))
   status_among (answers.Broken place) k e = inr (inr (inr (inr (inr (inr (inl e))))))
   status_among answer k e = absurd k
@@ -148,23 +147,15 @@ module _ (options : ReplayOptions) (schedule : List ℕ) (o : Outside) (status :
       go (OfSchedule p) = record { number = p.0; refused = p.1; unread = p.2; gets = p.3.err_takes.0 }
       go (OfRead answer h k w) = absurd (never_refused options.turns answer k (sym w.own ∙ e))
 
-  unfinished : status ≡ statuses.OutOfTurns → WritesUnfinished options schedule o ⊎ WritesSpent options schedule o
+  unfinished : status ≡ statuses.OutOfTurns → WritesUnfinished options schedule o
   unfinished e = go (said (λ f. cc) (λ f. cc) (λ f. cc))
     where
       by : (answer : Answer) → HasRead options schedule o answer → IsWritten o.out o.err answer status
-          → (answer ≡ answers.Unfinished options.turns) ⊎ ((processor : ℕ) × (answer ≡ answers.OutOfTurns processor))
-          → WritesUnfinished options schedule o ⊎ WritesSpent options schedule o
-      by answer h w (inl only) = inl (
-        subst (HasRead options schedule o) only h,
-        subst (λ (x : Answer). Gets o.err (err_text x)) only w.err_takes.0,
-      )
-      by answer h w (inr only) = inr (
-        only.0,
-        subst (HasRead options schedule o) only.1 h,
-        subst (λ (x : Answer). Gets o.err (err_text x)) only.1 w.err_takes.0,
-      )
+          → answer ≡ answers.Unfinished options.turns → WritesUnfinished options schedule o
+      by answer h w only =
+          (subst (HasRead options schedule o) only h, subst (λ (x : Answer). Gets o.err (err_text x)) only w.err_takes.0)
 
-      go : Says → WritesUnfinished options schedule o ⊎ WritesSpent options schedule o
+      go : Says → WritesUnfinished options schedule o
       go (OfSchedule p) = absurd (not_unfinished (sym p.3.own ∙ e))
       go (OfRead answer h k w) = by answer h w (turns_only options.turns answer k (sym w.own ∙ e))
 

@@ -13,6 +13,9 @@ use Rattle.ppm_tree.specs.Tree.{ProgramTree}
 use Rattle.ppm_tree.specs.Limits.{IsWithin}
 use Rattle.ppm_tree.specs.Program.{initial_arrays}
 use Rattle.ppm_rows.specs.Correct.{TreesAreWithin}
+use Rattle.ppm_code.specs.Code.{IsCode}
+use Rattle.ppm_translation.specs.Correct.{KeepsTheRules}
+use Rattle.ppm_translation.specs.Routines.{code_of}
 use Rattle.ppm_judging.specs.Programs.{HasProgram, IsTreeOf}
 use Rattle.ppm_judging.specs.Refusals.{IsRefusal}
 use Rattle.ppm_judging.specs.Correct.{HaveOneAnswer as TextsHaveOneProgram}
@@ -27,12 +30,13 @@ use Rattle.ppm_running.specs.Schedules.{followed}
 use Rattle.ppm_running.specs.Replays.{sizes_of, ProgramHas, TextHas, HaveOneAnswer}
 use Rattle.ppm_running.proofs.LoadingLemmas.{one_beginning, some_beginning}
 use Rattle.ppm_running.proofs.PlannedLemmas.{one_answer, some_answer}
-use Rattle.ppm_running.proofs.ReplayLemmas.{replayed_sizes, of_text, plain}
+use Rattle.ppm_running.proofs.ReplayLemmas.{replayed_sizes, program_has, of_text, plain}
 
--- what the crates below show of every text, every image and every schedule
+-- what the crates below show of every text, every code, every image and every schedule
 pub record Laws : Type 0 where
   pub texts : TextsHaveOneProgram
   pub within : TreesAreWithin
+  pub rules : KeepsTheRules
   pub images : ImagesAreOne
   pub plans : PlansHaveOneAnswer
 
@@ -102,10 +106,12 @@ module _ (laws : Laws) (options : ReplayOptions) where
       let within = tree_within laws.within text has.0 has.1.admitted.tree in
       let m = some_beginning (sizes_of options) has.0 accepted.keeper (replayed_sizes options are) accepted.obeyed.below within
       has.1.admitted.admitted in
+      let is : IsCode (code_of has.0) = laws.rules has.0 within has.1.admitted.admitted has.1.bounded in
       let a : Answer = answer_in (followed m.0 items options.turns) (initial_arrays has.0) options.turns in (
         a,
         of_text options items text has.0 has.1 a
-            (record { keeper = accepted.keeper; spared = accepted.obeyed.kept; start = m.0; begins = m.1; says = refl }),
+            (program_has options items has.0 (sizes_of options) accepted.keeper m.0 (followed m.0 items options.turns) (initial_arrays has.0) a
+            refl accepted.obeyed.kept m.1 is refl refl refl),
       )
 
 -- so it is with all options and all schedules

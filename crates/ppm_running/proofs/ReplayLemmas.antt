@@ -1,5 +1,5 @@
 -- The answers that programs and texts have where they are replayed are of few kinds.
-use Rattle.std.proofs.Common.{◌≡◌, ◌⊎◌, ℕ, List, refl, sym, ap, ◌∙◌, subst, inl, inr, lit≤}
+use Rattle.std.proofs.Common.{◌≡◌, ℕ, List, refl, sym, ap, ◌∙◌, subst, lit≤}
 use Rattle.ppm_words.specs.declared.named_array.NamedArray.{NamedArray}
 use Rattle.ppm_words.specs.declared.trap.Trap.{Trap}
 use Rattle.ppm_ports.specs.Ports.{Port}
@@ -10,6 +10,9 @@ use Rattle.ppm_core.specs.declared.ending.Ending.{Ending}
 use Rattle.ppm_core.specs.declared.ending.Ending.TheVariants.{NotYet, With, Unknown}
 use Rattle.ppm_core.specs.Situation.{Situation, finish_in, ending_of}
 use Rattle.ppm_plan.specs.declared.schedule_item.ScheduleItem.{ScheduleItem}
+use Rattle.ppm_code.specs.Code.{IsCode}
+use Rattle.ppm_step.specs.Laws.{IsProposed}
+use Rattle.ppm_translation.specs.Routines.{code_of}
 use Rattle.ppm_tree.specs.Tree.{ProgramTree}
 use Rattle.ppm_tree.specs.Program.{initial_arrays}
 use Rattle.ppm_judging.specs.Programs.{HasProgram}
@@ -29,6 +32,7 @@ use Rattle.ppm_running.specs.Loading.{AreSizes, Begins}
 use Rattle.ppm_running.specs.Says.{finished, answer_by, answer_in}
 use Rattle.ppm_running.specs.Schedules.{followed}
 use Rattle.ppm_running.specs.Replays.{sizes_of, ProgramHas, TextHas}
+use Rattle.ppm_running.proofs.ExactLemmas.{says_proposed, unfinished_exactly}
 
 -- options in their ranges say sizes that a machine may have
 pub replayed_sizes : (options : ReplayOptions) → AreReplayed options → AreSizes (sizes_of options)
@@ -47,39 +51,40 @@ abbrev pub IsOfProgram : (turns : ℕ) → Answer → Type 0
 IsOfProgram turns (answers.EndedWith arrays tally) = Unit {0}
 IsOfProgram turns (answers.TrappedWith trap line tally) = Unit {0}
 IsOfProgram turns (answers.Unfinished n) = n ≡ turns
-IsOfProgram turns (answers.OutOfTurns processor) = Unit {0}
 IsOfProgram turns (answers.OutOfRoom place) = Unit {0}
 IsOfProgram turns (answers.Broken place) = Unit {0}
 IsOfProgram turns _ = ⊥
 
 module _ (m : Situation) (arrays : List NamedArray) (turns : ℕ) where
-  -- what a finish word says is such an answer
-  of_finish : (finish : Finish) → IsOfProgram turns (finished m arrays turns finish)
-  of_finish finishes.Ended = tt
-  of_finish (finishes.Trapped trap line) = tt
-  of_finish (finishes.OutOfRoom place) = tt
-  of_finish (finishes.OutOfTurns processor) = tt
-  of_finish (finishes.Broken place) = tt
-  of_finish finishes.Stopped = tt
-  of_finish finishes.Unset = tt
+  -- what a finish word that steps propose says is such an answer
+  of_finish : (finish : Finish) → IsProposed finish → IsOfProgram turns (finished m arrays turns finish)
+  of_finish finishes.Ended p = tt
+  of_finish (finishes.Trapped trap line) p = tt
+  of_finish (finishes.OutOfRoom place) p = tt
+  of_finish (finishes.OutOfTurns processor) p = absurd p
+  of_finish (finishes.Broken place) p = tt
+  of_finish finishes.Stopped p = absurd p
+  of_finish finishes.Unset p = absurd p
 
   -- and so is what an end says
-  of_ending : (e : Ending) → IsOfProgram turns (answer_by m arrays turns e)
-  of_ending NotYet = refl
-  of_ending (With finish) = of_finish finish
-  of_ending Unknown = tt
+  of_ending : (e : Ending) → ((finish : Finish) → e ≡ With finish → IsProposed finish) → IsOfProgram turns (answer_by m arrays turns e)
+  of_ending NotYet p = refl
+  of_ending (With finish) p = of_finish finish (p finish refl)
+  of_ending Unknown p = tt
 
 module _ (options : ReplayOptions) (items : List ScheduleItem) where
   -- what is said of the machine behind the run of the schedule is the program's answer
   pub program_has : (t : ProgramTree) (sizes : Sizes) (keeper : ℕ) (start end : Situation) (arrays : List NamedArray) (a : Answer)
-      → sizes ≡ sizes_of options → IsKeeper schedule_form items keeper → Begins sizes t keeper start
+      → sizes ≡ sizes_of options → IsKeeper schedule_form items keeper → Begins sizes t keeper start → IsCode (code_of t)
       → end ≡ followed start items options.turns → arrays ≡ initial_arrays t → a ≡ answer_in end arrays options.turns
       → ProgramHas options items t a
-  program_has t sizes keeper start end arrays a is_sizes spared begins ends is_arrays says = record {
+  program_has t sizes keeper start end arrays a is_sizes spared begins is ends is_arrays says = record {
     keeper = keeper;
     spared = spared;
     start = start;
     begins = subst (λ (s : Sizes). Begins s t keeper start) is_sizes begins;
+    proposed = says_proposed sizes t keeper items options.turns start begins is;
+    exact = unfinished_exactly sizes t keeper items options.turns start begins is spared;
     says = says ∙ ap (λ (m : Situation). answer_in m arrays options.turns) ends
         ∙ ap (λ (l : List NamedArray). answer_in (followed start items options.turns) l options.turns) is_arrays;
   }
@@ -88,7 +93,7 @@ module _ (options : ReplayOptions) (items : List ScheduleItem) where
   pub of_program : (t : ProgramTree) (a : Answer) → ProgramHas options items t a → IsOfProgram options.turns a
   of_program t a h =
       let end : Situation = followed h.start items options.turns in
-      subst (IsOfProgram options.turns) (sym h.says) (of_ending end (initial_arrays t) options.turns (ending_of (finish_in end)))
+      subst (IsOfProgram options.turns) (sym h.says) (of_ending end (initial_arrays t) options.turns (ending_of (finish_in end)) h.proposed)
 
   -- so it is one of its text
   pub of_text : (text : List ℕ) (t : ProgramTree) → HasProgram text t → (a : Answer) → ProgramHas options items t a → TextHas options items text a
@@ -151,11 +156,10 @@ never_refused turns answers.WordsRefused k e = k
 never_refused turns (answers.PlanRefused number) k e = k
 never_refused turns a k e = cc
 
--- of status 4 that there is no end within the acts, or a processor without turns
-pub turns_only : (turns : ℕ) (a : Answer) → IsOfText turns a → status_of a ≡ statuses.OutOfTurns
-    → (a ≡ answers.Unfinished turns) ⊎ ((processor : ℕ) × (a ≡ answers.OutOfTurns processor))
-turns_only turns (answers.Unfinished n) k e = inl (ap (λ x. answers.Unfinished x) k)
-turns_only turns (answers.OutOfTurns processor) k e = inr (processor, refl)
+-- of status 4 that there is no end within the acts
+pub turns_only : (turns : ℕ) (a : Answer) → IsOfText turns a → status_of a ≡ statuses.OutOfTurns → a ≡ answers.Unfinished turns
+turns_only turns (answers.Unfinished n) k e = ap (λ x. answers.Unfinished x) k
+turns_only turns (answers.OutOfTurns processor) k e = absurd k
 turns_only turns a k e = cc
 
 -- of status 5 a place without room

@@ -165,7 +165,7 @@ module _ (s : Shape) (code : CodeParts) (plan : Planned) (limits : Limits) (c : 
           inr (omega (arith, most, least))
 
 -- no finish
-unset_is : finish_word Unset ≡ 0
+pub unset_is : finish_word Unset ≡ 0
 unfolding number_of
 unset_is = refl
 

@@ -1,5 +1,5 @@
 -- What follows from each status of `replay`.
-use Rattle.std.specs.Prelude.{◌≡◌, ◌⊎◌, ℕ, List, [], ◌∷◌, ◌++◌, Some}
+use Rattle.std.specs.Prelude.{◌≡◌, ℕ, List, [], ◌∷◌, ◌++◌, Some}
 use Rattle.ppm_words.specs.declared.named_array.NamedArray.{NamedArray}
 use Rattle.ppm_words.specs.declared.trap.Trap.{Trap}
 use Rattle.ppm_ports.specs.Ports.{Gets}
@@ -12,7 +12,7 @@ use Rattle.ppm_answers.specs.declared.answer.Answer.{Answer}
 use Rattle.ppm_answers.specs.declared.answer.Answer.TheVariants as answers
 use Rattle.ppm_answers.specs.declared.status.Status.{Status}
 use Rattle.ppm_answers.specs.declared.status.Status.TheVariants as statuses
-use Rattle.ppm_answers.specs.Texts.{arrays_text, trap_text, tally_text, refusal_text, unfinished_text, turns_text, room_text, broken_text, plan_text}
+use Rattle.ppm_answers.specs.Texts.{arrays_text, trap_text, tally_text, refusal_text, unfinished_text, room_text, broken_text, plan_text}
 use Rattle.ppm_answers.specs.Delivery.{IsWritten}
 use Rattle.ppm_answers.specs.Reading.{IsUnread, ReadHas}
 use Rattle.ppm_answers.specs.Rows.{IsOneOf, GoesWell}
@@ -39,13 +39,9 @@ module _ (options : ReplayOptions) (schedule : List ℕ) (o : Outside) where
   abbrev pub WritesRefusal : Type 0
   WritesRefusal = (r : Refusal) × HasRead (answers.SourceRefused r) × Gets o.err (refusal_text r)
 
-  -- the replay does not end within its acts, and err got exactly the line that says so
+  -- the replay has not ended after exactly as many acts as may be made, and err got exactly the line that says so
   abbrev pub WritesUnfinished : Type 0
   WritesUnfinished = HasRead (answers.Unfinished options.turns) × Gets o.err (unfinished_text options.turns)
-
-  -- the finish word names a processor without turns, and err got exactly the line that says so
-  abbrev pub WritesSpent : Type 0
-  WritesSpent = (processor : ℕ) × HasRead (answers.OutOfTurns processor) × Gets o.err (turns_text processor)
 
   -- the finish word names a place without room, and err got exactly the line that says so
   abbrev pub WritesNoRoom : Type 0
@@ -71,7 +67,7 @@ pub record ReplayRows (options : ReplayOptions) (schedule : List ℕ) (o : Outsi
   pub trapped : status ≡ statuses.Trapped → WritesTrap options schedule o
   pub refused : status ≡ statuses.SourceRefused → WritesRefusal options schedule o
   pub schedule_refused : status ≡ statuses.WordsRefused → RefusesSchedule options schedule o
-  pub unfinished : status ≡ statuses.OutOfTurns → WritesUnfinished options schedule o ⊎ WritesSpent options schedule o
+  pub unfinished : status ≡ statuses.OutOfTurns → WritesUnfinished options schedule o
   pub out_of_room : status ≡ statuses.OutOfRoom → WritesNoRoom options schedule o
   pub broken : status ≡ statuses.Broken → WritesBroken options schedule o
   pub judged : GoesWell o status → IsOneOf status (statuses.Ended ∷ statuses.Trapped ∷ statuses.SourceRefused ∷ statuses.WordsRefused

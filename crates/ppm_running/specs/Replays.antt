@@ -2,10 +2,13 @@
 use Rattle.std.specs.Prelude.{◌≡◌, ℕ, List}
 use Rattle.ppm_ports.specs.Ports.{Port}
 use Rattle.ppm_text.specs.Limits.{text_limit}
-use Rattle.ppm_core.specs.Situation.{Situation}
+use Rattle.ppm_cells.specs.declared.finish.Finish.{Finish}
+use Rattle.ppm_core.specs.declared.ending.Ending.TheVariants.{With}
+use Rattle.ppm_core.specs.Situation.{Situation, finish_in, ending_of}
 use Rattle.ppm_plan.specs.declared.schedule_item.ScheduleItem.{ScheduleItem}
 use Rattle.ppm_plan.specs.Forms.{schedule_form}
 use Rattle.ppm_plan.specs.Refusals.{IsKeeper}
+use Rattle.ppm_step.specs.Laws.{IsProposed}
 use Rattle.ppm_tree.specs.Tree.{ProgramTree}
 use Rattle.ppm_tree.specs.Program.{initial_arrays}
 use Rattle.ppm_judging.specs.Programs.{HasProgram}
@@ -25,12 +28,15 @@ abbrev pub sizes_of : ReplayOptions → Sizes
 sizes_of o = record { processors = o.processors; room = o.room; slots = o.slots; takeover = takeover_of o.takeover }
 
 -- the answer of a program by the items of a schedule: what the machine's words say behind the run that these say, from the machine with
--- which a run of the program begins, with the schedule's keeper
+-- which a run of the program begins, with the schedule's keeper; what a finish word says behind it is what steps propose, and where it says
+-- nothing, exactly as many acts were made as may be
 pub record ProgramHas (options : ReplayOptions) (items : List ScheduleItem) (t : ProgramTree) (answer : Answer) : Type 0 where
   pub keeper : ℕ
   pub spared : IsKeeper schedule_form items keeper
   pub start : Situation
   pub begins : Begins (sizes_of options) t keeper start
+  pub proposed : (finish : Finish) → ending_of (finish_in (followed start items options.turns)) ≡ With finish → IsProposed finish
+  pub exact : finish_in (followed start items options.turns) ≡ 0 → (followed start items options.turns).turns ≡ options.turns
   pub says : answer ≡ answer_in (followed start items options.turns) (initial_arrays t) options.turns
 
 -- that of a text: its program's, or its refusal

@@ -1,9 +1,9 @@
-//! Commands that run a machine: a program's machine is loaded, and obeys a schedule; `replay`.
-//! Model: what a schedule says is a list of acts that are due (`specs/Schedules`); which are made, and as which turns, is `specs/Course`.
-//! Contract: `follow` makes of a machine exactly what those turns make of it; `answer_of` is what its words then say (`specs/Says`);
-//! `replay_command` delivers the one answer of a text (`specs/Replays`), where its schedule is not refused (`specs/Planned`).
-//! Stands on `ppm_core`, `ppm_plan`, `ppm_judging`, `ppm_cut` and `ppm_answers`; `ppm_top` calls it.
-//! The schedules and their rules are this project's.
+//! Commands that run a machine: `replay` follows a schedule, `run` lets one processor obey a plan of faults and limits.
+//! Model: what a schedule says is a list of acts that are due (`specs/Schedules`, `specs/Course`); obedience is that of `ppm_pace`.
+//! Contract: `follow` and `obey` make of a machine exactly what those turns make of it (`specs/Alone`); `replay_command` delivers the one
+//! answer of a text (`specs/Replays`), `run_command`, if it returns, one that it has (`specs/Runs`).
+//! Stands on `ppm_core`, `ppm_pace`, `ppm_plan`, `ppm_judging`, `ppm_cut` and `ppm_answers`; `ppm_top` calls it.
+//! The schedules and limits and their rules are this project's.
 #![tactic(auto)]
 
 mod alone;

@@ -120,6 +120,8 @@ fn replayed(
     ensures { IfOk result (ProgramHas options schedule.now.items (tree_of program.now)) }
 {
     let mut machine = load(alloc, sizes_of(options), program, schedule.keeper())?;
+    // What the type of its code keeps is known once its parts were seen.
+    let _ = machine.code().parts();
     follow(&mut machine, schedule, options.turns);
     let answer = answer_of(alloc, &machine, program.input().arrays(), options.turns)?;
     Ok(answer)

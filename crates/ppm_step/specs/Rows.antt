@@ -74,7 +74,7 @@ on_outcome _ go = Now Broken
 abbrev pub with_kind : Seat → RestartKind → Then
 with_kind seat kind = Install (record { kind = kind; bottom = seat.restart.bottom })
 
--- an address passes the words
+-- this row, where the address is one of the words; else words are broken
 abbrev pub if_there : Shape → (address : ℕ) → Row → Row
 if_there s address row = if nat_lt address (word_count s) then row else Now Broken
 

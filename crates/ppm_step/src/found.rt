@@ -105,7 +105,28 @@ fn found_number(shape: &Shape, seat: &Seat, point: &Point, number: u64) -> Row
             slot,
             entry,
         } => seek_if_closed(seat, victim, slot, entry, number),
-        _ => broken(),
+        Point::BumpLink { .. }
+        | Point::PushAbove { .. }
+        | Point::PushBottom { .. }
+        | Point::UnwindLink { .. }
+        | Point::UnwindOutcome { .. }
+        | Point::JoinLink { .. }
+        | Point::JoinLeft { .. }
+        | Point::JoinRight { .. }
+        | Point::PopBelow
+        | Point::PopAgain { .. }
+        | Point::PopAbove { .. }
+        | Point::SeekHolder
+        | Point::SeekEntry { .. }
+        | Point::StealMessage { .. }
+        | Point::TakenMessage { .. }
+        | Point::TakenEntry { .. }
+        | Point::ClosedRestart { .. }
+        | Point::ClosedLink { .. }
+        | Point::ClosedBottom { .. }
+        | Point::BidMessage { .. }
+        | Point::BidAgain { .. }
+        | Point::BidHolder { .. } => broken(),
     }
 }
 
@@ -133,7 +154,28 @@ fn found_entry(shape: &Shape, seat: &Seat, point: &Point, entry: Entry) -> Row
             message,
         } => check_entry(seat, by, victim, slot, message, entry),
         Point::ClosedBottom { block, .. } => follow_bottom(seat, block, entry),
-        _ => broken(),
+        Point::Header { .. }
+        | Point::BumpLink { .. }
+        | Point::PushOrder { .. }
+        | Point::UnwindLink { .. }
+        | Point::UnwindOutcome { .. }
+        | Point::Target { .. }
+        | Point::GivenValue { .. }
+        | Point::JoinOrder { .. }
+        | Point::JoinLink { .. }
+        | Point::JoinLeft { .. }
+        | Point::JoinRight { .. }
+        | Point::RightFrame { .. }
+        | Point::Offset { .. }
+        | Point::SeekHolder
+        | Point::SeekDead { .. }
+        | Point::SeekTop { .. }
+        | Point::SeekClosed { .. }
+        | Point::ClosedRestart { .. }
+        | Point::ClosedLink { .. }
+        | Point::BidMessage { .. }
+        | Point::BidAgain { .. }
+        | Point::BidHolder { .. } => broken(),
     }
 }
 
@@ -150,7 +192,34 @@ fn found_holder(shape: &Shape, seat: &Seat, victim: u32, point: &Point, holder: 
         Point::BidMessage { victim, dead } => make_bid(seat, victim, dead, holder),
         Point::BidAgain { victim } => check_bid(seat, victim, holder),
         Point::BidHolder { victim, message } => carry(seat, victim, message, holder),
-        _ => broken(),
+        Point::Header { .. }
+        | Point::BumpLink { .. }
+        | Point::PushOrder { .. }
+        | Point::PushAbove { .. }
+        | Point::PushBottom { .. }
+        | Point::UnwindLink { .. }
+        | Point::UnwindOutcome { .. }
+        | Point::Target { .. }
+        | Point::GivenValue { .. }
+        | Point::JoinOrder { .. }
+        | Point::JoinLink { .. }
+        | Point::JoinLeft { .. }
+        | Point::JoinRight { .. }
+        | Point::RightFrame { .. }
+        | Point::Offset { .. }
+        | Point::PopBelow
+        | Point::PopAgain { .. }
+        | Point::PopAbove { .. }
+        | Point::SeekDead { .. }
+        | Point::SeekTop { .. }
+        | Point::SeekEntry { .. }
+        | Point::SeekClosed { .. }
+        | Point::StealMessage { .. }
+        | Point::TakenMessage { .. }
+        | Point::TakenEntry { .. }
+        | Point::ClosedRestart { .. }
+        | Point::ClosedLink { .. }
+        | Point::ClosedBottom { .. } => broken(),
     }
 }
 
@@ -166,7 +235,34 @@ fn found_link(seat: &Seat, point: &Point, link: Link) -> Row
         Point::UnwindLink { frame } => unwind_link(frame, link.kind),
         Point::JoinLink { block } => join_link(block, link.kind),
         Point::ClosedLink { block } => follow_link(seat, block, link.kind),
-        _ => broken(),
+        Point::Header { .. }
+        | Point::PushOrder { .. }
+        | Point::PushAbove { .. }
+        | Point::PushBottom { .. }
+        | Point::UnwindOutcome { .. }
+        | Point::Target { .. }
+        | Point::GivenValue { .. }
+        | Point::JoinOrder { .. }
+        | Point::JoinLeft { .. }
+        | Point::JoinRight { .. }
+        | Point::RightFrame { .. }
+        | Point::Offset { .. }
+        | Point::PopBelow
+        | Point::PopAgain { .. }
+        | Point::PopAbove { .. }
+        | Point::SeekHolder
+        | Point::SeekDead { .. }
+        | Point::SeekTop { .. }
+        | Point::SeekEntry { .. }
+        | Point::SeekClosed { .. }
+        | Point::StealMessage { .. }
+        | Point::TakenMessage { .. }
+        | Point::TakenEntry { .. }
+        | Point::ClosedRestart { .. }
+        | Point::ClosedBottom { .. }
+        | Point::BidMessage { .. }
+        | Point::BidAgain { .. }
+        | Point::BidHolder { .. } => broken(),
     }
 }
 
@@ -194,7 +290,35 @@ fn found_finish(seat: &Seat, point: &Point, finish: Finish) -> Row
             copy,
             left,
         } => join_outcome(seat, block, to, copy, joined(left, finish)),
-        _ => broken(),
+        Point::Header { .. }
+        | Point::BumpLink { .. }
+        | Point::PushOrder { .. }
+        | Point::PushAbove { .. }
+        | Point::PushBottom { .. }
+        | Point::UnwindLink { .. }
+        | Point::Target { .. }
+        | Point::GivenValue { .. }
+        | Point::JoinOrder { .. }
+        | Point::JoinLink { .. }
+        | Point::RightFrame { .. }
+        | Point::Offset { .. }
+        | Point::PopBelow
+        | Point::PopAgain { .. }
+        | Point::PopAbove { .. }
+        | Point::SeekHolder
+        | Point::SeekDead { .. }
+        | Point::SeekTop { .. }
+        | Point::SeekEntry { .. }
+        | Point::SeekClosed { .. }
+        | Point::StealMessage { .. }
+        | Point::TakenMessage { .. }
+        | Point::TakenEntry { .. }
+        | Point::ClosedRestart { .. }
+        | Point::ClosedLink { .. }
+        | Point::ClosedBottom { .. }
+        | Point::BidMessage { .. }
+        | Point::BidAgain { .. }
+        | Point::BidHolder { .. } => broken(),
     }
 }
 
@@ -212,7 +336,37 @@ fn found_restart(shape: &Shape, seat: &Seat, point: &Point, restart: Restart) ->
             slot,
             block,
         } => follow(shape, seat, victim, slot, block, restart),
-        _ => broken(),
+        Point::Header { .. }
+        | Point::BumpLink { .. }
+        | Point::PushOrder { .. }
+        | Point::PushAbove { .. }
+        | Point::PushBottom { .. }
+        | Point::UnwindLink { .. }
+        | Point::UnwindOutcome { .. }
+        | Point::Target { .. }
+        | Point::GivenValue { .. }
+        | Point::JoinOrder { .. }
+        | Point::JoinLink { .. }
+        | Point::JoinLeft { .. }
+        | Point::JoinRight { .. }
+        | Point::RightFrame { .. }
+        | Point::Offset { .. }
+        | Point::PopBelow
+        | Point::PopAgain { .. }
+        | Point::PopAbove { .. }
+        | Point::SeekHolder
+        | Point::SeekDead { .. }
+        | Point::SeekTop { .. }
+        | Point::SeekEntry { .. }
+        | Point::SeekClosed { .. }
+        | Point::StealMessage { .. }
+        | Point::TakenMessage { .. }
+        | Point::TakenEntry { .. }
+        | Point::ClosedLink { .. }
+        | Point::ClosedBottom { .. }
+        | Point::BidMessage { .. }
+        | Point::BidAgain { .. }
+        | Point::BidHolder { .. } => broken(),
     }
 }
 

@@ -1,12 +1,14 @@
 //! Each row, word by word: the words of the tables were worked out by another program.
-ghost use Rattle.std.specs.Prelude.{◌≡◌, ◌<◌, length};
+ghost use Rattle.std.specs.Prelude.{◌≡◌, ◌<◌, IfOk, None, [], ◌∷◌, length};
 ghost use Rattle.ppm_cells.specs.Cells.{word_count};
+ghost use Rattle.ppm_code.specs.declared.act.End.TheVariants.{Call, Fork};
+ghost use Rattle.ppm_code.specs.declared.instr.Instr.TheVariants.{Ends, Room};
 ghost use Rattle.ppm_step.specs.Locals.{IsLocal};
 
 use crate::{Local, Next, Want};
 use ppm_cells::Shape;
 use ppm_code::{Capsule, Code, CodeParts, End, Instr, Procedure};
-use ppm_words::Items;
+use ppm_words::{Items, Trap};
 use std::alloc::Global;
 use std::process::Abort;
 use std::test::Fail;
@@ -23,22 +25,73 @@ struct Case<'a> {
     by_entries: bool,
 }
 
-/// A code of one capsule, which ends.
-fn small_code(alloc: Global) -> Result<Code, Fail> {
-    let instrs = vec![in alloc; Instr::Ends(End::Finish)]?;
-    let capsule = Capsule {
+/// A capsule of one instruction, an end.
+fn ending(alloc: Global, end: End) -> Result<Capsule, Fail>
+    ensures { IfOk result (λ capsule. capsule ≡ record { procedure = 0; instrs = Ends end ∷ [] }) }
+{
+    Ok(Capsule {
         procedure: 0,
-        instrs: Items::from_vec(instrs),
-    };
+        instrs: Items::from_vec(vec![in alloc; Instr::Ends(end)]?),
+    })
+}
+
+/// A capsule that asks for words, and its end.
+fn building(alloc: Global, words: u32, end: End) -> Result<Capsule, Fail>
+    ensures { IfOk result (λ capsule. capsule ≡ record { procedure = 0; instrs = Room words ∷ Ends end ∷ [] }) }
+{
+    Ok(Capsule {
+        procedure: 0,
+        instrs: Items::from_vec(vec![in alloc; Instr::Room { words }, Instr::Ends(end)]?),
+    })
+}
+
+/// A code of one procedure, with a capsule for each end but that which goes on with another capsule.
+fn small_code(alloc: Global) -> Result<Code, Fail> {
+    let over = ending(alloc, End::Finish)?;
+    let call = building(alloc, 7, calling(None))?;
+    let call_to = building(alloc, 7, calling(Some(0)))?;
+    let fork = building(alloc, 19, forking(None))?;
+    let fork_to = building(alloc, 19, forking(Some(0)))?;
+    let trap = ending(
+        alloc,
+        End::Trap {
+            trap: Trap::DivZero,
+            line: 3,
+        },
+    )?;
+    let capsules = vec![in alloc; over, call, call_to, fork, fork_to, trap]?;
     let arrays = Vec::new(alloc);
-    let procedures = vec![in alloc; Procedure { slots: 1, entry: 0 }]?;
-    let capsules = vec![in alloc; capsule]?;
+    let procedures = vec![in alloc; Procedure { slots: 1, entry: 5 }]?;
     Ok(Code::from_parts(CodeParts {
         root: 0,
         arrays: Items::from_vec(arrays),
         procedures: Items::from_vec(procedures),
         capsules: Items::from_vec(capsules),
     }))
+}
+
+/// A call of the procedure, behind which capsule 3 comes.
+fn calling(to: Option<u32>) -> End
+    ensures { result ≡ Call 0 3 to }
+{
+    End::Call {
+        procedure: 0,
+        capsule: 3,
+        to,
+    }
+}
+
+/// A fork of the procedure and itself, behind which capsule 3 comes; the left value goes to a slot, if one is named.
+fn forking(left_to: Option<u32>) -> End
+    ensures { result ≡ Fork 0 0 3 left_to None }
+{
+    End::Fork {
+        left: 0,
+        right: 0,
+        capsule: 3,
+        left_to,
+        right_to: None,
+    }
 }
 
 /// The words of two processors with four slots and room for 64 words each: holders, tops, and each deque with its first entry
@@ -93,10 +146,8 @@ fn step(shape: &Shape, code: &Code, words: &mut [u64], local: &mut Local)
 }
 
 /// Runs a row, and compares all words.
-fn try_case(rt: &impl Abort, code: &Code, case: &Case) {
-    let Some(places) = Shape::new(2, 64, 4, 2) else {
-        return;
-    };
+fn try_case(rt: &impl Abort, code: &Code, case: &Case) -> Result<(), Fail> {
+    let places = Shape::new(2, 64, 4, 2).ok_or("within the limits")?;
     let shape = if case.by_entries {
         places.stealing()
     } else {
@@ -114,6 +165,7 @@ fn try_case(rt: &impl Abort, code: &Code, case: &Case) {
         step(&shape, code, &mut words, &mut local);
     }
     assert_eq!(rt; words.as_slice(), wanted.as_slice(), "{}", case.name);
+    Ok(())
 }
 
 #[test]
@@ -464,7 +516,7 @@ fn rows_change_the_words_that_the_rules_say(rt: HostRuntime) -> Result<(), Fail>
         Case {
             name: "a capsule that is not in the code",
             restart: 576460756866826254,
-            before: &[(17, 1)],
+            before: &[(17, 6)],
             steps: 5,
             after: &[(0, 71)],
             by_entries: false,
@@ -509,6 +561,114 @@ fn rows_change_the_words_that_the_rules_say(rt: HostRuntime) -> Result<(), Fail>
             after: &[(0, 71)],
             by_entries: false,
         },
+    ];
+    for case in &cases {
+        try_case(&rt, &code, case)?;
+    }
+    Ok(())
+}
+
+#[test]
+fn capsules_build_what_their_ends_say(rt: HostRuntime) -> Result<(), Fail> {
+    let alloc = rt.alloc();
+    let code = small_code(alloc)?;
+    let cases = [
+        Case {
+            name: "a capsule builds the frame of a call",
+            restart: 576460756598390824,
+            before: &[(42, 1)],
+            steps: 10,
+            after: &[
+                (14, 288230380178243624),
+                (15, 1),
+                (16, 5),
+                (43, 3),
+                (5, 1152921508901814286),
+            ],
+            by_entries: false,
+        },
+        Case {
+            name: "and that of a call with a target",
+            restart: 576460756598390824,
+            before: &[(42, 2)],
+            steps: 11,
+            after: &[
+                (14, 288230380178243624),
+                (15, 1),
+                (16, 5),
+                (19, 1),
+                (43, 3),
+                (5, 1152921508901814286),
+            ],
+            by_entries: false,
+        },
+        Case {
+            name: "a capsule builds the block of a fork",
+            restart: 576460756598390824,
+            before: &[(42, 3)],
+            steps: 15,
+            after: &[
+                (14, 720575950848262184),
+                (18, 12),
+                (19, 432345567985664014),
+                (20, 1),
+                (21, 5),
+                (26, 576460756061519886),
+                (27, 1),
+                (28, 5),
+                (43, 3),
+                (5, 1152921508901814286),
+            ],
+            by_entries: false,
+        },
+        Case {
+            name: "and that of a fork with a target",
+            restart: 576460756598390824,
+            before: &[(42, 4)],
+            steps: 17,
+            after: &[
+                (14, 720575950848262184),
+                (18, 12),
+                (19, 432345567985664014),
+                (20, 1),
+                (21, 5),
+                (24, 1),
+                (26, 576460756061519886),
+                (27, 1),
+                (28, 5),
+                (43, 3),
+                (5, 1152921508901814286),
+            ],
+            by_entries: false,
+        },
+        Case {
+            name: "a pool without room for the block is full",
+            restart: 576460756598390824,
+            before: &[(42, 3), (9, 60)],
+            steps: 6,
+            after: &[(0, 4)],
+            by_entries: false,
+        },
+        Case {
+            name: "a capsule traps",
+            restart: 576460756598390824,
+            before: &[(42, 5)],
+            steps: 6,
+            after: &[(41, 210), (5, 2882303765812084776)],
+            by_entries: false,
+        },
+    ];
+    for case in &cases {
+        try_case(&rt, &code, case)?;
+    }
+    Ok(())
+}
+
+#[test]
+fn rows_by_entries_change_the_words_that_the_rules_say(rt: HostRuntime) -> Result<(), Fail> {
+    let alloc = rt.alloc();
+    let code = small_code(alloc)?;
+    let cases = [
         Case {
             name: "by entries: one strand runs both already",
             restart: 1729382261205237790,
@@ -563,6 +723,32 @@ fn rows_change_the_words_that_the_rules_say(rt: HostRuntime) -> Result<(), Fail>
             ],
             steps: 7,
             after: &[(5, 1729382261205237860)],
+            by_entries: true,
+        },
+        Case {
+            name: "by entries: the strand that a push has made above its bottom goes on",
+            restart: 6917529031936114690,
+            before: &[
+                (6, 4611686019232694279),
+                (85, 13835058056355905600),
+                (78, 2305843013508661348),
+                (84, 13835058055819034625),
+            ],
+            steps: 8,
+            after: &[(5, 576460756598390889)],
+            by_entries: true,
+        },
+        Case {
+            name: "by entries: none does where the bottom was no job",
+            restart: 6917529031936114690,
+            before: &[
+                (6, 4611686019232694279),
+                (85, 13835058056355905600),
+                (78, 2305843013508661348),
+                (84, 13835058055819034689),
+            ],
+            steps: 8,
+            after: &[(5, 5764607527329202176)],
             by_entries: true,
         },
         Case {
@@ -628,7 +814,7 @@ fn rows_change_the_words_that_the_rules_say(rt: HostRuntime) -> Result<(), Fail>
         },
     ];
     for case in &cases {
-        try_case(&rt, &code, case);
+        try_case(&rt, &code, case)?;
     }
     Ok(())
 }

@@ -27,6 +27,7 @@ pub fn cell_is_there(shape: &Shape, cell: Cell) -> bool
 }
 
 /// Whether what the kind names is there.
+#[inline(always)]
 fn kind_there(shape: &Shape, kind: RestartKind) -> bool
     ensures { result ≡ kind_is_there shape.now kind }
 {
@@ -49,6 +50,7 @@ fn kind_there(shape: &Shape, kind: RestartKind) -> bool
 }
 
 /// Whether the restart names what is there: its bottom, and what its kind names.
+#[inline(always)]
 pub fn restart_there(shape: &Shape, restart: Restart) -> bool
     ensures { result ≡ restart_is_there shape.now restart }
 {

@@ -150,7 +150,7 @@ fn sink(alloc: Global, most: usize, failing: &[u64]) -> Result<MemorySink, Fail>
 #[test]
 fn commands_are_obeyed(rt: HostRuntime) -> Result<(), Fail> {
     // Words and a text, with what is written on out and on err.
-    let cases: [(&[&str], &str, &str, &str, Status); 14] = [
+    let cases: [(&[&str], &str, &str, &str, Status); 16] = [
         (RUN, FIRST, "a 5 7\n", "", Status::Ended),
         (
             &["ppm", "run", "--processors", "1"],
@@ -181,6 +181,36 @@ fn commands_are_obeyed(rt: HostRuntime) -> Result<(), Fail> {
             "",
             "out of turns: processor 0\n",
             Status::OutOfTurns,
+        ),
+        (
+            &[
+                "ppm",
+                "run",
+                "--faults",
+                "0@2s,0@9s",
+                "--slots",
+                "2",
+                "--room",
+                "64",
+            ],
+            FIRST,
+            "a 5 7\n",
+            "",
+            Status::Ended,
+        ),
+        (
+            &[
+                "ppm",
+                "run",
+                "--takeover=entry",
+                "--idle=park",
+                "--looks=1",
+                "--seed=7",
+            ],
+            SUM,
+            "a 10 2 7 4\n",
+            "",
+            Status::Ended,
         ),
         (
             &["ppm", "run", "--processors", "1", "--room", "64"],
@@ -525,19 +555,17 @@ fn words_are_judged_before_anything_is_read(rt: HostRuntime) -> Result<(), Fail>
         assert_eq!(rt; got.err.as_slice(), b"words refused\n".as_slice());
         assert_eq!(rt; got.read_faults, 0);
     }
-    // So it is where a schedule is refused.
-    let words = [
-        "ppm",
-        "replay",
-        "--processors",
-        "2",
-        "--schedule",
-        "0!h,1!h",
+    // So it is where a plan or a schedule is refused.
+    let planned: [&[&str]; 2] = [
+        &["ppm", "run", "--faults", "0@0h"],
+        &["ppm", "replay", "--processors", "1", "--schedule", "0!h"],
     ];
-    let got = ppm_over_memory(&rt, rt.alloc(), FIRST.as_bytes(), &words, 9, reads_fail)?;
-    assert_eq!(rt; got.status, Status::WordsRefused);
-    assert_eq!(rt; got.err.as_slice(), b"plan refused: 4\n".as_slice());
-    assert_eq!(rt; got.read_faults, 0);
+    for words in planned {
+        let got = ppm_over_memory(&rt, rt.alloc(), FIRST.as_bytes(), words, 9, reads_fail)?;
+        assert_eq!(rt; got.status, Status::WordsRefused);
+        assert_eq!(rt; got.err.as_slice(), b"plan refused: 4\n".as_slice());
+        assert_eq!(rt; got.read_faults, 0);
+    }
     Ok(())
 }
 
@@ -662,7 +690,7 @@ fn watchers_are_told_nothing(rt: HostRuntime) -> Result<(), Fail> {
     let mut out = sink(alloc, 9, &[])?;
     let mut err = sink(alloc, 9, &[])?;
     let status = ppm(
-        rt,
+        &rt,
         alloc,
         &given,
         &mut source,

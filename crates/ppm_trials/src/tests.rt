@@ -6,11 +6,16 @@ ghost use Rattle.ppm_core.specs.Acts.{IsActAmong, IsTurnAmong};
 
 use ppm_cells::{Finish, Shape};
 use ppm_code::Code;
+use ppm_compiling::{end_as_meant, name_arrays, start_with_input};
 use ppm_core::{
     Act, Ending, Machine, Next, Told, Turn, Why, done_is_done, turns_follow_on, turns_tell_on,
 };
 use ppm_layout::image;
 use ppm_reading::read_listing;
+use ppm_soundness::{code_is_sound, may_be_stopped, store_tidily};
+use ppm_translation::{
+    few_capsules, keeps_the_rules, lines_alone, names_have_slots, procedures_stand,
+};
 use ppm_words::{Input, Items, Name, NamedArray};
 use std::alloc::Global;
 use std::test::Fail;
@@ -259,4 +264,19 @@ fn laws_are_called() {
     turns_follow_on();
     turns_tell_on();
     done_is_done();
+}
+
+#[test]
+fn states_laws_of_the_compiler() {
+    keeps_the_rules();
+    procedures_stand();
+    names_have_slots();
+    few_capsules();
+    lines_alone();
+    may_be_stopped();
+    store_tidily();
+    code_is_sound();
+    end_as_meant();
+    start_with_input();
+    name_arrays();
 }

@@ -1,5 +1,7 @@
-use Rattle.std.proofs.Common.{◌∙◌}
+use Rattle.std.proofs.Common.{◌∙◌, subst}
+use Rattle.ppm_code.specs.Code.{IsCode}
 use Rattle.ppm_tree.specs.Tree.{tree_of}
+use Rattle.ppm_running.proofs.ExactLemmas.{code_begun}
 use Rattle.ppm_running.proofs.ReplayLemmas.{program_has}
 use Rattle.ppm_running.proofs.replaying.replayed.Goals as goal
 
@@ -7,4 +9,5 @@ use Rattle.ppm_running.proofs.replaying.replayed.Goals as goal
 pub returns : goal.returns
 returns c =
     program_has c.args.options c.args.schedule.now.items (tree_of c.args.program.now) _ _ _ _ _ _ c.sizes_of.ensures c.keeper.ensures.keeper
-    c.in_ok-machine.ensures c.follow.ensures (c.arrays.ensures.value ∙ c.input.ensures.value) c.in_ok-answer.ensures
+    c.in_ok-machine.ensures (code_begun _ _ _ _ c.in_ok-machine.ensures (subst IsCode c.code.ensures c.parts.ensures.code))
+    c.follow.ensures (c.arrays.ensures.value ∙ c.input.ensures.value) c.in_ok-answer.ensures
