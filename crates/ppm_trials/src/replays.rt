@@ -150,7 +150,7 @@ fn swept(
 const ROUNDS: u32 = 400;
 
 /// Fails unless the sum is the same with a fault behind each number of rounds of acts of all processors, and ends within these acts
-/// without it. The deques have room for no job.
+/// without it. The deques have room for no job, or for some.
 fn sum_is_swept(
     rt: &impl Abort,
     alloc: Global,
@@ -165,17 +165,19 @@ fn sum_is_swept(
         fault,
     };
     for takeover in [TakeoverName::Place, TakeoverName::Entry] {
-        let options = ReplayOptions {
-            processors,
-            slots: 2,
-            takeover,
-            ..TWO
-        };
-        let mut acts = swept(rt, alloc, options, sweep, SUM)?;
-        acts.push_str("0")?;
-        let turns = u64::from(ROUNDS) * u64::from(processors);
-        let within = ReplayOptions { turns, ..options };
-        is_replayed(rt, alloc, within, &acts, SUM)?;
+        for slots in [2, 4] {
+            let options = ReplayOptions {
+                processors,
+                slots,
+                takeover,
+                ..TWO
+            };
+            let mut acts = swept(rt, alloc, options, sweep, SUM)?;
+            acts.push_str("0")?;
+            let turns = u64::from(ROUNDS) * u64::from(processors);
+            let within = ReplayOptions { turns, ..options };
+            is_replayed(rt, alloc, within, &acts, SUM)?;
+        }
     }
     Ok(())
 }
