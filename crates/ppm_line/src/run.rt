@@ -24,7 +24,7 @@ pub enum IdleName {
 pub struct RunOptions {
     /// How many processors there are: from 1 to 1, and 1 by default.
     pub processors: u32,
-    /// How many turns each processor may spend: from 1 to 268435456, and 16777216 by default.
+    /// How many work turns each processor may make: from 1 to 268435456, and 16777216 by default.
     pub turns: u64,
     /// How many words the pool of a place has: from 64 to 1048576, and 65536 by default.
     pub room: u32,

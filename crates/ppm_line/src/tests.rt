@@ -4,6 +4,7 @@ use crate::{
     any_rule_may_be_admitted, read_words,
 };
 use std::alloc::Global;
+use std::process::Abort;
 use std::test::Fail;
 
 /// The options of a run of which the words give none.
@@ -285,6 +286,21 @@ type OptionCase = (
     &'static [&'static str],
 );
 
+/// Fails unless the option of a command takes none of these values.
+fn values_are_refused(
+    rt: &impl Abort,
+    alloc: Global,
+    name: &str,
+    option: &str,
+    others: &[&str],
+) -> Result<(), Fail> {
+    for other in others {
+        let refused = command_with(alloc, name, &[option, *other])?;
+        assert!(rt; refused.is_none(), "{name} {option} {other}");
+    }
+    Ok(())
+}
+
 #[test]
 fn values_out_of_form_are_refused(rt: HostRuntime) -> Result<(), Fail> {
     let cases: [OptionCase; 15] = [
@@ -311,10 +327,7 @@ fn values_out_of_form_are_refused(rt: HostRuntime) -> Result<(), Fail> {
         assert!(rt; twice.is_none(), "{name} {option} twice");
         let bare = command_with(rt.alloc(), name, &[option])?;
         assert!(rt; bare.is_none(), "{name} {option}");
-        for other in others {
-            let refused = command_with(rt.alloc(), name, &[option, *other])?;
-            assert!(rt; refused.is_none(), "{name} {option} {other}");
-        }
+        values_are_refused(&rt, rt.alloc(), name, option, others)?;
     }
     Ok(())
 }
