@@ -147,6 +147,26 @@ fn sink(alloc: Global, most: usize, failing: &[u64]) -> Result<MemorySink, Fail>
     Ok(MemorySink::new(alloc, ROOM, most, failing).map_err(|_| "memory")?)
 }
 
+/// Fails unless words and a text are answered so, over ports that move at most `most` bytes at a time.
+fn is_answered<R: Abort + Wait>(
+    rt: &R,
+    alloc: Global,
+    words: &[&str],
+    most: usize,
+    text: &str,
+    out: &str,
+    err: &str,
+    status: Status,
+) -> Result<(), Fail>
+    requires { 0 < most }
+{
+    let got = ppm_over_memory(rt, alloc, text.as_bytes(), words, most, NONE)?;
+    assert_eq!(rt; got.out.as_slice(), out.as_bytes(), "{text}");
+    assert_eq!(rt; got.err.as_slice(), err.as_bytes(), "{text}");
+    assert_eq!(rt; got.status, status, "{text}");
+    Ok(())
+}
+
 #[test]
 fn commands_are_obeyed(rt: HostRuntime) -> Result<(), Fail> {
     // Words and a text, with what is written on out and on err.
@@ -257,12 +277,8 @@ fn commands_are_obeyed(rt: HostRuntime) -> Result<(), Fail> {
         ),
     ];
     for (words, text, out, err, status) in cases {
-        for most in [1, 4096] {
-            let got = ppm_over_memory(&rt, rt.alloc(), text.as_bytes(), words, most, NONE)?;
-            assert_eq!(rt; got.out.as_slice(), out.as_bytes(), "{text}");
-            assert_eq!(rt; got.err.as_slice(), err.as_bytes(), "{text}");
-            assert_eq!(rt; got.status, status, "{text}");
-        }
+        is_answered(&rt, rt.alloc(), words, 1, text, out, err, status)?;
+        is_answered(&rt, rt.alloc(), words, 4096, text, out, err, status)?;
     }
     Ok(())
 }
