@@ -51,6 +51,7 @@ pub enum RestartKind {
 
 impl RestartKind {
     /// The kind's number, from 1 to 14.
+    #[inline(always)]
     fn number(self) -> u64
         ensures value { result ≡ kind_number self }
         ensures bound { result < 2 ^ 5 }
@@ -75,6 +76,7 @@ impl RestartKind {
 
     /// The address, of 32 bits.
     #[tactic(auto, unfolding(crate::specs::Fields::number_of))]
+    #[inline(always)]
     fn address(self) -> u64
         requires { Fit (address_fields self) }
         ensures value { result ≡ number_of (address_fields self) }
@@ -148,6 +150,7 @@ fn read(word: u64) -> Option<Restart>
 impl Restart {
     /// The word of the restart.
     #[tactic(auto, unfolding(crate::specs::Fields::number_of))]
+    #[inline(always)]
     pub fn pack(&self) -> u64
         requires { IsRestart self.now }
         ensures { result ≡ restart_word self.now }

@@ -82,6 +82,7 @@ impl Shape {
     }
 
     /// Where a place begins; behind the last one, where the arrays begin.
+    #[inline(always)]
     fn place_at(&self, place: u32) -> u32
         requires { place ≤ self.now.processors }
         ensures value { result ≡ place_at self.now place }
@@ -91,6 +92,7 @@ impl Shape {
     }
 
     /// The address of the first word of a place's pool.
+    #[inline(always)]
     pub fn pool_at(&self, place: u32) -> u32
         requires { place < self.now.processors }
         ensures value { result ≡ pool_at self.now place }
@@ -101,6 +103,7 @@ impl Shape {
     }
 
     /// The address of the first array word.
+    #[inline(always)]
     pub fn arrays_at(&self) -> u32
         ensures value { result ≡ arrays_at self.now }
         ensures bound { result ≤ 71303617 }
@@ -109,6 +112,7 @@ impl Shape {
     }
 
     /// How many words there are: 75,497,921 at most.
+    #[inline(always)]
     pub fn word_count(&self) -> u32
         ensures value { result ≡ word_count self.now }
         ensures bound { result ≤ 75497921 }
@@ -117,6 +121,7 @@ impl Shape {
     }
 
     /// The address of a cell, from 0.
+    #[inline(always)]
     pub fn address(&self, cell: Cell) -> u32
         requires { IsAddressable self.now cell }
         ensures value { result ≡ address self.now cell }
@@ -125,6 +130,7 @@ impl Shape {
         self.address_of(cell)
     }
 
+    #[inline(always)]
     fn address_of(&self, cell: Cell) -> u32
         requires { IsAddressable self.now cell }
         ensures { result ≡ address self.now cell }

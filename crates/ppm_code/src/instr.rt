@@ -133,6 +133,7 @@ pub enum Instr {
 }
 
 /// The word in a register.
+#[inline(always)]
 fn word_in(registers: &[u64; 64], register: Register) -> u64
     ensures { result ≡ held registers.now register }
 {
@@ -140,6 +141,7 @@ fn word_in(registers: &[u64; 64], register: Register) -> u64
 }
 
 /// The signed number in a register.
+#[inline(always)]
 fn number_in(registers: &[u64; 64], register: Register) -> i64
     ensures value { result ≡ value_of (held registers.now register) }
     ensures in_range { FitsSigned w64 result }
@@ -149,6 +151,7 @@ fn number_in(registers: &[u64; 64], register: Register) -> i64
 
 impl Instr {
     /// What the instruction does where the registers hold these words and there are so many array words.
+    #[inline(always)]
     pub fn act(&self, registers: &[u64; 64], array_words: u64) -> Act
         ensures { result ≡ does array_words self.now registers.now }
     {
