@@ -16,7 +16,7 @@ use std::marker::Model;
 
 /// A schedule: which processor acts next. Some processor has no hard fault. It is seen as the number of processors for
 /// which it is, and its items in the order of the text; a step that is made many times is one item. So its memory grows
-/// with the text and not with the acts, and whoever obeys it goes through the items by their places.
+/// with the text and not with the acts.
 #[derive(Debug, Drop)]
 pub struct Schedule {
     items: Vec<ScheduleItem>,
