@@ -61,11 +61,11 @@ module _ (s : Shape) (code : CodeParts) (is : IsCode code) where
 
   -- the finish word over a turn
   turn_word : (state : State) (turn : Turn) → AllSpare state
-      → WordGoes (λ word. IsNoQuit turn.act → IsProposedWord word) (slice_index state.words 0) (slice_index (happens s code state turn).words 0)
+      → WordGoes (λ word. IsNoQuit turn.act → IsProposedWord s.processors word) (slice_index state.words 0) (slice_index (happens s code state turn).words 0)
   turn_word state turn all =
-      by_turn (λ (k : State). WordGoes (λ word. IsNoQuit turn.act → IsProposedWord word) (slice_index state.words 0) (slice_index k.words 0))
+      by_turn (λ (k : State). WordGoes (λ word. IsNoQuit turn.act → IsProposedWord s.processors word) (slice_index state.words 0) (slice_index k.words 0))
       state turn (inl refl)
-      (λ h. word_goes (λ word. IsNoQuit turn.act → IsProposedWord word) state.words
+      (λ h. word_goes (λ word. IsNoQuit turn.act → IsProposedWord s.processors word) state.words
       (want_of s code turn.processor turn.act (stand_of state turn.processor))
       (asks_act s code is turn.processor turn.act (stand_of state turn.processor) h))
       (all turn.processor)
@@ -94,7 +94,7 @@ module _ (s : Shape) (code : CodeParts) (is : IsCode code) where
       → slice_index (after s code state more).words 0 ≡ slice_index state.words 0
   stays state [] all some = refl
   stays state (turn ∷ more) all some =
-      let same = kept_over (λ word. IsNoQuit turn.act → IsProposedWord word) (slice_index state.words 0)
+      let same = kept_over (λ word. IsNoQuit turn.act → IsProposedWord s.processors word) (slice_index state.words 0)
       (slice_index (happens s code state turn).words 0) (turn_word state turn all) some in
       stays (happens s code state turn) more (turn_spares state turn all) (λ e. some (sym same ∙ e)) ∙ same
 
@@ -106,18 +106,18 @@ module _ (s : Shape) (code : CodeParts) (is : IsCode code) where
 
   -- without a quit
   by_turn_word : (state : State) (turn : Turn) (turns : List Turn) → IsNoQuit turn.act
-      → WordGoes (λ word. IsNoQuit turn.act → IsProposedWord word) (slice_index state.words 0) (slice_index (happens s code state turn).words 0)
+      → WordGoes (λ word. IsNoQuit turn.act → IsProposedWord s.processors word) (slice_index state.words 0) (slice_index (happens s code state turn).words 0)
       → (slice_index (after s code (happens s code state turn) turns).words 0 ≡ slice_index (happens s code state turn).words 0)
-      ⊎ IsProposedWord (slice_index (after s code (happens s code state turn) turns).words 0)
+      ⊎ IsProposedWord s.processors (slice_index (after s code (happens s code state turn) turns).words 0)
       → (slice_index (after s code (happens s code state turn) turns).words 0 ≡ slice_index state.words 0)
-      ⊎ IsProposedWord (slice_index (after s code (happens s code state turn) turns).words 0)
+      ⊎ IsProposedWord s.processors (slice_index (after s code (happens s code state turn) turns).words 0)
   by_turn_word state turn turns none goes (inr p) = inr p
   by_turn_word state turn turns none (inl same) (inl e) = inl (e ∙ same)
-  by_turn_word state turn turns none (inr t) (inl e) = inr (subst IsProposedWord (sym e) (t.1 none))
+  by_turn_word state turn turns none (inr t) (inl e) = inr (subst (IsProposedWord s.processors) (sym e) (t.1 none))
 
   proposed : (state : State) (turns : List Turn) → AllSpare state → AllByRecursion (λ turn. IsNoQuit turn.act) turns
       → (slice_index (after s code state turns).words 0 ≡ slice_index state.words 0)
-      ⊎ IsProposedWord (slice_index (after s code state turns).words 0)
+      ⊎ IsProposedWord s.processors (slice_index (after s code state turns).words 0)
   proposed state [] all none = inl refl
   proposed state (turn ∷ turns) all none =
       by_turn_word state turn turns none.0 (turn_word state turn all)
@@ -162,9 +162,9 @@ module _ (s : Shape) (code : CodeParts) (is : IsCode code) where
       by_place h goes (inr same) =
           inr (λ done none.
           so_far (sym same ∙ done)
-          (sym (kept_over (λ word. IsNoQuit turn.act → IsProposedWord word) (slice_index state.words 0)
+          (sym (kept_over (λ word. IsNoQuit turn.act → IsProposedWord s.processors word) (slice_index state.words 0)
           (slice_index (words_after state.words want) 0)
-          (word_goes (λ word. IsNoQuit turn.act → IsProposedWord word) state.words want (asks_act s code is turn.processor turn.act standing h))
+          (word_goes (λ word. IsNoQuit turn.act → IsProposedWord s.processors word) state.words want (asks_act s code is turn.processor turn.act standing h))
           (so_far (sym same ∙ done))) ∙ none))
 
   later_struck : (turn : Turn) (turns : List Turn) (p : ℕ) → IsStruck p turns → IsStruck p (turn ∷ turns)

@@ -4,6 +4,7 @@ pub mod StoringLemmas
 pub mod EnterLemmas
 pub mod SampleLemmas
 pub mod PlainLemmas
+pub mod ContentLemmas
 pub mod SparingLemmas
 pub mod RestLemmas
 pub mod StandLemmas

@@ -1,7 +1,7 @@
 -- Laws of runs from an opening, whatever its words are: when the finish word changes, and when a processor is done.
-use Rattle.std.specs.Prelude.{◌≡◌, ◌≢◌, ◌⊎◌, ℕ, ◌<◌, List, ◌∷◌, ◌++◌}
+use Rattle.std.specs.Prelude.{◌≡◌, ◌≢◌, ◌⊎◌, ℕ, ◌^◌, ◌<◌, ◌≤◌, List, ◌∷◌, ◌++◌, Some}
 use Rattle.std.specs.List.{AllByRecursion}
-use Rattle.ppm_cells.specs.Finish.{finish_word}
+use Rattle.ppm_cells.specs.Finish.{finish_of}
 use Rattle.ppm_cells.specs.Memory.{read, AreWordsOf}
 use Rattle.ppm_cells.specs.declared.cell.Cell.TheVariants.{FinishWord}
 use Rattle.ppm_cells.specs.declared.finish.Finish.{Finish}
@@ -11,7 +11,7 @@ use Rattle.ppm_code.specs.declared.code.CodeParts.{CodeParts}
 use Rattle.ppm_step.specs.declared.turn.Act.{Act}
 use Rattle.ppm_step.specs.declared.turn.Act.TheVariants.{Step, Soft, Hard, Quit}
 use Rattle.ppm_step.specs.declared.turn.Turn.{Turn}
-use Rattle.ppm_step.specs.Standings.{IsDone}
+use Rattle.ppm_step.specs.Standings.{IsDone, unknown_place}
 use Rattle.ppm_step.specs.State.{State, stand_of, after, opening}
 
 -- the finish word
@@ -31,21 +31,22 @@ IsNoQuit Soft = Unit {0}
 IsNoQuit Hard = Unit {0}
 IsNoQuit (Quit why) = ⊥
 
--- what steps propose for a finish word: how the root ended, that a pool was full, or that words are broken
-abbrev pub IsProposed : Finish → Type 0
-IsProposed Ended = Unit {0}
-IsProposed (Trapped trap line) = Unit {0}
-IsProposed (OutOfRoom place) = Unit {0}
-IsProposed (Broken place) = Unit {0}
-IsProposed Unset = ⊥
-IsProposed (OutOfTurns processor) = ⊥
-IsProposed Stopped = ⊥
+-- what steps of so many processors propose for a finish word: that the root ended, or trapped in a line, that the pool of a place is full,
+-- or that words are broken, met at a place or at one that isn't known
+abbrev pub IsProposed : (processors : ℕ) → Finish → Type 0
+IsProposed processors Ended = Unit {0}
+IsProposed processors (Trapped trap line) = (1 ≤ line) × (line < 2 ^ 26)
+IsProposed processors (OutOfRoom place) = place < processors
+IsProposed processors (Broken place) = (place < processors) ⊎ (place ≡ unknown_place)
+IsProposed processors Unset = ⊥
+IsProposed processors (OutOfTurns processor) = ⊥
+IsProposed processors Stopped = ⊥
 
--- the word of one of these
-pub record IsProposedWord (word : ℕ) : Type 0 where
+-- the word stands for one of these
+pub record IsProposedWord (processors word : ℕ) : Type 0 where
   pub finish : Finish
-  pub is_proposed : IsProposed finish
-  pub word_is : word ≡ finish_word finish
+  pub is_proposed : IsProposed processors finish
+  pub stands : finish_of word ≡ Some finish
 
 module _ (s : Shape) (code : CodeParts) where
   -- the state that turns come to from these words
@@ -57,10 +58,10 @@ module _ (s : Shape) (code : CodeParts) where
   FinishStays = (words : List ℕ) (first more : List Turn)
       → finish_at s (reached words first) ≢ 0 → finish_at s (reached words (first ++ more)) ≡ finish_at s (reached words first)
 
-  -- where no processor quits, it stays or becomes one that steps propose
+  -- where no processor quits, it stays or comes to stand for what steps propose
   abbrev pub FinishIsProposed : Type 0
   FinishIsProposed = (words : List ℕ) (turns : List Turn) → AllByRecursion (λ turn. IsNoQuit turn.act) turns
-      → (finish_at s (reached words turns) ≡ read s words FinishWord) ⊎ IsProposedWord (finish_at s (reached words turns))
+      → (finish_at s (reached words turns) ≡ read s words FinishWord) ⊎ IsProposedWord s.processors (finish_at s (reached words turns))
 
   -- a processor is done only where a hard fault of its own was made, or the finish word isn't 0
   abbrev pub DoneHasCause : Type 0

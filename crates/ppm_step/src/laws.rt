@@ -4,8 +4,8 @@ ghost use Rattle.ppm_code.specs.Code.{IsCode};
 ghost use Rattle.ppm_code.specs.declared.code.CodeParts.{CodeParts};
 ghost use Rattle.ppm_step.specs.Laws.{FinishStays, FinishIsProposed, DoneHasCause};
 
-/// Once the finish word isn't 0 no turn changes it. Where no processor quits it stays as it was at the opening, or says that the root
-/// ended or trapped, that a pool was full or that words are broken.
+/// Once the finish word isn't 0 no turn changes it. Where no processor quits it stays as it was at the opening, or stands for what steps
+/// propose: that the root ended, or trapped in a line, that the pool of one of the places is full, or that words are broken.
 pub fn finish_stays()
     ensures stays { (s : Shape) (code : CodeParts) → IsCode code → FinishStays s code }
     ensures proposed { (s : Shape) (code : CodeParts) → IsCode code → FinishIsProposed s code }
