@@ -1,7 +1,6 @@
 -- What a word stands for fits its fields.
 use Rattle.std.proofs.Common.{ℕ, Option, Some, None, IfSome}
 use Rattle.ppm_cells.specs.Entry.{entry_of, entry_word, IsEntry}
-use Rattle.ppm_cells.specs.Exact.{IsExact}
 use Rattle.ppm_cells.specs.Finish.{finish_of, finish_word, IsFinish}
 use Rattle.ppm_cells.specs.Holder.{holder_of, holder_word, IsHolder}
 use Rattle.ppm_cells.specs.Link.{link_of, link_word, IsLink}

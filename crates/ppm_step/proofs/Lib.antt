@@ -11,4 +11,5 @@ pub mod StandLemmas
 pub mod WordLemmas
 pub mod ActLemmas
 pub mod FinishLemmas
+pub mod RoomLemmas
 pub mod NextLemmas

@@ -1,9 +1,9 @@
 -- What comes of a row or of a capsule stores nothing into the finish word: it is exchanged from 0 alone.
-use Rattle.std.proofs.Common.{◌≡◌, ◌<◌, ◌+◌, ◌*◌, ◌⊎◌, inl, inr, refl, arith, ℕ, zero, suc, Bool, true, false, Option, Some, None, ◌==◌}
+use Rattle.std.proofs.Common.{◌≡◌, ◌<◌, ◌+◌, ◌*◌, ◌⊎◌, inl, inr, refl, sym, subst, arith, ℕ, zero, suc, Bool, true, false, Option, Some, None, ◌==◌}
 use Rattle.std.specs.Prelude.{◌-◌, ◌^◌, ◌&&◌, if◌then◌else◌, nat_lt}
 use Rattle.ppm_words.specs.declared.trap.Trap.{Trap}
 use Rattle.ppm_cells.specs.Cells.{address, place_at, place_size, word_count}
-use Rattle.ppm_cells.specs.Finish.{finish_word, finish_of, IsFinish}
+use Rattle.ppm_cells.specs.Finish.{finish_word, finish_of, IsFinish, IsOutcome}
 use Rattle.ppm_cells.specs.declared.cell.Cell.{Cell}
 use Rattle.ppm_cells.specs.declared.cell.Cell.TheVariants.{EntryWord, BlockWord}
 use Rattle.ppm_cells.specs.declared.entry.Entry.{Entry}
@@ -86,12 +86,33 @@ proposed_word s finish p = record {
     fits (OutOfTurns processor) h = absurd h
     fits Stopped h = absurd h
 
+-- the word of an end or of a trap
+pub record IsOutcomeWord (word : ℕ) : Type 0 where
+  pub outcome : Finish
+  pub is_outcome : IsOutcome outcome
+  pub fits : IsFinish outcome
+  pub word_is : word ≡ finish_word outcome
+
+-- which steps propose
+pub outcome_proposed : (s : Shape) (word : ℕ) → IsOutcomeWord word → IsProposedWord s.processors word
+outcome_proposed s word o =
+    subst (IsProposedWord s.processors) (sym o.word_is) (proposed_word s o.outcome (by o.outcome o.is_outcome o.fits))
+  where
+    by : (finish : Finish) → IsOutcome finish → IsFinish finish → IsProposed s.processors finish
+    by Ended is fits = tt
+    by (Trapped trap line) is fits = fits
+    by Unset is fits = absurd is
+    by (OutOfTurns processor) is fits = absurd is
+    by (OutOfRoom place) is fits = absurd is
+    by Stopped is fits = absurd is
+    by (BrokenAt place) is fits = absurd is
+
 module _ (s : Shape) where
-  -- the row stores elsewhere, or exchanges the finish word from 0 for one that may be proposed
+  -- the row stores elsewhere, or exchanges the finish word from 0 for an outcome
   abbrev pub SparesRow : Row → Type 0
   SparesRow (Now next) = Unit {0}
   SparesRow (Store cell content next) = 0 < address s cell
-  SparesRow (Exchange cell old new next) = (0 < address s cell) ⊎ ((word_of old ≡ 0) × IsProposedWord s.processors (word_of new))
+  SparesRow (Exchange cell old new next) = (0 < address s cell) ⊎ ((word_of old ≡ 0) × IsOutcomeWord (word_of new))
 
   either : (b : Bool) (x y : Row) → SparesRow x → SparesRow y → SparesRow (if b then x else y)
   either true x y p q = p
@@ -173,14 +194,14 @@ module _ (s : Shape) where
   branch_far Right block = omega arith
 
   unwound_ended : (seat : Seat) (frame : ℕ) (kind : LinkKind) → SparesRow (unwound seat frame kind Ended)
-  unwound_ended seat frame Root = inr (refl, proposed_word s Ended tt)
+  unwound_ended seat frame Root = inr (refl, record { outcome = Ended; is_outcome = tt; fits = tt; word_is = refl })
   unwound_ended seat frame (CallLink to copy) = tt
   unwound_ended seat frame (Branch side block) = branch_far side block
   unwound_ended seat frame (ForkLink to copy) = tt
 
   unwound_trapped : (seat : Seat) (frame : ℕ) (kind : LinkKind) (trap : Trap) (line : ℕ) → IsFinish (Trapped trap line)
       → SparesRow (unwound seat frame kind (Trapped trap line))
-  unwound_trapped seat frame Root trap line fits = inr (refl, proposed_word s (Trapped trap line) fits)
+  unwound_trapped seat frame Root trap line fits = inr (refl, record { outcome = Trapped trap line; is_outcome = tt; fits = fits; word_is = refl })
   unwound_trapped seat frame (CallLink to copy) trap line fits = omega arith
   unwound_trapped seat frame (Branch side block) trap line fits = branch_far side block
   unwound_trapped seat frame (ForkLink to copy) trap line fits = tt

@@ -24,9 +24,9 @@ use Rattle.ppm_step.specs.Standings.{Standing, IsLost, IsPlaced, IsAt, IsWithin,
 use Rattle.ppm_step.specs.Standings.{row_is_there, rest_is_there, within_if, running_if, enters, stands_then, stands, begins_if, begins, went_then}
 use Rattle.ppm_step.specs.Standings.{went_row, went_rest, placed}
 use Rattle.ppm_step.proofs.ContentLemmas.{content_fits}
-use Rattle.ppm_step.proofs.PlainLemmas.{capsule_plain}
+use Rattle.ppm_step.proofs.PlainLemmas.{capsule_simple}
 use Rattle.ppm_step.proofs.SparingLemmas.{SparesRow, found_spares, begun_spares}
-use Rattle.ppm_step.proofs.RestLemmas.{SparesRest, plain_spares}
+use Rattle.ppm_step.proofs.RestLemmas.{SparesRest, simple_spares}
 
 module _ (s : Shape) where
   -- a processor that is not done, at a place that is there, and whose coming steps store nothing into the finish word
@@ -64,8 +64,8 @@ module _ (s : Shape) where
         → slice_get code.capsules number ≡ o → Spares (enters s code seat kind o)
     entered seat (Run frame copy) number (Some c) there one =
         running_spares seat (rest_of s code seat.place (record { frame = frame; copy = copy; block = 0 }) (capsule_of s.arrays c.instrs))
-        (plain_spares s code seat.place (record { frame = frame; copy = copy; block = 0 }) (capsule_of s.arrays c.instrs)
-        (capsule_plain code s.arrays number c is one)) there
+        (simple_spares s code seat.place (record { frame = frame; copy = copy; block = 0 }) c.instrs (capsule_of s.arrays c.instrs)
+        (capsule_simple code s.arrays number c is one)) there
         (rest_is_there s seat (rest_of s code seat.place (record { frame = frame; copy = copy; block = 0 }) (capsule_of s.arrays c.instrs)))
     entered seat kind number None there one = broken kind
       where
