@@ -56,8 +56,8 @@ pub record IsProposedWord (processors word : ℕ) : Type 0 where
   pub stands : finish_of word ≡ Some finish
 
 module _ (s : Shape) (code : CodeParts) where
-  -- this turn finds the pool of a place full: it is the load of the place's room counter with which a capsule of the code begins that asks for
-  -- so many words, and these pass the end of the pool
+  -- this turn finds the pool of a place full: it is the load of the place's room counter with which a capsule of the code begins that asks
+  -- for so many words, and these pass the end of the pool
   pub record FindsFull (place : ℕ) (state : State) (turn : Turn) : Type 0 where
     pub victim : ℕ
     pub is_step : turn.act ≡ Step victim
