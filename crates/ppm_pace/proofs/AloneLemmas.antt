@@ -36,7 +36,7 @@ module _ (s : Shape) (code : CodeParts) where
         × (turn.act ≡ next_act plan limits processor past (stand_of state processor))
         × ObeysFrom (behind past (deed_of processor state turn)) (happens s code state turn) turns
 
-    first_obeys : (past : Past) (state : State) (turn : Turn) (turns : List Turn) → turn.processor ≡ processor
+    pub first_obeys : (past : Past) (state : State) (turn : Turn) (turns : List Turn) → turn.processor ≡ processor
         → ObeysFrom past state (turn ∷ turns) → FirstObeys past state turn turns
     first_obeys past state turn turns e =
         subst (λ deeds. Obeys plan limits processor past deeds (stand_of (after s code (happens s code state turn) turns) processor))

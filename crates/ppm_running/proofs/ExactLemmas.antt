@@ -1,23 +1,21 @@
 -- What the finish word says behind a schedule's run of a program's machine.
-use Rattle.std.proofs.Common.{◌≡◌, ◌<◌, ℕ, List, sym, ap, ◌∙◌, subst}
+use Rattle.std.proofs.Common.{◌≡◌, ◌≢◌, ◌<◌, ℕ, List, sym, ap, ◌∙◌, subst}
 use Rattle.ppm_cells.specs.Memory.{read, AreWordsOf}
 use Rattle.ppm_cells.specs.declared.cell.Cell.TheVariants.{FinishWord}
-use Rattle.ppm_cells.specs.declared.finish.Finish.{Finish}
 use Rattle.ppm_cells.specs.declared.shape.Shape.{Shape}
 use Rattle.ppm_code.specs.Code.{IsCode}
-use Rattle.ppm_core.specs.declared.ending.Ending.TheVariants.{With}
-use Rattle.ppm_core.specs.Situation.{Situation, finish_in, ending_of}
+use Rattle.ppm_core.specs.Situation.{Situation, finish_in}
 use Rattle.ppm_plan.specs.declared.schedule_item.ScheduleItem.{ScheduleItem}
 use Rattle.ppm_plan.specs.Forms.{schedule_form}
 use Rattle.ppm_plan.specs.Refusals.{IsKeeper}
-use Rattle.ppm_step.specs.Laws.{IsProposed}
+use Rattle.ppm_step.specs.Laws.{IsProposedWord}
 use Rattle.ppm_tree.specs.Tree.{ProgramTree}
 use Rattle.ppm_translation.specs.Routines.{code_of}
 use Rattle.ppm_running.specs.declared.loading.Sizes.{Sizes}
 use Rattle.ppm_running.specs.Loading.{Begins}
 use Rattle.ppm_running.specs.Schedules.{followed}
 use Rattle.ppm_running.proofs.KeeperLemmas.{none_quits, unfinished_is_exact}
-use Rattle.ppm_running.proofs.SpentLemmas.{unset_is}
+use Rattle.ppm_running.proofs.SayLemmas.{unset_is}
 
 module _ (sizes : Sizes) (t : ProgramTree) (keeper : ℕ) where
   -- its code is a program's
@@ -25,12 +23,14 @@ module _ (sizes : Sizes) (t : ProgramTree) (keeper : ℕ) where
   code_begun start b = subst IsCode (ap (λ (m : Situation). m.code) b.loads)
 
   module _ (items : List ScheduleItem) (turns : ℕ) where
-    -- what it says is what steps propose
+    -- where it isn't 0, it stands for what steps propose
     pub says_proposed : (start : Situation) → Begins sizes t keeper start → IsCode (code_of t)
-        → (finish : Finish) → ending_of (finish_in (followed start items turns)) ≡ With finish → IsProposed finish
-    says_proposed start b is finish e =
-        none_quits b.shape (code_of t) is b.image.lengths b.image.words items turns finish (b.opens.opened FinishWord tt ∙ unset_is)
-        (subst (λ (m : Situation). ending_of (finish_in (followed m items turns)) ≡ With finish) b.loads e)
+        → finish_in (followed start items turns) ≢ 0 → IsProposedWord sizes.processors (finish_in (followed start items turns))
+    says_proposed start b is some =
+        subst (λ (n : ℕ). IsProposedWord n (finish_in (followed start items turns))) b.sized.processors
+        (subst (λ (m : Situation). finish_in (followed m items turns) ≢ 0 → IsProposedWord b.shape.processors (finish_in (followed m items turns)))
+        (sym b.loads)
+        (none_quits b.shape (code_of t) is b.image.lengths b.image.words items turns (b.opens.opened FinishWord tt ∙ unset_is)) some)
 
     -- where it says nothing, exactly as many acts were made as may be
     pub unfinished_exactly : (start : Situation) → Begins sizes t keeper start → IsCode (code_of t) → IsKeeper schedule_form items keeper

@@ -30,15 +30,7 @@ use Rattle.ppm_translation.specs.Routines.{code_of}
 use Rattle.ppm_running.specs.declared.loading.Sizes.{Sizes}
 use Rattle.ppm_running.specs.Alone.{ObeysTo}
 use Rattle.ppm_running.specs.Loading.{Begins}
-use Rattle.ppm_pace.proofs.AloneLemmas.{deed_of, ObeysFrom, FirstObeys}
-
--- the first turn, and those behind it
-pub first_obeys : (s : Shape) (code : CodeParts) (plan : Planned) (limits : Limits) (c : ℕ) (past : Past) (state : State) (turn : Turn)
-    (turns : List Turn) → turn.processor ≡ c → ObeysFrom s code plan limits c past state (turn ∷ turns)
-    → FirstObeys s code plan limits c past state turn turns
-first_obeys s code plan limits c past state turn turns e =
-    subst (λ deeds. Obeys plan limits c past deeds (stand_of (after s code (happens s code state turn) turns) c))
-    (ap (λ b. (if b then deed_of c state turn ∷ [] else []) ++ deeds_of s code c (happens s code state turn) turns) (eq-eqb turn.processor c e))
+use Rattle.ppm_pace.proofs.AloneLemmas.{deed_of, ObeysFrom, first_obeys}
 
 -- an item that is a hard fault of a turn kills its processor
 item_kills : (c turn : ℕ) (item : PlanItem) → is_hard_at c turn item ≡ true → plan_form.kills c item ≡ true

@@ -1,17 +1,11 @@
 -- The keeper of a schedule lives while the finish word is 0, and no processor quits.
-use Rattle.std.proofs.Common.{◌≡◌, ◌≢◌, ◌<◌, ◌⊎◌, inl, inr, refl, sym, ap, ◌∙◌, subst, arith, ℕ, zero, suc, Bool, true, false, List, [], ◌∷◌}
-use Rattle.std.proofs.Common.{◌++◌, length, ◌==◌, ◌||◌, Option, Some, None}
+use Rattle.std.proofs.Common.{◌≡◌, ◌≢◌, ◌<◌, ◌⊎◌, inl, inr, refl, sym, ap, ◌∙◌, subst, arith, ℕ, Bool, true, false, List, [], ◌∷◌}
+use Rattle.std.proofs.Common.{◌++◌, length, ◌==◌, ◌||◌}
 use Rattle.std.specs.List.{AllByRecursion, list_any}
 use Rattle.std.proofs.lemmas.Bool.{eq-eqb}
-use Rattle.ppm_cells.specs.Fields.{number_of}
-use Rattle.ppm_cells.specs.Finish.{finish_word, finish_of, IsFinish}
 use Rattle.ppm_cells.specs.Memory.{read}
 use Rattle.ppm_cells.specs.declared.cell.Cell.TheVariants.{FinishWord}
-use Rattle.ppm_cells.specs.declared.finish.Finish.{Finish}
-use Rattle.ppm_cells.specs.declared.finish.Finish.TheVariants as finishes
 use Rattle.ppm_cells.specs.declared.shape.Shape.{Shape}
-use Rattle.ppm_cells.proofs.ExactLemmas.{pack-unpack}
-use Rattle.ppm_cells.proofs.FinishLemmas.{finishes_exact}
 use Rattle.ppm_code.specs.Code.{IsCode}
 use Rattle.ppm_code.specs.declared.code.CodeParts.{CodeParts}
 use Rattle.ppm_plan.specs.declared.fault.Fault.TheVariants as faults
@@ -24,10 +18,9 @@ use Rattle.ppm_step.specs.declared.turn.Act.TheVariants.{Hard}
 use Rattle.ppm_step.specs.declared.turn.Turn.{Turn}
 use Rattle.ppm_step.specs.Standings.{IsDone}
 use Rattle.ppm_step.specs.State.{State, stand_of, after, opening}
-use Rattle.ppm_step.specs.Laws.{IsStruck, IsNoQuit, IsProposed, IsProposedWord}
+use Rattle.ppm_step.specs.Laws.{IsStruck, IsNoQuit, IsProposedWord}
 use Rattle.ppm_step.proofs.FinishLemmas.{finish_is_proposed, done_has_cause}
-use Rattle.ppm_core.specs.Situation.{loaded, finish_in, ending_by, ending_of}
-use Rattle.ppm_core.specs.declared.ending.Ending.TheVariants.{With}
+use Rattle.ppm_core.specs.Situation.{loaded, finish_in}
 use Rattle.ppm_running.specs.Course.{Due, Listed, Course, act_of, turn_of, behind, turns_in, behind_all, turns_of}
 use Rattle.ppm_running.specs.Schedules.{dues_of, beginning, schedule_turns, followed}
 use Rattle.ppm_running.specs.Laws.{IsOver, AllMade, Finished, NoneLeft, UnfinishedIsExact, NoneQuits}
@@ -67,38 +60,6 @@ no_quit : (processors : ℕ) (w : Course) (act : ScheduledAct) → IsNoQuit (tur
 no_quit processors w (scheduled.Step processor stated) = tt
 no_quit processors w (scheduled.Fails processor faults.Soft) = tt
 no_quit processors w (scheduled.Fails processor faults.Hard) = tt
-
--- a word of two finishes is of one kind
-proposed_words : (u v : Finish) → IsProposed u → finish_word u ≡ finish_word v → IsProposed v
-unfolding number_of
-proposed_words u finishes.Ended p e = tt
-proposed_words u (finishes.Trapped trap line) p e = tt
-proposed_words u (finishes.OutOfRoom place) p e = tt
-proposed_words u (finishes.Broken place) p e = tt
-proposed_words finishes.Ended finishes.Unset p e = omega (arith, e)
-proposed_words finishes.Ended (finishes.OutOfTurns processor) p e = omega (arith, e)
-proposed_words finishes.Ended finishes.Stopped p e = omega (arith, e)
-proposed_words (finishes.Trapped trap line) finishes.Unset p e = omega (arith, e)
-proposed_words (finishes.Trapped trap line) (finishes.OutOfTurns processor) p e = omega (arith, e)
-proposed_words (finishes.Trapped trap line) finishes.Stopped p e = omega (arith, e)
-proposed_words (finishes.OutOfRoom place) finishes.Unset p e = omega (arith, e)
-proposed_words (finishes.OutOfRoom place) (finishes.OutOfTurns processor) p e = omega (arith, e)
-proposed_words (finishes.OutOfRoom place) finishes.Stopped p e = omega (arith, e)
-proposed_words (finishes.Broken place) finishes.Unset p e = omega (arith, e)
-proposed_words (finishes.Broken place) (finishes.OutOfTurns processor) p e = omega (arith, e)
-proposed_words (finishes.Broken place) finishes.Stopped p e = omega (arith, e)
-proposed_words finishes.Unset v p e = absurd p
-proposed_words (finishes.OutOfTurns processor) v p e = absurd p
-proposed_words finishes.Stopped v p e = absurd p
-
--- what a word says that is not 0
-said : (word : ℕ) (finish : Finish) → ending_of word ≡ With finish → (word ≢ 0) × (finish_of word ≡ Some finish)
-said zero finish e = cc
-said (suc word) finish e = (λ none. omega (arith, none), by (finish_of (suc word)) e)
-  where
-    by : (o : Option Finish) → ending_by o ≡ With finish → o ≡ Some finish
-    by None k = cc
-    by (Some f) k = let same : f ≡ finish = cc in ap Some same
 
 module _ (s : Shape) (code : CodeParts) where
   -- no turn of a run is a quit
@@ -159,7 +120,7 @@ module _ (s : Shape) (code : CodeParts) where
 
   -- and no run ends by a quit
   pub none_quits : IsCode code → NoneQuits s code
-  none_quits is lengths words items turns finish none e =
+  none_quits is lengths words items turns none some =
       by_word (finish_is_proposed s code is words run (no_quits (beginning start turns) (dues_of s.processors items turns)))
     where
       start : State
@@ -171,11 +132,6 @@ module _ (s : Shape) (code : CodeParts) where
       word : ℕ
       word = finish_in (followed (loaded s code lengths words) items turns)
 
-      is_said : (word ≢ 0) × (finish_of word ≡ Some finish)
-      is_said = said word finish e
-
-      by_word : (word ≡ read s words FinishWord) ⊎ IsProposedWord word → IsProposed finish
-      by_word (inl same) = absurd (is_said.0 (same ∙ none))
-      by_word (inr p) =
-          proposed_words p.finish finish p.is_proposed
-          (sym p.word_is ∙ sym (pack-unpack finish_word IsFinish finish_of finishes_exact word finish is_said.1))
+      by_word : (word ≡ read s words FinishWord) ⊎ IsProposedWord s.processors word → IsProposedWord s.processors word
+      by_word (inl same) = absurd (some (same ∙ none))
+      by_word (inr p) = p

@@ -11,6 +11,8 @@ pub mod DueLemmas
 pub mod LoadLemmas
 pub mod LeavingLemmas
 pub mod KeeperLemmas
+pub mod SayLemmas
+pub mod RoomLemmas
 pub mod PlannedLemmas
 pub mod LoadingLemmas
 pub mod ExactLemmas

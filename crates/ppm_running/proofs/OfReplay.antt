@@ -1,5 +1,5 @@
 -- The rows of `replay`.
-use Rattle.std.proofs.Common.{◌≡◌, ◌≢◌, ℕ, List, [], ◌∷◌}
+use Rattle.std.proofs.Common.{◌≡◌, ◌≢◌, ◌<◌, ◌⊎◌, ℕ, List, [], ◌∷◌}
 use Rattle.std.proofs.Common.{sym, ◌∙◌, subst, inl, inr}
 use Rattle.ppm_words.specs.declared.named_array.NamedArray.{NamedArray}
 use Rattle.ppm_words.specs.declared.trap.Trap.{Trap}
@@ -20,6 +20,7 @@ use Rattle.ppm_answers.specs.Delivery.{IsWritten}
 use Rattle.ppm_answers.specs.Reading.{IsUnread, ReadHas, Answers}
 use Rattle.ppm_answers.specs.Rows.{IsOneOf, GoesWell}
 use Rattle.ppm_line.specs.declared.replay.ReplayOptions.{ReplayOptions}
+use Rattle.ppm_step.specs.Standings.{unknown_place}
 use Rattle.ppm_running.specs.Planned.{IsRefusedBy, HasByItems, HasOneAnswer}
 use Rattle.ppm_running.specs.Replays.{TextHas, ReplayMay}
 use Rattle.ppm_running.specs.ReplayRows.{HasRead, WritesArrays, WritesTrap, WritesRefusal, WritesUnfinished}
@@ -53,7 +54,7 @@ module _ (options : ReplayOptions) (schedule : List ℕ) (o : Outside) (status :
   ReadByItems answer = ReadHas text_limit (HasByItems schedule_form schedule options.processors (TextHas options)) o.source answer
 
   -- which is of few kinds
-  kind : (answer : Answer) → ReadByItems answer → IsOfText options.turns answer
+  kind : (answer : Answer) → ReadByItems answer → IsOfText options.processors options.turns answer
   kind answer h = kind_of_text options h.2.items h.0 answer h.2.has
 
   -- the statuses where all goes well
@@ -61,7 +62,7 @@ module _ (options : ReplayOptions) (schedule : List ℕ) (o : Outside) (status :
   Statuses = IsOneOf status (statuses.Ended ∷ statuses.Trapped ∷ statuses.SourceRefused ∷ statuses.WordsRefused ∷ statuses.OutOfTurns
       ∷ statuses.OutOfRoom ∷ statuses.Broken ∷ [])
 
-  status_among : (answer : Answer) → IsOfText options.turns answer → status ≡ status_of answer → Statuses
+  status_among : (answer : Answer) → IsOfText options.processors options.turns answer → status ≡ status_of answer → Statuses
   status_among (answers.EndedWith arrays tally) k e = inl e
   status_among (answers.TrappedWith t line tally) k e = inr (inl e)
   status_among (answers.SourceRefused r) k e = inr (inr (inl e))
@@ -81,7 +82,7 @@ module _ (options : ReplayOptions) (schedule : List ℕ) (o : Outside) (status :
   -- the same, with the kind of the answer
   data Says : Type 0 where
     OfSchedule : Refuses → Says
-    OfRead : (answer : Answer) → HasRead options schedule o answer → IsOfText options.turns answer
+    OfRead : (answer : Answer) → HasRead options schedule o answer → IsOfText options.processors options.turns answer
         → IsWritten o.out o.err answer status → Says
 
   says : Told → Says
@@ -106,7 +107,7 @@ module _ (options : ReplayOptions) (schedule : List ℕ) (o : Outside) (status :
 
       go : Says → WritesArrays options schedule o
       go (OfSchedule p) = absurd (not_ended (sym p.3.own ∙ e))
-      go (OfRead answer h k w) = by answer h w (arrays_only options.turns answer k (sym w.own ∙ e))
+      go (OfRead answer h k w) = by answer h w (arrays_only options.processors options.turns answer k (sym w.own ∙ e))
 
   trapped : status ≡ statuses.Trapped → WritesTrap options schedule o
   trapped e = go (said (λ f. cc) (λ f. cc) (λ f. cc))
@@ -123,7 +124,7 @@ module _ (options : ReplayOptions) (schedule : List ℕ) (o : Outside) (status :
 
       go : Says → WritesTrap options schedule o
       go (OfSchedule p) = absurd (not_trapped (sym p.3.own ∙ e))
-      go (OfRead answer h k w) = by answer h w (trap_only options.turns answer k (sym w.own ∙ e))
+      go (OfRead answer h k w) = by answer h w (trap_only options.processors options.turns answer k (sym w.own ∙ e))
 
   refused : status ≡ statuses.SourceRefused → WritesRefusal options schedule o
   refused e = go (said (λ f. cc) (λ f. cc) (λ f. cc))
@@ -145,7 +146,7 @@ module _ (options : ReplayOptions) (schedule : List ℕ) (o : Outside) (status :
     where
       go : Says → RefusesSchedule options schedule o
       go (OfSchedule p) = record { number = p.0; refused = p.1; unread = p.2; gets = p.3.err_takes.0 }
-      go (OfRead answer h k w) = absurd (never_refused options.turns answer k (sym w.own ∙ e))
+      go (OfRead answer h k w) = absurd (never_refused options.processors options.turns answer k (sym w.own ∙ e))
 
   unfinished : status ≡ statuses.OutOfTurns → WritesUnfinished options schedule o
   unfinished e = go (said (λ f. cc) (λ f. cc) (λ f. cc))
@@ -157,37 +158,40 @@ module _ (options : ReplayOptions) (schedule : List ℕ) (o : Outside) (status :
 
       go : Says → WritesUnfinished options schedule o
       go (OfSchedule p) = absurd (not_unfinished (sym p.3.own ∙ e))
-      go (OfRead answer h k w) = by answer h w (turns_only options.turns answer k (sym w.own ∙ e))
+      go (OfRead answer h k w) = by answer h w (turns_only options.processors options.turns answer k (sym w.own ∙ e))
 
   out_of_room : status ≡ statuses.OutOfRoom → WritesNoRoom options schedule o
   out_of_room e = go (said (λ f. cc) (λ f. cc) (λ f. cc))
     where
       by : (answer : Answer) → HasRead options schedule o answer → IsWritten o.out o.err answer status
-          → (place : ℕ) × (answer ≡ answers.OutOfRoom place) → WritesNoRoom options schedule o
-      by answer h w (place, is) = (
+          → (place : ℕ) × (place < options.processors) × (answer ≡ answers.OutOfRoom place) → WritesNoRoom options schedule o
+      by answer h w (place, there, is) = (
         place,
+        there,
         subst (HasRead options schedule o) is h,
         subst (λ (x : Answer). Gets o.err (err_text x)) is w.err_takes.0,
       )
 
       go : Says → WritesNoRoom options schedule o
       go (OfSchedule p) = absurd (not_out_of_room (sym p.3.own ∙ e))
-      go (OfRead answer h k w) = by answer h w (room_only answer (sym w.own ∙ e))
+      go (OfRead answer h k w) = by answer h w (room_only options.processors options.turns answer k (sym w.own ∙ e))
 
   broken : status ≡ statuses.Broken → WritesBroken options schedule o
   broken e = go (said (λ f. cc) (λ f. cc) (λ f. cc))
     where
       by : (answer : Answer) → HasRead options schedule o answer → IsWritten o.out o.err answer status
-          → (place : ℕ) × (answer ≡ answers.Broken place) → WritesBroken options schedule o
-      by answer h w (place, is) = (
+          → (place : ℕ) × ((place < options.processors) ⊎ (place ≡ unknown_place)) × (answer ≡ answers.Broken place)
+          → WritesBroken options schedule o
+      by answer h w (place, there, is) = (
         place,
+        there,
         subst (HasRead options schedule o) is h,
         subst (λ (x : Answer). Gets o.err (err_text x)) is w.err_takes.0,
       )
 
       go : Says → WritesBroken options schedule o
       go (OfSchedule p) = absurd (not_broken (sym p.3.own ∙ e))
-      go (OfRead answer h k w) = by answer h w (broken_only answer (sym w.own ∙ e))
+      go (OfRead answer h k w) = by answer h w (broken_only options.processors options.turns answer k (sym w.own ∙ e))
 
   goes_well : GoesWell o status → Statuses
   goes_well well = go (says (planned.told_well schedule_form schedule options.processors (TextHas options) text_limit o status a well))

@@ -1,14 +1,14 @@
 -- A text has one answer where it is replayed: its program begins one run, with the one keeper of the schedule.
 use Rattle.std.proofs.Common.{◌≡◌, ◌⊎◌, ◌<◌, ◌≤◌, ℕ, true, false, List, ◌++◌, length, refl, sym, ap, ◌∙◌, subst, inl, inr, arith}
-use Rattle.std.proofs.lemmas.Bool.{cases_lt}
 use Rattle.ppm_text.specs.Limits.{text_limit}
 use Rattle.ppm_text.proofs.LexingLemmas.{lexed_stands}
 use Rattle.ppm_core.specs.Situation.{Situation}
 use Rattle.ppm_layout.specs.Correct.{ImagesAreOne}
 use Rattle.ppm_plan.specs.declared.schedule_item.ScheduleItem.{ScheduleItem}
 use Rattle.ppm_plan.specs.Correct.{HaveOneAnswer as PlansHaveOneAnswer}
-use Rattle.ppm_plan.specs.Forms.{Form, schedule_form}
-use Rattle.ppm_plan.specs.Refusals.{IsAccepted, IsKeeper, is_killed}
+use Rattle.ppm_pace.proofs.KeeperLemmas.{one_keeper}
+use Rattle.ppm_plan.specs.Forms.{schedule_form}
+use Rattle.ppm_plan.specs.Refusals.{IsAccepted}
 use Rattle.ppm_tree.specs.Tree.{ProgramTree}
 use Rattle.ppm_tree.specs.Limits.{IsWithin}
 use Rattle.ppm_tree.specs.Program.{initial_arrays}
@@ -25,12 +25,11 @@ use Rattle.ppm_answers.specs.declared.answer.Answer.TheVariants as answers
 use Rattle.ppm_line.specs.declared.replay.ReplayOptions.{ReplayOptions}
 use Rattle.ppm_line.specs.Words.{AreReplayed}
 use Rattle.ppm_running.specs.Loading.{Begins}
-use Rattle.ppm_running.specs.Says.{answer_in}
 use Rattle.ppm_running.specs.Schedules.{followed}
-use Rattle.ppm_running.specs.Replays.{sizes_of, ProgramHas, TextHas, HaveOneAnswer}
+use Rattle.ppm_running.specs.Replays.{sizes_of, IsSaid, ProgramHas, TextHas, HaveOneAnswer}
 use Rattle.ppm_running.proofs.LoadingLemmas.{one_beginning, some_beginning}
 use Rattle.ppm_running.proofs.PlannedLemmas.{one_answer, some_answer}
-use Rattle.ppm_running.proofs.ReplayLemmas.{replayed_sizes, program_has, of_text, plain}
+use Rattle.ppm_running.proofs.ReplayLemmas.{replayed_sizes, one_said, some_has, of_text, plain}
 
 -- what the crates below show of every text, every code, every image and every schedule
 pub record Laws : Type 0 where
@@ -44,18 +43,6 @@ pub record Laws : Type 0 where
 pub tree_within : TreesAreWithin → (text : List ℕ) (t : ProgramTree) → IsTreeOf text t → IsWithin t
 tree_within within text t h = within (length text) h.tokens t h.lexed.short (lexed_stands h.lexed.lexed.1) h.tree
 
--- items have one keeper
-pub one_keeper : {A : Type 0} (form : Form A) (items : List A) (k l : ℕ) → IsKeeper form items k → IsKeeper form items l → k ≡ l
-one_keeper form items k l h j = go (cases_lt k l) (cases_lt l k)
-  where
-    spared_twice : (c : ℕ) → is_killed form c items ≡ false → is_killed form c items ≡ true → ⊥
-    spared_twice c e f = cc
-
-    go : (k < l) ⊎ (l ≤ k) → (l < k) ⊎ (k ≤ l) → k ≡ l
-    go (inl less) more = absurd (spared_twice k h.spared (j.least k less))
-    go (inr least) (inl more) = absurd (spared_twice l j.spared (h.least l more))
-    go (inr least) (inr most) = omega (arith, least, most)
-
 module _ (laws : Laws) (options : ReplayOptions) where
   -- a program has one answer by items
   program_one : (items : List ScheduleItem) (t : ProgramTree) (a b : Answer) → ProgramHas options items t a → ProgramHas options items t b
@@ -64,7 +51,8 @@ module _ (laws : Laws) (options : ReplayOptions) where
       let keeper : k.keeper ≡ h.keeper = one_keeper schedule_form items k.keeper h.keeper k.spared h.spared in
       let begins : Begins (sizes_of options) t h.keeper k.start = subst (λ (n : ℕ). Begins (sizes_of options) t n k.start) keeper k.begins in
       let start : h.start ≡ k.start = one_beginning (sizes_of options) t h.keeper laws.images h.start k.start h.begins begins in
-      h.says ∙ ap (λ (m : Situation). answer_in (followed m items options.turns) (initial_arrays t) options.turns) start ∙ sym k.says
+      one_said options.processors options.turns (followed h.start items options.turns) (initial_arrays t) a b h.says
+      (subst (λ (m : Situation). IsSaid options.turns (followed m items options.turns) (initial_arrays t) b) (sym start) k.says)
 
   -- the answer is a program's of the text, or a refusal of it
   abbrev IsPrograms : List ScheduleItem → List ℕ → Answer → Type 0
@@ -107,12 +95,8 @@ module _ (laws : Laws) (options : ReplayOptions) where
       let m = some_beginning (sizes_of options) has.0 accepted.keeper (replayed_sizes options are) accepted.obeyed.below within
       has.1.admitted.admitted in
       let is : IsCode (code_of has.0) = laws.rules has.0 within has.1.admitted.admitted has.1.bounded in
-      let a : Answer = answer_in (followed m.0 items options.turns) (initial_arrays has.0) options.turns in (
-        a,
-        of_text options items text has.0 has.1 a
-            (program_has options items has.0 (sizes_of options) accepted.keeper m.0 (followed m.0 items options.turns) (initial_arrays has.0) a
-            refl accepted.obeyed.kept m.1 is refl refl refl),
-      )
+      let a = some_has options items has.0 accepted.keeper m.0 accepted.obeyed.kept m.1 is in
+      (a.0, of_text options items text has.0 has.1 a.0 a.1)
 
 -- so it is with all options and all schedules
 pub have_one_answer : Laws → HaveOneAnswer

@@ -28,11 +28,11 @@ use Rattle.ppm_line.specs.declared.run.RunOptions.{RunOptions}
 use Rattle.ppm_line.specs.Words.{AreReplayed}
 use Rattle.ppm_running.specs.Loading.{Begins}
 use Rattle.ppm_running.specs.Alone.{ObeysTo}
-use Rattle.ppm_running.specs.Runs.{answer_in, plan_of, limits_of, sizes_of, ProgramHas, TextHas, AnswersAreOne}
+use Rattle.ppm_running.specs.Runs.{IsSaid, plan_of, limits_of, sizes_of, ProgramHas, TextHas, AnswersAreOne}
 use Rattle.ppm_running.proofs.LoadingLemmas.{one_beginning}
-use Rattle.ppm_running.proofs.OneReplay.{one_keeper}
+use Rattle.ppm_pace.proofs.KeeperLemmas.{one_keeper}
 use Rattle.ppm_running.proofs.PlannedLemmas.{one_answer}
-use Rattle.ppm_running.proofs.RunLemmas.{plain}
+use Rattle.ppm_running.proofs.RunLemmas.{one_said, plain}
 
 -- what the crates below show of every text, every image, every plan and every run of one processor
 pub record Laws : Type 0 where
@@ -55,7 +55,7 @@ module _ (laws : Laws) (options : RunOptions) where
       laws.runs h.start.shape h.start.code (plan_of options items) (limits_of options) 0 h.start.state h.obeys.turns other.turns
       h.obeys.own other.own h.obeys.obeys other.obeys in
       let end : h.end ≡ k.end = h.obeys.makes ∙ ap (run_on h.start) turns ∙ sym other.makes in
-      h.says ∙ ap (λ (m : Situation). answer_in m (initial_arrays t)) end ∙ sym k.says
+      one_said h.end (initial_arrays t) a b h.says (subst (λ (m : Situation). IsSaid m (initial_arrays t) b) (sym end) k.says)
 
   -- the answer is a program's of the text, or a refusal of it
   abbrev IsPrograms : List PlanItem → List ℕ → Answer → Type 0

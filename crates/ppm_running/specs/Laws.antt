@@ -3,7 +3,6 @@ use Rattle.std.specs.Prelude.{◌≡◌, ◌≢◌, ℕ, ◌==◌, ◌<◌, ◌�
 use Rattle.std.specs.List.{All}
 use Rattle.ppm_cells.specs.Memory.{read, AreWordsOf}
 use Rattle.ppm_cells.specs.declared.cell.Cell.TheVariants.{FinishWord}
-use Rattle.ppm_cells.specs.declared.finish.Finish.{Finish}
 use Rattle.ppm_cells.specs.declared.shape.Shape.{Shape}
 use Rattle.ppm_code.specs.declared.code.CodeParts.{CodeParts}
 use Rattle.ppm_plan.specs.declared.schedule_item.ScheduleItem.{ScheduleItem}
@@ -16,10 +15,9 @@ use Rattle.ppm_step.specs.declared.turn.Act.TheVariants.{Step}
 use Rattle.ppm_step.specs.declared.turn.Turn.{Turn}
 use Rattle.ppm_step.specs.Standings.{Standing, IsDone}
 use Rattle.ppm_step.specs.State.{State, stand_of, after, along, step_by}
-use Rattle.ppm_step.specs.Laws.{IsProposed}
+use Rattle.ppm_step.specs.Laws.{IsProposedWord}
 use Rattle.ppm_core.specs.Acts.{seeks_holder_at}
-use Rattle.ppm_core.specs.Situation.{loaded, finish_in, ending_of}
-use Rattle.ppm_core.specs.declared.ending.Ending.TheVariants.{With}
+use Rattle.ppm_core.specs.Situation.{loaded, finish_in}
 use Rattle.ppm_running.specs.Course.{Due, Listed, InRound, act_of, processor_of, act_by, victim_of, turns_of}
 use Rattle.ppm_running.specs.Schedules.{dues_of, beginning, schedule_turns, followed}
 
@@ -116,7 +114,8 @@ module _ (s : Shape) (code : CodeParts) where
       → finish_in (followed (loaded s code array_lengths words) items turns) ≡ 0
       → (followed (loaded s code array_lengths words) items turns).turns ≡ turns
 
-  -- and where these words say nothing yet, a run that has ended says what steps propose: no processor quits
+  -- and where these words say nothing yet, the finish word of a run that has ended stands for what steps propose: no processor quits
   abbrev pub NoneQuits : Type 0
-  NoneQuits = (array_lengths words : List ℕ) (items : List ScheduleItem) (turns : ℕ) (finish : Finish) → read s words FinishWord ≡ 0
-      → ending_of (finish_in (followed (loaded s code array_lengths words) items turns)) ≡ With finish → IsProposed finish
+  NoneQuits = (array_lengths words : List ℕ) (items : List ScheduleItem) (turns : ℕ) → read s words FinishWord ≡ 0
+      → finish_in (followed (loaded s code array_lengths words) items turns) ≢ 0
+      → IsProposedWord s.processors (finish_in (followed (loaded s code array_lengths words) items turns))

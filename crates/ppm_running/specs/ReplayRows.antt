@@ -1,5 +1,5 @@
 -- What follows from each status of `replay`.
-use Rattle.std.specs.Prelude.{◌≡◌, ℕ, List, [], ◌∷◌, ◌++◌, Some}
+use Rattle.std.specs.Prelude.{◌≡◌, ◌⊎◌, ℕ, ◌<◌, List, [], ◌∷◌, ◌++◌, Some}
 use Rattle.ppm_words.specs.declared.named_array.NamedArray.{NamedArray}
 use Rattle.ppm_words.specs.declared.trap.Trap.{Trap}
 use Rattle.ppm_ports.specs.Ports.{Gets}
@@ -17,6 +17,7 @@ use Rattle.ppm_answers.specs.Delivery.{IsWritten}
 use Rattle.ppm_answers.specs.Reading.{IsUnread, ReadHas}
 use Rattle.ppm_answers.specs.Rows.{IsOneOf, GoesWell}
 use Rattle.ppm_line.specs.declared.replay.ReplayOptions.{ReplayOptions}
+use Rattle.ppm_step.specs.Standings.{unknown_place}
 use Rattle.ppm_running.specs.Planned.{IsRefusedBy}
 use Rattle.ppm_running.specs.Replays.{ReplayHas}
 
@@ -43,13 +44,14 @@ module _ (options : ReplayOptions) (schedule : List ℕ) (o : Outside) where
   abbrev pub WritesUnfinished : Type 0
   WritesUnfinished = HasRead (answers.Unfinished options.turns) × Gets o.err (unfinished_text options.turns)
 
-  -- the finish word names a place without room, and err got exactly the line that says so
+  -- the pool of one of the places is full, and err got exactly the line that says so
   abbrev pub WritesNoRoom : Type 0
-  WritesNoRoom = (place : ℕ) × HasRead (answers.OutOfRoom place) × Gets o.err (room_text place)
+  WritesNoRoom = (place : ℕ) × (place < options.processors) × HasRead (answers.OutOfRoom place) × Gets o.err (room_text place)
 
-  -- the words are broken at a place, and err got exactly the line that says so
+  -- the words are broken at one of the places or at one that isn't known, and err got exactly the line that says so
   abbrev pub WritesBroken : Type 0
-  WritesBroken = (place : ℕ) × HasRead (answers.Broken place) × Gets o.err (broken_text place)
+  WritesBroken = (place : ℕ) × ((place < options.processors) ⊎ (place ≡ unknown_place)) × HasRead (answers.Broken place)
+      × Gets o.err (broken_text place)
 
   -- the schedule is refused by a number, nothing was read, and err got exactly the line with the number
   pub record RefusesSchedule : Type 0 where

@@ -1,5 +1,5 @@
 -- What follows from each status of `run`.
-use Rattle.std.specs.Prelude.{◌≡◌, ℕ, List, [], ◌∷◌, Some}
+use Rattle.std.specs.Prelude.{◌≡◌, ◌⊎◌, ℕ, List, [], ◌∷◌, Some}
 use Rattle.ppm_words.specs.declared.named_array.NamedArray.{NamedArray}
 use Rattle.ppm_words.specs.declared.trap.Trap.{Trap}
 use Rattle.ppm_ports.specs.Ports.{Gets}
@@ -16,6 +16,7 @@ use Rattle.ppm_answers.specs.Delivery.{IsWritten}
 use Rattle.ppm_answers.specs.Reading.{IsUnread, ReadHas}
 use Rattle.ppm_answers.specs.Rows.{IsOneOf, GoesWell}
 use Rattle.ppm_line.specs.declared.run.RunOptions.{RunOptions}
+use Rattle.ppm_step.specs.Standings.{unknown_place}
 use Rattle.ppm_running.specs.Planned.{IsRefusedBy}
 use Rattle.ppm_running.specs.Runs.{RunHas}
 
@@ -36,17 +37,21 @@ module _ (options : RunOptions) (plan : List ℕ) (o : Outside) where
   abbrev pub WritesRefusal : Type 0
   WritesRefusal = (r : Refusal) × HasRead (answers.SourceRefused r) × Gets o.err (refusal_text r)
 
-  -- the finish word names a processor without turns, and err got exactly the line that says so
+  -- how many work turns the one processor has made, where that is why the run of the text that was read ended
+  abbrev pub work_made : HasRead (answers.OutOfTurns 0) → ℕ
+  work_made read = read.2.has.2.end.work
+
+  -- processor 0 has made all its work turns, and err got exactly the line that says so
   abbrev pub WritesOutOfTurns : Type 0
-  WritesOutOfTurns = (processor : ℕ) × HasRead (answers.OutOfTurns processor) × Gets o.err (turns_text processor)
+  WritesOutOfTurns = (read : HasRead (answers.OutOfTurns 0)) × (work_made read ≡ options.turns) × Gets o.err (turns_text 0)
 
-  -- the finish word names a place without room, and err got exactly the line that says so
+  -- the pool of place 0 is full, and err got exactly the line that says so
   abbrev pub WritesOutOfRoom : Type 0
-  WritesOutOfRoom = (place : ℕ) × HasRead (answers.OutOfRoom place) × Gets o.err (room_text place)
+  WritesOutOfRoom = HasRead (answers.OutOfRoom 0) × Gets o.err (room_text 0)
 
-  -- the words are broken at a place, and err got exactly the line that says so
+  -- the words are broken at place 0 or at one that isn't known, and err got exactly the line that says so
   abbrev pub WritesBroken : Type 0
-  WritesBroken = (place : ℕ) × HasRead (answers.Broken place) × Gets o.err (broken_text place)
+  WritesBroken = (place : ℕ) × ((place ≡ 0) ⊎ (place ≡ unknown_place)) × HasRead (answers.Broken place) × Gets o.err (broken_text place)
 
   -- the plan is refused by a number, nothing was read, and err got exactly the line with the number
   pub record RefusesPlan : Type 0 where

@@ -1,11 +1,9 @@
 -- What `run` answers, and when it may.
-use Rattle.std.specs.Prelude.{◌≡◌, ◌≢◌, ◌⊎◌, ℕ, List}
+use Rattle.std.specs.Prelude.{◌≡◌, ◌⊎◌, ℕ, List, Some}
 use Rattle.ppm_ports.specs.Ports.{Port}
 use Rattle.ppm_text.specs.Limits.{text_limit}
-use Rattle.ppm_cells.specs.declared.finish.Finish.{Finish}
+use Rattle.ppm_cells.specs.Finish.{finish_of}
 use Rattle.ppm_cells.specs.declared.finish.Finish.TheVariants as finishes
-use Rattle.ppm_core.specs.declared.ending.Ending.{Ending}
-use Rattle.ppm_core.specs.declared.ending.Ending.TheVariants.{NotYet, With, Unknown}
 use Rattle.ppm_core.specs.Situation.{Situation, finish_in, ending_of}
 use Rattle.ppm_pace.specs.declared.limits.Idle.{Idle}
 use Rattle.ppm_pace.specs.declared.limits.Idle.TheVariants as idles
@@ -15,7 +13,7 @@ use Rattle.ppm_plan.specs.declared.plan_item.PlanItem.{PlanItem}
 use Rattle.ppm_plan.specs.Forms.{plan_form}
 use Rattle.ppm_plan.specs.Refusals.{IsKeeper}
 use Rattle.ppm_plan.specs.Schedules.{Planned}
-use Rattle.ppm_step.specs.Laws.{IsProposedWord}
+use Rattle.ppm_step.specs.Laws.{IsProposedWord, IsFilled}
 use Rattle.ppm_tree.specs.Tree.{ProgramTree}
 use Rattle.ppm_tree.specs.Program.{initial_arrays}
 use Rattle.ppm_judging.specs.Programs.{HasProgram}
@@ -30,7 +28,7 @@ use Rattle.ppm_running.specs.declared.loading.Sizes.{Sizes}
 use Rattle.ppm_running.specs.Alone.{ObeysTo}
 use Rattle.ppm_running.specs.Loading.{Begins, takeover_of}
 use Rattle.ppm_running.specs.Planned.{PlannedHas, PlannedMay, HasOneAnswer}
-use Rattle.ppm_running.specs.Says.{arrays_from}
+use Rattle.ppm_running.specs.Says.{IsOfEnding}
 
 -- the machine's sizes and the limits, as the options say them
 abbrev pub sizes_of : RunOptions → Sizes
@@ -47,28 +45,20 @@ limits_of o = record { turns = o.turns; looks = o.looks; seed = o.seed; idle = i
 abbrev pub plan_of : RunOptions → List PlanItem → Planned
 plan_of options items = record { processors = options.processors; items = items }
 
--- what a finish word is answered by, with these arrays. The last two come of no run
-abbrev pub answer_of : Situation → List NamedArray → Finish → Answer
-answer_of m arrays finishes.Ended = answers.Ended (arrays_from m 0 arrays)
-answer_of m arrays (finishes.Trapped trap line) = answers.Trapped trap line
-answer_of m arrays (finishes.OutOfRoom place) = answers.OutOfRoom place
-answer_of m arrays (finishes.OutOfTurns processor) = answers.OutOfTurns processor
-answer_of m arrays (finishes.Broken place) = answers.Broken place
-answer_of m arrays finishes.Stopped = answers.Broken 64
-answer_of m arrays finishes.Unset = answers.Broken 64
+-- the answer that a machine's words say behind a run from these arrays; the run has an end
+abbrev pub IsSaid : Situation → List NamedArray → Answer → Type 0
+IsSaid m arrays answer =
+    IsOfEnding answers.Ended answers.Trapped (λ processor a. a ≡ answers.OutOfTurns processor) (λ a. ⊥) m arrays
+    (ending_of (finish_in m)) answer
 
-abbrev pub answer_by : Situation → List NamedArray → Ending → Answer
-answer_by m arrays (With finish) = answer_of m arrays finish
-answer_by m arrays NotYet = answers.Broken 64
-answer_by m arrays Unknown = answers.Broken 64
+-- the one processor has made all its work turns, and the finish word says so
+pub record IsSpent (turns : ℕ) (m : Situation) : Type 0 where
+  pub work_is : m.work ≡ turns
+  pub stands : finish_of (finish_in m) ≡ Some (finishes.OutOfTurns 0)
 
--- the answer that a machine's words are behind a run from these arrays
-abbrev pub answer_in : Situation → List NamedArray → Answer
-answer_in m arrays = answer_by m arrays (ending_of (finish_in m))
-
--- the answer of a program by the items of a plan: what the machine's words say behind a run in which its one processor, 0, obeys the plan and
--- the limits, from the machine with which a run of the program begins, with the plan's keeper; its finish
--- word isn't 0, and is one that steps propose, or the processor has made all its work turns
+-- the answer of a program by the items of a plan: what the machine's words say behind a run in which its one processor, 0, obeys the plan
+-- and the limits, from the machine with which a run of the program begins, with the plan's keeper; its finish word stands for what steps
+-- propose, or for the processor's turns, which then are all made; where it says that the pool is full, one of the turns found it so
 pub record ProgramHas (options : RunOptions) (items : List PlanItem) (t : ProgramTree) (answer : Answer) : Type 0 where
   pub keeper : ℕ
   pub spared : IsKeeper plan_form items keeper
@@ -76,9 +66,10 @@ pub record ProgramHas (options : RunOptions) (items : List PlanItem) (t : Progra
   pub begins : Begins (sizes_of options) t keeper start
   pub end : Situation
   pub obeys : ObeysTo (plan_of options items) (limits_of options) nothing_done start end
-  pub finished : finish_in end ≢ 0
-  pub spent : IsProposedWord (finish_in end) ⊎ (end.work ≡ options.turns)
-  pub says : answer ≡ answer_in end (initial_arrays t)
+  pub finished : IsProposedWord options.processors (finish_in end) ⊎ IsSpent options.turns end
+  pub filled : (place : ℕ) → finish_of (finish_in end) ≡ Some (finishes.OutOfRoom place)
+      → IsFilled start.shape start.code place start.state.words obeys.turns
+  pub says : IsSaid end (initial_arrays t) answer
 
 -- that of a text: its program's, or its refusal
 abbrev pub TextHas : RunOptions → List PlanItem → List ℕ → Answer → Type 0

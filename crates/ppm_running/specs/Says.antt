@@ -1,12 +1,13 @@
--- What a machine's words say after a run: its arrays or its trap, with the counts of forks and takes, or why there are none.
-use Rattle.std.specs.Prelude.{ℕ, ◌+◌, List, [], ◌∷◌, map}
+-- What a machine's words say after a run: its arrays or its trap, or why there are none.
+use Rattle.std.specs.Prelude.{◌≡◌, ℕ, ◌+◌, List, [], ◌∷◌, map}
 use Rattle.ppm_words.specs.TwosComplement.{value_of}
 use Rattle.ppm_words.specs.declared.named_array.NamedArray.{NamedArray}
+use Rattle.ppm_words.specs.declared.trap.Trap.{Trap}
 use Rattle.ppm_cells.specs.declared.finish.Finish.{Finish}
 use Rattle.ppm_cells.specs.declared.finish.Finish.TheVariants as finishes
 use Rattle.ppm_core.specs.declared.ending.Ending.{Ending}
 use Rattle.ppm_core.specs.declared.ending.Ending.TheVariants.{NotYet, With, Unknown}
-use Rattle.ppm_core.specs.Situation.{Situation, finish_in, ending_of, array_in}
+use Rattle.ppm_core.specs.Situation.{Situation, array_in}
 use Rattle.ppm_answers.specs.declared.answer.Answer.{Answer}
 use Rattle.ppm_answers.specs.declared.answer.Answer.TheVariants as answers
 use Rattle.ppm_answers.specs.declared.tally.Tally.{Tally}
@@ -17,26 +18,30 @@ arrays_from m number [] = []
 arrays_from m number (a ∷ arrays) =
     record { name = a.name; values = map value_of (array_in m number) } ∷ arrays_from m (number + 1) arrays
 
+-- how many forks and takes it had
 abbrev pub tally_of : Situation → Tally
 tally_of m = record { forks = m.forks; takes = m.takes }
 
-module _ (m : Situation) (arrays : List NamedArray) (turns : ℕ) where
-  -- what the finish word says. That a processor spent its turns or was stopped no schedule says, and no run comes to other words: these
-  -- have an answer so that each machine has one
-  abbrev pub finished : Finish → Answer
-  finished finishes.Ended = answers.EndedWith (arrays_from m 0 arrays) (tally_of m)
-  finished (finishes.Trapped trap line) = answers.TrappedWith trap line (tally_of m)
-  finished (finishes.OutOfRoom place) = answers.OutOfRoom place
-  finished (finishes.OutOfTurns processor) = answers.OutOfTurns processor
-  finished (finishes.Broken place) = answers.Broken place
-  finished finishes.Stopped = answers.Broken 64
-  finished finishes.Unset = answers.Broken 64
+-- an answer is the one that is said, if any is
+abbrev pub IsTheOne : (IsSaid : Answer → Type 0) → Answer → Type 0
+IsTheOne IsSaid answer = (said : Answer) → IsSaid said → answer ≡ said
 
-  abbrev pub answer_by : Ending → Answer
-  answer_by NotYet = answers.Unfinished turns
-  answer_by (With finish) = finished finish
-  answer_by Unknown = answers.Broken 64
+-- A command tells the arrays with which a run ended, a trap that it met, that a processor has made its turns, and that the run has not
+-- ended, each in its own way, or not at all.
+module _ (ended : List NamedArray → Answer) (trapped : Trap → ℕ → Answer) (spent : ℕ → Answer → Type 0) (not_ended : Answer → Type 0)
+    (m : Situation) (arrays : List NamedArray) where
+  -- the answer that a finish is, with these arrays; there is none that a run was stopped, or has no finish
+  abbrev pub IsOfFinish : Finish → Answer → Type 0
+  IsOfFinish finishes.Ended answer = answer ≡ ended (arrays_from m 0 arrays)
+  IsOfFinish (finishes.Trapped trap line) answer = answer ≡ trapped trap line
+  IsOfFinish (finishes.OutOfRoom place) answer = answer ≡ answers.OutOfRoom place
+  IsOfFinish (finishes.Broken place) answer = answer ≡ answers.Broken place
+  IsOfFinish (finishes.OutOfTurns processor) answer = spent processor answer
+  IsOfFinish finishes.Stopped answer = ⊥
+  IsOfFinish finishes.Unset answer = ⊥
 
-  -- the answer that a machine's words are after a run of at most so many acts, from these arrays
-  abbrev pub answer_in : Answer
-  answer_in = answer_by (ending_of (finish_in m))
+  -- that of what the finish word says; there is none of a word that stands for no finish
+  abbrev pub IsOfEnding : Ending → Answer → Type 0
+  IsOfEnding NotYet answer = not_ended answer
+  IsOfEnding (With finish) answer = IsOfFinish finish answer
+  IsOfEnding Unknown answer = ⊥

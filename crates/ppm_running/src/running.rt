@@ -8,8 +8,9 @@ ghost use Rattle.ppm_text.specs.Limits.{text_limit};
 ghost use Rattle.ppm_tree.specs.Tree.{tree_of};
 ghost use Rattle.ppm_bounds.specs.Bounds.{IsWithinBounds};
 ghost use Rattle.ppm_core.specs.Machine.{seen};
-ghost use Rattle.ppm_running.specs.Runs.{ProgramHas, RunMay, TextHas, answer_in, limits_of as limits_in, sizes_of as sizes_in};
+ghost use Rattle.ppm_running.specs.Runs.{IsSaid, ProgramHas, RunMay, TextHas, limits_of as limits_in, sizes_of as sizes_in};
 ghost use Rattle.ppm_running.specs.RunRows.{RunRows};
+ghost use Rattle.ppm_running.specs.Says.{IsTheOne};
 ghost use Rattle.ppm_running.specs.Watchers.{watcher_count};
 
 use crate::alone::obey;
@@ -158,7 +159,7 @@ fn ran<R: Wait>(
 /// What is said of a machine behind a run, by its finish word: these arrays with its values, its trap, or why there are none.
 fn answer_of(alloc: Global, machine: &Machine, arrays: &[NamedArray]) -> Result<Answer, NoMemory>
     requires lengths { (seen machine.now).array_lengths ≡ map (λ a. length a.values) arrays.now }
-    ensures { IfOk result (λ answer. answer ≡ answer_in (seen machine.now) arrays.now) }
+    ensures { IfOk result (IsTheOne (IsSaid (seen machine.now) arrays.now)) }
 {
     match machine.outcome() {
         Ending::With(finish) => match finish {
@@ -167,6 +168,7 @@ fn answer_of(alloc: Global, machine: &Machine, arrays: &[NamedArray]) -> Result<
             Finish::OutOfRoom { place } => Ok(Answer::OutOfRoom(place)),
             Finish::OutOfTurns { processor } => Ok(Answer::OutOfTurns(processor)),
             Finish::Broken { place } => Ok(Answer::Broken(place)),
+            // Of no run, as what follows.
             Finish::Stopped | Finish::Unset => Ok(Answer::Broken(UNKNOWN_PLACE)),
         },
         Ending::NotYet | Ending::Unknown => Ok(Answer::Broken(UNKNOWN_PLACE)),

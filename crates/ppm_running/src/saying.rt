@@ -1,7 +1,8 @@
 //! What is said of a machine after a run.
 ghost use Rattle.std.specs.Prelude.{◌≡◌, IfOk, length, map};
 ghost use Rattle.ppm_core.specs.Machine.{seen};
-ghost use Rattle.ppm_running.specs.Says.{answer_in};
+ghost use Rattle.ppm_running.specs.Says.{IsTheOne};
+ghost use Rattle.ppm_running.specs.Replays.{IsSaid};
 
 use crate::arrays::arrays_of;
 use ppm_answers::{Answer, Tally};
@@ -22,7 +23,7 @@ pub fn answer_of(
     turns: u64,
 ) -> Result<Answer, NoMemory>
     requires lengths { (seen machine.now).array_lengths ≡ map (λ a. length a.values) arrays.now }
-    ensures { IfOk result (λ answer. answer ≡ answer_in (seen machine.now) arrays.now turns) }
+    ensures { IfOk result (IsTheOne (IsSaid turns (seen machine.now) arrays.now)) }
 {
     let tally = Tally {
         forks: machine.forks(),
@@ -36,6 +37,7 @@ pub fn answer_of(
             Finish::OutOfRoom { place } => Ok(Answer::OutOfRoom(place)),
             Finish::OutOfTurns { processor } => Ok(Answer::OutOfTurns(processor)),
             Finish::Broken { place } => Ok(Answer::Broken(place)),
+            // Of no run, as are unknown words.
             Finish::Stopped | Finish::Unset => Ok(Answer::Broken(UNKNOWN_PLACE)),
         },
         Ending::Unknown => Ok(Answer::Broken(UNKNOWN_PLACE)),

@@ -4,6 +4,7 @@ use Rattle.std.specs.Prelude.{slice_get}
 use Rattle.ppm_cells.specs.Cells.{address}
 use Rattle.ppm_cells.specs.Fields.{number_of}
 use Rattle.ppm_cells.specs.Finish.{finish_word}
+use Rattle.ppm_cells.specs.declared.cell.Cell.{Cell}
 use Rattle.ppm_cells.specs.declared.cell.Cell.TheVariants.{CarryWord}
 use Rattle.ppm_cells.specs.declared.finish.Finish.TheVariants.{OutOfRoom, Broken as BrokenAt}
 use Rattle.ppm_cells.specs.declared.restart.Restart.{Restart}
@@ -12,18 +13,20 @@ use Rattle.ppm_code.specs.Code.{IsCode}
 use Rattle.ppm_code.specs.declared.code.CodeParts.{CodeParts}
 use Rattle.ppm_step.specs.declared.ask.Want.{Want}
 use Rattle.ppm_step.specs.declared.ask.Want.TheVariants.{Loads as WantsLoad, Stores as WantsStore, Exchanges as WantsExchange, Nothing}
+use Rattle.ppm_step.specs.declared.content.Content.{Content}
 use Rattle.ppm_step.specs.declared.row.Seat.{Seat}
 use Rattle.ppm_step.specs.declared.row.Then.{Then}
 use Rattle.ppm_step.specs.declared.row.Then.TheVariants.{Load, Install, Fork, Begin, Move, Enter, Again, Broken}
 use Rattle.ppm_step.specs.declared.row.Row.TheVariants.{Now, Store, Exchange}
 use Rattle.ppm_step.specs.declared.turn.Act.{Act}
 use Rattle.ppm_step.specs.declared.turn.Act.TheVariants.{Step, Soft, Hard, Quit}
+use Rattle.ppm_step.specs.Contents.{word_of}
 use Rattle.ppm_step.specs.Frames.{Rest, Loads, Stores, Full, Installs, Breaks}
 use Rattle.ppm_step.specs.Standings.{Standing, IsLost, IsPlaced, IsAt, IsWithin, IsRunning, IsBroken, IsDone, wanted_then, wanted_row, wanted_rest}
 use Rattle.ppm_step.specs.Standings.{wanted, at_finish, went}
 use Rattle.ppm_step.specs.State.{State, stand_in, found_in, words_after, want_of, stand_after, acts}
 use Rattle.ppm_step.specs.Laws.{IsNoQuit, IsProposedWord}
-use Rattle.ppm_step.proofs.SparingLemmas.{place_first}
+use Rattle.ppm_step.proofs.SparingLemmas.{SparesRow, place_first, outcome_proposed, proposed_word}
 use Rattle.ppm_step.proofs.RestLemmas.{SparesRest}
 use Rattle.ppm_step.proofs.StandLemmas.{Spares, begins_spares, went_row_spares, went_rest_spares, placed_spares}
 use Rattle.ppm_step.proofs.WordLemmas.{Asks, exchanged}
@@ -34,42 +37,48 @@ unfolding number_of
 broken_some place e = omega (arith, e)
 
 module _ (s : Shape) (code : CodeParts) (is : IsCode code) where
-  -- what comes next asks nothing else of the finish word
-  asks_then : (seat : Seat) (victim : ℕ) (next : Then) → Asks IsProposedWord (wanted_then s seat victim next)
-  asks_then seat victim (Load point) = tt
-  asks_then seat victim (Install restart) = place_first s seat.place
-  asks_then seat victim (Fork block) = place_first s seat.place
-  asks_then seat victim (Begin block frame bottom) = place_first s seat.place
-  asks_then seat victim (Move place) = omega arith
-  asks_then seat victim (Enter capsule) = tt
-  asks_then seat victim Again = tt
-  asks_then seat victim Broken = tt
+  -- what comes next asks nothing of the finish word
+  pub asks_then : (P : ℕ → Type 0) (seat : Seat) (victim : ℕ) (next : Then) → Asks P (wanted_then s seat victim next)
+  asks_then P seat victim (Load point) = tt
+  asks_then P seat victim (Install restart) = place_first s seat.place
+  asks_then P seat victim (Fork block) = place_first s seat.place
+  asks_then P seat victim (Begin block frame bottom) = place_first s seat.place
+  asks_then P seat victim (Move place) = omega arith
+  asks_then P seat victim (Enter capsule) = tt
+  asks_then P seat victim Again = tt
+  asks_then P seat victim Broken = tt
 
-  asks_rest : (seat : Seat) (rest : Rest) → SparesRest s rest → Asks IsProposedWord (wanted_rest s seat rest)
-  asks_rest seat (Loads cell go) h = tt
-  asks_rest seat (Stores cell content rest) h = h.0
-  asks_rest seat Full h = inr (refl, record { finish = OutOfRoom seat.place; is_proposed = tt; word_is = refl })
-  asks_rest seat (Installs kind) h = place_first s seat.place
-  asks_rest seat Breaks h = tt
+  asks_rest : (seat : Seat) (rest : Rest) → SparesRest s rest → seat.place < s.processors
+      → Asks (IsProposedWord s.processors) (wanted_rest s seat rest)
+  asks_rest seat (Loads cell go) h there = tt
+  asks_rest seat (Stores cell content rest) h there = h.0
+  asks_rest seat Full h there = inr (refl, proposed_word s (OutOfRoom seat.place) there)
+  asks_rest seat (Installs kind) h there = place_first s seat.place
+  asks_rest seat Breaks h there = tt
 
-  asks_step : (own victim : ℕ) (standing : Standing) → Spares s standing → Asks IsProposedWord (wanted s own victim standing)
+  asks_exchange : (cell : Cell) (old new : Content) (next : Then) → SparesRow s (Exchange cell old new next)
+      → Asks (IsProposedWord s.processors) (WantsExchange (address s cell) (word_of old) (word_of new))
+  asks_exchange cell old new next (inl far) = inl far
+  asks_exchange cell old new next (inr o) = inr (o.0, outcome_proposed s (word_of new) o.1)
+
+  asks_step : (own victim : ℕ) (standing : Standing) → Spares s standing → Asks (IsProposedWord s.processors) (wanted s own victim standing)
   asks_step own victim IsLost h = tt
   asks_step own victim (IsPlaced place) h = tt
   asks_step own victim (IsAt place restart) h = tt
-  asks_step own victim (IsWithin seat (Now next)) h = asks_then seat victim next
-  asks_step own victim (IsWithin seat (Store cell content next)) h = h
-  asks_step own victim (IsWithin seat (Exchange cell old new next)) h = h
-  asks_step own victim (IsRunning seat rest) h = asks_rest seat rest h
-  asks_step own victim (IsBroken place) h = inr (refl, record { finish = BrokenAt place; is_proposed = tt; word_is = refl })
+  asks_step own victim (IsWithin seat (Now next)) h = asks_then (IsProposedWord s.processors) seat victim next
+  asks_step own victim (IsWithin seat (Store cell content next)) h = h.0
+  asks_step own victim (IsWithin seat (Exchange cell old new next)) h = asks_exchange cell old new next h.0
+  asks_step own victim (IsRunning seat rest) h = asks_rest seat rest h.0 h.1
+  asks_step own victim (IsBroken place) h = inr (refl, proposed_word s (BrokenAt place) h)
   asks_step own victim IsDone h = absurd h
 
   -- an act asks the finish word of nothing else, but for a quit
   pub asks_act : (own : ℕ) (act : Act) (standing : Standing) → Spares s standing
-      → Asks (λ word. IsNoQuit act → IsProposedWord word) (want_of s code own act standing)
+      → Asks (λ word. IsNoQuit act → IsProposedWord s.processors word) (want_of s code own act standing)
   asks_act own (Step victim) standing h =
       weakened (wanted s own victim standing) (asks_step own victim standing h)
     where
-      weakened : (want : Want) → Asks IsProposedWord want → Asks (λ word. IsNoQuit (Step victim) → IsProposedWord word) want
+      weakened : (want : Want) → Asks (IsProposedWord s.processors) want → Asks (λ word. IsNoQuit (Step victim) → IsProposedWord s.processors word) want
       weakened (WantsLoad at) k = tt
       weakened (WantsStore at word) k = k
       weakened (WantsExchange at old new) (inl far) = inl far
@@ -87,20 +96,20 @@ module _ (s : Shape) (code : CodeParts) (is : IsCode code) where
   StandsAfter act words want next = Spares s next ⊎ ((next ≡ IsDone) × IsDoneBy act words want)
 
   -- the load of the finish word
-  at_word : (act : Act) (words : List ℕ) (own place : ℕ) (restart : Option Restart) (found : ℕ) → slice_index words 0 ≡ found
+  at_word : (act : Act) (words : List ℕ) (own place : ℕ) (restart : Option Restart) (found : ℕ) → place < s.processors → slice_index words 0 ≡ found
       → StandsAfter act words (WantsLoad 0) (at_finish s code own place restart found)
-  at_word act words own place restart zero e = inl (begins_spares s code is own place restart)
-  at_word act words own place restart (suc found) e = inr (refl, inr (λ long none. omega (arith, e, none)))
+  at_word act words own place restart zero there e = inl (begins_spares s code is own place restart there)
+  at_word act words own place restart (suc found) there e = inr (refl, inr (λ long none. omega (arith, e, none)))
 
   after_step : (own victim : ℕ) (words : List ℕ) (standing : Standing) → Spares s standing
       → StandsAfter (Step victim) words (wanted s own victim standing)
       (went s code own victim (found_in words (wanted s own victim standing)) standing)
   after_step own victim words IsLost h = inl (placed_spares s (slice_index words (address s (CarryWord own))))
-  after_step own victim words (IsPlaced place) h = inl tt
-  after_step own victim words (IsAt place restart) h = at_word (Step victim) words own place restart (slice_index words 0) refl
+  after_step own victim words (IsPlaced place) h = inl h
+  after_step own victim words (IsAt place restart) h = at_word (Step victim) words own place restart (slice_index words 0) h refl
   after_step own victim words (IsWithin seat row) h =
-      inl (went_row_spares s code is seat victim (found_in words (wanted_row s seat victim row)) row)
-  after_step own victim words (IsRunning seat rest) h = inl (went_rest_spares s code is seat (found_in words (wanted_rest s seat rest)) rest h)
+      inl (went_row_spares s code is seat victim (found_in words (wanted_row s seat victim row)) row h.1 h.2)
+  after_step own victim words (IsRunning seat rest) h = inl (went_rest_spares s code is seat (found_in words (wanted_rest s seat rest)) rest h.0 h.1)
   after_step own victim words (IsBroken place) h = inr (refl, inr (exchanged words (finish_word (BrokenAt place)) (broken_some place)))
   after_step own victim words IsDone h = absurd h
 

@@ -4,19 +4,29 @@ use Rattle.std.proofs.Common.{replicate, slice_index, slice_set}
 use Rattle.std.specs.Prelude.{slice_get}
 use Rattle.std.specs.List.{AllByRecursion}
 use Rattle.ppm_cells.specs.Cells.{place_size}
+use Rattle.ppm_cells.specs.Fields.{number_of}
+use Rattle.ppm_cells.specs.Finish.{finish_word}
 use Rattle.ppm_cells.specs.Memory.{AreWordsOf}
 use Rattle.ppm_cells.specs.declared.shape.Shape.{Shape}
 use Rattle.ppm_code.specs.Code.{IsCode}
 use Rattle.ppm_code.specs.declared.code.CodeParts.{CodeParts}
 use Rattle.ppm_step.specs.declared.ask.Want.{Want}
-use Rattle.ppm_step.specs.declared.turn.Act.TheVariants.{Hard}
+use Rattle.ppm_step.specs.declared.turn.Act.TheVariants.{Hard, Quit}
 use Rattle.ppm_step.specs.declared.turn.Turn.{Turn}
+use Rattle.ppm_step.specs.declared.turn.Why.{Why}
+use Rattle.ppm_step.specs.declared.turn.Why.TheVariants.{Turns, Watch}
 use Rattle.ppm_step.specs.Standings.{Standing, IsLost, IsDone}
-use Rattle.ppm_step.specs.State.{State, stand_in, stand_of, found_in, words_after, want_of, stand_after, acts, happens, after, opening}
+use Rattle.ppm_step.specs.State.{State, stand_in, stand_of, found_in, words_after, quit_with, want_of, stand_after, acts, happens, after, opening}
 use Rattle.ppm_step.specs.Laws.{IsStruck, IsNoQuit, IsProposedWord, FinishStays, FinishIsProposed, DoneHasCause}
 use Rattle.ppm_step.proofs.StandLemmas.{Spares, no_done}
-use Rattle.ppm_step.proofs.WordLemmas.{WordGoes, word_goes, length_stays, kept_over}
+use Rattle.ppm_step.proofs.WordLemmas.{exchanged_to, WordGoes, word_goes, length_stays, kept_over}
 use Rattle.ppm_step.proofs.ActLemmas.{asks_act, StandsAfter, after_act, acted, acts_live, moved}
+
+-- the word with which a processor quits
+quit_some : (p : ℕ) (why : Why) → finish_word (quit_with p why) ≢ 0
+unfolding number_of
+quit_some p Turns e = omega (arith, e)
+quit_some p Watch e = omega (arith, e)
 
 module _ (s : Shape) (code : CodeParts) (is : IsCode code) where
   -- each processor is done, or spares the finish word
@@ -27,7 +37,7 @@ module _ (s : Shape) (code : CodeParts) (is : IsCode code) where
   AllSpare state = (processor : ℕ) → SparesOrDone (stand_of state processor)
 
   -- what holds of a turn follows from what holds of an act of a processor that is not done, and of no change
-  by_turn : (P : State → Type 0) (state : State) (turn : Turn) → P state
+  pub by_turn : (P : State → Type 0) (state : State) (turn : Turn) → P state
       → (Spares s (stand_of state turn.processor) → P (acted s code is state turn.processor turn.act (stand_of state turn.processor)))
       → SparesOrDone (stand_of state turn.processor) → P (happens s code state turn)
   by_turn P state turn same go (inl live) =
@@ -35,7 +45,7 @@ module _ (s : Shape) (code : CodeParts) (is : IsCode code) where
   by_turn P state turn same go (inr done) = subst P (sym (ap (acts s code state turn.processor turn.act) done)) same
 
   -- so it goes on
-  turn_spares : (state : State) (turn : Turn) → AllSpare state → AllSpare (happens s code state turn)
+  pub turn_spares : (state : State) (turn : Turn) → AllSpare state → AllSpare (happens s code state turn)
   turn_spares state turn all = by_turn AllSpare state turn all live (all turn.processor)
     where
       standing : Standing
@@ -61,11 +71,11 @@ module _ (s : Shape) (code : CodeParts) (is : IsCode code) where
 
   -- the finish word over a turn
   turn_word : (state : State) (turn : Turn) → AllSpare state
-      → WordGoes (λ word. IsNoQuit turn.act → IsProposedWord word) (slice_index state.words 0) (slice_index (happens s code state turn).words 0)
+      → WordGoes (λ word. IsNoQuit turn.act → IsProposedWord s.processors word) (slice_index state.words 0) (slice_index (happens s code state turn).words 0)
   turn_word state turn all =
-      by_turn (λ (k : State). WordGoes (λ word. IsNoQuit turn.act → IsProposedWord word) (slice_index state.words 0) (slice_index k.words 0))
+      by_turn (λ (k : State). WordGoes (λ word. IsNoQuit turn.act → IsProposedWord s.processors word) (slice_index state.words 0) (slice_index k.words 0))
       state turn (inl refl)
-      (λ h. word_goes (λ word. IsNoQuit turn.act → IsProposedWord word) state.words
+      (λ h. word_goes (λ word. IsNoQuit turn.act → IsProposedWord s.processors word) state.words
       (want_of s code turn.processor turn.act (stand_of state turn.processor))
       (asks_act s code is turn.processor turn.act (stand_of state turn.processor) h))
       (all turn.processor)
@@ -80,7 +90,7 @@ module _ (s : Shape) (code : CodeParts) (is : IsCode code) where
   run_spares state [] all = all
   run_spares state (turn ∷ turns) all = run_spares (happens s code state turn) turns (turn_spares state turn all)
 
-  opening_spares : (n q : ℕ) → SparesOrDone (stand_in (slice_get (replicate n IsLost) q))
+  pub opening_spares : (n q : ℕ) → SparesOrDone (stand_in (slice_get (replicate n IsLost) q))
   opening_spares zero q = inr refl
   opening_spares (suc n) zero = inl tt
   opening_spares (suc n) (suc q) = opening_spares n q
@@ -94,7 +104,7 @@ module _ (s : Shape) (code : CodeParts) (is : IsCode code) where
       → slice_index (after s code state more).words 0 ≡ slice_index state.words 0
   stays state [] all some = refl
   stays state (turn ∷ more) all some =
-      let same = kept_over (λ word. IsNoQuit turn.act → IsProposedWord word) (slice_index state.words 0)
+      let same = kept_over (λ word. IsNoQuit turn.act → IsProposedWord s.processors word) (slice_index state.words 0)
       (slice_index (happens s code state turn).words 0) (turn_word state turn all) some in
       stays (happens s code state turn) more (turn_spares state turn all) (λ e. some (sym same ∙ e)) ∙ same
 
@@ -106,18 +116,18 @@ module _ (s : Shape) (code : CodeParts) (is : IsCode code) where
 
   -- without a quit
   by_turn_word : (state : State) (turn : Turn) (turns : List Turn) → IsNoQuit turn.act
-      → WordGoes (λ word. IsNoQuit turn.act → IsProposedWord word) (slice_index state.words 0) (slice_index (happens s code state turn).words 0)
+      → WordGoes (λ word. IsNoQuit turn.act → IsProposedWord s.processors word) (slice_index state.words 0) (slice_index (happens s code state turn).words 0)
       → (slice_index (after s code (happens s code state turn) turns).words 0 ≡ slice_index (happens s code state turn).words 0)
-      ⊎ IsProposedWord (slice_index (after s code (happens s code state turn) turns).words 0)
+      ⊎ IsProposedWord s.processors (slice_index (after s code (happens s code state turn) turns).words 0)
       → (slice_index (after s code (happens s code state turn) turns).words 0 ≡ slice_index state.words 0)
-      ⊎ IsProposedWord (slice_index (after s code (happens s code state turn) turns).words 0)
+      ⊎ IsProposedWord s.processors (slice_index (after s code (happens s code state turn) turns).words 0)
   by_turn_word state turn turns none goes (inr p) = inr p
   by_turn_word state turn turns none (inl same) (inl e) = inl (e ∙ same)
-  by_turn_word state turn turns none (inr t) (inl e) = inr (subst IsProposedWord (sym e) (t.1 none))
+  by_turn_word state turn turns none (inr t) (inl e) = inr (subst (IsProposedWord s.processors) (sym e) (t.1 none))
 
   proposed : (state : State) (turns : List Turn) → AllSpare state → AllByRecursion (λ turn. IsNoQuit turn.act) turns
       → (slice_index (after s code state turns).words 0 ≡ slice_index state.words 0)
-      ⊎ IsProposedWord (slice_index (after s code state turns).words 0)
+      ⊎ IsProposedWord s.processors (slice_index (after s code state turns).words 0)
   proposed state [] all none = inl refl
   proposed state (turn ∷ turns) all none =
       by_turn_word state turn turns none.0 (turn_word state turn all)
@@ -162,9 +172,9 @@ module _ (s : Shape) (code : CodeParts) (is : IsCode code) where
       by_place h goes (inr same) =
           inr (λ done none.
           so_far (sym same ∙ done)
-          (sym (kept_over (λ word. IsNoQuit turn.act → IsProposedWord word) (slice_index state.words 0)
+          (sym (kept_over (λ word. IsNoQuit turn.act → IsProposedWord s.processors word) (slice_index state.words 0)
           (slice_index (words_after state.words want) 0)
-          (word_goes (λ word. IsNoQuit turn.act → IsProposedWord word) state.words want (asks_act s code is turn.processor turn.act standing h))
+          (word_goes (λ word. IsNoQuit turn.act → IsProposedWord s.processors word) state.words want (asks_act s code is turn.processor turn.act standing h))
           (so_far (sym same ∙ done))) ∙ none))
 
   later_struck : (turn : Turn) (turns : List Turn) (p : ℕ) → IsStruck p turns → IsStruck p (turn ∷ turns)
@@ -202,6 +212,43 @@ module _ (s : Shape) (code : CodeParts) (is : IsCode code) where
     where
       positive : (p x m n : ℕ) → n ≡ 1 + 2 * p + x + m → 0 < n
       positive p x m n e = omega (arith, e)
+
+  run_length : (state : State) (turns : List Turn) → AllSpare state → length (after s code state turns).words ≡ length state.words
+  run_length state [] all = refl
+  run_length state (turn ∷ turns) all = run_length (happens s code state turn) turns (turn_spares state turn all) ∙ turn_length state turn all
+
+  -- where the finish word is 0, a processor that is not done quits by its own word
+  pub quit_is_told : (words : List ℕ) (first more : List Turn) (p : ℕ) (why : Why) → AreWordsOf s words
+      → slice_index (after s code (opening words s.processors) first).words 0 ≡ 0
+      → stand_of (after s code (opening words s.processors) first) p ≢ IsDone
+      → slice_index (after s code (opening words s.processors) (first ++ (record { processor = p; act = Quit why } ∷ more))).words 0
+      ≡ finish_word (quit_with p why)
+  quit_is_told words first more p why are none lives =
+      ap (λ (k : State). slice_index k.words 0) (in_two start first (quit ∷ more))
+      ∙ stays (happens s code state quit) more (turn_spares state quit all) (λ e. quit_some p why (sym (told (all p)) ∙ e))
+      ∙ told (all p)
+    where
+      start : State
+      start = opening words s.processors
+
+      state : State
+      state = after s code start first
+
+      quit : Turn
+      quit = record { processor = p; act = Quit why }
+
+      all : AllSpare state
+      all = run_spares start first (opening_spares s.processors)
+
+      long : 0 < length state.words
+      long = omega (arith, some_words words are, run_length start first (opening_spares s.processors))
+
+      told : SparesOrDone (stand_of state p) → slice_index (happens s code state quit).words 0 ≡ finish_word (quit_with p why)
+      told (inl live) =
+          subst (λ (k : State). slice_index k.words 0 ≡ finish_word (quit_with p why))
+          (sym (acts_live s code is state p (Quit why) (stand_of state p) live))
+          (exchanged_to state.words (finish_word (quit_with p why)) none long)
+      told (inr done) = absurd (lives done)
 
   pub done_has_cause : DoneHasCause s code
   done_has_cause words turns p are there done =

@@ -4,10 +4,12 @@ pub mod StoringLemmas
 pub mod EnterLemmas
 pub mod SampleLemmas
 pub mod PlainLemmas
+pub mod ContentLemmas
 pub mod SparingLemmas
 pub mod RestLemmas
 pub mod StandLemmas
 pub mod WordLemmas
 pub mod ActLemmas
 pub mod FinishLemmas
+pub mod RoomLemmas
 pub mod NextLemmas

@@ -1,5 +1,5 @@
 -- What is left of a capsule of a frame stores nothing into the finish word.
-use Rattle.std.proofs.Common.{◌≡◌, ◌<◌, ◌+◌, ◌*◌, refl, arith, ℕ, zero, suc, Bool, true, false, List, [], ◌∷◌, Option, Some, None}
+use Rattle.std.proofs.Common.{◌≡◌, ◌<◌, ◌+◌, ◌*◌, refl, sym, subst, arith, ℕ, zero, suc, Bool, true, false, List, [], ◌∷◌, Option, Some, None}
 use Rattle.std.specs.Prelude.{if◌then◌else◌, nat_lt, nat_le}
 use Rattle.ppm_capsules.specs.Capsule.{Capsule, Reads, Writes, Asks as AsksFor, Ends as EndsAt}
 use Rattle.ppm_capsules.specs.Strand.{Own, New, Shared}
@@ -10,12 +10,13 @@ use Rattle.ppm_code.specs.Sizes.{frame_size}
 use Rattle.ppm_code.specs.declared.act.End.{End}
 use Rattle.ppm_code.specs.declared.act.End.TheVariants.{Next, Finish, Trap, Call, Fork}
 use Rattle.ppm_code.specs.declared.code.CodeParts.{CodeParts}
+use Rattle.ppm_code.specs.declared.instr.Instr.{Instr}
 use Rattle.ppm_code.specs.declared.location.FrameWord.TheVariants.{Slot, Value}
 use Rattle.ppm_step.specs.declared.frame.Put.{Put}
 use Rattle.ppm_step.specs.declared.frame.Home.{Home}
 use Rattle.ppm_step.specs.Frames.{Rest, Loads, Stores, Full, Installs, Breaks, cell_of, fork_puts_by, fork_to_puts, puts, installed, storing, asks, at_counter}
 use Rattle.ppm_step.specs.Frames.{rest_of}
-use Rattle.ppm_step.proofs.PlainLemmas.{IsOld, EndsPlainly, IsPlain}
+use Rattle.ppm_step.proofs.PlainLemmas.{IsOld, EndsPlainly, IsPlain, IsSimple, Plain, Asking}
 
 module _ (s : Shape) where
   -- each store is elsewhere
@@ -64,7 +65,7 @@ module _ (s : Shape) where
     far_block home (Call procedure capsule (Some slot)) block = (block, (omega arith, (omega arith, (omega arith, (omega arith, tt)))))
     far_block home (Fork left right capsule left_to right_to) block = far_fork home left right capsule left_to right_to block
 
-    far_plain : (home : Home) (e : End) → EndsPlainly e → AreFar (puts code home e)
+    far_plain : (home : Home) (e : End) → EndsPlainly ⊥ e → AreFar (puts code home e)
     far_plain home (Next capsule) h = (omega arith, tt)
     far_plain home Finish h = tt
     far_plain home (Trap trap line) h = (omega arith, tt)
@@ -84,7 +85,7 @@ module _ (s : Shape) where
     far_in_block home (New offset) block = omega (arith, block)
     far_in_block home (Shared index) block = array_far index
 
-    far_if_old : (home : Home) (l : Where) → IsOld l → 0 < address s (cell_of home l)
+    far_if_old : (home : Home) (l : Where) → IsOld ⊥ l → 0 < address s (cell_of home l)
     far_if_old home (Own (Slot slot)) h = omega arith
     far_if_old home (Own Value) h = omega arith
     far_if_old home (New offset) h = absurd h
@@ -117,10 +118,34 @@ module _ (s : Shape) where
         (λ some. block_spares place (at_counter home counter) go some)
     block_spares place home (EndsAt e) block = stored 0 (puts code home e) (Installs (installed home e)) (far_block home e block) tt
 
-    pub plain_spares : (place : ℕ) (home : Home) (c : Capsule Where End) → IsPlain c → SparesRest (rest_of s code place home c)
+    plain_spares : (place : ℕ) (home : Home) (c : Capsule Where End) → IsPlain ⊥ c → SparesRest (rest_of s code place home c)
     plain_spares place home (Reads l go) h = λ word. plain_spares place home (go word) (h word)
     plain_spares place home (Writes l word go) h = (far_if_old home l h.0, plain_spares place home go h.1)
-    plain_spares place home (AsksFor words go) h =
-        λ counter. asked (pool_at s place) s.room counter words (rest_of s code place (at_counter home counter) go) (pool_far place)
-        (λ some. block_spares place (at_counter home counter) go some)
+    plain_spares place home (AsksFor words go) h = absurd h
     plain_spares place home (EndsAt e) h = stored 0 (puts code home e) (Installs (installed home e)) (far_plain home e h) tt
+
+    pub simple_spares : (place : ℕ) (home : Home) (is : List Instr) (c : Capsule Where End) → IsSimple is c → SparesRest (rest_of s code place home c)
+    simple_spares place home is c (Plain h) = plain_spares place home c h
+    simple_spares place home is c (Asking words go room c_is h) =
+        subst (λ (k : Capsule Where End). SparesRest (rest_of s code place home k)) (sym c_is)
+        (λ counter. asked (pool_at s place) s.room counter words (rest_of s code place (at_counter home counter) go) (pool_far place)
+        (λ some. block_spares place (at_counter home counter) go some))
+
+    -- without asking for room it never finds its pool full
+    abbrev pub NeverFull : Rest → Type 0
+    NeverFull (Loads cell go) = (word : ℕ) → NeverFull (go word)
+    NeverFull (Stores cell content rest) = NeverFull rest
+    NeverFull Full = ⊥
+    NeverFull (Installs kind) = Unit {0}
+    NeverFull Breaks = Unit {0}
+
+    never_stored : (n : ℕ) (ps : List Put) (rest : Rest) → NeverFull rest → NeverFull (storing n ps rest)
+    never_stored n [] rest h = h
+    never_stored zero (p ∷ ps) rest h = never_stored zero ps rest h
+    never_stored (suc n) (p ∷ ps) rest h = never_stored n ps rest h
+
+    pub never_full : (Built : Type 0) (place : ℕ) (home : Home) (c : Capsule Where End) → IsPlain Built c → NeverFull (rest_of s code place home c)
+    never_full Built place home (Reads l go) h = λ word. never_full Built place home (go word) (h word)
+    never_full Built place home (Writes l word go) h = never_full Built place home go h.1
+    never_full Built place home (AsksFor words go) h = absurd h
+    never_full Built place home (EndsAt e) h = never_stored 0 (puts code home e) (Installs (installed home e)) tt

@@ -1,8 +1,9 @@
 -- What comes of a row or of a capsule stores nothing into the finish word: it is exchanged from 0 alone.
-use Rattle.std.proofs.Common.{◌≡◌, ◌<◌, ◌+◌, ◌*◌, ◌⊎◌, inl, inr, refl, arith, ℕ, zero, suc, Bool, true, false, Option, Some, None, ◌==◌}
+use Rattle.std.proofs.Common.{◌≡◌, ◌<◌, ◌+◌, ◌*◌, ◌⊎◌, inl, inr, refl, sym, subst, arith, ℕ, zero, suc, Bool, true, false, Option, Some, None, ◌==◌}
 use Rattle.std.specs.Prelude.{◌-◌, ◌^◌, ◌&&◌, if◌then◌else◌, nat_lt}
 use Rattle.ppm_words.specs.declared.trap.Trap.{Trap}
 use Rattle.ppm_cells.specs.Cells.{address, place_at, place_size, word_count}
+use Rattle.ppm_cells.specs.Finish.{finish_word, finish_of, IsFinish, IsOutcome}
 use Rattle.ppm_cells.specs.declared.cell.Cell.{Cell}
 use Rattle.ppm_cells.specs.declared.cell.Cell.TheVariants.{EntryWord, BlockWord}
 use Rattle.ppm_cells.specs.declared.entry.Entry.{Entry}
@@ -22,6 +23,8 @@ use Rattle.ppm_cells.specs.declared.shape.Takeover.{Takeover}
 use Rattle.ppm_cells.specs.declared.shape.Takeover.TheVariants.{ByPlaces, ByEntries}
 use Rattle.ppm_cells.specs.declared.side.Side.{Side}
 use Rattle.ppm_cells.specs.declared.side.Side.TheVariants.{Left, Right}
+use Rattle.ppm_cells.proofs.ExactLemmas.{unpack-pack}
+use Rattle.ppm_cells.proofs.FinishLemmas.{finishes_exact}
 use Rattle.ppm_deque.specs.Change.{tag_of}
 use Rattle.ppm_deque.specs.Transitions.{pushed_above, pushed_job, popped_above}
 use Rattle.ppm_join.specs.Order.{first, both}
@@ -40,7 +43,7 @@ use Rattle.ppm_step.specs.declared.row.Then.{Then}
 use Rattle.ppm_step.specs.declared.row.Then.TheVariants.{Load, Begin, Move, Enter, Again, Broken}
 use Rattle.ppm_step.specs.declared.row.Row.{Row}
 use Rattle.ppm_step.specs.declared.row.Row.TheVariants.{Now, Store, Exchange}
-use Rattle.ppm_step.specs.Contents.{word_of}
+use Rattle.ppm_step.specs.Contents.{word_of, IsContent}
 use Rattle.ppm_step.specs.There.{restart_is_there}
 use Rattle.ppm_step.specs.Rows.{on_number, on_restart, on_entry, on_holder, on_link, on_outcome, with_kind, if_there, raised, tried, changed, bumped}
 use Rattle.ppm_step.specs.Rows.{pushes, push_at, push_by_order, push_above, push_bottom, left_begins}
@@ -50,7 +53,7 @@ use Rattle.ppm_step.specs.Rows.{pop_below, pop_again, pop_above, seek_held, seek
 use Rattle.ppm_step.specs.Rows.{local_by, seek_entry, seek_closed, taken_so, steals, can_be_taken, taken_message, took, goes_on_with, taken_entry}
 use Rattle.ppm_step.specs.Rows.{at_bottom, above_bottom, below_bottom, by_slot, follows, closed_link, closed_bottom, lowered, makes_bid, bid_again}
 use Rattle.ppm_step.specs.Rows.{bid_holder, found_at, by_places, row_of}
-use Rattle.ppm_step.specs.Laws.{IsProposedWord}
+use Rattle.ppm_step.specs.Laws.{IsProposed, IsProposedWord}
 
 -- the words of places lie behind those of processors
 pub behind_first : (s : Shape) (place more : ℕ) → 0 < place_at s place + more
@@ -65,12 +68,51 @@ place_first s place = positive s.processors (place * place_size s)
     positive : (p x : ℕ) → 0 < 1 + 2 * p + x
     positive p x = omega arith
 
+-- a finish that steps propose has a word that stands for it
+pub proposed_word : (s : Shape) (finish : Finish) → IsProposed s.processors finish → IsProposedWord s.processors (finish_word finish)
+proposed_word s finish p = record {
+  finish = finish;
+  is_proposed = p;
+  stands = unpack-pack finish_word IsFinish finish_of finishes_exact finish (fits finish p);
+}
+  where
+    fits : (f : Finish) → IsProposed s.processors f → IsFinish f
+    fits Ended h = tt
+    fits (Trapped trap line) h = h
+    fits (OutOfRoom place) h = omega (arith, h, s.within.processors_most)
+    fits (BrokenAt place) (inl h) = omega (arith, h, s.within.processors_most)
+    fits (BrokenAt place) (inr h) = omega (arith, h)
+    fits Unset h = absurd h
+    fits (OutOfTurns processor) h = absurd h
+    fits Stopped h = absurd h
+
+-- the word of an end or of a trap
+pub record IsOutcomeWord (word : ℕ) : Type 0 where
+  pub outcome : Finish
+  pub is_outcome : IsOutcome outcome
+  pub fits : IsFinish outcome
+  pub word_is : word ≡ finish_word outcome
+
+-- which steps propose
+pub outcome_proposed : (s : Shape) (word : ℕ) → IsOutcomeWord word → IsProposedWord s.processors word
+outcome_proposed s word o =
+    subst (IsProposedWord s.processors) (sym o.word_is) (proposed_word s o.outcome (by o.outcome o.is_outcome o.fits))
+  where
+    by : (finish : Finish) → IsOutcome finish → IsFinish finish → IsProposed s.processors finish
+    by Ended is fits = tt
+    by (Trapped trap line) is fits = fits
+    by Unset is fits = absurd is
+    by (OutOfTurns processor) is fits = absurd is
+    by (OutOfRoom place) is fits = absurd is
+    by Stopped is fits = absurd is
+    by (BrokenAt place) is fits = absurd is
+
 module _ (s : Shape) where
-  -- the row stores elsewhere, or exchanges the finish word from 0 for one that may be proposed
+  -- the row stores elsewhere, or exchanges the finish word from 0 for an outcome
   abbrev pub SparesRow : Row → Type 0
   SparesRow (Now next) = Unit {0}
   SparesRow (Store cell content next) = 0 < address s cell
-  SparesRow (Exchange cell old new next) = (0 < address s cell) ⊎ ((word_of old ≡ 0) × IsProposedWord (word_of new))
+  SparesRow (Exchange cell old new next) = (0 < address s cell) ⊎ ((word_of old ≡ 0) × IsOutcomeWord (word_of new))
 
   either : (b : Bool) (x y : Row) → SparesRow x → SparesRow y → SparesRow (if b then x else y)
   either true x y p q = p
@@ -97,13 +139,13 @@ module _ (s : Shape) where
   link (ALink l) go h = h l
   link w go h = tt
 
-  -- an outcome is an end or a trap
-  outcome : (w : Content) (go : Finish → Row) → SparesRow (go Ended) → ((trap : Trap) (line : ℕ) → SparesRow (go (Trapped trap line)))
-      → SparesRow (on_outcome w go)
-  outcome (AFinish Ended) go h k = h
-  outcome (AFinish (Trapped trap line)) go h k = k trap line
-  outcome (AFinish finish) go h k = tt
-  outcome w go h k = tt
+  -- an outcome is an end, or a trap in a line
+  outcome : (w : Content) (go : Finish → Row) → IsContent w → SparesRow (go Ended)
+      → ((trap : Trap) (line : ℕ) → IsFinish (Trapped trap line) → SparesRow (go (Trapped trap line))) → SparesRow (on_outcome w go)
+  outcome (AFinish Ended) go fits h k = h
+  outcome (AFinish (Trapped trap line)) go fits h k = k trap line fits
+  outcome (AFinish finish) go fits h k = tt
+  outcome w go fits h k = tt
 
   -- a change of an entry
   tries : (cell : Cell) (old : Entry) (new : Option Entry) (next : Then) → 0 < address s cell → SparesRow (tried cell old new next)
@@ -152,16 +194,17 @@ module _ (s : Shape) where
   branch_far Right block = omega arith
 
   unwound_ended : (seat : Seat) (frame : ℕ) (kind : LinkKind) → SparesRow (unwound seat frame kind Ended)
-  unwound_ended seat frame Root = inr (refl, record { finish = Ended; is_proposed = tt; word_is = refl })
+  unwound_ended seat frame Root = inr (refl, record { outcome = Ended; is_outcome = tt; fits = tt; word_is = refl })
   unwound_ended seat frame (CallLink to copy) = tt
   unwound_ended seat frame (Branch side block) = branch_far side block
   unwound_ended seat frame (ForkLink to copy) = tt
 
-  unwound_trapped : (seat : Seat) (frame : ℕ) (kind : LinkKind) (trap : Trap) (line : ℕ) → SparesRow (unwound seat frame kind (Trapped trap line))
-  unwound_trapped seat frame Root trap line = inr (refl, record { finish = Trapped trap line; is_proposed = tt; word_is = refl })
-  unwound_trapped seat frame (CallLink to copy) trap line = omega arith
-  unwound_trapped seat frame (Branch side block) trap line = branch_far side block
-  unwound_trapped seat frame (ForkLink to copy) trap line = tt
+  unwound_trapped : (seat : Seat) (frame : ℕ) (kind : LinkKind) (trap : Trap) (line : ℕ) → IsFinish (Trapped trap line)
+      → SparesRow (unwound seat frame kind (Trapped trap line))
+  unwound_trapped seat frame Root trap line fits = inr (refl, record { outcome = Trapped trap line; is_outcome = tt; fits = fits; word_is = refl })
+  unwound_trapped seat frame (CallLink to copy) trap line fits = omega arith
+  unwound_trapped seat frame (Branch side block) trap line fits = branch_far side block
+  unwound_trapped seat frame (ForkLink to copy) trap line fits = tt
 
   targets : (seat : Seat) (frame to copy : ℕ) (right_of : Option ℕ) (target : ℕ) → SparesRow (target_found seat frame to copy right_of target)
   targets seat frame to copy right_of zero = tt
@@ -286,81 +329,81 @@ module _ (s : Shape) where
   lowers (suc tag) seat victim dead k = inl (behind_first s victim 2)
 
   -- how a row goes on with what it has loaded
-  pub found_spares : (seat : Seat) (victim : ℕ) (point : Point) (w : Content) → SparesRow (found_at s seat victim point w)
-  found_spares seat victim (Header frame copy) w = number w (λ capsule. Now (Enter capsule)) (λ capsule. tt)
-  found_spares seat victim (BumpLink block) w =
+  pub found_spares : (seat : Seat) (victim : ℕ) (point : Point) (w : Content) → IsContent w → SparesRow (found_at s seat victim point w)
+  found_spares seat victim (Header frame copy) w fits = number w (λ capsule. Now (Enter capsule)) (λ capsule. tt)
+  found_spares seat victim (BumpLink block) w fits =
       link w (λ l. bumped seat block l.size l.kind) (λ l. bumps seat block l.size l.kind)
-  found_spares seat victim (PushOrder block) w =
+  found_spares seat victim (PushOrder block) w fits =
       number w (push_by_order seat block)
       (λ order. either (order == both) (Now (left_begins block seat.restart.bottom)) (Now (Load (PushAbove block))) tt tt)
-  found_spares seat victim (PushAbove block) w =
+  found_spares seat victim (PushAbove block) w fits =
       entry w (push_above seat block)
       (λ e. tries (EntryWord seat.place (seat.restart.bottom + 1)) e (pushed_above e) (with_kind seat (Push2 block))
       (entry_far seat.place (seat.restart.bottom + 1)))
-  found_spares seat victim (PushBottom block) w =
+  found_spares seat victim (PushBottom block) w fits =
       entry w (push_bottom seat block)
       (λ e. tries (EntryWord seat.place seat.restart.bottom) e (pushed_job e block) (left_begins block (seat.restart.bottom + 1))
       (entry_far seat.place seat.restart.bottom))
-  found_spares seat victim (UnwindLink frame) w = link w (λ l. unwind_by frame l.kind) (λ l. unwinds frame l.kind)
-  found_spares seat victim (UnwindOutcome frame kind) w =
-      outcome w (unwound seat frame kind) (unwound_ended seat frame kind) (unwound_trapped seat frame kind)
-  found_spares seat victim (Target frame to copy right_of) w =
+  found_spares seat victim (UnwindLink frame) w fits = link w (λ l. unwind_by frame l.kind) (λ l. unwinds frame l.kind)
+  found_spares seat victim (UnwindOutcome frame kind) w fits =
+      outcome w (unwound seat frame kind) fits (unwound_ended seat frame kind) (unwound_trapped seat frame kind)
+  found_spares seat victim (Target frame to copy right_of) w fits =
       number w (target_found seat frame to copy right_of) (targets seat frame to copy right_of)
-  found_spares seat victim (GivenValue frame to copy target right_of) w =
+  found_spares seat victim (GivenValue frame to copy target right_of) w fits =
       number w (value_found s seat to copy target right_of) (valued seat to copy target right_of)
-  found_spares seat victim (JoinOrder block side) w =
+  found_spares seat victim (JoinOrder block side) w fits =
       number w (join_by_order seat block side)
       (λ order. joins_by seat block (order == first side) (is_inline order side) (is_last order side))
-  found_spares seat victim (JoinLink block) w = link w (λ l. join_by block l.kind) (λ l. joins_link block l.kind)
-  found_spares seat victim (JoinLeft block to copy) w =
-      outcome w (λ left. Now (Load (JoinRight block to copy left))) tt (λ trap line. tt)
-  found_spares seat victim (JoinRight block to copy left) w =
-      outcome w (λ right. joined seat block to copy (outcome_of_both left right)) (joined_by seat block to copy (outcome_of_both left Ended))
-      (λ trap line. joined_by seat block to copy (outcome_of_both left (Trapped trap line)))
-  found_spares seat victim (RightFrame block to copy) w =
+  found_spares seat victim (JoinLink block) w fits = link w (λ l. join_by block l.kind) (λ l. joins_link block l.kind)
+  found_spares seat victim (JoinLeft block to copy) w fits =
+      outcome w (λ left. Now (Load (JoinRight block to copy left))) fits tt (λ trap line is_line. tt)
+  found_spares seat victim (JoinRight block to copy left) w fits =
+      outcome w (λ right. joined seat block to copy (outcome_of_both left right)) fits (joined_by seat block to copy (outcome_of_both left Ended))
+      (λ trap line is_line. joined_by seat block to copy (outcome_of_both left (Trapped trap line)))
+  found_spares seat victim (RightFrame block to copy) w fits =
       number w (right_value s block to copy)
       (λ offset. there (block + offset) (Now (Load (Target (block + offset) to copy None))) tt)
-  found_spares seat victim (Offset block bottom) w =
+  found_spares seat victim (Offset block bottom) w fits =
       number w (right_begins s block bottom) (λ offset. there (block + offset) (Now (Begin block (block + offset) bottom)) tt)
-  found_spares seat victim PopBelow w = entry w (pop_below seat) (pops_below seat)
-  found_spares seat victim (PopAgain block) w = entry w (pop_again seat block) (pops_again seat block)
-  found_spares seat victim (PopAbove block) w =
+  found_spares seat victim PopBelow w fits = entry w (pop_below seat) (pops_below seat)
+  found_spares seat victim (PopAgain block) w fits = entry w (pop_again seat block) (pops_again seat block)
+  found_spares seat victim (PopAbove block) w fits =
       entry w (pop_above seat block)
       (λ e. tries (EntryWord seat.place seat.restart.bottom) e (popped_above e) (Load (Offset block (seat.restart.bottom - 1)))
       (entry_far seat.place seat.restart.bottom))
-  found_spares seat victim SeekHolder w =
+  found_spares seat victim SeekHolder w fits =
       holder w (seek_holder s seat victim)
       (λ k. either (victim == seat.place) (Now Again) (seek_by s seat victim k s.takeover) tt (seeks_by seat victim k s.takeover))
-  found_spares seat victim (SeekDead v k) w =
+  found_spares seat victim (SeekDead v k) w fits =
       number w (seek_dead seat v k)
       (λ dead. either (dead == 1) (bids seat v k (nat_lt (k.tag + 1) (2 ^ 58))) (Now (Load (SeekTop v)))
       (bids_for seat v k (nat_lt (k.tag + 1) (2 ^ 58))) tt)
-  found_spares seat victim (SeekTop v) w =
+  found_spares seat victim (SeekTop v) w fits =
       number w (seek_top s v) (λ top. either (nat_lt top s.slots) (Now (Load (SeekEntry v top))) (Now Broken) tt tt)
-  found_spares seat victim (SeekEntry v slot) w = entry w (seek_entry s seat v slot) (seeks_entry seat v slot)
-  found_spares seat victim (SeekClosed v slot e) w =
+  found_spares seat victim (SeekEntry v slot) w fits = entry w (seek_entry s seat v slot) (seeks_entry seat v slot)
+  found_spares seat victim (SeekClosed v slot e) w fits =
       number w (seek_closed seat v slot e) (λ dead. either (dead == 1) (notes seat v slot e) (Now Again) (behind_first s seat.place 1) tt)
-  found_spares seat victim (StealMessage v slot) w =
+  found_spares seat victim (StealMessage v slot) w fits =
       entry w (steals s seat v slot)
       (λ e. changes (EntryWord v slot) e (taken_so s.takeover seat.place e) (with_kind seat (Check v slot)) (entry_far v slot))
-  found_spares seat victim (TakenMessage by v slot) w =
+  found_spares seat victim (TakenMessage by v slot) w fits =
       entry w (taken_message s by v slot)
       (λ e. either (can_be_taken s.takeover e) (Now (Load (TakenEntry by v slot e))) (Now Broken) tt tt)
-  found_spares seat victim (TakenEntry by v slot message) w =
+  found_spares seat victim (TakenEntry by v slot message) w fits =
       entry w (taken_entry seat by v slot message)
       (λ e. either (took by message e) (goes_on_with seat v slot message) (Now (with_kind seat Seek)) (goes_with seat v slot message) tt)
-  found_spares seat victim (ClosedRestart v slot block) w =
+  found_spares seat victim (ClosedRestart v slot block) w fits =
       restart w (follows s seat v slot block)
       (λ r. either (restart_is_there s r) (by_slot seat v slot block r) (Now Broken) (slots_by seat v slot block r) tt)
-  found_spares seat victim (ClosedLink block) w = link w (λ l. closed_link seat block l.kind) (λ l. closed_by seat block l.kind)
-  found_spares seat victim (ClosedBottom v slot block) w = entry w (closed_bottom seat block) (bottom_by seat block)
-  found_spares seat victim (BidMessage v dead) w =
+  found_spares seat victim (ClosedLink block) w fits = link w (λ l. closed_link seat block l.kind) (λ l. closed_by seat block l.kind)
+  found_spares seat victim (ClosedBottom v slot block) w fits = entry w (closed_bottom seat block) (bottom_by seat block)
+  found_spares seat victim (BidMessage v dead) w fits =
       holder w (makes_bid seat v dead)
       (λ k. either (k.processor == seat.own) (lowered k.tag seat v dead k) (Now (with_kind seat Seek)) (lowers k.tag seat v dead k) tt)
-  found_spares seat victim (BidAgain v) w =
+  found_spares seat victim (BidAgain v) w fits =
       holder w (bid_again seat v)
       (λ k. either (k.processor == seat.own) (Now (Load (BidHolder v k))) (Now (with_kind seat Seek)) tt tt)
-  found_spares seat victim (BidHolder v message) w =
+  found_spares seat victim (BidHolder v message) w fits =
       holder w (bid_holder seat v message)
       (λ k. either ((message.tag == k.tag) && (message.processor == k.processor)) (Now (Move v)) (Now (with_kind seat Seek)) tt tt)
 

@@ -27,6 +27,17 @@ exchanged words new some long = by (slice_index words 0 == 0) (eqb_tells (slice_
     by false (inl t) = absurd (false_is_not_true t.0)
     by false (inr t) = t.1
 
+-- from 0 it becomes the new word
+pub exchanged_to : (words : List ℕ) (new : ℕ) → slice_index words 0 ≡ 0 → 0 < length words
+    → slice_index (words_after words (WantsExchange 0 0 new)) 0 ≡ new
+exchanged_to words new none long = by (slice_index words 0 == 0) (eqb_tells (slice_index words 0) 0)
+  where
+    by : (b : Bool) → ((b ≡ true) × (slice_index words 0 ≡ 0)) ⊎ ((b ≡ false) × (slice_index words 0 ≢ 0))
+        → slice_index (if b then slice_set words 0 new else words) 0 ≡ new
+    by true t = get_or-set_same words 0 new 0 long
+    by false (inl t) = absurd (false_is_not_true t.0)
+    by false (inr t) = absurd (t.1 none)
+
 -- the words after a want: the finish word is as it was, or was 0
 abbrev pub WordGoes : (P : ℕ → Type 0) → (old new : ℕ) → Type 0
 WordGoes P old new = (new ≡ old) ⊎ ((old ≡ 0) × P new)

@@ -1,17 +1,24 @@
 -- Laws of runs from an opening, whatever its words are: when the finish word changes, and when a processor is done.
-use Rattle.std.specs.Prelude.{◌≡◌, ◌≢◌, ◌⊎◌, ℕ, ◌<◌, List, ◌∷◌, ◌++◌}
+use Rattle.std.specs.Prelude.{◌≡◌, ◌≢◌, ◌⊎◌, ℕ, ◌+◌, ◌^◌, ◌<◌, ◌≤◌, List, ◌∷◌, ◌++◌, Some, slice_get}
 use Rattle.std.specs.List.{AllByRecursion}
-use Rattle.ppm_cells.specs.Finish.{finish_word}
+use Rattle.ppm_cells.specs.Cells.{pool_at}
+use Rattle.ppm_cells.specs.Finish.{finish_of}
 use Rattle.ppm_cells.specs.Memory.{read, AreWordsOf}
-use Rattle.ppm_cells.specs.declared.cell.Cell.TheVariants.{FinishWord}
+use Rattle.ppm_cells.specs.declared.cell.Cell.TheVariants.{FinishWord, RoomCounter}
 use Rattle.ppm_cells.specs.declared.finish.Finish.{Finish}
 use Rattle.ppm_cells.specs.declared.finish.Finish.TheVariants.{Unset, Ended, Trapped, OutOfTurns, OutOfRoom, Stopped, Broken}
 use Rattle.ppm_cells.specs.declared.shape.Shape.{Shape}
+use Rattle.ppm_code.specs.Capsules.{capsule_of}
+use Rattle.ppm_code.specs.Code.{room_of}
+use Rattle.ppm_code.specs.declared.code.Capsule.{Capsule}
 use Rattle.ppm_code.specs.declared.code.CodeParts.{CodeParts}
+use Rattle.ppm_step.specs.declared.frame.Home.{Home}
+use Rattle.ppm_step.specs.declared.row.Seat.{Seat}
 use Rattle.ppm_step.specs.declared.turn.Act.{Act}
 use Rattle.ppm_step.specs.declared.turn.Act.TheVariants.{Step, Soft, Hard, Quit}
 use Rattle.ppm_step.specs.declared.turn.Turn.{Turn}
-use Rattle.ppm_step.specs.Standings.{IsDone}
+use Rattle.ppm_step.specs.Frames.{rest_of}
+use Rattle.ppm_step.specs.Standings.{IsRunning, IsDone, unknown_place}
 use Rattle.ppm_step.specs.State.{State, stand_of, after, opening}
 
 -- the finish word
@@ -31,23 +38,40 @@ IsNoQuit Soft = Unit {0}
 IsNoQuit Hard = Unit {0}
 IsNoQuit (Quit why) = ⊥
 
--- what steps propose for a finish word: how the root ended, that a pool was full, or that words are broken
-abbrev pub IsProposed : Finish → Type 0
-IsProposed Ended = Unit {0}
-IsProposed (Trapped trap line) = Unit {0}
-IsProposed (OutOfRoom place) = Unit {0}
-IsProposed (Broken place) = Unit {0}
-IsProposed Unset = ⊥
-IsProposed (OutOfTurns processor) = ⊥
-IsProposed Stopped = ⊥
+-- what steps of so many processors propose for a finish word: that the root ended, or trapped in a line, that the pool of a place is full,
+-- or that words are broken, met at a place or at one that isn't known
+abbrev pub IsProposed : (processors : ℕ) → Finish → Type 0
+IsProposed processors Ended = Unit {0}
+IsProposed processors (Trapped trap line) = (1 ≤ line) × (line < 2 ^ 26)
+IsProposed processors (OutOfRoom place) = place < processors
+IsProposed processors (Broken place) = (place < processors) ⊎ (place ≡ unknown_place)
+IsProposed processors Unset = ⊥
+IsProposed processors (OutOfTurns processor) = ⊥
+IsProposed processors Stopped = ⊥
 
--- the word of one of these
-pub record IsProposedWord (word : ℕ) : Type 0 where
+-- the word stands for one of these
+pub record IsProposedWord (processors word : ℕ) : Type 0 where
   pub finish : Finish
-  pub is_proposed : IsProposed finish
-  pub word_is : word ≡ finish_word finish
+  pub is_proposed : IsProposed processors finish
+  pub stands : finish_of word ≡ Some finish
 
 module _ (s : Shape) (code : CodeParts) where
+  -- this turn finds the pool of a place full: it is the load of the place's room counter with which a capsule of the code begins that asks
+  -- for so many words, and these pass the end of the pool
+  pub record FindsFull (place : ℕ) (state : State) (turn : Turn) : Type 0 where
+    pub victim : ℕ
+    pub is_step : turn.act ≡ Step victim
+    pub seat : Seat
+    pub at_place : seat.place ≡ place
+    pub home : Home
+    pub number : ℕ
+    pub capsule : Capsule
+    pub of_code : slice_get code.capsules number ≡ Some capsule
+    pub words : ℕ
+    pub asks : room_of capsule.instrs ≡ Some words
+    pub begins : stand_of state turn.processor ≡ IsRunning seat (rest_of s code place home (capsule_of s.arrays capsule.instrs))
+    pub passes : pool_at s place + s.room < read s state.words (RoomCounter place) + words
+
   -- the state that turns come to from these words
   abbrev pub reached : (words : List ℕ) → List Turn → State
   reached words turns = after s code (opening words s.processors) turns
@@ -57,10 +81,23 @@ module _ (s : Shape) (code : CodeParts) where
   FinishStays = (words : List ℕ) (first more : List Turn)
       → finish_at s (reached words first) ≢ 0 → finish_at s (reached words (first ++ more)) ≡ finish_at s (reached words first)
 
-  -- where no processor quits, it stays or becomes one that steps propose
+  -- where no processor quits, it stays or comes to stand for what steps propose
   abbrev pub FinishIsProposed : Type 0
   FinishIsProposed = (words : List ℕ) (turns : List Turn) → AllByRecursion (λ turn. IsNoQuit turn.act) turns
-      → (finish_at s (reached words turns) ≡ read s words FinishWord) ⊎ IsProposedWord (finish_at s (reached words turns))
+      → (finish_at s (reached words turns) ≡ read s words FinishWord) ⊎ IsProposedWord s.processors (finish_at s (reached words turns))
+
+  -- one of the turns finds the pool of the place full
+  pub record IsFilled (place : ℕ) (words : List ℕ) (turns : List Turn) : Type 0 where
+    pub first : List Turn
+    pub turn : Turn
+    pub more : List Turn
+    pub turns_are : turns ≡ first ++ (turn ∷ more)
+    pub finds : FindsFull place (reached words first) turn
+
+  -- from words that say nothing, the finish word says that a pool is full only where one of the turns found it so
+  abbrev pub RoomHasCause : Type 0
+  RoomHasCause = (words : List ℕ) (turns : List Turn) (place : ℕ) → read s words FinishWord ≡ 0
+      → finish_of (finish_at s (reached words turns)) ≡ Some (OutOfRoom place) → IsFilled place words turns
 
   -- a processor is done only where a hard fault of its own was made, or the finish word isn't 0
   abbrev pub DoneHasCause : Type 0

@@ -17,5 +17,5 @@ pub returns-clause-rows : goal.returns-clause-rows
 returns-clause-rows g c = run_rows c.args.options c.args.faults.now _ _
     (planned_delivered plan_form c.args.faults.now c.args.options.processors (TextHas c.args.options) text_limit
     c.have_one_answer.ensures.law.plans _ _ _ refl c.run_answer-answer.ensures c.deliver.ensures)
-    c.have_one_answer.ensures.law
+    c.requires.options c.have_one_answer.ensures.law
     (c.answers_are_one.ensures.law c.args.options c.args.faults.now)
