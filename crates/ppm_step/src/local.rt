@@ -105,6 +105,7 @@ impl Local {
     }
 
     /// What its coming step is.
+    #[inline(always)]
     pub fn next(&self) -> Next
         ensures { (s : Shape) (code : CodeParts) → result ≡ next_of (standing_of s code self.now) }
     {
@@ -126,6 +127,7 @@ impl Local {
     }
 
     /// The place that it carries; 64 where it does not know it.
+    #[inline(always)]
     pub fn place(&self) -> u32
         ensures { (s : Shape) (code : CodeParts) → result ≡ place_of (standing_of s code self.now) }
     {
@@ -209,7 +211,7 @@ impl Local {
     }
 
     /// Goes on with what a step of a capsule has found.
-    #[inline(never)]
+    #[inline(always)]
     fn observe_running(&mut self, shape: &Shape, code: &Code, found: u64)
         requires local { IsLocal shape.now code.now self.old }
         ensures stands { standing_of shape.now code.now self.new ≡ went_if_running shape.now code.now self.old found }

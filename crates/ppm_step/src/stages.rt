@@ -16,6 +16,7 @@ use ppm_cells::{Cell, Finish, Restart, RestartKind, Shape};
 use ppm_code::{Code, End, FrameWord, Instr, Location, Reached, Step, reach};
 
 /// Whether the word of a location is there.
+#[inline(always)]
 pub fn location_is_there(shape: &Shape, home: &Home, location: Location) -> bool
     requires { IsHome home.now }
     ensures { result ≡ is_there shape.now (cell_of home.now (location_of location)) }
@@ -32,6 +33,7 @@ pub fn location_is_there(shape: &Shape, home: &Home, location: Location) -> bool
 }
 
 /// The word of a location that is there.
+#[inline(always)]
 pub fn location_cell(shape: &Shape, home: &Home, location: Location) -> Cell
     requires home { IsHome home.now }
     requires there { is_there shape.now (cell_of home.now (location_of location)) ≡ true }
@@ -117,7 +119,7 @@ impl Running {
     }
 
     /// Does the register work up to the next word step, and tells whether that is there.
-    #[inline(never)]
+    #[inline(always)]
     pub fn go_on(&mut self, shape: &Shape, code: &Code, registers: &mut [u64; 64]) -> bool
         requires home { IsHome self.old.home }
         requires place { self.old.seat.place < shape.now.processors }
