@@ -17,6 +17,7 @@ use ppm_step::{Act, Local, Next, Point, Row, Stand, Then, Want, Why};
 use ppm_words::Event;
 
 /// Whether the processor takes no step any more.
+#[inline(always)]
 pub(crate) fn is_done(local: &Local) -> bool
     ensures { (s : Shape) (code : CodeParts) → result ≡ is_done_at (standing_of s code local.now) }
 {
@@ -32,6 +33,7 @@ pub(crate) fn is_done(local: &Local) -> bool
 }
 
 /// Whether its coming step is the load of a holder word, for which a turn names the victim.
+#[inline(always)]
 pub(crate) fn seeks_holder(local: &Local) -> bool
     ensures { (s : Shape) (code : CodeParts) → result ≡ seeks_holder_at (standing_of s code local.now) }
 {
@@ -45,6 +47,7 @@ pub(crate) fn seeks_holder(local: &Local) -> bool
 }
 
 /// How many forks the act makes: 1 by the store of the restart word that begins to push a block.
+#[inline(always)]
 pub(crate) fn forks_by(local: &Local, act: Act) -> u64
     ensures value { (s : Shape) (code : CodeParts) → result ≡ forks_at act (standing_of s code local.now) }
     ensures bound { result < 2 }
@@ -62,6 +65,7 @@ pub(crate) fn forks_by(local: &Local, act: Act) -> u64
 }
 
 /// How many takes: 1 by the store of the restart word that begins a right branch.
+#[inline(always)]
 pub(crate) fn takes_by(local: &Local, act: Act) -> u64
     ensures value { (s : Shape) (code : CodeParts) → result ≡ takes_at act (standing_of s code local.now) }
     ensures bound { result < 2 }
@@ -79,6 +83,7 @@ pub(crate) fn takes_by(local: &Local, act: Act) -> u64
 }
 
 /// Whether the act is a step of work.
+#[inline(always)]
 pub(crate) fn is_work_by(local: &Local, act: Act) -> bool
     ensures { (s : Shape) (code : CodeParts) → result ≡ is_work_turn s code act (standing_of s code local.now) }
 {
@@ -92,6 +97,7 @@ pub(crate) fn is_work_by(local: &Local, act: Act) -> bool
 }
 
 /// 1 where it holds, else 0.
+#[inline(always)]
 pub(crate) fn count_of(holds: bool) -> u64
     ensures value { result ≡ (if holds then 1 else 0) }
     ensures bound { result < 2 }
@@ -128,6 +134,38 @@ fn want_by(local: &Local, shape: &Shape, code: &Code, act: Act) -> Want
     }
 }
 
+/// What a word step finds: the word of a load, and else 0.
+#[inline(always)]
+fn found_by(words: &Vec<u64>, shape: &Shape, want: Want) -> u64
+    requires words { AreWordsOf shape.now words.now.items }
+    requires within { WantIsWithin shape.now want }
+    ensures { result ≡ found_in words.now.items want }
+{
+    let _ = shape.slots;
+    match want {
+        Want::Loads(at) => words[at as usize],
+        Want::Stores(..) | Want::Exchanges(..) | Want::Nothing => 0,
+    }
+}
+
+/// Stores what a word step stores.
+#[inline(always)]
+fn store(words: &mut Vec<u64>, shape: &Shape, want: Want)
+    requires words { AreWordsOf shape.now words.old.items }
+    requires within { WantIsWithin shape.now want }
+    ensures words { words.new.items ≡ words_after words.old.items want }
+    ensures count { AreWordsOf shape.now words.new.items }
+{
+    let _ = shape.slots;
+    match want {
+        Want::Stores(at, word) => words[at as usize] = word,
+        Want::Exchanges(at, old, new) => if words[at as usize] == old {
+            words[at as usize] = new;
+        },
+        Want::Loads(_) | Want::Nothing => {}
+    }
+}
+
 /// Makes a word step; what a load found, and else 0.
 fn make(words: &mut Vec<u64>, shape: &Shape, want: Want) -> u64
     requires words { AreWordsOf shape.now words.old.items }
@@ -136,20 +174,9 @@ fn make(words: &mut Vec<u64>, shape: &Shape, want: Want) -> u64
     ensures words { words.new.items ≡ words_after words.old.items want }
     ensures count { AreWordsOf shape.now words.new.items }
 {
-    match want {
-        Want::Loads(at) => words[at as usize],
-        Want::Stores(at, word) => {
-            words[at as usize] = word;
-            0
-        }
-        Want::Exchanges(at, old, new) => {
-            if words[at as usize] == old {
-                words[at as usize] = new;
-            }
-            0
-        }
-        Want::Nothing => 0,
-    }
+    let found = found_by(words, shape, want);
+    store(words, shape, want);
+    found
 }
 
 /// The processor goes on from what its act found.
@@ -168,6 +195,7 @@ fn go_on(local: &mut Local, shape: &Shape, code: &Code, act: Act, found: u64)
 }
 
 /// The event of a word step.
+#[inline(always)]
 fn step_event(place: u32, want: Want, found: u64) -> Event
     ensures { (words : List ℕ) → found ≡ found_in words want → result ≡ step_event words place want }
 {
@@ -204,6 +232,7 @@ fn event_by(place: u32, act: Act, want: Want, found: u64) -> Event
 }
 
 /// Does the act, and tells its event; `None` where the processor is done, and nothing changes.
+#[inline(always)]
 pub(crate) fn act_on(
     local: &mut Local,
     words: &mut Vec<u64>,
@@ -230,6 +259,7 @@ pub(crate) fn act_on(
 }
 
 /// Makes the word step that comes next, where the turn names this victim.
+#[inline(always)]
 fn step_on(
     local: &mut Local,
     words: &mut Vec<u64>,
@@ -254,8 +284,10 @@ fn step_on(
     }
     let place = local.place();
     let want = local.want(shape, code, victim);
-    let found = make(words, shape, want);
+    let found = found_by(words, shape, want);
+    // Before the store, behind which the compiler would read anew where the processor stands.
     local.observe(shape, code, victim, found);
+    store(words, shape, want);
     Some(step_event(place, want, found))
 }
 

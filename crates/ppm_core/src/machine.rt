@@ -13,9 +13,9 @@ ghost use Rattle.ppm_step.specs.Told.{told_of};
 use crate::acts::{act_on, count_of, forks_by, is_done, is_work_by, seeks_holder, takes_by};
 use crate::ending::Ending;
 use ppm_cells::{Cell, Finish, Shape};
-use ppm_code::Code;
+use ppm_code::{Code, End, Step};
 use ppm_layout::Image;
-use ppm_step::{Local, Next, Told, Turn};
+use ppm_step::{Act, Local, Next, Point, Row, Running, Stage, Stand, Then, Told, Turn};
 use ppm_words::NoMemory;
 use std::alloc::Global;
 use std::marker::Model;
@@ -106,23 +106,82 @@ impl Machine {
     /// One turn: the act of a processor, which does nothing where the processor is done. Processor and victim are below the
     /// number of processors, and there were fewer than 2^62 turns. It takes no memory. Its time depends neither on how many words there
     /// are nor on the turns before: at most one capsule's instructions lie between two word steps.
+    #[inline(always)]
     pub fn turn(&mut self, turn: Turn) -> Told
         requires among { IsTurnAmong self.old.shape.processors turn }
         requires few { self.old.turns < 2 ^ 62 }
         ensures machine { seen self.new ≡ turned (seen self.old) turn }
         ensures told { result ≡ told_of self.old.shape self.old.code (seen self.old).state turn }
     {
+        let Act::Step { .. } = turn.act else {
+            return self.make_apart(turn);
+        };
+        // Each stand that comes often has the code of a turn to itself, in which the compiler knows it.
+        match self.locals[turn.processor as usize].stand {
+            Stand::At { .. } => self.make(turn),
+            Stand::Within {
+                row: Row::Now(Then::Load(Point::Header { .. })),
+                ..
+            } => self.make(turn),
+            Stand::Runs(
+                Running {
+                    stage: Stage::Before(Step::Loads(..)),
+                    ..
+                },
+            ) => self.make(turn),
+            Stand::Runs(
+                Running {
+                    stage: Stage::Before(Step::Stores(..)),
+                    ..
+                },
+            ) => self.make(turn),
+            Stand::Runs(
+                Running {
+                    stage: Stage::Ending(End::Next { .. }, 0),
+                    ..
+                },
+            ) => self.make(turn),
+            Stand::Runs(
+                Running {
+                    stage: Stage::Ending(End::Next { .. }, _),
+                    ..
+                },
+            ) => self.make(turn),
+            _ => self.make_apart(turn),
+        }
+    }
+
+    /// Makes a turn, in code that is no other function's.
+    #[inline(never)]
+    fn make_apart(&mut self, turn: Turn) -> Told
+        requires among { IsTurnAmong self.old.shape.processors turn }
+        requires few { self.old.turns < 2 ^ 62 }
+        ensures machine { seen self.new ≡ turned (seen self.old) turn }
+        ensures told { result ≡ told_of self.old.shape self.old.code (seen self.old).state turn }
+    {
+        self.make(turn)
+    }
+
+    /// Makes a turn.
+    #[inline(always)]
+    fn make(&mut self, turn: Turn) -> Told
+        requires among { IsTurnAmong self.old.shape.processors turn }
+        requires few { self.old.turns < 2 ^ 62 }
+        ensures machine { seen self.new ≡ turned (seen self.old) turn }
+        ensures told { result ≡ told_of self.old.shape self.old.code (seen self.old).state turn }
+    {
         let local = &mut self.locals[turn.processor as usize];
+        // What is counted is read before anything is written, and written at the end.
         let forks = forks_by(local, turn.act);
-        self.forks += forks;
         let takes = takes_by(local, turn.act);
-        self.takes += takes;
         let work = is_work_by(local, turn.act);
         let works = count_of(work);
-        self.work += works;
-        self.turns += 1;
         let event = act_on(local, &mut self.words, &self.shape, &self.code, turn.act);
         let next = local.next();
+        self.forks += forks;
+        self.takes += takes;
+        self.work += works;
+        self.turns += 1;
         Told { event, work, next }
     }
 

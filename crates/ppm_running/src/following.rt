@@ -54,6 +54,7 @@ fn victim_at(processors: u32, processor: u32, j: u64, stated: Option<u32>) -> u3
 }
 
 /// The turn that an act is. A step that loads a holder word as it seeks work is counted.
+#[inline(always)]
 fn turn_of(machine: &Machine, way: &mut Way, act: ScheduledAct) -> Turn
     requires among { IsActAmong (seen machine.now).shape.processors act }
     requires ready { IsReady (seen machine.now) way.old }
@@ -83,6 +84,7 @@ fn turn_of(machine: &Machine, way: &mut Way, act: ScheduledAct) -> Turn
 }
 
 /// Makes an act, where one is left and its processor isn't done.
+#[inline(always)]
 fn make(machine: &mut Machine, way: &mut Way, act: ScheduledAct)
     requires among { IsActAmong (seen machine.old).shape.processors act }
     requires ready { IsReady (seen machine.old) way.old }
@@ -132,6 +134,7 @@ fn list(machine: &mut Machine, way: &mut Way, items: &[ScheduleItem])
 }
 
 /// Makes the step of a processor behind the list, if it isn't done.
+#[inline(never)]
 fn step(machine: &mut Machine, way: &mut Way, processor: u32)
     requires among { processor < (seen machine.old).shape.processors }
     requires ready { IsReady (seen machine.old) way.old }

@@ -13,7 +13,7 @@ use crate::standing::installed;
 use crate::there::address;
 use crate::turn::Next;
 use ppm_cells::{Cell, Finish, Restart, RestartKind, Shape};
-use ppm_code::{Code, End};
+use ppm_code::{Code, End, Step};
 
 /// Where a processor stands.
 #[derive(Clone, Copy, Debug, PartialEq, Eq)]
@@ -64,7 +64,7 @@ impl Local {
     ghost use Rattle.ppm_code.specs.declared.act.End.TheVariants.{Next as GoesTo};
     ghost use Rattle.ppm_step.specs.Frames.{ending};
     ghost use Rattle.ppm_step.specs.Rows.{row_of};
-    ghost use Rattle.ppm_step.specs.Stages.{IsRunning};
+    ghost use Rattle.ppm_step.specs.Stages.{IsRunning, rest_at};
     ghost use Rattle.ppm_step.specs.declared.running.Stage.TheVariants.{Ending};
     ghost use Rattle.ppm_step.specs.State.{next_of};
     ghost use Rattle.ppm_step.specs.declared.row.Point.TheVariants.{Header};
@@ -105,6 +105,7 @@ impl Local {
     }
 
     /// What its coming step is.
+    #[inline(always)]
     pub fn next(&self) -> Next
         ensures { (s : Shape) (code : CodeParts) → result ≡ next_of (standing_of s code self.now) }
     {
@@ -126,6 +127,7 @@ impl Local {
     }
 
     /// The place that it carries; 64 where it does not know it.
+    #[inline(always)]
     pub fn place(&self) -> u32
         ensures { (s : Shape) (code : CodeParts) → result ≡ place_of (standing_of s code self.now) }
     {
@@ -208,6 +210,31 @@ impl Local {
         }
     }
 
+    /// Goes on with what a step of this capsule has found.
+    #[inline(always)]
+    fn observe_run(&mut self, shape: &Shape, code: &Code, running: Running, found: u64)
+        requires running { IsRunning shape.now code.now running self.old.registers }
+        requires own { running.seat.own ≡ self.old.own }
+        requires carrier { self.old.own < shape.now.processors }
+        ensures stands { standing_of shape.now code.now self.new
+            ≡ went_rest shape.now running.seat found (rest_at shape.now code.now running running.stage self.old.registers) }
+        ensures holds { IsLocal shape.now code.now self.new }
+        ensures own_stays { self.new.own ≡ self.old.own }
+    {
+        let place = running.seat.place;
+        let mut ran = running;
+        match ran.observe(shape, code, &mut self.registers, found) {
+            Going::Went(true) => self.stand = Stand::Runs(ran),
+            Going::Went(false) => self.meet_broken(place),
+            Going::Installed(restart) => {
+                self.stand = Stand::At {
+                    place,
+                    restart: Some(restart),
+                };
+            }
+        }
+    }
+
     /// Goes on with what a step of a capsule has found.
     #[inline(never)]
     fn observe_running(&mut self, shape: &Shape, code: &Code, found: u64)
@@ -216,18 +243,8 @@ impl Local {
         ensures holds { IsLocal shape.now code.now self.new }
         ensures own_stays { self.new.own ≡ self.old.own }
     {
-        if let Stand::Runs(mut running) = self.stand {
-            let place = running.seat.place;
-            match running.observe(shape, code, &mut self.registers, found) {
-                Going::Went(true) => self.stand = Stand::Runs(running),
-                Going::Went(false) => self.meet_broken(place),
-                Going::Installed(restart) => {
-                    self.stand = Stand::At {
-                        place,
-                        restart: Some(restart),
-                    };
-                }
-            }
+        if let Stand::Runs(running) = self.stand {
+            self.observe_run(shape, code, running, found);
         }
     }
 
@@ -324,7 +341,9 @@ impl Local {
                 Stage::Ending(End::Next { capsule }, n) => {
                     self.observe_next(shape, code, running, capsule, n);
                 }
-                Stage::Before(_) | Stage::Ending(..) | Stage::Filled => {
+                Stage::Before(Step::Loads(..)) => self.observe_run(shape, code, running, found),
+                Stage::Before(Step::Stores(..)) => self.observe_run(shape, code, running, found),
+                Stage::Before(Step::Asks(_)) | Stage::Ending(..) | Stage::Filled => {
                     self.observe_running(shape, code, found);
                 }
             },

@@ -14,6 +14,7 @@ use crate::there::{address, cell_is_there, restart_there, restart_word};
 use ppm_cells::{Cell, Restart, RestartKind, Shape};
 
 /// The word that a load is of, where the turn names this victim.
+#[inline(always)]
 pub fn cell_at(seat: &Seat, victim: u32, point: &Point) -> Cell
     requires restart { IsRestart seat.now.restart }
     requires bottom { 1 ≤ seat.now.restart.bottom }
@@ -115,6 +116,7 @@ pub fn reading_at(point: &Point) -> Reading
 }
 
 /// Whether the word of a load is there.
+#[inline(always)]
 fn point_there(shape: &Shape, seat: &Seat, point: &Point) -> bool
     requires seat { IsSeat shape.now seat.now }
     requires point { IsPoint point.now }
@@ -147,6 +149,7 @@ pub fn begun(frame: u32, bottom: u32) -> Restart
 }
 
 /// Whether what a row asks next is there.
+#[inline(always)]
 pub fn then_there(shape: &Shape, seat: &Seat, next: &Then) -> bool
     requires seat { IsSeat shape.now seat.now }
     requires next { IsThen next.now }
@@ -174,6 +177,7 @@ fn install(shape: &Shape, seat: &Seat, restart: Restart) -> Want
 }
 
 /// The word step of what follows.
+#[inline(always)]
 fn want_then(shape: &Shape, seat: &Seat, victim: u32, next: &Then) -> Want
     requires seat { IsSeat shape.now seat.now }
     requires victim { victim < shape.now.processors }
@@ -198,6 +202,7 @@ fn want_then(shape: &Shape, seat: &Seat, victim: u32, next: &Then) -> Want
 }
 
 /// The address of a load.
+#[inline(always)]
 fn load_address(shape: &Shape, seat: &Seat, victim: u32, point: &Point) -> u32
     requires seat { IsSeat shape.now seat.now }
     requires victim { victim < shape.now.processors }
@@ -213,6 +218,7 @@ fn load_address(shape: &Shape, seat: &Seat, victim: u32, point: &Point) -> u32
 }
 
 /// The word step that comes next in a row.
+#[inline(never)]
 pub fn want_row(shape: &Shape, seat: &Seat, victim: u32, row: &Row) -> Want
     requires seat { IsSeat shape.now seat.now }
     requires victim { victim < shape.now.processors }

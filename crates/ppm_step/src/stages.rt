@@ -16,6 +16,7 @@ use ppm_cells::{Cell, Finish, Restart, RestartKind, Shape};
 use ppm_code::{Code, End, FrameWord, Instr, Location, Reached, Step, reach};
 
 /// Whether the word of a location is there.
+#[inline(always)]
 pub fn location_is_there(shape: &Shape, home: &Home, location: Location) -> bool
     requires { IsHome home.now }
     ensures { result ≡ is_there shape.now (cell_of home.now (location_of location)) }
@@ -32,6 +33,7 @@ pub fn location_is_there(shape: &Shape, home: &Home, location: Location) -> bool
 }
 
 /// The word of a location that is there.
+#[inline(always)]
 pub fn location_cell(shape: &Shape, home: &Home, location: Location) -> Cell
     requires home { IsHome home.now }
     requires there { is_there shape.now (cell_of home.now (location_of location)) ≡ true }
@@ -117,7 +119,7 @@ impl Running {
     }
 
     /// Does the register work up to the next word step, and tells whether that is there.
-    #[inline(never)]
+    #[inline(always)]
     pub fn go_on(&mut self, shape: &Shape, code: &Code, registers: &mut [u64; 64]) -> bool
         requires home { IsHome self.old.home }
         requires place { self.old.seat.place < shape.now.processors }
@@ -130,7 +132,10 @@ impl Running {
     {
         let _ = code.parts().root;
         let Some(capsule) = code.capsule(self.capsule) else {
-            return self.begin_end(shape, code, End::Finish);
+            let mut ending = *self;
+            let there = ending.begin_end(shape, code, End::Finish);
+            *self = ending;
+            return there;
         };
         let stop = reach(
             capsule.instrs.as_slice(),
@@ -153,7 +158,13 @@ impl Running {
                     Step::Asks(_) => true,
                 }
             }
-            Reached::AtEnd(end) => self.begin_end(shape, code, end),
+            Reached::AtEnd(end) => {
+                // By a copy, so that the rest of this function can hold it in registers.
+                let mut ending = *self;
+                let there = ending.begin_end(shape, code, end);
+                *self = ending;
+                there
+            }
         }
     }
 
@@ -279,15 +290,23 @@ impl Running {
             }
             Stage::Before(Step::Stores(_, _)) => Going::Went(self.go_on(shape, code, registers)),
             Stage::Before(Step::Asks(words)) => {
-                Going::Went(self.ask(shape, code, registers, words, found))
+                let mut asking = *self;
+                let there = asking.ask(shape, code, registers, words, found);
+                *self = asking;
+                Going::Went(there)
             }
-            Stage::Ending(end, n) => match self.home.next_put(code, end, n) {
-                None => Going::Installed(self.restart(self.home.installed(end))),
-                Some(_) => {
-                    self.stage = Stage::Ending(end, n + 1);
-                    Going::Went(self.put_is_there(shape, code, end, n + 1))
+            Stage::Ending(end, n) => {
+                let mut ending = *self;
+                match ending.home.next_put(code, end, n) {
+                    None => Going::Installed(ending.restart(ending.home.installed(end))),
+                    Some(_) => {
+                        ending.stage = Stage::Ending(end, n + 1);
+                        let there = ending.put_is_there(shape, code, end, n + 1);
+                        *self = ending;
+                        Going::Went(there)
+                    }
                 }
-            },
+            }
             Stage::Filled => Going::Installed(self.seat.restart),
         }
     }

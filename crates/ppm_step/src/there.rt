@@ -80,6 +80,7 @@ pub fn address(shape: &Shape, cell: Cell) -> u32
 }
 
 /// The word of a restart that names what is there.
+#[inline(always)]
 pub fn restart_word(shape: &Shape, restart: Restart) -> u64
     requires { restart_is_there shape.now restart ≡ true }
     ensures { result ≡ restart_word restart }

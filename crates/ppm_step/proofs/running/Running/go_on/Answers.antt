@@ -4,8 +4,8 @@ use Rattle.ppm_step.proofs.EndLemmas.{reached_end}
 use Rattle.ppm_step.proofs.running.Running.go_on.Goals as goal
 
 -- the end that was come to is one of the code's
-pub begin_end-requires-in-AtEnd : goal.begin_end-requires-in-AtEnd
-begin_end-requires-in-AtEnd c = record {
+pub begin_end-there-requires-in-AtEnd : goal.begin_end-there-requires-in-AtEnd
+begin_end-there-requires-in-AtEnd c = record {
   home = c.requires.home;
   end = reached_end c.args.code.now c.parts.ensures.code c.args.self.now.capsule c.in-Some.capsule.now c.in-Some.ensures
       c.from.result c.args.self.now.next c.reach-stop.result.next c.as_slice.result.now c.args.registers.now c.reach-stop.new.registers
@@ -14,7 +14,7 @@ begin_end-requires-in-AtEnd c = record {
 
 pub returns-in-AtEnd-clause-stage : goal.returns-in-AtEnd-clause-stage
 returns-in-AtEnd-clause-stage c =
-    subst IsStage (sym c.begin_end-in-AtEnd.ensures.stage)
+    subst IsStage (sym c.begin_end-there-in-AtEnd.ensures.stage)
     (reached_end c.args.code.now c.parts.ensures.code c.args.self.now.capsule c.in-Some.capsule.now c.in-Some.ensures
     c.from.result c.args.self.now.next c.reach-stop.result.next c.as_slice.result.now c.args.registers.now c.reach-stop.new.registers
     c.reach-stop.result.what c.in-AtEnd.end c.as_slice.ensures c.reach-stop.ensures.left c.in-AtEnd.is)

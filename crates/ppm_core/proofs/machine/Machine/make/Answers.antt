@@ -3,7 +3,7 @@ use Rattle.std.proofs.lemmas.Option.{slice_get_read}
 use Rattle.ppm_core.specs.Machine.{Holding}
 use Rattle.ppm_core.proofs.LocalLemmas.{one_changed}
 use Rattle.ppm_core.proofs.TurnLemmas.{has_acted, turned_is, told_is}
-use Rattle.ppm_core.proofs.machine.Machine.turn.Goals as goal
+use Rattle.ppm_core.proofs.machine.Machine.make.Goals as goal
 
 -- the words and the processors are as they should be, and counts are turns
 pub invariant_of-self : goal.invariant_of-self
