@@ -48,8 +48,8 @@ use Rattle.ppm_step.specs.There.{restart_is_there}
 use Rattle.ppm_step.specs.Rows.{on_number, on_restart, on_entry, on_holder, on_link, on_outcome, with_kind, if_there, raised, tried, changed, bumped}
 use Rattle.ppm_step.specs.Rows.{pushes, push_at, push_by_order, push_above, push_bottom, left_begins}
 use Rattle.ppm_step.specs.Rows.{unwind_by, branch_outcome, unwound, after_value, target_found, value_found, is_inline, is_last, joins, join_by_order}
-use Rattle.ppm_step.specs.Rows.{join_by, joined, right_begins, right_value}
-use Rattle.ppm_step.specs.Rows.{pop_below, pop_again, pop_above, seek_held, seek_by, seek_holder, bids, seek_dead, seek_top, notes, passes, passes_by}
+use Rattle.ppm_step.specs.Rows.{join_by, join_outcome, right_begins, right_value}
+use Rattle.ppm_step.specs.Rows.{get_back, got_back, empty_above, seek_held, seek_by, seek_holder, bids, seek_dead, seek_top, notes, passes, passes_by}
 use Rattle.ppm_step.specs.Rows.{local_by, seek_entry, seek_closed, taken_so, steals, can_be_taken, taken_message, took, goes_on_with, taken_entry}
 use Rattle.ppm_step.specs.Rows.{at_bottom, above_bottom, below_bottom, by_slot, follows, closed_link, closed_bottom, lowered, makes_bid, bid_again}
 use Rattle.ppm_step.specs.Rows.{bid_holder, found_at, by_places, row_of}
@@ -227,7 +227,7 @@ module _ (s : Shape) where
   joins_link block (ForkLink to copy) = tt
 
   -- both outcomes: what they come to is an end or a trap
-  joined_by : (seat : Seat) (block to copy : ℕ) (outcome : Finish) → SparesRow (joined seat block to copy outcome)
+  joined_by : (seat : Seat) (block to copy : ℕ) (outcome : Finish) → SparesRow (join_outcome seat block to copy outcome)
   joined_by seat block to copy Ended = tt
   joined_by seat block to copy Unset = omega arith
   joined_by seat block to copy (Trapped trap line) = omega arith
@@ -236,7 +236,7 @@ module _ (s : Shape) where
   joined_by seat block to copy Stopped = omega arith
   joined_by seat block to copy (BrokenAt place) = omega arith
 
-  pops_below : (seat : Seat) (e : Entry) → SparesRow (pop_below seat e)
+  pops_below : (seat : Seat) (e : Entry) → SparesRow (get_back seat e)
   pops_below seat (Empty tag) = tt
   pops_below seat (Local tag block) = tt
   pops_below seat (Job tag block) =
@@ -244,7 +244,7 @@ module _ (s : Shape) where
       (entry_far seat.place (seat.restart.bottom - 1))
   pops_below seat (Taken tag taker) = tt
 
-  pops_again : (seat : Seat) (block : ℕ) (e : Entry) → SparesRow (pop_again seat block e)
+  pops_again : (seat : Seat) (block : ℕ) (e : Entry) → SparesRow (got_back seat block e)
   pops_again seat block (Empty tag) = tt
   pops_again seat block (Local tag old) = tt
   pops_again seat block (Job tag old) = tt
@@ -358,17 +358,17 @@ module _ (s : Shape) where
   found_spares seat victim (JoinLeft block to copy) w fits =
       outcome w (λ left. Now (Load (JoinRight block to copy left))) fits tt (λ trap line is_line. tt)
   found_spares seat victim (JoinRight block to copy left) w fits =
-      outcome w (λ right. joined seat block to copy (outcome_of_both left right)) fits (joined_by seat block to copy (outcome_of_both left Ended))
+      outcome w (λ right. join_outcome seat block to copy (outcome_of_both left right)) fits (joined_by seat block to copy (outcome_of_both left Ended))
       (λ trap line is_line. joined_by seat block to copy (outcome_of_both left (Trapped trap line)))
   found_spares seat victim (RightFrame block to copy) w fits =
       number w (right_value s block to copy)
       (λ offset. there (block + offset) (Now (Load (Target (block + offset) to copy None))) tt)
   found_spares seat victim (Offset block bottom) w fits =
       number w (right_begins s block bottom) (λ offset. there (block + offset) (Now (Begin block (block + offset) bottom)) tt)
-  found_spares seat victim PopBelow w fits = entry w (pop_below seat) (pops_below seat)
-  found_spares seat victim (PopAgain block) w fits = entry w (pop_again seat block) (pops_again seat block)
+  found_spares seat victim PopBelow w fits = entry w (get_back seat) (pops_below seat)
+  found_spares seat victim (PopAgain block) w fits = entry w (got_back seat block) (pops_again seat block)
   found_spares seat victim (PopAbove block) w fits =
-      entry w (pop_above seat block)
+      entry w (empty_above seat block)
       (λ e. tries (EntryWord seat.place seat.restart.bottom) e (popped_above e) (Load (Offset block (seat.restart.bottom - 1)))
       (entry_far seat.place seat.restart.bottom))
   found_spares seat victim SeekHolder w fits =

@@ -7,8 +7,8 @@ use Rattle.ppm_step.specs.declared.local.Local.{Local}
 use Rattle.ppm_step.specs.declared.local.Stand.{Stand}
 use Rattle.ppm_step.specs.declared.local.Stand.TheVariants.{Lost, Placed, At, Within, Runs, Broken, Done}
 use Rattle.ppm_step.specs.Facts.{IsRow, IsSeat}
-use Rattle.ppm_step.specs.Stages.{rest_at, IsRunning}
-use Rattle.ppm_step.specs.Standings.{Standing, IsLost, IsPlaced, IsAt, IsWithin, IsRunning as IsRunningAt, IsBroken, IsDone, row_is_there, went_rest}
+use Rattle.ppm_step.specs.Stages.{rest_at, IsUnderWay}
+use Rattle.ppm_step.specs.Standings.{Standing, IsLost, IsPlaced, IsAt, IsWithin, IsRunning, IsBroken, IsDone, row_is_there, went_rest}
 
 -- as the rules say it
 abbrev pub standing_at : Shape → CodeParts → List ℕ → Stand → Standing
@@ -16,7 +16,7 @@ standing_at s code registers Lost = IsLost
 standing_at s code registers (Placed place) = IsPlaced place
 standing_at s code registers (At place restart) = IsAt place restart
 standing_at s code registers (Within seat row) = IsWithin seat row
-standing_at s code registers (Runs running) = IsRunningAt running.seat (rest_at s code running running.stage registers)
+standing_at s code registers (Runs running) = IsRunning running.seat (rest_at s code running running.stage registers)
 standing_at s code registers (Broken place) = IsBroken place
 standing_at s code registers Done = IsDone
 
@@ -29,7 +29,7 @@ StandsFor s code own registers Lost = Unit {0}
 StandsFor s code own registers (Placed place) = place < s.processors
 StandsFor s code own registers (At place restart) = (place < s.processors) × IfSome restart IsRestart
 StandsFor s code own registers (Within seat row) = IsSeat s seat × (seat.own ≡ own) × IsRow row × (row_is_there s seat row ≡ true)
-StandsFor s code own registers (Runs running) = IsRunning s code running registers × (running.seat.own ≡ own)
+StandsFor s code own registers (Runs running) = IsUnderWay s code running registers × (running.seat.own ≡ own)
 StandsFor s code own registers (Broken place) = place < 65
 StandsFor s code own registers Done = Unit {0}
 

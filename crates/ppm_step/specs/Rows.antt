@@ -187,9 +187,9 @@ join_by block (ForkLink to copy) = Now (Load (JoinLeft block to copy))
 join_by block _ = Now Broken
 
 -- both outcomes are there
-abbrev pub joined : Seat → (block to copy : ℕ) → Finish → Row
-joined seat block to copy Ended = Now (Load (Target (block + 5) to copy (Some block)))
-joined seat block to copy outcome = trapped seat to outcome
+abbrev pub join_outcome : Seat → (block to copy : ℕ) → Finish → Row
+join_outcome seat block to copy Ended = Now (Load (Target (block + 5) to copy (Some block)))
+join_outcome seat block to copy outcome = trapped seat to outcome
 
 -- the right branch of a block begins, where its frame is there
 abbrev pub right_begins : Shape → (block bottom offset : ℕ) → Row
@@ -199,21 +199,21 @@ abbrev pub right_value : Shape → (block to copy offset : ℕ) → Row
 right_value s block to copy offset = if_there s (block + offset) (Now (Load (Target (block + offset) to copy None)))
 
 -- Pop1: the job below the bottom is got back
-abbrev pub pop_below : Seat → Entry → Row
-pop_below seat (Empty tag) = Now Broken
-pop_below seat (Local tag block) = Now (with_kind seat (Pop2 block))
-pop_below seat (Job tag block) =
+abbrev pub get_back : Seat → Entry → Row
+get_back seat (Empty tag) = Now Broken
+get_back seat (Local tag block) = Now (with_kind seat (Pop2 block))
+get_back seat (Job tag block) =
     tried (EntryWord seat.place (seat.restart.bottom - 1)) (Job tag block) (Some (Local (tag + 1) block)) (with_kind seat (Pop2 block))
-pop_below seat (Taken tag taker) = Now (with_kind seat Seek)
+get_back seat (Taken tag taker) = Now (with_kind seat Seek)
 
 -- Pop2: if it still is, the entry above is emptied
-abbrev pub pop_again : Seat → (block : ℕ) → Entry → Row
-pop_again seat block (Local tag old) = Now (Load (PopAbove block))
-pop_again seat block (Taken tag taker) = Now (with_kind seat Seek)
-pop_again seat block _ = Now Broken
+abbrev pub got_back : Seat → (block : ℕ) → Entry → Row
+got_back seat block (Local tag old) = Now (Load (PopAbove block))
+got_back seat block (Taken tag taker) = Now (with_kind seat Seek)
+got_back seat block _ = Now Broken
 
-abbrev pub pop_above : Seat → (block : ℕ) → Entry → Row
-pop_above seat block entry =
+abbrev pub empty_above : Seat → (block : ℕ) → Entry → Row
+empty_above seat block entry =
     tried (EntryWord seat.place seat.restart.bottom) entry (popped_above entry) (Load (Offset block (seat.restart.bottom - 1)))
 
 -- Seek: the own place is no victim; by places a dead holder's place is bid for, and else its jobs are looked at
@@ -379,12 +379,12 @@ found_at s seat victim (GivenValue frame to copy target right_of) w = on_number 
 found_at s seat victim (JoinOrder block side) w = on_number w (join_by_order seat block side)
 found_at s seat victim (JoinLink block) w = on_link w (λ link. join_by block link.kind)
 found_at s seat victim (JoinLeft block to copy) w = on_outcome w (λ left. Now (Load (JoinRight block to copy left)))
-found_at s seat victim (JoinRight block to copy left) w = on_outcome w (λ right. joined seat block to copy (outcome_of_both left right))
+found_at s seat victim (JoinRight block to copy left) w = on_outcome w (λ right. join_outcome seat block to copy (outcome_of_both left right))
 found_at s seat victim (RightFrame block to copy) w = on_number w (right_value s block to copy)
 found_at s seat victim (Offset block bottom) w = on_number w (right_begins s block bottom)
-found_at s seat victim PopBelow w = on_entry w (pop_below seat)
-found_at s seat victim (PopAgain block) w = on_entry w (pop_again seat block)
-found_at s seat victim (PopAbove block) w = on_entry w (pop_above seat block)
+found_at s seat victim PopBelow w = on_entry w (get_back seat)
+found_at s seat victim (PopAgain block) w = on_entry w (got_back seat block)
+found_at s seat victim (PopAbove block) w = on_entry w (empty_above seat block)
 found_at s seat victim SeekHolder w = on_holder w (seek_holder s seat victim)
 found_at s seat victim (SeekDead v holder) w = on_number w (seek_dead seat v holder)
 found_at s seat victim (SeekTop v) w = on_number w (seek_top s v)

@@ -43,7 +43,7 @@ IsStage (Ending end n) = IsEnd end
 IsStage _ = Unit {0}
 
 -- its numbers fit the words, and what it asks next is there
-pub record IsRunning (s : Shape) (code : CodeParts) (running : Running) (registers : List ℕ) : Type 0 where
+pub record IsUnderWay (s : Shape) (code : CodeParts) (running : Running) (registers : List ℕ) : Type 0 where
   pub seat : IsSeat s running.seat
   pub home : IsHome running.home
   pub capsule : running.capsule < length code.capsules
@@ -57,5 +57,5 @@ went_on seat rest (Installed restart) = IsAt seat.place (Some restart)
 
 -- and what then holds
 abbrev pub WentOn : Shape → CodeParts → Running → List ℕ → Going → Type 0
-WentOn s code running registers (Went there) = there ≡ true → IsRunning s code running registers
+WentOn s code running registers (Went there) = there ≡ true → IsUnderWay s code running registers
 WentOn s code running registers (Installed restart) = IsRestart restart

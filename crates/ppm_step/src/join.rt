@@ -4,7 +4,7 @@ ghost use Rattle.ppm_cells.specs.Fields.{Fit};
 ghost use Rattle.ppm_cells.specs.Finish.{IsFinish, IsOutcome};
 ghost use Rattle.ppm_cells.specs.Link.{link_address};
 ghost use Rattle.ppm_join.specs.Outcome.{outcome_of_both};
-ghost use Rattle.ppm_step.specs.Rows.{arrives, is_inline, is_last, join_by_order, join_by, joined, right_begins, right_value};
+ghost use Rattle.ppm_step.specs.Rows.{arrives, is_inline, is_last, join_by_order, join_by, join_outcome, right_begins, right_value};
 ghost use Rattle.ppm_step.specs.Facts.{IsAddress, IsRow};
 
 use crate::content::Content;
@@ -83,7 +83,7 @@ pub fn join_outcome(seat: &Seat, block: u32, to: u32, copy: u32, outcome: Finish
     requires block { IsAddress block }
     requires to { IsAddress to }
     requires fits { IsFinish outcome }
-    ensures value { result ≡ joined seat.now block to copy outcome }
+    ensures value { result ≡ join_outcome seat.now block to copy outcome }
     ensures fits { IsRow result }
 {
     match outcome {

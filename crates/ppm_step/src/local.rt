@@ -64,7 +64,7 @@ impl Local {
     ghost use Rattle.ppm_code.specs.declared.act.End.TheVariants.{Next as GoesTo};
     ghost use Rattle.ppm_step.specs.Frames.{ending};
     ghost use Rattle.ppm_step.specs.Rows.{row_of};
-    ghost use Rattle.ppm_step.specs.Stages.{IsRunning, rest_at};
+    ghost use Rattle.ppm_step.specs.Stages.{IsUnderWay, rest_at};
     ghost use Rattle.ppm_step.specs.declared.running.Stage.TheVariants.{Ending};
     ghost use Rattle.ppm_step.specs.State.{next_of};
     ghost use Rattle.ppm_step.specs.declared.row.Point.TheVariants.{Header};
@@ -213,7 +213,7 @@ impl Local {
     /// Goes on with what a step of this capsule has found.
     #[inline(always)]
     fn observe_run(&mut self, shape: &Shape, code: &Code, running: Running, found: u64)
-        requires running { IsRunning shape.now code.now running self.old.registers }
+        requires running { IsUnderWay shape.now code.now running self.old.registers }
         requires own { running.seat.own ≡ self.old.own }
         requires carrier { self.old.own < shape.now.processors }
         ensures stands { standing_of shape.now code.now self.new
@@ -252,7 +252,7 @@ impl Local {
     #[inline(always)]
     #[tactic(auto, using(crate::proofs::ThereLemmas::restart_fits))]
     fn observe_next(&mut self, shape: &Shape, code: &Code, running: Running, capsule: u32, n: usize)
-        requires running { IsRunning shape.now code.now running self.old.registers }
+        requires running { IsUnderWay shape.now code.now running self.old.registers }
         requires own { running.seat.own ≡ self.old.own }
         requires carrier { self.old.own < shape.now.processors }
         requires stage { running.stage ≡ Ending (GoesTo capsule) n }

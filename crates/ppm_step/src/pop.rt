@@ -1,7 +1,7 @@
 //! The rows by which a place gets its job back.
 ghost use Rattle.std.specs.Prelude.{◌≡◌, ◌+◌, ◌≤◌, ◌<◌, IsTrue};
 ghost use Rattle.ppm_cells.specs.Entry.{IsEntry};
-ghost use Rattle.ppm_step.specs.Rows.{pop_below, pop_again, pop_above};
+ghost use Rattle.ppm_step.specs.Rows.{get_back, got_back, empty_above};
 ghost use Rattle.ppm_step.specs.Facts.{IsAddress, IsRow};
 
 use crate::entries::{rises, try_change};
@@ -13,7 +13,7 @@ use ppm_deque::{Pop, pop_above, pop_below};
 pub fn get_back(seat: &Seat, entry: Entry) -> Row
     requires entry { IsEntry entry }
     requires bottom { 1 ≤ seat.now.restart.bottom }
-    ensures value { result ≡ pop_below seat.now entry }
+    ensures value { result ≡ get_back seat.now entry }
     ensures fits { IsRow result }
 {
     match entry {
@@ -45,7 +45,7 @@ pub fn get_back(seat: &Seat, entry: Entry) -> Row
 /// If the entry was got back, the one above it is looked at.
 pub fn got_back(seat: &Seat, block: u32, entry: Entry) -> Row
     requires block { IsAddress block }
-    ensures value { result ≡ pop_again seat.now block entry }
+    ensures value { result ≡ got_back seat.now block entry }
     ensures fits { IsRow result }
 {
     match entry {
@@ -60,7 +60,7 @@ pub fn empty_above(seat: &Seat, block: u32, entry: Entry) -> Row
     requires block { IsAddress block }
     requires entry { IsEntry entry }
     requires bottom { 1 ≤ seat.now.restart.bottom }
-    ensures value { result ≡ pop_above seat.now block entry }
+    ensures value { result ≡ empty_above seat.now block entry }
     ensures fits { IsRow result }
 {
     let next = Then::Load(Point::Offset {

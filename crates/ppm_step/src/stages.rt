@@ -65,7 +65,7 @@ impl Running {
     ghost use Rattle.ppm_step.specs.declared.running.Stage.TheVariants.{Ending};
     ghost use Rattle.ppm_step.specs.Facts.{IsHome, IsEnd, IsSeat};
     ghost use Rattle.ppm_step.specs.Standings.{rest_is_there, running, running_if, wanted_rest, went_rest, WantIsWithin};
-    ghost use Rattle.ppm_step.specs.Stages.{rest_at, rest_from, asked, went_on, IsRunning, IsStage, WentOn};
+    ghost use Rattle.ppm_step.specs.Stages.{rest_at, rest_from, asked, went_on, IsUnderWay, IsStage, WentOn};
 
     /// The restart of a kind at its place.
     pub fn restart(&self, kind: RestartKind) -> Restart
@@ -193,7 +193,7 @@ impl Running {
     /// The word step that comes next.
     #[inline(always)]
     pub fn want(&self, shape: &Shape, code: &Code, registers: &[u64; 64]) -> Want
-        requires { IsRunning shape.now code.now self.now registers.now }
+        requires { IsUnderWay shape.now code.now self.now registers.now }
         ensures value { result ≡ wanted_rest shape.now self.now.seat (rest_at shape.now code.now self.now self.now.stage registers.now) }
         ensures within { WantIsWithin shape.now result }
     {
@@ -277,7 +277,7 @@ impl Running {
         registers: &mut [u64; 64],
         found: u64,
     ) -> Going
-        requires { IsRunning shape.now code.now self.old registers.old }
+        requires { IsUnderWay shape.now code.now self.old registers.old }
         ensures stands { went_on self.old.seat (rest_at shape.now code.now self.new self.new.stage registers.new) result
             ≡ went_rest shape.now self.old.seat found (rest_at shape.now code.now self.old self.old.stage registers.old) }
         ensures holds { WentOn shape.now code.now self.new registers.new result }

@@ -26,7 +26,7 @@ impl Local {
     ghost use Rattle.ppm_code.specs.declared.act.End.TheVariants.{Next as GoesTo};
     ghost use Rattle.ppm_step.specs.Frames.{ending};
     ghost use Rattle.ppm_step.specs.Rows.{row_of};
-    ghost use Rattle.ppm_step.specs.Stages.{IsRunning};
+    ghost use Rattle.ppm_step.specs.Stages.{IsUnderWay};
     ghost use Rattle.ppm_step.specs.declared.running.Stage.TheVariants.{Ending};
     ghost use Rattle.ppm_step.specs.State.{next_of};
     ghost use Rattle.ppm_step.specs.declared.row.Point.TheVariants.{Header};
