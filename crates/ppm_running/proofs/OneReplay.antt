@@ -1,5 +1,5 @@
 -- A text has one answer where it is replayed: its program begins one run, with the one keeper of the schedule.
-use Rattle.std.proofs.Common.{◌≡◌, ◌⊎◌, ◌<◌, ◌≤◌, ℕ, true, false, List, ◌++◌, length, refl, sym, ap, ◌∙◌, subst, inl, inr, arith}
+use Rattle.std.proofs.Common.{◌≡◌, ◌⊎◌, ◌<◌, ℕ, List, ◌++◌, length, refl, sym, ap, ◌∙◌, subst, inl, inr, arith}
 use Rattle.ppm_text.specs.Limits.{text_limit}
 use Rattle.ppm_text.proofs.LexingLemmas.{lexed_stands}
 use Rattle.ppm_core.specs.Situation.{Situation}

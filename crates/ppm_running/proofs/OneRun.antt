@@ -1,31 +1,25 @@
 -- A text has no two answers where it is run: its program begins one machine, with the one keeper of the plan, and its one processor has one
 -- run in which it obeys.
-use Rattle.std.proofs.Common.{◌≡◌, ◌⊎◌, ◌<◌, ◌≤◌, ℕ, true, false, List, ◌++◌, length, refl, sym, ap, ◌∙◌, subst, inl, inr, arith}
-use Rattle.std.proofs.lemmas.Bool.{cases_lt}
+use Rattle.std.proofs.Common.{◌≡◌, ◌⊎◌, ◌<◌, ℕ, List, ◌++◌, length, refl, sym, ap, ◌∙◌, subst, inl, inr, arith}
 use Rattle.ppm_text.specs.Limits.{text_limit}
-use Rattle.ppm_text.proofs.LexingLemmas.{lexed_stands}
 use Rattle.ppm_core.specs.Situation.{Situation, run_on}
 use Rattle.ppm_layout.specs.Correct.{ImagesAreOne}
 use Rattle.ppm_plan.specs.declared.plan_item.PlanItem.{PlanItem}
 use Rattle.ppm_plan.specs.Correct.{HaveOneAnswer as PlansHaveOneAnswer}
-use Rattle.ppm_plan.specs.Forms.{Form, plan_form}
-use Rattle.ppm_plan.specs.Refusals.{IsAccepted, IsKeeper, is_killed}
+use Rattle.ppm_plan.specs.Forms.{plan_form}
 use Rattle.ppm_cells.specs.declared.shape.Shape.{Shape}
 use Rattle.ppm_code.specs.declared.code.CodeParts.{CodeParts}
 use Rattle.ppm_pace.specs.Laws.{HasOneRun}
 use Rattle.ppm_pace.specs.Obeying.{nothing_done}
 use Rattle.ppm_tree.specs.Tree.{ProgramTree}
-use Rattle.ppm_tree.specs.Limits.{IsWithin}
 use Rattle.ppm_tree.specs.Program.{initial_arrays}
-use Rattle.ppm_rows.specs.Correct.{TreesAreWithin}
-use Rattle.ppm_judging.specs.Programs.{HasProgram, IsTreeOf}
+use Rattle.ppm_judging.specs.Programs.{HasProgram}
 use Rattle.ppm_judging.specs.Refusals.{IsRefusal}
 use Rattle.ppm_judging.specs.Correct.{HaveOneAnswer as TextsHaveOneProgram}
 use Rattle.ppm_answers.specs.declared.refusal.Refusal.{Refusal}
 use Rattle.ppm_answers.specs.declared.answer.Answer.{Answer}
 use Rattle.ppm_answers.specs.declared.answer.Answer.TheVariants as answers
 use Rattle.ppm_line.specs.declared.run.RunOptions.{RunOptions}
-use Rattle.ppm_line.specs.Words.{AreReplayed}
 use Rattle.ppm_running.specs.Loading.{Begins}
 use Rattle.ppm_running.specs.Alone.{ObeysTo}
 use Rattle.ppm_running.specs.Runs.{IsSaid, plan_of, limits_of, sizes_of, ProgramHas, TextHas, AnswersAreOne}

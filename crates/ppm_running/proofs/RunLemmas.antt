@@ -24,9 +24,6 @@ use Rattle.ppm_tree.specs.Tree.{ProgramTree}
 use Rattle.ppm_tree.specs.Program.{initial_arrays}
 use Rattle.ppm_translation.specs.Routines.{code_of}
 use Rattle.ppm_judging.specs.Programs.{HasProgram}
-use Rattle.ppm_answers.specs.declared.refusal.Refusal.{Refusal}
-use Rattle.ppm_answers.specs.declared.tally.Tally.{Tally}
-use Rattle.ppm_answers.specs.declared.status.Status.{Status}
 use Rattle.ppm_answers.specs.declared.status.Status.TheVariants as statuses
 use Rattle.ppm_answers.specs.Statuses.{status_of}
 use Rattle.ppm_answers.specs.declared.answer.Answer.{Answer}

@@ -22,13 +22,13 @@ use Rattle.ppm_step.specs.declared.turn.Why.{Why}
 use Rattle.ppm_step.specs.declared.turn.Why.TheVariants.{Turns}
 use Rattle.ppm_step.specs.Laws.{IsNoQuit, IsProposedWord, finish_at}
 use Rattle.ppm_step.specs.Standings.{Standing, IsDone}
-use Rattle.ppm_step.specs.State.{State, stand_of, quit_with, happens, after, along, opening, next_of, work_of, work_next, step_by}
+use Rattle.ppm_step.specs.State.{State, stand_of, quit_with, happens, after, along, opening, next_of, work_of}
 use Rattle.ppm_step.proofs.FinishLemmas.{finish_stays, finish_is_proposed, quit_is_told}
 use Rattle.ppm_core.specs.Situation.{Situation, loaded, run_on, finish_in}
 use Rattle.ppm_core.proofs.TurnLemmas.{work_is as work_counts}
 use Rattle.ppm_pace.specs.declared.limits.Limits.{Limits}
 use Rattle.ppm_pace.specs.Deeds.{AreOf}
-use Rattle.ppm_pace.specs.Obeying.{Past, nothing_done, is_work, is_step, is_work_deed, fault_of, faulted, next_act, next_step, behind}
+use Rattle.ppm_pace.specs.Obeying.{Past, nothing_done, is_work, is_step, is_work_deed, fault_of, faulted, behind}
 use Rattle.ppm_pace.proofs.AloneLemmas.{deed_of, ObeysFrom, first_obeys}
 use Rattle.ppm_tree.specs.Tree.{ProgramTree}
 use Rattle.ppm_translation.specs.Routines.{code_of}
