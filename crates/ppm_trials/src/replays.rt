@@ -150,7 +150,7 @@ fn swept(
 const ROUNDS: u32 = 400;
 
 /// Fails unless the sum is the same with a fault behind each number of rounds of acts of all processors, and ends within these acts
-/// without it. The deques have room for no job, or for some.
+/// without it. The deques have room for no job, for some, or for all.
 fn sum_is_swept(
     rt: &impl Abort,
     alloc: Global,
@@ -165,7 +165,7 @@ fn sum_is_swept(
         fault,
     };
     for takeover in [TakeoverName::Place, TakeoverName::Entry] {
-        for slots in [2, 4] {
+        for slots in [2, 4, 4096] {
             let options = ReplayOptions {
                 processors,
                 slots,
@@ -205,25 +205,31 @@ fn a_sum_is_the_same_where_processors_die(rt: HostRuntime) -> Result<(), Fail> {
     Ok(())
 }
 
+#[test]
+fn a_thief_stops_anywhere_in_its_theft(rt: HostRuntime) -> Result<(), Fail> {
+    // The job stands from act 30 on (31 where entries are taken over). Behind 12 (11) acts the thief has exchanged the entry for its own,
+    // and has not installed what comes next; the front of 30 acts more is past its take.
+    for takeover in [TakeoverName::Place, TakeoverName::Entry] {
+        let options = ReplayOptions { takeover, ..TWO };
+        for fault in ["1!s", "1!h"] {
+            let sweep = Sweep {
+                front: "0*31,",
+                round: "1,",
+                most: 40,
+                fault,
+            };
+            swept(&rt, rt.alloc(), options, sweep, FORK)?;
+        }
+    }
+    Ok(())
+}
+
 /// Behind these acts the place that stole has exchanged the entry for its own, and has not installed what comes next: where places are
 /// taken over, and where entries are.
 const STOLEN: [(TakeoverName, &str); 2] = [
     (TakeoverName::Place, "0*30,1*12,"),
     (TakeoverName::Entry, "0*31,1*11,"),
 ];
-
-#[test]
-fn a_thief_stops_behind_its_exchange(rt: HostRuntime) -> Result<(), Fail> {
-    for (takeover, stolen) in STOLEN {
-        let options = ReplayOptions { takeover, ..TWO };
-        for fault in ["1!s", "1!h"] {
-            let mut schedule = String::from_str(rt.alloc(), stolen)?;
-            schedule.push_str(fault)?;
-            is_replayed(&rt, rt.alloc(), options, &schedule, FORK)?;
-        }
-    }
-    Ok(())
-}
 
 #[test]
 fn the_next_one_stops_too(rt: HostRuntime) -> Result<(), Fail> {
