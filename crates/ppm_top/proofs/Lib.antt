@@ -1,2 +1,3 @@
 pub mod CausesLemmas
+pub mod RangeLemmas
 pub mod OfAll

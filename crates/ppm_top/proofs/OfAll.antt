@@ -40,6 +40,7 @@ use Rattle.ppm_showing.proofs.OfCode.{code_rows}
 use Rattle.ppm_answers.specs.Reading.{IsUnread, JudgingMay, Answers}
 use Rattle.ppm_answers.specs.Rows.{IsOneOf}
 use Rattle.ppm_top.specs.Causes.{NoCommandMay, CommandMay, IsAnswered}
+use Rattle.ppm_top.proofs.RangeLemmas.{run_is_in_range}
 use Rattle.ppm_top.specs.Rows.{HasRefusedPlan, OfRun, OfReplay, RefusesWords, ReportsFaults, WritesAccepted, ShowsByWords, ProgramRows}
 use Rattle.ppm_answers.proofs.Delivered as delivered
 use Rattle.ppm_answers.proofs.Judged as judged
@@ -198,7 +199,7 @@ shows law words o status a = record { rows = rows; accepted = λ e ended. accept
 pub program_rows : Laws → (words : List (List ℕ)) (o : Outside) (status : Status) → IsAnswered words o status → ProgramRows words o status
 program_rows laws words o status a = record {
   run = λ options plan e. of_run.run_rows options plan o status
-      (subst (λ c. Answers (CommandMay c o) o status) e a) laws.plans (laws.runs options plan);
+      (subst (λ c. Answers (CommandMay c o) o status) e a) (run_is_in_range words options plan e) laws.plans (laws.runs options plan);
   serial = λ options e. serial_rows options.turns (laws.programs options.turns) o status
       (subst (λ c. Answers (CommandMay c o) o status) e a);
   code = shows laws.codes words o status a;
