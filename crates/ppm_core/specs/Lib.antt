@@ -2,3 +2,4 @@ pub mod Acts
 pub mod Situation
 pub mod Machine
 pub mod Laws
+pub mod Steps

