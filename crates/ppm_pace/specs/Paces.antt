@@ -1,5 +1,5 @@
 -- The pace of a processor as its past says it, and what is chosen by it.
-use Rattle.std.specs.Prelude.{◌≡◌, ◌↔◌, ℕ, ◌^◌, ◌&&◌, not, nat_le, min, if◌then◌else◌, IsTrue, Bool, true, false, Option, Some, None}
+use Rattle.std.specs.Prelude.{◌≡◌, ◌↔◌, ◌<◌, ℕ, ◌+◌, ◌^◌, ◌&&◌, not, nat_le, min, if◌then◌else◌, IsTrue, Bool, true, false, Option, Some, None}
 use Rattle.ppm_plan.specs.declared.fault.Fault.{Fault}
 use Rattle.ppm_plan.specs.declared.fault.Fault.TheVariants as faults
 use Rattle.ppm_plan.specs.Forms.{plan_form}
@@ -55,3 +55,8 @@ abbrev pub chosen : Planned → Limits → Pace → Choice
 chosen plan limits pace =
     if is_seek pace.next && not pace.keeper && nat_le limits.looks pace.looks then Leave else
     by_fault (fault_of plan.items pace.processor pace.acts) (unfaulted limits pace)
+
+-- steps in a row for which no victim is due are its next acts: the plan has no fault for any of them, and there is a work turn left for each
+abbrev pub AreClear : Planned → Limits → (processor : ℕ) → Past → (steps : ℕ) → Type 0
+AreClear plan limits processor past steps =
+    (k : ℕ) → k < steps → (fault_of plan.items processor (past.acts + k) ≡ None) × (past.work + k < limits.turns)

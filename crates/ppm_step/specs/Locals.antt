@@ -1,11 +1,13 @@
 -- Where a processor stands, as its registers say it.
-use Rattle.std.specs.Prelude.{◌≡◌, ℕ, ◌<◌, true, List, IfSome}
+use Rattle.std.specs.Prelude.{◌≡◌, ℕ, ◌<◌, true, List, IfSome, Option, Some, None}
 use Rattle.ppm_cells.specs.Restart.{IsRestart}
 use Rattle.ppm_cells.specs.declared.shape.Shape.{Shape}
 use Rattle.ppm_code.specs.declared.code.CodeParts.{CodeParts}
 use Rattle.ppm_step.specs.declared.local.Local.{Local}
 use Rattle.ppm_step.specs.declared.local.Stand.{Stand}
 use Rattle.ppm_step.specs.declared.local.Stand.TheVariants.{Lost, Placed, At, Within, Runs, Broken, Done}
+use Rattle.ppm_step.specs.declared.row.Seat.{Seat}
+use Rattle.ppm_step.specs.declared.running.Running.{Running}
 use Rattle.ppm_step.specs.Facts.{IsRow, IsSeat}
 use Rattle.ppm_step.specs.Stages.{rest_at, IsUnderWay}
 use Rattle.ppm_step.specs.Standings.{Standing, IsLost, IsPlaced, IsAt, IsWithin, IsRunning, IsBroken, IsDone, row_is_there, went_rest}
@@ -44,3 +46,8 @@ went_running s code registers found stand = standing_at s code registers stand
 
 abbrev pub went_if_running : Shape → CodeParts → Local → (found : ℕ) → Standing
 went_if_running s code local found = went_running s code local.registers found local.stand
+
+-- where a processor stands that has entered a capsule, or has met broken words as it did so
+abbrev pub HasEntered : Shape → CodeParts → Seat → List ℕ → Standing → Option Running → Type 0
+HasEntered s code seat registers standing None = standing ≡ IsBroken seat.place
+HasEntered s code seat registers standing (Some running) = standing ≡ IsRunning running.seat (rest_at s code running running.stage registers)

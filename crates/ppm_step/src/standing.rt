@@ -1,6 +1,10 @@
 //! Where a processor comes to stand.
-ghost use Rattle.std.specs.Prelude.{◌≡◌, true, Some};
+ghost use Rattle.std.specs.Prelude.{◌≡◌, true, Some, slice_get, IfSome};
 ghost use Rattle.ppm_cells.specs.Restart.{IsRestart};
+ghost use Rattle.ppm_step.specs.Facts.{IsSeat};
+ghost use Rattle.ppm_step.specs.Locals.{HasEntered};
+ghost use Rattle.ppm_step.specs.Stages.{IsUnderWay};
+ghost use Rattle.ppm_step.specs.Standings.{enters};
 ghost use Rattle.ppm_step.specs.There.{restart_is_there};
 ghost use Rattle.ppm_step.specs.declared.local.Stand.TheVariants.{At};
 
@@ -69,35 +73,9 @@ impl Local {
         ensures own_stays { self.new.own ≡ self.old.own }
     {
         let place = seat.place;
-        let RestartKind::Run { frame, copy } = seat.restart.kind else {
-            self.meet_broken(place);
-            return;
-        };
-        if number >= code.parts().capsules.as_slice().len() as u64 {
-            self.meet_broken(place);
-            return;
-        }
-        let Some(found) = code.capsule(number as u32) else {
-            self.meet_broken(place);
-            return;
-        };
-        let _ = found.procedure;
-        let mut running = Running {
-            seat,
-            home: Home {
-                frame,
-                copy,
-                block: 0,
-            },
-            capsule: number as u32,
-            next: 0,
-            stage: Stage::Filled,
-        };
-        self.registers = [0; 64];
-        if running.go_on(shape, code, &mut self.registers) {
-            self.stand = Stand::Runs(running);
-        } else {
-            self.meet_broken(place);
+        match entered(shape, code, seat, number, &mut self.registers) {
+            Some(running) => self.stand = Stand::Runs(running),
+            None => self.meet_broken(place),
         }
     }
 
@@ -228,6 +206,48 @@ impl Local {
             | RestartKind::Take { .. }
             | RestartKind::Take2 { .. } => self.begin_row(shape, code, seat),
         }
+    }
+}
+
+/// The capsule with a number, begun by the seat's frame with registers of 0, up to its first word step; `None` where the place has
+/// met broken words: there is no such capsule, or that word isn't there.
+#[inline(always)]
+pub fn entered(
+    shape: &Shape,
+    code: &Code,
+    seat: Seat,
+    number: u64,
+    registers: &mut [u64; 64],
+) -> Option<Running>
+    requires { IsSeat shape.now seat }
+    ensures stands { HasEntered shape.now code.now seat registers.new
+        (enters shape.now code.now seat seat.restart.kind (slice_get code.now.capsules number)) result }
+    ensures holds { IfSome result (λ running. IsUnderWay shape.now code.now running registers.new × (running.seat ≡ seat)) }
+{
+    let RestartKind::Run { frame, copy } = seat.restart.kind else {
+        return None;
+    };
+    if number >= code.parts().capsules.as_slice().len() as u64 {
+        return None;
+    }
+    let found = code.capsule(number as u32)?;
+    let _ = found.procedure;
+    let mut running = Running {
+        seat,
+        home: Home {
+            frame,
+            copy,
+            block: 0,
+        },
+        capsule: number as u32,
+        next: 0,
+        stage: Stage::Filled,
+    };
+    *registers = [0; 64];
+    if running.go_on(shape, code, registers) {
+        Some(running)
+    } else {
+        None
     }
 }
 
