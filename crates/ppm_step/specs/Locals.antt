@@ -1,16 +1,21 @@
 -- Where a processor stands, as its registers say it.
-use Rattle.std.specs.Prelude.{◌≡◌, ℕ, ◌<◌, true, List, IfSome, Option, Some, None}
+use Rattle.std.specs.Prelude.{◌≡◌, ℕ, ◌<◌, ◌+◌, true, List, IfSome, Option, Some, None}
+use Rattle.ppm_cells.specs.Cells.{word_count}
 use Rattle.ppm_cells.specs.Restart.{IsRestart}
+use Rattle.ppm_cells.specs.declared.restart.RestartKind.TheVariants.{Run}
 use Rattle.ppm_cells.specs.declared.shape.Shape.{Shape}
 use Rattle.ppm_code.specs.declared.code.CodeParts.{CodeParts}
 use Rattle.ppm_step.specs.declared.local.Local.{Local}
 use Rattle.ppm_step.specs.declared.local.Stand.{Stand}
 use Rattle.ppm_step.specs.declared.local.Stand.TheVariants.{Lost, Placed, At, Within, Runs, Broken, Done}
+use Rattle.ppm_step.specs.declared.row.Point.TheVariants.{Header}
+use Rattle.ppm_step.specs.declared.row.Row.TheVariants.{Now}
 use Rattle.ppm_step.specs.declared.row.Seat.{Seat}
+use Rattle.ppm_step.specs.declared.row.Then.TheVariants.{Load}
 use Rattle.ppm_step.specs.declared.running.Running.{Running}
 use Rattle.ppm_step.specs.Facts.{IsRow, IsSeat}
 use Rattle.ppm_step.specs.Stages.{rest_at, IsUnderWay}
-use Rattle.ppm_step.specs.Standings.{Standing, IsLost, IsPlaced, IsAt, IsWithin, IsRunning, IsBroken, IsDone, row_is_there, went_rest}
+use Rattle.ppm_step.specs.Standings.{Standing, IsLost, IsPlaced, IsAt, IsWithin, IsRunning, IsBroken, IsDone, begins, row_is_there, went_rest}
 
 -- as the rules say it
 abbrev pub standing_at : Shape → CodeParts → List ℕ → Stand → Standing
@@ -51,3 +56,13 @@ went_if_running s code local found = went_running s code local.registers found l
 abbrev pub HasEntered : Shape → CodeParts → Seat → List ℕ → Standing → Option Running → Type 0
 HasEntered s code seat registers standing None = standing ≡ IsBroken seat.place
 HasEntered s code seat registers standing (Some running) = standing ≡ IsRunning running.seat (rest_at s code running running.stage registers)
+
+-- a seat's frame goes on with the capsule whose number stands at this address, which is loaded where the finish word is 0
+pub record IsHeaderOf (s : Shape) (seat : Seat) (address : ℕ) : Type 0 where
+  pub seat_is : IsSeat s seat
+  pub within : address < word_count s
+  pub frame : ℕ
+  pub copy : ℕ
+  pub kind : seat.restart.kind ≡ Run frame copy
+  pub is_at : address ≡ frame + 2 + copy
+  pub begins_with : (code : CodeParts) → begins s code seat.own seat.place (Some seat.restart) ≡ IsWithin seat (Now (Load (Header frame copy)))

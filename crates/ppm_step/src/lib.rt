@@ -39,4 +39,5 @@ pub use laws::{done_has_cause, finish_stays, room_has_cause};
 pub use local::{Local, Stand};
 pub use row::{Point, Row, Seat, Then};
 pub use running::{Running, Stage};
+pub use standing::{entered, header_of};
 pub use turn::{Act, Next, Told, Turn, Why};

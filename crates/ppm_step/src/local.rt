@@ -248,37 +248,6 @@ impl Local {
         }
     }
 
-    /// Goes on behind the n-th store of the end that goes on with a capsule, or behind the store of its restart word.
-    #[inline(always)]
-    #[tactic(auto, using(crate::proofs::ThereLemmas::restart_fits))]
-    fn observe_next(&mut self, shape: &Shape, code: &Code, running: Running, capsule: u32, n: usize)
-        requires running { IsUnderWay shape.now code.now running self.old.registers }
-        requires own { running.seat.own ≡ self.old.own }
-        requires carrier { self.old.own < shape.now.processors }
-        requires stage { running.stage ≡ Ending (GoesTo capsule) n }
-        ensures stands { (found : ℕ) → standing_of shape.now code.now self.new
-            ≡ went_rest shape.now running.seat found (ending code.now running.home (GoesTo capsule) n) }
-        ensures holds { IsLocal shape.now code.now self.new }
-        ensures own_stays { self.new.own ≡ self.old.own }
-    {
-        let place = running.seat.place;
-        if n > 0 {
-            self.stand = Stand::At {
-                place,
-                restart: Some(running.restart(running.home.goes_round())),
-            };
-            return;
-        }
-        if running.next_is_there(shape, 1) {
-            self.stand = Stand::Runs(Running {
-                stage: Stage::Ending(End::Next { capsule }, 1),
-                ..running
-            });
-        } else {
-            self.meet_broken(place);
-        }
-    }
-
     /// Goes on with what any word step found.
     #[inline(never)]
     fn observe_any(&mut self, shape: &Shape, code: &Code, victim: u32, found: u64)
@@ -338,9 +307,7 @@ impl Local {
                 row: Row::Now(Then::Load(Point::Header { .. })),
             } => self.enter(shape, code, seat, found),
             Stand::Runs(running) => match running.stage {
-                Stage::Ending(End::Next { capsule }, n) => {
-                    self.observe_next(shape, code, running, capsule, n);
-                }
+                Stage::Ending(End::Next { .. }, _) => self.observe_run(shape, code, running, found),
                 Stage::Before(Step::Loads(..)) => self.observe_run(shape, code, running, found),
                 Stage::Before(Step::Stores(..)) => self.observe_run(shape, code, running, found),
                 Stage::Before(Step::Asks(_)) | Stage::Ending(..) | Stage::Filled => {

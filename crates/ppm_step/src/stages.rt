@@ -268,6 +268,32 @@ impl Running {
         self.go_on(shape, code, registers)
     }
 
+    /// Goes on behind the n-th store of the end that goes on with a capsule, or behind the store of its restart word.
+    #[inline(always)]
+    #[tactic(auto, using(crate::proofs::ThereLemmas::restart_fits))]
+    fn observe_next(
+        &mut self,
+        shape: &Shape,
+        code: &Code,
+        registers: &[u64; 64],
+        capsule: u32,
+        n: usize,
+    ) -> Going
+        requires running { IsUnderWay shape.now code.now self.old registers.now }
+        requires stage { self.old.stage ≡ Ending (Next capsule) n }
+        ensures stands { (found : ℕ) → went_on self.old.seat (rest_at shape.now code.now self.new self.new.stage registers.now) result
+            ≡ went_rest shape.now self.old.seat found (ending code.now self.old.home (Next capsule) n) }
+        ensures holds { WentOn shape.now code.now self.new registers.now result }
+        ensures seat { self.new.seat ≡ self.old.seat }
+    {
+        let _ = (code.parts().root, registers.len());
+        if n > 0 {
+            return Going::Installed(self.restart(self.home.goes_round()));
+        }
+        self.stage = Stage::Ending(End::Next { capsule }, 1);
+        Going::Went(self.next_is_there(shape, 1))
+    }
+
     /// Goes on with what the word step found.
     #[inline(always)]
     pub fn observe(
@@ -294,6 +320,9 @@ impl Running {
                 let there = asking.ask(shape, code, registers, words, found);
                 *self = asking;
                 Going::Went(there)
+            }
+            Stage::Ending(End::Next { capsule }, n) => {
+                self.observe_next(shape, code, registers, capsule, n)
             }
             Stage::Ending(end, n) => {
                 let mut ending = *self;
