@@ -2,3 +2,5 @@ pub mod ListLemmas
 pub mod LocalLemmas
 pub mod RunLemmas
 pub mod TurnLemmas
+pub mod TrackLemmas
+pub mod StepsLemmas

@@ -136,7 +136,7 @@ fn want_by(local: &Local, shape: &Shape, code: &Code, act: Act) -> Want
 
 /// What a word step finds: the word of a load, and else 0.
 #[inline(always)]
-fn found_by(words: &Vec<u64>, shape: &Shape, want: Want) -> u64
+pub(crate) fn found_by(words: &Vec<u64>, shape: &Shape, want: Want) -> u64
     requires words { AreWordsOf shape.now words.now.items }
     requires within { WantIsWithin shape.now want }
     ensures { result ≡ found_in words.now.items want }
@@ -150,7 +150,7 @@ fn found_by(words: &Vec<u64>, shape: &Shape, want: Want) -> u64
 
 /// Stores what a word step stores.
 #[inline(always)]
-fn store(words: &mut Vec<u64>, shape: &Shape, want: Want)
+pub(crate) fn store(words: &mut Vec<u64>, shape: &Shape, want: Want)
     requires words { AreWordsOf shape.now words.old.items }
     requires within { WantIsWithin shape.now want }
     ensures words { words.new.items ≡ words_after words.old.items want }

@@ -9,6 +9,7 @@ mod acts;
 mod ending;
 mod laws;
 mod machine;
+mod steps;
 
 pub use ending::Ending;
 pub use laws::{done_is_done, turns_follow_on, turns_tell_on};

@@ -13,6 +13,7 @@ ghost use Rattle.ppm_step.specs.Told.{told_of};
 
 use crate::acts::{act_on, count_of, forks_by, is_done, is_work_by, seeks_holder, takes_by};
 use crate::ending::Ending;
+use crate::steps::step_along;
 use ppm_cells::{Cell, Finish, Shape};
 use ppm_code::{Code, End, Step};
 use ppm_layout::Image;
@@ -209,8 +210,11 @@ impl Machine {
         ensures plain { ArePlain (seen self.old) processor result }
         ensures work { EndsInWork (seen self.old) processor result }
     {
-        let _ = (processor, most);
-        0
+        let local = &mut self.locals[processor as usize];
+        let steps = step_along(local, &mut self.words, &self.shape, &self.code, most);
+        self.work += steps.work;
+        self.turns += steps.made;
+        steps.made
     }
 
     /// What the coming step of a processor is.

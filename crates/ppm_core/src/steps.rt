@@ -1,8 +1,9 @@
 //! The steps that one processor makes in a row in capsules of frames: what `act_on` makes of them one by one, with the capsule under way
 //! held apart from the processor between them.
 ghost use Rattle.std.specs.Prelude.{◌≡◌, ◌<◌, ◌≤◌};
-ghost use Rattle.ppm_cells.specs.Memory.{AreWordsOf};
+ghost use Rattle.ppm_cells.specs.Memory.{AreWordsOf, read};
 ghost use Rattle.ppm_cells.specs.Restart.{IsRestart};
+ghost use Rattle.ppm_cells.specs.declared.cell.Cell.TheVariants.{FinishWord};
 ghost use Rattle.ppm_core.specs.Tracks.{track, Leads};
 ghost use Rattle.ppm_step.specs.Locals.{IsLocal, standing_of};
 ghost use Rattle.ppm_step.specs.Stages.{IsUnderWay, WentOn, rest_at, went_on};
@@ -12,13 +13,22 @@ ghost use Rattle.ppm_step.specs.State.{found_in, words_after};
 use crate::acts::{found_by, store};
 use ppm_cells::{Cell, Restart, Shape};
 use ppm_code::{Code, End, Step};
-use ppm_step::{Going, Local, Running, Seat, Stage, Stand, entered, header_of};
+use ppm_step::{Going, Local, Running, Seat, Stage, Stand, Want, entered, header_of};
 
 /// Steps in a row, and how many of them were work.
 #[derive(Clone, Copy, Debug, PartialEq, Eq)]
 pub(crate) struct Steps {
     pub(crate) made: u64,
     pub(crate) work: u64,
+}
+
+/// The finish word.
+#[inline(always)]
+fn finish_word(words: &Vec<u64>, shape: &Shape) -> u64
+    requires { AreWordsOf shape.now words.now.items }
+    ensures { result ≡ read shape.now words.now.items FinishWord }
+{
+    found_by(words, shape, Want::Loads(shape.address(Cell::FinishWord)))
 }
 
 /// Makes the word step of a capsule that comes next, and goes on with what it found.
@@ -132,10 +142,13 @@ fn go_through(
     ensures count { AreWordsOf shape.now words.new.items }
 {
     let place = running.seat.place;
-    let finish = shape.address(Cell::FinishWord) as usize;
     let mut ran = running;
     let mut made = 0;
-    while made < most && words[finish] == 0 {
+    while made < most {
+        if finish_word(words, shape) != 0 {
+            local.stand = Stand::Runs(ran);
+            return made;
+        }
         let going = move_by_stage(&mut ran, &mut local.registers, words, shape, code);
         made += 1;
         match going {
@@ -174,7 +187,7 @@ fn begin(
     requires place { place < shape.now.processors }
     requires restart { IsRestart restart }
     requires words { AreWordsOf shape.now words.old.items }
-    ensures few { result.made ≤ most }
+    ensures few { (result.made ≤ most) × (result.work ≤ result.made) }
     ensures leads { Leads shape.now code.now local.old.own result.made result.work
         (track words.old.items (standing_of shape.now code.now local.old))
         (track words.new.items (standing_of shape.now code.now local.new)) }
@@ -185,7 +198,7 @@ fn begin(
     if most < 2 {
         return NONE;
     }
-    if words[shape.address(Cell::FinishWord) as usize] != 0 {
+    if finish_word(words, shape) != 0 {
         return NONE;
     }
     let seat = Seat {
@@ -196,7 +209,7 @@ fn begin(
     let Some(header) = header_of(shape, seat) else {
         return NONE;
     };
-    let number = words[header as usize];
+    let number = found_by(words, shape, Want::Loads(header));
     let Some(running) = entered(shape, code, seat, number, &mut local.registers) else {
         return NONE;
     };
@@ -210,6 +223,42 @@ fn begin(
 /// No steps.
 const NONE: Steps = Steps { made: 0, work: 0 };
 
+/// Goes through the capsule of a frame in which the processor stands, or before which it stands.
+#[inline(always)]
+fn go_on(
+    local: &mut Local,
+    words: &mut Vec<u64>,
+    shape: &Shape,
+    code: &Code,
+    most: u64,
+) -> Steps
+    requires local { IsLocal shape.now code.now local.old }
+    requires words { AreWordsOf shape.now words.old.items }
+    ensures few { (result.made ≤ most) × (result.work ≤ result.made) }
+    ensures leads { Leads shape.now code.now local.old.own result.made result.work
+        (track words.old.items (standing_of shape.now code.now local.old))
+        (track words.new.items (standing_of shape.now code.now local.new)) }
+    ensures holds { IsLocal shape.now code.now local.new }
+    ensures own { local.new.own ≡ local.old.own }
+    ensures count { AreWordsOf shape.now words.new.items }
+{
+    match local.stand {
+        Stand::At { place, restart } => match restart {
+            Some(restart) => begin(local, words, shape, code, place, restart, most),
+            None => NONE,
+        },
+        Stand::Runs(running) => {
+            let made = go_through(local, words, shape, code, running, most);
+            Steps { made, work: made }
+        }
+        Stand::Lost
+        | Stand::Placed { .. }
+        | Stand::Within { .. }
+        | Stand::Broken { .. }
+        | Stand::Done => NONE,
+    }
+}
+
 /// Makes steps of a processor in a row in its capsules of frames, at most so many, while the finish word is 0.
 pub(crate) fn step_along(
     local: &mut Local,
@@ -220,7 +269,7 @@ pub(crate) fn step_along(
 ) -> Steps
     requires local { IsLocal shape.now code.now local.old }
     requires words { AreWordsOf shape.now words.old.items }
-    ensures few { result.made ≤ most }
+    ensures few { (result.made ≤ most) × (result.work ≤ result.made) }
     ensures leads { Leads shape.now code.now local.old.own result.made result.work
         (track words.old.items (standing_of shape.now code.now local.old))
         (track words.new.items (standing_of shape.now code.now local.new)) }
@@ -231,9 +280,9 @@ pub(crate) fn step_along(
     let mut made = 0;
     let mut work = 0;
     while made < most {
-        let more = step_once(local, words, shape, code, most - made);
+        let more = go_on(local, words, shape, code, most - made);
         if more.made == 0 {
-            break;
+            return Steps { made, work };
         }
         made += more.made;
         work += more.work;

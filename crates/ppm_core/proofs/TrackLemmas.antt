@@ -1,0 +1,188 @@
+-- Steps of one processor in a row, joined.
+use Rattle.std.proofs.Common.{◌≡◌, ◌∙◌, ℕ, zero, suc, ◌+◌, Bool, true, false, if◌then◌else◌, List, slice_index, Some, refl, sym, ap, subst, arith}
+use Rattle.std.specs.Prelude.{slice_get}
+use Rattle.ppm_cells.specs.Memory.{read}
+use Rattle.ppm_cells.specs.declared.cell.Cell.TheVariants.{FinishWord}
+use Rattle.ppm_cells.specs.declared.restart.Restart.{Restart}
+use Rattle.ppm_cells.specs.declared.restart.RestartKind.{RestartKind}
+use Rattle.ppm_cells.specs.declared.restart.RestartKind.TheVariants.{Run}
+use Rattle.ppm_cells.specs.declared.shape.Shape.{Shape}
+use Rattle.ppm_code.specs.declared.code.CodeParts.{CodeParts}
+use Rattle.ppm_step.specs.declared.row.Point.TheVariants.{Header}
+use Rattle.ppm_step.specs.declared.row.Row.TheVariants.{Now}
+use Rattle.ppm_step.specs.declared.row.Seat.{Seat}
+use Rattle.ppm_step.specs.declared.row.Then.TheVariants.{Load}
+use Rattle.ppm_step.specs.declared.turn.Next.TheVariants.{Work}
+use Rattle.ppm_step.specs.Frames.{Rest}
+use Rattle.ppm_step.specs.Locals.{IsHeaderOf}
+use Rattle.ppm_step.specs.Standings.{Standing, IsAt, IsWithin, IsRunning, IsBroken, running_if, at_finish, enters, wanted_rest, went_rest}
+use Rattle.ppm_step.specs.State.{found_in, words_after, next_of, step_of, before_kind}
+use Rattle.ppm_step.specs.Told.{is_work_next}
+use Rattle.ppm_core.specs.Tracks.{Track, track, moved, moved_by, Moves, AllMove, work_at, work_in, LastWorks, Leads}
+
+module _ (s : Shape) (code : CodeParts) (own : ℕ) where
+  -- none
+  pub nothing : (t : Track) → Leads s code own 0 0 t t
+  nothing t = record { moves = tt; comes_to = refl; works = refl; ends = tt }
+
+  moved_on : (n m : ℕ) (t : Track) → moved_by s code own (n + m) t ≡ moved_by s code own m (moved_by s code own n t)
+  moved_on zero m t = ap (λ k. moved_by s code own k t) (none m)
+    where
+      none : (m : ℕ) → 0 + m ≡ m
+      none m = omega arith
+  moved_on (suc n) m t = ap (λ k. moved_by s code own k t) (next n m) ∙ moved_on n m (moved s code own t)
+    where
+      next : (n m : ℕ) → suc n + m ≡ suc (n + m)
+      next n m = omega arith
+
+  all_move : (n m : ℕ) (t : Track) → AllMove s code own n t → AllMove s code own m (moved_by s code own n t) → AllMove s code own (n + m) t
+  all_move zero m t first more = subst (λ k. AllMove s code own k t) (none m) more
+    where
+      none : (m : ℕ) → m ≡ 0 + m
+      none m = omega arith
+  all_move (suc n) m t first more =
+      subst (λ k. AllMove s code own k t) (next n m) (first.0, all_move n m (moved s code own t) first.1 more)
+    where
+      next : (n m : ℕ) → suc (n + m) ≡ suc n + m
+      next n m = omega arith
+
+  work_on : (n m : ℕ) (t : Track) → work_in s code own n t + work_in s code own m (moved_by s code own n t) ≡ work_in s code own (n + m) t
+  work_on zero m t = sum (work_in s code own m t) ∙ ap (λ k. work_in s code own k t) (none m)
+    where
+      none : (m : ℕ) → m ≡ 0 + m
+      none m = omega arith
+      sum : (w : ℕ) → 0 + w ≡ w
+      sum w = omega arith
+  work_on (suc n) m t =
+      omega (arith, work_on n m (moved s code own t), ap (λ k. work_in s code own k t) (next n m))
+    where
+      next : (n m : ℕ) → suc (n + m) ≡ suc n + m
+      next n m = omega arith
+
+  last_on : (n m : ℕ) (t : Track) → LastWorks s code own n t → LastWorks s code own m (moved_by s code own n t) → LastWorks s code own (n + m) t
+  last_on n zero t first more = subst (λ k. LastWorks s code own k t) (same n) first
+    where
+      same : (n : ℕ) → n ≡ n + 0
+      same n = omega arith
+  last_on zero (suc m) t first more = subst (λ k. LastWorks s code own k t) (none m) more
+    where
+      none : (m : ℕ) → suc m ≡ 0 + suc m
+      none m = omega arith
+  last_on (suc zero) (suc m) t first more = subst (λ k. LastWorks s code own k t) (two m) more
+    where
+      two : (m : ℕ) → suc (suc m) ≡ suc zero + suc m
+      two m = omega arith
+  last_on (suc (suc n)) (suc m) t first more =
+      subst (λ k. LastWorks s code own k t) (next n m)
+      (subst (λ k. LastWorks s code own k (moved s code own t)) (less n m) (last_on (suc n) (suc m) (moved s code own t) first more))
+    where
+      less : (n m : ℕ) → suc n + suc m ≡ suc (n + suc m)
+      less n m = omega arith
+      next : (n m : ℕ) → suc (suc (n + suc m)) ≡ suc (suc n) + suc m
+      next n m = omega arith
+
+  -- some, and then others
+  pub both : {n m w v : ℕ} {t u x : Track} → Leads s code own n w t u → Leads s code own m v u x → Leads s code own (n + m) (w + v) t x
+  both {n} {m} {w} {v} {t} {u} {x} first more = record {
+    moves = all_move n m t first.moves (subst (AllMove s code own m) first.comes_to more.moves);
+    comes_to = more.comes_to ∙ ap (moved_by s code own m) first.comes_to ∙ sym (moved_on n m t);
+    works = omega (arith, first.works, more.works, ap (work_in s code own m) first.comes_to, work_on n m t);
+    ends = last_on n m t first.ends (subst (LastWorks s code own m) first.comes_to more.ends);
+  }
+
+  -- a step in a capsule of a frame
+  pub in_capsule : (seat : Seat) (rest : Rest) (words words' : List ℕ) (stand : Standing) → read s words FinishWord ≡ 0
+      → words' ≡ words_after words (wanted_rest s seat rest)
+      → stand ≡ went_rest s seat (found_in words (wanted_rest s seat rest)) rest
+      → Leads s code own 1 1 (track words (IsRunning seat rest)) (track words' stand)
+  in_capsule seat rest words words' stand finish stored stands = record {
+    moves = (record { finish = finish; lives = refl; seeks_none = refl; no_fork = refl; no_take = refl }, tt);
+    comes_to = λ i. record { words = stored i; stand = stands i };
+    works = refl;
+    ends = refl;
+  }
+
+  -- the two before it
+  pub in_front : (seat : Seat) (header : ℕ) (words : List ℕ) (stand : Standing) → IsHeaderOf s seat header → own ≡ seat.own
+      → read s words FinishWord ≡ 0
+      → stand ≡ enters s code seat seat.restart.kind (slice_get code.capsules (slice_index words header))
+      → Leads s code own 2 1 (track words (IsAt seat.place (Some seat.restart))) (track words stand)
+  in_front seat header words stand h same finish stands =
+      let t : Track = track words (IsAt seat.place (Some seat.restart)) in
+      let u : Track = track words (IsWithin seat (Now (Load (Header h.frame h.copy)))) in
+      let behind_finish : moved s code own t ≡ u =
+      ap (λ f. track words (at_finish s code own seat.place (Some seat.restart) f)) finish
+      ∙ ap (λ o. track words (at_finish s code o seat.place (Some seat.restart) 0)) same
+      ∙ ap (track words) (h.begins_with code) in
+      let look : work_at s code own t ≡ 0 = ap (λ k. if is_work_next s code (before_kind k) then 1 else 0) h.kind in
+      let work : work_at s code own u ≡ 1 = ap (λ k. if is_work_next s code (step_of k) then 1 else 0) h.kind in
+      let works : next_of u.stand ≡ Work = ap step_of h.kind in
+      record {
+        moves = (
+          record { finish = finish; lives = refl; seeks_none = refl; no_fork = refl; no_take = refl },
+          (subst (Moves s code own) (sym behind_finish)
+              (record { finish = finish; lives = refl; seeks_none = refl; no_fork = refl; no_take = refl }), tt),
+        );
+        comes_to =
+            ap (track words) (stands ∙ ap (λ a. enters s code seat seat.restart.kind (slice_get code.capsules (slice_index words a))) h.is_at)
+            ∙ ap (moved s code own) (sym behind_finish);
+        works = omega (arith, look, work, ap (work_at s code own) behind_finish);
+        ends = subst (λ (v : Track). next_of v.stand ≡ Work) (sym behind_finish) works;
+      }
+
+  -- a step more in the capsule, behind which it goes on
+  went_on_there : (seat now : Seat) (rest : Rest) (there : Bool) (stand : Standing) → there ≡ true → now ≡ seat → running_if seat rest there ≡ stand
+      → IsRunning now rest ≡ stand
+  went_on_there seat now rest there stand yes_there same is =
+      ap (λ u. IsRunning u rest) same ∙ sym (ap (running_if seat rest) yes_there) ∙ is
+
+  went_on_nowhere : (seat now : Seat) (rest : Rest) (there : Bool) (stand : Standing) → there ≡ false → seat ≡ now → running_if seat rest there ≡ stand
+      → IsBroken now.place ≡ stand
+  went_on_nowhere seat now rest there stand not_there same is =
+      ap (λ (u : Seat). IsBroken u.place) (sym same) ∙ sym (ap (running_if seat rest) not_there) ∙ is
+
+  pub goes_on : {made : ℕ} {t : Track} (seat now : Seat) (rest left : Rest) (words words' : List ℕ) (there : Bool)
+      → Leads s code own made made t (track words (IsRunning seat rest)) → read s words FinishWord ≡ 0
+      → words' ≡ words_after words (wanted_rest s seat rest) → there ≡ true → now ≡ seat
+      → running_if seat left there ≡ went_rest s seat (found_in words (wanted_rest s seat rest)) rest
+      → Leads s code own (made + 1) (made + 1) t (track words' (IsRunning now left))
+  goes_on seat now rest left words words' there so_far finish stored yes_there same stands =
+      both so_far (in_capsule seat rest words words' (IsRunning now left) finish stored (went_on_there seat now left there _ yes_there same stands))
+
+  -- behind which words are broken
+  pub breaks : {made : ℕ} {t : Track} (seat now : Seat) (rest left : Rest) (words words' : List ℕ) (there : Bool)
+      → Leads s code own made made t (track words (IsRunning seat rest)) → read s words FinishWord ≡ 0
+      → words' ≡ words_after words (wanted_rest s seat rest) → there ≡ false → seat ≡ now
+      → running_if seat left there ≡ went_rest s seat (found_in words (wanted_rest s seat rest)) rest
+      → Leads s code own (made + 1) (made + 1) t (track words' (IsBroken now.place))
+  breaks seat now rest left words words' there so_far finish stored not_there same stands =
+      both so_far (in_capsule seat rest words words' (IsBroken now.place) finish stored (went_on_nowhere seat now left there _ not_there same stands))
+
+  -- behind which its place goes on with a restart
+  pub installs : {made : ℕ} {t : Track} (seat now : Seat) (rest : Rest) (words words' : List ℕ) (restart : Restart)
+      → Leads s code own made made t (track words (IsRunning seat rest)) → read s words FinishWord ≡ 0
+      → words' ≡ words_after words (wanted_rest s seat rest) → seat ≡ now
+      → IsAt seat.place (Some restart) ≡ went_rest s seat (found_in words (wanted_rest s seat rest)) rest
+      → Leads s code own (made + 1) (made + 1) t (track words' (IsAt now.place (Some restart)))
+  installs seat now rest words words' restart so_far finish stored same stands =
+      both so_far
+      (in_capsule seat rest words words' (IsAt now.place (Some restart)) finish stored
+      (ap (λ (u : Seat). IsAt u.place (Some restart)) (sym same) ∙ stands))
+
+  -- the capsule with its two steps in front
+  pub begins : (seat : Seat) (header : ℕ) (words : List ℕ) (stand first : Standing) (last : Track) (made : ℕ) → IsHeaderOf s seat header → own ≡ seat.own
+      → read s words FinishWord ≡ 0
+      → stand ≡ enters s code seat seat.restart.kind (slice_get code.capsules (slice_index words header))
+      → first ≡ IsAt seat.place (Some seat.restart)
+      → Leads s code own made made (track words stand) last
+      → Leads s code own (made + 2) (made + 1) (track words first) last
+  begins seat header words stand first last made h same finish stands at more =
+      subst (λ (f : Standing). Leads s code own (made + 2) (made + 1) (track words f) last) (sym at)
+      (subst (λ w. Leads s code own (made + 2) w (track words (IsAt seat.place (Some seat.restart))) last) one
+      (subst (λ n. Leads s code own n (1 + made) (track words (IsAt seat.place (Some seat.restart))) last) two
+      (both (in_front seat header words stand h same finish stands) more)))
+    where
+      one : 1 + made ≡ made + 1
+      one = omega arith
+      two : 2 + made ≡ made + 2
+      two = omega arith

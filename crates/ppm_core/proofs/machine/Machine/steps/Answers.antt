@@ -1,0 +1,66 @@
+use Rattle.std.proofs.Common.{◌∙◌, ◌<◌, length, refl, sym, ap, arith}
+use Rattle.std.proofs.lemmas.Option.{slice_get_read}
+use Rattle.ppm_core.specs.Machine.{Holding}
+use Rattle.ppm_core.proofs.LocalLemmas.{one_changed}
+use Rattle.ppm_core.proofs.StepsLemmas.{has_made, run_is, plain_is, work_is_last}
+use Rattle.ppm_core.proofs.machine.Machine.steps.Goals as goal
+
+-- the words and the processors are as they should be, and counts are turns
+pub invariant_of-self : goal.invariant_of-self
+invariant_of-self c =
+    let same = ap (λ (m : Holding). m.shape.processors) c.self.view_is in
+    let less : c.args.processor < length c.self.inside.locals.items =
+    omega (arith, c.requires.processor, c.self.invariant.1.count, same) in
+    let at = slice_get_read c.self.inside.locals.items _ c.args.processor c.index_mut-local.result.now refl less c.index_mut-local.ensures.value in
+    let own = (c.self.invariant.1.each c.args.processor c.index_mut-local.result.now at).own in (
+      record { words_are = c.step_along-steps.ensures.count; arrays_are = c.self.invariant.0.arrays_are },
+      one_changed c.self.inside.shape c.self.inside.code c.self.inside.locals.items c.args.processor c.step_along-steps.new.local c.self.invariant.1
+          c.step_along-steps.ensures.holds (c.step_along-steps.ensures.own ∙ own),
+      record {
+        forks_at_most = omega (arith, c.self.invariant.2.forks_at_most);
+        takes_at_most = omega (arith, c.self.invariant.2.takes_at_most);
+        work_at_most = omega (arith, c.self.invariant.2.work_at_most, c.step_along-steps.ensures.few.1);
+      },
+    )
+
+-- the machine is that after so many turns
+pub returns-clause-machine : goal.returns-clause-machine
+returns-clause-machine c =
+    let same = ap (λ (m : Holding). m.shape.processors) c.self.view_is in
+    let less : c.args.processor < length c.self.inside.locals.items =
+    omega (arith, c.requires.processor, c.self.invariant.1.count, same) in
+    let at = slice_get_read c.self.inside.locals.items _ c.args.processor c.index_mut-local.result.now refl less c.index_mut-local.ensures.value in
+    let own = (c.self.invariant.1.each c.args.processor c.index_mut-local.result.now at).own in
+    rw (sym c.self.view_is) (
+    run_is _ c.args.processor c.index_mut-local.result.now c.step_along-steps.new.local c.step_along-steps.new.words.items
+    c.step_along-steps.result.made c.step_along-steps.result.work
+    (has_made _ c.args.processor _ _ _ _ _ at own c.step_along-steps.ensures.leads)
+    )
+
+-- each of them plain
+pub returns-clause-plain : goal.returns-clause-plain
+returns-clause-plain c =
+    let same = ap (λ (m : Holding). m.shape.processors) c.self.view_is in
+    let less : c.args.processor < length c.self.inside.locals.items =
+    omega (arith, c.requires.processor, c.self.invariant.1.count, same) in
+    let at = slice_get_read c.self.inside.locals.items _ c.args.processor c.index_mut-local.result.now refl less c.index_mut-local.ensures.value in
+    let own = (c.self.invariant.1.each c.args.processor c.index_mut-local.result.now at).own in
+    rw (sym c.self.view_is) (
+    plain_is _ c.args.processor c.index_mut-local.result.now c.step_along-steps.new.local c.step_along-steps.new.words.items
+    c.step_along-steps.result.made c.step_along-steps.result.work
+    (has_made _ c.args.processor _ _ _ _ _ at own c.step_along-steps.ensures.leads)
+    )
+
+-- and the last work
+pub returns-clause-work : goal.returns-clause-work
+returns-clause-work c =
+    let same = ap (λ (m : Holding). m.shape.processors) c.self.view_is in
+    let less : c.args.processor < length c.self.inside.locals.items =
+    omega (arith, c.requires.processor, c.self.invariant.1.count, same) in
+    let at = slice_get_read c.self.inside.locals.items _ c.args.processor c.index_mut-local.result.now refl less c.index_mut-local.ensures.value in
+    let own = (c.self.invariant.1.each c.args.processor c.index_mut-local.result.now at).own in
+    rw (sym c.self.view_is) (
+    work_is_last _ c.args.processor c.index_mut-local.result.now c.step_along-steps.new.local c.step_along-steps.new.words.items
+    c.step_along-steps.result.made c.step_along-steps.result.work
+    (has_made _ c.args.processor _ _ _ _ _ at own c.step_along-steps.ensures.leads)
+    )
