@@ -68,6 +68,23 @@ impl Pace {
         self.due = due;
     }
 
+    /// Behind so many steps in a row, of which so many were work, and the last was; a victim is due for the coming step or is
+    /// not. With them there were fewer than 2^63 work turns.
+    pub fn count_steps(&mut self, steps: u64, work: u64, next: Next, due: bool)
+        requires few { self.old.work + work < 2 ^ 63 }
+        ensures number { self.new.processor ≡ self.old.processor }
+        ensures work { self.new.work ≡ self.old.work + work }
+        ensures pace { (plan : Planned) (limits : Limits) (past past' : Past) (stood stands : Standing)
+            → IsPace plan limits past stood self.old → past'.acts ≡ past.acts + steps → past'.work ≡ past.work + work
+            → past'.looks ≡ 0 → next ≡ next_of stands → due ≡ is_due stands → IsPace plan limits past' stands self.new }
+    {
+        self.acts = more(self.acts, steps, MOST_ACTS);
+        self.work += work;
+        self.looks = 0;
+        self.next = next;
+        self.due = due;
+    }
+
     /// Behind a rest: its looks count from 0 again.
     pub fn rest(&mut self)
         ensures number { self.new.processor ≡ self.old.processor }
@@ -83,6 +100,17 @@ fn one_more(count: u64, most: u64) -> u64
     ensures { result ≡ min (count + 1) most }
 {
     if count < most { count + 1 } else { most }
+}
+
+/// So many more, up to the most.
+fn more(count: u64, further: u64, most: u64) -> u64
+    ensures { result ≡ min (count + further) most }
+{
+    if count < most && further < most - count {
+        count + further
+    } else {
+        most
+    }
 }
 
 /// The work turns behind an act.
