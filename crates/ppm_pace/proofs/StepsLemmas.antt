@@ -1,9 +1,9 @@
 -- Steps in a row that are the next acts of a processor.
-use Rattle.std.proofs.Common.{◌≡◌, ◌∙◌, ◌⊎◌, inl, inr, ◌≤◌, ◌<◌, ℕ, ◌+◌, ◌-◌, ◌^◌, ◌&&◌, min, nat_le, nat_lt, Bool, true, false, if◌then◌else◌, List, Option, Some, None, IsSome, is_some, arith, refl, sym, ap, subst}
-use Rattle.std.proofs.lemmas.Bool.{cases_lt, le-ltb, lt-ltb, lt-leb}
+use Rattle.std.proofs.Common.{◌≡◌, ◌∙◌, ◌⊎◌, inl, inr, ◌≤◌, ◌<◌, ℕ, ◌+◌, ◌-◌, ◌^◌, ◌&&◌, min, Bool, true, false, if◌then◌else◌, List, Option, Some, None, IsSome, is_some, arith, refl, sym, ap, subst}
+use Rattle.std.proofs.lemmas.Bool.{cases_lt, le-ltb, lt-leb}
 use Rattle.ppm_plan.specs.declared.fault.Fault.{Fault}
 use Rattle.ppm_plan.specs.declared.plan_item.PlanItem.{PlanItem}
-use Rattle.ppm_plan.specs.Faults.{fault_at, IsLeastFrom, IsNextFault}
+use Rattle.ppm_plan.specs.Faults.{fault_at, IsLeastFrom}
 use Rattle.ppm_plan.specs.Schedules.{Planned}
 use Rattle.ppm_step.specs.declared.turn.Act.TheVariants.{Step, Quit}
 use Rattle.ppm_step.specs.declared.turn.Why.TheVariants.{Turns}

@@ -61,7 +61,7 @@ impl Pace {
             → told.work ≡ is_work_deed deed → told.next ≡ next_of stands → due ≡ is_due stands
             → IsPace plan limits (behind past deed) stands self.new }
     {
-        self.acts = one_more(self.acts, MOST_ACTS);
+        self.acts = more(self.acts, 1, MOST_ACTS);
         self.work = work_behind(self.work, told.work);
         self.looks = looks_behind(self.looks, limits.looks, told.work);
         self.next = told.next;
@@ -93,13 +93,6 @@ impl Pace {
     {
         self.looks = 0;
     }
-}
-
-/// One more, up to the most.
-fn one_more(count: u64, most: u64) -> u64
-    ensures { result ≡ min (count + 1) most }
-{
-    if count < most { count + 1 } else { most }
 }
 
 /// So many more, up to the most.
