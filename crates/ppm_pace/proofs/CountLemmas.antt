@@ -21,6 +21,16 @@ looks_are : (w : Bool) (n most a : ℕ) → a ≡ min n most → (if w then 0 el
 looks_are true n most a e = none most
 looks_are false n most a e = one_more n most a e
 
+-- so many more, up to the most
+so_many_more : (n m steps most a b : ℕ) → a ≡ min n most → b ≡ min (a + steps) most → m ≡ n + steps → b ≡ min m most
+so_many_more n m steps most a b e f g = omega (arith, e, f, g)
+
+same_work : (n m work a : ℕ) → a ≡ n → m ≡ n + work → a + work ≡ m
+same_work n m work a e f = omega (arith, e, f)
+
+no_looks : (looks most : ℕ) → looks ≡ 0 → 0 ≡ min looks most
+no_looks looks most e = omega (arith, e)
+
 -- behind an act
 pub counted : (plan : Planned) (limits : Limits) (past : Past) (deed : Deed) (stands : Standing) (old : Pace) (acts work looks : ℕ) (w : Bool)
     (next : Next) (due : Bool) → acts ≡ min (old.acts + 1) (2 ^ 32) → work ≡ (if w then old.work + 1 else old.work)
@@ -35,6 +45,21 @@ counted plan limits past deed stands old acts work looks w next due acts_are wor
   looks =
       looks_is ∙ looks_are w past.looks limits.looks old.looks p.looks
       ∙ ap (λ b. min (if b then 0 else past.looks + 1) limits.looks) works;
+  next = next_is;
+  due = due_is;
+}
+
+-- behind steps in a row
+pub steps_counted : (plan : Planned) (limits : Limits) (past past' : Past) (stood stands : Standing) (old : Pace) (acts steps work : ℕ)
+    (next : Next) (due : Bool) → acts ≡ min (old.acts + steps) (2 ^ 32) → IsPace plan limits past stood old
+    → past'.acts ≡ past.acts + steps → past'.work ≡ past.work + work → past'.looks ≡ 0 → next ≡ next_of stands → due ≡ is_due stands
+    → IsPace plan limits past' stands
+    (record { processor = old.processor; keeper = old.keeper; acts = acts; work = old.work + work; looks = 0; next = next; due = due })
+steps_counted plan limits past past' stood stands old acts steps work next due acts_are p acts' work' looks' next_is due_is = record {
+  keeper = p.keeper;
+  acts = so_many_more past.acts past'.acts steps (2 ^ 32) old.acts acts p.acts acts_are acts';
+  work = same_work past.work past'.work work old.work p.work work';
+  looks = no_looks past'.looks limits.looks looks';
   next = next_is;
   due = due_is;
 }

@@ -2,3 +2,4 @@ pub mod KeeperLemmas
 pub mod CountLemmas
 pub mod ChoiceLemmas
 pub mod AloneLemmas
+pub mod StepsLemmas

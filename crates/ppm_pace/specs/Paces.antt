@@ -60,3 +60,8 @@ chosen plan limits pace =
 abbrev pub AreClear : Planned → Limits → (processor : ℕ) → Past → (steps : ℕ) → Type 0
 AreClear plan limits processor past steps =
     (k : ℕ) → k < steps → (fault_of plan.items processor (past.acts + k) ≡ None) × (past.work + k < limits.turns)
+
+-- a number, up to the most
+abbrev pub at_most : (most : Option ℕ) → ℕ → ℕ
+at_most None n = n
+at_most (Some most) n = min n most

@@ -6,6 +6,7 @@
 #![tactic(auto)]
 
 mod choosing;
+mod clear;
 mod laws;
 mod limits;
 mod pace;
@@ -13,6 +14,7 @@ mod pace;
 mod tests;
 
 pub use choosing::{Choice, choose};
+pub use clear::clear_steps;
 pub use laws::has_one_run;
 pub use limits::{Idle, Limits};
 pub use pace::Pace;

@@ -61,10 +61,27 @@ impl Pace {
             → told.work ≡ is_work_deed deed → told.next ≡ next_of stands → due ≡ is_due stands
             → IsPace plan limits (behind past deed) stands self.new }
     {
-        self.acts = one_more(self.acts, MOST_ACTS);
+        self.acts = more(self.acts, 1, MOST_ACTS);
         self.work = work_behind(self.work, told.work);
         self.looks = looks_behind(self.looks, limits.looks, told.work);
         self.next = told.next;
+        self.due = due;
+    }
+
+    /// Behind so many steps in a row, of which so many were work, and the last was; a victim is due for the coming step or is
+    /// not. With them there were fewer than 2^63 work turns.
+    pub fn count_steps(&mut self, steps: u64, work: u64, next: Next, due: bool)
+        requires few { self.old.work + work < 2 ^ 63 }
+        ensures number { self.new.processor ≡ self.old.processor }
+        ensures work { self.new.work ≡ self.old.work + work }
+        ensures pace { (plan : Planned) (limits : Limits) (past past' : Past) (stood stands : Standing)
+            → IsPace plan limits past stood self.old → past'.acts ≡ past.acts + steps → past'.work ≡ past.work + work
+            → past'.looks ≡ 0 → next ≡ next_of stands → due ≡ is_due stands → IsPace plan limits past' stands self.new }
+    {
+        self.acts = more(self.acts, steps, MOST_ACTS);
+        self.work += work;
+        self.looks = 0;
+        self.next = next;
         self.due = due;
     }
 
@@ -78,11 +95,15 @@ impl Pace {
     }
 }
 
-/// One more, up to the most.
-fn one_more(count: u64, most: u64) -> u64
-    ensures { result ≡ min (count + 1) most }
+/// So many more, up to the most.
+fn more(count: u64, further: u64, most: u64) -> u64
+    ensures { result ≡ min (count + further) most }
 {
-    if count < most { count + 1 } else { most }
+    if count < most && further < most - count {
+        count + further
+    } else {
+        most
+    }
 }
 
 /// The work turns behind an act.

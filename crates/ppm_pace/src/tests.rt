@@ -1,5 +1,5 @@
 //! What is chosen at some paces, by a table.
-use crate::{Choice, Idle, Limits, Pace, choose, has_one_run};
+use crate::{Choice, Idle, Limits, Pace, choose, clear_steps, has_one_run};
 use ppm_plan::{Plan, read_plan};
 use ppm_step::{Act, Next, Told, Why};
 use std::alloc::Global;
@@ -92,6 +92,37 @@ fn acts_are_chosen(rt: HostRuntime) -> Result<(), Fail> {
     Ok(())
 }
 
+/// A processor, its acts and work turns, and how many steps in a row are clear, with the plan of the choices above.
+const CLEAR: [(u32, (u64, u64), u64); 12] = [
+    (0, (0, 0), 5),
+    (0, (3, 2), 2),
+    (0, (5, 0), 0),
+    (0, (6, 0), 10),
+    (1, (0, 4), 6),
+    (1, (4_294_967_290, 0), 5),
+    (1, (4_294_967_295, 0), 0),
+    (1, (4_294_967_296, 3), 7),
+    (2, (0, 0), 7),
+    (2, (8, 9), 1),
+    (2, (20, 10), 0),
+    (2, (20, 11), 0),
+];
+
+#[test]
+fn steps_are_clear(rt: HostRuntime) -> Result<(), Fail> {
+    let plan = plan_of(rt.alloc(), "0@5h,2@7s,1@4294967295s")?;
+    for (processor, (acts, work), want) in CLEAR {
+        let pace = Pace {
+            acts,
+            work,
+            ..Pace::first(&plan, processor)
+        };
+        let got = clear_steps(&pace, &plan, LIMITS);
+        assert!(&rt; got == want, "{processor} {acts} {work}");
+    }
+    Ok(())
+}
+
 /// What is told of a step.
 fn told(work: bool) -> Told {
     Told {
@@ -119,5 +150,10 @@ fn paces_count(rt: HostRuntime) -> Result<(), Fail> {
         }
         assert_eq!(&rt; (pace.acts, pace.work, pace.looks), counts);
     }
+    if pace.work < 100 {
+        pace.count_steps(1000, 400, Next::Seek, true);
+    }
+    let counts = (pace.acts, pace.work, pace.looks, pace.next, pace.due);
+    assert!(&rt; counts == (1007, 402, 0, Next::Seek, true));
     Ok(())
 }

@@ -1,5 +1,5 @@
 -- The faults of a plan, and the acts of a schedule.
-use Rattle.std.specs.Prelude.{ℕ, Bool, ◌&&◌, ◌==◌, if◌then◌else◌, List, Option, Some, None}
+use Rattle.std.specs.Prelude.{◌≡◌, ◌≤◌, ◌<◌, ℕ, Bool, ◌&&◌, ◌==◌, if◌then◌else◌, List, Option, Some, None, IsSome}
 use Rattle.std.specs.List.{list_any, flat_map}
 use Rattle.std.proofs.Math.ListN.{replicate}
 use Rattle.ppm_plan.specs.declared.fault.Fault.{Fault}
@@ -21,6 +21,16 @@ abbrev pub fault_at : List PlanItem → (processor turn : ℕ) → Option Fault
 fault_at items processor turn =
     if list_any (is_hard_at processor turn) items then Some Hard else
     (if list_any (is_at processor turn) items then Some Soft else None)
+
+-- the least turn with a fault, from a turn on, if there is one
+abbrev pub IsLeastFrom : (ℕ → Option Fault) → (from : ℕ) → Option ℕ → Type 0
+IsLeastFrom faults from None = (turn : ℕ) → from ≤ turn → faults turn ≡ None
+IsLeastFrom faults from (Some next) =
+    (from ≤ next) × IsSome (faults next) × ((turn : ℕ) → from ≤ turn → turn < next → faults turn ≡ None)
+
+-- the next turn of a processor, from a turn on, for which it has a fault, if there is one
+abbrev pub IsNextFault : List PlanItem → (processor from : ℕ) → Option ℕ → Type 0
+IsNextFault items processor = IsLeastFrom (fault_at items processor)
 
 -- the acts that the items of a schedule stand for, in order
 abbrev pub acts_of : List ScheduleItem → List ScheduledAct

@@ -1,8 +1,9 @@
 -- The faults of a plan as a table by processor and turn.
-use Rattle.std.specs.Prelude.{◌≡◌, ℕ, if◌then◌else◌, List, Option, Some, None}
+use Rattle.std.specs.Prelude.{◌≡◌, ℕ, if◌then◌else◌, List, Option, Some, None, IsSome}
 use Rattle.std.specs.declared.cmp.Ordering.{Ordering}
 use Rattle.std.specs.Ordering.{ordering_then, nat_cmp}
 use Rattle.std.specs.BTreeMap.{BTreeMap, get}
+use Rattle.std.specs.BTreeMap.Range.{IsLeBy}
 use Rattle.ppm_plan.specs.declared.fault.Fault.{Fault}
 use Rattle.ppm_plan.specs.declared.fault.Fault.TheVariants.{Soft, Hard}
 use Rattle.ppm_plan.specs.declared.plan_item.PlanItem.{PlanItem}
@@ -31,3 +32,11 @@ with_rest (Some met) (Some fault) = Some (graver (Some met) fault)
 -- a table has at each turn of each processor the fault that the items say
 abbrev pub Shows : BTreeMap (ℕ × ℕ) Fault → List PlanItem → Type 0
 Shows table items = (processor turn : ℕ) → get by_turn table (processor, turn) ≡ fault_at items processor turn
+
+-- the first key of a table from a key on, if there is one
+abbrev pub IsFirstFrom : BTreeMap (ℕ × ℕ) Fault → (from : ℕ × ℕ) → Option (ℕ × ℕ) → Type 0
+IsFirstFrom table from None = (key : ℕ × ℕ) → IsLeBy by_turn from key → get by_turn table key ≡ None
+IsFirstFrom table from (Some first) =
+    IsLeBy by_turn from first
+    × IsSome (get by_turn table first)
+    × ((key : ℕ × ℕ) → IsLeBy by_turn from key → IsSome (get by_turn table key) → IsLeBy by_turn first key)

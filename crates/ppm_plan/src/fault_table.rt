@@ -1,8 +1,8 @@
 //! The faults of a plan as a table by processor and turn, so that no look at a turn goes through all items.
 ghost use Rattle.std.specs.Prelude.{◌≡◌, IfOk, OnOk, ℕ};
 ghost use Rattle.std.specs.BTreeMap.{get};
-ghost use Rattle.ppm_plan.specs.Faults.{fault_at};
-ghost use Rattle.ppm_plan.specs.Tables.{by_turn, graver as graver_of, with_item, Shows};
+ghost use Rattle.ppm_plan.specs.Faults.{fault_at, IsLeastFrom};
+ghost use Rattle.ppm_plan.specs.Tables.{by_turn, graver as graver_of, with_item, Shows, IsFirstFrom};
 
 use crate::fault::Fault;
 use crate::plan_item::PlanItem;
@@ -29,6 +29,26 @@ pub(crate) fn look_up(table: &FaultTable, processor: u32, turn: u32) -> Option<F
     ensures { result ≡ get by_turn table.now (processor, turn) }
 {
     table.get(&(processor, turn)).copied()
+}
+
+/// The first key of a table from a key on.
+fn first_from(table: &FaultTable, from: (u32, u32)) -> Option<(u32, u32)>
+    ensures { IsFirstFrom table.now from result }
+{
+    match table.range(from..).next() {
+        Some((key, _)) => Some(*key),
+        None => None,
+    }
+}
+
+/// The least turn of a processor, from a turn on, that has a fault.
+pub(crate) fn next_turn(table: &FaultTable, processor: u32, from: u32) -> Option<u32>
+    ensures { IsLeastFrom (λ turn. get by_turn table.now (processor, turn)) from result }
+{
+    match first_from(table, (processor, from)) {
+        Some((owner, turn)) => { if owner == processor { Some(turn) } else { None } }
+        None => None,
+    }
 }
 
 /// Puts an item more into a table.

@@ -3,10 +3,10 @@ ghost use Rattle.std.specs.Prelude.{◌≡◌, ◌≤◌, ◌<◌, IfOk, IfErr};
 ghost use Rattle.std.specs.Int.{IsInRange};
 ghost use Rattle.ppm_plan.specs.Forms.{plan_form};
 ghost use Rattle.ppm_plan.specs.Refusals.{IsAccepted, IsRefused, IsKeeper};
-ghost use Rattle.ppm_plan.specs.Faults.{fault_at};
+ghost use Rattle.ppm_plan.specs.Faults.{fault_at, IsNextFault};
 
 use crate::fault::Fault;
-use crate::fault_table::{FaultTable, look_up, table_of};
+use crate::fault_table::{FaultTable, look_up, next_turn, table_of};
 use crate::judging::keeper_of;
 use crate::plan_error::PlanError;
 use crate::plan_item::PlanItem;
@@ -67,6 +67,14 @@ impl Plan {
         ensures { result ≡ fault_at self.now.items processor turn }
     {
         look_up(&self.faults, processor, turn)
+    }
+
+    /// The least turn of a processor, from a turn on, for which it has a fault, both from 0; `None` where there is none. The
+    /// time grows as the logarithm of the number of items.
+    pub fn next(&self, processor: u32, from: u32) -> Option<u32>
+        ensures { IsNextFault self.now.items processor from result }
+    {
+        next_turn(&self.faults, processor, from)
     }
 
     /// For how many processors it is.

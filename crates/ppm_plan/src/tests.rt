@@ -212,6 +212,32 @@ fn hard_wins(rt: HostRuntime) -> Result<(), Fail> {
     Ok(())
 }
 
+/// A processor, a turn, and the next turn from there on for which it has a fault.
+const NEXT: [(u32, u32, Option<u32>); 9] = [
+    (0, 0, Some(3)),
+    (0, 3, Some(3)),
+    (0, 4, None),
+    (1, 0, Some(3)),
+    (1, 4, Some(4)),
+    (1, 5, Some(4_294_967_295)),
+    (1, 4_294_967_295, Some(4_294_967_295)),
+    (2, 0, None),
+    (3, 0, None),
+];
+
+#[test]
+fn the_next_fault_is_found(rt: HostRuntime) -> Result<(), Fail> {
+    match read_plan(rt.alloc(), b"1@4294967295s,1@3s,1@3h,0@3s,1@4h", 3) {
+        Ok(plan) => {
+            for (processor, from, next) in NEXT {
+                assert_eq!(rt; plan.next(processor, from), next, "{processor}@{from}");
+            }
+        }
+        Err(error) => assert!(rt; false, "{error}"),
+    }
+    Ok(())
+}
+
 /// So many times one item.
 fn many(alloc: Global, item: &[u8], count: u32) -> Result<Vec<u8>, Fail> {
     let mut text = Vec::from_slice(alloc, item)?;

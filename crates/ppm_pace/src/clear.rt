@@ -1,0 +1,46 @@
+//! Steps that are the next acts of a processor in a row.
+ghost use Rattle.std.specs.Prelude.{◌≡◌, ◌≤◌, ◌+◌, ℕ};
+ghost use Rattle.ppm_plan.specs.Faults.{IsLeastFrom};
+ghost use Rattle.ppm_step.specs.Standings.{Standing};
+ghost use Rattle.ppm_pace.specs.Obeying.{Past, fault_of};
+ghost use Rattle.ppm_pace.specs.Paces.{IsPace, AreClear, at_most as up_to};
+
+use crate::limits::Limits;
+use crate::pace::Pace;
+use ppm_plan::Plan;
+
+/// How many acts of a processor, from one on, come before the next for which the plan has a fault, if there is one.
+fn acts_to_fault(plan: &Plan, processor: u32, acts: u64) -> Option<u64>
+    ensures { IsLeastFrom (λ k. fault_of plan.now.items processor (acts + k)) 0 result }
+{
+    let Ok(turn) = u32::try_from(acts) else {
+        return None;
+    };
+    match plan.next(processor, turn) {
+        Some(next) => Some(u64::from(next) - acts),
+        None => None,
+    }
+}
+
+/// A number, up to the most.
+fn at_most(most: Option<u64>, count: u64) -> u64
+    ensures { result ≡ up_to most count }
+{
+    match most {
+        Some(most) => count.min(most),
+        None => count,
+    }
+}
+
+/// How many steps in a row are the next acts of a processor, whatever they are, so long as no victim is due: up to the next
+/// fault of the plan, and as many as there are work turns left.
+pub fn clear_steps(pace: &Pace, plan: &Plan, limits: Limits) -> u64
+    ensures clear { (past : Past) (stood : Standing) → IsPace plan.now limits past stood pace.now
+        → AreClear plan.now limits pace.now.processor past result }
+    ensures most { (past : Past) (stood : Standing) → IsPace plan.now limits past stood pace.now
+        → (steps : ℕ) → AreClear plan.now limits pace.now.processor past steps → steps ≤ result }
+{
+    let left = limits.turns.saturating_sub(pace.work);
+    let most = acts_to_fault(plan, pace.processor, pace.acts);
+    at_most(most, left)
+}
