@@ -1,6 +1,7 @@
 pub mod CourseLemmas
 pub mod IdleLemmas
 pub mod DoesLemmas
+pub mod AheadLemmas
 pub mod ReadyLemmas
 pub mod ListLemmas
 pub mod SampleLemmas

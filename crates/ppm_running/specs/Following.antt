@@ -1,8 +1,9 @@
 -- What the calls that follow a schedule know and say of the machine and of what they count.
-use Rattle.std.specs.Prelude.{◌≡◌, ℕ, ◌+◌, ◌<◌, ◌≤◌, ◌^◌, List, slice_index}
+use Rattle.std.specs.Prelude.{◌≡◌, ℕ, ◌+◌, ◌<◌, ◌≤◌, ◌^◌, List, Option, slice_index}
+use Rattle.ppm_plan.specs.declared.schedule_item.ScheduledAct.TheVariants.{Step}
 use Rattle.ppm_core.specs.Situation.{Situation, run_on}
 use Rattle.ppm_running.specs.declared.following.Way.{Way}
-use Rattle.ppm_running.specs.Course.{Due, Course, behind_all, turns_of}
+use Rattle.ppm_running.specs.Course.{Due, Course, act_of, behind_all, turns_of}
 
 -- the run under way
 abbrev pub course : Situation → Way → Course
@@ -12,6 +13,11 @@ course m way = record { state = m.state; loads = way.loads; left = way.left }
 pub record IsReady (m : Situation) (way : Way) : Type 0 where
   pub turns : m.turns + way.left < 2 ^ 62
   pub loads : (processor : ℕ) → slice_index way.loads processor + way.left ≤ 2 ^ 40
+
+-- what is due is a step of that processor
+pub record IsStepOf (processor : ℕ) (due : Due) : Type 0 where
+  pub stated : Option ℕ
+  pub act_is : act_of due ≡ Step processor stated
 
 -- these were done, and nothing else
 pub record Does (dues : List Due) (m : Situation) (way : Way) (m' : Situation) (way' : Way) : Type 0 where

@@ -5,9 +5,9 @@ ghost use Rattle.ppm_core.specs.Acts.{is_done_at, seeks_holder_at, IsTurnAmong};
 ghost use Rattle.ppm_plan.specs.Schedules.{IsActAmong, IsItemAmong, IsVictimAmong};
 ghost use Rattle.ppm_core.specs.Machine.{seen};
 ghost use Rattle.ppm_step.specs.State.{stand_of};
-ghost use Rattle.ppm_running.specs.Course.{Listed, InRound, act_by as act_of_fault, processor_of, victim_at, victim_of, turn_of, loads_behind, is_open, is_made};
+ghost use Rattle.ppm_running.specs.Course.{Due, Listed, InRound, act_by as act_of_fault, processor_of, victim_at, victim_of, turn_of, loads_behind, is_open, is_made};
 ghost use Rattle.ppm_running.specs.Schedules.{listed, round, rounds, followed};
-ghost use Rattle.ppm_running.specs.Following.{course, IsReady, Does};
+ghost use Rattle.ppm_running.specs.Following.{course, IsReady, IsStepOf, Does};
 
 use ppm_core::Machine;
 use ppm_plan::{Fault, Schedule, ScheduleItem, ScheduledAct};
@@ -98,6 +98,36 @@ fn make(machine: &mut Machine, way: &mut Way, act: ScheduledAct)
     way.left -= 1;
 }
 
+/// Makes steps of a processor in a row, so many at most: as many as the machine makes at once, none of which looks at a victim. It
+/// tells how many.
+fn step_ahead(machine: &mut Machine, way: &mut Way, processor: u32, most: u64) -> u64
+    requires among { processor < (seen machine.old).shape.processors }
+    requires ready { IsReady (seen machine.old) way.old }
+    ensures few { result ≤ most }
+    ensures does { (due : Due) → IsStepOf processor due → Does (replicate result due) (seen machine.old) way.old (seen machine.new) way.new }
+    ensures ready { IsReady (seen machine.new) way.new }
+{
+    let made = machine.steps(processor, most.min(way.left));
+    way.left -= made;
+    made
+}
+
+/// Makes an act of the list in a row, so often at most: as often as the machine makes it at once. It tells how often.
+fn act_ahead(machine: &mut Machine, way: &mut Way, act: ScheduledAct, most: u32) -> u32
+    requires among { IsActAmong (seen machine.old).shape.processors act }
+    requires ready { IsReady (seen machine.old) way.old }
+    ensures few { result ≤ most }
+    ensures does { Does (replicate result (Listed act)) (seen machine.old) way.old (seen machine.new) way.new }
+    ensures ready { IsReady (seen machine.new) way.new }
+{
+    match act {
+        ScheduledAct::Step { processor, .. } => {
+            step_ahead(machine, way, processor, u64::from(most)) as u32
+        }
+        ScheduledAct::Fails { .. } => 0,
+    }
+}
+
 /// Makes an act of the list so often, if its processor isn't done.
 fn repeat(machine: &mut Machine, way: &mut Way, act: ScheduledAct, times: u32)
     requires among { IsActAmong (seen machine.old).shape.processors act }
@@ -108,6 +138,11 @@ fn repeat(machine: &mut Machine, way: &mut Way, act: ScheduledAct, times: u32)
     let processor = processor_of(act);
     let mut left = times;
     while left > 0 {
+        // What the machine makes at once, and then one more.
+        left -= act_ahead(machine, way, act, left);
+        if left == 0 {
+            return;
+        }
         if way.left == 0 {
             return;
         }
@@ -171,6 +206,20 @@ fn go_round(machine: &mut Machine, way: &mut Way)
     }
 }
 
+/// Makes rounds of a processor that is alone, so many at most: as many as the machine makes at once. It tells how many; none where
+/// there are more processors.
+fn go_ahead(machine: &mut Machine, way: &mut Way, most: u64) -> u64
+    requires ready { IsReady (seen machine.old) way.old }
+    ensures few { result ≤ most }
+    ensures does { Does (rounds (seen machine.old).shape.processors result) (seen machine.old) way.old (seen machine.new) way.new }
+    ensures ready { IsReady (seen machine.new) way.new }
+{
+    if machine.processors() != 1 {
+        return 0;
+    }
+    step_ahead(machine, way, 0, most)
+}
+
 /// Lets the processors make steps in turn, while the finish word says nothing.
 fn go_on(machine: &mut Machine, way: &mut Way, count: u64)
     requires ready { IsReady (seen machine.old) way.old }
@@ -179,6 +228,11 @@ fn go_on(machine: &mut Machine, way: &mut Way, count: u64)
 {
     let mut left = count;
     while left > 0 {
+        // What the machine makes at once, and then one more.
+        left -= go_ahead(machine, way, left);
+        if left == 0 {
+            return;
+        }
         if way.left == 0 {
             return;
         }
