@@ -1,22 +1,18 @@
 -- Steps that processor 0 makes in a row.
-use Rattle.std.proofs.Common.{◌≡◌, ◌∙◌, ◌≤◌, ◌<◌, ◌+◌, ◌-◌, ◌^◌, ◌&&◌, nat_le, ℕ, zero, suc, Bool, true, false, if◌then◌else◌, Option, Some, None, List, [], ◌∷◌, ◌++◌, length, drop, arith, refl, sym, ap, subst, inl, inr}
+use Rattle.std.proofs.Common.{◌≡◌, ◌∙◌, ◌≤◌, ◌<◌, ◌+◌, ◌-◌, ◌&&◌, nat_le, ℕ, zero, suc, Bool, true, false, if◌then◌else◌, Option, Some, None, length, drop, arith, refl, sym, ap, subst, inl, inr}
 use Rattle.std.proofs.lemmas.Bool.{lt-leb}
 use Rattle.std.proofs.lemmas.List.{length-append, length-replicate}
-use Rattle.ppm_cells.specs.declared.shape.Shape.{Shape}
-use Rattle.ppm_code.specs.declared.code.CodeParts.{CodeParts}
 use Rattle.ppm_plan.specs.declared.fault.Fault.{Fault}
-use Rattle.ppm_plan.specs.declared.fault.Fault.TheVariants as faults
 use Rattle.ppm_plan.specs.Draws.{Drawing, victims_of}
 use Rattle.ppm_plan.specs.Forms.{plan_form}
 use Rattle.ppm_plan.specs.Refusals.{IsKeeper}
 use Rattle.ppm_plan.specs.Schedules.{Planned}
-use Rattle.ppm_step.specs.declared.turn.Act.{Act}
-use Rattle.ppm_step.specs.declared.turn.Act.TheVariants.{Step, Soft, Hard, Quit}
+use Rattle.ppm_step.specs.declared.turn.Act.TheVariants.{Step, Quit}
 use Rattle.ppm_step.specs.declared.turn.Next.{Next}
 use Rattle.ppm_step.specs.declared.turn.Next.TheVariants.{Work, Look, Seek, Done}
 use Rattle.ppm_step.specs.declared.turn.Why.TheVariants.{Turns}
-use Rattle.ppm_step.specs.Standings.{Standing, IsDone}
-use Rattle.ppm_step.specs.State.{State, stand_of, happens, along, next_of, work_next, work_of}
+use Rattle.ppm_step.specs.Standings.{Standing}
+use Rattle.ppm_step.specs.State.{stand_of, happens, along, next_of, work_next, work_of}
 use Rattle.ppm_core.specs.Acts.{is_done_at, seeks_holder_at}
 use Rattle.ppm_core.specs.Situation.{Situation, turned, run_on}
 use Rattle.ppm_core.specs.Steps.{plain_step, plain_steps, IsPlain, ArePlain, EndsInWork}
@@ -24,10 +20,10 @@ use Rattle.ppm_core.proofs.RunLemmas.{run_none, run_step}
 use Rattle.ppm_pace.specs.declared.limits.Limits.{Limits}
 use Rattle.ppm_pace.specs.declared.pace.Pace.{Pace}
 use Rattle.ppm_pace.specs.Deeds.{Deed}
-use Rattle.ppm_pace.specs.Obeying.{Past, nothing_done, behind, is_due, is_work, fault_of, faulted, next_victim, next_act, Stops}
+use Rattle.ppm_pace.specs.Obeying.{Past, behind, is_due, is_work, fault_of, faulted, next_victim, next_act, Stops}
 use Rattle.ppm_pace.specs.Paces.{IsPace, AreClear}
 use Rattle.ppm_running.specs.Alone.{ObeysTo}
-use Rattle.ppm_running.specs.Going.{HasDrawn, IsAt as IsAtPast, Leads}
+use Rattle.ppm_running.specs.Going.{HasDrawn, Leads}
 use Rattle.ppm_running.proofs.AloneLemmas.{due_is, goes_on}
 
 -- one step, and what is done behind so many
