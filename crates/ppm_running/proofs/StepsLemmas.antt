@@ -1,16 +1,13 @@
 -- Steps that processor 0 makes in a row.
-use Rattle.std.proofs.Common.{◌≡◌, ◌∙◌, ◌≤◌, ◌<◌, ◌+◌, ◌-◌, ◌&&◌, nat_le, ℕ, zero, suc, Bool, true, false, if◌then◌else◌, Option, Some, None, length, drop, arith, refl, sym, ap, subst, inl, inr}
-use Rattle.std.proofs.lemmas.Bool.{lt-leb}
+use Rattle.std.proofs.Common.{◌≡◌, ◌∙◌, ◌≤◌, ◌<◌, ◌+◌, ◌-◌, ℕ, zero, suc, Bool, true, false, if◌then◌else◌, None, length, drop, arith, refl, sym, ap, subst, inl, inr}
 use Rattle.std.proofs.lemmas.List.{length-append, length-replicate}
-use Rattle.ppm_plan.specs.declared.fault.Fault.{Fault}
 use Rattle.ppm_plan.specs.Draws.{Drawing, victims_of}
 use Rattle.ppm_plan.specs.Forms.{plan_form}
 use Rattle.ppm_plan.specs.Refusals.{IsKeeper}
 use Rattle.ppm_plan.specs.Schedules.{Planned}
-use Rattle.ppm_step.specs.declared.turn.Act.TheVariants.{Step, Quit}
+use Rattle.ppm_step.specs.declared.turn.Act.TheVariants.{Step}
 use Rattle.ppm_step.specs.declared.turn.Next.{Next}
 use Rattle.ppm_step.specs.declared.turn.Next.TheVariants.{Work, Look, Seek, Done}
-use Rattle.ppm_step.specs.declared.turn.Why.TheVariants.{Turns}
 use Rattle.ppm_step.specs.Standings.{Standing}
 use Rattle.ppm_step.specs.State.{stand_of, happens, along, next_of, work_next, work_of}
 use Rattle.ppm_core.specs.Acts.{is_done_at, seeks_holder_at}
@@ -20,8 +17,9 @@ use Rattle.ppm_core.proofs.RunLemmas.{run_none, run_step}
 use Rattle.ppm_pace.specs.declared.limits.Limits.{Limits}
 use Rattle.ppm_pace.specs.declared.pace.Pace.{Pace}
 use Rattle.ppm_pace.specs.Deeds.{Deed}
-use Rattle.ppm_pace.specs.Obeying.{Past, behind, is_due, is_work, fault_of, faulted, next_victim, next_act, Stops}
+use Rattle.ppm_pace.specs.Obeying.{Past, behind, is_due, is_work, fault_of, next_act, Stops}
 use Rattle.ppm_pace.specs.Paces.{IsPace, AreClear}
+use Rattle.ppm_pace.proofs.StepsLemmas.{next_is_step}
 use Rattle.ppm_running.specs.Alone.{ObeysTo}
 use Rattle.ppm_running.specs.Going.{HasDrawn, Leads}
 use Rattle.ppm_running.proofs.AloneLemmas.{due_is, goes_on}
@@ -96,23 +94,7 @@ pub looks_none : (past : Past) (m : Situation) (n : ℕ) → EndsInWork m 0 (suc
 looks_none past m zero e = ap (λ next. if is_work next then 0 else past.looks + 1) e
 looks_none past m (suc n) e = looks_none (behind past (step_deed m)) (turned m (plain_step 0)) n e
 
--- a step is the next act
-by_parts : (f : Option Fault) (work full due : Bool) (victim : ℕ) → f ≡ None → full ≡ false → due ≡ false
-    → faulted f (if work && full then Quit Turns else Step (if due then victim else 0)) ≡ Step 0
-by_parts None true false false victim f e d = refl
-by_parts None false false false victim f e d = refl
-by_parts None false true false victim f e d = cc
-by_parts None true true false victim f e d = cc
-by_parts None work full true victim f e d = cc
-by_parts (Some fault) work full due victim f e d = cc
-
 module _ (plan : Planned) (limits : Limits) where
-  pub is_next : (past : Past) (stood : Standing) → fault_of plan.items 0 past.acts ≡ None → past.work < limits.turns → is_due stood ≡ false
-      → next_act plan limits 0 past stood ≡ Step 0
-  is_next past stood none left due =
-      by_parts (fault_of plan.items 0 past.acts) (is_work (next_of stood)) (nat_le limits.turns past.work) (is_due stood)
-      (next_victim plan limits 0 past) none (lt-leb limits.turns past.work left) due
-
   -- what is clear of so many is clear of those behind the first
   first_clear : (past : Past) (n : ℕ) → AreClear plan limits 0 past (suc n)
       → (fault_of plan.items 0 past.acts ≡ None) × (past.work < limits.turns)
@@ -148,7 +130,7 @@ module _ (plan : Planned) (limits : Limits) where
   goes_back past m last (suc n) keeper c p o =
       let clear = first_clear past n c in
       let stood : Standing = stand_of m.state 0 in
-      let act : Step 0 ≡ next_act plan limits 0 past stood = sym (is_next past stood clear.0 clear.1 (not_due m p.0)) in
+      let act : Step 0 ≡ next_act plan limits 0 past stood = sym (next_is_step plan limits 0 past stood clear.0 clear.1 (not_due m p.0)) in
       let next : Situation = turned m (plain_step 0) in
       let behind_it : ObeysTo plan limits (behind past (step_deed m)) next last =
       goes_back (behind past (step_deed m)) next last n keeper (rest_clear past m n c) p.1
