@@ -22,6 +22,7 @@ pub mod OneReplay
 pub mod OfReplay
 pub mod DrawnLemmas
 pub mod AloneLemmas
+pub mod StepsLemmas
 pub mod RunLemmas
 pub mod OneRun
 pub mod OfRun

@@ -1,5 +1,6 @@
 //! The run of one processor that obeys a plan and limits.
-ghost use Rattle.std.specs.Prelude.{◌≡◌, ◌<◌, ◌≤◌, ◌^◌};
+ghost use Rattle.std.specs.Prelude.{◌≡◌, ◌<◌, ◌≤◌, ◌^◌, false};
+ghost use Rattle.ppm_plan.specs.Draws.{Drawing};
 ghost use Rattle.ppm_plan.specs.Forms.{plan_form};
 ghost use Rattle.ppm_plan.specs.Refusals.{IsKeeper};
 ghost use Rattle.ppm_step.specs.Standings.{Standing, IsLost};
@@ -12,7 +13,7 @@ ghost use Rattle.ppm_running.specs.Alone.{ObeysTo};
 ghost use Rattle.ppm_running.specs.Going.{HasDrawn, IsNext, IsSomewhere, Leads, LeadsBy, is_over as over};
 
 use ppm_core::Machine;
-use ppm_pace::{Choice, Limits, Pace, choose};
+use ppm_pace::{Choice, Limits, Pace, choose, clear_steps};
 use ppm_plan::{Plan, Victims};
 use ppm_step::{Act, Next, Turn};
 use std::sync::Wait;
@@ -71,6 +72,29 @@ fn act(
     true
 }
 
+/// Makes steps of processor 0 in a row, as many as it makes at once and surely obeys in; whether there were any.
+fn go_ahead(machine: &mut Machine, pace: &mut Pace, plan: &Plan, limits: Limits) -> bool
+    requires keeper { IsKeeper plan_form plan.now.items 0 }
+    requires few { (seen machine.old).turns < 2 ^ 62 }
+    requires work { pace.old.work ≤ (seen machine.old).turns }
+    ensures leads { (m : Situation) (victims : Drawing) → Leads plan.now limits m (seen machine.old) pace.old victims
+        → Leads plan.now limits m (seen machine.new) pace.new victims }
+    ensures none { result ≡ false → seen machine.new ≡ seen machine.old }
+    ensures shape { (seen machine.new).shape ≡ (seen machine.old).shape }
+{
+    let most = clear_steps(pace, plan, limits).min(MOST_TURNS - machine.turns());
+    let before = machine.work();
+    let made = machine.steps(0, most);
+    if made == 0 {
+        return false;
+    }
+    let work = machine.work() - before;
+    let next = machine.next(0);
+    let due = machine.seeks_holder(0);
+    pace.count_steps(made, work, next, due);
+    true
+}
+
 /// Lets processor 0, the keeper, obey a plan and limits until it is done. No other processor acts. It may never return.
 pub fn obey<R: Wait>(rt: &R, machine: &mut Machine, plan: &Plan, limits: Limits)
     requires keeper { IsKeeper plan_form plan.now.items 0 }
@@ -82,6 +106,9 @@ pub fn obey<R: Wait>(rt: &R, machine: &mut Machine, plan: &Plan, limits: Limits)
     let mut victims = Victims::new(limits.seed, 0, machine.processors());
     for _ in rt.forever() {
         if machine.turns() >= MOST_TURNS {
+            continue;
+        }
+        if go_ahead(machine, &mut pace, plan, limits) {
             continue;
         }
         if !act(machine, &mut pace, &mut victims, plan, limits) {

@@ -1,4 +1,5 @@
 use Rattle.std.proofs.Common.{refl, sym, ◌∙◌}
+use Rattle.ppm_core.specs.Machine.{seen}
 use Rattle.ppm_running.proofs.AloneLemmas.{begins}
 use Rattle.ppm_running.proofs.alone.obey.Goals as goal
 
@@ -11,3 +12,8 @@ loop-init g c = (
       (c.processors.ensures.value ∙ sym c.requires.processors) c.new-victims.ensures,
   refl,
 )
+
+-- where no steps were made in a row it is somewhere still
+pub act-requires-clause-somewhere : goal.act-requires-clause-somewhere
+act-requires-clause-somewhere g c =
+    let l = c.go_ahead.ensures.leads (seen c.args.machine.now) c.loop.victims c.loop.invariant.2 in record { past = l.past; at = l.at }
