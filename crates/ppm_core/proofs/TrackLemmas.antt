@@ -3,22 +3,23 @@ use Rattle.std.proofs.Common.{◌≡◌, ◌∙◌, ℕ, zero, suc, ◌+◌, Boo
 use Rattle.std.specs.Prelude.{slice_get}
 use Rattle.ppm_cells.specs.Memory.{read}
 use Rattle.ppm_cells.specs.declared.cell.Cell.TheVariants.{FinishWord}
-use Rattle.ppm_cells.specs.declared.restart.Restart.{Restart}
-use Rattle.ppm_cells.specs.declared.restart.RestartKind.{RestartKind}
-use Rattle.ppm_cells.specs.declared.restart.RestartKind.TheVariants.{Run}
 use Rattle.ppm_cells.specs.declared.shape.Shape.{Shape}
 use Rattle.ppm_code.specs.declared.code.CodeParts.{CodeParts}
+use Rattle.ppm_step.specs.declared.going.Going.{Going}
+use Rattle.ppm_step.specs.declared.going.Going.TheVariants.{Went, Installed}
 use Rattle.ppm_step.specs.declared.row.Point.TheVariants.{Header}
 use Rattle.ppm_step.specs.declared.row.Row.TheVariants.{Now}
 use Rattle.ppm_step.specs.declared.row.Seat.{Seat}
 use Rattle.ppm_step.specs.declared.row.Then.TheVariants.{Load}
+use Rattle.ppm_step.specs.declared.running.Running.{Running}
 use Rattle.ppm_step.specs.declared.turn.Next.TheVariants.{Work}
 use Rattle.ppm_step.specs.Frames.{Rest}
 use Rattle.ppm_step.specs.Locals.{IsHeaderOf}
-use Rattle.ppm_step.specs.Standings.{Standing, IsAt, IsWithin, IsRunning, IsBroken, running_if, at_finish, enters, wanted_rest, went_rest}
+use Rattle.ppm_step.specs.Stages.{IsUnderWay, WentOn, rest_at, went_on}
+use Rattle.ppm_step.specs.Standings.{Standing, IsAt, IsWithin, IsRunning, at_finish, enters, wanted_rest, went_rest}
 use Rattle.ppm_step.specs.State.{found_in, words_after, next_of, step_of, before_kind}
 use Rattle.ppm_step.specs.Told.{is_work_next}
-use Rattle.ppm_core.specs.Tracks.{Track, track, moved, moved_by, Moves, AllMove, work_at, work_in, LastWorks, Leads}
+use Rattle.ppm_core.specs.Tracks.{Track, track, moved, moved_by, Moves, AllMove, work_at, work_in, LastWorks, Leads, MovesOn, is_under_way}
 
 module _ (s : Shape) (code : CodeParts) (own : ℕ) where
   -- none
@@ -51,6 +52,7 @@ module _ (s : Shape) (code : CodeParts) (own : ℕ) where
     where
       none : (m : ℕ) → m ≡ 0 + m
       none m = omega arith
+
       sum : (w : ℕ) → 0 + w ≡ w
       sum w = omega arith
   work_on (suc n) m t =
@@ -78,6 +80,7 @@ module _ (s : Shape) (code : CodeParts) (own : ℕ) where
     where
       less : (n m : ℕ) → suc n + suc m ≡ suc (n + suc m)
       less n m = omega arith
+
       next : (n m : ℕ) → suc (suc (n + suc m)) ≡ suc (suc n) + suc m
       next n m = omega arith
 
@@ -120,8 +123,11 @@ module _ (s : Shape) (code : CodeParts) (own : ℕ) where
       record {
         moves = (
           record { finish = finish; lives = refl; seeks_none = refl; no_fork = refl; no_take = refl },
-          (subst (Moves s code own) (sym behind_finish)
-              (record { finish = finish; lives = refl; seeks_none = refl; no_fork = refl; no_take = refl }), tt),
+          (
+            subst (Moves s code own) (sym behind_finish)
+                (record { finish = finish; lives = refl; seeks_none = refl; no_fork = refl; no_take = refl }),
+            tt,
+          ),
         );
         comes_to =
             ap (track words) (stands ∙ ap (λ a. enters s code seat seat.restart.kind (slice_get code.capsules (slice_index words a))) h.is_at)
@@ -130,59 +136,47 @@ module _ (s : Shape) (code : CodeParts) (own : ℕ) where
         ends = subst (λ (v : Track). next_of v.stand ≡ Work) (sym behind_finish) works;
       }
 
-  -- a step more in the capsule, behind which it goes on
-  went_on_there : (seat now : Seat) (rest : Rest) (there : Bool) (stand : Standing) → there ≡ true → now ≡ seat → running_if seat rest there ≡ stand
-      → IsRunning now rest ≡ stand
-  went_on_there seat now rest there stand yes_there same is =
-      ap (λ u. IsRunning u rest) same ∙ sym (ap (running_if seat rest) yes_there) ∙ is
-
-  went_on_nowhere : (seat now : Seat) (rest : Rest) (there : Bool) (stand : Standing) → there ≡ false → seat ≡ now → running_if seat rest there ≡ stand
-      → IsBroken now.place ≡ stand
-  went_on_nowhere seat now rest there stand not_there same is =
-      ap (λ (u : Seat). IsBroken u.place) (sym same) ∙ sym (ap (running_if seat rest) not_there) ∙ is
-
-  pub goes_on : {made : ℕ} {t : Track} (seat now : Seat) (rest left : Rest) (words words' : List ℕ) (there : Bool)
-      → Leads s code own made made t (track words (IsRunning seat rest)) → read s words FinishWord ≡ 0
-      → words' ≡ words_after words (wanted_rest s seat rest) → there ≡ true → now ≡ seat
-      → running_if seat left there ≡ went_rest s seat (found_in words (wanted_rest s seat rest)) rest
-      → Leads s code own (made + 1) (made + 1) t (track words' (IsRunning now left))
-  goes_on seat now rest left words words' there so_far finish stored yes_there same stands =
-      both so_far (in_capsule seat rest words words' (IsRunning now left) finish stored (went_on_there seat now left there _ yes_there same stands))
-
-  -- behind which words are broken
-  pub breaks : {made : ℕ} {t : Track} (seat now : Seat) (rest left : Rest) (words words' : List ℕ) (there : Bool)
-      → Leads s code own made made t (track words (IsRunning seat rest)) → read s words FinishWord ≡ 0
-      → words' ≡ words_after words (wanted_rest s seat rest) → there ≡ false → seat ≡ now
-      → running_if seat left there ≡ went_rest s seat (found_in words (wanted_rest s seat rest)) rest
-      → Leads s code own (made + 1) (made + 1) t (track words' (IsBroken now.place))
-  breaks seat now rest left words words' there so_far finish stored not_there same stands =
-      both so_far (in_capsule seat rest words words' (IsBroken now.place) finish stored (went_on_nowhere seat now left there _ not_there same stands))
-
-  -- behind which its place goes on with a restart
-  pub installs : {made : ℕ} {t : Track} (seat now : Seat) (rest : Rest) (words words' : List ℕ) (restart : Restart)
-      → Leads s code own made made t (track words (IsRunning seat rest)) → read s words FinishWord ≡ 0
-      → words' ≡ words_after words (wanted_rest s seat rest) → seat ≡ now
-      → IsAt seat.place (Some restart) ≡ went_rest s seat (found_in words (wanted_rest s seat rest)) rest
-      → Leads s code own (made + 1) (made + 1) t (track words' (IsAt now.place (Some restart)))
-  installs seat now rest words words' restart so_far finish stored same stands =
+  -- a step more in the capsule
+  pub further : {made : ℕ} {t : Track} {seat : Seat} {old new : Running} {registers registers' words words' : List ℕ} {going : Going}
+      → Leads s code own made made t (track words (IsRunning seat (rest_at s code old old.stage registers))) → read s words FinishWord ≡ 0
+      → MovesOn s code old new registers registers' words words' going → old.seat ≡ seat
+      → Leads s code own (made + 1) (made + 1) t (track words' (went_on seat (rest_at s code new new.stage registers') going))
+  further {made} {t} {seat} {old} {new} {registers} {registers'} {words} {words'} {going} so_far finish moved same =
+      let rest = rest_at s code old old.stage registers in
+      let left = rest_at s code new new.stage registers' in
       both so_far
-      (in_capsule seat rest words words' (IsAt now.place (Some restart)) finish stored
-      (ap (λ (u : Seat). IsAt u.place (Some restart)) (sym same) ∙ stands))
+      (subst
+      (λ (u : Seat). Leads s code own 1 1 (track words (IsRunning u rest)) (track words' (went_on u left going))) same
+      (in_capsule old.seat rest words words' (went_on old.seat left going) finish moved.words_are moved.stands))
 
-  -- the capsule with its two steps in front
-  pub begins : (seat : Seat) (header : ℕ) (words : List ℕ) (stand first : Standing) (last : Track) (made : ℕ) → IsHeaderOf s seat header → own ≡ seat.own
-      → read s words FinishWord ≡ 0
+  -- behind which it goes on
+  going_is : (going : Going) → is_under_way going ≡ true → going ≡ Went true
+  going_is (Went there) goes = ap Went goes
+  going_is (Installed restart) goes = cc
+
+  pub goes_on : {made : ℕ} {t : Track} {seat : Seat} {rest : Rest} {words : List ℕ} (going : Going) → is_under_way going ≡ true
+      → Leads s code own made made t (track words (went_on seat rest going)) → Leads s code own made made t (track words (IsRunning seat rest))
+  goes_on {made} {t} {seat} {rest} {words} going goes leads =
+      subst (λ g. Leads s code own made made t (track words (went_on seat rest g))) (going_is going goes) leads
+
+  pub holds_on : {running : Running} {registers : List ℕ} (going : Going) → is_under_way going ≡ true
+      → WentOn s code running registers going → IsUnderWay s code running registers
+  holds_on {running} {registers} going goes holds = subst (λ g. WentOn s code running registers g) (going_is going goes) holds refl
+
+  -- a capsule more, with its two steps in front
+  pub capsule_more : {n w : ℕ} {first : Track} (seat : Seat) (header : ℕ) (words : List ℕ) (stand : Standing) (last : Track) (made : ℕ)
+      → Leads s code own n w first (track words (IsAt seat.place (Some seat.restart)))
+      → IsHeaderOf s seat header → own ≡ seat.own → read s words FinishWord ≡ 0
       → stand ≡ enters s code seat seat.restart.kind (slice_get code.capsules (slice_index words header))
-      → first ≡ IsAt seat.place (Some seat.restart)
       → Leads s code own made made (track words stand) last
-      → Leads s code own (made + 2) (made + 1) (track words first) last
-  begins seat header words stand first last made h same finish stands at more =
-      subst (λ (f : Standing). Leads s code own (made + 2) (made + 1) (track words f) last) (sym at)
-      (subst (λ w. Leads s code own (made + 2) w (track words (IsAt seat.place (Some seat.restart))) last) one
-      (subst (λ n. Leads s code own n (1 + made) (track words (IsAt seat.place (Some seat.restart))) last) two
-      (both (in_front seat header words stand h same finish stands) more)))
+      → Leads s code own (n + made + 2) (w + made + 1) first last
+  capsule_more {n} {w} {first} seat header words stand last made so_far h same finish stands more =
+      subst (λ v. Leads s code own (n + made + 2) v first last) one
+      (subst (λ k. Leads s code own k (w + (1 + made)) first last) two
+      (both so_far (both (in_front seat header words stand h same finish stands) more)))
     where
-      one : 1 + made ≡ made + 1
+      one : w + (1 + made) ≡ w + made + 1
       one = omega arith
-      two : 2 + made ≡ made + 2
+
+      two : n + (2 + made) ≡ n + made + 2
       two = omega arith

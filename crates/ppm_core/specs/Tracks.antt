@@ -1,13 +1,17 @@
 -- The words and where one processor stands, as it makes steps in a row.
-use Rattle.std.specs.Prelude.{◌≡◌, ℕ, zero, suc, ◌+◌, if◌then◌else◌, false, List}
-use Rattle.ppm_cells.specs.Memory.{read}
+use Rattle.std.specs.Prelude.{◌≡◌, ℕ, zero, suc, ◌+◌, if◌then◌else◌, Bool, false, List}
+use Rattle.ppm_cells.specs.Memory.{AreWordsOf, read}
 use Rattle.ppm_cells.specs.declared.cell.Cell.TheVariants.{FinishWord}
 use Rattle.ppm_cells.specs.declared.shape.Shape.{Shape}
 use Rattle.ppm_code.specs.declared.code.CodeParts.{CodeParts}
 use Rattle.ppm_step.specs.declared.turn.Act.TheVariants.{Step}
 use Rattle.ppm_step.specs.declared.turn.Next.TheVariants.{Work}
-use Rattle.ppm_step.specs.Standings.{Standing}
-use Rattle.ppm_step.specs.State.{next_of}
+use Rattle.ppm_step.specs.declared.going.Going.{Going}
+use Rattle.ppm_step.specs.declared.going.Going.TheVariants.{Went, Installed}
+use Rattle.ppm_step.specs.declared.running.Running.{Running}
+use Rattle.ppm_step.specs.Stages.{WentOn, rest_at, went_on}
+use Rattle.ppm_step.specs.Standings.{Standing, wanted_rest, went_rest}
+use Rattle.ppm_step.specs.State.{found_in, next_of, words_after}
 use Rattle.ppm_step.specs.Told.{is_work_turn}
 use Rattle.ppm_core.specs.Acts.{is_done_at, seeks_holder_at, forks_at, takes_at, words_acted, stand_acted}
 
@@ -62,3 +66,23 @@ module _ (s : Shape) (code : CodeParts) (own : ℕ) where
     pub comes_to : last ≡ moved_by n first
     pub works : work ≡ work_in n first
     pub ends : LastWorks n first
+
+-- a capsule under way goes on by a word step
+pub record MovesOn (s : Shape) (code : CodeParts) (old new : Running) (registers registers' words words' : List ℕ) (going : Going) : Type 0 where
+  pub words_are : words' ≡ words_after words (wanted_rest s old.seat (rest_at s code old old.stage registers))
+  pub count : AreWordsOf s words'
+  pub stands : went_on old.seat (rest_at s code new new.stage registers') going
+      ≡ went_rest s old.seat (found_in words (wanted_rest s old.seat (rest_at s code old old.stage registers))) (rest_at s code old old.stage registers)
+  pub holds : WentOn s code new registers' going
+  pub seat : new.seat ≡ old.seat
+
+-- or all is as it was
+pub record Stays (old new : Running) (registers registers' words words' : List ℕ) : Type 0 where
+  pub running : new ≡ old
+  pub registers_are : registers' ≡ registers
+  pub words_are : words' ≡ words
+
+-- whether it goes on behind that
+abbrev pub is_under_way : Going → Bool
+is_under_way (Went there) = there
+is_under_way (Installed restart) = false

@@ -1,14 +1,15 @@
 //! The steps that one processor makes in a row in capsules of frames: what `act_on` makes of them one by one, with the capsule under way
 //! held apart from the processor between them.
-ghost use Rattle.std.specs.Prelude.{◌≡◌, ◌<◌, ◌≤◌};
+ghost use Rattle.std.specs.Prelude.{◌≡◌, ◌<◌, ◌≤◌, true, Some, MatchOption};
 ghost use Rattle.ppm_cells.specs.Memory.{AreWordsOf, read};
 ghost use Rattle.ppm_cells.specs.Restart.{IsRestart};
 ghost use Rattle.ppm_cells.specs.declared.cell.Cell.TheVariants.{FinishWord};
-ghost use Rattle.ppm_core.specs.Tracks.{track, Leads};
+ghost use Rattle.ppm_core.specs.Tracks.{track, is_under_way, Leads, MovesOn, Stays};
+ghost use Rattle.ppm_step.specs.Facts.{IsSeat};
 ghost use Rattle.ppm_step.specs.Locals.{IsLocal, standing_of};
 ghost use Rattle.ppm_step.specs.Stages.{IsUnderWay, WentOn, rest_at, went_on};
-ghost use Rattle.ppm_step.specs.Standings.{IsAt, IsRunning, wanted_rest, went_rest};
-ghost use Rattle.ppm_step.specs.State.{found_in, words_after};
+ghost use Rattle.ppm_step.specs.Standings.{IsAt, IsRunning};
+ghost use Rattle.ppm_step.specs.declared.going.Going.TheVariants.{Went};
 
 use crate::acts::{found_by, store};
 use ppm_cells::{Cell, Restart, Shape};
@@ -42,15 +43,7 @@ fn move_on(
 ) -> Going
     requires running { IsUnderWay shape.now code.now running.old registers.old }
     requires words { AreWordsOf shape.now words.old.items }
-    ensures words { words.new.items
-        ≡ words_after words.old.items (wanted_rest shape.now running.old.seat (rest_at shape.now code.now running.old running.old.stage registers.old)) }
-    ensures stands { went_on running.old.seat (rest_at shape.now code.now running.new running.new.stage registers.new) result
-        ≡ went_rest shape.now running.old.seat
-            (found_in words.old.items (wanted_rest shape.now running.old.seat (rest_at shape.now code.now running.old running.old.stage registers.old)))
-            (rest_at shape.now code.now running.old running.old.stage registers.old) }
-    ensures holds { WentOn shape.now code.now running.new registers.new result }
-    ensures seat { running.new.seat ≡ running.old.seat }
-    ensures count { AreWordsOf shape.now words.new.items }
+    ensures { MovesOn shape.now code.now running.old running.new registers.old registers.new words.old.items words.new.items result }
 {
     let want = running.want(shape, code, registers);
     let found = found_by(words, shape, want);
@@ -59,121 +52,156 @@ fn move_on(
     going
 }
 
-/// The same in code that is no other function's.
-#[inline(never)]
-fn move_apart(
-    running: &mut Running,
-    registers: &mut [u64; 64],
-    words: &mut Vec<u64>,
-    shape: &Shape,
-    code: &Code,
-) -> Going
-    requires running { IsUnderWay shape.now code.now running.old registers.old }
-    requires words { AreWordsOf shape.now words.old.items }
-    ensures words { words.new.items
-        ≡ words_after words.old.items (wanted_rest shape.now running.old.seat (rest_at shape.now code.now running.old running.old.stage registers.old)) }
-    ensures stands { went_on running.old.seat (rest_at shape.now code.now running.new running.new.stage registers.new) result
-        ≡ went_rest shape.now running.old.seat
-            (found_in words.old.items (wanted_rest shape.now running.old.seat (rest_at shape.now code.now running.old running.old.stage registers.old)))
-            (rest_at shape.now code.now running.old running.old.stage registers.old) }
-    ensures holds { WentOn shape.now code.now running.new registers.new result }
-    ensures seat { running.new.seat ≡ running.old.seat }
-    ensures count { AreWordsOf shape.now words.new.items }
-{
-    move_on(running, registers, words, shape, code)
-}
-
-/// The same, where each stage that comes often has code to itself, in which the compiler knows it.
+/// The same at the stages that come often, each with code to itself, in which the compiler knows it. At the others nothing is done.
 #[inline(always)]
-fn move_by_stage(
+fn move_often(
     running: &mut Running,
     registers: &mut [u64; 64],
     words: &mut Vec<u64>,
     shape: &Shape,
     code: &Code,
-) -> Going
+) -> Option<Going>
     requires running { IsUnderWay shape.now code.now running.old registers.old }
     requires words { AreWordsOf shape.now words.old.items }
-    ensures words { words.new.items
-        ≡ words_after words.old.items (wanted_rest shape.now running.old.seat (rest_at shape.now code.now running.old running.old.stage registers.old)) }
-    ensures stands { went_on running.old.seat (rest_at shape.now code.now running.new running.new.stage registers.new) result
-        ≡ went_rest shape.now running.old.seat
-            (found_in words.old.items (wanted_rest shape.now running.old.seat (rest_at shape.now code.now running.old running.old.stage registers.old)))
-            (rest_at shape.now code.now running.old running.old.stage registers.old) }
-    ensures holds { WentOn shape.now code.now running.new registers.new result }
-    ensures seat { running.new.seat ≡ running.old.seat }
-    ensures count { AreWordsOf shape.now words.new.items }
+    ensures { MatchOption result
+        (Stays running.old running.new registers.old registers.new words.old.items words.new.items)
+        (MovesOn shape.now code.now running.old running.new registers.old registers.new words.old.items words.new.items) }
 {
     match running.stage {
-        Stage::Before(Step::Loads(..)) => move_on(running, registers, words, shape, code),
-        Stage::Before(Step::Stores(..)) => move_on(running, registers, words, shape, code),
-        Stage::Ending(End::Next { .. }, 0) => move_on(running, registers, words, shape, code),
-        Stage::Ending(End::Next { .. }, _) => move_on(running, registers, words, shape, code),
-        Stage::Before(Step::Asks(_)) | Stage::Ending(..) | Stage::Filled => {
-            // By a copy, so that the caller can hold it in registers.
-            let mut apart = *running;
-            let going = move_apart(&mut apart, registers, words, shape, code);
-            *running = apart;
-            going
+        Stage::Before(Step::Loads(..)) => Some(move_on(running, registers, words, shape, code)),
+        Stage::Before(Step::Stores(..)) => Some(move_on(running, registers, words, shape, code)),
+        Stage::Ending(End::Next { .. }, 0) => Some(move_on(running, registers, words, shape, code)),
+        Stage::Ending(End::Next { .. }, _) => Some(move_on(running, registers, words, shape, code)),
+        Stage::Before(Step::Asks(_)) | Stage::Ending(..) | Stage::Filled => None,
+    }
+}
+
+/// How far a capsule came: so many steps were made, each of them work, and this came of the last one; it goes on where there was none.
+#[derive(Clone, Copy, Debug, PartialEq, Eq)]
+struct Stretch {
+    made: u64,
+    going: Going,
+}
+
+/// Goes through a capsule of a frame, at most so many steps, while the finish word is 0, up to a stage that comes seldom.
+#[inline(always)]
+fn go_through(
+    running: &mut Running,
+    registers: &mut [u64; 64],
+    words: &mut Vec<u64>,
+    shape: &Shape,
+    code: &Code,
+    most: u64,
+) -> Stretch
+    requires running { IsUnderWay shape.now code.now running.old registers.old }
+    requires words { AreWordsOf shape.now words.old.items }
+    ensures few { result.made ≤ most }
+    ensures leads { Leads shape.now code.now running.old.seat.own result.made result.made
+        (track words.old.items (IsRunning running.old.seat (rest_at shape.now code.now running.old running.old.stage registers.old)))
+        (track words.new.items (went_on running.old.seat (rest_at shape.now code.now running.new running.new.stage registers.new) result.going)) }
+    ensures holds { WentOn shape.now code.now running.new registers.new result.going }
+    ensures seat { running.new.seat ≡ running.old.seat }
+    ensures count { AreWordsOf shape.now words.new.items }
+{
+    let mut made = 0;
+    while made < most {
+        if finish_word(words, shape) != 0 {
+            return under_way(made);
+        }
+        let Some(going) = move_often(running, registers, words, shape, code) else {
+            return under_way(made);
+        };
+        made += 1;
+        if !is_under_way(going) {
+            return Stretch { made, going };
+        }
+    }
+    under_way(made)
+}
+
+/// Whether the capsule goes on behind a step.
+#[inline(always)]
+fn is_under_way(going: Going) -> bool
+    ensures { result ≡ is_under_way going }
+{
+    match going {
+        Going::Went(there) => there,
+        Going::Installed(_) => false,
+    }
+}
+
+/// The capsule goes on behind so many steps.
+#[inline(always)]
+fn under_way(made: u64) -> Stretch
+    ensures { result ≡ record { made = made; going = Went true } }
+{
+    Stretch {
+        made,
+        going: Going::Went(true),
+    }
+}
+
+/// Stands where a capsule came to.
+#[inline(always)]
+fn stand_behind(local: &mut Local, shape: &Shape, code: &Code, running: Running, going: Going)
+    requires holds { WentOn shape.now code.now running local.old.registers going }
+    requires seat { IsSeat shape.now running.seat }
+    requires own { running.seat.own ≡ local.old.own }
+    ensures stands { standing_of shape.now code.now local.new
+        ≡ went_on running.seat (rest_at shape.now code.now running running.stage local.old.registers) going }
+    ensures holds { IsLocal shape.now code.now local.new }
+    ensures own_stays { local.new.own ≡ local.old.own }
+{
+    let _ = (shape.slots, code.parts().root);
+    let place = running.seat.place;
+    match going {
+        Going::Went(true) => local.stand = Stand::Runs(running),
+        Going::Went(false) => local.stand = Stand::Broken { place },
+        Going::Installed(restart) => {
+            local.stand = Stand::At {
+                place,
+                restart: Some(restart),
+            };
         }
     }
 }
 
-/// Goes through a capsule of a frame, at most so many steps, while the finish word is 0; how many were made. Each is work.
-#[inline(always)]
-fn go_through(
+/// Goes through the capsule under way.
+fn go_on(
     local: &mut Local,
     words: &mut Vec<u64>,
     shape: &Shape,
     code: &Code,
     running: Running,
     most: u64,
-) -> u64
+) -> Steps
+    requires local { IsLocal shape.now code.now local.old }
     requires running { IsUnderWay shape.now code.now running local.old.registers }
     requires own { running.seat.own ≡ local.old.own }
-    requires carrier { local.old.own < shape.now.processors }
     requires words { AreWordsOf shape.now words.old.items }
-    ensures few { result ≤ most }
-    ensures leads { Leads shape.now code.now local.old.own result result
+    ensures few { (result.made ≤ most) × (result.work ≤ result.made) }
+    ensures leads { Leads shape.now code.now local.old.own result.made result.work
         (track words.old.items (IsRunning running.seat (rest_at shape.now code.now running running.stage local.old.registers)))
         (track words.new.items (standing_of shape.now code.now local.new)) }
     ensures holds { IsLocal shape.now code.now local.new }
-    ensures own { local.new.own ≡ local.old.own }
+    ensures own_stays { local.new.own ≡ local.old.own }
     ensures count { AreWordsOf shape.now words.new.items }
 {
-    let place = running.seat.place;
     let mut ran = running;
-    let mut made = 0;
-    while made < most {
-        if finish_word(words, shape) != 0 {
-            local.stand = Stand::Runs(ran);
-            return made;
-        }
-        let going = move_by_stage(&mut ran, &mut local.registers, words, shape, code);
-        made += 1;
-        match going {
-            Going::Went(true) => {}
-            Going::Went(false) => {
-                local.stand = Stand::Broken { place };
-                return made;
-            }
-            Going::Installed(restart) => {
-                local.stand = Stand::At {
-                    place,
-                    restart: Some(restart),
-                };
-                return made;
-            }
-        }
+    let stretch = go_through(&mut ran, &mut local.registers, words, shape, code, most);
+    stand_behind(local, shape, code, ran, stretch.going);
+    Steps {
+        made: stretch.made,
+        work: stretch.made,
     }
-    local.stand = Stand::Runs(ran);
-    made
 }
 
-/// Begins the capsule of a frame that the place goes on with, and goes through it: at most so many steps, where the finish word is 0; how many were
-/// made, none where there is no such capsule. The first is no work.
-#[inline(always)]
-fn begin(
+/// No steps.
+const NONE: Steps = Steps { made: 0, work: 0 };
+
+/// Goes through capsules of the frame that the place goes on with, each from its beginning, at most so many steps, while the finish word is 0. The
+/// first step of each is no work.
+fn go_round(
     local: &mut Local,
     words: &mut Vec<u64>,
     shape: &Shape,
@@ -183,79 +211,136 @@ fn begin(
     most: u64,
 ) -> Steps
     requires local { IsLocal shape.now code.now local.old }
-    requires stands { standing_of shape.now code.now local.old ≡ IsAt place (Some restart) }
     requires place { place < shape.now.processors }
     requires restart { IsRestart restart }
     requires words { AreWordsOf shape.now words.old.items }
     ensures few { (result.made ≤ most) × (result.work ≤ result.made) }
     ensures leads { Leads shape.now code.now local.old.own result.made result.work
-        (track words.old.items (standing_of shape.now code.now local.old))
+        (track words.old.items (IsAt place (Some restart)))
         (track words.new.items (standing_of shape.now code.now local.new)) }
     ensures holds { IsLocal shape.now code.now local.new }
-    ensures own { local.new.own ≡ local.old.own }
+    ensures own_stays { local.new.own ≡ local.old.own }
     ensures count { AreWordsOf shape.now words.new.items }
 {
-    if most < 2 {
-        return NONE;
+    let own = local.own;
+    let mut at = restart;
+    let mut steps = NONE;
+    while most - steps.made >= 2 {
+        if finish_word(words, shape) != 0 {
+            return wait_at(local, shape, code, place, at, steps);
+        }
+        let seat = Seat {
+            own,
+            place,
+            restart: at,
+        };
+        let Some(header) = header_of(shape, seat) else {
+            return wait_at(local, shape, code, place, at, steps);
+        };
+        let number = found_by(words, shape, Want::Loads(header));
+        let Some(running) = entered(shape, code, seat, number, &mut local.registers) else {
+            return wait_at(local, shape, code, place, at, steps);
+        };
+        let mut ran = running;
+        let left = most - steps.made - 2;
+        let stretch = go_through(&mut ran, &mut local.registers, words, shape, code, left);
+        steps = Steps {
+            made: steps.made + stretch.made + 2,
+            work: steps.work + stretch.made + 1,
+        };
+        match stretch.going {
+            Going::Installed(next) => at = next,
+            Going::Went(_) => {
+                stand_behind(local, shape, code, ran, stretch.going);
+                return steps;
+            }
+        }
     }
-    if finish_word(words, shape) != 0 {
-        return NONE;
-    }
-    let seat = Seat {
-        own: local.own,
-        place,
-        restart,
-    };
-    let Some(header) = header_of(shape, seat) else {
-        return NONE;
-    };
-    let number = found_by(words, shape, Want::Loads(header));
-    let Some(running) = entered(shape, code, seat, number, &mut local.registers) else {
-        return NONE;
-    };
-    let made = go_through(local, words, shape, code, running, most - 2);
-    Steps {
-        made: made + 2,
-        work: made + 1,
-    }
+    wait_at(local, shape, code, place, at, steps)
 }
 
-/// No steps.
-const NONE: Steps = Steps { made: 0, work: 0 };
+/// Stands before the capsule of a restart; the steps that were made are these.
+#[inline(never)]
+fn wait_at(
+    local: &mut Local,
+    shape: &Shape,
+    code: &Code,
+    place: u32,
+    at: Restart,
+    steps: Steps,
+) -> Steps
+    requires carrier { local.old.own < shape.now.processors }
+    requires place { place < shape.now.processors }
+    requires restart { IsRestart at }
+    ensures stands { standing_of shape.now code.now local.new ≡ IsAt place (Some at) }
+    ensures holds { IsLocal shape.now code.now local.new }
+    ensures own_stays { local.new.own ≡ local.old.own }
+    ensures steps { result ≡ steps }
+{
+    let _ = (shape.slots, code.parts().root);
+    local.stand = Stand::At {
+        place,
+        restart: Some(at),
+    };
+    steps
+}
 
-/// Goes through the capsule of a frame in which the processor stands, or before which it stands.
-#[inline(always)]
-fn go_on(
+/// Makes one step of the capsule under way, at any stage.
+#[inline(never)]
+fn go_once(
     local: &mut Local,
     words: &mut Vec<u64>,
     shape: &Shape,
     code: &Code,
+    running: Running,
+) -> Steps
+    requires running { IsUnderWay shape.now code.now running local.old.registers }
+    requires own { running.seat.own ≡ local.old.own }
+    requires words { AreWordsOf shape.now words.old.items }
+    requires finish { read shape.now words.old.items FinishWord ≡ 0 }
+    ensures few { (result.made ≤ 1) × (result.work ≤ result.made) }
+    ensures leads { Leads shape.now code.now local.old.own result.made result.work
+        (track words.old.items (IsRunning running.seat (rest_at shape.now code.now running running.stage local.old.registers)))
+        (track words.new.items (standing_of shape.now code.now local.new)) }
+    ensures holds { IsLocal shape.now code.now local.new }
+    ensures own_stays { local.new.own ≡ local.old.own }
+    ensures count { AreWordsOf shape.now words.new.items }
+{
+    let mut ran = running;
+    let going = move_on(&mut ran, &mut local.registers, words, shape, code);
+    stand_behind(local, shape, code, ran, going);
+    Steps { made: 1, work: 1 }
+}
+
+/// Goes on with the capsule under way by a step at least.
+fn go_further(
+    local: &mut Local,
+    words: &mut Vec<u64>,
+    shape: &Shape,
+    code: &Code,
+    running: Running,
     most: u64,
 ) -> Steps
     requires local { IsLocal shape.now code.now local.old }
+    requires running { IsUnderWay shape.now code.now running local.old.registers }
+    requires own { running.seat.own ≡ local.old.own }
     requires words { AreWordsOf shape.now words.old.items }
+    requires most { 0 < most }
+    requires finish { read shape.now words.old.items FinishWord ≡ 0 }
     ensures few { (result.made ≤ most) × (result.work ≤ result.made) }
     ensures leads { Leads shape.now code.now local.old.own result.made result.work
-        (track words.old.items (standing_of shape.now code.now local.old))
+        (track words.old.items (IsRunning running.seat (rest_at shape.now code.now running running.stage local.old.registers)))
         (track words.new.items (standing_of shape.now code.now local.new)) }
     ensures holds { IsLocal shape.now code.now local.new }
-    ensures own { local.new.own ≡ local.old.own }
+    ensures own_stays { local.new.own ≡ local.old.own }
     ensures count { AreWordsOf shape.now words.new.items }
 {
-    match local.stand {
-        Stand::At { place, restart } => match restart {
-            Some(restart) => begin(local, words, shape, code, place, restart, most),
-            None => NONE,
-        },
-        Stand::Runs(running) => {
-            let made = go_through(local, words, shape, code, running, most);
-            Steps { made, work: made }
+    match running.stage {
+        Stage::Before(Step::Asks(_)) | Stage::Filled => go_once(local, words, shape, code, running),
+        Stage::Before(_) | Stage::Ending(End::Next { .. }, _) => {
+            go_on(local, words, shape, code, running, most)
         }
-        Stand::Lost
-        | Stand::Placed { .. }
-        | Stand::Within { .. }
-        | Stand::Broken { .. }
-        | Stand::Done => NONE,
+        Stage::Ending(..) => go_once(local, words, shape, code, running),
     }
 }
 
@@ -277,15 +362,47 @@ pub(crate) fn step_along(
     ensures own { local.new.own ≡ local.old.own }
     ensures count { AreWordsOf shape.now words.new.items }
 {
-    let mut made = 0;
-    let mut work = 0;
-    while made < most {
-        let more = go_on(local, words, shape, code, most - made);
-        if more.made == 0 {
-            return Steps { made, work };
+    let mut steps = NONE;
+    while steps.made < most {
+        if finish_word(words, shape) != 0 {
+            return steps;
         }
-        made += more.made;
-        work += more.work;
+        let more = go_along(local, words, shape, code, most - steps.made);
+        if more.made == 0 {
+            return steps;
+        }
+        steps = Steps {
+            made: steps.made + more.made,
+            work: steps.work + more.work,
+        };
     }
-    Steps { made, work }
+    steps
+}
+
+/// Goes on by the capsule in which the processor stands, or by those before which it stands; elsewhere by none.
+fn go_along(local: &mut Local, words: &mut Vec<u64>, shape: &Shape, code: &Code, most: u64) -> Steps
+    requires local { IsLocal shape.now code.now local.old }
+    requires words { AreWordsOf shape.now words.old.items }
+    requires most { 0 < most }
+    requires finish { read shape.now words.old.items FinishWord ≡ 0 }
+    ensures few { (result.made ≤ most) × (result.work ≤ result.made) }
+    ensures leads { Leads shape.now code.now local.old.own result.made result.work
+        (track words.old.items (standing_of shape.now code.now local.old))
+        (track words.new.items (standing_of shape.now code.now local.new)) }
+    ensures holds { IsLocal shape.now code.now local.new }
+    ensures own { local.new.own ≡ local.old.own }
+    ensures count { AreWordsOf shape.now words.new.items }
+{
+    match local.stand {
+        Stand::At { place, restart } => match restart {
+            Some(restart) => go_round(local, words, shape, code, place, restart, most),
+            None => NONE,
+        },
+        Stand::Runs(running) => go_further(local, words, shape, code, running, most),
+        Stand::Lost
+        | Stand::Placed { .. }
+        | Stand::Within { .. }
+        | Stand::Broken { .. }
+        | Stand::Done => NONE,
+    }
 }

@@ -8,13 +8,12 @@ use Rattle.ppm_core.proofs.steps.go_through.Given as goal
 -- the steps so far, each of them work, lead to the capsule as it is under way
 abbrev pub invariant-loop-made : goal.invariant-loop-made
 invariant-loop-made l =
-    Leads l.shape l.code l.fn.local.own l.made l.made
-    (track l.fn.words.items (IsRunning l.fn.running.seat (rest_at l.shape l.code l.fn.running l.fn.running.stage l.fn.local.registers)))
-    (track l.words.items (IsRunning l.ran.seat (rest_at l.shape l.code l.ran l.ran.stage l.local.registers)))
-    × IsUnderWay l.shape l.code l.ran l.local.registers
-    × (l.ran.seat ≡ l.fn.running.seat)
+    Leads l.shape l.code l.fn.running.seat.own l.made l.made
+    (track l.fn.words.items (IsRunning l.fn.running.seat (rest_at l.shape l.code l.fn.running l.fn.running.stage l.fn.registers)))
+    (track l.words.items (IsRunning l.fn.running.seat (rest_at l.shape l.code l.running l.running.stage l.registers)))
+    × IsUnderWay l.shape l.code l.running l.registers
+    × (l.running.seat ≡ l.fn.running.seat)
     × AreWordsOf l.shape l.words.items
-    × (l.local.own ≡ l.fn.local.own)
     × (l.made ≤ l.most)
 
 abbrev pub decreases-loop-made : goal.decreases-loop-made
