@@ -1,5 +1,5 @@
 -- Steps of one processor in a row: what is done to it and to the words is what so many turns make of the machine.
-use Rattle.std.proofs.Common.{◌≡◌, ◌∙◌, ℕ, zero, suc, ◌+◌, List, [], ◌∷◌, length, map, replicate, set, slice_get, Some, refl, sym, ap, subst, arith}
+use Rattle.std.proofs.Common.{◌≡◌, ◌∙◌, ℕ, zero, suc, ◌+◌, List, [], ◌∷◌, length, map, set, slice_get, Some, refl, sym, ap, subst, arith}
 use Rattle.std.proofs.lemmas.List.{length-append, length-replicate, map-set}
 use Rattle.ppm_cells.specs.Memory.{read}
 use Rattle.ppm_cells.specs.declared.cell.Cell.TheVariants.{FinishWord}
@@ -7,15 +7,13 @@ use Rattle.ppm_cells.specs.declared.shape.Shape.{Shape}
 use Rattle.ppm_code.specs.declared.code.CodeParts.{CodeParts}
 use Rattle.ppm_step.specs.declared.local.Local.{Local}
 use Rattle.ppm_step.specs.declared.turn.Act.TheVariants.{Step}
-use Rattle.ppm_step.specs.declared.turn.Next.TheVariants.{Work}
 use Rattle.ppm_step.specs.declared.turn.Turn.{Turn}
 use Rattle.ppm_step.specs.Locals.{standing_of}
-use Rattle.ppm_step.specs.Standings.{Standing}
 use Rattle.ppm_step.specs.State.{State, stand_in, stand_of, acts, happens, after, along, next_of, step_by, work_next, forks_of, takes_of, work_of}
 use Rattle.ppm_core.specs.Acts.{is_done_at, seeks_holder_at, forks_at, takes_at, words_acted, stand_acted}
 use Rattle.ppm_core.specs.Machine.{Holding, seen}
 use Rattle.ppm_core.specs.Situation.{Situation, turned, run_on}
-use Rattle.ppm_core.specs.Steps.{plain_step, plain_steps, IsPlain, ArePlain, EndsInWork}
+use Rattle.ppm_core.specs.Steps.{plain_step, plain_steps, ArePlain, EndsInWork}
 use Rattle.ppm_core.specs.Tracks.{Track, track, moved, moved_by, Moves, AllMove, work_at, work_in, LastWorks, Leads}
 use Rattle.ppm_core.proofs.ListLemmas.{get_changed, set_same}
 use Rattle.ppm_core.proofs.TurnLemmas.{acts_are, stands_at, work_is}
