@@ -2,5 +2,5 @@ pub mod ListLemmas
 pub mod LocalLemmas
 pub mod RunLemmas
 pub mod TurnLemmas
-pub mod TrackLemmas
+pub mod MomentLemmas
 pub mod StepsLemmas

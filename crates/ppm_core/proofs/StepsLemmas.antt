@@ -13,8 +13,8 @@ use Rattle.ppm_step.specs.State.{State, stand_in, stand_of, acts, happens, after
 use Rattle.ppm_core.specs.Acts.{is_done_at, seeks_holder_at, forks_at, takes_at, words_acted, stand_acted}
 use Rattle.ppm_core.specs.Machine.{Holding, seen}
 use Rattle.ppm_core.specs.Situation.{Situation, turned, run_on}
-use Rattle.ppm_core.specs.Steps.{plain_step, plain_steps, ArePlain, EndsInWork}
-use Rattle.ppm_core.specs.Tracks.{Track, track, moved, moved_by, Moves, AllMove, work_at, work_in, LastWorks, Leads}
+use Rattle.ppm_core.specs.Steps.{steady_step, steady_steps, AreSteady, EndsInWork}
+use Rattle.ppm_core.specs.Moments.{Moment, moment, moved, moved_by, Moves, AllMove, work_at, work_in, LastWorks, StepsTo}
 use Rattle.ppm_core.proofs.ListLemmas.{get_changed, set_same}
 use Rattle.ppm_core.proofs.TurnLemmas.{acts_are, stands_at, work_is}
 
@@ -25,109 +25,109 @@ set_again (z ∷ zs) zero x y = refl
 set_again (z ∷ zs) (suc n) x y = ap (λ l. z ∷ l) (set_again zs n x y)
 
 module _ (s : Shape) (code : CodeParts) (own : ℕ) where
-  -- the track is that of this processor
-  pub record StandsAt (state : State) (t : Track) : Type 0 where
+  -- the moment is that of this processor
+  pub record StandsAt (state : State) (t : Moment) : Type 0 where
     pub words : state.words ≡ t.words
     pub stand : slice_get state.stand own ≡ Some t.stand
 
-  stand_is : (state : State) (t : Track) → StandsAt state t → stand_of state own ≡ t.stand
+  stand_is : (state : State) (t : Moment) → StandsAt state t → stand_of state own ≡ t.stand
   stand_is state t h = ap stand_in h.stand
 
-  abbrev behind : State → Track → State
+  abbrev behind : State → Moment → State
   behind state t = record { words = t.words; stand = set state.stand own t.stand }
 
-  happens_on : (state : State) (t : Track) → StandsAt state t → happens s code state (plain_step own) ≡ behind state (moved s code own t)
+  happens_on : (state : State) (t : Moment) → StandsAt state t → happens s code state (steady_step own) ≡ behind state (moved s code own t)
   happens_on state t h =
       ap (λ found. acts s code state own (Step 0) (stand_in found)) h.stand
       ∙ acts_are s code state own (Step 0) t.stand h.stand
       ∙ ap (λ words. record { words = words_acted s code own (Step 0) words t.stand; stand = set state.stand own (stand_acted s code own (Step 0) words t.stand) }) h.words
 
-  turned_at : (state : State) (t : Track) → StandsAt state t → StandsAt (happens s code state (plain_step own)) (moved s code own t)
+  turned_at : (state : State) (t : Moment) → StandsAt state t → StandsAt (happens s code state (steady_step own)) (moved s code own t)
   turned_at state t h = record {
     words = ap (λ (k : State). k.words) (happens_on state t h);
     stand = ap (λ (k : State). slice_get k.stand own) (happens_on state t h)
         ∙ get_changed state.stand own (moved s code own t).stand t.stand h.stand;
   }
 
-  after_is : (n : ℕ) (state : State) (t : Track) → StandsAt state t
-      → after s code state (plain_steps own n) ≡ behind state (moved_by s code own n t)
+  after_is : (n : ℕ) (state : State) (t : Moment) → StandsAt state t
+      → after s code state (steady_steps own n) ≡ behind state (moved_by s code own n t)
   after_is zero state t h = λ i. record { words = h.words i; stand = sym (set_same state.stand own t.stand h.stand) i }
   after_is (suc n) state t h =
       let next = moved s code own t in
       let last = moved_by s code own n next in
-      after_is n (happens s code state (plain_step own)) next (turned_at state t h)
+      after_is n (happens s code state (steady_step own)) next (turned_at state t h)
       ∙ ap (λ (k : State). record { words = last.words; stand = set k.stand own last.stand }) (happens_on state t h)
       ∙ ap (λ stand. record { words = last.words; stand = stand }) (set_again state.stand own next.stand last.stand)
 
   -- what so many steps tell, counted
-  abbrev total : (Track → ℕ) → ℕ → Track → ℕ
+  abbrev total : (Moment → ℕ) → ℕ → Moment → ℕ
   total count zero t = 0
   total count (suc n) t = count t + total count n (moved s code own t)
 
-  told_in : (told : State → Turn → List ℕ) (count : Track → ℕ)
-      → ((state : State) (t : Track) → StandsAt state t → length (told state (plain_step own)) ≡ count t)
-      → (n : ℕ) (state : State) (t : Track) → StandsAt state t → length (along s code told state (plain_steps own n)) ≡ total count n t
+  told_in : (told : State → Turn → List ℕ) (count : Moment → ℕ)
+      → ((state : State) (t : Moment) → StandsAt state t → length (told state (steady_step own)) ≡ count t)
+      → (n : ℕ) (state : State) (t : Moment) → StandsAt state t → length (along s code told state (steady_steps own n)) ≡ total count n t
   told_in told count one zero state t h = refl
   told_in told count one (suc n) state t h =
-      let next = happens s code state (plain_step own) in
+      let next = happens s code state (steady_step own) in
       omega (
         arith,
-        length-append (told state (plain_step own)) (along s code told next (plain_steps own n)),
+        length-append (told state (steady_step own)) (along s code told next (steady_steps own n)),
         one state t h,
         told_in told count one n next (moved s code own t) (turned_at state t h),
       )
 
-  none_told : (count : Track → ℕ) → ((t : Track) → Moves s code own t → count t ≡ 0) → (n : ℕ) (t : Track) → AllMove s code own n t → total count n t ≡ 0
+  none_told : (count : Moment → ℕ) → ((t : Moment) → Moves s code own t → count t ≡ 0) → (n : ℕ) (t : Moment) → AllMove s code own n t → total count n t ≡ 0
   none_told count none zero t all = refl
   none_told count none (suc n) t all = omega (arith, none t all.0, none_told count none n (moved s code own t) all.1)
 
-  work_told : (n : ℕ) (t : Track) → total (work_at s code own) n t ≡ work_in s code own n t
+  work_told : (n : ℕ) (t : Moment) → total (work_at s code own) n t ≡ work_in s code own n t
   work_told zero t = refl
   work_told (suc n) t = ap (λ w. work_at s code own t + w) (work_told n (moved s code own t))
 
-  forks_one : (state : State) (t : Track) → StandsAt state t → length (forks_of state (plain_step own)) ≡ forks_at (Step 0) t.stand
+  forks_one : (state : State) (t : Moment) → StandsAt state t → length (forks_of state (steady_step own)) ≡ forks_at (Step 0) t.stand
   forks_one state t h = ap (λ standing. forks_at (Step 0) standing) (stand_is state t h)
 
-  takes_one : (state : State) (t : Track) → StandsAt state t → length (takes_of state (plain_step own)) ≡ takes_at (Step 0) t.stand
+  takes_one : (state : State) (t : Moment) → StandsAt state t → length (takes_of state (steady_step own)) ≡ takes_at (Step 0) t.stand
   takes_one state t h = ap (λ standing. takes_at (Step 0) standing) (stand_is state t h)
 
-  work_one : (state : State) (t : Track) → StandsAt state t → length (work_of state (plain_step own)) ≡ work_at s code own t
+  work_one : (state : State) (t : Moment) → StandsAt state t → length (work_of state (steady_step own)) ≡ work_at s code own t
   work_one state t h =
       ap (λ standing. length (step_by (λ st. work_next own (next_of st)) (Step 0) standing)) (stand_is state t h)
       ∙ sym (work_is s code own (Step 0) t.stand)
 
-  no_forks : (n : ℕ) (state : State) (t : Track) → StandsAt state t → AllMove s code own n t
-      → length (along s code forks_of state (plain_steps own n)) ≡ 0
+  no_forks : (n : ℕ) (state : State) (t : Moment) → StandsAt state t → AllMove s code own n t
+      → length (along s code forks_of state (steady_steps own n)) ≡ 0
   no_forks n state t h all =
       told_in forks_of (λ u. forks_at (Step 0) u.stand) forks_one n state t h ∙ none_told (λ u. forks_at (Step 0) u.stand) (λ u m. m.no_fork) n t all
 
-  no_takes : (n : ℕ) (state : State) (t : Track) → StandsAt state t → AllMove s code own n t
-      → length (along s code takes_of state (plain_steps own n)) ≡ 0
+  no_takes : (n : ℕ) (state : State) (t : Moment) → StandsAt state t → AllMove s code own n t
+      → length (along s code takes_of state (steady_steps own n)) ≡ 0
   no_takes n state t h all =
       told_in takes_of (λ u. takes_at (Step 0) u.stand) takes_one n state t h ∙ none_told (λ u. takes_at (Step 0) u.stand) (λ u m. m.no_take) n t all
 
-  works : (n : ℕ) (state : State) (t : Track) → StandsAt state t
-      → length (along s code work_of state (plain_steps own n)) ≡ work_in s code own n t
+  works : (n : ℕ) (state : State) (t : Moment) → StandsAt state t
+      → length (along s code work_of state (steady_steps own n)) ≡ work_in s code own n t
   works n state t h = told_in work_of (work_at s code own) work_one n state t h ∙ work_told n t
 
 -- each is plain
-pub are_plain : (n : ℕ) (m : Situation) (own : ℕ) (t : Track) → StandsAt m.shape m.code own m.state t → AllMove m.shape m.code own n t → ArePlain m own n
-are_plain zero m own t h all = tt
-are_plain (suc n) m own t h all = (
+pub are_steady : (n : ℕ) (m : Situation) (own : ℕ) (t : Moment) → StandsAt m.shape m.code own m.state t → AllMove m.shape m.code own n t → AreSteady m own n
+are_steady zero m own t h all = tt
+are_steady (suc n) m own t h all = (
   record {
     finish = ap (λ words. read m.shape words FinishWord) h.words ∙ all.0.finish;
     lives = ap is_done_at (stand_is m.shape m.code own m.state t h) ∙ all.0.lives;
     seeks_none = ap seeks_holder_at (stand_is m.shape m.code own m.state t h) ∙ all.0.seeks_none;
   },
-  are_plain n (turned m (plain_step own)) own (moved m.shape m.code own t) (turned_at m.shape m.code own m.state t h) all.1,
+  are_steady n (turned m (steady_step own)) own (moved m.shape m.code own t) (turned_at m.shape m.code own m.state t h) all.1,
 )
 
 -- and the last is work
-pub end_in_work : (n : ℕ) (m : Situation) (own : ℕ) (t : Track) → StandsAt m.shape m.code own m.state t → LastWorks m.shape m.code own n t → EndsInWork m own n
+pub end_in_work : (n : ℕ) (m : Situation) (own : ℕ) (t : Moment) → StandsAt m.shape m.code own m.state t → LastWorks m.shape m.code own n t → EndsInWork m own n
 end_in_work zero m own t h last = tt
 end_in_work (suc zero) m own t h last = ap next_of (stand_is m.shape m.code own m.state t h) ∙ last
 end_in_work (suc (suc n)) m own t h last =
-    end_in_work (suc n) (turned m (plain_step own)) own (moved m.shape m.code own t) (turned_at m.shape m.code own m.state t h) last
+    end_in_work (suc n) (turned m (steady_step own)) own (moved m.shape m.code own t) (turned_at m.shape m.code own m.state t h) last
 
 -- the whole machine
 abbrev pub with_steps : Holding → (own : ℕ) → Local → List ℕ → (work made : ℕ) → Holding
@@ -145,30 +145,30 @@ with_steps m own new words work made = record {
 
 pub record HasMade (m : Holding) (own : ℕ) (old new : Local) (words : List ℕ) (made work : ℕ) : Type 0 where
   pub at : slice_get m.locals own ≡ Some old
-  pub leads : Leads m.shape m.code own made work (track m.words (standing_of m.shape m.code old)) (track words (standing_of m.shape m.code new))
+  pub leads : StepsTo m.shape m.code own made work (moment m.words (standing_of m.shape m.code old)) (moment words (standing_of m.shape m.code new))
 
 stands : (m : Holding) (own : ℕ) (old new : Local) (words : List ℕ) (made work : ℕ) → HasMade m own old new words made work
-    → StandsAt m.shape m.code own (seen m).state (track m.words (standing_of m.shape m.code old))
+    → StandsAt m.shape m.code own (seen m).state (moment m.words (standing_of m.shape m.code old))
 stands m own old new words made work h = record { words = refl; stand = stands_at m own old h.at }
 
 pub run_is : (m : Holding) (own : ℕ) (old new : Local) (words : List ℕ) (made work : ℕ) → HasMade m own old new words made work
-    → seen (with_steps m own new words work made) ≡ run_on (seen m) (plain_steps own made)
+    → seen (with_steps m own new words work made) ≡ run_on (seen m) (steady_steps own made)
 run_is m own old new words made work h =
     let s = m.shape in
     let code = m.code in
-    let t : Track = track m.words (standing_of s code old) in
+    let t : Moment = moment m.words (standing_of s code old) in
     let at = stands m own old new words made work h in
-    let state : record { words = words; stand = map (standing_of s code) (set m.locals own new) } ≡ after s code (seen m).state (plain_steps own made) =
+    let state : record { words = words; stand = map (standing_of s code) (set m.locals own new) } ≡ after s code (seen m).state (steady_steps own made) =
     ap (λ stand. record { words = words; stand = stand }) (map-set (standing_of s code) m.locals own new)
-    ∙ ap (λ (u : Track). record { words = u.words; stand = set (seen m).state.stand own u.stand }) h.leads.comes_to
+    ∙ ap (λ (u : Moment). record { words = u.words; stand = set (seen m).state.stand own u.stand }) h.leads.comes_to
     ∙ sym (after_is s code own made (seen m).state t at) in
-    let forks : m.forks ≡ m.forks + length (along s code forks_of (seen m).state (plain_steps own made)) =
+    let forks : m.forks ≡ m.forks + length (along s code forks_of (seen m).state (steady_steps own made)) =
     omega (arith, no_forks s code own made (seen m).state t at h.leads.moves) in
-    let takes : m.takes ≡ m.takes + length (along s code takes_of (seen m).state (plain_steps own made)) =
+    let takes : m.takes ≡ m.takes + length (along s code takes_of (seen m).state (steady_steps own made)) =
     omega (arith, no_takes s code own made (seen m).state t at h.leads.moves) in
-    let works_path : m.work + work ≡ m.work + length (along s code work_of (seen m).state (plain_steps own made)) =
+    let works_path : m.work + work ≡ m.work + length (along s code work_of (seen m).state (steady_steps own made)) =
     omega (arith, works s code own made (seen m).state t at, h.leads.works) in
-    let turns : m.turns + made ≡ m.turns + length (plain_steps own made) = omega (arith, length-replicate made (plain_step own)) in
+    let turns : m.turns + made ≡ m.turns + length (steady_steps own made) = omega (arith, length-replicate made (steady_step own)) in
     λ i. record {
       shape = m.shape;
       code = m.code;
@@ -180,21 +180,21 @@ run_is m own old new words made work h =
       turns = turns i;
     }
 
-pub plain_is : (m : Holding) (own : ℕ) (old new : Local) (words : List ℕ) (made work : ℕ) → HasMade m own old new words made work
-    → ArePlain (seen m) own made
-plain_is m own old new words made work h =
-    are_plain made (seen m) own (track m.words (standing_of m.shape m.code old)) (stands m own old new words made work h) h.leads.moves
+pub steady_is : (m : Holding) (own : ℕ) (old new : Local) (words : List ℕ) (made work : ℕ) → HasMade m own old new words made work
+    → AreSteady (seen m) own made
+steady_is m own old new words made work h =
+    are_steady made (seen m) own (moment m.words (standing_of m.shape m.code old)) (stands m own old new words made work h) h.leads.moves
 
 pub work_is_last : (m : Holding) (own : ℕ) (old new : Local) (words : List ℕ) (made work : ℕ) → HasMade m own old new words made work
     → EndsInWork (seen m) own made
 work_is_last m own old new words made work h =
-    end_in_work made (seen m) own (track m.words (standing_of m.shape m.code old)) (stands m own old new words made work h) h.leads.ends
+    end_in_work made (seen m) own (moment m.words (standing_of m.shape m.code old)) (stands m own old new words made work h) h.leads.ends
 
 pub has_made : (m : Holding) (own : ℕ) (old new : Local) (words : List ℕ) (made work : ℕ) → slice_get m.locals own ≡ Some old → old.own ≡ own
-    → Leads m.shape m.code old.own made work (track m.words (standing_of m.shape m.code old)) (track words (standing_of m.shape m.code new))
+    → StepsTo m.shape m.code old.own made work (moment m.words (standing_of m.shape m.code old)) (moment words (standing_of m.shape m.code new))
     → HasMade m own old new words made work
 has_made m own old new words made work at same leads = record {
   at = at;
   leads = subst
-      (λ (n : ℕ). Leads m.shape m.code n made work (track m.words (standing_of m.shape m.code old)) (track words (standing_of m.shape m.code new))) same leads;
+      (λ (n : ℕ). StepsTo m.shape m.code n made work (moment m.words (standing_of m.shape m.code old)) (moment words (standing_of m.shape m.code new))) same leads;
 }

@@ -3,4 +3,4 @@ pub mod Situation
 pub mod Machine
 pub mod Laws
 pub mod Steps
-pub mod Tracks
+pub mod Moments

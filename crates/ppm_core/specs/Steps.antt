@@ -8,25 +8,25 @@ use Rattle.ppm_core.specs.Acts.{is_done_at, seeks_holder_at}
 use Rattle.ppm_core.specs.Situation.{Situation, finish_in, turned}
 
 -- a step for which no victim is due, and so many of them
-abbrev pub plain_step : (processor : ℕ) → Turn
-plain_step processor = record { processor = processor; act = Step 0 }
+abbrev pub steady_step : (processor : ℕ) → Turn
+steady_step processor = record { processor = processor; act = Step 0 }
 
-abbrev pub plain_steps : (processor n : ℕ) → List Turn
-plain_steps processor n = replicate n (plain_step processor)
+abbrev pub steady_steps : (processor n : ℕ) → List Turn
+steady_steps processor n = replicate n (steady_step processor)
 
 -- a processor is to make such a step: the run has not ended, it isn't done, and it loads no holder word as it seeks work
-pub record IsPlain (m : Situation) (processor : ℕ) : Type 0 where
+pub record IsSteady (m : Situation) (processor : ℕ) : Type 0 where
   pub finish : finish_in m ≡ 0
   pub lives : is_done_at (stand_of m.state processor) ≡ false
   pub seeks_none : seeks_holder_at (stand_of m.state processor) ≡ false
 
 -- so it is before each of so many
-abbrev pub ArePlain : Situation → (processor n : ℕ) → Type 0
-ArePlain m processor zero = Unit {0}
-ArePlain m processor (suc n) = IsPlain m processor × ArePlain (turned m (plain_step processor)) processor n
+abbrev pub AreSteady : Situation → (processor n : ℕ) → Type 0
+AreSteady m processor zero = Unit {0}
+AreSteady m processor (suc n) = IsSteady m processor × AreSteady (turned m (steady_step processor)) processor n
 
 -- the last of them, if there is one, is work
 abbrev pub EndsInWork : Situation → (processor n : ℕ) → Type 0
 EndsInWork m processor zero = Unit {0}
 EndsInWork m processor (suc zero) = next_of (stand_of m.state processor) ≡ Work
-EndsInWork m processor (suc (suc n)) = EndsInWork (turned m (plain_step processor)) processor (suc n)
+EndsInWork m processor (suc (suc n)) = EndsInWork (turned m (steady_step processor)) processor (suc n)

@@ -5,7 +5,7 @@ ghost use Rattle.ppm_cells.specs.Cells.{arrays_at};
 ghost use Rattle.ppm_core.specs.Acts.{IsTurnAmong, seeks_holder_at, is_done_at};
 ghost use Rattle.ppm_core.specs.Machine.{AreLocals, seen};
 ghost use Rattle.ppm_core.specs.Situation.{array_in, ending_of, finish_in, loaded, run_on, turned};
-ghost use Rattle.ppm_core.specs.Steps.{plain_steps, ArePlain, EndsInWork};
+ghost use Rattle.ppm_core.specs.Steps.{steady_steps, AreSteady, EndsInWork};
 ghost use Rattle.ppm_step.specs.Locals.{standing_of};
 ghost use Rattle.ppm_step.specs.Standings.{IsLost};
 ghost use Rattle.ppm_step.specs.State.{stand_of, next_of};
@@ -200,14 +200,16 @@ impl Machine {
         }
     }
 
-    /// Steps of a processor in a row, faster than turn by turn: at most so many, and as many as its capsules of frames make while
-    /// the finish word is 0. It tells how many it made; none, for example, where the processor stands before a row.
+    /// Word steps of a processor in a row, faster than turn by turn, and how many they were: at most `most`, each made while the finish word
+    /// is 0 and for which no victim is due, the last one work. No clause says how many, and there may be none: it makes those of capsules of
+    /// frames, from the finish word before one on, and stops before other rows. The processor is below their number, and there come to
+    /// be 2^62 turns at most. No event is told, and no memory is taken.
     pub fn steps(&mut self, processor: u32, most: u64) -> u64
         requires processor { processor < self.old.shape.processors }
         requires few { self.old.turns + most ≤ 2 ^ 62 }
-        ensures few { result ≤ most }
-        ensures machine { seen self.new ≡ run_on (seen self.old) (plain_steps processor result) }
-        ensures plain { ArePlain (seen self.old) processor result }
+        ensures bound { result ≤ most }
+        ensures machine { seen self.new ≡ run_on (seen self.old) (steady_steps processor result) }
+        ensures steady { AreSteady (seen self.old) processor result }
         ensures work { EndsInWork (seen self.old) processor result }
     {
         let local = &mut self.locals[processor as usize];

@@ -4,7 +4,7 @@ ghost use Rattle.std.specs.Prelude.{◌≡◌, ◌<◌, ◌≤◌, true, Some, M
 ghost use Rattle.ppm_cells.specs.Memory.{AreWordsOf, read};
 ghost use Rattle.ppm_cells.specs.Restart.{IsRestart};
 ghost use Rattle.ppm_cells.specs.declared.cell.Cell.TheVariants.{FinishWord};
-ghost use Rattle.ppm_core.specs.Tracks.{track, is_under_way, Leads, MovesOn, Stays};
+ghost use Rattle.ppm_core.specs.Moments.{moment, is_under_way, StepsTo, MovesOn, Stays};
 ghost use Rattle.ppm_step.specs.Facts.{IsSeat};
 ghost use Rattle.ppm_step.specs.Locals.{IsLocal, standing_of};
 ghost use Rattle.ppm_step.specs.Stages.{IsUnderWay, WentOn, rest_at, went_on};
@@ -34,7 +34,7 @@ fn finish_word(words: &Vec<u64>, shape: &Shape) -> u64
 
 /// Makes the word step of a capsule that comes next, and goes on with what it found.
 #[inline(always)]
-fn move_on(
+fn make_step(
     running: &mut Running,
     registers: &mut [u64; 64],
     words: &mut Vec<u64>,
@@ -54,7 +54,7 @@ fn move_on(
 
 /// The same at the stages that come often, each with code to itself, in which the compiler knows it. At the others nothing is done.
 #[inline(always)]
-fn move_often(
+fn make_often(
     running: &mut Running,
     registers: &mut [u64; 64],
     words: &mut Vec<u64>,
@@ -68,10 +68,14 @@ fn move_often(
         (MovesOn shape.now code.now running.old running.new registers.old registers.new words.old.items words.new.items) }
 {
     match running.stage {
-        Stage::Before(Step::Loads(..)) => Some(move_on(running, registers, words, shape, code)),
-        Stage::Before(Step::Stores(..)) => Some(move_on(running, registers, words, shape, code)),
-        Stage::Ending(End::Next { .. }, 0) => Some(move_on(running, registers, words, shape, code)),
-        Stage::Ending(End::Next { .. }, _) => Some(move_on(running, registers, words, shape, code)),
+        Stage::Before(Step::Loads(..)) => Some(make_step(running, registers, words, shape, code)),
+        Stage::Before(Step::Stores(..)) => Some(make_step(running, registers, words, shape, code)),
+        Stage::Ending(End::Next { .. }, 0) => Some(make_step(
+            running, registers, words, shape, code,
+        )),
+        Stage::Ending(End::Next { .. }, _) => Some(make_step(
+            running, registers, words, shape, code,
+        )),
         Stage::Before(Step::Asks(_)) | Stage::Ending(..) | Stage::Filled => None,
     }
 }
@@ -85,7 +89,7 @@ struct Stretch {
 
 /// Goes through a capsule of a frame, at most so many steps, while the finish word is 0, up to a stage that comes seldom.
 #[inline(always)]
-fn go_through(
+fn run_capsule(
     running: &mut Running,
     registers: &mut [u64; 64],
     words: &mut Vec<u64>,
@@ -96,9 +100,9 @@ fn go_through(
     requires running { IsUnderWay shape.now code.now running.old registers.old }
     requires words { AreWordsOf shape.now words.old.items }
     ensures few { result.made ≤ most }
-    ensures leads { Leads shape.now code.now running.old.seat.own result.made result.made
-        (track words.old.items (IsRunning running.old.seat (rest_at shape.now code.now running.old running.old.stage registers.old)))
-        (track words.new.items (went_on running.old.seat (rest_at shape.now code.now running.new running.new.stage registers.new) result.going)) }
+    ensures leads { StepsTo shape.now code.now running.old.seat.own result.made result.made
+        (moment words.old.items (IsRunning running.old.seat (rest_at shape.now code.now running.old running.old.stage registers.old)))
+        (moment words.new.items (went_on running.old.seat (rest_at shape.now code.now running.new running.new.stage registers.new) result.going)) }
     ensures holds { WentOn shape.now code.now running.new registers.new result.going }
     ensures seat { running.new.seat ≡ running.old.seat }
     ensures count { AreWordsOf shape.now words.new.items }
@@ -108,7 +112,7 @@ fn go_through(
         if finish_word(words, shape) != 0 {
             return under_way(made);
         }
-        let Some(going) = move_often(running, registers, words, shape, code) else {
+        let Some(going) = make_often(running, registers, words, shape, code) else {
             return under_way(made);
         };
         made += 1;
@@ -167,7 +171,7 @@ fn stand_behind(local: &mut Local, shape: &Shape, code: &Code, running: Running,
 }
 
 /// Goes through the capsule under way.
-fn go_on(
+fn resume_capsule(
     local: &mut Local,
     words: &mut Vec<u64>,
     shape: &Shape,
@@ -180,15 +184,15 @@ fn go_on(
     requires own { running.seat.own ≡ local.old.own }
     requires words { AreWordsOf shape.now words.old.items }
     ensures few { (result.made ≤ most) × (result.work ≤ result.made) }
-    ensures leads { Leads shape.now code.now local.old.own result.made result.work
-        (track words.old.items (IsRunning running.seat (rest_at shape.now code.now running running.stage local.old.registers)))
-        (track words.new.items (standing_of shape.now code.now local.new)) }
+    ensures leads { StepsTo shape.now code.now local.old.own result.made result.work
+        (moment words.old.items (IsRunning running.seat (rest_at shape.now code.now running running.stage local.old.registers)))
+        (moment words.new.items (standing_of shape.now code.now local.new)) }
     ensures holds { IsLocal shape.now code.now local.new }
     ensures own_stays { local.new.own ≡ local.old.own }
     ensures count { AreWordsOf shape.now words.new.items }
 {
     let mut ran = running;
-    let stretch = go_through(&mut ran, &mut local.registers, words, shape, code, most);
+    let stretch = run_capsule(&mut ran, &mut local.registers, words, shape, code, most);
     stand_behind(local, shape, code, ran, stretch.going);
     Steps {
         made: stretch.made,
@@ -201,7 +205,7 @@ const NONE: Steps = Steps { made: 0, work: 0 };
 
 /// Goes through capsules of the frame that the place goes on with, each from its beginning, at most so many steps, while the finish word is 0. The
 /// first step of each is no work.
-fn go_round(
+fn run_capsules(
     local: &mut Local,
     words: &mut Vec<u64>,
     shape: &Shape,
@@ -215,9 +219,9 @@ fn go_round(
     requires restart { IsRestart restart }
     requires words { AreWordsOf shape.now words.old.items }
     ensures few { (result.made ≤ most) × (result.work ≤ result.made) }
-    ensures leads { Leads shape.now code.now local.old.own result.made result.work
-        (track words.old.items (IsAt place (Some restart)))
-        (track words.new.items (standing_of shape.now code.now local.new)) }
+    ensures leads { StepsTo shape.now code.now local.old.own result.made result.work
+        (moment words.old.items (IsAt place (Some restart)))
+        (moment words.new.items (standing_of shape.now code.now local.new)) }
     ensures holds { IsLocal shape.now code.now local.new }
     ensures own_stays { local.new.own ≡ local.old.own }
     ensures count { AreWordsOf shape.now words.new.items }
@@ -227,7 +231,8 @@ fn go_round(
     let mut steps = NONE;
     while most - steps.made >= 2 {
         if finish_word(words, shape) != 0 {
-            return wait_at(local, shape, code, place, at, steps);
+            wait_at(local, shape, code, place, at);
+            return steps;
         }
         let seat = Seat {
             own,
@@ -235,15 +240,17 @@ fn go_round(
             restart: at,
         };
         let Some(header) = header_of(shape, seat) else {
-            return wait_at(local, shape, code, place, at, steps);
+            wait_at(local, shape, code, place, at);
+            return steps;
         };
         let number = found_by(words, shape, Want::Loads(header));
         let Some(running) = entered(shape, code, seat, number, &mut local.registers) else {
-            return wait_at(local, shape, code, place, at, steps);
+            wait_at(local, shape, code, place, at);
+            return steps;
         };
         let mut ran = running;
         let left = most - steps.made - 2;
-        let stretch = go_through(&mut ran, &mut local.registers, words, shape, code, left);
+        let stretch = run_capsule(&mut ran, &mut local.registers, words, shape, code, left);
         steps = Steps {
             made: steps.made + stretch.made + 2,
             work: steps.work + stretch.made + 1,
@@ -256,38 +263,30 @@ fn go_round(
             }
         }
     }
-    wait_at(local, shape, code, place, at, steps)
+    wait_at(local, shape, code, place, at);
+    steps
 }
 
-/// Stands before the capsule of a restart; the steps that were made are these.
+/// Stands before the capsule of a restart.
 #[inline(never)]
-fn wait_at(
-    local: &mut Local,
-    shape: &Shape,
-    code: &Code,
-    place: u32,
-    at: Restart,
-    steps: Steps,
-) -> Steps
+fn wait_at(local: &mut Local, shape: &Shape, code: &Code, place: u32, at: Restart)
     requires carrier { local.old.own < shape.now.processors }
     requires place { place < shape.now.processors }
     requires restart { IsRestart at }
     ensures stands { standing_of shape.now code.now local.new ≡ IsAt place (Some at) }
     ensures holds { IsLocal shape.now code.now local.new }
     ensures own_stays { local.new.own ≡ local.old.own }
-    ensures steps { result ≡ steps }
 {
     let _ = (shape.slots, code.parts().root);
     local.stand = Stand::At {
         place,
         restart: Some(at),
     };
-    steps
 }
 
 /// Makes one step of the capsule under way, at any stage.
 #[inline(never)]
-fn go_once(
+fn make_seldom(
     local: &mut Local,
     words: &mut Vec<u64>,
     shape: &Shape,
@@ -299,21 +298,21 @@ fn go_once(
     requires words { AreWordsOf shape.now words.old.items }
     requires finish { read shape.now words.old.items FinishWord ≡ 0 }
     ensures few { (result.made ≤ 1) × (result.work ≤ result.made) }
-    ensures leads { Leads shape.now code.now local.old.own result.made result.work
-        (track words.old.items (IsRunning running.seat (rest_at shape.now code.now running running.stage local.old.registers)))
-        (track words.new.items (standing_of shape.now code.now local.new)) }
+    ensures leads { StepsTo shape.now code.now local.old.own result.made result.work
+        (moment words.old.items (IsRunning running.seat (rest_at shape.now code.now running running.stage local.old.registers)))
+        (moment words.new.items (standing_of shape.now code.now local.new)) }
     ensures holds { IsLocal shape.now code.now local.new }
     ensures own_stays { local.new.own ≡ local.old.own }
     ensures count { AreWordsOf shape.now words.new.items }
 {
     let mut ran = running;
-    let going = move_on(&mut ran, &mut local.registers, words, shape, code);
+    let going = make_step(&mut ran, &mut local.registers, words, shape, code);
     stand_behind(local, shape, code, ran, going);
     Steps { made: 1, work: 1 }
 }
 
-/// Goes on with the capsule under way by a step at least.
-fn go_further(
+/// Goes on with the capsule under way: a stage that comes seldom is one step.
+fn resume(
     local: &mut Local,
     words: &mut Vec<u64>,
     shape: &Shape,
@@ -328,19 +327,21 @@ fn go_further(
     requires most { 0 < most }
     requires finish { read shape.now words.old.items FinishWord ≡ 0 }
     ensures few { (result.made ≤ most) × (result.work ≤ result.made) }
-    ensures leads { Leads shape.now code.now local.old.own result.made result.work
-        (track words.old.items (IsRunning running.seat (rest_at shape.now code.now running running.stage local.old.registers)))
-        (track words.new.items (standing_of shape.now code.now local.new)) }
+    ensures leads { StepsTo shape.now code.now local.old.own result.made result.work
+        (moment words.old.items (IsRunning running.seat (rest_at shape.now code.now running running.stage local.old.registers)))
+        (moment words.new.items (standing_of shape.now code.now local.new)) }
     ensures holds { IsLocal shape.now code.now local.new }
     ensures own_stays { local.new.own ≡ local.old.own }
     ensures count { AreWordsOf shape.now words.new.items }
 {
     match running.stage {
-        Stage::Before(Step::Asks(_)) | Stage::Filled => go_once(local, words, shape, code, running),
+        Stage::Before(Step::Asks(_)) | Stage::Filled => make_seldom(
+            local, words, shape, code, running,
+        ),
         Stage::Before(_) | Stage::Ending(End::Next { .. }, _) => {
-            go_on(local, words, shape, code, running, most)
+            resume_capsule(local, words, shape, code, running, most)
         }
-        Stage::Ending(..) => go_once(local, words, shape, code, running),
+        Stage::Ending(..) => make_seldom(local, words, shape, code, running),
     }
 }
 
@@ -355,9 +356,9 @@ pub(crate) fn step_along(
     requires local { IsLocal shape.now code.now local.old }
     requires words { AreWordsOf shape.now words.old.items }
     ensures few { (result.made ≤ most) × (result.work ≤ result.made) }
-    ensures leads { Leads shape.now code.now local.old.own result.made result.work
-        (track words.old.items (standing_of shape.now code.now local.old))
-        (track words.new.items (standing_of shape.now code.now local.new)) }
+    ensures leads { StepsTo shape.now code.now local.old.own result.made result.work
+        (moment words.old.items (standing_of shape.now code.now local.old))
+        (moment words.new.items (standing_of shape.now code.now local.new)) }
     ensures holds { IsLocal shape.now code.now local.new }
     ensures own { local.new.own ≡ local.old.own }
     ensures count { AreWordsOf shape.now words.new.items }
@@ -367,7 +368,7 @@ pub(crate) fn step_along(
         if finish_word(words, shape) != 0 {
             return steps;
         }
-        let more = go_along(local, words, shape, code, most - steps.made);
+        let more = steps_from(local, words, shape, code, most - steps.made);
         if more.made == 0 {
             return steps;
         }
@@ -380,25 +381,31 @@ pub(crate) fn step_along(
 }
 
 /// Goes on by the capsule in which the processor stands, or by those before which it stands; elsewhere by none.
-fn go_along(local: &mut Local, words: &mut Vec<u64>, shape: &Shape, code: &Code, most: u64) -> Steps
+fn steps_from(
+    local: &mut Local,
+    words: &mut Vec<u64>,
+    shape: &Shape,
+    code: &Code,
+    most: u64,
+) -> Steps
     requires local { IsLocal shape.now code.now local.old }
     requires words { AreWordsOf shape.now words.old.items }
     requires most { 0 < most }
     requires finish { read shape.now words.old.items FinishWord ≡ 0 }
     ensures few { (result.made ≤ most) × (result.work ≤ result.made) }
-    ensures leads { Leads shape.now code.now local.old.own result.made result.work
-        (track words.old.items (standing_of shape.now code.now local.old))
-        (track words.new.items (standing_of shape.now code.now local.new)) }
+    ensures leads { StepsTo shape.now code.now local.old.own result.made result.work
+        (moment words.old.items (standing_of shape.now code.now local.old))
+        (moment words.new.items (standing_of shape.now code.now local.new)) }
     ensures holds { IsLocal shape.now code.now local.new }
     ensures own { local.new.own ≡ local.old.own }
     ensures count { AreWordsOf shape.now words.new.items }
 {
     match local.stand {
         Stand::At { place, restart } => match restart {
-            Some(restart) => go_round(local, words, shape, code, place, restart, most),
+            Some(restart) => run_capsules(local, words, shape, code, place, restart, most),
             None => NONE,
         },
-        Stand::Runs(running) => go_further(local, words, shape, code, running, most),
+        Stand::Runs(running) => resume(local, words, shape, code, running, most),
         Stand::Lost
         | Stand::Placed { .. }
         | Stand::Within { .. }

@@ -1,4 +1,4 @@
--- Steps in a row that are the next acts of a processor.
+-- Acts that need no choice.
 use Rattle.std.proofs.Common.{◌≡◌, ◌∙◌, ◌⊎◌, inl, inr, ◌≤◌, ◌<◌, ℕ, ◌+◌, ◌-◌, ◌^◌, ◌&&◌, min, Bool, true, false, if◌then◌else◌, List, Option, Some, None, IsSome, is_some, arith, refl, sym, ap, subst}
 use Rattle.std.proofs.lemmas.Bool.{cases_lt, le-ltb, lt-leb}
 use Rattle.ppm_plan.specs.declared.fault.Fault.{Fault}
@@ -49,8 +49,8 @@ module _ (plan : Planned) (limits : Limits) (past : Past) (stood : Standing) (pa
     left_for k limits.turns (limits.turns - pace.work) refl (omega (arith, e, l)),
   )
 
-  spent : (k turns steps : ℕ) → steps ≡ turns - pace.work → past.work + steps < turns → ⊥
-  spent k turns steps e l = omega (arith, e, p.work, l)
+  spent : (turns steps : ℕ) → steps ≡ turns - pace.work → past.work + steps < turns → ⊥
+  spent turns steps e l = omega (arith, e, p.work, l)
 
   -- and no more
   pub are_most : (next : Option ℕ) (steps : ℕ) → IsLeastFrom fault_ahead 0 next → steps ≡ at_most next (limits.turns - pace.work)
@@ -63,7 +63,7 @@ module _ (plan : Planned) (limits : Limits) (past : Past) (stood : Standing) (pa
       go : (next : Option ℕ) → IsLeastFrom fault_ahead 0 next → steps ≡ at_most next (limits.turns - pace.work)
           → (steps < more) ⊎ (more ≤ steps) → more ≤ steps
       go next h e (inr l) = l
-      go None h e (inl l) = absurd (spent 0 limits.turns steps e (clear steps l).1)
+      go None h e (inl l) = absurd (spent limits.turns steps e (clear steps l).1)
       go (Some next) h e (inl l) =
           let turns_left = (clear steps l).1 in
           let same : steps ≡ next = omega (arith, e, p.work, turns_left) in

@@ -56,7 +56,8 @@ chosen plan limits pace =
     if is_seek pace.next && not pace.keeper && nat_le limits.looks pace.looks then Leave else
     by_fault (fault_of plan.items pace.processor pace.acts) (unfaulted limits pace)
 
--- steps in a row for which no victim is due are its next acts: the plan has no fault for any of them, and there is a work turn left for each
+-- so many acts come before the plan's next fault, and there is a work turn left for each: a step among them is the next act of a processor that
+-- neither is done nor rests and for which no victim is due
 abbrev pub AreClear : Planned → Limits → (processor : ℕ) → Past → (steps : ℕ) → Type 0
 AreClear plan limits processor past steps =
     (k : ℕ) → k < steps → (fault_of plan.items processor (past.acts + k) ≡ None) × (past.work + k < limits.turns)

@@ -1,4 +1,4 @@
-//! Steps that are the next acts of a processor in a row.
+//! Acts that need no choice.
 ghost use Rattle.std.specs.Prelude.{◌≡◌, ◌≤◌, ◌+◌, ℕ};
 ghost use Rattle.ppm_plan.specs.Faults.{IsLeastFrom};
 ghost use Rattle.ppm_step.specs.Standings.{Standing};
@@ -16,7 +16,7 @@ fn acts_to_fault(plan: &Plan, processor: u32, acts: u64) -> Option<u64>
     let Ok(turn) = u32::try_from(acts) else {
         return None;
     };
-    match plan.next(processor, turn) {
+    match plan.next_fault(processor, turn) {
         Some(next) => Some(u64::from(next) - acts),
         None => None,
     }
@@ -32,8 +32,8 @@ fn at_most(most: Option<u64>, count: u64) -> u64
     }
 }
 
-/// How many steps in a row are the next acts of a processor, whatever they are, so long as no victim is due: up to the next
-/// fault of the plan, and as many as there are work turns left.
+/// How many acts of a processor come before the next fault of the plan, and at most as many as it has work turns left. A step
+/// among them needs no choice: it is the next act of a processor that neither is done nor rests, where no victim is due.
 pub fn clear_steps(pace: &Pace, plan: &Plan, limits: Limits) -> u64
     ensures clear { (past : Past) (stood : Standing) → IsPace plan.now limits past stood pace.now
         → AreClear plan.now limits pace.now.processor past result }

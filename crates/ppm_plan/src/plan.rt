@@ -71,7 +71,7 @@ impl Plan {
 
     /// The least turn of a processor, from a turn on, for which it has a fault, both from 0; `None` where there is none. The
     /// time grows as the logarithm of the number of items.
-    pub fn next(&self, processor: u32, from: u32) -> Option<u32>
+    pub fn next_fault(&self, processor: u32, from: u32) -> Option<u32>
         ensures { IsNextFault self.now.items processor from result }
     {
         next_turn(&self.faults, processor, from)

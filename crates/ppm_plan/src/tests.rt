@@ -230,7 +230,11 @@ fn the_next_fault_is_found(rt: HostRuntime) -> Result<(), Fail> {
     match read_plan(rt.alloc(), b"1@4294967295s,1@3s,1@3h,0@3s,1@4h", 3) {
         Ok(plan) => {
             for (processor, from, next) in NEXT {
-                assert_eq!(rt; plan.next(processor, from), next, "{processor}@{from}");
+                assert_eq!(rt;
+                    plan.next_fault(processor, from),
+                    next,
+                    "{processor}@{from}"
+                );
             }
         }
         Err(error) => assert!(rt; false, "{error}"),

@@ -6,7 +6,7 @@ use Rattle.ppm_step.specs.declared.turn.Act.TheVariants.{Step}
 use Rattle.ppm_step.specs.State.{stand_of, happens}
 use Rattle.ppm_core.specs.Acts.{is_done_at}
 use Rattle.ppm_core.specs.Situation.{Situation, finish_in, turned, run_on}
-use Rattle.ppm_core.specs.Steps.{plain_step, plain_steps, IsPlain, ArePlain}
+use Rattle.ppm_core.specs.Steps.{steady_step, steady_steps, IsSteady, AreSteady}
 use Rattle.ppm_running.specs.declared.following.Way.{Way}
 use Rattle.ppm_running.specs.Course.{Due, Listed, InRound, Course, act_of, processor_of, victim_of, loads_of, turn_of, loads_behind}
 use Rattle.ppm_running.specs.Course.{is_open, is_made, behind_act, behind, turns_in, behind_all, turns_of}
@@ -31,13 +31,13 @@ opens m (Listed act) none = refl
 opens m (InRound processor) none = ap (λ word. word == 0) none
 
 -- a run under way, in which such a step is due
-module _ (m : Situation) (loads : List ℕ) (left : ℕ) (due : Due) (processor : ℕ) (step : IsStepOf processor due) (plain : IsPlain m processor) where
+module _ (m : Situation) (loads : List ℕ) (left : ℕ) (due : Due) (processor : ℕ) (step : IsStepOf processor due) (plain : IsSteady m processor) where
   abbrev now : Course
   now = record { state = m.state; loads = loads; left = left }
 
   -- the run behind it
   abbrev then_on : Course
-  then_on = record { state = (turned m (plain_step processor)).state; loads = loads; left = left - 1 }
+  then_on = record { state = (turned m (steady_step processor)).state; loads = loads; left = left - 1 }
 
   -- it is made, as a plain step, and leaves the loads as they were
   step_made : (n : ℕ) → suc n ≤ left → is_made m.shape m.code now due ≡ true
@@ -46,7 +46,7 @@ module _ (m : Situation) (loads : List ℕ) (left : ℕ) (due : Due) (processor 
       (has_left n left few) (opens m due plain.finish)
       (ap (λ act. is_done_at (stand_of m.state (processor_of act))) step.act_is ∙ plain.lives)
 
-  step_turn : turn_of m.shape.processors now (act_of due) ≡ plain_step processor
+  step_turn : turn_of m.shape.processors now (act_of due) ≡ steady_step processor
   step_turn =
       ap (turn_of m.shape.processors now) step.act_is
       ∙ ap (λ seeks. record {
@@ -64,41 +64,41 @@ module _ (m : Situation) (loads : List ℕ) (left : ℕ) (due : Due) (processor 
       ap (λ b. if b then behind_act m.shape m.code now (act_of due) else now) (step_made n few)
       ∙ (λ i. record { state = happens m.shape m.code m.state (step_turn i); loads = step_loads i; left = left - 1 })
 
-  turns_in_step : (n : ℕ) → suc n ≤ left → turns_in m.shape m.code now due ≡ plain_step processor ∷ []
+  turns_in_step : (n : ℕ) → suc n ≤ left → turns_in m.shape m.code now due ≡ steady_step processor ∷ []
   turns_in_step n few =
       ap (λ b. if b then turn_of m.shape.processors now (act_of due) ∷ [] else []) (step_made n few)
       ∙ ap (λ turn. turn ∷ []) step_turn
 
 -- so many of them
 record Ahead (m : Situation) (loads : List ℕ) (left : ℕ) (due : Due) (processor n : ℕ) : Type 0 where
-  turns : turns_of m.shape m.code (record { state = m.state; loads = loads; left = left }) (replicate n due) ≡ plain_steps processor n
+  turns : turns_of m.shape m.code (record { state = m.state; loads = loads; left = left }) (replicate n due) ≡ steady_steps processor n
   course_is : behind_all m.shape m.code (record { state = m.state; loads = loads; left = left }) (replicate n due)
-      ≡ record { state = (run_on m (plain_steps processor n)).state; loads = loads; left = left - n }
+      ≡ record { state = (run_on m (steady_steps processor n)).state; loads = loads; left = left - n }
 
 ahead : (m : Situation) (loads : List ℕ) (left : ℕ) (due : Due) (processor n : ℕ)
-    → IsStepOf processor due → n ≤ left → ArePlain m processor n → Ahead m loads left due processor n
+    → IsStepOf processor due → n ≤ left → AreSteady m processor n → Ahead m loads left due processor n
 ahead m loads left due processor zero step few plain =
     let same : left ≡ left - 0 = omega arith in
     record { turns = refl; course_is = ap (λ k. record { state = m.state; loads = loads; left = k }) same }
 ahead m loads left due processor (suc n) step few plain =
-    let next = ahead (turned m (plain_step processor)) loads (left - 1) due processor n step (omega (arith, few)) plain.1 in
+    let next = ahead (turned m (steady_step processor)) loads (left - 1) due processor n step (omega (arith, few)) plain.1 in
     let fewer : (left - 1) - n ≡ left - suc n = omega arith in
     let there = behind_step m loads left due processor step plain.0 n few in
     record {
       turns =
           ap (λ ts. ts ++ turns_of m.shape m.code (behind m.shape m.code (now m loads left due processor step plain.0) due) (replicate n due))
           (turns_in_step m loads left due processor step plain.0 n few)
-          ∙ ap (λ w. plain_step processor ∷ turns_of m.shape m.code w (replicate n due)) there
-          ∙ ap (λ ts. plain_step processor ∷ ts) next.turns;
+          ∙ ap (λ w. steady_step processor ∷ turns_of m.shape m.code w (replicate n due)) there
+          ∙ ap (λ ts. steady_step processor ∷ ts) next.turns;
       course_is =
           ap (λ w. behind_all m.shape m.code w (replicate n due)) there
           ∙ next.course_is
-          ∙ ap (λ k. record { state = (run_on m (plain_steps processor (suc n))).state; loads = loads; left = k }) fewer;
+          ∙ ap (λ k. record { state = (run_on m (steady_steps processor (suc n))).state; loads = loads; left = k }) fewer;
     }
 
 -- they were done
-pub does_ahead : {m m' : Situation} {way : Way} (processor n : ℕ) → n ≤ way.left → ArePlain m processor n
-    → m' ≡ run_on m (plain_steps processor n) → (due : Due) → IsStepOf processor due
+pub does_ahead : {m m' : Situation} {way : Way} (processor n : ℕ) → n ≤ way.left → AreSteady m processor n
+    → m' ≡ run_on m (steady_steps processor n) → (due : Due) → IsStepOf processor due
     → Does (replicate n due) m way m' (record { loads = way.loads; left = way.left - n })
 does_ahead {m} {m'} {way} processor n few plain is due step =
     let all = ahead m way.loads way.left due processor n step few plain in
@@ -109,9 +109,9 @@ does_ahead {m} {m'} {way} processor n few plain is due step =
 
 -- so many turns more, and as many acts fewer
 pub ready_ahead : {m m' : Situation} {way : Way} (processor n : ℕ) → n ≤ way.left → IsReady m way
-    → m' ≡ run_on m (plain_steps processor n) → IsReady m' (record { loads = way.loads; left = way.left - n })
+    → m' ≡ run_on m (steady_steps processor n) → IsReady m' (record { loads = way.loads; left = way.left - n })
 ready_ahead {m} {m'} {way} processor n few ready is = record {
-  turns = omega (arith, ready.turns, few, ap (λ k. k.turns) is, length-replicate n (plain_step processor));
+  turns = omega (arith, ready.turns, few, ap (λ k. k.turns) is, length-replicate n (steady_step processor));
   loads = λ c. fewer c;
 }
   where
@@ -148,10 +148,10 @@ dues_ahead due made left few =
     ap (λ n. replicate n due) all ∙ sym (replicate-append-replicate made (left - made) due)
 
 -- loops: so many rounds were made ahead
-pub goes_ahead : (count made left : ℕ) {m n o : Situation} {way v u : Way} → made ≤ left → n.shape ≡ m.shape
+pub rounds_ahead : (count made left : ℕ) {m n o : Situation} {way v u : Way} → made ≤ left → n.shape ≡ m.shape
     → LeadsTo (rounds m.shape.processors count) (rounds m.shape.processors left) m way n v → Does (rounds n.shape.processors made) n v o u
     → LeadsTo (rounds m.shape.processors count) (rounds m.shape.processors (left - made)) m way o u
-goes_ahead count made left {m} {n} {o} {way} {v} {u} few same l done =
+rounds_ahead count made left {m} {n} {o} {way} {v} {u} few same l done =
     let p = m.shape.processors in
     goes_on_by (rounds p count) (rounds p left) (rounds p made) (rounds p (left - made)) (rounds_ahead p made left few) l
     (subst (λ s. Does (rounds s.processors made) n v o u) same done)

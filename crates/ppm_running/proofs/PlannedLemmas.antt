@@ -28,14 +28,14 @@ use Rattle.ppm_running.specs.Planned.{IsRefusedBy, HasByItems, PlannedHas, Plann
 
 module _ {A : Type 0} (form : Form A) (plan : List ℕ) (processors : ℕ) (Has : List A → List ℕ → Answer → Type 0) (limit : ℕ) where
   -- no answer of a text by items is that a plan is refused
-  abbrev pub IsPlain : Type 0
-  IsPlain = (items : List A) (text : List ℕ) (number : ℕ) → ¬ Has items text (answers.PlanRefused number)
+  abbrev pub IsSteady : Type 0
+  IsSteady = (items : List A) (text : List ℕ) (number : ℕ) → ¬ Has items text (answers.PlanRefused number)
 
   -- the answers that texts have by items: by the same items one each
   pub record AreAnswers : Type 0 where
     pub one : (items : List A) (text : List ℕ) (a b : Answer) → Has items text a → Has items text b → a ≡ b
     pub front : (items : List A) (text rest : List ℕ) (a : Answer) → limit < length text → Has items text a → Has items (text ++ rest) a
-    pub plain : IsPlain
+    pub plain : IsSteady
 
   -- and a text that is not refused has one, by items that may be obeyed
   abbrev pub IsAnswered : Type 0
@@ -52,7 +52,7 @@ module _ {A : Type 0} (form : Form A) (plan : List ℕ) (processors : ℕ) (Has 
   Refused number = IsRefusedBy form plan processors number
 
   -- an answer by items is one with the plan
-  lifted : IsPlain → (text : List ℕ) (a : Answer) → HasByItems form plan processors Has text a → PH text a
+  lifted : IsSteady → (text : List ℕ) (a : Answer) → HasByItems form plan processors Has text a → PH text a
   lifted plain text (answers.PlanRefused number) h = absurd (plain h.items text number h.has)
   lifted plain text a h = h
 
@@ -68,7 +68,7 @@ module _ {A : Type 0} (form : Form A) (plan : List ℕ) (processors : ℕ) (Has 
     apart items accepted number r = law.apart plan processors items r.error r.of_text accepted r.refused
 
     -- with a plan that is accepted, an answer by its items may be given
-    pub by_items : IsPlain → (items : List A) → IsAccepted form plan processors items → (source : Port) (a : Answer)
+    pub by_items : IsSteady → (items : List A) → IsAccepted form plan processors items → (source : Port) (a : Answer)
         → JudgingMay limit (Has items) source a → May source a
     by_items plain items accepted source answers.ReadFault h = (h, record { items = items; accepted = accepted })
     by_items plain items accepted source answers.NoMemory h = (h, λ number r. absurd (apart items accepted number r))
@@ -91,7 +91,7 @@ module _ {A : Type 0} (form : Form A) (plan : List ℕ) (processors : ℕ) (Has 
             are.one i.items text a b i.has (subst (λ (x : List A). Has x text b) same j.has)
 
     -- a text that is not refused has one
-    pub some_answer : IsPlain → IsAnswered → HasSomeAnswer form plan processors Has
+    pub some_answer : IsSteady → IsAnswered → HasSomeAnswer form plan processors Has
     some_answer plain answered text free = go (law.some plan processors)
       where
         go : SomeAccepted form plan processors ⊎ SomeRefused form plan processors → (a : Answer) × PH text a
@@ -133,7 +133,7 @@ module _ {A : Type 0} (form : Form A) (plan : List ℕ) (processors : ℕ) (Has 
   abbrev ReadByItems : Port → Answer → Type 0
   ReadByItems source a = ReadHas limit (HasByItems form plan processors Has) source a
 
-  pub read_has : IsPlain → (source : Port) (a : Answer) → ReadByItems source a → ReadHas limit PH source a
+  pub read_has : IsSteady → (source : Port) (a : Answer) → ReadByItems source a → ReadHas limit PH source a
   read_has plain source a h = (h.0, h.1, lifted plain h.0 a h.2)
 
   -- an answer of the command is a read fault, want of memory, that the plan is refused, or that of the text that was read
@@ -230,7 +230,7 @@ module _ {A : Type 0} (form : Form A) (plan : List ℕ) (processors : ℕ) (Has 
         go (inr w) (inr (inr (inl p))) = inl (w.own ∙ ap status_of p.3)
         go (inr w) (inr (inr (inr h))) = absurd (apart law h.2.items h.2.accepted number r)
 
-    module _ (plain : IsPlain) (law : HasOneAnswer form plan processors Has limit) where
+    module _ (plain : IsSteady) (law : HasOneAnswer form plan processors Has limit) where
       -- what a text that was read has for an answer, the whole text has
       whole : (all : List ℕ) (now : Option (List ℕ)) (text : List ℕ) (answer : Answer) → ReadsTo limit (Some all) now text
           → PH text answer → PH all answer

@@ -12,7 +12,7 @@ use Rattle.ppm_step.specs.Standings.{Standing}
 use Rattle.ppm_step.specs.State.{stand_of, happens, along, next_of, work_next, work_of}
 use Rattle.ppm_core.specs.Acts.{is_done_at, seeks_holder_at}
 use Rattle.ppm_core.specs.Situation.{Situation, turned, run_on}
-use Rattle.ppm_core.specs.Steps.{plain_step, plain_steps, IsPlain, ArePlain, EndsInWork}
+use Rattle.ppm_core.specs.Steps.{steady_step, steady_steps, IsSteady, AreSteady, EndsInWork}
 use Rattle.ppm_core.proofs.RunLemmas.{run_none, run_step}
 use Rattle.ppm_pace.specs.declared.limits.Limits.{Limits}
 use Rattle.ppm_pace.specs.declared.pace.Pace.{Pace}
@@ -30,16 +30,16 @@ step_deed m = record { stood = stand_of m.state 0; act = Step 0 }
 
 abbrev pub past_steps : Past → Situation → (n : ℕ) → Past
 past_steps past m zero = past
-past_steps past m (suc n) = past_steps (behind past (step_deed m)) (turned m (plain_step 0)) n
+past_steps past m (suc n) = past_steps (behind past (step_deed m)) (turned m (steady_step 0)) n
 
 -- the work turns among them
 abbrev pub work_steps : Situation → (n : ℕ) → ℕ
-work_steps m n = length (along m.shape m.code work_of m.state (plain_steps 0 n))
+work_steps m n = length (along m.shape m.code work_of m.state (steady_steps 0 n))
 
 -- what they count
 pub acts_are : (past : Past) (m : Situation) (n : ℕ) → (past_steps past m n).acts ≡ past.acts + n
 acts_are past m zero = omega arith
-acts_are past m (suc n) = omega (arith, acts_are (behind past (step_deed m)) (turned m (plain_step 0)) n)
+acts_are past m (suc n) = omega (arith, acts_are (behind past (step_deed m)) (turned m (steady_step 0)) n)
 
 one_counts : (next : Next) (n : ℕ) → (if is_work next then n + 1 else n) ≡ n + length (work_next 0 next)
 one_counts Work n = refl
@@ -55,10 +55,10 @@ one_at_most Done = omega arith
 
 -- the first of them, and those behind it
 work_first : (m : Situation) (n : ℕ)
-    → work_steps m (suc n) ≡ length (work_next 0 (next_of (stand_of m.state 0))) + work_steps (turned m (plain_step 0)) n
+    → work_steps m (suc n) ≡ length (work_next 0 (next_of (stand_of m.state 0))) + work_steps (turned m (steady_step 0)) n
 work_first m n =
-    length-append (work_of m.state (plain_step 0))
-    (along m.shape m.code work_of (happens m.shape m.code m.state (plain_step 0)) (plain_steps 0 n))
+    length-append (work_of m.state (steady_step 0))
+    (along m.shape m.code work_of (happens m.shape m.code m.state (steady_step 0)) (steady_steps 0 n))
 
 pub work_are : (past : Past) (m : Situation) (n : ℕ) → (past_steps past m n).work ≡ past.work + work_steps m n
 work_are past m zero = omega arith
@@ -67,32 +67,32 @@ work_are past m (suc n) =
       arith,
       work_first m n,
       one_counts (next_of (stand_of m.state 0)) past.work,
-      work_are (behind past (step_deed m)) (turned m (plain_step 0)) n,
+      work_are (behind past (step_deed m)) (turned m (steady_step 0)) n,
     )
 
 pub work_within : (m : Situation) (n : ℕ) → work_steps m n ≤ n
 work_within m zero = omega arith
 work_within m (suc n) =
-    omega (arith, work_first m n, one_at_most (next_of (stand_of m.state 0)), work_within (turned m (plain_step 0)) n)
+    omega (arith, work_first m n, one_at_most (next_of (stand_of m.state 0)), work_within (turned m (steady_step 0)) n)
 
-pub work_more : (m n : Situation) (made : ℕ) → n ≡ run_on m (plain_steps 0 made) → n.work - m.work ≡ work_steps m made
+pub work_more : (m n : Situation) (made : ℕ) → n ≡ run_on m (steady_steps 0 made) → n.work - m.work ≡ work_steps m made
 work_more m n made is =
     let work : n.work ≡ m.work + work_steps m made = ap (λ (k : Situation). k.work) is in omega (arith, work)
 
 -- none of them draws
-not_due : (m : Situation) → IsPlain m 0 → is_due (stand_of m.state 0) ≡ false
+not_due : (m : Situation) → IsSteady m 0 → is_due (stand_of m.state 0) ≡ false
 not_due m p = sym (due_is (stand_of m.state 0)) ∙ p.seeks_none
 
-pub drawn_are : (past : Past) (m : Situation) (n : ℕ) → ArePlain m 0 n → (past_steps past m n).drawn ≡ past.drawn
+pub drawn_are : (past : Past) (m : Situation) (n : ℕ) → AreSteady m 0 n → (past_steps past m n).drawn ≡ past.drawn
 drawn_are past m zero p = refl
 drawn_are past m (suc n) p =
-    drawn_are (behind past (step_deed m)) (turned m (plain_step 0)) n p.1
+    drawn_are (behind past (step_deed m)) (turned m (steady_step 0)) n p.1
     ∙ ap (λ b. if b then past.drawn + 1 else past.drawn) (not_due m p.0)
 
 -- where the last is work, no look comes behind it
 pub looks_none : (past : Past) (m : Situation) (n : ℕ) → EndsInWork m 0 (suc n) → (past_steps past m (suc n)).looks ≡ 0
 looks_none past m zero e = ap (λ next. if is_work next then 0 else past.looks + 1) e
-looks_none past m (suc n) e = looks_none (behind past (step_deed m)) (turned m (plain_step 0)) n e
+looks_none past m (suc n) e = looks_none (behind past (step_deed m)) (turned m (steady_step 0)) n e
 
 module _ (plan : Planned) (limits : Limits) where
   -- what is clear of so many is clear of those behind the first
@@ -118,23 +118,23 @@ module _ (plan : Planned) (limits : Limits) where
       )
 
   -- the keeper that is not done goes on
-  goes_further : (past : Past) (m : Situation) → IsKeeper plan_form plan.items 0 → IsPlain m 0 → ¬ Stops plan limits 0 past (stand_of m.state 0)
+  goes_further : (past : Past) (m : Situation) → IsKeeper plan_form plan.items 0 → IsSteady m 0 → ¬ Stops plan limits 0 past (stand_of m.state 0)
   goes_further past m keeper p (inl done) = let is : is_done_at (stand_of m.state 0) ≡ true = ap (λ stood. is_done_at stood) done in
       cc (is, p.lives)
   goes_further past m keeper p (inr rests) = rests.1.no_keeper keeper
 
   -- whatever obeys behind them obeys from the first of them on
-  pub goes_back : (past : Past) (m last : Situation) (n : ℕ) → IsKeeper plan_form plan.items 0 → AreClear plan limits 0 past n → ArePlain m 0 n
-      → ObeysTo plan limits (past_steps past m n) (run_on m (plain_steps 0 n)) last → ObeysTo plan limits past m last
+  pub goes_back : (past : Past) (m last : Situation) (n : ℕ) → IsKeeper plan_form plan.items 0 → AreClear plan limits 0 past n → AreSteady m 0 n
+      → ObeysTo plan limits (past_steps past m n) (run_on m (steady_steps 0 n)) last → ObeysTo plan limits past m last
   goes_back past m last zero keeper c p o = subst (λ k. ObeysTo plan limits past k last) (sym (run_none m)) o
   goes_back past m last (suc n) keeper c p o =
       let clear = first_clear past n c in
       let stood : Standing = stand_of m.state 0 in
       let act : Step 0 ≡ next_act plan limits 0 past stood = sym (next_is_step plan limits 0 past stood clear.0 clear.1 (not_due m p.0)) in
-      let next : Situation = turned m (plain_step 0) in
+      let next : Situation = turned m (steady_step 0) in
       let behind_it : ObeysTo plan limits (behind past (step_deed m)) next last =
       goes_back (behind past (step_deed m)) next last n keeper (rest_clear past m n c) p.1
-      (subst (λ k. ObeysTo plan limits (past_steps past m (suc n)) k last) (sym (run_step m (plain_step 0) (plain_steps 0 n))) o) in
+      (subst (λ k. ObeysTo plan limits (past_steps past m (suc n)) k last) (sym (run_step m (steady_step 0) (steady_steps 0 n))) o) in
       goes_on plan limits (goes_further past m keeper p.0) (ap (λ a. turned m (record { processor = 0; act = a })) act)
       (subst (λ a. ObeysTo plan limits (behind past (record { stood = stood; act = a })) next last) act behind_it)
 
@@ -142,7 +142,7 @@ module _ (plan : Planned) (limits : Limits) where
   pub goes_ahead : {first m n : Situation} {pace pace' : Pace} {victims : Drawing} (made work most : ℕ) (next : Next) (due : Bool)
       (l : Leads plan limits first m pace victims) → IsKeeper plan_form plan.items 0 → ¬ (made ≡ 0) → made ≤ most
       → ((past : Past) (stood : Standing) → IsPace plan limits past stood pace → AreClear plan limits pace.processor past most)
-      → n ≡ run_on m (plain_steps 0 made) → ArePlain m 0 made → EndsInWork m 0 made → work ≡ work_steps m made
+      → n ≡ run_on m (steady_steps 0 made) → AreSteady m 0 made → EndsInWork m 0 made → work ≡ work_steps m made
       → next ≡ next_of (stand_of n.state 0) → due ≡ seeks_holder_at (stand_of n.state 0)
       → pace'.processor ≡ pace.processor → pace'.work ≡ pace.work + work
       → ((p : Planned) (l : Limits) (past past' : Past) (stood stands : Standing) → IsPace p l past stood pace
@@ -158,7 +158,7 @@ module _ (plan : Planned) (limits : Limits) where
       let drawn : l.past.drawn ≡ past'.drawn = sym (drawn_are l.past m (suc made) plain) in
       let is_clear : AreClear plan limits 0 l.past most =
       subst (λ c. AreClear plan limits c l.past most) l.at.number (clear l.past (stand_of m.state 0) l.at.pace_is) in
-      let turns : n.turns ≡ m.turns + length (plain_steps 0 (suc made)) = ap (λ (k : Situation). k.turns) is in
+      let turns : n.turns ≡ m.turns + length (steady_steps 0 (suc made)) = ap (λ (k : Situation). k.turns) is in
       record {
         past = past';
         at = record {
@@ -174,7 +174,7 @@ module _ (plan : Planned) (limits : Limits) where
                 arith,
                 l.at.few,
                 turns,
-                length-replicate (suc made) (plain_step 0),
+                length-replicate (suc made) (steady_step 0),
                 counted,
                 work_is,
                 work_within m (suc made),

@@ -98,8 +98,8 @@ fn make(machine: &mut Machine, way: &mut Way, act: ScheduledAct)
     way.left -= 1;
 }
 
-/// Makes steps of a processor in a row, so many at most: as many as the machine makes at once, none of which looks at a victim. It
-/// tells how many.
+/// Makes steps of a processor in a row, so many at most: as many as the machine makes at once, for none of which a victim is due.
+/// It tells how many.
 fn step_ahead(machine: &mut Machine, way: &mut Way, processor: u32, most: u64) -> u64
     requires among { processor < (seen machine.old).shape.processors }
     requires ready { IsReady (seen machine.old) way.old }
@@ -112,7 +112,8 @@ fn step_ahead(machine: &mut Machine, way: &mut Way, processor: u32, most: u64) -
     made
 }
 
-/// Makes an act of the list in a row, so often at most: as often as the machine makes it at once. It tells how often.
+/// Makes an act of the list in a row, so often at most: as often as the machine makes it at once. It tells how often; one that is to be
+/// made once is left to a turn.
 fn act_ahead(machine: &mut Machine, way: &mut Way, act: ScheduledAct, most: u32) -> u32
     requires among { IsActAmong (seen machine.old).shape.processors act }
     requires ready { IsReady (seen machine.old) way.old }
@@ -120,6 +121,9 @@ fn act_ahead(machine: &mut Machine, way: &mut Way, act: ScheduledAct, most: u32)
     ensures does { Does (replicate result (Listed act)) (seen machine.old) way.old (seen machine.new) way.new }
     ensures ready { IsReady (seen machine.new) way.new }
 {
+    if most < 2 {
+        return 0;
+    }
     match act {
         ScheduledAct::Step { processor, .. } => {
             step_ahead(machine, way, processor, u64::from(most)) as u32

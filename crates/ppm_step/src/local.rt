@@ -61,11 +61,8 @@ impl Local {
     ghost use Rattle.ppm_step.specs.Facts.{IsPoint, IsRow, IsSeat, IsThen};
     ghost use Rattle.ppm_step.specs.Locals.{standing_of, went_if_running, IsLocal};
     ghost use Rattle.ppm_step.specs.Standings.{IsLost, IsAt, IsBroken, IsDone, wanted, went, enters, begins, stands, stands_then, then_is_there, went_then, went_rest, WantIsWithin};
-    ghost use Rattle.ppm_code.specs.declared.act.End.TheVariants.{Next as GoesTo};
-    ghost use Rattle.ppm_step.specs.Frames.{ending};
     ghost use Rattle.ppm_step.specs.Rows.{row_of};
     ghost use Rattle.ppm_step.specs.Stages.{IsUnderWay, rest_at};
-    ghost use Rattle.ppm_step.specs.declared.running.Stage.TheVariants.{Ending};
     ghost use Rattle.ppm_step.specs.State.{next_of};
     ghost use Rattle.ppm_step.specs.declared.row.Point.TheVariants.{Header};
     ghost use Rattle.ppm_step.specs.declared.row.Row.TheVariants.{Now};

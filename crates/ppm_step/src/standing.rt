@@ -27,11 +27,8 @@ impl Local {
     ghost use Rattle.ppm_step.specs.Facts.{IsPoint, IsRow, IsSeat, IsThen};
     ghost use Rattle.ppm_step.specs.Locals.{standing_of, went_if_running, IsLocal};
     ghost use Rattle.ppm_step.specs.Standings.{IsLost, IsAt, IsBroken, IsDone, wanted, went, enters, begins, stands, stands_then, then_is_there, went_then, went_rest, WantIsWithin};
-    ghost use Rattle.ppm_code.specs.declared.act.End.TheVariants.{Next as GoesTo};
-    ghost use Rattle.ppm_step.specs.Frames.{ending};
     ghost use Rattle.ppm_step.specs.Rows.{row_of};
     ghost use Rattle.ppm_step.specs.Stages.{IsUnderWay};
-    ghost use Rattle.ppm_step.specs.declared.running.Stage.TheVariants.{Ending};
     ghost use Rattle.ppm_step.specs.State.{next_of};
     ghost use Rattle.ppm_step.specs.declared.row.Point.TheVariants.{Header};
     ghost use Rattle.ppm_step.specs.declared.row.Row.TheVariants.{Now};
@@ -209,8 +206,8 @@ impl Local {
     }
 }
 
-/// The address of the header with which the frame of a seat goes on; `None` where the seat's capsule is none of a frame, or the header isn't
-/// there.
+/// The address of the header with which the frame of a seat goes on. `None` where the seat's capsule is none of a frame, or where its
+/// restart word or the header names what isn't there; no clause says of it when.
 #[inline(always)]
 pub fn header_of(shape: &Shape, seat: Seat) -> Option<u32>
     requires own { seat.own < shape.now.processors }

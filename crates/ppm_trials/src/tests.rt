@@ -169,14 +169,16 @@ fn one_runs_both_branches(rt: HostRuntime) -> Result<(), Fail> {
     Ok(())
 }
 
-/// Processor 0 by steps in a row, and by a turn where it makes none, until the finish word isn't 0; how many steps were made in a row.
-fn run_in_rows(machine: &mut Machine) -> u64 {
+/// Processor 0 by so many steps in a row at most, and by a turn where it makes none, until the finish word isn't 0; how many steps were made
+/// in a row.
+fn run_in_rows(machine: &mut Machine, most: u64) -> u64 {
     let mut in_rows = 0u64;
     for _ in 0..3000u32 {
-        if machine.finish_word() != 0 || machine.processors() < 1 || machine.turns() > 100_000 {
+        let many = machine.turns() > 100_000 || most > 1000;
+        if machine.finish_word() != 0 || machine.processors() < 1 || many {
             return in_rows;
         }
-        let made = machine.steps(0, 1000);
+        let made = machine.steps(0, most);
         if made == 0 {
             let _told = take_turn(machine, 0, Act::Step { victim: 0 });
         }
@@ -190,16 +192,19 @@ fn steps_in_a_row_are_turns(rt: HostRuntime) -> Result<(), Fail> {
     let alloc = rt.alloc();
     let mut turn_by_turn = fork_machine(alloc, 1, false)?;
     run(&mut turn_by_turn, ALONE);
-    let mut machine = fork_machine(alloc, 1, false)?;
-    let in_rows = run_in_rows(&mut machine);
     // The root's first capsule makes 18 (the finish word and its header, a room counter, a slot, four words of the new block, nine stores of
     // the fork, and the restart word), each branch 6, and the root's last capsule 3.
-    assert_eq!(rt; in_rows, 18 + 2 * 6 + 3);
-    assert!(rt; machine.words() == turn_by_turn.words());
-    assert_eq!(rt; machine.turns(), turn_by_turn.turns());
-    assert_eq!(rt; machine.work(), turn_by_turn.work());
-    assert_eq!(rt; machine.forks(), turn_by_turn.forks());
-    assert_eq!(rt; machine.takes(), turn_by_turn.takes());
+    // One step is never the first of a capsule, since its second comes at once with it.
+    for (most, want) in [(1000, 18 + 2 * 6 + 3), (1, 16 + 2 * 4 + 1), (0, 0)] {
+        let mut machine = fork_machine(alloc, 1, false)?;
+        let in_rows = run_in_rows(&mut machine, most);
+        assert_eq!(rt; in_rows, want);
+        assert!(rt; machine.words() == turn_by_turn.words());
+        assert_eq!(rt; machine.turns(), turn_by_turn.turns());
+        assert_eq!(rt; machine.work(), turn_by_turn.work());
+        assert_eq!(rt; machine.forks(), turn_by_turn.forks());
+        assert_eq!(rt; machine.takes(), turn_by_turn.takes());
+    }
     Ok(())
 }
 

@@ -1,15 +1,15 @@
 use Rattle.std.proofs.Common.{◌-◌, ◌≡◌, ◌≤◌}
 use Rattle.ppm_cells.specs.Memory.{AreWordsOf}
-use Rattle.ppm_core.specs.Tracks.{track, Leads}
+use Rattle.ppm_core.specs.Moments.{moment, StepsTo}
 use Rattle.ppm_step.specs.Locals.{IsLocal, standing_of}
 use Rattle.ppm_core.proofs.steps.step_along.Given as goal
 
 -- the steps so far lead to where the processor stands
 abbrev pub invariant-loop-steps : goal.invariant-loop-steps
 invariant-loop-steps l =
-    Leads l.shape l.code l.fn.local.own l.steps.made l.steps.work
-    (track l.fn.words.items (standing_of l.shape l.code l.fn.local))
-    (track l.words.items (standing_of l.shape l.code l.local))
+    StepsTo l.shape l.code l.fn.local.own l.steps.made l.steps.work
+    (moment l.fn.words.items (standing_of l.shape l.code l.fn.local))
+    (moment l.words.items (standing_of l.shape l.code l.local))
     × IsLocal l.shape l.code l.local
     × AreWordsOf l.shape l.words.items
     × (l.local.own ≡ l.fn.local.own)

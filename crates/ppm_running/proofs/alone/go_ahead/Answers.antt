@@ -16,7 +16,7 @@ count_steps-requires c =
       c.work-before.ensures,
       c.requires.work,
       c.requires.few,
-      c.steps-made.ensures.few,
+      c.steps-made.ensures.bound,
       c.min-most.ensures,
       c.turns.ensures,
     )
@@ -30,6 +30,6 @@ returns-clause-leads c m victims l =
     let work : c.work.result - c.work-before.result ≡ work_steps first made = omega (arith, more, c.work.ensures, c.work-before.ensures) in
     goes_ahead c.args.plan.now c.args.limits made (c.work.result - c.work-before.result) c.clear_steps.result c.next-next.result
     c.seeks_holder-due.result l c.requires.keeper (λ none. omega (arith, none, c.if-made-eq0.false))
-    (omega (arith, c.steps-made.ensures.few, c.min-most.ensures)) c.clear_steps.ensures.clear c.steps-made.ensures.machine c.steps-made.ensures.plain
+    (omega (arith, c.steps-made.ensures.bound, c.min-most.ensures)) c.clear_steps.ensures.clear c.steps-made.ensures.machine c.steps-made.ensures.steady
     c.steps-made.ensures.work work c.next-next.ensures c.seeks_holder-due.ensures c.count_steps.ensures.number c.count_steps.ensures.work
     c.count_steps.ensures.pace

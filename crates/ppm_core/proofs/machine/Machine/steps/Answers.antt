@@ -2,7 +2,7 @@ use Rattle.std.proofs.Common.{◌∙◌, ◌<◌, length, refl, sym, ap, arith}
 use Rattle.std.proofs.lemmas.Option.{slice_get_read}
 use Rattle.ppm_core.specs.Machine.{Holding}
 use Rattle.ppm_core.proofs.LocalLemmas.{one_changed}
-use Rattle.ppm_core.proofs.StepsLemmas.{has_made, run_is, plain_is, work_is_last}
+use Rattle.ppm_core.proofs.StepsLemmas.{has_made, run_is, steady_is, work_is_last}
 use Rattle.ppm_core.proofs.machine.Machine.steps.Goals as goal
 
 -- the words and the processors are as they should be, and counts are turns
@@ -38,15 +38,15 @@ returns-clause-machine c =
     )
 
 -- each of them plain
-pub returns-clause-plain : goal.returns-clause-plain
-returns-clause-plain c =
+pub returns-clause-steady : goal.returns-clause-steady
+returns-clause-steady c =
     let same = ap (λ (m : Holding). m.shape.processors) c.self.view_is in
     let less : c.args.processor < length c.self.inside.locals.items =
     omega (arith, c.requires.processor, c.self.invariant.1.count, same) in
     let at = slice_get_read c.self.inside.locals.items _ c.args.processor c.index_mut-local.result.now refl less c.index_mut-local.ensures.value in
     let own = (c.self.invariant.1.each c.args.processor c.index_mut-local.result.now at).own in
     rw (sym c.self.view_is) (
-    plain_is _ c.args.processor c.index_mut-local.result.now c.step_along-steps.new.local c.step_along-steps.new.words.items
+    steady_is _ c.args.processor c.index_mut-local.result.now c.step_along-steps.new.local c.step_along-steps.new.words.items
     c.step_along-steps.result.made c.step_along-steps.result.work
     (has_made _ c.args.processor _ _ _ _ _ at own c.step_along-steps.ensures.leads)
     )

@@ -1,4 +1,4 @@
--- Steps of one processor in a row, joined.
+-- Steps of one processor in a row, from moment to moment.
 use Rattle.std.proofs.Common.{◌≡◌, ◌∙◌, ℕ, zero, suc, ◌+◌, true, if◌then◌else◌, List, slice_index, Some, refl, sym, ap, subst, arith}
 use Rattle.std.specs.Prelude.{slice_get}
 use Rattle.ppm_cells.specs.Memory.{read}
@@ -19,14 +19,10 @@ use Rattle.ppm_step.specs.Stages.{IsUnderWay, WentOn, rest_at, went_on}
 use Rattle.ppm_step.specs.Standings.{Standing, IsAt, IsWithin, IsRunning, at_finish, enters, wanted_rest, went_rest}
 use Rattle.ppm_step.specs.State.{found_in, words_after, next_of, step_of, before_kind}
 use Rattle.ppm_step.specs.Told.{is_work_next}
-use Rattle.ppm_core.specs.Tracks.{Track, track, moved, moved_by, Moves, AllMove, work_at, work_in, LastWorks, Leads, MovesOn, is_under_way}
+use Rattle.ppm_core.specs.Moments.{Moment, moment, moved, moved_by, Moves, AllMove, work_at, work_in, LastWorks, StepsTo, MovesOn, is_under_way}
 
 module _ (s : Shape) (code : CodeParts) (own : ℕ) where
-  -- none
-  pub nothing : (t : Track) → Leads s code own 0 0 t t
-  nothing t = record { moves = tt; comes_to = refl; works = refl; ends = tt }
-
-  moved_on : (n m : ℕ) (t : Track) → moved_by s code own (n + m) t ≡ moved_by s code own m (moved_by s code own n t)
+  moved_on : (n m : ℕ) (t : Moment) → moved_by s code own (n + m) t ≡ moved_by s code own m (moved_by s code own n t)
   moved_on zero m t = ap (λ k. moved_by s code own k t) (none m)
     where
       none : (m : ℕ) → 0 + m ≡ m
@@ -36,7 +32,7 @@ module _ (s : Shape) (code : CodeParts) (own : ℕ) where
       next : (n m : ℕ) → suc n + m ≡ suc (n + m)
       next n m = omega arith
 
-  all_move : (n m : ℕ) (t : Track) → AllMove s code own n t → AllMove s code own m (moved_by s code own n t) → AllMove s code own (n + m) t
+  all_move : (n m : ℕ) (t : Moment) → AllMove s code own n t → AllMove s code own m (moved_by s code own n t) → AllMove s code own (n + m) t
   all_move zero m t first more = subst (λ k. AllMove s code own k t) (none m) more
     where
       none : (m : ℕ) → m ≡ 0 + m
@@ -47,7 +43,7 @@ module _ (s : Shape) (code : CodeParts) (own : ℕ) where
       next : (n m : ℕ) → suc (n + m) ≡ suc n + m
       next n m = omega arith
 
-  work_on : (n m : ℕ) (t : Track) → work_in s code own n t + work_in s code own m (moved_by s code own n t) ≡ work_in s code own (n + m) t
+  work_on : (n m : ℕ) (t : Moment) → work_in s code own n t + work_in s code own m (moved_by s code own n t) ≡ work_in s code own (n + m) t
   work_on zero m t = sum (work_in s code own m t) ∙ ap (λ k. work_in s code own k t) (none m)
     where
       none : (m : ℕ) → m ≡ 0 + m
@@ -61,7 +57,7 @@ module _ (s : Shape) (code : CodeParts) (own : ℕ) where
       next : (n m : ℕ) → suc (n + m) ≡ suc n + m
       next n m = omega arith
 
-  last_on : (n m : ℕ) (t : Track) → LastWorks s code own n t → LastWorks s code own m (moved_by s code own n t) → LastWorks s code own (n + m) t
+  last_on : (n m : ℕ) (t : Moment) → LastWorks s code own n t → LastWorks s code own m (moved_by s code own n t) → LastWorks s code own (n + m) t
   last_on n zero t first more = subst (λ k. LastWorks s code own k t) (same n) first
     where
       same : (n : ℕ) → n ≡ n + 0
@@ -85,7 +81,7 @@ module _ (s : Shape) (code : CodeParts) (own : ℕ) where
       next n m = omega arith
 
   -- some, and then others
-  pub both : {n m w v : ℕ} {t u x : Track} → Leads s code own n w t u → Leads s code own m v u x → Leads s code own (n + m) (w + v) t x
+  pub both : {n m w v : ℕ} {t u x : Moment} → StepsTo s code own n w t u → StepsTo s code own m v u x → StepsTo s code own (n + m) (w + v) t x
   both {n} {m} {w} {v} {t} {u} {x} first more = record {
     moves = all_move n m t first.moves (subst (AllMove s code own m) first.comes_to more.moves);
     comes_to = more.comes_to ∙ ap (moved_by s code own m) first.comes_to ∙ sym (moved_on n m t);
@@ -94,10 +90,10 @@ module _ (s : Shape) (code : CodeParts) (own : ℕ) where
   }
 
   -- a step in a capsule of a frame
-  pub in_capsule : (seat : Seat) (rest : Rest) (words words' : List ℕ) (stand : Standing) → read s words FinishWord ≡ 0
+  in_capsule : (seat : Seat) (rest : Rest) (words words' : List ℕ) (stand : Standing) → read s words FinishWord ≡ 0
       → words' ≡ words_after words (wanted_rest s seat rest)
       → stand ≡ went_rest s seat (found_in words (wanted_rest s seat rest)) rest
-      → Leads s code own 1 1 (track words (IsRunning seat rest)) (track words' stand)
+      → StepsTo s code own 1 1 (moment words (IsRunning seat rest)) (moment words' stand)
   in_capsule seat rest words words' stand finish stored stands = record {
     moves = (record { finish = finish; lives = refl; seeks_none = refl; no_fork = refl; no_take = refl }, tt);
     comes_to = λ i. record { words = stored i; stand = stands i };
@@ -106,17 +102,17 @@ module _ (s : Shape) (code : CodeParts) (own : ℕ) where
   }
 
   -- the two before it
-  pub in_front : (seat : Seat) (header : ℕ) (words : List ℕ) (stand : Standing) → IsHeaderOf s seat header → own ≡ seat.own
+  in_front : (seat : Seat) (header : ℕ) (words : List ℕ) (stand : Standing) → IsHeaderOf s seat header → own ≡ seat.own
       → read s words FinishWord ≡ 0
       → stand ≡ enters s code seat seat.restart.kind (slice_get code.capsules (slice_index words header))
-      → Leads s code own 2 1 (track words (IsAt seat.place (Some seat.restart))) (track words stand)
+      → StepsTo s code own 2 1 (moment words (IsAt seat.place (Some seat.restart))) (moment words stand)
   in_front seat header words stand h same finish stands =
-      let t : Track = track words (IsAt seat.place (Some seat.restart)) in
-      let u : Track = track words (IsWithin seat (Now (Load (Header h.frame h.copy)))) in
+      let t : Moment = moment words (IsAt seat.place (Some seat.restart)) in
+      let u : Moment = moment words (IsWithin seat (Now (Load (Header h.frame h.copy)))) in
       let behind_finish : moved s code own t ≡ u =
-      ap (λ f. track words (at_finish s code own seat.place (Some seat.restart) f)) finish
-      ∙ ap (λ o. track words (at_finish s code o seat.place (Some seat.restart) 0)) same
-      ∙ ap (track words) (h.begins_with code) in
+      ap (λ f. moment words (at_finish s code own seat.place (Some seat.restart) f)) finish
+      ∙ ap (λ o. moment words (at_finish s code o seat.place (Some seat.restart) 0)) same
+      ∙ ap (moment words) (h.begins_with code) in
       let look : work_at s code own t ≡ 0 = ap (λ k. if is_work_next s code (before_kind k) then 1 else 0) h.kind in
       let work : work_at s code own u ≡ 1 = ap (λ k. if is_work_next s code (step_of k) then 1 else 0) h.kind in
       let works : next_of u.stand ≡ Work = ap step_of h.kind in
@@ -130,23 +126,23 @@ module _ (s : Shape) (code : CodeParts) (own : ℕ) where
           ),
         );
         comes_to =
-            ap (track words) (stands ∙ ap (λ a. enters s code seat seat.restart.kind (slice_get code.capsules (slice_index words a))) h.is_at)
+            ap (moment words) (stands ∙ ap (λ a. enters s code seat seat.restart.kind (slice_get code.capsules (slice_index words a))) h.is_at)
             ∙ ap (moved s code own) (sym behind_finish);
         works = omega (arith, look, work, ap (work_at s code own) behind_finish);
-        ends = subst (λ (v : Track). next_of v.stand ≡ Work) (sym behind_finish) works;
+        ends = subst (λ (v : Moment). next_of v.stand ≡ Work) (sym behind_finish) works;
       }
 
   -- a step more in the capsule
-  pub further : {made : ℕ} {t : Track} {seat : Seat} {old new : Running} {registers registers' words words' : List ℕ} {going : Going}
-      → Leads s code own made made t (track words (IsRunning seat (rest_at s code old old.stage registers))) → read s words FinishWord ≡ 0
+  pub further : {made : ℕ} {t : Moment} {seat : Seat} {old new : Running} {registers registers' words words' : List ℕ} {going : Going}
+      → StepsTo s code own made made t (moment words (IsRunning seat (rest_at s code old old.stage registers))) → read s words FinishWord ≡ 0
       → MovesOn s code old new registers registers' words words' going → old.seat ≡ seat
-      → Leads s code own (made + 1) (made + 1) t (track words' (went_on seat (rest_at s code new new.stage registers') going))
+      → StepsTo s code own (made + 1) (made + 1) t (moment words' (went_on seat (rest_at s code new new.stage registers') going))
   further {made} {t} {seat} {old} {new} {registers} {registers'} {words} {words'} {going} so_far finish moved same =
       let rest = rest_at s code old old.stage registers in
       let left = rest_at s code new new.stage registers' in
       both so_far
       (subst
-      (λ (u : Seat). Leads s code own 1 1 (track words (IsRunning u rest)) (track words' (went_on u left going))) same
+      (λ (u : Seat). StepsTo s code own 1 1 (moment words (IsRunning u rest)) (moment words' (went_on u left going))) same
       (in_capsule old.seat rest words words' (went_on old.seat left going) finish moved.words_are moved.stands))
 
   -- behind which it goes on
@@ -154,25 +150,25 @@ module _ (s : Shape) (code : CodeParts) (own : ℕ) where
   going_is (Went there) goes = ap Went goes
   going_is (Installed restart) goes = cc
 
-  pub goes_on : {made : ℕ} {t : Track} {seat : Seat} {rest : Rest} {words : List ℕ} (going : Going) → is_under_way going ≡ true
-      → Leads s code own made made t (track words (went_on seat rest going)) → Leads s code own made made t (track words (IsRunning seat rest))
+  pub goes_on : {made : ℕ} {t : Moment} {seat : Seat} {rest : Rest} {words : List ℕ} (going : Going) → is_under_way going ≡ true
+      → StepsTo s code own made made t (moment words (went_on seat rest going)) → StepsTo s code own made made t (moment words (IsRunning seat rest))
   goes_on {made} {t} {seat} {rest} {words} going goes leads =
-      subst (λ g. Leads s code own made made t (track words (went_on seat rest g))) (going_is going goes) leads
+      subst (λ g. StepsTo s code own made made t (moment words (went_on seat rest g))) (going_is going goes) leads
 
   pub holds_on : {running : Running} {registers : List ℕ} (going : Going) → is_under_way going ≡ true
       → WentOn s code running registers going → IsUnderWay s code running registers
   holds_on {running} {registers} going goes holds = subst (λ g. WentOn s code running registers g) (going_is going goes) holds refl
 
   -- a capsule more, with its two steps in front
-  pub capsule_more : {n w : ℕ} {first : Track} (seat : Seat) (header : ℕ) (words : List ℕ) (stand : Standing) (last : Track) (made : ℕ)
-      → Leads s code own n w first (track words (IsAt seat.place (Some seat.restart)))
+  pub capsule_more : {n w : ℕ} {first : Moment} (seat : Seat) (header : ℕ) (words : List ℕ) (stand : Standing) (last : Moment) (made : ℕ)
+      → StepsTo s code own n w first (moment words (IsAt seat.place (Some seat.restart)))
       → IsHeaderOf s seat header → own ≡ seat.own → read s words FinishWord ≡ 0
       → stand ≡ enters s code seat seat.restart.kind (slice_get code.capsules (slice_index words header))
-      → Leads s code own made made (track words stand) last
-      → Leads s code own (n + made + 2) (w + made + 1) first last
+      → StepsTo s code own made made (moment words stand) last
+      → StepsTo s code own (n + made + 2) (w + made + 1) first last
   capsule_more {n} {w} {first} seat header words stand last made so_far h same finish stands more =
-      subst (λ v. Leads s code own (n + made + 2) v first last) one
-      (subst (λ k. Leads s code own k (w + (1 + made)) first last) two
+      subst (λ v. StepsTo s code own (n + made + 2) v first last) one
+      (subst (λ k. StepsTo s code own k (w + (1 + made)) first last) two
       (both so_far (both (in_front seat header words stand h same finish stands) more)))
     where
       one : w + (1 + made) ≡ w + made + 1

@@ -1,7 +1,7 @@
 use Rattle.std.proofs.Common.{subst}
 use Rattle.ppm_plan.specs.Faults.{IsLeastFrom, IsNextFault}
 use Rattle.ppm_plan.specs.Schedules.{Planned}
-use Rattle.ppm_plan.proofs.plan.Plan.next.Goals as goal
+use Rattle.ppm_plan.proofs.plan.Plan.next_fault.Goals as goal
 
 -- the table shows what the items say
 pub returns : goal.returns

@@ -1,16 +1,16 @@
 use Rattle.std.proofs.Common.{◌-◌, ◌≡◌, ◌≤◌}
 use Rattle.ppm_cells.specs.Memory.{AreWordsOf}
-use Rattle.ppm_core.specs.Tracks.{track, Leads}
+use Rattle.ppm_core.specs.Moments.{moment, StepsTo}
 use Rattle.ppm_step.specs.Stages.{IsUnderWay, rest_at}
 use Rattle.ppm_step.specs.Standings.{IsRunning}
-use Rattle.ppm_core.proofs.steps.go_through.Given as goal
+use Rattle.ppm_core.proofs.steps.run_capsule.Given as goal
 
 -- the steps so far, each of them work, lead to the capsule as it is under way
 abbrev pub invariant-loop-made : goal.invariant-loop-made
 invariant-loop-made l =
-    Leads l.shape l.code l.fn.running.seat.own l.made l.made
-    (track l.fn.words.items (IsRunning l.fn.running.seat (rest_at l.shape l.code l.fn.running l.fn.running.stage l.fn.registers)))
-    (track l.words.items (IsRunning l.fn.running.seat (rest_at l.shape l.code l.running l.running.stage l.registers)))
+    StepsTo l.shape l.code l.fn.running.seat.own l.made l.made
+    (moment l.fn.words.items (IsRunning l.fn.running.seat (rest_at l.shape l.code l.fn.running l.fn.running.stage l.fn.registers)))
+    (moment l.words.items (IsRunning l.fn.running.seat (rest_at l.shape l.code l.running l.running.stage l.registers)))
     × IsUnderWay l.shape l.code l.running l.registers
     × (l.running.seat ≡ l.fn.running.seat)
     × AreWordsOf l.shape l.words.items

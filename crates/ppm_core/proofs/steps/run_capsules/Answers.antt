@@ -4,9 +4,9 @@ use Rattle.ppm_step.specs.declared.row.Seat.{Seat}
 use Rattle.ppm_step.specs.Locals.{standing_of}
 use Rattle.ppm_step.specs.Stages.{WentOn, rest_at, went_on}
 use Rattle.ppm_step.specs.Standings.{Standing, IsAt, IsRunning, enters}
-use Rattle.ppm_core.specs.Tracks.{track, Leads}
-use Rattle.ppm_core.proofs.TrackLemmas.{capsule_more}
-use Rattle.ppm_core.proofs.steps.go_round.Goals as goal
+use Rattle.ppm_core.specs.Moments.{moment, StepsTo}
+use Rattle.ppm_core.proofs.MomentLemmas.{capsule_more}
+use Rattle.ppm_core.proofs.steps.run_capsules.Goals as goal
 
 -- a capsule more, behind which the place goes on with a restart
 pub loop-steps-preserved : goal.loop-steps-preserved
@@ -16,29 +16,29 @@ loop-steps-preserved c =
     let own = c.args.local.now.own in
     let inv = c.loop-steps.invariant in
     let running = c.in-Some-entered.running in
-    let new = c.go_through-stretch.new in
-    let going = c.go_through-stretch.result.going in
-    let made = c.go_through-stretch.result.made in
+    let new = c.run_capsule-stretch.new in
+    let going = c.run_capsule-stretch.result.going in
+    let made = c.run_capsule-stretch.result.made in
     let seat : Seat = record { own = own; place = c.args.place; restart = c.loop-steps.at } in
     let stand = IsRunning running.seat (rest_at s code running running.stage c.entered.new.registers) in
     let left = rest_at s code new.running new.running.stage new.registers in
-    let first = track c.args.words.now.items (IsAt c.args.place (Some c.args.restart)) in
+    let first = moment c.args.words.now.items (IsAt c.args.place (Some c.args.restart)) in
     let same : running.seat ≡ seat = c.in-Some-entered.ensures.holds.1 in
     let last : went_on running.seat left going ≡ IsAt c.args.place (Some c.in-Installed.next) =
     ap (went_on running.seat left) c.in-Installed.is ∙ ap (λ (u : Seat). IsAt u.place (Some c.in-Installed.next)) same in (
       subst
-          (λ (t : Standing). Leads s code own (c.loop-steps.steps.made + made + 2) (c.loop-steps.steps.work + made + 1) first (track new.words.items t))
+          (λ (t : Standing). StepsTo s code own (c.loop-steps.steps.made + made + 2) (c.loop-steps.steps.work + made + 1) first (moment new.words.items t))
           last
-          (capsule_more s code own seat c.in-Some.header c.loop-steps.words.items stand (track new.words.items (went_on running.seat left going)) made
+          (capsule_more s code own seat c.in-Some.header c.loop-steps.words.items stand (moment new.words.items (went_on running.seat left going)) made
           inv.0 c.in-Some.ensures refl (sym c.finish_word.ensures ∙ c.if-finish_word-ne0.false)
           (sym c.in-Some-entered.ensures.stands ∙ ap (λ n. enters s code seat seat.restart.kind (slice_get code.capsules n)) c.found_by-number.ensures)
           (subst
-          (λ (u : Seat). Leads s code u.own made made (track c.loop-steps.words.items stand) (track new.words.items (went_on running.seat left going)))
-          same c.go_through-stretch.ensures.leads)),
-      subst (WentOn s code new.running new.registers) c.in-Installed.is c.go_through-stretch.ensures.holds,
-      c.go_through-stretch.ensures.count,
+          (λ (u : Seat). StepsTo s code u.own made made (moment c.loop-steps.words.items stand) (moment new.words.items (went_on running.seat left going)))
+          same c.run_capsule-stretch.ensures.leads)),
+      subst (WentOn s code new.running new.registers) c.in-Installed.is c.run_capsule-stretch.ensures.holds,
+      c.run_capsule-stretch.ensures.count,
       inv.3,
-      omega (arith, c.loop-steps-test.true, c.go_through-stretch.ensures.few, inv.4),
+      omega (arith, c.loop-steps-test.true, c.run_capsule-stretch.ensures.few, inv.4),
       omega (arith, inv.5),
     )
 
@@ -50,22 +50,22 @@ returns-in-Went-clause-leads c =
     let own = c.args.local.now.own in
     let inv = c.loop-steps.invariant in
     let running = c.in-Some-entered.running in
-    let new = c.go_through-stretch.new in
-    let going = c.go_through-stretch.result.going in
-    let made = c.go_through-stretch.result.made in
+    let new = c.run_capsule-stretch.new in
+    let going = c.run_capsule-stretch.result.going in
+    let made = c.run_capsule-stretch.result.made in
     let seat : Seat = record { own = own; place = c.args.place; restart = c.loop-steps.at } in
     let stand = IsRunning running.seat (rest_at s code running running.stage c.entered.new.registers) in
     let left = rest_at s code new.running new.running.stage new.registers in
-    let first = track c.args.words.now.items (IsAt c.args.place (Some c.args.restart)) in
+    let first = moment c.args.words.now.items (IsAt c.args.place (Some c.args.restart)) in
     let same : running.seat ≡ seat = c.in-Some-entered.ensures.holds.1 in
     let last : went_on running.seat left going ≡ standing_of s code c.stand_behind.new.local =
-    ap (λ (u : Seat). went_on u left going) (sym c.go_through-stretch.ensures.seat) ∙ sym c.stand_behind.ensures.stands in
+    ap (λ (u : Seat). went_on u left going) (sym c.run_capsule-stretch.ensures.seat) ∙ sym c.stand_behind.ensures.stands in
     subst
-    (λ (t : Standing). Leads s code own (c.loop-steps.steps.made + made + 2) (c.loop-steps.steps.work + made + 1) first (track new.words.items t))
+    (λ (t : Standing). StepsTo s code own (c.loop-steps.steps.made + made + 2) (c.loop-steps.steps.work + made + 1) first (moment new.words.items t))
     last
-    (capsule_more s code own seat c.in-Some.header c.loop-steps.words.items stand (track new.words.items (went_on running.seat left going)) made
+    (capsule_more s code own seat c.in-Some.header c.loop-steps.words.items stand (moment new.words.items (went_on running.seat left going)) made
     inv.0 c.in-Some.ensures refl (sym c.finish_word.ensures ∙ c.if-finish_word-ne0.false)
     (sym c.in-Some-entered.ensures.stands ∙ ap (λ n. enters s code seat seat.restart.kind (slice_get code.capsules n)) c.found_by-number.ensures)
     (subst
-    (λ (u : Seat). Leads s code u.own made made (track c.loop-steps.words.items stand) (track new.words.items (went_on running.seat left going)))
-    same c.go_through-stretch.ensures.leads))
+    (λ (u : Seat). StepsTo s code u.own made made (moment c.loop-steps.words.items stand) (moment new.words.items (went_on running.seat left going)))
+    same c.run_capsule-stretch.ensures.leads))
