@@ -148,10 +148,10 @@ dues_ahead due made left few =
     ap (λ n. replicate n due) all ∙ sym (replicate-append-replicate made (left - made) due)
 
 -- loops: so many rounds were made ahead
-pub rounds_ahead : (count made left : ℕ) {m n o : Situation} {way v u : Way} → made ≤ left → n.shape ≡ m.shape
+pub rounds_lead : (count made left : ℕ) {m n o : Situation} {way v u : Way} → made ≤ left → n.shape ≡ m.shape
     → LeadsTo (rounds m.shape.processors count) (rounds m.shape.processors left) m way n v → Does (rounds n.shape.processors made) n v o u
     → LeadsTo (rounds m.shape.processors count) (rounds m.shape.processors (left - made)) m way o u
-rounds_ahead count made left {m} {n} {o} {way} {v} {u} few same l done =
+rounds_lead count made left {m} {n} {o} {way} {v} {u} few same l done =
     let p = m.shape.processors in
     goes_on_by (rounds p count) (rounds p left) (rounds p made) (rounds p (left - made)) (rounds_ahead p made left few) l
     (subst (λ s. Does (rounds s.processors made) n v o u) same done)

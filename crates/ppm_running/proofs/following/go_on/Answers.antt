@@ -3,7 +3,7 @@ use Rattle.ppm_core.specs.Machine.{seen}
 use Rattle.ppm_running.specs.Course.{InRound}
 use Rattle.ppm_running.specs.Schedules.{round, rounds}
 use Rattle.ppm_running.specs.Following.{course, Does}
-use Rattle.ppm_running.proofs.AheadLemmas.{rounds_ahead}
+use Rattle.ppm_running.proofs.AheadLemmas.{rounds_lead}
 use Rattle.ppm_running.proofs.DoesLemmas.{goes_on_by, ends, ends_by, shape_stays}
 use Rattle.ppm_running.proofs.IdleLemmas.{all_rounds, none_left, not_open, is_shut}
 use Rattle.ppm_running.proofs.following.go_on.Goals as goal
@@ -15,7 +15,7 @@ returns-then-left-eq0-clause-does c =
     let ahead = c.go_ahead-left in
     let left = c.loop-left.left - ahead.result in
     ends_by (rounds p c.args.count) (rounds p left) (ap (rounds p) c.if-left-eq0.true)
-    (rounds_ahead c.args.count ahead.result c.loop-left.left ahead.ensures.few c.loop-left.invariant.2 c.loop-left.invariant.0
+    (rounds_lead c.args.count ahead.result c.loop-left.left ahead.ensures.few c.loop-left.invariant.2 c.loop-left.invariant.0
     ahead.ensures.does)
 
 -- no act is left
@@ -27,7 +27,7 @@ returns-then-way-eq0-clause-does c =
     let p = (seen c.args.machine.now).shape.processors in
     let left = c.loop-left.left - ahead.result in
     ends (rounds p c.args.count) (rounds p left)
-    (rounds_ahead c.args.count ahead.result c.loop-left.left ahead.ensures.few c.loop-left.invariant.2 c.loop-left.invariant.0
+    (rounds_lead c.args.count ahead.result c.loop-left.left ahead.ensures.few c.loop-left.invariant.2 c.loop-left.invariant.0
     ahead.ensures.does)
     (all_rounds m.shape m.code w (λ k. none_left m.shape m.code w (InRound k) c.if-way-eq0.true) p left)
 
@@ -40,7 +40,7 @@ returns-then-finish_word-ne0-clause-does c =
     let p = (seen c.args.machine.now).shape.processors in
     let left = c.loop-left.left - ahead.result in
     ends (rounds p c.args.count) (rounds p left)
-    (rounds_ahead c.args.count ahead.result c.loop-left.left ahead.ensures.few c.loop-left.invariant.2 c.loop-left.invariant.0
+    (rounds_lead c.args.count ahead.result c.loop-left.left ahead.ensures.few c.loop-left.invariant.2 c.loop-left.invariant.0
     ahead.ensures.does)
     (all_rounds m.shape m.code w
     (λ k. not_open m.shape m.code w (InRound k) (is_shut _ _ c.finish_word.ensures c.if-finish_word-ne0.true)) p left)
@@ -56,7 +56,7 @@ loop-left-preserved c =
     let does = subst (λ s. Does (round s.processors) (seen ahead.new.machine) ahead.new.way (seen c.go_round.new.machine) c.go_round.new.way)
     same c.go_round.ensures.does in (
       goes_on_by (rounds p c.args.count) (rounds p left) (round p) (rounds p (left - 1)) (ap (rounds p) more)
-          (rounds_ahead c.args.count ahead.result c.loop-left.left ahead.ensures.few c.loop-left.invariant.2 c.loop-left.invariant.0
+          (rounds_lead c.args.count ahead.result c.loop-left.left ahead.ensures.few c.loop-left.invariant.2 c.loop-left.invariant.0
           ahead.ensures.does)
           does,
       c.go_round.ensures.ready,
