@@ -20,6 +20,7 @@ pub struct Stop {
 }
 
 /// Does the register work of a capsule from an instruction to the next step or end.
+#[inline(always)]
 pub fn reach(instrs: &[Instr], array_words: u64, from: usize, registers: &mut [u64; 64]) -> Stop
     ensures left { capsule_from array_words 0 from instrs.now registers.old
         ≡ reached array_words instrs.now result.next result.what registers.new }
