@@ -1,8 +1,10 @@
 -- Steps of one processor in a row, from moment to moment.
-use Rattle.std.proofs.Common.{◌≡◌, ◌∙◌, ℕ, zero, suc, ◌+◌, true, if◌then◌else◌, List, slice_index, Some, refl, sym, ap, subst, arith}
+use Rattle.std.proofs.Common.{◌≡◌, ◌∙◌, ℕ, zero, suc, ◌+◌, true, false, if◌then◌else◌, List, slice_index, Some, refl, sym, ap, subst, arith}
 use Rattle.std.specs.Prelude.{slice_get}
 use Rattle.ppm_cells.specs.Memory.{read}
 use Rattle.ppm_cells.specs.declared.cell.Cell.TheVariants.{FinishWord}
+use Rattle.ppm_cells.specs.declared.restart.RestartKind.{RestartKind}
+use Rattle.ppm_cells.specs.declared.restart.RestartKind.TheVariants.{Run}
 use Rattle.ppm_cells.specs.declared.shape.Shape.{Shape}
 use Rattle.ppm_code.specs.declared.code.CodeParts.{CodeParts}
 use Rattle.ppm_step.specs.declared.going.Going.{Going}
@@ -14,12 +16,13 @@ use Rattle.ppm_step.specs.declared.row.Then.TheVariants.{Load}
 use Rattle.ppm_step.specs.declared.running.Running.{Running}
 use Rattle.ppm_step.specs.declared.turn.Next.TheVariants.{Work}
 use Rattle.ppm_step.specs.Frames.{Rest}
-use Rattle.ppm_step.specs.Locals.{IsHeaderOf}
+use Rattle.ppm_step.specs.Locals.{HasNoHeader, IsHeaderOf}
 use Rattle.ppm_step.specs.Stages.{IsUnderWay, WentOn, rest_at, went_on}
-use Rattle.ppm_step.specs.Standings.{Standing, IsAt, IsWithin, IsRunning, at_finish, enters, wanted_rest, went_rest}
+use Rattle.ppm_step.specs.Standings.{Standing, IsAt, IsWithin, IsRunning, IsBroken, at_finish, begins, enters, wanted_rest, went_rest}
 use Rattle.ppm_step.specs.State.{found_in, words_after, next_of, step_of, before_kind}
 use Rattle.ppm_step.specs.Told.{is_work_next}
-use Rattle.ppm_core.specs.Moments.{Moment, moment, moved, moved_by, Moves, AllMove, work_at, work_in, LastWorks, StepsTo, MovesOn, is_under_way}
+use Rattle.ppm_core.specs.Moments.{Moment, moment, moved, moved_by, Moves, AllMove, work_at, work_in, LastWorks, StepsTo, MovesOn, NoFurther, is_under_way}
+use Rattle.ppm_core.specs.Steps.{is_in_capsule, is_of_frame}
 
 module _ (s : Shape) (code : CodeParts) (own : ℕ) where
   moved_on : (n m : ℕ) (t : Moment) → moved_by s code own (n + m) t ≡ moved_by s code own m (moved_by s code own n t)
@@ -101,6 +104,15 @@ module _ (s : Shape) (code : CodeParts) (own : ℕ) where
     ends = refl;
   }
 
+  -- behind the load of the finish word a restart begins
+  begun : (seat : Seat) (words : List ℕ) (stand : Standing) → own ≡ seat.own → read s words FinishWord ≡ 0
+      → begins s code seat.own seat.place (Some seat.restart) ≡ stand
+      → moved s code own (moment words (IsAt seat.place (Some seat.restart))) ≡ moment words stand
+  begun seat words stand same finish begins_with =
+      ap (λ f. moment words (at_finish s code own seat.place (Some seat.restart) f)) finish
+      ∙ ap (λ o. moment words (at_finish s code o seat.place (Some seat.restart) 0)) same
+      ∙ ap (moment words) begins_with
+
   -- the two before it
   in_front : (seat : Seat) (header : ℕ) (words : List ℕ) (stand : Standing) → IsHeaderOf s seat header → own ≡ seat.own
       → read s words FinishWord ≡ 0
@@ -109,10 +121,7 @@ module _ (s : Shape) (code : CodeParts) (own : ℕ) where
   in_front seat header words stand h same finish stands =
       let t : Moment = moment words (IsAt seat.place (Some seat.restart)) in
       let u : Moment = moment words (IsWithin seat (Now (Load (Header h.frame h.copy)))) in
-      let behind_finish : moved s code own t ≡ u =
-      ap (λ f. moment words (at_finish s code own seat.place (Some seat.restart) f)) finish
-      ∙ ap (λ o. moment words (at_finish s code o seat.place (Some seat.restart) 0)) same
-      ∙ ap (moment words) (h.begins_with code) in
+      let behind_finish : moved s code own t ≡ u = begun seat words _ same finish (h.begins_with code) in
       let look : work_at s code own t ≡ 0 = ap (λ k. if is_work_next s code (before_kind k) then 1 else 0) h.kind in
       let work : work_at s code own u ≡ 1 = ap (λ k. if is_work_next s code (step_of k) then 1 else 0) h.kind in
       let works : next_of u.stand ≡ Work = ap step_of h.kind in
@@ -176,3 +185,25 @@ module _ (s : Shape) (code : CodeParts) (own : ℕ) where
 
       two : n + (2 + made) ≡ n + made + 2
       two = omega arith
+
+  -- where a frame's header isn't there, no capsule is entered
+  pub no_header : (seat : Seat) (words : List ℕ) (left : ℕ) → own ≡ seat.own → HasNoHeader s seat
+      → NoFurther s code own left (moment words (IsAt seat.place (Some seat.restart)))
+  no_header seat words left same none = record { inside = λ few finish. refl; before = λ few finish. of_kind seat.restart.kind refl finish }
+    where
+      of_kind : (kind : RestartKind) → seat.restart.kind ≡ kind → read s words FinishWord ≡ 0 → is_of_frame kind ≡ true
+          → is_in_capsule (moved_by s code own 2 (moment words (IsAt seat.place (Some seat.restart)))).stand ≡ false
+      of_kind (Run frame copy) kind finish of_frame =
+          ap (λ (t : Moment). is_in_capsule (moved s code own t).stand) (begun seat words _ same finish (none code frame copy kind))
+      of_kind other kind finish of_frame = cc
+
+  -- nor where it names none, or one whose first word isn't there
+  pub not_entered : (seat : Seat) (header : ℕ) (words : List ℕ) (left : ℕ) → own ≡ seat.own → IsHeaderOf s seat header
+      → enters s code seat seat.restart.kind (slice_get code.capsules (slice_index words header)) ≡ IsBroken seat.place
+      → NoFurther s code own left (moment words (IsAt seat.place (Some seat.restart)))
+  not_entered seat header words left same h broken = record {
+    inside = λ few finish. refl;
+    before = λ few finish of_frame.
+        ap (λ (t : Moment). is_in_capsule (moved s code own t).stand) (begun seat words _ same finish (h.begins_with code))
+        ∙ ap is_in_capsule (sym (ap (λ a. enters s code seat seat.restart.kind (slice_get code.capsules (slice_index words a))) h.is_at) ∙ broken);
+  }

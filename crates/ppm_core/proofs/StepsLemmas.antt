@@ -13,8 +13,8 @@ use Rattle.ppm_step.specs.State.{State, stand_in, stand_of, acts, happens, after
 use Rattle.ppm_core.specs.Acts.{is_done_at, seeks_holder_at, forks_at, takes_at, words_acted, stand_acted}
 use Rattle.ppm_core.specs.Machine.{Holding, seen}
 use Rattle.ppm_core.specs.Situation.{Situation, turned, run_on}
-use Rattle.ppm_core.specs.Steps.{steady_step, steady_steps, AreSteady, EndsInWork}
-use Rattle.ppm_core.specs.Moments.{Moment, moment, moved, moved_by, Moves, AllMove, work_at, work_in, LastWorks, StepsTo}
+use Rattle.ppm_core.specs.Steps.{steady_step, steady_steps, AreSteady, EndsInWork, GoesNoFurther, is_in_capsule, is_before_capsule}
+use Rattle.ppm_core.specs.Moments.{Moment, moment, moved, moved_by, Moves, AllMove, work_at, work_in, LastWorks, NoFurther, StepsTo}
 use Rattle.ppm_core.proofs.ListLemmas.{get_changed, set_same}
 use Rattle.ppm_core.proofs.TurnLemmas.{acts_are, stands_at, work_is}
 
@@ -198,3 +198,21 @@ has_made m own old new words made work at same leads = record {
   leads = subst
       (λ (n : ℕ). StepsTo m.shape m.code n made work (moment m.words (standing_of m.shape m.code old)) (moment words (standing_of m.shape m.code new))) same leads;
 }
+
+pub goes_no_further : (m : Holding) (own : ℕ) (old new : Local) (words : List ℕ) (made work left : ℕ) → HasMade m own old new words made work
+    → NoFurther m.shape m.code own left (moment words (standing_of m.shape m.code new))
+    → GoesNoFurther (seen (with_steps m own new words work made)) own left
+goes_no_further m own old new words made work left h further =
+    let s = m.shape in
+    let code = m.code in
+    let behind = with_steps m own new words work made in
+    let t : Moment = moment words (standing_of s code new) in
+    let at : StandsAt s code own (seen behind).state t = record { words = refl; stand = stands_at behind own new (get_changed m.locals own new old h.at) } in
+    let next = turned_at s code own (seen behind).state t at in
+    let after = turned_at s code own (happens s code (seen behind).state (steady_step own)) (moved s code own t) next in
+    record {
+      inside = λ few finish. ap is_in_capsule (stand_is s code own (seen behind).state t at) ∙ further.inside few finish;
+      before = λ few finish of_frame.
+          ap is_in_capsule (stand_is s code own _ _ after)
+          ∙ further.before few finish (sym (ap is_before_capsule (stand_is s code own (seen behind).state t at)) ∙ of_frame);
+    }

@@ -1,5 +1,5 @@
 -- One processor makes steps in a row: the moments between them.
-use Rattle.std.specs.Prelude.{◌≡◌, ℕ, zero, suc, ◌+◌, if◌then◌else◌, Bool, false, List}
+use Rattle.std.specs.Prelude.{◌≡◌, ◌≤◌, ℕ, zero, suc, ◌+◌, if◌then◌else◌, Bool, true, false, List}
 use Rattle.ppm_cells.specs.Memory.{AreWordsOf, read}
 use Rattle.ppm_cells.specs.declared.cell.Cell.TheVariants.{FinishWord}
 use Rattle.ppm_cells.specs.declared.shape.Shape.{Shape}
@@ -14,6 +14,7 @@ use Rattle.ppm_step.specs.Standings.{Standing, wanted_rest, went_rest}
 use Rattle.ppm_step.specs.State.{found_in, next_of, words_after}
 use Rattle.ppm_step.specs.Told.{is_work_turn}
 use Rattle.ppm_core.specs.Acts.{is_done_at, seeks_holder_at, forks_at, takes_at, words_acted, stand_acted}
+use Rattle.ppm_core.specs.Steps.{is_in_capsule, is_before_capsule}
 
 -- the words at a moment, and where the processor stands
 pub record Moment : Type 0 where
@@ -68,6 +69,11 @@ module _ (s : Shape) (code : CodeParts) (own : ℕ) where
     pub works : work ≡ work_in n first
     pub ends : LastWorks n first
 
+  -- of so many steps more none would go on in a capsule, and no two would enter one
+  pub record NoFurther (left : ℕ) (t : Moment) : Type 0 where
+    pub inside : 1 ≤ left → read s t.words FinishWord ≡ 0 → is_in_capsule t.stand ≡ false
+    pub before : 2 ≤ left → read s t.words FinishWord ≡ 0 → is_before_capsule t.stand ≡ true → is_in_capsule (moved_by 2 t).stand ≡ false
+
 -- a capsule under way goes on by a word step
 pub record MovesOn (s : Shape) (code : CodeParts) (old new : Running) (registers registers' words words' : List ℕ) (going : Going) : Type 0 where
   pub words_are : words' ≡ words_after words (wanted_rest s old.seat (rest_at s code old old.stage registers))
@@ -76,12 +82,6 @@ pub record MovesOn (s : Shape) (code : CodeParts) (old new : Running) (registers
       ≡ went_rest s old.seat (found_in words (wanted_rest s old.seat (rest_at s code old old.stage registers))) (rest_at s code old old.stage registers)
   pub holds : WentOn s code new registers' going
   pub seat : new.seat ≡ old.seat
-
--- or all is as it was
-pub record Stays (old new : Running) (registers registers' words words' : List ℕ) : Type 0 where
-  pub running : new ≡ old
-  pub registers_are : registers' ≡ registers
-  pub words_are : words' ≡ words
 
 -- whether it goes on behind that
 abbrev pub is_under_way : Going → Bool

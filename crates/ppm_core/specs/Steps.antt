@@ -1,11 +1,14 @@
 -- Steps that one processor makes in a row.
-use Rattle.std.specs.Prelude.{◌≡◌, ℕ, zero, suc, false, List, replicate}
+use Rattle.std.specs.Prelude.{◌≡◌, ◌≤◌, ℕ, zero, suc, Bool, true, false, List, replicate, Some}
+use Rattle.ppm_cells.specs.declared.restart.RestartKind.{RestartKind}
+use Rattle.ppm_cells.specs.declared.restart.RestartKind.TheVariants.{Run}
 use Rattle.ppm_step.specs.declared.turn.Act.TheVariants.{Step}
 use Rattle.ppm_step.specs.declared.turn.Next.TheVariants.{Work}
 use Rattle.ppm_step.specs.declared.turn.Turn.{Turn}
+use Rattle.ppm_step.specs.Standings.{Standing, IsAt, IsRunning}
 use Rattle.ppm_step.specs.State.{stand_of, next_of}
 use Rattle.ppm_core.specs.Acts.{is_done_at, seeks_holder_at}
-use Rattle.ppm_core.specs.Situation.{Situation, finish_in, turned}
+use Rattle.ppm_core.specs.Situation.{Situation, finish_in, turned, run_on}
 
 -- a step for which no victim is due, and so many of them
 abbrev pub steady_step : (processor : ℕ) → Turn
@@ -30,3 +33,23 @@ abbrev pub EndsInWork : Situation → (processor n : ℕ) → Type 0
 EndsInWork m processor zero = Unit {0}
 EndsInWork m processor (suc zero) = next_of (stand_of m.state processor) ≡ Work
 EndsInWork m processor (suc (suc n)) = EndsInWork (turned m (steady_step processor)) processor (suc n)
+
+-- a processor stands in a capsule of a frame
+abbrev pub is_in_capsule : Standing → Bool
+is_in_capsule (IsRunning seat rest) = true
+is_in_capsule standing = false
+
+-- or before one, at the restart of its frame
+abbrev pub is_of_frame : RestartKind → Bool
+is_of_frame (Run frame copy) = true
+is_of_frame kind = false
+
+abbrev pub is_before_capsule : Standing → Bool
+is_before_capsule (IsAt place (Some restart)) = is_of_frame restart.kind
+is_before_capsule standing = false
+
+-- of so many steps more none would go on in a capsule, and no two would enter one, while the run has not ended
+pub record GoesNoFurther (m : Situation) (processor left : ℕ) : Type 0 where
+  pub inside : 1 ≤ left → finish_in m ≡ 0 → is_in_capsule (stand_of m.state processor) ≡ false
+  pub before : 2 ≤ left → finish_in m ≡ 0 → is_before_capsule (stand_of m.state processor) ≡ true
+      → is_in_capsule (stand_of (run_on m (steady_steps processor 2)).state processor) ≡ false

@@ -167,7 +167,7 @@ pub(crate) fn store(words: &mut Vec<u64>, shape: &Shape, want: Want)
 }
 
 /// Makes a word step; what a load found, and else 0.
-fn make(words: &mut Vec<u64>, shape: &Shape, want: Want) -> u64
+pub(crate) fn make(words: &mut Vec<u64>, shape: &Shape, want: Want) -> u64
     requires words { AreWordsOf shape.now words.old.items }
     requires within { WantIsWithin shape.now want }
     ensures found { result ≡ found_in words.old.items want }

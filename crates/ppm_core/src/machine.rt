@@ -1,11 +1,11 @@
 //! The machine.
-ghost use Rattle.std.specs.Prelude.{◌≡◌, ◌<◌, ◌≤◌, ◌+◌, ◌^◌, IfOk, length, map, replicate, get_or};
+ghost use Rattle.std.specs.Prelude.{◌≡◌, ◌<◌, ◌≤◌, ◌+◌, ◌-◌, ◌^◌, IfOk, length, map, replicate, get_or};
 ghost use Rattle.std.specs.List.{All, sum};
 ghost use Rattle.ppm_cells.specs.Cells.{arrays_at};
 ghost use Rattle.ppm_core.specs.Acts.{IsTurnAmong, seeks_holder_at, is_done_at};
 ghost use Rattle.ppm_core.specs.Machine.{AreLocals, seen};
 ghost use Rattle.ppm_core.specs.Situation.{array_in, ending_of, finish_in, loaded, run_on, turned};
-ghost use Rattle.ppm_core.specs.Steps.{steady_steps, AreSteady, EndsInWork};
+ghost use Rattle.ppm_core.specs.Steps.{steady_steps, AreSteady, EndsInWork, GoesNoFurther};
 ghost use Rattle.ppm_step.specs.Locals.{standing_of};
 ghost use Rattle.ppm_step.specs.Standings.{IsLost};
 ghost use Rattle.ppm_step.specs.State.{stand_of, next_of};
@@ -201,9 +201,9 @@ impl Machine {
     }
 
     /// Word steps of a processor in a row, faster than turn by turn, and how many they were: at most `most`, each made while the finish word
-    /// is 0 and for which no victim is due, the last one work. No clause says how many, and there may be none: it makes those of capsules of
-    /// frames, from the finish word before one on, and stops before other rows. The processor is below their number, and there come to
-    /// be 2^62 turns at most. No event is told, and no memory is taken.
+    /// is 0 and for which no victim is due, the last one work. They are those of capsules of frames: it stops where the finish word is not 0,
+    /// where the processor stands in no capsule of a frame and can enter none, and one short of `most` before a capsule, which is entered by
+    /// two steps. The processor is below their number, and there come to be 2^62 turns at most. No event is told, and no memory is taken.
     pub fn steps(&mut self, processor: u32, most: u64) -> u64
         requires processor { processor < self.old.shape.processors }
         requires few { self.old.turns + most ≤ 2 ^ 62 }
@@ -211,6 +211,7 @@ impl Machine {
         ensures machine { seen self.new ≡ run_on (seen self.old) (steady_steps processor result) }
         ensures steady { AreSteady (seen self.old) processor result }
         ensures work { EndsInWork (seen self.old) processor result }
+        ensures no_further { GoesNoFurther (seen self.new) processor (most - result) }
     {
         let local = &mut self.locals[processor as usize];
         let steps = step_along(local, &mut self.words, &self.shape, &self.code, most);

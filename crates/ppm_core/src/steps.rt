@@ -1,17 +1,17 @@
 //! The steps that one processor makes in a row in capsules of frames: what `act_on` makes of them one by one, with the capsule under way
 //! held apart from the processor between them.
-ghost use Rattle.std.specs.Prelude.{◌≡◌, ◌<◌, ◌≤◌, true, Some, MatchOption};
+ghost use Rattle.std.specs.Prelude.{◌≡◌, ◌<◌, ◌≤◌, ◌-◌, true, Some};
 ghost use Rattle.ppm_cells.specs.Memory.{AreWordsOf, read};
 ghost use Rattle.ppm_cells.specs.Restart.{IsRestart};
 ghost use Rattle.ppm_cells.specs.declared.cell.Cell.TheVariants.{FinishWord};
-ghost use Rattle.ppm_core.specs.Moments.{moment, is_under_way, StepsTo, MovesOn, Stays};
+ghost use Rattle.ppm_core.specs.Moments.{moment, is_under_way, MovesOn, StepsTo, NoFurther};
 ghost use Rattle.ppm_step.specs.Facts.{IsSeat};
 ghost use Rattle.ppm_step.specs.Locals.{IsLocal, standing_of};
 ghost use Rattle.ppm_step.specs.Stages.{IsUnderWay, WentOn, rest_at, went_on};
 ghost use Rattle.ppm_step.specs.Standings.{IsAt, IsRunning};
 ghost use Rattle.ppm_step.specs.declared.going.Going.TheVariants.{Went};
 
-use crate::acts::{found_by, store};
+use crate::acts::{found_by, make, store};
 use ppm_cells::{Cell, Restart, Shape};
 use ppm_code::{Code, End, Step};
 use ppm_step::{Going, Local, Running, Seat, Stage, Stand, Want, entered, header_of};
@@ -32,7 +32,25 @@ fn finish_word(words: &Vec<u64>, shape: &Shape) -> u64
     found_by(words, shape, Want::Loads(shape.address(Cell::FinishWord)))
 }
 
-/// Makes the word step of a capsule that comes next, and goes on with what it found.
+/// Makes the word step that comes next in a capsule, and goes on with what it found.
+#[inline(never)]
+fn make_any(
+    running: &mut Running,
+    registers: &mut [u64; 64],
+    words: &mut Vec<u64>,
+    shape: &Shape,
+    code: &Code,
+) -> Going
+    requires running { IsUnderWay shape.now code.now running.old registers.old }
+    requires words { AreWordsOf shape.now words.old.items }
+    ensures { MovesOn shape.now code.now running.old running.new registers.old registers.new words.old.items words.new.items result }
+{
+    let want = running.want(shape, code, registers);
+    let found = make(words, shape, want);
+    running.observe(shape, code, registers, found)
+}
+
+/// The same, with code to itself for each stage that comes often.
 #[inline(always)]
 fn make_step(
     running: &mut Running,
@@ -45,38 +63,29 @@ fn make_step(
     requires words { AreWordsOf shape.now words.old.items }
     ensures { MovesOn shape.now code.now running.old running.new registers.old registers.new words.old.items words.new.items result }
 {
-    let want = running.want(shape, code, registers);
-    let found = found_by(words, shape, want);
-    let going = running.observe(shape, code, registers, found);
-    store(words, shape, want);
-    going
-}
-
-/// The same at the stages that come often, each with code to itself, in which the compiler knows it. At the others nothing is done.
-#[inline(always)]
-fn make_often(
-    running: &mut Running,
-    registers: &mut [u64; 64],
-    words: &mut Vec<u64>,
-    shape: &Shape,
-    code: &Code,
-) -> Option<Going>
-    requires running { IsUnderWay shape.now code.now running.old registers.old }
-    requires words { AreWordsOf shape.now words.old.items }
-    ensures { MatchOption result
-        (Stays running.old running.new registers.old registers.new words.old.items words.new.items)
-        (MovesOn shape.now code.now running.old running.new registers.old registers.new words.old.items words.new.items) }
-{
     match running.stage {
-        Stage::Before(Step::Loads(..)) => Some(make_step(running, registers, words, shape, code)),
-        Stage::Before(Step::Stores(..)) => Some(make_step(running, registers, words, shape, code)),
-        Stage::Ending(End::Next { .. }, 0) => Some(make_step(
-            running, registers, words, shape, code,
-        )),
-        Stage::Ending(End::Next { .. }, _) => Some(make_step(
-            running, registers, words, shape, code,
-        )),
-        Stage::Before(Step::Asks(_)) | Stage::Ending(..) | Stage::Filled => None,
+        Stage::Before(Step::Loads(_, to)) => {
+            let want = running.want(shape, code, registers);
+            registers[usize::from(to.index)] = found_by(words, shape, want);
+            Going::Went(running.go_on(shape, code, registers))
+        }
+        Stage::Before(Step::Stores(..)) => {
+            let want = running.want(shape, code, registers);
+            store(words, shape, want);
+            Going::Went(running.go_on(shape, code, registers))
+        }
+        Stage::Ending(End::Next { capsule }, n) => {
+            let want = running.want(shape, code, registers);
+            store(words, shape, want);
+            running.observe_next(shape, code, registers, capsule, n)
+        }
+        Stage::Before(Step::Asks(_)) | Stage::Ending(..) | Stage::Filled => {
+            // By a copy, so that the loop around this can hold it in registers.
+            let mut moved = *running;
+            let going = make_any(&mut moved, registers, words, shape, code);
+            *running = moved;
+            going
+        }
     }
 }
 
@@ -112,9 +121,7 @@ fn run_capsule(
         if finish_word(words, shape) != 0 {
             return under_way(made);
         }
-        let Some(going) = make_often(running, registers, words, shape, code) else {
-            return under_way(made);
-        };
+        let going = make_step(running, registers, words, shape, code);
         made += 1;
         if !is_under_way(going) {
             return Stretch { made, going };
@@ -170,36 +177,6 @@ fn stand_behind(local: &mut Local, shape: &Shape, code: &Code, running: Running,
     }
 }
 
-/// Goes through the capsule under way.
-fn resume_capsule(
-    local: &mut Local,
-    words: &mut Vec<u64>,
-    shape: &Shape,
-    code: &Code,
-    running: Running,
-    most: u64,
-) -> Steps
-    requires local { IsLocal shape.now code.now local.old }
-    requires running { IsUnderWay shape.now code.now running local.old.registers }
-    requires own { running.seat.own ≡ local.old.own }
-    requires words { AreWordsOf shape.now words.old.items }
-    ensures few { (result.made ≤ most) × (result.work ≤ result.made) }
-    ensures leads { StepsTo shape.now code.now local.old.own result.made result.work
-        (moment words.old.items (IsRunning running.seat (rest_at shape.now code.now running running.stage local.old.registers)))
-        (moment words.new.items (standing_of shape.now code.now local.new)) }
-    ensures holds { IsLocal shape.now code.now local.new }
-    ensures own_stays { local.new.own ≡ local.old.own }
-    ensures count { AreWordsOf shape.now words.new.items }
-{
-    let mut ran = running;
-    let stretch = run_capsule(&mut ran, &mut local.registers, words, shape, code, most);
-    stand_behind(local, shape, code, ran, stretch.going);
-    Steps {
-        made: stretch.made,
-        work: stretch.made,
-    }
-}
-
 /// No steps.
 const NONE: Steps = Steps { made: 0, work: 0 };
 
@@ -222,6 +199,7 @@ fn run_capsules(
     ensures leads { StepsTo shape.now code.now local.old.own result.made result.work
         (moment words.old.items (IsAt place (Some restart)))
         (moment words.new.items (standing_of shape.now code.now local.new)) }
+    ensures no_further { result.made ≡ 0 → NoFurther shape.now code.now local.old.own most (moment words.new.items (standing_of shape.now code.now local.new)) }
     ensures holds { IsLocal shape.now code.now local.new }
     ensures own_stays { local.new.own ≡ local.old.own }
     ensures count { AreWordsOf shape.now words.new.items }
@@ -284,65 +262,31 @@ fn wait_at(local: &mut Local, shape: &Shape, code: &Code, place: u32, at: Restar
     };
 }
 
-/// Makes one step of the capsule under way, at any stage.
+/// Makes a step of the capsule under way.
 #[inline(never)]
-fn make_seldom(
-    local: &mut Local,
-    words: &mut Vec<u64>,
-    shape: &Shape,
-    code: &Code,
-    running: Running,
-) -> Steps
-    requires running { IsUnderWay shape.now code.now running local.old.registers }
-    requires own { running.seat.own ≡ local.old.own }
-    requires words { AreWordsOf shape.now words.old.items }
-    requires finish { read shape.now words.old.items FinishWord ≡ 0 }
-    ensures few { (result.made ≤ 1) × (result.work ≤ result.made) }
-    ensures leads { StepsTo shape.now code.now local.old.own result.made result.work
-        (moment words.old.items (IsRunning running.seat (rest_at shape.now code.now running running.stage local.old.registers)))
-        (moment words.new.items (standing_of shape.now code.now local.new)) }
-    ensures holds { IsLocal shape.now code.now local.new }
-    ensures own_stays { local.new.own ≡ local.old.own }
-    ensures count { AreWordsOf shape.now words.new.items }
-{
-    let mut ran = running;
-    let going = make_step(&mut ran, &mut local.registers, words, shape, code);
-    stand_behind(local, shape, code, ran, going);
-    Steps { made: 1, work: 1 }
-}
-
-/// Goes on with the capsule under way: a stage that comes seldom is one step.
 fn resume(
     local: &mut Local,
     words: &mut Vec<u64>,
     shape: &Shape,
     code: &Code,
     running: Running,
-    most: u64,
 ) -> Steps
-    requires local { IsLocal shape.now code.now local.old }
     requires running { IsUnderWay shape.now code.now running local.old.registers }
     requires own { running.seat.own ≡ local.old.own }
     requires words { AreWordsOf shape.now words.old.items }
-    requires most { 0 < most }
     requires finish { read shape.now words.old.items FinishWord ≡ 0 }
-    ensures few { (result.made ≤ most) × (result.work ≤ result.made) }
-    ensures leads { StepsTo shape.now code.now local.old.own result.made result.work
+    ensures one { result ≡ record { made = 1; work = 1 } }
+    ensures leads { StepsTo shape.now code.now local.old.own 1 1
         (moment words.old.items (IsRunning running.seat (rest_at shape.now code.now running running.stage local.old.registers)))
         (moment words.new.items (standing_of shape.now code.now local.new)) }
     ensures holds { IsLocal shape.now code.now local.new }
     ensures own_stays { local.new.own ≡ local.old.own }
     ensures count { AreWordsOf shape.now words.new.items }
 {
-    match running.stage {
-        Stage::Before(Step::Asks(_)) | Stage::Filled => make_seldom(
-            local, words, shape, code, running,
-        ),
-        Stage::Before(_) | Stage::Ending(End::Next { .. }, _) => {
-            resume_capsule(local, words, shape, code, running, most)
-        }
-        Stage::Ending(..) => make_seldom(local, words, shape, code, running),
-    }
+    let mut moved = running;
+    let going = make_any(&mut moved, &mut local.registers, words, shape, code);
+    stand_behind(local, shape, code, moved, going);
+    Steps { made: 1, work: 1 }
 }
 
 /// Makes steps of a processor in a row in its capsules of frames, at most so many, while the finish word is 0.
@@ -359,6 +303,7 @@ pub(crate) fn step_along(
     ensures leads { StepsTo shape.now code.now local.old.own result.made result.work
         (moment words.old.items (standing_of shape.now code.now local.old))
         (moment words.new.items (standing_of shape.now code.now local.new)) }
+    ensures no_further { NoFurther shape.now code.now local.old.own (most - result.made) (moment words.new.items (standing_of shape.now code.now local.new)) }
     ensures holds { IsLocal shape.now code.now local.new }
     ensures own { local.new.own ≡ local.old.own }
     ensures count { AreWordsOf shape.now words.new.items }
@@ -396,6 +341,7 @@ fn steps_from(
     ensures leads { StepsTo shape.now code.now local.old.own result.made result.work
         (moment words.old.items (standing_of shape.now code.now local.old))
         (moment words.new.items (standing_of shape.now code.now local.new)) }
+    ensures no_further { result.made ≡ 0 → NoFurther shape.now code.now local.old.own most (moment words.new.items (standing_of shape.now code.now local.new)) }
     ensures holds { IsLocal shape.now code.now local.new }
     ensures own { local.new.own ≡ local.old.own }
     ensures count { AreWordsOf shape.now words.new.items }
@@ -405,7 +351,7 @@ fn steps_from(
             Some(restart) => run_capsules(local, words, shape, code, place, restart, most),
             None => NONE,
         },
-        Stand::Runs(running) => resume(local, words, shape, code, running, most),
+        Stand::Runs(running) => resume(local, words, shape, code, running),
         Stand::Lost
         | Stand::Placed { .. }
         | Stand::Within { .. }

@@ -271,7 +271,7 @@ impl Running {
     /// Goes on behind the n-th store of the end that goes on with a capsule, or behind the store of its restart word.
     #[inline(always)]
     #[tactic(auto, using(crate::proofs::ThereLemmas::restart_fits))]
-    fn observe_next(
+    pub fn observe_next(
         &mut self,
         shape: &Shape,
         code: &Code,

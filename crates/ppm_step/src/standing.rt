@@ -1,8 +1,8 @@
 //! Where a processor comes to stand.
-ghost use Rattle.std.specs.Prelude.{◌≡◌, ◌<◌, true, Some, slice_get, IfSome};
+ghost use Rattle.std.specs.Prelude.{◌≡◌, ◌<◌, true, Some, slice_get, IfSome, MatchOption};
 ghost use Rattle.ppm_cells.specs.Restart.{IsRestart};
 ghost use Rattle.ppm_step.specs.Facts.{IsSeat};
-ghost use Rattle.ppm_step.specs.Locals.{HasEntered, IsHeaderOf};
+ghost use Rattle.ppm_step.specs.Locals.{HasEntered, HasNoHeader, IsHeaderOf};
 ghost use Rattle.ppm_step.specs.Stages.{IsUnderWay};
 ghost use Rattle.ppm_step.specs.Standings.{enters};
 ghost use Rattle.ppm_step.specs.There.{restart_is_there};
@@ -206,14 +206,14 @@ impl Local {
     }
 }
 
-/// The address of the header with which the frame of a seat goes on. `None` where the seat's capsule is none of a frame, or where its
-/// restart word or the header names what isn't there; no clause says of it when.
+/// The address of the header with which the frame of a seat goes on. `None` where the seat's capsule is none of a frame, and where its
+/// place has met broken words: its restart word or the header names what isn't there.
 #[inline(always)]
 pub fn header_of(shape: &Shape, seat: Seat) -> Option<u32>
     requires own { seat.own < shape.now.processors }
     requires place { seat.place < shape.now.processors }
     requires restart { IsRestart seat.restart }
-    ensures { IfSome result (IsHeaderOf shape.now seat) }
+    ensures { MatchOption result (HasNoHeader shape.now seat) (IsHeaderOf shape.now seat) }
 {
     let RestartKind::Run { frame, copy } = seat.restart.kind else {
         return None;

@@ -10,11 +10,11 @@ loop-made-preserved c =
     let own = c.args.running.now.seat.own in
     let inv = c.loop-made.invariant in
     let goes = sym c.is_under_way.ensures ∙ c.if-not-is_under_way.false in (
-      goes_on s code own c.in-Some.going goes
-          (further s code own inv.0 (sym c.finish_word.ensures ∙ c.if-finish_word-ne0.false) c.in-Some.ensures inv.2),
-      holds_on s code own c.in-Some.going goes c.in-Some.ensures.holds,
-      c.in-Some.ensures.seat ∙ inv.2,
-      c.in-Some.ensures.count,
+      goes_on s code own c.make_step-going.result goes
+          (further s code own inv.0 (sym c.finish_word.ensures ∙ c.if-finish_word-ne0.false) c.make_step-going.ensures inv.2),
+      holds_on s code own c.make_step-going.result goes c.make_step-going.ensures.holds,
+      c.make_step-going.ensures.seat ∙ inv.2,
+      c.make_step-going.ensures.count,
       omega (arith, c.loop-made-test.true),
     )
 
@@ -23,4 +23,4 @@ pub returns-then-not-is_under_way-clause-leads : goal.returns-then-not-is_under_
 returns-then-not-is_under_way-clause-leads c =
     let inv = c.loop-made.invariant in
     further c.args.shape.now c.args.code.now c.args.running.now.seat.own inv.0
-    (sym c.finish_word.ensures ∙ c.if-finish_word-ne0.false) c.in-Some.ensures inv.2
+    (sym c.finish_word.ensures ∙ c.if-finish_word-ne0.false) c.make_step-going.ensures inv.2

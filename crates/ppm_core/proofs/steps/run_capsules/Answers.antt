@@ -4,8 +4,8 @@ use Rattle.ppm_step.specs.declared.row.Seat.{Seat}
 use Rattle.ppm_step.specs.Locals.{standing_of}
 use Rattle.ppm_step.specs.Stages.{WentOn, rest_at, went_on}
 use Rattle.ppm_step.specs.Standings.{Standing, IsAt, IsRunning, enters}
-use Rattle.ppm_core.specs.Moments.{moment, StepsTo}
-use Rattle.ppm_core.proofs.MomentLemmas.{capsule_more}
+use Rattle.ppm_core.specs.Moments.{moment, StepsTo, NoFurther}
+use Rattle.ppm_core.proofs.MomentLemmas.{capsule_more, no_header, not_entered}
 use Rattle.ppm_core.proofs.steps.run_capsules.Goals as goal
 
 -- a capsule more, behind which the place goes on with a restart
@@ -69,3 +69,24 @@ returns-in-Went-clause-leads c =
     (subst
     (λ (u : Seat). StepsTo s code u.own made made (moment c.loop-steps.words.items stand) (moment new.words.items (went_on running.seat left going)))
     same c.run_capsule-stretch.ensures.leads))
+
+-- no header is there, and so no capsule is entered
+pub returns-in_default-clause-no_further : goal.returns-in_default-clause-no_further
+returns-in_default-clause-no_further c = λ made.
+    let s = c.args.shape.now in
+    let code = c.args.code.now in
+    let own = c.args.local.now.own in
+    let seat : Seat = record { own = own; place = c.args.place; restart = c.loop-steps.at } in
+    subst (λ t. NoFurther s code own c.args.most (moment c.loop-steps.words.items t)) (sym c.wait_at-in_default.ensures.stands)
+    (no_header s code own seat c.loop-steps.words.items c.args.most refl c.in_default.ensures)
+
+-- nor where the header names none, or one whose first word isn't there
+pub returns-in_default-entered-clause-no_further : goal.returns-in_default-entered-clause-no_further
+returns-in_default-entered-clause-no_further c = λ made.
+    let s = c.args.shape.now in
+    let code = c.args.code.now in
+    let own = c.args.local.now.own in
+    let seat : Seat = record { own = own; place = c.args.place; restart = c.loop-steps.at } in
+    subst (λ t. NoFurther s code own c.args.most (moment c.loop-steps.words.items t)) (sym c.wait_at-in_default-entered.ensures.stands)
+    (not_entered s code own seat c.in-Some.header c.loop-steps.words.items c.args.most refl c.in-Some.ensures
+    (ap (λ n. enters s code seat seat.restart.kind (slice_get code.capsules n)) (sym c.found_by-number.ensures) ∙ c.in_default-entered.ensures.stands))

@@ -1,7 +1,8 @@
-use Rattle.std.proofs.Common.{◌<◌, ◌∙◌, sym, subst, arith}
+use Rattle.std.proofs.Common.{◌<◌, ◌∙◌, sym, ap, subst, arith}
 use Rattle.ppm_step.specs.State.{stand_of}
 use Rattle.ppm_core.specs.Acts.{IsActAmong}
 use Rattle.ppm_core.specs.Machine.{seen}
+use Rattle.ppm_core.specs.Situation.{Situation}
 use Rattle.ppm_running.proofs.AloneLemmas.{acts}
 use Rattle.ppm_running.proofs.DrawnLemmas.{is_among}
 use Rattle.ppm_running.proofs.alone.act.Goals as goal
@@ -27,3 +28,6 @@ returns-clause-leads c m l =
     acts c.args.plan.now c.args.limits c.in-Some.act c.turn-told.result c.seeks_holder-due.result l (sym c.is_over.ensures ∙ c.if-is_over.false)
     (c.in-Some.ensures l.past _ l.at.pace_is l.at.drawn) c.turn-told.ensures.machine c.turn-told.ensures.told c.seeks_holder-due.ensures
     c.count.ensures.number c.count.ensures.work c.count.ensures.pace
+
+pub returns-clause-some : goal.returns-clause-some
+returns-clause-some c made = omega (arith, ap (λ (m : Situation). m.turns) c.turn-told.ensures.machine)

@@ -1,5 +1,8 @@
-use Rattle.std.proofs.Common.{◌≡◌, ◌-◌, arith}
+use Rattle.std.proofs.Common.{◌≡◌, ◌-◌, ap, arith}
+use Rattle.std.proofs.lemmas.List.{length-replicate}
 use Rattle.ppm_core.specs.Machine.{seen}
+use Rattle.ppm_core.specs.Situation.{Situation}
+use Rattle.ppm_core.specs.Steps.{steady_step}
 use Rattle.ppm_running.proofs.StepsLemmas.{work_steps, work_within, work_more, goes_ahead}
 use Rattle.ppm_running.proofs.alone.go_ahead.Goals as goal
 
@@ -33,3 +36,12 @@ returns-clause-leads c m victims l =
     (omega (arith, c.steps-made.ensures.bound, c.min-most.ensures)) c.clear_steps.ensures.clear c.steps-made.ensures.machine c.steps-made.ensures.steady
     c.steps-made.ensures.work work c.next-next.ensures c.seeks_holder-due.ensures c.count_steps.ensures.number c.count_steps.ensures.work
     c.count_steps.ensures.pace
+
+pub returns-clause-some : goal.returns-clause-some
+returns-clause-some c made =
+    omega (
+      arith,
+      ap (λ (m : Situation). m.turns) c.steps-made.ensures.machine,
+      length-replicate c.steps-made.result (steady_step 0),
+      c.if-made-eq0.false,
+    )
