@@ -21,7 +21,8 @@ use Rattle.ppm_step.specs.Stages.{IsUnderWay, WentOn, rest_at, went_on}
 use Rattle.ppm_step.specs.Standings.{Standing, IsAt, IsWithin, IsRunning, IsBroken, at_finish, begins, enters, wanted_rest, went_rest}
 use Rattle.ppm_step.specs.State.{found_in, words_after, next_of, step_of, before_kind}
 use Rattle.ppm_step.specs.Told.{is_work_next}
-use Rattle.ppm_core.specs.Moments.{Moment, moment, moved, moved_by, Moves, AllMove, work_at, work_in, LastWorks, StepsTo, MovesOn, NoFurther, is_under_way}
+use Rattle.ppm_core.specs.Moments.{Moment, moment, moved, moved_by, Moves, AllMove, work_at, work_in, LastWorks, StepsTo}
+use Rattle.ppm_core.specs.Moments.{MovesOn, NoFurther, is_under_way}
 use Rattle.ppm_core.specs.Steps.{is_in_capsule, is_of_frame}
 
 module _ (s : Shape) (code : CodeParts) (own : ℕ) where
@@ -105,10 +106,10 @@ module _ (s : Shape) (code : CodeParts) (own : ℕ) where
   }
 
   -- behind the load of the finish word a restart begins
-  begun : (seat : Seat) (words : List ℕ) (stand : Standing) → own ≡ seat.own → read s words FinishWord ≡ 0
+  behind_finish_word : (seat : Seat) (words : List ℕ) (stand : Standing) → own ≡ seat.own → read s words FinishWord ≡ 0
       → begins s code seat.own seat.place (Some seat.restart) ≡ stand
       → moved s code own (moment words (IsAt seat.place (Some seat.restart))) ≡ moment words stand
-  begun seat words stand same finish begins_with =
+  behind_finish_word seat words stand same finish begins_with =
       ap (λ f. moment words (at_finish s code own seat.place (Some seat.restart) f)) finish
       ∙ ap (λ o. moment words (at_finish s code o seat.place (Some seat.restart) 0)) same
       ∙ ap (moment words) begins_with
@@ -121,7 +122,7 @@ module _ (s : Shape) (code : CodeParts) (own : ℕ) where
   in_front seat header words stand h same finish stands =
       let t : Moment = moment words (IsAt seat.place (Some seat.restart)) in
       let u : Moment = moment words (IsWithin seat (Now (Load (Header h.frame h.copy)))) in
-      let behind_finish : moved s code own t ≡ u = begun seat words _ same finish (h.begins_with code) in
+      let behind_finish : moved s code own t ≡ u = behind_finish_word seat words _ same finish (h.begins_with code) in
       let look : work_at s code own t ≡ 0 = ap (λ k. if is_work_next s code (before_kind k) then 1 else 0) h.kind in
       let work : work_at s code own u ≡ 1 = ap (λ k. if is_work_next s code (step_of k) then 1 else 0) h.kind in
       let works : next_of u.stand ≡ Work = ap step_of h.kind in
@@ -189,21 +190,21 @@ module _ (s : Shape) (code : CodeParts) (own : ℕ) where
   -- where a frame's header isn't there, no capsule is entered
   pub no_header : (seat : Seat) (words : List ℕ) (left : ℕ) → own ≡ seat.own → HasNoHeader s seat
       → NoFurther s code own left (moment words (IsAt seat.place (Some seat.restart)))
-  no_header seat words left same none = record { inside = λ few finish. refl; before = λ few finish. of_kind seat.restart.kind refl finish }
+  no_header seat words left same none = record { inside = λ some finish. refl; before = λ some finish. of_kind seat.restart.kind refl finish }
     where
       of_kind : (kind : RestartKind) → seat.restart.kind ≡ kind → read s words FinishWord ≡ 0 → is_of_frame kind ≡ true
           → is_in_capsule (moved_by s code own 2 (moment words (IsAt seat.place (Some seat.restart)))).stand ≡ false
-      of_kind (Run frame copy) kind finish of_frame =
-          ap (λ (t : Moment). is_in_capsule (moved s code own t).stand) (begun seat words _ same finish (none code frame copy kind))
-      of_kind other kind finish of_frame = cc
+      of_kind (Run frame copy) is finish of_frame =
+          ap (λ (t : Moment). is_in_capsule (moved s code own t).stand) (behind_finish_word seat words _ same finish (none code frame copy is))
+      of_kind other is finish of_frame = cc
 
   -- nor where it names none, or one whose first word isn't there
   pub not_entered : (seat : Seat) (header : ℕ) (words : List ℕ) (left : ℕ) → own ≡ seat.own → IsHeaderOf s seat header
       → enters s code seat seat.restart.kind (slice_get code.capsules (slice_index words header)) ≡ IsBroken seat.place
       → NoFurther s code own left (moment words (IsAt seat.place (Some seat.restart)))
   not_entered seat header words left same h broken = record {
-    inside = λ few finish. refl;
-    before = λ few finish of_frame.
-        ap (λ (t : Moment). is_in_capsule (moved s code own t).stand) (begun seat words _ same finish (h.begins_with code))
+    inside = λ some finish. refl;
+    before = λ some finish of_frame.
+        ap (λ (t : Moment). is_in_capsule (moved s code own t).stand) (behind_finish_word seat words _ same finish (h.begins_with code))
         ∙ ap is_in_capsule (sym (ap (λ a. enters s code seat seat.restart.kind (slice_get code.capsules (slice_index words a))) h.is_at) ∙ broken);
   }

@@ -199,20 +199,22 @@ has_made m own old new words made work at same leads = record {
       (λ (n : ℕ). StepsTo m.shape m.code n made work (moment m.words (standing_of m.shape m.code old)) (moment words (standing_of m.shape m.code new))) same leads;
 }
 
-pub goes_no_further : (m : Holding) (own : ℕ) (old new : Local) (words : List ℕ) (made work left : ℕ) → HasMade m own old new words made work
+-- and more would lead no further, as of the moment so of the machine
+pub goes_no_further_is : (m : Holding) (own : ℕ) (old new : Local) (words : List ℕ) (made work left : ℕ) → HasMade m own old new words made work
     → NoFurther m.shape m.code own left (moment words (standing_of m.shape m.code new))
     → GoesNoFurther (seen (with_steps m own new words work made)) own left
-goes_no_further m own old new words made work left h further =
+goes_no_further_is m own old new words made work left h stops =
     let s = m.shape in
     let code = m.code in
     let behind = with_steps m own new words work made in
     let t : Moment = moment words (standing_of s code new) in
-    let at : StandsAt s code own (seen behind).state t = record { words = refl; stand = stands_at behind own new (get_changed m.locals own new old h.at) } in
+    let at : StandsAt s code own (seen behind).state t =
+    record { words = refl; stand = stands_at behind own new (get_changed m.locals own new old h.at) } in
     let next = turned_at s code own (seen behind).state t at in
     let after = turned_at s code own (happens s code (seen behind).state (steady_step own)) (moved s code own t) next in
     record {
-      inside = λ few finish. ap is_in_capsule (stand_is s code own (seen behind).state t at) ∙ further.inside few finish;
-      before = λ few finish of_frame.
+      inside = λ some finish. ap is_in_capsule (stand_is s code own (seen behind).state t at) ∙ stops.inside some finish;
+      before = λ some finish of_frame.
           ap is_in_capsule (stand_is s code own _ _ after)
-          ∙ further.before few finish (sym (ap is_before_capsule (stand_is s code own (seen behind).state t at)) ∙ of_frame);
+          ∙ stops.before some finish (sym (ap is_before_capsule (stand_is s code own (seen behind).state t at)) ∙ of_frame);
     }

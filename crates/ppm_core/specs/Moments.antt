@@ -69,7 +69,7 @@ module _ (s : Shape) (code : CodeParts) (own : ℕ) where
     pub works : work ≡ work_in n first
     pub ends : LastWorks n first
 
-  -- of so many steps more none would go on in a capsule, and no two would enter one
+  -- of so many steps more none would go on in a capsule, and no two from the restart of a frame would enter one, while the finish word is 0
   pub record NoFurther (left : ℕ) (t : Moment) : Type 0 where
     pub inside : 1 ≤ left → read s t.words FinishWord ≡ 0 → is_in_capsule t.stand ≡ false
     pub before : 2 ≤ left → read s t.words FinishWord ≡ 0 → is_before_capsule t.stand ≡ true → is_in_capsule (moved_by 2 t).stand ≡ false

@@ -39,16 +39,17 @@ abbrev pub is_in_capsule : Standing → Bool
 is_in_capsule (IsRunning seat rest) = true
 is_in_capsule standing = false
 
--- or before one, at the restart of its frame
+-- a restart is that of a frame
 abbrev pub is_of_frame : RestartKind → Bool
 is_of_frame (Run frame copy) = true
 is_of_frame kind = false
 
+-- a processor stands before a capsule, at the restart of a frame
 abbrev pub is_before_capsule : Standing → Bool
 is_before_capsule (IsAt place (Some restart)) = is_of_frame restart.kind
 is_before_capsule standing = false
 
--- of so many steps more none would go on in a capsule, and no two would enter one, while the run has not ended
+-- of so many steps more none would go on in a capsule, and no two from the restart of a frame would enter one, while the run has not ended
 pub record GoesNoFurther (m : Situation) (processor left : ℕ) : Type 0 where
   pub inside : 1 ≤ left → finish_in m ≡ 0 → is_in_capsule (stand_of m.state processor) ≡ false
   pub before : 2 ≤ left → finish_in m ≡ 0 → is_before_capsule (stand_of m.state processor) ≡ true

@@ -201,9 +201,9 @@ impl Machine {
     }
 
     /// Word steps of a processor in a row, faster than turn by turn, and how many they were: at most `most`, each made while the finish word
-    /// is 0 and for which no victim is due, the last one work. They are those of capsules of frames: it stops where the finish word is not 0,
-    /// where the processor stands in no capsule of a frame and can enter none, and one short of `most` before a capsule, which is entered by
-    /// two steps. The processor is below their number, and there come to be 2^62 turns at most. No event is told, and no memory is taken.
+    /// is 0 and for which no victim is due, the last one work. It does not stop in a capsule of a frame, nor at the restart of a frame from
+    /// which two steps enter one, unless the finish word is not 0 or fewer steps are left than that; between those two it makes none. The
+    /// processor is below the number of processors, and there come to be 2^62 turns at most. No event is told, and no memory is taken.
     pub fn steps(&mut self, processor: u32, most: u64) -> u64
         requires processor { processor < self.old.shape.processors }
         requires few { self.old.turns + most ≤ 2 ^ 62 }

@@ -32,9 +32,9 @@ fn finish_word(words: &Vec<u64>, shape: &Shape) -> u64
     found_by(words, shape, Want::Loads(shape.address(Cell::FinishWord)))
 }
 
-/// Makes the word step that comes next in a capsule, and goes on with what it found.
+/// Makes the word step that comes next in a capsule, at any stage, and goes on with what it found.
 #[inline(never)]
-fn make_any(
+fn make_step_apart(
     running: &mut Running,
     registers: &mut [u64; 64],
     words: &mut Vec<u64>,
@@ -50,7 +50,7 @@ fn make_any(
     running.observe(shape, code, registers, found)
 }
 
-/// The same, with code to itself for each stage that comes often.
+/// The same; each stage that comes often has what `observe` does there as code of its own, in which the compiler knows the stage.
 #[inline(always)]
 fn make_step(
     running: &mut Running,
@@ -82,7 +82,7 @@ fn make_step(
         Stage::Before(Step::Asks(_)) | Stage::Ending(..) | Stage::Filled => {
             // By a copy, so that the loop around this can hold it in registers.
             let mut moved = *running;
-            let going = make_any(&mut moved, registers, words, shape, code);
+            let going = make_step_apart(&mut moved, registers, words, shape, code);
             *running = moved;
             going
         }
@@ -96,7 +96,7 @@ struct Stretch {
     going: Going,
 }
 
-/// Goes through a capsule of a frame, at most so many steps, while the finish word is 0, up to a stage that comes seldom.
+/// Goes through a capsule of a frame, at most so many steps, while the finish word is 0.
 #[inline(always)]
 fn run_capsule(
     running: &mut Running,
@@ -199,7 +199,8 @@ fn run_capsules(
     ensures leads { StepsTo shape.now code.now local.old.own result.made result.work
         (moment words.old.items (IsAt place (Some restart)))
         (moment words.new.items (standing_of shape.now code.now local.new)) }
-    ensures no_further { result.made ≡ 0 → NoFurther shape.now code.now local.old.own most (moment words.new.items (standing_of shape.now code.now local.new)) }
+    ensures no_further { result.made ≡ 0
+        → NoFurther shape.now code.now local.old.own most (moment words.new.items (standing_of shape.now code.now local.new)) }
     ensures holds { IsLocal shape.now code.now local.new }
     ensures own_stays { local.new.own ≡ local.old.own }
     ensures count { AreWordsOf shape.now words.new.items }
@@ -284,7 +285,7 @@ fn resume(
     ensures count { AreWordsOf shape.now words.new.items }
 {
     let mut moved = running;
-    let going = make_any(&mut moved, &mut local.registers, words, shape, code);
+    let going = make_step_apart(&mut moved, &mut local.registers, words, shape, code);
     stand_behind(local, shape, code, moved, going);
     Steps { made: 1, work: 1 }
 }
@@ -303,7 +304,8 @@ pub(crate) fn step_along(
     ensures leads { StepsTo shape.now code.now local.old.own result.made result.work
         (moment words.old.items (standing_of shape.now code.now local.old))
         (moment words.new.items (standing_of shape.now code.now local.new)) }
-    ensures no_further { NoFurther shape.now code.now local.old.own (most - result.made) (moment words.new.items (standing_of shape.now code.now local.new)) }
+    ensures no_further { NoFurther shape.now code.now local.old.own (most - result.made)
+        (moment words.new.items (standing_of shape.now code.now local.new)) }
     ensures holds { IsLocal shape.now code.now local.new }
     ensures own { local.new.own ≡ local.old.own }
     ensures count { AreWordsOf shape.now words.new.items }
@@ -341,7 +343,8 @@ fn steps_from(
     ensures leads { StepsTo shape.now code.now local.old.own result.made result.work
         (moment words.old.items (standing_of shape.now code.now local.old))
         (moment words.new.items (standing_of shape.now code.now local.new)) }
-    ensures no_further { result.made ≡ 0 → NoFurther shape.now code.now local.old.own most (moment words.new.items (standing_of shape.now code.now local.new)) }
+    ensures no_further { result.made ≡ 0
+        → NoFurther shape.now code.now local.old.own most (moment words.new.items (standing_of shape.now code.now local.new)) }
     ensures holds { IsLocal shape.now code.now local.new }
     ensures own { local.new.own ≡ local.old.own }
     ensures count { AreWordsOf shape.now words.new.items }

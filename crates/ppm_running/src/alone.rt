@@ -58,7 +58,7 @@ fn act(
     requires few { (seen machine.old).turns < 2 ^ 62 }
     ensures leads { (m : Situation) → Leads plan.now limits m (seen machine.old) pace.old victims.old
         → LeadsBy plan.now limits m result (seen machine.new) pace.new victims.new }
-    ensures some { result ≡ true → (seen machine.old).turns < (seen machine.new).turns }
+    ensures turns_rise { result ≡ true → (seen machine.old).turns < (seen machine.new).turns }
     ensures processors { (seen machine.new).shape ≡ (seen machine.old).shape }
 {
     if is_over(pace.next) {
@@ -80,7 +80,7 @@ fn go_ahead(machine: &mut Machine, pace: &mut Pace, plan: &Plan, limits: Limits)
     requires work { pace.old.work ≤ (seen machine.old).turns }
     ensures leads { (m : Situation) (victims : Drawing) → Leads plan.now limits m (seen machine.old) pace.old victims
         → Leads plan.now limits m (seen machine.new) pace.new victims }
-    ensures some { result ≡ true → (seen machine.old).turns < (seen machine.new).turns }
+    ensures turns_rise { result ≡ true → (seen machine.old).turns < (seen machine.new).turns }
     ensures none { result ≡ false → seen machine.new ≡ seen machine.old }
     ensures shape { (seen machine.new).shape ≡ (seen machine.old).shape }
 {

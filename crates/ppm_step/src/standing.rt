@@ -206,8 +206,8 @@ impl Local {
     }
 }
 
-/// The address of the header with which the frame of a seat goes on. `None` where the seat's capsule is none of a frame, and where its
-/// place has met broken words: its restart word or the header names what isn't there.
+/// The address of the header with which the frame of a seat goes on. `None` exactly where the seat's capsule is none of a frame, or its
+/// restart word names what isn't there, or the header itself isn't there.
 #[inline(always)]
 pub fn header_of(shape: &Shape, seat: Seat) -> Option<u32>
     requires own { seat.own < shape.now.processors }

@@ -89,4 +89,5 @@ returns-in_default-entered-clause-no_further c = λ made.
     let seat : Seat = record { own = own; place = c.args.place; restart = c.loop-steps.at } in
     subst (λ t. NoFurther s code own c.args.most (moment c.loop-steps.words.items t)) (sym c.wait_at-in_default-entered.ensures.stands)
     (not_entered s code own seat c.in-Some.header c.loop-steps.words.items c.args.most refl c.in-Some.ensures
-    (ap (λ n. enters s code seat seat.restart.kind (slice_get code.capsules n)) (sym c.found_by-number.ensures) ∙ c.in_default-entered.ensures.stands))
+    (ap (λ n. enters s code seat seat.restart.kind (slice_get code.capsules n)) (sym c.found_by-number.ensures)
+    ∙ c.in_default-entered.ensures.stands))

@@ -29,5 +29,6 @@ returns-clause-leads c m l =
     (c.in-Some.ensures l.past _ l.at.pace_is l.at.drawn) c.turn-told.ensures.machine c.turn-told.ensures.told c.seeks_holder-due.ensures
     c.count.ensures.number c.count.ensures.work c.count.ensures.pace
 
-pub returns-clause-some : goal.returns-clause-some
-returns-clause-some c made = omega (arith, ap (λ (m : Situation). m.turns) c.turn-told.ensures.machine)
+-- there are more turns then
+pub returns-clause-turns_rise : goal.returns-clause-turns_rise
+returns-clause-turns_rise c made = omega (arith, ap (λ (m : Situation). m.turns) c.turn-told.ensures.machine)

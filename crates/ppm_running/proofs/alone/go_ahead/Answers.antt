@@ -37,8 +37,9 @@ returns-clause-leads c m victims l =
     c.steps-made.ensures.work work c.next-next.ensures c.seeks_holder-due.ensures c.count_steps.ensures.number c.count_steps.ensures.work
     c.count_steps.ensures.pace
 
-pub returns-clause-some : goal.returns-clause-some
-returns-clause-some c made =
+-- there are more turns then
+pub returns-clause-turns_rise : goal.returns-clause-turns_rise
+returns-clause-turns_rise c made =
     omega (
       arith,
       ap (λ (m : Situation). m.turns) c.steps-made.ensures.machine,

@@ -4,7 +4,7 @@ use Rattle.ppm_step.specs.Locals.{standing_of}
 use Rattle.ppm_core.specs.Machine.{Holding}
 use Rattle.ppm_core.specs.Moments.{moment, NoFurther}
 use Rattle.ppm_core.proofs.LocalLemmas.{one_changed}
-use Rattle.ppm_core.proofs.StepsLemmas.{goes_no_further, has_made, run_is, steady_is, work_is_last}
+use Rattle.ppm_core.proofs.StepsLemmas.{goes_no_further_is, has_made, run_is, steady_is, work_is_last}
 use Rattle.ppm_core.proofs.machine.Machine.steps.Goals as goal
 
 -- the words and the processors are as they should be, and counts are turns
@@ -75,7 +75,7 @@ returns-clause-no_further c =
     omega (arith, c.requires.processor, c.self.invariant.1.count, same) in
     let at = slice_get_read c.self.inside.locals.items _ c.args.processor c.index_mut-local.result.now refl less c.index_mut-local.ensures.value in
     let own = (c.self.invariant.1.each c.args.processor c.index_mut-local.result.now at).own in
-    goes_no_further _ c.args.processor c.index_mut-local.result.now c.step_along-steps.new.local c.step_along-steps.new.words.items
+    goes_no_further_is _ c.args.processor c.index_mut-local.result.now c.step_along-steps.new.local c.step_along-steps.new.words.items
     c.step_along-steps.result.made c.step_along-steps.result.work (c.args.most - c.step_along-steps.result.made)
     (has_made _ c.args.processor _ _ _ _ _ at own c.step_along-steps.ensures.leads)
     (subst
