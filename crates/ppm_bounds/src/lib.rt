@@ -16,8 +16,6 @@ mod names;
 mod slots;
 mod sought;
 mod stop;
-#[cfg(test)]
-mod tests;
 mod walk;
 
 pub use bound_error::BoundError;

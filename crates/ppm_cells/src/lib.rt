@@ -17,8 +17,6 @@ mod region;
 mod restart;
 mod shape;
 mod side;
-#[cfg(test)]
-mod tests;
 
 pub use cell::Cell;
 pub use entry::Entry;

@@ -15,8 +15,6 @@ mod location;
 mod region;
 mod register;
 mod size;
-#[cfg(test)]
-mod tests;
 mod work;
 
 pub use act::{Act, End, Step};

@@ -1,4 +1,4 @@
-//! The worked transitions, and each call once.
+//! Transitions worked out by hand, and each call once.
 use crate::{
     Pop, can_rise, entries_never_return, inherit, others_leave_the_own_entries,
     others_take_for_themselves, pop_above, pop_below, post, push_above, push_job, steal,

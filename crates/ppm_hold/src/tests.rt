@@ -1,4 +1,4 @@
-//! The worked transitions, and each call once.
+//! Transitions worked out by hand, and each call once.
 use crate::{bid, bids_go_on, can_rise, holders_never_return, kept, others_bid_for_themselves};
 use ppm_cells::Holder;
 use std::test::Fail;

@@ -1,7 +1,7 @@
 //! Texts of the whole language, and why they are refused.
 use crate::{JudgeError, have_one_answer, program_of};
 use ppm_answers::{Pass, Refusal};
-use ppm_regions::keep_rules;
+use ppm_regions::{have_one_fault, keep_rules};
 use ppm_rows::{has_one_row, trees_are_within};
 use std::alloc::Global;
 use std::test::Fail;
@@ -193,5 +193,6 @@ fn laws_are_called(_rt: HostRuntime) {
     has_one_row();
     trees_are_within();
     keep_rules();
+    have_one_fault();
     have_one_answer();
 }

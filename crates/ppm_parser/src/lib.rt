@@ -17,8 +17,6 @@ mod room;
 mod statement;
 mod stop;
 mod syntax_error;
-#[cfg(test)]
-mod tests;
 
 pub use limit::Limit;
 pub use parsing::parse;

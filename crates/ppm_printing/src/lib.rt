@@ -11,8 +11,6 @@ mod laws;
 mod program;
 mod spelling;
 mod statement;
-#[cfg(test)]
-mod tests;
 mod token;
 
 pub use laws::{canonical_texts_tell_programs, printed_texts_have_their_tree};

@@ -23,8 +23,6 @@ mod procedures;
 mod program;
 mod region_error;
 mod scope;
-#[cfg(test)]
-mod tests;
 mod walk;
 
 pub use admitted::Admitted;

@@ -4,7 +4,6 @@ pub mod DoesLemmas
 pub mod AheadLemmas
 pub mod ReadyLemmas
 pub mod ListLemmas
-pub mod SampleLemmas
 pub mod MadeLemmas
 pub mod RoundLemmas
 pub mod SkipLemmas

@@ -84,6 +84,6 @@ RunHas options plan text answer = PlannedHas plan_form plan options.processors (
 abbrev pub RunMay : RunOptions → (plan : List ℕ) → Port → Answer → Type 0
 RunMay options plan source answer = PlannedMay plan_form plan options.processors (TextHas options) text_limit source answer
 
--- two answers of a text are one, with all options in their ranges and all plans
+-- two answers of a text are one, with all options and all plans
 abbrev pub AnswersAreOne : Type 0
 AnswersAreOne = (options : RunOptions) (plan : List ℕ) → HasOneAnswer plan_form plan options.processors (TextHas options) text_limit

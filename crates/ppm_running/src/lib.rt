@@ -15,12 +15,8 @@ mod one_replay;
 mod one_run;
 mod planned;
 mod replaying;
-#[cfg(test)]
-mod run_tests;
 mod running;
 mod saying;
-#[cfg(test)]
-mod tests;
 
 pub use alone::obey;
 pub use following::follow;

@@ -15,8 +15,6 @@ mod region;
 mod run;
 mod stack;
 mod store;
-#[cfg(test)]
-mod tests;
 mod value;
 
 pub use interpret::serial;

@@ -2,7 +2,6 @@ pub mod EndLemmas
 pub mod ThereLemmas
 pub mod StoringLemmas
 pub mod EnterLemmas
-pub mod SampleLemmas
 pub mod PlainLemmas
 pub mod ContentLemmas
 pub mod SparingLemmas

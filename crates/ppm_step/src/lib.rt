@@ -25,8 +25,6 @@ mod seek;
 mod stages;
 mod standing;
 mod steal;
-#[cfg(test)]
-mod tests;
 mod there;
 mod turn;
 mod unwind;

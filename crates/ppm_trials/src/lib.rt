@@ -1,11 +1,20 @@
-//! Trials of the machine: a listing run turn by turn, and replays of sources, with faults.
+//! Trials of the machine: its words, its rows word by word, a listing run turn by turn, schedules and plans, and runs and replays of sources, with faults.
 //! Model: none; all of it is tests, by what was worked out by hand.
 //! Contract: none.
-//! Stands on `ppm_core` and `ppm_running`, and on `ppm_reading`, on which the machine itself does not stand.
-//! After the rules of turns and of schedules.
+//! Stands on `ppm_core` and `ppm_running`, and on `ppm_reading`, on which the machine itself does not stand. The tests of `ppm_cells`, `ppm_step` and
+//! `ppm_running` are here, since a crate with tests is proved twice.
+//! After the rules of words, of turns and of schedules.
 #![tactic(auto)]
 
 #[cfg(test)]
+mod following;
+#[cfg(test)]
+mod machines;
+#[cfg(test)]
+mod packings;
+#[cfg(test)]
 mod replays;
 #[cfg(test)]
-mod tests;
+mod rows;
+#[cfg(test)]
+mod runs;

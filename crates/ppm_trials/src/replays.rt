@@ -198,6 +198,7 @@ fn a_sum_is_the_same_where_processors_die(rt: HostRuntime) -> Result<(), Fail> {
         (3, "0,1,2,", "2!h"),
         (3, "0,1,2,", "0!h,1!h"),
         (4, "0,1,2,3,", "1!h,2!h"),
+        (4, "0,1,2,3,", "0!h,3!h"),
     ];
     for (processors, round, fault) in cases {
         sum_is_swept(&rt, rt.alloc(), processors, round, fault)?;

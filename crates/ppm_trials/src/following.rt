@@ -1,10 +1,6 @@
 //! Schedules that a machine of two processors follows, and plans that one processor obeys, with a code that ends at once.
 ghost use Rattle.std.specs.Prelude.{◌≡◌, IfOk, []};
 
-use crate::{
-    answer_of, follow, obey, schedules_go_on, schedules_keep_order, schedules_skip_done,
-    unfinished_is_exact,
-};
 use ppm_answers::{Answer, Tally};
 use ppm_cells::{Finish, Shape};
 use ppm_code::{Capsule, Code, CodeParts, End, Instr, Procedure};
@@ -12,7 +8,11 @@ use ppm_core::{Ending, Machine};
 use ppm_layout::image;
 use ppm_pace::{Idle, Limits};
 use ppm_plan::{read_plan, read_schedule};
-use ppm_step::{done_has_cause, finish_stays};
+use ppm_running::{
+    answer_of, follow, obey, schedules_go_on, schedules_keep_order, schedules_skip_done,
+    unfinished_is_exact,
+};
+use ppm_step::{done_has_cause, finish_stays, room_has_cause};
 use ppm_words::{Input, Items};
 use std::alloc::Global;
 use std::process::Abort;
@@ -110,6 +110,7 @@ fn states_laws() {
     unfinished_is_exact();
     done_has_cause();
     finish_stays();
+    room_has_cause();
 }
 
 /// How a run ends in which one processor obeys a plan with so many work turns.

@@ -1,5 +1,5 @@
-use Rattle.ppm_running.proofs.SampleLemmas.{sample_is_code}
-use Rattle.ppm_running.proofs.tests.small_code.Goals as goal
+use Rattle.ppm_trials.proofs.EndLemmas.{sample_is_code}
+use Rattle.ppm_trials.proofs.following.small_code.Goals as goal
 
 -- it is the code of the tests
 pub from_parts-requires : goal.from_parts-requires

@@ -1,5 +1,5 @@
 //! Worked instructions, each with what it does, and register work of one capsule.
-use crate::{
+use ppm_code::{
     Act, End, FrameWord, Instr, Location, Reached, Register, Step, Stop, acts_follow,
     capsules_may_begin_again, no_conflict_on_paths, reach,
 };

@@ -1,8 +1,8 @@
 //! Sources that are run by one processor, over memory: what is written, and with which status.
-use crate::{WATCHERS, answers_are_one, run_command};
 use ppm_answers::Status;
 use ppm_line::{IdleName, RunOptions, TakeoverName};
 use ppm_ports::{MemorySink, MemorySource, Silent};
+use ppm_running::{WATCHERS, answers_are_one, run_command};
 use std::alloc::Global;
 use std::process::Abort;
 use std::sync::Wait;
@@ -359,7 +359,8 @@ fn plans_are_obeyed(rt: HostRuntime) -> Result<(), Fail> {
 
 #[test]
 fn options_are_obeyed(rt: HostRuntime) -> Result<(), Fail> {
-    let few_slots = RunOptions { slots: 2, ..PLAIN };
+    let two_slots = RunOptions { slots: 2, ..PLAIN };
+    let three_slots = RunOptions { slots: 3, ..PLAIN };
     let entries = RunOptions {
         takeover: TakeoverName::Entry,
         ..PLAIN
@@ -370,7 +371,7 @@ fn options_are_obeyed(rt: HostRuntime) -> Result<(), Fail> {
         idle: IdleName::Park,
         ..PLAIN
     };
-    for options in [few_slots, entries, parks] {
+    for options in [two_slots, three_slots, entries, parks] {
         let answer = ("a 10 2 7 4\n", Status::Ended);
         shows(&rt, rt.alloc(), options, "none", SUM_OF_FOUR, answer)?;
     }

@@ -1,10 +1,8 @@
 //! Which texts have a tree, which fault the others have, and at which place.
 mod shown;
 
-use crate::limit::Limit;
-use crate::parsing::parse;
-use crate::syntax_error::SyntaxError;
-use crate::tests::shown::shown;
+use crate::trees::shown::shown;
+use ppm_parser::{Limit, SyntaxError, parse};
 use ppm_text::tokens;
 use std::alloc::Global;
 use std::test::Fail;

@@ -1,5 +1,5 @@
 //! Words and addresses from the machine's tables, and each call once.
-use crate::{
+use ppm_cells::{
     Cell, Entry, Finish, Holder, Link, LinkKind, Region, Restart, RestartKind, Shape, Side,
     Takeover, cells_are_the_words, greatest_word_count, packings_are_exact, stored_values_are_seen,
     stores_change_one_cell,

@@ -1,6 +1,6 @@
 //! Texts with their canonical texts, which were written by hand.
-use crate::{canonical_texts_tell_programs, print, printed_texts_have_their_tree};
 use ppm_parser::parse;
+use ppm_printing::{canonical_texts_tell_programs, print, printed_texts_have_their_tree};
 use ppm_text::tokens;
 use std::alloc::Global;
 use std::test::Fail;

@@ -1,4 +1,4 @@
--- The code of the tests: one procedure of one capsule that ends.
+-- The code that schedules and plans are tried with: one procedure of one capsule that ends.
 use Rattle.std.proofs.Common.{◌≡◌, ◌<◌, ◌≤◌, ℕ, zero, suc, [], ◌∷◌, refl, subst, arith, Some}
 use Rattle.std.specs.Prelude.{slice_get, IfSome}
 use Rattle.std.specs.List.{All}

@@ -5,9 +5,9 @@ ghost use Rattle.ppm_code.specs.declared.act.End.TheVariants.{Call, Fork};
 ghost use Rattle.ppm_code.specs.declared.instr.Instr.TheVariants.{Ends, Room};
 ghost use Rattle.ppm_step.specs.Locals.{IsLocal};
 
-use crate::{Local, Next, Want};
 use ppm_cells::Shape;
 use ppm_code::{Capsule, Code, CodeParts, End, Instr, Procedure};
+use ppm_step::{Local, Next, Want};
 use ppm_words::{Items, Trap};
 use std::alloc::Global;
 use std::process::Abort;

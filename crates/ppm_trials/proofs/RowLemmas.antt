@@ -1,4 +1,4 @@
--- The code of the tests: one procedure, with a capsule for each end but that which goes on with another capsule.
+-- The code that the rows are tried with: one procedure, with a capsule for each end but that which goes on with another capsule.
 use Rattle.std.proofs.Common.{◌≡◌, ◌<◌, ◌≤◌, ℕ, zero, suc, List, [], ◌∷◌, refl, subst, arith, Some, None}
 use Rattle.std.specs.Prelude.{slice_get, IfSome}
 use Rattle.std.specs.List.{All}
