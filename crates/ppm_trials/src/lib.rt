@@ -1,9 +1,9 @@
-//! Trials of the machine: its words, its rows word by word, a listing run turn by turn, schedules and plans, and runs and replays of sources, with faults.
+//! Trials of the machine: a listing run turn by turn, schedules and plans, and runs and replays of sources, with faults.
 //! Model: none; all of it is tests, by what was worked out by hand.
 //! Contract: none.
-//! Stands on `ppm_core` and `ppm_running`, and on `ppm_reading`, on which the machine itself does not stand. The tests of `ppm_cells`, `ppm_step` and
+//! Stands on `ppm_core` and `ppm_running`, and on `ppm_reading`, on which the machine itself does not stand. The tests of
 //! `ppm_running` are here, since a crate with tests is proved twice.
-//! After the rules of words, of turns and of schedules.
+//! After the rules of turns, of plans and of schedules.
 #![tactic(auto)]
 
 #[cfg(test)]
@@ -11,10 +11,6 @@ mod following;
 #[cfg(test)]
 mod machines;
 #[cfg(test)]
-mod packings;
-#[cfg(test)]
 mod replays;
-#[cfg(test)]
-mod rows;
 #[cfg(test)]
 mod runs;
