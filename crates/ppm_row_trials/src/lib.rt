@@ -6,6 +6,10 @@
 #![tactic(auto)]
 
 #[cfg(test)]
+mod entering;
+#[cfg(test)]
 mod packings;
 #[cfg(test)]
 mod rows;
+#[cfg(test)]
+mod small;

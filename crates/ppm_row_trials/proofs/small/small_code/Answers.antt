@@ -1,5 +1,5 @@
 use Rattle.ppm_row_trials.proofs.RowLemmas.{sample_is_code}
-use Rattle.ppm_row_trials.proofs.rows.small_code.Goals as goal
+use Rattle.ppm_row_trials.proofs.small.small_code.Goals as goal
 
 -- it is the code of the tests
 pub from_parts-requires : goal.from_parts-requires
