@@ -9,8 +9,8 @@ use Rattle.ppm_step.specs.declared.local.Local.{Local}
 use Rattle.ppm_step.specs.declared.turn.Act.TheVariants.{Step}
 use Rattle.ppm_step.specs.declared.turn.Turn.{Turn}
 use Rattle.ppm_step.specs.Locals.{standing_of}
-use Rattle.ppm_step.specs.State.{State, stand_in, stand_of, acts, happens, after, along, next_of, step_by, work_next, forks_of, takes_of, work_of}
-use Rattle.ppm_core.specs.Acts.{is_done_at, seeks_holder_at, forks_at, takes_at, words_acted, stand_acted}
+use Rattle.ppm_step.specs.State.{State, stand_in, stand_of, acts, happens, after, along, next_of, seeks_holder, step_by, work_next, forks_of, takes_of, work_of}
+use Rattle.ppm_core.specs.Acts.{is_done_at, forks_at, takes_at, words_acted, stand_acted}
 use Rattle.ppm_core.specs.Machine.{Holding, seen}
 use Rattle.ppm_core.specs.Situation.{Situation, turned, run_on}
 use Rattle.ppm_core.specs.Steps.{steady_step, steady_steps, AreSteady, EndsInWork, GoesNoFurther, is_in_capsule, is_before_capsule}
@@ -117,7 +117,7 @@ are_steady (suc n) m own t h all = (
   record {
     finish = ap (λ words. read m.shape words FinishWord) h.words ∙ all.0.finish;
     lives = ap is_done_at (stand_is m.shape m.code own m.state t h) ∙ all.0.lives;
-    seeks_none = ap seeks_holder_at (stand_is m.shape m.code own m.state t h) ∙ all.0.seeks_none;
+    seeks_none = ap seeks_holder (stand_is m.shape m.code own m.state t h) ∙ all.0.seeks_none;
   },
   are_steady n (turned m (steady_step own)) own (moved m.shape m.code own t) (turned_at m.shape m.code own m.state t h) all.1,
 )

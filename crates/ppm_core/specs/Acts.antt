@@ -6,13 +6,7 @@ use Rattle.ppm_words.specs.declared.event.Event.{Event}
 use Rattle.ppm_step.specs.declared.turn.Act.{Act}
 use Rattle.ppm_step.specs.declared.turn.Act.TheVariants.{Step, Soft, Hard, Quit}
 use Rattle.ppm_step.specs.declared.turn.Turn.{Turn}
-use Rattle.ppm_step.specs.declared.row.Point.{Point}
-use Rattle.ppm_step.specs.declared.row.Point.TheVariants.{SeekHolder}
-use Rattle.ppm_step.specs.declared.row.Then.{Then}
-use Rattle.ppm_step.specs.declared.row.Then.TheVariants.{Load}
-use Rattle.ppm_step.specs.declared.row.Row.{Row}
-use Rattle.ppm_step.specs.declared.row.Row.TheVariants.{Now}
-use Rattle.ppm_step.specs.Standings.{Standing, IsWithin, IsDone}
+use Rattle.ppm_step.specs.Standings.{Standing, IsDone}
 use Rattle.ppm_step.specs.State.{want_of, stand_after, found_in, words_after, step_by, row_by, fork_row, take_row}
 use Rattle.ppm_step.specs.Told.{act_event, place_of}
 
@@ -32,23 +26,6 @@ pub record IsTurnAmong (processors : ℕ) (turn : Turn) : Type 0 where
 abbrev pub is_done_at : Standing → Bool
 is_done_at IsDone = true
 is_done_at standing = false
-
--- whether the coming step is the load of a holder word, for which a turn names the victim
-abbrev pub seeks_point : Point → Bool
-seeks_point SeekHolder = true
-seeks_point point = false
-
-abbrev pub seeks_then : Then → Bool
-seeks_then (Load point) = seeks_point point
-seeks_then next = false
-
-abbrev pub seeks_row : Row → Bool
-seeks_row (Now next) = seeks_then next
-seeks_row row = false
-
-abbrev pub seeks_holder_at : Standing → Bool
-seeks_holder_at (IsWithin seat row) = seeks_row row
-seeks_holder_at standing = false
 
 -- the forks and takes of an act by a processor that stands there
 abbrev pub forks_at : Act → Standing → ℕ

@@ -11,9 +11,9 @@ use Rattle.ppm_step.specs.declared.going.Going.TheVariants.{Went, Installed}
 use Rattle.ppm_step.specs.declared.running.Running.{Running}
 use Rattle.ppm_step.specs.Stages.{WentOn, rest_at, went_on}
 use Rattle.ppm_step.specs.Standings.{Standing, wanted_rest, went_rest}
-use Rattle.ppm_step.specs.State.{found_in, next_of, words_after}
+use Rattle.ppm_step.specs.State.{found_in, next_of, seeks_holder, words_after}
 use Rattle.ppm_step.specs.Told.{is_work_turn}
-use Rattle.ppm_core.specs.Acts.{is_done_at, seeks_holder_at, forks_at, takes_at, words_acted, stand_acted}
+use Rattle.ppm_core.specs.Acts.{is_done_at, forks_at, takes_at, words_acted, stand_acted}
 use Rattle.ppm_core.specs.Steps.{is_in_capsule, is_before_capsule}
 
 -- the words at a moment, and where the processor stands
@@ -40,7 +40,7 @@ module _ (s : Shape) (code : CodeParts) (own : ℕ) where
   pub record Moves (t : Moment) : Type 0 where
     pub finish : read s t.words FinishWord ≡ 0
     pub lives : is_done_at t.stand ≡ false
-    pub seeks_none : seeks_holder_at t.stand ≡ false
+    pub seeks_none : seeks_holder t.stand ≡ false
     pub no_fork : forks_at (Step 0) t.stand ≡ 0
     pub no_take : takes_at (Step 0) t.stand ≡ 0
 

@@ -6,8 +6,8 @@ use Rattle.ppm_step.specs.declared.turn.Act.TheVariants.{Step}
 use Rattle.ppm_step.specs.declared.turn.Next.TheVariants.{Work}
 use Rattle.ppm_step.specs.declared.turn.Turn.{Turn}
 use Rattle.ppm_step.specs.Standings.{Standing, IsAt, IsRunning}
-use Rattle.ppm_step.specs.State.{stand_of, next_of}
-use Rattle.ppm_core.specs.Acts.{is_done_at, seeks_holder_at}
+use Rattle.ppm_step.specs.State.{stand_of, next_of, seeks_holder}
+use Rattle.ppm_core.specs.Acts.{is_done_at}
 use Rattle.ppm_core.specs.Situation.{Situation, finish_in, turned, run_on}
 
 -- a step for which no victim is due, and so many of them
@@ -21,7 +21,7 @@ steady_steps processor n = replicate n (steady_step processor)
 pub record IsSteady (m : Situation) (processor : ℕ) : Type 0 where
   pub finish : finish_in m ≡ 0
   pub lives : is_done_at (stand_of m.state processor) ≡ false
-  pub seeks_none : seeks_holder_at (stand_of m.state processor) ≡ false
+  pub seeks_none : seeks_holder (stand_of m.state processor) ≡ false
 
 -- so it is before each of so many
 abbrev pub AreSteady : Situation → (processor n : ℕ) → Type 0

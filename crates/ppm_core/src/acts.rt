@@ -3,11 +3,11 @@ ghost use Rattle.std.specs.Prelude.{◌≡◌, ◌<◌, ℕ, List, if◌then◌e
 ghost use Rattle.ppm_cells.specs.Memory.{AreWordsOf};
 ghost use Rattle.ppm_cells.specs.declared.shape.Shape.{Shape};
 ghost use Rattle.ppm_code.specs.declared.code.CodeParts.{CodeParts};
-ghost use Rattle.ppm_core.specs.Acts.{IsActAmong, is_done_at, seeks_holder_at, forks_at, takes_at};
+ghost use Rattle.ppm_core.specs.Acts.{IsActAmong, is_done_at, forks_at, takes_at};
 ghost use Rattle.ppm_core.specs.Acts.{words_acted, stand_acted, event_acted};
 ghost use Rattle.ppm_step.specs.Locals.{IsLocal, standing_of};
 ghost use Rattle.ppm_step.specs.Standings.{WantIsWithin};
-ghost use Rattle.ppm_step.specs.State.{want_of, stand_after, found_in, words_after, quit_with};
+ghost use Rattle.ppm_step.specs.State.{want_of, stand_after, found_in, words_after, quit_with, seeks_holder};
 ghost use Rattle.ppm_step.specs.Told.{step_event, act_event, is_work_turn};
 ghost use Rattle.ppm_step.specs.declared.turn.Act.TheVariants.{Step};
 
@@ -35,7 +35,7 @@ pub(crate) fn is_done(local: &Local) -> bool
 /// Whether its coming step is the load of a holder word, for which a turn names the victim.
 #[inline(always)]
 pub(crate) fn seeks_holder(local: &Local) -> bool
-    ensures { (s : Shape) (code : CodeParts) → result ≡ seeks_holder_at (standing_of s code local.now) }
+    ensures { (s : Shape) (code : CodeParts) → result ≡ seeks_holder (standing_of s code local.now) }
 {
     match local.stand {
         Stand::Within {

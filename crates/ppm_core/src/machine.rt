@@ -2,13 +2,13 @@
 ghost use Rattle.std.specs.Prelude.{◌≡◌, ◌<◌, ◌≤◌, ◌+◌, ◌-◌, ◌^◌, IfOk, length, map, replicate, get_or};
 ghost use Rattle.std.specs.List.{All, sum};
 ghost use Rattle.ppm_cells.specs.Cells.{arrays_at};
-ghost use Rattle.ppm_core.specs.Acts.{IsTurnAmong, seeks_holder_at, is_done_at};
+ghost use Rattle.ppm_core.specs.Acts.{IsTurnAmong, is_done_at};
 ghost use Rattle.ppm_core.specs.Machine.{AreLocals, seen};
 ghost use Rattle.ppm_core.specs.Situation.{array_in, ending_of, finish_in, loaded, run_on, turned};
 ghost use Rattle.ppm_core.specs.Steps.{steady_steps, AreSteady, EndsInWork, GoesNoFurther};
 ghost use Rattle.ppm_step.specs.Locals.{standing_of};
 ghost use Rattle.ppm_step.specs.Standings.{IsLost};
-ghost use Rattle.ppm_step.specs.State.{stand_of, next_of};
+ghost use Rattle.ppm_step.specs.State.{stand_of, next_of, seeks_holder};
 ghost use Rattle.ppm_step.specs.Told.{told_of};
 
 use crate::acts::{act_on, count_of, forks_by, is_done, is_work_by, seeks_holder, takes_by};
@@ -239,7 +239,7 @@ impl Machine {
     /// Whether a processor's coming step is the load of a holder word: the one step for which its turn names the victim.
     pub fn seeks_holder(&self, processor: u32) -> bool
         requires { processor < self.now.shape.processors }
-        ensures { result ≡ seeks_holder_at (stand_of (seen self.now).state processor) }
+        ensures { result ≡ seeks_holder (stand_of (seen self.now).state processor) }
     {
         seeks_holder(&self.locals[processor as usize])
     }

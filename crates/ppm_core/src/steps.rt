@@ -180,6 +180,9 @@ fn stand_behind(local: &mut Local, shape: &Shape, code: &Code, running: Running,
 /// No steps.
 const NONE: Steps = Steps { made: 0, work: 0 };
 
+/// A step, of work.
+const ONE: Steps = Steps { made: 1, work: 1 };
+
 /// Goes through capsules of the frame that the place goes on with, each from its beginning, at most so many steps, while the finish word is 0. The
 /// first step of each is no work.
 fn run_capsules(
@@ -265,18 +268,11 @@ fn wait_at(local: &mut Local, shape: &Shape, code: &Code, place: u32, at: Restar
 
 /// Makes a step of the capsule under way.
 #[inline(never)]
-fn resume(
-    local: &mut Local,
-    words: &mut Vec<u64>,
-    shape: &Shape,
-    code: &Code,
-    running: Running,
-) -> Steps
+fn resume(local: &mut Local, words: &mut Vec<u64>, shape: &Shape, code: &Code, running: Running)
     requires running { IsUnderWay shape.now code.now running local.old.registers }
     requires own { running.seat.own ≡ local.old.own }
     requires words { AreWordsOf shape.now words.old.items }
     requires finish { read shape.now words.old.items FinishWord ≡ 0 }
-    ensures one { result ≡ record { made = 1; work = 1 } }
     ensures leads { StepsTo shape.now code.now local.old.own 1 1
         (moment words.old.items (IsRunning running.seat (rest_at shape.now code.now running running.stage local.old.registers)))
         (moment words.new.items (standing_of shape.now code.now local.new)) }
@@ -287,7 +283,6 @@ fn resume(
     let mut moved = running;
     let going = make_step_apart(&mut moved, &mut local.registers, words, shape, code);
     stand_behind(local, shape, code, moved, going);
-    Steps { made: 1, work: 1 }
 }
 
 /// Makes steps of a processor in a row in its capsules of frames, at most so many, while the finish word is 0.
@@ -354,7 +349,10 @@ fn steps_from(
             Some(restart) => run_capsules(local, words, shape, code, place, restart, most),
             None => NONE,
         },
-        Stand::Runs(running) => resume(local, words, shape, code, running),
+        Stand::Runs(running) => {
+            resume(local, words, shape, code, running);
+            ONE
+        }
         Stand::Lost
         | Stand::Placed { .. }
         | Stand::Within { .. }

@@ -3,11 +3,11 @@ use Rattle.std.proofs.Common.{◌≡◌, ℕ, ◌+◌, ◌^◌, min, Bool, true,
 use Rattle.ppm_plan.specs.Schedules.{Planned}
 use Rattle.ppm_step.specs.declared.turn.Next.{Next}
 use Rattle.ppm_step.specs.Standings.{Standing}
-use Rattle.ppm_step.specs.State.{next_of}
+use Rattle.ppm_step.specs.State.{next_of, seeks_holder}
 use Rattle.ppm_pace.specs.declared.limits.Limits.{Limits}
 use Rattle.ppm_pace.specs.declared.pace.Pace.{Pace}
 use Rattle.ppm_pace.specs.Deeds.{Deed}
-use Rattle.ppm_pace.specs.Obeying.{Past, behind, is_due, is_work_deed}
+use Rattle.ppm_pace.specs.Obeying.{Past, behind, is_work_deed}
 use Rattle.ppm_pace.specs.Paces.{IsPace}
 
 -- one more, up to the most
@@ -34,7 +34,7 @@ no_looks looks most e = omega (arith, e)
 -- behind an act
 pub counted : (plan : Planned) (limits : Limits) (past : Past) (deed : Deed) (stands : Standing) (old : Pace) (acts work looks : ℕ) (w : Bool)
     (next : Next) (due : Bool) → acts ≡ min (old.acts + 1) (2 ^ 32) → work ≡ (if w then old.work + 1 else old.work)
-    → looks ≡ (if w then 0 else min (old.looks + 1) limits.looks) → w ≡ is_work_deed deed → next ≡ next_of stands → due ≡ is_due stands
+    → looks ≡ (if w then 0 else min (old.looks + 1) limits.looks) → w ≡ is_work_deed deed → next ≡ next_of stands → due ≡ seeks_holder stands
     → IsPace plan limits past deed.stood old
     → IsPace plan limits (behind past deed) stands
     (record { processor = old.processor; keeper = old.keeper; acts = acts; work = work; looks = looks; next = next; due = due })
@@ -52,7 +52,7 @@ counted plan limits past deed stands old acts work looks w next due acts_are wor
 -- behind steps in a row
 pub steps_counted : (plan : Planned) (limits : Limits) (past past' : Past) (stood stands : Standing) (old : Pace) (acts steps work : ℕ)
     (next : Next) (due : Bool) → acts ≡ min (old.acts + steps) (2 ^ 32) → IsPace plan limits past stood old
-    → past'.acts ≡ past.acts + steps → past'.work ≡ past.work + work → past'.looks ≡ 0 → next ≡ next_of stands → due ≡ is_due stands
+    → past'.acts ≡ past.acts + steps → past'.work ≡ past.work + work → past'.looks ≡ 0 → next ≡ next_of stands → due ≡ seeks_holder stands
     → IsPace plan limits past' stands
     (record { processor = old.processor; keeper = old.keeper; acts = acts; work = old.work + work; looks = 0; next = next; due = due })
 steps_counted plan limits past past' stood stands old acts steps work next due acts_are p acts' work' looks' next_is due_is = record {

@@ -8,10 +8,10 @@ use Rattle.ppm_plan.specs.Schedules.{Planned}
 use Rattle.ppm_step.specs.declared.turn.Act.TheVariants.{Step, Quit}
 use Rattle.ppm_step.specs.declared.turn.Why.TheVariants.{Turns}
 use Rattle.ppm_step.specs.Standings.{Standing}
-use Rattle.ppm_step.specs.State.{next_of}
+use Rattle.ppm_step.specs.State.{next_of, seeks_holder}
 use Rattle.ppm_pace.specs.declared.limits.Limits.{Limits}
 use Rattle.ppm_pace.specs.declared.pace.Pace.{Pace}
-use Rattle.ppm_pace.specs.Obeying.{Past, is_due, is_work, fault_of, faulted, next_victim, next_step, next_unless_faulted, next_act}
+use Rattle.ppm_pace.specs.Obeying.{Past, is_work, fault_of, faulted, next_victim, next_step, next_unless_faulted, next_act}
 use Rattle.ppm_pace.specs.Paces.{IsPace, AreClear, at_most}
 
 module _ (items : List PlanItem) (processor : ℕ) where
@@ -71,7 +71,7 @@ module _ (plan : Planned) (limits : Limits) (past : Past) (stood : Standing) (pa
 
 -- where the plan has no fault, work turns are left and no victim is due, the next act is a step
 pub next_is_step : (plan : Planned) (limits : Limits) (processor : ℕ) (past : Past) (stood : Standing)
-    → fault_of plan.items processor past.acts ≡ None → past.work < limits.turns → is_due stood ≡ false
+    → fault_of plan.items processor past.acts ≡ None → past.work < limits.turns → seeks_holder stood ≡ false
     → next_act plan limits processor past stood ≡ Step 0
 next_is_step plan limits processor past stood none left no_victim =
     ap (λ fault. faulted fault (next_unless_faulted plan limits processor past stood)) none

@@ -10,17 +10,14 @@ use Rattle.ppm_plan.specs.Faults.{fault_at}
 use Rattle.ppm_plan.specs.Forms.{plan_form}
 use Rattle.ppm_plan.specs.Refusals.{IsKeeper}
 use Rattle.ppm_plan.specs.Schedules.{Planned}
-use Rattle.ppm_step.specs.declared.row.Point.TheVariants.{SeekHolder}
-use Rattle.ppm_step.specs.declared.row.Row.TheVariants.{Now}
-use Rattle.ppm_step.specs.declared.row.Then.TheVariants.{Load}
 use Rattle.ppm_step.specs.declared.turn.Act.{Act}
 use Rattle.ppm_step.specs.declared.turn.Act.TheVariants.{Step, Soft, Hard, Quit}
 use Rattle.ppm_step.specs.declared.turn.Next.{Next}
 use Rattle.ppm_step.specs.declared.turn.Next.TheVariants.{Work, Seek}
 use Rattle.ppm_step.specs.declared.turn.Turn.{Turn}
 use Rattle.ppm_step.specs.declared.turn.Why.TheVariants.{Turns}
-use Rattle.ppm_step.specs.Standings.{Standing, IsWithin, IsDone}
-use Rattle.ppm_step.specs.State.{State, stand_of, after, next_of}
+use Rattle.ppm_step.specs.Standings.{Standing, IsDone}
+use Rattle.ppm_step.specs.State.{State, stand_of, after, next_of, seeks_holder}
 use Rattle.ppm_pace.specs.declared.limits.Idle.TheVariants.{Leave}
 use Rattle.ppm_pace.specs.declared.limits.Limits.{Limits}
 use Rattle.ppm_pace.specs.Deeds.{Deed, deeds_of}
@@ -36,11 +33,6 @@ pub record Past : Type 0 where
 abbrev pub nothing_done : Past
 nothing_done = record { acts = 0; work = 0; looks = 0; drawn = 0 }
 
--- whether a victim is due: the coming step is the load of a holder word as the processor seeks work
-abbrev pub is_due : Standing → Bool
-is_due (IsWithin seat (Now (Load SeekHolder))) = true
-is_due standing = false
-
 -- a work turn is a step of work; each other act is a look
 abbrev pub is_work : Next → Bool
 is_work Work = true
@@ -55,7 +47,7 @@ is_work_deed deed = is_step deed.act && is_work (next_of deed.stood)
 
 -- a step draws a victim where one is due
 abbrev pub draws : Deed → Bool
-draws deed = is_step deed.act && is_due deed.stood
+draws deed = is_step deed.act && seeks_holder deed.stood
 
 abbrev pub behind : Past → Deed → Past
 behind past deed = record {
@@ -87,7 +79,7 @@ module _ (plan : Planned) (limits : Limits) (processor : ℕ) where
   -- its next act: the fault that the plan has for it; else it quits where work comes next and its work turns are spent; else it makes
   -- its step, with its next victim where one is due
   abbrev pub next_step : Past → Standing → Act
-  next_step past stood = Step (if is_due stood then next_victim past else 0)
+  next_step past stood = Step (if seeks_holder stood then next_victim past else 0)
 
   abbrev pub next_unless_faulted : Past → Standing → Act
   next_unless_faulted past stood = if is_work (next_of stood) && nat_le limits.turns past.work then Quit Turns else next_step past stood

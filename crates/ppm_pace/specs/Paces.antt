@@ -10,12 +10,12 @@ use Rattle.ppm_step.specs.declared.turn.Next.{Next}
 use Rattle.ppm_step.specs.declared.turn.Next.TheVariants.{Seek}
 use Rattle.ppm_step.specs.declared.turn.Why.TheVariants.{Turns}
 use Rattle.ppm_step.specs.Standings.{Standing}
-use Rattle.ppm_step.specs.State.{next_of}
+use Rattle.ppm_step.specs.State.{next_of, seeks_holder}
 use Rattle.ppm_pace.specs.declared.choosing.Choice.{Choice}
 use Rattle.ppm_pace.specs.declared.choosing.Choice.TheVariants.{Do, Draw, Leave}
 use Rattle.ppm_pace.specs.declared.limits.Limits.{Limits}
 use Rattle.ppm_pace.specs.declared.pace.Pace.{Pace}
-use Rattle.ppm_pace.specs.Obeying.{Past, is_due, is_work, is_step, fault_of, next_victim, next_act, Rests}
+use Rattle.ppm_pace.specs.Obeying.{Past, is_work, is_step, fault_of, next_victim, next_act, Rests}
 
 -- the pace of a processor with such a past that stands there
 pub record IsPace (plan : Planned) (limits : Limits) (past : Past) (stood : Standing) (pace : Pace) : Type 0 where
@@ -24,7 +24,7 @@ pub record IsPace (plan : Planned) (limits : Limits) (past : Past) (stood : Stan
   pub work : pace.work ≡ past.work
   pub looks : pace.looks ≡ min past.looks limits.looks
   pub next : pace.next ≡ next_of stood
-  pub due : pace.due ≡ is_due stood
+  pub due : pace.due ≡ seeks_holder stood
 
 -- what a processor chooses: to leave where it rests, to draw where its next act is a step for which a victim is due, else its next act
 abbrev pub IsChoice : Planned → Limits → (processor : ℕ) → Past → Standing → Choice → Type 0
@@ -32,11 +32,11 @@ IsChoice plan limits processor past stood Leave = Rests plan limits processor pa
 IsChoice plan limits processor past stood Draw =
     (¬ Rests plan limits processor past stood)
     × (next_act plan limits processor past stood ≡ Step (next_victim plan limits processor past))
-    × (is_due stood ≡ true)
+    × (seeks_holder stood ≡ true)
 IsChoice plan limits processor past stood (Do act) =
     (¬ Rests plan limits processor past stood)
     × (next_act plan limits processor past stood ≡ act)
-    × ((is_step act && is_due stood) ≡ false)
+    × ((is_step act && seeks_holder stood) ≡ false)
 
 -- the same by a pace
 abbrev pub is_seek : Next → Bool

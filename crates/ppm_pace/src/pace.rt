@@ -1,10 +1,10 @@
 //! The pace of a processor.
 ghost use Rattle.std.specs.Prelude.{◌≡◌, ◌<◌, ◌≤◌, ◌+◌, ◌^◌, min, if◌then◌else◌};
 ghost use Rattle.ppm_step.specs.Standings.{Standing, IsLost};
-ghost use Rattle.ppm_step.specs.State.{next_of};
+ghost use Rattle.ppm_step.specs.State.{next_of, seeks_holder};
 ghost use Rattle.ppm_plan.specs.Schedules.{Planned};
 ghost use Rattle.ppm_pace.specs.Deeds.{Deed};
-ghost use Rattle.ppm_pace.specs.Obeying.{Past, nothing_done, behind, rested, is_due, is_work_deed};
+ghost use Rattle.ppm_pace.specs.Obeying.{Past, nothing_done, behind, rested, is_work_deed};
 ghost use Rattle.ppm_pace.specs.Paces.{IsPace};
 ghost use Rattle.ppm_pace.specs.declared.limits.Limits.{Limits};
 
@@ -58,7 +58,7 @@ impl Pace {
         ensures number { self.new.processor ≡ self.old.processor }
         ensures work { self.new.work ≤ self.old.work + 1 }
         ensures pace { (plan : Planned) (past : Past) (deed : Deed) (stands : Standing) → IsPace plan limits past deed.stood self.old
-            → told.work ≡ is_work_deed deed → told.next ≡ next_of stands → due ≡ is_due stands
+            → told.work ≡ is_work_deed deed → told.next ≡ next_of stands → due ≡ seeks_holder stands
             → IsPace plan limits (behind past deed) stands self.new }
     {
         self.acts = more(self.acts, 1, MOST_ACTS);
@@ -76,7 +76,7 @@ impl Pace {
         ensures work { self.new.work ≡ self.old.work + work }
         ensures pace { (plan : Planned) (limits : Limits) (past past' : Past) (stood stands : Standing)
             → IsPace plan limits past stood self.old → past'.acts ≡ past.acts + steps → past'.work ≡ past.work + work
-            → past'.looks ≡ 0 → next ≡ next_of stands → due ≡ is_due stands → IsPace plan limits past' stands self.new }
+            → past'.looks ≡ 0 → next ≡ next_of stands → due ≡ seeks_holder stands → IsPace plan limits past' stands self.new }
     {
         self.acts = more(self.acts, steps, MOST_ACTS);
         self.work += work;

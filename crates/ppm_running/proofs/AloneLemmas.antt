@@ -6,13 +6,6 @@ use Rattle.ppm_cells.specs.declared.restart.RestartKind.{RestartKind}
 use Rattle.ppm_cells.specs.declared.restart.RestartKind.TheVariants as kinds
 use Rattle.ppm_plan.specs.Draws.{Drawing, victims_of, next_victims}
 use Rattle.ppm_plan.specs.Schedules.{Planned}
-use Rattle.ppm_step.specs.declared.row.Point.{Point}
-use Rattle.ppm_step.specs.declared.row.Point.TheVariants.{SeekHolder}
-use Rattle.ppm_step.specs.declared.row.Row.{Row}
-use Rattle.ppm_step.specs.declared.row.Row.TheVariants.{Now, Store, Exchange}
-use Rattle.ppm_step.specs.declared.row.Seat.{Seat}
-use Rattle.ppm_step.specs.declared.row.Then.{Then}
-use Rattle.ppm_step.specs.declared.row.Then.TheVariants.{Load}
 use Rattle.ppm_step.specs.declared.turn.Act.{Act}
 use Rattle.ppm_step.specs.declared.turn.Act.TheVariants.{Step, Soft, Hard, Quit}
 use Rattle.ppm_step.specs.declared.turn.Next.{Next}
@@ -20,36 +13,18 @@ use Rattle.ppm_step.specs.declared.turn.Next.TheVariants.{Work, Look, Seek, Done
 use Rattle.ppm_step.specs.declared.turn.Told.{Told}
 use Rattle.ppm_step.specs.declared.turn.Turn.{Turn}
 use Rattle.ppm_step.specs.Standings.{Standing, IsLost, IsPlaced, IsAt, IsWithin, IsRunning, IsBroken, IsDone}
-use Rattle.ppm_step.specs.State.{State, stand_of, happens, after, next_of, before_kind, is_work as is_work_kind}
+use Rattle.ppm_step.specs.State.{State, stand_of, happens, after, next_of, seeks_holder, before_kind, is_work as is_work_kind}
 use Rattle.ppm_step.specs.Told.{is_work_next, is_work_turn, told_of}
-use Rattle.ppm_core.specs.Acts.{seeks_point, seeks_then, seeks_row, seeks_holder_at}
 use Rattle.ppm_core.specs.Situation.{Situation, turned, run_on}
 use Rattle.ppm_core.proofs.RunLemmas.{run_none, run_step}
 use Rattle.ppm_pace.specs.declared.limits.Limits.{Limits}
 use Rattle.ppm_pace.specs.declared.pace.Pace.{Pace}
 use Rattle.ppm_pace.specs.Deeds.{Deed}
-use Rattle.ppm_pace.specs.Obeying.{Past, nothing_done, behind, is_due, is_work, is_work_deed, next_act, Rests, Stops}
+use Rattle.ppm_pace.specs.Obeying.{Past, nothing_done, behind, is_work, is_work_deed, next_act, Rests, Stops}
 use Rattle.ppm_pace.specs.Paces.{IsPace}
 use Rattle.ppm_pace.proofs.AloneLemmas.{begins_with}
 use Rattle.ppm_running.specs.Alone.{ObeysTo}
 use Rattle.ppm_running.specs.Going.{IsAt as IsAtPast, HasDrawn, IsNext, Leads, is_over}
-
--- whether a victim is due, as the machine says it
-point_seeks : (seat : Seat) (point : Point) → seeks_point point ≡ is_due (IsWithin seat (Now (Load point)))
-point_seeks seat SeekHolder = refl
-point_seeks seat point = cc
-
-then_seeks : (seat : Seat) (next : Then) → seeks_then next ≡ is_due (IsWithin seat (Now next))
-then_seeks seat (Load point) = point_seeks seat point
-then_seeks seat next = cc
-
-row_seeks : (seat : Seat) (row : Row) → seeks_row row ≡ is_due (IsWithin seat row)
-row_seeks seat (Now next) = then_seeks seat next
-row_seeks seat row = cc
-
-pub due_is : (standing : Standing) → seeks_holder_at standing ≡ is_due standing
-due_is (IsWithin seat row) = row_seeks seat row
-due_is standing = cc
 
 -- whether a turn is work
 next_works : (s : Shape) (code : CodeParts) (next : Next) → is_work_next s code next ≡ is_work next
@@ -158,9 +133,9 @@ module _ (plan : Planned) (limits : Limits) where
       → IsNext plan limits pace.processor l.past (stand_of m.state 0) victims' (Some act)
       → n ≡ turned m (record { processor = 0; act = act })
       → told ≡ told_of m.shape m.code m.state (record { processor = 0; act = act })
-      → due ≡ seeks_holder_at (stand_of n.state 0) → pace'.processor ≡ pace.processor → pace'.work ≤ pace.work + 1
+      → due ≡ seeks_holder (stand_of n.state 0) → pace'.processor ≡ pace.processor → pace'.work ≤ pace.work + 1
       → ((p : Planned) (past : Past) (deed : Deed) (stands : Standing) → IsPace p limits past deed.stood pace → told.work ≡ is_work_deed deed
-      → told.next ≡ next_of stands → due ≡ is_due stands → IsPace p limits (behind past deed) stands pace')
+      → told.next ≡ next_of stands → due ≡ seeks_holder stands → IsPace p limits (behind past deed) stands pace')
       → Leads plan limits first n pace' victims'
   acts {first} {m} {n} {pace} {pace'} {victims} {victims'} act told due l more is made is_told is_due number few counts =
       let stood : Standing = stand_of m.state 0 in
@@ -170,7 +145,7 @@ module _ (plan : Planned) (limits : Limits) where
       let comes : told.next ≡ next_of (stand_of n.state 0) =
       ap (λ (t : Told). t.next) is_told ∙ ap (λ (k : Situation). next_of (stand_of k.state 0)) (sym made) in
       let pace_is =
-      counts plan l.past (record { stood = stood; act = act }) (stand_of n.state 0) l.at.pace_is works comes (is_due ∙ due_is (stand_of n.state 0)) in
+      counts plan l.past (record { stood = stood; act = act }) (stand_of n.state 0) l.at.pace_is works comes is_due in
       let turns : n.turns ≡ m.turns + 1 = ap (λ (k : Situation). k.turns) made in
       let at : IsAtPast plan limits (behind l.past (record { stood = stood; act = act })) n pace' victims' = record {
         number = number ∙ l.at.number;

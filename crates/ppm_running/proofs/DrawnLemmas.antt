@@ -9,11 +9,11 @@ use Rattle.ppm_step.specs.declared.turn.Act.{Act}
 use Rattle.ppm_step.specs.declared.turn.Act.TheVariants.{Step, Soft, Hard, Quit}
 use Rattle.ppm_step.specs.declared.turn.Why.TheVariants.{Turns}
 use Rattle.ppm_step.specs.Standings.{Standing}
-use Rattle.ppm_step.specs.State.{next_of}
+use Rattle.ppm_step.specs.State.{next_of, seeks_holder}
 use Rattle.ppm_core.specs.Acts.{IsActAmong}
 use Rattle.ppm_pace.specs.declared.limits.Limits.{Limits}
 use Rattle.ppm_pace.specs.Deeds.{Deed}
-use Rattle.ppm_pace.specs.Obeying.{Past, behind, is_due, is_work, is_step, draws, fault_of, faulted, next_victim, next_act}
+use Rattle.ppm_pace.specs.Obeying.{Past, behind, is_work, is_step, draws, fault_of, faulted, next_victim, next_act}
 use Rattle.ppm_running.specs.Going.{HasDrawn}
 
 -- what comes first behind so many, and what comes behind it
@@ -50,7 +50,7 @@ module _ (plan : Planned) (limits : Limits) (c : ℕ) (past : Past) where
   -- an act names processors alone
   pub is_among : (stood : Standing) → 0 < plan.processors → IsActAmong plan.processors (next_act plan limits c past stood)
   is_among stood some =
-      act_among some (fault_of plan.items c past.acts) (is_work (next_of stood) && nat_le limits.turns past.work) (is_due stood)
+      act_among some (fault_of plan.items c past.acts) (is_work (next_of stood) && nat_le limits.turns past.work) (seeks_holder stood)
 
   -- the victim that is drawn is the next one
   pub drawn_is_next : (old new : Drawing) (v : ℕ) → ((k : ℕ) → next_victims old (suc k) ≡ v ∷ next_victims new k)
@@ -70,7 +70,7 @@ module _ (plan : Planned) (limits : Limits) (c : ℕ) (past : Past) where
       ∙ ap (λ n. drop (d + 1) (victims_of limits.seed c plan.processors n)) far
 
   -- behind a step that draws
-  pub has_drawn : (stood : Standing) (old new : Drawing) (v : ℕ) → is_due stood ≡ true
+  pub has_drawn : (stood : Standing) (old new : Drawing) (v : ℕ) → seeks_holder stood ≡ true
       → ((k : ℕ) → next_victims old (suc k) ≡ v ∷ next_victims new k) → HasDrawn plan limits c past old
       → HasDrawn plan limits c (behind past (record { stood = stood; act = Step v })) new
   has_drawn stood old new v due draw has k =

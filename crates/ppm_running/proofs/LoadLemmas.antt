@@ -13,8 +13,7 @@ use Rattle.ppm_plan.specs.declared.schedule_item.ScheduledAct.TheVariants as sch
 use Rattle.ppm_plan.specs.Schedules.{IsActAmong, IsItemAmong}
 use Rattle.ppm_step.specs.declared.turn.Act.TheVariants.{Step}
 use Rattle.ppm_step.specs.declared.turn.Turn.{Turn}
-use Rattle.ppm_step.specs.State.{State, stand_of, after, along}
-use Rattle.ppm_core.specs.Acts.{seeks_holder_at}
+use Rattle.ppm_step.specs.State.{State, stand_of, after, along, seeks_holder}
 use Rattle.ppm_core.proofs.RunLemmas.{tell_on}
 use Rattle.ppm_running.specs.Course.{Due, Listed, Course, act_of, processor_of, victim_of, turn_of, seeks, loads_of, loads_behind, behind, turns_in}
 use Rattle.ppm_running.specs.Course.{behind_all, turns_of}
@@ -139,7 +138,7 @@ module _ (s : Shape) (code : CodeParts) where
       ap (λ (k : State). turn_with k (loads_of w q)) same ∙ ap (λ j. turn_with (after s code state first) j) count
     where
       turn_with : State → ℕ → Turn
-      turn_with k j = record { processor = q; act = Step (victim_of s.processors q j stated (seeks_holder_at (stand_of k q))) }
+      turn_with k j = record { processor = q; act = Step (victim_of s.processors q j stated (seeks_holder (stand_of k q))) }
   turn_same state w first (scheduled.Fails q fault) same count = refl
 
   -- the turn of what is due behind these

@@ -9,20 +9,20 @@ use Rattle.ppm_step.specs.declared.turn.Act.TheVariants.{Step}
 use Rattle.ppm_step.specs.declared.turn.Next.{Next}
 use Rattle.ppm_step.specs.declared.turn.Next.TheVariants.{Work, Look, Seek, Done}
 use Rattle.ppm_step.specs.Standings.{Standing}
-use Rattle.ppm_step.specs.State.{stand_of, happens, along, next_of, work_next, work_of}
-use Rattle.ppm_core.specs.Acts.{is_done_at, seeks_holder_at}
+use Rattle.ppm_step.specs.State.{stand_of, happens, along, next_of, seeks_holder, work_next, work_of}
+use Rattle.ppm_core.specs.Acts.{is_done_at}
 use Rattle.ppm_core.specs.Situation.{Situation, turned, run_on}
 use Rattle.ppm_core.specs.Steps.{steady_step, steady_steps, IsSteady, AreSteady, EndsInWork}
 use Rattle.ppm_core.proofs.RunLemmas.{run_none, run_step}
 use Rattle.ppm_pace.specs.declared.limits.Limits.{Limits}
 use Rattle.ppm_pace.specs.declared.pace.Pace.{Pace}
 use Rattle.ppm_pace.specs.Deeds.{Deed}
-use Rattle.ppm_pace.specs.Obeying.{Past, behind, is_due, is_work, fault_of, next_act, Stops}
+use Rattle.ppm_pace.specs.Obeying.{Past, behind, is_work, fault_of, next_act, Stops}
 use Rattle.ppm_pace.specs.Paces.{IsPace, AreClear}
 use Rattle.ppm_pace.proofs.StepsLemmas.{next_is_step}
 use Rattle.ppm_running.specs.Alone.{ObeysTo}
 use Rattle.ppm_running.specs.Going.{HasDrawn, Leads}
-use Rattle.ppm_running.proofs.AloneLemmas.{due_is, goes_on}
+use Rattle.ppm_running.proofs.AloneLemmas.{goes_on}
 
 -- one step, and what is done behind so many
 abbrev pub step_deed : Situation → Deed
@@ -80,14 +80,11 @@ work_more m n made is =
     let work : n.work ≡ m.work + work_steps m made = ap (λ (k : Situation). k.work) is in omega (arith, work)
 
 -- none of them draws
-not_due : (m : Situation) → IsSteady m 0 → is_due (stand_of m.state 0) ≡ false
-not_due m p = sym (due_is (stand_of m.state 0)) ∙ p.seeks_none
-
 pub drawn_are : (past : Past) (m : Situation) (n : ℕ) → AreSteady m 0 n → (past_steps past m n).drawn ≡ past.drawn
 drawn_are past m zero p = refl
 drawn_are past m (suc n) p =
     drawn_are (behind past (step_deed m)) (turned m (steady_step 0)) n p.1
-    ∙ ap (λ b. if b then past.drawn + 1 else past.drawn) (not_due m p.0)
+    ∙ ap (λ b. if b then past.drawn + 1 else past.drawn) p.0.seeks_none
 
 -- where the last is work, no look comes behind it
 pub looks_none : (past : Past) (m : Situation) (n : ℕ) → EndsInWork m 0 (suc n) → (past_steps past m (suc n)).looks ≡ 0
@@ -130,7 +127,7 @@ module _ (plan : Planned) (limits : Limits) where
   goes_back past m last (suc n) keeper c p o =
       let clear = first_clear past n c in
       let stood : Standing = stand_of m.state 0 in
-      let act : Step 0 ≡ next_act plan limits 0 past stood = sym (next_is_step plan limits 0 past stood clear.0 clear.1 (not_due m p.0)) in
+      let act : Step 0 ≡ next_act plan limits 0 past stood = sym (next_is_step plan limits 0 past stood clear.0 clear.1 p.0.seeks_none) in
       let next : Situation = turned m (steady_step 0) in
       let behind_it : ObeysTo plan limits (behind past (step_deed m)) next last =
       goes_back (behind past (step_deed m)) next last n keeper (rest_clear past m n c) p.1
@@ -143,13 +140,13 @@ module _ (plan : Planned) (limits : Limits) where
       (l : Leads plan limits first m pace victims) → IsKeeper plan_form plan.items 0 → ¬ (made ≡ 0) → made ≤ most
       → ((past : Past) (stood : Standing) → IsPace plan limits past stood pace → AreClear plan limits pace.processor past most)
       → n ≡ run_on m (steady_steps 0 made) → AreSteady m 0 made → EndsInWork m 0 made → work ≡ work_steps m made
-      → next ≡ next_of (stand_of n.state 0) → due ≡ seeks_holder_at (stand_of n.state 0)
+      → next ≡ next_of (stand_of n.state 0) → due ≡ seeks_holder (stand_of n.state 0)
       → pace'.processor ≡ pace.processor → pace'.work ≡ pace.work + work
       → ((p : Planned) (l : Limits) (past past' : Past) (stood stands : Standing) → IsPace p l past stood pace
       → past'.acts ≡ past.acts + made → past'.work ≡ past.work + work → past'.looks ≡ 0
-      → next ≡ next_of stands → due ≡ is_due stands → IsPace p l past' stands pace')
+      → next ≡ next_of stands → due ≡ seeks_holder stands → IsPace p l past' stands pace')
       → Leads plan limits first n pace' victims
-  goes_ahead zero work most next due l keeper some few clear made plain ends work_is next_is due_is' number counted counts = absurd (some refl)
+  goes_ahead zero work most next due l keeper some few clear made plain ends work_is next_is due_is number counted counts = absurd (some refl)
   goes_ahead {first} {m} {n} {pace} {pace'} {victims} (suc made) work most next due l keeper some few clear is plain ends work_is next_is seeks number counted counts =
       let past' : Past = past_steps l.past m (suc made) in
       let stands : Standing = stand_of n.state 0 in
@@ -164,8 +161,7 @@ module _ (plan : Planned) (limits : Limits) where
         at = record {
           number = number ∙ l.at.number;
           pace_is =
-              counts plan limits l.past past' (stand_of m.state 0) stands l.at.pace_is acts works (looks_none l.past m made ends) next_is
-              (seeks ∙ due_is stands);
+              counts plan limits l.past past' (stand_of m.state 0) stands l.at.pace_is acts works (looks_none l.past m made ends) next_is seeks;
           drawn =
               subst (λ c. HasDrawn plan limits c past' victims) (sym number)
               (λ k. l.at.drawn k ∙ ap (λ d. drop d (victims_of limits.seed pace.processor plan.processors (d + k))) drawn);

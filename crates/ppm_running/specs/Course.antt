@@ -11,8 +11,8 @@ use Rattle.ppm_plan.specs.declared.schedule_item.ScheduledAct.TheVariants as sch
 use Rattle.ppm_step.specs.declared.turn.Act.{Act}
 use Rattle.ppm_step.specs.declared.turn.Act.TheVariants.{Step, Soft, Hard}
 use Rattle.ppm_step.specs.declared.turn.Turn.{Turn}
-use Rattle.ppm_step.specs.State.{State, stand_of, happens}
-use Rattle.ppm_core.specs.Acts.{is_done_at, seeks_holder_at}
+use Rattle.ppm_step.specs.State.{State, stand_of, happens, seeks_holder}
+use Rattle.ppm_core.specs.Acts.{is_done_at}
 
 -- what is due: an act of the list, or, behind the list, the step of a processor whose turn it is
 pub data Due : Type 0 where
@@ -50,7 +50,7 @@ act_by faults.Hard = Hard
 
 -- whether the coming step of a processor is such a load, and how many it has made
 abbrev pub seeks : Course → (processor : ℕ) → Bool
-seeks w processor = seeks_holder_at (stand_of w.state processor)
+seeks w processor = seeks_holder (stand_of w.state processor)
 
 abbrev pub loads_of : Course → (processor : ℕ) → ℕ
 loads_of w processor = slice_index w.loads processor

@@ -14,9 +14,8 @@ use Rattle.ppm_plan.specs.Schedules.{IsItemAmong}
 use Rattle.ppm_step.specs.declared.turn.Act.TheVariants.{Step}
 use Rattle.ppm_step.specs.declared.turn.Turn.{Turn}
 use Rattle.ppm_step.specs.Standings.{Standing, IsDone}
-use Rattle.ppm_step.specs.State.{State, stand_of, after, along, step_by}
+use Rattle.ppm_step.specs.State.{State, stand_of, after, along, step_by, seeks_holder}
 use Rattle.ppm_step.specs.Laws.{IsProposedWord}
-use Rattle.ppm_core.specs.Acts.{seeks_holder_at}
 use Rattle.ppm_core.specs.Situation.{loaded, finish_in}
 use Rattle.ppm_running.specs.Course.{Due, Listed, InRound, act_of, processor_of, act_by, victim_of, turns_of}
 use Rattle.ppm_running.specs.Schedules.{dues_of, beginning, schedule_turns, followed}
@@ -37,7 +36,7 @@ IsShut s state (InRound processor) = read s state.words FinishWord ≢ 0
 
 -- the loads of holder words that a processor makes as it seeks work, each told as the processor
 abbrev pub seeking : (processor : ℕ) → Standing → List ℕ
-seeking processor standing = if seeks_holder_at standing then processor ∷ [] else []
+seeking processor standing = if seeks_holder standing then processor ∷ [] else []
 
 abbrev pub load_of : (processor : ℕ) → State → Turn → List ℕ
 load_of processor state turn =
@@ -54,7 +53,7 @@ module _ (s : Shape) (code : CodeParts) where
     processor = processor;
     act = Step (
         victim_of s.processors processor (loads_made processor state first) stated
-        (seeks_holder_at (stand_of (after s code state first) processor))
+        (seeks_holder (stand_of (after s code state first) processor))
         );
   }
   turn_behind state first (scheduled.Fails processor fault) = record { processor = processor; act = act_by fault }

@@ -1,7 +1,7 @@
 //! Follows a schedule.
 ghost use Rattle.std.specs.Prelude.{◌≡◌, ◌<◌, ◌≤◌, ◌^◌, ◌++◌, [], ◌∷◌, IsTrue, ◌↔◌, length, replicate, nat_lt, true, false, map, slice_index};
 ghost use Rattle.std.specs.List.{All};
-ghost use Rattle.ppm_core.specs.Acts.{is_done_at, seeks_holder_at, IsTurnAmong};
+ghost use Rattle.ppm_core.specs.Acts.{is_done_at, IsTurnAmong};
 ghost use Rattle.ppm_plan.specs.Schedules.{IsActAmong, IsItemAmong, IsVictimAmong};
 ghost use Rattle.ppm_core.specs.Machine.{seen};
 ghost use Rattle.ppm_step.specs.State.{stand_of};

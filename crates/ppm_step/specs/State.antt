@@ -12,7 +12,8 @@ use Rattle.ppm_cells.specs.declared.shape.Shape.{Shape}
 use Rattle.ppm_code.specs.declared.code.CodeParts.{CodeParts}
 use Rattle.ppm_step.specs.declared.ask.Want.{Want}
 use Rattle.ppm_step.specs.declared.ask.Want.TheVariants.{Loads, Stores, Exchanges, Nothing}
-use Rattle.ppm_step.specs.declared.row.Then.TheVariants.{Fork, Begin}
+use Rattle.ppm_step.specs.declared.row.Point.TheVariants.{SeekHolder}
+use Rattle.ppm_step.specs.declared.row.Then.TheVariants.{Load, Fork, Begin}
 use Rattle.ppm_step.specs.declared.row.Row.{Row}
 use Rattle.ppm_step.specs.declared.row.Row.TheVariants.{Now}
 use Rattle.ppm_step.specs.declared.turn.Why.{Why}
@@ -132,6 +133,11 @@ next_of (IsWithin seat row) = step_of seat.restart.kind
 next_of (IsRunning seat rest) = Work
 next_of (IsBroken place) = Look
 next_of IsDone = Done
+
+-- whether the coming step is the load of a holder word as the processor seeks work, for which a turn names the victim
+abbrev pub seeks_holder : Standing → Bool
+seeks_holder (IsWithin seat (Now (Load SeekHolder))) = true
+seeks_holder standing = false
 
 -- the fork blocks whose right branches a turn forks: by the store of the restart word that begins to push them
 abbrev pub fork_row : Row → List ℕ
