@@ -1,3 +1,2 @@
 pub mod CausesLemmas
-pub mod RangeLemmas
 pub mod OfAll

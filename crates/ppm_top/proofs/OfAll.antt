@@ -16,6 +16,7 @@ use Rattle.ppm_line.specs.declared.command.Command.TheVariants as commands
 use Rattle.ppm_line.specs.declared.replay.ReplayOptions.{ReplayOptions}
 use Rattle.ppm_line.specs.declared.run.RunOptions.{RunOptions}
 use Rattle.ppm_line.specs.Words.{command_of}
+use Rattle.ppm_line.proofs.RangeLemmas.{run_is_in_range}
 use Rattle.ppm_checking.specs.Verdict.{CheckHas}
 use Rattle.ppm_checking.specs.Correct.{HaveOneAnswer as ListingsHaveOneAnswer}
 use Rattle.ppm_checking.proofs.OfCheck.{check_rows}
@@ -40,7 +41,6 @@ use Rattle.ppm_showing.proofs.OfCode.{code_rows}
 use Rattle.ppm_answers.specs.Reading.{IsUnread, JudgingMay, Answers}
 use Rattle.ppm_answers.specs.Rows.{IsOneOf}
 use Rattle.ppm_top.specs.Causes.{NoCommandMay, CommandMay, IsAnswered}
-use Rattle.ppm_top.proofs.RangeLemmas.{run_is_in_range}
 use Rattle.ppm_top.specs.Rows.{HasRefusedPlan, OfRun, OfReplay, RefusesWords, ReportsFaults, WritesAccepted, ShowsByWords, ProgramRows}
 use Rattle.ppm_answers.proofs.Delivered as delivered
 use Rattle.ppm_answers.proofs.Judged as judged

@@ -11,7 +11,6 @@ use Rattle.ppm_line.specs.Application.{ppm_application}
 use Rattle.ppm_line.specs.CommandLine.{Number, OptionRule, one_processor, turns, room, slots, looks, seed, faults, schedule}
 use Rattle.ppm_line.specs.Words.{number_in, number_given, value_of_digits, run_options, run_in, serial_in, replay_in, replay_options, text_given}
 use Rattle.ppm_line.specs.Words.{and_then, takeover_given, idle_given, command_named, command_in, without_fault, command_of, AreRun}
-use Rattle.ppm_line.specs.declared.command.Command.{Command}
 use Rattle.ppm_line.specs.declared.command.Command.TheVariants as commands
 use Rattle.ppm_line.specs.declared.replay.ReplayOptions.{ReplayOptions}
 use Rattle.ppm_line.specs.declared.replay.TakeoverName.{TakeoverName}
