@@ -1,1 +1,1 @@
-pub mod EndLemmas
+pub mod SampleLemmas

@@ -1,4 +1,4 @@
-use Rattle.ppm_row_trials.proofs.RowLemmas.{sample_is_code}
+use Rattle.ppm_row_trials.proofs.SampleLemmas.{sample_is_code}
 use Rattle.ppm_row_trials.proofs.small.small_code.Goals as goal
 
 -- it is the code of the tests

@@ -1,4 +1,4 @@
-use Rattle.ppm_trials.proofs.EndLemmas.{sample_is_code}
+use Rattle.ppm_trials.proofs.SampleLemmas.{sample_is_code}
 use Rattle.ppm_trials.proofs.following.small_code.Goals as goal
 
 -- it is the code of the tests
