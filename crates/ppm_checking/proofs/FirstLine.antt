@@ -8,15 +8,15 @@ use Rattle.std.proofs.lemmas.Slice.Eq.{bytes_eq-Decides}
 use Rattle.ppm_listing.specs.declared.keyword.Keyword.{Keyword}
 use Rattle.ppm_listing.specs.declared.keyword.Keyword.TheVariants as keyword
 use Rattle.ppm_listing.specs.Tokens.{keyword_text}
-use Rattle.ppm_reading.specs.declared.part.Part.{Part}
-use Rattle.ppm_reading.specs.declared.part.Part.TheVariants as part
-use Rattle.ppm_reading.specs.declared.place.Place.TheVariants.{AtVersion}
-use Rattle.ppm_reading.specs.declared.token.Token.{Token}
-use Rattle.ppm_reading.specs.declared.token.Token.TheVariants.{Name, Register, Number, Negative, Other}
-use Rattle.ppm_reading.specs.declared.form.Sort.TheVariants as sort
-use Rattle.ppm_reading.specs.Tokens.{is_empty, split, spelled, keywords, keyword_of, is_digit, is_numeral, value_from, value, token_limit, named, minus, token_of}
-use Rattle.ppm_reading.specs.Forms.{is_of, has_form, part_of, part_in, line_of}
-use Rattle.ppm_reading.specs.Places.{standing}
+use Rattle.ppm_listing_reader.specs.declared.part.Part.{Part}
+use Rattle.ppm_listing_reader.specs.declared.part.Part.TheVariants as part
+use Rattle.ppm_listing_reader.specs.declared.place.Place.TheVariants.{AtVersion}
+use Rattle.ppm_listing_reader.specs.declared.token.Token.{Token}
+use Rattle.ppm_listing_reader.specs.declared.token.Token.TheVariants.{Name, Register, Number, Negative, Other}
+use Rattle.ppm_listing_reader.specs.declared.form.Sort.TheVariants as sort
+use Rattle.ppm_listing_reader.specs.Tokens.{is_empty, split, spelled, keywords, keyword_of, is_digit, is_numeral, value_from, value, token_limit, named, minus, token_of}
+use Rattle.ppm_listing_reader.specs.Forms.{is_of, has_form, part_of, part_in, line_of}
+use Rattle.ppm_listing_reader.specs.Places.{standing}
 use Rattle.ppm_checking.proofs.Pieces.{total, some_total}
 
 -- what stands first is the version, or nothing

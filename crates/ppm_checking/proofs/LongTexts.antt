@@ -2,18 +2,18 @@
 use Rattle.std.proofs.Common.{◌≡◌, ◌⊎◌, ◌<◌, ◌≤◌, ℕ, zero, suc, List, [], ◌∷◌, ◌++◌, length, Option, Some, None}
 use Rattle.std.proofs.Common.{refl, sym, ap, ◌∙◌, subst, inl, inr, arith, IsTrue, length-append}
 use Rattle.ppm_code.specs.declared.code.CodeParts.{CodeParts}
-use Rattle.ppm_reading.specs.declared.listing_error.Fault.{Fault}
-use Rattle.ppm_reading.specs.declared.listing_error.Fault.TheVariants as fault
-use Rattle.ppm_reading.specs.declared.part.Part.{Part}
-use Rattle.ppm_reading.specs.declared.part.Part.TheVariants as part
-use Rattle.ppm_reading.specs.declared.place.Place.TheVariants.{AtVersion}
-use Rattle.ppm_reading.specs.Limits.{text_limit}
-use Rattle.ppm_reading.specs.ErrorNumbers.{fault_number}
-use Rattle.ppm_reading.specs.Tokens.{split}
-use Rattle.ppm_reading.specs.Forms.{line_of, lines_in}
-use Rattle.ppm_reading.specs.Places.{standing, standing_from, code_in}
-use Rattle.ppm_reading.specs.Faults.{breaks, BreaksAt}
-use Rattle.ppm_reading.specs.Correct.{standing_of, HasFault, Breaks, TooLong, IsFirstFault, IsNotAfter, FaultsTellListings}
+use Rattle.ppm_listing_reader.specs.declared.listing_error.Fault.{Fault}
+use Rattle.ppm_listing_reader.specs.declared.listing_error.Fault.TheVariants as fault
+use Rattle.ppm_listing_reader.specs.declared.part.Part.{Part}
+use Rattle.ppm_listing_reader.specs.declared.part.Part.TheVariants as part
+use Rattle.ppm_listing_reader.specs.declared.place.Place.TheVariants.{AtVersion}
+use Rattle.ppm_listing_reader.specs.Limits.{text_limit}
+use Rattle.ppm_listing_reader.specs.ErrorNumbers.{fault_number}
+use Rattle.ppm_listing_reader.specs.Tokens.{split}
+use Rattle.ppm_listing_reader.specs.Forms.{line_of, lines_in}
+use Rattle.ppm_listing_reader.specs.Places.{standing, standing_from, code_in}
+use Rattle.ppm_listing_reader.specs.Faults.{breaks, BreaksAt}
+use Rattle.ppm_listing_reader.specs.Correct.{standing_of, HasFault, Breaks, TooLong, IsFirstFault, IsNotAfter, FaultsTellListings}
 use Rattle.ppm_answers.specs.declared.answer.Answer.{Answer}
 use Rattle.ppm_answers.specs.declared.answer.Answer.TheVariants as answers
 use Rattle.ppm_checking.specs.Verdict.{CheckHas}

@@ -4,7 +4,7 @@ use Rattle.std.proofs.Common.{refl, sym, subst, inl, inr, arith}
 use Rattle.std.proofs.lemmas.Bool.{leb-true, leb-false}
 use Rattle.ppm_ports.specs.Whole.{ReadsTo}
 use Rattle.ppm_ports.specs.Outside.{Outside}
-use Rattle.ppm_reading.specs.Limits.{text_limit}
+use Rattle.ppm_listing_reader.specs.Limits.{text_limit}
 use Rattle.ppm_answers.specs.declared.answer.Answer.{Answer}
 use Rattle.ppm_answers.specs.declared.answer.Answer.TheVariants as answers
 use Rattle.ppm_answers.specs.declared.status.Status.{Status}

@@ -2,8 +2,8 @@
 use Rattle.std.proofs.Common.{◌≡◌, ℕ, List, refl, sym, ◌∙◌, ap, subst}
 use Rattle.ppm_code.specs.declared.code.CodeParts.{CodeParts}
 use Rattle.ppm_war.specs.Conflicts.{IsFirstConflictOf}
-use Rattle.ppm_reading.specs.ErrorNumbers.{fault_number}
-use Rattle.ppm_reading.specs.Correct.{IsListing, FaultsTellListings}
+use Rattle.ppm_listing_reader.specs.ErrorNumbers.{fault_number}
+use Rattle.ppm_listing_reader.specs.Correct.{IsListing, FaultsTellListings}
 use Rattle.ppm_answers.specs.declared.conflict.Conflict.{Conflict}
 use Rattle.ppm_answers.specs.declared.conflict.ListingRefusal.{ListingRefusal}
 use Rattle.ppm_answers.specs.declared.answer.Answer.{Answer}

@@ -2,7 +2,7 @@
 use Rattle.std.proofs.Common.{◌≡◌, ◌<◌, ◌≤◌, ℕ, suc, ◌+◌, ◌==◌, Bool, true, false, if◌then◌else◌}
 use Rattle.std.proofs.Common.{List, [], ◌∷◌, ◌++◌, length, Option, Some, None, refl, sym, ap, ◌∙◌, arith}
 use Rattle.std.specs.Prelude.{option_map}
-use Rattle.ppm_reading.specs.Tokens.{in_front, split}
+use Rattle.ppm_listing_reader.specs.Tokens.{in_front, split}
 
 -- the bytes of pieces, and the separator behind each
 abbrev pub total : List (List ℕ) → ℕ

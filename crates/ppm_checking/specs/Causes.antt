@@ -1,6 +1,6 @@
 -- When `check` may give each answer.
 use Rattle.ppm_ports.specs.Outside.{Outside}
-use Rattle.ppm_reading.specs.Limits.{text_limit}
+use Rattle.ppm_listing_reader.specs.Limits.{text_limit}
 use Rattle.ppm_answers.specs.declared.answer.Answer.{Answer}
 use Rattle.ppm_answers.specs.Reading.{JudgingMay}
 use Rattle.ppm_checking.specs.Verdict.{CheckHas}

@@ -3,9 +3,9 @@ use Rattle.std.specs.Prelude.{◌≡◌}
 use Rattle.ppm_code.specs.declared.code.CodeParts.{CodeParts}
 use Rattle.ppm_war.specs.declared.checked.Conflict.{Conflict}
 use Rattle.ppm_war.specs.Conflicts.{IsFree, IsFirstConflictOf}
-use Rattle.ppm_reading.specs.declared.listing_error.ListingError.{ListingError}
-use Rattle.ppm_reading.specs.declared.listing_error.ListingError.TheVariants as error
-use Rattle.ppm_reading.specs.ErrorNumbers.{number_of, line_of}
+use Rattle.ppm_listing_reader.specs.declared.listing_error.ListingError.{ListingError}
+use Rattle.ppm_listing_reader.specs.declared.listing_error.ListingError.TheVariants as error
+use Rattle.ppm_listing_reader.specs.ErrorNumbers.{number_of, line_of}
 use Rattle.ppm_answers.specs.declared.answer.Answer.{Answer}
 use Rattle.ppm_answers.specs.declared.answer.Answer.TheVariants as answers
 use Rattle.ppm_checking.specs.Verdict.{conflict_told}

@@ -1,6 +1,6 @@
 -- A text has one answer, and past the limit it is that of its front.
 use Rattle.std.specs.Prelude.{◌≡◌, ℕ, ◌<◌, List, ◌++◌, length}
-use Rattle.ppm_reading.specs.Limits.{text_limit}
+use Rattle.ppm_listing_reader.specs.Limits.{text_limit}
 use Rattle.ppm_answers.specs.declared.answer.Answer.{Answer}
 use Rattle.ppm_checking.specs.Verdict.{CheckHas}
 

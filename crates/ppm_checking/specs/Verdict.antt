@@ -5,9 +5,9 @@ use Rattle.ppm_code.specs.declared.class.Class.TheVariants as class
 use Rattle.ppm_code.specs.declared.code.CodeParts.{CodeParts}
 use Rattle.ppm_war.specs.declared.checked.Conflict.{Conflict}
 use Rattle.ppm_war.specs.Conflicts.{IsFree, IsFirstConflictOf}
-use Rattle.ppm_reading.specs.declared.listing_error.Fault.{Fault}
-use Rattle.ppm_reading.specs.ErrorNumbers.{fault_number}
-use Rattle.ppm_reading.specs.Correct.{IsListing, IsFirstFault}
+use Rattle.ppm_listing_reader.specs.declared.listing_error.Fault.{Fault}
+use Rattle.ppm_listing_reader.specs.ErrorNumbers.{fault_number}
+use Rattle.ppm_listing_reader.specs.Correct.{IsListing, IsFirstFault}
 use Rattle.ppm_answers.specs.declared.conflict.Class.{Class as ToldClass}
 use Rattle.ppm_answers.specs.declared.conflict.Class.TheVariants as told
 use Rattle.ppm_answers.specs.declared.conflict.Conflict.{Conflict as ToldConflict}

@@ -3,7 +3,7 @@ ghost use Rattle.std.specs.Prelude.{◌≡◌};
 ghost use Rattle.ppm_ports.specs.Ports.{port};
 ghost use Rattle.ppm_ports.specs.Outside.{ToldLists, outside};
 ghost use Rattle.ppm_answers.specs.Reading.{Answers, JudgingMay};
-ghost use Rattle.ppm_reading.specs.Limits.{text_limit};
+ghost use Rattle.ppm_listing_reader.specs.Limits.{text_limit};
 ghost use Rattle.ppm_checking.specs.Verdict.{CheckHas};
 ghost use Rattle.ppm_checking.specs.Causes.{CheckMay};
 ghost use Rattle.ppm_checking.specs.Rows.{CheckRows};
@@ -11,8 +11,8 @@ ghost use Rattle.ppm_checking.specs.Rows.{CheckRows};
 use crate::laws::have_one_answer;
 use crate::verdict::text_answer;
 use ppm_answers::{Answer, Status, deliver};
+use ppm_listing_reader::TEXT_LIMIT;
 use ppm_ports::{ReadError, Sink, Source, read_whole};
-use ppm_reading::TEXT_LIMIT;
 use std::alloc::Global;
 
 /// Checks the listing that is read: `ok` is written on `out`, its first conflict or its first fault on `err`.

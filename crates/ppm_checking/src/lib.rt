@@ -3,7 +3,7 @@
 //! text is no listing, for this first fault.
 //! Contract: `check_command` delivers the answer that the text has which was read, or says that a port failed or memory
 //! was refused (`specs/Causes`); what follows from each status is in `specs/Rows`.
-//! Stands on `ppm_reading`, `ppm_war`, `ppm_ports` and `ppm_answers`; `ppm_top` calls it.
+//! Stands on `ppm_listing_reader`, `ppm_war`, `ppm_ports` and `ppm_answers`; `ppm_top` calls it.
 //! After the write-after-read conflicts of Blelloch et al., SPAA 2018; the answers are this project's.
 #![tactic(auto)]
 

@@ -1,6 +1,6 @@
 //! Capsules of listings that are accepted, stopped after each word step and begun again, over plain words.
 use ppm_code::{Act, End, FrameWord, Instr, Location, Step};
-use ppm_reading::read_listing;
+use ppm_listing_reader::read_listing;
 use ppm_war::check;
 use std::alloc::Global;
 use std::process::Abort;
@@ -141,7 +141,7 @@ const FOUR_SLOTS: &str = "ppm 1\nroot 0\nproc 0 slots 4 entry 0\ncapsule 0 proc 
 
 const ONE_SLOT: &str = "ppm 1\nroot 0\nproc 0 slots 1 entry 0\ncapsule 0 proc 0\n";
 
-/// What follows the first of these: five listings of this table's own, then those of the table of `ppm_reading` that `check` accepts.
+/// What follows the first of these: five listings of this table's own, then those of the table of `ppm_listing_reader` that `check` accepts.
 const OF_FOUR_SLOTS: [&'static str; 23] = [
     "loadslot r0 3\nbranchz r0 4\nconst r1 -1\nadd r0 r0 r1 1\nstorecur 2 r0\nnext 1\ncapsule 1 proc 0\nloadslot r0 2\nstorecur 3 r0\nend\n",
     "loadslot r1 0\nput r1 r2 r0 1\nget r0 r1 r2 1\nstorecur 1 r0\nend\n",

@@ -1,13 +1,13 @@
 //! What `check` says of a text.
 ghost use Rattle.std.specs.Prelude.{◌≡◌};
 ghost use Rattle.ppm_answers.specs.Reading.{TextMay};
-ghost use Rattle.ppm_reading.specs.Correct.{IsRefusal};
+ghost use Rattle.ppm_listing_reader.specs.Correct.{IsRefusal};
 ghost use Rattle.ppm_checking.specs.Verdict.{CheckHas, class_told as told_class, conflict_told as told_conflict};
 ghost use Rattle.ppm_checking.specs.Codes.{CodeHas, error_answer as answer_of};
 
 use ppm_answers::{Answer, ListingRefusal};
 use ppm_code::{Class, Code};
-use ppm_reading::{ListingError, read_listing};
+use ppm_listing_reader::{ListingError, read_listing};
 use ppm_war::{Conflict, check};
 use std::alloc::Global;
 

@@ -5,9 +5,9 @@ use Rattle.std.proofs.Math.Seq.{take-append_seam}
 use Rattle.ppm_code.specs.declared.code.Capsule.{Capsule}
 use Rattle.ppm_tree.specs.declared.named.Named.{Named}
 use Rattle.ppm_tree.specs.Tree.{Expression, Statement, Block, Nil, Then, Let, Assign, Put, If, While, Call, Fork, Split, Each, Procedure}
-use Rattle.ppm_translation.specs.Layout.{Layout}
-use Rattle.ppm_translation.specs.Numbers.{behind, end_of, hidden_behind, hidden_behind_block}
-use Rattle.ppm_translation.specs.Statements.{Instrs, Last, OnTo, with_lets, with_parts, test_code, split_code, each_code, last_code, statement_code, block_code}
+use Rattle.ppm_cut_code.specs.Layout.{Layout}
+use Rattle.ppm_cut_code.specs.Numbers.{behind, end_of, hidden_behind, hidden_behind_block}
+use Rattle.ppm_cut_code.specs.Statements.{Instrs, Last, OnTo, with_lets, with_parts, test_code, split_code, each_code, last_code, statement_code, block_code}
 use Rattle.ppm_cut.proofs.Growing.{adds_then}
 use Rattle.ppm_cut.specs.Counts.{own_count}
 use Rattle.ppm_cut.specs.Growth.{Adds, capsule_of}

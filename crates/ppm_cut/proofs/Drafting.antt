@@ -8,16 +8,16 @@ use Rattle.std.specs.Str.{bytes_eq}
 use Rattle.ppm_code.specs.declared.act.End.TheVariants as ends
 use Rattle.ppm_code.specs.declared.instr.Instr.TheVariants as instr
 use Rattle.ppm_code.specs.declared.code.Capsule.{Capsule}
-use Rattle.ppm_bounds.specs.Names.{free_names}
+use Rattle.ppm_cut_bounds.specs.Names.{free_names}
 use Rattle.ppm_tree.specs.declared.named.Named.{Named}
 use Rattle.ppm_tree.specs.Tree.{Expression, Statement, Block, Then, If, Each, Procedure}
-use Rattle.ppm_translation.specs.Layout.{Layout, caught}
-use Rattle.ppm_translation.specs.Numbers.{hidden_behind, hidden_behind_block, element_block}
-use Rattle.ppm_translation.specs.Slots.{hidden_named_slots, hidden_slots}
-use Rattle.ppm_translation.specs.Statements.{Instrs, Gives, with_lets, entry_code, halving_code, block_code}
-use Rattle.ppm_translation.specs.Routines.{Routine, Hidden, Sweep, sweep_layout, routine_slots, routine_behind, procedures_from, capsules_from}
-use Rattle.ppm_translation.specs.Routines.{hidden_of, hidden_of_block, routine_code}
-use Rattle.ppm_translation.proofs.PlaceLemmas.{past_length, hidden_past, hidden_past_block}
+use Rattle.ppm_cut_code.specs.Layout.{Layout, caught}
+use Rattle.ppm_cut_code.specs.Numbers.{hidden_behind, hidden_behind_block, element_block}
+use Rattle.ppm_cut_code.specs.Slots.{hidden_named_slots, hidden_slots}
+use Rattle.ppm_cut_code.specs.Statements.{Instrs, Gives, with_lets, entry_code, halving_code, block_code}
+use Rattle.ppm_cut_code.specs.Routines.{Routine, Hidden, Sweep, sweep_layout, routine_slots, routine_behind, procedures_from, capsules_from}
+use Rattle.ppm_cut_code.specs.Routines.{hidden_of, hidden_of_block, routine_code}
+use Rattle.ppm_cut_code.proofs.PlaceLemmas.{past_length, hidden_past, hidden_past_block}
 use Rattle.ppm_cut.specs.declared.draft.Draft.{Draft}
 use Rattle.ppm_cut.specs.Growth.{Adds, capsule_of}
 use Rattle.ppm_cut.specs.Drafts.{Drafts, behind_all}

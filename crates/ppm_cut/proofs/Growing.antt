@@ -4,10 +4,10 @@ use Rattle.std.proofs.lemmas.List.{map-append, append-nil}
 use Rattle.ppm_code.specs.declared.instr.Instr.{Instr}
 use Rattle.ppm_code.specs.declared.instr.Instr.TheVariants as instr
 use Rattle.ppm_tree.specs.Tree.{Expression, Minus}
-use Rattle.ppm_translation.specs.Layout.{Layout, register}
-use Rattle.ppm_translation.specs.Expressions.{expression_code}
+use Rattle.ppm_cut_code.specs.Layout.{Layout, register}
+use Rattle.ppm_cut_code.specs.Expressions.{expression_code}
 use Rattle.ppm_code.specs.declared.code.Capsule.{Capsule}
-use Rattle.ppm_translation.specs.Statements.{Instrs}
+use Rattle.ppm_cut_code.specs.Statements.{Instrs}
 use Rattle.ppm_cut.specs.Growth.{Grows, Adds, capsule_of}
 
 -- no instruction

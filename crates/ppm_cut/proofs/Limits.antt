@@ -10,12 +10,12 @@ use Rattle.ppm_tree.specs.Tree.{Expression, Argument, Side, Statement, Block, Ni
 use Rattle.ppm_tree.specs.Tree as tree
 use Rattle.ppm_tree.specs.Parts.{nodes, statement_and_inner, statements_in, gives_of}
 use Rattle.ppm_tree.specs.Limits.{IsSmallSide, IsSmallStatement, IsSmallGive, IsSmall, IsWithin, procedures_in, node_limit}
-use Rattle.ppm_bounds.specs.Capsules.{capsules_at, capsules_of}
-use Rattle.ppm_bounds.specs.Bounds.{IsWithinBounds}
-use Rattle.ppm_bounds.proofs.Keeping.{all-first, all-second}
-use Rattle.ppm_bounds.proofs.Sums.{need, need-append, need_of_procedure}
-use Rattle.ppm_translation.specs.Expressions.{size_of}
-use Rattle.ppm_translation.proofs.SizeLemmas.{size_at_most}
+use Rattle.ppm_cut_bounds.specs.Capsules.{capsules_at, capsules_of}
+use Rattle.ppm_cut_bounds.specs.Bounds.{IsWithinBounds}
+use Rattle.ppm_cut_bounds.proofs.Keeping.{all-first, all-second}
+use Rattle.ppm_cut_bounds.proofs.Sums.{need, need-append, need_of_procedure}
+use Rattle.ppm_cut_code.specs.Expressions.{size_of}
+use Rattle.ppm_cut_code.proofs.SizeLemmas.{size_at_most}
 use Rattle.ppm_cut.specs.Counts.{size_limit, own_count, own_count_in, hidden_count, hidden_count_in, own_counts, hidden_counts}
 use Rattle.ppm_cut.specs.Counts.{IsShortSide, IsShort, IsShortBlock, IsShortGive, IsShortProcedure, IsSmallProcedure}
 

@@ -2,9 +2,9 @@
 use Rattle.std.proofs.Common.{◌≡◌, ◌↔◌, ◌||◌, ◌&&◌, not, Bool, true, false, ℕ, IsTrue, List, [], ◌∷◌, ◌++◌, refl, sym, ap, ◌∙◌}
 use Rattle.std.specs.Str.{bytes_eq}
 use Rattle.ppm_tree.specs.Tree.{Statement, Block, Then}
-use Rattle.ppm_bounds.specs.Names.{without, used_by, free_within, free_names, lets_of}
-use Rattle.ppm_bounds.specs.Catching.{has}
-use Rattle.ppm_bounds.proofs.Members.{has-append, has-without, test_is}
+use Rattle.ppm_cut_bounds.specs.Names.{without, used_by, free_within, free_names, lets_of}
+use Rattle.ppm_cut_bounds.specs.Catching.{has}
+use Rattle.ppm_cut_bounds.proofs.Members.{has-append, has-without, test_is}
 
 module _ (x y q : List ℕ) (from : List (List ℕ)) where
   split : has (without (x ∷ y ∷ []) from) q ≡ (has from q && not (bytes_eq q x || (bytes_eq q y || false)))

@@ -2,7 +2,7 @@
 use Rattle.std.proofs.Common.{◌≡◌, arith, List, [], ◌∷◌, length, min}
 use Rattle.ppm_tree.specs.declared.tree.Argument as declared_argument
 use Rattle.ppm_tree.specs.declared.tree.Parameter.{Parameter}
-use Rattle.ppm_translation.specs.Statements.{paired}
+use Rattle.ppm_cut_code.specs.Statements.{paired}
 use Rattle.ppm_cut.specs.Counts.{arguments_of}
 
 -- there are as many as there are of both

@@ -2,13 +2,13 @@
 use Rattle.std.proofs.Common.{◌≡◌, ◌↔◌, ◌<◌, ◌≤◌, ◌+◌, ℕ, suc, arith, not, Bool, true, false, IsTrue, List, drop, length, get_or, refl, sym, ap, ◌∙◌}
 use Rattle.std.specs.Bool.{if◌then◌else◌}
 use Rattle.std.specs.Str.{bytes_eq}
-use Rattle.ppm_bounds.proofs.Blocks.{ahead}
-use Rattle.ppm_bounds.proofs.Members.{test_is}
+use Rattle.ppm_cut_bounds.proofs.Blocks.{ahead}
+use Rattle.ppm_cut_bounds.proofs.Members.{test_is}
 use Rattle.std.proofs.lemmas.List.Filters.{length-filter_both}
 use Rattle.std.specs.Set.{is_member}
 use Rattle.ppm_tree.specs.Tree.{Block}
-use Rattle.ppm_bounds.specs.Names.{free_names}
-use Rattle.ppm_translation.specs.Layout.{Layout, slot_of, caught}
+use Rattle.ppm_cut_bounds.specs.Names.{free_names}
+use Rattle.ppm_cut_code.specs.Layout.{Layout, slot_of, caught}
 
 module _ (xs : List (List ℕ)) (k : ℕ) (x q : List ℕ) (in' : k < length xs) (at : x ≡ get_or xs k x) (y : List ℕ) (same : y ≡ x)
     (b : Bool) (is : IsTrue b ↔ (y ≡ q)) where

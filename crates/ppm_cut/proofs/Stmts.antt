@@ -5,7 +5,7 @@ use Rattle.ppm_tree.specs.declared.tree.Expr.{Expr}
 use Rattle.ppm_tree.specs.declared.tree.Stmt.{Stmt}
 use Rattle.ppm_tree.specs.declared.tree.Stmt.TheVariants as stmt
 use Rattle.ppm_tree.specs.Tree.{If, While, Split, Each, expression_of, statement_of, block_of}
-use Rattle.ppm_bounds.proofs.Stmts as stmts
+use Rattle.ppm_cut_bounds.proofs.Stmts as stmts
 
 module _ (s : Stmt) where
   pub if_is : (e : Expr) (block other : Vec Stmt Global) (xs ys : List Stmt) → s ≡ stmt.If e block other → xs ≡ block.items → ys ≡ other.items

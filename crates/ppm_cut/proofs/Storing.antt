@@ -1,8 +1,8 @@
 -- Registers that go into the new block one by one, and slots that are loaded one by one.
 use Rattle.std.proofs.Common.{◌≡◌, ◌<◌, ◌+◌, ◌-◌, ℕ, zero, suc, arith, ◌∷◌, ap, ◌∙◌}
 use Rattle.ppm_code.specs.declared.instr.Instr.TheVariants as instr
-use Rattle.ppm_translation.specs.Layout.{register}
-use Rattle.ppm_translation.specs.Statements.{Instrs, stores_code, names_code}
+use Rattle.ppm_cut_code.specs.Layout.{register}
+use Rattle.ppm_cut_code.specs.Statements.{Instrs, stores_code, names_code}
 
 pub stores_step : (word from left : ℕ) → 0 < left → (rest : Instrs)
     → stores_code word from left rest ≡ instr.StoreNew word (register from) ∷ stores_code (word + 1) (from + 1) (left - 1) rest

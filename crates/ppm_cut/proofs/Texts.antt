@@ -5,8 +5,8 @@ use Rattle.std.proofs.lemmas.List.{append-nil}
 use Rattle.ppm_tree.specs.declared.tree.Proc.{Proc}
 use Rattle.ppm_code.specs.declared.code.CodeParts.{CodeParts}
 use Rattle.ppm_tree.specs.Tree.{Procedure, ProgramTree, procedure_of}
-use Rattle.ppm_translation.specs.Numbers.{hidden_behind_block}
-use Rattle.ppm_translation.specs.Routines.{Routine, texts_from, hidden_from, routines_of, procedures_from, capsules_from, code_of}
+use Rattle.ppm_cut_code.specs.Numbers.{hidden_behind_block}
+use Rattle.ppm_cut_code.specs.Routines.{Routine, texts_from, hidden_from, routines_of, procedures_from, capsules_from, code_of}
 use Rattle.ppm_cut.specs.declared.draft.Draft.{Draft}
 use Rattle.ppm_cut.specs.Counts.{IsSmallProcedure}
 use Rattle.ppm_cut.specs.Drafts.{Drafts}

@@ -4,7 +4,7 @@ use Rattle.std.specs.List.{AllByRecursion}
 use Rattle.ppm_tree.specs.declared.tree.Argument as declared_argument
 use Rattle.ppm_tree.specs.Tree.{Argument, Side, Statement, Block, Nil, Then, Give, Procedure, expression_of}
 use Rattle.ppm_tree.specs.Tree as tree
-use Rattle.ppm_translation.specs.Expressions.{size_of}
+use Rattle.ppm_cut_code.specs.Expressions.{size_of}
 
 -- arguments, from the declared type
 abbrev pub arguments_of : List declared_argument.Argument → List Argument

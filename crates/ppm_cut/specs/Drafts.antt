@@ -1,7 +1,7 @@
 -- How a code grows by procedures.
 use Rattle.std.specs.Prelude.{◌≡◌, ℕ, List, [], ◌∷◌, ◌++◌, length}
 use Rattle.ppm_tree.specs.Tree.{Procedure}
-use Rattle.ppm_translation.specs.Routines.{Routine, routine_behind, procedures_from, capsules_from}
+use Rattle.ppm_cut_code.specs.Routines.{Routine, routine_behind, procedures_from, capsules_from}
 use Rattle.ppm_cut.specs.declared.draft.Draft.{Draft}
 
 -- the number behind the capsules of procedures, the first of which has the number `at`

@@ -2,8 +2,8 @@
 use Rattle.std.specs.Prelude.{◌≡◌, ℕ, suc, pos, List, ◌∷◌, ◌++◌, map}
 use Rattle.ppm_code.specs.declared.code.Capsule.{Capsule}
 use Rattle.ppm_code.specs.declared.instr.Instr.TheVariants as instr
-use Rattle.ppm_translation.specs.Layout.{register}
-use Rattle.ppm_translation.specs.Statements.{Instrs, Last, OnTo, Gives, stores_code}
+use Rattle.ppm_cut_code.specs.Layout.{register}
+use Rattle.ppm_cut_code.specs.Statements.{Instrs, Last, OnTo, Gives, stores_code}
 use Rattle.ppm_tree.specs.Tree.{give_of}
 use Rattle.ppm_cut.specs.Counts.{IsShortGive}
 use Rattle.ppm_cut.specs.declared.body.Last as declared_last

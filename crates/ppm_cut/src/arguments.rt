@@ -2,8 +2,8 @@
 ghost use Rattle.std.specs.Prelude.{◌≡◌, ◌≤◌, ◌+◌, ◌*◌, ◌∷◌, length, OnOk};
 ghost use Rattle.std.specs.List.{AllByRecursion};
 ghost use Rattle.ppm_tree.specs.Tree.{expression_of};
-ghost use Rattle.ppm_translation.specs.Expressions.{size_of};
-ghost use Rattle.ppm_translation.specs.Statements.{lent_code, argument_code, arguments_code, stores_code, names_code};
+ghost use Rattle.ppm_cut_code.specs.Expressions.{size_of};
+ghost use Rattle.ppm_cut_code.specs.Statements.{lent_code, argument_code, arguments_code, stores_code, names_code};
 ghost use Rattle.ppm_cut.specs.Counts.{count_limit, size_limit, arguments_of};
 ghost use Rattle.ppm_cut.specs.Growth.{Grows};
 

@@ -2,8 +2,8 @@
 ghost use Rattle.std.specs.Prelude.{◌≡◌, ◌≤◌, ◌+◌, ◌*◌, suc, [], ◌∷◌, length, map, OnOk};
 ghost use Rattle.std.specs.List.{AllByRecursion};
 ghost use Rattle.ppm_tree.specs.Tree.{expression_of, statement_of, block_of, procedure_of};
-ghost use Rattle.ppm_translation.specs.Expressions.{size_of};
-ghost use Rattle.ppm_translation.specs.Statements.{value_code, move_code, element_code, put_code, last_code, statement_code, block_code};
+ghost use Rattle.ppm_cut_code.specs.Expressions.{size_of};
+ghost use Rattle.ppm_cut_code.specs.Statements.{value_code, move_code, element_code, put_code, last_code, statement_code, block_code};
 ghost use Rattle.ppm_cut.specs.Counts.{count_limit, size_limit, own_count, own_count_in, hidden_count, hidden_count_in};
 ghost use Rattle.ppm_cut.specs.Counts.{IsShort, IsShortBlock};
 ghost use Rattle.ppm_cut.specs.Growth.{Adds, last_of, IsShortLast};

@@ -3,8 +3,8 @@ ghost use Rattle.std.specs.Prelude.{◌≡◌, ◌≤◌, length, map, IfOk};
 ghost use Rattle.std.specs.List.{AllByRecursion};
 ghost use Rattle.ppm_tree.specs.Tree.{procedure_of};
 ghost use Rattle.ppm_tree.specs.State.{procedure_named};
-ghost use Rattle.ppm_translation.specs.Slots.{procedure_slots};
-ghost use Rattle.ppm_translation.specs.Statements.{number_of};
+ghost use Rattle.ppm_cut_code.specs.Slots.{procedure_slots};
+ghost use Rattle.ppm_cut_code.specs.Statements.{number_of};
 ghost use Rattle.ppm_cut.specs.Counts.{count_limit, IsSmallProcedure};
 
 use crate::slots::procedure_slots;
@@ -35,7 +35,7 @@ impl<'a> Model for Callees<'a> {
     ghost use Rattle.ppm_tree.specs.contracts.tree.Expr as expr;
     ghost use Rattle.ppm_tree.specs.contracts.tree.Stmt as stmt;
     ghost use Rattle.ppm_tree.specs.Tree.{procedure_of};
-    ghost use Rattle.ppm_translation.specs.Slots.{procedure_slots};
+    ghost use Rattle.ppm_cut_code.specs.Slots.{procedure_slots};
 
     ghost Value = { List Proc };
 

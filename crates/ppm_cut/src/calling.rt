@@ -2,8 +2,8 @@
 ghost use Rattle.std.specs.Prelude.{◌≡◌, ◌≤◌, ◌*◌, length, map, IfOk};
 ghost use Rattle.std.specs.List.{AllByRecursion};
 ghost use Rattle.ppm_tree.specs.Tree.{side_of, procedure_of};
-ghost use Rattle.ppm_translation.specs.Slots.{frame_words, fork_words};
-ghost use Rattle.ppm_translation.specs.Statements.{call_code, fork_code};
+ghost use Rattle.ppm_cut_code.specs.Slots.{frame_words, fork_words};
+ghost use Rattle.ppm_cut_code.specs.Statements.{call_code, fork_code};
 ghost use Rattle.ppm_cut.specs.Counts.{count_limit, IsShortSide};
 
 use crate::arguments::{push_arguments, push_stores};

@@ -1,7 +1,7 @@
 //! The numbers of capsules and of hidden procedures.
 ghost use Rattle.std.specs.Prelude.{◌≡◌, ◌≤◌, ◌+◌};
 ghost use Rattle.ppm_tree.specs.Tree.{statement_of, block_of};
-ghost use Rattle.ppm_translation.specs.Numbers.{behind, end_of, hidden_behind, hidden_behind_block};
+ghost use Rattle.ppm_cut_code.specs.Numbers.{behind, end_of, hidden_behind, hidden_behind_block};
 ghost use Rattle.ppm_cut.specs.Counts.{count_limit, own_count, own_count_in, hidden_count, hidden_count_in};
 
 use ppm_tree::Stmt;

@@ -4,8 +4,8 @@ ghost use Rattle.std.specs.List.{AllByRecursion};
 ghost use Rattle.ppm_tree.specs.Tree.{procedure_of, tree_of};
 ghost use Rattle.ppm_tree.specs.Program.{whole_from};
 ghost use Rattle.ppm_regions.specs.Admission.{IsAdmitted};
-ghost use Rattle.ppm_bounds.specs.Bounds.{IsWithinBounds};
-ghost use Rattle.ppm_translation.specs.Routines.{code_of, texts_from, hidden_from};
+ghost use Rattle.ppm_cut_bounds.specs.Bounds.{IsWithinBounds};
+ghost use Rattle.ppm_cut_code.specs.Routines.{code_of, texts_from, hidden_from};
 ghost use Rattle.ppm_cut.specs.Counts.{count_limit, own_counts, hidden_counts, IsShortProcedure, IsSmallProcedure};
 ghost use Rattle.ppm_cut.specs.Drafts.{Drafts};
 

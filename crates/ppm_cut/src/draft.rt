@@ -2,7 +2,7 @@
 ghost use Rattle.std.specs.Prelude.{◌≡◌, ◌≤◌, ◌+◌, ℕ, List, [], ◌∷◌, length, map, OnOk};
 ghost use Rattle.std.specs.List.{AllByRecursion};
 ghost use Rattle.ppm_tree.specs.Tree.{statement_of, block_of, procedure_of};
-ghost use Rattle.ppm_translation.specs.Routines.{OfText, Hidden, hidden_of, hidden_of_block};
+ghost use Rattle.ppm_cut_code.specs.Routines.{OfText, Hidden, hidden_of, hidden_of_block};
 ghost use Rattle.ppm_cut.specs.Counts.{count_limit, own_count, own_count_in, hidden_count, hidden_count_in};
 ghost use Rattle.ppm_cut.specs.Counts.{IsShort, IsShortBlock, IsShortProcedure};
 ghost use Rattle.ppm_cut.specs.Drafts.{Drafts};

@@ -3,7 +3,7 @@ ghost use Rattle.std.specs.Prelude.{◌≡◌, ◌≤◌, ◌+◌, ◌*◌, ◌�
 ghost use Rattle.ppm_code.specs.declared.act.End.TheVariants as ends;
 ghost use Rattle.ppm_code.specs.declared.instr.Instr.TheVariants as instr;
 ghost use Rattle.ppm_tree.specs.Tree.{block_of};
-ghost use Rattle.ppm_translation.specs.Statements.{loads_code, each_code, entry_code, halving_code};
+ghost use Rattle.ppm_cut_code.specs.Statements.{loads_code, each_code, entry_code, halving_code};
 ghost use Rattle.ppm_cut.specs.Counts.{count_limit, own_count_in};
 ghost use Rattle.ppm_cut.specs.Growth.{Grows, halves_code, half_code};
 

@@ -1,9 +1,9 @@
 //! The instructions of expressions.
 ghost use Rattle.std.specs.Prelude.{◌≡◌, ◌≤◌, ◌+◌, ◌*◌, ◌∷◌, suc, pos, length, OnOk};
 ghost use Rattle.ppm_code.specs.declared.instr.Instr.TheVariants as instr;
-ghost use Rattle.ppm_translation.specs.Layout.{register as register_of};
+ghost use Rattle.ppm_cut_code.specs.Layout.{register as register_of};
 ghost use Rattle.ppm_tree.specs.Tree.{expression_of};
-ghost use Rattle.ppm_translation.specs.Expressions.{size_of, truth_code, operator_code, right_register, branch_code, expression_code};
+ghost use Rattle.ppm_cut_code.specs.Expressions.{size_of, truth_code, operator_code, right_register, branch_code, expression_code};
 ghost use Rattle.ppm_cut.specs.Counts.{count_limit};
 ghost use Rattle.ppm_cut.specs.Growth.{Grows};
 

@@ -1,8 +1,8 @@
 //! Whether a name is one of those of outside that a block names.
 ghost use Rattle.std.specs.Prelude.{◌≡◌, [], ◌∷◌, map};
 ghost use Rattle.ppm_tree.specs.Tree.{expression_of, statement_of, block_of};
-ghost use Rattle.ppm_bounds.specs.Names.{used_by, lets_of, without, free_within, free_names};
-ghost use Rattle.ppm_bounds.specs.Catching.{has, names_in, names_of_target};
+ghost use Rattle.ppm_cut_bounds.specs.Names.{used_by, lets_of, without, free_within, free_names};
+ghost use Rattle.ppm_cut_bounds.specs.Catching.{has, names_in, names_of_target};
 
 use ppm_tree::{Argument, Expr, Named, Side, Stmt};
 use ppm_words::Name;

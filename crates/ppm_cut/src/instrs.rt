@@ -2,7 +2,7 @@
 ghost use Rattle.std.specs.Prelude.{◌≡◌, ◌∷◌, OnOk};
 ghost use Rattle.ppm_code.specs.declared.act.End.TheVariants as ends;
 ghost use Rattle.ppm_code.specs.declared.instr.Instr.TheVariants as instr;
-ghost use Rattle.ppm_translation.specs.Layout.{register as register_of};
+ghost use Rattle.ppm_cut_code.specs.Layout.{register as register_of};
 ghost use Rattle.ppm_cut.specs.Growth.{Grows};
 
 use crate::register::register;

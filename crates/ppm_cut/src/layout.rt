@@ -1,8 +1,8 @@
 //! The names that have slots.
 ghost use Rattle.std.specs.Prelude.{◌≡◌, ◌≤◌, ◌*◌, [], ◌∷◌, ◌++◌, length, take, IfOk, OnOk};
 ghost use Rattle.ppm_tree.specs.Tree.{statement_of, block_of};
-ghost use Rattle.ppm_translation.specs.Layout.{slot_of, target_of, parameter_layout, caught};
-ghost use Rattle.ppm_translation.specs.Statements.{with_lets};
+ghost use Rattle.ppm_cut_code.specs.Layout.{slot_of, target_of, parameter_layout, caught};
+ghost use Rattle.ppm_cut_code.specs.Statements.{with_lets};
 ghost use Rattle.ppm_cut.specs.Counts.{count_limit};
 
 use crate::free::is_free;

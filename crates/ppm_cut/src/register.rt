@@ -1,6 +1,6 @@
 //! Registers by their numbers.
 ghost use Rattle.std.specs.Prelude.{◌≡◌, ◌≤◌, suc};
-ghost use Rattle.ppm_translation.specs.Layout.{register};
+ghost use Rattle.ppm_cut_code.specs.Layout.{register};
 
 use ppm_code::Register;
 

@@ -1,8 +1,8 @@
 //! The capsules of statements that call nothing.
 ghost use Rattle.std.specs.Prelude.{◌≡◌, ◌≤◌, ◌*◌, length, IfOk};
 ghost use Rattle.ppm_tree.specs.Tree.{expression_of, give_of};
-ghost use Rattle.ppm_translation.specs.Expressions.{size_of};
-ghost use Rattle.ppm_translation.specs.Statements.{onward, value_code, move_code, element_code, put_code, test_code, split_code, give_code};
+ghost use Rattle.ppm_cut_code.specs.Expressions.{size_of};
+ghost use Rattle.ppm_cut_code.specs.Statements.{onward, value_code, move_code, element_code, put_code, test_code, split_code, give_code};
 ghost use Rattle.ppm_cut.specs.Counts.{count_limit, size_limit, IsShortGive};
 
 use crate::expression::push_expression;

@@ -2,8 +2,8 @@
 ghost use Rattle.std.specs.Prelude.{◌≡◌, ◌≤◌, length};
 ghost use Rattle.std.specs.List.{AllByRecursion};
 ghost use Rattle.ppm_tree.specs.Tree.{expression_of};
-ghost use Rattle.ppm_translation.specs.Expressions.{last_size, branch_size, size_of};
-ghost use Rattle.ppm_translation.specs.Statements.{argument_size, arguments_size, paired};
+ghost use Rattle.ppm_cut_code.specs.Expressions.{last_size, branch_size, size_of};
+ghost use Rattle.ppm_cut_code.specs.Statements.{argument_size, arguments_size, paired};
 ghost use Rattle.ppm_cut.specs.Counts.{count_limit, size_limit, arguments_of};
 
 use ppm_tree::{Argument, Expr, Mode, Operator, Parameter};

@@ -8,8 +8,8 @@ use Rattle.ppm_tree.specs.Correct.{SpendTheirTurns}
 use Rattle.ppm_answers.specs.declared.refusal.Refusal.{Refusal}
 use Rattle.ppm_answers.specs.declared.answer.Answer.{Answer}
 use Rattle.ppm_answers.specs.declared.answer.Answer.TheVariants as answers
-use Rattle.ppm_judging.specs.Refusals.{IsRefusal}
-use Rattle.ppm_judging.specs.Correct.{HaveOneAnswer}
+use Rattle.ppm_program.specs.Refusals.{IsRefusal}
+use Rattle.ppm_program.specs.Correct.{HaveOneAnswer}
 use Rattle.ppm_interpreting.specs.Outcomes.{ComesTo, SerialHas}
 
 module _ (texts : HaveOneAnswer) (spends : SpendTheirTurns) (turns : ℕ) where

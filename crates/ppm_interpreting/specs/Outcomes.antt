@@ -6,8 +6,8 @@ use Rattle.ppm_tree.specs.Tree.{ProgramTree}
 use Rattle.ppm_tree.specs.Program.{Serial}
 use Rattle.ppm_answers.specs.declared.answer.Answer.{Answer}
 use Rattle.ppm_answers.specs.declared.answer.Answer.TheVariants as answers
-use Rattle.ppm_judging.specs.Programs.{HasProgram}
-use Rattle.ppm_judging.specs.Refusals.{IsRefusal}
+use Rattle.ppm_program.specs.Programs.{HasProgram}
+use Rattle.ppm_program.specs.Refusals.{IsRefusal}
 
 -- the text has a program, and by the serial meaning this is its outcome within so many turns
 pub record ComesTo (turns : ℕ) (text : List ℕ) (o : Outcome) : Type 0 where

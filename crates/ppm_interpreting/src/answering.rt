@@ -6,7 +6,7 @@ ghost use Rattle.ppm_interpreting.specs.Outcomes.{SerialHas};
 ghost use Rattle.ppm_interpreting.specs.Answering.{TreeMay};
 
 use ppm_answers::Answer;
-use ppm_judging::{JudgeError, program_of};
+use ppm_program::{JudgeError, program_of};
 use ppm_serial::serial;
 use ppm_tree::Program;
 use ppm_words::{NoMemory, Outcome};

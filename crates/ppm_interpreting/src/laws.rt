@@ -1,7 +1,7 @@
 //! That a text has one answer at most, shown by a call that does nothing.
 ghost use Rattle.ppm_interpreting.specs.Correct.{HaveOneAnswer};
 
-use ppm_judging::have_one_answer as have_one_program;
+use ppm_program::have_one_answer as have_one_program;
 use ppm_tree::spend_their_turns;
 
 /// A text has one answer at most within a number of turns; and one that is too long is refused as its front is.

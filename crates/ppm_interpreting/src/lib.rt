@@ -2,7 +2,7 @@
 //! Model: a text has an answer (`specs/Outcomes`): the outcome of its program within these turns, or its refusal.
 //! Contract: `serial_command` delivers the answer that the text has which was read, or says that a port failed or memory
 //! was refused (`specs/Causes`); what follows from each status is in `specs/Rows`.
-//! Stands on `ppm_judging`, `ppm_serial`, `ppm_ports` and `ppm_answers`; `ppm_top` calls it.
+//! Stands on `ppm_program`, `ppm_serial`, `ppm_ports` and `ppm_answers`; `ppm_top` calls it.
 //! The command and its answers are this project's.
 #![tactic(auto)]
 

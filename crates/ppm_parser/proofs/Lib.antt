@@ -7,5 +7,4 @@ pub mod Calls
 pub mod Parameters
 pub mod Declarations
 pub mod Programs
-pub mod Rows
 pub mod Statements

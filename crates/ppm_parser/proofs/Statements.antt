@@ -40,7 +40,7 @@ use Rattle.ppm_parser.proofs.Reading.{then_reads, then_fails, front_fails, of_sa
 use Rattle.ppm_parser.proofs.Reading.{row_reads, row_fails, row_many, corner_reads, corner_fails, NoOther, other_reads, other_fails, past_reads, open_reads, open_fails}
 use Rattle.ppm_parser.proofs.Reading.{named_is, after_statement}
 use Rattle.ppm_parser.proofs.Declarations.{part_misses}
-use Rattle.ppm_parser.proofs.Rows as rows_of
+use Rattle.ppm_tree.proofs.Blocks as rows_of
 
 -- a local
 module _ {depth : ℕ} {room : Room} {ts behind after : List Token} {x : Named} {place : ℕ} (g : HasName ts x behind) (h : HasAt (Mark s.Assign) behind place after) where

@@ -2,7 +2,7 @@
 //! Model: the rows of the grammar (`ppm_rows`); a function reads the items of a row from what may still come
 //! (`specs/Room`), or stops with a fault (`specs/Parsing`).
 //! Contract: `parse` answers the one tree of the tokens within the limits, or their one fault (`specs/Faults`).
-//! Stands on `ppm_rows`, `ppm_tree` and `ppm_text`; `ppm_judging` calls it.
+//! Stands on `ppm_rows`, `ppm_tree` and `ppm_text`; `ppm_program` calls it.
 //! Recursive descent by one token of look-ahead, after Lewis and Stearns; the faults and limits are this project's.
 #![tactic(auto)]
 

@@ -5,7 +5,6 @@ pub mod UseLemmas
 pub mod CallLemmas
 pub mod Loops
 pub mod Arguments
-pub mod Rows
 pub mod Elements
 pub mod MainLemmas
 pub mod Faultless

@@ -3,7 +3,7 @@
 //! `specs/Scope.antt`); a fault is what is wrong with a use (`specs/Faults.antt`).
 //! Contract: `admit` answers the same program, which has no fault, or its fault of the least number, at the first line
 //! (`specs/Admission.antt`).
-//! Stands on `ppm_tree` and `ppm_words`; `ppm_judging` calls it, and the compiler stands on it.
+//! Stands on `ppm_tree` and `ppm_words`; `ppm_program` calls it, and the compiler stands on it.
 //! Scopes are those of block structure; that a region is written in one place at a time is after Rust's borrows; the rules
 //! are this project's.
 #![tactic(auto)]

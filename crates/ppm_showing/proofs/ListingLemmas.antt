@@ -9,8 +9,8 @@ use Rattle.ppm_listing.specs.Listing.{listing_of}
 use Rattle.ppm_listing.specs.Correct.{NumbersFit}
 use Rattle.ppm_tree.specs.Tree.{ProgramTree}
 use Rattle.ppm_regions.specs.Admission.{IsAdmitted}
-use Rattle.ppm_translation.specs.Routines.{code_of}
-use Rattle.ppm_soundness.specs.Correct.{MayBeStopped}
+use Rattle.ppm_cut_code.specs.Routines.{code_of}
+use Rattle.ppm_cut_sound.specs.Correct.{MayBeStopped}
 use Rattle.ppm_showing.specs.Verdict.{IsOfFreeCode}
 
 module _ (law : MayBeStopped) (t : ProgramTree) (admitted : IsAdmitted t) (code : CodeParts) (is : code ≡ code_of t) (rules : IsCode code) where

@@ -3,13 +3,13 @@ use Rattle.std.proofs.Common.{◌≡◌, ◌⊎◌, ◌<◌, ℕ, List, ◌++◌
 use Rattle.ppm_text.specs.Limits.{text_limit}
 use Rattle.ppm_tree.specs.Tree.{ProgramTree}
 use Rattle.ppm_listing.specs.Listing.{listing_of}
-use Rattle.ppm_translation.specs.Routines.{code_of}
+use Rattle.ppm_cut_code.specs.Routines.{code_of}
 use Rattle.ppm_answers.specs.declared.refusal.Refusal.{Refusal}
 use Rattle.ppm_answers.specs.declared.answer.Answer.{Answer}
 use Rattle.ppm_answers.specs.declared.answer.Answer.TheVariants as answers
-use Rattle.ppm_judging.specs.Programs.{HasProgram}
-use Rattle.ppm_judging.specs.Refusals.{IsRefusal}
-use Rattle.ppm_judging.specs.Correct.{HaveOneAnswer as TextsHaveOneProgram}
+use Rattle.ppm_program.specs.Programs.{HasProgram}
+use Rattle.ppm_program.specs.Refusals.{IsRefusal}
+use Rattle.ppm_program.specs.Correct.{HaveOneAnswer as TextsHaveOneProgram}
 use Rattle.ppm_showing.specs.Verdict.{HasListing, CodeHas}
 use Rattle.ppm_showing.specs.Correct.{HaveOneAnswer}
 

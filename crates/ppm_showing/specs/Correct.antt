@@ -3,7 +3,7 @@ use Rattle.std.specs.Prelude.{◌≡◌, ℕ, ◌<◌, List, ◌++◌, length}
 use Rattle.ppm_text.specs.Limits.{text_limit}
 use Rattle.ppm_answers.specs.declared.refusal.Refusal.{Refusal}
 use Rattle.ppm_answers.specs.declared.answer.Answer.{Answer}
-use Rattle.ppm_judging.specs.Refusals.{IsRefusal}
+use Rattle.ppm_program.specs.Refusals.{IsRefusal}
 use Rattle.ppm_showing.specs.Verdict.{CodeHas}
 
 -- Two answers of a text are one, and a text that is not refused has one. What stands behind more bytes than a text may have changes none.

@@ -7,9 +7,9 @@ use Rattle.ppm_code.specs.Strands.{instrs_of}
 use Rattle.ppm_listing.specs.Listing.{listing_of}
 use Rattle.ppm_listing.specs.Correct.{NumbersFit}
 use Rattle.ppm_tree.specs.Tree.{ProgramTree}
-use Rattle.ppm_translation.specs.Routines.{code_of}
-use Rattle.ppm_judging.specs.Programs.{HasProgram}
-use Rattle.ppm_judging.specs.Refusals.{IsRefusal}
+use Rattle.ppm_cut_code.specs.Routines.{code_of}
+use Rattle.ppm_program.specs.Programs.{HasProgram}
+use Rattle.ppm_program.specs.Refusals.{IsRefusal}
 use Rattle.ppm_answers.specs.declared.answer.Answer.{Answer}
 use Rattle.ppm_answers.specs.declared.answer.Answer.TheVariants as answers
 

@@ -2,7 +2,7 @@
 //! Model: a text has an answer (`specs/Verdict`): the listing of its program's code, or its one refusal.
 //! Contract: `code_command` delivers the answer that the text has which was read, or says that a port failed or memory was
 //! refused (`specs/Causes`); what follows from each status, and that `check` accepts what is written, is in `specs/Rows`.
-//! Stands on `ppm_judging`, `ppm_cut`, `ppm_soundness`, `ppm_listing`, `ppm_ports` and `ppm_answers`; `ppm_top` calls it.
+//! Stands on `ppm_program`, `ppm_cut`, `ppm_cut_sound`, `ppm_listing`, `ppm_ports` and `ppm_answers`; `ppm_top` calls it.
 //! The command and its answers are this project's.
 #![tactic(auto)]
 

@@ -1,18 +1,18 @@
 //! What `code` says of a text.
 ghost use Rattle.std.specs.Prelude.{◌≡◌, IfOk};
 ghost use Rattle.ppm_tree.specs.Tree.{tree_of};
-ghost use Rattle.ppm_bounds.specs.Bounds.{IsWithinBounds};
+ghost use Rattle.ppm_cut_bounds.specs.Bounds.{IsWithinBounds};
 ghost use Rattle.ppm_answers.specs.Reading.{TextMay};
 ghost use Rattle.ppm_listing.specs.Listing.{listing_of as listing_in};
-ghost use Rattle.ppm_translation.specs.Routines.{code_of};
+ghost use Rattle.ppm_cut_code.specs.Routines.{code_of};
 ghost use Rattle.ppm_showing.specs.Verdict.{CodeHas, ProgramMay, IsOfFreeCode, IsListed};
 
 use ppm_answers::Answer;
 use ppm_cut::cut;
-use ppm_judging::{JudgeError, program_of};
+use ppm_cut_sound::may_be_stopped;
 use ppm_listing::write_listing;
+use ppm_program::{JudgeError, program_of};
 use ppm_regions::Admitted;
-use ppm_soundness::may_be_stopped;
 use ppm_words::{Items, NoMemory};
 use std::alloc::Global;
 

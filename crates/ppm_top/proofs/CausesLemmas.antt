@@ -2,22 +2,22 @@
 use Rattle.std.proofs.Common.{◌≡◌, ℕ, List, Option, Some, None, sym, subst}
 use Rattle.ppm_ports.specs.Outside.{Outside}
 use Rattle.ppm_text.specs.Limits.{text_limit}
-use Rattle.ppm_reading.specs.Limits.{text_limit as listing_limit}
+use Rattle.ppm_listing_reader.specs.Limits.{text_limit as listing_limit}
 use Rattle.ppm_answers.specs.declared.answer.Answer.TheVariants as answers
 use Rattle.ppm_answers.specs.declared.status.Status.{Status}
 use Rattle.ppm_answers.specs.Reading.{IsUnread, Answers}
 use Rattle.ppm_answers.proofs.Judged as judged
-use Rattle.ppm_line.specs.declared.command.Command.{Command}
-use Rattle.ppm_line.specs.declared.command.Command.TheVariants as commands
+use Rattle.ppm_cli.specs.declared.command.Command.{Command}
+use Rattle.ppm_cli.specs.declared.command.Command.TheVariants as commands
 use Rattle.ppm_checking.specs.Verdict.{CheckHas}
 use Rattle.ppm_interpreting.specs.Outcomes.{SerialHas}
 use Rattle.ppm_showing.specs.Verdict.{CodeHas}
-use Rattle.ppm_line.specs.Words.{command_of}
+use Rattle.ppm_cli.specs.Words.{command_of}
 use Rattle.ppm_top.specs.Causes.{CommandMay, IsAnswered}
 use Rattle.ppm_plan.specs.Forms.{plan_form, schedule_form}
-use Rattle.ppm_running.specs.Replays.{TextHas as ReplayTextHas}
-use Rattle.ppm_running.specs.Runs.{TextHas as RunTextHas}
-use Rattle.ppm_running.proofs.PlannedLemmas as planned
+use Rattle.ppm_driver.specs.Replays.{TextHas as ReplayTextHas}
+use Rattle.ppm_driver.specs.Runs.{TextHas as RunTextHas}
+use Rattle.ppm_driver.proofs.PlannedLemmas as planned
 
 -- where nothing was read, out of memory may be the answer, whatever the command is
 pub memory_before : (command : Option Command) (o : Outside) → IsUnread o.source → CommandMay command o answers.NoMemory

@@ -4,19 +4,19 @@ use Rattle.std.proofs.Common.{refl, sym, ◌∙◌, subst, inl, inr}
 use Rattle.ppm_ports.specs.Ports.{Fails, Holds}
 use Rattle.ppm_ports.specs.Outside.{Outside}
 use Rattle.ppm_text.specs.Limits.{text_limit}
-use Rattle.ppm_reading.specs.Limits.{text_limit as listing_limit}
+use Rattle.ppm_listing_reader.specs.Limits.{text_limit as listing_limit}
 use Rattle.ppm_answers.specs.declared.answer.Answer.{Answer}
 use Rattle.ppm_answers.specs.declared.answer.Answer.TheVariants as answers
 use Rattle.ppm_answers.specs.declared.status.Status.{Status}
 use Rattle.ppm_answers.specs.declared.status.Status.TheVariants as statuses
 use Rattle.ppm_answers.specs.Statuses.{status_of}
 use Rattle.ppm_answers.specs.Delivery.{IsWritten}
-use Rattle.ppm_line.specs.declared.command.Command.{Command}
-use Rattle.ppm_line.specs.declared.command.Command.TheVariants as commands
-use Rattle.ppm_line.specs.declared.replay.ReplayOptions.{ReplayOptions}
-use Rattle.ppm_line.specs.declared.run.RunOptions.{RunOptions}
-use Rattle.ppm_line.specs.Words.{command_of}
-use Rattle.ppm_line.proofs.RangeLemmas.{run_is_in_range}
+use Rattle.ppm_cli.specs.declared.command.Command.{Command}
+use Rattle.ppm_cli.specs.declared.command.Command.TheVariants as commands
+use Rattle.ppm_cli.specs.declared.replay.ReplayOptions.{ReplayOptions}
+use Rattle.ppm_cli.specs.declared.run.RunOptions.{RunOptions}
+use Rattle.ppm_cli.specs.Words.{command_of}
+use Rattle.ppm_cli.proofs.RangeLemmas.{run_is_in_range}
 use Rattle.ppm_checking.specs.Verdict.{CheckHas}
 use Rattle.ppm_checking.specs.Correct.{HaveOneAnswer as ListingsHaveOneAnswer}
 use Rattle.ppm_checking.proofs.OfCheck.{check_rows}
@@ -25,14 +25,14 @@ use Rattle.ppm_interpreting.specs.Correct.{HaveOneAnswer as ProgramsHaveOneAnswe
 use Rattle.ppm_interpreting.proofs.OfSerial.{serial_rows}
 use Rattle.ppm_plan.specs.Correct.{HaveOneAnswer as PlansHaveOneAnswer}
 use Rattle.ppm_plan.specs.Forms.{Form, plan_form, schedule_form}
-use Rattle.ppm_running.specs.Planned.{PlannedMay}
-use Rattle.ppm_running.specs.ReplayRows.{RefusesSchedule}
-use Rattle.ppm_running.specs.Replays.{TextHas as ReplayTextHas, HaveOneAnswer as ReplaysHaveOneAnswer}
-use Rattle.ppm_running.specs.RunRows.{RefusesPlan}
-use Rattle.ppm_running.specs.Runs.{TextHas as RunTextHas, AnswersAreOne}
-use Rattle.ppm_running.proofs.OfReplay as of_replay
-use Rattle.ppm_running.proofs.OfRun as of_run
-use Rattle.ppm_running.proofs.PlannedLemmas as planned
+use Rattle.ppm_driver.specs.Planned.{PlannedMay}
+use Rattle.ppm_driver.specs.ReplayRows.{RefusesSchedule}
+use Rattle.ppm_driver.specs.Replays.{TextHas as ReplayTextHas, HaveOneAnswer as ReplaysHaveOneAnswer}
+use Rattle.ppm_driver.specs.RunRows.{RefusesPlan}
+use Rattle.ppm_driver.specs.Runs.{TextHas as RunTextHas, AnswersAreOne}
+use Rattle.ppm_driver.proofs.OfReplay as of_replay
+use Rattle.ppm_driver.proofs.OfRun as of_run
+use Rattle.ppm_driver.proofs.PlannedLemmas as planned
 use Rattle.ppm_showing.specs.Verdict.{CodeHas}
 use Rattle.ppm_showing.specs.Causes.{CodeMay}
 use Rattle.ppm_showing.specs.Correct.{HaveOneAnswer as CodesHaveOneAnswer}

@@ -5,13 +5,13 @@ use Rattle.ppm_answers.specs.declared.answer.Answer.{Answer}
 use Rattle.ppm_answers.specs.declared.answer.Answer.TheVariants as answers
 use Rattle.ppm_answers.specs.declared.status.Status.{Status}
 use Rattle.ppm_answers.specs.Reading.{IsUnread, Answers}
-use Rattle.ppm_line.specs.declared.command.Command.{Command}
-use Rattle.ppm_line.specs.declared.command.Command.TheVariants as commands
-use Rattle.ppm_line.specs.Words.{command_of}
+use Rattle.ppm_cli.specs.declared.command.Command.{Command}
+use Rattle.ppm_cli.specs.declared.command.Command.TheVariants as commands
+use Rattle.ppm_cli.specs.Words.{command_of}
 use Rattle.ppm_checking.specs.Causes.{CheckMay}
 use Rattle.ppm_interpreting.specs.Causes.{SerialMay}
-use Rattle.ppm_running.specs.Replays.{ReplayMay}
-use Rattle.ppm_running.specs.Runs.{RunMay}
+use Rattle.ppm_driver.specs.Replays.{ReplayMay}
+use Rattle.ppm_driver.specs.Runs.{RunMay}
 use Rattle.ppm_showing.specs.Causes.{CodeMay}
 
 -- the answers where the words give no command

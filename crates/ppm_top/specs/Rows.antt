@@ -8,17 +8,17 @@ use Rattle.ppm_answers.specs.declared.status.Status.{Status}
 use Rattle.ppm_answers.specs.declared.status.Status.TheVariants as statuses
 use Rattle.ppm_answers.specs.Reading.{IsUnread}
 use Rattle.ppm_answers.specs.Rows.{IsOneOf}
-use Rattle.ppm_line.specs.declared.command.Command.TheVariants as commands
-use Rattle.ppm_line.specs.declared.command.SerialOptions.{SerialOptions}
-use Rattle.ppm_line.specs.declared.replay.ReplayOptions.{ReplayOptions}
-use Rattle.ppm_line.specs.declared.run.RunOptions.{RunOptions}
-use Rattle.ppm_line.specs.Words.{command_of}
+use Rattle.ppm_cli.specs.declared.command.Command.TheVariants as commands
+use Rattle.ppm_cli.specs.declared.command.SerialOptions.{SerialOptions}
+use Rattle.ppm_cli.specs.declared.replay.ReplayOptions.{ReplayOptions}
+use Rattle.ppm_cli.specs.declared.run.RunOptions.{RunOptions}
+use Rattle.ppm_cli.specs.Words.{command_of}
 use Rattle.ppm_checking.specs.Verdict.{CheckHas}
 use Rattle.ppm_checking.specs.Rows.{CheckRows}
 use Rattle.ppm_interpreting.specs.Rows.{SerialRows}
 use Rattle.ppm_showing.specs.Rows.{CodeRows}
-use Rattle.ppm_running.specs.ReplayRows.{RefusesSchedule, ReplayRows}
-use Rattle.ppm_running.specs.RunRows.{RefusesPlan, RunRows}
+use Rattle.ppm_driver.specs.ReplayRows.{RefusesSchedule, ReplayRows}
+use Rattle.ppm_driver.specs.RunRows.{RefusesPlan, RunRows}
 
 -- the rows of `run` hold where the words ask for a run, with these options and this plan
 abbrev pub RunsByWords : List (List ℕ) → Outside → Status → Type 0

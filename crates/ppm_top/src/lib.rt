@@ -3,13 +3,13 @@
 //! answers that may come (`specs/Causes`), and an answer is delivered (`ppm_answers`).
 //! Contract: `ppm` delivers an answer that the causes of the command allow which the words give; what follows from each
 //! status is in `specs/Rows`.
-//! Stands on `ppm_line`, on the crates of the commands and on `ppm_answers`; `main` calls it.
+//! Stands on `ppm_cli`, on the crates of the commands and on `ppm_answers`; `main` calls it.
 //! The commands are this project's.
 #![tactic(auto)]
 
 mod top;
 
-pub use ppm_running::WATCHERS;
+pub use ppm_driver::WATCHERS;
 pub use top::ppm;
 
 #[cfg(test)]

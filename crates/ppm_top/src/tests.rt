@@ -1,6 +1,6 @@
 //! The top call over memory: what is written and answered for whole inputs, and where ports fail.
 ghost use Rattle.std.specs.Prelude.{◌≡◌, ◌<◌, IfOk, length};
-ghost use Rattle.ppm_running.specs.Watchers.{watcher_count};
+ghost use Rattle.ppm_driver.specs.Watchers.{watcher_count};
 
 use crate::{WATCHERS, ppm};
 use ppm_answers::Status;

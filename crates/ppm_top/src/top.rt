@@ -3,20 +3,20 @@ ghost use Rattle.std.specs.Prelude.{◌≡◌, length, map};
 ghost use Rattle.std.specs.String.{string_bytes};
 ghost use Rattle.ppm_ports.specs.Ports.{port};
 ghost use Rattle.ppm_ports.specs.Outside.{outside};
-ghost use Rattle.ppm_running.specs.Watchers.{watcher_count};
+ghost use Rattle.ppm_driver.specs.Watchers.{watcher_count};
 ghost use Rattle.ppm_top.specs.Causes.{IsAnswered};
 ghost use Rattle.ppm_top.specs.Rows.{ProgramRows};
 
 use ppm_answers::{Answer, Status, deliver};
 use ppm_checking::{check_command, have_one_answer as listings_have_one_answer};
-use ppm_interpreting::{have_one_answer as programs_have_one_answer, serial_command};
-use ppm_line::{Command, read_words};
-use ppm_plan::have_one_answer as plans_have_one_answer;
-use ppm_ports::{Sink, Source, Watch};
-use ppm_running::{
+use ppm_cli::{Command, read_words};
+use ppm_driver::{
     answers_are_one as runs_have_one_answer, have_one_answer as replays_have_one_answer,
     replay_command, run_command,
 };
+use ppm_interpreting::{have_one_answer as programs_have_one_answer, serial_command};
+use ppm_plan::have_one_answer as plans_have_one_answer;
+use ppm_ports::{Sink, Source, Watch};
 use ppm_showing::{code_command, have_one_answer as codes_have_one_answer};
 use ppm_words::NoMemory;
 use std::alloc::Global;

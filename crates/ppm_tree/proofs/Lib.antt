@@ -1,3 +1,4 @@
+pub mod Blocks
 pub mod OneEnd
 pub mod Spending
 pub mod PlainEnds

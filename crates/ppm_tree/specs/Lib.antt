@@ -1,6 +1,7 @@
 pub mod Tree
 pub mod Parts
 pub mod Limits
+pub mod Lines
 pub mod Values
 pub mod Division
 pub mod State

@@ -1,32 +1,12 @@
 -- The limits on a program, and the form of its names, numbers and lines.
 use Rattle.std.specs.Prelude.{◌≢◌, ℕ, ◌+◌, ◌≤◌, ◌<◌, ℤ, pos, negsuc, List, [], ◌∷◌, length, map, codes}
 use Rattle.std.specs.List.{All, sum}
-pub use Rattle.ppm_words.specs.Limits.{array_limit, word_limit}
+pub use Rattle.ppm_words.specs.Limits.{array_limit, word_limit, depth_limit, procedure_limit, parameter_limit, node_limit, line_limit}
 use Rattle.ppm_words.specs.Limits.{value_bound}
 use Rattle.ppm_words.specs.Names.{IsName}
 use Rattle.ppm_tree.specs.Tree.{Named, Expression, Side, Statement, Give, Parameter, Array, ArrayInput, Procedure, ProgramTree}
 use Rattle.ppm_tree.specs.Parts.{nodes, node_numbers, node_names, node_lines, nodes_of, names_of, lines_of, sides_of, statements_in, block_depth}
 use Rattle.ppm_tree.specs.Parts.{eaches_of, gives_of}
-
--- blocks that are open at a time
-abbrev pub depth_limit : ℕ
-depth_limit = 32
-
--- the procedures of a program, each `each` counted with them
-abbrev pub procedure_limit : ℕ
-procedure_limit = 1024
-
--- the parameters of a procedure, and the arguments of a call
-abbrev pub parameter_limit : ℕ
-parameter_limit = 12
-
--- the nodes in the expressions of one statement
-abbrev pub node_limit : ℕ
-node_limit = 48
-
--- the lines of a text of at most 1,048,576 bytes
-abbrev pub line_limit : ℕ
-line_limit = 1048577
 
 -- the keywords, which are no names
 abbrev pub keywords : List (List ℕ)

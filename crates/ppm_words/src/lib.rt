@@ -6,6 +6,7 @@
 #![tactic(auto)]
 
 mod event;
+mod idle;
 mod input;
 mod items;
 mod limits;
@@ -19,9 +20,13 @@ mod trap;
 mod value;
 
 pub use event::Event;
+pub use idle::Idle;
 pub use input::Input;
 pub use items::Items;
-pub use limits::{ARRAY_LIMIT, NAME_LIMIT, WORD_LIMIT};
+pub use limits::{
+    ARRAY_LIMIT, CAPSULE_LIMIT, DEPTH_LIMIT, ENTRY_LIMIT, NAME_LIMIT, NODE_LIMIT, PARAMETER_LIMIT,
+    PROCEDURE_LIMIT, PROCESSOR_LIMIT, ROOM_LIMIT, TURN_LIMIT, WORD_LIMIT,
+};
 pub use name::Name;
 pub use named_array::NamedArray;
 pub use no_memory::NoMemory;

@@ -1,5 +1,5 @@
 use Rattle.std.proofs.Common.{refl}
-use Rattle.ppm_reading.specs.Limits.{text_limit}
+use Rattle.ppm_listing_reader.specs.Limits.{text_limit}
 use Rattle.ppm_answers.proofs.Judged.{judging_delivered}
 use Rattle.ppm_checking.specs.Verdict.{CheckHas}
 use Rattle.ppm_checking.proofs.OfCheck.{check_rows}

@@ -1,5 +1,5 @@
 use Rattle.std.proofs.Common.{◌<◌, ◌+◌, ◌-◌, ◌++◌, arith, ap, ◌∙◌}
-use Rattle.ppm_translation.specs.Statements.{names_code}
+use Rattle.ppm_cut_code.specs.Statements.{names_code}
 use Rattle.ppm_cut.proofs.Storing.{names_step}
 use Rattle.ppm_cut.proofs.arguments.push_loads.Goals as goal
 

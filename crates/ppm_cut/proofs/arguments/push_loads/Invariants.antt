@@ -1,5 +1,5 @@
 use Rattle.std.proofs.Common.{◌≡◌, ◌++◌, ◌+◌}
-use Rattle.ppm_translation.specs.Statements.{Instrs, names_code}
+use Rattle.ppm_cut_code.specs.Statements.{Instrs, names_code}
 use Rattle.ppm_cut.proofs.arguments.push_loads.Given as goal
 
 -- what was appended, and what is left

@@ -1,5 +1,5 @@
 use Rattle.std.proofs.Common.{◌<◌, ◌+◌, ◌-◌, ◌++◌, arith, ap, ◌∙◌}
-use Rattle.ppm_translation.specs.Statements.{stores_code}
+use Rattle.ppm_cut_code.specs.Statements.{stores_code}
 use Rattle.ppm_cut.proofs.Storing.{stores_step}
 use Rattle.ppm_cut.proofs.arguments.push_stores.Goals as goal
 

@@ -1,11 +1,11 @@
 use Rattle.std.proofs.Common.{◌+◌, ◌++◌, [], ◌∷◌, refl, sym, ap, subst, ◌∙◌, arith, drop, map, length, append_assoc, length-append}
 use Rattle.std.proofs.lemmas.Result.{on_ok_weaker}
 use Rattle.ppm_tree.specs.Tree.{expression_of, statement_of, block_of, procedure_of}
-use Rattle.ppm_translation.specs.Numbers.{end_of, hidden_behind_block, hidden_behind, behind}
-use Rattle.ppm_translation.specs.Statements.{with_lets}
+use Rattle.ppm_cut_code.specs.Numbers.{end_of, hidden_behind_block, hidden_behind, behind}
+use Rattle.ppm_cut_code.specs.Statements.{with_lets}
 use Rattle.ppm_cut.specs.Counts.{own_count, own_count_in, hidden_count, hidden_count_in, IsShort, IsShortBlock}
 use Rattle.ppm_cut.specs.Growth.{last_of}
-use Rattle.ppm_bounds.proofs.Blocks.{block_ahead}
+use Rattle.ppm_cut_bounds.proofs.Blocks.{block_ahead}
 use Rattle.ppm_cut.proofs.Stmts.{if_is, while_is, split_is, each_is}
 use Rattle.ppm_cut.proofs.Bodies.{if_code, while_code, split_code_is, each_code_is, body_step, Extends, rest_of, extends_lets, lets_few}
 use Rattle.ppm_cut.proofs.body.+body.Goals as goal

@@ -1,7 +1,7 @@
 use Rattle.std.proofs.Common.{refl, ap, arith}
-use Rattle.ppm_translation.specs.Numbers.{behind}
+use Rattle.ppm_cut_code.specs.Numbers.{behind}
 use Rattle.ppm_cut.specs.Counts.{own_count, own_count_in, hidden_count, hidden_count_in}
-use Rattle.ppm_bounds.proofs.Blocks.{block_ahead}
+use Rattle.ppm_cut_bounds.proofs.Blocks.{block_ahead}
 use Rattle.ppm_cut.proofs.Stmts.{if_is, while_is, split_is}
 use Rattle.ppm_cut.proofs.counts.+capsules.Goals as goal
 

@@ -1,7 +1,7 @@
 use Rattle.std.proofs.Common.{◌≡◌, ◌≤◌, ◌+◌, ◌*◌, suc, drop}
 use Rattle.ppm_tree.specs.Tree.{statement_of, block_of}
 use Rattle.ppm_cut.specs.Counts.{own_count, own_count_in, hidden_count, hidden_count_in}
-use Rattle.ppm_translation.specs.Numbers.{end_of}
+use Rattle.ppm_cut_code.specs.Numbers.{end_of}
 use Rattle.ppm_cut.proofs.counts.+capsules.Given as goal
 
 -- the number behind the statements so far, and what those behind count

@@ -2,9 +2,9 @@ use Rattle.std.proofs.Common.{◌≤◌, ◌+◌, length, ap, sym, subst, ◌∙
 use Rattle.std.specs.List.{AllByRecursion}
 use Rattle.ppm_tree.specs.Tree.{procedure_of, tree_of}
 use Rattle.ppm_code.specs.Code.{IsCode}
-use Rattle.ppm_translation.specs.Routines.{code_of}
-use Rattle.ppm_translation.proofs.FitsLemmas.{names_have_slots}
-use Rattle.ppm_translation.proofs.KeepLemmas.{rules_kept}
+use Rattle.ppm_cut_code.specs.Routines.{code_of}
+use Rattle.ppm_cut_code.proofs.FitsLemmas.{names_have_slots}
+use Rattle.ppm_cut_code.proofs.KeepLemmas.{rules_kept}
 use Rattle.ppm_cut.specs.Counts.{own_counts, hidden_counts, IsShortProcedure, IsSmallProcedure}
 use Rattle.ppm_cut.proofs.Limits.{short_procedures, small_procedures, few_counts, few_procedures}
 use Rattle.ppm_cut.proofs.cutting.cut.Goals as goal

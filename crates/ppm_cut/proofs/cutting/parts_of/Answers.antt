@@ -4,8 +4,8 @@ use Rattle.std.specs.List.{AllByRecursion}
 use Rattle.ppm_tree.specs.Tree.{procedure_of, tree_of}
 use Rattle.ppm_tree.specs.State.{procedure_named}
 use Rattle.ppm_tree.specs.Program.{whole_from}
-use Rattle.ppm_translation.specs.Statements.{number_of}
-use Rattle.ppm_translation.specs.Routines.{texts_from, hidden_from}
+use Rattle.ppm_cut_code.specs.Statements.{number_of}
+use Rattle.ppm_cut_code.specs.Routines.{texts_from, hidden_from}
 use Rattle.ppm_cut.specs.Drafts.{Drafts}
 use Rattle.ppm_cut.proofs.Drafting.{drafts_count}
 use Rattle.ppm_cut.proofs.Texts.{few_parameters, texts_length, parts_are}

@@ -1,7 +1,7 @@
 use Rattle.std.proofs.Common.{◌≡◌, ◌≤◌, ◌+◌, drop, length, map}
 use Rattle.std.specs.List.{AllByRecursion}
 use Rattle.ppm_tree.specs.Tree.{procedure_of}
-use Rattle.ppm_translation.specs.Routines.{hidden_from}
+use Rattle.ppm_cut_code.specs.Routines.{hidden_from}
 use Rattle.ppm_cut.specs.Counts.{own_counts, hidden_counts, IsShortProcedure}
 use Rattle.ppm_cut.proofs.Texts.{Left}
 use Rattle.ppm_cut.proofs.cutting.push_hiddens.Given as goal

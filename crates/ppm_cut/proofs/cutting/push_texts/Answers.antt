@@ -1,9 +1,9 @@
 use Rattle.std.proofs.Common.{◌+◌, [], ◌∷◌, drop, length, map, ap, sym, subst, ◌∙◌, arith}
 use Rattle.std.specs.List.{AllByRecursion}
 use Rattle.ppm_tree.specs.Tree.{block_of, procedure_of}
-use Rattle.ppm_bounds.proofs.Blocks.{ahead}
-use Rattle.ppm_translation.specs.Numbers.{hidden_behind_block}
-use Rattle.ppm_translation.specs.Routines.{OfText, texts_from}
+use Rattle.ppm_cut_bounds.proofs.Blocks.{ahead}
+use Rattle.ppm_cut_code.specs.Numbers.{hidden_behind_block}
+use Rattle.ppm_cut_code.specs.Routines.{OfText, texts_from}
 use Rattle.ppm_cut.specs.Counts.{own_counts, hidden_count_in, hidden_counts, IsShortProcedure}
 use Rattle.ppm_cut.proofs.Drafting.{drafts_count}
 use Rattle.ppm_cut.proofs.Texts.{Left, fewer_left}

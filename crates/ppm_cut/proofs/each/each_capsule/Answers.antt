@@ -1,9 +1,9 @@
 use Rattle.std.proofs.Common.{◌≡◌, ◌+◌, ◌++◌, suc, length, arith, ap, ◌∙◌}
 use Rattle.ppm_code.specs.declared.instr.Instr.TheVariants as instr
 use Rattle.ppm_tree.specs.Tree.{block_of}
-use Rattle.ppm_translation.specs.Layout.{caught, register}
-use Rattle.ppm_translation.specs.Slots.{frame_words, hidden_slots}
-use Rattle.ppm_translation.specs.Statements.{loads_code, stores_code}
+use Rattle.ppm_cut_code.specs.Layout.{caught, register}
+use Rattle.ppm_cut_code.specs.Slots.{frame_words, hidden_slots}
+use Rattle.ppm_cut_code.specs.Statements.{loads_code, stores_code}
 use Rattle.ppm_cut.proofs.Growing.{then, made, at_number, at_place}
 use Rattle.ppm_cut.proofs.Slotting.{caught_few}
 use Rattle.ppm_cut.proofs.each.each_capsule.Goals as goal

@@ -3,7 +3,7 @@ use Rattle.ppm_code.specs.declared.act.End.TheVariants as ends
 use Rattle.ppm_code.specs.declared.instr.Instr.TheVariants as instr
 use Rattle.ppm_cut.proofs.Growing.{then, made, at_number, at_place}
 use Rattle.std.specs.Prelude.{None}
-use Rattle.ppm_translation.specs.Slots.{frame_words}
+use Rattle.ppm_cut_code.specs.Slots.{frame_words}
 use Rattle.ppm_cut.specs.Growth.{half_code}
 use Rattle.ppm_cut.proofs.each.halving_capsule.Goals as goal
 

@@ -1,5 +1,5 @@
 use Rattle.std.proofs.Common.{◌≡◌, ◌++◌, ◌+◌, drop}
-use Rattle.ppm_translation.specs.Statements.{Instrs, loads_code}
+use Rattle.ppm_cut_code.specs.Statements.{Instrs, loads_code}
 use Rattle.ppm_cut.proofs.each.push_name_loads.Given as goal
 
 -- what was appended, and what is left

@@ -1,8 +1,8 @@
 use Rattle.std.proofs.Common.{refl, ◌+◌, drop, sym, ap, ◌∙◌}
 use Rattle.ppm_tree.specs.Tree.{statement_of, block_of}
-use Rattle.ppm_bounds.specs.Names.{free_names, free_within}
-use Rattle.ppm_bounds.specs.Catching.{has}
-use Rattle.ppm_bounds.proofs.Blocks.{block_ahead}
+use Rattle.ppm_cut_bounds.specs.Names.{free_names, free_within}
+use Rattle.ppm_cut_bounds.specs.Catching.{has}
+use Rattle.ppm_cut_bounds.proofs.Blocks.{block_ahead}
 use Rattle.ppm_cut.proofs.Stmts.{if_is, while_is, split_is, each_is}
 use Rattle.ppm_cut.proofs.Members.{under_first, under_second, under_neither, in_first, in_second, here_let, later}
 use Rattle.ppm_cut.proofs.free.+free.Goals as goal

@@ -1,7 +1,7 @@
 use Rattle.std.proofs.Common.{◌≡◌, drop}
 use Rattle.ppm_tree.specs.Tree.{block_of}
-use Rattle.ppm_bounds.specs.Names.{free_names}
-use Rattle.ppm_bounds.specs.Catching.{has}
+use Rattle.ppm_cut_bounds.specs.Names.{free_names}
+use Rattle.ppm_cut_bounds.specs.Catching.{has}
 use Rattle.ppm_cut.proofs.free.+free.Given as goal
 
 -- the rest names it exactly where the block does

@@ -1,6 +1,6 @@
 use Rattle.std.proofs.Common.{◌≡◌, drop, map}
 use Rattle.ppm_tree.specs.Tree.{expression_of}
-use Rattle.ppm_bounds.specs.Catching.{has, names_in}
+use Rattle.ppm_cut_bounds.specs.Catching.{has, names_in}
 use Rattle.ppm_cut.proofs.free.is_in_arguments.Given as goal
 
 -- the rest names it exactly where the arguments do

@@ -1,8 +1,8 @@
 use Rattle.std.proofs.Common.{◌≡◌, false, [], ◌∷◌, ◌++◌, map, sym, ap, ◌∙◌}
 use Rattle.ppm_tree.specs.Tree.{statement_of, expression_of}
-use Rattle.ppm_bounds.specs.Names.{used_by}
-use Rattle.ppm_bounds.specs.Catching.{has, names_in, names_of_target}
-use Rattle.ppm_bounds.proofs.Used.{used_by_call, used_by_fork, names_in-cons}
+use Rattle.ppm_cut_bounds.specs.Names.{used_by}
+use Rattle.ppm_cut_bounds.specs.Catching.{has, names_in, names_of_target}
+use Rattle.ppm_cut_bounds.proofs.Used.{used_by_call, used_by_fork, names_in-cons}
 use Rattle.ppm_cut.proofs.Members.{in_first, in_second, not_name}
 use Rattle.ppm_cut.proofs.free.is_used.Goals as goal
 

@@ -1,5 +1,5 @@
 use Rattle.std.proofs.Common.{◌≡◌, ◌+◌, suc, arith, ap, ◌∙◌}
-use Rattle.ppm_translation.specs.Layout.{register}
+use Rattle.ppm_cut_code.specs.Layout.{register}
 use Rattle.ppm_cut.proofs.register.register_after.Goals as goal
 
 pub returns : goal.returns

@@ -1,7 +1,7 @@
 use Rattle.std.proofs.Common.{sym, ap, ◌∙◌}
 use Rattle.ppm_cut.proofs.Growing.{then, made}
 use Rattle.ppm_tree.specs.Tree.{give_of}
-use Rattle.ppm_translation.specs.Statements.{give_code}
+use Rattle.ppm_cut_code.specs.Statements.{give_code}
 use Rattle.ppm_cut.proofs.simple.give_capsule.Goals as goal
 
 pub returns-in_ok-push_finish-in-None : goal.returns-in_ok-push_finish-in-None

@@ -1,5 +1,5 @@
 use Rattle.ppm_code.specs.declared.instr.Instr.TheVariants as instr
-use Rattle.ppm_translation.specs.Layout.{register}
+use Rattle.ppm_cut_code.specs.Layout.{register}
 use Rattle.ppm_cut.proofs.Growing.{then, made, at_number}
 use Rattle.ppm_cut.proofs.simple.move_capsule.Goals as goal
 

@@ -1,6 +1,6 @@
 use Rattle.std.proofs.Common.{◌≡◌, ◌+◌, suc, arith}
 use Rattle.ppm_code.specs.declared.instr.Instr.TheVariants as instr
-use Rattle.ppm_translation.specs.Layout.{register}
+use Rattle.ppm_cut_code.specs.Layout.{register}
 use Rattle.ppm_cut.proofs.Growing.{then, made, at_number}
 use Rattle.ppm_cut.proofs.simple.put_capsule.Goals as goal
 

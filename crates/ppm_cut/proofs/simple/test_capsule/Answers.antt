@@ -1,8 +1,8 @@
 use Rattle.std.proofs.Common.{◌≡◌, ◌+◌, suc, arith}
 use Rattle.ppm_code.specs.declared.instr.Instr.TheVariants as instr
 use Rattle.ppm_tree.specs.Tree.{expression_of}
-use Rattle.ppm_translation.specs.Layout.{register}
-use Rattle.ppm_translation.specs.Expressions.{size_of}
+use Rattle.ppm_cut_code.specs.Layout.{register}
+use Rattle.ppm_cut_code.specs.Expressions.{size_of}
 use Rattle.ppm_cut.proofs.Growing.{then, made, at_number}
 use Rattle.ppm_cut.proofs.simple.test_capsule.Goals as goal
 

@@ -1,7 +1,7 @@
 use Rattle.std.proofs.Common.{◌≡◌, ◌≤◌, ◌+◌, ◌*◌, drop}
 use Rattle.std.specs.List.{AllByRecursion}
-use Rattle.ppm_translation.specs.Expressions.{size_of}
-use Rattle.ppm_translation.specs.Statements.{arguments_size}
+use Rattle.ppm_cut_code.specs.Expressions.{size_of}
+use Rattle.ppm_cut_code.specs.Statements.{arguments_size}
 use Rattle.ppm_cut.specs.Counts.{size_limit, arguments_of}
 use Rattle.ppm_cut.proofs.size.arguments_size.Given as goal
 

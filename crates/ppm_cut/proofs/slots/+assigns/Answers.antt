@@ -1,7 +1,7 @@
 use Rattle.std.proofs.Common.{◌∙◌, sym, ap, arith}
 use Rattle.ppm_tree.specs.Tree.{block_of}
-use Rattle.ppm_translation.specs.Slots.{assigns, has_assignment}
-use Rattle.ppm_bounds.proofs.Stmts.{if_is, while_is, split_is}
+use Rattle.ppm_cut_code.specs.Slots.{assigns, has_assignment}
+use Rattle.ppm_cut_bounds.proofs.Stmts.{if_is, while_is, split_is}
 use Rattle.ppm_cut.proofs.slots.+assigns.Goals as goal
 
 -- the block where the test holds assigns

@@ -1,6 +1,6 @@
 use Rattle.std.proofs.Common.{◌≡◌, drop}
 use Rattle.ppm_tree.specs.Tree.{block_of}
-use Rattle.ppm_translation.specs.Slots.{has_assignment}
+use Rattle.ppm_cut_code.specs.Slots.{has_assignment}
 use Rattle.ppm_cut.proofs.slots.+assigns.Given as goal
 
 -- the rest assigns to an element exactly where the block does

@@ -1,7 +1,7 @@
 use Rattle.std.proofs.Common.{◌≡◌, ◌≤◌, ◌+◌, ◌*◌, suc, drop, max}
 use Rattle.ppm_tree.specs.Tree.{statement_of, block_of}
 use Rattle.ppm_cut.specs.Counts.{own_count, own_count_in, hidden_count, hidden_count_in}
-use Rattle.ppm_bounds.specs.Slots.{most_in_force}
+use Rattle.ppm_cut_bounds.specs.Slots.{most_in_force}
 use Rattle.ppm_cut.proofs.slots.+names.Given as goal
 
 -- the most so far, with those of the rest above the names declared so far; and what counts behind

@@ -1,6 +1,6 @@
 use Rattle.std.proofs.Common.{◌≡◌, drop}
 use Rattle.ppm_tree.specs.Tree.{block_of}
-use Rattle.ppm_bounds.specs.Slots.{has_put}
+use Rattle.ppm_cut_bounds.specs.Slots.{has_put}
 use Rattle.ppm_cut.proofs.slots.+puts.Given as goal
 
 -- the rest assigns to an element exactly where the block does

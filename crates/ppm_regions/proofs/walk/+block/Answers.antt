@@ -5,7 +5,7 @@ use Rattle.ppm_regions.specs.Uses.{sites_at, uses_of, sites_within, sites_of_blo
 use Rattle.ppm_regions.specs.Deciding.{IsLeast}
 use Rattle.ppm_regions.proofs.Least.{least_append}
 use Rattle.ppm_regions.proofs.Loops.{loop_step, block_more, behind_next, statement_sites}
-use Rattle.ppm_regions.proofs.Rows.{if_is, while_is, split_is, each_is}
+use Rattle.ppm_tree.proofs.Blocks.{if_is, while_is, split_is, each_is}
 use Rattle.ppm_regions.proofs.walk.+block.Goals as goal
 
 -- the statements so far and one more

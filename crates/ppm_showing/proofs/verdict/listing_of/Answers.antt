@@ -1,6 +1,6 @@
 use Rattle.std.proofs.Common.{ap, ◌∙◌}
 use Rattle.ppm_tree.specs.Tree.{tree_of}
-use Rattle.ppm_translation.specs.Routines.{code_of}
+use Rattle.ppm_cut_code.specs.Routines.{code_of}
 use Rattle.ppm_showing.proofs.ListingLemmas.{free_listing}
 use Rattle.ppm_showing.proofs.verdict.listing_of.Goals as goal
 

@@ -1,7 +1,7 @@
 use Rattle.std.proofs.Common.{Some, None, map, refl}
 use Rattle.std.specs.String.{string_bytes}
 use Rattle.ppm_answers.specs.declared.answer.Answer.TheVariants as answers
-use Rattle.ppm_line.specs.declared.command.Command.TheVariants as commands
+use Rattle.ppm_cli.specs.declared.command.Command.TheVariants as commands
 use Rattle.ppm_answers.proofs.Delivered.{fixed_delivered, left_alone}
 use Rattle.ppm_top.proofs.CausesLemmas.{memory_before, by_command}
 use Rattle.ppm_top.proofs.top.obey.Goals as goal

@@ -2,7 +2,7 @@ use Rattle.std.proofs.Common.{◌≡◌, ◌≤◌, ◌+◌, drop, length, map}
 use Rattle.std.specs.List.{AllByRecursion}
 use Rattle.ppm_tree.specs.Tree.{procedure_of}
 use Rattle.ppm_tree.specs.State.{procedure_named}
-use Rattle.ppm_translation.specs.Statements.{number_of}
+use Rattle.ppm_cut_code.specs.Statements.{number_of}
 use Rattle.ppm_cut.proofs.callees.Callees.find.Given as goal
 
 -- the first one is among those behind

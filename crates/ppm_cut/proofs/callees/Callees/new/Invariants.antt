@@ -1,7 +1,7 @@
 use Rattle.std.proofs.Common.{◌≡◌, ◌++◌, drop, map}
 use Rattle.std.specs.List.{AllByRecursion}
 use Rattle.ppm_tree.specs.Tree.{procedure_of}
-use Rattle.ppm_translation.specs.Slots.{procedure_slots}
+use Rattle.ppm_cut_code.specs.Slots.{procedure_slots}
 use Rattle.ppm_cut.specs.Counts.{IsSmallProcedure}
 use Rattle.ppm_cut.proofs.callees.Callees.new.Given as goal
 

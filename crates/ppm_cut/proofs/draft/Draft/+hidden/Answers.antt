@@ -1,13 +1,13 @@
 use Rattle.std.proofs.Common.{◌≡◌, ◌+◌, ◌++◌, [], ◌∷◌, suc, map, length, drop, refl, sym, ap, subst, ◌∙◌, arith, append_assoc, length-append}
 use Rattle.std.proofs.lemmas.Result.{on_ok_weaker}
 use Rattle.ppm_tree.specs.Tree.{statement_of, block_of, procedure_of}
-use Rattle.ppm_translation.specs.Layout.{caught}
-use Rattle.ppm_translation.specs.Numbers.{hidden_behind_block}
-use Rattle.ppm_translation.specs.Routines.{Hidden, hidden_of, hidden_of_block}
-use Rattle.ppm_translation.specs.Statements.{with_lets}
+use Rattle.ppm_cut_code.specs.Layout.{caught}
+use Rattle.ppm_cut_code.specs.Numbers.{hidden_behind_block}
+use Rattle.ppm_cut_code.specs.Routines.{Hidden, hidden_of, hidden_of_block}
+use Rattle.ppm_cut_code.specs.Statements.{with_lets}
 use Rattle.ppm_cut.specs.Counts.{own_count, own_count_in, hidden_count, hidden_count_in, IsShort, IsShortBlock}
 use Rattle.ppm_cut.specs.Drafts.{Drafts}
-use Rattle.ppm_bounds.proofs.Blocks.{block_ahead}
+use Rattle.ppm_cut_bounds.proofs.Blocks.{block_ahead}
 use Rattle.ppm_cut.proofs.Stmts.{if_is, while_is, split_is, each_is}
 use Rattle.ppm_cut.proofs.Bodies.{Extends, extends_lets, lets_few}
 use Rattle.ppm_cut.proofs.Drafting.{drafts_count, number_behind, number_behind_block, if_drafts, each_drafts, rest_step, caught_few}

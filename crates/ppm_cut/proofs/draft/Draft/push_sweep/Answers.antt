@@ -1,8 +1,8 @@
 use Rattle.std.proofs.Common.{◌≡◌, ◌+◌, ◌-◌, ◌++◌, [], ◌∷◌, suc, map, length, ap, ◌∙◌, arith}
 use Rattle.ppm_tree.specs.Tree.{block_of, procedure_of}
-use Rattle.ppm_translation.specs.Numbers.{end_of}
-use Rattle.ppm_translation.specs.Slots.{hidden_slots, hidden_named_slots}
-use Rattle.ppm_translation.specs.Routines.{Hidden, Sweep}
+use Rattle.ppm_cut_code.specs.Numbers.{end_of}
+use Rattle.ppm_cut_code.specs.Slots.{hidden_slots, hidden_named_slots}
+use Rattle.ppm_cut_code.specs.Routines.{Hidden, Sweep}
 use Rattle.ppm_cut.proofs.Drafting.{drafts_one, sweep_added}
 use Rattle.ppm_cut.proofs.draft.Draft.push_sweep.Goals as goal
 

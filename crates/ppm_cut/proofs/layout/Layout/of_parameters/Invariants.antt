@@ -1,5 +1,5 @@
 use Rattle.std.proofs.Common.{◌≡◌, ◌++◌, drop}
-use Rattle.ppm_translation.specs.Layout.{parameter_layout}
+use Rattle.ppm_cut_code.specs.Layout.{parameter_layout}
 use Rattle.ppm_cut.proofs.layout.Layout.of_parameters.Given as goal
 
 -- the names so far, and those behind

@@ -1,6 +1,6 @@
 use Rattle.std.proofs.Common.{◌≡◌, ◌++◌, drop}
 use Rattle.ppm_tree.specs.Tree.{block_of}
-use Rattle.ppm_translation.specs.Layout.{caught}
+use Rattle.ppm_cut_code.specs.Layout.{caught}
 use Rattle.ppm_cut.proofs.layout.Layout.push_caught.Given as goal
 
 -- the names so far, and those behind

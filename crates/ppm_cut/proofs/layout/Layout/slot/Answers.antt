@@ -1,5 +1,5 @@
 use Rattle.std.proofs.Common.{ap, arith}
-use Rattle.ppm_translation.specs.Layout.{slot_of}
+use Rattle.ppm_cut_code.specs.Layout.{slot_of}
 use Rattle.ppm_cut.proofs.Slotting.{slot_here, slot_later}
 use Rattle.ppm_cut.proofs.layout.Layout.slot.Goals as goal
 

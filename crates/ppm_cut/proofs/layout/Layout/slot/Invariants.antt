@@ -1,5 +1,5 @@
 use Rattle.std.proofs.Common.{◌≡◌, ◌+◌, drop}
-use Rattle.ppm_translation.specs.Layout.{slot_of}
+use Rattle.ppm_cut_code.specs.Layout.{slot_of}
 use Rattle.ppm_cut.proofs.layout.Layout.slot.Given as goal
 
 -- the slot among those that are left, behind those so far

@@ -1,5 +1,0 @@
-use Rattle.ppm_bounds.proofs.OneFault.{one_fault}
-use Rattle.ppm_bounds.proofs.laws.have_one_fault.Goals as goal
-
-pub returns : goal.returns
-returns c = record { law = one_fault }

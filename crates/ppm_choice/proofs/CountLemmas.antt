@@ -1,0 +1,65 @@
+-- A pace behind an act.
+use Rattle.std.proofs.Common.{◌≡◌, ℕ, ◌+◌, ◌^◌, min, Bool, true, false, if◌then◌else◌, arith, ◌∙◌, ap}
+use Rattle.ppm_plan.specs.Schedules.{Planned}
+use Rattle.ppm_step.specs.declared.turn.Next.{Next}
+use Rattle.ppm_step.specs.Standings.{Standing}
+use Rattle.ppm_step.specs.State.{next_of, seeks_holder}
+use Rattle.ppm_choice.specs.declared.limits.Limits.{Limits}
+use Rattle.ppm_choice.specs.declared.pace.Pace.{Pace}
+use Rattle.ppm_choice.specs.Deeds.{Deed}
+use Rattle.ppm_choice.specs.Obeying.{Past, behind, is_work_deed}
+use Rattle.ppm_choice.specs.Paces.{IsPace}
+
+-- one more, up to the most
+one_more : (n most a : ℕ) → a ≡ min n most → min (a + 1) most ≡ min (n + 1) most
+one_more n most a e = omega (arith, e)
+
+pub none : (most : ℕ) → 0 ≡ min 0 most
+none most = omega arith
+
+looks_are : (w : Bool) (n most a : ℕ) → a ≡ min n most → (if w then 0 else min (a + 1) most) ≡ min (if w then 0 else n + 1) most
+looks_are true n most a e = none most
+looks_are false n most a e = one_more n most a e
+
+-- so many more, up to the most
+so_many_more : (n m steps most a b : ℕ) → a ≡ min n most → b ≡ min (a + steps) most → m ≡ n + steps → b ≡ min m most
+so_many_more n m steps most a b e f g = omega (arith, e, f, g)
+
+same_work : (n m work a : ℕ) → a ≡ n → m ≡ n + work → a + work ≡ m
+same_work n m work a e f = omega (arith, e, f)
+
+no_looks : (looks most : ℕ) → looks ≡ 0 → 0 ≡ min looks most
+no_looks looks most e = omega (arith, e)
+
+-- behind an act
+pub counted : (plan : Planned) (limits : Limits) (past : Past) (deed : Deed) (stands : Standing) (old : Pace) (acts work looks : ℕ) (w : Bool)
+    (next : Next) (due : Bool) → acts ≡ min (old.acts + 1) (2 ^ 32) → work ≡ (if w then old.work + 1 else old.work)
+    → looks ≡ (if w then 0 else min (old.looks + 1) limits.looks) → w ≡ is_work_deed deed → next ≡ next_of stands → due ≡ seeks_holder stands
+    → IsPace plan limits past deed.stood old
+    → IsPace plan limits (behind past deed) stands
+    (record { processor = old.processor; keeper = old.keeper; acts = acts; work = work; looks = looks; next = next; due = due })
+counted plan limits past deed stands old acts work looks w next due acts_are work_is looks_is works next_is due_is p = record {
+  keeper = p.keeper;
+  acts = acts_are ∙ one_more past.acts (2 ^ 32) old.acts p.acts;
+  work = work_is ∙ ap (λ n. if w then n + 1 else n) p.work ∙ ap (λ b. if b then past.work + 1 else past.work) works;
+  looks =
+      looks_is ∙ looks_are w past.looks limits.looks old.looks p.looks
+      ∙ ap (λ b. min (if b then 0 else past.looks + 1) limits.looks) works;
+  next = next_is;
+  due = due_is;
+}
+
+-- behind steps in a row
+pub steps_counted : (plan : Planned) (limits : Limits) (past past' : Past) (stood stands : Standing) (old : Pace) (acts steps work : ℕ)
+    (next : Next) (due : Bool) → acts ≡ min (old.acts + steps) (2 ^ 32) → IsPace plan limits past stood old
+    → past'.acts ≡ past.acts + steps → past'.work ≡ past.work + work → past'.looks ≡ 0 → next ≡ next_of stands → due ≡ seeks_holder stands
+    → IsPace plan limits past' stands
+    (record { processor = old.processor; keeper = old.keeper; acts = acts; work = old.work + work; looks = 0; next = next; due = due })
+steps_counted plan limits past past' stood stands old acts steps work next due acts_are p acts' work' looks' next_is due_is = record {
+  keeper = p.keeper;
+  acts = so_many_more past.acts past'.acts steps (2 ^ 32) old.acts acts p.acts acts_are acts';
+  work = same_work past.work past'.work work old.work p.work work';
+  looks = no_looks past'.looks limits.looks looks';
+  next = next_is;
+  due = due_is;
+}

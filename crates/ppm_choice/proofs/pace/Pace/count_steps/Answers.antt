@@ -1,0 +1,8 @@
+use Rattle.ppm_choice.proofs.CountLemmas.{steps_counted}
+use Rattle.ppm_choice.proofs.pace.Pace.count_steps.Goals as goal
+
+-- so many acts more
+pub returns-clause-pace : goal.returns-clause-pace
+returns-clause-pace c plan limits past past' stood stands p acts work looks next due =
+    steps_counted plan limits past past' stood stands c.args.self.now _ c.args.steps c.args.work c.args.next c.args.due
+    c.more-self.ensures p acts work looks next due

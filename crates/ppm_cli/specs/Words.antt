@@ -1,0 +1,153 @@
+-- The command that the words of the command line give, as clap reads them.
+use Rattle.std.specs.Prelude.{◌≤◌, ℕ, List, [], ◌∷◌, Option, Some, None, codes, if◌then◌else◌, nat_le, ◌&&◌, option_and_then, option_map, ⊤}
+use Rattle.std.specs.Str.{bytes_eq}
+use Rattle.std.specs.Str.Parse.{digits_value, without_leading_plus}
+use Rattle.clap.specs.Words.{Kinds, Row, Text, fault_of, first_of, one_of, subcommand_of}
+use Rattle.clap.specs.ValueTests.{is_unsigned_in}
+use Rattle.ppm_cli.specs.Application.{ppm_application}
+use Rattle.ppm_cli.specs.CommandLine.{Form, Number, Choice, AnyText, OptionRule, is_free_text}
+use Rattle.ppm_cli.specs.CommandLine.{one_processor, processors, turns, room, slots, looks, seed, faults, schedule, takeover, idle}
+use Rattle.ppm_cli.specs.declared.command.Command.{Command}
+use Rattle.ppm_cli.specs.declared.command.Command.TheVariants as commands
+use Rattle.ppm_cli.specs.declared.command.SerialOptions.{SerialOptions}
+use Rattle.ppm_cli.specs.declared.replay.ReplayOptions.{ReplayOptions}
+use Rattle.ppm_cli.specs.declared.replay.TakeoverName.{TakeoverName}
+use Rattle.ppm_cli.specs.declared.replay.TakeoverName.TheVariants as takeovers
+use Rattle.ppm_cli.specs.declared.run.IdleName.{IdleName}
+use Rattle.ppm_cli.specs.declared.run.IdleName.TheVariants as idles
+use Rattle.ppm_cli.specs.declared.run.RunOptions.{RunOptions}
+
+-- the number that decimal digits write; a plus may stand in front
+abbrev pub value_of_digits : Text → ℕ
+value_of_digits text = digits_value 10 (without_leading_plus text)
+
+-- the number that a text writes, if it writes one in the range of the form
+abbrev pub number_in : Form → Text → Option ℕ
+number_in (Number low high) text = if is_unsigned_in low high text then Some (value_of_digits text) else None
+number_in _ text = None
+
+-- the number, if it is in the range
+abbrev pub kept_in : ℕ → ℕ → ℕ → Option ℕ
+kept_in low high n = if nat_le low n && nat_le n high then Some n else None
+
+-- the number of an option in the matches of its command: clap puts the default there where the words do not give the option
+abbrev pub number_given : OptionRule → List Row → Option ℕ
+number_given o rows = option_and_then (number_in o.form) (one_of o.name rows)
+
+-- the text, if the form takes it
+abbrev pub text_in : Form → Text → Option Text
+text_in AnyText text = if is_free_text text then Some text else None
+text_in _ text = None
+
+-- the text of an option in the matches of its command, with the default there, too
+abbrev pub text_given : OptionRule → List Row → Option Text
+text_given o rows = option_and_then (text_in o.form) (first_of o.name rows)
+
+-- the value that a word stands for among these words, which stand in the order of the values
+abbrev pub value_among : {T : Type 0} → List Text → List T → Text → Option T
+value_among (first ∷ words) (value ∷ values) word = if bytes_eq word first then Some value else value_among words values word
+value_among _ _ word = None
+
+-- the value that a text stands for, if it is one of the words of the form
+abbrev pub choice_in : {T : Type 0} → Form → List T → Text → Option T
+choice_in (Choice words) values text = value_among words values text
+choice_in _ values text = None
+
+-- the value of an option in the matches of its command, by the word that is chosen there
+abbrev pub choice_given : {T : Type 0} → OptionRule → List T → List Row → Option T
+choice_given o values rows = option_and_then (choice_in o.form values) (first_of o.name rows)
+
+-- what is taken over of a dead processor
+abbrev pub takeover_given : List Row → Option TakeoverName
+takeover_given rows = choice_given takeover (takeovers.Place ∷ takeovers.Entry ∷ []) rows
+
+-- what a processor does that finds no work
+abbrev pub idle_given : List Row → Option IdleName
+idle_given rows = choice_given idle (idles.Leave ∷ idles.Park ∷ []) rows
+
+-- what comes of a value, if there is one: as Rust's `and_then`, the value first
+abbrev pub and_then : {A B : Type 0} → Option A → (A → Option B) → Option B
+and_then value f = option_and_then f value
+
+-- the options of `run` but for its plan, if each has a value of its form
+abbrev pub run_options : List Row → Option RunOptions
+run_options rows =
+    and_then (number_given one_processor rows) (λ p.
+    and_then (number_given turns rows) (λ n.
+    and_then (number_given room rows) (λ w.
+    and_then (number_given slots rows) (λ e.
+    and_then (number_given looks rows) (λ l.
+    and_then (number_given seed rows) (λ s.
+    and_then (takeover_given rows) (λ t.
+    and_then (idle_given rows) (λ i.
+    Some (record { processors = p; turns = n; room = w; slots = e; looks = l; seed = s; takeover = t; idle = i })))))))))
+
+-- the command `run` with its options and its plan
+abbrev pub run_in : List Row → Option Command
+run_in rows = and_then (run_options rows) (λ o. option_map (λ plan. commands.Run o plan) (text_given faults rows))
+
+-- the command `serial` with its options
+abbrev pub serial_in : List Row → Option Command
+serial_in rows = option_map (λ n. commands.Serial (record { turns = n })) (number_given turns rows)
+
+-- the options of `replay` but for its schedule, if each has a value of its form
+abbrev pub replay_options : List Row → Option ReplayOptions
+replay_options rows =
+    and_then (number_given processors rows) (λ p.
+    and_then (number_given turns rows) (λ n.
+    and_then (number_given room rows) (λ w.
+    and_then (number_given slots rows) (λ e.
+    and_then (takeover_given rows) (λ t.
+    Some (record { processors = p; turns = n; room = w; slots = e; takeover = t }))))))
+
+-- the command `replay` with its options and its schedule
+abbrev pub replay_in : List Row → Option Command
+replay_in rows = and_then (replay_options rows) (λ o. option_map (λ acts. commands.Replay o acts) (text_given schedule rows))
+
+-- the command of this name, with the options in its matches
+abbrev pub command_named : Text → List Row → Option Command
+command_named name rows =
+    if bytes_eq name (codes "run") then run_in rows
+    else if bytes_eq name (codes "serial") then serial_in rows
+    else if bytes_eq name (codes "code") then Some commands.Code
+    else if bytes_eq name (codes "check") then Some commands.Check
+    else if bytes_eq name (codes "replay") then replay_in rows
+    else None
+
+-- the command of the subcommand that was met, with its options
+abbrev pub command_in : Option (Text × List Row) → Option Command
+command_in met = option_and_then (λ m. command_named m.0 m.1) met
+
+-- what words without a fault give; words with faults give no command
+abbrev pub without_fault : Kinds → Option Command → Option Command
+without_fault [] command = command
+without_fault (k ∷ kinds) command = None
+
+-- the command that the words give: help is one of clap's faults
+abbrev pub command_of : List Text → Option Command
+command_of words = without_fault (fault_of ppm_application words) (command_in (subcommand_of ppm_application words))
+
+-- the number is in the range of the option
+abbrev pub IsOfForm : Form → ℕ → Type 0
+IsOfForm (Number low high) n = (low ≤ n) × (n ≤ high)
+IsOfForm _ n = ⊥
+
+-- each option of a run is in its range
+abbrev pub AreRun : RunOptions → Type 0
+AreRun options =
+    IsOfForm one_processor.form options.processors × IsOfForm turns.form options.turns × IsOfForm room.form options.room
+    × IsOfForm slots.form options.slots × IsOfForm looks.form options.looks × IsOfForm seed.form options.seed
+
+-- each option of a replay is in its range
+abbrev pub AreReplayed : ReplayOptions → Type 0
+AreReplayed options =
+    IsOfForm processors.form options.processors × IsOfForm turns.form options.turns × IsOfForm room.form options.room
+    × IsOfForm slots.form options.slots
+
+-- each option of the command is in its range
+abbrev pub IsInRange : Command → Type 0
+IsInRange (commands.Run options _) = AreRun options
+IsInRange (commands.Serial options) = IsOfForm turns.form options.turns
+IsInRange commands.Code = ⊤
+IsInRange commands.Check = ⊤
+IsInRange (commands.Replay options _) = AreReplayed options

@@ -1,0 +1,82 @@
+//! What the matches of a command hold of its options, by the form of the value.
+ghost use Rattle.std.specs.Prelude.{◌≡◌, ◌≤◌, IfOk, IfSome, [], ◌∷◌, option_map};
+ghost use Rattle.clap.specs.Words.{first_of, found_of, rows_of};
+ghost use Rattle.ppm_cli.specs.Application.{choice_rule, number_rule, text_rule};
+ghost use Rattle.ppm_cli.specs.CommandLine.{AnyText};
+ghost use Rattle.ppm_cli.specs.Words.{choice_given, kept_in as kept, number_given, text_given, text_in};
+
+use crate::table::{ChoiceOption, NumberOption, TextOption};
+use clap::ArgMatches;
+use ppm_words::Items;
+use std::alloc::{AllocError, Global};
+
+/// The number of an option in the matches of its command, if its text writes one in the option's range.
+pub(crate) fn number_of(matches: &ArgMatches<'_>, option: NumberOption) -> Option<u32>
+    ensures value { result ≡ number_given (number_rule option) (rows_of (found_of matches.now)) }
+    ensures in_range { IfSome result (λ n. (option.low ≤ n) × (n ≤ option.high)) }
+{
+    let number = matches.get_one::<u32>(option.name)?;
+    kept_in(number, option.low, option.high)
+}
+
+/// The number, if it is in the range.
+fn kept_in(number: u32, low: u32, high: u32) -> Option<u32>
+    ensures value { result ≡ kept low high number }
+    ensures in_range { IfSome result (λ n. (low ≤ n) × (n ≤ high)) }
+{
+    if low <= number && number <= high {
+        Some(number)
+    } else {
+        None
+    }
+}
+
+/// What an option stands for whose value is one of two words: `first` for its first word, `second` for the other.
+pub(crate) fn choice_of<T: Copy>(
+    matches: &ArgMatches<'_>,
+    option: ChoiceOption,
+    first: T,
+    second: T,
+) -> Option<T>
+    ensures { result ≡ choice_given (choice_rule option) (first ∷ second ∷ []) (rows_of (found_of matches.now)) }
+{
+    let word = text_of(matches, option.name)?;
+    if word == option.first {
+        Some(first)
+    } else if word == option.second {
+        Some(second)
+    } else {
+        None
+    }
+}
+
+/// The bytes of an option whose value is any text that does not begin with a hyphen.
+pub(crate) fn bytes_of(
+    alloc: Global,
+    matches: &ArgMatches<'_>,
+    option: TextOption,
+) -> Result<Option<Items<u8>>, AllocError>
+    ensures { IfOk result (λ bytes. bytes ≡ text_given (text_rule option) (rows_of (found_of matches.now))) }
+{
+    match text_of(matches, option.name) {
+        Some(text) => free_text(alloc, text.as_bytes()),
+        None => Ok(None),
+    }
+}
+
+/// The text of these bytes, if the first is no hyphen.
+fn free_text(alloc: Global, bytes: &[u8]) -> Result<Option<Items<u8>>, AllocError>
+    ensures { IfOk result (λ text. text ≡ text_in AnyText bytes.now) }
+{
+    match bytes {
+        [b'-', ..] => Ok(None),
+        _ => Ok(Some(Items::from_vec(bytes.to_vec(alloc)?))),
+    }
+}
+
+/// The text of the option of this name in the matches of its command.
+fn text_of<'a>(matches: &ArgMatches<'a>, name: &str) -> Option<&'a str>
+    ensures { option_map (λ s. s.now) result ≡ first_of name.now (rows_of (found_of matches.now)) }
+{
+    matches.get_str(name)
+}

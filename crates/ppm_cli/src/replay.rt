@@ -1,0 +1,77 @@
+//! The command `replay`, as its words give it.
+ghost use Rattle.std.specs.Prelude.{◌≡◌, IfOk, IfSome};
+ghost use Rattle.clap.specs.Words.{found_of, rows_of};
+ghost use Rattle.ppm_cli.specs.Words.{AreReplayed, IsInRange, replay_in, replay_options as options_in, takeover_given};
+
+use crate::command::Command;
+use crate::getters::{bytes_of, choice_of, number_of};
+use crate::table::{PROCESSORS, ROOM, SCHEDULE, SLOTS, TAKEOVER, TURNS};
+use clap::ArgMatches;
+use std::alloc::{AllocError, Global};
+
+/// What is taken over of a processor that stopped for ever, as the words name it.
+#[derive(Clone, Copy, Debug, PartialEq, Eq)]
+pub enum TakeoverName {
+    /// Its place, with all that it holds.
+    Place,
+    /// The entries of its deque, one by one.
+    Entry,
+}
+
+/// The options of `replay` but for its schedule.
+#[derive(Clone, Copy, Debug, PartialEq, Eq)]
+pub struct ReplayOptions {
+    /// How many processors there are: from 1 to 64, and 4 by default.
+    pub processors: u32,
+    /// How many acts there are at most, those of the schedule among them: from 1 to 268435456, and 16777216 by default.
+    pub turns: u64,
+    /// How many words the pool of a place has: from 64 to 1048576, and 65536 by default.
+    pub room: u32,
+    /// How many entries the deque of a place has: from 2 to 65536, and 4096 by default.
+    pub slots: u32,
+    /// What is taken over of a processor that stopped for ever: its place by default.
+    pub takeover: TakeoverName,
+}
+
+/// The command with the options and the schedule in its matches.
+pub(crate) fn replay_command(
+    alloc: Global,
+    matches: &ArgMatches<'_>,
+) -> Result<Option<Command>, AllocError>
+    ensures value { IfOk result (λ c. c ≡ replay_in (rows_of (found_of matches.now))) }
+    ensures in_range { IfOk result (λ c. IfSome c IsInRange) }
+{
+    match replay_options(matches) {
+        Some(options) => match bytes_of(alloc, matches, SCHEDULE)? {
+            Some(schedule) => Ok(Some(Command::Replay(options, schedule))),
+            None => Ok(None),
+        },
+        None => Ok(None),
+    }
+}
+
+/// The options of `replay` in its matches.
+fn replay_options(matches: &ArgMatches<'_>) -> Option<ReplayOptions>
+    ensures value { result ≡ options_in (rows_of (found_of matches.now)) }
+    ensures in_range { IfSome result AreReplayed }
+{
+    let processors = number_of(matches, PROCESSORS)?;
+    let turns = number_of(matches, TURNS)?;
+    let room = number_of(matches, ROOM)?;
+    let slots = number_of(matches, SLOTS)?;
+    let takeover = takeover_of(matches)?;
+    Some(ReplayOptions {
+        processors,
+        turns: u64::from(turns),
+        room,
+        slots,
+        takeover,
+    })
+}
+
+/// What is taken over, if the matches name it by one of the two words.
+pub(crate) fn takeover_of(matches: &ArgMatches<'_>) -> Option<TakeoverName>
+    ensures { result ≡ takeover_given (rows_of (found_of matches.now)) }
+{
+    choice_of(matches, TAKEOVER, TakeoverName::Place, TakeoverName::Entry)
+}

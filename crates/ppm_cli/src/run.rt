@@ -1,0 +1,90 @@
+//! The command `run`, as its words give it.
+ghost use Rattle.std.specs.Prelude.{◌≡◌, IfOk, IfSome};
+ghost use Rattle.clap.specs.Words.{found_of, rows_of};
+ghost use Rattle.ppm_cli.specs.Words.{AreRun, IsInRange, idle_given, run_in, run_options as options_in};
+
+use crate::command::Command;
+use crate::getters::{bytes_of, choice_of, number_of};
+use crate::replay::{TakeoverName, takeover_of};
+use crate::table::{FAULTS, IDLE, LOOKS, ONE_PROCESSOR, ROOM, SEED, SLOTS, TURNS};
+use clap::ArgMatches;
+use std::alloc::{AllocError, Global};
+
+/// What a processor does that finds no work, as the words name it.
+#[derive(Clone, Copy, Debug, PartialEq, Eq)]
+pub enum IdleName {
+    /// It leaves.
+    Leave,
+    /// It parks until there may be work.
+    Park,
+}
+
+/// The options of `run` but for its plan of faults.
+#[derive(Clone, Copy, Debug, PartialEq, Eq)]
+pub struct RunOptions {
+    /// How many processors there are: from 1 to 1, and 1 by default.
+    pub processors: u32,
+    /// How many work turns each processor may make: from 1 to 268435456, and 16777216 by default.
+    pub turns: u64,
+    /// How many words the pool of a place has: from 64 to 1048576, and 65536 by default.
+    pub room: u32,
+    /// How many entries the deque of a place has: from 2 to 65536, and 4096 by default.
+    pub slots: u32,
+    /// How many looks for work in a row a processor makes before it leaves or parks: from 1 to 1048576, and 1000 by default.
+    pub looks: u32,
+    /// Where the random victims begin: from 0 to 4294967295, and 1 by default.
+    pub seed: u32,
+    /// What is taken over of a processor that stopped for ever: its place by default.
+    pub takeover: TakeoverName,
+    /// What a processor does that finds no work: it leaves by default.
+    pub idle: IdleName,
+}
+
+/// The command with the options and the plan in its matches.
+pub(crate) fn run_command(
+    alloc: Global,
+    matches: &ArgMatches<'_>,
+) -> Result<Option<Command>, AllocError>
+    ensures value { IfOk result (λ c. c ≡ run_in (rows_of (found_of matches.now))) }
+    ensures in_range { IfOk result (λ c. IfSome c IsInRange) }
+{
+    match run_options(matches) {
+        Some(options) => match bytes_of(alloc, matches, FAULTS)? {
+            Some(plan) => Ok(Some(Command::Run(options, plan))),
+            None => Ok(None),
+        },
+        None => Ok(None),
+    }
+}
+
+/// The options of `run` in its matches.
+fn run_options(matches: &ArgMatches<'_>) -> Option<RunOptions>
+    ensures value { result ≡ options_in (rows_of (found_of matches.now)) }
+    ensures in_range { IfSome result AreRun }
+{
+    let processors = number_of(matches, ONE_PROCESSOR)?;
+    let turns = number_of(matches, TURNS)?;
+    let room = number_of(matches, ROOM)?;
+    let slots = number_of(matches, SLOTS)?;
+    let looks = number_of(matches, LOOKS)?;
+    let seed = number_of(matches, SEED)?;
+    let takeover = takeover_of(matches)?;
+    let idle = idle_of(matches)?;
+    Some(RunOptions {
+        processors,
+        turns: u64::from(turns),
+        room,
+        slots,
+        looks,
+        seed,
+        takeover,
+        idle,
+    })
+}
+
+/// What a processor does that finds no work, if the matches name it by one of the two words.
+fn idle_of(matches: &ArgMatches<'_>) -> Option<IdleName>
+    ensures { result ≡ idle_given (rows_of (found_of matches.now)) }
+{
+    choice_of(matches, IDLE, IdleName::Leave, IdleName::Park)
+}

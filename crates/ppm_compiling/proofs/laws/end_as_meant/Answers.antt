@@ -1,5 +1,0 @@
-use Rattle.ppm_compiling.proofs.Theorem.{end_as_meant_everywhere}
-use Rattle.ppm_compiling.proofs.laws.end_as_meant.Goals as goal
-
-pub returns : goal.returns
-returns c = record { law = end_as_meant_everywhere }

@@ -1,5 +1,0 @@
-use Rattle.ppm_compiling.proofs.InputLemmas.{root_names_arrays}
-use Rattle.ppm_compiling.proofs.laws.name_arrays.Goals as goal
-
-pub returns : goal.returns
-returns c = record { law = root_names_arrays }

@@ -1,0 +1,10 @@
+pub mod Blocks
+pub mod Counts
+pub mod Members
+pub mod Notes
+pub mod Used
+pub mod Keeping
+pub mod NoEach
+pub mod Sums
+pub mod First
+pub mod OneFault

@@ -1,0 +1,259 @@
+-- A command that has a plan or a schedule among its words: how its answers are delivered, and what follows.
+use Rattle.std.proofs.Common.{◌≡◌, ◌≢◌, ◌⊎◌, ◌<◌, ℕ, Bool, true, false, nat_le, List, [], ◌∷◌, ◌++◌, length, Option, Some, None}
+use Rattle.std.proofs.Common.{refl, sym, ap, ◌∙◌, subst, inl, inr, arith}
+use Rattle.std.proofs.lemmas.Bool.{leb-true, leb-false}
+use Rattle.ppm_ports.specs.Ports.{Port, Fails, Holds}
+use Rattle.ppm_ports.specs.Outside.{Outside}
+use Rattle.ppm_ports.specs.Whole.{ReadsTo}
+use Rattle.ppm_plan.specs.declared.plan_error.PlanError.{PlanError}
+use Rattle.ppm_plan.specs.declared.plan_error.PlanError.TheVariants.{BadItem, NoSuchProcessor, TooManyFaults, AllKilled, NoMemory}
+use Rattle.ppm_plan.specs.Correct.{SomeAccepted, SomeRefused, HasOneAnswer as PlansHaveOneAnswer}
+use Rattle.ppm_plan.specs.Forms.{Form}
+use Rattle.ppm_plan.specs.Refusals.{IsAccepted, IsRefused, number_of}
+use Rattle.ppm_answers.specs.declared.refusal.Refusal.{Refusal}
+use Rattle.ppm_answers.specs.declared.answer.Answer.{Answer}
+use Rattle.ppm_answers.specs.declared.answer.Answer.TheVariants as answers
+use Rattle.ppm_answers.specs.declared.status.Status.{Status}
+use Rattle.ppm_answers.specs.declared.status.Status.TheVariants as statuses
+use Rattle.ppm_answers.specs.Texts.{IsFixed}
+use Rattle.ppm_answers.specs.Statuses.{status_of}
+use Rattle.ppm_answers.specs.Delivery.{IsWritten, Delivers}
+use Rattle.ppm_answers.specs.Reading.{IsUnread, ReadHas, JudgingMay, Answers}
+use Rattle.ppm_answers.specs.Rows.{IsOneOf, GoesWell}
+use Rattle.ppm_answers.proofs.Delivered.{written, write_failed, own_or_fault}
+use Rattle.ppm_answers.proofs.Judged as judged
+use Rattle.ppm_answers.proofs.WholeText.{whole_read}
+use Rattle.ppm_program.specs.Refusals.{IsRefusal}
+use Rattle.ppm_driver.specs.Planned.{IsRefusedBy, HasByItems, PlannedHas, PlannedMay, HasOneAnswer, HasSomeAnswer, refusal_of}
+
+module _ {A : Type 0} (form : Form A) (plan : List ℕ) (processors : ℕ) (Has : List A → List ℕ → Answer → Type 0) (limit : ℕ) where
+  -- no answer of a text by items is that a plan is refused
+  abbrev pub IsSteady : Type 0
+  IsSteady = (items : List A) (text : List ℕ) (number : ℕ) → ¬ Has items text (answers.PlanRefused number)
+
+  -- the answers that texts have by items: by the same items one each
+  pub record AreAnswers : Type 0 where
+    pub one : (items : List A) (text : List ℕ) (a b : Answer) → Has items text a → Has items text b → a ≡ b
+    pub front : (items : List A) (text rest : List ℕ) (a : Answer) → limit < length text → Has items text a → Has items (text ++ rest) a
+    pub plain : IsSteady
+
+  -- and a text that is not refused has one, by items that may be obeyed
+  abbrev pub IsAnswered : Type 0
+  IsAnswered = (items : List A) (text : List ℕ) → IsAccepted form plan processors items → ((r : Refusal) → ¬ IsRefusal text r)
+      → (a : Answer) × Has items text a
+
+  abbrev PH : List ℕ → Answer → Type 0
+  PH text a = PlannedHas form plan processors Has text a
+
+  abbrev May : Port → Answer → Type 0
+  May source a = PlannedMay form plan processors Has limit source a
+
+  abbrev Refused : ℕ → Type 0
+  Refused number = IsRefusedBy form plan processors number
+
+  -- an answer by items is one with the plan
+  lifted : IsSteady → (text : List ℕ) (a : Answer) → HasByItems form plan processors Has text a → PH text a
+  lifted plain text (answers.PlanRefused number) h = absurd (plain h.items text number h.has)
+  lifted plain text a h = h
+
+  -- and one with the plan is that the plan is refused, or one by items
+  of_plan : (text : List ℕ) (a : Answer) → PH text a →
+      ((number : ℕ) × Refused number × (a ≡ answers.PlanRefused number)) ⊎ HasByItems form plan processors Has text a
+  of_plan text (answers.PlanRefused number) h = inl (number, h, refl)
+  of_plan text a h = inr h
+
+  module _ (law : PlansHaveOneAnswer form) where
+    -- a plan that is accepted is not refused
+    apart : (items : List A) → IsAccepted form plan processors items → (number : ℕ) → Refused number → ⊥
+    apart items accepted number r = law.apart plan processors items r.error r.of_text accepted r.refused
+
+    -- with a plan that is accepted, an answer by its items may be given
+    pub by_items : IsSteady → (items : List A) → IsAccepted form plan processors items → (source : Port) (a : Answer)
+        → JudgingMay limit (Has items) source a → May source a
+    by_items plain items accepted source answers.ReadFault h = (h, record { items = items; accepted = accepted })
+    by_items plain items accepted source answers.NoMemory h = (h, λ number r. absurd (apart items accepted number r))
+    by_items plain items accepted source (answers.PlanRefused number) h = absurd (plain items h.0 number h.2)
+    by_items plain items accepted source a h = (h.0, h.1, record { items = items; accepted = accepted; has = h.2 })
+
+    -- two answers of a text are one
+    one : AreAnswers → (text : List ℕ) (a b : Answer) → PH text a → PH text b → a ≡ b
+    one are text a b h k = go (of_plan text a h) (of_plan text b k)
+      where
+        go : ((number : ℕ) × Refused number × (a ≡ answers.PlanRefused number)) ⊎ HasByItems form plan processors Has text a
+            → ((number : ℕ) × Refused number × (b ≡ answers.PlanRefused number)) ⊎ HasByItems form plan processors Has text b → a ≡ b
+        go (inl (n, r, e)) (inl (m, s, f)) =
+            let same = law.refusals plan processors r.error s.error r.of_text s.of_text r.refused s.refused in
+            e ∙ ap (λ x. answers.PlanRefused x) (r.number_is ∙ ap number_of same ∙ sym s.number_is) ∙ sym f
+        go (inl (n, r, e)) (inr i) = absurd (apart i.items i.accepted n r)
+        go (inr i) (inl (m, s, f)) = absurd (apart i.items i.accepted m s)
+        go (inr i) (inr j) =
+            let same : j.items ≡ i.items = law.items plan j.items i.items j.accepted.has i.accepted.has in
+            are.one i.items text a b i.has (subst (λ (x : List A). Has x text b) same j.has)
+
+    -- a text that is not refused has one
+    pub some_answer : IsSteady → IsAnswered → HasSomeAnswer form plan processors Has
+    some_answer plain answered text free = go (law.some plan processors)
+      where
+        go : SomeAccepted form plan processors ⊎ SomeRefused form plan processors → (a : Answer) × PH text a
+        go (inl h) =
+            let a = answered h.items text h.accepted free in
+            (a.0, lifted plain text a.0 (record { items = h.items; accepted = h.accepted; has = a.1 }))
+        go (inr h) = (
+          answers.PlanRefused (number_of h.error),
+          record { error = h.error; of_text = h.of_text; refused = h.refused; number_is = refl },
+        )
+
+    -- what stands behind the limit changes none
+    front : AreAnswers → (text rest : List ℕ) (a : Answer) → limit < length text → PH text a → PH (text ++ rest) a
+    front are text rest a long h = go (of_plan text a h)
+      where
+        go : ((number : ℕ) × Refused number × (a ≡ answers.PlanRefused number)) ⊎ HasByItems form plan processors Has text a
+            → PH (text ++ rest) a
+        go (inl (n, r, e)) = subst (PH (text ++ rest)) (sym e) r
+        go (inr i) = lifted are.plain (text ++ rest) a
+            (record { items = i.items; accepted = i.accepted; has = are.front i.items text rest a long i.has })
+
+    pub one_answer : AreAnswers → HasOneAnswer form plan processors Has limit
+    one_answer are = record { one = one are; front = front are }
+
+  -- where nothing was read, memory may be wanting
+  pub memory_before : (source : Port) → IsUnread source → May source answers.NoMemory
+  memory_before source h = (judged.memory_before limit PH source h, λ number r. h)
+
+  -- where the plan is not there, that it is refused may be answered, or that memory was
+  pub refused_may : (error : PlanError) → IsRefused form plan processors error → (source : Port) → IsUnread source
+      → May source (refusal_of error)
+  refused_may (BadItem n) r source h = (record { error = BadItem n; of_text = refl; refused = r; number_is = refl }, h)
+  refused_may (NoSuchProcessor n) r source h = (record { error = NoSuchProcessor n; of_text = refl; refused = r; number_is = refl }, h)
+  refused_may TooManyFaults r source h = (record { error = TooManyFaults; of_text = refl; refused = r; number_is = refl }, h)
+  refused_may AllKilled r source h = (record { error = AllKilled; of_text = refl; refused = r; number_is = refl }, h)
+  refused_may NoMemory r source h = memory_before source h
+
+  -- the text that was read has the answer by the plan's items
+  abbrev ReadByItems : Port → Answer → Type 0
+  ReadByItems source a = ReadHas limit (HasByItems form plan processors Has) source a
+
+  pub read_has : IsSteady → (source : Port) (a : Answer) → ReadByItems source a → ReadHas limit PH source a
+  read_has plain source a h = (h.0, h.1, lifted plain h.0 a h.2)
+
+  -- an answer of the command is a read fault, want of memory, that the plan is refused, or that of the text that was read
+  abbrev Cause : Port → Answer → Type 0
+  Cause source a = ((a ≡ answers.ReadFault) × SomeAccepted form plan processors) ⊎ ((a ≡ answers.NoMemory)
+      ⊎ (((number : ℕ) × Refused number × IsUnread source × (a ≡ answers.PlanRefused number)) ⊎ ReadByItems source a))
+
+  by_cause : (source : Port) (a : Answer) → May source a → Cause source a
+  by_cause source answers.ReadFault h = inl (refl, h.1)
+  by_cause source answers.NoMemory h = inr (inl refl)
+  by_cause source (answers.PlanRefused number) h = inr (inr (inl (number, h.0, h.1, refl)))
+  by_cause source a h = inr (inr (inr h))
+
+  -- where an answer may come whose texts are made, out of memory may come in its place
+  memory_may : PlansHaveOneAnswer form → (source : Port) (a : Answer) → May source a → ¬ IsFixed a → May source answers.NoMemory
+  memory_may law source a h made = go (by_cause source a h)
+    where
+      go : Cause source a → May source answers.NoMemory
+      go (inl (e, some)) = absurd (made (subst IsFixed (sym e) tt))
+      go (inr (inl e)) = absurd (made (subst IsFixed (sym e) tt))
+      go (inr (inr (inl p))) = memory_before source p.2
+      go (inr (inr (inr r))) = (
+        ((r.0, r.1.whole.most, r.1.whole.front), r.1.holds),
+        λ number x. absurd (apart law r.2.items r.2.accepted number x),
+      )
+
+  -- what was delivered of an answer of the command is the answer, or out of memory in its place
+  pub planned_delivered : PlansHaveOneAnswer form → (o : Outside) (a : Answer) (status : Status) → o.told_now ≡ o.told_before
+      → May o.source a → Delivers o.out o.err a status ⊎ ((¬ IsFixed a) × Delivers o.out o.err answers.NoMemory status) → Answers (May o.source) o status
+  planned_delivered law o a status told h (inl d) = record { answer = a; cause = h; delivered = d; told = told }
+  planned_delivered law o a status told h (inr d) =
+      record { answer = answers.NoMemory; cause = memory_may law o.source a h d.0; delivered = d.1; told = told }
+
+  -- where the source failed, the answer is a read fault
+  pub source_failed : (source : Port) (a : Answer) → May source a → ¬ Holds source → status_of a ≡ statuses.ReadFault
+  source_failed source answers.ReadFault h f = refl
+  source_failed source answers.NoMemory h f = absurd (f h.0.1)
+  source_failed source (answers.PlanRefused number) h f = absurd (f h.1.holds)
+  source_failed source a h f = absurd (f h.1.holds)
+
+  -- an answer of status 7 is a read fault, and the source failed
+  pub read_fault : (source : Port) (a : Answer) → May source a → status_of a ≡ statuses.ReadFault → Fails source
+  read_fault source answers.ReadFault h e = h.0.0
+  read_fault source a h e = cc
+
+  module _ (o : Outside) (status : Status) (a : Answers (May o.source) o status) where
+    -- what is written: that the plan is refused, with nothing read, or an answer of the text that was read
+    abbrev pub Told : Type 0
+    Told = ((number : ℕ) × Refused number × IsUnread o.source × IsWritten o.out o.err (answers.PlanRefused number) status)
+        ⊎ ((answer : Answer) × ReadByItems o.source answer × IsWritten o.out o.err answer status)
+
+    -- so it is at each status but those of faults and of want of memory
+    pub told : status ≢ statuses.ReadFault → status ≢ statuses.WriteFault → status ≢ statuses.NoMemory → Told
+    told r w m = go (by_cause o.source a.answer a.cause)
+      where
+        own : IsWritten o.out o.err a.answer status
+        own = written o.out o.err a.answer status a.delivered w
+
+        go : Cause o.source a.answer → Told
+        go (inl (e, some)) = absurd (r (own.own ∙ ap status_of e))
+        go (inr (inl e)) = absurd (m (own.own ∙ ap status_of e))
+        go (inr (inr (inl p))) = inl (p.0, p.1, p.2, subst (λ (x : Answer). IsWritten o.out o.err x status) p.3 own)
+        go (inr (inr (inr h))) = inr (a.answer, h, own)
+
+    -- no write failed where all went well
+    wrote : GoesWell o status → status ≢ statuses.WriteFault
+    wrote well f = elim (write_failed o.out o.err a.answer status a.delivered f) [ inl out ↦ well.out_holds out | inr err ↦ well.err_holds err ]
+
+    -- and no read did
+    did_read : GoesWell o status → status ≢ statuses.ReadFault
+    did_read well f = well.source_holds
+        (read_fault o.source a.answer a.cause (sym (written o.out o.err a.answer status a.delivered (wrote well)).own ∙ f))
+
+    -- so it is where all goes well
+    pub told_well : GoesWell o status → Told
+    told_well well = told (did_read well) (wrote well) well.memory
+
+    -- where the plan is refused, nothing was read, and the status is 3, or 8 or 9
+    pub refuses : PlansHaveOneAnswer form → (number : ℕ) → Refused number
+        → IsUnread o.source × IsOneOf status (statuses.WordsRefused ∷ statuses.WriteFault ∷ statuses.NoMemory ∷ [])
+    refuses law number r = (unread a.answer a.cause, go (own_or_fault o.out o.err a.answer status a.delivered) (by_cause o.source a.answer a.cause))
+      where
+        unread : (answer : Answer) → May o.source answer → IsUnread o.source
+        unread answers.ReadFault h = absurd (apart law h.1.items h.1.accepted number r)
+        unread answers.NoMemory h = h.1 number r
+        unread (answers.PlanRefused n) h = h.1
+        unread answer h = absurd (apart law h.2.items h.2.accepted number r)
+
+        go : (status ≡ statuses.WriteFault) ⊎ IsWritten o.out o.err a.answer status → Cause o.source a.answer
+            → IsOneOf status (statuses.WordsRefused ∷ statuses.WriteFault ∷ statuses.NoMemory ∷ [])
+        go (inl f) c = inr (inl f)
+        go (inr w) (inl (e, some)) = absurd (apart law some.items some.accepted number r)
+        go (inr w) (inr (inl e)) = inr (inr (inl (w.own ∙ ap status_of e)))
+        go (inr w) (inr (inr (inl p))) = inl (w.own ∙ ap status_of p.3)
+        go (inr w) (inr (inr (inr h))) = absurd (apart law h.2.items h.2.accepted number r)
+
+    module _ (plain : IsSteady) (law : HasOneAnswer form plan processors Has limit) where
+      -- what a text that was read has for an answer, the whole text has
+      whole : (all : List ℕ) (now : Option (List ℕ)) (text : List ℕ) (answer : Answer) → ReadsTo limit (Some all) now text
+          → PH text answer → PH all answer
+      whole all None text answer r h = absurd r.front
+      whole all (Some rest) text answer r h = by (nat_le (length text) limit) refl
+        where
+          by : (b : Bool) → nat_le (length text) limit ≡ b → PH all answer
+          by true e = subst (λ l. PH l answer) (sym (whole_read limit all (Some rest) text r (leb-true (length text) limit e))) h
+          by false e = subst (λ l. PH l answer) (sym r.front) (law.front text rest answer (omega (arith, leb-false (length text) limit e)) h)
+
+      -- what is written is an answer of what the source shows whole
+      pub known : (all : List ℕ) → o.source.before ≡ Some all → GoesWell o status
+          → (answer : Answer) × PH all answer × IsWritten o.out o.err answer status
+      known all e well = go (told_well well)
+        where
+          go : Told → (answer : Answer) × PH all answer × IsWritten o.out o.err answer status
+          go (inl (number, r, left, w)) = (answers.PlanRefused number, r, w)
+          go (inr (answer, r, w)) =
+              (answer, whole all o.source.now r.0 answer (subst (λ l. ReadsTo limit l o.source.now r.0) e r.1.whole) (lifted plain r.0 answer r.2), w)
+
+      -- and the answer that it has is written
+      pub shown : (all : List ℕ) → o.source.before ≡ Some all → GoesWell o status → (answer : Answer) → PH all answer
+          → IsWritten o.out o.err answer status
+      shown all e well answer h =
+          let k = known all e well in
+          subst (λ (x : Answer). IsWritten o.out o.err x status) (law.one all k.0 answer k.1 h) k.2

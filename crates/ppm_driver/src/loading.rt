@@ -1,0 +1,82 @@
+//! The machine with which a run of a program begins.
+ghost use Rattle.std.specs.Prelude.{◌≡◌, ◌<◌, ◌≤◌, IfOk};
+ghost use Rattle.ppm_words.specs.Limits.{word_limit};
+ghost use Rattle.ppm_tree.specs.Tree.{tree_of};
+ghost use Rattle.ppm_cut_bounds.specs.Bounds.{IsWithinBounds};
+ghost use Rattle.ppm_core.specs.Machine.{seen};
+ghost use Rattle.ppm_driver.specs.Loading.{AreSizes, Begins, HasShape, takeover_of as takeover_in};
+
+use crate::arrays::count_of;
+use ppm_cells::{Shape, Takeover};
+use ppm_cli::TakeoverName;
+use ppm_core::Machine;
+use ppm_cut::cut;
+use ppm_cut_correct::{name_arrays, start_with_input};
+use ppm_layout::image;
+use ppm_regions::Admitted;
+use ppm_words::NoMemory;
+use std::alloc::Global;
+
+/// The sizes of a machine that a command's options say: all but its array words, which are the program's.
+#[derive(Clone, Copy, Debug, PartialEq, Eq)]
+pub struct Sizes {
+    /// How many processors there are, and as many places: 1 to 64.
+    pub processors: u32,
+    /// The words of a place's pool: 64 to 1,048,576.
+    pub room: u32,
+    /// The entries of a place's deque: 2 to 65,536.
+    pub slots: u32,
+    /// How the strand and the jobs of a dead processor are taken over.
+    pub takeover: Takeover,
+}
+
+/// What the words name that may be taken over.
+pub(crate) fn takeover_of(name: TakeoverName) -> Takeover
+    ensures { result ≡ takeover_in name }
+{
+    match name {
+        TakeoverName::Place => Takeover::ByPlaces,
+        TakeoverName::Entry => Takeover::ByEntries,
+    }
+}
+
+/// The shape with these sizes, and with so many array words, 4,194,304 at most.
+fn shape_of(sizes: Sizes, arrays: u32) -> Shape
+    requires sizes { AreSizes sizes }
+    requires arrays { arrays ≤ word_limit }
+    ensures { HasShape sizes arrays result }
+{
+    Shape {
+        processors: sizes.processors,
+        room: sizes.room,
+        slots: sizes.slots,
+        arrays,
+        takeover: sizes.takeover,
+    }
+}
+
+/// The machine with these sizes on which a run of a program begins: it has the program's code, and the words of its image, with the
+/// arrays that the program's text gives and the root's frame at the place of the keeper. `Err` only where memory is refused.
+pub fn load(
+    alloc: Global,
+    sizes: Sizes,
+    program: &Admitted,
+    keeper: u32,
+) -> Result<Machine, NoMemory>
+    requires sizes { AreSizes sizes }
+    requires keeper { keeper < sizes.processors }
+    requires bounded { IsWithinBounds (tree_of program.now) }
+    ensures { IfOk result (λ machine. Begins sizes (tree_of program.now) keeper (seen machine)) }
+{
+    // The root of a program's code names arrays of what the program starts with; the calls do nothing.
+    start_with_input();
+    name_arrays();
+    // What the type of its tree keeps is known once its tree was seen.
+    let _ = program.program().tree();
+    let code = cut(alloc, program.program())?;
+    let input = program.input();
+    let shape = shape_of(sizes, count_of(input.arrays()));
+    let words = image(alloc, &code, input, shape, keeper)?;
+    let machine = Machine::load(alloc, words, code)?;
+    Ok(machine)
+}

@@ -1,0 +1,21 @@
+//! That a text has one answer where it is replayed, shown by a call that does nothing.
+ghost use Rattle.ppm_driver.specs.Replays.{HaveOneAnswer};
+
+use ppm_cut_code::keeps_the_rules;
+use ppm_layout::images_are_one;
+use ppm_plan::have_one_answer as schedules_have_one_answer;
+use ppm_program::have_one_answer as texts_have_one_program;
+use ppm_rows::trees_are_within;
+
+/// With all options and each schedule a text has one answer at most: the schedule is refused by one number, or the text is refused for
+/// one reason, or its program's replay comes to one answer. With options in their ranges a text that is not refused has one.
+pub fn have_one_answer()
+    ensures law { HaveOneAnswer }
+{
+    // The law rests on these; the calls do nothing.
+    texts_have_one_program();
+    trees_are_within();
+    keeps_the_rules();
+    images_are_one();
+    schedules_have_one_answer();
+}

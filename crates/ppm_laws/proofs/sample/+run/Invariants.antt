@@ -1,5 +1,0 @@
-use Rattle.ppm_laws.proofs.sample.+run.Given as goal
-
--- the bound
-abbrev pub decreases-run : goal.decreases-run
-decreases-run l = l.bound

@@ -1,0 +1,177 @@
+//! The tokens of a line as they are written, with numbers of any size.
+ghost use Rattle.std.specs.Prelude.{◌≡◌, OnOk};
+ghost use Rattle.std.specs.Str.{bytes_eq};
+ghost use Rattle.ppm_listing_reader.specs.Tokens.{spelled, keyword_of, named as named_token, minus as minus_token, token_of};
+ghost use Rattle.ppm_listing_reader.specs.Forms.{part_in, line_of, may_go_on as goes_on};
+
+use crate::cut::cut;
+use crate::number::{is_digit, is_numeral, value};
+use ppm_listing::Keyword;
+use ppm_words::NoMemory;
+use std::alloc::Global;
+
+/// What stands between two spaces of a line. A number past 2^64 - 1 stands as that one: no range goes so far.
+#[derive(Clone, Copy, Debug)]
+pub enum Token {
+    /// A keyword.
+    Name(Keyword),
+    /// A register by its number, as `r7`.
+    Register(u64),
+    /// A number from 0 on, in decimal.
+    Number(u64),
+    /// A number below 0, by how far.
+    Negative(u64),
+    /// `-`, where no slot is named.
+    Absent,
+    /// Anything else.
+    Other,
+}
+
+/// All keywords.
+const KEYWORDS: [Keyword; 36] = [
+    Keyword::Ppm,
+    Keyword::Root,
+    Keyword::Proc,
+    Keyword::Slots,
+    Keyword::Entry,
+    Keyword::Capsule,
+    Keyword::Const,
+    Keyword::Move,
+    Keyword::Add,
+    Keyword::Sub,
+    Keyword::Mul,
+    Keyword::Div,
+    Keyword::Rem,
+    Keyword::Equal,
+    Keyword::NotEqual,
+    Keyword::Less,
+    Keyword::AtMost,
+    Keyword::Len,
+    Keyword::CutLeft,
+    Keyword::CutRight,
+    Keyword::LoadSlot,
+    Keyword::StoreCur,
+    Keyword::Give,
+    Keyword::Get,
+    Keyword::Put,
+    Keyword::BranchZero,
+    Keyword::BranchNonZero,
+    Keyword::Room,
+    Keyword::StoreNew,
+    Keyword::Next,
+    Keyword::End,
+    Keyword::Trap,
+    Keyword::Call,
+    Keyword::CallTo,
+    Keyword::Fork,
+    Keyword::ForkTo,
+];
+
+fn same_bytes(a: &[u8], b: &[u8]) -> bool
+    ensures { result ≡ bytes_eq a.now b.now }
+{
+    a == b
+}
+
+/// The first of some keywords that has this spelling.
+fn first_spelled(mut table: &[Keyword], bytes: &[u8]) -> Option<Keyword>
+    ensures { result ≡ spelled table.entry.now bytes.now }
+{
+    while let [keyword, rest @ ..] = table {
+        if same_bytes(keyword.spelling().as_bytes(), bytes) {
+            return Some(*keyword);
+        }
+        table = rest;
+    }
+    None
+}
+
+/// The keyword of this spelling.
+fn keyword(bytes: &[u8]) -> Option<Keyword>
+    ensures { result ≡ keyword_of bytes.now }
+{
+    first_spelled(&KEYWORDS, bytes)
+}
+
+/// The token of a keyword, if it is one.
+fn named(keyword: Option<Keyword>) -> Token
+    ensures { result ≡ named_token keyword }
+{
+    match keyword {
+        Some(keyword) => Token::Name(keyword),
+        None => Token::Other,
+    }
+}
+
+/// The token behind a minus.
+fn minus(bytes: &[u8]) -> Token
+    ensures { result ≡ minus_token bytes.now }
+{
+    match bytes {
+        [] => Token::Absent,
+        [first, ..] => {
+            if is_numeral(bytes) && !(*first == 48) {
+                Token::Negative(value(bytes))
+            } else {
+                Token::Other
+            }
+        }
+    }
+}
+
+/// The token of a word.
+fn token_in(word: &[u8]) -> Token
+    ensures { result ≡ token_of word.now }
+{
+    match word {
+        [] => Token::Other,
+        [first, rest @ ..] => {
+            if *first == 45 {
+                minus(rest)
+            } else if is_digit(*first) {
+                if is_numeral(word) {
+                    Token::Number(value(word))
+                } else {
+                    Token::Other
+                }
+            } else if *first == 114 && is_numeral(rest) {
+                Token::Register(value(rest))
+            } else {
+                named(keyword(word))
+            }
+        }
+    }
+}
+
+/// Whether a token may stand behind eight others.
+fn may_go_on(tokens: &[Token], token: Token) -> bool
+    ensures { result ≡ goes_on tokens.now token }
+{
+    match tokens {
+        [Token::Name(Keyword::Root), ..] => matches!(token, Token::Number(_)),
+        _ => false,
+    }
+}
+
+/// Puts the tokens of a line in place of others; none where it has so many that it has no form.
+pub(crate) fn read_tokens(
+    alloc: Global,
+    line: &[u8],
+    tokens: &mut Vec<Token>,
+) -> Result<(), NoMemory>
+    ensures { OnOk result (part_in tokens.new.items ≡ line_of line.now) }
+{
+    tokens.clear();
+    let mut left = line;
+    while let Some((word, rest)) = cut(left, 32) {
+        let token = token_in(word);
+        if tokens.len() >= 8 && !may_go_on(tokens, token) {
+            tokens.clear();
+            return Ok(());
+        }
+        tokens.push(token)?;
+        left = rest;
+    }
+    tokens.push(token_in(left))?;
+    Ok(())
+}

@@ -1,5 +1,0 @@
-use Rattle.ppm_owning.proofs.Theorem.{sites_everywhere}
-use Rattle.ppm_owning.proofs.laws.come_to_sites.Goals as goal
-
-pub returns : goal.returns
-returns c = record { law = sites_everywhere }

@@ -1,5 +1,0 @@
-use Rattle.ppm_owning.proofs.Theorem.{apart_everywhere}
-use Rattle.ppm_owning.proofs.laws.own_apart.Goals as goal
-
-pub returns : goal.returns
-returns c = record { law = apart_everywhere }

@@ -1,5 +1,0 @@
-use Rattle.ppm_owning.proofs.Theorem.{either_order}
-use Rattle.ppm_owning.proofs.laws.run_in_either_order.Goals as goal
-
-pub returns : goal.returns
-returns c = record { law = either_order }

@@ -1,0 +1,14 @@
+pub mod Appending
+pub mod SpellingLemmas
+pub mod LexingLemmas
+pub mod Reading
+pub mod Fine
+pub mod FineLemmas
+pub mod FormLemmas
+pub mod ExpressionsAgain
+pub mod CallsAgain
+pub mod StatementsAgain
+pub mod DeclarationsAgain
+pub mod ProgramsAgain
+pub mod BareLemmas
+pub mod Theorem

@@ -1,0 +1,11 @@
+use Rattle.std.proofs.Common.{◌≡◌, ◌++◌, length}
+use Rattle.ppm_printer.specs.Canonical.{more_tokens, integer_tokens}
+use Rattle.ppm_printer.specs.Spelled.{text_of}
+use Rattle.ppm_printer.proofs.program.push_more_values.Given as goal
+
+-- what is written, and what is left
+abbrev pub invariant-loop-left : goal.invariant-loop-left
+invariant-loop-left l = l.text.items ++ text_of (more_tokens integer_tokens l.left) ≡ l.fn.text.items ++ text_of (more_tokens integer_tokens l.values)
+
+abbrev pub decreases-loop-left : goal.decreases-loop-left
+decreases-loop-left l = length l.left

@@ -1,5 +1,0 @@
-use Rattle.ppm_printing.proofs.Theorem.{tell_programs}
-use Rattle.ppm_printing.proofs.laws.canonical_texts_tell_programs.Goals as goal
-
-pub returns : goal.returns
-returns c = record { law = tell_programs }

@@ -1,5 +1,0 @@
-use Rattle.ppm_printing.proofs.Theorem.{has_its_tree}
-use Rattle.ppm_printing.proofs.laws.printed_texts_have_their_tree.Goals as goal
-
-pub returns : goal.returns
-returns c = record { law = has_its_tree }

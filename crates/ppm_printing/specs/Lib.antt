@@ -1,4 +1,0 @@
-pub mod Spelled
-pub mod Canonical
-pub mod Lines
-pub mod Correct

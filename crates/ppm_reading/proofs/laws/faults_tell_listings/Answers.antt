@@ -1,6 +1,0 @@
-use Rattle.ppm_reading.proofs.LawLemmas.{one_fault, one_code, covers}
-use Rattle.ppm_reading.proofs.NoFaultLemmas.{excludes}
-use Rattle.ppm_reading.proofs.laws.faults_tell_listings.Goals as goal
-
-pub returns : goal.returns
-returns c = record { law = record { excludes = excludes; covers = covers; one_code = one_code; one_fault = one_fault } }

@@ -1,6 +1,0 @@
-use Rattle.ppm_translation.proofs.FitsLemmas.{names_have_slots}
-use Rattle.ppm_translation.proofs.KeepLemmas.{rules_kept}
-use Rattle.ppm_translation.proofs.laws.keeps_the_rules.Goals as goal
-
-pub returns : goal.returns
-returns c = record { law = rules_kept names_have_slots }

@@ -1,5 +1,0 @@
-use Rattle.ppm_translation.proofs.ApartLemmas.{lines_alone}
-use Rattle.ppm_translation.proofs.laws.lines_alone.Goals as goal
-
-pub returns : goal.returns
-returns c = record { law = lines_alone }

@@ -1,5 +1,0 @@
-use Rattle.ppm_translation.proofs.FitsLemmas.{names_have_slots}
-use Rattle.ppm_translation.proofs.laws.names_have_slots.Goals as goal
-
-pub returns : goal.returns
-returns c = record { law = names_have_slots }
