@@ -8,7 +8,7 @@ use Rattle.ppm_step.specs.declared.turn.Turn.{Turn}
 use Rattle.ppm_step.specs.State.{State, stand_of, happens, after}
 use Rattle.ppm_choice.specs.declared.limits.Limits.{Limits}
 use Rattle.ppm_choice.specs.Deeds.{Deed, deeds_of, AreOf}
-use Rattle.ppm_choice.specs.Obeying.{Past, behind, next_act, Stops, Obeys}
+use Rattle.ppm_choice.specs.Obeying.{Past, behind, next_act, awake, Stops, Obeys}
 
 -- the deed that a turn is
 abbrev pub deed_of : (processor : ℕ) → State → Turn → Deed
@@ -29,12 +29,16 @@ module _ (s : Shape) (code : CodeParts) where
     ObeysFrom past state turns =
         Obeys plan limits processor past (deeds_of s code processor state turns) (stand_of (after s code state turns) processor)
 
+    -- what is done behind the first turn
+    abbrev pub past_first : Past → State → Turn → Past
+    past_first past state turn = behind (awake plan limits processor past (stand_of state processor)) (deed_of processor state turn)
+
     -- the first turn and those behind it
     abbrev pub FirstObeys : Past → State → Turn → List Turn → Type 0
     FirstObeys past state turn turns =
         (¬ Stops plan limits processor past (stand_of state processor))
         × (turn.act ≡ next_act plan limits processor past (stand_of state processor))
-        × ObeysFrom (behind past (deed_of processor state turn)) (happens s code state turn) turns
+        × ObeysFrom (past_first past state turn) (happens s code state turn) turns
 
     pub first_obeys : (past : Past) (state : State) (turn : Turn) (turns : List Turn) → turn.processor ≡ processor
         → ObeysFrom past state (turn ∷ turns) → FirstObeys past state turn turns
@@ -67,6 +71,6 @@ module _ (s : Shape) (code : CodeParts) where
         let second = first_obeys past state u us other.0 y in
         let same = same_turn state past t u own.0 other.0 first.1 second.1 in
         let rest =
-        subst (λ w. ObeysFrom (behind past (deed_of processor state w)) (happens s code state w) us) (sym same) second.2 in
+        subst (λ w. ObeysFrom (past_first past state w) (happens s code state w) us) (sym same) second.2 in
         ap (λ w. w ∷ ts) same
-        ∙ ap (λ l. u ∷ l) (one_run (behind past (deed_of processor state t)) (happens s code state t) ts us own.1 other.1 first.2 rest)
+        ∙ ap (λ l. u ∷ l) (one_run (past_first past state t) (happens s code state t) ts us own.1 other.1 first.2 rest)

@@ -3,3 +3,4 @@ pub mod CountLemmas
 pub mod ChoiceLemmas
 pub mod AloneLemmas
 pub mod StepsLemmas
+pub mod ParkLemmas

@@ -1,4 +1,5 @@
 pub mod Deeds
 pub mod Obeying
 pub mod Paces
+pub mod Tells
 pub mod Laws

@@ -1,5 +1,6 @@
 -- When a processor obeys a plan and limits.
-use Rattle.std.specs.Prelude.{◌≡◌, ◌≤◌, ◌⊎◌, ℕ, ◌+◌, ◌^◌, ◌&&◌, nat_le, nat_lt, if◌then◌else◌, Bool, true, false, List, [], ◌∷◌, Option, Some, None, get_or}
+use Rattle.std.specs.Prelude.{◌≡◌, ◌<◌, ◌≤◌, ◌⊎◌, ℕ, zero, suc, ◌+◌, ◌^◌, ◌&&◌, not, nat_le, nat_lt, if◌then◌else◌, Bool, true, false, List, [], ◌∷◌, Option, Some, None, get_or}
+use Rattle.std.specs.List.{All}
 use Rattle.ppm_cells.specs.declared.shape.Shape.{Shape}
 use Rattle.ppm_code.specs.declared.code.CodeParts.{CodeParts}
 use Rattle.ppm_plan.specs.declared.fault.Fault.{Fault}
@@ -8,7 +9,7 @@ use Rattle.ppm_plan.specs.declared.plan_item.PlanItem.{PlanItem}
 use Rattle.ppm_plan.specs.Draws.{victims_of}
 use Rattle.ppm_plan.specs.Faults.{fault_at}
 use Rattle.ppm_plan.specs.Forms.{plan_form}
-use Rattle.ppm_plan.specs.Refusals.{IsKeeper}
+use Rattle.ppm_plan.specs.Refusals.{IsKeeper, is_killed}
 use Rattle.ppm_plan.specs.Schedules.{Planned}
 use Rattle.ppm_step.specs.declared.turn.Act.{Act}
 use Rattle.ppm_step.specs.declared.turn.Act.TheVariants.{Step, Soft, Hard, Quit}
@@ -17,10 +18,13 @@ use Rattle.ppm_step.specs.declared.turn.Next.TheVariants.{Work, Seek}
 use Rattle.ppm_step.specs.declared.turn.Turn.{Turn}
 use Rattle.ppm_step.specs.declared.turn.Why.TheVariants.{Turns}
 use Rattle.ppm_step.specs.Standings.{Standing, IsDone}
-use Rattle.ppm_step.specs.State.{State, stand_of, after, next_of, seeks_holder}
-use Rattle.ppm_choice.specs.declared.limits.Idle.TheVariants.{Leave}
+use Rattle.ppm_step.specs.Among.{IsTurnAmong}
+use Rattle.ppm_step.specs.State.{State, stand_of, after, next_of, seeks_holder, is_work_next, is_work_turn, draws as draws_there}
+use Rattle.ppm_words.specs.declared.idle.Idle.{Idle}
+use Rattle.ppm_words.specs.declared.idle.Idle.TheVariants.{Leave, Park}
 use Rattle.ppm_choice.specs.declared.limits.Limits.{Limits}
 use Rattle.ppm_choice.specs.Deeds.{Deed, deeds_of}
+pub use Rattle.ppm_step.specs.State.{is_step}
 
 -- what a processor has done so far: how many acts, how many of them were work turns, how many looks since the last of these, and how
 -- many victims it has drawn
@@ -35,19 +39,14 @@ nothing_done = record { acts = 0; work = 0; looks = 0; drawn = 0 }
 
 -- a work turn is a step of work; each other act is a look
 abbrev pub is_work : Next → Bool
-is_work Work = true
-is_work next = false
-
-abbrev pub is_step : Act → Bool
-is_step (Step victim) = true
-is_step act = false
+is_work next = is_work_next next
 
 abbrev pub is_work_deed : Deed → Bool
-is_work_deed deed = is_step deed.act && is_work (next_of deed.stood)
+is_work_deed deed = is_work_turn deed.act deed.stood
 
 -- a step draws a victim where one is due
 abbrev pub draws : Deed → Bool
-draws deed = is_step deed.act && seeks_holder deed.stood
+draws deed = draws_there deed.act deed.stood
 
 abbrev pub behind : Past → Deed → Past
 behind past deed = record {
@@ -60,6 +59,24 @@ behind past deed = record {
 -- behind a rest the looks count from 0 again
 abbrev pub rested : Past → Past
 rested past = record { acts = past.acts; work = past.work; looks = 0; drawn = past.drawn }
+
+-- whether the coming step is the load of the finish word before a Seek
+abbrev pub is_seek : Next → Bool
+is_seek Seek = true
+is_seek next = false
+
+-- whether a processor that rests parks
+abbrev pub is_park : Idle → Bool
+is_park Park = true
+is_park Leave = false
+
+-- whether no processor below the number is spared, and whether this one is the keeper
+abbrev pub all_killed : List PlanItem → ℕ → Bool
+all_killed items zero = true
+all_killed items (suc n) = is_killed plan_form n items && all_killed items n
+
+abbrev pub keeps : List PlanItem → ℕ → Bool
+keeps items processor = not (is_killed plan_form processor items) && all_killed items processor
 
 -- the fault that a plan has for an act; a plan names turns below 2^32 alone
 abbrev pub fault_of : List PlanItem → (processor act : ℕ) → Option Fault
@@ -93,17 +110,32 @@ module _ (plan : Planned) (limits : Limits) (processor : ℕ) where
     pub seeks : next_of stood ≡ Seek
     pub looked : limits.looks ≤ past.looks
 
+  -- whether it does, and then parks
+  abbrev pub parks : Past → Standing → Bool
+  parks past stood =
+      is_park limits.idle && (is_seek (next_of stood) && not (keeps plan.items processor) && nat_le limits.looks past.looks)
+
+  -- the past with which it acts there: where it parks, behind its rest
+  abbrev pub awake : Past → Standing → Past
+  awake past stood = if parks past stood then rested past else past
+
   -- its acts stop where it is done, or where it rests and is to leave
   abbrev pub Stops : Past → Standing → Type 0
   Stops past stood = (stood ≡ IsDone) ⊎ ((limits.idle ≡ Leave) × Rests past stood)
 
-  -- with such a past it obeys in these acts, and stands there behind them: it makes its next act wherever its acts don't stop, and no other
+  -- with such a past it obeys in these acts, and stands there behind them: it makes its next act wherever its acts don't stop, and no other;
+  -- before it, it has parked where it was to
   abbrev pub Obeys : Past → List Deed → (stands : Standing) → Type 0
   Obeys past [] stands = Stops past stands
   Obeys past (deed ∷ deeds) stands =
-      (¬ Stops past deed.stood) × (deed.act ≡ next_act past deed.stood) × Obeys (behind past deed) deeds stands
+      (¬ Stops past deed.stood) × (deed.act ≡ next_act past deed.stood) × Obeys (behind (awake past deed.stood) deed) deeds stands
 
   -- it obeys in a run
   abbrev pub ObeysIn : Shape → CodeParts → State → List Turn → Type 0
   ObeysIn s code state turns =
       Obeys nothing_done (deeds_of s code processor state turns) (stand_of (after s code state turns) processor)
+
+-- each processor of a machine obeys in a run, whose turns name its processors alone
+pub record ObeyAll (plan : Planned) (limits : Limits) (s : Shape) (code : CodeParts) (state : State) (turns : List Turn) : Type 0 where
+  pub among : All (IsTurnAmong s.processors) turns
+  pub obeys : (processor : ℕ) → processor < s.processors → ObeysIn plan limits processor s code state turns

@@ -1,13 +1,11 @@
 -- The pace of a processor as its past says it, and what is chosen by it.
-use Rattle.std.specs.Prelude.{◌≡◌, ◌↔◌, ◌<◌, ℕ, ◌+◌, ◌^◌, ◌&&◌, not, nat_le, min, if◌then◌else◌, IsTrue, Bool, true, false, Option, Some, None}
+use Rattle.std.specs.Prelude.{◌≡◌, ◌↔◌, ◌<◌, ℕ, ◌+◌, ◌^◌, ◌&&◌, not, nat_le, min, if◌then◌else◌, IsTrue, true, false, Option, Some, None}
 use Rattle.ppm_plan.specs.declared.fault.Fault.{Fault}
 use Rattle.ppm_plan.specs.declared.fault.Fault.TheVariants as faults
 use Rattle.ppm_plan.specs.Forms.{plan_form}
 use Rattle.ppm_plan.specs.Refusals.{IsKeeper}
 use Rattle.ppm_plan.specs.Schedules.{Planned}
 use Rattle.ppm_step.specs.declared.turn.Act.TheVariants.{Step, Soft, Hard, Quit}
-use Rattle.ppm_step.specs.declared.turn.Next.{Next}
-use Rattle.ppm_step.specs.declared.turn.Next.TheVariants.{Seek}
 use Rattle.ppm_step.specs.declared.turn.Why.TheVariants.{Turns}
 use Rattle.ppm_step.specs.Standings.{Standing}
 use Rattle.ppm_step.specs.State.{next_of, seeks_holder}
@@ -16,6 +14,7 @@ use Rattle.ppm_choice.specs.declared.choosing.Choice.TheVariants.{Do, Draw, Leav
 use Rattle.ppm_choice.specs.declared.limits.Limits.{Limits}
 use Rattle.ppm_choice.specs.declared.pace.Pace.{Pace}
 use Rattle.ppm_choice.specs.Obeying.{Past, is_work, is_step, fault_of, next_victim, next_act, Rests}
+pub use Rattle.ppm_choice.specs.Obeying.{is_seek}
 
 -- the pace of a processor with such a past that stands there
 pub record IsPace (plan : Planned) (limits : Limits) (past : Past) (stood : Standing) (pace : Pace) : Type 0 where
@@ -39,10 +38,6 @@ IsChoice plan limits processor past stood (Do act) =
     × ((is_step act && seeks_holder stood) ≡ false)
 
 -- the same by a pace
-abbrev pub is_seek : Next → Bool
-is_seek Seek = true
-is_seek next = false
-
 abbrev pub unfaulted : Limits → Pace → Choice
 unfaulted limits pace = if is_work pace.next && nat_le limits.turns pace.work then Do (Quit Turns) else (if pace.due then Draw else Do (Step 0))
 

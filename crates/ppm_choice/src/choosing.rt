@@ -30,12 +30,13 @@ fn fault_in(plan: &Plan, processor: u32, acts: u64) -> Option<Fault>
     }
 }
 
-/// What a processor does next: it leaves where it is not the keeper, is about to seek work, and has looked often enough in
-/// a row; else it meets the fault that the plan has for this act; else it quits where its work turns are spent and the step is
+/// What a processor does next: it leaves, or parks, where it is not the keeper, is about to seek work, and has looked often
+/// enough in a row; else it meets the fault that the plan has for this act; else it quits where its work turns are spent and the step is
 /// work; else it makes its step, with the next victim where one is due.
 pub fn choose(pace: &Pace, plan: &Plan, limits: Limits) -> Choice
-    ensures { (past : Past) (stood : Standing) → IsPace plan.now limits past stood pace.now
+    ensures choice { (past : Past) (stood : Standing) → IsPace plan.now limits past stood pace.now
         → IsChoice plan.now limits pace.now.processor past stood result }
+    ensures pace { result ≡ chosen plan.now limits pace.now }
 {
     chosen(pace, plan, limits)
 }

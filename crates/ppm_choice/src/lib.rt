@@ -15,6 +15,7 @@ mod tests;
 
 pub use choosing::{Choice, choose};
 pub use clear::clear_steps;
-pub use laws::has_one_run;
-pub use limits::{Idle, Limits};
+pub use laws::{has_one_run, tells_where_it_parks};
+pub use limits::Limits;
 pub use pace::Pace;
+pub use ppm_words::Idle;

@@ -1,13 +1,6 @@
 //! The limits of a run.
 
-/// What a processor does where it has looked for work long enough.
-#[derive(Clone, Copy, Debug, PartialEq, Eq)]
-pub enum Idle {
-    /// It leaves the run.
-    Leave,
-    /// It parks until another processor wakes it.
-    Park,
-}
+use ppm_words::Idle;
 
 /// The limits of a run, the same for each processor.
 #[derive(Clone, Copy, Debug, PartialEq, Eq)]

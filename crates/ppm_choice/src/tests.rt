@@ -1,5 +1,5 @@
 //! What is chosen at some paces, by a table.
-use crate::{Choice, Idle, Limits, Pace, choose, clear_steps, has_one_run};
+use crate::{Choice, Idle, Limits, Pace, choose, clear_steps, has_one_run, tells_where_it_parks};
 use ppm_plan::{Plan, read_plan};
 use ppm_step::{Act, Next, Told, Why};
 use std::alloc::Global;
@@ -85,6 +85,7 @@ const CHOICES: [(u32, (u64, u64, u32), (Next, bool), Choice); 18] = [
 #[test]
 fn acts_are_chosen(rt: HostRuntime) -> Result<(), Fail> {
     has_one_run();
+    tells_where_it_parks();
     let plan = plan_of(rt.alloc(), "0@5h,2@7s,1@4294967295s")?;
     for (processor, done, coming, want) in CHOICES {
         chooses(&rt, &plan, processor, done, coming, want);

@@ -1,5 +1,5 @@
 -- Steps of one processor in a row: what is done to it and to the words is what so many turns make of the machine.
-use Rattle.std.proofs.Common.{◌≡◌, ◌∙◌, ℕ, zero, suc, ◌+◌, List, [], ◌∷◌, length, map, set, slice_get, Some, refl, sym, ap, subst, arith}
+use Rattle.std.proofs.Common.{◌≡◌, ◌∙◌, ℕ, zero, suc, ◌+◌, if◌then◌else◌, List, [], ◌∷◌, length, map, set, slice_get, Some, refl, sym, ap, subst, arith}
 use Rattle.std.proofs.lemmas.List.{length-append, length-replicate, map-set}
 use Rattle.ppm_cells.specs.Memory.{read}
 use Rattle.ppm_cells.specs.declared.cell.Cell.TheVariants.{FinishWord}
@@ -9,7 +9,8 @@ use Rattle.ppm_step.specs.declared.local.Local.{Local}
 use Rattle.ppm_step.specs.declared.turn.Act.TheVariants.{Step}
 use Rattle.ppm_step.specs.declared.turn.Turn.{Turn}
 use Rattle.ppm_step.specs.Locals.{standing_of}
-use Rattle.ppm_step.specs.State.{State, stand_in, stand_of, acts, happens, after, along, next_of, seeks_holder, step_by, work_next, forks_of, takes_of, work_of}
+use Rattle.ppm_step.specs.State.{State, stand_in, stand_of, acts, happens, after, along, next_of, seeks_holder, forks_of, takes_of, work_of}
+use Rattle.ppm_step.specs.Told.{is_work_turn}
 use Rattle.ppm_core.specs.Acts.{is_done_at, forks_at, takes_at, words_acted, stand_acted}
 use Rattle.ppm_core.specs.Machine.{Holding, seen}
 use Rattle.ppm_core.specs.Situation.{Situation, turned, run_on}
@@ -93,7 +94,7 @@ module _ (s : Shape) (code : CodeParts) (own : ℕ) where
 
   work_one : (state : State) (t : Moment) → StandsAt state t → length (work_of state (steady_step own)) ≡ work_at s code own t
   work_one state t h =
-      ap (λ standing. length (step_by (λ st. work_next own (next_of st)) (Step 0) standing)) (stand_is state t h)
+      ap (λ standing. length (if is_work_turn s code (Step 0) standing then own ∷ [] else [])) (stand_is state t h)
       ∙ sym (work_is s code own (Step 0) t.stand)
 
   no_forks : (n : ℕ) (state : State) (t : Moment) → StandsAt state t → AllMove s code own n t

@@ -1,5 +1,5 @@
 -- One turn: what is done to one processor and to the words is what the rules make of the state.
-use Rattle.std.proofs.Common.{◌≡◌, ◌∙◌, ℕ, ◌+◌, Bool, if◌then◌else◌, List, length, map, set, slice_get, option_map, Option, Some, refl, sym, ap, subst}
+use Rattle.std.proofs.Common.{◌≡◌, ◌∙◌, ℕ, ◌+◌, Bool, true, false, if◌then◌else◌, List, [], ◌∷◌, length, map, set, slice_get, option_map, Option, Some, refl, sym, ap, subst}
 use Rattle.std.proofs.lemmas.List.{map-set}
 use Rattle.std.proofs.lemmas.Option.{slice_get-map}
 use Rattle.ppm_cells.specs.declared.shape.Shape.{Shape}
@@ -7,13 +7,11 @@ use Rattle.ppm_code.specs.declared.code.CodeParts.{CodeParts}
 use Rattle.ppm_words.specs.declared.event.Event.{Event}
 use Rattle.ppm_step.specs.declared.local.Local.{Local}
 use Rattle.ppm_step.specs.declared.turn.Act.{Act}
-use Rattle.ppm_step.specs.declared.turn.Act.TheVariants.{Step, Soft, Hard, Quit}
 use Rattle.ppm_step.specs.declared.turn.Next.{Next}
-use Rattle.ppm_step.specs.declared.turn.Next.TheVariants.{Work, Look, Seek, Done}
 use Rattle.ppm_step.specs.declared.turn.Turn.{Turn}
 use Rattle.ppm_step.specs.Locals.{standing_of}
 use Rattle.ppm_step.specs.Standings.{Standing, IsLost, IsPlaced, IsAt, IsWithin, IsRunning, IsBroken, IsDone}
-use Rattle.ppm_step.specs.State.{State, stand_in, stand_of, acts, happens, next_of, step_by, work_next, forks_of, takes_of, work_of}
+use Rattle.ppm_step.specs.State.{State, stand_in, stand_of, acts, happens, next_of, forks_of, takes_of, work_of}
 use Rattle.ppm_step.specs.Told.{event_by, is_work_turn, told_of}
 use Rattle.ppm_core.specs.Acts.{words_acted, stand_acted, event_acted, forks_at, takes_at}
 use Rattle.ppm_core.specs.Machine.{Holding, seen}
@@ -48,19 +46,13 @@ event_is s code state turn (IsBroken place) = refl
 event_is s code state turn IsDone = refl
 
 -- a turn is work, or not
-next_counts : (s : Shape) (code : CodeParts) (processor : ℕ) (victim : ℕ) (standing : Standing) (next : Next) → next_of standing ≡ next
-    → (if is_work_turn s code (Step victim) standing then 1 else 0) ≡ length (work_next processor (next_of standing))
-next_counts s code processor victim standing Work e = rw e refl
-next_counts s code processor victim standing Look e = rw e refl
-next_counts s code processor victim standing Seek e = rw e refl
-next_counts s code processor victim standing Done e = rw e refl
+one_if : (processor : ℕ) (work : Bool) → (if work then 1 else 0) ≡ length (if work then processor ∷ [] else [])
+one_if processor true = refl
+one_if processor false = refl
 
 pub work_is : (s : Shape) (code : CodeParts) (processor : ℕ) (act : Act) (standing : Standing)
-    → (if is_work_turn s code act standing then 1 else 0) ≡ length (step_by (λ st. work_next processor (next_of st)) act standing)
-work_is s code processor (Step victim) standing = next_counts s code processor victim standing (next_of standing) refl
-work_is s code processor Soft standing = refl
-work_is s code processor Hard standing = refl
-work_is s code processor (Quit why) standing = refl
+    → (if is_work_turn s code act standing then 1 else 0) ≡ length (if is_work_turn s code act standing then processor ∷ [] else [])
+work_is s code processor act standing = one_if processor (is_work_turn s code act standing)
 
 -- where the processor of the turn stands
 pub stands_at : (m : Holding) (n : ℕ) (old : Local) → slice_get m.locals n ≡ Some old
@@ -133,7 +125,7 @@ turned_is m turn old new words forks takes work h f t w =
     let ts : takes ≡ length (takes_of (seen m).state turn) = t ∙ sym (ap (λ found. takes_at turn.act (stand_in found)) stands) in
     let ws : work ≡ length (work_of (seen m).state turn) =
     w ∙ work_is m.shape m.code turn.processor turn.act (standing_of m.shape m.code old)
-    ∙ sym (ap (λ found. length (step_by (λ st. work_next turn.processor (next_of st)) turn.act (stand_in found))) stands) in
+    ∙ sym (ap (λ found. length (if is_work_turn m.shape m.code turn.act (stand_in found) then turn.processor ∷ [] else [])) stands) in
     λ i. record {
       shape = m.shape;
       code = m.code;

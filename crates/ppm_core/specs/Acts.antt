@@ -1,31 +1,14 @@
 -- What an act of one processor makes of the words, where the processor stands then, and what is told of it.
-use Rattle.std.specs.Prelude.{ℕ, ◌<◌, Bool, true, false, List, length, Option, Some, None}
+use Rattle.std.specs.Prelude.{ℕ, List, length, Option, Some, None}
 use Rattle.ppm_cells.specs.declared.shape.Shape.{Shape}
 use Rattle.ppm_code.specs.declared.code.CodeParts.{CodeParts}
 use Rattle.ppm_words.specs.declared.event.Event.{Event}
 use Rattle.ppm_step.specs.declared.turn.Act.{Act}
-use Rattle.ppm_step.specs.declared.turn.Act.TheVariants.{Step, Soft, Hard, Quit}
-use Rattle.ppm_step.specs.declared.turn.Turn.{Turn}
 use Rattle.ppm_step.specs.Standings.{Standing, IsDone}
 use Rattle.ppm_step.specs.State.{want_of, stand_after, found_in, words_after, step_by, row_by, fork_row, take_row}
 use Rattle.ppm_step.specs.Told.{act_event, place_of}
-
--- the victim that a step names is a processor
-abbrev pub IsActAmong : (processors : ℕ) → Act → Type 0
-IsActAmong processors (Step victim) = victim < processors
-IsActAmong processors Soft = Unit {0}
-IsActAmong processors Hard = Unit {0}
-IsActAmong processors (Quit why) = Unit {0}
-
--- so is the processor whose turn it is
-pub record IsTurnAmong (processors : ℕ) (turn : Turn) : Type 0 where
-  pub processor : turn.processor < processors
-  pub act : IsActAmong processors turn.act
-
--- whether a processor takes no step any more
-abbrev pub is_done_at : Standing → Bool
-is_done_at IsDone = true
-is_done_at standing = false
+pub use Rattle.ppm_step.specs.Among.{IsActAmong, IsTurnAmong}
+pub use Rattle.ppm_step.specs.State.{is_done_at}
 
 -- the forks and takes of an act by a processor that stands there
 abbrev pub forks_at : Act → Standing → ℕ

@@ -20,9 +20,10 @@ use Rattle.ppm_core.proofs.RunLemmas.{run_none, run_step}
 use Rattle.ppm_choice.specs.declared.limits.Limits.{Limits}
 use Rattle.ppm_choice.specs.declared.pace.Pace.{Pace}
 use Rattle.ppm_choice.specs.Deeds.{Deed}
-use Rattle.ppm_choice.specs.Obeying.{Past, nothing_done, behind, is_work, is_work_deed, next_act, Rests, Stops}
+use Rattle.ppm_choice.specs.Obeying.{Past, nothing_done, behind, is_work, is_work_deed, next_act, awake, Rests, Stops}
 use Rattle.ppm_choice.specs.Paces.{IsPace}
-use Rattle.ppm_choice.proofs.AloneLemmas.{begins_with}
+use Rattle.ppm_choice.proofs.AloneLemmas.{ObeysFrom, deed_of, begins_with}
+use Rattle.ppm_choice.proofs.ParkLemmas.{stays_awake}
 use Rattle.ppm_driver.specs.Alone.{ObeysTo}
 use Rattle.ppm_driver.specs.Going.{IsAt as IsAtPast, HasDrawn, IsNext, Leads, is_over}
 
@@ -98,9 +99,10 @@ module _ (plan : Planned) (limits : Limits) where
   ends {m = m} stops = record { turns = []; own = tt; obeys = stops; makes = run_none m }
 
   -- an act, and what obeys behind it
-  pub goes_on : {past : Past} {m n last : Situation} → ¬ Stops plan limits 0 past (stand_of m.state 0) → n ≡ turned m (turn_by past m)
+  pub goes_on : {past : Past} {m n last : Situation} → ¬ Stops plan limits 0 past (stand_of m.state 0)
+      → awake plan limits 0 past (stand_of m.state 0) ≡ past → n ≡ turned m (turn_by past m)
       → ObeysTo plan limits (past_behind past m) n last → ObeysTo plan limits past m last
-  goes_on {past} {m} {n} {last} more is o =
+  goes_on {past} {m} {n} {last} more up is o =
       let behind_it : ObeysTo plan limits (past_behind past m) (turned m (turn_by past m)) last =
       subst (λ k. ObeysTo plan limits (past_behind past m) k last) is o in
       record {
@@ -108,7 +110,12 @@ module _ (plan : Planned) (limits : Limits) where
         own = (refl, behind_it.own);
         obeys =
             begins_with m.shape m.code plan limits 0 past m.state (turn_by past m) behind_it.turns refl
-            (more, refl, behind_it.obeys);
+            (
+              more,
+              refl,
+              subst (λ p. ObeysFrom m.shape m.code plan limits 0 (behind p (deed_of 0 m.state (turn_by past m)))
+                  (turned m (turn_by past m)).state behind_it.turns) (sym up) behind_it.obeys,
+            );
         makes = behind_it.makes ∙ run_step m (turn_by past m) behind_it.turns;
       }
 
@@ -119,12 +126,13 @@ module _ (plan : Planned) (limits : Limits) where
 
   -- a run under way that goes on
   pub leads_on : {first m n : Situation} {pace pace' : Pace} {victims victims' : Drawing} (l : Leads plan limits first m pace victims)
-      → ¬ Stops plan limits 0 l.past (stand_of m.state 0) → n ≡ turned m (turn_by l.past m)
+      → ¬ Stops plan limits 0 l.past (stand_of m.state 0) → awake plan limits 0 l.past (stand_of m.state 0) ≡ l.past
+      → n ≡ turned m (turn_by l.past m)
       → IsAtPast plan limits (past_behind l.past m) n pace' victims' → Leads plan limits first n pace' victims'
-  leads_on {m = m} {n = n} l more is at = record {
+  leads_on {m = m} {n = n} l more up is at = record {
     past = past_behind l.past m;
     at = at;
-    back = λ last o. l.back last (goes_on more is o);
+    back = λ last o. l.back last (goes_on more up is o);
   }
 
   -- an act is made, and told
@@ -154,5 +162,6 @@ module _ (plan : Planned) (limits : Limits) where
         few = omega (arith, few, l.at.few, turns);
       } in
       leads_on l (goes_further pace l.past stood l.at.number l.at.pace_is.next more is.0)
+      (stays_awake plan limits 0 l.past stood (λ r. is.0 (subst (λ c. Rests plan limits c l.past stood) (sym l.at.number) r)))
       (made ∙ ap (λ a. turned m (record { processor = 0; act = a })) act_is)
       (subst (λ a. IsAtPast plan limits (behind l.past (record { stood = stood; act = a })) n pace' victims') act_is at)

@@ -24,13 +24,13 @@ use Rattle.ppm_step.specs.State.{State, stand_of, happens, after, opening, next_
 use Rattle.ppm_core.specs.Situation.{Situation, loaded, finish_in}
 use Rattle.ppm_choice.specs.declared.limits.Limits.{Limits}
 use Rattle.ppm_choice.specs.Deeds.{AreOf, deeds_of}
-use Rattle.ppm_choice.specs.Obeying.{Past, Obeys, nothing_done, is_work, fault_of, faulted, next_act, next_step, behind}
+use Rattle.ppm_choice.specs.Obeying.{Past, Obeys, nothing_done, is_work, fault_of, faulted, next_act, next_step}
 use Rattle.ppm_tree.specs.Tree.{ProgramTree}
 use Rattle.ppm_cut_code.specs.Routines.{code_of}
 use Rattle.ppm_driver.specs.declared.loading.Sizes.{Sizes}
 use Rattle.ppm_driver.specs.Alone.{ObeysTo}
 use Rattle.ppm_driver.specs.Loading.{Begins}
-use Rattle.ppm_choice.proofs.AloneLemmas.{deed_of, ObeysFrom, first_obeys}
+use Rattle.ppm_choice.proofs.AloneLemmas.{past_first, ObeysFrom, first_obeys}
 
 -- an item that is a hard fault of a turn kills its processor
 item_kills : (c turn : ℕ) (item : PlanItem) → is_hard_at c turn item ≡ true → plan_form.kills c item ≡ true
@@ -94,7 +94,7 @@ module _ (plan : Planned) (limits : Limits) (c : ℕ) where
         hard_kills past (stand_of state c) (first_obeys s code plan limits c past state (record { processor = c; act = Hard }) more own.0 obeys).1
     struck_is_killed past state (turn ∷ first) more own obeys =
         let next = first_obeys s code plan limits c past state turn (first ++ record { processor = c; act = Hard } ∷ more) own.0 obeys in
-        struck_is_killed (behind past (deed_of c state turn)) (happens s code state turn) first more own.1 next.2
+        struck_is_killed (past_first s code plan limits c past state turn) (happens s code state turn) first more own.1 next.2
 
     -- where its acts stop, the keeper is done
     done_at_end : (past : Past) (state : State) (turns : List Turn) → AreOf c turns → IsKeeper plan_form plan.items c
@@ -102,7 +102,7 @@ module _ (plan : Planned) (limits : Limits) (c : ℕ) where
     done_at_end past state [] own keeper (inl done) = done
     done_at_end past state [] own keeper (inr rests) = absurd (rests.1.no_keeper keeper)
     done_at_end past state (turn ∷ turns) own keeper obeys =
-        done_at_end (behind past (deed_of c state turn)) (happens s code state turn) turns own.1 keeper
+        done_at_end (past_first s code plan limits c past state turn) (happens s code state turn) turns own.1 keeper
         (first_obeys s code plan limits c past state turn turns own.0 obeys).2
 
     -- so the finish word isn't 0 behind such a run from an opening

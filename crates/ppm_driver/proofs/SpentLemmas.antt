@@ -29,7 +29,8 @@ use Rattle.ppm_core.proofs.TurnLemmas.{work_is as work_counts}
 use Rattle.ppm_choice.specs.declared.limits.Limits.{Limits}
 use Rattle.ppm_choice.specs.Deeds.{AreOf}
 use Rattle.ppm_choice.specs.Obeying.{Past, nothing_done, is_work, is_step, is_work_deed, fault_of, faulted, behind}
-use Rattle.ppm_choice.proofs.AloneLemmas.{deed_of, ObeysFrom, first_obeys}
+use Rattle.ppm_choice.proofs.AloneLemmas.{deed_of, past_first, ObeysFrom, first_obeys}
+use Rattle.ppm_choice.proofs.ParkLemmas.{awake_work}
 use Rattle.ppm_tree.specs.Tree.{ProgramTree}
 use Rattle.ppm_cut_code.specs.Routines.{code_of}
 use Rattle.ppm_driver.specs.declared.loading.Sizes.{Sizes}
@@ -115,14 +116,20 @@ module _ (s : Shape) (code : CodeParts) (plan : Planned) (limits : Limits) (c : 
       ∙ ap (λ b. if b then 1 else 0) (work_is s code turn.act (stand_of state turn.processor))
       ∙ ap (λ p. if is_work_deed (record { stood = stand_of state p; act = turn.act }) then 1 else 0) e
 
+  -- a rest before it changes none of them
+  work_first : (past : Past) (state : State) (turn : Turn)
+      → (past_first s code plan limits c past state turn).work ≡ (behind past (deed_of c state turn)).work
+  work_first past state turn = ap (λ n. if is_work_deed (deed_of c state turn) then n + 1 else n) (awake_work plan limits c past (stand_of state c))
+
   -- those behind one turn
   work_behind : (past : Past) (state : State) (turn : Turn) (turns : List Turn) → turn.processor ≡ c
-      → past.work + work_in state (turn ∷ turns) ≡ (behind past (deed_of c state turn)).work + work_in (happens s code state turn) turns
+      → past.work + work_in state (turn ∷ turns) ≡ (past_first s code plan limits c past state turn).work + work_in (happens s code state turn) turns
   work_behind past state turn turns e =
       omega (
         arith,
         length-append (work_of state turn) (along s code work_of (happens s code state turn) turns),
         turn_counts state turn e,
+        work_first past state turn,
         one_or_none (is_work_deed (deed_of c state turn)) past.work,
       )
 
@@ -132,10 +139,11 @@ module _ (s : Shape) (code : CodeParts) (plan : Planned) (limits : Limits) (c : 
   at_most past state (turn ∷ turns) own obeys h =
       let f = first_obeys s code plan limits c past state turn turns own.0 obeys in
       let stood = stand_of state c in
-      let few : (behind past (deed_of c state turn)).work ≤ limits.turns =
+      let least : (behind past (deed_of c state turn)).work ≤ limits.turns =
       subst (λ a. (behind past (record { stood = stood; act = a })).work ≤ limits.turns) (sym f.1)
       (within_by (fault_of plan.items c past.acts) (is_work (next_of stood)) (nat_le limits.turns past.work) past.work limits.turns _ refl h) in
-      let rest = at_most (behind past (deed_of c state turn)) (happens s code state turn) turns own.1 f.2 few in
+      let few : (past_first s code plan limits c past state turn).work ≤ limits.turns = omega (arith, least, work_first past state turn) in
+      let rest = at_most (past_first s code plan limits c past state turn) (happens s code state turn) turns own.1 f.2 few in
       omega (arith, rest, work_behind past state turn turns own.0)
 
   spent : (past : Past) (state : State) (first more : List Turn) (why : Why) → AreOf c (first ++ record { processor = c; act = Quit why } ∷ more)
@@ -150,7 +158,7 @@ module _ (s : Shape) (code : CodeParts) (plan : Planned) (limits : Limits) (c : 
   spent past state (turn ∷ first) more why own obeys =
       let turns = first ++ record { processor = c; act = Quit why } ∷ more in
       let f = first_obeys s code plan limits c past state turn turns own.0 obeys in
-      let rest = spent (behind past (deed_of c state turn)) (happens s code state turn) first more why own.1 f.2 in
+      let rest = spent (past_first s code plan limits c past state turn) (happens s code state turn) first more why own.1 f.2 in
       omega (arith, rest, work_behind past state turn turns own.0)
 
   -- where it quits it isn't done, and its turns are why
@@ -162,7 +170,7 @@ module _ (s : Shape) (code : CodeParts) (plan : Planned) (limits : Limits) (c : 
       quits_by (fault_of plan.items c past.acts) (is_work (next_of (stand_of state c))) (nat_le limits.turns past.work) _ why f.1
   quits past state (turn ∷ first) more why own obeys =
       let f = first_obeys s code plan limits c past state turn (first ++ record { processor = c; act = Quit why } ∷ more) own.0 obeys in
-      quits (behind past (deed_of c state turn)) (happens s code state turn) first more why own.1 f.2
+      quits (past_first s code plan limits c past state turn) (happens s code state turn) first more why own.1 f.2
 
   live : (standing : Standing) → is_work (next_of standing) ≡ true → standing ≢ IsDone
   live standing work done = false_is_not_true (sym (ap (λ (k : Standing). is_work (next_of k)) done) ∙ work)

@@ -19,6 +19,7 @@ use Rattle.ppm_choice.specs.declared.pace.Pace.{Pace}
 use Rattle.ppm_choice.specs.Deeds.{Deed}
 use Rattle.ppm_choice.specs.Obeying.{Past, behind, is_work, fault_of, next_act, Stops}
 use Rattle.ppm_choice.specs.Paces.{IsPace, AreClear}
+use Rattle.ppm_choice.proofs.ParkLemmas.{keeper_awake}
 use Rattle.ppm_choice.proofs.StepsLemmas.{next_is_step}
 use Rattle.ppm_driver.specs.Alone.{ObeysTo}
 use Rattle.ppm_driver.specs.Going.{HasDrawn, Leads}
@@ -132,7 +133,7 @@ module _ (plan : Planned) (limits : Limits) where
       let behind_it : ObeysTo plan limits (behind past (step_deed m)) next last =
       goes_back (behind past (step_deed m)) next last n keeper (rest_clear past m n c) p.1
       (subst (λ k. ObeysTo plan limits (past_steps past m (suc n)) k last) (sym (run_step m (steady_step 0) (steady_steps 0 n))) o) in
-      goes_on plan limits (goes_further past m keeper p.0) (ap (λ a. turned m (record { processor = 0; act = a })) act)
+      goes_on plan limits (goes_further past m keeper p.0) (keeper_awake plan limits 0 past stood keeper) (ap (λ a. turned m (record { processor = 0; act = a })) act)
       (subst (λ a. ObeysTo plan limits (behind past (record { stood = stood; act = a })) next last) act behind_it)
 
   -- steps are made

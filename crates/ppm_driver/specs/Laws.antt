@@ -13,8 +13,8 @@ use Rattle.ppm_plan.specs.Refusals.{IsKeeper}
 use Rattle.ppm_plan.specs.Schedules.{IsItemAmong}
 use Rattle.ppm_step.specs.declared.turn.Act.TheVariants.{Step}
 use Rattle.ppm_step.specs.declared.turn.Turn.{Turn}
-use Rattle.ppm_step.specs.Standings.{Standing, IsDone}
-use Rattle.ppm_step.specs.State.{State, stand_of, after, along, step_by, seeks_holder}
+use Rattle.ppm_step.specs.Standings.{IsDone}
+use Rattle.ppm_step.specs.State.{State, stand_of, after, along, seeks_holder, draws}
 use Rattle.ppm_step.specs.Laws.{IsProposedWord}
 use Rattle.ppm_core.specs.Situation.{loaded, finish_in}
 use Rattle.ppm_driver.specs.Course.{Due, Listed, InRound, act_of, processor_of, act_by, victim_of, turns_of}
@@ -35,12 +35,9 @@ IsShut s state (Listed act) = ⊥
 IsShut s state (InRound processor) = read s state.words FinishWord ≢ 0
 
 -- the loads of holder words that a processor makes as it seeks work, each told as the processor
-abbrev pub seeking : (processor : ℕ) → Standing → List ℕ
-seeking processor standing = if seeks_holder standing then processor ∷ [] else []
-
 abbrev pub load_of : (processor : ℕ) → State → Turn → List ℕ
 load_of processor state turn =
-    if turn.processor == processor then step_by (seeking processor) turn.act (stand_of state turn.processor) else []
+    if turn.processor == processor then (if draws turn.act (stand_of state turn.processor) then processor ∷ [] else []) else []
 
 module _ (s : Shape) (code : CodeParts) where
   -- how many of them there are in a run

@@ -5,8 +5,8 @@ use Rattle.ppm_text.specs.Limits.{text_limit}
 use Rattle.ppm_cells.specs.Finish.{finish_of}
 use Rattle.ppm_cells.specs.declared.finish.Finish.TheVariants as finishes
 use Rattle.ppm_core.specs.Situation.{Situation, finish_in, ending_of}
-use Rattle.ppm_choice.specs.declared.limits.Idle.{Idle}
-use Rattle.ppm_choice.specs.declared.limits.Idle.TheVariants as idles
+use Rattle.ppm_words.specs.declared.idle.Idle.{Idle}
+use Rattle.ppm_words.specs.declared.idle.Idle.TheVariants as idles
 use Rattle.ppm_choice.specs.declared.limits.Limits.{Limits}
 use Rattle.ppm_choice.specs.Obeying.{nothing_done}
 use Rattle.ppm_plan.specs.declared.plan_item.PlanItem.{PlanItem}

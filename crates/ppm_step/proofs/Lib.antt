@@ -12,3 +12,6 @@ pub mod ActLemmas
 pub mod FinishLemmas
 pub mod RoomLemmas
 pub mod NextLemmas
+pub mod QuitLemmas
+pub mod VictimLemmas
+pub mod RecordLemmas

@@ -40,7 +40,7 @@ use Rattle.ppm_step.specs.Standings.{Standing, IsLost, IsPlaced, IsAt, IsWithin,
 use Rattle.ppm_step.specs.Standings.{row_is_there, rest_is_there, within_if, running_if, running, enters, stands_then, stands, begins_if}
 use Rattle.ppm_step.specs.Standings.{went_then, went_row, went_rest, placed, at_finish, wanted_row, wanted_rest, wanted, went}
 use Rattle.ppm_step.specs.State.{State, stand_in, stand_of, found_in, quit_with, want_of, stand_after, happens, after, opening}
-use Rattle.ppm_step.specs.Laws.{FindsFull, IsFilled, RoomHasCause}
+use Rattle.ppm_step.specs.Laws.{FindsFullIn, IsFilled, IsFilledIn, RoomHasCause, RoomHasFrame}
 use Rattle.ppm_step.proofs.PlainLemmas.{IsSimple, Plain, Asking, capsule_simple}
 use Rattle.ppm_step.proofs.RestLemmas.{SparesRest, NeverFull, never_full}
 use Rattle.ppm_step.proofs.SparingLemmas.{place_first, SparesRow}
@@ -90,6 +90,8 @@ module _ (s : Shape) (code : CodeParts) where
   -- what is left begins a capsule that asks for room, and asks for it but once
   pub record BeginsAsking (seat : Seat) (rest : Rest) : Type 0 where
     pub home : Home
+    pub named : seat.restart.kind ≡ Run home.frame home.copy
+    pub fresh : home.block ≡ 0
     pub number : ℕ
     pub capsule : Capsule
     pub of_code : slice_get code.capsules number ≡ Some capsule
@@ -156,14 +158,17 @@ module _ (s : Shape) (code : CodeParts) where
       by false = tt
 
   module _ (is : IsCode code) where
-    capsule_fresh : (seat : Seat) (home : Home) (number : ℕ) (c : Capsule) → slice_get code.capsules number ≡ Some c
+    capsule_fresh : (seat : Seat) (home : Home) (number : ℕ) (c : Capsule) → seat.restart.kind ≡ Run home.frame home.copy → home.block ≡ 0
+        → slice_get code.capsules number ≡ Some c
         → IsFresh seat (rest_of s code seat.place home (capsule_of s.arrays c.instrs))
-    capsule_fresh seat home number c one = by (capsule_simple code s.arrays number c is one)
+    capsule_fresh seat home number c named fresh one = by (capsule_simple code s.arrays number c is one)
       where
         by : IsSimple c.instrs (capsule_of s.arrays c.instrs) → IsFresh seat (rest_of s code seat.place home (capsule_of s.arrays c.instrs))
         by (Plain h) = Never (never_full s code ⊥ seat.place home (capsule_of s.arrays c.instrs) h)
         by (Asking words go room c_is h) = Begins (record {
           home = home;
+          named = named;
+          fresh = fresh;
           number = number;
           capsule = c;
           of_code = one;
@@ -175,21 +180,21 @@ module _ (s : Shape) (code : CodeParts) where
           loads = ap (rest_of s code seat.place home) c_is;
         })
 
-    entered : (seat : Seat) (kind : RestartKind) (number : ℕ) (o : Option Capsule) → slice_get code.capsules number ≡ o
+    entered : (seat : Seat) (kind : RestartKind) (number : ℕ) (o : Option Capsule) → seat.restart.kind ≡ kind → slice_get code.capsules number ≡ o
         → Fresh (enters s code seat kind o)
-    entered seat (Run frame copy) number (Some c) one =
+    entered seat (Run frame copy) number (Some c) named one =
         let home : Home = record { frame = frame; copy = copy; block = 0 } in
         let rest : Rest = rest_of s code seat.place home (capsule_of s.arrays c.instrs) in
-        running_fresh seat rest (rest_is_there s seat rest) (capsule_fresh seat home number c one)
-    entered seat kind number None one = broken kind
+        running_fresh seat rest (rest_is_there s seat rest) (capsule_fresh seat home number c named refl one)
+    entered seat kind number None named one = broken kind
       where
         broken : (kind : RestartKind) → Fresh (enters s code seat kind None)
         broken (Run frame copy) = tt
         broken kind = tt
-    entered seat kind number (Some c) one = tt
+    entered seat kind number (Some c) named one = tt
 
     then_fresh : (seat : Seat) (next : Then) → Fresh (stands_then s code seat next)
-    then_fresh seat (Enter number) = entered seat seat.restart.kind number (slice_get code.capsules number) refl
+    then_fresh seat (Enter number) = entered seat seat.restart.kind number (slice_get code.capsules number) refl refl
     then_fresh seat Again = tt
     then_fresh seat (Load point) = within_fresh seat (Now (Load point)) (then_is_there s seat (Load point))
     then_fresh seat (Install restart) = within_fresh seat (Now (Install restart)) (then_is_there s seat (Install restart))
@@ -373,42 +378,46 @@ module _ (s : Shape) (code : CodeParts) where
     Pending place state = (q : ℕ) × IsFullAt place (stand_of state q)
 
     finds_full : (state : State) (turn : Turn) (victim : ℕ) (seat : Seat) → turn.act ≡ Step victim
-        → FindsIn state.words (stand_of state turn.processor) seat → FindsFull s code seat.place state turn
+        → FindsIn state.words (stand_of state turn.processor) seat → FindsFullIn s code seat.place state turn
     finds_full state turn victim seat step d = record {
-      victim = victim;
-      is_step = step;
-      seat = seat;
-      at_place = refl;
-      home = d.begun.home;
-      number = d.begun.number;
-      capsule = d.begun.capsule;
-      of_code = d.begun.of_code;
-      words = d.begun.words;
-      asks = d.begun.asks_it;
-      begins = d.stands_so ∙ ap (λ (r : Rest). IsRunning seat r) d.begun.rest_is;
-      passes = d.passes;
+      finds = record {
+        victim = victim;
+        is_step = step;
+        seat = seat;
+        at_place = refl;
+        home = d.begun.home;
+        number = d.begun.number;
+        capsule = d.begun.capsule;
+        of_code = d.begun.of_code;
+        words = d.begun.words;
+        asks = d.begun.asks_it;
+        begins = d.stands_so ∙ ap (λ (r : Rest). IsRunning seat r) d.begun.rest_is;
+        passes = d.passes;
+      };
+      named = d.begun.named;
+      fresh = d.begun.fresh;
     }
 
     pending_turn : (place : ℕ) (state : State) (turn : Turn) → AllSpare s code is state → AllFill state
-        → Pending place (happens s code state turn) → Pending place state ⊎ FindsFull s code place state turn
+        → Pending place (happens s code state turn) → Pending place state ⊎ FindsFullIn s code place state turn
     pending_turn place state turn all fill =
-        by_turn s code is (λ (k : State). Pending place k → Pending place state ⊎ FindsFull s code place state turn) state turn (λ p. inl p) live
+        by_turn s code is (λ (k : State). Pending place k → Pending place state ⊎ FindsFullIn s code place state turn) state turn (λ p. inl p) live
         (all turn.processor)
       where
         next : Standing
         next = next_of_turn state turn
 
         of_new : IsFullAt place next → ComesBy state.words turn.act (stand_of state turn.processor) next
-            → Pending place state ⊎ FindsFull s code place state turn
+            → Pending place state ⊎ FindsFullIn s code place state turn
         of_new f (NotFull h) = absurd (fresh_not_full place next h f)
         of_new f (Found victim step seat e d) =
-            inr (subst (λ (p : ℕ). FindsFull s code p state turn) (ap (λ (k : Seat). k.place) (same_seat seat f.seat (sym e ∙ f.is)) ∙ f.at_place)
+            inr (subst (λ (p : ℕ). FindsFullIn s code p state turn) (ap (λ (k : Seat). k.place) (same_seat seat f.seat (sym e ∙ f.is)) ∙ f.at_place)
             (finds_full state turn victim seat step d))
 
         at_one : (q : ℕ) → IsFullAt place (stand_in (slice_get (slice_set state.stand turn.processor next) q))
             → ((q ≡ turn.processor) × (stand_in (slice_get (slice_set state.stand turn.processor next) q) ≡ next))
             ⊎ (stand_in (slice_get (slice_set state.stand turn.processor next) q) ≡ stand_in (slice_get state.stand q))
-            → Pending place state ⊎ FindsFull s code place state turn
+            → Pending place state ⊎ FindsFullIn s code place state turn
         at_one q f (inl t) =
             of_new (subst (IsFullAt place) t.1 f)
             (after_act turn.processor turn.act state.words (stand_of state turn.processor) (fill turn.processor))
@@ -416,7 +425,7 @@ module _ (s : Shape) (code : CodeParts) where
 
         live : Spares s (stand_of state turn.processor)
             → Pending place (acted s code is state turn.processor turn.act (stand_of state turn.processor))
-            → Pending place state ⊎ FindsFull s code place state turn
+            → Pending place state ⊎ FindsFullIn s code place state turn
         live h p = at_one p.0 p.1 (moved s code is state.stand turn.processor p.0 next)
 
     -- the finish word over a turn
@@ -438,7 +447,7 @@ module _ (s : Shape) (code : CodeParts) where
       turn : Turn
       more : List Turn
       turns_are : turns ≡ first ++ (turn ∷ more)
-      finds : FindsFull s code place (after s code state first) turn
+      finds : FindsFullIn s code place (after s code state first) turn
 
     abbrev Caused : (place : ℕ) → State → List Turn → Type 0
     Caused place state turns =
@@ -454,7 +463,7 @@ module _ (s : Shape) (code : CodeParts) where
         by_word (inr t) = inr (inl (turn.processor, t.1 says))
     before_turn place state turn turns all fill (inr (inl pending)) = by_pending (pending_turn place state turn all fill pending)
       where
-        by_pending : Pending place state ⊎ FindsFull s code place state turn → Caused place state (turn ∷ turns)
+        by_pending : Pending place state ⊎ FindsFullIn s code place state turn → Caused place state (turn ∷ turns)
         by_pending (inl p) = inr (inl p)
         by_pending (inr f) = inr (inr (record { first = []; turn = turn; more = turns; turns_are = refl; finds = f }))
     before_turn place state turn turns all fill (inr (inr f)) =
@@ -478,8 +487,8 @@ module _ (s : Shape) (code : CodeParts) where
     opening_fresh (suc n) zero = tt
     opening_fresh (suc n) (suc q) = opening_fresh n q
 
-    pub room_has_cause : RoomHasCause s code
-    room_has_cause words turns place none says =
+    pub room_has_frame : RoomHasFrame s code
+    room_has_frame words turns place none says =
         go (caused place start turns (opening_spares s code is s.processors) (λ q. fresh_fills (stand_of start q) (opening_fresh s.processors q)) is_word)
       where
         start : State
@@ -489,7 +498,12 @@ module _ (s : Shape) (code : CodeParts) where
         is_word =
             sym (pack-unpack finish_word IsFinish finish_of finishes_exact (slice_index (after s code start turns).words 0) (finishes.OutOfRoom place) says)
 
-        go : Caused place start turns → IsFilled s code place words turns
+        go : Caused place start turns → IsFilledIn s code place words turns
         go (inl same) = absurd (room_some place (sym same ∙ none))
         go (inr (inl p)) = absurd (fresh_not_full place (stand_of start p.0) (opening_fresh s.processors p.0) p.1)
         go (inr (inr f)) = record { first = f.first; turn = f.turn; more = f.more; turns_are = f.turns_are; finds = f.finds }
+
+    pub room_has_cause : RoomHasCause s code
+    room_has_cause words turns place none says =
+        let f = room_has_frame words turns place none says in
+        record { first = f.first; turn = f.turn; more = f.more; turns_are = f.turns_are; finds = f.finds.finds }

@@ -2,11 +2,12 @@
 use Rattle.std.specs.Prelude.{◌≡◌, ◌≢◌, ◌⊎◌, ℕ, ◌+◌, ◌^◌, ◌<◌, ◌≤◌, List, ◌∷◌, ◌++◌, Some, slice_get}
 use Rattle.std.specs.List.{AllByRecursion}
 use Rattle.ppm_cells.specs.Cells.{pool_at}
-use Rattle.ppm_cells.specs.Finish.{finish_of}
+use Rattle.ppm_cells.specs.Finish.{finish_of, finish_word}
 use Rattle.ppm_cells.specs.Memory.{read, AreWordsOf}
 use Rattle.ppm_cells.specs.declared.cell.Cell.TheVariants.{FinishWord, RoomCounter}
 use Rattle.ppm_cells.specs.declared.finish.Finish.{Finish}
 use Rattle.ppm_cells.specs.declared.finish.Finish.TheVariants.{Unset, Ended, Trapped, OutOfTurns, OutOfRoom, Stopped, Broken}
+use Rattle.ppm_cells.specs.declared.restart.RestartKind.TheVariants.{Run}
 use Rattle.ppm_cells.specs.declared.shape.Shape.{Shape}
 use Rattle.ppm_code.specs.Capsules.{capsule_of}
 use Rattle.ppm_code.specs.Code.{room_of}
@@ -17,9 +18,13 @@ use Rattle.ppm_step.specs.declared.row.Seat.{Seat}
 use Rattle.ppm_step.specs.declared.turn.Act.{Act}
 use Rattle.ppm_step.specs.declared.turn.Act.TheVariants.{Step, Soft, Hard, Quit}
 use Rattle.ppm_step.specs.declared.turn.Turn.{Turn}
+use Rattle.ppm_step.specs.declared.turn.Why.{Why}
+use Rattle.ppm_step.specs.declared.turn.Why.TheVariants.{Turns}
 use Rattle.ppm_step.specs.Frames.{rest_of}
-use Rattle.ppm_step.specs.Standings.{IsRunning, IsDone, unknown_place}
-use Rattle.ppm_step.specs.State.{State, stand_of, after, opening}
+use Rattle.ppm_step.specs.Standings.{IsLost, IsRunning, IsDone, unknown_place}
+use Rattle.ppm_step.specs.State.{State, stand_of, quit_with, after, opening}
+use Rattle.ppm_step.specs.Stood.{stood_by}
+use Rattle.ppm_step.specs.Told.{record_of}
 
 -- the finish word
 abbrev pub finish_at : Shape → State → ℕ
@@ -72,6 +77,12 @@ module _ (s : Shape) (code : CodeParts) where
     pub begins : stand_of state turn.processor ≡ IsRunning seat (rest_of s code place home (capsule_of s.arrays capsule.instrs))
     pub passes : pool_at s place + s.room < read s state.words (RoomCounter place) + words
 
+  -- such a turn, of which the frame is known: it is the one that the restart of the processor's place names, and it has no new block
+  pub record FindsFullIn (place : ℕ) (state : State) (turn : Turn) : Type 0 where
+    pub finds : FindsFull place state turn
+    pub named : finds.seat.restart.kind ≡ Run finds.home.frame finds.home.copy
+    pub fresh : finds.home.block ≡ 0
+
   -- the state that turns come to from these words
   abbrev pub reached : (words : List ℕ) → List Turn → State
   reached words turns = after s code (opening words s.processors) turns
@@ -86,6 +97,36 @@ module _ (s : Shape) (code : CodeParts) where
   FinishIsProposed = (words : List ℕ) (turns : List Turn) → AllByRecursion (λ turn. IsNoQuit turn.act) turns
       → (finish_at s (reached words turns) ≡ read s words FinishWord) ⊎ IsProposedWord s.processors (finish_at s (reached words turns))
 
+  -- one of the turns is this quit, by a processor that isn't done, and where the finish word is 0
+  pub record IsQuit (processor : ℕ) (why : Why) (words : List ℕ) (turns : List Turn) : Type 0 where
+    pub first : List Turn
+    pub more : List Turn
+    pub turns_are : turns ≡ first ++ (record { processor = processor; act = Quit why } ∷ more)
+    pub lives : stand_of (reached words first) processor ≢ IsDone
+    pub unset : finish_at s (reached words first) ≡ 0
+
+  -- the word is that of one of these
+  pub record IsQuitWord (words : List ℕ) (turns : List Turn) (word : ℕ) : Type 0 where
+    pub processor : ℕ
+    pub why : Why
+    pub quits : IsQuit processor why words turns
+    pub word_is : word ≡ finish_word (quit_with processor why)
+
+  -- whatever turns are made, it stays, comes to stand for what steps propose, or is the word of one of the quits
+  abbrev pub FinishHasCause : Type 0
+  FinishHasCause = (words : List ℕ) (turns : List Turn) → (finish_at s (reached words turns) ≡ read s words FinishWord)
+      ⊎ (IsProposedWord s.processors (finish_at s (reached words turns)) ⊎ IsQuitWord words turns (finish_at s (reached words turns)))
+
+  -- and each such quit makes it its own word
+  abbrev pub QuitIsTold : Type 0
+  QuitIsTold = (words : List ℕ) (turns : List Turn) (processor : ℕ) (why : Why) → AreWordsOf s words
+      → IsQuit processor why words turns → finish_at s (reached words turns) ≡ finish_word (quit_with processor why)
+
+  -- from words that say nothing, it says that the turns of a processor are spent only where this processor quits for them
+  abbrev pub TurnsHaveCause : Type 0
+  TurnsHaveCause = (words : List ℕ) (turns : List Turn) (processor : ℕ) → read s words FinishWord ≡ 0
+      → finish_of (finish_at s (reached words turns)) ≡ Some (OutOfTurns processor) → IsQuit processor Turns words turns
+
   -- one of the turns finds the pool of the place full
   pub record IsFilled (place : ℕ) (words : List ℕ) (turns : List Turn) : Type 0 where
     pub first : List Turn
@@ -99,7 +140,25 @@ module _ (s : Shape) (code : CodeParts) where
   RoomHasCause = (words : List ℕ) (turns : List Turn) (place : ℕ) → read s words FinishWord ≡ 0
       → finish_of (finish_at s (reached words turns)) ≡ Some (OutOfRoom place) → IsFilled place words turns
 
+  -- likewise, where the frame is known
+  pub record IsFilledIn (place : ℕ) (words : List ℕ) (turns : List Turn) : Type 0 where
+    pub first : List Turn
+    pub turn : Turn
+    pub more : List Turn
+    pub turns_are : turns ≡ first ++ (turn ∷ more)
+    pub finds : FindsFullIn place (reached words first) turn
+
+  abbrev pub RoomHasFrame : Type 0
+  RoomHasFrame = (words : List ℕ) (turns : List Turn) (place : ℕ) → read s words FinishWord ≡ 0
+      → finish_of (finish_at s (reached words turns)) ≡ Some (OutOfRoom place) → IsFilledIn place words turns
+
   -- a processor is done only where a hard fault of its own was made, or the finish word isn't 0
   abbrev pub DoneHasCause : Type 0
   DoneHasCause = (words : List ℕ) (turns : List Turn) (processor : ℕ) → AreWordsOf s words → processor < s.processors
       → stand_of (reached words turns) processor ≡ IsDone → IsStruck processor turns ⊎ (finish_at s (reached words turns) ≢ 0)
+
+  -- a processor stands where its record leads it, whatever the words are and whatever turns are made, its own and others'
+  abbrev pub RecordLeads : Type 0
+  RecordLeads = (words : List ℕ) (turns : List Turn) (processor : ℕ) → processor < s.processors
+      → stand_of (reached words turns) processor
+      ≡ stood_by s code processor IsLost (record_of s code processor (opening words s.processors) turns)

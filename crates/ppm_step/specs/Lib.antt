@@ -9,4 +9,6 @@ pub mod Stages
 pub mod Locals
 pub mod State
 pub mod Told
+pub mod Among
+pub mod Stood
 pub mod Laws

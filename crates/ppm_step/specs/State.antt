@@ -1,5 +1,5 @@
 -- The words and the processors of a machine, and what a list of turns makes of them.
-use Rattle.std.specs.Prelude.{ℕ, ◌==◌, if◌then◌else◌, Bool, true, false, List, [], ◌∷◌, ◌++◌, Option, Some, None, slice_get, slice_index, slice_set, replicate}
+use Rattle.std.specs.Prelude.{ℕ, ◌==◌, ◌&&◌, if◌then◌else◌, Bool, true, false, List, [], ◌∷◌, ◌++◌, Option, Some, None, slice_get, slice_index, slice_set, replicate}
 use Rattle.ppm_cells.specs.Cells.{address}
 use Rattle.ppm_cells.specs.Finish.{finish_word}
 use Rattle.ppm_cells.specs.declared.cell.Cell.TheVariants.{FinishWord, DeadWord}
@@ -139,6 +139,28 @@ abbrev pub seeks_holder : Standing → Bool
 seeks_holder (IsWithin seat (Now (Load SeekHolder))) = true
 seeks_holder standing = false
 
+-- whether a processor takes no step any more
+abbrev pub is_done_at : Standing → Bool
+is_done_at IsDone = true
+is_done_at standing = false
+
+-- whether an act is a step, and whether a step is work
+abbrev pub is_step : Act → Bool
+is_step (Step victim) = true
+is_step act = false
+
+abbrev pub is_work_next : Next → Bool
+is_work_next Work = true
+is_work_next next = false
+
+-- whether an act of a processor that stands there is a work turn: a step of work; each other act is a look
+abbrev pub is_work_turn : Act → Standing → Bool
+is_work_turn act standing = is_step act && is_work_next (next_of standing)
+
+-- whether it draws a victim: it is a step for which one is due
+abbrev pub draws : Act → Standing → Bool
+draws act standing = is_step act && seeks_holder standing
+
 -- the fork blocks whose right branches a turn forks: by the store of the restart word that begins to push them
 abbrev pub fork_row : Row → List ℕ
 fork_row (Now (Fork block)) = block ∷ []
@@ -165,8 +187,7 @@ takes_of state turn = step_by (row_by take_row) turn.act (stand_of state turn.pr
 
 -- whether a turn is work, told as the processor that does it
 abbrev pub work_next : (processor : ℕ) → Next → List ℕ
-work_next processor Work = processor ∷ []
-work_next processor next = []
+work_next processor next = if is_work_next next then processor ∷ [] else []
 
 abbrev pub work_of : State → Turn → List ℕ
-work_of state turn = step_by (λ standing. work_next turn.processor (next_of standing)) turn.act (stand_of state turn.processor)
+work_of state turn = if is_work_turn turn.act (stand_of state turn.processor) then turn.processor ∷ [] else []

@@ -1,5 +1,5 @@
 -- What is told of a turn, and the record of a processor.
-use Rattle.std.specs.Prelude.{ℕ, ◌==◌, if◌then◌else◌, Bool, true, false, List, [], ◌∷◌, Option, Some, None}
+use Rattle.std.specs.Prelude.{ℕ, ◌==◌, if◌then◌else◌, Bool, List, [], ◌∷◌, Option, Some, None}
 use Rattle.ppm_cells.specs.declared.shape.Shape.{Shape}
 use Rattle.ppm_code.specs.declared.code.CodeParts.{CodeParts}
 use Rattle.ppm_words.specs.declared.event.Event.{Event}
@@ -9,10 +9,9 @@ use Rattle.ppm_step.specs.declared.turn.Act.{Act}
 use Rattle.ppm_step.specs.declared.turn.Act.TheVariants.{Step, Soft, Hard, Quit}
 use Rattle.ppm_step.specs.declared.turn.Turn.{Turn}
 use Rattle.ppm_step.specs.declared.turn.Next.{Next}
-use Rattle.ppm_step.specs.declared.turn.Next.TheVariants.{Work}
 use Rattle.ppm_step.specs.declared.turn.Told.{Told}
 use Rattle.ppm_step.specs.Standings.{Standing, IsLost, IsPlaced, IsAt, IsWithin, IsRunning, IsBroken, IsDone, unknown_place}
-use Rattle.ppm_step.specs.State.{State, stand_of, want_of, happens, along, found_in, next_of}
+use Rattle.ppm_step.specs.State.{State, stand_of, want_of, happens, along, found_in, next_of, is_work_next as is_work_step, is_work_turn as is_work_act}
 
 -- the place that a processor carries, as far as it knows
 abbrev pub place_of : Standing → ℕ
@@ -55,14 +54,12 @@ module _ (s : Shape) (code : CodeParts) where
   abbrev pub event_of : State → Turn → Option Event
   event_of state turn = event_by state turn (stand_of state turn.processor)
 
-  -- whether it is work: a step of work
+  -- whether it is work
   abbrev pub is_work_next : Next → Bool
-  is_work_next Work = true
-  is_work_next next = false
+  is_work_next next = is_work_step next
 
   abbrev pub is_work_turn : Act → Standing → Bool
-  is_work_turn (Step victim) standing = is_work_next (next_of standing)
-  is_work_turn act standing = false
+  is_work_turn act standing = is_work_act act standing
 
   -- what is told of a turn
   abbrev pub told_of : State → Turn → Told

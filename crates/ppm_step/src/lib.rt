@@ -33,7 +33,7 @@ pub use ask::Want;
 pub use content::{Content, Reading};
 pub use frame::{Home, Put};
 pub use going::Going;
-pub use laws::{done_has_cause, finish_stays, room_has_cause};
+pub use laws::{done_has_cause, finish_stays, records_lead, room_has_cause, turns_have_cause};
 pub use local::{Local, Stand};
 pub use row::{Point, Row, Seat, Then};
 pub use running::{Running, Stage};

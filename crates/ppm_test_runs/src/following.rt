@@ -12,7 +12,7 @@ use ppm_driver::{
 };
 use ppm_layout::image;
 use ppm_plan::{read_plan, read_schedule};
-use ppm_step::{done_has_cause, finish_stays, room_has_cause};
+use ppm_step::{done_has_cause, finish_stays, records_lead, room_has_cause, turns_have_cause};
 use ppm_words::{Input, Items};
 use std::alloc::Global;
 use std::process::Abort;
@@ -110,7 +110,9 @@ fn states_laws() {
     unfinished_is_exact();
     done_has_cause();
     finish_stays();
+    records_lead();
     room_has_cause();
+    turns_have_cause();
 }
 
 /// How a run ends in which one processor obeys a plan with so many work turns.

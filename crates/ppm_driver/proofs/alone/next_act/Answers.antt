@@ -6,7 +6,7 @@ use Rattle.ppm_driver.proofs.alone.next_act.Goals as goal
 -- the next victim is drawn
 pub returns-in-Draw : goal.returns-in-Draw
 returns-in-Draw c past stood p has =
-    let h = c.in-Draw.ensures past stood p in
+    let h = c.in-Draw.ensures.choice past stood p in
     let own = c.args.pace.now.processor in (
       h.0,
       ap (λ v. Step v)
@@ -19,7 +19,7 @@ returns-in-Draw c past stood p has =
 -- none is drawn
 pub returns-in-Do : goal.returns-in-Do
 returns-in-Do c past stood p has =
-    let h = c.in-Do.ensures past stood p in (
+    let h = c.in-Do.ensures.choice past stood p in (
       h.0,
       sym h.1,
       draws_none c.args.plan.now c.args.limits c.args.pace.now.processor past (record { stood = stood; act = c.in-Do.act }) c.args.victims.now h.2 has,

@@ -1,5 +1,5 @@
-use Rattle.ppm_step.proofs.RoomLemmas.{room_has_cause}
+use Rattle.ppm_step.proofs.RoomLemmas.{room_has_cause, room_has_frame}
 use Rattle.ppm_step.proofs.laws.room_has_cause.Goals as goal
 
 pub returns : goal.returns
-returns c = room_has_cause
+returns c = record { finds = room_has_cause; frame = room_has_frame }
