@@ -11,7 +11,9 @@ use ppm_capsules::{
     conflict_free_is_idempotent, end_stores_are_unseen, end_stores_come_last, faults_do_not_show,
     others_keep_what_is_done, paths_are_enough, stops_change_nothing, what_is_done_stands,
 };
-use ppm_ownership::{come_to_sites, own_apart, run_in_either_order, stay_within};
+use ppm_ownership::{
+    come_to_sites, own_apart, positions_are_come_to, run_in_either_order, stay_within,
+};
 use ppm_strands::{
     a_change_at_one_leaf, a_change_passes_up, a_step_in_turn, ahead_composes, any_order,
     calls_resume, calm_by, calm_by_listed_regions, calm_by_regions, chains_in_turn, chains_pass_up,
@@ -342,6 +344,7 @@ fn laws_are_calls_that_do_nothing(_rt: HostRuntime) -> Result<(), Fail> {
     apart_trees_are_calm();
     split_branches_are_calm(&Split { at: 3 });
     come_to_sites();
+    positions_are_come_to();
     own_apart();
     stay_within();
     run_in_either_order();
