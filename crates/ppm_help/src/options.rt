@@ -1,4 +1,6 @@
 //! The options of a command, one in a line.
+ghost use Rattle.std.specs.Prelude.{◌≡◌};
+ghost use Rattle.ppm_cli.specs.Application.{option_rule};
 
 use crate::texts::meaning_of;
 use ppm_cli::{CommandRow, OptionRow};
@@ -34,7 +36,9 @@ fn print_option(
 }
 
 /// The name of an option, without the two hyphens.
-fn name_of(option: OptionRow) -> &'static str {
+fn name_of(option: OptionRow) -> &'static str
+    ensures { result.now ≡ (option_rule option).name }
+{
     match option {
         OptionRow::Number(number) => number.name,
         OptionRow::Choice(choice) => choice.name,
@@ -52,7 +56,9 @@ fn values_of(alloc: Global, option: OptionRow) -> Result<String, AllocError> {
 }
 
 /// The word that stands for the value where an option is not given.
-fn default_of(option: OptionRow) -> &'static str {
+fn default_of(option: OptionRow) -> &'static str
+    ensures { result.now ≡ (option_rule option).default }
+{
     match option {
         OptionRow::Number(number) => number.default,
         OptionRow::Choice(choice) => choice.first,
