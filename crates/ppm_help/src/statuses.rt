@@ -38,11 +38,11 @@ fn meaning_of(status: Status) -> &'static str {
             "source refused: the fault and its place (docs/LANGUAGE.md, \"Refusals\")"
         }
         Status::WordsRefused => {
-            "words refused; or `plan refused: N` of a plan or a schedule: 1 an item has no form,\n       \
-             2 a processor is not there, 3 there are too many items, 4 no processor is spared"
+            "words refused; or of a plan or a schedule `plan refused: N`, by N: 1 an item\n       \
+             has no form, 2 a processor is not there, 3 too many items, 4 no processor is spared"
         }
         Status::OutOfTurns =>
-            "out of turns: `run` spent --turns; of `replay` not ended within them",
+            "out of turns: `run` spent --turns, or `replay` did not end within them",
         Status::OutOfRoom => "out of room: `run` or `replay` needed more than --room at that place",
         Status::ReadFault => "read fault: standard input failed",
         Status::WriteFault => "write fault: standard output or standard error failed",
