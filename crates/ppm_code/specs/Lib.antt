@@ -1,6 +1,7 @@
 pub mod Acts
 pub mod Capsules
 pub mod Code
+pub mod Inputs
 pub mod Limits
 pub mod Locations
 pub mod Paths
