@@ -1,6 +1,6 @@
 use Rattle.std.proofs.Common.{◌≡◌, ◌++◌, map, take}
 use Rattle.ppm_words.specs.TwosComplement.{word_of}
-use Rattle.ppm_layout.proofs.opening.push_array.Given as goal
+use Rattle.ppm_code.proofs.input.push_array.Given as goal
 
 -- the words so far
 abbrev pub invariant-loop-value : goal.invariant-loop-value
