@@ -11,3 +11,5 @@ pub mod Limits
 pub mod Shape
 pub mod Cells
 pub mod Memory
+pub mod Blocks
+pub mod Chain

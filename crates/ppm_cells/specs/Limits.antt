@@ -1,24 +1,24 @@
 -- How large a machine may be.
 use Rattle.std.specs.Prelude.{ℕ, ◌≤◌}
-use Rattle.ppm_words.specs.Limits.{word_limit}
+use Rattle.ppm_words.specs.Limits.{word_limit, processor_limit, room_limit, entry_limit}
 
 -- the processors of a machine, and so its places
 abbrev pub most_processors : ℕ
-most_processors = 64
+most_processors = processor_limit
 
 -- the words of a place's pool
 abbrev pub least_room : ℕ
 least_room = 64
 
 abbrev pub most_room : ℕ
-most_room = 1048576
+most_room = room_limit
 
 -- the entries of a place's deque
 abbrev pub least_slots : ℕ
 least_slots = 2
 
 abbrev pub most_slots : ℕ
-most_slots = 65536
+most_slots = entry_limit
 
 -- so many processors, words of room, entries and array words may a machine have
 pub record IsWithinLimits (processors room slots arrays : ℕ) : Type 0 where

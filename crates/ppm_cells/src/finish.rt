@@ -6,7 +6,10 @@ ghost use Rattle.ppm_cells.specs.Finish.{trap_number, trap_with, fields_with, fi
 ghost use Rattle.ppm_cells.specs.Finish.{finish_word, finish_of, IsFinish, IsOutcome};
 
 use crate::field::{bits_of, joined};
-use ppm_words::Trap;
+use ppm_words::{PROCESSOR_LIMIT, Trap};
+
+/// Stands for the place of a processor that does not know its place.
+pub const UNKNOWN_PLACE: u32 = PROCESSOR_LIMIT;
 
 /// What the finish word says of a run, and an outcome word of a strand. A strand's outcome is `Ended` or `Trapped`,
 /// and its word is 0 (`Unset`) until it has one. Lines count from 1 and are below 2^26; processors and places are below 64.
@@ -24,7 +27,7 @@ pub enum Finish {
     OutOfRoom { place: u32 },
     /// A watcher refused an event, so it was stopped.
     Stopped,
-    /// This place met words that come of no run; 64 where the place isn't known.
+    /// This place met words that come of no run; `UNKNOWN_PLACE` where it isn't known.
     Broken { place: u32 },
 }
 

@@ -18,9 +18,9 @@ mod restart;
 mod shape;
 mod side;
 
-pub use cell::Cell;
+pub use cell::{Cell, header_at, left_frame};
 pub use entry::Entry;
-pub use finish::Finish;
+pub use finish::{Finish, UNKNOWN_PLACE};
 pub use holder::Holder;
 pub use laws::{
     cells_are_the_words, greatest_word_count, packings_are_exact, stored_values_are_seen,
@@ -29,5 +29,5 @@ pub use laws::{
 pub use link::{Link, LinkKind};
 pub use region::Region;
 pub use restart::{Restart, RestartKind};
-pub use shape::{LEAST_ROOM, LEAST_SLOTS, MOST_PROCESSORS, MOST_ROOM, MOST_SLOTS, Shape, Takeover};
+pub use shape::{LEAST_ROOM, LEAST_SLOTS, Shape, Takeover};
 pub use side::Side;

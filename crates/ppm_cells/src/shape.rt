@@ -2,18 +2,13 @@
 ghost use Rattle.ppm_cells.specs.Limits.{IsWithinLimits};
 
 use crate::cell::Cell;
-use ppm_words::WORD_LIMIT;
+use ppm_words::{ENTRY_LIMIT, PROCESSOR_LIMIT, ROOM_LIMIT, WORD_LIMIT};
 
-/// The most processors of a machine, and so places.
-pub const MOST_PROCESSORS: u32 = 64;
-/// The least words of a place's pool, and the most.
+/// The least words of a place's pool.
 pub const LEAST_ROOM: u32 = 64;
 
-pub const MOST_ROOM: u32 = 1_048_576;
-/// The least entries of a place's deque, and the most.
+/// The least entries of a place's deque.
 pub const LEAST_SLOTS: u32 = 2;
-
-pub const MOST_SLOTS: u32 = 65_536;
 
 /// How a dead processor's strand and jobs are taken over.
 #[derive(Clone, Copy, Debug, PartialEq, Eq)]
@@ -51,13 +46,13 @@ impl Shape {
         ensures exactly { IsSome result ↔ IsWithinLimits processors room slots arrays }
         ensures value { IfSome result (HasSizes processors room slots arrays) }
     {
-        if processors < 1 || processors > MOST_PROCESSORS {
+        if processors < 1 || processors > PROCESSOR_LIMIT {
             return None;
         }
-        if room < LEAST_ROOM || room > MOST_ROOM {
+        if room < LEAST_ROOM || room > ROOM_LIMIT {
             return None;
         }
-        if slots < LEAST_SLOTS || slots > MOST_SLOTS {
+        if slots < LEAST_SLOTS || slots > ENTRY_LIMIT {
             return None;
         }
         if arrays > WORD_LIMIT {

@@ -19,6 +19,7 @@ pub use laws::any_rule_may_be_admitted;
 pub use line::read_words;
 pub use replay::{ReplayOptions, TakeoverName};
 pub use run::{IdleName, RunOptions};
+pub use table::{COMMANDS, ChoiceOption, CommandRow, NumberOption, OptionRow, TextOption};
 
 #[cfg(test)]
 mod tests;

@@ -20,16 +20,16 @@ const MOST_LOOKS: u32 = 1_048_576;
 
 /// A command: its name and its options.
 #[derive(Clone, Copy, Debug)]
-pub(crate) struct CommandRow {
+pub struct CommandRow {
     /// Its name.
-    pub(crate) name: &'static str,
+    pub name: &'static str,
     /// Its options.
-    pub(crate) options: &'static [OptionRow],
+    pub options: &'static [OptionRow],
 }
 
 /// An option of a command, by the form of its value.
 #[derive(Clone, Copy, Debug)]
-pub(crate) enum OptionRow {
+pub enum OptionRow {
     /// One whose value is a whole number.
     Number(NumberOption),
     /// One whose value is one of two words.
@@ -40,35 +40,35 @@ pub(crate) enum OptionRow {
 
 /// An option `--name` whose value is a whole number.
 #[derive(Clone, Copy, Debug)]
-pub(crate) struct NumberOption {
+pub struct NumberOption {
     /// Its name, without the two hyphens.
-    pub(crate) name: &'static str,
+    pub name: &'static str,
     /// The least value.
-    pub(crate) low: u32,
+    pub low: u32,
     /// The greatest value.
-    pub(crate) high: u32,
+    pub high: u32,
     /// The word that stands for the value where the option is not given.
-    pub(crate) default: &'static str,
+    pub default: &'static str,
 }
 
 /// An option `--name` whose value is one of two words.
 #[derive(Clone, Copy, Debug)]
-pub(crate) struct ChoiceOption {
+pub struct ChoiceOption {
     /// Its name, without the two hyphens.
-    pub(crate) name: &'static str,
+    pub name: &'static str,
     /// The word that stands for the value where the option is not given.
-    pub(crate) first: &'static str,
+    pub first: &'static str,
     /// The other word.
-    pub(crate) second: &'static str,
+    pub second: &'static str,
 }
 
 /// An option `--name` whose value is any text.
 #[derive(Clone, Copy, Debug)]
-pub(crate) struct TextOption {
+pub struct TextOption {
     /// Its name, without the two hyphens.
-    pub(crate) name: &'static str,
+    pub name: &'static str,
     /// The word that stands for the value where the option is not given.
-    pub(crate) default: &'static str,
+    pub default: &'static str,
 }
 
 /// How many processors there are in a run.
@@ -153,8 +153,8 @@ pub(crate) const SCHEDULE: TextOption = TextOption {
     default: "none",
 };
 
-/// The commands.
-pub(crate) const COMMANDS: [CommandRow; 5] = [
+/// The commands that are admitted, in the order of the help page.
+pub const COMMANDS: [CommandRow; 5] = [
     CommandRow {
         name: "run",
         options: &[

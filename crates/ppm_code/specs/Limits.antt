@@ -1,24 +1,12 @@
 -- How large a code may be.
 use Rattle.std.specs.Prelude.{ℕ}
+-- procedures of a code, capsules of a code, block words that one capsule may ask for, lines of a source
+pub use Rattle.ppm_words.specs.Limits.{procedure_limit, capsule_limit, room_limit, line_limit}
 
--- procedures of a code, capsules of a code, instructions of a capsule
-abbrev pub procedure_limit : ℕ
-procedure_limit = 1024
-
-abbrev pub capsule_limit : ℕ
-capsule_limit = 65535
-
+-- instructions of a capsule
 abbrev pub instr_limit : ℕ
 instr_limit = 160
 
 -- slots of a procedure
 abbrev pub slot_limit : ℕ
 slot_limit = 25
-
--- block words that one capsule may ask for
-abbrev pub room_limit : ℕ
-room_limit = 1048576
-
--- lines of a source
-abbrev pub line_limit : ℕ
-line_limit = 1048577

@@ -21,15 +21,16 @@ pub fn keeps_the_rules()
     ensures law { KeepsTheRules }
 {}
 
-/// Two trees whose arrays and procedures are the same but for lines have codes that are the same but for lines: the layout and the comments of a text change no
-/// number, slot or instruction, and a line is only what a trap names.
+/// Two trees whose arrays and procedures are the same but for lines have codes that are the same but for lines: the layout and
+/// the comments of a text change no number, slot or instruction, and a line is only what a trap names. No proof stands on it: it
+/// is for the reader of a listing.
 pub fn lines_alone()
     ensures law { LinesAlone }
 {}
 
 /// Each procedure of the code of a program has at most four capsules for each statement of it, a `give` counted as one, and two
 /// more. An `each` is one statement where it stands; its hidden procedure has at most four for each statement of its block,
-/// four for itself and two more.
+/// four for itself and two more. No proof stands on it: it is for the reader of a listing.
 pub fn few_capsules()
     ensures law { FewCapsules }
 {}

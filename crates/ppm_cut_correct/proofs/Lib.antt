@@ -29,3 +29,4 @@ pub mod ForkLemmas
 pub mod Forward
 pub mod Progress
 pub mod Theorem
+pub mod SerialLemmas

@@ -11,6 +11,7 @@ use Rattle.ppm_code.specs.declared.location.FrameWord.{FrameWord}
 use Rattle.ppm_code.specs.Strands.{Result as Outcome, Gave, Trapped as TrappedAt, entry_of}
 use Rattle.ppm_depth.specs.Start.{words_in, words_of, root_own}
 use Rattle.ppm_depth.specs.Run.{strands_of}
+use Rattle.ppm_depth.proofs.GoingLemmas.{goes_on_in_order}
 use Rattle.ppm_tree.specs.declared.tree.Parameter.{Parameter}
 use Rattle.ppm_tree.specs.Tree.{Procedure, ProgramTree}
 use Rattle.ppm_tree.specs.Limits.{IsWithin}
@@ -129,7 +130,7 @@ module _ (t : ProgramTree) (within : IsWithin t) (admitted : IsAdmitted t) (boun
           outcome = said_shown t input is m.1 arrays m.0 v count m.3;
           capsules = omega (arith, m.4.2.most);
           forks = omega (arith, m.4.2.forks);
-          block_words = omega (arith, m.4.2.words);
+          pool_words = omega (arith, m.4.2.words, body.slots);
         },
       )
   ends_by k (Trapped stop arrays) count q =
@@ -142,7 +143,7 @@ module _ (t : ProgramTree) (within : IsWithin t) (admitted : IsAdmitted t) (boun
           outcome = said_trapped input m.0 stop arrays;
           capsules = omega (arith, m.2.2.most);
           forks = omega (arith, m.2.2.forks);
-          block_words = omega (arith, m.2.2.words);
+          pool_words = omega (arith, m.2.2.words, body.slots);
         },
       )
 
@@ -174,11 +175,15 @@ module _ (t : ProgramTree) (within : IsWithin t) (admitted : IsAdmitted t) (boun
 
   pub as_meant : EndsAsMeant t input
   as_meant = record {
+    root = omega (arith, body.slots);
     ends = λ k z run. let q = code_ends k z run in (q.0, subst (λ (c : Code CodeFrame Outcome). Ends c root a q.0) (sym same_strands) q.1, q.2);
     ends_only = λ e h. code_ends_only e (subst (λ (c : Code CodeFrame Outcome). Ends c root a e) same_strands h);
     goes_on = λ n. elim (goes n) [
       | inl d ↦ inl (_, _, Enter p (main_frame t.arrays p.parameters) (values_of input) d.2)
-      | inr l ↦ inr (l.0, l.1, l.2, subst (λ (c : Code CodeFrame Outcome). StepsInTurn c l.0 root a l.1 l.2) (sym same_strands) l.3, l.4)
+      | inr l ↦
+          let s = goes_on_in_order (code_of t) input n root l.1 a l.2 l.0
+          (subst (λ (c : Code CodeFrame Outcome). StepsInTurn c l.0 root a l.1 l.2) (sym same_strands) l.3) l.4 in
+          inr (s.0, s.1, s.2, s.3, omega (arith, s.4))
     ];
   }
 

@@ -31,7 +31,7 @@ use Rattle.ppm_cut_code.specs.Numbers.{behind, end_of, hidden_behind, hidden_beh
 use Rattle.ppm_cut_code.specs.Statements.{onward, let_code, value_code, move_code, element_code, put_code}
 use Rattle.ppm_cut_code.specs.Statements.{test_code, last_code, Last, OnTo, Gives, with_lets}
 use Rattle.ppm_cut_code.specs.Fits.{Has, IsRegion, FitsExpression}
-use Rattle.ppm_cut_sound.proofs.CalmLemmas.{IsGood}
+use Rattle.ppm_strands.specs.Labels.{IsGood}
 use Rattle.ppm_cut_sound.proofs.OwnLemmas.{Label, OwnsWord, WritesWord, AreShort, owned_at, written_at}
 use Rattle.ppm_cut_sound.proofs.TameLemmas.{World, Tame, Goes, held_set, held_other, registers_differ, Keeps}
 use Rattle.ppm_cut_sound.proofs.TameLemmas.{keeps_itself, go_load, go_store, go_give, go_end, go_zero, go_put}

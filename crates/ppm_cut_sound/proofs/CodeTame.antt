@@ -17,7 +17,7 @@ use Rattle.ppm_regions.specs.Admission.{IsAdmitted}
 use Rattle.ppm_regions.specs.Correct.{KeepsRules}
 use Rattle.ppm_cut_code.specs.Layout.{Layout}
 use Rattle.ppm_cut_code.specs.Statements.{Last}
-use Rattle.ppm_cut_sound.proofs.CalmLemmas.{IsGood, Respects}
+use Rattle.ppm_strands.specs.Labels.{IsGood, Respects}
 use Rattle.ppm_cut_sound.proofs.OwnLemmas.{Label, OwnsWord, WritesWord, AreShort, writes_owned}
 use Rattle.ppm_cut_sound.proofs.TameLemmas.{Goes, go_end}
 use Rattle.ppm_cut_sound.proofs.StandLemmas.{level, IsAt, at_on, same_value}

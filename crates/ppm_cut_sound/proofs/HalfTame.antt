@@ -29,7 +29,7 @@ use Rattle.ppm_cut_code.specs.Numbers.{halving, halved}
 use Rattle.ppm_cut_code.specs.Slots.{hidden_slots, frame_words, fork_words}
 use Rattle.ppm_cut_code.specs.Statements.{Instrs, hidden_layout, stores_code, names_code}
 use Rattle.ppm_cut_code.proofs.RegionWords.{lengths_of, region_word}
-use Rattle.ppm_cut_sound.proofs.CalmLemmas.{IsLess, AreApart}
+use Rattle.ppm_strands.specs.Labels.{IsLess, AreApart}
 use Rattle.ppm_cut_sound.proofs.OwnLemmas.{Label, OwnsWord, WritesWord, AreShort, seen_short, length_is}
 use Rattle.ppm_cut_sound.proofs.OwnLemmas.{first_word, second_word, less_label, apart_labels}
 use Rattle.ppm_cut_sound.proofs.TameLemmas.{World, Goes, IsFile, file_set, held_set, held_other, registers_differ, keeps_itself, keeps_set, go_set}

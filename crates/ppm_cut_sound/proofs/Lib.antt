@@ -1,7 +1,6 @@
 mod PlainLemmas
 mod SafeLemmas
 mod BlockLemmas
-mod CalmLemmas
 mod OwnLemmas
 mod TameLemmas
 mod TameExpressions

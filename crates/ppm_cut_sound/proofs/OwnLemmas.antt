@@ -9,7 +9,7 @@ use Rattle.ppm_regions.specs.Scope.{Scope}
 use Rattle.ppm_ownership.specs.Owning.{IsSeen, IsWritable, Owns, MayWrite, words_at, LieInArrays, OwnsNoMore, AreSeparate}
 use Rattle.ppm_ownership.proofs.ScopeLemmas.{written_owned, writable_seen}
 use Rattle.ppm_cut_code.proofs.RegionWords.{array_within, one_address, lengths_of, offset_of, region_word}
-use Rattle.ppm_cut_sound.proofs.CalmLemmas.{IsLess, AreApart}
+use Rattle.ppm_strands.specs.Labels.{IsLess, AreApart}
 
 -- what a frame owns: the regions in force that may be used
 pub record Label : Type 0 where

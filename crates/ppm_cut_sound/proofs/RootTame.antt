@@ -32,7 +32,7 @@ use Rattle.ppm_cut_sound.proofs.OwnLemmas.{Label, OwnsWord, WritesWord, AreShort
 use Rattle.ppm_cut_sound.proofs.StandLemmas.{Level, level, IsOver}
 use Rattle.ppm_cut_sound.proofs.LevelLemmas.{Runs, Begins, Waits}
 use Rattle.ppm_cut_sound.specs.Correct.{CodeIsSound}
-use Rattle.ppm_cut_sound.proofs.CalmLemmas.{good_is_calm}
+use Rattle.ppm_strands.proofs.LabelLemmas.{good_is_calm}
 use Rattle.ppm_cut_sound.proofs.CallTame.{Facts}
 use Rattle.ppm_cut_sound.proofs.FewLemmas.{facts}
 use Rattle.ppm_cut_sound.proofs.CodeTame.{respects}

@@ -1,8 +1,7 @@
 -- That the code of a program is sound with every input: it is tidy, each capsule may be stopped anywhere, and branches do not race.
-use Rattle.std.specs.Prelude.{ℕ, List}
+use Rattle.std.specs.Prelude.{List}
 use Rattle.ppm_words.specs.declared.named_array.NamedArray.{NamedArray}
-use Rattle.ppm_code.specs.Paths.{HasNoConflict}
-use Rattle.ppm_code.specs.Strands.{instrs_of}
+use Rattle.ppm_code.specs.Free.{IsFree}
 use Rattle.ppm_code.specs.Tidy.{IsTidy}
 use Rattle.ppm_depth.specs.Sound.{IsSound}
 use Rattle.ppm_tree.specs.Tree.{ProgramTree}
@@ -16,9 +15,10 @@ use Rattle.ppm_cut_code.specs.Routines.{code_of}
 abbrev pub StoresTidily : Type 0
 StoresTidily = (t : ProgramTree) → IsAdmitted t → IsTidy (code_of t)
 
--- no path of any of its capsules has a write-after-read conflict, so each may be stopped anywhere and begun again
+-- no path of any of its capsules has a write-after-read conflict: the conflict check accepts it, and each capsule may be stopped anywhere and
+-- begun again
 abbrev pub MayBeStopped : Type 0
-MayBeStopped = (t : ProgramTree) → IsAdmitted t → (number : ℕ) → HasNoConflict (instrs_of (code_of t) number)
+MayBeStopped = (t : ProgramTree) → IsAdmitted t → IsFree (code_of t)
 
 -- and of two branches of a fork, each strand of them begun from the words at its own fork, neither writes what the other touches
 abbrev pub CodeIsSound : Type 0

@@ -7,8 +7,8 @@ use Rattle.std.proofs.Common.{length-append}
 use Rattle.ppm_strands.specs.Tree.{Words, Strand, Code, forks_in}
 use Rattle.ppm_strands.specs.Run.{Counts, none, of_capsule}
 use Rattle.ppm_strands.specs.Ahead.{Capsule, Done}
-use Rattle.ppm_strands.specs.Turn.{StepsInTurn}
-use Rattle.ppm_strands.proofs.OrderLemmas.{before}
+use Rattle.ppm_depth.specs.Order.{StepsInOrder}
+use Rattle.ppm_depth.proofs.OrderLemmas.{before}
 use Rattle.ppm_strands.proofs.RunLemmas.{counts_path, plus_none, plus_comm}
 use Rattle.ppm_capsules.specs.Capsule.{Capsule as Asking, Memory, ending, leaves, asked}
 use Rattle.ppm_capsules.specs.Strand.{start, own_of, new_of, shared_of}
@@ -38,8 +38,8 @@ use Rattle.ppm_depth.proofs.StackLemmas.{laid_still, lifted}
 use Rattle.ppm_depth.proofs.TurnLemmas.{zeros}
 
 -- a step and nothing behind it
-pub one_step : (c : Code Own Result) (f : Own) (a : Words) → StepsInTurn c (of_capsule c f a) (Strand f) a (c.next f a) (c.after f a)
-one_step c f a = subst (λ (k : Counts). StepsInTurn c k (Strand f) a (c.next f a) (c.after f a))
+pub one_step : (c : Code Own Result) (f : Own) (a : Words) → StepsInOrder c (of_capsule c f a) (Strand f) a (c.next f a) (c.after f a)
+one_step c f a = subst (λ (k : Counts). StepsInOrder c k (Strand f) a (c.next f a) (c.after f a))
     (plus_comm (of_capsule c f a) none ∙ plus_none (of_capsule c f a)) (before c (Capsule f a) tt (Done (c.next f a) (c.after f a), tt))
 
 module _ (code : CodeParts) (is_code : IsCode code) (frame : Frame) (block : ℕ) (before_blocks opened blocks words_before words : List ℕ) (done : Finished)
@@ -121,16 +121,16 @@ module _ (code : CodeParts) (is_code : IsCode code) (frame : Frame) (block : ℕ
         (ap (λ (t : Strands). forks_in t) next_is ∙ forks_opened code done.end (own_of after) (new_of after))
         (ap (λ (p : Asking Where End). asked code_locations p memory) run_is ∙ sym is_whole.asks)
 
-    one_capsule : StepsInTurn c (counts_by done) (Strand f) (words_of words_before) opens_next (words_of words)
+    one_capsule : StepsInOrder c (counts_by done) (Strand f) (words_of words_before) opens_next (words_of words)
     one_capsule =
-        subst (λ (k : Counts). StepsInTurn c k (Strand f) (words_of words_before) opens_next (words_of words)) counts_are
-        (subst (λ (t : Strands). StepsInTurn c (of_capsule c f (words_of words_before)) (Strand f) (words_of words_before) t (words_of words)) next_is
-        (subst (λ (b : Words). StepsInTurn c (of_capsule c f (words_of words_before)) (Strand f) (words_of words_before)
+        subst (λ (k : Counts). StepsInOrder c k (Strand f) (words_of words_before) opens_next (words_of words)) counts_are
+        (subst (λ (t : Strands). StepsInOrder c (of_capsule c f (words_of words_before)) (Strand f) (words_of words_before) t (words_of words)) next_is
+        (subst (λ (b : Words). StepsInOrder c (of_capsule c f (words_of words_before)) (Strand f) (words_of words_before)
         (c.next f (words_of words_before)) b) after_is (one_step c f (words_of words_before))))
 
   -- the whole tree makes a step, and the strand shows what is then
   pub advanced : (waiting : List Waiting) (t : Strands) → IsShown code before_blocks waiting (At frame) t
-      → (next : Strands) × StepsInTurn (strands_over code (length words_before)) (counts_by done) t (words_of words_before) next (words_of words)
+      → (next : Strands) × StepsInOrder (strands_over code (length words_before)) (counts_by done) t (words_of words_before) next (words_of words)
       × IsShown code (stack_after block blocks done.end) (waiting_after code frame block waiting done.end)
       (now_after code frame block blocks done.end) next
   advanced waiting t shown =
@@ -142,7 +142,7 @@ module _ (code : CodeParts) (is_code : IsCode code) (frame : Frame) (block : ℕ
       (subst (λ (n : ℕ). IsLaidOut code before_blocks s frame.base (end_of code frame) n) (sym block_is) shown.at.4) in
       let tree : tree_at s (Strand f) ≡ t = ap (λ (u : Strands). tree_at s u) (sym shown.at.1) ∙ sym shown.tree in (
         tree_at s (opens_next f holds there),
-        subst (λ (u : Strands). StepsInTurn c (counts_by done) u (words_of words_before) (tree_at s (opens_next f holds there)) (words_of words)) tree
+        subst (λ (u : Strands). StepsInOrder c (counts_by done) u (words_of words_before) (tree_at s (opens_next f holds there)) (words_of words)) tree
             (lifted c s (one_capsule f holds there)),
         subst (λ (ws : List Waiting). IsShown code (stack_after block blocks done.end)
             (waiting_after code frame block ws done.end) (now_after code frame block blocks done.end)

@@ -8,9 +8,9 @@ use Rattle.std.proofs.lemmas.List.Sums.{sum-map, sum_by-cons}
 use Rattle.std.proofs.lemmas.List.Concat.{flat_map-cons}
 use Rattle.ppm_strands.specs.Tree.{Strand, Over}
 use Rattle.ppm_strands.specs.Run.{Counts, End, none, plus, with_counts, of_capsule}
-use Rattle.ppm_strands.specs.Turn.{StepsInTurn}
+use Rattle.ppm_depth.specs.Order.{StepsInOrder}
 use Rattle.ppm_strands.proofs.ChainLemmas.{chains_keep_ends, chains_count_no_more}
-use Rattle.ppm_strands.proofs.OrderLemmas.{then_steps}
+use Rattle.ppm_depth.proofs.OrderLemmas.{turns, then_steps, at_work}
 use Rattle.ppm_words.specs.TwosComplement.{word_of, value_of}
 use Rattle.ppm_words.specs.Inputs.{value_count}
 use Rattle.ppm_words.specs.declared.named_array.NamedArray.{NamedArray}
@@ -150,35 +150,35 @@ arrays_same ws start (a ∷ input) h =
 
 module _ (code : CodeParts) (input : List NamedArray) (ws words : List ℕ) (begins : ws ≡ words_in input) (k : Counts) where
   -- the strands of the code from the input's words
-  chain : (u : Strands) → StepsInTurn (strands_over code (length ws)) k (root_strand code input) (words_of ws) u (words_of words)
-      → StepsInTurn (strands_of code input) k (root_strand code input) (words_of (words_in input)) u (words_of words)
-  chain u s = subst (λ (xs : List ℕ). StepsInTurn (strands_over code (length xs)) k (root_strand code input) (words_of xs) u (words_of words)) begins s
+  chain : (u : Strands) → StepsInOrder (strands_over code (length ws)) k (root_strand code input) (words_of ws) u (words_of words)
+      → StepsInOrder (strands_of code input) k (root_strand code input) (words_of (words_in input)) u (words_of words)
+  chain u s = subst (λ (xs : List ℕ). StepsInOrder (strands_over code (length xs)) k (root_strand code input) (words_of xs) u (words_of words)) begins s
 
   -- a chain to an outcome is the end
-  pub ends_there : (o : Result) → StepsInTurn (strands_over code (length ws)) k (root_strand code input) (words_of ws) (Over o) (words_of words)
+  pub ends_there : (o : Result) → StepsInOrder (strands_over code (length ws)) k (root_strand code input) (words_of ws) (Over o) (words_of words)
       → ComesTo code input (with_counts k (record { outcome = o; words = words_of words; counts = none }))
   ends_there o s =
       let c = strands_of code input in
-      let whole = chain (Over o) s in
+      let whole = turns c (chain (Over o) s) in
       let over : End Result = record { outcome = o; words = words_of words; counts = none } in
       (chains_keep_ends c k (root_strand code input) (Over o) (words_of (words_in input)) (words_of words) whole.0 whole.1 (with_counts k over)).1
       (over, (1, refl), refl)
 
   -- where one capsule more is to be run, each end has more
   pub more_to_come : (above : Above) (f : Own)
-      → StepsInTurn (strands_over code (length ws)) k (root_strand code input) (words_of ws) (tree_at above (Strand f)) (words_of words)
+      → StepsInOrder (strands_over code (length ws)) k (root_strand code input) (words_of ws) (tree_at above (Strand f)) (words_of words)
       → (e : End Result) → ComesTo code input e → k.capsules < e.counts.capsules
   more_to_come above f s e comes =
       let c = strands_of code input in
       let whole = chain (tree_at above (Strand f)) s in
       let one = lifted c above (one_step c f (words_of words)) in
-      let more = then_steps c whole.0 whole.1 one in
+      let more = turns c (then_steps c whole.0 whole.1 one) in
       let most = (chains_count_no_more c (plus k (of_capsule c f (words_of words))) (root_strand code input) (tree_at above (c.next f (words_of words)))
       (words_of (words_in input)) (c.after f (words_of words)) more e comes).capsules in
       omega (arith, most)
 
   pub begins_there : (above : Above) (f : Own)
-      → StepsInTurn (strands_over code (length ws)) k (root_strand code input) (words_of ws) (tree_at above (Strand f)) (words_of words)
+      → StepsInOrder (strands_over code (length ws)) k (root_strand code input) (words_of ws) (tree_at above (Strand f)) (words_of words)
       → BeginsWith code input k (tree_at above (Strand f)) (words_of words)
   begins_there above f s = chain (tree_at above (Strand f)) s
 
@@ -187,7 +187,7 @@ pub answered : (code : CodeParts) (input : List NamedArray) (ws : List ℕ) → 
     → HasCome code (length ws) limit (root_strand code input) (words_of ws) strand finish → strand.counts.capsules ≤ limit
     → word_count input ≤ length strand.store.words.items
     → (r : DepthRun) → r.outcome ≡ outcome_in input strand.store.words.items finish → r.capsules ≡ strand.counts.capsules
-    → r.forks ≡ strand.counts.forks → r.block_words ≡ frame_size code code.root + strand.counts.block_words → IsDepthRun code input limit r
+    → r.forks ≡ strand.counts.forks → r.pool_words ≡ frame_size code code.root + strand.counts.block_words → IsDepthRun code input limit r
 answered code input ws begins limit strand None come few enough r says capsules forks words = inr (record {
   outcome = says;
   more = λ e comes. let more = more_to_come code input ws strand.store.words.items begins (counts_of strand.counts) come.0 come.1 come.2 e comes in
@@ -197,19 +197,20 @@ answered code input ws begins limit strand None come few enough r says capsules 
   words = words_of strand.store.words.items;
   begins = begins_there code input ws strand.store.words.items begins (counts_of strand.counts) come.0 come.1 come.2;
   all = come.3;
-  counts = record { capsules = capsules; forks = forks; block_words = words };
+  next = at_work come.0 (Strand come.1) tt;
+  counts = record { capsules = capsules; forks = forks; pool_words = words };
 })
 answered code input ws begins limit strand (Some (finish.Gave v)) come few enough r says capsules forks words = inl (record {
   end = with_counts (counts_of strand.counts) (record { outcome = Gave v; words = words_of strand.store.words.items; counts = none });
   comes = ends_there code input ws strand.store.words.items begins (counts_of strand.counts) (Gave v) come;
   within = omega (arith, few);
   outcome = says ∙ sym (ap (λ (xs : List NamedArray). Ended xs) (arrays_same strand.store.words.items 0 input (omega (arith, enough))));
-  counts = record { capsules = omega (arith, capsules); forks = omega (arith, forks); block_words = omega (arith, words) };
+  counts = record { capsules = omega (arith, capsules); forks = omega (arith, forks); pool_words = omega (arith, words) };
 })
 answered code input ws begins limit strand (Some (finish.Trapped trap line)) come few enough r says capsules forks words = inl (record {
   end = with_counts (counts_of strand.counts) (record { outcome = Trapped trap line; words = words_of strand.store.words.items; counts = none });
   comes = ends_there code input ws strand.store.words.items begins (counts_of strand.counts) (Trapped trap line) come;
   within = omega (arith, few);
   outcome = says;
-  counts = record { capsules = omega (arith, capsules); forks = omega (arith, forks); block_words = omega (arith, words) };
+  counts = record { capsules = omega (arith, capsules); forks = omega (arith, forks); pool_words = omega (arith, words) };
 })

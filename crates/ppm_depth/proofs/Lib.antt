@@ -3,7 +3,9 @@ pub mod AdvanceLemmas
 pub mod CodeLemmas
 pub mod EndLemmas
 pub mod FollowLemmas
+pub mod GoingLemmas
 pub mod LoopLemmas
+pub mod OrderLemmas
 pub mod RestLemmas
 pub mod ResumeLemmas
 pub mod StackLemmas

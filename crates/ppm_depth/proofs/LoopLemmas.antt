@@ -4,8 +4,8 @@ use Rattle.std.proofs.lemmas.List.{length_push}
 use Rattle.ppm_strands.specs.Tree.{Words, Strand, Over}
 use Rattle.ppm_strands.specs.Run.{Counts, none, plus}
 use Rattle.ppm_strands.specs.Ahead.{Done}
-use Rattle.ppm_strands.specs.Turn.{StepsInTurn}
-use Rattle.ppm_strands.proofs.OrderLemmas.{then_steps}
+use Rattle.ppm_depth.specs.Order.{StepsInOrder}
+use Rattle.ppm_depth.proofs.OrderLemmas.{then_steps}
 use Rattle.ppm_strands.proofs.RunLemmas.{plus_comm, plus_none}
 use Rattle.ppm_code.specs.declared.code.CodeParts.{CodeParts}
 use Rattle.ppm_depth.specs.Stack.{Own, Strands, Above, Root, On, listed, result_of, tree_at, end_of, IsNow, IsShown}
@@ -33,24 +33,24 @@ smaller limit a b p q r s same less = omega (arith, less, same)
 module _ (code : CodeParts) where
   -- no steps
   pub no_steps : (array_words : ℕ) (k : Counted) (t : Strands) (a : Words) → counts_of k ≡ none
-      → StepsInTurn (strands_over code array_words) (counts_of k) t a t a
-  no_steps array_words k t a e = subst (λ (j : Counts). StepsInTurn (strands_over code array_words) j t a t a) (sym e) (Done t a, tt)
+      → StepsInOrder (strands_over code array_words) (counts_of k) t a t a
+  no_steps array_words k t a e = subst (λ (j : Counts). StepsInOrder (strands_over code array_words) j t a t a) (sym e) (Done t a, tt)
 
   -- steps behind steps
   pub more_steps : (array_words after_words : ℕ) (j k : Counted) (m : Counts) (t u v : Strands) (a b d : Words) → after_words ≡ array_words
-      → counts_of k ≡ plus (counts_of j) m → StepsInTurn (strands_over code array_words) (counts_of j) t a u b
-      → StepsInTurn (strands_over code after_words) m u b v d → StepsInTurn (strands_over code array_words) (counts_of k) t a v d
+      → counts_of k ≡ plus (counts_of j) m → StepsInOrder (strands_over code array_words) (counts_of j) t a u b
+      → StepsInOrder (strands_over code after_words) m u b v d → StepsInOrder (strands_over code array_words) (counts_of k) t a v d
   more_steps array_words after_words j k m t u v a b d same counted first then =
-      subst (λ (l : Counts). StepsInTurn (strands_over code array_words) l t a v d) (sym counted)
+      subst (λ (l : Counts). StepsInOrder (strands_over code array_words) l t a v d) (sym counted)
       (then_steps (strands_over code array_words) first.0 first.1
-      (subst (λ (n : ℕ). StepsInTurn (strands_over code n) m u b v d) same then))
+      (subst (λ (n : ℕ). StepsInOrder (strands_over code n) m u b v d) same then))
 
   -- and steps that count nothing
   pub free_steps : (array_words after_words : ℕ) (j k : Counted) (t u v : Strands) (a b d : Words) → after_words ≡ array_words → k ≡ j → d ≡ b
-      → StepsInTurn (strands_over code array_words) (counts_of j) t a u b → StepsInTurn (strands_over code after_words) none u b v b
-      → StepsInTurn (strands_over code array_words) (counts_of k) t a v d
+      → StepsInOrder (strands_over code array_words) (counts_of j) t a u b → StepsInOrder (strands_over code after_words) none u b v b
+      → StepsInOrder (strands_over code array_words) (counts_of k) t a v d
   free_steps array_words after_words j k t u v a b d same counts words first then =
-      subst (λ (e : Words). StepsInTurn (strands_over code array_words) (counts_of k) t a v e) (sym words)
+      subst (λ (e : Words). StepsInOrder (strands_over code array_words) (counts_of k) t a v e) (sym words)
       (more_steps array_words after_words j k none t u v a b b same
       (ap (λ (l : Counted). counts_of l) counts ∙ sym (plus_comm (counts_of j) none ∙ plus_none (counts_of j))) first then)
 

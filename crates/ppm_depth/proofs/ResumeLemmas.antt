@@ -4,8 +4,8 @@ use Rattle.std.proofs.lemmas.List.{get_or-take, length-take-le}
 use Rattle.ppm_strands.specs.Tree.{Words, Strand, Call, Fork, Over, Code}
 use Rattle.ppm_strands.specs.Run.{Counts, none, rejoin}
 use Rattle.ppm_strands.specs.Ahead.{Return, Join, Done}
-use Rattle.ppm_strands.specs.Turn.{StepsInTurn}
-use Rattle.ppm_strands.proofs.OrderLemmas.{before}
+use Rattle.ppm_depth.specs.Order.{StepsInOrder}
+use Rattle.ppm_depth.proofs.OrderLemmas.{before}
 use Rattle.ppm_strands.proofs.RunLemmas.{plus_none}
 use Rattle.ppm_code.specs.declared.code.CodeParts.{CodeParts}
 use Rattle.ppm_code.specs.Strands.{Result, Gave, Trapped, resume, kept, with_value}
@@ -27,12 +27,12 @@ module _ (code : CodeParts) (array_words : ℕ) where
   abbrev c : Code Own Result
   c = strands_over code array_words
 
-  return_step : (g : Own) (o : Result) (a : Words) → StepsInTurn c none (Call g (Over o)) a (resume g o) a
-  return_step g o a = subst (λ (k : Counts). StepsInTurn c k (Call g (Over o)) a (resume g o) a) (plus_none none)
+  return_step : (g : Own) (o : Result) (a : Words) → StepsInOrder c none (Call g (Over o)) a (resume g o) a
+  return_step g o a = subst (λ (k : Counts). StepsInOrder c k (Call g (Over o)) a (resume g o) a) (plus_none none)
       (before c (Return g o a) tt (Done (resume g o) a, tt))
 
-  join_step : (g : Own) (o p : Result) (a : Words) → StepsInTurn c none (Fork g (Over o) (Over p)) a (rejoin c g o p) a
-  join_step g o p a = subst (λ (k : Counts). StepsInTurn c k (Fork g (Over o) (Over p)) a (rejoin c g o p) a) (plus_none none)
+  join_step : (g : Own) (o p : Result) (a : Words) → StepsInOrder c none (Fork g (Over o) (Over p)) a (rejoin c g o p) a
+  join_step g o p a = subst (λ (k : Counts). StepsInOrder c k (Fork g (Over o) (Over p)) a (rejoin c g o p) a) (plus_none none)
       (before c (Join g o p a) tt (Done (rejoin c g o p) a, tt))
 
   -- the stack below a block
@@ -74,7 +74,7 @@ module _ (code : CodeParts) (array_words : ℕ) where
   resumed_one : (w : Waiting) (on : For) (v : Waits) (s : Above) (done : Finish) (blocks : List ℕ) (a : Words) (begin end : ℕ)
       → w.block ≤ begin → begin ≤ end → end ≤ length blocks → end_of code w.frame ≤ w.block
       → AreOne code blocks end (length blocks) w.frame on v → IsLaidOut code blocks s w.frame.base (end_of code w.frame) w.block
-      → (next : Strands) × StepsInTurn c none (tree_at s (waits_for v (Over (result_of done)))) a next a
+      → (next : Strands) × StepsInOrder c none (tree_at s (waits_for v (Over (result_of done)))) a next a
       × IsShown code (stack_resumed w on done blocks) (waiting_resumed w on done (listed s)) (resumed w on done) next
   resumed_one w (Callee to) (ForCallee f) s done blocks a begin end lies first last fits one laid =
       let within : w.block ≤ length blocks = omega (arith, lies, first, last) in (
@@ -97,7 +97,7 @@ module _ (code : CodeParts) (array_words : ℕ) where
   )
   resumed_one w (Right l left_to to) (ForRight f o) s done blocks a begin end lies first last fits one laid =
       let within : w.block ≤ length blocks = omega (arith, lies, first, last) in
-      subst (λ (p : Result). (next : Strands) × StepsInTurn c none (tree_at s (Fork f (Over p) (Over (result_of done)))) a next a
+      subst (λ (p : Result). (next : Strands) × StepsInOrder c none (tree_at s (Fork f (Over p) (Over (result_of done)))) a next a
       × IsShown code (stack_joined w.frame left_to l to done (take w.block blocks)) (listed s) (joined w.frame l done) next) (sym one.1) (
         tree_at s (rejoin c f (result_of l) (result_of done)),
         lifted c s (join_step f (result_of l) (result_of done) a),
@@ -115,12 +115,12 @@ module _ (code : CodeParts) (array_words : ℕ) where
   -- of the tree that is shown, the innermost frame goes on
   pub resumed_turn : (ws : List Waiting) (w : Waiting) (done : Finish) (blocks : List ℕ) (a : Words) (t : Strands)
       → IsShown code blocks (ws ++ (w ∷ [])) (IsOver done) t
-      → (next : Strands) × StepsInTurn c none t a next a
+      → (next : Strands) × StepsInOrder c none t a next a
       × IsShown code (stack_resumed w w.on done blocks) (waiting_resumed w w.on done ws) (resumed w w.on done) next
   resumed_turn ws w done blocks a t shown = by shown.above shown.waits shown.leaf shown.tree shown.at
     where
       by : (s : Above) → listed s ≡ ws ++ (w ∷ []) → (u : Strands) → t ≡ tree_at s u → IsNow code blocks (IsOver done) s u
-          → (next : Strands) × StepsInTurn c none t a next a
+          → (next : Strands) × StepsInOrder c none t a next a
           × IsShown code (stack_resumed w w.on done blocks) (waiting_resumed w w.on done ws) (resumed w w.on done) next
       by Root e u tree at = absurd (innermost Root ws w e)
       by (On x v s) e u tree at =
@@ -130,7 +130,7 @@ module _ (code : CodeParts) (array_words : ℕ) where
           × IsLaidOut code blocks s y.frame.base (end_of code y.frame) y.block) last.0 at.5 in
           let turn = resumed_one w w.on v s done blocks a at.1 at.2 laid.0 at.3 at.4 laid.1 laid.2 laid.3 in (
             turn.0,
-            subst (λ (z : Strands). StepsInTurn c none z a turn.0 a) whole turn.1,
+            subst (λ (z : Strands). StepsInOrder c none z a turn.0 a) whole turn.1,
             subst (λ (zs : List Waiting). IsShown code (stack_resumed w w.on done blocks) (waiting_resumed w w.on done zs) (resumed w w.on done) turn.0)
                 last.1 turn.2,
           )

@@ -5,8 +5,8 @@ use Rattle.std.proofs.lemmas.List.{length_push}
 use Rattle.ppm_depth.specs.declared.frame.Waiting.{Waiting}
 use Rattle.ppm_strands.specs.Tree.{Words, Code}
 use Rattle.ppm_strands.specs.Run.{Counts}
-use Rattle.ppm_strands.specs.Turn.{StepsInTurn}
-use Rattle.ppm_strands.proofs.OrderLemmas.{under, left, right}
+use Rattle.ppm_depth.specs.Order.{StepsInOrder}
+use Rattle.ppm_depth.proofs.OrderLemmas.{under, left, right}
 use Rattle.ppm_code.specs.declared.code.CodeParts.{CodeParts}
 use Rattle.ppm_code.specs.Strands.{Result}
 use Rattle.ppm_code.specs.declared.location.FrameWord.TheVariants.{Slot, Value}
@@ -106,12 +106,12 @@ innermost (On x v s) ws w e = last_of (listed s) ws x w e
 
 module _ (c : Code Own Result) where
   -- the chains of a strand are chains of the tree in which it stands
-  one_lifted : (v : Waits) {k : Counts} {t u : Strands} {a b : Words} → StepsInTurn c k t a u b → StepsInTurn c k (waits_for v t) a (waits_for v u) b
+  one_lifted : (v : Waits) {k : Counts} {t u : Strands} {a b : Words} → StepsInOrder c k t a u b → StepsInOrder c k (waits_for v t) a (waits_for v u) b
   one_lifted (ForCallee f) s = under c f s.0 s.1
   one_lifted (ForLeft f r) s = left c f _ s.0 s.1
   one_lifted (ForRight f o) s = right c f o s.0 s.1
 
-  pub lifted : (above : Above) {k : Counts} {t u : Strands} {a b : Words} → StepsInTurn c k t a u b
-      → StepsInTurn c k (tree_at above t) a (tree_at above u) b
+  pub lifted : (above : Above) {k : Counts} {t u : Strands} {a b : Words} → StepsInOrder c k t a u b
+      → StepsInOrder c k (tree_at above t) a (tree_at above u) b
   lifted Root s = s
   lifted (On w v above) s = lifted above (one_lifted v s)

@@ -1,5 +1,6 @@
 pub mod Image
 pub mod Moves
+pub mod Order
 pub mod Run
 pub mod Sound
 pub mod Start

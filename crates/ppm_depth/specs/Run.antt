@@ -2,7 +2,7 @@
 use Rattle.std.specs.Prelude.{◌≡◌, ◌⊎◌, ◌<◌, ◌≤◌, ℕ, zero, suc, ◌+◌, ℤ, List, [], ◌∷◌, length}
 use Rattle.ppm_strands.specs.Tree.{Words, Tree, Code}
 use Rattle.ppm_strands.specs.Run.{Counts, End, Ends}
-use Rattle.ppm_strands.specs.Turn.{StepsInTurn}
+use Rattle.ppm_depth.specs.Order.{StepsInOrder, IsAtWork}
 use Rattle.ppm_capsules.specs.Strand.{Frame, code_of}
 use Rattle.ppm_words.specs.TwosComplement.{value_of}
 use Rattle.ppm_words.specs.declared.named_array.NamedArray.{NamedArray}
@@ -36,20 +36,24 @@ abbrev pub said_of : List NamedArray → Words → Result → Outcome
 said_of input words (Gave value) = Ended (arrays_at words 0 input)
 said_of input words (Trapped trap line) = TrappedAt trap line
 
+-- the words that a run of a code takes of the pools: the root's frame, and the blocks that its capsules ask for
+abbrev pub pool_words : CodeParts → Counts → ℕ
+pool_words code k = frame_size code code.root + k.block_words
+
 module _ (code : CodeParts) (input : List NamedArray) where
   -- the strands of the code, run depth first from the input, come to an end
   abbrev pub ComesTo : End Result → Type 0
   ComesTo e = Ends (strands_of code input) (root_strand code input) (words_of (words_in input)) e
 
-  -- the first steps of that run are these in number, and lead to a tree with words
+  -- the first steps of that run count this, and lead to a tree with words
   abbrev pub BeginsWith : Counts → Tree (Frame FrameWord Point) Result → Words → Type 0
-  BeginsWith k t words = StepsInTurn (strands_of code input) k (root_strand code input) (words_of (words_in input)) t words
+  BeginsWith k t words = StepsInOrder (strands_of code input) k (root_strand code input) (words_of (words_in input)) t words
 
-  -- the counts of an answer; the root's frame is a block too
+  -- the counts of an answer
   pub record HasCounts (k : Counts) (r : DepthRun) : Type 0 where
     pub capsules : r.capsules ≡ k.capsules
     pub forks : r.forks ≡ k.forks
-    pub block_words : r.block_words ≡ frame_size code code.root + k.block_words
+    pub pool_words : r.pool_words ≡ pool_words code k
 
   -- the run comes to its end within so many capsules
   pub record IsWithin (limit : ℕ) (r : DepthRun) : Type 0 where
@@ -59,7 +63,7 @@ module _ (code : CodeParts) (input : List NamedArray) where
     pub outcome : r.outcome ≡ said_of input end.words end.outcome
     pub counts : HasCounts end.counts r
 
-  -- it takes more capsules than that: no end has fewer, and the counts are those of the first so many, behind which one more is run
+  -- it takes more capsules than that: no end has fewer, and the counts are those of the first so many, behind which a capsule is next
   pub record IsNotWithin (limit : ℕ) (r : DepthRun) : Type 0 where
     pub outcome : r.outcome ≡ NotWithin
     pub more : (end : End Result) → ComesTo end → limit < end.counts.capsules
@@ -68,6 +72,7 @@ module _ (code : CodeParts) (input : List NamedArray) where
     pub words : Words
     pub begins : BeginsWith front left words
     pub all : front.capsules ≡ limit
+    pub next : IsAtWork left
     pub counts : HasCounts front r
 
   -- the answer of a run that may take so many capsules

@@ -1,13 +1,13 @@
 -- Sound codes: those of which any order of the strands comes to the depth-first end.
-use Rattle.std.specs.Prelude.{ℕ, List}
+use Rattle.std.specs.Prelude.{List}
 use Rattle.ppm_strands.specs.Tree.{Words, Over}
 use Rattle.ppm_strands.specs.Run.{Counts}
 use Rattle.ppm_strands.specs.Ahead.{Steps}
 use Rattle.ppm_strands.specs.Calm.{Calm}
 use Rattle.ppm_words.specs.declared.named_array.NamedArray.{NamedArray}
 use Rattle.ppm_code.specs.declared.code.CodeParts.{CodeParts}
-use Rattle.ppm_code.specs.Paths.{HasNoConflict}
-use Rattle.ppm_code.specs.Strands.{Result, instrs_of}
+use Rattle.ppm_code.specs.Free.{IsFree}
+use Rattle.ppm_code.specs.Strands.{Result}
 use Rattle.ppm_code.specs.Tidy.{IsTidy}
 use Rattle.ppm_depth.specs.Start.{words_in, words_of, root_strand}
 use Rattle.ppm_depth.specs.Run.{strands_of, ComesTo}
@@ -16,7 +16,7 @@ use Rattle.ppm_depth.specs.Run.{strands_of, ComesTo}
 -- them begun from the words at its own fork, neither writes an array word that the other reads or writes
 pub record IsSound (code : CodeParts) (input : List NamedArray) : Type 0 where
   pub tidy : IsTidy code
-  pub free : (number : ℕ) → HasNoConflict (instrs_of code number)
+  pub free : IsFree code
   pub calm : Calm (strands_of code input) (root_strand code input) (words_of (words_in input))
 
 -- in whatever order the strands of a sound code make their steps and come to an end, the depth-first run comes to it, with its counts

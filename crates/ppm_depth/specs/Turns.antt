@@ -2,7 +2,7 @@
 use Rattle.std.specs.Prelude.{◌≡◌, ◌≤◌, ℕ, ◌*◌, Option, Some, None, length}
 use Rattle.ppm_strands.specs.Tree.{Code, Words, Over, Strand as StrandAt}
 use Rattle.ppm_strands.specs.Run.{Counts, plus}
-use Rattle.ppm_strands.specs.Turn.{StepsInTurn}
+use Rattle.ppm_depth.specs.Order.{StepsInOrder}
 use Rattle.ppm_capsules.specs.Strand.{code_of}
 use Rattle.ppm_code.specs.declared.code.CodeParts.{CodeParts}
 use Rattle.ppm_code.specs.Limits.{room_limit}
@@ -37,7 +37,7 @@ module _ (code : CodeParts) where
   pub record IsTurn (count : ℕ) (before after : Strand) (t : Strands) (current : Now) : Type 0 where
     pub counts : Counts
     pub next : Strands
-    pub steps : StepsInTurn (strands_over code (length before.store.words.items)) counts t (words_of before.store.words.items)
+    pub steps : StepsInOrder (strands_over code (length before.store.words.items)) counts t (words_of before.store.words.items)
         next (words_of after.store.words.items)
     pub shown : ShowsTree after current next
     pub counted : counts_of after.counts ≡ plus (counts_of before.counts) counts
@@ -50,14 +50,14 @@ module _ (code : CodeParts) where
   -- from a tree and words the strand has come to what it shows now, with its counts
   pub record HasRun (array_words : ℕ) (t : Strands) (a : Words) (after : Strand) (current : Now) : Type 0 where
     pub next : Strands
-    pub steps : StepsInTurn (strands_over code array_words) (counts_of after.counts) t a next (words_of after.store.words.items)
+    pub steps : StepsInOrder (strands_over code array_words) (counts_of after.counts) t a next (words_of after.store.words.items)
     pub shown : ShowsTree after current next
 
   -- the tree has come to its end, or so many capsules are run and one more is to be
   abbrev pub HasCome : (array_words limit : ℕ) → Strands → Words → Strand → Option Finish → Type 0
   HasCome array_words limit t a after (Some finish) =
-      StepsInTurn (strands_over code array_words) (counts_of after.counts) t a (Over (result_of finish)) (words_of after.store.words.items)
+      StepsInOrder (strands_over code array_words) (counts_of after.counts) t a (Over (result_of finish)) (words_of after.store.words.items)
   HasCome array_words limit t a after None =
       (above : Above) × (f : Own)
-      × StepsInTurn (strands_over code array_words) (counts_of after.counts) t a (tree_at above (StrandAt f)) (words_of after.store.words.items)
+      × StepsInOrder (strands_over code array_words) (counts_of after.counts) t a (tree_at above (StrandAt f)) (words_of after.store.words.items)
       × (after.counts.capsules ≡ limit)

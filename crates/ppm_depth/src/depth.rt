@@ -13,13 +13,13 @@ use ppm_words::{Input, NamedArray, NoMemory, Outcome};
 use std::alloc::Global;
 
 /// What a depth-first run came to, and what it counted: the capsules run, the forks that they opened, and the
-/// words of the root's frame and of all that they asked for.
+/// words of the pools, which are the root's frame and all blocks that the capsules asked for.
 #[derive(Debug, Drop)]
 pub struct DepthRun {
     pub outcome: Outcome,
     pub capsules: u64,
     pub forks: u64,
-    pub block_words: u64,
+    pub pool_words: u64,
 }
 
 /// What is said of a run that has come to this over the words of arrays.
@@ -63,6 +63,6 @@ pub fn depth_first(
         outcome,
         capsules: strand.counts.capsules,
         forks: strand.counts.forks,
-        block_words: frame_words + strand.counts.block_words,
+        pool_words: frame_words + strand.counts.block_words,
     })
 }

@@ -1,13 +1,9 @@
 -- What may have come of an entry since it was seen: so many changes in a row.
 use Rattle.std.specs.Prelude.{ℕ}
+pub use Rattle.ppm_cells.specs.Chain.{Chain, Stays, Then}
 use Rattle.ppm_cells.specs.declared.entry.Entry.{Entry}
 use Rattle.ppm_cells.specs.declared.shape.Takeover.{Takeover}
 use Rattle.ppm_deque.specs.Change.{Changes, OthersChange, OthersTake, BoardChanges}
-
--- none or more changes, one after the other
-pub data Chain (Change : Entry → Entry → Type 0) : (old new : Entry) → Type 0 where
-  Stays : (entry : Entry) → Chain Change entry entry
-  Then : (old mid new : Entry) → Chain Change old mid → Change mid new → Chain Change old new
 
 -- what may come of an entry of a deque
 abbrev pub Later : Takeover → (old new : Entry) → Type 0

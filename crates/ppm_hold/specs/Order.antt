@@ -1,12 +1,8 @@
 -- What may have come of a holder word since it was seen: so many takeovers in a row.
 use Rattle.std.specs.Prelude.{ℕ}
+pub use Rattle.ppm_cells.specs.Chain.{Chain, Stays, Then}
 use Rattle.ppm_cells.specs.declared.holder.Holder.{Holder}
 use Rattle.ppm_hold.specs.Change.{Changes, OthersChange}
-
--- none or more changes, one after the other
-pub data Chain (Change : Holder → Holder → Type 0) : (old new : Holder) → Type 0 where
-  Stays : (holder : Holder) → Chain Change holder holder
-  Then : (old mid new : Holder) → Chain Change old mid → Change mid new → Chain Change old new
 
 -- what may come of a holder word
 abbrev pub Later : (old new : Holder) → Type 0

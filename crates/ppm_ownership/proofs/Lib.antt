@@ -9,6 +9,7 @@ pub mod WordLemmas
 pub mod ExpressionLemmas
 pub mod ChangeLemmas
 pub mod LocalLemmas
+pub mod PositionLemmas
 pub mod StretchLemmas
 pub mod SwapLemmas
 pub mod Theorem

@@ -1,4 +1,5 @@
 pub mod Words
 pub mod Owning
 pub mod Coming
+pub mod Positions
 pub mod Correct

@@ -1,5 +1,7 @@
 -- The loads of the rows: which word each is of, and how it is read.
 use Rattle.std.specs.Prelude.{ℕ, ◌+◌, ◌-◌}
+-- the words of a frame and of a fork block, by their names
+pub use Rattle.ppm_cells.specs.Blocks.{outcome_word, header_word, value_word, target_word, order_word, left_outcome_word, right_outcome_word, offset_word}
 use Rattle.ppm_cells.specs.declared.cell.Cell.{Cell}
 use Rattle.ppm_cells.specs.declared.cell.Cell.TheVariants.{DeadWord, RestartWord, MessageWord, HolderWord, Top, EntryWord, BlockWord}
 use Rattle.ppm_step.specs.declared.content.Reading.{Reading}
@@ -10,31 +12,6 @@ use Rattle.ppm_step.specs.declared.row.Point.TheVariants.{Header, BumpLink, Push
 use Rattle.ppm_step.specs.declared.row.Point.TheVariants.{JoinOrder, JoinLink, JoinLeft, JoinRight, RightFrame, Offset, PopBelow, PopAgain, PopAbove}
 use Rattle.ppm_step.specs.declared.row.Point.TheVariants.{SeekHolder, SeekDead, SeekTop, SeekEntry, SeekClosed, StealMessage, TakenMessage, TakenEntry}
 use Rattle.ppm_step.specs.declared.row.Point.TheVariants.{ClosedRestart, ClosedLink, ClosedBottom, BidMessage, BidAgain, BidHolder}
-
--- the words of a frame and of a fork block, by their names
-abbrev pub outcome_word : (frame : ℕ) → Cell
-outcome_word frame = BlockWord (frame + 1)
-
-abbrev pub header_word : (frame copy : ℕ) → Cell
-header_word frame copy = BlockWord (frame + 2 + copy)
-
-abbrev pub value_word : (frame : ℕ) → Cell
-value_word frame = BlockWord (frame + 4)
-
-abbrev pub target_word : (frame : ℕ) → Cell
-target_word frame = BlockWord (frame + 5)
-
-abbrev pub order_word : (block : ℕ) → Cell
-order_word block = BlockWord (block + 1)
-
-abbrev pub left_outcome_word : (block : ℕ) → Cell
-left_outcome_word block = BlockWord (block + 2)
-
-abbrev pub right_outcome_word : (block : ℕ) → Cell
-right_outcome_word block = BlockWord (block + 3)
-
-abbrev pub offset_word : (block : ℕ) → Cell
-offset_word block = BlockWord (block + 4)
 
 -- the word that is loaded
 abbrev pub cell_at : Seat → (victim : ℕ) → Point → Cell

@@ -58,7 +58,19 @@ fn go_on_above(seat: &Seat, victim: u32, bottom: u32, kind: RestartKind) -> Row
             slot: bottom,
             block,
         }),
-        _ => Row::Now(seat.with_kind(RestartKind::Seek)),
+        RestartKind::Run { .. }
+        | RestartKind::Bump { .. }
+        | RestartKind::Push1 { .. }
+        | RestartKind::Unwind { .. }
+        | RestartKind::Arrive { .. }
+        | RestartKind::Join { .. }
+        | RestartKind::Pop1
+        | RestartKind::Pop2 { .. }
+        | RestartKind::Seek
+        | RestartKind::Steal { .. }
+        | RestartKind::Check { .. }
+        | RestartKind::Take { .. }
+        | RestartKind::Take2 { .. } => Row::Now(seat.with_kind(RestartKind::Seek)),
     }
 }
 
@@ -73,7 +85,18 @@ fn go_on_below(seat: &Seat, block: u32, kind: RestartKind) -> Row
             block,
             bottom: seat.restart.bottom,
         }),
-        _ => Row::Now(seat.with_kind(RestartKind::Seek)),
+        RestartKind::Run { .. }
+        | RestartKind::Bump { .. }
+        | RestartKind::Push1 { .. }
+        | RestartKind::Push2 { .. }
+        | RestartKind::Unwind { .. }
+        | RestartKind::Arrive { .. }
+        | RestartKind::Join { .. }
+        | RestartKind::Seek
+        | RestartKind::Steal { .. }
+        | RestartKind::Check { .. }
+        | RestartKind::Take { .. }
+        | RestartKind::Take2 { .. } => Row::Now(seat.with_kind(RestartKind::Seek)),
     }
 }
 
@@ -145,6 +168,8 @@ pub fn follow_bottom(seat: &Seat, block: u32, entry: Entry) -> Row
         Entry::Taken { taker, .. } if taker < 64 => {
             Row::Now(left_begins(block, seat.restart.bottom))
         }
-        _ => Row::Now(seat.with_kind(RestartKind::Seek)),
+        Entry::Empty { .. } | Entry::Local { .. } | Entry::Job { .. } | Entry::Taken { .. } => {
+            Row::Now(seat.with_kind(RestartKind::Seek))
+        }
     }
 }

@@ -1,5 +1,5 @@
 //! The stores of the end of a capsule.
-ghost use Rattle.std.specs.Prelude.{◌≡◌, ◌<◌, ◌≤◌};
+ghost use Rattle.std.specs.Prelude.{◌≡◌, ◌+◌, ◌^◌, ◌<◌, ◌≤◌};
 ghost use Rattle.ppm_cells.specs.declared.cell.Cell.TheVariants.{BlockWord};
 ghost use Rattle.ppm_cells.specs.declared.finish.Finish.TheVariants.{Ended};
 ghost use Rattle.ppm_code.specs.Sizes.{frame_size};
@@ -9,7 +9,7 @@ ghost use Rattle.ppm_step.specs.Points.{outcome_word};
 ghost use Rattle.ppm_step.specs.declared.content.Content.TheVariants.{ANumber, AFinish};
 
 use crate::content::Content;
-use ppm_cells::{Cell, Finish, Link, LinkKind, RestartKind, Side};
+use ppm_cells::{Cell, Finish, Link, LinkKind, RestartKind, Side, header_at, left_frame};
 use ppm_code::{Code, End};
 
 /// A store of the end of a capsule.
@@ -48,17 +48,17 @@ fn entry_of(code: &Code, procedure: u32) -> u32
     }
 }
 
-/// A store of a number into a block.
-fn store(address: u32, number: u64) -> Put
-    ensures { result ≡ put (BlockWord address) (ANumber number) }
+/// A store of a number.
+fn store(cell: Cell, number: u64) -> Put
+    ensures { result ≡ put cell (ANumber number) }
 {
     Put {
-        cell: Cell::BlockWord { address },
+        cell,
         content: Content::ANumber(number),
     }
 }
 
-/// A store of a link.
+/// A store of the link of a block, or of a frame in one.
 fn store_link(address: u32, kind: LinkKind, size: u32) -> Put
     ensures { result ≡ put (BlockWord address) (link kind size) }
 {
@@ -69,11 +69,12 @@ fn store_link(address: u32, kind: LinkKind, size: u32) -> Put
 }
 
 /// A store of the outcome with which a frame begins.
-fn store_ended(address: u32) -> Put
-    ensures { result ≡ put (BlockWord address) (AFinish Ended) }
+fn store_ended(frame: u32) -> Put
+    requires { frame + 1 < 2 ^ 32 }
+    ensures { result ≡ put (outcome_word frame) (AFinish Ended) }
 {
     Put {
-        cell: Cell::BlockWord { address },
+        cell: Cell::outcome_word(frame),
         content: Content::AFinish(Finish::Ended),
     }
 }
@@ -113,7 +114,7 @@ impl Home {
         ensures value { BlockWord result ≡ header_word self.now.frame (other_copy self.now.copy) }
         ensures bound { result < 2 ^ 28 + 4 }
     {
-        self.frame + 2 + self.other()
+        header_at(self.frame, self.other())
     }
 
     /// The frame goes on with the other copy of its header.
@@ -133,7 +134,10 @@ impl Home {
         requires { IsHome self.now }
         ensures { result ≡ goes_on self.now capsule }
     {
-        store(self.frame + 2 + self.other(), u64::from(capsule))
+        store(
+            Cell::header_word(self.frame, self.other()),
+            u64::from(capsule),
+        )
     }
 
     /// The n-th store of a call.
@@ -156,10 +160,13 @@ impl Home {
         };
         match (n, to) {
             (0, _) => Some(store_link(self.block, caller, size_of(code, procedure))),
-            (1, _) => Some(store_ended(self.block + 1)),
-            (2, _) => Some(store(self.block + 2, u64::from(entry_of(code, procedure)))),
+            (1, _) => Some(store_ended(self.block)),
+            (2, _) => {
+                let header = Cell::header_word(self.block, 0);
+                Some(store(header, u64::from(entry_of(code, procedure))))
+            }
             (3, None) | (4, Some(_)) => Some(self.goes_on(capsule)),
-            (3, Some(slot)) => Some(store(self.block + 5, u64::from(slot) + 1)),
+            (3, Some(slot)) => { Some(store(Cell::target_word(self.block), u64::from(slot) + 1)) }
             _ => None,
         }
     }
@@ -181,7 +188,7 @@ impl Home {
         ensures fits { IfSome result (λ p. IsContent p.content) }
         ensures few { IfSome result (λ p. n < 11) }
     {
-        let at = self.block + 5;
+        let left_at = left_frame(self.block);
         let offset = 5 + size_of(code, left);
         let right_at = self.block + offset;
         let parent = LinkKind::Fork {
@@ -190,13 +197,19 @@ impl Home {
         };
         match n {
             0 => Some(store_link(self.block, parent, offset + size_of(code, right))),
-            1 => Some(store(self.block + 4, u64::from(offset))),
-            2 => Some(store_link(at, self.branch(Side::Left), size_of(code, left))),
-            3 => Some(store_ended(at + 1)),
-            4 => Some(store(at + 2, u64::from(entry_of(code, left)))),
+            1 => Some(store(Cell::offset_word(self.block), u64::from(offset))),
+            2 => Some(store_link(left_at, self.branch(Side::Left), size_of(code, left))),
+            3 => Some(store_ended(left_at)),
+            4 => {
+                let header = Cell::header_word(left_at, 0);
+                Some(store(header, u64::from(entry_of(code, left))))
+            }
             5 => Some(store_link(right_at, self.branch(Side::Right), size_of(code, right))),
-            6 => Some(store_ended(right_at + 1)),
-            7 => Some(store(right_at + 2, u64::from(entry_of(code, right)))),
+            6 => Some(store_ended(right_at)),
+            7 => {
+                let header = Cell::header_word(right_at, 0);
+                Some(store(header, u64::from(entry_of(code, right))))
+            }
             8 => Some(self.goes_on(capsule)),
             _ => None,
         }
@@ -218,7 +231,7 @@ impl Home {
         ensures fits { IfSome result (λ p. IsContent p.content) }
         ensures few { IfSome result (λ p. n < 11) }
     {
-        let at = self.block + 5;
+        let left_at = left_frame(self.block);
         let offset = 5 + size_of(code, left);
         let right_at = self.block + offset;
         let parent = LinkKind::Fork {
@@ -227,15 +240,21 @@ impl Home {
         };
         match n {
             0 => Some(store_link(self.block, parent, offset + size_of(code, right))),
-            1 => Some(store(self.block + 4, u64::from(offset))),
-            2 => Some(store_link(at, self.branch(Side::Left), size_of(code, left))),
-            3 => Some(store_ended(at + 1)),
-            4 => Some(store(at + 2, u64::from(entry_of(code, left)))),
-            5 => Some(store(at + 5, target_of(targets.0))),
+            1 => Some(store(Cell::offset_word(self.block), u64::from(offset))),
+            2 => Some(store_link(left_at, self.branch(Side::Left), size_of(code, left))),
+            3 => Some(store_ended(left_at)),
+            4 => {
+                let header = Cell::header_word(left_at, 0);
+                Some(store(header, u64::from(entry_of(code, left))))
+            }
+            5 => Some(store(Cell::target_word(left_at), target_of(targets.0))),
             6 => Some(store_link(right_at, self.branch(Side::Right), size_of(code, right))),
-            7 => Some(store_ended(right_at + 1)),
-            8 => Some(store(right_at + 2, u64::from(entry_of(code, right)))),
-            9 => Some(store(right_at + 5, target_of(targets.1))),
+            7 => Some(store_ended(right_at)),
+            8 => {
+                let header = Cell::header_word(right_at, 0);
+                Some(store(header, u64::from(entry_of(code, right))))
+            }
+            9 => Some(store(Cell::target_word(right_at), target_of(targets.1))),
             10 => Some(self.goes_on(capsule)),
             _ => None,
         }
@@ -281,9 +300,7 @@ impl Home {
             End::Finish => None,
             End::Trap { trap, line } => if n == 0 {
                 Some(Put {
-                    cell: Cell::BlockWord {
-                        address: self.frame + 1,
-                    },
+                    cell: Cell::outcome_word(self.frame),
                     content: Content::AFinish(Finish::Trapped { trap, line }),
                 })
             } else {

@@ -10,7 +10,7 @@ ghost use Rattle.ppm_step.specs.Facts.{IsAddress, IsRow};
 use crate::content::Content;
 use crate::row::{Point, Row, Seat, Then, broken, load};
 use crate::unwind::take_over;
-use ppm_cells::{Cell, Finish, LinkKind, RestartKind, Shape, Side};
+use ppm_cells::{Cell, Finish, LinkKind, RestartKind, Shape, Side, left_frame};
 use ppm_join::{inline, last};
 
 /// By one exchange the branch is first, if the other one wasn't.
@@ -20,7 +20,7 @@ pub fn arrive(seat: &Seat, block: u32, side: Side) -> Row
     ensures fits { IsRow result }
 {
     Row::Exchange {
-        cell: Cell::BlockWord { address: block + 1 },
+        cell: Cell::order_word(block),
         old: Content::ANumber(0),
         new: Content::ANumber(u64::from(1 + side.number())),
         then: seat.with_kind(RestartKind::Join { block, side }),
@@ -88,12 +88,17 @@ pub fn join_outcome(seat: &Seat, block: u32, to: u32, copy: u32, outcome: Finish
 {
     match outcome {
         Finish::Ended => load(Point::Target {
-            frame: block + 5,
+            frame: left_frame(block),
             to,
             copy,
             right_of: Some(block),
         }),
-        _ => take_over(seat, to, outcome),
+        Finish::Unset
+        | Finish::Trapped { .. }
+        | Finish::OutOfTurns { .. }
+        | Finish::OutOfRoom { .. }
+        | Finish::Stopped
+        | Finish::Broken { .. } => take_over(seat, to, outcome),
     }
 }
 

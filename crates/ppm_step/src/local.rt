@@ -12,7 +12,7 @@ use crate::running::{Running, Stage};
 use crate::standing::installed;
 use crate::there::address;
 use crate::turn::Next;
-use ppm_cells::{Cell, Finish, Restart, RestartKind, Shape};
+use ppm_cells::{Cell, Finish, Restart, RestartKind, Shape, UNKNOWN_PLACE, header_at};
 use ppm_code::{Code, End, Step};
 
 /// Where a processor stands.
@@ -36,7 +36,7 @@ pub enum Stand {
     },
     /// It is within a capsule of a frame.
     Runs(Running),
-    /// It has met broken words at its place, 64 where that isn't known.
+    /// It has met broken words at its place, `UNKNOWN_PLACE` where that isn't known.
     Broken {
         place: u32,
     },
@@ -115,7 +115,7 @@ impl Local {
                         ..
                     },
                 ) => Next::Seek,
-                _ => Next::Look,
+                Some(_) | None => Next::Look,
             },
             Stand::Within { seat, .. } => step_of(seat.restart.kind),
             Stand::Runs(_) => Next::Work,
@@ -123,13 +123,13 @@ impl Local {
         }
     }
 
-    /// The place that it carries; 64 where it does not know it.
+    /// The place that it carries; `UNKNOWN_PLACE` where it does not know it.
     #[inline(always)]
     pub fn place(&self) -> u32
         ensures { (s : Shape) (code : CodeParts) → result ≡ place_of (standing_of s code self.now) }
     {
         match self.stand {
-            Stand::Lost | Stand::Done => 64,
+            Stand::Lost | Stand::Done => UNKNOWN_PLACE,
             Stand::Placed { place } | Stand::At { place, .. } | Stand::Broken { place } => place,
             Stand::Within { seat, .. } => seat.place,
             Stand::Runs(running) => running.seat.place,
@@ -158,7 +158,7 @@ impl Local {
             Stand::Within {
                 row: Row::Now(Then::Load(Point::Header { frame, copy })),
                 ..
-            } => Want::Loads(*frame + 2 + *copy),
+            } => Want::Loads(header_at(*frame, *copy)),
             Stand::Within { seat, row } => want_row(shape, seat, victim, row),
             Stand::Runs(running) => running.want(shape, code, &self.registers),
             Stand::Broken { place } => Want::Exchanges(
@@ -259,7 +259,7 @@ impl Local {
                     place: found as u32,
                 };
             } else {
-                self.meet_broken(64);
+                self.meet_broken(UNKNOWN_PLACE);
             },
             Stand::Placed { place } => self.read_restart(place, found),
             Stand::At { place, restart } => if found == 0 {

@@ -42,7 +42,7 @@ pub fn push(seat: &Seat, takeover: Takeover, block: u32, is_last: bool) -> Row
 {
     if is_last {
         return Row::Store {
-            cell: Cell::BlockWord { address: block + 1 },
+            cell: Cell::order_word(block),
             content: Content::ANumber(3),
             then: left_begins(block, seat.restart.bottom),
         };

@@ -24,15 +24,11 @@ pub fn cell_at(seat: &Seat, victim: u32, point: &Point) -> Cell
     let place = seat.place;
     let bottom = seat.restart.bottom;
     match *point {
-        Point::Header { frame, copy } => Cell::BlockWord {
-            address: frame + 2 + copy,
-        },
+        Point::Header { frame, copy } => Cell::header_word(frame, copy),
         Point::BumpLink { block } | Point::JoinLink { block } | Point::ClosedLink { block } => {
             Cell::BlockWord { address: block }
         }
-        Point::PushOrder { block } | Point::JoinOrder { block, .. } => Cell::BlockWord {
-            address: block + 1,
-        },
+        Point::PushOrder { block } | Point::JoinOrder { block, .. } => Cell::order_word(block),
         Point::PushAbove { .. } => Cell::EntryWord {
             place,
             slot: bottom + 1,
@@ -42,14 +38,14 @@ pub fn cell_at(seat: &Seat, victim: u32, point: &Point) -> Cell
             slot: bottom,
         },
         Point::UnwindLink { frame } => Cell::BlockWord { address: frame },
-        Point::UnwindOutcome { frame, .. } => Cell::BlockWord { address: frame + 1 },
-        Point::Target { frame, .. } => Cell::BlockWord { address: frame + 5 },
-        Point::GivenValue { frame, .. } => Cell::BlockWord { address: frame + 4 },
-        Point::JoinLeft { block, .. } => Cell::BlockWord { address: block + 2 },
-        Point::JoinRight { block, .. } => Cell::BlockWord { address: block + 3 },
-        Point::RightFrame { block, .. } | Point::Offset { block, .. } => Cell::BlockWord {
-            address: block + 4,
-        },
+        Point::UnwindOutcome { frame, .. } => Cell::outcome_word(frame),
+        Point::Target { frame, .. } => Cell::target_word(frame),
+        Point::GivenValue { frame, .. } => Cell::value_word(frame),
+        Point::JoinLeft { block, .. } => Cell::left_outcome_word(block),
+        Point::JoinRight { block, .. } => Cell::right_outcome_word(block),
+        Point::RightFrame { block, .. } | Point::Offset { block, .. } => {
+            Cell::offset_word(block)
+        }
         Point::PopBelow | Point::PopAgain { .. } => Cell::EntryWord {
             place,
             slot: bottom - 1,

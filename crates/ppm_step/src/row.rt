@@ -6,7 +6,7 @@ ghost use Rattle.ppm_step.specs.declared.row.Then.TheVariants.{Load, Broken};
 ghost use Rattle.ppm_step.specs.Facts.{IsAddress};
 
 use crate::content::Content;
-use ppm_cells::{Cell, Entry, Finish, Holder, LinkKind, Restart, RestartKind, Side};
+use ppm_cells::{Cell, Entry, Finish, Holder, LinkKind, Restart, RestartKind, Side, left_frame};
 
 /// Who carries a place on, which place, and its restart word as it was read.
 #[derive(Clone, Copy, Debug, PartialEq, Eq)]
@@ -241,7 +241,7 @@ pub fn left_begins(block: u32, bottom: u32) -> Then
 {
     Then::Install(Restart {
         kind: RestartKind::Run {
-            frame: block + 5,
+            frame: left_frame(block),
             copy: 0,
         },
         bottom,

@@ -39,14 +39,11 @@ pub fn location_cell(shape: &Shape, home: &Home, location: Location) -> Cell
     requires there { is_there shape.now (cell_of home.now (location_of location)) ≡ true }
     ensures { result ≡ cell_of home.now (location_of location) }
 {
+    // The proof needs its limits.
     let _ = shape.slots;
     match location {
-        Location::Frame(FrameWord::Slot(slot)) => Cell::BlockWord {
-            address: home.frame + 6 + slot,
-        },
-        Location::Frame(FrameWord::Value) => Cell::BlockWord {
-            address: home.frame + 4,
-        },
+        Location::Frame(FrameWord::Slot(slot)) => Cell::slot_word(home.frame, slot),
+        Location::Frame(FrameWord::Value) => Cell::value_word(home.frame),
         Location::New(offset) => Cell::BlockWord {
             address: home.block + offset,
         },

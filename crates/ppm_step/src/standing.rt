@@ -15,7 +15,7 @@ use crate::rest::then_there;
 use crate::row::{Point, Row, Seat, Then};
 use crate::running::{Running, Stage};
 use crate::there::{cell_is_there, restart_there};
-use ppm_cells::{Restart, RestartKind, Shape};
+use ppm_cells::{Restart, RestartKind, Shape, header_at};
 use ppm_code::Code;
 
 impl Local {
@@ -35,7 +35,7 @@ impl Local {
     ghost use Rattle.ppm_step.specs.declared.row.Then.TheVariants.{Load};
     ghost use Rattle.ppm_step.specs.Told.{place_of};
 
-    /// It has met broken words at a place, 64 where that isn't known.
+    /// It has met broken words at a place, `UNKNOWN_PLACE` where that isn't known.
     #[inline(never)]
     pub(crate) fn meet_broken(&mut self, place: u32)
         requires { place < 65 }
@@ -140,7 +140,7 @@ impl Local {
         ensures holds { (code : CodeParts) → IsLocal shape.now code self.new }
         ensures own_stays { self.new.own ≡ self.old.own }
     {
-        if frame + 2 + copy >= shape.word_count() {
+        if header_at(frame, copy) >= shape.word_count() {
             self.meet_broken(seat.place);
             return;
         }
@@ -221,7 +221,7 @@ pub fn header_of(shape: &Shape, seat: Seat) -> Option<u32>
     if !restart_there(shape, seat.restart) {
         return None;
     }
-    let header = frame + 2 + copy;
+    let header = header_at(frame, copy);
     if header < shape.word_count() {
         Some(header)
     } else {
@@ -288,6 +288,7 @@ pub(crate) fn installed(shape: &Shape, seat: Seat, restart: Restart) -> Stand
     ensures value { result ≡ At seat.place (Some restart) }
     ensures fits { IsRestart restart }
 {
+    // The proof needs its limits.
     let _ = shape.word_count();
     at(seat, restart)
 }

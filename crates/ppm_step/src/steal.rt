@@ -21,7 +21,8 @@ fn take_so(takeover: Takeover, place: u32, entry: Entry) -> Option<Entry>
 {
     match (takeover, entry) {
         (Takeover::ByEntries, Entry::Local { .. }) => inherit(entry, place),
-        _ => steal(entry, place),
+        (Takeover::ByPlaces, Entry::Local { .. })
+        | (_, Entry::Empty { .. } | Entry::Job { .. } | Entry::Taken { .. }) => steal(entry, place),
     }
 }
 
@@ -31,7 +32,8 @@ fn takeable(takeover: Takeover, entry: Entry) -> bool
 {
     match (takeover, entry) {
         (_, Entry::Job { .. }) | (Takeover::ByEntries, Entry::Local { .. }) => true,
-        _ => false,
+        (Takeover::ByPlaces, Entry::Local { .. })
+        | (_, Entry::Empty { .. } | Entry::Taken { .. }) => false,
     }
 }
 

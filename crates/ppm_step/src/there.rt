@@ -85,6 +85,7 @@ pub fn restart_word(shape: &Shape, restart: Restart) -> u64
     requires { restart_is_there shape.now restart ≡ true }
     ensures { result ≡ restart_word restart }
 {
+    // The proof needs its limits.
     let _ = shape.word_count();
     restart.pack()
 }

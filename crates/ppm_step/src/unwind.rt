@@ -33,7 +33,7 @@ pub fn take_over(seat: &Seat, to: u32, outcome: Finish) -> Row
     ensures fits { IsRow result }
 {
     Row::Store {
-        cell: Cell::BlockWord { address: to + 1 },
+        cell: Cell::outcome_word(to),
         content: Content::AFinish(outcome),
         then: seat.with_kind(RestartKind::Unwind { frame: to }),
     }
@@ -62,12 +62,17 @@ pub fn unwind_outcome(seat: &Seat, frame: u32, link: LinkKind, outcome: Finish) 
                 copy,
                 right_of: None,
             }),
-            _ => take_over(seat, to, outcome),
+            Finish::Unset
+            | Finish::Trapped { .. }
+            | Finish::OutOfTurns { .. }
+            | Finish::OutOfRoom { .. }
+            | Finish::Stopped
+            | Finish::Broken { .. } => take_over(seat, to, outcome),
         },
         LinkKind::Branch { side, block } => Row::Store {
             cell: match side {
-                Side::Left => Cell::BlockWord { address: block + 2 },
-                Side::Right => Cell::BlockWord { address: block + 3 },
+                Side::Left => Cell::left_outcome_word(block),
+                Side::Right => Cell::right_outcome_word(block),
             },
             content: Content::AFinish(outcome),
             then: seat.with_kind(RestartKind::Arrive { block, side }),

@@ -12,7 +12,7 @@ use Rattle.ppm_test_laws.specs.declared.sample.Outcome.{Outcome}
 use Rattle.ppm_test_laws.specs.declared.sample.Outcome.TheVariants.{Finished, Trapped}
 use Rattle.ppm_strands.proofs.RunLemmas.{counted_some, one_end}
 use Rattle.ppm_strands.proofs.PartsLemmas.{has_left, has_right, ends_by_parts}
-use Rattle.ppm_strands.proofs.RegionLemmas.{inside}
+use Rattle.ppm_strands.proofs.RegionLemmas.{separate_trees_are_calm}
 use Rattle.ppm_strands.proofs.StepLemmas.{put_at, put_else}
 
 -- within three of the bound the word A is written on the one side and touched on the other
@@ -150,8 +150,8 @@ apart_by_regions = (
 
 pub apart_is_calm : ApartIsCalm
 apart_is_calm a = (
-  λ n. (inside (sample racing) apart_regions apart_by_regions.0 n (fork_of 0 2) a apart_by_regions.1).calm,
-  λ n. (inside (sample racing) apart_regions apart_by_regions.0 n forking a apart_by_regions.2).calm,
+  separate_trees_are_calm apart_regions (sample racing) apart_by_regions.0 (fork_of 0 2) a apart_by_regions.1,
+  separate_trees_are_calm apart_regions (sample racing) apart_by_regions.0 forking a apart_by_regions.2,
 )
 
 -- a capsule of a table

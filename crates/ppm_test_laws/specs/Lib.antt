@@ -1,5 +1,4 @@
 pub mod Copies
 pub mod Races
 pub mod Sample
-pub mod Splits
 pub mod Stops

@@ -133,7 +133,7 @@ fn comes_to(
         "from {values:?} within {limit}: {run:?}"
     );
     assert_eq!(rt;
-        (run.capsules, run.forks, run.block_words),
+        (run.capsules, run.forks, run.pool_words),
         counts,
         "from {values:?} within {limit}"
     );

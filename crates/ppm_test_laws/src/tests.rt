@@ -1,8 +1,7 @@
 //! Trees of the small instance, with ends worked out by hand.
 use crate::copies::{copies_are_restartable, copies_with_faults};
 use crate::races::{
-    Owning, Split, apart_trees_are_calm, races_are_not_calm, samples_are_local,
-    split_branches_are_calm, tables_run_in_any_order,
+    apart_trees_are_calm, races_are_not_calm, samples_are_local, tables_run_in_any_order,
 };
 use crate::sample::{Capsule, Counts, End, Outcome, SmallTree, Word, run};
 use crate::stops::{Ask, Run, run_with_stops, stops_do_not_show};
@@ -11,14 +10,15 @@ use ppm_capsules::{
     conflict_free_is_idempotent, end_stores_are_unseen, end_stores_come_last, faults_do_not_show,
     others_keep_what_is_done, paths_are_enough, stops_change_nothing, what_is_done_stands,
 };
-use ppm_ownership::{come_to_sites, own_apart, run_in_either_order, stay_within};
+use ppm_ownership::{
+    come_to_sites, own_apart, positions_are_come_to, run_in_either_order, stay_within,
+};
 use ppm_strands::{
     a_change_at_one_leaf, a_change_passes_up, a_step_in_turn, ahead_composes, any_order,
-    calls_resume, calm_by, calm_by_listed_regions, calm_by_regions, chains_in_turn, chains_pass_up,
+    calls_resume, calm_by_listed_regions, chains_in_turn, chains_pass_up,
     changes_what_it_writes, forks_resume, goes_by_parts, has_one_end, larger_bounds_agree,
     locality, strands_beside_do_not_race, what_stands_is_to_come,
 };
-use std::marker::Brand;
 use std::test::Fail;
 
 fn over(from: Word, to: Word, plus: u8, outcome: Outcome) -> Capsule {
@@ -314,9 +314,7 @@ fn laws_are_calls_that_do_nothing(_rt: HostRuntime) -> Result<(), Fail> {
     a_change_at_one_leaf::<u8, Outcome>();
     a_step_in_turn::<u8, Outcome>();
     any_order::<u8, Outcome>();
-    calm_by_regions::<Owning, Outcome>();
     calm_by_listed_regions::<u8, Outcome>();
-    calm_by::<u8, Outcome, Split, Brand>(&Split { at: 3 });
     chains_pass_up::<u8, Outcome>();
     chains_in_turn::<u8, Outcome>();
     ahead_composes::<u8, Outcome>();
@@ -340,8 +338,8 @@ fn laws_are_calls_that_do_nothing(_rt: HostRuntime) -> Result<(), Fail> {
     tables_run_in_any_order();
     races_are_not_calm();
     apart_trees_are_calm();
-    split_branches_are_calm(&Split { at: 3 });
     come_to_sites();
+    positions_are_come_to();
     own_apart();
     stay_within();
     run_in_either_order();

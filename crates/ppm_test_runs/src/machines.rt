@@ -12,7 +12,7 @@ use ppm_core::{
 use ppm_cut_code::{
     few_capsules, keeps_the_rules, lines_alone, names_have_slots, procedures_stand,
 };
-use ppm_cut_correct::{end_as_meant, name_arrays, start_with_input};
+use ppm_cut_correct::{end_as_meant, ends_serially, name_arrays, start_with_input};
 use ppm_cut_sound::{code_is_sound, may_be_stopped, store_tidily};
 use ppm_layout::image;
 use ppm_listing_reader::read_listing;
@@ -316,6 +316,7 @@ fn states_laws_of_the_compiler() {
     store_tidily();
     code_is_sound();
     end_as_meant();
+    ends_serially();
     start_with_input();
     name_arrays();
 }

@@ -3,6 +3,7 @@ use Rattle.std.specs.Prelude.{◌≡◌, ◌<◌, ◌≤◌, ℕ, List}
 use Rattle.ppm_code.specs.declared.class.Class.{Class}
 use Rattle.ppm_code.specs.declared.code.CodeParts.{CodeParts}
 use Rattle.ppm_code.specs.declared.instr.Instr.{Instr}
+pub use Rattle.ppm_code.specs.Free.{IsFree}
 use Rattle.ppm_code.specs.Paths.{IsConflict, HasNoConflict}
 use Rattle.ppm_code.specs.Strands.{instrs_of}
 use Rattle.ppm_war.specs.declared.conflict.Found.{Found}
@@ -22,10 +23,6 @@ HasNoConflictIn code number = HasNoConflict (instrs_of code number)
 pub record IsFirstConflictIn (code : CodeParts) (number : ℕ) (c : Conflict) : Type 0 where
   pub capsule : c.capsule ≡ number
   pub first : IsFirstConflict (instrs_of code number) (record { read_at = c.read_at; write_at = c.write_at; class = c.class })
-
--- no capsule of the code has one
-abbrev pub IsFree : CodeParts → Type 0
-IsFree code = (number : ℕ) → HasNoConflictIn code number
 
 -- a conflict of a code: no lesser capsule has one, and in its capsule it is the first
 pub record IsFirstConflictOf (code : CodeParts) (c : Conflict) : Type 0 where

@@ -1,4 +1,4 @@
-use Rattle.ppm_test_laws.specs.Races.{fork_of, forking, racing}
+use Rattle.ppm_test_laws.specs.Races.{apart_owns, apart_writes, fork_of, forking, is_apart, racing}
 use Rattle.ppm_test_laws.specs.Sample.{sample}
 use Rattle.ppm_test_laws.proofs.races.apart_trees_are_calm.Goals as goal
 
@@ -6,4 +6,5 @@ use Rattle.ppm_test_laws.proofs.races.apart_trees_are_calm.Goals as goal
 pub returns : goal.returns
 returns c = λ a.
     let met = c.races_are_not_calm.ensures.by_regions in
-    (c.calm_by_regions.ensures (sample racing) met.0 (fork_of 0 2) a met.1, c.calm_by_regions.ensures (sample racing) met.0 forking a met.2)
+    let calm = c.calm_by_listed_regions.ensures (sample racing) is_apart apart_owns apart_writes met.0 in
+    (calm (fork_of 0 2) a met.1, calm forking a met.2)

@@ -1,6 +1,6 @@
 use Rattle.std.proofs.Common.{◌++◌, replicate, length, List, ℕ, refl, sym, ap, ◌∙◌, subst₂, arith}
 use Rattle.ppm_strands.specs.Run.{plus}
-use Rattle.ppm_strands.specs.Turn.{StepsInTurn}
+use Rattle.ppm_depth.specs.Order.{StepsInOrder}
 use Rattle.ppm_code.specs.declared.instr.Instr.{Instr}
 use Rattle.ppm_code.specs.Code.{room_of}
 use Rattle.ppm_depth.specs.Moves.{counts_by}
@@ -26,7 +26,7 @@ returns-clause-turn c = λ t shown.
     record {
       counts = counts_by done;
       next = turn.0;
-      steps = subst₂ (λ (xs ys : List ℕ). StepsInTurn (strands_over c.args.code.now (length xs)) (counts_by done) t (words_of xs) turn.0 (words_of ys))
+      steps = subst₂ (λ (xs ys : List ℕ). StepsInOrder (strands_over c.args.code.now (length xs)) (counts_by done) t (words_of xs) turn.0 (words_of ys))
           c.in_ok-open_block.ensures.words (sym c.in_ok-now.ensures.words) turn.1;
       shown = rw (c.in_ok-now.ensures.now, c.in_ok-now.ensures.blocks, c.in_ok-now.ensures.waiting) turn.2;
       counted = c.counted-self.ensures.value ∙ ap (λ (k : Counts). plus (counts_of k) (counts_by done)) c.in_ok-now.ensures.counts;

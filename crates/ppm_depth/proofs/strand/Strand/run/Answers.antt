@@ -1,5 +1,5 @@
 use Rattle.std.proofs.Common.{◌≡◌, ◌+◌, length, List, ℕ, refl, ap, ◌∙◌, subst, arith}
-use Rattle.ppm_strands.specs.Turn.{StepsInTurn}
+use Rattle.ppm_depth.specs.Order.{StepsInOrder}
 use Rattle.ppm_depth.specs.Moves.{pending, pending_for, turns_of}
 use Rattle.ppm_depth.specs.Stack.{Strands, IsShown}
 use Rattle.ppm_depth.specs.Start.{words_of}
@@ -61,7 +61,7 @@ returns-then-self-limit-clause-come c = λ t shown.
     (subst (λ (n : Now). ShowsTree c.args.code.now c.loop-now.self n run.next) c.in-At.is run.shown) in (
       there.0,
       there.1,
-      subst (λ (u : Strands). StepsInTurn (strands_over c.args.code.now (length c.args.self.now.store.words.items)) (counts_of c.loop-now.self.counts) t
+      subst (λ (u : Strands). StepsInOrder (strands_over c.args.code.now (length c.args.self.now.store.words.items)) (counts_of c.loop-now.self.counts) t
           (words_of c.args.self.now.store.words.items) u (words_of c.loop-now.self.store.words.items)) there.2 run.steps,
       c.if-self-limit.true,
     )
@@ -129,6 +129,6 @@ returns-in-None-clause-come c = λ t shown.
     let run = c.loop-now.invariant.run t shown in
     let over = subst (λ (n : Now). ShowsTree c.args.code.now c.loop-now.self n run.next) c.in-Over.is run.shown in
     let empty : length c.loop-now.self.waiting.items ≡ 0 = omega (arith, c.in-None.ensures.cases.0, c.loop-now.self.waiting.ok.0) in
-    subst (λ (u : Strands). StepsInTurn (strands_over c.args.code.now (length c.args.self.now.store.words.items)) (counts_of c.loop-now.self.counts) t
+    subst (λ (u : Strands). StepsInOrder (strands_over c.args.code.now (length c.args.self.now.store.words.items)) (counts_of c.loop-now.self.counts) t
     (words_of c.args.self.now.store.words.items) u (words_of c.loop-now.self.store.words.items))
     (tree_over c.args.code.now _ _ c.in-Over.finish run.next over empty) run.steps

@@ -1,41 +1,16 @@
--- Trees whose frames carry labels that say what they own: where branches own apart, such a tree is calm. A label is no function of the
--- frame, so what a frame owns may be said by more than the frame has.
+-- Where branches own apart by their labels, a tree is calm: by induction on the bound, with what it touches and writes.
 use Rattle.std.proofs.Common.{ℕ, zero, suc, inl, inr}
 use Rattle.ppm_strands.specs.Tree.{Words, Tree, Strand, Call, Fork, Over, Code, Has}
 use Rattle.ppm_strands.specs.Run.{End, joined, rejoin, run}
 use Rattle.ppm_strands.specs.Calm.{gathered, touches, CalmWithin, Calm}
+use Rattle.ppm_strands.specs.Labels.{IsGood as IsGoodTree, Respects as RespectsLabels}
 use Rattle.ppm_strands.proofs.PartsLemmas.{has_cases, list_some, then_all}
 
-module _ {L : Type 0} (Owns MayWrite : L → ℕ → Type 0) where
-  -- the first label owns no more than the second, and may write no more
-  pub record IsLess (m l : L) : Type 0 where
-    pub owned : (x : ℕ) → Owns m x → Owns l x
-    pub written : (x : ℕ) → MayWrite m x → MayWrite l x
-
-  -- neither may write what the other owns
-  pub record AreApart (m k : L) : Type 0 where
-    pub left : (x : ℕ) → MayWrite m x → Owns k x → ⊥
-    pub right : (x : ℕ) → Owns m x → MayWrite k x → ⊥
-
 module _ {F O : Type 0} {L : Type 0} (Owns MayWrite : L → ℕ → Type 0) (Runs Waits : L → F → Type 0) where
-  -- a tree that owns no more than the label says
-  abbrev pub IsGood : L → Tree F O → Type 0
-  IsGood l (Strand f) = Runs l f
-  IsGood l (Call g t) = Waits l g × (m : L) × IsGood m t × IsLess Owns MayWrite m l
-  IsGood l (Fork g t u) =
-      Waits l g × (m : L) × (k : L) × IsGood m t × IsGood k u × IsLess Owns MayWrite m l × IsLess Owns MayWrite k l × AreApart Owns MayWrite m k
-  IsGood l (Over o) = Unit {0}
+  abbrev IsGood : L → Tree F O → Type 0
+  IsGood l t = IsGoodTree Owns MayWrite Runs Waits l t
 
-  -- what the code is to do with such frames
-  pub record Respects (c : Code F O) : Type 0 where
-    pub reads : (l : L) (f : F) (a : Words) → Runs l f → (x : ℕ) → Has x (c.reads f a) → Owns l x
-    pub writes : (l : L) (f : F) (a : Words) → Runs l f → (x : ℕ) → Has x (c.writes f a) → MayWrite l x
-    pub owns_what_it_writes : (l : L) (x : ℕ) → MayWrite l x → Owns l x
-    pub opens : (l : L) (f : F) (a : Words) → Runs l f → IsGood l (c.next f a)
-    pub resumes : (l : L) (g : F) (o : O) → Waits l g → IsGood l (c.resume g o)
-    pub keeps : (l : L) (g : F) (o : O) → Waits l g → Waits l (c.kept g o)
-
-  module _ (c : Code F O) (respects : Respects c) where
+  module _ (c : Code F O) (respects : RespectsLabels Owns MayWrite Runs Waits c) where
     -- within the bound the tree is calm, touches only what the label owns and writes only what it may write
     pub record Inside (n : ℕ) (l : L) (t : Tree F O) (a : Words) : Type 0 where
       pub calm : CalmWithin c n t a

@@ -1,0 +1,57 @@
+//! The statuses, one in a line.
+
+use ppm_answers::Status;
+use std::io;
+
+/// All statuses of the program, by their numbers.
+const STATUSES: [Status; 12] = [
+    Status::Ended,
+    Status::Trapped,
+    Status::SourceRefused,
+    Status::WordsRefused,
+    Status::OutOfTurns,
+    Status::OutOfRoom,
+    Status::ReadFault,
+    Status::WriteFault,
+    Status::NoMemory,
+    Status::CodeRefused,
+    Status::NotWithin,
+    Status::Broken,
+];
+
+/// Prints what the program and the script end with.
+pub(crate) fn print_statuses(rt: &impl Print) -> io::Result<()> {
+    println!(rt; "statuses, with what stands on out at 0 and 1, and on err at the others")?;
+    for status in &STATUSES {
+        println!(rt; "  {:>3}  {}", status.number(), meaning_of(*status))?;
+    }
+    println!(rt; "  125  the script ./ppm has no program to run, and err says why")?;
+    println!(rt; "  130  the build was interrupted (143: ended)")
+}
+
+/// What a status says.
+fn meaning_of(status: Status) -> &'static str {
+    match status {
+        Status::Ended => "ended: the arrays; of `code` the listing; of `check` the line `ok`",
+        Status::Trapped => "trapped: `trap K line N`, K being overflow, divzero, index or split",
+        Status::SourceRefused => {
+            "source refused: the fault and its place (docs/LANGUAGE.md, \"Refusals\")"
+        }
+        Status::WordsRefused => {
+            "words refused; or of a plan or a schedule `plan refused: N`, by N: 1 an item\n       \
+             has no form, 2 a processor is not there, 3 too many items, 4 no processor is spared"
+        }
+        Status::OutOfTurns =>
+            "out of turns: `run` spent --turns, or `replay` did not end within them",
+        Status::OutOfRoom => "out of room: `run` or `replay` needed more than --room at that place",
+        Status::ReadFault => "read fault: standard input failed",
+        Status::WriteFault => "write fault: standard output or standard error failed",
+        Status::NoMemory => "out of memory",
+        Status::CodeRefused => {
+            "code refused by `check`: the first conflict, or why it is no listing (docs/CODE.md)"
+        }
+        Status::NotWithin => "not within: `serial` did not end within --turns",
+        Status::Broken =>
+            "saved words broken: of `run` and `replay`; no run is known to come to it",
+    }
+}

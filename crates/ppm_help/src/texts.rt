@@ -1,0 +1,71 @@
+//! What the page says of commands and options in words of its own.
+
+/// What stands ahead of the commands.
+pub(crate) const AHEAD: &str = "\
+Ppm: a small fork-join language, its capsules, and the machine that runs them while processors fail
+
+  ./ppm COMMAND [OPTIONS] < INPUT      the proved program, proved and built first where it is not
+  ./ppm try COMMAND [OPTIONS] < INPUT  the same words unproved, within a minute
+  ./ppm help [COMMAND]                 this page, or what it says of a command; also --help and -h
+  ./ppm --version                      the kit, and the sum of the sources
+
+Input is standard input alone: a source (docs/LANGUAGE.md), of `check` a listing (docs/CODE.md).
+An option is given as `--turns 5` or `--turns=5`, and at most once.
+";
+
+/// What stands behind the commands.
+pub(crate) const BEHIND: &str = "to come: self, stop, resume, ram\n";
+
+/// What a command is for.
+pub(crate) fn purpose_of(command: &str) -> &'static str {
+    match command {
+        "run" => "compiles a source, and one processor runs its capsules under a plan of faults",
+        "serial" => "interprets a source by its serial meaning",
+        "code" => "compiles a source, and writes the listing of its capsules",
+        "check" => "whether the capsules of a listing may be run again, or their first conflict",
+        "replay" => "compiles a source, and processors run its capsules along a schedule",
+        _ => NO_WORDS,
+    }
+}
+
+/// The words behind the command in an example.
+pub(crate) fn example_of(command: &str) -> &'static str {
+    match command {
+        "run" => "--faults 0@5s,0@40s,0@41s < examples/sum.ppm",
+        "serial" => "< examples/mergesort.ppm",
+        "code" => "< examples/first.ppm",
+        "check" => "< examples/conflict.listing",
+        "replay" => "--processors 3 --schedule '0*200,1*30,1!h' < examples/sum.ppm",
+        _ => NO_WORDS,
+    }
+}
+
+/// What an option of a command means.
+pub(crate) fn meaning_of(command: &str, option: &str) -> &'static str {
+    match option {
+        "processors" => "how many processors there are",
+        "turns" => turns_of(command),
+        "room" => "words of a place's pool; blocks are not reused",
+        "slots" => "entries of a place's deque",
+        "looks" => "looks for work until it is idle; without effect yet",
+        "seed" => "where random victims begin; without effect yet",
+        "faults" => "the plan, as 0@5s,0@40s (docs/PLANS.md)",
+        "schedule" => "the acts, as 0*40,1>0*60,0!s (docs/PLANS.md)",
+        "takeover" => "what others take over of a processor that stopped",
+        "idle" => "what a processor without work does; without effect yet",
+        _ => NO_WORDS,
+    }
+}
+
+/// What the turns of a command are.
+fn turns_of(command: &str) -> &'static str {
+    match command {
+        "run" => "work turns that each processor may make",
+        "serial" => "statements, tests and procedures that may begin",
+        "replay" => "acts that all processors may make together",
+        _ => NO_WORDS,
+    }
+}
+
+/// What stands in place of words that are not there yet.
+const NO_WORDS: &str = "(no words for it yet)";
