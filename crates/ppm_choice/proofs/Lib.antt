@@ -4,3 +4,4 @@ pub mod ChoiceLemmas
 pub mod AloneLemmas
 pub mod StepsLemmas
 pub mod ParkLemmas
+pub mod RecordLemmas

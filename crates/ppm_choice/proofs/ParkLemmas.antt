@@ -38,11 +38,12 @@ not_true false e = refl
 -- whether a processor is the keeper
 all_below : (items : List PlanItem) (n c : ℕ) → all_killed items n ≡ true → c < n → is_killed plan_form c items ≡ true
 all_below items zero c e less = absurd (omega (arith, less))
-all_below items (suc n) c e less = by (cases_lt c n)
+all_below items (suc n) c e less =
+    by (cases_lt c n) (all_below items n c (both_hold (is_killed plan_form n items) (all_killed items n) e).1)
   where
-    by : (c < n) ⊎ (n ≤ c) → is_killed plan_form c items ≡ true
-    by (inl below) = all_below items n c (both_hold (is_killed plan_form n items) (all_killed items n) e).1 below
-    by (inr most) =
+    by : (c < n) ⊎ (n ≤ c) → (c < n → is_killed plan_form c items ≡ true) → is_killed plan_form c items ≡ true
+    by (inl below) rest = rest below
+    by (inr most) rest =
         let same : n ≡ c = omega (arith, less, most) in
         subst (λ m. is_killed plan_form m items ≡ true) same (both_hold (is_killed plan_form n items) (all_killed items n) e).0
 
@@ -90,7 +91,7 @@ module _ (plan : Planned) (limits : Limits) (c : ℕ) (past : Past) (stood : Sta
       let all = all_four (is_park limits.idle) (is_seek (next_of stood)) (keeps plan.items c) (nat_le limits.looks past.looks) e in (
         park_is limits.idle all.0,
         record {
-          no_keeper = λ k. both_ways (keeps plan.items c) (keeper_keeps plan.items c k) all.2;
+          no_keeper = λ k. both_ways (keeps plan.items c) all.2 (keeper_keeps plan.items c k);
           seeks = seek_is (next_of stood) all.1;
           looked = leb-true limits.looks past.looks all.3;
         },

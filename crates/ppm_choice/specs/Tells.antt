@@ -7,6 +7,7 @@ use Rattle.ppm_plan.specs.Schedules.{Planned}
 use Rattle.ppm_step.specs.declared.turn.Turn.{Turn}
 use Rattle.ppm_step.specs.Standings.{Standing}
 use Rattle.ppm_step.specs.State.{State}
+use Rattle.ppm_step.specs.Stood.{act_told, stood_behind}
 use Rattle.ppm_step.specs.Told.{event, place_of, record_of}
 use Rattle.ppm_choice.specs.declared.limits.Limits.{Limits}
 use Rattle.ppm_choice.specs.Deeds.{Deed, deeds_of}
@@ -35,3 +36,11 @@ module _ (plan : Planned) (limits : Limits) (processor : ℕ) where
   -- in a run
   abbrev pub told_in : Shape → CodeParts → State → List Turn → List Event
   told_in s code state turns = told_from nothing_done (deeds_of s code processor state turns) (record_of s code processor state turns)
+
+  -- by its record alone: of these events, where it stood there with such a past before them
+  abbrev pub told_by : Shape → CodeParts → Past → Standing → List Event → List Event
+  told_by s code past stood [] = []
+  told_by s code past stood (e ∷ events) =
+      told_before past stood
+      ++ (e ∷ told_by s code (behind (awake plan limits processor past stood) (record { stood = stood; act = act_told s stood e }))
+      (stood_behind s code processor stood e) events)

@@ -109,8 +109,7 @@ module _ (plan : Planned) (limits : Limits) where
         turns = turn_by past m ∷ behind_it.turns;
         own = (refl, behind_it.own);
         obeys =
-            begins_with m.shape m.code plan limits 0 past m.state (turn_by past m) behind_it.turns refl
-            (
+            begins_with m.shape m.code plan limits 0 past m.state (turn_by past m) behind_it.turns refl (
               more,
               refl,
               subst (λ p. ObeysFrom m.shape m.code plan limits 0 (behind p (deed_of 0 m.state (turn_by past m)))

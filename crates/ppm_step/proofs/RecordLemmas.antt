@@ -88,7 +88,7 @@ module _ (s : Shape) where
   asked_rest seat (Installs kind) e = tt
   asked_rest seat Breaks e = cc
 
-  asked : (own v : ℕ) (standing : Standing) → Asks standing → standing ≢ IsDone → IsAsked (wanted s own v standing)
+  pub asked : (own v : ℕ) (standing : Standing) → Asks standing → standing ≢ IsDone → IsAsked (wanted s own v standing)
   asked own v IsLost h lives = tt
   asked own v (IsPlaced place) h lives = tt
   asked own v (IsAt place restart) h lives = tt
@@ -216,7 +216,7 @@ module _ (s : Shape) where
         any_victim s code own (if seeks_holder standing then holder_at s at else 0) victim 0 standing due
     step_leads own victim words standing false due Nothing is a = absurd a
 
-    act_leads : (own : ℕ) (act : Act) (words : List ℕ) (standing : Standing) → Asks standing → standing ≢ IsDone
+    pub act_leads : (own : ℕ) (act : Act) (words : List ℕ) (standing : Standing) → Asks standing → standing ≢ IsDone
         → stood_behind s code own standing (act_event words (place_of standing) act (want_of s code own act standing))
         ≡ stand_after s code own act (found_in words (want_of s code own act standing)) standing
     act_leads own (Step victim) words standing asks lives =
@@ -225,7 +225,7 @@ module _ (s : Shape) where
     act_leads own Hard words standing asks lives = refl
     act_leads own (Quit why) words standing asks lives = refl
 
-    live_event : (state : State) (turn : Turn) (standing : Standing) → Spares s standing
+    pub live_event : (state : State) (turn : Turn) (standing : Standing) → Spares s standing
         → event_by s code state turn standing
         ≡ Some (act_event state.words (place_of standing) turn.act (want_of s code turn.processor turn.act standing))
     live_event state turn IsLost h = refl
@@ -250,7 +250,7 @@ module _ (s : Shape) where
           stand_after s code turn.processor turn.act (found_in state.words (want_of s code turn.processor turn.act (stand_of state turn.processor)))
           (stand_of state turn.processor)
 
-      turn_asks : (state : State) (turn : Turn) → AllSpare s code is state → AllAsk state → AllAsk (happens s code state turn)
+      pub turn_asks : (state : State) (turn : Turn) → AllSpare s code is state → AllAsk state → AllAsk (happens s code state turn)
       turn_asks state turn all ask = by_turn s code is AllAsk state turn ask live (all turn.processor)
         where
           next : Standing
@@ -269,7 +269,7 @@ module _ (s : Shape) where
           live h q = at_one q (moved s code is state.stand turn.processor q next)
 
       -- a turn leads its own processor where its event does
-      own_leads : (state : State) (turn : Turn) → SparesOrDone s code is (stand_of state turn.processor) → Asks (stand_of state turn.processor)
+      pub own_leads : (state : State) (turn : Turn) → SparesOrDone s code is (stand_of state turn.processor) → Asks (stand_of state turn.processor)
           → stood_by s code turn.processor (stand_of state turn.processor) (events_in s code (event_of s code state turn))
           ≡ stand_of (happens s code state turn) turn.processor
       own_leads state turn (inl h) asks =
@@ -284,7 +284,7 @@ module _ (s : Shape) where
           ∙ sym (ap (λ (k : State). stand_of k turn.processor) (ap (acts s code state turn.processor turn.act) done))
 
       -- and no other anywhere
-      others_stay : (state : State) (turn : Turn) (c : ℕ) → SparesOrDone s code is (stand_of state turn.processor) → turn.processor ≢ c
+      pub others_stay : (state : State) (turn : Turn) (c : ℕ) → SparesOrDone s code is (stand_of state turn.processor) → turn.processor ≢ c
           → stand_of (happens s code state turn) c ≡ stand_of state c
       others_stay state turn c spares other =
           by_turn s code is (λ (k : State). stand_of k c ≡ stand_of state c) state turn refl
@@ -296,7 +296,7 @@ module _ (s : Shape) where
           by (inl t) = absurd (other (sym t.0))
           by (inr t) = t
 
-      turn_leads : (state : State) (turn : Turn) (c : ℕ) → AllSpare s code is state → AllAsk state
+      pub turn_leads : (state : State) (turn : Turn) (c : ℕ) → AllSpare s code is state → AllAsk state
           → stood_by s code c (stand_of state c) (events_by s code c state turn) ≡ stand_of (happens s code state turn) c
       turn_leads state turn c all ask = by (turn.processor == c) (eqb_tells turn.processor c)
         where
@@ -319,12 +319,12 @@ module _ (s : Shape) where
           ∙ ap (λ (x : Standing). stood_by s code c x (record_of s code c next turns)) (sym (turn_leads state turn c all ask))
           ∙ sym (both_lists c (stand_of state c) (events_by s code c state turn) (record_of s code c next turns))
 
-      opening_asks : (n q : ℕ) → Asks (stand_in (slice_get (replicate n IsLost) q))
+      pub opening_asks : (n q : ℕ) → Asks (stand_in (slice_get (replicate n IsLost) q))
       opening_asks zero q = tt
       opening_asks (suc n) zero = tt
       opening_asks (suc n) (suc q) = opening_asks n q
 
-      lost_there : (n c : ℕ) → c < n → stand_in (slice_get (replicate n IsLost) c) ≡ IsLost
+      pub lost_there : (n c : ℕ) → c < n → stand_in (slice_get (replicate n IsLost) c) ≡ IsLost
       lost_there zero c less = absurd (omega (arith, less))
       lost_there (suc n) zero less = refl
       lost_there (suc n) (suc c) less = lost_there n c (omega (arith, less))
