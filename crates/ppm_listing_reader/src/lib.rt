@@ -6,14 +6,12 @@
 //! After the input of an assembler, one line an instruction; the forms and faults are this project's.
 #![tactic(auto)]
 
-mod cut;
 mod declared;
 mod first;
 mod form;
 mod instr;
 mod laws;
 mod listing_error;
-mod number;
 mod operand;
 mod outline;
 mod part;

@@ -9,7 +9,6 @@ ghost use Rattle.ppm_listing_reader.specs.declared.listing_error.ListingError.Th
 ghost use Rattle.ppm_listing_reader.specs.Correct.{IsRefusal, standing_of};
 ghost use Rattle.ppm_listing_reader.specs.Fronts.{HasRead};
 
-use crate::cut::cut;
 use crate::declared::declared;
 use crate::first::first_fault;
 use crate::listing_error::ListingError;
@@ -18,6 +17,7 @@ use crate::place::Place;
 use crate::reader::Reader;
 use crate::token::Token;
 use ppm_code::Code;
+use ppm_pieces::split_once;
 use ppm_words::NoMemory;
 use std::alloc::Global;
 
@@ -33,7 +33,7 @@ fn read_lines(alloc: Global, text: &[u8]) -> Result<Reader, NoMemory>
     let mut reader = Reader::new(alloc);
     let mut tokens = Vec::new(alloc);
     let mut left = text;
-    while let Some((bytes, rest)) = cut(left, 10) {
+    while let Some((bytes, rest)) = split_once(left, b'\n') {
         reader.take(read_line(alloc, bytes, &mut tokens)?)?;
         left = rest;
     }
@@ -66,7 +66,7 @@ fn too_long(alloc: Global, text: &[u8]) -> Result<ListingError, NoMemory>
     requires { text_limit < length text.now }
     ensures { IfOk result (IsRefusal text.now) }
 {
-    match cut(text, 10) {
+    match split_once(text, b'\n') {
         Some((bytes, _)) => {
             let line = read_line(alloc, bytes, &mut Vec::new(alloc))?;
             Ok(too_long_by(line))
@@ -79,7 +79,7 @@ fn too_long(alloc: Global, text: &[u8]) -> Result<ListingError, NoMemory>
 fn begins(alloc: Global, text: &[u8]) -> Result<bool, NoMemory>
     ensures { IfOk result (λ stands. stands ≡ false → IsRefusal text.now (NoSuchForm 1)) }
 {
-    match cut(text, 10) {
+    match split_once(text, b'\n') {
         Some((bytes, _)) => {
             let line = read_line(alloc, bytes, &mut Vec::new(alloc))?;
             Ok(Place::AtVersion.standing(line).is_some())

@@ -10,6 +10,7 @@ use crate::outline::Outline;
 use crate::part::Part;
 use crate::place::Place;
 use ppm_code::{End, Instr};
+use ppm_words::{CAPSULE_LIMIT, PROCEDURE_LIMIT, ROOM_LIMIT};
 
 /// Whether a line of the source is out of range.
 fn is_no_line(line: u32) -> bool
@@ -86,7 +87,7 @@ fn instr_out_of_range(code: &Outline, procedure: u32, instr: Instr) -> bool
         Instr::LoadSlot { slot, .. } | Instr::StoreCur { slot, .. } => {
             code.slots_of(procedure) <= slot
         }
-        Instr::Room { words } => words == 0 || words > 1_048_576,
+        Instr::Room { words } => words == 0 || words > ROOM_LIMIT,
         Instr::Ends(end) => end_out_of_range(code, procedure, end),
         Instr::Const { .. }
         | Instr::Move { .. }
@@ -330,10 +331,10 @@ pub(crate) fn is_not_there(code: &Outline, place: Place, part: &Part) -> bool
         Part::Version => false,
         Part::Root { procedure, .. } => !code.is_procedure(*procedure),
         Part::Procedure { number, entry, .. } => {
-            *number >= 1024 || !code.is_capsule_of(*number, *entry)
+            *number >= PROCEDURE_LIMIT || !code.is_capsule_of(*number, *entry)
         }
         Part::Capsule { number, procedure } => {
-            *number >= 65_535 || !code.is_procedure(*procedure)
+            *number >= CAPSULE_LIMIT || !code.is_procedure(*procedure)
         }
         Part::Instr(instr) => match place {
             Place::Within { procedure, at, .. } => line_not_there(code, procedure, at, *instr),

@@ -5,13 +5,11 @@
 //! After the soft and hard faults of Blelloch et al., SPAA 2018; the two forms of text are this project's.
 #![tactic(auto)]
 
-mod cut;
 mod fault;
 mod fault_table;
 mod item;
 mod judging;
 mod laws;
-mod number;
 mod plan;
 mod plan_error;
 mod plan_item;

@@ -4,9 +4,9 @@ ghost use Rattle.std.specs.Str.{bytes_eq};
 ghost use Rattle.ppm_plan.specs.Refusals.{HasItems, IsBadItem};
 ghost use Rattle.ppm_plan.specs.Fronts.{StopsAt};
 
-use crate::cut::cut;
 use crate::item::Item;
 use crate::plan_error::PlanError;
+use ppm_pieces::split_once;
 use std::alloc::Global;
 
 fn same_bytes(a: &[u8], b: &[u8]) -> bool
@@ -47,7 +47,7 @@ pub(crate) fn read_items<T: Item>(alloc: Global, text: &[u8]) -> Result<Vec<T>, 
         return Ok(items);
     }
     let mut left = text;
-    while let Some((piece, rest)) = cut(left, b',') {
+    while let Some((piece, rest)) = split_once(left, b',') {
         take(&mut items, piece)?;
         left = rest;
     }

@@ -8,7 +8,7 @@ use Rattle.std.specs.Cmp.Derive.{both_true}
 use Rattle.std.proofs.lemmas.Bool.{both_ways}
 use Rattle.std.proofs.lemmas.Fmt.{digits_decimal, digits_value-decimal, first_decimal, decimal-digits_value, decimal_digit}
 use Rattle.std.proofs.lemmas.Str.Parse.{IsDigitsTest, IsNumeralModel, numerals_by_fold}
-use Rattle.ppm_listing_reader.specs.Tokens.{is_empty, is_digit, is_numeral, value_from, value, token_limit}
+use Rattle.ppm_pieces.specs.Numbers.{is_empty, is_digit, is_numeral, value_from, value, value_limit}
 
 -- a number only grows by further digits
 pub value_grows : (n : ℕ) (ds : List ℕ) → n ≤ value_from n ds
@@ -16,33 +16,33 @@ value_grows n [] = omega arith
 value_grows n (d ∷ ds) = omega (arith, value_grows (n * 10 + (d - 48)) ds)
 
 -- numbers that are one, or both past the limit, are cut off alike
-cut_off : (m n : ℕ) (ds : List ℕ) → (m ≡ n) ⊎ ((token_limit ≤ m) × (token_limit ≤ n))
-    → min (value_from m ds) token_limit ≡ min (value_from n ds) token_limit
-cut_off m n ds (inl e) = ap (λ k. min (value_from k ds) token_limit) e
+cut_off : (m n : ℕ) (ds : List ℕ) → (m ≡ n) ⊎ ((value_limit ≤ m) × (value_limit ≤ n))
+    → min (value_from m ds) value_limit ≡ min (value_from n ds) value_limit
+cut_off m n ds (inl e) = ap (λ k. min (value_from k ds) value_limit) e
 cut_off m n ds (inr h) = omega (arith, h.0, h.1, value_grows m ds, value_grows n ds)
 
 -- a number cut off on the way is cut off as at the end
 pub cut_off_before : (n d : ℕ) (ds : List ℕ)
-    → min (value_from (min (min (n * 10) token_limit + (d - 48)) token_limit) ds) token_limit ≡ min (value_from (n * 10 + (d - 48)) ds) token_limit
-cut_off_before n d ds = go (nat_le (n * 10 + (d - 48)) token_limit) refl
+    → min (value_from (min (min (n * 10) value_limit + (d - 48)) value_limit) ds) value_limit ≡ min (value_from (n * 10 + (d - 48)) ds) value_limit
+cut_off_before n d ds = go (nat_le (n * 10 + (d - 48)) value_limit) refl
   where
-    go : (small : Bool) → nat_le (n * 10 + (d - 48)) token_limit ≡ small
-        → min (value_from (min (min (n * 10) token_limit + (d - 48)) token_limit) ds) token_limit ≡ min (value_from (n * 10 + (d - 48)) ds) token_limit
-    go true e = cut_off (min (min (n * 10) token_limit + (d - 48)) token_limit) (n * 10 + (d - 48)) ds
-        (inl (omega (arith, leb-true (n * 10 + (d - 48)) token_limit e)))
+    go : (small : Bool) → nat_le (n * 10 + (d - 48)) value_limit ≡ small
+        → min (value_from (min (min (n * 10) value_limit + (d - 48)) value_limit) ds) value_limit ≡ min (value_from (n * 10 + (d - 48)) ds) value_limit
+    go true e = cut_off (min (min (n * 10) value_limit + (d - 48)) value_limit) (n * 10 + (d - 48)) ds
+        (inl (omega (arith, leb-true (n * 10 + (d - 48)) value_limit e)))
     go false e =
-        let large = leb-false (n * 10 + (d - 48)) token_limit e in
-        cut_off (min (min (n * 10) token_limit + (d - 48)) token_limit) (n * 10 + (d - 48)) ds (inr (omega (arith, large), omega (arith, large)))
+        let large = leb-false (n * 10 + (d - 48)) value_limit e in
+        cut_off (min (min (n * 10) value_limit + (d - 48)) value_limit) (n * 10 + (d - 48)) ds (inr (omega (arith, large), omega (arith, large)))
 
 -- a loop over digits, by the first and those behind it
 pub value_step : (n : ℕ) (ds : List ℕ) → 1 ≤ length ds
-    → min (value_from (min (min (n * 10) token_limit + (get_or ds 0 0 - 48)) token_limit) (take (length ds - 1) (drop 1 ds))) token_limit
-    ≡ min (value_from n ds) token_limit
+    → min (value_from (min (min (n * 10) value_limit + (get_or ds 0 0 - 48)) value_limit) (take (length ds - 1) (drop 1 ds))) value_limit
+    ≡ min (value_from n ds) value_limit
 value_step n [] h = absurd (omega (arith, h))
 value_step n (d ∷ ds) h =
     let one : length (d ∷ ds) - 1 ≡ length ds = omega arith in
     let rest : take (length (d ∷ ds) - 1) ds ≡ ds = ap (λ k. take k ds) one ∙ take_all (length ds) ds (le_refl (length ds)) in
-    ap (λ l. min (value_from (min (min (n * 10) token_limit + (d - 48)) token_limit) l) token_limit) rest ∙ cut_off_before n d ds
+    ap (λ l. min (value_from (min (min (n * 10) value_limit + (d - 48)) value_limit) l) value_limit) rest ∙ cut_off_before n d ds
 
 -- both tests are passed
 pub both_parts : (a b : Bool) → (a && b) ≡ true → (a ≡ true) × (b ≡ true)
@@ -71,7 +71,7 @@ numeral_some : (ds : List ℕ) → is_numeral ds ≡ true → 0 < length ds
 numeral_some [] h = absurd (both_ways false refl h)
 numeral_some (d ∷ ds) h = omega arith
 
-numeral_parts : (ds : List ℕ) → is_numeral ds ≡ true → (list_all is_digit ds ≡ true) × (get_or ds 0 0 ≡ 48 → length ds ≡ 1)
+pub numeral_parts : (ds : List ℕ) → is_numeral ds ≡ true → (list_all is_digit ds ≡ true) × (get_or ds 0 0 ≡ 48 → length ds ≡ 1)
 numeral_parts [] h = absurd (both_ways false refl h)
 numeral_parts (d ∷ ds) h = go (d == 48) refl h
   where
@@ -90,7 +90,7 @@ numeral_from [] h lead = absurd (omega (arith, lead))
 numeral_from (d ∷ ds) h lead = rw (ne_eqb d 48 (λ e. omega (arith, lead, e))) h
 
 -- a numeral is what is written of its value
-pub decimal-value : (ds : List ℕ) → is_numeral ds ≡ true → value ds < token_limit → decimal (value ds) ≡ ds
+pub decimal-value : (ds : List ℕ) → is_numeral ds ≡ true → value ds < value_limit → decimal (value ds) ≡ ds
 decimal-value ds h small =
     let k = numeral_parts ds h in
     let same : value ds ≡ value_from 0 ds = omega (arith, small) in

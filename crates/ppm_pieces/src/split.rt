@@ -1,10 +1,10 @@
 //! Cuts bytes at a separator.
 ghost use Rattle.std.specs.Prelude.{◌≡◌, ◌∷◌, [], ◌<◌, length, drop, MatchOption, not, ◌==◌, ◌≤◌, Some, None};
 ghost use Rattle.std.specs.List.{prefix_len};
-ghost use Rattle.ppm_plan.specs.Pieces.{split, halves_of};
+ghost use Rattle.ppm_pieces.specs.Pieces.{split, halves_of};
 
 /// How many bytes stand in front of the first separator.
-#[tactic(auto, using(crate::proofs::CutLemmas::prefix_le))]
+#[tactic(auto, using(crate::proofs::PieceLemmas::prefix_le))]
 fn front_len(bytes: &[u8], separator: u8) -> usize
     ensures len { result ≡ prefix_len (λ b. not (b == separator)) bytes.now }
     ensures within { result ≤ length bytes.now }
@@ -22,7 +22,7 @@ fn behind(bytes: &[u8], n: usize) -> &[u8]
 }
 
 /// The bytes in front of the first separator, and those behind it.
-pub(crate) fn cut(bytes: &[u8], separator: u8) -> Option<(&[u8], &[u8])>
+pub fn split_once(bytes: &[u8], separator: u8) -> Option<(&[u8], &[u8])>
     ensures halves { MatchOption result
         (halves_of separator bytes.now ≡ None)
         (λ p. halves_of separator bytes.now ≡ Some (p.0.now, p.1.now)) }

@@ -1,7 +1,7 @@
 -- The pieces of bytes between separators.
-use Rattle.std.proofs.Common.{◌≡◌, ℕ, suc, ◌+◌, ◌<◌, ◌≤◌, ◌==◌, Bool, true, false, not, cond, List, [], ◌∷◌, length, take, drop, refl, ap, arith}
+use Rattle.std.proofs.Common.{◌≡◌, ℕ, suc, ◌+◌, ◌<◌, ◌≤◌, ◌==◌, Bool, true, false, not, cond, List, [], ◌∷◌, length, take, drop, Some, None, refl, ap, arith}
 use Rattle.std.specs.List.{prefix_len}
-use Rattle.ppm_listing_reader.specs.Tokens.{in_front, split}
+use Rattle.ppm_pieces.specs.Pieces.{in_front, split, halves_of, more_in_front}
 
 -- a run stands within the bytes
 pub prefix_le : (p : ℕ → Bool) (xs : List ℕ) → prefix_len p xs ≤ length xs
@@ -43,3 +43,31 @@ split_first separator (b ∷ bs) h = go (b == separator) refl (split_first separ
         let one : 1 + front separator bs ≡ suc (front separator bs) = omega arith in
         let two : suc (front separator bs) + 1 ≡ suc (front separator bs + 1) = omega arith in
         rw (one, two) (ap (in_front b) (f (omega (arith, h))))
+
+-- without a separator there are no halves
+pub halves_none : (separator : ℕ) (bs : List ℕ) → length bs ≤ front separator bs → halves_of separator bs ≡ None
+halves_none separator [] h = refl
+halves_none separator (b ∷ bs) h = go (b == separator) refl (halves_none separator bs) h
+  where
+    go : (same : Bool) → (b == separator) ≡ same → (length bs ≤ front separator bs → halves_of separator bs ≡ None)
+        → length (b ∷ bs) ≤ cond (not same) (1 + front separator bs) 0
+        → cond same (Some ([], bs)) (more_in_front b (halves_of separator bs)) ≡ None
+    go true e f h = absurd (omega (arith, h))
+    go false e f h = ap (more_in_front b) (f (omega (arith, h)))
+
+-- else they are in front of the first one and behind it
+pub halves_some : (separator : ℕ) (bs : List ℕ) → front separator bs < length bs
+    → halves_of separator bs ≡ Some (take (front separator bs) bs, drop (front separator bs + 1) bs)
+halves_some separator [] h = absurd (omega (arith, h))
+halves_some separator (b ∷ bs) h = go (b == separator) refl (halves_some separator bs) h
+  where
+    go : (same : Bool) → (b == separator) ≡ same
+        → (front separator bs < length bs → halves_of separator bs ≡ Some (take (front separator bs) bs, drop (front separator bs + 1) bs))
+        → cond (not same) (1 + front separator bs) 0 < length (b ∷ bs)
+        → cond same (Some ([], bs)) (more_in_front b (halves_of separator bs))
+        ≡ Some (take (cond (not same) (1 + front separator bs) 0) (b ∷ bs), drop (cond (not same) (1 + front separator bs) 0 + 1) (b ∷ bs))
+    go true e f h = refl
+    go false e f h =
+        let one : 1 + front separator bs ≡ suc (front separator bs) = omega arith in
+        let two : suc (front separator bs) + 1 ≡ suc (front separator bs + 1) = omega arith in
+        rw (one, two) (ap (more_in_front b) (f (omega (arith, h))))

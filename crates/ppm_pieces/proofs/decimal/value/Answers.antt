@@ -1,6 +1,6 @@
 use Rattle.std.proofs.Common.{◌∙◌, arith}
-use Rattle.ppm_listing_reader.proofs.NumberLemmas.{value_step}
-use Rattle.ppm_listing_reader.proofs.number.value.Goals as goal
+use Rattle.ppm_pieces.proofs.NumberLemmas.{value_step}
+use Rattle.ppm_pieces.proofs.decimal.value.Goals as goal
 
 -- cut off on the way, or at the end
 pub loop-left-preserved : goal.loop-left-preserved

@@ -1,13 +1,13 @@
 //! Numbers in decimal.
 ghost use Rattle.std.specs.Prelude.{◌≡◌};
-ghost use Rattle.ppm_listing_reader.specs.Tokens.{is_digit as digit, is_numeral as numeral, value as value_of};
+ghost use Rattle.ppm_pieces.specs.Numbers.{is_digit as digit, is_numeral as numeral, value as value_of, number_of};
 ghost use Rattle.std.specs.List.{list_all};
 
 /// Whether a byte is a decimal digit.
-pub(crate) fn is_digit(byte: u8) -> bool
+pub fn is_digit(byte: u8) -> bool
     ensures { result ≡ digit byte }
 {
-    48 <= byte && byte <= 57
+    b'0' <= byte && byte <= b'9'
 }
 
 /// Whether all bytes are.
@@ -24,14 +24,14 @@ fn are_digits(bytes: &[u8]) -> bool
     true
 }
 
-/// Whether the bytes are the one spelling of a number.
-pub(crate) fn is_numeral(bytes: &[u8]) -> bool
+/// Whether the bytes are the one spelling of a number, of any size. Leading zeros and signs are not.
+pub fn is_numeral(bytes: &[u8]) -> bool
     ensures { result ≡ numeral bytes.now }
 {
     match bytes {
         [] => false,
         [first, rest @ ..] => {
-            if *first == 48 {
+            if *first == b'0' {
                 rest.is_empty()
             } else {
                 are_digits(bytes)
@@ -41,7 +41,7 @@ pub(crate) fn is_numeral(bytes: &[u8]) -> bool
 }
 
 /// The number of digits; one past 2^64 - 1 stands as that.
-pub(crate) fn value(digits: &[u8]) -> u64
+pub fn value(digits: &[u8]) -> u64
     ensures { result ≡ value_of digits.now }
 {
     let mut number: u64 = 0;
@@ -49,8 +49,23 @@ pub(crate) fn value(digits: &[u8]) -> u64
     while let [digit, rest @ ..] = left {
         number = number
             .saturating_mul(10)
-            .saturating_add(u64::from(digit.saturating_sub(48)));
+            .saturating_add(u64::from(digit.saturating_sub(b'0')));
         left = rest;
     }
     number
+}
+
+/// The number that is written so, if it is below 2^32.
+pub fn number(bytes: &[u8]) -> Option<u32>
+    ensures { result ≡ number_of bytes.now }
+{
+    if !is_numeral(bytes) {
+        return None;
+    }
+    let number = value(bytes);
+    if number < 0x1_0000_0000 {
+        Some(number as u32)
+    } else {
+        None
+    }
 }

@@ -1,7 +1,7 @@
 use Rattle.std.proofs.Common.{◌≡◌, length}
 use Rattle.std.specs.List.{list_all}
-use Rattle.ppm_plan.specs.Numbers.{is_digit}
-use Rattle.ppm_plan.proofs.number.are_digits.Given as goal
+use Rattle.ppm_pieces.specs.Numbers.{is_digit}
+use Rattle.ppm_pieces.proofs.decimal.are_digits.Given as goal
 
 -- the answer is that for those that are left
 abbrev pub invariant-loop-left : goal.invariant-loop-left

@@ -1,6 +1,6 @@
 use Rattle.std.proofs.Common.{arith}
-use Rattle.ppm_plan.proofs.CutLemmas.{split_whole, split_first, halves_none, halves_some}
-use Rattle.ppm_plan.proofs.cut.cut.Goals as goal
+use Rattle.ppm_pieces.proofs.PieceLemmas.{split_whole, split_first, halves_none, halves_some}
+use Rattle.ppm_pieces.proofs.split.split_once.Goals as goal
 
 -- what stands in front of a separator and behind it
 pub returns-then-len-bytes-clause-halves : goal.returns-then-len-bytes-clause-halves
