@@ -7,9 +7,7 @@ ghost use Rattle.ppm_cut_bounds.specs.Capsules.{capsules_of, capsules_at};
 ghost use Rattle.ppm_cut_bounds.specs.Bounds.{capsule_limit};
 
 use ppm_tree::{Give, Proc, Stmt};
-
-/// The capsules of a code, at most.
-pub const CAPSULE_LIMIT: u32 = 65_535;
+use ppm_words::CAPSULE_LIMIT;
 
 /// How many capsules a statement and those in its blocks leave of so many; `None` where they need more.
 #[cycle(capsules)]

@@ -21,3 +21,5 @@ mod walk;
 pub use bound_error::BoundError;
 pub use bounding::within_bounds;
 pub use laws::have_one_fault;
+pub use names::{Mention, Names};
+pub use slots::has_put;

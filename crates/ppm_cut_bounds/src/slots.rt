@@ -76,7 +76,7 @@ fn puts(statement: &Stmt) -> bool
 
 /// Whether a block assigns to an element.
 #[cycle(puts)]
-fn has_put(block: &[Stmt]) -> bool
+pub fn has_put(block: &[Stmt]) -> bool
     ensures { result ≡ has_put (block_of block.now) }
 {
     for statement in block {
