@@ -65,21 +65,23 @@ pub fn others_keep_what_is_done<S, N, K, E, O>()
 {}
 
 /// Faults do not show. In a calm tree of strands whose capsules have no write-after-read conflict and
-/// read no word of a new block before they have written it, let the strands make their word steps in any order, and let each lose at any moments how far its capsule
-/// has come, and begin that again: what is left ends where all of it would, and where it is over, that
-/// is the end of the depth-first run without faults, with the same words and counts; and that run is
-/// itself one of these.
+/// read no word of a new block before they have written it, let the strands make their word steps in any
+/// order, and let each lose at any moments how far its capsule has come, and begin that again: what is
+/// left ends where all of it would, and where it is over, that is the end of the depth-first run without
+/// faults, with the same words and counts; and that run is itself one of these.
 pub fn faults_do_not_show<S, N, K, E, O>()
     ensures { (eq : Equality (Location S N)) (table : Table S N K E O) → FaultsDoNotShow eq table }
 {}
 
 /// A capsule with the stores of its end written out before that end does what it does, and then these
-/// stores; it has no conflict where it had none and they go to no location that it has read.
+/// stores; it has no conflict where it had none and they go to no location that it has read. It waits
+/// for the theorem on runs of the machine.
 pub fn end_stores_come_last<L, E>()
     ensures { (eq : Equality L) (tail : E → List (L × ℕ)) (p : Capsule L E) → EndStoresComeLast eq tail p }
 {}
 
-/// Where the trees that ends open do not show these stores, a table of such capsules is the same code.
+/// Where the trees that ends open do not show these stores, a table of such capsules is the same code. It
+/// waits for the same theorem.
 pub fn end_stores_are_unseen<S, N, K, E, O>()
     ensures { (eq : Equality (Location S N)) (table : Table S N K E O) → TablesAreTheSame eq table }
 {}

@@ -20,12 +20,14 @@ pub fn end_whole()
     ensures law { EndWhole }
 {}
 
-/// Quotients are truncated towards zero, and a remainder that isn't 0 has the dividend's sign.
+/// Quotients are truncated towards zero, and a remainder that isn't 0 has the dividend's sign. No proof stands on it: it says
+/// for the reader what the operators of the library do.
 pub fn divide_towards_zero()
     ensures law { DivideTowardsZero }
 {}
 
-/// For each number of turns a program ends, or spends as many, and then ends within no fewer: no run is ever stuck.
+/// For each number of turns a program ends, or spends as many, and then ends within no fewer: no run is ever stuck. So no
+/// program is `NotWithin` for want of a rule; no proof stands on it.
 pub fn none_is_stuck()
     ensures law { NoneIsStuck }
 {}
