@@ -1,8 +1,12 @@
 //! Capsule code: its instructions, what they do, and the capsules that they make.
-//! Model: a capsule is what its instructions ask of locations (`specs/Capsules`), a code a table (`specs/Strands`).
-//! Contract: an instruction is decoded to an act once; what has no conflict on any path may be run again.
-//! Stands on `ppm_capsules`; the conflict check, the depth-first run and the machine's step stand on it.
-//! After the capsules and conflicts of Blelloch et al., SPAA 2018; the instructions are this project's.
+//! Model: a capsule is what its instructions ask of locations (`specs/Capsules`), a code a table
+//! (`specs/Strands`).
+//! Contract: an instruction is decoded to an act once; what has no conflict on any path may be run
+//! again.
+//! Stands on `ppm_capsules`; the conflict check, the depth-first run and the machine's step stand
+//! on it.
+//! After the capsules and conflicts of Blelloch et al., SPAA 2018; the instructions are this
+//! project's.
 #![tactic(auto)]
 
 mod act;

@@ -39,7 +39,8 @@ fn breaks_alone(place: Place, line: &Option<Part>) -> bool
 
 /// Keeps a line, unless one before it is broken.
 fn keep(kept: &mut Vec<Option<Part>>, is_broken: bool, line: Option<Part>) -> Result<(), NoMemory>
-    ensures { OnOk result (kept.new.items ≡ (if is_broken then kept.old.items else (kept.old.items ++ line ∷ []))) }
+    ensures { OnOk result (kept.new.items
+        ≡ (if is_broken then kept.old.items else (kept.old.items ++ line ∷ []))) }
 {
     if is_broken {
         return Ok(());

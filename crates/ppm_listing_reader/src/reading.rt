@@ -1,11 +1,13 @@
 //! Reads listings.
-ghost use Rattle.std.specs.Prelude.{◌≡◌, ◌≤◌, ◌<◌, nat_lt, length, is_some, false, if◌then◌else◌, IfOk, IfErr};
+ghost use Rattle.std.specs.Prelude.{◌≡◌, ◌≤◌, ◌<◌, nat_lt, length, is_some, false, if◌then◌else◌};
+ghost use Rattle.std.specs.Prelude.{IfOk, IfErr};
 ghost use Rattle.ppm_listing.specs.Listing.{listing_of};
 ghost use Rattle.ppm_listing.specs.Correct.{NumbersFit};
 ghost use Rattle.ppm_listing_reader.specs.Limits.{text_limit};
 ghost use Rattle.ppm_listing_reader.specs.Places.{standing};
 ghost use Rattle.ppm_listing_reader.specs.declared.place.Place.TheVariants.{AtVersion};
-ghost use Rattle.ppm_listing_reader.specs.declared.listing_error.ListingError.TheVariants.{NotThere, NoSuchForm};
+ghost use Rattle.ppm_listing_reader.specs.declared.listing_error.ListingError.TheVariants.{NotThere};
+ghost use Rattle.ppm_listing_reader.specs.declared.listing_error.ListingError.TheVariants.{NoSuchForm};
 ghost use Rattle.ppm_listing_reader.specs.Correct.{IsRefusal, standing_of};
 ghost use Rattle.ppm_listing_reader.specs.Fronts.{HasRead};
 
@@ -75,7 +77,8 @@ fn too_long(alloc: Global, text: &[u8]) -> Result<ListingError, NoMemory>
     }
 }
 
-/// Whether the first line of a text stands, if it has a whole one. Where it does not, the rest need not be read.
+/// Whether the first line of a text stands, if it has a whole one. Where it does not, the rest need
+/// not be read.
 fn begins(alloc: Global, text: &[u8]) -> Result<bool, NoMemory>
     ensures { IfOk result (λ stands. stands ≡ false → IsRefusal text.now (NoSuchForm 1)) }
 {
@@ -88,8 +91,8 @@ fn begins(alloc: Global, text: &[u8]) -> Result<bool, NoMemory>
     }
 }
 
-/// The code of a listing. `Err` with the first fault of a text that is none, or where memory is refused: no more lines are
-/// kept than the largest code has.
+/// The code of a listing. `Err` with the first fault of a text that is none, or where memory is
+/// refused: no more lines are kept than the largest code has.
 pub fn read_listing(alloc: Global, text: &[u8]) -> Result<Code, ListingError>
     ensures ok { IfOk result (λ code. text.now ≡ listing_of code) }
     ensures fits { IfOk result (λ code. NumbersFit code) }

@@ -1,6 +1,7 @@
 //! The rules of a listing, each a test of one line at its place.
 ghost use Rattle.std.specs.Prelude.{◌≡◌, ◌&&◌, ◌==◌, ◌+◌, ◌<◌, ◌^◌, nat_lt, nat_le, length, not};
-ghost use Rattle.ppm_code.specs.Sizes.{slots_of as slots_in_code, frame_size as frame_words, fork_size as fork_words};
+ghost use Rattle.ppm_code.specs.Sizes.{slots_of as slots_in_code, frame_size as frame_words};
+ghost use Rattle.ppm_code.specs.Sizes.{fork_size as fork_words};
 ghost use Rattle.ppm_code.specs.Strands.{instrs_of};
 ghost use Rattle.ppm_listing_reader.specs.Faults as rule;
 ghost use Rattle.std.specs.List.{list_any};
@@ -119,7 +120,8 @@ fn any_past_limit(arrays: &[u32]) -> bool
 
 /// Whether the root has more arrays than its procedure slots.
 fn is_too_many(code: &Outline, procedure: u32, arrays: &[u32]) -> bool
-    ensures { result ≡ (rule.is_procedure code.now procedure && nat_lt (slots_in_code code.now procedure) (length arrays.now)) }
+    ensures { result
+        ≡ (rule.is_procedure code.now procedure && nat_lt (slots_in_code code.now procedure) (length arrays.now)) }
 {
     code.is_procedure(procedure) && (code.slots_of(procedure) as usize) < arrays.len()
 }
@@ -190,7 +192,8 @@ pub(crate) fn is_not_forward(code: &Outline, place: Place, part: &Part) -> bool
 
 /// Whether an instruction is the last of its capsule and no end.
 fn is_last_without_end(code: &Outline, capsule: u32, at: u32, instr: Instr) -> bool
-    ensures { result ≡ ((at + 1 == length (instrs_of code.now capsule)) && not (rule.is_end instr)) }
+    ensures { result
+        ≡ ((at + 1 == length (instrs_of code.now capsule)) && not (rule.is_end instr)) }
 {
     at as usize + 1 == code.instr_count(capsule) && !is_end(instr)
 }

@@ -1,7 +1,8 @@
 //! The tokens of a line as they are written, with numbers of any size.
 ghost use Rattle.std.specs.Prelude.{◌≡◌, OnOk};
 ghost use Rattle.std.specs.Str.{bytes_eq};
-ghost use Rattle.ppm_listing_reader.specs.Tokens.{spelled, keyword_of, named as named_token, minus as minus_token, token_of};
+ghost use Rattle.ppm_listing_reader.specs.Tokens.{spelled, keyword_of, named as named_token};
+ghost use Rattle.ppm_listing_reader.specs.Tokens.{minus as minus_token, token_of};
 ghost use Rattle.ppm_listing_reader.specs.Forms.{part_in, line_of, may_go_on as goes_on};
 
 use ppm_listing::Keyword;
@@ -9,7 +10,8 @@ use ppm_pieces::{is_digit, is_numeral, split_once, value};
 use ppm_words::NoMemory;
 use std::alloc::Global;
 
-/// What stands between two spaces of a line. A number past 2^64 - 1 stands as that one: no range goes so far.
+/// What stands between two spaces of a line. A number past 2^64 - 1 stands as that one: no range
+/// goes so far.
 #[derive(Clone, Copy, Debug)]
 pub enum Token {
     /// A keyword.

@@ -1,6 +1,7 @@
 //! Numbers in decimal.
 ghost use Rattle.std.specs.Prelude.{◌≡◌};
-ghost use Rattle.ppm_pieces.specs.Numbers.{is_digit as digit, is_numeral as numeral, value as value_of, number_of};
+ghost use Rattle.ppm_pieces.specs.Numbers.{is_digit as digit, is_numeral as numeral};
+ghost use Rattle.ppm_pieces.specs.Numbers.{value as value_of, number_of};
 ghost use Rattle.std.specs.List.{list_all};
 
 /// Whether a byte is a decimal digit.
@@ -24,7 +25,8 @@ fn are_digits(bytes: &[u8]) -> bool
     true
 }
 
-/// Whether the bytes are the one spelling of a number, of any size. Leading zeros and signs are not.
+/// Whether the bytes are the one spelling of a number, of any size. Leading zeros and signs are
+/// not.
 pub fn is_numeral(bytes: &[u8]) -> bool
     ensures { result ≡ numeral bytes.now }
 {

@@ -1,5 +1,6 @@
 //! Cuts bytes at a separator.
-ghost use Rattle.std.specs.Prelude.{◌≡◌, ◌∷◌, [], ◌<◌, length, drop, MatchOption, not, ◌==◌, ◌≤◌, Some, None};
+ghost use Rattle.std.specs.Prelude.{◌≡◌, ◌∷◌, [], ◌<◌, length, drop, MatchOption, not, ◌==◌, ◌≤◌};
+ghost use Rattle.std.specs.Prelude.{Some, None};
 ghost use Rattle.std.specs.List.{prefix_len};
 ghost use Rattle.ppm_pieces.specs.Pieces.{split, halves_of};
 

@@ -1,6 +1,7 @@
 //! The items of plans.
 ghost use Rattle.std.specs.Prelude.{◌≡◌};
-ghost use Rattle.ppm_plan.specs.Items.{plan_item_of, ended_by as ended_by_letter, timed_by as timed_by_letter};
+ghost use Rattle.ppm_plan.specs.Items.{plan_item_of, ended_by as ended_by_letter};
+ghost use Rattle.ppm_plan.specs.Items.{timed_by as timed_by_letter};
 
 use crate::fault::Fault;
 use crate::item::Item;

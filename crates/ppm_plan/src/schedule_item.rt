@@ -1,6 +1,8 @@
 //! The items of schedules.
 ghost use Rattle.std.specs.Prelude.{◌≡◌};
-ghost use Rattle.ppm_plan.specs.Items.{steps_of, stepping, stepping_at, times_in_range as in_range, failing as failing_by, fault_of as fault_written, repeated as repeated_steps, failing_or_steps};
+ghost use Rattle.ppm_plan.specs.Items.{steps_of, stepping, stepping_at, times_in_range as in_range};
+ghost use Rattle.ppm_plan.specs.Items.{failing as failing_by, fault_of as fault_written};
+ghost use Rattle.ppm_plan.specs.Items.{repeated as repeated_steps, failing_or_steps};
 ghost use Rattle.ppm_plan.specs.Forms.{victim_outside as victim_is_outside, act_outside, act_kills};
 ghost use Rattle.ppm_pieces.specs.Pieces.{halves_of};
 
@@ -14,8 +16,8 @@ pub const MOST_TIMES: u32 = 268_435_456;
 /// What one processor does. Processors count from 0.
 #[derive(Clone, Copy, Debug, PartialEq, Eq)]
 pub enum ScheduledAct {
-    /// It makes a step. If the step looks for work, it looks at this victim; where none is stated, at the one whose turn
-    /// it is.
+    /// It makes a step. If the step looks for work, it looks at this victim; where none is stated,
+    /// at the one whose turn it is.
     Step { processor: u32, victim: Option<u32> },
     /// A fault befalls it.
     Fails { processor: u32, fault: Fault },

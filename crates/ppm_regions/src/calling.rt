@@ -3,7 +3,8 @@ ghost use Rattle.std.specs.Prelude.{◌≡◌, [], ◌∷◌, ◌++◌, IfOk, ma
 ghost use Rattle.ppm_tree.specs.Tree.{ProgramTree, Call, Fork, expression_of, side_of, tree_of};
 ghost use Rattle.ppm_regions.specs.Scope.{Scope as Declarations};
 ghost use Rattle.ppm_regions.specs.Kept.{seen};
-ghost use Rattle.ppm_regions.specs.Uses.{uses_of_spare, uses_of_lent, uses_of_argument, uses_of_arguments, uses_of_target, both_targets};
+ghost use Rattle.ppm_regions.specs.Uses.{uses_of_spare, uses_of_lent, uses_of_argument};
+ghost use Rattle.ppm_regions.specs.Uses.{uses_of_arguments, uses_of_target, both_targets};
 ghost use Rattle.ppm_regions.specs.Uses.{uses_of_side, uses_of, lent_by, Calls, Delivers};
 ghost use Rattle.ppm_regions.specs.Deciding.{argument_of, IsLeastOf};
 
@@ -21,7 +22,8 @@ use std::alloc::Global;
 
 /// The first fault of an argument past the last parameter.
 fn in_spare(scope: &Scope, argument: &Expr) -> Option<RegionError>
-    ensures { (t : ProgramTree) → IsLeastOf t (seen scope.now) (uses_of_spare (expression_of argument.now)) result }
+    ensures { (t : ProgramTree)
+        → IsLeastOf t (seen scope.now) (uses_of_spare (expression_of argument.now)) result }
 {
     let Expr::Name(name) = argument else {
         return in_expression(scope, argument);
@@ -31,7 +33,8 @@ fn in_spare(scope: &Scope, argument: &Expr) -> Option<RegionError>
 
 /// The first fault of an argument for a region.
 fn in_lent(scope: &Scope, ask: Ask, argument: &Argument) -> Option<RegionError>
-    ensures { (t : ProgramTree) → IsLeastOf t (seen scope.now) (uses_of_lent ask argument.now.line (expression_of argument.now.value)) result }
+    ensures { (t : ProgramTree)
+        → IsLeastOf t (seen scope.now) (uses_of_lent ask argument.now.line (expression_of argument.now.value)) result }
 {
     let Expr::Name(name) = &argument.value else {
         let inside = in_expression(scope, &argument.value);
@@ -42,7 +45,8 @@ fn in_lent(scope: &Scope, ask: Ask, argument: &Argument) -> Option<RegionError>
 
 /// The first fault of an argument for a parameter of this mode.
 fn in_argument(scope: &Scope, mode: Mode, argument: &Argument) -> Option<RegionError>
-    ensures { (t : ProgramTree) → IsLeastOf t (seen scope.now) (uses_of_argument mode (argument_of argument.now)) result }
+    ensures { (t : ProgramTree)
+        → IsLeastOf t (seen scope.now) (uses_of_argument mode (argument_of argument.now)) result }
 {
     match mode {
         Mode::Int => in_expression(scope, &argument.value),
@@ -57,7 +61,8 @@ fn in_arguments(
     parameters: &[Parameter],
     arguments: &[Argument],
 ) -> Option<RegionError>
-    ensures { (t : ProgramTree) → IsLeastOf t (seen scope.now) (uses_of_arguments parameters.now (map argument_of arguments.now)) result }
+    ensures { (t : ProgramTree)
+        → IsLeastOf t (seen scope.now) (uses_of_arguments parameters.now (map argument_of arguments.now)) result }
 {
     let [argument, more @ ..] = arguments else {
         return None;
@@ -76,7 +81,8 @@ fn in_arguments(
 
 /// The fault of a procedure that is called with so many arguments.
 fn of_call(procedures: &Procedures, name: &Named, arguments: usize) -> Option<RegionError>
-    ensures { (s : Declarations) → IsLeastOf (tree_of procedures.now) s (Calls name.now arguments ∷ []) result }
+    ensures { (s : Declarations)
+        → IsLeastOf (tree_of procedures.now) s (Calls name.now arguments ∷ []) result }
 {
     match procedures.callee(name) {
         None => Some(RegionError::UnknownName(name.line)),
@@ -91,7 +97,8 @@ fn of_call(procedures: &Procedures, name: &Named, arguments: usize) -> Option<Re
 
 /// The fault of a procedure whose value is stored.
 fn of_value(procedures: &Procedures, name: &Named) -> Option<RegionError>
-    ensures { (s : Declarations) → IsLeastOf (tree_of procedures.now) s (Delivers name.now ∷ []) result }
+    ensures { (s : Declarations)
+        → IsLeastOf (tree_of procedures.now) s (Delivers name.now ∷ []) result }
 {
     match procedures.callee(name) {
         None => None,
@@ -122,7 +129,8 @@ fn of_target(
 
 /// The fault of two targets of a fork.
 fn of_targets(left: &Option<Named>, right: &Option<Named>) -> Option<RegionError>
-    ensures { (t : ProgramTree) → (s : Declarations) → IsLeastOf t s (both_targets left.now right.now) result }
+    ensures { (t : ProgramTree) → (s : Declarations)
+        → IsLeastOf t s (both_targets left.now right.now) result }
 {
     match (left, right) {
         (Some(left), Some(right)) => one_target(left, right),
@@ -148,7 +156,8 @@ fn lend_by<'a>(
     procedures: &Procedures,
     side: &'a Side,
 ) -> Result<(), NoMemory>
-    ensures { IfOk result (λ _. lendings.new.items ≡ lendings.old.items ++ lent_by (tree_of procedures.now) (side_of side.now)) }
+    ensures { IfOk result (λ _. lendings.new.items
+        ≡ lendings.old.items ++ lent_by (tree_of procedures.now) (side_of side.now)) }
 {
     let parameters = procedures.parameters(&side.callee);
     lend_all(lendings, parameters, side.arguments.as_slice())

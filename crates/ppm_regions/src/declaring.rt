@@ -19,7 +19,8 @@ pub fn declare<'a>(
     scope: &mut Scope<'a>,
     declaration: Declaration<'a>,
 ) -> Result<Option<RegionError>, NoMemory>
-    ensures least { IfOk result (λ found. (t : ProgramTree) → IsLeast t (declaration_sites (seen scope.old) (declaration.entry ∷ [])) found) }
+    ensures least { IfOk result (λ found. (t : ProgramTree)
+        → IsLeast t (declaration_sites (seen scope.old) (declaration.entry ∷ [])) found) }
     ensures scope { OnOk result (Becomes (λ s. s ++ declaration.entry ∷ []) scope.old scope.new) }
 {
     let found = named_twice(scope, declaration.name());
@@ -63,7 +64,8 @@ impl Item for ArrayInput {
 
 /// The fault of the first item with the name of one in front of it.
 pub fn repeated<T: Item>(alloc: Global, items: &[T]) -> Result<Option<RegionError>, NoMemory>
-    ensures { IfOk result (λ found. (t : ProgramTree) → IsLeast t (sites_of_names (map T.name_of items.now)) found) }
+    ensures { IfOk result (λ found. (t : ProgramTree)
+        → IsLeast t (sites_of_names (map T.name_of items.now)) found) }
 {
     let mut scope = Scope::new(alloc);
     let mut found = None;

@@ -13,7 +13,8 @@ use ppm_tree::Expr;
 
 /// The first fault in an expression.
 pub fn in_expression(scope: &Scope, expression: &Expr) -> Option<RegionError>
-    ensures { (t : ProgramTree) → IsLeastOf t (seen scope.now) (uses_in (expression_of expression.now)) result }
+    ensures { (t : ProgramTree)
+        → IsLeastOf t (seen scope.now) (uses_in (expression_of expression.now)) result }
 {
     match expression {
         Expr::Number(_) => None,

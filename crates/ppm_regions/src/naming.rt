@@ -56,7 +56,8 @@ pub fn named_twice(scope: &Scope, name: &Named) -> Option<RegionError>
 
 /// The fault of two branches with one target.
 pub fn one_target(left: &Named, right: &Named) -> Option<RegionError>
-    ensures { (t : ProgramTree) → (s : Declarations) → IsLeastOf t s (Targets left.now right.now ∷ []) result }
+    ensures { (t : ProgramTree) → (s : Declarations)
+        → IsLeastOf t s (Targets left.now right.now ∷ []) result }
 {
     if left.name.is(&right.name) {
         return Some(RegionError::TwiceTarget(right.line));

@@ -1,7 +1,9 @@
 //! The declarations in force at a place of a procedure.
 ghost use Rattle.std.specs.Prelude.{◌≡◌, [], ◌∷◌, ◌++◌, length, take, None, OnOk, MatchOption};
-ghost use Rattle.ppm_regions.specs.Scope.{plain, declared, part, in_split, in_each, index_of, seen_in_split, seen_in_each};
-ghost use Rattle.ppm_regions.specs.Kept.{Kept, AreWithin, Becomes, Enters, IsSomeAt, behind_one, entered, seen};
+ghost use Rattle.ppm_regions.specs.Scope.{plain, declared, part, in_split, in_each, index_of};
+ghost use Rattle.ppm_regions.specs.Scope.{seen_in_split, seen_in_each};
+ghost use Rattle.ppm_regions.specs.Kept.{Kept, AreWithin, Becomes, Enters, IsSomeAt, behind_one};
+ghost use Rattle.ppm_regions.specs.Kept.{entered, seen};
 
 use crate::ask::is_region;
 use ppm_tree::{Mode, Named};
@@ -117,8 +119,8 @@ impl<'a> Declaration<'a> {
     }
 }
 
-/// The block of a split or of an `each`, through which the declarations in front of it are seen: its region is hidden
-/// there, and in an `each` they are outer.
+/// The block of a split or of an `each`, through which the declarations in front of it are seen:
+/// its region is hidden there, and in an `each` they are outer.
 #[derive(Drop)]
 pub struct Veil<'a> {
     region: &'a Named,
@@ -154,7 +156,8 @@ impl<'a> Veil<'a> {
 pub struct Scope<'a> {
     items: Vec<Declaration<'a>>,
     veils: Vec<Veil<'a>>,
-    /// The place of the first declaration of each name, counted from 0. Names that are in force no more stay here.
+    /// The place of the first declaration of each name, counted from 0. Names that are in force no
+    /// more stay here.
     places: HashMap<&'a [u8], usize>,
 }
 

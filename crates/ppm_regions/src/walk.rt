@@ -1,9 +1,11 @@
 //! Faults in the statements of a procedure.
 ghost use Rattle.std.specs.Prelude.{◌≡◌, [], ◌∷◌, ◌++◌, IfOk, OnOk, map};
-ghost use Rattle.ppm_tree.specs.Tree.{ProgramTree, statement_of, block_of, give_of, procedure_of, tree_of};
+ghost use Rattle.ppm_tree.specs.Tree.{ProgramTree, statement_of, block_of, give_of, procedure_of};
+ghost use Rattle.ppm_tree.specs.Tree.{tree_of};
 ghost use Rattle.ppm_regions.specs.Scope.{of_parameter, lets_of, scope_behind};
 ghost use Rattle.ppm_regions.specs.Kept.{Becomes, seen};
-ghost use Rattle.ppm_regions.specs.Uses.{uses_of, sites_within, sites_of_block, sites_of_give, sites_of_procedure, declaration_sites};
+ghost use Rattle.ppm_regions.specs.Uses.{uses_of, sites_within, sites_of_block, sites_of_give};
+ghost use Rattle.ppm_regions.specs.Uses.{sites_of_procedure, declaration_sites};
 ghost use Rattle.ppm_regions.specs.Deciding.{IsLeast, IsLeastOf};
 
 use crate::ask::Ask;
@@ -79,7 +81,8 @@ fn in_inner_with<'a>(
     block: &'a [Stmt],
 ) -> Result<Option<RegionError>, NoMemory>
     ensures least { IfOk result (IsLeast (tree_of procedures.now) (declaration_sites (seen scope.old) (first.entry ∷ second.entry ∷ [])
-        ++ sites_of_block (tree_of procedures.now) (seen scope.old ++ first.entry ∷ second.entry ∷ []) (block_of block.now))) }
+        ++ sites_of_block (tree_of procedures.now) (seen scope.old ++ first.entry ∷ second.entry
+        ∷ []) (block_of block.now))) }
     ensures scope { OnOk result (scope.new ≡ scope.old) }
 {
     let count = scope.len();
@@ -135,7 +138,8 @@ fn within<'a>(
 
 /// Declares what a statement does for the rest of its block; its fault, if its name is in force.
 fn behind<'a>(scope: &mut Scope<'a>, statement: &'a Stmt) -> Result<Option<RegionError>, NoMemory>
-    ensures least { IfOk result (λ found. (t : ProgramTree) → IsLeast t (declaration_sites (seen scope.old) (lets_of (statement_of statement.now))) found) }
+    ensures least { IfOk result (λ found. (t : ProgramTree)
+        → IsLeast t (declaration_sites (seen scope.old) (lets_of (statement_of statement.now))) found) }
     ensures scope { OnOk result (Becomes (λ s. s ++ lets_of (statement_of statement.now)) scope.old scope.new) }
 {
     match statement {
@@ -174,7 +178,8 @@ fn in_block<'a>(
 
 /// The first fault of what a body gives.
 fn in_give(scope: &Scope, give: &Option<Give>) -> Option<RegionError>
-    ensures { (t : ProgramTree) → IsLeast t (sites_of_give t (seen scope.now) (give_of give.now)) result }
+    ensures { (t : ProgramTree)
+        → IsLeast t (sites_of_give t (seen scope.now) (give_of give.now)) result }
 {
     match give {
         None => None,
@@ -187,7 +192,8 @@ fn declare_all<'a>(
     scope: &mut Scope<'a>,
     parameters: &'a [Parameter],
 ) -> Result<Option<RegionError>, NoMemory>
-    ensures least { IfOk result (λ found. (t : ProgramTree) → IsLeast t (declaration_sites (seen scope.old) (map of_parameter parameters.now)) found) }
+    ensures least { IfOk result (λ found. (t : ProgramTree)
+        → IsLeast t (declaration_sites (seen scope.old) (map of_parameter parameters.now)) found) }
     ensures scope { OnOk result (Becomes (λ s. s ++ map of_parameter parameters.now) scope.old scope.new) }
 {
     let mut found = None;
