@@ -1,3 +1,8 @@
+-- How the choice is shown. Obedience is a definition over the acts of one processor, each with
+-- where it stood: it has no run in it, and its laws are recursions on one list.
+-- Counts kept up to a most are `min n most` in the record (`omega` takes `min`); each update is a
+-- function with its equation.
+
 pub mod KeeperLemmas
 pub mod CountLemmas
 pub mod ChoiceLemmas

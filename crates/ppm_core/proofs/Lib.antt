@@ -1,3 +1,10 @@
+-- How the machine is shown. A turn is three answers over free functions on a processor and the
+-- words, each one lemma on the record of all fields (`TurnLemmas`).
+-- Steps in a row: a moment is the words and where the processor stands, and one record (`StepsTo`)
+-- says that so many steps lead from one to another. Functions of a loop answer that record, one
+-- lemma (`both`) joins two, and only at the end is it turned into the machine's own `run_on`
+-- (`StepsLemmas`).
+
 pub mod ListLemmas
 pub mod LocalLemmas
 pub mod RunLemmas

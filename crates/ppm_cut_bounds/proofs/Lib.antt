@@ -1,3 +1,7 @@
+-- How the bounds are shown. Two bounds, counted procedure by procedure, are one enum with one law;
+-- free names are sets as lists, by membership.
+-- A limit is a parameter (`IsLineBelow limit`), so several bounds are one lemma.
+
 pub mod Blocks
 pub mod Counts
 pub mod Members

@@ -1,3 +1,18 @@
+-- How runs and commands are shown. What a schedule says is one list of acts that are due, listed or
+-- in a round, with one recursion over it that skips what isn't made. `follow` is loops over it,
+-- each with the invariant `LeadsTo all rest`: whatever is done behind, of `rest` from here, is all
+-- of `all` from the beginning. So no list of turns is carried: a step is `goes_on`, an early exit
+-- `ends` with "of these nothing is made".
+-- Laws of that run: a test that a definition makes goes once into a sum of two records (`Makes`,
+-- `Skips`), and no later proof opens the `if`. A law of each turn, said as "run = first ++ (turn,
+-- more)", needs no predicate along the run (`splits`).
+-- `obey` may not end: it loops over `rt.forever()` with the invariant "whatever obeys from here on
+-- obeys from the beginning on" (`Leads`), and one function makes an act and has the whole contract.
+-- A burst of steps is as one act.
+-- A law of a run reaches a command's rows as a field of what the program has (`ProgramHas`); an
+-- answer that no run gives is left out of the kinds of answers, and all rows above close by their
+-- last case.
+
 pub mod CourseLemmas
 pub mod IdleLemmas
 pub mod DoesLemmas

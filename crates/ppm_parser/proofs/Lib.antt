@@ -1,3 +1,8 @@
+-- How the parser is shown. A clause ranges over a list of items, not over a part alone; three
+-- lemmas do all exits (`then_reads`, `then_fails`, `front_fails`).
+-- A part that may be empty and ends at a sign is read together with that sign. Lists with commas
+-- are one law.
+
 pub mod Chains
 pub mod Reading
 pub mod Expressions

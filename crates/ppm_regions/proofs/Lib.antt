@@ -1,3 +1,9 @@
+-- How the pass is shown. Uses of names with the declarations in force there (`Site`) are one list,
+-- a fault is a predicate over a use, and the first one is told by number, then line.
+-- That no first fault means no fault (`OneFault`) is an induction on the number, and below it on
+-- the line; it needs no decision.
+-- What an admitted program keeps is shown field by field in `Rules`, site by site (`SiteLemmas`).
+
 pub mod Names
 pub mod Order
 pub mod Least

@@ -1,3 +1,19 @@
+-- How the step is shown. Rows are data (`Row`, `Then`, `Point`), on which definitions and contracts
+-- match arm by arm: most functions of rows prove with no file, by two clauses, the value and that
+-- its numbers fit (`IsRow`).
+-- What a load leads to is split by what the word stands for (`found_number`, `found_entry`, ..),
+-- each a match on the point with a last arm `broken()`.
+-- The test of a bound stands at one place, where a processor comes to stand (`stand_with`,
+-- `stand_then`), and gives an equation of Bools that `ThereLemmas` turns into an address or a
+-- packing that fits.
+-- By hand: the end that register work comes to names a line (`EndLemmas`, by the tree of the
+-- capsule), the stores of an end one by one (`StoringLemmas`), a capsule begins (`EnterLemmas`).
+-- Laws of runs: `Spares` of `StandLemmas` is the invariant of standings, kept by each act
+-- (`ActLemmas`); "not done" stands in it as the empty type at `IsDone`. From it `FinishLemmas` and
+-- `RoomLemmas`.
+-- What capsules may write is one family over a type `Built` (no block, or any), so plain capsules
+-- and those behind `room` are one set of lemmas (`PlainLemmas`).
+
 pub mod EndLemmas
 pub mod ThereLemmas
 pub mod StoringLemmas
