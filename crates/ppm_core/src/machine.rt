@@ -200,10 +200,10 @@ impl Machine {
         }
     }
 
-    /// Word steps of a processor in a row, faster than turn by turn, and how many they were: at most `most`, each made while the finish word
-    /// is 0 and for which no victim is due, the last one work. It does not stop in a capsule of a frame, nor at the restart of a frame from
-    /// which two steps enter one, unless the finish word is not 0 or fewer steps are left than that; between those two it makes none. The
-    /// processor is below the number of processors, and there come to be 2^62 turns at most. No event is told, and no memory is taken.
+    /// Makes up to `most` word steps of one processor, fast, and tells how many: each while the finish word is 0 and
+    /// for which no victim is due, the last one work. It stops early only where the run has ended, or the next step is
+    /// not inside a capsule of a frame; `GoesNoFurther` says exactly where. The processor is below the number of
+    /// processors, and there come to be 2^62 turns at most. No event is told, and no memory is taken.
     pub fn steps(&mut self, processor: u32, most: u64) -> u64
         requires processor { processor < self.old.shape.processors }
         requires few { self.old.turns + most ≤ 2 ^ 62 }
