@@ -11,7 +11,8 @@
 -- Two directions stand on it: `Forward`, by recursion on a run of the meaning, and `Progress`, by
 -- recursion on n: a block has an end, or its code makes n capsules in turn.
 -- `Theorem` has from `Progress` both that the code ends only where the meaning does and that else
--- it goes on for ever; that the ends are one is a law of `ppm_strands`.
+-- it goes on for ever; that the ends are one is a law of `ppm_strands`. `SerialLemmas` goes on from
+-- there to the serial outcome.
 
 pub mod ChainLemmas
 pub mod Holding

@@ -1,7 +1,7 @@
 -- How soundness is shown. Trees with labels that say what they own, and no values. A label is a
 -- scope with its regions (`OwnLemmas`); it is no function of the frame, and a tree is good where
--- each frame in it has one. Good trees are calm, by one induction on runs (`CalmLemmas`, over any
--- frames).
+-- each frame in it has one. Good trees are calm, by one induction on runs (`LabelLemmas` of
+-- `ppm_strands`, over any frames).
 -- A frame stands at a level (`StandLemmas`, `LevelLemmas`): at a block, with its slots holding the
 -- regions in force, whatever its locals are, and leading to a level behind the block.
 -- A capsule is tame (`TameLemmas`) where it reads what its label owns, writes what that may write,

@@ -2,7 +2,8 @@
 -- functions, and the stack agrees with them on a frame's slots alone (`Holds`), so no frame is
 -- copied and no tree compared.
 -- Read in this order: `specs/Store`, `Whole` (one capsule), `Stack` (which tree the stack shows),
--- `Moves`, `Turns`. Each turn is a chain in turn (`ppm_strands`).
+-- `Moves`, `Turns`. Each turn is a chain in turn (`ppm_strands`), of whole capsules alone
+-- (`specs/Order`).
 
 pub mod ActLemmas
 pub mod AdvanceLemmas

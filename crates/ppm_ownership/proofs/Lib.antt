@@ -4,7 +4,7 @@
 -- Locality is "where words were the same in front, they are the same behind", for every word and
 -- not only those owned: so it composes rule by rule.
 -- Two runs commute word by word, by cases on whether a value changed (`SwapLemmas`,
--- `StretchLemmas`).
+-- `StretchLemmas`). Wherever a run is stopped is such a position (`PositionLemmas`).
 
 pub mod ScopeLemmas
 pub mod PartLemmas

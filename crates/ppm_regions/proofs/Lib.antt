@@ -1,5 +1,6 @@
--- How the pass is shown. Uses of names with the declarations in force there (`Site`) are one list,
--- a fault is a predicate over a use, and the first one is told by number, then line.
+-- How the pass is shown. Declarations in force are kept in a map, with the blocks through which
+-- they are seen (`specs/Kept`). Uses of names with these (`Site`) are one list, a fault is a
+-- predicate over a use, and the first one is told by number, then line.
 -- That no first fault means no fault (`OneFault`) is an induction on the number, and below it on
 -- the line; it needs no decision.
 -- What an admitted program keeps is shown field by field in `Rules`, site by site (`SiteLemmas`).

@@ -9,8 +9,9 @@
 -- By hand: the end that register work comes to names a line (`EndLemmas`, by the tree of the
 -- capsule), the stores of an end one by one (`StoringLemmas`), a capsule begins (`EnterLemmas`).
 -- Laws of runs: `Spares` of `StandLemmas` is the invariant of standings, kept by each act
--- (`ActLemmas`); "not done" stands in it as the empty type at `IsDone`. From it `FinishLemmas` and
--- `RoomLemmas`.
+-- (`ActLemmas`); "not done" stands in it as the empty type at `IsDone`. From it `FinishLemmas`,
+-- `QuitLemmas` and `RoomLemmas`. That a processor stands where its record leads it is
+-- `RecordLemmas`.
 -- What capsules may write is one family over a type `Built` (no block, or any), so plain capsules
 -- and those behind `room` are one set of lemmas (`PlainLemmas`).
 
