@@ -53,7 +53,8 @@ module _ {S N K E O : Type 0} (eq : Equality (Location S N)) (table : Table S N 
     is_trap = table.is_trap;
   }
 
-  -- the trees that ends open show nothing of these stores, and none is to a shared word
+  -- the trees that ends open show nothing of these stores, and none is to a shared word; so it is with stores into the new block alone, and no
+  -- table here has a location for a frame's header or outcome, which ends store as well
   pub record AreUnseen (tails : K → E → List (Location S N × ℕ)) : Type 0 where
     pub unshared : (k : K) (e : E) → addresses (stored_at (tails k e)) ≡ []
     pub unseen : (k : K) (e : E) (m : Memory (Location S N)) → opened eq table k e (after_stores eq (tails k e) m) ≡ opened eq table k e m

@@ -1,4 +1,6 @@
 -- Trees of strands run word step by word step, in any order, with faults: at any moment any strand may lose how far its capsule has come.
+-- A sketch of the machine, whose strands also store values into frames that wait, store an end word by word, and may be taken over by an heir
+-- with a new block: the proof on runs is to go by the steps of `ppm_strands` (`Ahead`), which have all of these.
 use Rattle.std.specs.Prelude.{◌≡◌, ℕ}
 use Rattle.ppm_strands.specs.Tree.{Words, Tree, Strand, Call, Fork, Over}
 use Rattle.ppm_strands.specs.Run.{Counts, none, plus, of_capsule, rejoin, End, Ends}

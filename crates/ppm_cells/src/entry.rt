@@ -6,16 +6,19 @@ ghost use Rattle.ppm_cells.specs.Entry.{entry_word, entry_of, entry_with, IsEntr
 
 use crate::field::{bits_of, joined};
 
-/// An entry of a deque. Its tag, below 2^34, rises by one at each change; blocks are addresses below 2^28.
+/// An entry of a deque. Its tag, below 2^34, rises by one at each change; blocks are addresses
+/// below 2^28.
 #[derive(Clone, Copy, Debug, PartialEq, Eq)]
 pub enum Entry {
     /// Nothing is there.
     Empty { tag: u64 },
-    /// The strand of the place itself is there. The block is the fork block that a pop got back, else 0.
+    /// The strand of the place itself is there. The block is the fork block that a pop got back,
+    /// else 0.
     Local { tag: u64, block: u32 },
     /// The right branch of this fork block waits to be taken.
     Job { tag: u64, block: u32 },
-    /// It was taken by this place, and by `taker - 64` out of `Local` where that is above 63. Below 128.
+    /// It was taken by this place, and by `taker - 64` out of `Local` where that is above 63. Below
+    /// 128.
     Taken { tag: u64, taker: u32 },
 }
 

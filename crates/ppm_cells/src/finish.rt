@@ -11,8 +11,9 @@ use ppm_words::{PROCESSOR_LIMIT, Trap};
 /// Stands for the place of a processor that does not know its place.
 pub const UNKNOWN_PLACE: u32 = PROCESSOR_LIMIT;
 
-/// What the finish word says of a run, and an outcome word of a strand. A strand's outcome is `Ended` or `Trapped`,
-/// and its word is 0 (`Unset`) until it has one. Lines count from 1 and are below 2^26; processors and places are below 64.
+/// What the finish word says of a run, and an outcome word of a strand. A strand's outcome is
+/// `Ended` or `Trapped`, and its word is 0 (`Unset`) until it has one. Lines count from 1 and are
+/// below 2^26; processors and places are below 64.
 #[derive(Clone, Copy, Debug, PartialEq, Eq)]
 pub enum Finish {
     /// It has not come to an end.

@@ -5,7 +5,8 @@ ghost use Rattle.ppm_cells.specs.Holder.{holder_word, holder_of, IsHolder};
 
 use crate::field::{bits_of, joined};
 
-/// The processor, below 64, that carries a place. The tag, below 2^58, rises by one at each takeover.
+/// The processor, below 64, that carries a place. The tag, below 2^58, rises by one at each
+/// takeover.
 #[derive(Clone, Copy, Debug, PartialEq, Eq)]
 pub struct Holder {
     pub tag: u64,

@@ -8,11 +8,12 @@ ghost use Rattle.ppm_cells.specs.Holder.{holder_word, IsHolder, holder_of};
 ghost use Rattle.ppm_cells.specs.Link.{link_word, IsLink, link_of};
 ghost use Rattle.ppm_cells.specs.Region.{region_word, IsRegion, region_of};
 ghost use Rattle.ppm_cells.specs.Restart.{restart_word, IsRestart, restart_of};
-ghost use Rattle.ppm_cells.specs.Cells.{word_count, CellsAreWithin, AddressesDiffer, AddressesAreCells};
+ghost use Rattle.ppm_cells.specs.Cells.{word_count, CellsAreWithin, AddressesDiffer};
+ghost use Rattle.ppm_cells.specs.Cells.{AddressesAreCells};
 ghost use Rattle.ppm_cells.specs.Memory.{StoresAreRead, OthersStay, PackedStoresAreSeen};
 
-/// A word stands for a value exactly where the value fits its fields and packs to that word: what is
-/// packed comes back, and no word in which an unused bit is set stands for anything.
+/// A word stands for a value exactly where the value fits its fields and packs to that word: what
+/// is packed comes back, and no word in which an unused bit is set stands for anything.
 pub fn packings_are_exact()
     ensures restart { IsExact restart_word IsRestart restart_of }
     ensures entry { IsExact entry_word IsEntry entry_of }

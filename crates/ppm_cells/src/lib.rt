@@ -1,9 +1,10 @@
 //! The words of the machine: what is packed into them, and the cells in which they lie.
-//! Model: a packing is a list of fields of bits (`specs/Fields`), a cell a name of a word (`specs/Cells`).
+//! Model: a packing is a list of fields of bits (`specs/Fields`), a cell a name of a word
+//! (`specs/Cells`).
 //! Contract: what is packed comes back from that word alone; addresses of different cells differ.
-//! Stands on `ppm_words`; code, layout and the step of the machine are to stand on it.
-//! After the restart pointers and tagged deque entries of Blelloch et al., SPAA 2018; places, holders, links and all
-//! packings are this project's.
+//! Stands on `ppm_words`; layout and the step of the machine stand on it.
+//! After the restart pointers and tagged deque entries of Blelloch et al., SPAA 2018; places,
+//! holders, links and all packings are this project's.
 #![tactic(auto)]
 
 mod cell;

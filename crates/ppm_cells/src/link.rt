@@ -8,7 +8,8 @@ ghost use Rattle.ppm_cells.specs.Link.{link_word, link_of, IsLink};
 use crate::field::{bits_of, joined};
 use crate::side::Side;
 
-/// The first word of a frame or a fork block: where its end leads, and its size in words, below 2^28.
+/// The first word of a frame or a fork block: where its end leads, and its size in words, below
+/// 2^28.
 #[derive(Clone, Copy, Debug, PartialEq, Eq)]
 pub struct Link {
     pub kind: LinkKind,

@@ -8,15 +8,16 @@ ghost use Rattle.ppm_cells.specs.Restart.{restart_word, restart_of, IsRestart};
 use crate::field::{bits_of, joined};
 use crate::side::Side;
 
-/// A restart word: the capsule with which its place goes on, and the bottom of its deque, below 2^27.
+/// A restart word: the capsule with which its place goes on, and the bottom of its deque, below
+/// 2^27.
 #[derive(Clone, Copy, Debug, PartialEq, Eq)]
 pub struct Restart {
     pub kind: RestartKind,
     pub bottom: u32,
 }
 
-/// The capsules. Frames and blocks are addresses below 2^28, victims and processors are below 64, slots
-/// below 65,536, and a copy is 0 or 1.
+/// The capsules. Frames and blocks are addresses below 2^28, victims and processors are below 64,
+/// slots below 65,536, and a copy is 0 or 1.
 #[derive(Clone, Copy, Debug, PartialEq, Eq)]
 pub enum RestartKind {
     /// Runs the capsule whose number stands in this copy of the frame's header.

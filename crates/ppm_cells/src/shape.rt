@@ -38,7 +38,8 @@ impl Shape {
     ghost use Rattle.std.specs.Prelude.{◌≡◌, ◌↔◌, ◌+◌, ◌<◌, ◌≤◌, IsSome, IfSome};
     ghost use Rattle.ppm_cells.specs.Limits.{IsWithinLimits};
     ghost use Rattle.ppm_cells.specs.Shape.{HasSizes};
-    ghost use Rattle.ppm_cells.specs.Cells.{place_at, pool_at, arrays_at, word_count, address, IsAddressable};
+    ghost use Rattle.ppm_cells.specs.Cells.{place_at, pool_at, arrays_at, word_count, address};
+    ghost use Rattle.ppm_cells.specs.Cells.{IsAddressable};
     ghost use Rattle.ppm_cells.specs.declared.shape.Takeover.TheVariants.{ByEntries};
 
     /// The shape with these sizes, and with takeover by places; `None` exactly outside the limits.

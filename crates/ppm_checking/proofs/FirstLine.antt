@@ -14,7 +14,7 @@ use Rattle.ppm_listing_reader.specs.declared.place.Place.TheVariants.{AtVersion}
 use Rattle.ppm_listing_reader.specs.declared.token.Token.{Token}
 use Rattle.ppm_listing_reader.specs.declared.token.Token.TheVariants.{Name, Register, Number, Negative, Other}
 use Rattle.ppm_listing_reader.specs.declared.form.Sort.TheVariants as sort
-use Rattle.ppm_listing_reader.specs.Tokens.{is_empty, split, spelled, keywords, keyword_of, is_digit, is_numeral, value_from, value, token_limit, named, minus, token_of}
+use Rattle.ppm_listing_reader.specs.Tokens.{is_empty, split, spelled, keywords, keyword_of, is_digit, is_numeral, value_from, value, value_limit, named, minus, token_of}
 use Rattle.ppm_listing_reader.specs.Forms.{is_of, has_form, part_of, part_in, line_of}
 use Rattle.ppm_listing_reader.specs.Places.{standing}
 use Rattle.ppm_checking.proofs.Pieces.{total, some_total}
@@ -127,7 +127,7 @@ one_digit d (c ∷ cs) h i e = by (d == 48) refl i where
       let low : 48 ≤ d = leb-true 48 d (both (nat_le 48 d) (nat_le d 57) h).0 in
       let other : d ≢ 48 = eqb-false d 48 f in
       let more = grows ((0 + (d - 48)) * 10 + (c - 48)) cs in
-      let same : min (value_from ((0 + (d - 48)) * 10 + (c - 48)) cs) token_limit ≡ 1 = e in
+      let same : min (value_from ((0 + (d - 48)) * 10 + (c - 48)) cs) value_limit ≡ 1 = e in
       absurd (omega (arith, low, other, more, same))
 
 one_token : (w : List ℕ) (n : ℕ) → token_of w ≡ Number n → n ≡ 1 → length w ≤ 1

@@ -30,9 +30,10 @@ fn fault_in(plan: &Plan, processor: u32, acts: u64) -> Option<Fault>
     }
 }
 
-/// What a processor does next: it leaves, or parks, where it is not the keeper, is about to seek work, and has looked often
-/// enough in a row; else it meets the fault that the plan has for this act; else it quits where its work turns are spent and the step is
-/// work; else it makes its step, with the next victim where one is due.
+/// What a processor does next: it leaves, or parks, where it is not the keeper, is about to seek
+/// work, and has looked often enough in a row; else it meets the fault that the plan has for this
+/// act; else it quits where its work turns are spent and the step is work; else it makes its step,
+/// with the next victim where one is due.
 pub fn choose(pace: &Pace, plan: &Plan, limits: Limits) -> Choice
     ensures choice { (past : Past) (stood : Standing) → IsPace plan.now limits past stood pace.now
         → IsChoice plan.now limits pace.now.processor past stood result }

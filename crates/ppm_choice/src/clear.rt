@@ -9,7 +9,8 @@ use crate::limits::Limits;
 use crate::pace::Pace;
 use ppm_plan::Plan;
 
-/// How many acts of a processor, from one on, come before the next for which the plan has a fault, if there is one.
+/// How many acts of a processor, from one on, come before the next for which the plan has a fault,
+/// if there is one.
 fn acts_to_fault(plan: &Plan, processor: u32, acts: u64) -> Option<u64>
     ensures { IsLeastFrom (λ k. fault_of plan.now.items processor (acts + k)) 0 result }
 {
@@ -32,8 +33,9 @@ fn at_most(most: Option<u64>, count: u64) -> u64
     }
 }
 
-/// How many acts of a processor come before the next fault of the plan, and at most as many as it has work turns left. A step
-/// among them needs no choice: it is the next act of a processor that neither is done nor rests, where no victim is due.
+/// How many acts of a processor come before the next fault of the plan, and at most as many as it
+/// has work turns left. A step among them needs no choice: it is the next act of a processor that
+/// neither is done nor rests, where no victim is due.
 pub fn clear_steps(pace: &Pace, plan: &Plan, limits: Limits) -> u64
     ensures clear { (past : Past) (stood : Standing) → IsPace plan.now limits past stood pace.now
         → AreClear plan.now limits pace.now.processor past result }

@@ -1,6 +1,9 @@
-//! The pace of a processor: which act comes next, by what it has done, a fault plan and limits, and nothing else.
-//! Model: the acts of one processor in a run (`specs/Deeds`), and when these obey a plan and limits (`specs/Obeying`).
-//! Contract: `choose` answers exactly the act that obeys, or that the processor rests; a pace keeps what that takes to know.
+//! The pace of a processor: which act comes next, by what it has done, a fault plan and limits, and
+//! nothing else.
+//! Model: the acts of one processor in a run (`specs/Deeds`), and when these obey a plan and limits
+//! (`specs/Obeying`).
+//! Contract: `choose` answers exactly the act that obeys, or that the processor rests; a pace keeps
+//! what that takes to know.
 //! Stands on `ppm_step` and `ppm_plan`; whoever drives processors stands on it.
 //! The limits and their rules are this project's.
 #![tactic(auto)]

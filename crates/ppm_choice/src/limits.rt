@@ -7,7 +7,8 @@ use ppm_words::Idle;
 pub struct Limits {
     /// How many work turns a processor makes; in place of one more it quits.
     pub turns: u64,
-    /// After so many looks in a row a processor rests where it would seek work again, unless it is the keeper.
+    /// After so many looks in a row a processor rests where it would seek work again, unless it is
+    /// the keeper.
     pub looks: u32,
     /// The seed of the victims that are drawn at random.
     pub seed: u32,

@@ -15,7 +15,8 @@ use ppm_step::{Next, Told};
 /// The number of acts that is kept, past every turn that a plan can name.
 const MOST_ACTS: u64 = 1 << 32;
 
-/// What a processor has done so far, as far as its next act rests on it, and what its coming step is.
+/// What a processor has done so far, as far as its next act rests on it, and what its coming step
+/// is.
 #[derive(Clone, Copy, Debug, PartialEq, Eq)]
 pub struct Pace {
     /// Its number, from 0.
@@ -26,7 +27,8 @@ pub struct Pace {
     pub acts: u64,
     /// How many of these were work turns.
     pub work: u64,
-    /// How many looks it has made since the last of these, or since it rested; from the limit on, the limit.
+    /// How many looks it has made since the last of these, or since it rested; from the limit on,
+    /// the limit.
     pub looks: u32,
     /// What its coming step is.
     pub next: Next,
@@ -51,13 +53,14 @@ impl Pace {
         }
     }
 
-    /// Behind an act of which this was told, where a victim is due for the coming step or is not. There were fewer than 2^63
-    /// work turns.
+    /// Behind an act of which this was told, where a victim is due for the coming step or is not.
+    /// There were fewer than 2^63 work turns.
     pub fn count(&mut self, limits: Limits, told: Told, due: bool)
         requires few { self.old.work < 2 ^ 63 }
         ensures number { self.new.processor ≡ self.old.processor }
         ensures work { self.new.work ≤ self.old.work + 1 }
-        ensures pace { (plan : Planned) (past : Past) (deed : Deed) (stands : Standing) → IsPace plan limits past deed.stood self.old
+        ensures pace { (plan : Planned) (past : Past) (deed : Deed) (stands : Standing)
+            → IsPace plan limits past deed.stood self.old
             → told.work ≡ is_work_deed deed → told.next ≡ next_of stands → due ≡ seeks_holder stands
             → IsPace plan limits (behind past deed) stands self.new }
     {
@@ -68,15 +71,17 @@ impl Pace {
         self.due = due;
     }
 
-    /// Behind so many steps in a row, of which so many were work, and the last was; a victim is due for the coming step or is
-    /// not. With them there were fewer than 2^63 work turns.
+    /// Behind so many steps in a row, of which so many were work, and the last was; a victim is due
+    /// for the coming step or is not. With them there were fewer than 2^63 work turns.
     pub fn count_steps(&mut self, steps: u64, work: u64, next: Next, due: bool)
         requires few { self.old.work + work < 2 ^ 63 }
         ensures number { self.new.processor ≡ self.old.processor }
         ensures work { self.new.work ≡ self.old.work + work }
         ensures pace { (plan : Planned) (limits : Limits) (past past' : Past) (stood stands : Standing)
-            → IsPace plan limits past stood self.old → past'.acts ≡ past.acts + steps → past'.work ≡ past.work + work
-            → past'.looks ≡ 0 → next ≡ next_of stands → due ≡ seeks_holder stands → IsPace plan limits past' stands self.new }
+            → IsPace plan limits past stood self.old → past'.acts ≡ past.acts + steps
+            → past'.work ≡ past.work + work
+            → past'.looks ≡ 0 → next ≡ next_of stands → due ≡ seeks_holder stands
+            → IsPace plan limits past' stands self.new }
     {
         self.acts = more(self.acts, steps, MOST_ACTS);
         self.work += work;
@@ -88,7 +93,8 @@ impl Pace {
     /// Behind a rest: its looks count from 0 again.
     pub fn rest(&mut self)
         ensures number { self.new.processor ≡ self.old.processor }
-        ensures pace { (plan : Planned) (limits : Limits) (past : Past) (stood : Standing) → IsPace plan limits past stood self.old
+        ensures pace { (plan : Planned) (limits : Limits) (past : Past) (stood : Standing)
+            → IsPace plan limits past stood self.old
             → IsPace plan limits (rested past) stood self.new }
     {
         self.looks = 0;

@@ -45,8 +45,9 @@ fn chooses(
     assert!(rt; got == want, "{processor} {acts} {work} {looks}");
 }
 
-/// A processor, its acts, work turns and looks, its coming step, whether a victim is due, and the choice, with a plan that
-/// kills 0 at its turn 5, so that 1 is the keeper, and has a soft fault of 2 at its turn 7 and of 1 at the last turn there is.
+/// A processor, its acts, work turns and looks, its coming step, whether a victim is due, and the
+/// choice, with a plan that kills 0 at its turn 5, so that 1 is the keeper, and has a soft fault of
+/// 2 at its turn 7 and of 1 at the last turn there is.
 const CHOICES: [(u32, (u64, u64, u32), (Next, bool), Choice); 18] = [
     (0, (0, 0, 0), (Next::Look, false), STEP),
     (0, (5, 0, 0), (Next::Look, false), Choice::Do(Act::Hard)),
@@ -93,7 +94,8 @@ fn acts_are_chosen(rt: HostRuntime) -> Result<(), Fail> {
     Ok(())
 }
 
-/// A processor, its acts and work turns, and how many steps in a row are clear, with the plan of the choices above.
+/// A processor, its acts and work turns, and how many steps in a row are clear, with the plan of
+/// the choices above.
 const CLEAR: [(u32, (u64, u64), u64); 12] = [
     (0, (0, 0), 5),
     (0, (3, 2), 2),

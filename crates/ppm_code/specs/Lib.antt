@@ -2,6 +2,7 @@ pub mod Acts
 pub mod Capsules
 pub mod Code
 pub mod Free
+pub mod Inputs
 pub mod Limits
 pub mod Locations
 pub mod Paths

@@ -28,8 +28,8 @@ pub enum End {
         trap: Trap,
         line: u32,
     },
-    /// The procedure is called in a new frame; then the frame goes on with a capsule, and with the value
-    /// that was given in a slot, if one is named.
+    /// The procedure is called in a new frame; then the frame goes on with a capsule, and with the
+    /// value that was given in a slot, if one is named.
     Call {
         procedure: u32,
         capsule: u32,

@@ -54,7 +54,8 @@ pub(crate) fn quotient(line: u32, to: Register, left: i64, right: i64) -> Act
     }
 }
 
-/// The remainder, with the sign of the dividend; DivZero, or Overflow where the quotient is too large.
+/// The remainder, with the sign of the dividend; DivZero, or Overflow where the quotient is too
+/// large.
 pub(crate) fn remainder(line: u32, to: Register, left: i64, right: i64) -> Act
     ensures { result ≡ remainder_of line to left right }
 {

@@ -20,8 +20,8 @@ pub struct Capsule {
     pub instrs: Items<Instr>,
 }
 
-/// The parts of a code: the procedure of the root frame, the arrays whose regions its first slots hold,
-/// the procedures and the capsules. All numbers count from 0.
+/// The parts of a code: the procedure of the root frame, the arrays whose regions its first slots
+/// hold, the procedures and the capsules. All numbers count from 0.
 #[derive(Debug, Drop)]
 pub struct CodeParts {
     pub root: u32,
@@ -30,8 +30,8 @@ pub struct CodeParts {
     pub capsules: Items<Capsule>,
 }
 
-/// A code that keeps all rules of a listing: 1,024 procedures, 65,535 capsules and 160 instructions in
-/// each at most, and what instructions name is there.
+/// A code that keeps all rules of a listing: 1,024 procedures, 65,535 capsules and 160 instructions
+/// in each at most, and what instructions name is there.
 #[derive(Debug, Drop)]
 pub struct Code {
     parts: CodeParts,

@@ -13,8 +13,8 @@ use crate::region::{cut_left, cut_right, element};
 use crate::register::Register;
 use ppm_words::{Trap, of_word, to_word};
 
-/// An instruction of a capsule. Registers hold words; `line` is where the source traps, from 1; `target`
-/// is an instruction of the capsule, from 0.
+/// An instruction of a capsule. Registers hold words; `line` is where the source traps, from 1;
+/// `target` is an instruction of the capsule, from 0.
 #[derive(Clone, Copy, Debug, PartialEq, Eq)]
 pub enum Instr {
     Const {
@@ -150,7 +150,8 @@ fn number_in(registers: &[u64; 64], register: Register) -> i64
 }
 
 impl Instr {
-    /// What the instruction does where the registers hold these words and there are so many array words.
+    /// What the instruction does where the registers hold these words and there are so many array
+    /// words.
     #[inline(always)]
     pub fn act(&self, registers: &[u64; 64], array_words: u64) -> Act
         ensures { result ≡ does array_words self.now registers.now }

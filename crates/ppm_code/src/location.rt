@@ -7,8 +7,8 @@ pub enum FrameWord {
     Value,
 }
 
-/// Where an instruction reads or writes. Words of the new block count from its first, array words from
-/// that of the first array.
+/// Where an instruction reads or writes. Words of the new block count from its first, array words
+/// from that of the first array.
 #[derive(Clone, Copy, Debug, PartialEq, Eq)]
 pub enum Location {
     Frame(FrameWord),

@@ -1,6 +1,7 @@
 -- What the compiler takes.
 use Rattle.std.specs.Prelude.{ℕ, ◌≤◌, List}
 use Rattle.std.specs.List.{AllByRecursion}
+pub use Rattle.ppm_words.specs.Limits.{capsule_limit}
 use Rattle.ppm_tree.specs.Tree.{Statement, Block, Procedure, ProgramTree}
 use Rattle.ppm_tree.specs.Tree as tree
 use Rattle.ppm_tree.specs.Parts.{statements_in}
@@ -17,10 +18,6 @@ slot_limit = 24
 -- the names of outside that the block of an `each` names
 abbrev pub caught_limit : ℕ
 caught_limit = 10
-
--- the capsules of a code
-abbrev pub capsule_limit : ℕ
-capsule_limit = 65535
 
 -- the greatest count that keeps a bound
 abbrev pub limit_of : Bound → ℕ

@@ -8,10 +8,12 @@ use thiserror::Error;
 /// Why the compiler refuses a program. Procedures are those of the text, counted from 0.
 #[derive(Clone, Copy, Debug, PartialEq, Eq, Error)]
 pub enum BoundError {
-    /// The first procedure that has more than 24 slots, itself or in the hidden procedure of an `each`.
+    /// The first procedure that has more than 24 slots, itself or in the hidden procedure of an
+    /// `each`.
     #[error("too many slots in procedure {0}")]
     TooManySlots(u32),
-    /// No procedure has too many slots; the first with an `each` whose block names more than 10 names of outside.
+    /// No procedure has too many slots; the first with an `each` whose block names more than 10
+    /// names of outside.
     #[error("too many names caught in procedure {0}")]
     TooManyCaught(u32),
     /// Neither; four capsules for each statement and two for each procedure are more than 65,535.
@@ -23,7 +25,8 @@ pub enum BoundError {
 }
 
 impl BoundError {
-    /// The number of the fault: 1 for slots, 2 for capsules, 3 for names caught; 0 where memory was refused.
+    /// The number of the fault: 1 for slots, 2 for capsules, 3 for names caught; 0 where memory was
+    /// refused.
     pub fn number(self) -> u32
         ensures { result ≡ number_of self }
     {

@@ -50,8 +50,9 @@ pub fn tree_within_bounds(alloc: Global, tree: &Tree) -> Result<(), BoundError>
     Ok(())
 }
 
-/// Whether the compiler takes a program: 24 slots in each procedure and in the hidden one of each `each`, 10 names of
-/// outside in the block of an `each`, and 65,535 capsules, counted as four for each statement and two for each procedure.
+/// Whether the compiler takes a program: 24 slots in each procedure and in the hidden one of each
+/// `each`, 10 names of outside in the block of an `each`, and 65,535 capsules, counted as four for
+/// each statement and two for each procedure.
 pub fn within_bounds(alloc: Global, program: &Program) -> Result<(), BoundError>
     ensures within { OnOk result (IsWithinBounds (tree_of program.now)) }
     ensures refused { IfErr result (IsRefused (tree_of program.now)) }

@@ -7,16 +7,16 @@ ghost use Rattle.ppm_cut_bounds.specs.Capsules.{capsules_of, capsules_at};
 ghost use Rattle.ppm_cut_bounds.specs.Bounds.{capsule_limit};
 
 use ppm_tree::{Give, Proc, Stmt};
+use ppm_words::CAPSULE_LIMIT;
 
-/// The capsules of a code, at most.
-pub const CAPSULE_LIMIT: u32 = 65_535;
-
-/// How many capsules a statement and those in its blocks leave of so many; `None` where they need more.
+/// How many capsules a statement and those in its blocks leave of so many; `None` where they need
+/// more.
 #[cycle(capsules)]
 fn left_by(statement: &Stmt, left: u32) -> Option<u32>
     ensures { MatchOption result
         (left < sum (map capsules_at (statement_and_inner (statement_of statement.now))))
-        (λ rest. rest + sum (map capsules_at (statement_and_inner (statement_of statement.now))) ≡ left) }
+        (λ rest. rest + sum (map capsules_at (statement_and_inner (statement_of statement.now)))
+        ≡ left) }
 {
     match statement {
         Stmt::If(_, block, other) => {
@@ -81,7 +81,8 @@ fn left_by_procedure(procedure: &Proc, left: u32) -> Option<u32>
 
 /// Whether the capsules of these procedures are few enough.
 pub fn capsules_fit(procedures: &[Proc]) -> bool
-    ensures { IsTrue result ↔ sum (map (λ p. capsules_of (procedure_of p)) procedures.now) ≤ capsule_limit }
+    ensures { IsTrue result
+        ↔ sum (map (λ p. capsules_of (procedure_of p)) procedures.now) ≤ capsule_limit }
 {
     let mut left = CAPSULE_LIMIT;
     for procedure in procedures {

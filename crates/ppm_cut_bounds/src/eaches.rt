@@ -4,7 +4,8 @@ ghost use Rattle.ppm_tree.specs.Tree.{statement_of, block_of, procedure_of};
 ghost use Rattle.ppm_tree.specs.Parts.{statements_in, statement_and_inner};
 ghost use Rattle.ppm_cut_bounds.specs.Names.{without, free_names, free_within, caught_count};
 ghost use Rattle.ppm_cut_bounds.specs.Slots.{hidden_slots};
-ghost use Rattle.ppm_cut_bounds.specs.Bounds.{KeepsAt, Keeps, limit_of, slot_limit, hidden_count, own_count};
+ghost use Rattle.ppm_cut_bounds.specs.Bounds.{KeepsAt, Keeps, limit_of, slot_limit, hidden_count};
+ghost use Rattle.ppm_cut_bounds.specs.Bounds.{own_count};
 ghost use Rattle.ppm_cut_bounds.specs.Catching.{Notes, Tells, HasEachOnce};
 
 use crate::bound::{Bound, CAUGHT_LIMIT, SLOT_LIMIT};
@@ -17,10 +18,12 @@ use ppm_tree::{Named, Proc, Stmt};
 use ppm_words::NoMemory;
 use std::alloc::Global;
 
-/// Whether a hidden procedure for a block with so many names of outside may be within a bound; where not, no walk is
-/// needed. A walk looks through the names in force for each name that it meets.
+/// Whether a hidden procedure for a block with so many names of outside may be within a bound;
+/// where not, no walk is needed. A walk looks through the names in force for each name that it
+/// meets.
 fn may_keep(bound: Bound, block: &[Stmt]) -> bool
-    ensures { (caught : ℕ) → hidden_count bound caught (block_of block.now) ≤ limit_of bound → result ≡ true }
+    ensures { (caught : ℕ) → hidden_count bound caught (block_of block.now) ≤ limit_of bound
+        → result ≡ true }
 {
     match bound {
         Bound::Slots => names_fit(block, SLOT_LIMIT),
@@ -38,8 +41,9 @@ fn hidden_keeps(bound: Bound, caught: usize, block: &[Stmt]) -> bool
     }
 }
 
-/// Whether a hidden procedure has no more slots than it may have: its part, its index, the names of outside, then the
-/// names of its block or the two halves of its part, and those for assignments to elements.
+/// Whether a hidden procedure has no more slots than it may have: its part, its index, the names of
+/// outside, then the names of its block or the two halves of its part, and those for assignments to
+/// elements.
 fn hidden_slots_fit(caught: usize, block: &[Stmt]) -> bool
     ensures { IsTrue result ↔ hidden_slots caught (block_of block.now) ≤ slot_limit }
 {
@@ -74,7 +78,8 @@ fn caught_by<'a>(
     part: &'a Named,
     block: &'a [Stmt],
 ) -> Result<Names<'a>, Stop>
-    ensures names { IfOk result (HasEachOnce (without (index.now.name ∷ part.now.name ∷ []) (free_names (block_of block.now)))) }
+    ensures names { IfOk result (HasEachOnce (without (index.now.name ∷ part.now.name
+        ∷ []) (free_names (block_of block.now)))) }
     ensures kept { Tells result (KeepsAt bound (statements_in (block_of block.now))
         × hidden_count bound (caught_count index.now part.now (block_of block.now)) (block_of block.now) ≤ limit_of bound) }
 {
@@ -100,7 +105,8 @@ fn in_block_with<'a>(
     second: &'a Named,
     block: &'a [Stmt],
 ) -> Result<(), Stop>
-    ensures names { OnOk result (Notes (without (first.now.name ∷ second.now.name ∷ []) (free_names (block_of block.now))) walk.old walk.new) }
+    ensures names { OnOk result (Notes (without (first.now.name ∷ second.now.name
+        ∷ []) (free_names (block_of block.now))) walk.old walk.new) }
     ensures kept { Tells result (KeepsAt bound (statements_in (block_of block.now))) }
 {
     let before = walk.own_count();

@@ -2,18 +2,21 @@
 ghost use Rattle.std.specs.Prelude.{◌≡◌, ◌↔◌, ◌≤◌, ◌<◌, ◌+◌, length, max, IsTrue, MatchOption};
 ghost use Rattle.ppm_tree.specs.Tree.{statement_of, block_of, procedure_of};
 ghost use Rattle.ppm_cut_bounds.specs.Names.{lets_of};
-ghost use Rattle.ppm_cut_bounds.specs.Slots.{most_within, most_in_force, puts, has_put, put_slots, slots_of};
+ghost use Rattle.ppm_cut_bounds.specs.Slots.{most_within, most_in_force, puts, has_put, put_slots};
+ghost use Rattle.ppm_cut_bounds.specs.Slots.{slots_of};
 ghost use Rattle.ppm_cut_bounds.specs.Bounds.{slot_limit};
 
 use crate::bound::SLOT_LIMIT;
 use ppm_tree::{Proc, Stmt};
 
-/// How many slots a statement leaves for the rest of its block; `None` where its own names take more.
+/// How many slots a statement leaves for the rest of its block; `None` where its own names take
+/// more.
 #[cycle(names)]
 fn left_behind(statement: &Stmt, room: usize) -> Option<usize>
     ensures { MatchOption result
         (room < max (most_within (statement_of statement.now)) (length (lets_of (statement_of statement.now))))
-        (λ left. (most_within (statement_of statement.now) ≤ room) × left + length (lets_of (statement_of statement.now)) ≡ room) }
+        (λ left. (most_within (statement_of statement.now) ≤ room)
+        × left + length (lets_of (statement_of statement.now)) ≡ room) }
 {
     match statement {
         Stmt::Let(_, _) => room.checked_sub(1),
@@ -76,7 +79,7 @@ fn puts(statement: &Stmt) -> bool
 
 /// Whether a block assigns to an element.
 #[cycle(puts)]
-fn has_put(block: &[Stmt]) -> bool
+pub fn has_put(block: &[Stmt]) -> bool
     ensures { result ≡ has_put (block_of block.now) }
 {
     for statement in block {

@@ -10,7 +10,8 @@ use ppm_words::{Name, NoMemory};
 use std::alloc::Global;
 use std::marker::Model;
 
-/// The names of a block that are in force at a place in it, and the names of outside that it has named so far, each once.
+/// The names of a block that are in force at a place in it, and the names of outside that it has
+/// named so far, each once.
 #[derive(Drop)]
 pub struct Walk<'a> {
     own: Names<'a>,
@@ -117,7 +118,8 @@ impl<'a> Walk<'a> {
 
     /// The names in an expression.
     fn expression(&mut self, expression: &'a Expr) -> Result<(), NoMemory>
-        ensures { OnOk result (Notes (names_in (expression_of expression.now ∷ [])) self.old self.new) }
+        ensures { OnOk result (Notes (names_in (expression_of expression.now
+            ∷ [])) self.old self.new) }
     {
         match expression {
             Expr::Number(_) => Ok(()),

@@ -1,4 +1,5 @@
-//! The entry of a plain board, on which jobs are posted and from which they are only stolen. No row of the machine uses it.
+//! The entry of a plain board, on which jobs are posted and from which they are only stolen. No row
+//! of the machine uses it.
 ghost use Rattle.std.specs.Prelude.{◌≡◌, ◌^◌, ◌<◌, IfSome};
 ghost use Rattle.ppm_cells.specs.Entry.{IsEntry};
 ghost use Rattle.ppm_deque.specs.Change.{IsEmpty, CanRise, BoardChanges};
@@ -6,8 +7,8 @@ ghost use Rattle.ppm_deque.specs.Transitions.{posted};
 
 use ppm_cells::Entry;
 
-/// What an empty entry becomes: the job of the right branch of `block`, an address below 2^28. `None` says that nothing is to
-/// be changed.
+/// What an empty entry becomes: the job of the right branch of `block`, an address below 2^28.
+/// `None` says that nothing is to be changed.
 pub fn post(seen: Entry, block: u32) -> Option<Entry>
     requires block { block < 2 ^ 28 }
     requires tag { IsEmpty seen → CanRise seen }

@@ -4,15 +4,16 @@ ghost use Rattle.ppm_cells.specs.declared.shape.Takeover.{Takeover};
 ghost use Rattle.ppm_deque.specs.Change.{Changes, BoardChanges};
 ghost use Rattle.ppm_deque.specs.Order.{Later, LaterOnBoard};
 ghost use Rattle.ppm_deque.specs.Correct.{TransitionsGoOn, NeverReturns, TakenStays, WonWasMade};
-ghost use Rattle.ppm_deque.specs.Correct.{OthersTakeForThemselves, OthersLeaveOwn, OwnStaysUnlessJob};
+ghost use Rattle.ppm_deque.specs.Correct.{OthersTakeForThemselves, OthersLeaveOwn};
+ghost use Rattle.ppm_deque.specs.Correct.{OwnStaysUnlessJob};
 
 /// Each transition goes on in the order of its entry.
 pub fn transitions_go_on()
     ensures law { TransitionsGoOn }
 {}
 
-/// What comes of an entry has a greater tag or is the same, and no entry comes back: so a compare-and-modify that meets the
-/// entry that was seen is the change that was meant.
+/// What comes of an entry has a greater tag or is the same, and no entry comes back: so a
+/// compare-and-modify that meets the entry that was seen is the change that was meant.
 pub fn entries_never_return()
     ensures deque { (how : Takeover) → NeverReturns (Later how) (Changes how) }
     ensures board { NeverReturns LaterOnBoard BoardChanges }
@@ -24,13 +25,14 @@ pub fn taken_entries_stay()
     ensures board { TakenStays LaterOnBoard }
 {}
 
-/// What others do to an entry does not take it for a place that does nothing to it: so who finds it taken in its own name has
-/// taken it.
+/// What others do to an entry does not take it for a place that does nothing to it: so who finds it
+/// taken in its own name has taken it.
 pub fn others_take_for_themselves()
     ensures law { (how : Takeover) (place : ℕ) → OthersTakeForThemselves how place }
 {}
 
-/// Others do nothing to an owner's entry but take it, once; with takeover by places they take jobs alone.
+/// Others do nothing to an owner's entry but take it, once; with takeover by places they take jobs
+/// alone.
 pub fn others_leave_the_own_entries()
     ensures taken { (how : Takeover) (place : ℕ) → OthersLeaveOwn how place }
     ensures places { (place : ℕ) → OwnStaysUnlessJob place }

@@ -1,8 +1,12 @@
-//! The work-stealing deque of one place, entry by entry: push, pop, steal and inherit, and the entry of a plain board.
-//! Model: a transition is a pair of entries (`specs/Change`), what may come of an entry the changes in a row (`specs/Order`).
-//! Contract: each transition is a change of the owner's or of a thief's; no entry comes back, and a taken one stays.
-//! Stands on `ppm_cells`; the step of the machine is to make each transition by one compare-and-modify.
-//! After Chase and Lev, SPAA 2005, with the tagged entries of Blelloch et al., SPAA 2018; inheriting is this project's.
+//! The work-stealing deque of one place, entry by entry: push, pop, steal and inherit, and the
+//! entry of a plain board.
+//! Model: a transition is a pair of entries (`specs/Change`), what may come of an entry the changes
+//! in a row (`specs/Order`).
+//! Contract: each transition is a change of the owner's or of a thief's; no entry comes back, and a
+//! taken one stays.
+//! Stands on `ppm_cells`; the step of the machine makes each transition by one compare-and-modify.
+//! After Chase and Lev, SPAA 2005, with the tagged entries of Blelloch et al., SPAA 2018;
+//! inheriting is this project's.
 #![tactic(auto)]
 
 mod board;

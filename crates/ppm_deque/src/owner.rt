@@ -2,7 +2,8 @@
 ghost use Rattle.std.specs.Prelude.{◌≡◌, ◌^◌, ◌<◌, IfSome};
 ghost use Rattle.ppm_cells.specs.Entry.{IsEntry};
 ghost use Rattle.ppm_deque.specs.Change.{IsEmpty, IsLocal, IsJob, CanRise, OwnerChanges};
-ghost use Rattle.ppm_deque.specs.Transitions.{pushed_above, pushed_job, popped_below, popped_above, TriesTo};
+ghost use Rattle.ppm_deque.specs.Transitions.{pushed_above, pushed_job, popped_below, popped_above};
+ghost use Rattle.ppm_deque.specs.Transitions.{TriesTo};
 
 use ppm_cells::Entry;
 
@@ -17,7 +18,8 @@ pub enum Pop {
     Gone,
 }
 
-/// What an empty entry above the bottom becomes before the bottom becomes a job: the place of the strand to come.
+/// What an empty entry above the bottom becomes before the bottom becomes a job: the place of the
+/// strand to come.
 pub fn push_above(seen: Entry) -> Option<Entry>
     requires tag { IsEmpty seen → CanRise seen }
     ensures value { result ≡ pushed_above seen }

@@ -34,7 +34,8 @@ pub fn steal(seen: Entry, thief: u32) -> Option<Entry>
     }
 }
 
-/// What the local entry of a closed place becomes when the place `heir`, below 64, takes over its strand.
+/// What the local entry of a closed place becomes when the place `heir`, below 64, takes over its
+/// strand.
 pub fn inherit(seen: Entry, heir: u32) -> Option<Entry>
     requires heir { heir < 64 }
     requires tag { IsLocal seen → CanRise seen }
@@ -51,7 +52,8 @@ pub fn inherit(seen: Entry, heir: u32) -> Option<Entry>
     }
 }
 
-/// Whether the place, below 64, has taken what it saw: `now` is what it makes of the entry in its message.
+/// Whether the place, below 64, has taken what it saw: `now` is what it makes of the entry in its
+/// message.
 pub fn won(message: Entry, now: Entry, place: u32) -> bool
     requires place { place < 64 }
     ensures exactly { IsTrue result ↔ Takes ByEntries place message now }

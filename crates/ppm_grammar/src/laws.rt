@@ -7,14 +7,14 @@ pub fn test_tells<T, K, P, V, C>()
     ensures law { (g : Grammar T K P V C) → TestTells g }
 {}
 
-/// Where one token tells which row of a part comes, tokens have one tree within the limits or one fault,
-/// never both, and one of the two.
+/// Where one token tells which row of a part comes, tokens have one tree within the limits or one
+/// fault, never both, and one of the two.
 pub fn have_one_answer<T, K, P, V, C>()
     ensures law { (g : Grammar T K P V C) → HaveOneAnswer g }
 {}
 
-/// What a parser reads whole by such a table has a tree within the limits, and where it stops the tokens have
-/// that fault.
+/// What a parser reads whole by such a table has a tree within the limits, and where it stops the
+/// tokens have that fault.
 pub fn parsers_answer<T, K, P, V, C>()
     ensures law { (g : Grammar T K P V C) → ParsersAnswer g }
 {}

@@ -26,7 +26,8 @@ pub fn bid(seen: Holder, own: u32) -> Holder
     }
 }
 
-/// Whether the processor `own`, below 64, holds the place by the bid in its message: the holder word is that bid still.
+/// Whether the processor `own`, below 64, holds the place by the bid in its message: the holder
+/// word is that bid still.
 pub fn kept(message: Holder, now: Holder, own: u32) -> bool
     requires own { own < 64 }
     ensures exactly { IsTrue result ↔ IsKept message now own }

@@ -1,5 +1,6 @@
-//! What the order word of a fork block says to a branch that has arrived. It is 0 until a branch arrives, then 1 if the left one
-//! was first and 2 if the right one was; it is 3 before either begins where one strand runs both, the left one first.
+//! What the order word of a fork block says to a branch that has arrived. It is 0 until a branch
+//! arrives, then 1 if the left one was first and 2 if the right one was; it is 3 before either
+//! begins where one strand runs both, the left one first.
 ghost use Rattle.std.specs.Prelude.{◌↔◌, IsTrue};
 ghost use Rattle.ppm_join.specs.Order.{IsLast, IsInline};
 

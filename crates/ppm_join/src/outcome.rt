@@ -5,7 +5,8 @@ ghost use Rattle.ppm_join.specs.Outcome.{outcome_of_both};
 
 use ppm_cells::Finish;
 
-/// The outcome of a fork by those of its branches: the left one's trap, else the right one's, else its end.
+/// The outcome of a fork by those of its branches: the left one's trap, else the right one's, else
+/// its end.
 pub fn joined(left: Finish, right: Finish) -> Finish
     ensures value { result ≡ outcome_of_both left right }
     ensures outcome { IsOutcome result }

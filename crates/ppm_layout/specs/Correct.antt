@@ -14,10 +14,11 @@ use Rattle.ppm_cells.specs.declared.cell.Cell.TheVariants.{FinishWord, RestartWo
 use Rattle.ppm_cells.specs.declared.finish.Finish.TheVariants.{Unset, Ended}
 use Rattle.ppm_cells.specs.declared.restart.RestartKind.TheVariants.{Run, Seek}
 use Rattle.ppm_cells.specs.declared.shape.Shape.{Shape}
+use Rattle.ppm_code.specs.Inputs.{words_in}
 use Rattle.ppm_code.specs.declared.code.CodeParts.{CodeParts}
 use Rattle.ppm_code.specs.Code.{IsCode}
 use Rattle.ppm_code.specs.Sizes.{slots_of, frame_size, slot_at}
-use Rattle.ppm_layout.specs.Opening.{whole_array, array_words, root_link, first_entry, first_holder}
+use Rattle.ppm_layout.specs.Opening.{whole_array, root_link, first_entry, first_holder}
 use Rattle.ppm_layout.specs.Image.{IsImageOf}
 use Rattle.ppm_layout.specs.Root.{strand_at, root_strand}
 use Rattle.ppm_layout.specs.declared.images.Image.{Image}
@@ -47,7 +48,7 @@ pub record BeginsWithRoot (code : CodeParts) (input : List NamedArray) (s : Shap
   pub regions : (slot : ℕ) → slot < length code.arrays
       → region_of (read s words (BlockWord (pool_at s keeper + slot_at slot))) ≡ Some (whole_array input (get_or code.arrays slot 0))
   pub strand : strand_at s words (slots_of code code.root) (pool_at s keeper) ≡ root_strand code input
-  pub arrays : (index : ℕ) → index < s.arrays → read s words (ArrayWord index) ≡ get_or (array_words input) index 0
+  pub arrays : (index : ℕ) → index < s.arrays → read s words (ArrayWord index) ≡ get_or (words_in input) index 0
 
 -- for each image
 abbrev pub WordsStandForValues : Type 0

@@ -1,7 +1,5 @@
 -- The opening words: what stands in each cell of a machine before its first step.
 use Rattle.std.specs.Prelude.{ℕ, ◌+◌, ◌-◌, ◌==◌, nat_le, if◌then◌else◌, ℤ, List, [], ◌∷◌, Option, Some, None, length, map, take, get_or, slice_get}
-use Rattle.std.specs.List.{flat_map}
-use Rattle.ppm_words.specs.TwosComplement.{word_of}
 use Rattle.ppm_words.specs.Inputs.{value_count}
 use Rattle.ppm_words.specs.declared.named_array.NamedArray.{NamedArray}
 use Rattle.ppm_cells.specs.Cells.{pool_at}
@@ -25,6 +23,7 @@ use Rattle.ppm_cells.specs.declared.restart.Restart.{Restart}
 use Rattle.ppm_cells.specs.declared.restart.RestartKind.TheVariants.{Run, Seek}
 use Rattle.ppm_cells.specs.declared.shape.Shape.{Shape}
 use Rattle.ppm_code.specs.declared.code.CodeParts.{CodeParts}
+use Rattle.ppm_code.specs.Inputs.{words_in}
 use Rattle.ppm_code.specs.Sizes.{frame_size}
 use Rattle.ppm_code.specs.Strands.{entry_of}
 
@@ -36,10 +35,6 @@ values_in (Some a) = a.values
 -- the region of a whole array, by its number: the arrays lie one after the other
 abbrev pub whole_array : List NamedArray → ℕ → Region
 whole_array input number = record { start = value_count (take number input); length = length (values_in (slice_get input number)) }
-
--- the words of the arrays
-abbrev pub array_words : List NamedArray → List ℕ
-array_words input = flat_map (λ a. map word_of a.values) input
 
 -- the link of the root's frame, which leads nowhere
 abbrev pub root_link : ℕ → Link
@@ -89,4 +84,4 @@ module _ (s : Shape) (keeper size : ℕ) (frame arrays : List ℕ) where
 
 -- the word with which a cell opens, for a code, its input, the machine's shape and the keeper
 abbrev pub opening : CodeParts → List NamedArray → Shape → (keeper : ℕ) → Cell → ℕ
-opening code input s keeper = opening_with s keeper (frame_size code code.root) (root_frame code input) (array_words input)
+opening code input s keeper = opening_with s keeper (frame_size code code.root) (root_frame code input) (words_in input)

@@ -9,9 +9,10 @@ use Rattle.ppm_cells.specs.Restart.{restart_word}
 use Rattle.ppm_cells.specs.declared.finish.Finish.TheVariants.{Unset}
 use Rattle.ppm_cells.specs.declared.shape.Shape.{Shape}
 use Rattle.ppm_words.specs.declared.named_array.NamedArray.{NamedArray}
+use Rattle.ppm_code.specs.Inputs.{words_in}
 use Rattle.ppm_code.specs.declared.code.CodeParts.{CodeParts}
 use Rattle.ppm_code.specs.Sizes.{frame_size}
-use Rattle.ppm_layout.specs.Opening.{first_restart, first_holder, first_room, first_entry, first_block, root_frame, array_words}
+use Rattle.ppm_layout.specs.Opening.{first_restart, first_holder, first_room, first_entry, first_block, root_frame}
 
 -- each processor carries the place of its number
 abbrev pub carries : ℕ → List ℕ
@@ -50,4 +51,4 @@ module _ (s : Shape) (keeper size : ℕ) (frame : List ℕ) where
 
 -- all words of an image
 abbrev pub opening_words : CodeParts → List NamedArray → Shape → (keeper : ℕ) → List ℕ
-opening_words code input s keeper = all_words s keeper (frame_size code code.root) (root_frame code input) (array_words input)
+opening_words code input s keeper = all_words s keeper (frame_size code code.root) (root_frame code input) (words_in input)

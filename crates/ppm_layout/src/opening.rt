@@ -2,8 +2,6 @@
 ghost use Rattle.std.specs.Prelude.{◌≡◌, ◌++◌, ◌<◌, IfOk, OnOk, length, map};
 ghost use Rattle.std.specs.List.{All};
 ghost use Rattle.ppm_words.specs.Inputs.{value_count, IsInput};
-ghost use Rattle.ppm_words.specs.TwosComplement.{word_of};
-ghost use Rattle.ppm_layout.specs.Opening.{array_words};
 ghost use Rattle.ppm_layout.specs.Sequence.{opening_words};
 ghost use Rattle.ppm_layout.specs.Image.{IsImageOf};
 
@@ -12,29 +10,9 @@ use crate::root::root_of;
 use crate::sequence::push_processors;
 use crate::start::Start;
 use ppm_cells::Shape;
-use ppm_code::Code;
-use ppm_words::{Input, Items, NamedArray, NoMemory, to_word};
+use ppm_code::{Code, push_arrays};
+use ppm_words::{Input, Items, NamedArray, NoMemory};
 use std::alloc::Global;
-
-/// Appends the words of an array.
-fn push_array(words: &mut Vec<u64>, values: &[i64]) -> Result<(), NoMemory>
-    ensures { OnOk result (words.new.items ≡ words.old.items ++ map word_of values.now) }
-{
-    for value in values {
-        words.push(to_word(*value))?;
-    }
-    Ok(())
-}
-
-/// Appends the words of arrays, one array after the other.
-fn push_arrays(words: &mut Vec<u64>, arrays: &[NamedArray]) -> Result<(), NoMemory>
-    ensures { OnOk result (words.new.items ≡ words.old.items ++ array_words arrays.now) }
-{
-    for array in arrays {
-        push_array(words, array.values.as_slice())?;
-    }
-    Ok(())
-}
 
 /// The lengths of arrays.
 fn lengths_of(alloc: Global, arrays: &[NamedArray]) -> Result<Vec<u32>, NoMemory>

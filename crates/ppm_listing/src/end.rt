@@ -2,7 +2,8 @@
 ghost use Rattle.std.specs.Prelude.{◌≡◌, ◌++◌, OnOk};
 ghost use Rattle.ppm_listing.specs.Tokens.{line_text};
 ghost use Rattle.ppm_listing.specs.Correct.{LineFits};
-ghost use Rattle.ppm_listing.specs.Listing.{end_line, slot_token as token_of_slot, trap_number as number_of_trap};
+ghost use Rattle.ppm_listing.specs.Listing.{end_line, slot_token as token_of_slot};
+ghost use Rattle.ppm_listing.specs.Listing.{trap_number as number_of_trap};
 
 use crate::keyword::Keyword;
 use crate::line::{number_token, push_line};

@@ -16,7 +16,8 @@ pub(crate) fn push_line(
     keyword: Keyword,
     operands: &[Token],
 ) -> Result<(), NoMemory>
-    ensures { OnOk result (text.new.items ≡ text.old.items ++ line_text (line keyword operands.now)) }
+    ensures { OnOk result (text.new.items
+        ≡ text.old.items ++ line_text (line keyword operands.now)) }
 {
     text.extend_from_slice(keyword.spelling().as_bytes())?;
     push_operands(alloc, text, operands)?;

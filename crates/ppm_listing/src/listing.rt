@@ -2,7 +2,8 @@
 ghost use Rattle.std.specs.Prelude.{◌≡◌, ◌≤◌, ◌++◌, length, map, OnOk, IfOk};
 ghost use Rattle.ppm_code.specs.Limits.{procedure_limit, capsule_limit};
 ghost use Rattle.ppm_listing.specs.Tokens.{line_text};
-ghost use Rattle.ppm_listing.specs.Listing.{listing_of, text_of, root_line, procedure_line as line_of_procedure, procedure_lines};
+ghost use Rattle.ppm_listing.specs.Listing.{listing_of, text_of, root_line};
+ghost use Rattle.ppm_listing.specs.Listing.{procedure_line as line_of_procedure, procedure_lines};
 ghost use Rattle.ppm_listing.specs.Listing.{capsule_lines, lines_of_capsule, instr_line};
 ghost use Rattle.std.specs.List.{AllByRecursion};
 ghost use Rattle.ppm_listing.specs.Correct.{LineFits, NumbersFit};
@@ -17,7 +18,8 @@ use std::alloc::Global;
 
 /// Appends the line of the root.
 fn push_root(alloc: Global, text: &mut Vec<u8>, root: u32, arrays: &[u32]) -> Result<(), NoMemory>
-    ensures text { OnOk result (text.new.items ≡ text.old.items ++ line_text (root_line root arrays.now)) }
+    ensures text { OnOk result (text.new.items
+        ≡ text.old.items ++ line_text (root_line root arrays.now)) }
     ensures fits { OnOk result (LineFits (root_line root arrays.now)) }
 {
     let mut operands = Vec::new(alloc);
@@ -38,7 +40,8 @@ fn push_procedures(
     procedures: &[Procedure],
 ) -> Result<(), NoMemory>
     requires { length procedures.now ≤ procedure_limit }
-    ensures text { OnOk result (text.new.items ≡ text.old.items ++ text_of (procedure_lines 0 procedures.now)) }
+    ensures text { OnOk result (text.new.items
+        ≡ text.old.items ++ text_of (procedure_lines 0 procedures.now)) }
     ensures fits { OnOk result (AllByRecursion LineFits (procedure_lines 0 procedures.now)) }
 {
     let mut number: u32 = 0;
@@ -58,7 +61,8 @@ fn push_procedure(
     number: u32,
     procedure: &Procedure,
 ) -> Result<(), NoMemory>
-    ensures text { OnOk result (text.new.items ≡ text.old.items ++ line_text (line_of_procedure number procedure.now)) }
+    ensures text { OnOk result (text.new.items
+        ≡ text.old.items ++ line_text (line_of_procedure number procedure.now)) }
     ensures fits { LineFits (line_of_procedure number procedure.now) }
 {
     push_line(
@@ -78,7 +82,8 @@ fn push_procedure(
 /// Appends the lines of capsules, numbered from 0 on.
 fn push_capsules(alloc: Global, text: &mut Vec<u8>, capsules: &[Capsule]) -> Result<(), NoMemory>
     requires { length capsules.now ≤ capsule_limit }
-    ensures text { OnOk result (text.new.items ≡ text.old.items ++ text_of (capsule_lines 0 capsules.now)) }
+    ensures text { OnOk result (text.new.items
+        ≡ text.old.items ++ text_of (capsule_lines 0 capsules.now)) }
     ensures fits { OnOk result (AllByRecursion LineFits (capsule_lines 0 capsules.now)) }
 {
     let mut number: u32 = 0;
@@ -98,7 +103,8 @@ fn push_capsule(
     number: u32,
     capsule: &Capsule,
 ) -> Result<(), NoMemory>
-    ensures text { OnOk result (text.new.items ≡ text.old.items ++ text_of (lines_of_capsule number capsule.now)) }
+    ensures text { OnOk result (text.new.items
+        ≡ text.old.items ++ text_of (lines_of_capsule number capsule.now)) }
     ensures fits { OnOk result (AllByRecursion LineFits (lines_of_capsule number capsule.now)) }
 {
     push_line(
@@ -117,7 +123,8 @@ fn push_capsule(
 
 /// Appends the lines of instructions.
 fn push_instrs(alloc: Global, text: &mut Vec<u8>, instrs: &[Instr]) -> Result<(), NoMemory>
-    ensures text { OnOk result (text.new.items ≡ text.old.items ++ text_of (map instr_line instrs.now)) }
+    ensures text { OnOk result (text.new.items
+        ≡ text.old.items ++ text_of (map instr_line instrs.now)) }
     ensures fits { OnOk result (AllByRecursion LineFits (map instr_line instrs.now)) }
 {
     let mut left = instrs;
@@ -146,8 +153,9 @@ pub(crate) fn push_parts(
     Ok(())
 }
 
-/// The listing of a code. `Err` only where memory is refused, which is taken in proportion to the listing.
-/// All numbers of the code fit 64 bits, so no other code has this listing (`listings_tell_codes`).
+/// The listing of a code. `Err` only where memory is refused, which is taken in proportion to the
+/// listing. All numbers of the code fit 64 bits, so no other code has this listing
+/// (`listings_tell_codes`).
 pub fn write_listing(alloc: Global, code: &Code) -> Result<Vec<u8>, NoMemory>
     ensures listing { IfOk result (λ text. text.items ≡ listing_of code.now) }
     ensures fits { OnOk result (NumbersFit code.now) }

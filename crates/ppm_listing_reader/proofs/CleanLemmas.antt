@@ -23,7 +23,7 @@ use Rattle.ppm_listing_reader.specs.Places.{may_stand, room_behind, next, standi
 use Rattle.ppm_listing_reader.specs.Faults.{is_no_line, is_no_slot, is_of, is_procedure, is_capsule_of, ends_early, is_out_of_range, is_not_forward}
 use Rattle.ppm_listing_reader.specs.Faults.{is_no_end, has_wrong_room, is_not_there}
 use Rattle.ppm_listing_reader.specs.Faults.{is_no_room_of, is_past_room, branches_badly, KeepsRules}
-use Rattle.ppm_listing_reader.proofs.NumberLemmas.{both_parts}
+use Rattle.ppm_pieces.proofs.NumberLemmas.{both_parts}
 
 yes : {A : Type 0} → true ≡ false → A
 yes h = absurd (both_ways true h refl)

@@ -27,7 +27,7 @@ use Rattle.ppm_listing_reader.specs.declared.part.Part.TheVariants as part
 use Rattle.ppm_listing_reader.specs.Forms.{is_of, are_of, sorts, token_at, is_absent, has_form, number_of, number_at, slot_of, register_with}
 use Rattle.ppm_listing_reader.specs.Forms.{register_of, register_at, constant_of, trap_of, is_register}
 use Rattle.ppm_listing_reader.specs.Forms.{constant, trapping, instr_of, part_of}
-use Rattle.ppm_listing_reader.proofs.NumberLemmas.{both_parts}
+use Rattle.ppm_pieces.proofs.NumberLemmas.{both_parts}
 use Rattle.ppm_listing_reader.proofs.WordLemmas.{word_of, IsWhole}
 
 -- a constant, or any

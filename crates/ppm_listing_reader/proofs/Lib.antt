@@ -1,5 +1,3 @@
-mod SplitLemmas
-mod NumberLemmas
 mod WordLemmas
 mod FormLemmas
 mod LineLemmas

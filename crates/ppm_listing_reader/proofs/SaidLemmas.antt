@@ -14,7 +14,7 @@ use Rattle.ppm_listing_reader.specs.declared.token.Token.TheVariants.{Name, Regi
 use Rattle.ppm_listing_reader.specs.declared.part.Part.{Part}
 use Rattle.ppm_listing_reader.specs.Tokens.{is_digit, is_numeral, value, named, keyword_of, minus, split, token_of, tokens_of}
 use Rattle.ppm_listing_reader.specs.Forms.{are_of, sorts, token_at, is_absent, is_number, has_form, number_of, part_of, part_in, line_of}
-use Rattle.ppm_listing_reader.proofs.NumberLemmas.{both_parts, value_grows, first_digit, digit_bounds}
+use Rattle.ppm_pieces.proofs.NumberLemmas.{both_parts, value_grows, first_digit, digit_bounds}
 use Rattle.ppm_listing_reader.proofs.FormLemmas.{IsProper, IsSmall, IsSmallLine, AreRight, all_rewritten, AreTokens, None_left, One_more, all_tokens}
 use Rattle.ppm_listing_reader.proofs.FormLemmas.{small_number, part_line, IsWholePart, Tells, told}
 use Rattle.ppm_listing_reader.proofs.LineLemmas.{HasText, line_written}

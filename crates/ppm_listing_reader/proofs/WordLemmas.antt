@@ -14,8 +14,8 @@ use Rattle.ppm_listing.specs.Tokens.{keyword_text, token_text}
 use Rattle.ppm_listing.specs.Correct.{Fits}
 use Rattle.ppm_listing_reader.specs.declared.token.Token.{Token}
 use Rattle.ppm_listing_reader.specs.declared.token.Token.TheVariants.{Name, Register, Number, Negative, Absent, Other}
-use Rattle.ppm_listing_reader.specs.Tokens.{is_digit, is_numeral, value, token_limit, spelled, keywords, keyword_of, named, minus, token_of}
-use Rattle.ppm_listing_reader.proofs.NumberLemmas.{both_parts, decimal-value, numeral-decimal, value-decimal, first_digit, digit_bounds}
+use Rattle.ppm_listing_reader.specs.Tokens.{is_digit, is_numeral, value, value_limit, spelled, keywords, keyword_of, named, minus, token_of}
+use Rattle.ppm_pieces.proofs.NumberLemmas.{both_parts, decimal-value, numeral-decimal, value-decimal, first_digit, digit_bounds}
 
 -- the word of a token
 abbrev pub word_of : Token → List ℕ
@@ -29,9 +29,9 @@ word_of Other = []
 -- a token that tells its word: its number is not cut off
 abbrev pub IsWhole : Token → Type 0
 IsWhole (Name k) = Unit {0}
-IsWhole (Register n) = n < token_limit
-IsWhole (Number n) = n < token_limit
-IsWhole (Negative n) = n < token_limit
+IsWhole (Register n) = n < value_limit
+IsWhole (Number n) = n < value_limit
+IsWhole (Negative n) = n < value_limit
 IsWhole Absent = Unit {0}
 IsWhole Other = ⊥
 

@@ -30,7 +30,7 @@ use Rattle.ppm_listing_reader.specs.Tokens.{in_front, split, token_of, tokens_of
 use Rattle.ppm_listing_reader.specs.declared.form.Sort.TheVariants as sort
 use Rattle.ppm_listing_reader.specs.Forms.{is_of, is_number, has_form, number_of, register_with, register_of, constant_of, is_register, constant}
 use Rattle.ppm_listing_reader.specs.Forms.{instr_of, part_of, part_in, line_of, lines_in, lines_of}
-use Rattle.ppm_listing_reader.proofs.NumberLemmas.{both_parts}
+use Rattle.ppm_pieces.proofs.NumberLemmas.{both_parts}
 use Rattle.ppm_listing_reader.proofs.WordLemmas.{read_as, token_of-token_text}
 use Rattle.ppm_listing_reader.proofs.FormLemmas.{IsSmall, small_limit, IsSmallLine, IsWholePart, part_line}
 

@@ -2,21 +2,13 @@
 use Rattle.std.specs.Prelude.{ℕ, ◌+◌, ◌-◌, ◌*◌, ◌^◌, ◌==◌, min, Bool, true, false, not, ◌&&◌, nat_le, if◌then◌else◌, List, [], ◌∷◌, map, Option, Some, None}
 use Rattle.std.specs.List.{list_all}
 use Rattle.std.specs.Str.{bytes_eq}
+pub use Rattle.ppm_pieces.specs.Pieces.{in_front, split}
+pub use Rattle.ppm_pieces.specs.Numbers.{is_digit, is_empty, is_numeral, value_from, value, value_limit}
 use Rattle.ppm_listing.specs.declared.keyword.Keyword.{Keyword}
 use Rattle.ppm_listing.specs.declared.keyword.Keyword.TheVariants as keyword
 use Rattle.ppm_listing.specs.Tokens.{keyword_text}
 use Rattle.ppm_listing_reader.specs.declared.token.Token.{Token}
 use Rattle.ppm_listing_reader.specs.declared.token.Token.TheVariants.{Name, Register, Number, Negative, Absent, Other}
-
--- a byte more in front of the first of some pieces
-abbrev pub in_front : ℕ → List (List ℕ) → List (List ℕ)
-in_front b [] = (b ∷ []) ∷ []
-in_front b (p ∷ ps) = (b ∷ p) ∷ ps
-
--- the pieces of a text between the bytes that separate them: one more than there are of these
-abbrev pub split : (separator : ℕ) → List ℕ → List (List ℕ)
-split separator [] = [] ∷ []
-split separator (b ∷ bs) = if b == separator then [] ∷ split separator bs else in_front b (split separator bs)
 
 -- all keywords
 abbrev pub keywords : List Keyword
@@ -36,32 +28,6 @@ spelled (k ∷ ks) bytes = if bytes_eq (keyword_text k) bytes then Some k else s
 -- the keyword of this spelling
 unfoldable pub keyword_of : List ℕ → Option Keyword
 keyword_of bytes = spelled keywords bytes
-
--- a decimal digit
-abbrev pub is_digit : ℕ → Bool
-is_digit b = nat_le 48 b && nat_le b 57
-
-abbrev pub is_empty : {A : Type 0} → List A → Bool
-is_empty [] = true
-is_empty (x ∷ xs) = false
-
--- the one spelling of a number: digits, one at least, and no zero in front of others
-abbrev pub is_numeral : List ℕ → Bool
-is_numeral [] = false
-is_numeral (d ∷ ds) = if d == 48 then is_empty ds else list_all is_digit (d ∷ ds)
-
--- the number that digits stand for, behind one that came before
-abbrev pub value_from : ℕ → List ℕ → ℕ
-value_from before [] = before
-value_from before (d ∷ ds) = value_from (before * 10 + (d - 48)) ds
-
--- the largest number that a token stands for, past every range
-abbrev pub token_limit : ℕ
-token_limit = 2 ^ 64 - 1
-
--- the number of digits; one past the largest stands as that
-abbrev pub value : List ℕ → ℕ
-value ds = min (value_from 0 ds) token_limit
 
 -- the token of a keyword, if it is one
 abbrev pub named : Option Keyword → Token

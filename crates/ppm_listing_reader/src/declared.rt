@@ -1,6 +1,8 @@
 //! The code that lines declare.
 ghost use Rattle.std.specs.Prelude.{◌≡◌, IfOk};
-ghost use Rattle.ppm_listing_reader.specs.Places.{root_in, arrays_in, procedures_in, instrs_in, capsules_in, instr_or_end as whole_or_end, code_in};
+ghost use Rattle.ppm_listing_reader.specs.Places.{root_in, arrays_in, procedures_in, instrs_in};
+ghost use Rattle.ppm_listing_reader.specs.Places.{capsules_in, instr_or_end as whole_or_end};
+ghost use Rattle.ppm_listing_reader.specs.Places.{code_in};
 
 use crate::part::Part;
 use ppm_code::{Capsule, CodeParts, End, Instr, Procedure};

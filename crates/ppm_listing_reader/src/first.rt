@@ -1,6 +1,7 @@
 //! The first fault of some lines.
 ghost use Rattle.std.specs.Prelude.{◌≡◌, ◌+◌, ◌<◌, ◌^◌, MatchOption, Some, length};
-ghost use Rattle.ppm_listing_reader.specs.Faults.{IsLeastRule, IsFirstBreak, KeepsRules, ends_early as is_early};
+ghost use Rattle.ppm_listing_reader.specs.Faults.{IsLeastRule, IsFirstBreak, KeepsRules};
+ghost use Rattle.ppm_listing_reader.specs.Faults.{ends_early as is_early};
 ghost use Rattle.ppm_listing_reader.specs.declared.listing_error.Fault.TheVariants.{NotThere};
 ghost use Rattle.ppm_listing_reader.specs.declared.place.Place.TheVariants.{AtVersion};
 

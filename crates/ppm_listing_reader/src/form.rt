@@ -2,7 +2,8 @@
 ghost use Rattle.std.specs.Prelude.{◌≡◌};
 ghost use Rattle.std.specs.List.{list_all};
 ghost use Rattle.ppm_listing.specs.declared.keyword.Keyword.TheVariants as keyword;
-ghost use Rattle.ppm_listing_reader.specs.Forms.{is_of as is_of_sort, are_of as are_of_sorts, has_form as is_form, is_number as is_number_token};
+ghost use Rattle.ppm_listing_reader.specs.Forms.{is_of as is_of_sort, are_of as are_of_sorts};
+ghost use Rattle.ppm_listing_reader.specs.Forms.{has_form as is_form, is_number as is_number_token};
 ghost use Rattle.ppm_listing_reader.specs.Forms.{is_absent as is_absent_token, token_at as at};
 
 use crate::token::Token;

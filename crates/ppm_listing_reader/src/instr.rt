@@ -1,6 +1,7 @@
 //! The instructions of lines.
 ghost use Rattle.std.specs.Prelude.{◌≡◌};
-ghost use Rattle.ppm_listing_reader.specs.Forms.{instr_of as of_line, constant as constant_instr, trapping as trapping_instr};
+ghost use Rattle.ppm_listing_reader.specs.Forms.{instr_of as of_line, constant as constant_instr};
+ghost use Rattle.ppm_listing_reader.specs.Forms.{trapping as trapping_instr};
 
 use crate::form::token_at;
 use crate::operand::{constant_of, number_at, register_at, slot_of, trap_of};

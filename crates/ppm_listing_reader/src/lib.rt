@@ -1,19 +1,20 @@
 //! The code of a listing: its reader, with the first fault of a text that is none.
-//! Model: a text is a list of lines, each of a form or of none; a fault is a rule that one line breaks at its place
-//! by what the whole text declares (`specs/Forms`, `specs/Places`, `specs/Faults`).
-//! Contract: `read_listing` answers the code whose listing the text is, or its first fault (`specs/Correct`).
+//! Model: a text is a list of lines, each of a form or of none; a fault is a rule that one line
+//! breaks at its place by what the whole text declares (`specs/Forms`, `specs/Places`,
+//! `specs/Faults`).
+//! Contract: `read_listing` answers the code whose listing the text is, or its first fault
+//! (`specs/Correct`).
 //! Stands on `ppm_listing`; `ppm_checking` calls it.
-//! After the input of an assembler, one line an instruction; the forms and faults are this project's.
+//! After the input of an assembler, one line an instruction; the forms and faults are this
+//! project's.
 #![tactic(auto)]
 
-mod cut;
 mod declared;
 mod first;
 mod form;
 mod instr;
 mod laws;
 mod listing_error;
-mod number;
 mod operand;
 mod outline;
 mod part;

@@ -1,6 +1,7 @@
 //! Why a text is no listing.
 ghost use Rattle.std.specs.Prelude.{◌≡◌};
-ghost use Rattle.ppm_listing_reader.specs.ErrorNumbers.{fault_number, number_of, line_of, refusal_at};
+ghost use Rattle.ppm_listing_reader.specs.ErrorNumbers.{fault_number, number_of, line_of};
+ghost use Rattle.ppm_listing_reader.specs.ErrorNumbers.{refusal_at};
 
 use ppm_words::NoMemory;
 use std::alloc::{AllocError, AllocFailed};
@@ -29,7 +30,8 @@ pub enum ListingError {
     /// The line has no form that may stand there.
     #[error("line {0} has no form that may stand there")]
     NoSuchForm(u32),
-    /// A number is out of its range: a register, a slot, an array, a trap, a line, a constant, or words of room.
+    /// A number is out of its range: a register, a slot, an array, a trap, a line, a constant, or
+    /// words of room.
     #[error("a number in line {0} is out of its range")]
     OutOfRange(u32),
     /// A branch does not lead forward to an instruction of its capsule.
@@ -41,7 +43,8 @@ pub enum ListingError {
     /// Room is not asked for by the first instruction alone, or not as much as the line takes.
     #[error("line {0} breaks the rule on room")]
     WrongRoom(u32),
-    /// What is named is not there, or of another procedure; or there are too many of something, or no capsule at all.
+    /// What is named is not there, or of another procedure; or there are too many of something, or
+    /// no capsule at all.
     #[error("line {0} names what is not there, or is one too many")]
     NotThere(u32),
     /// Memory was refused.

@@ -1,8 +1,11 @@
 //! What tokens name: numbers, slots, registers, constants and traps.
 ghost use Rattle.std.specs.Prelude.{◌≡◌, ◌-◌, ◌^◌, min};
 ghost use Rattle.std.specs.List.{list_all};
-ghost use Rattle.ppm_listing_reader.specs.Forms.{number_of as of_number, number_at as at_number, slot_of as of_slot, register_of as of_register};
-ghost use Rattle.ppm_listing_reader.specs.Forms.{register_at as at_register, constant_of as of_constant, trap_of as of_trap, is_register as is_register_token};
+ghost use Rattle.ppm_listing_reader.specs.Forms.{number_of as of_number, number_at as at_number};
+ghost use Rattle.ppm_listing_reader.specs.Forms.{slot_of as of_slot, register_of as of_register};
+ghost use Rattle.ppm_listing_reader.specs.Forms.{register_at as at_register};
+ghost use Rattle.ppm_listing_reader.specs.Forms.{constant_of as of_constant, trap_of as of_trap};
+ghost use Rattle.ppm_listing_reader.specs.Forms.{is_register as is_register_token};
 
 use crate::form::token_at;
 use crate::token::Token;

@@ -18,8 +18,8 @@ pub struct Head {
     lines: u32,
 }
 
-/// What lines declare, as far as the rules of a line ask for it: the procedures, and the heads of the capsules. Contracts
-/// see it as a code with ends for all instructions.
+/// What lines declare, as far as the rules of a line ask for it: the procedures, and the heads of
+/// the capsules. Contracts see it as a code with ends for all instructions.
 #[derive(Debug, Drop)]
 pub struct Outline {
     procedures: Vec<Procedure>,
@@ -41,8 +41,8 @@ impl Model for Outline {
     } };
 }
 
-/// The last capsule has one line more. `Err` where memory is refused, or the lines are more than 2^32 - 1, which no text
-/// of a listing's bytes has.
+/// The last capsule has one line more. `Err` where memory is refused, or the lines are more than
+/// 2^32 - 1, which no text of a listing's bytes has.
 fn lengthen(heads: &mut Vec<Head>) -> Result<(), NoMemory>
     ensures { OnOk result (map blank heads.new.items ≡ longer (map blank heads.old.items)) }
 {

@@ -2,7 +2,9 @@
 ghost use Rattle.std.specs.Prelude.{◌≡◌, map, IfOk, None, if◌then◌else◌};
 ghost use Rattle.std.specs.List.{list_all};
 ghost use Rattle.ppm_listing.specs.declared.keyword.Keyword.TheVariants as keyword;
-ghost use Rattle.ppm_listing_reader.specs.Forms.{number_of as of_number, part_of as of_keyword, part_in as of_tokens, line_of, instr_of as of_line, is_register};
+ghost use Rattle.ppm_listing_reader.specs.Forms.{number_of as of_number, part_of as of_keyword};
+ghost use Rattle.ppm_listing_reader.specs.Forms.{part_in as of_tokens, line_of};
+ghost use Rattle.ppm_listing_reader.specs.Forms.{instr_of as of_line, is_register};
 
 use crate::form::has_form;
 use crate::instr::instr_of;
@@ -57,7 +59,8 @@ fn root(alloc: Global, tokens: &[Token]) -> Result<Part, NoMemory>
 
 /// The instruction of a line, where all that it names is there.
 fn whole_instr(keyword: Keyword, tokens: &[Token]) -> Option<Instr>
-    ensures { result ≡ (if list_all is_register tokens.now then of_line keyword tokens.now else None) }
+    ensures { result
+        ≡ (if list_all is_register tokens.now then of_line keyword tokens.now else None) }
 {
     if are_registers(tokens) {
         instr_of(keyword, tokens)

@@ -1,7 +1,9 @@
 //! Where a line stands.
 ghost use Rattle.std.specs.Prelude.{◌≡◌, ◌==◌, ◌+◌, ◌<◌, ◌^◌, None};
 ghost use Rattle.ppm_listing_reader.specs.declared.place.Place.TheVariants.{Within};
-ghost use Rattle.ppm_listing_reader.specs.Places.{may_stand as may, standing as stands, asked as is_asked, room_behind as behind, next as place_behind, counted};
+ghost use Rattle.ppm_listing_reader.specs.Places.{may_stand as may, standing as stands};
+ghost use Rattle.ppm_listing_reader.specs.Places.{asked as is_asked, room_behind as behind};
+ghost use Rattle.ppm_listing_reader.specs.Places.{next as place_behind, counted};
 
 use crate::part::Part;
 use ppm_code::Instr;

@@ -6,7 +6,7 @@ ghost use Rattle.ppm_listing_reader.specs.Fronts.{breaks_alone as alone, HasRead
 use crate::outline::Outline;
 use crate::part::Part;
 use crate::place::Place;
-use ppm_words::NoMemory;
+use ppm_words::{CAPSULE_LIMIT, NoMemory, PROCEDURE_LIMIT};
 use std::alloc::Global;
 
 /// What is kept of lines: no more of them than a listing may have, and what all declare.
@@ -27,8 +27,8 @@ fn breaks_alone(place: Place, line: &Option<Part>) -> bool
 {
     match line {
         None => true,
-        Some(Part::Procedure { number, .. }) => *number >= 1024,
-        Some(Part::Capsule { number, .. }) => *number >= 65_535,
+        Some(Part::Procedure { number, .. }) => *number >= PROCEDURE_LIMIT,
+        Some(Part::Capsule { number, .. }) => *number >= CAPSULE_LIMIT,
         Some(Part::Instr(_)) => match place {
             Place::Within { at, .. } => at >= 160,
             Place::AtVersion | Place::AtRoot | Place::AtProcedure { .. } => false,
@@ -39,7 +39,8 @@ fn breaks_alone(place: Place, line: &Option<Part>) -> bool
 
 /// Keeps a line, unless one before it is broken.
 fn keep(kept: &mut Vec<Option<Part>>, is_broken: bool, line: Option<Part>) -> Result<(), NoMemory>
-    ensures { OnOk result (kept.new.items ≡ (if is_broken then kept.old.items else (kept.old.items ++ line ∷ []))) }
+    ensures { OnOk result (kept.new.items
+        ≡ (if is_broken then kept.old.items else (kept.old.items ++ line ∷ []))) }
 {
     if is_broken {
         return Ok(());

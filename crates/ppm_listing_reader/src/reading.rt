@@ -1,15 +1,16 @@
 //! Reads listings.
-ghost use Rattle.std.specs.Prelude.{◌≡◌, ◌≤◌, ◌<◌, nat_lt, length, is_some, false, if◌then◌else◌, IfOk, IfErr};
+ghost use Rattle.std.specs.Prelude.{◌≡◌, ◌≤◌, ◌<◌, nat_lt, length, is_some, false, if◌then◌else◌};
+ghost use Rattle.std.specs.Prelude.{IfOk, IfErr};
 ghost use Rattle.ppm_listing.specs.Listing.{listing_of};
 ghost use Rattle.ppm_listing.specs.Correct.{NumbersFit};
 ghost use Rattle.ppm_listing_reader.specs.Limits.{text_limit};
 ghost use Rattle.ppm_listing_reader.specs.Places.{standing};
 ghost use Rattle.ppm_listing_reader.specs.declared.place.Place.TheVariants.{AtVersion};
-ghost use Rattle.ppm_listing_reader.specs.declared.listing_error.ListingError.TheVariants.{NotThere, NoSuchForm};
+ghost use Rattle.ppm_listing_reader.specs.declared.listing_error.ListingError.TheVariants.{NotThere};
+ghost use Rattle.ppm_listing_reader.specs.declared.listing_error.ListingError.TheVariants.{NoSuchForm};
 ghost use Rattle.ppm_listing_reader.specs.Correct.{IsRefusal, standing_of};
 ghost use Rattle.ppm_listing_reader.specs.Fronts.{HasRead};
 
-use crate::cut::cut;
 use crate::declared::declared;
 use crate::first::first_fault;
 use crate::listing_error::ListingError;
@@ -18,6 +19,7 @@ use crate::place::Place;
 use crate::reader::Reader;
 use crate::token::Token;
 use ppm_code::Code;
+use ppm_pieces::split_once;
 use ppm_words::NoMemory;
 use std::alloc::Global;
 
@@ -33,7 +35,7 @@ fn read_lines(alloc: Global, text: &[u8]) -> Result<Reader, NoMemory>
     let mut reader = Reader::new(alloc);
     let mut tokens = Vec::new(alloc);
     let mut left = text;
-    while let Some((bytes, rest)) = cut(left, 10) {
+    while let Some((bytes, rest)) = split_once(left, b'\n') {
         reader.take(read_line(alloc, bytes, &mut tokens)?)?;
         left = rest;
     }
@@ -66,7 +68,7 @@ fn too_long(alloc: Global, text: &[u8]) -> Result<ListingError, NoMemory>
     requires { text_limit < length text.now }
     ensures { IfOk result (IsRefusal text.now) }
 {
-    match cut(text, 10) {
+    match split_once(text, b'\n') {
         Some((bytes, _)) => {
             let line = read_line(alloc, bytes, &mut Vec::new(alloc))?;
             Ok(too_long_by(line))
@@ -75,11 +77,12 @@ fn too_long(alloc: Global, text: &[u8]) -> Result<ListingError, NoMemory>
     }
 }
 
-/// Whether the first line of a text stands, if it has a whole one. Where it does not, the rest need not be read.
+/// Whether the first line of a text stands, if it has a whole one. Where it does not, the rest need
+/// not be read.
 fn begins(alloc: Global, text: &[u8]) -> Result<bool, NoMemory>
     ensures { IfOk result (λ stands. stands ≡ false → IsRefusal text.now (NoSuchForm 1)) }
 {
-    match cut(text, 10) {
+    match split_once(text, b'\n') {
         Some((bytes, _)) => {
             let line = read_line(alloc, bytes, &mut Vec::new(alloc))?;
             Ok(Place::AtVersion.standing(line).is_some())
@@ -88,8 +91,8 @@ fn begins(alloc: Global, text: &[u8]) -> Result<bool, NoMemory>
     }
 }
 
-/// The code of a listing. `Err` with the first fault of a text that is none, or where memory is refused: no more lines are
-/// kept than the largest code has.
+/// The code of a listing. `Err` with the first fault of a text that is none, or where memory is
+/// refused: no more lines are kept than the largest code has.
 pub fn read_listing(alloc: Global, text: &[u8]) -> Result<Code, ListingError>
     ensures ok { IfOk result (λ code. text.now ≡ listing_of code) }
     ensures fits { IfOk result (λ code. NumbersFit code) }

@@ -1,6 +1,7 @@
 //! The rules of a listing, each a test of one line at its place.
 ghost use Rattle.std.specs.Prelude.{◌≡◌, ◌&&◌, ◌==◌, ◌+◌, ◌<◌, ◌^◌, nat_lt, nat_le, length, not};
-ghost use Rattle.ppm_code.specs.Sizes.{slots_of as slots_in_code, frame_size as frame_words, fork_size as fork_words};
+ghost use Rattle.ppm_code.specs.Sizes.{slots_of as slots_in_code, frame_size as frame_words};
+ghost use Rattle.ppm_code.specs.Sizes.{fork_size as fork_words};
 ghost use Rattle.ppm_code.specs.Strands.{instrs_of};
 ghost use Rattle.ppm_listing_reader.specs.Faults as rule;
 ghost use Rattle.std.specs.List.{list_any};
@@ -10,6 +11,7 @@ use crate::outline::Outline;
 use crate::part::Part;
 use crate::place::Place;
 use ppm_code::{End, Instr};
+use ppm_words::{CAPSULE_LIMIT, PROCEDURE_LIMIT, ROOM_LIMIT};
 
 /// Whether a line of the source is out of range.
 fn is_no_line(line: u32) -> bool
@@ -86,7 +88,7 @@ fn instr_out_of_range(code: &Outline, procedure: u32, instr: Instr) -> bool
         Instr::LoadSlot { slot, .. } | Instr::StoreCur { slot, .. } => {
             code.slots_of(procedure) <= slot
         }
-        Instr::Room { words } => words == 0 || words > 1_048_576,
+        Instr::Room { words } => words == 0 || words > ROOM_LIMIT,
         Instr::Ends(end) => end_out_of_range(code, procedure, end),
         Instr::Const { .. }
         | Instr::Move { .. }
@@ -118,7 +120,8 @@ fn any_past_limit(arrays: &[u32]) -> bool
 
 /// Whether the root has more arrays than its procedure slots.
 fn is_too_many(code: &Outline, procedure: u32, arrays: &[u32]) -> bool
-    ensures { result ≡ (rule.is_procedure code.now procedure && nat_lt (slots_in_code code.now procedure) (length arrays.now)) }
+    ensures { result
+        ≡ (rule.is_procedure code.now procedure && nat_lt (slots_in_code code.now procedure) (length arrays.now)) }
 {
     code.is_procedure(procedure) && (code.slots_of(procedure) as usize) < arrays.len()
 }
@@ -189,7 +192,8 @@ pub(crate) fn is_not_forward(code: &Outline, place: Place, part: &Part) -> bool
 
 /// Whether an instruction is the last of its capsule and no end.
 fn is_last_without_end(code: &Outline, capsule: u32, at: u32, instr: Instr) -> bool
-    ensures { result ≡ ((at + 1 == length (instrs_of code.now capsule)) && not (rule.is_end instr)) }
+    ensures { result
+        ≡ ((at + 1 == length (instrs_of code.now capsule)) && not (rule.is_end instr)) }
 {
     at as usize + 1 == code.instr_count(capsule) && !is_end(instr)
 }
@@ -330,10 +334,10 @@ pub(crate) fn is_not_there(code: &Outline, place: Place, part: &Part) -> bool
         Part::Version => false,
         Part::Root { procedure, .. } => !code.is_procedure(*procedure),
         Part::Procedure { number, entry, .. } => {
-            *number >= 1024 || !code.is_capsule_of(*number, *entry)
+            *number >= PROCEDURE_LIMIT || !code.is_capsule_of(*number, *entry)
         }
         Part::Capsule { number, procedure } => {
-            *number >= 65_535 || !code.is_procedure(*procedure)
+            *number >= CAPSULE_LIMIT || !code.is_procedure(*procedure)
         }
         Part::Instr(instr) => match place {
             Place::Within { procedure, at, .. } => line_not_there(code, procedure, at, *instr),

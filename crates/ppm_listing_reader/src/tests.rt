@@ -13,7 +13,8 @@ const FOUR_SLOTS: &str = "ppm 1\nroot 0\nproc 0 slots 4 entry 0\ncapsule 0 proc 
 
 const ONE_SLOT: &str = "ppm 1\nroot 0\nproc 0 slots 1 entry 0\ncapsule 0 proc 0\n";
 
-/// What follows the first of these, with the number and the line of the first fault; both 0 where there is none.
+/// What follows the first of these, with the number and the line of the first fault; both 0 where
+/// there is none.
 const OF_FOUR_SLOTS: [(&'static str, u32, u32); 93] = [
     ("loadslot r0 3\nbranchz r0 3\nstorecur 3 r0\nend\n", 0, 0),
     (
@@ -256,7 +257,8 @@ const TEXTS: [(&'static str, u32, u32); 26] = [
     ),
 ];
 
-/// What follows the first where a line has no form: those behind it still declare what those before it name. A line of many words.
+/// What follows the first where a line has no form: those behind it still declare what those before
+/// it name. A line of many words.
 const BROKEN: [(&'static str, u32, u32); 8] = [
     ("next 1\nfoo\nend\ncapsule 1 proc 0\nend\n", 1, 6),
     ("next 1\nfoo\nend\ncapsule 1 proc 1\nend\n", 6, 5),
@@ -292,7 +294,8 @@ const BROKEN_TEXTS: [(&'static str, u32, u32); 4] = [
     ),
 ];
 
-/// The number and the line of the first fault; both 0 where the text is a listing, which is then written again.
+/// The number and the line of the first fault; both 0 where the text is a listing, which is then
+/// written again.
 fn reads(rt: &impl Abort, alloc: Global, text: &[u8], number: u32, line: u32) -> Result<(), Fail> {
     match read_listing(alloc, text) {
         Ok(code) => {
@@ -341,7 +344,8 @@ fn lines_behind_a_broken_one_declare(rt: HostRuntime) -> Result<(), Fail> {
     for (text, number, line) in BROKEN_TEXTS {
         reads(&rt, alloc, text.as_bytes(), number, line)?;
     }
-    // two lines and 160 more in one capsule: a branch may lead to the last of them, and not behind it
+    // two lines and 160 more in one capsule: a branch may lead to the last of them, and not behind
+    // it
     for (target, number, line) in [(161, 1, 6), (162, 3, 5)] {
         let mut text = format!(in alloc; "{FOUR_SLOTS}branchz r0 {target}\nfoo\n")?;
         for _ in 0..160 {
@@ -422,8 +426,9 @@ fn there_are_65535_capsules_at_most(rt: HostRuntime) -> Result<(), Fail> {
     Ok(())
 }
 
-/// No listing has so many bytes: a full one has fewer. A text of the limit has the fault that it would have with more; with
-/// a byte more it is told at its first line. A test of 512 MiB would be one of memory.
+/// No listing has so many bytes: a full one has fewer. A text of the limit has the fault that it
+/// would have with more; with a byte more it is told at its first line. A test of 512 MiB would be
+/// one of memory.
 #[test]
 fn a_text_has_536870912_bytes_at_most(rt: HostRuntime) {
     for (bytes, want) in [(0, false), (536_870_912, false), (536_870_913, true)] {

@@ -1,16 +1,17 @@
 //! The tokens of a line as they are written, with numbers of any size.
 ghost use Rattle.std.specs.Prelude.{◌≡◌, OnOk};
 ghost use Rattle.std.specs.Str.{bytes_eq};
-ghost use Rattle.ppm_listing_reader.specs.Tokens.{spelled, keyword_of, named as named_token, minus as minus_token, token_of};
+ghost use Rattle.ppm_listing_reader.specs.Tokens.{spelled, keyword_of, named as named_token};
+ghost use Rattle.ppm_listing_reader.specs.Tokens.{minus as minus_token, token_of};
 ghost use Rattle.ppm_listing_reader.specs.Forms.{part_in, line_of, may_go_on as goes_on};
 
-use crate::cut::cut;
-use crate::number::{is_digit, is_numeral, value};
 use ppm_listing::Keyword;
+use ppm_pieces::{is_digit, is_numeral, split_once, value};
 use ppm_words::NoMemory;
 use std::alloc::Global;
 
-/// What stands between two spaces of a line. A number past 2^64 - 1 stands as that one: no range goes so far.
+/// What stands between two spaces of a line. A number past 2^64 - 1 stands as that one: no range
+/// goes so far.
 #[derive(Clone, Copy, Debug)]
 pub enum Token {
     /// A keyword.
@@ -110,7 +111,7 @@ fn minus(bytes: &[u8]) -> Token
     match bytes {
         [] => Token::Absent,
         [first, ..] => {
-            if is_numeral(bytes) && !(*first == 48) {
+            if is_numeral(bytes) && !(*first == b'0') {
                 Token::Negative(value(bytes))
             } else {
                 Token::Other
@@ -126,7 +127,7 @@ fn token_in(word: &[u8]) -> Token
     match word {
         [] => Token::Other,
         [first, rest @ ..] => {
-            if *first == 45 {
+            if *first == b'-' {
                 minus(rest)
             } else if is_digit(*first) {
                 if is_numeral(word) {
@@ -134,7 +135,7 @@ fn token_in(word: &[u8]) -> Token
                 } else {
                     Token::Other
                 }
-            } else if *first == 114 && is_numeral(rest) {
+            } else if *first == b'r' && is_numeral(rest) {
                 Token::Register(value(rest))
             } else {
                 named(keyword(word))
@@ -163,7 +164,7 @@ pub(crate) fn read_tokens(
 {
     tokens.clear();
     let mut left = line;
-    while let Some((word, rest)) = cut(left, 32) {
+    while let Some((word, rest)) = split_once(left, b' ') {
         let token = token_in(word);
         if tokens.len() >= 8 && !may_go_on(tokens, token) {
             tokens.clear();

@@ -1,8 +1,12 @@
 //! That the machine begins as the depth-first run does; laws alone.
-//! Model: an image (`ppm_layout`), and the strand and words with which the depth-first run begins (`ppm_depth`).
-//! Contract: the frame at the keeper's place shows that strand, and the array words are those words.
-//! Stands on `ppm_layout` and `ppm_depth`, so that neither stands on the other; the machine's runs are to start from it.
-//! After the root of a fork-join computation in Blelloch et al., SPAA 2018; images are this project's.
+//! Model: an image (`ppm_layout`), and the strand and words with which the depth-first run begins
+//! (`ppm_depth`).
+//! Contract: the frame at the keeper's place shows that strand, and the array words are those
+//! words.
+//! Stands on `ppm_layout` and `ppm_depth`, so that neither stands on the other; the machine's runs
+//! are to start from it.
+//! After the root of a fork-join computation in Blelloch et al., SPAA 2018; images are this
+//! project's.
 #![tactic(auto)]
 
 mod laws;

@@ -1,5 +1,3 @@
-mod CutLemmas
-mod NumberLemmas
 mod DrawLemmas
 mod SourceLemmas
 mod ReadingLemmas

@@ -5,8 +5,8 @@ use Rattle.std.proofs.lemmas.Option.{none-some}
 use Rattle.ppm_plan.specs.declared.fault.Fault.{Fault}
 use Rattle.ppm_plan.specs.declared.fault.Fault.TheVariants.{Soft, Hard}
 use Rattle.ppm_plan.specs.declared.plan_item.PlanItem.{PlanItem}
-use Rattle.ppm_plan.specs.Pieces.{halves_of}
-use Rattle.ppm_plan.specs.Numbers.{number_of}
+use Rattle.ppm_pieces.specs.Pieces.{halves_of}
+use Rattle.ppm_pieces.specs.Numbers.{number_of}
 use Rattle.ppm_plan.specs.Items.{letter_of, plan_item_text, FitsPlanItem, ended_at, ended_by, timed, or_else, timed_by, timed_halves, plan_item_of}
 use Rattle.ppm_plan.proofs.SpellingLemmas.{same_there, number_read, number_back, lacks, decimal_lacks, both_lack, halves_at, no_halves, halves_back}
 

@@ -7,11 +7,11 @@ use Rattle.ppm_plan.specs.declared.fault.Fault.{Fault}
 use Rattle.ppm_plan.specs.declared.fault.Fault.TheVariants.{Soft, Hard}
 use Rattle.ppm_plan.specs.declared.schedule_item.ScheduledAct.TheVariants.{Step, Fails}
 use Rattle.ppm_plan.specs.declared.schedule_item.ScheduleItem.{ScheduleItem}
-use Rattle.ppm_plan.specs.Pieces.{halves_of}
-use Rattle.ppm_plan.specs.Numbers.{is_digit, number_of}
+use Rattle.ppm_pieces.specs.Pieces.{halves_of}
+use Rattle.ppm_pieces.specs.Numbers.{is_digit, number_of}
 use Rattle.ppm_plan.specs.Items.{letter_of, most_times, act_text, FitsAct, WritesScheduleItem, Once, Times, fault_of, stepping, stepping_at, steps_of}
 use Rattle.ppm_plan.specs.Items.{times_in_range, steps_times, repeated, failing, failing_or_steps, schedule_item_of}
-use Rattle.ppm_plan.proofs.NumberLemmas.{both_parts}
+use Rattle.ppm_pieces.proofs.NumberLemmas.{both_parts}
 use Rattle.ppm_plan.proofs.SpellingLemmas.{same_there, number_read, number_back, lacks, decimal_lacks, both_lack, halves_at, no_halves, halves_back}
 
 -- a step with a fixed number of times

@@ -6,9 +6,9 @@ use Rattle.std.proofs.lemmas.Option.{none-some}
 use Rattle.std.proofs.lemmas.List.Folds.{list_all-append}
 use Rattle.std.specs.Cmp.Derive.{both_true}
 use Rattle.std.specs.List.{list_all}
-use Rattle.ppm_plan.specs.Pieces.{halves_of, more_in_front}
-use Rattle.ppm_plan.specs.Numbers.{is_digit, is_numeral, value, number_of}
-use Rattle.ppm_plan.proofs.NumberLemmas.{both_parts, decimal-value, numeral-decimal, value-decimal, numeral_parts}
+use Rattle.ppm_pieces.specs.Pieces.{halves_of, more_in_front}
+use Rattle.ppm_pieces.specs.Numbers.{is_digit, is_numeral, value, number_of}
+use Rattle.ppm_pieces.proofs.NumberLemmas.{both_parts, decimal-value, numeral-decimal, value-decimal, numeral_parts}
 
 -- what is there, or else something
 pub there_or : {A : Type 0} → A → Option A → A

@@ -5,11 +5,11 @@ use Rattle.std.proofs.lemmas.Bool.{both_ways}
 use Rattle.std.proofs.lemmas.Option.{none-some}
 use Rattle.std.proofs.lemmas.Slice.Eq.{bytes_eq-Decides}
 use Rattle.std.specs.Str.{bytes_eq}
-use Rattle.ppm_plan.specs.Pieces.{in_front, split}
+use Rattle.ppm_pieces.specs.Pieces.{in_front, split}
 use Rattle.ppm_plan.specs.Forms.{Form}
 use Rattle.ppm_plan.specs.Refusals.{HasItems}
 use Rattle.ppm_plan.specs.Spellings.{WritesInTurn, Last, More, WritesAll}
-use Rattle.ppm_plan.proofs.NumberLemmas.{both_parts}
+use Rattle.ppm_pieces.proofs.NumberLemmas.{both_parts}
 use Rattle.ppm_plan.proofs.SpellingLemmas.{lacks}
 
 -- the first of a list, if there is one, and those behind it

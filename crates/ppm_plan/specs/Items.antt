@@ -6,8 +6,8 @@ use Rattle.ppm_plan.specs.declared.plan_item.PlanItem.{PlanItem}
 use Rattle.ppm_plan.specs.declared.schedule_item.ScheduledAct.{ScheduledAct}
 use Rattle.ppm_plan.specs.declared.schedule_item.ScheduledAct.TheVariants.{Step, Fails}
 use Rattle.ppm_plan.specs.declared.schedule_item.ScheduleItem.{ScheduleItem}
-use Rattle.ppm_plan.specs.Pieces.{halves_of}
-use Rattle.ppm_plan.specs.Numbers.{number_of}
+use Rattle.ppm_pieces.specs.Pieces.{halves_of}
+use Rattle.ppm_pieces.specs.Numbers.{number_of}
 
 -- the letter of a fault
 abbrev pub letter_of : Fault → ℕ

@@ -1,5 +1,4 @@
 pub mod Pieces
-pub mod Numbers
 pub mod Items
 pub mod Forms
 pub mod Refusals

@@ -1,8 +1,10 @@
-//! The faults of a plan as a table by processor and turn, so that no look at a turn goes through all items.
+//! The faults of a plan as a table by processor and turn, so that no look at a turn goes through
+//! all items.
 ghost use Rattle.std.specs.Prelude.{◌≡◌, IfOk, OnOk, ℕ};
 ghost use Rattle.std.specs.BTreeMap.{get};
 ghost use Rattle.ppm_plan.specs.Faults.{fault_at, IsLeastFrom};
-ghost use Rattle.ppm_plan.specs.Tables.{by_turn, graver as graver_of, with_item, Shows, IsFirstFrom};
+ghost use Rattle.ppm_plan.specs.Tables.{by_turn, graver as graver_of, with_item, Shows};
+ghost use Rattle.ppm_plan.specs.Tables.{IsFirstFrom};
 
 use crate::fault::Fault;
 use crate::plan_item::PlanItem;
@@ -54,7 +56,8 @@ pub(crate) fn next_turn(table: &FaultTable, processor: u32, from: u32) -> Option
 /// Puts an item more into a table.
 fn put(table: &mut FaultTable, item: PlanItem) -> Result<(), NoMemory>
     ensures { OnOk result ((processor turn : ℕ)
-        → get by_turn table.new (processor, turn) ≡ with_item (get by_turn table.old (processor, turn)) item processor turn) }
+        → get by_turn table.new (processor, turn)
+        ≡ with_item (get by_turn table.old (processor, turn)) item processor turn) }
 {
     let met = look_up(table, item.processor, item.turn);
     table.insert((item.processor, item.turn), graver(met, item.fault))?;

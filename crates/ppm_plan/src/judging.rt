@@ -1,7 +1,9 @@
 //! Whether items may be obeyed by so many processors.
-ghost use Rattle.std.specs.Prelude.{◌≡◌, ◌<◌, ◌≤◌, ◌^◌, ℕ, MatchOption, IfOk, IfErr, false, true, length};
+ghost use Rattle.std.specs.Prelude.{◌≡◌, ◌<◌, ◌≤◌, ◌^◌, ℕ, MatchOption, IfOk, IfErr, false, true};
+ghost use Rattle.std.specs.Prelude.{length};
 ghost use Rattle.std.specs.List.{list_any};
-ghost use Rattle.ppm_plan.specs.Refusals.{first_at, is_killed as killed, IsKeeper, MayBeObeyed, MayNotBeObeyed};
+ghost use Rattle.ppm_plan.specs.Refusals.{first_at, is_killed as killed, IsKeeper, MayBeObeyed};
+ghost use Rattle.ppm_plan.specs.Refusals.{MayNotBeObeyed};
 
 use crate::item::Item;
 use crate::plan_error::PlanError;

@@ -1,6 +1,7 @@
 //! Laws of texts, each shown by a call that does nothing.
 ghost use Rattle.ppm_plan.specs.Correct.{HaveOneAnswer};
-ghost use Rattle.ppm_plan.specs.Spellings.{PlanItemsReadAsWritten, ScheduleItemsReadAsWritten, TextsReadAsWritten};
+ghost use Rattle.ppm_plan.specs.Spellings.{PlanItemsReadAsWritten, ScheduleItemsReadAsWritten};
+ghost use Rattle.ppm_plan.specs.Spellings.{TextsReadAsWritten};
 
 /// A text has a plan or one refusal, for any number of processors, and so it is with schedules.
 pub fn have_one_answer()
@@ -17,7 +18,8 @@ pub fn schedule_items_read_as_written()
     ensures law { ScheduleItemsReadAsWritten }
 {}
 
-/// A text has items exactly where it writes them: `none`, or a text of each with commas between them.
+/// A text has items exactly where it writes them: `none`, or a text of each with commas between
+/// them.
 pub fn texts_read_as_written()
     ensures law { TextsReadAsWritten }
 {}

@@ -1,17 +1,19 @@
-//! Fault plans and schedules: their texts, the faults of a turn, the keeper, and victims and plans drawn at random.
-//! Model: a text is pieces that read as items (`specs/Items`); a plan or a schedule is its items (`specs/Schedules`).
-//! Contract: a reader answers the items of the text, or its one refusal; texts are read as written (`specs/Spellings`).
+//! Fault plans and schedules: their texts, the faults of a turn, the keeper, and victims and plans
+//! drawn at random.
+//! Model: a text is pieces that read as items (`specs/Items`); a plan or a schedule is its items
+//! (`specs/Schedules`).
+//! Contract: a reader answers the items of the text, or its one refusal; texts are read as written
+//! (`specs/Spellings`).
 //! Stands on `ppm_words` and `rand_xoshiro`; `ppm_choice` and `ppm_driver` call it.
-//! After the soft and hard faults of Blelloch et al., SPAA 2018; the two forms of text are this project's.
+//! After the soft and hard faults of Blelloch et al., SPAA 2018; the two forms of text are this
+//! project's.
 #![tactic(auto)]
 
-mod cut;
 mod fault;
 mod fault_table;
 mod item;
 mod judging;
 mod laws;
-mod number;
 mod plan;
 mod plan_error;
 mod plan_item;

@@ -15,8 +15,9 @@ use ppm_words::NoMemory;
 use std::alloc::Global;
 use std::marker::Model;
 
-/// A fault plan: which faults befall which turns of which processors. Some processor has no hard fault. It is seen as
-/// the number of processors for which it is, and its items in the order of the text.
+/// A fault plan: which faults befall which turns of which processors. Some processor has no hard
+/// fault. It is seen as the number of processors for which it is, and its items in the order of the
+/// text.
 #[derive(Debug, Drop)]
 pub struct Plan {
     items: Vec<PlanItem>,
@@ -61,16 +62,16 @@ impl Plan {
         })
     }
 
-    /// The fault of a turn of a processor, both from 0. Of two items for one turn a hard one wins. The time grows as
-    /// the logarithm of the number of items.
+    /// The fault of a turn of a processor, both from 0. Of two items for one turn a hard one wins.
+    /// The time grows as the logarithm of the number of items.
     pub fn at(&self, processor: u32, turn: u32) -> Option<Fault>
         ensures { result ≡ fault_at self.now.items processor turn }
     {
         look_up(&self.faults, processor, turn)
     }
 
-    /// The least turn of a processor, from a turn on, for which it has a fault, both from 0; `None` where there is none. The
-    /// time grows as the logarithm of the number of items.
+    /// The least turn of a processor, from a turn on, for which it has a fault, both from 0; `None`
+    /// where there is none. The time grows as the logarithm of the number of items.
     pub fn next_fault(&self, processor: u32, from: u32) -> Option<u32>
         ensures { IsNextFault self.now.items processor from result }
     {
@@ -100,8 +101,9 @@ impl Plan {
     }
 }
 
-/// The plan that a text says for `processors` processors, from 1 to 64: `none`, or items `c@ts` (processor c, its turn
-/// t from 0, a soft fault) or `c@th` (a hard one) with commas between them. `Err` with the one reason why it is none.
+/// The plan that a text says for `processors` processors, from 1 to 64: `none`, or items `c@ts`
+/// (processor c, its turn t from 0, a soft fault) or `c@th` (a hard one) with commas between them.
+/// `Err` with the one reason why it is none.
 pub fn read_plan(alloc: Global, text: &[u8], processors: u32) -> Result<Plan, PlanError>
     requires { IsInRange 1 64 processors }
     ensures plan { IfOk result (λ plan. IsAccepted plan_form text.now processors plan.items) }

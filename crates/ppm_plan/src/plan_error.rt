@@ -6,7 +6,8 @@ use ppm_words::NoMemory;
 use std::alloc::{AllocError, AllocFailed};
 use thiserror::Error;
 
-/// Why a text is no plan, or no schedule. Items count from 1. Each is looked for over the whole text, in this order.
+/// Why a text is no plan, or no schedule. Items count from 1. Each is looked for over the whole
+/// text, in this order.
 #[derive(Clone, Copy, Debug, PartialEq, Eq, Error)]
 pub enum PlanError {
     /// The first item that is not of the form.
@@ -27,8 +28,8 @@ pub enum PlanError {
 }
 
 impl PlanError {
-    /// The number of the fault: 1 `BadItem`, 2 `NoSuchProcessor`, 3 `TooManyFaults`, 4 `AllKilled`; 0 where memory was
-    /// refused.
+    /// The number of the fault: 1 `BadItem`, 2 `NoSuchProcessor`, 3 `TooManyFaults`, 4 `AllKilled`;
+    /// 0 where memory was refused.
     pub fn number(self) -> u32
         ensures { result ≡ number_of self }
     {

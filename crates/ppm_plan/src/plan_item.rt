@@ -1,11 +1,11 @@
 //! The items of plans.
 ghost use Rattle.std.specs.Prelude.{◌≡◌};
-ghost use Rattle.ppm_plan.specs.Items.{plan_item_of, ended_by as ended_by_letter, timed_by as timed_by_letter};
+ghost use Rattle.ppm_plan.specs.Items.{plan_item_of, ended_by as ended_by_letter};
+ghost use Rattle.ppm_plan.specs.Items.{timed_by as timed_by_letter};
 
-use crate::cut::cut;
 use crate::fault::Fault;
 use crate::item::Item;
-use crate::number::number;
+use ppm_pieces::{number, split_once};
 
 /// A fault at one turn of a processor.
 #[derive(Clone, Copy, Debug, PartialEq, Eq)]
@@ -22,7 +22,7 @@ pub struct PlanItem {
 fn ended_by(letter: u8, bytes: &[u8]) -> Option<u32>
     ensures { result ≡ ended_by_letter letter bytes.now }
 {
-    match cut(bytes, letter) {
+    match split_once(bytes, letter) {
         Some((digits, behind)) => match behind {
             [] => number(digits),
             [_, ..] => None,
@@ -59,7 +59,7 @@ impl Item for PlanItem {
     ghost form = { plan_form };
 
     fn read(piece: &[u8]) -> Option<PlanItem> {
-        match cut(piece, b'@') {
+        match split_once(piece, b'@') {
             Some((processor, behind)) => timed_by(number(processor), behind),
             None => None,
         }

@@ -1,12 +1,13 @@
 //! Reads the items of a text.
-ghost use Rattle.std.specs.Prelude.{◌≡◌, IfOk, IfErr, OnOk, map, Some, ◌++◌, ◌∷◌, [], length, codes};
+ghost use Rattle.std.specs.Prelude.{◌≡◌, IfOk, IfErr, OnOk, map, Some, ◌++◌, ◌∷◌, [], length};
+ghost use Rattle.std.specs.Prelude.{codes};
 ghost use Rattle.std.specs.Str.{bytes_eq};
 ghost use Rattle.ppm_plan.specs.Refusals.{HasItems, IsBadItem};
 ghost use Rattle.ppm_plan.specs.Fronts.{StopsAt};
 
-use crate::cut::cut;
 use crate::item::Item;
 use crate::plan_error::PlanError;
+use ppm_pieces::split_once;
 use std::alloc::Global;
 
 fn same_bytes(a: &[u8], b: &[u8]) -> bool
@@ -24,7 +25,8 @@ fn says_none(text: &[u8]) -> bool
 
 /// Reads one piece more.
 fn take<T: Item>(items: &mut Vec<T>, piece: &[u8]) -> Result<(), PlanError>
-    ensures taken { OnOk result (map Some items.new.items ≡ map Some items.old.items ++ T.form.reading piece.now ∷ []) }
+    ensures taken { OnOk result (map Some items.new.items
+        ≡ map Some items.old.items ++ T.form.reading piece.now ∷ []) }
     ensures stops { IfErr result (StopsAt T.form items.old.items piece.now) }
 {
     let number = items.len() as u64 + 1;
@@ -47,7 +49,7 @@ pub(crate) fn read_items<T: Item>(alloc: Global, text: &[u8]) -> Result<Vec<T>, 
         return Ok(items);
     }
     let mut left = text;
-    while let Some((piece, rest)) = cut(left, b',') {
+    while let Some((piece, rest)) = split_once(left, b',') {
         take(&mut items, piece)?;
         left = rest;
     }

@@ -14,9 +14,9 @@ use crate::schedule_item::ScheduleItem;
 use std::alloc::Global;
 use std::marker::Model;
 
-/// A schedule: which processor acts next. Some processor has no hard fault. It is seen as the number of processors for
-/// which it is, and its items in the order of the text; a step that is made many times is one item. So its memory grows
-/// with the text and not with the acts.
+/// A schedule: which processor acts next. Some processor has no hard fault. It is seen as the
+/// number of processors for which it is, and its items in the order of the text; a step that is
+/// made many times is one item. So its memory grows with the text and not with the acts.
 #[derive(Debug, Drop)]
 pub struct Schedule {
     items: Vec<ScheduleItem>,
@@ -100,8 +100,8 @@ impl Schedule {
         &self.items
     }
 
-    /// The item at a place, from 0; `None` past the last. It names processors below those of the schedule. A step is
-    /// made from 1 to 268,435,456 times, a fault happens once.
+    /// The item at a place, from 0; `None` past the last. It names processors below those of the
+    /// schedule. A step is made from 1 to 268,435,456 times, a fault happens once.
     pub fn item(&self, index: usize) -> Option<ScheduleItem>
         ensures value { result ≡ slice_get self.now.items index }
         ensures among { IfSome result (IsItemAmong self.now.processors) }
@@ -117,9 +117,10 @@ impl Schedule {
     }
 }
 
-/// The schedule that a text says for `processors` processors, from 1 to 64: `none`, or items with commas between them.
-/// An item is a step `c` or `c>v` (of processor c, with victim v), perhaps with `*n` behind it (n from 1 to
-/// 268,435,456), or a fault `c!s` or `c!h`. `Err` with the one reason why it is none.
+/// The schedule that a text says for `processors` processors, from 1 to 64: `none`, or items with
+/// commas between them. An item is a step `c` or `c>v` (of processor c, with victim v), perhaps
+/// with `*n` behind it (n from 1 to 268,435,456), or a fault `c!s` or `c!h`. `Err` with the one
+/// reason why it is none.
 pub fn read_schedule(alloc: Global, text: &[u8], processors: u32) -> Result<Schedule, PlanError>
     requires { IsInRange 1 64 processors }
     ensures schedule { IfOk result (λ schedule. IsAccepted schedule_form text.now processors schedule.items) }

@@ -1,13 +1,14 @@
 //! The items of schedules.
 ghost use Rattle.std.specs.Prelude.{◌≡◌};
-ghost use Rattle.ppm_plan.specs.Items.{steps_of, stepping, stepping_at, times_in_range as in_range, failing as failing_by, fault_of as fault_written, repeated as repeated_steps, failing_or_steps};
+ghost use Rattle.ppm_plan.specs.Items.{steps_of, stepping, stepping_at, times_in_range as in_range};
+ghost use Rattle.ppm_plan.specs.Items.{failing as failing_by, fault_of as fault_written};
+ghost use Rattle.ppm_plan.specs.Items.{repeated as repeated_steps, failing_or_steps};
 ghost use Rattle.ppm_plan.specs.Forms.{victim_outside as victim_is_outside, act_outside, act_kills};
-ghost use Rattle.ppm_plan.specs.Pieces.{halves_of};
+ghost use Rattle.ppm_pieces.specs.Pieces.{halves_of};
 
-use crate::cut::cut;
 use crate::fault::Fault;
 use crate::item::Item;
-use crate::number::number;
+use ppm_pieces::{number, split_once};
 
 /// The most times that one item stands for.
 pub const MOST_TIMES: u32 = 268_435_456;
@@ -15,8 +16,8 @@ pub const MOST_TIMES: u32 = 268_435_456;
 /// What one processor does. Processors count from 0.
 #[derive(Clone, Copy, Debug, PartialEq, Eq)]
 pub enum ScheduledAct {
-    /// It makes a step. If the step looks for work, it looks at this victim; where none is stated, at the one whose turn
-    /// it is.
+    /// It makes a step. If the step looks for work, it looks at this victim; where none is stated,
+    /// at the one whose turn it is.
     Step { processor: u32, victim: Option<u32> },
     /// A fault befalls it.
     Fails { processor: u32, fault: Fault },
@@ -33,7 +34,7 @@ pub struct ScheduleItem {
 fn steps(step: &[u8], times: u32) -> Option<ScheduleItem>
     ensures { result ≡ steps_of step.now (halves_of 62 step.now) times }
 {
-    match cut(step, b'>') {
+    match split_once(step, b'>') {
         Some((processor, victim)) => step_at(number(processor), number(victim), times),
         None => step_alone(number(step), times),
     }
@@ -96,7 +97,7 @@ fn times_in_range(times: Option<u32>) -> Option<u32>
 fn repeated(piece: &[u8]) -> Option<ScheduleItem>
     ensures { result ≡ repeated_steps piece.now (halves_of 42 piece.now) }
 {
-    match cut(piece, b'*') {
+    match split_once(piece, b'*') {
         Some((step, times)) => match times_in_range(number(times)) {
             Some(times) => steps(step, times),
             None => None,
@@ -178,7 +179,7 @@ impl Item for ScheduleItem {
     ghost form = { schedule_form };
 
     fn read(piece: &[u8]) -> Option<ScheduleItem> {
-        match cut(piece, b'!') {
+        match split_once(piece, b'!') {
             Some((processor, letter)) => failing(number(processor), fault_of(letter)),
             None => repeated(piece),
         }

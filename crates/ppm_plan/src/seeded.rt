@@ -59,8 +59,9 @@ fn draw(
     Ok(items)
 }
 
-/// A plan of `count` faults, at most 4,096, that the seed `seed` draws for `processors` processors, from 1 to 64: each
-/// of a processor at one of its first 65,536 turns, one in eight hard unless it is processor 0, which is the keeper.
+/// A plan of `count` faults, at most 4,096, that the seed `seed` draws for `processors` processors,
+/// from 1 to 64: each of a processor at one of its first 65,536 turns, one in eight hard unless it
+/// is processor 0, which is the keeper.
 pub fn seeded_plan(alloc: Global, seed: u32, processors: u32, count: u32) -> Result<Plan, NoMemory>
     requires range { IsInRange 1 64 processors }
     requires most { count ≤ 4096 }

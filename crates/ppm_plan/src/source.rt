@@ -48,7 +48,8 @@ fn push_values(
 const PROCEDURES: &str =
     "proc sum(mut a) { if len a > 1 { split a at len a / 2 into l, r { fork sum(l) and sum(r); l[0] = l[0] + r[0]; } } }\nproc main(mut a) { call sum(a); }";
 
-/// A source that sums an array of `size` values, from 1 to 4,096, by halves: element i is `(seed + 31 i) mod 1000`.
+/// A source that sums an array of `size` values, from 1 to 4,096, by halves: element i is
+/// `(seed + 31 i) mod 1000`.
 pub fn make_source(alloc: Global, size: u32, seed: u32) -> Result<Vec<u8>, NoMemory>
     requires { IsInRange 1 4096 size }
     ensures { IfOk result (λ text. text.items ≡ source_of size seed) }

@@ -300,7 +300,8 @@ fn hard_faults_are_hard(rt: HostRuntime) {
     assert!(rt; !Fault::Soft.is_hard());
 }
 
-// The next values are from the reference code of SplitMix64 and Xoshiro256++ by Blackman and Vigna, run by a script.
+// The next values are from the reference code of SplitMix64 and Xoshiro256++ by Blackman and Vigna,
+// run by a script.
 
 #[test]
 fn words_are_those_of_the_reference(rt: HostRuntime) {

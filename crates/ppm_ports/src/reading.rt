@@ -9,8 +9,8 @@ use std::alloc::Global;
 /// The most bytes of one read.
 const PIECE: usize = 4096;
 
-/// Reads to the end, or `limit` bytes and one: then there are too many.
-/// `Failed` comes where the source's count of faults rose, and only there. At `Err` what was read is gone.
+/// Reads to the end, or `limit` bytes and one: then there are too many. `Failed` comes where the
+/// source's count of faults rose, and only there. At `Err` what was read is gone.
 pub fn read_whole<S: Source>(
     alloc: Global,
     source: &mut S,

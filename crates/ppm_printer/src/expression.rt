@@ -2,7 +2,8 @@
 ghost use Rattle.std.specs.Prelude.{◌≡◌, OnOk};
 ghost use Rattle.ppm_tree.specs.Tree.{expression_of, side_of};
 ghost use Rattle.ppm_printer.specs.Spelled.{Appends};
-ghost use Rattle.ppm_printer.specs.Canonical.{operator_sign as sign_of_operator, expression_tokens, more_tokens, list_tokens};
+ghost use Rattle.ppm_printer.specs.Canonical.{operator_sign as sign_of_operator, expression_tokens};
+ghost use Rattle.ppm_printer.specs.Canonical.{more_tokens, list_tokens};
 ghost use Rattle.ppm_printer.specs.Canonical.{call_tokens, target_tokens, side_tokens};
 
 use crate::token::{push_integer, push_keyword, push_name, push_sign};

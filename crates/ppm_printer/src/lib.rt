@@ -1,7 +1,8 @@
 //! The canonical text of a program.
-//! Model: the tokens of a tree (`specs/Canonical`), each spelled with one blank behind it (`specs/Spelled`).
-//! Contract: `print` gives the canonical text, and by the grammar that text has the tree again, lines apart
-//! (`specs/Correct`).
+//! Model: the tokens of a tree (`specs/Canonical`), each spelled with one blank behind it
+//! (`specs/Spelled`).
+//! Contract: `print` gives the canonical text, and by the grammar that text has the tree again,
+//! lines apart (`specs/Correct`).
 //! Stands on `ppm_tree`, `ppm_text` and `ppm_rows`; no command stands on it yet.
 //! The layout is this project's.
 #![tactic(auto)]

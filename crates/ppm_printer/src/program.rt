@@ -3,9 +3,11 @@ ghost use Rattle.std.specs.Prelude.{◌≡◌, ◌++◌, IfOk, OnOk};
 ghost use Rattle.std.specs.List.{flat_map};
 ghost use Rattle.ppm_tree.specs.Tree.{block_of, give_of, procedure_of, tree_of};
 ghost use Rattle.ppm_printer.specs.Spelled.{Appends};
-ghost use Rattle.ppm_printer.specs.Canonical.{mode_word as word_of_mode, integer_tokens, more_tokens, list_tokens, parameter_tokens};
+ghost use Rattle.ppm_printer.specs.Canonical.{mode_word as word_of_mode, integer_tokens};
+ghost use Rattle.ppm_printer.specs.Canonical.{more_tokens, list_tokens, parameter_tokens};
 ghost use Rattle.ppm_printer.specs.Canonical.{braced, block_tokens, give_tokens};
-ghost use Rattle.ppm_printer.specs.Canonical.{array_tokens, procedure_tokens, input_tokens, program_tokens, canonical_text};
+ghost use Rattle.ppm_printer.specs.Canonical.{array_tokens, procedure_tokens, input_tokens};
+ghost use Rattle.ppm_printer.specs.Canonical.{program_tokens, canonical_text};
 
 use crate::expression::push_expression;
 use crate::statement::push_block;
@@ -195,9 +197,9 @@ fn push_tree(alloc: Global, text: &mut Vec<u8>, tree: &Tree) -> Result<(), NoMem
     Ok(())
 }
 
-/// The canonical text of a program: one space between tokens, a line feed in its place behind each `;`, `{` and `}`, and
-/// parentheses round each operation with two operands; arrays first, then procedures, then inputs. `Err` only where
-/// memory is refused.
+/// The canonical text of a program: one space between tokens, a line feed in its place behind each
+/// `;`, `{` and `}`, and parentheses round each operation with two operands; arrays first, then
+/// procedures, then inputs. `Err` only where memory is refused.
 pub fn print(alloc: Global, program: &Program) -> Result<Vec<u8>, NoMemory>
     ensures { IfOk result (λ text. text.items ≡ canonical_text (tree_of program.now)) }
 {

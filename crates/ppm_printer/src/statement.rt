@@ -2,9 +2,11 @@
 ghost use Rattle.std.specs.Prelude.{◌++◌, [], ◌∷◌, OnOk};
 ghost use Rattle.ppm_text.specs.declared.token.Keyword.TheVariants as k;
 ghost use Rattle.ppm_text.specs.declared.token.Sign.TheVariants as s;
-ghost use Rattle.ppm_tree.specs.Tree.{Let, Assign, Put, Call, Fork, statement_of, block_of, expression_of, side_of};
+ghost use Rattle.ppm_tree.specs.Tree.{Let, Assign, Put, Call, Fork, statement_of, block_of};
+ghost use Rattle.ppm_tree.specs.Tree.{expression_of, side_of};
 ghost use Rattle.ppm_printer.specs.Spelled.{Appends};
-ghost use Rattle.ppm_printer.specs.Canonical.{name as name_token, word, sign as sign_token, expression_tokens, assigned_tokens};
+ghost use Rattle.ppm_printer.specs.Canonical.{name as name_token, word, sign as sign_token};
+ghost use Rattle.ppm_printer.specs.Canonical.{expression_tokens, assigned_tokens};
 ghost use Rattle.ppm_printer.specs.Canonical.{statement_tokens, block_tokens, else_tokens, braced};
 
 use crate::expression::{push_call, push_expression, push_side, push_target};
@@ -97,7 +99,8 @@ fn push_test(
     keyword: Keyword,
     test: &Expr,
 ) -> Result<(), NoMemory>
-    ensures { OnOk result (Appends (word keyword ∷ expression_tokens (expression_of test.now)) text.old.items text.new.items) }
+    ensures { OnOk result (Appends (word keyword
+        ∷ expression_tokens (expression_of test.now)) text.old.items text.new.items) }
 {
     push_keyword(text, keyword)?;
     push_expression(alloc, text, test)?;
@@ -107,7 +110,8 @@ fn push_test(
 /// Appends two names with a comma between them.
 fn push_names(text: &mut Vec<u8>, first: &Named, second: &Named) -> Result<(), NoMemory>
     ensures { OnOk result
-        (Appends (name_token first.now ∷ sign_token s.Comma ∷ name_token second.now ∷ []) text.old.items text.new.items) }
+        (Appends (name_token first.now ∷ sign_token s.Comma ∷ name_token second.now
+        ∷ []) text.old.items text.new.items) }
 {
     push_name(text, first)?;
     push_sign(text, Sign::Comma)?;
@@ -125,8 +129,10 @@ fn push_split(
     second: &Named,
 ) -> Result<(), NoMemory>
     ensures { OnOk result
-        (Appends (word k.Split ∷ name_token region.now ∷ word k.At ∷ expression_tokens (expression_of at.now)
-        ++ word k.Into ∷ name_token first.now ∷ sign_token s.Comma ∷ name_token second.now ∷ []) text.old.items text.new.items) }
+        (Appends (word k.Split ∷ name_token region.now ∷ word k.At
+        ∷ expression_tokens (expression_of at.now)
+        ++ word k.Into ∷ name_token first.now ∷ sign_token s.Comma ∷ name_token second.now
+        ∷ []) text.old.items text.new.items) }
 {
     push_keyword(text, Keyword::Split)?;
     push_name(text, region)?;
@@ -144,7 +150,8 @@ fn push_each(
     region: &Named,
 ) -> Result<(), NoMemory>
     ensures { OnOk result
-        (Appends (word k.Each ∷ name_token index.now ∷ sign_token s.Comma ∷ name_token part.now ∷ word k.In ∷ name_token region.now ∷ [])
+        (Appends (word k.Each ∷ name_token index.now ∷ sign_token s.Comma ∷ name_token part.now
+        ∷ word k.In ∷ name_token region.now ∷ [])
         text.old.items text.new.items) }
 {
     push_keyword(text, Keyword::Each)?;

@@ -1,7 +1,8 @@
 //! Tokens at the end of a text.
 ghost use Rattle.std.specs.Prelude.{[], ◌∷◌, OnOk};
 ghost use Rattle.ppm_printer.specs.Spelled.{Appends};
-ghost use Rattle.ppm_printer.specs.Canonical.{name as name_token, number as number_token, word, sign as sign_token, integer_tokens};
+ghost use Rattle.ppm_printer.specs.Canonical.{name as name_token, number as number_token, word};
+ghost use Rattle.ppm_printer.specs.Canonical.{sign as sign_token, integer_tokens};
 
 use crate::spelling::{blank_behind, keyword_spelling, sign_spelling};
 use ppm_text::{Keyword, Sign};

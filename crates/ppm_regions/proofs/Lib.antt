@@ -12,5 +12,6 @@ pub mod Inputs
 pub mod Index
 pub mod OneFault
 pub mod Rules
+pub mod KeptLemmas
 pub mod ScopeLemmas
 pub mod SiteLemmas

@@ -1,4 +1,5 @@
 pub mod Scope
+pub mod Kept
 pub mod Uses
 pub mod Faults
 pub mod Admission

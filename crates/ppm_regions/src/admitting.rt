@@ -10,8 +10,8 @@ use crate::region_error::RegionError;
 use ppm_tree::Program;
 use std::alloc::Global;
 
-/// The program with the arrays that it starts with, where it keeps the rules of names and regions; else the fault of the
-/// least number, and of these the first in the text.
+/// The program with the arrays that it starts with, where it keeps the rules of names and regions;
+/// else the fault of the least number, and of these the first in the text.
 pub fn admit(alloc: Global, program: Program) -> Result<Admitted, RegionError>
     ensures admitted { IfOk result (λ a. a ≡ program) }
     ensures refused { IfErr result (IsRefused (tree_of program)) }

@@ -1,8 +1,10 @@
 //! Faults of calls and of the sides of forks.
 ghost use Rattle.std.specs.Prelude.{◌≡◌, [], ◌∷◌, ◌++◌, IfOk, map};
 ghost use Rattle.ppm_tree.specs.Tree.{ProgramTree, Call, Fork, expression_of, side_of, tree_of};
-ghost use Rattle.ppm_regions.specs.Scope.{Scope};
-ghost use Rattle.ppm_regions.specs.Uses.{uses_of_spare, uses_of_lent, uses_of_argument, uses_of_arguments, uses_of_target, both_targets};
+ghost use Rattle.ppm_regions.specs.Scope.{Scope as Declarations};
+ghost use Rattle.ppm_regions.specs.Kept.{seen};
+ghost use Rattle.ppm_regions.specs.Uses.{uses_of_spare, uses_of_lent, uses_of_argument};
+ghost use Rattle.ppm_regions.specs.Uses.{uses_of_arguments, uses_of_target, both_targets};
 ghost use Rattle.ppm_regions.specs.Uses.{uses_of_side, uses_of, lent_by, Calls, Delivers};
 ghost use Rattle.ppm_regions.specs.Deciding.{argument_of, IsLeastOf};
 
@@ -13,14 +15,15 @@ use crate::lending::{Lending, lend_all, lent_together};
 use crate::naming::{asked, one_target};
 use crate::procedures::Procedures;
 use crate::region_error::RegionError;
-use crate::scope::Declaration;
+use crate::scope::Scope;
 use ppm_tree::{Argument, Expr, Mode, Named, Parameter, Side};
 use ppm_words::NoMemory;
 use std::alloc::Global;
 
 /// The first fault of an argument past the last parameter.
-fn in_spare(scope: &[Declaration], argument: &Expr) -> Option<RegionError>
-    ensures { (t : ProgramTree) → IsLeastOf t scope.now (uses_of_spare (expression_of argument.now)) result }
+fn in_spare(scope: &Scope, argument: &Expr) -> Option<RegionError>
+    ensures { (t : ProgramTree)
+        → IsLeastOf t (seen scope.now) (uses_of_spare (expression_of argument.now)) result }
 {
     let Expr::Name(name) = argument else {
         return in_expression(scope, argument);
@@ -29,8 +32,9 @@ fn in_spare(scope: &[Declaration], argument: &Expr) -> Option<RegionError>
 }
 
 /// The first fault of an argument for a region.
-fn in_lent(scope: &[Declaration], ask: Ask, argument: &Argument) -> Option<RegionError>
-    ensures { (t : ProgramTree) → IsLeastOf t scope.now (uses_of_lent ask argument.now.line (expression_of argument.now.value)) result }
+fn in_lent(scope: &Scope, ask: Ask, argument: &Argument) -> Option<RegionError>
+    ensures { (t : ProgramTree)
+        → IsLeastOf t (seen scope.now) (uses_of_lent ask argument.now.line (expression_of argument.now.value)) result }
 {
     let Expr::Name(name) = &argument.value else {
         let inside = in_expression(scope, &argument.value);
@@ -40,8 +44,9 @@ fn in_lent(scope: &[Declaration], ask: Ask, argument: &Argument) -> Option<Regio
 }
 
 /// The first fault of an argument for a parameter of this mode.
-fn in_argument(scope: &[Declaration], mode: Mode, argument: &Argument) -> Option<RegionError>
-    ensures { (t : ProgramTree) → IsLeastOf t scope.now (uses_of_argument mode (argument_of argument.now)) result }
+fn in_argument(scope: &Scope, mode: Mode, argument: &Argument) -> Option<RegionError>
+    ensures { (t : ProgramTree)
+        → IsLeastOf t (seen scope.now) (uses_of_argument mode (argument_of argument.now)) result }
 {
     match mode {
         Mode::Int => in_expression(scope, &argument.value),
@@ -52,11 +57,12 @@ fn in_argument(scope: &[Declaration], mode: Mode, argument: &Argument) -> Option
 
 /// The first fault of the arguments of a call.
 fn in_arguments(
-    scope: &[Declaration],
+    scope: &Scope,
     parameters: &[Parameter],
     arguments: &[Argument],
 ) -> Option<RegionError>
-    ensures { (t : ProgramTree) → IsLeastOf t scope.now (uses_of_arguments parameters.now (map argument_of arguments.now)) result }
+    ensures { (t : ProgramTree)
+        → IsLeastOf t (seen scope.now) (uses_of_arguments parameters.now (map argument_of arguments.now)) result }
 {
     let [argument, more @ ..] = arguments else {
         return None;
@@ -75,7 +81,8 @@ fn in_arguments(
 
 /// The fault of a procedure that is called with so many arguments.
 fn of_call(procedures: &Procedures, name: &Named, arguments: usize) -> Option<RegionError>
-    ensures { (s : Scope) → IsLeastOf (tree_of procedures.now) s (Calls name.now arguments ∷ []) result }
+    ensures { (s : Declarations)
+        → IsLeastOf (tree_of procedures.now) s (Calls name.now arguments ∷ []) result }
 {
     match procedures.callee(name) {
         None => Some(RegionError::UnknownName(name.line)),
@@ -90,7 +97,8 @@ fn of_call(procedures: &Procedures, name: &Named, arguments: usize) -> Option<Re
 
 /// The fault of a procedure whose value is stored.
 fn of_value(procedures: &Procedures, name: &Named) -> Option<RegionError>
-    ensures { (s : Scope) → IsLeastOf (tree_of procedures.now) s (Delivers name.now ∷ []) result }
+    ensures { (s : Declarations)
+        → IsLeastOf (tree_of procedures.now) s (Delivers name.now ∷ []) result }
 {
     match procedures.callee(name) {
         None => None,
@@ -104,11 +112,11 @@ fn of_value(procedures: &Procedures, name: &Named) -> Option<RegionError>
 /// The first fault of a target of a call of the procedure.
 fn of_target(
     procedures: &Procedures,
-    scope: &[Declaration],
+    scope: &Scope,
     callee: &Named,
     target: &Option<Named>,
 ) -> Option<RegionError>
-    ensures { IsLeastOf (tree_of procedures.now) scope.now (uses_of_target callee.now target.now) result }
+    ensures { IsLeastOf (tree_of procedures.now) (seen scope.now) (uses_of_target callee.now target.now) result }
 {
     match target {
         None => None,
@@ -121,7 +129,8 @@ fn of_target(
 
 /// The fault of two targets of a fork.
 fn of_targets(left: &Option<Named>, right: &Option<Named>) -> Option<RegionError>
-    ensures { (t : ProgramTree) → (s : Scope) → IsLeastOf t s (both_targets left.now right.now) result }
+    ensures { (t : ProgramTree) → (s : Declarations)
+        → IsLeastOf t s (both_targets left.now right.now) result }
 {
     match (left, right) {
         (Some(left), Some(right)) => one_target(left, right),
@@ -130,8 +139,8 @@ fn of_targets(left: &Option<Named>, right: &Option<Named>) -> Option<RegionError
 }
 
 /// The first fault of a call, or of a side of a fork.
-fn in_side(procedures: &Procedures, scope: &[Declaration], side: &Side) -> Option<RegionError>
-    ensures { IsLeastOf (tree_of procedures.now) scope.now (uses_of_side (tree_of procedures.now) (side_of side.now)) result }
+fn in_side(procedures: &Procedures, scope: &Scope, side: &Side) -> Option<RegionError>
+    ensures { IsLeastOf (tree_of procedures.now) (seen scope.now) (uses_of_side (tree_of procedures.now) (side_of side.now)) result }
 {
     let parameters = procedures.parameters(&side.callee);
     let arguments = side.arguments.as_slice();
@@ -147,7 +156,8 @@ fn lend_by<'a>(
     procedures: &Procedures,
     side: &'a Side,
 ) -> Result<(), NoMemory>
-    ensures { IfOk result (λ _. lendings.new.items ≡ lendings.old.items ++ lent_by (tree_of procedures.now) (side_of side.now)) }
+    ensures { IfOk result (λ _. lendings.new.items
+        ≡ lendings.old.items ++ lent_by (tree_of procedures.now) (side_of side.now)) }
 {
     let parameters = procedures.parameters(&side.callee);
     lend_all(lendings, parameters, side.arguments.as_slice())
@@ -157,10 +167,10 @@ fn lend_by<'a>(
 pub fn in_call(
     alloc: Global,
     procedures: &Procedures,
-    scope: &[Declaration],
+    scope: &Scope,
     side: &Side,
 ) -> Result<Option<RegionError>, NoMemory>
-    ensures { IfOk result (λ found. IsLeastOf (tree_of procedures.now) scope.now (uses_of (tree_of procedures.now) (Call (side_of side.now))) found) }
+    ensures { IfOk result (λ found. IsLeastOf (tree_of procedures.now) (seen scope.now) (uses_of (tree_of procedures.now) (Call (side_of side.now))) found) }
 {
     let mut lendings = Vec::new(alloc);
     lend_by(&mut lendings, procedures, side)?;
@@ -172,11 +182,11 @@ pub fn in_call(
 pub fn in_fork(
     alloc: Global,
     procedures: &Procedures,
-    scope: &[Declaration],
+    scope: &Scope,
     left: &Side,
     right: &Side,
 ) -> Result<Option<RegionError>, NoMemory>
-    ensures { IfOk result (λ found. IsLeastOf (tree_of procedures.now) scope.now (uses_of (tree_of procedures.now) (Fork (side_of left.now) (side_of right.now))) found) }
+    ensures { IfOk result (λ found. IsLeastOf (tree_of procedures.now) (seen scope.now) (uses_of (tree_of procedures.now) (Fork (side_of left.now) (side_of right.now))) found) }
 {
     let mut lendings = Vec::new(alloc);
     lend_by(&mut lendings, procedures, left)?;

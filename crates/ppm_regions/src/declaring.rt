@@ -1,25 +1,27 @@
 //! Declarations, one after the other.
-ghost use Rattle.std.specs.Prelude.{◌≡◌, [], ◌∷◌, ◌++◌, IfOk, map};
+ghost use Rattle.std.specs.Prelude.{◌≡◌, [], ◌∷◌, ◌++◌, IfOk, OnOk, map};
 ghost use Rattle.ppm_tree.specs.Tree.{ProgramTree};
 ghost use Rattle.ppm_tree.specs.declared.named.Named as named;
+ghost use Rattle.ppm_regions.specs.Kept.{Becomes, seen};
 ghost use Rattle.ppm_regions.specs.Uses.{declaration_sites, sites_of_names};
 ghost use Rattle.ppm_regions.specs.Deciding.{IsLeast};
 
 use crate::found::earlier;
 use crate::naming::named_twice;
 use crate::region_error::RegionError;
-use crate::scope::Declaration;
+use crate::scope::{Declaration, Scope};
 use ppm_tree::{Array, ArrayInput, Mode, Named, Proc};
 use ppm_words::NoMemory;
 use std::alloc::Global;
 
 /// Declares one thing more; its fault, if its name is in force.
 pub fn declare<'a>(
-    scope: &mut Vec<Declaration<'a>>,
+    scope: &mut Scope<'a>,
     declaration: Declaration<'a>,
 ) -> Result<Option<RegionError>, NoMemory>
-    ensures least { IfOk result (λ found. (t : ProgramTree) → IsLeast t (declaration_sites scope.old.items (declaration.entry ∷ [])) found) }
-    ensures scope { IfOk result (λ _. scope.new.items ≡ scope.old.items ++ declaration.entry ∷ []) }
+    ensures least { IfOk result (λ found. (t : ProgramTree)
+        → IsLeast t (declaration_sites (seen scope.old) (declaration.entry ∷ [])) found) }
+    ensures scope { OnOk result (Becomes (λ s. s ++ declaration.entry ∷ []) scope.old scope.new) }
 {
     let found = named_twice(scope, declaration.name());
     scope.push(declaration)?;
@@ -62,9 +64,10 @@ impl Item for ArrayInput {
 
 /// The fault of the first item with the name of one in front of it.
 pub fn repeated<T: Item>(alloc: Global, items: &[T]) -> Result<Option<RegionError>, NoMemory>
-    ensures { IfOk result (λ found. (t : ProgramTree) → IsLeast t (sites_of_names (map T.name_of items.now)) found) }
+    ensures { IfOk result (λ found. (t : ProgramTree)
+        → IsLeast t (sites_of_names (map T.name_of items.now)) found) }
 {
-    let mut scope = Vec::new(alloc);
+    let mut scope = Scope::new(alloc);
     let mut found = None;
     for item in items {
         let twice = declare(&mut scope, Declaration::plain(Mode::Int, item.name()))?;

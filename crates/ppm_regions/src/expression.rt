@@ -1,5 +1,6 @@
 //! Faults in expressions.
 ghost use Rattle.ppm_tree.specs.Tree.{ProgramTree, expression_of};
+ghost use Rattle.ppm_regions.specs.Kept.{seen};
 ghost use Rattle.ppm_regions.specs.Uses.{uses_in};
 ghost use Rattle.ppm_regions.specs.Deciding.{IsLeastOf};
 
@@ -7,12 +8,13 @@ use crate::ask::Ask;
 use crate::found::earlier;
 use crate::naming::asked;
 use crate::region_error::RegionError;
-use crate::scope::Declaration;
+use crate::scope::Scope;
 use ppm_tree::Expr;
 
 /// The first fault in an expression.
-pub fn in_expression(scope: &[Declaration], expression: &Expr) -> Option<RegionError>
-    ensures { (t : ProgramTree) → IsLeastOf t scope.now (uses_in (expression_of expression.now)) result }
+pub fn in_expression(scope: &Scope, expression: &Expr) -> Option<RegionError>
+    ensures { (t : ProgramTree)
+        → IsLeastOf t (seen scope.now) (uses_in (expression_of expression.now)) result }
 {
     match expression {
         Expr::Number(_) => None,

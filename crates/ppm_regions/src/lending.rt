@@ -48,7 +48,8 @@ impl<'a> Lending<'a> {
 
 /// Adds the region that an argument lends to a parameter of this mode.
 fn lend<'a>(lendings: &mut Vec<Lending<'a>>, mode: Mode, argument: &'a Expr) -> Result<(), NoMemory>
-    ensures { IfOk result (λ _. lendings.new.items ≡ lendings.old.items ++ lending_of mode (expression_of argument.now)) }
+    ensures { IfOk result (λ _. lendings.new.items
+        ≡ lendings.old.items ++ lending_of mode (expression_of argument.now)) }
 {
     match (mode, argument) {
         (Mode::Mut | Mode::Ref, Expr::Name(name)) => lendings.push(Lending { mode, name })?,
@@ -63,7 +64,8 @@ pub fn lend_all<'a>(
     parameters: &[Parameter],
     arguments: &'a [Argument],
 ) -> Result<(), NoMemory>
-    ensures { IfOk result (λ _. lendings.new.items ≡ lendings.old.items ++ lendings_of parameters.now (map argument_of arguments.now)) }
+    ensures { IfOk result (λ _. lendings.new.items
+        ≡ lendings.old.items ++ lendings_of parameters.now (map argument_of arguments.now)) }
 {
     let [parameter, rest @ ..] = parameters else {
         return Ok(());
@@ -84,7 +86,8 @@ fn has_clash(front: &[Lending], lending: &Lending) -> bool
 
 /// The fault of a region that is lent beside those in front of it.
 fn beside(front: &[Lending], lending: &Lending) -> Option<RegionError>
-    ensures { (t : ProgramTree) → (s : Scope) → IsLeastOf t s (Lends front.now lending.now ∷ []) result }
+    ensures { (t : ProgramTree) → (s : Scope)
+        → IsLeastOf t s (Lends front.now lending.now ∷ []) result }
 {
     if has_clash(front, lending) {
         return Some(RegionError::LentTwice(lending.line()));
@@ -94,7 +97,8 @@ fn beside(front: &[Lending], lending: &Lending) -> Option<RegionError>
 
 /// The first fault of regions that are lent together.
 pub fn lent_together(lendings: &[Lending]) -> Option<RegionError>
-    ensures { (t : ProgramTree) → (s : Scope) → IsLeastOf t s (lent_together [] lendings.now) result }
+    ensures { (t : ProgramTree) → (s : Scope)
+        → IsLeastOf t s (lent_together [] lendings.now) result }
 {
     let mut found = None;
     for at in 0..lendings.len() {

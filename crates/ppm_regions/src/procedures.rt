@@ -51,7 +51,8 @@ impl<'t> Procedures<'t> {
 
     /// The procedure that is called, if there is one of the name.
     pub fn callee(&self, name: &Named) -> Option<&'t Proc>
-        ensures { MatchOption result (callee_of (tree_of self.now) name.now ≡ None) (λ p. callee_of (tree_of self.now) name.now ≡ Some (procedure_of p.now)) }
+        ensures { MatchOption result (callee_of (tree_of self.now) name.now
+            ≡ None) (λ p. callee_of (tree_of self.now) name.now ≡ Some (procedure_of p.now)) }
     {
         self.by_name.get(&name.name.as_bytes()).copied()
     }

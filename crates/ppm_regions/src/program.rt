@@ -1,10 +1,12 @@
 //! Faults of a whole program.
-ghost use Rattle.std.specs.Prelude.{◌≡◌, ◌↔◌, IsTrue, [], ◌∷◌, ◌++◌, None, Some, IfOk, MatchOption, map};
+ghost use Rattle.std.specs.Prelude.{◌≡◌, ◌↔◌, IsTrue, [], ◌∷◌, ◌++◌, None, Some, IfOk, MatchOption};
+ghost use Rattle.std.specs.Prelude.{map};
 ghost use Rattle.std.specs.List.{flat_map};
 ghost use Rattle.ppm_tree.specs.Tree.{ProgramTree, procedure_of, give_of, tree_of};
 ghost use Rattle.ppm_tree.specs.Parts.{gives_of};
 ghost use Rattle.ppm_regions.specs.Scope.{Scope};
-ghost use Rattle.ppm_regions.specs.Uses.{Begins, MainTakes, MainGives, Fills, sites_of, sites_of_procedure, uses_of_main};
+ghost use Rattle.ppm_regions.specs.Uses.{Begins, MainTakes, MainGives, Fills, sites_of};
+ghost use Rattle.ppm_regions.specs.Uses.{sites_of_procedure, uses_of_main};
 ghost use Rattle.ppm_regions.specs.Faults.{array_named};
 ghost use Rattle.ppm_regions.specs.Deciding.{HasOne, IsNamedMain, IsLeast, IsLeastOf};
 
@@ -20,7 +22,8 @@ use std::alloc::Global;
 
 /// The array with the name, if there is one.
 fn array_named<'t>(tree: &'t Tree, name: &Named) -> Option<&'t Array>
-    ensures { MatchOption result (array_named (tree_of tree.now) name.now ≡ None) (λ a. array_named (tree_of tree.now) name.now ≡ Some a.now) }
+    ensures { MatchOption result (array_named (tree_of tree.now) name.now
+        ≡ None) (λ a. array_named (tree_of tree.now) name.now ≡ Some a.now) }
 {
     for array in tree.arrays.as_slice() {
         if array.name.name.is(&name.name) {
@@ -154,7 +157,8 @@ fn in_procedures(alloc: Global, tree: &Tree) -> Result<Option<RegionError>, NoMe
 
 /// The first fault of `main` and of the inputs.
 fn outside(tree: &Tree) -> Option<RegionError>
-    ensures { IsLeastOf (tree_of tree.now) [] (Begins ∷ flat_map uses_of_main (tree_of tree.now).procedures ++ map Fills (tree_of tree.now).inputs) result }
+    ensures { IsLeastOf (tree_of tree.now) [] (Begins
+        ∷ flat_map uses_of_main (tree_of tree.now).procedures ++ map Fills (tree_of tree.now).inputs) result }
 {
     let main = earlier(of_begin(tree), of_mains(tree));
     earlier(main, of_inputs(tree))

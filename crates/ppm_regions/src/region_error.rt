@@ -5,18 +5,19 @@ ghost use Rattle.ppm_regions.specs.ErrorNumbers.{number_of, line_of};
 use ppm_words::NoMemory;
 use thiserror::Error;
 
-/// Why a program is not admitted, with a line, counted from 1: that of the name at fault, if nothing else is said.
+/// Why a program is not admitted, with a line, counted from 1: that of the name at fault, if
+/// nothing else is said.
 #[derive(Clone, Copy, Debug, PartialEq, Eq, Error)]
 pub enum RegionError {
     /// No declaration of the name is in force, hidden or not, or there is no such procedure.
     #[error("an unknown name in line {0}")]
     UnknownName(u32),
-    /// A declaration of the name is in force in the procedure, hidden or not; or it is a second array, procedure or
-    /// input of the name.
+    /// A declaration of the name is in force in the procedure, hidden or not; or it is a second
+    /// array, procedure or input of the name.
     #[error("a name given twice in line {0}")]
     TwiceNamed(u32),
-    /// A region where a local is asked for, or a local where a region is; or an argument for a region that is no name
-    /// alone, with the line of its first token.
+    /// A region where a local is asked for, or a local where a region is; or an argument for a
+    /// region that is no name alone, with the line of its first token.
     #[error("a name of the wrong kind in line {0}")]
     WrongKind(u32),
     /// The procedure that is called has more or fewer parameters.
@@ -25,15 +26,15 @@ pub enum RegionError {
     /// A region that may only be read is written, or lent to be written.
     #[error("a write to a region that may only be read in line {0}")]
     WriteToRef(u32),
-    /// A region that is lent to be written is lent a second time, in a call or in both branches of a fork; at the later
-    /// of the two names.
+    /// A region that is lent to be written is lent a second time, in a call or in both branches of
+    /// a fork; at the later of the two names.
     #[error("a region lent twice in line {0}")]
     LentTwice(u32),
     /// The region is in parts, and only these may be used.
     #[error("a region in parts used whole in line {0}")]
     HiddenRegion(u32),
-    /// The parameter of `main` is a number, or no array has its name, or `main` gives a value, with the line of the word
-    /// `give`; in line 0 there is no `main`.
+    /// The parameter of `main` is a number, or no array has its name, or `main` gives a value, with
+    /// the line of the word `give`; in line 0 there is no `main`.
     #[error("no main, or a bad one in line {0}")]
     BadMain(u32),
     /// No array has the name of the input, or it has fewer words than the input has values.
@@ -45,7 +46,8 @@ pub enum RegionError {
     /// Both branches of a fork have one target; at the second.
     #[error("one target for two values in line {0}")]
     TwiceTarget(u32),
-    /// In the block of an `each` a region from outside, or a part of one, is written, or lent to be written.
+    /// In the block of an `each` a region from outside, or a part of one, is written, or lent to be
+    /// written.
     #[error("a region from outside written in line {0}")]
     OuterWritten(u32),
     /// In the block of an `each` its index or a local from outside is assigned.
@@ -79,7 +81,8 @@ impl RegionError {
         }
     }
 
-    /// The line of the fault, counted from 1; 0 where there is no `main`, and where memory was refused.
+    /// The line of the fault, counted from 1; 0 where there is no `main`, and where memory was
+    /// refused.
     pub fn line(self) -> u32
         ensures { result ≡ line_of self }
     {

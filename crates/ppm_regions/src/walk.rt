@@ -1,8 +1,11 @@
 //! Faults in the statements of a procedure.
-ghost use Rattle.std.specs.Prelude.{◌≡◌, [], ◌∷◌, ◌++◌, IfOk, map};
-ghost use Rattle.ppm_tree.specs.Tree.{ProgramTree, statement_of, block_of, give_of, procedure_of, tree_of};
+ghost use Rattle.std.specs.Prelude.{◌≡◌, [], ◌∷◌, ◌++◌, IfOk, OnOk, map};
+ghost use Rattle.ppm_tree.specs.Tree.{ProgramTree, statement_of, block_of, give_of, procedure_of};
+ghost use Rattle.ppm_tree.specs.Tree.{tree_of};
 ghost use Rattle.ppm_regions.specs.Scope.{of_parameter, lets_of, scope_behind};
-ghost use Rattle.ppm_regions.specs.Uses.{uses_of, sites_within, sites_of_block, sites_of_give, sites_of_procedure, declaration_sites};
+ghost use Rattle.ppm_regions.specs.Kept.{Becomes, seen};
+ghost use Rattle.ppm_regions.specs.Uses.{uses_of, sites_within, sites_of_block, sites_of_give};
+ghost use Rattle.ppm_regions.specs.Uses.{sites_of_procedure, declaration_sites};
 ghost use Rattle.ppm_regions.specs.Deciding.{IsLeast, IsLeastOf};
 
 use crate::ask::Ask;
@@ -13,7 +16,7 @@ use crate::found::earlier;
 use crate::naming::asked;
 use crate::procedures::Procedures;
 use crate::region_error::RegionError;
-use crate::scope::{Declaration, copied, in_each, in_split, part};
+use crate::scope::{Declaration, Scope};
 use ppm_tree::{Give, Mode, Parameter, Proc, Stmt};
 use ppm_words::NoMemory;
 use std::alloc::Global;
@@ -22,10 +25,10 @@ use std::alloc::Global;
 fn in_uses(
     alloc: Global,
     procedures: &Procedures,
-    scope: &[Declaration],
+    scope: &Scope,
     statement: &Stmt,
 ) -> Result<Option<RegionError>, NoMemory>
-    ensures { IfOk result (λ found. IsLeastOf (tree_of procedures.now) scope.now (uses_of (tree_of procedures.now) (statement_of statement.now)) found) }
+    ensures { IfOk result (λ found. IsLeastOf (tree_of procedures.now) (seen scope.now) (uses_of (tree_of procedures.now) (statement_of statement.now)) found) }
 {
     match statement {
         Stmt::Let(_, value) => Ok(in_expression(scope, value)),
@@ -54,16 +57,17 @@ fn in_uses(
 fn in_inner<'a>(
     alloc: Global,
     procedures: &Procedures,
-    scope: &[Declaration<'a>],
+    scope: &mut Scope<'a>,
     block: &'a [Stmt],
 ) -> Result<Option<RegionError>, NoMemory>
-    ensures { IfOk result (IsLeast (tree_of procedures.now) (sites_of_block (tree_of procedures.now) scope.now (block_of block.now))) }
+    ensures least { IfOk result (IsLeast (tree_of procedures.now)
+        (sites_of_block (tree_of procedures.now) (seen scope.old) (block_of block.now))) }
+    ensures scope { OnOk result (scope.new ≡ scope.old) }
 {
-    if block.is_empty() {
-        return Ok(None);
-    }
-    let mut inner = copied(alloc, scope)?;
-    in_block(alloc, procedures, &mut inner, block)
+    let count = scope.len();
+    let found = in_block(alloc, procedures, scope, block)?;
+    scope.truncate(count);
+    Ok(found)
 }
 
 /// The first fault in a block with two things more in force.
@@ -71,17 +75,21 @@ fn in_inner<'a>(
 fn in_inner_with<'a>(
     alloc: Global,
     procedures: &Procedures,
-    mut scope: Vec<Declaration<'a>>,
+    scope: &mut Scope<'a>,
     first: Declaration<'a>,
     second: Declaration<'a>,
     block: &'a [Stmt],
 ) -> Result<Option<RegionError>, NoMemory>
-    ensures { IfOk result (IsLeast (tree_of procedures.now) (declaration_sites scope.entry.items (first.entry ∷ second.entry ∷ [])
-        ++ sites_of_block (tree_of procedures.now) (scope.entry.items ++ first.entry ∷ second.entry ∷ []) (block_of block.now))) }
+    ensures least { IfOk result (IsLeast (tree_of procedures.now) (declaration_sites (seen scope.old) (first.entry ∷ second.entry ∷ [])
+        ++ sites_of_block (tree_of procedures.now) (seen scope.old ++ first.entry ∷ second.entry
+        ∷ []) (block_of block.now))) }
+    ensures scope { OnOk result (scope.new ≡ scope.old) }
 {
-    let twice = declare(&mut scope, first)?;
-    let again = declare(&mut scope, second)?;
-    let inside = in_block(alloc, procedures, &mut scope, block)?;
+    let count = scope.len();
+    let twice = declare(scope, first)?;
+    let again = declare(scope, second)?;
+    let inside = in_block(alloc, procedures, scope, block)?;
+    scope.truncate(count);
     Ok(earlier(earlier(twice, again), inside))
 }
 
@@ -90,10 +98,12 @@ fn in_inner_with<'a>(
 fn within<'a>(
     alloc: Global,
     procedures: &Procedures,
-    scope: &[Declaration<'a>],
+    scope: &mut Scope<'a>,
     statement: &'a Stmt,
 ) -> Result<Option<RegionError>, NoMemory>
-    ensures { IfOk result (IsLeast (tree_of procedures.now) (sites_within (tree_of procedures.now) scope.now (statement_of statement.now))) }
+    ensures least { IfOk result (IsLeast (tree_of procedures.now)
+        (sites_within (tree_of procedures.now) (seen scope.old) (statement_of statement.now))) }
+    ensures scope { OnOk result (scope.new ≡ scope.old) }
 {
     match statement {
         Stmt::If(_, block, other) => {
@@ -103,16 +113,20 @@ fn within<'a>(
         }
         Stmt::While(_, block) => in_inner(alloc, procedures, scope, block),
         Stmt::Split(_, region, _, first, second, block) => {
-            let inner = in_split(alloc, scope, region)?;
-            let first = part(scope, region, first);
-            let second = part(scope, region, second);
-            in_inner_with(alloc, procedures, inner, first, second, block)
+            let first = scope.part(region, first);
+            let second = scope.part(region, second);
+            scope.enter_split(region)?;
+            let inside = in_inner_with(alloc, procedures, scope, first, second, block)?;
+            scope.leave();
+            Ok(inside)
         }
         Stmt::Each(index, element, region, block) => {
-            let inner = in_each(alloc, scope, region)?;
             let index = Declaration::index(index);
-            let element = part(scope, region, element);
-            in_inner_with(alloc, procedures, inner, index, element, block)
+            let element = scope.part(region, element);
+            scope.enter_each(region)?;
+            let inside = in_inner_with(alloc, procedures, scope, index, element, block)?;
+            scope.leave();
+            Ok(inside)
         }
         Stmt::Let(_, _)
         | Stmt::Assign(_, _)
@@ -123,12 +137,10 @@ fn within<'a>(
 }
 
 /// Declares what a statement does for the rest of its block; its fault, if its name is in force.
-fn behind<'a>(
-    scope: &mut Vec<Declaration<'a>>,
-    statement: &'a Stmt,
-) -> Result<Option<RegionError>, NoMemory>
-    ensures least { IfOk result (λ found. (t : ProgramTree) → IsLeast t (declaration_sites scope.old.items (lets_of (statement_of statement.now))) found) }
-    ensures scope { IfOk result (λ _. scope.new.items ≡ scope.old.items ++ lets_of (statement_of statement.now)) }
+fn behind<'a>(scope: &mut Scope<'a>, statement: &'a Stmt) -> Result<Option<RegionError>, NoMemory>
+    ensures least { IfOk result (λ found. (t : ProgramTree)
+        → IsLeast t (declaration_sites (seen scope.old) (lets_of (statement_of statement.now))) found) }
+    ensures scope { OnOk result (Becomes (λ s. s ++ lets_of (statement_of statement.now)) scope.old scope.new) }
 {
     match statement {
         Stmt::Let(name, _) => declare(scope, Declaration::plain(Mode::Int, name)),
@@ -148,11 +160,11 @@ fn behind<'a>(
 fn in_block<'a>(
     alloc: Global,
     procedures: &Procedures,
-    scope: &mut Vec<Declaration<'a>>,
+    scope: &mut Scope<'a>,
     block: &'a [Stmt],
 ) -> Result<Option<RegionError>, NoMemory>
-    ensures least { IfOk result (IsLeast (tree_of procedures.now) (sites_of_block (tree_of procedures.now) scope.old.items (block_of block.now))) }
-    ensures scope { IfOk result (λ _. scope.new.items ≡ scope_behind scope.old.items (block_of block.now)) }
+    ensures least { IfOk result (IsLeast (tree_of procedures.now) (sites_of_block (tree_of procedures.now) (seen scope.old) (block_of block.now))) }
+    ensures scope { OnOk result (Becomes (λ s. scope_behind s (block_of block.now)) scope.old scope.new) }
 {
     let mut found = None;
     for statement in block {
@@ -165,8 +177,9 @@ fn in_block<'a>(
 }
 
 /// The first fault of what a body gives.
-fn in_give(scope: &[Declaration], give: &Option<Give>) -> Option<RegionError>
-    ensures { (t : ProgramTree) → IsLeast t (sites_of_give t scope.now (give_of give.now)) result }
+fn in_give(scope: &Scope, give: &Option<Give>) -> Option<RegionError>
+    ensures { (t : ProgramTree)
+        → IsLeast t (sites_of_give t (seen scope.now) (give_of give.now)) result }
 {
     match give {
         None => None,
@@ -176,11 +189,12 @@ fn in_give(scope: &[Declaration], give: &Option<Give>) -> Option<RegionError>
 
 /// Declares the parameters; the first fault of one whose name is in force.
 fn declare_all<'a>(
-    scope: &mut Vec<Declaration<'a>>,
+    scope: &mut Scope<'a>,
     parameters: &'a [Parameter],
 ) -> Result<Option<RegionError>, NoMemory>
-    ensures least { IfOk result (λ found. (t : ProgramTree) → IsLeast t (declaration_sites scope.old.items (map of_parameter parameters.now)) found) }
-    ensures scope { IfOk result (λ _. scope.new.items ≡ scope.old.items ++ map of_parameter parameters.now) }
+    ensures least { IfOk result (λ found. (t : ProgramTree)
+        → IsLeast t (declaration_sites (seen scope.old) (map of_parameter parameters.now)) found) }
+    ensures scope { OnOk result (Becomes (λ s. s ++ map of_parameter parameters.now) scope.old scope.new) }
 {
     let mut found = None;
     for parameter in parameters {
@@ -198,7 +212,7 @@ pub fn in_procedure(
 ) -> Result<Option<RegionError>, NoMemory>
     ensures { IfOk result (IsLeast (tree_of procedures.now) (sites_of_procedure (tree_of procedures.now) (procedure_of procedure.now))) }
 {
-    let mut scope = Vec::new(alloc);
+    let mut scope = Scope::new(alloc);
     let twice = declare_all(&mut scope, procedure.parameters.as_slice())?;
     let inside = in_block(alloc, procedures, &mut scope, &procedure.body)?;
     let given = in_give(&scope, &procedure.give);

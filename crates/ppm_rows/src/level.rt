@@ -5,8 +5,8 @@ ghost use Rattle.ppm_rows.specs.Operations.{operator_at};
 use ppm_text::Sign;
 use ppm_tree::Operator;
 
-/// The levels of operators with two operands, from the one that binds least. The operands of each are of the next one,
-/// those of the last have no such operator.
+/// The levels of operators with two operands, from the one that binds least. The operands of each
+/// are of the next one, those of the last have no such operator.
 #[derive(Clone, Copy, Debug, PartialEq, Eq)]
 pub enum Level {
     /// `||`

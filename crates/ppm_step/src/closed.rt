@@ -2,7 +2,8 @@
 ghost use Rattle.std.specs.Prelude.{◌≡◌, ◌+◌, ◌<◌};
 ghost use Rattle.ppm_cells.specs.Fields.{Fit};
 ghost use Rattle.ppm_cells.specs.Restart.{address_fields, IsRestart};
-ghost use Rattle.ppm_step.specs.Rows.{at_bottom, above_bottom, below_bottom, by_slot, follows, closed_link, closed_bottom};
+ghost use Rattle.ppm_step.specs.Rows.{at_bottom, above_bottom, below_bottom, by_slot, follows};
+ghost use Rattle.ppm_step.specs.Rows.{closed_link, closed_bottom};
 ghost use Rattle.ppm_step.specs.Facts.{IsAddress, IsRow};
 
 use crate::row::{Point, Row, Seat, Then, broken, left_begins, load};

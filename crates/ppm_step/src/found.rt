@@ -10,7 +10,8 @@ ghost use Rattle.ppm_join.specs.Outcome.{outcome_of_both};
 ghost use Rattle.ppm_step.specs.Contents.{IsContent};
 ghost use Rattle.ppm_step.specs.Rows.{found_at, row_of, by_places};
 ghost use Rattle.ppm_step.specs.Facts.{IsPoint, IsSeat, IsRow};
-ghost use Rattle.ppm_step.specs.declared.content.Content.TheVariants.{ANumber, ARestart, AnEntry, AHolder, ALink, AFinish};
+ghost use Rattle.ppm_step.specs.declared.content.Content.TheVariants.{ANumber, ARestart, AnEntry};
+ghost use Rattle.ppm_step.specs.declared.content.Content.TheVariants.{AHolder, ALink, AFinish};
 ghost use Rattle.ppm_step.specs.declared.row.Row.TheVariants.{Now};
 ghost use Rattle.ppm_step.specs.declared.row.Then.TheVariants.{Load};
 
@@ -76,7 +77,8 @@ pub fn row_of(shape: &Shape, seat: &Seat) -> Row
 fn found_number(shape: &Shape, seat: &Seat, point: &Point, number: u64) -> Row
     requires seat { IsSeat shape.now seat.now }
     requires point { IsPoint point.now }
-    ensures value { (victim : ℕ) → result ≡ found_at shape.now seat.now victim point.now (ANumber number) }
+    ensures value { (victim : ℕ)
+        → result ≡ found_at shape.now seat.now victim point.now (ANumber number) }
     ensures fits { IsRow result }
 {
     match *point {
@@ -135,7 +137,8 @@ fn found_entry(shape: &Shape, seat: &Seat, point: &Point, entry: Entry) -> Row
     requires seat { IsSeat shape.now seat.now }
     requires point { IsPoint point.now }
     requires entry { IsEntry entry }
-    ensures value { (victim : ℕ) → result ≡ found_at shape.now seat.now victim point.now (AnEntry entry) }
+    ensures value { (victim : ℕ)
+        → result ≡ found_at shape.now seat.now victim point.now (AnEntry entry) }
     ensures fits { IsRow result }
 {
     match *point {
@@ -227,7 +230,8 @@ fn found_holder(shape: &Shape, seat: &Seat, victim: u32, point: &Point, holder: 
 fn found_link(seat: &Seat, point: &Point, link: Link) -> Row
     requires point { IsPoint point.now }
     requires link { IsLink link }
-    ensures value { (s : Shape) (victim : ℕ) → result ≡ found_at s seat.now victim point.now (ALink link) }
+    ensures value { (s : Shape) (victim : ℕ)
+        → result ≡ found_at s seat.now victim point.now (ALink link) }
     ensures fits { IsRow result }
 {
     match *point {
@@ -270,7 +274,8 @@ fn found_link(seat: &Seat, point: &Point, link: Link) -> Row
 fn found_finish(seat: &Seat, point: &Point, finish: Finish) -> Row
     requires point { IsPoint point.now }
     requires finish { IsFinish finish }
-    ensures value { (s : Shape) (victim : ℕ) → result ≡ found_at s seat.now victim point.now (AFinish finish) }
+    ensures value { (s : Shape) (victim : ℕ)
+        → result ≡ found_at s seat.now victim point.now (AFinish finish) }
     ensures fits { IsRow result }
 {
     if !finish.is_outcome() {
@@ -327,7 +332,8 @@ fn found_restart(shape: &Shape, seat: &Seat, point: &Point, restart: Restart) ->
     requires seat { IsSeat shape.now seat.now }
     requires point { IsPoint point.now }
     requires restart { IsRestart restart }
-    ensures value { (victim : ℕ) → result ≡ found_at shape.now seat.now victim point.now (ARestart restart) }
+    ensures value { (victim : ℕ)
+        → result ≡ found_at shape.now seat.now victim point.now (ARestart restart) }
     ensures fits { IsRow result }
 {
     match *point {

@@ -97,7 +97,8 @@ impl Home {
     ghost use Rattle.ppm_cells.specs.declared.link.LinkKind.TheVariants.{Branch};
     ghost use Rattle.ppm_step.specs.Contents.{IsContent};
     ghost use Rattle.ppm_step.specs.Facts.{IsEnd, IsHome};
-    ghost use Rattle.ppm_step.specs.Frames.{puts, call_puts, fork_puts, fork_to_puts, fork_puts_by, installed, goes_on, other_copy, target_of, IsNext};
+    ghost use Rattle.ppm_step.specs.Frames.{puts, call_puts, fork_puts, fork_to_puts, fork_puts_by};
+    ghost use Rattle.ppm_step.specs.Frames.{installed, goes_on, other_copy, target_of, IsNext};
 
     /// The copy that is not in use.
     fn other(&self) -> u32
@@ -184,7 +185,8 @@ impl Home {
     /// The n-th store of a fork without targets.
     fn fork_put(&self, code: &Code, left: u32, right: u32, capsule: u32, n: usize) -> Option<Put>
         requires { IsHome self.now }
-        ensures value { result ≡ slice_get (fork_puts code.now self.now left right capsule (self.now.block + (5 + frame_size code.now left))) n }
+        ensures value { result
+            ≡ slice_get (fork_puts code.now self.now left right capsule (self.now.block + (5 + frame_size code.now left))) n }
         ensures fits { IfSome result (λ p. IsContent p.content) }
         ensures few { IfSome result (λ p. n < 11) }
     {
@@ -226,7 +228,8 @@ impl Home {
         n: usize,
     ) -> Option<Put>
         requires { IsHome self.now }
-        ensures value { result ≡ slice_get (fork_to_puts code.now self.now left right capsule (self.now.block + (5 + frame_size code.now left))
+        ensures value { result
+            ≡ slice_get (fork_to_puts code.now self.now left right capsule (self.now.block + (5 + frame_size code.now left))
             (target_of targets.0) (target_of targets.1)) n }
         ensures fits { IfSome result (λ p. IsContent p.content) }
         ensures few { IfSome result (λ p. n < 11) }
@@ -270,7 +273,8 @@ impl Home {
         n: usize,
     ) -> Option<Put>
         requires { IsHome self.now }
-        ensures value { result ≡ slice_get (fork_puts_by code.now self.now procedures.0 procedures.1 capsule targets.0 targets.1) n }
+        ensures value { result
+            ≡ slice_get (fork_puts_by code.now self.now procedures.0 procedures.1 capsule targets.0 targets.1) n }
         ensures fits { IfSome result (λ p. IsContent p.content) }
         ensures few { IfSome result (λ p. n < 11) }
     {

@@ -4,7 +4,8 @@ ghost use Rattle.ppm_cells.specs.Fields.{Fit};
 ghost use Rattle.ppm_cells.specs.Finish.{IsFinish, IsOutcome};
 ghost use Rattle.ppm_cells.specs.Link.{link_address};
 ghost use Rattle.ppm_join.specs.Outcome.{outcome_of_both};
-ghost use Rattle.ppm_step.specs.Rows.{arrives, is_inline, is_last, join_by_order, join_by, join_outcome, right_begins, right_value};
+ghost use Rattle.ppm_step.specs.Rows.{arrives, is_inline, is_last, join_by_order, join_by};
+ghost use Rattle.ppm_step.specs.Rows.{join_outcome, right_begins, right_value};
 ghost use Rattle.ppm_step.specs.Facts.{IsAddress, IsRow};
 
 use crate::content::Content;

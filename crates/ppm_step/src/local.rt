@@ -60,7 +60,9 @@ impl Local {
     ghost use Rattle.ppm_cells.specs.Restart.{restart_of};
     ghost use Rattle.ppm_step.specs.Facts.{IsPoint, IsRow, IsSeat, IsThen};
     ghost use Rattle.ppm_step.specs.Locals.{standing_of, went_if_running, IsLocal};
-    ghost use Rattle.ppm_step.specs.Standings.{IsLost, IsAt, IsBroken, IsDone, wanted, went, enters, begins, stands, stands_then, then_is_there, went_then, went_rest, WantIsWithin};
+    ghost use Rattle.ppm_step.specs.Standings.{IsLost, IsAt, IsBroken, IsDone, wanted, went};
+    ghost use Rattle.ppm_step.specs.Standings.{enters, begins, stands, stands_then, then_is_there};
+    ghost use Rattle.ppm_step.specs.Standings.{went_then, went_rest, WantIsWithin};
     ghost use Rattle.ppm_step.specs.Rows.{row_of};
     ghost use Rattle.ppm_step.specs.Stages.{IsUnderWay, rest_at};
     ghost use Rattle.ppm_step.specs.State.{next_of};
@@ -73,7 +75,8 @@ impl Local {
     pub fn lost(own: u32) -> Local
         ensures own { result.own ≡ own }
         ensures stands { (s : Shape) (code : CodeParts) → standing_of s code result ≡ IsLost }
-        ensures holds { (s : Shape) (code : CodeParts) → own < s.processors → IsLocal s code result }
+        ensures holds { (s : Shape) (code : CodeParts) → own < s.processors
+            → IsLocal s code result }
     {
         Local {
             own,
@@ -86,7 +89,8 @@ impl Local {
     pub fn fault(&mut self)
         ensures own { self.new.own ≡ self.old.own }
         ensures stands { (s : Shape) (code : CodeParts) → standing_of s code self.new ≡ IsLost }
-        ensures holds { (s : Shape) (code : CodeParts) → IsLocal s code self.old → IsLocal s code self.new }
+        ensures holds { (s : Shape) (code : CodeParts) → IsLocal s code self.old
+            → IsLocal s code self.new }
     {
         self.stand = Stand::Lost;
     }
@@ -96,7 +100,8 @@ impl Local {
     pub fn die(&mut self)
         ensures own { self.new.own ≡ self.old.own }
         ensures stands { (s : Shape) (code : CodeParts) → standing_of s code self.new ≡ IsDone }
-        ensures holds { (s : Shape) (code : CodeParts) → IsLocal s code self.old → IsLocal s code self.new }
+        ensures holds { (s : Shape) (code : CodeParts) → IsLocal s code self.old
+            → IsLocal s code self.new }
     {
         self.stand = Stand::Done;
     }
@@ -141,7 +146,8 @@ impl Local {
     pub fn want(&self, shape: &Shape, code: &Code, victim: u32) -> Want
         requires local { IsLocal shape.now code.now self.now }
         requires victim { victim < shape.now.processors }
-        ensures value { result ≡ wanted shape.now self.now.own victim (standing_of shape.now code.now self.now) }
+        ensures value { result
+            ≡ wanted shape.now self.now.own victim (standing_of shape.now code.now self.now) }
         ensures within { WantIsWithin shape.now result }
     {
         match &self.stand {
@@ -185,7 +191,8 @@ impl Local {
         requires carrier { self.old.own < shape.now.processors }
         requires next { IsThen next.now }
         requires there { then_is_there shape.now seat next.now ≡ true }
-        ensures stands { standing_of shape.now code.now self.new ≡ went_then shape.now code.now seat victim found next.now }
+        ensures stands { standing_of shape.now code.now self.new
+            ≡ went_then shape.now code.now seat victim found next.now }
         ensures holds { IsLocal shape.now code.now self.new }
         ensures own_stays { self.new.own ≡ self.old.own }
     {
@@ -236,7 +243,8 @@ impl Local {
     #[inline(never)]
     fn observe_running(&mut self, shape: &Shape, code: &Code, found: u64)
         requires local { IsLocal shape.now code.now self.old }
-        ensures stands { standing_of shape.now code.now self.new ≡ went_if_running shape.now code.now self.old found }
+        ensures stands { standing_of shape.now code.now self.new
+            ≡ went_if_running shape.now code.now self.old found }
         ensures holds { IsLocal shape.now code.now self.new }
         ensures own_stays { self.new.own ≡ self.old.own }
     {
@@ -249,7 +257,8 @@ impl Local {
     #[inline(never)]
     fn observe_any(&mut self, shape: &Shape, code: &Code, victim: u32, found: u64)
         requires local { IsLocal shape.now code.now self.old }
-        ensures stands { standing_of shape.now code.now self.new ≡ went shape.now code.now self.old.own victim found (standing_of shape.now code.now self.old) }
+        ensures stands { standing_of shape.now code.now self.new
+            ≡ went shape.now code.now self.old.own victim found (standing_of shape.now code.now self.old) }
         ensures holds { IsLocal shape.now code.now self.new }
         ensures own { self.new.own ≡ self.old.own }
     {
@@ -288,11 +297,13 @@ impl Local {
     #[inline(always)]
     pub fn observe(&mut self, shape: &Shape, code: &Code, victim: u32, found: u64)
         requires local { IsLocal shape.now code.now self.old }
-        ensures stands { standing_of shape.now code.now self.new ≡ went shape.now code.now self.old.own victim found (standing_of shape.now code.now self.old) }
+        ensures stands { standing_of shape.now code.now self.new
+            ≡ went shape.now code.now self.old.own victim found (standing_of shape.now code.now self.old) }
         ensures holds { IsLocal shape.now code.now self.new }
         ensures own { self.new.own ≡ self.old.own }
     {
-        // The steps of a capsule that goes on with another one are done here, without a copy of what is left of a row.
+        // The steps of a capsule that goes on with another one are done here, without a copy of
+        // what is left of a row.
         match self.stand {
             Stand::At { place, restart } => if found == 0 {
                 self.begin(shape, code, place, restart);

@@ -1,4 +1,5 @@
-//! The rows that take a new block in: its words are taken from the pool, and the right branch of a fork becomes a job.
+//! The rows that take a new block in: its words are taken from the pool, and the right branch of a
+//! fork becomes a job.
 ghost use Rattle.std.specs.Prelude.{◌≡◌, ◌+◌, ◌<◌, IsTrue};
 ghost use Rattle.ppm_cells.specs.Entry.{IsEntry};
 ghost use Rattle.ppm_cells.specs.Link.{IsLink};

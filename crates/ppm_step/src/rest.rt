@@ -5,7 +5,9 @@ ghost use Rattle.ppm_cells.specs.Cells.{address, word_count};
 ghost use Rattle.ppm_step.specs.There.{restart_is_there};
 ghost use Rattle.ppm_step.specs.Points.{cell_at, reading_at};
 ghost use Rattle.ppm_step.specs.Facts.{IsPoint, IsSeat, IsRow, IsThen};
-ghost use Rattle.ppm_step.specs.Standings.{forked, begun, point_is_there, then_is_there, row_is_there, installs, wanted_then, wanted_row, WantIsWithin};
+ghost use Rattle.ppm_step.specs.Standings.{forked, begun, point_is_there, then_is_there};
+ghost use Rattle.ppm_step.specs.Standings.{row_is_there, installs, wanted_then, wanted_row};
+ghost use Rattle.ppm_step.specs.Standings.{WantIsWithin};
 
 use crate::ask::Want;
 use crate::content::Reading;

@@ -49,8 +49,8 @@ pub enum Point {
         frame: u32,
         link: LinkKind,
     },
-    /// The slot and one more into which the frame's value goes in the frame `to`, or 0; behind it comes the right branch of a block, if
-    /// one is named, and else `to` goes on with this copy.
+    /// The slot and one more into which the frame's value goes in the frame `to`, or 0; behind it
+    /// comes the right branch of a block, if one is named, and else `to` goes on with this copy.
     Target {
         frame: u32,
         to: u32,
@@ -148,7 +148,8 @@ pub enum Point {
         slot: u32,
         message: Entry,
     },
-    /// Where a closed place went on, whose local entry in this slot was taken; the block is that of the entry.
+    /// Where a closed place went on, whose local entry in this slot was taken; the block is that of
+    /// the entry.
     ClosedRestart {
         victim: u32,
         slot: u32,

@@ -13,7 +13,8 @@ pub enum Stage {
     Filled,
 }
 
-/// A capsule of a frame under way: where it stands, the number of the capsule, and the instruction after its next step.
+/// A capsule of a frame under way: where it stands, the number of the capsule, and the instruction
+/// after its next step.
 #[derive(Clone, Copy, Debug, PartialEq, Eq)]
 pub struct Running {
     pub seat: Seat,

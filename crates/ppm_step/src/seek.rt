@@ -3,7 +3,8 @@ ghost use Rattle.std.specs.Prelude.{◌≡◌, ◌+◌, ◌^◌, ◌<◌, ◌↔
 ghost use Rattle.ppm_cells.specs.Entry.{IsEntry};
 ghost use Rattle.ppm_cells.specs.Holder.{IsHolder};
 ghost use Rattle.ppm_hold.specs.Change.{CanRise};
-ghost use Rattle.ppm_step.specs.Rows.{seek_holder, seek_dead, seek_top, notes, passes_by, seek_entry, seek_closed};
+ghost use Rattle.ppm_step.specs.Rows.{seek_holder, seek_dead, seek_top, notes, passes_by};
+ghost use Rattle.ppm_step.specs.Rows.{seek_entry, seek_closed};
 ghost use Rattle.ppm_step.specs.Facts.{IsRow};
 
 use crate::content::Content;

@@ -61,8 +61,10 @@ impl Running {
     ghost use Rattle.ppm_step.specs.Frames.{Installs, installed, ending};
     ghost use Rattle.ppm_step.specs.declared.running.Stage.TheVariants.{Ending};
     ghost use Rattle.ppm_step.specs.Facts.{IsHome, IsEnd, IsSeat};
-    ghost use Rattle.ppm_step.specs.Standings.{rest_is_there, running, running_if, wanted_rest, went_rest, WantIsWithin};
-    ghost use Rattle.ppm_step.specs.Stages.{rest_at, rest_from, asked, went_on, IsUnderWay, IsStage, WentOn};
+    ghost use Rattle.ppm_step.specs.Standings.{rest_is_there, running, running_if, wanted_rest};
+    ghost use Rattle.ppm_step.specs.Standings.{went_rest, WantIsWithin};
+    ghost use Rattle.ppm_step.specs.Stages.{rest_at, rest_from, asked, went_on, IsUnderWay};
+    ghost use Rattle.ppm_step.specs.Stages.{IsStage, WentOn};
 
     /// The restart of a kind at its place.
     pub fn restart(&self, kind: RestartKind) -> Restart
@@ -79,7 +81,8 @@ impl Running {
     fn put_is_there(&self, shape: &Shape, code: &Code, end: End, n: usize) -> bool
         requires home { IsHome self.now.home }
         requires end { IsEnd end }
-        ensures { result ≡ rest_is_there shape.now self.now.seat (ending code.now self.now.home end n) }
+        ensures { result
+            ≡ rest_is_there shape.now self.now.seat (ending code.now self.now.home end n) }
     {
         match self.home.next_put(code, end, n) {
             Some(put) => cell_is_there(shape, put.cell),
@@ -87,11 +90,14 @@ impl Running {
         }
     }
 
-    /// Whether the n-th store of the end that goes on with a capsule, or what it installs, is there.
+    /// Whether the n-th store of the end that goes on with a capsule, or what it installs, is
+    /// there.
     #[inline(always)]
     pub fn next_is_there(&self, shape: &Shape, n: usize) -> bool
         requires { IsHome self.now.home }
-        ensures { (code : CodeParts) (capsule : ℕ) → result ≡ rest_is_there shape.now self.now.seat (ending code self.now.home (Next capsule) n) }
+        ensures { (code : CodeParts) (capsule : ℕ)
+            → result
+            ≡ rest_is_there shape.now self.now.seat (ending code self.now.home (Next capsule) n) }
     {
         if n == 0 {
             self.home.header() < shape.word_count()
@@ -106,7 +112,8 @@ impl Running {
         requires home { IsHome self.old.home }
         requires end { IsEnd end }
         ensures stage { self.new.stage ≡ Ending end 0 }
-        ensures there { result ≡ rest_is_there shape.now self.old.seat (ending code.now self.old.home end 0) }
+        ensures there { result
+            ≡ rest_is_there shape.now self.old.seat (ending code.now self.old.home end 0) }
         ensures seat { self.new.seat ≡ self.old.seat }
         ensures home_stays { self.new.home ≡ self.old.home }
         ensures capsule { self.new.capsule ≡ self.old.capsule }
@@ -120,8 +127,10 @@ impl Running {
     pub fn go_on(&mut self, shape: &Shape, code: &Code, registers: &mut [u64; 64]) -> bool
         requires home { IsHome self.old.home }
         requires place { self.old.seat.place < shape.now.processors }
-        ensures left { rest_at shape.now code.now self.new self.new.stage registers.new ≡ rest_from shape.now code.now self.old self.old.next registers.old }
-        ensures there { result ≡ rest_is_there shape.now self.new.seat (rest_at shape.now code.now self.new self.new.stage registers.new) }
+        ensures left { rest_at shape.now code.now self.new self.new.stage registers.new
+            ≡ rest_from shape.now code.now self.old self.old.next registers.old }
+        ensures there { result
+            ≡ rest_is_there shape.now self.new.seat (rest_at shape.now code.now self.new self.new.stage registers.new) }
         ensures stage { IsStage self.new.stage }
         ensures seat { self.new.seat ≡ self.old.seat }
         ensures home_stays { self.new.home ≡ self.old.home }
@@ -171,8 +180,10 @@ impl Running {
         requires seat { IsSeat shape.now self.now.seat }
         requires home { IsHome self.now.home }
         requires end { IsEnd end }
-        requires there { rest_is_there shape.now self.now.seat (ending code.now self.now.home end n) ≡ true }
-        ensures value { result ≡ wanted_rest shape.now self.now.seat (ending code.now self.now.home end n) }
+        requires there { rest_is_there shape.now self.now.seat (ending code.now self.now.home end n)
+            ≡ true }
+        ensures value { result
+            ≡ wanted_rest shape.now self.now.seat (ending code.now self.now.home end n) }
         ensures within { WantIsWithin shape.now result }
     {
         match self.home.next_put(code, end, n) {
@@ -191,7 +202,8 @@ impl Running {
     #[inline(always)]
     pub fn want(&self, shape: &Shape, code: &Code, registers: &[u64; 64]) -> Want
         requires { IsUnderWay shape.now code.now self.now registers.now }
-        ensures value { result ≡ wanted_rest shape.now self.now.seat (rest_at shape.now code.now self.now self.now.stage registers.now) }
+        ensures value { result
+            ≡ wanted_rest shape.now self.now.seat (rest_at shape.now code.now self.now self.now.stage registers.now) }
         ensures within { WantIsWithin shape.now result }
     {
         let _ = registers.len();
@@ -245,7 +257,8 @@ impl Running {
         requires stage_before { IsStage self.old.stage }
         ensures stands { running_if self.old.seat (rest_at shape.now code.now self.new self.new.stage registers.new) result
             ≡ running shape.now self.old.seat (asked shape.now code.now self.old counter words registers.old) }
-        ensures there { result ≡ true → rest_is_there shape.now self.new.seat (rest_at shape.now code.now self.new self.new.stage registers.new) ≡ true }
+        ensures there { result ≡ true
+            → rest_is_there shape.now self.new.seat (rest_at shape.now code.now self.new self.new.stage registers.new) ≡ true }
         ensures home_fits { IsHome self.new.home }
         ensures stage { IsStage self.new.stage }
         ensures seat { self.new.seat ≡ self.old.seat }
@@ -265,7 +278,8 @@ impl Running {
         self.go_on(shape, code, registers)
     }
 
-    /// Goes on behind the n-th store of the end that goes on with a capsule, or behind the store of its restart word.
+    /// Goes on behind the n-th store of the end that goes on with a capsule, or behind the store of
+    /// its restart word.
     #[inline(always)]
     #[tactic(auto, using(crate::proofs::ThereLemmas::restart_fits))]
     pub fn observe_next(
@@ -278,7 +292,8 @@ impl Running {
     ) -> Going
         requires running { IsUnderWay shape.now code.now self.old registers.now }
         requires stage { self.old.stage ≡ Ending (Next capsule) n }
-        ensures stands { (found : ℕ) → went_on self.old.seat (rest_at shape.now code.now self.new self.new.stage registers.now) result
+        ensures stands { (found : ℕ)
+            → went_on self.old.seat (rest_at shape.now code.now self.new self.new.stage registers.now) result
             ≡ went_rest shape.now self.old.seat found (ending code.now self.old.home (Next capsule) n) }
         ensures holds { WentOn shape.now code.now self.new registers.now result }
         ensures seat { self.new.seat ≡ self.old.seat }

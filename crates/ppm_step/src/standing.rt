@@ -26,7 +26,9 @@ impl Local {
     ghost use Rattle.ppm_cells.specs.Restart.{restart_of};
     ghost use Rattle.ppm_step.specs.Facts.{IsPoint, IsRow, IsSeat, IsThen};
     ghost use Rattle.ppm_step.specs.Locals.{standing_of, went_if_running, IsLocal};
-    ghost use Rattle.ppm_step.specs.Standings.{IsLost, IsAt, IsBroken, IsDone, wanted, went, enters, begins, stands, stands_then, then_is_there, went_then, went_rest, WantIsWithin};
+    ghost use Rattle.ppm_step.specs.Standings.{IsLost, IsAt, IsBroken, IsDone, wanted, went};
+    ghost use Rattle.ppm_step.specs.Standings.{enters, begins, stands, stands_then, then_is_there};
+    ghost use Rattle.ppm_step.specs.Standings.{went_then, went_rest, WantIsWithin};
     ghost use Rattle.ppm_step.specs.Rows.{row_of};
     ghost use Rattle.ppm_step.specs.Stages.{IsUnderWay};
     ghost use Rattle.ppm_step.specs.State.{next_of};
@@ -39,8 +41,10 @@ impl Local {
     #[inline(never)]
     pub(crate) fn meet_broken(&mut self, place: u32)
         requires { place < 65 }
-        ensures stands { (s : Shape) (code : CodeParts) → standing_of s code self.new ≡ IsBroken place }
-        ensures holds { (s : Shape) (code : CodeParts) → self.old.own < s.processors → IsLocal s code self.new }
+        ensures stands { (s : Shape) (code : CodeParts)
+            → standing_of s code self.new ≡ IsBroken place }
+        ensures holds { (s : Shape) (code : CodeParts) → self.old.own < s.processors
+            → IsLocal s code self.new }
         ensures own_stays { self.new.own ≡ self.old.own }
     {
         self.stand = Stand::Broken { place };
@@ -49,8 +53,10 @@ impl Local {
     /// It has read the restart word of its place.
     #[inline(never)]
     pub(crate) fn read_restart(&mut self, place: u32, found: u64)
-        ensures stands { (s : Shape) (code : CodeParts) → standing_of s code self.new ≡ IsAt place (restart_of found) }
-        ensures holds { (s : Shape) (code : CodeParts) → self.old.own < s.processors → place < s.processors → IsLocal s code self.new }
+        ensures stands { (s : Shape) (code : CodeParts)
+            → standing_of s code self.new ≡ IsAt place (restart_of found) }
+        ensures holds { (s : Shape) (code : CodeParts) → self.old.own < s.processors
+            → place < s.processors → IsLocal s code self.new }
         ensures own_stays { self.new.own ≡ self.old.own }
     {
         self.stand = Stand::At {
@@ -65,7 +71,8 @@ impl Local {
         requires seat { IsSeat shape.now seat }
         requires own { seat.own ≡ self.old.own }
         requires carrier { self.old.own < shape.now.processors }
-        ensures stands { standing_of shape.now code.now self.new ≡ enters shape.now code.now seat seat.restart.kind (slice_get code.now.capsules number) }
+        ensures stands { standing_of shape.now code.now self.new
+            ≡ enters shape.now code.now seat seat.restart.kind (slice_get code.now.capsules number) }
         ensures holds { IsLocal shape.now code.now self.new }
         ensures own_stays { self.new.own ≡ self.old.own }
     {
@@ -83,7 +90,8 @@ impl Local {
         requires own { seat.own ≡ self.old.own }
         requires carrier { self.old.own < shape.now.processors }
         requires next { IsThen next.now }
-        ensures stands { standing_of shape.now code.now self.new ≡ stands_then shape.now code.now seat next.now }
+        ensures stands { standing_of shape.now code.now self.new
+            ≡ stands_then shape.now code.now seat next.now }
         ensures holds { IsLocal shape.now code.now self.new }
         ensures own_stays { self.new.own ≡ self.old.own }
     {
@@ -113,7 +121,8 @@ impl Local {
         requires own { seat.own ≡ self.old.own }
         requires carrier { self.old.own < shape.now.processors }
         requires row { IsRow row.now }
-        ensures stands { standing_of shape.now code.now self.new ≡ stands shape.now code.now seat row.now }
+        ensures stands { standing_of shape.now code.now self.new
+            ≡ stands shape.now code.now seat row.now }
         ensures holds { IsLocal shape.now code.now self.new }
         ensures own_stays { self.new.own ≡ self.old.own }
     {
@@ -136,7 +145,9 @@ impl Local {
         requires own { seat.own ≡ self.old.own }
         requires carrier { self.old.own < shape.now.processors }
         requires point { IsPoint (Header frame copy) }
-        ensures stands { (code : CodeParts) → standing_of shape.now code self.new ≡ stands shape.now code seat (Now (Load (Header frame copy))) }
+        ensures stands { (code : CodeParts)
+            → standing_of shape.now code self.new
+            ≡ stands shape.now code seat (Now (Load (Header frame copy))) }
         ensures holds { (code : CodeParts) → IsLocal shape.now code self.new }
         ensures own_stays { self.new.own ≡ self.old.own }
     {
@@ -156,7 +167,8 @@ impl Local {
         requires seat { IsSeat shape.now seat }
         requires own { seat.own ≡ self.old.own }
         requires carrier { self.old.own < shape.now.processors }
-        ensures stands { standing_of shape.now code.now self.new ≡ stands shape.now code.now seat (row_of shape.now seat seat.restart.kind) }
+        ensures stands { standing_of shape.now code.now self.new
+            ≡ stands shape.now code.now seat (row_of shape.now seat seat.restart.kind) }
         ensures holds { IsLocal shape.now code.now self.new }
         ensures own_stays { self.new.own ≡ self.old.own }
     {
@@ -170,7 +182,8 @@ impl Local {
         requires place { place < shape.now.processors }
         requires restart { IfSome restart IsRestart }
         requires carrier { self.old.own < shape.now.processors }
-        ensures stands { standing_of shape.now code.now self.new ≡ begins shape.now code.now self.old.own place restart }
+        ensures stands { standing_of shape.now code.now self.new
+            ≡ begins shape.now code.now self.old.own place restart }
         ensures holds { IsLocal shape.now code.now self.new }
         ensures own_stays { self.new.own ≡ self.old.own }
     {
@@ -206,8 +219,9 @@ impl Local {
     }
 }
 
-/// The address of the header with which the frame of a seat goes on. `None` exactly where the seat's capsule is none of a frame, or its
-/// restart word names what isn't there, or the header itself isn't there.
+/// The address of the header with which the frame of a seat goes on. `None` exactly where the
+/// seat's capsule is none of a frame, or its restart word names what isn't there, or the header
+/// itself isn't there.
 #[inline(always)]
 pub fn header_of(shape: &Shape, seat: Seat) -> Option<u32>
     requires own { seat.own < shape.now.processors }
@@ -229,8 +243,9 @@ pub fn header_of(shape: &Shape, seat: Seat) -> Option<u32>
     }
 }
 
-/// The capsule with a number, begun by the seat's frame with registers of 0, up to its first word step; `None` where the place has
-/// met broken words: there is no such capsule, or that word isn't there.
+/// The capsule with a number, begun by the seat's frame with registers of 0, up to its first word
+/// step; `None` where the place has met broken words: there is no such capsule, or that word isn't
+/// there.
 #[inline(always)]
 pub fn entered(
     shape: &Shape,
@@ -242,7 +257,8 @@ pub fn entered(
     requires { IsSeat shape.now seat }
     ensures stands { HasEntered shape.now code.now seat registers.new
         (enters shape.now code.now seat seat.restart.kind (slice_get code.now.capsules number)) result }
-    ensures holds { IfSome result (λ running. IsUnderWay shape.now code.now running registers.new × (running.seat ≡ seat)) }
+    ensures holds { IfSome result (λ running. IsUnderWay shape.now code.now running registers.new
+        × (running.seat ≡ seat)) }
 {
     let RestartKind::Run { frame, copy } = seat.restart.kind else {
         return None;

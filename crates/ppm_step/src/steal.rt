@@ -2,7 +2,8 @@
 ghost use Rattle.std.specs.Prelude.{◌≡◌, ◌+◌, ◌<◌, IsTrue, IfSome};
 ghost use Rattle.ppm_cells.specs.Entry.{IsEntry};
 ghost use Rattle.ppm_deque.specs.Change.{IsJob, IsLocal, CanRise};
-ghost use Rattle.ppm_step.specs.Rows.{taken_so, steals, can_be_taken, taken_message, took, goes_on_with, taken_entry};
+ghost use Rattle.ppm_step.specs.Rows.{taken_so, steals, can_be_taken, taken_message, took};
+ghost use Rattle.ppm_step.specs.Rows.{goes_on_with, taken_entry};
 ghost use Rattle.ppm_step.specs.Facts.{IsRow};
 
 use crate::entries::{rises, try_change};

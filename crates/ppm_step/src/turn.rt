@@ -13,7 +13,8 @@ pub enum Why {
 /// What a processor does in a turn.
 #[derive(Clone, Copy, Debug, PartialEq, Eq)]
 pub enum Act {
-    /// The word step that comes next; where it is the load of a holder word, that of the place `victim`.
+    /// The word step that comes next; where it is the load of a holder word, that of the place
+    /// `victim`.
     Step { victim: u32 },
     /// It loses its registers.
     Soft,
@@ -33,7 +34,8 @@ pub struct Turn {
 /// What a processor's coming step is.
 #[derive(Clone, Copy, Debug, PartialEq, Eq)]
 pub enum Next {
-    /// A word step in a capsule of kind Run, Bump, Push1, Push2, Unwind, Arrive, Join, Pop1 or Pop2.
+    /// A word step in a capsule of kind Run, Bump, Push1, Push2, Unwind, Arrive, Join, Pop1 or
+    /// Pop2.
     Work,
     /// Another step.
     Look,
@@ -43,8 +45,8 @@ pub enum Next {
     Done,
 }
 
-/// What is told of a turn: its event, `None` where the processor was done before; whether it was work; and what the processor's coming
-/// step is.
+/// What is told of a turn: its event, `None` where the processor was done before; whether it was
+/// work; and what the processor's coming step is.
 #[derive(Clone, Copy, Debug, PartialEq, Eq)]
 pub struct Told {
     pub event: Option<Event>,

@@ -3,7 +3,8 @@ ghost use Rattle.std.specs.Prelude.{◌≡◌, ◌+◌, ◌<◌, IfSome};
 ghost use Rattle.ppm_cells.specs.Fields.{Fit};
 ghost use Rattle.ppm_cells.specs.Finish.{IsFinish, IsOutcome};
 ghost use Rattle.ppm_cells.specs.Link.{IsLink, link_address};
-ghost use Rattle.ppm_step.specs.Rows.{unwind_by, trapped, unwound, after_value, target_found, value_found};
+ghost use Rattle.ppm_step.specs.Rows.{unwind_by, trapped, unwound, after_value, target_found};
+ghost use Rattle.ppm_step.specs.Rows.{value_found};
 ghost use Rattle.ppm_step.specs.Facts.{IsAddress, IsFrame, IsThen, IsRow};
 
 use crate::content::Content;

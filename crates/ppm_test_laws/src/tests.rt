@@ -15,9 +15,9 @@ use ppm_ownership::{
 };
 use ppm_strands::{
     a_change_at_one_leaf, a_change_passes_up, a_step_in_turn, ahead_composes, any_order,
-    calls_resume, calm_by_listed_regions, chains_in_turn, chains_pass_up,
-    changes_what_it_writes, forks_resume, goes_by_parts, has_one_end, larger_bounds_agree,
-    locality, strands_beside_do_not_race, what_stands_is_to_come,
+    calls_resume, calm_by_listed_regions, chains_in_turn, chains_pass_up, changes_what_it_writes,
+    forks_resume, goes_by_parts, has_one_end, larger_bounds_agree, locality,
+    strands_beside_do_not_race, what_stands_is_to_come,
 };
 use std::test::Fail;
 

@@ -207,13 +207,15 @@ fn take_piece(
     }
 }
 
-/// The tokens of a text, in their order. A text of more than 1,048,576 bytes is `TooLong`, whatever is in it; any other
-/// fault names the first place at which the longest-token rule comes to no token, blank or comment that the limits allow.
+/// The tokens of a text, in their order. A text of more than 1,048,576 bytes is `TooLong`, whatever
+/// is in it; any other fault names the first place at which the longest-token rule comes to no
+/// token, blank or comment that the limits allow.
 pub fn tokens(alloc: Global, text: &[u8]) -> Result<Tokens, TextError>
     ensures read { IfOk result (λ all. IsTextOf text.now all.tokens) }
     ensures len { IfOk result (λ all. all.text_len ≡ length text.now) }
     ensures within { OnOk result (length text.now ≤ text_limit) }
-    ensures too_long { (result ≡ Err (TextError.TooLong text_limit)) ↔ (text_limit < length text.now) }
+    ensures too_long { (result ≡ Err (TextError.TooLong text_limit))
+        ↔ (text_limit < length text.now) }
     ensures refused { IfErr result (IsRefused text.now) }
 {
     if text.len() > TEXT_LIMIT {

@@ -1,4 +1,5 @@
-//! How keywords and signs are spelled: by their length, then byte by byte, since a text is mostly of them.
+//! How keywords and signs are spelled: by their length, then byte by byte, since a text is mostly
+//! of them.
 ghost use Rattle.std.specs.Prelude.{◌≡◌, [], ◌∷◌};
 ghost use Rattle.ppm_text.specs.Spelling.{keyword_of, sign_of};
 

@@ -29,8 +29,8 @@ pub enum TextError {
 }
 
 impl TextError {
-    /// The number of the fault: 1 `NotAscii`, 2 `BadChar`, 3 `NumberTooBig`, 4 `NameTooLong`, 5 `TooLong`; 0 where
-    /// memory was refused.
+    /// The number of the fault: 1 `NotAscii`, 2 `BadChar`, 3 `NumberTooBig`, 4 `NameTooLong`, 5
+    /// `TooLong`; 0 where memory was refused.
     pub fn number(self) -> u32
         ensures { result ≡ number_of self }
     {
@@ -44,7 +44,8 @@ impl TextError {
         }
     }
 
-    /// The place of the fault, counted in bytes from 0; 1048576 for `TooLong`, 0 where memory was refused.
+    /// The place of the fault, counted in bytes from 0; 1048576 for `TooLong`, 0 where memory was
+    /// refused.
     pub fn place(self) -> u32
         ensures { result ≡ place_of self }
     {

@@ -7,9 +7,9 @@ ghost use Rattle.ppm_text.specs.Tokens.{StandsIn, AreTokens, text_tokens};
 use crate::token::Token;
 use std::marker::Model;
 
-/// The tokens of a text, in their order, with how many bytes the text has, 1,048,576 at most. Each token's place is
-/// below that number, its line from 1 to one more than its place; its name has 1 to 32 bytes, its number is up to
-/// 2^63 - 1.
+/// The tokens of a text, in their order, with how many bytes the text has, 1,048,576 at most. Each
+/// token's place is below that number, its line from 1 to one more than its place; its name has 1
+/// to 32 bytes, its number is up to 2^63 - 1.
 #[derive(Drop)]
 pub struct Tokens {
     list: Vec<Token>,

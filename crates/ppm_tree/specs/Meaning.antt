@@ -7,7 +7,7 @@ use Rattle.ppm_tree.specs.State.{TrapAt, then_with, Region, first_part, second_p
 use Rattle.ppm_tree.specs.State.{Arrays, with_word, split_at, evaluate, put_values, procedure_named, entered, both_entered, delivered}
 
 -- Plain: a trap stops the run. Whole: both branches of a fork run, and all blocks of an `each`; those behind a trap run from
--- the arrays that it leaves, which by the region rules are to them as at the start.
+-- the arrays that it leaves, which by the region rules are to them as at the start (`run_in_either_order` of `ppm_ownership`).
 pub data Form : Type 0 where
   Plain : Form
   Whole : Form

@@ -1,7 +1,9 @@
 //! The tree of a program of the language, its limits and its serial meaning.
-//! Model: a tree without pointers (`specs/Tree.antt`) within limits (`specs/Limits.antt`); a big-step relation says
-//! what a run of it spends and how it ends (`specs/Meaning.antt`, `specs/Program.antt`).
-//! Contract: laws of the meaning (`specs/Correct.antt`, `specs/Begun.antt`), and operators (`specs/Values.antt`).
+//! Model: a tree without pointers (`specs/Tree.antt`) within limits (`specs/Limits.antt`); a
+//! big-step relation says what a run of it spends and how it ends (`specs/Meaning.antt`,
+//! `specs/Program.antt`).
+//! Contract: laws of the meaning (`specs/Correct.antt`, `specs/Begun.antt`), and operators
+//! (`specs/Values.antt`).
 //! Stands on `ppm_words`; the front end, the interpreter and the compiler stand on it.
 //! The meaning is a natural (big-step) semantics after Kahn; the language is this project's.
 #![tactic(auto)]

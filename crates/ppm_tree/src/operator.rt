@@ -35,8 +35,8 @@ pub enum Operator {
     Or,
 }
 
-/// The value of an operator at two values, or its trap: a division by zero, or an overflow, where the result is no
-/// value, and in a division also where the quotient is none.
+/// The value of an operator at two values, or its trap: a division by zero, or an overflow, where
+/// the result is no value, and in a division also where the quotient is none.
 pub fn apply(operator: Operator, x: i64, y: i64) -> Result<i64, Trap>
     ensures value { result ≡ applied operator x y }
 {

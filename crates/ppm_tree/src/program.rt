@@ -6,9 +6,10 @@ ghost use Rattle.ppm_tree.specs.Limits.{IsWithin};
 use crate::tree::Tree;
 use std::marker::Model;
 
-/// A tree that passes none of the limits: 64 arrays with 4,194,304 words in all; 1,024 procedures, each `each` counted
-/// with them, of 12 parameters and with blocks 32 deep; 12 arguments in a call and 48 nodes in a statement. Its names
-/// have the form of one and are no keywords, its literals are from 0 to 2^63 - 1, its lines from 1 to 1,048,577.
+/// A tree that passes none of the limits: 64 arrays with 4,194,304 words in all; 1,024 procedures,
+/// each `each` counted with them, of 12 parameters and with blocks 32 deep; 12 arguments in a call
+/// and 48 nodes in a statement. Its names have the form of one and are no keywords, its literals
+/// are from 0 to 2^63 - 1, its lines from 1 to 1,048,577.
 #[derive(Drop)]
 pub struct Program {
     tree: Tree,

@@ -29,7 +29,8 @@ pub struct Argument {
     pub value: Expr,
 }
 
-/// A call, or a side of a fork: the local that gets the value, if any, the procedure and its arguments.
+/// A call, or a side of a fork: the local that gets the value, if any, the procedure and its
+/// arguments.
 #[derive(Drop)]
 pub struct Side {
     pub target: Option<Named>,
@@ -46,7 +47,8 @@ pub enum Stmt {
     Assign(Named, Expr),
     /// An assignment to an element of a region: index, then value.
     Put(Named, Expr, Expr),
-    /// A test, the block where it holds, and the one where it doesn't, which is empty where there is no `else`.
+    /// A test, the block where it holds, and the one where it doesn't, which is empty where there
+    /// is no `else`.
     If(Expr, Vec<Stmt>, Vec<Stmt>),
     /// A test and the block that is run as long as it holds.
     While(Expr, Vec<Stmt>),
@@ -54,7 +56,8 @@ pub enum Stmt {
     Call(Side),
     /// Two calls, each in a branch of its own.
     Fork(Side, Side),
-    /// A region in two parts, with the line of the word: the region, how many words the first part has, both parts.
+    /// A region in two parts, with the line of the word: the region, how many words the first part
+    /// has, both parts.
     Split(u32, Named, Expr, Named, Named, Vec<Stmt>),
     /// A block for each index of a region: the index, the part of one element, the region.
     Each(Named, Named, Named, Vec<Stmt>),
@@ -74,7 +77,8 @@ pub struct Parameter {
     pub name: Named,
 }
 
-/// A procedure: its name, its parameters, the statements of its body and what the body gives behind them, if anything.
+/// A procedure: its name, its parameters, the statements of its body and what the body gives behind
+/// them, if anything.
 #[derive(Drop)]
 pub struct Proc {
     pub name: Named,

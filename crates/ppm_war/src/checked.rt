@@ -1,12 +1,13 @@
 //! The check of a whole code.
 ghost use Rattle.std.specs.Prelude.{◌≡◌, ◌<◌, length, MatchOption, MatchResult};
-ghost use Rattle.ppm_war.specs.Conflicts.{HasNoConflictIn, IsFirstConflictIn, IsFree, IsFirstConflictOf};
+ghost use Rattle.ppm_war.specs.Conflicts.{HasNoConflictIn, IsFirstConflictIn, IsFree};
+ghost use Rattle.ppm_war.specs.Conflicts.{IsFirstConflictOf};
 
 use crate::conflict::conflict_in;
 use ppm_code::{Class, Code};
 
-/// The first conflict of a code: the least capsule that has one, then the least read, then the least
-/// write. All count from 0.
+/// The first conflict of a code: the least capsule that has one, then the least read, then the
+/// least write. All count from 0.
 #[derive(Clone, Copy, Debug, PartialEq, Eq)]
 pub struct Conflict {
     pub capsule: u32,
@@ -40,8 +41,8 @@ fn conflict_of(code: &Code, number: usize) -> Option<Conflict>
     }
 }
 
-/// Whether each capsule of a code may be stopped anywhere and begun again: `Ok` exactly where none has a
-/// conflict on any path, else the first conflict. No memory is taken.
+/// Whether each capsule of a code may be stopped anywhere and begun again: `Ok` exactly where none
+/// has a conflict on any path, else the first conflict. No memory is taken.
 pub fn check(code: &Code) -> Result<Checked<'_>, Conflict>
     ensures { MatchResult result
         (λ checked. (checked.code.now ≡ code.now) × IsFree code.now)

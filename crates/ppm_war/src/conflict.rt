@@ -1,5 +1,6 @@
 //! The first conflict of a capsule.
-ghost use Rattle.std.specs.Prelude.{◌≡◌, ◌↔◌, ◌<◌, ◌≤◌, ◌+◌, IsTrue, List, MatchOption, None, get_or, take, length};
+ghost use Rattle.std.specs.Prelude.{◌≡◌, ◌↔◌, ◌<◌, ◌≤◌, ◌+◌, IsTrue, List, MatchOption, None};
+ghost use Rattle.std.specs.Prelude.{get_or, take, length};
 ghost use Rattle.std.specs.List.{Contains};
 ghost use Rattle.ppm_code.specs.Limits.{instr_limit};
 ghost use Rattle.ppm_code.specs.Paths.{Exposes, HasNoConflict, IsConflict, Path};
@@ -8,7 +9,8 @@ ghost use Rattle.ppm_code.specs.declared.class.May.TheVariants.{Read, Write};
 ghost use Rattle.ppm_code.specs.declared.instr.Instr.{Instr};
 ghost use Rattle.ppm_war.specs.Conflicts.{IsFirstConflict};
 ghost use Rattle.ppm_war.specs.Marks.{IsDecoded, IsMarked};
-ghost use Rattle.ppm_war.specs.Search.{Is, IsAnswer, IsFirst, IsReadBelow, LeadsToWrite, earlier as earlier_of};
+ghost use Rattle.ppm_war.specs.Search.{Is, IsAnswer, IsFirst, IsReadBelow, LeadsToWrite};
+ghost use Rattle.ppm_war.specs.Search.{earlier as earlier_of};
 
 use crate::firsts::first_writes;
 use crate::masks::is_free;
@@ -99,7 +101,8 @@ fn conflict_of(mays: &[May], class: Class) -> Option<Found>
 
 /// The class that an instruction may read.
 pub(crate) fn class_read(may: May) -> Option<Class>
-    ensures { MatchOption result ((class : Class) → may ≡ Read class → ⊥) (λ class. may ≡ Read class) }
+    ensures { MatchOption result ((class : Class) → may ≡ Read class
+        → ⊥) (λ class. may ≡ Read class) }
 {
     match may {
         May::Read(class) => Some(class),
@@ -124,13 +127,14 @@ fn earlier(a: Option<Found>, b: Option<Found>) -> Option<Found>
     }
 }
 
-/// The first conflict of the classes that are read up to a place, by that of those below it. A class is
-/// searched where it is read for the first time.
+/// The first conflict of the classes that are read up to a place, by that of those below it. A
+/// class is searched where it is read for the first time.
 fn with_class_at(mays: &[May], found: Option<Found>, place: usize) -> Option<Found>
     requires most { length mays.now ≤ instr_limit }
     requires there { place < length mays.now }
     ensures { (is : List Instr) → IsDecoded is mays.now
-        → IsAnswer (IsReadBelow is place) is found → IsAnswer (IsReadBelow is (place + 1)) is result }
+        → IsAnswer (IsReadBelow is place) is found
+        → IsAnswer (IsReadBelow is (place + 1)) is result }
 {
     match class_read(mays[place]) {
         Some(class) => {
@@ -161,8 +165,9 @@ fn first_conflict(mays: &[May]) -> Option<Found>
     found
 }
 
-/// The conflict of a capsule with the least read, and then the least write; `None` exactly where no path
-/// has one. Two passes over the capsule tell most that have none, and each class that is read takes two more.
+/// The conflict of a capsule with the least read, and then the least write; `None` exactly where no
+/// path has one. Two passes over the capsule tell most that have none, and each class that is read
+/// takes two more.
 pub fn conflict_in(instrs: &[Instr]) -> Option<Found>
     requires { length instrs.now ≤ instr_limit }
     ensures { MatchOption result (HasNoConflict instrs.now) (IsFirstConflict instrs.now) }

@@ -4,7 +4,8 @@ ghost use Rattle.ppm_code.specs.Limits.{instr_limit};
 ghost use Rattle.ppm_code.specs.Paths.{Does};
 ghost use Rattle.ppm_code.specs.declared.instr.Instr.{Instr};
 ghost use Rattle.ppm_war.specs.Marks.{IsDecoded};
-ghost use Rattle.ppm_war.specs.Search.{IsFirst, LeadsToWrite, first_behind as behind, lesser as lesser_of};
+ghost use Rattle.ppm_war.specs.Search.{IsFirst, LeadsToWrite, first_behind as behind};
+ghost use Rattle.ppm_war.specs.Search.{lesser as lesser_of};
 
 use crate::paths::writes;
 use ppm_code::{Class, May};
@@ -27,7 +28,8 @@ fn first_at(firsts: &[Option<u32>; 161], place: usize) -> Option<u32>
     if place < 161 { firsts[place] } else { None }
 }
 
-/// The first write to which an instruction at a place leads that is none itself, by those of later places.
+/// The first write to which an instruction at a place leads that is none itself, by those of later
+/// places.
 fn first_behind(firsts: &[Option<u32>; 161], may: May, at: usize) -> Option<u32>
     requires { at < instr_limit }
     ensures { result ≡ behind firsts.now may at }
@@ -48,7 +50,8 @@ fn first_behind(firsts: &[Option<u32>; 161], may: May, at: usize) -> Option<u32>
 fn first_from(firsts: &[Option<u32>; 161], may: May, at: usize, class: Class) -> Option<u32>
     requires { at < instr_limit }
     ensures { (is : List Instr) → Does is at may
-        → ((from : ℕ) → at < from → IsFirst (LeadsToWrite is class from) (get_or firsts.now from None))
+        → ((from : ℕ) → at < from
+        → IsFirst (LeadsToWrite is class from) (get_or firsts.now from None))
         → IsFirst (LeadsToWrite is class at) result }
 {
     if writes(may, class) {
@@ -57,8 +60,8 @@ fn first_from(firsts: &[Option<u32>; 161], may: May, at: usize, class: Class) ->
     first_behind(firsts, may, at)
 }
 
-/// For each place of a capsule the first write of the class to which paths from there lead, by what the
-/// instructions may do.
+/// For each place of a capsule the first write of the class to which paths from there lead, by what
+/// the instructions may do.
 pub(crate) fn first_writes(mays: &[May], class: Class) -> [Option<u32>; 161]
     requires { length mays.now ≤ instr_limit }
     ensures { (is : List Instr) (from : ℕ) → IsDecoded is mays.now

@@ -1,8 +1,12 @@
 //! The conflict check: whether a capsule of code may be stopped anywhere and begun again.
-//! Model: paths through the instructions of a capsule, and conflicts on them (`ppm_code`, `specs/Paths`).
-//! Contract: `check` answers the least conflict, exactly where there is one; what it accepts may be run again.
-//! Stands on `ppm_code`; `ppm_checking` calls it, and whoever runs a code asks for what it accepts.
-//! After the write-after-read conflicts of Blelloch et al., SPAA 2018; the check over paths is this project's.
+//! Model: paths through the instructions of a capsule, and conflicts on them (`ppm_code`,
+//! `specs/Paths`).
+//! Contract: `check` answers the least conflict, exactly where there is one; what it accepts may be
+//! run again.
+//! Stands on `ppm_code`; the command `check` calls it, and the code of a program is such as it
+//! accepts (`ppm_cut_sound`).
+//! After the write-after-read conflicts of Blelloch et al., SPAA 2018; the check over paths is this
+//! project's.
 #![tactic(auto)]
 
 mod checked;

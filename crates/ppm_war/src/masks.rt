@@ -1,5 +1,5 @@
-//! Sets of classes, as bits: which may be exposed at each place of a capsule, and which may be written from there on.
-//! They may have too many classes, and never too few.
+//! Sets of classes, as bits: which may be exposed at each place of a capsule, and which may be
+//! written from there on. They may have too many classes, and never too few.
 ghost use Rattle.std.specs.Prelude.{◌≡◌, ◌↔◌, ◌+◌, ◌<◌, ◌≤◌, ℕ, List, IsTrue, get_or, length};
 ghost use Rattle.std.specs.Int.{bit_at};
 ghost use Rattle.ppm_code.specs.Limits.{instr_limit};
@@ -45,7 +45,8 @@ fn with_bit(mask: u32, bit: u32) -> u32
 /// The set without a bit.
 fn without_bit(mask: u32, bit: u32) -> u32
     requires { bit < 32 }
-    ensures { (other : ℕ) → other < 32 → (other ≡ bit → ⊥) → bit_at mask other ≡ 1 → bit_at result other ≡ 1 }
+    ensures { (other : ℕ) → other < 32 → (other ≡ bit → ⊥) → bit_at mask other ≡ 1
+        → bit_at result other ≡ 1 }
 {
     mask & !(1 << bit)
 }
@@ -90,7 +91,8 @@ fn put(masks: &mut [u32; 161], place: usize, mask: u32)
 fn expose(masks: &mut [u32; 161], may: May, at: usize)
     requires { at < instr_limit }
     ensures kept { (c : Class) (to : ℕ) → HasAt masks.old to c → HasAt masks.new to c }
-    ensures goes { (c : Class) (to : ℕ) → to < 161 → HasAt masks.old at c → Exposes c may → GoesTo may at to
+    ensures goes { (c : Class) (to : ℕ) → to < 161 → HasAt masks.old at c → Exposes c may
+        → GoesTo may at to
         → HasAt masks.new to c }
 {
     let mask = masks[at];
@@ -126,7 +128,8 @@ fn exposed(mays: &[May]) -> [u32; 161]
 fn written_from(masks: &[u32; 161], may: May, at: usize) -> u32
     requires { at < instr_limit }
     ensures here { (c : Class) → may ≡ Write c → Has result c }
-    ensures later { (c : Class) (next : ℕ) → GoesTo may at next → HasAt masks.now next c → Has result c }
+    ensures later { (c : Class) (next : ℕ) → GoesTo may at next → HasAt masks.now next c
+        → Has result c }
 {
     match may {
         May::Work => masks[at + 1],
@@ -162,7 +165,8 @@ fn may_conflict(may: May, before: u32, after: u32) -> bool
     }
 }
 
-/// Whether it is seen at once that no read of a capsule is in conflict, in two passes for all classes.
+/// Whether it is seen at once that no read of a capsule is in conflict, in two passes for all
+/// classes.
 pub(crate) fn is_free(mays: &[May]) -> bool
     requires { length mays.now ≤ instr_limit }
     ensures { (is : List Instr) → IsDecoded is mays.now → IsTrue result → HasNoConflict is }

@@ -18,8 +18,8 @@ pub(crate) fn writes(may: May, class: Class) -> bool
     }
 }
 
-/// Whether a path may pass such an instruction: any, where no class is named; else one that does not
-/// write the class, and any for the array words.
+/// Whether a path may pass such an instruction: any, where no class is named; else one that does
+/// not write the class, and any for the array words.
 fn allows(class: Option<Class>, may: May) -> bool
     ensures { IsTrue result ↔ Allows class may }
 {
@@ -34,7 +34,8 @@ fn allows(class: Option<Class>, may: May) -> bool
 
 /// Marks a place, if it is below 160.
 fn mark(marks: &mut [bool; 160], place: usize)
-    ensures { (to : ℕ) → to < instr_limit → IsMarked marks.new to ↔ (IsMarked marks.old to ⊎ (to ≡ place)) }
+    ensures { (to : ℕ) → to < instr_limit
+        → IsMarked marks.new to ↔ (IsMarked marks.old to ⊎ (to ≡ place)) }
 {
     if place < 160 {
         marks[place] = true;
@@ -44,7 +45,8 @@ fn mark(marks: &mut [bool; 160], place: usize)
 /// Marks where a path goes on from an instruction at a place.
 fn go_on(marks: &mut [bool; 160], may: May, at: usize)
     requires { at < instr_limit }
-    ensures { (to : ℕ) → to < instr_limit → IsMarked marks.new to ↔ (IsMarked marks.old to ⊎ GoesTo may at to) }
+    ensures { (to : ℕ) → to < instr_limit
+        → IsMarked marks.new to ↔ (IsMarked marks.old to ⊎ GoesTo may at to) }
 {
     match may {
         May::Work => mark(marks, at + 1),
@@ -83,8 +85,8 @@ pub(crate) fn decoded(instrs: &[Instr]) -> [May; 160]
     mays
 }
 
-/// The places that a path comes to from one of them, past instructions that are allowed, by what the
-/// instructions may do.
+/// The places that a path comes to from one of them, past instructions that are allowed, by what
+/// the instructions may do.
 pub(crate) fn places_from(mays: &[May], from: usize, class: Option<Class>) -> [bool; 160]
     requires { length mays.now ≤ instr_limit }
     ensures { (is : List Instr) (to : ℕ) → IsDecoded is mays.now → to < length is
@@ -103,7 +105,8 @@ pub(crate) fn places_from(mays: &[May], from: usize, class: Option<Class>) -> [b
 /// The places of a capsule that any path comes to from one of them.
 pub(crate) fn all_places_from(instrs: &[Instr], from: usize) -> [bool; 160]
     requires { length instrs.now ≤ instr_limit }
-    ensures { (to : ℕ) → to < length instrs.now → IsMarked result to ↔ Path instrs.now (Allows None) from to }
+    ensures { (to : ℕ) → to < length instrs.now
+        → IsMarked result to ↔ Path instrs.now (Allows None) from to }
 {
     let mays = decoded(instrs);
     places_from(&mays[..instrs.len()], from, None)

@@ -2,9 +2,11 @@
 ghost use Rattle.std.specs.Prelude.{◌≡◌, ◌↔◌, ◌+◌, ◌<◌, ◌≤◌, false, IsTrue, length};
 ghost use Rattle.ppm_code.specs.Limits.{instr_limit, slot_limit};
 ghost use Rattle.ppm_code.specs.Sizes.{slots_of as slots_in_code};
-ghost use Rattle.ppm_code.specs.Tidy.{Builds, IsBuilder, IsTidy, IsTidyCapsule, IsTidyStore, LeadsToBuild, MayFollow};
+ghost use Rattle.ppm_code.specs.Tidy.{Builds, IsBuilder, IsTidy, IsTidyCapsule, IsTidyStore};
+ghost use Rattle.ppm_code.specs.Tidy.{LeadsToBuild, MayFollow};
 ghost use Rattle.ppm_code.specs.Tidy.{can_trap as traps};
-ghost use Rattle.ppm_war.specs.Stores.{HasBuilder, IsTidyAt, IsTidyIn, IsWithinFrame, end_in, stored_in};
+ghost use Rattle.ppm_war.specs.Stores.{HasBuilder, IsTidyAt, IsTidyIn, IsWithinFrame, end_in};
+ghost use Rattle.ppm_war.specs.Stores.{stored_in};
 ghost use Rattle.ppm_war.specs.Marks.{IsMarked};
 ghost use Rattle.ppm_code.specs.Paths.{Any, Path};
 
@@ -146,7 +148,8 @@ fn is_clear(code: &Code, marks: &[bool; 160], at: usize, instr: &Instr, word: u3
     !marks[at] || may_follow(code, instr, word)
 }
 
-/// Whether each path from a place comes to an end that builds the word, past no instruction that can trap.
+/// Whether each path from a place comes to an end that builds the word, past no instruction that
+/// can trap.
 fn leads_to_build(code: &Code, instrs: &[Instr], from: usize, word: u32) -> bool
     requires { length instrs.now ≤ instr_limit }
     ensures { IsTrue result ↔ LeadsToBuild code.now instrs.now from word }
@@ -250,8 +253,8 @@ fn is_tidy_in(code: &Code, number: usize) -> bool
     is_tidy_capsule(code, capsule.instrs.as_slice())
 }
 
-/// Whether a code is tidy: what a capsule stores into a new block is a slot of a frame that its end builds,
-/// and nothing can trap between the store and that end. No memory is taken.
+/// Whether a code is tidy: what a capsule stores into a new block is a slot of a frame that its end
+/// builds, and nothing can trap between the store and that end. No memory is taken.
 pub fn tidy(code: &Code) -> bool
     ensures { IsTrue result ↔ IsTidy code.now }
 {

@@ -1,4 +1,5 @@
-//! The limits of a program, of its code and of a machine: the one home of each that several layers speak of.
+//! The limits of a program, of its code and of a machine: the one home of each that several layers
+//! speak of.
 
 /// The bytes of a name, at most.
 pub const NAME_LIMIT: usize = 32;
@@ -33,5 +34,6 @@ pub const ROOM_LIMIT: u32 = 1_048_576;
 /// The entries of a deque, at most.
 pub const ENTRY_LIMIT: u32 = 65_536;
 
-/// The work turns that a processor may make, the acts of a replay, and how often an item of a schedule is done, at most.
+/// The work turns that a processor may make, the acts of a replay, and how often an item of a
+/// schedule is done, at most.
 pub const TURN_LIMIT: u32 = 268_435_456;

@@ -1,6 +1,6 @@
 use Rattle.std.proofs.Common.{[]}
 use Rattle.std.proofs.lemmas.Result.{err_from_is_err_and}
-use Rattle.ppm_plan.specs.Pieces.{split}
+use Rattle.ppm_pieces.specs.Pieces.{split}
 use Rattle.ppm_plan.proofs.ReadingLemmas.{one_item, last_item, no_item}
 use Rattle.ppm_plan.proofs.reading.read_items.Goals as goal
 

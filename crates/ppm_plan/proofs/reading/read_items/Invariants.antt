@@ -1,5 +1,5 @@
 use Rattle.std.proofs.Common.{◌≡◌, ◌++◌, map, length, Some}
-use Rattle.ppm_plan.specs.Pieces.{split}
+use Rattle.ppm_pieces.specs.Pieces.{split}
 use Rattle.ppm_plan.specs.Refusals.{readings}
 use Rattle.ppm_plan.proofs.reading.read_items.Given as goal
 

@@ -1,5 +1,6 @@
 use Rattle.std.proofs.Common.{◌≡◌, [], ◌++◌, ap, ◌∙◌}
 use Rattle.ppm_tree.specs.Tree.{side_of, tree_of}
+use Rattle.ppm_regions.specs.Kept.{seen}
 use Rattle.ppm_regions.specs.Uses.{uses_of_side, lent_by, lent_together}
 use Rattle.ppm_regions.proofs.Least.{least_uses}
 use Rattle.ppm_regions.proofs.calling.in_call.Goals as goal
@@ -8,7 +9,7 @@ use Rattle.ppm_regions.proofs.calling.in_call.Goals as goal
 pub returns : goal.returns
 returns c =
     let t = tree_of c.args.procedures.now in
-    let s = c.args.scope.now in
+    let s = seen c.args.scope.now in
     let side = side_of c.args.side.now in
     let lent : c.deref.result.now ≡ lent_by t side
     = c.deref.ensures.value ∙ c.in_ok-lend_by.ensures ∙ ap (λ ls. ls ++ lent_by t side) c.new-lendings.ensures.items in

@@ -18,5 +18,5 @@ loop-item-preserved g c =
           (rw (made, c.loop-item.invariant.scope) at c.in_ok-twice.ensures.least t));
       scope =
           names_next f c.args.items.now c.loop-item.item-index c.item-item.result _ _ _ c.loop-item-test.true c.item-item.is c.loop-item.invariant.scope made
-          c.in_ok-twice.ensures.scope;
+          c.in_ok-twice.ensures.scope.scope;
     }
