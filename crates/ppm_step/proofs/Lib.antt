@@ -32,3 +32,6 @@ pub mod NextLemmas
 pub mod QuitLemmas
 pub mod VictimLemmas
 pub mod RecordLemmas
+pub mod HeaderLemmas
+pub mod RowedLemmas
+pub mod FilledLemmas

@@ -49,7 +49,7 @@ IsAsked (WantsExchange at old new) = Unit {0}
 IsAsked Nothing = ⊥
 
 -- of one that isn't done, set, the new one is read
-set_live : (stand : List Standing) (p : ℕ) (next : Standing) → stand_in (slice_get stand p) ≢ IsDone
+pub set_live : (stand : List Standing) (p : ℕ) (next : Standing) → stand_in (slice_get stand p) ≢ IsDone
     → stand_in (slice_get (slice_set stand p next) p) ≡ next
 set_live [] p next lives = absurd (lives refl)
 set_live (x ∷ stand) zero next lives = refl

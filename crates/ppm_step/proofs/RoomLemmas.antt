@@ -1,8 +1,8 @@
 -- The finish word says that a pool is full only where a turn found it so.
-use Rattle.std.proofs.Common.{◌≡◌, ◌≢◌, ◌<◌, ◌+◌, ◌⊎◌, inl, inr, refl, sym, ap, ◌∙◌, subst, arith, ℕ, zero, suc, Bool, true, false, Option, Some, None}
+use Rattle.std.proofs.Common.{◌≡◌, ◌≢◌, ◌<◌, ◌≤◌, ◌+◌, ◌⊎◌, inl, inr, refl, sym, ap, ◌∙◌, subst, arith, ℕ, zero, suc, Bool, true, false, Option, Some, None}
 use Rattle.std.proofs.Common.{List, [], ◌∷◌, ◌++◌, replicate, slice_index, slice_set}
 use Rattle.std.specs.Prelude.{if◌then◌else◌, nat_lt, nat_le, slice_get}
-use Rattle.std.proofs.lemmas.Bool.{leb-false}
+use Rattle.std.proofs.lemmas.Bool.{leb-false, ltb-false}
 use Rattle.ppm_cells.specs.Cells.{pool_at}
 use Rattle.ppm_cells.specs.Fields.{number_of}
 use Rattle.ppm_cells.specs.Finish.{finish_word, finish_of, IsFinish, IsOutcome}
@@ -126,7 +126,7 @@ module _ (s : Shape) (code : CodeParts) where
   Fills (IsBroken place) = Unit {0}
   Fills IsDone = Unit {0}
 
-  fresh_fills : (standing : Standing) → Fresh standing → Fills standing
+  pub fresh_fills : (standing : Standing) → Fresh standing → Fills standing
   fresh_fills IsLost h = tt
   fresh_fills (IsPlaced place) h = tt
   fresh_fills (IsAt place restart) h = tt
@@ -250,6 +250,7 @@ module _ (s : Shape) (code : CodeParts) where
       pub rest : Rest
       pub begun : BeginsAsking seat rest
       pub stands_so : standing ≡ IsRunning seat rest
+      pub held : pool_at s seat.place ≤ read s words (RoomCounter seat.place)
       pub passes : pool_at s seat.place + s.room < read s words (RoomCounter seat.place) + begun.words
 
     -- after an act a processor is not to say that its pool is full, or it found it so
@@ -265,22 +266,22 @@ module _ (s : Shape) (code : CodeParts) where
     asking_step : (words : List ℕ) (victim : ℕ) (seat : Seat) (rest : Rest) (b : BeginsAsking seat rest)
         → ComesBy words (Step victim) (IsRunning seat rest) (running s seat (asks (pool_at s seat.place) s.room
         (read s words (RoomCounter seat.place)) b.words (b.go (read s words (RoomCounter seat.place)))))
-    asking_step words victim seat rest b = by_pool (nat_lt counter (pool_at s seat.place))
+    asking_step words victim seat rest b = by_pool (nat_lt counter (pool_at s seat.place)) refl
       where
         counter : ℕ
         counter = read s words (RoomCounter seat.place)
 
-        by_end : (t : Bool) → nat_le (counter + b.words) (pool_at s seat.place + s.room) ≡ t
+        by_end : pool_at s seat.place ≤ counter → (t : Bool) → nat_le (counter + b.words) (pool_at s seat.place + s.room) ≡ t
             → ComesBy words (Step victim) (IsRunning seat rest) (running s seat (if t then b.go counter else Full))
-        by_end true e = NotFull (running_fresh seat (b.go counter) (rest_is_there s seat (b.go counter)) (Never (b.never counter)))
-        by_end false e =
+        by_end held true e = NotFull (running_fresh seat (b.go counter) (rest_is_there s seat (b.go counter)) (Never (b.never counter)))
+        by_end held false e =
             Found victim refl seat refl
-            (record { rest = rest; begun = b; stands_so = refl; passes = leb-false (counter + b.words) (pool_at s seat.place + s.room) e })
+            (record { rest = rest; begun = b; stands_so = refl; held = held; passes = leb-false (counter + b.words) (pool_at s seat.place + s.room) e })
 
-        by_pool : (t : Bool) → ComesBy words (Step victim) (IsRunning seat rest)
+        by_pool : (t : Bool) → nat_lt counter (pool_at s seat.place) ≡ t → ComesBy words (Step victim) (IsRunning seat rest)
             (running s seat (if t then Breaks else (if nat_le (counter + b.words) (pool_at s seat.place + s.room) then b.go counter else Full)))
-        by_pool true = NotFull tt
-        by_pool false = by_end (nat_le (counter + b.words) (pool_at s seat.place + s.room)) refl
+        by_pool true e = NotFull tt
+        by_pool false e = by_end (ltb-false counter (pool_at s seat.place) e) (nat_le (counter + b.words) (pool_at s seat.place + s.room)) refl
 
     running_step : (words : List ℕ) (victim : ℕ) (seat : Seat) (rest : Rest) → IsFresh seat rest ⊎ (rest ≡ Full)
         → ComesBy words (Step victim) (IsRunning seat rest) (went_rest s seat (found_in words (wanted_rest s seat rest)) rest)
@@ -347,7 +348,7 @@ module _ (s : Shape) (code : CodeParts) where
     asks_act place own (Quit why) standing h = inr (refl, λ e. absurd (quit_not_room own why place e))
 
     -- a turn
-    abbrev AllFill : State → Type 0
+    abbrev pub AllFill : State → Type 0
     AllFill state = (q : ℕ) → Fills (stand_of state q)
 
     abbrev next_of_turn : State → Turn → Standing
@@ -355,7 +356,7 @@ module _ (s : Shape) (code : CodeParts) where
         stand_after s code turn.processor turn.act (found_in state.words (want_of s code turn.processor turn.act (stand_of state turn.processor)))
         (stand_of state turn.processor)
 
-    turn_fills : (state : State) (turn : Turn) → AllSpare s code is state → AllFill state → AllFill (happens s code state turn)
+    pub turn_fills : (state : State) (turn : Turn) → AllSpare s code is state → AllFill state → AllFill (happens s code state turn)
     turn_fills state turn all fill = by_turn s code is AllFill state turn fill live (all turn.processor)
       where
         next : Standing
@@ -396,6 +397,7 @@ module _ (s : Shape) (code : CodeParts) where
       };
       named = d.begun.named;
       fresh = d.begun.fresh;
+      held = d.held;
     }
 
     pending_turn : (place : ℕ) (state : State) (turn : Turn) → AllSpare s code is state → AllFill state
@@ -482,7 +484,7 @@ module _ (s : Shape) (code : CodeParts) where
         before_turn place state turn turns all fill
         (caused place (happens s code state turn) turns (turn_spares s code is state turn all) (turn_fills state turn all fill) says)
 
-    opening_fresh : (n q : ℕ) → Fresh (stand_in (slice_get (replicate n IsLost) q))
+    pub opening_fresh : (n q : ℕ) → Fresh (stand_in (slice_get (replicate n IsLost) q))
     opening_fresh zero q = tt
     opening_fresh (suc n) zero = tt
     opening_fresh (suc n) (suc q) = opening_fresh n q

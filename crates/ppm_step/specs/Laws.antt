@@ -1,5 +1,5 @@
 -- Laws of runs from an opening, whatever its words are: when the finish word changes, and when a processor is done.
-use Rattle.std.specs.Prelude.{◌≡◌, ◌≢◌, ◌⊎◌, ℕ, ◌+◌, ◌^◌, ◌<◌, ◌≤◌, List, ◌∷◌, ◌++◌, Some, slice_get}
+use Rattle.std.specs.Prelude.{◌≡◌, ◌≢◌, ◌⊎◌, ℕ, ◌+◌, ◌^◌, ◌<◌, ◌≤◌, true, List, ◌∷◌, ◌++◌, Some, slice_get}
 use Rattle.std.specs.List.{AllByRecursion}
 use Rattle.ppm_cells.specs.Cells.{pool_at}
 use Rattle.ppm_cells.specs.Finish.{finish_of, finish_word}
@@ -14,15 +14,19 @@ use Rattle.ppm_code.specs.Code.{room_of}
 use Rattle.ppm_code.specs.declared.code.Capsule.{Capsule}
 use Rattle.ppm_code.specs.declared.code.CodeParts.{CodeParts}
 use Rattle.ppm_step.specs.declared.frame.Home.{Home}
+use Rattle.ppm_step.specs.declared.row.Point.TheVariants.{Header}
+use Rattle.ppm_step.specs.declared.row.Row.TheVariants.{Now}
 use Rattle.ppm_step.specs.declared.row.Seat.{Seat}
+use Rattle.ppm_step.specs.declared.row.Then.TheVariants.{Load}
 use Rattle.ppm_step.specs.declared.turn.Act.{Act}
 use Rattle.ppm_step.specs.declared.turn.Act.TheVariants.{Step, Soft, Hard, Quit}
 use Rattle.ppm_step.specs.declared.turn.Turn.{Turn}
 use Rattle.ppm_step.specs.declared.turn.Why.{Why}
 use Rattle.ppm_step.specs.declared.turn.Why.TheVariants.{Turns}
 use Rattle.ppm_step.specs.Frames.{rest_of}
-use Rattle.ppm_step.specs.Standings.{IsLost, IsRunning, IsDone, unknown_place}
-use Rattle.ppm_step.specs.State.{State, stand_of, quit_with, after, opening}
+use Rattle.ppm_step.specs.Points.{header_word}
+use Rattle.ppm_step.specs.Standings.{IsLost, IsWithin, IsRunning, IsDone, unknown_place}
+use Rattle.ppm_step.specs.State.{State, stand_of, quit_with, after, opening, is_step}
 use Rattle.ppm_step.specs.Stood.{stood_by}
 use Rattle.ppm_step.specs.Told.{record_of}
 
@@ -77,11 +81,13 @@ module _ (s : Shape) (code : CodeParts) where
     pub begins : stand_of state turn.processor ≡ IsRunning seat (rest_of s code place home (capsule_of s.arrays capsule.instrs))
     pub passes : pool_at s place + s.room < read s state.words (RoomCounter place) + words
 
-  -- such a turn, of which the frame is known: it is the one that the restart of the processor's place names, and it has no new block
+  -- such a turn, of which the frame is known: it is the one that the restart of the processor's place names, it has no new block, and the
+  -- counter lies no lower than the pool
   pub record FindsFullIn (place : ℕ) (state : State) (turn : Turn) : Type 0 where
     pub finds : FindsFull place state turn
     pub named : finds.seat.restart.kind ≡ Run finds.home.frame finds.home.copy
     pub fresh : finds.home.block ≡ 0
+    pub held : pool_at s place ≤ read s state.words (RoomCounter place)
 
   -- the state that turns come to from these words
   abbrev pub reached : (words : List ℕ) → List Turn → State
@@ -151,6 +157,33 @@ module _ (s : Shape) (code : CodeParts) where
   abbrev pub RoomHasFrame : Type 0
   RoomHasFrame = (words : List ℕ) (turns : List Turn) (place : ℕ) → read s words FinishWord ≡ 0
       → finish_of (finish_at s (reached words turns)) ≡ Some (OutOfRoom place) → IsFilledIn place words turns
+
+  -- such a turn behind these turns, where the capsule is that of the frame's header: its number is the word that the processor's turn before
+  -- it loaded there
+  pub record FindsFullBehind (place : ℕ) (words : List ℕ) (first : List Turn) (turn : Turn) : Type 0 where
+    pub full : FindsFullIn place (reached words first) turn
+    pub before : List Turn
+    pub load : Turn
+    pub between : List Turn
+    pub first_is : first ≡ before ++ (load ∷ between)
+    pub own : load.processor ≡ turn.processor
+    pub steps : is_step load.act ≡ true
+    pub others : AllByRecursion (λ t. t.processor ≢ turn.processor) between
+    pub loads : stand_of (reached words before) turn.processor
+        ≡ IsWithin full.finds.seat (Now (Load (Header full.finds.home.frame full.finds.home.copy)))
+    pub number_is : read s (reached words before).words (header_word full.finds.home.frame full.finds.home.copy) ≡ full.finds.number
+
+  -- likewise, where the capsule is known too
+  pub record IsFilledBehind (place : ℕ) (words : List ℕ) (turns : List Turn) : Type 0 where
+    pub first : List Turn
+    pub turn : Turn
+    pub more : List Turn
+    pub turns_are : turns ≡ first ++ (turn ∷ more)
+    pub finds : FindsFullBehind place words first turn
+
+  abbrev pub RoomHasHeader : Type 0
+  RoomHasHeader = (words : List ℕ) (turns : List Turn) (place : ℕ) → read s words FinishWord ≡ 0
+      → finish_of (finish_at s (reached words turns)) ≡ Some (OutOfRoom place) → IsFilledBehind place words turns
 
   -- a processor is done only where a hard fault of its own was made, or the finish word isn't 0
   abbrev pub DoneHasCause : Type 0

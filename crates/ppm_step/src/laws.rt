@@ -4,7 +4,7 @@ ghost use Rattle.ppm_code.specs.Code.{IsCode};
 ghost use Rattle.ppm_code.specs.declared.code.CodeParts.{CodeParts};
 ghost use Rattle.ppm_step.specs.Laws.{FinishStays, FinishIsProposed, FinishHasCause, QuitIsTold};
 ghost use Rattle.ppm_step.specs.Laws.{TurnsHaveCause, DoneHasCause, RoomHasCause, RoomHasFrame};
-ghost use Rattle.ppm_step.specs.Laws.{RecordLeads};
+ghost use Rattle.ppm_step.specs.Laws.{RoomHasHeader, RecordLeads};
 
 /// Once the finish word isn't 0 no turn changes it. It stays as it was at the opening, or stands
 /// for what steps propose: that the root ended, or trapped in a line, that the pool of one of the
@@ -30,10 +30,11 @@ pub fn done_has_cause()
 
 /// The finish word says that the pool of a place is full only where a turn found it so: a processor
 /// that carries the place began a capsule that asks for more words than the pool has left, in the
-/// frame that the restart of the place names.
+/// frame that the restart of the place names, whose header it loaded in its turn before that one.
 pub fn room_has_cause()
     ensures finds { (s : Shape) (code : CodeParts) → IsCode code → RoomHasCause s code }
     ensures frame { (s : Shape) (code : CodeParts) → IsCode code → RoomHasFrame s code }
+    ensures header { (s : Shape) (code : CodeParts) → IsCode code → RoomHasHeader s code }
 {}
 
 /// A processor stands where its record leads it: what was told of its own turns is all that it
