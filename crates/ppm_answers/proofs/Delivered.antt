@@ -13,6 +13,7 @@ use Rattle.ppm_answers.specs.Texts.{IsFixed, out_text}
 use Rattle.ppm_answers.specs.Statuses.{status_of}
 use Rattle.ppm_answers.specs.Delivery.{IsWritten, Delivers}
 use Rattle.ppm_answers.specs.Reading.{IsUnread, Answers}
+use Rattle.ppm_ports.specs.Outside.{ToldLists}
 use Rattle.ppm_answers.specs.Rows.{IsOneOf}
 
 -- the statuses at which nothing is written on out
@@ -88,8 +89,8 @@ pub left_alone : {K : Type 0} (bytes : K → Option (List ℕ)) (faults : K → 
 left_alone bytes faults k = record { kept = Keeps-refl (bytes k); holds = refl }
 
 -- what was delivered of an answer with fixed texts is the answer
-pub fixed_delivered : (may : Answer → Type 0) (o : Outside) (answer : Answer) (status : Status) → o.told_now ≡ o.told_before →
-    IsFixed answer → may answer →
-    Delivers o.out o.err answer status ⊎ ((¬ IsFixed answer) × Delivers o.out o.err answers.NoMemory status) → Answers may o status
-fixed_delivered may o answer status told fixed h (inl d) = record { answer = answer; cause = h; delivered = d; told = told }
-fixed_delivered may o answer status told fixed h (inr d) = absurd (d.0 fixed)
+pub fixed_delivered : (may : Answer → Type 0) (Tells : Answer → ToldLists → ToldLists → Type 0) (o : Outside) (answer : Answer) (status : Status) →
+    Tells answer o.told_before o.told_now → IsFixed answer → may answer →
+    Delivers o.out o.err answer status ⊎ ((¬ IsFixed answer) × Delivers o.out o.err answers.NoMemory status) → Answers may Tells o status
+fixed_delivered may Tells o answer status told fixed h (inl d) = record { answer = answer; cause = h; delivered = d; told = told }
+fixed_delivered may Tells o answer status told fixed h (inr d) = absurd (d.0 fixed)

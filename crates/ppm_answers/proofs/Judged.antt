@@ -1,5 +1,5 @@
--- A command that judges the text that it reads, each text having one answer: what its status says, and what it must answer.
-use Rattle.std.proofs.Common.{◌≡◌, ◌≢◌, ◌⊎◌, ℕ, List, [], Option, Some}
+-- A command that judges the text that it reads: what its status says, and what it must answer.
+use Rattle.std.proofs.Common.{◌≡◌, ◌≢◌, ◌⊎◌, ℕ, List, [], Some}
 use Rattle.std.proofs.Common.{refl, sym, ap, ◌∙◌, subst, inl, inr, arith}
 use Rattle.std.proofs.KnownBytes.{Consumes-nil, Consumes-kept}
 use Rattle.ppm_ports.specs.Ports.{Port, Fails, Holds}
@@ -12,15 +12,14 @@ use Rattle.ppm_answers.specs.declared.status.Status.TheVariants as statuses
 use Rattle.ppm_answers.specs.Texts.{IsFixed}
 use Rattle.ppm_answers.specs.Statuses.{status_of}
 use Rattle.ppm_answers.specs.Delivery.{IsWritten, Delivers}
-use Rattle.ppm_answers.specs.Reading.{Reads, ReadsSome, IsUnread, ReadHas, TextMay, JudgingMay, Answers}
+use Rattle.ppm_answers.specs.Reading.{Reads, ReadsSome, IsUnread, ReadHas, TextMay, JudgingMay, AreOne, FrontsDecide, TellsNothing, Answers}
 use Rattle.ppm_answers.specs.Rows.{GoesWell}
 use Rattle.ppm_answers.proofs.Delivered.{written, write_failed}
+use Rattle.ppm_answers.proofs.WholeText.{whole}
 
--- which texts have which answers: a text has one at most, what was read of a text has that of the text, and none is an answer of another
--- kind
+-- which texts have which answers: what stands behind the limit changes none, and none is an answer of another kind
 pub record AreJudgements (limit : ℕ) (Has : List ℕ → Answer → Type 0) : Type 0 where
-  pub one : (text : List ℕ) (a b : Answer) → Has text a → Has text b → a ≡ b
-  pub whole : (all : List ℕ) (now : Option (List ℕ)) (text : List ℕ) (a : Answer) → ReadsTo limit (Some all) now text → Has text a → Has all a
+  pub front : FrontsDecide limit Has
   pub judges : (text : List ℕ) (a : Answer) → Has text a → (a ≢ answers.ReadFault) × (a ≢ answers.NoMemory) × (a ≢ answers.WordsRefused)
 
 module _ (limit : ℕ) (Has : List ℕ → Answer → Type 0) where
@@ -71,12 +70,12 @@ module _ (limit : ℕ) (Has : List ℕ → Answer → Type 0) where
   -- what was delivered of an answer of the command is the answer, or out of memory in its place
   pub judging_delivered : (o : Outside) (a : Answer) (status : Status) → o.told_now ≡ o.told_before → JudgingMay limit Has o.source a →
       Delivers o.out o.err a status ⊎ ((¬ IsFixed a) × Delivers o.out o.err answers.NoMemory status) →
-      Answers (JudgingMay limit Has o.source) o status
+      Answers (JudgingMay limit Has o.source) TellsNothing o status
   judging_delivered o a status told h (inl d) = record { answer = a; cause = h; delivered = d; told = told }
   judging_delivered o a status told h (inr d) =
       record { answer = answers.NoMemory; cause = memory_may o.source a h d.0; delivered = d.1; told = told }
 
-  module _ (o : Outside) (status : Status) (a : Answers (JudgingMay limit Has o.source) o status) where
+  module _ (o : Outside) (status : Status) (a : Answers (JudgingMay limit Has o.source) TellsNothing o status) where
     -- the text that was read has an answer, and it is written
     abbrev pub Judged : Type 0
     Judged = (answer : Answer) × ReadHas limit Has o.source answer × IsWritten o.out o.err answer status
@@ -105,11 +104,18 @@ module _ (limit : ℕ) (Has : List ℕ → Answer → Type 0) where
     pub judged : GoesWell o status → Judged
     judged well = answered (did_read well) (wrote well) well.memory
 
-    -- and of a text that the source shows whole, the answer that it has is written
-    pub shown : AreJudgements limit Has → (all : List ℕ) → o.source.before ≡ Some all → GoesWell o status → (answer : Answer) →
+    -- and of a text that the source shows whole, an answer that it has is written
+    pub known : FrontsDecide limit Has → (all : List ℕ) → o.source.before ≡ Some all → GoesWell o status →
+        (answer : Answer) × Has all answer × IsWritten o.out o.err answer status
+    known front all e well = go (judged well)
+      where
+        go : Judged → (answer : Answer) × Has all answer × IsWritten o.out o.err answer status
+        go (answer, r, w) =
+            (answer, whole limit Has front all o.source.now r.0 answer (subst (λ l. ReadsTo limit l o.source.now r.0) e r.1.whole) r.2, w)
+
+    -- which is the one that it has, where it has one
+    pub shown : FrontsDecide limit Has → AreOne Has → (all : List ℕ) → o.source.before ≡ Some all → GoesWell o status → (answer : Answer) →
         Has all answer → IsWritten o.out o.err answer status
-    shown j all e well answer h = go (judged well) where
-      go : Judged → IsWritten o.out o.err answer status
-      go (b, r, w) =
-          let has : Has all b = j.whole all o.source.now r.0 b (subst (λ l. ReadsTo limit l o.source.now r.0) e r.1.whole) r.2 in
-          subst (λ (x : Answer). IsWritten o.out o.err x status) (j.one all b answer has h) w
+    shown front one all e well answer h =
+        let k = known front all e well in
+        subst (λ (x : Answer). IsWritten o.out o.err x status) (one all k.0 answer k.1 h) k.2

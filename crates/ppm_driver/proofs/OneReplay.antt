@@ -28,7 +28,7 @@ use Rattle.ppm_driver.specs.Loading.{Begins}
 use Rattle.ppm_driver.specs.Schedules.{followed}
 use Rattle.ppm_driver.specs.Replays.{sizes_of, IsSaid, ProgramHas, TextHas, HaveOneAnswer}
 use Rattle.ppm_driver.proofs.LoadingLemmas.{one_beginning, some_beginning}
-use Rattle.ppm_driver.proofs.PlannedLemmas.{one_answer, some_answer}
+use Rattle.ppm_driver.proofs.PlannedLemmas as planned
 use Rattle.ppm_driver.proofs.ReplayLemmas.{replayed_sizes, one_said, some_has, of_text, plain}
 
 -- what the crates below show of every text, every code, every image and every schedule
@@ -102,9 +102,11 @@ module _ (laws : Laws) (options : ReplayOptions) where
 pub have_one_answer : Laws → HaveOneAnswer
 have_one_answer laws = record {
   one = λ options schedule.
-      one_answer schedule_form schedule options.processors (TextHas options) text_limit laws.plans.schedules
-      (record { one = one laws options; front = front laws options; plain = plain options });
+      planned.one schedule_form schedule options.processors (TextHas options) text_limit laws.plans.schedules (one laws options);
+  front = λ options schedule.
+      planned.front schedule_form schedule options.processors (TextHas options) text_limit laws.plans.schedules
+      (record { front = front laws options; plain = plain options });
   some = λ options schedule are.
-      some_answer schedule_form schedule options.processors (TextHas options) text_limit laws.plans.schedules (plain options)
+      planned.some_answer schedule_form schedule options.processors (TextHas options) text_limit laws.plans.schedules (plain options)
       (some laws options are schedule);
 }
