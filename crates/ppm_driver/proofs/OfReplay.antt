@@ -4,7 +4,7 @@ use Rattle.std.proofs.Common.{sym, ◌∙◌, subst, inl, inr}
 use Rattle.ppm_words.specs.declared.named_array.NamedArray.{NamedArray}
 use Rattle.ppm_words.specs.declared.trap.Trap.{Trap}
 use Rattle.ppm_ports.specs.Ports.{Gets}
-use Rattle.ppm_ports.specs.Outside.{Outside}
+use Rattle.ppm_ports.specs.Outside.{Outside, ports_of}
 use Rattle.ppm_text.specs.Limits.{text_limit}
 use Rattle.ppm_plan.specs.Correct.{HaveOneAnswer as PlansHaveOneAnswer}
 use Rattle.ppm_plan.specs.Forms.{schedule_form}
@@ -193,7 +193,7 @@ module _ (options : ReplayOptions) (schedule : List ℕ) (o : Outside) (status :
       go (OfSchedule p) = absurd (not_broken (sym p.3.own ∙ e))
       go (OfRead answer h k w) = by answer h w (broken_only options.processors options.turns answer k (sym w.own ∙ e))
 
-  goes_well : GoesWell o status → Statuses
+  goes_well : GoesWell (ports_of o) status → Statuses
   goes_well well = go (says (planned.told_well schedule_form schedule options.processors (TextHas options) text_limit o status a well))
     where
       go : Says → Statuses

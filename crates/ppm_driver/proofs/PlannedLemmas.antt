@@ -2,7 +2,7 @@
 use Rattle.std.proofs.Common.{◌≡◌, ◌≢◌, ◌⊎◌, ◌<◌, ℕ, List, [], ◌∷◌, ◌++◌, length, Some}
 use Rattle.std.proofs.Common.{refl, sym, ap, ◌∙◌, subst, inl, inr}
 use Rattle.ppm_ports.specs.Ports.{Port, Fails, Holds}
-use Rattle.ppm_ports.specs.Outside.{ToldLists, Outside}
+use Rattle.ppm_ports.specs.Outside.{ToldLists, Outside, ports_of}
 use Rattle.ppm_ports.specs.Whole.{ReadsTo}
 use Rattle.ppm_plan.specs.declared.plan_error.PlanError.{PlanError}
 use Rattle.ppm_plan.specs.declared.plan_error.PlanError.TheVariants.{BadItem, NoSuchProcessor, TooManyFaults, AllKilled, NoMemory}
@@ -18,8 +18,10 @@ use Rattle.ppm_answers.specs.Texts.{IsFixed}
 use Rattle.ppm_answers.specs.Statuses.{status_of}
 use Rattle.ppm_answers.specs.Delivery.{IsWritten, Delivers}
 use Rattle.ppm_answers.specs.Reading.{IsUnread, ReadHas, JudgingMay, FrontsDecide, Answers}
-use Rattle.ppm_answers.specs.Rows.{IsOneOf, GoesWell}
-use Rattle.ppm_answers.proofs.Delivered.{written, write_failed, own_or_fault}
+use Rattle.ppm_answers.specs.Rows.{IsOneOf, GoesWell, ReadOrRefused, PlannedRows}
+use Rattle.ppm_answers.proofs.Delivered.{written, write_failed, own_or_fault, of_answers}
+use Rattle.ppm_answers.proofs.RowsLemmas.{AreCauses, SaysOfPorts}
+use Rattle.ppm_answers.proofs.RowsLemmas as rows_lemmas
 use Rattle.ppm_answers.proofs.Judged as judged
 use Rattle.ppm_answers.proofs.WholeText.{whole}
 use Rattle.ppm_program.specs.Refusals.{IsRefusal}
@@ -167,6 +169,24 @@ module _ {A : Type 0} (form : Form A) (plan : List ℕ) (processors : ℕ) (Has 
   planned_delivered Tells law o a status told wanting h (inr d) =
       record { answer = answers.NoMemory; cause = memory_may law o.source a h d.0; delivered = d.1; told = wanting }
 
+  -- which answers come where
+  reads_or_refuses : (source : Port) (a : Answer) → May source a
+      → (a ≡ answers.ReadFault) ⊎ ((a ≡ answers.NoMemory) ⊎ ReadOrRefused Refused (HasByItems form plan processors Has) limit source a)
+  reads_or_refuses source answers.ReadFault h = inl refl
+  reads_or_refuses source answers.NoMemory h = inr (inl refl)
+  reads_or_refuses source (answers.PlanRefused number) h = inr (inr h)
+  reads_or_refuses source a h = inr (inr h)
+
+  pub are_causes : AreCauses May (ReadOrRefused Refused (HasByItems form plan processors Has) limit)
+  are_causes = record { fault = λ source h. h.0.0; cause = reads_or_refuses }
+
+  -- an answer of what a known source gave is one that its bytes have
+  of_all : HasFronts form plan processors Has limit → (source : Port) (all : List ℕ) (a : Answer) → source.before ≡ Some all
+      → ReadOrRefused Refused (HasByItems form plan processors Has) limit source a → PH all a
+  of_all front source all (answers.PlanRefused number) e h = h.0
+  of_all front source all a e h =
+      whole limit PH front all source.now h.0 a (subst (λ l. ReadsTo limit l source.now h.0) e h.1.whole) h.2
+
   -- where the source failed, the answer is a read fault
   pub source_failed : (source : Port) (a : Answer) → May source a → ¬ Holds source → status_of a ≡ statuses.ReadFault
   source_failed source answers.ReadFault h f = refl
@@ -200,16 +220,16 @@ module _ {A : Type 0} (form : Form A) (plan : List ℕ) (processors : ℕ) (Has 
         go (inr (inr (inr h))) = inr (a.answer, h, own)
 
     -- no write failed where all went well
-    wrote : GoesWell o status → status ≢ statuses.WriteFault
+    wrote : GoesWell (ports_of o) status → status ≢ statuses.WriteFault
     wrote well f = elim (write_failed o.out o.err a.answer status a.delivered f) [ inl out ↦ well.out_holds out | inr err ↦ well.err_holds err ]
 
     -- and no read did
-    did_read : GoesWell o status → status ≢ statuses.ReadFault
+    did_read : GoesWell (ports_of o) status → status ≢ statuses.ReadFault
     did_read well f = well.source_holds
         (read_fault o.source a.answer a.cause (sym (written o.out o.err a.answer status a.delivered (wrote well)).own ∙ f))
 
     -- so it is where all goes well
-    pub told_well : GoesWell o status → Told
+    pub told_well : GoesWell (ports_of o) status → Told
     told_well well = told (did_read well) (wrote well) well.memory
 
     -- where the plan is refused, nothing was read, and the status is 3, or 8 or 9
@@ -231,9 +251,21 @@ module _ {A : Type 0} (form : Form A) (plan : List ℕ) (processors : ℕ) (Has 
         go (inr w) (inr (inr (inl p))) = inl (w.own ∙ ap status_of p.3)
         go (inr w) (inr (inr (inr h))) = absurd (apart law h.2.items h.2.accepted number r)
 
+    -- the rows of the command, where what stands behind the limit changes no answer, by what each answer's own status says
+    pub planned_rows : PlansHaveOneAnswer form → HasFronts form plan processors Has limit → (Says : Status → Type 0)
+        → SaysOfPorts (ports_of o) Says
+        → ((answer : Answer) → ReadOrRefused Refused (HasByItems form plan processors Has) limit o.source answer
+        → IsWritten o.out o.err answer (status_of answer) → Says (status_of answer))
+        → PlannedRows Refused (HasByItems form plan processors Has) limit Says (ports_of o) status
+    planned_rows plans front Says ports by = record {
+      rows = rows_lemmas.rows May (ReadOrRefused Refused (HasByItems form plan processors Has) limit) are_causes (ports_of o) status
+          (of_answers (May o.source) Tells o status a) PH Says (of_all front o.source) ports by;
+      refuses = refuses plans;
+    }
+
     module _ (plain : IsSteady) (law : HasFronts form plan processors Has limit) where
       -- what is written is an answer of what the source shows whole
-      pub known : (all : List ℕ) → o.source.before ≡ Some all → GoesWell o status
+      pub known : (all : List ℕ) → o.source.before ≡ Some all → GoesWell (ports_of o) status
           → (answer : Answer) × PH all answer × IsWritten o.out o.err answer status
       known all e well = go (told_well well)
         where
@@ -244,7 +276,7 @@ module _ {A : Type 0} (form : Form A) (plan : List ℕ) (processors : ℕ) (Has 
               (answer, whole limit PH law all o.source.now r.0 answer read (lifted plain r.0 answer r.2), w)
 
       -- which is the one that it has, where it has one
-      pub shown : HasOneAnswer form plan processors Has → (all : List ℕ) → o.source.before ≡ Some all → GoesWell o status → (answer : Answer) → PH all answer
+      pub shown : HasOneAnswer form plan processors Has → (all : List ℕ) → o.source.before ≡ Some all → GoesWell (ports_of o) status → (answer : Answer) → PH all answer
           → IsWritten o.out o.err answer status
       shown one all e well answer h =
           let k = known all e well in

@@ -10,6 +10,7 @@ use Rattle.ppm_answers.specs.declared.refusal.Refusal.{Refusal}
 use Rattle.ppm_answers.specs.declared.answer.Answer.{Answer}
 use Rattle.ppm_answers.specs.declared.answer.Answer.TheVariants as answers
 use Rattle.ppm_answers.specs.Reading.{IsUnread, ReadingMay, ReadHas, AreOne, FrontsDecide}
+use Rattle.ppm_answers.specs.Rows.{HasOrRefused}
 use Rattle.ppm_program.specs.Refusals.{IsRefusal}
 
 -- the plan, a text of this form for so many processors, is refused by this number
@@ -33,8 +34,7 @@ module _ {A : Type 0} (form : Form A) (plan : List ℕ) (processors : ℕ) (Has 
 
   -- the answer of a text with such a plan: that the plan is refused, or the answer by its items
   abbrev pub PlannedHas : List ℕ → Answer → Type 0
-  PlannedHas text (answers.PlanRefused number) = IsRefusedBy form plan processors number
-  PlannedHas text answer = HasByItems text answer
+  PlannedHas text answer = HasOrRefused (IsRefusedBy form plan processors) HasByItems text answer
 
   -- nothing was read where the plan is refused
   abbrev pub IsUnreadIfRefused : Port → Type 0
