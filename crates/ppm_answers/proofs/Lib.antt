@@ -1,3 +1,4 @@
 pub mod Delivered
 pub mod WholeText
+pub mod RowsLemmas
 pub mod Judged

@@ -4,7 +4,7 @@ use Rattle.std.proofs.Common.{sym, ◌∙◌, subst, inl, inr}
 use Rattle.ppm_words.specs.declared.named_array.NamedArray.{NamedArray}
 use Rattle.ppm_words.specs.declared.trap.Trap.{Trap}
 use Rattle.ppm_ports.specs.Ports.{Gets}
-use Rattle.ppm_ports.specs.Outside.{Outside}
+use Rattle.ppm_ports.specs.Outside.{Outside, ports_of}
 use Rattle.ppm_text.specs.Limits.{text_limit}
 use Rattle.ppm_plan.specs.Correct.{HaveOneAnswer as PlansHaveOneAnswer}
 use Rattle.ppm_plan.specs.Forms.{schedule_form}
@@ -17,12 +17,12 @@ use Rattle.ppm_answers.specs.declared.status.Status.TheVariants as statuses
 use Rattle.ppm_answers.specs.Statuses.{status_of}
 use Rattle.ppm_answers.specs.Texts.{out_text, err_text}
 use Rattle.ppm_answers.specs.Delivery.{IsWritten}
-use Rattle.ppm_answers.specs.Reading.{IsUnread, ReadHas, Answers}
+use Rattle.ppm_answers.specs.Reading.{IsUnread, ReadHas, TellsNothing, Answers}
 use Rattle.ppm_answers.specs.Rows.{IsOneOf, GoesWell}
 use Rattle.ppm_cli.specs.declared.replay.ReplayOptions.{ReplayOptions}
 use Rattle.ppm_step.specs.Standings.{unknown_place}
-use Rattle.ppm_driver.specs.Planned.{IsRefusedBy, HasByItems, HasOneAnswer}
-use Rattle.ppm_driver.specs.Replays.{TextHas, ReplayMay}
+use Rattle.ppm_driver.specs.Planned.{IsRefusedBy, HasByItems}
+use Rattle.ppm_driver.specs.Replays.{TextHas, ReplayMay, HaveOneAnswer}
 use Rattle.ppm_driver.specs.ReplayRows.{HasRead, WritesArrays, WritesTrap, WritesRefusal, WritesUnfinished}
 use Rattle.ppm_driver.specs.ReplayRows.{WritesNoRoom, WritesBroken, RefusesSchedule, ReplayRows}
 use Rattle.ppm_driver.proofs.PlannedLemmas as planned
@@ -48,7 +48,7 @@ pub not_broken : statuses.WordsRefused ≢ statuses.Broken
 not_broken e = cc
 
 module _ (options : ReplayOptions) (schedule : List ℕ) (o : Outside) (status : Status)
-    (a : Answers (ReplayMay options schedule o.source) o status) where
+    (a : Answers (ReplayMay options schedule o.source) TellsNothing o status) where
   -- the text that was read has the answer by the schedule's items
   abbrev ReadByItems : Answer → Type 0
   ReadByItems answer = ReadHas text_limit (HasByItems schedule_form schedule options.processors (TextHas options)) o.source answer
@@ -193,15 +193,14 @@ module _ (options : ReplayOptions) (schedule : List ℕ) (o : Outside) (status :
       go (OfSchedule p) = absurd (not_broken (sym p.3.own ∙ e))
       go (OfRead answer h k w) = by answer h w (broken_only options.processors options.turns answer k (sym w.own ∙ e))
 
-  goes_well : GoesWell o status → Statuses
+  goes_well : GoesWell (ports_of o) status → Statuses
   goes_well well = go (says (planned.told_well schedule_form schedule options.processors (TextHas options) text_limit o status a well))
     where
       go : Says → Statuses
       go (OfSchedule p) = inr (inr (inr (inl p.3.own)))
       go (OfRead answer h k w) = status_among answer k w.own
 
-  pub replay_rows : PlansHaveOneAnswer → HasOneAnswer schedule_form schedule options.processors (TextHas options) text_limit
-      → ReplayRows options schedule o status
+  pub replay_rows : PlansHaveOneAnswer → HaveOneAnswer → ReplayRows options schedule o status
   replay_rows plans law = record {
     ended = ended;
     trapped = trapped;
@@ -211,7 +210,9 @@ module _ (options : ReplayOptions) (schedule : List ℕ) (o : Outside) (status :
     out_of_room = out_of_room;
     broken = broken;
     judged = goes_well;
-    shown = planned.shown schedule_form schedule options.processors (TextHas options) text_limit o status a (plain options) law;
-    known = planned.known schedule_form schedule options.processors (TextHas options) text_limit o status a (plain options) law;
+    shown = planned.shown schedule_form schedule options.processors (TextHas options) text_limit o status a (plain options)
+        (law.front options schedule) (law.one options schedule);
+    known = planned.known schedule_form schedule options.processors (TextHas options) text_limit o status a (plain options)
+        (law.front options schedule);
     refuses = planned.refuses schedule_form schedule options.processors (TextHas options) text_limit o status a plans.schedules;
   }

@@ -4,7 +4,7 @@ use Rattle.std.proofs.Common.{sym, ◌∙◌, subst, inl, inr}
 use Rattle.ppm_words.specs.declared.named_array.NamedArray.{NamedArray}
 use Rattle.ppm_words.specs.declared.trap.Trap.{Trap}
 use Rattle.ppm_ports.specs.Ports.{Gets}
-use Rattle.ppm_ports.specs.Outside.{Outside}
+use Rattle.ppm_ports.specs.Outside.{Outside, ports_of}
 use Rattle.ppm_text.specs.Limits.{text_limit}
 use Rattle.ppm_plan.specs.Correct.{HaveOneAnswer as PlansHaveOneAnswer}
 use Rattle.ppm_plan.specs.Forms.{plan_form}
@@ -16,14 +16,14 @@ use Rattle.ppm_answers.specs.declared.status.Status.TheVariants as statuses
 use Rattle.ppm_answers.specs.Statuses.{status_of}
 use Rattle.ppm_answers.specs.Texts.{out_text, err_text}
 use Rattle.ppm_answers.specs.Delivery.{IsWritten}
-use Rattle.ppm_answers.specs.Reading.{IsUnread, ReadHas, Answers}
+use Rattle.ppm_answers.specs.Reading.{IsUnread, ReadHas, TellsNothing, Answers}
 use Rattle.ppm_answers.specs.Rows.{IsOneOf, GoesWell}
 use Rattle.ppm_cli.specs.declared.run.RunOptions.{RunOptions}
 use Rattle.ppm_cli.specs.Words.{AreRun}
 use Rattle.ppm_step.specs.Standings.{unknown_place}
 use Rattle.ppm_tree.specs.Program.{initial_arrays}
-use Rattle.ppm_driver.specs.Planned.{IsRefusedBy, HasByItems, HasOneAnswer}
-use Rattle.ppm_driver.specs.Runs.{TextHas, RunMay}
+use Rattle.ppm_driver.specs.Planned.{IsRefusedBy, HasByItems}
+use Rattle.ppm_driver.specs.Runs.{TextHas, RunMay, AnswersAreOne}
 use Rattle.ppm_driver.specs.RunRows.{HasRead, work_made, WritesArrays, WritesTrap, WritesRefusal, WritesOutOfTurns}
 use Rattle.ppm_driver.specs.RunRows.{WritesOutOfRoom, WritesBroken, RefusesPlan, RunRows}
 use Rattle.ppm_driver.proofs.PlannedLemmas as planned
@@ -32,7 +32,7 @@ use Rattle.ppm_driver.proofs.ReplayLemmas.{refusal_only}
 use Rattle.ppm_driver.proofs.RunLemmas.{IsOfText, kind_of_text, plain, spent_said, arrays_only, trap_only, never_refused, turns_only, room_only, broken_only}
 
 module _ (options : RunOptions) (plan : List ℕ) (o : Outside) (status : Status)
-    (a : Answers (RunMay options plan o.source) o status) where
+    (a : Answers (RunMay options plan o.source) TellsNothing o status) where
   -- the text that was read has the answer by the plan's items
   abbrev ReadByItems : Answer → Type 0
   ReadByItems answer = ReadHas text_limit (HasByItems plan_form plan options.processors (TextHas options)) o.source answer
@@ -175,15 +175,14 @@ module _ (options : RunOptions) (plan : List ℕ) (o : Outside) (status : Status
       go (OfPlan p) = absurd (not_broken (sym p.3.own ∙ e))
       go (OfRead answer h k w) = by answer h w (broken_only options.processors answer one k (sym w.own ∙ e))
 
-  goes_well : GoesWell o status → Statuses
+  goes_well : GoesWell (ports_of o) status → Statuses
   goes_well well = go (says (planned.told_well plan_form plan options.processors (TextHas options) text_limit o status a well))
     where
       go : Says → Statuses
       go (OfPlan p) = inr (inr (inr (inl p.3.own)))
       go (OfRead answer h k w) = status_among answer k w.own
 
-  pub run_rows : AreRun options → PlansHaveOneAnswer → HasOneAnswer plan_form plan options.processors (TextHas options) text_limit
-      → RunRows options plan o status
+  pub run_rows : AreRun options → PlansHaveOneAnswer → AnswersAreOne → RunRows options plan o status
   run_rows are plans law = record {
     ended = ended;
     trapped = trapped;
@@ -193,7 +192,8 @@ module _ (options : RunOptions) (plan : List ℕ) (o : Outside) (status : Status
     out_of_room = out_of_room are.0.1;
     broken = broken are.0.1;
     judged = goes_well;
-    shown = planned.shown plan_form plan options.processors (TextHas options) text_limit o status a (plain options) law;
-    known = planned.known plan_form plan options.processors (TextHas options) text_limit o status a (plain options) law;
+    shown = planned.shown plan_form plan options.processors (TextHas options) text_limit o status a (plain options) (law.front options plan)
+        (law.one options plan);
+    known = planned.known plan_form plan options.processors (TextHas options) text_limit o status a (plain options) (law.front options plan);
     refuses = planned.refuses plan_form plan options.processors (TextHas options) text_limit o status a plans.plans;
   }

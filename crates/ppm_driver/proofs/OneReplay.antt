@@ -1,7 +1,6 @@
 -- A text has one answer where it is replayed: its program begins one run, with the one keeper of the schedule.
 use Rattle.std.proofs.Common.{◌≡◌, ◌⊎◌, ◌<◌, ℕ, List, ◌++◌, length, refl, sym, ap, ◌∙◌, subst, inl, inr, arith}
 use Rattle.ppm_text.specs.Limits.{text_limit}
-use Rattle.ppm_text.proofs.LexingLemmas.{lexed_stands}
 use Rattle.ppm_core.specs.Situation.{Situation}
 use Rattle.ppm_layout.specs.Correct.{ImagesAreOne}
 use Rattle.ppm_plan.specs.declared.schedule_item.ScheduleItem.{ScheduleItem}
@@ -10,15 +9,15 @@ use Rattle.ppm_choice.proofs.KeeperLemmas.{one_keeper}
 use Rattle.ppm_plan.specs.Forms.{schedule_form}
 use Rattle.ppm_plan.specs.Refusals.{IsAccepted}
 use Rattle.ppm_tree.specs.Tree.{ProgramTree}
-use Rattle.ppm_tree.specs.Limits.{IsWithin}
 use Rattle.ppm_tree.specs.Program.{initial_arrays}
 use Rattle.ppm_rows.specs.Correct.{TreesAreWithin}
 use Rattle.ppm_code.specs.Code.{IsCode}
 use Rattle.ppm_cut_code.specs.Correct.{KeepsTheRules}
 use Rattle.ppm_cut_code.specs.Routines.{code_of}
-use Rattle.ppm_program.specs.Programs.{HasProgram, IsTreeOf}
+use Rattle.ppm_program.specs.Programs.{HasProgram}
 use Rattle.ppm_program.specs.Refusals.{IsRefusal}
 use Rattle.ppm_program.specs.Correct.{HaveOneAnswer as TextsHaveOneProgram}
+use Rattle.ppm_program.proofs.WithinLemmas.{tree_within}
 use Rattle.ppm_answers.specs.declared.refusal.Refusal.{Refusal}
 use Rattle.ppm_answers.specs.declared.answer.Answer.{Answer}
 use Rattle.ppm_answers.specs.declared.answer.Answer.TheVariants as answers
@@ -28,7 +27,7 @@ use Rattle.ppm_driver.specs.Loading.{Begins}
 use Rattle.ppm_driver.specs.Schedules.{followed}
 use Rattle.ppm_driver.specs.Replays.{sizes_of, IsSaid, ProgramHas, TextHas, HaveOneAnswer}
 use Rattle.ppm_driver.proofs.LoadingLemmas.{one_beginning, some_beginning}
-use Rattle.ppm_driver.proofs.PlannedLemmas.{one_answer, some_answer}
+use Rattle.ppm_driver.proofs.PlannedLemmas as planned
 use Rattle.ppm_driver.proofs.ReplayLemmas.{replayed_sizes, one_said, some_has, of_text, plain}
 
 -- what the crates below show of every text, every code, every image and every schedule
@@ -38,10 +37,6 @@ pub record Laws : Type 0 where
   pub rules : KeepsTheRules
   pub images : ImagesAreOne
   pub plans : PlansHaveOneAnswer
-
--- the tree of a text passes no limit
-pub tree_within : TreesAreWithin → (text : List ℕ) (t : ProgramTree) → IsTreeOf text t → IsWithin t
-tree_within within text t h = within (length text) h.tokens t h.lexed.short (lexed_stands h.lexed.lexed.1) h.tree
 
 module _ (laws : Laws) (options : ReplayOptions) where
   -- a program has one answer by items
@@ -102,9 +97,11 @@ module _ (laws : Laws) (options : ReplayOptions) where
 pub have_one_answer : Laws → HaveOneAnswer
 have_one_answer laws = record {
   one = λ options schedule.
-      one_answer schedule_form schedule options.processors (TextHas options) text_limit laws.plans.schedules
-      (record { one = one laws options; front = front laws options; plain = plain options });
+      planned.one schedule_form schedule options.processors (TextHas options) text_limit laws.plans.schedules (one laws options);
+  front = λ options schedule.
+      planned.front schedule_form schedule options.processors (TextHas options) text_limit laws.plans.schedules
+      (record { front = front laws options; plain = plain options });
   some = λ options schedule are.
-      some_answer schedule_form schedule options.processors (TextHas options) text_limit laws.plans.schedules (plain options)
+      planned.some_answer schedule_form schedule options.processors (TextHas options) text_limit laws.plans.schedules (plain options)
       (some laws options are schedule);
 }

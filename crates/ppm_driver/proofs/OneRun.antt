@@ -25,7 +25,7 @@ use Rattle.ppm_driver.specs.Alone.{ObeysTo}
 use Rattle.ppm_driver.specs.Runs.{IsSaid, plan_of, limits_of, sizes_of, ProgramHas, TextHas, AnswersAreOne}
 use Rattle.ppm_driver.proofs.LoadingLemmas.{one_beginning}
 use Rattle.ppm_choice.proofs.KeeperLemmas.{one_keeper}
-use Rattle.ppm_driver.proofs.PlannedLemmas.{one_answer}
+use Rattle.ppm_driver.proofs.PlannedLemmas as planned
 use Rattle.ppm_driver.proofs.RunLemmas.{one_said, plain}
 
 -- what the crates below show of every text, every image, every plan and every run of one processor
@@ -84,6 +84,8 @@ module _ (laws : Laws) (options : RunOptions) where
 
 -- so it is with all options and all plans
 pub answers_are_one : Laws → AnswersAreOne
-answers_are_one laws options plan =
-    one_answer plan_form plan options.processors (TextHas options) text_limit laws.plans.plans
-    (record { one = one laws options; front = front laws options; plain = plain options })
+answers_are_one laws = record {
+  one = λ options plan. planned.one plan_form plan options.processors (TextHas options) text_limit laws.plans.plans (one laws options);
+  front = λ options plan. planned.front plan_form plan options.processors (TextHas options) text_limit laws.plans.plans
+      (record { front = front laws options; plain = plain options });
+}

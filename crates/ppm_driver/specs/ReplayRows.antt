@@ -3,7 +3,7 @@ use Rattle.std.specs.Prelude.{◌≡◌, ◌⊎◌, ℕ, ◌<◌, List, [], ◌�
 use Rattle.ppm_words.specs.declared.named_array.NamedArray.{NamedArray}
 use Rattle.ppm_words.specs.declared.trap.Trap.{Trap}
 use Rattle.ppm_ports.specs.Ports.{Gets}
-use Rattle.ppm_ports.specs.Outside.{Outside}
+use Rattle.ppm_ports.specs.Outside.{Outside, ports_of}
 use Rattle.ppm_text.specs.Limits.{text_limit}
 use Rattle.ppm_plan.specs.Forms.{schedule_form}
 use Rattle.ppm_answers.specs.declared.refusal.Refusal.{Refusal}
@@ -72,11 +72,11 @@ pub record ReplayRows (options : ReplayOptions) (schedule : List ℕ) (o : Outsi
   pub unfinished : status ≡ statuses.OutOfTurns → WritesUnfinished options schedule o
   pub out_of_room : status ≡ statuses.OutOfRoom → WritesNoRoom options schedule o
   pub broken : status ≡ statuses.Broken → WritesBroken options schedule o
-  pub judged : GoesWell o status → IsOneOf status (statuses.Ended ∷ statuses.Trapped ∷ statuses.SourceRefused ∷ statuses.WordsRefused
+  pub judged : GoesWell (ports_of o) status → IsOneOf status (statuses.Ended ∷ statuses.Trapped ∷ statuses.SourceRefused ∷ statuses.WordsRefused
       ∷ statuses.OutOfTurns ∷ statuses.OutOfRoom ∷ statuses.Broken ∷ [])
-  pub shown : (all : List ℕ) → o.source.before ≡ Some all → GoesWell o status → (answer : Answer)
+  pub shown : (all : List ℕ) → o.source.before ≡ Some all → GoesWell (ports_of o) status → (answer : Answer)
       → ReplayHas options schedule all answer → IsWritten o.out o.err answer status
-  pub known : (all : List ℕ) → o.source.before ≡ Some all → GoesWell o status
+  pub known : (all : List ℕ) → o.source.before ≡ Some all → GoesWell (ports_of o) status
       → (answer : Answer) × ReplayHas options schedule all answer × IsWritten o.out o.err answer status
   pub refuses : (number : ℕ) → IsRefusedBy schedule_form schedule options.processors number →
       IsUnread o.source × IsOneOf status (statuses.WordsRefused ∷ statuses.WriteFault ∷ statuses.NoMemory ∷ [])

@@ -20,7 +20,7 @@ use Rattle.ppm_cli.specs.declared.replay.ReplayOptions.{ReplayOptions}
 use Rattle.ppm_cli.specs.Words.{AreReplayed}
 use Rattle.ppm_driver.specs.declared.loading.Sizes.{Sizes}
 use Rattle.ppm_driver.specs.Loading.{Begins, takeover_of}
-use Rattle.ppm_driver.specs.Planned.{PlannedHas, PlannedMay, HasOneAnswer, HasSomeAnswer}
+use Rattle.ppm_driver.specs.Planned.{PlannedHas, PlannedMay, HasFronts, HasOneAnswer, HasSomeAnswer}
 use Rattle.ppm_driver.specs.Says.{tally_of, IsOfEnding}
 use Rattle.ppm_driver.specs.Schedules.{schedule_turns, followed}
 
@@ -64,9 +64,11 @@ abbrev pub ReplayMay : ReplayOptions → (schedule : List ℕ) → Port → Answ
 ReplayMay options schedule source answer =
     PlannedMay schedule_form schedule options.processors (TextHas options) text_limit source answer
 
--- With all options and all schedules two answers of a text are one; with options in their ranges a text that is not refused has one.
+-- With all options and all schedules two answers of a text are one, and what stands behind the limit changes none; with options in their
+-- ranges a text that is not refused has one.
 pub record HaveOneAnswer : Type 0 where
-  pub one : (options : ReplayOptions) (schedule : List ℕ)
-      → HasOneAnswer schedule_form schedule options.processors (TextHas options) text_limit
+  pub one : (options : ReplayOptions) (schedule : List ℕ) → HasOneAnswer schedule_form schedule options.processors (TextHas options)
+  pub front : (options : ReplayOptions) (schedule : List ℕ)
+      → HasFronts schedule_form schedule options.processors (TextHas options) text_limit
   pub some : (options : ReplayOptions) (schedule : List ℕ) → AreReplayed options
       → HasSomeAnswer schedule_form schedule options.processors (TextHas options)

@@ -27,7 +27,7 @@ use Rattle.ppm_cli.specs.declared.run.IdleName.TheVariants as names
 use Rattle.ppm_driver.specs.declared.loading.Sizes.{Sizes}
 use Rattle.ppm_driver.specs.Alone.{ObeysTo}
 use Rattle.ppm_driver.specs.Loading.{Begins, takeover_of}
-use Rattle.ppm_driver.specs.Planned.{PlannedHas, PlannedMay, HasOneAnswer}
+use Rattle.ppm_driver.specs.Planned.{PlannedHas, PlannedMay, HasFronts, HasOneAnswer}
 use Rattle.ppm_driver.specs.Says.{IsOfEnding}
 
 -- the machine's sizes and the limits, as the options say them
@@ -84,6 +84,7 @@ RunHas options plan text answer = PlannedHas plan_form plan options.processors (
 abbrev pub RunMay : RunOptions → (plan : List ℕ) → Port → Answer → Type 0
 RunMay options plan source answer = PlannedMay plan_form plan options.processors (TextHas options) text_limit source answer
 
--- two answers of a text are one, with all options and all plans
-abbrev pub AnswersAreOne : Type 0
-AnswersAreOne = (options : RunOptions) (plan : List ℕ) → HasOneAnswer plan_form plan options.processors (TextHas options) text_limit
+-- with all options and all plans two answers of a text are one, and what stands behind the limit changes none
+pub record AnswersAreOne : Type 0 where
+  pub one : (options : RunOptions) (plan : List ℕ) → HasOneAnswer plan_form plan options.processors (TextHas options)
+  pub front : (options : RunOptions) (plan : List ℕ) → HasFronts plan_form plan options.processors (TextHas options) text_limit

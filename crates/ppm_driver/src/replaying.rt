@@ -2,7 +2,7 @@
 ghost use Rattle.std.specs.Prelude.{◌≡◌, IfOk};
 ghost use Rattle.ppm_ports.specs.Ports.{port};
 ghost use Rattle.ppm_ports.specs.Outside.{ToldLists, outside};
-ghost use Rattle.ppm_answers.specs.Reading.{Answers, JudgingMay, TextMay};
+ghost use Rattle.ppm_answers.specs.Reading.{Answers, JudgingMay, TellsNothing, TextMay};
 ghost use Rattle.ppm_cli.specs.Words.{AreReplayed};
 ghost use Rattle.ppm_text.specs.Limits.{text_limit};
 ghost use Rattle.ppm_tree.specs.Tree.{tree_of};
@@ -41,7 +41,7 @@ pub fn replay_command<S: Source, K: Sink, E: Sink>(
     // An answer that the command's causes allow, and its texts; no watcher is told anything.
     ensures answers { (told : ToldLists) → let o = outside (port S.left S.fault_count source.old source.new)
         (port K.written K.fault_count out.old out.new) (port E.written E.fault_count err.old err.new)
-        told told in Answers (ReplayMay options schedule.now o.source) o result }
+        told told in Answers (ReplayMay options schedule.now o.source) TellsNothing o result }
 
     // What follows from each status.
     ensures rows { (told : ToldLists) → ReplayRows options schedule.now (outside (port S.left S.fault_count source.old source.new)

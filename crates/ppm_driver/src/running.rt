@@ -2,7 +2,7 @@
 ghost use Rattle.std.specs.Prelude.{◌≡◌, IfOk, length, map};
 ghost use Rattle.ppm_ports.specs.Ports.{port};
 ghost use Rattle.ppm_ports.specs.Outside.{outside};
-ghost use Rattle.ppm_answers.specs.Reading.{Answers, JudgingMay, TextMay};
+ghost use Rattle.ppm_answers.specs.Reading.{Answers, JudgingMay, TellsNothing, TextMay};
 ghost use Rattle.ppm_cli.specs.Words.{AreRun};
 ghost use Rattle.ppm_text.specs.Limits.{text_limit};
 ghost use Rattle.ppm_tree.specs.Tree.{tree_of};
@@ -57,7 +57,7 @@ pub fn run_command<R: Wait, S: Source, K: Sink, E: Sink, W: Watch>(
     // An answer that the command's causes allow, and its texts.
     ensures answers { let o = outside (port S.left S.fault_count source.old source.new)
         (port K.written K.fault_count out.old out.new) (port E.written E.fault_count err.old err.new)
-        (map W.told watch.old.items) (map W.told watch.new.items) in Answers (RunMay options faults.now o.source) o result }
+        (map W.told watch.old.items) (map W.told watch.new.items) in Answers (RunMay options faults.now o.source) TellsNothing o result }
 
     // What follows from each status.
     ensures rows { RunRows options faults.now (outside (port S.left S.fault_count source.old source.new)

@@ -1,5 +1,6 @@
 use Rattle.std.proofs.Common.{refl}
 use Rattle.ppm_text.specs.Limits.{text_limit}
+use Rattle.ppm_answers.specs.Reading.{TellsNothing}
 use Rattle.ppm_plan.specs.Forms.{plan_form}
 use Rattle.ppm_driver.specs.Runs.{TextHas}
 use Rattle.ppm_driver.proofs.PlannedLemmas.{planned_delivered}
@@ -9,13 +10,13 @@ use Rattle.ppm_driver.proofs.running.run_command.Goals as goal
 -- the answer was delivered, or out of memory in its place
 pub returns-clause-answers : goal.returns-clause-answers
 returns-clause-answers g c =
-    planned_delivered plan_form c.args.faults.now c.args.options.processors (TextHas c.args.options) text_limit
-    c.have_one_answer.ensures.law.plans _ _ _ refl c.run_answer-answer.ensures c.deliver.ensures
+    planned_delivered plan_form c.args.faults.now c.args.options.processors (TextHas c.args.options) text_limit TellsNothing
+    c.have_one_answer.ensures.law.plans _ _ _ refl refl c.run_answer-answer.ensures c.deliver.ensures
 
 -- and the rows follow from it
 pub returns-clause-rows : goal.returns-clause-rows
 returns-clause-rows g c = run_rows c.args.options c.args.faults.now _ _
-    (planned_delivered plan_form c.args.faults.now c.args.options.processors (TextHas c.args.options) text_limit
-    c.have_one_answer.ensures.law.plans _ _ _ refl c.run_answer-answer.ensures c.deliver.ensures)
+    (planned_delivered plan_form c.args.faults.now c.args.options.processors (TextHas c.args.options) text_limit TellsNothing
+    c.have_one_answer.ensures.law.plans _ _ _ refl refl c.run_answer-answer.ensures c.deliver.ensures)
     c.requires.options c.have_one_answer.ensures.law
-    (c.answers_are_one.ensures.law c.args.options c.args.faults.now)
+    c.answers_are_one.ensures.law
