@@ -4,7 +4,6 @@ use Rattle.std.proofs.Common.{refl, ◌∙◌, subst, inl, inr, append-nil}
 use Rattle.std.specs.Io.KnownBytes.{Keeps, Appends}
 use Rattle.std.proofs.KnownBytes.{Keeps-refl}
 use Rattle.ppm_ports.specs.Ports.{Port, port, Fails, Holds}
-use Rattle.ppm_ports.specs.Outside.{Outside}
 use Rattle.ppm_answers.specs.declared.answer.Answer.{Answer}
 use Rattle.ppm_answers.specs.declared.answer.Answer.TheVariants as answers
 use Rattle.ppm_answers.specs.declared.status.Status.{Status}
@@ -12,13 +11,8 @@ use Rattle.ppm_answers.specs.declared.status.Status.TheVariants as statuses
 use Rattle.ppm_answers.specs.Texts.{IsFixed, out_text}
 use Rattle.ppm_answers.specs.Statuses.{status_of}
 use Rattle.ppm_answers.specs.Delivery.{IsWritten, Delivers}
-use Rattle.ppm_answers.specs.Reading.{IsUnread, Answers}
-use Rattle.ppm_answers.specs.Rows.{IsOneOf}
-
--- the statuses at which nothing is written on out
-abbrev pub silent : List Status
-silent = statuses.SourceRefused ∷ statuses.WordsRefused ∷ statuses.OutOfTurns ∷ statuses.OutOfRoom ∷ statuses.ReadFault ∷ statuses.NoMemory
-    ∷ statuses.CodeRefused ∷ statuses.NotWithin ∷ statuses.Broken ∷ []
+use Rattle.ppm_answers.specs.Reading.{IsUnread, DeliversAnswer, TellsNothing, Answers}
+use Rattle.ppm_ports.specs.Outside.{ToldLists, Ports, Outside, ports_of}
 
 -- a status is 8, or the answer is written
 pub own_or_fault : (out err : Port) (answer : Answer) (status : Status) → Delivers out err answer status →
@@ -45,19 +39,6 @@ pub fault_makes_8 : (out err : Port) (answer : Answer) (status : Status) → Del
 fault_makes_8 out err answer status d f =
     elim (own_or_fault out err answer status d) [ inl e ↦ e | inr w ↦ absurd (f w.out_takes.1 w.err_takes.1) ]
 
--- a status at which nothing is written is none of 0, 1 and 8
-none_of_three : (status : Status) → IsOneOf status silent → (status ≢ statuses.Ended) × (status ≢ statuses.Trapped) × (status ≢ statuses.WriteFault)
-none_of_three status (inl e) = (λ f. cc, λ f. cc, λ f. cc)
-none_of_three status (inr (inl e)) = (λ f. cc, λ f. cc, λ f. cc)
-none_of_three status (inr (inr (inl e))) = (λ f. cc, λ f. cc, λ f. cc)
-none_of_three status (inr (inr (inr (inl e)))) = (λ f. cc, λ f. cc, λ f. cc)
-none_of_three status (inr (inr (inr (inr (inl e))))) = (λ f. cc, λ f. cc, λ f. cc)
-none_of_three status (inr (inr (inr (inr (inr (inl e)))))) = (λ f. cc, λ f. cc, λ f. cc)
-none_of_three status (inr (inr (inr (inr (inr (inr (inl e))))))) = (λ f. cc, λ f. cc, λ f. cc)
-none_of_three status (inr (inr (inr (inr (inr (inr (inr (inl e)))))))) = (λ f. cc, λ f. cc, λ f. cc)
-none_of_three status (inr (inr (inr (inr (inr (inr (inr (inr (inl e))))))))) = (λ f. cc, λ f. cc, λ f. cc)
-none_of_three status (inr (inr (inr (inr (inr (inr (inr (inr (inr e))))))))) = absurd e
-
 -- but for arrays, traps, listings and `ok`, an answer has no text on out
 no_text : (answer : Answer) (status : Status) → status ≡ status_of answer → status ≢ statuses.Ended → status ≢ statuses.Trapped →
     out_text answer ≡ []
@@ -74,13 +55,12 @@ appends_nothing None now h = tt
 appends_nothing (Some xs) None h = h
 appends_nothing (Some xs) (Some ys) h = h ∙ append-nil xs
 
--- at these statuses nothing is written on out
-pub nothing_on_out : (out err : Port) (answer : Answer) (status : Status) → Delivers out err answer status → IsOneOf status silent →
-    Keeps out.before out.now
-nothing_on_out out err answer status d one =
-    let n = none_of_three status one in
-    let w : IsWritten out err answer status = written out err answer status d n.2 in
-    let e : out_text answer ≡ [] = no_text answer status w.own n.0 n.1 in
+-- at each status but 0, 1 and 8 nothing is written on out
+pub nothing_on_out : (out err : Port) (answer : Answer) (status : Status) → Delivers out err answer status → status ≢ statuses.Ended →
+    status ≢ statuses.Trapped → status ≢ statuses.WriteFault → Keeps out.before out.now
+nothing_on_out out err answer status d ended trapped fault =
+    let w : IsWritten out err answer status = written out err answer status d fault in
+    let e : out_text answer ≡ [] = no_text answer status w.own ended trapped in
     appends_nothing out.before out.now (subst (λ t. Appends out.before out.now t) e w.out_takes.0)
 
 -- a port that is left alone is unread
@@ -88,8 +68,18 @@ pub left_alone : {K : Type 0} (bytes : K → Option (List ℕ)) (faults : K → 
 left_alone bytes faults k = record { kept = Keeps-refl (bytes k); holds = refl }
 
 -- what was delivered of an answer with fixed texts is the answer
-pub fixed_delivered : (may : Answer → Type 0) (o : Outside) (answer : Answer) (status : Status) → o.told_now ≡ o.told_before →
-    IsFixed answer → may answer →
-    Delivers o.out o.err answer status ⊎ ((¬ IsFixed answer) × Delivers o.out o.err answers.NoMemory status) → Answers may o status
-fixed_delivered may o answer status told fixed h (inl d) = record { answer = answer; cause = h; delivered = d; told = told }
-fixed_delivered may o answer status told fixed h (inr d) = absurd (d.0 fixed)
+pub fixed_delivered : (may : Answer → Type 0) (Tells : Answer → ToldLists → ToldLists → Type 0) (o : Outside) (answer : Answer) (status : Status) →
+    Tells answer o.told_before o.told_now → IsFixed answer → may answer →
+    Delivers o.out o.err answer status ⊎ ((¬ IsFixed answer) × Delivers o.out o.err answers.NoMemory status) → Answers may Tells o status
+fixed_delivered may Tells o answer status told fixed h (inl d) = record { answer = answer; cause = h; delivered = d; told = told }
+fixed_delivered may Tells o answer status told fixed h (inr d) = absurd (d.0 fixed)
+
+-- an answer that was delivered, without its watchers
+pub of_answers : (may : Answer → Type 0) (Tells : Answer → ToldLists → ToldLists → Type 0) (o : Outside) (status : Status) →
+    Answers may Tells o status → DeliversAnswer may (ports_of o) status
+of_answers may Tells o status a = record { answer = a.answer; cause = a.cause; delivered = a.delivered }
+
+-- and with watchers that were told nothing
+pub tells_nothing : (may : Answer → Type 0) (o : Outside) (status : Status) → o.told_now ≡ o.told_before →
+    DeliversAnswer may (ports_of o) status → Answers may TellsNothing o status
+tells_nothing may o status told a = record { answer = a.answer; cause = a.cause; delivered = a.delivered; told = told }

@@ -6,4 +6,5 @@
 
 pub mod Delivered
 pub mod WholeText
+pub mod RowsLemmas
 pub mod Judged

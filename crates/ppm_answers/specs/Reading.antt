@@ -1,8 +1,10 @@
 -- What a command may answer that reads a text, and what it is to answer.
-use Rattle.std.specs.Prelude.{◌≡◌, ℕ, List, ⊤}
+use Rattle.std.specs.Prelude.{◌≡◌, ℕ, ◌<◌, List, ◌++◌, length, ⊤}
 use Rattle.std.specs.Io.KnownBytes.{Keeps}
+use Rattle.ppm_ports.specs.declared.read_error.ReadError.{ReadError}
+use Rattle.ppm_ports.specs.declared.read_error.ReadError.TheVariants as errors
 use Rattle.ppm_ports.specs.Ports.{Port, Fails, Holds}
-use Rattle.ppm_ports.specs.Outside.{Outside}
+use Rattle.ppm_ports.specs.Outside.{ToldLists, KeepFronts, Ports, Outside}
 use Rattle.ppm_ports.specs.Whole.{ReadsTo, ReadsFront}
 use Rattle.ppm_answers.specs.declared.answer.Answer.{Answer}
 use Rattle.ppm_answers.specs.declared.answer.Answer.TheVariants as answers
@@ -29,6 +31,11 @@ ReadingMay limit source answers.ReadFault = Fails source × ReadsSome limit sour
 ReadingMay limit source answers.NoMemory = ReadsSome limit source × Holds source
 ReadingMay limit source _ = ⊥
 
+-- the answer where a text was not read whole
+abbrev pub unread_answer : ReadError → Answer
+unread_answer errors.Failed = answers.ReadFault
+unread_answer errors.NoMemory = answers.NoMemory
+
 -- the text that was read has this answer, of those that texts have
 abbrev pub ReadHas : ℕ → (List ℕ → Answer → Type 0) → Port → Answer → Type 0
 ReadHas limit Has source answer = (text : List ℕ) × Reads limit source text × Has text answer
@@ -44,9 +51,37 @@ JudgingMay limit Has source answers.ReadFault = ReadingMay limit source answers.
 JudgingMay limit Has source answers.NoMemory = ReadingMay limit source answers.NoMemory
 JudgingMay limit Has source answer = ReadHas limit Has source answer
 
--- an answer that may come was delivered, and no watcher was told anything
-pub record Answers (may : Answer → Type 0) (o : Outside) (status : Status) : Type 0 where
+-- two answers of a text are one
+abbrev pub AreOne : (List ℕ → Answer → Type 0) → Type 0
+AreOne Has = (text : List ℕ) (a b : Answer) → Has text a → Has text b → a ≡ b
+
+-- what stands behind more bytes than the limit changes no answer of a text
+abbrev pub FrontsDecide : ℕ → (List ℕ → Answer → Type 0) → Type 0
+FrontsDecide limit Has = (text rest : List ℕ) (a : Answer) → limit < length text → Has text a → Has (text ++ rest) a
+
+-- an answer that may come was delivered, also where a port failed at its text
+pub record DeliversAnswer (may : Answer → Type 0) (o : Ports) (status : Status) : Type 0 where
   pub answer : Answer
   pub cause : may answer
   pub delivered : Delivers o.out o.err answer status
-  pub told : o.told_now ≡ o.told_before
+
+-- what watchers were told where an answer comes: of a command that tells them nothing, no list changes
+abbrev pub TellsNothing : Answer → ToldLists → ToldLists → Type 0
+TellsNothing answer before now = now ≡ before
+
+-- That of a command whose run tells them its turns. What is refused, or can't be read, is so before the run, and nothing was told; memory
+-- may be wanting before the run or behind it, and each list keeps what it had in front; with every other answer it is what the run says.
+abbrev pub TellsOfRun : (Answer → ToldLists → ToldLists → Type 0) → Answer → ToldLists → ToldLists → Type 0
+TellsOfRun Tells answers.NoMemory before now = KeepFronts before now
+TellsOfRun Tells answers.ReadFault before now = TellsNothing answers.ReadFault before now
+TellsOfRun Tells answers.WordsRefused before now = TellsNothing answers.WordsRefused before now
+TellsOfRun Tells (answers.PlanRefused number) before now = TellsNothing (answers.PlanRefused number) before now
+TellsOfRun Tells (answers.SourceRefused r) before now = TellsNothing (answers.SourceRefused r) before now
+TellsOfRun Tells answer before now = Tells answer before now
+
+-- an answer that may come was delivered, also where a port failed at its text; and watchers were told what belongs to it
+pub record Answers (may : Answer → Type 0) (Tells : Answer → ToldLists → ToldLists → Type 0) (o : Outside) (status : Status) : Type 0 where
+  pub answer : Answer
+  pub cause : may answer
+  pub delivered : Delivers o.out o.err answer status
+  pub told : Tells answer o.told_before o.told_now

@@ -52,8 +52,10 @@ pass_name pass.Cut = codes "cut"
 
 -- what a pass says where its faults are: in a line, or at a place
 abbrev pub place_name : Pass → List ℕ
+place_name pass.Text = codes "at"
+place_name pass.Syntax = codes "at"
 place_name pass.Region = codes "line"
-place_name _ = codes "at"
+place_name pass.Cut = codes "at"
 
 -- a line with a pass that refuses and its fault's number, and where that is
 abbrev pub fault_text : List ℕ → ℕ → List ℕ → ℕ → List ℕ
@@ -121,7 +123,18 @@ out_text (answers.EndedWith arrays tally) = arrays_text arrays ++ tally_text tal
 out_text (answers.TrappedWith t line tally) = trap_text t line ++ tally_text tally
 out_text (answers.Listed listing) = listing
 out_text answers.Accepted = accepted_text
-out_text _ = []
+out_text (answers.NotWithin turns) = []
+out_text (answers.OutOfTurns processor) = []
+out_text (answers.OutOfRoom place) = []
+out_text (answers.Unfinished acts) = []
+out_text (answers.Broken place) = []
+out_text (answers.PlanRefused number) = []
+out_text (answers.SourceRefused r) = []
+out_text (answers.Conflicting c) = []
+out_text (answers.ListingRefused r) = []
+out_text answers.WordsRefused = []
+out_text answers.ReadFault = []
+out_text answers.NoMemory = []
 
 -- what is written on err
 abbrev pub err_text : Answer → List ℕ
@@ -137,7 +150,12 @@ err_text (answers.ListingRefused r) = listing_text r
 err_text answers.WordsRefused = ended_line (codes "words refused")
 err_text answers.ReadFault = ended_line (codes "read fault")
 err_text answers.NoMemory = ended_line (codes "out of memory")
-err_text _ = []
+err_text (answers.Ended arrays) = []
+err_text (answers.Trapped t line) = []
+err_text (answers.EndedWith arrays tally) = []
+err_text (answers.TrappedWith t line tally) = []
+err_text (answers.Listed listing) = []
+err_text answers.Accepted = []
 
 -- what is written on err where out failed
 abbrev pub write_fault_text : List ℕ

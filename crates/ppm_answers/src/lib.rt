@@ -12,6 +12,7 @@ mod refusal;
 mod status;
 mod tally;
 mod texts;
+mod unread;
 
 pub use answer::Answer;
 pub use conflict::{Class, Conflict, ListingRefusal};
@@ -19,6 +20,7 @@ pub use delivery::deliver;
 pub use refusal::{Pass, Refusal};
 pub use status::Status;
 pub use tally::Tally;
+pub use unread::answer_of_read;
 
 #[cfg(test)]
 mod tests;

@@ -1,5 +1,5 @@
 -- A command that has a plan or a schedule among its words: what it answers, and when it may.
-use Rattle.std.specs.Prelude.{◌≡◌, ℕ, ◌<◌, true, List, ◌++◌, length}
+use Rattle.std.specs.Prelude.{◌≡◌, ℕ, true, List}
 use Rattle.ppm_ports.specs.Ports.{Port}
 use Rattle.ppm_plan.specs.declared.plan_error.PlanError.{PlanError}
 use Rattle.ppm_plan.specs.declared.plan_error.PlanError.TheVariants as errors
@@ -10,6 +10,7 @@ use Rattle.ppm_answers.specs.declared.refusal.Refusal.{Refusal}
 use Rattle.ppm_answers.specs.declared.answer.Answer.{Answer}
 use Rattle.ppm_answers.specs.declared.answer.Answer.TheVariants as answers
 use Rattle.ppm_answers.specs.Reading.{IsUnread, ReadingMay, ReadHas}
+use Rattle.ppm_answers.specs.Rows.{HasOrRefused}
 use Rattle.ppm_program.specs.Refusals.{IsRefusal}
 
 -- the plan, a text of this form for so many processors, is refused by this number
@@ -33,26 +34,21 @@ module _ {A : Type 0} (form : Form A) (plan : List ℕ) (processors : ℕ) (Has 
 
   -- the answer of a text with such a plan: that the plan is refused, or the answer by its items
   abbrev pub PlannedHas : List ℕ → Answer → Type 0
-  PlannedHas text (answers.PlanRefused number) = IsRefusedBy form plan processors number
-  PlannedHas text answer = HasByItems text answer
+  PlannedHas text answer = HasOrRefused (IsRefusedBy form plan processors) HasByItems text answer
 
   -- nothing was read where the plan is refused
   abbrev pub IsUnreadIfRefused : Port → Type 0
   IsUnreadIfRefused source = (number : ℕ) → IsRefusedBy form plan processors number → IsUnread source
 
-  -- The answers of a command that reads up to a limit and judges what it has read by the plan: that the plan is refused, and nothing was
-  -- read; want of memory; a read fault, where the plan may be obeyed; and the answer of the text that was read, by the plan's items.
+  -- The answers of a command that reads its plan first, and then up to a limit, and judges what it has read by the plan: that the plan is
+  -- refused, and nothing was read; want of memory; a read fault, where the plan may be obeyed; and the answer of the text that was read, by
+  -- the plan's items.
   abbrev pub PlannedMay : (limit : ℕ) → Port → Answer → Type 0
   PlannedMay limit source (answers.PlanRefused number) = IsRefusedBy form plan processors number × IsUnread source
   PlannedMay limit source answers.NoMemory = ReadingMay limit source answers.NoMemory × IsUnreadIfRefused source
   PlannedMay limit source answers.ReadFault = ReadingMay limit source answers.ReadFault × SomeAccepted form plan processors
   PlannedMay limit source answer = ReadHas limit HasByItems source answer
 
-  -- with such a plan two answers of a text are one, and what stands behind more bytes than a text may have changes none
-  pub record HasOneAnswer (limit : ℕ) : Type 0 where
-    pub one : (text : List ℕ) (a b : Answer) → PlannedHas text a → PlannedHas text b → a ≡ b
-    pub front : (text rest : List ℕ) (a : Answer) → limit < length text → PlannedHas text a → PlannedHas (text ++ rest) a
-
-  -- and a text that is not refused has one
+  -- a text that is not refused has an answer
   abbrev pub HasSomeAnswer : Type 0
   HasSomeAnswer = (text : List ℕ) → ((r : Refusal) → ¬ IsRefusal text r) → (a : Answer) × PlannedHas text a

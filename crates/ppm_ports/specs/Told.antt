@@ -8,6 +8,12 @@ KeepsList None now = ⊤
 KeepsList (Some before) None = ⊥
 KeepsList (Some before) (Some now) = now ≡ before
 
+-- a known list keeps what it had in front
+abbrev pub KeepsFront : Option (List Event) → Option (List Event) → Type 0
+KeepsFront None now = ⊤
+KeepsFront (Some before) None = ⊥
+KeepsFront (Some before) (Some now) = (events : List Event) × (now ≡ before ++ events)
+
 -- a known list has these events behind it
 abbrev pub AppendsList : Option (List Event) → Option (List Event) → List Event → Type 0
 AppendsList None now events = ⊤

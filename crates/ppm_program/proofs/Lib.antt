@@ -9,3 +9,4 @@ pub mod SyntaxFaults
 pub mod RegionFaults
 pub mod OneAnswer
 pub mod WholeText
+pub mod WithinLemmas

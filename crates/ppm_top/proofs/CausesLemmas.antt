@@ -1,19 +1,21 @@
 -- Want of memory may always be answered before anything is read.
-use Rattle.std.proofs.Common.{◌≡◌, ℕ, List, Option, Some, None, sym, subst}
-use Rattle.ppm_ports.specs.Outside.{Outside}
+use Rattle.std.proofs.Common.{◌≡◌, ℕ, List, Option, Some, None, refl, sym, subst}
+use Rattle.ppm_ports.specs.Outside.{ToldLists, Outside, ports_of}
 use Rattle.ppm_text.specs.Limits.{text_limit}
 use Rattle.ppm_listing_reader.specs.Limits.{text_limit as listing_limit}
+use Rattle.ppm_answers.specs.declared.answer.Answer.{Answer}
 use Rattle.ppm_answers.specs.declared.answer.Answer.TheVariants as answers
 use Rattle.ppm_answers.specs.declared.status.Status.{Status}
-use Rattle.ppm_answers.specs.Reading.{IsUnread, Answers}
+use Rattle.ppm_answers.specs.Reading.{IsUnread, DeliversAnswer, TellsNothing, Answers}
+use Rattle.ppm_answers.proofs.Delivered.{tells_nothing}
 use Rattle.ppm_answers.proofs.Judged as judged
 use Rattle.ppm_cli.specs.declared.command.Command.{Command}
 use Rattle.ppm_cli.specs.declared.command.Command.TheVariants as commands
-use Rattle.ppm_checking.specs.Verdict.{CheckHas}
-use Rattle.ppm_interpreting.specs.Outcomes.{SerialHas}
-use Rattle.ppm_showing.specs.Verdict.{CodeHas}
+use Rattle.ppm_commands.specs.Check.{CheckHas}
+use Rattle.ppm_commands.specs.Code.{CodeReads}
+use Rattle.ppm_commands.specs.Serial.{SerialHas}
 use Rattle.ppm_cli.specs.Words.{command_of}
-use Rattle.ppm_top.specs.Causes.{CommandMay, IsAnswered}
+use Rattle.ppm_top.specs.Causes.{CommandMay, CommandTells, IsAnswered}
 use Rattle.ppm_plan.specs.Forms.{plan_form, schedule_form}
 use Rattle.ppm_driver.specs.Replays.{TextHas as ReplayTextHas}
 use Rattle.ppm_driver.specs.Runs.{TextHas as RunTextHas}
@@ -23,14 +25,32 @@ use Rattle.ppm_driver.proofs.PlannedLemmas as planned
 pub memory_before : (command : Option Command) (o : Outside) → IsUnread o.source → CommandMay command o answers.NoMemory
 memory_before None o h = h
 memory_before (Some (commands.Run options plan)) o h =
-    planned.memory_before plan_form plan options.processors (RunTextHas options) text_limit o.source h
+    planned.memory_before plan_form plan options.processors (RunTextHas options o.told_before o.told_now) text_limit o.source h
 memory_before (Some (commands.Serial options)) o h = judged.memory_before text_limit (SerialHas options.turns) o.source h
-memory_before (Some commands.Code) o h = record { has = judged.memory_before text_limit CodeHas o.source h; listed = tt }
+memory_before (Some commands.Code) o h = judged.memory_before text_limit CodeReads o.source h
 memory_before (Some commands.Check) o h = judged.memory_before listing_limit CheckHas o.source h
 memory_before (Some (commands.Replay options schedule)) o h =
     planned.memory_before schedule_form schedule options.processors (ReplayTextHas options) text_limit o.source h
 
 -- an answer of the command that the words give answers the words
 pub by_command : (words : List (List ℕ)) (o : Outside) (status : Status) (command : Option Command) → command_of words ≡ command →
-    Answers (CommandMay command o) o status → IsAnswered words o status
-by_command words o status command e a = subst (λ c. Answers (CommandMay c o) o status) (sym e) a
+    Answers (CommandMay command o) (CommandTells command) o status → IsAnswered words o status
+by_command words o status command e a = subst (λ c. Answers (CommandMay c o) (CommandTells c) o status) (sym e) a
+
+-- so does one that was delivered by a command without watchers
+pub by_ports : (words : List (List ℕ)) (o : Outside) (status : Status) (command : Option Command) → command_of words ≡ command →
+    CommandTells command ≡ TellsNothing → o.told_now ≡ o.told_before → DeliversAnswer (CommandMay command o) (ports_of o) status →
+    IsAnswered words o status
+by_ports words o status command e tells told d =
+    by_command words o status command e
+    (subst (λ (t : Answer → ToldLists → ToldLists → Type 0). Answers (CommandMay command o) t o status) (sym tells)
+    (tells_nothing (CommandMay command o) o status told d))
+
+-- nothing is told where no command tells anything
+pub told_nothing : (command : Option Command) (answer : Answer) (lists : ToldLists) → CommandTells command answer lists lists
+told_nothing None answer lists = refl
+told_nothing (Some (commands.Run options plan)) answer lists = refl
+told_nothing (Some (commands.Serial options)) answer lists = refl
+told_nothing (Some commands.Code) answer lists = refl
+told_nothing (Some commands.Check) answer lists = refl
+told_nothing (Some (commands.Replay options schedule)) answer lists = refl

@@ -2,7 +2,7 @@
 use Rattle.std.proofs.Common.{◌≡◌, ◌⊎◌, ℕ, List, [], ◌∷◌, Option, Some, None}
 use Rattle.std.proofs.Common.{refl, sym, ◌∙◌, subst, inl, inr}
 use Rattle.ppm_ports.specs.Ports.{Fails, Holds}
-use Rattle.ppm_ports.specs.Outside.{Outside}
+use Rattle.ppm_ports.specs.Outside.{Outside, ports_of}
 use Rattle.ppm_text.specs.Limits.{text_limit}
 use Rattle.ppm_listing_reader.specs.Limits.{text_limit as listing_limit}
 use Rattle.ppm_answers.specs.declared.answer.Answer.{Answer}
@@ -17,31 +17,26 @@ use Rattle.ppm_cli.specs.declared.replay.ReplayOptions.{ReplayOptions}
 use Rattle.ppm_cli.specs.declared.run.RunOptions.{RunOptions}
 use Rattle.ppm_cli.specs.Words.{command_of}
 use Rattle.ppm_cli.proofs.RangeLemmas.{run_is_in_range}
-use Rattle.ppm_checking.specs.Verdict.{CheckHas}
-use Rattle.ppm_checking.specs.Correct.{HaveOneAnswer as ListingsHaveOneAnswer}
-use Rattle.ppm_checking.proofs.OfCheck.{check_rows}
-use Rattle.ppm_interpreting.specs.Outcomes.{SerialHas}
-use Rattle.ppm_interpreting.specs.Correct.{HaveOneAnswer as ProgramsHaveOneAnswer}
-use Rattle.ppm_interpreting.proofs.OfSerial.{serial_rows}
+use Rattle.ppm_commands.specs.Check.{CheckHas, HaveOneAnswer as ListingsHaveOneAnswer}
+use Rattle.ppm_commands.specs.Code.{CodeReads, CodesAreFaithful, HaveOneAnswer as CodesHaveOneAnswer}
+use Rattle.ppm_commands.specs.Serial.{SerialHas, HaveOneAnswer as OutcomesHaveOneAnswer}
+use Rattle.ppm_commands.proofs.CheckRows.{check_rows}
+use Rattle.ppm_commands.proofs.CodeRows.{code_rows}
+use Rattle.ppm_commands.proofs.SerialRows.{serial_rows}
 use Rattle.ppm_plan.specs.Correct.{HaveOneAnswer as PlansHaveOneAnswer}
 use Rattle.ppm_plan.specs.Forms.{Form, plan_form, schedule_form}
 use Rattle.ppm_driver.specs.Planned.{PlannedMay}
-use Rattle.ppm_driver.specs.ReplayRows.{RefusesSchedule}
+use Rattle.ppm_driver.specs.MachineRows.{RefusesPlan}
 use Rattle.ppm_driver.specs.Replays.{TextHas as ReplayTextHas, HaveOneAnswer as ReplaysHaveOneAnswer}
-use Rattle.ppm_driver.specs.RunRows.{RefusesPlan}
-use Rattle.ppm_driver.specs.Runs.{TextHas as RunTextHas, AnswersAreOne}
+use Rattle.ppm_driver.specs.Runs.{TextHas as RunTextHas, AnswersAreOne, FrontsDecideAnswers}
 use Rattle.ppm_driver.proofs.OfReplay as of_replay
 use Rattle.ppm_driver.proofs.OfRun as of_run
 use Rattle.ppm_driver.proofs.PlannedLemmas as planned
-use Rattle.ppm_showing.specs.Verdict.{CodeHas}
-use Rattle.ppm_showing.specs.Causes.{CodeMay}
-use Rattle.ppm_showing.specs.Correct.{HaveOneAnswer as CodesHaveOneAnswer}
-use Rattle.ppm_showing.specs.Rows.{WritesListing, CodeRows}
-use Rattle.ppm_showing.proofs.OfCode.{code_rows}
-use Rattle.ppm_answers.specs.Reading.{IsUnread, JudgingMay, Answers}
+use Rattle.ppm_answers.specs.Reading.{IsUnread, JudgingMay, DeliversAnswer, Answers}
+use Rattle.ppm_answers.proofs.Delivered.{of_answers}
 use Rattle.ppm_answers.specs.Rows.{IsOneOf}
-use Rattle.ppm_top.specs.Causes.{NoCommandMay, CommandMay, IsAnswered}
-use Rattle.ppm_top.specs.Rows.{HasRefusedPlan, OfRun, OfReplay, RefusesWords, ReportsFaults, WritesAccepted, ShowsByWords, ProgramRows}
+use Rattle.ppm_top.specs.Causes.{NoCommandMay, CommandMay, CommandTells, IsAnswered}
+use Rattle.ppm_top.specs.Rows.{HasRefusedPlan, OfRun, OfReplay, RefusesWords, ReportsFaults, ProgramRows}
 use Rattle.ppm_answers.proofs.Delivered as delivered
 use Rattle.ppm_answers.proofs.Judged as judged
 
@@ -52,12 +47,6 @@ pub record ReportsReads (o : Outside) (may : Answer → Type 0) : Type 0 where
 
 judging_reports : (limit : ℕ) (Has : List ℕ → Answer → Type 0) (o : Outside) → ReportsReads o (JudgingMay limit Has o.source)
 judging_reports limit Has o = record { failed = λ h. h.0; fails = λ answer h f. judged.source_failed limit Has o.source answer h f }
-
-code_reports : (o : Outside) → ReportsReads o (CodeMay o)
-code_reports o = record {
-  failed = λ h. h.has.0;
-  fails = λ answer h f. judged.source_failed text_limit CodeHas o.source answer h.has f;
-}
 
 planned_reports : {A : Type 0} (form : Form A) (plan : List ℕ) (processors : ℕ) (Has : List A → List ℕ → Answer → Type 0) (o : Outside)
     → ReportsReads o (PlannedMay form plan processors Has text_limit o.source)
@@ -75,9 +64,9 @@ none_reports o = record { failed = λ h. absurd h; fails = fails } where
 
 command_reports : (o : Outside) (command : Option Command) → ReportsReads o (CommandMay command o)
 command_reports o None = none_reports o
-command_reports o (Some (commands.Run options plan)) = planned_reports plan_form plan options.processors (RunTextHas options) o
+command_reports o (Some (commands.Run options plan)) = planned_reports plan_form plan options.processors (RunTextHas options o.told_before o.told_now) o
 command_reports o (Some (commands.Serial options)) = judging_reports text_limit (SerialHas options.turns) o
-command_reports o (Some commands.Code) = code_reports o
+command_reports o (Some commands.Code) = judging_reports text_limit CodeReads o
 command_reports o (Some commands.Check) = judging_reports listing_limit CheckHas o
 command_reports o (Some (commands.Replay options schedule)) =
     planned_reports schedule_form schedule options.processors (ReplayTextHas options) o
@@ -88,7 +77,8 @@ read_answer may answers.ReadFault h e = h
 read_answer may answer h e = cc
 
 -- faults are reported exactly, whatever the command is
-reports_faults : (o : Outside) (may : Answer → Type 0) (status : Status) → ReportsReads o may → Answers may o status → ReportsFaults o status
+reports_faults : (o : Outside) (may : Answer → Type 0) (status : Status) → ReportsReads o may → DeliversAnswer may (ports_of o) status →
+    ReportsFaults o status
 reports_faults o may status reports a = record {
   read_fault = read_fault;
   write_fault = delivered.write_failed o.out o.err a.answer status a.delivered;
@@ -106,8 +96,14 @@ reports_faults o may status reports a = record {
   source_fails r (inl w) = inr (inl w)
   source_fails r (inr w) = inl (w.own ∙ r)
 
+-- what was delivered, without what watchers were told
+delivers : (words : List (List ℕ)) (o : Outside) (status : Status) → IsAnswered words o status →
+    DeliversAnswer (CommandMay (command_of words) o) (ports_of o) status
+delivers words o status a = of_answers (CommandMay (command_of words) o) (CommandTells (command_of words)) o status a
+
 faults : (words : List (List ℕ)) (o : Outside) (status : Status) → IsAnswered words o status → ReportsFaults o status
-faults words o status a = reports_faults o (CommandMay (command_of words) o) status (command_reports o (command_of words)) a
+faults words o status a =
+    reports_faults o (CommandMay (command_of words) o) status (command_reports o (command_of words)) (delivers words o status a)
 
 -- an answer of status 3 comes without a command, or with one that names a plan or a schedule
 data IsPlanned (command : Option Command) : Type 0 where
@@ -120,10 +116,10 @@ no_command None o answer h e = inl refl
 no_command (Some (commands.Run options plan)) o answer h e = inr (IsRun options plan refl)
 no_command (Some (commands.Replay options schedule)) o answer h e = inr (IsReplay options schedule refl)
 no_command (Some (commands.Serial options)) o answers.WordsRefused h e = absurd h.2
-no_command (Some commands.Code) o answers.WordsRefused h e = absurd h.has.2
+no_command (Some commands.Code) o answers.WordsRefused h e = absurd h.2
 no_command (Some commands.Check) o answers.WordsRefused h e = absurd h.2
 no_command (Some (commands.Serial options)) o (answers.PlanRefused number) h e = absurd h.2
-no_command (Some commands.Code) o (answers.PlanRefused number) h e = absurd h.has.2
+no_command (Some commands.Code) o (answers.PlanRefused number) h e = absurd h.2
 no_command (Some commands.Check) o (answers.PlanRefused number) h e = absurd h.2
 no_command command o answer h e = cc
 
@@ -148,13 +144,13 @@ refuses_words words o status a = record {
       let w = delivered.written o.out o.err a.answer status a.delivered (λ f. cc) in
       by_words (no_command (command_of words) o a.answer a.cause (sym w.own ∙ e)) where
         refuses : (options : ReplayOptions) (schedule : List ℕ) → command_of words ≡ Some (commands.Replay options schedule) →
-            RefusesSchedule options schedule o
+            RefusesPlan schedule_form schedule options.processors (ports_of o)
         refuses options schedule c =
-            of_replay.schedule_refused options schedule o status (subst (λ x. Answers (CommandMay x o) o status) c a) e
+            of_replay.schedule_refused options schedule o status (subst (λ x. Answers (CommandMay x o) (CommandTells x) o status) c a) e
 
         refuses_plan : (options : RunOptions) (plan : List ℕ) → command_of words ≡ Some (commands.Run options plan) →
-            RefusesPlan options plan o
-        refuses_plan options plan c = of_run.plan_refused options plan o status (subst (λ x. Answers (CommandMay x o) o status) c a) e
+            RefusesPlan plan_form plan options.processors (ports_of o)
+        refuses_plan options plan c = of_run.plan_refused options plan o status (subst (λ x. Answers (CommandMay x o) (CommandTells x) o status) c a) e
 
         by_words : (command_of words ≡ None) ⊎ IsPlanned (command_of words) → (command_of words ≡ None) ⊎ HasRefusedPlan words o
         by_words (inl n) = inl n
@@ -171,42 +167,30 @@ refuses_words words o status a = record {
 -- what the crates of the commands show of every text
 pub record Laws : Type 0 where
   pub runs : AnswersAreOne
-  pub programs : ProgramsHaveOneAnswer
+  pub fronts : FrontsDecideAnswers
+  pub outcomes : OutcomesHaveOneAnswer
   pub codes : CodesHaveOneAnswer
+  pub faithful : CodesAreFaithful
   pub listings : ListingsHaveOneAnswer
   pub plans : PlansHaveOneAnswer
   pub replays : ReplaysHaveOneAnswer
 
--- a listing that `code` writes is one that `check` accepts
-accepted : (o : Outside) → WritesListing o → WritesAccepted o
-accepted o w = (
-  w.listing,
-  w.gets,
-  record {
-    code = w.free.code;
-    listed = record { code = w.free.rules; fits = w.free.fits; same = w.free.same };
-    free = w.free.free;
-  },
-)
-
--- the rows of `code`
-shows : CodesHaveOneAnswer → (words : List (List ℕ)) (o : Outside) (status : Status) → IsAnswered words o status → ShowsByWords words o status
-shows law words o status a = record { rows = rows; accepted = λ e ended. accepted o ((rows e).listed ended) } where
-  rows : command_of words ≡ Some commands.Code → CodeRows o status
-  rows e = code_rows law o status (subst (λ c. Answers (CommandMay c o) o status) e a)
-
 -- all rows of the program
 pub program_rows : Laws → (words : List (List ℕ)) (o : Outside) (status : Status) → IsAnswered words o status → ProgramRows words o status
 program_rows laws words o status a = record {
-  run = λ options plan e. of_run.run_rows options plan o status
-      (subst (λ c. Answers (CommandMay c o) o status) e a) (run_is_in_range words options plan e) laws.plans (laws.runs options plan);
-  serial = λ options e. serial_rows options.turns (laws.programs options.turns) o status
-      (subst (λ c. Answers (CommandMay c o) o status) e a);
-  code = shows laws.codes words o status a;
-  check = λ e. check_rows o status (subst (λ c. Answers (CommandMay c o) o status) e a) laws.listings;
+  run = λ options plan e. (
+    run_is_in_range words options plan e,
+    of_run.run_rows options plan o status (subst (λ c. Answers (CommandMay c o) (CommandTells c) o status) e a) laws.plans laws.runs
+        laws.fronts,
+  );
+  serial = λ options e. serial_rows options.turns (ports_of o) (laws.outcomes options.turns) status (by_words (Some (commands.Serial options)) e);
+  code = λ e. code_rows laws.codes laws.faithful (ports_of o) status (by_words (Some commands.Code) e);
+  check = λ e. check_rows (ports_of o) laws.listings status (by_words (Some commands.Check) e);
   replay = λ options schedule e. of_replay.replay_rows options schedule o status
-      (subst (λ c. Answers (CommandMay c o) o status) e a) laws.plans (laws.replays.one options schedule);
+      (subst (λ c. Answers (CommandMay c o) (CommandTells c) o status) e a) laws.plans laws.replays;
   words_refused = refuses_words words o status a;
   faults = faults words o status a;
   nothing_on_out = delivered.nothing_on_out o.out o.err a.answer status a.delivered;
-}
+} where
+  by_words : (command : Option Command) → command_of words ≡ command → DeliversAnswer (CommandMay command o) (ports_of o) status
+  by_words command e = subst (λ c. DeliversAnswer (CommandMay c o) (ports_of o) status) e (delivers words o status a)

@@ -1,18 +1,18 @@
--- When each answer may come: a line for each command.
+-- When each answer may come, and what watchers are told with it: a line for each command.
 use Rattle.std.specs.Prelude.{ℕ, List, Option, Some, None}
-use Rattle.ppm_ports.specs.Outside.{Outside}
+use Rattle.ppm_ports.specs.Outside.{ToldLists, Outside}
 use Rattle.ppm_answers.specs.declared.answer.Answer.{Answer}
 use Rattle.ppm_answers.specs.declared.answer.Answer.TheVariants as answers
 use Rattle.ppm_answers.specs.declared.status.Status.{Status}
-use Rattle.ppm_answers.specs.Reading.{IsUnread, Answers}
+use Rattle.ppm_answers.specs.Reading.{IsUnread, TellsNothing, Answers}
 use Rattle.ppm_cli.specs.declared.command.Command.{Command}
 use Rattle.ppm_cli.specs.declared.command.Command.TheVariants as commands
 use Rattle.ppm_cli.specs.Words.{command_of}
-use Rattle.ppm_checking.specs.Causes.{CheckMay}
-use Rattle.ppm_interpreting.specs.Causes.{SerialMay}
+use Rattle.ppm_commands.specs.Check.{CheckMay}
+use Rattle.ppm_commands.specs.Code.{CodeMay}
+use Rattle.ppm_commands.specs.Serial.{SerialMay}
 use Rattle.ppm_driver.specs.Replays.{ReplayMay}
 use Rattle.ppm_driver.specs.Runs.{RunMay}
-use Rattle.ppm_showing.specs.Causes.{CodeMay}
 
 -- the answers where the words give no command
 abbrev pub NoCommandMay : Outside → Answer → Type 0
@@ -23,12 +23,21 @@ NoCommandMay o _ = ⊥
 -- the answers of a command, or of none
 abbrev pub CommandMay : Option Command → Outside → Answer → Type 0
 CommandMay None o answer = NoCommandMay o answer
-CommandMay (Some (commands.Run options plan)) o answer = RunMay options plan o.source answer
-CommandMay (Some (commands.Serial options)) o answer = SerialMay options.turns o answer
-CommandMay (Some commands.Code) o answer = CodeMay o answer
-CommandMay (Some commands.Check) o answer = CheckMay o answer
+CommandMay (Some (commands.Run options plan)) o answer = RunMay options plan o.told_before o.told_now o.source answer
+CommandMay (Some (commands.Serial options)) o answer = SerialMay options.turns o.source answer
+CommandMay (Some commands.Code) o answer = CodeMay o.source answer
+CommandMay (Some commands.Check) o answer = CheckMay o.source answer
 CommandMay (Some (commands.Replay options schedule)) o answer = ReplayMay options schedule o.source answer
 
--- an answer of the command that the words give was delivered
+-- what watchers are told with each answer of a command, or of none; no command tells them anything yet
+abbrev pub CommandTells : Option Command → Answer → ToldLists → ToldLists → Type 0
+CommandTells None = TellsNothing
+CommandTells (Some (commands.Run options plan)) = TellsNothing
+CommandTells (Some (commands.Serial options)) = TellsNothing
+CommandTells (Some commands.Code) = TellsNothing
+CommandTells (Some commands.Check) = TellsNothing
+CommandTells (Some (commands.Replay options schedule)) = TellsNothing
+
+-- an answer of the command that the words give was delivered, and watchers were told what belongs to it
 abbrev pub IsAnswered : List (List ℕ) → Outside → Status → Type 0
-IsAnswered words o status = Answers (CommandMay (command_of words) o) o status
+IsAnswered words o status = Answers (CommandMay (command_of words) o) (CommandTells (command_of words)) o status

@@ -1,9 +1,8 @@
 -- What follows from each status: the rows of the table that a reader looks for.
-use Rattle.std.specs.Prelude.{◌≡◌, ◌⊎◌, ℕ, List, [], ◌∷◌, Some, None}
+use Rattle.std.specs.Prelude.{◌≡◌, ◌≢◌, ◌⊎◌, ℕ, List, [], ◌∷◌, Some, None}
 use Rattle.std.specs.Io.KnownBytes.{Keeps}
-use Rattle.ppm_ports.specs.Ports.{Fails, Gets, Holds}
-use Rattle.ppm_ports.specs.Outside.{Outside}
-use Rattle.ppm_answers.specs.declared.answer.Answer.TheVariants as answers
+use Rattle.ppm_ports.specs.Ports.{Fails, Holds}
+use Rattle.ppm_ports.specs.Outside.{Outside, ports_of}
 use Rattle.ppm_answers.specs.declared.status.Status.{Status}
 use Rattle.ppm_answers.specs.declared.status.Status.TheVariants as statuses
 use Rattle.ppm_answers.specs.Reading.{IsUnread}
@@ -12,48 +11,44 @@ use Rattle.ppm_cli.specs.declared.command.Command.TheVariants as commands
 use Rattle.ppm_cli.specs.declared.command.SerialOptions.{SerialOptions}
 use Rattle.ppm_cli.specs.declared.replay.ReplayOptions.{ReplayOptions}
 use Rattle.ppm_cli.specs.declared.run.RunOptions.{RunOptions}
-use Rattle.ppm_cli.specs.Words.{command_of}
-use Rattle.ppm_checking.specs.Verdict.{CheckHas}
-use Rattle.ppm_checking.specs.Rows.{CheckRows}
-use Rattle.ppm_interpreting.specs.Rows.{SerialRows}
-use Rattle.ppm_showing.specs.Rows.{CodeRows}
-use Rattle.ppm_driver.specs.ReplayRows.{RefusesSchedule, ReplayRows}
-use Rattle.ppm_driver.specs.RunRows.{RefusesPlan, RunRows}
+use Rattle.ppm_cli.specs.Words.{command_of, AreRun}
+use Rattle.ppm_commands.specs.Check.{CheckRows}
+use Rattle.ppm_commands.specs.Code.{CodeRows}
+use Rattle.ppm_commands.specs.Serial.{SerialRows}
+use Rattle.ppm_driver.specs.MachineRows.{RefusesPlan}
+use Rattle.ppm_driver.specs.ReplayRows.{ReplayRows}
+use Rattle.ppm_driver.specs.RunRows.{RunRows}
+use Rattle.ppm_plan.specs.Forms.{plan_form, schedule_form}
 
--- the rows of `run` hold where the words ask for a run, with these options and this plan
+-- the rows of `run` hold where the words ask for a run, with these options, which are in their ranges, and this plan
 abbrev pub RunsByWords : List (List ℕ) → Outside → Status → Type 0
-RunsByWords words o status =
-    (options : RunOptions) (plan : List ℕ) → command_of words ≡ Some (commands.Run options plan) → RunRows options plan o status
+RunsByWords words o status = (options : RunOptions) (plan : List ℕ) → command_of words ≡ Some (commands.Run options plan)
+    → AreRun options × RunRows options plan o status
 
 -- those of `serial` hold where they ask for it, with as many turns
 abbrev pub InterpretsByWords : List (List ℕ) → Outside → Status → Type 0
 InterpretsByWords words o status =
-    (options : SerialOptions) → command_of words ≡ Some (commands.Serial options) → SerialRows options.turns o status
-
--- what `code` writes on out, `check` accepts
-abbrev pub WritesAccepted : Outside → Type 0
-WritesAccepted o = (listing : List ℕ) × Gets o.out listing × CheckHas listing answers.Accepted
+    (options : SerialOptions) → command_of words ≡ Some (commands.Serial options) → SerialRows options.turns (ports_of o) status
 
 -- those of `code` where they ask for that
-pub record ShowsByWords (words : List (List ℕ)) (o : Outside) (status : Status) : Type 0 where
-  pub rows : command_of words ≡ Some commands.Code → CodeRows o status
-  pub accepted : command_of words ≡ Some commands.Code → status ≡ statuses.Ended → WritesAccepted o
+abbrev pub ListsByWords : List (List ℕ) → Outside → Status → Type 0
+ListsByWords words o status = command_of words ≡ Some commands.Code → CodeRows (ports_of o) status
 
 -- and those of `check` where they ask for that
 abbrev pub ChecksByWords : List (List ℕ) → Outside → Status → Type 0
-ChecksByWords words o status = command_of words ≡ Some commands.Check → CheckRows o status
+ChecksByWords words o status = command_of words ≡ Some commands.Check → CheckRows (ports_of o) status
 
 -- those of `replay` where they ask for that, with these options and this schedule
 abbrev pub ReplaysByWords : List (List ℕ) → Outside → Status → Type 0
 ReplaysByWords words o status = (options : ReplayOptions) (schedule : List ℕ) → command_of words ≡ Some (commands.Replay options schedule) →
     ReplayRows options schedule o status
 
--- the words ask for a run by a plan, or for a replay by a schedule, that is refused; then nothing is read
+-- the words ask for a run by a plan, or for a replay by a schedule, that is refused
 pub data HasRefusedPlan (words : List (List ℕ)) (o : Outside) : Type 0 where
-  OfRun : (options : RunOptions) (plan : List ℕ) → command_of words ≡ Some (commands.Run options plan) → RefusesPlan options plan o
-      → HasRefusedPlan words o
+  OfRun : (options : RunOptions) (plan : List ℕ) → command_of words ≡ Some (commands.Run options plan)
+      → RefusesPlan plan_form plan options.processors (ports_of o) → HasRefusedPlan words o
   OfReplay : (options : ReplayOptions) (schedule : List ℕ) → command_of words ≡ Some (commands.Replay options schedule)
-      → RefusesSchedule options schedule o → HasRefusedPlan words o
+      → RefusesPlan schedule_form schedule options.processors (ports_of o) → HasRefusedPlan words o
 
 -- Status 3 comes only where the words give no command, or name a plan or a schedule that is refused. Where they give no command,
 -- nothing is read, and the status is 3, or 8 or 9.
@@ -74,14 +69,13 @@ pub record ReportsFaults (o : Outside) (status : Status) : Type 0 where
 -- at each status but 0, 1 and 8 nothing is written on out
 abbrev pub IsSilentOnOut : Outside → Status → Type 0
 IsSilentOnOut o status =
-    IsOneOf status (statuses.SourceRefused ∷ statuses.WordsRefused ∷ statuses.OutOfTurns ∷ statuses.OutOfRoom ∷ statuses.ReadFault
-    ∷ statuses.NoMemory ∷ statuses.CodeRefused ∷ statuses.NotWithin ∷ statuses.Broken ∷ []) → Keeps o.out.before o.out.now
+    status ≢ statuses.Ended → status ≢ statuses.Trapped → status ≢ statuses.WriteFault → Keeps o.out.before o.out.now
 
 -- the rows of the program: those of each command, those of words that give none, and those that all commands share
 pub record ProgramRows (words : List (List ℕ)) (o : Outside) (status : Status) : Type 0 where
   pub run : RunsByWords words o status
   pub serial : InterpretsByWords words o status
-  pub code : ShowsByWords words o status
+  pub code : ListsByWords words o status
   pub check : ChecksByWords words o status
   pub replay : ReplaysByWords words o status
   pub words_refused : RefusesWords words o status

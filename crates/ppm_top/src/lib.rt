@@ -11,6 +11,3 @@ mod top;
 
 pub use ppm_driver::WATCHERS;
 pub use top::ppm;
-
-#[cfg(test)]
-mod tests;

@@ -8,16 +8,17 @@ ghost use Rattle.ppm_top.specs.Causes.{IsAnswered};
 ghost use Rattle.ppm_top.specs.Rows.{ProgramRows};
 
 use ppm_answers::{Answer, Status, deliver};
-use ppm_checking::{check_command, have_one_answer as listings_have_one_answer};
 use ppm_cli::{Command, read_words};
+use ppm_commands::{
+    check_command, code_command, codes_are_faithful, codes_have_one_answer,
+    listings_have_one_answer, outcomes_have_one_answer, serial_command,
+};
 use ppm_driver::{
     answers_are_one as runs_have_one_answer, have_one_answer as replays_have_one_answer,
     replay_command, run_command,
 };
-use ppm_interpreting::{have_one_answer as programs_have_one_answer, serial_command};
 use ppm_plan::have_one_answer as plans_have_one_answer;
 use ppm_ports::{Sink, Source, Watch};
-use ppm_showing::{code_command, have_one_answer as codes_have_one_answer};
 use ppm_words::NoMemory;
 use std::alloc::Global;
 use std::sync::Wait;
@@ -49,8 +50,9 @@ pub fn ppm<R: Wait, S: Source, K: Sink, E: Sink, W: Watch>(
 {
     // The rows rest on these laws; the calls do nothing.
     runs_have_one_answer();
-    programs_have_one_answer();
+    outcomes_have_one_answer();
     codes_have_one_answer();
+    codes_are_faithful();
     listings_have_one_answer();
     plans_have_one_answer();
     replays_have_one_answer();

@@ -1,5 +1,6 @@
 use Rattle.std.proofs.Common.{refl, sym, ◌∙◌}
 use Rattle.ppm_core.specs.Machine.{seen}
+use Rattle.ppm_driver.proofs.AllLemmas.{runs_to}
 use Rattle.ppm_driver.proofs.AloneLemmas.{begins}
 use Rattle.ppm_driver.proofs.alone.obey.Goals as goal
 

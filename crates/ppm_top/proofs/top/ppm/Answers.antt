@@ -4,10 +4,12 @@ use Rattle.ppm_top.proofs.top.ppm.Goals as goal
 -- the rows follow from the answer that was delivered
 pub returns-clause-rows : goal.returns-clause-rows
 returns-clause-rows g c = program_rows (record {
-  runs = c.answers_are_one.ensures.law;
-  programs = c.have_one_answer.ensures.law;
-  codes = c.have_one_answer-2.ensures.law;
-  listings = c.have_one_answer-3.ensures.law;
-  plans = c.have_one_answer-4.ensures.law;
-  replays = c.have_one_answer-5.ensures.law;
+  runs = c.answers_are_one.ensures.one;
+  fronts = c.answers_are_one.ensures.front;
+  outcomes = c.outcomes_have_one_answer.ensures.law;
+  codes = c.codes_have_one_answer.ensures.law;
+  faithful = c.codes_are_faithful.ensures.law;
+  listings = c.listings_have_one_answer.ensures.law;
+  plans = c.have_one_answer.ensures.law;
+  replays = c.have_one_answer-2.ensures.law;
 }) _ _ _ c.obey.ensures.answers

@@ -1,0 +1,12 @@
+pub mod Pieces
+pub mod FirstLine
+pub mod LongTexts
+pub mod FirstConflict
+pub mod LeastLemmas
+pub mod CheckAnswers
+pub mod CheckRows
+pub mod CodeAnswers
+pub mod FaithfulLemmas
+pub mod CodeRows
+pub mod SerialAnswers
+pub mod SerialRows

@@ -1,0 +1,55 @@
+//! That a text has one answer by each command, shown by calls that do nothing.
+ghost use Rattle.ppm_commands.specs.Check.{HaveOneAnswer as ListingsHaveOneAnswer};
+ghost use Rattle.ppm_commands.specs.Code.{CodesAreFaithful, HaveOneAnswer as CodesHaveOneAnswer};
+ghost use Rattle.ppm_commands.specs.Serial.{HaveOneAnswer as OutcomesHaveOneAnswer};
+
+use ppm_cut_code::keeps_the_rules;
+use ppm_cut_correct::end_as_meant;
+use ppm_cut_sound::{code_is_sound, may_be_stopped, store_tidily};
+use ppm_listing_reader::faults_tell_listings;
+use ppm_program::have_one_answer as have_one_program;
+use ppm_rows::trees_are_within;
+use ppm_tree::{have_one_end, none_is_stuck, spend_their_turns};
+
+/// Where it is checked, a text has one answer: its first fault, its code's first conflict, or that it is accepted; and a text
+/// that is too long is refused as its front is.
+pub fn listings_have_one_answer()
+    ensures law { ListingsHaveOneAnswer }
+{
+    // The law rests on this one; the call does nothing.
+    faults_tell_listings();
+}
+
+/// Where its code is listed, a text has one answer: it is refused for one reason, or its program has one code, which has one
+/// listing.
+pub fn codes_have_one_answer()
+    ensures law { CodesHaveOneAnswer }
+{
+    // The law rests on this; the call does nothing.
+    have_one_program();
+}
+
+/// The code of each text's program is faithful: each capsule may be stopped anywhere and begun again, it is tidy, on no input
+/// do branches of it race, and run depth first it ends as the program does.
+pub fn codes_are_faithful()
+    ensures law { CodesAreFaithful }
+{
+    // The law rests on these; the calls do nothing.
+    trees_are_within();
+    keeps_the_rules();
+    may_be_stopped();
+    store_tidily();
+    code_is_sound();
+    end_as_meant();
+}
+
+/// Within each number of turns a text has one answer: it is refused for one reason, or its program has one outcome.
+pub fn outcomes_have_one_answer()
+    ensures law { OutcomesHaveOneAnswer }
+{
+    // The law rests on these; the calls do nothing.
+    have_one_program();
+    have_one_end();
+    none_is_stuck();
+    spend_their_turns();
+}

@@ -1,0 +1,141 @@
+//! The command `replay`.
+ghost use Rattle.std.specs.Prelude.{◌≡◌, IfOk};
+ghost use Rattle.ppm_ports.specs.Ports.{port};
+ghost use Rattle.ppm_ports.specs.Outside.{ToldLists, outside};
+ghost use Rattle.ppm_answers.specs.Reading.{Answers, JudgingMay, TellsNothing};
+ghost use Rattle.ppm_cli.specs.Words.{AreReplayed};
+ghost use Rattle.ppm_text.specs.Limits.{text_limit};
+ghost use Rattle.ppm_tree.specs.Tree.{tree_of};
+ghost use Rattle.ppm_cut_bounds.specs.Bounds.{IsWithinBounds};
+ghost use Rattle.ppm_driver.specs.Programs.{ProgramMay};
+ghost use Rattle.ppm_driver.specs.Replays.{ProgramHas, ReplayMay, TextHas, sizes_of as sizes_in};
+ghost use Rattle.ppm_driver.specs.ReplayRows.{ReplayRows};
+
+use crate::following::follow;
+use crate::loading::{Sizes, load};
+use crate::one_replay::have_one_answer;
+use crate::planned::refusal_answer;
+use crate::programs::read_program;
+use crate::saying::replay_answer;
+use ppm_answers::{Answer, Status, deliver};
+use ppm_cli::ReplayOptions;
+use ppm_plan::{Schedule, have_one_answer as schedules_have_one_answer, read_schedule};
+use ppm_ports::{Sink, Source};
+use ppm_regions::Admitted;
+use ppm_words::NoMemory;
+use std::alloc::Global;
+
+/// Replays the text that is read, on a machine whose processors act as the schedule says, with at most so many acts: its arrays or its
+/// trap, and how many forks and takes there were, are written on `out`, why there are none on `err`. Where the schedule is refused, the
+/// source is left unread.
+pub fn replay_command<S: Source, K: Sink, E: Sink>(
+    alloc: Global,
+    options: ReplayOptions,
+    schedule: &[u8],
+    source: &mut S,
+    out: &mut K,
+    err: &mut E,
+) -> Status
+    requires options { AreReplayed options }
+
+    // An answer that the command's causes allow, and its texts; no watcher is told anything.
+    ensures answers { (told : ToldLists) → let o = outside (port S.left S.fault_count source.old source.new)
+        (port K.written K.fault_count out.old out.new) (port E.written E.fault_count err.old err.new)
+        told told in Answers (ReplayMay options schedule.now o.source) TellsNothing o result }
+
+    // What follows from each status.
+    ensures rows { (told : ToldLists) → ReplayRows options schedule.now (outside (port S.left S.fault_count source.old source.new)
+        (port K.written K.fault_count out.old out.new) (port E.written E.fault_count err.old err.new)
+        told told) result }
+{
+    // The rows rest on these laws; the calls do nothing.
+    have_one_answer();
+    schedules_have_one_answer();
+    let answer = read_answer(alloc, options, schedule, source);
+    deliver(alloc, &answer, out, err)
+}
+
+/// The answer of `replay`: the schedule is read first, and then the source.
+fn read_answer<S: Source>(
+    alloc: Global,
+    options: ReplayOptions,
+    schedule: &[u8],
+    source: &mut S,
+) -> Answer
+    requires options { AreReplayed options }
+    ensures { ReplayMay options schedule.now (port S.left S.fault_count source.old source.new) result }
+{
+    // A schedule that is accepted is not refused, by this law; the call does nothing.
+    schedules_have_one_answer();
+    match read_schedule(alloc, schedule, options.processors) {
+        Ok(schedule) => planned_answer(alloc, options, &schedule, source),
+        Err(error) => refusal_answer(error),
+    }
+}
+
+/// The program of the text that is read is replayed by the schedule.
+fn planned_answer<S: Source>(
+    alloc: Global,
+    options: ReplayOptions,
+    schedule: &Schedule,
+    source: &mut S,
+) -> Answer
+    requires options { AreReplayed options }
+    requires processors { schedule.now.processors ≡ options.processors }
+    ensures { JudgingMay text_limit (TextHas options schedule.now.items) (port S.left S.fault_count source.old source.new) result }
+{
+    match read_program(alloc, source) {
+        Ok(program) => program_answer(alloc, options, schedule, &program),
+        Err(answer) => answer,
+    }
+}
+
+/// What the replay of a program comes to, or want of memory.
+fn program_answer(
+    alloc: Global,
+    options: ReplayOptions,
+    schedule: &Schedule,
+    program: &Admitted,
+) -> Answer
+    requires options { AreReplayed options }
+    requires processors { schedule.now.processors ≡ options.processors }
+    requires bounded { IsWithinBounds (tree_of program.now) }
+    ensures { ProgramMay (ProgramHas options schedule.now.items (tree_of program.now)) result }
+{
+    match replayed(alloc, options, schedule, program) {
+        Ok(answer) => answer,
+        Err(NoMemory) => Answer::NoMemory,
+    }
+}
+
+/// What the replay of a program comes to.
+fn replayed(
+    alloc: Global,
+    options: ReplayOptions,
+    schedule: &Schedule,
+    program: &Admitted,
+) -> Result<Answer, NoMemory>
+    requires options { AreReplayed options }
+    requires processors { schedule.now.processors ≡ options.processors }
+    requires bounded { IsWithinBounds (tree_of program.now) }
+    ensures { IfOk result (ProgramHas options schedule.now.items (tree_of program.now)) }
+{
+    let mut machine = load(alloc, sizes_of(options), program, schedule.keeper())?;
+    // What the type of its code keeps is known once its parts were seen.
+    let _ = machine.code().parts();
+    follow(&mut machine, schedule, options.turns);
+    let answer = replay_answer(alloc, &machine, program.input().arrays(), options.turns)?;
+    Ok(answer)
+}
+
+/// The machine's sizes, as the options say them.
+fn sizes_of(options: ReplayOptions) -> Sizes
+    ensures { result ≡ sizes_in options }
+{
+    Sizes {
+        processors: options.processors,
+        room: options.room,
+        slots: options.slots,
+        takeover: options.takeover,
+    }
+}

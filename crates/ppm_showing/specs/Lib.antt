@@ -1,4 +1,0 @@
-pub mod Verdict
-pub mod Causes
-pub mod Correct
-pub mod Rows
