@@ -103,7 +103,7 @@ delivers : (words : List (List ℕ)) (o : Outside) (status : Status) → IsAnswe
 delivers words o status a = of_answers (CommandMay (command_of words) o) (CommandTells (command_of words)) o status a
 
 faults : (words : List (List ℕ)) (o : Outside) (status : Status) → IsAnswered words o status → ReportsFaults o status
-faults words o status a = 
+faults words o status a =
     reports_faults o (CommandMay (command_of words) o) status (command_reports o (command_of words)) (delivers words o status a)
 
 -- an answer of status 3 comes without a command, or with one that names a plan or a schedule
