@@ -2,6 +2,8 @@
 use Rattle.std.proofs.Common.{◌≡◌, ◌⊎◌, ℕ, List, [], Some, Err}
 use Rattle.std.proofs.Common.{refl, sym, subst, inl, inr, arith}
 use Rattle.std.proofs.KnownBytes.{Consumes-nil, Consumes-kept}
+use Rattle.std.specs.declared.vec.Vec.{Vec}
+use Rattle.std.specs.declared.alloc.Global.{Global}
 use Rattle.ppm_ports.specs.declared.read_error.ReadError.{ReadError}
 use Rattle.ppm_ports.specs.declared.read_error.ReadError.TheVariants as errors
 use Rattle.ppm_ports.specs.Ports.{Port, Fails, Holds}
@@ -37,10 +39,10 @@ module _ (limit : ℕ) (Has : List ℕ → Answer → Type 0) where
   memory_after source text r = ((text, r.whole.most, r.whole.front), r.holds)
 
   -- where the text was not read whole, the source failed or memory was refused
-  pub not_read : (T : Type 0) (source : Port) (e : ReadError) → ReadsSome limit source →
-      CountsFaults {T = T} source.faults_before source.faults_now (Err e) → JudgingMay limit Has source (unread_answer e)
-  not_read T source errors.Failed front cause = (cause, front)
-  not_read T source errors.NoMemory front cause = (front, cause)
+  pub not_read : (source : Port) (e : ReadError) → ReadsSome limit source →
+      CountsFaults {T = Vec ℕ Global} source.faults_before source.faults_now (Err e) → JudgingMay limit Has source (unread_answer e)
+  not_read source errors.Failed front cause = (cause, front)
+  not_read source errors.NoMemory front cause = (front, cause)
 
   -- where it was, its answer may come, or want of memory; no text has a read fault
   pub is_read : ((text : List ℕ) → ¬ Has text answers.ReadFault) → (source : Port) (text : List ℕ) (a : Answer) → Reads limit source text →

@@ -23,7 +23,7 @@ no_fault text h = h
 
 -- an answer of a text that was read is one that a text has
 has_of : (text : List ℕ) (a : Answer) → CodeReads text a → CodeHas text a
-has_of text (answers.Listed listing) h = h.has
+has_of text (answers.Listed listing) h = record { tree = h.tree; program = h.program; listed = h.listed }
 has_of text (answers.SourceRefused r) h = h
 has_of text a h = absurd h
 
@@ -31,14 +31,14 @@ module _ (law : HaveOneAnswer) (faithful : CodesAreFaithful) (o : Ports) where
   -- what is true of a listing that is written
   listing : (l : List ℕ) → HasRead o.source (answers.Listed l) → Gets o.out l → WritesListing o
   listing l h g =
-      let code : IsFaithful h.2.has.tree = faithful h.0 h.2.has.tree h.2.has.program in
+      let code : IsFaithful h.2.tree = faithful h.0 h.2.tree h.2.program in
       record {
         listing = l;
         read = h;
         gets = g;
         accepted = record {
-          code = code_of h.2.has.tree;
-          listed = record { code = code.rules; fits = h.2.fits; same = h.2.has.listed };
+          code = code_of h.2.tree;
+          listed = record { code = code.rules; fits = h.2.fits; same = h.2.listed };
           free = code.free;
         };
         faithful = code;

@@ -75,7 +75,7 @@ module _ (code : CodeParts) (free : (c : Conflict) → IsFirstConflictOf code c 
       -- the one of the least write is the first
       by_write : (write : ℕ) → ((m : ℕ) → m < write → WritesAt capsule read m → ⊥) → WritesAt capsule read write → ⊥
       by_write write less (c, h) = free (record { capsule = capsule; read_at = read; write_at = write; class = c }) (record {
-        earlier = λ number is r w d k. earlier number is (r, w, d, k);
+        earlier = λ number is r w d k. earlier number is (r, (w, (d, k)));
         first = record {
           capsule = refl;
           first = record { conflict = h; least_read = least_read; least_write = least_write };
@@ -86,7 +86,7 @@ module _ (code : CodeParts) (free : (c : Conflict) → IsFirstConflictOf code c 
           least_read r w d k = by (nat_lt r read) refl
             where
               by : (b : Bool) → nat_lt r read ≡ b → read ≤ r
-              by true e = absurd (before r (grind (arith, e)) (w, d, k))
+              by true e = absurd (before r (grind (arith, e)) (w, (d, k)))
               by false e = grind (arith, e)
 
           least_write : (w : ℕ) (d : Class) → IsIn capsule read w d → write ≤ w
@@ -103,4 +103,4 @@ module _ (code : CodeParts) (free : (c : Conflict) → IsFirstConflictOf code c 
     by_capsule (read, h) = without_least (ReadsAt capsule) by_read read h
 
   pub no_conflict : IsFree code
-  no_conflict capsule read write c h = without_least IsInCapsule by_capsule capsule (read, write, c, h)
+  no_conflict capsule read write c h = without_least IsInCapsule by_capsule capsule (read, (write, (c, h)))

@@ -29,16 +29,22 @@ module _ (ends : HaveOneEnd) (stuck : NoneIsStuck) (t : ProgramTree) (turns : �
     where
       by : (b : Bool) → nat_le k.turns turns ≡ b → (o : Outcome) × Serial t turns o
       by true e = (_, Within k z h (leb-true k.turns turns e))
-      by false e = (outcome.NotWithin, NotWithin (λ j y g.
-          let same = (ends Plain t.procedures).procedure (main_of t) (main_frame t.arrays (main_of t).parameters) (values_of (initial_arrays t)) k j z y h g in
-          subst (λ (c : Counts). turns < c.turns) same.0 (omega (arith, leb-false k.turns turns e))))
+      by false e = (
+        outcome.NotWithin,
+        NotWithin (λ j y g.
+            let same = (ends Plain t.procedures).procedure (main_of t) (main_frame t.arrays (main_of t).parameters) (values_of (initial_arrays t)) k j z y h g in
+            subst (λ (c : Counts). turns < c.turns) same.0 (omega (arith, leb-false k.turns turns e))),
+      )
 
   -- a run that goes on past the turns ends behind them, if at all
   of_run : BeginsBody Plain t.procedures (suc turns) (main_of t) (main_frame t.arrays (main_of t).parameters) (values_of (initial_arrays t))
       → (o : Outcome) × Serial t turns o
-  of_run b = (outcome.NotWithin, NotWithin (λ k z h.
-      let more : suc turns ≤ k.turns = (stuck Plain t (values_of (initial_arrays t))).spends (suc turns) k z b h in
-      omega (arith, more)))
+  of_run b = (
+    outcome.NotWithin,
+    NotWithin (λ k z h.
+        let more : suc turns ≤ k.turns = (stuck Plain t (values_of (initial_arrays t))).spends (suc turns) k z b h in
+        omega (arith, more)),
+  )
 
   pub some_outcome : (o : Outcome) × Serial t turns o
   some_outcome = go ((stuck Plain t (values_of (initial_arrays t))).goes_on (suc turns))
@@ -111,7 +117,7 @@ module _ (texts : TextsHaveOneProgram) (spends : SpendTheirTurns) (turns : ℕ) 
       of_outcome : (text : List ℕ) (o : Outcome) → ComesTo turns text o → (a : Answer) × SerialHas turns text a
       of_outcome text (outcome.Ended arrays) c = (answers.Ended arrays, c)
       of_outcome text (outcome.Trapped t line) c = (answers.Trapped t line, c)
-      of_outcome text outcome.NotWithin c = (answers.NotWithin turns, refl, c)
+      of_outcome text outcome.NotWithin c = (answers.NotWithin turns, (refl, c))
 
 -- so it is with all numbers of turns
 pub have_one_answer : TextsHaveOneProgram → SpendTheirTurns → HaveOneEnd → NoneIsStuck → HaveOneAnswer

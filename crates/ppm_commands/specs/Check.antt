@@ -64,6 +64,12 @@ CheckHas text (answers.Conflicting c) = IsConflicting text c
 CheckHas text (answers.ListingRefused r) = IsUnlisted text r
 CheckHas text _ = ⊥
 
+-- the answer that a code has
+abbrev pub VerdictOf : CodeParts → Answer → Type 0
+VerdictOf code answers.Accepted = IsFree code
+VerdictOf code (answers.Conflicting c) = (conflict : Conflict) × IsFirstConflictOf code conflict × (c ≡ conflict_told conflict)
+VerdictOf code _ = ⊥
+
 -- a fault of a listing as an answer, and want of memory
 abbrev pub error_answer : ListingError → Answer
 error_answer error.NoMemory = answers.NoMemory

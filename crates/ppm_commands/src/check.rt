@@ -4,7 +4,7 @@ ghost use Rattle.ppm_ports.specs.Ports.{port};
 ghost use Rattle.ppm_ports.specs.Outside.{ports};
 ghost use Rattle.ppm_answers.specs.Reading.{TextMay};
 ghost use Rattle.ppm_commands.specs.Check.{class_told as told_class, conflict_told as told_conflict, error_answer as answer_of};
-ghost use Rattle.ppm_commands.specs.Check.{CheckHas, CodeHas, CheckMay, IsChecked};
+ghost use Rattle.ppm_commands.specs.Check.{CheckHas, VerdictOf, CheckMay, IsChecked};
 
 use crate::laws::listings_have_one_answer;
 use ppm_answers::{Answer, ListingRefusal, Status, answer_of_read, deliver};
@@ -57,7 +57,7 @@ fn text_answer(alloc: Global, text: &[u8]) -> Answer
 
 /// What `check` says of a code.
 fn code_answer(code: &Code) -> Answer
-    ensures { CodeHas code.now result }
+    ensures { VerdictOf code.now result }
 {
     match check(code) {
         Ok(_) => Answer::Accepted,

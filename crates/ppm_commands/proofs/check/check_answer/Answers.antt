@@ -15,4 +15,6 @@ returns-in-Ok g c =
 
 -- or it was not read whole
 pub returns-in-Err : goal.returns-in-Err
-returns-in-Err g c = subst (JudgingMay text_limit CheckHas _) (sym c.answer_of_read.ensures) (not_read text_limit CheckHas _ _ c.in-Err.error c.in-Err.ensures.front c.in-Err.ensures.cause)
+returns-in-Err g c =
+    subst (JudgingMay text_limit CheckHas _) (sym c.answer_of_read.ensures)
+    (not_read text_limit CheckHas _ c.in-Err.error c.in-Err.ensures.front c.in-Err.ensures.cause)

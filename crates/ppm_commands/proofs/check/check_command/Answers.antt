@@ -6,6 +6,8 @@ use Rattle.ppm_commands.proofs.check.check_command.Goals as goal
 
 -- the answer was delivered, or out of memory in its place, and the rows follow from it
 pub returns : goal.returns
-returns g c =
-    let d = judging_delivered text_limit CheckHas _ _ _ c.check_answer-answer.ensures c.deliver.ensures in
-    record { delivers = d; rows = check_rows _ c.listings_have_one_answer.ensures.law _ d }
+returns g c = record {
+  delivers = judging_delivered text_limit CheckHas _ _ _ c.check_answer-answer.ensures c.deliver.ensures;
+  rows = check_rows _ c.listings_have_one_answer.ensures.law _
+      (judging_delivered text_limit CheckHas _ _ _ c.check_answer-answer.ensures c.deliver.ensures);
+}

@@ -17,4 +17,4 @@ returns-in-Ok g c =
 pub returns-in-Err : goal.returns-in-Err
 returns-in-Err g c =
     subst (JudgingMay text_limit (SerialHas c.args.turns) _) (sym c.answer_of_read.ensures)
-    (not_read text_limit (SerialHas c.args.turns) _ _ c.in-Err.error c.in-Err.ensures.front c.in-Err.ensures.cause)
+    (not_read text_limit (SerialHas c.args.turns) _ c.in-Err.error c.in-Err.ensures.front c.in-Err.ensures.cause)

@@ -6,6 +6,8 @@ use Rattle.ppm_commands.proofs.serial.serial_command.Goals as goal
 
 -- the answer was delivered, or out of memory in its place, and the rows follow from it
 pub returns : goal.returns
-returns g c =
-    let d = judging_delivered text_limit (SerialHas c.args.turns) _ _ _ c.serial_answer-answer.ensures c.deliver.ensures in
-    record { delivers = d; rows = serial_rows c.args.turns _ (c.outcomes_have_one_answer.ensures.law c.args.turns) _ d }
+returns g c = record {
+  delivers = judging_delivered text_limit (SerialHas c.args.turns) _ _ _ c.serial_answer-answer.ensures c.deliver.ensures;
+  rows = serial_rows c.args.turns _ (c.outcomes_have_one_answer.ensures.law c.args.turns) _
+      (judging_delivered text_limit (SerialHas c.args.turns) _ _ _ c.serial_answer-answer.ensures c.deliver.ensures);
+}
