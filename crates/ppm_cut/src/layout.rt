@@ -6,38 +6,16 @@ ghost use Rattle.ppm_cut_code.specs.Statements.{with_lets};
 ghost use Rattle.ppm_cut.specs.Counts.{count_limit};
 
 use crate::free::is_free;
+use ppm_cut_bounds::{Mention, Names};
 use ppm_tree::{Named, Parameter, Stmt};
 use ppm_words::{Name, NoMemory};
 use std::alloc::Global;
 use std::marker::Model;
 
-/// A name that has a slot.
-#[derive(Drop)]
-pub struct Mention<'a> {
-    name: &'a Name,
-}
-
-impl<'a> Model for Mention<'a> {
-    ghost use Rattle.std.specs.Prelude.{List, ℕ};
-
-    ghost Value = { List ℕ };
-
-    ghost view = { λ m. m.name.now };
-}
-
-impl<'a> Mention<'a> {
-    /// The name.
-    pub fn name(&self) -> &'a Name
-        ensures { result.now ≡ self.now }
-    {
-        self.name
-    }
-}
-
 /// The names that have slots in the frames of a procedure, slot by slot.
 #[derive(Drop)]
 pub struct Layout<'a> {
-    names: Vec<Mention<'a>>,
+    names: Names<'a>,
 }
 
 impl<'a> Model for Layout<'a> {
@@ -45,7 +23,7 @@ impl<'a> Model for Layout<'a> {
 
     ghost Value = { List (List ℕ) };
 
-    ghost view = { λ l. l.names.items };
+    ghost view = { λ l. l.names };
 }
 
 impl<'a> Layout<'a> {
@@ -54,7 +32,7 @@ impl<'a> Layout<'a> {
         ensures { result ≡ [] }
     {
         Layout {
-            names: Vec::new(alloc),
+            names: Names::new(alloc),
         }
     }
 
@@ -73,7 +51,7 @@ impl<'a> Layout<'a> {
     pub fn as_slice(&self) -> &[Mention<'a>]
         ensures { result.now ≡ self.now }
     {
-        &self.names
+        self.names.as_slice()
     }
 
     /// How many there are.
@@ -114,8 +92,7 @@ impl<'a> Layout<'a> {
     pub fn push(&mut self, name: &'a Name) -> Result<(), NoMemory>
         ensures { OnOk result (self.new ≡ self.old ++ name.now ∷ []) }
     {
-        self.names.push(Mention { name })?;
-        Ok(())
+        self.names.push(name)
     }
 
     /// What a statement declares takes the next slot.

@@ -2,11 +2,12 @@
 ghost use Rattle.std.specs.Prelude.{◌≡◌, ◌≤◌, ◌+◌, ◌*◌, length};
 ghost use Rattle.ppm_tree.specs.Tree.{statement_of, block_of, procedure_of};
 ghost use Rattle.ppm_cut_bounds.specs.Names.{lets_of};
-ghost use Rattle.ppm_cut_bounds.specs.Slots.{most_within, most_in_force, puts, has_put};
+ghost use Rattle.ppm_cut_bounds.specs.Slots.{most_within, most_in_force};
 ghost use Rattle.ppm_cut_code.specs.Slots.{assigns, has_assignment, spare_slots, named_slots, procedure_slots};
 ghost use Rattle.ppm_cut_code.specs.Slots.{hidden_named_slots, hidden_slots};
 ghost use Rattle.ppm_cut.specs.Counts.{count_limit, own_count, own_count_in};
 
+use ppm_cut_bounds::has_put;
 use ppm_tree::{Proc, Stmt};
 
 /// The names that a statement's blocks have in force at one point, at most.
@@ -65,42 +66,6 @@ pub fn most_in_force(block: &[Stmt]) -> u32
         lets += let_count(statement);
     }
     lets.max(most)
-}
-
-/// Whether a statement assigns to an element, itself or in its blocks.
-#[cycle(puts)]
-fn puts(statement: &Stmt) -> bool
-    ensures { result ≡ puts (statement_of statement.now) }
-{
-    match statement {
-        Stmt::Put(_, _, _) => true,
-        Stmt::If(_, block, other) => {
-            if has_put(block) {
-                return true;
-            }
-            has_put(other)
-        }
-        Stmt::While(_, block) => has_put(block),
-        Stmt::Split(_, _, _, _, _, block) => has_put(block),
-        Stmt::Let(_, _)
-        | Stmt::Assign(_, _)
-        | Stmt::Call(_)
-        | Stmt::Fork(_, _)
-        | Stmt::Each(_, _, _, _) => false,
-    }
-}
-
-/// Whether a block assigns to an element.
-#[cycle(puts)]
-fn has_put(block: &[Stmt]) -> bool
-    ensures { result ≡ has_put (block_of block.now) }
-{
-    for statement in block {
-        if puts(statement) {
-            return true;
-        }
-    }
-    false
 }
 
 /// Whether a statement assigns to a local, itself or in its blocks.
