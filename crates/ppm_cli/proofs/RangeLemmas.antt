@@ -7,14 +7,14 @@ use Rattle.clap.specs.Words.{Kinds, Row, Text, one_of, fault_of, subcommand_of}
 use Rattle.clap.specs.declared.builder.value_parser.ValueParser.TheVariants as parsers
 use Rattle.clap.specs.ValueTests.{is_unsigned_in}
 use Rattle.clap.proofs.ValueTestLemmas.{accepts-Accepts}
+use Rattle.ppm_words.specs.declared.idle.Idle.{Idle}
+use Rattle.ppm_cells.specs.declared.shape.Takeover.{Takeover}
 use Rattle.ppm_cli.specs.Application.{ppm_application}
 use Rattle.ppm_cli.specs.CommandLine.{Number, OptionRule, one_processor, turns, room, slots, looks, seed, faults, schedule}
 use Rattle.ppm_cli.specs.Words.{number_in, number_given, value_of_digits, run_options, run_in, serial_in, replay_in, replay_options, text_given}
 use Rattle.ppm_cli.specs.Words.{and_then, takeover_given, idle_given, command_named, command_in, without_fault, command_of, AreRun}
 use Rattle.ppm_cli.specs.declared.command.Command.TheVariants as commands
 use Rattle.ppm_cli.specs.declared.replay.ReplayOptions.{ReplayOptions}
-use Rattle.ppm_cli.specs.declared.replay.TakeoverName.{TakeoverName}
-use Rattle.ppm_cli.specs.declared.run.IdleName.{IdleName}
 use Rattle.ppm_cli.specs.declared.run.RunOptions.{RunOptions}
 
 -- a value with what came of it
@@ -48,7 +48,7 @@ options_are : (rows : List Row) (options : RunOptions) → run_options rows ≡ 
 options_are rows options =
     go (number_given one_processor rows) (number_given turns rows) (number_given room rows) (number_given slots rows) (number_given looks rows)
     (number_given seed rows) (takeover_given rows) (idle_given rows) refl refl refl refl refl refl where
-      go : (p n w s l x : Option ℕ) (t : Option TakeoverName) (i : Option IdleName)
+      go : (p n w s l x : Option ℕ) (t : Option Takeover) (i : Option Idle)
           → number_given one_processor rows ≡ p → number_given turns rows ≡ n → number_given room rows ≡ w → number_given slots rows ≡ s
           → number_given looks rows ≡ l → number_given seed rows ≡ x
           → and_then p (λ p. and_then n (λ n. and_then w (λ w. and_then s (λ e. and_then l (λ l. and_then x (λ s. and_then t (λ t. and_then i (λ i.

@@ -2,6 +2,7 @@
 use Prim.Native.String.{String}
 use Rattle.std.specs.Prelude.{ℕ, Bool, true, false, List, [], ◌∷◌, codes, decimal, filter, not, nat_eq}
 use Rattle.clap.specs.Words.{Text}
+use Rattle.ppm_words.specs.Limits.{processor_limit, room_limit, entry_limit, turn_limit}
 
 -- what the value of an option is: a whole number from the least to the most, one of these words, or any text that does not begin with a hyphen
 pub data Form : Type 0 where
@@ -59,7 +60,7 @@ later_command name options = record (command name options) { admitted = false }
 
 -- how many processors run
 abbrev pub processors : OptionRule
-processors = number "processors" 1 64 4
+processors = number "processors" 1 processor_limit 4
 
 -- the most processors that a run may have today
 abbrev pub most_today : ℕ
@@ -75,15 +76,15 @@ few_processors = number "processors" 1 16 4
 
 -- the most turns: of work by each processor, of a serial run, or the acts of a replay
 abbrev pub turns : OptionRule
-turns = number "turns" 1 268435456 16777216
+turns = number "turns" 1 turn_limit 16777216
 
 -- the words of a place's pool of blocks
 abbrev pub room : OptionRule
-room = number "room" 64 1048576 65536
+room = number "room" 64 room_limit 65536
 
 -- the entries of a place's deque
 abbrev pub slots : OptionRule
-slots = number "slots" 2 65536 4096
+slots = number "slots" 2 entry_limit 4096
 
 -- how many looks in a row a processor makes before it leaves or parks
 abbrev pub looks : OptionRule
@@ -122,7 +123,7 @@ command_line =
     ∷ command "replay" (processors ∷ turns ∷ room ∷ slots ∷ takeover ∷ schedule ∷ [])
     ∷ later_command "self" (few_processors ∷ number "size" 1 4096 64 ∷ seed ∷ number "count" 0 4096 0 ∷ [])
     ∷ later_command "stop"
-    (few_processors ∷ number "after" 0 268435456 0 ∷ number "room" 64 65536 16384 ∷ number "slots" 2 4096 256 ∷ schedule ∷ [])
+    (few_processors ∷ number "after" 0 turn_limit 0 ∷ number "room" 64 65536 16384 ∷ number "slots" 2 4096 256 ∷ schedule ∷ [])
     ∷ later_command "resume" (turns ∷ looks ∷ seed ∷ faults ∷ [])
     ∷ later_command "ram" (processors ∷ turns ∷ room ∷ slots ∷ looks ∷ seed ∷ faults ∷ takeover ∷ idle ∷ [])
     ∷ []

@@ -4,6 +4,10 @@ use Rattle.std.specs.Str.{bytes_eq}
 use Rattle.std.specs.Str.Parse.{digits_value, without_leading_plus}
 use Rattle.clap.specs.Words.{Kinds, Row, Text, fault_of, first_of, one_of, subcommand_of}
 use Rattle.clap.specs.ValueTests.{is_unsigned_in}
+use Rattle.ppm_words.specs.declared.idle.Idle.{Idle}
+use Rattle.ppm_words.specs.declared.idle.Idle.TheVariants.{Leave, Park}
+use Rattle.ppm_cells.specs.declared.shape.Takeover.{Takeover}
+use Rattle.ppm_cells.specs.declared.shape.Takeover.TheVariants.{ByPlaces, ByEntries}
 use Rattle.ppm_cli.specs.Application.{ppm_application}
 use Rattle.ppm_cli.specs.CommandLine.{Form, Number, Choice, AnyText, OptionRule, is_free_text}
 use Rattle.ppm_cli.specs.CommandLine.{one_processor, processors, turns, room, slots, looks, seed, faults, schedule, takeover, idle}
@@ -11,10 +15,6 @@ use Rattle.ppm_cli.specs.declared.command.Command.{Command}
 use Rattle.ppm_cli.specs.declared.command.Command.TheVariants as commands
 use Rattle.ppm_cli.specs.declared.command.SerialOptions.{SerialOptions}
 use Rattle.ppm_cli.specs.declared.replay.ReplayOptions.{ReplayOptions}
-use Rattle.ppm_cli.specs.declared.replay.TakeoverName.{TakeoverName}
-use Rattle.ppm_cli.specs.declared.replay.TakeoverName.TheVariants as takeovers
-use Rattle.ppm_cli.specs.declared.run.IdleName.{IdleName}
-use Rattle.ppm_cli.specs.declared.run.IdleName.TheVariants as idles
 use Rattle.ppm_cli.specs.declared.run.RunOptions.{RunOptions}
 
 -- the number that decimal digits write; a plus may stand in front
@@ -58,12 +58,12 @@ abbrev pub choice_given : {T : Type 0} → OptionRule → List T → List Row �
 choice_given o values rows = option_and_then (choice_in o.form values) (first_of o.name rows)
 
 -- what is taken over of a dead processor
-abbrev pub takeover_given : List Row → Option TakeoverName
-takeover_given rows = choice_given takeover (takeovers.Place ∷ takeovers.Entry ∷ []) rows
+abbrev pub takeover_given : List Row → Option Takeover
+takeover_given rows = choice_given takeover (ByPlaces ∷ ByEntries ∷ []) rows
 
 -- what a processor does that finds no work
-abbrev pub idle_given : List Row → Option IdleName
-idle_given rows = choice_given idle (idles.Leave ∷ idles.Park ∷ []) rows
+abbrev pub idle_given : List Row → Option Idle
+idle_given rows = choice_given idle (Leave ∷ Park ∷ []) rows
 
 -- what comes of a value, if there is one: as Rust's `and_then`, the value first
 abbrev pub and_then : {A B : Type 0} → Option A → (A → Option B) → Option B

@@ -2,7 +2,7 @@
 //! Model: the words are the list of their texts; the commands are a table of rules (`specs/CommandLine`), and the admitted
 //! ones are an application of `clap` (`specs/Application`).
 //! Contract: the command is that which `clap` finds in the words, each option in its range, else none (`specs/Words`).
-//! Stands on `clap` and `ppm_words`; `ppm_top` calls it. After clap's builder; the table is this project's.
+//! Stands on `clap`, `ppm_words` and `ppm_cells`; `ppm_top` calls it. After clap's builder; the table is this project's.
 #![tactic(auto)]
 
 mod application;
@@ -13,12 +13,13 @@ mod line;
 mod replay;
 mod run;
 mod table;
+mod takeover;
 
 pub use command::{Command, SerialOptions};
 pub use laws::any_rule_may_be_admitted;
 pub use line::read_words;
-pub use replay::{ReplayOptions, TakeoverName};
-pub use run::{IdleName, RunOptions};
+pub use replay::ReplayOptions;
+pub use run::RunOptions;
 pub use table::{COMMANDS, ChoiceOption, CommandRow, NumberOption, OptionRow, TextOption};
 
 #[cfg(test)]

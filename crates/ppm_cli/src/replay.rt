@@ -1,22 +1,15 @@
 //! The command `replay`, as its words give it.
 ghost use Rattle.std.specs.Prelude.{◌≡◌, IfOk, IfSome};
 ghost use Rattle.clap.specs.Words.{found_of, rows_of};
-ghost use Rattle.ppm_cli.specs.Words.{AreReplayed, IsInRange, replay_in, replay_options as options_in, takeover_given};
+ghost use Rattle.ppm_cli.specs.Words.{AreReplayed, IsInRange, replay_in, replay_options as options_in};
 
 use crate::command::Command;
-use crate::getters::{bytes_of, choice_of, number_of};
-use crate::table::{PROCESSORS, ROOM, SCHEDULE, SLOTS, TAKEOVER, TURNS};
+use crate::getters::{bytes_of, number_of};
+use crate::table::{PROCESSORS, ROOM, SCHEDULE, SLOTS, TURNS};
+use crate::takeover::takeover_of;
 use clap::ArgMatches;
+use ppm_cells::Takeover;
 use std::alloc::{AllocError, Global};
-
-/// What is taken over of a processor that stopped for ever, as the words name it.
-#[derive(Clone, Copy, Debug, PartialEq, Eq)]
-pub enum TakeoverName {
-    /// Its place, with all that it holds.
-    Place,
-    /// The entries of its deque, one by one.
-    Entry,
-}
 
 /// The options of `replay` but for its schedule.
 #[derive(Clone, Copy, Debug, PartialEq, Eq)]
@@ -30,7 +23,7 @@ pub struct ReplayOptions {
     /// How many entries the deque of a place has: from 2 to 65536, and 4096 by default.
     pub slots: u32,
     /// What is taken over of a processor that stopped for ever: its place by default.
-    pub takeover: TakeoverName,
+    pub takeover: Takeover,
 }
 
 /// The command with the options and the schedule in its matches.
@@ -67,11 +60,4 @@ fn replay_options(matches: &ArgMatches<'_>) -> Option<ReplayOptions>
         slots,
         takeover,
     })
-}
-
-/// What is taken over, if the matches name it by one of the two words.
-pub(crate) fn takeover_of(matches: &ArgMatches<'_>) -> Option<TakeoverName>
-    ensures { result ≡ takeover_given (rows_of (found_of matches.now)) }
-{
-    choice_of(matches, TAKEOVER, TakeoverName::Place, TakeoverName::Entry)
 }

@@ -5,19 +5,12 @@ ghost use Rattle.ppm_cli.specs.Words.{AreRun, IsInRange, idle_given, run_in, run
 
 use crate::command::Command;
 use crate::getters::{bytes_of, choice_of, number_of};
-use crate::replay::{TakeoverName, takeover_of};
 use crate::table::{FAULTS, IDLE, LOOKS, ONE_PROCESSOR, ROOM, SEED, SLOTS, TURNS};
+use crate::takeover::takeover_of;
 use clap::ArgMatches;
+use ppm_cells::Takeover;
+use ppm_words::Idle;
 use std::alloc::{AllocError, Global};
-
-/// What a processor does that finds no work, as the words name it.
-#[derive(Clone, Copy, Debug, PartialEq, Eq)]
-pub enum IdleName {
-    /// It leaves.
-    Leave,
-    /// It parks until there may be work.
-    Park,
-}
 
 /// The options of `run` but for its plan of faults.
 #[derive(Clone, Copy, Debug, PartialEq, Eq)]
@@ -35,9 +28,9 @@ pub struct RunOptions {
     /// Where the random victims begin: from 0 to 4294967295, and 1 by default.
     pub seed: u32,
     /// What is taken over of a processor that stopped for ever: its place by default.
-    pub takeover: TakeoverName,
+    pub takeover: Takeover,
     /// What a processor does that finds no work: it leaves by default.
-    pub idle: IdleName,
+    pub idle: Idle,
 }
 
 /// The command with the options and the plan in its matches.
@@ -83,8 +76,8 @@ fn run_options(matches: &ArgMatches<'_>) -> Option<RunOptions>
 }
 
 /// What a processor does that finds no work, if the matches name it by one of the two words.
-fn idle_of(matches: &ArgMatches<'_>) -> Option<IdleName>
+fn idle_of(matches: &ArgMatches<'_>) -> Option<Idle>
     ensures { result ≡ idle_given (rows_of (found_of matches.now)) }
 {
-    choice_of(matches, IDLE, IdleName::Leave, IdleName::Park)
+    choice_of(matches, IDLE, Idle::Leave, Idle::Park)
 }

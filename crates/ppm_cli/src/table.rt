@@ -1,19 +1,8 @@
 //! The commands and options that the words may give, as rows.
+use ppm_words::{ENTRY_LIMIT, PROCESSOR_LIMIT, ROOM_LIMIT, TURN_LIMIT};
 
-/// The most processors that a run may have.
-const MOST_PROCESSORS: u32 = 1;
-
-/// The most processors that a replay may have.
-const MOST_REPLAYED: u32 = 64;
-
-/// The most turns that a run may have.
-const MOST_TURNS: u32 = 268_435_456;
-
-/// The most words that the pool of a place may have.
-const MOST_ROOM: u32 = 1_048_576;
-
-/// The most entries that the deque of a place may have.
-const MOST_SLOTS: u32 = 65_536;
+/// The most processors that a run may have today.
+const MOST_TODAY: u32 = 1;
 
 /// The most looks for work in a row.
 const MOST_LOOKS: u32 = 1_048_576;
@@ -75,7 +64,7 @@ pub struct TextOption {
 pub(crate) const ONE_PROCESSOR: NumberOption = NumberOption {
     name: "processors",
     low: 1,
-    high: MOST_PROCESSORS,
+    high: MOST_TODAY,
     default: "1",
 };
 
@@ -83,7 +72,7 @@ pub(crate) const ONE_PROCESSOR: NumberOption = NumberOption {
 pub(crate) const PROCESSORS: NumberOption = NumberOption {
     name: "processors",
     low: 1,
-    high: MOST_REPLAYED,
+    high: PROCESSOR_LIMIT,
     default: "4",
 };
 
@@ -91,7 +80,7 @@ pub(crate) const PROCESSORS: NumberOption = NumberOption {
 pub(crate) const TURNS: NumberOption = NumberOption {
     name: "turns",
     low: 1,
-    high: MOST_TURNS,
+    high: TURN_LIMIT,
     default: "16777216",
 };
 
@@ -99,7 +88,7 @@ pub(crate) const TURNS: NumberOption = NumberOption {
 pub(crate) const ROOM: NumberOption = NumberOption {
     name: "room",
     low: 64,
-    high: MOST_ROOM,
+    high: ROOM_LIMIT,
     default: "65536",
 };
 
@@ -107,7 +96,7 @@ pub(crate) const ROOM: NumberOption = NumberOption {
 pub(crate) const SLOTS: NumberOption = NumberOption {
     name: "slots",
     low: 2,
-    high: MOST_SLOTS,
+    high: ENTRY_LIMIT,
     default: "4096",
 };
 

@@ -1,8 +1,9 @@
 //! The words that clap's documentation takes and refuses.
 use crate::{
-    Command, IdleName, ReplayOptions, RunOptions, SerialOptions, TakeoverName,
-    any_rule_may_be_admitted, read_words,
+    Command, ReplayOptions, RunOptions, SerialOptions, any_rule_may_be_admitted, read_words,
 };
+use ppm_cells::Takeover;
+use ppm_words::Idle;
 use std::alloc::Global;
 use std::process::Abort;
 use std::test::Fail;
@@ -15,8 +16,8 @@ const RUN: RunOptions = RunOptions {
     slots: 4_096,
     looks: 1_000,
     seed: 1,
-    takeover: TakeoverName::Place,
-    idle: IdleName::Leave,
+    takeover: Takeover::ByPlaces,
+    idle: Idle::Leave,
 };
 
 /// The options of a replay of which the words give none.
@@ -25,7 +26,7 @@ const REPLAY: ReplayOptions = ReplayOptions {
     turns: 16_777_216,
     room: 65_536,
     slots: 4_096,
-    takeover: TakeoverName::Place,
+    takeover: Takeover::ByPlaces,
 };
 
 /// A command without its texts.
@@ -121,8 +122,8 @@ fn words_give_a_run(rt: HostRuntime) -> Result<(), Fail> {
         slots: 2,
         looks: 1,
         seed: 0,
-        takeover: TakeoverName::Entry,
-        idle: IdleName::Park,
+        takeover: Takeover::ByEntries,
+        idle: Idle::Park,
     };
     let most = RunOptions {
         processors: 1,
@@ -131,8 +132,8 @@ fn words_give_a_run(rt: HostRuntime) -> Result<(), Fail> {
         slots: 65_536,
         looks: 1_048_576,
         seed: 4_294_967_295,
-        takeover: TakeoverName::Place,
-        idle: IdleName::Leave,
+        takeover: Takeover::ByPlaces,
+        idle: Idle::Leave,
     };
     let cases: [(&[&str], RunOptions, &str); 17] = [
         (&["--processors", "1"], RUN, "none"),
@@ -150,7 +151,7 @@ fn words_give_a_run(rt: HostRuntime) -> Result<(), Fail> {
         (
             &["--takeover", "entry"],
             RunOptions {
-                takeover: TakeoverName::Entry,
+                takeover: Takeover::ByEntries,
                 ..RUN
             },
             "none",
@@ -159,7 +160,7 @@ fn words_give_a_run(rt: HostRuntime) -> Result<(), Fail> {
         (
             &["--idle=park"],
             RunOptions {
-                idle: IdleName::Park,
+                idle: Idle::Park,
                 ..RUN
             },
             "none",
@@ -219,14 +220,14 @@ fn words_give_a_replay(rt: HostRuntime) -> Result<(), Fail> {
         turns: 1,
         room: 64,
         slots: 2,
-        takeover: TakeoverName::Entry,
+        takeover: Takeover::ByEntries,
     };
     let most = ReplayOptions {
         processors: 64,
         turns: 268_435_456,
         room: 1_048_576,
         slots: 65_536,
-        takeover: TakeoverName::Place,
+        takeover: Takeover::ByPlaces,
     };
     let cases: [(&[&str], ReplayOptions, &str); 6] = [
         (&["--schedule", "none"], REPLAY, "none"),

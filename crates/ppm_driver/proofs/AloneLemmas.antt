@@ -24,7 +24,7 @@ use Rattle.ppm_choice.specs.Obeying.{Past, nothing_done, behind, is_work, is_wor
 use Rattle.ppm_choice.specs.Paces.{IsPace}
 use Rattle.ppm_choice.proofs.AloneLemmas.{ObeysFrom, deed_of, begins_with}
 use Rattle.ppm_choice.proofs.ParkLemmas.{stays_awake}
-use Rattle.ppm_driver.specs.Alone.{ObeysTo}
+use Rattle.ppm_driver.specs.Obedience.{ObeysTo}
 use Rattle.ppm_driver.specs.Going.{IsAt as IsAtPast, HasDrawn, IsNext, Leads, is_over}
 
 -- whether a turn is work

@@ -9,31 +9,31 @@ use Rattle.ppm_plan.specs.declared.schedule_item.ScheduleItem.{ScheduleItem}
 use Rattle.ppm_plan.specs.Forms.{schedule_form}
 use Rattle.ppm_plan.specs.Refusals.{IsKeeper}
 use Rattle.ppm_step.specs.Laws.{IsProposedWord}
-use Rattle.ppm_tree.specs.Tree.{ProgramTree}
-use Rattle.ppm_cut_code.specs.Routines.{code_of}
+use Rattle.ppm_words.specs.declared.named_array.NamedArray.{NamedArray}
+use Rattle.ppm_code.specs.declared.code.CodeParts.{CodeParts}
 use Rattle.ppm_driver.specs.declared.loading.Sizes.{Sizes}
-use Rattle.ppm_driver.specs.Loading.{Begins}
+use Rattle.ppm_driver.specs.Loading.{Opens}
 use Rattle.ppm_driver.specs.Schedules.{followed}
 use Rattle.ppm_driver.proofs.KeeperLemmas.{none_quits, unfinished_is_exact}
 use Rattle.ppm_driver.proofs.SayLemmas.{unset_is}
 
-module _ (sizes : Sizes) (t : ProgramTree) (keeper : ℕ) where
-  -- its code is a program's
-  pub code_begun : (start : Situation) → Begins sizes t keeper start → IsCode start.code → IsCode (code_of t)
-  code_begun start b = subst IsCode (ap (λ (m : Situation). m.code) b.loads)
+module _ (sizes : Sizes) (code : CodeParts) (arrays : List NamedArray) (keeper : ℕ) where
+  -- its code is a code
+  pub code_opened : (start : Situation) → Opens sizes code arrays keeper start → IsCode start.code → IsCode code
+  code_opened start b = subst IsCode (ap (λ (m : Situation). m.code) b.loads)
 
   module _ (items : List ScheduleItem) (turns : ℕ) where
     -- where it isn't 0, it stands for what steps propose
-    pub says_proposed : (start : Situation) → Begins sizes t keeper start → IsCode (code_of t)
+    pub says_proposed : (start : Situation) → Opens sizes code arrays keeper start → IsCode code
         → finish_in (followed start items turns) ≢ 0 → IsProposedWord sizes.processors (finish_in (followed start items turns))
     says_proposed start b is some =
         subst (λ (n : ℕ). IsProposedWord n (finish_in (followed start items turns))) b.sized.processors
         (subst (λ (m : Situation). finish_in (followed m items turns) ≢ 0 → IsProposedWord b.shape.processors (finish_in (followed m items turns)))
         (sym b.loads)
-        (none_quits b.shape (code_of t) is b.image.lengths b.image.words items turns (b.opens.opened FinishWord tt ∙ unset_is)) some)
+        (none_quits b.shape code is b.image.lengths b.image.words items turns (b.opens.opened FinishWord tt ∙ unset_is)) some)
 
     -- where it says nothing, exactly as many acts were made as may be
-    pub unfinished_exactly : (start : Situation) → Begins sizes t keeper start → IsCode (code_of t) → IsKeeper schedule_form items keeper
+    pub unfinished_exactly : (start : Situation) → Opens sizes code arrays keeper start → IsCode code → IsKeeper schedule_form items keeper
         → finish_in (followed start items turns) ≡ 0 → (followed start items turns).turns ≡ turns
     unfinished_exactly start b is spared none =
         let words : AreWordsOf b.shape b.image.words = subst (λ (s : Shape). AreWordsOf s b.image.words) b.opens.shape_is b.image.sized.words_are in
@@ -41,5 +41,5 @@ module _ (sizes : Sizes) (t : ProgramTree) (keeper : ℕ) where
         subst (λ (k : ℕ). k < b.shape.processors) b.opens.keeper_is
         (subst (λ (s : Shape). b.image.keeper < s.processors) b.opens.shape_is b.image.sized.keeper_below) in
         subst (λ (m : Situation). (followed m items turns).turns ≡ turns) (sym b.loads)
-        (unfinished_is_exact b.shape (code_of t) is b.image.lengths b.image.words items keeper turns words spared there
+        (unfinished_is_exact b.shape code is b.image.lengths b.image.words items keeper turns words spared there
         (subst (λ (m : Situation). finish_in (followed m items turns) ≡ 0) b.loads none))

@@ -2,6 +2,7 @@
 use Rattle.std.proofs.Common.{◌≡◌, ◌≢◌, ◌<◌, ◌⊎◌, ◌&&◌, ◌||◌, ◌==◌, inl, inr, refl, sym, ap, ◌∙◌, subst, arith, ℕ, ◌^◌, Bool, true, false, nat_lt, nat_le, List, [], ◌∷◌, ◌++◌, Option, Some, None, if◌then◌else◌}
 use Rattle.std.specs.List.{list_any}
 use Rattle.std.proofs.lemmas.Bool.{both_ways, eq-eqb, or_cases}
+use Rattle.ppm_words.specs.declared.named_array.NamedArray.{NamedArray}
 use Rattle.ppm_cells.specs.declared.shape.Shape.{Shape}
 use Rattle.ppm_cells.specs.Memory.{AreWordsOf}
 use Rattle.ppm_code.specs.Code.{IsCode}
@@ -21,15 +22,14 @@ use Rattle.ppm_step.specs.Standings.{Standing, IsDone}
 use Rattle.ppm_step.specs.Laws.{IsStruck, finish_at}
 use Rattle.ppm_step.proofs.FinishLemmas.{done_has_cause}
 use Rattle.ppm_step.specs.State.{State, stand_of, happens, after, opening, next_of}
-use Rattle.ppm_core.specs.Situation.{Situation, loaded, finish_in}
+use Rattle.ppm_core.specs.Situation.{Situation, loaded}
 use Rattle.ppm_choice.specs.declared.limits.Limits.{Limits}
 use Rattle.ppm_choice.specs.Deeds.{AreOf, deeds_of}
-use Rattle.ppm_choice.specs.Obeying.{Past, Obeys, nothing_done, is_work, fault_of, faulted, next_act, next_step}
-use Rattle.ppm_tree.specs.Tree.{ProgramTree}
-use Rattle.ppm_cut_code.specs.Routines.{code_of}
+use Rattle.ppm_choice.specs.Obeying.{Past, Obeys, ObeysIn, ObeyAll, nothing_done, is_work, fault_of, faulted, next_act, next_step}
 use Rattle.ppm_driver.specs.declared.loading.Sizes.{Sizes}
-use Rattle.ppm_driver.specs.Alone.{ObeysTo}
-use Rattle.ppm_driver.specs.Loading.{Begins}
+use Rattle.ppm_driver.specs.Loading.{Opens}
+use Rattle.ppm_driver.specs.RunOf.{finish_behind}
+use Rattle.ppm_driver.proofs.AllLemmas.{of_all}
 use Rattle.ppm_choice.proofs.AloneLemmas.{past_first, ObeysFrom, first_obeys}
 
 -- an item that is a hard fault of a turn kills its processor
@@ -121,14 +121,22 @@ module _ (plan : Planned) (limits : Limits) (c : ℕ) where
             (subst (ObeysFrom s code plan limits c nothing_done (opening words s.processors)) struck.turns_are obeys)))
         go (inr some) = some
 
--- so it is behind a run of a program's machine
-pub has_finished : (sizes : Sizes) (t : ProgramTree) (keeper : ℕ) (plan : Planned) (limits : Limits) (start end : Situation)
-    → Begins sizes t keeper start → IsCode start.code → IsKeeper plan_form plan.items 0 → ObeysTo plan limits nothing_done start end
-    → finish_in end ≢ 0
-has_finished sizes t keeper plan limits start end b code_is spared obeys none =
-    let first : Situation = loaded b.shape (code_of t) b.image.lengths b.image.words in
-    let o : ObeysTo plan limits nothing_done first end = subst (λ (m : Situation). ObeysTo plan limits nothing_done m end) b.loads obeys in
-    let is : IsCode (code_of t) = subst IsCode (ap (λ (m : Situation). m.code) b.loads) code_is in
-    let words : AreWordsOf b.shape b.image.words = subst (λ (s : Shape). AreWordsOf s b.image.words) b.opens.shape_is b.image.sized.words_are in
-    run_has_finished plan limits 0 b.shape (code_of t) b.image.words o.turns is words b.shape.within.processors_least spared o.own o.obeys
-    (sym (ap finish_in o.makes) ∙ none)
+-- so it is behind a run from a machine that opens, of which it is the only processor
+pub has_finished : (sizes : Sizes) (code : CodeParts) (arrays : List NamedArray) (keeper : ℕ) (plan : Planned) (limits : Limits)
+    (start : Situation) (turns : List Turn) → Opens sizes code arrays keeper start → IsCode code → sizes.processors ≡ 1
+    → IsKeeper plan_form plan.items 0 → ObeyAll plan limits start.shape start.code start.state turns → finish_behind start turns ≢ 0
+has_finished sizes code arrays keeper plan limits start turns b is one spared obey =
+    subst (λ (m : Situation). finish_behind m turns ≢ 0) (sym b.loads)
+    (run_has_finished plan limits 0 b.shape code b.image.words turns is words b.shape.within.processors_least spared alone.0 alone.1)
+  where
+    words : AreWordsOf b.shape b.image.words
+    words = subst (λ (s : Shape). AreWordsOf s b.image.words) b.opens.shape_is b.image.sized.words_are
+
+    first : Situation
+    first = loaded b.shape code b.image.lengths b.image.words
+
+    all : ObeyAll plan limits b.shape code first.state turns
+    all = subst (λ (m : Situation). ObeyAll plan limits m.shape m.code m.state turns) b.loads obey
+
+    alone : AreOf 0 turns × ObeysIn plan limits 0 b.shape code first.state turns
+    alone = of_all plan limits b.shape code first.state turns (b.sized.processors ∙ one) all

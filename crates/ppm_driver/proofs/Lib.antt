@@ -14,6 +14,8 @@ pub mod KeeperLemmas
 pub mod SayLemmas
 pub mod RoomLemmas
 pub mod PlannedLemmas
+pub mod ProgramLemmas
+pub mod AllLemmas
 pub mod LoadingLemmas
 pub mod ExactLemmas
 pub mod ReplayLemmas

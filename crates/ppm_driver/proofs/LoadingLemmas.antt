@@ -1,5 +1,5 @@
 -- The machine with which a run of a program begins: what is known of it, that there is one, and no other.
-use Rattle.std.proofs.Common.{◌≡◌, ℕ, ◌<◌, ◌≤◌, List, length, map, refl, sym, ap, ◌∙◌, subst}
+use Rattle.std.proofs.Common.{◌≡◌, ℕ, zero, suc, ◌<◌, ◌≤◌, List, length, map, slice_get, replicate, arith, refl, sym, ap, ◌∙◌, subst}
 use Rattle.std.specs.Coded.{le_prop}
 use mathlib.Core.HLevel.{is_prop→PathP}
 use Rattle.ppm_words.specs.Limits.{word_limit}
@@ -14,6 +14,8 @@ use Rattle.ppm_layout.specs.Image.{IsImageOf}
 use Rattle.ppm_layout.specs.Sequence.{opening_words}
 use Rattle.ppm_layout.specs.declared.images.Image.{Image}
 use Rattle.ppm_layout.proofs.ImageLemmas.{sized, opened}
+use Rattle.ppm_step.specs.Standings.{IsLost}
+use Rattle.ppm_step.specs.State.{stand_in, stand_of}
 use Rattle.ppm_core.specs.Situation.{Situation, loaded}
 use Rattle.ppm_tree.specs.Tree.{ProgramTree}
 use Rattle.ppm_tree.specs.Limits.{IsWithin}
@@ -23,7 +25,12 @@ use Rattle.ppm_regions.proofs.Inputs.{input_fits}
 use Rattle.ppm_cut_code.specs.Routines.{code_of}
 use Rattle.ppm_cut_correct.specs.Beginning.{StartWithInput, NameArrays}
 use Rattle.ppm_driver.specs.declared.loading.Sizes.{Sizes}
-use Rattle.ppm_driver.specs.Loading.{AreSizes, HasShape, Begins}
+use Rattle.ppm_driver.specs.Loading.{AreSizes, HasShape, Opens}
+
+-- a machine begins with processor 0 lost
+first_lost : (p : ℕ) → 1 ≤ p → stand_in (slice_get (replicate p IsLost) 0) ≡ IsLost
+first_lost zero some = absurd (omega (arith, some))
+first_lost (suc p) some = refl
 
 module _ (sizes : Sizes) where
   -- with array words within their limit, sizes are within the limits of a shape
@@ -64,70 +71,74 @@ module _ (sizes : Sizes) where
         };
       }
 
-  module _ (t : ProgramTree) (keeper : ℕ) where
+  module _ (code : CodeParts) (arrays : List NamedArray) (keeper : ℕ) where
     -- its arrays are as long as those that the text gives, and it has as many processors as the sizes say, and no turn behind it
-    pub begins_lengths : (m : Situation) → Begins sizes t keeper m
-        → m.array_lengths ≡ map (λ (a : NamedArray). length a.values) (initial_arrays t)
-    begins_lengths m b = ap (λ (x : Situation). x.array_lengths) b.loads ∙ b.opens.lengths_are
+    pub opens_lengths : (m : Situation) → Opens sizes code arrays keeper m
+        → m.array_lengths ≡ map (λ (a : NamedArray). length a.values) arrays
+    opens_lengths m b = ap (λ (x : Situation). x.array_lengths) b.loads ∙ b.opens.lengths_are
 
-    pub begins_processors : (m : Situation) → Begins sizes t keeper m → m.shape.processors ≡ sizes.processors
-    begins_processors m b = ap (λ (x : Situation). x.shape.processors) b.loads ∙ b.sized.processors
+    pub opens_processors : (m : Situation) → Opens sizes code arrays keeper m → m.shape.processors ≡ sizes.processors
+    opens_processors m b = ap (λ (x : Situation). x.shape.processors) b.loads ∙ b.sized.processors
 
-    pub begins_turns : (m : Situation) → Begins sizes t keeper m → m.turns ≡ 0
-    begins_turns m b = ap (λ (x : Situation). x.turns) b.loads
+    pub opens_turns : (m : Situation) → Opens sizes code arrays keeper m → m.turns ≡ 0
+    opens_turns m b = ap (λ (x : Situation). x.turns) b.loads
+
+    -- processor 0 is lost
+    pub opens_lost : (m : Situation) → Opens sizes code arrays keeper m → stand_of m.state 0 ≡ IsLost
+    opens_lost m b =
+        ap (λ (x : Situation). stand_of x.state 0) b.loads ∙ first_lost b.shape.processors b.shape.within.processors_least
 
     -- a machine that was loaded from the image of the program's code and input
-    pub begins : (code : CodeParts) (input : List NamedArray) (count : ℕ) (shape : Shape) (image : Image) (m : Situation)
-        → code ≡ code_of t → input ≡ initial_arrays t → count ≡ value_count input → HasShape sizes count shape
-        → IsImageOf code input shape keeper image → m ≡ loaded image.shape code image.lengths image.words → Begins sizes t keeper m
-    begins code input count shape image m is_code is_input counted has opens loads = record {
+    pub opens : (parts : CodeParts) (input : List NamedArray) (count : ℕ) (shape : Shape) (image : Image) (m : Situation)
+        → parts ≡ code → input ≡ arrays → count ≡ value_count input → HasShape sizes count shape
+        → IsImageOf parts input shape keeper image → m ≡ loaded image.shape parts image.lengths image.words → Opens sizes code arrays keeper m
+    opens parts input count shape image m is_code is_input counted has opened loads = record {
       shape = shape;
       sized = subst (λ (n : ℕ). HasShape sizes n shape) (counted ∙ ap (λ (i : List NamedArray). value_count i) is_input) has;
       image = image;
-      opens = subst (λ (i : List NamedArray). IsImageOf (code_of t) i shape keeper image) is_input
-          (subst (λ (c : CodeParts). IsImageOf c input shape keeper image) is_code opens);
-      loads = loads ∙ ap (λ (s : Shape). loaded s code image.lengths image.words) opens.shape_is
+      opens = subst (λ (i : List NamedArray). IsImageOf code i shape keeper image) is_input
+          (subst (λ (c : CodeParts). IsImageOf c input shape keeper image) is_code opened);
+      loads = loads ∙ ap (λ (s : Shape). loaded s parts image.lengths image.words) opened.shape_is
           ∙ ap (λ (c : CodeParts). loaded shape c image.lengths image.words) is_code;
     }
 
     -- two of them are one
-    pub one_beginning : ImagesAreOne → (m n : Situation) → Begins sizes t keeper m → Begins sizes t keeper n → m ≡ n
-    one_beginning images m n b c =
-        let shape : c.shape ≡ b.shape = one_shape (value_count (initial_arrays t)) c.shape b.shape c.sized b.sized in
-        let opens : IsImageOf (code_of t) (initial_arrays t) b.shape keeper c.image =
-        subst (λ (s : Shape). IsImageOf (code_of t) (initial_arrays t) s keeper c.image) shape c.opens in
+    pub one_opening : ImagesAreOne → (m n : Situation) → Opens sizes code arrays keeper m → Opens sizes code arrays keeper n → m ≡ n
+    one_opening images m n b c =
+        let shape : c.shape ≡ b.shape = one_shape (value_count arrays) c.shape b.shape c.sized b.sized in
+        let opens : IsImageOf code arrays b.shape keeper c.image =
+        subst (λ (s : Shape). IsImageOf code arrays s keeper c.image) shape c.opens in
         let words : b.image.words ≡ c.image.words =
-        images (code_of t) (initial_arrays t) b.shape keeper b.image c.image b.opens opens in
+        images code arrays b.shape keeper b.image c.image b.opens opens in
         let lengths : b.image.lengths ≡ c.image.lengths = b.opens.lengths_are ∙ sym c.opens.lengths_are in
         b.loads
-        ∙ ap (λ (l : List ℕ). loaded b.shape (code_of t) l b.image.words) lengths
-        ∙ ap (λ (w : List ℕ). loaded b.shape (code_of t) c.image.lengths w) words
-        ∙ ap (λ (s : Shape). loaded s (code_of t) c.image.lengths c.image.words) (sym shape)
+        ∙ ap (λ (l : List ℕ). loaded b.shape code l b.image.words) lengths
+        ∙ ap (λ (w : List ℕ). loaded b.shape code c.image.lengths w) words
+        ∙ ap (λ (s : Shape). loaded s code c.image.lengths c.image.words) (sym shape)
         ∙ sym c.loads
 
     -- and there is one
-    pub some_beginning : AreSizes sizes → keeper < sizes.processors → IsWithin t → IsAdmitted t
-        → (m : Situation) × Begins sizes t keeper m
-    some_beginning are below within admitted =
-        let fits : IsInput (initial_arrays t) = input_fits t within admitted in
+    pub some_opening : AreSizes sizes → keeper < sizes.processors → IsInput arrays
+        → (m : Situation) × Opens sizes code arrays keeper m
+    some_opening are below fits =
         let shape : Shape = record {
           processors = sizes.processors;
           room = sizes.room;
           slots = sizes.slots;
-          arrays = value_count (initial_arrays t);
+          arrays = value_count arrays;
           takeover = sizes.takeover;
-          within = within_limits are (value_count (initial_arrays t)) fits.values_bound;
+          within = within_limits are (value_count arrays) fits.values_bound;
         } in
-        let lengths : List ℕ = map (λ (a : NamedArray). length a.values) (initial_arrays t) in
-        let words : List ℕ = opening_words (code_of t) (initial_arrays t) shape keeper in
+        let lengths : List ℕ = map (λ (a : NamedArray). length a.values) arrays in
+        let words : List ℕ = opening_words code arrays shape keeper in
         let image : Image = record {
           shape = shape;
           keeper = keeper;
           lengths = lengths;
           words = words;
-          sized = sized (code_of t) (initial_arrays t) shape keeper lengths words below refl refl refl;
+          sized = sized code arrays shape keeper lengths words below refl refl refl;
         } in (
-          loaded shape (code_of t) lengths words,
+          loaded shape code lengths words,
           record {
             shape = shape;
             sized = record { processors = refl; room = refl; slots = refl; arrays = refl; takeover = refl };
@@ -136,7 +147,7 @@ module _ (sizes : Sizes) where
               shape_is = refl;
               keeper_is = refl;
               lengths_are = refl;
-              opened = opened (code_of t) (initial_arrays t) shape keeper words refl;
+              opened = opened code arrays shape keeper words refl;
             };
             loads = refl;
           },

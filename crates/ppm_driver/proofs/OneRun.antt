@@ -1,32 +1,33 @@
--- A text has no two answers where it is run: its program begins one machine, with the one keeper of the plan, and its one processor has one
--- run in which it obeys.
-use Rattle.std.proofs.Common.{◌≡◌, ◌⊎◌, ◌<◌, ℕ, List, ◌++◌, length, refl, sym, ap, ◌∙◌, subst, inl, inr, arith}
+-- A text has no two answers where it is run by one processor: its program begins one machine, with the one keeper of the plan, and the
+-- processor has one run in which it obeys.
+use Rattle.std.proofs.Common.{◌≡◌, ℕ, List, [], sym, ◌∙◌, subst}
 use Rattle.ppm_text.specs.Limits.{text_limit}
-use Rattle.ppm_core.specs.Situation.{Situation, run_on}
+use Rattle.ppm_cells.specs.declared.shape.Shape.{Shape}
+use Rattle.ppm_code.specs.declared.code.CodeParts.{CodeParts}
+use Rattle.ppm_core.specs.Situation.{Situation}
 use Rattle.ppm_layout.specs.Correct.{ImagesAreOne}
 use Rattle.ppm_plan.specs.declared.plan_item.PlanItem.{PlanItem}
 use Rattle.ppm_plan.specs.Correct.{HaveOneAnswer as PlansHaveOneAnswer}
 use Rattle.ppm_plan.specs.Forms.{plan_form}
-use Rattle.ppm_cells.specs.declared.shape.Shape.{Shape}
-use Rattle.ppm_code.specs.declared.code.CodeParts.{CodeParts}
+use Rattle.ppm_step.specs.declared.turn.Turn.{Turn}
 use Rattle.ppm_choice.specs.Laws.{HasOneRun}
-use Rattle.ppm_choice.specs.Obeying.{nothing_done}
 use Rattle.ppm_tree.specs.Tree.{ProgramTree}
 use Rattle.ppm_tree.specs.Program.{initial_arrays}
-use Rattle.ppm_program.specs.Programs.{HasProgram}
-use Rattle.ppm_program.specs.Refusals.{IsRefusal}
+use Rattle.ppm_cut_code.specs.Routines.{code_of}
 use Rattle.ppm_program.specs.Correct.{HaveOneAnswer as TextsHaveOneProgram}
-use Rattle.ppm_answers.specs.declared.refusal.Refusal.{Refusal}
+use Rattle.ppm_ports.specs.Outside.{ToldLists}
 use Rattle.ppm_answers.specs.declared.answer.Answer.{Answer}
-use Rattle.ppm_answers.specs.declared.answer.Answer.TheVariants as answers
 use Rattle.ppm_cli.specs.declared.run.RunOptions.{RunOptions}
-use Rattle.ppm_driver.specs.Loading.{Begins}
-use Rattle.ppm_driver.specs.Alone.{ObeysTo}
-use Rattle.ppm_driver.specs.Runs.{IsSaid, plan_of, limits_of, sizes_of, ProgramHas, TextHas, AnswersAreOne}
-use Rattle.ppm_driver.proofs.LoadingLemmas.{one_beginning}
+use Rattle.ppm_driver.specs.Loading.{Opens}
+use Rattle.ppm_choice.specs.Obeying.{ObeyAll}
+use Rattle.ppm_driver.specs.RunOf.{words_behind}
+use Rattle.ppm_driver.specs.Runs.{IsSaid, plan_of, limits_of, sizes_of, ProgramHas, TextHas, AnswersAreOne, FrontsDecideAnswers}
+use Rattle.ppm_driver.proofs.AllLemmas.{of_all}
+use Rattle.ppm_driver.proofs.LoadingLemmas.{one_opening, opens_processors}
 use Rattle.ppm_choice.proofs.KeeperLemmas.{one_keeper}
-use Rattle.ppm_driver.proofs.PlannedLemmas as planned
-use Rattle.ppm_driver.proofs.RunLemmas.{one_said, plain}
+use Rattle.ppm_driver.proofs.PlannedLemmas.{planned_one, planned_front}
+use Rattle.ppm_driver.proofs.ProgramLemmas.{text_one, text_front, plain}
+use Rattle.ppm_driver.proofs.RunLemmas.{one_said, kinds, of_program}
 
 -- what the crates below show of every text, every image, every plan and every run of one processor
 pub record Laws : Type 0 where
@@ -35,57 +36,47 @@ pub record Laws : Type 0 where
   pub plans : PlansHaveOneAnswer
   pub runs : (s : Shape) (code : CodeParts) → HasOneRun s code
 
-module _ (laws : Laws) (options : RunOptions) where
+module _ (laws : Laws) (options : RunOptions) (alone : options.processors ≡ 1) (items : List PlanItem) (t : ProgramTree) where
+  abbrev Begins : (keeper : ℕ) → Situation → Type 0
+  Begins keeper m = Opens (sizes_of options) (code_of t) (initial_arrays t) keeper m
+
+  abbrev Obey : Situation → List Turn → Type 0
+  Obey m turns = ObeyAll (plan_of options items) (limits_of options) m.shape m.code m.state turns
+
+  abbrev Says : Situation → List Turn → Answer → Type 0
+  Says m turns a = IsSaid m.shape m.array_lengths (initial_arrays t) (words_behind m turns) a
+
+  -- two runs in which all obey are one
+  one_run : (keeper : ℕ) (start : Situation) → Begins keeper start → (first second : List Turn) → Obey start first → Obey start second
+      → first ≡ second
+  one_run keeper start b first second one other =
+      let there = opens_processors (sizes_of options) (code_of t) (initial_arrays t) keeper start b ∙ alone in
+      let h = of_all (plan_of options items) (limits_of options) start.shape start.code start.state first there one in
+      let k = of_all (plan_of options items) (limits_of options) start.shape start.code start.state second there other in
+      laws.runs start.shape start.code (plan_of options items) (limits_of options) 0 start.state first second h.0 k.0 h.1 k.1
+
   -- a program has one answer by items
-  program_one : (items : List PlanItem) (t : ProgramTree) (a b : Answer) → ProgramHas options items t a → ProgramHas options items t b
-      → a ≡ b
-  program_one items t a b h k =
+  program_one : (a b : Answer) → ProgramHas options [] [] items t a → ProgramHas options [] [] items t b → a ≡ b
+  program_one a b h k =
       let keeper : k.keeper ≡ h.keeper = one_keeper plan_form items k.keeper h.keeper k.spared h.spared in
-      let begins : Begins (sizes_of options) t h.keeper k.start = subst (λ (n : ℕ). Begins (sizes_of options) t n k.start) keeper k.begins in
-      let start : h.start ≡ k.start = one_beginning (sizes_of options) t h.keeper laws.images h.start k.start h.begins begins in
-      let other : ObeysTo (plan_of options items) (limits_of options) nothing_done h.start k.end =
-      subst (λ (m : Situation). ObeysTo (plan_of options items) (limits_of options) nothing_done m k.end) (sym start) k.obeys in
-      let turns : h.obeys.turns ≡ other.turns =
-      laws.runs h.start.shape h.start.code (plan_of options items) (limits_of options) 0 h.start.state h.obeys.turns other.turns
-      h.obeys.own other.own h.obeys.obeys other.obeys in
-      let end : h.end ≡ k.end = h.obeys.makes ∙ ap (run_on h.start) turns ∙ sym other.makes in
-      one_said h.end (initial_arrays t) a b h.says (subst (λ (m : Situation). IsSaid m (initial_arrays t) b) (sym end) k.says)
+      let begins : Begins h.keeper k.start = subst (λ (n : ℕ). Begins n k.start) keeper k.opens in
+      let start : k.start ≡ h.start =
+      sym (one_opening (sizes_of options) (code_of t) (initial_arrays t) h.keeper laws.images h.start k.start h.opens begins) in
+      let turns : k.run.turns ≡ h.run.turns =
+      one_run h.keeper h.start h.opens k.run.turns h.run.turns (subst (λ (m : Situation). Obey m k.run.turns) start k.run.obey) h.run.obey in
+      let says : Says h.start h.run.turns b =
+      subst (λ (l : List Turn). Says h.start l b) turns (subst (λ (m : Situation). Says m k.run.turns b) start k.run.says) in
+      one_said h.start.shape h.start.array_lengths (words_behind h.start h.run.turns) (initial_arrays t) a b h.run.says says
 
-  -- the answer is a program's of the text, or a refusal of it
-  abbrev IsPrograms : List PlanItem → List ℕ → Answer → Type 0
-  IsPrograms items text a = (t : ProgramTree) × HasProgram text t × ProgramHas options items t a
-
-  abbrev IsRefusals : List ℕ → Answer → Type 0
-  IsRefusals text a = (r : Refusal) × IsRefusal text r × (a ≡ answers.SourceRefused r)
-
-  by_text : (items : List PlanItem) (text : List ℕ) (a : Answer) → TextHas options items text a → IsPrograms items text a ⊎ IsRefusals text a
-  by_text items text (answers.SourceRefused r) h = inr (r, h, refl)
-  by_text items text a h = inl h
-
-  one : (items : List PlanItem) (text : List ℕ) (a b : Answer) → TextHas options items text a → TextHas options items text b → a ≡ b
-  one items text a b h k = go (by_text items text a h) (by_text items text b k)
-    where
-      go : IsPrograms items text a ⊎ IsRefusals text a → IsPrograms items text b ⊎ IsRefusals text b → a ≡ b
-      go (inl (t, c, has)) (inl (u, d, had)) =
-          let same : u ≡ t = (laws.texts text).program u t d c in
-          program_one items t a b has (subst (λ (v : ProgramTree). ProgramHas options items v b) same had)
-      go (inl (t, c, has)) (inr (r, d, f)) = absurd ((laws.texts text).either r d t c)
-      go (inr (r, c, e)) (inl (u, d, had)) = absurd ((laws.texts text).either r c u d)
-      go (inr (r, c, e)) (inr (s, d, f)) = e ∙ ap (λ x. answers.SourceRefused x) ((laws.texts text).refusal r s c d) ∙ sym f
-
-  -- a text that is too long has no program, so its answer is a refusal, which its front has as well
-  front : (items : List PlanItem) (text rest : List ℕ) (a : Answer) → text_limit < length text → TextHas options items text a
-      → TextHas options items (text ++ rest) a
-  front items text rest a long h = go (by_text items text a h)
-    where
-      go : IsPrograms items text a ⊎ IsRefusals text a → TextHas options items (text ++ rest) a
-      go (inl (t, c, has)) = let short = c.admitted.tree.lexed.short in absurd (omega (arith, long, short))
-      go (inr (r, c, e)) = subst (TextHas options items (text ++ rest)) (sym e) ((laws.texts text).front rest r long c)
-
--- so it is with all options and all plans
+-- so it is with all plans
 pub answers_are_one : Laws → AnswersAreOne
-answers_are_one laws = record {
-  one = λ options plan. planned.one plan_form plan options.processors (TextHas options) text_limit laws.plans.plans (one laws options);
-  front = λ options plan. planned.front plan_form plan options.processors (TextHas options) text_limit laws.plans.plans
-      (record { front = front laws options; plain = plain options });
-}
+answers_are_one laws options plan alone =
+    planned_one plan_form plan options.processors (TextHas options [] []) text_limit laws.plans.plans
+    (λ items. text_one (ProgramHas options [] [] items) laws.texts (program_one laws options alone items))
+
+-- and a text that is too long has a front with its answer
+pub fronts_decide : TextsHaveOneProgram → FrontsDecideAnswers
+fronts_decide texts options before now plan =
+    planned_front plan_form plan options.processors (TextHas options before now) text_limit
+    (λ items. plain (ProgramHas options before now items) (kinds options.processors) (of_program options before now items))
+    (λ items. text_front (ProgramHas options before now items) texts)

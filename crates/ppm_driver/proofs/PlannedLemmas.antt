@@ -17,7 +17,7 @@ use Rattle.ppm_answers.specs.declared.status.Status.TheVariants as statuses
 use Rattle.ppm_answers.specs.Texts.{IsFixed}
 use Rattle.ppm_answers.specs.Statuses.{status_of}
 use Rattle.ppm_answers.specs.Delivery.{IsWritten, Delivers}
-use Rattle.ppm_answers.specs.Reading.{IsUnread, ReadHas, JudgingMay, FrontsDecide, Answers}
+use Rattle.ppm_answers.specs.Reading.{IsUnread, ReadHas, JudgingMay, AreOne, FrontsDecide, Answers}
 use Rattle.ppm_answers.specs.Rows.{IsOneOf, GoesWell, ReadOrRefused, PlannedRows}
 use Rattle.ppm_answers.proofs.Delivered.{written, write_failed, own_or_fault, of_answers}
 use Rattle.ppm_answers.proofs.RowsLemmas.{AreCauses, SaysOfPorts}
@@ -25,23 +25,14 @@ use Rattle.ppm_answers.proofs.RowsLemmas as rows_lemmas
 use Rattle.ppm_answers.proofs.Judged as judged
 use Rattle.ppm_answers.proofs.WholeText.{whole}
 use Rattle.ppm_program.specs.Refusals.{IsRefusal}
-use Rattle.ppm_driver.specs.Planned.{IsRefusedBy, HasByItems, PlannedHas, PlannedMay, HasFronts, HasOneAnswer, HasSomeAnswer, refusal_of}
+use Rattle.ppm_driver.specs.Planned.{IsRefusedBy, HasByItems, PlannedHas, PlannedMay, HasSomeAnswer, refusal_of}
 
 module _ {A : Type 0} (form : Form A) (plan : List ℕ) (processors : ℕ) (Has : List A → List ℕ → Answer → Type 0) (limit : ℕ) where
   -- no answer of a text by items is that a plan is refused
   abbrev pub IsSteady : Type 0
   IsSteady = (items : List A) (text : List ℕ) (number : ℕ) → ¬ Has items text (answers.PlanRefused number)
 
-  -- the answers that texts have by items: what stands behind the limit changes none
-  pub record AreAnswers : Type 0 where
-    pub front : (items : List A) → FrontsDecide limit (Has items)
-    pub plain : IsSteady
-
-  -- by the same items they are one each
-  abbrev pub AreOneByItems : Type 0
-  AreOneByItems = (items : List A) (text : List ℕ) (a b : Answer) → Has items text a → Has items text b → a ≡ b
-
-  -- and a text that is not refused has one, by items that may be obeyed
+  -- a text that is not refused has one, by items that may be obeyed
   abbrev pub IsAnswered : Type 0
   IsAnswered = (items : List A) (text : List ℕ) → IsAccepted form plan processors items → ((r : Refusal) → ¬ IsRefusal text r)
       → (a : Answer) × Has items text a
@@ -80,8 +71,8 @@ module _ {A : Type 0} (form : Form A) (plan : List ℕ) (processors : ℕ) (Has 
     by_items plain items accepted source a h = (h.0, h.1, record { items = items; accepted = accepted; has = h.2 })
 
     -- two answers of a text are one
-    pub one : AreOneByItems → HasOneAnswer form plan processors Has
-    one by_items text a b h k = go (of_plan text a h) (of_plan text b k)
+    pub planned_one : ((items : List A) → AreOne (Has items)) → AreOne PH
+    planned_one by_items text a b h k = go (of_plan text a h) (of_plan text b k)
       where
         go : ((number : ℕ) × Refused number × (a ≡ answers.PlanRefused number)) ⊎ HasByItems form plan processors Has text a
             → ((number : ℕ) × Refused number × (b ≡ answers.PlanRefused number)) ⊎ HasByItems form plan processors Has text b → a ≡ b
@@ -107,15 +98,15 @@ module _ {A : Type 0} (form : Form A) (plan : List ℕ) (processors : ℕ) (Has 
           record { error = h.error; of_text = h.of_text; refused = h.refused; number_is = refl },
         )
 
-    -- what stands behind the limit changes none
-    pub front : AreAnswers → HasFronts form plan processors Has limit
-    front are text rest a long h = go (of_plan text a h)
-      where
-        go : ((number : ℕ) × Refused number × (a ≡ answers.PlanRefused number)) ⊎ HasByItems form plan processors Has text a
-            → PH (text ++ rest) a
-        go (inl (n, r, e)) = subst (PH (text ++ rest)) (sym e) r
-        go (inr i) = lifted are.plain (text ++ rest) a
-            (record { items = i.items; accepted = i.accepted; has = are.front i.items text rest a long i.has })
+  -- what stands behind the limit changes none
+  pub planned_front : IsSteady → ((items : List A) → FrontsDecide limit (Has items)) → FrontsDecide limit PH
+  planned_front plain fronts text rest a long h = go (of_plan text a h)
+    where
+      go : ((number : ℕ) × Refused number × (a ≡ answers.PlanRefused number)) ⊎ HasByItems form plan processors Has text a
+          → PH (text ++ rest) a
+      go (inl (n, r, e)) = subst (PH (text ++ rest)) (sym e) r
+      go (inr i) = lifted plain (text ++ rest) a
+          (record { items = i.items; accepted = i.accepted; has = fronts i.items text rest a long i.has })
 
   -- where nothing was read, memory may be wanting
   pub memory_before : (source : Port) → IsUnread source → May source answers.NoMemory
@@ -133,9 +124,6 @@ module _ {A : Type 0} (form : Form A) (plan : List ℕ) (processors : ℕ) (Has 
   -- the text that was read has the answer by the plan's items
   abbrev ReadByItems : Port → Answer → Type 0
   ReadByItems source a = ReadHas limit (HasByItems form plan processors Has) source a
-
-  pub read_has : IsSteady → (source : Port) (a : Answer) → ReadByItems source a → ReadHas limit PH source a
-  read_has plain source a h = (h.0, h.1, lifted plain h.0 a h.2)
 
   -- an answer of the command is a read fault, want of memory, that the plan is refused, or that of the text that was read
   abbrev Cause : Port → Answer → Type 0
@@ -181,7 +169,7 @@ module _ {A : Type 0} (form : Form A) (plan : List ℕ) (processors : ℕ) (Has 
   are_causes = record { fault = λ source h. h.0.0; cause = reads_or_refuses }
 
   -- an answer of what a known source gave is one that its bytes have
-  of_all : HasFronts form plan processors Has limit → (source : Port) (all : List ℕ) (a : Answer) → source.before ≡ Some all
+  of_all : FrontsDecide limit PH → (source : Port) (all : List ℕ) (a : Answer) → source.before ≡ Some all
       → ReadOrRefused Refused (HasByItems form plan processors Has) limit source a → PH all a
   of_all front source all (answers.PlanRefused number) e h = h.0
   of_all front source all a e h =
@@ -194,44 +182,8 @@ module _ {A : Type 0} (form : Form A) (plan : List ℕ) (processors : ℕ) (Has 
   source_failed source (answers.PlanRefused number) h f = absurd (f h.1.holds)
   source_failed source a h f = absurd (f h.1.holds)
 
-  -- an answer of status 7 is a read fault, and the source failed
-  pub read_fault : (source : Port) (a : Answer) → May source a → status_of a ≡ statuses.ReadFault → Fails source
-  read_fault source answers.ReadFault h e = h.0.0
-  read_fault source a h e = cc
-
   module _ {Tells : Answer → ToldLists → ToldLists → Type 0} (o : Outside) (status : Status)
       (a : Answers (May o.source) Tells o status) where
-    -- what is written: that the plan is refused, with nothing read, or an answer of the text that was read
-    abbrev pub Told : Type 0
-    Told = ((number : ℕ) × Refused number × IsUnread o.source × IsWritten o.out o.err (answers.PlanRefused number) status)
-        ⊎ ((answer : Answer) × ReadByItems o.source answer × IsWritten o.out o.err answer status)
-
-    -- so it is at each status but those of faults and of want of memory
-    pub told : status ≢ statuses.ReadFault → status ≢ statuses.WriteFault → status ≢ statuses.NoMemory → Told
-    told r w m = go (by_cause o.source a.answer a.cause)
-      where
-        own : IsWritten o.out o.err a.answer status
-        own = written o.out o.err a.answer status a.delivered w
-
-        go : Cause o.source a.answer → Told
-        go (inl (e, some)) = absurd (r (own.own ∙ ap status_of e))
-        go (inr (inl e)) = absurd (m (own.own ∙ ap status_of e))
-        go (inr (inr (inl p))) = inl (p.0, p.1, p.2, subst (λ (x : Answer). IsWritten o.out o.err x status) p.3 own)
-        go (inr (inr (inr h))) = inr (a.answer, h, own)
-
-    -- no write failed where all went well
-    wrote : GoesWell (ports_of o) status → status ≢ statuses.WriteFault
-    wrote well f = elim (write_failed o.out o.err a.answer status a.delivered f) [ inl out ↦ well.out_holds out | inr err ↦ well.err_holds err ]
-
-    -- and no read did
-    did_read : GoesWell (ports_of o) status → status ≢ statuses.ReadFault
-    did_read well f = well.source_holds
-        (read_fault o.source a.answer a.cause (sym (written o.out o.err a.answer status a.delivered (wrote well)).own ∙ f))
-
-    -- so it is where all goes well
-    pub told_well : GoesWell (ports_of o) status → Told
-    told_well well = told (did_read well) (wrote well) well.memory
-
     -- where the plan is refused, nothing was read, and the status is 3, or 8 or 9
     pub refuses : PlansHaveOneAnswer form → (number : ℕ) → Refused number
         → IsUnread o.source × IsOneOf status (statuses.WordsRefused ∷ statuses.WriteFault ∷ statuses.NoMemory ∷ [])
@@ -252,7 +204,7 @@ module _ {A : Type 0} (form : Form A) (plan : List ℕ) (processors : ℕ) (Has 
         go (inr w) (inr (inr (inr h))) = absurd (apart law h.2.items h.2.accepted number r)
 
     -- the rows of the command, where what stands behind the limit changes no answer, by what each answer's own status says
-    pub planned_rows : PlansHaveOneAnswer form → HasFronts form plan processors Has limit → (Says : Status → Type 0)
+    pub planned_rows : PlansHaveOneAnswer form → FrontsDecide limit PH → (Says : Status → Type 0)
         → SaysOfPorts (ports_of o) Says
         → ((answer : Answer) → ReadOrRefused Refused (HasByItems form plan processors Has) limit o.source answer
         → IsWritten o.out o.err answer (status_of answer) → Says (status_of answer))
@@ -262,22 +214,3 @@ module _ {A : Type 0} (form : Form A) (plan : List ℕ) (processors : ℕ) (Has 
           (of_answers (May o.source) Tells o status a) PH Says (of_all front o.source) ports by;
       refuses = refuses plans;
     }
-
-    module _ (plain : IsSteady) (law : HasFronts form plan processors Has limit) where
-      -- what is written is an answer of what the source shows whole
-      pub known : (all : List ℕ) → o.source.before ≡ Some all → GoesWell (ports_of o) status
-          → (answer : Answer) × PH all answer × IsWritten o.out o.err answer status
-      known all e well = go (told_well well)
-        where
-          go : Told → (answer : Answer) × PH all answer × IsWritten o.out o.err answer status
-          go (inl (number, r, left, w)) = (answers.PlanRefused number, r, w)
-          go (inr (answer, r, w)) =
-              let read = subst (λ l. ReadsTo limit l o.source.now r.0) e r.1.whole in
-              (answer, whole limit PH law all o.source.now r.0 answer read (lifted plain r.0 answer r.2), w)
-
-      -- which is the one that it has, where it has one
-      pub shown : HasOneAnswer form plan processors Has → (all : List ℕ) → o.source.before ≡ Some all → GoesWell (ports_of o) status → (answer : Answer) → PH all answer
-          → IsWritten o.out o.err answer status
-      shown one all e well answer h =
-          let k = known all e well in
-          subst (λ (x : Answer). IsWritten o.out o.err x status) (one all k.0 answer k.1 h) k.2

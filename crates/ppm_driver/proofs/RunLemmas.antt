@@ -1,43 +1,48 @@
--- The answers that programs and texts have where they are run are of few kinds.
-use Rattle.std.proofs.Common.{◌≡◌, ◌⊎◌, ◌≤◌, ◌<◌, ◌∙◌, inl, inr, ℕ, zero, suc, List, Some, slice_get, replicate, arith, refl, sym, ap, subst, lit≤}
+-- The answers that programs and texts have where they are run.
+use Rattle.std.proofs.Common.{◌≡◌, ◌≢◌, ◌⊎◌, ◌≤◌, ◌<◌, ◌∙◌, inl, inr, ℕ, List, [], ◌∷◌, get_or, Option, Some, None, arith, refl, sym, ap, subst, lit≤}
+use Rattle.ppm_words.specs.declared.event.Event.{Event}
 use Rattle.ppm_words.specs.declared.named_array.NamedArray.{NamedArray}
-use Rattle.ppm_words.specs.declared.trap.Trap.{Trap}
-use Rattle.ppm_ports.specs.Ports.{Port}
-use Rattle.ppm_text.specs.Limits.{text_limit}
+use Rattle.ppm_ports.specs.Outside.{ToldLists}
+use Rattle.ppm_ports.specs.Told.{KeepsList}
 use Rattle.ppm_cells.specs.Finish.{finish_of}
+use Rattle.ppm_cells.specs.Memory.{read}
+use Rattle.ppm_cells.specs.declared.cell.Cell.TheVariants.{FinishWord}
 use Rattle.ppm_cells.specs.declared.finish.Finish.{Finish}
 use Rattle.ppm_cells.specs.declared.finish.Finish.TheVariants as finishes
+use Rattle.ppm_cells.specs.declared.shape.Shape.{Shape}
 use Rattle.ppm_core.specs.declared.ending.Ending.{Ending}
 use Rattle.ppm_core.specs.declared.ending.Ending.TheVariants.{With}
 use Rattle.ppm_code.specs.Code.{IsCode}
-use Rattle.ppm_core.specs.Situation.{Situation, finish_in, ending_of}
+use Rattle.ppm_core.specs.Situation.{Situation, ending_of}
 use Rattle.ppm_plan.specs.declared.plan_item.PlanItem.{PlanItem}
 use Rattle.ppm_plan.specs.Forms.{plan_form}
 use Rattle.ppm_plan.specs.Refusals.{IsKeeper}
 use Rattle.ppm_plan.specs.Schedules.{Planned}
-use Rattle.ppm_step.specs.Laws.{IsProposed, IsProposedWord}
-use Rattle.ppm_step.specs.Standings.{IsLost, unknown_place}
-use Rattle.ppm_step.specs.State.{stand_in, stand_of}
+use Rattle.ppm_step.specs.declared.turn.Turn.{Turn}
+use Rattle.ppm_step.specs.Laws.{IsProposed, IsProposedWord, IsFilled}
+use Rattle.ppm_step.specs.Standings.{unknown_place}
 use Rattle.ppm_choice.specs.declared.limits.Limits.{Limits}
-use Rattle.ppm_choice.specs.Obeying.{nothing_done}
+use Rattle.ppm_choice.specs.Obeying.{ObeyAll}
 use Rattle.ppm_tree.specs.Tree.{ProgramTree}
 use Rattle.ppm_tree.specs.Program.{initial_arrays}
 use Rattle.ppm_cut_code.specs.Routines.{code_of}
-use Rattle.ppm_program.specs.Programs.{HasProgram}
-use Rattle.ppm_answers.specs.declared.status.Status.TheVariants as statuses
-use Rattle.ppm_answers.specs.Statuses.{status_of}
 use Rattle.ppm_answers.specs.declared.answer.Answer.{Answer}
 use Rattle.ppm_answers.specs.declared.answer.Answer.TheVariants as answers
-use Rattle.ppm_answers.specs.Reading.{Reads, TextMay, JudgingMay}
 use Rattle.ppm_cli.specs.declared.run.RunOptions.{RunOptions}
 use Rattle.ppm_cli.specs.Words.{AreRun}
 use Rattle.ppm_driver.specs.declared.loading.Sizes.{Sizes}
-use Rattle.ppm_driver.specs.Alone.{ObeysTo}
-use Rattle.ppm_driver.specs.Loading.{AreSizes, Begins}
+use Rattle.ppm_driver.specs.Loading.{AreSizes, Opens}
+use Rattle.ppm_driver.specs.Obedience.{RunsTo, work_made}
+use Rattle.ppm_driver.specs.RunOf.{words_behind, finish_behind, Finishes, Proposed, Spent}
 use Rattle.ppm_driver.specs.Says.{IsTheOne, IsOfFinish, IsOfEnding}
-use Rattle.ppm_driver.specs.Runs.{plan_of, limits_of, sizes_of, IsSaid, IsSpent, ProgramHas, TextHas}
-use Rattle.ppm_driver.proofs.RoomLemmas.{has_filled}
+use Rattle.ppm_driver.specs.Runs.{plan_of, limits_of, sizes_of, IsSaid, ProgramHas, TextHas, RunHas}
+use Rattle.ppm_driver.specs.Planned.{PlannedHas, HasByItems}
+use Rattle.ppm_driver.specs.Watchers.{watched, AreTold}
+use Rattle.ppm_driver.proofs.FinishLemmas.{has_finished}
+use Rattle.ppm_driver.proofs.LoadingLemmas.{opens_processors}
+use Rattle.ppm_driver.proofs.ProgramLemmas.{AreKinds}
 use Rattle.ppm_driver.proofs.SayLemmas.{ending_is, one_of_ending, some_of_proposed, of_proposed}
+use Rattle.ppm_driver.proofs.SpentLemmas.{has_spent}
 
 -- options in their ranges say sizes that a machine may have
 pub run_sizes : (options : RunOptions) → AreRun options → AreSizes (sizes_of options)
@@ -55,201 +60,250 @@ run_sizes options are = record {
 abbrev pub IsOfProgram : (processors : ℕ) → Answer → Type 0
 IsOfProgram processors (answers.Ended arrays) = Unit {0}
 IsOfProgram processors (answers.Trapped trap line) = Unit {0}
-IsOfProgram processors (answers.OutOfTurns processor) = processor ≡ 0
+IsOfProgram processors (answers.OutOfTurns processor) = processor < processors
 IsOfProgram processors (answers.OutOfRoom place) = place < processors
 IsOfProgram processors (answers.Broken place) = (place < processors) ⊎ (place ≡ unknown_place)
 IsOfProgram processors _ = ⊥
+
+pub kinds : (processors : ℕ) → AreKinds (IsOfProgram processors)
+kinds processors = record { no_refusal = λ r k. k; no_fault = λ k. k; no_memory = λ k. k; no_plan = λ number k. k }
 
 -- that a processor has made its turns is an answer, and that a run has no end is none
 abbrev IsOutOfTurns : ℕ → Answer → Type 0
 IsOutOfTurns processor a = a ≡ answers.OutOfTurns processor
 
-module _ (options : RunOptions) (m : Situation) (arrays : List NamedArray) where
-  -- the answer of a finish that steps propose is such an answer
-  of_finish : (finish : Finish) → IsProposed options.processors finish → (a : Answer)
-      → IsOfFinish answers.Ended answers.Trapped IsOutOfTurns (λ x. ⊥) m arrays finish a → IsOfProgram options.processors a
-  of_finish finishes.Ended p a h = subst (IsOfProgram options.processors) (sym h) tt
-  of_finish (finishes.Trapped trap line) p a h = subst (IsOfProgram options.processors) (sym h) tt
-  of_finish (finishes.OutOfRoom place) p a h = subst (IsOfProgram options.processors) (sym h) p
-  of_finish (finishes.Broken place) p a h = subst (IsOfProgram options.processors) (sym h) p
-  of_finish (finishes.OutOfTurns processor) p a h = absurd p
-  of_finish finishes.Stopped p a h = absurd p
-  of_finish finishes.Unset p a h = absurd p
+abbrev HasNoEnd : Answer → Type 0
+HasNoEnd a = ⊥
 
-  -- it isn't that the turns are made
-  not_spent : (finish : Finish) → IsProposed options.processors finish → (processor : ℕ)
-      → IsOfFinish answers.Ended answers.Trapped IsOutOfTurns (λ x. ⊥) m arrays finish (answers.OutOfTurns processor) → ⊥
-  not_spent finishes.Ended p processor h = cc
-  not_spent (finishes.Trapped trap line) p processor h = cc
-  not_spent (finishes.OutOfRoom place) p processor h = cc
-  not_spent (finishes.Broken place) p processor h = cc
-  not_spent (finishes.OutOfTurns other) p processor h = absurd p
-  not_spent finishes.Stopped p processor h = absurd p
-  not_spent finishes.Unset p processor h = absurd p
+module _ (s : Shape) (lengths words : List ℕ) (arrays : List NamedArray) where
+  abbrev Of : Finish → Answer → Type 0
+  Of finish a = IsOfFinish s lengths words answers.Ended answers.Trapped IsOutOfTurns HasNoEnd arrays finish a
 
-  -- where they are, the answer is
-  spent_ending : IsSpent options.turns m → ending_of (finish_in m) ≡ With (finishes.OutOfTurns 0)
-  spent_ending s = ending_is (finish_in m) (finishes.OutOfTurns 0) s.stands (λ e. cc)
+  abbrev At : Ending → Answer → Type 0
+  At ending a = IsOfEnding s lengths words answers.Ended answers.Trapped IsOutOfTurns HasNoEnd arrays ending a
 
-  spent_answer : IsSpent options.turns m → (a : Answer) → IsSaid m arrays a → a ≡ answers.OutOfTurns 0
-  spent_answer s a = subst (λ (e : Ending). IsOfEnding answers.Ended answers.Trapped IsOutOfTurns (λ x. ⊥) m arrays e a) (spent_ending s)
+  abbrev word : ℕ
+  word = read s words FinishWord
 
-  abbrev IsFinished : Type 0
-  IsFinished = IsProposedWord options.processors (finish_in m) ⊎ IsSpent options.turns m
+  -- two answers that are said are one
+  pub one_said : (a b : Answer) → IsSaid s lengths arrays words a → IsSaid s lengths arrays words b → a ≡ b
+  one_said a b h k =
+      one_of_ending answers.Ended answers.Trapped IsOutOfTurns HasNoEnd s lengths words arrays (λ processor x y d e. d ∙ sym e)
+      (λ x y d e. absurd d) (ending_of word) a b h k
 
-  -- the answer that is said
-  kind_said : IsFinished → (a : Answer) → IsSaid m arrays a → IsOfProgram options.processors a
-  kind_said (inl w) a h =
-      of_finish w.finish w.is_proposed a
-      (of_proposed answers.Ended answers.Trapped IsOutOfTurns (λ x. ⊥) m arrays options.processors (finish_in m) w a h)
-  kind_said (inr s) a h = subst (IsOfProgram options.processors) (sym (spent_answer s a h)) refl
+  module _ (processors : ℕ) where
+    -- the answer of a finish that steps propose is such an answer
+    of_finish : (finish : Finish) → IsProposed processors finish → (a : Answer) → Of finish a → IsOfProgram processors a
+    of_finish finishes.Ended p a h = subst (IsOfProgram processors) (sym h) tt
+    of_finish (finishes.Trapped trap line) p a h = subst (IsOfProgram processors) (sym h) tt
+    of_finish (finishes.OutOfRoom place) p a h = subst (IsOfProgram processors) (sym h) p
+    of_finish (finishes.Broken place) p a h = subst (IsOfProgram processors) (sym h) p
+    of_finish (finishes.OutOfTurns processor) p a h = absurd p
+    of_finish finishes.Stopped p a h = absurd p
+    of_finish finishes.Unset p a h = absurd p
 
-  -- where it is that the turns are made, so they are
-  pub spent_said : (processor : ℕ) → IsFinished → IsSaid m arrays (answers.OutOfTurns processor) → m.work ≡ options.turns
-  spent_said processor (inl w) h =
-      absurd (not_spent w.finish w.is_proposed processor
-      (of_proposed answers.Ended answers.Trapped IsOutOfTurns (λ x. ⊥) m arrays options.processors (finish_in m) w (answers.OutOfTurns processor) h))
-  spent_said processor (inr s) h = s.work_is
+    -- it isn't that turns are made
+    not_spent : (finish : Finish) → IsProposed processors finish → (processor : ℕ) → Of finish (answers.OutOfTurns processor) → ⊥
+    not_spent finishes.Ended p processor h = cc
+    not_spent (finishes.Trapped trap line) p processor h = cc
+    not_spent (finishes.OutOfRoom place) p processor h = cc
+    not_spent (finishes.Broken place) p processor h = cc
+    not_spent (finishes.OutOfTurns other) p processor h = absurd p
+    not_spent finishes.Stopped p processor h = absurd p
+    not_spent finishes.Unset p processor h = absurd p
+
+    -- and it is that a pool is full only where the finish is
+    room_finish : (finish : Finish) → IsProposed processors finish → (place : ℕ) → Of finish (answers.OutOfRoom place)
+        → finish ≡ finishes.OutOfRoom place
+    room_finish finishes.Ended p place h = cc
+    room_finish (finishes.Trapped trap line) p place h = cc
+    room_finish (finishes.OutOfRoom other) p place h = let same : other ≡ place = cc in ap (λ n. finishes.OutOfRoom n) same
+    room_finish (finishes.Broken other) p place h = cc
+    room_finish (finishes.OutOfTurns other) p place h = absurd p
+    room_finish finishes.Stopped p place h = absurd p
+    room_finish finishes.Unset p place h = absurd p
+
+    -- what a proposed word says is of its finish
+    proposed_of : (w : IsProposedWord processors word) (a : Answer) → IsSaid s lengths arrays words a → Of w.finish a
+    proposed_of w a h =
+        of_proposed answers.Ended answers.Trapped IsOutOfTurns HasNoEnd s lengths words arrays processors word w a h
+
+  -- where it is that a processor has made its turns, the answer is
+  spent_ending : (processor : ℕ) → finish_of word ≡ Some (finishes.OutOfTurns processor) → ending_of word ≡ With (finishes.OutOfTurns processor)
+  spent_ending processor stands = ending_is word (finishes.OutOfTurns processor) stands (λ e. cc)
+
+  spent_answer : (processor : ℕ) → finish_of word ≡ Some (finishes.OutOfTurns processor) → (a : Answer)
+      → IsSaid s lengths arrays words a → a ≡ answers.OutOfTurns processor
+  spent_answer processor stands a = subst (λ (e : Ending). At e a) (spent_ending processor stands)
+
+-- what is said behind turns of a machine whose finish word has a cause in them
+module _ (limits : Limits) (start : Situation) (turns : List Turn) (arrays : List NamedArray) where
+  abbrev Said : Answer → Type 0
+  Said a = IsSaid start.shape start.array_lengths arrays (words_behind start turns) a
+
+  abbrev HasEnd : Type 0
+  HasEnd = Finishes limits start turns (finish_behind start turns)
+
+  kind_said : HasEnd → (a : Answer) → Said a → IsOfProgram start.shape.processors a
+  kind_said (Proposed w filled) a h =
+      of_finish start.shape start.array_lengths (words_behind start turns) arrays start.shape.processors w.finish w.is_proposed a
+      (proposed_of start.shape start.array_lengths (words_behind start turns) arrays start.shape.processors w a h)
+  kind_said (Spent processor there stands made) a h =
+      subst (IsOfProgram start.shape.processors)
+      (sym (spent_answer start.shape start.array_lengths (words_behind start turns) arrays processor stands a h)) there
+
+  -- that a processor has made its turns is said only where it has
+  abbrev IsSpentOf : ℕ → Type 0
+  IsSpentOf c = (c < start.shape.processors) × (work_made start.shape start.code c start.state turns ≡ limits.turns)
+
+  spent_said : (processor : ℕ) → HasEnd → Said (answers.OutOfTurns processor) → IsSpentOf processor
+  spent_said processor (Proposed w filled) h =
+      absurd (not_spent start.shape start.array_lengths (words_behind start turns) arrays start.shape.processors w.finish w.is_proposed processor
+      (proposed_of start.shape start.array_lengths (words_behind start turns) arrays start.shape.processors w (answers.OutOfTurns processor) h))
+  spent_said processor (Spent other there stands made) h =
+      let same : other ≡ processor = number (answers.OutOfTurns processor)
+      (spent_answer start.shape start.array_lengths (words_behind start turns) arrays other stands (answers.OutOfTurns processor) h) refl in
+      subst IsSpentOf same (there, made)
+    where
+      number : (a : Answer) → a ≡ answers.OutOfTurns other → a ≡ answers.OutOfTurns processor → other ≡ processor
+      number a e f = cc
+
+  -- and that a pool is full only where a turn found it so
+  filled_said : (place : ℕ) → HasEnd → Said (answers.OutOfRoom place) → IsFilled start.shape start.code place start.state.words turns
+  filled_said place (Proposed w filled) h =
+      let is = room_finish start.shape start.array_lengths (words_behind start turns) arrays start.shape.processors w.finish w.is_proposed place
+      (proposed_of start.shape start.array_lengths (words_behind start turns) arrays start.shape.processors w (answers.OutOfRoom place) h) in
+      filled place (w.stands ∙ ap Some is)
+  filled_said place (Spent other there stands made) h =
+      absurd (different (spent_answer start.shape start.array_lengths (words_behind start turns) arrays other stands (answers.OutOfRoom place) h))
+    where
+      different : answers.OutOfRoom place ≡ answers.OutOfTurns other → ⊥
+      different e = cc
 
   -- there is one
-  some_said : IsFinished → (a : Answer) × IsSaid m arrays a
-  some_said (inl w) = some_of_proposed answers.Ended answers.Trapped IsOutOfTurns (λ x. ⊥) m arrays options.processors (finish_in m) w
-  some_said (inr s) = (
-    answers.OutOfTurns 0,
-    subst (λ (e : Ending). IsOfEnding answers.Ended answers.Trapped IsOutOfTurns (λ x. ⊥) m arrays e (answers.OutOfTurns 0))
-        (sym (spent_ending s)) refl,
+  some_said : HasEnd → (a : Answer) × Said a
+  some_said (Proposed w filled) =
+      some_of_proposed answers.Ended answers.Trapped IsOutOfTurns HasNoEnd start.shape start.array_lengths (words_behind start turns) arrays
+      start.shape.processors (finish_behind start turns) w
+  some_said (Spent processor there stands made) = (
+    answers.OutOfTurns processor,
+    subst (λ (e : Ending). At start.shape start.array_lengths (words_behind start turns) arrays e (answers.OutOfTurns processor))
+        (sym (spent_ending start.shape start.array_lengths (words_behind start turns) arrays processor stands)) refl,
   )
 
--- and no other
-pub one_said : (m : Situation) (arrays : List NamedArray) (a b : Answer) → IsSaid m arrays a → IsSaid m arrays b → a ≡ b
-one_said m arrays a b h k =
-    one_of_ending answers.Ended answers.Trapped IsOutOfTurns (λ x. ⊥) m arrays (λ processor x y d e. d ∙ sym e) (λ x y d e. absurd d)
-    (ending_of (finish_in m)) a b h k
+-- a list stays as it is
+stays : (l : Option (List Event)) → KeepsList l l
+stays None = tt
+stays (Some l) = refl
 
-module _ (options : RunOptions) (items : List PlanItem) where
+-- no processor is watched yet
+none_watched : (c : ℕ) → c < 0 → ⊥
+none_watched c less = omega (arith, less)
+
+module _ (options : RunOptions) (before now : ToldLists) (items : List PlanItem) (t : ProgramTree) where
+  same_count : (a : Answer) (h : ProgramHas options before now items t a) → h.start.shape.processors ≡ options.processors
+  same_count a h = opens_processors (sizes_of options) (code_of t) (initial_arrays t) h.keeper h.start h.opens
+
   -- an answer of a program is of no other kind
-  pub of_program : (t : ProgramTree) (a : Answer) → ProgramHas options items t a → IsOfProgram options.processors a
-  of_program t a h = kind_said options h.end (initial_arrays t) h.finished a h.says
+  pub of_program : (a : Answer) → ProgramHas options before now items t a → IsOfProgram options.processors a
+  of_program a h =
+      subst (λ n. IsOfProgram n a) (same_count a h)
+      (kind_said (limits_of options) h.start h.run.turns (initial_arrays t) h.run.finished a h.run.says)
 
-  -- so it is one of its text
-  pub of_text : (text : List ℕ) (t : ProgramTree) → HasProgram text t → (a : Answer) → ProgramHas options items t a → TextHas options items text a
-  of_text text t has (answers.SourceRefused r) h = absurd (of_program t (answers.SourceRefused r) h)
-  of_text text t has a h = (t, has, h)
+  pub spent_has : (c : ℕ) (h : ProgramHas options before now items t (answers.OutOfTurns c))
+      → (c < options.processors) × (work_made h.start.shape h.start.code c h.start.state h.run.turns ≡ options.turns)
+  spent_has c h =
+      let s = spent_said (limits_of options) h.start h.run.turns (initial_arrays t) c h.run.finished h.run.says in
+      (subst (λ n. c < n) (same_count (answers.OutOfTurns c) h) s.0, s.1)
 
-  -- and may be given
-  pub text_may : (text : List ℕ) (t : ProgramTree) → HasProgram text t → (a : Answer) → ProgramHas options items t a
-      → TextMay (TextHas options items) text a
-  text_may text t has answers.NoMemory h = tt
-  text_may text t has (answers.SourceRefused r) h = absurd (of_program t (answers.SourceRefused r) h)
-  text_may text t has a h = (t, has, h)
+  pub filled_has : (place : ℕ) (h : ProgramHas options before now items t (answers.OutOfRoom place))
+      → IsFilled h.start.shape h.start.code place h.start.state.words h.run.turns
+  filled_has place h = filled_said (limits_of options) h.start h.run.turns (initial_arrays t) place h.run.finished h.run.says
 
-  -- none of a text is that a plan is refused
-  pub plain : (text : List ℕ) (number : ℕ) → ¬ TextHas options items text (answers.PlanRefused number)
-  plain text number h = of_program h.0 (answers.PlanRefused number) h.2
+  -- it is one whatever watchers were told
+  untold : (start : Situation) (turns : List Turn) → AreTold watched (plan_of options items) (limits_of options) [] [] start turns
+  untold start turns = record { records = λ c less. absurd (none_watched c less); others = λ c least. stays (get_or [] c None) }
 
-  -- an answer of a text that was read may be given, and so may want of memory behind it
-  pub read_may : (source : Port) (text : List ℕ) (a : Answer) → Reads text_limit source text → TextMay (TextHas options items) text a
-      → JudgingMay text_limit (TextHas options items) source a
-  read_may source text answers.ReadFault r h = absurd (of_program h.0 answers.ReadFault h.2)
-  read_may source text answers.NoMemory r h = ((text, r.whole.most, r.whole.front), r.holds)
-  read_may source text a r h = (text, r, h)
+  pub forgets : (a : Answer) → ProgramHas options before now items t a → ProgramHas options [] [] items t a
+  forgets a h = record {
+    keeper = h.keeper;
+    spared = h.spared;
+    start = h.start;
+    opens = h.opens;
+    run = record {
+      turns = h.run.turns;
+      obey = h.run.obey;
+      finished = h.run.finished;
+      told = untold h.start h.run.turns;
+      says = h.run.says;
+    };
+  }
 
--- the answers that a text has by items
-abbrev pub IsOfText : (processors : ℕ) → Answer → Type 0
-IsOfText processors (answers.SourceRefused r) = Unit {0}
-IsOfText processors a = IsOfProgram processors a
+-- so are those of texts, and those with a plan
+pub text_forgets : (options : RunOptions) (before now : ToldLists) (items : List PlanItem) (text : List ℕ) (a : Answer)
+    → TextHas options before now items text a → TextHas options [] [] items text a
+text_forgets options before now items text (answers.SourceRefused r) h = h
+text_forgets options before now items text a h = (h.0, h.1, forgets options before now items h.0 a h.2)
 
--- an answer of a text is of no other kind
-pub kind_of_text : (options : RunOptions) (items : List PlanItem) (text : List ℕ) (a : Answer) → TextHas options items text a
-    → IsOfText options.processors a
-kind_of_text options items text (answers.SourceRefused r) h = tt
-kind_of_text options items text a h = of_program options items h.0 a h.2
+pub run_forgets : (options : RunOptions) (before now : ToldLists) (plan : List ℕ) (text : List ℕ) (a : Answer)
+    → PlannedHas plan_form plan options.processors (TextHas options before now) text a → RunHas options plan text a
+run_forgets options before now plan text (answers.PlanRefused number) h = h
+run_forgets options before now plan text a h = record {
+  items = h.items;
+  accepted = h.accepted;
+  has = text_forgets options before now h.items text a h.has;
+}
 
--- of status 0 it is arrays
-pub arrays_only : (processors : ℕ) (a : Answer) → IsOfText processors a → status_of a ≡ statuses.Ended
-    → (arrays : List NamedArray) × (a ≡ answers.Ended arrays)
-arrays_only processors (answers.Ended arrays) k e = (arrays, refl)
-arrays_only processors (answers.EndedWith arrays tally) k e = absurd k
-arrays_only processors (answers.Listed listing) k e = absurd k
-arrays_only processors answers.Accepted k e = absurd k
-arrays_only processors a k e = cc
-
--- of status 1 a trap
-pub trap_only : (processors : ℕ) (a : Answer) → IsOfText processors a → status_of a ≡ statuses.Trapped
-    → (t : Trap) × (line : ℕ) × (a ≡ answers.Trapped t line)
-trap_only processors (answers.Trapped t line) k e = (t, line, refl)
-trap_only processors (answers.TrappedWith t line tally) k e = absurd k
-trap_only processors a k e = cc
-
--- none is of status 3
-pub never_refused : (processors : ℕ) (a : Answer) → IsOfText processors a → status_of a ≡ statuses.WordsRefused → ⊥
-never_refused processors answers.WordsRefused k e = k
-never_refused processors (answers.PlanRefused number) k e = k
-never_refused processors a k e = cc
-
--- of status 4 that processor 0 has made its turns
-pub turns_only : (processors : ℕ) (a : Answer) → IsOfText processors a → status_of a ≡ statuses.OutOfTurns → a ≡ answers.OutOfTurns 0
-turns_only processors (answers.OutOfTurns processor) k e = ap (λ n. answers.OutOfTurns n) k
-turns_only processors (answers.Unfinished n) k e = absurd k
-turns_only processors a k e = cc
-
--- of status 5 the one place without room
-pub room_only : (processors : ℕ) (a : Answer) → processors ≤ 1 → IsOfText processors a → status_of a ≡ statuses.OutOfRoom
-    → a ≡ answers.OutOfRoom 0
-room_only processors (answers.OutOfRoom place) one k e = ap (λ n. answers.OutOfRoom n) (first place processors k one)
-  where
-    first : (n p : ℕ) → n < p → p ≤ 1 → n ≡ 0
-    first n p less most = omega (arith, less, most)
-room_only processors a one k e = cc
-
--- of status 13 that the words are broken
-pub broken_only : (processors : ℕ) (a : Answer) → processors ≤ 1 → IsOfText processors a → status_of a ≡ statuses.Broken
-    → (place : ℕ) × ((place ≡ 0) ⊎ (place ≡ unknown_place)) × (a ≡ answers.Broken place)
-broken_only processors (answers.Broken place) one k e = (place, by k, refl)
-  where
-    by : (place < processors) ⊎ (place ≡ unknown_place) → (place ≡ 0) ⊎ (place ≡ unknown_place)
-    by (inl less) = inl (omega (arith, less, one))
-    by (inr unknown) = inr unknown
-broken_only processors a one k e = cc
+-- where nobody is told anything, all lists stay as they are
+none_told : (plan : Planned) (limits : Limits) (told : ToldLists) (start : Situation) (turns : List Turn)
+    → AreTold watched plan limits told told start turns
+none_told plan limits told start turns = record {
+  records = λ c less. absurd (none_watched c less);
+  others = λ c least. stays (get_or told c None);
+}
 
 -- a plan for so many processors
 same_plan : (options : RunOptions) (plan : Planned) → plan.processors ≡ options.processors → plan ≡ plan_of options plan.items
 same_plan options plan same = λ i. record { processors = same i; items = plan.items }
 
--- the answer of a program is what is said of the machine behind its run
+-- where there is one processor, the answer of a program is what is said of the machine behind its run
+module _ (options : RunOptions) (one : options.processors ≡ 1) (items : List PlanItem) (t : ProgramTree) where
+  has_run : (keeper : ℕ) (start : Situation) (turns : List Turn) → IsKeeper plan_form items keeper → IsKeeper plan_form items 0
+      → Opens (sizes_of options) (code_of t) (initial_arrays t) keeper start → IsCode (code_of t)
+      → ObeyAll (plan_of options items) (limits_of options) start.shape start.code start.state turns
+      → (a : Answer) → IsTheOne (IsSaid start.shape start.array_lengths (initial_arrays t) (words_behind start turns)) a
+      → (told : ToldLists) → ProgramHas options told told items t a
+  has_run keeper start turns spared first opens is obey a only told =
+      let some = has_finished (sizes_of options) (code_of t) (initial_arrays t) keeper (plan_of options items) (limits_of options) start turns
+      opens is one first obey in
+      let finished = has_spent (sizes_of options) (code_of t) (initial_arrays t) keeper (plan_of options items) (limits_of options) start turns
+      opens is one obey some in
+      let s = some_said (limits_of options) start turns (initial_arrays t) finished in
+      record {
+        keeper = keeper;
+        spared = spared;
+        start = start;
+        opens = opens;
+        run = record {
+          turns = turns;
+          obey = obey;
+          finished = finished;
+          told = none_told (plan_of options items) (limits_of options) told start turns;
+          says = subst (IsSaid start.shape start.array_lengths (initial_arrays t) (words_behind start turns)) (sym (only s.0 s.1)) s.1;
+        };
+      }
+
+-- what is said behind the run of a machine
 pub program_has : (options : RunOptions) (plan : Planned) (t : ProgramTree) (sizes : Sizes) (limits : Limits) (keeper : ℕ)
     (start end : Situation) (arrays : List NamedArray) (a : Answer) → sizes ≡ sizes_of options → limits ≡ limits_of options
-    → plan.processors ≡ options.processors → IsKeeper plan_form plan.items keeper → Begins sizes t keeper start → IsCode (code_of t)
-    → ObeysTo plan limits nothing_done start end → IsProposedWord sizes.processors (finish_in end) ⊎ IsSpent limits.turns end
-    → arrays ≡ initial_arrays t → IsTheOne (IsSaid end arrays) a → ProgramHas options plan.items t a
-program_has options plan t sizes limits keeper start end arrays a sizes_are limits_are same spared begins is_code obeys finished arrays_are only =
-    let is_finished =
-    subst (λ (z : Sizes). IsProposedWord z.processors (finish_in end) ⊎ IsSpent options.turns end) sizes_are
-    (subst (λ (l : Limits). IsProposedWord sizes.processors (finish_in end) ⊎ IsSpent l.turns end) limits_are finished) in
-    let s = some_said options end (initial_arrays t) is_finished in
-    let is : a ≡ s.0 = subst (λ (l : List NamedArray). IsTheOne (IsSaid end l) a) arrays_are only s.0 s.1 in
-    let obeys_it : ObeysTo (plan_of options plan.items) (limits_of options) nothing_done start end =
-    subst (λ (p : Planned). ObeysTo p (limits_of options) nothing_done start end) (same_plan options plan same)
-    (subst (λ (l : Limits). ObeysTo plan l nothing_done start end) limits_are obeys) in
-    record {
-      keeper = keeper;
-      spared = spared;
-      start = start;
-      begins = subst (λ (z : Sizes). Begins z t keeper start) sizes_are begins;
-      end = end;
-      obeys = obeys_it;
-      filled = λ place says.
-          has_filled sizes t keeper start obeys_it.turns place begins is_code
-          (subst (λ (m : Situation). finish_of (finish_in m) ≡ Some (finishes.OutOfRoom place)) obeys_it.makes says);
-      finished = is_finished;
-      says = subst (IsSaid end (initial_arrays t)) (sym is) s.1;
-    }
-
--- a machine begins with processor 0 lost
-first_lost : (p : ℕ) → 1 ≤ p → stand_in (slice_get (replicate p IsLost) 0) ≡ IsLost
-first_lost zero some = absurd (omega (arith, some))
-first_lost (suc p) some = refl
-
-pub begins_lost : (sizes : Sizes) (t : ProgramTree) (keeper : ℕ) (m : Situation) → Begins sizes t keeper m → stand_of m.state 0 ≡ IsLost
-begins_lost sizes t keeper m b =
-    ap (λ (x : Situation). stand_of x.state 0) b.loads ∙ first_lost b.shape.processors b.shape.within.processors_least
+    → plan.processors ≡ options.processors → options.processors ≡ 1 → IsKeeper plan_form plan.items keeper → keeper ≡ 0
+    → Opens sizes (code_of t) (initial_arrays t) keeper start → IsCode (code_of t) → RunsTo plan limits start end → arrays ≡ initial_arrays t
+    → IsTheOne (IsSaid end.shape end.array_lengths arrays end.state.words) a
+    → (told : ToldLists) → ProgramHas options told told plan.items t a
+program_has options plan t sizes limits keeper start end arrays a sizes_are limits_are same one spared first opens is runs arrays_are only =
+    has_run options one plan.items t keeper start runs.turns spared (subst (IsKeeper plan_form plan.items) first spared)
+    (subst (λ (z : Sizes). Opens z (code_of t) (initial_arrays t) keeper start) sizes_are opens) is
+    (subst (λ (p : Planned). ObeyAll p (limits_of options) start.shape start.code start.state runs.turns) (same_plan options plan same)
+    (subst (λ (l : Limits). ObeyAll plan l start.shape start.code start.state runs.turns) limits_are runs.obey))
+    a (subst (λ (l : List NamedArray). IsTheOne (IsSaid start.shape start.array_lengths l (words_behind start runs.turns)) a) arrays_are
+    (subst (λ (m : Situation). IsTheOne (IsSaid m.shape m.array_lengths arrays m.state.words) a) runs.makes only))

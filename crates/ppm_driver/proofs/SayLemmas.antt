@@ -5,12 +5,13 @@ use Rattle.ppm_words.specs.declared.trap.Trap.{Trap}
 use Rattle.ppm_cells.specs.Fields.{number_of}
 use Rattle.ppm_cells.specs.Finish.{finish_word, finish_of, IsFinish}
 use Rattle.ppm_cells.specs.declared.finish.Finish.{Finish}
+use Rattle.ppm_cells.specs.declared.shape.Shape.{Shape}
 use Rattle.ppm_cells.specs.declared.finish.Finish.TheVariants as finishes
 use Rattle.ppm_cells.proofs.ExactLemmas.{unpack-pack}
 use Rattle.ppm_cells.proofs.FinishLemmas.{finishes_exact}
 use Rattle.ppm_core.specs.declared.ending.Ending.{Ending}
 use Rattle.ppm_core.specs.declared.ending.Ending.TheVariants.{NotYet, With, Unknown}
-use Rattle.ppm_core.specs.Situation.{Situation, ending_by, ending_of}
+use Rattle.ppm_core.specs.Situation.{ending_by, ending_of}
 use Rattle.ppm_step.specs.Laws.{IsProposed, IsProposedWord}
 use Rattle.ppm_answers.specs.declared.answer.Answer.{Answer}
 use Rattle.ppm_answers.specs.declared.answer.Answer.TheVariants as answers
@@ -49,12 +50,12 @@ module _ (processors : ℕ) where
   proposed_ending word w = ending_is word w.finish w.stands (proposed_other w.finish w.is_proposed)
 
 module _ (ended : List NamedArray → Answer) (trapped : Trap → ℕ → Answer) (spent : ℕ → Answer → Type 0) (not_ended : Answer → Type 0)
-    (m : Situation) (arrays : List NamedArray) where
+    (s : Shape) (lengths words : List ℕ) (arrays : List NamedArray) where
   abbrev Of : Finish → Answer → Type 0
-  Of = IsOfFinish ended trapped spent not_ended m arrays
+  Of = IsOfFinish s lengths words ended trapped spent not_ended arrays
 
   abbrev By : Ending → Answer → Type 0
-  By = IsOfEnding ended trapped spent not_ended m arrays
+  By = IsOfEnding s lengths words ended trapped spent not_ended arrays
 
   -- an ending has one answer, where those of a command's own way are one
   module _ (one_spent : (processor : ℕ) (a b : Answer) → spent processor a → spent processor b → a ≡ b)
@@ -75,7 +76,7 @@ module _ (ended : List NamedArray → Answer) (trapped : Trap → ℕ → Answer
 
   -- what steps propose has one
   some_of_finish : (processors : ℕ) (finish : Finish) → IsProposed processors finish → (a : Answer) × Of finish a
-  some_of_finish processors finishes.Ended p = (ended (arrays_from m 0 arrays), refl)
+  some_of_finish processors finishes.Ended p = (ended (arrays_from s lengths words 0 arrays), refl)
   some_of_finish processors (finishes.Trapped trap line) p = (trapped trap line, refl)
   some_of_finish processors (finishes.OutOfRoom place) p = (answers.OutOfRoom place, refl)
   some_of_finish processors (finishes.Broken place) p = (answers.Broken place, refl)

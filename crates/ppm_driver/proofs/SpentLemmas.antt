@@ -3,6 +3,7 @@ use Rattle.std.proofs.Common.{◌≡◌, ◌≢◌, ◌≤◌, ◌<◌, ◌⊎�
 use Rattle.std.specs.List.{AllByRecursion}
 use Rattle.std.proofs.lemmas.Bool.{leb-true, leb-false}
 use Rattle.std.proofs.lemmas.List.{length-append}
+use Rattle.ppm_words.specs.declared.named_array.NamedArray.{NamedArray}
 use Rattle.ppm_cells.specs.Finish.{finish_word, finish_of, IsFinish}
 use Rattle.ppm_cells.specs.declared.finish.Finish.TheVariants.{OutOfTurns}
 use Rattle.ppm_cells.proofs.ExactLemmas.{unpack-pack}
@@ -24,20 +25,19 @@ use Rattle.ppm_step.specs.Laws.{IsNoQuit, IsProposedWord, finish_at}
 use Rattle.ppm_step.specs.Standings.{Standing, IsDone}
 use Rattle.ppm_step.specs.State.{State, stand_of, quit_with, happens, after, along, opening, next_of, work_of}
 use Rattle.ppm_step.proofs.FinishLemmas.{finish_stays, finish_is_proposed, quit_is_told}
-use Rattle.ppm_core.specs.Situation.{Situation, loaded, run_on, finish_in}
+use Rattle.ppm_step.proofs.RoomLemmas.{room_has_cause}
+use Rattle.ppm_core.specs.Situation.{Situation, loaded}
 use Rattle.ppm_core.proofs.TurnLemmas.{work_is as work_counts}
 use Rattle.ppm_choice.specs.declared.limits.Limits.{Limits}
 use Rattle.ppm_choice.specs.Deeds.{AreOf}
-use Rattle.ppm_choice.specs.Obeying.{Past, nothing_done, is_work, is_step, is_work_deed, fault_of, faulted, behind}
+use Rattle.ppm_choice.specs.Obeying.{Past, ObeysIn, ObeyAll, nothing_done, is_work, is_step, is_work_deed, fault_of, faulted, behind}
 use Rattle.ppm_choice.proofs.AloneLemmas.{deed_of, past_first, ObeysFrom, first_obeys}
 use Rattle.ppm_choice.proofs.ParkLemmas.{awake_work}
-use Rattle.ppm_tree.specs.Tree.{ProgramTree}
-use Rattle.ppm_cut_code.specs.Routines.{code_of}
 use Rattle.ppm_driver.specs.declared.loading.Sizes.{Sizes}
-use Rattle.ppm_driver.specs.Alone.{ObeysTo}
-use Rattle.ppm_driver.specs.Loading.{Begins}
+use Rattle.ppm_driver.specs.Loading.{Opens}
+use Rattle.ppm_driver.specs.RunOf.{finish_behind, Finishes, Proposed, Spent}
+use Rattle.ppm_driver.proofs.AllLemmas.{of_all, own_work}
 use Rattle.ppm_driver.proofs.AloneLemmas.{work_is}
-use Rattle.ppm_driver.specs.Runs.{IsSpent}
 use Rattle.ppm_driver.proofs.SayLemmas.{unset_is, proposed_some}
 
 false_is_not_true : false ≡ true → ⊥
@@ -228,22 +228,18 @@ module _ (s : Shape) (code : CodeParts) (plan : Planned) (limits : Limits) (c : 
       go (inl none) = of_none (finish_is_proposed s code code_is words turns none)
       go (inr q) = of_quit q (finish_is_proposed s code code_is words q.first q.none)
 
--- so it is behind a run of a program's machine
-pub has_spent : (sizes : Sizes) (t : ProgramTree) (keeper : ℕ) (plan : Planned) (limits : Limits) (start end : Situation)
-    → Begins sizes t keeper start → IsCode start.code → ObeysTo plan limits nothing_done start end → finish_in end ≢ 0
-    → IsProposedWord sizes.processors (finish_in end) ⊎ IsSpent limits.turns end
-has_spent sizes t keeper plan limits start end b code_is obeys some =
-    go (run_is_spent b.shape (code_of t) plan limits 0 b.image.words o.turns is words b.shape.within.processors_least unset o.own o.obeys
-    (λ none. some (says ∙ none)))
+-- so it is behind a run from a machine that opens, of which it is the only processor
+pub has_spent : (sizes : Sizes) (code : CodeParts) (arrays : List NamedArray) (keeper : ℕ) (plan : Planned) (limits : Limits)
+    (start : Situation) (turns : List Turn) → Opens sizes code arrays keeper start → IsCode code → sizes.processors ≡ 1
+    → ObeyAll plan limits start.shape start.code start.state turns → finish_behind start turns ≢ 0
+    → Finishes limits start turns (finish_behind start turns)
+has_spent sizes code arrays keeper plan limits start turns b is one obey some =
+    subst (λ (m : Situation). Finishes limits m turns (finish_behind m turns)) (sym b.loads)
+    (go (run_is_spent b.shape code plan limits 0 b.image.words turns is words b.shape.within.processors_least unset alone.0 alone.1
+    (subst (λ (m : Situation). finish_behind m turns ≢ 0) b.loads some)))
   where
     first : Situation
-    first = loaded b.shape (code_of t) b.image.lengths b.image.words
-
-    o : ObeysTo plan limits nothing_done first end
-    o = subst (λ (m : Situation). ObeysTo plan limits nothing_done m end) b.loads obeys
-
-    is : IsCode (code_of t)
-    is = subst IsCode (ap (λ (m : Situation). m.code) b.loads) code_is
+    first = loaded b.shape code b.image.lengths b.image.words
 
     words : AreWordsOf b.shape b.image.words
     words = subst (λ (s : Shape). AreWordsOf s b.image.words) b.opens.shape_is b.image.sized.words_are
@@ -251,15 +247,13 @@ has_spent sizes t keeper plan limits start end b code_is obeys some =
     unset : read b.shape b.image.words FinishWord ≡ 0
     unset = b.opens.opened FinishWord tt ∙ unset_is
 
-    says : finish_in end ≡ finish_in (run_on first o.turns)
-    says = ap finish_in o.makes
+    all : ObeyAll plan limits b.shape code first.state turns
+    all = subst (λ (m : Situation). ObeyAll plan limits m.shape m.code m.state turns) b.loads obey
 
-    go : IsProposedWord b.shape.processors (finish_in (run_on first o.turns)) ⊎ IsSpentIn b.shape (code_of t) plan limits 0 b.image.words o.turns
-        → IsProposedWord sizes.processors (finish_in end) ⊎ IsSpent limits.turns end
-    go (inl proposed) =
-        inl (subst (λ (n : ℕ). IsProposedWord n (finish_in end)) b.sized.processors
-        (subst (IsProposedWord b.shape.processors) (sym says) proposed))
-    go (inr s) = inr (record {
-      work_is = omega (arith, ap (λ (m : Situation). m.work) o.makes, s.1);
-      stands = ap finish_of says ∙ s.0;
-    })
+    alone : AreOf 0 turns × ObeysIn plan limits 0 b.shape code first.state turns
+    alone = of_all plan limits b.shape code first.state turns (b.sized.processors ∙ one) all
+
+    go : IsProposedWord b.shape.processors (finish_behind first turns) ⊎ IsSpentIn b.shape code plan limits 0 b.image.words turns
+        → Finishes limits first turns (finish_behind first turns)
+    go (inl proposed) = Proposed proposed (λ place. room_has_cause b.shape code is b.image.words turns place unset)
+    go (inr s) = Spent 0 b.shape.within.processors_least s.0 (own_work b.shape code 0 first.state turns alone.0 ∙ s.1)

@@ -21,7 +21,7 @@ use Rattle.ppm_choice.specs.Obeying.{Past, behind, is_work, fault_of, next_act, 
 use Rattle.ppm_choice.specs.Paces.{IsPace, AreClear}
 use Rattle.ppm_choice.proofs.ParkLemmas.{keeper_awake}
 use Rattle.ppm_choice.proofs.StepsLemmas.{next_is_step}
-use Rattle.ppm_driver.specs.Alone.{ObeysTo}
+use Rattle.ppm_driver.specs.Obedience.{ObeysTo}
 use Rattle.ppm_driver.specs.Going.{HasDrawn, Leads}
 use Rattle.ppm_driver.proofs.AloneLemmas.{goes_on}
 

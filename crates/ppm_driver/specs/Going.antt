@@ -12,7 +12,7 @@ use Rattle.ppm_choice.specs.declared.limits.Limits.{Limits}
 use Rattle.ppm_choice.specs.declared.pace.Pace.{Pace}
 use Rattle.ppm_choice.specs.Obeying.{Past, nothing_done, next_act, behind, Rests}
 use Rattle.ppm_choice.specs.Paces.{IsPace}
-use Rattle.ppm_driver.specs.Alone.{ObeysTo}
+use Rattle.ppm_driver.specs.Obedience.{ObeysTo}
 
 -- whether no step is to come
 abbrev pub is_over : Next → Bool

@@ -5,10 +5,13 @@ pub mod Says
 pub mod Laws
 pub mod Loading
 pub mod Planned
-pub mod Replays
-pub mod ReplayRows
-pub mod Alone
+pub mod Programs
+pub mod MachineRows
+pub mod Obedience
 pub mod Going
+pub mod Watchers
+pub mod RunOf
 pub mod Runs
 pub mod RunRows
-pub mod Watchers
+pub mod Replays
+pub mod ReplayRows

@@ -9,7 +9,7 @@ use Rattle.ppm_plan.specs.Refusals.{IsAccepted, IsRefused, number_of}
 use Rattle.ppm_answers.specs.declared.refusal.Refusal.{Refusal}
 use Rattle.ppm_answers.specs.declared.answer.Answer.{Answer}
 use Rattle.ppm_answers.specs.declared.answer.Answer.TheVariants as answers
-use Rattle.ppm_answers.specs.Reading.{IsUnread, ReadingMay, ReadHas, AreOne, FrontsDecide}
+use Rattle.ppm_answers.specs.Reading.{IsUnread, ReadingMay, ReadHas}
 use Rattle.ppm_answers.specs.Rows.{HasOrRefused}
 use Rattle.ppm_program.specs.Refusals.{IsRefusal}
 
@@ -40,22 +40,15 @@ module _ {A : Type 0} (form : Form A) (plan : List ℕ) (processors : ℕ) (Has 
   abbrev pub IsUnreadIfRefused : Port → Type 0
   IsUnreadIfRefused source = (number : ℕ) → IsRefusedBy form plan processors number → IsUnread source
 
-  -- The answers of a command that reads up to a limit and judges what it has read by the plan: that the plan is refused, and nothing was
-  -- read; want of memory; a read fault, where the plan may be obeyed; and the answer of the text that was read, by the plan's items.
+  -- The answers of a command that reads its plan first, and then up to a limit, and judges what it has read by the plan: that the plan is
+  -- refused, and nothing was read; want of memory; a read fault, where the plan may be obeyed; and the answer of the text that was read, by
+  -- the plan's items.
   abbrev pub PlannedMay : (limit : ℕ) → Port → Answer → Type 0
   PlannedMay limit source (answers.PlanRefused number) = IsRefusedBy form plan processors number × IsUnread source
   PlannedMay limit source answers.NoMemory = ReadingMay limit source answers.NoMemory × IsUnreadIfRefused source
   PlannedMay limit source answers.ReadFault = ReadingMay limit source answers.ReadFault × SomeAccepted form plan processors
   PlannedMay limit source answer = ReadHas limit HasByItems source answer
 
-  -- with such a plan what stands behind more bytes than a text may have changes no answer
-  abbrev pub HasFronts : ℕ → Type 0
-  HasFronts limit = FrontsDecide limit PlannedHas
-
-  -- two answers of a text are one
-  abbrev pub HasOneAnswer : Type 0
-  HasOneAnswer = AreOne PlannedHas
-
-  -- and a text that is not refused has one
+  -- a text that is not refused has an answer
   abbrev pub HasSomeAnswer : Type 0
   HasSomeAnswer = (text : List ℕ) → ((r : Refusal) → ¬ IsRefusal text r) → (a : Answer) × PlannedHas text a

@@ -2,38 +2,43 @@
 use Rattle.std.specs.Prelude.{◌≡◌, ◌≢◌, ℕ, List, Some}
 use Rattle.ppm_ports.specs.Ports.{Port}
 use Rattle.ppm_text.specs.Limits.{text_limit}
-use Rattle.ppm_cells.specs.Finish.{finish_of}
-use Rattle.ppm_cells.specs.declared.finish.Finish.TheVariants as finishes
-use Rattle.ppm_core.specs.Situation.{Situation, finish_in, ending_of}
+use Rattle.ppm_core.specs.Situation.{Situation, finish_in}
 use Rattle.ppm_plan.specs.declared.schedule_item.ScheduleItem.{ScheduleItem}
 use Rattle.ppm_plan.specs.Forms.{schedule_form}
 use Rattle.ppm_plan.specs.Refusals.{IsKeeper}
-use Rattle.ppm_step.specs.Laws.{IsProposedWord, IsFilled}
+use Rattle.ppm_step.specs.Laws.{IsProposedWord}
 use Rattle.ppm_tree.specs.Tree.{ProgramTree}
 use Rattle.ppm_tree.specs.Program.{initial_arrays}
+use Rattle.ppm_cut_code.specs.Routines.{code_of}
 use Rattle.ppm_words.specs.declared.named_array.NamedArray.{NamedArray}
-use Rattle.ppm_program.specs.Programs.{HasProgram}
-use Rattle.ppm_program.specs.Refusals.{IsRefusal}
 use Rattle.ppm_answers.specs.declared.answer.Answer.{Answer}
 use Rattle.ppm_answers.specs.declared.answer.Answer.TheVariants as answers
+use Rattle.ppm_answers.specs.declared.tally.Tally.{Tally}
+use Rattle.ppm_answers.specs.Reading.{AreOne, FrontsDecide}
 use Rattle.ppm_cli.specs.declared.replay.ReplayOptions.{ReplayOptions}
 use Rattle.ppm_cli.specs.Words.{AreReplayed}
 use Rattle.ppm_driver.specs.declared.loading.Sizes.{Sizes}
-use Rattle.ppm_driver.specs.Loading.{Begins, takeover_of}
-use Rattle.ppm_driver.specs.Planned.{PlannedHas, PlannedMay, HasFronts, HasOneAnswer, HasSomeAnswer}
-use Rattle.ppm_driver.specs.Says.{tally_of, IsOfEnding}
+use Rattle.ppm_driver.specs.Loading.{Opens}
+use Rattle.ppm_driver.specs.Planned.{PlannedHas, PlannedMay, HasSomeAnswer}
+use Rattle.ppm_driver.specs.Programs as programs
+use Rattle.ppm_driver.specs.RunOf.{FilledIfSaid}
+use Rattle.ppm_driver.specs.Says.{IsOfWords}
 use Rattle.ppm_driver.specs.Schedules.{schedule_turns, followed}
 
 -- the machine's sizes, as the options say them
 abbrev pub sizes_of : ReplayOptions → Sizes
-sizes_of o = record { processors = o.processors; room = o.room; slots = o.slots; takeover = takeover_of o.takeover }
+sizes_of o = record { processors = o.processors; room = o.room; slots = o.slots; takeover = o.takeover }
+
+-- how many forks and takes a run had
+abbrev pub tally_of : Situation → Tally
+tally_of m = record { forks = m.forks; takes = m.takes }
 
 -- the answer that a machine's words say after a replay of at most so many acts, from these arrays: with the counts of forks and takes, or
 -- that it has not ended; no schedule lets a processor make all its turns
 abbrev pub IsSaid : (turns : ℕ) → Situation → List NamedArray → Answer → Type 0
 IsSaid turns m arrays answer =
-    IsOfEnding (λ values. answers.EndedWith values (tally_of m)) (λ trap line. answers.TrappedWith trap line (tally_of m))
-    (λ processor a. ⊥) (λ a. a ≡ answers.Unfinished turns) m arrays (ending_of (finish_in m)) answer
+    IsOfWords m.shape m.array_lengths m.state.words (λ values. answers.EndedWith values (tally_of m))
+    (λ trap line. answers.TrappedWith trap line (tally_of m)) (λ processor a. ⊥) (λ a. a ≡ answers.Unfinished turns) arrays answer
 
 -- the answer of a program by the items of a schedule: what the machine's words say behind the run that these say, from the machine with
 -- which a run of the program begins, with the schedule's keeper; a finish word behind it that isn't 0 stands for what steps propose, and
@@ -42,18 +47,17 @@ pub record ProgramHas (options : ReplayOptions) (items : List ScheduleItem) (t :
   pub keeper : ℕ
   pub spared : IsKeeper schedule_form items keeper
   pub start : Situation
-  pub begins : Begins (sizes_of options) t keeper start
+  pub opens : Opens (sizes_of options) (code_of t) (initial_arrays t) keeper start
   pub proposed : finish_in (followed start items options.turns) ≢ 0
       → IsProposedWord options.processors (finish_in (followed start items options.turns))
   pub exact : finish_in (followed start items options.turns) ≡ 0 → (followed start items options.turns).turns ≡ options.turns
-  pub filled : (place : ℕ) → finish_of (finish_in (followed start items options.turns)) ≡ Some (finishes.OutOfRoom place)
-      → IsFilled start.shape start.code place start.state.words (schedule_turns start.shape start.code start.state items options.turns)
+  pub filled : FilledIfSaid start (schedule_turns start.shape start.code start.state items options.turns)
+      (finish_in (followed start items options.turns))
   pub says : IsSaid options.turns (followed start items options.turns) (initial_arrays t) answer
 
 -- that of a text: its program's, or its refusal
 abbrev pub TextHas : ReplayOptions → List ScheduleItem → List ℕ → Answer → Type 0
-TextHas options items text (answers.SourceRefused r) = IsRefusal text r
-TextHas options items text answer = (t : ProgramTree) × HasProgram text t × ProgramHas options items t answer
+TextHas options items text answer = programs.TextHas (ProgramHas options items) text answer
 
 -- the answer of a text with such options and such a schedule: that the schedule is refused, or that by its items
 abbrev pub ReplayHas : ReplayOptions → (schedule : List ℕ) → List ℕ → Answer → Type 0
@@ -64,11 +68,10 @@ abbrev pub ReplayMay : ReplayOptions → (schedule : List ℕ) → Port → Answ
 ReplayMay options schedule source answer =
     PlannedMay schedule_form schedule options.processors (TextHas options) text_limit source answer
 
--- With all options and all schedules two answers of a text are one, and what stands behind the limit changes none; with options in their
--- ranges a text that is not refused has one.
+-- With all options and all schedules two answers of a text are one, and what stands behind more bytes than a text may have changes none;
+-- with options in their ranges a text that is not refused has one.
 pub record HaveOneAnswer : Type 0 where
-  pub one : (options : ReplayOptions) (schedule : List ℕ) → HasOneAnswer schedule_form schedule options.processors (TextHas options)
-  pub front : (options : ReplayOptions) (schedule : List ℕ)
-      → HasFronts schedule_form schedule options.processors (TextHas options) text_limit
+  pub one : (options : ReplayOptions) (schedule : List ℕ) → AreOne (ReplayHas options schedule)
+  pub front : (options : ReplayOptions) (schedule : List ℕ) → FrontsDecide text_limit (ReplayHas options schedule)
   pub some : (options : ReplayOptions) (schedule : List ℕ) → AreReplayed options
       → HasSomeAnswer schedule_form schedule options.processors (TextHas options)

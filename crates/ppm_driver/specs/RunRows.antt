@@ -1,29 +1,34 @@
 -- What follows from each status of `run`.
-use Rattle.std.specs.Prelude.{◌≡◌, ◌⊎◌, ℕ, List, [], ◌∷◌, Some}
+use Rattle.std.specs.Prelude.{◌≡◌, ℕ, ◌<◌, List}
 use Rattle.ppm_words.specs.declared.named_array.NamedArray.{NamedArray}
 use Rattle.ppm_words.specs.declared.trap.Trap.{Trap}
 use Rattle.ppm_ports.specs.Ports.{Gets}
 use Rattle.ppm_ports.specs.Outside.{Outside, ports_of}
 use Rattle.ppm_text.specs.Limits.{text_limit}
 use Rattle.ppm_plan.specs.Forms.{plan_form}
-use Rattle.ppm_answers.specs.declared.refusal.Refusal.{Refusal}
+use Rattle.ppm_plan.specs.declared.plan_item.PlanItem.{PlanItem}
 use Rattle.ppm_answers.specs.declared.answer.Answer.{Answer}
 use Rattle.ppm_answers.specs.declared.answer.Answer.TheVariants as answers
 use Rattle.ppm_answers.specs.declared.status.Status.{Status}
 use Rattle.ppm_answers.specs.declared.status.Status.TheVariants as statuses
-use Rattle.ppm_answers.specs.Texts.{arrays_text, trap_text, refusal_text, turns_text, room_text, broken_text, plan_text}
-use Rattle.ppm_answers.specs.Delivery.{IsWritten}
-use Rattle.ppm_answers.specs.Reading.{IsUnread, ReadHas}
-use Rattle.ppm_answers.specs.Rows.{IsOneOf, GoesWell}
+use Rattle.ppm_answers.specs.Texts.{arrays_text, trap_text, turns_text, room_text}
+use Rattle.ppm_answers.specs.Reading.{IsUnread}
+use Rattle.ppm_answers.specs.Rows.{PortsSay, PlannedRows, IsShown}
 use Rattle.ppm_cli.specs.declared.run.RunOptions.{RunOptions}
-use Rattle.ppm_step.specs.Standings.{unknown_place}
-use Rattle.ppm_driver.specs.Planned.{IsRefusedBy}
-use Rattle.ppm_driver.specs.Runs.{RunHas}
+use Rattle.ppm_step.specs.Laws.{IsFilled}
+use Rattle.ppm_driver.specs.MachineRows as machine
+use Rattle.ppm_driver.specs.Obedience.{work_made}
+use Rattle.ppm_driver.specs.Planned.{IsRefusedBy, HasByItems}
+use Rattle.ppm_driver.specs.Runs.{RunHas, TextHas}
 
 module _ (options : RunOptions) (plan : List ℕ) (o : Outside) where
+  -- the answers of texts by items of a plan, with what the watchers were told
+  abbrev pub Has : List PlanItem → List ℕ → Answer → Type 0
+  Has items text answer = TextHas options o.told_before o.told_now items text answer
+
   -- the text that was read has this answer, with these options and this plan
   abbrev pub HasRead : Answer → Type 0
-  HasRead answer = ReadHas text_limit (RunHas options plan) o.source answer
+  HasRead answer = machine.HasRead plan_form plan options.processors Has (ports_of o) answer
 
   -- the run ends with arrays, and out got exactly their text
   abbrev pub WritesArrays : Type 0
@@ -33,50 +38,47 @@ module _ (options : RunOptions) (plan : List ℕ) (o : Outside) where
   abbrev pub WritesTrap : Type 0
   WritesTrap = (t : Trap) × (line : ℕ) × HasRead (answers.Trapped t line) × Gets o.out (trap_text t line)
 
-  -- the text that was read is refused, and err got exactly the refusal's text
-  abbrev pub WritesRefusal : Type 0
-  WritesRefusal = (r : Refusal) × HasRead (answers.SourceRefused r) × Gets o.err (refusal_text r)
+  -- a processor has made exactly as many work turns as it may make, in the run of the text that was read
+  abbrev pub IsSpent : (processor : ℕ) → HasRead (answers.OutOfTurns processor) → Type 0
+  IsSpent processor read =
+      let p = read.2.has.2 in
+      (processor < options.processors)
+      × (work_made p.start.shape p.start.code processor p.start.state p.run.turns ≡ options.turns)
 
-  -- how many work turns the one processor has made, where that is why the run of the text that was read ended
-  abbrev pub work_made : HasRead (answers.OutOfTurns 0) → ℕ
-  work_made read = read.2.has.2.end.work
+  -- so it is, and err got exactly the line that says so
+  pub record WritesOutOfTurns : Type 0 where
+    pub processor : ℕ
+    pub read : HasRead (answers.OutOfTurns processor)
+    pub spent : IsSpent processor read
+    pub gets : Gets o.err (turns_text processor)
 
-  -- processor 0 has made all its work turns, and err got exactly the line that says so
-  abbrev pub WritesOutOfTurns : Type 0
-  WritesOutOfTurns = (read : HasRead (answers.OutOfTurns 0)) × (work_made read ≡ options.turns) × Gets o.err (turns_text 0)
+  -- a turn of that run found the pool of a place full
+  abbrev pub IsFull : (place : ℕ) → HasRead (answers.OutOfRoom place) → Type 0
+  IsFull place read =
+      let p = read.2.has.2 in
+      (place < options.processors) × IsFilled p.start.shape p.start.code place p.start.state.words p.run.turns
 
-  -- the pool of place 0 is full, and err got exactly the line that says so
-  abbrev pub WritesOutOfRoom : Type 0
-  WritesOutOfRoom = HasRead (answers.OutOfRoom 0) × Gets o.err (room_text 0)
+  -- so it is, and err got exactly the line that says so
+  pub record WritesOutOfRoom : Type 0 where
+    pub place : ℕ
+    pub read : HasRead (answers.OutOfRoom place)
+    pub full : IsFull place read
+    pub gets : Gets o.err (room_text place)
 
-  -- the words are broken at place 0 or at one that isn't known, and err got exactly the line that says so
-  abbrev pub WritesBroken : Type 0
-  WritesBroken = (place : ℕ) × ((place ≡ 0) ⊎ (place ≡ unknown_place)) × HasRead (answers.Broken place) × Gets o.err (broken_text place)
+  -- what each status says
+  abbrev pub RunSays : Status → Type 0
+  RunSays statuses.Ended = WritesArrays
+  RunSays statuses.Trapped = WritesTrap
+  RunSays statuses.SourceRefused = machine.WritesRefusal plan_form plan options.processors Has (ports_of o)
+  RunSays statuses.WordsRefused = machine.RefusesPlan plan_form plan options.processors (ports_of o) × IsUnread o.source
+  RunSays statuses.OutOfTurns = WritesOutOfTurns
+  RunSays statuses.OutOfRoom = WritesOutOfRoom
+  RunSays statuses.Broken = machine.WritesBroken plan_form plan options.processors Has (ports_of o)
+  RunSays status = PortsSay (ports_of o) status
 
-  -- the plan is refused by a number, nothing was read, and err got exactly the line with the number
-  pub record RefusesPlan : Type 0 where
-    pub number : ℕ
-    pub refused : IsRefusedBy plan_form plan options.processors number
-    pub unread : IsUnread o.source
-    pub gets : Gets o.err (plan_text number)
-
--- The rows of `run` with such options and such a plan. Status 0, 1, 2, 4, 5 and 13 come only where the text that was read has such an
--- answer, and 3 only where the plan is refused; and its text is written. Where all goes well, one of these comes; and of a source whose
--- bytes are known, the answer that they have is written, with its status, and what is written is an answer that they have. Where the plan
--- is refused, nothing is read, and the status is 3, or 8 or 9.
-pub record RunRows (options : RunOptions) (plan : List ℕ) (o : Outside) (status : Status) : Type 0 where
-  pub ended : status ≡ statuses.Ended → WritesArrays options plan o
-  pub trapped : status ≡ statuses.Trapped → WritesTrap options plan o
-  pub refused : status ≡ statuses.SourceRefused → WritesRefusal options plan o
-  pub plan_refused : status ≡ statuses.WordsRefused → RefusesPlan options plan o
-  pub out_of_turns : status ≡ statuses.OutOfTurns → WritesOutOfTurns options plan o
-  pub out_of_room : status ≡ statuses.OutOfRoom → WritesOutOfRoom options plan o
-  pub broken : status ≡ statuses.Broken → WritesBroken options plan o
-  pub judged : GoesWell (ports_of o) status → IsOneOf status (statuses.Ended ∷ statuses.Trapped ∷ statuses.SourceRefused ∷ statuses.WordsRefused
-      ∷ statuses.OutOfTurns ∷ statuses.OutOfRoom ∷ statuses.Broken ∷ [])
-  pub shown : (all : List ℕ) → o.source.before ≡ Some all → GoesWell (ports_of o) status → (answer : Answer)
-      → RunHas options plan all answer → IsWritten o.out o.err answer status
-  pub known : (all : List ℕ) → o.source.before ≡ Some all → GoesWell (ports_of o) status
-      → (answer : Answer) × RunHas options plan all answer × IsWritten o.out o.err answer status
-  pub refuses : (number : ℕ) → IsRefusedBy plan_form plan options.processors number →
-      IsUnread o.source × IsOneOf status (statuses.WordsRefused ∷ statuses.WriteFault ∷ statuses.NoMemory ∷ [])
+  -- The rows of `run` with such options and such a plan. Where there is one processor, the answer that a text has is written, whichever it
+  -- is and whatever watchers were told.
+  pub record RunRows (status : Status) : Type 0 where
+    pub rows : PlannedRows (IsRefusedBy plan_form plan options.processors) (HasByItems plan_form plan options.processors Has) text_limit RunSays
+        (ports_of o) status
+    pub shown : options.processors ≡ 1 → IsShown (RunHas options plan) (ports_of o) status

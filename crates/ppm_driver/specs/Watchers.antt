@@ -1,6 +1,25 @@
--- How many watchers a run has.
-use Rattle.std.specs.Prelude.{ℕ}
+-- What the watchers of a run are told.
+use Rattle.std.specs.Prelude.{ℕ, ◌<◌, ◌≤◌, List, None, get_or}
+use Rattle.ppm_words.specs.Limits.{processor_limit}
+use Rattle.ppm_ports.specs.Outside.{ToldLists}
+use Rattle.ppm_ports.specs.Told.{AppendsList, KeepsList}
+use Rattle.ppm_core.specs.Situation.{Situation}
+use Rattle.ppm_step.specs.declared.turn.Turn.{Turn}
+use Rattle.ppm_plan.specs.Schedules.{Planned}
+use Rattle.ppm_choice.specs.declared.limits.Limits.{Limits}
+use Rattle.ppm_choice.specs.Tells.{told_in}
 
--- one for each processor that a run may have
+-- how many watchers a run has: one for each processor that it may have
 abbrev pub watcher_count : ℕ
-watcher_count = 64
+watcher_count = processor_limit
+
+-- how many of them are told what their processor does: none yet
+abbrev pub watched : ℕ
+watched = 0
+
+-- the first watchers, as many as are watching, were told what is told of their processors in these turns, and the others nothing
+pub record AreTold (watching : ℕ) (plan : Planned) (limits : Limits) (before now : ToldLists) (start : Situation) (turns : List Turn)
+    : Type 0 where
+  pub records : (c : ℕ) → c < watching
+      → AppendsList (get_or before c None) (get_or now c None) (told_in plan limits c start.shape start.code start.state turns)
+  pub others : (c : ℕ) → watching ≤ c → KeepsList (get_or before c None) (get_or now c None)

@@ -9,7 +9,7 @@ ghost use Rattle.ppm_core.specs.Machine.{seen};
 ghost use Rattle.ppm_core.specs.Situation.{Situation};
 ghost use Rattle.ppm_choice.specs.Obeying.{Past, nothing_done};
 ghost use Rattle.ppm_choice.specs.Paces.{IsPace};
-ghost use Rattle.ppm_driver.specs.Alone.{ObeysTo};
+ghost use Rattle.ppm_driver.specs.Obedience.{ObeysTo, RunsTo};
 ghost use Rattle.ppm_driver.specs.Going.{HasDrawn, IsNext, IsSomewhere, Leads, LeadsBy, is_over as over};
 
 use ppm_choice::{Choice, Limits, Pace, choose, clear_steps};
@@ -97,8 +97,20 @@ fn go_ahead(machine: &mut Machine, pace: &mut Pace, plan: &Plan, limits: Limits)
     true
 }
 
-/// Lets processor 0, the keeper, obey a plan and limits until it is done. No other processor acts. It may never return.
+/// Lets processor 0, the keeper, obey a plan and limits until it is done. No other processor acts: so where it is the only one, each
+/// obeys. It may never return.
 pub fn obey<R: Wait>(rt: &R, machine: &mut Machine, plan: &Plan, limits: Limits)
+    requires keeper { IsKeeper plan_form plan.now.items 0 }
+    requires processors { plan.now.processors ≡ (seen machine.old).shape.processors }
+    requires begins { stand_of (seen machine.old).state 0 ≡ IsLost }
+    ensures alone { ObeysTo plan.now limits nothing_done (seen machine.old) (seen machine.new) }
+    ensures all { (seen machine.old).shape.processors ≡ 1 → RunsTo plan.now limits (seen machine.old) (seen machine.new) }
+{
+    act_alone(rt, machine, plan, limits);
+}
+
+/// Lets processor 0 act until its acts stop.
+fn act_alone<R: Wait>(rt: &R, machine: &mut Machine, plan: &Plan, limits: Limits)
     requires keeper { IsKeeper plan_form plan.now.items 0 }
     requires processors { plan.now.processors ≡ (seen machine.old).shape.processors }
     requires begins { stand_of (seen machine.old).state 0 ≡ IsLost }

@@ -1,7 +1,8 @@
 //! Commands that run a machine: `replay` follows a schedule, `run` lets one processor obey a plan of faults and limits.
 //! Model: what a schedule says is a list of acts that are due (`specs/Schedules`, `specs/Course`); obedience is that of `ppm_choice`.
-//! Contract: `follow` and `obey` make of a machine exactly what those turns make of it (`specs/Alone`); `replay_command` delivers the one
-//! answer of a text (`specs/Replays`), `run_command`, if it returns, one that it has (`specs/Runs`).
+//! Contract: `follow` and `obey` make of a machine exactly what those turns make of it (`specs/Obedience`); `replay_command` delivers the
+//! one answer of a text (`specs/Replays`); `run_command`, if it returns, one that it has: that of a run in which each processor obeys
+//! (`specs/RunOf`, `specs/Runs`). What follows from each status: `specs/PlannedRows`.
 //! Stands on `ppm_core`, `ppm_choice`, `ppm_plan`, `ppm_program`, `ppm_cut` and `ppm_answers`; `ppm_top` calls it.
 //! The schedules and limits and their rules are this project's.
 #![tactic(auto)]
@@ -14,8 +15,9 @@ mod loading;
 mod one_replay;
 mod one_run;
 mod planned;
-mod replaying;
-mod running;
+mod programs;
+mod replay;
+mod run;
 mod saying;
 
 pub use alone::obey;
@@ -24,6 +26,5 @@ pub use laws::{schedules_go_on, schedules_keep_order, schedules_skip_done, unfin
 pub use loading::{Sizes, load};
 pub use one_replay::have_one_answer;
 pub use one_run::answers_are_one;
-pub use replaying::replay_command;
-pub use running::{WATCHERS, run_command};
-pub use saying::answer_of;
+pub use replay::replay_command;
+pub use run::{WATCHERS, run_command};

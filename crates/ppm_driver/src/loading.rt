@@ -2,13 +2,14 @@
 ghost use Rattle.std.specs.Prelude.{◌≡◌, ◌<◌, ◌≤◌, IfOk};
 ghost use Rattle.ppm_words.specs.Limits.{word_limit};
 ghost use Rattle.ppm_tree.specs.Tree.{tree_of};
+ghost use Rattle.ppm_tree.specs.Program.{initial_arrays};
 ghost use Rattle.ppm_cut_bounds.specs.Bounds.{IsWithinBounds};
+ghost use Rattle.ppm_cut_code.specs.Routines.{code_of};
 ghost use Rattle.ppm_core.specs.Machine.{seen};
-ghost use Rattle.ppm_driver.specs.Loading.{AreSizes, Begins, HasShape, takeover_of as takeover_in};
+ghost use Rattle.ppm_driver.specs.Loading.{AreSizes, HasShape, Opens};
 
 use crate::arrays::count_of;
 use ppm_cells::{Shape, Takeover};
-use ppm_cli::TakeoverName;
 use ppm_core::Machine;
 use ppm_cut::cut;
 use ppm_cut_correct::{name_arrays, start_with_input};
@@ -28,16 +29,6 @@ pub struct Sizes {
     pub slots: u32,
     /// How the strand and the jobs of a dead processor are taken over.
     pub takeover: Takeover,
-}
-
-/// What the words name that may be taken over.
-pub(crate) fn takeover_of(name: TakeoverName) -> Takeover
-    ensures { result ≡ takeover_in name }
-{
-    match name {
-        TakeoverName::Place => Takeover::ByPlaces,
-        TakeoverName::Entry => Takeover::ByEntries,
-    }
 }
 
 /// The shape with these sizes, and with so many array words, 4,194,304 at most.
@@ -66,7 +57,8 @@ pub fn load(
     requires sizes { AreSizes sizes }
     requires keeper { keeper < sizes.processors }
     requires bounded { IsWithinBounds (tree_of program.now) }
-    ensures { IfOk result (λ machine. Begins sizes (tree_of program.now) keeper (seen machine)) }
+    ensures { IfOk result (λ machine. Opens sizes (code_of (tree_of program.now)) (initial_arrays (tree_of program.now)) keeper
+        (seen machine)) }
 {
     // The root of a program's code names arrays of what the program starts with; the calls do nothing.
     start_with_input();

@@ -1,29 +1,54 @@
-//! What is said of a machine after a run.
+//! What is answered behind a run, by the finish word of the machine: these arrays with its values, its trap, or why there are none.
+//! `Err` comes only where memory is refused.
 ghost use Rattle.std.specs.Prelude.{◌≡◌, IfOk, length, map};
 ghost use Rattle.ppm_core.specs.Machine.{seen};
 ghost use Rattle.ppm_driver.specs.Says.{IsTheOne};
-ghost use Rattle.ppm_driver.specs.Replays.{IsSaid};
+ghost use Rattle.ppm_driver.specs.Replays.{IsSaid as IsSaidOfReplay};
+ghost use Rattle.ppm_driver.specs.Runs.{IsSaid as IsSaidOfRun};
 
 use crate::arrays::arrays_of;
 use ppm_answers::{Answer, Tally};
 use ppm_cells::Finish;
 use ppm_core::{Ending, Machine};
-use ppm_words::{NamedArray, NoMemory};
+use ppm_words::{NamedArray, NoMemory, PROCESSOR_LIMIT};
 use std::alloc::Global;
 
 /// The place that isn't known.
-const UNKNOWN_PLACE: u32 = 64;
+const UNKNOWN_PLACE: u32 = PROCESSOR_LIMIT;
 
-/// What is said of a machine after a run of at most so many acts, by its finish word: these arrays with its values, its trap, or why there are none.
-/// `Err` only where memory is refused.
-pub fn answer_of(
+/// What is answered behind a run in which processors obey.
+pub(crate) fn run_answer(
+    alloc: Global,
+    machine: &Machine,
+    arrays: &[NamedArray],
+) -> Result<Answer, NoMemory>
+    requires lengths { (seen machine.now).array_lengths ≡ map (λ a. length a.values) arrays.now }
+    ensures { IfOk result (IsTheOne (IsSaidOfRun (seen machine.now).shape (seen machine.now).array_lengths arrays.now
+        (seen machine.now).state.words)) }
+{
+    match machine.outcome() {
+        Ending::With(finish) => match finish {
+            Finish::Ended => Ok(Answer::Ended(arrays_of(alloc, machine, arrays)?)),
+            Finish::Trapped { trap, line } => Ok(Answer::Trapped(trap, line)),
+            Finish::OutOfRoom { place } => Ok(Answer::OutOfRoom(place)),
+            Finish::OutOfTurns { processor } => Ok(Answer::OutOfTurns(processor)),
+            Finish::Broken { place } => Ok(Answer::Broken(place)),
+            // Of no run, as what follows.
+            Finish::Stopped | Finish::Unset => Ok(Answer::Broken(UNKNOWN_PLACE)),
+        },
+        Ending::NotYet | Ending::Unknown => Ok(Answer::Broken(UNKNOWN_PLACE)),
+    }
+}
+
+/// What is answered behind a replay of at most so many acts.
+pub(crate) fn replay_answer(
     alloc: Global,
     machine: &Machine,
     arrays: &[NamedArray],
     turns: u64,
 ) -> Result<Answer, NoMemory>
     requires lengths { (seen machine.now).array_lengths ≡ map (λ a. length a.values) arrays.now }
-    ensures { IfOk result (IsTheOne (IsSaid turns (seen machine.now) arrays.now)) }
+    ensures { IfOk result (IsTheOne (IsSaidOfReplay turns (seen machine.now) arrays.now)) }
 {
     let tally = Tally {
         forks: machine.forks(),

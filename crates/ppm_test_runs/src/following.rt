@@ -1,19 +1,17 @@
 //! Schedules that a machine of two processors follows, and plans that one processor obeys, with a code that ends at once.
 ghost use Rattle.std.specs.Prelude.{◌≡◌, IfOk, []};
 
-use ppm_answers::{Answer, Tally};
 use ppm_cells::{Finish, Shape};
-use ppm_choice::{Idle, Limits};
+use ppm_choice::Limits;
 use ppm_code::{Capsule, Code, CodeParts, End, Instr, Procedure};
 use ppm_core::{Ending, Machine};
 use ppm_driver::{
-    answer_of, follow, obey, schedules_go_on, schedules_keep_order, schedules_skip_done,
-    unfinished_is_exact,
+    follow, obey, schedules_go_on, schedules_keep_order, schedules_skip_done, unfinished_is_exact,
 };
 use ppm_layout::image;
 use ppm_plan::{read_plan, read_schedule};
 use ppm_step::{done_has_cause, finish_stays, records_lead, room_has_cause, turns_have_cause};
-use ppm_words::{Input, Items};
+use ppm_words::{Idle, Input, Items};
 use std::alloc::Global;
 use std::process::Abort;
 use std::sync::Wait;
@@ -35,8 +33,8 @@ fn small_code(alloc: Global) -> Result<Code, Fail>
     }))
 }
 
-/// What is said after the run of a schedule of at most so many acts.
-fn said_of(alloc: Global, schedule: &str, acts: u32) -> Result<Answer, Fail> {
+/// The machine behind the run of a schedule of at most so many acts.
+fn followed(alloc: Global, schedule: &str, acts: u32) -> Result<Machine, Fail> {
     let turns = u64::from(acts);
     let Ok(schedule) = read_schedule(alloc, schedule.as_bytes(), 2) else {
         return Err(Fail::from("a schedule"));
@@ -53,29 +51,16 @@ fn said_of(alloc: Global, schedule: &str, acts: u32) -> Result<Answer, Fail> {
         return Err(Fail::from("memory"));
     };
     follow(&mut machine, &schedule, turns);
-    let Ok(answer) = answer_of(alloc, &machine, &[], turns) else {
-        return Err(Fail::from("memory"));
-    };
-    Ok(answer)
+    Ok(machine)
 }
 
 /// Fails unless the run ends within so many acts, and not within fewer.
 fn ends_within(rt: &impl Abort, alloc: Global, schedule: &str, acts: u32) -> Result<(), Fail> {
-    let last = said_of(alloc, schedule, acts)?;
-    let ended = matches!(
-        &last,
-        Answer::EndedWith(
-            _,
-            Tally {
-                forks: 0,
-                takes: 0,
-            },
-        )
-    );
-    assert!(rt; ended, "{schedule}");
-    let fewer = said_of(alloc, schedule, acts.saturating_sub(1))?;
-    let unfinished = matches!(&fewer, Answer::Unfinished(_));
-    assert!(rt; unfinished, "{schedule}");
+    let last = followed(alloc, schedule, acts)?;
+    assert_eq!(rt; last.outcome(), Ending::With(Finish::Ended), "{schedule}");
+    assert_eq!(rt; (last.forks(), last.takes()), (0, 0), "{schedule}");
+    let fewer = followed(alloc, schedule, acts.saturating_sub(1))?;
+    assert_eq!(rt; fewer.outcome(), Ending::NotYet, "{schedule}");
     Ok(())
 }
 

@@ -3,7 +3,8 @@ ghost use Rattle.std.specs.Prelude.{IsTrue};
 ghost use Rattle.ppm_cli.specs.Words.{AreReplayed};
 
 use ppm_answers::Status;
-use ppm_cli::{ReplayOptions, TakeoverName};
+use ppm_cells::Takeover;
+use ppm_cli::ReplayOptions;
 use ppm_driver::replay_command;
 use ppm_ports::{MemorySink, MemorySource};
 use std::alloc::Global;
@@ -39,7 +40,7 @@ const TWO: ReplayOptions = ReplayOptions {
     turns: 100_000,
     room: 256,
     slots: 8,
-    takeover: TakeoverName::Place,
+    takeover: Takeover::ByPlaces,
 };
 
 /// Whether a machine may have these sizes.
@@ -164,7 +165,7 @@ fn sum_is_swept(
         most: ROUNDS,
         fault,
     };
-    for takeover in [TakeoverName::Place, TakeoverName::Entry] {
+    for takeover in [Takeover::ByPlaces, Takeover::ByEntries] {
         for slots in [2, 4, 4096] {
             let options = ReplayOptions {
                 processors,
@@ -210,7 +211,7 @@ fn a_sum_is_the_same_where_processors_die(rt: HostRuntime) -> Result<(), Fail> {
 fn a_thief_stops_anywhere_in_its_theft(rt: HostRuntime) -> Result<(), Fail> {
     // The job stands from act 30 on (31 where entries are taken over). Behind 12 (11) acts the thief has exchanged the entry for its own,
     // and has not installed what comes next; the front of 30 acts more is past its take.
-    for takeover in [TakeoverName::Place, TakeoverName::Entry] {
+    for takeover in [Takeover::ByPlaces, Takeover::ByEntries] {
         let options = ReplayOptions { takeover, ..TWO };
         for fault in ["1!s", "1!h"] {
             let sweep = Sweep {
@@ -227,9 +228,9 @@ fn a_thief_stops_anywhere_in_its_theft(rt: HostRuntime) -> Result<(), Fail> {
 
 /// Behind these acts the place that stole has exchanged the entry for its own, and has not installed what comes next: where places are
 /// taken over, and where entries are.
-const STOLEN: [(TakeoverName, &str); 2] = [
-    (TakeoverName::Place, "0*30,1*12,"),
-    (TakeoverName::Entry, "0*31,1*11,"),
+const STOLEN: [(Takeover, &str); 2] = [
+    (Takeover::ByPlaces, "0*30,1*12,"),
+    (Takeover::ByEntries, "0*31,1*11,"),
 ];
 
 #[test]
@@ -268,7 +269,7 @@ fn a_sum_is_the_same_along_schedules(rt: HostRuntime) -> Result<(), Fail> {
         (3, "0*60,1*30,2*30,1!h,2*90,0!h"),
         (3, "0*60,1>0*45,2>0*45,1!h,0!h"),
     ];
-    for takeover in [TakeoverName::Place, TakeoverName::Entry] {
+    for takeover in [Takeover::ByPlaces, Takeover::ByEntries] {
         for (processors, schedule) in cases {
             let options = ReplayOptions {
                 processors,

@@ -1,8 +1,10 @@
 //! Sources that are run by one processor, over memory: what is written, and with which status.
 use ppm_answers::Status;
-use ppm_cli::{IdleName, RunOptions, TakeoverName};
+use ppm_cells::Takeover;
+use ppm_cli::RunOptions;
 use ppm_driver::{WATCHERS, answers_are_one, run_command};
 use ppm_ports::{MemorySink, MemorySource, Silent};
+use ppm_words::Idle;
 use std::alloc::Global;
 use std::process::Abort;
 use std::sync::Wait;
@@ -19,8 +21,8 @@ const PLAIN: RunOptions = RunOptions {
     slots: 64,
     looks: 1000,
     seed: 1,
-    takeover: TakeoverName::Place,
-    idle: IdleName::Leave,
+    takeover: Takeover::ByPlaces,
+    idle: Idle::Leave,
 };
 
 /// What a run wrote and answered.
@@ -362,13 +364,13 @@ fn options_are_obeyed(rt: HostRuntime) -> Result<(), Fail> {
     let two_slots = RunOptions { slots: 2, ..PLAIN };
     let three_slots = RunOptions { slots: 3, ..PLAIN };
     let entries = RunOptions {
-        takeover: TakeoverName::Entry,
+        takeover: Takeover::ByEntries,
         ..PLAIN
     };
     // The one processor is the keeper, and never parks.
     let parks = RunOptions {
         looks: 1,
-        idle: IdleName::Park,
+        idle: Idle::Park,
         ..PLAIN
     };
     for options in [two_slots, three_slots, entries, parks] {

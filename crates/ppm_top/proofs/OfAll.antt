@@ -26,10 +26,9 @@ use Rattle.ppm_commands.proofs.SerialRows.{serial_rows}
 use Rattle.ppm_plan.specs.Correct.{HaveOneAnswer as PlansHaveOneAnswer}
 use Rattle.ppm_plan.specs.Forms.{Form, plan_form, schedule_form}
 use Rattle.ppm_driver.specs.Planned.{PlannedMay}
-use Rattle.ppm_driver.specs.ReplayRows.{RefusesSchedule}
+use Rattle.ppm_driver.specs.MachineRows.{RefusesPlan}
 use Rattle.ppm_driver.specs.Replays.{TextHas as ReplayTextHas, HaveOneAnswer as ReplaysHaveOneAnswer}
-use Rattle.ppm_driver.specs.RunRows.{RefusesPlan}
-use Rattle.ppm_driver.specs.Runs.{TextHas as RunTextHas, AnswersAreOne}
+use Rattle.ppm_driver.specs.Runs.{TextHas as RunTextHas, AnswersAreOne, FrontsDecideAnswers}
 use Rattle.ppm_driver.proofs.OfReplay as of_replay
 use Rattle.ppm_driver.proofs.OfRun as of_run
 use Rattle.ppm_driver.proofs.PlannedLemmas as planned
@@ -65,7 +64,7 @@ none_reports o = record { failed = λ h. absurd h; fails = fails } where
 
 command_reports : (o : Outside) (command : Option Command) → ReportsReads o (CommandMay command o)
 command_reports o None = none_reports o
-command_reports o (Some (commands.Run options plan)) = planned_reports plan_form plan options.processors (RunTextHas options) o
+command_reports o (Some (commands.Run options plan)) = planned_reports plan_form plan options.processors (RunTextHas options o.told_before o.told_now) o
 command_reports o (Some (commands.Serial options)) = judging_reports text_limit (SerialHas options.turns) o
 command_reports o (Some commands.Code) = judging_reports text_limit CodeReads o
 command_reports o (Some commands.Check) = judging_reports listing_limit CheckHas o
@@ -103,7 +102,7 @@ delivers : (words : List (List ℕ)) (o : Outside) (status : Status) → IsAnswe
 delivers words o status a = of_answers (CommandMay (command_of words) o) (CommandTells (command_of words)) o status a
 
 faults : (words : List (List ℕ)) (o : Outside) (status : Status) → IsAnswered words o status → ReportsFaults o status
-faults words o status a = 
+faults words o status a =
     reports_faults o (CommandMay (command_of words) o) status (command_reports o (command_of words)) (delivers words o status a)
 
 -- an answer of status 3 comes without a command, or with one that names a plan or a schedule
@@ -145,12 +144,12 @@ refuses_words words o status a = record {
       let w = delivered.written o.out o.err a.answer status a.delivered (λ f. cc) in
       by_words (no_command (command_of words) o a.answer a.cause (sym w.own ∙ e)) where
         refuses : (options : ReplayOptions) (schedule : List ℕ) → command_of words ≡ Some (commands.Replay options schedule) →
-            RefusesSchedule options schedule o
+            RefusesPlan schedule_form schedule options.processors (ports_of o)
         refuses options schedule c =
             of_replay.schedule_refused options schedule o status (subst (λ x. Answers (CommandMay x o) (CommandTells x) o status) c a) e
 
         refuses_plan : (options : RunOptions) (plan : List ℕ) → command_of words ≡ Some (commands.Run options plan) →
-            RefusesPlan options plan o
+            RefusesPlan plan_form plan options.processors (ports_of o)
         refuses_plan options plan c = of_run.plan_refused options plan o status (subst (λ x. Answers (CommandMay x o) (CommandTells x) o status) c a) e
 
         by_words : (command_of words ≡ None) ⊎ IsPlanned (command_of words) → (command_of words ≡ None) ⊎ HasRefusedPlan words o
@@ -168,6 +167,7 @@ refuses_words words o status a = record {
 -- what the crates of the commands show of every text
 pub record Laws : Type 0 where
   pub runs : AnswersAreOne
+  pub fronts : FrontsDecideAnswers
   pub outcomes : OutcomesHaveOneAnswer
   pub codes : CodesHaveOneAnswer
   pub faithful : CodesAreFaithful
@@ -178,8 +178,11 @@ pub record Laws : Type 0 where
 -- all rows of the program
 pub program_rows : Laws → (words : List (List ℕ)) (o : Outside) (status : Status) → IsAnswered words o status → ProgramRows words o status
 program_rows laws words o status a = record {
-  run = λ options plan e. of_run.run_rows options plan o status (subst (λ c. Answers (CommandMay c o) (CommandTells c) o status) e a)
-      (run_is_in_range words options plan e) laws.plans laws.runs;
+  run = λ options plan e. (
+    run_is_in_range words options plan e,
+    of_run.run_rows options plan o status (subst (λ c. Answers (CommandMay c o) (CommandTells c) o status) e a) laws.plans laws.runs
+        laws.fronts,
+  );
   serial = λ options e. serial_rows options.turns (ports_of o) (laws.outcomes options.turns) status (by_words (Some (commands.Serial options)) e);
   code = λ e. code_rows laws.codes laws.faithful (ports_of o) status (by_words (Some commands.Code) e);
   check = λ e. check_rows (ports_of o) laws.listings status (by_words (Some commands.Check) e);

@@ -11,17 +11,19 @@ use Rattle.ppm_cli.specs.declared.command.Command.TheVariants as commands
 use Rattle.ppm_cli.specs.declared.command.SerialOptions.{SerialOptions}
 use Rattle.ppm_cli.specs.declared.replay.ReplayOptions.{ReplayOptions}
 use Rattle.ppm_cli.specs.declared.run.RunOptions.{RunOptions}
-use Rattle.ppm_cli.specs.Words.{command_of}
+use Rattle.ppm_cli.specs.Words.{command_of, AreRun}
 use Rattle.ppm_commands.specs.Check.{CheckRows}
 use Rattle.ppm_commands.specs.Code.{CodeRows}
 use Rattle.ppm_commands.specs.Serial.{SerialRows}
-use Rattle.ppm_driver.specs.ReplayRows.{RefusesSchedule, ReplayRows}
-use Rattle.ppm_driver.specs.RunRows.{RefusesPlan, RunRows}
+use Rattle.ppm_driver.specs.MachineRows.{RefusesPlan}
+use Rattle.ppm_driver.specs.ReplayRows.{ReplayRows}
+use Rattle.ppm_driver.specs.RunRows.{RunRows}
+use Rattle.ppm_plan.specs.Forms.{plan_form, schedule_form}
 
--- the rows of `run` hold where the words ask for a run, with these options and this plan
+-- the rows of `run` hold where the words ask for a run, with these options, which are in their ranges, and this plan
 abbrev pub RunsByWords : List (List ℕ) → Outside → Status → Type 0
-RunsByWords words o status =
-    (options : RunOptions) (plan : List ℕ) → command_of words ≡ Some (commands.Run options plan) → RunRows options plan o status
+RunsByWords words o status = (options : RunOptions) (plan : List ℕ) → command_of words ≡ Some (commands.Run options plan)
+    → AreRun options × RunRows options plan o status
 
 -- those of `serial` hold where they ask for it, with as many turns
 abbrev pub InterpretsByWords : List (List ℕ) → Outside → Status → Type 0
@@ -41,12 +43,12 @@ abbrev pub ReplaysByWords : List (List ℕ) → Outside → Status → Type 0
 ReplaysByWords words o status = (options : ReplayOptions) (schedule : List ℕ) → command_of words ≡ Some (commands.Replay options schedule) →
     ReplayRows options schedule o status
 
--- the words ask for a run by a plan, or for a replay by a schedule, that is refused; then nothing is read
+-- the words ask for a run by a plan, or for a replay by a schedule, that is refused
 pub data HasRefusedPlan (words : List (List ℕ)) (o : Outside) : Type 0 where
-  OfRun : (options : RunOptions) (plan : List ℕ) → command_of words ≡ Some (commands.Run options plan) → RefusesPlan options plan o
-      → HasRefusedPlan words o
+  OfRun : (options : RunOptions) (plan : List ℕ) → command_of words ≡ Some (commands.Run options plan)
+      → RefusesPlan plan_form plan options.processors (ports_of o) → HasRefusedPlan words o
   OfReplay : (options : ReplayOptions) (schedule : List ℕ) → command_of words ≡ Some (commands.Replay options schedule)
-      → RefusesSchedule options schedule o → HasRefusedPlan words o
+      → RefusesPlan schedule_form schedule options.processors (ports_of o) → HasRefusedPlan words o
 
 -- Status 3 comes only where the words give no command, or name a plan or a schedule that is refused. Where they give no command,
 -- nothing is read, and the status is 3, or 8 or 9.

@@ -6,7 +6,9 @@ use Rattle.ppm_driver.proofs.arrays.arrays_of.Given as goal
 -- the arrays so far, and those that are left
 abbrev pub invariant-loop-left : goal.invariant-loop-left
 invariant-loop-left l =
-    (l.named.items ++ arrays_from (seen l.machine) l.number l.left ≡ arrays_from (seen l.machine) 0 l.arrays)
+    let m = seen l.machine in
+    (l.named.items ++ arrays_from m.shape m.array_lengths m.state.words l.number l.left
+    ≡ arrays_from m.shape m.array_lengths m.state.words 0 l.arrays)
     × (l.number + length l.left ≡ length l.arrays)
 
 abbrev pub decreases-loop-left : goal.decreases-loop-left

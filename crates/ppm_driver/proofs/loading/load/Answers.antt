@@ -2,8 +2,9 @@ use Rattle.std.proofs.Common.{ap, ◌∙◌, subst}
 use Rattle.ppm_words.specs.Inputs.{value_count}
 use Rattle.ppm_tree.specs.Tree.{tree_of}
 use Rattle.ppm_tree.specs.Limits.{IsWithin}
+use Rattle.ppm_tree.specs.Program.{initial_arrays}
 use Rattle.ppm_cut_code.specs.Routines.{code_of}
-use Rattle.ppm_driver.proofs.LoadingLemmas.{begins, names_arrays}
+use Rattle.ppm_driver.proofs.LoadingLemmas.{opens, names_arrays}
 use Rattle.ppm_driver.proofs.loading.load.Goals as goal
 
 -- the root of the program's code names arrays that the program starts with
@@ -16,7 +17,7 @@ image-requires-clause-named c =
 -- the machine has the words of the image of the program's code and input
 pub returns : goal.returns
 returns c =
-    begins c.args.sizes (tree_of c.args.program.now) c.args.keeper _ _ _ _ _ _
+    opens c.args.sizes (code_of (tree_of c.args.program.now)) (initial_arrays (tree_of c.args.program.now)) c.args.keeper _ _ _ _ _ _
     (c.in_ok-code.ensures.code ∙ ap (λ p. code_of (tree_of p)) c.program-2.ensures.value) c.input-input.ensures.value
     (c.count_of.ensures.value ∙ ap (λ arrays. value_count arrays) c.arrays.ensures.value) c.shape_of-shape.ensures c.in_ok-words.ensures.image
     c.in_ok-machine.ensures

@@ -4,7 +4,8 @@ use Rattle.ppm_top.proofs.top.ppm.Goals as goal
 -- the rows follow from the answer that was delivered
 pub returns-clause-rows : goal.returns-clause-rows
 returns-clause-rows g c = program_rows (record {
-  runs = c.answers_are_one.ensures.law;
+  runs = c.answers_are_one.ensures.one;
+  fronts = c.answers_are_one.ensures.front;
   outcomes = c.outcomes_have_one_answer.ensures.law;
   codes = c.codes_have_one_answer.ensures.law;
   faithful = c.codes_are_faithful.ensures.law;

@@ -2,26 +2,26 @@
 ghost use Rattle.std.specs.Prelude.{◌≡◌, IfOk};
 ghost use Rattle.ppm_ports.specs.Ports.{port};
 ghost use Rattle.ppm_ports.specs.Outside.{ToldLists, outside};
-ghost use Rattle.ppm_answers.specs.Reading.{Answers, JudgingMay, TellsNothing, TextMay};
+ghost use Rattle.ppm_answers.specs.Reading.{Answers, JudgingMay, TellsNothing};
 ghost use Rattle.ppm_cli.specs.Words.{AreReplayed};
 ghost use Rattle.ppm_text.specs.Limits.{text_limit};
 ghost use Rattle.ppm_tree.specs.Tree.{tree_of};
 ghost use Rattle.ppm_cut_bounds.specs.Bounds.{IsWithinBounds};
+ghost use Rattle.ppm_driver.specs.Programs.{ProgramMay};
 ghost use Rattle.ppm_driver.specs.Replays.{ProgramHas, ReplayMay, TextHas, sizes_of as sizes_in};
 ghost use Rattle.ppm_driver.specs.ReplayRows.{ReplayRows};
 
 use crate::following::follow;
-use crate::loading::{Sizes, load, takeover_of};
+use crate::loading::{Sizes, load};
 use crate::one_replay::have_one_answer;
 use crate::planned::refusal_answer;
-use crate::saying::answer_of;
+use crate::programs::read_program;
+use crate::saying::replay_answer;
 use ppm_answers::{Answer, Status, deliver};
 use ppm_cli::ReplayOptions;
 use ppm_plan::{Schedule, have_one_answer as schedules_have_one_answer, read_schedule};
-use ppm_ports::{ReadError, Sink, Source, read_whole};
-use ppm_program::{JudgeError, program_of};
+use ppm_ports::{Sink, Source};
 use ppm_regions::Admitted;
-use ppm_text::TEXT_LIMIT;
 use ppm_words::NoMemory;
 use std::alloc::Global;
 
@@ -51,12 +51,12 @@ pub fn replay_command<S: Source, K: Sink, E: Sink>(
     // The rows rest on these laws; the calls do nothing.
     have_one_answer();
     schedules_have_one_answer();
-    let answer = replay_answer(alloc, options, schedule, source);
+    let answer = read_answer(alloc, options, schedule, source);
     deliver(alloc, &answer, out, err)
 }
 
 /// The answer of `replay`: the schedule is read first, and then the source.
-fn replay_answer<S: Source>(
+fn read_answer<S: Source>(
     alloc: Global,
     options: ReplayOptions,
     schedule: &[u8],
@@ -68,13 +68,13 @@ fn replay_answer<S: Source>(
     // A schedule that is accepted is not refused, by this law; the call does nothing.
     schedules_have_one_answer();
     match read_schedule(alloc, schedule, options.processors) {
-        Ok(schedule) => source_answer(alloc, options, &schedule, source),
+        Ok(schedule) => planned_answer(alloc, options, &schedule, source),
         Err(error) => refusal_answer(error),
     }
 }
 
-/// What is read, to its end or one byte past the limit of a text, is judged and replayed.
-fn source_answer<S: Source>(
+/// The program of the text that is read is replayed by the schedule.
+fn planned_answer<S: Source>(
     alloc: Global,
     options: ReplayOptions,
     schedule: &Schedule,
@@ -84,26 +84,27 @@ fn source_answer<S: Source>(
     requires processors { schedule.now.processors ≡ options.processors }
     ensures { JudgingMay text_limit (TextHas options schedule.now.items) (port S.left S.fault_count source.old source.new) result }
 {
-    match read_whole(alloc, source, TEXT_LIMIT) {
-        Ok(text) => text_answer(alloc, options, schedule, &text),
-        Err(ReadError::Failed) => Answer::ReadFault,
-        Err(ReadError::NoMemory) => Answer::NoMemory,
+    match read_program(alloc, source) {
+        Ok(program) => program_answer(alloc, options, schedule, &program),
+        Err(answer) => answer,
     }
 }
 
-/// What `replay` says of a text: why it is refused, or what its program's replay comes to.
-fn text_answer(alloc: Global, options: ReplayOptions, schedule: &Schedule, text: &[u8]) -> Answer
+/// What the replay of a program comes to, or want of memory.
+fn program_answer(
+    alloc: Global,
+    options: ReplayOptions,
+    schedule: &Schedule,
+    program: &Admitted,
+) -> Answer
     requires options { AreReplayed options }
     requires processors { schedule.now.processors ≡ options.processors }
-    ensures { TextMay (TextHas options schedule.now.items) text.now result }
+    requires bounded { IsWithinBounds (tree_of program.now) }
+    ensures { ProgramMay (ProgramHas options schedule.now.items (tree_of program.now)) result }
 {
-    match program_of(alloc, text) {
-        Ok(program) => match replayed(alloc, options, schedule, &program) {
-            Ok(answer) => answer,
-            Err(NoMemory) => Answer::NoMemory,
-        },
-        Err(JudgeError::Refused(refusal)) => Answer::SourceRefused(refusal),
-        Err(JudgeError::NoMemory) => Answer::NoMemory,
+    match replayed(alloc, options, schedule, program) {
+        Ok(answer) => answer,
+        Err(NoMemory) => Answer::NoMemory,
     }
 }
 
@@ -123,7 +124,7 @@ fn replayed(
     // What the type of its code keeps is known once its parts were seen.
     let _ = machine.code().parts();
     follow(&mut machine, schedule, options.turns);
-    let answer = answer_of(alloc, &machine, program.input().arrays(), options.turns)?;
+    let answer = replay_answer(alloc, &machine, program.input().arrays(), options.turns)?;
     Ok(answer)
 }
 
@@ -135,6 +136,6 @@ fn sizes_of(options: ReplayOptions) -> Sizes
         processors: options.processors,
         room: options.room,
         slots: options.slots,
-        takeover: takeover_of(options.takeover),
+        takeover: options.takeover,
     }
 }

@@ -5,18 +5,17 @@ use Rattle.ppm_plan.specs.Forms.{plan_form}
 use Rattle.ppm_driver.specs.Runs.{TextHas}
 use Rattle.ppm_driver.proofs.PlannedLemmas.{planned_delivered}
 use Rattle.ppm_driver.proofs.OfRun.{run_rows}
-use Rattle.ppm_driver.proofs.running.run_command.Goals as goal
+use Rattle.ppm_driver.proofs.run.run_command.Goals as goal
 
 -- the answer was delivered, or out of memory in its place
 pub returns-clause-answers : goal.returns-clause-answers
 returns-clause-answers g c =
-    planned_delivered plan_form c.args.faults.now c.args.options.processors (TextHas c.args.options) text_limit TellsNothing
-    c.have_one_answer.ensures.law.plans _ _ _ refl refl c.run_answer-answer.ensures c.deliver.ensures
+    planned_delivered plan_form c.args.faults.now c.args.options.processors (TextHas c.args.options _ _) text_limit TellsNothing
+    c.have_one_answer.ensures.law.plans _ _ _ refl refl (c.read_answer-answer.ensures _) c.deliver.ensures
 
 -- and the rows follow from it
 pub returns-clause-rows : goal.returns-clause-rows
 returns-clause-rows g c = run_rows c.args.options c.args.faults.now _ _
-    (planned_delivered plan_form c.args.faults.now c.args.options.processors (TextHas c.args.options) text_limit TellsNothing
-    c.have_one_answer.ensures.law.plans _ _ _ refl refl c.run_answer-answer.ensures c.deliver.ensures)
-    c.requires.options c.have_one_answer.ensures.law
-    c.answers_are_one.ensures.law
+    (planned_delivered plan_form c.args.faults.now c.args.options.processors (TextHas c.args.options _ _) text_limit TellsNothing
+    c.have_one_answer.ensures.law.plans _ _ _ refl refl (c.read_answer-answer.ensures _) c.deliver.ensures)
+    c.have_one_answer.ensures.law c.answers_are_one.ensures.one c.answers_are_one.ensures.front

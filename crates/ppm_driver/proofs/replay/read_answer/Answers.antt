@@ -5,14 +5,14 @@ use Rattle.ppm_answers.proofs.Delivered.{left_alone}
 use Rattle.ppm_plan.specs.Forms.{schedule_form}
 use Rattle.ppm_driver.specs.Replays.{TextHas, ReplayMay}
 use Rattle.ppm_driver.proofs.PlannedLemmas.{by_items, refused_may}
-use Rattle.ppm_driver.proofs.ReplayLemmas.{plain}
-use Rattle.ppm_driver.proofs.replaying.replay_answer.Goals as goal
+use Rattle.ppm_driver.proofs.OneReplay.{steady}
+use Rattle.ppm_driver.proofs.replay.read_answer.Goals as goal
 
 -- the schedule is accepted, and what was read is judged by its items
 pub returns-in-Ok : goal.returns-in-Ok
 returns-in-Ok g c =
     by_items schedule_form c.args.schedule.now c.args.options.processors (TextHas c.args.options) text_limit
-    c.have_one_answer.ensures.law.schedules (plain c.args.options) c.in-Ok.schedule.items c.in-Ok.ensures.schedule _ _ c.source_answer.ensures
+    c.have_one_answer.ensures.law.schedules (steady c.args.options) c.in-Ok.schedule.items c.in-Ok.ensures.schedule _ _ c.planned_answer.ensures
 
 -- the schedule is refused, and nothing was read
 pub returns-in-Err : goal.returns-in-Err
