@@ -106,6 +106,16 @@ pub fn obey<R: Wait>(rt: &R, machine: &mut Machine, plan: &Plan, limits: Limits)
     ensures alone { ObeysTo plan.now limits nothing_done (seen machine.old) (seen machine.new) }
     ensures all { (seen machine.old).shape.processors ≡ 1 → RunsTo plan.now limits (seen machine.old) (seen machine.new) }
 {
+    act_alone(rt, machine, plan, limits);
+}
+
+/// Lets processor 0 act until its acts stop.
+fn act_alone<R: Wait>(rt: &R, machine: &mut Machine, plan: &Plan, limits: Limits)
+    requires keeper { IsKeeper plan_form plan.now.items 0 }
+    requires processors { plan.now.processors ≡ (seen machine.old).shape.processors }
+    requires begins { stand_of (seen machine.old).state 0 ≡ IsLost }
+    ensures { ObeysTo plan.now limits nothing_done (seen machine.old) (seen machine.new) }
+{
     let mut pace = Pace::first(plan, 0);
     let mut victims = Victims::new(limits.seed, 0, machine.processors());
     for _ in rt.forever() {

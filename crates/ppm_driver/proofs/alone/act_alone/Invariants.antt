@@ -1,7 +1,7 @@
 use Rattle.std.proofs.Common.{◌≡◌}
 use Rattle.ppm_core.specs.Machine.{seen}
 use Rattle.ppm_driver.specs.Going.{Leads}
-use Rattle.ppm_driver.proofs.alone.obey.Given as goal
+use Rattle.ppm_driver.proofs.alone.act_alone.Given as goal
 
 -- whatever obeys from here on obeys from the beginning on
 abbrev pub invariant-loop : goal.invariant-loop
