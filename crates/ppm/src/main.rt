@@ -1,8 +1,12 @@
-//! The program `ppm`: the words of the command line and the standard streams, handed to the top call.
-//! Model: a stream is a port before the program and after it; the standard streams are ports that show no bytes.
-//! Contract: `program` ends with the number of the status with which the words were answered (`IsAnswered`), or want of
-//! memory was, before anything was read (`specs/Ending`). `main` calls it and does nothing else.
-//! Stands on `ppm_top`, `ppm_answers` and `ppm_ports`; the system calls it. The statuses are this project's.
+//! The program `ppm`: the words of the command line and the standard streams, handed to the top
+//! call.
+//! Model: a stream is a port before the program and after it; the standard streams are ports that
+//! show no bytes.
+//! Contract: `program` ends with the number of the status with which the words were answered
+//! (`IsAnswered`), or want of memory was, before anything was read (`specs/Ending`). `main` calls
+//! it and does nothing else.
+//! Stands on `ppm_top`, `ppm_answers` and `ppm_ports`; the system calls it. The statuses are this
+//! project's.
 #![tactic(auto)]
 
 ghost use Rattle.std.specs.Prelude.{◌≡◌, ◌++◌, IfOk, length};
@@ -33,9 +37,9 @@ fn main(rt: HostRuntime) -> ExitCode {
     )
 }
 
-/// Does what the words of the command line ask for, and tells no watcher anything.
-/// The exit code is the number of the status. Where memory is refused for the words or the watchers, nothing is read, and
-/// the answer is out of memory.
+/// Does what the words of the command line ask for, and tells no watcher anything. The exit code is
+/// the number of the status. Where memory is refused for the words or the watchers, nothing is
+/// read, and the answer is out of memory.
 fn program<R: Wait, S: Source, K: Sink, E: Sink>(
     rt: &R,
     alloc: Global,

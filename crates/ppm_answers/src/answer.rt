@@ -11,9 +11,11 @@ pub enum Answer {
     Ended(Items<NamedArray>),
     /// The run ended by a trap in this line of the source; lines count from 1.
     Trapped(Trap, u32),
-    /// The replay ended with these arrays, in the order in which the program declares them, and with this tally.
+    /// The replay ended with these arrays, in the order in which the program declares them, and
+    /// with this tally.
     EndedWith(Items<NamedArray>, Tally),
-    /// The replay ended by a trap in this line of the source, and with this tally; lines count from 1.
+    /// The replay ended by a trap in this line of the source, and with this tally; lines count from
+    /// 1.
     TrappedWith(Trap, u32, Tally),
     /// The replay did not end within so many acts.
     Unfinished(u64),
@@ -23,7 +25,8 @@ pub enum Answer {
     OutOfTurns(u32),
     /// The pool of this place has no room for a block that the run asks for; places count from 0.
     OutOfRoom(u32),
-    /// The words of the run are broken at this place; places count from 0, and 64 is for a place that isn't known.
+    /// The words of the run are broken at this place; places count from 0, and 64 is for a place
+    /// that isn't known.
     Broken(u32),
     /// The program of the text is compiled to the code with this listing.
     Listed(Items<u8>),

@@ -12,8 +12,8 @@ use crate::texts::{OUT_OF_MEMORY, WRITE_FAULT, texts_of};
 use ppm_ports::{Failed, Sink, write_whole};
 use std::alloc::Global;
 
-/// Writes the texts of an answer, or those of want of memory where there is none for its texts; an answer with fixed
-/// texts takes none. Each text is made whole before a byte is written.
+/// Writes the texts of an answer, or those of want of memory where there is none for its texts; an
+/// answer with fixed texts takes none. Each text is made whole before a byte is written.
 pub fn deliver<K: Sink, E: Sink>(alloc: Global, answer: &Answer, out: &mut K, err: &mut E) -> Status
     ensures { let to_out = port K.written K.fault_count out.old out.new in
         let to_err = port E.written E.fault_count err.old err.new in

@@ -1,6 +1,8 @@
 //! The answers of the program's commands, their texts and statuses, and how they are delivered.
-//! Model: an answer has a text for out, a text for err and a status (`specs/Texts`, `specs/Statuses`).
-//! Contract: `deliver` writes both texts whole and gives the answer's status, or 8 where a port failed (`specs/Delivery`).
+//! Model: an answer has a text for out, a text for err and a status (`specs/Texts`,
+//! `specs/Statuses`).
+//! Contract: `deliver` writes both texts whole and gives the answer's status, or 8 where a port
+//! failed (`specs/Delivery`).
 //! Stands on `ppm_ports` and `ppm_words`; each command of `ppm_top` ends with it.
 //! The texts and the numbers are this project's.
 #![tactic(auto)]

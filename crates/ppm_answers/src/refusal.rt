@@ -13,14 +13,15 @@ pub enum Pass {
     Cut,
 }
 
-/// Why a source is refused: its fault, by the pass that finds it. Want of memory is none, but an answer of its own.
+/// Why a source is refused: its fault, by the pass that finds it. Want of memory is none, but an
+/// answer of its own.
 #[derive(Clone, Copy, Debug, PartialEq, Eq)]
 pub struct Refusal {
     /// The pass.
     pub pass: Pass,
     /// The fault's number, from 1, as each pass numbers its faults.
     pub number: u32,
-    /// Where the fault is. Of a text and its tokens: the place of a byte, from 0. Of names and regions: a line, from 1,
-    /// or 0 for none. Of the cut: a procedure, from 0, or 0 for none.
+    /// Where the fault is. Of a text and its tokens: the place of a byte, from 0. Of names and
+    /// regions: a line, from 1, or 0 for none. Of the cut: a procedure, from 0, or 0 for none.
     pub place: u32,
 }

@@ -17,7 +17,8 @@ struct Shown {
     err_faults: u64,
 }
 
-/// An answer on its way to sinks that take at most `most` bytes in a call and fail at the calls listed.
+/// An answer on its way to sinks that take at most `most` bytes in a call and fail at the calls
+/// listed.
 fn delivered(
     alloc: Global,
     answer: &Answer,

@@ -3,10 +3,13 @@ ghost use Rattle.std.specs.Prelude.{◌≡◌, ◌++◌, IfOk, IsOk, OnOk};
 ghost use Rattle.std.specs.Cow.{cow_slice_items};
 ghost use Rattle.std.specs.List.{flat_map};
 ghost use Rattle.std.specs.String.{string_bytes};
-ghost use Rattle.ppm_answers.specs.Texts.{IsFixed, out_text, err_text, refusal_text, fault_text, pass_name as name_of_pass, place_name as name_of_place};
-ghost use Rattle.ppm_answers.specs.Texts.{class_text, conflict_text, listing_text, not_within_text, turns_text, room_text};
+ghost use Rattle.ppm_answers.specs.Texts.{IsFixed, out_text, err_text, refusal_text, fault_text};
+ghost use Rattle.ppm_answers.specs.Texts.{pass_name as name_of_pass, place_name as name_of_place};
+ghost use Rattle.ppm_answers.specs.Texts.{class_text, conflict_text, listing_text, not_within_text};
+ghost use Rattle.ppm_answers.specs.Texts.{turns_text, room_text};
 ghost use Rattle.ppm_answers.specs.Texts.{unfinished_text, broken_text, plan_text};
-ghost use Rattle.ppm_answers.specs.Texts.{arrays_text, array_text, value_text, trap_text, trap_name as name_of_trap};
+ghost use Rattle.ppm_answers.specs.Texts.{arrays_text, array_text, value_text, trap_text};
+ghost use Rattle.ppm_answers.specs.Texts.{trap_name as name_of_trap};
 
 use crate::answer::Answer;
 use crate::conflict::{Class, Conflict, ListingRefusal};

@@ -2,7 +2,8 @@
 ghost use Rattle.std.specs.Prelude.{◌≡◌, IfOk, false, map};
 ghost use Rattle.clap.specs.Words.{app_of, rule_of};
 ghost use Rattle.clap.specs.declared.builder.command.Command.TheViews.{out-Command as fields_of};
-ghost use Rattle.ppm_cli.specs.Application.{argument_of, bare_application, command_rule, number_rule, option_rule};
+ghost use Rattle.ppm_cli.specs.Application.{argument_of, bare_application, command_rule};
+ghost use Rattle.ppm_cli.specs.Application.{number_rule, option_rule};
 ghost use Rattle.ppm_cli.specs.CommandLine.{free_text};
 ghost use Rattle.ppm_cli.specs.Application.{ppm_application, command_application, with_commands};
 
@@ -31,7 +32,8 @@ fn with_subcommands<'a>(
     mut program: Command<'a>,
     commands: &[CommandRow],
 ) -> Result<Command<'a>, AllocError>
-    ensures { IfOk result (λ c. app_of c ≡ with_commands (app_of program.entry) (map command_rule commands.now)) }
+    ensures { IfOk result (λ c. app_of c
+        ≡ with_commands (app_of program.entry) (map command_rule commands.now)) }
 {
     for command in commands {
         program = program.subcommand(subcommand(alloc, *command)?)?;

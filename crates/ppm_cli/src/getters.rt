@@ -3,14 +3,16 @@ ghost use Rattle.std.specs.Prelude.{◌≡◌, ◌≤◌, IfOk, IfSome, [], ◌�
 ghost use Rattle.clap.specs.Words.{first_of, found_of, rows_of};
 ghost use Rattle.ppm_cli.specs.Application.{choice_rule, number_rule, text_rule};
 ghost use Rattle.ppm_cli.specs.CommandLine.{AnyText};
-ghost use Rattle.ppm_cli.specs.Words.{choice_given, kept_in as kept, number_given, text_given, text_in};
+ghost use Rattle.ppm_cli.specs.Words.{choice_given, kept_in as kept, number_given, text_given};
+ghost use Rattle.ppm_cli.specs.Words.{text_in};
 
 use crate::table::{ChoiceOption, NumberOption, TextOption};
 use clap::ArgMatches;
 use ppm_words::Items;
 use std::alloc::{AllocError, Global};
 
-/// The number of an option in the matches of its command, if its text writes one in the option's range.
+/// The number of an option in the matches of its command, if its text writes one in the option's
+/// range.
 pub(crate) fn number_of(matches: &ArgMatches<'_>, option: NumberOption) -> Option<u32>
     ensures value { result ≡ number_given (number_rule option) (rows_of (found_of matches.now)) }
     ensures in_range { IfSome result (λ n. (option.low ≤ n) × (n ≤ option.high)) }
@@ -31,14 +33,16 @@ fn kept_in(number: u32, low: u32, high: u32) -> Option<u32>
     }
 }
 
-/// What an option stands for whose value is one of two words: `first` for its first word, `second` for the other.
+/// What an option stands for whose value is one of two words: `first` for its first word, `second`
+/// for the other.
 pub(crate) fn choice_of<T: Copy>(
     matches: &ArgMatches<'_>,
     option: ChoiceOption,
     first: T,
     second: T,
 ) -> Option<T>
-    ensures { result ≡ choice_given (choice_rule option) (first ∷ second ∷ []) (rows_of (found_of matches.now)) }
+    ensures { result
+        ≡ choice_given (choice_rule option) (first ∷ second ∷ []) (rows_of (found_of matches.now)) }
 {
     let word = text_of(matches, option.name)?;
     if word == option.first {
@@ -56,7 +60,8 @@ pub(crate) fn bytes_of(
     matches: &ArgMatches<'_>,
     option: TextOption,
 ) -> Result<Option<Items<u8>>, AllocError>
-    ensures { IfOk result (λ bytes. bytes ≡ text_given (text_rule option) (rows_of (found_of matches.now))) }
+    ensures { IfOk result (λ bytes. bytes
+        ≡ text_given (text_rule option) (rows_of (found_of matches.now))) }
 {
     match text_of(matches, option.name) {
         Some(text) => free_text(alloc, text.as_bytes()),

@@ -5,8 +5,9 @@ ghost use Rattle.ppm_cli.specs.Application.{application_of};
 ghost use Rattle.ppm_cli.specs.CommandLine.{CommandRule, command_line};
 ghost use Rattle.ppm_cli.specs.Sound.{IsSound};
 
-/// Any rule may be admitted: whatever commands and options a table has, clap's laws of a parse and of its refusals hold
-/// for the application; and in the whole command line names differ, and each default is a value of its option.
+/// Any rule may be admitted: whatever commands and options a table has, clap's laws of a parse and
+/// of its refusals hold for the application; and in the whole command line names differ, and each
+/// default is a value of its option.
 pub fn any_rule_may_be_admitted()
     ensures parsed { (table : List CommandRule) → is_simple_and_free (application_of table) ≡ true }
     ensures sound { IsSound command_line }

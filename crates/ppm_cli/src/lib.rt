@@ -1,8 +1,10 @@
 //! The words of the command line, and the command that they give.
-//! Model: the words are the list of their texts; the commands are a table of rules (`specs/CommandLine`), and the admitted
-//! ones are an application of `clap` (`specs/Application`).
-//! Contract: the command is that which `clap` finds in the words, each option in its range, else none (`specs/Words`).
-//! Stands on `clap`, `ppm_words` and `ppm_cells`; `ppm_top` calls it. After clap's builder; the table is this project's.
+//! Model: the words are the list of their texts; the commands are a table of rules
+//! (`specs/CommandLine`), and the admitted ones are an application of `clap` (`specs/Application`).
+//! Contract: the command is that which `clap` finds in the words, each option in its range, else
+//! none (`specs/Words`).
+//! Stands on `clap`, `ppm_words` and `ppm_cells`; `ppm_top` calls it. After clap's builder; the
+//! table is this project's.
 #![tactic(auto)]
 
 mod application;

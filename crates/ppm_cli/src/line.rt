@@ -9,8 +9,9 @@ use clap::error::ErrorKind;
 use ppm_words::NoMemory;
 use std::alloc::Global;
 
-/// The command that the words give, as clap reads them; the first word is the program's name. There is none where clap
-/// refuses the words or would show a help text. The error says that memory was refused, and nothing of the words.
+/// The command that the words give, as clap reads them; the first word is the program's name. There
+/// is none where clap refuses the words or would show a help text. The error says that memory was
+/// refused, and nothing of the words.
 pub fn read_words(alloc: Global, words: &[String]) -> Result<Option<Command>, NoMemory>
     ensures value { IfOk result (λ c. c ≡ command_of (map string_bytes words.now)) }
     ensures in_range { IfOk result (λ c. IfSome c IsInRange) }

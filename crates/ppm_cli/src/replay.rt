@@ -1,7 +1,8 @@
 //! The command `replay`, as its words give it.
 ghost use Rattle.std.specs.Prelude.{◌≡◌, IfOk, IfSome};
 ghost use Rattle.clap.specs.Words.{found_of, rows_of};
-ghost use Rattle.ppm_cli.specs.Words.{AreReplayed, IsInRange, replay_in, replay_options as options_in};
+ghost use Rattle.ppm_cli.specs.Words.{AreReplayed, IsInRange, replay_in};
+ghost use Rattle.ppm_cli.specs.Words.{replay_options as options_in};
 
 use crate::command::Command;
 use crate::getters::{bytes_of, number_of};
@@ -16,7 +17,8 @@ use std::alloc::{AllocError, Global};
 pub struct ReplayOptions {
     /// How many processors there are: from 1 to 64, and 4 by default.
     pub processors: u32,
-    /// How many acts there are at most, those of the schedule among them: from 1 to 268435456, and 16777216 by default.
+    /// How many acts there are at most, those of the schedule among them: from 1 to 268435456, and
+    /// 16777216 by default.
     pub turns: u64,
     /// How many words the pool of a place has: from 64 to 1048576, and 65536 by default.
     pub room: u32,

@@ -1,7 +1,8 @@
 //! The command `run`, as its words give it.
 ghost use Rattle.std.specs.Prelude.{◌≡◌, IfOk, IfSome};
 ghost use Rattle.clap.specs.Words.{found_of, rows_of};
-ghost use Rattle.ppm_cli.specs.Words.{AreRun, IsInRange, idle_given, run_in, run_options as options_in};
+ghost use Rattle.ppm_cli.specs.Words.{AreRun, IsInRange, idle_given, run_in};
+ghost use Rattle.ppm_cli.specs.Words.{run_options as options_in};
 
 use crate::command::Command;
 use crate::getters::{bytes_of, choice_of, number_of};
@@ -23,7 +24,8 @@ pub struct RunOptions {
     pub room: u32,
     /// How many entries the deque of a place has: from 2 to 65536, and 4096 by default.
     pub slots: u32,
-    /// How many looks for work in a row a processor makes before it leaves or parks: from 1 to 1048576, and 1000 by default.
+    /// How many looks for work in a row a processor makes before it leaves or parks: from 1 to
+    /// 1048576, and 1000 by default.
     pub looks: u32,
     /// Where the random victims begin: from 0 to 4294967295, and 1 by default.
     pub seed: u32,

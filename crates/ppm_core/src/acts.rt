@@ -7,7 +7,8 @@ ghost use Rattle.ppm_core.specs.Acts.{IsActAmong, is_done_at, forks_at, takes_at
 ghost use Rattle.ppm_core.specs.Acts.{words_acted, stand_acted, event_acted};
 ghost use Rattle.ppm_step.specs.Locals.{IsLocal, standing_of};
 ghost use Rattle.ppm_step.specs.Standings.{WantIsWithin};
-ghost use Rattle.ppm_step.specs.State.{want_of, stand_after, found_in, words_after, quit_with, seeks_holder};
+ghost use Rattle.ppm_step.specs.State.{want_of, stand_after, found_in, words_after, quit_with};
+ghost use Rattle.ppm_step.specs.State.{seeks_holder};
 ghost use Rattle.ppm_step.specs.Told.{step_event, act_event, is_work_turn};
 ghost use Rattle.ppm_step.specs.declared.turn.Act.TheVariants.{Step};
 
@@ -35,7 +36,8 @@ pub(crate) fn is_done(local: &Local) -> bool
 /// Whether its coming step is the load of a holder word, for which a turn names the victim.
 #[inline(always)]
 pub(crate) fn seeks_holder(local: &Local) -> bool
-    ensures { (s : Shape) (code : CodeParts) → result ≡ seeks_holder (standing_of s code local.now) }
+    ensures { (s : Shape) (code : CodeParts)
+        → result ≡ seeks_holder (standing_of s code local.now) }
 {
     match local.stand {
         Stand::Within {
@@ -49,7 +51,8 @@ pub(crate) fn seeks_holder(local: &Local) -> bool
 /// How many forks the act makes: 1 by the store of the restart word that begins to push a block.
 #[inline(always)]
 pub(crate) fn forks_by(local: &Local, act: Act) -> u64
-    ensures value { (s : Shape) (code : CodeParts) → result ≡ forks_at act (standing_of s code local.now) }
+    ensures value { (s : Shape) (code : CodeParts)
+        → result ≡ forks_at act (standing_of s code local.now) }
     ensures bound { result < 2 }
 {
     let Act::Step { .. } = act else {
@@ -67,7 +70,8 @@ pub(crate) fn forks_by(local: &Local, act: Act) -> u64
 /// How many takes: 1 by the store of the restart word that begins a right branch.
 #[inline(always)]
 pub(crate) fn takes_by(local: &Local, act: Act) -> u64
-    ensures value { (s : Shape) (code : CodeParts) → result ≡ takes_at act (standing_of s code local.now) }
+    ensures value { (s : Shape) (code : CodeParts)
+        → result ≡ takes_at act (standing_of s code local.now) }
     ensures bound { result < 2 }
 {
     let Act::Step { .. } = act else {
@@ -85,7 +89,8 @@ pub(crate) fn takes_by(local: &Local, act: Act) -> u64
 /// Whether the act is a step of work.
 #[inline(always)]
 pub(crate) fn is_work_by(local: &Local, act: Act) -> bool
-    ensures { (s : Shape) (code : CodeParts) → result ≡ is_work_turn s code act (standing_of s code local.now) }
+    ensures { (s : Shape) (code : CodeParts)
+        → result ≡ is_work_turn s code act (standing_of s code local.now) }
 {
     let Act::Step { .. } = act else {
         return false;
@@ -119,7 +124,8 @@ fn quit_finish(own: u32, why: Why) -> Finish
 fn want_by(local: &Local, shape: &Shape, code: &Code, act: Act) -> Want
     requires local { IsLocal shape.now code.now local.now }
     requires act { IsActAmong shape.now.processors act }
-    ensures value { result ≡ want_of shape.now code.now local.now.own act (standing_of shape.now code.now local.now) }
+    ensures value { result
+        ≡ want_of shape.now code.now local.now.own act (standing_of shape.now code.now local.now) }
     ensures within { WantIsWithin shape.now result }
 {
     let own = local.own;
@@ -197,7 +203,8 @@ fn go_on(local: &mut Local, shape: &Shape, code: &Code, act: Act, found: u64)
 /// The event of a word step.
 #[inline(always)]
 fn step_event(place: u32, want: Want, found: u64) -> Event
-    ensures { (words : List ℕ) → found ≡ found_in words want → result ≡ step_event words place want }
+    ensures { (words : List ℕ) → found ≡ found_in words want
+        → result ≡ step_event words place want }
 {
     let (step, word, value) = match want {
         Want::Loads(at) => (1, at, found),
@@ -215,7 +222,8 @@ fn step_event(place: u32, want: Want, found: u64) -> Event
 
 /// The event of an act.
 fn event_by(place: u32, act: Act, want: Want, found: u64) -> Event
-    ensures { (words : List ℕ) → found ≡ found_in words want → result ≡ act_event words place act want }
+    ensures { (words : List ℕ) → found ≡ found_in words want
+        → result ≡ act_event words place act want }
 {
     let event = step_event(place, want, found);
     match act {
@@ -247,7 +255,8 @@ pub(crate) fn act_on(
         ≡ words_acted shape.now code.now local.old.own act words.old.items (standing_of shape.now code.now local.old) }
     ensures stands { standing_of shape.now code.now local.new
         ≡ stand_acted shape.now code.now local.old.own act words.old.items (standing_of shape.now code.now local.old) }
-    ensures event { result ≡ event_acted shape.now code.now local.old.own act words.old.items (standing_of shape.now code.now local.old) }
+    ensures event { result
+        ≡ event_acted shape.now code.now local.old.own act words.old.items (standing_of shape.now code.now local.old) }
     ensures holds { IsLocal shape.now code.now local.new }
     ensures own { local.new.own ≡ local.old.own }
     ensures count { AreWordsOf shape.now words.new.items }
@@ -274,7 +283,8 @@ fn step_on(
         ≡ words_acted shape.now code.now local.old.own (Step victim) words.old.items (standing_of shape.now code.now local.old) }
     ensures stands { standing_of shape.now code.now local.new
         ≡ stand_acted shape.now code.now local.old.own (Step victim) words.old.items (standing_of shape.now code.now local.old) }
-    ensures event { result ≡ event_acted shape.now code.now local.old.own (Step victim) words.old.items (standing_of shape.now code.now local.old) }
+    ensures event { result
+        ≡ event_acted shape.now code.now local.old.own (Step victim) words.old.items (standing_of shape.now code.now local.old) }
     ensures holds { IsLocal shape.now code.now local.new }
     ensures own { local.new.own ≡ local.old.own }
     ensures count { AreWordsOf shape.now words.new.items }
@@ -307,7 +317,8 @@ fn do_act(
         ≡ words_acted shape.now code.now local.old.own act words.old.items (standing_of shape.now code.now local.old) }
     ensures stands { standing_of shape.now code.now local.new
         ≡ stand_acted shape.now code.now local.old.own act words.old.items (standing_of shape.now code.now local.old) }
-    ensures event { result ≡ event_acted shape.now code.now local.old.own act words.old.items (standing_of shape.now code.now local.old) }
+    ensures event { result
+        ≡ event_acted shape.now code.now local.old.own act words.old.items (standing_of shape.now code.now local.old) }
     ensures holds { IsLocal shape.now code.now local.new }
     ensures own { local.new.own ≡ local.old.own }
     ensures count { AreWordsOf shape.now words.new.items }

@@ -10,7 +10,8 @@ pub fn turns_follow_on()
     ensures { (s : Shape) (code : CodeParts) → FollowOn s code }
 {}
 
-/// What they tell comes behind what the first has told: blocks and processors that are counted, and events.
+/// What they tell comes behind what the first has told: blocks and processors that are counted, and
+/// events.
 pub fn turns_tell_on()
     ensures counted { (s : Shape) (code : CodeParts) → TellOn ℕ s code }
     ensures events { (s : Shape) (code : CodeParts) → TellOn Event s code }

@@ -1,5 +1,6 @@
 //! The machine.
-ghost use Rattle.std.specs.Prelude.{◌≡◌, ◌<◌, ◌≤◌, ◌+◌, ◌-◌, ◌^◌, IfOk, length, map, replicate, get_or};
+ghost use Rattle.std.specs.Prelude.{◌≡◌, ◌<◌, ◌≤◌, ◌+◌, ◌-◌, ◌^◌, IfOk, length, map, replicate};
+ghost use Rattle.std.specs.Prelude.{get_or};
 ghost use Rattle.std.specs.List.{All, sum};
 ghost use Rattle.ppm_cells.specs.Cells.{arrays_at};
 ghost use Rattle.ppm_core.specs.Acts.{IsTurnAmong, is_done_at};
@@ -22,8 +23,8 @@ use ppm_words::NoMemory;
 use std::alloc::Global;
 use std::marker::Model;
 
-/// A machine: its words, and its processors at their places. It is seen as its sizes, code and arrays' lengths, its state, and
-/// the counts of its turns since it was loaded.
+/// A machine: its words, and its processors at their places. It is seen as its sizes, code and
+/// arrays' lengths, its state, and the counts of its turns since it was loaded.
 #[derive(Drop)]
 pub struct Machine {
     shape: Shape,
@@ -61,7 +62,8 @@ impl Model for Machine {
 /// All processors of a machine, each lost.
 fn lost_locals(alloc: Global, shape: &Shape, code: &Code) -> Result<Vec<Local>, NoMemory>
     ensures locals { IfOk result (λ locals. AreLocals shape.now code.now locals.items) }
-    ensures stand { IfOk result (λ locals. map (standing_of shape.now code.now) locals.items ≡ replicate shape.now.processors IsLost) }
+    ensures stand { IfOk result (λ locals. map (standing_of shape.now code.now) locals.items
+        ≡ replicate shape.now.processors IsLost) }
 {
     let mut locals = Vec::new(alloc);
     for own in 0..shape.processors {
@@ -85,10 +87,11 @@ fn total(lengths: &[u32]) -> u32
 }
 
 impl Machine {
-    /// The machine with the words of an image, before its first turn: its processors know nothing. `Err` only where memory is
-    /// refused.
+    /// The machine with the words of an image, before its first turn: its processors know nothing.
+    /// `Err` only where memory is refused.
     pub fn load(alloc: Global, image: Image, code: Code) -> Result<Machine, NoMemory>
-        ensures { IfOk result (λ machine. seen machine ≡ loaded image.shape code image.lengths image.words) }
+        ensures { IfOk result (λ machine. seen machine
+            ≡ loaded image.shape code image.lengths image.words) }
     {
         let shape = image.shape;
         let locals = lost_locals(alloc, &shape, &code)?;
@@ -105,9 +108,10 @@ impl Machine {
         })
     }
 
-    /// One turn: the act of a processor, which does nothing where the processor is done. Processor and victim are below the
-    /// number of processors, and there were fewer than 2^62 turns. It takes no memory. Its time depends neither on how many words there
-    /// are nor on the turns before: at most one capsule's instructions lie between two word steps.
+    /// One turn: the act of a processor, which does nothing where the processor is done. Processor
+    /// and victim are below the number of processors, and there were fewer than 2^62 turns. It
+    /// takes no memory. Its time depends neither on how many words there are nor on the turns
+    /// before: at most one capsule's instructions lie between two word steps.
     #[inline(always)]
     pub fn turn(&mut self, turn: Turn) -> Told
         requires among { IsTurnAmong self.old.shape.processors turn }
@@ -118,7 +122,8 @@ impl Machine {
         let Act::Step { .. } = turn.act else {
             return self.make_apart(turn);
         };
-        // Each stand that comes often has the code of a turn to itself, in which the compiler knows it.
+        // Each stand that comes often has the code of a turn to itself, in which the compiler knows
+        // it.
         match self.locals[turn.processor as usize].stand {
             Stand::At { .. } => self.make(turn),
             Stand::Within {
@@ -200,10 +205,11 @@ impl Machine {
         }
     }
 
-    /// Makes up to `most` word steps of one processor, fast, and tells how many: each while the finish word is 0 and
-    /// for which no victim is due, the last one work. It stops early only where the run has ended, or the next step is
-    /// not inside a capsule of a frame; `GoesNoFurther` says exactly where. The processor is below the number of
-    /// processors, and there come to be 2^62 turns at most. No event is told, and no memory is taken.
+    /// Makes up to `most` word steps of one processor, fast, and tells how many: each while the
+    /// finish word is 0 and for which no victim is due, the last one work. It stops early only
+    /// where the run has ended, or the next step is not inside a capsule of a frame;
+    /// `GoesNoFurther` says exactly where. The processor is below the number of processors, and
+    /// there come to be 2^62 turns at most. No event is told, and no memory is taken.
     pub fn steps(&mut self, processor: u32, most: u64) -> u64
         requires processor { processor < self.old.shape.processors }
         requires few { self.old.turns + most ≤ 2 ^ 62 }
@@ -236,7 +242,8 @@ impl Machine {
         is_done(&self.locals[processor as usize])
     }
 
-    /// Whether a processor's coming step is the load of a holder word: the one step for which its turn names the victim.
+    /// Whether a processor's coming step is the load of a holder word: the one step for which its
+    /// turn names the victim.
     pub fn seeks_holder(&self, processor: u32) -> bool
         requires { processor < self.now.shape.processors }
         ensures { result ≡ seeks_holder (stand_of (seen self.now).state processor) }

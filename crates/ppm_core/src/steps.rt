@@ -1,5 +1,5 @@
-//! The steps that one processor makes in a row in capsules of frames: what `act_on` makes of them one by one, with the capsule under way
-//! held apart from the processor between them.
+//! The steps that one processor makes in a row in capsules of frames: what `act_on` makes of them
+//! one by one, with the capsule under way held apart from the processor between them.
 ghost use Rattle.std.specs.Prelude.{◌≡◌, ◌<◌, ◌≤◌, ◌-◌, true, Some};
 ghost use Rattle.ppm_cells.specs.Memory.{AreWordsOf, read};
 ghost use Rattle.ppm_cells.specs.Restart.{IsRestart};
@@ -50,7 +50,8 @@ fn make_step_apart(
     running.observe(shape, code, registers, found)
 }
 
-/// The same; each stage that comes often has what `observe` does there as code of its own, in which the compiler knows the stage.
+/// The same; each stage that comes often has what `observe` does there as code of its own, in which
+/// the compiler knows the stage.
 #[inline(always)]
 fn make_step(
     running: &mut Running,
@@ -89,7 +90,8 @@ fn make_step(
     }
 }
 
-/// How far a capsule came: so many steps were made, each of them work, and this came of the last one; it goes on where there was none.
+/// How far a capsule came: so many steps were made, each of them work, and this came of the last
+/// one; it goes on where there was none.
 #[derive(Clone, Copy, Debug, PartialEq, Eq)]
 struct Stretch {
     made: u64,
@@ -183,8 +185,8 @@ const NONE: Steps = Steps { made: 0, work: 0 };
 /// A step, of work.
 const ONE: Steps = Steps { made: 1, work: 1 };
 
-/// Goes through capsules of the frame that the place goes on with, each from its beginning, at most so many steps, while the finish word is 0. The
-/// first step of each is no work.
+/// Goes through capsules of the frame that the place goes on with, each from its beginning, at most
+/// so many steps, while the finish word is 0. The first step of each is no work.
 fn run_capsules(
     local: &mut Local,
     words: &mut Vec<u64>,
@@ -285,7 +287,8 @@ fn resume(local: &mut Local, words: &mut Vec<u64>, shape: &Shape, code: &Code, r
     stand_behind(local, shape, code, moved, going);
 }
 
-/// Makes steps of a processor in a row in its capsules of frames, at most so many, while the finish word is 0.
+/// Makes steps of a processor in a row in its capsules of frames, at most so many, while the finish
+/// word is 0.
 pub(crate) fn step_along(
     local: &mut Local,
     words: &mut Vec<u64>,
@@ -322,7 +325,8 @@ pub(crate) fn step_along(
     steps
 }
 
-/// Goes on by the capsule in which the processor stands, or by those before which it stands; elsewhere by none.
+/// Goes on by the capsule in which the processor stands, or by those before which it stands;
+/// elsewhere by none.
 fn steps_from(
     local: &mut Local,
     words: &mut Vec<u64>,

@@ -3,7 +3,8 @@ ghost use Rattle.std.specs.Prelude.{◌≡◌, ◌≤◌, ◌+◌, ◌*◌, ◌�
 ghost use Rattle.std.specs.List.{AllByRecursion};
 ghost use Rattle.ppm_tree.specs.Tree.{expression_of};
 ghost use Rattle.ppm_cut_code.specs.Expressions.{size_of};
-ghost use Rattle.ppm_cut_code.specs.Statements.{lent_code, argument_code, arguments_code, stores_code, names_code};
+ghost use Rattle.ppm_cut_code.specs.Statements.{lent_code, argument_code, arguments_code};
+ghost use Rattle.ppm_cut_code.specs.Statements.{stores_code, names_code};
 ghost use Rattle.ppm_cut.specs.Counts.{count_limit, size_limit, arguments_of};
 ghost use Rattle.ppm_cut.specs.Growth.{Grows};
 
@@ -25,7 +26,8 @@ fn push_lent(
 ) -> Result<(), NoMemory>
     requires { length layout.now ≤ count_limit }
     ensures { OnOk result
-        (Grows (λ rest. lent_code layout.now (expression_of value.now) number ∷ rest) body.old.items body.new.items) }
+        (Grows (λ rest. lent_code layout.now (expression_of value.now) number
+        ∷ rest) body.old.items body.new.items) }
 {
     let to = register(number);
     match value {

@@ -3,8 +3,10 @@ ghost use Rattle.std.specs.Prelude.{◌≡◌, ◌≤◌, ◌+◌, ◌*◌, suc,
 ghost use Rattle.std.specs.List.{AllByRecursion};
 ghost use Rattle.ppm_tree.specs.Tree.{expression_of, statement_of, block_of, procedure_of};
 ghost use Rattle.ppm_cut_code.specs.Expressions.{size_of};
-ghost use Rattle.ppm_cut_code.specs.Statements.{value_code, move_code, element_code, put_code, last_code, statement_code, block_code};
-ghost use Rattle.ppm_cut.specs.Counts.{count_limit, size_limit, own_count, own_count_in, hidden_count, hidden_count_in};
+ghost use Rattle.ppm_cut_code.specs.Statements.{value_code, move_code, element_code, put_code};
+ghost use Rattle.ppm_cut_code.specs.Statements.{last_code, statement_code, block_code};
+ghost use Rattle.ppm_cut.specs.Counts.{count_limit, size_limit, own_count, own_count_in};
+ghost use Rattle.ppm_cut.specs.Counts.{hidden_count, hidden_count_in};
 ghost use Rattle.ppm_cut.specs.Counts.{IsShort, IsShortBlock};
 ghost use Rattle.ppm_cut.specs.Growth.{Adds, last_of, IsShortLast};
 
@@ -67,7 +69,8 @@ fn push_assign(
     requires capsules { at ≤ count_limit }
     requires short { size_of (expression_of value.now) ≤ size_limit }
     ensures { OnOk result (Adds home.procedure
-        (value_code layout.now home.spare (expression_of value.now) (suc at) ∷ move_code layout.now home.spare local.now (suc (suc at)) ∷ [])
+        (value_code layout.now home.spare (expression_of value.now) (suc at)
+        ∷ move_code layout.now home.spare local.now (suc (suc at)) ∷ [])
         capsules.old.items capsules.new.items) }
 {
     let first = store_capsule(alloc, layout, home.spare, value, at + 1)?;
@@ -229,7 +232,8 @@ fn push_last(
 ) -> Result<(), NoMemory>
     requires names { length layout.now ≤ count_limit }
     requires short { IsShortLast (last_of last) }
-    ensures { OnOk result (Adds home.procedure (last_code layout.now (last_of last.entry) ∷ []) capsules.old.items capsules.new.items) }
+    ensures { OnOk result (Adds home.procedure (last_code layout.now (last_of last.entry)
+        ∷ []) capsules.old.items capsules.new.items) }
 {
     match last {
         Last::OnTo(next) => {

@@ -59,13 +59,16 @@ impl<'a> Callees<'a> {
         Ok(Callees { procedures, slots })
     }
 
-    /// The first procedure with a name; behind all others, without slots and parameters, where there is none.
+    /// The first procedure with a name; behind all others, without slots and parameters, where
+    /// there is none.
     pub fn find(&self, name: &[u8]) -> Callee<'a>
         requires few { length self.now ≤ count_limit }
         requires small { AllByRecursion (λ p. length p.parameters ≤ 12) self.now }
         ensures number { result.number ≡ number_of (map procedure_of self.now) name.now }
-        ensures slots { result.slots ≡ procedure_slots (procedure_named (map procedure_of self.now) name.now) }
-        ensures parameters { result.parameters.now ≡ (procedure_named (map procedure_of self.now) name.now).parameters }
+        ensures slots { result.slots
+            ≡ procedure_slots (procedure_named (map procedure_of self.now) name.now) }
+        ensures parameters { result.parameters.now
+            ≡ (procedure_named (map procedure_of self.now) name.now).parameters }
         ensures few { length result.parameters.now ≤ 12 }
         ensures within { result.slots ≤ 65535 }
     {

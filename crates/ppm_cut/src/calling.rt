@@ -45,7 +45,8 @@ pub fn call_capsule(
     requires parameters { AllByRecursion (λ p. length p.parameters ≤ 12) callees.now }
     requires names { length layout.now ≤ count_limit }
     requires short { IsShortSide (side_of side.now) }
-    ensures { IfOk result (λ body. body.items ≡ call_code (map procedure_of callees.now) layout.now (side_of side.now) next) }
+    ensures { IfOk result (λ body. body.items
+        ≡ call_code (map procedure_of callees.now) layout.now (side_of side.now) next) }
 {
     let callee = callees.find(side.callee.name.as_bytes());
     let arguments = side.arguments.as_slice();

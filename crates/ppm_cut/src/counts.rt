@@ -2,7 +2,8 @@
 ghost use Rattle.std.specs.Prelude.{◌≡◌, ◌≤◌, ◌+◌};
 ghost use Rattle.ppm_tree.specs.Tree.{statement_of, block_of};
 ghost use Rattle.ppm_cut_code.specs.Numbers.{behind, end_of, hidden_behind, hidden_behind_block};
-ghost use Rattle.ppm_cut.specs.Counts.{count_limit, own_count, own_count_in, hidden_count, hidden_count_in};
+ghost use Rattle.ppm_cut.specs.Counts.{count_limit, own_count, own_count_in, hidden_count};
+ghost use Rattle.ppm_cut.specs.Counts.{hidden_count_in};
 
 use ppm_tree::Stmt;
 
@@ -39,7 +40,8 @@ pub fn end_of(block: &[Stmt], at: u32) -> u32
     next
 }
 
-/// The number behind the hidden procedures of a statement, the first of which has the number `hidden`.
+/// The number behind the hidden procedures of a statement, the first of which has the number
+/// `hidden`.
 #[cycle(hidden)]
 pub fn hidden_behind(statement: &Stmt, hidden: u32) -> u32
     requires counts { hidden + hidden_count (statement_of statement.now) ≤ count_limit }

@@ -6,7 +6,8 @@ ghost use Rattle.ppm_tree.specs.Program.{whole_from};
 ghost use Rattle.ppm_regions.specs.Admission.{IsAdmitted};
 ghost use Rattle.ppm_cut_bounds.specs.Bounds.{IsWithinBounds};
 ghost use Rattle.ppm_cut_code.specs.Routines.{code_of, texts_from, hidden_from};
-ghost use Rattle.ppm_cut.specs.Counts.{count_limit, own_counts, hidden_counts, IsShortProcedure, IsSmallProcedure};
+ghost use Rattle.ppm_cut.specs.Counts.{count_limit, own_counts, hidden_counts, IsShortProcedure};
+ghost use Rattle.ppm_cut.specs.Counts.{IsSmallProcedure};
 ghost use Rattle.ppm_cut.specs.Drafts.{Drafts};
 
 use crate::callees::Callees;
@@ -40,7 +41,8 @@ fn arrays_of(
     parameters: &[Parameter],
 ) -> Result<Vec<u32>, NoMemory>
     requires few { length arrays.now ≤ 64 }
-    ensures { IfOk result (λ numbers. numbers.items ≡ map (λ p. (whole_from 0 arrays.now p.name.name).array) parameters.now) }
+    ensures { IfOk result (λ numbers. numbers.items
+        ≡ map (λ p. (whole_from 0 arrays.now p.name.name).array) parameters.now) }
 {
     let mut numbers = Vec::new(alloc);
     for parameter in parameters {

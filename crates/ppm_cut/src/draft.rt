@@ -3,7 +3,8 @@ ghost use Rattle.std.specs.Prelude.{◌≡◌, ◌≤◌, ◌+◌, ℕ, List, []
 ghost use Rattle.std.specs.List.{AllByRecursion};
 ghost use Rattle.ppm_tree.specs.Tree.{statement_of, block_of, procedure_of};
 ghost use Rattle.ppm_cut_code.specs.Routines.{OfText, Hidden, hidden_of, hidden_of_block};
-ghost use Rattle.ppm_cut.specs.Counts.{count_limit, own_count, own_count_in, hidden_count, hidden_count_in};
+ghost use Rattle.ppm_cut.specs.Counts.{count_limit, own_count, own_count_in, hidden_count};
+ghost use Rattle.ppm_cut.specs.Counts.{hidden_count_in};
 ghost use Rattle.ppm_cut.specs.Counts.{IsShort, IsShortBlock, IsShortProcedure};
 ghost use Rattle.ppm_cut.specs.Drafts.{Drafts};
 
@@ -40,7 +41,8 @@ impl Draft {
         }
     }
 
-    /// Adds a procedure of the text; it is the one with this number, and its first hidden procedure has the number `hidden`.
+    /// Adds a procedure of the text; it is the one with this number, and its first hidden procedure
+    /// has the number `hidden`.
     pub fn push_text<'a>(
         &mut self,
         alloc: Global,
@@ -84,7 +86,8 @@ impl Draft {
         Ok(())
     }
 
-    /// Adds a hidden procedure with this number and this layout, for the region of an `each` and its block.
+    /// Adds a hidden procedure with this number and this layout, for the region of an `each` and
+    /// its block.
     fn push_sweep<'a>(
         &mut self,
         alloc: Global,
@@ -102,9 +105,18 @@ impl Draft {
         requires capsules { self.old.next + 4 + own_count_in (block_of block.now) ≤ count_limit }
         requires hidden { number + 1 + hidden_count_in (block_of block.now) ≤ count_limit }
         requires short { IsShortBlock (block_of block.now) }
-        ensures drafts { (part index : List ℕ) (names : List (List ℕ)) → layout.old ≡ part ∷ index ∷ names
+        ensures drafts { (part index : List ℕ) (names : List (List ℕ))
+            → layout.old ≡ part ∷ index ∷ names
             → OnOk result (Drafts (map procedure_of callees.now)
-            (Hidden (record { number = number; line = region.now.line; part = part; index = index; names = names; block = block_of block.now }) ∷ [])
+            (Hidden (record {
+              number = number;
+              line = region.now.line;
+              part = part;
+              index
+                  = index;
+              names = names;
+              block = block_of block.now;
+            }) ∷ [])
             self.old self.new) }
         ensures next { OnOk result (self.new.next ≤ self.old.next + 4 + own_count_in (block_of block.now)) }
         ensures layout { OnOk result (layout.new ≡ layout.old) }

@@ -50,7 +50,8 @@ pub fn each_capsule(
 ) -> Result<Vec<Instr>, NoMemory>
     requires names { length layout.now ≤ count_limit }
     requires counts { own_count_in (block_of block.now) ≤ count_limit }
-    ensures { IfOk result (λ body. body.items ≡ each_code layout.now region.now (block_of block.now) hidden next) }
+    ensures { IfOk result (λ body. body.items
+        ≡ each_code layout.now region.now (block_of block.now) hidden next) }
 {
     let mut names = Layout::new(alloc);
     names.push_caught(layout, block)?;
@@ -105,7 +106,8 @@ fn push_halves(body: &mut Vec<Instr>, line: u32) -> Result<(), NoMemory>
     push_sum(body, 5, 4, 1, line)
 }
 
-/// Appends the stores of a half of a hidden procedure into its frame: its part, its first index, and the names of outside.
+/// Appends the stores of a half of a hidden procedure into its frame: its part, its first index,
+/// and the names of outside.
 fn push_half(
     body: &mut Vec<Instr>,
     offset: u32,

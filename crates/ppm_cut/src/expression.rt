@@ -3,7 +3,8 @@ ghost use Rattle.std.specs.Prelude.{◌≡◌, ◌≤◌, ◌+◌, ◌*◌, ◌�
 ghost use Rattle.ppm_code.specs.declared.instr.Instr.TheVariants as instr;
 ghost use Rattle.ppm_cut_code.specs.Layout.{register as register_of};
 ghost use Rattle.ppm_tree.specs.Tree.{expression_of};
-ghost use Rattle.ppm_cut_code.specs.Expressions.{size_of, truth_code, operator_code, right_register, branch_code, expression_code};
+ghost use Rattle.ppm_cut_code.specs.Expressions.{size_of, truth_code, operator_code};
+ghost use Rattle.ppm_cut_code.specs.Expressions.{right_register, branch_code, expression_code};
 ghost use Rattle.ppm_cut.specs.Counts.{count_limit};
 ghost use Rattle.ppm_cut.specs.Growth.{Grows};
 
@@ -147,7 +148,8 @@ fn push_branch(
 fn push_difference(body: &mut Vec<Instr>, number: u32, line: u32) -> Result<(), NoMemory>
     requires { number ≤ 2 * count_limit }
     ensures { OnOk result (Grows
-        (λ rest. instr.Sub (register_of number) (register_of number) (register_of (suc number)) line ∷ rest) body.old.items body.new.items) }
+        (λ rest. instr.Sub (register_of number) (register_of number) (register_of (suc number)) line
+        ∷ rest) body.old.items body.new.items) }
 {
     let to = register(number);
     let right = register_after(number);
@@ -162,8 +164,8 @@ fn push_difference(body: &mut Vec<Instr>, number: u32, line: u32) -> Result<(), 
     )
 }
 
-/// Appends the instructions of an expression, whose value comes into a register; those from it on are free. The first
-/// instruction has the number `at` in its capsule.
+/// Appends the instructions of an expression, whose value comes into a register; those from it on
+/// are free. The first instruction has the number `at` in its capsule.
 pub fn push_expression(
     body: &mut Vec<Instr>,
     layout: &Layout<'_>,

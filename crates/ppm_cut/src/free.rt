@@ -122,7 +122,9 @@ fn is_let(statement: &Stmt, name: &Name) -> bool
 /// Whether a block names it, and neither of two that are declared in front.
 #[cycle(free)]
 fn is_free_under(first: &Named, second: &Named, block: &[Stmt], name: &Name) -> bool
-    ensures { result ≡ has (without (first.now.name ∷ second.now.name ∷ []) (free_names (block_of block.now))) name.now }
+    ensures { result
+        ≡ has (without (first.now.name ∷ second.now.name
+        ∷ []) (free_names (block_of block.now))) name.now }
 {
     if name.is(&first.name) {
         return false;

@@ -19,7 +19,8 @@ pub fn push(body: &mut Vec<Instr>, instr: Instr) -> Result<(), NoMemory>
 
 /// Appends a number in a register.
 pub fn push_const(body: &mut Vec<Instr>, to_number: u32, value: i64) -> Result<(), NoMemory>
-    ensures { OnOk result (Grows (λ rest. instr.Const (register_of to_number) value ∷ rest) body.old.items body.new.items) }
+    ensures { OnOk result (Grows (λ rest. instr.Const (register_of to_number) value
+        ∷ rest) body.old.items body.new.items) }
 {
     let to = register(to_number);
     push(body, Instr::Const { to, value })
@@ -27,7 +28,8 @@ pub fn push_const(body: &mut Vec<Instr>, to_number: u32, value: i64) -> Result<(
 
 /// Appends a load of a slot into a register.
 pub fn push_load(body: &mut Vec<Instr>, to_number: u32, slot: u32) -> Result<(), NoMemory>
-    ensures { OnOk result (Grows (λ rest. instr.LoadSlot (register_of to_number) slot ∷ rest) body.old.items body.new.items) }
+    ensures { OnOk result (Grows (λ rest. instr.LoadSlot (register_of to_number) slot
+        ∷ rest) body.old.items body.new.items) }
 {
     let to = register(to_number);
     push(body, Instr::LoadSlot { to, slot })
@@ -35,7 +37,8 @@ pub fn push_load(body: &mut Vec<Instr>, to_number: u32, slot: u32) -> Result<(),
 
 /// Appends a store of a register into a slot.
 pub fn push_store(body: &mut Vec<Instr>, slot: u32, from_number: u32) -> Result<(), NoMemory>
-    ensures { OnOk result (Grows (λ rest. instr.StoreCur slot (register_of from_number) ∷ rest) body.old.items body.new.items) }
+    ensures { OnOk result (Grows (λ rest. instr.StoreCur slot (register_of from_number)
+        ∷ rest) body.old.items body.new.items) }
 {
     let from = register(from_number);
     push(body, Instr::StoreCur { slot, from })
@@ -43,7 +46,8 @@ pub fn push_store(body: &mut Vec<Instr>, slot: u32, from_number: u32) -> Result<
 
 /// Appends a store of a register into a word of the new block.
 pub fn push_store_new(body: &mut Vec<Instr>, offset: u32, from_number: u32) -> Result<(), NoMemory>
-    ensures { OnOk result (Grows (λ rest. instr.StoreNew offset (register_of from_number) ∷ rest) body.old.items body.new.items) }
+    ensures { OnOk result (Grows (λ rest. instr.StoreNew offset (register_of from_number)
+        ∷ rest) body.old.items body.new.items) }
 {
     let from = register(from_number);
     push(body, Instr::StoreNew { offset, from })
@@ -185,7 +189,8 @@ pub fn push_branch_zero(
     tested_number: u32,
     target: u32,
 ) -> Result<(), NoMemory>
-    ensures { OnOk result (Grows (λ rest. instr.BranchZero (register_of tested_number) target ∷ rest) body.old.items body.new.items) }
+    ensures { OnOk result (Grows (λ rest. instr.BranchZero (register_of tested_number) target
+        ∷ rest) body.old.items body.new.items) }
 {
     let tested = register(tested_number);
     push(body, Instr::BranchZero { tested, target })
@@ -219,7 +224,8 @@ pub fn push_put(
 
 /// Appends what the frame gives.
 pub fn push_give(body: &mut Vec<Instr>, from_number: u32) -> Result<(), NoMemory>
-    ensures { OnOk result (Grows (λ rest. instr.Give (register_of from_number) ∷ rest) body.old.items body.new.items) }
+    ensures { OnOk result (Grows (λ rest. instr.Give (register_of from_number)
+        ∷ rest) body.old.items body.new.items) }
 {
     let from = register(from_number);
     push(body, Instr::Give { from })
@@ -234,14 +240,16 @@ pub fn push_room(body: &mut Vec<Instr>, words: u32) -> Result<(), NoMemory>
 
 /// Appends the end of a capsule that goes on with another.
 pub fn push_onward(body: &mut Vec<Instr>, next: u32) -> Result<(), NoMemory>
-    ensures { OnOk result (Grows (λ rest. instr.Ends (ends.Next next) ∷ rest) body.old.items body.new.items) }
+    ensures { OnOk result (Grows (λ rest. instr.Ends (ends.Next next)
+        ∷ rest) body.old.items body.new.items) }
 {
     push(body, Instr::Ends(End::Next { capsule: next }))
 }
 
 /// Appends the end of a frame.
 pub fn push_finish(body: &mut Vec<Instr>) -> Result<(), NoMemory>
-    ensures { OnOk result (Grows (λ rest. instr.Ends ends.Finish ∷ rest) body.old.items body.new.items) }
+    ensures { OnOk result (Grows (λ rest. instr.Ends ends.Finish
+        ∷ rest) body.old.items body.new.items) }
 {
     push(body, Instr::Ends(End::Finish))
 }

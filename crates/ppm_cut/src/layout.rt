@@ -133,7 +133,8 @@ impl<'a> Layout<'a> {
     }
 }
 
-/// The layout of the hidden procedure for a block: its part, its first index, and the names of outside.
+/// The layout of the hidden procedure for a block: its part, its first index, and the names of
+/// outside.
 pub fn hidden_layout<'a>(
     alloc: Global,
     outer: &Layout<'a>,
@@ -141,7 +142,8 @@ pub fn hidden_layout<'a>(
     index: &'a Named,
     block: &[Stmt],
 ) -> Result<Layout<'a>, NoMemory>
-    ensures { IfOk result (λ layout. layout ≡ part.now.name ∷ index.now.name ∷ caught outer.now (block_of block.now)) }
+    ensures { IfOk result (λ layout. layout ≡ part.now.name ∷ index.now.name
+        ∷ caught outer.now (block_of block.now)) }
 {
     let mut layout = Layout::new(alloc);
     layout.push(&part.name)?;

@@ -2,7 +2,8 @@
 ghost use Rattle.std.specs.Prelude.{◌≡◌, ◌≤◌, ◌*◌, length, IfOk};
 ghost use Rattle.ppm_tree.specs.Tree.{expression_of, give_of};
 ghost use Rattle.ppm_cut_code.specs.Expressions.{size_of};
-ghost use Rattle.ppm_cut_code.specs.Statements.{onward, value_code, move_code, element_code, put_code, test_code, split_code, give_code};
+ghost use Rattle.ppm_cut_code.specs.Statements.{onward, value_code, move_code, element_code};
+ghost use Rattle.ppm_cut_code.specs.Statements.{put_code, test_code, split_code, give_code};
 ghost use Rattle.ppm_cut.specs.Counts.{count_limit, size_limit, IsShortGive};
 
 use crate::expression::push_expression;
@@ -26,8 +27,8 @@ pub fn onward(alloc: Global, next: u32) -> Result<Vec<Instr>, NoMemory>
     Ok(body)
 }
 
-/// The capsule that puts a value into a slot: of the declaration of a local that is the next slot's, or the first capsule of an
-/// assignment to a local.
+/// The capsule that puts a value into a slot: of the declaration of a local that is the next
+/// slot's, or the first capsule of an assignment to a local.
 pub fn store_capsule(
     alloc: Global,
     layout: &Layout<'_>,
@@ -37,7 +38,8 @@ pub fn store_capsule(
 ) -> Result<Vec<Instr>, NoMemory>
     requires names { length layout.now ≤ count_limit }
     requires short { size_of (expression_of value.now) ≤ size_limit }
-    ensures { IfOk result (λ body. body.items ≡ value_code layout.now slot (expression_of value.now) next) }
+    ensures { IfOk result (λ body. body.items
+        ≡ value_code layout.now slot (expression_of value.now) next) }
 {
     let mut body = Vec::new(alloc);
     push_expression(&mut body, layout, value, 0, 0)?;
@@ -120,7 +122,8 @@ pub fn test_capsule(
 ) -> Result<Vec<Instr>, NoMemory>
     requires names { length layout.now ≤ count_limit }
     requires short { size_of (expression_of test.now) ≤ size_limit }
-    ensures { IfOk result (λ body. body.items ≡ test_code layout.now (expression_of test.now) inside next) }
+    ensures { IfOk result (λ body. body.items
+        ≡ test_code layout.now (expression_of test.now) inside next) }
 {
     let mut body = Vec::new(alloc);
     push_expression(&mut body, layout, test, 0, 0)?;
@@ -141,7 +144,8 @@ pub fn split_capsule(
 ) -> Result<Vec<Instr>, NoMemory>
     requires names { length layout.now ≤ count_limit }
     requires short { size_of (expression_of at.now) ≤ size_limit }
-    ensures { IfOk result (λ body. body.items ≡ split_code layout.now line region.now (expression_of at.now) next) }
+    ensures { IfOk result (λ body. body.items
+        ≡ split_code layout.now line region.now (expression_of at.now) next) }
 {
     let mut body = Vec::new(alloc);
     let free = layout.len();

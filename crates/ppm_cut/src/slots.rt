@@ -3,7 +3,8 @@ ghost use Rattle.std.specs.Prelude.{◌≡◌, ◌≤◌, ◌+◌, ◌*◌, leng
 ghost use Rattle.ppm_tree.specs.Tree.{statement_of, block_of, procedure_of};
 ghost use Rattle.ppm_cut_bounds.specs.Names.{lets_of};
 ghost use Rattle.ppm_cut_bounds.specs.Slots.{most_within, most_in_force};
-ghost use Rattle.ppm_cut_code.specs.Slots.{assigns, has_assignment, spare_slots, named_slots, procedure_slots};
+ghost use Rattle.ppm_cut_code.specs.Slots.{assigns, has_assignment, spare_slots, named_slots};
+ghost use Rattle.ppm_cut_code.specs.Slots.{procedure_slots};
 ghost use Rattle.ppm_cut_code.specs.Slots.{hidden_named_slots, hidden_slots};
 ghost use Rattle.ppm_cut.specs.Counts.{count_limit, own_count, own_count_in};
 

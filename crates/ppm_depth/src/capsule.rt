@@ -7,7 +7,8 @@ ghost use Rattle.ppm_code.specs.Locations.{Where};
 ghost use Rattle.ppm_code.specs.Strands.{instrs_of as instrs_in_code};
 ghost use Rattle.ppm_code.specs.Tidy.{IsTidy};
 ghost use Rattle.ppm_depth.specs.Store.{Shows};
-ghost use Rattle.ppm_depth.specs.Whole.{IsPlace, IsWhole, Keeps, block_at, kept_of, procedure_at, size_at, slots_at};
+ghost use Rattle.ppm_depth.specs.Whole.{IsPlace, IsWhole, Keeps, block_at, kept_of, procedure_at};
+ghost use Rattle.ppm_depth.specs.Whole.{size_at, slots_at};
 
 use crate::store::{Place, Store};
 use ppm_code::{Act, Code, End, Instr};
@@ -29,8 +30,8 @@ pub(crate) fn instrs_of(code: &Code, number: u32) -> &[Instr]
     parts.capsules.as_slice()[number as usize].instrs.as_slice()
 }
 
-/// The words of a new block that a capsule may store into: those that it asks for, and no more than the
-/// largest fork block has.
+/// The words of a new block that a capsule may store into: those that it asks for, and no more than
+/// the largest fork block has.
 pub(crate) fn block_words(instrs: &[Instr]) -> usize
     ensures { result ≡ kept_of (room_of instrs.now) }
 {

@@ -12,8 +12,9 @@ use ppm_code::Code;
 use ppm_words::{Input, NamedArray, NoMemory, Outcome};
 use std::alloc::Global;
 
-/// What a depth-first run came to, and what it counted: the capsules run, the forks that they opened, and the
-/// words of the pools, which are the root's frame and all blocks that the capsules asked for.
+/// What a depth-first run came to, and what it counted: the capsules run, the forks that they
+/// opened, and the words of the pools, which are the root's frame and all blocks that the capsules
+/// asked for.
 #[derive(Debug, Drop)]
 pub struct DepthRun {
     pub outcome: Outcome,
@@ -39,8 +40,9 @@ fn outcome_of(
     }
 }
 
-/// Runs a code depth first from an input, with a stack of its own: at most `capsules` capsules, up to 2^40.
-/// `NotWithin` exactly where more would be run; the counts are then those of the first so many.
+/// Runs a code depth first from an input, with a stack of its own: at most `capsules` capsules, up
+/// to 2^40. `NotWithin` exactly where more would be run; the counts are then those of the first so
+/// many.
 pub fn depth_first(
     alloc: Global,
     code: &Code,

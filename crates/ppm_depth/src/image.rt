@@ -51,7 +51,8 @@ fn regions(alloc: Global, arrays: &[NamedArray]) -> Result<Vec<u64>, NoMemory>
 /// Appends the region words of arrays by their numbers.
 fn push_regions(blocks: &mut Vec<u64>, regions: &[u64], arrays: &[u32]) -> Result<(), NoMemory>
     requires { All (λ a. a < length regions.now) arrays.now }
-    ensures { OnOk result (blocks.new.items ≡ blocks.old.items ++ map (λ a. get_or regions.now a 0) arrays.now) }
+    ensures { OnOk result (blocks.new.items
+        ≡ blocks.old.items ++ map (λ a. get_or regions.now a 0) arrays.now) }
 {
     for array in arrays {
         blocks.push(regions[*array as usize])?;

@@ -1,7 +1,10 @@
-//! The depth-first run of a code: one strand runs each capsule whole, a left branch before a right one.
+//! The depth-first run of a code: one strand runs each capsule whole, a left branch before a right
+//! one.
 //! Model: a code's strands (`ppm_code`, `specs/Strands`), run depth first (`specs/Run`).
-//! Contract: `depth_first` gives the outcome of that run with its counts, or that it takes more capsules.
-//! Stands on `ppm_code` and the chains in turn of `ppm_strands`; the compiler is proved by it, and the machine's runs are to be.
+//! Contract: `depth_first` gives the outcome of that run with its counts, or that it takes more
+//! capsules.
+//! Stands on `ppm_code` and the chains in turn of `ppm_strands`; the compiler is proved by it, and
+//! the machine's runs are to be.
 //! After the depth-first order of fork-join programs; the stack of blocks is this project's.
 #![tactic(auto)]
 

@@ -38,7 +38,8 @@ impl Store {
     /// Puts a word to a location.
     fn store(&mut self, place: Place, location: Location, word: u64)
         requires { IsThere place location self.old.blocks.items self.old.words.items }
-        ensures blocks { self.new.blocks.items ≡ blocks_with place location word self.old.blocks.items }
+        ensures blocks { self.new.blocks.items
+            ≡ blocks_with place location word self.old.blocks.items }
         ensures words { self.new.words.items ≡ words_with location word self.old.words.items }
     {
         match location {
@@ -76,7 +77,8 @@ impl Store {
 
     /// A new block on the stack, with 0 in its words.
     pub(crate) fn open_block(&mut self, words: usize) -> Result<(), NoMemory>
-        ensures blocks { OnOk result (self.new.blocks.items ≡ self.old.blocks.items ++ replicate words 0) }
+        ensures blocks { OnOk result (self.new.blocks.items
+            ≡ self.old.blocks.items ++ replicate words 0) }
         ensures words { OnOk result (self.new.words.items ≡ self.old.words.items) }
     {
         for _ in 0..words {

@@ -5,9 +5,12 @@ ghost use Rattle.ppm_code.specs.Code.{EndFits, IsCode};
 ghost use Rattle.ppm_code.specs.Limits.{room_limit};
 ghost use Rattle.ppm_code.specs.Strands.{instrs_of as instrs_in_code};
 ghost use Rattle.ppm_code.specs.Tidy.{IsTidy};
-ghost use Rattle.ppm_depth.specs.Moves.{AreSlotsThere, IsSlotThere, entry_at, gone_on, joined, resumed};
-ghost use Rattle.ppm_depth.specs.Moves.{counts_by, now_after, stack_after, waiting_after, with_slot};
-ghost use Rattle.ppm_depth.specs.Moves.{stack_gone_on, stack_joined, stack_resumed, waiting_resumed, pending};
+ghost use Rattle.ppm_depth.specs.Moves.{AreSlotsThere, IsSlotThere, entry_at, gone_on, joined};
+ghost use Rattle.ppm_depth.specs.Moves.{resumed};
+ghost use Rattle.ppm_depth.specs.Moves.{counts_by, now_after, stack_after, waiting_after};
+ghost use Rattle.ppm_depth.specs.Moves.{with_slot};
+ghost use Rattle.ppm_depth.specs.Moves.{stack_gone_on, stack_joined, stack_resumed};
+ghost use Rattle.ppm_depth.specs.Moves.{waiting_resumed, pending};
 ghost use Rattle.ppm_depth.specs.Stack.{Strands};
 ghost use Rattle.ppm_depth.specs.Start.{words_of};
 ghost use Rattle.ppm_depth.specs.Turns.{AreFew, HasCome, ShowsTree, Turns, counts_of};
@@ -29,7 +32,8 @@ pub struct Counts {
     pub block_words: u64,
 }
 
-/// The strand: the words that it works on, the frames that wait, the outermost first, and its counts.
+/// The strand: the words that it works on, the frames that wait, the outermost first, and its
+/// counts.
 #[derive(Drop)]
 pub struct Strand {
     pub store: Store,
@@ -99,10 +103,13 @@ impl Strand {
         requires there { frame.base + size_at code.now frame.capsule ≤ block }
         requires block { block ≤ length self.old.store.blocks.items }
         requires fits { EndFits code.now (procedure_at code.now frame.capsule) (instrs_in_code code.now frame.capsule) end }
-        ensures now { IfOk result (λ now. now ≡ now_after code.now frame block self.old.store.blocks.items end) }
-        ensures blocks { OnOk result (self.new.store.blocks.items ≡ stack_after block self.old.store.blocks.items end) }
+        ensures now { IfOk result (λ now. now
+            ≡ now_after code.now frame block self.old.store.blocks.items end) }
+        ensures blocks { OnOk result (self.new.store.blocks.items
+            ≡ stack_after block self.old.store.blocks.items end) }
         ensures waiting { OnOk result
-            (self.new.waiting.items ≡ waiting_after code.now frame block self.old.waiting.items end) }
+            (self.new.waiting.items
+            ≡ waiting_after code.now frame block self.old.waiting.items end) }
         ensures words { self.new.store.words.items ≡ self.old.store.words.items }
         ensures counts { self.new.counts ≡ self.old.counts }
     {
@@ -171,8 +178,10 @@ impl Strand {
         requires few { AreFew self.old.counts }
         requires capsules { self.old.counts.capsules < 2 ^ 40 }
         ensures turn { IfOk result (λ now. Turns code.now 1 self.old self.new (At frame) now) }
-        ensures words { OnOk result (length self.new.store.words.items ≡ length self.old.store.words.items) }
-        ensures counts { OnOk result ((self.new.counts.capsules ≡ self.old.counts.capsules + 1) × AreFew self.new.counts) }
+        ensures words { OnOk result (length self.new.store.words.items
+            ≡ length self.old.store.words.items) }
+        ensures counts { OnOk result ((self.new.counts.capsules ≡ self.old.counts.capsules + 1)
+            × AreFew self.new.counts) }
         ensures pending { OnOk result (pending self.new.waiting.items ≤ pending self.old.waiting.items + 4) }
     {
         let block = self.store.blocks.len();
@@ -194,9 +203,11 @@ impl Strand {
         requires slots { AreSlotsThere waiting.frame waiting.on waiting.block }
         ensures now { IfOk result (λ now. now ≡ resumed waiting waiting.on finish) }
         ensures blocks { OnOk result
-            (self.new.store.blocks.items ≡ stack_resumed waiting waiting.on finish self.old.store.blocks.items) }
+            (self.new.store.blocks.items
+            ≡ stack_resumed waiting waiting.on finish self.old.store.blocks.items) }
         ensures waiting { OnOk result
-            (self.new.waiting.items ≡ waiting_resumed waiting waiting.on finish self.old.waiting.items) }
+            (self.new.waiting.items
+            ≡ waiting_resumed waiting waiting.on finish self.old.waiting.items) }
         ensures words { self.new.store.words.items ≡ self.old.store.words.items }
         ensures counts { self.new.counts ≡ self.old.counts }
     {
@@ -239,7 +250,8 @@ impl Strand {
         ensures come { (t : Strands) → ShowsTree code.now self.old (At root) t
             → IfOk result (HasCome code.now (length self.old.store.words.items) limit t
             (words_of self.old.store.words.items) self.new) }
-        ensures words { OnOk result (length self.new.store.words.items ≡ length self.old.store.words.items) }
+        ensures words { OnOk result (length self.new.store.words.items
+            ≡ length self.old.store.words.items) }
         ensures few { OnOk result (AreFew self.new.counts) }
         ensures limit { OnOk result (self.new.counts.capsules ≤ limit) }
     {
@@ -261,7 +273,8 @@ impl Strand {
     }
 }
 
-/// How a frame goes on once both its branches are over: it takes in the left value before the right one.
+/// How a frame goes on once both its branches are over: it takes in the left value before the right
+/// one.
 fn join(
     blocks: &mut Vec<u64>,
     frame: Frame,

@@ -10,7 +10,8 @@ ghost use Rattle.ppm_core.specs.Situation.{Situation};
 ghost use Rattle.ppm_choice.specs.Obeying.{Past, nothing_done};
 ghost use Rattle.ppm_choice.specs.Paces.{IsPace};
 ghost use Rattle.ppm_driver.specs.Obedience.{ObeysTo, RunsTo};
-ghost use Rattle.ppm_driver.specs.Going.{HasDrawn, IsNext, IsSomewhere, Leads, LeadsBy, is_over as over};
+ghost use Rattle.ppm_driver.specs.Going.{HasDrawn, IsNext, IsSomewhere, Leads, LeadsBy};
+ghost use Rattle.ppm_driver.specs.Going.{is_over as over};
 
 use ppm_choice::{Choice, Limits, Pace, choose, clear_steps};
 use ppm_core::Machine;
@@ -56,7 +57,8 @@ fn act(
     requires keeper { IsKeeper plan_form plan.now.items 0 }
     requires processors { plan.now.processors ≡ (seen machine.old).shape.processors }
     requires few { (seen machine.old).turns < 2 ^ 62 }
-    ensures leads { (m : Situation) → Leads plan.now limits m (seen machine.old) pace.old victims.old
+    ensures leads { (m : Situation)
+        → Leads plan.now limits m (seen machine.old) pace.old victims.old
         → LeadsBy plan.now limits m result (seen machine.new) pace.new victims.new }
     ensures turns_rise { result ≡ true → (seen machine.old).turns < (seen machine.new).turns }
     ensures processors { (seen machine.new).shape ≡ (seen machine.old).shape }
@@ -73,12 +75,14 @@ fn act(
     true
 }
 
-/// Makes steps of processor 0 in a row, as many as it makes at once and surely obeys in; whether there were any.
+/// Makes steps of processor 0 in a row, as many as it makes at once and surely obeys in; whether
+/// there were any.
 fn go_ahead(machine: &mut Machine, pace: &mut Pace, plan: &Plan, limits: Limits) -> bool
     requires keeper { IsKeeper plan_form plan.now.items 0 }
     requires few { (seen machine.old).turns < 2 ^ 62 }
     requires work { pace.old.work ≤ (seen machine.old).turns }
-    ensures leads { (m : Situation) (victims : Drawing) → Leads plan.now limits m (seen machine.old) pace.old victims
+    ensures leads { (m : Situation) (victims : Drawing)
+        → Leads plan.now limits m (seen machine.old) pace.old victims
         → Leads plan.now limits m (seen machine.new) pace.new victims }
     ensures turns_rise { result ≡ true → (seen machine.old).turns < (seen machine.new).turns }
     ensures none { result ≡ false → seen machine.new ≡ seen machine.old }
@@ -97,14 +101,15 @@ fn go_ahead(machine: &mut Machine, pace: &mut Pace, plan: &Plan, limits: Limits)
     true
 }
 
-/// Lets processor 0, the keeper, obey a plan and limits until it is done. No other processor acts: so where it is the only one, each
-/// obeys. It may never return.
+/// Lets processor 0, the keeper, obey a plan and limits until it is done. No other processor acts:
+/// so where it is the only one, each obeys. It may never return.
 pub fn obey<R: Wait>(rt: &R, machine: &mut Machine, plan: &Plan, limits: Limits)
     requires keeper { IsKeeper plan_form plan.now.items 0 }
     requires processors { plan.now.processors ≡ (seen machine.old).shape.processors }
     requires begins { stand_of (seen machine.old).state 0 ≡ IsLost }
     ensures alone { ObeysTo plan.now limits nothing_done (seen machine.old) (seen machine.new) }
-    ensures all { (seen machine.old).shape.processors ≡ 1 → RunsTo plan.now limits (seen machine.old) (seen machine.new) }
+    ensures all { (seen machine.old).shape.processors ≡ 1
+        → RunsTo plan.now limits (seen machine.old) (seen machine.new) }
 {
     act_alone(rt, machine, plan, limits);
 }

@@ -43,7 +43,8 @@ pub(crate) fn arrays_of(
     arrays: &[NamedArray],
 ) -> Result<Items<NamedArray>, NoMemory>
     requires lengths { (seen machine.now).array_lengths ≡ map (λ a. length a.values) arrays.now }
-    ensures { IfOk result (λ named. named ≡ arrays_from (seen machine.now).shape (seen machine.now).array_lengths (seen machine.now).state.words 0 arrays.now) }
+    ensures { IfOk result (λ named. named
+        ≡ arrays_from (seen machine.now).shape (seen machine.now).array_lengths (seen machine.now).state.words 0 arrays.now) }
 {
     let mut named = Vec::new(alloc);
     let mut number = 0;

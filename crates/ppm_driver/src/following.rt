@@ -1,11 +1,14 @@
 //! Follows a schedule.
-ghost use Rattle.std.specs.Prelude.{◌≡◌, ◌<◌, ◌≤◌, ◌^◌, ◌++◌, [], ◌∷◌, IsTrue, ◌↔◌, length, replicate, nat_lt, true, false, map, slice_index};
+ghost use Rattle.std.specs.Prelude.{◌≡◌, ◌<◌, ◌≤◌, ◌^◌, ◌++◌, [], ◌∷◌, IsTrue, ◌↔◌, length};
+ghost use Rattle.std.specs.Prelude.{replicate, nat_lt, true, false, map, slice_index};
 ghost use Rattle.std.specs.List.{All};
 ghost use Rattle.ppm_core.specs.Acts.{is_done_at, IsTurnAmong};
 ghost use Rattle.ppm_plan.specs.Schedules.{IsActAmong, IsItemAmong, IsVictimAmong};
 ghost use Rattle.ppm_core.specs.Machine.{seen};
 ghost use Rattle.ppm_step.specs.State.{stand_of};
-ghost use Rattle.ppm_driver.specs.Course.{Due, Listed, InRound, act_by as act_of_fault, processor_of, victim_at, victim_of, turn_of, loads_behind, is_open, is_made};
+ghost use Rattle.ppm_driver.specs.Course.{Due, Listed, InRound, act_by as act_of_fault};
+ghost use Rattle.ppm_driver.specs.Course.{processor_of, victim_at, victim_of, turn_of};
+ghost use Rattle.ppm_driver.specs.Course.{loads_behind, is_open, is_made};
 ghost use Rattle.ppm_driver.specs.Schedules.{listed, round, rounds, followed};
 ghost use Rattle.ppm_driver.specs.Following.{course, IsReady, IsStepOf, Does};
 
@@ -13,8 +16,8 @@ use ppm_core::Machine;
 use ppm_plan::{Fault, Schedule, ScheduleItem, ScheduledAct};
 use ppm_step::{Act, Turn};
 
-/// What is counted along a run: how many holder words each processor has loaded as it sought work, and how many acts are
-/// left.
+/// What is counted along a run: how many holder words each processor has loaded as it sought work,
+/// and how many acts are left.
 #[derive(Clone, Copy, Debug, PartialEq, Eq)]
 pub struct Way {
     loads: [u64; 64],
@@ -58,7 +61,8 @@ fn victim_at(processors: u32, processor: u32, j: u64, stated: Option<u32>) -> u3
 fn turn_of(machine: &Machine, way: &mut Way, act: ScheduledAct) -> Turn
     requires among { IsActAmong (seen machine.now).shape.processors act }
     requires ready { IsReady (seen machine.now) way.old }
-    ensures turn { result ≡ turn_of (seen machine.now).shape.processors (course (seen machine.now) way.old) act }
+    ensures turn { result
+        ≡ turn_of (seen machine.now).shape.processors (course (seen machine.now) way.old) act }
     ensures loads { way.new.loads ≡ loads_behind (course (seen machine.now) way.old) act }
     ensures left { way.new.left ≡ way.old.left }
     ensures is_among { IsTurnAmong (seen machine.now).shape.processors result }
@@ -98,13 +102,14 @@ fn make(machine: &mut Machine, way: &mut Way, act: ScheduledAct)
     way.left -= 1;
 }
 
-/// Makes steps of a processor in a row, so many at most: as many as the machine makes at once, for none of which a victim is due.
-/// It tells how many.
+/// Makes steps of a processor in a row, so many at most: as many as the machine makes at once, for
+/// none of which a victim is due. It tells how many.
 fn step_ahead(machine: &mut Machine, way: &mut Way, processor: u32, most: u64) -> u64
     requires among { processor < (seen machine.old).shape.processors }
     requires ready { IsReady (seen machine.old) way.old }
     ensures few { result ≤ most }
-    ensures does { (due : Due) → IsStepOf processor due → Does (replicate result due) (seen machine.old) way.old (seen machine.new) way.new }
+    ensures does { (due : Due) → IsStepOf processor due
+        → Does (replicate result due) (seen machine.old) way.old (seen machine.new) way.new }
     ensures ready { IsReady (seen machine.new) way.new }
 {
     let made = machine.steps(processor, most.min(way.left));
@@ -112,8 +117,8 @@ fn step_ahead(machine: &mut Machine, way: &mut Way, processor: u32, most: u64) -
     made
 }
 
-/// Makes an act of the list in a row, so often at most: as often as the machine makes it at once. It tells how often; one that is to be
-/// made once is left to a turn.
+/// Makes an act of the list in a row, so often at most: as often as the machine makes it at once.
+/// It tells how often; one that is to be made once is left to a turn.
 fn act_ahead(machine: &mut Machine, way: &mut Way, act: ScheduledAct, most: u32) -> u32
     requires among { IsActAmong (seen machine.old).shape.processors act }
     requires ready { IsReady (seen machine.old) way.old }
@@ -177,7 +182,8 @@ fn list(machine: &mut Machine, way: &mut Way, items: &[ScheduleItem])
 fn step(machine: &mut Machine, way: &mut Way, processor: u32)
     requires among { processor < (seen machine.old).shape.processors }
     requires ready { IsReady (seen machine.old) way.old }
-    ensures does { Does (InRound processor ∷ []) (seen machine.old) way.old (seen machine.new) way.new }
+    ensures does { Does (InRound processor
+        ∷ []) (seen machine.old) way.old (seen machine.new) way.new }
     ensures ready { IsReady (seen machine.new) way.new }
 {
     if way.left == 0 {
@@ -210,8 +216,8 @@ fn go_round(machine: &mut Machine, way: &mut Way)
     }
 }
 
-/// Makes rounds of a processor that is alone, so many at most: as many as the machine makes at once. It tells how many; none where
-/// there are more processors.
+/// Makes rounds of a processor that is alone, so many at most: as many as the machine makes at
+/// once. It tells how many; none where there are more processors.
 fn go_ahead(machine: &mut Machine, way: &mut Way, most: u64) -> u64
     requires ready { IsReady (seen machine.old) way.old }
     ensures few { result ≤ most }
@@ -248,8 +254,9 @@ fn go_on(machine: &mut Machine, way: &mut Way, count: u64)
     }
 }
 
-/// Makes the run of a schedule, of at most so many acts, 2^40 at most: the acts of its list, and behind these those of all processors in
-/// turn, until the finish word says how the run ended. An act of a processor that is done isn't made, and isn't counted.
+/// Makes the run of a schedule, of at most so many acts, 2^40 at most: the acts of its list, and
+/// behind these those of all processors in turn, until the finish word says how the run ended. An
+/// act of a processor that is done isn't made, and isn't counted.
 pub fn follow(machine: &mut Machine, schedule: &Schedule, turns: u64)
     requires processors { schedule.now.processors ≡ (seen machine.old).shape.processors }
     requires turns { turns ≤ 2 ^ 40 }

@@ -18,7 +18,8 @@ use ppm_regions::Admitted;
 use ppm_words::NoMemory;
 use std::alloc::Global;
 
-/// The sizes of a machine that a command's options say: all but its array words, which are the program's.
+/// The sizes of a machine that a command's options say: all but its array words, which are the
+/// program's.
 #[derive(Clone, Copy, Debug, PartialEq, Eq)]
 pub struct Sizes {
     /// How many processors there are, and as many places: 1 to 64.
@@ -46,8 +47,9 @@ fn shape_of(sizes: Sizes, arrays: u32) -> Shape
     }
 }
 
-/// The machine with these sizes on which a run of a program begins: it has the program's code, and the words of its image, with the
-/// arrays that the program's text gives and the root's frame at the place of the keeper. `Err` only where memory is refused.
+/// The machine with these sizes on which a run of a program begins: it has the program's code, and
+/// the words of its image, with the arrays that the program's text gives and the root's frame at
+/// the place of the keeper. `Err` only where memory is refused.
 pub fn load(
     alloc: Global,
     sizes: Sizes,
@@ -60,7 +62,8 @@ pub fn load(
     ensures { IfOk result (λ machine. Opens sizes (code_of (tree_of program.now)) (initial_arrays (tree_of program.now)) keeper
         (seen machine)) }
 {
-    // The root of a program's code names arrays of what the program starts with; the calls do nothing.
+    // The root of a program's code names arrays of what the program starts with; the calls do
+    // nothing.
     start_with_input();
     name_arrays();
     // What the type of its tree keeps is known once its tree was seen.

@@ -14,7 +14,8 @@ use ppm_regions::Admitted;
 use ppm_text::TEXT_LIMIT;
 use std::alloc::Global;
 
-/// The program of what is read, to its end or one byte past the limit of a text. `Err` is the answer where there is none.
+/// The program of what is read, to its end or one byte past the limit of a text. `Err` is the
+/// answer where there is none.
 pub(crate) fn read_program<S: Source>(alloc: Global, source: &mut S) -> Result<Admitted, Answer>
     ensures bounded { IfOk result (λ program. IsWithinBounds (tree_of program)) }
     ensures program { IfOk result (λ program. ReadsProgram (port S.left S.fault_count source.old source.new) (tree_of program)) }

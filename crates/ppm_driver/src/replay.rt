@@ -25,9 +25,9 @@ use ppm_regions::Admitted;
 use ppm_words::NoMemory;
 use std::alloc::Global;
 
-/// Replays the text that is read, on a machine whose processors act as the schedule says, with at most so many acts: its arrays or its
-/// trap, and how many forks and takes there were, are written on `out`, why there are none on `err`. Where the schedule is refused, the
-/// source is left unread.
+/// Replays the text that is read, on a machine whose processors act as the schedule says, with at
+/// most so many acts: its arrays or its trap, and how many forks and takes there were, are written
+/// on `out`, why there are none on `err`. Where the schedule is refused, the source is left unread.
 pub fn replay_command<S: Source, K: Sink, E: Sink>(
     alloc: Global,
     options: ReplayOptions,
@@ -39,12 +39,14 @@ pub fn replay_command<S: Source, K: Sink, E: Sink>(
     requires options { AreReplayed options }
 
     // An answer that the command's causes allow, and its texts; no watcher is told anything.
-    ensures answers { (told : ToldLists) → let o = outside (port S.left S.fault_count source.old source.new)
+    ensures answers { (told : ToldLists)
+        → let o = outside (port S.left S.fault_count source.old source.new)
         (port K.written K.fault_count out.old out.new) (port E.written E.fault_count err.old err.new)
         told told in Answers (ReplayMay options schedule.now o.source) TellsNothing o result }
 
     // What follows from each status.
-    ensures rows { (told : ToldLists) → ReplayRows options schedule.now (outside (port S.left S.fault_count source.old source.new)
+    ensures rows { (told : ToldLists)
+        → ReplayRows options schedule.now (outside (port S.left S.fault_count source.old source.new)
         (port K.written K.fault_count out.old out.new) (port E.written E.fault_count err.old err.new)
         told told) result }
 {

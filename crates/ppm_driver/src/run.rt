@@ -8,7 +8,8 @@ ghost use Rattle.ppm_text.specs.Limits.{text_limit};
 ghost use Rattle.ppm_tree.specs.Tree.{tree_of};
 ghost use Rattle.ppm_cut_bounds.specs.Bounds.{IsWithinBounds};
 ghost use Rattle.ppm_driver.specs.Programs.{ProgramMay};
-ghost use Rattle.ppm_driver.specs.Runs.{ProgramHas, RunMay, TextHas, limits_of as limits_in, sizes_of as sizes_in};
+ghost use Rattle.ppm_driver.specs.Runs.{ProgramHas, RunMay, TextHas, limits_of as limits_in};
+ghost use Rattle.ppm_driver.specs.Runs.{sizes_of as sizes_in};
 ghost use Rattle.ppm_driver.specs.RunRows.{RunRows};
 ghost use Rattle.ppm_driver.specs.Watchers.{watcher_count};
 
@@ -31,9 +32,10 @@ use std::sync::Wait;
 /// The watchers of a run: one for each processor that it may have.
 pub const WATCHERS: usize = PROCESSOR_LIMIT as usize;
 
-/// Runs the text that is read on a machine whose one processor obeys the plan of faults and the limits of the options: its arrays or
-/// its trap are written on `out`, why there are none on `err`. Where the plan is refused, the source is left unread. It may never
-/// return. There is a watcher for each of 64 processors; none is told anything yet.
+/// Runs the text that is read on a machine whose one processor obeys the plan of faults and the
+/// limits of the options: its arrays or its trap are written on `out`, why there are none on `err`.
+/// Where the plan is refused, the source is left unread. It may never return. There is a watcher
+/// for each of 64 processors; none is told anything yet.
 pub fn run_command<R: Wait, S: Source, K: Sink, E: Sink, W: Watch>(
     rt: &R,
     alloc: Global,
@@ -78,7 +80,8 @@ fn read_answer<R: Wait, S: Source>(
     source: &mut S,
 ) -> Answer
     requires options { AreRun options }
-    ensures { (told : ToldLists) → RunMay options faults.now told told (port S.left S.fault_count source.old source.new) result }
+    ensures { (told : ToldLists)
+        → RunMay options faults.now told told (port S.left S.fault_count source.old source.new) result }
 {
     // A plan that is accepted is not refused, by this law; the call does nothing.
     plans_have_one_answer();
@@ -118,7 +121,8 @@ fn program_answer<R: Wait>(
     requires options { AreRun options }
     requires processors { plan.now.processors ≡ options.processors }
     requires bounded { IsWithinBounds (tree_of program.now) }
-    ensures { (told : ToldLists) → ProgramMay (ProgramHas options told told plan.now.items (tree_of program.now)) result }
+    ensures { (told : ToldLists)
+        → ProgramMay (ProgramHas options told told plan.now.items (tree_of program.now)) result }
 {
     match ran(rt, alloc, options, plan, program) {
         Ok(answer) => answer,
@@ -137,7 +141,8 @@ fn ran<R: Wait>(
     requires options { AreRun options }
     requires processors { plan.now.processors ≡ options.processors }
     requires bounded { IsWithinBounds (tree_of program.now) }
-    ensures { IfOk result (λ answer. (told : ToldLists) → ProgramHas options told told plan.now.items (tree_of program.now) answer) }
+    ensures { IfOk result (λ answer. (told : ToldLists)
+        → ProgramHas options told told plan.now.items (tree_of program.now) answer) }
 {
     let mut machine = load(alloc, sizes_of(options), program, plan.keeper())?;
     // What the type of its code keeps is known once its parts were seen.

@@ -9,9 +9,11 @@ use ppm_words::Items;
 pub struct Image {
     /// The machine's sizes.
     pub shape: Shape,
-    /// The processor, below the shape's, at whose place the root's frame is run: the one that no plan of faults may kill.
+    /// The processor, below the shape's, at whose place the root's frame is run: the one that no
+    /// plan of faults may kill.
     pub keeper: u32,
-    /// The lengths of the arrays, which lie one after the other and have the shape's array words in all.
+    /// The lengths of the arrays, which lie one after the other and have the shape's array words in
+    /// all.
     pub lengths: Items<u32>,
     /// All words, by their addresses: as many as the shape has.
     pub words: Items<u64>,

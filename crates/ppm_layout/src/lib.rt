@@ -2,7 +2,8 @@
 //! Model: a function from cells to words, told by the values that they stand for (`specs/Opening`).
 //! Contract: `image` gives as many words as the shape has, and in each cell its opening word.
 //! Stands on `ppm_cells` and `ppm_code`; `ppm_core` loads the machine from an image.
-//! After the frames, deques and restart pointers of Blelloch et al., SPAA 2018; the layout is this project's.
+//! After the frames, deques and restart pointers of Blelloch et al., SPAA 2018; the layout is this
+//! project's.
 #![tactic(auto)]
 
 mod images;

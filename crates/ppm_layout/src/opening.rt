@@ -52,8 +52,9 @@ fn words_of(
     Ok(words)
 }
 
-/// The image of a code and its input on a machine of this shape. The place of the keeper, a processor of the shape, is to
-/// run the root's frame, and all others look for work. `Err` only where memory is refused.
+/// The image of a code and its input on a machine of this shape. The place of the keeper, a
+/// processor of the shape, is to run the root's frame, and all others look for work. `Err` only
+/// where memory is refused.
 pub fn image(
     alloc: Global,
     code: &Code,

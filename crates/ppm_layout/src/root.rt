@@ -11,7 +11,8 @@ use ppm_code::{Code, frame_size};
 use ppm_words::{NamedArray, NoMemory};
 use std::alloc::Global;
 
-/// The root's frame: how many words it has, from 6 to 31, and the first of them, behind which all are 0.
+/// The root's frame: how many words it has, from 6 to 31, and the first of them, behind which all
+/// are 0.
 #[derive(Drop)]
 pub struct Root {
     pub size: u32,

@@ -9,7 +9,8 @@ use crate::sequence::push_entries;
 use ppm_cells::{Holder, Restart, RestartKind, Shape};
 use ppm_words::NoMemory;
 
-/// The machine's sizes, the keeper, and the root's frame, with which the pool of the keeper's place begins.
+/// The machine's sizes, the keeper, and the root's frame, with which the pool of the keeper's place
+/// begins.
 #[derive(Drop)]
 pub struct Start {
     pub shape: Shape,
@@ -20,7 +21,8 @@ pub struct Start {
 }
 
 impl Start {
-    /// With what a place goes on: the keeper's with the root's frame, all others with looking for work.
+    /// With what a place goes on: the keeper's with the root's frame, all others with looking for
+    /// work.
     fn restart_of(&self, place: u32) -> Restart
         ensures { result ≡ first_restart self.now.shape self.now.keeper place }
     {
@@ -59,7 +61,8 @@ impl Start {
         }
     }
 
-    /// Appends the five words with which a place begins: restart, message, holder, top and room counter.
+    /// Appends the five words with which a place begins: restart, message, holder, top and room
+    /// counter.
     fn push_head(&self, words: &mut Vec<u64>, place: u32) -> Result<(), NoMemory>
         requires { place < self.now.shape.processors }
         ensures { OnOk result (words.new.items ≡ words.old.items

@@ -29,7 +29,8 @@ fn ending(alloc: Global, procedure: u32) -> Result<Capsule, Fail>
     })
 }
 
-/// Two procedures of one capsule each; the root is the second one, and takes the second array and then the first.
+/// Two procedures of one capsule each; the root is the second one, and takes the second array and
+/// then the first.
 fn small_code(alloc: Global) -> Result<Code, Fail>
     ensures arrays { IfOk result (λ code. code.arrays ≡ 1 ∷ 0 ∷ []) }
     ensures procedures { IfOk result (λ code. length code.procedures ≡ 2) }

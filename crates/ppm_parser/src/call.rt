@@ -54,7 +54,8 @@ fn argument(
     tokens: &[Token],
 ) -> Result<(Argument, Room, &[Token]), Stop>
     ensures { MatchResult result
-        (λ r. Parses depth room (Part phrase.Argument ∷ []) tokens.now (value.OneArgument (argument_of r.0) ∷ []) r.1 r.2.now)
+        (λ r. Parses depth room (Part phrase.Argument
+        ∷ []) tokens.now (value.OneArgument (argument_of r.0) ∷ []) r.1 r.2.now)
         (Stops depth room (Part phrase.Argument ∷ []) tokens.now) }
 {
     let (place, line) = expression_front(depth, tokens)?;
@@ -63,7 +64,8 @@ fn argument(
     Ok((Argument { line, value }, room, rest))
 }
 
-/// The arguments in front up to the parenthesis that closes them, the room that they leave, and the tokens behind it.
+/// The arguments in front up to the parenthesis that closes them, the room that they leave, and the
+/// tokens behind it.
 fn closed_arguments(
     alloc: Global,
     depth: u32,
@@ -73,7 +75,8 @@ fn closed_arguments(
     ensures { MatchResult result
         (λ r. ParsesClosed depth room phrase.SomeArguments sign.CloseParen tokens.now
         (value.Arguments (map argument_of r.0.items)) r.1 r.2.now)
-        (Stops depth room (Part phrase.SomeArguments ∷ Take (Mark sign.CloseParen) ∷ []) tokens.now) }
+        (Stops depth room (Part phrase.SomeArguments ∷ Take (Mark sign.CloseParen)
+        ∷ []) tokens.now) }
 {
     let mut all = Vec::new(alloc);
     if let Ok((_, rest)) = take(tokens, Sign::CloseParen) {
@@ -99,7 +102,8 @@ fn arguments(
     tokens: &[Token],
 ) -> Result<(Items<Argument>, Room, &[Token]), Stop>
     ensures { MatchResult result
-        (λ r. Parses depth room (Part phrase.ArgumentList ∷ []) tokens.now (value.Arguments (map argument_of r.0) ∷ []) r.1 r.2.now)
+        (λ r. Parses depth room (Part phrase.ArgumentList
+        ∷ []) tokens.now (value.Arguments (map argument_of r.0) ∷ []) r.1 r.2.now)
         (Stops depth room (Part phrase.ArgumentList ∷ []) tokens.now) }
 {
     let (place, inside) = take(tokens, Sign::OpenParen)?;
@@ -116,7 +120,8 @@ pub fn call(
     tokens: &[Token],
 ) -> Result<(Side, Room, &[Token]), Stop>
     ensures { MatchResult result
-        (λ r. Parses depth room (Part phrase.Call ∷ []) tokens.now (value.OneSide (side_of r.0) ∷ []) r.1 r.2.now)
+        (λ r. Parses depth room (Part phrase.Call ∷ []) tokens.now (value.OneSide (side_of r.0)
+        ∷ []) r.1 r.2.now)
         (Stops depth room (Part phrase.Call ∷ []) tokens.now) }
 {
     let (callee, behind) = name(alloc, tokens)?;
@@ -148,7 +153,8 @@ pub fn side(
     tokens: &[Token],
 ) -> Result<(Side, Room, &[Token]), Stop>
     ensures { MatchResult result
-        (λ r. Parses depth room (Part phrase.Side ∷ []) tokens.now (value.OneSide (side_of r.0) ∷ []) r.1 r.2.now)
+        (λ r. Parses depth room (Part phrase.Side ∷ []) tokens.now (value.OneSide (side_of r.0)
+        ∷ []) r.1 r.2.now)
         (Stops depth room (Part phrase.Side ∷ []) tokens.now) }
 {
     let (first, behind) = name(alloc, tokens)?;

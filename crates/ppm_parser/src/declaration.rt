@@ -5,7 +5,10 @@ ghost use Rattle.ppm_tree.specs.Limits.{depth_limit};
 ghost use Rattle.ppm_rows.specs.Values as value;
 ghost use Rattle.ppm_rows.specs.Phrases as phrase;
 ghost use Rattle.ppm_parser.specs.Parsing.{Parses, Stops};
-ghost use Rattle.ppm_parser.specs.Declarations.{declaration_of, array_items, procedure_items, ParsesArray, ParsesProcedure, ParsesInput, StopsInput, ParsesInteger, StopsInteger, ParsesIntegers, StopsIntegers};
+ghost use Rattle.ppm_parser.specs.Declarations.{declaration_of, array_items, procedure_items};
+ghost use Rattle.ppm_parser.specs.Declarations.{ParsesArray, ParsesProcedure, ParsesInput};
+ghost use Rattle.ppm_parser.specs.Declarations.{StopsInput, ParsesInteger, StopsInteger};
+ghost use Rattle.ppm_parser.specs.Declarations.{ParsesIntegers, StopsIntegers};
 
 use crate::front::{literal, name, number, take};
 use crate::parameter::parameters;
@@ -72,7 +75,8 @@ fn integer(tokens: &[Token]) -> Result<(i64, &[Token]), Stop>
     literal(tokens)
 }
 
-/// The values of an input behind these, from their commas in front up to the semicolon, and the tokens behind it.
+/// The values of an input behind these, from their commas in front up to the semicolon, and the
+/// tokens behind it.
 fn closed_integers(mut all: Vec<i64>, tokens: &[Token]) -> Result<(Vec<i64>, &[Token]), Stop>
     ensures { MatchResult result
         (λ r. ParsesIntegers all.items tokens.now r.0.items r.1.now)
@@ -111,7 +115,8 @@ pub fn read_declaration(
     tokens: &[Token],
 ) -> Result<(Declaration, Room, &[Token]), Stop>
     ensures { MatchResult result
-        (λ r. Parses depth_limit room (Part phrase.Declaration ∷ []) tokens.now (value.Declares (declaration_of r.0) ∷ []) r.1 r.2.now)
+        (λ r. Parses depth_limit room (Part phrase.Declaration
+        ∷ []) tokens.now (value.Declares (declaration_of r.0) ∷ []) r.1 r.2.now)
         (Stops depth_limit room (Part phrase.Declaration ∷ []) tokens.now) }
 {
     let Some((token, rest)) = tokens.split_first() else {

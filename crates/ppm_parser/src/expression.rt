@@ -9,7 +9,8 @@ ghost use Rattle.ppm_rows.specs.Phrases as phrase;
 ghost use Rattle.ppm_grammar.specs.Rows.{Take, Part};
 ghost use Rattle.std.specs.Prelude.{[], ◌∷◌};
 ghost use Rattle.ppm_parser.specs.Fronts.{comes_once, NoneWithin};
-ghost use Rattle.ppm_parser.specs.Parsing.{ParsesExpression, ParsesFrom, ParsesUpTo, ParsesNamed, StopsNamed, Stops};
+ghost use Rattle.ppm_parser.specs.Parsing.{ParsesExpression, ParsesFrom, ParsesUpTo, ParsesNamed};
+ghost use Rattle.ppm_parser.specs.Parsing.{StopsNamed, Stops};
 
 use crate::front::{has_none, name, operator_in, take};
 use crate::room::{Room, deeper};
@@ -94,8 +95,8 @@ fn operand(
     }
 }
 
-/// The operand that begins with the name at the place, alone or with the index in front of the tokens, the room that
-/// it leaves, and the tokens behind it.
+/// The operand that begins with the name at the place, alone or with the index in front of the
+/// tokens, the room that it leaves, and the tokens behind it.
 #[cycle(expression)]
 fn named(
     alloc: Global,
@@ -120,7 +121,8 @@ fn named(
     Ok((Expr::Element(name, index), room, rest))
 }
 
-/// The whole expression in front up to the sign, the room that it leaves, and the tokens behind the sign.
+/// The whole expression in front up to the sign, the room that it leaves, and the tokens behind the
+/// sign.
 #[cycle(expression)]
 pub fn up_to(
     alloc: Global,
@@ -138,8 +140,8 @@ pub fn up_to(
     Ok((whole, room, rest))
 }
 
-/// Whether an operand of one token is in front, and behind it no operator of the level or of one that binds more. Such an
-/// operand is read at once, and not by way of all levels.
+/// Whether an operand of one token is in front, and behind it no operator of the level or of one
+/// that binds more. Such an operand is read at once, and not by way of all levels.
 fn is_plain(level: Level, tokens: &[Token]) -> bool
     ensures { IsTrue result → NoneWithin level (drop 1 tokens.now) }
 {
@@ -198,7 +200,8 @@ fn operand_of(
     }
 }
 
-/// The operation of the level that goes on from its first operand, the room that it leaves, and the tokens behind it.
+/// The operation of the level that goes on from its first operand, the room that it leaves, and the
+/// tokens behind it.
 #[cycle(expression)]
 fn further(
     alloc: Global,

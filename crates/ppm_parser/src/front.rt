@@ -2,7 +2,9 @@
 ghost use Rattle.std.specs.Prelude.{◌≡◌, IsTrue, MatchOption, MatchResult};
 ghost use Rattle.ppm_tree.specs.declared.mode.Mode.{Mode};
 ghost use Rattle.ppm_rows.specs.Kinds.{Word, Mark};
-ghost use Rattle.ppm_parser.specs.Fronts.{HasFront, HasAt, HasName, HasNumber, HasLiteral, HasMode, HasOperator, Misses, MissesName, MissesNumber, MissesMode, NoOperator, NoneWithin};
+ghost use Rattle.ppm_parser.specs.Fronts.{HasFront, HasAt, HasName, HasNumber, HasLiteral, HasMode};
+ghost use Rattle.ppm_parser.specs.Fronts.{HasOperator, Misses, MissesName, MissesNumber};
+ghost use Rattle.ppm_parser.specs.Fronts.{MissesMode, NoOperator, NoneWithin};
 
 use crate::stop::Stop;
 use ppm_rows::{Level, operator};

@@ -18,7 +18,8 @@ pub enum Limit {
 }
 
 impl Limit {
-    /// The number of the limit: 1 `Arrays`, 2 `ArrayWords`, 3 `Procedures`, 4 `Elements`, 5 `Nodes`.
+    /// The number of the limit: 1 `Arrays`, 2 `ArrayWords`, 3 `Procedures`, 4 `Elements`, 5
+    /// `Nodes`.
     pub fn number(self) -> u32
         ensures { result ≡ which_of self }
     {

@@ -23,7 +23,8 @@ fn parameter(
     tokens: &[Token],
 ) -> Result<(Parameter, Room, &[Token]), Stop>
     ensures { MatchResult result
-        (λ r. Parses depth room (Part phrase.Parameter ∷ []) tokens.now (value.OneParameter r.0 ∷ []) r.1 r.2.now)
+        (λ r. Parses depth room (Part phrase.Parameter ∷ []) tokens.now (value.OneParameter r.0
+        ∷ []) r.1 r.2.now)
         (Stops depth room (Part phrase.Parameter ∷ []) tokens.now) }
 {
     let (mode, place, behind) = mode(tokens)?;
@@ -32,7 +33,8 @@ fn parameter(
     Ok((Parameter { mode, name }, room, rest))
 }
 
-/// The parameters in front up to the parenthesis that closes them, the room that they leave, and the tokens behind it.
+/// The parameters in front up to the parenthesis that closes them, the room that they leave, and
+/// the tokens behind it.
 fn closed_parameters(
     alloc: Global,
     depth: u32,
@@ -41,7 +43,8 @@ fn closed_parameters(
 ) -> Result<(Vec<Parameter>, Room, &[Token]), Stop>
     ensures { MatchResult result
         (λ r. ParsesClosed depth room phrase.SomeParameters sign.CloseParen tokens.now (value.Parameters r.0.items) r.1 r.2.now)
-        (Stops depth room (Part phrase.SomeParameters ∷ Take (Mark sign.CloseParen) ∷ []) tokens.now) }
+        (Stops depth room (Part phrase.SomeParameters ∷ Take (Mark sign.CloseParen)
+        ∷ []) tokens.now) }
 {
     let mut all = Vec::new(alloc);
     if let Ok((_, rest)) = take(tokens, Sign::CloseParen) {
@@ -67,7 +70,8 @@ pub fn parameters(
     tokens: &[Token],
 ) -> Result<(Items<Parameter>, Room, &[Token]), Stop>
     ensures { MatchResult result
-        (λ r. Parses depth room (Part phrase.ParameterList ∷ []) tokens.now (value.Parameters r.0 ∷ []) r.1 r.2.now)
+        (λ r. Parses depth room (Part phrase.ParameterList ∷ []) tokens.now (value.Parameters r.0
+        ∷ []) r.1 r.2.now)
         (Stops depth room (Part phrase.ParameterList ∷ []) tokens.now) }
 {
     let (place, inside) = take(tokens, Sign::OpenParen)?;

@@ -4,7 +4,8 @@ ghost use Rattle.ppm_tree.specs.Tree.{tree_of};
 ghost use Rattle.ppm_rows.specs.Values.{no_program};
 ghost use Rattle.ppm_rows.specs.Correct.{HasTree};
 ghost use Rattle.ppm_parser.specs.Faults.{IsFault};
-ghost use Rattle.ppm_parser.specs.Declarations.{declaration_of, declared_tree, with_declaration, TellsStop};
+ghost use Rattle.ppm_parser.specs.Declarations.{declaration_of, declared_tree, with_declaration};
+ghost use Rattle.ppm_parser.specs.Declarations.{TellsStop};
 ghost use Rattle.ppm_parser.specs.declared.stop.Stop.TheVariants as stop;
 
 use crate::declaration::{Declaration, read_declaration};
@@ -39,7 +40,8 @@ impl Declared {
 
     /// What is declared with one thing more.
     fn with(mut self, next: Declaration) -> Result<Declared, Stop>
-        ensures tree { IfOk result (λ d. declared_tree d ≡ with_declaration (declared_tree self) (declaration_of next)) }
+        ensures tree { IfOk result (λ d. declared_tree d
+            ≡ with_declaration (declared_tree self) (declaration_of next)) }
         ensures refused { IfErr result (λ e. e ≡ stop.NoMemory) }
     {
         match next {
@@ -73,8 +75,8 @@ fn tree(alloc: Global, tokens: &[Token]) -> Result<Tree, Stop>
     })
 }
 
-/// The program of the tokens: their one tree by the grammar and within the limits, or their one fault. By
-/// `have_one_answer` of `ppm_rows` no tokens have two answers but for want of memory.
+/// The program of the tokens: their one tree by the grammar and within the limits, or their one
+/// fault. By `have_one_answer` of `ppm_rows` no tokens have two answers but for want of memory.
 pub fn parse(alloc: Global, tokens: &Tokens) -> Result<Program, SyntaxError>
     ensures tree { IfOk result (λ program. HasTree tokens.now.tokens (tree_of program)) }
     ensures fault { IfErr result (λ error. IsFault tokens.now error) }

@@ -3,7 +3,8 @@ ghost use Rattle.std.specs.Prelude.{◌≡◌, ◌+◌, ◌<◌, ℕ, suc, Match
 ghost use Rattle.ppm_tree.specs.Limits.{parameter_limit, node_limit};
 ghost use Rattle.ppm_parser.specs.declared.limit.Limit.TheVariants as limit;
 ghost use Rattle.ppm_parser.specs.declared.stop.Stop.TheVariants as stop;
-ghost use Rattle.ppm_parser.specs.Room.{whole_room, with_arrays, with_words, with_procedures, with_elements, with_nodes};
+ghost use Rattle.ppm_parser.specs.Room.{whole_room, with_arrays, with_words, with_procedures};
+ghost use Rattle.ppm_parser.specs.Room.{with_elements, with_nodes};
 
 use crate::limit::Limit;
 use crate::stop::Stop;

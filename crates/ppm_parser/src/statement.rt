@@ -8,7 +8,11 @@ ghost use Rattle.ppm_text.specs.declared.token.Sign.TheVariants as sign;
 ghost use Rattle.ppm_rows.specs.Kinds.{Mark, terminal};
 ghost use Rattle.ppm_parser.specs.Fronts.{IsNotFront, HasGive, NoGive, starts_at, begins};
 ghost use Rattle.ppm_parser.specs.Parsing.{Parses, Stops};
-ghost use Rattle.ppm_parser.specs.Statements.{local_items, choice_items, loop_items, call_items, fork_items, split_items, each_items, ParsesLocal, ParsesChoice, ParsesLoop, ParsesCall, ParsesFork, ParsesSplit, ParsesEach, ParsesAfterName, ParsesStatement};
+ghost use Rattle.ppm_parser.specs.Statements.{local_items, choice_items, loop_items, call_items};
+ghost use Rattle.ppm_parser.specs.Statements.{fork_items, split_items, each_items, ParsesLocal};
+ghost use Rattle.ppm_parser.specs.Statements.{ParsesChoice, ParsesLoop, ParsesCall, ParsesFork};
+ghost use Rattle.ppm_parser.specs.Statements.{ParsesSplit, ParsesEach, ParsesAfterName};
+ghost use Rattle.ppm_parser.specs.Statements.{ParsesStatement};
 
 use crate::call::{call, side, with_target};
 use crate::expression::{operation, up_to};
@@ -27,7 +31,8 @@ pub struct Body {
     pub give: Option<Give>,
 }
 
-/// The declaration of a local behind its keyword, the room that it leaves, and the tokens behind it.
+/// The declaration of a local behind its keyword, the room that it leaves, and the tokens behind
+/// it.
 fn local(
     alloc: Global,
     depth: u32,
@@ -44,7 +49,8 @@ fn local(
     Ok((Stmt::Let(name, value), room, rest))
 }
 
-/// The assignment to the target whose index is in front, the room that it leaves, and the tokens behind it.
+/// The assignment to the target whose index is in front, the room that it leaves, and the tokens
+/// behind it.
 fn put(
     alloc: Global,
     depth: u32,
@@ -65,7 +71,8 @@ fn put(
     Ok((Stmt::Put(target, index, value), room, rest))
 }
 
-/// The assignment of what stands in front to the target, the room that it leaves, and the tokens behind it.
+/// The assignment of what stands in front to the target, the room that it leaves, and the tokens
+/// behind it.
 fn assigned(
     alloc: Global,
     depth: u32,
@@ -86,7 +93,8 @@ fn assigned(
     Ok((Stmt::Assign(target, value), room, rest))
 }
 
-/// The statement that goes on from the name of its target, the room that it leaves, and the tokens behind it.
+/// The statement that goes on from the name of its target, the room that it leaves, and the tokens
+/// behind it.
 fn after_name(
     alloc: Global,
     depth: u32,
@@ -138,7 +146,8 @@ fn fork(
     Ok((Stmt::Fork(left, right), room, rest))
 }
 
-/// The test and the blocks behind the keyword `if`, the room that they leave, and the tokens behind them.
+/// The test and the blocks behind the keyword `if`, the room that they leave, and the tokens behind
+/// them.
 #[cycle(statement)]
 fn choice(
     alloc: Global,
@@ -159,7 +168,8 @@ fn choice(
     Ok((Stmt::If(test, holds, otherwise), room, rest))
 }
 
-/// The test and the block behind the keyword `while`, the room that they leave, and the tokens behind them.
+/// The test and the block behind the keyword `while`, the room that they leave, and the tokens
+/// behind them.
 #[cycle(statement)]
 fn repeated(
     alloc: Global,
@@ -176,7 +186,8 @@ fn repeated(
     Ok((Stmt::While(test, body), room, rest))
 }
 
-/// The split behind its keyword, which stands in the line, the room that it leaves, and the tokens behind it.
+/// The split behind its keyword, which stands in the line, the room that it leaves, and the tokens
+/// behind it.
 #[cycle(statement)]
 fn split(
     alloc: Global,
@@ -292,7 +303,8 @@ fn statements(
     tokens: &[Token],
 ) -> Result<(Vec<Stmt>, Room, &[Token]), Stop>
     ensures { MatchResult result
-        (λ r. Parses depth room (Part phrase.Statements ∷ []) tokens.now (value.Statements (block_of r.0.items) ∷ []) r.1 r.2.now)
+        (λ r. Parses depth room (Part phrase.Statements
+        ∷ []) tokens.now (value.Statements (block_of r.0.items) ∷ []) r.1 r.2.now)
         (Stops depth room (Part phrase.Statements ∷ []) tokens.now) }
 {
     let mut all = Vec::with_capacity(alloc, 1)?;
@@ -315,7 +327,8 @@ fn block(
     tokens: &[Token],
 ) -> Result<(Vec<Stmt>, Room, &[Token]), Stop>
     ensures { MatchResult result
-        (λ r. Parses depth room (Part phrase.Block ∷ []) tokens.now (value.Statements (block_of r.0.items) ∷ []) r.1 r.2.now)
+        (λ r. Parses depth room (Part phrase.Block
+        ∷ []) tokens.now (value.Statements (block_of r.0.items) ∷ []) r.1 r.2.now)
         (Stops depth room (Part phrase.Block ∷ []) tokens.now) }
 {
     let (place, inside) = take(tokens, Sign::OpenBrace)?;
@@ -352,7 +365,8 @@ fn give(
     tokens: &[Token],
 ) -> Result<(Option<Give>, Room, &[Token]), Stop>
     ensures { MatchResult result
-        (λ r. Parses depth room (Part phrase.Give ∷ []) tokens.now (value.Gives (give_of r.0) ∷ []) r.1 r.2.now)
+        (λ r. Parses depth room (Part phrase.Give ∷ []) tokens.now (value.Gives (give_of r.0)
+        ∷ []) r.1 r.2.now)
         (Stops depth room (Part phrase.Give ∷ []) tokens.now) }
 {
     let Some((line, behind)) = give_word(tokens) else {
@@ -363,7 +377,8 @@ fn give(
     Ok((Some(Give { line, value }), room, rest))
 }
 
-/// The statements of the body in front and what it gives, the room that it leaves, and the tokens behind it.
+/// The statements of the body in front and what it gives, the room that it leaves, and the tokens
+/// behind it.
 pub fn read_body(
     alloc: Global,
     depth: u32,

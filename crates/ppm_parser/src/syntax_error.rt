@@ -13,7 +13,8 @@ pub enum SyntaxError {
     /// No text of the grammar begins with the tokens up to this one, and it is the first such.
     #[error("a token that cannot come at {0}")]
     Expected(u32),
-    /// The tokens end where the text does, at this place, and a text of the grammar goes on from them.
+    /// The tokens end where the text does, at this place, and a text of the grammar goes on from
+    /// them.
     #[error("the text ends at {0}")]
     Ended(u32),
     /// With this token more than 32 openings are open.
@@ -28,7 +29,8 @@ pub enum SyntaxError {
 }
 
 impl SyntaxError {
-    /// The number of the fault: 1 `Expected`, 2 `Ended`, 3 `TooDeep`, 4 `TooMany`; 0 where memory was refused.
+    /// The number of the fault: 1 `Expected`, 2 `Ended`, 3 `TooDeep`, 4 `TooMany`; 0 where memory
+    /// was refused.
     pub fn number(self) -> u32
         ensures { result ≡ number_of self }
     {

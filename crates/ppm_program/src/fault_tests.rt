@@ -1,4 +1,5 @@
-//! More texts of each kind: what is right beside what is wrong, and the least number before the first line.
+//! More texts of each kind: what is right beside what is wrong, and the least number before the
+//! first line.
 use crate::tests::{Answer, answer};
 use ppm_answers::Pass;
 use std::test::Fail;

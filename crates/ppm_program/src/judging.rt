@@ -131,9 +131,10 @@ fn admitted_of(alloc: Global, text: &[u8]) -> Result<Admitted, JudgeError>
     Ok(admitted)
 }
 
-/// The program of a text, admitted and within the bounds of the compiler, or the one reason for which it is refused:
-/// its bytes are judged first, then its tokens, then names and regions, then the bounds. Its tokens, and the tree of a text
-/// that passes a bound, stay in memory to the end of the process, where the system takes all back at once.
+/// The program of a text, admitted and within the bounds of the compiler, or the one reason for
+/// which it is refused: its bytes are judged first, then its tokens, then names and regions, then
+/// the bounds. Its tokens, and the tree of a text that passes a bound, stay in memory to the end of
+/// the process, where the system takes all back at once.
 pub fn program_of(alloc: Global, text: &[u8]) -> Result<Admitted, JudgeError>
     ensures program { IfOk result (λ a. HasProgram text.now (tree_of a)) }
     ensures refused { IfErr result (MayStop text.now) }

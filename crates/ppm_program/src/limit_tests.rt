@@ -258,7 +258,8 @@ const TEXTS: [(&[Part], Answer); 43] = [
         ],
         Some((Pass::Cut, 1, 0)),
     ),
-    // Names of outside in the block of an `each`; its own names count for its hidden procedure alone.
+    // Names of outside in the block of an `each`; its own names count for its hidden procedure
+    // alone.
     (
         &[
             Part::Once("array z[1]; proc main(mut z) { "),

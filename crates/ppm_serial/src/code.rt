@@ -1,5 +1,6 @@
 //! A program laid out: names are slots, and blocks stand one after the other.
-ghost use Rattle.std.specs.Prelude.{◌≡◌, None, Some, ◌+◌, ◌<◌, ◌^◌, [], ◌∷◌, ◌++◌, length, IfOk, IfSome, MatchOption, OnOk};
+ghost use Rattle.std.specs.Prelude.{◌≡◌, None, Some, ◌+◌, ◌<◌, ◌^◌, [], ◌∷◌, ◌++◌, length, IfOk};
+ghost use Rattle.std.specs.Prelude.{IfSome, MatchOption, OnOk};
 ghost use Rattle.ppm_serial.specs.Code.{routine_at, step_at};
 
 use ppm_tree::Operator;
@@ -54,7 +55,8 @@ pub(crate) enum Value {
     Binary(Operator, u32, Box<Value>, Box<Value>),
 }
 
-/// What a call passes: a value into a slot for a local, or the region of a slot into one for a region.
+/// What a call passes: a value into a slot for a local, or the region of a slot into one for a
+/// region.
 #[derive(Drop)]
 pub(crate) enum Passed {
     Number(usize, Value),
@@ -94,7 +96,8 @@ pub(crate) enum Step {
     Test(Value, usize),
     Call(Call),
     Fork(Call, Call),
-    /// A region in two parts: the line of the word, the region, where it is split, both parts with their block.
+    /// A region in two parts: the line of the word, the region, where it is split, both parts with
+    /// their block.
     Split(u32, usize, Value, Parts),
     /// A block for each index of a region: the index, the part, the region, the block.
     Each(usize, usize, usize, usize),
@@ -191,7 +194,8 @@ impl Code {
     /// The step at a place, none behind the last one of a block.
     pub(crate) fn step(&self, place: &Place) -> Option<&Step>
         ensures bound { IfSome result (λ s. place.now.at + 1 < 2 ^ 64) }
-        ensures value { MatchOption result (step_at self.now place.now ≡ None) (λ s. step_at self.now place.now ≡ Some s.now) }
+        ensures value { MatchOption result (step_at self.now place.now
+            ≡ None) (λ s. step_at self.now place.now ≡ Some s.now) }
     {
         match self.blocks.blocks.get(place.block) {
             Some(steps) => steps.get(place.at),
@@ -201,7 +205,8 @@ impl Code {
 
     /// How many locals and regions the frame of the procedure at a place has.
     pub(crate) fn sizes(&self, place: usize) -> (usize, usize)
-        ensures { result ≡ ((routine_at self.now place).locals, (routine_at self.now place).regions) }
+        ensures { result
+            ≡ ((routine_at self.now place).locals, (routine_at self.now place).regions) }
     {
         match self.routines.get(place) {
             Some(routine) => (routine.locals, routine.regions),
@@ -221,7 +226,8 @@ impl Code {
 
     /// What the procedure at a place gives, if anything.
     pub(crate) fn give(&self, place: usize) -> Option<&Value>
-        ensures { MatchOption result ((routine_at self.now place).give ≡ None) (λ v. (routine_at self.now place).give ≡ Some v.now) }
+        ensures { MatchOption result ((routine_at self.now place).give
+            ≡ None) (λ v. (routine_at self.now place).give ≡ Some v.now) }
     {
         match self.routines.get(place) {
             Some(routine) => routine.give.as_ref(),

@@ -1,7 +1,8 @@
 //! The outcome of a program within a number of turns.
 ghost use Rattle.std.specs.Prelude.{◌≡◌, ◌++◌, ◌+◌, ◌<◌, ◌^◌, length, map, IfOk, OnOk};
 ghost use Rattle.ppm_tree.specs.Tree.{tree_of};
-ghost use Rattle.ppm_tree.specs.Program.{Serial, initial_array, initial_arrays, input_of, values_of, whole_from};
+ghost use Rattle.ppm_tree.specs.Program.{Serial, initial_array, initial_arrays, input_of};
+ghost use Rattle.ppm_tree.specs.Program.{values_of, whole_from};
 ghost use Rattle.ppm_serial.specs.Entry.{IsBegun, IsMainFrame, lent_to, named_by};
 ghost use Rattle.ppm_serial.specs.Laying.{IsLaid};
 
@@ -18,10 +19,11 @@ use ppm_words::{Items, Name, NamedArray, NoMemory, Outcome};
 use std::alloc::Global;
 use std::mem::ManuallyDrop;
 
-/// The outcome of a program within a number of turns: the arrays in the end or the first trap, or `NotWithin` exactly
-/// where more turns would be spent. The memory that a run takes is that of its arrays and of the procedures and blocks that
-/// are open at a time, however many turns it spends. The program as it is laid out stays in memory to the end of the
-/// process, where the system takes all back at once.
+/// The outcome of a program within a number of turns: the arrays in the end or the first trap, or
+/// `NotWithin` exactly where more turns would be spent. The memory that a run takes is that of its
+/// arrays and of the procedures and blocks that are open at a time, however many turns it spends.
+/// The program as it is laid out stays in memory to the end of the process, where the system takes
+/// all back at once.
 pub fn serial(alloc: Global, program: &Program, turns: u64) -> Result<Outcome, NoMemory>
     ensures { IfOk result (λ outcome. Serial (tree_of program.now) turns outcome) }
 {
@@ -42,7 +44,8 @@ pub(crate) fn outcome(alloc: Global, tree: &Tree, turns: u64) -> Result<Outcome,
 /// The same of a tree that is laid out.
 #[inline(always)]
 fn outcome_of(alloc: Global, code: &Code, tree: &Tree, turns: u64) -> Result<Outcome, NoMemory>
-    ensures { IfOk result (λ outcome. IsLaid (tree_of tree.now).procedures code.now → Serial (tree_of tree.now) turns outcome) }
+    ensures { IfOk result (λ outcome. IsLaid (tree_of tree.now).procedures code.now
+        → Serial (tree_of tree.now) turns outcome) }
 {
     let mut run = begin(alloc, code, tree, turns)?;
     match run.to_end(alloc, code) {
@@ -88,7 +91,8 @@ fn fill(
     arrays: &[Array],
     all: &mut Vec<Vec<i64>>,
 ) -> Result<(), NoMemory>
-    ensures { OnOk result (map (λ v. v.items) all.new.items ≡ map (λ v. v.items) all.old.items ++ values_of (map (initial_array inputs.now) arrays.now)) }
+    ensures { OnOk result (map (λ v. v.items) all.new.items
+        ≡ map (λ v. v.items) all.old.items ++ values_of (map (initial_array inputs.now) arrays.now)) }
 {
     match arrays {
         [] => Ok(()),
@@ -168,7 +172,8 @@ fn main_frame(alloc: Global, code: &Code, tree: &Tree, place: usize) -> Result<F
 
 /// A run before the entry of `main`.
 fn begin(alloc: Global, code: &Code, tree: &Tree, turns: u64) -> Result<Run, NoMemory>
-    ensures { IfOk result (λ run. IsLaid (tree_of tree.now).procedures code.now → IsBegun (tree_of tree.now) turns run) }
+    ensures { IfOk result (λ run. IsLaid (tree_of tree.now).procedures code.now
+        → IsBegun (tree_of tree.now) turns run) }
 {
     let frame = main_frame(alloc, code, tree, code.main())?;
     let store = store(alloc, tree)?;
@@ -199,7 +204,8 @@ fn name_all(
     values: &[Vec<i64>],
     all: &mut Vec<NamedArray>,
 ) -> Result<(), NoMemory>
-    ensures { OnOk result (all.new.items ≡ all.old.items ++ named_by arrays.now (map (λ v. v.items) values.now)) }
+    ensures { OnOk result (all.new.items
+        ≡ all.old.items ++ named_by arrays.now (map (λ v. v.items) values.now)) }
 {
     match arrays {
         [] => Ok(()),

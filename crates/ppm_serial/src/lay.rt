@@ -1,9 +1,12 @@
 //! A program is laid out: names become slots, and blocks are put one behind the other.
 ghost use Rattle.std.specs.Prelude.{◌≡◌, ◌++◌, ◌∷◌, [], length, map, IfOk, OnOk};
 ghost use Rattle.ppm_serial.specs.declared.code.Step.TheVariants as step;
-ghost use Rattle.ppm_tree.specs.Tree.{block_of, expression_of, give_of, procedure_of, side_of, statement_of, tree_of};
-ghost use Rattle.ppm_serial.specs.Laying.{HasTarget, IsCall, IsGive, IsLaid, IsLent, IsTarget, IsWorth, LaysBlock};
-ghost use Rattle.ppm_serial.specs.Laying.{LaysMore, LaysRoutine, Lends, LaysStep, PassesMore, PassesOne, Sets, arguments_of, place_in};
+ghost use Rattle.ppm_tree.specs.Tree.{block_of, expression_of, give_of, procedure_of, side_of};
+ghost use Rattle.ppm_tree.specs.Tree.{statement_of, tree_of};
+ghost use Rattle.ppm_serial.specs.Laying.{HasTarget, IsCall, IsGive, IsLaid, IsLent, IsTarget};
+ghost use Rattle.ppm_serial.specs.Laying.{IsWorth, LaysBlock};
+ghost use Rattle.ppm_serial.specs.Laying.{LaysMore, LaysRoutine, Lends, LaysStep, PassesMore};
+ghost use Rattle.ppm_serial.specs.Laying.{PassesOne, Sets, arguments_of, place_in};
 ghost use Rattle.ppm_serial.specs.Names.{names_of};
 
 use crate::code::{Blocks, Call, Code, Parts, Passed, Routine, Step, Value};
@@ -207,7 +210,8 @@ fn target(names: &Names, name: &Option<Named>) -> Option<usize>
 impl<'a> Scope<'a> {
     /// A call or a side of a fork laid out.
     fn call(&self, alloc: Global, side: &Side) -> Result<Call, NoMemory>
-        ensures { IfOk result (λ c. HasTarget self.now.names.now (side_of side.now).target → IsCall (map procedure_of self.now.procedures.now) self.now.names.now (side_of side.now) c) }
+        ensures { IfOk result (λ c. HasTarget self.now.names.now (side_of side.now).target
+            → IsCall (map procedure_of self.now.procedures.now) self.now.names.now (side_of side.now) c) }
     {
         let callee = place_of(self.procedures, side.callee.name.as_bytes());
         let mut passed = Vec::new(alloc);

@@ -2,8 +2,10 @@
 ghost use Rattle.std.specs.Prelude.{◌≡◌, [], length, IfOk, OnOk};
 ghost use Rattle.std.specs.Str.{bytes_eq};
 ghost use Rattle.ppm_tree.specs.Tree.{block_of, statement_of, procedure_of};
-ghost use Rattle.ppm_serial.specs.Names.{names_of, no_names, noted, slot_in, with_block, with_local_name};
-ghost use Rattle.ppm_serial.specs.Names.{with_parameter, with_parameters, with_region_name, with_statement, with_target};
+ghost use Rattle.ppm_serial.specs.Names.{names_of, no_names, noted, slot_in, with_block};
+ghost use Rattle.ppm_serial.specs.Names.{with_local_name};
+ghost use Rattle.ppm_serial.specs.Names.{with_parameter, with_parameters, with_region_name};
+ghost use Rattle.ppm_serial.specs.Names.{with_statement, with_target};
 
 use ppm_tree::{Mode, Named, Parameter, Proc, Stmt};
 use ppm_words::{Name, NoMemory};

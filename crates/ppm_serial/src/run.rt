@@ -4,9 +4,12 @@ ghost use Rattle.ppm_tree.specs.Tree.{ProgramTree};
 ghost use Rattle.ppm_serial.specs.Answers.{Does, Gives};
 ghost use Rattle.ppm_serial.specs.Laying.{IsLaid};
 ghost use Rattle.ppm_serial.specs.Running.{Answers, Starts};
-ghost use Rattle.ppm_serial.specs.Machine.{beginning, called, calling, choosing, crossing, delivering, doing, ending};
-ghost use Rattle.ppm_serial.specs.Machine.{entering, forking, give_spending, giving, inside, joining, leaving, passing};
-ghost use Rattle.ppm_serial.specs.Machine.{putting, returning, setting, spending, splitting, stepping, sweep_begins};
+ghost use Rattle.ppm_serial.specs.Machine.{beginning, called, calling, choosing, crossing};
+ghost use Rattle.ppm_serial.specs.Machine.{delivering, doing, ending};
+ghost use Rattle.ppm_serial.specs.Machine.{entering, forking, give_spending, giving, inside};
+ghost use Rattle.ppm_serial.specs.Machine.{joining, leaving, passing};
+ghost use Rattle.ppm_serial.specs.Machine.{putting, returning, setting, spending, splitting};
+ghost use Rattle.ppm_serial.specs.Machine.{stepping, sweep_begins};
 ghost use Rattle.ppm_serial.specs.Machine.{sweeping, testing, with_frame};
 
 use crate::code::{Call, Code, Parts, Passed, Place, Step, Stop, Value};
@@ -18,8 +21,8 @@ use crate::value::{index_in, split_at, worth};
 use std::alloc::Global;
 use std::mem;
 
-/// A run: the frame of the procedure that runs, the arrays, what is still to come, the place of the next statement, and
-/// the turns that are left.
+/// A run: the frame of the procedure that runs, the arrays, what is still to come, the place of the
+/// next statement, and the turns that are left.
 #[derive(Drop)]
 pub(crate) struct Run {
     pub(crate) frame: Frame,
@@ -51,7 +54,8 @@ impl Run {
 
     /// All steps from the entry of `main` on, until the run ends or stops.
     pub(crate) fn to_end(&mut self, alloc: Global, code: &Code) -> Result<(), Stop>
-        ensures { (t : ProgramTree) → IsLaid t.procedures code.now → Starts t self.old → Answers t self.old.left result self.new.store }
+        ensures { (t : ProgramTree) → IsLaid t.procedures code.now → Starts t self.old
+            → Answers t self.old.left result self.new.store }
     {
         self.begin(code, code.main())?;
         while !self.ended {
@@ -132,8 +136,8 @@ impl Run {
         self.inside(otherwise, self.place)
     }
 
-    /// The test of a loop, which is the first step of its block: where it holds, the loop's block is entered, and the test
-    /// comes again behind it.
+    /// The test of a loop, which is the first step of its block: where it holds, the loop's block
+    /// is entered, and the test comes again behind it.
     fn test(&mut self, test: &Value, block: usize) -> Result<(), Stop>
         ensures { Does result self.new (testing test.now block self.old) }
     {

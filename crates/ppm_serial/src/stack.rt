@@ -49,7 +49,8 @@ pub(crate) enum Rest {
     Parts(Regions, Place),
     Sweep(Sweep),
     Call(Caller),
-    /// The right branch of a fork: who waits for the left one, the right one's target, procedure and frame.
+    /// The right branch of a fork: who waits for the left one, the right one's target, procedure
+    /// and frame.
     Left(Caller, Option<usize>, usize, Frame),
     /// The end of a fork: who waits for the right branch, the left one's target and value.
     Right(Caller, Option<usize>, i64),

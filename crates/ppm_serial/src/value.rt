@@ -62,8 +62,8 @@ fn at_once(content: &Content, value: &Value) -> Option<i64>
     }
 }
 
-/// What an expression is worth in a frame, none where it traps. A value and its absence fit into registers, where a trap
-/// with its line does not, so this is tried first.
+/// What an expression is worth in a frame, none where it traps. A value and its absence fit into
+/// registers, where a trap with its line does not, so this is tried first.
 #[inline(never)]
 fn untrapped(content: &Content, store: &Store, value: &Value) -> Option<i64>
     ensures { result ≡ untrapped content.now store.now value.now }

@@ -9,8 +9,8 @@ pub fn copies_are_restartable()
     ensures { CopiesAreRestartable }
 {}
 
-/// In whatever order the two strands make their word steps, and however often each loses how far it has
-/// come: where both are over, both words are copied, and two capsules are counted.
+/// In whatever order the two strands make their word steps, and however often each loses how far it
+/// has come: where both are over, both words are copied, and two capsules are counted.
 pub fn copies_with_faults()
     ensures { CopiesWithFaults }
 {

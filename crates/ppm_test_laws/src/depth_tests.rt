@@ -12,9 +12,9 @@ use std::alloc::Global;
 use std::process::Abort;
 use std::test::Fail;
 
-/// By a[0] the root does a loop (0), a call (1), a fork (2), or asks for a block and then traps. The procedure
-/// for i makes a[3] twice itself and i, and gives 12 / a[i] once 2 * a[i] fits; both values of the fork go into
-/// one slot, so that the right one is left.
+/// By a[0] the root does a loop (0), a call (1), a fork (2), or asks for a block and then traps.
+/// The procedure for i makes a[3] twice itself and i, and gives 12 / a[i] once 2 * a[i] fits; both
+/// values of the fork go into one slot, so that the right one is left.
 const CHOOSING: &str = "ppm 1\nroot 0 0\nproc 0 slots 3 entry 0\nproc 1 slots 2 entry 6\n\
 capsule 0 proc 0\nloadslot r0 0\nget r2 r0 r1 1\nbranchz r2 9\nconst r3 1\nsub r2 r2 r3 1\nbranchz r2 10\n\
 sub r2 r2 r3 1\nbranchz r2 11\nnext 7\nnext 1\nnext 3\nnext 5\n\

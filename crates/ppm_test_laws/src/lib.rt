@@ -1,10 +1,13 @@
-//! Small instances of the crates of laws, tests that cite each of their laws, and listings that are run depth first.
-//! Model: capsules over four words of a byte each (`specs/Sample`) and trees of them that race (`specs/Races`);
-//! capsules with one register that a stop loses (`specs/Stops`); two strands run with faults (`specs/Copies`).
-//! Contract: `sample::run` runs depth first, `stops::run_with_stops` with stops; laws fail where their premise does.
-//! Stands on `ppm_strands` and `ppm_capsules`, its tests of listings on `ppm_depth` and `ppm_listing_reader`; no crate stands on it. The tests of `ppm_code` are
-//! here, since a crate with tests is proved twice.
-//! The instances are this project's.
+//! Small instances of the crates of laws, tests that cite each of their laws, and listings that are
+//! run depth first.
+//! Model: capsules over four words of a byte each (`specs/Sample`) and trees of them that race
+//! (`specs/Races`); capsules with one register that a stop loses (`specs/Stops`); two strands run
+//! with faults (`specs/Copies`).
+//! Contract: `sample::run` runs depth first, `stops::run_with_stops` with stops; laws fail where
+//! their premise does.
+//! Stands on `ppm_strands` and `ppm_capsules`, its tests of listings on `ppm_depth` and
+//! `ppm_listing_reader`; no crate stands on it. The tests of `ppm_code` are here, since a crate
+//! with tests is proved twice. The instances are this project's.
 #![tactic(auto)]
 
 #[cfg(test)]

@@ -1,7 +1,10 @@
-//! Trees of the small instance that race, and trees that do not: what the laws of strands say of them.
+//! Trees of the small instance that race, and trees that do not: what the laws of strands say of
+//! them.
 
-ghost use Rattle.ppm_test_laws.specs.Races.{ApartByRegions, ApartIsCalm, NoEndBeside, RacesAreNotCalm};
-ghost use Rattle.ppm_test_laws.specs.Races.{RacesBesideNoEndAreNotCalm, RacesEndOtherwise, RacesLoseTheLaw};
+ghost use Rattle.ppm_test_laws.specs.Races.{ApartByRegions, ApartIsCalm, NoEndBeside};
+ghost use Rattle.ppm_test_laws.specs.Races.{RacesAreNotCalm};
+ghost use Rattle.ppm_test_laws.specs.Races.{RacesBesideNoEndAreNotCalm, RacesEndOtherwise};
+ghost use Rattle.ppm_test_laws.specs.Races.{RacesLoseTheLaw};
 ghost use Rattle.ppm_test_laws.specs.Races.{SamplesAreLocal, TablesRunInAnyOrder};
 
 use crate::sample::Outcome;
@@ -35,7 +38,8 @@ pub fn tables_run_in_any_order()
     any_order::<u8, Outcome>();
 }
 
-/// A fork whose branches keep apart and the strand that makes it are calm by the law of regions, by its contract alone.
+/// A fork whose branches keep apart and the strand that makes it are calm by the law of regions, by
+/// its contract alone.
 pub fn apart_trees_are_calm()
     ensures { ApartIsCalm }
 {

@@ -4,8 +4,10 @@
 ghost use Rattle.std.specs.Prelude.{[], ◌≡◌, ◌≤◌, ◌^◌, IfSome, option_map};
 ghost use Rattle.ppm_strands.specs.Run.{joined as model_joined, plus};
 ghost use Rattle.ppm_strands.specs.Run.{with_counts as model_with_counts};
-ghost use Rattle.ppm_test_laws.specs.Sample.{AreAtMost, IsBoundOfBoth, address, after_capsule, capsule_at, counts_of};
-ghost use Rattle.ppm_test_laws.specs.Sample.{counts_at, end_of, resumed_tree, run_of, sample, tree_of, words_of};
+ghost use Rattle.ppm_test_laws.specs.Sample.{AreAtMost, IsBoundOfBoth, address, after_capsule};
+ghost use Rattle.ppm_test_laws.specs.Sample.{capsule_at, counts_of};
+ghost use Rattle.ppm_test_laws.specs.Sample.{counts_at, end_of, resumed_tree, run_of, sample};
+ghost use Rattle.ppm_test_laws.specs.Sample.{tree_of, words_of};
 
 /// The four words, by name.
 #[derive(Clone, Copy, Debug, PartialEq, Eq)]

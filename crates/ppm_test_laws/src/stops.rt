@@ -4,13 +4,14 @@ ghost use Rattle.std.specs.Prelude.{◌≡◌};
 ghost use Rattle.ppm_capsules.specs.Capsule.{store, whole as model_whole};
 ghost use Rattle.ppm_capsules.specs.Equalities.{numbers};
 ghost use Rattle.ppm_test_laws.specs.Sample.{address, words_of};
-ghost use Rattle.ppm_test_laws.specs.Stops.{StopsDoNotShow, capsule_of, seen_of, with_stops, words_after};
+ghost use Rattle.ppm_test_laws.specs.Stops.{StopsDoNotShow, capsule_of, seen_of, with_stops};
+ghost use Rattle.ppm_test_laws.specs.Stops.{words_after};
 
 use crate::sample::{Word, index};
 use ppm_capsules::conflict_free_is_idempotent;
 
-/// An instruction: the first two are word steps, the last is work on the register, which is 0 at the
-/// beginning.
+/// An instruction: the first two are word steps, the last is work on the register, which is 0 at
+/// the beginning.
 #[derive(Clone, Copy, Debug, PartialEq, Eq)]
 pub enum Ask {
     Load(Word),
@@ -44,7 +45,8 @@ fn stored(word: Word, value: u8, words: [u8; 4]) -> [u8; 4]
 
 /// Runs what is left of a capsule to its end.
 fn run_whole(rest: &[Ask], register: u8, words: [u8; 4]) -> Run
-    ensures whole { seen_of result ≡ model_whole numbers (capsule_of rest.now register) (words_of words) }
+    ensures whole { seen_of result
+        ≡ model_whole numbers (capsule_of rest.now register) (words_of words) }
 {
     match rest {
         [] => Run {
@@ -79,8 +81,8 @@ fn run_until(rest: &[Ask], steps: u8, register: u8, words: [u8; 4]) -> [u8; 4]
     }
 }
 
-/// Runs a capsule with stops: begun, stopped after as many word steps as the list says next, begun again
-/// on the words as they then are, and at last run whole.
+/// Runs a capsule with stops: begun, stopped after as many word steps as the list says next, begun
+/// again on the words as they then are, and at last run whole.
 pub fn run_with_stops(capsule: &[Ask], stops: &[u8], words: [u8; 4]) -> Run
     ensures stopped { seen_of result ≡ with_stops capsule.now stops.now words }
 {
@@ -90,8 +92,8 @@ pub fn run_with_stops(capsule: &[Ask], stops: &[u8], words: [u8; 4]) -> Run
     }
 }
 
-/// Of a capsule that has no conflict from these words the stops do not show: the law at these capsules,
-/// by its contract alone.
+/// Of a capsule that has no conflict from these words the stops do not show: the law at these
+/// capsules, by its contract alone.
 pub fn stops_do_not_show()
     ensures { StopsDoNotShow }
 {

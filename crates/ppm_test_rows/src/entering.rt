@@ -8,7 +8,8 @@ use ppm_step::{Seat, entered, header_of};
 use std::process::Abort;
 use std::test::Fail;
 
-/// The header with which the frame at 14 goes on, and whether the capsule with a number is entered from there.
+/// The header with which the frame at 14 goes on, and whether the capsule with a number is entered
+/// from there.
 fn enter(shape: &Shape, code: &Code, number: u64, registers: &mut [u64; 64]) -> Option<(u32, bool)>
     requires { 0 < shape.now.processors }
 {

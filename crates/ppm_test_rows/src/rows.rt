@@ -10,8 +10,8 @@ use ppm_step::{Local, Next, Want};
 use std::process::Abort;
 use std::test::Fail;
 
-/// A row of processor 0 at place 0, with victim 1: the restart word, words that are set before it, how many steps it makes
-/// from the load of the carry word on, and the words that it changes.
+/// A row of processor 0 at place 0, with victim 1: the restart word, words that are set before it,
+/// how many steps it makes from the load of the carry word on, and the words that it changes.
 #[derive(Clone, Copy)]
 struct Case<'a> {
     name: &'a str,
@@ -22,8 +22,8 @@ struct Case<'a> {
     by_entries: bool,
 }
 
-/// The words of two processors with four slots and room for 64 words each: holders, tops, and each deque with its first entry
-/// taken and its second one local.
+/// The words of two processors with four slots and room for 64 words each: holders, tops, and each
+/// deque with its first entry taken and its second one local.
 fn small_words() -> [u64; 153] {
     let mut words = [0; 153];
     let begun = [

@@ -20,7 +20,8 @@ fn ending(alloc: Global, end: End) -> Result<Capsule, Fail>
 
 /// A capsule that asks for words, and its end.
 fn building(alloc: Global, words: u32, end: End) -> Result<Capsule, Fail>
-    ensures { IfOk result (λ capsule. capsule ≡ record { procedure = 0; instrs = Room words ∷ Ends end ∷ [] }) }
+    ensures { IfOk result (λ capsule. capsule
+        ≡ record { procedure = 0; instrs = Room words ∷ Ends end ∷ [] }) }
 {
     Ok(Capsule {
         procedure: 0,
@@ -28,7 +29,8 @@ fn building(alloc: Global, words: u32, end: End) -> Result<Capsule, Fail>
     })
 }
 
-/// A code of one procedure, with a capsule for each end but that which goes on with another capsule.
+/// A code of one procedure, with a capsule for each end but that which goes on with another
+/// capsule.
 pub(crate) fn small_code(alloc: Global) -> Result<Code, Fail> {
     let over = ending(alloc, End::Finish)?;
     let call = building(alloc, 7, calling(None))?;
@@ -64,7 +66,8 @@ fn calling(to: Option<u32>) -> End
     }
 }
 
-/// A fork of the procedure and itself, behind which capsule 3 comes; the left value goes to a slot, if one is named.
+/// A fork of the procedure and itself, behind which capsule 3 comes; the left value goes to a slot,
+/// if one is named.
 fn forking(left_to: Option<u32>) -> End
     ensures { result ≡ Fork 0 0 3 left_to None }
 {

@@ -1,4 +1,5 @@
-//! Schedules that a machine of two processors follows, and plans that one processor obeys, with a code that ends at once.
+//! Schedules that a machine of two processors follows, and plans that one processor obeys, with a
+//! code that ends at once.
 ghost use Rattle.std.specs.Prelude.{◌≡◌, IfOk, []};
 
 use ppm_cells::{Finish, Shape};
@@ -64,7 +65,8 @@ fn ends_within(rt: &impl Abort, alloc: Global, schedule: &str, acts: u32) -> Res
     Ok(())
 }
 
-/// Schedules, and how many acts their runs take: the one strand takes nine steps, and the other processor seeks work.
+/// Schedules, and how many acts their runs take: the one strand takes nine steps, and the other
+/// processor seeks work.
 const SCHEDULES: [(&str, u32); 8] = [
     ("none", 17),
     ("0*9", 9),
@@ -126,7 +128,8 @@ fn obeyed(rt: &impl Wait, alloc: Global, plan: &str, turns: u64) -> Result<Endin
     Ok(machine.outcome())
 }
 
-/// Plans, work turns, and how the run ends: it takes five, and one more where a soft fault comes behind its first.
+/// Plans, work turns, and how the run ends: it takes five, and one more where a soft fault comes
+/// behind its first.
 const PLANS: [(&str, u64, Finish); 6] = [
     ("none", 5, Finish::Ended),
     ("none", 4, Finish::OutOfTurns { processor: 0 }),

@@ -20,7 +20,8 @@ use ppm_words::{Input, Items, Name, NamedArray};
 use std::alloc::Global;
 use std::test::Fail;
 
-/// Cuts its array behind the first element, and puts 1 and 2 into the first elements of the parts, side by side.
+/// Cuts its array behind the first element, and puts 1 and 2 into the first elements of the parts,
+/// side by side.
 const FORK: &str = "ppm 1\nroot 0 0\nproc 0 slots 1 entry 0\nproc 1 slots 2 entry 2\n\
 capsule 0 proc 0\nroom 21\nloadslot r0 0\nconst r1 1\nconst r2 2\ncutl r3 r0 r1 1\ncutr r4 r0 r1 1\n\
 storenew 11 r3\nstorenew 12 r1\nstorenew 19 r4\nstorenew 20 r2\nfork 1 1 1\ncapsule 1 proc 0\nend\n\
@@ -169,8 +170,8 @@ fn one_runs_both_branches(rt: HostRuntime) -> Result<(), Fail> {
     Ok(())
 }
 
-/// Processor 0 by so many steps in a row at most, and by a turn where it makes none, until the finish word isn't 0; how many steps were made
-/// in a row.
+/// Processor 0 by so many steps in a row at most, and by a turn where it makes none, until the
+/// finish word isn't 0; how many steps were made in a row.
 fn run_in_rows(machine: &mut Machine, most: u64) -> u64 {
     let mut in_rows = 0u64;
     for _ in 0..3000u32 {
@@ -192,9 +193,10 @@ fn steps_in_a_row_are_turns(rt: HostRuntime) -> Result<(), Fail> {
     let alloc = rt.alloc();
     let mut turn_by_turn = fork_machine(alloc, 1, false)?;
     run(&mut turn_by_turn, ALONE);
-    // The root's first capsule makes 18 (the finish word and its header, a room counter, a slot, four words of the new block, nine stores of
-    // the fork, and the restart word), each branch 6, and the root's last capsule 3.
-    // One step is never the first of a capsule, since its second comes at once with it.
+    // The root's first capsule makes 18 (the finish word and its header, a room counter, a slot,
+    // four words of the new block, nine stores of the fork, and the restart word), each branch 6,
+    // and the root's last capsule 3. One step is never the first of a capsule, since its second
+    // comes at once with it.
     for (most, want) in [(1000, 18 + 2 * 6 + 3), (1, 16 + 2 * 4 + 1), (0, 0)] {
         let mut machine = fork_machine(alloc, 1, false)?;
         let in_rows = run_in_rows(&mut machine, most);

@@ -1,4 +1,5 @@
-//! Replays over memory: a fault behind each round of acts of a sum, and schedules of moments that look dangerous.
+//! Replays over memory: a fault behind each round of acts of a sum, and schedules of moments that
+//! look dangerous.
 ghost use Rattle.std.specs.Prelude.{IsTrue};
 ghost use Rattle.ppm_cli.specs.Words.{AreReplayed};
 
@@ -129,7 +130,8 @@ struct Sweep<'a> {
     fault: &'a str,
 }
 
-/// Fails unless a source is replayed so with the fault at each of its places. Answers the acts in front of a further one.
+/// Fails unless a source is replayed so with the fault at each of its places. Answers the acts in
+/// front of a further one.
 fn swept(
     rt: &impl Abort,
     alloc: Global,
@@ -150,8 +152,9 @@ fn swept(
 /// How many rounds of acts are enough for the sum.
 const ROUNDS: u32 = 400;
 
-/// Fails unless the sum is the same with a fault behind each number of rounds of acts of all processors, and ends within these acts
-/// without it. The deques have room for no job, for some, or for all.
+/// Fails unless the sum is the same with a fault behind each number of rounds of acts of all
+/// processors, and ends within these acts without it. The deques have room for no job, for some, or
+/// for all.
 fn sum_is_swept(
     rt: &impl Abort,
     alloc: Global,
@@ -209,8 +212,9 @@ fn a_sum_is_the_same_where_processors_die(rt: HostRuntime) -> Result<(), Fail> {
 
 #[test]
 fn a_thief_stops_anywhere_in_its_theft(rt: HostRuntime) -> Result<(), Fail> {
-    // The job stands from act 30 on (31 where entries are taken over). Behind 12 (11) acts the thief has exchanged the entry for its own,
-    // and has not installed what comes next; the front of 30 acts more is past its take.
+    // The job stands from act 30 on (31 where entries are taken over). Behind 12 (11) acts the
+    // thief has exchanged the entry for its own, and has not installed what comes next; the front
+    // of 30 acts more is past its take.
     for takeover in [Takeover::ByPlaces, Takeover::ByEntries] {
         let options = ReplayOptions { takeover, ..TWO };
         for fault in ["1!s", "1!h"] {
@@ -226,8 +230,8 @@ fn a_thief_stops_anywhere_in_its_theft(rt: HostRuntime) -> Result<(), Fail> {
     Ok(())
 }
 
-/// Behind these acts the place that stole has exchanged the entry for its own, and has not installed what comes next: where places are
-/// taken over, and where entries are.
+/// Behind these acts the place that stole has exchanged the entry for its own, and has not
+/// installed what comes next: where places are taken over, and where entries are.
 const STOLEN: [(Takeover, &str); 2] = [
     (Takeover::ByPlaces, "0*30,1*12,"),
     (Takeover::ByEntries, "0*31,1*11,"),
@@ -262,7 +266,8 @@ fn a_sum_is_the_same_along_schedules(rt: HostRuntime) -> Result<(), Fail> {
     let cases = [
         (2, "0*40,1>0*60,0!s"),
         (2, "0*40,1>0*60,0!h"),
-        // One dies as it begins, and the first one once the third has looked at the dead one's place.
+        // One dies as it begins, and the first one once the third has looked at the dead one's
+        // place.
         (3, "1!h,0*70,2>1*40,0!h"),
         // Two die as they begin.
         (3, "0!h,1*5,1!h"),

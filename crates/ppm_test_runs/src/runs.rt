@@ -83,7 +83,8 @@ fn run(
     })
 }
 
-/// Fails unless the source is answered so: on out where it ends, at its end or in a trap, else on err.
+/// Fails unless the source is answered so: on out where it ends, at its end or in a trap, else on
+/// err.
 fn shows<R: Abort + Wait>(
     rt: &R,
     alloc: Global,

@@ -274,7 +274,8 @@ fn limits_are_reported_at_their_tokens(rt: HostRuntime) -> Result<(), Fail> {
             written(main, "1+", 24, "name"),
             SyntaxError::TooMany(70, Limit::Nodes),
         ),
-        // Both arguments' nodes are of one statement; the thirteenth argument is also the 49th node.
+        // Both arguments' nodes are of one statement; the thirteenth argument is also the 49th
+        // node.
         (
             written("proc f() { fork g(1+", "1+", 20, "1) and h(1+1+1+1"),
             SyntaxError::TooMany(74, Limit::Nodes),
