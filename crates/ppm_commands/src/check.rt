@@ -3,7 +3,9 @@ ghost use Rattle.std.specs.Prelude.{◌≡◌};
 ghost use Rattle.ppm_ports.specs.Ports.{port};
 ghost use Rattle.ppm_ports.specs.Outside.{ports};
 ghost use Rattle.ppm_answers.specs.Reading.{TextMay};
-ghost use Rattle.ppm_commands.specs.Check.{class_told as told_class, conflict_told as told_conflict, error_answer as answer_of};
+ghost use Rattle.ppm_commands.specs.Check.{class_told as told_class};
+ghost use Rattle.ppm_commands.specs.Check.{conflict_told as told_conflict};
+ghost use Rattle.ppm_commands.specs.Check.{error_answer as answer_of};
 ghost use Rattle.ppm_commands.specs.Check.{CheckHas, VerdictOf, CheckMay, IsChecked};
 
 use crate::laws::listings_have_one_answer;
@@ -14,7 +16,8 @@ use ppm_ports::{Sink, Source, read_whole};
 use ppm_war::{Conflict, check};
 use std::alloc::Global;
 
-/// Checks the listing that is read: `ok` is written on `out`, its first conflict or its first fault on `err`.
+/// Checks the listing that is read: `ok` is written on `out`, its first conflict or its first fault
+/// on `err`.
 pub fn check_command<S: Source, K: Sink, E: Sink>(
     alloc: Global,
     source: &mut S,
@@ -31,7 +34,8 @@ pub fn check_command<S: Source, K: Sink, E: Sink>(
     deliver(alloc, &answer, out, err)
 }
 
-/// The answer of `check`: what is read, to its end or one byte past the limit of a listing, is judged.
+/// The answer of `check`: what is read, to its end or one byte past the limit of a listing, is
+/// judged.
 fn check_answer<S: Source>(alloc: Global, source: &mut S) -> Answer
     ensures { CheckMay (port S.left S.fault_count source.old source.new) result }
 {
@@ -41,7 +45,8 @@ fn check_answer<S: Source>(alloc: Global, source: &mut S) -> Answer
     }
 }
 
-/// What `check` says of a text: its fault, or the first conflict of its code, or that there is none.
+/// What `check` says of a text: its fault, or the first conflict of its code, or that there is
+/// none.
 fn text_answer(alloc: Global, text: &[u8]) -> Answer
     ensures { TextMay CheckHas text.now result }
 {

@@ -21,7 +21,8 @@ use ppm_text::TEXT_LIMIT;
 use ppm_words::{Items, NoMemory};
 use std::alloc::Global;
 
-/// Compiles the text that is read: the listing of its code is written on `out`, its refusal on `err`.
+/// Compiles the text that is read: the listing of its code is written on `out`, its refusal on
+/// `err`.
 pub fn code_command<S: Source, K: Sink, E: Sink>(
     alloc: Global,
     source: &mut S,
@@ -39,7 +40,8 @@ pub fn code_command<S: Source, K: Sink, E: Sink>(
     deliver(alloc, &answer, out, err)
 }
 
-/// The answer of `code`: what is read, to its end or one byte past the limit of a text, is compiled.
+/// The answer of `code`: what is read, to its end or one byte past the limit of a text, is
+/// compiled.
 fn listing_answer<S: Source>(alloc: Global, source: &mut S) -> Answer
     ensures { CodeMay (port S.left S.fault_count source.old source.new) result }
 {

@@ -11,8 +11,8 @@ use ppm_program::have_one_answer as have_one_program;
 use ppm_rows::trees_are_within;
 use ppm_tree::{have_one_end, none_is_stuck, spend_their_turns};
 
-/// Where it is checked, a text has one answer: its first fault, its code's first conflict, or that it is accepted; and a text
-/// that is too long is refused as its front is.
+/// Where it is checked, a text has one answer: its first fault, its code's first conflict, or that
+/// it is accepted; and a text that is too long is refused as its front is.
 pub fn listings_have_one_answer()
     ensures law { ListingsHaveOneAnswer }
 {
@@ -20,8 +20,8 @@ pub fn listings_have_one_answer()
     faults_tell_listings();
 }
 
-/// Where its code is listed, a text has one answer: it is refused for one reason, or its program has one code, which has one
-/// listing.
+/// Where its code is listed, a text has one answer: it is refused for one reason, or its program
+/// has one code, which has one listing.
 pub fn codes_have_one_answer()
     ensures law { CodesHaveOneAnswer }
 {
@@ -29,8 +29,9 @@ pub fn codes_have_one_answer()
     have_one_program();
 }
 
-/// The code of each text's program is faithful: each capsule may be stopped anywhere and begun again, it is tidy, on no input
-/// do branches of it race, and run depth first it ends as the program does.
+/// The code of each text's program is faithful: each capsule may be stopped anywhere and begun
+/// again, it is tidy, on no input do branches of it race, and run depth first it ends as the
+/// program, run whole, does.
 pub fn codes_are_faithful()
     ensures law { CodesAreFaithful }
 {
@@ -43,7 +44,8 @@ pub fn codes_are_faithful()
     end_as_meant();
 }
 
-/// Within each number of turns a text has one answer: it is refused for one reason, or its program has one outcome.
+/// Within each number of turns a text has one answer: it is refused for one reason, or its program
+/// has one outcome.
 pub fn outcomes_have_one_answer()
     ensures law { OutcomesHaveOneAnswer }
 {

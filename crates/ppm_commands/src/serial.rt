@@ -17,8 +17,8 @@ use ppm_words::{NoMemory, Outcome};
 use std::alloc::Global;
 use std::mem::ManuallyDrop;
 
-/// Runs the text that is read within so many turns of the serial meaning: its arrays or its trap are written on `out`,
-/// its refusal or that it takes more turns on `err`.
+/// Runs the text that is read within so many turns of the serial meaning: its arrays or its trap
+/// are written on `out`, its refusal or that it takes more turns on `err`.
 pub fn serial_command<S: Source, K: Sink, E: Sink>(
     alloc: Global,
     turns: u64,
@@ -53,7 +53,8 @@ fn text_answer(alloc: Global, turns: u64, text: &[u8]) -> Answer
     match program_of(alloc, text) {
         Ok(admitted) => {
             let answer = program_answer(alloc, turns, admitted.program());
-            // The command ends: the system takes back at once what would be given back node by node.
+            // The command ends: the system takes back at once what would be given back node by
+            // node.
             let _admitted = ManuallyDrop::new(admitted);
             answer
         }

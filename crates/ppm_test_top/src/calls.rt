@@ -150,7 +150,8 @@ fn sink(alloc: Global, most: usize, failing: &[u64]) -> Result<MemorySink, Fail>
     Ok(MemorySink::new(alloc, ROOM, most, failing).map_err(|_| "memory")?)
 }
 
-/// Fails unless words and a text are answered so, over ports that move at most `most` bytes at a time.
+/// Fails unless words and a text are answered so, over ports that move at most `most` bytes at a
+/// time.
 pub(crate) fn is_answered<R: Abort + Wait>(
     rt: &R,
     alloc: Global,
@@ -298,7 +299,8 @@ fn commands_are_obeyed(rt: HostRuntime) -> Result<(), Fail> {
     Ok(())
 }
 
-/// Words that ask for a replay, sources, and what is answered: on out where it ends, at its end or in a trap, else on err.
+/// Words that ask for a replay, sources, and what is answered: on out where it ends, at its end or
+/// in a trap, else on err.
 const REPLAYS: [(&[&str], &str, &str, Status); 16] = [
     (
         &["ppm", "replay", "--processors", "1"],
@@ -528,7 +530,8 @@ fn listings_are_checked(rt: HostRuntime) -> Result<(), Fail> {
             "end\n",
             "ok",
         ),
-        // The first conflict is that of the least capsule, there of the least read, there of the least write.
+        // The first conflict is that of the least capsule, there of the least read, there of the
+        // least write.
         (
             FOUR_SLOTS,
             "end\ncapsule 1 proc 0\nloadslot r0 1\nloadslot r1 2\nstorecur 2 r0\nstorecur 1 r0\nstorecur 1 r1\nend\n",

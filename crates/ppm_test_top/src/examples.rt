@@ -1,4 +1,5 @@
-//! The programs in `examples/` with their outputs, word for word; the outputs were worked out by another program.
+//! The programs in `examples/` with their outputs, word for word; the outputs were worked out by
+//! another program.
 
 /// The program `examples/sum.ppm` and its output, `examples/sum.out`.
 const SUM: (&str, &str) = (

@@ -1,4 +1,5 @@
-//! Expressions over the least value, `x`, and an array of 0 and 7, `a`; what they come to was worked out by another program.
+//! Expressions over the least value, `x`, and an array of 0 and 7, `a`; what they come to was
+//! worked out by another program.
 
 /// Expressions with their values.
 pub(crate) const VALUES: [(&str, &str); 55] = [

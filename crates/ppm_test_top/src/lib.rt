@@ -1,8 +1,9 @@
-//! Trials of the top call: each command over ports in memory, by tables of whole inputs with what is written for them, and
-//! where ports fail; and accepted capsules that are stopped anywhere.
+//! Trials of the top call: each command over ports in memory, by tables of whole inputs with what
+//! is written for them, and where ports fail; and accepted capsules that are stopped anywhere.
 //! Model: none; all of it is tests, by what was worked out by hand or by another program.
 //! Contract: none.
-//! Stands on `ppm_top`. The tests of `ppm_top` and `ppm_commands` are here, since a crate with tests is proved twice.
+//! Stands on `ppm_top`. The tests of `ppm_top` and `ppm_commands` are here, since a crate with
+//! tests is proved twice.
 //! After the rules of the commands and their texts.
 #![tactic(auto)]
 

@@ -12,7 +12,8 @@ use std::test::Fail;
 /// The turns that `serial` has where the words name none.
 pub(crate) const TURNS: u64 = 16_777_216;
 
-/// Fails unless a text has this answer within so many turns: on out where it ends, at its end or in a trap, else on err.
+/// Fails unless a text has this answer within so many turns: on out where it ends, at its end or in
+/// a trap, else on err.
 fn answers<R: Abort + Wait>(
     rt: &R,
     alloc: Global,

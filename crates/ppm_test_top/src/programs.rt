@@ -141,7 +141,8 @@ pub(crate) const PROGRAMS: [(u64, &str, Status, &str); 51] = [
         Status::Ended,
         "a\n",
     ),
-    // The trap of the left branch comes first, also where the right one has no end; not the other way round.
+    // The trap of the left branch comes first, also where the right one has no end; not the other
+    // way round.
     (4, ENDLESS_RIGHT, Status::Trapped, "trap divzero line 2\n"),
     (3, ENDLESS_RIGHT, Status::NotWithin, "not within 3 turns\n"),
     (

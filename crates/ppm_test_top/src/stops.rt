@@ -1,4 +1,5 @@
-//! Capsules of listings that are accepted, stopped after each word step and begun again, over plain words.
+//! Capsules of listings that are accepted, stopped after each word step and begun again, over plain
+//! words.
 use ppm_code::{Act, End, FrameWord, Instr, Location, Step};
 use ppm_listing_reader::read_listing;
 use ppm_war::check;
@@ -57,7 +58,8 @@ impl Words {
     }
 }
 
-/// Begins a capsule, and goes on to its end, or until it has made so many word steps: then it is stopped.
+/// Begins a capsule, and goes on to its end, or until it has made so many word steps: then it is
+/// stopped.
 fn begin(instrs: &[Instr], words: &mut Words, mut steps: usize) -> Result<Option<End>, Fail> {
     let mut registers = [0; 64];
     let mut next = 0;
@@ -92,8 +94,8 @@ fn with_stops(instrs: &[Instr], stops: &[usize]) -> Result<(Option<End>, Words),
     Ok((end, words))
 }
 
-/// Whether stops change neither the end nor the words: one after each number of word steps that a capsule may make, or two
-/// after up to eight each.
+/// Whether stops change neither the end nor the words: one after each number of word steps that a
+/// capsule may make, or two after up to eight each.
 fn may_be_stopped(instrs: &[Instr]) -> Result<bool, Fail> {
     let without = with_stops(instrs, &[])?;
     for steps in 0..161 {
@@ -141,7 +143,8 @@ const FOUR_SLOTS: &str = "ppm 1\nroot 0\nproc 0 slots 4 entry 0\ncapsule 0 proc 
 
 const ONE_SLOT: &str = "ppm 1\nroot 0\nproc 0 slots 1 entry 0\ncapsule 0 proc 0\n";
 
-/// What follows the first of these: five listings of this table's own, then those of the table of `ppm_listing_reader` that `check` accepts.
+/// What follows the first of these: five listings of this table's own, then those of the table of
+/// `ppm_listing_reader` that `check` accepts.
 const OF_FOUR_SLOTS: [&'static str; 23] = [
     "loadslot r0 3\nbranchz r0 4\nconst r1 -1\nadd r0 r0 r1 1\nstorecur 2 r0\nnext 1\ncapsule 1 proc 0\nloadslot r0 2\nstorecur 3 r0\nend\n",
     "loadslot r1 0\nput r1 r2 r0 1\nget r0 r1 r2 1\nstorecur 1 r0\nend\n",

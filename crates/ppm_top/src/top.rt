@@ -23,8 +23,9 @@ use ppm_words::NoMemory;
 use std::alloc::Global;
 use std::sync::Wait;
 
-/// Does what the words ask for: the bytes of `source` are read, the texts of the answer are written on `out` and `err`.
-/// The first word is the program's name. No watcher is told anything yet. A run may never return.
+/// Does what the words ask for: the bytes of `source` are read, the texts of the answer are written
+/// on `out` and `err`. The first word is the program's name. No watcher is told anything yet. A run
+/// may never return.
 pub fn ppm<R: Wait, S: Source, K: Sink, E: Sink, W: Watch>(
     rt: &R,
     alloc: Global,
