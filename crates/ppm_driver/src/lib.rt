@@ -3,9 +3,10 @@
 //! Model: what a schedule says is a list of acts that are due (`specs/Schedules`, `specs/Course`);
 //! obedience is that of `ppm_choice`.
 //! Contract: `follow` and `obey` make of a machine exactly what those turns make of it
-//! (`specs/Obedience`); `replay_command` delivers the one answer of a text (`specs/Replays`);
-//! `run_command`, if it returns, one that it has: that of a run in which each processor obeys
-//! (`specs/RunOf`, `specs/Runs`). What follows from each status: `specs/PlannedRows`.
+//! (`specs/Schedules`, `specs/Obedience`); `replay_command` delivers the one answer of a text
+//! (`specs/Replays`); `run_command`, if it returns, one that it has: that of a run in which each
+//! processor obeys (`specs/RunOf`, `specs/Runs`). What follows from each status: `specs/RunRows`,
+//! `specs/ReplayRows`.
 //! Stands on `ppm_core`, `ppm_choice`, `ppm_plan`, `ppm_program`, `ppm_cut` and `ppm_answers`;
 //! `ppm_top` calls it. The schedules and limits and their rules are this project's.
 #![tactic(auto)]
