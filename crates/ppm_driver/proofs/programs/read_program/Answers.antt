@@ -36,4 +36,4 @@ returns-in-Ok-clause-none g c =
 pub returns-in-Err-clause-none : goal.returns-in-Err-clause-none
 returns-in-Err-clause-none g c =
     subst (NoProgramMay _) (sym c.answer_of_read.ensures)
-    (not_read text_limit RefusedHas (Unit {0}) _ c.in-Err.error c.in-Err.ensures.front c.in-Err.ensures.cause)
+    (not_read text_limit RefusedHas _ c.in-Err.error c.in-Err.ensures.front c.in-Err.ensures.cause)

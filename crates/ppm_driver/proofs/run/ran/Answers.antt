@@ -1,6 +1,7 @@
-use Rattle.std.proofs.Common.{◌≡◌, ◌∙◌, subst, arith}
+use Rattle.std.proofs.Common.{◌≡◌, ap, ◌∙◌, subst, arith}
 use Rattle.ppm_code.specs.Code.{IsCode}
 use Rattle.ppm_tree.specs.Tree.{tree_of}
+use Rattle.ppm_driver.specs.declared.loading.Sizes.{Sizes}
 use Rattle.ppm_driver.proofs.ExactLemmas.{code_opened}
 use Rattle.ppm_driver.proofs.LoadingLemmas.{opens_processors}
 use Rattle.ppm_driver.proofs.RunLemmas.{program_has}
@@ -13,7 +14,8 @@ returns g c told =
     let one : c.args.options.processors ≡ 1 = omega (arith, c.requires.options.0.0, c.requires.options.0.1) in
     let first : c.keeper.result ≡ 0 = omega (arith, c.keeper.ensures.below, c.requires.processors, c.requires.options.0.1) in
     let there = opens_processors _ _ _ _ _ c.in_ok-machine.ensures in
-    let alone = there ∙ one in
+    let sized : c.sizes_of.result.processors ≡ c.args.options.processors = ap (λ (s : Sizes). s.processors) c.sizes_of.ensures in
+    let alone = there ∙ sized ∙ one in
     program_has c.args.options c.args.plan.now t _ _ _ _ _ _ _ c.sizes_of.ensures c.limits_of.ensures c.requires.processors one
     c.keeper.ensures.keeper first c.in_ok-machine.ensures
     (code_opened _ _ _ _ _ c.in_ok-machine.ensures (subst IsCode c.code.ensures c.parts.ensures.code)) (c.obey.ensures.all alone)
