@@ -12,7 +12,8 @@ use Rattle.ppm_words.specs.TwosComplement.{word_of, value_of}
 use Rattle.ppm_words.specs.declared.named_array.NamedArray.{NamedArray}
 use Rattle.ppm_words.specs.declared.outcome.Outcome.TheVariants as outcome
 use Rattle.ppm_code.specs.Strands.{Gave, Trapped as TrappedAt}
-use Rattle.ppm_depth.specs.Start.{words_in, words_of, regions_from, root_own}
+use Rattle.ppm_code.specs.Inputs.{words_in}
+use Rattle.ppm_depth.specs.Start.{words_of, regions_from, root_own}
 use Rattle.ppm_depth.specs.Run.{strands_of, values_at, arrays_at, said_of}
 use Rattle.ppm_tree.specs.Tree.{ProgramTree}
 use Rattle.ppm_tree.specs.State.{TrapAt, Arrays, array_at}

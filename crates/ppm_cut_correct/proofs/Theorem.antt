@@ -9,7 +9,8 @@ use Rattle.ppm_strands.proofs.RunLemmas.{one_end}
 use Rattle.ppm_words.specs.declared.named_array.NamedArray.{NamedArray}
 use Rattle.ppm_code.specs.declared.location.FrameWord.{FrameWord}
 use Rattle.ppm_code.specs.Strands.{Result as Outcome, Gave, Trapped as TrappedAt, entry_of}
-use Rattle.ppm_depth.specs.Start.{words_in, words_of, root_own}
+use Rattle.ppm_code.specs.Inputs.{words_in}
+use Rattle.ppm_depth.specs.Start.{words_of, root_own}
 use Rattle.ppm_depth.specs.Run.{strands_of}
 use Rattle.ppm_depth.proofs.GoingLemmas.{goes_on_in_order}
 use Rattle.ppm_tree.specs.declared.tree.Parameter.{Parameter}

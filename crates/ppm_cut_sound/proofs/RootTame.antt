@@ -6,7 +6,8 @@ use Rattle.ppm_strands.specs.Calm.{Calm}
 use Rattle.ppm_words.specs.declared.named_array.NamedArray.{NamedArray}
 use Rattle.ppm_code.specs.declared.location.FrameWord.TheVariants.{Slot}
 use Rattle.ppm_code.specs.Strands.{entry_of, at_capsule}
-use Rattle.ppm_depth.specs.Start.{words_in, words_of, regions_from, root_own, root_strand}
+use Rattle.ppm_code.specs.Inputs.{words_in}
+use Rattle.ppm_depth.specs.Start.{words_of, regions_from, root_own, root_strand}
 use Rattle.ppm_depth.specs.Run.{strands_of}
 use Rattle.ppm_tree.specs.Tree.{ProgramTree}
 use Rattle.ppm_tree.specs.State.{Frame}

@@ -29,7 +29,8 @@ use Rattle.ppm_depth.specs.Image.{arrays_in, root_frame, word_count, outcome_in}
 use Rattle.ppm_depth.specs.Moves.{entry_at}
 use Rattle.ppm_depth.specs.Run.{strands_of, values_at, arrays_at, ComesTo, BeginsWith, IsDepthRun}
 use Rattle.ppm_depth.specs.Stack.{Own, Strands, Above, Root, tree_at, IsShown}
-use Rattle.ppm_depth.specs.Start.{words_in, words_of, root_regions, root_own, root_strand, regions_from}
+use Rattle.ppm_code.specs.Inputs.{words_in}
+use Rattle.ppm_depth.specs.Start.{words_of, root_regions, root_own, root_strand, regions_from}
 use Rattle.ppm_depth.specs.Turns.{strands_over, counts_of, HasCome}
 use Rattle.ppm_depth.specs.declared.frame.Now.TheVariants.{At}
 use Rattle.ppm_depth.proofs.AdvanceLemmas.{one_step}

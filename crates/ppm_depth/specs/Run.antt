@@ -13,7 +13,8 @@ use Rattle.ppm_code.specs.declared.location.FrameWord.{FrameWord}
 use Rattle.ppm_code.specs.Locations.{code_locations}
 use Rattle.ppm_code.specs.Sizes.{frame_size}
 use Rattle.ppm_code.specs.Strands.{Point, Result, Gave, Trapped, table_of}
-use Rattle.ppm_depth.specs.Start.{words_in, words_of, root_strand}
+use Rattle.ppm_code.specs.Inputs.{words_in}
+use Rattle.ppm_depth.specs.Start.{words_of, root_strand}
 use Rattle.ppm_depth.specs.declared.depth.DepthRun.{DepthRun}
 
 -- what the capsules of a code do, with the words of the input's arrays as those that all strands share

@@ -9,7 +9,8 @@ use Rattle.ppm_code.specs.declared.code.CodeParts.{CodeParts}
 use Rattle.ppm_code.specs.Free.{IsFree}
 use Rattle.ppm_code.specs.Strands.{Result}
 use Rattle.ppm_code.specs.Tidy.{IsTidy}
-use Rattle.ppm_depth.specs.Start.{words_in, words_of, root_strand}
+use Rattle.ppm_code.specs.Inputs.{words_in}
+use Rattle.ppm_depth.specs.Start.{words_of, root_strand}
 use Rattle.ppm_depth.specs.Run.{strands_of, ComesTo}
 
 -- a code and an input are sound: the code is tidy, no capsule has a conflict on a path, and of two branches of a fork, each strand of

@@ -1,18 +1,13 @@
 -- What a run of a code starts from: the words of its input's arrays, and the frame of its root.
 use Rattle.std.specs.Prelude.{ℕ, ◌+◌, ◌*◌, ◌^◌, ◌<◌, List, [], ◌∷◌, get_or, length, map}
-use Rattle.std.specs.List.{All, flat_map}
+use Rattle.std.specs.List.{All}
 use Rattle.ppm_strands.specs.Tree.{Words, Tree}
 use Rattle.ppm_capsules.specs.Strand.{Frame}
-use Rattle.ppm_words.specs.TwosComplement.{word_of}
 use Rattle.ppm_words.specs.declared.named_array.NamedArray.{NamedArray}
 use Rattle.ppm_code.specs.declared.code.CodeParts.{CodeParts}
 use Rattle.ppm_code.specs.declared.location.FrameWord.{FrameWord}
 use Rattle.ppm_code.specs.declared.location.FrameWord.TheVariants.{Slot, Value}
 use Rattle.ppm_code.specs.Strands.{Point, Result, root_of}
-
--- the words of arrays, one array after the other
-abbrev pub words_in : List NamedArray → List ℕ
-words_in arrays = flat_map (λ a. map word_of a.values) arrays
 
 -- words by their address; 0 past the last
 abbrev pub words_of : List ℕ → Words

@@ -2,34 +2,22 @@
 ghost use Rattle.std.specs.Prelude.{◌≡◌, ◌++◌, ◌<◌, ◌≤◌, IfOk, OnOk, get_or, length, map};
 ghost use Rattle.std.specs.List.{All};
 ghost use Rattle.ppm_words.specs.Limits.{word_limit};
-ghost use Rattle.ppm_words.specs.TwosComplement.{word_of, value_of};
 ghost use Rattle.ppm_code.specs.Code.{IsCode};
-ghost use Rattle.ppm_depth.specs.Start.{NamesArrays, regions_from, words_in};
+ghost use Rattle.ppm_code.specs.Inputs.{words_in};
+ghost use Rattle.ppm_depth.specs.Start.{NamesArrays, regions_from};
 ghost use Rattle.ppm_depth.specs.Image.{arrays_in, root_frame, word_count};
 
 use crate::store::Store;
-use ppm_code::{Code, frame_size};
-use ppm_words::{Items, NamedArray, NoMemory, of_word, to_word};
+use ppm_code::{Code, frame_size, push_arrays, to_values};
+use ppm_words::{Items, NamedArray, NoMemory};
 use std::alloc::Global;
-
-/// Appends the words of an array.
-fn push_words(words: &mut Vec<u64>, values: &[i64]) -> Result<(), NoMemory>
-    ensures { OnOk result (words.new.items ≡ words.old.items ++ map word_of values.now) }
-{
-    for value in values {
-        words.push(to_word(*value))?;
-    }
-    Ok(())
-}
 
 /// The words of arrays, one array after the other.
 pub(crate) fn to_words(alloc: Global, arrays: &[NamedArray]) -> Result<Vec<u64>, NoMemory>
     ensures { IfOk result (λ words. words.items ≡ words_in arrays.now) }
 {
     let mut words = Vec::new(alloc);
-    for array in arrays {
-        push_words(&mut words, array.values.as_slice())?;
-    }
+    push_arrays(&mut words, arrays)?;
     Ok(words)
 }
 
@@ -84,17 +72,6 @@ pub(crate) fn root_store(
     let frame_words = frame_size(code, parts.root) as usize;
     store.open_block(frame_words - (6 + parts.arrays.as_slice().len()))?;
     Ok(store)
-}
-
-/// The values of words.
-fn to_values(alloc: Global, words: &[u64]) -> Result<Vec<i64>, NoMemory>
-    ensures { IfOk result (λ values. values.items ≡ map value_of words.now) }
-{
-    let mut values = Vec::new(alloc);
-    for word in words {
-        values.push(of_word(*word))?;
-    }
-    Ok(values)
 }
 
 /// The arrays, by their names, that words stand for.

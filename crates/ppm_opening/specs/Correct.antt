@@ -11,7 +11,8 @@ use Rattle.ppm_code.specs.Sizes.{slots_of}
 use Rattle.ppm_layout.specs.Correct.{Opens}
 use Rattle.ppm_layout.specs.Root.{strand_at}
 use Rattle.ppm_layout.specs.declared.images.Image.{Image}
-use Rattle.ppm_depth.specs.Start.{NamesArrays, words_in, words_of, root_strand}
+use Rattle.ppm_code.specs.Inputs.{words_in}
+use Rattle.ppm_depth.specs.Start.{NamesArrays, words_of, root_strand}
 
 -- the keeper's place is to run a frame that shows the strand of the root, over the words of the input
 pub record BeginsTheRun (code : CodeParts) (input : List NamedArray) (s : Shape) (keeper : ℕ) (words : List ℕ) : Type 0 where

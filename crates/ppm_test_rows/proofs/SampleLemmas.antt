@@ -1,5 +1,6 @@
 -- The code that the rows are tried with: one procedure, with a capsule for each end but that which goes on with another capsule.
 use Rattle.std.proofs.Common.{◌≡◌, ◌<◌, ◌≤◌, ℕ, zero, suc, List, [], ◌∷◌, refl, subst, arith, Some, None}
+use Rattle.std.proofs.lemmas.List.Elements.{All-from_recursion}
 use Rattle.std.specs.Prelude.{slice_get, IfSome}
 use Rattle.std.specs.List.{All}
 use Rattle.ppm_words.specs.declared.trap.Trap.TheVariants.{DivZero}
@@ -13,21 +14,7 @@ use Rattle.ppm_code.specs.declared.instr.Instr.TheVariants.{Ends, Room}
 use Rattle.ppm_code.specs.Limits.{slot_limit}
 use Rattle.ppm_words.specs.Limits.{array_limit}
 use Rattle.ppm_code.specs.Code.{IsCode, IsCapsule, IsCapsuleOf, Fits, EndFits}
-
-all_none : {X : Type 0} (P : X → Type 0) → All P []
-all_none P k d less = absurd (omega (arith, less))
-
-all_more : {X : Type 0} (P : X → Type 0) (x : X) (xs : List X) → P x → All P xs → All P (x ∷ xs)
-all_more P x xs p ps zero d less = p
-all_more P x xs p ps (suc k) d less = ps k d (omega (arith, less))
-
-each_one : (Q : ℕ → Instr → Type 0) (a : Instr) → Q 0 a → (at : ℕ) (i : Instr) → slice_get (a ∷ []) at ≡ Some i → Q at i
-each_one Q a p zero i one = let same : a ≡ i = cc in subst (λ (j : Instr). Q 0 j) same p
-each_one Q a p (suc at) i one = cc
-
-each_two : (Q : ℕ → Instr → Type 0) (a b : Instr) → Q 0 a → Q 1 b → (at : ℕ) (i : Instr) → slice_get (a ∷ b ∷ []) at ≡ Some i → Q at i
-each_two Q a b p q zero i one = let same : a ≡ i = cc in subst (λ (j : Instr). Q 0 j) same p
-each_two Q a b p q (suc at) i one = each_one (λ k j. Q (suc k) j) b q at i one
+use Rattle.ppm_code.proofs.NumberedLemmas.{each_numbered}
 
 abbrev ending : End → Capsule
 ending end = record { procedure = 0; instrs = Ends end ∷ [] }
@@ -59,7 +46,7 @@ ends end fits = record {
   procedure = omega arith;
   most = omega arith;
   last = ([], end, refl);
-  each = each_one (λ at i. Fits sample_code 0 (Ends end ∷ []) at i) (Ends end) fits;
+  each = each_numbered (λ at i. Fits sample_code 0 (Ends end ∷ []) at i) (Ends end ∷ []) (fits, tt);
 }
 
 builds : (words : ℕ) (end : End) → 1 ≤ words → words ≤ 1048576 → EndFits sample_code 0 (Room words ∷ Ends end ∷ []) end
@@ -68,7 +55,7 @@ builds words end some most fits = record {
   procedure = omega arith;
   most = omega arith;
   last = (Room words ∷ [], end, refl);
-  each = each_two (λ at i. Fits sample_code 0 (Room words ∷ Ends end ∷ []) at i) (Room words) (Ends end) (refl, some, most) fits;
+  each = each_numbered (λ at i. Fits sample_code 0 (Room words ∷ Ends end ∷ []) at i) (Room words ∷ Ends end ∷ []) ((refl, some, most), (fits, tt));
 }
 
 -- the capsule that comes next
@@ -83,18 +70,16 @@ pub sample_is_code : IsCode sample_code
 sample_is_code = record {
   root = omega arith;
   root_slots = omega arith;
-  arrays = all_none (λ (a : ℕ). a < array_limit);
+  arrays = All-from_recursion (λ (a : ℕ). a < array_limit) [] tt;
   procedures_most = omega arith;
   capsules_most = omega arith;
-  slots_most = all_more (λ (p : Procedure). p.slots ≤ slot_limit) (record { slots = 1; entry = 5 }) [] (omega arith)
-      (all_none (λ (p : Procedure). p.slots ≤ slot_limit));
+  slots_most = All-from_recursion (λ (p : Procedure). p.slots ≤ slot_limit) sample_code.procedures (omega arith, tt);
   entries = entries;
-  capsules = all_more (IsCapsule sample_code) _ from_call (ends Finish tt)
-      (all_more (IsCapsule sample_code) _ from_call_to (builds 7 (Call 0 3 None) (omega arith) (omega arith) (omega arith, after, tt, refl))
-      (all_more (IsCapsule sample_code) _ from_fork (builds 7 (Call 0 3 (Some 0)) (omega arith) (omega arith) (omega arith, after, omega arith, refl))
-      (all_more (IsCapsule sample_code) _ from_fork_to
-      (builds 19 (Fork 0 0 3 None None) (omega arith) (omega arith) (omega arith, omega arith, after, tt, tt, refl))
-      (all_more (IsCapsule sample_code) _ from_trap
-      (builds 19 (Fork 0 0 3 (Some 0) None) (omega arith) (omega arith) (omega arith, omega arith, after, omega arith, tt, refl))
-      (all_more (IsCapsule sample_code) _ [] (ends (Trap DivZero 3) (omega arith, omega arith)) (all_none (IsCapsule sample_code)))))));
+  capsules = All-from_recursion (IsCapsule sample_code) sample_code.capsules
+      (ends Finish tt,
+      (builds 7 (Call 0 3 None) (omega arith) (omega arith) (omega arith, after, tt, refl),
+      (builds 7 (Call 0 3 (Some 0)) (omega arith) (omega arith) (omega arith, after, omega arith, refl),
+      (builds 19 (Fork 0 0 3 None None) (omega arith) (omega arith) (omega arith, omega arith, after, tt, tt, refl),
+      (builds 19 (Fork 0 0 3 (Some 0) None) (omega arith) (omega arith) (omega arith, omega arith, after, omega arith, tt, refl),
+      (ends (Trap DivZero 3) (omega arith, omega arith), tt))))));
 }

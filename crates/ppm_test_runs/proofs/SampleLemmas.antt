@@ -1,5 +1,6 @@
 -- The code that schedules and plans are tried with: one procedure of one capsule that ends.
 use Rattle.std.proofs.Common.{◌≡◌, ◌<◌, ◌≤◌, ℕ, zero, suc, [], ◌∷◌, refl, subst, arith, Some}
+use Rattle.std.proofs.lemmas.List.Elements.{All-from_recursion}
 use Rattle.std.specs.Prelude.{slice_get, IfSome}
 use Rattle.std.specs.List.{All}
 use Rattle.ppm_code.specs.declared.act.End.TheVariants.{Finish}
@@ -11,17 +12,7 @@ use Rattle.ppm_code.specs.declared.instr.Instr.TheVariants.{Ends}
 use Rattle.ppm_code.specs.Limits.{slot_limit}
 use Rattle.ppm_words.specs.Limits.{array_limit}
 use Rattle.ppm_code.specs.Code.{IsCode, IsCapsule, IsCapsuleOf, Fits}
-
-all_one : {X : Type 0} (P : X → Type 0) (x : X) → P x → All P (x ∷ [])
-all_one P x p zero d less = p
-all_one P x p (suc k) d less = absurd (omega (arith, less))
-
-all_none : {X : Type 0} (P : X → Type 0) → All P []
-all_none P k d less = absurd (omega (arith, less))
-
-each_one : (Q : ℕ → Instr → Type 0) (a : Instr) → Q 0 a → (at : ℕ) (i : Instr) → slice_get (a ∷ []) at ≡ Some i → Q at i
-each_one Q a p zero i one = let same : a ≡ i = cc in subst (λ (j : Instr). Q 0 j) same p
-each_one Q a p (suc at) i one = cc
+use Rattle.ppm_code.proofs.NumberedLemmas.{each_numbered}
 
 abbrev pub ending : Capsule
 ending = record { procedure = 0; instrs = Ends Finish ∷ [] }
@@ -39,7 +30,7 @@ capsule_is = record {
   procedure = omega arith;
   most = omega arith;
   last = ([], Finish, refl);
-  each = each_one (λ at i. Fits sample_code 0 (Ends Finish ∷ []) at i) (Ends Finish) tt;
+  each = each_numbered (λ at i. Fits sample_code 0 (Ends Finish ∷ []) at i) (Ends Finish ∷ []) (tt, tt);
 }
 
 entries : (procedure : ℕ) → IfSome (slice_get sample_code.procedures procedure) (λ p. IsCapsuleOf sample_code procedure p.entry)
@@ -50,10 +41,10 @@ pub sample_is_code : IsCode sample_code
 sample_is_code = record {
   root = omega arith;
   root_slots = omega arith;
-  arrays = all_none (λ (a : ℕ). a < array_limit);
+  arrays = All-from_recursion (λ (a : ℕ). a < array_limit) [] tt;
   procedures_most = omega arith;
   capsules_most = omega arith;
-  slots_most = all_one (λ (p : Procedure). p.slots ≤ slot_limit) (record { slots = 1; entry = 0 }) (omega arith);
+  slots_most = All-from_recursion (λ (p : Procedure). p.slots ≤ slot_limit) sample_code.procedures (omega arith, tt);
   entries = entries;
-  capsules = all_one (IsCapsule sample_code) ending capsule_is;
+  capsules = All-from_recursion (IsCapsule sample_code) sample_code.capsules (capsule_is, tt);
 }

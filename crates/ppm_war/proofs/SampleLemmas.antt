@@ -1,5 +1,6 @@
 -- The code of the tests: one capsule, which stores into the frame of its own procedure and calls that.
 use Rattle.std.proofs.Common.{◌≡◌, ◌<◌, ◌≤◌, ℕ, zero, suc, List, [], ◌∷◌, refl, subst, arith, Some, None}
+use Rattle.std.proofs.lemmas.List.Elements.{All-from_recursion}
 use Rattle.std.specs.Prelude.{slice_get, IfSome}
 use Rattle.std.specs.List.{All}
 use Rattle.ppm_code.specs.declared.act.End.TheVariants.{Call}
@@ -10,16 +11,8 @@ use Rattle.ppm_code.specs.declared.instr.Instr.TheVariants.{Room, StoreNew, Ends
 use Rattle.ppm_code.specs.declared.register.Register.{Register}
 use Rattle.ppm_code.specs.Limits.{slot_limit}
 use Rattle.ppm_code.specs.Code.{IsCode, IsCapsule, IsCapsuleOf, Fits}
-
-all_one : {X : Type 0} (P : X → Type 0) (x : X) → P x → All P (x ∷ [])
-all_one P x p zero d less = p
-all_one P x p (suc k) d less = absurd (omega (arith, less))
-
-each_three : (Q : ℕ → Instr → Type 0) (a b e : Instr) → Q 0 a → Q 1 b → Q 2 e → (at : ℕ) (i : Instr) → slice_get (a ∷ b ∷ e ∷ []) at ≡ Some i → Q at i
-each_three Q a b e p q r zero i one = let same : a ≡ i = cc in subst (λ (j : Instr). Q 0 j) same p
-each_three Q a b e p q r (suc zero) i one = let same : b ≡ i = cc in subst (λ (j : Instr). Q 1 j) same q
-each_three Q a b e p q r (suc (suc zero)) i one = let same : e ≡ i = cc in subst (λ (j : Instr). Q 2 j) same r
-each_three Q a b e p q r (suc (suc (suc at))) i one = cc
+use Rattle.ppm_words.specs.Limits.{array_limit}
+use Rattle.ppm_code.proofs.NumberedLemmas.{each_numbered}
 
 abbrev pub sample_instrs : (from : Register) (offset : ℕ) → List Instr
 sample_instrs from offset = Room 7 ∷ StoreNew offset from ∷ Ends (Call 0 0 None) ∷ []
@@ -38,8 +31,8 @@ module _ (from : Register) (offset : ℕ) (less : offset < 7) where
     procedure = omega arith;
     most = omega arith;
     last = (Room 7 ∷ StoreNew offset from ∷ [], Call 0 0 None, refl);
-    each = each_three (λ at i. Fits (sample_code from offset) 0 (sample_instrs from offset) at i) (Room 7) (StoreNew offset from) (Ends (Call 0 0 None))
-        (refl, omega arith, omega arith) (7, refl, less) (omega arith, (refl, omega arith), tt, refl);
+    each = each_numbered (λ at i. Fits (sample_code from offset) 0 (sample_instrs from offset) at i) (sample_instrs from offset)
+        ((refl, omega arith, omega arith), ((7, refl, less), ((omega arith, (refl, omega arith), tt, refl), tt)));
   }
 
   entries : (procedure : ℕ)
@@ -51,10 +44,10 @@ module _ (from : Register) (offset : ℕ) (less : offset < 7) where
   sample_is_code = record {
     root = omega arith;
     root_slots = omega arith;
-    arrays = λ k d small. absurd (omega (arith, small));
+    arrays = All-from_recursion (λ (a : ℕ). a < array_limit) [] tt;
     procedures_most = omega arith;
     capsules_most = omega arith;
-    slots_most = all_one (λ (p : Procedure). p.slots ≤ slot_limit) (record { slots = 1; entry = 0 }) (omega arith);
+    slots_most = All-from_recursion (λ (p : Procedure). p.slots ≤ slot_limit) (sample_code from offset).procedures (omega arith, tt);
     entries = entries;
-    capsules = all_one (IsCapsule (sample_code from offset)) (record { procedure = 0; instrs = sample_instrs from offset }) sample_capsule;
+    capsules = All-from_recursion (IsCapsule (sample_code from offset)) (sample_code from offset).capsules (sample_capsule, tt);
   }

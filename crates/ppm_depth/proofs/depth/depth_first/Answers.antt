@@ -4,7 +4,8 @@ use Rattle.ppm_code.specs.Sizes.{frame_size}
 use Rattle.ppm_code.specs.declared.code.CodeParts.{CodeParts}
 use Rattle.ppm_depth.specs.Image.{outcome_in, root_frame}
 use Rattle.ppm_depth.specs.Moves.{entry_at}
-use Rattle.ppm_depth.specs.Start.{root_strand, words_in}
+use Rattle.ppm_code.specs.Inputs.{words_in}
+use Rattle.ppm_depth.specs.Start.{root_strand}
 use Rattle.ppm_depth.specs.declared.store.Store.{Store}
 use Rattle.ppm_depth.proofs.EndLemmas.{counts_words, length_words, begins_shown, root_length, answered}
 use Rattle.ppm_depth.proofs.depth.depth_first.Goals as goal

@@ -2,7 +2,7 @@ use Rattle.ppm_strands.proofs.StepLemmas.{steps_end}
 use Rattle.ppm_capsules.proofs.StrandLemmas.{code_is_local}
 use Rattle.ppm_code.specs.Locations.{code_locations}
 use Rattle.ppm_code.specs.Strands.{table_of}
-use Rattle.ppm_depth.specs.Start.{words_in}
+use Rattle.ppm_code.specs.Inputs.{words_in}
 use Rattle.ppm_depth.specs.Run.{strands_of}
 use Rattle.std.specs.Prelude.{length}
 use Rattle.ppm_depth.proofs.laws.orders_come_to_one_end.Goals as goal
