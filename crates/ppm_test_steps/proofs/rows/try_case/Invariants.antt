@@ -1,7 +1,7 @@
 use Rattle.std.proofs.Common.{◌≡◌, ◌<◌, length}
 use Rattle.ppm_cells.specs.Cells.{word_count}
 use Rattle.ppm_step.specs.Locals.{IsLocal}
-use Rattle.ppm_test_rows.proofs.rows.try_case.Given as goal
+use Rattle.ppm_test_steps.proofs.rows.try_case.Given as goal
 
 -- the processor is one of the shape's, and the words are
 abbrev pub invariant-loop : goal.invariant-loop
