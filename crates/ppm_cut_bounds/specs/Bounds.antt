@@ -37,7 +37,14 @@ hidden_count bound.Caught caught block = caught
 -- what a bound counts for a statement: that of the hidden procedure of an `each`
 abbrev pub count_of : Bound → Statement → ℕ
 count_of b (tree.Each i x r block) = hidden_count b (caught_count i x block) block
-count_of b s = 0
+count_of b (tree.Let x e) = 0
+count_of b (tree.Assign x e) = 0
+count_of b (tree.Put x index e) = 0
+count_of b (tree.If e block other) = 0
+count_of b (tree.While e block) = 0
+count_of b (tree.Call s) = 0
+count_of b (tree.Fork s t) = 0
+count_of b (tree.Split line r e x y block) = 0
 
 -- each of these statements keeps a bound
 abbrev pub KeepsAt : Bound → List Statement → Type 0

@@ -9,7 +9,14 @@ use Rattle.ppm_tree.specs.Limits.{procedures_in}
 -- an `each` counts as five statements: itself, and four of its hidden procedure
 abbrev pub weight : Statement → ℕ
 weight (tree.Each i x r block) = 5
-weight s = 1
+weight (tree.Let x e) = 1
+weight (tree.Assign x e) = 1
+weight (tree.Put x index e) = 1
+weight (tree.If e block other) = 1
+weight (tree.While e block) = 1
+weight (tree.Call s) = 1
+weight (tree.Fork s t) = 1
+weight (tree.Split line r e x y block) = 1
 
 -- the statements of a procedure; what it gives is one too
 abbrev pub statement_count : Procedure → ℕ

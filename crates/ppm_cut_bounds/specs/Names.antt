@@ -20,7 +20,9 @@ acted_on (tree.Call s) = target_names s.target
 acted_on (tree.Fork s t) = target_names s.target ++ target_names t.target
 acted_on (tree.Split line r e x y block) = r ∷ []
 acted_on (tree.Each i x r block) = r ∷ []
-acted_on s = []
+acted_on (tree.Let x e) = []
+acted_on (tree.If e block other) = []
+acted_on (tree.While e block) = []
 
 -- the names that a statement uses outside its blocks; what it declares isn't used, and a procedure's name is none of these
 abbrev pub used_by : Statement → List (List ℕ)
@@ -29,7 +31,14 @@ used_by s = map (λ n. n.name) (acted_on s ++ flat_map node_names (nodes_of s))
 -- what a statement declares for the rest of its block
 abbrev pub lets_of : Statement → List (List ℕ)
 lets_of (tree.Let x e) = x.name ∷ []
-lets_of s = []
+lets_of (tree.Assign x e) = []
+lets_of (tree.Put x index e) = []
+lets_of (tree.If e block other) = []
+lets_of (tree.While e block) = []
+lets_of (tree.Call s) = []
+lets_of (tree.Fork s t) = []
+lets_of (tree.Split line r e x y block) = []
+lets_of (tree.Each i x r block) = []
 
 abbrev mutual
   -- the free names in the blocks of a statement
@@ -38,7 +47,11 @@ abbrev mutual
   free_within (tree.While e block) = free_names block
   free_within (tree.Split line r e x y block) = without (x.name ∷ y.name ∷ []) (free_names block)
   free_within (tree.Each i x r block) = without (i.name ∷ x.name ∷ []) (free_names block)
-  free_within s = []
+  free_within (tree.Let x e) = []
+  free_within (tree.Assign x e) = []
+  free_within (tree.Put x index e) = []
+  free_within (tree.Call s) = []
+  free_within (tree.Fork s t) = []
 
   -- the free names of a block, each as often as it is used: those used where no declaration of theirs in the block is in force
   pub free_names : Block → List (List ℕ)

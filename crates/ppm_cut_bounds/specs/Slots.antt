@@ -10,7 +10,12 @@ abbrev mutual
   most_within (tree.If e block other) = max (most_in_force block) (most_in_force other)
   most_within (tree.While e block) = most_in_force block
   most_within (tree.Split line r e x y block) = 2 + most_in_force block
-  most_within s = 0
+  most_within (tree.Let x e) = 0
+  most_within (tree.Assign x e) = 0
+  most_within (tree.Put x index e) = 0
+  most_within (tree.Call s) = 0
+  most_within (tree.Fork s t) = 0
+  most_within (tree.Each i x r block) = 0
 
   -- the greatest number of names declared in a block that are in force at one point; its end is a point too
   pub most_in_force : Block → ℕ
@@ -24,7 +29,11 @@ abbrev mutual
   puts (tree.If e block other) = has_put block || has_put other
   puts (tree.While e block) = has_put block
   puts (tree.Split line r e x y block) = has_put block
-  puts s = false
+  puts (tree.Let x e) = false
+  puts (tree.Assign x e) = false
+  puts (tree.Call s) = false
+  puts (tree.Fork s t) = false
+  puts (tree.Each i x r block) = false
 
   -- whether a block assigns to an element
   pub has_put : Block → Bool

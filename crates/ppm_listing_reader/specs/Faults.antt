@@ -8,8 +8,8 @@ use Rattle.ppm_code.specs.declared.act.End.TheVariants.{Next, Trap, Call, Fork}
 use Rattle.ppm_code.specs.declared.code.Capsule.{Capsule}
 use Rattle.ppm_code.specs.declared.code.CodeParts.{CodeParts}
 use Rattle.ppm_code.specs.declared.instr.Instr.{Instr}
-use Rattle.ppm_code.specs.declared.instr.Instr.TheVariants.{Add, Sub, Mul, Div, Rem, CutLeft, CutRight}
-use Rattle.ppm_code.specs.declared.instr.Instr.TheVariants.{LoadSlot, StoreCur, Get, Put, BranchZero, BranchNonZero, Room, StoreNew, Ends}
+use Rattle.ppm_code.specs.declared.instr.Instr.TheVariants.{Const, Move, Add, Sub, Mul, Div, Rem, Equal, NotEqual, Less, AtMost, Len, CutLeft, CutRight}
+use Rattle.ppm_code.specs.declared.instr.Instr.TheVariants.{LoadSlot, StoreCur, Give, Get, Put, BranchZero, BranchNonZero, Room, StoreNew, Ends}
 use Rattle.ppm_code.specs.Limits.{procedure_limit, capsule_limit, instr_limit, slot_limit, room_limit, line_limit}
 use Rattle.ppm_code.specs.Sizes.{slots_of, frame_size, fork_size}
 use Rattle.ppm_code.specs.Strands.{instrs_of}
@@ -104,7 +104,17 @@ module _ (code : CodeParts) where
   instr_out_of_range procedure (StoreCur slot from) = nat_le (slots_of code procedure) slot
   instr_out_of_range procedure (Room words) = words == 0 || nat_lt room_limit words
   instr_out_of_range procedure (Ends e) = end_out_of_range procedure e
-  instr_out_of_range procedure _ = false
+  instr_out_of_range procedure (Const to value) = false
+  instr_out_of_range procedure (Move to from) = false
+  instr_out_of_range procedure (Equal to left right) = false
+  instr_out_of_range procedure (NotEqual to left right) = false
+  instr_out_of_range procedure (Less to left right) = false
+  instr_out_of_range procedure (AtMost to left right) = false
+  instr_out_of_range procedure (Len to region) = false
+  instr_out_of_range procedure (Give from) = false
+  instr_out_of_range procedure (BranchZero tested target) = false
+  instr_out_of_range procedure (BranchNonZero tested target) = false
+  instr_out_of_range procedure (StoreNew word from) = false
 
   -- likewise of a line; more arrays than slots are so where the root's procedure is there
   abbrev pub is_out_of_range : Place → Part → Bool

@@ -93,7 +93,14 @@ element_of scope region i x = index_of i ∷ part scope region x ∷ []
 -- what a statement declares for the rest of its block
 abbrev pub lets_of : Statement → List Declaration
 lets_of (tree.Let x e) = plain mode.Int x ∷ []
-lets_of s = []
+lets_of (tree.Assign x e) = []
+lets_of (tree.Put x index e) = []
+lets_of (tree.If e block other) = []
+lets_of (tree.While e block) = []
+lets_of (tree.Call s) = []
+lets_of (tree.Fork s t) = []
+lets_of (tree.Split line r e x y block) = []
+lets_of (tree.Each i x r block) = []
 
 -- what is in force behind the statements of a block
 abbrev pub scope_behind : Scope → Block → Scope

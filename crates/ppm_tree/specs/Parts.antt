@@ -16,20 +16,29 @@ nodes (tree.Binary o line left right) = tree.Binary o line left right ∷ nodes 
 -- the literal that a node is
 abbrev pub node_numbers : Expression → List ℤ
 node_numbers (tree.Number z) = z ∷ []
-node_numbers _ = []
+node_numbers (tree.Name x) = []
+node_numbers (tree.Element x index) = []
+node_numbers (tree.Len x) = []
+node_numbers (tree.Minus line e) = []
+node_numbers (tree.Binary o line left right) = []
 
 -- the name that a node uses
 abbrev pub node_names : Expression → List Named
 node_names (tree.Name x) = x ∷ []
 node_names (tree.Element x index) = x ∷ []
 node_names (tree.Len x) = x ∷ []
-node_names _ = []
+node_names (tree.Number z) = []
+node_names (tree.Minus line e) = []
+node_names (tree.Binary o line left right) = []
 
 -- the line of a node's operator
 abbrev pub node_lines : Expression → List ℕ
 node_lines (tree.Minus line e) = line ∷ []
 node_lines (tree.Binary o line left right) = line ∷ []
-node_lines _ = []
+node_lines (tree.Number z) = []
+node_lines (tree.Name x) = []
+node_lines (tree.Element x index) = []
+node_lines (tree.Len x) = []
 
 -- the name of a target, if there is one
 abbrev pub target_names : Option Named → List Named
@@ -40,7 +49,13 @@ target_names (Some x) = x ∷ []
 abbrev pub sides_of : Statement → List Side
 sides_of (tree.Call s) = s ∷ []
 sides_of (tree.Fork s t) = s ∷ t ∷ []
-sides_of _ = []
+sides_of (tree.Let x e) = []
+sides_of (tree.Assign x e) = []
+sides_of (tree.Put x index e) = []
+sides_of (tree.If e block other) = []
+sides_of (tree.While e block) = []
+sides_of (tree.Split line r e x y block) = []
+sides_of (tree.Each i x r block) = []
 
 -- the expressions of a statement itself, in the order in which they are evaluated; those of its blocks are their statements'
 abbrev pub expressions_of : Statement → List Expression
@@ -74,10 +89,21 @@ names_of (tree.Fork s t) = side_names s ++ side_names t
 names_of (tree.Split line r e x y block) = r ∷ x ∷ y ∷ []
 names_of (tree.Each i x r block) = i ∷ x ∷ r ∷ []
 
+-- the lines of the arguments of sides
+abbrev pub lines_of_sides : List Side → List ℕ
+lines_of_sides sides = flat_map (λ s. map (λ a. a.line) s.arguments) sides
+
 -- the lines that a statement keeps beside those of names and nodes: of the word `split`, and of each argument
 abbrev pub lines_of : Statement → List ℕ
+lines_of (tree.Let x e) = []
+lines_of (tree.Assign x e) = []
+lines_of (tree.Put x index e) = []
+lines_of (tree.If e block other) = []
+lines_of (tree.While e block) = []
+lines_of (tree.Call s) = lines_of_sides (s ∷ [])
+lines_of (tree.Fork s t) = lines_of_sides (s ∷ t ∷ [])
 lines_of (tree.Split line r e x y block) = line ∷ []
-lines_of s = flat_map (λ t. map (λ a. a.line) t.arguments) (sides_of s)
+lines_of (tree.Each i x r block) = []
 
 abbrev mutual
   -- a statement and all statements in its blocks, in the order of the text
@@ -86,7 +112,11 @@ abbrev mutual
   statement_and_inner (tree.While e block) = tree.While e block ∷ statements_in block
   statement_and_inner (tree.Split line r e x y block) = tree.Split line r e x y block ∷ statements_in block
   statement_and_inner (tree.Each i x r block) = tree.Each i x r block ∷ statements_in block
-  statement_and_inner s = s ∷ []
+  statement_and_inner (tree.Let x e) = tree.Let x e ∷ []
+  statement_and_inner (tree.Assign x e) = tree.Assign x e ∷ []
+  statement_and_inner (tree.Put x index e) = tree.Put x index e ∷ []
+  statement_and_inner (tree.Call s) = tree.Call s ∷ []
+  statement_and_inner (tree.Fork s t) = tree.Fork s t ∷ []
 
   -- all statements of a block, those in their blocks too
   pub statements_in : Block → List Statement
@@ -100,7 +130,11 @@ abbrev mutual
   depth_of (tree.While e block) = block_depth block
   depth_of (tree.Split line r e x y block) = block_depth block
   depth_of (tree.Each i x r block) = block_depth block
-  depth_of s = 0
+  depth_of (tree.Let x e) = 0
+  depth_of (tree.Assign x e) = 0
+  depth_of (tree.Put x index e) = 0
+  depth_of (tree.Call s) = 0
+  depth_of (tree.Fork s t) = 0
 
   -- how deep blocks are nested here, this one counted
   pub block_depth : Block → ℕ
@@ -110,7 +144,14 @@ abbrev mutual
 -- an `each` counts as a procedure
 abbrev pub eaches_of : Statement → ℕ
 eaches_of (tree.Each i x r block) = 1
-eaches_of s = 0
+eaches_of (tree.Let x e) = 0
+eaches_of (tree.Assign x e) = 0
+eaches_of (tree.Put x index e) = 0
+eaches_of (tree.If e block other) = 0
+eaches_of (tree.While e block) = 0
+eaches_of (tree.Call s) = 0
+eaches_of (tree.Fork s t) = 0
+eaches_of (tree.Split line r e x y block) = 0
 
 -- what a body gives, in a list
 abbrev pub gives_of : Option Give → List Give

@@ -50,7 +50,17 @@ applied operator.Or x y = Ok (truth (holds x || holds y))
 abbrev pub decided : Operator → ℤ → Option ℤ
 decided operator.And x = if holds x then None else Some (pos 0)
 decided operator.Or x = if holds x then Some (pos 1) else None
-decided _ x = None
+decided operator.Add x = None
+decided operator.Sub x = None
+decided operator.Mul x = None
+decided operator.Div x = None
+decided operator.Rem x = None
+decided operator.Eq x = None
+decided operator.Ne x = None
+decided operator.Lt x = None
+decided operator.Le x = None
+decided operator.Gt x = None
+decided operator.Ge x = None
 
 -- the value with the other sign
 abbrev pub negated : ℤ → Result ℤ Trap
