@@ -21,7 +21,9 @@ const STATUSES: [Status; 12] = [
 
 /// Prints what the program and the script end with.
 pub(crate) fn print_statuses(rt: &impl Print) -> io::Result<()> {
-    println!(rt; "statuses, with what stands on out at 0 and 1, and on err at the others")?;
+    println!(rt;
+        "statuses, with what stands on out at 0 and 1, on err at the others; at 8 a front of it"
+    )?;
     for status in &STATUSES {
         println!(rt; "  {:>3}  {}", status.number(), meaning_of(*status))?;
     }
@@ -32,17 +34,26 @@ pub(crate) fn print_statuses(rt: &impl Print) -> io::Result<()> {
 /// What a status says.
 fn meaning_of(status: Status) -> &'static str {
     match status {
-        Status::Ended => "ended: the arrays; of `code` the listing; of `check` the line `ok`",
-        Status::Trapped => "trapped: `trap K line N`, K being overflow, divzero, index or split",
+        Status::Ended => {
+            "ended: the arrays, and of `replay` its forks and takes; of `code` the listing; of\n       \
+             `check` the line `ok`"
+        }
+        Status::Trapped => {
+            "trapped: `trap K line N`, K being overflow, divzero, index or split; of `replay`\n       \
+             its forks and takes too"
+        }
         Status::SourceRefused => {
             "source refused: the fault and its place (docs/LANGUAGE.md, \"Refusals\")"
         }
         Status::WordsRefused => {
-            "words refused; or of a plan or a schedule `plan refused: N`, by N: 1 an item\n       \
-             has no form, 2 a processor is not there, 3 too many items, 4 no processor is spared"
+            "words refused; or of a plan or a schedule `plan refused: N`, by N: 1 an item has\n       \
+             no form, 2 a processor or a victim is not there, 3 more than 4,096 items, 4 no\n       \
+             processor is spared, as by any hard fault of the one processor of `run`"
         }
-        Status::OutOfTurns =>
-            "out of turns: `run` spent --turns, or `replay` did not end within them",
+        Status::OutOfTurns => {
+            "of `run` `out of turns: processor C`, which spent --turns; of `replay`\n       \
+             `unfinished after N turns`"
+        }
         Status::OutOfRoom => "out of room: `run` or `replay` needed more than --room at that place",
         Status::ReadFault => "read fault: standard input failed",
         Status::WriteFault => "write fault: standard output or standard error failed",

@@ -5,12 +5,13 @@ pub(crate) const AHEAD: &str = "\
 Ppm: a small fork-join language, its capsules, and the machine that runs them while processors fail
 
   ./ppm COMMAND [OPTIONS] < INPUT      the proved program, proved and built first where it is not
-  ./ppm try COMMAND [OPTIONS] < INPUT  the same words unproved, within a minute
+  ./ppm try COMMAND [OPTIONS] < INPUT  the same words unproved, in a minute or two
   ./ppm help [COMMAND]                 this page, or what it says of a command; also --help and -h
-  ./ppm --version                      the kit, and the sum of the sources
+  ./ppm --version                      the kit, the sum of the sources, and whether they are built
 
 Input is standard input alone: a source (docs/LANGUAGE.md), of `check` a listing (docs/CODE.md).
-An option is given as `--turns 5` or `--turns=5`, and at most once.
+It has at most 1,048,576 bytes, a listing 536,870,912. An option is given as `--turns 5` or
+`--turns=5`, at most once. A value never begins with `-`.
 ";
 
 /// What stands behind the commands.
@@ -22,7 +23,8 @@ pub(crate) fn purpose_of(command: &str) -> &'static str {
         "run" => "compiles a source, and one processor runs its capsules under a plan of faults",
         "serial" => "interprets a source by its serial meaning",
         "code" => "compiles a source, and writes the listing of its capsules",
-        "check" => "whether the capsules of a listing may be run again, or their first conflict",
+        "check" =>
+            "may the capsules of a listing be run again, or what conflicts first? Races: not asked",
         "replay" => "compiles a source, and processors run its capsules along a schedule",
         _ => NO_WORDS,
     }
@@ -49,9 +51,9 @@ pub(crate) fn meaning_of(command: &str, option: &str) -> &'static str {
         "slots" => "entries of a place's deque",
         "looks" => "looks for work until it is idle; without effect yet",
         "seed" => "where random victims begin; without effect yet",
-        "faults" => "the plan, as 0@5s,0@40s (docs/PLANS.md)",
-        "schedule" => "the acts, as 0*40,1>0*60,0!s (docs/PLANS.md)",
-        "takeover" => "what others take over of a processor that stopped",
+        "faults" => "the plan: 0@5s is a soft fault of processor 0 at its turn 5",
+        "schedule" => "the acts: 0*9 nine of 0, 1>0 one of 1 with victim 0, 1!h a hard fault",
+        "takeover" => takeover_of(command),
         "idle" => "what a processor without work does; without effect yet",
         _ => NO_WORDS,
     }
@@ -61,8 +63,17 @@ pub(crate) fn meaning_of(command: &str, option: &str) -> &'static str {
 fn turns_of(command: &str) -> &'static str {
     match command {
         "run" => "work turns that each processor may make",
-        "serial" => "statements, tests and procedures that may begin",
+        "serial" => "turns of the meaning (docs/LANGUAGE.md): as statements begin",
         "replay" => "acts that all processors may make together",
+        _ => NO_WORDS,
+    }
+}
+
+/// What the choice of a takeover does in a command.
+fn takeover_of(command: &str) -> &'static str {
+    match command {
+        "run" => "entry: a work turn more for each fork that is pushed",
+        "replay" => "what others take over of a processor that stopped",
         _ => NO_WORDS,
     }
 }
