@@ -24,7 +24,7 @@ pub(crate) fn purpose_of(command: &str) -> &'static str {
         "serial" => "interprets a source by its serial meaning",
         "code" => "compiles a source, and writes the listing of its capsules",
         "check" =>
-            "may the capsules of a listing be run again, or what conflicts first? Races: not asked",
+            "whether the capsules of a listing may be run again; races are not asked",
         "replay" => "compiles a source, and processors run its capsules along a schedule",
         _ => NO_WORDS,
     }
@@ -51,8 +51,8 @@ pub(crate) fn meaning_of(command: &str, option: &str) -> &'static str {
         "slots" => "entries of a place's deque",
         "looks" => "looks for work until it is idle; without effect yet",
         "seed" => "where random victims begin; without effect yet",
-        "faults" => "the plan: 0@5s is a soft fault of processor 0 at its turn 5",
-        "schedule" => "the acts: 0*9 nine of 0, 1>0 one of 1 with victim 0, 1!h a hard fault",
+        "faults" => "as 0@5s,0@40s: soft faults of 0 (docs/PLANS.md)",
+        "schedule" => "as 0*9,1>0,1!h: acts, a victim, a hard fault",
         "takeover" => takeover_of(command),
         "idle" => "what a processor without work does; without effect yet",
         _ => NO_WORDS,
@@ -63,7 +63,7 @@ pub(crate) fn meaning_of(command: &str, option: &str) -> &'static str {
 fn turns_of(command: &str) -> &'static str {
     match command {
         "run" => "work turns that each processor may make",
-        "serial" => "turns of the meaning (docs/LANGUAGE.md): as statements begin",
+        "serial" => "turns of the meaning (docs/LANGUAGE.md)",
         "replay" => "acts that all processors may make together",
         _ => NO_WORDS,
     }
