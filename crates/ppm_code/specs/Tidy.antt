@@ -6,8 +6,7 @@ use Rattle.ppm_code.specs.declared.act.End.TheVariants.{Next, Finish, Trap, Call
 use Rattle.ppm_code.specs.declared.code.Capsule.{Capsule}
 use Rattle.ppm_code.specs.declared.code.CodeParts.{CodeParts}
 use Rattle.ppm_code.specs.declared.instr.Instr.{Instr}
-use Rattle.ppm_code.specs.declared.instr.Instr.TheVariants.{Const, Move, Add, Sub, Mul, Div, Rem, Equal, NotEqual, Less, AtMost, Len}
-use Rattle.ppm_code.specs.declared.instr.Instr.TheVariants.{CutLeft, CutRight, LoadSlot, StoreCur, Give, Get, Put, BranchZero, BranchNonZero, Room, StoreNew, Ends}
+use Rattle.ppm_code.specs.declared.instr.Instr.TheVariants.{Add, Sub, Mul, Div, Rem, CutLeft, CutRight, Get, Put, StoreNew, Ends}
 use Rattle.ppm_code.specs.declared.register.Register.{Register}
 use Rattle.ppm_code.specs.Paths.{Path, Any}
 use Rattle.ppm_code.specs.Sizes.{slots_of, slot_at, left_at, right_at}
@@ -23,21 +22,7 @@ can_trap (CutLeft d a b line) = true
 can_trap (CutRight d a b line) = true
 can_trap (Get d a b line) = true
 can_trap (Put a b s line) = true
-can_trap (Const d value) = false
-can_trap (Move d a) = false
-can_trap (Equal d a b) = false
-can_trap (NotEqual d a b) = false
-can_trap (Less d a b) = false
-can_trap (AtMost d a b) = false
-can_trap (Len d a) = false
-can_trap (LoadSlot d slot) = false
-can_trap (StoreCur slot a) = false
-can_trap (Give a) = false
-can_trap (BranchZero a target) = false
-can_trap (BranchNonZero a target) = false
-can_trap (Room words) = false
-can_trap (StoreNew word a) = false
-can_trap (Ends e) = false
+can_trap _ = false
 
 module _ (code : CodeParts) where
   -- the word is a slot of the frame of a procedure that lies at `frame` of the block
