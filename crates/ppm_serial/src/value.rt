@@ -20,7 +20,10 @@ fn decide(operator: Operator, x: i64) -> Option<i64>
     match operator {
         Operator::And if x == 0 => Some(0),
         Operator::Or if x != 0 => Some(1),
-        _ => None,
+        Operator::And | Operator::Or => None,
+        Operator::Add | Operator::Sub | Operator::Mul | Operator::Div | Operator::Rem => None,
+        Operator::Eq | Operator::Ne => None,
+        Operator::Lt | Operator::Le | Operator::Gt | Operator::Ge => None,
     }
 }
 
@@ -47,7 +50,7 @@ fn operate(operator: Operator, x: i64, y: i64) -> Option<i64>
     }
 }
 
-/// What a number or a local is worth; none of any other expression.
+/// What a number, a local or a length is worth; none of any other expression.
 #[inline(always)]
 fn at_once(content: &Content, value: &Value) -> Option<i64>
     ensures { IfSome result (λ x. (a : Arrays) → untrapped content.now a value.now ≡ Some x) }
@@ -56,7 +59,7 @@ fn at_once(content: &Content, value: &Value) -> Option<i64>
         Value::Number(number) => Some(*number),
         Value::Local(slot) => Some(content.local(*slot)),
         Value::Element(_, _, _) => None,
-        Value::Len(_) => None,
+        Value::Len(slot) => Some(content.region(*slot).length() as i64),
         Value::Minus(_, _) => None,
         Value::Binary(_, _, _, _) => None,
     }
