@@ -1,6 +1,6 @@
 //! A run: one step after the other.
-//! A `?` on a `Result` of unit is compiled to a call of its own, which costs some 30 instructions.
-//! What runs again and again returns early by an `if let` in its place.
+//! A `?` on a `Result` of unit is compiled to a call of its own, which takes its result through
+//! memory. So what runs again and again returns early by an `if let` in its place.
 ghost use Rattle.std.specs.Prelude.{◌≡◌, Ok};
 ghost use Rattle.ppm_tree.specs.Tree.{ProgramTree};
 ghost use Rattle.ppm_serial.specs.Answers.{Does, Gives};
