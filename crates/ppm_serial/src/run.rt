@@ -1,4 +1,6 @@
 //! A run: one step after the other.
+//! A `?` on a `Result` of unit is compiled to a call of its own, which takes its result through
+//! memory. So what runs again and again returns early by an `if let` in its place.
 ghost use Rattle.std.specs.Prelude.{◌≡◌, Ok};
 ghost use Rattle.ppm_tree.specs.Tree.{ProgramTree};
 ghost use Rattle.ppm_serial.specs.Answers.{Does, Gives};
@@ -45,7 +47,9 @@ impl Run {
                     block: self.place.block,
                     at: self.place.at + 1,
                 };
-                self.spend(1)?;
+                if let Err(stop) = self.spend(1) {
+                    return Err(stop);
+                }
                 self.place = behind;
                 self.perform(alloc, code, step)
             }
@@ -59,7 +63,9 @@ impl Run {
     {
         self.begin(code, code.main())?;
         while !self.ended {
-            self.step(alloc, code)?;
+            if let Err(stop) = self.step(alloc, code) {
+                return Err(stop);
+            }
         }
         Ok(())
     }
@@ -120,7 +126,9 @@ impl Run {
     fn inside(&mut self, block: usize, place: Place) -> Result<(), Stop>
         ensures { Does result self.new (Ok (inside block place self.old)) }
     {
-        self.stack.push(Rest::Block(place))?;
+        if let Err(stop) = self.stack.push(Rest::Block(place)) {
+            return Err(stop);
+        }
         self.place = Place { block, at: 0 };
         Ok(())
     }
@@ -160,7 +168,9 @@ impl Run {
     {
         let (locals, regions) = code.sizes(call.callee);
         let mut frame = self.stack.frame(alloc, locals, regions)?;
-        self.pass(&call.passed, &mut frame)?;
+        if let Err(stop) = self.pass(&call.passed, &mut frame) {
+            return Err(stop);
+        }
         Ok(frame)
     }
 
@@ -210,7 +220,9 @@ impl Run {
     fn enter(&mut self, code: &Code, callee: usize, frame: Frame, rest: Rest) -> Result<(), Stop>
         ensures { Does result self.new (entering code.now callee frame rest self.old) }
     {
-        self.stack.push(rest)?;
+        if let Err(stop) = self.stack.push(rest) {
+            return Err(stop);
+        }
         self.leave_for(frame);
         self.begin(code, callee)
     }
@@ -221,14 +233,18 @@ impl Run {
     {
         let (locals, regions) = code.sizes(call.callee);
         let mut frame = self.stack.frame(alloc, locals, regions)?;
-        self.pass(&call.passed, &mut frame)?;
+        if let Err(stop) = self.pass(&call.passed, &mut frame) {
+            return Err(stop);
+        }
         let caller = Caller {
             frame: mem::replace(&mut self.frame, frame),
             place: self.place,
             target: call.target,
             callee: call.callee,
         };
-        self.stack.push(Rest::Call(caller))?;
+        if let Err(stop) = self.stack.push(Rest::Call(caller)) {
+            return Err(stop);
+        }
         self.begin(code, call.callee)
     }
 
@@ -244,8 +260,10 @@ impl Run {
             target: left.target,
             callee: left.callee,
         };
-        self.stack
-            .push(Rest::Left(caller, right.target, right.callee, later))?;
+        let rest = Rest::Left(caller, right.target, right.callee, later);
+        if let Err(stop) = self.stack.push(rest) {
+            return Err(stop);
+        }
         self.begin(code, left.callee)
     }
 
@@ -264,7 +282,9 @@ impl Run {
         let region = self.frame.region(slot);
         let count = split_at(line, &region, value)?;
         let regions = self.frame.regions(alloc)?;
-        self.stack.push(Rest::Parts(regions, self.place))?;
+        if let Err(stop) = self.stack.push(Rest::Parts(regions, self.place)) {
+            return Err(stop);
+        }
         self.frame.set_region(parts.first, region.first(count));
         self.frame.set_region(parts.second, region.second(count));
         self.place = Place {
@@ -285,7 +305,9 @@ impl Run {
     ) -> Result<(), Stop>
         ensures { Does result self.new (sweep_begins index part slot block self.old) }
     {
-        self.spend(8)?;
+        if let Err(stop) = self.spend(8) {
+            return Err(stop);
+        }
         let sweep = Sweep {
             index,
             part,
@@ -307,7 +329,9 @@ impl Run {
             self.place = sweep.place;
             return Ok(());
         }
-        self.spend(8)?;
+        if let Err(stop) = self.spend(8) {
+            return Err(stop);
+        }
         self.frame.copy_from(alloc, &sweep.frame)?;
         self.frame.set_local(sweep.index, sweep.next as i64);
         self.frame
@@ -378,7 +402,9 @@ impl Run {
     fn come_back(&mut self, code: &Code, caller: Caller) -> Result<(), Stop>
         ensures { Does result self.new (returning code.now caller self.old) }
     {
-        self.spend_give(code, caller.callee)?;
+        if let Err(stop) = self.spend_give(code, caller.callee) {
+            return Err(stop);
+        }
         let value = self.give(code, caller.callee)?;
         self.leave_for(caller.frame);
         self.place = caller.place;
@@ -397,7 +423,9 @@ impl Run {
     ) -> Result<(), Stop>
         ensures { Does result self.new (crossing code.now caller target callee frame self.old) }
     {
-        self.spend_give(code, caller.callee)?;
+        if let Err(stop) = self.spend_give(code, caller.callee) {
+            return Err(stop);
+        }
         let value = self.give(code, caller.callee)?;
         let waiting = Caller {
             frame: caller.frame,
@@ -423,7 +451,9 @@ impl Run {
     ) -> Result<(), Stop>
         ensures { Does result self.new (joining code.now caller target left self.old) }
     {
-        self.spend_give(code, caller.callee)?;
+        if let Err(stop) = self.spend_give(code, caller.callee) {
+            return Err(stop);
+        }
         let right = self.give(code, caller.callee)?;
         self.leave_for(caller.frame);
         self.place = caller.place;

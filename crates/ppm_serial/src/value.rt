@@ -1,9 +1,9 @@
 //! What an expression is worth.
-ghost use Rattle.std.specs.Prelude.{◌≡◌, IfSome, Some};
+ghost use Rattle.std.specs.Prelude.{◌≡◌, get_or, IfSome, Some};
 ghost use Rattle.std.specs.Result.{result_ok};
-ghost use Rattle.ppm_tree.specs.State.{Arrays, index_in, split_at};
+ghost use Rattle.ppm_tree.specs.State.{Arrays, index_in, nowhere, split_at};
 ghost use Rattle.ppm_tree.specs.Values.{applied, decided};
-ghost use Rattle.ppm_serial.specs.Worth.{at_line, stopped, untrapped, worth};
+ghost use Rattle.ppm_serial.specs.Worth.{at_line, stopped, untrapped, word_if, worth};
 
 use crate::code::{Stop, Value};
 use crate::content::Content;
@@ -20,7 +20,10 @@ fn decide(operator: Operator, x: i64) -> Option<i64>
     match operator {
         Operator::And if x == 0 => Some(0),
         Operator::Or if x != 0 => Some(1),
-        _ => None,
+        Operator::And | Operator::Or => None,
+        Operator::Add | Operator::Sub | Operator::Mul | Operator::Div | Operator::Rem => None,
+        Operator::Eq | Operator::Ne => None,
+        Operator::Lt | Operator::Le | Operator::Gt | Operator::Ge => None,
     }
 }
 
@@ -47,7 +50,7 @@ fn operate(operator: Operator, x: i64, y: i64) -> Option<i64>
     }
 }
 
-/// What a number or a local is worth; none of any other expression.
+/// What a number, a local or a length is worth; none of any other expression.
 #[inline(always)]
 fn at_once(content: &Content, value: &Value) -> Option<i64>
     ensures { IfSome result (λ x. (a : Arrays) → untrapped content.now a value.now ≡ Some x) }
@@ -56,10 +59,38 @@ fn at_once(content: &Content, value: &Value) -> Option<i64>
         Value::Number(number) => Some(*number),
         Value::Local(slot) => Some(content.local(*slot)),
         Value::Element(_, _, _) => None,
-        Value::Len(_) => None,
+        Value::Len(slot) => Some(content.region(*slot).length() as i64),
         Value::Minus(_, _) => None,
         Value::Binary(_, _, _, _) => None,
     }
+}
+
+/// The word of a region at an index, none where it has no such index.
+#[inline(always)]
+fn element(content: &Content, store: &Store, slot: usize, line: u32, index: i64) -> Option<i64>
+    ensures { result ≡ word_if store.now (get_or content.now.regions slot nowhere)
+        (stopped (index_in line (get_or content.now.regions slot nowhere) index)) }
+{
+    let region = content.region(slot);
+    match index_in(line, &region, index) {
+        Ok(at) => Some(store.word(region.array(), region.place(at))),
+        Err(_) => None,
+    }
+}
+
+/// What an operand is worth that needs no further walk: an element whose index is there at once, or
+/// what is there itself; none of any other.
+#[inline(always)]
+fn operand(content: &Content, store: &Store, value: &Value) -> Option<i64>
+    ensures { IfSome result (λ x. untrapped content.now store.now value.now ≡ Some x) }
+{
+    if let Value::Element(slot, line, index) = value {
+        return match at_once(content, index) {
+            Some(index) => element(content, store, *slot, *line, index),
+            None => None,
+        };
+    }
+    at_once(content, value)
 }
 
 /// What an expression is worth in a frame, none where it traps. A value and its absence fit into
@@ -76,11 +107,7 @@ fn untrapped(content: &Content, store: &Store, value: &Value) -> Option<i64>
                 Some(index) => index,
                 None => untrapped(content, store, index)?,
             };
-            let region = content.region(*slot);
-            match index_in(*line, &region, index) {
-                Ok(at) => Some(store.word(region.array(), region.place(at))),
-                Err(_) => None,
-            }
+            element(content, store, *slot, *line, index)
         }
         Value::Len(slot) => Some(content.region(*slot).length() as i64),
         Value::Minus(_, operand) => {
@@ -88,14 +115,14 @@ fn untrapped(content: &Content, store: &Store, value: &Value) -> Option<i64>
             negate(x).ok()
         }
         Value::Binary(operator, _, left, right) => {
-            let x = match at_once(content, left) {
+            let x = match operand(content, store, left) {
                 Some(x) => x,
                 None => untrapped(content, store, left)?,
             };
             if let Some(value) = decide(*operator, x) {
                 return Some(value);
             }
-            let y = match at_once(content, right) {
+            let y = match operand(content, store, right) {
                 Some(y) => y,
                 None => untrapped(content, store, right)?,
             };

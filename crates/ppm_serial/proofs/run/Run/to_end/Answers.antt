@@ -1,6 +1,5 @@
 -- The entry begins the run, each step does what is still to come, and a stop or the end is the answer.
 use Rattle.std.proofs.Common.{◌≡◌, Ok, Err, [], subst, ℕ}
-use Rattle.std.proofs.lemmas.Result.{err_from_is_err_and}
 use Rattle.ppm_serial.specs.Machine.{beginning}
 use Rattle.ppm_serial.proofs.RunningLemmas.{begun, stepped, over}
 use Rattle.ppm_serial.proofs.run.Run.to_end.Goals as goal
@@ -12,14 +11,13 @@ loop-self-init c t laid starts =
 
 pub loop-self-preserved : goal.loop-self-preserved
 loop-self-preserved c t laid starts =
-    stepped t c.args.code.now laid c.args.self.now.left c.loop-self.self c.step.new.self (Ok c.in_ok-step.field-0) [] (c.loop-self.invariant t laid starts)
-    (let h = c.loop-self-test.true in cc) c.in_ok-step.ensures
+    stepped t c.args.code.now laid c.args.self.now.left c.loop-self.self c.step.new.self (Ok c.in_default.field-0) [] (c.loop-self.invariant t laid starts)
+    (let h = c.loop-self-test.true in cc) c.in_default.ensures
 
-pub returns-in_err-step : goal.returns-in_err-step
-returns-in_err-step c t laid starts =
-    let p = err_from_is_err_and c.from_residual-in_err-step.result c.from_residual-in_err-step.ensures.1 in
-    rw (p.1, p.2) (stepped t c.args.code.now laid {B = Unit {0}} c.args.self.now.left c.loop-self.self c.step.new.self (Err c.in_err-step.field-0.0) c.step.new.self.store
-    (c.loop-self.invariant t laid starts) (let h = c.loop-self-test.true in cc) c.in_err-step.ensures)
+pub returns-in-Err : goal.returns-in-Err
+returns-in-Err c t laid starts =
+    stepped t c.args.code.now laid {B = Unit {0}} c.args.self.now.left c.loop-self.self c.step.new.self (Err c.in-Err.stop) c.step.new.self.store
+    (c.loop-self.invariant t laid starts) (let h = c.loop-self-test.true in cc) c.in-Err.ensures
 
 pub returns : goal.returns
 returns c t laid starts =
