@@ -1,14 +1,11 @@
 -- Procedures of which some are added, and the others are still to be added.
-use Rattle.std.proofs.Common.{◌≡◌, ◌≤◌, ℕ, suc, List, [], ◌∷◌, ◌++◌, length, refl, sym, ap, subst, ◌∙◌, append_assoc}
-use Rattle.std.specs.List.{AllByRecursion}
+use Rattle.std.proofs.Common.{◌≡◌, ℕ, suc, List, [], ◌∷◌, ◌++◌, length, refl, sym, ap, subst, ◌∙◌, append_assoc}
 use Rattle.std.proofs.lemmas.List.{append-nil}
-use Rattle.ppm_tree.specs.declared.tree.Proc.{Proc}
 use Rattle.ppm_code.specs.declared.code.CodeParts.{CodeParts}
-use Rattle.ppm_tree.specs.Tree.{Procedure, ProgramTree, procedure_of}
+use Rattle.ppm_tree.specs.Tree.{Procedure, ProgramTree}
 use Rattle.ppm_cut_code.specs.Numbers.{hidden_behind_block}
 use Rattle.ppm_cut_code.specs.Routines.{Routine, texts_from, hidden_from, routines_of, procedures_from, capsules_from, code_of}
 use Rattle.ppm_cut.specs.declared.draft.Draft.{Draft}
-use Rattle.ppm_cut.specs.Counts.{IsSmallProcedure}
 use Rattle.ppm_cut.specs.Drafts.{Drafts}
 use Rattle.ppm_cut.proofs.Drafting.{drafts_none, drafts_then}
 
@@ -32,11 +29,6 @@ module _ (procedures : List Procedure) (all : List Routine) where
 
   pub none_left : (old now : Draft) → Left procedures all [] old now → Drafts procedures all old now
   none_left old now h = subst (λ xs. Drafts procedures xs old now) (sym (h.is ∙ append-nil h.added)) h.drafts
-
--- procedures that are small have few parameters
-pub few_parameters : (ps : List Proc) → AllByRecursion (λ p. IsSmallProcedure (procedure_of p)) ps → AllByRecursion (λ p. length p.parameters ≤ 12) ps
-few_parameters [] h = tt
-few_parameters (p ∷ ps) h = (h.0.parameters, few_parameters ps h.1)
 
 -- those of the text are as many as the procedures
 pub texts_length : (h : ℕ) (ps : List Procedure) → length (texts_from h ps) ≡ length ps

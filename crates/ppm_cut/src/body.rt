@@ -1,6 +1,5 @@
 //! The capsules of statements and blocks.
 ghost use Rattle.std.specs.Prelude.{◌≡◌, ◌≤◌, ◌+◌, ◌*◌, suc, [], ◌∷◌, length, map, OnOk};
-ghost use Rattle.std.specs.List.{AllByRecursion};
 ghost use Rattle.ppm_tree.specs.Tree.{expression_of, statement_of, block_of, procedure_of};
 ghost use Rattle.ppm_cut_code.specs.Expressions.{size_of};
 ghost use Rattle.ppm_cut_code.specs.Statements.{value_code, move_code, element_code, put_code};
@@ -118,8 +117,6 @@ fn push_statement<'a>(
     hidden: u32,
     statement: &'a Stmt,
 ) -> Result<(), NoMemory>
-    requires procedures { length callees.now ≤ count_limit }
-    requires parameters { AllByRecursion (λ p. length p.parameters ≤ 12) callees.now }
     requires slots { home.spare ≤ 3 * count_limit }
     requires names { length layout.old + (own_count (statement_of statement.now) + hidden_count (statement_of statement.now)) ≤ count_limit }
     requires capsules { at + own_count (statement_of statement.now) ≤ count_limit }
@@ -260,8 +257,6 @@ pub fn push_block<'a>(
     last: Last<'_>,
     block: &'a [Stmt],
 ) -> Result<(), NoMemory>
-    requires procedures { length callees.now ≤ count_limit }
-    requires parameters { AllByRecursion (λ p. length p.parameters ≤ 12) callees.now }
     requires slots { home.spare ≤ 3 * count_limit }
     requires names { length layout.old + (own_count_in (block_of block.now) + hidden_count_in (block_of block.now)) ≤ count_limit }
     requires capsules { at + own_count_in (block_of block.now) ≤ count_limit }

@@ -5,7 +5,7 @@ ghost use Rattle.ppm_tree.specs.Tree.{procedure_of};
 ghost use Rattle.ppm_tree.specs.State.{procedure_named};
 ghost use Rattle.ppm_cut_code.specs.Slots.{procedure_slots};
 ghost use Rattle.ppm_cut_code.specs.Statements.{number_of};
-ghost use Rattle.ppm_cut.specs.Counts.{count_limit, IsSmallProcedure};
+ghost use Rattle.ppm_cut.specs.Counts.{IsSmallProcedure};
 
 use crate::slots::procedure_slots;
 use ppm_tree::{Parameter, Proc};
@@ -21,7 +21,7 @@ pub struct Callee<'a> {
     pub parameters: &'a [Parameter],
 }
 
-/// The procedures of a program, and how many slots their frames have.
+/// The procedures of a program, at most 1,024 and each small, and how many slots their frames have.
 #[derive(Drop)]
 pub struct Callees<'a> {
     procedures: &'a [Proc],
@@ -29,13 +29,15 @@ pub struct Callees<'a> {
 }
 
 impl<'a> Model for Callees<'a> {
-    ghost use Rattle.std.specs.Prelude.{◌≡◌, List, map};
+    ghost use Rattle.std.specs.Prelude.{◌≡◌, ◌≤◌, List, length, map};
+    ghost use Rattle.std.specs.List.{AllByRecursion};
     ghost use Rattle.std.specs.Coded.{codes};
     ghost use Rattle.ppm_tree.specs.declared.tree.Proc.{Proc};
     ghost use Rattle.ppm_tree.specs.contracts.tree.Expr as expr;
     ghost use Rattle.ppm_tree.specs.contracts.tree.Stmt as stmt;
     ghost use Rattle.ppm_tree.specs.Tree.{procedure_of};
     ghost use Rattle.ppm_cut_code.specs.Slots.{procedure_slots};
+    ghost use Rattle.ppm_cut.specs.Counts.{IsSmallProcedure};
 
     ghost Value = { List Proc };
 
@@ -43,13 +45,16 @@ impl<'a> Model for Callees<'a> {
 
     ghost view = { λ c. c.procedures.now };
 
-    ghost invariant = { λ c. c.slots.items ≡ map (λ p. procedure_slots (procedure_of p)) c.procedures.now };
+    ghost invariant = { λ c. (c.slots.items ≡ map (λ p. procedure_slots (procedure_of p)) c.procedures.now)
+        × (length c.procedures.now ≤ 1024)
+        × AllByRecursion (λ p. IsSmallProcedure (procedure_of p)) c.procedures.now };
 }
 
 impl<'a> Callees<'a> {
     /// The procedures of a program.
     pub fn new(alloc: Global, procedures: &'a [Proc]) -> Result<Self, NoMemory>
-        requires { AllByRecursion (λ p. IsSmallProcedure (procedure_of p)) procedures.now }
+        requires few { length procedures.now ≤ 1024 }
+        requires small { AllByRecursion (λ p. IsSmallProcedure (procedure_of p)) procedures.now }
         ensures { IfOk result (λ callees. callees ≡ procedures.now) }
     {
         let mut slots = Vec::new(alloc);
@@ -62,8 +67,6 @@ impl<'a> Callees<'a> {
     /// The first procedure with a name; behind all others, without slots and parameters, where
     /// there is none.
     pub fn find(&self, name: &[u8]) -> Callee<'a>
-        requires few { length self.now ≤ count_limit }
-        requires small { AllByRecursion (λ p. length p.parameters ≤ 12) self.now }
         ensures number { result.number ≡ number_of (map procedure_of self.now) name.now }
         ensures slots { result.slots
             ≡ procedure_slots (procedure_named (map procedure_of self.now) name.now) }

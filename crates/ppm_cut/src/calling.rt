@@ -1,6 +1,5 @@
 //! The capsules of calls and forks.
 ghost use Rattle.std.specs.Prelude.{◌≡◌, ◌≤◌, ◌*◌, length, map, IfOk};
-ghost use Rattle.std.specs.List.{AllByRecursion};
 ghost use Rattle.ppm_tree.specs.Tree.{side_of, procedure_of};
 ghost use Rattle.ppm_cut_code.specs.Slots.{frame_words, fork_words};
 ghost use Rattle.ppm_cut_code.specs.Statements.{call_code, fork_code};
@@ -41,8 +40,6 @@ pub fn call_capsule(
     side: &Side,
     next: u32,
 ) -> Result<Vec<Instr>, NoMemory>
-    requires procedures { length callees.now ≤ count_limit }
-    requires parameters { AllByRecursion (λ p. length p.parameters ≤ 12) callees.now }
     requires names { length layout.now ≤ count_limit }
     requires short { IsShortSide (side_of side.now) }
     ensures { IfOk result (λ body. body.items
@@ -74,8 +71,6 @@ pub fn fork_capsule(
     right: &Side,
     next: u32,
 ) -> Result<Vec<Instr>, NoMemory>
-    requires procedures { length callees.now ≤ count_limit }
-    requires parameters { AllByRecursion (λ p. length p.parameters ≤ 12) callees.now }
     requires names { length layout.now ≤ count_limit }
     requires short_left { IsShortSide (side_of left.now) }
     requires short_right { IsShortSide (side_of right.now) }

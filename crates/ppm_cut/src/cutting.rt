@@ -60,8 +60,6 @@ fn push_texts(
 ) -> Result<(), NoMemory>
     requires empty { draft.old.procedures.items ≡ [] }
     requires next { draft.old.next ≡ 0 }
-    requires callees { length callees.now ≤ 1024 }
-    requires parameters { AllByRecursion (λ p. length p.parameters ≤ 12) callees.now }
     requires few { length procedures.now ≤ 1024 }
     requires short { AllByRecursion (λ p. IsShortProcedure (procedure_of p)) procedures.now }
     requires counts { own_counts (map procedure_of procedures.now) + hidden_counts (map procedure_of procedures.now) ≤ 65535 }
@@ -87,8 +85,6 @@ fn push_hiddens(
     procedures: &[Proc],
 ) -> Result<(), NoMemory>
     requires number { length draft.old.procedures.items ≡ length procedures.now }
-    requires callees { length callees.now ≤ 1024 }
-    requires parameters { AllByRecursion (λ p. length p.parameters ≤ 12) callees.now }
     requires few { length procedures.now ≤ 1024 }
     requires short { AllByRecursion (λ p. IsShortProcedure (procedure_of p)) procedures.now }
     requires counts { own_counts (map procedure_of procedures.now) + hidden_counts (map procedure_of procedures.now) ≤ 65535 }

@@ -1,6 +1,5 @@
 //! The procedures of a code, those of the text and the hidden ones.
 ghost use Rattle.std.specs.Prelude.{◌≡◌, ◌≤◌, ◌+◌, ℕ, List, [], ◌∷◌, length, map, OnOk};
-ghost use Rattle.std.specs.List.{AllByRecursion};
 ghost use Rattle.ppm_tree.specs.Tree.{statement_of, block_of, procedure_of};
 ghost use Rattle.ppm_cut_code.specs.Routines.{OfText, Hidden, hidden_of, hidden_of_block};
 ghost use Rattle.ppm_cut.specs.Counts.{count_limit, own_count, own_count_in, hidden_count};
@@ -51,8 +50,6 @@ impl Draft {
         hidden: u32,
         procedure: &'a Proc,
     ) -> Result<(), NoMemory>
-        requires procedures { length callees.now ≤ count_limit }
-        requires parameters { AllByRecursion (λ p. length p.parameters ≤ 12) callees.now }
         requires number { length self.old.procedures.items ≡ number }
         requires short { IsShortProcedure (procedure_of procedure.now) }
         requires names { 12 + (own_count_in (block_of procedure.now.body.items) + hidden_count_in (block_of procedure.now.body.items)) ≤ count_limit }
@@ -97,8 +94,6 @@ impl Draft {
         layout: &mut Layout<'a>,
         block: &'a [Stmt],
     ) -> Result<(), NoMemory>
-        requires procedures { length callees.now ≤ count_limit }
-        requires parameters { AllByRecursion (λ p. length p.parameters ≤ 12) callees.now }
         requires number { length self.old.procedures.items ≡ number }
         requires two { 2 ≤ length layout.old }
         requires names { length layout.old + (own_count_in (block_of block.now) + hidden_count_in (block_of block.now)) ≤ count_limit }
@@ -158,8 +153,6 @@ impl Draft {
         hidden: u32,
         statement: &'a Stmt,
     ) -> Result<(), NoMemory>
-        requires procedures { length callees.now ≤ count_limit }
-        requires parameters { AllByRecursion (λ p. length p.parameters ≤ 12) callees.now }
         requires number { length self.old.procedures.items ≡ hidden }
         requires names { length layout.old + (own_count (statement_of statement.now) + hidden_count (statement_of statement.now)) ≤ count_limit }
         requires capsules { self.old.next + hidden_count (statement_of statement.now) ≤ count_limit }
@@ -208,8 +201,6 @@ impl Draft {
         hidden: u32,
         block: &'a [Stmt],
     ) -> Result<(), NoMemory>
-        requires procedures { length callees.now ≤ count_limit }
-        requires parameters { AllByRecursion (λ p. length p.parameters ≤ 12) callees.now }
         requires number { length self.old.procedures.items ≡ hidden }
         requires names { length layout.old + (own_count_in (block_of block.now) + hidden_count_in (block_of block.now)) ≤ count_limit }
         requires capsules { self.old.next + hidden_count_in (block_of block.now) ≤ count_limit }

@@ -123,7 +123,17 @@ fn right_register(operator: Operator, to: u32) -> u32
 {
     match operator {
         Operator::And | Operator::Or => to,
-        _ => to + 1,
+        Operator::Add
+        | Operator::Sub
+        | Operator::Mul
+        | Operator::Div
+        | Operator::Rem
+        | Operator::Eq
+        | Operator::Ne
+        | Operator::Lt
+        | Operator::Le
+        | Operator::Gt
+        | Operator::Ge => to + 1,
     }
 }
 
@@ -140,7 +150,17 @@ fn push_branch(
     match operator {
         Operator::And => push(body, Instr::BranchZero { tested, target }),
         Operator::Or => push(body, Instr::BranchNonZero { tested, target }),
-        _ => Ok(()),
+        Operator::Add
+        | Operator::Sub
+        | Operator::Mul
+        | Operator::Div
+        | Operator::Rem
+        | Operator::Eq
+        | Operator::Ne
+        | Operator::Lt
+        | Operator::Le
+        | Operator::Gt
+        | Operator::Ge => Ok(()),
     }
 }
 

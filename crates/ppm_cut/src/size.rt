@@ -14,7 +14,17 @@ fn last_size(operator: Operator) -> u32
 {
     match operator {
         Operator::And | Operator::Or => 2,
-        _ => 1,
+        Operator::Add
+        | Operator::Sub
+        | Operator::Mul
+        | Operator::Div
+        | Operator::Rem
+        | Operator::Eq
+        | Operator::Ne
+        | Operator::Lt
+        | Operator::Le
+        | Operator::Gt
+        | Operator::Ge => 1,
     }
 }
 
@@ -24,7 +34,17 @@ pub fn branch_size(operator: Operator) -> u32
 {
     match operator {
         Operator::And | Operator::Or => 1,
-        _ => 0,
+        Operator::Add
+        | Operator::Sub
+        | Operator::Mul
+        | Operator::Div
+        | Operator::Rem
+        | Operator::Eq
+        | Operator::Ne
+        | Operator::Lt
+        | Operator::Le
+        | Operator::Gt
+        | Operator::Ge => 0,
     }
 }
 

@@ -38,14 +38,14 @@ push_statement-hidden_behind_block-second-requires t c =
 pub push_statement-push_block-requires : goal.push_statement-push_block-requires
 push_statement-push_block-requires t c =
     let e = if_is c.args.statement.now c.in-If.test c.in-If.block c.in-If.other c.deref-in-If-2.result.now c.in-If.other.items c.in-If.is c.deref-in-If-2.ensures.value refl in
-    (omega (arith, ap own_count e, ap hidden_count e), (c.requires.procedures, (c.requires.parameters, (c.requires.slots, (omega (arith, ap own_count e, ap hidden_count e), (omega (arith, ap own_count e), (omega (arith, ap hidden_count e), ((subst IsShort e c.requires.short).1, tt))))))))
+    (omega (arith, ap own_count e, ap hidden_count e), (c.requires.slots, (omega (arith, ap own_count e, ap hidden_count e), (omega (arith, ap own_count e), (omega (arith, ap hidden_count e), ((subst IsShort e c.requires.short).1, tt))))))
 
 pub push_statement-push_block-requires-in-If : goal.push_statement-push_block-requires-in-If
 push_statement-push_block-requires-in-If t c =
     let e = if_is c.args.statement.now c.in-If.test c.in-If.block c.in-If.other c.deref-in-If-2.result.now c.deref-in-If-4.result.now c.in-If.is c.deref-in-If-2.ensures.value c.deref-in-If-4.ensures.value in
     let same = ap (λ xs. own_count_in (block_of xs)) (c.deref.ensures.value ∙ sym c.deref-in-If-2.ensures.value) in
     let alike = ap (λ xs. hidden_count_in (block_of xs)) (c.deref-in-If-3.ensures.value ∙ sym c.deref-in-If-2.ensures.value) in
-    (omega (arith, ap own_count e, ap hidden_count e), (c.requires.procedures, (c.requires.parameters, (c.requires.slots, (omega (arith, ap own_count e, ap hidden_count e, ap length c.in_ok-push_block-in-If.ensures.layout), (omega (arith, ap own_count e, same, c.end_of-first.ensures.within), (omega (arith, ap hidden_count e, alike, c.hidden_behind_block-second.ensures.within), ((subst IsShort e c.requires.short).2, tt))))))))
+    (omega (arith, ap own_count e, ap hidden_count e), (c.requires.slots, (omega (arith, ap own_count e, ap hidden_count e, ap length c.in_ok-push_block-in-If.ensures.layout), (omega (arith, ap own_count e, same, c.end_of-first.ensures.within), (omega (arith, ap hidden_count e, alike, c.hidden_behind_block-second.ensures.within), ((subst IsShort e c.requires.short).2, tt))))))
 
 pub push_statement-end_of-next-requires-in-While : goal.push_statement-end_of-next-requires-in-While
 push_statement-end_of-next-requires-in-While t c =
@@ -60,7 +60,7 @@ push_statement-overflow_add-next-in-While t c =
 pub push_statement-push_block-requires-in-While : goal.push_statement-push_block-requires-in-While
 push_statement-push_block-requires-in-While t c =
     let e = while_is c.args.statement.now c.in-While.test c.in-While.block c.deref-in-While-2.result.now c.in-While.is c.deref-in-While-2.ensures.value in
-    (omega (arith, ap own_count e, ap hidden_count e), (c.requires.procedures, (c.requires.parameters, (c.requires.slots, (omega (arith, ap own_count e, ap hidden_count e), (omega (arith, ap own_count e), (omega (arith, ap hidden_count e), ((subst IsShort e c.requires.short).1, tt))))))))
+    (omega (arith, ap own_count e, ap hidden_count e), (c.requires.slots, (omega (arith, ap own_count e, ap hidden_count e), (omega (arith, ap own_count e), (omega (arith, ap hidden_count e), ((subst IsShort e c.requires.short).1, tt))))))
 
 pub push_statement-end_of-next-requires-in-Split : goal.push_statement-end_of-next-requires-in-Split
 push_statement-end_of-next-requires-in-Split t c =
@@ -77,7 +77,7 @@ push_statement-push_block-requires-in-Split t c =
     let e = split_is c.args.statement.now c.in-Split.line c.in-Split.region c.in-Split.place c.in-Split.first c.in-Split.second c.in-Split.block c.deref-in-Split-2.result.now c.in-Split.is c.deref-in-Split-2.ensures.value in
     let parts = c.in_ok-push-in-Split-2.ensures ∙ ap (λ l. l ++ c.in-Split.second.name ∷ []) c.in_ok-push-in-Split.ensures ∙ append_assoc c.args.layout.now (c.in-Split.first.name ∷ []) (c.in-Split.second.name ∷ []) in
     let more = length-append c.args.layout.now (c.in-Split.first.name ∷ c.in-Split.second.name ∷ []) in
-    (omega (arith, ap own_count e, ap hidden_count e), (c.requires.procedures, (c.requires.parameters, (c.requires.slots, (omega (arith, ap own_count e, ap hidden_count e, ap length parts, more), (omega (arith, ap own_count e), (omega (arith, ap hidden_count e), ((subst IsShort e c.requires.short).1, tt))))))))
+    (omega (arith, ap own_count e, ap hidden_count e), (c.requires.slots, (omega (arith, ap own_count e, ap hidden_count e, ap length parts, more), (omega (arith, ap own_count e), (omega (arith, ap hidden_count e), ((subst IsShort e c.requires.short).1, tt))))))
 
 pub push_statement-each_capsule-requires-clause-counts : goal.push_statement-each_capsule-requires-clause-counts
 push_statement-each_capsule-requires-clause-counts t c =

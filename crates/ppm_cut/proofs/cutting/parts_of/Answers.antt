@@ -1,6 +1,5 @@
-use Rattle.std.proofs.Common.{◌≡◌, ◌≤◌, arith, length, map, codes, ap, sym, subst, ◌∙◌}
+use Rattle.std.proofs.Common.{◌≡◌, arith, length, map, codes, ap, sym, subst, ◌∙◌}
 use Rattle.std.proofs.lemmas.List.{length-map}
-use Rattle.std.specs.List.{AllByRecursion}
 use Rattle.ppm_tree.specs.Tree.{procedure_of, tree_of}
 use Rattle.ppm_tree.specs.State.{procedure_named}
 use Rattle.ppm_tree.specs.Program.{whole_from}
@@ -8,7 +7,7 @@ use Rattle.ppm_cut_code.specs.Statements.{number_of}
 use Rattle.ppm_cut_code.specs.Routines.{texts_from, hidden_from}
 use Rattle.ppm_cut.specs.Drafts.{Drafts}
 use Rattle.ppm_cut.proofs.Drafting.{drafts_count}
-use Rattle.ppm_cut.proofs.Texts.{few_parameters, texts_length, parts_are}
+use Rattle.ppm_cut.proofs.Texts.{texts_length, parts_are}
 use Rattle.ppm_cut.proofs.cutting.parts_of.Goals as goal
 
 pub push_hiddens-requires-clause-number : goal.push_hiddens-requires-clause-number
@@ -20,14 +19,6 @@ push_hiddens-requires-clause-number c =
     let texts = texts_length many ps in
     let same = length-map c.as_slice-procedures.result.now procedure_of in
     omega (arith, count, none, texts, same)
-
-pub push_hiddens-requires-clause-parameters : goal.push_hiddens-requires-clause-parameters
-push_hiddens-requires-clause-parameters c =
-    subst (AllByRecursion (λ p. length p.parameters ≤ 12)) (sym (c.in_ok-callees.ensures ∙ c.as_slice-procedures.ensures)) (few_parameters c.args.tree.now.procedures c.requires.small)
-
-pub find-root-requires-clause-small : goal.find-root-requires-clause-small
-find-root-requires-clause-small c =
-    subst (AllByRecursion (λ p. length p.parameters ≤ 12)) (sym (c.in_ok-callees.ensures ∙ c.as_slice-procedures.ensures)) (few_parameters c.args.tree.now.procedures c.requires.small)
 
 pub returns : goal.returns
 returns c =

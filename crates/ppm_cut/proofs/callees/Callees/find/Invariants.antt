@@ -1,8 +1,9 @@
-use Rattle.std.proofs.Common.{◌≡◌, ◌≤◌, ◌+◌, drop, length, map}
+use Rattle.std.proofs.Common.{◌≡◌, ◌+◌, drop, map}
 use Rattle.std.specs.List.{AllByRecursion}
 use Rattle.ppm_tree.specs.Tree.{procedure_of}
 use Rattle.ppm_tree.specs.State.{procedure_named}
 use Rattle.ppm_cut_code.specs.Statements.{number_of}
+use Rattle.ppm_cut.specs.Counts.{IsSmallProcedure}
 use Rattle.ppm_cut.proofs.callees.Callees.find.Given as goal
 
 -- the first one is among those behind
@@ -10,5 +11,5 @@ abbrev pub invariant-loop-procedure : goal.invariant-loop-procedure
 invariant-loop-procedure l =
     (l.number ≡ l.procedure-index)
     × (l.number + number_of (map procedure_of (drop l.procedure-index l.procedure-items)) l.name ≡ number_of (map procedure_of l.procedure-items) l.name)
-    × AllByRecursion (λ p. length p.parameters ≤ 12) (drop l.procedure-index l.procedure-items)
+    × AllByRecursion (λ p. IsSmallProcedure (procedure_of p)) (drop l.procedure-index l.procedure-items)
     × (procedure_named (map procedure_of (drop l.procedure-index l.procedure-items)) l.name ≡ procedure_named (map procedure_of l.procedure-items) l.name)

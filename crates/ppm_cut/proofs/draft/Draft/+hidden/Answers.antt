@@ -17,7 +17,7 @@ pub push_hidden-push_hidden_block-requires : goal.push_hidden-push_hidden_block-
 push_hidden-push_hidden_block-requires t c =
     let e = if_is c.args.statement.now c.in-If.field-0 c.in-If.block c.in-If.other c.deref.result.now c.in-If.other.items c.in-If.is
     c.deref.ensures.value refl in
-    (omega (arith, ap own_count e, ap hidden_count e), (c.requires.procedures, (c.requires.parameters, (c.requires.number, (omega (arith, ap own_count e, ap hidden_count e), (omega (arith, ap hidden_count e), (omega (arith, ap hidden_count e), (subst IsShort e c.requires.short).1)))))))
+    (omega (arith, ap own_count e, ap hidden_count e), (c.requires.number, (omega (arith, ap own_count e, ap hidden_count e), (omega (arith, ap hidden_count e), (omega (arith, ap hidden_count e), (subst IsShort e c.requires.short).1)))))
 
 pub push_hidden-hidden_behind_block-next-requires : goal.push_hidden-hidden_behind_block-next-requires
 push_hidden-hidden_behind_block-next-requires t c =
@@ -36,13 +36,13 @@ push_hidden-push_hidden_block-requires-in-If t c =
     let number = number_behind_block (map procedure_of c.args.callees.now) c.args.layout.now c.args.hidden
     (block_of c.deref.result.now) c.args.self.now c.push_hidden_block.new.self first.drafts c.requires.number
     ∙ sym same ∙ sym c.hidden_behind_block-next.ensures.value in
-    (omega (arith, ap own_count e, ap hidden_count e), (c.requires.procedures, (c.requires.parameters, (number, (omega (arith, ap own_count e, ap hidden_count e, ap length first.layout), (omega (arith, ap hidden_count e, first.next), (omega (arith, ap hidden_count e, alike, c.hidden_behind_block-next.ensures.within), (subst IsShort e c.requires.short).2)))))))
+    (omega (arith, ap own_count e, ap hidden_count e), (number, (omega (arith, ap own_count e, ap hidden_count e, ap length first.layout), (omega (arith, ap hidden_count e, first.next), (omega (arith, ap hidden_count e, alike, c.hidden_behind_block-next.ensures.within), (subst IsShort e c.requires.short).2)))))
 
 pub push_hidden-push_hidden_block-requires-in-While : goal.push_hidden-push_hidden_block-requires-in-While
 push_hidden-push_hidden_block-requires-in-While t c =
     let e = while_is c.args.statement.now c.in-While.field-0 c.in-While.block c.deref-in-While.result.now c.in-While.is
     c.deref-in-While.ensures.value in
-    (omega (arith, ap own_count e, ap hidden_count e), (c.requires.procedures, (c.requires.parameters, (c.requires.number, (omega (arith, ap own_count e, ap hidden_count e), (omega (arith, ap hidden_count e), (omega (arith, ap hidden_count e), (subst IsShort e c.requires.short).1)))))))
+    (omega (arith, ap own_count e, ap hidden_count e), (c.requires.number, (omega (arith, ap own_count e, ap hidden_count e), (omega (arith, ap hidden_count e), (omega (arith, ap hidden_count e), (subst IsShort e c.requires.short).1)))))
 
 pub push_hidden-push_hidden_block-requires-in-Split : goal.push_hidden-push_hidden_block-requires-in-Split
 push_hidden-push_hidden_block-requires-in-Split t c =
@@ -51,7 +51,7 @@ push_hidden-push_hidden_block-requires-in-Split t c =
     let parts = c.in_ok-push-in-Split-2.ensures ∙ ap (λ l. l ++ c.in-Split.second.name ∷ []) c.in_ok-push-in-Split.ensures
     ∙ append_assoc c.args.layout.now (c.in-Split.first.name ∷ []) (c.in-Split.second.name ∷ []) in
     let more = length-append c.args.layout.now (c.in-Split.first.name ∷ c.in-Split.second.name ∷ []) in
-    (omega (arith, ap own_count e, ap hidden_count e), (c.requires.procedures, (c.requires.parameters, (c.requires.number, (omega (arith, ap own_count e, ap hidden_count e, ap length parts, more), (omega (arith, ap hidden_count e), (omega (arith, ap hidden_count e), (subst IsShort e c.requires.short).1)))))))
+    (omega (arith, ap own_count e, ap hidden_count e), (c.requires.number, (omega (arith, ap own_count e, ap hidden_count e, ap length parts, more), (omega (arith, ap hidden_count e), (omega (arith, ap hidden_count e), (subst IsShort e c.requires.short).1)))))
 
 pub push_hidden-push_sweep-requires-clause-names : goal.push_hidden-push_sweep-requires-clause-names
 push_hidden-push_sweep-requires-clause-names t c =
@@ -93,7 +93,7 @@ push_hidden-push_hidden_block-requires-in-Each t c =
     let swept = c.in_ok-inner-in-Each.ensures in
     let one = drafts_count (map procedure_of c.args.callees.now) _ c.args.self.now c.push_sweep.new.self
     (sweep.drafts c.in-Each.part.name c.in-Each.index.name (caught c.args.layout.now (block_of c.deref-in-Each.result.now)) swept) in
-    (omega (arith, ap own_count e, ap hidden_count e), (c.requires.procedures, (c.requires.parameters, (omega (arith, one, c.requires.number), (omega (arith, ap own_count e, ap hidden_count e, ap length sweep.layout, ap length inner, few), (omega (arith, ap hidden_count e, alike, sweep.next), (omega (arith, ap hidden_count e), subst IsShort e c.requires.short)))))))
+    (omega (arith, ap own_count e, ap hidden_count e), (omega (arith, one, c.requires.number), (omega (arith, ap own_count e, ap hidden_count e, ap length sweep.layout, ap length inner, few), (omega (arith, ap hidden_count e, alike, sweep.next), (omega (arith, ap hidden_count e), subst IsShort e c.requires.short)))))
 
 pub push_hidden-returns-in_ok-push_hidden_block-in-If-clause-drafts : goal.push_hidden-returns-in_ok-push_hidden_block-in-If-clause-drafts
 push_hidden-returns-in_ok-push_hidden_block-in-If-clause-drafts t c =
