@@ -1,5 +1,5 @@
 -- What the program ends with.
-use Rattle.std.specs.Prelude.{◌≡◌, ◌≢◌, ◌⊎◌, ℕ, List, [], map, Result, MatchResult}
+use Rattle.std.specs.Prelude.{◌≡◌, ◌≢◌, ◌⊎◌, ℕ, List, [], map, replicate, None, Result, MatchResult}
 use Rattle.std.specs.String.{string_bytes}
 use Rattle.std.specs.Vec.Iter.{into_iter_items}
 use Rattle.std.specs.IoError.{error_kind}
@@ -15,7 +15,9 @@ use Rattle.ppm_answers.specs.declared.status.Status.{Status}
 use Rattle.ppm_answers.specs.Statuses.{number_of}
 use Rattle.ppm_answers.specs.Delivery.{Delivers}
 use Rattle.ppm_answers.specs.Reading.{IsUnread}
+use Rattle.ppm_driver.specs.Watchers.{watcher_count}
 use Rattle.ppm_top.specs.Causes.{IsAnswered}
+use Rattle.ppm_top.specs.Rows.{ProgramRows}
 
 -- what the system says of the words of the command line
 abbrev pub Given : Type 0
@@ -27,14 +29,17 @@ AreWords given words = MatchResult given
     (λ args. words ≡ into_iter_items args)
     (λ e. (error_kind e ≢ OutOfMemory) × (words ≡ []))
 
--- the words were answered with a status, with watchers that were told nothing, and this is its number
+-- the program's watchers show nothing of what they are told
+abbrev pub silent : ToldLists
+silent = replicate watcher_count None
+
+-- the words were answered with a status, whose rows hold, and this is its number
 pub record EndsAnswered (given : Given) (source out err : Port) (number : ℕ) : Type 0 where
   pub words : List (String Global)
   pub are_words : AreWords given words
-  pub told_before : ToldLists
-  pub told_now : ToldLists
   pub status : Status
-  pub answered : IsAnswered (map string_bytes words) (outside source out err told_before told_now) status
+  pub answered : IsAnswered (map string_bytes words) (outside source out err silent silent) status
+  pub rows : ProgramRows (map string_bytes words) (outside source out err silent silent) status
   pub own_number : number ≡ number_of status
 
 -- memory was refused before anything was read, and this was answered

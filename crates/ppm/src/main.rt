@@ -3,8 +3,8 @@
 //! Model: a stream is a port before the program and after it; the standard streams are ports that
 //! show no bytes.
 //! Contract: `program` ends with the number of the status with which the words were answered
-//! (`IsAnswered`), or want of memory was, before anything was read (`specs/Ending`). `main` calls
-//! it and does nothing else.
+//! (`IsAnswered`), whose rows hold (`ProgramRows`), or with that of want of memory, before anything
+//! was read (`specs/Ending`). `main` calls it and does nothing else.
 //! Stands on `ppm_top`, `ppm_answers` and `ppm_ports`; the system calls it. The statuses are this
 //! project's.
 #![tactic(auto)]

@@ -77,7 +77,19 @@ TellsOfRun Tells answers.ReadFault before now = TellsNothing answers.ReadFault b
 TellsOfRun Tells answers.WordsRefused before now = TellsNothing answers.WordsRefused before now
 TellsOfRun Tells (answers.PlanRefused number) before now = TellsNothing (answers.PlanRefused number) before now
 TellsOfRun Tells (answers.SourceRefused r) before now = TellsNothing (answers.SourceRefused r) before now
-TellsOfRun Tells answer before now = Tells answer before now
+TellsOfRun Tells (answers.ListingRefused r) before now = TellsNothing (answers.ListingRefused r) before now
+TellsOfRun Tells (answers.Conflicting c) before now = TellsNothing (answers.Conflicting c) before now
+TellsOfRun Tells (answers.Ended arrays) before now = Tells (answers.Ended arrays) before now
+TellsOfRun Tells (answers.Trapped t line) before now = Tells (answers.Trapped t line) before now
+TellsOfRun Tells (answers.EndedWith arrays tally) before now = Tells (answers.EndedWith arrays tally) before now
+TellsOfRun Tells (answers.TrappedWith t line tally) before now = Tells (answers.TrappedWith t line tally) before now
+TellsOfRun Tells (answers.Unfinished acts) before now = Tells (answers.Unfinished acts) before now
+TellsOfRun Tells (answers.NotWithin turns) before now = Tells (answers.NotWithin turns) before now
+TellsOfRun Tells (answers.OutOfTurns processor) before now = Tells (answers.OutOfTurns processor) before now
+TellsOfRun Tells (answers.OutOfRoom place) before now = Tells (answers.OutOfRoom place) before now
+TellsOfRun Tells (answers.Broken place) before now = Tells (answers.Broken place) before now
+TellsOfRun Tells (answers.Listed listing) before now = Tells (answers.Listed listing) before now
+TellsOfRun Tells answers.Accepted before now = Tells answers.Accepted before now
 
 -- an answer that may come was delivered, also where a port failed at its text; and watchers were told what belongs to it
 pub record Answers (may : Answer → Type 0) (Tells : Answer → ToldLists → ToldLists → Type 0) (o : Outside) (status : Status) : Type 0 where

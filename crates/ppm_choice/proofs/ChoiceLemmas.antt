@@ -11,11 +11,11 @@ use Rattle.ppm_step.specs.declared.turn.Next.{Next}
 use Rattle.ppm_step.specs.declared.turn.Next.TheVariants.{Work, Look, Seek, Done}
 use Rattle.ppm_step.specs.declared.turn.Why.TheVariants.{Turns}
 use Rattle.ppm_step.specs.Standings.{Standing}
-use Rattle.ppm_step.specs.State.{next_of, seeks_holder}
+use Rattle.ppm_step.specs.State.{next_of, seeks_holder, is_work_next}
 use Rattle.ppm_choice.specs.declared.choosing.Choice.TheVariants.{Do, Draw, Leave}
 use Rattle.ppm_choice.specs.declared.limits.Limits.{Limits}
 use Rattle.ppm_choice.specs.declared.pace.Pace.{Pace}
-use Rattle.ppm_choice.specs.Obeying.{Past, is_work, fault_of, faulted, next_victim, next_step, next_unless_faulted, next_act, Rests}
+use Rattle.ppm_choice.specs.Obeying.{Past, fault_of, faulted, next_victim, next_step, next_unless_faulted, next_act, Rests}
 use Rattle.ppm_choice.specs.Paces.{IsPace, IsChoice, is_seek, unfaulted, by_fault, chosen}
 
 -- three tests
@@ -62,7 +62,7 @@ module _ (plan : Planned) (limits : Limits) (past : Past) (stood : Standing) (pa
   c = pace.processor
 
   -- where no fault is met
-  step_is : (w d : Bool) → w ≡ (is_work (next_of stood) && nat_le limits.turns past.work) → d ≡ seeks_holder stood
+  step_is : (w d : Bool) → w ≡ (is_work_next (next_of stood) && nat_le limits.turns past.work) → d ≡ seeks_holder stood
       → next_act plan limits c past stood ≡ next_unless_faulted plan limits c past stood
       → ¬ Rests plan limits c past stood
       → IsChoice plan limits c past stood (if w then Do (Quit Turns) else (if d then Draw else Do (Step 0)))
@@ -85,8 +85,8 @@ module _ (plan : Planned) (limits : Limits) (past : Past) (stood : Standing) (pa
   unfaulted_is : next_act plan limits c past stood ≡ next_unless_faulted plan limits c past stood
       → ¬ Rests plan limits c past stood → IsChoice plan limits c past stood (unfaulted limits pace)
   unfaulted_is en stays =
-      step_is (is_work pace.next && nat_le limits.turns pace.work) pace.due
-      (ap (λ n. is_work n && nat_le limits.turns pace.work) p.next ∙ ap (λ n. is_work (next_of stood) && nat_le limits.turns n) p.work)
+      step_is (is_work_next pace.next && nat_le limits.turns pace.work) pace.due
+      (ap (λ n. is_work_next n && nat_le limits.turns pace.work) p.next ∙ ap (λ n. is_work_next (next_of stood) && nat_le limits.turns n) p.work)
       p.due en stays
 
   -- a fault comes first

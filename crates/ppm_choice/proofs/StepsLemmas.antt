@@ -8,10 +8,10 @@ use Rattle.ppm_plan.specs.Schedules.{Planned}
 use Rattle.ppm_step.specs.declared.turn.Act.TheVariants.{Step, Quit}
 use Rattle.ppm_step.specs.declared.turn.Why.TheVariants.{Turns}
 use Rattle.ppm_step.specs.Standings.{Standing}
-use Rattle.ppm_step.specs.State.{next_of, seeks_holder}
+use Rattle.ppm_step.specs.State.{next_of, seeks_holder, is_work_next}
 use Rattle.ppm_choice.specs.declared.limits.Limits.{Limits}
 use Rattle.ppm_choice.specs.declared.pace.Pace.{Pace}
-use Rattle.ppm_choice.specs.Obeying.{Past, is_work, fault_of, faulted, next_victim, next_step, next_unless_faulted, next_act}
+use Rattle.ppm_choice.specs.Obeying.{Past, fault_of, faulted, next_victim, next_step, next_unless_faulted, next_act}
 use Rattle.ppm_choice.specs.Paces.{IsPace, AreClear, at_most}
 
 module _ (items : List PlanItem) (processor : ℕ) where
@@ -75,9 +75,9 @@ pub next_is_step : (plan : Planned) (limits : Limits) (processor : ℕ) (past : 
     → next_act plan limits processor past stood ≡ Step 0
 next_is_step plan limits processor past stood none left no_victim =
     ap (λ fault. faulted fault (next_unless_faulted plan limits processor past stood)) none
-    ∙ ap (λ b. if is_work (next_of stood) && b then Quit Turns else next_step plan limits processor past stood)
+    ∙ ap (λ b. if is_work_next (next_of stood) && b then Quit Turns else next_step plan limits processor past stood)
     (lt-leb limits.turns past.work left)
-    ∙ goes_on (is_work (next_of stood))
+    ∙ goes_on (is_work_next (next_of stood))
     ∙ ap (λ b. Step (if b then next_victim plan limits processor past else 0)) no_victim
   where
     goes_on : (b : Bool) → (if b && false then Quit Turns else next_step plan limits processor past stood)

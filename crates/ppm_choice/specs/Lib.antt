@@ -2,4 +2,9 @@ pub mod Deeds
 pub mod Obeying
 pub mod Paces
 pub mod Tells
+pub mod Drawn
+pub mod Finishes
 pub mod Laws
+pub mod Course
+pub mod Schedules
+pub mod ScheduleLaws

@@ -4,7 +4,6 @@ use Rattle.std.specs.List.{All}
 use Rattle.ppm_cells.specs.declared.shape.Shape.{Shape}
 use Rattle.ppm_code.specs.declared.code.CodeParts.{CodeParts}
 use Rattle.ppm_plan.specs.declared.fault.Fault.{Fault}
-use Rattle.ppm_plan.specs.declared.fault.Fault.TheVariants as faults
 use Rattle.ppm_plan.specs.declared.plan_item.PlanItem.{PlanItem}
 use Rattle.ppm_plan.specs.Draws.{victims_of}
 use Rattle.ppm_plan.specs.Faults.{fault_at}
@@ -12,7 +11,7 @@ use Rattle.ppm_plan.specs.Forms.{plan_form}
 use Rattle.ppm_plan.specs.Refusals.{IsKeeper, is_killed}
 use Rattle.ppm_plan.specs.Schedules.{Planned}
 use Rattle.ppm_step.specs.declared.turn.Act.{Act}
-use Rattle.ppm_step.specs.declared.turn.Act.TheVariants.{Step, Soft, Hard, Quit}
+use Rattle.ppm_step.specs.declared.turn.Act.TheVariants.{Step, Quit}
 use Rattle.ppm_step.specs.declared.turn.Next.{Next}
 use Rattle.ppm_step.specs.declared.turn.Next.TheVariants.{Work, Seek}
 use Rattle.ppm_step.specs.declared.turn.Turn.{Turn}
@@ -23,7 +22,7 @@ use Rattle.ppm_step.specs.State.{State, stand_of, after, next_of, seeks_holder, 
 use Rattle.ppm_words.specs.declared.idle.Idle.{Idle}
 use Rattle.ppm_words.specs.declared.idle.Idle.TheVariants.{Leave, Park}
 use Rattle.ppm_choice.specs.declared.limits.Limits.{Limits}
-use Rattle.ppm_choice.specs.Deeds.{Deed, deeds_of}
+use Rattle.ppm_choice.specs.Deeds.{Deed, deeds_of, act_of_fault}
 pub use Rattle.ppm_step.specs.State.{is_step}
 
 -- what a processor has done so far: how many acts, how many of them were work turns, how many looks since the last of these, and how
@@ -38,9 +37,6 @@ abbrev pub nothing_done : Past
 nothing_done = record { acts = 0; work = 0; looks = 0; drawn = 0 }
 
 -- a work turn is a step of work; each other act is a look
-abbrev pub is_work : Next → Bool
-is_work next = is_work_next next
-
 abbrev pub is_work_deed : Deed → Bool
 is_work_deed deed = is_work_turn deed.act deed.stood
 
@@ -85,8 +81,7 @@ fault_of items processor act = if nat_lt act (2 ^ 32) then fault_at items proces
 -- a fault comes first, if there is one
 abbrev pub faulted : Option Fault → Act → Act
 faulted None act = act
-faulted (Some faults.Soft) act = Soft
-faulted (Some faults.Hard) act = Hard
+faulted (Some fault) act = act_of_fault fault
 
 module _ (plan : Planned) (limits : Limits) (processor : ℕ) where
   -- its next victim
@@ -99,7 +94,7 @@ module _ (plan : Planned) (limits : Limits) (processor : ℕ) where
   next_step past stood = Step (if seeks_holder stood then next_victim past else 0)
 
   abbrev pub next_unless_faulted : Past → Standing → Act
-  next_unless_faulted past stood = if is_work (next_of stood) && nat_le limits.turns past.work then Quit Turns else next_step past stood
+  next_unless_faulted past stood = if is_work_next (next_of stood) && nat_le limits.turns past.work then Quit Turns else next_step past stood
 
   abbrev pub next_act : Past → Standing → Act
   next_act past stood = faulted (fault_of plan.items processor past.acts) (next_unless_faulted past stood)

@@ -1,19 +1,19 @@
 -- The pace of a processor as its past says it, and what is chosen by it.
 use Rattle.std.specs.Prelude.{◌≡◌, ◌↔◌, ◌<◌, ℕ, ◌+◌, ◌^◌, ◌&&◌, not, nat_le, min, if◌then◌else◌, IsTrue, true, false, Option, Some, None}
 use Rattle.ppm_plan.specs.declared.fault.Fault.{Fault}
-use Rattle.ppm_plan.specs.declared.fault.Fault.TheVariants as faults
 use Rattle.ppm_plan.specs.Forms.{plan_form}
 use Rattle.ppm_plan.specs.Refusals.{IsKeeper}
 use Rattle.ppm_plan.specs.Schedules.{Planned}
-use Rattle.ppm_step.specs.declared.turn.Act.TheVariants.{Step, Soft, Hard, Quit}
+use Rattle.ppm_step.specs.declared.turn.Act.TheVariants.{Step, Quit}
 use Rattle.ppm_step.specs.declared.turn.Why.TheVariants.{Turns}
 use Rattle.ppm_step.specs.Standings.{Standing}
-use Rattle.ppm_step.specs.State.{next_of, seeks_holder}
+use Rattle.ppm_step.specs.State.{next_of, seeks_holder, is_work_next}
 use Rattle.ppm_choice.specs.declared.choosing.Choice.{Choice}
 use Rattle.ppm_choice.specs.declared.choosing.Choice.TheVariants.{Do, Draw, Leave}
 use Rattle.ppm_choice.specs.declared.limits.Limits.{Limits}
 use Rattle.ppm_choice.specs.declared.pace.Pace.{Pace}
-use Rattle.ppm_choice.specs.Obeying.{Past, is_work, is_step, fault_of, next_victim, next_act, Rests}
+use Rattle.ppm_choice.specs.Deeds.{act_of_fault}
+use Rattle.ppm_choice.specs.Obeying.{Past, is_step, fault_of, next_victim, next_act, Rests}
 pub use Rattle.ppm_choice.specs.Obeying.{is_seek}
 
 -- the pace of a processor with such a past that stands there
@@ -39,12 +39,11 @@ IsChoice plan limits processor past stood (Do act) =
 
 -- the same by a pace
 abbrev pub unfaulted : Limits → Pace → Choice
-unfaulted limits pace = if is_work pace.next && nat_le limits.turns pace.work then Do (Quit Turns) else (if pace.due then Draw else Do (Step 0))
+unfaulted limits pace = if is_work_next pace.next && nat_le limits.turns pace.work then Do (Quit Turns) else (if pace.due then Draw else Do (Step 0))
 
 abbrev pub by_fault : Option Fault → Choice → Choice
 by_fault None choice = choice
-by_fault (Some faults.Soft) choice = Do Soft
-by_fault (Some faults.Hard) choice = Do Hard
+by_fault (Some fault) choice = Do (act_of_fault fault)
 
 abbrev pub chosen : Planned → Limits → Pace → Choice
 chosen plan limits pace =

@@ -1,6 +1,7 @@
 //! The choice of an act.
 ghost use Rattle.std.specs.Prelude.{◌≡◌};
 ghost use Rattle.ppm_step.specs.Standings.{Standing};
+ghost use Rattle.ppm_choice.specs.Deeds.{act_of_fault};
 ghost use Rattle.ppm_choice.specs.Obeying.{Past, fault_of};
 ghost use Rattle.ppm_choice.specs.Paces.{IsPace, IsChoice, chosen, unfaulted};
 
@@ -18,6 +19,16 @@ pub enum Choice {
     Draw,
     /// It makes none: it leaves the run, or parks where the limits say so.
     Leave,
+}
+
+/// The act that a fault is.
+pub fn act_of_fault(fault: Fault) -> Act
+    ensures { result ≡ act_of_fault fault }
+{
+    match fault {
+        Fault::Soft => Act::Soft,
+        Fault::Hard => Act::Hard,
+    }
 }
 
 /// The fault of an act, by its number.
@@ -51,8 +62,7 @@ fn chosen(pace: &Pace, plan: &Plan, limits: Limits) -> Choice
         return Choice::Leave;
     }
     match fault_in(plan, pace.processor, pace.acts) {
-        Some(Fault::Soft) => Choice::Do(Act::Soft),
-        Some(Fault::Hard) => Choice::Do(Act::Hard),
+        Some(fault) => Choice::Do(act_of_fault(fault)),
         None => unfaulted(pace, limits),
     }
 }

@@ -13,7 +13,7 @@ use Rattle.ppm_cli.specs.CommandLine.{Form, Number, Choice, AnyText, OptionRule,
 use Rattle.ppm_cli.specs.CommandLine.{one_processor, processors, turns, room, slots, looks, seed, faults, schedule, takeover, idle}
 use Rattle.ppm_cli.specs.declared.command.Command.{Command}
 use Rattle.ppm_cli.specs.declared.command.Command.TheVariants as commands
-use Rattle.ppm_cli.specs.declared.command.SerialOptions.{SerialOptions}
+use Rattle.ppm_cli.specs.declared.serial.SerialOptions.{SerialOptions}
 use Rattle.ppm_cli.specs.declared.replay.ReplayOptions.{ReplayOptions}
 use Rattle.ppm_cli.specs.declared.run.RunOptions.{RunOptions}
 

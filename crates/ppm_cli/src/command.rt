@@ -1,12 +1,11 @@
 //! What the words of the command line ask for.
 ghost use Rattle.std.specs.Prelude.{◌≡◌, IfOk, IfSome};
 ghost use Rattle.clap.specs.Words.{found_of, rows_of, subcommand_rows_of};
-ghost use Rattle.ppm_cli.specs.Words.{IsInRange, command_in, command_named as named_by, serial_in};
+ghost use Rattle.ppm_cli.specs.Words.{IsInRange, command_in, command_named as named_by};
 
-use crate::getters::number_of;
-use crate::replay::{ReplayOptions, replay_command};
-use crate::run::{RunOptions, run_command};
-use crate::table::TURNS;
+use crate::replay::{ReplayOptions, replay_from};
+use crate::run::{RunOptions, run_from};
+use crate::serial::{SerialOptions, serial_from};
 use clap::ArgMatches;
 use ppm_words::Items;
 use std::alloc::{AllocError, Global};
@@ -24,13 +23,6 @@ pub enum Command {
     Check,
     /// To replay the source that is read, by a schedule, of which these are the bytes.
     Replay(ReplayOptions, Items<u8>),
-}
-
-/// The options of `serial`.
-#[derive(Clone, Copy, Debug, PartialEq, Eq)]
-pub struct SerialOptions {
-    /// How many turns the run may spend: from 1 to 268435456, and 16777216 by default.
-    pub turns: u64,
 }
 
 /// The command of the subcommand that was met, with its options.
@@ -57,22 +49,11 @@ fn command_named(
     ensures in_range { IfOk result (λ c. IfSome c IsInRange) }
 {
     match name {
-        "run" => run_command(alloc, matches),
-        "serial" => Ok(serial_command(matches)),
+        "run" => run_from(alloc, matches),
+        "serial" => Ok(serial_from(matches)),
         "code" => Ok(Some(Command::Code)),
         "check" => Ok(Some(Command::Check)),
-        "replay" => replay_command(alloc, matches),
+        "replay" => replay_from(alloc, matches),
         _ => Ok(None),
     }
-}
-
-/// The command `serial` with the options in its matches.
-fn serial_command(matches: &ArgMatches<'_>) -> Option<Command>
-    ensures value { result ≡ serial_in (rows_of (found_of matches.now)) }
-    ensures in_range { IfSome result IsInRange }
-{
-    let turns = number_of(matches, TURNS)?;
-    Some(Command::Serial(SerialOptions {
-        turns: u64::from(turns),
-    }))
 }

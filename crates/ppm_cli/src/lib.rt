@@ -14,14 +14,16 @@ mod laws;
 mod line;
 mod replay;
 mod run;
+mod serial;
 mod table;
 mod takeover;
 
-pub use command::{Command, SerialOptions};
+pub use command::Command;
 pub use laws::any_rule_may_be_admitted;
 pub use line::read_words;
 pub use replay::ReplayOptions;
 pub use run::RunOptions;
+pub use serial::SerialOptions;
 pub use table::{COMMANDS, ChoiceOption, CommandRow, NumberOption, OptionRow, TextOption};
 
 #[cfg(test)]

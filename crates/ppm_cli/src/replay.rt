@@ -29,7 +29,7 @@ pub struct ReplayOptions {
 }
 
 /// The command with the options and the schedule in its matches.
-pub(crate) fn replay_command(
+pub(crate) fn replay_from(
     alloc: Global,
     matches: &ArgMatches<'_>,
 ) -> Result<Option<Command>, AllocError>

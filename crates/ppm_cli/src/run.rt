@@ -36,7 +36,7 @@ pub struct RunOptions {
 }
 
 /// The command with the options and the plan in its matches.
-pub(crate) fn run_command(
+pub(crate) fn run_from(
     alloc: Global,
     matches: &ArgMatches<'_>,
 ) -> Result<Option<Command>, AllocError>

@@ -10,20 +10,28 @@ use Rattle.ppm_answers.specs.declared.answer.Answer.TheVariants as answers
 use Rattle.ppm_answers.specs.declared.status.Status.{Status}
 use Rattle.ppm_answers.specs.Statuses.{status_of}
 use Rattle.ppm_answers.specs.Delivery.{IsWritten}
-use Rattle.ppm_answers.specs.Reading.{ReadHas, DeliversAnswer}
+use Rattle.ppm_answers.specs.Reading.{ReadHas, TextMay, DeliversAnswer}
 use Rattle.ppm_answers.proofs.WholeText.{whole}
 use Rattle.ppm_answers.proofs.Judged.{are_causes}
 use Rattle.ppm_answers.proofs.RowsLemmas.{shown}
 use Rattle.ppm_answers.proofs.RowsLemmas as rows_lemmas
-use Rattle.ppm_commands.specs.Code.{CodeHas, CodeReads, HaveOneAnswer, IsFaithful, CodesAreFaithful, CodeMay, HasRead, WritesListing, CodeSays, CodeRows}
+use Rattle.ppm_program.specs.Programs.{HasProgram}
+use Rattle.ppm_tree.specs.Tree.{ProgramTree}
+use Rattle.ppm_commands.specs.Code.{CodeHas, CodeReads, ProgramMay, HaveOneAnswer, IsFaithful, CodesAreFaithful, CodeMay, HasRead, WritesListing, CodeSays, CodeRows}
 
 -- no text has a read fault
 pub no_fault : (text : List ℕ) → ¬ CodeReads text answers.ReadFault
 no_fault text h = h
 
+-- what is said of its program is said of a text
+pub program_reads : (text : List ℕ) (t : ProgramTree) (a : Answer) → HasProgram text t → ProgramMay t a → TextMay CodeReads text a
+program_reads text t (answers.Listed listing) p h = record { lists = record { tree = t; program = p; listed = h.0 }; fits = h.1 }
+program_reads text t answers.NoMemory p h = tt
+program_reads text t a p h = absurd h
+
 -- an answer of a text that was read is one that a text has
 has_of : (text : List ℕ) (a : Answer) → CodeReads text a → CodeHas text a
-has_of text (answers.Listed listing) h = record { tree = h.tree; program = h.program; listed = h.listed }
+has_of text (answers.Listed listing) h = h.lists
 has_of text (answers.SourceRefused r) h = h
 has_of text a h = absurd h
 
@@ -31,14 +39,14 @@ module _ (law : HaveOneAnswer) (faithful : CodesAreFaithful) (o : Ports) where
   -- what is true of a listing that is written
   listing : (l : List ℕ) → HasRead o.source (answers.Listed l) → Gets o.out l → WritesListing o
   listing l h g =
-      let code : IsFaithful h.2.tree = faithful h.0 h.2.tree h.2.program in
+      let code : IsFaithful h.2.lists.tree = faithful h.0 h.2.lists.tree h.2.lists.program in
       record {
         listing = l;
         read = h;
         gets = g;
         accepted = record {
-          code = code_of h.2.tree;
-          listed = record { code = code.rules; fits = h.2.fits; same = h.2.listed };
+          code = code_of h.2.lists.tree;
+          listed = record { code = code.rules; fits = h.2.fits; same = h.2.lists.listed };
           free = code.free;
         };
         faithful = code;

@@ -70,10 +70,19 @@ VerdictOf code answers.Accepted = IsFree code
 VerdictOf code (answers.Conflicting c) = (conflict : Conflict) × IsFirstConflictOf code conflict × (c ≡ conflict_told conflict)
 VerdictOf code _ = ⊥
 
--- a fault of a listing as an answer, and want of memory
+-- a fault of a listing as an answer
+abbrev pub listing_refused : ListingError → Answer
+listing_refused e = answers.ListingRefused (record { number = number_of e; line = line_of e })
+
+-- and want of memory, which is none
 abbrev pub error_answer : ListingError → Answer
 error_answer error.NoMemory = answers.NoMemory
-error_answer e = answers.ListingRefused (record { number = number_of e; line = line_of e })
+error_answer (error.NoSuchForm line) = listing_refused (error.NoSuchForm line)
+error_answer (error.OutOfRange line) = listing_refused (error.OutOfRange line)
+error_answer (error.NotForward line) = listing_refused (error.NotForward line)
+error_answer (error.NoEnd line) = listing_refused (error.NoEnd line)
+error_answer (error.WrongRoom line) = listing_refused (error.WrongRoom line)
+error_answer (error.NotThere line) = listing_refused (error.NotThere line)
 
 -- Two answers of a text are one, and what stands behind more bytes than a listing may have changes none. Each text has one: it is refused
 -- for its first fault, or its code has a first conflict, or it is accepted.

@@ -38,12 +38,10 @@ CodeHas text (answers.Listed listing) = HasListing text listing
 CodeHas text (answers.SourceRefused r) = IsRefusal text r
 CodeHas text _ = ⊥
 
--- the text has a program, this is the listing of its code, and the numbers of this code fit 64 bits
+-- it is so, and the numbers of this code fit 64 bits
 pub record ListsCode (text listing : List ℕ) : Type 0 where
-  pub tree : ProgramTree
-  pub program : HasProgram text tree
-  pub listed : listing ≡ listing_of (code_of tree)
-  pub fits : NumbersFit (code_of tree)
+  pub lists : HasListing text listing
+  pub fits : NumbersFit (code_of lists.tree)
 
 -- the answer of the text that was read: of a code in memory it is known that its numbers fit
 abbrev pub CodeReads : List ℕ → Answer → Type 0
@@ -93,7 +91,7 @@ pub record WritesListing (o : Ports) : Type 0 where
   pub read : HasRead o.source (answers.Listed listing)
   pub gets : Gets o.out listing
   pub accepted : CheckHas listing answers.Accepted
-  pub faithful : IsFaithful read.2.tree
+  pub faithful : IsFaithful read.2.lists.tree
 
 -- the text that was read is refused, and err got exactly the refusal's text
 abbrev pub WritesRefusal : Ports → Type 0

@@ -76,7 +76,12 @@ fn error_answer(error: ListingError) -> Answer
 {
     match error {
         ListingError::NoMemory => Answer::NoMemory,
-        _ => Answer::ListingRefused(ListingRefusal {
+        ListingError::NoSuchForm(_)
+        | ListingError::OutOfRange(_)
+        | ListingError::NotForward(_)
+        | ListingError::NoEnd(_)
+        | ListingError::WrongRoom(_)
+        | ListingError::NotThere(_) => Answer::ListingRefused(ListingRefusal {
             number: error.number(),
             line: error.line(),
         }),

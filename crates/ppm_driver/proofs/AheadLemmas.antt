@@ -8,9 +8,9 @@ use Rattle.ppm_core.specs.Acts.{is_done_at}
 use Rattle.ppm_core.specs.Situation.{Situation, finish_in, turned, run_on}
 use Rattle.ppm_core.specs.Steps.{steady_step, steady_steps, IsSteady, AreSteady}
 use Rattle.ppm_driver.specs.declared.following.Way.{Way}
-use Rattle.ppm_driver.specs.Course.{Due, Listed, InRound, Course, act_of, processor_of, victim_of, loads_of, turn_of, loads_behind}
-use Rattle.ppm_driver.specs.Course.{is_open, is_made, behind_act, behind, turns_in, behind_all, turns_of}
-use Rattle.ppm_driver.specs.Schedules.{round, rounds}
+use Rattle.ppm_choice.specs.Course.{Due, Listed, InRound, Course, act_of, processor_of, victim_of, loads_of, turn_of, loads_behind}
+use Rattle.ppm_choice.specs.Course.{is_open, is_made, behind_act, behind, turns_in, behind_all, turns_of}
+use Rattle.ppm_choice.specs.Schedules.{round, rounds}
 use Rattle.ppm_driver.specs.Following.{course, IsReady, IsStepOf, Does, LeadsTo}
 use Rattle.ppm_driver.proofs.DoesLemmas.{goes_on_by}
 

@@ -1,20 +1,19 @@
 -- Where there is one processor, all obey where it does.
-use Rattle.std.proofs.Common.{◌≡◌, ◌∙◌, ◌<◌, ℕ, zero, suc, List, [], ◌∷◌, ◌++◌, length, if◌then◌else◌, refl, sym, ap, subst, arith}
+use Rattle.std.proofs.Common.{◌≡◌, ◌<◌, ℕ, zero, suc, List, [], ◌∷◌, sym, subst, arith}
 use Rattle.std.specs.List.{All}
-use Rattle.std.proofs.lemmas.Bool.{eq-eqb}
 use Rattle.ppm_cells.specs.declared.shape.Shape.{Shape}
 use Rattle.ppm_code.specs.declared.code.CodeParts.{CodeParts}
 use Rattle.ppm_plan.specs.Schedules.{Planned}
 use Rattle.ppm_step.specs.declared.turn.Turn.{Turn}
-use Rattle.ppm_step.specs.State.{State, stand_of, happens, along, work_of}
+use Rattle.ppm_step.specs.State.{State, stand_of, happens}
 use Rattle.ppm_step.specs.Among.{IsActAmong, IsTurnAmong}
 use Rattle.ppm_core.specs.Situation.{Situation}
 use Rattle.ppm_choice.specs.declared.limits.Limits.{Limits}
 use Rattle.ppm_choice.specs.Deeds.{AreOf}
 use Rattle.ppm_choice.specs.Obeying.{Past, ObeysIn, ObeyAll, nothing_done}
 use Rattle.ppm_choice.proofs.AloneLemmas.{past_first, ObeysFrom, first_obeys}
-use Rattle.ppm_driver.specs.Obedience.{ObeysTo, RunsTo, work_by, work_made}
-use Rattle.ppm_driver.proofs.DrawnLemmas.{is_among}
+use Rattle.ppm_driver.specs.Obedience.{ObeysTo, RunsTo}
+use Rattle.ppm_choice.proofs.DrawnLemmas.{is_among}
 
 first_of_one : (c p : ℕ) → c < p → p ≡ 1 → c ≡ 0
 first_of_one c p less one = omega (arith, less, one)
@@ -65,18 +64,3 @@ runs_to plan limits m m' same o one = record {
   obey = all_of plan limits m.shape m.code m.state o.turns one same o.own o.obeys;
   makes = o.makes;
 }
-
--- the work turns of a processor that acts alone are all
-work_one : (s : Shape) (code : CodeParts) (c : ℕ) (state : State) (turn : Turn) → turn.processor ≡ c → work_by c state turn ≡ work_of state turn
-work_one s code c state turn e = ap (λ b. if b then work_of state turn else []) (eq-eqb turn.processor c e)
-
-all_work : (s : Shape) (code : CodeParts) (c : ℕ) (state : State) (turns : List Turn) → AreOf c turns
-    → along s code (work_by c) state turns ≡ along s code work_of state turns
-all_work s code c state [] alone = refl
-all_work s code c state (turn ∷ turns) alone =
-    ap (λ l. l ++ along s code (work_by c) (happens s code state turn) turns) (work_one s code c state turn alone.0)
-    ∙ ap (λ l. work_of state turn ++ l) (all_work s code c (happens s code state turn) turns alone.1)
-
-pub own_work : (s : Shape) (code : CodeParts) (c : ℕ) (state : State) (turns : List Turn) → AreOf c turns
-    → work_made s code c state turns ≡ length (along s code work_of state turns)
-own_work s code c state turns alone = ap length (all_work s code c state turns alone)

@@ -2,8 +2,6 @@
 use Rattle.std.proofs.Common.{◌≡◌, ◌∙◌, ◌≤◌, ◌+◌, ◌&&◌, ℕ, Bool, true, false, if◌then◌else◌, Option, Some, None, List, [], ◌∷◌, arith, refl, sym, ap, subst, inl, inr}
 use Rattle.ppm_cells.specs.declared.shape.Shape.{Shape}
 use Rattle.ppm_code.specs.declared.code.CodeParts.{CodeParts}
-use Rattle.ppm_cells.specs.declared.restart.RestartKind.{RestartKind}
-use Rattle.ppm_cells.specs.declared.restart.RestartKind.TheVariants as kinds
 use Rattle.ppm_plan.specs.Draws.{Drawing, victims_of, next_victims}
 use Rattle.ppm_plan.specs.Schedules.{Planned}
 use Rattle.ppm_step.specs.declared.turn.Act.{Act}
@@ -13,49 +11,20 @@ use Rattle.ppm_step.specs.declared.turn.Next.TheVariants.{Work, Look, Seek, Done
 use Rattle.ppm_step.specs.declared.turn.Told.{Told}
 use Rattle.ppm_step.specs.declared.turn.Turn.{Turn}
 use Rattle.ppm_step.specs.Standings.{Standing, IsLost, IsPlaced, IsAt, IsWithin, IsRunning, IsBroken, IsDone}
-use Rattle.ppm_step.specs.State.{State, stand_of, happens, after, next_of, seeks_holder, before_kind, is_work as is_work_kind}
+use Rattle.ppm_step.specs.State.{State, stand_of, happens, after, next_of, seeks_holder}
 use Rattle.ppm_step.specs.Told.{is_work_next, is_work_turn, told_of}
 use Rattle.ppm_core.specs.Situation.{Situation, turned, run_on}
 use Rattle.ppm_core.proofs.RunLemmas.{run_none, run_step}
 use Rattle.ppm_choice.specs.declared.limits.Limits.{Limits}
 use Rattle.ppm_choice.specs.declared.pace.Pace.{Pace}
 use Rattle.ppm_choice.specs.Deeds.{Deed}
-use Rattle.ppm_choice.specs.Obeying.{Past, nothing_done, behind, is_work, is_work_deed, next_act, awake, Rests, Stops}
+use Rattle.ppm_choice.specs.Obeying.{Past, nothing_done, behind, is_work_deed, next_act, awake, Rests, Stops}
 use Rattle.ppm_choice.specs.Paces.{IsPace}
 use Rattle.ppm_choice.proofs.AloneLemmas.{ObeysFrom, deed_of, begins_with}
 use Rattle.ppm_choice.proofs.ParkLemmas.{stays_awake}
 use Rattle.ppm_driver.specs.Obedience.{ObeysTo}
-use Rattle.ppm_driver.specs.Going.{IsAt as IsAtPast, HasDrawn, IsNext, Leads, is_over}
-
--- whether a turn is work
-next_works : (s : Shape) (code : CodeParts) (next : Next) → is_work_next s code next ≡ is_work next
-next_works s code Work = refl
-next_works s code Look = refl
-next_works s code Seek = refl
-next_works s code Done = refl
-
-pub work_is : (s : Shape) (code : CodeParts) (act : Act) (stood : Standing)
-    → is_work_turn s code act stood ≡ is_work_deed (record { stood = stood; act = act })
-work_is s code (Step victim) stood = next_works s code (next_of stood)
-work_is s code Soft stood = refl
-work_is s code Hard stood = refl
-work_is s code (Quit why) stood = refl
-
--- a processor whose coming step is none is done
-kind_goes : (kind : RestartKind) → before_kind kind ≡ Done → ⊥
-kind_goes kinds.Seek e = cc
-kind_goes kind e = cc
-
-step_goes : (work : Bool) → (if work then Work else Look) ≡ Done → ⊥
-step_goes true e = cc
-step_goes false e = cc
-
-pub done_is : (stood : Standing) → next_of stood ≡ Done → stood ≡ IsDone
-done_is IsDone e = refl
-done_is (IsAt place None) e = cc
-done_is (IsAt place (Some restart)) e = absurd (kind_goes restart.kind e)
-done_is (IsWithin seat row) e = absurd (step_goes (is_work_kind seat.restart.kind) e)
-done_is stood e = cc
+use Rattle.ppm_choice.specs.Drawn.{HasDrawn, IsNext, is_over}
+use Rattle.ppm_driver.specs.Going.{IsAt as IsAtPast, Leads}
 
 module _ (plan : Planned) (limits : Limits) where
   -- the turn that an act of processor 0 is
@@ -148,7 +117,7 @@ module _ (plan : Planned) (limits : Limits) where
       let stood : Standing = stand_of m.state 0 in
       let act_is : act ≡ next_act plan limits 0 l.past stood = is.1 ∙ ap (λ c. next_act plan limits c l.past stood) l.at.number in
       let works : told.work ≡ is_work_deed (record { stood = stood; act = act }) =
-      ap (λ (t : Told). t.work) is_told ∙ work_is m.shape m.code act stood in
+      ap (λ (t : Told). t.work) is_told in
       let comes : told.next ≡ next_of (stand_of n.state 0) =
       ap (λ (t : Told). t.next) is_told ∙ ap (λ (k : Situation). next_of (stand_of k.state 0)) (sym made) in
       let pace_is =

@@ -3,12 +3,14 @@ use Rattle.std.proofs.Common.{subst, replicate, ◌≡◌, refl, ℕ, List, [], 
 use Rattle.ppm_core.specs.Situation.{Situation, run_on}
 use Rattle.ppm_core.proofs.RunLemmas.{run_none}
 use Rattle.ppm_driver.specs.declared.following.Way.{Way}
-use Rattle.ppm_driver.specs.Course.{Due, behind_all, turns_of}
+use Rattle.ppm_choice.specs.Course.{Due, behind_all, turns_of}
 use Rattle.ppm_plan.specs.declared.schedule_item.ScheduleItem.{ScheduleItem}
-use Rattle.ppm_driver.specs.Schedules.{listed, rounds, followed}
+use Rattle.ppm_choice.specs.Schedules.{listed, rounds}
+use Rattle.ppm_driver.specs.Followed.{followed}
 use Rattle.ppm_driver.specs.Following.{course, Does, LeadsTo}
-use Rattle.ppm_driver.proofs.CourseLemmas.{behind_both, turns_of_both, run_both}
-use Rattle.ppm_driver.proofs.IdleLemmas.{Idle}
+use Rattle.ppm_choice.proofs.CourseLemmas.{behind_both, turns_of_both}
+use Rattle.ppm_choice.proofs.IdleLemmas.{Idle}
+use Rattle.ppm_driver.proofs.BothLemmas.{run_both}
 
 pub idles : {m : Situation} {way : Way} {dues : List Due} → Idle m.shape m.code (course m way) dues → Does dues m way m way
 idles {m} idle = record { machine = run_none m ∙ ap (run_on m) (sym idle.turns); course_is = sym idle.stays }

@@ -1,8 +1,6 @@
 -- What the finish word says behind a schedule's run of a program's machine.
-use Rattle.std.proofs.Common.{◌≡◌, ◌≢◌, ◌<◌, ℕ, List, sym, ap, ◌∙◌, subst}
-use Rattle.ppm_cells.specs.Memory.{AreWordsOf}
+use Rattle.std.proofs.Common.{◌≡◌, ◌≢◌, ◌<◌, ℕ, List, sym, ap, ◌∙◌, subst, arith}
 use Rattle.ppm_cells.specs.declared.cell.Cell.TheVariants.{FinishWord}
-use Rattle.ppm_cells.specs.declared.shape.Shape.{Shape}
 use Rattle.ppm_code.specs.Code.{IsCode}
 use Rattle.ppm_core.specs.Situation.{Situation, finish_in}
 use Rattle.ppm_plan.specs.declared.schedule_item.ScheduleItem.{ScheduleItem}
@@ -13,8 +11,9 @@ use Rattle.ppm_words.specs.declared.named_array.NamedArray.{NamedArray}
 use Rattle.ppm_code.specs.declared.code.CodeParts.{CodeParts}
 use Rattle.ppm_driver.specs.declared.loading.Sizes.{Sizes}
 use Rattle.ppm_driver.specs.Loading.{Opens}
-use Rattle.ppm_driver.specs.Schedules.{followed}
-use Rattle.ppm_driver.proofs.KeeperLemmas.{none_quits, unfinished_is_exact}
+use Rattle.ppm_driver.specs.Followed.{followed}
+use Rattle.ppm_choice.proofs.UnfinishedLemmas.{none_quits, unfinished_is_exact}
+use Rattle.ppm_driver.proofs.EndLemmas.{words_opened, keeper_opened}
 use Rattle.ppm_driver.proofs.SayLemmas.{unset_is}
 
 module _ (sizes : Sizes) (code : CodeParts) (arrays : List NamedArray) (keeper : ℕ) where
@@ -30,16 +29,16 @@ module _ (sizes : Sizes) (code : CodeParts) (arrays : List NamedArray) (keeper :
         subst (λ (n : ℕ). IsProposedWord n (finish_in (followed start items turns))) b.sized.processors
         (subst (λ (m : Situation). finish_in (followed m items turns) ≢ 0 → IsProposedWord b.shape.processors (finish_in (followed m items turns)))
         (sym b.loads)
-        (none_quits b.shape code is b.image.lengths b.image.words items turns (b.opens.opened FinishWord tt ∙ unset_is)) some)
+        (none_quits b.shape code is b.image.words items turns (b.opens.opened FinishWord tt ∙ unset_is)) some)
 
     -- where it says nothing, exactly as many acts were made as may be
     pub unfinished_exactly : (start : Situation) → Opens sizes code arrays keeper start → IsCode code → IsKeeper schedule_form items keeper
         → finish_in (followed start items turns) ≡ 0 → (followed start items turns).turns ≡ turns
     unfinished_exactly start b is spared none =
-        let words : AreWordsOf b.shape b.image.words = subst (λ (s : Shape). AreWordsOf s b.image.words) b.opens.shape_is b.image.sized.words_are in
-        let there : keeper < b.shape.processors =
-        subst (λ (k : ℕ). k < b.shape.processors) b.opens.keeper_is
-        (subst (λ (s : Shape). b.image.keeper < s.processors) b.opens.shape_is b.image.sized.keeper_below) in
         subst (λ (m : Situation). (followed m items turns).turns ≡ turns) (sym b.loads)
-        (unfinished_is_exact b.shape code is b.image.lengths b.image.words items keeper turns words spared there
-        (subst (λ (m : Situation). finish_in (followed m items turns) ≡ 0) b.loads none))
+        (omega (
+          arith,
+          unfinished_is_exact b.shape code is b.image.words items keeper turns (words_opened sizes code arrays keeper start b) spared
+              (keeper_opened sizes code arrays keeper start b)
+              (subst (λ (m : Situation). finish_in (followed m items turns) ≡ 0) b.loads none),
+        ))

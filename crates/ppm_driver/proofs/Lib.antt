@@ -1,11 +1,7 @@
--- How runs and commands are shown. What a schedule says is one list of acts that are due, listed or
--- in a round, with one recursion over it that skips what isn't made. `follow` is loops over it,
--- each with the invariant `LeadsTo all rest`: whatever is done behind, of `rest` from here, is all
--- of `all` from the beginning. So no list of turns is carried: a step is `goes_on`, an early exit
--- `ends` with "of these nothing is made".
--- Laws of that run: a test that a definition makes goes once into a sum of two records (`Makes`,
--- `Skips`), and no later proof opens the `if`. A law of each turn, said as "run = first ++ (turn,
--- more)", needs no predicate along the run (`splits`).
+-- How runs and commands are shown. What a schedule says is one list of acts that are due
+-- (`ppm_choice`). `follow` is loops over it, each with the invariant `LeadsTo all rest`: whatever is
+-- done behind, of `rest` from here, is all of `all` from the beginning. So no list of turns is
+-- carried: a step is `goes_on`, an early exit `ends` with "of these nothing is made".
 -- `obey` may not end: it loops over `rt.forever()` with the invariant "whatever obeys from here on
 -- obeys from the beginning on" (`Leads`), and one function makes an act and has the whole contract.
 -- A burst of steps is as one act.
@@ -13,21 +9,13 @@
 -- answer that no run gives is left out of the kinds of answers, and all rows above close by their
 -- last case.
 
-pub mod CourseLemmas
-pub mod IdleLemmas
+pub mod BothLemmas
 pub mod DoesLemmas
 pub mod AheadLemmas
 pub mod ReadyLemmas
 pub mod ListLemmas
-pub mod MadeLemmas
-pub mod RoundLemmas
-pub mod SkipLemmas
-pub mod DueLemmas
-pub mod LoadLemmas
-pub mod LeavingLemmas
-pub mod KeeperLemmas
 pub mod SayLemmas
-pub mod RoomLemmas
+pub mod EndLemmas
 pub mod PlannedLemmas
 pub mod ProgramLemmas
 pub mod AllLemmas
@@ -36,11 +24,8 @@ pub mod ExactLemmas
 pub mod ReplayLemmas
 pub mod OneReplay
 pub mod OfReplay
-pub mod DrawnLemmas
 pub mod AloneLemmas
 pub mod StepsLemmas
 pub mod RunLemmas
 pub mod OneRun
 pub mod OfRun
-pub mod FinishLemmas
-pub mod SpentLemmas

@@ -1,26 +1,15 @@
 -- A list of items, one by one.
-use Rattle.std.proofs.Common.{arith, subst, sym, ◌-◌, ◌<◌, ◌≤◌, length, take, drop, get_or, ◌≡◌, refl, ℕ, zero, suc, List, [], ◌∷◌, ◌++◌, ap, ◌∙◌, map, replicate}
-use Rattle.std.proofs.lemmas.List.{map-append}
+use Rattle.std.proofs.Common.{arith, subst, sym, ◌-◌, ◌<◌, ◌≤◌, length, take, drop, get_or, ◌≡◌, refl, suc, List, [], ◌∷◌, ◌++◌, ap, ◌∙◌, replicate}
 use Rattle.std.proofs.Common.{take_all, le_refl}
 use Rattle.std.specs.List.{All}
 use Rattle.ppm_plan.specs.declared.schedule_item.ScheduleItem.{ScheduleItem}
-use Rattle.ppm_plan.specs.Faults.{acts_of}
 use Rattle.ppm_core.specs.Situation.{Situation}
 use Rattle.ppm_driver.specs.declared.following.Way.{Way}
-use Rattle.ppm_driver.specs.Course.{Listed}
-use Rattle.ppm_driver.specs.Schedules.{listed}
+use Rattle.ppm_choice.specs.Course.{Listed}
+use Rattle.ppm_choice.specs.Schedules.{listed}
 use Rattle.ppm_driver.specs.Following.{Does, LeadsTo}
+use Rattle.ppm_choice.proofs.DueLemmas.{listed_front}
 use Rattle.ppm_driver.proofs.DoesLemmas.{goes_on_by, ends_by}
-
-map_replicate : {A B : Type 0} (f : A → B) (n : ℕ) (a : A) → map f (replicate n a) ≡ replicate n (f a)
-map_replicate f zero a = refl
-map_replicate f (suc n) a = ap (λ r. f a ∷ r) (map_replicate f n a)
-
-pub listed_front : (item : ScheduleItem) (items : List ScheduleItem)
-    → listed (item ∷ items) ≡ replicate item.times (Listed item.act) ++ listed items
-listed_front item items =
-    map-append Listed (replicate item.times item.act) (acts_of items)
-    ∙ ap (λ r. r ++ listed items) (map_replicate Listed item.times item.act)
 
 -- what is behind the first of some items
 rest_is : (item : ScheduleItem) (items : List ScheduleItem) → take (length (item ∷ items) - 1) items ≡ items

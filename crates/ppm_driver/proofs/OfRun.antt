@@ -10,10 +10,9 @@ use Rattle.ppm_answers.specs.declared.answer.Answer.TheVariants as answers
 use Rattle.ppm_answers.specs.declared.status.Status.{Status}
 use Rattle.ppm_answers.specs.declared.status.Status.TheVariants as statuses
 use Rattle.ppm_answers.specs.Delivery.{IsWritten}
-use Rattle.ppm_answers.specs.Reading.{TellsNothing, Answers}
+use Rattle.ppm_answers.specs.Reading.{DeliversAnswer}
 use Rattle.ppm_answers.specs.Rows.{PlannedRows, ReadOrRefused, IsShown}
 use Rattle.ppm_answers.specs.Statuses.{status_of}
-use Rattle.ppm_answers.proofs.Delivered.{of_answers}
 use Rattle.ppm_answers.proofs.RowsLemmas.{SaysOfPorts}
 use Rattle.ppm_answers.proofs.RowsLemmas as rows_lemmas
 use Rattle.ppm_cli.specs.declared.run.RunOptions.{RunOptions}
@@ -24,17 +23,17 @@ use Rattle.ppm_driver.specs.RunRows.{Has, RunSays, RunRows}
 use Rattle.ppm_driver.proofs.PlannedLemmas as planned
 use Rattle.ppm_driver.proofs.RunLemmas.{of_program, spent_has, filled_has, run_forgets}
 
-module _ (options : RunOptions) (plan : List ℕ) (o : Outside) where
+module _ (options : RunOptions) (watching : ℕ) (plan : List ℕ) (o : Outside) where
   abbrev Read : Port → Answer → Type 0
   Read source answer = ReadOrRefused (IsRefusedBy plan_form plan options.processors)
-      (HasByItems plan_form plan options.processors (Has options plan o)) text_limit source answer
+      (HasByItems plan_form plan options.processors (Has options watching plan o)) text_limit source answer
 
   -- what is said of faults and of want of memory
-  of_ports : SaysOfPorts (ports_of o) (RunSays options plan o)
+  of_ports : SaysOfPorts (ports_of o) (RunSays options watching plan o)
   of_ports = record { read_fault = λ f. f; write_fault = λ f. f; memory = tt }
 
   -- an answer that is written says the sentence of its status
-  by : (answer : Answer) → Read o.source answer → IsWritten o.out o.err answer (status_of answer) → RunSays options plan o (status_of answer)
+  by : (answer : Answer) → Read o.source answer → IsWritten o.out o.err answer (status_of answer) → RunSays options watching plan o (status_of answer)
   by (answers.PlanRefused number) h w = (record { number = number; refused = h.0; gets = w.err_takes.0 }, h.1)
   by (answers.SourceRefused r) h w = (r, h, w.err_takes.0)
   by (answers.Ended arrays) h w = (arrays, h, w.out_takes.0)
@@ -42,47 +41,47 @@ module _ (options : RunOptions) (plan : List ℕ) (o : Outside) where
   by (answers.OutOfTurns processor) h w = record {
     processor = processor;
     read = h;
-    spent = spent_has options o.told_before o.told_now h.2.items h.2.has.0 processor h.2.has.2;
+    spent = spent_has options watching o.told_before o.told_now h.2.items h.2.has.0 processor h.2.has.2;
     gets = w.err_takes.0;
   }
   by (answers.OutOfRoom place) h w = record {
     place = place;
     read = h;
     full = (
-      of_program options o.told_before o.told_now h.2.items h.2.has.0 (answers.OutOfRoom place) h.2.has.2,
-      filled_has options o.told_before o.told_now h.2.items h.2.has.0 place h.2.has.2,
+      of_program options watching o.told_before o.told_now h.2.items h.2.has.0 (answers.OutOfRoom place) h.2.has.2,
+      filled_has options watching o.told_before o.told_now h.2.items h.2.has.0 place h.2.has.2,
     );
     gets = w.err_takes.0;
   }
   by (answers.Broken place) h w =
-      (place, of_program options o.told_before o.told_now h.2.items h.2.has.0 (answers.Broken place) h.2.has.2, h, w.err_takes.0)
-  by answer h w = absurd (of_program options o.told_before o.told_now h.2.items h.2.has.0 answer h.2.has.2)
+      (place, of_program options watching o.told_before o.told_now h.2.items h.2.has.0 (answers.Broken place) h.2.has.2, h, w.err_takes.0)
+  by answer h w = absurd (of_program options watching o.told_before o.told_now h.2.items h.2.has.0 answer h.2.has.2)
 
-  module _ (status : Status) (a : Answers (RunMay options plan o.told_before o.told_now o.source) TellsNothing o status) where
+  module _ (status : Status) (d : DeliversAnswer (RunMay options watching plan o.told_before o.told_now o.source) (ports_of o) status) where
     abbrev Rows : Type 0
-    Rows = PlannedRows (IsRefusedBy plan_form plan options.processors) (HasByItems plan_form plan options.processors (Has options plan o)) text_limit
-        (RunSays options plan o) (ports_of o) status
+    Rows = PlannedRows (IsRefusedBy plan_form plan options.processors) (HasByItems plan_form plan options.processors (Has options watching plan o)) text_limit
+        (RunSays options watching plan o) (ports_of o) status
 
     -- what the status says
-    says : RunSays options plan o status
-    says = rows_lemmas.says (RunMay options plan o.told_before o.told_now) Read
-        (planned.are_causes plan_form plan options.processors (Has options plan o) text_limit) (ports_of o) status
-        (of_answers (RunMay options plan o.told_before o.told_now o.source) TellsNothing o status a) (RunSays options plan o) of_ports by
+    says : RunSays options watching plan o status
+    says = rows_lemmas.says (RunMay options watching plan o.told_before o.told_now) Read
+        (planned.are_causes plan_form plan options.processors (Has options watching plan o) text_limit) (ports_of o) status d
+        (RunSays options watching plan o) of_ports by
 
     pub plan_refused : status ≡ statuses.WordsRefused → RefusesPlan plan_form plan options.processors (ports_of o)
-    plan_refused e = (subst (RunSays options plan o) e says).0
+    plan_refused e = (subst (RunSays options watching plan o) e says).0
 
     planned_rows : PlansHaveOneAnswer → FrontsDecideAnswers → Rows
     planned_rows plans fronts =
-        planned.planned_rows plan_form plan options.processors (Has options plan o) text_limit o status a plans.plans
-        (fronts options o.told_before o.told_now plan) (RunSays options plan o) of_ports by
+        planned.planned_rows plan_form plan options.processors (Has options watching plan o) text_limit (ports_of o) status d plans.plans
+        (fronts options watching o.told_before o.told_now plan) (RunSays options watching plan o) of_ports by
 
     -- where there is one processor, a text has one answer
     shown : Rows → AnswersAreOne → options.processors ≡ 1 → IsShown (RunHas options plan) (ports_of o) status
     shown rows one alone all e well answer h =
         let k = rows.rows.known all e well in
         subst (λ (x : Answer). IsWritten o.out o.err x status)
-        (one options plan alone all k.0 answer (run_forgets options o.told_before o.told_now plan all k.0 k.1) h) k.2
+        (one options plan alone all k.0 answer (run_forgets options watching o.told_before o.told_now plan all k.0 k.1) h) k.2
 
-    pub run_rows : PlansHaveOneAnswer → AnswersAreOne → FrontsDecideAnswers → RunRows options plan o status
+    pub run_rows : PlansHaveOneAnswer → AnswersAreOne → FrontsDecideAnswers → RunRows options watching plan o status
     run_rows plans one fronts = record { rows = planned_rows plans fronts; shown = shown (planned_rows plans fronts) one }

@@ -25,7 +25,7 @@ use Rattle.ppm_answers.specs.declared.answer.Answer.{Answer}
 use Rattle.ppm_cli.specs.declared.replay.ReplayOptions.{ReplayOptions}
 use Rattle.ppm_cli.specs.Words.{AreReplayed}
 use Rattle.ppm_driver.specs.Loading.{Opens}
-use Rattle.ppm_driver.specs.Schedules.{followed}
+use Rattle.ppm_driver.specs.Followed.{followed}
 use Rattle.ppm_driver.specs.Replays.{sizes_of, IsSaid, ProgramHas, TextHas, HaveOneAnswer}
 use Rattle.ppm_driver.proofs.LoadingLemmas.{one_opening, some_opening}
 use Rattle.ppm_driver.proofs.PlannedLemmas.{IsSteady, planned_one, planned_front, some_answer}

@@ -56,7 +56,7 @@ module _ (laws : Laws) (options : RunOptions) (alone : options.processors ≡ 1)
       laws.runs start.shape start.code (plan_of options items) (limits_of options) 0 start.state first second h.0 k.0 h.1 k.1
 
   -- a program has one answer by items
-  program_one : (a b : Answer) → ProgramHas options [] [] items t a → ProgramHas options [] [] items t b → a ≡ b
+  program_one : (a b : Answer) → ProgramHas options 0 [] [] items t a → ProgramHas options 0 [] [] items t b → a ≡ b
   program_one a b h k =
       let keeper : k.keeper ≡ h.keeper = one_keeper plan_form items k.keeper h.keeper k.spared h.spared in
       let begins : Begins h.keeper k.start = subst (λ (n : ℕ). Begins n k.start) keeper k.opens in
@@ -71,12 +71,12 @@ module _ (laws : Laws) (options : RunOptions) (alone : options.processors ≡ 1)
 -- so it is with all plans
 pub answers_are_one : Laws → AnswersAreOne
 answers_are_one laws options plan alone =
-    planned_one plan_form plan options.processors (TextHas options [] []) text_limit laws.plans.plans
-    (λ items. text_one (ProgramHas options [] [] items) laws.texts (program_one laws options alone items))
+    planned_one plan_form plan options.processors (TextHas options 0 [] []) text_limit laws.plans.plans
+    (λ items. text_one (ProgramHas options 0 [] [] items) laws.texts (program_one laws options alone items))
 
 -- and a text that is too long has a front with its answer
 pub fronts_decide : TextsHaveOneProgram → FrontsDecideAnswers
-fronts_decide texts options before now plan =
-    planned_front plan_form plan options.processors (TextHas options before now) text_limit
-    (λ items. plain (ProgramHas options before now items) (kinds options.processors) (of_program options before now items))
-    (λ items. text_front (ProgramHas options before now items) texts)
+fronts_decide texts options watching before now plan =
+    planned_front plan_form plan options.processors (TextHas options watching before now) text_limit
+    (λ items. plain (ProgramHas options watching before now items) (kinds options.processors) (of_program options watching before now items))
+    (λ items. text_front (ProgramHas options watching before now items) texts)

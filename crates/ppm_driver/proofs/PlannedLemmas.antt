@@ -2,7 +2,7 @@
 use Rattle.std.proofs.Common.{◌≡◌, ◌≢◌, ◌⊎◌, ◌<◌, ℕ, List, [], ◌∷◌, ◌++◌, length, Some}
 use Rattle.std.proofs.Common.{refl, sym, ap, ◌∙◌, subst, inl, inr}
 use Rattle.ppm_ports.specs.Ports.{Port, Fails, Holds}
-use Rattle.ppm_ports.specs.Outside.{ToldLists, Outside, ports_of}
+use Rattle.ppm_ports.specs.Outside.{ToldLists, Ports, Outside}
 use Rattle.ppm_ports.specs.Whole.{ReadsTo}
 use Rattle.ppm_plan.specs.declared.plan_error.PlanError.{PlanError}
 use Rattle.ppm_plan.specs.declared.plan_error.PlanError.TheVariants.{BadItem, NoSuchProcessor, TooManyFaults, AllKilled, NoMemory}
@@ -17,9 +17,9 @@ use Rattle.ppm_answers.specs.declared.status.Status.TheVariants as statuses
 use Rattle.ppm_answers.specs.Texts.{IsFixed}
 use Rattle.ppm_answers.specs.Statuses.{status_of}
 use Rattle.ppm_answers.specs.Delivery.{IsWritten, Delivers}
-use Rattle.ppm_answers.specs.Reading.{IsUnread, ReadHas, JudgingMay, AreOne, FrontsDecide, Answers}
+use Rattle.ppm_answers.specs.Reading.{IsUnread, ReadHas, JudgingMay, AreOne, FrontsDecide, DeliversAnswer, Answers}
 use Rattle.ppm_answers.specs.Rows.{IsOneOf, GoesWell, ReadOrRefused, PlannedRows}
-use Rattle.ppm_answers.proofs.Delivered.{written, write_failed, own_or_fault, of_answers}
+use Rattle.ppm_answers.proofs.Delivered.{own_or_fault}
 use Rattle.ppm_answers.proofs.RowsLemmas.{AreCauses, SaysOfPorts}
 use Rattle.ppm_answers.proofs.RowsLemmas as rows_lemmas
 use Rattle.ppm_answers.proofs.Judged as judged
@@ -157,6 +157,12 @@ module _ {A : Type 0} (form : Form A) (plan : List ℕ) (processors : ℕ) (Has 
   planned_delivered Tells law o a status told wanting h (inr d) =
       record { answer = answers.NoMemory; cause = memory_may law o.source a h d.0; delivered = d.1; told = wanting }
 
+  -- the same of a command without watchers
+  pub planned_done : PlansHaveOneAnswer form → (o : Ports) (a : Answer) (status : Status) → May o.source a
+      → Delivers o.out o.err a status ⊎ ((¬ IsFixed a) × Delivers o.out o.err answers.NoMemory status) → DeliversAnswer (May o.source) o status
+  planned_done law o a status h (inl d) = record { answer = a; cause = h; delivered = d }
+  planned_done law o a status h (inr d) = record { answer = answers.NoMemory; cause = memory_may law o.source a h d.0; delivered = d.1 }
+
   -- which answers come where
   reads_or_refuses : (source : Port) (a : Answer) → May source a
       → (a ≡ answers.ReadFault) ⊎ ((a ≡ answers.NoMemory) ⊎ ReadOrRefused Refused (HasByItems form plan processors Has) limit source a)
@@ -182,8 +188,7 @@ module _ {A : Type 0} (form : Form A) (plan : List ℕ) (processors : ℕ) (Has 
   source_failed source (answers.PlanRefused number) h f = absurd (f h.1.holds)
   source_failed source a h f = absurd (f h.1.holds)
 
-  module _ {Tells : Answer → ToldLists → ToldLists → Type 0} (o : Outside) (status : Status)
-      (a : Answers (May o.source) Tells o status) where
+  module _ (o : Ports) (status : Status) (a : DeliversAnswer (May o.source) o status) where
     -- where the plan is refused, nothing was read, and the status is 3, or 8 or 9
     pub refuses : PlansHaveOneAnswer form → (number : ℕ) → Refused number
         → IsUnread o.source × IsOneOf status (statuses.WordsRefused ∷ statuses.WriteFault ∷ statuses.NoMemory ∷ [])
@@ -205,12 +210,11 @@ module _ {A : Type 0} (form : Form A) (plan : List ℕ) (processors : ℕ) (Has 
 
     -- the rows of the command, where what stands behind the limit changes no answer, by what each answer's own status says
     pub planned_rows : PlansHaveOneAnswer form → FrontsDecide limit PH → (Says : Status → Type 0)
-        → SaysOfPorts (ports_of o) Says
+        → SaysOfPorts o Says
         → ((answer : Answer) → ReadOrRefused Refused (HasByItems form plan processors Has) limit o.source answer
         → IsWritten o.out o.err answer (status_of answer) → Says (status_of answer))
-        → PlannedRows Refused (HasByItems form plan processors Has) limit Says (ports_of o) status
+        → PlannedRows Refused (HasByItems form plan processors Has) limit Says o status
     planned_rows plans front Says ports by = record {
-      rows = rows_lemmas.rows May (ReadOrRefused Refused (HasByItems form plan processors Has) limit) are_causes (ports_of o) status
-          (of_answers (May o.source) Tells o status a) PH Says (of_all front o.source) ports by;
+      rows = rows_lemmas.rows May (ReadOrRefused Refused (HasByItems form plan processors Has) limit) are_causes o status a PH Says (of_all front o.source) ports by;
       refuses = refuses plans;
     }

@@ -5,7 +5,8 @@ use Rattle.ppm_plan.specs.declared.schedule_item.ScheduledAct.TheVariants as sch
 use Rattle.ppm_step.specs.declared.turn.Turn.{Turn}
 use Rattle.ppm_core.specs.Situation.{Situation, turned}
 use Rattle.ppm_driver.specs.declared.following.Way.{Way}
-use Rattle.ppm_driver.specs.Course.{Course, seeks, loads_behind}
+use Rattle.ppm_choice.specs.Course.{Course, seeks, loads_behind}
+use Rattle.ppm_choice.proofs.LoadLemmas.{none_at}
 use Rattle.ppm_driver.specs.Following.{course, IsReady}
 
 -- one count is one more
@@ -36,12 +37,7 @@ ready_behind {m} {m'} {way} {v} act turn ready some loads left is = record {
     few : (c : ℕ) → slice_index v.loads c + (v.left - 1) ≤ 1099511627776
     few c = omega (arith, ready.loads c, some, left, ap (λ xs. slice_index xs c) loads, one_more_load (course m way) act c)
 
--- at the beginning no load was made
-pub none_at : (n c : ℕ) → slice_index (replicate n 0) c ≡ 0
-none_at zero c = refl
-none_at (suc n) zero = refl
-none_at (suc n) (suc c) = none_at n c
-
+-- at the beginning
 pub ready_first : (m : Situation) (turns : ℕ) → m.turns ≤ 2305843009213693952 → turns ≤ 1099511627776
     → IsReady m (record { loads = replicate 64 0; left = turns })
 ready_first m turns few within = record {

@@ -1,13 +1,14 @@
 -- The answers that programs and texts have where they are replayed.
-use Rattle.std.proofs.Common.{◌≡◌, ◌≢◌, ◌<◌, ◌⊎◌, ◌∷◌, [], ℕ, zero, suc, List, inl, inr, refl, sym, ap, ◌∙◌, subst, arith, lit≤}
+use Rattle.std.proofs.Common.{◌≡◌, ◌≢◌, ◌<◌, ◌⊎◌, ◌∷◌, [], ℕ, zero, suc, List, Some, inl, inr, refl, sym, ap, ◌∙◌, subst, arith, lit≤}
 use Rattle.ppm_words.specs.declared.named_array.NamedArray.{NamedArray}
 use Rattle.ppm_words.specs.declared.trap.Trap.{Trap}
+use Rattle.ppm_cells.specs.Finish.{finish_of}
 use Rattle.ppm_cells.specs.declared.finish.Finish.{Finish}
 use Rattle.ppm_cells.specs.declared.finish.Finish.TheVariants as finishes
 use Rattle.ppm_core.specs.Situation.{Situation, finish_in, ending_of}
 use Rattle.ppm_plan.specs.declared.schedule_item.ScheduleItem.{ScheduleItem}
 use Rattle.ppm_code.specs.Code.{IsCode}
-use Rattle.ppm_step.specs.Laws.{IsProposed, IsProposedWord}
+use Rattle.ppm_step.specs.Laws.{IsProposed, IsProposedWord, IsFilledBehind}
 use Rattle.ppm_step.specs.Standings.{unknown_place}
 use Rattle.ppm_cut_code.specs.Routines.{code_of}
 use Rattle.ppm_tree.specs.Tree.{ProgramTree}
@@ -21,11 +22,12 @@ use Rattle.ppm_plan.specs.Refusals.{IsKeeper}
 use Rattle.ppm_driver.specs.declared.loading.Sizes.{Sizes}
 use Rattle.ppm_driver.specs.Loading.{AreSizes, Opens}
 use Rattle.ppm_driver.specs.Says.{IsTheOne, IsOfFinish, IsOfEnding}
-use Rattle.ppm_driver.specs.Schedules.{schedule_turns, followed}
+use Rattle.ppm_choice.specs.Schedules.{schedule_turns}
+use Rattle.ppm_driver.specs.Followed.{followed}
 use Rattle.ppm_driver.specs.Replays.{sizes_of, tally_of, IsSaid, ProgramHas}
 use Rattle.ppm_driver.proofs.ExactLemmas.{says_proposed, unfinished_exactly}
 use Rattle.ppm_driver.proofs.ProgramLemmas.{AreKinds}
-use Rattle.ppm_driver.proofs.RoomLemmas.{has_filled}
+use Rattle.ppm_driver.proofs.EndLemmas.{has_filled}
 use Rattle.ppm_driver.proofs.SayLemmas.{one_of_ending, some_of_proposed, of_proposed}
 
 -- options in their ranges say sizes that a machine may have
@@ -95,6 +97,35 @@ module _ (processors turns : ℕ) (m : Situation) (arrays : List NamedArray) whe
   some_said : (finish_in m ≢ 0 → IsProposedWord processors (finish_in m)) → (a : Answer) × IsSaid turns m arrays a
   some_said p = some_by_word (finish_in m) p
 
+  -- it is that a pool is full only where the finish word says so
+  room_finish : (finish : Finish) → IsProposed processors finish → (place : ℕ)
+      → IsOfFinish m.shape m.array_lengths m.state.words ended trapped (λ processor x. ⊥) IsUnfinished arrays finish (answers.OutOfRoom place)
+      → finish ≡ finishes.OutOfRoom place
+  room_finish finishes.Ended p place h = cc
+  room_finish (finishes.Trapped trap line) p place h = cc
+  room_finish (finishes.OutOfRoom other) p place h = let same : other ≡ place = cc in ap (λ n. finishes.OutOfRoom n) same
+  room_finish (finishes.Broken other) p place h = cc
+  room_finish (finishes.OutOfTurns other) p place h = absurd p
+  room_finish finishes.Stopped p place h = absurd p
+  room_finish finishes.Unset p place h = absurd p
+
+  room_by_word : (word : ℕ) → (word ≢ 0 → IsProposedWord processors word) → (place : ℕ)
+      → IsOfEnding m.shape m.array_lengths m.state.words ended trapped (λ processor x. ⊥) IsUnfinished arrays (ending_of word) (answers.OutOfRoom place)
+      → finish_of word ≡ Some (finishes.OutOfRoom place)
+  room_by_word zero p place h = absurd (different h)
+    where
+      different : answers.OutOfRoom place ≡ answers.Unfinished turns → ⊥
+      different e = cc
+  room_by_word (suc word) p place h =
+      let w = p (λ e. omega (arith, e)) in
+      let of = of_proposed ended trapped (λ processor x. ⊥) IsUnfinished m.shape m.array_lengths m.state.words arrays processors (suc word) w
+      (answers.OutOfRoom place) h in
+      w.stands ∙ ap Some (room_finish w.finish w.is_proposed place of)
+
+  room_said : (finish_in m ≢ 0 → IsProposedWord processors (finish_in m)) → (place : ℕ) → IsSaid turns m arrays (answers.OutOfRoom place)
+      → finish_of (finish_in m) ≡ Some (finishes.OutOfRoom place)
+  room_said p place h = room_by_word (finish_in m) p place h
+
   -- there is no other
   pub one_said : (a b : Answer) → IsSaid turns m arrays a → IsSaid turns m arrays b → a ≡ b
   one_said a b h k =
@@ -117,7 +148,8 @@ module _ (options : ReplayOptions) (items : List ScheduleItem) where
       proposed = says_proposed (sizes_of options) (code_of t) (initial_arrays t) keeper items options.turns start opens is;
       exact = unfinished_exactly (sizes_of options) (code_of t) (initial_arrays t) keeper items options.turns start opens is spared;
       filled = λ place.
-          has_filled (sizes_of options) (code_of t) (initial_arrays t) keeper start (schedule_turns start.shape start.code start.state items options.turns) place opens is;
+          has_filled (sizes_of options) (code_of t) (initial_arrays t) keeper start
+          (schedule_turns start.shape start.code start.state items options.turns) place opens is;
       says = h;
     }
 
@@ -148,3 +180,10 @@ module _ (options : ReplayOptions) (items : List ScheduleItem) where
   pub of_program : (t : ProgramTree) (a : Answer) → ProgramHas options items t a → IsOfProgram options.processors options.turns a
   of_program t a h =
       kind_said options.processors options.turns (followed h.start items options.turns) (initial_arrays t) h.proposed a h.says
+
+  -- where it is that a pool is full, one of the turns found it so
+  pub filled_has : (t : ProgramTree) (place : ℕ) (h : ProgramHas options items t (answers.OutOfRoom place))
+      → IsFilledBehind h.start.shape h.start.code place h.start.state.words
+      (schedule_turns h.start.shape h.start.code h.start.state items options.turns)
+  filled_has t place h =
+      h.filled place (room_said options.processors options.turns (followed h.start items options.turns) (initial_arrays t) h.proposed place h.says)

@@ -13,13 +13,13 @@ use Rattle.ppm_cells.specs.declared.shape.Shape.{Shape}
 use Rattle.ppm_core.specs.declared.ending.Ending.{Ending}
 use Rattle.ppm_core.specs.declared.ending.Ending.TheVariants.{With}
 use Rattle.ppm_code.specs.Code.{IsCode}
-use Rattle.ppm_core.specs.Situation.{Situation, ending_of}
+use Rattle.ppm_core.specs.Situation.{Situation, finish_in, ending_of}
 use Rattle.ppm_plan.specs.declared.plan_item.PlanItem.{PlanItem}
 use Rattle.ppm_plan.specs.Forms.{plan_form}
 use Rattle.ppm_plan.specs.Refusals.{IsKeeper}
 use Rattle.ppm_plan.specs.Schedules.{Planned}
 use Rattle.ppm_step.specs.declared.turn.Turn.{Turn}
-use Rattle.ppm_step.specs.Laws.{IsProposed, IsProposedWord, IsFilled}
+use Rattle.ppm_step.specs.Laws.{IsProposed, IsProposedWord, IsFilledBehind}
 use Rattle.ppm_step.specs.Standings.{unknown_place}
 use Rattle.ppm_choice.specs.declared.limits.Limits.{Limits}
 use Rattle.ppm_choice.specs.Obeying.{ObeyAll}
@@ -32,17 +32,18 @@ use Rattle.ppm_cli.specs.declared.run.RunOptions.{RunOptions}
 use Rattle.ppm_cli.specs.Words.{AreRun}
 use Rattle.ppm_driver.specs.declared.loading.Sizes.{Sizes}
 use Rattle.ppm_driver.specs.Loading.{AreSizes, Opens}
-use Rattle.ppm_driver.specs.Obedience.{RunsTo, work_made}
-use Rattle.ppm_driver.specs.RunOf.{words_behind, finish_behind, Finishes, Proposed, Spent}
+use Rattle.ppm_choice.specs.Deeds.{work_made}
+use Rattle.ppm_driver.specs.Obedience.{RunsTo}
+use Rattle.ppm_choice.specs.Finishes.{Finishes, Proposed, Spent, Stood}
+use Rattle.ppm_driver.specs.RunOf.{words_behind, finish_behind}
 use Rattle.ppm_driver.specs.Says.{IsTheOne, IsOfFinish, IsOfEnding}
 use Rattle.ppm_driver.specs.Runs.{plan_of, limits_of, sizes_of, IsSaid, ProgramHas, TextHas, RunHas}
 use Rattle.ppm_driver.specs.Planned.{PlannedHas, HasByItems}
-use Rattle.ppm_driver.specs.Watchers.{watched, AreTold}
-use Rattle.ppm_driver.proofs.FinishLemmas.{has_finished}
+use Rattle.ppm_driver.specs.Watchers.{AreTold}
+use Rattle.ppm_driver.proofs.EndLemmas.{unset_opened, has_finished}
 use Rattle.ppm_driver.proofs.LoadingLemmas.{opens_processors}
 use Rattle.ppm_driver.proofs.ProgramLemmas.{AreKinds}
 use Rattle.ppm_driver.proofs.SayLemmas.{ending_is, one_of_ending, some_of_proposed, of_proposed}
-use Rattle.ppm_driver.proofs.SpentLemmas.{has_spent}
 
 -- options in their ranges say sizes that a machine may have
 pub run_sizes : (options : RunOptions) → AreRun options → AreSizes (sizes_of options)
@@ -136,13 +137,13 @@ module _ (s : Shape) (lengths words : List ℕ) (arrays : List NamedArray) where
       → IsSaid s lengths arrays words a → a ≡ answers.OutOfTurns processor
   spent_answer processor stands a = subst (λ (e : Ending). At e a) (spent_ending processor stands)
 
--- what is said behind turns of a machine whose finish word has a cause in them
-module _ (limits : Limits) (start : Situation) (turns : List Turn) (arrays : List NamedArray) where
+-- what is said behind turns of a machine whose finish word was 0, and has a cause in them
+module _ (limits : Limits) (start : Situation) (unset : finish_in start ≡ 0) (turns : List Turn) (arrays : List NamedArray) where
   abbrev Said : Answer → Type 0
   Said a = IsSaid start.shape start.array_lengths arrays (words_behind start turns) a
 
   abbrev HasEnd : Type 0
-  HasEnd = Finishes limits start turns (finish_behind start turns)
+  HasEnd = Finishes start.shape start.code limits start.state turns (finish_behind start turns)
 
   kind_said : HasEnd → (a : Answer) → Said a → IsOfProgram start.shape.processors a
   kind_said (Proposed w filled) a h =
@@ -151,6 +152,7 @@ module _ (limits : Limits) (start : Situation) (turns : List Turn) (arrays : Lis
   kind_said (Spent processor there stands made) a h =
       subst (IsOfProgram start.shape.processors)
       (sym (spent_answer start.shape start.array_lengths (words_behind start turns) arrays processor stands a h)) there
+  kind_said (Stood same some) a h = absurd (some (same ∙ unset))
 
   -- that a processor has made its turns is said only where it has
   abbrev IsSpentOf : ℕ → Type 0
@@ -167,9 +169,10 @@ module _ (limits : Limits) (start : Situation) (turns : List Turn) (arrays : Lis
     where
       number : (a : Answer) → a ≡ answers.OutOfTurns other → a ≡ answers.OutOfTurns processor → other ≡ processor
       number a e f = cc
+  spent_said processor (Stood same some) h = absurd (some (same ∙ unset))
 
   -- and that a pool is full only where a turn found it so
-  filled_said : (place : ℕ) → HasEnd → Said (answers.OutOfRoom place) → IsFilled start.shape start.code place start.state.words turns
+  filled_said : (place : ℕ) → HasEnd → Said (answers.OutOfRoom place) → IsFilledBehind start.shape start.code place start.state.words turns
   filled_said place (Proposed w filled) h =
       let is = room_finish start.shape start.array_lengths (words_behind start turns) arrays start.shape.processors w.finish w.is_proposed place
       (proposed_of start.shape start.array_lengths (words_behind start turns) arrays start.shape.processors w (answers.OutOfRoom place) h) in
@@ -179,6 +182,7 @@ module _ (limits : Limits) (start : Situation) (turns : List Turn) (arrays : Lis
     where
       different : answers.OutOfRoom place ≡ answers.OutOfTurns other → ⊥
       different e = cc
+  filled_said place (Stood same some) h = absurd (some (same ∙ unset))
 
   -- there is one
   some_said : HasEnd → (a : Answer) × Said a
@@ -190,6 +194,7 @@ module _ (limits : Limits) (start : Situation) (turns : List Turn) (arrays : Lis
     subst (λ (e : Ending). At start.shape start.array_lengths (words_behind start turns) arrays e (answers.OutOfTurns processor))
         (sym (spent_ending start.shape start.array_lengths (words_behind start turns) arrays processor stands)) refl,
   )
+  some_said (Stood same some) = absurd (some (same ∙ unset))
 
 -- a list stays as it is
 stays : (l : Option (List Event)) → KeepsList l l
@@ -200,31 +205,36 @@ stays (Some l) = refl
 none_watched : (c : ℕ) → c < 0 → ⊥
 none_watched c less = omega (arith, less)
 
-module _ (options : RunOptions) (before now : ToldLists) (items : List PlanItem) (t : ProgramTree) where
-  same_count : (a : Answer) (h : ProgramHas options before now items t a) → h.start.shape.processors ≡ options.processors
+module _ (options : RunOptions) (watching : ℕ) (before now : ToldLists) (items : List PlanItem) (t : ProgramTree) where
+  same_count : (a : Answer) (h : ProgramHas options watching before now items t a) → h.start.shape.processors ≡ options.processors
   same_count a h = opens_processors (sizes_of options) (code_of t) (initial_arrays t) h.keeper h.start h.opens
 
+  says_nothing : (a : Answer) (h : ProgramHas options watching before now items t a) → finish_in h.start ≡ 0
+  says_nothing a h = unset_opened (sizes_of options) (code_of t) (initial_arrays t) h.keeper h.start h.opens
+
   -- an answer of a program is of no other kind
-  pub of_program : (a : Answer) → ProgramHas options before now items t a → IsOfProgram options.processors a
+  pub of_program : (a : Answer) → ProgramHas options watching before now items t a → IsOfProgram options.processors a
   of_program a h =
       subst (λ n. IsOfProgram n a) (same_count a h)
-      (kind_said (limits_of options) h.start h.run.turns (initial_arrays t) h.run.finished a h.run.says)
+      (kind_said (limits_of options) h.start (says_nothing a h) h.run.turns (initial_arrays t) h.run.finished a h.run.says)
 
-  pub spent_has : (c : ℕ) (h : ProgramHas options before now items t (answers.OutOfTurns c))
+  pub spent_has : (c : ℕ) (h : ProgramHas options watching before now items t (answers.OutOfTurns c))
       → (c < options.processors) × (work_made h.start.shape h.start.code c h.start.state h.run.turns ≡ options.turns)
   spent_has c h =
-      let s = spent_said (limits_of options) h.start h.run.turns (initial_arrays t) c h.run.finished h.run.says in
+      let s = spent_said (limits_of options) h.start (says_nothing (answers.OutOfTurns c) h) h.run.turns (initial_arrays t) c h.run.finished
+      h.run.says in
       (subst (λ n. c < n) (same_count (answers.OutOfTurns c) h) s.0, s.1)
 
-  pub filled_has : (place : ℕ) (h : ProgramHas options before now items t (answers.OutOfRoom place))
-      → IsFilled h.start.shape h.start.code place h.start.state.words h.run.turns
-  filled_has place h = filled_said (limits_of options) h.start h.run.turns (initial_arrays t) place h.run.finished h.run.says
+  pub filled_has : (place : ℕ) (h : ProgramHas options watching before now items t (answers.OutOfRoom place))
+      → IsFilledBehind h.start.shape h.start.code place h.start.state.words h.run.turns
+  filled_has place h =
+      filled_said (limits_of options) h.start (says_nothing (answers.OutOfRoom place) h) h.run.turns (initial_arrays t) place h.run.finished h.run.says
 
   -- it is one whatever watchers were told
-  untold : (start : Situation) (turns : List Turn) → AreTold watched (plan_of options items) (limits_of options) [] [] start turns
+  untold : (start : Situation) (turns : List Turn) → AreTold 0 (plan_of options items) (limits_of options) [] [] start turns
   untold start turns = record { records = λ c less. absurd (none_watched c less); others = λ c least. stays (get_or [] c None) }
 
-  pub forgets : (a : Answer) → ProgramHas options before now items t a → ProgramHas options [] [] items t a
+  pub forgets : (a : Answer) → ProgramHas options watching before now items t a → ProgramHas options 0 [] [] items t a
   forgets a h = record {
     keeper = h.keeper;
     spared = h.spared;
@@ -240,23 +250,23 @@ module _ (options : RunOptions) (before now : ToldLists) (items : List PlanItem)
   }
 
 -- so are those of texts, and those with a plan
-pub text_forgets : (options : RunOptions) (before now : ToldLists) (items : List PlanItem) (text : List ℕ) (a : Answer)
-    → TextHas options before now items text a → TextHas options [] [] items text a
-text_forgets options before now items text (answers.SourceRefused r) h = h
-text_forgets options before now items text a h = (h.0, h.1, forgets options before now items h.0 a h.2)
+pub text_forgets : (options : RunOptions) (watching : ℕ) (before now : ToldLists) (items : List PlanItem) (text : List ℕ) (a : Answer)
+    → TextHas options watching before now items text a → TextHas options 0 [] [] items text a
+text_forgets options watching before now items text (answers.SourceRefused r) h = h
+text_forgets options watching before now items text a h = (h.0, h.1, forgets options watching before now items h.0 a h.2)
 
-pub run_forgets : (options : RunOptions) (before now : ToldLists) (plan : List ℕ) (text : List ℕ) (a : Answer)
-    → PlannedHas plan_form plan options.processors (TextHas options before now) text a → RunHas options plan text a
-run_forgets options before now plan text (answers.PlanRefused number) h = h
-run_forgets options before now plan text a h = record {
+pub run_forgets : (options : RunOptions) (watching : ℕ) (before now : ToldLists) (plan : List ℕ) (text : List ℕ) (a : Answer)
+    → PlannedHas plan_form plan options.processors (TextHas options watching before now) text a → RunHas options plan text a
+run_forgets options watching before now plan text (answers.PlanRefused number) h = h
+run_forgets options watching before now plan text a h = record {
   items = h.items;
   accepted = h.accepted;
-  has = text_forgets options before now h.items text a h.has;
+  has = text_forgets options watching before now h.items text a h.has;
 }
 
 -- where nobody is told anything, all lists stay as they are
 none_told : (plan : Planned) (limits : Limits) (told : ToldLists) (start : Situation) (turns : List Turn)
-    → AreTold watched plan limits told told start turns
+    → AreTold 0 plan limits told told start turns
 none_told plan limits told start turns = record {
   records = λ c less. absurd (none_watched c less);
   others = λ c least. stays (get_or told c None);
@@ -266,19 +276,18 @@ none_told plan limits told start turns = record {
 same_plan : (options : RunOptions) (plan : Planned) → plan.processors ≡ options.processors → plan ≡ plan_of options plan.items
 same_plan options plan same = λ i. record { processors = same i; items = plan.items }
 
--- where there is one processor, the answer of a program is what is said of the machine behind its run
-module _ (options : RunOptions) (one : options.processors ≡ 1) (items : List PlanItem) (t : ProgramTree) where
-  has_run : (keeper : ℕ) (start : Situation) (turns : List Turn) → IsKeeper plan_form items keeper → IsKeeper plan_form items 0
+-- the answer of a program is what is said of the machine behind its run
+module _ (options : RunOptions) (items : List PlanItem) (t : ProgramTree) where
+  has_run : (keeper : ℕ) (start : Situation) (turns : List Turn) → IsKeeper plan_form items keeper
       → Opens (sizes_of options) (code_of t) (initial_arrays t) keeper start → IsCode (code_of t)
       → ObeyAll (plan_of options items) (limits_of options) start.shape start.code start.state turns
       → (a : Answer) → IsTheOne (IsSaid start.shape start.array_lengths (initial_arrays t) (words_behind start turns)) a
-      → (told : ToldLists) → ProgramHas options told told items t a
-  has_run keeper start turns spared first opens is obey a only told =
-      let some = has_finished (sizes_of options) (code_of t) (initial_arrays t) keeper (plan_of options items) (limits_of options) start turns
-      opens is one first obey in
-      let finished = has_spent (sizes_of options) (code_of t) (initial_arrays t) keeper (plan_of options items) (limits_of options) start turns
-      opens is one obey some in
-      let s = some_said (limits_of options) start turns (initial_arrays t) finished in
+      → (told : ToldLists) → ProgramHas options 0 told told items t a
+  has_run keeper start turns spared opens is obey a only told =
+      let finished = has_finished (sizes_of options) (code_of t) (initial_arrays t) keeper (plan_of options items) (limits_of options) start turns
+      opens is spared obey in
+      let s = some_said (limits_of options) start (unset_opened (sizes_of options) (code_of t) (initial_arrays t) keeper start opens) turns
+      (initial_arrays t) finished in
       record {
         keeper = keeper;
         spared = spared;
@@ -296,12 +305,12 @@ module _ (options : RunOptions) (one : options.processors ≡ 1) (items : List P
 -- what is said behind the run of a machine
 pub program_has : (options : RunOptions) (plan : Planned) (t : ProgramTree) (sizes : Sizes) (limits : Limits) (keeper : ℕ)
     (start end : Situation) (arrays : List NamedArray) (a : Answer) → sizes ≡ sizes_of options → limits ≡ limits_of options
-    → plan.processors ≡ options.processors → options.processors ≡ 1 → IsKeeper plan_form plan.items keeper → keeper ≡ 0
+    → plan.processors ≡ options.processors → IsKeeper plan_form plan.items keeper
     → Opens sizes (code_of t) (initial_arrays t) keeper start → IsCode (code_of t) → RunsTo plan limits start end → arrays ≡ initial_arrays t
     → IsTheOne (IsSaid end.shape end.array_lengths arrays end.state.words) a
-    → (told : ToldLists) → ProgramHas options told told plan.items t a
-program_has options plan t sizes limits keeper start end arrays a sizes_are limits_are same one spared first opens is runs arrays_are only =
-    has_run options one plan.items t keeper start runs.turns spared (subst (IsKeeper plan_form plan.items) first spared)
+    → (told : ToldLists) → ProgramHas options 0 told told plan.items t a
+program_has options plan t sizes limits keeper start end arrays a sizes_are limits_are same spared opens is runs arrays_are only =
+    has_run options plan.items t keeper start runs.turns spared
     (subst (λ (z : Sizes). Opens z (code_of t) (initial_arrays t) keeper start) sizes_are opens) is
     (subst (λ (p : Planned). ObeyAll p (limits_of options) start.shape start.code start.state runs.turns) (same_plan options plan same)
     (subst (λ (l : Limits). ObeyAll plan l start.shape start.code start.state runs.turns) limits_are runs.obey))

@@ -9,7 +9,7 @@ use Rattle.ppm_step.specs.declared.turn.Act.TheVariants.{Step}
 use Rattle.ppm_step.specs.declared.turn.Next.{Next}
 use Rattle.ppm_step.specs.declared.turn.Next.TheVariants.{Work, Look, Seek, Done}
 use Rattle.ppm_step.specs.Standings.{Standing}
-use Rattle.ppm_step.specs.State.{stand_of, happens, along, next_of, seeks_holder, work_next, work_of}
+use Rattle.ppm_step.specs.State.{stand_of, happens, along, next_of, seeks_holder, work_next, work_of, is_work_next}
 use Rattle.ppm_core.specs.Acts.{is_done_at}
 use Rattle.ppm_core.specs.Situation.{Situation, turned, run_on}
 use Rattle.ppm_core.specs.Steps.{steady_step, steady_steps, IsSteady, AreSteady, EndsInWork}
@@ -17,12 +17,13 @@ use Rattle.ppm_core.proofs.RunLemmas.{run_none, run_step}
 use Rattle.ppm_choice.specs.declared.limits.Limits.{Limits}
 use Rattle.ppm_choice.specs.declared.pace.Pace.{Pace}
 use Rattle.ppm_choice.specs.Deeds.{Deed}
-use Rattle.ppm_choice.specs.Obeying.{Past, behind, is_work, fault_of, next_act, Stops}
+use Rattle.ppm_choice.specs.Obeying.{Past, behind, fault_of, next_act, Stops}
 use Rattle.ppm_choice.specs.Paces.{IsPace, AreClear}
 use Rattle.ppm_choice.proofs.ParkLemmas.{keeper_awake}
 use Rattle.ppm_choice.proofs.StepsLemmas.{next_is_step}
 use Rattle.ppm_driver.specs.Obedience.{ObeysTo}
-use Rattle.ppm_driver.specs.Going.{HasDrawn, Leads}
+use Rattle.ppm_choice.specs.Drawn.{HasDrawn}
+use Rattle.ppm_driver.specs.Going.{Leads}
 use Rattle.ppm_driver.proofs.AloneLemmas.{goes_on}
 
 -- one step, and what is done behind so many
@@ -42,7 +43,7 @@ pub acts_are : (past : Past) (m : Situation) (n : ℕ) → (past_steps past m n)
 acts_are past m zero = omega arith
 acts_are past m (suc n) = omega (arith, acts_are (behind past (step_deed m)) (turned m (steady_step 0)) n)
 
-one_counts : (next : Next) (n : ℕ) → (if is_work next then n + 1 else n) ≡ n + length (work_next 0 next)
+one_counts : (next : Next) (n : ℕ) → (if is_work_next next then n + 1 else n) ≡ n + length (work_next 0 next)
 one_counts Work n = refl
 one_counts Look n = omega arith
 one_counts Seek n = omega arith
@@ -89,7 +90,7 @@ drawn_are past m (suc n) p =
 
 -- where the last is work, no look comes behind it
 pub looks_none : (past : Past) (m : Situation) (n : ℕ) → EndsInWork m 0 (suc n) → (past_steps past m (suc n)).looks ≡ 0
-looks_none past m zero e = ap (λ next. if is_work next then 0 else past.looks + 1) e
+looks_none past m zero e = ap (λ next. if is_work_next next then 0 else past.looks + 1) e
 looks_none past m (suc n) e = looks_none (behind past (step_deed m)) (turned m (steady_step 0)) n e
 
 module _ (plan : Planned) (limits : Limits) where

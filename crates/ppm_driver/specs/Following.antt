@@ -3,7 +3,7 @@ use Rattle.std.specs.Prelude.{◌≡◌, ℕ, ◌+◌, ◌<◌, ◌≤◌, ◌^�
 use Rattle.ppm_plan.specs.declared.schedule_item.ScheduledAct.TheVariants.{Step}
 use Rattle.ppm_core.specs.Situation.{Situation, run_on}
 use Rattle.ppm_driver.specs.declared.following.Way.{Way}
-use Rattle.ppm_driver.specs.Course.{Due, Course, act_of, behind_all, turns_of}
+use Rattle.ppm_choice.specs.Course.{Due, Course, act_of, behind_all, turns_of}
 
 -- the run under way
 abbrev pub course : Situation → Way → Course

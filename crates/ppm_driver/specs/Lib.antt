@@ -1,8 +1,6 @@
-pub mod Course
-pub mod Schedules
+pub mod Followed
 pub mod Following
 pub mod Says
-pub mod Laws
 pub mod Loading
 pub mod Planned
 pub mod Programs

@@ -1,21 +1,12 @@
 -- Turns in which processors obey a plan and limits, and what they make of a machine.
-use Rattle.std.specs.Prelude.{◌≡◌, ℕ, ◌==◌, if◌then◌else◌, List, [], ◌∷◌, length}
-use Rattle.ppm_cells.specs.declared.shape.Shape.{Shape}
-use Rattle.ppm_code.specs.declared.code.CodeParts.{CodeParts}
+use Rattle.std.specs.Prelude.{◌≡◌, List}
 use Rattle.ppm_plan.specs.Schedules.{Planned}
 use Rattle.ppm_step.specs.declared.turn.Turn.{Turn}
-use Rattle.ppm_step.specs.State.{State, stand_of, after, along, work_of}
+use Rattle.ppm_step.specs.State.{stand_of, after}
 use Rattle.ppm_core.specs.Situation.{Situation, run_on}
 use Rattle.ppm_choice.specs.declared.limits.Limits.{Limits}
 use Rattle.ppm_choice.specs.Deeds.{deeds_of, AreOf}
 use Rattle.ppm_choice.specs.Obeying.{Past, Obeys, ObeyAll}
-
--- how many work turns a processor makes
-abbrev pub work_by : (processor : ℕ) → State → Turn → List ℕ
-work_by processor state turn = if turn.processor == processor then work_of state turn else []
-
-abbrev pub work_made : Shape → CodeParts → (processor : ℕ) → State → List Turn → ℕ
-work_made s code processor state turns = length (along s code (work_by processor) state turns)
 
 -- turns in which each processor obeys make this of a machine
 pub record RunsTo (plan : Planned) (limits : Limits) (m m' : Situation) : Type 0 where

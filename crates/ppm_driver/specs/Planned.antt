@@ -23,7 +23,10 @@ pub record IsRefusedBy {A : Type 0} (form : Form A) (plan : List ℕ) (processor
 -- the answer where there is no plan: that it is refused, or that memory was
 abbrev pub refusal_of : PlanError → Answer
 refusal_of errors.NoMemory = answers.NoMemory
-refusal_of error = answers.PlanRefused (number_of error)
+refusal_of (errors.BadItem item) = answers.PlanRefused (number_of (errors.BadItem item))
+refusal_of (errors.NoSuchProcessor item) = answers.PlanRefused (number_of (errors.NoSuchProcessor item))
+refusal_of errors.TooManyFaults = answers.PlanRefused (number_of errors.TooManyFaults)
+refusal_of errors.AllKilled = answers.PlanRefused (number_of errors.AllKilled)
 
 module _ {A : Type 0} (form : Form A) (plan : List ℕ) (processors : ℕ) (Has : List A → List ℕ → Answer → Type 0) where
   -- the answer of a text by the items of the plan, which may be obeyed

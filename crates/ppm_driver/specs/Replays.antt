@@ -21,9 +21,10 @@ use Rattle.ppm_driver.specs.declared.loading.Sizes.{Sizes}
 use Rattle.ppm_driver.specs.Loading.{Opens}
 use Rattle.ppm_driver.specs.Planned.{PlannedHas, PlannedMay, HasSomeAnswer}
 use Rattle.ppm_driver.specs.Programs as programs
-use Rattle.ppm_driver.specs.RunOf.{FilledIfSaid}
+use Rattle.ppm_choice.specs.Finishes.{FilledIfSaid}
 use Rattle.ppm_driver.specs.Says.{IsOfWords}
-use Rattle.ppm_driver.specs.Schedules.{schedule_turns, followed}
+use Rattle.ppm_choice.specs.Schedules.{schedule_turns}
+use Rattle.ppm_driver.specs.Followed.{followed}
 
 -- the machine's sizes, as the options say them
 abbrev pub sizes_of : ReplayOptions → Sizes
@@ -51,7 +52,7 @@ pub record ProgramHas (options : ReplayOptions) (items : List ScheduleItem) (t :
   pub proposed : finish_in (followed start items options.turns) ≢ 0
       → IsProposedWord options.processors (finish_in (followed start items options.turns))
   pub exact : finish_in (followed start items options.turns) ≡ 0 → (followed start items options.turns).turns ≡ options.turns
-  pub filled : FilledIfSaid start (schedule_turns start.shape start.code start.state items options.turns)
+  pub filled : FilledIfSaid start.shape start.code start.state (schedule_turns start.shape start.code start.state items options.turns)
       (finish_in (followed start items options.turns))
   pub says : IsSaid options.turns (followed start items options.turns) (initial_arrays t) answer
 

@@ -15,16 +15,16 @@ use Rattle.ppm_answers.specs.Texts.{arrays_text, trap_text, turns_text, room_tex
 use Rattle.ppm_answers.specs.Reading.{IsUnread}
 use Rattle.ppm_answers.specs.Rows.{PortsSay, PlannedRows, IsShown}
 use Rattle.ppm_cli.specs.declared.run.RunOptions.{RunOptions}
-use Rattle.ppm_step.specs.Laws.{IsFilled}
+use Rattle.ppm_step.specs.Laws.{IsFilledBehind}
 use Rattle.ppm_driver.specs.MachineRows as machine
-use Rattle.ppm_driver.specs.Obedience.{work_made}
+use Rattle.ppm_choice.specs.Deeds.{work_made}
 use Rattle.ppm_driver.specs.Planned.{IsRefusedBy, HasByItems}
 use Rattle.ppm_driver.specs.Runs.{RunHas, TextHas}
 
-module _ (options : RunOptions) (plan : List ℕ) (o : Outside) where
+module _ (options : RunOptions) (watching : ℕ) (plan : List ℕ) (o : Outside) where
   -- the answers of texts by items of a plan, with what the watchers were told
   abbrev pub Has : List PlanItem → List ℕ → Answer → Type 0
-  Has items text answer = TextHas options o.told_before o.told_now items text answer
+  Has items text answer = TextHas options watching o.told_before o.told_now items text answer
 
   -- the text that was read has this answer, with these options and this plan
   abbrev pub HasRead : Answer → Type 0
@@ -52,11 +52,12 @@ module _ (options : RunOptions) (plan : List ℕ) (o : Outside) where
     pub spent : IsSpent processor read
     pub gets : Gets o.err (turns_text processor)
 
-  -- a turn of that run found the pool of a place full
+  -- a turn of that run found the pool of a place full: it began the capsule that the header of the frame names, which asks for more words
+  -- than are left
   abbrev pub IsFull : (place : ℕ) → HasRead (answers.OutOfRoom place) → Type 0
   IsFull place read =
       let p = read.2.has.2 in
-      (place < options.processors) × IsFilled p.start.shape p.start.code place p.start.state.words p.run.turns
+      (place < options.processors) × IsFilledBehind p.start.shape p.start.code place p.start.state.words p.run.turns
 
   -- so it is, and err got exactly the line that says so
   pub record WritesOutOfRoom : Type 0 where
@@ -76,7 +77,7 @@ module _ (options : RunOptions) (plan : List ℕ) (o : Outside) where
   RunSays statuses.Broken = machine.WritesBroken plan_form plan options.processors Has (ports_of o)
   RunSays status = PortsSay (ports_of o) status
 
-  -- The rows of `run` with such options and such a plan. Where there is one processor, the answer that a text has is written, whichever it
+  -- The rows of `run` with such options and such a plan, where so many watchers are told what their processors do. Where there is one processor, the answer that a text has is written, whichever it
   -- is and whatever watchers were told.
   pub record RunRows (status : Status) : Type 0 where
     pub rows : PlannedRows (IsRefusedBy plan_form plan options.processors) (HasByItems plan_form plan options.processors Has) text_limit RunSays

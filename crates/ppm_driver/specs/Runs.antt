@@ -24,7 +24,7 @@ use Rattle.ppm_driver.specs.Planned.{PlannedHas, PlannedMay}
 use Rattle.ppm_driver.specs.Programs as programs
 use Rattle.ppm_driver.specs.RunOf.{RunOf}
 use Rattle.ppm_driver.specs.Says.{IsOfWords}
-use Rattle.ppm_driver.specs.Watchers.{watched, AreTold}
+use Rattle.ppm_driver.specs.Watchers.{AreTold}
 
 -- the machine's sizes and the limits, as the options say them
 abbrev pub sizes_of : RunOptions → Sizes
@@ -42,35 +42,36 @@ abbrev pub IsSaid : Shape → (lengths : List ℕ) → List NamedArray → (word
 IsSaid s lengths arrays words answer =
     IsOfWords s lengths words answers.Ended answers.Trapped (λ processor a. a ≡ answers.OutOfTurns processor) (λ a. ⊥) arrays answer
 
--- the answer of a program by the items of a plan, with such lists of the watchers before the run and after it: that of a run from the
--- machine with which a run of the program's code on its arrays begins, with the plan's keeper
-pub record ProgramHas (options : RunOptions) (before now : ToldLists) (items : List PlanItem) (t : ProgramTree) (answer : Answer) : Type 0 where
+-- the answer of a program by the items of a plan, where the first so many watchers are told what their processors do, with such lists before
+-- the run and after it: that of a run from the machine with which a run of the program's code on its arrays begins, with the plan's keeper
+pub record ProgramHas (options : RunOptions) (watching : ℕ) (before now : ToldLists) (items : List PlanItem) (t : ProgramTree) (answer : Answer)
+    : Type 0 where
   pub keeper : ℕ
   pub spared : IsKeeper plan_form items keeper
   pub start : Situation
   pub opens : Opens (sizes_of options) (code_of t) (initial_arrays t) keeper start
   pub run : RunOf (plan_of options items) (limits_of options) start
-      (AreTold watched (plan_of options items) (limits_of options) before now start)
+      (AreTold watching (plan_of options items) (limits_of options) before now start)
       (IsSaid start.shape start.array_lengths (initial_arrays t)) answer
 
 -- that of a text: its program's, or its refusal
-abbrev pub TextHas : RunOptions → (before now : ToldLists) → List PlanItem → List ℕ → Answer → Type 0
-TextHas options before now items text answer = programs.TextHas (ProgramHas options before now items) text answer
+abbrev pub TextHas : RunOptions → (watching : ℕ) → (before now : ToldLists) → List PlanItem → List ℕ → Answer → Type 0
+TextHas options watching before now items text answer = programs.TextHas (ProgramHas options watching before now items) text answer
 
 -- the answer of a text with such options and such a plan, whatever watchers were told: that the plan is refused, or that by its items
 abbrev pub RunHas : RunOptions → (plan : List ℕ) → List ℕ → Answer → Type 0
-RunHas options plan text answer = PlannedHas plan_form plan options.processors (TextHas options [] []) text answer
+RunHas options plan text answer = PlannedHas plan_form plan options.processors (TextHas options 0 [] []) text answer
 
--- the answers of `run` with such options and such a plan, and such lists
-abbrev pub RunMay : RunOptions → (plan : List ℕ) → (before now : ToldLists) → Port → Answer → Type 0
-RunMay options plan before now source answer =
-    PlannedMay plan_form plan options.processors (TextHas options before now) text_limit source answer
+-- the answers of `run` with such options and such a plan, where the first so many watchers are told what their processors do, and such lists
+abbrev pub RunMay : RunOptions → (watching : ℕ) → (plan : List ℕ) → (before now : ToldLists) → Port → Answer → Type 0
+RunMay options watching plan before now source answer =
+    PlannedMay plan_form plan options.processors (TextHas options watching before now) text_limit source answer
 
 -- two answers of a text are one where there is one processor, with such options and all plans
 abbrev pub AnswersAreOne : Type 0
 AnswersAreOne = (options : RunOptions) (plan : List ℕ) → options.processors ≡ 1 → AreOne (RunHas options plan)
 
--- and what stands behind more bytes than a text may have changes none, with all options and all plans
+-- and what stands behind more bytes than a text may have changes none, with all options and all plans, whoever is told anything
 abbrev pub FrontsDecideAnswers : Type 0
-FrontsDecideAnswers = (options : RunOptions) (before now : ToldLists) (plan : List ℕ)
-    → FrontsDecide text_limit (λ text answer. PlannedHas plan_form plan options.processors (TextHas options before now) text answer)
+FrontsDecideAnswers = (options : RunOptions) (watching : ℕ) (before now : ToldLists) (plan : List ℕ)
+    → FrontsDecide text_limit (λ text answer. PlannedHas plan_form plan options.processors (TextHas options watching before now) text answer)

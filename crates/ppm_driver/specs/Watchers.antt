@@ -13,10 +13,6 @@ use Rattle.ppm_choice.specs.Tells.{told_in}
 abbrev pub watcher_count : ℕ
 watcher_count = processor_limit
 
--- how many of them are told what their processor does: none yet
-abbrev pub watched : ℕ
-watched = 0
-
 -- the first watchers, as many as are watching, were told what is told of their processors in these turns, and the others nothing
 pub record AreTold (watching : ℕ) (plan : Planned) (limits : Limits) (before now : ToldLists) (start : Situation) (turns : List Turn)
     : Type 0 where

@@ -3,47 +3,22 @@ ghost use Rattle.std.specs.Prelude.{◌≡◌, ◌<◌, ◌≤◌, ◌^◌, true
 ghost use Rattle.ppm_plan.specs.Draws.{Drawing};
 ghost use Rattle.ppm_plan.specs.Forms.{plan_form};
 ghost use Rattle.ppm_plan.specs.Refusals.{IsKeeper};
-ghost use Rattle.ppm_step.specs.Standings.{Standing, IsLost};
+ghost use Rattle.ppm_step.specs.Standings.{IsLost};
 ghost use Rattle.ppm_step.specs.State.{stand_of};
 ghost use Rattle.ppm_core.specs.Machine.{seen};
 ghost use Rattle.ppm_core.specs.Situation.{Situation};
-ghost use Rattle.ppm_choice.specs.Obeying.{Past, nothing_done};
-ghost use Rattle.ppm_choice.specs.Paces.{IsPace};
+ghost use Rattle.ppm_choice.specs.Obeying.{nothing_done};
 ghost use Rattle.ppm_driver.specs.Obedience.{ObeysTo, RunsTo};
-ghost use Rattle.ppm_driver.specs.Going.{HasDrawn, IsNext, IsSomewhere, Leads, LeadsBy};
-ghost use Rattle.ppm_driver.specs.Going.{is_over as over};
+ghost use Rattle.ppm_driver.specs.Going.{IsSomewhere, Leads, LeadsBy};
 
-use ppm_choice::{Choice, Limits, Pace, choose, clear_steps};
+use ppm_choice::{Limits, Pace, clear_steps, is_over, next_act};
 use ppm_core::Machine;
 use ppm_plan::{Plan, Victims};
-use ppm_step::{Act, Next, Turn};
+use ppm_step::Turn;
 use std::sync::Wait;
 
 /// The turns of a machine, 2^62, behind which no act is made; no run comes so far.
 const MOST_TURNS: u64 = 1 << 62;
-
-/// Whether no step is to come.
-fn is_over(next: Next) -> bool
-    ensures { result ≡ over next }
-{
-    matches!(next, Next::Done)
-}
-
-/// The next act, with the next victim where one is due; `None` where the processor leaves.
-fn next_act(pace: &Pace, victims: &mut Victims, plan: &Plan, limits: Limits) -> Option<Act>
-    ensures { (past : Past) (stood : Standing) → IsPace plan.now limits past stood pace.now
-        → HasDrawn plan.now limits pace.now.processor past victims.old
-        → IsNext plan.now limits pace.now.processor past stood victims.new result }
-{
-    match choose(pace, plan, limits) {
-        Choice::Leave => None,
-        Choice::Draw => {
-            let victim = victims.next();
-            Some(Act::Step { victim })
-        }
-        Choice::Do(act) => Some(act),
-    }
-}
 
 /// Makes the next act of processor 0; `false`, and none is made, where its acts stop.
 fn act(

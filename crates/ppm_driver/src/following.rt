@@ -6,14 +6,16 @@ ghost use Rattle.ppm_core.specs.Acts.{is_done_at, IsTurnAmong};
 ghost use Rattle.ppm_plan.specs.Schedules.{IsActAmong, IsItemAmong, IsVictimAmong};
 ghost use Rattle.ppm_core.specs.Machine.{seen};
 ghost use Rattle.ppm_step.specs.State.{stand_of};
-ghost use Rattle.ppm_driver.specs.Course.{Due, Listed, InRound, act_by as act_of_fault};
-ghost use Rattle.ppm_driver.specs.Course.{processor_of, victim_at, victim_of, turn_of};
-ghost use Rattle.ppm_driver.specs.Course.{loads_behind, is_open, is_made};
-ghost use Rattle.ppm_driver.specs.Schedules.{listed, round, rounds, followed};
+ghost use Rattle.ppm_choice.specs.Course.{Due, Listed, InRound};
+ghost use Rattle.ppm_choice.specs.Course.{processor_of, victim_at, victim_of, turn_of};
+ghost use Rattle.ppm_choice.specs.Course.{loads_behind, is_open, is_made};
+ghost use Rattle.ppm_choice.specs.Schedules.{listed, round, rounds};
+ghost use Rattle.ppm_driver.specs.Followed.{followed};
 ghost use Rattle.ppm_driver.specs.Following.{course, IsReady, IsStepOf, Does};
 
+use ppm_choice::act_of_fault;
 use ppm_core::Machine;
-use ppm_plan::{Fault, Schedule, ScheduleItem, ScheduledAct};
+use ppm_plan::{Schedule, ScheduleItem, ScheduledAct};
 use ppm_step::{Act, Turn};
 
 /// What is counted along a run: how many holder words each processor has loaded as it sought work,
@@ -30,15 +32,6 @@ fn processor_of(act: ScheduledAct) -> u32
 {
     match act {
         ScheduledAct::Step { processor, .. } | ScheduledAct::Fails { processor, .. } => processor,
-    }
-}
-
-fn act_of(fault: Fault) -> Act
-    ensures { result ≡ act_of_fault fault }
-{
-    match fault {
-        Fault::Soft => Act::Soft,
-        Fault::Hard => Act::Hard,
     }
 }
 
@@ -82,7 +75,7 @@ fn turn_of(machine: &Machine, way: &mut Way, act: ScheduledAct) -> Turn
         }
         ScheduledAct::Fails { processor, fault } => Turn {
             processor,
-            act: act_of(fault),
+            act: act_of_fault(fault),
         },
     }
 }

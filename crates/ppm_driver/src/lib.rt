@@ -1,9 +1,8 @@
 //! Commands that run a machine: `replay` follows a schedule, `run` lets one processor obey a plan
 //! of faults and limits.
-//! Model: what a schedule says is a list of acts that are due (`specs/Schedules`, `specs/Course`);
-//! obedience is that of `ppm_choice`.
+//! Model: what a schedule says, and obedience, are those of `ppm_choice`.
 //! Contract: `follow` and `obey` make of a machine exactly what those turns make of it
-//! (`specs/Schedules`, `specs/Obedience`); `replay_command` delivers the one answer of a text
+//! (`specs/Followed`, `specs/Obedience`); `replay_command` delivers the one answer of a text
 //! (`specs/Replays`); `run_command`, if it returns, one that it has: that of a run in which each
 //! processor obeys (`specs/RunOf`, `specs/Runs`). What follows from each status: `specs/RunRows`,
 //! `specs/ReplayRows`.
@@ -14,7 +13,6 @@
 mod alone;
 mod arrays;
 mod following;
-mod laws;
 mod loading;
 mod one_replay;
 mod one_run;
@@ -26,7 +24,6 @@ mod saying;
 
 pub use alone::obey;
 pub use following::follow;
-pub use laws::{schedules_go_on, schedules_keep_order, schedules_skip_done, unfinished_is_exact};
 pub use loading::{Sizes, load};
 pub use one_replay::have_one_answer;
 pub use one_run::answers_are_one;

@@ -1,15 +1,15 @@
 //! The command `replay`.
 ghost use Rattle.std.specs.Prelude.{◌≡◌, IfOk};
 ghost use Rattle.ppm_ports.specs.Ports.{port};
-ghost use Rattle.ppm_ports.specs.Outside.{ToldLists, outside};
-ghost use Rattle.ppm_answers.specs.Reading.{Answers, JudgingMay, TellsNothing};
+ghost use Rattle.ppm_ports.specs.Outside.{ports};
+ghost use Rattle.ppm_answers.specs.Reading.{JudgingMay};
 ghost use Rattle.ppm_cli.specs.Words.{AreReplayed};
 ghost use Rattle.ppm_text.specs.Limits.{text_limit};
 ghost use Rattle.ppm_tree.specs.Tree.{tree_of};
 ghost use Rattle.ppm_cut_bounds.specs.Bounds.{IsWithinBounds};
 ghost use Rattle.ppm_driver.specs.Programs.{ProgramMay};
 ghost use Rattle.ppm_driver.specs.Replays.{ProgramHas, ReplayMay, TextHas, sizes_of as sizes_in};
-ghost use Rattle.ppm_driver.specs.ReplayRows.{ReplayRows};
+ghost use Rattle.ppm_driver.specs.ReplayRows.{IsReplayed};
 
 use crate::following::follow;
 use crate::loading::{Sizes, load};
@@ -38,17 +38,9 @@ pub fn replay_command<S: Source, K: Sink, E: Sink>(
 ) -> Status
     requires options { AreReplayed options }
 
-    // An answer that the command's causes allow, and its texts; no watcher is told anything.
-    ensures answers { (told : ToldLists)
-        → let o = outside (port S.left S.fault_count source.old source.new)
-        (port K.written K.fault_count out.old out.new) (port E.written E.fault_count err.old err.new)
-        told told in Answers (ReplayMay options schedule.now o.source) TellsNothing o result }
-
-    // What follows from each status.
-    ensures rows { (told : ToldLists)
-        → ReplayRows options schedule.now (outside (port S.left S.fault_count source.old source.new)
-        (port K.written K.fault_count out.old out.new) (port E.written E.fault_count err.old err.new)
-        told told) result }
+    // An answer that the command's causes allow is delivered, and its rows hold.
+    ensures { IsReplayed options schedule.now (ports (port S.left S.fault_count source.old source.new)
+        (port K.written K.fault_count out.old out.new) (port E.written E.fault_count err.old err.new)) result }
 {
     // The rows rest on these laws; the calls do nothing.
     have_one_answer();

@@ -49,14 +49,15 @@ pub fn run_command<R: Wait, S: Source, K: Sink, E: Sink, W: Watch>(
     requires options { AreRun options }
     requires watchers { length watch.old.items ≡ watcher_count }
 
-    // An answer that the command's causes allow, and its texts.
+    // An answer that the command's causes allow, and its texts; none of the watchers is told yet
+    // what its processor does.
     ensures answers { let o = outside (port S.left S.fault_count source.old source.new)
         (port K.written K.fault_count out.old out.new) (port E.written E.fault_count err.old err.new)
         (map W.told watch.old.items) (map W.told watch.new.items)
-        in Answers (RunMay options faults.now o.told_before o.told_now o.source) TellsNothing o result }
+        in Answers (RunMay options 0 faults.now o.told_before o.told_now o.source) TellsNothing o result }
 
     // What follows from each status.
-    ensures rows { RunRows options faults.now (outside (port S.left S.fault_count source.old source.new)
+    ensures rows { RunRows options 0 faults.now (outside (port S.left S.fault_count source.old source.new)
         (port K.written K.fault_count out.old out.new) (port E.written E.fault_count err.old err.new)
         (map W.told watch.old.items) (map W.told watch.new.items)) result }
 
@@ -81,7 +82,7 @@ fn read_answer<R: Wait, S: Source>(
 ) -> Answer
     requires options { AreRun options }
     ensures { (told : ToldLists)
-        → RunMay options faults.now told told (port S.left S.fault_count source.old source.new) result }
+        → RunMay options 0 faults.now told told (port S.left S.fault_count source.old source.new) result }
 {
     // A plan that is accepted is not refused, by this law; the call does nothing.
     plans_have_one_answer();
@@ -101,7 +102,7 @@ fn planned_answer<R: Wait, S: Source>(
 ) -> Answer
     requires options { AreRun options }
     requires processors { plan.now.processors ≡ options.processors }
-    ensures { (told : ToldLists) → JudgingMay text_limit (TextHas options told told plan.now.items)
+    ensures { (told : ToldLists) → JudgingMay text_limit (TextHas options 0 told told plan.now.items)
         (port S.left S.fault_count source.old source.new) result }
 {
     match read_program(alloc, source) {
@@ -122,7 +123,7 @@ fn program_answer<R: Wait>(
     requires processors { plan.now.processors ≡ options.processors }
     requires bounded { IsWithinBounds (tree_of program.now) }
     ensures { (told : ToldLists)
-        → ProgramMay (ProgramHas options told told plan.now.items (tree_of program.now)) result }
+        → ProgramMay (ProgramHas options 0 told told plan.now.items (tree_of program.now)) result }
 {
     match ran(rt, alloc, options, plan, program) {
         Ok(answer) => answer,
@@ -142,7 +143,7 @@ fn ran<R: Wait>(
     requires processors { plan.now.processors ≡ options.processors }
     requires bounded { IsWithinBounds (tree_of program.now) }
     ensures { IfOk result (λ answer. (told : ToldLists)
-        → ProgramHas options told told plan.now.items (tree_of program.now) answer) }
+        → ProgramHas options 0 told told plan.now.items (tree_of program.now) answer) }
 {
     let mut machine = load(alloc, sizes_of(options), program, plan.keeper())?;
     // What the type of its code keeps is known once its parts were seen.

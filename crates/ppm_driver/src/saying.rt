@@ -8,13 +8,10 @@ ghost use Rattle.ppm_driver.specs.Runs.{IsSaid as IsSaidOfRun};
 
 use crate::arrays::arrays_of;
 use ppm_answers::{Answer, Tally};
-use ppm_cells::Finish;
+use ppm_cells::{Finish, UNKNOWN_PLACE};
 use ppm_core::{Ending, Machine};
-use ppm_words::{NamedArray, NoMemory, PROCESSOR_LIMIT};
+use ppm_words::{NamedArray, NoMemory};
 use std::alloc::Global;
-
-/// The place that isn't known.
-const UNKNOWN_PLACE: u32 = PROCESSOR_LIMIT;
 
 /// What is answered behind a run in which processors obey.
 pub(crate) fn run_answer(

@@ -36,7 +36,11 @@ impl From<TextError> for JudgeError {
     fn from(e: TextError) -> Self {
         match e {
             TextError::NoMemory => JudgeError::NoMemory,
-            _ => JudgeError::Refused(Refusal {
+            TextError::TooLong(_)
+            | TextError::NotAscii(_)
+            | TextError::BadChar(_)
+            | TextError::NumberTooBig(_)
+            | TextError::NameTooLong(_) => JudgeError::Refused(Refusal {
                 pass: Pass::Text,
                 number: e.number(),
                 place: e.place(),
@@ -54,7 +58,10 @@ impl From<SyntaxError> for JudgeError {
     fn from(e: SyntaxError) -> Self {
         match e {
             SyntaxError::NoMemory => JudgeError::NoMemory,
-            _ => JudgeError::Refused(Refusal {
+            SyntaxError::Expected(_)
+            | SyntaxError::Ended(_)
+            | SyntaxError::TooDeep(_)
+            | SyntaxError::TooMany(_, _) => JudgeError::Refused(Refusal {
                 pass: Pass::Syntax,
                 number: e.number(),
                 place: e.place(),
@@ -72,7 +79,19 @@ impl From<RegionError> for JudgeError {
     fn from(e: RegionError) -> Self {
         match e {
             RegionError::NoMemory => JudgeError::NoMemory,
-            _ => JudgeError::Refused(Refusal {
+            RegionError::UnknownName(_)
+            | RegionError::TwiceNamed(_)
+            | RegionError::WrongKind(_)
+            | RegionError::WrongCount(_)
+            | RegionError::WriteToRef(_)
+            | RegionError::LentTwice(_)
+            | RegionError::HiddenRegion(_)
+            | RegionError::BadMain(_)
+            | RegionError::BadInput(_)
+            | RegionError::NoValue(_)
+            | RegionError::TwiceTarget(_)
+            | RegionError::OuterWritten(_)
+            | RegionError::OuterAssigned(_) => JudgeError::Refused(Refusal {
                 pass: Pass::Region,
                 number: e.number(),
                 place: e.line(),
@@ -90,7 +109,9 @@ impl From<BoundError> for JudgeError {
     fn from(e: BoundError) -> Self {
         match e {
             BoundError::NoMemory => JudgeError::NoMemory,
-            _ => JudgeError::Refused(Refusal {
+            BoundError::TooManySlots(_)
+            | BoundError::TooManyCaught(_)
+            | BoundError::TooManyCapsules => JudgeError::Refused(Refusal {
                 pass: Pass::Cut,
                 number: e.number(),
                 place: e.place(),

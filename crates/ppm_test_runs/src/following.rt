@@ -3,12 +3,13 @@
 ghost use Rattle.std.specs.Prelude.{◌≡◌, IfOk, []};
 
 use ppm_cells::{Finish, Shape};
-use ppm_choice::Limits;
+use ppm_choice::{
+    Limits, runs_finish, schedules_go_on, schedules_keep_order, schedules_skip_done,
+    unfinished_is_exact,
+};
 use ppm_code::{Capsule, Code, CodeParts, End, Instr, Procedure};
 use ppm_core::{Ending, Machine};
-use ppm_driver::{
-    follow, obey, schedules_go_on, schedules_keep_order, schedules_skip_done, unfinished_is_exact,
-};
+use ppm_driver::{follow, obey};
 use ppm_layout::image;
 use ppm_plan::{read_plan, read_schedule};
 use ppm_step::{done_has_cause, finish_stays, records_lead, room_has_cause, turns_have_cause};
@@ -99,6 +100,7 @@ fn states_laws() {
     finish_stays();
     records_lead();
     room_has_cause();
+    runs_finish();
     turns_have_cause();
 }
 

@@ -25,7 +25,7 @@ use Rattle.ppm_driver.proofs.PlannedLemmas as planned
 pub memory_before : (command : Option Command) (o : Outside) → IsUnread o.source → CommandMay command o answers.NoMemory
 memory_before None o h = h
 memory_before (Some (commands.Run options plan)) o h =
-    planned.memory_before plan_form plan options.processors (RunTextHas options o.told_before o.told_now) text_limit o.source h
+    planned.memory_before plan_form plan options.processors (RunTextHas options 0 o.told_before o.told_now) text_limit o.source h
 memory_before (Some (commands.Serial options)) o h = judged.memory_before text_limit (SerialHas options.turns) o.source h
 memory_before (Some commands.Code) o h = judged.memory_before text_limit CodeReads o.source h
 memory_before (Some commands.Check) o h = judged.memory_before listing_limit CheckHas o.source h

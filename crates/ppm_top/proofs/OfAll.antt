@@ -32,7 +32,7 @@ use Rattle.ppm_driver.specs.Runs.{TextHas as RunTextHas, AnswersAreOne, FrontsDe
 use Rattle.ppm_driver.proofs.OfReplay as of_replay
 use Rattle.ppm_driver.proofs.OfRun as of_run
 use Rattle.ppm_driver.proofs.PlannedLemmas as planned
-use Rattle.ppm_answers.specs.Reading.{IsUnread, JudgingMay, DeliversAnswer, Answers}
+use Rattle.ppm_answers.specs.Reading.{IsUnread, JudgingMay, DeliversAnswer}
 use Rattle.ppm_answers.proofs.Delivered.{of_answers}
 use Rattle.ppm_answers.specs.Rows.{IsOneOf}
 use Rattle.ppm_top.specs.Causes.{NoCommandMay, CommandMay, CommandTells, IsAnswered}
@@ -64,7 +64,7 @@ none_reports o = record { failed = λ h. absurd h; fails = fails } where
 
 command_reports : (o : Outside) (command : Option Command) → ReportsReads o (CommandMay command o)
 command_reports o None = none_reports o
-command_reports o (Some (commands.Run options plan)) = planned_reports plan_form plan options.processors (RunTextHas options o.told_before o.told_now) o
+command_reports o (Some (commands.Run options plan)) = planned_reports plan_form plan options.processors (RunTextHas options 0 o.told_before o.told_now) o
 command_reports o (Some (commands.Serial options)) = judging_reports text_limit (SerialHas options.turns) o
 command_reports o (Some commands.Code) = judging_reports text_limit CodeReads o
 command_reports o (Some commands.Check) = judging_reports listing_limit CheckHas o
@@ -146,11 +146,13 @@ refuses_words words o status a = record {
         refuses : (options : ReplayOptions) (schedule : List ℕ) → command_of words ≡ Some (commands.Replay options schedule) →
             RefusesPlan schedule_form schedule options.processors (ports_of o)
         refuses options schedule c =
-            of_replay.schedule_refused options schedule o status (subst (λ x. Answers (CommandMay x o) (CommandTells x) o status) c a) e
+            of_replay.schedule_refused options schedule (ports_of o) status
+            (subst (λ x. DeliversAnswer (CommandMay x o) (ports_of o) status) c (delivers words o status a)) e
 
         refuses_plan : (options : RunOptions) (plan : List ℕ) → command_of words ≡ Some (commands.Run options plan) →
             RefusesPlan plan_form plan options.processors (ports_of o)
-        refuses_plan options plan c = of_run.plan_refused options plan o status (subst (λ x. Answers (CommandMay x o) (CommandTells x) o status) c a) e
+        refuses_plan options plan c = of_run.plan_refused options 0 plan o status
+            (subst (λ x. DeliversAnswer (CommandMay x o) (ports_of o) status) c (delivers words o status a)) e
 
         by_words : (command_of words ≡ None) ⊎ IsPlanned (command_of words) → (command_of words ≡ None) ⊎ HasRefusedPlan words o
         by_words (inl n) = inl n
@@ -180,14 +182,13 @@ pub program_rows : Laws → (words : List (List ℕ)) (o : Outside) (status : St
 program_rows laws words o status a = record {
   run = λ options plan e. (
     run_is_in_range words options plan e,
-    of_run.run_rows options plan o status (subst (λ c. Answers (CommandMay c o) (CommandTells c) o status) e a) laws.plans laws.runs
-        laws.fronts,
+    of_run.run_rows options 0 plan o status (by_words (Some (commands.Run options plan)) e) laws.plans laws.runs laws.fronts,
   );
   serial = λ options e. serial_rows options.turns (ports_of o) (laws.outcomes options.turns) status (by_words (Some (commands.Serial options)) e);
   code = λ e. code_rows laws.codes laws.faithful (ports_of o) status (by_words (Some commands.Code) e);
   check = λ e. check_rows (ports_of o) laws.listings status (by_words (Some commands.Check) e);
-  replay = λ options schedule e. of_replay.replay_rows options schedule o status
-      (subst (λ c. Answers (CommandMay c o) (CommandTells c) o status) e a) laws.plans laws.replays;
+  replay = λ options schedule e. of_replay.replay_rows options schedule (ports_of o) status (by_words (Some (commands.Replay options schedule)) e)
+      laws.plans laws.replays;
   words_refused = refuses_words words o status a;
   faults = faults words o status a;
   nothing_on_out = delivered.nothing_on_out o.out o.err a.answer status a.delivered;

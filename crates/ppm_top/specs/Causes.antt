@@ -23,7 +23,7 @@ NoCommandMay o _ = ⊥
 -- the answers of a command, or of none
 abbrev pub CommandMay : Option Command → Outside → Answer → Type 0
 CommandMay None o answer = NoCommandMay o answer
-CommandMay (Some (commands.Run options plan)) o answer = RunMay options plan o.told_before o.told_now o.source answer
+CommandMay (Some (commands.Run options plan)) o answer = RunMay options 0 plan o.told_before o.told_now o.source answer
 CommandMay (Some (commands.Serial options)) o answer = SerialMay options.turns o.source answer
 CommandMay (Some commands.Code) o answer = CodeMay o.source answer
 CommandMay (Some commands.Check) o answer = CheckMay o.source answer

@@ -8,7 +8,7 @@ use Rattle.ppm_answers.specs.declared.status.Status.TheVariants as statuses
 use Rattle.ppm_answers.specs.Reading.{IsUnread}
 use Rattle.ppm_answers.specs.Rows.{IsOneOf}
 use Rattle.ppm_cli.specs.declared.command.Command.TheVariants as commands
-use Rattle.ppm_cli.specs.declared.command.SerialOptions.{SerialOptions}
+use Rattle.ppm_cli.specs.declared.serial.SerialOptions.{SerialOptions}
 use Rattle.ppm_cli.specs.declared.replay.ReplayOptions.{ReplayOptions}
 use Rattle.ppm_cli.specs.declared.run.RunOptions.{RunOptions}
 use Rattle.ppm_cli.specs.Words.{command_of, AreRun}
@@ -23,7 +23,7 @@ use Rattle.ppm_plan.specs.Forms.{plan_form, schedule_form}
 -- the rows of `run` hold where the words ask for a run, with these options, which are in their ranges, and this plan
 abbrev pub RunsByWords : List (List ℕ) → Outside → Status → Type 0
 RunsByWords words o status = (options : RunOptions) (plan : List ℕ) → command_of words ≡ Some (commands.Run options plan)
-    → AreRun options × RunRows options plan o status
+    → AreRun options × RunRows options 0 plan o status
 
 -- those of `serial` hold where they ask for it, with as many turns
 abbrev pub InterpretsByWords : List (List ℕ) → Outside → Status → Type 0
@@ -41,7 +41,7 @@ ChecksByWords words o status = command_of words ≡ Some commands.Check → Chec
 -- those of `replay` where they ask for that, with these options and this schedule
 abbrev pub ReplaysByWords : List (List ℕ) → Outside → Status → Type 0
 ReplaysByWords words o status = (options : ReplayOptions) (schedule : List ℕ) → command_of words ≡ Some (commands.Replay options schedule) →
-    ReplayRows options schedule o status
+    ReplayRows options schedule (ports_of o) status
 
 -- the words ask for a run by a plan, or for a replay by a schedule, that is refused
 pub data HasRefusedPlan (words : List (List ℕ)) (o : Outside) : Type 0 where

@@ -57,11 +57,11 @@ pub fn ppm<R: Wait, S: Source, K: Sink, E: Sink, W: Watch>(
     listings_have_one_answer();
     plans_have_one_answer();
     replays_have_one_answer();
-    obey(rt, alloc, words, source, out, err, watch)
+    answer_words(rt, alloc, words, source, out, err, watch)
 }
 
 /// Does the command that the words give, or answers that they give none.
-fn obey<R: Wait, S: Source, K: Sink, E: Sink, W: Watch>(
+fn answer_words<R: Wait, S: Source, K: Sink, E: Sink, W: Watch>(
     rt: &R,
     alloc: Global,
     words: &[String],

@@ -4,7 +4,7 @@ use Rattle.ppm_core.specs.Acts.{IsActAmong}
 use Rattle.ppm_core.specs.Machine.{seen}
 use Rattle.ppm_core.specs.Situation.{Situation}
 use Rattle.ppm_driver.proofs.AloneLemmas.{acts}
-use Rattle.ppm_driver.proofs.DrawnLemmas.{is_among}
+use Rattle.ppm_choice.proofs.DrawnLemmas.{is_among}
 use Rattle.ppm_driver.proofs.alone.act.Goals as goal
 
 -- the act is the next one, which names processors alone

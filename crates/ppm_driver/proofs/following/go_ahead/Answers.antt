@@ -1,5 +1,5 @@
 use Rattle.std.proofs.Common.{◌∙◌, sym}
-use Rattle.ppm_driver.specs.Course.{InRound}
+use Rattle.ppm_choice.specs.Course.{InRound}
 use Rattle.ppm_driver.proofs.AheadLemmas.{steps_are_rounds, in_round}
 use Rattle.ppm_driver.proofs.following.go_ahead.Goals as goal
 

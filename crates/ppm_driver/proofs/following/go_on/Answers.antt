@@ -1,11 +1,11 @@
 use Rattle.std.proofs.Common.{◌≡◌, ◌-◌, suc, subst, ap, ◌∙◌, arith}
 use Rattle.ppm_core.specs.Machine.{seen}
-use Rattle.ppm_driver.specs.Course.{InRound}
-use Rattle.ppm_driver.specs.Schedules.{round, rounds}
+use Rattle.ppm_choice.specs.Course.{InRound}
+use Rattle.ppm_choice.specs.Schedules.{round, rounds}
 use Rattle.ppm_driver.specs.Following.{course, Does}
 use Rattle.ppm_driver.proofs.AheadLemmas.{rounds_lead}
 use Rattle.ppm_driver.proofs.DoesLemmas.{goes_on_by, ends, ends_by, shape_stays}
-use Rattle.ppm_driver.proofs.IdleLemmas.{all_rounds, none_left, not_open, is_shut}
+use Rattle.ppm_choice.proofs.IdleLemmas.{all_rounds, none_left, not_open, is_shut}
 use Rattle.ppm_driver.proofs.following.go_on.Goals as goal
 
 -- all were made at once

@@ -1,6 +1,6 @@
 use Rattle.std.proofs.Common.{◌≡◌}
 use Rattle.ppm_core.specs.Machine.{seen}
-use Rattle.ppm_driver.specs.Schedules.{rounds}
+use Rattle.ppm_choice.specs.Schedules.{rounds}
 use Rattle.ppm_driver.specs.Following.{IsReady, LeadsTo}
 use Rattle.ppm_driver.proofs.following.go_on.Given as goal
 

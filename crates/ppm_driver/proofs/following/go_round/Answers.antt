@@ -1,8 +1,8 @@
 use Rattle.std.proofs.Common.{◌≡◌, ◌-◌, ◌+◌, suc, [], ◌∷◌, map, ap, ◌∙◌, arith}
 use Rattle.std.specs.List.{range_with_len}
 use Rattle.ppm_core.specs.Machine.{seen}
-use Rattle.ppm_driver.specs.Course.{InRound}
-use Rattle.ppm_driver.specs.Schedules.{round}
+use Rattle.ppm_choice.specs.Course.{InRound}
+use Rattle.ppm_choice.specs.Schedules.{round}
 use Rattle.ppm_driver.proofs.DoesLemmas.{goes_on_by, ends_by, shape_stays}
 use Rattle.ppm_driver.proofs.following.go_round.Goals as goal
 

@@ -1,8 +1,8 @@
 use Rattle.std.proofs.Common.{◌≡◌, ◌-◌, map}
 use Rattle.std.specs.List.{range_with_len}
 use Rattle.ppm_core.specs.Machine.{seen}
-use Rattle.ppm_driver.specs.Course.{InRound}
-use Rattle.ppm_driver.specs.Schedules.{round}
+use Rattle.ppm_choice.specs.Course.{InRound}
+use Rattle.ppm_choice.specs.Schedules.{round}
 use Rattle.ppm_driver.specs.Following.{IsReady, LeadsTo}
 use Rattle.ppm_driver.proofs.following.go_round.Given as goal
 

@@ -2,7 +2,7 @@ use Rattle.std.proofs.Common.{◌≡◌, length}
 use Rattle.std.specs.List.{All}
 use Rattle.ppm_core.specs.Machine.{seen}
 use Rattle.ppm_plan.specs.Schedules.{IsItemAmong}
-use Rattle.ppm_driver.specs.Schedules.{listed}
+use Rattle.ppm_choice.specs.Schedules.{listed}
 use Rattle.ppm_driver.specs.Following.{IsReady, LeadsTo}
 use Rattle.ppm_driver.proofs.following.list.Given as goal
 

@@ -2,11 +2,11 @@ use Rattle.std.proofs.Common.{◌≡◌, ◌-◌, suc, [], ◌∷◌, replicate,
 use Rattle.ppm_step.specs.State.{stand_of}
 use Rattle.ppm_core.specs.Acts.{is_done_at}
 use Rattle.ppm_core.specs.Machine.{seen}
-use Rattle.ppm_driver.specs.Course.{Listed}
+use Rattle.ppm_choice.specs.Course.{Listed}
 use Rattle.ppm_driver.specs.Following.{course}
 use Rattle.ppm_driver.proofs.AheadLemmas.{acts_ahead}
 use Rattle.ppm_driver.proofs.DoesLemmas.{goes_on_by, ends, ends_by, shape_stays}
-use Rattle.ppm_driver.proofs.IdleLemmas.{all_same, none_left, is_over}
+use Rattle.ppm_choice.proofs.IdleLemmas.{all_same, none_left, is_over}
 use Rattle.ppm_driver.proofs.following.repeat.Goals as goal
 
 -- all were made at once

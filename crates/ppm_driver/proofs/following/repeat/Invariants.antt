@@ -1,6 +1,6 @@
 use Rattle.std.proofs.Common.{replicate, ◌≡◌}
 use Rattle.ppm_core.specs.Machine.{seen}
-use Rattle.ppm_driver.specs.Course.{Listed}
+use Rattle.ppm_choice.specs.Course.{Listed}
 use Rattle.ppm_driver.specs.Following.{IsReady, LeadsTo}
 use Rattle.ppm_driver.proofs.following.repeat.Given as goal
 

@@ -7,5 +7,5 @@ use Rattle.ppm_driver.proofs.run.program_answer.Goals as goal
 -- what the run comes to
 pub returns-in-Ok : goal.returns-in-Ok
 returns-in-Ok g c told =
-    has_may (ProgramHas c.args.options told told c.args.plan.now.items) (kinds c.args.options.processors)
-    (of_program c.args.options told told c.args.plan.now.items) (tree_of c.args.program.now) c.in-Ok.answer (c.in-Ok.ensures told)
+    has_may (ProgramHas c.args.options 0 told told c.args.plan.now.items) (kinds c.args.options.processors)
+    (of_program c.args.options 0 told told c.args.plan.now.items) (tree_of c.args.program.now) c.in-Ok.answer (c.in-Ok.ensures told)

@@ -1,0 +1,3 @@
+-- How the program's end is shown: the top call's clauses, with watchers of which nothing is known.
+
+pub mod SilentLemmas

@@ -1,6 +1,0 @@
-use Rattle.ppm_driver.proofs.RoundLemmas.{goes_on}
-use Rattle.ppm_driver.proofs.SkipLemmas.{makes_no_more}
-use Rattle.ppm_driver.proofs.laws.schedules_go_on.Goals as goal
-
-pub returns : goal.returns
-returns c = record { no_more = makes_no_more; no_fewer = goes_on }

@@ -1,0 +1,49 @@
+use Rattle.std.proofs.Common.{Some, None, map, refl}
+use Rattle.std.specs.String.{string_bytes}
+use Rattle.ppm_answers.specs.declared.answer.Answer.TheVariants as answers
+use Rattle.ppm_cli.specs.declared.command.Command.TheVariants as commands
+use Rattle.ppm_answers.proofs.Delivered.{fixed_delivered, left_alone}
+use Rattle.ppm_top.proofs.CausesLemmas.{memory_before, by_command, by_ports, told_nothing}
+use Rattle.ppm_answers.specs.Reading.{TellsNothing}
+use Rattle.ppm_top.proofs.top.answer_words.Goals as goal
+
+-- the words ask for the serial meaning, which was answered
+pub returns-in-Ok-Some-Serial-clause-answers : goal.returns-in-Ok-Some-Serial-clause-answers
+returns-in-Ok-Some-Serial-clause-answers g c = by_ports (map string_bytes c.args.words.now) _ _ (Some (commands.Serial _))
+    (cc (c.in-Ok-Some-Serial.ensures.value, c.in-Ok-Some-Serial.field-0-is, c.in-Ok-Some-Serial.field-0-0-is)) refl refl
+    c.serial_command.ensures.delivers
+
+-- the words ask for the code, which was listed
+pub returns-in-Ok-Some-Code-clause-answers : goal.returns-in-Ok-Some-Code-clause-answers
+returns-in-Ok-Some-Code-clause-answers g c = by_ports (map string_bytes c.args.words.now) _ _ (Some commands.Code)
+    (cc (c.in-Ok-Some-Code.ensures.value, c.in-Ok-Some-Code.field-0-is, c.in-Ok-Some-Code.field-0-0-is)) refl refl
+    c.code_command.ensures.delivers
+
+-- the words ask for a check, which was answered
+pub returns-in-Ok-Some-Check-clause-answers : goal.returns-in-Ok-Some-Check-clause-answers
+returns-in-Ok-Some-Check-clause-answers g c = by_ports (map string_bytes c.args.words.now) _ _ (Some commands.Check)
+    (cc (c.in-Ok-Some-Check.ensures.value, c.in-Ok-Some-Check.field-0-is, c.in-Ok-Some-Check.field-0-0-is)) refl refl
+    c.check_command.ensures.delivers
+
+-- the words ask for a run, which was answered
+pub returns-in-Ok-Some-Run-clause-answers : goal.returns-in-Ok-Some-Run-clause-answers
+returns-in-Ok-Some-Run-clause-answers g c = by_command (map string_bytes c.args.words.now) _ _ (Some (commands.Run _ _))
+    (cc (c.in-Ok-Some-Run.ensures.value, c.in-Ok-Some-Run.field-0-is, c.in-Ok-Some-Run.field-0-0-is))
+    c.run_command.ensures.answers
+
+-- the words ask for a replay, which was answered
+pub returns-in-Ok-Some-Replay-clause-answers : goal.returns-in-Ok-Some-Replay-clause-answers
+returns-in-Ok-Some-Replay-clause-answers g c = by_ports (map string_bytes c.args.words.now) _ _ (Some (commands.Replay _ _))
+    (cc (c.in-Ok-Some-Replay.ensures.value, c.in-Ok-Some-Replay.field-0-is, c.in-Ok-Some-Replay.field-0-0-is)) refl refl
+    c.replay_command.ensures.delivers
+
+-- the words give no command, and nothing was read
+pub returns-in-Ok-None-clause-answers : goal.returns-in-Ok-None-clause-answers
+returns-in-Ok-None-clause-answers g c = by_command (map string_bytes c.args.words.now) _ _ None
+    (cc (c.in-Ok-None.ensures.value, c.in-Ok-None.field-0-is))
+    (fixed_delivered _ TellsNothing _ answers.WordsRefused _ refl tt (left_alone g.S.Source.left g.S.Source.fault_count c.args.source.now) c.deliver.ensures)
+
+-- memory was refused before the words were judged, and nothing was read
+pub returns-in-Err-clause-answers : goal.returns-in-Err-clause-answers
+returns-in-Err-clause-answers g c = fixed_delivered _ _ _ answers.NoMemory _ (told_nothing _ answers.NoMemory _) tt
+    (memory_before _ _ (left_alone g.S.Source.left g.S.Source.fault_count c.args.source.now)) c.deliver-in-Err.ensures
