@@ -13,10 +13,10 @@ use Rattle.ppm_code.specs.declared.instr.Instr.TheVariants.{StoreNew, Ends}
 use Rattle.ppm_code.specs.declared.register.Register.{Register}
 use Rattle.ppm_code.specs.Limits.{slot_limit}
 use Rattle.ppm_code.specs.Code.{Fits, IsCode, IsCapsule}
-use Rattle.ppm_code.specs.Sizes.{slots_in, slots_of}
+use Rattle.ppm_code.specs.Sizes.{slots_in, slots_of, procedure_in, procedure_at}
 use Rattle.ppm_code.specs.Strands.{instrs_in, instrs_of}
 use Rattle.ppm_code.specs.Tidy.{IsTidy, IsTidyOne, IsTidyCapsule, IsBuilder, Builds}
-use Rattle.ppm_depth.specs.Whole.{procedure_in, procedure_at, block_limit, block_at, kept_of}
+use Rattle.ppm_depth.specs.Whole.{block_limit, block_at, kept_of}
 
 -- what holds of all holds of one
 pub all_at : {X : Type 0} (P : X → Type 0) (xs : List X) (k : ℕ) (x : X) → All P xs → slice_get xs k ≡ Some x → P x
@@ -43,7 +43,7 @@ module _ (code : CodeParts) (is_code : IsCode code) where
       → Fits code (procedure_at code number) (instrs_of code number) at i
   instr_fits number at i less one =
       let c = one_at code.capsules number less in
-      subst (λ (o : Option Capsule). slice_get (instrs_in o) at ≡ Some i → Fits code (procedure_in code o) (instrs_in o) at i) (sym c.1)
+      subst (λ (o : Option Capsule). slice_get (instrs_in o) at ≡ Some i → Fits code (procedure_in o) (instrs_in o) at i) (sym c.1)
       ((all_at (IsCapsule code) code.capsules number c.0 is_code.capsules c.1).each at i) one
 
   -- a capsule of a tidy code is tidy

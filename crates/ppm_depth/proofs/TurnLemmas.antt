@@ -8,11 +8,11 @@ use Rattle.ppm_code.specs.declared.code.CodeParts.{CodeParts}
 use Rattle.ppm_code.specs.declared.code.Procedure.{Procedure}
 use Rattle.ppm_code.specs.declared.location.FrameWord.TheVariants.{Slot, Value}
 use Rattle.ppm_code.specs.Code.{IsCode, IsCapsuleOf}
+use Rattle.ppm_code.specs.Sizes.{procedure_in, procedure_at}
 use Rattle.ppm_code.specs.Strands.{Point, Gave, Trapped, at_capsule, with_value, resume, entry_in, entry_of}
 use Rattle.ppm_depth.specs.Moves.{with_slot, gone_on, stack_gone_on}
 use Rattle.ppm_depth.specs.Stack.{Own, result_of, Above, listed, tree_at, end_of, IsTarget, Holds, IsLaidOut, IsShown}
 use Rattle.ppm_depth.specs.Store.{own_at}
-use Rattle.ppm_depth.specs.Whole.{procedure_in, procedure_at}
 use Rattle.ppm_depth.specs.declared.frame.Frame.{Frame}
 use Rattle.ppm_depth.specs.declared.frame.Finish.{Finish}
 use Rattle.ppm_depth.specs.declared.frame.Finish.TheVariants as finish
@@ -31,7 +31,7 @@ module _ (code : CodeParts) where
   pub procedure_is : (q k : ℕ) → IsCapsuleOf code q k → procedure_at code k ≡ q
   procedure_is q k h = by (slice_get code.capsules k) refl
     where
-      by : (o : Option CodeCapsule) → slice_get code.capsules k ≡ o → procedure_in code o ≡ q
+      by : (o : Option CodeCapsule) → slice_get code.capsules k ≡ o → procedure_in o ≡ q
       by None e = let c = one_at code.capsules k h.1 in absurd (cc)
       by (Some c) e = subst (λ (o : Option CodeCapsule). IfSome o (λ d. d.procedure ≡ q)) e h.0
 
