@@ -65,7 +65,7 @@ fn at_once(content: &Content, value: &Value) -> Option<i64>
     }
 }
 
-/// The word of a region at an index, none where it has no such index.
+/// The word at an index of the region in a slot, none where there is no such index.
 #[inline(always)]
 fn element(content: &Content, store: &Store, slot: usize, line: u32, index: i64) -> Option<i64>
     ensures { result ≡ word_if store.now (get_or content.now.regions slot nowhere)
@@ -78,8 +78,8 @@ fn element(content: &Content, store: &Store, slot: usize, line: u32, index: i64)
     }
 }
 
-/// What an operand is worth that needs no further walk: an element whose index is there at once, or
-/// what is there itself; none of any other.
+/// What an operand is worth that is known at once, or is an element whose index is known at once;
+/// none of any other.
 #[inline(always)]
 fn operand(content: &Content, store: &Store, value: &Value) -> Option<i64>
     ensures { IfSome result (λ x. untrapped content.now store.now value.now ≡ Some x) }
