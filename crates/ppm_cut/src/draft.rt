@@ -7,11 +7,12 @@ ghost use Rattle.ppm_cut.specs.Counts.{hidden_count_in};
 ghost use Rattle.ppm_cut.specs.Counts.{IsShort, IsShortBlock, IsShortProcedure};
 ghost use Rattle.ppm_cut.specs.Drafts.{Drafts};
 
-use crate::body::{Home, Last, push_block, push_capsule};
+use crate::body::{Last, push_block, push_capsule};
 use crate::callees::Callees;
-use crate::counts::{end_of, hidden_behind, hidden_behind_block};
+use crate::counts::{Numbers, end_of, hidden_behind, hidden_behind_block};
 use crate::each::{entry_capsule, finish_capsule, halving_capsule};
 use crate::layout::{Layout, hidden_layout};
+use crate::maker::{Home, Maker};
 use crate::slots::{hidden_named_slots, hidden_slots, named_slots, procedure_slots};
 use ppm_code::{Capsule, Procedure};
 use ppm_tree::{Named, Proc, Stmt};
@@ -21,6 +22,7 @@ use std::alloc::Global;
 /// The procedures and the capsules of a code so far, and the number of the next capsule.
 #[derive(Drop)]
 pub struct Draft {
+    pub alloc: Global,
     pub procedures: Vec<Procedure>,
     pub capsules: Vec<Capsule>,
     pub next: u32,
@@ -34,6 +36,7 @@ impl Draft {
         ensures next { result.next ≡ 0 }
     {
         Draft {
+            alloc,
             procedures: Vec::new(alloc),
             capsules: Vec::new(alloc),
             next: 0,
@@ -44,7 +47,6 @@ impl Draft {
     /// has the number `hidden`.
     pub fn push_text<'a>(
         &mut self,
-        alloc: Global,
         callees: &Callees<'_>,
         number: u32,
         hidden: u32,
@@ -67,15 +69,21 @@ impl Draft {
             procedure: number,
             spare: named_slots(procedure),
         };
-        let mut layout = Layout::of_parameters(alloc, procedure.parameters.as_slice())?;
-        push_block(
-            alloc,
-            &mut self.capsules,
+        let maker = Maker {
+            alloc: self.alloc,
             callees,
             home,
-            &mut layout,
-            entry,
+        };
+        let numbers = Numbers {
+            capsule: entry,
             hidden,
+        };
+        let mut layout = Layout::of_parameters(self.alloc, procedure.parameters.as_slice())?;
+        push_block(
+            &maker,
+            &mut self.capsules,
+            &mut layout,
+            numbers,
             Last::Gives(&procedure.give),
             &procedure.body,
         )?;
@@ -87,7 +95,6 @@ impl Draft {
     /// its block.
     fn push_sweep<'a>(
         &mut self,
-        alloc: Global,
         callees: &Callees<'_>,
         number: u32,
         region: &Named,
@@ -120,22 +127,32 @@ impl Draft {
         let names = layout.len() - 2;
         let slots = hidden_slots(names, block);
         self.procedures.push(Procedure { slots, entry })?;
-        push_capsule(&mut self.capsules, number, entry_capsule(alloc, entry)?)?;
-        let halving = halving_capsule(alloc, entry, number, slots, names, region.line)?;
+        push_capsule(
+            &mut self.capsules,
+            number,
+            entry_capsule(self.alloc, entry)?,
+        )?;
+        let halving = halving_capsule(self.alloc, entry, number, slots, names, region.line)?;
         push_capsule(&mut self.capsules, number, halving)?;
-        push_capsule(&mut self.capsules, number, finish_capsule(alloc)?)?;
+        push_capsule(&mut self.capsules, number, finish_capsule(self.alloc)?)?;
         let home = Home {
             procedure: number,
             spare: hidden_named_slots(names, block),
         };
-        push_block(
-            alloc,
-            &mut self.capsules,
+        let maker = Maker {
+            alloc: self.alloc,
             callees,
             home,
+        };
+        let numbers = Numbers {
+            capsule: entry + 3,
+            hidden: number + 1,
+        };
+        push_block(
+            &maker,
+            &mut self.capsules,
             layout,
-            entry + 3,
-            number + 1,
+            numbers,
             Last::Gives(&None),
             block,
         )?;
@@ -147,7 +164,6 @@ impl Draft {
     #[cycle(hidden)]
     fn push_hidden<'a>(
         &mut self,
-        alloc: Global,
         callees: &Callees<'_>,
         layout: &mut Layout<'a>,
         hidden: u32,
@@ -165,23 +181,23 @@ impl Draft {
     {
         match statement {
             Stmt::If(_, block, other) => {
-                self.push_hidden_block(alloc, callees, layout, hidden, block)?;
+                self.push_hidden_block(callees, layout, hidden, block)?;
                 let next = hidden_behind_block(block, hidden);
-                self.push_hidden_block(alloc, callees, layout, next, other)
+                self.push_hidden_block(callees, layout, next, other)
             }
-            Stmt::While(_, block) => self.push_hidden_block(alloc, callees, layout, hidden, block),
+            Stmt::While(_, block) => self.push_hidden_block(callees, layout, hidden, block),
             Stmt::Split(_, _, _, first, second, block) => {
                 let count = layout.len();
                 layout.push(&first.name)?;
                 layout.push(&second.name)?;
-                self.push_hidden_block(alloc, callees, layout, hidden, block)?;
+                self.push_hidden_block(callees, layout, hidden, block)?;
                 layout.truncate(count);
                 Ok(())
             }
             Stmt::Each(index, part, region, block) => {
-                let mut inner = hidden_layout(alloc, layout, part, index, block)?;
-                self.push_sweep(alloc, callees, hidden, region, &mut inner, block)?;
-                self.push_hidden_block(alloc, callees, &mut inner, hidden + 1, block)
+                let mut inner = hidden_layout(self.alloc, layout, part, index, block)?;
+                self.push_sweep(callees, hidden, region, &mut inner, block)?;
+                self.push_hidden_block(callees, &mut inner, hidden + 1, block)
             }
             Stmt::Let(_, _)
             | Stmt::Assign(_, _)
@@ -195,7 +211,6 @@ impl Draft {
     #[cycle(hidden)]
     pub fn push_hidden_block<'a>(
         &mut self,
-        alloc: Global,
         callees: &Callees<'_>,
         layout: &mut Layout<'a>,
         hidden: u32,
@@ -214,7 +229,7 @@ impl Draft {
         let count = layout.len();
         let mut next = hidden;
         for statement in block {
-            self.push_hidden(alloc, callees, layout, next, statement)?;
+            self.push_hidden(callees, layout, next, statement)?;
             layout.push_lets(statement)?;
             next = hidden_behind(statement, next);
         }
