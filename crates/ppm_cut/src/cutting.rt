@@ -62,11 +62,9 @@ fn push_texts(draft: &mut Draft, callees: &Callees<'_>, procedures: &[Proc]) -> 
         (texts_from (length procedures.now) (map procedure_of procedures.now)) draft.old draft.new) }
     ensures next { OnOk result (draft.new.next ≤ own_counts (map procedure_of procedures.now)) }
 {
-    let mut number = 0;
     let mut hidden = procedures.len() as u32;
     for procedure in procedures {
-        draft.push_text(callees, number, hidden, procedure)?;
-        number += 1;
+        draft.push_text(callees, hidden, procedure)?;
         hidden = hidden_behind_block(&procedure.body, hidden);
     }
     Ok(())

@@ -43,16 +43,14 @@ impl Draft {
         }
     }
 
-    /// Adds a procedure of the text; it is the one with this number, and its first hidden procedure
-    /// has the number `hidden`.
+    /// Adds a procedure of the text, whose first hidden procedure has the number `hidden`.
     pub fn push_text<'a>(
         &mut self,
         callees: &Callees<'_>,
-        number: u32,
         hidden: u32,
         procedure: &'a Proc,
     ) -> Result<(), NoMemory>
-        requires number { length self.old.procedures.items ≡ number }
+        requires few { length self.old.procedures.items ≤ count_limit }
         requires short { IsShortProcedure (procedure_of procedure.now) }
         requires names { 12 + (own_count_in (block_of procedure.now.body.items) + hidden_count_in (block_of procedure.now.body.items)) ≤ count_limit }
         requires capsules { self.old.next + 1 + own_count_in (block_of procedure.now.body.items) ≤ count_limit }
@@ -60,6 +58,7 @@ impl Draft {
         ensures drafts { OnOk result (Drafts (map procedure_of callees.now) (OfText (procedure_of procedure.now) hidden ∷ []) self.old self.new) }
         ensures next { OnOk result (self.new.next ≤ self.old.next + 1 + own_count_in (block_of procedure.now.body.items)) }
     {
+        let number = self.procedures.len() as u32;
         let entry = self.next;
         self.procedures.push(Procedure {
             slots: procedure_slots(procedure),
@@ -91,27 +90,24 @@ impl Draft {
         Ok(())
     }
 
-    /// Adds a hidden procedure with this number and this layout, for the region of an `each` and
-    /// its block.
+    /// Adds a hidden procedure with this layout, for the region of an `each` and its block.
     fn push_sweep<'a>(
         &mut self,
         callees: &Callees<'_>,
-        number: u32,
         region: &Named,
         layout: &mut Layout<'a>,
         block: &'a [Stmt],
     ) -> Result<(), NoMemory>
-        requires number { length self.old.procedures.items ≡ number }
         requires two { 2 ≤ length layout.old }
         requires names { length layout.old + (own_count_in (block_of block.now) + hidden_count_in (block_of block.now)) ≤ count_limit }
         requires capsules { self.old.next + 4 + own_count_in (block_of block.now) ≤ count_limit }
-        requires hidden { number + 1 + hidden_count_in (block_of block.now) ≤ count_limit }
+        requires hidden { length self.old.procedures.items + 1 + hidden_count_in (block_of block.now) ≤ count_limit }
         requires short { IsShortBlock (block_of block.now) }
         ensures drafts { (part index : List ℕ) (names : List (List ℕ))
             → layout.old ≡ part ∷ index ∷ names
             → OnOk result (Drafts (map procedure_of callees.now)
             (Hidden (record {
-              number = number;
+              number = length self.old.procedures.items;
               line = region.now.line;
               part = part;
               index
@@ -123,6 +119,7 @@ impl Draft {
         ensures next { OnOk result (self.new.next ≤ self.old.next + 4 + own_count_in (block_of block.now)) }
         ensures layout { OnOk result (layout.new ≡ layout.old) }
     {
+        let number = self.procedures.len() as u32;
         let entry = self.next;
         let names = layout.len() - 2;
         let slots = hidden_slots(names, block);
@@ -196,7 +193,7 @@ impl Draft {
             }
             Stmt::Each(index, part, region, block) => {
                 let mut inner = hidden_layout(self.alloc, layout, part, index, block)?;
-                self.push_sweep(callees, hidden, region, &mut inner, block)?;
+                self.push_sweep(callees, region, &mut inner, block)?;
                 self.push_hidden_block(callees, &mut inner, hidden + 1, block)
             }
             Stmt::Let(_, _)
