@@ -86,6 +86,13 @@ module _ (procedures : List Procedure) where
     next_is = n;
   }
 
+  -- a hidden procedure, by a number that is equal
+  pub hidden_at : (m n line : ℕ) (part index : List ℕ) (names : Layout) (block : Block) (a b : Draft) → m ≡ n
+      → Drafts procedures (Hidden (record { number = m; line = line; part = part; index = index; names = names; block = block }) ∷ []) a b
+      → Drafts procedures (Hidden (record { number = n; line = line; part = part; index = index; names = names; block = block }) ∷ []) a b
+  hidden_at m n line part index names block a b e d =
+      subst (λ k. Drafts procedures (Hidden (record { number = k; line = line; part = part; index = index; names = names; block = block }) ∷ []) a b) e d
+
   -- how many procedures there are then
   pub number_behind : (layout : Layout) (h : ℕ) (s : Statement) (a b : Draft) → Drafts procedures (hidden_of layout h s) a b
       → length a.procedures.items ≡ h → length b.procedures.items ≡ hidden_behind s h

@@ -6,14 +6,13 @@ ghost use Rattle.ppm_cut_code.specs.Statements.{call_code, fork_code};
 ghost use Rattle.ppm_cut.specs.Counts.{count_limit, IsShortSide};
 
 use crate::arguments::{push_arguments, push_stores};
-use crate::callees::Callees;
 use crate::instrs::{push, push_room};
 use crate::layout::Layout;
+use crate::maker::Maker;
 use crate::size::{arguments_size, paired};
 use ppm_code::{End, Instr};
 use ppm_tree::Side;
 use ppm_words::NoMemory;
-use std::alloc::Global;
 
 /// The words of a frame with so many slots.
 pub fn frame_words(slots: u32) -> u32
@@ -34,8 +33,7 @@ pub fn fork_words(left: u32, right: u32) -> u32
 
 /// The capsule of a call.
 pub fn call_capsule(
-    alloc: Global,
-    callees: &Callees<'_>,
+    maker: &Maker<'_>,
     layout: &Layout<'_>,
     side: &Side,
     next: u32,
@@ -43,11 +41,11 @@ pub fn call_capsule(
     requires names { length layout.now ≤ count_limit }
     requires short { IsShortSide (side_of side.now) }
     ensures { IfOk result (λ body. body.items
-        ≡ call_code (map procedure_of callees.now) layout.now (side_of side.now) next) }
+        ≡ call_code (map procedure_of maker.now.callees.now) layout.now (side_of side.now) next) }
 {
-    let callee = callees.find(side.callee.name.as_bytes());
+    let callee = maker.callees.find(side.callee.name.as_bytes());
     let arguments = side.arguments.as_slice();
-    let mut body = Vec::new(alloc);
+    let mut body = Vec::new(maker.alloc);
     push_room(&mut body, frame_words(callee.slots))?;
     push_arguments(&mut body, layout, callee.parameters, arguments, 0, 1)?;
     push_stores(&mut body, 6, 0, paired(callee.parameters, arguments))?;
@@ -64,8 +62,7 @@ pub fn call_capsule(
 
 /// The capsule of a fork.
 pub fn fork_capsule(
-    alloc: Global,
-    callees: &Callees<'_>,
+    maker: &Maker<'_>,
     layout: &Layout<'_>,
     left: &Side,
     right: &Side,
@@ -74,18 +71,18 @@ pub fn fork_capsule(
     requires names { length layout.now ≤ count_limit }
     requires short_left { IsShortSide (side_of left.now) }
     requires short_right { IsShortSide (side_of right.now) }
-    ensures { IfOk result (λ body. body.items ≡ fork_code (map procedure_of callees.now) layout.now
+    ensures { IfOk result (λ body. body.items ≡ fork_code (map procedure_of maker.now.callees.now) layout.now
         (side_of left.now) (side_of right.now) next) }
 {
-    let first = callees.find(left.callee.name.as_bytes());
-    let second = callees.find(right.callee.name.as_bytes());
+    let first = maker.callees.find(left.callee.name.as_bytes());
+    let second = maker.callees.find(right.callee.name.as_bytes());
     let first_arguments = left.arguments.as_slice();
     let second_arguments = right.arguments.as_slice();
     let lefts = paired(first.parameters, first_arguments);
     let rights = paired(second.parameters, second_arguments);
     let behind = arguments_size(first.parameters, first_arguments) + 1;
     let right_at = frame_words(first.slots) + 11;
-    let mut body = Vec::new(alloc);
+    let mut body = Vec::new(maker.alloc);
     push_room(&mut body, fork_words(first.slots, second.slots))?;
     push_arguments(&mut body, layout, first.parameters, first_arguments, 0, 1)?;
     push_arguments(

@@ -7,6 +7,32 @@ ghost use Rattle.ppm_cut.specs.Counts.{hidden_count_in};
 
 use ppm_tree::Stmt;
 
+/// The numbers of the next capsule and of the next hidden procedure.
+#[derive(Clone, Copy)]
+pub struct Numbers {
+    pub capsule: u32,
+    pub hidden: u32,
+}
+
+impl Numbers {
+    /// The numbers behind a statement that begins with these.
+    pub fn behind(self, statement: &Stmt) -> Numbers
+        requires capsules { self.capsule + own_count (statement_of statement.now) ≤ count_limit }
+        requires hidden { self.hidden + hidden_count (statement_of statement.now) ≤ count_limit }
+        ensures capsule { result.capsule ≡ behind (statement_of statement.now) self.capsule }
+        ensures hidden { result.hidden ≡ hidden_behind (statement_of statement.now) self.hidden }
+        ensures capsule_within { result.capsule
+            ≤ self.capsule + own_count (statement_of statement.now) }
+        ensures hidden_within { result.hidden
+            ≤ self.hidden + hidden_count (statement_of statement.now) }
+    {
+        Numbers {
+            capsule: behind(statement, self.capsule),
+            hidden: hidden_behind(statement, self.hidden),
+        }
+    }
+}
+
 /// The number behind the capsules of a statement, the first of which has the number `at`.
 #[cycle(capsules)]
 pub fn behind(statement: &Stmt, at: u32) -> u32

@@ -52,12 +52,7 @@ fn arrays_of(
 }
 
 /// Adds the procedures of the text.
-fn push_texts(
-    alloc: Global,
-    draft: &mut Draft,
-    callees: &Callees<'_>,
-    procedures: &[Proc],
-) -> Result<(), NoMemory>
+fn push_texts(draft: &mut Draft, callees: &Callees<'_>, procedures: &[Proc]) -> Result<(), NoMemory>
     requires empty { draft.old.procedures.items ≡ [] }
     requires next { draft.old.next ≡ 0 }
     requires few { length procedures.now ≤ 1024 }
@@ -67,11 +62,9 @@ fn push_texts(
         (texts_from (length procedures.now) (map procedure_of procedures.now)) draft.old draft.new) }
     ensures next { OnOk result (draft.new.next ≤ own_counts (map procedure_of procedures.now)) }
 {
-    let mut number = 0;
     let mut hidden = procedures.len() as u32;
     for procedure in procedures {
-        draft.push_text(alloc, callees, number, hidden, procedure)?;
-        number += 1;
+        draft.push_text(callees, hidden, procedure)?;
         hidden = hidden_behind_block(&procedure.body, hidden);
     }
     Ok(())
@@ -79,7 +72,6 @@ fn push_texts(
 
 /// Adds the hidden procedures.
 fn push_hiddens(
-    alloc: Global,
     draft: &mut Draft,
     callees: &Callees<'_>,
     procedures: &[Proc],
@@ -94,8 +86,8 @@ fn push_hiddens(
 {
     let mut hidden = procedures.len() as u32;
     for procedure in procedures {
-        let mut layout = Layout::of_parameters(alloc, procedure.parameters.as_slice())?;
-        draft.push_hidden_block(alloc, callees, &mut layout, hidden, &procedure.body)?;
+        let mut layout = Layout::of_parameters(draft.alloc, procedure.parameters.as_slice())?;
+        draft.push_hidden_block(callees, &mut layout, hidden, &procedure.body)?;
         hidden = hidden_behind_block(&procedure.body, hidden);
     }
     Ok(())
@@ -113,8 +105,8 @@ fn parts_of(alloc: Global, tree: &Tree) -> Result<CodeParts, NoMemory>
     let procedures = tree.procedures.as_slice();
     let callees = Callees::new(alloc, procedures)?;
     let mut draft = Draft::new(alloc);
-    push_texts(alloc, &mut draft, &callees, procedures)?;
-    push_hiddens(alloc, &mut draft, &callees, procedures)?;
+    push_texts(&mut draft, &callees, procedures)?;
+    push_hiddens(&mut draft, &callees, procedures)?;
     let root = callees.find(b"main");
     let arrays = arrays_of(alloc, tree.arrays.as_slice(), root.parameters)?;
     Ok(CodeParts {

@@ -7,11 +7,12 @@ ghost use Rattle.ppm_cut.specs.Counts.{hidden_count_in};
 ghost use Rattle.ppm_cut.specs.Counts.{IsShort, IsShortBlock, IsShortProcedure};
 ghost use Rattle.ppm_cut.specs.Drafts.{Drafts};
 
-use crate::body::{Home, Last, push_block, push_capsule};
+use crate::body::{Last, push_block, push_capsule};
 use crate::callees::Callees;
-use crate::counts::{end_of, hidden_behind, hidden_behind_block};
+use crate::counts::{Numbers, end_of, hidden_behind, hidden_behind_block};
 use crate::each::{entry_capsule, finish_capsule, halving_capsule};
 use crate::layout::{Layout, hidden_layout};
+use crate::maker::{Home, Maker};
 use crate::slots::{hidden_named_slots, hidden_slots, named_slots, procedure_slots};
 use ppm_code::{Capsule, Procedure};
 use ppm_tree::{Named, Proc, Stmt};
@@ -21,6 +22,7 @@ use std::alloc::Global;
 /// The procedures and the capsules of a code so far, and the number of the next capsule.
 #[derive(Drop)]
 pub struct Draft {
+    pub alloc: Global,
     pub procedures: Vec<Procedure>,
     pub capsules: Vec<Capsule>,
     pub next: u32,
@@ -34,23 +36,21 @@ impl Draft {
         ensures next { result.next ≡ 0 }
     {
         Draft {
+            alloc,
             procedures: Vec::new(alloc),
             capsules: Vec::new(alloc),
             next: 0,
         }
     }
 
-    /// Adds a procedure of the text; it is the one with this number, and its first hidden procedure
-    /// has the number `hidden`.
+    /// Adds a procedure of the text, whose first hidden procedure has the number `hidden`.
     pub fn push_text<'a>(
         &mut self,
-        alloc: Global,
         callees: &Callees<'_>,
-        number: u32,
         hidden: u32,
         procedure: &'a Proc,
     ) -> Result<(), NoMemory>
-        requires number { length self.old.procedures.items ≡ number }
+        requires few { length self.old.procedures.items ≤ count_limit }
         requires short { IsShortProcedure (procedure_of procedure.now) }
         requires names { 12 + (own_count_in (block_of procedure.now.body.items) + hidden_count_in (block_of procedure.now.body.items)) ≤ count_limit }
         requires capsules { self.old.next + 1 + own_count_in (block_of procedure.now.body.items) ≤ count_limit }
@@ -58,6 +58,7 @@ impl Draft {
         ensures drafts { OnOk result (Drafts (map procedure_of callees.now) (OfText (procedure_of procedure.now) hidden ∷ []) self.old self.new) }
         ensures next { OnOk result (self.new.next ≤ self.old.next + 1 + own_count_in (block_of procedure.now.body.items)) }
     {
+        let number = self.procedures.len() as u32;
         let entry = self.next;
         self.procedures.push(Procedure {
             slots: procedure_slots(procedure),
@@ -67,15 +68,21 @@ impl Draft {
             procedure: number,
             spare: named_slots(procedure),
         };
-        let mut layout = Layout::of_parameters(alloc, procedure.parameters.as_slice())?;
-        push_block(
-            alloc,
-            &mut self.capsules,
+        let maker = Maker {
+            alloc: self.alloc,
             callees,
             home,
-            &mut layout,
-            entry,
+        };
+        let numbers = Numbers {
+            capsule: entry,
             hidden,
+        };
+        let mut layout = Layout::of_parameters(self.alloc, procedure.parameters.as_slice())?;
+        push_block(
+            &maker,
+            &mut self.capsules,
+            &mut layout,
+            numbers,
             Last::Gives(&procedure.give),
             &procedure.body,
         )?;
@@ -83,28 +90,24 @@ impl Draft {
         Ok(())
     }
 
-    /// Adds a hidden procedure with this number and this layout, for the region of an `each` and
-    /// its block.
+    /// Adds a hidden procedure with this layout, for the region of an `each` and its block.
     fn push_sweep<'a>(
         &mut self,
-        alloc: Global,
         callees: &Callees<'_>,
-        number: u32,
         region: &Named,
         layout: &mut Layout<'a>,
         block: &'a [Stmt],
     ) -> Result<(), NoMemory>
-        requires number { length self.old.procedures.items ≡ number }
         requires two { 2 ≤ length layout.old }
         requires names { length layout.old + (own_count_in (block_of block.now) + hidden_count_in (block_of block.now)) ≤ count_limit }
         requires capsules { self.old.next + 4 + own_count_in (block_of block.now) ≤ count_limit }
-        requires hidden { number + 1 + hidden_count_in (block_of block.now) ≤ count_limit }
+        requires hidden { length self.old.procedures.items + 1 + hidden_count_in (block_of block.now) ≤ count_limit }
         requires short { IsShortBlock (block_of block.now) }
         ensures drafts { (part index : List ℕ) (names : List (List ℕ))
             → layout.old ≡ part ∷ index ∷ names
             → OnOk result (Drafts (map procedure_of callees.now)
             (Hidden (record {
-              number = number;
+              number = length self.old.procedures.items;
               line = region.now.line;
               part = part;
               index
@@ -116,26 +119,37 @@ impl Draft {
         ensures next { OnOk result (self.new.next ≤ self.old.next + 4 + own_count_in (block_of block.now)) }
         ensures layout { OnOk result (layout.new ≡ layout.old) }
     {
+        let number = self.procedures.len() as u32;
         let entry = self.next;
         let names = layout.len() - 2;
         let slots = hidden_slots(names, block);
         self.procedures.push(Procedure { slots, entry })?;
-        push_capsule(&mut self.capsules, number, entry_capsule(alloc, entry)?)?;
-        let halving = halving_capsule(alloc, entry, number, slots, names, region.line)?;
+        push_capsule(
+            &mut self.capsules,
+            number,
+            entry_capsule(self.alloc, entry)?,
+        )?;
+        let halving = halving_capsule(self.alloc, entry, number, slots, names, region.line)?;
         push_capsule(&mut self.capsules, number, halving)?;
-        push_capsule(&mut self.capsules, number, finish_capsule(alloc)?)?;
+        push_capsule(&mut self.capsules, number, finish_capsule(self.alloc)?)?;
         let home = Home {
             procedure: number,
             spare: hidden_named_slots(names, block),
         };
-        push_block(
-            alloc,
-            &mut self.capsules,
+        let maker = Maker {
+            alloc: self.alloc,
             callees,
             home,
+        };
+        let numbers = Numbers {
+            capsule: entry + 3,
+            hidden: number + 1,
+        };
+        push_block(
+            &maker,
+            &mut self.capsules,
             layout,
-            entry + 3,
-            number + 1,
+            numbers,
             Last::Gives(&None),
             block,
         )?;
@@ -147,7 +161,6 @@ impl Draft {
     #[cycle(hidden)]
     fn push_hidden<'a>(
         &mut self,
-        alloc: Global,
         callees: &Callees<'_>,
         layout: &mut Layout<'a>,
         hidden: u32,
@@ -165,23 +178,23 @@ impl Draft {
     {
         match statement {
             Stmt::If(_, block, other) => {
-                self.push_hidden_block(alloc, callees, layout, hidden, block)?;
+                self.push_hidden_block(callees, layout, hidden, block)?;
                 let next = hidden_behind_block(block, hidden);
-                self.push_hidden_block(alloc, callees, layout, next, other)
+                self.push_hidden_block(callees, layout, next, other)
             }
-            Stmt::While(_, block) => self.push_hidden_block(alloc, callees, layout, hidden, block),
+            Stmt::While(_, block) => self.push_hidden_block(callees, layout, hidden, block),
             Stmt::Split(_, _, _, first, second, block) => {
                 let count = layout.len();
                 layout.push(&first.name)?;
                 layout.push(&second.name)?;
-                self.push_hidden_block(alloc, callees, layout, hidden, block)?;
+                self.push_hidden_block(callees, layout, hidden, block)?;
                 layout.truncate(count);
                 Ok(())
             }
             Stmt::Each(index, part, region, block) => {
-                let mut inner = hidden_layout(alloc, layout, part, index, block)?;
-                self.push_sweep(alloc, callees, hidden, region, &mut inner, block)?;
-                self.push_hidden_block(alloc, callees, &mut inner, hidden + 1, block)
+                let mut inner = hidden_layout(self.alloc, layout, part, index, block)?;
+                self.push_sweep(callees, region, &mut inner, block)?;
+                self.push_hidden_block(callees, &mut inner, hidden + 1, block)
             }
             Stmt::Let(_, _)
             | Stmt::Assign(_, _)
@@ -195,7 +208,6 @@ impl Draft {
     #[cycle(hidden)]
     pub fn push_hidden_block<'a>(
         &mut self,
-        alloc: Global,
         callees: &Callees<'_>,
         layout: &mut Layout<'a>,
         hidden: u32,
@@ -214,7 +226,7 @@ impl Draft {
         let count = layout.len();
         let mut next = hidden;
         for statement in block {
-            self.push_hidden(alloc, callees, layout, next, statement)?;
+            self.push_hidden(callees, layout, next, statement)?;
             layout.push_lets(statement)?;
             next = hidden_behind(statement, next);
         }

@@ -18,6 +18,7 @@ mod expression;
 mod free;
 mod instrs;
 mod layout;
+mod maker;
 mod register;
 mod simple;
 mod size;

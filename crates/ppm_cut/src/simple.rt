@@ -1,5 +1,5 @@
 //! The capsules of statements that call nothing.
-ghost use Rattle.std.specs.Prelude.{◌≡◌, ◌≤◌, ◌*◌, length, IfOk};
+ghost use Rattle.std.specs.Prelude.{◌≡◌, ◌≤◌, length, IfOk};
 ghost use Rattle.ppm_tree.specs.Tree.{expression_of, give_of};
 ghost use Rattle.ppm_cut_code.specs.Expressions.{size_of};
 ghost use Rattle.ppm_cut_code.specs.Statements.{onward, value_code, move_code, element_code};
@@ -12,6 +12,7 @@ use crate::instrs::{
     push_onward, push_put, push_store,
 };
 use crate::layout::Layout;
+use crate::maker::Maker;
 use crate::size::size_of;
 use ppm_code::Instr;
 use ppm_tree::{Expr, Give, Named};
@@ -50,17 +51,17 @@ pub fn store_capsule(
 
 /// The second capsule of an assignment to a local.
 pub fn move_capsule(
-    alloc: Global,
+    maker: &Maker<'_>,
     layout: &Layout<'_>,
-    spare: u32,
     local: &Named,
     next: u32,
 ) -> Result<Vec<Instr>, NoMemory>
     requires { length layout.now ≤ count_limit }
-    ensures { IfOk result (λ body. body.items ≡ move_code layout.now spare local.now next) }
+    ensures { IfOk result (λ body. body.items
+        ≡ move_code layout.now maker.now.home.spare local.now next) }
 {
-    let mut body = Vec::new(alloc);
-    push_load(&mut body, 0, spare)?;
+    let mut body = Vec::new(maker.alloc);
+    push_load(&mut body, 0, maker.home.spare)?;
     push_store(&mut body, layout.slot(&local.name), 0)?;
     push_onward(&mut body, next)?;
     Ok(body)
@@ -68,21 +69,20 @@ pub fn move_capsule(
 
 /// The first capsule of an assignment to an element.
 pub fn element_capsule(
-    alloc: Global,
+    maker: &Maker<'_>,
     layout: &Layout<'_>,
-    spare: u32,
     index: &Expr,
     value: &Expr,
     next: u32,
 ) -> Result<Vec<Instr>, NoMemory>
     requires names { length layout.now ≤ count_limit }
-    requires slots { spare ≤ 3 * count_limit }
     requires short_index { size_of (expression_of index.now) ≤ size_limit }
     requires short_value { size_of (expression_of value.now) ≤ size_limit }
     ensures { IfOk result (λ body. body.items
-        ≡ element_code layout.now spare (expression_of index.now) (expression_of value.now) next) }
+        ≡ element_code layout.now maker.now.home.spare (expression_of index.now) (expression_of value.now) next) }
 {
-    let mut body = Vec::new(alloc);
+    let spare = maker.home.spare;
+    let mut body = Vec::new(maker.alloc);
     push_expression(&mut body, layout, index, 0, 0)?;
     push_expression(&mut body, layout, value, 1, size_of(index))?;
     push_store(&mut body, spare, 0)?;
@@ -93,17 +93,17 @@ pub fn element_capsule(
 
 /// The second capsule of an assignment to an element.
 pub fn put_capsule(
-    alloc: Global,
+    maker: &Maker<'_>,
     layout: &Layout<'_>,
-    spare: u32,
     region: &Named,
     next: u32,
 ) -> Result<Vec<Instr>, NoMemory>
     requires names { length layout.now ≤ count_limit }
-    requires slots { spare ≤ 3 * count_limit }
-    ensures { IfOk result (λ body. body.items ≡ put_code layout.now spare region.now next) }
+    ensures { IfOk result (λ body. body.items
+        ≡ put_code layout.now maker.now.home.spare region.now next) }
 {
-    let mut body = Vec::new(alloc);
+    let spare = maker.home.spare;
+    let mut body = Vec::new(maker.alloc);
     push_load(&mut body, 0, layout.slot(&region.name))?;
     push_load(&mut body, 1, spare)?;
     push_load(&mut body, 2, spare + 1)?;

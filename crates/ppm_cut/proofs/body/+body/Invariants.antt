@@ -9,13 +9,13 @@ use Rattle.ppm_cut.proofs.body.+body.Given as goal
 abbrev pub invariant-push_block-loop-statement : goal.invariant-push_block-loop-statement
 invariant-push_block-loop-statement l =
     let rest = block_of (drop l.statement-index l.block) in
-    let procedures = map procedure_of l.callees in
+    let procedures = map procedure_of l.maker.callees.now in
     record {
-      whole : l.initial.capsules.items ++ rest_of procedures l.home.procedure l.home.spare (last_of l.last) l.initial.layout l.at l.hidden (block_of l.block)
-          ≡ l.capsules.items ++ rest_of procedures l.home.procedure l.home.spare (last_of l.last) l.layout l.next l.next_hidden rest;
+      whole : l.initial.capsules.items ++ rest_of procedures l.maker.home.procedure l.maker.home.spare (last_of l.last) l.initial.layout l.fn.numbers.capsule l.fn.numbers.hidden (block_of l.block)
+          ≡ l.capsules.items ++ rest_of procedures l.maker.home.procedure l.maker.home.spare (last_of l.last) l.layout l.next.capsule l.next.hidden rest;
       names : length l.layout + (own_count_in rest + hidden_count_in rest) ≤ count_limit;
-      capsules_fit : l.next + own_count_in rest ≤ count_limit;
-      hidden_fit : l.next_hidden + hidden_count_in rest ≤ count_limit;
+      capsules_fit : l.next.capsule + own_count_in rest ≤ count_limit;
+      hidden_fit : l.next.hidden + hidden_count_in rest ≤ count_limit;
       short : IsShortBlock rest;
       own : own_count_in rest ≤ own_count_in (block_of l.block);
       within : hidden_count_in rest ≤ hidden_count_in (block_of l.block);

@@ -26,7 +26,6 @@ loop-procedure-preserved c =
     let count = ap (λ b. hidden_count_in (block_of b)) block in
     let left = subst (λ ps. Left callees all (texts_from c.loop-procedure.hidden (map procedure_of ps)) c.args.draft.now c.loop-procedure.draft) e i.are in
     record {
-      at = omega (arith, i.at);
       count = drafts_count callees (mine ∷ []) c.loop-procedure.draft c.push_text.new.self drafts ∙ omega (arith, i.count);
       next_fits = omega (arith, own, i.next_fits, c.in_ok-push_text.ensures.next);
       hidden_fits = omega (arith, hid, count, i.hidden_fits, c.hidden_behind_block-hidden.ensures.within);

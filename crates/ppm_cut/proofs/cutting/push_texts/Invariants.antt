@@ -13,8 +13,7 @@ invariant-loop-procedure l =
     let all = map procedure_of l.procedures in
     let behind = map procedure_of rest in
     record {
-      at : l.number ≡ l.procedure-index;
-      count : length l.draft.procedures.items ≡ l.number;
+      count : length l.draft.procedures.items ≡ l.procedure-index;
       next_fits : l.draft.next + own_counts behind ≤ own_counts all;
       hidden_fits : l.hidden + hidden_counts behind ≤ length l.procedures + hidden_counts all;
       own : own_counts behind ≤ own_counts all;

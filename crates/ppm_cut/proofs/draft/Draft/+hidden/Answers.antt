@@ -10,7 +10,7 @@ use Rattle.ppm_cut.specs.Drafts.{Drafts}
 use Rattle.ppm_cut_bounds.proofs.Blocks.{block_ahead}
 use Rattle.ppm_cut.proofs.Stmts.{if_is, while_is, split_is, each_is}
 use Rattle.ppm_cut.proofs.Bodies.{Extends, extends_lets, lets_few}
-use Rattle.ppm_cut.proofs.Drafting.{drafts_count, number_behind, number_behind_block, if_drafts, each_drafts, rest_step, caught_few}
+use Rattle.ppm_cut.proofs.Drafting.{drafts_count, hidden_at, number_behind, number_behind_block, if_drafts, each_drafts, rest_step, caught_few}
 use Rattle.ppm_cut.proofs.draft.Draft.+hidden.Goals as goal
 
 pub push_hidden-push_hidden_block-requires : goal.push_hidden-push_hidden_block-requires
@@ -72,7 +72,7 @@ pub push_hidden-push_sweep-requires-clause-hidden : goal.push_hidden-push_sweep-
 push_hidden-push_sweep-requires-clause-hidden t c =
     let e = each_is c.args.statement.now c.in-Each.index c.in-Each.part c.in-Each.region c.in-Each.block c.deref-in-Each-2.result.now c.in-Each.is
     c.deref-in-Each-2.ensures.value in
-    omega (arith, ap hidden_count e, c.requires.hidden)
+    omega (arith, ap hidden_count e, c.requires.hidden, c.requires.number)
 
 pub push_hidden-push_sweep-requires-clause-short : goal.push_hidden-push_sweep-requires-clause-short
 push_hidden-push_sweep-requires-clause-short t c =
@@ -170,7 +170,9 @@ push_hidden-returns-in_ok-push_sweep-in-Each-clause-drafts t c =
       names = names;
       block = block_of xs;
     }) ∷ []) c.args.self.now c.push_sweep.new.self)
-    again (sweep.drafts c.in-Each.part.name c.in-Each.index.name names inner) in
+    again (hidden_at procedures (length c.args.self.now.procedures.items) c.args.hidden c.in-Each.region.line c.in-Each.part.name c.in-Each.index.name
+    names (block_of c.deref-in-Each-2.result.now) c.args.self.now c.push_sweep.new.self c.requires.number
+    (sweep.drafts c.in-Each.part.name c.in-Each.index.name names inner)) in
     on_ok_weaker c.push_hidden_block-in-Each.result (λ d.
     each_drafts procedures c.args.layout.now _ c.args.hidden _ (statement_of c.args.statement.now) c.in-Each.index c.in-Each.part c.in-Each.region
     block
