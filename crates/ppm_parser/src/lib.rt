@@ -8,9 +8,9 @@
 #![tactic(auto)]
 
 mod call;
+mod cursor;
 mod declaration;
 mod expression;
-mod front;
 mod limit;
 mod parameter;
 mod parsing;
