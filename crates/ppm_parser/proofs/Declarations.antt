@@ -36,7 +36,7 @@ use Rattle.ppm_parser.specs.Fronts.{InFront, HasAt, HasName, HasNumber, HasLiter
 use Rattle.ppm_parser.specs.Parsing.{Items, Parses, Stops, ParsesTo, MakesBehind}
 use Rattle.ppm_parser.specs.Declarations.{array_items, procedure_items, input_items, ParsesArray, ParsesInteger, StopsInteger, ParsesIntegers, StopsIntegers, ParsesInput}
 use Rattle.ppm_parser.proofs.Reading.{then_reads, then_fails, front_fails, of_same, read, front_reads, take_reads, take_fails, name_reads}
-use Rattle.ppm_parser.proofs.Reading.{row_reads, row_fails, part_ended, part_unexpected, open_reads, named_is}
+use Rattle.ppm_parser.proofs.Reading.{row_reads, row_fails, part_ended, part_unexpected, open_reads, open_fails, named_is}
 use Rattle.ppm_parser.proofs.Lists.{Goes}
 use Rattle.ppm_parser.proofs.Lists as lists
 
@@ -60,12 +60,27 @@ after_words n m r r' is counts c (a, (w, (q, (e, (x, u))))) =
     let less = counts.less in
     subst (λ z. Has z (with_count (Adds words m) c)) (sym counts.same) (a, (omega (arith, w, less, is), (q, (e, (x, tt)))))
 
+-- nothing but a number is a length
+never_words : (y : Terminal) → y ≢ Number → starts language p.Words y ≡ false
+never_words y h = is_predictive_language.starts_is p.Words y ∙ rw (other_kind language Number y h) refl
+
 module _ {room : Room} {ts behind : List Token} {x : Named} (g : HasName ts x behind) where
   module _ {place : ℕ} {inside : List Token} (open_at : HasAt (Mark s.OpenBracket) behind place inside) where
+    length_fails : {inner : ℕ} {e : Stop} → depth_limit ≡ suc inner → Stops inner room (Part p.Words ∷ sign s.CloseBracket ∷ []) inside e →
+        Stops depth_limit room array_items ts e
+    length_fails less r = then_fails (name_reads g)
+        (front_fails (sign s.Semicolon ∷ []) (open_fails less _ first refl refl open_at.front.shape open_at.front.is (λ c has. has) r))
+
+    pub array_unnumbered : {e : Stop} → MissesNumber inside e → Stops depth_limit room array_items ts e
+    array_unnumbered r = length_fails refl (front_fails (sign s.CloseBracket ∷ []) (part_misses p.Words Number inside refl never_words r))
+
     module _ {n place' : ℕ} {end : List Token} (h : HasNumber inside n place' end) where
       module _ {room' : Room} (counts : CountsWords n room room') where
         words_read : {depth : ℕ} → Parses depth room (Part p.Words ∷ []) inside (Lexed h.token ∷ []) room' end
         words_read = row_reads _ first refl refl h.shape (ap terminal h.is) (after_words n (number_of h.token.kind) room room' (ap number_of h.is) counts) read
+
+        pub array_unclosed : {e : Stop} → Misses (Mark s.CloseBracket) end e → Stops depth_limit room array_items ts e
+        array_unclosed r = length_fails refl (then_fails words_read (take_fails (Mark s.CloseBracket) end r))
 
         module _ {place'' : ℕ} {closed : List Token} (close_at : HasAt (Mark s.CloseBracket) end place'' closed) where
           length_read : Parses depth_limit room (Part p.Length ∷ []) behind (Lexed h.token ∷ []) room' closed

@@ -269,6 +269,11 @@ module _ {depth : ℕ} {room : Room} {ts ts1 ts2 : List Token} {region : Named} 
             }
 
 -- what is missing of an each
+pub each_part_missing : {depth place : ℕ} {room : Room} {ts ts1 ts2 : List Token} {i : Named} {e : Stop} → HasName ts i ts1 → HasAt (Mark s.Comma) ts1 place ts2 →
+    MissesName ts2 e → Stops depth room each_items ts e
+each_part_missing {ts2 = ts2} a m q =
+    then_fails (then_reads (name_reads a) (take_reads m)) (front_fails (word k.In ∷ name ∷ Part p.Block ∷ []) (name_fails ts2 q))
+
 module _ {depth place : ℕ} {room : Room} {ts ts1 ts2 ts3 : List Token} {i x : Named} (a : HasName ts i ts1) (m : HasAt (Mark s.Comma) ts1 place ts2)
     (b : HasName ts2 x ts3) where
   each_front : Parses depth room (name ∷ sign s.Comma ∷ name ∷ []) ts (Lexed a.token ∷ Lexed m.token ∷ Lexed b.token ∷ []) room ts3

@@ -11,23 +11,23 @@ ghost use Rattle.ppm_rows.specs.Phrases as phrase;
 ghost use Rattle.ppm_parser.specs.Fronts.{HasExpression};
 ghost use Rattle.ppm_parser.specs.Parsing.{Parses, ParsesClosed, Stops, StopsFirst};
 
+use crate::cursor::Cursor;
 use crate::expression::operation;
-use crate::front::{name, take};
-use crate::room::{Room, deeper};
+use crate::room::deeper;
 use crate::stop::Stop;
 use ppm_rows::Level;
-use ppm_text::{Keyword, Kind, Sign, Token};
+use ppm_text::{Keyword, Kind, Sign};
 use ppm_tree::{Argument, Named, Side};
 use ppm_words::Items;
 use std::alloc::Global;
 
 /// The place and the line of the token in front, which begins an expression.
-fn expression_front(depth: u32, tokens: &[Token]) -> Result<(u32, u32), Stop>
+fn expression_front(depth: u32, at: Cursor<'_>) -> Result<(u32, u32), Stop>
     ensures { MatchResult result
-        (λ r. HasExpression depth tokens.now r.0 r.1)
-        (StopsFirst depth tokens.now) }
+        (λ r. HasExpression depth at.entry.tokens.now r.0 r.1)
+        (StopsFirst depth at.entry.tokens.now) }
 {
-    let Some((token, _)) = tokens.split_first() else {
+    let Some((token, _)) = at.tokens.split_first() else {
         return Err(Stop::Ended);
     };
     match &token.kind {
@@ -46,92 +46,80 @@ fn expression_front(depth: u32, tokens: &[Token]) -> Result<(u32, u32), Stop>
     }
 }
 
-/// The argument in front, the room that it leaves, and the tokens behind it.
-fn argument(
-    alloc: Global,
-    depth: u32,
-    room: Room,
-    tokens: &[Token],
-) -> Result<(Argument, Room, &[Token]), Stop>
+/// The argument in front, and the cursor behind it.
+fn argument(alloc: Global, depth: u32, at: Cursor<'_>) -> Result<(Argument, Cursor<'_>), Stop>
     ensures { MatchResult result
-        (λ r. Parses depth room (Part phrase.Argument
-        ∷ []) tokens.now (value.OneArgument (argument_of r.0) ∷ []) r.1 r.2.now)
-        (Stops depth room (Part phrase.Argument ∷ []) tokens.now) }
+        (λ r. Parses depth at.entry.room (Part phrase.Argument ∷ []) at.entry.tokens.now
+        (value.OneArgument (argument_of r.0) ∷ []) r.1.room r.1.tokens.now)
+        (Stops depth at.entry.room (Part phrase.Argument ∷ []) at.entry.tokens.now) }
 {
-    let (place, line) = expression_front(depth, tokens)?;
-    let room = room.behind_element(place)?;
-    let (value, room, rest) = operation(alloc, depth, room, Level::Either, tokens)?;
-    Ok((Argument { line, value }, room, rest))
+    let (place, line) = expression_front(depth, at)?;
+    let room = at.room.behind_element(place)?;
+    let (value, at) = operation(alloc, depth, Cursor { room, ..at }, Level::Either)?;
+    Ok((Argument { line, value }, at))
 }
 
-/// The arguments in front up to the parenthesis that closes them, the room that they leave, and the
-/// tokens behind it.
+/// The arguments in front up to the parenthesis that closes them, and the cursor behind it.
 fn closed_arguments(
     alloc: Global,
     depth: u32,
-    room: Room,
-    tokens: &[Token],
-) -> Result<(Vec<Argument>, Room, &[Token]), Stop>
+    at: Cursor<'_>,
+) -> Result<(Vec<Argument>, Cursor<'_>), Stop>
     ensures { MatchResult result
-        (λ r. ParsesClosed depth room phrase.SomeArguments sign.CloseParen tokens.now
-        (value.Arguments (map argument_of r.0.items)) r.1 r.2.now)
-        (Stops depth room (Part phrase.SomeArguments ∷ Take (Mark sign.CloseParen)
-        ∷ []) tokens.now) }
+        (λ r. ParsesClosed depth at.entry.room phrase.SomeArguments sign.CloseParen
+        at.entry.tokens.now (value.Arguments (map argument_of r.0.items))
+        r.1.room r.1.tokens.now)
+        (Stops depth at.entry.room (Part phrase.SomeArguments ∷ Take (Mark sign.CloseParen) ∷ [])
+        at.entry.tokens.now) }
 {
     let mut all = Vec::new(alloc);
-    if let Ok((_, rest)) = take(tokens, Sign::CloseParen) {
-        return Ok((all, room, rest));
+    if let Ok((_, end)) = at.take(Sign::CloseParen) {
+        return Ok((all, end));
     }
-    let (first, mut room, mut rest) = argument(alloc, depth, room, tokens)?;
+    let (first, mut behind) = argument(alloc, depth, at)?;
     all.push(first)?;
-    'arguments: while let Ok((_, behind)) = take(rest, Sign::Comma) {
-        let (next, left, after) = argument(alloc, depth, room, behind)?;
+    'arguments: while let Ok((_, from)) = behind.take(Sign::Comma) {
+        let (next, after) = argument(alloc, depth, from)?;
         all.push(next)?;
-        room = left;
-        rest = after;
+        behind = after;
     }
-    let (_, end) = take(rest, Sign::CloseParen)?;
-    Ok((all, room, end))
+    let (_, end) = behind.take(Sign::CloseParen)?;
+    Ok((all, end))
 }
 
-/// The list of arguments in front, the room that it leaves, and the tokens behind it.
+/// The list of arguments in front, and the cursor behind it.
 fn arguments(
     alloc: Global,
     depth: u32,
-    room: Room,
-    tokens: &[Token],
-) -> Result<(Items<Argument>, Room, &[Token]), Stop>
+    at: Cursor<'_>,
+) -> Result<(Items<Argument>, Cursor<'_>), Stop>
     ensures { MatchResult result
-        (λ r. Parses depth room (Part phrase.ArgumentList
-        ∷ []) tokens.now (value.Arguments (map argument_of r.0) ∷ []) r.1 r.2.now)
-        (Stops depth room (Part phrase.ArgumentList ∷ []) tokens.now) }
+        (λ r. Parses depth at.entry.room (Part phrase.ArgumentList ∷ []) at.entry.tokens.now
+        (value.Arguments (map argument_of r.0) ∷ []) r.1.room r.1.tokens.now)
+        (Stops depth at.entry.room (Part phrase.ArgumentList ∷ []) at.entry.tokens.now) }
 {
-    let (place, inside) = take(tokens, Sign::OpenParen)?;
+    let (place, inside) = at.take(Sign::OpenParen)?;
     let inner = deeper(depth, place)?;
-    let (all, room, rest) = closed_arguments(alloc, inner, room.in_list(), inside)?;
-    Ok((Items::from_vec(all), room, rest))
+    let room = at.room.in_list();
+    let (all, at) = closed_arguments(alloc, inner, Cursor { room, ..inside })?;
+    Ok((Items::from_vec(all), at))
 }
 
-/// The call in front, which has no target, the room that it leaves, and the tokens behind it.
-pub fn call(
-    alloc: Global,
-    depth: u32,
-    room: Room,
-    tokens: &[Token],
-) -> Result<(Side, Room, &[Token]), Stop>
+/// The call in front, which has no target, and the cursor behind it.
+pub fn call(alloc: Global, depth: u32, at: Cursor<'_>) -> Result<(Side, Cursor<'_>), Stop>
     ensures { MatchResult result
-        (λ r. Parses depth room (Part phrase.Call ∷ []) tokens.now (value.OneSide (side_of r.0)
-        ∷ []) r.1 r.2.now)
-        (Stops depth room (Part phrase.Call ∷ []) tokens.now) }
+        (λ r. Parses depth at.entry.room (Part phrase.Call ∷ []) at.entry.tokens.now
+        (value.OneSide (side_of r.0) ∷ []) r.1.room r.1.tokens.now)
+        (Stops depth at.entry.room (Part phrase.Call ∷ []) at.entry.tokens.now) }
 {
-    let (callee, behind) = name(alloc, tokens)?;
-    let (arguments, room, rest) = arguments(alloc, depth, room, behind)?;
+    let (callee, at) = at.name(alloc)?;
+    let (arguments, at) = arguments(alloc, depth, at)?;
     let side = Side {
         target: None,
         callee,
         arguments,
     };
-    Ok((side, room, rest))
+    Ok((side, at))
 }
 
 /// The call, whose value the target gets.
@@ -145,28 +133,23 @@ pub fn with_target(side: Side, target: Named) -> Side
     }
 }
 
-/// The side of a fork in front, the room that it leaves, and the tokens behind it.
-pub fn side(
-    alloc: Global,
-    depth: u32,
-    room: Room,
-    tokens: &[Token],
-) -> Result<(Side, Room, &[Token]), Stop>
+/// The side of a fork in front, and the cursor behind it.
+pub fn side(alloc: Global, depth: u32, at: Cursor<'_>) -> Result<(Side, Cursor<'_>), Stop>
     ensures { MatchResult result
-        (λ r. Parses depth room (Part phrase.Side ∷ []) tokens.now (value.OneSide (side_of r.0)
-        ∷ []) r.1 r.2.now)
-        (Stops depth room (Part phrase.Side ∷ []) tokens.now) }
+        (λ r. Parses depth at.entry.room (Part phrase.Side ∷ []) at.entry.tokens.now
+        (value.OneSide (side_of r.0) ∷ []) r.1.room r.1.tokens.now)
+        (Stops depth at.entry.room (Part phrase.Side ∷ []) at.entry.tokens.now) }
 {
-    let (first, behind) = name(alloc, tokens)?;
-    if let Ok((_, behind)) = take(behind, Sign::Assign) {
-        let (called, room, rest) = call(alloc, depth, room, behind)?;
-        return Ok((with_target(called, first), room, rest));
+    let (first, behind) = at.name(alloc)?;
+    if let Ok((_, at)) = behind.take(Sign::Assign) {
+        let (called, at) = call(alloc, depth, at)?;
+        return Ok((with_target(called, first), at));
     }
-    let (arguments, room, rest) = arguments(alloc, depth, room, behind)?;
+    let (arguments, at) = arguments(alloc, depth, behind)?;
     let side = Side {
         target: None,
         callee: first,
         arguments,
     };
-    Ok((side, room, rest))
+    Ok((side, at))
 }

@@ -10,14 +10,13 @@ ghost use Rattle.ppm_parser.specs.Declarations.{ParsesArray, ParsesProcedure, Pa
 ghost use Rattle.ppm_parser.specs.Declarations.{StopsInput, ParsesInteger, StopsInteger};
 ghost use Rattle.ppm_parser.specs.Declarations.{ParsesIntegers, StopsIntegers};
 
-use crate::front::{literal, name, number, take};
+use crate::cursor::Cursor;
 use crate::parameter::parameters;
-use crate::room::{DEPTH_LIMIT, Room};
 use crate::statement::read_body;
 use crate::stop::Stop;
-use ppm_text::{Keyword, Kind, Sign, Token};
+use ppm_text::{Keyword, Kind, Sign};
 use ppm_tree::{Array, ArrayInput, Proc};
-use ppm_words::Items;
+use ppm_words::{DEPTH_LIMIT, Items};
 use std::alloc::Global;
 
 /// One of the things that a program declares.
@@ -28,114 +27,111 @@ pub enum Declaration {
     Input(ArrayInput),
 }
 
-/// The array behind its keyword, the room that it leaves, and the tokens behind it.
-fn array(alloc: Global, room: Room, tokens: &[Token]) -> Result<(Array, Room, &[Token]), Stop>
+/// The array behind its keyword, and the cursor behind it.
+fn array(alloc: Global, at: Cursor<'_>) -> Result<(Array, Cursor<'_>), Stop>
     ensures { MatchResult result
-        (λ r. ParsesArray room tokens.now r.0 r.1 r.2.now)
-        (Stops depth_limit room array_items tokens.now) }
+        (λ r. ParsesArray at.entry.room at.entry.tokens.now r.0 r.1.room r.1.tokens.now)
+        (Stops depth_limit at.entry.room array_items at.entry.tokens.now) }
 {
-    let (name, behind) = name(alloc, tokens)?;
-    let (_, inside) = take(behind, Sign::OpenBracket)?;
-    let (words, place, end) = number(inside)?;
-    let room = room.behind_words(words, place)?;
-    let (_, closed) = take(end, Sign::CloseBracket)?;
-    let (_, rest) = take(closed, Sign::Semicolon)?;
+    let (name, behind) = at.name(alloc)?;
+    let (_, inside) = behind.take(Sign::OpenBracket)?;
+    let (words, place, end) = inside.number()?;
+    let room = at.room.behind_words(words, place)?;
+    let (_, closed) = Cursor { room, ..end }.take(Sign::CloseBracket)?;
+    let (_, at) = closed.take(Sign::Semicolon)?;
     let words = words as u32;
-    Ok((Array { name, words }, room, rest))
+    Ok((Array { name, words }, at))
 }
 
-/// The procedure behind its keyword, the room that it leaves, and the tokens behind it.
-fn procedure(alloc: Global, room: Room, tokens: &[Token]) -> Result<(Proc, Room, &[Token]), Stop>
+/// The procedure behind its keyword, and the cursor behind it.
+fn procedure(alloc: Global, at: Cursor<'_>) -> Result<(Proc, Cursor<'_>), Stop>
     ensures { MatchResult result
-        (λ r. ParsesProcedure room tokens.now r.0 r.1 r.2.now)
-        (Stops depth_limit room procedure_items tokens.now) }
+        (λ r. ParsesProcedure at.entry.room at.entry.tokens.now r.0 r.1.room r.1.tokens.now)
+        (Stops depth_limit at.entry.room procedure_items at.entry.tokens.now) }
 {
-    let (name, behind) = name(alloc, tokens)?;
-    let (parameters, room, end) = parameters(alloc, DEPTH_LIMIT, room, behind)?;
-    let (body, room, rest) = read_body(alloc, DEPTH_LIMIT, room, end)?;
+    let (name, at) = at.name(alloc)?;
+    let (parameters, at) = parameters(alloc, DEPTH_LIMIT, at)?;
+    let (body, at) = read_body(alloc, DEPTH_LIMIT, at)?;
     let procedure = Proc {
         name,
         parameters,
         body: body.statements,
         give: body.give,
     };
-    Ok((procedure, room, rest))
+    Ok((procedure, at))
 }
 
-/// The value of an input in front, and the tokens behind it.
-fn integer(tokens: &[Token]) -> Result<(i64, &[Token]), Stop>
+/// The value of an input in front, and the cursor behind it.
+fn integer(at: Cursor<'_>) -> Result<(i64, Cursor<'_>), Stop>
     ensures { MatchResult result
-        (λ r. ParsesInteger tokens.now r.0 r.1.now)
-        (StopsInteger tokens.now) }
+        (λ r. ParsesInteger at.entry.tokens.now r.0 r.1.tokens.now × (r.1.room ≡ at.entry.room))
+        (StopsInteger at.entry.tokens.now) }
 {
-    if let Ok((_, behind)) = take(tokens, Sign::Minus) {
-        let (value, rest) = literal(behind)?;
-        return Ok((-value, rest));
+    if let Ok((_, at)) = at.take(Sign::Minus) {
+        let (value, at) = at.literal()?;
+        return Ok((-value, at));
     }
-    literal(tokens)
+    at.literal()
 }
 
 /// The values of an input behind these, from their commas in front up to the semicolon, and the
-/// tokens behind it.
-fn closed_integers(mut all: Vec<i64>, tokens: &[Token]) -> Result<(Vec<i64>, &[Token]), Stop>
+/// cursor behind it.
+fn closed_integers(mut all: Vec<i64>, at: Cursor<'_>) -> Result<(Vec<i64>, Cursor<'_>), Stop>
     ensures { MatchResult result
-        (λ r. ParsesIntegers all.items tokens.now r.0.items r.1.now)
-        (StopsIntegers tokens.now) }
+        (λ r. ParsesIntegers all.items at.entry.tokens.now r.0.items r.1.tokens.now
+        × (r.1.room ≡ at.entry.room))
+        (StopsIntegers at.entry.tokens.now) }
 {
-    let mut rest = tokens;
-    'integers: while let Ok((_, behind)) = take(rest, Sign::Comma) {
-        let (next, after) = integer(behind)?;
+    let mut behind = at;
+    'integers: while let Ok((_, from)) = behind.take(Sign::Comma) {
+        let (next, after) = integer(from)?;
         all.push(next)?;
-        rest = after;
+        behind = after;
     }
-    let (_, end) = take(rest, Sign::Semicolon)?;
+    let (_, end) = behind.take(Sign::Semicolon)?;
     Ok((all, end))
 }
 
-/// The input behind its keyword, and the tokens behind it.
-fn input(alloc: Global, tokens: &[Token]) -> Result<(ArrayInput, &[Token]), Stop>
+/// The input behind its keyword, and the cursor behind it.
+fn input(alloc: Global, at: Cursor<'_>) -> Result<(ArrayInput, Cursor<'_>), Stop>
     ensures { MatchResult result
-        (λ r. ParsesInput tokens.now r.0 r.1.now)
-        (StopsInput tokens.now) }
+        (λ r. ParsesInput at.entry.tokens.now r.0 r.1.tokens.now × (r.1.room ≡ at.entry.room))
+        (StopsInput at.entry.tokens.now) }
 {
-    let (name, behind) = name(alloc, tokens)?;
-    let (_, behind) = take(behind, Sign::Assign)?;
-    let (first, behind) = integer(behind)?;
+    let (name, at) = at.name(alloc)?;
+    let (_, at) = at.take(Sign::Assign)?;
+    let (first, at) = integer(at)?;
     let mut values = Vec::new(alloc);
     values.push(first)?;
-    let (values, rest) = closed_integers(values, behind)?;
+    let (values, at) = closed_integers(values, at)?;
     let values = Items::from_vec(values);
-    Ok((ArrayInput { name, values }, rest))
+    Ok((ArrayInput { name, values }, at))
 }
 
-/// The declaration in front, the room that it leaves, and the tokens behind it.
-pub fn read_declaration(
-    alloc: Global,
-    room: Room,
-    tokens: &[Token],
-) -> Result<(Declaration, Room, &[Token]), Stop>
+/// The declaration in front, and the cursor behind it.
+pub fn read_declaration(alloc: Global, at: Cursor<'_>) -> Result<(Declaration, Cursor<'_>), Stop>
     ensures { MatchResult result
-        (λ r. Parses depth_limit room (Part phrase.Declaration
-        ∷ []) tokens.now (value.Declares (declaration_of r.0) ∷ []) r.1 r.2.now)
-        (Stops depth_limit room (Part phrase.Declaration ∷ []) tokens.now) }
+        (λ r. Parses depth_limit at.entry.room (Part phrase.Declaration ∷ []) at.entry.tokens.now
+        (value.Declares (declaration_of r.0) ∷ []) r.1.room r.1.tokens.now)
+        (Stops depth_limit at.entry.room (Part phrase.Declaration ∷ []) at.entry.tokens.now) }
 {
-    let Some((token, rest)) = tokens.split_first() else {
+    let Some((token, tokens)) = at.tokens.split_first() else {
         return Err(Stop::Ended);
     };
     match &token.kind {
         Kind::Keyword(Keyword::Array) => {
-            let room = room.behind_array(token.place)?;
-            let (found, room, rest) = array(alloc, room, rest)?;
-            Ok((Declaration::Array(found), room, rest))
+            let room = at.room.behind_array(token.place)?;
+            let (found, at) = array(alloc, Cursor { room, tokens })?;
+            Ok((Declaration::Array(found), at))
         }
         Kind::Keyword(Keyword::Proc) => {
-            let room = room.behind_procedure(token.place)?;
-            let (found, room, rest) = procedure(alloc, room, rest)?;
-            Ok((Declaration::Procedure(found), room, rest))
+            let room = at.room.behind_procedure(token.place)?;
+            let (found, at) = procedure(alloc, Cursor { room, tokens })?;
+            Ok((Declaration::Procedure(found), at))
         }
         Kind::Keyword(Keyword::Input) => {
-            let (found, rest) = input(alloc, rest)?;
-            Ok((Declaration::Input(found), room, rest))
+            let (found, at) = input(alloc, Cursor { tokens, ..at })?;
+            Ok((Declaration::Input(found), at))
         }
         Kind::Keyword(_) | Kind::Name(_) | Kind::Number(_) | Kind::Sign(_) => {
             Err(Stop::Expected(token.place))

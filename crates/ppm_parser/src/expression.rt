@@ -12,11 +12,11 @@ ghost use Rattle.ppm_parser.specs.Fronts.{comes_once, NoneWithin};
 ghost use Rattle.ppm_parser.specs.Parsing.{ParsesExpression, ParsesFrom, ParsesUpTo, ParsesNamed};
 ghost use Rattle.ppm_parser.specs.Parsing.{StopsNamed, Stops};
 
-use crate::front::{has_none, name, operator_in, take};
-use crate::room::{Room, deeper};
+use crate::cursor::Cursor;
+use crate::room::deeper;
 use crate::stop::Stop;
 use ppm_rows::Level;
-use ppm_text::{Keyword, Kind, Sign, Token};
+use ppm_text::{Keyword, Kind, Sign};
 use ppm_tree::{Expr, Named, Operator};
 use ppm_words::NoMemory;
 use std::alloc::Global;
@@ -47,182 +47,184 @@ fn is_once(level: Level) -> bool
     }
 }
 
-/// The operand in front, the room that it leaves, and the tokens behind it.
+/// The operand in front, and the cursor behind it.
 #[cycle(expression)]
-fn operand(
-    alloc: Global,
-    depth: u32,
-    room: Room,
-    tokens: &[Token],
-) -> Result<(Expr, Room, &[Token]), Stop>
+fn operand(alloc: Global, depth: u32, at: Cursor<'_>) -> Result<(Expr, Cursor<'_>), Stop>
     ensures { MatchResult result
-        (λ r. ParsesExpression depth room phrase.Operand tokens.now (expression_of r.0) r.1 r.2.now)
-        (Stops depth room (Part phrase.Operand ∷ []) tokens.now) }
+        (λ r. ParsesExpression depth at.entry.room phrase.Operand at.entry.tokens.now
+        (expression_of r.0) r.1.room r.1.tokens.now)
+        (Stops depth at.entry.room (Part phrase.Operand ∷ []) at.entry.tokens.now) }
 {
-    let Some((token, rest)) = tokens.split_first() else {
+    let Some((token, rest)) = at.tokens.split_first() else {
         return Err(Stop::Ended);
     };
     match &token.kind {
         Kind::Number(literal) => {
-            let room = room.behind_node(token.place)?;
-            Ok((Expr::Number(literal.to_i64()), room, rest))
+            let room = at.room.behind_node(token.place)?;
+            Ok((
+                Expr::Number(literal.to_i64()),
+                Cursor { room, tokens: rest },
+            ))
         }
         Kind::Name(name) => {
             let name = name.try_clone(alloc)?;
             let line = token.line;
-            named(alloc, depth, room, Named { name, line }, token.place, rest)
+            let at = Cursor { tokens: rest, ..at };
+            named(alloc, depth, at, Named { name, line }, token.place)
         }
         Kind::Keyword(Keyword::Len) => {
-            let room = room.behind_node(token.place)?;
-            let (region, rest) = name(alloc, rest)?;
-            Ok((Expr::Len(region), room, rest))
+            let room = at.room.behind_node(token.place)?;
+            let (region, at) = Cursor { room, tokens: rest }.name(alloc)?;
+            Ok((Expr::Len(region), at))
         }
         Kind::Sign(Sign::Minus) => {
             let inner = deeper(depth, token.place)?;
-            let room = room.behind_node(token.place)?;
-            let (negated, room, rest) = operand(alloc, inner, room, rest)?;
-            Ok((
-                Expr::Minus(token.line, Box::new(alloc, negated)?),
-                room,
-                rest,
-            ))
+            let room = at.room.behind_node(token.place)?;
+            let (negated, at) = operand(alloc, inner, Cursor { room, tokens: rest })?;
+            Ok((Expr::Minus(token.line, Box::new(alloc, negated)?), at))
         }
         Kind::Sign(Sign::OpenParen) => {
             let inner = deeper(depth, token.place)?;
-            up_to(alloc, inner, room, Sign::CloseParen, rest)
+            up_to(
+                alloc,
+                inner,
+                Cursor { tokens: rest, ..at },
+                Sign::CloseParen,
+            )
         }
         Kind::Keyword(_) | Kind::Sign(_) => Err(Stop::Expected(token.place)),
     }
 }
 
 /// The operand that begins with the name at the place, alone or with the index in front of the
-/// tokens, the room that it leaves, and the tokens behind it.
+/// tokens, and the cursor behind it.
 #[cycle(expression)]
 fn named(
     alloc: Global,
     depth: u32,
-    room: Room,
+    at: Cursor<'_>,
     name: Named,
     place: u32,
-    tokens: &[Token],
-) -> Result<(Expr, Room, &[Token]), Stop>
+) -> Result<(Expr, Cursor<'_>), Stop>
     ensures { MatchResult result
-        (λ r. ParsesNamed depth room name place tokens.now (expression_of r.0) r.1 r.2.now)
-        (StopsNamed depth room name place tokens.now) }
+        (λ r. ParsesNamed depth at.entry.room name place at.entry.tokens.now
+        (expression_of r.0) r.1.room r.1.tokens.now)
+        (StopsNamed depth at.entry.room name place at.entry.tokens.now) }
 {
-    let Ok((bracket, inside)) = take(tokens, Sign::OpenBracket) else {
-        let room = room.behind_node(place)?;
-        return Ok((Expr::Name(name), room, tokens));
+    let Ok((bracket, inside)) = at.take(Sign::OpenBracket) else {
+        let room = at.room.behind_node(place)?;
+        return Ok((Expr::Name(name), Cursor { room, ..at }));
     };
     let inner = deeper(depth, bracket)?;
-    let room = room.behind_node(bracket)?;
-    let (index, room, rest) = up_to(alloc, inner, room, Sign::CloseBracket, inside)?;
+    let room = at.room.behind_node(bracket)?;
+    let (index, at) = up_to(alloc, inner, Cursor { room, ..inside }, Sign::CloseBracket)?;
     let index = Box::new(alloc, index)?;
-    Ok((Expr::Element(name, index), room, rest))
+    Ok((Expr::Element(name, index), at))
 }
 
-/// The whole expression in front up to the sign, the room that it leaves, and the tokens behind the
-/// sign.
+/// The whole expression in front up to the sign, and the cursor behind the sign.
 #[cycle(expression)]
 pub fn up_to(
     alloc: Global,
     depth: u32,
-    room: Room,
+    at: Cursor<'_>,
     sign: Sign,
-    tokens: &[Token],
-) -> Result<(Expr, Room, &[Token]), Stop>
+) -> Result<(Expr, Cursor<'_>), Stop>
     ensures { MatchResult result
-        (λ r. ParsesUpTo depth room sign tokens.now (expression_of r.0) r.1 r.2.now)
-        (Stops depth room (expr ∷ Take (Mark sign) ∷ []) tokens.now) }
+        (λ r. ParsesUpTo depth at.entry.room sign at.entry.tokens.now
+        (expression_of r.0) r.1.room r.1.tokens.now)
+        (Stops depth at.entry.room (expr ∷ Take (Mark sign) ∷ []) at.entry.tokens.now) }
 {
-    let (whole, room, end) = operation(alloc, depth, room, Level::Either, tokens)?;
-    let (_, rest) = take(end, sign)?;
-    Ok((whole, room, rest))
+    let (whole, at) = operation(alloc, depth, at, Level::Either)?;
+    let (_, at) = at.take(sign)?;
+    Ok((whole, at))
 }
 
 /// Whether an operand of one token is in front, and behind it no operator of the level or of one
 /// that binds more. Such an operand is read at once, and not by way of all levels.
-fn is_plain(level: Level, tokens: &[Token]) -> bool
-    ensures { IsTrue result → NoneWithin level (drop 1 tokens.now) }
+fn is_plain(level: Level, at: Cursor<'_>) -> bool
+    ensures { IsTrue result → NoneWithin level (drop 1 at.entry.tokens.now) }
 {
-    match tokens {
-        [first, rest @ ..] => match &first.kind {
-            Kind::Number(_) => has_none(level, rest),
-            Kind::Name(_) => take(rest, Sign::OpenBracket).is_err() && has_none(level, rest),
-            Kind::Keyword(_) | Kind::Sign(_) => false,
-        },
+    match at.tokens {
+        [first, tokens @ ..] => {
+            let behind = Cursor { tokens, ..at };
+            match &first.kind {
+                Kind::Number(_) => behind.has_none(level),
+                Kind::Name(_) => behind.take(Sign::OpenBracket).is_err() && behind.has_none(level),
+                Kind::Keyword(_) | Kind::Sign(_) => false,
+            }
+        }
         [] => false,
     }
 }
 
-/// The operation of the level in front, the room that it leaves, and the tokens behind it.
+/// The operation of the level in front, and the cursor behind it.
 #[cycle(expression)]
 pub fn operation(
     alloc: Global,
     depth: u32,
-    room: Room,
+    at: Cursor<'_>,
     level: Level,
-    tokens: &[Token],
-) -> Result<(Expr, Room, &[Token]), Stop>
+) -> Result<(Expr, Cursor<'_>), Stop>
     ensures { MatchResult result
-        (λ r. ParsesExpression depth room (phrase.Operation level) tokens.now (expression_of r.0) r.1 r.2.now)
-        (Stops depth room (Part (phrase.Operation level) ∷ []) tokens.now) }
+        (λ r. ParsesExpression depth at.entry.room (phrase.Operation level) at.entry.tokens.now
+        (expression_of r.0) r.1.room r.1.tokens.now)
+        (Stops depth at.entry.room (Part (phrase.Operation level) ∷ []) at.entry.tokens.now) }
 {
-    if is_plain(level, tokens) {
-        let (whole, left, rest) = operand(alloc, depth, room, tokens)?;
-        if has_none(level, rest) {
-            return Ok((whole, left, rest));
+    if is_plain(level, at) {
+        let (whole, behind) = operand(alloc, depth, at)?;
+        if behind.has_none(level) {
+            return Ok((whole, behind));
         }
     }
-    let (first, room, rest) = operand_of(alloc, depth, room, level, tokens)?;
-    further(alloc, depth, room, level, first, rest)
+    let (first, at) = operand_of(alloc, depth, at, level)?;
+    further(alloc, depth, at, level, first)
 }
 
-/// The operand of the level in front, the room that it leaves, and the tokens behind it.
+/// The operand of the level in front, and the cursor behind it.
 #[cycle(expression)]
 fn operand_of(
     alloc: Global,
     depth: u32,
-    room: Room,
+    at: Cursor<'_>,
     level: Level,
-    tokens: &[Token],
-) -> Result<(Expr, Room, &[Token]), Stop>
+) -> Result<(Expr, Cursor<'_>), Stop>
     ensures { MatchResult result
-        (λ r. ParsesExpression depth room (operand level) tokens.now (expression_of r.0) r.1 r.2.now)
-        (Stops depth room (Part (operand level) ∷ []) tokens.now) }
+        (λ r. ParsesExpression depth at.entry.room (operand level) at.entry.tokens.now
+        (expression_of r.0) r.1.room r.1.tokens.now)
+        (Stops depth at.entry.room (Part (operand level) ∷ []) at.entry.tokens.now) }
 {
     match level {
-        Level::Either => operation(alloc, depth, room, Level::Both, tokens),
-        Level::Both => operation(alloc, depth, room, Level::Comparison, tokens),
-        Level::Comparison => operation(alloc, depth, room, Level::Sum, tokens),
-        Level::Sum => operation(alloc, depth, room, Level::Product, tokens),
-        Level::Product => operand(alloc, depth, room, tokens),
+        Level::Either => operation(alloc, depth, at, Level::Both),
+        Level::Both => operation(alloc, depth, at, Level::Comparison),
+        Level::Comparison => operation(alloc, depth, at, Level::Sum),
+        Level::Sum => operation(alloc, depth, at, Level::Product),
+        Level::Product => operand(alloc, depth, at),
     }
 }
 
-/// The operation of the level that goes on from its first operand, the room that it leaves, and the
-/// tokens behind it.
+/// The operation of the level that goes on from its first operand, and the cursor behind it.
 #[cycle(expression)]
 fn further(
     alloc: Global,
     depth: u32,
-    room: Room,
+    at: Cursor<'_>,
     level: Level,
     first: Expr,
-    tokens: &[Token],
-) -> Result<(Expr, Room, &[Token]), Stop>
+) -> Result<(Expr, Cursor<'_>), Stop>
     ensures { MatchResult result
-        (λ r. ParsesFrom depth room level (expression_of first) tokens.now (expression_of r.0) r.1 r.2.now)
-        (Stops depth room (Part (phrase.FromOperand level) ∷ []) tokens.now) }
+        (λ r. ParsesFrom depth at.entry.room level (expression_of first) at.entry.tokens.now
+        (expression_of r.0) r.1.room r.1.tokens.now)
+        (Stops depth at.entry.room (Part (phrase.FromOperand level) ∷ []) at.entry.tokens.now) }
 {
-    let Some((operator, place, line, behind)) = operator_in(level, tokens) else {
-        return Ok((first, room, tokens));
+    let Some((operator, place, line, behind)) = at.operator_in(level) else {
+        return Ok((first, at));
     };
-    let room = room.behind_node(place)?;
-    let (second, room, rest) = operand_of(alloc, depth, room, level, behind)?;
+    let room = at.room.behind_node(place)?;
+    let (second, at) = operand_of(alloc, depth, Cursor { room, ..behind }, level)?;
     let both = binary(alloc, operator, line, first, second)?;
     if is_once(level) {
-        return Ok((both, room, rest));
+        return Ok((both, at));
     }
-    further(alloc, depth, room, level, both, rest)
+    further(alloc, depth, at, level, both)
 }

@@ -1,6 +1,7 @@
 //! From tokens to the tree of a program, or the fault at which they are none.
-//! Model: the rows of the grammar (`ppm_rows`); a function reads the items of a row from what may
-//! still come (`specs/Room`), or stops with a fault (`specs/Parsing`).
+//! Model: the rows of the grammar (`ppm_rows`); a function reads the items of a row from a cursor
+//! on, which has the tokens in front and what may still come (`specs/Room`), or stops with a fault
+//! (`specs/Parsing`).
 //! Contract: `parse` answers the one tree of the tokens within the limits, or their one fault
 //! (`specs/Faults`).
 //! Stands on `ppm_rows`, `ppm_tree` and `ppm_text`; `ppm_program` calls it. Recursive descent by
@@ -8,9 +9,9 @@
 #![tactic(auto)]
 
 mod call;
+mod cursor;
 mod declaration;
 mod expression;
-mod front;
 mod limit;
 mod parameter;
 mod parsing;

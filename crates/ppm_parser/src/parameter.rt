@@ -7,75 +7,68 @@ ghost use Rattle.ppm_rows.specs.Values as value;
 ghost use Rattle.ppm_rows.specs.Phrases as phrase;
 ghost use Rattle.ppm_parser.specs.Parsing.{Parses, ParsesClosed, Stops};
 
-use crate::front::{mode, name, take};
-use crate::room::{Room, deeper};
+use crate::cursor::Cursor;
+use crate::room::deeper;
 use crate::stop::Stop;
-use ppm_text::{Sign, Token};
+use ppm_text::Sign;
 use ppm_tree::Parameter;
 use ppm_words::Items;
 use std::alloc::Global;
 
-/// The parameter in front, the room that it leaves, and the tokens behind it.
-fn parameter(
-    alloc: Global,
-    depth: u32,
-    room: Room,
-    tokens: &[Token],
-) -> Result<(Parameter, Room, &[Token]), Stop>
+/// The parameter in front, and the cursor behind it.
+fn parameter(alloc: Global, depth: u32, at: Cursor<'_>) -> Result<(Parameter, Cursor<'_>), Stop>
     ensures { MatchResult result
-        (λ r. Parses depth room (Part phrase.Parameter ∷ []) tokens.now (value.OneParameter r.0
-        ∷ []) r.1 r.2.now)
-        (Stops depth room (Part phrase.Parameter ∷ []) tokens.now) }
+        (λ r. Parses depth at.entry.room (Part phrase.Parameter ∷ []) at.entry.tokens.now
+        (value.OneParameter r.0 ∷ []) r.1.room r.1.tokens.now)
+        (Stops depth at.entry.room (Part phrase.Parameter ∷ []) at.entry.tokens.now) }
 {
-    let (mode, place, behind) = mode(tokens)?;
-    let room = room.behind_element(place)?;
-    let (name, rest) = name(alloc, behind)?;
-    Ok((Parameter { mode, name }, room, rest))
+    let (mode, place, behind) = at.mode()?;
+    let room = at.room.behind_element(place)?;
+    let (name, at) = Cursor { room, ..behind }.name(alloc)?;
+    Ok((Parameter { mode, name }, at))
 }
 
-/// The parameters in front up to the parenthesis that closes them, the room that they leave, and
-/// the tokens behind it.
+/// The parameters in front up to the parenthesis that closes them, and the cursor behind it.
 fn closed_parameters(
     alloc: Global,
     depth: u32,
-    room: Room,
-    tokens: &[Token],
-) -> Result<(Vec<Parameter>, Room, &[Token]), Stop>
+    at: Cursor<'_>,
+) -> Result<(Vec<Parameter>, Cursor<'_>), Stop>
     ensures { MatchResult result
-        (λ r. ParsesClosed depth room phrase.SomeParameters sign.CloseParen tokens.now (value.Parameters r.0.items) r.1 r.2.now)
-        (Stops depth room (Part phrase.SomeParameters ∷ Take (Mark sign.CloseParen)
-        ∷ []) tokens.now) }
+        (λ r. ParsesClosed depth at.entry.room phrase.SomeParameters sign.CloseParen
+        at.entry.tokens.now (value.Parameters r.0.items) r.1.room r.1.tokens.now)
+        (Stops depth at.entry.room (Part phrase.SomeParameters ∷ Take (Mark sign.CloseParen) ∷ [])
+        at.entry.tokens.now) }
 {
     let mut all = Vec::new(alloc);
-    if let Ok((_, rest)) = take(tokens, Sign::CloseParen) {
-        return Ok((all, room, rest));
+    if let Ok((_, end)) = at.take(Sign::CloseParen) {
+        return Ok((all, end));
     }
-    let (first, mut room, mut rest) = parameter(alloc, depth, room, tokens)?;
+    let (first, mut behind) = parameter(alloc, depth, at)?;
     all.push(first)?;
-    'parameters: while let Ok((_, behind)) = take(rest, Sign::Comma) {
-        let (next, left, after) = parameter(alloc, depth, room, behind)?;
+    'parameters: while let Ok((_, from)) = behind.take(Sign::Comma) {
+        let (next, after) = parameter(alloc, depth, from)?;
         all.push(next)?;
-        room = left;
-        rest = after;
+        behind = after;
     }
-    let (_, end) = take(rest, Sign::CloseParen)?;
-    Ok((all, room, end))
+    let (_, end) = behind.take(Sign::CloseParen)?;
+    Ok((all, end))
 }
 
-/// The list of parameters in front, the room that it leaves, and the tokens behind it.
+/// The list of parameters in front, and the cursor behind it.
 pub fn parameters(
     alloc: Global,
     depth: u32,
-    room: Room,
-    tokens: &[Token],
-) -> Result<(Items<Parameter>, Room, &[Token]), Stop>
+    at: Cursor<'_>,
+) -> Result<(Items<Parameter>, Cursor<'_>), Stop>
     ensures { MatchResult result
-        (λ r. Parses depth room (Part phrase.ParameterList ∷ []) tokens.now (value.Parameters r.0
-        ∷ []) r.1 r.2.now)
-        (Stops depth room (Part phrase.ParameterList ∷ []) tokens.now) }
+        (λ r. Parses depth at.entry.room (Part phrase.ParameterList ∷ []) at.entry.tokens.now
+        (value.Parameters r.0 ∷ []) r.1.room r.1.tokens.now)
+        (Stops depth at.entry.room (Part phrase.ParameterList ∷ []) at.entry.tokens.now) }
 {
-    let (place, inside) = take(tokens, Sign::OpenParen)?;
+    let (place, inside) = at.take(Sign::OpenParen)?;
     let inner = deeper(depth, place)?;
-    let (all, room, rest) = closed_parameters(alloc, inner, room.in_list(), inside)?;
-    Ok((Items::from_vec(all), room, rest))
+    let room = at.room.in_list();
+    let (all, at) = closed_parameters(alloc, inner, Cursor { room, ..inside })?;
+    Ok((Items::from_vec(all), at))
 }

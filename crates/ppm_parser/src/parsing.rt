@@ -8,6 +8,7 @@ ghost use Rattle.ppm_parser.specs.Declarations.{declaration_of, declared_tree, w
 ghost use Rattle.ppm_parser.specs.Declarations.{TellsStop};
 ghost use Rattle.ppm_parser.specs.declared.stop.Stop.TheVariants as stop;
 
+use crate::cursor::Cursor;
 use crate::declaration::{Declaration, read_declaration};
 use crate::room::Room;
 use crate::stop::Stop;
@@ -60,13 +61,12 @@ fn tree(alloc: Global, tokens: &[Token]) -> Result<Tree, Stop>
         (TellsStop tokens.now) }
 {
     let mut declared = Declared::none(alloc);
-    let mut room = Room::whole();
-    let mut rest = tokens;
-    'declarations: while !rest.is_empty() {
-        let (next, left, after) = read_declaration(alloc, room, rest)?;
+    let room = Room::whole();
+    let mut at = Cursor { room, tokens };
+    'declarations: while !at.tokens.is_empty() {
+        let (next, behind) = read_declaration(alloc, at)?;
         declared = declared.with(next)?;
-        room = left;
-        rest = after;
+        at = behind;
     }
     Ok(Tree {
         arrays: Items::from_vec(declared.arrays),

@@ -8,15 +8,7 @@ ghost use Rattle.ppm_parser.specs.Room.{with_elements, with_nodes};
 
 use crate::limit::Limit;
 use crate::stop::Stop;
-
-/// The parameters of a procedure, and the arguments of a call, at most.
-const ELEMENT_LIMIT: u32 = 12;
-
-/// The nodes in the expressions of one statement, at most.
-const NODE_LIMIT: u32 = 48;
-
-/// The openings that are open at a time, at most.
-pub const DEPTH_LIMIT: u32 = 32;
+use ppm_words::{ARRAY_LIMIT, NODE_LIMIT, PARAMETER_LIMIT, PROCEDURE_LIMIT, WORD_LIMIT};
 
 /// How much of each number may still come.
 #[derive(Clone, Copy)]
@@ -51,10 +43,10 @@ impl Room {
         ensures { result ≡ whole_room }
     {
         Room {
-            arrays: 64,
-            words: 4_194_304,
-            procedures: 1024,
-            elements: ELEMENT_LIMIT,
+            arrays: ARRAY_LIMIT as u32,
+            words: WORD_LIMIT,
+            procedures: PROCEDURE_LIMIT,
+            elements: PARAMETER_LIMIT,
             nodes: NODE_LIMIT,
         }
     }
@@ -64,7 +56,7 @@ impl Room {
         ensures { result ≡ with_elements parameter_limit self }
     {
         Room {
-            elements: ELEMENT_LIMIT,
+            elements: PARAMETER_LIMIT,
             ..self
         }
     }

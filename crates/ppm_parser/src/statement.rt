@@ -15,12 +15,12 @@ ghost use Rattle.ppm_parser.specs.Statements.{ParsesSplit, ParsesEach, ParsesAft
 ghost use Rattle.ppm_parser.specs.Statements.{ParsesStatement};
 
 use crate::call::{call, side, with_target};
+use crate::cursor::Cursor;
 use crate::expression::{operation, up_to};
-use crate::front::{name, take, take_word};
-use crate::room::{Room, deeper};
+use crate::room::deeper;
 use crate::stop::Stop;
 use ppm_rows::Level;
-use ppm_text::{Keyword, Kind, Sign, Token};
+use ppm_text::{Keyword, Kind, Sign};
 use ppm_tree::{Give, Named, Stmt};
 use std::alloc::Global;
 
@@ -31,249 +31,205 @@ pub struct Body {
     pub give: Option<Give>,
 }
 
-/// The declaration of a local behind its keyword, the room that it leaves, and the tokens behind
-/// it.
-fn local(
-    alloc: Global,
-    depth: u32,
-    room: Room,
-    tokens: &[Token],
-) -> Result<(Stmt, Room, &[Token]), Stop>
+/// The declaration of a local behind its keyword, and the cursor behind it.
+fn local(alloc: Global, depth: u32, at: Cursor<'_>) -> Result<(Stmt, Cursor<'_>), Stop>
     ensures { MatchResult result
-        (λ r. ParsesLocal depth room tokens.now (statement_of r.0) r.1 r.2.now)
-        (Stops depth room local_items tokens.now) }
+        (λ r. ParsesLocal depth at.entry.room at.entry.tokens.now
+        (statement_of r.0) r.1.room r.1.tokens.now)
+        (Stops depth at.entry.room local_items at.entry.tokens.now) }
 {
-    let (name, behind) = name(alloc, tokens)?;
-    let (_, behind) = take(behind, Sign::Assign)?;
-    let (value, room, rest) = up_to(alloc, depth, room, Sign::Semicolon, behind)?;
-    Ok((Stmt::Let(name, value), room, rest))
+    let (name, at) = at.name(alloc)?;
+    let (_, at) = at.take(Sign::Assign)?;
+    let (value, at) = up_to(alloc, depth, at, Sign::Semicolon)?;
+    Ok((Stmt::Let(name, value), at))
 }
 
-/// The assignment to the target whose index is in front, the room that it leaves, and the tokens
-/// behind it.
-fn put(
-    alloc: Global,
-    depth: u32,
-    room: Room,
-    target: Named,
-    tokens: &[Token],
-) -> Result<(Stmt, Room, &[Token]), Stop>
-    requires { IsNotFront (Mark sign.Assign) tokens.now }
+/// The assignment to the target whose index is in front, and the cursor behind it.
+fn put(alloc: Global, depth: u32, at: Cursor<'_>, target: Named) -> Result<(Stmt, Cursor<'_>), Stop>
+    requires { IsNotFront (Mark sign.Assign) at.tokens.now }
     ensures { MatchResult result
-        (λ r. ParsesAfterName phrase.AfterName depth room target tokens.now (statement_of r.0) r.1 r.2.now)
-        (Stops depth room (Part phrase.AfterName ∷ []) tokens.now) }
+        (λ r. ParsesAfterName phrase.AfterName depth at.entry.room target at.entry.tokens.now
+        (statement_of r.0) r.1.room r.1.tokens.now)
+        (Stops depth at.entry.room (Part phrase.AfterName ∷ []) at.entry.tokens.now) }
 {
-    let (bracket, inside) = take(tokens, Sign::OpenBracket)?;
+    let (bracket, at) = at.take(Sign::OpenBracket)?;
     let inner = deeper(depth, bracket)?;
-    let (index, room, end) = up_to(alloc, inner, room, Sign::CloseBracket, inside)?;
-    let (_, behind) = take(end, Sign::Assign)?;
-    let (value, room, rest) = up_to(alloc, depth, room, Sign::Semicolon, behind)?;
-    Ok((Stmt::Put(target, index, value), room, rest))
+    let (index, at) = up_to(alloc, inner, at, Sign::CloseBracket)?;
+    let (_, at) = at.take(Sign::Assign)?;
+    let (value, at) = up_to(alloc, depth, at, Sign::Semicolon)?;
+    Ok((Stmt::Put(target, index, value), at))
 }
 
-/// The assignment of what stands in front to the target, the room that it leaves, and the tokens
-/// behind it.
+/// The assignment of what stands in front to the target, and the cursor behind it.
 fn assigned(
     alloc: Global,
     depth: u32,
-    room: Room,
+    at: Cursor<'_>,
     target: Named,
-    tokens: &[Token],
-) -> Result<(Stmt, Room, &[Token]), Stop>
+) -> Result<(Stmt, Cursor<'_>), Stop>
     ensures { MatchResult result
-        (λ r. ParsesAfterName phrase.Assigned depth room target tokens.now (statement_of r.0) r.1 r.2.now)
-        (Stops depth room (Part phrase.Assigned ∷ []) tokens.now) }
+        (λ r. ParsesAfterName phrase.Assigned depth at.entry.room target at.entry.tokens.now
+        (statement_of r.0) r.1.room r.1.tokens.now)
+        (Stops depth at.entry.room (Part phrase.Assigned ∷ []) at.entry.tokens.now) }
 {
-    if let Ok(behind) = take_word(tokens, Keyword::Call) {
-        let (called, room, end) = call(alloc, depth, room, behind)?;
-        let (_, rest) = take(end, Sign::Semicolon)?;
-        return Ok((Stmt::Call(with_target(called, target)), room, rest));
+    if let Ok(at) = at.take_word(Keyword::Call) {
+        let (called, at) = call(alloc, depth, at)?;
+        let (_, at) = at.take(Sign::Semicolon)?;
+        return Ok((Stmt::Call(with_target(called, target)), at));
     }
-    let (value, room, rest) = up_to(alloc, depth, room, Sign::Semicolon, tokens)?;
-    Ok((Stmt::Assign(target, value), room, rest))
+    let (value, at) = up_to(alloc, depth, at, Sign::Semicolon)?;
+    Ok((Stmt::Assign(target, value), at))
 }
 
-/// The statement that goes on from the name of its target, the room that it leaves, and the tokens
-/// behind it.
+/// The statement that goes on from the name of its target, and the cursor behind it.
 fn after_name(
     alloc: Global,
     depth: u32,
-    room: Room,
+    at: Cursor<'_>,
     target: Named,
-    tokens: &[Token],
-) -> Result<(Stmt, Room, &[Token]), Stop>
+) -> Result<(Stmt, Cursor<'_>), Stop>
     ensures { MatchResult result
-        (λ r. ParsesAfterName phrase.AfterName depth room target tokens.now (statement_of r.0) r.1 r.2.now)
-        (Stops depth room (Part phrase.AfterName ∷ []) tokens.now) }
+        (λ r. ParsesAfterName phrase.AfterName depth at.entry.room target at.entry.tokens.now
+        (statement_of r.0) r.1.room r.1.tokens.now)
+        (Stops depth at.entry.room (Part phrase.AfterName ∷ []) at.entry.tokens.now) }
 {
-    if let Ok((_, behind)) = take(tokens, Sign::Assign) {
-        return assigned(alloc, depth, room, target, behind);
+    if let Ok((_, at)) = at.take(Sign::Assign) {
+        return assigned(alloc, depth, at, target);
     }
-    put(alloc, depth, room, target, tokens)
+    put(alloc, depth, at, target)
 }
 
-/// The call behind its keyword, the room that it leaves, and the tokens behind it.
-fn called(
-    alloc: Global,
-    depth: u32,
-    room: Room,
-    tokens: &[Token],
-) -> Result<(Stmt, Room, &[Token]), Stop>
+/// The call behind its keyword, and the cursor behind it.
+fn called(alloc: Global, depth: u32, at: Cursor<'_>) -> Result<(Stmt, Cursor<'_>), Stop>
     ensures { MatchResult result
-        (λ r. ParsesCall depth room tokens.now (statement_of r.0) r.1 r.2.now)
-        (Stops depth room call_items tokens.now) }
+        (λ r. ParsesCall depth at.entry.room at.entry.tokens.now
+        (statement_of r.0) r.1.room r.1.tokens.now)
+        (Stops depth at.entry.room call_items at.entry.tokens.now) }
 {
-    let (side, room, end) = call(alloc, depth, room, tokens)?;
-    let (_, rest) = take(end, Sign::Semicolon)?;
-    Ok((Stmt::Call(side), room, rest))
+    let (side, at) = call(alloc, depth, at)?;
+    let (_, at) = at.take(Sign::Semicolon)?;
+    Ok((Stmt::Call(side), at))
 }
 
-/// The fork behind its keyword, the room that it leaves, and the tokens behind it.
-fn fork(
-    alloc: Global,
-    depth: u32,
-    room: Room,
-    tokens: &[Token],
-) -> Result<(Stmt, Room, &[Token]), Stop>
+/// The fork behind its keyword, and the cursor behind it.
+fn fork(alloc: Global, depth: u32, at: Cursor<'_>) -> Result<(Stmt, Cursor<'_>), Stop>
     ensures { MatchResult result
-        (λ r. ParsesFork depth room tokens.now (statement_of r.0) r.1 r.2.now)
-        (Stops depth room fork_items tokens.now) }
+        (λ r. ParsesFork depth at.entry.room at.entry.tokens.now
+        (statement_of r.0) r.1.room r.1.tokens.now)
+        (Stops depth at.entry.room fork_items at.entry.tokens.now) }
 {
-    let (left, room, end) = side(alloc, depth, room, tokens)?;
-    let behind = take_word(end, Keyword::And)?;
-    let (right, room, end) = side(alloc, depth, room, behind)?;
-    let (_, rest) = take(end, Sign::Semicolon)?;
-    Ok((Stmt::Fork(left, right), room, rest))
+    let (left, at) = side(alloc, depth, at)?;
+    let at = at.take_word(Keyword::And)?;
+    let (right, at) = side(alloc, depth, at)?;
+    let (_, at) = at.take(Sign::Semicolon)?;
+    Ok((Stmt::Fork(left, right), at))
 }
 
-/// The test and the blocks behind the keyword `if`, the room that they leave, and the tokens behind
-/// them.
+/// The test and the blocks behind the keyword `if`, and the cursor behind them.
 #[cycle(statement)]
-fn choice(
-    alloc: Global,
-    depth: u32,
-    room: Room,
-    tokens: &[Token],
-) -> Result<(Stmt, Room, &[Token]), Stop>
+fn choice(alloc: Global, depth: u32, at: Cursor<'_>) -> Result<(Stmt, Cursor<'_>), Stop>
     ensures { MatchResult result
-        (λ r. ParsesChoice depth room tokens.now (statement_of r.0) r.1 r.2.now)
-        (Stops depth room choice_items tokens.now) }
+        (λ r. ParsesChoice depth at.entry.room at.entry.tokens.now
+        (statement_of r.0) r.1.room r.1.tokens.now)
+        (Stops depth at.entry.room choice_items at.entry.tokens.now) }
 {
-    let (test, room, behind) = operation(alloc, depth, room, Level::Either, tokens)?;
-    let (holds, room, end) = block(alloc, depth, room, behind)?;
-    let Ok(behind) = take_word(end, Keyword::Else) else {
-        return Ok((Stmt::If(test, holds, Vec::new(alloc)), room, end));
+    let (test, at) = operation(alloc, depth, at, Level::Either)?;
+    let (holds, at) = block(alloc, depth, at)?;
+    let Ok(behind) = at.take_word(Keyword::Else) else {
+        return Ok((Stmt::If(test, holds, Vec::new(alloc)), at));
     };
-    let (otherwise, room, rest) = block(alloc, depth, room, behind)?;
-    Ok((Stmt::If(test, holds, otherwise), room, rest))
+    let (otherwise, at) = block(alloc, depth, behind)?;
+    Ok((Stmt::If(test, holds, otherwise), at))
 }
 
-/// The test and the block behind the keyword `while`, the room that they leave, and the tokens
-/// behind them.
+/// The test and the block behind the keyword `while`, and the cursor behind them.
 #[cycle(statement)]
-fn repeated(
-    alloc: Global,
-    depth: u32,
-    room: Room,
-    tokens: &[Token],
-) -> Result<(Stmt, Room, &[Token]), Stop>
+fn repeated(alloc: Global, depth: u32, at: Cursor<'_>) -> Result<(Stmt, Cursor<'_>), Stop>
     ensures { MatchResult result
-        (λ r. ParsesLoop depth room tokens.now (statement_of r.0) r.1 r.2.now)
-        (Stops depth room loop_items tokens.now) }
+        (λ r. ParsesLoop depth at.entry.room at.entry.tokens.now
+        (statement_of r.0) r.1.room r.1.tokens.now)
+        (Stops depth at.entry.room loop_items at.entry.tokens.now) }
 {
-    let (test, room, behind) = operation(alloc, depth, room, Level::Either, tokens)?;
-    let (body, room, rest) = block(alloc, depth, room, behind)?;
-    Ok((Stmt::While(test, body), room, rest))
+    let (test, at) = operation(alloc, depth, at, Level::Either)?;
+    let (body, at) = block(alloc, depth, at)?;
+    Ok((Stmt::While(test, body), at))
 }
 
-/// The split behind its keyword, which stands in the line, the room that it leaves, and the tokens
-/// behind it.
+/// The split behind its keyword, which stands in the line, and the cursor behind it.
 #[cycle(statement)]
-fn split(
-    alloc: Global,
-    depth: u32,
-    room: Room,
-    line: u32,
-    tokens: &[Token],
-) -> Result<(Stmt, Room, &[Token]), Stop>
+fn split(alloc: Global, depth: u32, at: Cursor<'_>, line: u32) -> Result<(Stmt, Cursor<'_>), Stop>
     ensures { MatchResult result
-        (λ r. ParsesSplit depth room line tokens.now (statement_of r.0) r.1 r.2.now)
-        (Stops depth room split_items tokens.now) }
+        (λ r. ParsesSplit depth at.entry.room line at.entry.tokens.now
+        (statement_of r.0) r.1.room r.1.tokens.now)
+        (Stops depth at.entry.room split_items at.entry.tokens.now) }
 {
-    let (region, behind) = name(alloc, tokens)?;
-    let behind = take_word(behind, Keyword::At)?;
-    let (size, room, behind) = operation(alloc, depth, room, Level::Either, behind)?;
-    let behind = take_word(behind, Keyword::Into)?;
-    let (first, behind) = name(alloc, behind)?;
-    let (_, behind) = take(behind, Sign::Comma)?;
-    let (second, behind) = name(alloc, behind)?;
-    let (body, room, rest) = block(alloc, depth, room, behind)?;
+    let (region, at) = at.name(alloc)?;
+    let at = at.take_word(Keyword::At)?;
+    let (size, at) = operation(alloc, depth, at, Level::Either)?;
+    let at = at.take_word(Keyword::Into)?;
+    let (first, at) = at.name(alloc)?;
+    let (_, at) = at.take(Sign::Comma)?;
+    let (second, at) = at.name(alloc)?;
+    let (body, at) = block(alloc, depth, at)?;
     let split = Stmt::Split(line, region, size, first, second, body);
-    Ok((split, room, rest))
+    Ok((split, at))
 }
 
-/// The `each` behind its keyword, the room that it leaves, and the tokens behind it.
+/// The `each` behind its keyword, and the cursor behind it.
 #[cycle(statement)]
-fn each(
-    alloc: Global,
-    depth: u32,
-    room: Room,
-    tokens: &[Token],
-) -> Result<(Stmt, Room, &[Token]), Stop>
+fn each(alloc: Global, depth: u32, at: Cursor<'_>) -> Result<(Stmt, Cursor<'_>), Stop>
     ensures { MatchResult result
-        (λ r. ParsesEach depth room tokens.now (statement_of r.0) r.1 r.2.now)
-        (Stops depth room each_items tokens.now) }
+        (λ r. ParsesEach depth at.entry.room at.entry.tokens.now
+        (statement_of r.0) r.1.room r.1.tokens.now)
+        (Stops depth at.entry.room each_items at.entry.tokens.now) }
 {
-    let (index, behind) = name(alloc, tokens)?;
-    let (_, behind) = take(behind, Sign::Comma)?;
-    let (part, behind) = name(alloc, behind)?;
-    let behind = take_word(behind, Keyword::In)?;
-    let (region, behind) = name(alloc, behind)?;
-    let (body, room, rest) = block(alloc, depth, room, behind)?;
-    Ok((Stmt::Each(index, part, region, body), room, rest))
+    let (index, at) = at.name(alloc)?;
+    let (_, at) = at.take(Sign::Comma)?;
+    let (part, at) = at.name(alloc)?;
+    let at = at.take_word(Keyword::In)?;
+    let (region, at) = at.name(alloc)?;
+    let (body, at) = block(alloc, depth, at)?;
+    Ok((Stmt::Each(index, part, region, body), at))
 }
 
-/// The statement in front, the room that it leaves, and the tokens behind it.
+/// The statement in front, and the cursor behind it.
 #[cycle(statement)]
-fn statement(
-    alloc: Global,
-    depth: u32,
-    room: Room,
-    tokens: &[Token],
-) -> Result<(Stmt, Room, &[Token]), Stop>
+fn statement(alloc: Global, depth: u32, at: Cursor<'_>) -> Result<(Stmt, Cursor<'_>), Stop>
     ensures { MatchResult result
-        (λ r. ParsesStatement depth room tokens.now (statement_of r.0) r.1 r.2.now)
-        (Stops depth room (Part phrase.Statement ∷ []) tokens.now) }
+        (λ r. ParsesStatement depth at.entry.room at.entry.tokens.now
+        (statement_of r.0) r.1.room r.1.tokens.now)
+        (Stops depth at.entry.room (Part phrase.Statement ∷ []) at.entry.tokens.now) }
 {
-    let Some((token, rest)) = tokens.split_first() else {
+    let Some((token, tokens)) = at.tokens.split_first() else {
         return Err(Stop::Ended);
     };
-    let room = room.in_statement();
+    let room = at.room.in_statement();
+    let at = Cursor { room, tokens };
     match &token.kind {
         Kind::Name(name) => {
             let name = name.try_clone(alloc)?;
             let line = token.line;
-            after_name(alloc, depth, room, Named { name, line }, rest)
+            after_name(alloc, depth, at, Named { name, line })
         }
-        Kind::Keyword(Keyword::Let) => local(alloc, depth, room, rest),
-        Kind::Keyword(Keyword::If) => choice(alloc, depth, room, rest),
-        Kind::Keyword(Keyword::While) => repeated(alloc, depth, room, rest),
-        Kind::Keyword(Keyword::Call) => called(alloc, depth, room, rest),
-        Kind::Keyword(Keyword::Fork) => fork(alloc, depth, room, rest),
-        Kind::Keyword(Keyword::Split) => split(alloc, depth, room, token.line, rest),
+        Kind::Keyword(Keyword::Let) => local(alloc, depth, at),
+        Kind::Keyword(Keyword::If) => choice(alloc, depth, at),
+        Kind::Keyword(Keyword::While) => repeated(alloc, depth, at),
+        Kind::Keyword(Keyword::Call) => called(alloc, depth, at),
+        Kind::Keyword(Keyword::Fork) => fork(alloc, depth, at),
+        Kind::Keyword(Keyword::Split) => split(alloc, depth, at, token.line),
         Kind::Keyword(Keyword::Each) => {
             let room = room.behind_procedure(token.place)?;
-            each(alloc, depth, room, rest)
+            each(alloc, depth, Cursor { room, tokens })
         }
         Kind::Keyword(_) | Kind::Number(_) | Kind::Sign(_) => Err(Stop::Expected(token.place)),
     }
 }
 
 /// Whether a token that begins a statement is in front.
-fn has_statement(tokens: &[Token]) -> bool
-    ensures { result ≡ starts_at phrase.Statement tokens.now }
+fn has_statement(at: Cursor<'_>) -> bool
+    ensures { result ≡ starts_at phrase.Statement at.entry.tokens.now }
 {
-    match tokens {
+    match at.tokens {
         [token, ..] => begins_statement(&token.kind),
         [] => false,
     }
@@ -288,112 +244,87 @@ fn begins_statement(kind: &Kind) -> bool
         Kind::Keyword(word) => match word {
             Keyword::Let | Keyword::If | Keyword::While | Keyword::Call => true,
             Keyword::Fork | Keyword::Split | Keyword::Each => true,
-            _ => false,
+            Keyword::Array | Keyword::Proc | Keyword::Input => false,
+            Keyword::Mut | Keyword::Ref | Keyword::Int | Keyword::Else | Keyword::And => false,
+            Keyword::At | Keyword::Into | Keyword::Len | Keyword::In | Keyword::Give => false,
         },
         Kind::Number(_) | Kind::Sign(_) => false,
     }
 }
 
-/// The statements in front, the room that they leave, and the tokens behind them.
+/// The statements in front, and the cursor behind them.
 #[cycle(statement)]
-fn statements(
-    alloc: Global,
-    depth: u32,
-    mut room: Room,
-    tokens: &[Token],
-) -> Result<(Vec<Stmt>, Room, &[Token]), Stop>
+fn statements(alloc: Global, depth: u32, at: Cursor<'_>) -> Result<(Vec<Stmt>, Cursor<'_>), Stop>
     ensures { MatchResult result
-        (λ r. Parses depth room (Part phrase.Statements
-        ∷ []) tokens.now (value.Statements (block_of r.0.items) ∷ []) r.1 r.2.now)
-        (Stops depth room (Part phrase.Statements ∷ []) tokens.now) }
+        (λ r. Parses depth at.entry.room (Part phrase.Statements ∷ []) at.entry.tokens.now
+        (value.Statements (block_of r.0.items) ∷ []) r.1.room r.1.tokens.now)
+        (Stops depth at.entry.room (Part phrase.Statements ∷ []) at.entry.tokens.now) }
 {
     let mut all = Vec::with_capacity(alloc, 1)?;
-    let mut rest = tokens;
-    'further: while has_statement(rest) {
-        let (next, left, after) = statement(alloc, depth, room, rest)?;
+    let mut behind = at;
+    'further: while has_statement(behind) {
+        let (next, after) = statement(alloc, depth, behind)?;
         all.push(next)?;
-        room = left;
-        rest = after;
+        behind = after;
     }
-    Ok((all, room, rest))
+    Ok((all, behind))
 }
 
-/// The statements of the block in front, the room that it leaves, and the tokens behind it.
+/// The statements of the block in front, and the cursor behind it.
 #[cycle(statement)]
-fn block(
-    alloc: Global,
-    depth: u32,
-    room: Room,
-    tokens: &[Token],
-) -> Result<(Vec<Stmt>, Room, &[Token]), Stop>
+fn block(alloc: Global, depth: u32, at: Cursor<'_>) -> Result<(Vec<Stmt>, Cursor<'_>), Stop>
     ensures { MatchResult result
-        (λ r. Parses depth room (Part phrase.Block
-        ∷ []) tokens.now (value.Statements (block_of r.0.items) ∷ []) r.1 r.2.now)
-        (Stops depth room (Part phrase.Block ∷ []) tokens.now) }
+        (λ r. Parses depth at.entry.room (Part phrase.Block ∷ []) at.entry.tokens.now
+        (value.Statements (block_of r.0.items) ∷ []) r.1.room r.1.tokens.now)
+        (Stops depth at.entry.room (Part phrase.Block ∷ []) at.entry.tokens.now) }
 {
-    let (place, inside) = take(tokens, Sign::OpenBrace)?;
+    let (place, at) = at.take(Sign::OpenBrace)?;
     let inner = deeper(depth, place)?;
-    let (all, room, end) = statements(alloc, inner, room, inside)?;
-    let (_, rest) = take(end, Sign::CloseBrace)?;
-    Ok((all, room, rest))
+    let (all, at) = statements(alloc, inner, at)?;
+    let (_, at) = at.take(Sign::CloseBrace)?;
+    Ok((all, at))
 }
 
-/// The line of the keyword `give` in front, and the tokens behind it.
-fn give_word(tokens: &[Token]) -> Option<(u32, &[Token])>
+/// The line of the keyword `give` in front, and the cursor behind it.
+fn give_word(at: Cursor<'_>) -> Option<(u32, Cursor<'_>)>
     ensures { MatchOption result
-        (NoGive tokens.now)
-        (λ r. HasGive tokens.now r.0 r.1.now) }
+        (NoGive at.entry.tokens.now)
+        (λ r. HasGive at.entry.tokens.now r.0 r.1.tokens.now × (r.1.room ≡ at.entry.room)) }
 {
-    match tokens {
-        [
-            Token {
-                kind: Kind::Keyword(Keyword::Give),
-                line,
-                ..
-            },
-            rest @ ..,
-        ] => Some((*line, rest)),
-        _ => None,
+    let (token, tokens) = at.tokens.split_first()?;
+    match &token.kind {
+        Kind::Keyword(Keyword::Give) => Some((token.line, Cursor { tokens, ..at })),
+        Kind::Keyword(_) | Kind::Name(_) | Kind::Number(_) | Kind::Sign(_) => None,
     }
 }
 
-/// What a body gives in front, if anything, the room that it leaves, and the tokens behind it.
-fn give(
-    alloc: Global,
-    depth: u32,
-    room: Room,
-    tokens: &[Token],
-) -> Result<(Option<Give>, Room, &[Token]), Stop>
+/// What a body gives in front, if anything, and the cursor behind it.
+fn give(alloc: Global, depth: u32, at: Cursor<'_>) -> Result<(Option<Give>, Cursor<'_>), Stop>
     ensures { MatchResult result
-        (λ r. Parses depth room (Part phrase.Give ∷ []) tokens.now (value.Gives (give_of r.0)
-        ∷ []) r.1 r.2.now)
-        (Stops depth room (Part phrase.Give ∷ []) tokens.now) }
+        (λ r. Parses depth at.entry.room (Part phrase.Give ∷ []) at.entry.tokens.now
+        (value.Gives (give_of r.0) ∷ []) r.1.room r.1.tokens.now)
+        (Stops depth at.entry.room (Part phrase.Give ∷ []) at.entry.tokens.now) }
 {
-    let Some((line, behind)) = give_word(tokens) else {
-        return Ok((None, room, tokens));
+    let Some((line, behind)) = give_word(at) else {
+        return Ok((None, at));
     };
-    let room = room.in_statement();
-    let (value, room, rest) = up_to(alloc, depth, room, Sign::Semicolon, behind)?;
-    Ok((Some(Give { line, value }), room, rest))
+    let room = at.room.in_statement();
+    let (value, at) = up_to(alloc, depth, Cursor { room, ..behind }, Sign::Semicolon)?;
+    Ok((Some(Give { line, value }), at))
 }
 
-/// The statements of the body in front and what it gives, the room that it leaves, and the tokens
-/// behind it.
-pub fn read_body(
-    alloc: Global,
-    depth: u32,
-    room: Room,
-    tokens: &[Token],
-) -> Result<(Body, Room, &[Token]), Stop>
+/// The statements of the body in front and what it gives, and the cursor behind it.
+pub fn read_body(alloc: Global, depth: u32, at: Cursor<'_>) -> Result<(Body, Cursor<'_>), Stop>
     ensures { MatchResult result
-        (λ r. Parses depth room (Part phrase.Body ∷ []) tokens.now
-        (value.Body (block_of r.0.statements.items) (give_of r.0.give) ∷ []) r.1 r.2.now)
-        (Stops depth room (Part phrase.Body ∷ []) tokens.now) }
+        (λ r. Parses depth at.entry.room (Part phrase.Body ∷ []) at.entry.tokens.now
+        (value.Body (block_of r.0.statements.items) (give_of r.0.give) ∷ [])
+        r.1.room r.1.tokens.now)
+        (Stops depth at.entry.room (Part phrase.Body ∷ []) at.entry.tokens.now) }
 {
-    let (place, inside) = take(tokens, Sign::OpenBrace)?;
+    let (place, at) = at.take(Sign::OpenBrace)?;
     let inner = deeper(depth, place)?;
-    let (statements, room, end) = statements(alloc, inner, room, inside)?;
-    let (give, room, end) = give(alloc, inner, room, end)?;
-    let (_, rest) = take(end, Sign::CloseBrace)?;
-    Ok((Body { statements, give }, room, rest))
+    let (statements, at) = statements(alloc, inner, at)?;
+    let (give, at) = give(alloc, inner, at)?;
+    let (_, at) = at.take(Sign::CloseBrace)?;
+    Ok((Body { statements, give }, at))
 }

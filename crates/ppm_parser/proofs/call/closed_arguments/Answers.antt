@@ -9,47 +9,47 @@ use Rattle.ppm_parser.proofs.call.closed_arguments.Goals as goal
 
 -- no arguments
 pub returns-in-Ok : goal.returns-in-Ok
-returns-in-Ok c = rw c.new-all.ensures.items (record { end = c.in-Ok.ensures.token; parses = no_arguments c.in-Ok.ensures })
+returns-in-Ok c = rw (c.new-all.ensures.items, c.in-Ok.ensures.1) (record { end = c.in-Ok.ensures.0.token; parses = no_arguments c.in-Ok.ensures.0 })
 
 -- the first stops
 pub returns-in_err-first : goal.returns-in_err-first
 returns-in_err-first c =
     exit_by _ _ _ c.from_residual.result c.from_residual.ensures.1
-    (arguments_first_fails (not_front (Mark s.CloseParen) c.args.tokens.now _ c.in_default.ensures) c.in_err-first.ensures)
+    (arguments_first_fails (not_front (Mark s.CloseParen) c.args.at.tokens.now _ c.in_default.ensures) c.in_err-first.ensures)
 
 -- the first was read
 pub arguments-init : goal.arguments-init
 arguments-init c =
     rw (c.in_ok-push.ensures.items, c.new-all.ensures.items)
-    (arguments_first (not_front (Mark s.CloseParen) c.args.tokens.now _ c.in_default.ensures) c.in_ok-first.ensures)
+    (arguments_first (not_front (Mark s.CloseParen) c.args.at.tokens.now _ c.in_default.ensures) c.in_ok-first.ensures)
 
 -- a further one stops
 pub returns-in_err-next : goal.returns-in_err-next
 returns-in_err-next c =
     exit_by _ _ _ c.from_residual-in_err-next.result c.from_residual-in_err-next.ensures.1
-    (arguments_step_fails c.arguments.invariant c.in-Ok-take.ensures c.in_err-next.ensures)
+    (arguments_step_fails c.arguments.invariant c.in-Ok-take.ensures.0 (rw c.in-Ok-take.ensures.1 at c.in_err-next.ensures))
 
 -- behind it stand fewer tokens
 pub arguments-smaller : goal.arguments-smaller
 arguments-smaller c =
-    let h = ap length c.in-Ok-take.ensures.front.shape in
+    let h = ap length c.in-Ok-take.ensures.0.front.shape in
     let g = c.in_ok-next.ensures.shorter in omega (arith, h, g)
 
 -- a further one was read
 pub arguments-preserved : goal.arguments-preserved
 arguments-preserved c =
     rw (c.in_ok-push-2.ensures.items, map_more argument_of c.arguments.all.items c.in_ok-next.next)
-    (arguments_step c.arguments.invariant c.in-Ok-take.ensures c.in_ok-next.ensures)
+    (arguments_step c.arguments.invariant c.in-Ok-take.ensures.0 (rw c.in-Ok-take.ensures.1 at c.in_ok-next.ensures))
 
 -- the parenthesis is missing
 pub returns-in_err-end : goal.returns-in_err-end
 returns-in_err-end c =
     exit_by _ _ _ c.from_residual-in_err-end.result c.from_residual-in_err-end.ensures.1
-    (arguments_end_fails c.arguments.invariant (not_front (Mark s.Comma) c.arguments.rest.now _ c.in_default-take.ensures) c.in_err-end.ensures)
+    (arguments_end_fails c.arguments.invariant (not_front (Mark s.Comma) c.arguments.behind.tokens.now _ c.in_default-take.ensures) c.in_err-end.ensures)
 
 -- it stands behind them
 pub returns : goal.returns
-returns c = record {
-  end = c.in_ok-end.ensures.token;
-  parses = arguments_end c.arguments.invariant (not_front (Mark s.Comma) c.arguments.rest.now _ c.in_default-take.ensures) c.in_ok-end.ensures;
-}
+returns c = rw c.in_ok-end.ensures.1 (record {
+  end = c.in_ok-end.ensures.0.token;
+  parses = arguments_end c.arguments.invariant (not_front (Mark s.Comma) c.arguments.behind.tokens.now _ c.in_default-take.ensures) c.in_ok-end.ensures.0;
+})

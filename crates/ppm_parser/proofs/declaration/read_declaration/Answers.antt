@@ -33,4 +33,5 @@ returns-in_err-found-in-Keyword-Input c =
 
 -- an input
 pub returns-in_ok-found-in-Keyword-Input : goal.returns-in_ok-found-in-Keyword-Input
-returns-in_ok-found-in-Keyword-Input c = input_declared c.in-Some.ensures.cases.0 (search rules) c.in_ok-found-in-Keyword-Input.ensures
+returns-in_ok-found-in-Keyword-Input c =
+    rw c.in_ok-found-in-Keyword-Input.ensures.1 (input_declared c.in-Some.ensures.cases.0 (search rules) c.in_ok-found-in-Keyword-Input.ensures.0)

@@ -20,50 +20,50 @@ further-returns-in_default t c =
 pub further-returns-in_err-room : goal.further-returns-in_err-room
 further-returns-in_err-room t c =
     exit_by _ _ _ c.from_residual.result c.from_residual.ensures.1
-    (further_many c.args.level c.in-Some.ensures c.in_err-room.ensures.0 c.in_err-room.ensures.1)
+    (further_many c.args.level c.in-Some.ensures.0 c.in_err-room.ensures.0 c.in_err-room.ensures.1)
 
 -- the second operand stops
 pub further-returns-in_err-second : goal.further-returns-in_err-second
 further-returns-in_err-second t c =
     exit_by _ _ _ c.from_residual-in_err-second.result c.from_residual-in_err-second.ensures.1
-    (further_front c.args.level c.in-Some.ensures (counts_of c.in_ok-room.ensures) c.in_err-second.ensures)
+    (further_front c.args.level c.in-Some.ensures.0 (counts_of c.in_ok-room.ensures) c.in_err-second.ensures)
 
 -- a comparison comes once
 pub further-returns-then-is_once : goal.further-returns-then-is_once
 further-returns-then-is_once t c =
     rw c.in_ok-both.ensures
-    (once_read c.args.level c.in-Some.ensures (counts_of c.in_ok-room.ensures) c.in_ok-second.ensures (search rules))
+    (once_read c.args.level c.in-Some.ensures.0 (counts_of c.in_ok-room.ensures) c.in_ok-second.ensures (search rules))
 
 -- others go on
 pub further-returns : goal.further-returns
 further-returns t c =
     MatchResult-weaker _ c.further.ensures
-    (λ r h. further_read c.args.level c.in-Some.ensures (counts_of c.in_ok-room.ensures) c.in_ok-second.ensures (search rules)
+    (λ r h. further_read c.args.level c.in-Some.ensures.0 (counts_of c.in_ok-room.ensures) c.in_ok-second.ensures (search rules)
     (rw c.in_ok-both.ensures at h))
-    (λ e h. further_fails c.args.level c.in-Some.ensures (counts_of c.in_ok-room.ensures) c.in_ok-second.ensures (search rules) h)
+    (λ e h. further_fails c.args.level c.in-Some.ensures.0 (counts_of c.in_ok-room.ensures) c.in_ok-second.ensures (search rules) h)
 
 -- the name is one node too many
 pub named-returns-in_err-room : goal.named-returns-in_err-room
 named-returns-in_err-room t c =
     exit_by _ _ _ c.from_residual.result c.from_residual.ensures.1
-    (alone_many (not_front (Mark s.OpenBracket) c.args.tokens.now _ c.in_default.ensures) c.in_err-room.ensures.0 c.in_err-room.ensures.1)
+    (alone_many (not_front (Mark s.OpenBracket) c.args.at.tokens.now _ c.in_default.ensures) c.in_err-room.ensures.0 c.in_err-room.ensures.1)
 
 -- a name alone
 pub named-returns-in_default : goal.named-returns-in_default
 named-returns-in_default t c =
-    alone_read (not_front (Mark s.OpenBracket) c.args.tokens.now _ c.in_default.ensures) (counts_of c.in_ok-room.ensures)
+    alone_read (not_front (Mark s.OpenBracket) c.args.at.tokens.now _ c.in_default.ensures) (counts_of c.in_ok-room.ensures)
 
 -- the index stops
 pub named-returns-in_err-index : goal.named-returns-in_err-index
 named-returns-in_err-index t c =
     exit_by _ _ _ c.from_residual-in_err-index.result c.from_residual-in_err-index.ensures.1
-    (element_fails c.in-Ok.ensures c.in_ok-inner.ensures (counts_of c.in_ok-room-2.ensures) c.in_err-index.ensures)
+    (element_fails c.in-Ok.ensures.0 c.in_ok-inner.ensures (counts_of c.in_ok-room-2.ensures) c.in_err-index.ensures)
 
 -- an element
 pub named-returns : goal.named-returns
 named-returns t c =
     rw c.in_ok-index-2.ensures.ok
-    (element_read c.in-Ok.ensures c.in_ok-inner.ensures (counts_of c.in_ok-room-2.ensures) c.in_ok-index.ensures)
+    (element_read c.in-Ok.ensures.0 c.in_ok-inner.ensures (counts_of c.in_ok-room-2.ensures) c.in_ok-index.ensures)
 
 -- what is negated stops
 pub operand-returns-in_err-negated-in-Sign-Minus : goal.operand-returns-in_err-negated-in-Sign-Minus
@@ -89,7 +89,8 @@ operand-returns-in_ok-name-in-Name t c =
 -- a length
 pub operand-returns-in_ok-region-in-Keyword-Len : goal.operand-returns-in_ok-region-in-Keyword-Len
 operand-returns-in_ok-region-in-Keyword-Len t c =
-    len_read c.in-Some.ensures.cases.0 (search rules) (counts_of c.in_ok-room-in-Keyword-Len.ensures) c.in_ok-region-in-Keyword-Len.ensures
+    rw c.in_ok-region-in-Keyword-Len.ensures.1
+    (len_read c.in-Some.ensures.cases.0 (search rules) (counts_of c.in_ok-room-in-Keyword-Len.ensures) c.in_ok-region-in-Keyword-Len.ensures.0)
 
 -- a minus
 pub operand-returns-in_ok-new-in-Sign-Minus : goal.operand-returns-in_ok-new-in-Sign-Minus
@@ -136,12 +137,12 @@ up_to-returns-in_err-whole t c =
     (front_fails (Take (Mark c.args.sign) ∷ []) c.in_err-whole.ensures)
 
 -- the sign is missing
-pub up_to-returns-in_err-rest : goal.up_to-returns-in_err-rest
-up_to-returns-in_err-rest t c =
-    exit_by _ _ _ c.from_residual-in_err-rest.result c.from_residual-in_err-rest.ensures.1
-    (then_fails c.in_ok-whole.ensures (take_fails (Mark c.args.sign) c.in_ok-whole.end.now c.in_err-rest.ensures))
+pub up_to-returns-in_err-at : goal.up_to-returns-in_err-at
+up_to-returns-in_err-at t c =
+    exit_by _ _ _ c.from_residual-in_err-at.result c.from_residual-in_err-at.ensures.1
+    (then_fails c.in_ok-whole.ensures (take_fails (Mark c.args.sign) c.in_ok-whole.at.tokens.now c.in_err-at.ensures))
 
 -- the sign stands behind it
 pub up_to-returns : goal.up_to-returns
 up_to-returns t c =
-    record { end = c.in_ok-rest.ensures.token; parses = then_reads c.in_ok-whole.ensures (take_reads c.in_ok-rest.ensures) }
+    rw c.in_ok-at.ensures.1 (record { end = c.in_ok-at.ensures.0.token; parses = then_reads c.in_ok-whole.ensures (take_reads c.in_ok-at.ensures.0) })

@@ -11,7 +11,7 @@ declarations-init c = rw (c.none-declared.ensures, c.whole-room.ensures) (goes_f
 pub returns-in_err-next : goal.returns-in_err-next
 returns-in_err-next c =
     exit_by _ _ _ c.from_residual.result c.from_residual.ensures.1
-    (stops_all c.declarations.rest.now (sym c.is_empty.ensures ∙ c.declarations-test.true) c.declarations.invariant c.in_err-next.ensures)
+    (stops_all c.declarations.at.tokens.now (sym c.is_empty.ensures ∙ c.declarations-test.true) c.declarations.invariant c.in_err-next.ensures)
 
 -- behind it stand fewer tokens
 pub declarations-smaller : goal.declarations-smaller
@@ -25,4 +25,4 @@ declarations-preserved c = rw c.in_ok-declared.ensures.tree (goes_on c.declarati
 pub returns : goal.returns
 returns c =
     rw (c.from_vec.ensures, c.from_vec-2.ensures, c.from_vec-3.ensures)
-    (ends_all c.declarations.rest.now (sym c.is_empty.ensures ∙ c.declarations-test.false) c.declarations.invariant)
+    (ends_all c.declarations.at.tokens.now (sym c.is_empty.ensures ∙ c.declarations-test.false) c.declarations.invariant)

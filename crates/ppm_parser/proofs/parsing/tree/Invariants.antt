@@ -5,7 +5,7 @@ use Rattle.ppm_parser.proofs.parsing.tree.Given as goal
 
 -- all so far was declared, and more may come
 abbrev pub invariant-declarations : goal.invariant-declarations
-invariant-declarations l = Goes l.tokens (declared_tree l.declared) l.room l.rest
+invariant-declarations l = Goes l.tokens (declared_tree l.declared) l.at.room l.at.tokens.now
 
 abbrev pub decreases-declarations : goal.decreases-declarations
-decreases-declarations l = length l.rest
+decreases-declarations l = length l.at.tokens.now

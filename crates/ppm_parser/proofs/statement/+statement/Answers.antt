@@ -7,7 +7,7 @@ use Rattle.ppm_parser.proofs.Exits.{exit_by}
 use Rattle.ppm_parser.proofs.Expressions.{not_front}
 use Rattle.ppm_parser.proofs.Statements.{test_fails, choice_block_fails, choice_alone, choice_else_fails, choice_read, loop_fails, loop_read}
 use Rattle.ppm_parser.proofs.Statements.{split_size_fails, split_into_missing, split_first_missing, split_comma_missing, split_second_missing, split_fails, split_read}
-use Rattle.ppm_parser.proofs.Statements.{each_in_missing, each_region_missing, each_fails, each_read, choice_of, choice_of_one, loop_of, split_of, each_of}
+use Rattle.ppm_parser.proofs.Statements.{each_part_missing, each_in_missing, each_region_missing, each_fails, each_read, choice_of, choice_of_one, loop_of, split_of, each_of}
 use Rattle.ppm_parser.proofs.Statements.{let_statement, let_stops, if_statement, if_stops, while_statement, while_stops}
 use Rattle.ppm_parser.proofs.Statements.{call_statement, call_stops, fork_statement, fork_stops, split_statement, split_stops, named_statement, named_stops}
 use Rattle.ppm_parser.proofs.Statements.{each_many, each_statement, each_stops, runs_start, runs_step, runs_fail, runs_end, block_fails, block_unclosed, block_read}
@@ -29,19 +29,19 @@ choice-returns-in_err-holds t c =
 pub choice-returns-in_default : goal.choice-returns-in_default
 choice-returns-in_default t c =
     choice_of_one c.in_ok-test.test c.in_ok-holds.holds c.new.result c.new.ensures.items
-    (choice_alone c.in_ok-test.ensures c.in_ok-holds.ensures (not_front (Word k.Else) c.in_ok-holds.end.now _ c.in_default.ensures))
+    (choice_alone c.in_ok-test.ensures c.in_ok-holds.ensures (not_front (Word k.Else) c.in_ok-holds.at.tokens.now _ c.in_default.ensures))
 
 -- the other block stops
 pub choice-returns-in_err-otherwise : goal.choice-returns-in_err-otherwise
 choice-returns-in_err-otherwise t c =
     exit_by _ _ _ c.from_residual-in_err-otherwise.result c.from_residual-in_err-otherwise.ensures.1
-    (choice_else_fails c.in_ok-test.ensures c.in_ok-holds.ensures c.in-Ok.ensures c.in_err-otherwise.ensures)
+    (choice_else_fails c.in_ok-test.ensures c.in_ok-holds.ensures c.in-Ok.ensures.0 (rw c.in-Ok.ensures.1 at c.in_err-otherwise.ensures))
 
 -- two blocks
 pub choice-returns : goal.choice-returns
 choice-returns t c =
     choice_of c.in_ok-test.test c.in_ok-holds.holds c.in_ok-otherwise.otherwise
-    (choice_read c.in_ok-test.ensures c.in_ok-holds.ensures c.in-Ok.ensures c.in_ok-otherwise.ensures)
+    (choice_read c.in_ok-test.ensures c.in_ok-holds.ensures c.in-Ok.ensures.0 (rw c.in-Ok.ensures.1 at c.in_ok-otherwise.ensures))
 
 -- the test stops
 pub repeated-returns-in_err-test : goal.repeated-returns-in_err-test
@@ -64,72 +64,84 @@ repeated-returns t c =
 pub split-returns-in_err-size : goal.split-returns-in_err-size
 split-returns-in_err-size t c =
     exit_by _ _ _ c.from_residual-in_err-size.result c.from_residual-in_err-size.ensures.1
-    (split_size_fails c.in_ok-region.ensures c.in_ok-behind.ensures c.in_err-size.ensures)
+    (split_size_fails c.in_ok-region.ensures.0 c.in_ok-at.ensures.0 (rw (c.in_ok-at.ensures.1, c.in_ok-region.ensures.1) at c.in_err-size.ensures))
 
 -- no `into`
-pub split-returns-in_err-behind-2 : goal.split-returns-in_err-behind-2
-split-returns-in_err-behind-2 t c =
-    exit_by _ _ _ c.from_residual-in_err-behind-2.result c.from_residual-in_err-behind-2.ensures.1
-    (split_into_missing c.in_ok-region.ensures c.in_ok-behind.ensures c.in_ok-size.ensures c.in_err-behind-2.ensures)
+pub split-returns-in_err-at-2 : goal.split-returns-in_err-at-2
+split-returns-in_err-at-2 t c =
+    exit_by _ _ _ c.from_residual-in_err-at-2.result c.from_residual-in_err-at-2.ensures.1
+    (split_into_missing c.in_ok-region.ensures.0 c.in_ok-at.ensures.0 (rw (c.in_ok-at.ensures.1, c.in_ok-region.ensures.1) at c.in_ok-size.ensures)
+    c.in_err-at-2.ensures)
 
 -- no first part
 pub split-returns-in_err-first : goal.split-returns-in_err-first
 split-returns-in_err-first t c =
     exit_by _ _ _ c.from_residual-in_err-first.result c.from_residual-in_err-first.ensures.1
-    (split_first_missing c.in_ok-region.ensures c.in_ok-behind.ensures c.in_ok-size.ensures c.in_ok-behind-2.ensures c.in_err-first.ensures)
+    (split_first_missing c.in_ok-region.ensures.0 c.in_ok-at.ensures.0 (rw (c.in_ok-at.ensures.1, c.in_ok-region.ensures.1) at c.in_ok-size.ensures)
+    c.in_ok-at-2.ensures.0 c.in_err-first.ensures)
 
 -- no comma
-pub split-returns-in_err-behind-3 : goal.split-returns-in_err-behind-3
-split-returns-in_err-behind-3 t c =
-    exit_by _ _ _ c.from_residual-in_err-behind-3.result c.from_residual-in_err-behind-3.ensures.1
-    (split_comma_missing c.in_ok-region.ensures c.in_ok-behind.ensures c.in_ok-size.ensures c.in_ok-behind-2.ensures c.in_ok-first.ensures c.in_err-behind-3.ensures)
+pub split-returns-in_err-at-3 : goal.split-returns-in_err-at-3
+split-returns-in_err-at-3 t c =
+    exit_by _ _ _ c.from_residual-in_err-at-3.result c.from_residual-in_err-at-3.ensures.1
+    (split_comma_missing c.in_ok-region.ensures.0 c.in_ok-at.ensures.0 (rw (c.in_ok-at.ensures.1, c.in_ok-region.ensures.1) at c.in_ok-size.ensures)
+    c.in_ok-at-2.ensures.0 c.in_ok-first.ensures.0 c.in_err-at-3.ensures)
 
 -- no second part
 pub split-returns-in_err-second : goal.split-returns-in_err-second
 split-returns-in_err-second t c =
     exit_by _ _ _ c.from_residual-in_err-second.result c.from_residual-in_err-second.ensures.1
-    (split_second_missing c.in_ok-region.ensures c.in_ok-behind.ensures c.in_ok-size.ensures c.in_ok-behind-2.ensures c.in_ok-first.ensures c.in_ok-behind-3.ensures
+    (split_second_missing c.in_ok-region.ensures.0 c.in_ok-at.ensures.0 (rw (c.in_ok-at.ensures.1, c.in_ok-region.ensures.1) at c.in_ok-size.ensures)
+    c.in_ok-at-2.ensures.0 c.in_ok-first.ensures.0 c.in_ok-at-3.ensures.0
     c.in_err-second.ensures)
 
 -- the block stops
 pub split-returns-in_err-body : goal.split-returns-in_err-body
 split-returns-in_err-body t c =
     exit_by _ _ _ c.from_residual-in_err-body.result c.from_residual-in_err-body.ensures.1
-    (split_fails c.in_ok-region.ensures c.in_ok-behind.ensures c.in_ok-size.ensures c.in_ok-behind-2.ensures c.in_ok-first.ensures c.in_ok-behind-3.ensures
-    c.in_ok-second.ensures c.in_err-body.ensures)
+    (split_fails c.in_ok-region.ensures.0 c.in_ok-at.ensures.0 (rw (c.in_ok-at.ensures.1, c.in_ok-region.ensures.1) at c.in_ok-size.ensures)
+    c.in_ok-at-2.ensures.0 c.in_ok-first.ensures.0 c.in_ok-at-3.ensures.0
+    c.in_ok-second.ensures.0 (rw (c.in_ok-second.ensures.1, c.in_ok-at-3.ensures.1, c.in_ok-first.ensures.1, c.in_ok-at-2.ensures.1) at c.in_err-body.ensures))
 
 -- two parts and a block
 pub split-returns : goal.split-returns
 split-returns t c =
     split_of c.in_ok-region.region c.in_ok-size.size c.in_ok-first.first c.in_ok-second.second c.in_ok-body.body
-    (split_read c.in_ok-region.ensures c.in_ok-behind.ensures c.in_ok-size.ensures c.in_ok-behind-2.ensures c.in_ok-first.ensures c.in_ok-behind-3.ensures
-    c.in_ok-second.ensures c.in_ok-body.ensures)
+    (split_read c.in_ok-region.ensures.0 c.in_ok-at.ensures.0 (rw (c.in_ok-at.ensures.1, c.in_ok-region.ensures.1) at c.in_ok-size.ensures)
+    c.in_ok-at-2.ensures.0 c.in_ok-first.ensures.0 c.in_ok-at-3.ensures.0
+    c.in_ok-second.ensures.0 (rw (c.in_ok-second.ensures.1, c.in_ok-at-3.ensures.1, c.in_ok-first.ensures.1, c.in_ok-at-2.ensures.1) at c.in_ok-body.ensures))
+
+-- no part
+pub each-returns-in_err-part : goal.each-returns-in_err-part
+each-returns-in_err-part t c =
+    exit_by _ _ _ c.from_residual-in_err-part.result c.from_residual-in_err-part.ensures.1
+    (each_part_missing c.in_ok-index.ensures.0 c.in_ok-at.ensures.0 c.in_err-part.ensures)
 
 -- no `in`
-pub each-returns-in_err-behind-2 : goal.each-returns-in_err-behind-2
-each-returns-in_err-behind-2 t c =
-    exit_by _ _ _ c.from_residual-in_err-behind-2.result c.from_residual-in_err-behind-2.ensures.1
-    (each_in_missing c.in_ok-index.ensures c.in_ok-behind.ensures c.in_ok-part.ensures c.in_err-behind-2.ensures)
+pub each-returns-in_err-at-2 : goal.each-returns-in_err-at-2
+each-returns-in_err-at-2 t c =
+    exit_by _ _ _ c.from_residual-in_err-at-2.result c.from_residual-in_err-at-2.ensures.1
+    (each_in_missing c.in_ok-index.ensures.0 c.in_ok-at.ensures.0 c.in_ok-part.ensures.0 c.in_err-at-2.ensures)
 
 -- no region
 pub each-returns-in_err-region : goal.each-returns-in_err-region
 each-returns-in_err-region t c =
     exit_by _ _ _ c.from_residual-in_err-region.result c.from_residual-in_err-region.ensures.1
-    (each_region_missing c.in_ok-index.ensures c.in_ok-behind.ensures c.in_ok-part.ensures c.in_ok-behind-2.ensures c.in_err-region.ensures)
+    (each_region_missing c.in_ok-index.ensures.0 c.in_ok-at.ensures.0 c.in_ok-part.ensures.0 c.in_ok-at-2.ensures.0 c.in_err-region.ensures)
 
 -- the block stops
 pub each-returns-in_err-body : goal.each-returns-in_err-body
 each-returns-in_err-body t c =
     exit_by _ _ _ c.from_residual-in_err-body.result c.from_residual-in_err-body.ensures.1
-    (each_fails c.in_ok-index.ensures c.in_ok-behind.ensures c.in_ok-part.ensures c.in_ok-behind-2.ensures c.in_ok-region.ensures
-    c.in_err-body.ensures)
+    (each_fails c.in_ok-index.ensures.0 c.in_ok-at.ensures.0 c.in_ok-part.ensures.0 c.in_ok-at-2.ensures.0 c.in_ok-region.ensures.0
+    (rw (c.in_ok-region.ensures.1, c.in_ok-at-2.ensures.1, c.in_ok-part.ensures.1, c.in_ok-at.ensures.1, c.in_ok-index.ensures.1) at c.in_err-body.ensures))
 
 -- a region and a block
 pub each-returns : goal.each-returns
 each-returns t c =
     each_of c.in_ok-index.index c.in_ok-part.part c.in_ok-region.region c.in_ok-body.body
-    (each_read c.in_ok-index.ensures c.in_ok-behind.ensures c.in_ok-part.ensures c.in_ok-behind-2.ensures c.in_ok-region.ensures
-    c.in_ok-body.ensures)
+    (each_read c.in_ok-index.ensures.0 c.in_ok-at.ensures.0 c.in_ok-part.ensures.0 c.in_ok-at-2.ensures.0 c.in_ok-region.ensures.0
+    (rw (c.in_ok-region.ensures.1, c.in_ok-at-2.ensures.1, c.in_ok-part.ensures.1, c.in_ok-at.ensures.1, c.in_ok-index.ensures.1) at c.in_ok-body.ensures))
 
 -- a statement that begins with a name
 pub statement-returns-in_ok-name-in-Name : goal.statement-returns-in_ok-name-in-Name
@@ -192,7 +204,7 @@ statement-returns-in_ok-room-in-Keyword-Each t c =
 -- none was read
 pub statements-further-init : goal.statements-further-init
 statements-further-init t c =
-    rw c.in_ok-all.ensures.items (runs_start c.args.depth c.args.room c.args.tokens.now)
+    rw c.in_ok-all.ensures.items (runs_start c.args.depth c.args.at.room c.args.at.tokens.now)
 
 -- a further one stops
 pub statements-returns-in_err-next : goal.statements-returns-in_err-next
@@ -219,15 +231,15 @@ statements-returns t c =
 pub block-returns-in_err-all : goal.block-returns-in_err-all
 block-returns-in_err-all t c =
     exit_by _ _ _ c.from_residual-in_err-all.result c.from_residual-in_err-all.ensures.1
-    (block_fails c.in_ok-place.ensures c.in_ok-inner.ensures c.in_err-all.ensures)
+    (block_fails c.in_ok-place.ensures.0 c.in_ok-inner.ensures (rw c.in_ok-place.ensures.1 at c.in_err-all.ensures))
 
 -- the brace is missing
-pub block-returns-in_err-rest : goal.block-returns-in_err-rest
-block-returns-in_err-rest t c =
-    exit_by _ _ _ c.from_residual-in_err-rest.result c.from_residual-in_err-rest.ensures.1
-    (block_unclosed c.in_ok-place.ensures c.in_ok-inner.ensures c.in_ok-all.ensures c.in_err-rest.ensures)
+pub block-returns-in_err-at : goal.block-returns-in_err-at
+block-returns-in_err-at t c =
+    exit_by _ _ _ c.from_residual-in_err-at.result c.from_residual-in_err-at.ensures.1
+    (block_unclosed c.in_ok-place.ensures.0 c.in_ok-inner.ensures (rw c.in_ok-place.ensures.1 at c.in_ok-all.ensures) c.in_err-at.ensures)
 
 -- statements in braces
 pub block-returns : goal.block-returns
 block-returns t c =
-    block_read c.in_ok-place.ensures c.in_ok-inner.ensures c.in_ok-all.ensures c.in_ok-rest.ensures
+    rw c.in_ok-at.ensures.1 (block_read c.in_ok-place.ensures.0 c.in_ok-inner.ensures (rw c.in_ok-place.ensures.1 at c.in_ok-all.ensures) c.in_ok-at.ensures.0)

@@ -9,8 +9,8 @@ returns-in_default c = gives_nothing c.in_default.ensures
 -- the value stops
 pub returns-in_err-value : goal.returns-in_err-value
 returns-in_err-value c =
-    exit_by _ _ _ c.from_residual.result c.from_residual.ensures.1 (give_fails c.in-Some.ensures c.in_statement-room.ensures c.in_err-value.ensures)
+    exit_by _ _ _ c.from_residual.result c.from_residual.ensures.1 (give_fails c.in-Some.ensures.0 c.in_statement-room.ensures c.in_err-value.ensures)
 
 -- a value
 pub returns : goal.returns
-returns c = give_read c.in-Some.ensures c.in_statement-room.ensures c.in_ok-value.ensures
+returns c = give_read c.in-Some.ensures.0 c.in_statement-room.ensures c.in_ok-value.ensures

@@ -11,20 +11,23 @@ returns-in_err-bracket c =
 pub returns-in_err-index : goal.returns-in_err-index
 returns-in_err-index c =
     exit_by _ _ _ c.from_residual-in_err-index.result c.from_residual-in_err-index.ensures.1
-    (put_index_fails c.requires c.in_ok-bracket.ensures c.in_ok-inner.ensures c.in_err-index.ensures)
+    (put_index_fails c.requires c.in_ok-bracket.ensures.0 c.in_ok-inner.ensures (rw c.in_ok-bracket.ensures.1 at c.in_err-index.ensures))
 
 -- nothing is assigned
-pub returns-in_err-behind : goal.returns-in_err-behind
-returns-in_err-behind c =
-    exit_by _ _ _ c.from_residual-in_err-behind.result c.from_residual-in_err-behind.ensures.1
-    (put_unassigned c.requires c.in_ok-bracket.ensures c.in_ok-inner.ensures c.in_ok-index.ensures c.in_err-behind.ensures)
+pub returns-in_err-at : goal.returns-in_err-at
+returns-in_err-at c =
+    exit_by _ _ _ c.from_residual-in_err-at.result c.from_residual-in_err-at.ensures.1
+    (put_unassigned c.requires c.in_ok-bracket.ensures.0 c.in_ok-inner.ensures (rw c.in_ok-bracket.ensures.1 at c.in_ok-index.ensures) c.in_err-at.ensures)
 
 -- the value stops
 pub returns-in_err-value : goal.returns-in_err-value
 returns-in_err-value c =
     exit_by _ _ _ c.from_residual-in_err-value.result c.from_residual-in_err-value.ensures.1
-    (put_value_fails c.requires c.in_ok-bracket.ensures c.in_ok-inner.ensures c.in_ok-index.ensures c.in_ok-behind.ensures c.in_err-value.ensures)
+    (put_value_fails c.requires c.in_ok-bracket.ensures.0 c.in_ok-inner.ensures (rw c.in_ok-bracket.ensures.1 at c.in_ok-index.ensures)
+    c.in_ok-at.ensures.0 (rw c.in_ok-at.ensures.1 at c.in_err-value.ensures))
 
 -- an index and a value
 pub returns : goal.returns
-returns c = put_read c.requires c.in_ok-bracket.ensures c.in_ok-inner.ensures c.in_ok-index.ensures c.in_ok-behind.ensures c.in_ok-value.ensures
+returns c =
+    put_read c.requires c.in_ok-bracket.ensures.0 c.in_ok-inner.ensures (rw c.in_ok-bracket.ensures.1 at c.in_ok-index.ensures) c.in_ok-at.ensures.0
+    (rw c.in_ok-at.ensures.1 at c.in_ok-value.ensures)
