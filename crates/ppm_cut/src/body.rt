@@ -58,7 +58,7 @@ fn push_two(
     push_capsule(capsules, procedure, second)
 }
 
-/// Appends the capsules of a statement, the first of which has the first of these numbers.
+/// Appends the capsules of a statement that begins with these numbers.
 #[cycle(body)]
 fn push_statement<'a>(
     maker: &Maker<'_>,
@@ -145,7 +145,7 @@ fn push_statement<'a>(
             Ok(())
         }
         Stmt::Each(_, _, region, block) => {
-            let body = each_capsule(alloc, layout, region, block, numbers.hidden, at + 1)?;
+            let body = each_capsule(alloc, layout, region, block, numbers)?;
             push_capsule(capsules, procedure, body)
         }
     }
@@ -175,7 +175,7 @@ fn push_last(
     }
 }
 
-/// Appends the capsules of a block, the last of which is how it goes on.
+/// Appends the capsules of a block that begins with these numbers; the last is how it goes on.
 #[cycle(body)]
 pub fn push_block<'a>(
     maker: &Maker<'_>,

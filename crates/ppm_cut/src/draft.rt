@@ -19,7 +19,8 @@ use ppm_tree::{Named, Proc, Stmt};
 use ppm_words::NoMemory;
 use std::alloc::Global;
 
-/// The procedures and the capsules of a code so far, and the number of the next capsule.
+/// The procedures and the capsules of a code so far, the number of the next capsule, and the memory
+/// for more of them.
 #[derive(Drop)]
 pub struct Draft {
     pub alloc: Global,
@@ -123,13 +124,17 @@ impl Draft {
         let entry = self.next;
         let names = layout.len() - 2;
         let slots = hidden_slots(names, block);
+        let numbers = Numbers {
+            capsule: entry,
+            hidden: number,
+        };
         self.procedures.push(Procedure { slots, entry })?;
         push_capsule(
             &mut self.capsules,
             number,
             entry_capsule(self.alloc, entry)?,
         )?;
-        let halving = halving_capsule(self.alloc, entry, number, slots, names, region.line)?;
+        let halving = halving_capsule(self.alloc, numbers, slots, names, region.line)?;
         push_capsule(&mut self.capsules, number, halving)?;
         push_capsule(&mut self.capsules, number, finish_capsule(self.alloc)?)?;
         let home = Home {
@@ -141,7 +146,7 @@ impl Draft {
             callees,
             home,
         };
-        let numbers = Numbers {
+        let inside = Numbers {
             capsule: entry + 3,
             hidden: number + 1,
         };
@@ -149,7 +154,7 @@ impl Draft {
             &maker,
             &mut self.capsules,
             layout,
-            numbers,
+            inside,
             Last::Gives(&None),
             block,
         )?;

@@ -9,6 +9,7 @@ ghost use Rattle.ppm_cut.specs.Growth.{Grows, halves_code, half_code};
 
 use crate::arguments::{push_loads, push_stores};
 use crate::calling::{fork_words, frame_words};
+use crate::counts::Numbers;
 use crate::instrs::{
     push, push_branch_zero, push_const, push_cut_left, push_cut_right, push_finish, push_len,
     push_less, push_load, push_onward, push_quotient, push_room, push_store_new, push_sum,
@@ -39,19 +40,19 @@ fn push_name_loads(
     Ok(())
 }
 
-/// The capsule of an `each`: the hidden procedure is called.
+/// The capsule of an `each` that has these numbers: its hidden procedure is called.
 pub fn each_capsule(
     alloc: Global,
     layout: &Layout<'_>,
     region: &Named,
     block: &[Stmt],
-    hidden: u32,
-    next: u32,
+    numbers: Numbers,
 ) -> Result<Vec<Instr>, NoMemory>
     requires names { length layout.now ≤ count_limit }
     requires counts { own_count_in (block_of block.now) ≤ count_limit }
+    requires capsules { numbers.capsule ≤ count_limit }
     ensures { IfOk result (λ body. body.items
-        ≡ each_code layout.now region.now (block_of block.now) hidden next) }
+        ≡ each_code layout.now region.now (block_of block.now) numbers.hidden (numbers.capsule + 1)) }
 {
     let mut names = Layout::new(alloc);
     names.push_caught(layout, block)?;
@@ -66,8 +67,8 @@ pub fn each_capsule(
     push(
         &mut body,
         Instr::Ends(End::Call {
-            procedure: hidden,
-            capsule: next,
+            procedure: numbers.hidden,
+            capsule: numbers.capsule + 1,
             to: None,
         }),
     )?;
@@ -123,19 +124,19 @@ fn push_half(
     push_stores(body, offset + 2, 6, names)
 }
 
-/// Where the hidden procedure goes on by halves.
+/// Where the hidden procedure with these numbers, its own and that of its first capsule, goes on by
+/// halves.
 pub fn halving_capsule(
     alloc: Global,
-    entry: u32,
-    hidden: u32,
+    numbers: Numbers,
     slots: u32,
     names: u32,
     line: u32,
 ) -> Result<Vec<Instr>, NoMemory>
-    requires entry { entry ≤ 2 * count_limit }
+    requires entry { numbers.capsule ≤ 2 * count_limit }
     requires slots { slots ≤ 4 * count_limit }
     requires names { names ≤ 2 * count_limit }
-    ensures { IfOk result (λ body. body.items ≡ halving_code entry hidden slots names line) }
+    ensures { IfOk result (λ body. body.items ≡ halving_code numbers.capsule numbers.hidden slots names line) }
 {
     let mut body = Vec::new(alloc);
     push_room(&mut body, fork_words(slots, slots))?;
@@ -146,9 +147,9 @@ pub fn halving_capsule(
     push(
         &mut body,
         Instr::Ends(End::Fork {
-            left: hidden,
-            right: hidden,
-            capsule: entry + 2,
+            left: numbers.hidden,
+            right: numbers.hidden,
+            capsule: numbers.capsule + 2,
             left_to: None,
             right_to: None,
         }),
