@@ -24,20 +24,7 @@ bare_instr (instr.CutRight to region place line) = instr.CutRight to region plac
 bare_instr (instr.Get to region index line) = instr.Get to region index 0
 bare_instr (instr.Put region index from line) = instr.Put region index from 0
 bare_instr (instr.Ends e) = instr.Ends (bare_end e)
-bare_instr (instr.Const to value) = instr.Const to value
-bare_instr (instr.Move to from) = instr.Move to from
-bare_instr (instr.Equal to left right) = instr.Equal to left right
-bare_instr (instr.NotEqual to left right) = instr.NotEqual to left right
-bare_instr (instr.Less to left right) = instr.Less to left right
-bare_instr (instr.AtMost to left right) = instr.AtMost to left right
-bare_instr (instr.Len to region) = instr.Len to region
-bare_instr (instr.LoadSlot to slot) = instr.LoadSlot to slot
-bare_instr (instr.StoreCur slot from) = instr.StoreCur slot from
-bare_instr (instr.Give from) = instr.Give from
-bare_instr (instr.BranchZero tested target) = instr.BranchZero tested target
-bare_instr (instr.BranchNonZero tested target) = instr.BranchNonZero tested target
-bare_instr (instr.Room words) = instr.Room words
-bare_instr (instr.StoreNew word from) = instr.StoreNew word from
+bare_instr i = i
 
 -- a capsule in no line
 abbrev pub bare_capsule : Capsule → Capsule

@@ -30,11 +30,7 @@ abbrev mutual
   hidden_behind (tree.While e block) h = hidden_behind_block block h
   hidden_behind (tree.Split line r e x y block) h = hidden_behind_block block h
   hidden_behind (tree.Each i x r block) h = hidden_behind_block block (suc h)
-  hidden_behind (tree.Let x e) h = h
-  hidden_behind (tree.Assign x e) h = h
-  hidden_behind (tree.Put x index e) h = h
-  hidden_behind (tree.Call s) h = h
-  hidden_behind (tree.Fork s t) h = h
+  hidden_behind s h = h
 
   pub hidden_behind_block : Block → ℕ → ℕ
   hidden_behind_block Nil h = h

@@ -50,11 +50,7 @@ abbrev mutual
   hidden_of layout h (tree.Each i x r block) =
       Hidden (record { number = h; line = r.line; part = x.name; index = i.name; names = caught layout block; block = block })
       ∷ hidden_of_block (x.name ∷ i.name ∷ caught layout block) (suc h) block
-  hidden_of layout h (tree.Let x e) = []
-  hidden_of layout h (tree.Assign x e) = []
-  hidden_of layout h (tree.Put x index e) = []
-  hidden_of layout h (tree.Call s) = []
-  hidden_of layout h (tree.Fork s t) = []
+  hidden_of layout h s = []
 
   pub hidden_of_block : Layout → (h : ℕ) → Block → List Routine
   hidden_of_block layout h Nil = []

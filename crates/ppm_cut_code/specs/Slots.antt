@@ -11,11 +11,7 @@ abbrev mutual
   assigns (tree.If e block other) = has_assignment block || has_assignment other
   assigns (tree.While e block) = has_assignment block
   assigns (tree.Split line r e x y block) = has_assignment block
-  assigns (tree.Let x e) = false
-  assigns (tree.Put x index e) = false
-  assigns (tree.Call s) = false
-  assigns (tree.Fork s t) = false
-  assigns (tree.Each i x r block) = false
+  assigns s = false
 
   -- whether a block does
   pub has_assignment : Block → Bool

@@ -160,14 +160,7 @@ hidden_layout layout i x block = x.name ∷ i.name ∷ caught layout block
 -- the names that a statement adds for the rest of its block
 abbrev pub with_lets : Layout → Statement → Layout
 with_lets layout (tree.Let x e) = layout ++ x.name ∷ []
-with_lets layout (tree.Assign x e) = layout
-with_lets layout (tree.Put x index e) = layout
-with_lets layout (tree.If e block other) = layout
-with_lets layout (tree.While e block) = layout
-with_lets layout (tree.Call s) = layout
-with_lets layout (tree.Fork s t) = layout
-with_lets layout (tree.Split line r e x y block) = layout
-with_lets layout (tree.Each i x r block) = layout
+with_lets layout s = layout
 
 -- and that a split adds for its own block
 abbrev pub with_parts : Layout → Named → Named → Layout

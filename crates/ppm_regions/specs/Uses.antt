@@ -169,11 +169,7 @@ module _ (t : ProgramTree) where
         declaration_sites (in_split scope r) (parts_of scope r x y) ++ sites_of_block (in_split scope r ++ parts_of scope r x y) block
     sites_within scope (tree.Each i x r block) =
         declaration_sites (in_each scope r) (element_of scope r i x) ++ sites_of_block (in_each scope r ++ element_of scope r i x) block
-    sites_within scope (tree.Let x e) = []
-    sites_within scope (tree.Assign x e) = []
-    sites_within scope (tree.Put x index e) = []
-    sites_within scope (tree.Call s) = []
-    sites_within scope (tree.Fork s t) = []
+    sites_within scope s = []
 
     -- the sites of a block; what a `let` declares is in force behind it
     pub sites_of_block : Scope → Block → List Site
