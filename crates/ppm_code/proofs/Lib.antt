@@ -6,6 +6,7 @@
 -- A branch that does not lead forward goes on at the next instruction, in the capsule and in `Path`
 -- alike, so that all laws are total.
 
+pub mod BuiltLemmas
 pub mod CapsuleLemmas
 pub mod ConflictLemmas
 pub mod FollowLemmas

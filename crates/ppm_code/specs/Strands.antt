@@ -1,5 +1,5 @@
 -- The strands of a code: its capsules as a table, and how its frames go on.
-use Rattle.std.specs.Prelude.{ℕ, ◌+◌, Bool, true, false, cond, List, [], Option, Some, None, slice_get}
+use Rattle.std.specs.Prelude.{ℕ, ◌+◌, nat_lt, if◌then◌else◌, Bool, true, false, cond, List, [], Option, Some, None, slice_get}
 use Rattle.ppm_strands.specs.Tree.{Tree, Strand, Call as Calling, Fork as Forking, Over}
 use Rattle.ppm_capsules.specs.Capsule.{Memory}
 use Rattle.ppm_capsules.specs.Strand.{Frame, Table, MayBeginAgain}
@@ -15,7 +15,7 @@ use Rattle.ppm_code.specs.declared.instr.Instr.{Instr}
 use Rattle.ppm_code.specs.Locations.{Where, code_locations, same_frame_word}
 use Rattle.ppm_code.specs.Capsules.{capsule_of}
 use Rattle.ppm_code.specs.Paths.{HasNoConflict}
-use Rattle.ppm_code.specs.Sizes.{value_at, slot_at, left_at, right_at}
+use Rattle.ppm_code.specs.Sizes.{slots_of, value_at, slot_at, left_at, right_at}
 
 -- how a frame is over: with the value that it gave, or by a trap at a line
 pub data Result : Type 0 where
@@ -40,10 +40,10 @@ abbrev pub with_value : Option ℕ → ℕ → (FrameWord → ℕ) → FrameWord
 with_value None value own word = own word
 with_value (Some slot) value own word = cond (same_frame_word word (Slot slot)) value (own word)
 
--- the words of a frame that lies in a new block
-abbrev pub built : (frame : ℕ) → (ℕ → ℕ) → FrameWord → ℕ
-built frame block (Slot slot) = block (frame + slot_at slot)
-built frame block Value = block (frame + value_at)
+-- the words of a frame of so many slots that lies in a new block; behind its slots it has none
+abbrev pub built : (slots frame : ℕ) → (ℕ → ℕ) → FrameWord → ℕ
+built slots frame block (Slot slot) = if nat_lt slot slots then block (frame + slot_at slot) else 0
+built slots frame block Value = block (frame + value_at)
 
 -- the instructions of a capsule; none where there is no capsule
 abbrev pub instrs_in : Option CodeCapsule → List Instr
@@ -71,10 +71,11 @@ opens code (Next capsule) own block = Strand (record { own = own; point = at_cap
 opens code Finish own block = Over (Gave (own Value))
 opens code (Trapping trap line) own block = Over (Trapped trap line)
 opens code (Call procedure capsule to) own block =
-    Calling (record { own = own; point = record { capsule = capsule; left_to = None; to = to } }) (begun code procedure (built 0 block))
+    Calling (record { own = own; point = record { capsule = capsule; left_to = None; to = to } })
+    (begun code procedure (built (slots_of code procedure) 0 block))
 opens code (Fork left right capsule left_to right_to) own block =
     Forking (record { own = own; point = record { capsule = capsule; left_to = left_to; to = right_to } })
-    (begun code left (built left_at block)) (begun code right (built (right_at code left) block))
+    (begun code left (built (slots_of code left) left_at block)) (begun code right (built (slots_of code right) (right_at code left) block))
 
 -- a frame once its left branch is over: it has its value
 abbrev pub kept : Frame FrameWord Point → Result → Frame FrameWord Point

@@ -4,7 +4,7 @@ use Rattle.std.proofs.Common.{Err, map, length, refl, sym, ap, ◌∙◌, subst,
 use Rattle.std.specs.Prelude.{slice_index, slice_set}
 use Rattle.std.specs.List.{All, sum}
 use Rattle.std.specs.Str.{bytes_eq}
-use Rattle.std.proofs.lemmas.List.{length-append}
+use Rattle.std.proofs.lemmas.List.{length-append, length-map}
 use Rattle.ppm_capsules.specs.Capsule.{Capsule, Memory}
 use Rattle.ppm_capsules.specs.Strand.{Own}
 use Rattle.ppm_code.specs.declared.act.End.{End}
@@ -21,7 +21,7 @@ use Rattle.ppm_tree.specs.declared.named.Named.{Named}
 use Rattle.ppm_tree.specs.declared.tree.Parameter.{Parameter}
 use Rattle.ppm_tree.specs.Limits.{IsNode}
 use Rattle.ppm_tree.specs.Parts.{nodes}
-use Rattle.ppm_tree.specs.Tree.{Expression, Argument}
+use Rattle.ppm_tree.specs.Tree.{Expression, Argument, Procedure}
 use Rattle.ppm_tree.specs.Tree as tree
 use Rattle.ppm_tree.specs.State.{TrapAt, Frame, Arrays, with_local, with_region, evaluate, with_argument, with_arguments}
 use Rattle.ppm_regions.specs.Scope.{Declaration, Scope, declared, is_region, of_parameter}
@@ -29,6 +29,7 @@ use Rattle.ppm_regions.proofs.ScopeLemmas.{names_same, same_names, some_same}
 use Rattle.ppm_cut_code.specs.Layout.{Layout, slot_of, parameter_layout, register}
 use Rattle.ppm_cut_code.specs.Expressions.{size_of, expression_code}
 use Rattle.ppm_cut_code.specs.Fits.{IsNew, IsDistinctLayout, IsRegion, FitsArgument, FitsArguments}
+use Rattle.ppm_cut_code.specs.Slots.{procedure_slots}
 use Rattle.ppm_cut_code.specs.Statements.{argument_size, argument_code, arguments_size, arguments_code, paired}
 use Rattle.ppm_cut_code.proofs.RegionWords.{region_word}
 use Rattle.ppm_cut_correct.proofs.Holding.{HoldsValue, Holds}
@@ -42,6 +43,10 @@ meets_as : {A : Type 0} (W at : ℕ) (rest : List Instr) (K L : A → List ℕ �
     → ((v : A) (h : List ℕ) → K v h → L v h) → Meets W at rest K p m t → Meets W at rest L p m t
 meets_as W at rest K L p m (Ok v) on h = (h.0, h.1, on v h.0 h.2)
 meets_as W at rest K L p m (Err stop) on h = h
+
+-- a procedure has a slot for each parameter
+pub parameters_fit : (p : Procedure) → length (parameter_layout p.parameters) ≤ procedure_slots p
+parameters_fit p = let same = length-map p.parameters (λ (p : Parameter). p.name.name) in omega (arith, same)
 
 -- as many registers as parameters, and at least as many nodes
 pub paired_is : (scope : Scope) (layout : Layout) (ps : List Parameter) (arguments : List Argument) → FitsArguments scope layout ps arguments

@@ -12,6 +12,7 @@ use Rattle.ppm_code.specs.Acts.{held}
 use Rattle.ppm_code.specs.Locations.{Where, code_locations}
 use Rattle.ppm_code.specs.Capsules.{capsule_from}
 use Rattle.ppm_code.specs.Strands.{built}
+use Rattle.ppm_code.proofs.BuiltLemmas.{built_slot}
 use Rattle.ppm_cut_code.specs.Layout.{Layout, slot_of, register}
 use Rattle.ppm_cut_code.specs.Statements.{loads_code, names_code, stores_code}
 use Rattle.ppm_cut_correct.proofs.ExprLemmas.{Goes, goes_on, goes_same, set_at, set_else, set_count, held_at}
@@ -206,14 +207,17 @@ module _ (h : List ℕ) (o part index count : ℕ) (m : Memory Where) where
     pub value : own Value ≡ 0
 
   -- it lies in the block, where that was blank and what is stored later lies elsewhere
-  pub half_built : (later : Memory Where) (frame : ℕ) → frame + 6 ≡ o
+  pub half_built : (later : Memory Where) (slots frame : ℕ) → suc (suc count) ≤ slots → frame + 6 ≡ o
       → ((i : ℕ) → o ≤ i → i < o + suc (suc count) → later (New i) ≡ half_stored (New i)) → later (New (frame + 4)) ≡ 0
-      → IsHalf (built frame (new_of later))
-  half_built later frame is keeps blank = record {
-    at_part = ap (λ (i : ℕ). later (New i)) (let e : frame + (6 + 0) ≡ o = omega (arith, is) in e) ∙ keeps o (omega arith) (omega arith) ∙ half_part;
-    at_index = ap (λ (i : ℕ). later (New i)) (let e : frame + (6 + 1) ≡ suc o = omega (arith, is) in e)
+      → IsHalf (built slots frame (new_of later))
+  half_built later slots frame fit is keeps blank = record {
+    at_part = built_slot slots frame (new_of later) 0 (omega (arith, fit))
+        ∙ ap (λ (i : ℕ). later (New i)) (let e : frame + (6 + 0) ≡ o = omega (arith, is) in e) ∙ keeps o (omega arith) (omega arith) ∙ half_part;
+    at_index = built_slot slots frame (new_of later) 1 (omega (arith, fit))
+        ∙ ap (λ (i : ℕ). later (New i)) (let e : frame + (6 + 1) ≡ suc o = omega (arith, is) in e)
         ∙ keeps (suc o) (omega arith) (omega arith) ∙ half_index;
-    names = λ k low. ap (λ (i : ℕ). later (New i)) (let e : frame + (6 + suc (suc k)) ≡ suc (suc o) + k = omega (arith, is) in e)
+    names = λ k low. built_slot slots frame (new_of later) (suc (suc k)) (omega (arith, fit, low))
+        ∙ ap (λ (i : ℕ). later (New i)) (let e : frame + (6 + suc (suc k)) ≡ suc (suc o) + k = omega (arith, is) in e)
         ∙ keeps (suc (suc o) + k) (omega arith) (omega (arith, low)) ∙ half_name k low;
     value = blank;
   }

@@ -14,10 +14,12 @@ use Rattle.ppm_code.specs.declared.location.FrameWord.{FrameWord}
 use Rattle.ppm_code.specs.declared.location.FrameWord.TheVariants.{Slot}
 use Rattle.ppm_code.specs.Locations.{Where}
 use Rattle.ppm_code.specs.Capsules.{capsule_from}
+use Rattle.ppm_code.specs.Sizes.{slots_of}
 use Rattle.ppm_code.specs.Strands.{instrs_of, entry_of, built}
+use Rattle.ppm_code.proofs.BuiltLemmas.{built_slot}
 use Rattle.ppm_tree.specs.declared.tree.Parameter.{Parameter}
 use Rattle.ppm_tree.specs.Tree.{Side, Procedure}
-use Rattle.ppm_tree.specs.State.{TrapAt, Frame, Arrays, empty_frame, entered}
+use Rattle.ppm_tree.specs.State.{TrapAt, Frame, Arrays, empty_frame, procedure_named, entered}
 use Rattle.ppm_regions.specs.Scope.{Scope}
 use Rattle.ppm_cut_code.specs.Layout.{Layout, parameter_layout, target_of}
 use Rattle.ppm_cut_code.specs.Slots.{frame_words}
@@ -29,7 +31,7 @@ use Rattle.ppm_cut_correct.proofs.Doing.{CallDoes}
 use Rattle.ppm_cut_correct.proofs.ExprLemmas.{goes_on, Meets}
 use Rattle.ppm_cut_correct.proofs.StepLemmas.{start_at, sees, whole}
 use Rattle.ppm_cut_correct.proofs.BlockLemmas.{stored, stored_at, stored_else, stored_own, stored_shared, stores_go}
-use Rattle.ppm_cut_correct.proofs.ArgumentLemmas.{AreGiven, arguments_meet, paired_is, paired_few, given_holds}
+use Rattle.ppm_cut_correct.proofs.ArgumentLemmas.{AreGiven, arguments_meet, paired_is, paired_few, parameters_fit, given_holds}
 
 module _ (lengths : List ℕ) (code : CodeParts) (scope : Scope) (layout : Layout) (f : Frame) (own : FrameWord → ℕ) (a : Words) (arrays : Arrays)
     (at next : ℕ) (procedures : List Procedure) where
@@ -63,20 +65,23 @@ module _ (lengths : List ℕ) (code : CodeParts) (scope : Scope) (layout : Layou
     Came t = Meets W (1 + arguments_size parameters s.arguments) behind_arguments
         (AreGiven lengths parameters empty_frame 0 (replicate 64 0)) from_arguments at_start t
 
-    finish : instrs_of code at ≡ call_code procedures layout s next → count ≡ length (parameter_layout parameters) → count ≤ 64
+    finish : instrs_of code at ≡ call_code procedures layout s next → slots_of code (callee_number procedures s) ≡ callee_slots procedures s
+        → count ≡ length (parameter_layout parameters) → count ≤ 64 → count ≤ callee_slots procedures s
         → (t : Result Frame TrapAt) → Came t → Called lengths code procedures s (cost 1 1 0 room) own a at next (target_of layout s.target) t
-    finish stands same few (Err stop) goes =
+    finish stands slots same few fit (Err stop) goes =
         whole lengths code at (call_code procedures layout s next) stands own a (ends.Trap stop.0 stop.1) at_start room goes.ends goes.left
         (ap (λ (z : ℕ). room + z) goes.asks ∙ (let e : room + 0 ≡ room = omega arith in e))
-    finish stands same few (Ok g) h =
+    finish stands slots same few fit (Ok g) h =
         let regs = h.0 in
         let m' = stored regs 6 0 count at_start in
         let stores = stores_go W 6 0 count (1 + arguments_size parameters s.arguments) (instr.Ends call_end ∷ []) regs at_start
         (omega (arith, few)) in
         let goes = goes_on h.1 stores.1 in
-        let own' = built 0 (new_of m') in
+        let has = slots_of code (callee_number procedures s) in
+        let own' = built has 0 (new_of m') in
         let at_slot : (k : ℕ) → k < length (parameter_layout parameters) → own' (Slot k) ≡ slice_index regs (0 + k) =
-        λ k low. ap (λ (i : ℕ). m' (New i)) (let e : 0 + (6 + k) ≡ 6 + k = omega arith in e)
+        λ k low. built_slot has 0 (new_of m') k (omega (arith, low, same, slots, fit))
+        ∙ ap (λ (i : ℕ). m' (New i)) (let e : 0 + (6 + k) ≡ 6 + k = omega arith in e)
         ∙ stored_at regs 6 0 count at_start k (omega (arith, low, same)) in
         let callee = at_work own' (entry_of code (callee_number procedures s)) in
         let chain = whole lengths code at (call_code procedures layout s next) stands own a call_end m' room goes.ends goes.left
@@ -94,9 +99,11 @@ module _ (lengths : List ℕ) (code : CodeParts) (scope : Scope) (layout : Layou
         )
 
   pub call_does : CallDoes lengths code scope layout f own a arrays at next procedures
-  call_does s hand stands fits distinct small =
+  call_does s hand stands fits distinct slots small =
       let ps = callee_parameters procedures s in
       let few = paired_few ps s.arguments in
-      finish s stands (paired_is scope layout ps s.arguments fits.arguments) (omega (arith, few, small.count)) (entered procedures f arrays s)
+      let same = paired_is scope layout ps s.arguments fits.arguments in
+      let fit = parameters_fit (procedure_named procedures s.callee.name) in
+      finish s stands slots same (omega (arith, few, small.count)) (omega (arith, same, fit)) (entered procedures f arrays s)
       (arguments_meet lengths scope layout f arrays at_start (sees lengths code scope layout f own a arrays at hand) ps s.arguments empty_frame 0 1
       (behind_arguments s) (replicate 64 0) fits.arguments distinct small.each (omega (arith, small.count)) refl)

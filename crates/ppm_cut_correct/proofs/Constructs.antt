@@ -326,7 +326,7 @@ module _ (t : ProgramTree) (code : CodeParts) (facts : Given t code) where
         subst (λ (v : Result Frame TrapAt). Called lens code ps s (cost 1 1 0 words) own a at (suc at) (target_of layout s.target) v) is
         (facts.does.call scope layout f own a arrays at (suc at) s
         (in_hand scope layout spare (Then (tree.Call s) b) f own a arrays place held shows) has.0
-        place.fits.0 (facts.fits x).distinct (small_call s (small_first (tree.Call s) b place)))
+        place.fits.0 (facts.fits x).distinct (facts.stands.each x place.fits.0.callee).slots (small_call s (small_first (tree.Call s) b place)))
 
     -- the callee at its entry
     pub record CallBegun (s : Side) (g : Frame) : Type 0 where
@@ -372,7 +372,7 @@ module _ (t : ProgramTree) (code : CodeParts) (facts : Given t code) where
         (target_of layout u.target) v) is
         (facts.does.fork scope layout f own a arrays at (suc at) s u
         (in_hand scope layout spare (Then (tree.Fork s u) b) f own a arrays place held shows) has.0 sides.0 sides.1
-        (facts.fits m).distinct (facts.fits n).distinct (facts.stands.each m sides.0.callee).slots
+        (facts.fits m).distinct (facts.fits n).distinct (facts.stands.each m sides.0.callee).slots (facts.stands.each n sides.1.callee).slots
         (small_fork s u (small_first (tree.Fork s u) b place)))
 
     pub record ForkBegun (s u : Side) (g g' : Frame) : Type 0 where
@@ -465,7 +465,7 @@ module _ (t : ProgramTree) (code : CodeParts) (facts : Given t code) where
       each_begun =
           let fits = place.fits.0 in
           facts.does.each scope layout f own a arrays at (suc at) i x r s h
-          (in_hand scope layout spare (Then (Each i x r s) b) f own a arrays place held shows) has.0.0
+          (in_hand scope layout spare (Then (Each i x r s) b) f own a arrays place held shows) has.0.0 has.0.4
           fits.0 fits.3 fits.4 fits.5 (each_few t scope layout spare i x r s b f place)
 
       pub each_made : (j : Counts) (y : End Locals) → AreLeaves 0 elements arrays j y

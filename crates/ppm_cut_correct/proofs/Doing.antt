@@ -97,6 +97,7 @@ module _ (lengths : List ℕ) (code : CodeParts) where
       CallDoes = (s : Side) → InHand scope layout f own a arrays
           → instrs_of code at ≡ call_code procedures layout s next → FitsSide procedures scope layout s
           → IsDistinctLayout (parameter_layout (procedure_named procedures s.callee.name).parameters)
+          → slots_of code (callee_number procedures s) ≡ callee_slots procedures s
           → AreSmall (argument_nodes s.arguments)
           → Called lengths code procedures s (cost 1 1 0 (frame_words (callee_slots procedures s))) own a at next (target_of layout s.target)
           (entered procedures f arrays s)
@@ -107,6 +108,7 @@ module _ (lengths : List ℕ) (code : CodeParts) where
           → IsDistinctLayout (parameter_layout (procedure_named procedures s.callee.name).parameters)
           → IsDistinctLayout (parameter_layout (procedure_named procedures u.callee.name).parameters)
           → slots_of code (callee_number procedures s) ≡ callee_slots procedures s
+          → slots_of code (callee_number procedures u) ≡ callee_slots procedures u
           → AreSmall (argument_nodes s.arguments ++ argument_nodes u.arguments)
           → Forked lengths code procedures s u (fork_words (callee_slots procedures s) (callee_slots procedures u)) own a at next
           (target_of layout s.target) (target_of layout u.target) (both_entered procedures f arrays s u)
@@ -114,7 +116,8 @@ module _ (lengths : List ℕ) (code : CodeParts) where
     -- an `each`: its hidden procedure begins with the whole region, from the index 0 on
     abbrev pub EachDoes : Type 0
     EachDoes = (i x r : Named) (block : Block) (h : ℕ) → InHand scope layout f own a arrays
-        → instrs_of code at ≡ each_code layout r block h next → IsRegion scope layout r
+        → instrs_of code at ≡ each_code layout r block h next → slots_of code h ≡ hidden_slots (length (caught layout block)) block
+        → IsRegion scope layout r
         → i.name ≢ x.name → declared scope i.name ≡ None → declared scope x.name ≡ None → length (caught layout block) ≤ 24
         → (own' : FrameWord → ℕ)
         × Holds lengths (each_scope scope r i x) (hidden_layout layout i x block)

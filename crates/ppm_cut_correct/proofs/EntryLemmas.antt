@@ -19,7 +19,9 @@ use Rattle.ppm_code.specs.declared.location.FrameWord.TheVariants.{Slot}
 use Rattle.ppm_code.specs.Acts.{length_of}
 use Rattle.ppm_code.specs.Locations.{Where}
 use Rattle.ppm_code.specs.Capsules.{capsule_of, capsule_from}
+use Rattle.ppm_code.specs.Sizes.{slots_of}
 use Rattle.ppm_code.specs.Strands.{Gave, entry_of, built}
+use Rattle.ppm_code.proofs.BuiltLemmas.{built_slot}
 use Rattle.ppm_tree.specs.State.{Frame, Arrays}
 use Rattle.ppm_ownership.specs.Coming.{stretch}
 use Rattle.ppm_regions.specs.Scope.{Scope}
@@ -94,7 +96,7 @@ module _ (lengths : List ℕ) (code : CodeParts) (scope : Scope) (layout : Layou
           whole lengths code at (entry_code at) stands own a (ends.Next (halving at)) at_start 0 g.ends g.left g.asks
 
   pub each_does : EachDoes lengths code scope layout f own a arrays at next
-  each_does i x r block h hand stands region other no_i no_x few =
+  each_does i x r block h hand stands has_slots region other no_i no_x few =
       let names = caught layout block in
       let count = suc (suc (length names)) in
       let room = frame_words (hidden_slots (length names) block) in
@@ -108,9 +110,10 @@ module _ (lengths : List ℕ) (code : CodeParts) (scope : Scope) (layout : Layou
       let s = stores_go W 6 0 count l.number last l.registers at_start (omega (arith, few)) in
       let m' = stored l.registers 6 0 count at_start in
       let goes = goes_on l.goes s.1 in
-      let own' = built 0 (new_of m') in
+      let own' = built (slots_of code h) 0 (new_of m') in
       let at_slot : (k : ℕ) → k < count → own' (Slot k) ≡ slice_index l.registers k =
-      λ k low. ap (λ (i : ℕ). m' (New i)) (let e : 0 + (6 + k) ≡ 6 + k = omega arith in e) ∙ stored_at l.registers 6 0 count at_start k low
+      λ k low. built_slot (slots_of code h) 0 (new_of m') k (omega (arith, low, has_slots))
+      ∙ ap (λ (i : ℕ). m' (New i)) (let e : 0 + (6 + k) ≡ 6 + k = omega arith in e) ∙ stored_at l.registers 6 0 count at_start k low
       ∙ ap (slice_index l.registers) (let e : 0 + k ≡ k = omega arith in e) in
       let start_is : region_word lengths q ≡ region_word lengths (stretch 0 q.length q) =
       ap (λ (k : ℕ). (offset_of lengths q.array + k) * 2 ^ 32 + q.length) (let e : q.start ≡ q.start + 0 = omega arith in e) in

@@ -2,7 +2,7 @@
 use Rattle.std.proofs.Common.{◌≡◌, ◌≤◌, ◌<◌, ℕ, suc, ◌+◌, List, [], ◌∷◌, Result, Ok, Err, length, inl, inr, replicate, refl, ap, ◌∙◌, subst₂, arith}
 use Rattle.std.specs.Prelude.{slice_index}
 use Rattle.std.specs.List.{sum}
-use Rattle.std.proofs.lemmas.List.{length-append, length-map}
+use Rattle.std.proofs.lemmas.List.{length-append}
 use Rattle.ppm_strands.specs.Tree.{Words, Strand, Fork as Forking}
 use Rattle.ppm_capsules.specs.Capsule.{Memory, Capsule}
 use Rattle.ppm_capsules.specs.Strand.{New, new_of}
@@ -17,13 +17,14 @@ use Rattle.ppm_code.specs.Sizes.{slots_of, left_at, right_at}
 use Rattle.ppm_code.specs.Locations.{Where}
 use Rattle.ppm_code.specs.Capsules.{capsule_from}
 use Rattle.ppm_code.specs.Strands.{instrs_of, entry_of, built}
+use Rattle.ppm_code.proofs.BuiltLemmas.{built_slot}
 use Rattle.ppm_tree.specs.declared.tree.Parameter.{Parameter}
 use Rattle.ppm_tree.specs.Limits.{IsNode}
 use Rattle.ppm_tree.specs.Tree.{Side, Procedure}
 use Rattle.ppm_tree.specs.State.{TrapAt, then_with, Frame, Arrays, empty_frame, procedure_named, entered, both_entered}
 use Rattle.ppm_regions.specs.Scope.{Scope}
 use Rattle.ppm_cut_code.specs.Layout.{Layout, parameter_layout, target_of}
-use Rattle.ppm_cut_code.specs.Slots.{frame_words, fork_words, procedure_slots}
+use Rattle.ppm_cut_code.specs.Slots.{frame_words, fork_words}
 use Rattle.ppm_cut_code.specs.Statements.{arguments_size, arguments_code, paired, stores_code, fork_code}
 use Rattle.ppm_cut_code.specs.Statements.{callee_parameters, callee_slots, callee_number}
 use Rattle.ppm_cut_correct.proofs.ChainLemmas.{cost, Chain}
@@ -32,11 +33,7 @@ use Rattle.ppm_cut_correct.proofs.Doing.{ForkDoes, argument_nodes}
 use Rattle.ppm_cut_correct.proofs.ExprLemmas.{goes_on, goes_same, Meets, meets_at, bind_meets, all_front, all_behind}
 use Rattle.ppm_cut_correct.proofs.StepLemmas.{start_at, sees, whole}
 use Rattle.ppm_cut_correct.proofs.BlockLemmas.{stored, stored_at, stored_else, stored_own, stored_shared, stores_go}
-use Rattle.ppm_cut_correct.proofs.ArgumentLemmas.{AreGiven, arguments_meet, paired_is, paired_few, given_holds}
-
--- a procedure has a slot for each parameter
-parameters_fit : (p : Procedure) → length (parameter_layout p.parameters) ≤ procedure_slots p
-parameters_fit p = let same = length-map p.parameters (λ (p : Parameter). p.name.name) in omega (arith, same)
+use Rattle.ppm_cut_correct.proofs.ArgumentLemmas.{AreGiven, arguments_meet, paired_is, paired_few, parameters_fit, given_holds}
 
 module _ (lengths : List ℕ) (code : CodeParts) (scope : Scope) (layout : Layout) (f : Frame) (own : FrameWord → ℕ) (a : Words) (arrays : Arrays)
     (at next : ℕ) (procedures : List Procedure) where
@@ -95,14 +92,15 @@ module _ (lengths : List ℕ) (code : CodeParts) (scope : Scope) (layout : Layou
       pub right : AreGiven lengths rights empty_frame left_count between g.1 h
 
     finish : instrs_of code at ≡ fork_code procedures layout s u next → slots_of code (callee_number procedures s) ≡ callee_slots procedures s
+        → slots_of code (callee_number procedures u) ≡ callee_slots procedures u
         → left_count ≡ length (parameter_layout lefts) → right_count ≡ length (parameter_layout rights) → left_count + right_count ≤ 64
-        → left_count ≤ callee_slots procedures s
+        → left_count ≤ callee_slots procedures s → right_count ≤ callee_slots procedures u
         → (t : Result (Frame × Frame) TrapAt) → Meets W stores_from behind_arguments BothGiven from_arguments at_start t
         → Forked lengths code procedures s u room own a at next (target_of layout s.target) (target_of layout u.target) t
-    finish stands slots same_left same_right few low (Err stop) goes =
+    finish stands slots right_slots same_left same_right few low right_low (Err stop) goes =
         whole lengths code at (fork_code procedures layout s u next) stands own a (ends.Trap stop.0 stop.1) at_start room goes.ends goes.left
         (ap (λ (z : ℕ). room + z) goes.asks ∙ (let e : room + 0 ≡ room = omega arith in e))
-    finish stands slots same_left same_right few low (Ok g) h =
+    finish stands slots right_slots same_left same_right few low right_low (Ok g) h =
         let regs = h.0 in
         let m1 = stored regs 11 0 left_count at_start in
         let m2 = stored regs right_offset left_count right_count m1 in
@@ -110,15 +108,19 @@ module _ (lengths : List ℕ) (code : CodeParts) (scope : Scope) (layout : Layou
         let second = stores_go W right_offset left_count right_count first.0 (instr.Ends fork_end ∷ []) regs m1 few in
         let goes = goes_on h.1 (goes_on first.1 second.1) in
         let frame = right_at code (callee_number procedures s) in
-        let left = built left_at (new_of m2) in
-        let right = built frame (new_of m2) in
+        let left_has = slots_of code (callee_number procedures s) in
+        let right_has = slots_of code (callee_number procedures u) in
+        let left = built left_has left_at (new_of m2) in
+        let right = built right_has frame (new_of m2) in
         let left_slot : (k : ℕ) → k < length (parameter_layout lefts) → left (Slot k) ≡ slice_index h.2.between (0 + k) =
-        λ k below. ap (λ (i : ℕ). m2 (New i)) (let e : 5 + (6 + k) ≡ 11 + k = omega arith in e)
+        λ k below. built_slot left_has left_at (new_of m2) k (omega (arith, below, same_left, low, slots))
+        ∙ ap (λ (i : ℕ). m2 (New i)) (let e : 5 + (6 + k) ≡ 11 + k = omega arith in e)
         ∙ stored_else regs right_offset left_count right_count m1 (11 + k) (inl (omega (arith, below, same_left, low)))
         ∙ stored_at regs 11 0 left_count at_start k (omega (arith, below, same_left))
         ∙ h.2.right.keeps (0 + k) (omega (arith, below, same_left)) in
         let right_slot : (k : ℕ) → k < length (parameter_layout rights) → right (Slot k) ≡ slice_index regs (left_count + k) =
-        λ k below. ap (λ (i : ℕ). m2 (New i)) (let e : frame + (6 + k) ≡ right_offset + k = omega (arith, slots) in e)
+        λ k below. built_slot right_has frame (new_of m2) k (omega (arith, below, same_right, right_low, right_slots))
+        ∙ ap (λ (i : ℕ). m2 (New i)) (let e : frame + (6 + k) ≡ right_offset + k = omega (arith, slots) in e)
         ∙ stored_at regs right_offset left_count right_count m1 k (omega (arith, below, same_right)) in
         let left_value : left Value ≡ 0 =
         stored_else regs right_offset left_count right_count m1 9 (inl (omega arith))
@@ -149,7 +151,7 @@ module _ (lengths : List ℕ) (code : CodeParts) (scope : Scope) (layout : Layou
         )
 
   pub fork_does : ForkDoes lengths code scope layout f own a arrays at next procedures
-  fork_does s u hand stands fits_s fits_u distinct_s distinct_u slots small =
+  fork_does s u hand stands fits_s fits_u distinct_s distinct_u slots right_slots small =
       let ps = callee_parameters procedures s in
       let qs = callee_parameters procedures u in
       let left_nodes = argument_nodes s.arguments in
@@ -160,10 +162,12 @@ module _ (lengths : List ℕ) (code : CodeParts) (scope : Scope) (layout : Layou
       let same_left = paired_is scope layout ps s.arguments fits_s.arguments in
       let same_right = paired_is scope layout qs u.arguments fits_u.arguments in
       let fit = parameters_fit (procedure_named procedures s.callee.name) in
+      let right_fit = parameters_fit (procedure_named procedures u.callee.name) in
       let seen = sees lengths code scope layout f own a arrays at hand in
       let left_end = 1 + arguments_size ps s.arguments in
       let zeros : List ℕ = replicate 64 0 in
-      finish s u stands slots same_left same_right (omega (arith, few_left, few_right, both, small.count)) (omega (arith, same_left, fit))
+      finish s u stands slots right_slots same_left same_right (omega (arith, few_left, few_right, both, small.count))
+      (omega (arith, same_left, fit)) (omega (arith, same_right, right_fit))
       (both_entered procedures f arrays s u)
       (bind_meets W (right_from s u) (stores_from s u) (right_arguments s u) (behind_arguments s u) (AreGiven lengths ps empty_frame 0 zeros)
       (BothGiven s u)

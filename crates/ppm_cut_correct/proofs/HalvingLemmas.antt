@@ -195,15 +195,17 @@ module _ (lengths : List ℕ) (code : CodeParts) (scope : Scope) (layout : Layou
         (goes_on named.goes stores_goes)
 
     -- the two frames, and what they keep of this one
-    left_frame : 2 + count ≤ slots → IsHalf registers 11 2 4 count at_start (built left_at (new_of with_frames))
-    left_frame fit = half_built registers 11 2 4 count at_start with_frames 5 refl
+    left_frame : 2 + count ≤ slots → slots_of code h ≡ slots
+        → IsHalf registers 11 2 4 count at_start (built (slots_of code h) left_at (new_of with_frames))
+    left_frame fit is = half_built registers 11 2 4 count at_start with_frames (slots_of code h) 5 (omega (arith, fit, is)) refl
         (λ k low high. half_else registers right_offset 3 5 count with_left_frame k (inl (omega (arith, high, fit))))
         (half_else registers right_offset 3 5 count with_left_frame 9 (inl (omega arith))
         ∙ half_else registers 11 2 4 count at_start 9 (inl (omega arith)))
 
     right_frame : 2 + count ≤ slots → slots_of code h ≡ slots
-        → IsHalf registers right_offset 3 5 count with_left_frame (built (right_at code h) (new_of with_frames))
-    right_frame fit is = half_built registers right_offset 3 5 count with_left_frame with_frames (right_at code h) (omega (arith, is))
+        → IsHalf registers right_offset 3 5 count with_left_frame (built (slots_of code h) (right_at code h) (new_of with_frames))
+    right_frame fit is = half_built registers right_offset 3 5 count with_left_frame with_frames (slots_of code h) (right_at code h)
+        (omega (arith, fit, is)) (omega (arith, is))
         (λ k low high. refl)
         (half_else registers right_offset 3 5 count with_left_frame (right_at code h + 4) (inl (omega (arith, is)))
         ∙ half_else registers 11 2 4 count at_start (right_at code h + 4) (inr (omega (arith, is, fit))))
@@ -217,12 +219,12 @@ module _ (lengths : List ℕ) (code : CodeParts) (scope : Scope) (layout : Layou
         (with_length half left right total)) at_start
         (Ends fork_end) with_frames
         → Chain (strands lengths code) (cost 1 1 1 (fork_words slots slots)) (Strand (at_work own (halving at))) a
-        (Forking (waits own (halved at) None None) (Strand (at_work (built left_at (new_of with_frames)) at))
-        (Strand (at_work (built (right_at code h) (new_of with_frames)) at))) a
+        (Forking (waits own (halved at) None None) (Strand (at_work (built (slots_of code h) left_at (new_of with_frames)) at))
+        (Strand (at_work (built (slots_of code h) (right_at code h) (new_of with_frames)) at))) a
     forks stands is_entry goes =
         let room = fork_words slots slots in
-        let first = built left_at (new_of with_frames) in
-        let second = built (right_at code h) (new_of with_frames) in
+        let first = built (slots_of code h) left_at (new_of with_frames) in
+        let second = built (slots_of code h) (right_at code h) (new_of with_frames) in
         let chain = whole lengths code (halving at) (halving_code at h slots count line) stands own a fork_end with_frames room goes.ends goes.left
         (ap (λ (z : ℕ). room + z) goes.asks ∙ (let e : room + 0 ≡ room = omega arith in e)) in
         subst (λ (e : ℕ). Chain (strands lengths code) (cost 1 1 1 room) (Strand (at_work own (halving at))) a
@@ -258,11 +260,11 @@ module _ (lengths : List ℕ) (code : CodeParts) (scope : Scope) (layout : Layou
       (sum_does r.line (register 5) (own (Slot 1)) n half is_index.value small_n small_half) in
       let loaded = (named h slots count r.line half left right total few).loaded in
       let keeps = kept h slots count r.line half left right total few in
-      let first = left_frame h slots count r.line half left right total few fit in
+      let first = left_frame h slots count r.line half left right total few fit has_slots in
       let second = right_frame h slots count r.line half left right total few fit has_slots in
       let memory = with_frames h slots count r.line half left right total few in
-      let first_own = built left_at (new_of memory) in
-      let second_own = built (right_at code h) (new_of memory) in
+      let first_own = built (slots_of code h) left_at (new_of memory) in
+      let second_own = built (slots_of code h) (right_at code h) (new_of memory) in
       let right_is : right ≡ region_word lengths (stretch (n + half) (m - half) q) =
       ap (λ (s : ℕ). s * 2 ^ 32 + (m - half)) (let e : start + half ≡ offset_of lengths q.array + (q.start + (n + half)) = omega arith in e) in (
         first_own,

@@ -15,6 +15,7 @@ use Rattle.ppm_code.specs.Acts.{held}
 use Rattle.ppm_code.specs.Locations.{Where, code_locations}
 use Rattle.ppm_code.specs.Sizes.{slots_of, right_at}
 use Rattle.ppm_code.specs.Strands.{instrs_of, entry_of, built, at_capsule}
+use Rattle.ppm_code.proofs.BuiltLemmas.{built_slot}
 use Rattle.ppm_tree.specs.declared.mode.Mode.{Mode}
 use Rattle.ppm_tree.specs.declared.mode.Mode.TheVariants as mode
 use Rattle.ppm_tree.specs.declared.named.Named.{Named}
@@ -256,6 +257,8 @@ module _ (t : ProgramTree) (code : CodeParts) (rules : KeepsRules t) (admitted :
           let w = level spare (scope ++ []) layout next h last rest frame in
           let below = paired_below ps s.arguments in
           let narrow = facts.narrow s.callee.name in
+          let slots = slots_of code (callee_number t.procedures s) in
+          let size_is = (facts.stand.each s.callee.name a.stays.fits.0.callee).slots in
           let facts_here = call_facts t rules admitted scope rest frame [] s a.stays.sites in
           let u = 1 + arguments_size ps s.arguments in
           subst (λ (is : List Instr). Goes all 0 is zeros m) (sym a.stays.stands.0)
@@ -268,11 +271,11 @@ module _ (t : ProgramTree) (code : CodeParts) (rules : KeepsRules t) (admitted :
                 (at_on t code l (own_of m) (own_of new) v (same_words v m new st.own) a)) tt
                 (target_off (tree.Call s) w s.target (under_same scope layout v w refl refl refl refl) a.stays.fits.0.target),
             entered_label scope frame s,
-            callee_runs scope frame s a.stays.fits.0.callee facts_here.count call_comes_from call_is_apart a.stays.within g 0 (built 0 (new_of new))
-                (record {
+            callee_runs scope frame s a.stays.fits.0.callee facts_here.count call_comes_from call_is_apart a.stays.within g 0
+                (built slots 0 (new_of new)) (record {
                   lent = lent;
-                  slots = λ j low. (let e : 0 + (6 + j) ≡ 6 + j = omega arith in ap (λ (o : ℕ). new (NewWord o)) e)
-                      ∙ st.within j low;
+                  slots = λ j low. built_slot slots 0 (new_of new) j (omega (arith, low, below, size_is))
+                      ∙ (let e : 0 + (6 + j) ≡ 6 + j = omega arith in ap (λ (o : ℕ). new (NewWord o)) e) ∙ st.within j low;
                 }),
             less_label t.arrays (entered_label scope frame s) l (owns_on (owns_no_more call_comes_from) a.stays.home),
           )))))
@@ -358,6 +361,7 @@ module _ (t : ProgramTree) (code : CodeParts) (rules : KeepsRules t) (admitted :
           let narrow' = facts.narrow u.callee.name in
           let fits = a.stays.fits.0 in
           let size_is = (facts.stand.each s.callee.name fits.0.callee).slots in
+          let right_size_is = (facts.stand.each u.callee.name fits.1.callee).slots in
           let left_count = left_facts t rules admitted scope rest frame [] s u a.stays.sites in
           let right_count = right_facts t rules admitted scope rest frame [] s u a.stays.sites in
           let b = 1 + arguments_size ps s.arguments in
@@ -380,19 +384,21 @@ module _ (t : ProgramTree) (code : CodeParts) (rules : KeepsRules t) (admitted :
                 (target_off (tree.Fork s u) w s.target under fits.0.target) (target_off (tree.Fork s u) w u.target under fits.1.target),
             entered_label scope frame s,
             entered_label scope frame u,
-            callee_runs scope frame s fits.0.callee left_count.count left_comes_from left_is_apart a.stays.within g 0 (built 5 (new_of new))
-                (record {
+            callee_runs scope frame s fits.0.callee left_count.count left_comes_from left_is_apart a.stays.within g 0
+                (built (slots_of code left) 5 (new_of new)) (record {
                   lent = lent_kept frame (region_word (lengths_of t.arrays)) f g ps s.arguments 0 n (omega arith)
                       (omega (arith, below, narrow)) i lent;
                   slots = λ j low.
-                      (let e : 5 + (6 + j) ≡ 11 + j = omega arith in ap (λ (o : ℕ). new (NewWord o)) e)
+                      built_slot (slots_of code left) 5 (new_of new) j (omega (arith, low, below, size_is))
+                      ∙ (let e : 5 + (6 + j) ≡ 11 + j = omega arith in ap (λ (o : ℕ). new (NewWord o)) e)
                       ∙ st'.front (11 + j) (omega (arith, low, below)) ∙ st.within j low;
                 }),
-            callee_runs scope frame u fits.1.callee right_count.count right_comes_from right_is_apart a.stays.within g n (built
-                (right_at code left) (new_of new)) (record {
+            callee_runs scope frame u fits.1.callee right_count.count right_comes_from right_is_apart a.stays.within g n
+                (built (slots_of code right) (right_at code left) (new_of new)) (record {
                   lent = lent';
                   slots = λ j low.
-                      (let e : (5 + (6 + slots_of code left)) + (6 + j) ≡ right_at' + j = omega (arith, size_is) in ap (λ (o : ℕ). new (NewWord o)) e)
+                      built_slot (slots_of code right) (right_at code left) (new_of new) j (omega (arith, low, below', right_size_is))
+                      ∙ (let e : (5 + (6 + slots_of code left)) + (6 + j) ≡ right_at' + j = omega (arith, size_is) in ap (λ (o : ℕ). new (NewWord o)) e)
                       ∙ st'.within j low;
                 }),
             less_label t.arrays (entered_label scope frame s) l (owns_on (owns_no_more left_comes_from) a.stays.home),

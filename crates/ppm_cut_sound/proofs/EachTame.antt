@@ -17,7 +17,9 @@ use Rattle.ppm_code.specs.declared.location.FrameWord.{FrameWord}
 use Rattle.ppm_code.specs.declared.location.FrameWord.TheVariants.{Slot}
 use Rattle.ppm_code.specs.Acts.{held, length_of}
 use Rattle.ppm_code.specs.Locations.{Where}
+use Rattle.ppm_code.specs.Sizes.{slots_of}
 use Rattle.ppm_code.specs.Strands.{instrs_of, entry_of, built}
+use Rattle.ppm_code.proofs.BuiltLemmas.{built_slot}
 use Rattle.ppm_tree.specs.declared.named.Named.{Named}
 use Rattle.ppm_tree.specs.Tree.{Expression, Argument, Side, Statement, Block, Nil, Then, Procedure, ProgramTree}
 use Rattle.ppm_tree.specs.Tree as tree
@@ -250,9 +252,11 @@ module _ (t : ProgramTree) (code : CodeParts) (rules : KeepsRules t) (admitted :
           (go_set all 2 (loads_code layout names 2 stores) g1 m (instr.Const (register 1) (pos 0)) (register 1) (word_of (pos 0)) refl
           (loads_tame all m layout names 2 3 stores g2 g2 (omega (arith, few)) (keeps_itself 2 g2 k2.file) (λ g k loads.
           stores_tame all n 6 0 (3 + length names) ending g m (λ new st.
-          let own = built 0 (new_of new) in
+          let own = built (slots_of code h) 0 (new_of new) in
+          let size_is = a.stays.stands.0.4 in
           let slots : (j : ℕ) → j < n → own (Slot j) ≡ held g (register (0 + j)) =
-          λ j low. (let e : 0 + (6 + j) ≡ 6 + j = omega arith in ap (λ (o : ℕ). new (NewWord o)) e) ∙ st.within j low in
+          λ j low. built_slot (slots_of code h) 0 (new_of new) j (omega (arith, low, size_is))
+          ∙ (let e : 0 + (6 + j) ≡ 6 + j = omega arith in ap (λ (o : ℕ). new (NewWord o)) e) ∙ st.within j low in
           let first : own (Slot 0) ≡ region_word (lengths_of t.arrays) whole_part =
           slots 0 (omega arith) ∙ k.kept 0 (omega arith) (omega arith) ∙ k2.kept 0 (omega arith) (omega arith)
           ∙ held_set zeros (register 0) (m (Own (Slot slot))) refl ∙ holds_whole in

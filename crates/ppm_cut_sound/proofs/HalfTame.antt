@@ -15,6 +15,7 @@ use Rattle.ppm_code.specs.Acts.{held, start_of, length_of}
 use Rattle.ppm_code.specs.Locations.{Where, code_locations}
 use Rattle.ppm_code.specs.Sizes.{slots_of, right_at}
 use Rattle.ppm_code.specs.Strands.{instrs_of, entry_of, built, at_capsule}
+use Rattle.ppm_code.proofs.BuiltLemmas.{built_slot}
 use Rattle.ppm_tree.specs.Tree.{ProgramTree}
 use Rattle.ppm_tree.specs.State.{Region, first_part, second_part}
 use Rattle.ppm_regions.specs.Scope.{Scope, each_scope, part}
@@ -158,21 +159,27 @@ module _ (t : ProgramTree) (code : CodeParts) (rules : KeepsRules t) (admitted :
       let front : (o : ℕ) → o < right_frame → m6 (NewWord o) ≡ m3 (NewWord o) =
       λ o before. st'.front o (omega (arith, before)) ∙ new_other m4 o (suc right_frame) (held g (register 5)) (λ e. omega (arith, e, before))
       ∙ new_other m3 o right_frame (held g (register 3)) (λ e. omega (arith, e, before)) in
-      let left_own = built 5 (new_of m6) in
-      let right_own = built (right_at code w.h) (new_of m6) in
+      let left_own = built (slots_of code w.h) 5 (new_of m6) in
+      let right_own = built (slots_of code w.h) (right_at code w.h) (new_of m6) in
       let size_is = w.stays.stands.0.4 in
+      let left_slot = built_slot (slots_of code w.h) 5 (new_of m6) in
+      let right_slot = built_slot (slots_of code w.h) (right_at code w.h) (new_of m6) in
       let left_first : left_own (Slot 0) ≡ region_of (first_part n w.q) =
-      front 11 (omega arith) ∙ st.front 11 (omega arith) ∙ new_other m1 11 12 (held g (register 4)) (λ e. omega (arith, e))
+      left_slot 0 (omega (arith, size_is))
+      ∙ front 11 (omega arith) ∙ st.front 11 (omega arith) ∙ new_other m1 11 12 (held g (register 4)) (λ e. omega (arith, e))
       ∙ new_here m 11 11 (held g (register 2)) refl ∙ two in
       let right_first : right_own (Slot 0) ≡ region_of (second_part n w.q) =
-      (let e : (5 + (6 + slots_of code w.h)) + (6 + 0) ≡ right_frame = omega (arith, size_is) in ap (λ (o : ℕ). m6 (NewWord o)) e)
+      right_slot 0 (omega (arith, size_is))
+      ∙ (let e : (5 + (6 + slots_of code w.h)) + (6 + 0) ≡ right_frame = omega (arith, size_is) in ap (λ (o : ℕ). m6 (NewWord o)) e)
       ∙ st'.front right_frame (omega arith) ∙ new_other m4 right_frame (suc right_frame) (held g (register 5)) (λ e. omega (arith, e))
       ∙ new_here m3 right_frame right_frame (held g (register 3)) refl ∙ three in
       let left_others : (j : ℕ) → j < count → left_own (Slot (2 + j)) ≡ m (Own (Slot (2 + j))) =
-      λ j before. (let e : 5 + (6 + (2 + j)) ≡ 13 + j = omega arith in ap (λ (o : ℕ). m6 (NewWord o)) e)
+      λ j before. left_slot (2 + j) (omega (arith, before, size_is))
+      ∙ (let e : 5 + (6 + (2 + j)) ≡ 13 + j = omega arith in ap (λ (o : ℕ). m6 (NewWord o)) e)
       ∙ front (13 + j) (omega (arith, before)) ∙ st.within j before ∙ loads.loaded j before in
       let right_others : (j : ℕ) → j < count → right_own (Slot (2 + j)) ≡ m (Own (Slot (2 + j))) =
-      λ j before. (let e : (5 + (6 + slots_of code w.h)) + (6 + (2 + j)) ≡ suc (suc right_frame) + j = omega (arith, size_is) in ap (λ
+      λ j before. right_slot (2 + j) (omega (arith, before, size_is))
+      ∙ (let e : (5 + (6 + slots_of code w.h)) + (6 + (2 + j)) ≡ suc (suc right_frame) + j = omega (arith, size_is) in ap (λ
       (o : ℕ). m6 (NewWord o)) e)
       ∙ st'.within j before ∙ loads.loaded j before in
       go_end all (u + 1 + 1 + count) [] g m6 (ends.Fork w.h w.h (halved entry) None None) (

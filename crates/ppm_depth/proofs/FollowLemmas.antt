@@ -14,6 +14,7 @@ use Rattle.ppm_code.specs.Code.{EndFits, IsCode, IsCapsuleOf, room_of}
 use Rattle.ppm_code.specs.Locations.{Where}
 use Rattle.ppm_code.specs.Sizes.{slots_of, frame_size, fork_size, slot_at, value_at, left_at, right_at}
 use Rattle.ppm_code.specs.Strands.{Gave, Trapped, at_capsule, built, begun, opens, instrs_of, entry_of}
+use Rattle.ppm_code.proofs.BuiltLemmas.{built_slot}
 use Rattle.ppm_depth.specs.Moves.{entry_at, moved, now_after, stack_after, waiting_after, forks_by}
 use Rattle.ppm_depth.specs.Stack.{ForCallee, ForLeft, Above, On, listed, tree_at, end_of, IsTarget, Holds, IsLaidOut, IsShown}
 use Rattle.ppm_depth.specs.Store.{Shows, own_at}
@@ -76,7 +77,8 @@ module _ (code : CodeParts) (is_code : IsCode code) (frame : Frame) (block : ℕ
 
   -- a frame that was built in the new block
   built_holds : (q base offset : ℕ) → q < length code.procedures → base ≡ block + offset → offset + frame_size code q ≤ block_at code frame.capsule
-      → Holds code blocks (entry_at code q base) None None (record { own = built offset (new_of m); point = at_capsule (entry_of code q) })
+      → Holds code blocks (entry_at code q base) None None
+      (record { own = built (slots_of code q) offset (new_of m); point = at_capsule (entry_of code q) })
   built_holds q base offset there is within =
       let one = entry_is code is_code q there in
       let slots : slots_at code (entry_of code q) ≡ slots_of code q = ap (slots_of code) (procedure_is code q (entry_of code q) one) in
@@ -85,7 +87,8 @@ module _ (code : CodeParts) (is_code : IsCode code) (frame : Frame) (block : ℕ
         point = refl;
         left_target = tt;
         target = tt;
-        slot = λ i less. shows.new (offset + slot_at i) (omega (arith, less, slots, within))
+        slot = λ i less. built_slot (slots_of code q) offset (new_of m) i (omega (arith, less, slots))
+            ∙ shows.new (offset + slot_at i) (omega (arith, less, slots, within))
             ∙ ap (λ (n : ℕ). get_or blocks n 0) (omega (arith, is));
         value = shows.new (offset + value_at) (omega (arith, within)) ∙ ap (λ (n : ℕ). get_or blocks n 0) (omega (arith, is));
       }
@@ -142,10 +145,10 @@ module _ (code : CodeParts) (is_code : IsCode code) (frame : Frame) (block : ℕ
         above = On (record { frame = moved frame k; block = block; on = Callee to })
             (ForCallee (record { own = own_of m; point = record { capsule = k; left_to = None; to = to } })) s;
         waits = refl;
-        leaf = begun code q (built 0 (new_of m));
+        leaf = begun code q (built (slots_of code q) 0 (new_of m));
         tree = refl;
         at = (
-          record { own = built 0 (new_of m); point = at_capsule (entry_of code q) },
+          record { own = built (slots_of code q) 0 (new_of m); point = at_capsule (entry_of code q) },
           refl,
           built_holds q block 0 h.0 (omega arith) (omega (arith, size)),
           omega (arith, ends, size, stack),
@@ -165,12 +168,12 @@ module _ (code : CodeParts) (is_code : IsCode code) (frame : Frame) (block : ℕ
       record {
         above = On (record { frame = moved frame k; block = block; on = Left (entry_at code r (block + right_at code q)) left_to right_to })
             (ForLeft (record { own = own_of m; point = record { capsule = k; left_to = left_to; to = right_to } })
-            (record { own = built (right_at code q) (new_of m); point = at_capsule (entry_of code r) })) s;
+            (record { own = built (slots_of code r) (right_at code q) (new_of m); point = at_capsule (entry_of code r) })) s;
         waits = refl;
-        leaf = begun code q (built left_at (new_of m));
+        leaf = begun code q (built (slots_of code q) left_at (new_of m));
         tree = refl;
         at = (
-          record { own = built left_at (new_of m); point = at_capsule (entry_of code q) },
+          record { own = built (slots_of code q) left_at (new_of m); point = at_capsule (entry_of code q) },
           refl,
           built_holds q (block + left_at) left_at h.0 refl (omega (arith, size)),
           omega (arith, left_end, size, stack),
