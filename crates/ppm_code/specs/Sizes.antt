@@ -1,5 +1,6 @@
 -- How many words a new block takes.
 use Rattle.std.specs.Prelude.{ℕ, ◌+◌, Option, Some, None, slice_get}
+use Rattle.ppm_code.specs.declared.code.Capsule.{Capsule}
 use Rattle.ppm_code.specs.declared.code.Procedure.{Procedure}
 use Rattle.ppm_code.specs.declared.code.CodeParts.{CodeParts}
 
@@ -15,6 +16,21 @@ slots_of code procedure = slots_in (slice_get code.procedures procedure)
 -- a frame: link, outcome, two headers, value, target, and then its slots
 abbrev pub frame_size : CodeParts → ℕ → ℕ
 frame_size code procedure = 6 + slots_of code procedure
+
+-- the procedure of a capsule, by its number; 0 where there is no capsule
+abbrev pub procedure_in : Option Capsule → ℕ
+procedure_in None = 0
+procedure_in (Some c) = c.procedure
+
+abbrev pub procedure_at : CodeParts → (number : ℕ) → ℕ
+procedure_at code number = procedure_in (slice_get code.capsules number)
+
+-- the slots of the frame in which a capsule is run, and the words of that frame
+abbrev pub slots_at : CodeParts → (number : ℕ) → ℕ
+slots_at code number = slots_of code (procedure_at code number)
+
+abbrev pub size_at : CodeParts → (number : ℕ) → ℕ
+size_at code number = frame_size code (procedure_at code number)
 
 -- a fork block: link, order, two outcomes, the offset of the right frame, and then the frames of both branches
 abbrev pub fork_size : CodeParts → (left right : ℕ) → ℕ

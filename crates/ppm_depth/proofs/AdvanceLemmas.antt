@@ -14,7 +14,7 @@ use Rattle.ppm_capsules.specs.Capsule.{Capsule as Asking, Memory, ending, leaves
 use Rattle.ppm_capsules.specs.Strand.{start, own_of, new_of, shared_of}
 use Rattle.ppm_code.specs.declared.act.End.{End}
 use Rattle.ppm_code.specs.declared.act.End.TheVariants.{Next, Finish, Trap, Call, Fork}
-use Rattle.ppm_code.specs.Sizes.{right_at}
+use Rattle.ppm_code.specs.Sizes.{right_at, procedure_at, size_at, slots_at}
 use Rattle.ppm_depth.specs.declared.frame.For.TheVariants.{Callee, Left}
 use Rattle.ppm_code.specs.declared.code.CodeParts.{CodeParts}
 use Rattle.ppm_code.specs.declared.location.FrameWord.TheVariants.{Slot, Value}
@@ -27,7 +27,7 @@ use Rattle.ppm_depth.specs.Stack.{Own, Strands, tree_at, end_of, Holds, IsLaidOu
 use Rattle.ppm_depth.specs.Start.{words_of}
 use Rattle.ppm_depth.specs.Store.{Shows, own_at}
 use Rattle.ppm_depth.specs.Turns.{strands_over}
-use Rattle.ppm_depth.specs.Whole.{IsWhole, Keeps, block_at, procedure_at, size_at, slots_at}
+use Rattle.ppm_depth.specs.Whole.{IsWhole, Keeps, block_at}
 use Rattle.ppm_depth.specs.declared.capsule.Done.{Done as Finished}
 use Rattle.ppm_depth.specs.declared.frame.Frame.{Frame}
 use Rattle.ppm_depth.specs.declared.frame.Now.TheVariants.{At}

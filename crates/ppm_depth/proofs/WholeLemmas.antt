@@ -16,13 +16,15 @@ use Rattle.ppm_code.specs.declared.instr.Instr.{Instr}
 use Rattle.ppm_code.specs.Acts.{does}
 use Rattle.ppm_code.specs.Code.{IsCode}
 use Rattle.ppm_code.specs.Limits.{room_limit}
+use Rattle.ppm_code.specs.Sizes.{procedure_at, size_at, slots_at}
 use Rattle.ppm_code.specs.Strands.{instrs_of}
 use Rattle.ppm_code.specs.Tidy.{IsTidy}
 use Rattle.ppm_depth.specs.Store.{Shows, IsWithin, asked_by}
-use Rattle.ppm_depth.specs.Whole.{IsPlace, IsWhole, Keeps, block_at, procedure_at, size_at, slots_at}
+use Rattle.ppm_depth.specs.Whole.{IsPlace, IsWhole, Keeps, block_at}
 use Rattle.ppm_depth.specs.declared.store.Place.{Place}
 use Rattle.ppm_depth.proofs.ActLemmas.{ActFits, does_fits}
-use Rattle.ppm_depth.proofs.CodeLemmas.{instr_fits, store_fits}
+use Rattle.ppm_code.proofs.CodeLemmas.{instr_fits}
+use Rattle.ppm_depth.proofs.BlockLemmas.{store_fits}
 use Rattle.ppm_depth.proofs.RestLemmas.{IsLaid, IsLeft, IsStepWithin}
 
 module _ (code : CodeParts) (is_code : IsCode code) (tidy : IsTidy code) (number : ℕ) (less : number < length code.capsules) (array_words : ℕ) where

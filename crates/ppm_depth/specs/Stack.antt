@@ -2,12 +2,12 @@
 use Rattle.std.specs.Prelude.{◌≡◌, ◌<◌, ◌≤◌, ℕ, ◌+◌, List, [], ◌∷◌, ◌++◌, Option, None, IfSome, get_or, length}
 use Rattle.ppm_strands.specs.Tree.{Tree, Strand, Call, Fork, Over}
 use Rattle.ppm_capsules.specs.Strand.{Frame as StrandFrame}
+use Rattle.ppm_code.specs.Sizes.{slots_at, size_at}
 use Rattle.ppm_code.specs.declared.code.CodeParts.{CodeParts}
 use Rattle.ppm_code.specs.declared.location.FrameWord.{FrameWord}
 use Rattle.ppm_code.specs.declared.location.FrameWord.TheVariants.{Slot, Value}
 use Rattle.ppm_code.specs.Strands.{Point, Result, Gave, Trapped}
 use Rattle.ppm_depth.specs.Store.{own_at}
-use Rattle.ppm_depth.specs.Whole.{slots_at, size_at}
 use Rattle.ppm_depth.specs.declared.frame.Frame.{Frame}
 use Rattle.ppm_depth.specs.declared.frame.Finish.{Finish}
 use Rattle.ppm_depth.specs.declared.frame.Finish.TheVariants as finish

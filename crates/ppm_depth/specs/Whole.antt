@@ -1,12 +1,11 @@
 -- A capsule that is run whole in the stack: where it lies, what it comes to, and what it leaves alone.
-use Rattle.std.specs.Prelude.{◌≡◌, ◌⊎◌, ◌<◌, ◌≤◌, ℕ, ◌+◌, min, List, Option, Some, None, get_or, length, slice_get}
+use Rattle.std.specs.Prelude.{◌≡◌, ◌⊎◌, ◌<◌, ◌≤◌, ℕ, ◌+◌, min, List, Option, Some, None, get_or, length}
 use Rattle.ppm_capsules.specs.Capsule.{Memory, ending, leaves, asked}
-use Rattle.ppm_code.specs.declared.code.Capsule.{Capsule as CodeCapsule}
 use Rattle.ppm_code.specs.declared.code.CodeParts.{CodeParts}
 use Rattle.ppm_code.specs.Capsules.{capsule_of}
 use Rattle.ppm_code.specs.Code.{room_of}
 use Rattle.ppm_code.specs.Locations.{Where, code_locations}
-use Rattle.ppm_code.specs.Sizes.{slots_of, frame_size}
+use Rattle.ppm_code.specs.Sizes.{slots_at, size_at}
 use Rattle.ppm_code.specs.Strands.{instrs_of}
 use Rattle.ppm_depth.specs.Store.{Shows}
 use Rattle.ppm_depth.specs.declared.capsule.Done.{Done}
@@ -22,35 +21,20 @@ kept_of None = 0
 kept_of (Some words) = min words block_limit
 
 module _ (code : CodeParts) where
-  -- the procedure of a capsule, by its number; 0 where there is no capsule
-  abbrev pub procedure_in : Option CodeCapsule → ℕ
-  procedure_in None = 0
-  procedure_in (Some c) = c.procedure
-
-  abbrev pub procedure_at : ℕ → ℕ
-  procedure_at number = procedure_in (slice_get code.capsules number)
-
-  -- the slots of the frame in which a capsule is run, and the words of that frame
-  abbrev pub slots_at : ℕ → ℕ
-  slots_at number = slots_of code (procedure_at number)
-
-  abbrev pub size_at : ℕ → ℕ
-  size_at number = frame_size code (procedure_at number)
-
   -- the words of its new block that are kept
   abbrev pub block_at : ℕ → ℕ
   block_at number = kept_of (room_of (instrs_of code number))
 
   -- the stack has its frame, and behind that its new block as the last
   pub record IsPlace (number : ℕ) (p : Place) (blocks : List ℕ) : Type 0 where
-    pub frame : p.frame + size_at number ≤ p.block
+    pub frame : p.frame + size_at code number ≤ p.block
     pub block : p.block + block_at number ≡ length blocks
 
   -- the capsule with a number, from a memory, has come to its end
   pub record IsWhole (number : ℕ) (p : Place) (blocks words : List ℕ) (m : Memory Where) (done : Done) : Type 0 where
     pub end : done.end ≡ ending code_locations (capsule_of (length words) (instrs_of code number)) m
     pub asks : done.asked ≡ asked code_locations (capsule_of (length words) (instrs_of code number)) m
-    pub shows : Shows (slots_at number) (block_at number) p blocks words (leaves code_locations (capsule_of (length words) (instrs_of code number)) m)
+    pub shows : Shows (slots_at code number) (block_at number) p blocks words (leaves code_locations (capsule_of (length words) (instrs_of code number)) m)
 
 -- but for a frame's own words and a block at its end the stack is as it was
 pub record Keeps (p : Place) (size : ℕ) (old new : List ℕ) : Type 0 where

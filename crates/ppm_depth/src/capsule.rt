@@ -4,11 +4,11 @@ ghost use Rattle.ppm_capsules.specs.Capsule.{Memory};
 ghost use Rattle.ppm_code.specs.Code.{EndFits, IsCode, room_of};
 ghost use Rattle.ppm_code.specs.Limits.{room_limit};
 ghost use Rattle.ppm_code.specs.Locations.{Where};
+ghost use Rattle.ppm_code.specs.Sizes.{procedure_at, size_at, slots_at};
 ghost use Rattle.ppm_code.specs.Strands.{instrs_of as instrs_in_code};
 ghost use Rattle.ppm_code.specs.Tidy.{IsTidy};
 ghost use Rattle.ppm_depth.specs.Store.{Shows};
-ghost use Rattle.ppm_depth.specs.Whole.{IsPlace, IsWhole, Keeps, block_at, kept_of, procedure_at};
-ghost use Rattle.ppm_depth.specs.Whole.{size_at, slots_at};
+ghost use Rattle.ppm_depth.specs.Whole.{IsPlace, IsWhole, Keeps, block_at, kept_of};
 
 use crate::store::{Place, Store};
 use ppm_code::{Act, Code, End, Instr};

@@ -3,6 +3,7 @@ ghost use Rattle.std.specs.Prelude.{[], ◌≡◌, ◌<◌, ◌≤◌, ◌^◌, 
 ghost use Rattle.ppm_strands.specs.Run.{none, plus};
 ghost use Rattle.ppm_code.specs.Code.{EndFits, IsCode};
 ghost use Rattle.ppm_code.specs.Limits.{room_limit};
+ghost use Rattle.ppm_code.specs.Sizes.{procedure_at, size_at};
 ghost use Rattle.ppm_code.specs.Strands.{instrs_of as instrs_in_code};
 ghost use Rattle.ppm_code.specs.Tidy.{IsTidy};
 ghost use Rattle.ppm_depth.specs.Moves.{AreSlotsThere, IsSlotThere, entry_at, gone_on, joined};
@@ -14,7 +15,6 @@ ghost use Rattle.ppm_depth.specs.Moves.{waiting_resumed, pending};
 ghost use Rattle.ppm_depth.specs.Stack.{Strands};
 ghost use Rattle.ppm_depth.specs.Start.{words_of};
 ghost use Rattle.ppm_depth.specs.Turns.{AreFew, HasCome, ShowsTree, Turns, counts_of};
-ghost use Rattle.ppm_depth.specs.Whole.{procedure_at, size_at};
 ghost use Rattle.ppm_depth.specs.declared.frame.Now.TheVariants.{At};
 
 use crate::capsule::{Done, block_words, instrs_of, run_capsule};

@@ -2,7 +2,8 @@ use Rattle.std.proofs.Common.{◌≡◌, ◌+◌, length, sym, ◌∙◌, ap, ar
 use Rattle.ppm_code.specs.declared.act.Act.TheVariants.{Sets, Passes, Jumps, Steps, Ends}
 use Rattle.ppm_code.specs.declared.act.End.TheVariants.{Finish}
 use Rattle.ppm_code.specs.Capsules.{capsule_from}
-use Rattle.ppm_depth.specs.Whole.{block_at, slots_at}
+use Rattle.ppm_code.specs.Sizes.{slots_at}
+use Rattle.ppm_depth.specs.Whole.{block_at}
 use Rattle.ppm_depth.proofs.RestLemmas.{stepped, step_keeps, step_keeps_words, step_there}
 use Rattle.ppm_depth.proofs.WholeLemmas.{act_fits, act_left, asked_few, past_left, place_laid, step_within, whole_ends}
 use Rattle.ppm_depth.proofs.capsule.run_capsule.Goals as goal

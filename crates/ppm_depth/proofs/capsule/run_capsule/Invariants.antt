@@ -3,8 +3,9 @@ use Rattle.ppm_capsules.specs.Capsule.{Memory}
 use Rattle.ppm_code.specs.Capsules.{capsule_from, capsule_of}
 use Rattle.ppm_code.specs.Limits.{room_limit}
 use Rattle.ppm_code.specs.Locations.{Where}
+use Rattle.ppm_code.specs.Sizes.{size_at, slots_at}
 use Rattle.ppm_depth.specs.Store.{Shows}
-use Rattle.ppm_depth.specs.Whole.{Keeps, block_at, size_at, slots_at}
+use Rattle.ppm_depth.specs.Whole.{Keeps, block_at}
 use Rattle.ppm_depth.proofs.RestLemmas.{IsLeft}
 use Rattle.ppm_depth.proofs.capsule.run_capsule.Given as goal
 
