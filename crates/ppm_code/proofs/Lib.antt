@@ -8,6 +8,7 @@
 
 pub mod BuiltLemmas
 pub mod CapsuleLemmas
+pub mod CodeLemmas
 pub mod ConflictLemmas
 pub mod FollowLemmas
 pub mod NewLemmas

@@ -35,7 +35,8 @@ use Rattle.ppm_depth.specs.Turns.{strands_over, counts_of, HasCome}
 use Rattle.ppm_depth.specs.declared.frame.Now.TheVariants.{At}
 use Rattle.ppm_depth.proofs.AdvanceLemmas.{one_step}
 use Rattle.ppm_depth.proofs.StackLemmas.{lifted}
-use Rattle.ppm_depth.proofs.TurnLemmas.{zeros, entry_is, procedure_is}
+use Rattle.ppm_code.proofs.CodeLemmas.{entry_is, procedure_is}
+use Rattle.ppm_depth.proofs.TurnLemmas.{zeros}
 
 -- the words of arrays, counted
 pub counts_words : (input : List NamedArray) → value_count input ≡ word_count input

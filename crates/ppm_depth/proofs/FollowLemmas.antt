@@ -15,15 +15,14 @@ use Rattle.ppm_code.specs.Locations.{Where}
 use Rattle.ppm_code.specs.Sizes.{slots_of, frame_size, fork_size, slot_at, value_at, left_at, right_at, procedure_at, slots_at}
 use Rattle.ppm_code.specs.Strands.{Gave, Trapped, at_capsule, built, begun, opens, instrs_of, entry_of}
 use Rattle.ppm_code.proofs.BuiltLemmas.{built_slot}
+use Rattle.ppm_code.proofs.CodeLemmas.{slots_small, procedure_is, entry_is}
 use Rattle.ppm_depth.specs.Moves.{entry_at, moved, now_after, stack_after, waiting_after, forks_by}
 use Rattle.ppm_depth.specs.Stack.{ForCallee, ForLeft, Above, On, listed, tree_at, end_of, IsTarget, Holds, IsLaidOut, IsShown}
 use Rattle.ppm_depth.specs.Store.{Shows, own_at}
 use Rattle.ppm_depth.specs.Whole.{block_at, kept_of}
 use Rattle.ppm_depth.specs.declared.frame.Frame.{Frame}
 use Rattle.ppm_depth.specs.declared.frame.For.TheVariants.{Callee, Left}
-use Rattle.ppm_depth.proofs.CodeLemmas.{slots_small}
 use Rattle.ppm_depth.proofs.StackLemmas.{holds_still, laid_still}
-use Rattle.ppm_depth.proofs.TurnLemmas.{procedure_is, entry_is}
 
 -- an end opens a fork where it says so
 pub forks_opened : (code : CodeParts) (e : End) (own : FrameWord → ℕ) (new : ℕ → ℕ) → forks_in (opens code e own new) ≡ forks_by e

@@ -7,7 +7,7 @@
 
 pub mod ActLemmas
 pub mod AdvanceLemmas
-pub mod CodeLemmas
+pub mod BlockLemmas
 pub mod EndLemmas
 pub mod FollowLemmas
 pub mod GoingLemmas

@@ -1,22 +1,17 @@
 -- What the strand shows after a capsule, and where that for which a frame waits is over.
 use Rattle.std.proofs.Common.{◌≡◌, ◌<◌, ◌≤◌, ℕ, zero, suc, List, length, get_or, replicate, inl, inr, refl, sym, ap, subst, arith, false, Option, Some, None}
-use Rattle.std.specs.Prelude.{◌⊎◌, ◌==◌, IfSome, slice_get}
+use Rattle.std.specs.Prelude.{◌⊎◌, ◌==◌}
 use Rattle.std.proofs.lemmas.List.{length-set, get_or-set_other}
 use Rattle.ppm_strands.specs.Tree.{Strand, Over}
-use Rattle.ppm_code.specs.declared.code.Capsule.{Capsule as CodeCapsule}
 use Rattle.ppm_code.specs.declared.code.CodeParts.{CodeParts}
-use Rattle.ppm_code.specs.declared.code.Procedure.{Procedure}
 use Rattle.ppm_code.specs.declared.location.FrameWord.TheVariants.{Slot, Value}
-use Rattle.ppm_code.specs.Code.{IsCode, IsCapsuleOf}
-use Rattle.ppm_code.specs.Sizes.{procedure_in, procedure_at}
-use Rattle.ppm_code.specs.Strands.{Point, Gave, Trapped, at_capsule, with_value, resume, entry_in, entry_of}
+use Rattle.ppm_code.specs.Strands.{Point, Gave, Trapped, at_capsule, with_value, resume}
 use Rattle.ppm_depth.specs.Moves.{with_slot, gone_on, stack_gone_on}
 use Rattle.ppm_depth.specs.Stack.{Own, result_of, Above, listed, tree_at, end_of, IsTarget, Holds, IsLaidOut, IsShown}
 use Rattle.ppm_depth.specs.Store.{own_at}
 use Rattle.ppm_depth.specs.declared.frame.Frame.{Frame}
 use Rattle.ppm_depth.specs.declared.frame.Finish.{Finish}
 use Rattle.ppm_depth.specs.declared.frame.Finish.TheVariants as finish
-use Rattle.ppm_depth.proofs.CodeLemmas.{one_at}
 use Rattle.ppm_depth.proofs.RestLemmas.{put_word, is_number, is_no_number}
 use Rattle.ppm_depth.proofs.StackLemmas.{laid_still}
 
@@ -27,20 +22,6 @@ zeros (suc n) zero = refl
 zeros (suc n) (suc i) = zeros n i
 
 module _ (code : CodeParts) where
-  -- the procedure of a capsule that is one of it
-  pub procedure_is : (q k : ℕ) → IsCapsuleOf code q k → procedure_at code k ≡ q
-  procedure_is q k h = by (slice_get code.capsules k) refl
-    where
-      by : (o : Option CodeCapsule) → slice_get code.capsules k ≡ o → procedure_in o ≡ q
-      by None e = let c = one_at code.capsules k h.1 in absurd (cc)
-      by (Some c) e = subst (λ (o : Option CodeCapsule). IfSome o (λ d. d.procedure ≡ q)) e h.0
-
-  -- a procedure's entry is one of its capsules
-  pub entry_is : IsCode code → (q : ℕ) → q < length code.procedures → IsCapsuleOf code q (entry_of code q)
-  entry_is is_code q less =
-      let p = one_at code.procedures q less in
-      subst (λ (o : Option Procedure). IfSome o (λ r. IsCapsuleOf code q r.entry) → IsCapsuleOf code q (entry_in o)) (sym p.1) (λ h. h) (is_code.entries q)
-
   -- a frame is held after a value has come into a slot
   pub holds_with : (blocks : List ℕ) (frame : Frame) (left_to to : Option ℕ) (f : Own) (slot : Option ℕ) (v : ℕ) (left_to' to' : Option ℕ)
       → end_of code frame ≤ length blocks → IsTarget code frame slot → IsTarget code frame left_to' → IsTarget code frame to'

@@ -23,7 +23,8 @@ use Rattle.ppm_depth.specs.Store.{Shows, IsWithin, asked_by}
 use Rattle.ppm_depth.specs.Whole.{IsPlace, IsWhole, Keeps, block_at}
 use Rattle.ppm_depth.specs.declared.store.Place.{Place}
 use Rattle.ppm_depth.proofs.ActLemmas.{ActFits, does_fits}
-use Rattle.ppm_depth.proofs.CodeLemmas.{instr_fits, store_fits}
+use Rattle.ppm_code.proofs.CodeLemmas.{instr_fits}
+use Rattle.ppm_depth.proofs.BlockLemmas.{store_fits}
 use Rattle.ppm_depth.proofs.RestLemmas.{IsLaid, IsLeft, IsStepWithin}
 
 module _ (code : CodeParts) (is_code : IsCode code) (tidy : IsTidy code) (number : ℕ) (less : number < length code.capsules) (array_words : ℕ) where
