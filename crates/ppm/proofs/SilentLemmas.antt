@@ -12,11 +12,14 @@ use Rattle.ppm_top.specs.Rows.{ProgramRows}
 use Rattle.ppm.specs.Ending.{Given, AreWords, silent, EndsWith}
 
 -- of each of so many nothing is known
-all_silent : {W X : Type 0} (watch : List W) → map (λ (w : W). None {A = X}) watch ≡ replicate (length watch) None
+abbrev pub nothing : {W X : Type 0} → W → Option X
+nothing w = None
+
+all_silent : {W X : Type 0} (watch : List W) → map (nothing {W = W} {X = X}) watch ≡ replicate (length watch) None
 all_silent [] = refl
 all_silent {X = X} (w ∷ watch) = ap (λ (lists : List (Option X)). None ∷ lists) (all_silent {X = X} watch)
 
-pub are_silent : {W X : Type 0} (watch : List W) (count : ℕ) → length watch ≡ count → map (λ (w : W). None {A = X}) watch ≡ replicate count None
+pub are_silent : {W X : Type 0} (watch : List W) (count : ℕ) → length watch ≡ count → map (nothing {W = W} {X = X}) watch ≡ replicate count None
 are_silent watch count e = all_silent watch ∙ ap (λ n. replicate n None) e
 
 module _ (given : Given) (source out err : Port) (number : ℕ) (words : List (String Global)) (status : Status) (before now : ToldLists)

@@ -13,10 +13,11 @@ ghost use Rattle.std.specs.Prelude.{◌≡◌, ◌++◌, IfOk, length};
 ghost use Rattle.std.specs.Process.{exit_status};
 ghost use Rattle.std.specs.Vec.Iter.{into_iter_items};
 ghost use Rattle.ppm_ports.specs.Ports.{port};
+ghost use Rattle.ppm_answers.specs.Statuses.{number_of};
 ghost use Rattle.ppm_driver.specs.Watchers.{watcher_count};
 ghost use Rattle.ppm.specs.Ending.{AreWords, EndsWith};
 
-use ppm_answers::{Answer, deliver};
+use ppm_answers::{Answer, Status, deliver};
 use ppm_ports::{Silent, Sink, Source, StdSink, StdSource};
 use ppm_top::{WATCHERS, ppm};
 use std::alloc::{AllocError, Global};
@@ -53,11 +54,28 @@ fn program<R: Wait, S: Source, K: Sink, E: Sink>(
         (port K.written K.fault_count out.old out.new)
         (port E.written E.fault_count err.old err.new) (exit_status result) }
 {
-    let status = match prepared(alloc, given) {
+    let status = answered(rt, alloc, given, source, out, err);
+    ExitCode::from(status.number())
+}
+
+/// The same with the status itself.
+fn answered<R: Wait, S: Source, K: Sink, E: Sink>(
+    rt: &R,
+    alloc: Global,
+    given: io::Result<Args>,
+    source: &mut S,
+    out: &mut K,
+    err: &mut E,
+) -> Status
+    ensures { EndsWith given
+        (port S.left S.fault_count source.old source.new)
+        (port K.written K.fault_count out.old out.new)
+        (port E.written E.fault_count err.old err.new) (number_of result) }
+{
+    match prepared(alloc, given) {
         Ok((words, mut watch)) => ppm(rt, alloc, &words, source, out, err, &mut watch),
         Err(_) => deliver(alloc, &Answer::NoMemory, out, err),
-    };
-    ExitCode::from(status.number())
+    }
 }
 
 /// The words of the command line, and a watcher for each processor that a run may have.
