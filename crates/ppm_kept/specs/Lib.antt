@@ -1,0 +1,14 @@
+pub mod Running
+pub mod Kept
+pub mod Others
+pub mod Moves
+pub mod Laws
+pub mod Turns
+pub mod Openings
+pub mod Copies
+pub mod Returns
+pub mod Pushing
+pub mod Arriving
+pub mod Joins
+pub mod JoinTraps
+pub mod JoinValues

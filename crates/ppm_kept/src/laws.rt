@@ -1,0 +1,110 @@
+//! What each step of a place keeps, shown by calls that do nothing. The laws of rows are of tidy
+//! codes without conflicts, and of frames that run at one of their two headers (`HasCopies`), which
+//! `copies_stay` says of most installs; those of takes and pushes are still owed.
+ghost use Rattle.ppm_kept.specs.Arriving.{ArriveRowKeeps};
+ghost use Rattle.ppm_kept.specs.Copies.{AllCopiesStay, OpeningsHaveCopies};
+ghost use Rattle.ppm_kept.specs.JoinTraps.{TrapJoinRowKeeps};
+ghost use Rattle.ppm_kept.specs.JoinValues.{AllBranchValuesPass};
+ghost use Rattle.ppm_kept.specs.Joins.{EarlyJoinRowKeeps};
+ghost use Rattle.ppm_kept.specs.Laws.{BumpRowKeeps, FramesRun, RunRowKeeps};
+ghost use Rattle.ppm_kept.specs.Openings.{ImagesOpen, OpeningsAreKept};
+ghost use Rattle.ppm_kept.specs.Others.{OthersKeep};
+ghost use Rattle.ppm_kept.specs.Pushing.{AllUntakenStays, Push1RowKeeps, Push2RowKeeps};
+ghost use Rattle.ppm_kept.specs.Returns.{ExchangesAreSeen, UnwindRowKeeps};
+ghost use Rattle.ppm_kept.specs.Turns.{StepsAreSeen, StoresAreCells};
+
+/// A capsule of a frame under way, closed by the stores of its end: it goes on by its loads, its
+/// stores are steps of its strand, and its install is the step of the whole capsule.
+pub fn frames_run()
+    ensures law { FramesRun }
+{}
+
+/// What the machine's word steps make of the words by cells; and a capsule's stores are into cells
+/// that frames have.
+pub fn steps_are_seen()
+    ensures steps { StepsAreSeen }
+    ensures cells { StoresAreCells }
+{}
+
+/// An exchange of a cell that frames have is one of the words by cells; any other is not seen.
+pub fn exchanges_are_seen()
+    ensures law { ExchangesAreSeen }
+{}
+
+/// An opening is kept, and the words of an image whose root is calm are one. Its tree is then the
+/// strand with which the depth-first run begins.
+pub fn openings_are_kept()
+    ensures kept { OpeningsAreKept }
+    ensures images { ImagesOpen }
+{}
+
+/// What a step of a place may write leaves at every other place what it has done, its clean words,
+/// its ceiling and its order word.
+pub fn others_keep()
+    ensures law { OthersKeep }
+{}
+
+/// Frames that run stand at one of their two headers: at an opening, and after each step in the
+/// rows Run, Bump, Unwind, Arrive and Join.
+pub fn copies_stay()
+    ensures steps { AllCopiesStay }
+    ensures openings { OpeningsHaveCopies }
+{}
+
+/// Each step of a place in a row of kind Run keeps the words: the tree of the skeleton stands in
+/// them and is ahead of the root.
+pub fn run_row_keeps()
+    ensures law { RunRowKeeps }
+{}
+
+/// So does each step in a row of kind Bump.
+pub fn bump_row_keeps()
+    ensures law { BumpRowKeeps }
+{}
+
+/// So does each step in a row of kind Unwind: a value or a trap passes to the caller, a branch
+/// gives its outcome, and the root ends the run.
+pub fn unwind_row_keeps()
+    ensures law { UnwindRowKeeps }
+{}
+
+/// So does each step in a row of kind Push1. Its store of the order word has a premise that no law
+/// of rows gives yet: the right branch is not pushed (`MayHold`; see `untaken_stays`).
+pub fn push1_row_keeps()
+    ensures law { Push1RowKeeps }
+{}
+
+/// So does each step in a row of kind Push2, by the exchange of the entry, made or not: which of
+/// the two it was the deque's half says.
+pub fn push2_row_keeps()
+    ensures law { Push2RowKeeps }
+{}
+
+/// A right branch that is not pushed stays so beside a place's strand, whatever else is swapped in
+/// the tree with as many leaves of the place and the same mark.
+pub fn untaken_stays()
+    ensures law { AllUntakenStays }
+{}
+
+/// So does each step in a row of kind Arrive: the exchange of the order word, first or not, and the
+/// install of Join.
+pub fn arrive_row_keeps()
+    ensures law { ArriveRowKeeps }
+{}
+
+/// So does each step in a row of kind Join whose branch came first, or whose strand runs both: it
+/// goes idle, or on with the right branch.
+pub fn early_join_row_keeps()
+    ensures law { EarlyJoinRowKeeps }
+{}
+
+/// So does each step in a row of kind Join whose branch came last, where one of the two trapped.
+pub fn trap_join_row_keeps()
+    ensures law { TrapJoinRowKeeps }
+{}
+
+/// The tree's half of a join where both branches ended: each store of a value into its slot is a
+/// step, and the install is the join. The row is not carried over yet.
+pub fn branch_values_pass()
+    ensures law { AllBranchValuesPass }
+{}
