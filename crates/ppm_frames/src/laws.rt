@@ -26,8 +26,8 @@ pub fn parts_swap()
     ensures law { PartsSwap }
 {}
 
-/// A value passes from a frame to the one that waits for it, by a store and an install, each a step
-/// of the tree; so does a trap.
+/// A value passes from a callee to its caller, by a store and an install, each a step of the tree;
+/// so does a trap. Of a fork's branches nothing is said here.
 pub fn values_pass()
     ensures law { AllValuesPass }
 {}

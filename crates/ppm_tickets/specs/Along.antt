@@ -65,8 +65,7 @@ abbrev pub IsPooled : Shape → Cell → Type 0
 IsPooled s (BlockWord at) = IsInPool s at
 IsPooled s cell = Unit {0}
 
--- what is forked is new, and a branch that is begun where its left one joins was left to that
--- strand
+-- a branch that is begun where its left one joins was left to that strand
 abbrev pub IsJoined : RestartKind → Home → Type 0
 IsJoined (Join block side) x = x ≡ Inline
 IsJoined kind x = Unit {0}

@@ -231,12 +231,12 @@ pub record IsHeir (g m : Spot → Word) (k : ℕ → RestartKind) (b : ℕ → �
   pub taken : m (Slot w slot) ≡ Taken tag (q + 64)
   pub at : slot ≡ active_at g k b w
 
--- places of which each was inherited by the next one, and the last by p
+-- the first of these places, p if there is none
 abbrev pub heir_from : (p : ℕ) → List ℕ → ℕ
 heir_from p [] = p
 heir_from p (v ∷ l) = v
 
--- each place of the list, but the first, is the heir of the one behind it, and p of the last
+-- each place of the list was inherited by the next one, and the last by p
 abbrev pub IsTrail : (g m : Spot → Word) → (ℕ → RestartKind) → (ℕ → ℕ) → (p : ℕ) → List ℕ → Type 0
 IsTrail g m k b p [] = Unit {0}
 IsTrail g m k b p (w ∷ l) = IsHeir g m k b (heir_from p l) w × IsTrail g m k b p l
@@ -288,7 +288,8 @@ pub record Holding (m : Spot → Word) (k : ℕ → RestartKind) : Type 0 where
   pub carried : (c : ℕ) → (p : ℕ) × (m (Carry c) ≡ Number p)
   pub doomed : (p : ℕ) → Dooms m p (k p)
 
--- the lawful changes of an entry, each raising its tag by one
+-- the lawful changes of an entry by kinds and tags, each raising its tag by one; with payloads they are `Changes` of
+-- `ppm_deque`
 abbrev pub Changes : Takeover → Word → Word → Type 0
 Changes how (Empty t) (Local u x) = u ≡ t + 1
 Changes how (Local t x) (Job u r) = u ≡ t + 1

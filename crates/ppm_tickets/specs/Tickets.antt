@@ -107,7 +107,7 @@ module _ (s : Shape) (code : CodeParts) where
         → view s state.words (words.Slot v i) ≡ words.Taken t (q + 64)
         → (view s state.words (words.Message q) ≡ ghost (words.Slot v i))
         × (gone q ≡ false → i ≡ active_at ghost (kinds s state.words) (bottoms s state.words) v → gone v ≡ false)
-    -- a closed place has one heir that lives, through however many that do not
+    -- a closed place has at most one heir that lives, through however many that do not
     pub one_heir : (p q y : ℕ) (l c : List ℕ) → IsAlive (view s state.words) p
         → IsAlive (view s state.words) q
         → IsTrail ghost (view s state.words) (kinds s state.words) (bottoms s state.words) p (y ∷ l)

@@ -16,8 +16,8 @@ pub fn in_every_run()
 
 /// With takeover by entries no branch is taken twice, each that is taken was forked, and each that
 /// was forked and not taken is at one place of those that were not followed, or left to the strand
-/// of its left branch. A closed place has one living heir, through however many dead ones, and none
-/// once it was followed. Entries change lawfully, and deques have their shape but for what was
+/// of its left branch. A closed place has at most one living heir, through however many dead ones,
+/// and none once it was followed. Entries change lawfully, and deques have their shape but for what was
 /// inherited from closed places. Turns are to be orderly, and owe one thing more (`IsInlined`).
 pub fn in_every_run_by_entries()
     ensures law { (s : Shape) (code : CodeParts) → InEveryRunByEntries s code }
@@ -30,8 +30,8 @@ pub fn turns_follow()
     ensures more { (s : Shape) (code : CodeParts) → OneMoreTurn s code }
 {}
 
-/// With takeover by places, what always holds does of saved words that come back, with all
-/// processors lost. With either takeover it goes on from any state in which it holds. So it holds
+/// With takeover by places, what always holds does of saved words that come back, where no holder
+/// had the last tag, with all processors lost. With either takeover it goes on from any state in which it holds. So it holds
 /// of runs in parts, each of orderly turns.
 pub fn resumes()
     ensures back { (s : Shape) (code : CodeParts) → ComesBack s code }

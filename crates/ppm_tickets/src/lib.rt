@@ -1,8 +1,8 @@
-//! Where each forked branch is along a run: at one place, and taken at most once; laws alone.
+//! Where each forked branch is along a run, and that none is taken twice; laws alone.
 //! Model: the words of a machine by spots (`specs/View`), the home of each branch (`specs/Homes`),
 //! and what always holds of both (`specs/Lawful`, `specs/Saw`).
-//! Contract: in every run whose turns owe nothing (`specs/Along`, `IsOrderly`), with either
-//! takeover, deques have their shape, entries change lawfully, and no branch is taken twice.
+//! Contract: in every run of orderly turns (`specs/Along`, `IsOrderly`) deques have their shape, by
+//! entries but for what was inherited; entries change lawfully, and no branch is taken twice.
 //! Stands on `ppm_step`; what turns owe is for the frames to show (`ppm_kept`).
 //! After the scheduler of Blelloch et al., SPAA 2018, and Chase and Lev's deque, SPAA 2005;
 //! takeover by entries is this project's.

@@ -27,7 +27,7 @@ pub fn divide_towards_zero()
 {}
 
 /// For each number of turns a program ends, or spends as many, and then ends within no fewer: no
-/// run is ever stuck. So no program is `NotWithin` for want of a rule; no proof stands on it.
+/// run is ever stuck. So no program is `NotWithin` for want of a rule.
 pub fn none_is_stuck()
     ensures law { NoneIsStuck }
 {}
