@@ -3,7 +3,7 @@
 //! and what always holds of both (`specs/Lawful`, `specs/Saw`).
 //! Contract: in every run whose turns owe nothing (`specs/Along`, `IsOrderly`), with either
 //! takeover, deques have their shape, entries change lawfully, and no branch is taken twice.
-//! Stands on `ppm_step`; what turns owe is for the frames to show (`ppm_kept`).
+//! Stands on `ppm_step`; what turns owe is for the frames to show, in a crate to come.
 //! After the scheduler of Blelloch et al., SPAA 2018, and Chase and Lev's deque, SPAA 2005;
 //! takeover by entries is this project's.
 #![tactic(auto)]
