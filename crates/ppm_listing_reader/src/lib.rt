@@ -4,7 +4,7 @@
 //! `specs/Faults`).
 //! Contract: `read_listing` answers the code whose listing the text is, or its first fault
 //! (`specs/Correct`).
-//! Stands on `ppm_listing`; `ppm_checking` calls it.
+//! Stands on `ppm_listing`; `ppm_commands` calls it.
 //! After the input of an assembler, one line an instruction; the forms and faults are this
 //! project's.
 #![tactic(auto)]

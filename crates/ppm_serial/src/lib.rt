@@ -3,7 +3,7 @@
 //! once before the run.
 //! Contract: the outcome is the meaning's, and there is none exactly where more turns would be
 //! spent.
-//! Stands on `ppm_tree`; `ppm_interpreting` calls it.
+//! Stands on `ppm_tree`; `ppm_commands` calls it.
 //! An abstract machine with what is still to come on a stack, after Landin's SECD machine.
 #![tactic(auto)]
 
