@@ -1,5 +1,5 @@
 //! Texts and numbers from outside, each call once.
-use crate::{is_digit, is_numeral, number, split_once, value};
+use crate::{is_digit, is_numeral, number, numerals_are_decimals, split_once, value};
 use std::test::Fail;
 
 #[test]
@@ -36,5 +36,6 @@ fn numbers_are_spelled_in_one_way(rt: HostRuntime) -> Result<(), Fail> {
         assert_eq!(rt; number(text.as_bytes()), below, "{text}");
     }
     assert!(rt; is_digit(b'9') && !is_digit(b':'));
+    numerals_are_decimals();
     Ok(())
 }

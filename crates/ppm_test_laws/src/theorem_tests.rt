@@ -1,0 +1,70 @@
+//! The laws on where a run ends are there to be called.
+use ppm_ends::{
+    beside_keeps_with_stores, capsules_show, ends_show, ends_split, fork_is_shown,
+    long_capsules_may_begin_again, stores_are_unseen,
+};
+use ppm_frames::{cells_are_viewed, parts_swap, steps_pass_up, stores_are_seen, values_pass};
+use ppm_kept::{
+    arrive_row_keeps, branch_values_pass, bump_row_keeps, copies_stay, early_join_row_keeps,
+    exchanges_are_seen, frames_run, openings_are_kept, others_keep, push1_row_keeps,
+    push2_row_keeps, run_row_keeps, steps_are_seen, trap_join_row_keeps, untaken_stays,
+    unwind_row_keeps,
+};
+use ppm_slots::{frames_stay_trim, writes_are_slots};
+use ppm_tickets::{
+    entries_change_lawfully, images_open, in_every_run, in_every_run_by_entries, places_stay_home,
+    resumes, turns_follow,
+};
+
+#[test]
+fn the_laws_of_tickets_are_called() {
+    in_every_run();
+    in_every_run_by_entries();
+    turns_follow();
+    resumes();
+    images_open();
+    entries_change_lawfully();
+    places_stay_home();
+}
+
+#[test]
+fn the_laws_of_frames_are_called() {
+    frames_stay_trim();
+    writes_are_slots();
+    cells_are_viewed();
+    parts_swap();
+    steps_pass_up();
+    stores_are_seen();
+    values_pass();
+}
+
+#[test]
+fn the_laws_of_ends_are_called() {
+    beside_keeps_with_stores();
+    capsules_show();
+    ends_show();
+    ends_split();
+    fork_is_shown();
+    long_capsules_may_begin_again();
+    stores_are_unseen();
+}
+
+#[test]
+fn the_laws_of_rows_are_called() {
+    openings_are_kept();
+    others_keep();
+    steps_are_seen();
+    exchanges_are_seen();
+    frames_run();
+    copies_stay();
+    untaken_stays();
+    branch_values_pass();
+    run_row_keeps();
+    bump_row_keeps();
+    push1_row_keeps();
+    push2_row_keeps();
+    arrive_row_keeps();
+    unwind_row_keeps();
+    early_join_row_keeps();
+    trap_join_row_keeps();
+}
