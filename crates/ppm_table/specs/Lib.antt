@@ -1,0 +1,5 @@
+pub mod Run
+pub mod Events
+pub mod Telling
+pub mod Shown
+pub mod Closed
