@@ -1,3 +1,0 @@
-pub mod Resting
-pub mod Going
-pub mod Driven
