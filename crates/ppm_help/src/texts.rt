@@ -23,8 +23,7 @@ pub(crate) fn purpose_of(command: &str) -> &'static str {
         "run" => "compiles a source, and one processor runs its capsules under a plan of faults",
         "serial" => "interprets a source by its serial meaning",
         "code" => "compiles a source, and writes the listing of its capsules",
-        "check" =>
-            "whether the capsules of a listing may be run again; races are not asked",
+        "check" => "whether the capsules of a listing may be run again; races are not asked",
         "replay" => "compiles a source, and processors run its capsules along a schedule",
         _ => NO_WORDS,
     }

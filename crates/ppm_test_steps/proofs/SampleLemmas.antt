@@ -75,11 +75,20 @@ sample_is_code = record {
   capsules_most = omega arith;
   slots_most = All-from_recursion (λ (p : Procedure). p.slots ≤ slot_limit) sample_code.procedures (omega arith, tt);
   entries = entries;
-  capsules = All-from_recursion (IsCapsule sample_code) sample_code.capsules
-      (ends Finish tt,
-      (builds 7 (Call 0 3 None) (omega arith) (omega arith) (omega arith, after, tt, refl),
-      (builds 7 (Call 0 3 (Some 0)) (omega arith) (omega arith) (omega arith, after, omega arith, refl),
-      (builds 19 (Fork 0 0 3 None None) (omega arith) (omega arith) (omega arith, omega arith, after, tt, tt, refl),
-      (builds 19 (Fork 0 0 3 (Some 0) None) (omega arith) (omega arith) (omega arith, omega arith, after, omega arith, tt, refl),
-      (ends (Trap DivZero 3) (omega arith, omega arith), tt))))));
+  capsules = All-from_recursion (IsCapsule sample_code) sample_code.capsules (
+    ends Finish tt,
+    (
+      builds 7 (Call 0 3 None) (omega arith) (omega arith) (omega arith, after, tt, refl),
+      (
+        builds 7 (Call 0 3 (Some 0)) (omega arith) (omega arith) (omega arith, after, omega arith, refl),
+        (
+          builds 19 (Fork 0 0 3 None None) (omega arith) (omega arith) (omega arith, omega arith, after, tt, tt, refl),
+          (
+            builds 19 (Fork 0 0 3 (Some 0) None) (omega arith) (omega arith) (omega arith, omega arith, after, omega arith, tt, refl),
+            (ends (Trap DivZero 3) (omega arith, omega arith), tt),
+          ),
+        ),
+      ),
+    ),
+  );
 }
