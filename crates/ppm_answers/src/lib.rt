@@ -23,6 +23,3 @@ pub use refusal::{Pass, Refusal};
 pub use status::Status;
 pub use tally::Tally;
 pub use unread::answer_of_read;
-
-#[cfg(test)]
-mod tests;

@@ -25,6 +25,3 @@ pub use replay::ReplayOptions;
 pub use run::RunOptions;
 pub use serial::SerialOptions;
 pub use table::{COMMANDS, ChoiceOption, CommandRow, NumberOption, OptionRow, TextOption};
-
-#[cfg(test)]
-mod tests;

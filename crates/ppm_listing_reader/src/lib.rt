@@ -22,8 +22,6 @@ mod place;
 mod reader;
 mod reading;
 mod rules;
-#[cfg(test)]
-mod tests;
 mod token;
 
 pub use form::Sort;

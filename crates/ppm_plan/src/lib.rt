@@ -22,8 +22,6 @@ mod schedule;
 mod schedule_item;
 mod seeded;
 mod source;
-#[cfg(test)]
-mod tests;
 mod victims;
 
 pub use fault::Fault;

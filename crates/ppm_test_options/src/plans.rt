@@ -2,7 +2,11 @@
 ghost use Rattle.std.specs.Prelude.{◌↔◌, IsTrue};
 ghost use Rattle.std.specs.Int.{IsInRange};
 
-use super::*;
+use ppm_plan::{
+    Fault, PlanError, PlanItem, ScheduleItem, ScheduledAct, Victims, have_one_answer, make_source,
+    plan_items_read_as_written, read_plan, read_schedule, schedule_items_read_as_written,
+    seeded_plan, texts_read_as_written,
+};
 use rand_core::SeedableRng;
 use rand_core::utils::NextWord;
 use rand_xoshiro::Xoshiro256PlusPlus;

@@ -1,7 +1,7 @@
 //! Each answer's texts and status, and ports that fail.
 ghost use Rattle.std.specs.Prelude.{◌<◌};
 
-use crate::{Answer, Class, Conflict, ListingRefusal, Pass, Refusal, Status, Tally, deliver};
+use ppm_answers::{Answer, Class, Conflict, ListingRefusal, Pass, Refusal, Status, Tally, deliver};
 use ppm_ports::{MemorySink, Sink};
 use ppm_words::{Items, Name, NamedArray, Trap};
 use std::alloc::Global;
