@@ -47,14 +47,14 @@ fn read_lines(alloc: Global, text: &[u8]) -> Result<Reader, NoMemory>
 }
 
 /// Whether so many bytes are more than a listing may have.
-pub(crate) fn is_too_long(bytes: usize) -> bool
+fn is_too_long(bytes: usize) -> bool
     ensures { result ≡ nat_lt text_limit bytes }
 {
     bytes > TEXT_LIMIT
 }
 
 /// The fault of a text with too many bytes, by its first line: that stands, or it does not.
-pub(crate) fn too_long_by(line: Option<Part>) -> ListingError
+fn too_long_by(line: Option<Part>) -> ListingError
     ensures { result ≡ (if is_some (standing AtVersion line) then NotThere 1 else NoSuchForm 1) }
 {
     match Place::AtVersion.standing(line) {

@@ -1,6 +1,6 @@
 //! Texts with their first faults, and listings that are read and written again.
 use ppm_listing::write_listing;
-use ppm_listing_reader::{TEXT_LIMIT, faults_tell_listings, read_listing};
+use ppm_listing_reader::{faults_tell_listings, read_listing};
 use std::alloc::Global;
 use std::ops::Range;
 use std::process::Abort;
@@ -422,11 +422,4 @@ fn there_are_65535_capsules_at_most(rt: HostRuntime) -> Result<(), Fail> {
     push_capsules(&mut text, alloc, 65_535..65_536)?;
     reads(&rt, alloc, text.as_bytes(), 6, 131_074)?;
     Ok(())
-}
-
-/// No listing has so many bytes: a full one has fewer. A test of a text beyond it would be one of
-/// memory.
-#[test]
-fn a_text_has_536870912_bytes_at_most(rt: HostRuntime) {
-    assert_eq!(rt; TEXT_LIMIT, 536_870_912);
 }
