@@ -25,6 +25,7 @@ use std::env::Args;
 use std::io::ErrorKind;
 use std::process::ExitCode;
 use std::sync::Wait;
+use std::thread::Threads;
 use std::{env, io};
 
 fn main(rt: HostRuntime) -> ExitCode {
@@ -41,7 +42,7 @@ fn main(rt: HostRuntime) -> ExitCode {
 /// Does what the words of the command line ask for, and tells no watcher anything. The exit code is
 /// the number of the status. Where memory is refused for the words or the watchers, nothing is
 /// read, and the answer is out of memory.
-fn program<R: Wait, S: Source, K: Sink, E: Sink>(
+fn program<R: Threads + Wait + Sync, S: Source, K: Sink, E: Sink>(
     rt: &R,
     alloc: Global,
     given: io::Result<Args>,
@@ -59,7 +60,7 @@ fn program<R: Wait, S: Source, K: Sink, E: Sink>(
 }
 
 /// The same with the status itself.
-fn answered<R: Wait, S: Source, K: Sink, E: Sink>(
+fn answered<R: Threads + Wait + Sync, S: Source, K: Sink, E: Sink>(
     rt: &R,
     alloc: Global,
     given: io::Result<Args>,

@@ -7,6 +7,7 @@ pub mod Region
 pub mod Restart
 pub mod Link
 pub mod Finish
+pub mod Ending
 pub mod Limits
 pub mod Shape
 pub mod Cells

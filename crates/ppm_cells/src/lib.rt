@@ -8,6 +8,7 @@
 #![tactic(auto)]
 
 mod cell;
+mod ending;
 mod entry;
 mod field;
 mod finish;
@@ -20,6 +21,7 @@ mod shape;
 mod side;
 
 pub use cell::{Cell, header_at, left_frame};
+pub use ending::Ending;
 pub use entry::Entry;
 pub use finish::{Finish, UNKNOWN_PLACE};
 pub use holder::Holder;

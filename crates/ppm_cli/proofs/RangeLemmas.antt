@@ -10,7 +10,7 @@ use Rattle.clap.proofs.ValueTestLemmas.{accepts-Accepts}
 use Rattle.ppm_words.specs.declared.idle.Idle.{Idle}
 use Rattle.ppm_cells.specs.declared.shape.Takeover.{Takeover}
 use Rattle.ppm_cli.specs.Application.{ppm_application}
-use Rattle.ppm_cli.specs.CommandLine.{Number, OptionRule, one_processor, turns, room, slots, looks, seed, faults, schedule}
+use Rattle.ppm_cli.specs.CommandLine.{Number, OptionRule, processors, turns, room, slots, looks, seed, faults, schedule}
 use Rattle.ppm_cli.specs.Words.{number_in, number_given, value_of_digits, run_options, run_in, serial_in, replay_in, replay_options, text_given}
 use Rattle.ppm_cli.specs.Words.{and_then, takeover_given, idle_given, command_named, command_in, without_fault, command_of, AreRun}
 use Rattle.ppm_cli.specs.declared.command.Command.TheVariants as commands
@@ -46,16 +46,16 @@ given o low high n rows f e =
 
 options_are : (rows : List Row) (options : RunOptions) → run_options rows ≡ Some options → AreRun options
 options_are rows options =
-    go (number_given one_processor rows) (number_given turns rows) (number_given room rows) (number_given slots rows) (number_given looks rows)
+    go (number_given processors rows) (number_given turns rows) (number_given room rows) (number_given slots rows) (number_given looks rows)
     (number_given seed rows) (takeover_given rows) (idle_given rows) refl refl refl refl refl refl where
       go : (p n w s l x : Option ℕ) (t : Option Takeover) (i : Option Idle)
-          → number_given one_processor rows ≡ p → number_given turns rows ≡ n → number_given room rows ≡ w → number_given slots rows ≡ s
+          → number_given processors rows ≡ p → number_given turns rows ≡ n → number_given room rows ≡ w → number_given slots rows ≡ s
           → number_given looks rows ≡ l → number_given seed rows ≡ x
           → and_then p (λ p. and_then n (λ n. and_then w (λ w. and_then s (λ e. and_then l (λ l. and_then x (λ s. and_then t (λ t. and_then i (λ i.
           Some (record { processors = p; turns = n; room = w; slots = e; looks = l; seed = s; takeover = t; idle = i })))))))))
           ≡ Some options → AreRun options
       go (Some p) (Some n) (Some w) (Some s) (Some l) (Some x) (Some t) (Some i) a b c d f g e = subst AreRun (some_is e) (
-        given one_processor _ _ p rows refl a,
+        given processors _ _ p rows refl a,
         given turns _ _ n rows refl b,
         given room _ _ w rows refl c,
         given slots _ _ s rows refl d,

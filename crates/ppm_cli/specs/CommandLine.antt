@@ -62,14 +62,6 @@ later_command name options = record (command name options) { admitted = false }
 abbrev pub processors : OptionRule
 processors = number "processors" 1 processor_limit 4
 
--- the most processors that a run may have today
-abbrev pub most_today : ℕ
-most_today = 1
-
--- how many processors run today: `run` has this in the place of `processors` until processors are threads
-abbrev pub one_processor : OptionRule
-one_processor = number "processors" 1 most_today 1
-
 -- how many run where all words are written out or the input is made
 abbrev pub few_processors : OptionRule
 few_processors = number "processors" 1 16 4
@@ -116,7 +108,7 @@ idle = choice "idle" "leave" "park"
 abbrev pub command_line : List CommandRule
 command_line =
     command "run"
-    (one_processor ∷ turns ∷ room ∷ slots ∷ looks ∷ seed ∷ faults ∷ takeover ∷ idle ∷ [])
+    (processors ∷ turns ∷ room ∷ slots ∷ looks ∷ seed ∷ faults ∷ takeover ∷ idle ∷ [])
     ∷ command "serial" (turns ∷ [])
     ∷ command "code" []
     ∷ command "check" []

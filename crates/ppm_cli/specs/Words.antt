@@ -10,7 +10,7 @@ use Rattle.ppm_cells.specs.declared.shape.Takeover.{Takeover}
 use Rattle.ppm_cells.specs.declared.shape.Takeover.TheVariants.{ByPlaces, ByEntries}
 use Rattle.ppm_cli.specs.Application.{ppm_application}
 use Rattle.ppm_cli.specs.CommandLine.{Form, Number, Choice, AnyText, OptionRule, is_free_text}
-use Rattle.ppm_cli.specs.CommandLine.{one_processor, processors, turns, room, slots, looks, seed, faults, schedule, takeover, idle}
+use Rattle.ppm_cli.specs.CommandLine.{processors, turns, room, slots, looks, seed, faults, schedule, takeover, idle}
 use Rattle.ppm_cli.specs.declared.command.Command.{Command}
 use Rattle.ppm_cli.specs.declared.command.Command.TheVariants as commands
 use Rattle.ppm_cli.specs.declared.serial.SerialOptions.{SerialOptions}
@@ -72,7 +72,7 @@ and_then value f = option_and_then f value
 -- the options of `run` but for its plan, if each has a value of its form
 abbrev pub run_options : List Row → Option RunOptions
 run_options rows =
-    and_then (number_given one_processor rows) (λ p.
+    and_then (number_given processors rows) (λ p.
     and_then (number_given turns rows) (λ n.
     and_then (number_given room rows) (λ w.
     and_then (number_given slots rows) (λ e.
@@ -135,7 +135,7 @@ IsOfForm _ n = ⊥
 -- each option of a run is in its range
 abbrev pub AreRun : RunOptions → Type 0
 AreRun options =
-    IsOfForm one_processor.form options.processors × IsOfForm turns.form options.turns × IsOfForm room.form options.room
+    IsOfForm processors.form options.processors × IsOfForm turns.form options.turns × IsOfForm room.form options.room
     × IsOfForm slots.form options.slots × IsOfForm looks.form options.looks × IsOfForm seed.form options.seed
 
 -- each option of a replay is in its range

@@ -6,7 +6,7 @@ ghost use Rattle.ppm_cli.specs.Words.{run_options as options_in};
 
 use crate::command::Command;
 use crate::getters::{bytes_of, choice_of, number_of};
-use crate::table::{FAULTS, IDLE, LOOKS, ONE_PROCESSOR, ROOM, SEED, SLOTS, TURNS};
+use crate::table::{FAULTS, IDLE, LOOKS, PROCESSORS, ROOM, SEED, SLOTS, TURNS};
 use crate::takeover::takeover_of;
 use clap::ArgMatches;
 use ppm_cells::Takeover;
@@ -16,7 +16,7 @@ use std::alloc::{AllocError, Global};
 /// The options of `run` but for its plan of faults.
 #[derive(Clone, Copy, Debug, PartialEq, Eq)]
 pub struct RunOptions {
-    /// How many processors there are: from 1 to 1, and 1 by default.
+    /// How many processors there are: from 1 to 64, and 4 by default.
     pub processors: u32,
     /// How many work turns each processor may make: from 1 to 268435456, and 16777216 by default.
     pub turns: u64,
@@ -57,7 +57,7 @@ fn run_options(matches: &ArgMatches<'_>) -> Option<RunOptions>
     ensures value { result ≡ options_in (rows_of (found_of matches.now)) }
     ensures in_range { IfSome result AreRun }
 {
-    let processors = number_of(matches, ONE_PROCESSOR)?;
+    let processors = number_of(matches, PROCESSORS)?;
     let turns = number_of(matches, TURNS)?;
     let room = number_of(matches, ROOM)?;
     let slots = number_of(matches, SLOTS)?;

@@ -1,9 +1,6 @@
 //! The commands and options that the words may give, as rows.
 use ppm_words::{ENTRY_LIMIT, PROCESSOR_LIMIT, ROOM_LIMIT, TURN_LIMIT};
 
-/// The most processors that a run may have today.
-const MOST_TODAY: u32 = 1;
-
 /// The most looks for work in a row.
 const MOST_LOOKS: u32 = 1_048_576;
 
@@ -60,15 +57,7 @@ pub struct TextOption {
     pub default: &'static str,
 }
 
-/// How many processors there are in a run.
-pub(crate) const ONE_PROCESSOR: NumberOption = NumberOption {
-    name: "processors",
-    low: 1,
-    high: MOST_TODAY,
-    default: "1",
-};
-
-/// How many processors there are in a replay.
+/// How many processors there are.
 pub(crate) const PROCESSORS: NumberOption = NumberOption {
     name: "processors",
     low: 1,
@@ -147,7 +136,7 @@ pub const COMMANDS: [CommandRow; 5] = [
     CommandRow {
         name: "run",
         options: &[
-            OptionRow::Number(ONE_PROCESSOR),
+            OptionRow::Number(PROCESSORS),
             OptionRow::Number(TURNS),
             OptionRow::Number(ROOM),
             OptionRow::Number(SLOTS),

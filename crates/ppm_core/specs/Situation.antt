@@ -1,17 +1,13 @@
 -- A machine as its contracts see it, and what turns make of it.
-use Rattle.std.specs.Prelude.{ℕ, zero, suc, ◌+◌, List, length, take, drop, get_or, Option, Some, None}
+use Rattle.std.specs.Prelude.{ℕ, ◌+◌, List, length, take, drop, get_or}
 use Rattle.std.specs.List.{sum}
 use Rattle.ppm_cells.specs.Cells.{arrays_at}
-use Rattle.ppm_cells.specs.Finish.{finish_of}
 use Rattle.ppm_cells.specs.Memory.{read}
 use Rattle.ppm_cells.specs.declared.cell.Cell.TheVariants.{FinishWord}
-use Rattle.ppm_cells.specs.declared.finish.Finish.{Finish}
 use Rattle.ppm_cells.specs.declared.shape.Shape.{Shape}
 use Rattle.ppm_code.specs.declared.code.CodeParts.{CodeParts}
 use Rattle.ppm_step.specs.declared.turn.Turn.{Turn}
 use Rattle.ppm_step.specs.State.{State, happens, after, along, opening, forks_of, takes_of, work_of}
-use Rattle.ppm_core.specs.declared.ending.Ending.{Ending}
-use Rattle.ppm_core.specs.declared.ending.Ending.TheVariants.{NotYet, With, Unknown}
 
 -- the sizes, the code, the lengths of the arrays, the words and processors, and how many forks, takes, work turns and turns there
 -- were since it was loaded
@@ -67,15 +63,6 @@ run_on m turns = record {
 -- the finish word
 abbrev pub finish_in : Situation → ℕ
 finish_in m = read m.shape m.state.words FinishWord
-
--- what it says
-abbrev pub ending_by : Option Finish → Ending
-ending_by None = Unknown
-ending_by (Some finish) = With finish
-
-abbrev pub ending_of : (word : ℕ) → Ending
-ending_of zero = NotYet
-ending_of (suc word) = ending_by (finish_of (suc word))
 
 -- where an array begins, and its words: the arrays lie one after the other
 abbrev pub array_start : Situation → (number : ℕ) → ℕ

@@ -8,12 +8,10 @@
 #![tactic(auto)]
 
 mod acts;
-mod ending;
 mod laws;
 mod machine;
 mod steps;
 
-pub use ending::Ending;
 pub use laws::{done_is_done, turns_follow_on, turns_tell_on};
 pub use machine::Machine;
 pub use ppm_layout::Image;

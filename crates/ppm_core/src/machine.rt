@@ -3,9 +3,10 @@ ghost use Rattle.std.specs.Prelude.{◌≡◌, ◌<◌, ◌≤◌, ◌+◌, ◌-
 ghost use Rattle.std.specs.Prelude.{get_or};
 ghost use Rattle.std.specs.List.{All, sum};
 ghost use Rattle.ppm_cells.specs.Cells.{arrays_at};
+ghost use Rattle.ppm_cells.specs.Ending.{ending_of};
 ghost use Rattle.ppm_core.specs.Acts.{IsTurnAmong, is_done_at};
 ghost use Rattle.ppm_core.specs.Machine.{AreLocals, seen};
-ghost use Rattle.ppm_core.specs.Situation.{array_in, ending_of, finish_in, loaded, run_on, turned};
+ghost use Rattle.ppm_core.specs.Situation.{array_in, finish_in, loaded, run_on, turned};
 ghost use Rattle.ppm_core.specs.Steps.{steady_steps, AreSteady, EndsInWork, GoesNoFurther};
 ghost use Rattle.ppm_step.specs.Locals.{standing_of};
 ghost use Rattle.ppm_step.specs.Standings.{IsLost};
@@ -13,9 +14,8 @@ ghost use Rattle.ppm_step.specs.State.{stand_of, next_of, seeks_holder};
 ghost use Rattle.ppm_step.specs.Told.{told_of};
 
 use crate::acts::{act_on, count_of, forks_by, is_done, is_work_by, seeks_holder, takes_by};
-use crate::ending::Ending;
 use crate::steps::step_along;
-use ppm_cells::{Cell, Finish, Shape};
+use ppm_cells::{Cell, Ending, Shape};
 use ppm_code::{Code, End, Step};
 use ppm_layout::Image;
 use ppm_step::{Act, Local, Next, Point, Row, Running, Stage, Stand, Then, Told, Turn};
@@ -263,14 +263,7 @@ impl Machine {
     pub fn outcome(&self) -> Ending
         ensures { result ≡ ending_of (finish_in (seen self.now)) }
     {
-        let word = self.finish_word();
-        if word == 0 {
-            return Ending::NotYet;
-        }
-        match Finish::unpack(word) {
-            Some(finish) => Ending::With(finish),
-            None => Ending::Unknown,
-        }
+        Ending::of_word(self.finish_word())
     }
 
     /// All words, by their addresses.

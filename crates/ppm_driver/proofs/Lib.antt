@@ -2,9 +2,8 @@
 -- (`ppm_choice`). `follow` is loops over it, each with the invariant `LeadsTo all rest`: whatever is
 -- done behind, of `rest` from here, is all of `all` from the beginning. So no list of turns is
 -- carried: a step is `goes_on`, an early exit `ends` with "of these nothing is made".
--- `obey` may not end: it loops over `rt.forever()` with the invariant "whatever obeys from here on
--- obeys from the beginning on" (`Leads`), and one function makes an act and has the whole contract.
--- A burst of steps is as one act.
+-- `run` rests on `drive` of `ppm_threads`: what it says of a table is turned into what a program has
+-- (`RunLemmas`), and of watchers into lists (`WatchLemmas`).
 -- A law of a run reaches a command's rows as a field of what the program has (`ProgramHas`); an
 -- answer that no run gives is left out of the kinds of answers, and all rows above close by their
 -- last case.
@@ -24,8 +23,7 @@ pub mod ExactLemmas
 pub mod ReplayLemmas
 pub mod OneReplay
 pub mod OfReplay
-pub mod AloneLemmas
-pub mod StepsLemmas
+pub mod WatchLemmas
 pub mod RunLemmas
 pub mod OneRun
 pub mod OfRun

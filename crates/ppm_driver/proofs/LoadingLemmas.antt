@@ -25,7 +25,10 @@ use Rattle.ppm_regions.proofs.Inputs.{input_fits}
 use Rattle.ppm_cut_code.specs.Routines.{code_of}
 use Rattle.ppm_cut_correct.specs.Beginning.{StartWithInput, NameArrays}
 use Rattle.ppm_driver.specs.declared.loading.Sizes.{Sizes}
-use Rattle.ppm_driver.specs.Loading.{AreSizes, HasShape, Opens}
+use Rattle.ppm_table.specs.Shown.{opening_of}
+use Rattle.ppm_table.specs.declared.processor.Shared.{Shared}
+use Rattle.ppm_table.specs.declared.view.Opening.{Opening}
+use Rattle.ppm_driver.specs.Loading.{AreSizes, HasShape, Opens, opened_by}
 
 -- a machine begins with processor 0 lost
 first_lost : (p : ℕ) → 1 ≤ p → stand_in (slice_get (replicate p IsLost) 0) ≡ IsLost
@@ -159,3 +162,10 @@ pub names_arrays : (t : ProgramTree) → IsAdmitted t → (code : CodeParts) →
 names_arrays t admitted code is names starts within input e =
     subst (λ (c : CodeParts). NamesArrays c input) (sym is)
     (subst (λ (i : List NamedArray). NamesArrays (code_of t) i) (sym e) (names t admitted (initial_arrays t) (starts t within admitted)))
+
+-- what a table was told that was made of an image
+pub table_opens : (s : Shared) (k : Opening) (lengths : List ℕ) → opening_of s ≡ k → s.lengths ≡ lengths
+    → loaded k.shape k.code lengths k.words ≡ opened_by s
+table_opens s k lengths e l =
+    sym (ap (λ (n : List ℕ). loaded (opening_of s).shape (opening_of s).code n (opening_of s).words) l
+    ∙ ap (λ (o : Opening). loaded o.shape o.code lengths o.words) e)

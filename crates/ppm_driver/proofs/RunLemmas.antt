@@ -1,19 +1,18 @@
 -- The answers that programs and texts have where they are run.
-use Rattle.std.proofs.Common.{◌≡◌, ◌≢◌, ◌⊎◌, ◌≤◌, ◌<◌, ◌∙◌, inl, inr, ℕ, List, [], ◌∷◌, get_or, Option, Some, None, arith, refl, sym, ap, subst, lit≤}
+use Rattle.std.proofs.Common.{◌≡◌, ◌≢◌, ◌⊎◌, ◌≤◌, ◌<◌, ◌∙◌, inl, inr, ℕ, List, [], ◌∷◌, get_or, length, map, Option, Some, None, arith, refl, sym, ap, subst, lit≤}
 use Rattle.ppm_words.specs.declared.event.Event.{Event}
 use Rattle.ppm_words.specs.declared.named_array.NamedArray.{NamedArray}
 use Rattle.ppm_ports.specs.Outside.{ToldLists}
-use Rattle.ppm_ports.specs.Told.{KeepsList}
 use Rattle.ppm_cells.specs.Finish.{finish_of}
 use Rattle.ppm_cells.specs.Memory.{read}
 use Rattle.ppm_cells.specs.declared.cell.Cell.TheVariants.{FinishWord}
 use Rattle.ppm_cells.specs.declared.finish.Finish.{Finish}
 use Rattle.ppm_cells.specs.declared.finish.Finish.TheVariants as finishes
 use Rattle.ppm_cells.specs.declared.shape.Shape.{Shape}
-use Rattle.ppm_core.specs.declared.ending.Ending.{Ending}
-use Rattle.ppm_core.specs.declared.ending.Ending.TheVariants.{With}
+use Rattle.ppm_cells.specs.declared.ending.Ending.{Ending}
+use Rattle.ppm_cells.specs.declared.ending.Ending.TheVariants.{With}
 use Rattle.ppm_code.specs.Code.{IsCode}
-use Rattle.ppm_core.specs.Situation.{Situation, finish_in, ending_of}
+use Rattle.ppm_core.specs.Situation.{Situation, finish_in}
 use Rattle.ppm_plan.specs.declared.plan_item.PlanItem.{PlanItem}
 use Rattle.ppm_plan.specs.Forms.{plan_form}
 use Rattle.ppm_plan.specs.Refusals.{IsKeeper}
@@ -31,18 +30,22 @@ use Rattle.ppm_answers.specs.declared.answer.Answer.TheVariants as answers
 use Rattle.ppm_cli.specs.declared.run.RunOptions.{RunOptions}
 use Rattle.ppm_cli.specs.Words.{AreRun}
 use Rattle.ppm_driver.specs.declared.loading.Sizes.{Sizes}
-use Rattle.ppm_driver.specs.Loading.{AreSizes, Opens}
+use Rattle.ppm_driver.specs.Loading.{AreSizes, Opens, opened_by}
 use Rattle.ppm_choice.specs.Deeds.{work_made}
-use Rattle.ppm_driver.specs.Obedience.{RunsTo}
 use Rattle.ppm_choice.specs.Finishes.{Finishes, Proposed, Spent, Stood}
 use Rattle.ppm_driver.specs.RunOf.{words_behind, finish_behind}
 use Rattle.ppm_driver.specs.Says.{IsTheOne, IsOfFinish, IsOfEnding}
-use Rattle.ppm_driver.specs.Runs.{plan_of, limits_of, sizes_of, IsSaid, ProgramHas, TextHas, RunHas}
+use Rattle.ppm_table.specs.Closed.{Closing}
+use Rattle.ppm_table.specs.Shown.{opening_of}
+use Rattle.ppm_table.specs.declared.processor.Shared.{Shared}
+use Rattle.ppm_threads.specs.Driven.{Driven}
+use Rattle.ppm_driver.specs.Runs.{plan_of, limits_of, sizes_of, IsSaid, ProgramHas, RunTells, TextHas, RunHas}
 use Rattle.ppm_driver.specs.Planned.{PlannedHas, HasByItems}
 use Rattle.ppm_driver.specs.Watchers.{AreTold}
 use Rattle.ppm_driver.proofs.EndLemmas.{unset_opened, has_finished}
 use Rattle.ppm_driver.proofs.LoadingLemmas.{opens_processors}
 use Rattle.ppm_driver.proofs.ProgramLemmas.{AreKinds}
+use Rattle.ppm_driver.proofs.WatchLemmas.{are_told, stays}
 use Rattle.ppm_driver.proofs.SayLemmas.{ending_is, one_of_ending, some_of_proposed, of_proposed}
 
 -- options in their ranges say sizes that a machine may have
@@ -196,12 +199,7 @@ module _ (limits : Limits) (start : Situation) (unset : finish_in start ≡ 0) (
   )
   some_said (Stood same some) = absurd (some (same ∙ unset))
 
--- a list stays as it is
-stays : (l : Option (List Event)) → KeepsList l l
-stays None = tt
-stays (Some l) = refl
-
--- no processor is watched yet
+-- none is below 0
 none_watched : (c : ℕ) → c < 0 → ⊥
 none_watched c less = omega (arith, less)
 
@@ -264,26 +262,19 @@ run_forgets options watching before now plan text a h = record {
   has = text_forgets options watching before now h.items text a h.has;
 }
 
--- where nobody is told anything, all lists stay as they are
-none_told : (plan : Planned) (limits : Limits) (told : ToldLists) (start : Situation) (turns : List Turn)
-    → AreTold 0 plan limits told told start turns
-none_told plan limits told start turns = record {
-  records = λ c less. absurd (none_watched c less);
-  others = λ c least. stays (get_or told c None);
-}
-
 -- a plan for so many processors
 same_plan : (options : RunOptions) (plan : Planned) → plan.processors ≡ options.processors → plan ≡ plan_of options plan.items
 same_plan options plan same = λ i. record { processors = same i; items = plan.items }
 
--- the answer of a program is what is said of the machine behind its run
-module _ (options : RunOptions) (items : List PlanItem) (t : ProgramTree) where
+-- the answer of a program is what is said of the words behind its run
+module _ (options : RunOptions) (items : List PlanItem) (t : ProgramTree) (before now : ToldLists) where
   has_run : (keeper : ℕ) (start : Situation) (turns : List Turn) → IsKeeper plan_form items keeper
       → Opens (sizes_of options) (code_of t) (initial_arrays t) keeper start → IsCode (code_of t)
       → ObeyAll (plan_of options items) (limits_of options) start.shape start.code start.state turns
+      → AreTold options.processors (plan_of options items) (limits_of options) before now start turns
       → (a : Answer) → IsTheOne (IsSaid start.shape start.array_lengths (initial_arrays t) (words_behind start turns)) a
-      → (told : ToldLists) → ProgramHas options 0 told told items t a
-  has_run keeper start turns spared opens is obey a only told =
+      → ProgramHas options options.processors before now items t a
+  has_run keeper start turns spared opens is obey told a only =
       let finished = has_finished (sizes_of options) (code_of t) (initial_arrays t) keeper (plan_of options items) (limits_of options) start turns
       opens is spared obey in
       let s = some_said (limits_of options) start (unset_opened (sizes_of options) (code_of t) (initial_arrays t) keeper start opens) turns
@@ -297,22 +288,48 @@ module _ (options : RunOptions) (items : List PlanItem) (t : ProgramTree) where
           turns = turns;
           obey = obey;
           finished = finished;
-          told = none_told (plan_of options items) (limits_of options) told start turns;
+          told = told;
           says = subst (IsSaid start.shape start.array_lengths (initial_arrays t) (words_behind start turns)) (sym (only s.0 s.1)) s.1;
         };
       }
 
--- what is said behind the run of a machine
-pub program_has : (options : RunOptions) (plan : Planned) (t : ProgramTree) (sizes : Sizes) (limits : Limits) (keeper : ℕ)
-    (start end : Situation) (arrays : List NamedArray) (a : Answer) → sizes ≡ sizes_of options → limits ≡ limits_of options
-    → plan.processors ≡ options.processors → IsKeeper plan_form plan.items keeper
-    → Opens sizes (code_of t) (initial_arrays t) keeper start → IsCode (code_of t) → RunsTo plan limits start end → arrays ≡ initial_arrays t
-    → IsTheOne (IsSaid end.shape end.array_lengths arrays end.state.words) a
-    → (told : ToldLists) → ProgramHas options 0 told told plan.items t a
-program_has options plan t sizes limits keeper start end arrays a sizes_are limits_are same spared opens is runs arrays_are only =
-    has_run options plan.items t keeper start runs.turns spared
-    (subst (λ (z : Sizes). Opens z (code_of t) (initial_arrays t) keeper start) sizes_are opens) is
-    (subst (λ (p : Planned). ObeyAll p (limits_of options) start.shape start.code start.state runs.turns) (same_plan options plan same)
-    (subst (λ (l : Limits). ObeyAll plan l start.shape start.code start.state runs.turns) limits_are runs.obey))
-    a (subst (λ (l : List NamedArray). IsTheOne (IsSaid start.shape start.array_lengths l (words_behind start runs.turns)) a) arrays_are
-    (subst (λ (m : Situation). IsTheOne (IsSaid m.shape m.array_lengths arrays m.state.words) a) runs.makes only))
+-- what is said behind the run of a table, and told of it
+module _ {W : Type 0} (told : W → Option (List Event)) (options : RunOptions) (plan : Planned) (t : ProgramTree) where
+  abbrev Told : Planned → Limits → Situation → List Turn → List W → List W → Type 0
+  Told p l m turns old new = AreTold options.processors p l (map told old) (map told new) m turns
+
+  pub program_has : (sizes : Sizes) (limits : Limits) (keeper : ℕ) (shared : Shared) (closed : Closing) (old new : List W) (w : W)
+      (arrays : List NamedArray) (a : Answer) → sizes ≡ sizes_of options → limits ≡ limits_of options
+      → plan.processors ≡ options.processors → IsKeeper plan_form plan.items keeper
+      → Opens sizes (code_of t) (initial_arrays t) keeper (opened_by shared) → IsCode (code_of t)
+      → length new ≡ length old → options.processors ≤ length old
+      → closed.shape ≡ (opening_of shared).shape → closed.array_lengths ≡ shared.lengths
+      → Driven told plan limits (opening_of shared) closed.words old new → arrays ≡ initial_arrays t
+      → IsTheOne (IsSaid closed.shape closed.array_lengths arrays closed.words) a
+      → ProgramHas options options.processors (map told old) (map told new) plan.items t a
+  program_has sizes limits keeper shared closed old new w arrays a sizes_are limits_are same spared opens is many enough shape lengths d arrays_are only =
+      let k = opening_of shared in
+      let m = opened_by shared in
+      let begins = subst (λ (z : Sizes). Opens z (code_of t) (initial_arrays t) keeper m) sizes_are opens in
+      let count : k.shape.processors ≡ options.processors =
+      opens_processors (sizes_of options) (code_of t) (initial_arrays t) keeper m begins in
+      let obey = subst (λ (p : Planned). ObeyAll p (limits_of options) m.shape m.code m.state d.turns) (same_plan options plan same)
+      (subst (λ (l : Limits). ObeyAll plan l m.shape m.code m.state d.turns) limits_are d.obey) in
+      let are = are_told told plan limits k closed.words shared.lengths options.processors old new w many
+      (omega (arith, enough, count)) (sym count) d in
+      let lists = subst (λ (p : Planned). Told p (limits_of options) m d.turns old new) (same_plan options plan same)
+      (subst (λ (l : Limits). Told plan l m d.turns old new) limits_are are) in
+      let said = subst (λ (l : List NamedArray). IsTheOne (IsSaid m.shape m.array_lengths l (words_behind m d.turns)) a) arrays_are
+      (subst (λ (ws : List ℕ). IsTheOne (IsSaid m.shape m.array_lengths arrays ws) a) (sym d.words_are)
+      (subst (λ (n : List ℕ). IsTheOne (IsSaid m.shape n arrays closed.words) a) lengths
+      (subst (λ (s : Shape). IsTheOne (IsSaid s closed.array_lengths arrays closed.words) a) shape only))) in
+      has_run options plan.items t (map told old) (map told new) keeper m d.turns spared begins is obey lists a said
+
+-- an answer of a run is one of which watchers were told what its causes say
+pub run_tells : (processors : ℕ) (a : Answer) (before now : ToldLists) → IsOfProgram processors a → RunTells a before now
+run_tells processors (answers.Ended arrays) before now h = tt
+run_tells processors (answers.Trapped t line) before now h = tt
+run_tells processors (answers.OutOfTurns processor) before now h = tt
+run_tells processors (answers.OutOfRoom place) before now h = tt
+run_tells processors (answers.Broken place) before now h = tt
+run_tells processors a before now h = absurd h

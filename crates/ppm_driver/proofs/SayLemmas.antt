@@ -9,9 +9,9 @@ use Rattle.ppm_cells.specs.declared.shape.Shape.{Shape}
 use Rattle.ppm_cells.specs.declared.finish.Finish.TheVariants as finishes
 use Rattle.ppm_cells.proofs.ExactLemmas.{unpack-pack}
 use Rattle.ppm_cells.proofs.FinishLemmas.{finishes_exact}
-use Rattle.ppm_core.specs.declared.ending.Ending.{Ending}
-use Rattle.ppm_core.specs.declared.ending.Ending.TheVariants.{NotYet, With, Unknown}
-use Rattle.ppm_core.specs.Situation.{ending_by, ending_of}
+use Rattle.ppm_cells.specs.declared.ending.Ending.{Ending}
+use Rattle.ppm_cells.specs.declared.ending.Ending.TheVariants.{NotYet, With, Unknown}
+use Rattle.ppm_cells.specs.Ending.{ending_by, ending_of}
 use Rattle.ppm_step.specs.Laws.{IsProposed, IsProposedWord}
 use Rattle.ppm_answers.specs.declared.answer.Answer.{Answer}
 use Rattle.ppm_answers.specs.declared.answer.Answer.TheVariants as answers

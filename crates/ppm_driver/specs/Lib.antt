@@ -5,8 +5,6 @@ pub mod Loading
 pub mod Planned
 pub mod Programs
 pub mod MachineRows
-pub mod Obedience
-pub mod Going
 pub mod Watchers
 pub mod RunOf
 pub mod Runs

@@ -8,6 +8,8 @@ use Rattle.ppm_code.specs.declared.code.CodeParts.{CodeParts}
 use Rattle.ppm_layout.specs.declared.images.Image.{Image}
 use Rattle.ppm_layout.specs.Image.{IsImageOf}
 use Rattle.ppm_core.specs.Situation.{Situation, loaded}
+use Rattle.ppm_table.specs.declared.processor.Shared.{Shared}
+use Rattle.ppm_table.specs.Shown.{opening_of}
 use Rattle.ppm_driver.specs.declared.loading.Sizes.{Sizes}
 
 -- a machine may have these sizes
@@ -29,3 +31,7 @@ pub record Opens (sizes : Sizes) (code : CodeParts) (arrays : List NamedArray) (
   pub image : Image
   pub opens : IsImageOf code arrays shape keeper image
   pub loads : m ≡ loaded shape code image.lengths image.words
+
+-- the machine whose words a table was told when it was made
+abbrev pub opened_by : Shared → Situation
+opened_by s = loaded (opening_of s).shape (opening_of s).code s.lengths (opening_of s).words

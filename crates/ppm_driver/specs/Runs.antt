@@ -1,5 +1,5 @@
 -- What `run` answers, and when it may.
-use Rattle.std.specs.Prelude.{◌≡◌, ℕ, List, []}
+use Rattle.std.specs.Prelude.{◌≡◌, ℕ, List, [], ⊤}
 use Rattle.ppm_ports.specs.Ports.{Port}
 use Rattle.ppm_ports.specs.Outside.{ToldLists}
 use Rattle.ppm_text.specs.Limits.{text_limit}
@@ -16,7 +16,7 @@ use Rattle.ppm_cut_code.specs.Routines.{code_of}
 use Rattle.ppm_words.specs.declared.named_array.NamedArray.{NamedArray}
 use Rattle.ppm_answers.specs.declared.answer.Answer.{Answer}
 use Rattle.ppm_answers.specs.declared.answer.Answer.TheVariants as answers
-use Rattle.ppm_answers.specs.Reading.{AreOne, FrontsDecide}
+use Rattle.ppm_answers.specs.Reading.{AreOne, FrontsDecide, TellsOfRun}
 use Rattle.ppm_cli.specs.declared.run.RunOptions.{RunOptions}
 use Rattle.ppm_driver.specs.declared.loading.Sizes.{Sizes}
 use Rattle.ppm_driver.specs.Loading.{Opens}
@@ -66,6 +66,10 @@ RunHas options plan text answer = PlannedHas plan_form plan options.processors (
 abbrev pub RunMay : RunOptions → (watching : ℕ) → (plan : List ℕ) → (before now : ToldLists) → Port → Answer → Type 0
 RunMay options watching plan before now source answer =
     PlannedMay plan_form plan options.processors (TextHas options watching before now) text_limit source answer
+
+-- what watchers were told where an answer comes: the causes of an answer of a run say which turns
+abbrev pub RunTells : Answer → ToldLists → ToldLists → Type 0
+RunTells = TellsOfRun (λ answer before now. ⊤)
 
 -- two answers of a text are one where there is one processor, with such options and all plans
 abbrev pub AnswersAreOne : Type 0

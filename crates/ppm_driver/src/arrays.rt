@@ -7,6 +7,7 @@ ghost use Rattle.ppm_core.specs.Machine.{seen};
 ghost use Rattle.ppm_driver.specs.Says.{arrays_from};
 
 use ppm_core::Machine;
+use ppm_table::Closed;
 use ppm_words::{Items, NamedArray, NoMemory, of_word};
 use std::alloc::Global;
 
@@ -52,6 +53,32 @@ pub(crate) fn arrays_of(
     while let [array, rest @ ..] = left {
         let name = array.name.try_clone(alloc)?;
         let values = to_values(alloc, machine.array(number))?;
+        named.push(NamedArray {
+            name,
+            values: Items::from_vec(values),
+        })?;
+        number += 1;
+        left = rest;
+    }
+    Ok(Items::from_vec(named))
+}
+
+/// The same with the values that the words of a table have for them.
+pub(crate) fn arrays_of_closed(
+    alloc: Global,
+    closed: &Closed,
+    arrays: &[NamedArray],
+) -> Result<Items<NamedArray>, NoMemory>
+    requires lengths { closed.now.array_lengths ≡ map (λ a. length a.values) arrays.now }
+    ensures { IfOk result (λ named. named ≡ arrays_from closed.now.shape closed.now.array_lengths closed.now.words 0 arrays.now) }
+{
+    let mut named = Vec::new(alloc);
+    let mut number = 0;
+    let mut left = arrays;
+    while let [array, rest @ ..] = left {
+        let name = array.name.try_clone(alloc)?;
+        let words = closed.array(alloc, number)?;
+        let values = to_values(alloc, words.as_slice())?;
         named.push(NamedArray {
             name,
             values: Items::from_vec(values),

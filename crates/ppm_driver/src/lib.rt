@@ -1,16 +1,16 @@
-//! Commands that run a machine: `replay` follows a schedule, `run` lets one processor obey a plan
-//! of faults and limits.
+//! Commands that run a machine: `replay` follows a schedule, `run` lets processors, each a thread,
+//! obey a plan of faults and limits.
 //! Model: what a schedule says, and obedience, are those of `ppm_choice`.
-//! Contract: `follow` and `obey` make of a machine exactly what those turns make of it
-//! (`specs/Followed`, `specs/Obedience`); `replay_command` delivers the one answer of a text
+//! Contract: `follow` makes of a machine exactly what those turns make of it (`specs/Followed`);
+//! `replay_command` delivers the one answer of a text
 //! (`specs/Replays`); `run_command`, if it returns, one that it has: that of a run in which each
 //! processor obeys (`specs/RunOf`, `specs/Runs`). What follows from each status: `specs/RunRows`,
 //! `specs/ReplayRows`.
-//! Stands on `ppm_core`, `ppm_choice`, `ppm_plan`, `ppm_program`, `ppm_cut` and `ppm_answers`;
+//! Stands on `ppm_threads`, `ppm_core`, `ppm_choice`, `ppm_plan`, `ppm_program`, `ppm_cut` and
+//! `ppm_answers`;
 //! `ppm_top` calls it. The schedules and limits and their rules are this project's.
 #![tactic(auto)]
 
-mod alone;
 mod arrays;
 mod following;
 mod loading;
@@ -22,7 +22,6 @@ mod replay;
 mod run;
 mod saying;
 
-pub use alone::obey;
 pub use following::follow;
 pub use loading::{Sizes, load};
 pub use one_replay::have_one_answer;

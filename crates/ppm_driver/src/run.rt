@@ -1,20 +1,19 @@
 //! The command `run`.
 ghost use Rattle.std.specs.Prelude.{◌≡◌, IfOk, length, map};
 ghost use Rattle.ppm_ports.specs.Ports.{port};
-ghost use Rattle.ppm_ports.specs.Outside.{ToldLists, outside};
-ghost use Rattle.ppm_answers.specs.Reading.{Answers, JudgingMay, TellsNothing};
+ghost use Rattle.ppm_ports.specs.Outside.{KeepFronts, outside};
+ghost use Rattle.ppm_answers.specs.Reading.{Answers, JudgingMay};
 ghost use Rattle.ppm_cli.specs.Words.{AreRun};
 ghost use Rattle.ppm_text.specs.Limits.{text_limit};
 ghost use Rattle.ppm_tree.specs.Tree.{tree_of};
 ghost use Rattle.ppm_cut_bounds.specs.Bounds.{IsWithinBounds};
 ghost use Rattle.ppm_driver.specs.Programs.{ProgramMay};
-ghost use Rattle.ppm_driver.specs.Runs.{ProgramHas, RunMay, TextHas, limits_of as limits_in};
+ghost use Rattle.ppm_driver.specs.Runs.{ProgramHas, RunMay, RunTells, TextHas, limits_of as limits_in};
 ghost use Rattle.ppm_driver.specs.Runs.{sizes_of as sizes_in};
 ghost use Rattle.ppm_driver.specs.RunRows.{RunRows};
 ghost use Rattle.ppm_driver.specs.Watchers.{watcher_count};
 
-use crate::alone::obey;
-use crate::loading::{Sizes, load};
+use crate::loading::{Sizes, share};
 use crate::one_run::answers_are_one;
 use crate::planned::refusal_answer;
 use crate::programs::read_program;
@@ -25,18 +24,20 @@ use ppm_cli::RunOptions;
 use ppm_plan::{Plan, have_one_answer as plans_have_one_answer, read_plan};
 use ppm_ports::{Sink, Source, Watch};
 use ppm_regions::Admitted;
+use ppm_threads::drive;
 use ppm_words::{NoMemory, PROCESSOR_LIMIT};
 use std::alloc::Global;
 use std::sync::Wait;
+use std::thread::Threads;
 
 /// The watchers of a run: one for each processor that it may have.
 pub const WATCHERS: usize = PROCESSOR_LIMIT as usize;
 
-/// Runs the text that is read on a machine whose one processor obeys the plan of faults and the
-/// limits of the options: its arrays or its trap are written on `out`, why there are none on `err`.
-/// Where the plan is refused, the source is left unread. It may never return. There is a watcher
-/// for each of 64 processors; none is told anything yet.
-pub fn run_command<R: Wait, S: Source, K: Sink, E: Sink, W: Watch>(
+/// Runs the text that is read on a machine whose processors, each a thread, obey the plan of faults
+/// and the limits of the options: its arrays or its trap are written on `out`, why there are none on
+/// `err`. Where the plan is refused, the source is left unread. It may never return. There is a
+/// watcher for each of 64 processors; those of the run's processors are told every turn.
+pub fn run_command<R: Threads + Wait + Sync, S: Source, K: Sink, E: Sink, W: Watch>(
     rt: &R,
     alloc: Global,
     options: RunOptions,
@@ -49,107 +50,133 @@ pub fn run_command<R: Wait, S: Source, K: Sink, E: Sink, W: Watch>(
     requires options { AreRun options }
     requires watchers { length watch.old.items ≡ watcher_count }
 
-    // An answer that the command's causes allow, and its texts; none of the watchers is told yet
-    // what its processor does.
+    // An answer that the command's causes allow, and its texts. Behind a run each processor's
+    // watcher was told its turns; where memory is wanting, each list keeps what it had in front.
     ensures answers { let o = outside (port S.left S.fault_count source.old source.new)
         (port K.written K.fault_count out.old out.new) (port E.written E.fault_count err.old err.new)
         (map W.told watch.old.items) (map W.told watch.new.items)
-        in Answers (RunMay options 0 faults.now o.told_before o.told_now o.source) TellsNothing o result }
+        in Answers (RunMay options options.processors faults.now o.told_before o.told_now o.source) RunTells o result }
 
     // What follows from each status.
-    ensures rows { RunRows options 0 faults.now (outside (port S.left S.fault_count source.old source.new)
+    ensures rows { RunRows options options.processors faults.now (outside (port S.left S.fault_count source.old source.new)
         (port K.written K.fault_count out.old out.new) (port E.written E.fault_count err.old err.new)
         (map W.told watch.old.items) (map W.told watch.new.items)) result }
 
     ensures watchers { length watch.new.items ≡ watcher_count }
 {
-    // Watchers come with more processors than one.
-    let _ = &watch;
     // The rows rest on these laws; the calls do nothing.
     answers_are_one();
     plans_have_one_answer();
-    let answer = read_answer(rt, alloc, options, faults, source);
+    let answer = read_answer(rt, alloc, options, faults, source, watch);
     deliver(alloc, &answer, out, err)
 }
 
 /// The answer of `run`: the plan is read first, and then the source.
-fn read_answer<R: Wait, S: Source>(
+fn read_answer<R: Threads + Wait + Sync, S: Source, W: Watch>(
     rt: &R,
     alloc: Global,
     options: RunOptions,
     faults: &[u8],
     source: &mut S,
+    watch: &mut Vec<W>,
 ) -> Answer
     requires options { AreRun options }
-    ensures { (told : ToldLists)
-        → RunMay options 0 faults.now told told (port S.left S.fault_count source.old source.new) result }
+    requires watchers { length watch.old.items ≡ watcher_count }
+    ensures may { RunMay options options.processors faults.now (map W.told watch.old.items) (map W.told watch.new.items)
+        (port S.left S.fault_count source.old source.new) result }
+    ensures told { RunTells result (map W.told watch.old.items) (map W.told watch.new.items) }
+    ensures kept { KeepFronts (map W.told watch.old.items) (map W.told watch.new.items) }
+    ensures watchers { length watch.new.items ≡ watcher_count }
 {
     // A plan that is accepted is not refused, by this law; the call does nothing.
     plans_have_one_answer();
     match read_plan(alloc, faults, options.processors) {
-        Ok(plan) => planned_answer(rt, alloc, options, &plan, source),
+        Ok(plan) => planned_answer(rt, alloc, options, &plan, source, watch),
         Err(error) => refusal_answer(error),
     }
 }
 
 /// The program of the text that is read is run by the plan.
-fn planned_answer<R: Wait, S: Source>(
+fn planned_answer<R: Threads + Wait + Sync, S: Source, W: Watch>(
     rt: &R,
     alloc: Global,
     options: RunOptions,
     plan: &Plan,
     source: &mut S,
+    watch: &mut Vec<W>,
 ) -> Answer
     requires options { AreRun options }
     requires processors { plan.now.processors ≡ options.processors }
-    ensures { (told : ToldLists) → JudgingMay text_limit (TextHas options 0 told told plan.now.items)
+    requires watchers { length watch.old.items ≡ watcher_count }
+    ensures may { JudgingMay text_limit
+        (TextHas options options.processors (map W.told watch.old.items) (map W.told watch.new.items) plan.now.items)
         (port S.left S.fault_count source.old source.new) result }
+    ensures told { RunTells result (map W.told watch.old.items) (map W.told watch.new.items) }
+    ensures kept { KeepFronts (map W.told watch.old.items) (map W.told watch.new.items) }
+    ensures watchers { length watch.new.items ≡ watcher_count }
 {
     match read_program(alloc, source) {
-        Ok(program) => program_answer(rt, alloc, options, plan, &program),
+        Ok(program) => program_answer(rt, alloc, options, plan, &program, watch),
         Err(answer) => answer,
     }
 }
 
 /// What the run of a program comes to, or want of memory.
-fn program_answer<R: Wait>(
+fn program_answer<R: Threads + Wait + Sync, W: Watch>(
     rt: &R,
     alloc: Global,
     options: RunOptions,
     plan: &Plan,
     program: &Admitted,
+    watch: &mut Vec<W>,
 ) -> Answer
     requires options { AreRun options }
     requires processors { plan.now.processors ≡ options.processors }
     requires bounded { IsWithinBounds (tree_of program.now) }
-    ensures { (told : ToldLists)
-        → ProgramMay (ProgramHas options 0 told told plan.now.items (tree_of program.now)) result }
+    requires watchers { length watch.old.items ≡ watcher_count }
+    ensures may { ProgramMay (ProgramHas options options.processors (map W.told watch.old.items) (map W.told watch.new.items)
+        plan.now.items (tree_of program.now)) result }
+    ensures told { RunTells result (map W.told watch.old.items) (map W.told watch.new.items) }
+    ensures kept { KeepFronts (map W.told watch.old.items) (map W.told watch.new.items) }
+    ensures watchers { length watch.new.items ≡ watcher_count }
 {
-    match ran(rt, alloc, options, plan, program) {
+    match ran(rt, alloc, options, plan, program, watch) {
         Ok(answer) => answer,
         Err(NoMemory) => Answer::NoMemory,
     }
 }
 
 /// What the run of a program comes to.
-fn ran<R: Wait>(
+fn ran<R: Threads + Wait + Sync, W: Watch>(
     rt: &R,
     alloc: Global,
     options: RunOptions,
     plan: &Plan,
     program: &Admitted,
+    watch: &mut Vec<W>,
 ) -> Result<Answer, NoMemory>
     requires options { AreRun options }
     requires processors { plan.now.processors ≡ options.processors }
     requires bounded { IsWithinBounds (tree_of program.now) }
-    ensures { IfOk result (λ answer. (told : ToldLists)
-        → ProgramHas options 0 told told plan.now.items (tree_of program.now) answer) }
+    requires watchers { length watch.old.items ≡ watcher_count }
+    ensures has { IfOk result (ProgramHas options options.processors (map W.told watch.old.items) (map W.told watch.new.items)
+        plan.now.items (tree_of program.now)) }
+    ensures kept { KeepFronts (map W.told watch.old.items) (map W.told watch.new.items) }
+    ensures watchers { length watch.new.items ≡ watcher_count }
 {
-    let mut machine = load(alloc, sizes_of(options), program, plan.keeper())?;
+    let (shared, processors) = share(alloc, sizes_of(options), program, plan.keeper())?;
     // What the type of its code keeps is known once its parts were seen.
-    let _ = machine.code().parts();
-    obey(rt, &mut machine, plan, limits_of(options));
-    let answer = run_answer(alloc, &machine, program.input().arrays())?;
+    let _ = shared.code.parts();
+    let closed = drive(
+        rt,
+        alloc,
+        shared,
+        processors,
+        plan,
+        limits_of(options),
+        watch,
+    )?;
+    let answer = run_answer(alloc, &closed, program.input().arrays())?;
     Ok(answer)
 }
 

@@ -1,31 +1,30 @@
-//! What is answered behind a run, by the finish word of the machine: these arrays with its values,
-//! its trap, or why there are none. `Err` comes only where memory is refused.
+//! What is answered behind a run, by the finish word: these arrays with their values, the trap, or why there are none. `Err` comes only where memory is refused.
 ghost use Rattle.std.specs.Prelude.{◌≡◌, IfOk, length, map};
 ghost use Rattle.ppm_core.specs.Machine.{seen};
 ghost use Rattle.ppm_driver.specs.Says.{IsTheOne};
 ghost use Rattle.ppm_driver.specs.Replays.{IsSaid as IsSaidOfReplay};
 ghost use Rattle.ppm_driver.specs.Runs.{IsSaid as IsSaidOfRun};
 
-use crate::arrays::arrays_of;
+use crate::arrays::{arrays_of, arrays_of_closed};
 use ppm_answers::{Answer, Tally};
-use ppm_cells::{Finish, UNKNOWN_PLACE};
-use ppm_core::{Ending, Machine};
+use ppm_cells::{Ending, Finish, UNKNOWN_PLACE};
+use ppm_core::Machine;
+use ppm_table::Closed;
 use ppm_words::{NamedArray, NoMemory};
 use std::alloc::Global;
 
 /// What is answered behind a run in which processors obey.
 pub(crate) fn run_answer(
     alloc: Global,
-    machine: &Machine,
+    closed: &Closed,
     arrays: &[NamedArray],
 ) -> Result<Answer, NoMemory>
-    requires lengths { (seen machine.now).array_lengths ≡ map (λ a. length a.values) arrays.now }
-    ensures { IfOk result (IsTheOne (IsSaidOfRun (seen machine.now).shape (seen machine.now).array_lengths arrays.now
-        (seen machine.now).state.words)) }
+    requires lengths { closed.now.array_lengths ≡ map (λ a. length a.values) arrays.now }
+    ensures { IfOk result (IsTheOne (IsSaidOfRun closed.now.shape closed.now.array_lengths arrays.now closed.now.words)) }
 {
-    match machine.outcome() {
+    match closed.outcome() {
         Ending::With(finish) => match finish {
-            Finish::Ended => Ok(Answer::Ended(arrays_of(alloc, machine, arrays)?)),
+            Finish::Ended => Ok(Answer::Ended(arrays_of_closed(alloc, closed, arrays)?)),
             Finish::Trapped { trap, line } => Ok(Answer::Trapped(trap, line)),
             Finish::OutOfRoom { place } => Ok(Answer::OutOfRoom(place)),
             Finish::OutOfTurns { processor } => Ok(Answer::OutOfTurns(processor)),

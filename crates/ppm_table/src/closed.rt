@@ -5,14 +5,13 @@ ghost use Rattle.std.specs.Slots.{IsFull, slots_items, slots_len};
 ghost use Rattle.ppm_cells.specs.Cells.{arrays_at, word_count};
 ghost use Rattle.ppm_cells.specs.Memory.{AreWordsOf, read};
 ghost use Rattle.ppm_cells.specs.declared.cell.Cell.TheVariants.{FinishWord};
-ghost use Rattle.ppm_core.specs.Situation.{ending_of};
+ghost use Rattle.ppm_cells.specs.Ending.{ending_of};
 ghost use Rattle.ppm_table.specs.Closed.{array_of};
 ghost use Rattle.ppm_table.specs.Run.{padding};
 
 use crate::touching::PADDING;
 use atomic_table::Closed as ClosedTable;
-use ppm_cells::{Cell, Finish, Shape};
-use ppm_core::Ending;
+use ppm_cells::{Cell, Ending, Shape};
 use ppm_words::{Items, NoMemory};
 use std::alloc::Global;
 use std::marker::Model;
@@ -95,7 +94,7 @@ impl Closed {
     ghost use Rattle.ppm_cells.specs.Cells.{word_count};
     ghost use Rattle.ppm_cells.specs.Memory.{AreWordsOf, read};
     ghost use Rattle.ppm_cells.specs.declared.cell.Cell.TheVariants.{FinishWord};
-    ghost use Rattle.ppm_core.specs.Situation.{ending_of};
+    ghost use Rattle.ppm_cells.specs.Ending.{ending_of};
     ghost use Rattle.ppm_table.specs.Closed.{array_of};
 
     /// How many words there are.
@@ -125,14 +124,7 @@ impl Closed {
     pub fn outcome(&self) -> Ending
         ensures { result ≡ ending_of (read self.now.shape self.now.words FinishWord) }
     {
-        let word = self.finish_word();
-        if word == 0 {
-            return Ending::NotYet;
-        }
-        match Finish::unpack(word) {
-            Some(finish) => Ending::With(finish),
-            None => Ending::Unknown,
-        }
+        Ending::of_word(self.finish_word())
     }
 
     /// The sizes.

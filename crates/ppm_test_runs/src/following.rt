@@ -1,22 +1,20 @@
-//! Schedules that a machine of two processors follows, and plans that one processor obeys, with a
-//! code that ends at once.
+//! Schedules that a machine of two processors follows, with a code that ends at once.
 ghost use Rattle.std.specs.Prelude.{◌≡◌, IfOk, []};
 
-use ppm_cells::{Finish, Shape};
+use ppm_cells::{Ending, Finish, Shape};
 use ppm_choice::{
-    Limits, runs_finish, schedules_go_on, schedules_keep_order, schedules_skip_done,
+    runs_finish, schedules_go_on, schedules_keep_order, schedules_skip_done,
     unfinished_is_exact,
 };
 use ppm_code::{Capsule, Code, CodeParts, End, Instr, Procedure};
-use ppm_core::{Ending, Machine};
-use ppm_driver::{follow, obey};
+use ppm_core::Machine;
+use ppm_driver::follow;
 use ppm_layout::image;
-use ppm_plan::{read_plan, read_schedule};
+use ppm_plan::read_schedule;
 use ppm_step::{done_has_cause, finish_stays, records_lead, room_has_cause, turns_have_cause};
-use ppm_words::{Idle, Input, Items};
+use ppm_words::{Input, Items};
 use std::alloc::Global;
 use std::process::Abort;
-use std::sync::Wait;
 use std::test::Fail;
 
 /// One procedure of one capsule, which ends.
@@ -102,50 +100,4 @@ fn states_laws() {
     room_has_cause();
     runs_finish();
     turns_have_cause();
-}
-
-/// How a run ends in which one processor obeys a plan with so many work turns.
-fn obeyed(rt: &impl Wait, alloc: Global, plan: &str, turns: u64) -> Result<Ending, Fail> {
-    let Ok(plan) = read_plan(alloc, plan.as_bytes(), 1) else {
-        return Err(Fail::from("a plan"));
-    };
-    let code = small_code(alloc)?;
-    let input = Input::from_vec(Vec::new(alloc));
-    let Some(shape) = Shape::new(1, 64, 2, 0) else {
-        return Err(Fail::from("within the limits"));
-    };
-    let Ok(words) = image(alloc, &code, &input, shape, 0) else {
-        return Err(Fail::from("memory"));
-    };
-    let Ok(mut machine) = Machine::load(alloc, words, code) else {
-        return Err(Fail::from("memory"));
-    };
-    let limits = Limits {
-        turns,
-        looks: 1,
-        seed: 1,
-        idle: Idle::Leave,
-    };
-    obey(rt, &mut machine, &plan, limits);
-    Ok(machine.outcome())
-}
-
-/// Plans, work turns, and how the run ends: it takes five, and one more where a soft fault comes
-/// behind its first.
-const PLANS: [(&str, u64, Finish); 6] = [
-    ("none", 5, Finish::Ended),
-    ("none", 4, Finish::OutOfTurns { processor: 0 }),
-    ("0@0s,0@1s,0@2s", 5, Finish::Ended),
-    ("0@4s", 5, Finish::OutOfTurns { processor: 0 }),
-    ("0@4s", 6, Finish::Ended),
-    ("0@4s,0@5s,0@9s", 20, Finish::Ended),
-];
-
-#[test]
-fn obeys_plans(rt: HostRuntime) -> Result<(), Fail> {
-    for (plan, turns, finish) in PLANS {
-        let ending = obeyed(&rt, rt.alloc(), plan, turns)?;
-        assert_eq!(&rt; ending, Ending::With(finish), "{plan}");
-    }
-    Ok(())
 }

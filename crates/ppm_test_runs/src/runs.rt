@@ -9,6 +9,7 @@ use std::alloc::Global;
 use std::process::Abort;
 use std::sync::Wait;
 use std::test::Fail;
+use std::thread::Threads;
 
 /// A source that ends with `a 5 7`.
 const FIRST: &str = "array a[2]; proc main(mut a) { a[0] = 5; a[1] = a[0] + 2; }";
@@ -40,7 +41,7 @@ fn sink(alloc: Global) -> Result<MemorySink, Fail> {
 
 /// A run of a source with such a plan, over ports that never fail.
 fn run(
-    rt: &impl Wait,
+    rt: &(impl Threads + Wait + Sync),
     alloc: Global,
     options: RunOptions,
     faults: &str,
@@ -85,7 +86,7 @@ fn run(
 
 /// Fails unless the source is answered so: on out where it ends, at its end or in a trap, else on
 /// err.
-fn shows<R: Abort + Wait>(
+fn shows<R: Abort + Threads + Wait + Sync>(
     rt: &R,
     alloc: Global,
     options: RunOptions,

@@ -9,6 +9,7 @@ use std::alloc::Global;
 use std::process::Abort;
 use std::sync::Wait;
 use std::test::Fail;
+use std::thread::Threads;
 
 /// A source that ends with `a 5 7`.
 pub(crate) const FIRST: &str = "array a[2]; proc main(mut a) { a[0] = 5; a[1] = a[0] + 2; }";
@@ -86,7 +87,7 @@ pub(crate) const NONE: Failing<'static> = Failing {
 
 /// A call over memory whose ports move at most `most` bytes at a time.
 fn ppm_over_memory(
-    rt: &impl Wait,
+    rt: &(impl Threads + Wait + Sync),
     alloc: Global,
     text: &[u8],
     words: &[&str],
@@ -121,7 +122,7 @@ fn ppm_over_memory(
 }
 
 /// Fails unless the check of a listing answers so: on out where it is accepted, else on err.
-fn is_checked<R: Abort + Wait>(
+fn is_checked<R: Abort + Threads + Wait + Sync>(
     rt: &R,
     alloc: Global,
     listing: &str,
@@ -152,7 +153,7 @@ fn sink(alloc: Global, most: usize, failing: &[u64]) -> Result<MemorySink, Fail>
 
 /// Fails unless words and a text are answered so, over ports that move at most `most` bytes at a
 /// time.
-pub(crate) fn is_answered<R: Abort + Wait>(
+pub(crate) fn is_answered<R: Abort + Threads + Wait + Sync>(
     rt: &R,
     alloc: Global,
     words: &[&str],
@@ -424,7 +425,7 @@ const REPLAYS: [(&[&str], &str, &str, Status); 16] = [
 ];
 
 /// Fails unless a source is replayed so with these words.
-fn is_replayed<R: Abort + Wait>(
+fn is_replayed<R: Abort + Threads + Wait + Sync>(
     rt: &R,
     alloc: Global,
     words: &[&str],

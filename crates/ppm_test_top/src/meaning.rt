@@ -8,13 +8,14 @@ use std::alloc::Global;
 use std::process::Abort;
 use std::sync::Wait;
 use std::test::Fail;
+use std::thread::Threads;
 
 /// The turns that `serial` has where the words name none.
 pub(crate) const TURNS: u64 = 16_777_216;
 
 /// Fails unless a text has this answer within so many turns: on out where it ends, at its end or in
 /// a trap, else on err.
-fn answers<R: Abort + Wait>(
+fn answers<R: Abort + Threads + Wait + Sync>(
     rt: &R,
     alloc: Global,
     turns: u64,
@@ -32,7 +33,7 @@ fn answers<R: Abort + Wait>(
 }
 
 /// Fails unless an expression has this value.
-fn is_value<R: Abort + Wait>(
+fn is_value<R: Abort + Threads + Wait + Sync>(
     rt: &R,
     alloc: Global,
     expression: &str,
@@ -53,7 +54,7 @@ fn is_value<R: Abort + Wait>(
 }
 
 /// Fails unless an expression comes to this trap, in the line in which it stands.
-fn is_trap<R: Abort + Wait>(
+fn is_trap<R: Abort + Threads + Wait + Sync>(
     rt: &R,
     alloc: Global,
     expression: &str,

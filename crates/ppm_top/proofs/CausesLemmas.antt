@@ -20,12 +20,13 @@ use Rattle.ppm_plan.specs.Forms.{plan_form, schedule_form}
 use Rattle.ppm_driver.specs.Replays.{TextHas as ReplayTextHas}
 use Rattle.ppm_driver.specs.Runs.{TextHas as RunTextHas}
 use Rattle.ppm_driver.proofs.PlannedLemmas as planned
+use Rattle.ppm_driver.proofs.WatchLemmas.{untold}
 
 -- where nothing was read, out of memory may be the answer, whatever the command is
 pub memory_before : (command : Option Command) (o : Outside) → IsUnread o.source → CommandMay command o answers.NoMemory
 memory_before None o h = h
 memory_before (Some (commands.Run options plan)) o h =
-    planned.memory_before plan_form plan options.processors (RunTextHas options 0 o.told_before o.told_now) text_limit o.source h
+    planned.memory_before plan_form plan options.processors (RunTextHas options options.processors o.told_before o.told_now) text_limit o.source h
 memory_before (Some (commands.Serial options)) o h = judged.memory_before text_limit (SerialHas options.turns) o.source h
 memory_before (Some commands.Code) o h = judged.memory_before text_limit CodeReads o.source h
 memory_before (Some commands.Check) o h = judged.memory_before listing_limit CheckHas o.source h
@@ -46,10 +47,10 @@ by_ports words o status command e tells told d =
     (subst (λ (t : Answer → ToldLists → ToldLists → Type 0). Answers (CommandMay command o) t o status) (sym tells)
     (tells_nothing (CommandMay command o) o status told d))
 
--- nothing is told where no command tells anything
+-- where nobody was told anything, that belongs to each answer
 pub told_nothing : (command : Option Command) (answer : Answer) (lists : ToldLists) → CommandTells command answer lists lists
 told_nothing None answer lists = refl
-told_nothing (Some (commands.Run options plan)) answer lists = refl
+told_nothing (Some (commands.Run options plan)) answer lists = untold answer lists
 told_nothing (Some (commands.Serial options)) answer lists = refl
 told_nothing (Some commands.Code) answer lists = refl
 told_nothing (Some commands.Check) answer lists = refl

@@ -64,7 +64,7 @@ none_reports o = record { failed = λ h. absurd h; fails = fails } where
 
 command_reports : (o : Outside) (command : Option Command) → ReportsReads o (CommandMay command o)
 command_reports o None = none_reports o
-command_reports o (Some (commands.Run options plan)) = planned_reports plan_form plan options.processors (RunTextHas options 0 o.told_before o.told_now) o
+command_reports o (Some (commands.Run options plan)) = planned_reports plan_form plan options.processors (RunTextHas options options.processors o.told_before o.told_now) o
 command_reports o (Some (commands.Serial options)) = judging_reports text_limit (SerialHas options.turns) o
 command_reports o (Some commands.Code) = judging_reports text_limit CodeReads o
 command_reports o (Some commands.Check) = judging_reports listing_limit CheckHas o
@@ -151,7 +151,7 @@ refuses_words words o status a = record {
 
         refuses_plan : (options : RunOptions) (plan : List ℕ) → command_of words ≡ Some (commands.Run options plan) →
             RefusesPlan plan_form plan options.processors (ports_of o)
-        refuses_plan options plan c = of_run.plan_refused options 0 plan o status
+        refuses_plan options plan c = of_run.plan_refused options options.processors plan o status
             (subst (λ x. DeliversAnswer (CommandMay x o) (ports_of o) status) c (delivers words o status a)) e
 
         by_words : (command_of words ≡ None) ⊎ IsPlanned (command_of words) → (command_of words ≡ None) ⊎ HasRefusedPlan words o
@@ -182,7 +182,7 @@ pub program_rows : Laws → (words : List (List ℕ)) (o : Outside) (status : St
 program_rows laws words o status a = record {
   run = λ options plan e. (
     run_is_in_range words options plan e,
-    of_run.run_rows options 0 plan o status (by_words (Some (commands.Run options plan)) e) laws.plans laws.runs laws.fronts,
+    of_run.run_rows options options.processors plan o status (by_words (Some (commands.Run options plan)) e) laws.plans laws.runs laws.fronts,
   );
   serial = λ options e. serial_rows options.turns (ports_of o) (laws.outcomes options.turns) status (by_words (Some (commands.Serial options)) e);
   code = λ e. code_rows laws.codes laws.faithful (ports_of o) status (by_words (Some commands.Code) e);

@@ -12,7 +12,7 @@ use Rattle.ppm_commands.specs.Check.{CheckMay}
 use Rattle.ppm_commands.specs.Code.{CodeMay}
 use Rattle.ppm_commands.specs.Serial.{SerialMay}
 use Rattle.ppm_driver.specs.Replays.{ReplayMay}
-use Rattle.ppm_driver.specs.Runs.{RunMay}
+use Rattle.ppm_driver.specs.Runs.{RunMay, RunTells}
 
 -- the answers where the words give no command
 abbrev pub NoCommandMay : Outside → Answer → Type 0
@@ -23,16 +23,16 @@ NoCommandMay o _ = ⊥
 -- the answers of a command, or of none
 abbrev pub CommandMay : Option Command → Outside → Answer → Type 0
 CommandMay None o answer = NoCommandMay o answer
-CommandMay (Some (commands.Run options plan)) o answer = RunMay options 0 plan o.told_before o.told_now o.source answer
+CommandMay (Some (commands.Run options plan)) o answer = RunMay options options.processors plan o.told_before o.told_now o.source answer
 CommandMay (Some (commands.Serial options)) o answer = SerialMay options.turns o.source answer
 CommandMay (Some commands.Code) o answer = CodeMay o.source answer
 CommandMay (Some commands.Check) o answer = CheckMay o.source answer
 CommandMay (Some (commands.Replay options schedule)) o answer = ReplayMay options schedule o.source answer
 
--- what watchers are told with each answer of a command, or of none; no command tells them anything yet
+-- what watchers are told with each answer of a command, or of none: a run tells them its turns
 abbrev pub CommandTells : Option Command → Answer → ToldLists → ToldLists → Type 0
 CommandTells None = TellsNothing
-CommandTells (Some (commands.Run options plan)) = TellsNothing
+CommandTells (Some (commands.Run options plan)) = RunTells
 CommandTells (Some (commands.Serial options)) = TellsNothing
 CommandTells (Some commands.Code) = TellsNothing
 CommandTells (Some commands.Check) = TellsNothing

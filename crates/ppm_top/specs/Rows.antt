@@ -23,7 +23,7 @@ use Rattle.ppm_plan.specs.Forms.{plan_form, schedule_form}
 -- the rows of `run` hold where the words ask for a run, with these options, which are in their ranges, and this plan
 abbrev pub RunsByWords : List (List ℕ) → Outside → Status → Type 0
 RunsByWords words o status = (options : RunOptions) (plan : List ℕ) → command_of words ≡ Some (commands.Run options plan)
-    → AreRun options × RunRows options 0 plan o status
+    → AreRun options × RunRows options options.processors plan o status
 
 -- those of `serial` hold where they ask for it, with as many turns
 abbrev pub InterpretsByWords : List (List ℕ) → Outside → Status → Type 0

@@ -22,11 +22,12 @@ use ppm_ports::{Sink, Source, Watch};
 use ppm_words::NoMemory;
 use std::alloc::Global;
 use std::sync::Wait;
+use std::thread::Threads;
 
 /// Does what the words ask for: the bytes of `source` are read, the texts of the answer are written
-/// on `out` and `err`. The first word is the program's name. No watcher is told anything yet. A run
-/// may never return.
-pub fn ppm<R: Wait, S: Source, K: Sink, E: Sink, W: Watch>(
+/// on `out` and `err`. The first word is the program's name. The watchers of a run's processors are
+/// told every turn. A run may never return.
+pub fn ppm<R: Threads + Wait + Sync, S: Source, K: Sink, E: Sink, W: Watch>(
     rt: &R,
     alloc: Global,
     words: &[String],
@@ -61,7 +62,7 @@ pub fn ppm<R: Wait, S: Source, K: Sink, E: Sink, W: Watch>(
 }
 
 /// Does the command that the words give, or answers that they give none.
-fn answer_words<R: Wait, S: Source, K: Sink, E: Sink, W: Watch>(
+fn answer_words<R: Threads + Wait + Sync, S: Source, K: Sink, E: Sink, W: Watch>(
     rt: &R,
     alloc: Global,
     words: &[String],

@@ -1,0 +1,117 @@
+-- What watchers were told, as lists: behind a drive, and where there was none.
+use Rattle.std.proofs.Common.{◌≡◌, ◌<◌, ◌≤◌, ℕ, zero, suc, nat_lt, Bool, true, false, List, [], ◌∷◌, ◌++◌, length, map, get_or, slice_index_or, Option, Some, None, refl, sym, ap, ◌∙◌, subst, arith}
+use Rattle.std.proofs.lemmas.List.{append_nil}
+use Rattle.ppm_words.specs.declared.event.Event.{Event}
+use Rattle.ppm_ports.specs.Outside.{ToldLists, KeepFronts}
+use Rattle.ppm_ports.specs.Told.{AppendsList, KeepsFront, KeepsList}
+use Rattle.ppm_core.specs.Situation.{loaded}
+use Rattle.ppm_plan.specs.Schedules.{Planned}
+use Rattle.ppm_choice.specs.declared.limits.Limits.{Limits}
+use Rattle.ppm_choice.specs.Tells.{told_in}
+use Rattle.ppm_table.specs.declared.view.Opening.{Opening}
+use Rattle.ppm_table.specs.Run.{start}
+use Rattle.ppm_table.specs.Telling.{Keeps}
+use Rattle.ppm_threads.specs.Driven.{AllKeep, Driven}
+use Rattle.ppm_answers.specs.declared.answer.Answer.{Answer}
+use Rattle.ppm_answers.specs.declared.answer.Answer.TheVariants as answers
+use Rattle.ppm_driver.specs.Runs.{RunTells}
+use Rattle.ppm_driver.specs.Watchers.{AreTold}
+
+-- a list stays as it is
+pub stays : (l : Option (List Event)) → KeepsList l l
+stays None = tt
+stays (Some l) = refl
+
+-- and so it keeps its front
+front_stays : (l : Option (List Event)) → KeepsFront l l
+front_stays None = tt
+front_stays (Some l) = ([], sym (append_nil l))
+
+pub fronts_stay : (lists : ToldLists) → KeepFronts lists lists
+fronts_stay [] = tt
+fronts_stay (l ∷ ls) = (front_stays l, fronts_stay ls)
+
+-- where nobody was told anything, that belongs to each answer
+pub untold : (a : Answer) (lists : ToldLists) → RunTells a lists lists
+untold answers.NoMemory lists = fronts_stay lists
+untold answers.ReadFault lists = refl
+untold answers.WordsRefused lists = refl
+untold (answers.PlanRefused number) lists = refl
+untold (answers.SourceRefused r) lists = refl
+untold (answers.ListingRefused r) lists = refl
+untold (answers.Conflicting c) lists = refl
+untold (answers.Ended arrays) lists = tt
+untold (answers.Trapped t line) lists = tt
+untold (answers.EndedWith arrays tally) lists = tt
+untold (answers.TrappedWith t line tally) lists = tt
+untold (answers.Unfinished acts) lists = tt
+untold (answers.NotWithin turns) lists = tt
+untold (answers.OutOfTurns processor) lists = tt
+untold (answers.OutOfRoom place) lists = tt
+untold (answers.Broken place) lists = tt
+untold (answers.Listed listing) lists = tt
+untold answers.Accepted lists = tt
+
+module _ {W : Type 0} (told : W → Option (List Event)) where
+  -- a list by its number
+  list_at : (ws : List W) (c : ℕ) (d : W) → c < length ws → get_or (map told ws) c None ≡ told (slice_index_or ws c d)
+  list_at [] c d less = absurd (omega (arith, less))
+  list_at (w ∷ ws) zero d less = refl
+  list_at (w ∷ ws) (suc c) d less = list_at ws c d (omega (arith, less))
+
+  none_at : (ws : List W) (c : ℕ) → length ws ≤ c → get_or (map told ws) c None ≡ None
+  none_at [] c least = refl
+  none_at (w ∷ ws) zero least = absurd (omega (arith, least))
+  none_at (w ∷ ws) (suc c) least = none_at ws c (omega (arith, least))
+
+  -- each keeps its front
+  known_front : (before now : Option (List Event)) → Keeps before now → KeepsFront before now
+  known_front None now k = tt
+  known_front (Some before) None k = let h = k before refl in let e : None ≡ Some (before ++ h.0) = h.1 in cc
+  known_front (Some before) (Some now) k =
+      let h = k before refl in let e : Some now ≡ Some (before ++ h.0) = h.1 in let same : now ≡ before ++ h.0 = cc in (h.0, same)
+
+  pub keep_fronts : (old new : List W) → length new ≡ length old → AllKeep told old new → KeepFronts (map told old) (map told new)
+  keep_fronts [] [] e k = tt
+  keep_fronts [] (v ∷ vs) e k = absurd (omega (arith, e))
+  keep_fronts (w ∷ ws) [] e k = absurd (omega (arith, e))
+  keep_fronts (w ∷ ws) (v ∷ vs) e k =
+      (known_front (told w) (told v) (k 0 w), keep_fronts ws vs (omega (arith, e)) (λ j d. k (suc j) d))
+
+  module _ (plan : Planned) (limits : Limits) (k : Opening) (words lengths : List ℕ) (watching : ℕ) where
+    -- a list is told what is told of its processor, and those of no processor stay
+    appends : (old new : List W) (w : W) (d : Driven told plan limits k words old new) (c : ℕ) → c < k.shape.processors
+        → c < length old → c < length new
+        → AppendsList (get_or (map told old) c None) (get_or (map told new) c None) (told_in plan limits c k.shape k.code (start k) d.turns)
+    appends old new w d c there less below =
+        subst (λ (l : Option (List Event)). AppendsList l (get_or (map told new) c None) (told_in plan limits c k.shape k.code (start k) d.turns))
+        (sym (list_at old c w less))
+        (subst (λ (l : Option (List Event)). AppendsList (told (slice_index_or old c w)) l
+            (told_in plan limits c k.shape k.code (start k) d.turns)) (sym (list_at new c w below)) (d.told_are c w there))
+
+    same_list : (old new : List W) (w : W) (d : Driven told plan limits k words old new) (c : ℕ) → k.shape.processors ≤ c
+        → c < length old → c < length new → KeepsList (get_or (map told old) c None) (get_or (map told new) c None)
+    same_list old new w d c least less below =
+        subst (λ (l : Option (List Event)). KeepsList (get_or (map told old) c None) l)
+        (list_at old c w less ∙ ap told (sym (d.others c w least)) ∙ sym (list_at new c w below)) (stays (get_or (map told old) c None))
+
+    far_list : (old new : List W) (c : ℕ) → length old ≤ c → KeepsList (get_or (map told old) c None) (get_or (map told new) c None)
+    far_list old new c far = subst (λ (l : Option (List Event)). KeepsList l (get_or (map told new) c None)) (sym (none_at old c far)) tt
+
+    kept_list : (old new : List W) (w : W) (d : Driven told plan limits k words old new) (c : ℕ) → k.shape.processors ≤ c
+        → length new ≡ length old → (less : Bool) → nat_lt c (length old) ≡ less
+        → KeepsList (get_or (map told old) c None) (get_or (map told new) c None)
+    kept_list old new w d c least same true e =
+        let less : c < length old = omega (arith, e) in same_list old new w d c least less (omega (arith, less, same))
+    kept_list old new w d c least same false e = far_list old new c (omega (arith, e))
+
+    -- so the watchers were told what belongs to these turns
+    pub are_told : (old new : List W) (w : W) → length new ≡ length old → k.shape.processors ≤ length old → watching ≡ k.shape.processors
+        → (d : Driven told plan limits k words old new)
+        → AreTold watching plan limits (map told old) (map told new) (loaded k.shape k.code lengths k.words) d.turns
+    are_told old new w same enough all d = record {
+      records = λ c less.
+          let there : c < k.shape.processors = omega (arith, less, all) in
+          appends old new w d c there (omega (arith, there, enough)) (omega (arith, there, enough, same));
+      others = λ c least. kept_list old new w d c (omega (arith, least, all)) same (nat_lt c (length old)) refl;
+    }
