@@ -48,7 +48,7 @@ fn meaning_of(status: Status) -> &'static str {
         Status::WordsRefused => {
             "words refused; or of a plan or a schedule `plan refused: N`, by N: 1 an item has\n       \
              no form, 2 a processor or a victim is not there, 3 more than 4,096 items, 4 no\n       \
-             processor is spared, as by any hard fault of the one processor of `run`"
+             processor is spared, as by a hard fault where there is one processor"
         }
         Status::OutOfTurns => {
             "of `run` `out of turns: processor C`, which spent --turns; of `replay`\n       \

@@ -20,7 +20,7 @@ pub(crate) const BEHIND: &str = "to come: self, stop, resume, ram\n";
 /// What a command is for.
 pub(crate) fn purpose_of(command: &str) -> &'static str {
     match command {
-        "run" => "compiles a source, and one processor runs its capsules under a plan of faults",
+        "run" => "compiles a source, and threads run its capsules under a plan of faults",
         "serial" => "interprets a source by its serial meaning",
         "code" => "compiles a source, and writes the listing of its capsules",
         "check" => "whether the capsules of a listing may be run again; races are not asked",
@@ -32,7 +32,7 @@ pub(crate) fn purpose_of(command: &str) -> &'static str {
 /// The words behind the command in an example.
 pub(crate) fn example_of(command: &str) -> &'static str {
     match command {
-        "run" => "--faults 0@5s,0@40s,0@41s < examples/sum.ppm",
+        "run" => "--processors 3 --faults 0@5s,0@40s,1@90h < examples/sum.ppm",
         "serial" => "< examples/mergesort.ppm",
         "code" => "< examples/first.ppm",
         "check" => "< examples/conflict.listing",
@@ -48,12 +48,12 @@ pub(crate) fn meaning_of(command: &str, option: &str) -> &'static str {
         "turns" => turns_of(command),
         "room" => "words of a place's pool; blocks are not reused",
         "slots" => "entries of a place's deque",
-        "looks" => "looks for work until it is idle; without effect yet",
-        "seed" => "where random victims begin; without effect yet",
-        "faults" => "as 0@5s,0@40s: soft faults of 0 (docs/PLANS.md)",
+        "looks" => "looks for work in a row until a processor rests",
+        "seed" => "where the random victims begin",
+        "faults" => "as 0@5s,1@9h: soft and hard faults (docs/PLANS.md)",
         "schedule" => "as 0*9,1>0,1!h: acts, a victim, a hard fault",
-        "takeover" => takeover_of(command),
-        "idle" => "what a processor without work does; without effect yet",
+        "takeover" => "what others take over of a processor that stopped",
+        "idle" => "one that rests makes no more acts, or sleeps",
         _ => NO_WORDS,
     }
 }
@@ -64,15 +64,6 @@ fn turns_of(command: &str) -> &'static str {
         "run" => "work turns that each processor may make",
         "serial" => "turns of the meaning (docs/LANGUAGE.md)",
         "replay" => "acts that all processors may make together",
-        _ => NO_WORDS,
-    }
-}
-
-/// What the choice of a takeover does in a command.
-fn takeover_of(command: &str) -> &'static str {
-    match command {
-        "run" => "entry: a work turn more for each fork that is pushed",
-        "replay" => "what others take over of a processor that stopped",
         _ => NO_WORDS,
     }
 }
