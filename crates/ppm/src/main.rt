@@ -39,9 +39,10 @@ fn main(rt: HostRuntime) -> ExitCode {
     )
 }
 
-/// Does what the words of the command line ask for, and tells no watcher anything. The exit code is
-/// the number of the status. Where memory is refused for the words or the watchers, nothing is
-/// read, and the answer is out of memory.
+/// Does what the words of the command line ask for. Its watchers are silent: they show nothing of
+/// what they are told, and never refuse. The exit code is the number of the status. Where memory is
+/// refused for the words or the watchers, nothing is read, and the answer is out of memory. A run
+/// may never return.
 fn program<R: Threads + Wait + Sync, S: Source, K: Sink, E: Sink>(
     rt: &R,
     alloc: Global,

@@ -1,4 +1,5 @@
-//! What is answered behind a run, by the finish word: these arrays with their values, the trap, or why there are none. `Err` comes only where memory is refused.
+//! What is answered behind a run, by the finish word: these arrays with their values, the trap, or
+//! why there are none. `Err` comes only where memory is refused.
 ghost use Rattle.std.specs.Prelude.{◌≡◌, IfOk, length, map};
 ghost use Rattle.ppm_core.specs.Machine.{seen};
 ghost use Rattle.ppm_driver.specs.Says.{IsTheOne};

@@ -26,7 +26,8 @@ use std::thread::Threads;
 
 /// Does what the words ask for: the bytes of `source` are read, the texts of the answer are written
 /// on `out` and `err`. The first word is the program's name. The watchers of a run's processors are
-/// told every turn. A run may never return.
+/// told every turn, and where they park; where one refuses, the answer is out of memory. A run may
+/// never return.
 pub fn ppm<R: Threads + Wait + Sync, S: Source, K: Sink, E: Sink, W: Watch>(
     rt: &R,
     alloc: Global,
