@@ -52,6 +52,11 @@ untold (answers.Broken place) lists = tt
 untold (answers.Listed listing) lists = tt
 untold answers.Accepted lists = tt
 
+-- the first watcher of some
+pub first_of : {W : Type 0} (ws : List W) → 0 < length ws → W
+first_of [] some = absurd (omega (arith, some))
+first_of (w ∷ ws) some = w
+
 module _ {W : Type 0} (told : W → Option (List Event)) where
   -- a list by its number
   list_at : (ws : List W) (c : ℕ) (d : W) → c < length ws → get_or (map told ws) c None ≡ told (slice_index_or ws c d)

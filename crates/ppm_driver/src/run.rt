@@ -166,7 +166,8 @@ fn ran<R: Threads + Wait + Sync, W: Watch>(
     ensures kept { KeepFronts (map W.told watch.old.items) (map W.told watch.new.items) }
     ensures watchers { length watch.new.items ≡ watcher_count }
 {
-    let (shared, processors) = share(alloc, sizes_of(options), program, plan.keeper())?;
+    let table = share(alloc, sizes_of(options), program, plan.keeper())?;
+    let (shared, processors) = table;
     // What the type of its code keeps is known once its parts were seen.
     let _ = shared.code.parts();
     let closed = drive(

@@ -1,21 +1,34 @@
-use Rattle.std.proofs.Common.{◌≡◌, ap, ◌∙◌, subst, arith}
+use Rattle.std.proofs.Common.{◌≡◌, ◌≤◌, ◌∙◌, sym, ap, subst, arith, length}
+use Rattle.ppm_cells.specs.declared.shape.Shape.{Shape}
 use Rattle.ppm_code.specs.Code.{IsCode}
 use Rattle.ppm_tree.specs.Tree.{tree_of}
-use Rattle.ppm_driver.specs.declared.loading.Sizes.{Sizes}
 use Rattle.ppm_driver.proofs.ExactLemmas.{code_opened}
-use Rattle.ppm_driver.proofs.LoadingLemmas.{opens_processors}
 use Rattle.ppm_driver.proofs.RunLemmas.{program_has}
+use Rattle.ppm_driver.proofs.WatchLemmas.{first_of, fronts_stay, keep_fronts}
 use Rattle.ppm_driver.proofs.run.ran.Goals as goal
 
--- what is said of the machine behind the run, in which the one processor obeys
-pub returns : goal.returns
-returns g c told =
+-- what is said of the words behind the run, in which all processors obey, and what watchers were told of it
+pub returns-clause-has : goal.returns-clause-has
+returns-clause-has g c =
     let t = tree_of c.args.program.now in
-    let one : c.args.options.processors ≡ 1 = omega (arith, c.requires.options.0.0, c.requires.options.0.1) in
-    let there = opens_processors _ _ _ _ _ c.in_ok-machine.ensures in
-    let sized : c.sizes_of.result.processors ≡ c.args.options.processors = ap (λ (s : Sizes). s.processors) c.sizes_of.ensures in
-    let alone = there ∙ sized ∙ one in
-    program_has c.args.options c.args.plan.now t _ _ _ _ _ _ _ c.sizes_of.ensures c.limits_of.ensures c.requires.processors
-    c.keeper.ensures.keeper c.in_ok-machine.ensures
-    (code_opened _ _ _ _ _ c.in_ok-machine.ensures (subst IsCode c.code.ensures c.parts.ensures.code)) (c.obey.ensures.all alone)
-    (c.arrays.ensures.value ∙ c.input.ensures.value) c.in_ok-answer.ensures told
+    let n = c.args.watch.now.ok.0 in
+    let some : 0 < length c.args.watch.now.items = omega (arith, c.requires.watchers) in
+    let enough : c.args.options.processors ≤ length c.args.watch.now.items = omega (arith, c.requires.watchers, c.requires.options.0.1) in
+    program_has g.W.Watch.told c.args.options c.args.plan.now t _ _ _ _ _ _ _ (first_of c.args.watch.now.items some) _ _ c.sizes_of.ensures
+    c.limits_of.ensures c.requires.processors c.keeper.ensures.keeper c.in_ok-table.ensures.opens
+    (code_opened _ _ _ _ _ c.in_ok-table.ensures.opens (subst IsCode c.code.ensures c.parts.ensures.code))
+    c.in_ok-closed.ensures.kept.0 enough c.in_ok-closed.ensures.sizes.0 c.in_ok-closed.ensures.sizes.1 c.in_ok-closed.ensures.run
+    (c.arrays.ensures.value ∙ c.input.ensures.value) c.in_ok-answer.ensures
+
+-- each list keeps what it had in front
+pub returns-clause-kept : goal.returns-clause-kept
+returns-clause-kept g c = keep_fronts g.W.Watch.told _ _ c.in_ok-closed.ensures.kept.0 c.in_ok-closed.ensures.kept.1
+
+pub returns-in_err-table-clause-kept : goal.returns-in_err-table-clause-kept
+returns-in_err-table-clause-kept g c = fronts_stay _
+
+pub returns-in_err-closed-clause-kept : goal.returns-in_err-closed-clause-kept
+returns-in_err-closed-clause-kept g c = keep_fronts g.W.Watch.told _ _ c.in_err-closed.ensures.kept.0 c.in_err-closed.ensures.kept.1
+
+pub returns-in_err-answer-clause-kept : goal.returns-in_err-answer-clause-kept
+returns-in_err-answer-clause-kept g c = keep_fronts g.W.Watch.told _ _ c.in_ok-closed.ensures.kept.0 c.in_ok-closed.ensures.kept.1
