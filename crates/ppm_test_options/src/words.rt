@@ -10,7 +10,7 @@ use std::test::Fail;
 
 /// The options of a run of which the words give none.
 const RUN: RunOptions = RunOptions {
-    processors: 1,
+    processors: 4,
     turns: 16_777_216,
     room: 65_536,
     slots: 4_096,
@@ -126,7 +126,7 @@ fn words_give_a_run(rt: HostRuntime) -> Result<(), Fail> {
         idle: Idle::Park,
     };
     let most = RunOptions {
-        processors: 1,
+        processors: 64,
         turns: 268_435_456,
         room: 1_048_576,
         slots: 65_536,
@@ -136,8 +136,15 @@ fn words_give_a_run(rt: HostRuntime) -> Result<(), Fail> {
         idle: Idle::Leave,
     };
     let cases: [(&[&str], RunOptions, &str); 17] = [
-        (&["--processors", "1"], RUN, "none"),
-        (&["--processors=+001"], RUN, "none"),
+        (
+            &["--processors", "2"],
+            RunOptions {
+                processors: 2,
+                ..RUN
+            },
+            "none",
+        ),
+        (&["--processors=+004"], RUN, "none"),
         (&["--turns", "5"], RunOptions { turns: 5, ..RUN }, "none"),
         (&["--room", "64"], RunOptions { room: 64, ..RUN }, "none"),
         (&["--slots", "64"], RunOptions { slots: 64, ..RUN }, "none"),
@@ -196,6 +203,8 @@ fn words_give_a_run(rt: HostRuntime) -> Result<(), Fail> {
                 "1048576",
                 "--turns",
                 "268435456",
+                "--processors",
+                "64",
             ],
             most,
             "none",
@@ -305,7 +314,7 @@ fn values_are_refused(
 #[test]
 fn values_out_of_form_are_refused(rt: HostRuntime) -> Result<(), Fail> {
     let cases: [OptionCase; 15] = [
-        ("run", "--processors", "1", &["0", "2", "one", "+", ""]),
+        ("run", "--processors", "1", &["0", "65", "one", "+", ""]),
         ("run", "--turns", "1", &["0", "268435457"]),
         ("run", "--room", "64", &["63", "1048577"]),
         ("run", "--slots", "2", &["1", "65537"]),

@@ -562,7 +562,7 @@ fn words_are_judged_before_anything_is_read(rt: HostRuntime) -> Result<(), Fail>
         &["ppm", "walk"],
         &["ppm", "run", "--turns", "0"],
         &["ppm", "code", "x"],
-        &["ppm", "run", "--processors", "2"],
+        &["ppm", "run", "--processors", "65"],
         &["ppm", "run", "--processors"],
     ];
     for words in refused {
@@ -573,7 +573,7 @@ fn words_are_judged_before_anything_is_read(rt: HostRuntime) -> Result<(), Fail>
     }
     // So it is where a plan or a schedule is refused.
     let planned: [&[&str]; 2] = [
-        &["ppm", "run", "--faults", "0@0h"],
+        &["ppm", "run", "--processors", "1", "--faults", "0@0h"],
         &["ppm", "replay", "--processors", "1", "--schedule", "0!h"],
     ];
     for words in planned {
@@ -691,20 +691,25 @@ fn recorders(alloc: Global) -> Result<Vec<Recorder>, Fail>
     Ok(all)
 }
 
-#[test]
-fn watchers_are_told_nothing(rt: HostRuntime) -> Result<(), Fail> {
-    let alloc = rt.alloc();
+/// The watchers behind a call of the program over a source, which ends with such a status.
+fn watched(
+    rt: &(impl Abort + Threads + Wait + Sync),
+    alloc: Global,
+    words: &[&str],
+    text: &str,
+    want: Status,
+) -> Result<Vec<Recorder>, Fail> {
     let mut watch = recorders(alloc)?;
     let mut given = Vec::new(alloc);
-    for word in RUN {
+    for word in words {
         given.push(String::from_str(alloc, word)?)?;
     }
-    let bytes = FIRST.as_bytes().to_vec(alloc)?;
+    let bytes = text.as_bytes().to_vec(alloc)?;
     let mut source = MemorySource::new(bytes, 9, Vec::new(alloc));
     let mut out = sink(alloc, 9, &[])?;
     let mut err = sink(alloc, 9, &[])?;
     let status = ppm(
-        &rt,
+        rt,
         alloc,
         &given,
         &mut source,
@@ -712,10 +717,41 @@ fn watchers_are_told_nothing(rt: HostRuntime) -> Result<(), Fail> {
         &mut err,
         &mut watch,
     );
-    assert_eq!(rt; status, Status::Ended);
-    assert_eq!(rt; out.bytes(), b"a 5 7\n".as_slice());
-    for recorder in &watch {
-        assert_eq!(rt; recorder.events().len(), 0);
+    assert_eq!(rt; status, want, "{text}");
+    Ok(watch)
+}
+
+/// Words, texts and statuses, and of how many processors the watchers are told something.
+const WATCHED: [(&[&str], &str, Status, usize); 6] = [
+    (&["ppm", "run", "--processors", "1"], FIRST, Status::Ended, 1),
+    (
+        &["ppm", "run", "--processors", "1", "--turns", "5"],
+        FIRST,
+        Status::OutOfTurns,
+        1,
+    ),
+    (&["ppm", "run"], "proc main(", Status::SourceRefused, 0),
+    (
+        &["ppm", "run", "--faults", "x"],
+        FIRST,
+        Status::WordsRefused,
+        0,
+    ),
+    (&["ppm", "serial"], FIRST, Status::Ended, 0),
+    (&["ppm", "replay"], FIRST, Status::Ended, 0),
+];
+
+#[test]
+fn watchers_of_a_run_are_told(rt: HostRuntime) -> Result<(), Fail> {
+    for (words, text, status, told) in WATCHED {
+        let watch = watched(&rt, rt.alloc(), words, text, status)?;
+        let mut some = 0usize;
+        for recorder in &watch {
+            if !recorder.events().is_empty() {
+                some += 1;
+            }
+        }
+        assert_eq!(&rt; some, told, "{words:?}");
     }
     Ok(())
 }
