@@ -1,0 +1,202 @@
+-- What a processor does at its place is what the frames see there; addresses of pools; and where the
+-- homes of branches stand in the tree.
+use Rattle.std.proofs.Common.{◌≡◌, ◌⊎◌, ◌≤◌, ◌<◌, ℕ, ◌+◌, ◌-◌, ◌==◌, ◌&&◌, Bool, true, false, if◌then◌else◌, List, inl, inr, refl, sym, ap, ◌∙◌, subst, arith}
+use Rattle.std.specs.Prelude.{nat_lt, nat_le, slice_get}
+use Rattle.std.proofs.lemmas.Bool.{eq-eqb, ltb-true, leb-true, cases_lt, cases_Bool}
+use Rattle.ppm_strands.specs.Tree.{Words, Tree}
+use Rattle.ppm_cells.specs.Cells.{IsInPool, pool_at}
+use Rattle.ppm_cells.specs.Memory.{read}
+use Rattle.ppm_cells.specs.Restart.{restart_of}
+use Rattle.ppm_cells.specs.declared.cell.Cell.{Cell}
+use Rattle.ppm_cells.specs.declared.cell.Cell.TheVariants.{FinishWord, CarryWord, DeadWord, RestartWord, MessageWord, HolderWord, Top, RoomCounter, EntryWord, BlockWord, ArrayWord}
+use Rattle.ppm_cells.specs.declared.link.LinkKind.TheVariants.{Root}
+use Rattle.ppm_cells.specs.declared.restart.Restart.{Restart}
+use Rattle.ppm_cells.specs.declared.restart.RestartKind.{RestartKind}
+use Rattle.ppm_cells.specs.declared.restart.RestartKind.TheVariants.{Seek}
+use Rattle.ppm_cells.specs.declared.shape.Shape.{Shape}
+use Rattle.ppm_capsules.specs.Strand.{Frame}
+use Rattle.ppm_code.specs.Strands.{Point, Result}
+use Rattle.ppm_code.specs.declared.code.CodeParts.{CodeParts}
+use Rattle.ppm_code.specs.declared.location.FrameWord.{FrameWord}
+use Rattle.ppm_step.specs.Frames.{Rest}
+use Rattle.ppm_step.specs.Standings.{Standing, IsWithin, IsRunning, row_is_there, rest_is_there}
+use Rattle.ppm_step.specs.State.{State as RunState, stand_of}
+use Rattle.ppm_step.specs.declared.row.Row.{Row}
+use Rattle.ppm_step.specs.declared.row.Seat.{Seat}
+use Rattle.ppm_tickets.specs.Along.{IsPooled}
+use Rattle.ppm_tickets.specs.Homes.{Home}
+use Rattle.ppm_tickets.specs.Lawful.{Names}
+use Rattle.ppm_tickets.specs.Saw.{Carried, Sits, HasSeen, Sees, IsStrand, IsModest, Lawful}
+use Rattle.ppm_tickets.specs.View as spots
+use Rattle.ppm_tickets.specs.Words.{Word, Empty, Local, Job, Taken, Held, Number, Linked, Restarts, Unread, Spot, Holder}
+use Rattle.ppm_frames.specs.Views.{place_of, in_pool, is_cell, view}
+use Rattle.ppm_frames.specs.Skeletons.{Skeleton, Around, Top as Whole, AtCall, AtLeft, AtRight, plug}
+use Rattle.ppm_kept.specs.Running.{IsFair}
+use Rattle.ppm_kept.specs.Kept.{Image, Doing, Resting, InRow, InRest, State, Does, Head, start, end_of, owner, ceiling, IsKept}
+use Rattle.ppm_runs.specs.Run.{image, named, doing_if, doing_there, doing_at, shown, AreHomed, IsRun}
+
+-- a holder word that names a processor
+named_is : (w : Word) (c : ℕ) → Names w c → named w ≡ c
+named_is (Held t x) c n = n
+named_is (Empty t) c n = absurd n
+named_is (Local t x) c n = absurd n
+named_is (Job t x) c n = absurd n
+named_is (Taken t x) c n = absurd n
+named_is (Number x) c n = absurd n
+named_is (Linked link) c n = absurd n
+named_is (Restarts kind bottom) c n = absurd n
+named_is Unread c n = absurd n
+
+-- there, with the place's own number
+if_own : (p : ℕ) (d : Doing) → doing_if (p == p) d ≡ d
+if_own p d = ap (λ (b : Bool). doing_if b d) (eq-eqb p p refl)
+
+-- both parts of a test
+both_left : (a b : Bool) → (a && b) ≡ true → a ≡ true
+both_left true b e = refl
+both_left false b e = absurd (cc)
+
+both_right : (a b : Bool) → (a && b) ≡ true → b ≡ true
+both_right true b e = e
+both_right false b e = absurd (cc)
+
+-- an address of a pool, by division
+pub pool_is : (s : Shape) (at : ℕ) → in_pool s at ≡ true → IsInPool s at
+pool_is s at e =
+    let first = both_left (nat_lt (place_of s at) s.processors) _ e in
+    let rest = both_right (nat_lt (place_of s at) s.processors) _ e in
+    let low = both_left (nat_le (pool_at s (place_of s at)) at) _ rest in
+    let high = both_right (nat_le (pool_at s (place_of s at)) at) _ rest in
+    record {
+      place = place_of s at;
+      is_place = ltb-true (place_of s at) s.processors first;
+      begun = leb-true (pool_at s (place_of s at)) at low;
+      ended = ltb-true at (pool_at s (place_of s at) + s.room) high;
+    }
+
+-- a cell that frames have is pooled
+pub cell_pooled : (s : Shape) (cell : Cell) → is_cell s cell ≡ true → IsPooled s cell
+cell_pooled s (BlockWord at) e = pool_is s at e
+cell_pooled s FinishWord e = tt
+cell_pooled s (CarryWord c) e = tt
+cell_pooled s (DeadWord c) e = tt
+cell_pooled s (RestartWord p) e = tt
+cell_pooled s (MessageWord p) e = tt
+cell_pooled s (HolderWord p) e = tt
+cell_pooled s (Top p) e = tt
+cell_pooled s (RoomCounter p) e = tt
+cell_pooled s (EntryWord p i) e = tt
+cell_pooled s (ArrayWord x) e = tt
+
+-- a place that is not there seeks
+pub absent_seeks : (s : Shape) (words : List ℕ) (p : ℕ) → s.processors ≤ p → spots.kinds s words p ≡ Seek
+absent_seeks s words p far = by (nat_lt p s.processors) refl
+  where
+    by : (b : Bool) → nat_lt p s.processors ≡ b → (if b then spots.restart_or (restart_of (read s words (RestartWord p))) else spots.seeking).kind ≡ Seek
+    by true e = absurd (let lt = ltb-true p s.processors e in omega (arith, lt, far))
+    by false e = refl
+
+-- and its pool is empty
+absent_counter : (s : Shape) (words : List ℕ) (p : ℕ) → s.processors ≤ p → view s words (RoomCounter p) ≡ pool_at s p
+absent_counter s words p far = by (nat_lt p s.processors) refl
+  where
+    by : (b : Bool) → nat_lt p s.processors ≡ b → view s words (RoomCounter p) ≡ pool_at s p
+    by true e = absurd (let lt = ltb-true p s.processors e in omega (arith, lt, far))
+    by false e = unfolding view in ap (λ (b : Bool). if b then read s words (RoomCounter p) else pool_at s p) e
+
+-- the right branch of a fork is where its home says, deep in the tree
+pub homed_here : (h : ℕ → Home) (c : Around) (u : Skeleton) → AreHomed h (plug c u) → AreHomed h u
+homed_here h Whole u a = a
+homed_here h (AtCall f n y c) u a = homed_here h c u a
+homed_here h (AtLeft f n y r c b) u a = homed_here h c u a.1
+homed_here h (AtRight f n y r b c) u a = homed_here h c u a.2
+
+module _ (s : Shape) (code : CodeParts) (root : Tree (Frame FrameWord Point) Result) (input : Words) (state : RunState) (h : ℕ → Home) (forked taken : List ℕ) (t : Skeleton) (run : IsRun s code root input state h forked taken t) where
+  abbrev i : Image
+  i = image s code
+
+  abbrev z : State
+  z = shown s state
+
+  abbrev law : IsKept i root input z t
+  law = run.kept
+
+  abbrev m : Spot → Word
+  m = spots.view s state.words
+
+  abbrev k : ℕ → RestartKind
+  k = spots.kinds s state.words
+
+  abbrev b : ℕ → ℕ
+  b = spots.bottoms s state.words
+
+  -- who carries a place is named by its holder word
+  carrier : (c p : ℕ) → Carried s m c p → named (m (Holder p)) ≡ c
+  carrier c p carried = named_is (m (Holder p)) c (run.lawful.1.holding.held c p carried.lives.alive carried.carry)
+
+  -- what a row's processor has seen, and what is under way at its place
+  pub record Within (c : ℕ) (seat : Seat) (row : Row) : Type 0 where
+    pub sits : Sits s m k b c seat
+    pub seen : HasSeen s (spots.with_restarts m k b) seat row
+    pub here : row_is_there s seat row ≡ true
+    pub place : seat.place < s.processors
+    pub kind : z.kind seat.place ≡ seat.restart.kind
+    pub does : Does i z.words seat.place seat.restart.kind (InRow row)
+
+  pub within : (c : ℕ) (seat : Seat) (row : Row) → stand_of state c ≡ IsWithin seat row → Within c seat row
+  within c seat row e =
+      let sees : Sees s m k b c (IsWithin seat row) = subst (Sees s m k b c) e (run.lawful.1.sees c) in
+      let is : doing_at s state seat.place ≡ InRow row =
+          ap (λ (x : ℕ). doing_there seat.place (stand_of state x)) (carrier c seat.place sees.0.carried)
+          ∙ ap (doing_there seat.place) e ∙ if_own seat.place (InRow row) in
+      let does = subst (Does i z.words seat.place (z.kind seat.place)) is (law.does seat.place) in
+      record {
+        sits = sees.0;
+        seen = sees.1;
+        here = sees.2;
+        place = sees.0.carried.place;
+        kind = sees.0.at.kind;
+        does = subst (λ (a : RestartKind). Does i z.words seat.place a (InRow row)) sees.0.at.kind does;
+      }
+
+  pub doing_row : (c : ℕ) (seat : Seat) (row : Row) → stand_of state c ≡ IsWithin seat row → z.doing seat.place ≡ InRow row
+  doing_row c seat row e =
+      let sees : Sees s m k b c (IsWithin seat row) = subst (Sees s m k b c) e (run.lawful.1.sees c) in
+      ap (λ (x : ℕ). doing_there seat.place (stand_of state x)) (carrier c seat.place sees.0.carried)
+      ∙ ap (doing_there seat.place) e ∙ if_own seat.place (InRow row)
+
+  -- so of a capsule under way
+  pub record Runs (c : ℕ) (seat : Seat) (rest : Rest) : Type 0 where
+    pub here : rest_is_there s seat rest ≡ true
+    pub place : seat.place < s.processors
+    pub doing : z.doing seat.place ≡ InRest rest
+    pub does : Does i z.words seat.place (z.kind seat.place) (InRest rest)
+
+  pub runs : (c : ℕ) (seat : Seat) (rest : Rest) → stand_of state c ≡ IsRunning seat rest → Runs c seat rest
+  runs c seat rest e =
+      let sees : Sees s m k b c (IsRunning seat rest) = subst (Sees s m k b c) e (run.lawful.1.sees c) in
+      let is : doing_at s state seat.place ≡ InRest rest =
+          ap (λ (x : ℕ). doing_there seat.place (stand_of state x)) (carrier c seat.place sees.0.carried)
+          ∙ ap (doing_there seat.place) e ∙ if_own seat.place (InRest rest) in
+      record {
+        here = sees.3;
+        place = sees.0.carried.place;
+        doing = is;
+        does = subst (Does i z.words seat.place (z.kind seat.place)) is (law.does seat.place);
+      }
+
+  -- an order word of the tree is one of a pool
+  pub head_pool : (x : ℕ) → Head i z t x → IsInPool s x
+  head_pool x head = elim (cases_lt (owner i x) s.processors) [
+    | inl lt ↦ record {
+      place = owner i x;
+      is_place = lt;
+      begun = head.first;
+      ended = let r = (law.rooms (owner i x)).1 in let u = head.under in omega (arith, r, u);
+    }
+    | inr far ↦ absurd (
+        let seeks = absent_seeks s state.words (owner i x) far in
+        let empty = absent_counter s state.words (owner i x) far in
+        let under : x < ceiling i z.words (owner i x) Seek = subst (λ (a : RestartKind). x < ceiling i z.words (owner i x) a) seeks head.under in
+        let first = head.first in omega (arith, under, empty, first))
+  ]
