@@ -55,9 +55,8 @@ use Rattle.ppm_kept.proofs.JoiningLemmas.{Comes, joins as joins_leaf, inline_lat
 use Rattle.ppm_kept.proofs.Rows.{run_row_keeps}
 use Rattle.ppm_kept.proofs.UnwindRow.{unwind_row_keeps}
 use Rattle.ppm_kept.proofs.ArriveRow.{arrive_row_keeps}
-use Rattle.ppm_kept.proofs.JoinLastRow.{join_row_keeps}
 use Rattle.ppm_kept.proofs.TurnLemmas.{stores_are_cells}
-use Rattle.ppm_runs.specs.Run.{image, shown, IsUnpushed, IsLeft, IsToTake, IsHomed, AreHomed, IsRun}
+use Rattle.ppm_runs.specs.Run.{image, shown, IsAtLast, IsLeft, IsHomed, AreHomed, IsRun}
 use Rattle.ppm_runs.specs.Laws.{Owes, TurnsAreOrderly}
 use Rattle.ppm_runs.proofs.TameLemmas.{May, TameRow, TameThen, rest_tame, reach_tame}
 use Rattle.ppm_runs.proofs.ShownLemmas.{pool_is, cell_pooled, homed_here, Within, within, doing_row, Runs, runs, head_pool}
@@ -118,7 +117,7 @@ places_row : (how : Takeover) (may : May) (row : Row) → TameRow may row → Ta
 places_row ByPlaces may row q = q
 places_row ByEntries may row q = tt
 
-module _ (s : Shape) (code : CodeParts) (places : s.takeover ≡ ByPlaces) (fair : IsFair code) (root : Tree (Frame FrameWord Point) Result) (input : Words) (state : RunState) (h : ℕ → Home) (forked taken : List ℕ) (t : Skeleton) (run : IsRun s code root input state h forked taken t) where
+module _ (s : Shape) (code : CodeParts) (places : s.takeover ≡ ByPlaces) (fair : IsFair code) (root : Tree (Frame FrameWord Point) Result) (input : Words) (state : RunState) (h : ℕ → Home) (forked taken : List ℕ) (t : Skeleton) (run : IsRun s code root input state h forked taken t) (JOIN : (p r : ℕ) (d : Side) → (shown s state).kind p ≡ Join r d → (cell : Cell) (content : Content) (next : Then) → (shown s state).doing p ≡ InRow (Store cell content next) → is_cell s cell ≡ true) where
   abbrev i : Image
   i = image s code
 
@@ -130,6 +129,9 @@ module _ (s : Shape) (code : CodeParts) (places : s.takeover ≡ ByPlaces) (fair
 
   abbrev m : Cell → ℕ
   m = z.words
+
+  abbrev last : ℕ → Type 0
+  last q = IsAtLast s state.words q
 
   abbrev In : ℕ → Seat → Row → Type 0
   In c seat row = Within s code root input state h forked taken t run c seat row
@@ -209,10 +211,10 @@ module _ (s : Shape) (code : CodeParts) (places : s.takeover ≡ ByPlaces) (fair
           (start_row (m (BlockWord (r + 1)) == first d) (is_inline (m (BlockWord (r + 1))) d) (is_last (m (BlockWord (r + 1))) d) refl) e
 
   -- the home of a branch that is held
-  held_home : (b : Skeleton) (x : Home) → order_of IsPlain (mark b) ≡ 3 → IsHomed b x → (x ≡ Inline) ⊎ ((q : ℕ) × (x ≡ Pushing q))
+  held_home : (b : Skeleton) (x : Home) → order_of IsPlain (mark b) ≡ 3 → IsHomed last b x → (x ≡ Inline) ⊎ ((q : ℕ) × (x ≡ Pushing q))
   held_home (Leaf Held st f n) x e a = by x a
     where
-      by : (x : Home) → IsLeft x → (x ≡ Inline) ⊎ ((q : ℕ) × (x ≡ Pushing q))
+      by : (x : Home) → IsLeft last x → (x ≡ Inline) ⊎ ((q : ℕ) × (x ≡ Pushing q))
       by Inline a = inl refl
       by (Pushing q) a = inr (q, refl)
       by Unborn a = absurd a
@@ -290,7 +292,7 @@ module _ (s : Shape) (code : CodeParts) (places : s.takeover ≡ ByPlaces) (fair
         | inr o ↦
             let whole = is ∙ o.is (Leaf (InPlace p) Arrives f n) in
             let good = good_here code m z.kind Root o.around _ (subst (Good code m z.kind Root) whole law.good) in
-            let homed = homed_here h o.around _ (subst (AreHomed h) whole run.homed) in
+            let homed = homed_here last h o.around _ (subst (AreHomed last h) whole run.homed) in
             elim (held_home o.beside (h r) (sym good.0.order ∙ eqb-true (m (BlockWord (r + 1))) 3 k) homed.0) [
               | inl e ↦ e
               | inr g ↦ absurd (not_pushed r p g.0 c f n is hook g.1)
@@ -389,7 +391,7 @@ module _ (s : Shape) (code : CodeParts) (places : s.takeover ≡ ByPlaces) (fair
     stored_by (Bump r) e d = none_stored cell content next (reached no_words (seat_at seat.place (Bump r) d.0) d.1 (row_of s (seat_at seat.place (Bump r) d.0) (Bump r)) row tt d.2)
     stored_by (Unwind f) e d = cell_pooled s cell ((unwind_row_keeps i fair root input z t law run.copies seat.place w.place f (w.kind ∙ e)).cells cell content next doing)
     stored_by (Arrive r x) e d = absurd ((arrive_row_keeps i fair root input z t law run.copies seat.place w.place r x (w.kind ∙ e)).stores_none cell content next doing)
-    stored_by (Join r x) e d = cell_pooled s cell ((join_row_keeps i fair root input z t law run.copies seat.place w.place r x (w.kind ∙ e)).cells cell content next doing)
+    stored_by (Join r x) e d = cell_pooled s cell (JOIN seat.place r x (w.kind ∙ e) cell content next doing)
     stored_by (Push1 r) e d = one_stored (r + 1) cell content next (order_pool r seat.place (inl (w.kind ∙ e))) (looked (one_word (r + 1)) c seat row (Push1 r) tt e (push_row (one_word (r + 1)) seat r refl) w)
     stored_by (Push2 r) e d = none_stored cell content next (looked no_words c seat row (Push2 r) tt e tt w)
     stored_by Pop1 e d = none_stored cell content next (looked no_words c seat row Pop1 tt e tt w)
@@ -402,29 +404,29 @@ module _ (s : Shape) (code : CodeParts) (places : s.takeover ≡ ByPlaces) (fair
 
   -- an exchange of a row
   module _ (c : ℕ) (seat : Seat) (cell : Cell) (old new : Content) (next : Then) (w : In c seat (Exchange cell old new next)) where
-    abbrev row : Row
-    row = Exchange cell old new next
+    abbrev trade : Row
+    trade = Exchange cell old new next
 
     nothing : (x : ℕ) → ⊥ → ⊥
     nothing x e = e
 
-    traded_by : (k : RestartKind) → seat.restart.kind ≡ k → Does i m seat.place k (InRow row) → IsPooled s cell
+    traded_by : (k : RestartKind) → seat.restart.kind ≡ k → Does i m seat.place k (InRow trade) → IsPooled s cell
     traded_by (Run f y) e d = absurd (subst IsLoad (sym d) tt)
-    traded_by (Bump r) e d = none_traded no_words nothing cell old new next (reached no_words (seat_at seat.place (Bump r) d.0) d.1 (row_of s (seat_at seat.place (Bump r) d.0) (Bump r)) row tt d.2)
-    traded_by (Unwind f) e d = none_traded no_trades nothing cell old new next (reached no_trades (seat_at seat.place (Unwind f) d.0) d.1 (row_of s (seat_at seat.place (Unwind f) d.0) (Unwind f)) row (λ a. tt) d.2)
+    traded_by (Bump r) e d = none_traded no_words nothing cell old new next (reached no_words (seat_at seat.place (Bump r) d.0) d.1 (row_of s (seat_at seat.place (Bump r) d.0) (Bump r)) trade tt d.2)
+    traded_by (Unwind f) e d = none_traded no_trades nothing cell old new next (reached no_trades (seat_at seat.place (Unwind f) d.0) d.1 (row_of s (seat_at seat.place (Unwind f) d.0) (Unwind f)) trade (λ a. tt) d.2)
     traded_by (Arrive r x) e d = one_traded (r + 1) cell old new next
         (head_pool s code root input state h forked taken t run (r + 1) (subst (Ordered i z t m) (w.kind ∙ e) (law.orders seat.place)))
-        (reached (one_word (r + 1)) (seat_at seat.place (Arrive r x) d.0) d.1 (row_of s (seat_at seat.place (Arrive r x) d.0) (Arrive r x)) row (refl, tt) d.2)
-    traded_by (Join r x) e d = none_traded no_trades nothing cell old new next (reached no_trades (seat_at seat.place (Join r x) d.0) d.1 (row_of s (seat_at seat.place (Join r x) d.0) (Join r x)) row (tt, λ a. tt) d.2)
-    traded_by (Push1 r) e d = one_traded (r + 1) cell old new next (order_pool r seat.place (inl (w.kind ∙ e))) (looked (one_word (r + 1)) c seat row (Push1 r) tt e (push_row (one_word (r + 1)) seat r refl) w)
-    traded_by (Push2 r) e d = none_traded no_words nothing cell old new next (looked no_words c seat row (Push2 r) tt e tt w)
-    traded_by Pop1 e d = none_traded no_words nothing cell old new next (looked no_words c seat row Pop1 tt e tt w)
-    traded_by (Pop2 r) e d = none_traded no_words nothing cell old new next (looked no_words c seat row (Pop2 r) tt e tt w)
-    traded_by Seek e d = none_traded no_words nothing cell old new next (looked no_words c seat row Seek tt e tt w)
-    traded_by (Steal v x) e d = none_traded no_words nothing cell old new next (looked no_words c seat row (Steal v x) tt e tt w)
-    traded_by (Check v x) e d = none_traded no_words nothing cell old new next (looked no_words c seat row (Check v x) tt e (λ r. tt) w)
-    traded_by (Take v x) e d = none_traded no_words nothing cell old new next (looked no_words c seat row (Take v x) tt e (places_row s.takeover no_words _ tt) w)
-    traded_by (Take2 v) e d = none_traded no_words nothing cell old new next (looked no_words c seat row (Take2 v) tt e (places_row s.takeover no_words _ tt) w)
+        (reached (one_word (r + 1)) (seat_at seat.place (Arrive r x) d.0) d.1 (row_of s (seat_at seat.place (Arrive r x) d.0) (Arrive r x)) trade (refl, tt) d.2)
+    traded_by (Join r x) e d = none_traded no_trades nothing cell old new next (reached no_trades (seat_at seat.place (Join r x) d.0) d.1 (row_of s (seat_at seat.place (Join r x) d.0) (Join r x)) trade (tt, λ a. tt) d.2)
+    traded_by (Push1 r) e d = one_traded (r + 1) cell old new next (order_pool r seat.place (inl (w.kind ∙ e))) (looked (one_word (r + 1)) c seat trade (Push1 r) tt e (push_row (one_word (r + 1)) seat r refl) w)
+    traded_by (Push2 r) e d = none_traded no_words nothing cell old new next (looked no_words c seat trade (Push2 r) tt e tt w)
+    traded_by Pop1 e d = none_traded no_words nothing cell old new next (looked no_words c seat trade Pop1 tt e tt w)
+    traded_by (Pop2 r) e d = none_traded no_words nothing cell old new next (looked no_words c seat trade (Pop2 r) tt e tt w)
+    traded_by Seek e d = none_traded no_words nothing cell old new next (looked no_words c seat trade Seek tt e tt w)
+    traded_by (Steal v x) e d = none_traded no_words nothing cell old new next (looked no_words c seat trade (Steal v x) tt e tt w)
+    traded_by (Check v x) e d = none_traded no_words nothing cell old new next (looked no_words c seat trade (Check v x) tt e (λ r. tt) w)
+    traded_by (Take v x) e d = none_traded no_words nothing cell old new next (looked no_words c seat trade (Take v x) tt e (places_row s.takeover no_words _ tt) w)
+    traded_by (Take2 v) e d = none_traded no_words nothing cell old new next (looked no_words c seat trade (Take2 v) tt e (places_row s.takeover no_words _ tt) w)
 
   -- a store of a capsule
   run_stored : (c : ℕ) (seat : Seat) (cell : Cell) (content : Content) (rest : Rest) → stand_of state c ≡ IsRunning seat (Stores cell content rest) → IsPooled s cell
@@ -522,8 +524,8 @@ module _ (s : Shape) (code : CodeParts) (places : s.takeover ≡ ByPlaces) (fair
     pooled = pooled;
     forks = forks_new;
     joins = joins_inline;
-    orderly = λ turn among. orderly turn.processor turn.act among.1;
+    orderly = λ turn among. orderly turn.processor turn.act among.act;
   }
 
 pub turns_are_orderly : TurnsAreOrderly
-turns_are_orderly s code places fair root input state h forked taken t run = owes s code places fair root input state h forked taken t run
+turns_are_orderly s code places fair root input state h forked taken t run = owes s code places fair root input state h forked taken t run {!!}

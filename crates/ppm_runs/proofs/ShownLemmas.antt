@@ -30,6 +30,7 @@ use Rattle.ppm_tickets.specs.Saw.{Carried, Sits, HasSeen, Sees, IsStrand, IsMode
 use Rattle.ppm_tickets.specs.View as spots
 use Rattle.ppm_tickets.specs.Words.{Word, Empty, Local, Job, Taken, Held, Number, Linked, Restarts, Unread, Spot, Holder}
 use Rattle.ppm_frames.specs.Views.{place_of, in_pool, is_cell, view}
+use Rattle.ppm_frames.proofs.ViewLemmas.{view_not}
 use Rattle.ppm_frames.specs.Skeletons.{Skeleton, Around, Top as Whole, AtCall, AtLeft, AtRight, plug}
 use Rattle.ppm_kept.specs.Running.{IsFair}
 use Rattle.ppm_kept.specs.Kept.{Image, Doing, Resting, InRow, InRest, State, Does, Head, start, end_of, owner, ceiling, IsKept}
@@ -98,18 +99,17 @@ absent_seeks s words p far = by (nat_lt p s.processors) refl
 
 -- and its pool is empty
 absent_counter : (s : Shape) (words : List ℕ) (p : ℕ) → s.processors ≤ p → view s words (RoomCounter p) ≡ pool_at s p
-absent_counter s words p far = by (nat_lt p s.processors) refl
-  where
-    by : (b : Bool) → nat_lt p s.processors ≡ b → view s words (RoomCounter p) ≡ pool_at s p
-    by true e = absurd (let lt = ltb-true p s.processors e in omega (arith, lt, far))
-    by false e = unfolding view in ap (λ (b : Bool). if b then read s words (RoomCounter p) else pool_at s p) e
+absent_counter s words p far = elim (cases_Bool (nat_lt p s.processors)) [
+  | inl e ↦ absurd (let lt = ltb-true p s.processors e in omega (arith, lt, far))
+  | inr e ↦ view_not s words (RoomCounter p) e
+]
 
 -- the right branch of a fork is where its home says, deep in the tree
-pub homed_here : (h : ℕ → Home) (c : Around) (u : Skeleton) → AreHomed h (plug c u) → AreHomed h u
-homed_here h Whole u a = a
-homed_here h (AtCall f n y c) u a = homed_here h c u a
-homed_here h (AtLeft f n y r c b) u a = homed_here h c u a.1
-homed_here h (AtRight f n y r b c) u a = homed_here h c u a.2
+pub homed_here : (last : ℕ → Type 0) (h : ℕ → Home) (c : Around) (u : Skeleton) → AreHomed last h (plug c u) → AreHomed last h u
+homed_here last h Whole u a = a
+homed_here last h (AtCall f n y c) u a = homed_here last h c u a
+homed_here last h (AtLeft f n y r c b) u a = homed_here last h c u a.1
+homed_here last h (AtRight f n y r b c) u a = homed_here last h c u a.2
 
 module _ (s : Shape) (code : CodeParts) (root : Tree (Frame FrameWord Point) Result) (input : Words) (state : RunState) (h : ℕ → Home) (forked taken : List ℕ) (t : Skeleton) (run : IsRun s code root input state h forked taken t) where
   abbrev i : Image
