@@ -42,5 +42,6 @@ pub mod ExchangeLemmas
 pub mod ArriveRow
 pub mod UntakenLemmas
 pub mod JoinRow
-pub mod JoinTrapRow
 pub mod JoinValueLemmas
+pub mod JoinLastLemmas
+pub mod JoinLastRow

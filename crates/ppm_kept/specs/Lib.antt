@@ -10,5 +10,5 @@ pub mod Returns
 pub mod Pushing
 pub mod Arriving
 pub mod Joins
-pub mod JoinTraps
+pub mod JoinLast
 pub mod JoinValues

@@ -3,7 +3,7 @@
 //! `copies_stay` says of most installs; those of takes and pushes are still owed.
 ghost use Rattle.ppm_kept.specs.Arriving.{ArriveRowKeeps};
 ghost use Rattle.ppm_kept.specs.Copies.{AllCopiesStay, OpeningsHaveCopies};
-ghost use Rattle.ppm_kept.specs.JoinTraps.{TrapJoinRowKeeps};
+ghost use Rattle.ppm_kept.specs.JoinLast.{JoinRowKeeps, LastJoinRowKeeps};
 ghost use Rattle.ppm_kept.specs.JoinValues.{AllBranchValuesPass};
 ghost use Rattle.ppm_kept.specs.Joins.{EarlyJoinRowKeeps};
 ghost use Rattle.ppm_kept.specs.Laws.{BumpRowKeeps, FramesRun, RunRowKeeps};
@@ -98,13 +98,19 @@ pub fn early_join_row_keeps()
     ensures law { EarlyJoinRowKeeps }
 {}
 
-/// So does each step in a row of kind Join whose branch came last, where one of the two trapped.
-pub fn trap_join_row_keeps()
-    ensures law { TrapJoinRowKeeps }
+/// So does each step in a row of kind Join whose branch came last: a trap goes up, or both values
+/// pass, into two slots or one, and the frame that waited goes on.
+pub fn last_join_row_keeps()
+    ensures law { LastJoinRowKeeps }
+{}
+
+/// So does each step in a row of kind Join, whichever branch came first.
+pub fn join_row_keeps()
+    ensures law { JoinRowKeeps }
 {}
 
 /// The tree's half of a join where both branches ended: each store of a value into its slot is a
-/// step, and the install is the join. The row is not carried over yet.
+/// step, and the install is the join.
 pub fn branch_values_pass()
     ensures law { AllBranchValuesPass }
 {}
