@@ -30,6 +30,7 @@ use Rattle.ppm_frames.specs.Skeletons.{Arrives, InPlace, Skeleton, Leaf, Calling
 use Rattle.ppm_frames.specs.Good.{Match, Forks, Good}
 use Rattle.ppm_frames.proofs.SwapLemmas.{good_same, good_here}
 use Rattle.ppm_kept.specs.Running.{IsFair}
+use Rattle.ppm_kept.specs.Branches.{is_taker}
 use Rattle.ppm_kept.specs.Kept.{Image, seat_at, side_code, Doing, Resting, InRow, State, put, Blank, ceiling, Free, Reach, Does, Under, IsKept}
 use Rattle.ppm_kept.specs.Moves.{doing_of, goes, installs}
 use Rattle.ppm_kept.specs.Laws.{Ends, kind_then}
@@ -37,6 +38,7 @@ use Rattle.ppm_kept.specs.Pushing.{kind_seat}
 use Rattle.ppm_kept.specs.Joins.{by_join}
 use Rattle.ppm_kept.proofs.PutLemmas.{put_here, put_else}
 use Rattle.ppm_kept.proofs.EndingLemmas.{not_ended}
+use Rattle.ppm_kept.proofs.BranchLemmas.{same_part, barren, come_fork}
 use Rattle.ppm_kept.proofs.BuildLemmas.{Turn, build}
 use Rattle.ppm_kept.proofs.PlaceLemmas.{going, kept_same, is_at_own, is_at_other}
 use Rattle.std.proofs.Common.{◌≤◌, ap₂, Option, Some, None}
@@ -161,7 +163,7 @@ module _ (i : Image) (fair : IsFair i.code) (root : Tree (Frame FrameWord Point)
   stand_any own bottom b a z (Exchange c v w x) q = within_any own bottom b a z (Exchange c v w x) q (row_is_there i.shape (sits own bottom) (Exchange c v w x))
 
   goes_on : (own bottom b a : ℕ) (rest : Row) → Reach i m (seat b) a (row b) rest → Law (goes s p (stands i.shape i.code (sits own bottom) rest)) t
-  goes_on own bottom b a rest q = going i fair root input s t law p (doing_of (stands i.shape i.code (sits own bottom) rest))
+  goes_on own bottom b a rest q = going i fair root input s t law p (ap is_taker ke) (doing_of (stands i.shape i.code (sits own bottom) rest))
       (subst (λ (k : RestartKind). Does i m p k (doing_of (stands i.shape i.code (sits own bottom) rest))) (sym ke) (stand_any own bottom b a m rest q))
 
   -- what each row has to keep
@@ -401,6 +403,7 @@ module _ (i : Image) (fair : IsFair i.code) (root : Tree (Frame FrameWord Point)
         does = does_so;
         orders = (ordered.0, λ e. ordered.1 (sym order_is ∙ e));
         others = keeps c u (BlockWord (g + 1)) w is part.alone only one_here (inl mine);
+        unrun = same_part tt tt refl;
         finishes = not_ended m m' t c u u is (write_else m (BlockWord (g + 1)) w FinishWord (λ e. cc)) refl;
       }
 
@@ -453,6 +456,7 @@ module _ (i : Image) (fair : IsFair i.code) (root : Tree (Frame FrameWord Point)
         does = tt;
         orders = tt;
         others = λ q ne. kept_same i fair root input s t law p q;
+        unrun = barren (come_fork i.code m s.kind g l y r (first_who p part.other d) (second_who p part.other d) (r + 5) part.left_slots (r + far) part.right_slots good_u.2) tt (λ most. tt) (λ q z ne. tt) refl;
         finishes = not_ended m m t c u leaf_up is refl refl;
       }
 
@@ -577,14 +581,14 @@ module _ (i : Image) (fair : IsFair i.code) (root : Tree (Frame FrameWord Point)
 
     pub trap_join_keeps : TrapJoinKeeps i root input s t p r d
     trap_join_keeps = record {
-      begins = λ own bottom. going i fair root input s t law p (InRow (Now (Load (JoinOrder r d)))) (subst (λ (k : RestartKind). Under i m p k (Now (Load (JoinOrder r d)))) (sym ke) (bottom, 0, refl));
+      begins = λ own bottom. going i fair root input s t law p (ap is_taker ke) (InRow (Now (Load (JoinOrder r d)))) (subst (λ (k : RestartKind). Under i m p k (Now (Load (JoinOrder r d)))) (sym ke) (bottom, 0, refl));
       loads = λ own bottom victim point e. under_of (Now (Load point)) e own bottom victim;
       stores = λ own bottom found cell content next e. under_of (Store cell content next) e own bottom;
       exchanges_none = λ cell old new next e. under_of (Exchange cell old new next) e;
       installs = λ next e ends. installed_law next (under_of (Now next) e) ends;
-      faults = going i fair root input s t law p Resting tt;
+      faults = going i fair root input s t law p (ap is_taker ke) Resting tt;
     }
 
 pub trap_join_row_keeps : TrapJoinRowKeeps
-trap_join_row_keeps i fair root input s t law copies p there r d ke late beyond trap line traps =
-    trap_join_keeps i fair root input s t law p there (others_keep i fair root input s t law copies p) r d ke late beyond trap line traps
+trap_join_row_keeps i fair root input s t law p there r d ke late beyond trap line traps =
+    trap_join_keeps i fair root input s t law p there (others_keep i fair root input s t law p) r d ke late beyond trap line traps

@@ -23,7 +23,6 @@ use Rattle.ppm_kept.specs.Running.{IsFair}
 use Rattle.ppm_kept.specs.Kept.{Image, side_code, InRow, State, IsKept}
 use Rattle.ppm_kept.specs.Moves.{goes, stores, installs, begun, loaded, stored}
 use Rattle.ppm_kept.specs.Laws.{Ends, kind_then}
-use Rattle.ppm_kept.specs.Others.{HasCopies}
 use Rattle.ppm_kept.specs.Pushing.{kind_seat}
 use Rattle.ppm_kept.specs.Joins.{by_join}
 
@@ -54,7 +53,7 @@ abbrev pub TrapJoinRowKeeps : Type 0
 TrapJoinRowKeeps = (i : Image) → IsFair i.code
     → (root : Tree (Frame FrameWord Point) Result) (input : Words) (s : State) (t : Skeleton)
     → IsKept i root input s t
-    → HasCopies s → (p : ℕ) → p < i.shape.processors → (r : ℕ) (d : Side) → s.kind p ≡ Join r d
+    → (p : ℕ) → p < i.shape.processors → (r : ℕ) (d : Side) → s.kind p ≡ Join r d
     → (s.words (BlockWord (r + 1)) == side_code d) ≡ false
     → is_inline (s.words (BlockWord (r + 1))) d ≡ false
     → (trap : Trap) (line : ℕ) → Traps s.words r trap line → TrapJoinKeeps i root input s t p r d

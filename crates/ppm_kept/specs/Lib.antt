@@ -1,4 +1,5 @@
 pub mod Running
+pub mod Branches
 pub mod Kept
 pub mod Others
 pub mod Moves
@@ -12,3 +13,4 @@ pub mod Arriving
 pub mod Joins
 pub mod JoinTraps
 pub mod JoinValues
+pub mod Takes
