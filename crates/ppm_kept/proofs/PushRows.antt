@@ -331,9 +331,9 @@ module _ (i : Image) (fair : IsFair i.code) (root : Tree (Frame FrameWord Point)
     z' = record { words = m; kind = s.kind; doing = put s.doing p d }
 
     ready_unrun : ((w : Skeleton) → Unpushed p w k) → Unrun s p c u v k d
-    ready_unrun own = record {
+    ready_unrun no_push = record {
       copy = subst HasCopy ke (law.copies p);
-      pushes = λ most. own (plug c v);
+      pushes = λ most. no_push (plug c v);
       untaken = λ q n ne old. (λ e one. absurd (let z = is_at_other p q ne in omega (arith, one, z)), tt, soft'.untaken q n old.2);
       waits = λ q n x a ne taker about. (
         λ e. e,
@@ -343,7 +343,7 @@ module _ (i : Image) (fair : IsFair i.code) (root : Tree (Frame FrameWord Point)
     }
 
     ready_turn : ((w : Skeleton) → Unpushed p w k) → Turn i s t p z' c u v k d
-    ready_turn own = record {
+    ready_turn no_push = record {
       is = is;
       alone = alone;
       there = there;
@@ -382,7 +382,7 @@ module _ (i : Image) (fair : IsFair i.code) (root : Tree (Frame FrameWord Point)
       does = pushing.does own bottom m after;
       orders = pushing.ordered m;
       others = λ q ne. kept_same i fair root input s t law p q;
-      unrun = ready_unrun own;
+      unrun = ready_unrun no_push;
       finishes = not_ended m m t c u v is refl refl;
     }
 

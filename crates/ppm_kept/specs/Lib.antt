@@ -14,3 +14,4 @@ pub mod Joins
 pub mod JoinTraps
 pub mod JoinValues
 pub mod Takes
+pub mod Places

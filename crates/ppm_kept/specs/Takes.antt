@@ -75,10 +75,10 @@ pub record TakeKeeps (i : Image) (root : Tree (Frame FrameWord Point) Result) (i
   pub ends : (own bottom n : ℕ) (next : Then) → Ends next
       → Comes i.shape (kind_seat own p k bottom) n (row_of i.shape (kind_seat own p k bottom) k) (Now next)
       → EndsSo i.shape.takeover k next
-  pub installs : (next : RestartKind) → IsIdle next → IsKept i root input (installs s p next) t
   -- the branch is the place's
   pub begins : (r f b : ℕ) → is_taker k ≡ true → s.doing p ≡ InRow (Now (Begin r f b))
       → IsAlone s p r → IsKept i root input (installs s p (Run f 0)) (take_in r p t)
+  pub installs : (next : RestartKind) → IsIdle next → IsKept i root input (installs s p next) t
   pub faults : IsKept i root input (goes s p IsLost) t
 
 -- in each row of such a kind, from words that are kept
