@@ -38,6 +38,7 @@ use Rattle.ppm_frames.proofs.SeenLemmas.{choice}
 use Rattle.ppm_frames.proofs.SkeletonLemmas.{SameFrame, same_frame, same_at, result_same, frame_path, inside_at, holds_at}
 use Rattle.ppm_frames.proofs.SwapLemmas.{sub, good_same, good_here}
 use Rattle.ppm_kept.specs.Running.{IsFair, strands}
+use Rattle.ppm_kept.specs.Branches.{HasCopy, Unpushed, is_taker}
 use Rattle.ppm_kept.specs.Kept.{Image, owner, side_code, Doing, Resting, State, put, Blank, HasTaken, ceiling, Free, Does, Ordered, carried, IsKept}
 use Rattle.ppm_kept.specs.Moves.{installs}
 use Rattle.ppm_kept.specs.Others.{Mine, Keeps}
@@ -45,7 +46,9 @@ use Rattle.ppm_kept.specs.JoinValues.{BranchesStay, BranchValuesPass}
 use Rattle.ppm_kept.proofs.PutLemmas.{put_here, put_else}
 use Rattle.ppm_kept.proofs.BlockLemmas.{finish_back}
 use Rattle.ppm_kept.proofs.EndingLemmas.{not_ended}
+use Rattle.ppm_kept.proofs.BranchLemmas.{same_part, barren, come_fork}
 use Rattle.ppm_kept.proofs.BuildLemmas.{Turn, build}
+use Rattle.ppm_kept.proofs.CopyLemmas.{hooked_low}
 use Rattle.ppm_kept.proofs.PlaceLemmas.{kept_same, counted, not_free, mine_around, is_at_own, is_at_other}
 use Rattle.ppm_kept.proofs.TurnLemmas.{pool_cell}
 use Rattle.ppm_kept.proofs.JoiningLemmas.{Joining, joint, first_who, second_who, joining, at_joint}
@@ -304,6 +307,7 @@ module _ (i : Image) (fair : IsFair i.code) (root : Tree (Frame FrameWord Point)
         does = does_so;
         orders = (ordered.0, λ e. ordered.1 (sym words_stay.order ∙ e));
         others = keeps c u (BlockWord (g + a)) w is part.alone only one_here (inl mine);
+        unrun = same_part tt tt refl;
         finishes = not_ended m m' t c u u is (write_else m (BlockWord (g + a)) w FinishWord (λ e. cc)) refl;
       }
 
@@ -312,7 +316,8 @@ module _ (i : Image) (fair : IsFair i.code) (root : Tree (Frame FrameWord Point)
 
   -- the install with which that frame goes on, or is over
   module _ (k : RestartKind) (back_to : ℕ → Stand) (step : Step (strands i.shape i.code) none (tree_at m h u) (arrays_at m) (tree_at m h (Leaf (InPlace p) (back_to y) g l)) (arrays_at m))
-      (sized : IsSized i.code m (back_to y) g l) (match : Match i.code m k h (back_to y) g) (top_is : ceiling i m p k ≡ m (RoomCounter p)) (one : carried m k ≡ 1) (frees : Free i m p k) (plain_kind : Ordered i s t m k) where
+      (sized : IsSized i.code m (back_to y) g l) (match : Match i.code m k h (back_to y) g) (top_is : ceiling i m p k ≡ m (RoomCounter p)) (one : carried m k ≡ 1) (frees : Free i m p k) (plain_kind : Ordered i s t m k)
+      (copy : HasCopy k) (own_pushed : Unpushed p (plug c (Leaf (InPlace p) (back_to y) g l)) k) (no_taker : is_taker k ≡ false) where
     abbrev v : Skeleton
     v = Leaf (InPlace p) (back_to y) g l
 
@@ -338,6 +343,7 @@ module _ (i : Image) (fair : IsFair i.code) (root : Tree (Frame FrameWord Point)
       does = tt;
       orders = plain_kind;
       others = λ q ne. kept_same i fair root input s t law p q;
+      unrun = barren (come_fork i.code m s.kind g l y r (first_who p part.other d) (second_who p part.other d) (r + 5) part.left_slots f part.right_slots good_u.2) copy (λ most. own_pushed) (λ q z ne. tt) no_taker;
       finishes = not_ended m m t c u v is refl refl;
     }
 
@@ -422,7 +428,7 @@ module _ (i : Image) (fair : IsFair i.code) (root : Tree (Frame FrameWord Point)
     trap_installed set = frame_goes_on (Unwind g) (λ z. Over)
         (subst (λ (a : Result). Step (strands i.shape i.code) none (tree_at m h u) (arrays_at m) (tree.Over a) (arrays_at m))
         (sym (ap (result_by (m (BlockWord (g + value_at)))) (ap finish_of set ∙ trap_word_is))) trap_step)
-        tt refl refl refl blank tt
+        tt refl refl refl blank tt tt tt refl
 
   -- both values pass, and the frame goes on
   module _ (left_ended : finish_of oa ≡ Some EndedSo) (right_ended : finish_of ob ≡ Some EndedSo) where
@@ -469,4 +475,4 @@ module _ (i : Image) (fair : IsFair i.code) (root : Tree (Frame FrameWord Point)
     values_installed left right = frame_goes_on (Run g y) (λ z. Begins z)
         (passing.joins (elim left [ inl taken ↦ inl (in_slot (r + 5) (m (BlockWord (r + 5 + 5))) left_low taken) | inr e ↦ inr e ]) (in_slot f (m (BlockWord (f + 5))) right_low right))
         forks.size (refl, refl) refl refl
-        (record { block = λ b lt out. blank b lt; outcome = inl (elim forks.outcome [ inl e ↦ e | inr e ↦ e ∙ both_ended ]) }) tt
+        (record { block = λ b lt out. blank b lt; outcome = inl (elim forks.outcome [ inl e ↦ e | inr e ↦ e ∙ both_ended ]) }) tt (hooked_low (m (BlockWord r)) g y hook_is) tt refl

@@ -45,6 +45,7 @@ use Rattle.ppm_frames.specs.Good.{link_or, link_at}
 use Rattle.ppm_frames.proofs.WriteLemmas.{write_here}
 use Rattle.ppm_frames.proofs.SeenLemmas.{if_true}
 use Rattle.ppm_kept.specs.Running.{IsFair}
+use Rattle.ppm_kept.specs.Branches.{is_taker}
 use Rattle.ppm_kept.specs.Kept.{Image, seat_at, side_code, InRow, Resting, Doing, State, HasTaken, Collected, Reach, Does, Under, IsKept}
 use Rattle.ppm_kept.specs.Moves.{doing_of, goes, stores, installs}
 use Rattle.ppm_kept.specs.Laws.{Ends, kind_then}
@@ -115,7 +116,7 @@ module _ (i : Image) (fair : IsFair i.code) (root : Tree (Frame FrameWord Point)
   under_at z b rest q = inl (b, q.0, q.1)
 
   goes_on : (own bottom b : ℕ) (rest : Row) → At m b rest → Law (goes s p (stands i.shape i.code (sits own bottom) rest)) t
-  goes_on own bottom b rest q = going i fair root input s t law p (doing_of (stands i.shape i.code (sits own bottom) rest))
+  goes_on own bottom b rest q = going i fair root input s t law p (ap is_taker ke) (doing_of (stands i.shape i.code (sits own bottom) rest))
       (subst (λ (k : RestartKind). Does i m p k (doing_of (stands i.shape i.code (sits own bottom) rest))) (sym ke) (stand_any own bottom m rest (under_at m b rest q)))
 
   -- what each row has to keep
@@ -571,18 +572,18 @@ module _ (i : Image) (fair : IsFair i.code) (root : Tree (Frame FrameWord Point)
 
   last_join_keeps : JoinKeeps i root input s t p r d
   last_join_keeps = record {
-    begins = λ own bottom. going i fair root input s t law p (InRow (Now (Load (JoinOrder r d)))) (subst (λ (k : RestartKind). Under i m p k (Now (Load (JoinOrder r d)))) (sym ke) (inl (bottom, 0, refl)));
+    begins = λ own bottom. going i fair root input s t law p (ap is_taker ke) (InRow (Now (Load (JoinOrder r d)))) (subst (λ (k : RestartKind). Under i m p k (Now (Load (JoinOrder r d)))) (sym ke) (inl (bottom, 0, refl)));
     loads = λ own bottom victim point e. under_of (Now (Load point)) e own bottom victim;
     stores = λ own bottom found cell content next e. (under_of (Store cell content next) e).0 own bottom;
     exchanges_none = λ cell old new next e. under_of (Exchange cell old new next) e;
     installs = λ next e ends. installed_law next (under_of (Now next) e) ends;
-    faults = going i fair root input s t law p Resting tt;
+    faults = going i fair root input s t law p (ap is_taker ke) Resting tt;
     cells = λ cell content next e. (under_of (Store cell content next) e).1;
   }
 
 pub last_join_row_keeps : LastJoinRowKeeps
-last_join_row_keeps i fair root input s t law copies p there r d ke late beyond =
-    last_join_keeps i fair root input s t law p there (others_keep i fair root input s t law copies p) r d ke late beyond
+last_join_row_keeps i fair root input s t law p there r d ke late beyond =
+    last_join_keeps i fair root input s t law p there (others_keep i fair root input s t law p) r d ke late beyond
 
 early_keeps : (i : Image) (root : Tree (Frame FrameWord Point) Result) (input : Words) (s : State) (t : Skeleton) (p r : ℕ) (d : Side) → EarlyJoinKeeps i root input s t p r d → JoinKeeps i root input s t p r d
 early_keeps i root input s t p r d early = record {
@@ -596,10 +597,10 @@ early_keeps i root input s t p r d early = record {
 }
 
 pub join_row_keeps : JoinRowKeeps
-join_row_keeps i fair root input s t law copies p there r d ke = elim (cases_Bool (s.words (BlockWord (r + 1)) == side_code d)) [
+join_row_keeps i fair root input s t law p there r d ke = elim (cases_Bool (s.words (BlockWord (r + 1)) == side_code d)) [
   | inl came ↦ early_keeps i root input s t p r d (early_join_row_keeps i fair root input s t law p there r d ke (inl came))
   | inr late ↦ elim (cases_Bool (is_inline (s.words (BlockWord (r + 1))) d)) [
     | inl both ↦ early_keeps i root input s t p r d (early_join_row_keeps i fair root input s t law p there r d ke (inr both))
-    | inr beyond ↦ last_join_row_keeps i fair root input s t law copies p there r d ke late beyond
+    | inr beyond ↦ last_join_row_keeps i fair root input s t law p there r d ke late beyond
   ]
 ]

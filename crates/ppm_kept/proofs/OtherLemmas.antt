@@ -41,7 +41,8 @@ use Rattle.ppm_frames.proofs.SkeletonLemmas.{SameFrame, same_frame, same_at, ins
 use Rattle.ppm_frames.proofs.SwapLemmas.{good_here}
 use Rattle.ppm_kept.specs.Running.{IsFair, number_at, limit, strands, frame_of}
 use Rattle.ppm_kept.specs.Kept.{Image, end_of, seat_at, side_code, State, Doing, Resting, InRow, InRest, Broken, Blank, ceiling, Free, Collected, Under, Going, Does, Head, Ordered, carried, IsKept}
-use Rattle.ppm_kept.specs.Others.{KeptAt, Mine, Claims, Wrote, IsIdle, HasCopies, OthersKeep}
+use Rattle.ppm_kept.specs.Branches.{HasCopy}
+use Rattle.ppm_kept.specs.Others.{KeptAt, Mine, Claims, Wrote, IsIdle, OthersKeep}
 use Rattle.ppm_kept.proofs.BlockLemmas.{header_is}
 use Rattle.ppm_kept.proofs.BumpRow.{Bumps, bump_at}
 use Rattle.ppm_kept.proofs.IdleLemmas.{idle_kept}
@@ -509,14 +510,14 @@ module _ (i : Image) (fair : IsFair i.code) (root : Tree (Frame FrameWord Point)
       kept_join = kept_plain (Join r d) ke room (ap (λ (b : ℕ). cond (b == side_code d) 0 1) word_stays) to_room (λ b. b) join_under (λ rest e. e)
           (ordered.0, λ z. ordered.1 (sym word_stays ∙ z))
 
-  kept : HasCopies s → KeptAt i s t n q
-  kept copies = by (s.kind q) refl
+  kept : KeptAt i s t n q
+  kept = by (s.kind q) refl
     where
       idle : (k : RestartKind) → s.kind q ≡ k → IsIdle k → KeptAt i s t n q
       idle k ke h = idle_kept i fair root input s t law p c u cell w is mine q ne (subst IsIdle (sym ke) h)
 
       by : (k : RestartKind) → s.kind q ≡ k → KeptAt i s t n q
-      by (Run f y) ke = kept_run f y (copies q f y ke) ke
+      by (Run f y) ke = kept_run f y (subst HasCopy ke (law.copies q)) ke
       by (Bump r) ke = kept_bump r ke
       by (Push1 r) ke = kept_push r ke
       by (Push2 r) ke = kept_push2 r ke
@@ -532,4 +533,4 @@ module _ (i : Image) (fair : IsFair i.code) (root : Tree (Frame FrameWord Point)
       by (Take2 v) ke = idle (Take2 v) ke tt
 
 pub others_keep : OthersKeep
-others_keep i fair root input s t law copies p c u cell w is alone only one mine q ne = kept i fair root input s t law p c u cell w is only one mine q ne copies
+others_keep i fair root input s t law p c u cell w is alone only one mine q ne = kept i fair root input s t law p c u cell w is only one mine q ne

@@ -22,7 +22,6 @@ use Rattle.ppm_kept.specs.Running.{IsFair}
 use Rattle.ppm_kept.specs.Kept.{Image, side_code, InRow, State, IsKept}
 use Rattle.ppm_kept.specs.Moves.{goes, installs, begun, loaded, stored}
 use Rattle.ppm_kept.specs.Laws.{Ends, kind_then}
-use Rattle.ppm_kept.specs.Others.{HasCopies}
 use Rattle.ppm_kept.specs.Pushing.{kind_seat}
 use Rattle.ppm_kept.specs.Joins.{by_join}
 
@@ -53,7 +52,7 @@ abbrev pub LastJoinRowKeeps : Type 0
 LastJoinRowKeeps = (i : Image) → IsFair i.code
     → (root : Tree (Frame FrameWord Point) Result) (input : Words) (s : State) (t : Skeleton)
     → IsKept i root input s t
-    → HasCopies s → (p : ℕ) → p < i.shape.processors → (r : ℕ) (d : Side) → s.kind p ≡ Join r d
+    → (p : ℕ) → p < i.shape.processors → (r : ℕ) (d : Side) → s.kind p ≡ Join r d
     → (s.words (BlockWord (r + 1)) == side_code d) ≡ false
     → is_inline (s.words (BlockWord (r + 1))) d ≡ false
     → JoinKeeps i root input s t p r d
@@ -63,5 +62,5 @@ abbrev pub JoinRowKeeps : Type 0
 JoinRowKeeps = (i : Image) → IsFair i.code
     → (root : Tree (Frame FrameWord Point) Result) (input : Words) (s : State) (t : Skeleton)
     → IsKept i root input s t
-    → HasCopies s → (p : ℕ) → p < i.shape.processors → (r : ℕ) (d : Side) → s.kind p ≡ Join r d
+    → (p : ℕ) → p < i.shape.processors → (r : ℕ) (d : Side) → s.kind p ≡ Join r d
     → JoinKeeps i root input s t p r d

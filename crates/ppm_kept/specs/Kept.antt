@@ -1,5 +1,5 @@
 -- What is true of the words, the kinds and the tree after each turn, over the words by cells.
-use Rattle.std.specs.Prelude.{◌≡◌, ◌⊎◌, ℕ, zero, suc, ◌+◌, ◌≤◌, ◌<◌, ◌==◌, cond, false, Option, Some, None}
+use Rattle.std.specs.Prelude.{◌≡◌, ◌⊎◌, ℕ, zero, suc, ◌+◌, ◌≤◌, ◌<◌, ◌==◌, cond, true, false, Option, Some, None}
 use Rattle.ppm_strands.specs.Tree.{Words, Tree}
 use Rattle.ppm_strands.specs.Run.{Counts}
 use Rattle.ppm_strands.specs.Ahead.{Ahead}
@@ -28,12 +28,13 @@ use Rattle.ppm_step.specs.declared.row.Point.TheVariants.{Header}
 use Rattle.ppm_step.specs.declared.row.Row.{Row}
 use Rattle.ppm_step.specs.declared.row.Row.TheVariants.{Now, Store, Exchange}
 use Rattle.ppm_step.specs.declared.row.Seat.{Seat}
-use Rattle.ppm_step.specs.declared.row.Then.TheVariants.{Load, Install}
+use Rattle.ppm_step.specs.declared.row.Then.TheVariants.{Load, Install, Begin}
 use Rattle.ppm_frames.specs.Views.{place_of}
 use Rattle.ppm_frames.specs.Seen.{arrays_at}
 use Rattle.ppm_frames.specs.Skeletons.{Over, InPlace, Skeleton, Leaf, target_at, tree_of, count, plain, at}
 use Rattle.ppm_frames.specs.Good.{link_at, Good}
 use Rattle.ppm_kept.specs.Running.{HasCome, IsClean, strands}
+use Rattle.ppm_kept.specs.Branches.{Unpushed, Waits, is_taker, HasCopy}
 
 -- a shape and a code
 pub record Image : Type 0 where
@@ -68,6 +69,15 @@ pub record State : Type 0 where
 -- a function with another value at x
 unfoldable pub put : {A : Type 0} → (ℕ → A) → ℕ → A → ℕ → A
 put f p x q = cond (q == p) x (f q)
+
+-- frames that run stand at one of their two headers
+abbrev pub HasCopies : State → Type 0
+HasCopies s = (q : ℕ) → HasCopy (s.kind q)
+
+-- a place that is about to take a branch finds it waiting at the frame that it is to begin
+abbrev pub AimsWell : State → Skeleton → Type 0
+AimsWell s t = (q r f b : ℕ) → is_taker (s.kind q) ≡ true
+    → s.doing q ≡ InRow (Now (Begin r f b)) → Waits r f t
 
 -- the order word of the branch that came first
 abbrev pub side_code : Side → ℕ
@@ -194,7 +204,8 @@ module _ (i : Image) where
   -- The tree that stands on the skeleton is ahead of the root, by whole capsules; its frames and
   -- blocks stand well, no address is two words of it, and each is one of a pool below its ceiling;
   -- a place has as many leaves as its kind has strands; words above ceilings are free; what is
-  -- under way stands so; the finish word is true.
+  -- under way stands so; the finish word is true; frames run at their two headers; what is not
+  -- pushed is not taken, and what is about to be taken waits.
   pub record IsKept (root : Tree (Frame FrameWord Point) Result) (input : Words) (s : State) (t : Skeleton) : Type 0 where
     pub ahead : (k : Counts)
         × Ahead (strands i.shape i.code) k root input (tree_of s.words t) (arrays_at s.words)
@@ -210,3 +221,6 @@ module _ (i : Image) where
     pub does : (p : ℕ) → Does s.words p (s.kind p) (s.doing p)
     pub orders : (p : ℕ) → Ordered s t s.words (s.kind p)
     pub finished : IsFinished s.words t
+    pub copies : HasCopies s
+    pub untaken : (p : ℕ) → Unpushed p t (s.kind p)
+    pub aims : AimsWell s t

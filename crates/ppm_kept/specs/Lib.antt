@@ -1,4 +1,5 @@
 pub mod Running
+pub mod Branches
 pub mod Kept
 pub mod Others
 pub mod Moves
@@ -12,3 +13,5 @@ pub mod Arriving
 pub mod Joins
 pub mod JoinLast
 pub mod JoinValues
+pub mod Takes
+pub mod Places
