@@ -31,6 +31,7 @@ use Rattle.ppm_frames.proofs.WriteLemmas.{write_here}
 use Rattle.ppm_frames.proofs.SkeletonLemmas.{grow_plug, branch_from}
 use Rattle.ppm_frames.proofs.SwapLemmas.{swap_same, good_same, good_here}
 use Rattle.ppm_kept.specs.Running.{IsFair}
+use Rattle.ppm_kept.specs.Branches.{is_taker}
 use Rattle.ppm_kept.specs.Kept.{Image, seat_at, side_code, Doing, Resting, InRow, State, put, Blank, ceiling, Free, Reach, Does, Under, Head, Ordered, carried, IsKept}
 use Rattle.ppm_kept.specs.Moves.{doing_of, installs}
 use Rattle.ppm_kept.specs.Laws.{Ends, kind_then}
@@ -41,6 +42,7 @@ use Rattle.ppm_kept.specs.Arriving.{by_arrive, ArriveKeeps, ArriveRowKeeps}
 use Rattle.ppm_kept.proofs.OtherLemmas.{others_keep}
 use Rattle.ppm_kept.proofs.PutLemmas.{put_here, put_else}
 use Rattle.ppm_kept.proofs.EndingLemmas.{not_ended}
+use Rattle.ppm_kept.proofs.BranchLemmas.{same_part}
 use Rattle.ppm_kept.proofs.BuildLemmas.{build}
 use Rattle.ppm_kept.proofs.PlaceLemmas.{leaf, going, kept_same, is_at_own, is_at_other}
 use Rattle.ppm_kept.proofs.ClaimLemmas.{soft_same, soft_leaf, claim_law}
@@ -164,7 +166,7 @@ module _ (i : Image) (fair : IsFair i.code) (root : Tree (Frame FrameWord Point)
             subst (IsKept i root input z) (sym (grown ∙ a.is comes))
             (claim_law i fair root input s t law p there r (side_code d) (Arrive r d) ke head (λ n. refl) blank doing a.around a.frame a.slots a.copy low a.beside comes a.beside is (omega (arith, e, f))
             (soft_leaf i.code p come.frame come.slots) (soft_same i.code p a.beside)
-            (left_order (mark a.beside) (sym zero_ ∙ good.0.order) ∙ sym (ap side_code de)) (omega (arith, e, f, no_strand)) others (λ b. b) (stands_on own bottom b m' set_now) head)
+            (left_order (mark a.beside) (sym zero_ ∙ good.0.order) ∙ sym (ap side_code de)) (omega (arith, e, f, no_strand)) others (λ b. b) (stands_on own bottom b m' set_now) head (λ x. x) refl)
       ]
       by_side Right he de = elim (branch_from Root come.around r Right he) [
         | inl k ↦ absurd (let b = k.0 in cc)
@@ -175,7 +177,7 @@ module _ (i : Image) (fair : IsFair i.code) (root : Tree (Frame FrameWord Point)
             subst (IsKept i root input z) (sym (grown ∙ a.is comes))
             (claim_law i fair root input s t law p there r (side_code d) (Arrive r d) ke head (λ n. refl) blank doing a.around a.frame a.slots a.copy a.beside low a.beside comes is (omega (arith, e, f))
             (soft_same i.code p a.beside) (soft_leaf i.code p come.frame come.slots)
-            (right_order (mark a.beside) (sym zero_ ∙ good.0.order) ∙ sym (ap side_code de)) (omega (arith, e, f, no_strand)) others (λ b. b) (stands_on own bottom b m' set_now) head)
+            (right_order (mark a.beside) (sym zero_ ∙ good.0.order) ∙ sym (ap side_code de)) (omega (arith, e, f, no_strand)) others (λ b. b) (stands_on own bottom b m' set_now) head (λ x. x) refl)
       ]
 
       claimed : Law z (grow p come_ t)
@@ -204,6 +206,7 @@ module _ (i : Image) (fair : IsFair i.code) (root : Tree (Frame FrameWord Point)
       does = tt;
       orders = (head, set);
       others = λ q ne. kept_same i fair root input s t law p q;
+      unrun = same_part tt tt refl;
       finishes = not_ended m m t come.around low low come.is refl refl;
     }))
 
@@ -234,6 +237,7 @@ module _ (i : Image) (fair : IsFair i.code) (root : Tree (Frame FrameWord Point)
       does = tt;
       orders = (head, set);
       others = λ q ne. kept_same i fair root input s t law p q;
+      unrun = same_part tt tt refl;
       finishes = λ e. e;
     })
 
@@ -250,7 +254,7 @@ module _ (i : Image) (fair : IsFair i.code) (root : Tree (Frame FrameWord Point)
 
   exchange_by : (a : Bool) → (o == 0) ≡ a → (own bottom b : ℕ) → Exchanged a (side_code d) own bottom b
   exchange_by true e own bottom b = let z = eqb-true o 0 e in claimed (ap (λ (x : ℕ). x == side_code d) z ∙ zero_code d) z own bottom b
-  exchange_by false e own bottom b = going i fair root input s t law p (doing_of (stands_then i.shape i.code (kind_seat own p (Arrive r d) bottom) (Install (join_then b))))
+  exchange_by false e own bottom b = going i fair root input s t law p (ap is_taker ke) (doing_of (stands_then i.shape i.code (kind_seat own p (Arrive r d) bottom) (Install (join_then b))))
       (subst (λ (k : RestartKind). Does i m p k (doing_of (stands_then i.shape i.code (kind_seat own p (Arrive r d) bottom) (Install (join_then b))))) (sym ke)
       (stands_on own bottom b m (λ z. let k : true ≡ false = sym (eq-eqb o 0 z) ∙ e in cc)))
 
@@ -273,13 +277,13 @@ module _ (i : Image) (fair : IsFair i.code) (root : Tree (Frame FrameWord Point)
 
   pub arrive_keeps : ArriveKeeps i root input s t p r d
   arrive_keeps = record {
-    begins = λ own bottom. going i fair root input s t law p (InRow (row_of i.shape (kind_seat own p (Arrive r d) bottom) (Arrive r d)))
+    begins = λ own bottom. going i fair root input s t law p (ap is_taker ke) (InRow (row_of i.shape (kind_seat own p (Arrive r d) bottom) (Arrive r d)))
         (subst (λ (k : RestartKind). Under i m p k (row_of i.shape (kind_seat own p (Arrive r d) bottom) (Arrive r d))) (sym ke) (bottom, 0, refl));
     stores_none = λ cell content next e. under_of (Store cell content next) e;
     exchanges = λ own bottom found cell old new next e. under_of (Exchange cell old new next) e own bottom found;
     installs = λ next e ends. under_of (Now next) e ends;
-    faults = going i fair root input s t law p Resting tt;
+    faults = going i fair root input s t law p (ap is_taker ke) Resting tt;
   }
 
 pub arrive_row_keeps : ArriveRowKeeps
-arrive_row_keeps i fair root input s t law copies p there r d ke = arrive_keeps i fair root input s t law p there (others_keep i fair root input s t law copies p) r d ke
+arrive_row_keeps i fair root input s t law p there r d ke = arrive_keeps i fair root input s t law p there (others_keep i fair root input s t law p) r d ke

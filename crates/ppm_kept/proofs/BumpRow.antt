@@ -32,12 +32,14 @@ use Rattle.ppm_frames.proofs.WriteLemmas.{write_here, write_else}
 use Rattle.ppm_frames.proofs.SkeletonLemmas.{tree_same, branch_from}
 use Rattle.ppm_frames.proofs.SwapLemmas.{swap_same, good_same, good_here}
 use Rattle.ppm_kept.specs.Running.{IsFair}
+use Rattle.ppm_kept.specs.Branches.{Untaken, Unpushed, is_taker, HasCopy}
 use Rattle.ppm_kept.specs.Kept.{Image, end_of, seat_at, Doing, Resting, InRow, State, put, Blank, ceiling, Free, Reach, Does, Under, Ordered, carried, IsKept}
 use Rattle.ppm_kept.specs.Moves.{doing_of, goes, stores, installs}
 use Rattle.ppm_kept.specs.Laws.{Ends, BumpKeeps, kind_then}
 use Rattle.ppm_kept.specs.Others.{Keeps}
 use Rattle.ppm_kept.proofs.PutLemmas.{put_here, put_else}
 use Rattle.ppm_kept.proofs.EndingLemmas.{not_ended}
+use Rattle.ppm_kept.proofs.BranchLemmas.{same_part}
 use Rattle.ppm_kept.proofs.BuildLemmas.{Turn, build}
 use Rattle.ppm_kept.proofs.PlaceLemmas.{leaf, going, kept_same, is_at_own, is_at_other}
 
@@ -108,6 +110,9 @@ module _ (i : Image) (fair : IsFair i.code) (root : Tree (Frame FrameWord Point)
   blank : Blank i m p (r + l.size)
   blank = subst (Free i m p) ke (law.free p)
 
+  untaken : Untaken p r (plug c u)
+  untaken = subst₂ (Unpushed p) has_leaf.is ke (law.untaken p)
+
   abbrev sits : (own bottom : ℕ) → Seat
   sits o b = record { own = o; place = p; restart = record { kind = Bump r; bottom = b } }
 
@@ -122,10 +127,10 @@ module _ (i : Image) (fair : IsFair i.code) (root : Tree (Frame FrameWord Point)
 
   -- the row begins, and its link is loaded
   pub row_begins : (own bottom : ℕ) → Law (goes s p (IsWithin (sits own bottom) (row_of i.shape (sits own bottom) (Bump r))))
-  row_begins own bottom = going i fair root input s t law p (InRow (Now (Load (BumpLink r)))) (subst (λ (k : RestartKind). Under i m p k (Now (Load (BumpLink r)))) (sym ke) (bottom, 0, refl))
+  row_begins own bottom = going i fair root input s t law p (ap is_taker ke) (InRow (Now (Load (BumpLink r)))) (subst (λ (k : RestartKind). Under i m p k (Now (Load (BumpLink r)))) (sym ke) (bottom, 0, refl))
 
   pub link_loads : (own bottom victim : ℕ) → Law (goes s p (went_row i.shape i.code (sits own bottom) victim (m (BlockWord r)) (Now (Load (BumpLink r)))))
-  link_loads own bottom victim = going i fair root input s t law p (doing_of (went_row i.shape i.code (sits own bottom) victim (m (BlockWord r)) (Now (Load (BumpLink r)))))
+  link_loads own bottom victim = going i fair root input s t law p (ap is_taker ke) (doing_of (went_row i.shape i.code (sits own bottom) victim (m (BlockWord r)) (Now (Load (BumpLink r)))))
       (subst (λ (k : RestartKind). Does i m p k (doing_of (went_row i.shape i.code (sits own bottom) victim (m (BlockWord r)) (Now (Load (BumpLink r)))))) (sym ke) (by (link_of (m (BlockWord r))) refl))
     where
       some : (k : LinkKind) (z : ℕ) → link_of (m (BlockWord r)) ≡ Some (record { kind = k; size = z }) → Does i m p (Bump r) (doing_of (stands i.shape i.code (sits own bottom) (link_row (Some (record { kind = k; size = z })) bottom)))
@@ -175,6 +180,7 @@ module _ (i : Image) (fair : IsFair i.code) (root : Tree (Frame FrameWord Point)
       does = does_so m' (b, 2, reaches m' (pool r) (write_here m (RoomCounter p) (r + l.size)));
       orders = tt;
       others = keeps c u (RoomCounter p) (r + l.size) has_leaf.is has_leaf.alone only one_here (inl refl);
+      unrun = same_part tt untaken refl;
       finishes = not_ended m m' t c u u has_leaf.is (write_else m (RoomCounter p) (r + l.size) FinishWord (λ e. cc)) refl;
     }
 
@@ -182,7 +188,8 @@ module _ (i : Image) (fair : IsFair i.code) (root : Tree (Frame FrameWord Point)
     counter_stored = subst (IsKept i root input z) (sym has_leaf.is) (build i fair root input s t law p z c u u (Bump r) d stored_turn)
 
   -- what comes next is installed
-  module _ (k : RestartKind) (stored : m (RoomCounter p) ≡ r + l.size) (match : Match i.code m k h (Begins 0) f) (top_is : ceiling i m p k ≡ m (RoomCounter p)) (one : carried m k ≡ 1) (frees : Free i m p k) (plain_kind : Ordered i s t m k) where
+  module _ (k : RestartKind) (stored : m (RoomCounter p) ≡ r + l.size) (match : Match i.code m k h (Begins 0) f) (top_is : ceiling i m p k ≡ m (RoomCounter p)) (one : carried m k ≡ 1) (frees : Free i m p k) (plain_kind : Ordered i s t m k)
+      (copy : HasCopy k) (own : Unpushed p (plug c u) k) (none : is_taker k ≡ false) where
     bump_installed : Law (installs s p k)
     bump_installed = subst (IsKept i root input (installs s p k)) (sym has_leaf.is) (build i fair root input s t law p (installs s p k) c u u k Resting (record {
       is = has_leaf.is;
@@ -205,6 +212,7 @@ module _ (i : Image) (fair : IsFair i.code) (root : Tree (Frame FrameWord Point)
       does = tt;
       orders = plain_kind;
       others = λ q ne. kept_same i fair root input s t law p q;
+      unrun = same_part copy own none;
       finishes = not_ended m m t c u u has_leaf.is refl refl;
     }))
 
@@ -232,12 +240,14 @@ module _ (i : Image) (fair : IsFair i.code) (root : Tree (Frame FrameWord Point)
       let here = calls_here h refl g y e has_leaf.at_ in
       bump_installed (Run r 0) stored (here, refl) refl refl
       (record { block = λ o lt out. ap (λ (b : ℕ). m (BlockWord (b + o))) stored ∙ blank o (subst (λ (b : ℕ). b + o < end_of i p) stored lt); outcome = inl (ap (λ (x : ℕ). m (BlockWord (x + 1))) here ∙ has_leaf.open_) }) tt
+      (omega arith) tt refl
 
   pub fork_installs : (g y : ℕ) → l.kind ≡ Forked g y → m (RoomCounter p) ≡ r + l.size → Law (installs s p (Push1 r))
   fork_installs g y e stored =
       let here = forks_here h refl g y e has_leaf.at_ in
       bump_installed (Push1 r) stored (refl, here.0, here.1, has_leaf.open_) refl refl
       (λ o lt. ap (λ (b : ℕ). m (BlockWord (b + o))) stored ∙ blank o (subst (λ (b : ℕ). b + o < end_of i p) stored lt)) tt
+      tt untaken refl
 
   -- the store of the row, by what was reached
   module _ (own bottom b : ℕ) where
@@ -331,5 +341,5 @@ module _ (i : Image) (fair : IsFair i.code) (root : Tree (Frame FrameWord Point)
     loads = link_loads;
     stores = λ own bottom found cell content next e. let a = under_of (Store cell content next) e in store_reached own bottom a.0 a.1 cell content next a.2;
     installs = λ next e ends. let a = under_of (Now next) e in install_reached 0 0 a.0 a.1 next a.2 ends;
-    faults = going i fair root input s t law p Resting tt;
+    faults = going i fair root input s t law p (ap is_taker ke) Resting tt;
   }

@@ -20,6 +20,7 @@ use Rattle.ppm_step.specs.declared.row.Then.{Then}
 use Rattle.ppm_step.specs.declared.row.Then.TheVariants.{Load, Install, Fork, Begin, Move, Enter, Again, Broken}
 use Rattle.ppm_frames.specs.Views.{written, in_pool, is_cell, view}
 use Rattle.ppm_frames.proofs.ViewLemmas.{view_is, cells_are_viewed, others_are_unseen}
+use Rattle.ppm_kept.specs.Branches.{HasCopy}
 use Rattle.ppm_kept.specs.Kept.{Image, start, end_of, owner}
 use Rattle.ppm_kept.specs.Laws.{Ends}
 use Rattle.ppm_kept.specs.Turns.{StepsShow, StepsAreSeen, StoresAreCells}
@@ -69,7 +70,7 @@ pub pool_cell : (i : Image) (x : ℕ) → owner i x < i.shape.processors → sta
 pool_cell i x there low high = both _ _ (lt-ltb _ _ there) (both _ _ (le-leb _ _ low) (lt-ltb _ _ high))
 
 pub stores_are_cells : StoresAreCells
-stores_are_cells i fair root input s t law copies p there f y ke cell spot is = let keeps = others_keep i fair root input s t law copies p in let low = copies p f y ke in elim spot [
+stores_are_cells i fair root input s t law p there f y ke cell spot is = let keeps = others_keep i fair root input s t law p in let low = subst HasCopy ke (law.copies p) in elim spot [
   | inl a ↦ subst (λ (c : Cell). is_cell i.shape c ≡ true) (sym a.1) (
       let some = counted_leaf i fair root input s t law p there keeps f y low ke a.0 a.2 in
       let b = law.below (f + a.0) some in

@@ -18,7 +18,6 @@ use Rattle.ppm_kept.specs.Kept.{Image, InRow, State, IsKept}
 use Rattle.ppm_kept.specs.Moves.{goes, installs, begun, exchanged}
 use Rattle.ppm_kept.specs.Laws.{Ends, kind_then}
 use Rattle.ppm_kept.specs.Pushing.{kind_seat}
-use Rattle.ppm_kept.specs.Others.{HasCopies}
 
 -- the branch of a place came first, if nothing stood in its order word
 abbrev pub by_arrive : (Cell → ℕ) → (p r : ℕ) → Skeleton → Skeleton
@@ -42,5 +41,5 @@ abbrev pub ArriveRowKeeps : Type 0
 ArriveRowKeeps = (i : Image) → IsFair i.code
     → (root : Tree (Frame FrameWord Point) Result) (input : Words) (s : State) (t : Skeleton)
     → IsKept i root input s t
-    → HasCopies s → (p : ℕ) → p < i.shape.processors → (r : ℕ) (d : Side) → s.kind p ≡ Arrive r d
+    → (p : ℕ) → p < i.shape.processors → (r : ℕ) (d : Side) → s.kind p ≡ Arrive r d
     → ArriveKeeps i root input s t p r d

@@ -21,7 +21,6 @@ use Rattle.ppm_step.specs.declared.row.Then.TheVariants.{Install, Fork, Begin}
 use Rattle.ppm_frames.specs.Skeletons.{Skeleton}
 use Rattle.ppm_kept.specs.Kept.{Image, InRow, InRest, State, IsKept}
 use Rattle.ppm_kept.specs.Moves.{goes, stores, installs, fills, by_install, begun, entered, stored}
-use Rattle.ppm_kept.specs.Others.{HasCopies}
 use Rattle.ppm_code.specs.declared.code.CodeParts.{CodeParts}
 use Rattle.ppm_kept.specs.Running.{IsFair, MayStore, GoesOnByLoads, GoesOnByStores, OpensByInstalls, BeginsSo}
 
@@ -71,7 +70,7 @@ abbrev pub RunRowKeeps : Type 0
 RunRowKeeps = (i : Image) → IsFair i.code
     → (root : Tree (Frame FrameWord Point) Result) (input : Words) (s : State) (t : Skeleton)
     → IsKept i root input s t
-    → HasCopies s → (p : ℕ) → p < i.shape.processors → (f y : ℕ) → s.kind p ≡ Run f y
+    → (p : ℕ) → p < i.shape.processors → (f y : ℕ) → s.kind p ≡ Run f y
     → RunKeeps i root input s t p f y
 
 -- a seat at a row of kind Bump
@@ -110,5 +109,5 @@ abbrev pub BumpRowKeeps : Type 0
 BumpRowKeeps = (i : Image) → IsFair i.code
     → (root : Tree (Frame FrameWord Point) Result) (input : Words) (s : State) (t : Skeleton)
     → IsKept i root input s t
-    → HasCopies s → (p : ℕ) → p < i.shape.processors → (r : ℕ) → s.kind p ≡ Bump r
+    → (p : ℕ) → p < i.shape.processors → (r : ℕ) → s.kind p ≡ Bump r
     → BumpKeeps i root input s t p r

@@ -25,7 +25,6 @@ use Rattle.ppm_kept.specs.Running.{IsFair}
 use Rattle.ppm_kept.specs.Kept.{Image, InRow, State, IsKept}
 use Rattle.ppm_kept.specs.Moves.{goes, stores, installs, begun, loaded, stored, exchanged}
 use Rattle.ppm_kept.specs.Laws.{Ends, kind_then}
-use Rattle.ppm_kept.specs.Others.{HasCopies}
 
 -- what the install at the end of Unwind makes of the skeleton: the frame that waited goes on, or is
 -- over too, or the branch arrives
@@ -64,7 +63,7 @@ abbrev pub UnwindRowKeeps : Type 0
 UnwindRowKeeps = (i : Image) → IsFair i.code
     → (root : Tree (Frame FrameWord Point) Result) (input : Words) (s : State) (t : Skeleton)
     → IsKept i root input s t
-    → HasCopies s → (p : ℕ) → p < i.shape.processors → (f : ℕ) → s.kind p ≡ Unwind f
+    → (p : ℕ) → p < i.shape.processors → (f : ℕ) → s.kind p ≡ Unwind f
     → UnwindKeeps i root input s t p f
 
 -- An exchange of a cell that frames have is one of the words by cells; any other is not seen
