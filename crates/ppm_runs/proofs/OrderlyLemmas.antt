@@ -48,13 +48,14 @@ use Rattle.ppm_frames.specs.Good.{IsPlain, mark, order_of, Match, Good}
 use Rattle.ppm_frames.proofs.SkeletonLemmas.{branch_from, inside_at}
 use Rattle.ppm_frames.proofs.SwapLemmas.{good_here}
 use Rattle.ppm_kept.specs.Running.{IsFair, MayStore}
-use Rattle.ppm_kept.specs.Kept.{Image, seat_at, InRow, InRest, State, Reach, Does, Ordered, carried, IsKept}
+use Rattle.ppm_kept.specs.Kept.{Image, seat_at, InRow, InRest, State, Reach, Reached, Does, Ordered, carried, IsKept}
 use Rattle.ppm_kept.proofs.NodeLemmas.{nodes_same}
 use Rattle.ppm_kept.proofs.PlaceLemmas.{Leafed, leaf, head_on}
 use Rattle.ppm_kept.proofs.JoiningLemmas.{Comes, joins as joins_leaf, inline_late}
 use Rattle.ppm_kept.proofs.Rows.{run_row_keeps}
 use Rattle.ppm_kept.proofs.UnwindRow.{unwind_row_keeps}
 use Rattle.ppm_kept.proofs.ArriveRow.{arrive_row_keeps}
+use Rattle.ppm_kept.proofs.JoinLastRow.{join_row_keeps}
 use Rattle.ppm_kept.proofs.TurnLemmas.{stores_are_cells}
 use Rattle.ppm_runs.specs.Run.{image, shown, IsAtLast, IsLeft, IsHomed, AreHomed, IsRun}
 use Rattle.ppm_runs.specs.Laws.{Owes, TurnsAreOrderly}
@@ -65,6 +66,10 @@ use Rattle.ppm_runs.proofs.ShownLemmas.{pool_is, cell_pooled, homed_here, Within
 abbrev IsLoad : Row → Type 0
 IsLoad (Now (Load point)) = Unit {0}
 IsLoad _ = ⊥
+
+abbrev IsInstall : Row → Type 0
+IsInstall (Now (Install restart)) = Unit {0}
+IsInstall _ = ⊥
 
 -- kinds whose rows are looked at by what they have found
 abbrev IsLooking : RestartKind → Type 0
@@ -117,7 +122,7 @@ places_row : (how : Takeover) (may : May) (row : Row) → TameRow may row → Ta
 places_row ByPlaces may row q = q
 places_row ByEntries may row q = tt
 
-module _ (s : Shape) (code : CodeParts) (places : s.takeover ≡ ByPlaces) (fair : IsFair code) (root : Tree (Frame FrameWord Point) Result) (input : Words) (state : RunState) (h : ℕ → Home) (forked taken : List ℕ) (t : Skeleton) (run : IsRun s code root input state h forked taken t) (JOIN : (p r : ℕ) (d : Side) → (shown s state).kind p ≡ Join r d → (cell : Cell) (content : Content) (next : Then) → (shown s state).doing p ≡ InRow (Store cell content next) → is_cell s cell ≡ true) where
+module _ (s : Shape) (code : CodeParts) (places : s.takeover ≡ ByPlaces) (fair : IsFair code) (root : Tree (Frame FrameWord Point) Result) (input : Words) (state : RunState) (h : ℕ → Home) (forked taken : List ℕ) (t : Skeleton) (run : IsRun s code root input state h forked taken t) where
   abbrev i : Image
   i = image s code
 
@@ -175,7 +180,10 @@ module _ (s : Shape) (code : CodeParts) (places : s.takeover ≡ ByPlaces) (fair
     fork_of (Bump r) e d = ap Bump (sym (reached (one_fork r) (seat_at seat.place (Bump r) d.0) d.1 (row_of s (seat_at seat.place (Bump r) d.0) (Bump r)) (Now (Fork block)) refl d.2))
     fork_of (Unwind f) e d = absurd (reached no_forks (seat_at seat.place (Unwind f) d.0) d.1 (row_of s (seat_at seat.place (Unwind f) d.0) (Unwind f)) (Now (Fork block)) (λ a. tt) d.2)
     fork_of (Arrive r x) e d = absurd (reached no_forks (seat_at seat.place (Arrive r x) d.0) d.1 (row_of s (seat_at seat.place (Arrive r x) d.0) (Arrive r x)) (Now (Fork block)) (tt, tt) d.2)
-    fork_of (Join r x) e d = absurd (reached no_forks (seat_at seat.place (Join r x) d.0) d.1 (row_of s (seat_at seat.place (Join r x) d.0) (Join r x)) (Now (Fork block)) (tt, λ a. tt) d.2)
+    fork_of (Join r x) e d = elim d [
+      | inl d ↦ absurd (reached no_forks (seat_at seat.place (Join r x) d.0) d.1 (row_of s (seat_at seat.place (Join r x) d.0) (Join r x)) (Now (Fork block)) (tt, λ a. tt) d.2)
+      | inr g ↦ absurd (subst IsInstall (sym g.is) tt)
+    ]
     fork_of (Push1 r) e d = absurd (looked no_forks c seat (Now (Fork block)) (Push1 r) tt e (push_row no_forks seat r tt) w)
     fork_of (Push2 r) e d = absurd (looked no_forks c seat (Now (Fork block)) (Push2 r) tt e tt w)
     fork_of Pop1 e d = absurd (looked no_forks c seat (Now (Fork block)) Pop1 tt e tt w)
@@ -192,8 +200,8 @@ module _ (s : Shape) (code : CodeParts) (places : s.takeover ≡ ByPlaces) (fair
       run.born.unborn seat.place block (w.kind ∙ fork_of c seat block w seat.restart.kind refl w.does)
 
   -- a branch that is begun at a join is that of the block, where the order word says so
-  joined_of : (p r : ℕ) (d : Side) (block frame bottom : ℕ) → Does i m p (Join r d) (InRow (Now (Begin block frame bottom))) → (block ≡ r) × (is_inline (m (BlockWord (r + 1))) d ≡ true)
-  joined_of p r d block frame bottom does = by does.1 does.2
+  joined_by : (p r : ℕ) (d : Side) (block frame bottom : ℕ) → Reached i m p (Join r d) (Now (Begin block frame bottom)) → (block ≡ r) × (is_inline (m (BlockWord (r + 1))) d ≡ true)
+  joined_by p r d block frame bottom does = by does.1 does.2
     where
       start_row : (x y w : Bool) → is_inline (m (BlockWord (r + 1))) d ≡ y
           → TameRow (one_begin r (is_inline (m (BlockWord (r + 1))) d ≡ true)) (joins (seat_at p (Join r d) does.0) r x y w)
@@ -209,6 +217,9 @@ module _ (s : Shape) (code : CodeParts) (places : s.takeover ≡ ByPlaces) (fair
           (joins (seat_at p (Join r d) does.0) r (m (BlockWord (r + 1)) == first d) (is_inline (m (BlockWord (r + 1))) d) (is_last (m (BlockWord (r + 1))) d))
           (Now (Begin block frame bottom))
           (start_row (m (BlockWord (r + 1)) == first d) (is_inline (m (BlockWord (r + 1))) d) (is_last (m (BlockWord (r + 1))) d) refl) e
+
+  joined_of : (p r : ℕ) (d : Side) (block frame bottom : ℕ) → Does i m p (Join r d) (InRow (Now (Begin block frame bottom))) → (block ≡ r) × (is_inline (m (BlockWord (r + 1))) d ≡ true)
+  joined_of p r d block frame bottom does = elim does [ inl a ↦ joined_by p r d block frame bottom a | inr g ↦ absurd (subst IsInstall (sym g.is) tt) ]
 
   -- the home of a branch that is held
   held_home : (b : Skeleton) (x : Home) → order_of IsPlain (mark b) ≡ 3 → IsHomed last b x → (x ≡ Inline) ⊎ ((q : ℕ) × (x ≡ Pushing q))
@@ -389,9 +400,9 @@ module _ (s : Shape) (code : CodeParts) (places : s.takeover ≡ ByPlaces) (fair
     stored_by : (k : RestartKind) → seat.restart.kind ≡ k → Does i m seat.place k (InRow row) → IsPooled s cell
     stored_by (Run f y) e d = absurd (subst IsLoad (sym d) tt)
     stored_by (Bump r) e d = none_stored cell content next (reached no_words (seat_at seat.place (Bump r) d.0) d.1 (row_of s (seat_at seat.place (Bump r) d.0) (Bump r)) row tt d.2)
-    stored_by (Unwind f) e d = cell_pooled s cell ((unwind_row_keeps i fair root input z t law run.copies seat.place w.place f (w.kind ∙ e)).cells cell content next doing)
-    stored_by (Arrive r x) e d = absurd ((arrive_row_keeps i fair root input z t law run.copies seat.place w.place r x (w.kind ∙ e)).stores_none cell content next doing)
-    stored_by (Join r x) e d = cell_pooled s cell (JOIN seat.place r x (w.kind ∙ e) cell content next doing)
+    stored_by (Unwind f) e d = cell_pooled s cell ((unwind_row_keeps i fair root input z t law seat.place w.place f (w.kind ∙ e)).cells cell content next doing)
+    stored_by (Arrive r x) e d = absurd ((arrive_row_keeps i fair root input z t law seat.place w.place r x (w.kind ∙ e)).stores_none cell content next doing)
+    stored_by (Join r x) e d = cell_pooled s cell ((join_row_keeps i fair root input z t law seat.place w.place r x (w.kind ∙ e)).cells cell content next doing)
     stored_by (Push1 r) e d = one_stored (r + 1) cell content next (order_pool r seat.place (inl (w.kind ∙ e))) (looked (one_word (r + 1)) c seat row (Push1 r) tt e (push_row (one_word (r + 1)) seat r refl) w)
     stored_by (Push2 r) e d = none_stored cell content next (looked no_words c seat row (Push2 r) tt e tt w)
     stored_by Pop1 e d = none_stored cell content next (looked no_words c seat row Pop1 tt e tt w)
@@ -417,7 +428,10 @@ module _ (s : Shape) (code : CodeParts) (places : s.takeover ≡ ByPlaces) (fair
     traded_by (Arrive r x) e d = one_traded (r + 1) cell old new next
         (head_pool s code root input state h forked taken t run (r + 1) (subst (Ordered i z t m) (w.kind ∙ e) (law.orders seat.place)))
         (reached (one_word (r + 1)) (seat_at seat.place (Arrive r x) d.0) d.1 (row_of s (seat_at seat.place (Arrive r x) d.0) (Arrive r x)) trade (refl, tt) d.2)
-    traded_by (Join r x) e d = none_traded no_trades nothing cell old new next (reached no_trades (seat_at seat.place (Join r x) d.0) d.1 (row_of s (seat_at seat.place (Join r x) d.0) (Join r x)) trade (tt, λ a. tt) d.2)
+    traded_by (Join r x) e d = elim d [
+      | inl d ↦ none_traded no_trades nothing cell old new next (reached no_trades (seat_at seat.place (Join r x) d.0) d.1 (row_of s (seat_at seat.place (Join r x) d.0) (Join r x)) trade (tt, λ a. tt) d.2)
+      | inr g ↦ absurd (subst IsInstall (sym g.is) tt)
+    ]
     traded_by (Push1 r) e d = one_traded (r + 1) cell old new next (order_pool r seat.place (inl (w.kind ∙ e))) (looked (one_word (r + 1)) c seat trade (Push1 r) tt e (push_row (one_word (r + 1)) seat r refl) w)
     traded_by (Push2 r) e d = none_traded no_words nothing cell old new next (looked no_words c seat trade (Push2 r) tt e tt w)
     traded_by Pop1 e d = none_traded no_words nothing cell old new next (looked no_words c seat trade Pop1 tt e tt w)
@@ -436,8 +450,8 @@ module _ (s : Shape) (code : CodeParts) (places : s.takeover ≡ ByPlaces) (fair
     where
       by : (k : RestartKind) → z.kind seat.place ≡ k → Does i m seat.place k (InRest (Stores cell content rest)) → Runs s code root input state h forked taken t run c seat (Stores cell content rest) → IsPooled s cell
       by (Run f y) ke d w =
-          let keeps = run_row_keeps i fair root input z t law run.copies seat.place w.place f y ke in
-          cell_pooled s cell (stores_are_cells i fair root input z t law run.copies seat.place w.place f y ke cell (keeps.cells cell content rest w.doing) w.here)
+          let keeps = run_row_keeps i fair root input z t law seat.place w.place f y ke in
+          cell_pooled s cell (stores_are_cells i fair root input z t law seat.place w.place f y ke cell (keeps.cells cell content rest w.doing) w.here)
       by (Bump r) ke d w = absurd d
       by (Push1 r) ke d w = absurd d
       by (Push2 r) ke d w = absurd d
@@ -528,4 +542,4 @@ module _ (s : Shape) (code : CodeParts) (places : s.takeover ≡ ByPlaces) (fair
   }
 
 pub turns_are_orderly : TurnsAreOrderly
-turns_are_orderly s code places fair root input state h forked taken t run = owes s code places fair root input state h forked taken t run {!!}
+turns_are_orderly s code places fair root input state h forked taken t run = owes s code places fair root input state h forked taken t run

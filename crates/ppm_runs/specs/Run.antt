@@ -23,7 +23,6 @@ use Rattle.ppm_frames.specs.Views.{view}
 use Rattle.ppm_frames.specs.Skeletons.{Begins, Fresh, Waiting, Held, Skeleton, Leaf, Calling, Forking, holds, Around, plug}
 use Rattle.ppm_frames.specs.Good.{link_at}
 use Rattle.ppm_kept.specs.Kept.{Image, Doing, Resting, InRow, InRest, Broken, State, owner, IsKept}
-use Rattle.ppm_kept.specs.Others.{HasCopies}
 
 -- a shape with its code
 abbrev pub image : Shape → CodeParts → Image
@@ -123,7 +122,6 @@ AreReady z t = (p r f y b : ℕ) → z.kind p ≡ Push1 r
 pub record IsRun (s : Shape) (code : CodeParts) (root : Tree (Frame FrameWord Point) Result) (input : Words) (state : RunState) (h : ℕ → Home) (forked taken : List ℕ) (t : Skeleton) : Type 0 where
   pub lawful : IsLawful s code state h forked taken
   pub kept : IsKept (image s code) root input (shown s state) t
-  pub copies : HasCopies (shown s state)
   pub homed : AreHomed (IsAtLast s state.words) h t
   pub ready : AreReady (shown s state) t
   pub born : AreBorn (image s code) (view s state.words) (spots.kinds s state.words) forked
