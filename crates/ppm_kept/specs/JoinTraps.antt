@@ -21,7 +21,7 @@ use Rattle.ppm_step.specs.declared.row.Then.TheVariants.{Load}
 use Rattle.ppm_frames.specs.Skeletons.{Skeleton}
 use Rattle.ppm_kept.specs.Running.{IsFair}
 use Rattle.ppm_kept.specs.Kept.{Image, side_code, InRow, State, IsKept}
-use Rattle.ppm_kept.specs.Moves.{goes, stores, installs, begun, loaded, stored}
+use Rattle.ppm_kept.specs.Moves.{goes, installs, begun, loaded, stored}
 use Rattle.ppm_kept.specs.Laws.{Ends, kind_then}
 use Rattle.ppm_kept.specs.Pushing.{kind_seat}
 use Rattle.ppm_kept.specs.Joins.{by_join}
