@@ -48,3 +48,4 @@ pub mod JoinTrapRow
 pub mod JoinValueLemmas
 pub mod LookLemmas
 pub mod TakeRow
+pub mod StateLemmas

@@ -1,0 +1,5 @@
+use Rattle.ppm_kept.proofs.StateLemmas.{turns_show}
+use Rattle.ppm_kept.proofs.laws.turns_show.Goals as goal
+
+pub returns : goal.returns
+returns c = record { law = turns_show }
