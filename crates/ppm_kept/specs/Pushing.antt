@@ -24,7 +24,7 @@ use Rattle.ppm_frames.specs.Good.{mark}
 use Rattle.ppm_kept.specs.Running.{IsFair}
 use Rattle.ppm_kept.specs.Branches.{IsUntaken, Untaken}
 use Rattle.ppm_kept.specs.Kept.{Image, State, IsKept}
-use Rattle.ppm_kept.specs.Moves.{goes, stores, installs, stored, exchanged_unseen}
+use Rattle.ppm_kept.specs.Moves.{goes, installs, stored, exchanged_unseen}
 use Rattle.ppm_kept.specs.Laws.{Ends, kind_then}
 
 -- how a row comes to what is left of it, whatever its loads find: entries are not in the view

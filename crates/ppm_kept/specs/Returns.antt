@@ -23,7 +23,7 @@ use Rattle.ppm_frames.specs.Views.{written as write, is_cell, view}
 use Rattle.ppm_frames.specs.Skeletons.{Begins, Over, Arrives, InPlace, Skeleton, Leaf, grow, back}
 use Rattle.ppm_kept.specs.Running.{IsFair}
 use Rattle.ppm_kept.specs.Kept.{Image, InRow, State, IsKept}
-use Rattle.ppm_kept.specs.Moves.{goes, stores, installs, begun, loaded, stored, exchanged}
+use Rattle.ppm_kept.specs.Moves.{goes, installs, begun, loaded, stored, exchanged}
 use Rattle.ppm_kept.specs.Laws.{Ends, kind_then}
 
 -- what the install at the end of Unwind makes of the skeleton: the frame that waited goes on, or is
