@@ -7,6 +7,7 @@ use Rattle.ppm_cells.specs.Cells.{word_count}
 use Rattle.ppm_cells.specs.Finish.{finish_of}
 use Rattle.ppm_cells.specs.Link.{link_of, IsLink}
 use Rattle.ppm_cells.specs.declared.cell.Cell.{Cell}
+use Rattle.ppm_cells.specs.declared.cell.Cell.TheVariants.{BlockWord}
 use Rattle.ppm_cells.specs.declared.finish.Finish.{Finish}
 use Rattle.ppm_cells.specs.declared.finish.Finish.TheVariants.{Ended, Trapped}
 use Rattle.ppm_cells.specs.declared.link.Link.{Link}
@@ -37,6 +38,7 @@ use Rattle.ppm_step.specs.declared.row.Seat.{Seat}
 use Rattle.ppm_step.specs.declared.row.Then.{Then}
 use Rattle.ppm_step.specs.declared.row.Then.TheVariants.{Load, Install, Fork, Begin, Broken}
 use Rattle.ppm_frames.specs.Skeletons.{Skeleton}
+use Rattle.ppm_frames.specs.Good.{link_or, link_at}
 use Rattle.ppm_kept.specs.Running.{IsFair, HasCome, IsClean, home_at, Opens}
 use Rattle.ppm_kept.specs.Branches.{HasCopy}
 use Rattle.ppm_kept.specs.Kept.{Image, seat_at, put, Doing, InRest, State, Free, Reach, Under, Does, IsKept}
@@ -94,6 +96,18 @@ unpacked_low w l e = by l.kind l.size ((links_exact w l).0 e).0
     by (Forked f y) z h = h.0.1.0
     by Root z h = tt
     by (Branch d r) z h = tt
+
+pub hooked_low : (w f y : ℕ) → (link_at w).kind ≡ Forked f y → y < 2
+hooked_low w f y e = by (link_of w) refl
+  where
+    by : (o : Option Link) → link_of w ≡ o → y < 2
+    by None k = absurd (let z : Root ≡ Forked f y = ap (λ (o : Option Link). (link_or o).kind) (sym k) ∙ e in cc)
+    by (Some l) k = subst LowLink (ap (λ (o : Option Link). (link_or o).kind) (sym k) ∙ e) (unpacked_low w l k)
+
+-- the kind that a row installs
+abbrev row_kind : Row → RestartKind
+row_kind (Now next) = kind_then next
+row_kind _ = Seek
 
 -- what a row goes on with, by copies below two
 abbrev LowPoint : Point → Type 0
@@ -230,7 +244,8 @@ module _ (i : Image) (fair : IsFair i.code) (root : Tree (Frame FrameWord CodePo
   row_low (Bump r) known next u ends = ends_low next ends (reached_low (seat_at p (Bump r) u.0) u.1 (row_of i.shape (seat_at p (Bump r) u.0) (Bump r)) next tt u.2)
   row_low (Unwind f) known next u ends = ends_low next ends (reached_low (seat_at p (Unwind f) u.0) u.1 (row_of i.shape (seat_at p (Unwind f) u.0) (Unwind f)) next tt u.2)
   row_low (Arrive r d) known next u ends = ends_low next ends (reached_low (seat_at p (Arrive r d) u.0) u.1 (row_of i.shape (seat_at p (Arrive r d) u.0) (Arrive r d)) next (omega arith) u.2)
-  row_low (Join r d) known next u ends = ends_low next ends (reached_low (seat_at p (Join r d) u.0) u.1 (row_of i.shape (seat_at p (Join r d) u.0) (Join r d)) next tt u.2)
+  row_low (Join r d) known next (inl u) ends = ends_low next ends (reached_low (seat_at p (Join r d) u.0) u.1 (row_of i.shape (seat_at p (Join r d) u.0) (Join r d)) next tt u.2)
+  row_low (Join r d) known next (inr u) ends = subst (λ (k : RestartKind). copy_told k < 2) (sym (ap row_kind u.is)) (hooked_low (m (BlockWord r)) u.frame u.copy u.hook)
   row_low _ known next u ends = absurd known
 
   stay : CopiesStay i s p

@@ -93,7 +93,7 @@ module _ (i : Image) (fair : IsFair i.code) (root : Tree (Frame FrameWord Point)
 
   -- where it stands by what it has reached
   within_any : (own bottom b a : ℕ) (z : Cell → ℕ) (rest : Row) → Reach i z (seat b) a (row b) rest → (yes_ : Bool) → Does i z p (Join r d) (doing_of (within_if (sits own bottom) rest yes_))
-  within_any own bottom b a z rest q true = (b, a, q)
+  within_any own bottom b a z rest q true = inl (b, a, q)
   within_any own bottom b a z rest q false = tt
 
   stand_any : (own bottom b a : ℕ) (z : Cell → ℕ) (rest : Row) → Reach i z (seat b) a (row b) rest → Does i z p (Join r d) (doing_of (stands i.shape i.code (sits own bottom) rest))
@@ -293,8 +293,13 @@ module _ (i : Image) (fair : IsFair i.code) (root : Tree (Frame FrameWord Point)
     row_law b zero rest q = subst RowLaw q order_load
     row_law b (suc a) rest q = elim early [ inl e ↦ first_rows e b a rest q | inr e ↦ inline_rows e b a rest q ]
 
+    -- what is behind both values is of a branch that came last
+    under_law : (rest : Row) → Under i m p (Join r d) rest → RowLaw rest
+    under_law rest (inl a) = row_law a.0 a.1 rest a.2
+    under_law rest (inr a) = absurd (elim early [ inl e ↦ (let z : true ≡ false = sym e ∙ a.late in cc) | inr e ↦ (let z : true ≡ false = sym e ∙ a.beyond in cc) ])
+
     under_of : (rest : Row) → s.doing p ≡ InRow rest → RowLaw rest
-    under_of rest e = let a : Under i m p (Join r d) rest = subst₂ (λ (q : RestartKind) (x : Doing). Does i m p q x) ke e (law.does p) in row_law a.0 a.1 rest a.2
+    under_of rest e = under_law rest (subst₂ (λ (q : RestartKind) (x : Doing). Does i m p q x) ke e (law.does p))
 
     installed_law : (next : Then) → RowLaw (Now next) → Ends next → Law (installs s p (kind_then next)) (by_join p next t)
     installed_law (Install x) a ends = a ends
@@ -308,7 +313,7 @@ module _ (i : Image) (fair : IsFair i.code) (root : Tree (Frame FrameWord Point)
 
     pub early_join_keeps : EarlyJoinKeeps i root input s t p r d
     early_join_keeps = record {
-      begins = λ own bottom. going i fair root input s t law p (ap is_taker ke) (InRow (Now (Load (JoinOrder r d)))) (subst (λ (k : RestartKind). Under i m p k (Now (Load (JoinOrder r d)))) (sym ke) (bottom, 0, refl));
+      begins = λ own bottom. going i fair root input s t law p (ap is_taker ke) (InRow (Now (Load (JoinOrder r d)))) (subst (λ (k : RestartKind). Under i m p k (Now (Load (JoinOrder r d)))) (sym ke) (inl (bottom, 0, refl)));
       loads = λ own bottom victim point e. under_of (Now (Load point)) e own bottom victim;
       stores_none = λ cell content next e. under_of (Store cell content next) e;
       exchanges_none = λ cell old new next e. under_of (Exchange cell old new next) e;

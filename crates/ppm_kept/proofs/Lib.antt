@@ -44,8 +44,10 @@ pub mod PushRows
 pub mod ExchangeLemmas
 pub mod ArriveRow
 pub mod JoinRow
-pub mod JoinTrapRow
 pub mod JoinValueLemmas
+pub mod JoinLastLemmas
+pub mod JoinLastRow
 pub mod LookLemmas
 pub mod TakeRow
 pub mod StateLemmas
+pub mod BeginLemmas

@@ -11,7 +11,7 @@ pub mod Returns
 pub mod Pushing
 pub mod Arriving
 pub mod Joins
-pub mod JoinTraps
+pub mod JoinLast
 pub mod JoinValues
 pub mod Takes
 pub mod Places

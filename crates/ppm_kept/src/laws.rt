@@ -2,13 +2,13 @@
 //! codes without conflicts.
 ghost use Rattle.ppm_kept.specs.Arriving.{ArriveRowKeeps};
 ghost use Rattle.ppm_kept.specs.Copies.{AllCopiesStay, OpeningsHaveCopies};
-ghost use Rattle.ppm_kept.specs.JoinTraps.{TrapJoinRowKeeps};
+ghost use Rattle.ppm_kept.specs.JoinLast.{JoinRowKeeps, LastJoinRowKeeps};
 ghost use Rattle.ppm_kept.specs.JoinValues.{AllBranchValuesPass};
 ghost use Rattle.ppm_kept.specs.Joins.{EarlyJoinRowKeeps};
 ghost use Rattle.ppm_kept.specs.Laws.{BumpRowKeeps, FramesRun, RunRowKeeps};
 ghost use Rattle.ppm_kept.specs.Openings.{ImagesOpen, OpeningsAreKept};
 ghost use Rattle.ppm_kept.specs.Others.{OthersKeep};
-ghost use Rattle.ppm_kept.specs.Places.{TurnsShow};
+ghost use Rattle.ppm_kept.specs.Places.{MachinesOpen, TurnsShow};
 ghost use Rattle.ppm_kept.specs.Pushing.{AllUntakenStays, Push1RowKeeps, Push2RowKeeps};
 ghost use Rattle.ppm_kept.specs.Returns.{ExchangesAreSeen, UnwindRowKeeps};
 ghost use Rattle.ppm_kept.specs.Takes.{TakeRowsKeep};
@@ -99,9 +99,15 @@ pub fn early_join_row_keeps()
     ensures law { EarlyJoinRowKeeps }
 {}
 
-/// So does each step in a row of kind Join whose branch came last, where one of the two trapped.
-pub fn trap_join_row_keeps()
-    ensures law { TrapJoinRowKeeps }
+/// So does each step in a row of kind Join whose branch came last: a trap goes up, or both values
+/// pass, into two slots or one, and the frame that waited goes on.
+pub fn last_join_row_keeps()
+    ensures law { LastJoinRowKeeps }
+{}
+
+/// So does each step in a row of kind Join, whichever branch came first.
+pub fn join_row_keeps()
+    ensures law { JoinRowKeeps }
 {}
 
 /// So does each step in a row of a kind without a strand, which pops, looks for work or takes a place
@@ -115,13 +121,14 @@ pub fn take_rows_keep()
 
 /// The state by places, from the words of a machine and from where its processors stand: each turn of
 /// a processor that is alone in a place is a step of that place, of those that the laws of rows speak
-/// of.
+/// of; and a machine that opens an image is kept.
 pub fn turns_show()
-    ensures law { TurnsShow }
+    ensures turns { TurnsShow }
+    ensures opens { MachinesOpen }
 {}
 
 /// The tree's half of a join where both branches ended: each store of a value into its slot is a
-/// step, and the install is the join. The row is not carried over yet.
+/// step, and the install is the join.
 pub fn branch_values_pass()
     ensures law { AllBranchValuesPass }
 {}
