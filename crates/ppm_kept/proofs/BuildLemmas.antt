@@ -86,6 +86,7 @@ module _ (i : Image) (fair : IsFair i.code) (root : Tree (Frame FrameWord Point)
 
     head_kept : (x : ℕ) → Head i s t x → Head i z (plug c v) x
     head_kept x a = record {
+      there = a.there;
       first = a.first;
       under = let lt = a.under in let r = roof (owner i x) in omega (arith, lt, r);
       bare = elim (turn.adds x) [
