@@ -24,7 +24,7 @@ use Rattle.ppm_step.specs.declared.row.Row.{Row}
 use Rattle.ppm_step.specs.declared.row.Row.TheVariants.{Now, Store, Exchange}
 use Rattle.ppm_step.specs.declared.row.Seat.{Seat}
 use Rattle.ppm_step.specs.declared.row.Then.TheVariants.{Install}
-use Rattle.ppm_frames.specs.Views.{written as write}
+use Rattle.ppm_frames.specs.Views.{written as write, is_cell}
 use Rattle.ppm_frames.specs.Skeletons.{Stand, Begins, Over, Arrives, InPlace, Came, Skeleton, Leaf, grow, at, Around, Top, plug, hook_at, at_rim}
 use Rattle.ppm_frames.specs.Good.{Mark, IsPlain, IsFirst, IsFresh, IsHeld, IsInlined, mark, order_of, Framed, Match, Good}
 use Rattle.ppm_frames.proofs.WriteLemmas.{write_here}
@@ -40,6 +40,7 @@ use Rattle.ppm_kept.specs.Moves.{exchanges}
 use Rattle.ppm_kept.specs.Pushing.{kind_seat}
 use Rattle.ppm_kept.specs.Arriving.{by_arrive, ArriveKeeps, ArriveRowKeeps}
 use Rattle.ppm_kept.proofs.OtherLemmas.{others_keep}
+use Rattle.ppm_kept.proofs.TurnLemmas.{head_cell}
 use Rattle.ppm_kept.proofs.PutLemmas.{put_here, put_else}
 use Rattle.ppm_kept.proofs.EndingLemmas.{not_ended}
 use Rattle.ppm_kept.proofs.BranchLemmas.{same_part}
@@ -261,11 +262,12 @@ module _ (i : Image) (fair : IsFair i.code) (root : Tree (Frame FrameWord Point)
   abbrev RowLaw : Row → Type 0
   RowLaw (Now next) = Ends next → Law (installs s p (kind_then next)) t
   RowLaw (Store cell content next) = ⊥
-  RowLaw (Exchange cell old new next) = (own bottom found : ℕ)
-      → Law (exchanges s p cell (word_of old) (word_of new) (went_row i.shape i.code (kind_seat own p (Arrive r d) bottom) found found (Exchange cell old new next))) (by_arrive m p r t)
+  RowLaw (Exchange cell old new next) = ((own bottom found : ℕ)
+      → Law (exchanges s p cell (word_of old) (word_of new) (went_row i.shape i.code (kind_seat own p (Arrive r d) bottom) found found (Exchange cell old new next))) (by_arrive m p r t))
+      × (is_cell i.shape cell ≡ true)
 
   exchange : (b : ℕ) → RowLaw (Exchange (BlockWord (r + 1)) (ANumber 0) (ANumber (first d)) (Install (join_then b)))
-  exchange b own bottom found = subst (λ (w : ℕ). Exchanged (o == 0) w own bottom b) (sym (first_is d)) (exchange_by (o == 0) refl own bottom b)
+  exchange b = (λ own bottom found. subst (λ (w : ℕ). Exchanged (o == 0) w own bottom b) (sym (first_is d)) (exchange_by (o == 0) refl own bottom b), head_cell i root input s t law (r + 1) head)
 
   by_reach : (b j : ℕ) (rest : Row) → Reach i m (seat b) j (row_of i.shape (seat b) (Arrive r d)) rest → RowLaw rest
   by_reach b zero rest q = subst RowLaw q (exchange b)
@@ -280,7 +282,8 @@ module _ (i : Image) (fair : IsFair i.code) (root : Tree (Frame FrameWord Point)
     begins = λ own bottom. going i fair root input s t law p (ap is_taker ke) (InRow (row_of i.shape (kind_seat own p (Arrive r d) bottom) (Arrive r d)))
         (subst (λ (k : RestartKind). Under i m p k (row_of i.shape (kind_seat own p (Arrive r d) bottom) (Arrive r d))) (sym ke) (bottom, 0, refl));
     stores_none = λ cell content next e. under_of (Store cell content next) e;
-    exchanges = λ own bottom found cell old new next e. under_of (Exchange cell old new next) e own bottom found;
+    exchanges = λ own bottom found cell old new next e. (under_of (Exchange cell old new next) e).0 own bottom found;
+    cells = λ cell old new next e. (under_of (Exchange cell old new next) e).1;
     installs = λ next e ends. under_of (Now next) e ends;
     faults = going i fair root input s t law p (ap is_taker ke) Resting tt;
   }

@@ -1,5 +1,5 @@
 -- What a step has to show of branches that no place runs, for that to stay so.
-use Rattle.std.proofs.Common.{◌≡◌, ◌≢◌, ◌⊎◌, ◌≤◌, ℕ, Bool, true, false, inl, inr, refl, sym, ◌∙◌, arith}
+use Rattle.std.proofs.Common.{◌≡◌, ◌≢◌, ◌⊎◌, ◌≤◌, ℕ, true, false, inl, inr}
 use Rattle.ppm_cells.specs.declared.cell.Cell.{Cell}
 use Rattle.ppm_cells.specs.declared.link.LinkKind.{LinkKind}
 use Rattle.ppm_cells.specs.declared.link.LinkKind.TheVariants.{Root, Branch}
@@ -9,7 +9,7 @@ use Rattle.ppm_cells.specs.declared.side.Side.TheVariants.{Right}
 use Rattle.ppm_code.specs.declared.code.CodeParts.{CodeParts}
 use Rattle.ppm_step.specs.declared.row.Row.TheVariants.{Now}
 use Rattle.ppm_step.specs.declared.row.Then.TheVariants.{Begin}
-use Rattle.ppm_frames.specs.Skeletons.{Stand, Begins, Arrives, Who, InPlace, Fresh, Waiting, Held, Came, Inlined, Skeleton, Leaf, Calling, Forking, count, at, Around, Top, AtCall, AtLeft, AtRight, plug}
+use Rattle.ppm_frames.specs.Skeletons.{Arrives, Who, InPlace, Fresh, Waiting, Held, Came, Inlined, Skeleton, Leaf, Forking, count, at, Around, Top, AtCall, AtLeft, AtRight, plug}
 use Rattle.ppm_frames.specs.Good.{mark, Matches, Good}
 use Rattle.ppm_kept.specs.Branches.{Untaken, Unpushed, IsWaitingAt, Waits, is_taker, HasCopy}
 use Rattle.ppm_kept.specs.Kept.{Doing, InRow, State}

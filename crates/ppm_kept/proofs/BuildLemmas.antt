@@ -1,5 +1,5 @@
 -- What one word step has to show, for the invariant to stand after it.
-use Rattle.std.proofs.Common.{◌≡◌, ◌≢◌, ◌⊎◌, ◌≤◌, ◌<◌, ℕ, ◌+◌, Bool, true, false, inl, inr, sym, ap, ◌∙◌, subst, subst₂, arith}
+use Rattle.std.proofs.Common.{◌≡◌, ◌≢◌, ◌⊎◌, ◌≤◌, ◌<◌, ℕ, ◌+◌, true, false, inl, inr, sym, ap, ◌∙◌, subst, subst₂, arith}
 use Rattle.std.proofs.lemmas.Bool.{cases_eq}
 use Rattle.ppm_strands.specs.Run.{Counts, plus}
 use Rattle.ppm_strands.specs.Ahead.{Ahead, Step}
@@ -86,6 +86,7 @@ module _ (i : Image) (fair : IsFair i.code) (root : Tree (Frame FrameWord Point)
 
     head_kept : (x : ℕ) → Head i s t x → Head i z (plug c v) x
     head_kept x a = record {
+      there = a.there;
       first = a.first;
       under = let lt = a.under in let r = roof (owner i x) in omega (arith, lt, r);
       bare = elim (turn.adds x) [

@@ -1,6 +1,7 @@
 -- The steps of a place in a row of kind Bump keep the invariant.
 use Rattle.std.proofs.Common.{◌≡◌, ◌≢◌, ◌≤◌, ◌<◌, ℕ, zero, suc, ◌+◌, Bool, true, false, inl, inr, refl, sym, ap, ◌∙◌, subst, subst₂, arith, Option, Some, None}
 use Rattle.std.proofs.Math.Path.{fun_ext}
+use Rattle.std.proofs.lemmas.Bool.{lt-ltb}
 use Rattle.ppm_strands.specs.Tree.{Words, Tree}
 use Rattle.ppm_cells.specs.Link.{link_of}
 use Rattle.ppm_cells.specs.declared.cell.Cell.{Cell}
@@ -25,7 +26,7 @@ use Rattle.ppm_step.specs.declared.row.Row.TheVariants.{Now, Store}
 use Rattle.ppm_step.specs.declared.row.Seat.{Seat}
 use Rattle.ppm_step.specs.declared.row.Then.{Then}
 use Rattle.ppm_step.specs.declared.row.Then.TheVariants.{Load, Fork}
-use Rattle.ppm_frames.specs.Views.{written as write}
+use Rattle.ppm_frames.specs.Views.{written as write, is_cell}
 use Rattle.ppm_frames.specs.Skeletons.{Stand, Begins, Over, Arrives, InPlace, Skeleton, Leaf, at, Around, plug, hook_at, at_rim}
 use Rattle.ppm_frames.specs.Good.{ended, link_or, link_at, Framed, IsSized, BumpsAt, Match, Good}
 use Rattle.ppm_frames.proofs.WriteLemmas.{write_here, write_else}
@@ -252,7 +253,7 @@ module _ (i : Image) (fair : IsFair i.code) (root : Tree (Frame FrameWord Point)
   -- the store of the row, by what was reached
   module _ (own bottom b : ℕ) where
     abbrev StoreLaw : Row → Type 0
-    StoreLaw (Store cell content next) = Law (stores s p cell (word_of content) (stands_then i.shape i.code (sits own bottom) next))
+    StoreLaw (Store cell content next) = Law (stores s p cell (word_of content) (stands_then i.shape i.code (sits own bottom) next)) × (is_cell i.shape cell ≡ true)
     StoreLaw row = Unit {0}
 
     if_there : (next : Then) (yes_ : Bool) (n : Cell → ℕ) → Under i n p (Bump r) (Now next) → Does i n p (Bump r) (doing_of (within_if (sits own bottom) (Now next) yes_))
@@ -266,20 +267,26 @@ module _ (i : Image) (fair : IsFair i.code) (root : Tree (Frame FrameWord Point)
     kind_is k z e = ap (λ (o : Option Link). (link_or o).kind) e
 
     store_some : (k : LinkKind) (z : ℕ) → link_of (m (BlockWord r)) ≡ Some (record { kind = k; size = z }) → StoreLaw (link_row (Some (record { kind = k; size = z })) b)
-    store_some (Called g y) z e = subst (λ (x : ℕ). Law (record { words = write m (RoomCounter p) (r + x); kind = s.kind; doing = put s.doing p (doing_of (stands_then i.shape i.code (sits own bottom) (with_kind (seat_at p (Bump r) b) (Run r 0)))) }))
-        (size_is (Called g y) z e)
-        (counter_stored (with_kind (seat_at p (Bump r) b) (Run r 0)) b
-        (λ n pool room. subst (λ (o : Option Link). Reach i n (seat_at p (Bump r) b) 1 (link_row o b) (Now (with_kind (seat_at p (Bump r) b) (Run r 0)))) (sym (ap link_of pool ∙ e))
-        (room ∙ ap (λ (x : ℕ). r + x) (size_is (Called g y) z e), refl))
-        (doing_of (stands_then i.shape i.code (sits own bottom) (with_kind (seat_at p (Bump r) b) (Run r 0))))
-        (λ n under. if_there (with_kind (seat_at p (Bump r) b) (Run r 0)) (then_is_there i.shape (sits own bottom) (with_kind (seat_at p (Bump r) b) (Run r 0))) n under))
-    store_some (Forked g y) z e = subst (λ (x : ℕ). Law (record { words = write m (RoomCounter p) (r + x); kind = s.kind; doing = put s.doing p (doing_of (stands_then i.shape i.code (sits own bottom) (Fork r))) }))
-        (size_is (Forked g y) z e)
-        (counter_stored (Fork r) b
-        (λ n pool room. subst (λ (o : Option Link). Reach i n (seat_at p (Bump r) b) 1 (link_row o b) (Now (Fork r))) (sym (ap link_of pool ∙ e))
-        (room ∙ ap (λ (x : ℕ). r + x) (size_is (Forked g y) z e), refl))
-        (doing_of (stands_then i.shape i.code (sits own bottom) (Fork r)))
-        (λ n under. if_there (Fork r) (then_is_there i.shape (sits own bottom) (Fork r)) n under))
+    store_some (Called g y) z e = (
+      subst (λ (x : ℕ). Law (record { words = write m (RoomCounter p) (r + x); kind = s.kind; doing = put s.doing p (doing_of (stands_then i.shape i.code (sits own bottom) (with_kind (seat_at p (Bump r) b) (Run r 0)))) }))
+          (size_is (Called g y) z e)
+          (counter_stored (with_kind (seat_at p (Bump r) b) (Run r 0)) b
+          (λ n pool room. subst (λ (o : Option Link). Reach i n (seat_at p (Bump r) b) 1 (link_row o b) (Now (with_kind (seat_at p (Bump r) b) (Run r 0)))) (sym (ap link_of pool ∙ e))
+          (room ∙ ap (λ (x : ℕ). r + x) (size_is (Called g y) z e), refl))
+          (doing_of (stands_then i.shape i.code (sits own bottom) (with_kind (seat_at p (Bump r) b) (Run r 0))))
+          (λ n under. if_there (with_kind (seat_at p (Bump r) b) (Run r 0)) (then_is_there i.shape (sits own bottom) (with_kind (seat_at p (Bump r) b) (Run r 0))) n under)),
+      lt-ltb p i.shape.processors there,
+    )
+    store_some (Forked g y) z e = (
+      subst (λ (x : ℕ). Law (record { words = write m (RoomCounter p) (r + x); kind = s.kind; doing = put s.doing p (doing_of (stands_then i.shape i.code (sits own bottom) (Fork r))) }))
+          (size_is (Forked g y) z e)
+          (counter_stored (Fork r) b
+          (λ n pool room. subst (λ (o : Option Link). Reach i n (seat_at p (Bump r) b) 1 (link_row o b) (Now (Fork r))) (sym (ap link_of pool ∙ e))
+          (room ∙ ap (λ (x : ℕ). r + x) (size_is (Forked g y) z e), refl))
+          (doing_of (stands_then i.shape i.code (sits own bottom) (Fork r)))
+          (λ n under. if_there (Fork r) (then_is_there i.shape (sits own bottom) (Fork r)) n under)),
+      lt-ltb p i.shape.processors there,
+    )
     store_some Root z e = tt
     store_some (Branch d q) z e = tt
 
@@ -339,7 +346,8 @@ module _ (i : Image) (fair : IsFair i.code) (root : Tree (Frame FrameWord Point)
   bump_keeps = record {
     begins = row_begins;
     loads = link_loads;
-    stores = λ own bottom found cell content next e. let a = under_of (Store cell content next) e in store_reached own bottom a.0 a.1 cell content next a.2;
+    stores = λ own bottom found cell content next e. let a = under_of (Store cell content next) e in (store_reached own bottom a.0 a.1 cell content next a.2).0;
+    cells = λ cell content next e. let a = under_of (Store cell content next) e in (store_reached 0 0 a.0 a.1 cell content next a.2).1;
     installs = λ next e ends. let a = under_of (Now next) e in install_reached 0 0 a.0 a.1 next a.2 ends;
     faults = going i fair root input s t law p (ap is_taker ke) Resting tt;
   }

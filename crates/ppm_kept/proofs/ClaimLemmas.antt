@@ -128,7 +128,7 @@ module _ (i : Image) (fair : IsFair i.code) (root : Tree (Frame FrameWord Point)
   module _ (c : Around) (g l y : ℕ) (a b a' b' : Skeleton) (is : t ≡ plug c (Forking g l y r a b)) (alone : at_rim p c ≡ 0) (left : Soft i.code p a a') (right : Soft i.code p b b')
       (code_is : order_of (mark a') (mark b') ≡ w) (sums : at p a' + at p b' ≡ carried m' k) (others : (q : ℕ) → q ≢ p → KeptAt i s t m' q)
       (frees : Blank i m' p (m' (RoomCounter p)) → Free i m' p k) (does : Does i m' p k d) (ordered : Ordered i s t m' k)
-        (marks : IsUntaken (mark b) → IsUntaken (mark b')) (none : is_taker k ≡ false) where
+      (marks : IsUntaken (mark b) → IsUntaken (mark b')) (none : is_taker k ≡ false) where
     abbrev u : Skeleton
     u = Forking g l y r a b
 

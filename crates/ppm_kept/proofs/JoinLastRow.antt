@@ -31,7 +31,6 @@ use Rattle.ppm_step.specs.Contents.{content_of, word_of, read_so}
 use Rattle.ppm_step.specs.Points.{cell_at, reading_at}
 use Rattle.ppm_step.specs.Rows.{row_of, found_at, on_link, on_outcome, join_by_order, join_by, join_outcome, joins, is_inline, is_last, after_value, target_found, value_found, right_value}
 use Rattle.ppm_step.specs.Standings.{within_if, row_is_there, then_is_there, stands_then, stands}
-use Rattle.ppm_step.specs.declared.content.Content.{Content}
 use Rattle.ppm_step.specs.declared.content.Content.TheVariants.{ANumber, ALink, AFinish}
 use Rattle.ppm_step.specs.declared.row.Point.TheVariants.{JoinOrder, JoinLink, JoinLeft, JoinRight, RightFrame, Target, GivenValue}
 use Rattle.ppm_step.specs.declared.row.Row.{Row}

@@ -40,7 +40,7 @@ use Rattle.ppm_frames.proofs.WriteLemmas.{write_else, address}
 use Rattle.ppm_frames.proofs.SkeletonLemmas.{SameFrame, same_frame, same_at, inside_at, CalledFrom, called_from, branch_from}
 use Rattle.ppm_frames.proofs.SwapLemmas.{good_here}
 use Rattle.ppm_kept.specs.Running.{IsFair, number_at, limit, strands, frame_of}
-use Rattle.ppm_kept.specs.Kept.{Image, end_of, seat_at, side_code, State, Doing, Resting, InRow, InRest, Broken, Blank, ceiling, Free, Collected, Under, Going, Does, Head, Ordered, carried, IsKept}
+use Rattle.ppm_kept.specs.Kept.{Image, end_of, seat_at, side_code, State, Doing, Resting, InRow, InRest, Broken, Blank, ceiling, Free, Under, Going, Does, Head, Ordered, carried, IsKept}
 use Rattle.ppm_kept.specs.Branches.{HasCopy}
 use Rattle.ppm_kept.specs.Others.{KeptAt, Mine, Claims, Wrote, IsIdle, OthersKeep}
 use Rattle.ppm_kept.proofs.BlockLemmas.{header_is}

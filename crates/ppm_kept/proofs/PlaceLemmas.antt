@@ -1,5 +1,5 @@
 -- A place with its leaf, and steps that change no word.
-use Rattle.std.proofs.Common.{◌≡◌, ◌≢◌, ◌⊎◌, ◌≤◌, ◌<◌, ℕ, ◌+◌, ◌==◌, Bool, true, false, inl, inr, refl, sym, ap, ap₂, ◌∙◌, subst, subst₂, arith}
+use Rattle.std.proofs.Common.{◌≡◌, ◌≢◌, ◌⊎◌, ◌≤◌, ◌<◌, ℕ, ◌+◌, ◌==◌, true, false, inl, inr, refl, sym, ap, ap₂, ◌∙◌, subst, subst₂, arith}
 use Rattle.std.proofs.lemmas.Bool.{cases_eq, cond-true, eq-eqb, ne_eqb, cond-false}
 use Rattle.ppm_strands.specs.Tree.{Words, Tree}
 use Rattle.ppm_cells.specs.declared.cell.Cell.{Cell}
@@ -93,8 +93,8 @@ module _ (i : Image) (fair : IsFair i.code) (root : Tree (Frame FrameWord Point)
   }
     where
       by : (k : RestartKind) → Ordered i s t s.words k → Ordered i (record { words = s.words; kind = s.kind; doing = put s.doing p d }) t s.words k
-      by (Arrive r e) a = record { first = a.first; under = a.under; bare = a.bare }
-      by (Join r e) a = (record { first = a.0.first; under = a.0.under; bare = a.0.bare }, a.1)
+      by (Arrive r e) a = record { there = a.there; first = a.first; under = a.under; bare = a.bare }
+      by (Join r e) a = (record { there = a.0.there; first = a.0.first; under = a.0.under; bare = a.0.bare }, a.1)
       by (Run f y) a = tt
       by (Bump r) a = tt
       by (Push1 r) a = tt
@@ -136,8 +136,9 @@ module _ (i : Image) (fair : IsFair i.code) (root : Tree (Frame FrameWord Point)
       let lacks = order_lacks Root c f n y r a b (r + 1) in
       let lacks' = subst (λ (w : Skeleton). plain Root w (r + 1) + inside (r + 1) 1 (r + 1) ≤ count Root w (r + 1)) (sym is) lacks in
       let most = law.apart (r + 1) in
-      let b = law.below (r + 1) (λ z. omega (arith, z, lacks', one)) in
-      record { first = b.0; under = b.1; bare = omega (arith, lacks', most, one) }
+      let some : count Root t (r + 1) ≡ 0 → ⊥ = λ z. omega (arith, z, lacks', one) in
+      let b = law.below (r + 1) some in
+      record { there = law.there (r + 1) some; first = b.0; under = b.1; bare = omega (arith, lacks', most, one) }
 
   -- words of one part are in no other
   pub rim_same : (c : Around) (u : Skeleton) (n : Cell → ℕ) (x w : ℕ) → t ≡ plug c u → ((y : ℕ) → y ≢ x → n (BlockWord y) ≡ s.words (BlockWord y))

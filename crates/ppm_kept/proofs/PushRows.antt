@@ -33,7 +33,7 @@ use Rattle.ppm_step.specs.declared.row.Row.TheVariants.{Now, Store, Exchange}
 use Rattle.ppm_step.specs.declared.row.Seat.{Seat}
 use Rattle.ppm_step.specs.declared.row.Then.TheVariants.{Load, Install, Fork, Begin, Move, Enter, Again, Broken}
 use Rattle.ppm_step.specs.Standings.{within_if, row_is_there, then_is_there}
-use Rattle.ppm_frames.specs.Views.{written as write}
+use Rattle.ppm_frames.specs.Views.{written as write, is_cell}
 use Rattle.ppm_frames.specs.Skeletons.{Stand, Begins, Over, Arrives, InPlace, Fresh, Waiting, Held, Came, Inlined, Skeleton, Leaf, Calling, Forking, readied, pushed, over_left, top, target_at, frame_at, tree_at, at, Around, plug, hook_at, at_rim}
 use Rattle.ppm_frames.specs.Good.{ended, IsPlain, mark, order_of, Framed, IsSized, Match, Good, Forks}
 use Rattle.ppm_frames.proofs.SkeletonLemmas.{branch_from, over_plug}
@@ -46,6 +46,7 @@ use Rattle.ppm_kept.specs.Laws.{Ends, kind_then}
 use Rattle.ppm_kept.specs.Others.{KeptAt, Claims, Keeps}
 use Rattle.ppm_kept.specs.Pushing.{Comes, kind_seat, MayHold, Push1Keeps, Push2Keeps, Push1RowKeeps, Push2RowKeeps}
 use Rattle.ppm_kept.proofs.OtherLemmas.{others_keep}
+use Rattle.ppm_kept.proofs.TurnLemmas.{head_cell}
 use Rattle.ppm_kept.proofs.PutLemmas.{put_here, put_else}
 use Rattle.ppm_kept.proofs.EndingLemmas.{not_ended}
 use Rattle.ppm_kept.proofs.UntakenLemmas.{all_untaken_stays}
@@ -458,7 +459,7 @@ module _ (i : Image) (fair : IsFair i.code) (root : Tree (Frame FrameWord Point)
     abbrev P1 : Row → Type 0
     P1 (Now next) = Ends next → Law1 (installs s p (kind_then next)) t
     P1 (Store cell content next) = (found : ℕ) → (cell ≡ BlockWord (r + 1)) × (word_of content ≡ 3)
-        × Law1 (stores s p cell (word_of content) (went_row i.shape i.code seat1 found found (Store cell content next))) (over_left p (pushed Held) t)
+        × Law1 (stores s p cell (word_of content) (went_row i.shape i.code seat1 found found (Store cell content next))) (over_left p (pushed Held) t) × (is_cell i.shape cell ≡ true)
     P1 (Exchange cell old new next) = (found : ℕ) → (cell ≡ EntryWord p (bottom + 1)) × Law1 (goes s p (went_row i.shape i.code seat1 found found (Exchange cell old new next))) t
 
     left1 : P1 (Now (left_begins r bottom))
@@ -485,7 +486,12 @@ module _ (i : Image) (fair : IsFair i.code) (root : Tree (Frame FrameWord Point)
     order_load (suc n) rest q = number_comes i.shape seat1 P1 (λ ends. absurd ends) (push_by_order seat1 r) order_rows q.1 n rest q.2
 
     push_rows : (last : Bool) (by : Takeover) (n : ℕ) (rest : Row) → Comes i.shape seat1 n (push_at seat1 by r last) rest → P1 rest
-    push_rows true by zero rest q = subst P1 q (λ found. (refl, refl, held_now i fair root input s t law p there keeps r (Push1 r) ke first_pushing own bottom (Now (left_begins r bottom)) may_hold))
+    push_rows true by zero rest q = subst P1 q (λ found. (
+      refl,
+      refl,
+      held_now i fair root input s t law p there keeps r (Push1 r) ke first_pushing own bottom (Now (left_begins r bottom)) may_hold,
+      head_cell i root input s t law (r + 1) (head i fair root input s t law p there keeps r (Push1 r) ke first_pushing),
+    ))
     push_rows true by (suc n) rest q = install_comes i.shape seat1 P1 (record { kind = Run (r + 5) 0; bottom = bottom }) left1 n rest q
     push_rows false ByPlaces n rest q = above_load n rest q
     push_rows false ByEntries n rest q = order_load n rest q

@@ -18,14 +18,12 @@ use Rattle.ppm_code.specs.declared.location.FrameWord.{FrameWord}
 use Rattle.ppm_step.specs.Points.{offset_word}
 use Rattle.ppm_step.specs.Rows.{row_of, right_begins}
 use Rattle.ppm_step.specs.Standings.{within_if, row_is_there, then_is_there, enters, stands}
-use Rattle.ppm_step.specs.declared.content.Content.{Content}
-use Rattle.ppm_step.specs.declared.row.Point.TheVariants.{Offset}
 use Rattle.ppm_step.specs.declared.row.Row.{Row}
 use Rattle.ppm_step.specs.declared.row.Row.TheVariants.{Now, Store, Exchange}
 use Rattle.ppm_step.specs.declared.row.Seat.{Seat}
 use Rattle.ppm_step.specs.declared.row.Then.{Then}
 use Rattle.ppm_step.specs.declared.row.Then.TheVariants.{Load, Install, Fork, Begin, Move, Enter, Again, Broken}
-use Rattle.ppm_frames.specs.Skeletons.{Stand, Begins, InPlace, Fresh, Waiting, Held, Came, Inlined, Skeleton, Leaf, Calling, Forking, inside, count, at, awake, take_in, Around, Top, AtCall, AtLeft, AtRight, plug, hook_at, at_rim}
+use Rattle.ppm_frames.specs.Skeletons.{Stand, InPlace, Fresh, Waiting, Held, Came, Inlined, Skeleton, Leaf, Calling, Forking, inside, count, at, take_in, Around, Top, AtCall, AtLeft, AtRight, plug, hook_at, at_rim}
 use Rattle.ppm_frames.specs.Good.{Match, Forks, Good}
 use Rattle.ppm_frames.proofs.SkeletonLemmas.{inside_at, count_plug, at_plug}
 use Rattle.ppm_frames.proofs.SwapLemmas.{swap_same, good_same, good_here}
@@ -38,7 +36,6 @@ use Rattle.ppm_kept.specs.Pushing.{Comes, kind_seat}
 use Rattle.ppm_kept.specs.Takes.{IsWaiting, IsAlone, TakeKeeps, TakeRowsKeep}
 use Rattle.ppm_kept.proofs.PutLemmas.{put_here, put_else}
 use Rattle.ppm_kept.proofs.EndingLemmas.{not_ended}
-use Rattle.ppm_kept.proofs.BranchLemmas.{Unrun}
 use Rattle.ppm_kept.proofs.BuildLemmas.{Turn, build}
 use Rattle.ppm_kept.proofs.PlaceLemmas.{going_to, kept_same, is_at_own, is_at_other}
 use Rattle.ppm_kept.proofs.IdleLemmas.{idle_roof, idle_free, idle_blank, idle_order}

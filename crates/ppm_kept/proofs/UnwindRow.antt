@@ -220,7 +220,7 @@ module _ (i : Image) (fair : IsFair i.code) (root : Tree (Frame FrameWord Point)
       → Law (goes s p (stands i.shape i.code (sits own bottom) (found_at i.shape (sits own bottom) victim point (content_of (reading_at point) (m (cell_at (sits own bottom) victim point)))))) t
   RowLaw (Now next) = Ends next → Law (installs s p (kind_then next)) (by_unwind p (kind_then next) t)
   RowLaw (Store cell content next) = ((own bottom : ℕ) → Law (stores s p cell (word_of content) (stands_then i.shape i.code (sits own bottom) next)) t) × (is_cell i.shape cell ≡ true)
-  RowLaw (Exchange cell old new next) = (own bottom : ℕ) → Law (exchanges s p cell (word_of old) (word_of new) (stands_then i.shape i.code (sits own bottom) next)) t
+  RowLaw (Exchange cell old new next) = ((own bottom : ℕ) → Law (exchanges s p cell (word_of old) (word_of new) (stands_then i.shape i.code (sits own bottom) next)) t) × (is_cell i.shape cell ≡ true)
 
   -- the loads
   link_load : RowLaw (Now (Load (UnwindLink f)))
@@ -308,8 +308,11 @@ module _ (i : Image) (fair : IsFair i.code) (root : Tree (Frame FrameWord Point)
     }
 
     root_exchange : (v : Finish) → finish_of o ≡ Some v → RowLaw (Exchange FinishWord (ANumber 0) (AFinish v) Again)
-    root_exchange v e own bottom = subst (λ (x : ℕ). Law (record { words = cond (m FinishWord == 0) (write m FinishWord x) m; kind = s.kind; doing = put s.doing p Resting }) t) (sym (word_is v e))
-        (by (m FinishWord == 0) refl)
+    root_exchange v e = (
+      λ own bottom. subst (λ (x : ℕ). Law (record { words = cond (m FinishWord == 0) (write m FinishWord x) m; kind = s.kind; doing = put s.doing p Resting }) t) (sym (word_is v e))
+          (by (m FinishWord == 0) refl),
+      refl,
+    )
       where
         by : (b : Bool) → (m FinishWord == 0) ≡ b → Law (record { words = cond b (write m FinishWord o) m; kind = s.kind; doing = put s.doing p Resting }) t
         by true e = subst (IsKept i root input z3) (sym has_over.is) (build i fair root input s t law p z3 oc low low (Unwind f) Resting (finish_turn (eqb-true (m FinishWord) 0 e)))
@@ -855,7 +858,8 @@ module _ (i : Image) (fair : IsFair i.code) (root : Tree (Frame FrameWord Point)
     loads = λ own bottom victim point e. under_of (Now (Load point)) e own bottom victim;
     stores = λ own bottom found cell content next e. (under_of (Store cell content next) e).0 own bottom;
     cells = λ cell content next e. (under_of (Store cell content next) e).1;
-    exchanges = λ own bottom found cell old new next e. under_of (Exchange cell old new next) e own bottom;
+    exchanges = λ own bottom found cell old new next e. (under_of (Exchange cell old new next) e).0 own bottom;
+    exchange_cells = λ cell old new next e. (under_of (Exchange cell old new next) e).1;
     installs = λ next e ends. installed_law next (under_of (Now next) e) ends;
     faults = going i fair root input s t law p (ap is_taker ke) Resting tt;
   }

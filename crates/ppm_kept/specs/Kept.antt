@@ -188,8 +188,9 @@ module _ (i : Image) where
   Does m p k (InRow row) = Under m p k row
   Does m p k (InRest rest) = Going m p k rest
 
-  -- a word below its owner's ceiling that is no word of the tree but as an order word
+  -- a word of a pool, below its place's ceiling, that is no word of the tree but as an order word
   pub record Head (s : State) (t : Skeleton) (x : ℕ) : Type 0 where
+    pub there : owner i x < i.shape.processors
     pub first : start i (owner i x) ≤ x
     pub under : x < ceiling s.words (owner i x) (s.kind (owner i x))
     pub bare : plain Root t x ≡ 0

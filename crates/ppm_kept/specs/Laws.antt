@@ -1,5 +1,5 @@
 -- What is proved of capsules of frames under way.
-use Rattle.std.specs.Prelude.{◌≡◌, ◌<◌, ℕ}
+use Rattle.std.specs.Prelude.{◌≡◌, ◌<◌, ℕ, true}
 use Rattle.ppm_strands.specs.Tree.{Words, Tree}
 use Rattle.ppm_cells.specs.declared.cell.Cell.{Cell}
 use Rattle.ppm_cells.specs.declared.cell.Cell.TheVariants.{BlockWord}
@@ -18,6 +18,7 @@ use Rattle.ppm_step.specs.declared.row.Row.TheVariants.{Now, Store}
 use Rattle.ppm_step.specs.declared.row.Seat.{Seat}
 use Rattle.ppm_step.specs.declared.row.Then.{Then}
 use Rattle.ppm_step.specs.declared.row.Then.TheVariants.{Install, Fork, Begin}
+use Rattle.ppm_frames.specs.Views.{is_cell}
 use Rattle.ppm_frames.specs.Skeletons.{Skeleton}
 use Rattle.ppm_kept.specs.Kept.{Image, InRow, InRest, State, IsKept}
 use Rattle.ppm_kept.specs.Moves.{goes, stores, installs, fills, by_install, begun, entered, stored}
@@ -103,6 +104,9 @@ pub record BumpKeeps (i : Image) (root : Tree (Frame FrameWord Point) Result) (i
   pub installs : (next : Then) → s.doing p ≡ InRow (Now next) → Ends next
       → IsKept i root input (installs s p (kind_then next)) t
   pub faults : IsKept i root input (goes s p IsLost) t
+  -- and each store is into a cell that the frames have
+  pub cells : (cell : Cell) (content : Content) (next : Then)
+      → s.doing p ≡ InRow (Store cell content next) → is_cell i.shape cell ≡ true
 
 -- in each such row, from words that are kept
 abbrev pub BumpRowKeeps : Type 0

@@ -1,5 +1,5 @@
 -- The rows that push a fork: Push1 and Push2.
-use Rattle.std.specs.Prelude.{◌≡◌, ◌≤◌, ◌<◌, ℕ, zero, suc, ◌+◌}
+use Rattle.std.specs.Prelude.{◌≡◌, ◌≤◌, ◌<◌, ℕ, zero, suc, ◌+◌, true}
 use Rattle.ppm_strands.specs.Tree.{Words, Tree}
 use Rattle.ppm_cells.specs.declared.cell.Cell.{Cell}
 use Rattle.ppm_cells.specs.declared.cell.Cell.TheVariants.{EntryWord, BlockWord}
@@ -19,12 +19,13 @@ use Rattle.ppm_step.specs.declared.row.Row.TheVariants.{Now, Store, Exchange}
 use Rattle.ppm_step.specs.declared.row.Seat.{Seat}
 use Rattle.ppm_step.specs.declared.row.Then.{Then}
 use Rattle.ppm_step.specs.declared.row.Then.TheVariants.{Load}
+use Rattle.ppm_frames.specs.Views.{is_cell}
 use Rattle.ppm_frames.specs.Skeletons.{Waiting, Held, Skeleton, Forking, pushed, over_left, count, at, Around, plug, hook_at}
 use Rattle.ppm_frames.specs.Good.{mark}
 use Rattle.ppm_kept.specs.Running.{IsFair}
 use Rattle.ppm_kept.specs.Branches.{IsUntaken, Untaken}
 use Rattle.ppm_kept.specs.Kept.{Image, State, IsKept}
-use Rattle.ppm_kept.specs.Moves.{goes, stores, installs, stored, exchanged_unseen}
+use Rattle.ppm_kept.specs.Moves.{goes, installs, stored, exchanged_unseen}
 use Rattle.ppm_kept.specs.Laws.{Ends, kind_then}
 
 -- how a row comes to what is left of it, whatever its loads find: entries are not in the view
@@ -70,6 +71,7 @@ pub record Push1Keeps (i : Image) (root : Tree (Frame FrameWord Point) Result) (
       → Comes i.shape (kind_seat own p (Push1 r) bottom) n (row_of i.shape (kind_seat own p (Push1 r) bottom) (Push1 r)) (Store cell content next)
       → (cell ≡ BlockWord (r + 1)) × (word_of content ≡ 3)
       × IsKept i root input (stored i s p (kind_seat own p (Push1 r) bottom) found cell content next) (over_left p (pushed Held) t)
+      × (is_cell i.shape cell ≡ true)
   -- an exchange of an entry is not seen
   pub exchanges : (own bottom n found : ℕ) (cell : Cell) (old new : Content) (next : Then)
       → Comes i.shape (kind_seat own p (Push1 r) bottom) n (row_of i.shape (kind_seat own p (Push1 r) bottom) (Push1 r)) (Exchange cell old new next)
