@@ -3,5 +3,6 @@
 -- (`ShownLemmas`); then what turns owe (`OrderlyLemmas`).
 
 pub mod TameLemmas
+pub mod StandLemmas
 pub mod ShownLemmas
 pub mod OrderlyLemmas

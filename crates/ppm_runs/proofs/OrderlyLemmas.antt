@@ -60,7 +60,8 @@ use Rattle.ppm_kept.proofs.TurnLemmas.{stores_are_cells}
 use Rattle.ppm_runs.specs.Run.{image, shown, IsAtLast, IsLeft, IsHomed, AreHomed, IsRun}
 use Rattle.ppm_runs.specs.Laws.{Owes, TurnsAreOrderly}
 use Rattle.ppm_runs.proofs.TameLemmas.{May, TameRow, TameThen, rest_tame, reach_tame}
-use Rattle.ppm_runs.proofs.ShownLemmas.{pool_is, cell_pooled, homed_here, Within, within, doing_row, Runs, runs, head_pool}
+use Rattle.ppm_runs.proofs.StandLemmas.{kinds_same}
+use Rattle.ppm_runs.proofs.ShownLemmas.{pool_is, cell_pooled, homed_here, Within, within, Runs, runs, head_pool}
 
 -- rows that load, which rows of no other sort are
 abbrev IsLoad : Row → Type 0
@@ -272,7 +273,10 @@ module _ (s : Shape) (code : CodeParts) (places : s.takeover ≡ ByPlaces) (fair
   pushing_kind r q e =
       let estate = run.lawful.1.board in
       let real = estate.board.real r in
-      by (z.kind q) (estate.ghost (Slot q (spots.bottoms s state.words q))) (subst (λ (x : Home). Carries estate.ghost z.kind (spots.bottoms s state.words) x r) e real)
+      elim (by (spots.kinds s state.words q) (estate.ghost (Slot q (spots.bottoms s state.words q))) (subst (λ (x : Home). Carries estate.ghost (spots.kinds s state.words) (spots.bottoms s state.words) x r) e real)) [
+        | inl a ↦ inl (kinds_same s state.words q ∙ a)
+        | inr a ↦ inr (kinds_same s state.words q ∙ a)
+      ]
     where
       by : (k : RestartKind) (w : Word) → Pushes k w r → (k ≡ Push1 r) ⊎ (k ≡ Push2 r)
       by (Push1 x) w a = inl (ap Push1 a)
@@ -469,7 +473,7 @@ module _ (s : Shape) (code : CodeParts) (places : s.takeover ≡ ByPlaces) (fair
   stored : (c : ℕ) (seat : Seat) (cell : Cell) (content : Content) (next : Then) → stand_of state c ≡ IsWithin seat (Store cell content next) → IsPooled s cell
   stored c seat cell content next e =
       let w = within s code root input state h forked taken t run c seat (Store cell content next) e in
-      stored_by c seat cell content next w (doing_row s code root input state h forked taken t run c seat (Store cell content next) e) seat.restart.kind refl w.does
+      stored_by c seat cell content next w w.doing seat.restart.kind refl w.does
 
   traded : (c : ℕ) (seat : Seat) (cell : Cell) (old new : Content) (next : Then) → stand_of state c ≡ IsWithin seat (Exchange cell old new next) → IsPooled s cell
   traded c seat cell old new next e =

@@ -1,8 +1,8 @@
 -- What a processor does at its place is what the frames see there; addresses of pools; and where the
 -- homes of branches stand in the tree.
-use Rattle.std.proofs.Common.{◌≡◌, ◌⊎◌, ◌≤◌, ◌<◌, ℕ, ◌+◌, ◌-◌, ◌==◌, ◌&&◌, Bool, true, false, if◌then◌else◌, List, inl, inr, refl, sym, ap, ◌∙◌, subst, arith}
+use Rattle.std.proofs.Common.{◌≡◌, ◌≢◌, ◌⊎◌, ◌≤◌, ◌<◌, ℕ, ◌+◌, ◌-◌, ◌==◌, ◌&&◌, Bool, true, false, if◌then◌else◌, List, inl, inr, refl, sym, ap, ◌∙◌, subst, arith}
 use Rattle.std.specs.Prelude.{nat_lt, nat_le, slice_get}
-use Rattle.std.proofs.lemmas.Bool.{eq-eqb, ltb-true, leb-true, cases_lt, cases_Bool}
+use Rattle.std.proofs.lemmas.Bool.{eq-eqb, eqb-true, ltb-true, leb-true, cases_lt, cases_Bool}
 use Rattle.ppm_strands.specs.Tree.{Words, Tree}
 use Rattle.ppm_cells.specs.Cells.{IsInPool, pool_at}
 use Rattle.ppm_cells.specs.Memory.{read}
@@ -19,7 +19,7 @@ use Rattle.ppm_code.specs.Strands.{Point, Result}
 use Rattle.ppm_code.specs.declared.code.CodeParts.{CodeParts}
 use Rattle.ppm_code.specs.declared.location.FrameWord.{FrameWord}
 use Rattle.ppm_step.specs.Frames.{Rest}
-use Rattle.ppm_step.specs.Standings.{Standing, IsWithin, IsRunning, row_is_there, rest_is_there}
+use Rattle.ppm_step.specs.Standings.{Standing, IsLost, IsPlaced, IsAt, IsWithin, IsRunning, IsBroken, IsDone, row_is_there, rest_is_there}
 use Rattle.ppm_step.specs.State.{State as RunState, stand_of}
 use Rattle.ppm_step.specs.declared.row.Row.{Row}
 use Rattle.ppm_step.specs.declared.row.Seat.{Seat}
@@ -34,23 +34,22 @@ use Rattle.ppm_frames.proofs.ViewLemmas.{view_not}
 use Rattle.ppm_frames.specs.Skeletons.{Skeleton, Around, Top as Whole, AtCall, AtLeft, AtRight, plug}
 use Rattle.ppm_kept.specs.Running.{IsFair}
 use Rattle.ppm_kept.specs.Kept.{Image, Doing, Resting, InRow, InRest, State, Does, Head, start, end_of, owner, ceiling, IsKept}
-use Rattle.ppm_runs.specs.Run.{image, named, doing_if, doing_there, doing_at, shown, AreHomed, IsRun}
+use Rattle.ppm_kept.specs.Moves.{doing_of}
+use Rattle.ppm_kept.specs.Places.{kind_or, kinds_of, is_in, IsOf, Holds}
+use Rattle.ppm_runs.specs.Run.{image, unbroken, at_work, shown, AreHomed, IsRun}
+use Rattle.ppm_runs.proofs.StandLemmas.{work_stand, kinds_same, doing_own}
 
--- a holder word that names a processor
-named_is : (w : Word) (c : ℕ) → Names w c → named w ≡ c
-named_is (Held t x) c n = n
-named_is (Empty t) c n = absurd n
-named_is (Local t x) c n = absurd n
-named_is (Job t x) c n = absurd n
-named_is (Taken t x) c n = absurd n
-named_is (Number x) c n = absurd n
-named_is (Linked link) c n = absurd n
-named_is (Restarts kind bottom) c n = absurd n
-named_is Unread c n = absurd n
-
--- there, with the place's own number
-if_own : (p : ℕ) (d : Doing) → doing_if (p == p) d ≡ d
-if_own p d = ap (λ (b : Bool). doing_if b d) (eq-eqb p p refl)
+-- a holder word names one processor
+names_one : (w : Word) (c d : ℕ) → Names w c → Names w d → c ≡ d
+names_one (Held t x) c d a b = sym a ∙ b
+names_one (Empty t) c d a b = absurd a
+names_one (Local t x) c d a b = absurd a
+names_one (Job t x) c d a b = absurd a
+names_one (Taken t x) c d a b = absurd a
+names_one (Number x) c d a b = absurd a
+names_one (Linked link) c d a b = absurd a
+names_one (Restarts kind bottom) c d a b = absurd a
+names_one Unread c d a b = absurd a
 
 -- both parts of a test
 both_left : (a b : Bool) → (a && b) ≡ true → a ≡ true
@@ -90,10 +89,10 @@ cell_pooled s (EntryWord p i) e = tt
 cell_pooled s (ArrayWord x) e = tt
 
 -- a place that is not there seeks
-pub absent_seeks : (s : Shape) (words : List ℕ) (p : ℕ) → s.processors ≤ p → spots.kinds s words p ≡ Seek
+pub absent_seeks : (s : Shape) (words : List ℕ) (p : ℕ) → s.processors ≤ p → kinds_of s words p ≡ Seek
 absent_seeks s words p far = by (nat_lt p s.processors) refl
   where
-    by : (b : Bool) → nat_lt p s.processors ≡ b → (if b then spots.restart_or (restart_of (read s words (RestartWord p))) else spots.seeking).kind ≡ Seek
+    by : (b : Bool) → nat_lt p s.processors ≡ b → (if b then kind_or (restart_of (read s words (RestartWord p))) else Seek) ≡ Seek
     by true e = absurd (let lt = ltb-true p s.processors e in omega (arith, lt, far))
     by false e = refl
 
@@ -130,9 +129,30 @@ module _ (s : Shape) (code : CodeParts) (root : Tree (Frame FrameWord Point) Res
   abbrev b : ℕ → ℕ
   b = spots.bottoms s state.words
 
-  -- who carries a place is named by its holder word
-  carrier : (c p : ℕ) → Carried s m c p → named (m (Holder p)) ≡ c
-  carrier c p carried = named_is (m (Holder p)) c (run.lawful.1.holding.held c p carried.lives.alive carried.carry)
+  -- no two processors are in one place
+  in_one : (d p : ℕ) (x : Standing) → Sees s m k b d x → is_in p (unbroken x) ≡ true → Carried s m d p
+  in_one d p (IsWithin seat row) sees e = subst (Carried s m d) (eqb-true seat.place p e) sees.0.carried
+  in_one d p (IsRunning seat rest) sees e = subst (Carried s m d) (eqb-true seat.place p e) sees.0.carried
+  in_one d p IsLost sees e = absurd (cc)
+  in_one d p (IsPlaced q) sees e = absurd (cc)
+  in_one d p (IsAt q r) sees e = absurd (cc)
+  in_one d p (IsBroken q) sees e = absurd (cc)
+  in_one d p IsDone sees e = absurd (cc)
+
+  abbrev work : RunState
+  work = at_work state
+
+  pub alone : (c p : ℕ) → Carried s m c p → (d : ℕ) → d ≢ c → is_in p (stand_of work d) ≡ false
+  alone c p carried d ne = elim (cases_Bool (is_in p (stand_of work d))) [
+    | inr out ↦ out
+    | inl here ↦
+        let other = in_one d p (stand_of state d) (run.lawful.1.sees d) (ap (is_in p) (sym (work_stand state d)) ∙ here) in
+        let held = run.lawful.1.holding.held in
+        absurd (ne (names_one (m (Holder p)) d c (held d p other.lives.alive other.carry) (held c p carried.lives.alive carried.carry)))
+  ]
+
+  pub holds : (c p : ℕ) → Carried s m c p → IsOf p (stand_of work c) → Holds s work c p
+  holds c p carried own = record { words = run.lawful.0; there = carried.lives.there; place = carried.place; own = own; others = alone c p carried }
 
   -- what a row's processor has seen, and what is under way at its place
   pub record Within (c : ℕ) (seat : Seat) (row : Row) : Type 0 where
@@ -141,48 +161,57 @@ module _ (s : Shape) (code : CodeParts) (root : Tree (Frame FrameWord Point) Res
     pub here : row_is_there s seat row ≡ true
     pub place : seat.place < s.processors
     pub kind : z.kind seat.place ≡ seat.restart.kind
+    pub stand : stand_of work c ≡ IsWithin seat row
+    pub doing : z.doing seat.place ≡ InRow row
     pub does : Does i z.words seat.place seat.restart.kind (InRow row)
+    pub holds : Holds s work c seat.place
 
   pub within : (c : ℕ) (seat : Seat) (row : Row) → stand_of state c ≡ IsWithin seat row → Within c seat row
   within c seat row e =
       let sees : Sees s m k b c (IsWithin seat row) = subst (Sees s m k b c) e (run.lawful.1.sees c) in
-      let is : doing_at s state seat.place ≡ InRow row =
-          ap (λ (x : ℕ). doing_there seat.place (stand_of state x)) (carrier c seat.place sees.0.carried)
-          ∙ ap (doing_there seat.place) e ∙ if_own seat.place (InRow row) in
+      let stand : stand_of work c ≡ IsWithin seat row = work_stand state c ∙ ap unbroken e in
+      let is : z.doing seat.place ≡ InRow row =
+          doing_own (stand_of work) c seat.place (ap (is_in seat.place) stand ∙ eq-eqb seat.place seat.place refl) (alone c seat.place sees.0.carried) s.processors sees.0.carried.lives.there
+          ∙ ap doing_of stand in
+      let kind = kinds_same s state.words seat.place ∙ sees.0.at.kind in
       let does = subst (Does i z.words seat.place (z.kind seat.place)) is (law.does seat.place) in
       record {
         sits = sees.0;
         seen = sees.1;
         here = sees.2;
         place = sees.0.carried.place;
-        kind = sees.0.at.kind;
-        does = subst (λ (a : RestartKind). Does i z.words seat.place a (InRow row)) sees.0.at.kind does;
+        kind = kind;
+        stand = stand;
+        doing = is;
+        does = subst (λ (a : RestartKind). Does i z.words seat.place a (InRow row)) kind does;
+        holds = holds c seat.place sees.0.carried (subst (IsOf seat.place) (sym stand) refl);
       }
-
-  pub doing_row : (c : ℕ) (seat : Seat) (row : Row) → stand_of state c ≡ IsWithin seat row → z.doing seat.place ≡ InRow row
-  doing_row c seat row e =
-      let sees : Sees s m k b c (IsWithin seat row) = subst (Sees s m k b c) e (run.lawful.1.sees c) in
-      ap (λ (x : ℕ). doing_there seat.place (stand_of state x)) (carrier c seat.place sees.0.carried)
-      ∙ ap (doing_there seat.place) e ∙ if_own seat.place (InRow row)
 
   -- so of a capsule under way
   pub record Runs (c : ℕ) (seat : Seat) (rest : Rest) : Type 0 where
     pub here : rest_is_there s seat rest ≡ true
     pub place : seat.place < s.processors
+    pub kind : z.kind seat.place ≡ seat.restart.kind
+    pub stand : stand_of work c ≡ IsRunning seat rest
     pub doing : z.doing seat.place ≡ InRest rest
     pub does : Does i z.words seat.place (z.kind seat.place) (InRest rest)
+    pub holds : Holds s work c seat.place
 
   pub runs : (c : ℕ) (seat : Seat) (rest : Rest) → stand_of state c ≡ IsRunning seat rest → Runs c seat rest
   runs c seat rest e =
       let sees : Sees s m k b c (IsRunning seat rest) = subst (Sees s m k b c) e (run.lawful.1.sees c) in
-      let is : doing_at s state seat.place ≡ InRest rest =
-          ap (λ (x : ℕ). doing_there seat.place (stand_of state x)) (carrier c seat.place sees.0.carried)
-          ∙ ap (doing_there seat.place) e ∙ if_own seat.place (InRest rest) in
+      let stand : stand_of work c ≡ IsRunning seat rest = work_stand state c ∙ ap unbroken e in
+      let is : z.doing seat.place ≡ InRest rest =
+          doing_own (stand_of work) c seat.place (ap (is_in seat.place) stand ∙ eq-eqb seat.place seat.place refl) (alone c seat.place sees.0.carried) s.processors sees.0.carried.lives.there
+          ∙ ap doing_of stand in
       record {
         here = sees.3;
         place = sees.0.carried.place;
+        kind = kinds_same s state.words seat.place ∙ sees.0.at.kind;
+        stand = stand;
         doing = is;
         does = subst (Does i z.words seat.place (z.kind seat.place)) is (law.does seat.place);
+        holds = holds c seat.place sees.0.carried (subst (IsOf seat.place) (sym stand) refl);
       }
 
   -- an order word of the tree is one of a pool

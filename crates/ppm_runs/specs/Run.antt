@@ -1,6 +1,6 @@
 -- A run's state: the words by cells as its frames have them, what each place is at and where its
 -- processor stands, and the tree of its strands; and what joins the tree with where branches are.
-use Rattle.std.specs.Prelude.{◌≡◌, ◌⊎◌, ◌<◌, ℕ, ◌+◌, ◌==◌, Bool, true, false, List}
+use Rattle.std.specs.Prelude.{◌≡◌, ◌⊎◌, ◌<◌, ℕ, ◌+◌, true, false, List, map}
 use Rattle.ppm_strands.specs.Tree.{Words, Tree}
 use Rattle.ppm_cells.specs.declared.cell.Cell.{Cell}
 use Rattle.ppm_cells.specs.declared.cell.Cell.TheVariants.{RoomCounter, BlockWord}
@@ -11,47 +11,41 @@ use Rattle.ppm_capsules.specs.Strand.{Frame}
 use Rattle.ppm_code.specs.Strands.{Point, Result}
 use Rattle.ppm_code.specs.declared.code.CodeParts.{CodeParts}
 use Rattle.ppm_code.specs.declared.location.FrameWord.{FrameWord}
-use Rattle.ppm_step.specs.Standings.{Standing, IsWithin, IsRunning, IsBroken}
-use Rattle.ppm_step.specs.State.{State as RunState, stand_of}
+use Rattle.ppm_step.specs.Standings.{Standing, IsLost, IsPlaced, IsAt, IsWithin, IsRunning, IsBroken, IsDone}
+use Rattle.ppm_step.specs.State.{State as RunState}
 use Rattle.ppm_step.specs.declared.row.Row.TheVariants.{Now}
 use Rattle.ppm_step.specs.declared.row.Then.TheVariants.{Install}
 use Rattle.ppm_tickets.specs.Homes.{Home, Unborn, Pushing, Listed, Popping, Stolen, Inline, Begun}
 use Rattle.ppm_tickets.specs.Renewal.{IsLawful}
 use Rattle.ppm_tickets.specs.View as spots
-use Rattle.ppm_tickets.specs.Words.{Word, Held as HeldBy, Holder, has}
+use Rattle.ppm_tickets.specs.Words.{has}
 use Rattle.ppm_frames.specs.Views.{view}
 use Rattle.ppm_frames.specs.Skeletons.{Begins, Fresh, Waiting, Held, Skeleton, Leaf, Calling, Forking, holds, Around, plug}
 use Rattle.ppm_frames.specs.Good.{link_at}
-use Rattle.ppm_kept.specs.Kept.{Image, Doing, Resting, InRow, InRest, Broken, State, owner, IsKept}
+use Rattle.ppm_kept.specs.Kept.{Image, InRow, State, owner, IsKept}
+use Rattle.ppm_kept.specs.Places.{kinds_of, places_of}
 
 -- a shape with its code
 abbrev pub image : Shape → CodeParts → Image
 image s code = record { shape = s; code = code }
 
--- the processor that a holder word names, if it is one
-abbrev pub named : Word → ℕ
-named (HeldBy tag processor) = processor
-named _ = 64
+-- a processor that has met broken words does nothing any more
+abbrev pub unbroken : Standing → Standing
+unbroken IsLost = IsLost
+unbroken (IsPlaced place) = IsPlaced place
+unbroken (IsAt place restart) = IsAt place restart
+unbroken (IsWithin seat row) = IsWithin seat row
+unbroken (IsRunning seat rest) = IsRunning seat rest
+unbroken (IsBroken place) = IsDone
+unbroken IsDone = IsDone
 
--- what is done there, or nothing
-abbrev pub doing_if : Bool → Doing → Doing
-doing_if true doing = doing
-doing_if false doing = Resting
-
--- what a processor does at a place: one that has not come to a row of the place does nothing there
-abbrev pub doing_there : (place : ℕ) → Standing → Doing
-doing_there p (IsWithin seat row) = doing_if (seat.place == p) (InRow row)
-doing_there p (IsRunning seat rest) = doing_if (seat.place == p) (InRest rest)
-doing_there p (IsBroken place) = doing_if (place == p) Broken
-doing_there p _ = Resting
-
--- what is done at a place, by the processor that its holder word names
-abbrev pub doing_at : Shape → RunState → (place : ℕ) → Doing
-doing_at s state p = doing_there p (stand_of state (named (spots.view s state.words (Holder p))))
+-- so are all
+abbrev pub at_work : RunState → RunState
+at_work state = record { words = state.words; stand = map unbroken state.stand }
 
 -- a machine's state as its frames have it
 abbrev pub shown : Shape → RunState → State
-shown s state = record { words = view s state.words; kind = spots.kinds s state.words; doing = doing_at s state }
+shown s state = places_of s (at_work state)
 
 -- where a right branch may be: not pushed yet, left to the strand of the left one, to be taken, or
 -- begun
@@ -124,4 +118,4 @@ pub record IsRun (s : Shape) (code : CodeParts) (root : Tree (Frame FrameWord Po
   pub kept : IsKept (image s code) root input (shown s state) t
   pub homed : AreHomed (IsAtLast s state.words) h t
   pub ready : AreReady (shown s state) t
-  pub born : AreBorn (image s code) (view s state.words) (spots.kinds s state.words) forked
+  pub born : AreBorn (image s code) (view s state.words) (kinds_of s state.words) forked
