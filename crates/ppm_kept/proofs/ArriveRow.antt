@@ -24,13 +24,14 @@ use Rattle.ppm_step.specs.declared.row.Row.{Row}
 use Rattle.ppm_step.specs.declared.row.Row.TheVariants.{Now, Store, Exchange}
 use Rattle.ppm_step.specs.declared.row.Seat.{Seat}
 use Rattle.ppm_step.specs.declared.row.Then.TheVariants.{Install}
-use Rattle.ppm_frames.specs.Views.{written as write}
+use Rattle.ppm_frames.specs.Views.{written as write, is_cell}
 use Rattle.ppm_frames.specs.Skeletons.{Stand, Begins, Over, Arrives, InPlace, Came, Skeleton, Leaf, grow, at, Around, Top, plug, hook_at, at_rim}
 use Rattle.ppm_frames.specs.Good.{Mark, IsPlain, IsFirst, IsFresh, IsHeld, IsInlined, mark, order_of, Framed, Match, Good}
 use Rattle.ppm_frames.proofs.WriteLemmas.{write_here}
 use Rattle.ppm_frames.proofs.SkeletonLemmas.{grow_plug, branch_from}
 use Rattle.ppm_frames.proofs.SwapLemmas.{swap_same, good_same, good_here}
 use Rattle.ppm_kept.specs.Running.{IsFair}
+use Rattle.ppm_kept.specs.Branches.{is_taker}
 use Rattle.ppm_kept.specs.Kept.{Image, seat_at, side_code, Doing, Resting, InRow, State, put, Blank, ceiling, Free, Reach, Does, Under, Head, Ordered, carried, IsKept}
 use Rattle.ppm_kept.specs.Moves.{doing_of, installs}
 use Rattle.ppm_kept.specs.Laws.{Ends, kind_then}
@@ -39,8 +40,10 @@ use Rattle.ppm_kept.specs.Moves.{exchanges}
 use Rattle.ppm_kept.specs.Pushing.{kind_seat}
 use Rattle.ppm_kept.specs.Arriving.{by_arrive, ArriveKeeps, ArriveRowKeeps}
 use Rattle.ppm_kept.proofs.OtherLemmas.{others_keep}
+use Rattle.ppm_kept.proofs.TurnLemmas.{head_cell}
 use Rattle.ppm_kept.proofs.PutLemmas.{put_here, put_else}
 use Rattle.ppm_kept.proofs.EndingLemmas.{not_ended}
+use Rattle.ppm_kept.proofs.BranchLemmas.{same_part}
 use Rattle.ppm_kept.proofs.BuildLemmas.{build}
 use Rattle.ppm_kept.proofs.PlaceLemmas.{leaf, going, kept_same, is_at_own, is_at_other}
 use Rattle.ppm_kept.proofs.ClaimLemmas.{soft_same, soft_leaf, claim_law}
@@ -164,7 +167,7 @@ module _ (i : Image) (fair : IsFair i.code) (root : Tree (Frame FrameWord Point)
             subst (IsKept i root input z) (sym (grown ∙ a.is comes))
             (claim_law i fair root input s t law p there r (side_code d) (Arrive r d) ke head (λ n. refl) blank doing a.around a.frame a.slots a.copy low a.beside comes a.beside is (omega (arith, e, f))
             (soft_leaf i.code p come.frame come.slots) (soft_same i.code p a.beside)
-            (left_order (mark a.beside) (sym zero_ ∙ good.0.order) ∙ sym (ap side_code de)) (omega (arith, e, f, no_strand)) others (λ b. b) (stands_on own bottom b m' set_now) head)
+            (left_order (mark a.beside) (sym zero_ ∙ good.0.order) ∙ sym (ap side_code de)) (omega (arith, e, f, no_strand)) others (λ b. b) (stands_on own bottom b m' set_now) head (λ x. x) refl)
       ]
       by_side Right he de = elim (branch_from Root come.around r Right he) [
         | inl k ↦ absurd (let b = k.0 in cc)
@@ -175,7 +178,7 @@ module _ (i : Image) (fair : IsFair i.code) (root : Tree (Frame FrameWord Point)
             subst (IsKept i root input z) (sym (grown ∙ a.is comes))
             (claim_law i fair root input s t law p there r (side_code d) (Arrive r d) ke head (λ n. refl) blank doing a.around a.frame a.slots a.copy a.beside low a.beside comes is (omega (arith, e, f))
             (soft_same i.code p a.beside) (soft_leaf i.code p come.frame come.slots)
-            (right_order (mark a.beside) (sym zero_ ∙ good.0.order) ∙ sym (ap side_code de)) (omega (arith, e, f, no_strand)) others (λ b. b) (stands_on own bottom b m' set_now) head)
+            (right_order (mark a.beside) (sym zero_ ∙ good.0.order) ∙ sym (ap side_code de)) (omega (arith, e, f, no_strand)) others (λ b. b) (stands_on own bottom b m' set_now) head (λ x. x) refl)
       ]
 
       claimed : Law z (grow p come_ t)
@@ -204,6 +207,7 @@ module _ (i : Image) (fair : IsFair i.code) (root : Tree (Frame FrameWord Point)
       does = tt;
       orders = (head, set);
       others = λ q ne. kept_same i fair root input s t law p q;
+      unrun = same_part tt tt refl;
       finishes = not_ended m m t come.around low low come.is refl refl;
     }))
 
@@ -234,6 +238,7 @@ module _ (i : Image) (fair : IsFair i.code) (root : Tree (Frame FrameWord Point)
       does = tt;
       orders = (head, set);
       others = λ q ne. kept_same i fair root input s t law p q;
+      unrun = same_part tt tt refl;
       finishes = λ e. e;
     })
 
@@ -250,18 +255,19 @@ module _ (i : Image) (fair : IsFair i.code) (root : Tree (Frame FrameWord Point)
 
   exchange_by : (a : Bool) → (o == 0) ≡ a → (own bottom b : ℕ) → Exchanged a (side_code d) own bottom b
   exchange_by true e own bottom b = let z = eqb-true o 0 e in claimed (ap (λ (x : ℕ). x == side_code d) z ∙ zero_code d) z own bottom b
-  exchange_by false e own bottom b = going i fair root input s t law p (doing_of (stands_then i.shape i.code (kind_seat own p (Arrive r d) bottom) (Install (join_then b))))
+  exchange_by false e own bottom b = going i fair root input s t law p (ap is_taker ke) (doing_of (stands_then i.shape i.code (kind_seat own p (Arrive r d) bottom) (Install (join_then b))))
       (subst (λ (k : RestartKind). Does i m p k (doing_of (stands_then i.shape i.code (kind_seat own p (Arrive r d) bottom) (Install (join_then b))))) (sym ke)
       (stands_on own bottom b m (λ z. let k : true ≡ false = sym (eq-eqb o 0 z) ∙ e in cc)))
 
   abbrev RowLaw : Row → Type 0
   RowLaw (Now next) = Ends next → Law (installs s p (kind_then next)) t
   RowLaw (Store cell content next) = ⊥
-  RowLaw (Exchange cell old new next) = (own bottom found : ℕ)
-      → Law (exchanges s p cell (word_of old) (word_of new) (went_row i.shape i.code (kind_seat own p (Arrive r d) bottom) found found (Exchange cell old new next))) (by_arrive m p r t)
+  RowLaw (Exchange cell old new next) = ((own bottom found : ℕ)
+      → Law (exchanges s p cell (word_of old) (word_of new) (went_row i.shape i.code (kind_seat own p (Arrive r d) bottom) found found (Exchange cell old new next))) (by_arrive m p r t))
+      × (is_cell i.shape cell ≡ true)
 
   exchange : (b : ℕ) → RowLaw (Exchange (BlockWord (r + 1)) (ANumber 0) (ANumber (first d)) (Install (join_then b)))
-  exchange b own bottom found = subst (λ (w : ℕ). Exchanged (o == 0) w own bottom b) (sym (first_is d)) (exchange_by (o == 0) refl own bottom b)
+  exchange b = (λ own bottom found. subst (λ (w : ℕ). Exchanged (o == 0) w own bottom b) (sym (first_is d)) (exchange_by (o == 0) refl own bottom b), head_cell i root input s t law (r + 1) head)
 
   by_reach : (b j : ℕ) (rest : Row) → Reach i m (seat b) j (row_of i.shape (seat b) (Arrive r d)) rest → RowLaw rest
   by_reach b zero rest q = subst RowLaw q (exchange b)
@@ -273,13 +279,14 @@ module _ (i : Image) (fair : IsFair i.code) (root : Tree (Frame FrameWord Point)
 
   pub arrive_keeps : ArriveKeeps i root input s t p r d
   arrive_keeps = record {
-    begins = λ own bottom. going i fair root input s t law p (InRow (row_of i.shape (kind_seat own p (Arrive r d) bottom) (Arrive r d)))
+    begins = λ own bottom. going i fair root input s t law p (ap is_taker ke) (InRow (row_of i.shape (kind_seat own p (Arrive r d) bottom) (Arrive r d)))
         (subst (λ (k : RestartKind). Under i m p k (row_of i.shape (kind_seat own p (Arrive r d) bottom) (Arrive r d))) (sym ke) (bottom, 0, refl));
     stores_none = λ cell content next e. under_of (Store cell content next) e;
-    exchanges = λ own bottom found cell old new next e. under_of (Exchange cell old new next) e own bottom found;
+    exchanges = λ own bottom found cell old new next e. (under_of (Exchange cell old new next) e).0 own bottom found;
+    cells = λ cell old new next e. (under_of (Exchange cell old new next) e).1;
     installs = λ next e ends. under_of (Now next) e ends;
-    faults = going i fair root input s t law p Resting tt;
+    faults = going i fair root input s t law p (ap is_taker ke) Resting tt;
   }
 
 pub arrive_row_keeps : ArriveRowKeeps
-arrive_row_keeps i fair root input s t law copies p there r d ke = arrive_keeps i fair root input s t law p there (others_keep i fair root input s t law copies p) r d ke
+arrive_row_keeps i fair root input s t law p there r d ke = arrive_keeps i fair root input s t law p there (others_keep i fair root input s t law p) r d ke

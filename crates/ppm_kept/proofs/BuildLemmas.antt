@@ -1,5 +1,5 @@
 -- What one word step has to show, for the invariant to stand after it.
-use Rattle.std.proofs.Common.{◌≡◌, ◌≢◌, ◌⊎◌, ◌≤◌, ◌<◌, ℕ, ◌+◌, inl, inr, sym, ap, ◌∙◌, subst, subst₂, arith}
+use Rattle.std.proofs.Common.{◌≡◌, ◌≢◌, ◌⊎◌, ◌≤◌, ◌<◌, ℕ, ◌+◌, true, false, inl, inr, sym, ap, ◌∙◌, subst, subst₂, arith}
 use Rattle.std.proofs.lemmas.Bool.{cases_eq}
 use Rattle.ppm_strands.specs.Run.{Counts, plus}
 use Rattle.ppm_strands.specs.Ahead.{Ahead, Step}
@@ -16,6 +16,8 @@ use Rattle.ppm_cells.specs.declared.restart.RestartKind.TheVariants.{Run, Bump, 
 use Rattle.ppm_capsules.specs.Strand.{Frame}
 use Rattle.ppm_code.specs.Strands.{Point, Result}
 use Rattle.ppm_code.specs.declared.location.FrameWord.{FrameWord}
+use Rattle.ppm_step.specs.declared.row.Row.TheVariants.{Now}
+use Rattle.ppm_step.specs.declared.row.Then.TheVariants.{Begin}
 use Rattle.ppm_frames.specs.Seen.{arrays_at}
 use Rattle.ppm_frames.specs.Skeletons.{Skeleton, tree_of, tree_at, count, plain, at, Around, plug, hook_at, rim, at_rim}
 use Rattle.ppm_frames.specs.Good.{Good}
@@ -23,9 +25,11 @@ use Rattle.ppm_frames.specs.Laws.{Same}
 use Rattle.ppm_frames.proofs.SkeletonLemmas.{step_in, tree_in, count_plug, plain_plug, at_plug}
 use Rattle.ppm_frames.proofs.SwapLemmas.{Swap, good_swap}
 use Rattle.ppm_kept.specs.Running.{IsFair, strands}
-use Rattle.ppm_kept.specs.Kept.{Image, start, end_of, owner, State, Doing, IsFinished, carried, ceiling, Free, Does, Head, Ordered, IsKept}
+use Rattle.ppm_kept.specs.Kept.{Image, start, end_of, owner, State, Doing, InRow, IsFinished, carried, ceiling, Free, Does, Head, Ordered, IsKept}
+use Rattle.ppm_kept.specs.Branches.{Unpushed, Waits, is_taker, HasCopy}
 use Rattle.ppm_kept.specs.Others.{KeptAt}
 use Rattle.ppm_kept.proofs.OwnerLemmas.{owned}
+use Rattle.ppm_kept.proofs.BranchLemmas.{Unrun, unpushed_less, waits_swap}
 
 pub record Turn (i : Image) (s : State) (t : Skeleton) (p : ℕ) (z : State) (c : Around) (u v : Skeleton) (k : RestartKind) (d : Doing) : Type 0 where
   pub is : t ≡ plug c u
@@ -52,6 +56,7 @@ pub record Turn (i : Image) (s : State) (t : Skeleton) (p : ℕ) (z : State) (c 
   pub orders : Ordered i s t z.words k
   pub finishes : IsFinished s.words t → IsFinished z.words (plug c v)
   pub others : (q : ℕ) → q ≢ p → KeptAt i s t z.words q
+  pub unrun : Unrun s p c u v k d
 
 module _ (i : Image) (fair : IsFair i.code) (root : Tree (Frame FrameWord Point) Result) (input : Words) (s : State) (t : Skeleton) (law : IsKept i root input s t) (p : ℕ) where
   pub each : (P : ℕ → Type 0) → P p → ((q : ℕ) → q ≢ p → P q) → (q : ℕ) → P q
@@ -81,6 +86,7 @@ module _ (i : Image) (fair : IsFair i.code) (root : Tree (Frame FrameWord Point)
 
     head_kept : (x : ℕ) → Head i s t x → Head i z (plug c v) x
     head_kept x a = record {
+      there = a.there;
       first = a.first;
       under = let lt = a.under in let r = roof (owner i x) in omega (arith, lt, r);
       bare = elim (turn.adds x) [
@@ -106,6 +112,32 @@ module _ (i : Image) (fair : IsFair i.code) (root : Tree (Frame FrameWord Point)
     ordered_kept (Take v x) a = tt
     ordered_kept (Take2 v) a = tt
 
+    apart_then : (x : ℕ) → count Root (plug c v) x ≤ 1
+    apart_then x = let a = law.apart x in let w = whole x in let e = count_plug Root c v x in elim (turn.adds x) [
+      | inl le ↦ let l = le.0 in omega (arith, a, w, e, l)
+      | inr new ↦ let f = was_free x new.1 new.2 in let n = new.0 in omega (arith, w, e, f, n)
+    ]
+
+    unpushed_then : (q : ℕ) → q ≢ p → Unpushed q (plug c v) (z.kind q)
+    unpushed_then q ne = subst (Unpushed q (plug c v)) (sym (turn.kinds q ne))
+        (unpushed_less q (s.kind q) c u v (let e = turn.placed q ne in omega (arith, e)) turn.swap.order (λ r. turn.unrun.untaken q r ne) (subst (λ (w : Skeleton). Unpushed q w (s.kind q)) turn.is (law.untaken q)))
+
+    own_aim : (r f b : ℕ) → is_taker (z.kind p) ≡ true → z.doing p ≡ InRow (Now (Begin r f b)) → Waits r f (plug c v)
+    own_aim r f b taker about = elim turn.unrun.aims [
+      | inl none ↦ absurd (let x : true ≡ false = sym taker ∙ ap is_taker turn.kind ∙ none in cc)
+      | inr go ↦ go r f b (sym turn.doing ∙ about)
+    ]
+
+    other_aim : (q r f b : ℕ) → q ≢ p → is_taker (z.kind q) ≡ true → z.doing q ≡ InRow (Now (Begin r f b)) → Waits r f (plug c v)
+    other_aim q r f b ne taker about =
+        let was : is_taker (s.kind q) ≡ true = ap is_taker (sym (turn.kinds q ne)) ∙ taker in
+        let then_ : s.doing q ≡ InRow (Now (Begin r f b)) = sym (turn.doings q ne) ∙ about in
+        let go = turn.unrun.waits q r f b ne was then_ in
+        waits_swap r f c u v go.0 go.1 (subst (Waits r f) turn.is (law.aims q r f b was then_))
+
+    aims_then : (q r f b : ℕ) → is_taker (z.kind q) ≡ true → z.doing q ≡ InRow (Now (Begin r f b)) → Waits r f (plug c v)
+    aims_then q r f b = each (λ q. is_taker (z.kind q) ≡ true → z.doing q ≡ InRow (Now (Begin r f b)) → Waits r f (plug c v)) (own_aim r f b) (λ q ne. other_aim q r f b ne) q
+
     pub build : IsKept i root input z (plug c v)
     build = record {
       ahead = elim turn.step [
@@ -124,10 +156,7 @@ module _ (i : Image) (fair : IsFair i.code) (root : Tree (Frame FrameWord Point)
       good = good_swap s.words z.words i.code s.kind z.kind Root c u v turn.around
           (λ q ne. elim (cases_eq q p) [ inl e ↦ absurd (ne (ap (λ (y : ℕ). at_rim y c) e ∙ turn.alone)) | inr other ↦ turn.kinds q other ]) turn.swap turn.good
           (subst (Good i.code s.words s.kind Root) turn.is law.good);
-      apart = λ x. let a = law.apart x in let w = whole x in let e = count_plug Root c v x in elim (turn.adds x) [
-        | inl le ↦ let l = le.0 in omega (arith, a, w, e, l)
-        | inr new ↦ let f = was_free x new.1 new.2 in let n = new.0 in omega (arith, w, e, f, n)
-      ];
+      apart = apart_then;
       below = λ x ne. elim (cases_eq (count Root t x) 0) [
         | inl was ↦ elim (turn.adds x) [
           | inl le ↦ absurd (let w = whole x in let e = count_plug Root c v x in let l = le.0 in ne (omega (arith, was, w, e, l)))
@@ -160,4 +189,7 @@ module _ (i : Image) (fair : IsFair i.code) (root : Tree (Frame FrameWord Point)
       orders = each _ (subst (Ordered i z (plug c v) z.words) (sym turn.kind) (ordered_kept k turn.orders))
           (λ q ne. subst (Ordered i z (plug c v) z.words) (sym (turn.kinds q ne)) (ordered_kept (s.kind q) (turn.others q ne).order));
       finished = turn.finishes law.finished;
+      copies = each (λ q. HasCopy (z.kind q)) (subst HasCopy (sym turn.kind) turn.unrun.copy) (λ q ne. subst HasCopy (sym (turn.kinds q ne)) (law.copies q));
+      untaken = each (λ q. Unpushed q (plug c v) (z.kind q)) (subst (Unpushed p (plug c v)) (sym turn.kind) (turn.unrun.pushes apart_then)) unpushed_then;
+      aims = aims_then;
     }

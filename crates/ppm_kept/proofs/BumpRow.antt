@@ -1,6 +1,7 @@
 -- The steps of a place in a row of kind Bump keep the invariant.
 use Rattle.std.proofs.Common.{◌≡◌, ◌≢◌, ◌≤◌, ◌<◌, ℕ, zero, suc, ◌+◌, Bool, true, false, inl, inr, refl, sym, ap, ◌∙◌, subst, subst₂, arith, Option, Some, None}
 use Rattle.std.proofs.Math.Path.{fun_ext}
+use Rattle.std.proofs.lemmas.Bool.{lt-ltb}
 use Rattle.ppm_strands.specs.Tree.{Words, Tree}
 use Rattle.ppm_cells.specs.Link.{link_of}
 use Rattle.ppm_cells.specs.declared.cell.Cell.{Cell}
@@ -25,19 +26,21 @@ use Rattle.ppm_step.specs.declared.row.Row.TheVariants.{Now, Store}
 use Rattle.ppm_step.specs.declared.row.Seat.{Seat}
 use Rattle.ppm_step.specs.declared.row.Then.{Then}
 use Rattle.ppm_step.specs.declared.row.Then.TheVariants.{Load, Fork}
-use Rattle.ppm_frames.specs.Views.{written as write}
+use Rattle.ppm_frames.specs.Views.{written as write, is_cell}
 use Rattle.ppm_frames.specs.Skeletons.{Stand, Begins, Over, Arrives, InPlace, Skeleton, Leaf, at, Around, plug, hook_at, at_rim}
 use Rattle.ppm_frames.specs.Good.{ended, link_or, link_at, Framed, IsSized, BumpsAt, Match, Good}
 use Rattle.ppm_frames.proofs.WriteLemmas.{write_here, write_else}
 use Rattle.ppm_frames.proofs.SkeletonLemmas.{tree_same, branch_from}
 use Rattle.ppm_frames.proofs.SwapLemmas.{swap_same, good_same, good_here}
 use Rattle.ppm_kept.specs.Running.{IsFair}
+use Rattle.ppm_kept.specs.Branches.{Untaken, Unpushed, is_taker, HasCopy}
 use Rattle.ppm_kept.specs.Kept.{Image, end_of, seat_at, Doing, Resting, InRow, State, put, Blank, ceiling, Free, Reach, Does, Under, Ordered, carried, IsKept}
 use Rattle.ppm_kept.specs.Moves.{doing_of, goes, stores, installs}
 use Rattle.ppm_kept.specs.Laws.{Ends, BumpKeeps, kind_then}
 use Rattle.ppm_kept.specs.Others.{Keeps}
 use Rattle.ppm_kept.proofs.PutLemmas.{put_here, put_else}
 use Rattle.ppm_kept.proofs.EndingLemmas.{not_ended}
+use Rattle.ppm_kept.proofs.BranchLemmas.{same_part}
 use Rattle.ppm_kept.proofs.BuildLemmas.{Turn, build}
 use Rattle.ppm_kept.proofs.PlaceLemmas.{leaf, going, kept_same, is_at_own, is_at_other}
 
@@ -108,6 +111,9 @@ module _ (i : Image) (fair : IsFair i.code) (root : Tree (Frame FrameWord Point)
   blank : Blank i m p (r + l.size)
   blank = subst (Free i m p) ke (law.free p)
 
+  untaken : Untaken p r (plug c u)
+  untaken = subst₂ (Unpushed p) has_leaf.is ke (law.untaken p)
+
   abbrev sits : (own bottom : ℕ) → Seat
   sits o b = record { own = o; place = p; restart = record { kind = Bump r; bottom = b } }
 
@@ -122,10 +128,10 @@ module _ (i : Image) (fair : IsFair i.code) (root : Tree (Frame FrameWord Point)
 
   -- the row begins, and its link is loaded
   pub row_begins : (own bottom : ℕ) → Law (goes s p (IsWithin (sits own bottom) (row_of i.shape (sits own bottom) (Bump r))))
-  row_begins own bottom = going i fair root input s t law p (InRow (Now (Load (BumpLink r)))) (subst (λ (k : RestartKind). Under i m p k (Now (Load (BumpLink r)))) (sym ke) (bottom, 0, refl))
+  row_begins own bottom = going i fair root input s t law p (ap is_taker ke) (InRow (Now (Load (BumpLink r)))) (subst (λ (k : RestartKind). Under i m p k (Now (Load (BumpLink r)))) (sym ke) (bottom, 0, refl))
 
   pub link_loads : (own bottom victim : ℕ) → Law (goes s p (went_row i.shape i.code (sits own bottom) victim (m (BlockWord r)) (Now (Load (BumpLink r)))))
-  link_loads own bottom victim = going i fair root input s t law p (doing_of (went_row i.shape i.code (sits own bottom) victim (m (BlockWord r)) (Now (Load (BumpLink r)))))
+  link_loads own bottom victim = going i fair root input s t law p (ap is_taker ke) (doing_of (went_row i.shape i.code (sits own bottom) victim (m (BlockWord r)) (Now (Load (BumpLink r)))))
       (subst (λ (k : RestartKind). Does i m p k (doing_of (went_row i.shape i.code (sits own bottom) victim (m (BlockWord r)) (Now (Load (BumpLink r)))))) (sym ke) (by (link_of (m (BlockWord r))) refl))
     where
       some : (k : LinkKind) (z : ℕ) → link_of (m (BlockWord r)) ≡ Some (record { kind = k; size = z }) → Does i m p (Bump r) (doing_of (stands i.shape i.code (sits own bottom) (link_row (Some (record { kind = k; size = z })) bottom)))
@@ -175,6 +181,7 @@ module _ (i : Image) (fair : IsFair i.code) (root : Tree (Frame FrameWord Point)
       does = does_so m' (b, 2, reaches m' (pool r) (write_here m (RoomCounter p) (r + l.size)));
       orders = tt;
       others = keeps c u (RoomCounter p) (r + l.size) has_leaf.is has_leaf.alone only one_here (inl refl);
+      unrun = same_part tt untaken refl;
       finishes = not_ended m m' t c u u has_leaf.is (write_else m (RoomCounter p) (r + l.size) FinishWord (λ e. cc)) refl;
     }
 
@@ -182,7 +189,8 @@ module _ (i : Image) (fair : IsFair i.code) (root : Tree (Frame FrameWord Point)
     counter_stored = subst (IsKept i root input z) (sym has_leaf.is) (build i fair root input s t law p z c u u (Bump r) d stored_turn)
 
   -- what comes next is installed
-  module _ (k : RestartKind) (stored : m (RoomCounter p) ≡ r + l.size) (match : Match i.code m k h (Begins 0) f) (top_is : ceiling i m p k ≡ m (RoomCounter p)) (one : carried m k ≡ 1) (frees : Free i m p k) (plain_kind : Ordered i s t m k) where
+  module _ (k : RestartKind) (stored : m (RoomCounter p) ≡ r + l.size) (match : Match i.code m k h (Begins 0) f) (top_is : ceiling i m p k ≡ m (RoomCounter p)) (one : carried m k ≡ 1) (frees : Free i m p k) (plain_kind : Ordered i s t m k)
+      (copy : HasCopy k) (own : Unpushed p (plug c u) k) (none : is_taker k ≡ false) where
     bump_installed : Law (installs s p k)
     bump_installed = subst (IsKept i root input (installs s p k)) (sym has_leaf.is) (build i fair root input s t law p (installs s p k) c u u k Resting (record {
       is = has_leaf.is;
@@ -205,6 +213,7 @@ module _ (i : Image) (fair : IsFair i.code) (root : Tree (Frame FrameWord Point)
       does = tt;
       orders = plain_kind;
       others = λ q ne. kept_same i fair root input s t law p q;
+      unrun = same_part copy own none;
       finishes = not_ended m m t c u u has_leaf.is refl refl;
     }))
 
@@ -232,17 +241,19 @@ module _ (i : Image) (fair : IsFair i.code) (root : Tree (Frame FrameWord Point)
       let here = calls_here h refl g y e has_leaf.at_ in
       bump_installed (Run r 0) stored (here, refl) refl refl
       (record { block = λ o lt out. ap (λ (b : ℕ). m (BlockWord (b + o))) stored ∙ blank o (subst (λ (b : ℕ). b + o < end_of i p) stored lt); outcome = inl (ap (λ (x : ℕ). m (BlockWord (x + 1))) here ∙ has_leaf.open_) }) tt
+      (omega arith) tt refl
 
   pub fork_installs : (g y : ℕ) → l.kind ≡ Forked g y → m (RoomCounter p) ≡ r + l.size → Law (installs s p (Push1 r))
   fork_installs g y e stored =
       let here = forks_here h refl g y e has_leaf.at_ in
       bump_installed (Push1 r) stored (refl, here.0, here.1, has_leaf.open_) refl refl
       (λ o lt. ap (λ (b : ℕ). m (BlockWord (b + o))) stored ∙ blank o (subst (λ (b : ℕ). b + o < end_of i p) stored lt)) tt
+      tt untaken refl
 
   -- the store of the row, by what was reached
   module _ (own bottom b : ℕ) where
     abbrev StoreLaw : Row → Type 0
-    StoreLaw (Store cell content next) = Law (stores s p cell (word_of content) (stands_then i.shape i.code (sits own bottom) next))
+    StoreLaw (Store cell content next) = Law (stores s p cell (word_of content) (stands_then i.shape i.code (sits own bottom) next)) × (is_cell i.shape cell ≡ true)
     StoreLaw row = Unit {0}
 
     if_there : (next : Then) (yes_ : Bool) (n : Cell → ℕ) → Under i n p (Bump r) (Now next) → Does i n p (Bump r) (doing_of (within_if (sits own bottom) (Now next) yes_))
@@ -256,20 +267,26 @@ module _ (i : Image) (fair : IsFair i.code) (root : Tree (Frame FrameWord Point)
     kind_is k z e = ap (λ (o : Option Link). (link_or o).kind) e
 
     store_some : (k : LinkKind) (z : ℕ) → link_of (m (BlockWord r)) ≡ Some (record { kind = k; size = z }) → StoreLaw (link_row (Some (record { kind = k; size = z })) b)
-    store_some (Called g y) z e = subst (λ (x : ℕ). Law (record { words = write m (RoomCounter p) (r + x); kind = s.kind; doing = put s.doing p (doing_of (stands_then i.shape i.code (sits own bottom) (with_kind (seat_at p (Bump r) b) (Run r 0)))) }))
-        (size_is (Called g y) z e)
-        (counter_stored (with_kind (seat_at p (Bump r) b) (Run r 0)) b
-        (λ n pool room. subst (λ (o : Option Link). Reach i n (seat_at p (Bump r) b) 1 (link_row o b) (Now (with_kind (seat_at p (Bump r) b) (Run r 0)))) (sym (ap link_of pool ∙ e))
-        (room ∙ ap (λ (x : ℕ). r + x) (size_is (Called g y) z e), refl))
-        (doing_of (stands_then i.shape i.code (sits own bottom) (with_kind (seat_at p (Bump r) b) (Run r 0))))
-        (λ n under. if_there (with_kind (seat_at p (Bump r) b) (Run r 0)) (then_is_there i.shape (sits own bottom) (with_kind (seat_at p (Bump r) b) (Run r 0))) n under))
-    store_some (Forked g y) z e = subst (λ (x : ℕ). Law (record { words = write m (RoomCounter p) (r + x); kind = s.kind; doing = put s.doing p (doing_of (stands_then i.shape i.code (sits own bottom) (Fork r))) }))
-        (size_is (Forked g y) z e)
-        (counter_stored (Fork r) b
-        (λ n pool room. subst (λ (o : Option Link). Reach i n (seat_at p (Bump r) b) 1 (link_row o b) (Now (Fork r))) (sym (ap link_of pool ∙ e))
-        (room ∙ ap (λ (x : ℕ). r + x) (size_is (Forked g y) z e), refl))
-        (doing_of (stands_then i.shape i.code (sits own bottom) (Fork r)))
-        (λ n under. if_there (Fork r) (then_is_there i.shape (sits own bottom) (Fork r)) n under))
+    store_some (Called g y) z e = (
+      subst (λ (x : ℕ). Law (record { words = write m (RoomCounter p) (r + x); kind = s.kind; doing = put s.doing p (doing_of (stands_then i.shape i.code (sits own bottom) (with_kind (seat_at p (Bump r) b) (Run r 0)))) }))
+          (size_is (Called g y) z e)
+          (counter_stored (with_kind (seat_at p (Bump r) b) (Run r 0)) b
+          (λ n pool room. subst (λ (o : Option Link). Reach i n (seat_at p (Bump r) b) 1 (link_row o b) (Now (with_kind (seat_at p (Bump r) b) (Run r 0)))) (sym (ap link_of pool ∙ e))
+          (room ∙ ap (λ (x : ℕ). r + x) (size_is (Called g y) z e), refl))
+          (doing_of (stands_then i.shape i.code (sits own bottom) (with_kind (seat_at p (Bump r) b) (Run r 0))))
+          (λ n under. if_there (with_kind (seat_at p (Bump r) b) (Run r 0)) (then_is_there i.shape (sits own bottom) (with_kind (seat_at p (Bump r) b) (Run r 0))) n under)),
+      lt-ltb p i.shape.processors there,
+    )
+    store_some (Forked g y) z e = (
+      subst (λ (x : ℕ). Law (record { words = write m (RoomCounter p) (r + x); kind = s.kind; doing = put s.doing p (doing_of (stands_then i.shape i.code (sits own bottom) (Fork r))) }))
+          (size_is (Forked g y) z e)
+          (counter_stored (Fork r) b
+          (λ n pool room. subst (λ (o : Option Link). Reach i n (seat_at p (Bump r) b) 1 (link_row o b) (Now (Fork r))) (sym (ap link_of pool ∙ e))
+          (room ∙ ap (λ (x : ℕ). r + x) (size_is (Forked g y) z e), refl))
+          (doing_of (stands_then i.shape i.code (sits own bottom) (Fork r)))
+          (λ n under. if_there (Fork r) (then_is_there i.shape (sits own bottom) (Fork r)) n under)),
+      lt-ltb p i.shape.processors there,
+    )
     store_some Root z e = tt
     store_some (Branch d q) z e = tt
 
@@ -329,7 +346,8 @@ module _ (i : Image) (fair : IsFair i.code) (root : Tree (Frame FrameWord Point)
   bump_keeps = record {
     begins = row_begins;
     loads = link_loads;
-    stores = λ own bottom found cell content next e. let a = under_of (Store cell content next) e in store_reached own bottom a.0 a.1 cell content next a.2;
+    stores = λ own bottom found cell content next e. let a = under_of (Store cell content next) e in (store_reached own bottom a.0 a.1 cell content next a.2).0;
+    cells = λ cell content next e. let a = under_of (Store cell content next) e in (store_reached 0 0 a.0 a.1 cell content next a.2).1;
     installs = λ next e ends. let a = under_of (Now next) e in install_reached 0 0 a.0 a.1 next a.2 ends;
-    faults = going i fair root input s t law p Resting tt;
+    faults = going i fair root input s t law p (ap is_taker ke) Resting tt;
   }

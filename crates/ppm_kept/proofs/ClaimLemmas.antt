@@ -1,5 +1,5 @@
 -- A store into the order word of a fork, which tells whose its branches' leaves are.
-use Rattle.std.proofs.Common.{◌≡◌, ◌≢◌, ◌≤◌, ◌<◌, ℕ, ◌+◌, ◌==◌, cond, Bool, inl, inr, refl, sym, ap, ap₂, ◌∙◌, subst, arith}
+use Rattle.std.proofs.Common.{◌≡◌, ◌≢◌, ◌≤◌, ◌<◌, ℕ, ◌+◌, ◌==◌, cond, Bool, false, inl, inr, refl, sym, ap, ap₂, ◌∙◌, subst, subst₂, arith}
 use Rattle.std.proofs.Math.Path.{fun_ext}
 use Rattle.ppm_strands.specs.Tree.{Words, Tree}
 use Rattle.ppm_strands.specs.Tree as tree
@@ -22,11 +22,13 @@ use Rattle.ppm_frames.proofs.WriteLemmas.{write_here, write_else, pool_apart}
 use Rattle.ppm_frames.proofs.SkeletonLemmas.{SameFrame, same_frame, frame_same, tree_same, inside_at}
 use Rattle.ppm_frames.proofs.SwapLemmas.{swap_same, given_same, good_same, good_here}
 use Rattle.ppm_kept.specs.Running.{IsFair}
+use Rattle.ppm_kept.specs.Branches.{IsUntaken, Untaken, Unpushed, IsWaitingAt, Waits, is_taker, HasCopy}
 use Rattle.ppm_kept.specs.Kept.{Image, end_of, owner, Doing, State, put, Blank, ceiling, Free, Does, Head, Ordered, carried, IsKept}
 use Rattle.ppm_kept.specs.Others.{KeptAt}
 use Rattle.ppm_kept.proofs.PutLemmas.{put_here, put_else}
 use Rattle.ppm_kept.proofs.OwnerLemmas.{owned}
 use Rattle.ppm_kept.proofs.EndingLemmas.{not_ended}
+use Rattle.ppm_kept.proofs.BranchLemmas.{Unrun, unpushed_less}
 use Rattle.ppm_kept.proofs.BuildLemmas.{Turn, build}
 use Rattle.ppm_kept.proofs.PlaceLemmas.{counted, is_at_other}
 
@@ -40,9 +42,13 @@ pub record Soft (i : CodeParts) (p : ℕ) (a b : Skeleton) : Type 0 where
   pub over : is_over b ≡ is_over a
   pub good : (n : Cell → ℕ) (k : ℕ → RestartKind) (h : LinkKind) → Good i n k h a → Good i n k h b
   pub others : (q : ℕ) → q ≢ p → at q b ≡ at q a
+  pub less : at p b ≤ at p a
+  pub untaken : (q r : ℕ) → Untaken q r a → Untaken q r b
+  pub waiting : (f : ℕ) → IsWaitingAt f a → IsWaitingAt f b
+  pub waits : (r f : ℕ) → Waits r f a → Waits r f b
 
 pub soft_same : (i : CodeParts) (p : ℕ) (a : Skeleton) → Soft i p a a
-soft_same i p a = record { head = refl; counts = λ h x. refl; plains = λ h x. refl; trees = λ n h. refl; gives = λ n h. refl; over = refl; good = λ n k h g. g; others = λ q ne. refl }
+soft_same i p a = record { head = refl; counts = λ h x. refl; plains = λ h x. refl; trees = λ n h. refl; gives = λ n h. refl; over = refl; good = λ n k h g. g; others = λ q ne. refl; less = omega arith; untaken = λ q r x. x; waiting = λ f x. x; waits = λ r f x. x }
 
 pub soft_leaf : (i : CodeParts) (p f n : ℕ) → Soft i p (Leaf (InPlace p) Arrives f n) (Leaf Came Arrives f n)
 soft_leaf i p f n = record {
@@ -54,6 +60,10 @@ soft_leaf i p f n = record {
   over = refl;
   good = λ n k h g. (g.0, g.1, refl);
   others = λ q ne. sym (is_at_other p q ne);
+  less = omega arith;
+  untaken = λ q r x. tt;
+  waiting = λ f x. x;
+  waits = λ r f x. x;
 }
 
 pub soft_ready : (i : CodeParts) (p : ℕ) (w : Who) → ((m : Cell → ℕ) (k : ℕ → RestartKind) (h : LinkKind) (st : Stand) (f : ℕ) → Matches i m k h Fresh st f → Matches i m k h w st f) → ((q : ℕ) → is_at q w ≡ 0)
@@ -67,6 +77,10 @@ soft_ready i p w to nobody (Leaf Fresh st f n) = record {
   over = over st;
   good = λ n' k h g. (g.0, g.1, to n' k h st f g.2);
   others = λ q ne. nobody q;
+  less = let e = nobody p in omega (arith, e);
+  untaken = λ q r x. tt;
+  waiting = λ f x. absurd x;
+  waits = λ r f x. x;
 }
   where
     same : (st : Stand) (m : Cell → ℕ) (h : LinkKind) → given m h (Leaf w st f n) ≡ given m h (Leaf Fresh st f n)
@@ -113,7 +127,8 @@ module _ (i : Image) (fair : IsFair i.code) (root : Tree (Frame FrameWord Point)
 
   module _ (c : Around) (g l y : ℕ) (a b a' b' : Skeleton) (is : t ≡ plug c (Forking g l y r a b)) (alone : at_rim p c ≡ 0) (left : Soft i.code p a a') (right : Soft i.code p b b')
       (code_is : order_of (mark a') (mark b') ≡ w) (sums : at p a' + at p b' ≡ carried m' k) (others : (q : ℕ) → q ≢ p → KeptAt i s t m' q)
-      (frees : Blank i m' p (m' (RoomCounter p)) → Free i m' p k) (does : Does i m' p k d) (ordered : Ordered i s t m' k) where
+      (frees : Blank i m' p (m' (RoomCounter p)) → Free i m' p k) (does : Does i m' p k d) (ordered : Ordered i s t m' k)
+      (marks : IsUntaken (mark b) → IsUntaken (mark b')) (none : is_taker k ≡ false) where
     abbrev u : Skeleton
     u = Forking g l y r a b
 
@@ -183,6 +198,21 @@ module _ (i : Image) (fair : IsFair i.code) (root : Tree (Frame FrameWord Point)
       right_target = subst (λ (w : ℕ). w ≤ l) (sym right_aim) forks.right_target;
     }
 
+    both_untaken : (q n : ℕ) → at q a' ≤ at q a → Untaken q n u → Untaken q n v
+    both_untaken q n less old = (λ is one. marks (old.0 is (omega (arith, one, less))), left.untaken q n old.1, right.untaken q n old.2)
+
+    claim_unrun : Unrun s p c u v k d
+    claim_unrun = record {
+      copy = subst HasCopy ke (law.copies p);
+      pushes = λ most. unpushed_less p k c u v (let e = left.less in let f = right.less in omega (arith, e, f)) refl (λ n. both_untaken p n left.less) (subst₂ (Unpushed p) is ke (law.untaken p));
+      untaken = λ q n ne. both_untaken q n (let e = left.others q ne in omega (arith, e));
+      waits = λ q n f x ne taker about. (
+        λ e. e,
+        λ e. elim e [ inl e ↦ inl (e.0, right.waiting f e.1) | inr e ↦ elim e [ inl e ↦ inr (inl (left.waits n f e)) | inr e ↦ inr (inr (right.waits n f e)) ] ],
+      );
+      aims = inl none;
+    }
+
     claim_turn : Turn i s t p z c u v k d
     claim_turn = record {
       is = is;
@@ -219,6 +249,7 @@ module _ (i : Image) (fair : IsFair i.code) (root : Tree (Frame FrameWord Point)
       does = does;
       orders = ordered;
       others = others;
+      unrun = claim_unrun;
       finishes = not_ended m m' t c u v is (write_else m (BlockWord (r + 1)) w FinishWord (λ e. cc)) refl;
     }
 

@@ -7,13 +7,14 @@ use Rattle.ppm_cells.specs.Cells.{word_count}
 use Rattle.ppm_cells.specs.Finish.{finish_of}
 use Rattle.ppm_cells.specs.Link.{link_of, IsLink}
 use Rattle.ppm_cells.specs.declared.cell.Cell.{Cell}
+use Rattle.ppm_cells.specs.declared.cell.Cell.TheVariants.{BlockWord}
 use Rattle.ppm_cells.specs.declared.finish.Finish.{Finish}
 use Rattle.ppm_cells.specs.declared.finish.Finish.TheVariants.{Ended, Trapped}
 use Rattle.ppm_cells.specs.declared.link.Link.{Link}
 use Rattle.ppm_cells.specs.declared.link.LinkKind.{LinkKind}
 use Rattle.ppm_cells.specs.declared.link.LinkKind.TheVariants.{Root, Call as Called, Branch, Fork as Forked}
 use Rattle.ppm_cells.specs.declared.restart.RestartKind.{RestartKind}
-use Rattle.ppm_cells.specs.declared.restart.RestartKind.TheVariants.{Run, Bump, Unwind, Arrive, Join, Seek}
+use Rattle.ppm_cells.specs.declared.restart.RestartKind.TheVariants.{Run, Bump, Push1, Push2, Unwind, Arrive, Join, Pop1, Pop2, Seek, Steal, Check, Take, Take2}
 use Rattle.ppm_cells.specs.declared.shape.Shape.{Shape}
 use Rattle.ppm_cells.proofs.LinkLemmas.{links_exact}
 use Rattle.ppm_capsules.specs.Strand.{Frame}
@@ -37,22 +38,20 @@ use Rattle.ppm_step.specs.declared.row.Seat.{Seat}
 use Rattle.ppm_step.specs.declared.row.Then.{Then}
 use Rattle.ppm_step.specs.declared.row.Then.TheVariants.{Load, Install, Fork, Begin, Broken}
 use Rattle.ppm_frames.specs.Skeletons.{Skeleton}
+use Rattle.ppm_frames.specs.Good.{link_or, link_at}
 use Rattle.ppm_kept.specs.Running.{IsFair, HasCome, IsClean, home_at, Opens}
+use Rattle.ppm_kept.specs.Branches.{HasCopy}
 use Rattle.ppm_kept.specs.Kept.{Image, seat_at, put, Doing, InRest, State, Free, Reach, Under, Does, IsKept}
 use Rattle.ppm_kept.specs.Laws.{Ends, kind_then}
-use Rattle.ppm_kept.specs.Others.{HasCopies}
 use Rattle.ppm_kept.specs.Copies.{IsKnown, CopiesStay, AllCopiesStay, OpeningsHaveCopies}
 use Rattle.ppm_kept.proofs.PutLemmas.{put_here, put_else}
 use Rattle.ppm_kept.proofs.RunLemmas.{by_installs}
 
-abbrev HasCopy : RestartKind → Type 0
-HasCopy k = (f y : ℕ) → k ≡ Run f y → y < 2
-
 -- another kind at a place
-put_copies : (kind : ℕ → RestartKind) (p : ℕ) (k : RestartKind) → ((q f y : ℕ) → kind q ≡ Run f y → y < 2) → HasCopy k → (q f y : ℕ) → put kind p k q ≡ Run f y → y < 2
-put_copies kind p k copies own q f y e = elim (cases_eq q p) [
-  | inl same ↦ own f y (sym (put_here kind p k) ∙ ap (put kind p k) (sym same) ∙ e)
-  | inr ne ↦ copies q f y (sym (put_else kind p k q ne) ∙ e)
+put_copies : (kind : ℕ → RestartKind) (p : ℕ) (k : RestartKind) → ((q : ℕ) → HasCopy (kind q)) → HasCopy k → (q : ℕ) → HasCopy (put kind p k q)
+put_copies kind p k copies own q = elim (cases_eq q p) [
+  | inl same ↦ subst HasCopy (sym (ap (put kind p k) same ∙ put_here kind p k)) own
+  | inr ne ↦ subst HasCopy (sym (put_else kind p k q ne)) (copies q)
 ]
 
 abbrev copy_told : RestartKind → ℕ
@@ -61,7 +60,20 @@ copy_told _ = 0
 
 -- a kind whose copy is below two
 low_copy : (k : RestartKind) → copy_told k < 2 → HasCopy k
-low_copy k low f y e = subst (λ (x : ℕ). x < 2) (ap copy_told e) low
+low_copy (Run f y) low = low
+low_copy (Bump r) low = tt
+low_copy (Push1 r) low = tt
+low_copy (Push2 r) low = tt
+low_copy (Unwind f) low = tt
+low_copy (Arrive r d) low = tt
+low_copy (Join r d) low = tt
+low_copy Pop1 low = tt
+low_copy (Pop2 r) low = tt
+low_copy Seek low = tt
+low_copy (Steal v x) low = tt
+low_copy (Check v x) low = tt
+low_copy (Take v x) low = tt
+low_copy (Take2 v) low = tt
 
 installed_low : (home : Home) (e : End) → copy_told (installed home e) < 2
 installed_low home (Next c) = omega arith
@@ -71,12 +83,12 @@ installed_low home (Call q c to) = omega arith
 installed_low home (Forking a b c lt rt) = omega arith
 
 -- a link that was unpacked has a copy below two
-abbrev LowLink : LinkKind → Type 0
+abbrev pub LowLink : LinkKind → Type 0
 LowLink (Called f y) = y < 2
 LowLink (Forked f y) = y < 2
 LowLink _ = Unit {0}
 
-unpacked_low : (w : ℕ) (l : Link) → link_of w ≡ Some l → LowLink l.kind
+pub unpacked_low : (w : ℕ) (l : Link) → link_of w ≡ Some l → LowLink l.kind
 unpacked_low w l e = by l.kind l.size ((links_exact w l).0 e).0
   where
     by : (k : LinkKind) (z : ℕ) → IsLink (record { kind = k; size = z }) → LowLink k
@@ -84,6 +96,18 @@ unpacked_low w l e = by l.kind l.size ((links_exact w l).0 e).0
     by (Forked f y) z h = h.0.1.0
     by Root z h = tt
     by (Branch d r) z h = tt
+
+pub hooked_low : (w f y : ℕ) → (link_at w).kind ≡ Forked f y → y < 2
+hooked_low w f y e = by (link_of w) refl
+  where
+    by : (o : Option Link) → link_of w ≡ o → y < 2
+    by None k = absurd (let z : Root ≡ Forked f y = ap (λ (o : Option Link). (link_or o).kind) (sym k) ∙ e in cc)
+    by (Some l) k = subst LowLink (ap (λ (o : Option Link). (link_or o).kind) (sym k) ∙ e) (unpacked_low w l k)
+
+-- the kind that a row installs
+abbrev row_kind : Row → RestartKind
+row_kind (Now next) = kind_then next
+row_kind _ = Seek
 
 -- what a row goes on with, by copies below two
 abbrev LowPoint : Point → Type 0
@@ -191,7 +215,7 @@ module _ (s : Shape) (seat : Seat) where
   low_found (Offset r b) h w = low_if (r + w) (Now (Begin r (r + w) b)) tt
   low_found _ h w = absurd h
 
-module _ (i : Image) (fair : IsFair i.code) (root : Tree (Frame FrameWord CodePoint) Result) (input : Words) (s : State) (t : Skeleton) (law : IsKept i root input s t) (copies : HasCopies s) (p : ℕ) where
+module _ (i : Image) (fair : IsFair i.code) (root : Tree (Frame FrameWord CodePoint) Result) (input : Words) (s : State) (t : Skeleton) (law : IsKept i root input s t) (p : ℕ) where
   abbrev m : Cell → ℕ
   m = s.words
 
@@ -220,22 +244,23 @@ module _ (i : Image) (fair : IsFair i.code) (root : Tree (Frame FrameWord CodePo
   row_low (Bump r) known next u ends = ends_low next ends (reached_low (seat_at p (Bump r) u.0) u.1 (row_of i.shape (seat_at p (Bump r) u.0) (Bump r)) next tt u.2)
   row_low (Unwind f) known next u ends = ends_low next ends (reached_low (seat_at p (Unwind f) u.0) u.1 (row_of i.shape (seat_at p (Unwind f) u.0) (Unwind f)) next tt u.2)
   row_low (Arrive r d) known next u ends = ends_low next ends (reached_low (seat_at p (Arrive r d) u.0) u.1 (row_of i.shape (seat_at p (Arrive r d) u.0) (Arrive r d)) next (omega arith) u.2)
-  row_low (Join r d) known next u ends = ends_low next ends (reached_low (seat_at p (Join r d) u.0) u.1 (row_of i.shape (seat_at p (Join r d) u.0) (Join r d)) next tt u.2)
+  row_low (Join r d) known next (inl u) ends = ends_low next ends (reached_low (seat_at p (Join r d) u.0) u.1 (row_of i.shape (seat_at p (Join r d) u.0) (Join r d)) next tt u.2)
+  row_low (Join r d) known next (inr u) ends = subst (λ (k : RestartKind). copy_told k < 2) (sym (ap row_kind u.is)) (hooked_low (m (BlockWord r)) u.frame u.copy u.hook)
   row_low _ known next u ends = absurd known
 
   stay : CopiesStay i s p
   stay = record {
-    goes_on = λ standing. copies;
-    stored = λ cell w standing. copies;
-    full = copies;
-    run_installs = λ f y kind ke de. put_copies s.kind p kind copies (run_low f y kind ke de);
+    goes_on = λ standing. law.copies;
+    stored = λ cell w standing. law.copies;
+    full = law.copies;
+    run_installs = λ f y kind ke de. put_copies s.kind p kind law.copies (run_low f y kind ke de);
     row_installs = λ next known de ends.
         let under : Under i m p (s.kind p) (Now next) = subst (λ (d : Doing). Does i m p (s.kind p) d) de (law.does p) in
-        put_copies s.kind p (kind_then next) copies (low_copy (kind_then next) (row_low (s.kind p) known next under ends));
+        put_copies s.kind p (kind_then next) law.copies (low_copy (kind_then next) (row_low (s.kind p) known next under ends));
   }
 
 pub copies_stay : AllCopiesStay
-copies_stay i fair root input s t law copies p = stay i fair root input s t law copies p
+copies_stay i fair root input s t law p = stay i fair root input s t law p
 
 pub openings_have_copies : OpeningsHaveCopies
-openings_have_copies m p f = put_copies (λ q. Seek) p (Run f 0) (λ q g y e. low_copy Seek (omega arith) g y e) (low_copy (Run f 0) (omega arith))
+openings_have_copies m p f = put_copies (λ q. Seek) p (Run f 0) (λ q. tt) (omega arith)

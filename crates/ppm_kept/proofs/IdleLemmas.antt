@@ -21,7 +21,7 @@ use Rattle.ppm_kept.proofs.OwnerLemmas.{owned}
 use Rattle.ppm_kept.proofs.PlaceLemmas.{head_on}
 
 -- what an idle place has, whatever the words are but for its counter and its free words
-idle_roof : (i : Image) (n : Cell → ℕ) (q : ℕ) (k : RestartKind) → IsIdle k → ceiling i n q k ≡ n (RoomCounter q)
+pub idle_roof : (i : Image) (n : Cell → ℕ) (q : ℕ) (k : RestartKind) → IsIdle k → ceiling i n q k ≡ n (RoomCounter q)
 idle_roof i n q Pop1 h = refl
 idle_roof i n q (Pop2 r) h = refl
 idle_roof i n q Seek h = refl
@@ -41,7 +41,7 @@ idle_carried m n (Take v x) h = refl
 idle_carried m n (Take2 v) h = refl
 idle_carried m n _ h = absurd h
 
-idle_free : (i : Image) (n : Cell → ℕ) (q : ℕ) (k : RestartKind) → IsIdle k → Blank i n q (n (RoomCounter q)) → Free i n q k
+pub idle_free : (i : Image) (n : Cell → ℕ) (q : ℕ) (k : RestartKind) → IsIdle k → Blank i n q (n (RoomCounter q)) → Free i n q k
 idle_free i n q Pop1 h b = b
 idle_free i n q (Pop2 r) h b = b
 idle_free i n q Seek h b = b
@@ -51,7 +51,7 @@ idle_free i n q (Take v x) h b = b
 idle_free i n q (Take2 v) h b = b
 idle_free i n q _ h b = absurd h
 
-idle_blank : (i : Image) (n : Cell → ℕ) (q : ℕ) (k : RestartKind) → IsIdle k → Free i n q k → Blank i n q (n (RoomCounter q))
+pub idle_blank : (i : Image) (n : Cell → ℕ) (q : ℕ) (k : RestartKind) → IsIdle k → Free i n q k → Blank i n q (n (RoomCounter q))
 idle_blank i n q Pop1 h b = b
 idle_blank i n q (Pop2 r) h b = b
 idle_blank i n q Seek h b = b
@@ -80,7 +80,7 @@ idle_does i m n q (Take v x) (InRest rest) h e = e
 idle_does i m n q (Take2 v) (InRest rest) h e = e
 idle_does i m n q _ d h e = absurd h
 
-idle_order : (i : Image) (s : State) (t : Skeleton) (n : Cell → ℕ) (k : RestartKind) → IsIdle k → Ordered i s t n k
+pub idle_order : (i : Image) (s : State) (t : Skeleton) (n : Cell → ℕ) (k : RestartKind) → IsIdle k → Ordered i s t n k
 idle_order i s t n Pop1 h = tt
 idle_order i s t n (Pop2 r) h = tt
 idle_order i s t n Seek h = tt

@@ -33,6 +33,7 @@ use Rattle.ppm_frames.specs.Good.{IsPlain, mark, order_of, Match, Forks, Good}
 use Rattle.ppm_frames.proofs.SkeletonLemmas.{branch_from, over_plug}
 use Rattle.ppm_frames.proofs.SwapLemmas.{swap_same, good_same, good_here}
 use Rattle.ppm_kept.specs.Running.{IsFair}
+use Rattle.ppm_kept.specs.Branches.{is_taker}
 use Rattle.ppm_kept.specs.Kept.{Image, seat_at, side_code, Doing, Resting, InRow, State, put, Blank, ceiling, Free, Reach, Does, Under, carried, IsKept}
 use Rattle.ppm_kept.specs.Moves.{doing_of, goes, installs}
 use Rattle.ppm_kept.specs.Laws.{Ends, kind_then}
@@ -40,6 +41,7 @@ use Rattle.ppm_kept.specs.Pushing.{kind_seat}
 use Rattle.ppm_kept.specs.Joins.{by_join, IsEarly, EarlyJoinKeeps, EarlyJoinRowKeeps}
 use Rattle.ppm_kept.proofs.PutLemmas.{put_here, put_else}
 use Rattle.ppm_kept.proofs.EndingLemmas.{not_ended}
+use Rattle.ppm_kept.proofs.BranchLemmas.{same_part, barren}
 use Rattle.ppm_kept.proofs.BuildLemmas.{Turn, build}
 use Rattle.ppm_kept.proofs.PlaceLemmas.{going, kept_same, is_at_own, is_at_other}
 use Rattle.ppm_kept.proofs.JoiningLemmas.{Comes, joins as joins_leaf, inline_late}
@@ -91,7 +93,7 @@ module _ (i : Image) (fair : IsFair i.code) (root : Tree (Frame FrameWord Point)
 
   -- where it stands by what it has reached
   within_any : (own bottom b a : ℕ) (z : Cell → ℕ) (rest : Row) → Reach i z (seat b) a (row b) rest → (yes_ : Bool) → Does i z p (Join r d) (doing_of (within_if (sits own bottom) rest yes_))
-  within_any own bottom b a z rest q true = (b, a, q)
+  within_any own bottom b a z rest q true = inl (b, a, q)
   within_any own bottom b a z rest q false = tt
 
   stand_any : (own bottom b a : ℕ) (z : Cell → ℕ) (rest : Row) → Reach i z (seat b) a (row b) rest → Does i z p (Join r d) (doing_of (stands i.shape i.code (sits own bottom) rest))
@@ -107,7 +109,7 @@ module _ (i : Image) (fair : IsFair i.code) (root : Tree (Frame FrameWord Point)
   stand_any own bottom b a z (Exchange c v w x) q = within_any own bottom b a z (Exchange c v w x) q (row_is_there i.shape (sits own bottom) (Exchange c v w x))
 
   goes_on : (own bottom b a : ℕ) (rest : Row) → Reach i m (seat b) a (row b) rest → Law (goes s p (stands i.shape i.code (sits own bottom) rest)) t
-  goes_on own bottom b a rest q = going i fair root input s t law p (doing_of (stands i.shape i.code (sits own bottom) rest))
+  goes_on own bottom b a rest q = going i fair root input s t law p (ap is_taker ke) (doing_of (stands i.shape i.code (sits own bottom) rest))
       (subst (λ (k : RestartKind). Does i m p k (doing_of (stands i.shape i.code (sits own bottom) rest))) (sym ke) (stand_any own bottom b a m rest q))
 
   -- what each row has to keep
@@ -168,6 +170,7 @@ module _ (i : Image) (fair : IsFair i.code) (root : Tree (Frame FrameWord Point)
       does = tt;
       orders = tt;
       others = λ q ne. kept_same i fair root input s t law p q;
+      unrun = same_part tt tt refl;
       finishes = λ e. e;
     })
 
@@ -241,6 +244,7 @@ module _ (i : Image) (fair : IsFair i.code) (root : Tree (Frame FrameWord Point)
         does = tt;
         orders = tt;
         others = λ q ne. kept_same i fair root input s t law p q;
+        unrun = barren (λ z x. (λ w. w, λ w. elim w [ inl a ↦ a.1 | inr a ↦ elim a [ inl b ↦ b | inr b ↦ b ] ])) (omega arith) (λ most. tt) (λ q z ne. (λ e one. absurd (omega (arith, one)), tt, tt)) refl;
         finishes = not_ended m m t c du dv is refl refl;
       }
 
@@ -289,8 +293,13 @@ module _ (i : Image) (fair : IsFair i.code) (root : Tree (Frame FrameWord Point)
     row_law b zero rest q = subst RowLaw q order_load
     row_law b (suc a) rest q = elim early [ inl e ↦ first_rows e b a rest q | inr e ↦ inline_rows e b a rest q ]
 
+    -- what is behind both values is of a branch that came last
+    under_law : (rest : Row) → Under i m p (Join r d) rest → RowLaw rest
+    under_law rest (inl a) = row_law a.0 a.1 rest a.2
+    under_law rest (inr a) = absurd (elim early [ inl e ↦ (let z : true ≡ false = sym e ∙ a.late in cc) | inr e ↦ (let z : true ≡ false = sym e ∙ a.beyond in cc) ])
+
     under_of : (rest : Row) → s.doing p ≡ InRow rest → RowLaw rest
-    under_of rest e = let a : Under i m p (Join r d) rest = subst₂ (λ (q : RestartKind) (x : Doing). Does i m p q x) ke e (law.does p) in row_law a.0 a.1 rest a.2
+    under_of rest e = under_law rest (subst₂ (λ (q : RestartKind) (x : Doing). Does i m p q x) ke e (law.does p))
 
     installed_law : (next : Then) → RowLaw (Now next) → Ends next → Law (installs s p (kind_then next)) (by_join p next t)
     installed_law (Install x) a ends = a ends
@@ -304,12 +313,12 @@ module _ (i : Image) (fair : IsFair i.code) (root : Tree (Frame FrameWord Point)
 
     pub early_join_keeps : EarlyJoinKeeps i root input s t p r d
     early_join_keeps = record {
-      begins = λ own bottom. going i fair root input s t law p (InRow (Now (Load (JoinOrder r d)))) (subst (λ (k : RestartKind). Under i m p k (Now (Load (JoinOrder r d)))) (sym ke) (bottom, 0, refl));
+      begins = λ own bottom. going i fair root input s t law p (ap is_taker ke) (InRow (Now (Load (JoinOrder r d)))) (subst (λ (k : RestartKind). Under i m p k (Now (Load (JoinOrder r d)))) (sym ke) (inl (bottom, 0, refl)));
       loads = λ own bottom victim point e. under_of (Now (Load point)) e own bottom victim;
       stores_none = λ cell content next e. under_of (Store cell content next) e;
       exchanges_none = λ cell old new next e. under_of (Exchange cell old new next) e;
       installs = λ next e ends. installed_law next (under_of (Now next) e) ends;
-      faults = going i fair root input s t law p Resting tt;
+      faults = going i fair root input s t law p (ap is_taker ke) Resting tt;
     }
 
 pub early_join_row_keeps : EarlyJoinRowKeeps

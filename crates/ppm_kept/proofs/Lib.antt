@@ -5,7 +5,8 @@
 -- says what then stands.
 -- Rows go down `Reach` by the options that their loads find. One record says what a step has to
 -- show (`BuildLemmas`), and `PlaceLemmas` what a place has at its leaf; then `RunRow`, `BumpRow`,
--- `UnwindRow`, `PushRows`, `ArriveRow`, `JoinRow`, `JoinTrapRow`.
+-- `UnwindRow`, `PushRows`, `ArriveRow`, `JoinRow`, `JoinTrapRow`, `TakeRow`. Of branches that no
+-- place runs it has to show `Unrun` (`BranchLemmas`).
 -- What the others keep: a step writes words of its own part, free words or an order word
 -- (`WroteLemmas`, `ClaimLemmas`), and all that another place has done is of other words
 -- (`NearLemmas`, `NodeLemmas`, `StayLemmas`, `SameRowLemmas`; `OtherLemmas`, by kinds).
@@ -17,6 +18,8 @@ pub mod BlockLemmas
 pub mod PutLemmas
 pub mod OwnerLemmas
 pub mod EndingLemmas
+pub mod UntakenLemmas
+pub mod BranchLemmas
 pub mod BuildLemmas
 pub mod PlaceLemmas
 pub mod RunRow
@@ -40,7 +43,11 @@ pub mod ClaimLemmas
 pub mod PushRows
 pub mod ExchangeLemmas
 pub mod ArriveRow
-pub mod UntakenLemmas
 pub mod JoinRow
-pub mod JoinTrapRow
 pub mod JoinValueLemmas
+pub mod JoinLastLemmas
+pub mod JoinLastRow
+pub mod LookLemmas
+pub mod TakeRow
+pub mod StateLemmas
+pub mod BeginLemmas

@@ -16,6 +16,7 @@ use Rattle.ppm_frames.specs.Skeletons.{Begins, InPlace, Leaf, Skeleton, tree_of,
 use Rattle.ppm_frames.specs.Good.{Match}
 use Rattle.ppm_frames.proofs.SkeletonLemmas.{inside_one, inside_from}
 use Rattle.ppm_kept.specs.Running.{strands}
+use Rattle.ppm_kept.specs.Branches.{Unpushed, HasCopy}
 use Rattle.ppm_kept.specs.Kept.{start, end_of, owner, put, ceiling, Free, Ordered, carried}
 use Rattle.ppm_kept.specs.Openings.{OpeningsAreKept, opening_of}
 use Rattle.ppm_kept.proofs.PutLemmas.{put_here, put_else}
@@ -38,6 +39,9 @@ openings i m p f n o = record {
   does = λ q. tt;
   finished = inl o.finish;
   orders = each (λ q k. Ordered i (opening_of m p f) t m k) tt (λ q ne. tt);
+  copies = each (λ q k. HasCopy k) (omega arith) (λ q ne. tt);
+  untaken = each (λ q k. Unpushed q t k) tt (λ q ne. tt);
+  aims = λ q r g b taker about. absurd (cc);
 }
   where
     t : Skeleton

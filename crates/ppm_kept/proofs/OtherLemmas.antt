@@ -41,7 +41,8 @@ use Rattle.ppm_frames.proofs.SkeletonLemmas.{SameFrame, same_frame, same_at, ins
 use Rattle.ppm_frames.proofs.SwapLemmas.{good_here}
 use Rattle.ppm_kept.specs.Running.{IsFair, number_at, limit, strands, frame_of}
 use Rattle.ppm_kept.specs.Kept.{Image, end_of, seat_at, side_code, State, Doing, Resting, InRow, InRest, Broken, Blank, ceiling, Free, Under, Going, Does, Head, Ordered, carried, IsKept}
-use Rattle.ppm_kept.specs.Others.{KeptAt, Mine, Claims, Wrote, IsIdle, HasCopies, OthersKeep}
+use Rattle.ppm_kept.specs.Branches.{HasCopy}
+use Rattle.ppm_kept.specs.Others.{KeptAt, Mine, Claims, Wrote, IsIdle, OthersKeep}
 use Rattle.ppm_kept.proofs.BlockLemmas.{header_is}
 use Rattle.ppm_kept.proofs.BumpRow.{Bumps, bump_at}
 use Rattle.ppm_kept.proofs.IdleLemmas.{idle_kept}
@@ -50,7 +51,7 @@ use Rattle.ppm_kept.proofs.JoiningLemmas.{Joining, Comes, joint, at_joint, first
 use Rattle.ppm_kept.proofs.NearLemmas.{own, far, first_of, second_of, beside}
 use Rattle.ppm_kept.proofs.NodeLemmas.{nodes_same}
 use Rattle.ppm_kept.proofs.PlaceLemmas.{leaf, Runs, run_leaf, is_at_own, is_at_other}
-use Rattle.ppm_kept.proofs.SameRowLemmas.{SameRow, JoinWords, broken_row, again_row, install_row, fork_row, begin_row, load_row, store_row, exchange_row, link_row, outcome_row, if_there_row, value_row, last_row}
+use Rattle.ppm_kept.proofs.SameRowLemmas.{SameRow, JoinWords, collected_same, broken_row, again_row, install_row, fork_row, begin_row, load_row, store_row, exchange_row, link_row, outcome_row, if_there_row, value_row, last_row}
 use Rattle.ppm_kept.proofs.StayLemmas.{clean_stays, come_stays}
 use Rattle.ppm_kept.proofs.WroteLemmas as wrote
 use Rattle.ppm_kept.proofs.WroteLemmas.{Claimed, What, OfPart, OfFree, OfRoom, OfArray, OfFinish, OfOrder}
@@ -500,18 +501,23 @@ module _ (i : Image) (fair : IsFair i.code) (root : Tree (Frame FrameWord Point)
       join_row : (b : ℕ) → SameRow i m n (seat_at q (Join r d) b) (row_of i.shape (seat_at q (Join r d) b) (Join r d))
       join_row b = load_row i m n (seat_at q (Join r d) b) (JoinOrder r d) word_stays (joins_row b)
 
+      join_under : (row : Row) → Under i m q (Join r d) row → Under i n q (Join r d) row
+      join_under row (inl v) = inl (v.0, v.1, join_row v.0 v.1 row v.2)
+      join_under row (inr v) = inr (collected_same i m n (seat_at q (Join r d) 0) r (j v.late v.beyond).frame (j v.late v.beyond).copy (j v.late v.beyond).slots
+          (late_words v.late v.beyond 0) d row word_stays v)
+
       kept_join : KeptAt i s t n q
-      kept_join = kept_plain (Join r d) ke room (ap (λ (b : ℕ). cond (b == side_code d) 0 1) word_stays) to_room (λ b. b) (λ row v. (v.0, v.1, join_row v.0 v.1 row v.2)) (λ rest e. e)
+      kept_join = kept_plain (Join r d) ke room (ap (λ (b : ℕ). cond (b == side_code d) 0 1) word_stays) to_room (λ b. b) join_under (λ rest e. e)
           (ordered.0, λ z. ordered.1 (sym word_stays ∙ z))
 
-  kept : HasCopies s → KeptAt i s t n q
-  kept copies = by (s.kind q) refl
+  kept : KeptAt i s t n q
+  kept = by (s.kind q) refl
     where
       idle : (k : RestartKind) → s.kind q ≡ k → IsIdle k → KeptAt i s t n q
       idle k ke h = idle_kept i fair root input s t law p c u cell w is mine q ne (subst IsIdle (sym ke) h)
 
       by : (k : RestartKind) → s.kind q ≡ k → KeptAt i s t n q
-      by (Run f y) ke = kept_run f y (copies q f y ke) ke
+      by (Run f y) ke = kept_run f y (subst HasCopy ke (law.copies q)) ke
       by (Bump r) ke = kept_bump r ke
       by (Push1 r) ke = kept_push r ke
       by (Push2 r) ke = kept_push2 r ke
@@ -527,4 +533,4 @@ module _ (i : Image) (fair : IsFair i.code) (root : Tree (Frame FrameWord Point)
       by (Take2 v) ke = idle (Take2 v) ke tt
 
 pub others_keep : OthersKeep
-others_keep i fair root input s t law copies p c u cell w is alone only one mine q ne = kept i fair root input s t law p c u cell w is only one mine q ne copies
+others_keep i fair root input s t law p c u cell w is alone only one mine q ne = kept i fair root input s t law p c u cell w is only one mine q ne

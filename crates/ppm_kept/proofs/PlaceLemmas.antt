@@ -1,5 +1,5 @@
 -- A place with its leaf, and steps that change no word.
-use Rattle.std.proofs.Common.{◌≡◌, ◌≢◌, ◌⊎◌, ◌≤◌, ◌<◌, ℕ, ◌+◌, ◌==◌, inl, inr, refl, sym, ap, ap₂, ◌∙◌, subst, subst₂, arith}
+use Rattle.std.proofs.Common.{◌≡◌, ◌≢◌, ◌⊎◌, ◌≤◌, ◌<◌, ℕ, ◌+◌, ◌==◌, true, false, inl, inr, refl, sym, ap, ap₂, ◌∙◌, subst, subst₂, arith}
 use Rattle.std.proofs.lemmas.Bool.{cases_eq, cond-true, eq-eqb, ne_eqb, cond-false}
 use Rattle.ppm_strands.specs.Tree.{Words, Tree}
 use Rattle.ppm_cells.specs.declared.cell.Cell.{Cell}
@@ -13,6 +13,8 @@ use Rattle.ppm_capsules.specs.Strand.{Frame}
 use Rattle.ppm_code.specs.Strands.{Point, Result}
 use Rattle.ppm_code.specs.declared.location.FrameWord.{FrameWord}
 use Rattle.ppm_code.specs.Sizes.{slots_at}
+use Rattle.ppm_step.specs.declared.row.Row.TheVariants.{Now}
+use Rattle.ppm_step.specs.declared.row.Then.TheVariants.{Begin}
 use Rattle.ppm_frames.specs.Views.{written as write}
 use Rattle.ppm_frames.specs.Skeletons.{Stand, Begins, Over, Arrives, InPlace, Skeleton, Leaf, Forking, header, inside, count, plain, is_at, at, Around, plug, hook_at, rim, at_rim}
 use Rattle.ppm_frames.specs.Good.{Framed, IsSized, Match, Good}
@@ -21,7 +23,8 @@ use Rattle.ppm_frames.proofs.WriteLemmas.{write_else, pool_apart}
 use Rattle.ppm_frames.proofs.SkeletonLemmas.{find, at_plug, count_plug, plain_count, branch_from, order_lacks, inside_at}
 use Rattle.ppm_frames.proofs.SwapLemmas.{good_here}
 use Rattle.ppm_kept.specs.Running.{IsFair}
-use Rattle.ppm_kept.specs.Kept.{Image, end_of, owner, State, Doing, put, ceiling, Does, Head, Ordered, carried, IsKept}
+use Rattle.ppm_kept.specs.Branches.{Waits, is_taker}
+use Rattle.ppm_kept.specs.Kept.{Image, end_of, owner, State, Doing, InRow, put, ceiling, Does, Head, Ordered, carried, IsKept}
 use Rattle.ppm_kept.specs.Others.{KeptAt, Mine}
 use Rattle.ppm_kept.proofs.PutLemmas.{put_here, put_else}
 use Rattle.ppm_kept.proofs.OwnerLemmas.{owned}
@@ -63,9 +66,10 @@ module _ (i : Image) (fair : IsFair i.code) (root : Tree (Frame FrameWord Point)
         match = good.2;
       }
 
-  -- only what the place does changes
-  pub going : (d : Doing) → Does i s.words p (s.kind p) d → IsKept i root input (record { words = s.words; kind = s.kind; doing = put s.doing p d }) t
-  going d own = record {
+  -- only what the place does changes: if it is then about to take a branch, that waits
+  pub going_to : (d : Doing) → Does i s.words p (s.kind p) d → ((r f b : ℕ) → is_taker (s.kind p) ≡ true → d ≡ InRow (Now (Begin r f b)) → Waits r f t)
+      → IsKept i root input (record { words = s.words; kind = s.kind; doing = put s.doing p d }) t
+  going_to d own aim = record {
     ahead = law.ahead;
     good = law.good;
     apart = law.apart;
@@ -80,11 +84,17 @@ module _ (i : Image) (fair : IsFair i.code) (root : Tree (Frame FrameWord Point)
     ];
     orders = λ q. by (s.kind q) (law.orders q);
     finished = law.finished;
+    copies = law.copies;
+    untaken = law.untaken;
+    aims = λ q r f b taker about. elim (cases_eq q p) [
+      | inl e ↦ aim r f b (ap (λ (x : ℕ). is_taker (s.kind x)) (sym e) ∙ taker) (sym (put_here s.doing p d) ∙ ap (put s.doing p d) (sym e) ∙ about)
+      | inr ne ↦ law.aims q r f b taker (sym (put_else s.doing p d q ne) ∙ about)
+    ];
   }
     where
       by : (k : RestartKind) → Ordered i s t s.words k → Ordered i (record { words = s.words; kind = s.kind; doing = put s.doing p d }) t s.words k
-      by (Arrive r e) a = record { first = a.first; under = a.under; bare = a.bare }
-      by (Join r e) a = (record { first = a.0.first; under = a.0.under; bare = a.0.bare }, a.1)
+      by (Arrive r e) a = record { there = a.there; first = a.first; under = a.under; bare = a.bare }
+      by (Join r e) a = (record { there = a.0.there; first = a.0.first; under = a.0.under; bare = a.0.bare }, a.1)
       by (Run f y) a = tt
       by (Bump r) a = tt
       by (Push1 r) a = tt
@@ -97,6 +107,10 @@ module _ (i : Image) (fair : IsFair i.code) (root : Tree (Frame FrameWord Point)
       by (Check v x) a = tt
       by (Take v x) a = tt
       by (Take2 v) a = tt
+
+  -- of a kind that takes none
+  pub going : is_taker (s.kind p) ≡ false → (d : Doing) → Does i s.words p (s.kind p) d → IsKept i root input (record { words = s.words; kind = s.kind; doing = put s.doing p d }) t
+  going none d own = going_to d own (λ r f b taker about. absurd (let x : true ≡ false = sym taker ∙ none in cc))
 
   pub kept_same : (q : ℕ) → KeptAt i s t s.words q
   kept_same q = record { roof = refl; strand = refl; free = law.free q; does = law.does q; order = law.orders q }
@@ -122,8 +136,9 @@ module _ (i : Image) (fair : IsFair i.code) (root : Tree (Frame FrameWord Point)
       let lacks = order_lacks Root c f n y r a b (r + 1) in
       let lacks' = subst (λ (w : Skeleton). plain Root w (r + 1) + inside (r + 1) 1 (r + 1) ≤ count Root w (r + 1)) (sym is) lacks in
       let most = law.apart (r + 1) in
-      let b = law.below (r + 1) (λ z. omega (arith, z, lacks', one)) in
-      record { first = b.0; under = b.1; bare = omega (arith, lacks', most, one) }
+      let some : count Root t (r + 1) ≡ 0 → ⊥ = λ z. omega (arith, z, lacks', one) in
+      let b = law.below (r + 1) some in
+      record { there = law.there (r + 1) some; first = b.0; under = b.1; bare = omega (arith, lacks', most, one) }
 
   -- words of one part are in no other
   pub rim_same : (c : Around) (u : Skeleton) (n : Cell → ℕ) (x w : ℕ) → t ≡ plug c u → ((y : ℕ) → y ≢ x → n (BlockWord y) ≡ s.words (BlockWord y))

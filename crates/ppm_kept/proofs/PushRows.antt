@@ -33,20 +33,24 @@ use Rattle.ppm_step.specs.declared.row.Row.TheVariants.{Now, Store, Exchange}
 use Rattle.ppm_step.specs.declared.row.Seat.{Seat}
 use Rattle.ppm_step.specs.declared.row.Then.TheVariants.{Load, Install, Fork, Begin, Move, Enter, Again, Broken}
 use Rattle.ppm_step.specs.Standings.{within_if, row_is_there, then_is_there}
-use Rattle.ppm_frames.specs.Views.{written as write}
+use Rattle.ppm_frames.specs.Views.{written as write, is_cell}
 use Rattle.ppm_frames.specs.Skeletons.{Stand, Begins, Over, Arrives, InPlace, Fresh, Waiting, Held, Came, Inlined, Skeleton, Leaf, Calling, Forking, readied, pushed, over_left, top, target_at, frame_at, tree_at, at, Around, plug, hook_at, at_rim}
 use Rattle.ppm_frames.specs.Good.{ended, IsPlain, mark, order_of, Framed, IsSized, Match, Good, Forks}
 use Rattle.ppm_frames.proofs.SkeletonLemmas.{branch_from, over_plug}
 use Rattle.ppm_frames.proofs.SwapLemmas.{swap_same, good_here}
 use Rattle.ppm_kept.specs.Running.{IsFair}
+use Rattle.ppm_kept.specs.Branches.{IsUntaken, Unpushed, is_taker, HasCopy}
 use Rattle.ppm_kept.specs.Kept.{Image, Doing, Resting, State, put, Blank, ceiling, Free, Does, Head, Ordered, carried, IsKept}
 use Rattle.ppm_kept.specs.Moves.{doing_of, goes, stores, installs}
 use Rattle.ppm_kept.specs.Laws.{Ends, kind_then}
 use Rattle.ppm_kept.specs.Others.{KeptAt, Claims, Keeps}
-use Rattle.ppm_kept.specs.Pushing.{Comes, kind_seat, IsUntaken, MayHold, Push1Keeps, Push2Keeps, Push1RowKeeps, Push2RowKeeps}
+use Rattle.ppm_kept.specs.Pushing.{Comes, kind_seat, MayHold, Push1Keeps, Push2Keeps, Push1RowKeeps, Push2RowKeeps}
 use Rattle.ppm_kept.proofs.OtherLemmas.{others_keep}
+use Rattle.ppm_kept.proofs.TurnLemmas.{head_cell}
 use Rattle.ppm_kept.proofs.PutLemmas.{put_here, put_else}
 use Rattle.ppm_kept.proofs.EndingLemmas.{not_ended}
+use Rattle.ppm_kept.proofs.UntakenLemmas.{all_untaken_stays}
+use Rattle.ppm_kept.proofs.BranchLemmas.{Unrun, same_part}
 use Rattle.ppm_kept.proofs.BuildLemmas.{Turn, build}
 use Rattle.ppm_kept.proofs.PlaceLemmas.{leaf, going, kept_same, head_on, is_at_own, is_at_other}
 use Rattle.ppm_kept.proofs.ClaimLemmas.{Soft, soft_same, soft_ready, claim_law}
@@ -117,6 +121,16 @@ waiting_order (Leaf Came st f n) = refl
 waiting_order (Leaf Inlined st f n) = refl
 waiting_order (Calling f n y t) = refl
 waiting_order (Forking f n y r a b) = refl
+
+held_untaken : (b : Skeleton) → IsUntaken (mark b) → IsUntaken (mark (readied Held b))
+held_untaken (Leaf Fresh st f n) way = tt
+held_untaken (Leaf Held st f n) way = tt
+held_untaken (Leaf (InPlace q) st f n) way = way
+held_untaken (Leaf Waiting st f n) way = way
+held_untaken (Leaf Came st f n) way = way
+held_untaken (Leaf Inlined st f n) way = way
+held_untaken (Calling f n y t) way = way
+held_untaken (Forking f n y r a b) way = way
 
 held_nobody : (p : ℕ) (b : Skeleton) → at p b ≡ 0 → at p (readied Held b) ≡ 0
 held_nobody p (Leaf Fresh st f n) e = refl
@@ -191,6 +205,7 @@ pub record Pushing (i : Image) (s : State) (t : Skeleton) (p r : ℕ) (k : Resta
   pub one : (n : Cell → ℕ) → carried n k ≡ 1
   pub match : (n : Cell → ℕ) (h : LinkKind) (st : Stand) (f : ℕ) → Match i.code n k h st f → Match i.code n (Push1 r) h st f
   pub ordered : (n : Cell → ℕ) → Ordered i s t n k
+  pub none : is_taker k ≡ false
 
 module _ (i : Image) (fair : IsFair i.code) (root : Tree (Frame FrameWord Point) Result) (input : Words) (s : State) (t : Skeleton) (law : IsKept i root input s t) (p : ℕ)
     (there : p < i.shape.processors) (keeps : Keeps i s t p) (r : ℕ) (k : RestartKind) (ke : s.kind p ≡ k) (pushing : Pushing i s t p r k) where
@@ -227,14 +242,14 @@ module _ (i : Image) (fair : IsFair i.code) (root : Tree (Frame FrameWord Point)
   standing own bottom rest = doing_of (stands i.shape i.code (kind_seat own p k bottom) rest)
 
   pub goes_on : (own bottom : ℕ) (rest : Row) → Law (goes s p (stands i.shape i.code (kind_seat own p k bottom) rest)) t
-  goes_on own bottom rest = going i fair root input s t law p (standing own bottom rest) (subst (λ (k : RestartKind). Does i m p k (standing own bottom rest)) (sym ke) (pushing.does own bottom m rest))
+  goes_on own bottom rest = going i fair root input s t law p (ap is_taker ke ∙ pushing.none) (standing own bottom rest) (subst (λ (k : RestartKind). Does i m p k (standing own bottom rest)) (sym ke) (pushing.does own bottom m rest))
 
   pub faults : Law (goes s p IsLost) t
-  faults = going i fair root input s t law p Resting tt
+  faults = going i fair root input s t law p (ap is_taker ke ∙ pushing.none) Resting tt
 
   -- what is installed changes no word
   module _ (next : RestartKind) (match : Match i.code m next (hook_at Root pushes.around) (Begins 0) pushes.frame) (top_is : ceiling i m p next ≡ m (RoomCounter p)) (one : carried m next ≡ 1) (next_free : Free i m p next)
-      (next_ordered : Ordered i s t m next) where
+      (next_ordered : Ordered i s t m next) (copy : HasCopy next) (own : (w : Skeleton) → Unpushed p w next) (no_taker : is_taker next ≡ false) where
     plain_turn : Turn i s t p (installs s p next) pushes.around low low next Resting
     plain_turn = record {
       is = pushes.is;
@@ -257,6 +272,7 @@ module _ (i : Image) (fair : IsFair i.code) (root : Tree (Frame FrameWord Point)
       does = tt;
       orders = next_ordered;
       others = λ q ne. kept_same i fair root input s t law p q;
+      unrun = same_part copy (own (plug pushes.around low)) no_taker;
       finishes = not_ended m m t pushes.around low low pushes.is refl refl;
     }
 
@@ -266,9 +282,10 @@ module _ (i : Image) (fair : IsFair i.code) (root : Tree (Frame FrameWord Point)
   pub run_installs : Law (installs s p (Run (r + 5) 0)) t
   run_installs = plain_install (Run (r + 5) 0) (sym pushes.at_, refl) refl refl
       (record { block = λ o lt out. blank o lt; outcome = inl (ap (λ (b : ℕ). m (BlockWord (b + 1))) (sym pushes.at_) ∙ pushes.open_) }) tt
+      (omega arith) (λ w. tt) refl
 
   pub push2_installs : Law (installs s p (Push2 r)) t
-  push2_installs = plain_install (Push2 r) (refl, pushes.hook, pushes.at_, pushes.open_) refl refl blank tt
+  push2_installs = plain_install (Push2 r) (refl, pushes.hook, pushes.at_, pushes.open_) refl refl blank tt tt (λ w. tt) refl
 
   -- the fork of the place
   module _ (own bottom : ℕ) (after : Row) (c : Around) (g l y : ℕ) (b : Skeleton) (is : t ≡ plug c (Forking g l y r low b)) (alone : at_rim p c ≡ 0) (nobody : at p b ≡ 0) where
@@ -298,9 +315,10 @@ module _ (i : Image) (fair : IsFair i.code) (root : Tree (Frame FrameWord Point)
           (sym (ap (over_left p (pushed Held)) is ∙ over_plug p (pushed Held) c g l y r (Begins 0) pushes.frame pushes.slots b alone))
           (claim_law i fair root input s t law p there r 3 k ke head pushing.roofs blank d c g l y low b low (readied Held b) is alone (soft_same i.code p low) (soft_ready i.code p Held (λ n k h st f a. a) (λ q. refl) b)
           (held_order b way) (let one = is_at_own p in let z = held_nobody p b nobody in let o = pushing.one (write m (BlockWord (r + 1)) 3) in omega (arith, one, z, o)) others
-          (pushing.free (write m (BlockWord (r + 1)) 3)) (pushing.does own bottom (write m (BlockWord (r + 1)) 3) after) (pushing.ordered (write m (BlockWord (r + 1)) 3)))
+          (pushing.free (write m (BlockWord (r + 1)) 3)) (pushing.does own bottom (write m (BlockWord (r + 1)) 3) after) (pushing.ordered (write m (BlockWord (r + 1)) 3))
+          (held_untaken b) pushing.none)
 
-    -- the right branch may be taken
+    -- the right branch may be taken, where the place has not to push any more
     abbrev b' : Skeleton
     b' = readied Waiting b
 
@@ -313,8 +331,20 @@ module _ (i : Image) (fair : IsFair i.code) (root : Tree (Frame FrameWord Point)
     abbrev z' : State
     z' = record { words = m; kind = s.kind; doing = put s.doing p d }
 
-    ready_turn : Turn i s t p z' c u v k d
-    ready_turn = record {
+    ready_unrun : ((w : Skeleton) → Unpushed p w k) → Unrun s p c u v k d
+    ready_unrun no_push = record {
+      copy = subst HasCopy ke (law.copies p);
+      pushes = λ most. no_push (plug c v);
+      untaken = λ q n ne old. (λ e one. absurd (let z = is_at_other p q ne in omega (arith, one, z)), tt, soft'.untaken q n old.2);
+      waits = λ q n x a ne taker about. (
+        λ e. e,
+        λ e. elim e [ inl e ↦ inl (e.0, soft'.waiting x e.1) | inr e ↦ elim e [ inl e ↦ absurd e | inr e ↦ inr (inr (soft'.waits n x e)) ] ],
+      );
+      aims = inl pushing.none;
+    }
+
+    ready_turn : ((w : Skeleton) → Unpushed p w k) → Turn i s t p z' c u v k d
+    ready_turn no_push = record {
       is = is;
       alone = alone;
       there = there;
@@ -353,12 +383,13 @@ module _ (i : Image) (fair : IsFair i.code) (root : Tree (Frame FrameWord Point)
       does = pushing.does own bottom m after;
       orders = pushing.ordered m;
       others = λ q ne. kept_same i fair root input s t law p q;
+      unrun = ready_unrun no_push;
       finishes = not_ended m m t c u v is refl refl;
     }
 
-    ready : Law z' (over_left p (pushed Waiting) t)
-    ready = subst (IsKept i root input z') (sym (ap (over_left p (pushed Waiting)) is ∙ over_plug p (pushed Waiting) c g l y r (Begins 0) pushes.frame pushes.slots b alone))
-        (build i fair root input s t law p z' c u v k d ready_turn)
+    ready : ((w : Skeleton) → Unpushed p w k) → Law z' (over_left p (pushed Waiting) t)
+    ready pushed_all = subst (IsKept i root input z') (sym (ap (over_left p (pushed Waiting)) is ∙ over_plug p (pushed Waiting) c g l y r (Begins 0) pushes.frame pushes.slots b alone))
+        (build i fair root input s t law p z' c u v k d (ready_turn pushed_all))
 
   pub held_now : (own bottom : ℕ) (after : Row) → MayHold t p r → Law (stores s p (BlockWord (r + 1)) 3 (stands i.shape i.code (kind_seat own p k bottom) after)) (over_left p (pushed Held) t)
   held_now own bottom after may = elim (branch_from Root pushes.around r Left pushes.hook) [
@@ -367,11 +398,11 @@ module _ (i : Image) (fair : IsFair i.code) (root : Tree (Frame FrameWord Point)
         order_stored own bottom after o.around o.frame o.slots o.copy o.beside is (omega (arith, e, a)) (omega (arith, e, a)) (may o.around o.frame o.slots o.copy low o.beside is one_low)
   ]
 
-  pub waits_now : (own bottom : ℕ) (after : Row) → Law (goes s p (stands i.shape i.code (kind_seat own p k bottom) after)) (over_left p (pushed Waiting) t)
-  waits_now own bottom after = elim (branch_from Root pushes.around r Left pushes.hook) [
+  pub waits_now : ((w : Skeleton) → Unpushed p w k) → (own bottom : ℕ) (after : Row) → Law (goes s p (stands i.shape i.code (kind_seat own p k bottom) after)) (over_left p (pushed Waiting) t)
+  waits_now pushed_all own bottom after = elim (branch_from Root pushes.around r Left pushes.hook) [
     | inl k ↦ absurd (let b = k.0 in cc)
     | inr o ↦ let e = o.places p in let a = pushes.alone in
-        ready own bottom after o.around o.frame o.slots o.copy o.beside (pushes.is ∙ o.is low) (omega (arith, e, a)) (omega (arith, e, a))
+        ready own bottom after o.around o.frame o.slots o.copy o.beside (pushes.is ∙ o.is low) (omega (arith, e, a)) (omega (arith, e, a)) pushed_all
   ]
 
 -- any row may be under way
@@ -410,7 +441,7 @@ does2 i p r own bottom n (Exchange c v w x) = within2 i p r (kind_seat own p (Pu
 module _ (i : Image) (fair : IsFair i.code) (root : Tree (Frame FrameWord Point) Result) (input : Words) (s : State) (t : Skeleton) (law : IsKept i root input s t) (p : ℕ)
     (there : p < i.shape.processors) (keeps : Keeps i s t p) (r : ℕ) (ke : s.kind p ≡ Push1 r) where
   first_pushing : Pushing i s t p r (Push1 r)
-  first_pushing = record { roofs = λ n. refl; blank = λ n a. a; free = λ n a. a; does = does1 i p r; one = λ n. refl; match = λ n h st f a. a; ordered = λ n. tt }
+  first_pushing = record { roofs = λ n. refl; blank = λ n a. a; free = λ n a. a; does = does1 i p r; one = λ n. refl; match = λ n h st f a. a; ordered = λ n. tt; none = refl }
 
   abbrev Law1 : State → Skeleton → Type 0
   Law1 z v = IsKept i root input z v
@@ -418,14 +449,17 @@ module _ (i : Image) (fair : IsFair i.code) (root : Tree (Frame FrameWord Point)
   first_loads : (own bottom : ℕ) (rest : Row) → Law1 (goes s p (stands i.shape i.code (kind_seat own p (Push1 r) bottom) rest)) t
   first_loads = goes_on i fair root input s t law p there keeps r (Push1 r) ke first_pushing
 
+  may_hold : MayHold t p r
+  may_hold = (all_untaken_stays p r).holds t (subst (Unpushed p t) ke (law.untaken p))
+
   module _ (own bottom : ℕ) where
     abbrev seat1 : Seat
     seat1 = kind_seat own p (Push1 r) bottom
 
     abbrev P1 : Row → Type 0
     P1 (Now next) = Ends next → Law1 (installs s p (kind_then next)) t
-    P1 (Store cell content next) = MayHold t p r → (found : ℕ) → (cell ≡ BlockWord (r + 1)) × (word_of content ≡ 3)
-        × Law1 (stores s p cell (word_of content) (went_row i.shape i.code seat1 found found (Store cell content next))) (over_left p (pushed Held) t)
+    P1 (Store cell content next) = (found : ℕ) → (cell ≡ BlockWord (r + 1)) × (word_of content ≡ 3)
+        × Law1 (stores s p cell (word_of content) (went_row i.shape i.code seat1 found found (Store cell content next))) (over_left p (pushed Held) t) × (is_cell i.shape cell ≡ true)
     P1 (Exchange cell old new next) = (found : ℕ) → (cell ≡ EntryWord p (bottom + 1)) × Law1 (goes s p (went_row i.shape i.code seat1 found found (Exchange cell old new next))) t
 
     left1 : P1 (Now (left_begins r bottom))
@@ -452,7 +486,12 @@ module _ (i : Image) (fair : IsFair i.code) (root : Tree (Frame FrameWord Point)
     order_load (suc n) rest q = number_comes i.shape seat1 P1 (λ ends. absurd ends) (push_by_order seat1 r) order_rows q.1 n rest q.2
 
     push_rows : (last : Bool) (by : Takeover) (n : ℕ) (rest : Row) → Comes i.shape seat1 n (push_at seat1 by r last) rest → P1 rest
-    push_rows true by zero rest q = subst P1 q (λ may found. (refl, refl, held_now i fair root input s t law p there keeps r (Push1 r) ke first_pushing own bottom (Now (left_begins r bottom)) may))
+    push_rows true by zero rest q = subst P1 q (λ found. (
+      refl,
+      refl,
+      held_now i fair root input s t law p there keeps r (Push1 r) ke first_pushing own bottom (Now (left_begins r bottom)) may_hold,
+      head_cell i root input s t law (r + 1) (head i fair root input s t law p there keeps r (Push1 r) ke first_pushing),
+    ))
     push_rows true by (suc n) rest q = install_comes i.shape seat1 P1 (record { kind = Run (r + 5) 0; bottom = bottom }) left1 n rest q
     push_rows false ByPlaces n rest q = above_load n rest q
     push_rows false ByEntries n rest q = order_load n rest q
@@ -463,7 +502,7 @@ module _ (i : Image) (fair : IsFair i.code) (root : Tree (Frame FrameWord Point)
   pub push1_keeps : Push1Keeps i root input s t p r
   push1_keeps = record {
     loads = first_loads;
-    stores = λ own bottom n found cell content next may q. first_rows own bottom n (Store cell content next) q may found;
+    stores = λ own bottom n found cell content next q. first_rows own bottom n (Store cell content next) q found;
     exchanges = λ own bottom n found cell old new next q. first_rows own bottom n (Exchange cell old new next) q found;
     installs = λ own bottom n next ends q. first_rows own bottom n (Now next) q ends;
     faults = faults i fair root input s t law p there keeps r (Push1 r) ke first_pushing;
@@ -472,7 +511,7 @@ module _ (i : Image) (fair : IsFair i.code) (root : Tree (Frame FrameWord Point)
 module _ (i : Image) (fair : IsFair i.code) (root : Tree (Frame FrameWord Point) Result) (input : Words) (s : State) (t : Skeleton) (law : IsKept i root input s t) (p : ℕ)
     (there : p < i.shape.processors) (keeps : Keeps i s t p) (r : ℕ) (ke : s.kind p ≡ Push2 r) where
   second_pushing : Pushing i s t p r (Push2 r)
-  second_pushing = record { roofs = λ n. refl; blank = λ n a. a; free = λ n a. a; does = does2 i p r; one = λ n. refl; match = λ n h st f a. as_first i n r h st f a; ordered = λ n. tt }
+  second_pushing = record { roofs = λ n. refl; blank = λ n a. a; free = λ n a. a; does = does2 i p r; one = λ n. refl; match = λ n h st f a. as_first i n r h st f a; ordered = λ n. tt; none = refl }
 
   abbrev Law2 : State → Skeleton → Type 0
   Law2 z v = IsKept i root input z v
@@ -493,7 +532,7 @@ module _ (i : Image) (fair : IsFair i.code) (root : Tree (Frame FrameWord Point)
     bottom_rows : (e : Entry) (n : ℕ) (rest : Row) → Comes i.shape seat2 n (push_bottom seat2 r e) rest → P2 rest
     bottom_rows e n rest q = tried_rows i.shape seat2 P2 (EntryWord p bottom) e (record { kind = Run (r + 5) 0; bottom = bottom + 1 }) (λ ends. absurd ends)
         (λ ends. run_installs i fair root input s t law p there keeps r (Push2 r) ke second_pushing)
-        (λ new found. (refl, second_loads own bottom (Now (left_begins r (bottom + 1))), waits_now i fair root input s t law p there keeps r (Push2 r) ke second_pushing own bottom (Now (left_begins r (bottom + 1)))))
+        (λ new found. (refl, second_loads own bottom (Now (left_begins r (bottom + 1))), waits_now i fair root input s t law p there keeps r (Push2 r) ke second_pushing (λ w. tt) own bottom (Now (left_begins r (bottom + 1)))))
         (pushed_job e r) n rest q
 
     second_rows : (n : ℕ) (rest : Row) → Comes i.shape seat2 n (row_of i.shape seat2 (Push2 r)) rest → P2 rest
@@ -510,7 +549,7 @@ module _ (i : Image) (fair : IsFair i.code) (root : Tree (Frame FrameWord Point)
   }
 
 pub push1_row_keeps : Push1RowKeeps
-push1_row_keeps i fair root input s t law copies p there r ke = push1_keeps i fair root input s t law p there (others_keep i fair root input s t law copies p) r ke
+push1_row_keeps i fair root input s t law p there r ke = push1_keeps i fair root input s t law p there (others_keep i fair root input s t law p) r ke
 
 pub push2_row_keeps : Push2RowKeeps
-push2_row_keeps i fair root input s t law copies p there r ke = push2_keeps i fair root input s t law p there (others_keep i fair root input s t law copies p) r ke
+push2_row_keeps i fair root input s t law p there r ke = push2_keeps i fair root input s t law p there (others_keep i fair root input s t law p) r ke

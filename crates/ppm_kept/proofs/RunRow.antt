@@ -54,6 +54,7 @@ use Rattle.ppm_frames.proofs.WriteLemmas.{write_here, write_else, address}
 use Rattle.ppm_frames.proofs.SeenLemmas.{choice}
 use Rattle.ppm_frames.proofs.SkeletonLemmas.{inside_from, inside_one, inside_at, count_plug, grow_plug, tree_same}
 use Rattle.ppm_kept.specs.Running.{room_or, asked_of, AllStand, outcome_by, IsFair, home_at, number_at, closed, now, all_of, limit, HasRoom, HasCome, IsClean, frame_of, strands, LiesApart, GoesOn}
+use Rattle.ppm_kept.specs.Branches.{Untaken, Unpushed, is_taker, HasCopy}
 use Rattle.ppm_kept.specs.Kept.{Image, end_of, owner, NoOutcome, Doing, Resting, InRest, State, put, Blank, ceiling, Free, Does, Ordered, carried, IsKept}
 use Rattle.ppm_kept.specs.Moves.{doing_of, goes, stores, installs, fills, opened, by_install}
 use Rattle.ppm_kept.specs.Laws.{RunKeeps}
@@ -65,6 +66,8 @@ use Rattle.ppm_kept.proofs.OfLemmas.{begins}
 use Rattle.ppm_kept.proofs.RunLemmas.{by_loads, by_stores, by_installs}
 use Rattle.ppm_kept.proofs.BlockLemmas as blocks
 use Rattle.ppm_kept.proofs.BlockLemmas.{header_is}
+use Rattle.ppm_kept.proofs.UntakenLemmas.{opens as opens_block}
+use Rattle.ppm_kept.proofs.BranchLemmas.{same_part, barren}
 use Rattle.ppm_kept.proofs.BuildLemmas.{Turn, build}
 use Rattle.ppm_kept.proofs.PlaceLemmas.{leaf, going, kept_same, not_free, mine_around, Runs, run_leaf, is_at_own, is_at_other}
 
@@ -173,7 +176,7 @@ module _ (i : Image) (fair : IsFair i.code) (root : Tree (Frame FrameWord Point)
       by false = tt
 
   stays_put : (standing : Standing) → Does i m p (Run f y) (doing_of standing) → Law (goes s p standing) t
-  stays_put standing does = going i fair root input s t law p (doing_of standing) (subst (λ (x : RestartKind). Does i m p x (doing_of standing)) (sym ke) does)
+  stays_put standing does = going i fair root input s t law p (ap is_taker ke) (doing_of standing) (subst (λ (x : RestartKind). Does i m p x (doing_of standing)) (sym ke) does)
 
   -- the row begins, and enters the capsule that its header names
   pub row_begins : (own bottom : ℕ) → Law (goes s p (IsWithin (seat own bottom) (Now (Load (Header f y))))) t
@@ -281,6 +284,7 @@ module _ (i : Image) (fair : IsFair i.code) (root : Tree (Frame FrameWord Point)
       does = came sits next m' got.come;
       orders = tt;
       others = keeps c u cell w is has_leaf.alone only one_here (inl mine);
+      unrun = same_part low tt refl;
       finishes = not_ended m m' t c u u is finish_stays refl;
     }
 
@@ -311,8 +315,9 @@ module _ (i : Image) (fair : IsFair i.code) (root : Tree (Frame FrameWord Point)
         → Good i.code m (put s.kind p l) h v
         → ((x : ℕ) → ((count h v x ≤ count h u x) × (plain h v x ≤ plain h u x)) ⊎ ((count h v x ≤ 1 + count h u x) × (r ≤ x) × (x < ceiling i m p l)))
         → r ≤ ceiling i m p l → ceiling i m p l ≤ end_of i p → carried m l ≡ 1 → at p v ≡ 1 → ((q : ℕ) → q ≢ p → at q v ≡ 0) → Free i m p l → Ordered i s t m l
+        → HasCopy l → (((x : ℕ) → count Root (plug c v) x ≤ 1) → Unpushed p (plug c v) l) → ((q r : ℕ) → q ≢ p → Untaken q r v) → is_taker l ≡ false
         → Law (installs s p l) (plug c v)
-    ended_turn l v opens_it head arrived good adds grows bound one here others_none frees ordered = build i fair root input s t law p (installs s p l) c u v l Resting (record {
+    ended_turn l v opens_it head arrived good adds grows bound one here others_none frees ordered copy own all no_taker = build i fair root input s t law p (installs s p l) c u v l Resting (record {
       is = is;
       alone = has_leaf.alone;
       there = there;
@@ -337,6 +342,7 @@ module _ (i : Image) (fair : IsFair i.code) (root : Tree (Frame FrameWord Point)
       does = tt;
       orders = ordered;
       others = λ q ne. kept_same i fair root input s t law p q;
+      unrun = barren (λ q x. (λ w. w, λ w. w)) copy own all no_taker;
       finishes = not_ended m m t c u v is refl refl;
     })
 
@@ -369,7 +375,8 @@ module _ (i : Image) (fair : IsFair i.code) (root : Tree (Frame FrameWord Point)
         let got = ended_turn (Next d) stands room own step (Run f z) v (blocks.next_tree i.shape i.code fair m p f y low room clean h d stands own.0) refl refl
         (framed, sized_then d (procedure_is i.code (procedure_at i.code k) d fits) own.0, subst (λ (q : RestartKind). Match i.code m q h (Begins z) f) (sym (put_here s.kind p (Run f z))) (refl, refl))
         (λ x. inl (omega arith, omega arith)) (omega arith) room_low refl (is_at_own p) (λ q ne. is_at_other p q ne)
-        (record { block = λ o lt out. all_blank (Next d) stands (λ o b. b) (λ o. tt) o lt; outcome = inl (blocks.still_open i.shape i.code fair m p f y low room clean (Next d) refl stands) }) tt in
+        (record { block = λ o lt out. all_blank (Next d) stands (λ o b. b) (λ o. tt) o lt; outcome = inl (blocks.still_open i.shape i.code fair m p f y low room clean (Next d) refl stands) }) tt
+        (omega arith) (λ most. tt) (λ q x ne. tt) refl in
         subst (Law (installs s p (Run f z))) (sym (ap (grow p (λ st f n. Leaf (InPlace p) (Begins z) f n)) is ∙ grow_plug p (λ st f n. Leaf (InPlace p) (Begins z) f n) c (Begins y) f n has_leaf.alone)) got
 
     goes_over : (e : End) (stands : Stood e) (own : Owns e) (step : Opened e) → opens i.code e (own_at m f n) (λ o. now i.shape i.code m p f y (New o)) ≡ tree_at m h (Leaf (InPlace p) Over f n)
@@ -379,7 +386,7 @@ module _ (i : Image) (fair : IsFair i.code) (root : Tree (Frame FrameWord Point)
         let got = ended_turn e stands room own step (Unwind f) v tree refl refl
         (framed, tt, subst (λ (q : RestartKind). Match i.code m q h Over f) (sym (put_here s.kind p (Unwind f))) refl)
         (λ x. inl (omega arith, omega arith)) (omega arith) room_low refl (is_at_own p) (λ q ne. is_at_other p q ne)
-        (all_blank e stands none out) tt in
+        (all_blank e stands none out) tt tt (λ most. tt) (λ q x ne. tt) refl in
         subst (Law (installs s p (Unwind f))) (sym (ap (grow p (λ st f n. Leaf (InPlace p) Over f n)) is ∙ grow_plug p (λ st f n. Leaf (InPlace p) Over f n) c (Begins y) f n has_leaf.alone)) got
 
     -- targets lie in the frame
@@ -436,7 +443,8 @@ module _ (i : Image) (fair : IsFair i.code) (root : Tree (Frame FrameWord Point)
           ∙ ap (λ (l : Link). plug c (opened i m p r l.kind (Begins y) f n)) block.link
           ∙ ap (λ (b : ℕ). plug c (Calling f n z (Leaf (InPlace p) (Begins 0) r b))) block.sized))
           (ended_turn (Call q d to) stands room own step (Bump r) callee block.tree refl refl call_good call_adds (omega (arith, call_top)) (let b = room in omega (arith, call_top, call_asked, b)) refl
-          (is_at_own p) (λ b ne. is_at_other p b ne) call_frees tt)
+          (is_at_own p) (λ b ne. is_at_other p b ne) call_frees tt
+          tt (λ most. opens_block p r Root c callee (most r) (let a = inside_at r (6 + nq) r 0 (omega arith) (omega arith) in omega (arith, a)) tt) (λ q x ne. tt) refl)
 
     -- a fork: both frames stand in the block, and the right one is fresh
     module _ (a b d : ℕ) (lt rt : Option ℕ) (stands : Stood (Fork a b d lt rt)) (own : Owns (Fork a b d lt rt)) (step : Opened (Fork a b d lt rt)) where
@@ -523,7 +531,8 @@ module _ (i : Image) (fair : IsFair i.code) (root : Tree (Frame FrameWord Point)
           split.left_sized split.offset
           ∙ ap (λ (x : ℕ). plug c (Forking f n z r (Leaf (InPlace p) (Begins 0) (r + 5) n_left) (Leaf Fresh (Begins 0) (r + off) x))) split.right_sized))
           (ended_turn (Fork a b d lt rt) stands room own step (Bump r) both split.tree refl refl fork_good fork_adds (omega (arith, fork_top)) (let q = room in omega (arith, fork_top, fork_asked, q)) refl
-          (let one = is_at_own p in omega (arith, one)) (λ q ne. let none_ = is_at_other p q ne in omega (arith, none_)) fork_frees tt)
+          (let one = is_at_own p in omega (arith, one)) (λ q ne. let none_ = is_at_other p q ne in omega (arith, none_)) fork_frees tt
+          tt (λ most. opens_block p r Root c both (most r) (let a = inside_at r 1 r 0 (omega arith) (omega arith) in omega (arith, a)) (λ e one. tt, tt, tt)) (λ q x ne. (λ e one. tt, tt, tt)) refl)
 
     run_law : (e : End) → Stood e → Owns e → Opened e → Law (installs s p (installed (home_at i.shape i.code m p f y) e)) (by_install i m p (Run f y) (installed (home_at i.shape i.code m p f y) e) t)
     run_law (Next d) stands own step = goes_next d stands own step
@@ -615,6 +624,7 @@ module _ (i : Image) (fair : IsFair i.code) (root : Tree (Frame FrameWord Point)
       does = tt;
       orders = tt;
       others = keeps c u FinishWord (finish_word (OutOfRoom p)) is has_leaf.alone only one_here (inl none_yet);
+      unrun = same_part low tt refl;
       finishes = λ old. inl none_out;
     }
 
@@ -626,7 +636,7 @@ module _ (i : Image) (fair : IsFair i.code) (root : Tree (Frame FrameWord Point)
     where
       by : (b : Bool) → (m FinishWord == 0) ≡ b → Law (record { words = cond b (write m FinishWord (finish_word (OutOfRoom p))) m; kind = s.kind; doing = put s.doing p Resting }) t
       by true e = full_law (eqb-true (m FinishWord) 0 e)
-      by false e = going i fair root input s t law p Resting tt
+      by false e = going i fair root input s t law p (ap is_taker ke) Resting tt
 
   -- what it does, where it stands in its capsule
   come_of : (rest : Rest) → s.doing p ≡ InRest rest → Come rest
@@ -640,6 +650,6 @@ module _ (i : Image) (fair : IsFair i.code) (root : Tree (Frame FrameWord Point)
     stores = λ sits cell content next found e. rest_stores sits cell content next (come_of (Stores cell content next) e);
     installs = λ kind e. rest_installs kind (come_of (Installs kind) e);
     full = rest_full;
-    faults = going i fair root input s t law p Resting tt;
+    faults = going i fair root input s t law p (ap is_taker ke) Resting tt;
     cells = λ cell content next e. (by_stores i.shape i.code fair m p f y low apart cell content next (come_of (Stores cell content next) e)).spot;
   }

@@ -1,5 +1,5 @@
 -- A row is reached in words that are the same wherever it loads or stores.
-use Rattle.std.proofs.Common.{◌≡◌, ◌≤◌, ◌<◌, ℕ, zero, suc, ◌+◌, Bool, true, false, refl, sym, ap, ◌∙◌, subst, arith, Option, Some, None}
+use Rattle.std.proofs.Common.{◌≡◌, ◌≤◌, ◌<◌, ℕ, zero, suc, ◌+◌, ◌==◌, Bool, true, false, inl, inr, refl, sym, ap, ◌∙◌, subst, arith, Option, Some, None}
 use Rattle.std.specs.Prelude.{nat_lt, if◌then◌else◌}
 use Rattle.ppm_cells.specs.Cells.{word_count}
 use Rattle.ppm_cells.specs.Finish.{finish_of}
@@ -13,12 +13,13 @@ use Rattle.ppm_cells.specs.declared.link.LinkKind.{LinkKind}
 use Rattle.ppm_cells.specs.declared.link.LinkKind.TheVariants.{Fork as Forked}
 use Rattle.ppm_cells.specs.declared.restart.RestartKind.{RestartKind}
 use Rattle.ppm_cells.specs.declared.restart.RestartKind.TheVariants.{Run, Unwind}
+use Rattle.ppm_cells.specs.declared.side.Side.{Side}
 use Rattle.ppm_words.specs.declared.trap.Trap.{Trap}
 use Rattle.ppm_step.specs.Contents.{read_so, content_of, word_of}
 use Rattle.ppm_step.specs.Points.{cell_at, reading_at}
 use Rattle.ppm_join.specs.Outcome.{outcome_of_both}
 use Rattle.ppm_step.specs.Points.{outcome_word}
-use Rattle.ppm_step.specs.Rows.{on_link, on_outcome, with_kind, if_there, after_value, target_found, join_by, join_outcome, found_at}
+use Rattle.ppm_step.specs.Rows.{is_inline, on_link, on_outcome, with_kind, if_there, after_value, target_found, join_by, join_outcome, found_at}
 use Rattle.ppm_step.specs.declared.content.Content.{Content}
 use Rattle.ppm_step.specs.declared.content.Content.TheVariants.{ALink, AFinish}
 use Rattle.ppm_step.specs.declared.row.Point.{Point}
@@ -28,8 +29,14 @@ use Rattle.ppm_step.specs.declared.row.Row.TheVariants.{Now, Store, Exchange}
 use Rattle.ppm_step.specs.declared.row.Seat.{Seat}
 use Rattle.ppm_step.specs.declared.row.Then.{Then}
 use Rattle.ppm_step.specs.declared.row.Then.TheVariants.{Load, Fork, Begin, Again, Broken}
+use Rattle.ppm_frames.specs.Skeletons.{named, target_at}
 use Rattle.ppm_frames.specs.Good.{link_or, link_at}
-use Rattle.ppm_kept.specs.Kept.{Image, Reach}
+use Rattle.ppm_kept.specs.Kept.{Image, side_code, HasTaken, Collected, Reach}
+
+-- the frame of a fork's link
+abbrev pub waiting_of : LinkKind → ℕ
+waiting_of (Forked f y) = f
+waiting_of _ = 0
 
 module _ (i : Image) (m n : Cell → ℕ) (seat : Seat) where
   abbrev pub SameRow : Row → Type 0
@@ -138,3 +145,37 @@ module _ (i : Image) (m n : Cell → ℕ) (seat : Seat) where
         subst (λ (h : LinkKind). SameRow (join_by r h)) (sym (sym (ap (λ (o : Option Link). (link_or o).kind) e) ∙ words.hooked))
         (load_row (JoinLeft r g y) words.left (outcome_row (λ left. Now (Load (JoinRight r g y left))) (finish_of (m (BlockWord (r + 2))))
         (right_row Ended) (λ trap line. right_row (Trapped trap line))))))
+
+    -- behind both values
+    taken_same : (f : ℕ) → n (BlockWord (f + 4)) ≡ m (BlockWord (f + 4)) → (x : ℕ) → x ≤ l → HasTaken m g f (named x) → HasTaken n g f (named x)
+    taken_same f value zero le taken = tt
+    taken_same f value (suc j) le taken = words.slots j (omega (arith, le)) ∙ taken ∙ sym value
+
+    left_taken : HasTaken m g (r + 5) (target_at m (r + 5)) → HasTaken n g (r + 5) (target_at n (r + 5))
+    left_taken taken = subst (λ (x : ℕ). HasTaken n g (r + 5) (named x)) (sym words.left_target) (taken_same (r + 5) words.left_value (m (BlockWord (r + 5 + 5))) words.left_aim taken)
+
+    right_taken : HasTaken m g (r + o) (target_at m (r + o)) → HasTaken n g (r + o) (target_at n (r + o))
+    right_taken taken = subst (λ (x : ℕ). HasTaken n g (r + o) (named x)) (sym words.right_target) (taken_same (r + o) words.right_value (m (BlockWord (r + o + 5))) words.right_aim taken)
+
+    pub collected_same : (d : Side) (row : Row) → n (BlockWord (r + 1)) ≡ m (BlockWord (r + 1)) → Collected m r d row → Collected n r d row
+    collected_same d row order c =
+        let frame_is : c.frame ≡ g = ap waiting_of (sym c.hook ∙ words.hooked) in
+        record {
+          frame = c.frame;
+          copy = c.copy;
+          bottom = c.bottom;
+          is = c.is;
+          late = ap (λ (w : ℕ). w == side_code d) order ∙ c.late;
+          beyond = ap (λ (w : ℕ). is_inline w d) order ∙ c.beyond;
+          hook = ap (λ (w : ℕ). (link_at w).kind) words.link ∙ c.hook;
+          left_ended = ap finish_of words.left ∙ c.left_ended;
+          right_ended = ap finish_of words.right ∙ c.right_ended;
+          left = elim c.left [
+            | inl taken ↦ inl (subst (λ (x : ℕ). HasTaken n x (r + 5) (target_at n (r + 5))) (sym frame_is)
+                (left_taken (subst (λ (x : ℕ). HasTaken m x (r + 5) (target_at m (r + 5))) frame_is taken)))
+            | inr e ↦ inr (ap named words.left_target ∙ e ∙ sym (ap named words.right_target) ∙ ap (λ (x : ℕ). target_at n (r + x)) (sym words.offset))
+          ];
+          right = subst (λ (x : ℕ). HasTaken n c.frame (r + x) (target_at n (r + x))) (sym words.offset)
+              (subst (λ (x : ℕ). HasTaken n x (r + o) (target_at n (r + o))) (sym frame_is)
+              (right_taken (subst (λ (x : ℕ). HasTaken m x (r + o) (target_at m (r + o))) frame_is c.right)));
+        }

@@ -6,10 +6,14 @@ use Rattle.ppm_cells.specs.Finish.{finish_word}
 use Rattle.ppm_cells.specs.Memory.{write, AreWordsOf}
 use Rattle.ppm_cells.specs.Restart.{restart_word}
 use Rattle.ppm_cells.specs.declared.cell.Cell.{Cell}
-use Rattle.ppm_cells.specs.declared.cell.Cell.TheVariants.{FinishWord, RestartWord, RoomCounter}
+use Rattle.ppm_cells.specs.declared.cell.Cell.TheVariants.{FinishWord, RestartWord, RoomCounter, BlockWord}
 use Rattle.ppm_cells.specs.declared.finish.Finish.TheVariants.{OutOfRoom}
 use Rattle.ppm_cells.specs.declared.restart.Restart.{Restart}
 use Rattle.ppm_cells.specs.declared.shape.Shape.{Shape}
+use Rattle.ppm_strands.specs.Tree.{Words, Tree}
+use Rattle.ppm_capsules.specs.Strand.{Frame}
+use Rattle.ppm_code.specs.Strands.{Point, Result}
+use Rattle.ppm_code.specs.declared.location.FrameWord.{FrameWord}
 use Rattle.ppm_step.specs.Contents.{word_of}
 use Rattle.ppm_step.specs.Standings.{wanted_row, forked, begun}
 use Rattle.ppm_step.specs.State.{words_after}
@@ -19,8 +23,10 @@ use Rattle.ppm_step.specs.declared.row.Seat.{Seat}
 use Rattle.ppm_step.specs.declared.row.Then.{Then}
 use Rattle.ppm_step.specs.declared.row.Then.TheVariants.{Load, Install, Fork, Begin, Move, Enter, Again, Broken}
 use Rattle.ppm_frames.specs.Views.{written, in_pool, is_cell, view}
+use Rattle.ppm_frames.specs.Skeletons.{Skeleton}
 use Rattle.ppm_frames.proofs.ViewLemmas.{view_is, cells_are_viewed, others_are_unseen}
-use Rattle.ppm_kept.specs.Kept.{Image, start, end_of, owner}
+use Rattle.ppm_kept.specs.Branches.{HasCopy}
+use Rattle.ppm_kept.specs.Kept.{Image, start, end_of, owner, State, Head, IsKept}
 use Rattle.ppm_kept.specs.Laws.{Ends}
 use Rattle.ppm_kept.specs.Turns.{StepsShow, StepsAreSeen, StoresAreCells}
 use Rattle.ppm_kept.proofs.OtherLemmas.{others_keep}
@@ -68,8 +74,12 @@ both false b e d = absurd (cc)
 pub pool_cell : (i : Image) (x : ℕ) → owner i x < i.shape.processors → start i (owner i x) ≤ x → x < end_of i (owner i x) → in_pool i.shape x ≡ true
 pool_cell i x there low high = both _ _ (lt-ltb _ _ there) (both _ _ (le-leb _ _ low) (lt-ltb _ _ high))
 
+-- an order word that a place holds is a cell of the frames
+pub head_cell : (i : Image) (root : Tree (Frame FrameWord Point) Result) (input : Words) (s : State) (t : Skeleton) → IsKept i root input s t → (x : ℕ) → Head i s t x → is_cell i.shape (BlockWord x) ≡ true
+head_cell i root input s t law x a = pool_cell i x a.there a.first (let under = a.under in let top_ = (law.rooms (owner i x)).1 in omega (arith, under, top_))
+
 pub stores_are_cells : StoresAreCells
-stores_are_cells i fair root input s t law copies p there f y ke cell spot is = let keeps = others_keep i fair root input s t law copies p in let low = copies p f y ke in elim spot [
+stores_are_cells i fair root input s t law p there f y ke cell spot is = let keeps = others_keep i fair root input s t law p in let low = subst HasCopy ke (law.copies p) in elim spot [
   | inl a ↦ subst (λ (c : Cell). is_cell i.shape c ≡ true) (sym a.1) (
       let some = counted_leaf i fair root input s t law p there keeps f y low ke a.0 a.2 in
       let b = law.below (f + a.0) some in

@@ -53,6 +53,7 @@ use Rattle.ppm_frames.proofs.SkeletonLemmas.{SameFrame, same_frame, result_same,
 use Rattle.ppm_frames.proofs.SwapLemmas.{swap_same, good_same, good_here}
 use Rattle.ppm_frames.proofs.ValueLemmas.{all_values_pass}
 use Rattle.ppm_kept.specs.Running.{IsFair, strands}
+use Rattle.ppm_kept.specs.Branches.{Unpushed, is_taker, HasCopy}
 use Rattle.ppm_kept.specs.Kept.{Image, owner, seat_at, side_code, Doing, Resting, InRow, State, put, Blank, ceiling, Free, Reach, Does, Under, Ordered, carried, IsKept}
 use Rattle.ppm_kept.specs.Moves.{doing_of, goes, stores, installs}
 use Rattle.ppm_kept.specs.Laws.{Ends, kind_then}
@@ -60,8 +61,10 @@ use Rattle.ppm_kept.specs.Moves.{exchanges}
 use Rattle.ppm_kept.specs.Returns.{by_unwind, unwind_seat, UnwindKeeps, UnwindRowKeeps}
 use Rattle.ppm_kept.specs.Others.{Mine, Keeps}
 use Rattle.ppm_kept.proofs.OtherLemmas.{others_keep}
+use Rattle.ppm_kept.proofs.CopyLemmas.{unpacked_low}
 use Rattle.ppm_kept.proofs.PutLemmas.{put_here, put_else}
 use Rattle.ppm_kept.proofs.EndingLemmas.{not_ended, on_branch, root_top}
+use Rattle.ppm_kept.proofs.BranchLemmas.{same_part, barren}
 use Rattle.ppm_kept.proofs.BuildLemmas.{Turn, build}
 use Rattle.ppm_kept.proofs.TurnLemmas.{pool_cell}
 use Rattle.ppm_kept.proofs.PlaceLemmas.{leaf, going, kept_same, counted, not_free, mine_around, head_on, is_at_own, is_at_other}
@@ -208,7 +211,7 @@ module _ (i : Image) (fair : IsFair i.code) (root : Tree (Frame FrameWord Point)
   stand_any own bottom b a z (Exchange c v w x) q = within_any own bottom b a z (Exchange c v w x) q (row_is_there i.shape (sits own bottom) (Exchange c v w x))
 
   goes_on : (own bottom a : ℕ) (rest : Row) → Reach i m (seat bottom) a (row bottom) rest → Law (goes s p (stands i.shape i.code (sits own bottom) rest)) t
-  goes_on own bottom a rest q = going i fair root input s t law p (doing_of (stands i.shape i.code (sits own bottom) rest))
+  goes_on own bottom a rest q = going i fair root input s t law p (ap is_taker ke) (doing_of (stands i.shape i.code (sits own bottom) rest))
       (subst (λ (k : RestartKind). Does i m p k (doing_of (stands i.shape i.code (sits own bottom) rest))) (sym ke) (stand_any own bottom bottom a m rest q))
 
   -- what each row has to keep
@@ -217,7 +220,7 @@ module _ (i : Image) (fair : IsFair i.code) (root : Tree (Frame FrameWord Point)
       → Law (goes s p (stands i.shape i.code (sits own bottom) (found_at i.shape (sits own bottom) victim point (content_of (reading_at point) (m (cell_at (sits own bottom) victim point)))))) t
   RowLaw (Now next) = Ends next → Law (installs s p (kind_then next)) (by_unwind p (kind_then next) t)
   RowLaw (Store cell content next) = ((own bottom : ℕ) → Law (stores s p cell (word_of content) (stands_then i.shape i.code (sits own bottom) next)) t) × (is_cell i.shape cell ≡ true)
-  RowLaw (Exchange cell old new next) = (own bottom : ℕ) → Law (exchanges s p cell (word_of old) (word_of new) (stands_then i.shape i.code (sits own bottom) next)) t
+  RowLaw (Exchange cell old new next) = ((own bottom : ℕ) → Law (exchanges s p cell (word_of old) (word_of new) (stands_then i.shape i.code (sits own bottom) next)) t) × (is_cell i.shape cell ≡ true)
 
   -- the loads
   link_load : RowLaw (Now (Load (UnwindLink f)))
@@ -294,6 +297,7 @@ module _ (i : Image) (fair : IsFair i.code) (root : Tree (Frame FrameWord Point)
       does = tt;
       orders = tt;
       others = keeps oc low FinishWord o has_over.is has_over.alone only_low one_low (inl zero_);
+      unrun = same_part tt tt refl;
       finishes = λ before. inr (record {
         place = p;
         frame = f;
@@ -304,12 +308,15 @@ module _ (i : Image) (fair : IsFair i.code) (root : Tree (Frame FrameWord Point)
     }
 
     root_exchange : (v : Finish) → finish_of o ≡ Some v → RowLaw (Exchange FinishWord (ANumber 0) (AFinish v) Again)
-    root_exchange v e own bottom = subst (λ (x : ℕ). Law (record { words = cond (m FinishWord == 0) (write m FinishWord x) m; kind = s.kind; doing = put s.doing p Resting }) t) (sym (word_is v e))
-        (by (m FinishWord == 0) refl)
+    root_exchange v e = (
+      λ own bottom. subst (λ (x : ℕ). Law (record { words = cond (m FinishWord == 0) (write m FinishWord x) m; kind = s.kind; doing = put s.doing p Resting }) t) (sym (word_is v e))
+          (by (m FinishWord == 0) refl),
+      refl,
+    )
       where
         by : (b : Bool) → (m FinishWord == 0) ≡ b → Law (record { words = cond b (write m FinishWord o) m; kind = s.kind; doing = put s.doing p Resting }) t
         by true e = subst (IsKept i root input z3) (sym has_over.is) (build i fair root input s t law p z3 oc low low (Unwind f) Resting (finish_turn (eqb-true (m FinishWord) 0 e)))
-        by false e = going i fair root input s t law p Resting tt
+        by false e = going i fair root input s t law p (ap is_taker ke) Resting tt
 
     root_rows : (v : Finish) → finish_of o ≡ Some v → (b a : ℕ) (rest : Row) → Reach i m (seat b) a (Exchange FinishWord (ANumber 0) (AFinish v) Again) rest → RowLaw rest
     root_rows v e b zero rest q = subst RowLaw q (root_exchange v e)
@@ -436,6 +443,7 @@ module _ (i : Image) (fair : IsFair i.code) (root : Tree (Frame FrameWord Point)
           does = does_so;
           orders = tt;
           others = keeps c u (BlockWord (g + a)) w is alone (λ q ne. is_at_other p q ne) one_low (inl (mine (g + a) in_caller));
+          unrun = same_part tt tt refl;
           finishes = not_ended m m' t c u u is (write_else m (BlockWord (g + a)) w FinishWord (λ e. cc)) refl;
         }
 
@@ -444,7 +452,8 @@ module _ (i : Image) (fair : IsFair i.code) (root : Tree (Frame FrameWord Point)
 
     -- the install that goes on in the caller's frame
     module _ (k : RestartKind) (st : Stand) (back_to : ℕ → Stand) (stand_is : back_to y ≡ st) (step : Step (strands i.shape i.code) none (tree_at m h u) (arrays_at m) (tree_at m h (Leaf (InPlace p) st g l)) (arrays_at m))
-        (sized : IsSized i.code m st g l) (match : Match i.code m k h st g) (top_is : ceiling i m p k ≡ m (RoomCounter p)) (one : carried m k ≡ 1) (frees : Free i m p k) (plain_kind : Ordered i s t m k) where
+        (sized : IsSized i.code m st g l) (match : Match i.code m k h st g) (top_is : ceiling i m p k ≡ m (RoomCounter p)) (one : carried m k ≡ 1) (frees : Free i m p k) (plain_kind : Ordered i s t m k)
+        (copy : HasCopy k) (own : (w : Skeleton) → Unpushed p w k) (no_taker : is_taker k ≡ false) where
       abbrev v : Skeleton
       v = Leaf (InPlace p) st g l
 
@@ -470,6 +479,7 @@ module _ (i : Image) (fair : IsFair i.code) (root : Tree (Frame FrameWord Point)
         does = tt;
         orders = plain_kind;
         others = λ q ne. kept_same i fair root input s t law p q;
+        unrun = barren (λ q x. (λ w. w, λ w. w)) copy (λ most. own (plug c v)) (λ q x ne. tt) no_taker;
         finishes = not_ended m m t c u v is refl refl;
       }
 
@@ -519,7 +529,7 @@ module _ (i : Image) (fair : IsFair i.code) (root : Tree (Frame FrameWord Point)
 
       trap_installed : (b : ℕ) → m (BlockWord (g + 1)) ≡ finish_word (TrappedBy trap line) → RowLaw (Now (Install (up_then b)))
       trap_installed b stored ends = caller_goes_on (Unwind g) Over (λ z. Over) refl (passing.traps trap line fin (stored ∙ word_is (TrappedBy trap line) fin))
-          tt refl refl refl blank tt
+          tt refl refl refl blank tt tt (λ w. tt) refl
 
       trap_rows : (b a : ℕ) (rest : Row) → Reach i m (seat b) a (Store (BlockWord (g + 1)) (AFinish (TrappedBy trap line)) (Install (up_then b))) rest → RowLaw rest
       trap_rows b a rest q = store_rows b a (BlockWord (g + 1)) (AFinish (TrappedBy trap line)) (up_then b) rest (trap_store b, caller_cell 1 (omega arith)) (trap_installed b) q
@@ -533,6 +543,7 @@ module _ (i : Image) (fair : IsFair i.code) (root : Tree (Frame FrameWord Point)
       run_installed b in_ ends = caller_goes_on (Run g y) (Begins y) (λ z. Begins z) refl (passing.returns fin in_)
           waiting.size (refl, refl) refl refl
           (record { block = λ b lt out. blank b lt; outcome = inl (elim waiting.outcome [ inl e ↦ e | inr e ↦ e ∙ sym (word_is EndedSo fin) ]) }) tt
+          (unpacked_low (m (BlockWord f)) (record { kind = Called g y; size = size_of }) linked) (λ w. tt) refl
 
       target_load : RowLaw (Now (Load (Target f g y None)))
       target_load own bottom victim = subst (λ (r : Row). Law (goes s p (stands i.shape i.code (sits own bottom) r)) t) (sym (same (m (BlockWord (f + 5)))))
@@ -677,6 +688,7 @@ module _ (i : Image) (fair : IsFair i.code) (root : Tree (Frame FrameWord Point)
         does = does_so;
         orders = tt;
         others = keeps oc low (BlockWord x) o has_over.is has_over.alone only_low one_low (inl mine_here);
+        unrun = same_part tt tt refl;
         finishes = on_branch m m4 t oc low low has_over.is (write_else m (BlockWord x) o FinishWord (λ e. cc)) r d he;
       }
 
@@ -743,6 +755,7 @@ module _ (i : Image) (fair : IsFair i.code) (root : Tree (Frame FrameWord Point)
         does = tt;
         orders = head_on i fair root input s t law p oc low r d has_over.is he;
         others = λ q ne. kept_same i fair root input s t law p q;
+        unrun = barren (λ q x. (λ w. w, λ w. w)) tt (λ most. tt) (λ q x ne. tt) refl;
         finishes = on_branch m m t oc low come has_over.is refl r d he;
       }
 
@@ -841,14 +854,15 @@ module _ (i : Image) (fair : IsFair i.code) (root : Tree (Frame FrameWord Point)
 
   pub unwind_keeps : UnwindKeeps i root input s t p f
   unwind_keeps = record {
-    begins = λ own bottom. going i fair root input s t law p (InRow (Now (Load (UnwindLink f)))) (subst (λ (k : RestartKind). Under i m p k (Now (Load (UnwindLink f)))) (sym ke) (bottom, 0, refl));
+    begins = λ own bottom. going i fair root input s t law p (ap is_taker ke) (InRow (Now (Load (UnwindLink f)))) (subst (λ (k : RestartKind). Under i m p k (Now (Load (UnwindLink f)))) (sym ke) (bottom, 0, refl));
     loads = λ own bottom victim point e. under_of (Now (Load point)) e own bottom victim;
     stores = λ own bottom found cell content next e. (under_of (Store cell content next) e).0 own bottom;
     cells = λ cell content next e. (under_of (Store cell content next) e).1;
-    exchanges = λ own bottom found cell old new next e. under_of (Exchange cell old new next) e own bottom;
+    exchanges = λ own bottom found cell old new next e. (under_of (Exchange cell old new next) e).0 own bottom;
+    exchange_cells = λ cell old new next e. (under_of (Exchange cell old new next) e).1;
     installs = λ next e ends. installed_law next (under_of (Now next) e) ends;
-    faults = going i fair root input s t law p Resting tt;
+    faults = going i fair root input s t law p (ap is_taker ke) Resting tt;
   }
 
 pub unwind_row_keeps : UnwindRowKeeps
-unwind_row_keeps i fair root input s t law copies p there f ke = unwind_keeps i fair root input s t law p there (others_keep i fair root input s t law copies p) f ke
+unwind_row_keeps i fair root input s t law p there f ke = unwind_keeps i fair root input s t law p there (others_keep i fair root input s t law p) f ke

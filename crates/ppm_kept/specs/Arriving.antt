@@ -1,5 +1,5 @@
 -- The row Arrive: one exchange of the order word tells which branch came first.
-use Rattle.std.specs.Prelude.{◌≡◌, ◌<◌, ℕ, ◌+◌, ◌==◌, cond}
+use Rattle.std.specs.Prelude.{◌≡◌, ◌<◌, ℕ, ◌+◌, ◌==◌, cond, true}
 use Rattle.ppm_strands.specs.Tree.{Words, Tree}
 use Rattle.ppm_cells.specs.declared.cell.Cell.{Cell}
 use Rattle.ppm_cells.specs.declared.cell.Cell.TheVariants.{BlockWord}
@@ -12,13 +12,13 @@ use Rattle.ppm_step.specs.Standings.{IsLost}
 use Rattle.ppm_step.specs.declared.content.Content.{Content}
 use Rattle.ppm_step.specs.declared.row.Row.TheVariants.{Now, Store, Exchange}
 use Rattle.ppm_step.specs.declared.row.Then.{Then}
+use Rattle.ppm_frames.specs.Views.{is_cell}
 use Rattle.ppm_frames.specs.Skeletons.{Came, Skeleton, Leaf, grow}
 use Rattle.ppm_kept.specs.Running.{IsFair}
 use Rattle.ppm_kept.specs.Kept.{Image, InRow, State, IsKept}
 use Rattle.ppm_kept.specs.Moves.{goes, installs, begun, exchanged}
 use Rattle.ppm_kept.specs.Laws.{Ends, kind_then}
 use Rattle.ppm_kept.specs.Pushing.{kind_seat}
-use Rattle.ppm_kept.specs.Others.{HasCopies}
 
 -- the branch of a place came first, if nothing stood in its order word
 abbrev pub by_arrive : (Cell → ℕ) → (p r : ℕ) → Skeleton → Skeleton
@@ -36,11 +36,14 @@ pub record ArriveKeeps (i : Image) (root : Tree (Frame FrameWord Point) Result) 
   pub installs : (next : Then) → s.doing p ≡ InRow (Now next) → Ends next
       → IsKept i root input (installs s p (kind_then next)) t
   pub faults : IsKept i root input (goes s p IsLost) t
+  -- and each exchange is of a cell that the frames have
+  pub cells : (cell : Cell) (old new : Content) (next : Then)
+      → s.doing p ≡ InRow (Exchange cell old new next) → is_cell i.shape cell ≡ true
 
 -- in each such row, from words that are kept
 abbrev pub ArriveRowKeeps : Type 0
 ArriveRowKeeps = (i : Image) → IsFair i.code
     → (root : Tree (Frame FrameWord Point) Result) (input : Words) (s : State) (t : Skeleton)
     → IsKept i root input s t
-    → HasCopies s → (p : ℕ) → p < i.shape.processors → (r : ℕ) (d : Side) → s.kind p ≡ Arrive r d
+    → (p : ℕ) → p < i.shape.processors → (r : ℕ) (d : Side) → s.kind p ≡ Arrive r d
     → ArriveKeeps i root input s t p r d

@@ -14,11 +14,10 @@ use Rattle.ppm_step.specs.declared.row.Row.TheVariants.{Now}
 use Rattle.ppm_step.specs.declared.row.Then.{Then}
 use Rattle.ppm_frames.specs.Skeletons.{Skeleton}
 use Rattle.ppm_kept.specs.Running.{IsFair}
-use Rattle.ppm_kept.specs.Kept.{Image, InRow, InRest, State, IsKept}
+use Rattle.ppm_kept.specs.Kept.{Image, InRow, InRest, State, HasCopies, IsKept}
 use Rattle.ppm_kept.specs.Moves.{goes, stores, installs, fills}
 use Rattle.ppm_kept.specs.Laws.{Ends, kind_then}
 use Rattle.ppm_kept.specs.Openings.{opening_of}
-use Rattle.ppm_kept.specs.Others.{HasCopies}
 
 -- rows of which it is said how they were reached
 abbrev pub IsKnown : RestartKind → Type 0
@@ -42,7 +41,7 @@ pub record CopiesStay (i : Image) (s : State) (p : ℕ) : Type 0 where
 abbrev pub AllCopiesStay : Type 0
 AllCopiesStay = (i : Image) → IsFair i.code
     → (root : Tree (Frame FrameWord Point) Result) (input : Words) (s : State) (t : Skeleton)
-    → IsKept i root input s t → HasCopies s
+    → IsKept i root input s t
     → (p : ℕ) → CopiesStay i s p
 
 -- an opening runs one frame, at its first header

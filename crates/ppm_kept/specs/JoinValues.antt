@@ -47,7 +47,7 @@ pub record BranchValuesPass (code : CodeParts) (words : ℕ) (m : Cell → ℕ) 
       → IsInSlot m f g l (target_at m f)
       → Step (code_of code_locations (table_of code words)) none (tree_at m h (come_both a b g l y r f na nb)) x (tree_at m h (Leaf (InPlace 0) (Begins y) g l)) x
 
--- where both branches ended; the row itself, with both stores in turn, is still to be carried over
+-- where both branches ended
 abbrev pub AllBranchValuesPass : Type 0
 AllBranchValuesPass = (code : CodeParts) (words : ℕ) (m : Cell → ℕ) (a b : Who) (g l y r f na nb : ℕ) (h : LinkKind) (x : Words)
     → finish_of (m (BlockWord (r + 2))) ≡ Some Ended

@@ -1,5 +1,5 @@
 -- What is true of the words, the kinds and the tree after each turn, over the words by cells.
-use Rattle.std.specs.Prelude.{◌≡◌, ◌⊎◌, ℕ, zero, suc, ◌+◌, ◌≤◌, ◌<◌, ◌==◌, cond, Some}
+use Rattle.std.specs.Prelude.{◌≡◌, ◌⊎◌, ℕ, zero, suc, ◌+◌, ◌≤◌, ◌<◌, ◌==◌, cond, true, false, Option, Some, None}
 use Rattle.ppm_strands.specs.Tree.{Words, Tree}
 use Rattle.ppm_strands.specs.Run.{Counts}
 use Rattle.ppm_strands.specs.Ahead.{Ahead}
@@ -8,30 +8,33 @@ use Rattle.ppm_cells.specs.declared.cell.Cell.{Cell}
 use Rattle.ppm_cells.specs.declared.cell.Cell.TheVariants.{FinishWord, RoomCounter, BlockWord}
 use Rattle.ppm_cells.specs.Finish.{finish_of, IsOutcome}
 use Rattle.ppm_cells.specs.declared.finish.Finish.{Finish}
-use Rattle.ppm_cells.specs.declared.link.LinkKind.TheVariants.{Root}
+use Rattle.ppm_cells.specs.declared.finish.Finish.TheVariants.{Ended as EndedSo}
+use Rattle.ppm_cells.specs.declared.link.LinkKind.TheVariants.{Root, Fork as Forked}
 use Rattle.ppm_cells.specs.declared.restart.RestartKind.{RestartKind}
 use Rattle.ppm_cells.specs.declared.restart.RestartKind.TheVariants.{Run, Bump, Push1, Push2, Unwind, Arrive, Join}
 use Rattle.ppm_cells.specs.declared.shape.Shape.{Shape}
 use Rattle.ppm_cells.specs.declared.side.Side.{Side}
 use Rattle.ppm_cells.specs.declared.side.Side.TheVariants.{Left, Right}
 use Rattle.ppm_capsules.specs.Strand.{Frame}
+use Rattle.ppm_code.specs.Sizes.{slot_at, value_at}
 use Rattle.ppm_code.specs.Strands.{Point, Result}
 use Rattle.ppm_code.specs.declared.code.CodeParts.{CodeParts}
 use Rattle.ppm_code.specs.declared.location.FrameWord.{FrameWord}
 use Rattle.ppm_step.specs.Contents.{content_of, word_of}
 use Rattle.ppm_step.specs.Frames.{Rest}
 use Rattle.ppm_step.specs.Points.{cell_at, reading_at}
-use Rattle.ppm_step.specs.Rows.{found_at, row_of}
+use Rattle.ppm_step.specs.Rows.{found_at, is_inline, row_of}
 use Rattle.ppm_step.specs.declared.row.Point.TheVariants.{Header}
 use Rattle.ppm_step.specs.declared.row.Row.{Row}
 use Rattle.ppm_step.specs.declared.row.Row.TheVariants.{Now, Store, Exchange}
 use Rattle.ppm_step.specs.declared.row.Seat.{Seat}
-use Rattle.ppm_step.specs.declared.row.Then.TheVariants.{Load}
+use Rattle.ppm_step.specs.declared.row.Then.TheVariants.{Load, Install, Begin}
 use Rattle.ppm_frames.specs.Views.{place_of}
 use Rattle.ppm_frames.specs.Seen.{arrays_at}
-use Rattle.ppm_frames.specs.Skeletons.{Over, InPlace, Skeleton, Leaf, tree_of, count, plain, at}
+use Rattle.ppm_frames.specs.Skeletons.{Over, InPlace, Skeleton, Leaf, target_at, tree_of, count, plain, at}
 use Rattle.ppm_frames.specs.Good.{link_at, Good}
 use Rattle.ppm_kept.specs.Running.{HasCome, IsClean, strands}
+use Rattle.ppm_kept.specs.Branches.{Unpushed, Waits, is_taker, HasCopy}
 
 -- a shape and a code
 pub record Image : Type 0 where
@@ -66,6 +69,15 @@ pub record State : Type 0 where
 -- a function with another value at x
 unfoldable pub put : {A : Type 0} → (ℕ → A) → ℕ → A → ℕ → A
 put f p x q = cond (q == p) x (f q)
+
+-- frames that run stand at one of their two headers
+abbrev pub HasCopies : State → Type 0
+HasCopies s = (q : ℕ) → HasCopy (s.kind q)
+
+-- a place that is about to take a branch finds it waiting at the frame that it is to begin
+abbrev pub AimsWell : State → Skeleton → Type 0
+AimsWell s t = (q r f b : ℕ) → is_taker (s.kind q) ≡ true
+    → s.doing q ≡ InRow (Now (Begin r f b)) → Waits r f t
 
 -- the order word of the branch that came first
 abbrev pub side_code : Side → ℕ
@@ -103,6 +115,27 @@ carried m (Arrive r s) = cond (m (BlockWord (r + 1)) == side_code s) 0 1
 carried m (Join r s) = cond (m (BlockWord (r + 1)) == side_code s) 0 1
 carried m _ = 0
 
+-- the value of frame f is in the slot of frame g that is named, if one is
+abbrev pub HasTaken : (Cell → ℕ) → (g f : ℕ) → Option ℕ → Type 0
+HasTaken m g f None = Unit {0}
+HasTaken m g f (Some slot) = m (BlockWord (g + slot_at slot)) ≡ m (BlockWord (f + value_at))
+
+-- The last branch at the install of Join, behind the stores of both values: the right one is in its
+-- slot, and so is the left one, unless both have one target.
+pub record Collected (m : Cell → ℕ) (r : ℕ) (d : Side) (row : Row) : Type 0 where
+  pub frame : ℕ
+  pub copy : ℕ
+  pub bottom : ℕ
+  pub is : row ≡ Now (Install (record { kind = Run frame copy; bottom = bottom }))
+  pub late : (m (BlockWord (r + 1)) == side_code d) ≡ false
+  pub beyond : is_inline (m (BlockWord (r + 1))) d ≡ false
+  pub hook : (link_at (m (BlockWord r))).kind ≡ Forked frame copy
+  pub left_ended : finish_of (m (BlockWord (r + 2))) ≡ Some EndedSo
+  pub right_ended : finish_of (m (BlockWord (r + 3))) ≡ Some EndedSo
+  pub left : HasTaken m frame (r + 5) (target_at m (r + 5))
+      ⊎ (target_at m (r + 5) ≡ target_at m (r + m (BlockWord (r + 4))))
+  pub right : HasTaken m frame (r + m (BlockWord (r + 4))) (target_at m (r + m (BlockWord (r + 4))))
+
 module _ (i : Image) where
   -- where the free words of a place's pool begin
   abbrev pub ceiling : (Cell → ℕ) → (p : ℕ) → RestartKind → ℕ
@@ -133,13 +166,14 @@ module _ (i : Image) where
   Reached m p k row = (b : ℕ) × (n : ℕ)
       × Reach m (seat_at p k b) n (row_of i.shape (seat_at p k b) k) row
 
-  -- of the kinds that push, pop and look for work nothing is said here
+  -- Of the kinds that push, pop and look for work nothing is said here. At a join the store of the
+  -- right value may undo that of the left one, in one slot.
   abbrev pub Under : (Cell → ℕ) → ℕ → RestartKind → Row → Type 0
   Under m p (Run f y) row = row ≡ Now (Load (Header f y))
   Under m p (Bump r) row = Reached m p (Bump r) row
   Under m p (Unwind f) row = Reached m p (Unwind f) row
   Under m p (Arrive r d) row = Reached m p (Arrive r d) row
-  Under m p (Join r d) row = Reached m p (Join r d) row
+  Under m p (Join r d) row = Reached m p (Join r d) row ⊎ Collected m r d row
   Under m p k row = Unit {0}
 
   -- what is left of a capsule is what a frame at that header has come to
@@ -154,8 +188,9 @@ module _ (i : Image) where
   Does m p k (InRow row) = Under m p k row
   Does m p k (InRest rest) = Going m p k rest
 
-  -- a word below its owner's ceiling that is no word of the tree but as an order word
+  -- a word of a pool, below its place's ceiling, that is no word of the tree but as an order word
   pub record Head (s : State) (t : Skeleton) (x : ℕ) : Type 0 where
+    pub there : owner i x < i.shape.processors
     pub first : start i (owner i x) ≤ x
     pub under : x < ceiling s.words (owner i x) (s.kind (owner i x))
     pub bare : plain Root t x ≡ 0
@@ -170,7 +205,8 @@ module _ (i : Image) where
   -- The tree that stands on the skeleton is ahead of the root, by whole capsules; its frames and
   -- blocks stand well, no address is two words of it, and each is one of a pool below its ceiling;
   -- a place has as many leaves as its kind has strands; words above ceilings are free; what is
-  -- under way stands so; the finish word is true.
+  -- under way stands so; the finish word is true; frames run at their two headers; what is not
+  -- pushed is not taken, and what is about to be taken waits.
   pub record IsKept (root : Tree (Frame FrameWord Point) Result) (input : Words) (s : State) (t : Skeleton) : Type 0 where
     pub ahead : (k : Counts)
         × Ahead (strands i.shape i.code) k root input (tree_of s.words t) (arrays_at s.words)
@@ -186,3 +222,6 @@ module _ (i : Image) where
     pub does : (p : ℕ) → Does s.words p (s.kind p) (s.doing p)
     pub orders : (p : ℕ) → Ordered s t s.words (s.kind p)
     pub finished : IsFinished s.words t
+    pub copies : HasCopies s
+    pub untaken : (p : ℕ) → Unpushed p t (s.kind p)
+    pub aims : AimsWell s t

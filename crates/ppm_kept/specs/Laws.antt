@@ -1,5 +1,5 @@
 -- What is proved of capsules of frames under way.
-use Rattle.std.specs.Prelude.{◌≡◌, ◌<◌, ℕ}
+use Rattle.std.specs.Prelude.{◌≡◌, ◌<◌, ℕ, true}
 use Rattle.ppm_strands.specs.Tree.{Words, Tree}
 use Rattle.ppm_cells.specs.declared.cell.Cell.{Cell}
 use Rattle.ppm_cells.specs.declared.cell.Cell.TheVariants.{BlockWord}
@@ -18,10 +18,10 @@ use Rattle.ppm_step.specs.declared.row.Row.TheVariants.{Now, Store}
 use Rattle.ppm_step.specs.declared.row.Seat.{Seat}
 use Rattle.ppm_step.specs.declared.row.Then.{Then}
 use Rattle.ppm_step.specs.declared.row.Then.TheVariants.{Install, Fork, Begin}
+use Rattle.ppm_frames.specs.Views.{is_cell}
 use Rattle.ppm_frames.specs.Skeletons.{Skeleton}
 use Rattle.ppm_kept.specs.Kept.{Image, InRow, InRest, State, IsKept}
 use Rattle.ppm_kept.specs.Moves.{goes, stores, installs, fills, by_install, begun, entered, stored}
-use Rattle.ppm_kept.specs.Others.{HasCopies}
 use Rattle.ppm_code.specs.declared.code.CodeParts.{CodeParts}
 use Rattle.ppm_kept.specs.Running.{IsFair, MayStore, GoesOnByLoads, GoesOnByStores, OpensByInstalls, BeginsSo}
 
@@ -71,7 +71,7 @@ abbrev pub RunRowKeeps : Type 0
 RunRowKeeps = (i : Image) → IsFair i.code
     → (root : Tree (Frame FrameWord Point) Result) (input : Words) (s : State) (t : Skeleton)
     → IsKept i root input s t
-    → HasCopies s → (p : ℕ) → p < i.shape.processors → (f y : ℕ) → s.kind p ≡ Run f y
+    → (p : ℕ) → p < i.shape.processors → (f y : ℕ) → s.kind p ≡ Run f y
     → RunKeeps i root input s t p f y
 
 -- a seat at a row of kind Bump
@@ -104,11 +104,14 @@ pub record BumpKeeps (i : Image) (root : Tree (Frame FrameWord Point) Result) (i
   pub installs : (next : Then) → s.doing p ≡ InRow (Now next) → Ends next
       → IsKept i root input (installs s p (kind_then next)) t
   pub faults : IsKept i root input (goes s p IsLost) t
+  -- and each store is into a cell that the frames have
+  pub cells : (cell : Cell) (content : Content) (next : Then)
+      → s.doing p ≡ InRow (Store cell content next) → is_cell i.shape cell ≡ true
 
 -- in each such row, from words that are kept
 abbrev pub BumpRowKeeps : Type 0
 BumpRowKeeps = (i : Image) → IsFair i.code
     → (root : Tree (Frame FrameWord Point) Result) (input : Words) (s : State) (t : Skeleton)
     → IsKept i root input s t
-    → HasCopies s → (p : ℕ) → p < i.shape.processors → (r : ℕ) → s.kind p ≡ Bump r
+    → (p : ℕ) → p < i.shape.processors → (r : ℕ) → s.kind p ≡ Bump r
     → BumpKeeps i root input s t p r

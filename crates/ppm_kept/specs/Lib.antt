@@ -1,4 +1,5 @@
 pub mod Running
+pub mod Branches
 pub mod Kept
 pub mod Others
 pub mod Moves
@@ -10,5 +11,7 @@ pub mod Returns
 pub mod Pushing
 pub mod Arriving
 pub mod Joins
-pub mod JoinTraps
+pub mod JoinLast
 pub mod JoinValues
+pub mod Takes
+pub mod Places

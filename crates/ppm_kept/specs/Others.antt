@@ -6,7 +6,7 @@ use Rattle.ppm_cells.specs.declared.cell.Cell.TheVariants.{FinishWord, RoomCount
 use Rattle.ppm_cells.specs.declared.link.LinkKind.{LinkKind}
 use Rattle.ppm_cells.specs.declared.link.LinkKind.TheVariants.{Root, Branch}
 use Rattle.ppm_cells.specs.declared.restart.RestartKind.{RestartKind}
-use Rattle.ppm_cells.specs.declared.restart.RestartKind.TheVariants.{Run, Pop1, Pop2, Seek, Steal, Check, Take, Take2}
+use Rattle.ppm_cells.specs.declared.restart.RestartKind.TheVariants.{Pop1, Pop2, Seek, Steal, Check, Take, Take2}
 use Rattle.ppm_capsules.specs.Strand.{Frame}
 use Rattle.ppm_code.specs.Strands.{Point, Result}
 use Rattle.ppm_code.specs.declared.location.FrameWord.{FrameWord}
@@ -63,13 +63,9 @@ IsIdle (Take v d) = Unit {0}
 IsIdle (Take2 v) = Unit {0}
 IsIdle _ = ⊥
 
--- a frame that runs stands at one of its two headers
-abbrev pub HasCopies : State → Type 0
-HasCopies s = (q f y : ℕ) → s.kind q ≡ Run f y → y < 2
-
 -- places keep all that they have, whatever another place stores
 abbrev pub OthersKeep : Type 0
 OthersKeep = (i : Image) → IsFair i.code
     → (root : Tree (Frame FrameWord Point) Result) (input : Words) (s : State) (t : Skeleton)
-    → IsKept i root input s t → HasCopies s
+    → IsKept i root input s t
     → (p : ℕ) → Keeps i s t p

@@ -1,5 +1,5 @@
 -- The rows that push a fork: Push1 and Push2.
-use Rattle.std.specs.Prelude.{◌≡◌, ◌≤◌, ◌<◌, ℕ, zero, suc, ◌+◌}
+use Rattle.std.specs.Prelude.{◌≡◌, ◌≤◌, ◌<◌, ℕ, zero, suc, ◌+◌, true}
 use Rattle.ppm_strands.specs.Tree.{Words, Tree}
 use Rattle.ppm_cells.specs.declared.cell.Cell.{Cell}
 use Rattle.ppm_cells.specs.declared.cell.Cell.TheVariants.{EntryWord, BlockWord}
@@ -19,13 +19,14 @@ use Rattle.ppm_step.specs.declared.row.Row.TheVariants.{Now, Store, Exchange}
 use Rattle.ppm_step.specs.declared.row.Seat.{Seat}
 use Rattle.ppm_step.specs.declared.row.Then.{Then}
 use Rattle.ppm_step.specs.declared.row.Then.TheVariants.{Load}
-use Rattle.ppm_frames.specs.Skeletons.{Waiting, Held, Skeleton, Leaf, Calling, Forking, pushed, over_left, count, at, Around, plug, hook_at}
-use Rattle.ppm_frames.specs.Good.{Mark, IsFresh, IsHeld, mark}
+use Rattle.ppm_frames.specs.Views.{is_cell}
+use Rattle.ppm_frames.specs.Skeletons.{Waiting, Held, Skeleton, Forking, pushed, over_left, count, at, Around, plug, hook_at}
+use Rattle.ppm_frames.specs.Good.{mark}
 use Rattle.ppm_kept.specs.Running.{IsFair}
+use Rattle.ppm_kept.specs.Branches.{IsUntaken, Untaken}
 use Rattle.ppm_kept.specs.Kept.{Image, State, IsKept}
-use Rattle.ppm_kept.specs.Moves.{goes, stores, installs, stored, exchanged_unseen}
+use Rattle.ppm_kept.specs.Moves.{goes, installs, stored, exchanged_unseen}
 use Rattle.ppm_kept.specs.Laws.{Ends, kind_then}
-use Rattle.ppm_kept.specs.Others.{HasCopies}
 
 -- how a row comes to what is left of it, whatever its loads find: entries are not in the view
 abbrev pub Comes : Shape → Seat → ℕ → Row → Row → Type 0
@@ -40,25 +41,13 @@ Comes s seat (suc n) (Exchange c old new next) rest = Comes s seat n (Now next) 
 abbrev pub kind_seat : (own place : ℕ) → RestartKind → (bottom : ℕ) → Seat
 kind_seat own p k bottom = record { own = own; place = p; restart = record { kind = k; bottom = bottom } }
 
--- a right branch that nobody has and nobody may take
-abbrev pub IsUntaken : Mark → Type 0
-IsUntaken IsFresh = Unit {0}
-IsUntaken IsHeld = Unit {0}
-IsUntaken _ = ⊥
-
--- so it is beside a place's strand
+-- a right branch that nobody has and nobody may take is beside a place's strand, in the fork of
+-- block r
 abbrev pub MayHold : Skeleton → (p r : ℕ) → Type 0
 MayHold t p r = (c : Around) (f n y : ℕ) (a b : Skeleton) → t ≡ plug c (Forking f n y r a b)
     → 1 ≤ at p a → IsUntaken (mark b)
 
--- the same by recursion
-abbrev pub Untaken : (p r : ℕ) → Skeleton → Type 0
-Untaken p r (Leaf w st f n) = Unit {0}
-Untaken p r (Calling f n y t) = Untaken p r t
-Untaken p r (Forking f n y q a b) = (q ≡ r → 1 ≤ at p a → IsUntaken (mark b)) × Untaken p r a
-    × Untaken p r b
-
--- it is what MayHold says, and stays where a part is swapped for another that has it, with as many
+-- `Untaken` is what this says, and stays where a part is swapped for another that has it, with as many
 -- leaves of the place and the same mark, as in each step
 pub record UntakenStays (p r : ℕ) : Type 0 where
   pub holds : (t : Skeleton) → Untaken p r t → MayHold t p r
@@ -79,10 +68,10 @@ pub record Push1Keeps (i : Image) (root : Tree (Frame FrameWord Point) Result) (
   pub loads : (own bottom : ℕ) (rest : Row)
       → IsKept i root input (goes s p (stands i.shape i.code (kind_seat own p (Push1 r) bottom) rest)) t
   pub stores : (own bottom n found : ℕ) (cell : Cell) (content : Content) (next : Then)
-      → MayHold t p r
       → Comes i.shape (kind_seat own p (Push1 r) bottom) n (row_of i.shape (kind_seat own p (Push1 r) bottom) (Push1 r)) (Store cell content next)
       → (cell ≡ BlockWord (r + 1)) × (word_of content ≡ 3)
       × IsKept i root input (stored i s p (kind_seat own p (Push1 r) bottom) found cell content next) (over_left p (pushed Held) t)
+      × (is_cell i.shape cell ≡ true)
   -- an exchange of an entry is not seen
   pub exchanges : (own bottom n found : ℕ) (cell : Cell) (old new : Content) (next : Then)
       → Comes i.shape (kind_seat own p (Push1 r) bottom) n (row_of i.shape (kind_seat own p (Push1 r) bottom) (Push1 r)) (Exchange cell old new next)
@@ -115,7 +104,7 @@ abbrev pub Push1RowKeeps : Type 0
 Push1RowKeeps = (i : Image) → IsFair i.code
     → (root : Tree (Frame FrameWord Point) Result) (input : Words) (s : State) (t : Skeleton)
     → IsKept i root input s t
-    → HasCopies s → (p : ℕ) → p < i.shape.processors → (r : ℕ) → s.kind p ≡ Push1 r
+    → (p : ℕ) → p < i.shape.processors → (r : ℕ) → s.kind p ≡ Push1 r
     → Push1Keeps i root input s t p r
 
 -- in each such row, from words that are kept
@@ -123,5 +112,5 @@ abbrev pub Push2RowKeeps : Type 0
 Push2RowKeeps = (i : Image) → IsFair i.code
     → (root : Tree (Frame FrameWord Point) Result) (input : Words) (s : State) (t : Skeleton)
     → IsKept i root input s t
-    → HasCopies s → (p : ℕ) → p < i.shape.processors → (r : ℕ) → s.kind p ≡ Push2 r
+    → (p : ℕ) → p < i.shape.processors → (r : ℕ) → s.kind p ≡ Push2 r
     → Push2Keeps i root input s t p r

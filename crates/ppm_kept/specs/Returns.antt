@@ -23,9 +23,8 @@ use Rattle.ppm_frames.specs.Views.{written as write, is_cell, view}
 use Rattle.ppm_frames.specs.Skeletons.{Begins, Over, Arrives, InPlace, Skeleton, Leaf, grow, back}
 use Rattle.ppm_kept.specs.Running.{IsFair}
 use Rattle.ppm_kept.specs.Kept.{Image, InRow, State, IsKept}
-use Rattle.ppm_kept.specs.Moves.{goes, stores, installs, begun, loaded, stored, exchanged}
+use Rattle.ppm_kept.specs.Moves.{goes, installs, begun, loaded, stored, exchanged}
 use Rattle.ppm_kept.specs.Laws.{Ends, kind_then}
-use Rattle.ppm_kept.specs.Others.{HasCopies}
 
 -- what the install at the end of Unwind makes of the skeleton: the frame that waited goes on, or is
 -- over too, or the branch arrives
@@ -55,16 +54,18 @@ pub record UnwindKeeps (i : Image) (root : Tree (Frame FrameWord Point) Result) 
   pub installs : (next : Then) → s.doing p ≡ InRow (Now next) → Ends next
       → IsKept i root input (installs s p (kind_then next)) (by_unwind p (kind_then next) t)
   pub faults : IsKept i root input (goes s p IsLost) t
-  -- and each store is into a cell that the frames have
+  -- and each store and exchange is of a cell that the frames have
   pub cells : (cell : Cell) (content : Content) (next : Then)
       → s.doing p ≡ InRow (Store cell content next) → is_cell i.shape cell ≡ true
+  pub exchange_cells : (cell : Cell) (old new : Content) (next : Then)
+      → s.doing p ≡ InRow (Exchange cell old new next) → is_cell i.shape cell ≡ true
 
 -- in each such row, from words that are kept
 abbrev pub UnwindRowKeeps : Type 0
 UnwindRowKeeps = (i : Image) → IsFair i.code
     → (root : Tree (Frame FrameWord Point) Result) (input : Words) (s : State) (t : Skeleton)
     → IsKept i root input s t
-    → HasCopies s → (p : ℕ) → p < i.shape.processors → (f : ℕ) → s.kind p ≡ Unwind f
+    → (p : ℕ) → p < i.shape.processors → (f : ℕ) → s.kind p ≡ Unwind f
     → UnwindKeeps i root input s t p f
 
 -- An exchange of a cell that frames have is one of the words by cells; any other is not seen

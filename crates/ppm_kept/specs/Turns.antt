@@ -29,7 +29,6 @@ use Rattle.ppm_frames.specs.Skeletons.{Skeleton}
 use Rattle.ppm_kept.specs.Running.{IsFair, MayStore}
 use Rattle.ppm_kept.specs.Kept.{Image, State, IsKept}
 use Rattle.ppm_kept.specs.Laws.{Ends}
-use Rattle.ppm_kept.specs.Others.{HasCopies}
 
 -- a load finds the word of its cell, a store is a write, an install is not seen, a full pool is an
 -- exchange of the finish word
@@ -60,6 +59,6 @@ abbrev pub StoresAreCells : Type 0
 StoresAreCells = (i : Image) → IsFair i.code
     → (root : Tree (Frame FrameWord Point) Result) (input : Words) (s : State) (t : Skeleton)
     → IsKept i root input s t
-    → HasCopies s → (p : ℕ) → p < i.shape.processors → (f y : ℕ) → s.kind p ≡ Run f y
+    → (p : ℕ) → p < i.shape.processors → (f y : ℕ) → s.kind p ≡ Run f y
     → (cell : Cell) → MayStore i.shape i.code s.words p f y cell → is_there i.shape cell ≡ true
     → is_cell i.shape cell ≡ true

@@ -1,16 +1,17 @@
 //! What each step of a place keeps, shown by calls that do nothing. The laws of rows are of tidy
-//! codes without conflicts, and of frames that run at one of their two headers (`HasCopies`), which
-//! `copies_stay` says of most installs; those of takes and pushes are still owed.
+//! codes without conflicts.
 ghost use Rattle.ppm_kept.specs.Arriving.{ArriveRowKeeps};
 ghost use Rattle.ppm_kept.specs.Copies.{AllCopiesStay, OpeningsHaveCopies};
-ghost use Rattle.ppm_kept.specs.JoinTraps.{TrapJoinRowKeeps};
+ghost use Rattle.ppm_kept.specs.JoinLast.{JoinRowKeeps, LastJoinRowKeeps};
 ghost use Rattle.ppm_kept.specs.JoinValues.{AllBranchValuesPass};
 ghost use Rattle.ppm_kept.specs.Joins.{EarlyJoinRowKeeps};
 ghost use Rattle.ppm_kept.specs.Laws.{BumpRowKeeps, FramesRun, RunRowKeeps};
 ghost use Rattle.ppm_kept.specs.Openings.{ImagesOpen, OpeningsAreKept};
 ghost use Rattle.ppm_kept.specs.Others.{OthersKeep};
+ghost use Rattle.ppm_kept.specs.Places.{MachinesOpen, TurnsShow};
 ghost use Rattle.ppm_kept.specs.Pushing.{AllUntakenStays, Push1RowKeeps, Push2RowKeeps};
 ghost use Rattle.ppm_kept.specs.Returns.{ExchangesAreSeen, UnwindRowKeeps};
+ghost use Rattle.ppm_kept.specs.Takes.{TakeRowsKeep};
 ghost use Rattle.ppm_kept.specs.Turns.{StepsAreSeen, StoresAreCells};
 
 /// A capsule of a frame under way, closed by the stores of its end: it goes on by its loads, its
@@ -44,8 +45,8 @@ pub fn others_keep()
     ensures law { OthersKeep }
 {}
 
-/// Frames that run stand at one of their two headers: at an opening, and after each step in the
-/// rows Run, Bump, Unwind, Arrive and Join.
+/// Frames that run stand at one of their two headers: at an opening, and, as what is kept says too,
+/// after each step in the rows Run, Bump, Unwind, Arrive and Join.
 pub fn copies_stay()
     ensures steps { AllCopiesStay }
     ensures openings { OpeningsHaveCopies }
@@ -68,8 +69,8 @@ pub fn unwind_row_keeps()
     ensures law { UnwindRowKeeps }
 {}
 
-/// So does each step in a row of kind Push1. Its store of the order word has a premise that no law
-/// of rows gives yet: the right branch is not pushed (`MayHold`; see `untaken_stays`).
+/// So does each step in a row of kind Push1: at the last slot its strand is to run the right branch,
+/// which nobody has.
 pub fn push1_row_keeps()
     ensures law { Push1RowKeeps }
 {}
@@ -98,13 +99,36 @@ pub fn early_join_row_keeps()
     ensures law { EarlyJoinRowKeeps }
 {}
 
-/// So does each step in a row of kind Join whose branch came last, where one of the two trapped.
-pub fn trap_join_row_keeps()
-    ensures law { TrapJoinRowKeeps }
+/// So does each step in a row of kind Join whose branch came last: a trap goes up, or both values
+/// pass, into two slots or one, and the frame that waited goes on.
+pub fn last_join_row_keeps()
+    ensures law { LastJoinRowKeeps }
+{}
+
+/// So does each step in a row of kind Join, whichever branch came first.
+pub fn join_row_keeps()
+    ensures law { JoinRowKeeps }
+{}
+
+/// So does each step in a row of a kind without a strand, which pops, looks for work or takes a place
+/// over. A right branch that it begins waited for a taker, at the frame that begins, and its strand
+/// is then the place's. Two things the deque's half has to say: that the branch waits when its
+/// offset is loaded (`IsWaiting`), and that no other place is about to begin it (`IsAlone`). Where a
+/// place goes on with what it inherited, with takeover by entries, nothing is said yet.
+pub fn take_rows_keep()
+    ensures law { TakeRowsKeep }
+{}
+
+/// The state by places, from the words of a machine and from where its processors stand: each turn of
+/// a processor that is alone in a place is a step of that place, of those that the laws of rows speak
+/// of; and a machine that opens an image is kept.
+pub fn turns_show()
+    ensures turns { TurnsShow }
+    ensures opens { MachinesOpen }
 {}
 
 /// The tree's half of a join where both branches ended: each store of a value into its slot is a
-/// step, and the install is the join. The row is not carried over yet.
+/// step, and the install is the join.
 pub fn branch_values_pass()
     ensures law { AllBranchValuesPass }
 {}

@@ -2,8 +2,9 @@
 -- procedure.
 use Rattle.std.proofs.Common.{◌≡◌, ◌≤◌, ◌<◌, ℕ, zero, suc, ◌+◌, ◌-◌, ◌==◌, max, cond, Bool, true, false, List, [], ◌∷◌, length, Option, Some, None, inl, inr}
 use Rattle.std.proofs.Common.{refl, sym, ap, ◌∙◌, subst, arith, slice_set}
-use Rattle.std.specs.Prelude.{IfSome, replicate, slice_get, ℤ, ◌+ℤ◌, ◌-ℤ◌, ◌*ℤ◌, int_div, int_rem}
+use Rattle.std.specs.Prelude.{IfSome, replicate, map, get_or, slice_get, ℤ, ◌+ℤ◌, ◌-ℤ◌, ◌*ℤ◌, int_div, int_rem}
 use Rattle.std.proofs.lemmas.Bool.{ne_eqb, cases_lt}
+use Rattle.std.proofs.lemmas.List.{get_or_past, length-map}
 use Rattle.std.proofs.lemmas.Option.{slice_get_past}
 use Rattle.ppm_strands.specs.Tree.{Words}
 use Rattle.ppm_words.specs.TwosComplement.{value_of, word_of}
@@ -16,7 +17,7 @@ use Rattle.ppm_code.specs.Capsules.{capsule_from, capsule_of, at_act}
 use Rattle.ppm_code.specs.Code.{IsCode, EndFits, Fits}
 use Rattle.ppm_code.specs.Locations.{Where, location_of, code_locations}
 use Rattle.ppm_code.specs.Sizes.{slots_of, left_at, right_at, procedure_at, slots_at}
-use Rattle.ppm_code.specs.Strands.{Point, Result, Gave, Trapped, with_value, kept, resume, built, begun, entry_of, instrs_of, table_of}
+use Rattle.ppm_code.specs.Strands.{Point, Result, Gave, Trapped, with_value, kept, resume, built, begun, root_of, entry_of, instrs_of, table_of}
 use Rattle.ppm_code.specs.declared.act.Act.{Act}
 use Rattle.ppm_code.specs.declared.act.Act.TheVariants.{Sets, Passes, Jumps, Steps, Ends as Stops}
 use Rattle.ppm_code.specs.declared.act.End.{End}
@@ -286,8 +287,15 @@ module _ (code : CodeParts) (is_code : IsCode code) where
     target = tt;
   }
 
+  -- the root's frame
+  root_trim : (word_at : ℕ → ℕ) (own : FrameWord → ℕ) → ((i : ℕ) → own (Slot i) ≡ get_or (map word_at code.arrays) i 0) → AreTrim code (root_of code own)
+  root_trim word_at own same = moved (entry_of code code.root) code.root own None None
+      (procedure_is code code.root (entry_of code code.root) (entry_is code is_code code.root is_code.root))
+      (λ i low. same i ∙ get_or_past (map word_at code.arrays) i 0 (let n = length-map code.arrays word_at in let slots = is_code.root_slots in omega (arith, n, slots, low))) tt tt
+
 pub frames_stay_trim : FramesStayTrim
 frames_stay_trim code words is_code = record {
+  root = root_trim code is_code;
   opens = λ f a h.
       let p = capsule_of words (instrs_of code f.point.capsule) in
       let m = start code_locations (table_of code words) f a in

@@ -1,12 +1,12 @@
 -- Frames of a code that have no words but their slots and their value.
-use Rattle.std.specs.Prelude.{◌≡◌, ◌<◌, ◌≤◌, ℕ, IfSome}
+use Rattle.std.specs.Prelude.{◌≡◌, ◌<◌, ◌≤◌, ℕ, IfSome, map, get_or}
 use Rattle.ppm_strands.specs.Tree.{Words, Tree, Strand, Call, Fork, Over}
 use Rattle.ppm_capsules.specs.Capsule.{Memory, In, written}
 use Rattle.ppm_capsules.specs.Strand.{Own, Frame, code_of}
 use Rattle.ppm_code.specs.Code.{IsCode}
 use Rattle.ppm_code.specs.Capsules.{capsule_of}
 use Rattle.ppm_code.specs.Locations.{Where, code_locations}
-use Rattle.ppm_code.specs.Strands.{Point, Result, kept, resume, table_of, instrs_of}
+use Rattle.ppm_code.specs.Strands.{Point, Result, kept, resume, root_of, table_of, instrs_of}
 use Rattle.ppm_code.specs.declared.code.CodeParts.{CodeParts}
 use Rattle.ppm_code.specs.declared.location.FrameWord.{FrameWord}
 use Rattle.ppm_code.specs.declared.location.FrameWord.TheVariants.{Slot}
@@ -26,9 +26,12 @@ module _ (code : CodeParts) where
   AreTrim (Fork g l r) = IsTrim g × AreTrim l × AreTrim r
   AreTrim (Over o) = Unit {0}
 
-  -- Such are the frames that a capsule opens, and the frame with the value of a left branch or of
-  -- what it waited for. A capsule's stores into its frame are to slots, so it is one in between too.
+  -- Such are the root's frame, which has a word for each of its arrays and 0 in the other slots, the
+  -- frames that a capsule opens, and the frame with the value of a left branch or of what it waited
+  -- for. A capsule's stores into its frame are to slots, so it is one in between too.
   pub record StayTrim (array_words : ℕ) : Type 0 where
+    pub root : (word_at : ℕ → ℕ) (own : FrameWord → ℕ)
+        → ((i : ℕ) → own (Slot i) ≡ get_or (map word_at code.arrays) i 0) → AreTrim (root_of code own)
     pub opens : (f : Frame FrameWord Point) (a : Words) → IsTrim f
         → AreTrim ((code_of code_locations (table_of code array_words)).next f a)
     pub keeps : (f : Frame FrameWord Point) (o : Result) → IsTrim f → IsTrim (kept f o)

@@ -28,6 +28,7 @@ counts_move h f tk r y c a z yu yb = record {
   begun = λ q e. elim (put_or h r y q) [ inl i ↦ absurd (z (c.begun r (at tk r q (sym i.0) e))) | inr i ↦ i.1 ∙ c.begun q e ];
   counted = λ q e. elim (put_or h r y q) [ inl i ↦ absurd (yb (sym i.1 ∙ e)) | inr i ↦ c.counted q (sym i.1 ∙ e) ];
   once = c.once;
+  forked_once = c.forked_once;
 }
 
 pub counts_fork : (h : ℕ → Home) (f tk : List ℕ) (r : ℕ) (y : Home) → Counts h f tk → h r ≡ Unborn → y ≢ Unborn → y ≢ Begun → Counts (put h r y) (r ∷ f) tk
@@ -43,6 +44,7 @@ counts_fork h f tk r y c a yu yb = record {
   ];
   counted = λ q e. elim (put_or h r y q) [ inl i ↦ absurd (yb (sym i.1 ∙ e)) | inr i ↦ c.counted q (sym i.1 ∙ e) ];
   once = c.once;
+  forked_once = (elim (cases_Bool (has f r)) [ inl e ↦ absurd (c.born r e a) | inr e ↦ e ], c.forked_once);
 }
 
 pub counts_take : (h : ℕ → Home) (f tk : List ℕ) (r : ℕ) → Counts h f tk → h r ≢ Unborn → h r ≢ Begun → Counts (put h r Begun) f (r ∷ tk)
@@ -52,4 +54,5 @@ counts_take h f tk r c a z = record {
   begun = λ q e. elim (put_or h r Begun q) [ inl i ↦ i.1 | inr i ↦ elim (has_or r q tk e) [ inl s ↦ absurd (i.0 s) | inr o ↦ i.1 ∙ c.begun q o ] ];
   counted = λ q e. elim (put_or h r Begun q) [ inl i ↦ at (r ∷ tk) q r i.0 (has_here r tk) | inr i ↦ has_more r q tk (c.counted q (sym i.1 ∙ e)) ];
   once = (elim (cases_Bool (has tk r)) [ inl e ↦ absurd (z (c.begun r e)) | inr e ↦ e ], c.once);
+  forked_once = c.forked_once;
 }

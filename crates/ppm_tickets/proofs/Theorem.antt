@@ -187,7 +187,7 @@ module _ (s : Shape) (code : CodeParts) (keeper frame : ℕ) (ws : List ℕ) (sm
         carried = λ c. (c, carry_is c);
         doomed = λ p. at_kind (Dooms m p) tt tt p;
       };
-      counts = record { born = λ r e. absurd (cc); listed = λ r ne. absurd (ne refl); begun = λ r e. absurd (cc); counted = λ r e. absurd (cc); once = tt };
+      counts = record { born = λ r e. absurd (cc); listed = λ r ne. absurd (ne refl); begun = λ r e. absurd (cc); counted = λ r e. absurd (cc); once = tt; forked_once = tt };
       sees = λ o. elim (lost_or s.processors o) [
         | inl a ↦ subst (Sees s m (kinds s ws) (bottoms s ws) o) (sym a.0) (lives o a.1)
         | inr e ↦ subst (Sees s m (kinds s ws) (bottoms s ws) o) (sym e) tt
@@ -252,6 +252,7 @@ module _ (s : Shape) (code : CodeParts) (state : State) (h : ℕ → Home) (f tk
         held = law.holding.held;
         changes = fair;
         once = once_same ts (subst Once et law.counts.once);
+        forked_once = once_same fs (subst Once ef law.counts.forked_once);
         forked_first = first;
         home = λ r e not. elim (carried r e not) [
           | inl carrier ↦ inl (h r, carrier, board.real r, λ y is here. sym (board.only y r is (stays_all y) here))
@@ -275,6 +276,7 @@ module _ (s : Shape) (code : CodeParts) (state : State) (h : ℕ → Home) (f tk
         own = subst (λ (how : Takeover). Rooted how (view s state.words)) entries law.rooted;
         changes = fair;
         once = once_same ts (subst Once et law.counts.once);
+        forked_once = once_same fs (subst Once ef law.counts.forked_once);
         forked_first = first;
         home = λ r e not. elim (carried r e not) [
           | inl carrier ↦ inl (h r, carrier, law.board.board.stays r, law.board.board.real r, λ y is stay here. sym (law.board.board.only y r is stay here))

@@ -253,14 +253,15 @@ pub record Order (m : Spot → Word) (k : ℕ → RestartKind) : Type 0 where
   pub first : (v i j : ℕ) → i < j → IsTaken (m (Slot v j)) → IsTaken (m (Slot v i))
   pub aimed : (p : ℕ) → Aims m (k p)
 
--- a branch was forked where it is not unborn any more, and taken where it was begun; none was taken
--- twice
+-- a branch was forked where it is not unborn any more, and taken where it was begun; none was forked
+-- or taken twice
 pub record Counts (h : ℕ → Home) (forked taken : List ℕ) : Type 0 where
   pub born : (r : ℕ) → has forked r ≡ true → h r ≢ Unborn
   pub listed : (r : ℕ) → h r ≢ Unborn → has forked r ≡ true
   pub begun : (r : ℕ) → has taken r ≡ true → h r ≡ Begun
   pub counted : (r : ℕ) → h r ≡ Begun → has taken r ≡ true
   pub once : Once taken
+  pub forked_once : Once forked
 
 -- the processor is not dead
 abbrev pub IsAlive : (Spot → Word) → ℕ → Type 0

@@ -66,6 +66,7 @@ module _ (s : Shape) (code : CodeParts) where
         → (view s (happens s code state turn).words (words.Slot v i) ≡ view s state.words (words.Slot v i))
         ⊎ Changes s.takeover (view s state.words (words.Slot v i)) (view s (happens s code state turn).words (words.Slot v i))
     pub once : Once taken
+    pub forked_once : Once forked
     pub forked_first : (r : ℕ) → words.has taken r ≡ true → words.has forked r ≡ true
     pub home : (r : ℕ) → words.has forked r ≡ true → words.has taken r ≡ false
         → HasOneHome (view s state.words) (kinds s state.words) (bottoms s state.words) r
@@ -124,6 +125,7 @@ module _ (s : Shape) (code : CodeParts) where
         → (view s (happens s code state turn).words (words.Slot v i) ≡ view s state.words (words.Slot v i))
         ⊎ Changes s.takeover (view s state.words (words.Slot v i)) (view s (happens s code state turn).words (words.Slot v i))
     pub once : Once taken
+    pub forked_once : Once forked
     pub forked_first : (r : ℕ) → words.has taken r ≡ true → words.has forked r ≡ true
     pub home : (r : ℕ) → words.has forked r ≡ true → words.has taken r ≡ false
         → HasOneHomeThere ghost (kinds s state.words) (bottoms s state.words) gone r

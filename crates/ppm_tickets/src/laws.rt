@@ -6,17 +6,17 @@ ghost use Rattle.ppm_tickets.specs.Renewal.{ComesBack, GoesOn, LawfulInParts};
 ghost use Rattle.ppm_tickets.specs.Tickets.{ImagesOpen, InEveryRun, InEveryRunByEntries};
 ghost use Rattle.ppm_tickets.specs.Tickets.{LawfulInEveryRun, OneMoreTurn};
 
-/// With takeover by places no branch is taken twice, each that is taken was forked, and each that
-/// was forked and not taken is at one place, or left to the strand of its left branch. Entries
-/// change lawfully, deques have their shape, and a place that a living processor carries is its
+/// With takeover by places no branch is forked or taken twice, each that is taken was forked, and
+/// each that was forked and not taken is at one place, or left to the strand of its left branch.
+/// Entries change lawfully, deques have their shape, and a place that a living processor carries is its
 /// own. Turns are to be orderly: what one owes is `IsOrderly`, which the frames' half has to show.
 pub fn in_every_run()
     ensures law { (s : Shape) (code : CodeParts) → InEveryRun s code }
 {}
 
-/// With takeover by entries no branch is taken twice, each that is taken was forked, and each that
-/// was forked and not taken is at one place of those that were not followed, or left to the strand
-/// of its left branch. A closed place has at most one living heir, through however many dead ones,
+/// With takeover by entries no branch is forked or taken twice, each that is taken was forked, and
+/// each that was forked and not taken is at one place of those that were not followed, or left to the
+/// strand of its left branch. A closed place has at most one living heir, through however many dead ones,
 /// and none once it was followed. Entries change lawfully, and deques have their shape but for what was
 /// inherited from closed places. Turns are to be orderly, and owe one thing more (`IsInlined`).
 pub fn in_every_run_by_entries()

@@ -1,0 +1,46 @@
+-- What turns owe to the tickets, from the tree of strands.
+use Rattle.std.specs.Prelude.{◌≡◌, ℕ, false, List}
+use Rattle.ppm_strands.specs.Tree.{Words, Tree}
+use Rattle.ppm_cells.specs.declared.shape.Shape.{Shape}
+use Rattle.ppm_cells.specs.declared.shape.Takeover.TheVariants.{ByPlaces}
+use Rattle.ppm_capsules.specs.Strand.{Frame}
+use Rattle.ppm_code.specs.Strands.{Point, Result}
+use Rattle.ppm_code.specs.declared.code.CodeParts.{CodeParts}
+use Rattle.ppm_code.specs.declared.location.FrameWord.{FrameWord}
+use Rattle.ppm_step.specs.Among.{IsTurnAmong}
+use Rattle.ppm_step.specs.Standings.{IsWithin}
+use Rattle.ppm_step.specs.State.{State as RunState, stand_of}
+use Rattle.ppm_step.specs.declared.row.Row.TheVariants.{Now}
+use Rattle.ppm_step.specs.declared.row.Seat.{Seat}
+use Rattle.ppm_step.specs.declared.row.Then.TheVariants.{Fork, Begin}
+use Rattle.ppm_step.specs.declared.turn.Turn.{Turn}
+use Rattle.ppm_tickets.specs.Along.{IsJoined, IsOrderly}
+use Rattle.ppm_tickets.specs.Entries.{IsPooledAt}
+use Rattle.ppm_tickets.specs.Homes.{Home}
+use Rattle.ppm_tickets.specs.Words.{has}
+use Rattle.ppm_frames.specs.Skeletons.{Skeleton}
+use Rattle.ppm_kept.specs.Running.{IsFair}
+use Rattle.ppm_runs.specs.Run.{IsRun}
+
+module _ (s : Shape) (code : CodeParts) (root : Tree (Frame FrameWord Point) Result) (input : Words) (state : RunState) (h : ℕ → Home) (forked taken : List ℕ) (t : Skeleton) where
+  -- what each premise of an orderly turn comes of
+  pub record Owes : Type 0 where
+    -- a block word that a step changes is one of a pool
+    pub pooled : (c : ℕ) → IsPooledAt s (stand_of state c)
+    -- a block that is forked was not forked before
+    pub forks : (c : ℕ) (seat : Seat) (block : ℕ) → stand_of state c ≡ IsWithin seat (Now (Fork block))
+        → has forked block ≡ false
+    -- a branch that is begun where its left one joins was left to that strand
+    pub joins : (c : ℕ) (seat : Seat) (block frame bottom : ℕ)
+        → stand_of state c ≡ IsWithin seat (Now (Begin block frame bottom))
+        → IsJoined seat.restart.kind (h block)
+    -- so the next turn is orderly, whosever it is
+    pub orderly : (turn : Turn) → IsTurnAmong s.processors turn
+        → IsOrderly s state.words turn.act (stand_of state turn.processor) h forked
+
+-- with takeover by places, in each state of a run
+abbrev pub TurnsAreOrderly : Type 0
+TurnsAreOrderly = (s : Shape) (code : CodeParts) → s.takeover ≡ ByPlaces → IsFair code
+    → (root : Tree (Frame FrameWord Point) Result) (input : Words) (state : RunState) (h : ℕ → Home) (forked taken : List ℕ) (t : Skeleton)
+    → IsRun s code root input state h forked taken t
+    → Owes s code root input state h forked taken t

@@ -1,0 +1,9 @@
+//! What turns owe, shown by calls that do nothing.
+ghost use Rattle.ppm_runs.specs.Laws.{TurnsAreOrderly};
+
+/// With takeover by places each turn is orderly in a state of a run: block words that it changes
+/// are those of pools, a block that it forks was not forked before, and a branch that it begins
+/// where the left one joins was left to that strand.
+pub fn turns_are_orderly()
+    ensures law { TurnsAreOrderly }
+{}
