@@ -1,5 +1,6 @@
 -- Steps that processor 0 makes in a row.
-use Rattle.std.proofs.Common.{◌≡◌, ◌∙◌, ◌≤◌, ◌<◌, ◌+◌, ◌-◌, ℕ, zero, suc, Bool, true, false, if◌then◌else◌, None, length, drop, arith, refl, sym, ap, subst, inl, inr}
+use Rattle.std.proofs.Common.{◌≡◌, ◌∙◌, ◌≤◌, ◌<◌, ◌+◌, ◌-◌, ◌==◌, ℕ, zero, suc, Bool, true, false, if◌then◌else◌, None, length, drop, arith, refl, sym, ap, subst, inl, inr}
+use Rattle.std.proofs.lemmas.Bool.{ne_eqb, cond-false}
 use Rattle.std.proofs.lemmas.List.{length-append, length-replicate}
 use Rattle.ppm_plan.specs.Draws.{Drawing, victims_of}
 use Rattle.ppm_plan.specs.Forms.{plan_form}
@@ -18,7 +19,7 @@ use Rattle.ppm_choice.specs.declared.limits.Limits.{Limits}
 use Rattle.ppm_choice.specs.declared.pace.Pace.{Pace}
 use Rattle.ppm_choice.specs.Deeds.{Deed}
 use Rattle.ppm_choice.specs.Obeying.{Past, behind, fault_of, next_act, Stops}
-use Rattle.ppm_choice.specs.Paces.{IsPace, AreClear}
+use Rattle.ppm_choice.specs.Paces.{IsPace, AreClear, looks_along}
 use Rattle.ppm_choice.proofs.ParkLemmas.{keeper_awake}
 use Rattle.ppm_choice.proofs.StepsLemmas.{next_is_step}
 use Rattle.ppm_driver.specs.Obedience.{ObeysTo}
@@ -93,6 +94,18 @@ pub looks_none : (past : Past) (m : Situation) (n : ℕ) → EndsInWork m 0 (suc
 looks_none past m zero e = ap (λ next. if is_work_next next then 0 else past.looks + 1) e
 looks_none past m (suc n) e = looks_none (behind past (step_deed m)) (turned m (steady_step 0)) n e
 
+-- and there is work among them
+some_work : (m : Situation) (n : ℕ) → EndsInWork m 0 (suc n) → 0 < work_steps m (suc n)
+some_work m zero e =
+    let one : length (work_next 0 (next_of (stand_of m.state 0))) ≡ 1 = ap (λ next. length (work_next 0 next)) e in
+    omega (arith, work_first m 0, one)
+some_work m (suc n) e = omega (arith, work_first m (suc n), some_work (turned m (steady_step 0)) n e)
+
+-- so the looks count from 0 again
+from_none : (before work : ℕ) → 0 < work → looks_along before work 0 ≡ 0
+from_none before zero some = absurd (omega (arith, some))
+from_none before (suc work) some = cond-false (suc work == 0) (before + 0) 0 (ne_eqb (suc work) 0 (λ e. absurd (omega (arith, e))))
+
 module _ (plan : Planned) (limits : Limits) where
   -- what is clear of so many is clear of those behind the first
   first_clear : (past : Past) (n : ℕ) → AreClear plan limits 0 past (suc n)
@@ -144,9 +157,9 @@ module _ (plan : Planned) (limits : Limits) where
       → n ≡ run_on m (steady_steps 0 made) → AreSteady m 0 made → EndsInWork m 0 made → work ≡ work_steps m made
       → next ≡ next_of (stand_of n.state 0) → due ≡ seeks_holder (stand_of n.state 0)
       → pace'.processor ≡ pace.processor → pace'.work ≡ pace.work + work
-      → ((p : Planned) (l : Limits) (past past' : Past) (stood stands : Standing) → IsPace p l past stood pace
-      → past'.acts ≡ past.acts + made → past'.work ≡ past.work + work → past'.looks ≡ 0
-      → next ≡ next_of stands → due ≡ seeks_holder stands → IsPace p l past' stands pace')
+      → ((p : Planned) (past past' : Past) (stood stands : Standing) → IsPace p limits past stood pace
+      → past'.acts ≡ past.acts + made → past'.work ≡ past.work + work → past'.looks ≡ looks_along past.looks work 0
+      → next ≡ next_of stands → due ≡ seeks_holder stands → IsPace p limits past' stands pace')
       → Leads plan limits first n pace' victims
   goes_ahead zero work most next due l keeper some few clear made plain ends work_is next_is due_is number counted counts = absurd (some refl)
   goes_ahead {first} {m} {n} {pace} {pace'} {victims} (suc made) work most next due l keeper some few clear is plain ends work_is next_is seeks number counted counts =
@@ -154,6 +167,8 @@ module _ (plan : Planned) (limits : Limits) where
       let stands : Standing = stand_of n.state 0 in
       let acts : past'.acts ≡ l.past.acts + suc made = acts_are l.past m (suc made) in
       let works : past'.work ≡ l.past.work + work = work_are l.past m (suc made) ∙ ap (λ w. l.past.work + w) (sym work_is) in
+      let looks : past'.looks ≡ looks_along l.past.looks work 0 =
+      looks_none l.past m made ends ∙ sym (from_none l.past.looks work (subst (λ w. 0 < w) (sym work_is) (some_work m made ends))) in
       let drawn : l.past.drawn ≡ past'.drawn = sym (drawn_are l.past m (suc made) plain) in
       let is_clear : AreClear plan limits 0 l.past most =
       subst (λ c. AreClear plan limits c l.past most) l.at.number (clear l.past (stand_of m.state 0) l.at.pace_is) in
@@ -163,7 +178,7 @@ module _ (plan : Planned) (limits : Limits) where
         at = record {
           number = number ∙ l.at.number;
           pace_is =
-              counts plan limits l.past past' (stand_of m.state 0) stands l.at.pace_is acts works (looks_none l.past m made ends) next_is seeks;
+              counts plan l.past past' (stand_of m.state 0) stands l.at.pace_is acts works looks next_is seeks;
           drawn =
               subst (λ c. HasDrawn plan limits c past' victims) (sym number)
               (λ k. l.at.drawn k ∙ ap (λ d. drop d (victims_of limits.seed pace.processor plan.processors (d + k))) drawn);

@@ -72,7 +72,7 @@ fn go_ahead(machine: &mut Machine, pace: &mut Pace, plan: &Plan, limits: Limits)
     let work = machine.work() - before;
     let next = machine.next(0);
     let due = machine.seeks_holder(0);
-    pace.count_steps(made, work, next, due);
+    pace.count_steps(limits, made, work, 0, next, due);
     true
 }
 

@@ -1,4 +1,6 @@
 use Rattle.std.proofs.Common.{◌<◌, ◌∙◌, sym, ap, subst, arith}
+use Rattle.ppm_plan.specs.Forms.{plan_form}
+use Rattle.ppm_plan.specs.Refusals.{IsKeeper}
 use Rattle.ppm_step.specs.State.{stand_of}
 use Rattle.ppm_core.specs.Acts.{IsActAmong}
 use Rattle.ppm_core.specs.Machine.{seen}
@@ -21,6 +23,12 @@ turn-told-requires-clause-among c =
           (subst (IsActAmong c.args.plan.now.processors) (sym is.1)
           (is_among c.args.plan.now c.args.limits c.args.pace.now.processor s.past stood some));
     }
+
+-- a keeper never rests
+pub returns-in_default-clause-leads : goal.returns-in_default-clause-leads
+returns-in_default-clause-leads c m l =
+    let keeper = subst (λ p. IsKeeper plan_form c.args.plan.now.items p) (sym l.at.number) c.requires.keeper in
+    absurd ((c.in_default.ensures l.past _ l.at.pace_is l.at.drawn).0.no_keeper keeper)
 
 -- one act more
 pub returns-clause-leads : goal.returns-clause-leads

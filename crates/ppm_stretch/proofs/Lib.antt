@@ -1,0 +1,8 @@
+-- How steps in a row are shown. Each function answers how many deeds its seat keeps more (`Goes`),
+-- that its watcher was told of them (`Shows`), and where the processor stands by its deeds; `moves_then`
+-- of `SteadyLemmas` joins two. Only at the end is a `Local` built that stands there
+-- (`WaitingLemmas`), so the loops carry registers and numbers alone.
+
+pub mod SteadyLemmas
+mod EnteringLemmas
+mod WaitingLemmas

@@ -1,0 +1,123 @@
+-- A processor behind a turn.
+use Rattle.std.proofs.Common.{◌≡◌, ◌≢◌, ◌∙◌, ℕ, Bool, true, false, Option, Some, List, [], ◌∷◌, ◌++◌, refl, sym, ap, subst, append_assoc}
+use Rattle.ppm_cells.specs.declared.shape.Shape.{Shape}
+use Rattle.ppm_code.specs.declared.code.CodeParts.{CodeParts}
+use Rattle.ppm_plan.specs.Draws.{Drawing}
+use Rattle.ppm_plan.specs.Schedules.{Planned}
+use Rattle.ppm_ports.specs.Told.{AppendsList}
+use Rattle.ppm_words.specs.declared.event.Event.{Event}
+use Rattle.ppm_step.specs.declared.ask.Want.{Want}
+use Rattle.ppm_step.specs.declared.ask.Want.TheVariants.{Loads, Stores, Exchanges, Nothing}
+use Rattle.ppm_step.specs.declared.turn.Act.{Act}
+use Rattle.ppm_step.specs.declared.turn.Act.TheVariants.{Step, Soft, Hard, Quit}
+use Rattle.ppm_step.specs.declared.turn.Told.{Told}
+use Rattle.ppm_step.specs.Locals.{standing_of}
+use Rattle.ppm_step.specs.Standings.{Standing, IsLost, IsDone}
+use Rattle.ppm_step.specs.State.{want_of, next_of, seeks_holder}
+use Rattle.ppm_step.specs.Told.{place_of}
+use Rattle.ppm_choice.specs.declared.limits.Limits.{Limits}
+use Rattle.ppm_choice.specs.declared.pace.Pace.{Pace}
+use Rattle.ppm_choice.specs.Deeds.{Deed as Acted}
+use Rattle.ppm_choice.specs.Obeying.{Past, behind as past_behind, awake, is_work_deed}
+use Rattle.ppm_choice.specs.Paces.{IsPace}
+use Rattle.ppm_table.specs.declared.processor.Processor.{Processor}
+use Rattle.ppm_table.specs.declared.processor.Shared.{Shared}
+use Rattle.ppm_table.specs.declared.view.Deed.{Deed}
+use Rattle.ppm_table.specs.declared.view.Opening.{Opening}
+use Rattle.ppm_table.specs.Events.{event_found, act_found, HasActed}
+use Rattle.ppm_table.specs.Run.{act_by, behind, stood, stands_by, deeds_in, deed_by, deed_of, Mine, IsActAt}
+use Rattle.ppm_threads.specs.declared.way.Way.{Way}
+use Rattle.ppm_table.specs.Shown.{IsOf, deeds_of_processor, opening_of}
+use Rattle.ppm_table.specs.Telling.{event_of_deed, shown, shown_by, Shows}
+use Rattle.ppm_table.proofs.TellingLemmas.{appended}
+use Rattle.ppm_threads.specs.Going.{HasDrawn, IsNext, Grows, Obeying, Acting, told_so_far, told_of_deeds, GoesOn, way_of}
+use Rattle.ppm_threads.proofs.GoingLemmas.{work_is, act_told, obeying_more, grows_more}
+
+-- the next act of a processor on its way
+pub next_own : (plan : Planned) (limits : Limits) (k : Opening) (own : ℕ) (deeds : List Deed) (pace : Pace) (victims victims' : Drawing) (act : Option Act) → (o : Obeying plan limits k own deeds pace victims)
+    → ((past : Past) (stood : Standing) → IsPace plan limits past stood pace → HasDrawn plan limits pace.processor past victims → IsNext plan limits pace.processor past stood victims' act)
+    → IsNext plan limits own o.past (stands_by k own deeds) victims' act
+next_own plan limits k own deeds pace victims victims' act o next =
+    subst (λ (c : ℕ). IsNext plan limits c o.past (stands_by k own deeds) victims' act) o.number
+    (next o.past (stands_by k own deeds) o.pace_is (subst (λ (c : ℕ). HasDrawn plan limits c o.past victims) (sym o.number) o.drawn))
+
+-- the event of a turn is that of its deed
+step_says : (s : Shape) (own found : ℕ) (st : Standing) (want : Want) → event_found (place_of st) want found ≡ event_of_deed s own st (deed_by want found)
+step_says s own found st (Loads at) = refl
+step_says s own found st (Stores at word) = refl
+step_says s own found st (Exchanges at old new) = refl
+step_says s own found st Nothing = refl
+
+act_says : (s : Shape) (code : CodeParts) (own found : ℕ) (st : Standing) (act : Act)
+    → act_found (place_of st) act (want_of s code own act st) found ≡ event_of_deed s own st (deed_of act (want_of s code own act st) found)
+act_says s code own found st (Step victim) = step_says s own found st (want_of s code own (Step victim) st)
+act_says s code own found st Soft = refl
+act_says s code own found st Hard = refl
+act_says s code own found st (Quit why) = refl
+
+some_event : (a b : Event) → Some a ≡ Some b → a ≡ b
+some_event a b e = cc
+
+module _ (s : Shared) (p q : Processor) (act : Act) (told : Told) (of : IsOf s p) (of' : IsOf s q) (same : q.local.own ≡ p.local.own)
+    (acted : HasActed s.shape s.code p.local.own act (standing_of s.shape s.code p.local) (standing_of s.shape s.code q.local) (deeds_of_processor p) (deeds_of_processor q) told)
+    (lives : standing_of s.shape s.code p.local ≢ IsDone) (may : IsActAt s.shape (standing_of s.shape s.code p.local) act) where
+  abbrev k : Opening
+  k = opening_of s
+
+  abbrev own : ℕ
+  own = p.local.own
+
+  abbrev st : Standing
+  st = standing_of s.shape s.code p.local
+
+  abbrev deed : Deed
+  deed = deed_of act (want_of s.shape s.code own act st) acted.found
+
+  stands' : standing_of s.shape s.code q.local ≡ stands_by k own (deeds_of_processor q)
+  stands' = of'.stands ∙ ap (λ (c : ℕ). stands_by k c (deeds_of_processor q)) same
+
+  tells : act_by k.shape (stands_by k own (deeds_of_processor p)) deed ≡ act
+  tells = ap (λ (x : Standing). act_by k.shape x deed) (sym of.stands) ∙ ap (λ (t : Shape). act_by t st deed) s.told.0
+      ∙ act_told s.shape s.code p.local act acted.found of.holds lives may
+
+  -- it goes on obeying
+  pub acts_obey : (plan : Planned) (limits : Limits) (pace pace' : Pace) (victims : Drawing) (due : Bool)
+      → (a : Acting plan limits k own (deeds_of_processor p) pace victims act)
+      → pace'.processor ≡ pace.processor → due ≡ seeks_holder (standing_of s.shape s.code q.local)
+      → ((pl : Planned) (past : Past) (d : Acted) (stands : Standing) → IsPace pl limits past d.stood pace → told.work ≡ is_work_deed d → told.next ≡ next_of stands → due ≡ seeks_holder stands
+      → IsPace pl limits (past_behind past d) stands pace')
+      → Obeying plan limits k own (deeds_of_processor q) pace' victims
+  acts_obey plan limits pace pace' victims due a number is_due counts =
+      let one : Acted = record { stood = stands_by k own (deeds_of_processor p); act = act } in
+      let works : told.work ≡ is_work_deed one =
+      acted.work ∙ work_is s.shape s.code act st ∙ ap (λ (x : Standing). is_work_deed (record { stood = x; act = act })) of.stands in
+      obeying_more plan limits k own (deeds_of_processor p) (deeds_of_processor q) deed act pace victims a acted.deed tells pace' number
+      (counts plan (awake plan limits own a.past (stands_by k own (deeds_of_processor p))) one (stands_by k own (deeds_of_processor q)) a.pace_is works
+      (acted.next ∙ ap next_of stands') (is_due ∙ ap seeks_holder stands'))
+
+  -- and its watcher was told of it
+  pub acts_grow : (plan : Planned) (limits : Limits) (pace : Pace) (victims : Drawing) (before now : Option (List Event)) (event : Event)
+      → (a : Acting plan limits k own (deeds_of_processor p) pace victims act) → told.event ≡ Some event → AppendsList before now (event ∷ [])
+      → Grows before now (told_so_far plan limits k own (deeds_of_processor p) a.past) (told_of_deeds plan limits k own (deeds_of_processor q))
+  acts_grow plan limits pace victims before now event a is heard =
+      let event_is : event ≡ event_of_deed k.shape own (stands_by k own (deeds_of_processor p)) deed =
+      some_event _ _ (sym is ∙ acted.event) ∙ act_says s.shape s.code own acted.found st act
+      ∙ ap (λ (x : Standing). event_of_deed s.shape own x deed) of.stands ∙ ap (λ (t : Shape). event_of_deed t own (stands_by k own (deeds_of_processor p)) deed) (sym s.told.0) in
+      grows_more plan limits k own (deeds_of_processor p) (deeds_of_processor q) deed act pace victims a acted.deed tells before now
+      (λ list e. appended before now event list heard e ∙ ap (λ (x : Event). Some (list ++ x ∷ [])) event_is)
+
+-- where a processor goes behind an act that its watcher took, or refused
+pub goes_by_act : (plan : Planned) (limits : Limits) (k : Opening) (own : ℕ) (before now first : Option (List Event)) (me me' : Mine) (pace pace' : Pace) (victims : Drawing) (act : Act)
+    → (a : Acting plan limits k own (deeds_in me.0) pace victims act) → (taken : Bool) (way : Way) → way ≡ way_of taken
+    → Grows before first (told_of_deeds plan limits k own (deeds_in me.0)) (told_so_far plan limits k own (deeds_in me.0) a.past)
+    → (taken ≡ true → Obeying plan limits k own (deeds_in me'.0) pace' victims
+    × Grows first now (told_so_far plan limits k own (deeds_in me.0) a.past) (told_of_deeds plan limits k own (deeds_in me'.0)))
+    → GoesOn plan limits k own before now me me' pace' victims way
+goes_by_act plan limits k own before now first me me' pace pace' victims act a taken way is grew obeys =
+    subst (λ (w : Way). GoesOn plan limits k own before now me me' pace' victims w) (sym is) (by taken obeys)
+  where
+    by : (b : Bool) → (b ≡ true → Obeying plan limits k own (deeds_in me'.0) pace' victims
+        × Grows first now (told_so_far plan limits k own (deeds_in me.0) a.past) (told_of_deeds plan limits k own (deeds_in me'.0)))
+        → GoesOn plan limits k own before now me me' pace' victims (way_of b)
+    by true obeys = let o = obeys refl in (o.0, λ list e. o.1 list (grew list e))
+    by false obeys = tt

@@ -1,0 +1,17 @@
+-- How the driver is shown. Of each processor one list is known, its deeds (`Obeying`): what it has
+-- done obeys so far, and whatever obeys behind it obeys from the beginning on (`Follows`). Steps in
+-- a row and single acts add to it (`GoingLemmas`, `ActLemmas`), without a run.
+-- Threads work on halves of the processors (`HalvesLemmas`, recursions on four lists). When the
+-- table is closed, what the deeds say becomes what the run says (`ClosingLemmas`); that turns name
+-- processors of the machine is `AmongLemmas`, what the finish word says `FinishLemmas`.
+-- Parking is apart: tokens are counted (`RestingLemmas`), and no clause says who wakes whom.
+
+mod RestingLemmas
+mod DrawnLemmas
+mod CountingLemmas
+mod GoingLemmas
+mod ActLemmas
+mod ClosingLemmas
+mod AmongLemmas
+mod HalvesLemmas
+mod FinishLemmas

@@ -1,0 +1,5 @@
+use Rattle.ppm_threads.proofs.RestingLemmas.{admits}
+use Rattle.ppm_threads.proofs.parking.park.Goals as goal
+
+pub pass-pass-requires : goal.pass-pass-requires
+pass-pass-requires g c = admits

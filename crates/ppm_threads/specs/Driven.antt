@@ -1,0 +1,67 @@
+-- What is known after a drive.
+use Rattle.std.specs.Prelude.{◌≡◌, ◌≢◌, ℕ, ◌<◌, ◌≤◌, Bool, true, List, [], ◌∷◌, Option, Some, slice_index_or}
+use Rattle.ppm_cells.specs.Finish.{finish_of}
+use Rattle.ppm_cells.specs.Memory.{read}
+use Rattle.ppm_cells.specs.declared.cell.Cell.TheVariants.{FinishWord}
+use Rattle.ppm_cells.specs.declared.finish.Finish.TheVariants.{Stopped}
+use Rattle.ppm_plan.specs.Schedules.{Planned}
+use Rattle.ppm_ports.specs.Told.{AppendsList}
+use Rattle.ppm_words.specs.declared.event.Event.{Event}
+use Rattle.ppm_step.specs.declared.turn.Turn.{Turn}
+use Rattle.ppm_choice.specs.declared.limits.Limits.{Limits}
+use Rattle.ppm_choice.specs.Obeying.{ObeyAll}
+use Rattle.ppm_choice.specs.Tells.{told_in}
+use Rattle.ppm_table.specs.declared.processor.Processor.{Processor}
+use Rattle.ppm_table.specs.declared.processor.Shared.{Shared}
+use Rattle.ppm_table.specs.declared.view.Opening.{Opening}
+use Rattle.ppm_table.specs.Run.{start, behind_turns}
+use Rattle.ppm_table.specs.Shown.{IsOf, deeds_of_processor, opening_of}
+use Rattle.ppm_table.specs.Telling.{Keeps}
+use Rattle.ppm_threads.specs.Going.{Grows, OwnObeys, told_of_deeds}
+
+-- a processor that has done nothing
+abbrev pub Begins : Shared → Processor → Type 0
+Begins s p = IsOf s p × (deeds_of_processor p ≡ [])
+
+abbrev pub AllBegin : Shared → List Processor → Type 0
+AllBegin s [] = Unit {0}
+AllBegin s (p ∷ ps) = Begins s p × AllBegin s ps
+
+module _ {W : Type 0} (told : W → Option (List Event)) where
+  -- each list keeps what it had in front
+  abbrev pub AllKeep : List W → List W → Type 0
+  AllKeep old new = (j : ℕ) (d : W) → Keeps (told (slice_index_or old j d)) (told (slice_index_or new j d))
+
+module _ {W : Type 0} (told : W → Option (List Event)) (plan : Planned) (limits : Limits) where
+  -- a processor before and after, with its watcher: where that refused nothing, what the processor has done obeys, and it was told of it
+  pub record Ends (s : Shared) (taken : Bool) (p : Processor) (w : W) (q : Processor) (v : W) : Type 0 where
+    pub of : IsOf s q
+    pub own : q.local.own ≡ p.local.own
+    pub keeps : Keeps (told w) (told v)
+    pub grows : taken ≡ true → Grows (told w) (told v) (told_of_deeds plan limits (opening_of s) p.local.own (deeds_of_processor p))
+        (told_of_deeds plan limits (opening_of s) p.local.own (deeds_of_processor q))
+    pub obeys : taken ≡ true → OwnObeys plan limits (opening_of s) p.local.own (deeds_of_processor q)
+
+  -- the same of each; watchers behind the last processor stay
+  abbrev pub AllEnd : Shared → Bool → List Processor → List W → List Processor → List W → Type 0
+  AllEnd s taken [] ws [] vs = ws ≡ vs
+  AllEnd s taken [] ws (q ∷ qs) vs = ⊥
+  AllEnd s taken (p ∷ ps) ws [] vs = ⊥
+  AllEnd s taken (p ∷ ps) [] (q ∷ qs) vs = ⊥
+  AllEnd s taken (p ∷ ps) (w ∷ ws) (q ∷ qs) [] = ⊥
+  AllEnd s taken (p ∷ ps) (w ∷ ws) (q ∷ qs) (v ∷ vs) = Ends s taken p w q v × AllEnd s taken ps ws qs vs
+
+  -- There is one run, behind which the words are these. Each processor obeys in it, and behind the list of its watcher stands what is told of it
+  -- there: its record, and event 7 where it has parked. The other watchers stay.
+  pub record Driven (k : Opening) (words : List ℕ) (old new : List W) : Type 0 where
+    pub turns : List Turn
+    pub words_are : (behind_turns k turns).words ≡ words
+    pub obey : ObeyAll plan limits k.shape k.code (start k) turns
+    pub told_are : (c : ℕ) (d : W) → c < k.shape.processors
+        → AppendsList (told (slice_index_or old c d)) (told (slice_index_or new c d)) (told_in plan limits c k.shape k.code (start k) turns)
+    pub others : (j : ℕ) (d : W) → k.shape.processors ≤ j → slice_index_or new j d ≡ slice_index_or old j d
+
+-- the finish word is set; and where it was 0, it doesn't say that a watcher refused
+pub record HasFinished (k : Opening) (words : List ℕ) : Type 0 where
+  pub is_set : read k.shape words FinishWord ≢ 0
+  pub no_refusal : read k.shape k.words FinishWord ≡ 0 → finish_of (read k.shape words FinishWord) ≢ Some Stopped

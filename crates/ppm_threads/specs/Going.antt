@@ -1,0 +1,113 @@
+-- A processor on its way: what it has done obeys so far, and its watcher was told of it.
+use Rattle.std.specs.Prelude.{◌≡◌, ℕ, ◌+◌, Bool, true, false, List, [], ◌∷◌, ◌++◌, drop, Option, Some, None}
+use Rattle.ppm_cells.specs.declared.shape.Shape.{Shape}
+use Rattle.ppm_code.specs.declared.code.CodeParts.{CodeParts}
+use Rattle.ppm_words.specs.declared.event.Event.{Event}
+use Rattle.ppm_plan.specs.Draws.{Drawing, victims_of, next_victims}
+use Rattle.ppm_plan.specs.Schedules.{Planned}
+use Rattle.ppm_step.specs.declared.turn.Act.{Act}
+use Rattle.ppm_step.specs.declared.turn.Next.{Next}
+use Rattle.ppm_step.specs.declared.turn.Next.TheVariants.{Done}
+use Rattle.ppm_step.specs.Standings.{Standing, IsLost}
+use Rattle.ppm_choice.specs.declared.limits.Limits.{Limits}
+use Rattle.ppm_choice.specs.declared.pace.Pace.{Pace}
+use Rattle.ppm_choice.specs.Deeds.{Deed as Acted}
+use Rattle.ppm_choice.specs.Obeying.{Past, nothing_done, next_act, behind as past_behind, awake, Rests, Stops, Obeys}
+use Rattle.ppm_choice.specs.Paces.{IsPace}
+use Rattle.ppm_choice.specs.Tells.{told_before, told_from}
+use Rattle.ppm_table.specs.declared.view.Deed.{Deed}
+use Rattle.ppm_table.specs.declared.view.Opening.{Opening}
+use Rattle.ppm_table.specs.Run.{act_by, behind, stands_by, deeds_in, Mine}
+use Rattle.ppm_table.specs.Telling.{shown_by}
+use Rattle.ppm_threads.specs.declared.way.Way.{Way}
+use Rattle.ppm_threads.specs.declared.way.Way.TheVariants.{More, Over, Refused}
+
+-- whether no step is to come
+abbrev pub is_over : Next → Bool
+is_over Done = true
+is_over next = false
+
+-- the acts of deeds, each with where the processor stood
+abbrev pub acted : Shape → Standing → Deed → Acted
+acted s standing deed = record { stood = standing; act = act_by s standing deed }
+
+abbrev pub acts_of : Shape → CodeParts → (own : ℕ) → Standing → List Deed → List Acted
+acts_of s code own standing [] = []
+acts_of s code own standing (deed ∷ deeds) = acted s standing deed ∷ acts_of s code own (behind s code own standing deed) deeds
+
+-- a known list that had so much at its end has so much there now
+abbrev pub Grows : Option (List Event) → Option (List Event) → (old new : List Event) → Type 0
+Grows before now old new = (list : List Event) → before ≡ Some (list ++ old) → now ≡ Some (list ++ new)
+
+module _ (plan : Planned) (limits : Limits) where
+  -- the victims that are drawn next come behind those that were drawn
+  abbrev pub HasDrawn : (processor : ℕ) → Past → Drawing → Type 0
+  HasDrawn processor past victims =
+      (k : ℕ) → next_victims victims k ≡ drop past.drawn (victims_of limits.seed processor plan.processors (past.drawn + k))
+
+  -- none where the processor rests, else its next act
+  abbrev pub IsNext : (processor : ℕ) → Past → Standing → Drawing → Option Act → Type 0
+  IsNext processor past stood victims None = Rests plan limits processor past stood × HasDrawn processor past victims
+  IsNext processor past stood victims (Some act) =
+      (¬ Rests plan limits processor past stood)
+      × (act ≡ next_act plan limits processor past stood)
+      × HasDrawn processor (past_behind past (record { stood = stood; act = act })) victims
+
+  -- what is told of a processor that has done this: the events of its acts, and event 7 before an act where it has parked
+  abbrev pub told_of_deeds : Opening → (own : ℕ) → List Deed → List Event
+  told_of_deeds k own deeds =
+      told_from plan limits own nothing_done (acts_of k.shape k.code own IsLost deeds) (shown_by k own deeds)
+
+  -- with such a past, whatever obeys behind these deeds obeys from the beginning on, and what is told of it is told behind what is told of them
+  pub record Follows (k : Opening) (own : ℕ) (deeds : List Deed) (past : Past) : Type 0 where
+    pub back : (more : List Acted) (stands : Standing) → Obeys plan limits own past more stands
+        → Obeys plan limits own nothing_done (acts_of k.shape k.code own IsLost deeds ++ more) stands
+    pub tells : (more : List Acted) (events : List Event)
+        → told_from plan limits own nothing_done (acts_of k.shape k.code own IsLost deeds ++ more) (shown_by k own deeds ++ events)
+        ≡ told_of_deeds k own deeds ++ told_from plan limits own past more events
+
+  -- what a processor has done obeys so far, and its pace and its victims say so
+  pub record Obeying (k : Opening) (own : ℕ) (deeds : List Deed) (pace : Pace) (victims : Drawing) : Type 0 where
+    pub past : Past
+    pub number : pace.processor ≡ own
+    pub pace_is : IsPace plan limits past (stands_by k own deeds) pace
+    pub drawn : HasDrawn own past victims
+    pub follows : Follows k own deeds past
+
+  -- so it does, and it rests
+  pub record Resting (k : Opening) (own : ℕ) (deeds : List Deed) (pace : Pace) (victims : Drawing) : Type 0 where
+    pub obeying : Obeying k own deeds pace victims
+    pub rests : Rests plan limits own obeying.past (stands_by k own deeds)
+
+  -- so it does, and goes on to make its next act; where it was to park, it has
+  pub record Acting (k : Opening) (own : ℕ) (deeds : List Deed) (pace : Pace) (victims : Drawing) (act : Act) : Type 0 where
+    pub past : Past
+    pub number : pace.processor ≡ own
+    pub pace_is : IsPace plan limits (awake plan limits own past (stands_by k own deeds)) (stands_by k own deeds) pace
+    pub goes : ¬ Stops plan limits own past (stands_by k own deeds)
+    pub act_is : act ≡ next_act plan limits own past (stands_by k own deeds)
+    pub drawn : HasDrawn own
+        (past_behind (awake plan limits own past (stands_by k own deeds)) (record { stood = stands_by k own deeds; act = act })) victims
+    pub follows : Follows k own deeds past
+
+  -- what was told of it then
+  abbrev pub told_so_far : (k : Opening) (own : ℕ) (deeds : List Deed) → Past → List Event
+  told_so_far k own deeds past = told_of_deeds k own deeds ++ told_before plan limits own past (stands_by k own deeds)
+
+  -- all that it has done obeys, and its acts stop there
+  abbrev pub OwnObeys : Opening → (own : ℕ) → List Deed → Type 0
+  OwnObeys k own deeds = Obeys plan limits own nothing_done (acts_of k.shape k.code own IsLost deeds) (stands_by k own deeds)
+
+  -- behind its next acts
+  abbrev pub GoesOn : Opening → (own : ℕ) → Option (List Event) → Option (List Event) → Mine → Mine → Pace → Drawing → Way → Type 0
+  GoesOn k own before now me me' pace victims More =
+      Obeying k own (deeds_in me'.0) pace victims
+      × Grows before now (told_of_deeds k own (deeds_in me.0)) (told_of_deeds k own (deeds_in me'.0))
+  GoesOn k own before now me me' pace victims Over =
+      OwnObeys k own (deeds_in me'.0) × Grows before now (told_of_deeds k own (deeds_in me.0)) (told_of_deeds k own (deeds_in me'.0))
+  GoesOn k own before now me me' pace victims Refused = Unit {0}
+
+-- where a processor goes behind an act that its watcher took, or refused
+abbrev pub way_of : (taken : Bool) → Way
+way_of true = More
+way_of false = Refused

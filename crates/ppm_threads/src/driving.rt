@@ -1,0 +1,170 @@
+//! The threads.
+ghost use Rattle.std.specs.Prelude.{◌≡◌, ◌<◌, ◌≤◌, IfOk, vec_len, length};
+ghost use Rattle.std.specs.Thread.{IsSync, IsSend};
+ghost use Rattle.ppm_table.specs.Shown.{AreNewOf, opening_of};
+ghost use Rattle.ppm_threads.specs.Driven.{AllBegin, AllEnd, AllKeep, Driven, HasFinished};
+
+use crate::going::run;
+use crate::parking::{IdleParker, IdleUnparker, parkers, unparkers};
+use ppm_choice::Limits;
+use ppm_plan::Plan;
+use ppm_ports::Watch;
+use ppm_table::{Closed, Processor, Shared};
+use ppm_words::NoMemory;
+use std::alloc::Global;
+use std::sync::Wait;
+use std::thread::{Threads, join_mut};
+
+/// Runs each of these processors on a thread of its own: whether no watcher refused.
+#[cycle(halves)]
+fn run_all<W: Watch, R: Threads + Wait + Sync>(
+    rt: &R,
+    shared: &Shared,
+    unparkers: &[IdleUnparker],
+    plan: &Plan,
+    limits: &Limits,
+    processors: &mut [Processor],
+    parkers: &mut [IdleParker],
+    watch: &mut [W],
+) -> bool
+    requires begin { AllBegin shared.now processors.old }
+    requires same { (length processors.old ≡ length watch.old)
+        × (length processors.old ≡ length parkers.old) }
+    requires plan { plan.now.processors ≡ shared.now.shape.processors }
+    ensures { AllEnd W.told plan.now limits.now shared.now result processors.old watch.old processors.new watch.new }
+{
+    if processors.is_empty() {
+        return true;
+    }
+    if processors.len() == 1 {
+        return run(
+            rt,
+            shared,
+            unparkers,
+            &mut parkers[0],
+            plan,
+            *limits,
+            &mut processors[0],
+            &mut watch[0],
+        );
+    }
+    let half = processors.len() / 2;
+    let (a, b) = processors.split_at_mut(half);
+    let (p, q) = parkers.split_at_mut(half);
+    let (u, v) = watch.split_at_mut(half);
+    both_halves(rt, shared, unparkers, plan, limits, a, p, u, b, q, v)
+}
+
+/// The same of two parts, side by side.
+#[cycle(halves)]
+fn both_halves<W: Watch, R: Threads + Wait + Sync>(
+    rt: &R,
+    shared: &Shared,
+    unparkers: &[IdleUnparker],
+    plan: &Plan,
+    limits: &Limits,
+    a: &mut [Processor],
+    p: &mut [IdleParker],
+    u: &mut [W],
+    b: &mut [Processor],
+    q: &mut [IdleParker],
+    v: &mut [W],
+) -> bool
+    requires front { AllBegin shared.now a.old × (length a.old ≡ length u.old) × (length a.old ≡ length p.old)
+        × (0 < length a.old) }
+    requires back { AllBegin shared.now b.old × (length b.old ≡ length v.old) × (length b.old ≡ length q.old)
+        × (0 < length b.old) }
+    requires plan { plan.now.processors ≡ shared.now.shape.processors }
+    ensures front { AllEnd W.told plan.now limits.now shared.now result a.old u.old a.new u.new }
+    ensures back { AllEnd W.told plan.now limits.now shared.now result b.old v.old b.new v.new }
+{
+    let mut front = || -> bool
+        requires { IsSync R.row × IsSend W.row × AllBegin shared.now a.now × (length a.now ≡ length u.now)
+            × (length a.now ≡ length p.now) × (plan.now.processors ≡ shared.now.shape.processors) }
+        ensures { AllEnd W.told plan.entry.now limits.entry.now shared.entry.now result a.entry.now u.entry.now
+            a.exit.now u.exit.now }
+    { run_all(rt, shared, unparkers, plan, limits, a, p, u) };
+    let mut back = || -> bool
+        requires { IsSync R.row × IsSend W.row × AllBegin shared.now b.now × (length b.now ≡ length v.now)
+            × (length b.now ≡ length q.now) × (plan.now.processors ≡ shared.now.shape.processors) }
+        ensures { AllEnd W.told plan.entry.now limits.entry.now shared.entry.now result b.entry.now v.entry.now
+            b.exit.now v.exit.now }
+    { run_all(rt, shared, unparkers, plan, limits, b, q, v) };
+    let (x, y) = join_mut(rt, &mut front, &mut back);
+    x && y
+}
+
+/// The same over vectors, of which that of the watchers may be longer.
+fn run_over<W: Watch, R: Threads + Wait + Sync>(
+    rt: &R,
+    shared: &Shared,
+    unparkers: &[IdleUnparker],
+    plan: &Plan,
+    limits: &Limits,
+    processors: &mut Vec<Processor>,
+    parkers: &mut Vec<IdleParker>,
+    watch: &mut Vec<W>,
+) -> bool
+    requires begin { AllBegin shared.now processors.old.items }
+    requires parkers { vec_len processors.old ≡ vec_len parkers.old }
+    requires watchers { vec_len processors.old ≤ vec_len watch.old }
+    requires plan { plan.now.processors ≡ shared.now.shape.processors }
+    ensures lengths { (vec_len processors.new ≡ vec_len processors.old)
+        × (vec_len watch.new ≡ vec_len watch.old) }
+    ensures ends { AllEnd W.told plan.now limits.now shared.now result processors.old.items watch.old.items
+        processors.new.items watch.new.items }
+{
+    let (mine, _) = watch.as_mut_slice().split_at_mut(processors.len());
+    run_all(
+        rt,
+        shared,
+        unparkers,
+        plan,
+        limits,
+        processors.as_mut_slice(),
+        parkers.as_mut_slice(),
+        mine,
+    )
+}
+
+/// Runs each processor of a table on a thread of its own until it is done, or leaves where the
+/// limits say so, and closes the table. There is a watcher for each processor, and the plan is for
+/// as many. `Err` where memory is refused, or by a watcher. It may never return.
+pub fn drive<W: Watch, R: Threads + Wait + Sync>(
+    rt: &R,
+    alloc: Global,
+    shared: Shared,
+    mut processors: Vec<Processor>,
+    plan: &Plan,
+    limits: Limits,
+    watch: &mut Vec<W>,
+) -> Result<Closed, NoMemory>
+    requires processors { AreNewOf shared processors.items }
+    requires plan { plan.now.processors ≡ shared.shape.processors }
+    requires watchers { vec_len processors ≤ vec_len watch.old }
+
+    // Each list keeps what it had in front, whatever the answer is.
+    ensures kept { (vec_len watch.new ≡ vec_len watch.old)
+        × AllKeep W.told watch.old.items watch.new.items }
+
+    ensures sizes { IfOk result (λ c. (c.shape ≡ shared.shape) × (c.array_lengths ≡ shared.lengths)) }
+    ensures run { IfOk result (λ c. Driven W.told plan.now limits (opening_of shared) c.words watch.old.items watch.new.items) }
+    ensures finish { IfOk result (λ c. HasFinished (opening_of shared) c.words) }
+{
+    let _ = (shared.code.parts().root, plan.keeper());
+    let mut rests = parkers(alloc, processors.len())?;
+    let wakers = unparkers(alloc, &rests)?;
+    if !run_over(
+        rt,
+        &shared,
+        &wakers,
+        plan,
+        &limits,
+        &mut processors,
+        &mut rests,
+        watch,
+    ) {
+        return Err(NoMemory);
+    }
+    Ok(shared.close(processors))
+}

@@ -1,0 +1,375 @@
+//! A processor on its way.
+ghost use Rattle.std.specs.Prelude.{◌≡◌, ◌≢◌, ◌<◌, ◌≤◌, ◌^◌, ℕ, IfSome, true};
+ghost use Rattle.ppm_step.specs.Locals.{standing_of};
+ghost use Rattle.ppm_step.specs.Standings.{Standing, IsDone};
+ghost use Rattle.ppm_words.specs.declared.idle.Idle.TheVariants.{Park};
+ghost use Rattle.ppm_choice.specs.Obeying.{Past, is_park};
+ghost use Rattle.ppm_choice.specs.Paces.{IsPace};
+ghost use Rattle.ppm_step.specs.Told.{place_of};
+ghost use Rattle.ppm_choice.specs.Tells.{parked};
+ghost use Rattle.ppm_table.specs.Run.{IsActAt};
+ghost use Rattle.ppm_table.specs.Shown.{IsOf, deeds_of_processor, opening_of};
+ghost use Rattle.ppm_table.specs.Telling.{Keeps};
+ghost use Rattle.ppm_threads.specs.Driven.{Begins, Ends};
+ghost use Rattle.ppm_threads.specs.Going.{HasDrawn, IsNext, Obeying, Resting, Acting, Grows, GoesOn, told_of_deeds};
+ghost use Rattle.ppm_threads.specs.Going.{told_so_far, way_of, is_over as over};
+
+use crate::counting::count_along;
+use crate::parking::{IdleParker, IdleUnparker, park, wake_all};
+use crate::way::Way;
+use crossbeam_utils::Backoff;
+use ppm_choice::{Choice, Idle, Limits, Pace, choose, clear_steps};
+use ppm_plan::{Plan, Victims};
+use ppm_ports::Watch;
+use ppm_step::{Act, Next, Why};
+use ppm_stretch::{is_due, steps};
+use ppm_table::{Processor, Shared, hear};
+use ppm_words::Event;
+use std::sync::Wait;
+
+/// More work turns than any limit allows.
+const MOST_WORK: u64 = 1 << 62;
+
+/// So many steps a processor makes at most before it wakes those that have parked, where it has put
+/// a job into a deque.
+const MOST_UNTOLD: u64 = 1 << 12;
+
+/// Whether no step is to come.
+fn is_over(next: Next) -> bool
+    ensures { result ≡ over next }
+{
+    matches!(next, Next::Done)
+}
+
+/// Whether a processor that rests parks.
+fn is_park(idle: Idle) -> bool
+    ensures { result ≡ is_park idle }
+{
+    match idle {
+        Idle::Park => true,
+        Idle::Leave => false,
+    }
+}
+
+/// The next act, with the next victim where one is due; `None` where the processor rests.
+fn next_act(pace: &Pace, victims: &mut Victims, plan: &Plan, limits: Limits) -> Option<Act>
+    ensures { (past : Past) (stood : Standing) → IsPace plan.now limits past stood pace.now
+        → HasDrawn plan.now limits pace.now.processor past victims.old
+        → IsNext plan.now limits pace.now.processor past stood victims.new result }
+{
+    match choose(pace, plan, limits) {
+        Choice::Leave => None,
+        Choice::Draw => {
+            let victim = victims.next();
+            Some(Act::Step { victim })
+        }
+        Choice::Do(act) => Some(act),
+    }
+}
+
+/// What is told where a processor parks.
+fn parked_at(place: u32) -> Event
+    ensures { (stood : Standing) → place ≡ place_of stood → result ≡ parked stood }
+{
+    Event {
+        step: 7,
+        place,
+        word: 0,
+        value: 0,
+    }
+}
+
+/// How many steps in a row are made before those are woken that have parked.
+fn most_at_once(limits: Limits) -> u64
+    ensures { result ≤ 2 ^ 62 }
+{
+    if is_park(limits.idle) {
+        MOST_UNTOLD
+    } else {
+        MOST_WORK
+    }
+}
+
+/// Makes steps in a row, as many as surely obey: how many. `None` where the watcher refused one.
+fn go_ahead<W: Watch>(
+    shared: &Shared,
+    unparkers: &[IdleUnparker],
+    plan: &Plan,
+    limits: Limits,
+    processor: &mut Processor,
+    pace: &mut Pace,
+    victims: &Victims,
+    watch: &mut W,
+) -> Option<u64>
+    requires of { IsOf shared.now processor.old }
+    requires few { pace.old.work < 2 ^ 62 }
+    requires obeying { Obeying plan.now limits (opening_of shared.now) processor.old.local.own (deeds_of_processor processor.old)
+        pace.old victims.now }
+    ensures of { IsOf shared.now processor.new }
+    ensures own { processor.new.local.own ≡ processor.old.local.own }
+    ensures keeps { Keeps (W.told watch.old) (W.told watch.new) }
+    ensures goes { IfSome result (λ made. Obeying plan.now limits (opening_of shared.now) processor.old.local.own
+        (deeds_of_processor processor.new) pace.new victims.now
+        × Grows (W.told watch.old) (W.told watch.new)
+        (told_of_deeds plan.now limits (opening_of shared.now) processor.old.local.own (deeds_of_processor processor.old))
+        (told_of_deeds plan.now limits (opening_of shared.now) processor.old.local.own (deeds_of_processor processor.new))) }
+    ensures none { IfSome result (λ made. made ≡ 0 → pace.new ≡ pace.old) }
+{
+    let most = clear_steps(pace, plan, limits).min(most_at_once(limits));
+    let row = steps(processor, shared, most, watch);
+    if row.refused {
+        wake(unparkers, limits);
+        return None;
+    }
+    if row.made == 0 {
+        return Some(0);
+    }
+    let next = processor.local.next();
+    if row.exchanged || is_over(next) {
+        wake(unparkers, limits);
+    }
+    let due = is_due(&processor.local);
+    count_along(pace, limits, row, next, due);
+    Some(row.made)
+}
+
+/// Wakes those that have parked, where any may.
+fn wake(unparkers: &[IdleUnparker], limits: Limits) {
+    if is_park(limits.idle) {
+        wake_all(unparkers);
+    }
+}
+
+/// Whether an act may be one for which others wait: a compare-and-modify, a hard fault or a quit, or
+/// the last of its processor.
+fn wakes(event: Event, next: Next) -> bool {
+    event.step == 3 || event.step == 5 || event.step == 6 || matches!(next, Next::Done)
+}
+
+/// The processor gives up, since its watcher refused.
+fn give_way(shared: &Shared, unparkers: &[IdleUnparker], limits: Limits, processor: &mut Processor)
+    requires of { IsOf shared.now processor.old }
+    ensures of { IsOf shared.now processor.new }
+    ensures own { processor.new.local.own ≡ processor.old.local.own }
+{
+    processor.turn(shared, Act::Quit(Why::Watch));
+    wake(unparkers, limits);
+}
+
+/// Makes an act: whether the watcher took it. Where it didn't, the processor gives up.
+fn make<W: Watch>(
+    shared: &Shared,
+    unparkers: &[IdleUnparker],
+    plan: &Plan,
+    limits: Limits,
+    processor: &mut Processor,
+    pace: &mut Pace,
+    victims: &Victims,
+    watch: &mut W,
+    act: Act,
+) -> bool
+    requires of { IsOf shared.now processor.old }
+    requires few { pace.old.work < 2 ^ 62 }
+    requires lives { standing_of shared.now.shape shared.now.code processor.old.local ≢ IsDone }
+    requires may { IsActAt shared.now.shape (standing_of shared.now.shape shared.now.code processor.old.local) act }
+    ensures of { IsOf shared.now processor.new }
+    ensures own { processor.new.local.own ≡ processor.old.local.own }
+    ensures keeps { Keeps (W.told watch.old) (W.told watch.new) }
+    ensures obeys { result ≡ true
+        → (a : Acting plan.now limits (opening_of shared.now) processor.old.local.own (deeds_of_processor processor.old) pace.old victims.now act)
+        → Obeying plan.now limits (opening_of shared.now) processor.old.local.own (deeds_of_processor processor.new) pace.new victims.now
+        × Grows (W.told watch.old) (W.told watch.new)
+        (told_so_far plan.now limits (opening_of shared.now) processor.old.local.own (deeds_of_processor processor.old) a.past)
+        (told_of_deeds plan.now limits (opening_of shared.now) processor.old.local.own (deeds_of_processor processor.new)) }
+{
+    let _ = plan.keeper();
+    let told = processor.turn(shared, act);
+    let due = is_due(&processor.local);
+    pace.count(limits, told, due);
+    let Some(event) = told.event else {
+        return false;
+    };
+    if wakes(event, told.next) {
+        wake(unparkers, limits);
+    }
+    if hear(watch, event) {
+        return true;
+    }
+    give_way(shared, unparkers, limits, processor);
+    false
+}
+
+/// Where a processor goes behind an act that its watcher took, or refused.
+fn way_of(taken: bool) -> Way
+    ensures { result ≡ way_of taken }
+{
+    if taken { Way::More } else { Way::Refused }
+}
+
+/// A processor that rests leaves; or it parks, and makes its next act behind that.
+fn rest_first<W: Watch, R: Wait>(
+    rt: &R,
+    shared: &Shared,
+    unparkers: &[IdleUnparker],
+    parker: &IdleParker,
+    plan: &Plan,
+    limits: Limits,
+    processor: &mut Processor,
+    pace: &mut Pace,
+    victims: &mut Victims,
+    watch: &mut W,
+) -> Way
+    requires of { IsOf shared.now processor.old }
+    requires few { pace.old.work < 2 ^ 62 }
+    requires plan { plan.now.processors ≡ shared.now.shape.processors }
+    requires resting { Resting plan.now limits (opening_of shared.now) processor.old.local.own (deeds_of_processor processor.old)
+        pace.old victims.old }
+    ensures of { IsOf shared.now processor.new }
+    ensures own { processor.new.local.own ≡ processor.old.local.own }
+    ensures keeps { Keeps (W.told watch.old) (W.told watch.new) }
+    ensures goes { GoesOn plan.now limits (opening_of shared.now) processor.old.local.own (W.told watch.old) (W.told watch.new)
+        processor.old.seat.me processor.new.seat.me pace.new victims.new result }
+{
+    if !is_park(limits.idle) {
+        return Way::Over;
+    }
+    if !hear(watch, parked_at(processor.local.place())) {
+        give_way(shared, unparkers, limits, processor);
+        return Way::Refused;
+    }
+    park(rt, parker);
+    pace.rest();
+    // Its looks count from 0 again, so with any limit above that it doesn't rest at once.
+    let Some(act) = next_act(pace, victims, plan, Limits { looks: 1, ..limits }) else {
+        unreachable!()
+    };
+    way_of(make(
+        shared, unparkers, plan, limits, processor, pace, victims, watch, act,
+    ))
+}
+
+/// Makes the next act, if there is one.
+fn act<W: Watch, R: Wait>(
+    rt: &R,
+    shared: &Shared,
+    unparkers: &[IdleUnparker],
+    parker: &IdleParker,
+    plan: &Plan,
+    limits: Limits,
+    processor: &mut Processor,
+    pace: &mut Pace,
+    victims: &mut Victims,
+    watch: &mut W,
+) -> Way
+    requires of { IsOf shared.now processor.old }
+    requires few { pace.old.work < 2 ^ 62 }
+    requires plan { plan.now.processors ≡ shared.now.shape.processors }
+    requires obeying { Obeying plan.now limits (opening_of shared.now) processor.old.local.own (deeds_of_processor processor.old)
+        pace.old victims.old }
+    ensures of { IsOf shared.now processor.new }
+    ensures own { processor.new.local.own ≡ processor.old.local.own }
+    ensures keeps { Keeps (W.told watch.old) (W.told watch.new) }
+    ensures goes { GoesOn plan.now limits (opening_of shared.now) processor.old.local.own (W.told watch.old) (W.told watch.new)
+        processor.old.seat.me processor.new.seat.me pace.new victims.new result }
+{
+    if is_over(pace.next) {
+        return Way::Over;
+    }
+    let Some(act) = next_act(pace, victims, plan, limits) else {
+        return rest_first(
+            rt, shared, unparkers, parker, plan, limits, processor, pace, victims, watch,
+        );
+    };
+    way_of(make(
+        shared, unparkers, plan, limits, processor, pace, victims, watch, act,
+    ))
+}
+
+/// Some steps in a row that surely obey, or else the next act.
+fn go_on<W: Watch, R: Wait>(
+    rt: &R,
+    shared: &Shared,
+    unparkers: &[IdleUnparker],
+    parker: &IdleParker,
+    plan: &Plan,
+    limits: Limits,
+    processor: &mut Processor,
+    pace: &mut Pace,
+    victims: &mut Victims,
+    watch: &mut W,
+) -> Way
+    requires of { IsOf shared.now processor.old }
+    requires few { pace.old.work < 2 ^ 62 }
+    requires plan { plan.now.processors ≡ shared.now.shape.processors }
+    requires obeying { Obeying plan.now limits (opening_of shared.now) processor.old.local.own (deeds_of_processor processor.old)
+        pace.old victims.old }
+    ensures of { IsOf shared.now processor.new }
+    ensures own { processor.new.local.own ≡ processor.old.local.own }
+    ensures keeps { Keeps (W.told watch.old) (W.told watch.new) }
+    ensures goes { GoesOn plan.now limits (opening_of shared.now) processor.old.local.own (W.told watch.old) (W.told watch.new)
+        processor.old.seat.me processor.new.seat.me pace.new victims.new result }
+{
+    let Some(made) = go_ahead(
+        shared, unparkers, plan, limits, processor, pace, victims, watch,
+    ) else {
+        return Way::Refused;
+    };
+    if made > 0 || pace.work >= MOST_WORK {
+        return Way::More;
+    }
+    act(
+        rt, shared, unparkers, parker, plan, limits, processor, pace, victims, watch,
+    )
+}
+
+/// Lets a processor obey until its acts stop; whether its watcher refused none. It may never return.
+pub(crate) fn run<W: Watch, R: Wait>(
+    rt: &R,
+    shared: &Shared,
+    unparkers: &[IdleUnparker],
+    parker: &mut IdleParker,
+    plan: &Plan,
+    limits: Limits,
+    processor: &mut Processor,
+    watch: &mut W,
+) -> bool
+    requires begins { Begins shared.now processor.old }
+    requires plan { plan.now.processors ≡ shared.now.shape.processors }
+    ensures { Ends W.told plan.now limits shared.now result processor.old watch.old processor.new watch.new }
+{
+    let own = processor.local.own;
+    let mut pace = Pace::first(plan, own);
+    let mut victims = Victims::new(limits.seed, own, plan.processors());
+    let backoff = Backoff::new();
+    for _ in rt.forever() {
+        if pace.work >= MOST_WORK {
+            continue;
+        }
+        match go_on(
+            rt,
+            shared,
+            unparkers,
+            parker,
+            plan,
+            limits,
+            processor,
+            &mut pace,
+            &mut victims,
+            watch,
+        ) {
+            Way::More => stand_back(&pace, &backoff),
+            Way::Over => return true,
+            Way::Refused => return false,
+        }
+    }
+    unreachable!()
+}
+
+/// Stands back for a moment where there is no work.
+fn stand_back(pace: &Pace, backoff: &Backoff) {
+    if pace.looks == 0 {
+        backoff.reset();
+    } else if let Next::Seek = pace.next {
+        backoff.snooze();
+    }
+}
