@@ -8,7 +8,6 @@
 
 mod RestingLemmas
 mod DrawnLemmas
-mod CountingLemmas
 mod GoingLemmas
 mod ActLemmas
 mod ClosingLemmas

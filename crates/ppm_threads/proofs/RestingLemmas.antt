@@ -34,10 +34,6 @@ takes pass v views h at =
     let t = taken_set views pass v (credit v.given (v.taken + 1)) at in
     (credit v.given (v.taken + 1), omega (arith, h, g, t), refl)
 
-worth_most : (x : Bool) → token_count x ≤ 1
-worth_most true = omega arith
-worth_most false = omega arith
-
 pub gives : (pass : ℕ) (v : Credit) → Turns Balanced pass v (λ _. true) gave
 gives pass v x views h at =
     let g = given_set views pass v (credit (v.given + 1) v.taken) at in

@@ -39,7 +39,7 @@ Grows before now old new = (list : List Event) → before ≡ Some (list ++ old)
 abbrev pub KeepsMore : (made : ℕ) → Mine → Mine → Type 0
 KeepsMore made me me' = length (deeds_in me'.0) ≡ length (deeds_in me.0) + made
 
--- a processor whose watcher has refused: it is done, or its last act says that it quits for that
+-- a processor whose watcher has refused has quit for that, and it was its last deed; or it was done, and quits no more
 abbrev pub HasQuit : Opening → (own : ℕ) → List Deed → Type 0
 HasQuit k own deeds = (stands_by k own deeds ≡ IsDone) ⊎ ((before : List Deed) × (deeds ≡ before ++ Quitted Watch ∷ []))
 

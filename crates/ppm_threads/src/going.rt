@@ -309,8 +309,7 @@ pub(crate) fn run<W: Watch, R: Wait>(
 ) -> bool
     requires begins { Begins shared.now processor.old }
     requires plan { plan.now.processors ≡ shared.now.shape.processors }
-    ensures ends { Ends W.told plan.now limits shared.now result processor.old watch.old processor.new watch.new }
-    ensures quits { result ≡ false → HasQuit (opening_of shared.now) processor.old.local.own (deeds_of_processor processor.new) }
+    ensures { Ends W.told plan.now limits shared.now result processor.old watch.old processor.new watch.new }
 {
     let own = processor.local.own;
     let mut pace = Pace::first(plan, own);
