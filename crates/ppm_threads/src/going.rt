@@ -3,6 +3,8 @@ ghost use Rattle.std.specs.Prelude.{◌≡◌, ◌≢◌, ◌<◌, ◌≤◌, �
 ghost use Rattle.ppm_step.specs.Locals.{standing_of};
 ghost use Rattle.ppm_step.specs.Standings.{Standing, IsDone};
 ghost use Rattle.ppm_step.specs.Told.{place_of};
+ghost use Rattle.ppm_plan.specs.Draws.{Drawing};
+ghost use Rattle.ppm_plan.specs.Schedules.{Planned};
 ghost use Rattle.ppm_choice.specs.Obeying.{is_park};
 ghost use Rattle.ppm_choice.specs.Tells.{parked};
 ghost use Rattle.ppm_table.specs.Run.{IsActAt};
@@ -72,18 +74,17 @@ fn go_ahead<W: Watch>(
     limits: Limits,
     processor: &mut Processor,
     pace: &mut Pace,
-    victims: &Victims,
     watch: &mut W,
 ) -> Option<u64>
     requires of { IsOf shared.now processor.old }
     requires few { pace.old.work < 2 ^ 62 }
-    requires obeying { Obeying plan.now limits (opening_of shared.now) processor.old.local.own (deeds_of_processor processor.old)
-        pace.old victims.now }
     ensures of { IsOf shared.now processor.new }
     ensures own { processor.new.local.own ≡ processor.old.local.own }
     ensures keeps { Keeps (W.told watch.old) (W.told watch.new) }
-    ensures goes { GoesAhead plan.now limits (opening_of shared.now) processor.old.local.own (W.told watch.old) (W.told watch.new)
-        processor.old.seat.me processor.new.seat.me pace.new victims.now result }
+    ensures goes { (victims : Drawing)
+        → Obeying plan.now limits (opening_of shared.now) processor.old.local.own (deeds_of_processor processor.old) pace.old victims
+        → GoesAhead plan.now limits (opening_of shared.now) processor.old.local.own (W.told watch.old) (W.told watch.new)
+        processor.old.seat.me processor.new.seat.me pace.new victims result }
     ensures none { IfSome result (λ made. made ≡ 0 → pace.new ≡ pace.old) }
 {
     let most = clear_steps(pace, plan, limits).min(most_at_once(limits));
@@ -132,11 +133,9 @@ fn give_way(shared: &Shared, unparkers: &[IdleUnparker], limits: Limits, process
 fn make<W: Watch>(
     shared: &Shared,
     unparkers: &[IdleUnparker],
-    plan: &Plan,
     limits: Limits,
     processor: &mut Processor,
     pace: &mut Pace,
-    victims: &Victims,
     watch: &mut W,
     act: Act,
 ) -> bool
@@ -147,16 +146,15 @@ fn make<W: Watch>(
     ensures of { IsOf shared.now processor.new }
     ensures own { processor.new.local.own ≡ processor.old.local.own }
     ensures keeps { Keeps (W.told watch.old) (W.told watch.new) }
-    ensures obeys { result ≡ true
-        → (a : Acting plan.now limits (opening_of shared.now) processor.old.local.own (deeds_of_processor processor.old) pace.old victims.now act)
-        → Obeying plan.now limits (opening_of shared.now) processor.old.local.own (deeds_of_processor processor.new) pace.new victims.now
+    ensures obeys { result ≡ true → (plan : Planned) (victims : Drawing)
+        → (a : Acting plan limits (opening_of shared.now) processor.old.local.own (deeds_of_processor processor.old) pace.old victims act)
+        → Obeying plan limits (opening_of shared.now) processor.old.local.own (deeds_of_processor processor.new) pace.new victims
         × Grows (W.told watch.old) (W.told watch.new)
-        (told_so_far plan.now limits (opening_of shared.now) processor.old.local.own (deeds_of_processor processor.old) a.past)
-        (told_of_deeds plan.now limits (opening_of shared.now) processor.old.local.own (deeds_of_processor processor.new))
+        (told_so_far plan limits (opening_of shared.now) processor.old.local.own (deeds_of_processor processor.old) a.past)
+        (told_of_deeds plan limits (opening_of shared.now) processor.old.local.own (deeds_of_processor processor.new))
         × KeepsMore 1 processor.old.seat.me processor.new.seat.me }
     ensures quits { result ≡ false → HasQuit (opening_of shared.now) processor.old.local.own (deeds_of_processor processor.new) }
 {
-    let _ = plan.keeper();
     let told = processor.turn(shared, act);
     let due = is_due(&processor.local);
     pace.count(limits, told, due);
@@ -218,7 +216,7 @@ fn rest_first<W: Watch, R: Wait>(
         unreachable!()
     };
     way_of(make(
-        shared, unparkers, plan, limits, processor, pace, victims, watch, act,
+        shared, unparkers, limits, processor, pace, watch, act,
     ))
 }
 
@@ -255,7 +253,7 @@ fn act<W: Watch, R: Wait>(
         );
     };
     way_of(make(
-        shared, unparkers, plan, limits, processor, pace, victims, watch, act,
+        shared, unparkers, limits, processor, pace, watch, act,
     ))
 }
 
@@ -283,9 +281,7 @@ fn go_on<W: Watch, R: Wait>(
     ensures goes { GoesOn plan.now limits (opening_of shared.now) processor.old.local.own (W.told watch.old) (W.told watch.new)
         processor.old.seat.me processor.new.seat.me pace.new victims.new result }
 {
-    let Some(made) = go_ahead(
-        shared, unparkers, plan, limits, processor, pace, victims, watch,
-    ) else {
+    let Some(made) = go_ahead(shared, unparkers, plan, limits, processor, pace, watch) else {
         return Way::Refused;
     };
     if made == 0 {

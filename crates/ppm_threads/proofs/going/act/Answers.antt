@@ -59,4 +59,4 @@ returns-clause-goes g c =
     goes_by_act c.args.plan.now c.args.limits k own (g.W.Watch.told c.args.watch.now) (g.W.Watch.told c.args.watch.now) (g.W.Watch.told c.make.new.watch) p.seat.me c.make.new.processor.seat.me
     c.args.pace.now c.make.new.pace c.next_act.new.victims c.in-Some.act a c.make.result c.way_of.result c.way_of.ensures
     (grows_from c.args.plan.now c.args.limits k own (deeds_of_processor p) o.past (g.W.Watch.told c.args.watch.now) next.0)
-    (λ taken. c.make.ensures.obeys taken a) c.make.ensures.quits
+    (λ taken. c.make.ensures.obeys taken c.args.plan.now c.next_act.new.victims a) c.make.ensures.quits

@@ -14,7 +14,7 @@ act-requires-clause-few g c =
 pub act-requires-clause-obeying : goal.act-requires-clause-obeying
 act-requires-clause-obeying g c =
     subst (λ (n : ℕ). Obeying c.args.plan.now c.args.limits (opening_of c.args.shared.now) n (deeds_of_processor c.go_ahead.new.processor) c.go_ahead.new.pace c.args.victims.now)
-    (sym c.go_ahead.ensures.own) c.in-Some.ensures.goes.0
+    (sym c.go_ahead.ensures.own) (c.in-Some.ensures.goes c.args.victims.now c.requires.obeying).0
 
 -- its next act
 pub returns-then-made-eq0-clause-keeps : goal.returns-then-made-eq0-clause-keeps
@@ -24,7 +24,7 @@ pub returns-then-made-eq0-clause-goes : goal.returns-then-made-eq0-clause-goes
 returns-then-made-eq0-clause-goes g c =
     let k = opening_of c.args.shared.now in
     let p = c.args.processor.now in
-    let goes = c.in-Some.ensures.goes in
+    let goes = c.in-Some.ensures.goes c.args.victims.now c.requires.obeying in
     let none = c.if-made-eq0.true in
     goes_behind c.args.plan.now c.args.limits k p.local.own (g.W.Watch.told c.args.watch.now) (g.W.Watch.told c.go_ahead.new.watch) (g.W.Watch.told c.act.new.watch)
     p.seat.me c.go_ahead.new.processor.seat.me c.act.new.processor.seat.me c.act.new.pace c.act.new.victims c.act.result goes.1
@@ -35,5 +35,5 @@ returns-then-made-eq0-clause-goes g c =
 -- some were
 pub returns-clause-goes : goal.returns-clause-goes
 returns-clause-goes g c =
-    let goes = c.in-Some.ensures.goes in
+    let goes = c.in-Some.ensures.goes c.args.victims.now c.requires.obeying in
     (goes.0, goes.1, (let more = goes.2 in let some = c.if-made-eq0.false in omega (arith, more, some)))

@@ -77,4 +77,4 @@ returns-clause-goes g c =
     c.rest.new.self c.make.new.pace c.next_act.new.victims c.in-Some.act a c.make.result c.way_of.result c.way_of.ensures
     (grows_parked c.args.plan.now c.args.limits k own (deeds_of_processor p) r.obeying.past (g.W.Watch.told c.args.watch.now) (g.W.Watch.told c.hear.new.watch) c.parked_at.result idle r.rests event
     (c.hear.ensures.heard c.if-not-hear.false))
-    (λ taken. c.make.ensures.obeys taken a) c.make.ensures.quits
+    (λ taken. c.make.ensures.obeys taken c.args.plan.now c.next_act.new.victims a) c.make.ensures.quits
