@@ -149,7 +149,8 @@ fn run_over<W: Watch, R: Threads + Wait + Sync>(
 
 /// Runs each processor of a table on a thread of its own until it is done, or leaves where the
 /// limits say so, and closes the table. There is a watcher for each processor, and the plan is for
-/// as many. `Err` where memory is refused, or by a watcher. It may never return.
+/// as many. `Err` where memory is refused, or by a watcher, whose processor quits then. It may never
+/// return.
 pub fn drive<W: Watch, R: Threads + Wait + Sync>(
     rt: &R,
     alloc: Global,
