@@ -1,5 +1,5 @@
 -- A pace behind an act.
-use Rattle.std.proofs.Common.{◌≡◌, ℕ, ◌+◌, ◌^◌, min, Bool, true, false, if◌then◌else◌, arith, ◌∙◌, ap}
+use Rattle.std.proofs.Common.{◌≡◌, ℕ, ◌+◌, ◌==◌, ◌^◌, min, Bool, true, false, if◌then◌else◌, arith, ◌∙◌, ap}
 use Rattle.ppm_plan.specs.Schedules.{Planned}
 use Rattle.ppm_step.specs.declared.turn.Next.{Next}
 use Rattle.ppm_step.specs.Standings.{Standing}
@@ -8,7 +8,7 @@ use Rattle.ppm_choice.specs.declared.limits.Limits.{Limits}
 use Rattle.ppm_choice.specs.declared.pace.Pace.{Pace}
 use Rattle.ppm_choice.specs.Deeds.{Deed}
 use Rattle.ppm_choice.specs.Obeying.{Past, behind, is_work_deed}
-use Rattle.ppm_choice.specs.Paces.{IsPace}
+use Rattle.ppm_choice.specs.Paces.{IsPace, looks_along}
 
 -- one more, up to the most
 one_more : (n most a : ℕ) → a ≡ min n most → min (a + 1) most ≡ min (n + 1) most
@@ -28,8 +28,13 @@ so_many_more n m steps most a b e f g = omega (arith, e, f, g)
 same_work : (n m work a : ℕ) → a ≡ n → m ≡ n + work → a + work ≡ m
 same_work n m work a e f = omega (arith, e, f)
 
-no_looks : (looks most : ℕ) → looks ≡ 0 → 0 ≡ min looks most
-no_looks looks most e = omega (arith, e)
+further_looks : (n m a b work looks most : ℕ) → a ≡ min n most → b ≡ min (looks_along a work looks) most → m ≡ looks_along n work looks
+    → b ≡ min m most
+further_looks n m a b work looks most e f g = by (work == 0) f g
+  where
+    by : (z : Bool) → b ≡ min (if z then a + looks else looks) most → m ≡ (if z then n + looks else looks) → b ≡ min m most
+    by true f g = omega (arith, e, f, g)
+    by false f g = omega (arith, f, g)
 
 -- behind an act
 pub counted : (plan : Planned) (limits : Limits) (past : Past) (deed : Deed) (stands : Standing) (old : Pace) (acts work looks : ℕ) (w : Bool)
@@ -50,16 +55,17 @@ counted plan limits past deed stands old acts work looks w next due acts_are wor
 }
 
 -- behind steps in a row
-pub steps_counted : (plan : Planned) (limits : Limits) (past past' : Past) (stood stands : Standing) (old : Pace) (acts steps work : ℕ)
-    (next : Next) (due : Bool) → acts ≡ min (old.acts + steps) (2 ^ 32) → IsPace plan limits past stood old
-    → past'.acts ≡ past.acts + steps → past'.work ≡ past.work + work → past'.looks ≡ 0 → next ≡ next_of stands → due ≡ seeks_holder stands
+pub steps_counted : (plan : Planned) (limits : Limits) (past past' : Past) (stood stands : Standing) (old : Pace) (acts steps work looks further : ℕ)
+    (next : Next) (due : Bool) → acts ≡ min (old.acts + steps) (2 ^ 32) → looks ≡ min (looks_along old.looks work further) limits.looks
+    → IsPace plan limits past stood old → past'.acts ≡ past.acts + steps → past'.work ≡ past.work + work
+    → past'.looks ≡ looks_along past.looks work further → next ≡ next_of stands → due ≡ seeks_holder stands
     → IsPace plan limits past' stands
-    (record { processor = old.processor; keeper = old.keeper; acts = acts; work = old.work + work; looks = 0; next = next; due = due })
-steps_counted plan limits past past' stood stands old acts steps work next due acts_are p acts' work' looks' next_is due_is = record {
+    (record { processor = old.processor; keeper = old.keeper; acts = acts; work = old.work + work; looks = looks; next = next; due = due })
+steps_counted plan limits past past' stood stands old acts steps work looks further next due acts_are looks_are p acts' work' looks' next_is due_is = record {
   keeper = p.keeper;
   acts = so_many_more past.acts past'.acts steps (2 ^ 32) old.acts acts p.acts acts_are acts';
   work = same_work past.work past'.work work old.work p.work work';
-  looks = no_looks past'.looks limits.looks looks';
+  looks = further_looks past.looks past'.looks old.looks looks work further limits.looks p.looks looks_are looks';
   next = next_is;
   due = due_is;
 }

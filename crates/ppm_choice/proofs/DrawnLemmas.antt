@@ -36,7 +36,7 @@ all_below p some (w ∷ words) zero = mod_below w p some
 all_below p some (w ∷ words) (suc j) = all_below p some words j
 
 module _ (plan : Planned) (limits : Limits) (c : ℕ) (past : Past) where
-  victim_below : 0 < plan.processors → next_victim plan limits c past < plan.processors
+  pub victim_below : 0 < plan.processors → next_victim plan limits c past < plan.processors
   victim_below some = all_below plan.processors some _ past.drawn
 
   act_among : 0 < plan.processors → (f : Option Fault) (work due : Bool)

@@ -22,9 +22,9 @@ module _ (plan : Planned) (limits : Limits) where
   HasDrawn processor past victims =
       (k : ℕ) → next_victims victims k ≡ drop past.drawn (victims_of limits.seed processor plan.processors (past.drawn + k))
 
-  -- none where the processor rests, else its next act, behind which so many victims are drawn
+  -- none where the processor rests, and no victim is drawn; else its next act, behind which so many are drawn
   abbrev pub IsNext : (processor : ℕ) → Past → Standing → Drawing → Option Act → Type 0
-  IsNext processor past stood victims None = Rests plan limits processor past stood
+  IsNext processor past stood victims None = Rests plan limits processor past stood × HasDrawn processor past victims
   IsNext processor past stood victims (Some act) =
       (¬ Rests plan limits processor past stood)
       × (act ≡ next_act plan limits processor past stood)

@@ -1,5 +1,5 @@
 -- The pace of a processor as its past says it, and what is chosen by it.
-use Rattle.std.specs.Prelude.{◌≡◌, ◌↔◌, ◌<◌, ℕ, ◌+◌, ◌^◌, ◌&&◌, not, nat_le, min, if◌then◌else◌, IsTrue, true, false, Option, Some, None}
+use Rattle.std.specs.Prelude.{◌≡◌, ◌↔◌, ◌<◌, ℕ, ◌+◌, ◌==◌, ◌^◌, ◌&&◌, not, nat_le, min, if◌then◌else◌, IsTrue, true, false, Option, Some, None}
 use Rattle.ppm_plan.specs.declared.fault.Fault.{Fault}
 use Rattle.ppm_plan.specs.Forms.{plan_form}
 use Rattle.ppm_plan.specs.Refusals.{IsKeeper}
@@ -24,6 +24,10 @@ pub record IsPace (plan : Planned) (limits : Limits) (past : Past) (stood : Stan
   pub looks : pace.looks ≡ min past.looks limits.looks
   pub next : pace.next ≡ next_of stood
   pub due : pace.due ≡ seeks_holder stood
+
+-- the looks in a row behind steps in a row: so many looks more, or the first since the last work
+abbrev pub looks_along : (before work looks : ℕ) → ℕ
+looks_along before work looks = if work == 0 then before + looks else looks
 
 -- what a processor chooses: to leave where it rests, to draw where its next act is a step for which a victim is due, else its next act
 abbrev pub IsChoice : Planned → Limits → (processor : ℕ) → Past → Standing → Choice → Type 0

@@ -19,7 +19,7 @@ pub fn is_over(next: Next) -> bool
 }
 
 /// The next act of a processor, with the next of its victims where one is due; `None` where it
-/// leaves, or parks.
+/// leaves, or parks, and then no victim is drawn.
 pub fn next_act(pace: &Pace, victims: &mut Victims, plan: &Plan, limits: Limits) -> Option<Act>
     ensures { (past : Past) (stood : Standing) → IsPace plan.now limits past stood pace.now
         → HasDrawn plan.now limits pace.now.processor past victims.old

@@ -5,7 +5,7 @@ ghost use Rattle.ppm_step.specs.State.{next_of, seeks_holder};
 ghost use Rattle.ppm_plan.specs.Schedules.{Planned};
 ghost use Rattle.ppm_choice.specs.Deeds.{Deed};
 ghost use Rattle.ppm_choice.specs.Obeying.{Past, nothing_done, behind, rested, is_work_deed};
-ghost use Rattle.ppm_choice.specs.Paces.{IsPace};
+ghost use Rattle.ppm_choice.specs.Paces.{IsPace, looks_along};
 ghost use Rattle.ppm_choice.specs.declared.limits.Limits.{Limits};
 
 use crate::limits::Limits;
@@ -71,21 +71,30 @@ impl Pace {
         self.due = due;
     }
 
-    /// Behind so many steps in a row, of which so many were work, and the last was; a victim is due
-    /// for the coming step or is not. With them there were fewer than 2^63 work turns.
-    pub fn count_steps(&mut self, steps: u64, work: u64, next: Next, due: bool)
+    /// Behind so many steps in a row: so many of them were work, and so many were looks since the
+    /// last of these, or in all where none was; a victim is due for the coming step or is not. With
+    /// them there were fewer than 2^63 work turns.
+    pub fn count_steps(
+        &mut self,
+        limits: Limits,
+        steps: u64,
+        work: u64,
+        looks: u64,
+        next: Next,
+        due: bool,
+    )
         requires few { self.old.work + work < 2 ^ 63 }
         ensures number { self.new.processor ≡ self.old.processor }
         ensures work { self.new.work ≡ self.old.work + work }
-        ensures pace { (plan : Planned) (limits : Limits) (past past' : Past) (stood stands : Standing)
+        ensures pace { (plan : Planned) (past past' : Past) (stood stands : Standing)
             → IsPace plan limits past stood self.old → past'.acts ≡ past.acts + steps
-            → past'.work ≡ past.work + work
-            → past'.looks ≡ 0 → next ≡ next_of stands → due ≡ seeks_holder stands
+            → past'.work ≡ past.work + work → past'.looks ≡ looks_along past.looks work looks
+            → next ≡ next_of stands → due ≡ seeks_holder stands
             → IsPace plan limits past' stands self.new }
     {
         self.acts = more(self.acts, steps, MOST_ACTS);
+        self.looks = looks_along(self.looks, limits.looks, work, looks);
         self.work += work;
-        self.looks = 0;
         self.next = next;
         self.due = due;
     }
@@ -128,6 +137,28 @@ fn looks_behind(looks: u32, most: u32, is_work: bool) -> u32
         0
     } else if looks < most {
         looks + 1
+    } else {
+        most
+    }
+}
+
+/// The looks in a row behind steps in a row, up to the most.
+fn looks_along(looks: u32, most: u32, work: u64, further: u64) -> u32
+    ensures { result ≡ min (looks_along looks work further) most }
+{
+    if work == 0 {
+        looks_more(looks, most, further)
+    } else {
+        looks_more(0, most, further)
+    }
+}
+
+/// So many looks more, up to the most.
+fn looks_more(looks: u32, most: u32, further: u64) -> u32
+    ensures { result ≡ min (looks + further) most }
+{
+    if looks < most && further < u64::from(most - looks) {
+        looks + further as u32
     } else {
         most
     }

@@ -154,9 +154,13 @@ fn paces_count(rt: HostRuntime) -> Result<(), Fail> {
         assert_eq!(&rt; (pace.acts, pace.work, pace.looks), counts);
     }
     if pace.work < 100 {
-        pace.count_steps(1000, 400, Next::Seek, true);
+        pace.count_steps(LIMITS, 1000, 400, 2, Next::Seek, true);
     }
     let counts = (pace.acts, pace.work, pace.looks, pace.next, pace.due);
-    assert!(&rt; counts == (1007, 402, 0, Next::Seek, true));
+    assert!(&rt; counts == (1007, 402, 2, Next::Seek, true));
+    if pace.work < 1000 {
+        pace.count_steps(LIMITS, 9, 0, 9, Next::Look, false);
+    }
+    assert_eq!(&rt; (pace.acts, pace.work, pace.looks), (1016, 402, 3));
     Ok(())
 }

@@ -1,5 +1,6 @@
 -- A processor behind a turn.
-use Rattle.std.proofs.Common.{◌≡◌, ◌≢◌, ◌∙◌, ℕ, Bool, true, false, Option, Some, List, [], ◌∷◌, ◌++◌, refl, sym, ap, subst, append_assoc}
+use Rattle.std.proofs.Common.{◌≡◌, ◌≢◌, ◌∙◌, ◌⊎◌, inl, inr, ◌<◌, ℕ, ◌+◌, Bool, true, false, Option, Some, None, List, [], ◌∷◌, ◌++◌, length, arith, refl, sym, ap, subst}
+use Rattle.std.proofs.lemmas.List.{length-append}
 use Rattle.ppm_cells.specs.declared.shape.Shape.{Shape}
 use Rattle.ppm_code.specs.declared.code.CodeParts.{CodeParts}
 use Rattle.ppm_plan.specs.Draws.{Drawing}
@@ -11,27 +12,30 @@ use Rattle.ppm_step.specs.declared.ask.Want.TheVariants.{Loads, Stores, Exchange
 use Rattle.ppm_step.specs.declared.turn.Act.{Act}
 use Rattle.ppm_step.specs.declared.turn.Act.TheVariants.{Step, Soft, Hard, Quit}
 use Rattle.ppm_step.specs.declared.turn.Told.{Told}
+use Rattle.ppm_step.specs.declared.turn.Why.TheVariants.{Watch}
 use Rattle.ppm_step.specs.Locals.{standing_of}
-use Rattle.ppm_step.specs.Standings.{Standing, IsLost, IsDone}
+use Rattle.ppm_step.specs.Standings.{Standing, IsLost, IsPlaced, IsAt, IsWithin, IsRunning, IsBroken, IsDone}
 use Rattle.ppm_step.specs.State.{want_of, next_of, seeks_holder}
 use Rattle.ppm_step.specs.Told.{place_of}
 use Rattle.ppm_choice.specs.declared.limits.Limits.{Limits}
 use Rattle.ppm_choice.specs.declared.pace.Pace.{Pace}
 use Rattle.ppm_choice.specs.Deeds.{Deed as Acted}
-use Rattle.ppm_choice.specs.Obeying.{Past, behind as past_behind, awake, is_work_deed}
+use Rattle.ppm_choice.specs.Drawn.{HasDrawn, IsNext}
+use Rattle.ppm_choice.specs.Obeying.{Past, behind as past_behind, awake, is_work_deed, next_act}
 use Rattle.ppm_choice.specs.Paces.{IsPace}
 use Rattle.ppm_table.specs.declared.processor.Processor.{Processor}
 use Rattle.ppm_table.specs.declared.processor.Shared.{Shared}
 use Rattle.ppm_table.specs.declared.view.Deed.{Deed}
 use Rattle.ppm_table.specs.declared.view.Opening.{Opening}
-use Rattle.ppm_table.specs.Events.{event_found, act_found, HasActed}
-use Rattle.ppm_table.specs.Run.{act_by, behind, stood, stands_by, deeds_in, deed_by, deed_of, Mine, IsActAt}
+use Rattle.ppm_table.specs.Events.{event_found, act_found, HasActed, HasRested}
+use Rattle.ppm_table.specs.Run.{act_by, stands_by, deeds_in, deed_by, deed_of, Mine, IsActAt}
 use Rattle.ppm_threads.specs.declared.way.Way.{Way}
 use Rattle.ppm_table.specs.Shown.{IsOf, deeds_of_processor, opening_of}
-use Rattle.ppm_table.specs.Telling.{event_of_deed, shown, shown_by, Shows}
+use Rattle.ppm_table.specs.Telling.{event_of_deed}
 use Rattle.ppm_table.proofs.TellingLemmas.{appended}
-use Rattle.ppm_threads.specs.Going.{HasDrawn, IsNext, Grows, Obeying, Acting, told_so_far, told_of_deeds, GoesOn, way_of}
-use Rattle.ppm_threads.proofs.GoingLemmas.{work_is, act_told, obeying_more, grows_more}
+use Rattle.ppm_threads.specs.Going.{Grows, KeepsMore, HasQuit, Obeying, Acting, told_so_far, told_of_deeds, GoesOn, way_of}
+use Rattle.ppm_threads.proofs.DrawnLemmas.{is_act_at}
+use Rattle.ppm_threads.proofs.GoingLemmas.{act_told, obeying_more, grows_more}
 
 -- the next act of a processor on its way
 pub next_own : (plan : Planned) (limits : Limits) (k : Opening) (own : ℕ) (deeds : List Deed) (pace : Pace) (victims victims' : Drawing) (act : Option Act) → (o : Obeying plan limits k own deeds pace victims)
@@ -40,6 +44,41 @@ pub next_own : (plan : Planned) (limits : Limits) (k : Opening) (own : ℕ) (dee
 next_own plan limits k own deeds pace victims victims' act o next =
     subst (λ (c : ℕ). IsNext plan limits c o.past (stands_by k own deeds) victims' act) o.number
     (next o.past (stands_by k own deeds) o.pace_is (subst (λ (c : ℕ). HasDrawn plan limits c o.past victims) (sym o.number) o.drawn))
+
+-- it names a processor as its victim, and 0 where none is due
+pub may_act : (s : Shared) (p : Processor) (plan : Planned) (limits : Limits) (past : Past) (act : Act) → IsOf s p → plan.processors ≡ s.shape.processors
+    → act ≡ next_act plan limits p.local.own past (stands_by (opening_of s) p.local.own (deeds_of_processor p))
+    → IsActAt s.shape (standing_of s.shape s.code p.local) act
+may_act s p plan limits past act of same is =
+    let st : Standing = standing_of s.shape s.code p.local in
+    let own = of.holds.own in
+    let some : 0 < plan.processors = omega (arith, own, same) in
+    subst (λ (a : Act). IsActAt s.shape st a) (sym is)
+    (subst (λ (x : Standing). IsActAt s.shape st (next_act plan limits p.local.own past x)) of.stands
+    (is_act_at plan limits p.local.own past s.shape st same some))
+
+-- a processor whose watcher has refused quits for that, if it isn't done
+done_or : (st : Standing) → (st ≡ IsDone) ⊎ (st ≢ IsDone)
+done_or IsDone = inl refl
+done_or IsLost = inr (λ e. cc)
+done_or (IsPlaced place) = inr (λ e. cc)
+done_or (IsAt place restart) = inr (λ e. cc)
+done_or (IsWithin seat row) = inr (λ e. cc)
+done_or (IsRunning seat rest) = inr (λ e. cc)
+done_or (IsBroken place) = inr (λ e. cc)
+
+pub has_quit : (s : Shared) (p q : Processor) (told : Told) → IsOf s q → q.local.own ≡ p.local.own
+    → (standing_of s.shape s.code p.local ≢ IsDone
+    → HasActed s.shape s.code p.local.own (Quit Watch) (standing_of s.shape s.code p.local) (standing_of s.shape s.code q.local) (deeds_of_processor p) (deeds_of_processor q) told)
+    → (standing_of s.shape s.code p.local ≡ IsDone
+    → HasRested (standing_of s.shape s.code p.local) (standing_of s.shape s.code q.local) (deeds_of_processor p) (deeds_of_processor q) told)
+    → HasQuit (opening_of s) p.local.own (deeds_of_processor q)
+has_quit s p q told of same acted rested = by (done_or (standing_of s.shape s.code p.local))
+  where
+    by : (standing_of s.shape s.code p.local ≡ IsDone) ⊎ (standing_of s.shape s.code p.local ≢ IsDone) → HasQuit (opening_of s) p.local.own (deeds_of_processor q)
+    by (inl done) =
+        inl (sym (of.stands ∙ ap (λ (c : ℕ). stands_by (opening_of s) c (deeds_of_processor q)) same) ∙ (rested done).stands ∙ done)
+    by (inr lives) = inr (deeds_of_processor p, (acted lives).deed)
 
 -- the event of a turn is that of its deed
 step_says : (s : Shape) (own found : ℕ) (st : Standing) (want : Want) → event_found (place_of st) want found ≡ event_of_deed s own st (deed_by want found)
@@ -57,6 +96,10 @@ act_says s code own found st (Quit why) = refl
 
 some_event : (a b : Event) → Some a ≡ Some b → a ≡ b
 some_event a b e = cc
+
+-- and there is one
+pub some_told : (e : Event) → Some e ≡ None → ⊥
+some_told e is = cc
 
 module _ (s : Shared) (p q : Processor) (act : Act) (told : Told) (of : IsOf s p) (of' : IsOf s q) (same : q.local.own ≡ p.local.own)
     (acted : HasActed s.shape s.code p.local.own act (standing_of s.shape s.code p.local) (standing_of s.shape s.code q.local) (deeds_of_processor p) (deeds_of_processor q) told)
@@ -89,11 +132,14 @@ module _ (s : Shared) (p q : Processor) (act : Act) (told : Told) (of : IsOf s p
       → Obeying plan limits k own (deeds_of_processor q) pace' victims
   acts_obey plan limits pace pace' victims due a number is_due counts =
       let one : Acted = record { stood = stands_by k own (deeds_of_processor p); act = act } in
-      let works : told.work ≡ is_work_deed one =
-      acted.work ∙ work_is s.shape s.code act st ∙ ap (λ (x : Standing). is_work_deed (record { stood = x; act = act })) of.stands in
+      let works : told.work ≡ is_work_deed one = acted.work ∙ ap (λ (x : Standing). is_work_deed (record { stood = x; act = act })) of.stands in
       obeying_more plan limits k own (deeds_of_processor p) (deeds_of_processor q) deed act pace victims a acted.deed tells pace' number
       (counts plan (awake plan limits own a.past (stands_by k own (deeds_of_processor p))) one (stands_by k own (deeds_of_processor q)) a.pace_is works
       (acted.next ∙ ap next_of stands') (is_due ∙ ap seeks_holder stands'))
+
+  -- it has made one act more
+  pub acts_more : KeepsMore 1 p.seat.me q.seat.me
+  acts_more = ap (λ (l : List Deed). length l) acted.deed ∙ length-append (deeds_of_processor p) (deed ∷ [])
 
   -- and its watcher was told of it
   pub acts_grow : (plan : Planned) (limits : Limits) (pace : Pace) (victims : Drawing) (before now : Option (List Event)) (event : Event)
@@ -107,17 +153,18 @@ module _ (s : Shared) (p q : Processor) (act : Act) (told : Told) (of : IsOf s p
       (λ list e. appended before now event list heard e ∙ ap (λ (x : Event). Some (list ++ x ∷ [])) event_is)
 
 -- where a processor goes behind an act that its watcher took, or refused
-pub goes_by_act : (plan : Planned) (limits : Limits) (k : Opening) (own : ℕ) (before now first : Option (List Event)) (me me' : Mine) (pace pace' : Pace) (victims : Drawing) (act : Act)
+pub goes_by_act : (plan : Planned) (limits : Limits) (k : Opening) (own : ℕ) (before first now : Option (List Event)) (me me' : Mine) (pace pace' : Pace) (victims : Drawing) (act : Act)
     → (a : Acting plan limits k own (deeds_in me.0) pace victims act) → (taken : Bool) (way : Way) → way ≡ way_of taken
     → Grows before first (told_of_deeds plan limits k own (deeds_in me.0)) (told_so_far plan limits k own (deeds_in me.0) a.past)
     → (taken ≡ true → Obeying plan limits k own (deeds_in me'.0) pace' victims
-    × Grows first now (told_so_far plan limits k own (deeds_in me.0) a.past) (told_of_deeds plan limits k own (deeds_in me'.0)))
+    × Grows first now (told_so_far plan limits k own (deeds_in me.0) a.past) (told_of_deeds plan limits k own (deeds_in me'.0)) × KeepsMore 1 me me')
+    → (taken ≡ false → HasQuit k own (deeds_in me'.0))
     → GoesOn plan limits k own before now me me' pace' victims way
-goes_by_act plan limits k own before now first me me' pace pace' victims act a taken way is grew obeys =
-    subst (λ (w : Way). GoesOn plan limits k own before now me me' pace' victims w) (sym is) (by taken obeys)
+goes_by_act plan limits k own before first now me me' pace pace' victims act a taken way is grew obeys quits =
+    subst (λ (w : Way). GoesOn plan limits k own before now me me' pace' victims w) (sym is) (by taken obeys quits)
   where
     by : (b : Bool) → (b ≡ true → Obeying plan limits k own (deeds_in me'.0) pace' victims
-        × Grows first now (told_so_far plan limits k own (deeds_in me.0) a.past) (told_of_deeds plan limits k own (deeds_in me'.0)))
-        → GoesOn plan limits k own before now me me' pace' victims (way_of b)
-    by true obeys = let o = obeys refl in (o.0, λ list e. o.1 list (grew list e))
-    by false obeys = tt
+        × Grows first now (told_so_far plan limits k own (deeds_in me.0) a.past) (told_of_deeds plan limits k own (deeds_in me'.0)) × KeepsMore 1 me me')
+        → (b ≡ false → HasQuit k own (deeds_in me'.0)) → GoesOn plan limits k own before now me me' pace' victims (way_of b)
+    by true obeys quits = let o = obeys refl in let one = o.2 in (o.0, λ list e. o.1 list (grew list e), omega (arith, one))
+    by false obeys quits = quits refl

@@ -1,13 +1,11 @@
 -- Turns by which all processors obey name processors of the machine alone.
-use Rattle.std.proofs.Common.{◌≡◌, ◌≢◌, ◌∙◌, ◌<◌, ◌≤◌, ℕ, zero, suc, ◌==◌, Bool, true, false, if◌then◌else◌, List, [], ◌∷◌, ◌++◌, length, refl, sym, ap, subst, arith, eq-eqb}
+use Rattle.std.proofs.Common.{◌≡◌, ◌≢◌, ◌∙◌, ◌<◌, ℕ, zero, suc, ◌==◌, Bool, true, false, if◌then◌else◌, List, [], ◌∷◌, ◌++◌, length, refl, sym, subst, arith, eq-eqb}
 use Rattle.std.specs.Prelude.{slice_get}
 use Rattle.std.specs.List.{All}
 use Rattle.std.proofs.lemmas.List.Elements.{All-cons, All-nil}
 use Rattle.ppm_cells.specs.declared.shape.Shape.{Shape}
 use Rattle.ppm_code.specs.declared.code.CodeParts.{CodeParts}
 use Rattle.ppm_plan.specs.Schedules.{Planned}
-use Rattle.ppm_step.specs.declared.turn.Act.{Act}
-use Rattle.ppm_step.specs.declared.turn.Act.TheVariants.{Step, Soft, Hard, Quit}
 use Rattle.ppm_step.specs.declared.turn.Turn.{Turn}
 use Rattle.ppm_step.specs.Among.{IsActAmong, IsTurnAmong}
 use Rattle.ppm_step.specs.Standings.{Standing, IsDone}
@@ -15,15 +13,9 @@ use Rattle.ppm_step.specs.State.{State, stand_in, stand_of, happens}
 use Rattle.ppm_choice.specs.declared.limits.Limits.{Limits}
 use Rattle.ppm_choice.specs.Deeds.{Deed as Acted, deeds_of as acts_in}
 use Rattle.ppm_choice.specs.Obeying.{Past, behind as past_behind, awake, Obeys}
-use Rattle.ppm_table.specs.Run.{IsActAt, AllTold}
+use Rattle.ppm_choice.proofs.DrawnLemmas.{is_among}
+use Rattle.ppm_table.specs.Run.{AllTold}
 use Rattle.ppm_table.proofs.RunLemmas.{length_stays}
-use Rattle.ppm_threads.proofs.DrawnLemmas.{is_act_at}
-
-among_act : (s : Shape) (stood : Standing) (act : Act) → IsActAt s stood act → IsActAmong s.processors act
-among_act s stood (Step victim) may = may.0
-among_act s stood Soft may = tt
-among_act s stood Hard may = tt
-among_act s stood (Quit why) may = tt
 
 -- one that isn't done is there
 pub live_below : (l : List Standing) (c : ℕ) → stand_in (slice_get l c) ≢ IsDone → c < length l
@@ -53,7 +45,7 @@ module _ (plan : Planned) (limits : Limits) (s : Shape) (code : CodeParts) (same
       let deed : Acted = record { stood = stand_of state c; act = turn.act } in
       let h : Obeys plan limits c past ((if true then deed ∷ [] else []) ++ acts_in s code c (happens s code state turn) turns) stands =
       subst (λ (b : Bool). Obeys plan limits c past ((if b then deed ∷ [] else []) ++ acts_in s code c (happens s code state turn) turns) stands) (eq-eqb c c refl) o in
-      among_act s (stand_of state c) turn.act (subst (IsActAt s (stand_of state c)) (sym h.1) (is_act_at plan limits c past s (stand_of state c) same some))
+      subst (λ n. IsActAmong n turn.act) same (subst (IsActAmong plan.processors) (sym h.1) (is_among plan limits c past (stand_of state c) some))
 
   pub are_among : (state last : State) (turns : List Turn) → length state.stand ≡ s.processors → AllTold s code state turns → EachObeys state turns last
       → All (IsTurnAmong s.processors) turns

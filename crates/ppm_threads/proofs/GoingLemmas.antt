@@ -1,14 +1,13 @@
 -- A processor on its way, some acts further.
 use Rattle.std.proofs.Common.{◌≡◌, ◌≢◌, ◌∙◌, ◌≤◌, ◌<◌, ◌+◌, ◌⊎◌, inl, inr, ℕ, zero, suc, Bool, true, false, if◌then◌else◌, Option, Some, None, List, [], ◌∷◌, ◌++◌, length, drop, arith, refl, sym, ap, subst, append_assoc, append-nil}
 use Rattle.std.proofs.lemmas.Bool.{cases_Bool}
+use Rattle.std.proofs.lemmas.List.{length-append}
 use Rattle.ppm_cells.specs.declared.shape.Shape.{Shape}
-use Rattle.ppm_cells.specs.declared.restart.RestartKind.{RestartKind}
-use Rattle.ppm_cells.specs.declared.restart.RestartKind.TheVariants as kinds
 use Rattle.ppm_code.specs.declared.code.CodeParts.{CodeParts}
 use Rattle.ppm_words.specs.declared.event.Event.{Event}
-use Rattle.ppm_ports.specs.Told.{AppendsList}
 use Rattle.ppm_words.specs.declared.idle.Idle.{Idle}
 use Rattle.ppm_words.specs.declared.idle.Idle.TheVariants.{Leave, Park}
+use Rattle.ppm_ports.specs.Told.{AppendsList}
 use Rattle.ppm_plan.specs.Draws.{Drawing, victims_of, next_victims}
 use Rattle.ppm_plan.specs.Schedules.{Planned}
 use Rattle.ppm_step.specs.declared.local.Local.{Local}
@@ -17,57 +16,31 @@ use Rattle.ppm_step.specs.declared.turn.Act.TheVariants.{Step, Soft, Hard, Quit}
 use Rattle.ppm_step.specs.declared.turn.Next.{Next}
 use Rattle.ppm_step.specs.declared.turn.Next.TheVariants.{Work, Look, Seek, Done}
 use Rattle.ppm_step.specs.Locals.{IsLocal, standing_of}
-use Rattle.ppm_step.specs.Standings.{Standing, IsLost, IsAt, IsWithin, IsDone}
-use Rattle.ppm_step.specs.State.{want_of, next_of, before_kind, is_work as is_work_kind}
-use Rattle.ppm_step.specs.Told.{is_work_next, is_work_turn}
+use Rattle.ppm_step.specs.Standings.{Standing, IsLost, IsDone}
+use Rattle.ppm_step.specs.State.{want_of, next_of, is_work_next as is_work}
 use Rattle.ppm_choice.specs.declared.limits.Limits.{Limits}
 use Rattle.ppm_choice.specs.declared.pace.Pace.{Pace}
 use Rattle.ppm_choice.specs.Deeds.{Deed as Acted}
-use Rattle.ppm_choice.specs.Obeying.{Past, nothing_done, behind as past_behind, is_work, is_work_deed, fault_of, rested, is_park, parks, awake, Rests, Stops, Obeys}
+use Rattle.ppm_choice.specs.Drawn.{HasDrawn, IsNext, is_over}
+use Rattle.ppm_choice.specs.Obeying.{Past, nothing_done, behind as past_behind, fault_of, rested, is_park, parks, awake, Rests, Stops, Obeys}
 use Rattle.ppm_choice.specs.Paces.{IsPace, AreClear}
 use Rattle.ppm_choice.specs.Tells.{parked, told_before, told_from}
+use Rattle.ppm_choice.proofs.OverLemmas.{done_is}
 use Rattle.ppm_choice.proofs.ParkLemmas.{parks_rests, parks_where_it_rests, stays_awake}
 use Rattle.ppm_choice.proofs.StepsLemmas.{next_is_step}
 use Rattle.ppm_table.specs.declared.view.Deed.{Deed}
 use Rattle.ppm_table.specs.declared.view.Opening.{Opening}
 use Rattle.ppm_table.specs.Run.{act_by, behind, stood, stands_by, deeds_in, deed_of, Mine, IsActAt}
 use Rattle.ppm_table.specs.Telling.{event_of_deed, shown, shown_by, Shows}
-use Rattle.ppm_stretch.specs.Steady.{AreSteady, work_in, looks_in, looks_behind, Goes}
 use Rattle.ppm_table.proofs.StandLemmas.{step_told}
 use Rattle.ppm_table.proofs.AskedLemmas.{asked}
 use Rattle.ppm_table.proofs.TellingLemmas.{appended, shown_both, since_is}
-use Rattle.ppm_threads.specs.Going.{is_over, acted, acts_of, Grows, HasDrawn, IsNext, told_of_deeds, told_so_far, Follows, Obeying, Resting, Acting, OwnObeys}
-
--- whether a step is work
-next_works : (s : Shape) (code : CodeParts) (next : Next) → is_work_next s code next ≡ is_work next
-next_works s code Work = refl
-next_works s code Look = refl
-next_works s code Seek = refl
-next_works s code Done = refl
-
-pub work_is : (s : Shape) (code : CodeParts) (act : Act) (stood : Standing)
-    → is_work_turn s code act stood ≡ is_work_deed (record { stood = stood; act = act })
-work_is s code (Step victim) stood = next_works s code (next_of stood)
-work_is s code Soft stood = refl
-work_is s code Hard stood = refl
-work_is s code (Quit why) stood = refl
+use Rattle.ppm_stretch.specs.Steady.{AreSteady, work_in, looks_in, looks_behind, Goes}
+use Rattle.ppm_threads.specs.declared.way.Way.{Way}
+use Rattle.ppm_threads.specs.declared.way.Way.TheVariants.{More, Over, Refused}
+use Rattle.ppm_threads.specs.Going.{acted, acts_of, Grows, KeepsMore, told_of_deeds, told_so_far, Follows, Obeying, Resting, Acting, OwnObeys, GoesOn}
 
 -- a processor whose coming step is none is done
-kind_goes : (kind : RestartKind) → before_kind kind ≡ Done → ⊥
-kind_goes kinds.Seek e = cc
-kind_goes kind e = cc
-
-step_goes : (work : Bool) → (if work then Work else Look) ≡ Done → ⊥
-step_goes true e = cc
-step_goes false e = cc
-
-pub done_is : (stood : Standing) → next_of stood ≡ Done → stood ≡ IsDone
-done_is IsDone e = refl
-done_is (IsAt place None) e = cc
-done_is (IsAt place (Some restart)) e = absurd (kind_goes restart.kind e)
-done_is (IsWithin seat row) e = absurd (step_goes (is_work_kind seat.restart.kind) e)
-done_is stood e = cc
-
 pub over_is : (next : Next) (stood : Standing) → is_over next ≡ true → next ≡ next_of stood → stood ≡ IsDone
 over_is Done stood e is = done_is stood (sym is)
 over_is Work stood e is = cc
@@ -102,23 +75,19 @@ module _ (s : Shape) (code : CodeParts) (own : ℕ) where
   along_acts past st [] = omega arith
   along_acts past st (d ∷ ds) = let hence = along_acts (past_behind past (record { stood = st; act = Step 0 })) (behind s code own st d) ds in omega (arith, hence)
 
-  one_work : (b c : Bool) (w r : ℕ) → b ≡ c → (if b then w + 1 else w) + r ≡ w + ((if c then 1 else 0) + r)
-  one_work true true w r e = omega arith
-  one_work false false w r e = omega arith
-  one_work true false w r e = cc
-  one_work false true w r e = cc
+  one_work : (b : Bool) (w r : ℕ) → (if b then w + 1 else w) + r ≡ w + ((if b then 1 else 0) + r)
+  one_work true w r = omega arith
+  one_work false w r = omega arith
 
   pub along_work : (past : Past) (st : Standing) (ds : List Deed) → (past_along past st ds).work ≡ past.work + work_in s code own st ds
   along_work past st [] = omega arith
   along_work past st (d ∷ ds) =
       along_work (past_behind past (record { stood = st; act = Step 0 })) (behind s code own st d) ds
-      ∙ one_work (is_work (next_of st)) (is_work_next s code (next_of st)) past.work (work_in s code own (behind s code own st d) ds) (sym (next_works s code (next_of st)))
+      ∙ one_work (is_work (next_of st)) past.work (work_in s code own (behind s code own st d) ds)
 
   pub along_looks : (past : Past) (st : Standing) (ds : List Deed) → (past_along past st ds).looks ≡ looks_in s code own past.looks st ds
   along_looks past st [] = refl
-  along_looks past st (d ∷ ds) =
-      along_looks (past_behind past (record { stood = st; act = Step 0 })) (behind s code own st d) ds
-      ∙ ap (λ (b : Bool). looks_in s code own (if b then 0 else past.looks + 1) (behind s code own st d) ds) (sym (next_works s code (next_of st)))
+  along_looks past st (d ∷ ds) = along_looks (past_behind past (record { stood = st; act = Step 0 })) (behind s code own st d) ds
 
   pub along_drawn : (past : Past) (st : Standing) (ds : List Deed) → AreSteady s code own st ds → (past_along past st ds).drawn ≡ past.drawn
   along_drawn past st [] all = refl
@@ -274,6 +243,31 @@ module _ (plan : Planned) (limits : Limits) (k : Opening) (own : ℕ) where
       shows (list ++ told) e
       ∙ ap (λ (l : List Deed). Some ((list ++ told) ++ shown k.shape k.code own st l)) (since_is me me' g.deeds g.more)
       ∙ ap (λ (l : List Event). Some l) (append_assoc list told (shown k.shape k.code own st g.deeds) ∙ ap (λ (l : List Event). list ++ l) (sym more))
+
+  pub more_along : (me me' : Mine) (made work looks : ℕ) → Goes k own me me' made work looks → KeepsMore made me me'
+  more_along me me' made work looks g =
+      let all = ap (λ (l : List Deed). length l) g.more in
+      let both = length-append (deeds_in me.0) g.deeds in
+      omega (arith, all, both, g.count)
+
+  -- behind none of them
+  no_deeds : (ds : List Deed) → length ds ≡ 0 → ds ≡ []
+  no_deeds [] e = refl
+  no_deeds (d ∷ ds) e = absurd (omega (arith, e))
+
+  pub obeying_still : (me me' : Mine) (pace : Pace) (victims : Drawing) (made work looks : ℕ) → Goes k own me me' made work looks → made ≡ 0
+      → Obeying plan limits k own (deeds_in me.0) pace victims → Obeying plan limits k own (deeds_in me'.0) pace victims
+  obeying_still me me' pace victims made work looks g none o =
+      let same : deeds_in me'.0 ≡ deeds_in me.0 =
+      g.more ∙ ap (λ (l : List Deed). deeds_in me.0 ++ l) (no_deeds g.deeds (g.count ∙ none)) ∙ append-nil (deeds_in me.0) in
+      subst (λ (l : List Deed). Obeying plan limits k own l pace victims) (sym same) o
+
+  pub goes_behind : (before first now : Option (List Event)) (me me' me'' : Mine) (pace : Pace) (victims : Drawing) (way : Way)
+      → Grows before first (told_of_deeds plan limits k own (deeds_in me.0)) (told_of_deeds plan limits k own (deeds_in me'.0)) → KeepsMore 0 me me'
+      → GoesOn plan limits k own first now me' me'' pace victims way → GoesOn plan limits k own before now me me'' pace victims way
+  goes_behind before first now me me' me'' pace victims More grew none g = (g.0, λ list e. g.1 list (grew list e), (let further = g.2 in omega (arith, none, further)))
+  goes_behind before first now me me' me'' pace victims Over grew none g = (g.0, λ list e. g.1 list (grew list e))
+  goes_behind before first now me me' me'' pace victims Refused grew none g = g
 
   -- it doesn't stop where a step is to come and it doesn't rest
   goes_further : (past : Past) (stood : Standing) → stood ≢ IsDone → ¬ Rests plan limits own past stood → ¬ Stops plan limits own past stood

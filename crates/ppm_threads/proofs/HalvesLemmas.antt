@@ -17,7 +17,7 @@ use Rattle.ppm_table.specs.Telling.{Keeps}
 use Rattle.ppm_table.proofs.RunLemmas.{lost_length}
 use Rattle.ppm_table.proofs.TellingLemmas.{keeps_still}
 use Rattle.ppm_threads.specs.Going.{OwnObeys, told_of_deeds}
-use Rattle.ppm_threads.specs.Driven.{AllBegin, Ends, AllEnd, AllKeep, Driven}
+use Rattle.ppm_threads.specs.Driven.{AllBegin, Ends, EndsAmong, AllEnd, AllKeep, Driven}
 use Rattle.ppm_threads.proofs.AmongLemmas.{are_among}
 use Rattle.ppm_threads.proofs.ClosingLemmas.{obeys_in, tells_run}
 
@@ -40,8 +40,12 @@ module _ {W : Type 0} (told : W → Option (List Event)) (plan : Planned) (limit
   abbrev TellsRun : List Turn → ℕ → Option (List Event) → Option (List Event) → Type 0
   TellsRun turns c before now = ObeysIn plan limits c k.shape k.code (start k) turns × AppendsList before now (told_in plan limits c k.shape k.code (start k) turns)
 
-  ends_weaken : (x y : Bool) → (y ≡ true → x ≡ true) → (p : Processor) (w : W) (q : Processor) (v : W) → Ends told plan limits s x p w q v → Ends told plan limits s y p w q v
-  ends_weaken x y f p w q v e = record { of = e.of; own = e.own; keeps = e.keeps; grows = λ h. e.grows (f h); obeys = λ h. e.obeys (f h) }
+  -- one among those that were all taken where it was
+  pub ends_among : (x : Bool) (p : Processor) (w : W) (q : Processor) (v : W) → Ends told plan limits s x p w q v → EndsAmong told plan limits s x p w q v
+  ends_among x p w q v e = record { taken = x; ends = e; among = λ h. h }
+
+  ends_weaken : (x y : Bool) → (y ≡ true → x ≡ true) → (p : Processor) (w : W) (q : Processor) (v : W) → EndsAmong told plan limits s x p w q v → EndsAmong told plan limits s y p w q v
+  ends_weaken x y f p w q v e = record { taken = e.taken; ends = e.ends; among = λ h. e.among (f h) }
 
   pub weaken : (x y : Bool) → (y ≡ true → x ≡ true) → (ps : List Processor) (ws : List W) (qs : List Processor) (vs : List W) → AllEnd told plan limits s x ps ws qs vs → AllEnd told plan limits s y ps ws qs vs
   weaken x y f [] ws [] vs h = h
@@ -83,7 +87,7 @@ module _ {W : Type 0} (told : W → Option (List Event)) (plan : Planned) (limit
   end_order x c (p ∷ ps) ws [] vs i h = absurd h
   end_order x c (p ∷ ps) [] (q ∷ qs) vs i h = absurd h
   end_order x c (p ∷ ps) (w ∷ ws) (q ∷ qs) [] i h = absurd h
-  end_order x c (p ∷ ps) (w ∷ ws) (q ∷ qs) (v ∷ vs) i h = (h.0.own ∙ i.0, h.0.of, end_order x (suc c) ps ws qs vs i.2 h.1)
+  end_order x c (p ∷ ps) (w ∷ ws) (q ∷ qs) (v ∷ vs) i h = (h.0.ends.own ∙ i.0, h.0.ends.of, end_order x (suc c) ps ws qs vs i.2 h.1)
 
   pub keep_still : (ws : List W) → AllKeep told ws ws
   keep_still ws j d = keeps_still told (get_or ws j d) (get_or ws j d) refl
@@ -98,7 +102,7 @@ module _ {W : Type 0} (told : W → Option (List Event)) (plan : Planned) (limit
   keep x (p ∷ ps) ws [] vs h = absurd h
   keep x (p ∷ ps) [] (q ∷ qs) vs h = absurd h
   keep x (p ∷ ps) (w ∷ ws) (q ∷ qs) [] h = absurd h
-  keep x (p ∷ ps) (w ∷ ws) (q ∷ qs) (v ∷ vs) h = keep_at w v ws vs h.0.keeps (keep x ps ws qs vs h.1)
+  keep x (p ∷ ps) (w ∷ ws) (q ∷ qs) (v ∷ vs) h = keep_at w v ws vs h.0.ends.keeps (keep x ps ws qs vs h.1)
 
   -- each processor obeys in the run, and its watcher was told its record
   told_at : (turns : List Turn) (c : ℕ) (ps : List Processor) (ws : List W) (qs : List Processor) (vs : List W) → AllTold k.shape k.code (start k) turns → InOrder s c ps → AllBegin s ps → AllIn k turns qs
@@ -109,13 +113,14 @@ module _ {W : Type 0} (told : W → Option (List Event)) (plan : Planned) (limit
   told_at turns c (p ∷ ps) (w ∷ ws) (q ∷ qs) [] all i n a h j d lt small = absurd h
   told_at turns c (p ∷ ps) (w ∷ ws) (q ∷ qs) (v ∷ vs) all i n a h zero d lt small =
       let e : p.local.own ≡ c + 0 = omega (arith, i.0) in
-      let f : q.local.own ≡ c + 0 = h.0.own ∙ e in
+      let f : q.local.own ≡ c + 0 = h.0.ends.own ∙ e in
+      let taken = h.0.among refl in
       let ds : deeds_of_processor q ≡ deeds_in_run k (c + 0) turns = a.0 ∙ ap (λ (m : ℕ). deeds_in_run k m turns) f in (
         obeys_in plan limits k (c + 0) turns small all
-            (subst (λ (l : List Deed). OwnObeys plan limits k (c + 0) l) ds (subst (λ (m : ℕ). OwnObeys plan limits k m (deeds_of_processor q)) e (h.0.obeys refl))),
+            (subst (λ (l : List Deed). OwnObeys plan limits k (c + 0) l) ds (subst (λ (m : ℕ). OwnObeys plan limits k m (deeds_of_processor q)) e (h.0.ends.obeys taken))),
         tells_run plan limits k (c + 0) turns small all (told w) (told v)
             (λ list known.
-            h.0.grows refl list (known ∙ ap (λ (l : List Event). Some l) (sym (append-nil list)) ∙ ap (λ (l : List Deed). Some (list ++ told_of_deeds plan limits k p.local.own l)) (sym n.0.1))
+            h.0.ends.grows taken list (known ∙ ap (λ (l : List Event). Some l) (sym (append-nil list)) ∙ ap (λ (l : List Deed). Some (list ++ told_of_deeds plan limits k p.local.own l)) (sym n.0.1))
             ∙ ap (λ (m : ℕ). Some (list ++ told_of_deeds plan limits k m (deeds_of_processor q))) e ∙ ap (λ (l : List Deed). Some (list ++ told_of_deeds plan limits k (c + 0) l)) ds),
       )
   told_at turns c (p ∷ ps) (w ∷ ws) (q ∷ qs) (v ∷ vs) all i n a h (suc j) d lt small =

@@ -1,5 +1,5 @@
 -- What is known after a drive.
-use Rattle.std.specs.Prelude.{◌≡◌, ◌≢◌, ℕ, ◌<◌, ◌≤◌, Bool, true, List, [], ◌∷◌, Option, Some, slice_index_or}
+use Rattle.std.specs.Prelude.{◌≡◌, ◌≢◌, ℕ, ◌<◌, ◌≤◌, Bool, true, false, List, [], ◌∷◌, Option, Some, slice_index_or}
 use Rattle.ppm_cells.specs.Finish.{finish_of}
 use Rattle.ppm_cells.specs.Memory.{read}
 use Rattle.ppm_cells.specs.declared.cell.Cell.TheVariants.{FinishWord}
@@ -17,7 +17,7 @@ use Rattle.ppm_table.specs.declared.view.Opening.{Opening}
 use Rattle.ppm_table.specs.Run.{start, behind_turns}
 use Rattle.ppm_table.specs.Shown.{IsOf, deeds_of_processor, opening_of}
 use Rattle.ppm_table.specs.Telling.{Keeps}
-use Rattle.ppm_threads.specs.Going.{Grows, OwnObeys, told_of_deeds}
+use Rattle.ppm_threads.specs.Going.{Grows, HasQuit, OwnObeys, told_of_deeds}
 
 -- a processor that has done nothing
 abbrev pub Begins : Shared → Processor → Type 0
@@ -33,7 +33,8 @@ module _ {W : Type 0} (told : W → Option (List Event)) where
   AllKeep old new = (j : ℕ) (d : W) → Keeps (told (slice_index_or old j d)) (told (slice_index_or new j d))
 
 module _ {W : Type 0} (told : W → Option (List Event)) (plan : Planned) (limits : Limits) where
-  -- a processor before and after, with its watcher: where that refused nothing, what the processor has done obeys, and it was told of it
+  -- a processor before and after, with its watcher: where that refused nothing, what the processor has done obeys, and it was told of it; where it
+  -- refused, the processor has quit
   pub record Ends (s : Shared) (taken : Bool) (p : Processor) (w : W) (q : Processor) (v : W) : Type 0 where
     pub of : IsOf s q
     pub own : q.local.own ≡ p.local.own
@@ -41,15 +42,22 @@ module _ {W : Type 0} (told : W → Option (List Event)) (plan : Planned) (limit
     pub grows : taken ≡ true → Grows (told w) (told v) (told_of_deeds plan limits (opening_of s) p.local.own (deeds_of_processor p))
         (told_of_deeds plan limits (opening_of s) p.local.own (deeds_of_processor q))
     pub obeys : taken ≡ true → OwnObeys plan limits (opening_of s) p.local.own (deeds_of_processor q)
+    pub quits : taken ≡ false → HasQuit (opening_of s) p.local.own (deeds_of_processor q)
 
-  -- the same of each; watchers behind the last processor stay
+  -- the same of one among several, whose watchers refused nothing where all was taken
+  pub record EndsAmong (s : Shared) (all_taken : Bool) (p : Processor) (w : W) (q : Processor) (v : W) : Type 0 where
+    pub taken : Bool
+    pub ends : Ends s taken p w q v
+    pub among : all_taken ≡ true → taken ≡ true
+
+  -- and of each; watchers behind the last processor stay
   abbrev pub AllEnd : Shared → Bool → List Processor → List W → List Processor → List W → Type 0
   AllEnd s taken [] ws [] vs = ws ≡ vs
   AllEnd s taken [] ws (q ∷ qs) vs = ⊥
   AllEnd s taken (p ∷ ps) ws [] vs = ⊥
   AllEnd s taken (p ∷ ps) [] (q ∷ qs) vs = ⊥
   AllEnd s taken (p ∷ ps) (w ∷ ws) (q ∷ qs) [] = ⊥
-  AllEnd s taken (p ∷ ps) (w ∷ ws) (q ∷ qs) (v ∷ vs) = Ends s taken p w q v × AllEnd s taken ps ws qs vs
+  AllEnd s taken (p ∷ ps) (w ∷ ws) (q ∷ qs) (v ∷ vs) = EndsAmong s taken p w q v × AllEnd s taken ps ws qs vs
 
   -- There is one run, behind which the words are these. Each processor obeys in it, and behind the list of its watcher stands what is told of it
   -- there: its record, and event 7 where it has parked. The other watchers stay.

@@ -1,31 +1,27 @@
 -- A processor on its way: what it has done obeys so far, and its watcher was told of it.
-use Rattle.std.specs.Prelude.{◌≡◌, ℕ, ◌+◌, Bool, true, false, List, [], ◌∷◌, ◌++◌, drop, Option, Some, None}
+use Rattle.std.specs.Prelude.{◌≡◌, ◌<◌, ◌⊎◌, ℕ, ◌+◌, Bool, true, false, List, [], ◌∷◌, ◌++◌, length, Option, Some, None}
 use Rattle.ppm_cells.specs.declared.shape.Shape.{Shape}
 use Rattle.ppm_code.specs.declared.code.CodeParts.{CodeParts}
 use Rattle.ppm_words.specs.declared.event.Event.{Event}
-use Rattle.ppm_plan.specs.Draws.{Drawing, victims_of, next_victims}
+use Rattle.ppm_plan.specs.Draws.{Drawing}
 use Rattle.ppm_plan.specs.Schedules.{Planned}
 use Rattle.ppm_step.specs.declared.turn.Act.{Act}
-use Rattle.ppm_step.specs.declared.turn.Next.{Next}
-use Rattle.ppm_step.specs.declared.turn.Next.TheVariants.{Done}
-use Rattle.ppm_step.specs.Standings.{Standing, IsLost}
+use Rattle.ppm_step.specs.declared.turn.Why.TheVariants.{Watch}
+use Rattle.ppm_step.specs.Standings.{Standing, IsLost, IsDone}
 use Rattle.ppm_choice.specs.declared.limits.Limits.{Limits}
 use Rattle.ppm_choice.specs.declared.pace.Pace.{Pace}
 use Rattle.ppm_choice.specs.Deeds.{Deed as Acted}
+use Rattle.ppm_choice.specs.Drawn.{HasDrawn}
 use Rattle.ppm_choice.specs.Obeying.{Past, nothing_done, next_act, behind as past_behind, awake, Rests, Stops, Obeys}
 use Rattle.ppm_choice.specs.Paces.{IsPace}
 use Rattle.ppm_choice.specs.Tells.{told_before, told_from}
 use Rattle.ppm_table.specs.declared.view.Deed.{Deed}
+use Rattle.ppm_table.specs.declared.view.Deed.TheVariants.{Quitted}
 use Rattle.ppm_table.specs.declared.view.Opening.{Opening}
 use Rattle.ppm_table.specs.Run.{act_by, behind, stands_by, deeds_in, Mine}
 use Rattle.ppm_table.specs.Telling.{shown_by}
 use Rattle.ppm_threads.specs.declared.way.Way.{Way}
 use Rattle.ppm_threads.specs.declared.way.Way.TheVariants.{More, Over, Refused}
-
--- whether no step is to come
-abbrev pub is_over : Next → Bool
-is_over Done = true
-is_over next = false
 
 -- the acts of deeds, each with where the processor stood
 abbrev pub acted : Shape → Standing → Deed → Acted
@@ -39,20 +35,15 @@ acts_of s code own standing (deed ∷ deeds) = acted s standing deed ∷ acts_of
 abbrev pub Grows : Option (List Event) → Option (List Event) → (old new : List Event) → Type 0
 Grows before now old new = (list : List Event) → before ≡ Some (list ++ old) → now ≡ Some (list ++ new)
 
+-- a seat keeps so many deeds more
+abbrev pub KeepsMore : (made : ℕ) → Mine → Mine → Type 0
+KeepsMore made me me' = length (deeds_in me'.0) ≡ length (deeds_in me.0) + made
+
+-- a processor whose watcher has refused has quit for that, and it was its last deed; or it was done, and quits no more
+abbrev pub HasQuit : Opening → (own : ℕ) → List Deed → Type 0
+HasQuit k own deeds = (stands_by k own deeds ≡ IsDone) ⊎ ((before : List Deed) × (deeds ≡ before ++ Quitted Watch ∷ []))
+
 module _ (plan : Planned) (limits : Limits) where
-  -- the victims that are drawn next come behind those that were drawn
-  abbrev pub HasDrawn : (processor : ℕ) → Past → Drawing → Type 0
-  HasDrawn processor past victims =
-      (k : ℕ) → next_victims victims k ≡ drop past.drawn (victims_of limits.seed processor plan.processors (past.drawn + k))
-
-  -- none where the processor rests, else its next act
-  abbrev pub IsNext : (processor : ℕ) → Past → Standing → Drawing → Option Act → Type 0
-  IsNext processor past stood victims None = Rests plan limits processor past stood × HasDrawn processor past victims
-  IsNext processor past stood victims (Some act) =
-      (¬ Rests plan limits processor past stood)
-      × (act ≡ next_act plan limits processor past stood)
-      × HasDrawn processor (past_behind past (record { stood = stood; act = act })) victims
-
   -- what is told of a processor that has done this: the events of its acts, and event 7 before an act where it has parked
   abbrev pub told_of_deeds : Opening → (own : ℕ) → List Deed → List Event
   told_of_deeds k own deeds =
@@ -71,7 +62,7 @@ module _ (plan : Planned) (limits : Limits) where
     pub past : Past
     pub number : pace.processor ≡ own
     pub pace_is : IsPace plan limits past (stands_by k own deeds) pace
-    pub drawn : HasDrawn own past victims
+    pub drawn : HasDrawn plan limits own past victims
     pub follows : Follows k own deeds past
 
   -- so it does, and it rests
@@ -86,7 +77,7 @@ module _ (plan : Planned) (limits : Limits) where
     pub pace_is : IsPace plan limits (awake plan limits own past (stands_by k own deeds)) (stands_by k own deeds) pace
     pub goes : ¬ Stops plan limits own past (stands_by k own deeds)
     pub act_is : act ≡ next_act plan limits own past (stands_by k own deeds)
-    pub drawn : HasDrawn own
+    pub drawn : HasDrawn plan limits own
         (past_behind (awake plan limits own past (stands_by k own deeds)) (record { stood = stands_by k own deeds; act = act })) victims
     pub follows : Follows k own deeds past
 
@@ -98,14 +89,23 @@ module _ (plan : Planned) (limits : Limits) where
   abbrev pub OwnObeys : Opening → (own : ℕ) → List Deed → Type 0
   OwnObeys k own deeds = Obeys plan limits own nothing_done (acts_of k.shape k.code own IsLost deeds) (stands_by k own deeds)
 
-  -- behind its next acts
+  -- behind so many acts, of which its watcher was told; or it refused one
+  abbrev pub GoesAhead : Opening → (own : ℕ) → Option (List Event) → Option (List Event) → Mine → Mine → Pace → Drawing → (made : Option ℕ) → Type 0
+  GoesAhead k own before now me me' pace victims (Some made) =
+      Obeying k own (deeds_in me'.0) pace victims
+      × Grows before now (told_of_deeds k own (deeds_in me.0)) (told_of_deeds k own (deeds_in me'.0))
+      × KeepsMore made me me'
+  GoesAhead k own before now me me' pace victims None = HasQuit k own (deeds_in me'.0)
+
+  -- behind its next acts: there was one, and it goes on; or its acts stop; or its watcher has refused
   abbrev pub GoesOn : Opening → (own : ℕ) → Option (List Event) → Option (List Event) → Mine → Mine → Pace → Drawing → Way → Type 0
   GoesOn k own before now me me' pace victims More =
       Obeying k own (deeds_in me'.0) pace victims
       × Grows before now (told_of_deeds k own (deeds_in me.0)) (told_of_deeds k own (deeds_in me'.0))
+      × (length (deeds_in me.0) < length (deeds_in me'.0))
   GoesOn k own before now me me' pace victims Over =
       OwnObeys k own (deeds_in me'.0) × Grows before now (told_of_deeds k own (deeds_in me.0)) (told_of_deeds k own (deeds_in me'.0))
-  GoesOn k own before now me me' pace victims Refused = Unit {0}
+  GoesOn k own before now me me' pace victims Refused = HasQuit k own (deeds_in me'.0)
 
 -- where a processor goes behind an act that its watcher took, or refused
 abbrev pub way_of : (taken : Bool) → Way

@@ -2,7 +2,7 @@
 ghost use Rattle.std.specs.Prelude.{◌≡◌, ◌<◌, ◌≤◌, IfOk, vec_len, length};
 ghost use Rattle.std.specs.Thread.{IsSync, IsSend};
 ghost use Rattle.ppm_table.specs.Shown.{AreNewOf, opening_of};
-ghost use Rattle.ppm_threads.specs.Driven.{AllBegin, AllEnd, AllKeep, Driven, HasFinished};
+ghost use Rattle.ppm_threads.specs.Driven.{Begins, AllBegin, EndsAmong, AllEnd, AllKeep, Driven, HasFinished};
 
 use crate::going::run;
 use crate::parking::{IdleParker, IdleUnparker, parkers, unparkers};
@@ -14,6 +14,26 @@ use ppm_words::NoMemory;
 use std::alloc::Global;
 use std::sync::Wait;
 use std::thread::{Threads, join_mut};
+
+/// Lets one of several processors run: whether its watcher refused nothing.
+fn run_one<W: Watch, R: Wait>(
+    rt: &R,
+    shared: &Shared,
+    unparkers: &[IdleUnparker],
+    plan: &Plan,
+    limits: Limits,
+    processor: &mut Processor,
+    parker: &mut IdleParker,
+    watch: &mut W,
+) -> bool
+    requires begins { Begins shared.now processor.old }
+    requires plan { plan.now.processors ≡ shared.now.shape.processors }
+    ensures { EndsAmong W.told plan.now limits shared.now result processor.old watch.old processor.new watch.new }
+{
+    run(
+        rt, shared, unparkers, parker, plan, limits, processor, watch,
+    )
+}
 
 /// Runs each of these processors on a thread of its own: whether no watcher refused.
 #[cycle(halves)]
@@ -37,14 +57,14 @@ fn run_all<W: Watch, R: Threads + Wait + Sync>(
         return true;
     }
     if processors.len() == 1 {
-        return run(
+        return run_one(
             rt,
             shared,
             unparkers,
-            &mut parkers[0],
             plan,
             *limits,
             &mut processors[0],
+            &mut parkers[0],
             &mut watch[0],
         );
     }
@@ -129,7 +149,8 @@ fn run_over<W: Watch, R: Threads + Wait + Sync>(
 
 /// Runs each processor of a table on a thread of its own until it is done, or leaves where the
 /// limits say so, and closes the table. There is a watcher for each processor, and the plan is for
-/// as many. `Err` where memory is refused, or by a watcher. It may never return.
+/// as many. `Err` where memory is refused, or by a watcher, whose processor quits then. It may never
+/// return.
 pub fn drive<W: Watch, R: Threads + Wait + Sync>(
     rt: &R,
     alloc: Global,

@@ -1,24 +1,23 @@
 //! A processor on its way.
-ghost use Rattle.std.specs.Prelude.{◌≡◌, ◌≢◌, ◌<◌, ◌≤◌, ◌^◌, ℕ, IfSome, true};
+ghost use Rattle.std.specs.Prelude.{◌≡◌, ◌≢◌, ◌<◌, ◌≤◌, ◌^◌, IfSome, true, false};
 ghost use Rattle.ppm_step.specs.Locals.{standing_of};
 ghost use Rattle.ppm_step.specs.Standings.{Standing, IsDone};
-ghost use Rattle.ppm_words.specs.declared.idle.Idle.TheVariants.{Park};
-ghost use Rattle.ppm_choice.specs.Obeying.{Past, is_park};
-ghost use Rattle.ppm_choice.specs.Paces.{IsPace};
 ghost use Rattle.ppm_step.specs.Told.{place_of};
+ghost use Rattle.ppm_plan.specs.Draws.{Drawing};
+ghost use Rattle.ppm_plan.specs.Schedules.{Planned};
+ghost use Rattle.ppm_choice.specs.Obeying.{is_park};
 ghost use Rattle.ppm_choice.specs.Tells.{parked};
 ghost use Rattle.ppm_table.specs.Run.{IsActAt};
 ghost use Rattle.ppm_table.specs.Shown.{IsOf, deeds_of_processor, opening_of};
 ghost use Rattle.ppm_table.specs.Telling.{Keeps};
 ghost use Rattle.ppm_threads.specs.Driven.{Begins, Ends};
-ghost use Rattle.ppm_threads.specs.Going.{HasDrawn, IsNext, Obeying, Resting, Acting, Grows, GoesOn, told_of_deeds};
-ghost use Rattle.ppm_threads.specs.Going.{told_so_far, way_of, is_over as over};
+ghost use Rattle.ppm_threads.specs.Going.{Obeying, Resting, Acting, Grows, KeepsMore, GoesAhead, GoesOn};
+ghost use Rattle.ppm_threads.specs.Going.{HasQuit, told_of_deeds, told_so_far, way_of};
 
-use crate::counting::count_along;
 use crate::parking::{IdleParker, IdleUnparker, park, wake_all};
 use crate::way::Way;
 use crossbeam_utils::Backoff;
-use ppm_choice::{Choice, Idle, Limits, Pace, choose, clear_steps};
+use ppm_choice::{Idle, Limits, Pace, clear_steps, is_over, next_act};
 use ppm_plan::{Plan, Victims};
 use ppm_ports::Watch;
 use ppm_step::{Act, Next, Why};
@@ -34,13 +33,6 @@ const MOST_WORK: u64 = 1 << 62;
 /// a job into a deque.
 const MOST_UNTOLD: u64 = 1 << 12;
 
-/// Whether no step is to come.
-fn is_over(next: Next) -> bool
-    ensures { result ≡ over next }
-{
-    matches!(next, Next::Done)
-}
-
 /// Whether a processor that rests parks.
 fn is_park(idle: Idle) -> bool
     ensures { result ≡ is_park idle }
@@ -48,22 +40,6 @@ fn is_park(idle: Idle) -> bool
     match idle {
         Idle::Park => true,
         Idle::Leave => false,
-    }
-}
-
-/// The next act, with the next victim where one is due; `None` where the processor rests.
-fn next_act(pace: &Pace, victims: &mut Victims, plan: &Plan, limits: Limits) -> Option<Act>
-    ensures { (past : Past) (stood : Standing) → IsPace plan.now limits past stood pace.now
-        → HasDrawn plan.now limits pace.now.processor past victims.old
-        → IsNext plan.now limits pace.now.processor past stood victims.new result }
-{
-    match choose(pace, plan, limits) {
-        Choice::Leave => None,
-        Choice::Draw => {
-            let victim = victims.next();
-            Some(Act::Step { victim })
-        }
-        Choice::Do(act) => Some(act),
     }
 }
 
@@ -98,27 +74,23 @@ fn go_ahead<W: Watch>(
     limits: Limits,
     processor: &mut Processor,
     pace: &mut Pace,
-    victims: &Victims,
     watch: &mut W,
 ) -> Option<u64>
     requires of { IsOf shared.now processor.old }
     requires few { pace.old.work < 2 ^ 62 }
-    requires obeying { Obeying plan.now limits (opening_of shared.now) processor.old.local.own (deeds_of_processor processor.old)
-        pace.old victims.now }
     ensures of { IsOf shared.now processor.new }
     ensures own { processor.new.local.own ≡ processor.old.local.own }
     ensures keeps { Keeps (W.told watch.old) (W.told watch.new) }
-    ensures goes { IfSome result (λ made. Obeying plan.now limits (opening_of shared.now) processor.old.local.own
-        (deeds_of_processor processor.new) pace.new victims.now
-        × Grows (W.told watch.old) (W.told watch.new)
-        (told_of_deeds plan.now limits (opening_of shared.now) processor.old.local.own (deeds_of_processor processor.old))
-        (told_of_deeds plan.now limits (opening_of shared.now) processor.old.local.own (deeds_of_processor processor.new))) }
+    ensures goes { (victims : Drawing)
+        → Obeying plan.now limits (opening_of shared.now) processor.old.local.own (deeds_of_processor processor.old) pace.old victims
+        → GoesAhead plan.now limits (opening_of shared.now) processor.old.local.own (W.told watch.old) (W.told watch.new)
+        processor.old.seat.me processor.new.seat.me pace.new victims result }
     ensures none { IfSome result (λ made. made ≡ 0 → pace.new ≡ pace.old) }
 {
     let most = clear_steps(pace, plan, limits).min(most_at_once(limits));
     let row = steps(processor, shared, most, watch);
     if row.refused {
-        wake(unparkers, limits);
+        give_way(shared, unparkers, limits, processor);
         return None;
     }
     if row.made == 0 {
@@ -129,7 +101,7 @@ fn go_ahead<W: Watch>(
         wake(unparkers, limits);
     }
     let due = is_due(&processor.local);
-    count_along(pace, limits, row, next, due);
+    pace.count_steps(limits, row.made, row.work, row.looks, next, due);
     Some(row.made)
 }
 
@@ -146,11 +118,12 @@ fn wakes(event: Event, next: Next) -> bool {
     event.step == 3 || event.step == 5 || event.step == 6 || matches!(next, Next::Done)
 }
 
-/// The processor gives up, since its watcher refused.
+/// The processor gives up, since its watcher refused, if it is still to take a step.
 fn give_way(shared: &Shared, unparkers: &[IdleUnparker], limits: Limits, processor: &mut Processor)
     requires of { IsOf shared.now processor.old }
     ensures of { IsOf shared.now processor.new }
     ensures own { processor.new.local.own ≡ processor.old.local.own }
+    ensures quits { HasQuit (opening_of shared.now) processor.old.local.own (deeds_of_processor processor.new) }
 {
     processor.turn(shared, Act::Quit(Why::Watch));
     wake(unparkers, limits);
@@ -160,11 +133,9 @@ fn give_way(shared: &Shared, unparkers: &[IdleUnparker], limits: Limits, process
 fn make<W: Watch>(
     shared: &Shared,
     unparkers: &[IdleUnparker],
-    plan: &Plan,
     limits: Limits,
     processor: &mut Processor,
     pace: &mut Pace,
-    victims: &Victims,
     watch: &mut W,
     act: Act,
 ) -> bool
@@ -175,19 +146,20 @@ fn make<W: Watch>(
     ensures of { IsOf shared.now processor.new }
     ensures own { processor.new.local.own ≡ processor.old.local.own }
     ensures keeps { Keeps (W.told watch.old) (W.told watch.new) }
-    ensures obeys { result ≡ true
-        → (a : Acting plan.now limits (opening_of shared.now) processor.old.local.own (deeds_of_processor processor.old) pace.old victims.now act)
-        → Obeying plan.now limits (opening_of shared.now) processor.old.local.own (deeds_of_processor processor.new) pace.new victims.now
+    ensures obeys { result ≡ true → (plan : Planned) (victims : Drawing)
+        → (a : Acting plan limits (opening_of shared.now) processor.old.local.own (deeds_of_processor processor.old) pace.old victims act)
+        → Obeying plan limits (opening_of shared.now) processor.old.local.own (deeds_of_processor processor.new) pace.new victims
         × Grows (W.told watch.old) (W.told watch.new)
-        (told_so_far plan.now limits (opening_of shared.now) processor.old.local.own (deeds_of_processor processor.old) a.past)
-        (told_of_deeds plan.now limits (opening_of shared.now) processor.old.local.own (deeds_of_processor processor.new)) }
+        (told_so_far plan limits (opening_of shared.now) processor.old.local.own (deeds_of_processor processor.old) a.past)
+        (told_of_deeds plan limits (opening_of shared.now) processor.old.local.own (deeds_of_processor processor.new))
+        × KeepsMore 1 processor.old.seat.me processor.new.seat.me }
+    ensures quits { result ≡ false → HasQuit (opening_of shared.now) processor.old.local.own (deeds_of_processor processor.new) }
 {
-    let _ = plan.keeper();
     let told = processor.turn(shared, act);
     let due = is_due(&processor.local);
     pace.count(limits, told, due);
     let Some(event) = told.event else {
-        return false;
+        unreachable!()
     };
     if wakes(event, told.next) {
         wake(unparkers, limits);
@@ -244,7 +216,7 @@ fn rest_first<W: Watch, R: Wait>(
         unreachable!()
     };
     way_of(make(
-        shared, unparkers, plan, limits, processor, pace, victims, watch, act,
+        shared, unparkers, limits, processor, pace, watch, act,
     ))
 }
 
@@ -281,7 +253,7 @@ fn act<W: Watch, R: Wait>(
         );
     };
     way_of(make(
-        shared, unparkers, plan, limits, processor, pace, victims, watch, act,
+        shared, unparkers, limits, processor, pace, watch, act,
     ))
 }
 
@@ -309,17 +281,15 @@ fn go_on<W: Watch, R: Wait>(
     ensures goes { GoesOn plan.now limits (opening_of shared.now) processor.old.local.own (W.told watch.old) (W.told watch.new)
         processor.old.seat.me processor.new.seat.me pace.new victims.new result }
 {
-    let Some(made) = go_ahead(
-        shared, unparkers, plan, limits, processor, pace, victims, watch,
-    ) else {
+    let Some(made) = go_ahead(shared, unparkers, plan, limits, processor, pace, watch) else {
         return Way::Refused;
     };
-    if made > 0 || pace.work >= MOST_WORK {
-        return Way::More;
+    if made == 0 {
+        return act(
+            rt, shared, unparkers, parker, plan, limits, processor, pace, victims, watch,
+        );
     }
-    act(
-        rt, shared, unparkers, parker, plan, limits, processor, pace, victims, watch,
-    )
+    Way::More
 }
 
 /// Lets a processor obey until its acts stop; whether its watcher refused none. It may never return.

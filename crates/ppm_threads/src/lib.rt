@@ -9,7 +9,6 @@
 //! are this project's.
 #![tactic(auto)]
 
-mod counting;
 mod driving;
 mod going;
 mod parking;

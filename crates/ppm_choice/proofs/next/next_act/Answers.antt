@@ -24,3 +24,7 @@ returns-in-Do c past stood p has =
       sym h.1,
       draws_none c.args.plan.now c.args.limits c.args.pace.now.processor past (record { stood = stood; act = c.in-Do.act }) c.args.victims.now h.2 has,
     )
+
+-- it rests, and none is drawn
+pub returns-in-Leave : goal.returns-in-Leave
+returns-in-Leave c past stood p has = (c.in-Leave.ensures.choice past stood p, has)

@@ -1,25 +1,21 @@
-use Rattle.std.proofs.Common.{◌≢◌, ◌<◌, ◌∙◌, Some, None, Option, List, [], ◌++◌, inl, inr, refl, sym, ap, subst, arith, append-nil, Bool, true}
-use Rattle.ppm_words.specs.declared.event.Event.{Event}
-use Rattle.ppm_step.specs.declared.turn.Act.{Act}
-use Rattle.ppm_step.specs.Standings.{Standing, IsDone}
+use Rattle.std.proofs.Common.{◌≢◌, ◌∙◌, Some, None, inl, sym, ap}
+use Rattle.ppm_step.specs.Standings.{IsDone}
 use Rattle.ppm_step.specs.Locals.{standing_of}
 use Rattle.ppm_step.specs.State.{next_of}
-use Rattle.ppm_choice.specs.Obeying.{next_act}
-use Rattle.ppm_table.specs.Run.{stands_by, IsActAt}
+use Rattle.ppm_table.specs.Run.{stands_by}
 use Rattle.ppm_table.specs.Shown.{deeds_of_processor, opening_of}
-use Rattle.ppm_threads.proofs.DrawnLemmas.{is_act_at}
 use Rattle.ppm_threads.proofs.GoingLemmas.{over_is, obeys_all, lives_on, acting_next, grows_from}
-use Rattle.ppm_threads.proofs.ActLemmas.{next_own, goes_by_act}
+use Rattle.ppm_threads.proofs.ActLemmas.{next_own, may_act, goes_by_act}
 use Rattle.ppm_threads.proofs.going.act.Goals as goal
 
 -- it is done
 pub returns-then-is_over-clause-goes : goal.returns-then-is_over-clause-goes
 returns-then-is_over-clause-goes g c =
     let k = opening_of c.args.shared.now in
-    let own = c.args.processor.now.local.own in
+    let p = c.args.processor.now in
     let o = c.requires.obeying in (
-      obeys_all c.args.plan.now c.args.limits k own (deeds_of_processor c.args.processor.now) c.args.pace.now c.args.victims.now o
-          (inl (over_is c.args.pace.now.next (stands_by k own (deeds_of_processor c.args.processor.now)) (sym c.is_over.ensures ∙ c.if-is_over.true) o.pace_is.next)),
+      obeys_all c.args.plan.now c.args.limits k p.local.own (deeds_of_processor p) c.args.pace.now c.args.victims.now o
+          (inl (over_is c.args.pace.now.next (stands_by k p.local.own (deeds_of_processor p)) (sym c.is_over.ensures ∙ c.if-is_over.true) o.pace_is.next)),
       λ list e. e,
     )
 
@@ -27,9 +23,9 @@ returns-then-is_over-clause-goes g c =
 pub rest_first-requires-clause-resting : goal.rest_first-requires-clause-resting
 rest_first-requires-clause-resting g c =
     let k = opening_of c.args.shared.now in
-    let own = c.args.processor.now.local.own in
+    let p = c.args.processor.now in
     let o = c.requires.obeying in
-    let rests = next_own c.args.plan.now c.args.limits k own (deeds_of_processor c.args.processor.now) c.args.pace.now c.args.victims.now c.next_act.new.victims None o c.in_default.ensures in
+    let rests = next_own c.args.plan.now c.args.limits k p.local.own (deeds_of_processor p) c.args.pace.now c.args.victims.now c.next_act.new.victims None o c.in_default.ensures in
     record {
       obeying = record { past = o.past; number = o.number; pace_is = o.pace_is; drawn = rests.1; follows = o.follows };
       rests = rests.0;
@@ -39,21 +35,16 @@ rest_first-requires-clause-resting g c =
 pub make-requires-clause-lives : goal.make-requires-clause-lives
 make-requires-clause-lives g c =
     let shared = c.args.shared.now in
-    let o = c.requires.obeying in
     lives_on c.args.pace.now.next (standing_of shared.shape shared.code c.args.processor.now.local) (sym c.is_over.ensures ∙ c.if-is_over.false)
-    (o.pace_is.next ∙ ap next_of (sym c.requires.of.stands))
+    (c.requires.obeying.pace_is.next ∙ ap next_of (sym c.requires.of.stands))
 
 pub make-requires-clause-may : goal.make-requires-clause-may
 make-requires-clause-may g c =
     let shared = c.args.shared.now in
-    let k = opening_of shared in
-    let own = c.args.processor.now.local.own in
+    let p = c.args.processor.now in
     let o = c.requires.obeying in
-    let next = next_own c.args.plan.now c.args.limits k own (deeds_of_processor c.args.processor.now) c.args.pace.now c.args.victims.now c.next_act.new.victims (Some c.in-Some.act) o c.in-Some.ensures in
-    let some : 0 < c.args.plan.now.processors = let h = c.requires.of.holds.own in let p = c.requires.plan in omega (arith, h, p) in
-    subst (λ (act : Act). IsActAt shared.shape (standing_of shared.shape shared.code c.args.processor.now.local) act) (sym next.1)
-    (subst (λ (st : Standing). IsActAt shared.shape (standing_of shared.shape shared.code c.args.processor.now.local) (next_act c.args.plan.now c.args.limits own o.past st)) c.requires.of.stands
-    (is_act_at c.args.plan.now c.args.limits own o.past shared.shape (standing_of shared.shape shared.code c.args.processor.now.local) c.requires.plan some))
+    let next = next_own c.args.plan.now c.args.limits (opening_of shared) p.local.own (deeds_of_processor p) c.args.pace.now c.args.victims.now c.next_act.new.victims (Some c.in-Some.act) o c.in-Some.ensures in
+    may_act shared p c.args.plan.now c.args.limits o.past c.in-Some.act c.requires.of c.requires.plan next.1
 
 pub returns-clause-goes : goal.returns-clause-goes
 returns-clause-goes g c =
@@ -65,7 +56,7 @@ returns-clause-goes g c =
     let next = next_own c.args.plan.now c.args.limits k own (deeds_of_processor p) c.args.pace.now c.args.victims.now c.next_act.new.victims (Some c.in-Some.act) o c.in-Some.ensures in
     let lives : stands_by k own (deeds_of_processor p) ≢ IsDone = lives_on c.args.pace.now.next (stands_by k own (deeds_of_processor p)) (sym c.is_over.ensures ∙ c.if-is_over.false) o.pace_is.next in
     let a = acting_next c.args.plan.now c.args.limits k own (deeds_of_processor p) c.args.pace.now c.args.victims.now c.next_act.new.victims c.in-Some.act o lives next in
-    goes_by_act c.args.plan.now c.args.limits k own (g.W.Watch.told c.args.watch.now) (g.W.Watch.told c.make.new.watch) (g.W.Watch.told c.args.watch.now) p.seat.me c.make.new.processor.seat.me
+    goes_by_act c.args.plan.now c.args.limits k own (g.W.Watch.told c.args.watch.now) (g.W.Watch.told c.args.watch.now) (g.W.Watch.told c.make.new.watch) p.seat.me c.make.new.processor.seat.me
     c.args.pace.now c.make.new.pace c.next_act.new.victims c.in-Some.act a c.make.result c.way_of.result c.way_of.ensures
     (grows_from c.args.plan.now c.args.limits k own (deeds_of_processor p) o.past (g.W.Watch.told c.args.watch.now) next.0)
-    (λ taken. c.make.ensures.obeys taken a)
+    (λ taken. c.make.ensures.obeys taken c.args.plan.now c.next_act.new.victims a) c.make.ensures.quits

@@ -1,29 +1,44 @@
-use Rattle.std.proofs.Common.{◌≡◌, ◌≢◌, ◌<◌, ◌∙◌, Bool, true, false, Some, None, inl, inr, refl, sym, ap, subst, arith}
-use Rattle.ppm_step.specs.declared.turn.Act.{Act}
-use Rattle.ppm_step.specs.Standings.{Standing, IsDone}
-use Rattle.ppm_step.specs.Locals.{standing_of}
-use Rattle.ppm_step.specs.State.{next_of}
+use Rattle.std.proofs.Common.{◌<◌, ◌^◌, ◌∙◌, Some, None, inr, sym, ap, arith}
 use Rattle.ppm_step.specs.Told.{place_of}
-use Rattle.ppm_choice.specs.Obeying.{next_act, rested}
-use Rattle.ppm_table.specs.Run.{stands_by, IsActAt}
+use Rattle.ppm_table.specs.Run.{stands_by}
 use Rattle.ppm_table.specs.Shown.{deeds_of_processor, opening_of}
-use Rattle.ppm_threads.proofs.DrawnLemmas.{is_act_at}
-use Rattle.ppm_threads.proofs.GoingLemmas.{obeys_all, leaves_if, parks_if, rests_live, acting_rested, grows_parked, looks_from_none, none_rests, next_rested}
-use Rattle.ppm_threads.proofs.ActLemmas.{goes_by_act}
+use Rattle.ppm_table.proofs.TellingLemmas.{keeps_both}
+use Rattle.ppm_threads.proofs.GoingLemmas.{obeys_all, leaves_if, parks_if, rests_live, acting_rested, grows_parked, none_rests, next_rested}
+use Rattle.ppm_threads.proofs.ActLemmas.{may_act, goes_by_act}
 use Rattle.ppm_threads.proofs.going.rest_first.Goals as goal
 
 -- it leaves
 pub returns-then-not-is_park-clause-goes : goal.returns-then-not-is_park-clause-goes
 returns-then-not-is_park-clause-goes g c =
     let k = opening_of c.args.shared.now in
-    let own = c.args.processor.now.local.own in
+    let p = c.args.processor.now in
     let r = c.requires.resting in (
-      obeys_all c.args.plan.now c.args.limits k own (deeds_of_processor c.args.processor.now) c.args.pace.now c.args.victims.now r.obeying
+      obeys_all c.args.plan.now c.args.limits k p.local.own (deeds_of_processor p) c.args.pace.now c.args.victims.now r.obeying
           (inr (leaves_if c.args.limits.idle (sym c.is_park.ensures ∙ c.if-not-is_park.true), r.rests)),
       λ list e. e,
     )
 
 -- it has parked, and doesn't rest again at once
+pub unreachable-requires : goal.unreachable-requires
+unreachable-requires g c =
+    let k = opening_of c.args.shared.now in
+    let p = c.args.processor.now in
+    let r = c.requires.resting in
+    let st = stands_by k p.local.own (deeds_of_processor p) in
+    let next = next_rested c.args.plan.now c.args.limits k p.local.own (deeds_of_processor p) c.args.pace.now c.rest.new.self c.args.victims.now c.next_act.new.victims None r
+    c.rest.ensures.number (c.rest.ensures.pace c.args.plan.now c.args.limits r.obeying.past st r.obeying.pace_is) c.in_default.ensures in
+    none_rests c.args.plan.now c.args.limits p.local.own r.obeying.past st next.0
+
+pub make-requires-clause-few : goal.make-requires-clause-few
+make-requires-clause-few g c =
+    let k = opening_of c.args.shared.now in
+    let p = c.args.processor.now in
+    let o = c.requires.resting.obeying in
+    let new = (c.rest.ensures.pace c.args.plan.now c.args.limits o.past (stands_by k p.local.own (deeds_of_processor p)) o.pace_is).work in
+    let old = o.pace_is.work in
+    let few = c.requires.few in
+    omega (arith, new, old, few)
+
 pub make-requires-clause-lives : goal.make-requires-clause-lives
 make-requires-clause-lives g c =
     let r = c.requires.resting in λ done.
@@ -33,15 +48,15 @@ pub make-requires-clause-may : goal.make-requires-clause-may
 make-requires-clause-may g c =
     let shared = c.args.shared.now in
     let k = opening_of shared in
-    let own = c.args.processor.now.local.own in
+    let p = c.args.processor.now in
     let r = c.requires.resting in
-    let st = stands_by k own (deeds_of_processor c.args.processor.now) in
-    let next = next_rested c.args.plan.now c.args.limits k own (deeds_of_processor c.args.processor.now) c.args.pace.now c.rest.new.self c.args.victims.now c.next_act.new.victims (Some c.in-Some.act) r
+    let st = stands_by k p.local.own (deeds_of_processor p) in
+    let next = next_rested c.args.plan.now c.args.limits k p.local.own (deeds_of_processor p) c.args.pace.now c.rest.new.self c.args.victims.now c.next_act.new.victims (Some c.in-Some.act) r
     c.rest.ensures.number (c.rest.ensures.pace c.args.plan.now c.args.limits r.obeying.past st r.obeying.pace_is) c.in-Some.ensures in
-    let some : 0 < c.args.plan.now.processors = let h = c.requires.of.holds.own in let p = c.requires.plan in omega (arith, h, p) in
-    subst (λ (act : Act). IsActAt shared.shape (standing_of shared.shape shared.code c.args.processor.now.local) act) (sym next.1)
-    (subst (λ (x : Standing). IsActAt shared.shape (standing_of shared.shape shared.code c.args.processor.now.local) (next_act c.args.plan.now c.args.limits own r.obeying.past x)) c.requires.of.stands
-    (is_act_at c.args.plan.now c.args.limits own r.obeying.past shared.shape (standing_of shared.shape shared.code c.args.processor.now.local) c.requires.plan some))
+    may_act shared p c.args.plan.now c.args.limits r.obeying.past c.in-Some.act c.requires.of c.requires.plan next.1
+
+pub returns-clause-keeps : goal.returns-clause-keeps
+returns-clause-keeps g c = keeps_both _ _ _ c.hear.ensures.keeps c.make.ensures.keeps
 
 pub returns-clause-goes : goal.returns-clause-goes
 returns-clause-goes g c =
@@ -58,8 +73,8 @@ returns-clause-goes g c =
     let a = acting_rested c.args.plan.now c.args.limits k own (deeds_of_processor p) c.args.pace.now c.rest.new.self c.args.victims.now c.next_act.new.victims c.in-Some.act r idle
     c.rest.ensures.number pace_is next in
     let event = c.parked_at.ensures st (c.place.ensures shared.shape shared.code ∙ ap place_of c.requires.of.stands) in
-    goes_by_act c.args.plan.now c.args.limits k own (g.W.Watch.told c.args.watch.now) (g.W.Watch.told c.make.new.watch) (g.W.Watch.told c.hear.new.watch) p.seat.me c.make.new.processor.seat.me
+    goes_by_act c.args.plan.now c.args.limits k own (g.W.Watch.told c.args.watch.now) (g.W.Watch.told c.hear.new.watch) (g.W.Watch.told c.make.new.watch) p.seat.me c.make.new.processor.seat.me
     c.rest.new.self c.make.new.pace c.next_act.new.victims c.in-Some.act a c.make.result c.way_of.result c.way_of.ensures
     (grows_parked c.args.plan.now c.args.limits k own (deeds_of_processor p) r.obeying.past (g.W.Watch.told c.args.watch.now) (g.W.Watch.told c.hear.new.watch) c.parked_at.result idle r.rests event
     (c.hear.ensures.heard c.if-not-hear.false))
-    (λ taken. c.make.ensures.obeys taken a)
+    (λ taken. c.make.ensures.obeys taken c.args.plan.now c.next_act.new.victims a) c.make.ensures.quits

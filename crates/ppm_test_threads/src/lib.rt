@@ -1,0 +1,19 @@
+//! Trials of the threads: what their watchers are told, that threads meet, that processors park, and
+//! that a refusal ends a run.
+//! Model: none; all of it is tests, by what one processor does alone and by rules of obedience.
+//! Contract: none.
+//! Stands on `ppm_threads`, `ppm_table` and `ppm_core`, and on `ppm_listing_reader`, on which the
+//! threads themselves do not stand.
+//! After the rules of plans, of limits and of parking.
+#![tactic(auto)]
+
+#[cfg(test)]
+mod meetings;
+#[cfg(test)]
+mod obeying;
+#[cfg(test)]
+mod refusals;
+#[cfg(test)]
+mod runs;
+#[cfg(test)]
+mod tables;

@@ -1,0 +1,99 @@
+//! Watchers that refuse, at each of their turns in turn.
+ghost use Rattle.std.specs.Prelude.{Some};
+
+use crate::tables::{WIDE, is_right, run};
+use ppm_choice::{Idle, Limits};
+use ppm_ports::Watch;
+use ppm_words::{Event, NoMemory};
+use std::alloc::Global;
+use std::test::Fail;
+
+/// A watcher that keeps so many events, and refuses the next one.
+#[derive(Drop)]
+struct Bounded {
+    left: u32,
+    events: Vec<Event>,
+}
+
+impl Watch for Bounded {
+    ghost told = { λ b. Some b.events.items };
+
+    fn turn(&mut self, event: Event) -> Result<(), NoMemory> {
+        if self.left == 0 {
+            return Err(NoMemory);
+        }
+        self.events.push(event)?;
+        self.left -= 1;
+        Ok(())
+    }
+}
+
+/// A watcher for each bound.
+fn bounded(alloc: Global, bounds: &[u32]) -> Result<Vec<Bounded>, Fail> {
+    let mut all = Vec::new(alloc);
+    for left in bounds {
+        all.push(Bounded {
+            left: *left,
+            events: Vec::new(alloc),
+        })?;
+    }
+    Ok(all)
+}
+
+/// How many events a watcher keeps.
+fn kept(watch: &[Bounded], number: usize) -> Option<usize> {
+    match watch.get(number) {
+        Some(one) => Some(one.events.len()),
+        None => None,
+    }
+}
+
+#[test]
+fn one_is_refused_each_event(rt: HostRuntime) -> Result<(), Fail> {
+    let alloc = rt.alloc();
+    let mut full = bounded(alloc, &[1_000_000])?;
+    let closed = run(&rt, alloc, "none", WIDE, 1, &mut full)?.ok_or("no memory")?;
+    assert!(&rt; is_right(alloc, &closed)?);
+    let all = full.first().ok_or("a watcher")?;
+    let mut left = 0u32;
+    for _ in 0..all.events.len() {
+        let mut watch = bounded(alloc, &[left])?;
+        let answer = run(&rt, alloc, "none", WIDE, 1, &mut watch)?;
+        assert!(&rt; answer.is_none(), "the event behind {left}");
+        // What it took stays.
+        let told = watch.first().ok_or("a watcher")?;
+        assert_eq!(&rt; told.events.len(), left as usize);
+        assert!(&rt; all.events.as_slice().starts_with(told.events.as_slice()), "{left}");
+        left = left.saturating_add(1);
+    }
+    assert!(&rt; left > 50);
+    let mut watch = bounded(alloc, &[left])?;
+    let closed = run(&rt, alloc, "none", WIDE, 1, &mut watch)?.ok_or("refused")?;
+    assert!(&rt; is_right(alloc, &closed)?);
+    Ok(())
+}
+
+#[test]
+fn one_of_three_is_refused(rt: HostRuntime) -> Result<(), Fail> {
+    let alloc = rt.alloc();
+    // The third event of one that parks is that it does.
+    for idle in [Idle::Leave, Idle::Park] {
+        let limits = Limits { looks: 1, idle, ..WIDE };
+        for left in 0..3u32 {
+            let mut watch = bounded(alloc, &[1_000_000, left, 1_000_000, 0])?;
+            let answer = run(&rt, alloc, "none", limits, 3, &mut watch)?;
+            // One that leaves makes two acts.
+            let refused = left < 2 || matches!(idle, Idle::Park);
+            assert_eq!(&rt; answer.is_none(), refused, "{left}");
+            assert_eq!(&rt; kept(&watch, 1), Some(left.min(2) as usize), "{left}");
+            assert_eq!(&rt; kept(&watch, 3), Some(0), "{left}");
+        }
+        for left in 0..15u32 {
+            let mut watch = bounded(alloc, &[left, 1_000_000, 1_000_000])?;
+            let answer = run(&rt, alloc, "none", limits, 3, &mut watch)?;
+            assert!(&rt; answer.is_none(), "{left}");
+            assert_eq!(&rt; kept(&watch, 0), Some(left as usize), "{left}");
+        }
+    }
+    Ok(())
+}

@@ -1,0 +1,39 @@
+use Rattle.std.proofs.Common.{ℕ, sym, subst, arith}
+use Rattle.ppm_choice.specs.declared.pace.Pace.{Pace}
+use Rattle.ppm_table.specs.Shown.{deeds_of_processor, opening_of}
+use Rattle.ppm_table.proofs.TellingLemmas.{keeps_both}
+use Rattle.ppm_threads.specs.Going.{Obeying, GoesOn}
+use Rattle.ppm_threads.proofs.GoingLemmas.{goes_behind}
+use Rattle.ppm_threads.proofs.going.go_on.Goals as goal
+
+-- no steps were made in a row, and the pace is what it was
+pub act-requires-clause-few : goal.act-requires-clause-few
+act-requires-clause-few g c =
+    subst (λ (p : Pace). p.work < 2 ^ 62) (sym (c.in-Some.ensures.none c.if-made-eq0.true)) c.requires.few
+
+pub act-requires-clause-obeying : goal.act-requires-clause-obeying
+act-requires-clause-obeying g c =
+    subst (λ (n : ℕ). Obeying c.args.plan.now c.args.limits (opening_of c.args.shared.now) n (deeds_of_processor c.go_ahead.new.processor) c.go_ahead.new.pace c.args.victims.now)
+    (sym c.go_ahead.ensures.own) (c.in-Some.ensures.goes c.args.victims.now c.requires.obeying).0
+
+-- its next act
+pub returns-then-made-eq0-clause-keeps : goal.returns-then-made-eq0-clause-keeps
+returns-then-made-eq0-clause-keeps g c = keeps_both _ _ _ c.go_ahead.ensures.keeps c.act.ensures.keeps
+
+pub returns-then-made-eq0-clause-goes : goal.returns-then-made-eq0-clause-goes
+returns-then-made-eq0-clause-goes g c =
+    let k = opening_of c.args.shared.now in
+    let p = c.args.processor.now in
+    let goes = c.in-Some.ensures.goes c.args.victims.now c.requires.obeying in
+    let none = c.if-made-eq0.true in
+    goes_behind c.args.plan.now c.args.limits k p.local.own (g.W.Watch.told c.args.watch.now) (g.W.Watch.told c.go_ahead.new.watch) (g.W.Watch.told c.act.new.watch)
+    p.seat.me c.go_ahead.new.processor.seat.me c.act.new.processor.seat.me c.act.new.pace c.act.new.victims c.act.result goes.1
+    (let more = goes.2 in omega (arith, more, none))
+    (subst (λ (n : ℕ). GoesOn c.args.plan.now c.args.limits k n (g.W.Watch.told c.go_ahead.new.watch) (g.W.Watch.told c.act.new.watch) c.go_ahead.new.processor.seat.me c.act.new.processor.seat.me
+    c.act.new.pace c.act.new.victims c.act.result) c.go_ahead.ensures.own c.act.ensures.goes)
+
+-- some were
+pub returns-clause-goes : goal.returns-clause-goes
+returns-clause-goes g c =
+    let goes = c.in-Some.ensures.goes c.args.victims.now c.requires.obeying in
+    (goes.0, goes.1, (let more = goes.2 in let some = c.if-made-eq0.false in omega (arith, more, some)))
