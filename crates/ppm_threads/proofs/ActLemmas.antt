@@ -124,17 +124,17 @@ module _ (s : Shared) (p q : Processor) (act : Act) (told : Told) (of : IsOf s p
       ∙ act_told s.shape s.code p.local act acted.found of.holds lives may
 
   -- it goes on obeying
-  pub acts_obey : (plan : Planned) (limits : Limits) (pace pace' : Pace) (victims : Drawing) (due : Bool)
-      → (a : Acting plan limits k own (deeds_of_processor p) pace victims act)
+  pub acts_obey : (plan : Planned) (limits : Limits) (past : Past) (pace pace' : Pace) (victims : Drawing) (due : Bool)
+      → (a : Acting plan limits k own (deeds_of_processor p) past pace victims act)
       → pace'.processor ≡ pace.processor → due ≡ seeks_holder (standing_of s.shape s.code q.local)
       → ((pl : Planned) (past : Past) (d : Acted) (stands : Standing) → IsPace pl limits past d.stood pace → told.work ≡ is_work_deed d → told.next ≡ next_of stands → due ≡ seeks_holder stands
       → IsPace pl limits (past_behind past d) stands pace')
       → Obeying plan limits k own (deeds_of_processor q) pace' victims
-  acts_obey plan limits pace pace' victims due a number is_due counts =
+  acts_obey plan limits past pace pace' victims due a number is_due counts =
       let one : Acted = record { stood = stands_by k own (deeds_of_processor p); act = act } in
       let works : told.work ≡ is_work_deed one = acted.work ∙ ap (λ (x : Standing). is_work_deed (record { stood = x; act = act })) of.stands in
-      obeying_more plan limits k own (deeds_of_processor p) (deeds_of_processor q) deed act pace victims a acted.deed tells pace' number
-      (counts plan (awake plan limits own a.past (stands_by k own (deeds_of_processor p))) one (stands_by k own (deeds_of_processor q)) a.pace_is works
+      obeying_more plan limits k own (deeds_of_processor p) (deeds_of_processor q) deed act past pace victims a acted.deed tells pace' number
+      (counts plan (awake plan limits own past (stands_by k own (deeds_of_processor p))) one (stands_by k own (deeds_of_processor q)) a.pace_is works
       (acted.next ∙ ap next_of stands') (is_due ∙ ap seeks_holder stands'))
 
   -- it has made one act more
@@ -142,29 +142,29 @@ module _ (s : Shared) (p q : Processor) (act : Act) (told : Told) (of : IsOf s p
   acts_more = ap (λ (l : List Deed). length l) acted.deed ∙ length-append (deeds_of_processor p) (deed ∷ [])
 
   -- and its watcher was told of it
-  pub acts_grow : (plan : Planned) (limits : Limits) (pace : Pace) (victims : Drawing) (before now : Option (List Event)) (event : Event)
-      → (a : Acting plan limits k own (deeds_of_processor p) pace victims act) → told.event ≡ Some event → AppendsList before now (event ∷ [])
-      → Grows before now (told_so_far plan limits k own (deeds_of_processor p) a.past) (told_of_deeds plan limits k own (deeds_of_processor q))
-  acts_grow plan limits pace victims before now event a is heard =
+  pub acts_grow : (plan : Planned) (limits : Limits) (past : Past) (pace : Pace) (victims : Drawing) (before now : Option (List Event)) (event : Event)
+      → (a : Acting plan limits k own (deeds_of_processor p) past pace victims act) → told.event ≡ Some event → AppendsList before now (event ∷ [])
+      → Grows before now (told_so_far plan limits k own (deeds_of_processor p) past) (told_of_deeds plan limits k own (deeds_of_processor q))
+  acts_grow plan limits past pace victims before now event a is heard =
       let event_is : event ≡ event_of_deed k.shape own (stands_by k own (deeds_of_processor p)) deed =
       some_event _ _ (sym is ∙ acted.event) ∙ act_says s.shape s.code own acted.found st act
       ∙ ap (λ (x : Standing). event_of_deed s.shape own x deed) of.stands ∙ ap (λ (t : Shape). event_of_deed t own (stands_by k own (deeds_of_processor p)) deed) (sym s.told.0) in
-      grows_more plan limits k own (deeds_of_processor p) (deeds_of_processor q) deed act pace victims a acted.deed tells before now
+      grows_more plan limits k own (deeds_of_processor p) (deeds_of_processor q) deed act past pace victims a acted.deed tells before now
       (λ list e. appended before now event list heard e ∙ ap (λ (x : Event). Some (list ++ x ∷ [])) event_is)
 
 -- where a processor goes behind an act that its watcher took, or refused
-pub goes_by_act : (plan : Planned) (limits : Limits) (k : Opening) (own : ℕ) (before first now : Option (List Event)) (me me' : Mine) (pace pace' : Pace) (victims : Drawing) (act : Act)
-    → (a : Acting plan limits k own (deeds_in me.0) pace victims act) → (taken : Bool) (way : Way) → way ≡ way_of taken
-    → Grows before first (told_of_deeds plan limits k own (deeds_in me.0)) (told_so_far plan limits k own (deeds_in me.0) a.past)
+pub goes_by_act : (plan : Planned) (limits : Limits) (k : Opening) (own : ℕ) (before first now : Option (List Event)) (me me' : Mine) (past : Past) (pace' : Pace) (victims : Drawing)
+    → (taken : Bool) (way : Way) → way ≡ way_of taken
+    → Grows before first (told_of_deeds plan limits k own (deeds_in me.0)) (told_so_far plan limits k own (deeds_in me.0) past)
     → (taken ≡ true → Obeying plan limits k own (deeds_in me'.0) pace' victims
-    × Grows first now (told_so_far plan limits k own (deeds_in me.0) a.past) (told_of_deeds plan limits k own (deeds_in me'.0)) × KeepsMore 1 me me')
+    × Grows first now (told_so_far plan limits k own (deeds_in me.0) past) (told_of_deeds plan limits k own (deeds_in me'.0)) × KeepsMore 1 me me')
     → (taken ≡ false → HasQuit k own (deeds_in me'.0))
     → GoesOn plan limits k own before now me me' pace' victims way
-goes_by_act plan limits k own before first now me me' pace pace' victims act a taken way is grew obeys quits =
+goes_by_act plan limits k own before first now me me' past pace' victims taken way is grew obeys quits =
     subst (λ (w : Way). GoesOn plan limits k own before now me me' pace' victims w) (sym is) (by taken obeys quits)
   where
     by : (b : Bool) → (b ≡ true → Obeying plan limits k own (deeds_in me'.0) pace' victims
-        × Grows first now (told_so_far plan limits k own (deeds_in me.0) a.past) (told_of_deeds plan limits k own (deeds_in me'.0)) × KeepsMore 1 me me')
+        × Grows first now (told_so_far plan limits k own (deeds_in me.0) past) (told_of_deeds plan limits k own (deeds_in me'.0)) × KeepsMore 1 me me')
         → (b ≡ false → HasQuit k own (deeds_in me'.0)) → GoesOn plan limits k own before now me me' pace' victims (way_of b)
     by true obeys quits = let o = obeys refl in let one = o.2 in (o.0, λ list e. o.1 list (grew list e), omega (arith, one))
     by false obeys quits = quits refl

@@ -276,12 +276,11 @@ module _ (plan : Planned) (limits : Limits) (k : Opening) (own : ℕ) where
   -- a processor that doesn't rest makes its next act
   pub acting_next : (deeds : List Deed) (pace : Pace) (victims victims' : Drawing) (act : Act) → (o : Obeying plan limits k own deeds pace victims)
       → stands_by k own deeds ≢ IsDone → IsNext plan limits own o.past (stands_by k own deeds) victims' (Some act)
-      → Acting plan limits k own deeds pace victims' act
+      → Acting plan limits k own deeds o.past pace victims' act
   acting_next deeds pace victims victims' act o lives next =
       let st = stands_by k own deeds in
       let up = stays_awake plan limits own o.past st next.0 in
       record {
-        past = o.past;
         number = o.number;
         pace_is = subst (λ (p : Past). IsPace plan limits p st pace) (sym up) o.pace_is;
         goes = goes_further o.past st lives next.0;
@@ -294,7 +293,7 @@ module _ (plan : Planned) (limits : Limits) (k : Opening) (own : ℕ) where
   nothing_before past st none = not_parked k.shape k.code own plan limits past st none
 
   -- behind an act
-  module _ (deeds deeds' : List Deed) (deed : Deed) (act : Act) (pace : Pace) (victims : Drawing) (r : Acting plan limits k own deeds pace victims act)
+  module _ (deeds deeds' : List Deed) (deed : Deed) (act : Act) (past : Past) (pace : Pace) (victims : Drawing) (r : Acting plan limits k own deeds past pace victims act)
       (more : deeds' ≡ deeds ++ deed ∷ []) (tells : act_by k.shape (stands_by k own deeds) deed ≡ act) where
     abbrev st : Standing
     st = stands_by k own deeds
@@ -303,21 +302,21 @@ module _ (plan : Planned) (limits : Limits) (k : Opening) (own : ℕ) where
     one = record { stood = st; act = act }
 
     abbrev past' : Past
-    past' = past_behind (awake plan limits own r.past st) one
+    past' = past_behind (awake plan limits own past st) one
 
     first : acted k.shape st deed ≡ one
     first = ap (λ (a : Act). record { stood = st; act = a }) tells
 
     one_tells : (rest : List Acted) (events : List Event)
-        → told_from plan limits own r.past (acted k.shape st deed ∷ rest) (event_of_deed k.shape own st deed ∷ events)
-        ≡ (told_before plan limits own r.past st ++ event_of_deed k.shape own st deed ∷ []) ++ told_from plan limits own past' rest events
+        → told_from plan limits own past (acted k.shape st deed ∷ rest) (event_of_deed k.shape own st deed ∷ events)
+        ≡ (told_before plan limits own past st ++ event_of_deed k.shape own st deed ∷ []) ++ told_from plan limits own past' rest events
     one_tells rest events =
-        ap (λ (a : Acted). told_before plan limits own r.past st ++ (event_of_deed k.shape own st deed ∷ told_from plan limits own (past_behind (awake plan limits own r.past st) a) rest events)) first
-        ∙ sym (append_assoc (told_before plan limits own r.past st) (event_of_deed k.shape own st deed ∷ []) (told_from plan limits own past' rest events))
+        ap (λ (a : Acted). told_before plan limits own past st ++ (event_of_deed k.shape own st deed ∷ told_from plan limits own (past_behind (awake plan limits own past st) a) rest events)) first
+        ∙ sym (append_assoc (told_before plan limits own past st) (event_of_deed k.shape own st deed ∷ []) (told_from plan limits own past' rest events))
 
-    one_told : told_from plan limits own r.past (acted k.shape st deed ∷ []) (event_of_deed k.shape own st deed ∷ [])
-        ≡ told_before plan limits own r.past st ++ event_of_deed k.shape own st deed ∷ []
-    one_told = one_tells [] [] ∙ append-nil (told_before plan limits own r.past st ++ event_of_deed k.shape own st deed ∷ [])
+    one_told : told_from plan limits own past (acted k.shape st deed ∷ []) (event_of_deed k.shape own st deed ∷ [])
+        ≡ told_before plan limits own past st ++ event_of_deed k.shape own st deed ∷ []
+    one_told = one_tells [] [] ∙ append-nil (told_before plan limits own past st ++ event_of_deed k.shape own st deed ∷ [])
 
     pub obeying_more : (pace' : Pace) → pace'.processor ≡ pace.processor → IsPace plan limits past' (stands_by k own deeds') pace'
         → Obeying plan limits k own deeds' pace' victims
@@ -326,21 +325,21 @@ module _ (plan : Planned) (limits : Limits) (k : Opening) (own : ℕ) where
       number = number ∙ r.number;
       pace_is = pace_is;
       drawn = r.drawn;
-      follows = follows_more deeds deeds' (deed ∷ []) more r.past past' r.follows (told_before plan limits own r.past st ++ event_of_deed k.shape own st deed ∷ []) one_told
+      follows = follows_more deeds deeds' (deed ∷ []) more past past' r.follows (told_before plan limits own past st ++ event_of_deed k.shape own st deed ∷ []) one_told
           (λ rest stands obeys. (
             r.goes,
             tells ∙ r.act_is,
-            subst (λ (a : Acted). Obeys plan limits own (past_behind (awake plan limits own r.past st) a) rest stands) (sym first) obeys,
+            subst (λ (a : Acted). Obeys plan limits own (past_behind (awake plan limits own past st) a) rest stands) (sym first) obeys,
           ))
           one_tells;
     }
 
     pub grows_more : (before now : Option (List Event)) → ((list : List Event) → before ≡ Some list → now ≡ Some (list ++ event_of_deed k.shape own st deed ∷ []))
-        → Grows before now (told_so_far plan limits k own deeds r.past) (told_of_deeds plan limits k own deeds')
+        → Grows before now (told_so_far plan limits k own deeds past) (told_of_deeds plan limits k own deeds')
     grows_more before now heard = λ list e.
         let told = told_of_deeds plan limits k own deeds in
-        let up = told_before plan limits own r.past st in
-        let all = told_there deeds deeds' (deed ∷ []) more r.past past' r.follows (up ++ event_of_deed k.shape own st deed ∷ []) one_told in
+        let up = told_before plan limits own past st in
+        let all = told_there deeds deeds' (deed ∷ []) more past past' r.follows (up ++ event_of_deed k.shape own st deed ∷ []) one_told in
         heard (list ++ (told ++ up)) e
         ∙ ap (λ (l : List Event). Some l)
         (append_assoc list (told ++ up) (event_of_deed k.shape own st deed ∷ [])
@@ -369,7 +368,7 @@ module _ (plan : Planned) (limits : Limits) (k : Opening) (own : ℕ) where
       → limits.idle ≡ Park → pace'.processor ≡ pace.processor
       → IsPace plan limits (rested r.obeying.past) (stands_by k own deeds) pace'
       → IsNext plan (from_none limits) own (rested r.obeying.past) (stands_by k own deeds) victims' (Some act)
-      → Acting plan limits k own deeds pace' victims' act
+      → Acting plan limits k own deeds r.obeying.past pace' victims' act
   acting_rested deeds pace pace' victims victims' act r idle number pace_is next =
       let st = stands_by k own deeds in
       let past = r.obeying.past in
@@ -377,7 +376,6 @@ module _ (plan : Planned) (limits : Limits) (k : Opening) (own : ℕ) where
       let up : awake plan limits own past st ≡ rested past = ap (λ (b : Bool). if b then rested past else past) is in
       let lives : st ≢ IsDone = λ done. let e : Done ≡ Seek = sym (ap next_of done) ∙ r.rests.seeks in cc in
       record {
-        past = past;
         number = number ∙ r.obeying.number;
         pace_is = subst (λ (p : Past). IsPace plan limits p st pace') (sym up) pace_is;
         goes = λ stops. elim stops [ inl done ↦ lives done | inr leaves ↦ (let e : Park ≡ Leave = sym idle ∙ leaves.0 in cc) ];

@@ -70,9 +70,8 @@ module _ (plan : Planned) (limits : Limits) where
     pub obeying : Obeying k own deeds pace victims
     pub rests : Rests plan limits own obeying.past (stands_by k own deeds)
 
-  -- so it does, and goes on to make its next act; where it was to park, it has
-  pub record Acting (k : Opening) (own : ℕ) (deeds : List Deed) (pace : Pace) (victims : Drawing) (act : Act) : Type 0 where
-    pub past : Past
+  -- so it does, with such a past, and goes on to make its next act; where it was to park, it has
+  pub record Acting (k : Opening) (own : ℕ) (deeds : List Deed) (past : Past) (pace : Pace) (victims : Drawing) (act : Act) : Type 0 where
     pub number : pace.processor ≡ own
     pub pace_is : IsPace plan limits (awake plan limits own past (stands_by k own deeds)) (stands_by k own deeds) pace
     pub goes : ¬ Stops plan limits own past (stands_by k own deeds)

@@ -5,7 +5,7 @@ ghost use Rattle.ppm_step.specs.Standings.{Standing, IsDone};
 ghost use Rattle.ppm_step.specs.Told.{place_of};
 ghost use Rattle.ppm_plan.specs.Draws.{Drawing};
 ghost use Rattle.ppm_plan.specs.Schedules.{Planned};
-ghost use Rattle.ppm_choice.specs.Obeying.{is_park};
+ghost use Rattle.ppm_choice.specs.Obeying.{Past, is_park};
 ghost use Rattle.ppm_choice.specs.Tells.{parked};
 ghost use Rattle.ppm_table.specs.Run.{IsActAt};
 ghost use Rattle.ppm_table.specs.Shown.{IsOf, deeds_of_processor, opening_of};
@@ -146,11 +146,11 @@ fn make<W: Watch>(
     ensures of { IsOf shared.now processor.new }
     ensures own { processor.new.local.own ≡ processor.old.local.own }
     ensures keeps { Keeps (W.told watch.old) (W.told watch.new) }
-    ensures obeys { result ≡ true → (plan : Planned) (victims : Drawing)
-        → (a : Acting plan limits (opening_of shared.now) processor.old.local.own (deeds_of_processor processor.old) pace.old victims act)
+    ensures obeys { result ≡ true → (plan : Planned) (past : Past) (victims : Drawing)
+        → Acting plan limits (opening_of shared.now) processor.old.local.own (deeds_of_processor processor.old) past pace.old victims act
         → Obeying plan limits (opening_of shared.now) processor.old.local.own (deeds_of_processor processor.new) pace.new victims
         × Grows (W.told watch.old) (W.told watch.new)
-        (told_so_far plan limits (opening_of shared.now) processor.old.local.own (deeds_of_processor processor.old) a.past)
+        (told_so_far plan limits (opening_of shared.now) processor.old.local.own (deeds_of_processor processor.old) past)
         (told_of_deeds plan limits (opening_of shared.now) processor.old.local.own (deeds_of_processor processor.new))
         × KeepsMore 1 processor.old.seat.me processor.new.seat.me }
     ensures quits { result ≡ false → HasQuit (opening_of shared.now) processor.old.local.own (deeds_of_processor processor.new) }

@@ -21,7 +21,7 @@ returns-then-is_over-clause-goes g c =
 
 -- it rests
 pub rest_first-requires-clause-resting : goal.rest_first-requires-clause-resting
-rest_first-requires-clause-resting g c =
+rest_first-requires-clause-resting g c κs within =
     let k = opening_of c.args.shared.now in
     let p = c.args.processor.now in
     let o = c.requires.obeying in
@@ -33,13 +33,13 @@ rest_first-requires-clause-resting g c =
 
 -- it makes its next act
 pub make-requires-clause-lives : goal.make-requires-clause-lives
-make-requires-clause-lives g c =
+make-requires-clause-lives g c κs within =
     let shared = c.args.shared.now in
     lives_on c.args.pace.now.next (standing_of shared.shape shared.code c.args.processor.now.local) (sym c.is_over.ensures ∙ c.if-is_over.false)
     (c.requires.obeying.pace_is.next ∙ ap next_of (sym c.requires.of.stands))
 
 pub make-requires-clause-may : goal.make-requires-clause-may
-make-requires-clause-may g c =
+make-requires-clause-may g c κs within =
     let shared = c.args.shared.now in
     let p = c.args.processor.now in
     let o = c.requires.obeying in
@@ -57,6 +57,6 @@ returns-clause-goes g c =
     let lives : stands_by k own (deeds_of_processor p) ≢ IsDone = lives_on c.args.pace.now.next (stands_by k own (deeds_of_processor p)) (sym c.is_over.ensures ∙ c.if-is_over.false) o.pace_is.next in
     let a = acting_next c.args.plan.now c.args.limits k own (deeds_of_processor p) c.args.pace.now c.args.victims.now c.next_act.new.victims c.in-Some.act o lives next in
     goes_by_act c.args.plan.now c.args.limits k own (g.W.Watch.told c.args.watch.now) (g.W.Watch.told c.args.watch.now) (g.W.Watch.told c.make.new.watch) p.seat.me c.make.new.processor.seat.me
-    c.args.pace.now c.make.new.pace c.next_act.new.victims c.in-Some.act a c.make.result c.way_of.result c.way_of.ensures
+    o.past c.make.new.pace c.next_act.new.victims c.make.result c.way_of.result c.way_of.ensures
     (grows_from c.args.plan.now c.args.limits k own (deeds_of_processor p) o.past (g.W.Watch.told c.args.watch.now) next.0)
-    (λ taken. c.make.ensures.obeys taken c.args.plan.now c.next_act.new.victims a) c.make.ensures.quits
+    (λ taken. c.make.ensures.obeys taken c.args.plan.now o.past c.next_act.new.victims a) c.make.ensures.quits

@@ -1,4 +1,4 @@
-use Rattle.std.proofs.Common.{ℕ, sym, subst, arith}
+use Rattle.std.proofs.Common.{ℕ, ◌<◌, ◌^◌, sym, subst, arith}
 use Rattle.ppm_choice.specs.declared.pace.Pace.{Pace}
 use Rattle.ppm_table.specs.Shown.{deeds_of_processor, opening_of}
 use Rattle.ppm_table.proofs.TellingLemmas.{keeps_both}
@@ -8,13 +8,17 @@ use Rattle.ppm_threads.proofs.going.go_on.Goals as goal
 
 -- no steps were made in a row, and the pace is what it was
 pub act-requires-clause-few : goal.act-requires-clause-few
-act-requires-clause-few g c =
+act-requires-clause-few g c κs within =
     subst (λ (p : Pace). p.work < 2 ^ 62) (sym (c.in-Some.ensures.none c.if-made-eq0.true)) c.requires.few
 
 pub act-requires-clause-obeying : goal.act-requires-clause-obeying
-act-requires-clause-obeying g c =
+act-requires-clause-obeying g c κs within =
     subst (λ (n : ℕ). Obeying c.args.plan.now c.args.limits (opening_of c.args.shared.now) n (deeds_of_processor c.go_ahead.new.processor) c.go_ahead.new.pace c.args.victims.now)
     (sym c.go_ahead.ensures.own) (c.in-Some.ensures.goes c.args.victims.now c.requires.obeying).0
+
+-- the watcher refused one
+pub returns-in_default-clause-goes : goal.returns-in_default-clause-goes
+returns-in_default-clause-goes g c = c.in_default.ensures.goes c.args.victims.now c.requires.obeying
 
 -- its next act
 pub returns-then-made-eq0-clause-keeps : goal.returns-then-made-eq0-clause-keeps

@@ -10,16 +10,16 @@ unreachable-requires g c = some_told _ (sym (c.turn-told.ensures.acted c.require
 
 -- the watcher was told of the act, which is the next one
 pub returns-then-hear-clause-obeys : goal.returns-then-hear-clause-obeys
-returns-then-hear-clause-obeys g c = λ taken plan victims a.
+returns-then-hear-clause-obeys g c = λ taken plan past victims a.
     let shared = c.args.shared.now in
     let p = c.args.processor.now in
     let q = c.turn-told.new.self in
     let acted = c.turn-told.ensures.acted c.requires.lives in (
       acts_obey shared p q c.args.act c.turn-told.result c.requires.of c.turn-told.ensures.of c.turn-told.ensures.own acted c.requires.lives c.requires.may
-          plan c.args.limits c.args.pace.now c.count.new.self victims c.is_due-due.result a c.count.ensures.number
+          plan c.args.limits past c.args.pace.now c.count.new.self victims c.is_due-due.result a c.count.ensures.number
           (c.is_due-due.ensures shared.shape shared.code) c.count.ensures.pace,
       acts_grow shared p q c.args.act c.turn-told.result c.requires.of c.turn-told.ensures.of c.turn-told.ensures.own acted c.requires.lives c.requires.may
-          plan c.args.limits c.args.pace.now victims (g.W.Watch.told c.args.watch.now) (g.W.Watch.told c.hear.new.watch)
+          plan c.args.limits past c.args.pace.now victims (g.W.Watch.told c.args.watch.now) (g.W.Watch.told c.hear.new.watch)
           c.in-Some.event a c.in-Some.is (c.hear.ensures.heard c.if-hear.true),
       acts_more shared p q c.args.act c.turn-told.result c.requires.of c.turn-told.ensures.of c.turn-told.ensures.own acted c.requires.lives c.requires.may,
     )

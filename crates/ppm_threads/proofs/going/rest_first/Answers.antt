@@ -40,12 +40,12 @@ make-requires-clause-few g c =
     omega (arith, new, old, few)
 
 pub make-requires-clause-lives : goal.make-requires-clause-lives
-make-requires-clause-lives g c =
+make-requires-clause-lives g c κs within =
     let r = c.requires.resting in λ done.
     rests_live c.args.plan.now c.args.limits c.args.processor.now.local.own r.obeying.past _ r.rests (sym c.requires.of.stands ∙ done)
 
 pub make-requires-clause-may : goal.make-requires-clause-may
-make-requires-clause-may g c =
+make-requires-clause-may g c κs within =
     let shared = c.args.shared.now in
     let k = opening_of shared in
     let p = c.args.processor.now in
@@ -74,7 +74,7 @@ returns-clause-goes g c =
     c.rest.ensures.number pace_is next in
     let event = c.parked_at.ensures st (c.place.ensures shared.shape shared.code ∙ ap place_of c.requires.of.stands) in
     goes_by_act c.args.plan.now c.args.limits k own (g.W.Watch.told c.args.watch.now) (g.W.Watch.told c.hear.new.watch) (g.W.Watch.told c.make.new.watch) p.seat.me c.make.new.processor.seat.me
-    c.rest.new.self c.make.new.pace c.next_act.new.victims c.in-Some.act a c.make.result c.way_of.result c.way_of.ensures
+    r.obeying.past c.make.new.pace c.next_act.new.victims c.make.result c.way_of.result c.way_of.ensures
     (grows_parked c.args.plan.now c.args.limits k own (deeds_of_processor p) r.obeying.past (g.W.Watch.told c.args.watch.now) (g.W.Watch.told c.hear.new.watch) c.parked_at.result idle r.rests event
     (c.hear.ensures.heard c.if-not-hear.false))
-    (λ taken. c.make.ensures.obeys taken c.args.plan.now c.next_act.new.victims a) c.make.ensures.quits
+    (λ taken. c.make.ensures.obeys taken c.args.plan.now r.obeying.past c.next_act.new.victims a) c.make.ensures.quits
