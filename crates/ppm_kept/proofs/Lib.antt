@@ -51,3 +51,4 @@ pub mod LookLemmas
 pub mod TakeRow
 pub mod StateLemmas
 pub mod BeginLemmas
+pub mod LoadLemmas

@@ -15,3 +15,4 @@ pub mod JoinLast
 pub mod JoinValues
 pub mod Takes
 pub mod Places
+pub mod Loads

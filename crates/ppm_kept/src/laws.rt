@@ -6,6 +6,7 @@ ghost use Rattle.ppm_kept.specs.JoinLast.{JoinRowKeeps, LastJoinRowKeeps};
 ghost use Rattle.ppm_kept.specs.JoinValues.{AllBranchValuesPass};
 ghost use Rattle.ppm_kept.specs.Joins.{EarlyJoinRowKeeps};
 ghost use Rattle.ppm_kept.specs.Laws.{BumpRowKeeps, FramesRun, RunRowKeeps};
+ghost use Rattle.ppm_kept.specs.Loads.{AllLoadsShow};
 ghost use Rattle.ppm_kept.specs.Openings.{ImagesOpen, OpeningsAreKept};
 ghost use Rattle.ppm_kept.specs.Others.{OthersKeep};
 ghost use Rattle.ppm_kept.specs.Places.{MachinesOpen, TurnsShow};
@@ -125,6 +126,12 @@ pub fn take_rows_keep()
 pub fn turns_show()
     ensures turns { TurnsShow }
     ensures opens { MachinesOpen }
+{}
+
+/// What a place loads in a capsule, or in a row of its strand, is a cell that frames have, so the words
+/// by cells show what the load finds.
+pub fn loads_show()
+    ensures law { AllLoadsShow }
 {}
 
 /// The tree's half of a join where both branches ended: each store of a value into its slot is a
