@@ -49,3 +49,5 @@ pub mod JoinLastLemmas
 pub mod JoinLastRow
 pub mod LookLemmas
 pub mod TakeRow
+pub mod StateLemmas
+pub mod BeginLemmas

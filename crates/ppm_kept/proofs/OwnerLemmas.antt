@@ -14,7 +14,7 @@ owned i p x low high =
     let is : x - place_at i.shape 0 ≡ p * place_size i.shape + off = omega (arith, low) in
     ap (λ (z : ℕ). z / place_size i.shape) is ∙ div-mul-add p (place_size i.shape) off size
 
-few_words : (s : Shape) → word_count s ≤ 75497921
+pub few_words : (s : Shape) → word_count s ≤ 75497921
 few_words s =
     let m : s.processors * place_size s ≤ 64 * place_size s = mul-le-mul_right (place_size s) s.within.processors_most in
     omega (arith, m, s.within.processors_most, s.within.room_most, s.within.slots_most, s.within.arrays_most)

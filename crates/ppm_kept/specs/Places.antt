@@ -1,7 +1,8 @@
 -- The state by places, from the words of a machine and from where its processors stand; and that each
 -- turn of a processor in a place is a step of that place.
 use Rattle.std.specs.Prelude.{◌≡◌, ◌≢◌, ◌<◌, ℕ, zero, suc, ◌==◌, nat_lt, if◌then◌else◌, Bool, true, false, List, Option, Some, None}
-use Rattle.ppm_cells.specs.Cells.{IsCell}
+use Rattle.ppm_strands.specs.Calm.{Calm}
+use Rattle.ppm_cells.specs.Cells.{IsCell, pool_at}
 use Rattle.ppm_cells.specs.Memory.{read, AreWordsOf}
 use Rattle.ppm_cells.specs.Restart.{restart_of}
 use Rattle.ppm_cells.specs.declared.cell.Cell.{Cell}
@@ -10,12 +11,13 @@ use Rattle.ppm_cells.specs.declared.restart.Restart.{Restart}
 use Rattle.ppm_cells.specs.declared.restart.RestartKind.{RestartKind}
 use Rattle.ppm_cells.specs.declared.restart.RestartKind.TheVariants.{Seek}
 use Rattle.ppm_cells.specs.declared.shape.Shape.{Shape}
+use Rattle.ppm_code.specs.Sizes.{slots_of}
 use Rattle.ppm_code.specs.declared.code.CodeParts.{CodeParts}
 use Rattle.ppm_step.specs.Contents.{word_of}
 use Rattle.ppm_step.specs.Frames.{Rest, Loads, Stores, Full, Installs}
 use Rattle.ppm_step.specs.Points.{cell_at}
 use Rattle.ppm_step.specs.Standings.{Standing, IsLost, IsPlaced, IsAt, IsWithin, IsRunning, IsBroken, then_is_there, rest_is_there, at_finish, went_row, went_rest}
-use Rattle.ppm_step.specs.State.{State as Machine, stand_of, happens, is_done_at}
+use Rattle.ppm_step.specs.State.{State as Machine, stand_of, happens, opening, is_done_at}
 use Rattle.ppm_step.specs.declared.content.Content.{Content}
 use Rattle.ppm_step.specs.declared.row.Point.{Point}
 use Rattle.ppm_step.specs.declared.row.Row.TheVariants.{Now, Store, Exchange}
@@ -24,10 +26,18 @@ use Rattle.ppm_step.specs.declared.row.Then.{Then}
 use Rattle.ppm_step.specs.declared.row.Then.TheVariants.{Load, Move}
 use Rattle.ppm_step.specs.declared.turn.Act.{Act}
 use Rattle.ppm_step.specs.declared.turn.Act.TheVariants.{Step, Soft, Hard}
+use Rattle.ppm_layout.specs.Correct.{Opens}
+use Rattle.ppm_layout.specs.Root.{root_strand}
+use Rattle.ppm_layout.specs.declared.images.Image.{Image as RealImage}
+use Rattle.ppm_words.specs.declared.named_array.NamedArray.{NamedArray}
 use Rattle.ppm_frames.specs.Views.{is_cell, view}
-use Rattle.ppm_kept.specs.Kept.{Doing, Resting, State}
+use Rattle.ppm_frames.specs.Seen.{arrays_at}
+use Rattle.ppm_frames.specs.Skeletons.{Begins, InPlace, Leaf}
+use Rattle.ppm_kept.specs.Running.{strands}
+use Rattle.ppm_kept.specs.Kept.{Doing, Resting, State, IsKept}
 use Rattle.ppm_kept.specs.Moves.{doing_of, goes, stores, exchanges, installs, fills}
 use Rattle.ppm_kept.specs.Laws.{Ends, kind_then}
+use Rattle.ppm_kept.specs.Openings.{opening_of}
 
 -- the restart kind of each place; one that is not there, or whose word is broken, seeks
 abbrev pub kind_or : Option Restart → RestartKind
@@ -135,3 +145,12 @@ abbrev pub TurnsShow : Type 0
 TurnsShow = (s : Shape) (code : CodeParts) (state : Machine) (c : ℕ)
     → ((seat : Seat) → Holds s state c seat.place → RowShows s code state c seat × RestShows s code state c seat)
     × ((p : ℕ) → Holds s state c p → (is_done_at (stand_of state c) ≡ false) → OthersShow s code state c p)
+
+-- a machine that opens an image of a sound code, with all processors lost, is kept so: the tree is the
+-- strand of the root, at the keeper's place
+abbrev pub MachinesOpen : Type 0
+MachinesOpen = (code : CodeParts) (input : List NamedArray) (s : Shape) (keeper : ℕ) (image : RealImage)
+    → Opens code input s keeper image
+    → Calm (strands s code) (root_strand code input) (arrays_at (view s image.words))
+    → (places_of s (opening image.words s.processors) ≡ opening_of (view s image.words) keeper (pool_at s keeper))
+    × IsKept (record { shape = s; code = code }) (root_strand code input) (arrays_at (view s image.words)) (places_of s (opening image.words s.processors)) (Leaf (InPlace keeper) (Begins 0) (pool_at s keeper) (slots_of code code.root))

@@ -8,6 +8,7 @@ ghost use Rattle.ppm_kept.specs.Joins.{EarlyJoinRowKeeps};
 ghost use Rattle.ppm_kept.specs.Laws.{BumpRowKeeps, FramesRun, RunRowKeeps};
 ghost use Rattle.ppm_kept.specs.Openings.{ImagesOpen, OpeningsAreKept};
 ghost use Rattle.ppm_kept.specs.Others.{OthersKeep};
+ghost use Rattle.ppm_kept.specs.Places.{MachinesOpen, TurnsShow};
 ghost use Rattle.ppm_kept.specs.Pushing.{AllUntakenStays, Push1RowKeeps, Push2RowKeeps};
 ghost use Rattle.ppm_kept.specs.Returns.{ExchangesAreSeen, UnwindRowKeeps};
 ghost use Rattle.ppm_kept.specs.Takes.{TakeRowsKeep};
@@ -116,6 +117,14 @@ pub fn join_row_keeps()
 /// place goes on with what it inherited, with takeover by entries, nothing is said yet.
 pub fn take_rows_keep()
     ensures law { TakeRowsKeep }
+{}
+
+/// The state by places, from the words of a machine and from where its processors stand: each turn of
+/// a processor that is alone in a place is a step of that place, of those that the laws of rows speak
+/// of; and a machine that opens an image is kept.
+pub fn turns_show()
+    ensures turns { TurnsShow }
+    ensures opens { MachinesOpen }
 {}
 
 /// The tree's half of a join where both branches ended: each store of a value into its slot is a

@@ -4,7 +4,7 @@
 //! Contract: an opening is kept; each step of a place in the rows of its strand keeps it, with the
 //! tree's own steps; what other places have done stays meanwhile (`specs/Others`).
 //! Stands on `ppm_step`, `ppm_ends` and `ppm_frames`. Still missing are strands that are inherited,
-//! and `IsKept` from the standings of processors.
+//! with takeover by entries.
 //! After the capsules and work stealing of Blelloch et al., SPAA 2018.
 #![tactic(auto)]
 
@@ -14,5 +14,5 @@ pub use laws::{
     arrive_row_keeps, branch_values_pass, bump_row_keeps, copies_stay, early_join_row_keeps,
     exchanges_are_seen, frames_run, join_row_keeps, last_join_row_keeps, openings_are_kept,
     others_keep, push1_row_keeps, push2_row_keeps, run_row_keeps, steps_are_seen, take_rows_keep,
-    untaken_stays, unwind_row_keeps,
+    turns_show, untaken_stays, unwind_row_keeps,
 };
