@@ -52,3 +52,4 @@ pub mod TakeRow
 pub mod StateLemmas
 pub mod BeginLemmas
 pub mod LoadLemmas
+pub mod StepRows

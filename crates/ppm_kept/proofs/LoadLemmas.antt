@@ -34,6 +34,7 @@ use Rattle.ppm_step.specs.Frames.{Rest, Loads, cell_of}
 use Rattle.ppm_step.specs.Points.{cell_at, reading_at, header_word}
 use Rattle.ppm_step.specs.Rows.{on_number, on_link, on_outcome, if_there, bumped, unwind_by, back_to, unwound, after_value, target_found, value_found, joins, is_inline, is_last, join_by, join_outcome, right_begins, right_value, found_at, row_of}
 use Rattle.ppm_step.specs.There.{is_there}
+use Rattle.ppm_step.specs.declared.content.Content.{Content}
 use Rattle.ppm_step.specs.declared.content.Content.TheVariants.{ALink, AFinish}
 use Rattle.ppm_step.specs.declared.frame.Home.{Home}
 use Rattle.ppm_step.specs.declared.row.Point.{Point as RowPoint}
@@ -86,7 +87,7 @@ module _ (i : Image) (fair : IsFair i.code) (root : Tree (Frame FrameWord Point)
       pool_cell i x (law.there x some) b.0 (let under = b.1 in let top_ = (law.rooms (owner i x)).1 in omega (arith, under, top_))
 
   -- of a part of it
-  in_part : (c : Around) (u : Skeleton) → t ≡ plug c u → (x : ℕ) → 1 ≤ count (hook_at Root c) u x → is_cell i.shape (BlockWord x) ≡ true
+  pub in_part : (c : Around) (u : Skeleton) → t ≡ plug c u → (x : ℕ) → 1 ≤ count (hook_at Root c) u x → is_cell i.shape (BlockWord x) ≡ true
   in_part c u is x one = in_tree x (λ z. let sum = counted i fair root input s t law p c u x is in omega (arith, z, sum, one))
 
   -- of a row under way
@@ -176,6 +177,7 @@ module _ (i : Image) (fair : IsFair i.code) (root : Tree (Frame FrameWord Point)
     abbrev IsBump : Row → Type 0
     IsBump (Now (Load (BumpLink q))) = q ≡ r
     IsBump (Now (Load _)) = ⊥
+    IsBump (Exchange c v w next) = ⊥
     IsBump _ = Unit {0}
 
     bumped_row : (b z a : ℕ) (k : LinkKind) (rest : Row) → Reach i m (seat_at p (Bump r) b) a (bumped (seat_at p (Bump r) b) r z k) rest → IsBump rest
@@ -205,6 +207,16 @@ module _ (i : Image) (fair : IsFair i.code) (root : Tree (Frame FrameWord Point)
 
     bump_loads : (own bottom victim : ℕ) (point : RowPoint) → s.doing p ≡ InRow (Now (Load point)) → is_cell i.shape (cell_at (kind_seat own p (Bump r) bottom) victim point) ≡ true
     bump_loads own bottom victim point de = let u = under_at (Bump r) ke (Now (Load point)) de in bump_point own bottom victim point (bump_row u.0 u.1 (Now (Load point)) u.2)
+
+    bump_point_is : (point : RowPoint) → IsBump (Now (Load point)) → point ≡ BumpLink r
+    bump_point_is (BumpLink q) e = ap BumpLink e
+    bump_point_is _ e = absurd e
+
+    pub bump_links : (point : RowPoint) → s.doing p ≡ InRow (Now (Load point)) → point ≡ BumpLink r
+    bump_links point de = let u = under_at (Bump r) ke (Now (Load point)) de in bump_point_is point (bump_row u.0 u.1 (Now (Load point)) u.2)
+
+    pub bump_exchanges_none : (cell : Cell) (old new : Content) (next : Then) → s.doing p ≡ InRow (Exchange cell old new next) → ⊥
+    bump_exchanges_none cell old new next de = let u = under_at (Bump r) ke (Exchange cell old new next) de in bump_row u.0 u.1 (Exchange cell old new next) u.2
 
   -- Unwind loads words of its frame
   module _ (f : ℕ) (ke : s.kind p ≡ Unwind f) where
@@ -465,7 +477,7 @@ module _ (i : Image) (fair : IsFair i.code) (root : Tree (Frame FrameWord Point)
         by (inr c) = absurd (let e = c.is in cc)
 
   -- Arrive loads nothing
-  arrive_loads : (r : ℕ) (d : Side) → s.kind p ≡ Arrive r d → (point : RowPoint) → s.doing p ≡ InRow (Now (Load point)) → ⊥
+  pub arrive_loads : (r : ℕ) (d : Side) → s.kind p ≡ Arrive r d → (point : RowPoint) → s.doing p ≡ InRow (Now (Load point)) → ⊥
   arrive_loads r d ke point de = let u = under_at (Arrive r d) ke (Now (Load point)) de in by u.0 u.1 u.2
     where
       by : (b a : ℕ) → Reach i m (seat_at p (Arrive r d) b) a (row_of i.shape (seat_at p (Arrive r d) b) (Arrive r d)) (Now (Load point)) → ⊥

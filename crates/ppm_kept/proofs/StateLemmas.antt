@@ -22,7 +22,7 @@ use Rattle.ppm_step.specs.Frames.{Rest, Loads, Stores, Full, Installs}
 use Rattle.ppm_step.specs.Points.{cell_at, reading_at}
 use Rattle.ppm_step.specs.Contents.{content_of}
 use Rattle.ppm_step.specs.Rows.{found_at, row_of}
-use Rattle.ppm_step.specs.Standings.{Standing, IsLost, IsPlaced, IsAt, IsWithin, IsRunning, IsBroken, IsDone, within_if, running_if, running, row_is_there, then_is_there, rest_is_there, enters, stands_then, stands, begins_if, at_finish, forked, begun, went_row}
+use Rattle.ppm_step.specs.Standings.{Standing, IsLost, IsPlaced, IsAt, IsWithin, IsRunning, IsBroken, IsDone, unknown_place, placed, within_if, running_if, running, row_is_there, then_is_there, rest_is_there, enters, stands_then, stands, begins_if, at_finish, forked, begun, went_row}
 use Rattle.ppm_step.specs.State.{State as Machine, stand_in, stand_of, acts, is_done_at}
 use Rattle.ppm_step.specs.There.{restart_is_there}
 use Rattle.ppm_step.proofs.ThereLemmas.{restart_fits}
@@ -96,7 +96,7 @@ module _ (f g : ℕ → Standing) (c p : ℕ) (x : Standing) (here : g c ≡ x) 
   doing_none zero le = refl
   doing_none (suc n) le = if_false (is_in p (g n)) _ _ (out n (λ e. omega (arith, le, e))) ∙ doing_none n (omega (arith, le))
 
-  doing_here : (n : ℕ) → c < n → doing_in g n p ≡ doing_of x
+  pub doing_here : (n : ℕ) → c < n → doing_in g n p ≡ doing_of x
   doing_here zero lt = absurd (omega (arith, lt))
   doing_here (suc n) lt = elim (cases_eq n c) [
     | inl e ↦ ap (λ (y : Standing). if is_in p y then doing_of y else doing_in g n p) (ap g e ∙ here)
@@ -186,7 +186,7 @@ state_path w w' k k' d d' a b c = λ i. record { words = a i; kind = b i; doing 
 
 module _ (s : Shape) (code : CodeParts) (state : Machine) (c p : ℕ) (holds : Holds s state c p) (live : is_done_at (stand_of state c) ≡ false) where
   -- where it then stands, with the words after it
-  moved : (words : List ℕ) (x : Standing) → IsOf p x → (w : Cell → ℕ) (k : ℕ → RestartKind) → view s words ≡ w → kinds_of s words ≡ k
+  pub moved : (words : List ℕ) (x : Standing) → IsOf p x → (w : Cell → ℕ) (k : ℕ → RestartKind) → view s words ≡ w → kinds_of s words ≡ k
       → places_of s (record { words = words; stand = slice_set state.stand c x }) ≡ state_by w k (put (doing_in (stand_of state) s.processors) p (doing_of x))
   moved words x now w k a b = state_path (view s words) w (kinds_of s words) k (doing_in (stand_of (record { words = words; stand = slice_set state.stand c x })) s.processors) (put (doing_in (stand_of state) s.processors) p (doing_of x)) a b
       (doing_moves (stand_of state) (stand_of (record { words = words; stand = slice_set state.stand c x })) c p x (stand_own state.stand c x live) (λ d ne. stand_other state.stand c d x ne) holds.own now holds.others s.processors holds.there)
@@ -314,10 +314,18 @@ module _ (s : Shape) (code : CodeParts) (state : Machine) (c p : ℕ) (holds : H
   hard_by (IsRunning seat rest) no_ e = unseen s code state c p holds live (DeadWord c) 1 dead_out IsDone tt
   hard_by (IsBroken q) no_ e = unseen s code state c p holds live (DeadWord c) 1 dead_out IsDone tt
 
+  lost_by : (found : ℕ) → found ≡ p → places_of s (record { words = state.words; stand = slice_set state.stand c (placed s found) }) ≡ goes T p IsLost
+  lost_by found e = by (nat_lt found s.processors) (ap (λ (x : ℕ). nat_lt x s.processors) e ∙ lt-ltb p s.processors holds.place)
+    where
+      by : (b : Bool) → b ≡ true → places_of s (record { words = state.words; stand = slice_set state.stand c (if b then IsPlaced found else IsBroken unknown_place) }) ≡ goes T p IsLost
+      by true e = moved s code state c p holds live state.words (IsPlaced found) tt (view s state.words) (kinds_of s state.words) refl refl
+      by false e = absurd (cc)
+
   other_turns : OthersShow s code state c p
   other_turns = record {
     begins = λ victim restart e. at_stand (IsAt p restart) e (Step victim) (goes T p (at_finish s code c p restart (read s state.words FinishWord)))
         (moved s code state c p holds live state.words (at_finish s code c p restart (read s state.words FinishWord)) (begins_of s code c p restart (read s state.words FinishWord)) (view s state.words) (kinds_of s state.words) refl refl);
+    lost = λ victim e found. at_stand IsLost e (Step victim) (goes T p IsLost) (lost_by (read s state.words (CarryWord c)) found);
     placed = λ victim e. at_stand (IsPlaced p) e (Step victim) (goes T p IsLost) (moved s code state c p holds live state.words (IsAt p (restart_of (read s state.words (RestartWord p)))) tt (view s state.words) (kinds_of s state.words) refl refl);
     soft = at_stand (stand_of state c) refl Soft (goes T p IsLost) (soft_by (stand_of state c) live refl);
     hard = at_stand (stand_of state c) refl Hard (goes T p IsLost) (hard_by (stand_of state c) live refl);

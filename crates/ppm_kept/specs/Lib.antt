@@ -16,3 +16,4 @@ pub mod JoinValues
 pub mod Takes
 pub mod Places
 pub mod Loads
+pub mod Steps

@@ -6,7 +6,7 @@ use Rattle.ppm_cells.specs.Cells.{IsCell, pool_at}
 use Rattle.ppm_cells.specs.Memory.{read, AreWordsOf}
 use Rattle.ppm_cells.specs.Restart.{restart_of}
 use Rattle.ppm_cells.specs.declared.cell.Cell.{Cell}
-use Rattle.ppm_cells.specs.declared.cell.Cell.TheVariants.{FinishWord, RestartWord}
+use Rattle.ppm_cells.specs.declared.cell.Cell.TheVariants.{FinishWord, CarryWord, RestartWord}
 use Rattle.ppm_cells.specs.declared.restart.Restart.{Restart}
 use Rattle.ppm_cells.specs.declared.restart.RestartKind.{RestartKind}
 use Rattle.ppm_cells.specs.declared.restart.RestartKind.TheVariants.{Seek}
@@ -132,10 +132,12 @@ module _ (s : Shape) (code : CodeParts) (state : Machine) (c : ℕ) where
     pub full : (victim : ℕ) → stand_of state c ≡ IsRunning seat Full
         → acted (Step victim) ≡ fills before seat.place
 
-  -- the load of the finish word before a row, and faults, after which it is in no place
+  -- the loads before a row, and faults, after which it is in no place
   pub record OthersShow (p : ℕ) : Type 0 where
     pub begins : (victim : ℕ) (restart : Option Restart) → stand_of state c ≡ IsAt p restart
         → acted (Step victim) ≡ goes before p (at_finish s code c p restart (read s state.words FinishWord))
+    pub lost : (victim : ℕ) → stand_of state c ≡ IsLost → read s state.words (CarryWord c) ≡ p
+        → acted (Step victim) ≡ goes before p IsLost
     pub placed : (victim : ℕ) → stand_of state c ≡ IsPlaced p → acted (Step victim) ≡ goes before p IsLost
     pub soft : acted Soft ≡ goes before p IsLost
     pub hard : acted Hard ≡ goes before p IsLost

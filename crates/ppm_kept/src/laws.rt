@@ -12,6 +12,7 @@ ghost use Rattle.ppm_kept.specs.Others.{OthersKeep};
 ghost use Rattle.ppm_kept.specs.Places.{MachinesOpen, TurnsShow};
 ghost use Rattle.ppm_kept.specs.Pushing.{AllUntakenStays, Push1RowKeeps, Push2RowKeeps};
 ghost use Rattle.ppm_kept.specs.Returns.{ExchangesAreSeen, UnwindRowKeeps};
+ghost use Rattle.ppm_kept.specs.Steps.{TurnsKeep};
 ghost use Rattle.ppm_kept.specs.Takes.{TakeRowsKeep};
 ghost use Rattle.ppm_kept.specs.Turns.{StepsAreSeen, StoresAreCells};
 
@@ -132,6 +133,14 @@ pub fn turns_show()
 /// by cells show what the load finds.
 pub fn loads_show()
     ensures law { AllLoadsShow }
+{}
+
+/// A whole turn, with takeover by places: the state by places is kept, with the skeleton after it, or
+/// the turn stops the run with a finish that is no outcome. What it takes from the deque's half is
+/// `ActsSo`: the processor is alone in its place, how its row was come to, and of takes that the branch
+/// waits and that no other place is about to begin it.
+pub fn turns_keep()
+    ensures law { TurnsKeep }
 {}
 
 /// The tree's half of a join where both branches ended: each store of a value into its slot is a
