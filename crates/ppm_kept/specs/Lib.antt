@@ -14,4 +14,5 @@ pub mod Joins
 pub mod JoinLast
 pub mod JoinValues
 pub mod Takes
+pub mod Births
 pub mod Places
