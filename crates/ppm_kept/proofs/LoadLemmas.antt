@@ -1,13 +1,13 @@
 -- What places load are cells that frames have.
 use Rattle.std.proofs.Common.{◌≡◌, ◌⊎◌, ◌≤◌, ◌<◌, ℕ, zero, suc, ◌+◌, ◌==◌, Bool, true, false, inl, inr, refl, sym, ap, ◌∙◌, subst, subst₂, arith, Option, Some, None}
 use Rattle.std.specs.Prelude.{nat_lt, if◌then◌else◌}
-use Rattle.std.proofs.lemmas.Bool.{cases_Bool, lt-ltb}
+use Rattle.std.proofs.lemmas.Bool.{lt-ltb}
 use Rattle.ppm_strands.specs.Tree.{Words, Tree}
 use Rattle.ppm_cells.specs.Cells.{word_count}
 use Rattle.ppm_cells.specs.Finish.{finish_of}
 use Rattle.ppm_cells.specs.Link.{link_of}
 use Rattle.ppm_cells.specs.declared.cell.Cell.{Cell}
-use Rattle.ppm_cells.specs.declared.cell.Cell.TheVariants.{RoomCounter, BlockWord, ArrayWord}
+use Rattle.ppm_cells.specs.declared.cell.Cell.TheVariants.{RoomCounter, BlockWord}
 use Rattle.ppm_cells.specs.declared.finish.Finish.{Finish}
 use Rattle.ppm_cells.specs.declared.finish.Finish.TheVariants.{Ended, Trapped}
 use Rattle.ppm_cells.specs.declared.link.Link.{Link}
@@ -32,7 +32,7 @@ use Rattle.ppm_join.specs.Outcome.{outcome_of_both}
 use Rattle.ppm_step.specs.Contents.{content_of, read_so}
 use Rattle.ppm_step.specs.Frames.{Rest, Loads, cell_of}
 use Rattle.ppm_step.specs.Points.{cell_at, reading_at, header_word}
-use Rattle.ppm_step.specs.Rows.{on_number, on_link, on_outcome, if_there, bumped, unwind_by, back_to, unwound, after_value, target_found, value_found, joins, is_inline, is_last, join_by, join_outcome, right_begins, right_value, found_at, row_of}
+use Rattle.ppm_step.specs.Rows.{on_link, on_outcome, if_there, bumped, unwind_by, back_to, unwound, after_value, target_found, joins, is_inline, is_last, join_by, join_outcome, found_at, row_of}
 use Rattle.ppm_step.specs.There.{is_there}
 use Rattle.ppm_step.specs.declared.content.Content.{Content}
 use Rattle.ppm_step.specs.declared.content.Content.TheVariants.{ALink, AFinish}
@@ -43,10 +43,10 @@ use Rattle.ppm_step.specs.declared.row.Row.{Row}
 use Rattle.ppm_step.specs.declared.row.Row.TheVariants.{Now, Store, Exchange}
 use Rattle.ppm_step.specs.declared.row.Seat.{Seat}
 use Rattle.ppm_step.specs.declared.row.Then.{Then}
-use Rattle.ppm_step.specs.declared.row.Then.TheVariants.{Load, Install, Begin, Broken}
+use Rattle.ppm_step.specs.declared.row.Then.TheVariants.{Load, Broken}
 use Rattle.ppm_frames.specs.Views.{is_cell}
 use Rattle.ppm_frames.specs.Seen.{IsIn}
-use Rattle.ppm_frames.specs.Skeletons.{Begins, Over, Arrives, InPlace, Skeleton, Leaf, Calling, Forking, inside, count, Around, plug, hook_at}
+use Rattle.ppm_frames.specs.Skeletons.{Begins, Over, Arrives, InPlace, Skeleton, Leaf, Forking, count, Around, plug, hook_at}
 use Rattle.ppm_frames.specs.Good.{Match, BumpsAt}
 use Rattle.ppm_frames.proofs.SkeletonLemmas.{inside_at, branch_from}
 use Rattle.ppm_kept.specs.Running.{asked_of, IsFair, IsOf, last_of, home_at, number_at, now, all_of, limit, HasRoom, IsRoomy, HasCome}

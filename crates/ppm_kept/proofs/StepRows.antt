@@ -1,16 +1,15 @@
 -- A whole turn keeps what is kept, by places.
-use Rattle.std.proofs.Common.{◌≡◌, ◌≢◌, ◌⊎◌, ◌≤◌, ◌<◌, ℕ, zero, suc, ◌+◌, ◌==◌, Bool, true, false, List, inl, inr, refl, sym, ap, ◌∙◌, subst, subst₂, arith, Option, Some, None, slice_set}
+use Rattle.std.proofs.Common.{◌≡◌, ◌⊎◌, ◌<◌, ℕ, zero, suc, ◌+◌, ◌==◌, Bool, true, false, List, inl, inr, refl, sym, ap, ◌∙◌, subst, subst₂, arith, Option, Some, None, slice_set}
 use Rattle.std.specs.Prelude.{nat_lt, ◌&&◌, slice_index, if◌then◌else◌}
 use Rattle.std.proofs.lemmas.Bool.{ltb-true}
 use Rattle.ppm_strands.specs.Tree.{Words, Tree}
-use Rattle.ppm_cells.specs.Cells.{IsCell}
 use Rattle.ppm_cells.specs.Finish.{finish_word, finish_of, IsFinish}
 use Rattle.ppm_cells.specs.Memory.{read, write}
 use Rattle.ppm_cells.proofs.MemoryLemmas.{read_back}
 use Rattle.ppm_cells.specs.declared.cell.Cell.{Cell}
-use Rattle.ppm_cells.specs.declared.cell.Cell.TheVariants.{FinishWord, CarryWord, DeadWord, RestartWord, MessageWord, HolderWord, Top as TopWord, RoomCounter, EntryWord, BlockWord, ArrayWord}
+use Rattle.ppm_cells.specs.declared.cell.Cell.TheVariants.{FinishWord, CarryWord, MessageWord, HolderWord, Top as TopWord, EntryWord}
 use Rattle.ppm_cells.specs.declared.finish.Finish.{Finish}
-use Rattle.ppm_cells.specs.declared.finish.Finish.TheVariants.{OutOfTurns, Stopped, Broken as BrokenAt}
+use Rattle.ppm_cells.specs.declared.finish.Finish.TheVariants.{Broken as BrokenAt}
 use Rattle.ppm_cells.specs.declared.link.LinkKind.TheVariants.{Root}
 use Rattle.ppm_cells.specs.declared.restart.Restart.{Restart}
 use Rattle.ppm_cells.specs.declared.restart.RestartKind.{RestartKind}
@@ -23,12 +22,11 @@ use Rattle.ppm_code.specs.Strands.{Point, Result}
 use Rattle.ppm_code.specs.declared.location.FrameWord.{FrameWord}
 use Rattle.ppm_step.specs.Contents.{content_of, word_of}
 use Rattle.ppm_step.specs.Frames.{Rest, Loads, Stores, Full, Installs, Breaks}
-use Rattle.ppm_step.specs.Points.{cell_at, reading_at, header_word, offset_word}
+use Rattle.ppm_step.specs.Points.{cell_at, reading_at, offset_word}
 use Rattle.ppm_step.specs.Rows.{found_at, row_of}
-use Rattle.ppm_step.specs.Standings.{Standing, IsLost, IsPlaced, IsAt, IsWithin, IsRunning, IsBroken, IsDone, within_if, row_is_there, then_is_there, stands, begins_if, at_finish, went_row, went_rest}
-use Rattle.ppm_step.specs.State.{State as Machine, stand_of, quit_with, acts, happens, is_done_at}
+use Rattle.ppm_step.specs.Standings.{Standing, IsLost, IsPlaced, IsAt, IsWithin, IsRunning, IsBroken, IsDone, within_if, then_is_there, stands, begins_if, at_finish, went_row, went_rest}
+use Rattle.ppm_step.specs.State.{State as Machine, stand_of, quit_with, acts, is_done_at}
 use Rattle.ppm_step.specs.There.{is_there, restart_is_there}
-use Rattle.ppm_step.specs.declared.content.Content.{Content}
 use Rattle.ppm_step.specs.declared.row.Point.{Point as RowPoint}
 use Rattle.ppm_step.specs.declared.row.Point.TheVariants.{Header, BumpLink, Offset}
 use Rattle.ppm_step.specs.declared.row.Row.{Row}
@@ -38,26 +36,25 @@ use Rattle.ppm_step.specs.declared.row.Then.{Then}
 use Rattle.ppm_step.specs.declared.row.Then.TheVariants.{Load, Install, Fork, Begin, Move, Enter, Again, Broken}
 use Rattle.ppm_step.specs.declared.turn.Act.{Act}
 use Rattle.ppm_step.specs.declared.turn.Act.TheVariants.{Step, Soft, Hard, Quit}
-use Rattle.ppm_step.specs.declared.turn.Turn.{Turn}
 use Rattle.ppm_step.specs.declared.turn.Why.{Why}
 use Rattle.ppm_step.specs.declared.turn.Why.TheVariants.{Turns, Watch}
 use Rattle.ppm_frames.specs.Views.{is_cell, view}
-use Rattle.ppm_frames.specs.Skeletons.{Waiting as WaitingLeaf, Skeleton, Leaf, Forking, inside, count, pushed, over_left, take_in, hook_at}
+use Rattle.ppm_frames.specs.Skeletons.{Waiting as WaitingLeaf, Skeleton, Leaf, Forking, pushed, over_left, take_in}
 use Rattle.ppm_frames.proofs.SkeletonLemmas.{inside_at}
 use Rattle.ppm_frames.proofs.ViewLemmas.{view_is}
 use Rattle.ppm_kept.specs.Running.{IsFair}
-use Rattle.ppm_kept.specs.Branches.{Waits, is_taker, HasCopy}
-use Rattle.ppm_kept.specs.Kept.{Image, Doing, Resting, InRow, InRest, Broken as BrokenDoing, State, Under, Does, IsKept}
+use Rattle.ppm_kept.specs.Branches.{is_taker}
+use Rattle.ppm_kept.specs.Kept.{Image, Doing, Resting, InRow, InRest, Broken as BrokenDoing, State, Does, IsKept}
 use Rattle.ppm_kept.specs.Moves.{doing_of, goes, installs, loaded}
-use Rattle.ppm_kept.specs.Laws.{Ends, kind_then, RunKeeps, BumpKeeps}
+use Rattle.ppm_kept.specs.Laws.{Ends, kind_then, RunKeeps}
 use Rattle.ppm_kept.specs.Copies.{IsKnown}
 use Rattle.ppm_kept.specs.Others.{IsIdle}
 use Rattle.ppm_kept.specs.Returns.{UnwindKeeps}
 use Rattle.ppm_kept.specs.Pushing.{Comes, kind_seat, Push1Keeps, Push2Keeps}
 use Rattle.ppm_kept.specs.Arriving.{ArriveKeeps}
 use Rattle.ppm_kept.specs.JoinLast.{JoinKeeps}
-use Rattle.ppm_kept.specs.Takes.{IsWaiting, IsAlone, EndsSo, TakeKeeps}
-use Rattle.ppm_kept.specs.Places.{kinds_of, places_of, IsOf, Holds, IsUnseen, acted, RowShows, RestShows, OthersShow}
+use Rattle.ppm_kept.specs.Takes.{IsWaiting, TakeKeeps}
+use Rattle.ppm_kept.specs.Places.{kinds_of, places_of, IsOf, Holds, IsUnseen, acted, RowShows}
 use Rattle.ppm_kept.specs.Steps.{by_end, by_store, by_exchange, tree_by, by_act, CameBy, InRowSo, InRestSo, IsKindIf, StandsSo, ActsSo, IsStop, IsStopped, TurnsKeep}
 use Rattle.ppm_kept.proofs.PlaceLemmas.{going_to}
 use Rattle.ppm_kept.proofs.BlockLemmas.{finish_back}
@@ -66,8 +63,8 @@ use Rattle.ppm_kept.proofs.UnwindRow.{unwind_row_keeps}
 use Rattle.ppm_kept.proofs.PushRows.{push1_row_keeps, push2_row_keeps}
 use Rattle.ppm_kept.proofs.ArriveRow.{arrive_row_keeps}
 use Rattle.ppm_kept.proofs.JoinLastRow.{join_row_keeps}
-use Rattle.ppm_kept.proofs.TakeRow.{Takes, find_wait, take_rows_keep}
-use Rattle.ppm_kept.proofs.LookLemmas.{LookRow, IsLookCell, look_unseen, IsOffset, comes_look, no_begin, look_begins, starts_none}
+use Rattle.ppm_kept.proofs.TakeRow.{find_wait, take_rows_keep}
+use Rattle.ppm_kept.proofs.LookLemmas.{LookRow, IsLookCell, IsOffset, comes_look, no_begin, look_begins, starts_none}
 use Rattle.ppm_kept.proofs.LoadLemmas.{all_loads_show, in_part, bump_links, bump_exchanges_none, arrive_loads}
 use Rattle.ppm_kept.proofs.StateLemmas.{doing_here, moved, turns_show}
 use Rattle.ppm_kept.proofs.TurnLemmas.{stores_are_cells}
@@ -324,7 +321,7 @@ module _ (i : Image) (fair : IsFair i.code) (plain : i.shape.takeover ≡ ByPlac
       let keeps : Push1Keeps i root input S t p r = push1_row_keeps i fair root input S t law p a.1.holds.place r a.1.kind in
       end_step own p b victim (Push1 r) (λ next. t)
       (λ point a. arrives (Step victim) _ t ((show own p b victim (Push1 r) (Now (Load point)) a).loads victim point a.0)
-          (keeps.loads own b (found_at i.shape (kind_seat own p (Push1 r) b) victim point (content_of (reading_at point) (read i.shape words (cell_at (kind_seat own p (Push1 r) b) victim point)))))) (λ q. refl)
+      (keeps.loads own b (found_at i.shape (kind_seat own p (Push1 r) b) victim point (content_of (reading_at point) (read i.shape words (cell_at (kind_seat own p (Push1 r) b) victim point)))))) (λ q. refl)
       (λ next a ends. keeps.installs own b a.1.came.0 next ends a.1.came.1) next a
   push1_step own p b victim r (Store cell content next) a =
       let keeps : Push1Keeps i root input S t p r = push1_row_keeps i fair root input S t law p a.1.holds.place r a.1.kind in
@@ -341,7 +338,7 @@ module _ (i : Image) (fair : IsFair i.code) (plain : i.shape.takeover ≡ ByPlac
       let keeps : Push2Keeps i root input S t p r = push2_row_keeps i fair root input S t law p a.1.holds.place r a.1.kind in
       end_step own p b victim (Push2 r) (λ next. t)
       (λ point a. arrives (Step victim) _ t ((show own p b victim (Push2 r) (Now (Load point)) a).loads victim point a.0)
-          (keeps.loads own b (found_at i.shape (kind_seat own p (Push2 r) b) victim point (content_of (reading_at point) (read i.shape words (cell_at (kind_seat own p (Push2 r) b) victim point)))))) (λ q. refl)
+      (keeps.loads own b (found_at i.shape (kind_seat own p (Push2 r) b) victim point (content_of (reading_at point) (read i.shape words (cell_at (kind_seat own p (Push2 r) b) victim point)))))) (λ q. refl)
       (λ next a ends. keeps.installs own b a.1.came.0 next ends a.1.came.1) next a
   push2_step own p b victim r (Store cell content next) a =
       absurd ((push2_row_keeps i fair root input S t law p a.1.holds.place r a.1.kind).stores_none own b a.1.came.0 cell content next a.1.came.1)
@@ -530,8 +527,11 @@ module _ (i : Image) (fair : IsFair i.code) (plain : i.shape.takeover ≡ ByPlac
 
   proposes : (p : ℕ) → Holds i.shape state c p → is_done_at (stand_of state c) ≡ false → (v : Finish) → IsFinish v → IsStop v → (x : Standing) → IsOf p x → NoRow (doing_of x) → (b : Bool)
       → Kept (places_of i.shape (Proposed v x b)) t ⊎ IsStopped i.shape (Proposed v x b).words
-  proposes p holds live v fit stop x of rest true = inr (v,
-      ap finish_of (view_is i.shape (write i.shape words FinishWord (finish_word v)) FinishWord refl ∙ read_back i.shape words FinishWord (finish_word v) holds.words tt) ∙ finish_back v fit, stop)
+  proposes p holds live v fit stop x of rest true = inr (
+    v,
+    ap finish_of (view_is i.shape (write i.shape words FinishWord (finish_word v)) FinishWord refl ∙ read_back i.shape words FinishWord (finish_word v) holds.words tt) ∙ finish_back v fit,
+    stop,
+  )
   proposes p holds live v fit stop x of rest false = inl (subst (λ (z : State). Kept z t) (sym (moved i.shape i.code state c p holds live words x of (view i.shape words) (kinds_of i.shape words) refl refl)) (rests_kept p x rest))
 
   -- an act, by where the processor stands

@@ -1,6 +1,7 @@
 //! What each step of a place keeps, shown by calls that do nothing. The laws of rows are of tidy
 //! codes without conflicts.
 ghost use Rattle.ppm_kept.specs.Arriving.{ArriveRowKeeps};
+ghost use Rattle.ppm_kept.specs.Births.{AllBirthsStay, OpeningsHaveNone, RowsAreSteady};
 ghost use Rattle.ppm_kept.specs.Copies.{AllCopiesStay, OpeningsHaveCopies};
 ghost use Rattle.ppm_kept.specs.JoinLast.{JoinRowKeeps, LastJoinRowKeeps};
 ghost use Rattle.ppm_kept.specs.JoinValues.{AllBranchValuesPass};
@@ -141,6 +142,15 @@ pub fn loads_show()
 /// waits and that no other place is about to begin it.
 pub fn turns_keep()
     ensures law { TurnsKeep }
+{}
+
+/// Blocks are opened upwards in each pool: those that were forked lie below what a place may still
+/// open, and so they do after each step, with the one that is forked then, which is new. Rows of
+/// other kinds than Bump store into no counter and install none.
+pub fn forks_are_new()
+    ensures stay { AllBirthsStay }
+    ensures openings { OpeningsHaveNone }
+    ensures steady { RowsAreSteady }
 {}
 
 /// The tree's half of a join where both branches ended: each store of a value into its slot is a
