@@ -7,7 +7,7 @@ use Rattle.ppm_cells.specs.Finish.{finish_word, finish_of, IsFinish}
 use Rattle.ppm_cells.specs.Memory.{read, write}
 use Rattle.ppm_cells.proofs.MemoryLemmas.{read_back}
 use Rattle.ppm_cells.specs.declared.cell.Cell.{Cell}
-use Rattle.ppm_cells.specs.declared.cell.Cell.TheVariants.{FinishWord, CarryWord, MessageWord, HolderWord, Top as TopWord, EntryWord}
+use Rattle.ppm_cells.specs.declared.cell.Cell.TheVariants.{FinishWord, DeadWord, MessageWord, HolderWord, Top as TopWord, EntryWord}
 use Rattle.ppm_cells.specs.declared.finish.Finish.{Finish}
 use Rattle.ppm_cells.specs.declared.finish.Finish.TheVariants.{Broken as BrokenAt}
 use Rattle.ppm_cells.specs.declared.link.LinkKind.TheVariants.{Root}
@@ -41,10 +41,10 @@ use Rattle.ppm_step.specs.declared.turn.Why.TheVariants.{Turns, Watch}
 use Rattle.ppm_frames.specs.Views.{is_cell, view}
 use Rattle.ppm_frames.specs.Skeletons.{Waiting as WaitingLeaf, Skeleton, Leaf, Forking, pushed, over_left, take_in}
 use Rattle.ppm_frames.proofs.SkeletonLemmas.{inside_at}
-use Rattle.ppm_frames.proofs.ViewLemmas.{view_is}
+use Rattle.ppm_frames.proofs.ViewLemmas.{view_is, others_are_unseen}
 use Rattle.ppm_kept.specs.Running.{IsFair}
 use Rattle.ppm_kept.specs.Branches.{is_taker}
-use Rattle.ppm_kept.specs.Kept.{Image, Doing, Resting, InRow, InRest, Broken as BrokenDoing, State, Does, IsKept}
+use Rattle.ppm_kept.specs.Kept.{Image, Doing, Resting, InRow, InRest, State, Does, IsKept}
 use Rattle.ppm_kept.specs.Moves.{doing_of, goes, installs, loaded}
 use Rattle.ppm_kept.specs.Laws.{Ends, kind_then, RunKeeps}
 use Rattle.ppm_kept.specs.Copies.{IsKnown}
@@ -54,8 +54,8 @@ use Rattle.ppm_kept.specs.Pushing.{Comes, kind_seat, Push1Keeps, Push2Keeps}
 use Rattle.ppm_kept.specs.Arriving.{ArriveKeeps}
 use Rattle.ppm_kept.specs.JoinLast.{JoinKeeps}
 use Rattle.ppm_kept.specs.Takes.{IsWaiting, TakeKeeps}
-use Rattle.ppm_kept.specs.Places.{kinds_of, places_of, IsOf, Holds, IsUnseen, acted, RowShows}
-use Rattle.ppm_kept.specs.Steps.{by_end, by_store, by_exchange, tree_by, by_act, CameBy, InRowSo, InRestSo, IsKindIf, StandsSo, ActsSo, IsStop, IsStopped, TurnsKeep}
+use Rattle.ppm_kept.specs.Places.{kinds_of, places_of, IsOf, Holds, IsUnseen, IsNowhere, acted, RowShows}
+use Rattle.ppm_kept.specs.Steps.{by_end, by_store, by_exchange, tree_by, by_act, CameBy, InRowSo, InRestSo, IsKindIf, StandsSo, LeavesSo, IsPresent, ActsSo, IsStop, IsStopped, TurnsKeep}
 use Rattle.ppm_kept.proofs.PlaceLemmas.{going_to}
 use Rattle.ppm_kept.proofs.BlockLemmas.{finish_back}
 use Rattle.ppm_kept.proofs.Rows.{run_row_keeps, bump_row_keeps}
@@ -66,19 +66,17 @@ use Rattle.ppm_kept.proofs.JoinLastRow.{join_row_keeps}
 use Rattle.ppm_kept.proofs.TakeRow.{find_wait, take_rows_keep}
 use Rattle.ppm_kept.proofs.LookLemmas.{LookRow, IsLookCell, IsOffset, comes_look, no_begin, look_begins, starts_none}
 use Rattle.ppm_kept.proofs.LoadLemmas.{all_loads_show, in_part, bump_links, bump_exchanges_none, arrive_loads}
-use Rattle.ppm_kept.proofs.StateLemmas.{doing_here, moved, turns_show}
+use Rattle.ppm_kept.proofs.StateLemmas.{doing_here, moved, bare, dead_unseen, kinds_stay, turns_show}
 use Rattle.ppm_kept.proofs.TurnLemmas.{stores_are_cells}
 
 -- no row, and no capsule
 abbrev NoRow : Doing → Type 0
 NoRow Resting = Unit {0}
-NoRow BrokenDoing = Unit {0}
 NoRow (InRow row) = ⊥
 NoRow (InRest rest) = ⊥
 
 none_does : (i : Image) (m : Cell → ℕ) (p : ℕ) (k : RestartKind) (d : Doing) → NoRow d → Does i m p k d
 none_does i m p k Resting h = tt
-none_does i m p k BrokenDoing h = tt
 none_does i m p k (InRow row) h = absurd h
 none_does i m p k (InRest rest) h = absurd h
 
@@ -521,18 +519,59 @@ module _ (i : Image) (fair : IsFair i.code) (plain : i.shape.takeover ≡ ByPlac
       by true = kind_begins p r.bottom holds.place r.kind is
       by false = rests_kept p (IsBroken p) tt
 
+  -- it leaves where it stands, for where it is in no place, with words that show the same
+  leaves : (x : Standing) → stand_of state c ≡ x → is_done_at x ≡ false → LeavesSo i.shape state c x → (after : List ℕ) (y : Standing) → IsNowhere y → view i.shape after ≡ view i.shape words → kinds_of i.shape after ≡ kinds_of i.shape words
+      → Kept (places_of i.shape (record { words = after; stand = slice_set state.stand c y })) t
+  leaves x e live so after y out a k = by x e so
+    where
+      alive : is_done_at (stand_of state c) ≡ false
+      alive = ap is_done_at e ∙ live
+
+      resting : (y : Standing) → IsNowhere y → NoRow (doing_of y)
+      resting IsLost h = tt
+      resting (IsPlaced p) h = tt
+      resting (IsAt p r) h = tt
+      resting (IsBroken p) h = tt
+      resting IsDone h = tt
+      resting (IsWithin chair row) h = absurd h
+      resting (IsRunning chair rest) h = absurd h
+
+      of_any : (p : ℕ) (y : Standing) → IsNowhere y → IsOf p y
+      of_any p IsLost h = tt
+      of_any p (IsPlaced q) h = tt
+      of_any p (IsAt q r) h = tt
+      of_any p (IsBroken q) h = tt
+      of_any p IsDone h = tt
+      of_any p (IsWithin chair row) h = absurd h
+      of_any p (IsRunning chair rest) h = absurd h
+
+      held : (p : ℕ) → Holds i.shape state c p → Kept (places_of i.shape (record { words = after; stand = slice_set state.stand c y })) t
+      held p holds = subst (λ (z : State). Kept z t) (sym (moved i.shape i.code state c p holds alive after y (of_any p y out) (view i.shape words) (kinds_of i.shape words) a k)) (rests_kept p y (resting y out))
+
+      free : IsNowhere (stand_of state c) → Kept (places_of i.shape (record { words = after; stand = slice_set state.stand c y })) t
+      free was = subst (λ (z : State). Kept z t) (sym (bare i.shape i.code state c after y alive was out a k)) law
+
+      by : (x : Standing) → stand_of state c ≡ x → LeavesSo i.shape state c x → Kept (places_of i.shape (record { words = after; stand = slice_set state.stand c y })) t
+      by (IsWithin chair row) e so = held chair.place so
+      by (IsRunning chair rest) e so = held chair.place so
+      by IsLost e so = free (subst IsNowhere (sym e) tt)
+      by (IsPlaced p) e so = free (subst IsNowhere (sym e) tt)
+      by (IsAt p r) e so = free (subst IsNowhere (sym e) tt)
+      by (IsBroken p) e so = free (subst IsNowhere (sym e) tt)
+      by IsDone e so = free (subst IsNowhere (sym e) tt)
+
   -- a finish that is proposed
   abbrev Proposed : (v : Finish) → Standing → Bool → Machine
-  Proposed v x b = record { words = if b then slice_set words 0 (finish_word v) else words; stand = slice_set state.stand c x }
+  Proposed v y b = record { words = if b then slice_set words 0 (finish_word v) else words; stand = slice_set state.stand c y }
 
-  proposes : (p : ℕ) → Holds i.shape state c p → is_done_at (stand_of state c) ≡ false → (v : Finish) → IsFinish v → IsStop v → (x : Standing) → IsOf p x → NoRow (doing_of x) → (b : Bool)
-      → Kept (places_of i.shape (Proposed v x b)) t ⊎ IsStopped i.shape (Proposed v x b).words
-  proposes p holds live v fit stop x of rest true = inr (
+  proposes : IsPresent i.shape state c → (x : Standing) → stand_of state c ≡ x → is_done_at x ≡ false → LeavesSo i.shape state c x → (v : Finish) → IsFinish v → IsStop v → (y : Standing) → IsNowhere y → (b : Bool)
+      → Kept (places_of i.shape (Proposed v y b)) t ⊎ IsStopped i.shape (Proposed v y b).words
+  proposes here x e live so v fit stop y out true = inr (
     v,
-    ap finish_of (view_is i.shape (write i.shape words FinishWord (finish_word v)) FinishWord refl ∙ read_back i.shape words FinishWord (finish_word v) holds.words tt) ∙ finish_back v fit,
+    ap finish_of (view_is i.shape (write i.shape words FinishWord (finish_word v)) FinishWord refl ∙ read_back i.shape words FinishWord (finish_word v) here.words tt) ∙ finish_back v fit,
     stop,
   )
-  proposes p holds live v fit stop x of rest false = inl (subst (λ (z : State). Kept z t) (sym (moved i.shape i.code state c p holds live words x of (view i.shape words) (kinds_of i.shape words) refl refl)) (rests_kept p x rest))
+  proposes here x e live so v fit stop y out false = inl (leaves x e live so words y out refl refl)
 
   -- an act, by where the processor stands
   abbrev GoalAt : Act → Standing → Type 0
@@ -541,69 +580,58 @@ module _ (i : Image) (fair : IsFair i.code) (plain : i.shape.takeover ≡ ByPlac
   at_stand : (act : Act) (x : Standing) (v : Skeleton) → stand_of state c ≡ x → Kept (acted i.shape i.code state c act) v → Kept (places_of i.shape (acts i.shape i.code state c act x)) v
   at_stand act x v e kept = subst (λ (y : Standing). Kept (places_of i.shape (acts i.shape i.code state c act y)) v) e kept
 
-  lives : (x : Standing) → stand_of state c ≡ x → is_done_at x ≡ false → is_done_at (stand_of state c) ≡ false
-  lives x e live = ap is_done_at e ∙ live
-
-  step_act : (victim : ℕ) (x : Standing) → stand_of state c ≡ x → StandsSo i state t c x → GoalAt (Step victim) x
-  step_act victim IsDone e so = inl law
-  step_act victim IsLost e so = let p = read i.shape words (CarryWord c) in
-      inl (at_stand (Step victim) IsLost t e (arrives (Step victim) (goes S p IsLost) t (((turns_show i.shape i.code state c).1 p so (lives IsLost e refl)).lost victim e refl) (rests_kept p IsLost tt)))
-  step_act victim (IsPlaced p) e so =
-      inl (at_stand (Step victim) (IsPlaced p) t e (arrives (Step victim) (goes S p IsLost) t (((turns_show i.shape i.code state c).1 p so (lives (IsPlaced p) e refl)).placed victim e) (rests_kept p IsLost tt)))
-  step_act victim (IsAt p r) e so =
+  step_act : (victim : ℕ) (x : Standing) → stand_of state c ≡ x → IsPresent i.shape state c → StandsSo i state t c x → GoalAt (Step victim) x
+  step_act victim IsDone e here so = inl law
+  step_act victim IsLost e here so = inl (at_stand (Step victim) IsLost t e (arrives (Step victim) S t ((turns_show i.shape i.code state c).1.lost victim e) law))
+  step_act victim (IsPlaced p) e here so = inl (at_stand (Step victim) (IsPlaced p) t e (arrives (Step victim) S t ((turns_show i.shape i.code state c).1.placed victim p e) law))
+  step_act victim (IsAt p r) e here so =
       inl (at_stand (Step victim) (IsAt p r) t e (arrives (Step victim) (goes S p (at_finish i.shape i.code c p r (read i.shape words FinishWord))) t
-      (((turns_show i.shape i.code state c).1 p so.0 (lives (IsAt p r) e refl)).begins victim r e) (begins_kept p so.0 r so.1 (read i.shape words FinishWord))))
-  step_act victim (IsWithin seat row) e so =
-      inl (at_stand (Step victim) (IsWithin seat row) (tree_by i words (IsWithin seat row) t) e (row_step seat.own seat.place seat.restart.bottom victim seat.restart.kind row (e, so)))
-  step_act victim (IsRunning seat rest) e so =
-      inl (at_stand (Step victim) (IsRunning seat rest) (tree_by i words (IsRunning seat rest) t) e (rest_step seat.own seat.place seat.restart.bottom victim seat.restart.kind rest (e, so)))
-  step_act victim (IsBroken p) e so = let few = i.shape.within.processors_most in let there = so.place in
-      proposes p so (lives (IsBroken p) e refl) (BrokenAt p) (omega (arith, few, there)) tt IsDone tt tt (slice_index words 0 == 0)
+      ((turns_show i.shape i.code state c).1.begins victim p r e so.0) (begins_kept p so.0 r so.1 (read i.shape words FinishWord))))
+  step_act victim (IsWithin chair row) e here so =
+      inl (at_stand (Step victim) (IsWithin chair row) (tree_by i words (IsWithin chair row) t) e (row_step chair.own chair.place chair.restart.bottom victim chair.restart.kind row (e, so)))
+  step_act victim (IsRunning chair rest) e here so =
+      inl (at_stand (Step victim) (IsRunning chair rest) (tree_by i words (IsRunning chair rest) t) e (rest_step chair.own chair.place chair.restart.bottom victim chair.restart.kind rest (e, so)))
+  step_act victim (IsBroken p) e here so = proposes here (IsBroken p) e refl tt (BrokenAt p) so tt IsDone tt (slice_index words 0 == 0)
 
-  soft_act : (x : Standing) → stand_of state c ≡ x → is_done_at x ≡ false → (p : ℕ) × Holds i.shape state c p → Kept (places_of i.shape (acts i.shape i.code state c Soft x)) t
-  soft_act x e live so = at_stand Soft x t e (arrives Soft (goes S so.0 IsLost) t ((turns_show i.shape i.code state c).1 so.0 so.1 (lives x e live)).soft (rests_kept so.0 IsLost tt))
+  soft_act : (x : Standing) → stand_of state c ≡ x → is_done_at x ≡ false → LeavesSo i.shape state c x → Kept (places_of i.shape (record { words = words; stand = slice_set state.stand c IsLost })) t
+  soft_act x e live so = leaves x e live so words IsLost tt refl refl
 
-  hard_act : (x : Standing) → stand_of state c ≡ x → is_done_at x ≡ false → (p : ℕ) × Holds i.shape state c p → Kept (places_of i.shape (acts i.shape i.code state c Hard x)) t
-  hard_act x e live so = at_stand Hard x t e (arrives Hard (goes S so.0 IsLost) t ((turns_show i.shape i.code state c).1 so.0 so.1 (lives x e live)).hard (rests_kept so.0 IsLost tt))
+  hard_act : IsPresent i.shape state c → (x : Standing) → stand_of state c ≡ x → is_done_at x ≡ false → LeavesSo i.shape state c x → Kept (places_of i.shape (record { words = write i.shape words (DeadWord c) 1; stand = slice_set state.stand c IsDone })) t
+  hard_act here x e live so = let out = dead_unseen i.shape i.code state c here.there in
+      leaves x e live so (write i.shape words (DeadWord c) 1) IsDone tt (others_are_unseen i.shape words (DeadWord c) 1 out.there out.no_frame) (kinds_stay i.shape words (DeadWord c) 1 out.there out.no_restart)
 
   quit_fits : (why : Why) → c < i.shape.processors → IsFinish (quit_with c why) × IsStop (quit_with c why)
   quit_fits Turns lt = let few = i.shape.within.processors_most in (omega (arith, few, lt), tt)
   quit_fits Watch lt = (tt, tt)
 
-  quits : (why : Why) (x : Standing) → stand_of state c ≡ x → is_done_at x ≡ false → (so : (p : ℕ) × Holds i.shape state c p)
+  quits : (why : Why) → IsPresent i.shape state c → (x : Standing) → stand_of state c ≡ x → is_done_at x ≡ false → LeavesSo i.shape state c x
       → Kept (places_of i.shape (Proposed (quit_with c why) IsLost (slice_index words 0 == 0))) t ⊎ IsStopped i.shape (Proposed (quit_with c why) IsLost (slice_index words 0 == 0)).words
-  quits why x e live so = let fit = quit_fits why so.1.there in
-      proposes so.0 so.1 (lives x e live) (quit_with c why) fit.0 fit.1 IsLost tt tt (slice_index words 0 == 0)
+  quits why here x e live so = let fit = quit_fits why here.there in
+      proposes here x e live so (quit_with c why) fit.0 fit.1 IsLost tt (slice_index words 0 == 0)
 
   act_step : (act : Act) (x : Standing) → stand_of state c ≡ x → ActsSo i state t c act x → GoalAt act x
-  act_step (Step victim) IsDone e so = inl law
-  act_step (Step victim) IsLost e so = step_act victim IsLost e so
-  act_step (Step victim) (IsPlaced p) e so = step_act victim (IsPlaced p) e so
-  act_step (Step victim) (IsAt p r) e so = step_act victim (IsAt p r) e so
-  act_step (Step victim) (IsWithin seat row) e so = step_act victim (IsWithin seat row) e so
-  act_step (Step victim) (IsRunning seat rest) e so = step_act victim (IsRunning seat rest) e so
-  act_step (Step victim) (IsBroken p) e so = step_act victim (IsBroken p) e so
+  act_step (Step victim) x e so = step_act victim x e so.0 so.1
   act_step Soft IsDone e so = inl law
-  act_step Soft IsLost e so = inl (soft_act IsLost e refl so)
-  act_step Soft (IsPlaced p) e so = inl (soft_act (IsPlaced p) e refl so)
-  act_step Soft (IsAt p r) e so = inl (soft_act (IsAt p r) e refl so)
-  act_step Soft (IsWithin seat row) e so = inl (soft_act (IsWithin seat row) e refl so)
-  act_step Soft (IsRunning seat rest) e so = inl (soft_act (IsRunning seat rest) e refl so)
-  act_step Soft (IsBroken p) e so = inl (soft_act (IsBroken p) e refl so)
+  act_step Soft IsLost e so = inl (soft_act IsLost e refl so.1)
+  act_step Soft (IsPlaced p) e so = inl (soft_act (IsPlaced p) e refl so.1)
+  act_step Soft (IsAt p r) e so = inl (soft_act (IsAt p r) e refl so.1)
+  act_step Soft (IsWithin chair row) e so = inl (soft_act (IsWithin chair row) e refl so.1)
+  act_step Soft (IsRunning chair rest) e so = inl (soft_act (IsRunning chair rest) e refl so.1)
+  act_step Soft (IsBroken p) e so = inl (soft_act (IsBroken p) e refl so.1)
   act_step Hard IsDone e so = inl law
-  act_step Hard IsLost e so = inl (hard_act IsLost e refl so)
-  act_step Hard (IsPlaced p) e so = inl (hard_act (IsPlaced p) e refl so)
-  act_step Hard (IsAt p r) e so = inl (hard_act (IsAt p r) e refl so)
-  act_step Hard (IsWithin seat row) e so = inl (hard_act (IsWithin seat row) e refl so)
-  act_step Hard (IsRunning seat rest) e so = inl (hard_act (IsRunning seat rest) e refl so)
-  act_step Hard (IsBroken p) e so = inl (hard_act (IsBroken p) e refl so)
+  act_step Hard IsLost e so = inl (hard_act so.0 IsLost e refl so.1)
+  act_step Hard (IsPlaced p) e so = inl (hard_act so.0 (IsPlaced p) e refl so.1)
+  act_step Hard (IsAt p r) e so = inl (hard_act so.0 (IsAt p r) e refl so.1)
+  act_step Hard (IsWithin chair row) e so = inl (hard_act so.0 (IsWithin chair row) e refl so.1)
+  act_step Hard (IsRunning chair rest) e so = inl (hard_act so.0 (IsRunning chair rest) e refl so.1)
+  act_step Hard (IsBroken p) e so = inl (hard_act so.0 (IsBroken p) e refl so.1)
   act_step (Quit why) IsDone e so = inl law
-  act_step (Quit why) IsLost e so = quits why IsLost e refl so
-  act_step (Quit why) (IsPlaced p) e so = quits why (IsPlaced p) e refl so
-  act_step (Quit why) (IsAt p r) e so = quits why (IsAt p r) e refl so
-  act_step (Quit why) (IsWithin seat row) e so = quits why (IsWithin seat row) e refl so
-  act_step (Quit why) (IsRunning seat rest) e so = quits why (IsRunning seat rest) e refl so
-  act_step (Quit why) (IsBroken p) e so = quits why (IsBroken p) e refl so
+  act_step (Quit why) IsLost e so = quits why so.0 IsLost e refl so.1
+  act_step (Quit why) (IsPlaced p) e so = quits why so.0 (IsPlaced p) e refl so.1
+  act_step (Quit why) (IsAt p r) e so = quits why so.0 (IsAt p r) e refl so.1
+  act_step (Quit why) (IsWithin chair row) e so = quits why so.0 (IsWithin chair row) e refl so.1
+  act_step (Quit why) (IsRunning chair rest) e so = quits why so.0 (IsRunning chair rest) e refl so.1
+  act_step (Quit why) (IsBroken p) e so = quits why so.0 (IsBroken p) e refl so.1
 
 pub turns_keep : TurnsKeep
 turns_keep i fair plain root input state t law turn so = act_step i fair plain root input state t law turn.processor turn.act (stand_of state turn.processor) refl so

@@ -29,7 +29,7 @@ use Rattle.ppm_frames.proofs.SkeletonLemmas.{inside_at, count_plug, at_plug}
 use Rattle.ppm_frames.proofs.SwapLemmas.{swap_same, good_same, good_here}
 use Rattle.ppm_kept.specs.Running.{IsFair}
 use Rattle.ppm_kept.specs.Branches.{Unpushed, IsWaitingAt, Waits, is_taker, HasCopy}
-use Rattle.ppm_kept.specs.Kept.{Image, Doing, Resting, InRow, InRest, Broken as Stopped, State, put, Blank, ceiling, Free, Does, carried, IsKept}
+use Rattle.ppm_kept.specs.Kept.{Image, Doing, Resting, InRow, InRest, State, put, Blank, ceiling, Free, Does, carried, IsKept}
 use Rattle.ppm_kept.specs.Moves.{doing_of, goes, installs}
 use Rattle.ppm_kept.specs.Others.{IsIdle}
 use Rattle.ppm_kept.specs.Pushing.{Comes, kind_seat}
@@ -168,13 +168,11 @@ idle_pushed p t _ h = absurd h
 -- where a processor stands in such a row
 abbrev AsRow : Row → Doing → Type 0
 AsRow rest Resting = Unit {0}
-AsRow rest Stopped = Unit {0}
 AsRow rest (InRow row) = row ≡ rest
 AsRow rest (InRest left) = ⊥
 
 idle_does : (i : Image) (m : Cell → ℕ) (p : ℕ) (k : RestartKind) → IsIdle k → (rest : Row) (d : Doing) → AsRow rest d → Does i m p k d
 idle_does i m p k h rest Resting a = tt
-idle_does i m p k h rest Stopped a = tt
 idle_does i m p k h rest (InRest left) a = absurd a
 idle_does i m p Pop1 h rest (InRow row) a = tt
 idle_does i m p (Pop2 r) h rest (InRow row) a = tt

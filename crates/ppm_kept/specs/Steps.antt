@@ -1,10 +1,10 @@
 -- A whole turn, by places: what it makes of the skeleton, what the deque's half has to say of it, and
 -- that it keeps all.
-use Rattle.std.specs.Prelude.{◌≡◌, ◌⊎◌, ◌<◌, ℕ, ◌==◌, Bool, true, List, Option, Some, None}
+use Rattle.std.specs.Prelude.{◌≡◌, ◌⊎◌, ◌≤◌, ◌<◌, ℕ, ◌==◌, Bool, true, List, Option, Some, None}
 use Rattle.ppm_strands.specs.Tree.{Words, Tree}
-use Rattle.ppm_cells.specs.Memory.{read}
+use Rattle.ppm_cells.specs.Memory.{read, AreWordsOf}
 use Rattle.ppm_cells.specs.declared.cell.Cell.{Cell}
-use Rattle.ppm_cells.specs.declared.cell.Cell.TheVariants.{FinishWord, CarryWord}
+use Rattle.ppm_cells.specs.declared.cell.Cell.TheVariants.{FinishWord}
 use Rattle.ppm_cells.specs.Finish.{finish_of}
 use Rattle.ppm_cells.specs.declared.finish.Finish.{Finish}
 use Rattle.ppm_cells.specs.declared.finish.Finish.TheVariants.{OutOfTurns, OutOfRoom, Stopped, Broken as BrokenAt}
@@ -120,19 +120,29 @@ IsKindIf i words p (Some restart) = kinds_of i.shape words p ≡ restart.kind
 
 -- wherever it stands
 abbrev pub StandsSo : Image → Machine → Skeleton → (c : ℕ) → Standing → Type 0
-StandsSo i state t c IsLost = Holds i.shape state c (read i.shape state.words (CarryWord c))
-StandsSo i state t c (IsPlaced p) = Holds i.shape state c p
+StandsSo i state t c IsLost = Unit {0}
+StandsSo i state t c (IsPlaced p) = Unit {0}
 StandsSo i state t c (IsAt p restart) = Holds i.shape state c p × IsKindIf i state.words p restart
 StandsSo i state t c (IsWithin seat row) = InRowSo i state t c seat row
 StandsSo i state t c (IsRunning seat rest) = InRestSo i state c seat rest
-StandsSo i state t c (IsBroken p) = Holds i.shape state c p
+StandsSo i state t c (IsBroken p) = p ≤ 64
 StandsSo i state t c IsDone = Unit {0}
 
--- what it says of an act; of faults and quits, that the processor is alone in some place
+-- and if it is to leave where it stands, that it is alone there
+abbrev pub LeavesSo : Shape → Machine → (c : ℕ) → Standing → Type 0
+LeavesSo s state c (IsWithin seat row) = Holds s state c seat.place
+LeavesSo s state c (IsRunning seat rest) = Holds s state c seat.place
+LeavesSo s state c standing = Unit {0}
+
+-- the words have their count, and the processor is there
+pub record IsPresent (s : Shape) (state : Machine) (c : ℕ) : Type 0 where
+  pub words : AreWordsOf s state.words
+  pub there : c < s.processors
+
+-- what it says of an act
 abbrev pub ActsSo : Image → Machine → Skeleton → (c : ℕ) → Act → Standing → Type 0
-ActsSo i state t c act IsDone = Unit {0}
-ActsSo i state t c (Step victim) standing = StandsSo i state t c standing
-ActsSo i state t c act standing = (p : ℕ) × Holds i.shape state c p
+ActsSo i state t c (Step victim) standing = IsPresent i.shape state c × StandsSo i state t c standing
+ActsSo i state t c act standing = IsPresent i.shape state c × LeavesSo i.shape state c standing
 
 -- a finish that is no outcome of the root
 abbrev pub IsStop : Finish → Type 0
