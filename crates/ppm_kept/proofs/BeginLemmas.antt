@@ -1,15 +1,13 @@
 -- A machine that opens an image, by places.
 use Rattle.std.proofs.Common.{◌≡◌, ◌≢◌, ℕ, zero, suc, Bool, true, false, List, inl, inr, refl, sym, ap, ◌∙◌, subst}
-use Rattle.std.specs.Prelude.{nat_lt, slice_get, replicate, if◌then◌else◌}
+use Rattle.std.specs.Prelude.{nat_lt, slice_get, replicate}
 use Rattle.std.proofs.Math.Path.{fun_ext}
 use Rattle.std.proofs.lemmas.Bool.{cases_eq, ltb-true, lt-ltb}
-use Rattle.ppm_strands.specs.Calm.{Calm}
 use Rattle.ppm_strands.specs.Tree.{Tree}
 use Rattle.ppm_words.specs.declared.named_array.NamedArray.{NamedArray}
 use Rattle.ppm_cells.specs.Cells.{pool_at}
 use Rattle.ppm_cells.specs.Memory.{read}
 use Rattle.ppm_cells.specs.Restart.{restart_of}
-use Rattle.ppm_cells.specs.declared.cell.Cell.{Cell}
 use Rattle.ppm_cells.specs.declared.cell.Cell.TheVariants.{RestartWord}
 use Rattle.ppm_cells.specs.declared.restart.RestartKind.{RestartKind}
 use Rattle.ppm_cells.specs.declared.restart.RestartKind.TheVariants.{Run, Seek}
@@ -29,8 +27,7 @@ use Rattle.ppm_frames.specs.Views.{view}
 use Rattle.ppm_frames.specs.Seen.{arrays_at}
 use Rattle.ppm_frames.specs.Skeletons.{Begins, InPlace, Leaf, Skeleton}
 use Rattle.ppm_frames.proofs.SeenLemmas.{if_true, if_false}
-use Rattle.ppm_kept.specs.Running.{strands}
-use Rattle.ppm_kept.specs.Kept.{Image, Doing, Resting, State, put, IsKept}
+use Rattle.ppm_kept.specs.Kept.{Image, Resting, State, put, IsKept}
 use Rattle.ppm_kept.specs.Openings.{opening_of}
 use Rattle.ppm_kept.specs.Places.{kind_or, kinds_of, is_in, doing_in, places_of, MachinesOpen}
 use Rattle.ppm_kept.proofs.PutLemmas.{put_here, put_else}

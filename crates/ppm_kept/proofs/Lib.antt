@@ -49,5 +49,9 @@ pub mod JoinLastLemmas
 pub mod JoinLastRow
 pub mod LookLemmas
 pub mod TakeRow
+pub mod SteadyLemmas
+pub mod BirthLemmas
 pub mod StateLemmas
 pub mod BeginLemmas
+pub mod LoadLemmas
+pub mod StepRows

@@ -14,4 +14,7 @@ pub mod Joins
 pub mod JoinLast
 pub mod JoinValues
 pub mod Takes
+pub mod Births
 pub mod Places
+pub mod Loads
+pub mod Steps

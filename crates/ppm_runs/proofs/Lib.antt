@@ -6,3 +6,4 @@ pub mod TameLemmas
 pub mod StandLemmas
 pub mod ShownLemmas
 pub mod OrderlyLemmas
+pub mod TakerLemmas

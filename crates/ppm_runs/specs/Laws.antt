@@ -12,11 +12,16 @@ use Rattle.ppm_step.specs.Standings.{IsWithin}
 use Rattle.ppm_step.specs.State.{State as RunState, stand_of}
 use Rattle.ppm_step.specs.declared.row.Row.TheVariants.{Now}
 use Rattle.ppm_step.specs.declared.row.Seat.{Seat}
-use Rattle.ppm_step.specs.declared.row.Then.TheVariants.{Fork, Begin}
+use Rattle.ppm_step.specs.declared.row.Then.TheVariants.{Load, Fork, Begin}
 use Rattle.ppm_step.specs.declared.turn.Turn.{Turn}
 use Rattle.ppm_tickets.specs.Along.{IsJoined, IsOrderly}
 use Rattle.ppm_tickets.specs.Entries.{IsPooledAt}
-use Rattle.ppm_tickets.specs.Homes.{Home}
+use Rattle.ppm_cells.specs.declared.restart.RestartKind.{RestartKind}
+use Rattle.ppm_cells.specs.declared.restart.RestartKind.TheVariants.{Push1, Pop2, Check}
+use Rattle.ppm_step.specs.declared.row.Point.TheVariants.{Offset}
+use Rattle.ppm_tickets.specs.Homes.{Home, Pushing, Popping, Stolen}
+use Rattle.ppm_tickets.specs.Renewal.{IsLawful}
+use Rattle.ppm_tickets.specs.View as spots
 use Rattle.ppm_tickets.specs.Words.{has}
 use Rattle.ppm_frames.specs.Skeletons.{Skeleton}
 use Rattle.ppm_kept.specs.Running.{IsFair}
@@ -44,3 +49,24 @@ TurnsAreOrderly = (s : Shape) (code : CodeParts) → s.takeover ≡ ByPlaces →
     → (root : Tree (Frame FrameWord Point) Result) (input : Words) (state : RunState) (h : ℕ → Home) (forked taken : List ℕ) (t : Skeleton)
     → IsRun s code root input state h forked taken t
     → Owes s code root input state h forked taken t
+
+-- a place that is about to take a branch got it back, or stole it
+abbrev pub IsTakers : (place : ℕ) → RestartKind → Home → Type 0
+IsTakers p (Pop2 r) x = x ≡ Popping p
+IsTakers p (Check v i) x = x ≡ Stolen p
+IsTakers p k x = Unit {0}
+
+-- Where branches are that places are about to push or to take: at those places. So no two places are
+-- about to take one.
+pub record TakersAre (s : Shape) (state : RunState) (h : ℕ → Home) : Type 0 where
+  pub pushes : (p r : ℕ) → spots.kinds s state.words p ≡ Push1 r → h r ≡ Pushing p
+  pub offsets : (c : ℕ) (seat : Seat) (r low : ℕ) → stand_of state c ≡ IsWithin seat (Now (Load (Offset r low)))
+      → IsTakers seat.place seat.restart.kind (h r)
+  pub begins : (c : ℕ) (seat : Seat) (r f low : ℕ) → stand_of state c ≡ IsWithin seat (Now (Begin r f low))
+      → IsTakers seat.place seat.restart.kind (h r)
+
+-- with takeover by places, in each state that is lawful
+abbrev pub TakersHave : Type 0
+TakersHave = (s : Shape) (code : CodeParts) → s.takeover ≡ ByPlaces
+    → (state : RunState) (h : ℕ → Home) (forked taken : List ℕ)
+    → IsLawful s code state h forked taken → TakersAre s state h

@@ -1,9 +1,15 @@
 //! What turns owe, shown by calls that do nothing.
-ghost use Rattle.ppm_runs.specs.Laws.{TurnsAreOrderly};
+ghost use Rattle.ppm_runs.specs.Laws.{TakersHave, TurnsAreOrderly};
 
 /// With takeover by places each turn is orderly in a state of a run: block words that it changes
 /// are those of pools, a block that it forks was not forked before, and a branch that it begins
 /// where the left one joins was left to that strand.
 pub fn turns_are_orderly()
     ensures law { TurnsAreOrderly }
+{}
+
+/// With takeover by places a branch that a place is about to push or to take is at that place, so
+/// no other is about to take it.
+pub fn takers_have()
+    ensures law { TakersHave }
 {}

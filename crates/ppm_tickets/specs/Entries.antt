@@ -11,7 +11,7 @@ use Rattle.ppm_code.specs.declared.code.CodeParts.{CodeParts}
 use Rattle.ppm_deque.specs.Change.{Changes}
 use Rattle.ppm_step.specs.Frames.{Stores}
 use Rattle.ppm_step.specs.Standings.{Standing, IsWithin, IsRunning, IsDone}
-use Rattle.ppm_step.specs.State.{State, stand_of, happens, after, opening}
+use Rattle.ppm_step.specs.State.{State, stand_of, happens, opening}
 use Rattle.ppm_step.specs.declared.row.Row.TheVariants.{Store, Exchange}
 use Rattle.ppm_step.specs.declared.turn.Act.{Act}
 use Rattle.ppm_step.specs.declared.turn.Act.TheVariants.{Step}
