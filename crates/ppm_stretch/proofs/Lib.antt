@@ -1,0 +1,11 @@
+-- How steps in a row are shown. Each function answers how many deeds its seat keeps more (`Goes`),
+-- that its watcher was told of them (`Shows`), and where the processor stands by its deeds; `moves_then`
+-- of `SteadyLemmas` joins two. Only at the end is a `Local` built that stands there
+-- (`WaitingLemmas`), so the loops carry registers and numbers alone.
+-- Where a watcher refuses, `Refuses` says that it was told of all steps but that one; `refuses_then`
+-- puts others in front.
+
+pub mod SteadyLemmas
+mod EnteringLemmas
+mod EndingLemmas
+mod WaitingLemmas

@@ -1,0 +1,277 @@
+//! The steps that a processor makes in a row, up to one for which something is to be chosen.
+ghost use Rattle.std.specs.Prelude.{◌≡◌, ◌≢◌, ◌≤◌, ◌<◌, ◌+◌, ◌^◌, Bool, true, false, not, if◌then◌else◌};
+ghost use Rattle.ppm_cells.specs.declared.shape.Shape.{Shape};
+ghost use Rattle.ppm_code.specs.declared.code.CodeParts.{CodeParts};
+ghost use Rattle.ppm_step.specs.Locals.{IsLocal, standing_of};
+ghost use Rattle.ppm_step.specs.Standings.{IsDone};
+ghost use Rattle.ppm_step.specs.State.{is_done_at, next_of, seeks_holder};
+ghost use Rattle.ppm_step.specs.Told.{is_work_next};
+ghost use Rattle.ppm_step.specs.declared.turn.Next.TheVariants.{Seek};
+ghost use Rattle.ppm_table.specs.Run.{stands_by, deeds_in, IsAtCode, IsSeat};
+ghost use Rattle.ppm_table.specs.Shown.{IsOf, opening_of};
+ghost use Rattle.ppm_table.specs.Telling.{Keeps};
+ghost use Rattle.ppm_stretch.specs.Rows.{Makes, Stops};
+ghost use Rattle.ppm_stretch.specs.Steady.{Moves, Refuses, looks_behind};
+
+use crate::frames::{ends, rounds};
+use crate::refusing::give_way;
+use crate::way::{NONE, REFUSED, Steps, row};
+use atomic_table::Seat;
+use ppm_cells::{RestartKind, Shape};
+use ppm_code::Code;
+use ppm_ports::Watch;
+use ppm_step::{Local, Next, Point, Row, Stage, Stand, Then};
+use ppm_table::{Processor, Shared, View, Words, tell};
+
+/// Whether a victim is due for the coming step.
+#[inline(always)]
+pub fn is_due(local: &Local) -> bool
+    ensures { (s : Shape) (code : CodeParts) → result ≡ seeks_holder (standing_of s code local.now) }
+{
+    match local.stand {
+        Stand::Within {
+            row: Row::Now(Then::Load(Point::SeekHolder)),
+            ..
+        } => true,
+        Stand::Lost
+        | Stand::Placed { .. }
+        | Stand::At { .. }
+        | Stand::Within { .. }
+        | Stand::Runs(_)
+        | Stand::Broken { .. }
+        | Stand::Done => false,
+    }
+}
+
+/// Makes the step that comes next, whatever it is, for which no victim is due: whether the watcher
+/// took it.
+#[inline(never)]
+fn one<W: Watch>(
+    local: &mut Local,
+    words: &Words,
+    mine: &mut Seat<(), View>,
+    watch: &mut W,
+    shape: &Shape,
+    code: &Code,
+) -> bool
+    requires table { IsAtCode mine.old.table_id words.now.shared.table_id words.now.shared.key shape.now code.now }
+    requires local { IsLocal shape.now code.now local.old }
+    requires sits { IsSeat local.old.own mine.old.me }
+    requires stands { standing_of shape.now code.now local.old ≡ stands_by words.now.shared.key local.old.own (deeds_in mine.old.me.0) }
+    requires lives { standing_of shape.now code.now local.old ≢ IsDone }
+    requires due { seeks_holder (standing_of shape.now code.now local.old) ≡ false }
+    requires seeks { next_of (standing_of shape.now code.now local.old) ≢ Seek }
+    ensures table { mine.new.table_id ≡ mine.old.table_id }
+    ensures keeps { Keeps (W.told watch.old) (W.told watch.new) }
+    ensures moves { result ≡ true → (b : Bool) → is_work_next shape.now code.now (next_of (standing_of shape.now code.now local.old)) ≡ b
+        → Moves W.told words.now.shared.key local.old.own mine.old.me mine.new.me watch.old watch.new 1 (if b then 1 else 0) (if b then 0 else 1) }
+    ensures refuses { result ≡ false → Refuses W.told words.now.shared.key local.old.own mine.old.me mine.new.me watch.old watch.new
+        (not (is_done_at (standing_of shape.now code.now local.new))) }
+    ensures sits_on { IsSeat local.old.own mine.new.me }
+    ensures stands_on { standing_of shape.now code.now local.new ≡ stands_by words.now.shared.key local.old.own (deeds_in mine.new.me.0) }
+    ensures holds { IsLocal shape.now code.now local.new }
+    ensures own_stays { local.new.own ≡ local.old.own }
+{
+    let place = local.place();
+    let want = local.want(shape, code, 0);
+    let found = tell(words, shape, mine, watch, place, want);
+    local.observe(shape, code, 0, found.word);
+    found.fine
+}
+
+/// Goes on by the capsules of frames before which the processor stands, by the stores of an end, or
+/// by one step for which nothing is to be chosen; where it is to choose, by none.
+#[inline(always)]
+fn some_steps<W: Watch>(
+    local: &mut Local,
+    words: &Words,
+    mine: &mut Seat<(), View>,
+    watch: &mut W,
+    shape: &Shape,
+    code: &Code,
+    most: u64,
+) -> Steps
+    requires table { IsAtCode mine.old.table_id words.now.shared.table_id words.now.shared.key shape.now code.now }
+    requires most { 0 < most }
+    requires local { IsLocal shape.now code.now local.old }
+    requires sits { IsSeat local.old.own mine.old.me }
+    requires stands { standing_of shape.now code.now local.old ≡ stands_by words.now.shared.key local.old.own (deeds_in mine.old.me.0) }
+    ensures table { mine.new.table_id ≡ mine.old.table_id }
+    ensures keeps { Keeps (W.told watch.old) (W.told watch.new) }
+    ensures few { (result.made ≤ most) × (result.work ≤ result.made) × (result.looks ≤ result.made) }
+    ensures makes { Makes W.told words.now.shared.key local.old.own mine.old.me mine.new.me watch.old watch.new result }
+    ensures stops { Stops W.told words.now.shared.key local.old.own mine.old.me mine.new.me watch.old watch.new result }
+    ensures sits_on { IsSeat local.old.own mine.new.me }
+    ensures stands_on { standing_of shape.now code.now local.new ≡ stands_by words.now.shared.key local.old.own (deeds_in mine.new.me.0) }
+    ensures holds { IsLocal shape.now code.now local.new }
+    ensures own_stays { local.new.own ≡ local.old.own }
+{
+    if let Stand::At { place, restart } = local.stand {
+        if let Some(restart) = restart {
+            if is_of_frame(restart.kind) && most >= 2 {
+                return rounds(local, words, mine, watch, shape, code, place, restart, most);
+            }
+        }
+    }
+    if let Stand::Runs(under_way) = local.stand {
+        if let Stage::Ending(end, n) = under_way.stage {
+            return ends(
+                local, words, mine, watch, shape, code, under_way, end, n, most,
+            );
+        }
+    }
+    other_step(local, words, mine, watch, shape, code)
+}
+
+/// Whether a restart is that of a frame.
+#[inline(always)]
+fn is_of_frame(kind: RestartKind) -> bool {
+    matches!(kind, RestartKind::Run { .. })
+}
+
+/// Whether the coming step is a compare-and-modify of a row. A job is put into a deque by one.
+#[inline(always)]
+fn is_exchange(local: &Local) -> bool {
+    matches!(
+        local.stand,
+        Stand::Within {
+            row: Row::Exchange { .. },
+            ..
+        }
+    )
+}
+
+/// One step for which nothing is to be chosen, or none.
+#[inline(always)]
+fn other_step<W: Watch>(
+    local: &mut Local,
+    words: &Words,
+    mine: &mut Seat<(), View>,
+    watch: &mut W,
+    shape: &Shape,
+    code: &Code,
+) -> Steps
+    requires table { IsAtCode mine.old.table_id words.now.shared.table_id words.now.shared.key shape.now code.now }
+    requires local { IsLocal shape.now code.now local.old }
+    requires sits { IsSeat local.old.own mine.old.me }
+    requires stands { standing_of shape.now code.now local.old ≡ stands_by words.now.shared.key local.old.own (deeds_in mine.old.me.0) }
+    ensures table { mine.new.table_id ≡ mine.old.table_id }
+    ensures keeps { Keeps (W.told watch.old) (W.told watch.new) }
+    ensures few { (result.made ≤ 1) × (result.work ≤ result.made) × (result.looks ≤ result.made) }
+    ensures makes { Makes W.told words.now.shared.key local.old.own mine.old.me mine.new.me watch.old watch.new result }
+    ensures stops { Stops W.told words.now.shared.key local.old.own mine.old.me mine.new.me watch.old watch.new result }
+    ensures sits_on { IsSeat local.old.own mine.new.me }
+    ensures stands_on { standing_of shape.now code.now local.new ≡ stands_by words.now.shared.key local.old.own (deeds_in mine.new.me.0) }
+    ensures holds { IsLocal shape.now code.now local.new }
+    ensures own_stays { local.new.own ≡ local.old.own }
+{
+    let _ = code.parts().root;
+    if is_due(local) {
+        return NONE;
+    }
+    let exchanges = is_exchange(local);
+    match local.next() {
+        Next::Work => if one(local, words, mine, watch, shape, code) {
+            row(1, 1, 0, exchanges)
+        } else {
+            give_way(local, words, mine, shape, code);
+            REFUSED
+        },
+        Next::Look => if one(local, words, mine, watch, shape, code) {
+            row(1, 0, 1, exchanges)
+        } else {
+            give_way(local, words, mine, shape, code);
+            REFUSED
+        },
+        Next::Seek | Next::Done => NONE,
+    }
+}
+
+/// Makes steps in a row, at most so many, up to one for which something is to be chosen.
+pub(crate) fn steps_along<W: Watch>(
+    local: &mut Local,
+    words: &Words,
+    mine: &mut Seat<(), View>,
+    watch: &mut W,
+    shape: &Shape,
+    code: &Code,
+    most: u64,
+) -> Steps
+    requires table { IsAtCode mine.old.table_id words.now.shared.table_id words.now.shared.key shape.now code.now }
+    requires local { IsLocal shape.now code.now local.old }
+    requires sits { IsSeat local.old.own mine.old.me }
+    requires stands { standing_of shape.now code.now local.old ≡ stands_by words.now.shared.key local.old.own (deeds_in mine.old.me.0) }
+    ensures table { mine.new.table_id ≡ mine.old.table_id }
+    ensures keeps { Keeps (W.told watch.old) (W.told watch.new) }
+    ensures few { (result.made ≤ most) × (result.work ≤ result.made) × (result.looks ≤ result.made) }
+    ensures makes { Makes W.told words.now.shared.key local.old.own mine.old.me mine.new.me watch.old watch.new result }
+    ensures stops { Stops W.told words.now.shared.key local.old.own mine.old.me mine.new.me watch.old watch.new result }
+    ensures sits_on { IsSeat local.old.own mine.new.me }
+    ensures stands_on { standing_of shape.now code.now local.new ≡ stands_by words.now.shared.key local.old.own (deeds_in mine.new.me.0) }
+    ensures holds { IsLocal shape.now code.now local.new }
+    ensures own_stays { local.new.own ≡ local.old.own }
+{
+    let mut made = 0;
+    let mut work = 0;
+    let mut looks = 0;
+    let mut exchanged = false;
+    while made < most {
+        let more = some_steps(local, words, mine, watch, shape, code, most - made);
+        if more.refused {
+            return REFUSED;
+        }
+        if more.made == 0 {
+            return row(made, work, looks, exchanged);
+        }
+        looks = looks_behind(looks, more.work, more.looks);
+        exchanged = one_of(exchanged, more.exchanged);
+        made += more.made;
+        work += more.work;
+    }
+    row(made, work, looks, exchanged)
+}
+
+/// Whether one of them holds.
+#[inline(always)]
+fn one_of(first: bool, second: bool) -> bool {
+    first || second
+}
+
+/// So many looks more, or the first since the last work.
+#[inline(always)]
+fn looks_behind(before: u64, work: u64, looks: u64) -> u64
+    requires { before + looks < 2 ^ 64 }
+    ensures { result ≡ looks_behind before work looks }
+{
+    if work == 0 { before + looks } else { looks }
+}
+
+/// Makes steps of a processor in a row, at most so many, up to one for which something is to be
+/// chosen, and tells the watcher of each. Where it refuses one, the processor gives up, if it is
+/// still to take a step.
+pub fn steps<W: Watch>(
+    processor: &mut Processor,
+    shared: &Shared,
+    most: u64,
+    watch: &mut W,
+) -> Steps
+    requires of { IsOf shared.now processor.old }
+    ensures of { IsOf shared.now processor.new }
+    ensures own { processor.new.local.own ≡ processor.old.local.own }
+    ensures keeps { Keeps (W.told watch.old) (W.told watch.new) }
+    ensures few { (result.made ≤ most) × (result.work ≤ result.made) × (result.looks ≤ result.made) }
+    ensures makes { Makes W.told (opening_of shared.now) processor.old.local.own processor.old.seat.me processor.new.seat.me
+        watch.old watch.new result }
+    ensures stops { Stops W.told (opening_of shared.now) processor.old.local.own processor.old.seat.me processor.new.seat.me
+        watch.old watch.new result }
+{
+    steps_along(
+        &mut processor.local,
+        &shared.words,
+        &mut processor.seat,
+        watch,
+        &shared.shape,
+        &shared.code,
+        most,
+    )
+}
