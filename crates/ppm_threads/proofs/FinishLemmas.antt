@@ -19,7 +19,6 @@ use Rattle.ppm_choice.specs.declared.limits.Limits.{Limits}
 use Rattle.ppm_choice.specs.Finishes.{Finishes, Proposed, Spent, Stood}
 use Rattle.ppm_choice.proofs.EndLemmas.{runs_finish}
 use Rattle.ppm_table.specs.declared.processor.Shared.{Shared}
-use Rattle.ppm_table.specs.declared.view.Opening.{Opening}
 use Rattle.ppm_table.specs.Run.{start, behind_turns}
 use Rattle.ppm_table.specs.Shown.{opening_of}
 use Rattle.ppm_threads.specs.Driven.{Driven, HasFinished}

@@ -1,4 +1,4 @@
-use Rattle.std.proofs.Common.{◌≡◌, ◌∙◌, ℕ, arith, ap, Bool, refl, subst, sym}
+use Rattle.std.proofs.Common.{◌∙◌, arith, ap, Bool, refl, subst, sym}
 use Rattle.ppm_cells.specs.declared.shape.Shape.{Shape}
 use Rattle.ppm_threads.specs.Driven.{AllEnd}
 use Rattle.ppm_threads.proofs.HalvesLemmas.{end_order, in_order_begins, keep, keep_still, driven}
