@@ -1,19 +1,18 @@
 -- Victims, drawn one after the other.
-use Rattle.std.proofs.Common.{◌≡◌, ◌∙◌, ◌<◌, ◌&&◌, nat_le, ℕ, zero, suc, ◌+◌, ◌%◌, Bool, true, false, if◌then◌else◌, Option, None, Some, List, [], ◌∷◌, map, drop, get_or, arith, refl, sym, ap, subst}
+use Rattle.std.proofs.Common.{◌≡◌, ◌∙◌, ◌<◌, ◌&&◌, nat_le, ℕ, zero, suc, ◌+◌, ◌%◌, Bool, true, false, if◌then◌else◌, Option, None, Some, List, [], ◌∷◌, map, drop, get_or, arith, sym, ap}
 use Rattle.std.proofs.lemmas.Nat.{mod_below}
 use Rattle.ppm_plan.specs.declared.fault.Fault.{Fault}
 use Rattle.ppm_plan.specs.declared.fault.Fault.TheVariants as faults
 use Rattle.ppm_plan.specs.Draws.{Drawing, victims_of, next_victims}
 use Rattle.ppm_plan.specs.Schedules.{Planned}
-use Rattle.ppm_step.specs.declared.turn.Act.{Act}
-use Rattle.ppm_step.specs.declared.turn.Act.TheVariants.{Step, Soft, Hard, Quit}
+use Rattle.ppm_step.specs.declared.turn.Act.TheVariants.{Step, Quit}
 use Rattle.ppm_step.specs.declared.turn.Why.TheVariants.{Turns}
 use Rattle.ppm_step.specs.Standings.{Standing}
 use Rattle.ppm_step.specs.State.{next_of, seeks_holder, is_work_next}
 use Rattle.ppm_step.specs.Among.{IsActAmong}
 use Rattle.ppm_choice.specs.declared.limits.Limits.{Limits}
 use Rattle.ppm_choice.specs.Deeds.{Deed}
-use Rattle.ppm_choice.specs.Obeying.{Past, behind, is_step, draws, fault_of, faulted, next_victim, next_act}
+use Rattle.ppm_choice.specs.Obeying.{Past, behind, draws, fault_of, faulted, next_victim, next_act}
 use Rattle.ppm_choice.specs.Drawn.{HasDrawn}
 
 -- what comes first behind so many, and what comes behind it

@@ -1,5 +1,5 @@
 -- How a run ends in which each processor obeys.
-use Rattle.std.proofs.Common.{◌≡◌, ◌≢◌, ◌∙◌, ◌⊎◌, ◌<◌, ◌==◌, ℕ, zero, suc, Bool, true, false, List, [], ◌∷◌, ◌++◌, inl, inr, refl, sym, ap, subst, arith}
+use Rattle.std.proofs.Common.{◌≡◌, ◌≢◌, ◌∙◌, ◌⊎◌, ◌<◌, ◌==◌, ℕ, suc, true, false, List, [], ◌∷◌, ◌++◌, inl, inr, refl, ap, subst, arith}
 use Rattle.std.specs.List.{All}
 use Rattle.std.proofs.lemmas.Bool.{both_ways}
 use Rattle.std.proofs.lemmas.Bool.Decides.{eqb_tells}
@@ -14,10 +14,8 @@ use Rattle.ppm_code.specs.Code.{IsCode}
 use Rattle.ppm_code.specs.declared.code.CodeParts.{CodeParts}
 use Rattle.ppm_plan.specs.Refusals.{is_killed}
 use Rattle.ppm_plan.specs.Forms.{plan_form}
-use Rattle.ppm_plan.specs.Schedules.{Planned}
 use Rattle.ppm_step.specs.declared.turn.Act.TheVariants.{Hard, Quit}
 use Rattle.ppm_step.specs.declared.turn.Turn.{Turn}
-use Rattle.ppm_step.specs.declared.turn.Why.{Why}
 use Rattle.ppm_step.specs.Among.{IsTurnAmong}
 use Rattle.ppm_step.specs.Laws.{IsStruck, IsProposedWord, IsQuitWord, finish_at, reached}
 use Rattle.ppm_step.specs.Standings.{Standing, IsDone}
@@ -25,11 +23,10 @@ use Rattle.ppm_step.specs.State.{State, stand_of, quit_with, happens, after, ope
 use Rattle.ppm_step.proofs.FinishLemmas.{finish_stays, done_has_cause}
 use Rattle.ppm_step.proofs.FilledLemmas.{room_has_header}
 use Rattle.ppm_step.proofs.QuitLemmas.{finish_has_cause}
-use Rattle.ppm_choice.specs.declared.limits.Limits.{Limits}
 use Rattle.ppm_choice.specs.Deeds.{Deed, deeds_of, work_made}
 use Rattle.ppm_choice.specs.Finishes.{Finishes, Proposed, Spent, Stood}
 use Rattle.ppm_choice.specs.Laws.{QuitsWhereSpent, KeeperEnds, RunsFinish}
-use Rattle.ppm_choice.specs.Obeying.{nothing_done, Obeys, ObeysIn, ObeyAll}
+use Rattle.ppm_choice.specs.Obeying.{nothing_done, Obeys, ObeysIn}
 use Rattle.ppm_choice.proofs.DeedLemmas.{count_work, deed_at, deeds_split, work_is_counted}
 use Rattle.ppm_choice.proofs.SpentLemmas.{at_most, spent, for_turns}
 use Rattle.ppm_choice.proofs.StruckLemmas.{struck_is_killed, done_at_end}

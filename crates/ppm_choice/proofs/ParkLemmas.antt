@@ -1,5 +1,5 @@
 -- Where a processor parks, and what is told of it.
-use Rattle.std.proofs.Common.{◌≡◌, ◌∙◌, ◌⊎◌, ◌↔◌, inl, inr, ◌<◌, ◌≤◌, ◌==◌, ℕ, zero, suc, ◌&&◌, not, nat_le, Bool, true, false, if◌then◌else◌, List, [], ◌∷◌, ◌++◌, Option, Some, None, arith, refl, sym, ap, subst}
+use Rattle.std.proofs.Common.{◌≡◌, ◌∙◌, ◌⊎◌, inl, inr, ◌<◌, ◌≤◌, ◌==◌, ℕ, zero, suc, ◌&&◌, not, nat_le, Bool, true, false, if◌then◌else◌, List, [], ◌∷◌, ◌++◌, arith, refl, ap, subst}
 use Rattle.std.specs.List.{filter}
 use Rattle.std.proofs.lemmas.Bool.{cases_Bool, cases_lt, le-leb, leb-true, both_ways, cond-true}
 use Rattle.ppm_cells.specs.declared.shape.Shape.{Shape}
@@ -19,13 +19,13 @@ use Rattle.ppm_step.specs.declared.turn.Next.{Next}
 use Rattle.ppm_step.specs.declared.turn.Next.TheVariants.{Work, Look, Seek, Done}
 use Rattle.ppm_step.specs.declared.turn.Turn.{Turn}
 use Rattle.ppm_step.specs.Standings.{Standing, IsLost, IsPlaced, IsAt, IsWithin, IsRunning, IsBroken, IsDone}
-use Rattle.ppm_step.specs.State.{State, stand_of, happens, want_of, next_of}
-use Rattle.ppm_step.specs.Told.{place_of, step_event, act_event, event_by, event_of, events_in, events_by, record_of}
+use Rattle.ppm_step.specs.State.{State, stand_of, happens, next_of}
+use Rattle.ppm_step.specs.Told.{step_event, act_event, event_by, event_of, events_in, events_by, record_of}
 use Rattle.ppm_choice.specs.declared.limits.Limits.{Limits}
 use Rattle.ppm_choice.specs.Deeds.{Deed, deeds_of}
 use Rattle.ppm_choice.specs.Laws.{ParksWhereItRests, TellsRecord, TellsNoMore}
 use Rattle.ppm_choice.specs.Obeying.{Past, nothing_done, behind, rested, is_seek, is_park, all_killed, keeps, Rests, parks, awake}
-use Rattle.ppm_choice.specs.Tells.{parked, is_act, told_before, told_from, told_in}
+use Rattle.ppm_choice.specs.Tells.{parked, is_act, told_before, told_from}
 
 both_hold : (a b : Bool) → (a && b) ≡ true → (a ≡ true) × (b ≡ true)
 both_hold true b e = (refl, e)

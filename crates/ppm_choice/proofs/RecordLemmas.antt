@@ -1,5 +1,5 @@
 -- What is told of a processor that obeys follows from its record alone.
-use Rattle.std.proofs.Common.{◌≡◌, ◌∙◌, ◌≢◌, ◌⊎◌, inl, inr, ◌<◌, ◌+◌, ◌==◌, ◌&&◌, ℕ, Bool, true, false, if◌then◌else◌, List, [], ◌∷◌, ◌++◌, Option, Some, None, refl, sym, ap, subst}
+use Rattle.std.proofs.Common.{◌≡◌, ◌∙◌, ◌≢◌, ◌⊎◌, inl, inr, ◌+◌, ◌==◌, ◌&&◌, ℕ, Bool, true, false, if◌then◌else◌, List, [], ◌∷◌, ◌++◌, Option, refl, sym, ap, subst}
 use Rattle.std.proofs.lemmas.Bool.Decides.{eqb_tells}
 use Rattle.ppm_cells.specs.declared.shape.Shape.{Shape}
 use Rattle.ppm_code.specs.Code.{IsCode}
@@ -11,17 +11,17 @@ use Rattle.ppm_step.specs.declared.ask.Want.TheVariants.{Loads, Stores, Exchange
 use Rattle.ppm_step.specs.declared.turn.Act.{Act}
 use Rattle.ppm_step.specs.declared.turn.Act.TheVariants.{Step, Soft, Hard, Quit}
 use Rattle.ppm_step.specs.declared.turn.Turn.{Turn}
-use Rattle.ppm_step.specs.Standings.{Standing, IsLost, IsDone, wanted}
+use Rattle.ppm_step.specs.Standings.{Standing, IsDone, wanted}
 use Rattle.ppm_step.specs.State.{State, stand_of, happens, after, opening, want_of, next_of, seeks_holder, is_step, is_work_next}
 use Rattle.ppm_step.specs.Stood.{act_told, stood_behind, stood_by}
 use Rattle.ppm_step.specs.Told.{place_of, step_event, act_event, event_of, events_in, record_of}
 use Rattle.ppm_step.proofs.FinishLemmas.{AllSpare, SparesOrDone, turn_spares, opening_spares}
 use Rattle.ppm_step.proofs.StandLemmas.{Spares}
-use Rattle.ppm_step.proofs.RecordLemmas.{IsAsked, Asks, AllAsk, asked, act_leads, live_event, turn_asks, own_leads, others_stay, opening_asks, lost_there}
+use Rattle.ppm_step.proofs.RecordLemmas.{IsAsked, Asks, AllAsk, asked, live_event, turn_asks, own_leads, others_stay, opening_asks, lost_there}
 use Rattle.ppm_choice.specs.declared.limits.Limits.{Limits}
 use Rattle.ppm_choice.specs.Deeds.{Deed, deeds_of}
 use Rattle.ppm_choice.specs.Laws.{TellsByRecord}
-use Rattle.ppm_choice.specs.Obeying.{Past, nothing_done, behind, awake, Stops, Obeys}
+use Rattle.ppm_choice.specs.Obeying.{Past, nothing_done, behind, awake, Obeys}
 use Rattle.ppm_choice.specs.Tells.{told_before, told_from, told_by}
 
 -- a past behind an act, by whether this is a step

@@ -5,11 +5,11 @@ use Rattle.std.proofs.lemmas.Bool.{or_cases}
 use Rattle.ppm_plan.specs.declared.fault.Fault.{Fault}
 use Rattle.ppm_plan.specs.declared.fault.Fault.TheVariants as faults
 use Rattle.ppm_plan.specs.declared.plan_item.PlanItem.{PlanItem}
-use Rattle.ppm_plan.specs.Faults.{fault_at, is_at, is_hard_at}
+use Rattle.ppm_plan.specs.Faults.{is_at, is_hard_at}
 use Rattle.ppm_plan.specs.Forms.{plan_form, is_hard}
 use Rattle.ppm_plan.specs.Refusals.{IsKeeper, is_killed}
 use Rattle.ppm_plan.specs.Schedules.{Planned}
-use Rattle.ppm_step.specs.declared.turn.Act.TheVariants.{Step, Soft, Hard, Quit}
+use Rattle.ppm_step.specs.declared.turn.Act.TheVariants.{Hard, Quit}
 use Rattle.ppm_step.specs.declared.turn.Why.TheVariants.{Turns}
 use Rattle.ppm_step.specs.Standings.{Standing, IsDone}
 use Rattle.ppm_step.specs.State.{next_of, is_work_next}

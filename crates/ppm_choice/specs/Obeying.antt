@@ -13,7 +13,7 @@ use Rattle.ppm_plan.specs.Schedules.{Planned}
 use Rattle.ppm_step.specs.declared.turn.Act.{Act}
 use Rattle.ppm_step.specs.declared.turn.Act.TheVariants.{Step, Quit}
 use Rattle.ppm_step.specs.declared.turn.Next.{Next}
-use Rattle.ppm_step.specs.declared.turn.Next.TheVariants.{Work, Seek}
+use Rattle.ppm_step.specs.declared.turn.Next.TheVariants.{Seek}
 use Rattle.ppm_step.specs.declared.turn.Turn.{Turn}
 use Rattle.ppm_step.specs.declared.turn.Why.TheVariants.{Turns}
 use Rattle.ppm_step.specs.Standings.{Standing, IsDone}
