@@ -29,7 +29,7 @@ impl Watch for Bounded {
 }
 
 /// A watcher for each bound.
-fn bounded(alloc: Global, bounds: &[u32]) -> Result<Vec<Bounded>, Fail> {
+fn with_bounds(alloc: Global, bounds: &[u32]) -> Result<Vec<Bounded>, Fail> {
     let mut all = Vec::new(alloc);
     for left in bounds {
         all.push(Bounded {
@@ -51,13 +51,13 @@ fn kept(watch: &[Bounded], number: usize) -> Option<usize> {
 #[test]
 fn one_is_refused_each_event(rt: HostRuntime) -> Result<(), Fail> {
     let alloc = rt.alloc();
-    let mut full = bounded(alloc, &[1_000_000])?;
+    let mut full = with_bounds(alloc, &[1_000_000])?;
     let closed = run(&rt, alloc, "none", WIDE, 1, &mut full)?.ok_or("no memory")?;
     assert!(&rt; is_right(alloc, &closed)?);
     let all = full.first().ok_or("a watcher")?;
     let mut left = 0u32;
     for _ in 0..all.events.len() {
-        let mut watch = bounded(alloc, &[left])?;
+        let mut watch = with_bounds(alloc, &[left])?;
         let answer = run(&rt, alloc, "none", WIDE, 1, &mut watch)?;
         assert!(&rt; answer.is_none(), "the event behind {left}");
         // What it took stays.
@@ -67,7 +67,7 @@ fn one_is_refused_each_event(rt: HostRuntime) -> Result<(), Fail> {
         left = left.saturating_add(1);
     }
     assert!(&rt; left > 50);
-    let mut watch = bounded(alloc, &[left])?;
+    let mut watch = with_bounds(alloc, &[left])?;
     let closed = run(&rt, alloc, "none", WIDE, 1, &mut watch)?.ok_or("refused")?;
     assert!(&rt; is_right(alloc, &closed)?);
     Ok(())
@@ -80,7 +80,7 @@ fn one_of_three_is_refused(rt: HostRuntime) -> Result<(), Fail> {
     for idle in [Idle::Leave, Idle::Park] {
         let limits = Limits { looks: 1, idle, ..WIDE };
         for left in 0..3u32 {
-            let mut watch = bounded(alloc, &[1_000_000, left, 1_000_000, 0])?;
+            let mut watch = with_bounds(alloc, &[1_000_000, left, 1_000_000, 0])?;
             let answer = run(&rt, alloc, "none", limits, 3, &mut watch)?;
             // One that leaves makes two acts.
             let refused = left < 2 || matches!(idle, Idle::Park);
@@ -89,7 +89,7 @@ fn one_of_three_is_refused(rt: HostRuntime) -> Result<(), Fail> {
             assert_eq!(&rt; kept(&watch, 3), Some(0), "{left}");
         }
         for left in 0..15u32 {
-            let mut watch = bounded(alloc, &[left, 1_000_000, 1_000_000])?;
+            let mut watch = with_bounds(alloc, &[left, 1_000_000, 1_000_000])?;
             let answer = run(&rt, alloc, "none", limits, 3, &mut watch)?;
             assert!(&rt; answer.is_none(), "{left}");
             assert_eq!(&rt; kept(&watch, 0), Some(left as usize), "{left}");

@@ -1,5 +1,5 @@
 -- A processor from its first act on, until its acts stop or its watcher refuses.
-use Rattle.std.proofs.Common.{◌≡◌, ◌∙◌, ℕ, Bool, true, false, Option, Some, List, sym, subst}
+use Rattle.std.proofs.Common.{◌≡◌, ◌∙◌, ℕ, true, false, Option, List, sym, subst}
 use Rattle.ppm_words.specs.declared.event.Event.{Event}
 use Rattle.ppm_plan.specs.Draws.{Drawing}
 use Rattle.ppm_plan.specs.Schedules.{Planned}

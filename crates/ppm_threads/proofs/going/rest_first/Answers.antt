@@ -1,4 +1,4 @@
-use Rattle.std.proofs.Common.{◌<◌, ◌^◌, ◌∙◌, Some, None, inr, sym, ap, arith}
+use Rattle.std.proofs.Common.{◌∙◌, Some, None, inr, sym, ap, arith}
 use Rattle.ppm_step.specs.Told.{place_of}
 use Rattle.ppm_table.specs.Run.{stands_by}
 use Rattle.ppm_table.specs.Shown.{deeds_of_processor, opening_of}
