@@ -57,7 +57,10 @@ use Rattle.ppm_kept.proofs.UnwindRow.{unwind_row_keeps}
 use Rattle.ppm_kept.proofs.ArriveRow.{arrive_row_keeps}
 use Rattle.ppm_kept.proofs.JoinLastRow.{join_row_keeps}
 use Rattle.ppm_kept.proofs.TurnLemmas.{stores_are_cells}
-use Rattle.ppm_runs.specs.Run.{image, shown, IsAtLast, IsLeft, IsHomed, AreHomed, IsRun}
+use Rattle.ppm_kept.specs.Births.{floor}
+use Rattle.ppm_kept.specs.Places.{places_of}
+use Rattle.ppm_kept.proofs.OwnerLemmas.{owned}
+use Rattle.ppm_runs.specs.Run.{image, IsAtLast, IsLeft, IsHomed, AreHomed, IsRun}
 use Rattle.ppm_runs.specs.Laws.{Owes, TurnsAreOrderly}
 use Rattle.ppm_runs.proofs.TameLemmas.{May, TameRow, TameThen, rest_tame, reach_tame}
 use Rattle.ppm_runs.proofs.StandLemmas.{kinds_same}
@@ -128,7 +131,7 @@ module _ (s : Shape) (code : CodeParts) (places : s.takeover ≡ ByPlaces) (fair
   i = image s code
 
   abbrev z : State
-  z = shown s state
+  z = places_of s state
 
   abbrev law : IsKept i root input z t
   law = run.kept
@@ -195,10 +198,21 @@ module _ (s : Shape) (code : CodeParts) (places : s.takeover ≡ ByPlaces) (fair
     fork_of (Take v x) e d = absurd (looked no_forks c seat (Now (Fork block)) (Take v x) tt e (places_row s.takeover no_forks _ tt) w)
     fork_of (Take2 v) e d = absurd (looked no_forks c seat (Now (Fork block)) (Take2 v) tt e (places_row s.takeover no_forks _ tt) w)
 
+  -- a block that is built was not forked
+  not_born : (p r : ℕ) → z.kind p ≡ Bump r → has forked r ≡ false
+  not_born p r ke = elim (cases_Bool (has forked r)) [
+    | inr e ↦ e
+    | inl e ↦
+        let home = run.born.homes p r ke in
+        let own = owned i p r home.0 home.1 in
+        let below = subst (λ (q : ℕ). r < floor m q (z.kind q)) own (run.born.below r e) in
+        absurd (let low = subst (λ (a : RestartKind). r < floor m p a) ke below in omega (arith, low))
+  ]
+
   pub forks_new : (c : ℕ) (seat : Seat) (block : ℕ) → stand_of state c ≡ IsWithin seat (Now (Fork block)) → has forked block ≡ false
   forks_new c seat block e =
       let w = within s code root input state h forked taken t run c seat (Now (Fork block)) e in
-      run.born.unborn seat.place block (w.kind ∙ fork_of c seat block w seat.restart.kind refl w.does)
+      not_born seat.place block (w.kind ∙ fork_of c seat block w seat.restart.kind refl w.does)
 
   -- a branch that is begun at a join is that of the block, where the order word says so
   joined_by : (p r : ℕ) (d : Side) (block frame bottom : ℕ) → Reached i m p (Join r d) (Now (Begin block frame bottom)) → (block ≡ r) × (is_inline (m (BlockWord (r + 1))) d ≡ true)
