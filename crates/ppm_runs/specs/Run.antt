@@ -1,6 +1,6 @@
 -- What holds of a run's state: of its words and processors, of where its branches are, and of the
 -- tree of its strands.
-use Rattle.std.specs.Prelude.{◌≡◌, ℕ, ◌+◌, true, List}
+use Rattle.std.specs.Prelude.{◌≡◌, ◌≤◌, ℕ, ◌+◌, true, List}
 use Rattle.ppm_strands.specs.Tree.{Words, Tree}
 use Rattle.ppm_cells.specs.declared.restart.RestartKind.TheVariants.{Run as RunFrame, Push1}
 use Rattle.ppm_cells.specs.declared.shape.Shape.{Shape}
@@ -8,7 +8,8 @@ use Rattle.ppm_capsules.specs.Strand.{Frame}
 use Rattle.ppm_code.specs.Strands.{Point, Result}
 use Rattle.ppm_code.specs.declared.code.CodeParts.{CodeParts}
 use Rattle.ppm_code.specs.declared.location.FrameWord.{FrameWord}
-use Rattle.ppm_step.specs.State.{State as RunState}
+use Rattle.ppm_step.specs.Standings.{IsBroken}
+use Rattle.ppm_step.specs.State.{State as RunState, stand_of}
 use Rattle.ppm_step.specs.declared.row.Row.TheVariants.{Now}
 use Rattle.ppm_step.specs.declared.row.Then.TheVariants.{Install}
 use Rattle.ppm_tickets.specs.Homes.{Home, Unborn, Pushing, Listed, Popping, Stolen, Inline, Begun}
@@ -89,4 +90,5 @@ pub record IsRun (s : Shape) (code : CodeParts) (root : Tree (Frame FrameWord Po
   pub homed : AreHomed (IsAtLast s state.words) h t
   pub ready : AreReady (places_of s state) t
   pub waiting : (r : ℕ) → IsToTake (h r) → IsWaiting t r
+  pub broken : (c p : ℕ) → stand_of state c ≡ IsBroken p → p ≤ 64
   pub born : Births (image s code) (places_of s state) (has forked)
