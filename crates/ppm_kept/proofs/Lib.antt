@@ -51,5 +51,6 @@ pub mod LookLemmas
 pub mod TakeRow
 pub mod SteadyLemmas
 pub mod BirthLemmas
+pub mod UnrunLemmas
 pub mod StateLemmas
 pub mod BeginLemmas

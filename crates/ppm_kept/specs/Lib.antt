@@ -15,4 +15,5 @@ pub mod JoinLast
 pub mod JoinValues
 pub mod Takes
 pub mod Births
+pub mod Unruns
 pub mod Places
