@@ -15,7 +15,7 @@ use Rattle.ppm_frames.specs.Skeletons.{Skeleton, count, plain, Around, plug, hoo
 use Rattle.ppm_frames.proofs.WriteLemmas.{write_else}
 use Rattle.ppm_frames.proofs.SkeletonLemmas.{count_plug, plain_count}
 use Rattle.ppm_kept.specs.Running.{IsFair}
-use Rattle.ppm_kept.specs.Kept.{Image, start, end_of, owner, State, Doing, Resting, InRow, InRest, Broken, Blank, ceiling, Free, Does, Ordered, carried, IsKept}
+use Rattle.ppm_kept.specs.Kept.{Image, start, end_of, owner, State, Doing, Resting, InRow, InRest, Blank, ceiling, Free, Does, Ordered, carried, IsKept}
 use Rattle.ppm_kept.specs.Others.{KeptAt, Mine, Claims, IsIdle}
 use Rattle.ppm_kept.proofs.OwnerLemmas.{owned}
 use Rattle.ppm_kept.proofs.PlaceLemmas.{head_on}
@@ -63,7 +63,6 @@ idle_blank i n q _ h b = absurd h
 
 idle_does : (i : Image) (m n : Cell → ℕ) (q : ℕ) (k : RestartKind) (d : Doing) → IsIdle k → Does i m q k d → Does i n q k d
 idle_does i m n q k Resting h e = tt
-idle_does i m n q k Broken h e = tt
 idle_does i m n q Pop1 (InRow row) h e = tt
 idle_does i m n q (Pop2 r) (InRow row) h e = tt
 idle_does i m n q Seek (InRow row) h e = tt

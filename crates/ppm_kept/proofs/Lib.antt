@@ -54,3 +54,5 @@ pub mod BirthLemmas
 pub mod UnrunLemmas
 pub mod StateLemmas
 pub mod BeginLemmas
+pub mod LoadLemmas
+pub mod StepRows

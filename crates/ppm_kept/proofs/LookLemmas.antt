@@ -3,7 +3,7 @@ use Rattle.std.proofs.Common.{◌≡◌, ◌⊎◌, ℕ, zero, suc, ◌+◌, ◌
 use Rattle.std.specs.Prelude.{nat_lt, if◌then◌else◌}
 use Rattle.ppm_cells.specs.Cells.{word_count}
 use Rattle.ppm_cells.specs.declared.cell.Cell.{Cell}
-use Rattle.ppm_cells.specs.declared.cell.Cell.TheVariants.{EntryWord}
+use Rattle.ppm_cells.specs.declared.cell.Cell.TheVariants.{MessageWord, HolderWord, Top, EntryWord}
 use Rattle.ppm_cells.specs.declared.entry.Entry.{Entry}
 use Rattle.ppm_cells.specs.declared.entry.Entry.TheVariants.{Empty, Local, Job, Taken}
 use Rattle.ppm_cells.specs.declared.holder.Holder.{Holder}
@@ -62,33 +62,63 @@ LookPoint how k (BidAgain v) = Unit {0}
 LookPoint how k (BidHolder v message) = Unit {0}
 LookPoint how k _ = ⊥
 
-abbrev LookThen : Takeover → RestartKind → Then → Type 0
-LookThen how k (Load point) = LookPoint how k point
-LookThen how k (Install restart) = IsIdle restart.kind ⊎ Follows how k
-LookThen how k (Fork block) = Follows how k
-LookThen how k (Begin block frame bottom) = is_taker k ≡ true
-LookThen how k _ = Unit {0}
+-- where B says when a branch begins
+abbrev LookThen : (B : Type 0) → Takeover → RestartKind → Then → Type 0
+LookThen B how k (Load point) = LookPoint how k point
+LookThen B how k (Install restart) = IsIdle restart.kind ⊎ Follows how k
+LookThen B how k (Fork block) = Follows how k
+LookThen B how k (Begin block frame bottom) = B
+LookThen B how k _ = Unit {0}
 
 -- no branch begins behind a store or an exchange
 abbrev pub NoBegin : Then → Type 0
 NoBegin (Begin block frame bottom) = ⊥
 NoBegin _ = Unit {0}
 
+-- the cells that such a row stores or exchanges
+abbrev pub IsLookCell : Cell → Type 0
+IsLookCell (MessageWord p) = Unit {0}
+IsLookCell (HolderWord v) = Unit {0}
+IsLookCell (Top v) = Unit {0}
+IsLookCell (EntryWord v x) = Unit {0}
+IsLookCell _ = ⊥
+
+abbrev RowBy : (B : Type 0) → Shape → RestartKind → Row → Type 0
+RowBy B s k (Now next) = LookThen B s.takeover k next
+RowBy B s k (Store cell content next) = IsLookCell cell × NoBegin next × LookThen B s.takeover k next
+RowBy B s k (Exchange cell old new next) = IsLookCell cell × NoBegin next × LookThen B s.takeover k next
+
+-- a branch begins at a place that may take one
 abbrev pub LookRow : Shape → RestartKind → Row → Type 0
-LookRow s k (Now next) = LookThen s.takeover k next
-LookRow s k (Store cell content next) = (is_cell s cell ≡ false) × NoBegin next × LookThen s.takeover k next
-LookRow s k (Exchange cell old new next) = (is_cell s cell ≡ false) × NoBegin next × LookThen s.takeover k next
+LookRow s k row = RowBy (is_taker k ≡ true) s k row
+
+-- no frame has such a cell
+pub look_unseen : (s : Shape) (cell : Cell) → IsLookCell cell → is_cell s cell ≡ false
+look_unseen s (MessageWord p) h = refl
+look_unseen s (HolderWord v) h = refl
+look_unseen s (Top v) h = refl
+look_unseen s (EntryWord v x) h = refl
+look_unseen s _ h = absurd h
+
+-- the load of an offset
+abbrev pub IsOffset : Point → Type 0
+IsOffset (Offset block bottom) = Unit {0}
+IsOffset _ = ⊥
+
+offset_taker : (how : Takeover) (k : RestartKind) (point : Point) → LookPoint how k point → IsOffset point → is_taker k ≡ true
+offset_taker how k (Offset block bottom) l o = l
+offset_taker how k _ l o = absurd o
 
 check_taker : (k : RestartKind) → IsCheck k → is_taker k ≡ true
 check_taker (Check v x) h = refl
 check_taker _ h = absurd h
 
-module _ (s : Shape) (seat : Seat) (k : RestartKind) where
+module _ (s : Shape) (seat : Seat) (k : RestartKind) (B : Type 0) where
   abbrev how : Takeover
   how = s.takeover
 
   abbrev R : Row → Type 0
-  R row = LookRow s k row
+  R row = RowBy B s k row
 
   entry_look : (go : Entry → Row) → ((e : Entry) → R (go e)) → (w : Content) → R (on_entry w go)
   entry_look go by (AnEntry e) = by e
@@ -135,15 +165,15 @@ module _ (s : Shape) (seat : Seat) (k : RestartKind) where
   link_look go by (AFinish e) = tt
   link_look go by Unreadable = tt
 
-  raised_look : (cell : Cell) (old new : Entry) (next : Then) → is_cell s cell ≡ false → NoBegin next → LookThen how k next → (b : Bool) → R (raised cell old new next b)
+  raised_look : (cell : Cell) (old new : Entry) (next : Then) → IsLookCell cell → NoBegin next → LookThen B how k next → (b : Bool) → R (raised cell old new next b)
   raised_look cell old new next c n l true = (c, n, l)
   raised_look cell old new next c n l false = tt
 
-  tried_look : (cell : Cell) (old : Entry) (a : Option Entry) (next : Then) → is_cell s cell ≡ false → NoBegin next → LookThen how k next → R (tried cell old a next)
+  tried_look : (cell : Cell) (old : Entry) (a : Option Entry) (next : Then) → IsLookCell cell → NoBegin next → LookThen B how k next → R (tried cell old a next)
   tried_look cell old None next c n l = l
   tried_look cell old (Some new) next c n l = raised_look cell old new next c n l (nat_lt (tag_of old + 1) (2 ^ 34))
 
-  changed_look : (cell : Cell) (old : Entry) (a : Option Entry) (next : Then) → is_cell s cell ≡ false → NoBegin next → LookThen how k next → R (changed cell old a next)
+  changed_look : (cell : Cell) (old : Entry) (a : Option Entry) (next : Then) → IsLookCell cell → NoBegin next → LookThen B how k next → R (changed cell old a next)
   changed_look cell old None next c n l = tt
   changed_look cell old (Some new) next c n l = tried_look cell old (Some new) next c n l
 
@@ -155,7 +185,7 @@ module _ (s : Shape) (seat : Seat) (k : RestartKind) where
   get_back_look : (e : Entry) → R (get_back seat e)
   get_back_look (Empty t) = tt
   get_back_look (Local t r) = inl tt
-  get_back_look (Job t r) = tried_look (EntryWord seat.place (seat.restart.bottom - 1)) (Job t r) (Some (Local (t + 1) r)) (with_kind seat (Pop2 r)) refl tt (inl tt)
+  get_back_look (Job t r) = tried_look (EntryWord seat.place (seat.restart.bottom - 1)) (Job t r) (Some (Local (t + 1) r)) (with_kind seat (Pop2 r)) tt tt (inl tt)
   get_back_look (Taken t q) = inl tt
 
   got_back_look : (r : ℕ) → is_taker k ≡ true → (e : Entry) → R (got_back seat r e)
@@ -164,7 +194,7 @@ module _ (s : Shape) (seat : Seat) (k : RestartKind) where
   got_back_look r taker (Empty t) = tt
   got_back_look r taker (Job t x) = tt
 
-  begins_look : (r b : ℕ) → is_taker k ≡ true → (d : ℕ) → R (right_begins s r b d)
+  begins_look : (r b : ℕ) → B → (d : ℕ) → R (right_begins s r b d)
   begins_look r b taker d = either (nat_lt (r + d) (word_count s)) (Now (Begin r (r + d) b)) (Now Broken) taker tt
 
   held_look : (v : ℕ) (h : Holder) (b : Bool) → R (seek_held s seat v h b)
@@ -179,7 +209,7 @@ module _ (s : Shape) (seat : Seat) (k : RestartKind) where
   holder_is_look v h = either (v == seat.place) (Now Again) (seek_by s seat v h how) tt (by_look v h how)
 
   bids_look : (v : ℕ) (h : Holder) (b : Bool) → R (bids seat v h b)
-  bids_look v h true = (refl, tt, inl tt)
+  bids_look v h true = (tt, tt, inl tt)
   bids_look v h false = tt
 
   dead_look : (v : ℕ) (h : Holder) (d : ℕ) → R (seek_dead seat v h d)
@@ -189,10 +219,10 @@ module _ (s : Shape) (seat : Seat) (k : RestartKind) where
   top_look v top = either (nat_lt top s.slots) (Now (Load (SeekEntry v top))) (Now Broken) tt tt
 
   notes_look : (v x : ℕ) (e : Entry) → R (notes seat v x e)
-  notes_look v x e = (refl, tt, inl tt)
+  notes_look v x e = (tt, tt, inl tt)
 
   passes_look : (v x : ℕ) → R (passes v x)
-  passes_look v x = (refl, tt, tt)
+  passes_look v x = (tt, tt, tt)
 
   passes_by_look : (v x : ℕ) (by : Takeover) → R (passes_by s v x by)
   passes_by_look v x ByPlaces = passes_look v x
@@ -300,55 +330,67 @@ module _ (s : Shape) (seat : Seat) (k : RestartKind) where
 
   lowered_look : (v d : ℕ) (h : Holder) (tag : ℕ) → R (lowered tag seat v d h)
   lowered_look v d h zero = tt
-  lowered_look v d h (suc tag) = (refl, tt, inl tt)
+  lowered_look v d h (suc tag) = (tt, tt, inl tt)
 
-  found_look : (point : Point) → LookPoint how k point → (v : ℕ) (w : Content) → R (found_at s seat v point w)
-  found_look PopBelow l v w = entry_look (get_back seat) get_back_look w
-  found_look (PopAgain r) l v w = entry_look (got_back seat r) (got_back_look r l) w
-  found_look (PopAbove r) l v w = entry_look (empty_above seat r) (λ e. tried_look (EntryWord seat.place seat.restart.bottom) e (popped_above e) (Load (Offset r (seat.restart.bottom - 1))) refl tt l) w
-  found_look (Offset r b) l v w = number_look (right_begins s r b) (begins_look r b l) w
-  found_look SeekHolder l v w = holder_look (seek_holder s seat v) (holder_is_look v) w
-  found_look (SeekDead u h) l v w = number_look (seek_dead seat u h) (dead_look u h) w
-  found_look (SeekTop u) l v w = number_look (seek_top s u) (top_look u) w
-  found_look (SeekEntry u x) l v w = entry_look (seek_entry s seat u x) (entry_is_look u x) w
-  found_look (SeekClosed u x e) l v w = number_look (seek_closed seat u x e) (closed_look u x e) w
-  found_look (StealMessage u x) l v w = entry_look (steals s seat u x) (λ e. changed_look (EntryWord u x) e (taken_so s.takeover seat.place e) (with_kind seat (Check u x)) refl tt (inl tt)) w
-  found_look (TakenMessage by u x) l v w = entry_look (taken_message s by u x) (message_look by u x l) w
-  found_look (TakenEntry by u x message) l v w = entry_look (taken_entry seat by u x message)
+  pub found_look : (point : Point) → LookPoint how k point → (IsOffset point → B) → (v : ℕ) (w : Content) → R (found_at s seat v point w)
+  found_look PopBelow l on v w = entry_look (get_back seat) get_back_look w
+  found_look (PopAgain r) l on v w = entry_look (got_back seat r) (got_back_look r l) w
+  found_look (PopAbove r) l on v w = entry_look (empty_above seat r) (λ e. tried_look (EntryWord seat.place seat.restart.bottom) e (popped_above e) (Load (Offset r (seat.restart.bottom - 1))) tt tt l) w
+  found_look (Offset r b) l on v w = number_look (right_begins s r b) (begins_look r b (on tt)) w
+  found_look SeekHolder l on v w = holder_look (seek_holder s seat v) (holder_is_look v) w
+  found_look (SeekDead u h) l on v w = number_look (seek_dead seat u h) (dead_look u h) w
+  found_look (SeekTop u) l on v w = number_look (seek_top s u) (top_look u) w
+  found_look (SeekEntry u x) l on v w = entry_look (seek_entry s seat u x) (entry_is_look u x) w
+  found_look (SeekClosed u x e) l on v w = number_look (seek_closed seat u x e) (closed_look u x e) w
+  found_look (StealMessage u x) l on v w = entry_look (steals s seat u x) (λ e. changed_look (EntryWord u x) e (taken_so s.takeover seat.place e) (with_kind seat (Check u x)) tt tt (inl tt)) w
+  found_look (TakenMessage by u x) l on v w = entry_look (taken_message s by u x) (message_look by u x l) w
+  found_look (TakenEntry by u x message) l on v w = entry_look (taken_entry seat by u x message)
       (λ e. either (took by message e) (goes_on_with seat u x message) (Now (with_kind seat Seek)) (goes_on_look u x message l.0 l.1) (inl tt)) w
-  found_look (ClosedRestart u x block) l v w = restart_look (follows s seat u x block)
+  found_look (ClosedRestart u x block) l on v w = restart_look (follows s seat u x block)
       (λ closed. either (restart_is_there s closed) (by_slot seat u x block closed) (Now Broken) (slot_look u x block l closed) tt) w
-  found_look (ClosedLink block) l v w = link_look (λ link. closed_link seat block link.kind) (λ link. link_is_look block l link.kind) w
-  found_look (ClosedBottom u x block) l v w = entry_look (closed_bottom seat block) (bottom_look block l) w
-  found_look (BidMessage u d) l v w = holder_look (makes_bid seat u d)
+  found_look (ClosedLink block) l on v w = link_look (λ link. closed_link seat block link.kind) (λ link. link_is_look block l link.kind) w
+  found_look (ClosedBottom u x block) l on v w = entry_look (closed_bottom seat block) (bottom_look block l) w
+  found_look (BidMessage u d) l on v w = holder_look (makes_bid seat u d)
       (λ h. either (h.processor == seat.own) (lowered h.tag seat u d h) (Now (with_kind seat Seek)) (lowered_look u d h h.tag) (inl tt)) w
-  found_look (BidAgain u) l v w = holder_look (bid_again seat u) (λ h. either (h.processor == seat.own) (Now (Load (BidHolder u h))) (Now (with_kind seat Seek)) tt (inl tt)) w
-  found_look (BidHolder u message) l v w = holder_look (bid_holder seat u message)
+  found_look (BidAgain u) l on v w = holder_look (bid_again seat u) (λ h. either (h.processor == seat.own) (Now (Load (BidHolder u h))) (Now (with_kind seat Seek)) tt (inl tt)) w
+  found_look (BidHolder u message) l on v w = holder_look (bid_holder seat u message)
       (λ h. either ((message.tag == h.tag) && (message.processor == h.processor)) (Now (Move u)) (Now (with_kind seat Seek)) tt (inl tt)) w
-  found_look _ l v w = absurd l
-
-  -- whatever a row comes to is such a row
-  pub comes_look : (n : ℕ) (row rest : Row) → R row → Comes s seat n row rest → R rest
-  comes_look zero row rest l q = subst R q l
-  comes_look (suc n) (Now (Load point)) rest l q = comes_look n (found_at s seat q.0 point q.1) rest (found_look point l q.0 q.1) q.2
-  comes_look (suc n) (Store cell content next) rest l q = comes_look n (Now next) rest l.2 q
-  comes_look (suc n) (Exchange cell old new next) rest l q = comes_look n (Now next) rest l.2 q
-  comes_look (suc n) (Now next) rest l q = absurd q
+  found_look _ l on v w = absurd l
 
   places_look : (row : Row) → R row → (by : Takeover) → R (by_places by row)
   places_look row l ByPlaces = l
   places_look row l ByEntries = tt
 
+module _ (s : Shape) (seat : Seat) (k : RestartKind) where
+  -- whatever a row comes to is such a row
+  pub comes_look : (n : ℕ) (row rest : Row) → LookRow s k row → Comes s seat n row rest → LookRow s k rest
+  comes_look zero row rest l q = subst (LookRow s k) q l
+  comes_look (suc n) (Now (Load point)) rest l q = comes_look n (found_at s seat q.0 point q.1) rest (found_look s seat k (is_taker k ≡ true) point l (offset_taker s.takeover k point l) q.0 q.1) q.2
+  comes_look (suc n) (Store cell content next) rest l q = comes_look n (Now next) rest l.2 q
+  comes_look (suc n) (Exchange cell old new next) rest l q = comes_look n (Now next) rest l.2 q
+  comes_look (suc n) (Now next) rest l q = absurd q
+
+  -- but for an offset, no load leads to a beginning
+  pub no_begin : (point : Point) → LookRow s k (Now (Load point)) → (IsOffset point → ⊥) → (v : ℕ) (w : Content) (r f b : ℕ) → found_at s seat v point w ≡ Now (Begin r f b) → ⊥
+  no_begin point l out v w r f b e = subst (RowBy ⊥ s k) e (found_look s seat k ⊥ point l out v w)
+
 -- it begins as one
+look_start : (B : Type 0) (s : Shape) (seat : Seat) (k : RestartKind) → IsIdle k → RowBy B s k (row_of s seat k)
+look_start B s seat Pop1 idle = tt
+look_start B s seat (Pop2 r) idle = refl
+look_start B s seat Seek idle = tt
+look_start B s seat (Steal v x) idle = tt
+look_start B s seat (Check v x) idle = tt
+look_start B s seat (Take v d) idle = places_look s seat (Take v d) B (Now (Load (BidMessage v d))) tt s.takeover
+look_start B s seat (Take2 v) idle = places_look s seat (Take2 v) B (Now (Load (BidAgain v))) tt s.takeover
+look_start B s seat _ idle = absurd idle
+
 pub look_begins : (s : Shape) (seat : Seat) (k : RestartKind) → IsIdle k → LookRow s k (row_of s seat k)
-look_begins s seat Pop1 idle = tt
-look_begins s seat (Pop2 r) idle = refl
-look_begins s seat Seek idle = tt
-look_begins s seat (Steal v x) idle = tt
-look_begins s seat (Check v x) idle = tt
-look_begins s seat (Take v d) idle = places_look s seat (Take v d) (Now (Load (BidMessage v d))) tt s.takeover
-look_begins s seat (Take2 v) idle = places_look s seat (Take2 v) (Now (Load (BidAgain v))) tt s.takeover
-look_begins s seat _ idle = absurd idle
+look_begins s seat k idle = look_start (is_taker k ≡ true) s seat k idle
+
+-- and by no beginning of a branch
+pub starts_none : (s : Shape) (seat : Seat) (k : RestartKind) → IsIdle k → (r f b : ℕ) → row_of s seat k ≡ Now (Begin r f b) → ⊥
+starts_none s seat k idle r f b e = subst (RowBy ⊥ s k) e (look_start ⊥ s seat k idle)
 
 -- how it ends
 pub look_ends : (s : Shape) (k : RestartKind) (next : Then) → LookRow s k (Now next) → EndsSo s.takeover k next

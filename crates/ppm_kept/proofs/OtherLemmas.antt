@@ -40,7 +40,7 @@ use Rattle.ppm_frames.proofs.WriteLemmas.{write_else, address}
 use Rattle.ppm_frames.proofs.SkeletonLemmas.{SameFrame, same_frame, same_at, inside_at, CalledFrom, called_from, branch_from}
 use Rattle.ppm_frames.proofs.SwapLemmas.{good_here}
 use Rattle.ppm_kept.specs.Running.{IsFair, number_at, limit, strands, frame_of}
-use Rattle.ppm_kept.specs.Kept.{Image, end_of, seat_at, side_code, State, Doing, Resting, InRow, InRest, Broken, Blank, ceiling, Free, Under, Going, Does, Head, Ordered, carried, IsKept}
+use Rattle.ppm_kept.specs.Kept.{Image, end_of, seat_at, side_code, State, Doing, Resting, InRow, InRest, Blank, ceiling, Free, Under, Going, Does, Head, Ordered, carried, IsKept}
 use Rattle.ppm_kept.specs.Branches.{HasCopy}
 use Rattle.ppm_kept.specs.Others.{KeptAt, Mine, Claims, Wrote, IsIdle, OthersKeep}
 use Rattle.ppm_kept.proofs.BlockLemmas.{header_is}
@@ -166,7 +166,6 @@ module _ (i : Image) (fair : IsFair i.code) (root : Tree (Frame FrameWord Point)
 
       by_doing : (d : Doing) → Does i m q (Run f y) d → Does i n q (s.kind q) d
       by_doing Resting does = tt
-      by_doing Broken does = tt
       by_doing (InRow row) does = subst (λ (k : RestartKind). Under i n q k row) (sym ke) does
       by_doing (InRest rest) does = subst (λ (k : RestartKind). Going i n q k rest) (sym ke) (come_stays i.shape i.code fair m n q f y low frame room free_run element rest does)
 
@@ -186,7 +185,6 @@ module _ (i : Image) (fair : IsFair i.code) (root : Tree (Frame FrameWord Point)
     where
       by_doing : (d : Doing) → Does i m q k d → Does i n q (s.kind q) d
       by_doing Resting does = tt
-      by_doing Broken does = tt
       by_doing (InRow row) does = subst (λ (k : RestartKind). Under i n q k row) (sym ke) (go row does)
       by_doing (InRest rest) does = subst (λ (k : RestartKind). Going i n q k rest) (sym ke) (on rest does)
 

@@ -22,7 +22,7 @@ use Rattle.ppm_step.specs.Frames.{Rest, Loads, Stores, Full, Installs}
 use Rattle.ppm_step.specs.Points.{cell_at, reading_at}
 use Rattle.ppm_step.specs.Contents.{content_of}
 use Rattle.ppm_step.specs.Rows.{found_at, row_of}
-use Rattle.ppm_step.specs.Standings.{Standing, IsLost, IsPlaced, IsAt, IsWithin, IsRunning, IsBroken, IsDone, within_if, running_if, running, row_is_there, then_is_there, rest_is_there, enters, stands_then, stands, begins_if, at_finish, forked, begun, went_row}
+use Rattle.ppm_step.specs.Standings.{Standing, IsLost, IsPlaced, IsAt, IsWithin, IsRunning, IsBroken, IsDone, unknown_place, placed, within_if, running_if, running, row_is_there, then_is_there, rest_is_there, enters, stands_then, stands, begins_if, at_finish, forked, begun, went_row}
 use Rattle.ppm_step.specs.State.{State as Machine, stand_in, stand_of, acts, is_done_at}
 use Rattle.ppm_step.specs.There.{restart_is_there}
 use Rattle.ppm_step.proofs.ThereLemmas.{restart_fits}
@@ -39,7 +39,7 @@ use Rattle.ppm_frames.proofs.ViewLemmas.{cells_are_viewed, others_are_unseen, is
 use Rattle.ppm_kept.specs.Kept.{Doing, Resting, State, put}
 use Rattle.ppm_kept.specs.Moves.{doing_of, goes, stores, exchanges, installs, fills}
 use Rattle.ppm_kept.specs.Laws.{Ends, kind_then}
-use Rattle.ppm_kept.specs.Places.{kind_or, kinds_of, is_in, doing_in, places_of, IsOf, Holds, IsUnseen, acted, RowShows, RestShows, OthersShow, TurnsShow}
+use Rattle.ppm_kept.specs.Places.{kind_or, kinds_of, is_in, doing_in, places_of, IsOf, Holds, IsUnseen, acted, IsNowhere, RowShows, RestShows, BareShows, FaultsShow, TurnsShow}
 use Rattle.ppm_kept.proofs.PutLemmas.{put_here, put_else}
 use Rattle.ppm_kept.proofs.OwnerLemmas.{few_words}
 use Rattle.ppm_kept.proofs.TurnLemmas.{steps_are_seen}
@@ -62,7 +62,7 @@ stand_own (y ∷ l) (suc o) x live = stand_own l o x live
 in_else : (p q : ℕ) → q ≢ p → (x : Standing) → IsOf p x → is_in q x ≡ false
 in_else p q ne (IsWithin seat row) e = ne_eqb seat.place q (λ z. ne (sym z ∙ e))
 in_else p q ne (IsRunning seat rest) e = ne_eqb seat.place q (λ z. ne (sym z ∙ e))
-in_else p q ne (IsBroken place) e = ne_eqb place q (λ z. ne (sym z ∙ e))
+in_else p q ne (IsBroken place) e = refl
 in_else p q ne IsLost e = refl
 in_else p q ne (IsPlaced place) e = refl
 in_else p q ne (IsAt place restart) e = refl
@@ -71,7 +71,7 @@ in_else p q ne IsDone e = refl
 in_own : (p : ℕ) (x : Standing) → IsOf p x → (if is_in p x then doing_of x else Resting) ≡ doing_of x
 in_own p (IsWithin seat row) e = if_true (seat.place == p) _ _ (eq-eqb seat.place p e)
 in_own p (IsRunning seat rest) e = if_true (seat.place == p) _ _ (eq-eqb seat.place p e)
-in_own p (IsBroken place) e = if_true (place == p) _ _ (eq-eqb place p e)
+in_own p (IsBroken place) e = refl
 in_own p IsLost e = refl
 in_own p (IsPlaced place) e = refl
 in_own p (IsAt place restart) e = refl
@@ -96,7 +96,7 @@ module _ (f g : ℕ → Standing) (c p : ℕ) (x : Standing) (here : g c ≡ x) 
   doing_none zero le = refl
   doing_none (suc n) le = if_false (is_in p (g n)) _ _ (out n (λ e. omega (arith, le, e))) ∙ doing_none n (omega (arith, le))
 
-  doing_here : (n : ℕ) → c < n → doing_in g n p ≡ doing_of x
+  pub doing_here : (n : ℕ) → c < n → doing_in g n p ≡ doing_of x
   doing_here zero lt = absurd (omega (arith, lt))
   doing_here (suc n) lt = elim (cases_eq n c) [
     | inl e ↦ ap (λ (y : Standing). if is_in p y then doing_of y else doing_in g n p) (ap g e ∙ here)
@@ -110,22 +110,42 @@ module _ (f g : ℕ → Standing) (c p : ℕ) (x : Standing) (here : g c ≡ x) 
     | inr ne ↦ doing_else n q ne ∙ sym (put_else (doing_in f n) p (doing_of x) q ne)
   ])
 
+-- one that is in no place, and stays so
+nowhere_out : (x : Standing) → IsNowhere x → (q : ℕ) → is_in q x ≡ false
+nowhere_out (IsWithin seat row) h q = absurd h
+nowhere_out (IsRunning seat rest) h q = absurd h
+nowhere_out (IsBroken place) h q = refl
+nowhere_out IsLost h q = refl
+nowhere_out (IsPlaced place) h q = refl
+nowhere_out (IsAt place restart) h q = refl
+nowhere_out IsDone h q = refl
+
+doing_same : (f g : ℕ → Standing) (c : ℕ) → ((d : ℕ) → d ≢ c → g d ≡ f d) → IsNowhere (f c) → IsNowhere (g c) → (n q : ℕ) → doing_in g n q ≡ doing_in f n q
+doing_same f g c there was now zero q = refl
+doing_same f g c there was now (suc n) q = elim (cases_eq n c) [
+  | inl e ↦ if_false (is_in q (g n)) _ _ (ap (λ (y : ℕ). is_in q (g y)) e ∙ nowhere_out (g c) now q)
+      ∙ doing_same f g c there was now n q
+      ∙ sym (if_false (is_in q (f n)) _ _ (ap (λ (y : ℕ). is_in q (f y)) e ∙ nowhere_out (f c) was q))
+  | inr other ↦ ap (λ (y : Standing). if is_in q y then doing_of y else doing_in g n q) (there n other)
+      ∙ ap (λ (d : Doing). if is_in q (f n) then doing_of (f n) else d) (doing_same f g c there was now n q)
+]
+
 -- where a processor stands within a row of a seat
 within_of : (seat : Seat) (row : Row) (b : Bool) → IsOf seat.place (within_if seat row b)
 within_of seat row true = refl
-within_of seat row false = refl
+within_of seat row false = tt
 
 running_of : (s : Shape) (seat : Seat) (rest : Rest) → IsOf seat.place (running s seat rest)
 running_of s seat rest = by (rest_is_there s seat rest)
   where
     by : (b : Bool) → IsOf seat.place (running_if seat rest b)
     by true = refl
-    by false = refl
+    by false = tt
 
 module _ (s : Shape) (code : CodeParts) where
   enters_of : (seat : Seat) (k : RestartKind) (o : Option CodeCapsule) → IsOf seat.place (enters s code seat k o)
   enters_of seat (Run f y) (Some one) = running_of s seat _
-  enters_of seat _ o = refl
+  enters_of seat _ o = tt
 
   then_of : (seat : Seat) (next : Then) → IsOf seat.place (stands_then s code seat next)
   then_of seat (Enter x) = enters_of seat seat.restart.kind (slice_get code.capsules x)
@@ -135,7 +155,7 @@ module _ (s : Shape) (code : CodeParts) where
   then_of seat (Fork x) = within_of seat (Now (Fork x)) (then_is_there s seat (Fork x))
   then_of seat (Begin x w v) = within_of seat (Now (Begin x w v)) (then_is_there s seat (Begin x w v))
   then_of seat (Move x) = within_of seat (Now (Move x)) (then_is_there s seat (Move x))
-  then_of seat Broken = refl
+  then_of seat Broken = tt
 
   stands_of : (seat : Seat) (row : Row) → IsOf seat.place (stands s code seat row)
   stands_of seat (Now next) = then_of seat next
@@ -144,12 +164,12 @@ module _ (s : Shape) (code : CodeParts) where
 
   begins_of : (own p : ℕ) (r : Option Restart) (finish : ℕ) → IsOf p (at_finish s code own p r finish)
   begins_of own p r (suc finish) = tt
-  begins_of own p None zero = refl
+  begins_of own p None zero = tt
   begins_of own p (Some r) zero = by (restart_is_there s r)
     where
       by : (b : Bool) → IsOf p (begins_if s code (record { own = own; place = p; restart = r }) b)
       by true = stands_of (record { own = own; place = p; restart = r }) (row_of s (record { own = own; place = p; restart = r }) r.kind)
-      by false = refl
+      by false = tt
 
 -- restart words
 module _ (s : Shape) where
@@ -160,7 +180,7 @@ module _ (s : Shape) where
       by true e = let lt = ltb-true q s.processors e in ap (λ (n : ℕ). kind_or (restart_of n)) (others s words c (RestartWord q) w there lt (ne lt))
       by false e = refl
 
-  kinds_stay : (words : List ℕ) (c : Cell) (w : ℕ) → IsCell s c → ((q : ℕ) → RestartWord q ≢ c) → kinds_of s (write s words c w) ≡ kinds_of s words
+  pub kinds_stay : (words : List ℕ) (c : Cell) (w : ℕ) → IsCell s c → ((q : ℕ) → RestartWord q ≢ c) → kinds_of s (write s words c w) ≡ kinds_of s words
   kinds_stay words c w there ne = fun_ext (λ q. kind_else words c w there q (λ lt. ne q))
 
   kinds_put : (words : List ℕ) (p : ℕ) (r : Restart) → AreWordsOf s words → p < s.processors → IsRestart r
@@ -186,7 +206,7 @@ state_path w w' k k' d d' a b c = λ i. record { words = a i; kind = b i; doing 
 
 module _ (s : Shape) (code : CodeParts) (state : Machine) (c p : ℕ) (holds : Holds s state c p) (live : is_done_at (stand_of state c) ≡ false) where
   -- where it then stands, with the words after it
-  moved : (words : List ℕ) (x : Standing) → IsOf p x → (w : Cell → ℕ) (k : ℕ → RestartKind) → view s words ≡ w → kinds_of s words ≡ k
+  pub moved : (words : List ℕ) (x : Standing) → IsOf p x → (w : Cell → ℕ) (k : ℕ → RestartKind) → view s words ≡ w → kinds_of s words ≡ k
       → places_of s (record { words = words; stand = slice_set state.stand c x }) ≡ state_by w k (put (doing_in (stand_of state) s.processors) p (doing_of x))
   moved words x now w k a b = state_path (view s words) w (kinds_of s words) k (doing_in (stand_of (record { words = words; stand = slice_set state.stand c x })) s.processors) (put (doing_in (stand_of state) s.processors) p (doing_of x)) a b
       (doing_moves (stand_of state) (stand_of (record { words = words; stand = slice_set state.stand c x })) c p x (stand_own state.stand c x live) (λ d ne. stand_other state.stand c d x ne) holds.own now holds.others s.processors holds.there)
@@ -285,7 +305,8 @@ module _ (s : Shape) (code : CodeParts) (state : Machine) (c : ℕ) (seat : Seat
         (steps_are_seen s state.words seat holds.words holds.place).fills (kinds_after s code state c p holds (live_at x e refl) FinishWord _ tt (λ q z. cc) (read s state.words FinishWord == 0)));
   }
 
-module _ (s : Shape) (code : CodeParts) (state : Machine) (c p : ℕ) (holds : Holds s state c p) (live : is_done_at (stand_of state c) ≡ false) where
+-- what does not change the state by places
+module _ (s : Shape) (code : CodeParts) (state : Machine) (c : ℕ) where
   abbrev T : State
   T = places_of s state
 
@@ -293,35 +314,57 @@ module _ (s : Shape) (code : CodeParts) (state : Machine) (c p : ℕ) (holds : H
   at_stand : (x : Standing) → stand_of state c ≡ x → (act : Act) (z : State) → places_of s (acts s code state c act x) ≡ z → acted s code state c act ≡ z
   at_stand x e act z goal = subst (λ (y : Standing). places_of s (acts s code state c act y) ≡ z) (sym e) goal
 
-  soft_by : (x : Standing) → is_done_at x ≡ false → stand_of state c ≡ x → places_of s (acts s code state c Soft x) ≡ goes T p IsLost
-  soft_by IsDone no_ e = absurd (cc)
-  soft_by IsLost no_ e = moved s code state c p holds live state.words IsLost tt (view s state.words) (kinds_of s state.words) refl refl
-  soft_by (IsPlaced q) no_ e = moved s code state c p holds live state.words IsLost tt (view s state.words) (kinds_of s state.words) refl refl
-  soft_by (IsAt q r) no_ e = moved s code state c p holds live state.words IsLost tt (view s state.words) (kinds_of s state.words) refl refl
-  soft_by (IsWithin seat row) no_ e = moved s code state c p holds live state.words IsLost tt (view s state.words) (kinds_of s state.words) refl refl
-  soft_by (IsRunning seat rest) no_ e = moved s code state c p holds live state.words IsLost tt (view s state.words) (kinds_of s state.words) refl refl
-  soft_by (IsBroken q) no_ e = moved s code state c p holds live state.words IsLost tt (view s state.words) (kinds_of s state.words) refl refl
+  -- in no place before and after
+  pub bare : (words : List ℕ) (x : Standing) → is_done_at (stand_of state c) ≡ false → IsNowhere (stand_of state c) → IsNowhere x → view s words ≡ view s state.words → kinds_of s words ≡ kinds_of s state.words
+      → places_of s (record { words = words; stand = slice_set state.stand c x }) ≡ T
+  bare words x live was now a b = state_path (view s words) (view s state.words) (kinds_of s words) (kinds_of s state.words) (doing_in (stand_of (record { words = words; stand = slice_set state.stand c x })) s.processors) T.doing a b
+      (fun_ext (λ q. doing_same (stand_of state) (stand_of (record { words = words; stand = slice_set state.stand c x })) c (λ d ne. stand_other state.stand c d x ne) was (subst IsNowhere (sym (stand_own state.stand c x live)) now) s.processors q))
 
-  dead_out : IsUnseen s (DeadWord c)
-  dead_out = record { there = holds.there; no_frame = refl; no_restart = λ q z. cc }
+  -- and with the own dead word
+  pub dead_unseen : c < s.processors → IsUnseen s (DeadWord c)
+  dead_unseen there = record { there = there; no_frame = refl; no_restart = λ q z. cc }
 
-  hard_by : (x : Standing) → is_done_at x ≡ false → stand_of state c ≡ x → places_of s (acts s code state c Hard x) ≡ goes T p IsLost
-  hard_by IsDone no_ e = absurd (cc)
-  hard_by IsLost no_ e = unseen s code state c p holds live (DeadWord c) 1 dead_out IsDone tt
-  hard_by (IsPlaced q) no_ e = unseen s code state c p holds live (DeadWord c) 1 dead_out IsDone tt
-  hard_by (IsAt q r) no_ e = unseen s code state c p holds live (DeadWord c) 1 dead_out IsDone tt
-  hard_by (IsWithin seat row) no_ e = unseen s code state c p holds live (DeadWord c) 1 dead_out IsDone tt
-  hard_by (IsRunning seat rest) no_ e = unseen s code state c p holds live (DeadWord c) 1 dead_out IsDone tt
-  hard_by (IsBroken q) no_ e = unseen s code state c p holds live (DeadWord c) 1 dead_out IsDone tt
+  soft_by : (x : Standing) → is_done_at x ≡ false → (z : State) → places_of s (record { words = state.words; stand = slice_set state.stand c IsLost }) ≡ z → places_of s (acts s code state c Soft x) ≡ z
+  soft_by IsDone no_ z e = absurd (cc)
+  soft_by IsLost no_ z e = e
+  soft_by (IsPlaced q) no_ z e = e
+  soft_by (IsAt q r) no_ z e = e
+  soft_by (IsWithin seat row) no_ z e = e
+  soft_by (IsRunning seat rest) no_ z e = e
+  soft_by (IsBroken q) no_ z e = e
 
-  other_turns : OthersShow s code state c p
-  other_turns = record {
-    begins = λ victim restart e. at_stand (IsAt p restart) e (Step victim) (goes T p (at_finish s code c p restart (read s state.words FinishWord)))
-        (moved s code state c p holds live state.words (at_finish s code c p restart (read s state.words FinishWord)) (begins_of s code c p restart (read s state.words FinishWord)) (view s state.words) (kinds_of s state.words) refl refl);
-    placed = λ victim e. at_stand (IsPlaced p) e (Step victim) (goes T p IsLost) (moved s code state c p holds live state.words (IsAt p (restart_of (read s state.words (RestartWord p)))) tt (view s state.words) (kinds_of s state.words) refl refl);
-    soft = at_stand (stand_of state c) refl Soft (goes T p IsLost) (soft_by (stand_of state c) live refl);
-    hard = at_stand (stand_of state c) refl Hard (goes T p IsLost) (hard_by (stand_of state c) live refl);
+  hard_by : (x : Standing) → is_done_at x ≡ false → (z : State) → places_of s (record { words = write s state.words (DeadWord c) 1; stand = slice_set state.stand c IsDone }) ≡ z → places_of s (acts s code state c Hard x) ≡ z
+  hard_by IsDone no_ z e = absurd (cc)
+  hard_by IsLost no_ z e = e
+  hard_by (IsPlaced q) no_ z e = e
+  hard_by (IsAt q r) no_ z e = e
+  hard_by (IsWithin seat row) no_ z e = e
+  hard_by (IsRunning seat rest) no_ z e = e
+  hard_by (IsBroken q) no_ z e = e
+
+  placed_nowhere : (found : ℕ) → IsNowhere (placed s found)
+  placed_nowhere found = by (nat_lt found s.processors)
+    where
+      by : (b : Bool) → IsNowhere (if b then IsPlaced found else IsBroken unknown_place)
+      by true = tt
+      by false = tt
+
+  bare_turns : BareShows s code state c
+  bare_turns = record {
+    begins = λ victim p restart e holds. at_stand (IsAt p restart) e (Step victim) (goes T p (at_finish s code c p restart (read s state.words FinishWord)))
+        (moved s code state c p holds (ap is_done_at e) state.words (at_finish s code c p restart (read s state.words FinishWord)) (begins_of s code c p restart (read s state.words FinishWord)) (view s state.words) (kinds_of s state.words) refl refl);
+    lost = λ victim e. at_stand IsLost e (Step victim) T (bare state.words (placed s (read s state.words (CarryWord c))) (ap is_done_at e) (subst IsNowhere (sym e) tt) (placed_nowhere (read s state.words (CarryWord c))) refl refl);
+    placed = λ victim p e. at_stand (IsPlaced p) e (Step victim) T (bare state.words (IsAt p (restart_of (read s state.words (RestartWord p)))) (ap is_done_at e) (subst IsNowhere (sym e) tt) tt refl refl);
+  }
+
+  faults : is_done_at (stand_of state c) ≡ false → FaultsShow s code state c
+  faults live = record {
+    soft = λ p holds. soft_by (stand_of state c) live (goes T p IsLost) (moved s code state c p holds live state.words IsLost tt (view s state.words) (kinds_of s state.words) refl refl);
+    hard = λ p holds. hard_by (stand_of state c) live (goes T p IsLost) (unseen s code state c p holds live (DeadWord c) 1 (dead_unseen holds.there) IsDone tt);
+    soft_bare = λ was. soft_by (stand_of state c) live T (bare state.words IsLost live was tt refl refl);
+    hard_bare = λ was there. let out = dead_unseen there in hard_by (stand_of state c) live T (bare (write s state.words (DeadWord c) 1) IsDone live was tt
+        (others_are_unseen s state.words (DeadWord c) 1 out.there out.no_frame) (kinds_stay s state.words (DeadWord c) 1 out.there out.no_restart));
   }
 
 pub turns_show : TurnsShow
-turns_show s code state c = (λ seat holds. (rows s code state c seat holds, rests s code state c seat holds), λ p holds live. other_turns s code state c p holds live)
+turns_show s code state c = (λ seat holds. (rows s code state c seat holds, rests s code state c seat holds), bare_turns s code state c, faults s code state c)

@@ -29,7 +29,7 @@ use Rattle.ppm_frames.proofs.SkeletonLemmas.{inside_at, count_plug, at_plug}
 use Rattle.ppm_frames.proofs.SwapLemmas.{swap_same, good_same, good_here}
 use Rattle.ppm_kept.specs.Running.{IsFair}
 use Rattle.ppm_kept.specs.Branches.{Unpushed, IsWaitingAt, Waits, is_taker, HasCopy}
-use Rattle.ppm_kept.specs.Kept.{Image, Doing, Resting, InRow, InRest, Broken as Stopped, State, put, Blank, ceiling, Free, Does, carried, IsKept}
+use Rattle.ppm_kept.specs.Kept.{Image, Doing, Resting, InRow, InRest, State, put, Blank, ceiling, Free, Does, carried, IsKept}
 use Rattle.ppm_kept.specs.Moves.{doing_of, goes, installs}
 use Rattle.ppm_kept.specs.Others.{IsIdle}
 use Rattle.ppm_kept.specs.Pushing.{Comes, kind_seat}
@@ -39,7 +39,7 @@ use Rattle.ppm_kept.proofs.EndingLemmas.{not_ended}
 use Rattle.ppm_kept.proofs.BuildLemmas.{Turn, build}
 use Rattle.ppm_kept.proofs.PlaceLemmas.{going_to, kept_same, is_at_own, is_at_other}
 use Rattle.ppm_kept.proofs.IdleLemmas.{idle_roof, idle_free, idle_blank, idle_order}
-use Rattle.ppm_kept.proofs.LookLemmas.{NoBegin, LookRow, comes_look, look_begins, look_ends}
+use Rattle.ppm_kept.proofs.LookLemmas.{NoBegin, LookRow, look_unseen, comes_look, look_begins, look_ends}
 
 -- a fork whose right branch waits at frame f
 pub record Takes (r p f : ℕ) (t : Skeleton) : Type 0 where
@@ -168,13 +168,11 @@ idle_pushed p t _ h = absurd h
 -- where a processor stands in such a row
 abbrev AsRow : Row → Doing → Type 0
 AsRow rest Resting = Unit {0}
-AsRow rest Stopped = Unit {0}
 AsRow rest (InRow row) = row ≡ rest
 AsRow rest (InRest left) = ⊥
 
 idle_does : (i : Image) (m : Cell → ℕ) (p : ℕ) (k : RestartKind) → IsIdle k → (rest : Row) (d : Doing) → AsRow rest d → Does i m p k d
 idle_does i m p k h rest Resting a = tt
-idle_does i m p k h rest Stopped a = tt
 idle_does i m p k h rest (InRest left) a = absurd a
 idle_does i m p Pop1 h rest (InRow row) a = tt
 idle_does i m p (Pop2 r) h rest (InRow row) a = tt
@@ -413,9 +411,9 @@ module _ (i : Image) (fair : IsFair i.code) (root : Tree (Frame FrameWord Point)
     loads = goes_as;
     offsets = λ own bottom victim r b waits. offset_loads own bottom r b (m (offset_word r)) refl waits;
     stores = λ own bottom n found cell content next q.
-        let l = row_looks own bottom n (Store cell content next) q in (l.0, goes_as own bottom (Now next) (no_begin next l.1));
+        let l = row_looks own bottom n (Store cell content next) q in (look_unseen i.shape cell l.0, goes_as own bottom (Now next) (no_begin next l.1));
     exchanges = λ own bottom n found cell old new next q.
-        let l = row_looks own bottom n (Exchange cell old new next) q in (l.0, goes_as own bottom (Now next) (no_begin next l.1));
+        let l = row_looks own bottom n (Exchange cell old new next) q in (look_unseen i.shape cell l.0, goes_as own bottom (Now next) (no_begin next l.1));
     ends = λ own bottom n next ends q. look_ends i.shape k next (row_looks own bottom n (Now next) q);
     installs = idle_installs;
     begins = λ r f b taker about alone. take_law r f (law.aims p r f b (ap is_taker ke ∙ taker) about) alone;

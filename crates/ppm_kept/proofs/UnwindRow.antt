@@ -77,7 +77,7 @@ pub record Overs (i : Image) (s : State) (t : Skeleton) (p f : ℕ) : Type 0 whe
   pub alone : at_rim p around ≡ 0
   pub framed : Framed i.code s.words (hook_at Root around) f slots
 
-over_at : (i : Image) (s : State) (t : Skeleton) (p f : ℕ) (c : Around) (st : Stand) (g n : ℕ) → t ≡ plug c (Leaf (InPlace p) st g n) → at_rim p c ≡ 0
+pub over_at : (i : Image) (s : State) (t : Skeleton) (p f : ℕ) (c : Around) (st : Stand) (g n : ℕ) → t ≡ plug c (Leaf (InPlace p) st g n) → at_rim p c ≡ 0
     → Framed i.code s.words (hook_at Root c) g n → Match i.code s.words (Unwind f) (hook_at Root c) st g → Overs i s t p f
 over_at i s t p f c Over g n is alone framed match = record {
   around = c;

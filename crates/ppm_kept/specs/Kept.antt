@@ -58,7 +58,6 @@ pub data Doing : Type 0 where
   Resting : Doing
   InRow : Row → Doing
   InRest : Rest → Doing
-  Broken : Doing
 
 -- the words by cells, what each place is at, and where its processor stands
 pub record State : Type 0 where
@@ -181,10 +180,9 @@ module _ (i : Image) where
   Going m p (Run f y) rest = HasCome i.shape i.code m p f y rest
   Going m p k rest = ⊥
 
-  -- by where the processor stands; where it is broken nothing is said
+  -- by where the processor stands
   abbrev pub Does : (Cell → ℕ) → ℕ → RestartKind → Doing → Type 0
   Does m p k Resting = Unit {0}
-  Does m p k Broken = Unit {0}
   Does m p k (InRow row) = Under m p k row
   Does m p k (InRest rest) = Going m p k rest
 

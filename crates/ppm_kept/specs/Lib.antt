@@ -17,3 +17,5 @@ pub mod Takes
 pub mod Births
 pub mod Unruns
 pub mod Places
+pub mod Loads
+pub mod Steps

@@ -13,7 +13,7 @@ use Rattle.ppm_code.specs.Sizes.{slots_at}
 use Rattle.ppm_step.specs.Contents.{word_of}
 use Rattle.ppm_step.specs.Points.{cell_at}
 use Rattle.ppm_step.specs.Rows.{row_of}
-use Rattle.ppm_step.specs.Standings.{Standing, IsWithin, IsRunning, IsBroken, within_if, went_row}
+use Rattle.ppm_step.specs.Standings.{Standing, IsWithin, IsRunning, within_if, went_row}
 use Rattle.ppm_step.specs.declared.content.Content.{Content}
 use Rattle.ppm_step.specs.declared.row.Point.{Point as RowPoint}
 use Rattle.ppm_step.specs.declared.row.Row.TheVariants.{Now, Store, Exchange}
@@ -23,13 +23,12 @@ use Rattle.ppm_step.specs.declared.row.Then.TheVariants.{Load}
 use Rattle.ppm_frames.specs.Views.{written as write}
 use Rattle.ppm_frames.specs.Skeletons.{Stand, Begins, Over, InPlace, Fresh, Skeleton, Leaf, Calling, Forking, grow}
 use Rattle.ppm_frames.specs.Good.{link_at}
-use Rattle.ppm_kept.specs.Kept.{Image, Doing, Resting, InRow, InRest, Broken, State, put}
+use Rattle.ppm_kept.specs.Kept.{Image, Doing, Resting, InRow, InRest, State, put}
 
--- of a standing: the row or the capsule under way
+-- of a standing: the row or the capsule under way; at broken words, as before a row, none
 abbrev pub doing_of : Standing → Doing
 doing_of (IsWithin seat row) = InRow row
 doing_of (IsRunning seat rest) = InRest rest
-doing_of (IsBroken place) = Broken
 doing_of _ = Resting
 
 -- place p stands elsewhere

@@ -16,7 +16,7 @@ use Rattle.ppm_code.specs.declared.code.CodeParts.{CodeParts}
 use Rattle.ppm_step.specs.Contents.{word_of}
 use Rattle.ppm_step.specs.Frames.{Rest, Loads, Stores, Full, Installs}
 use Rattle.ppm_step.specs.Points.{cell_at}
-use Rattle.ppm_step.specs.Standings.{Standing, IsLost, IsPlaced, IsAt, IsWithin, IsRunning, IsBroken, then_is_there, rest_is_there, at_finish, went_row, went_rest}
+use Rattle.ppm_step.specs.Standings.{Standing, IsLost, IsPlaced, IsAt, IsWithin, IsRunning, then_is_there, rest_is_there, at_finish, went_row, went_rest}
 use Rattle.ppm_step.specs.State.{State as Machine, stand_of, happens, opening, is_done_at}
 use Rattle.ppm_step.specs.declared.content.Content.{Content}
 use Rattle.ppm_step.specs.declared.row.Point.{Point}
@@ -47,11 +47,10 @@ kind_or (Some restart) = restart.kind
 abbrev pub kinds_of : Shape → List ℕ → ℕ → RestartKind
 kinds_of s words p = if nat_lt p s.processors then kind_or (restart_of (read s words (RestartWord p))) else Seek
 
--- whether a processor that stands there is in a row or a capsule of place p, or at broken words of it
+-- whether a processor that stands there is in a row or a capsule of place p
 abbrev pub is_in : ℕ → Standing → Bool
 is_in p (IsWithin seat row) = seat.place == p
 is_in p (IsRunning seat rest) = seat.place == p
-is_in p (IsBroken place) = place == p
 is_in p _ = false
 
 -- what the first processor that is in place p does, of so many
@@ -67,7 +66,6 @@ places_of s state = record { words = view s state.words; kind = kinds_of s state
 abbrev pub IsOf : ℕ → Standing → Type 0
 IsOf p (IsWithin seat row) = seat.place ≡ p
 IsOf p (IsRunning seat rest) = seat.place ≡ p
-IsOf p (IsBroken place) = place ≡ p
 IsOf p _ = Unit {0}
 
 -- processor c is in place p or in none, and no other is in it. The deque's half says so, since no two
@@ -78,6 +76,12 @@ pub record Holds (s : Shape) (state : Machine) (c p : ℕ) : Type 0 where
   pub place : p < s.processors
   pub own : IsOf p (stand_of state c)
   pub others : (d : ℕ) → d ≢ c → is_in p (stand_of state d) ≡ false
+
+-- it is in no place
+abbrev pub IsNowhere : Standing → Type 0
+IsNowhere (IsWithin seat row) = ⊥
+IsNowhere (IsRunning seat rest) = ⊥
+IsNowhere _ = Unit {0}
 
 -- a cell that no frame has, and that is no restart word
 pub record IsUnseen (s : Shape) (cell : Cell) : Type 0 where
@@ -132,19 +136,27 @@ module _ (s : Shape) (code : CodeParts) (state : Machine) (c : ℕ) where
     pub full : (victim : ℕ) → stand_of state c ≡ IsRunning seat Full
         → acted (Step victim) ≡ fills before seat.place
 
-  -- the load of the finish word before a row, and faults, after which it is in no place
-  pub record OthersShow (p : ℕ) : Type 0 where
-    pub begins : (victim : ℕ) (restart : Option Restart) → stand_of state c ≡ IsAt p restart
+  -- by the load of the finish word a row begins; by the loads before it nothing changes
+  pub record BareShows : Type 0 where
+    pub begins : (victim p : ℕ) (restart : Option Restart) → stand_of state c ≡ IsAt p restart
+        → Holds s state c p
         → acted (Step victim) ≡ goes before p (at_finish s code c p restart (read s state.words FinishWord))
-    pub placed : (victim : ℕ) → stand_of state c ≡ IsPlaced p → acted (Step victim) ≡ goes before p IsLost
-    pub soft : acted Soft ≡ goes before p IsLost
-    pub hard : acted Hard ≡ goes before p IsLost
+    pub lost : (victim : ℕ) → stand_of state c ≡ IsLost → acted (Step victim) ≡ before
+    pub placed : (victim p : ℕ) → stand_of state c ≡ IsPlaced p → acted (Step victim) ≡ before
 
--- of each processor that is alone in a place and is not done; quitting alone is left out
+  -- a fault ends the row or the capsule, if it is in one
+  pub record FaultsShow : Type 0 where
+    pub soft : (p : ℕ) → Holds s state c p → acted Soft ≡ goes before p IsLost
+    pub hard : (p : ℕ) → Holds s state c p → acted Hard ≡ goes before p IsLost
+    pub soft_bare : IsNowhere (stand_of state c) → acted Soft ≡ before
+    pub hard_bare : IsNowhere (stand_of state c) → c < s.processors → acted Hard ≡ before
+
+-- of each processor; quitting, and the stop at broken words, alone are left out
 abbrev pub TurnsShow : Type 0
 TurnsShow = (s : Shape) (code : CodeParts) (state : Machine) (c : ℕ)
     → ((seat : Seat) → Holds s state c seat.place → RowShows s code state c seat × RestShows s code state c seat)
-    × ((p : ℕ) → Holds s state c p → (is_done_at (stand_of state c) ≡ false) → OthersShow s code state c p)
+    × BareShows s code state c
+    × (is_done_at (stand_of state c) ≡ false → FaultsShow s code state c)
 
 -- a machine that opens an image of a sound code, with all processors lost, is kept so: the tree is the
 -- strand of the root, at the keeper's place

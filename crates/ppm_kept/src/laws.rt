@@ -7,11 +7,13 @@ ghost use Rattle.ppm_kept.specs.JoinLast.{JoinRowKeeps, LastJoinRowKeeps};
 ghost use Rattle.ppm_kept.specs.JoinValues.{AllBranchValuesPass};
 ghost use Rattle.ppm_kept.specs.Joins.{EarlyJoinRowKeeps};
 ghost use Rattle.ppm_kept.specs.Laws.{BumpRowKeeps, FramesRun, RunRowKeeps};
+ghost use Rattle.ppm_kept.specs.Loads.{AllLoadsShow};
 ghost use Rattle.ppm_kept.specs.Openings.{ImagesOpen, OpeningsAreKept};
 ghost use Rattle.ppm_kept.specs.Others.{OthersKeep};
 ghost use Rattle.ppm_kept.specs.Places.{MachinesOpen, TurnsShow};
 ghost use Rattle.ppm_kept.specs.Pushing.{AllUntakenStays, Push1RowKeeps, Push2RowKeeps};
 ghost use Rattle.ppm_kept.specs.Returns.{ExchangesAreSeen, UnwindRowKeeps};
+ghost use Rattle.ppm_kept.specs.Steps.{TurnsKeep};
 ghost use Rattle.ppm_kept.specs.Takes.{TakeRowsKeep};
 ghost use Rattle.ppm_kept.specs.Turns.{StepsAreSeen, StoresAreCells};
 ghost use Rattle.ppm_kept.specs.Unruns.{AllUnrunsStay};
@@ -127,6 +129,20 @@ pub fn take_rows_keep()
 pub fn turns_show()
     ensures turns { TurnsShow }
     ensures opens { MachinesOpen }
+{}
+
+/// What a place loads in a capsule, or in a row of its strand, is a cell that frames have, so the words
+/// by cells show what the load finds.
+pub fn loads_show()
+    ensures law { AllLoadsShow }
+{}
+
+/// A whole turn, with takeover by places: the state by places is kept, with the skeleton after it, or
+/// the turn stops the run with a finish that is no outcome. What it takes from the deque's half is
+/// `ActsSo`: the processor is alone in its place, how its row was come to, and of takes that the branch
+/// waits and that no other place is about to begin it.
+pub fn turns_keep()
+    ensures law { TurnsKeep }
 {}
 
 /// Blocks are opened upwards in each pool: those that were forked lie below what a place may still
