@@ -1,18 +1,13 @@
 -- What a processor does at its place is what the frames see there; addresses of pools; and where the
 -- homes of branches stand in the tree.
-use Rattle.std.proofs.Common.{◌≡◌, ◌≢◌, ◌⊎◌, ◌≤◌, ◌<◌, ℕ, ◌+◌, ◌-◌, ◌==◌, ◌&&◌, Bool, true, false, if◌then◌else◌, List, inl, inr, refl, sym, ap, ◌∙◌, subst, arith}
-use Rattle.std.specs.Prelude.{nat_lt, nat_le, slice_get}
-use Rattle.std.proofs.lemmas.Bool.{eq-eqb, eqb-true, ltb-true, leb-true, cases_lt, cases_Bool}
+use Rattle.std.proofs.Common.{◌≡◌, ◌≢◌, ◌<◌, ℕ, ◌+◌, ◌&&◌, Bool, true, false, List, inl, inr, refl, sym, ap, ◌∙◌, subst, arith}
+use Rattle.std.specs.Prelude.{nat_lt, nat_le}
+use Rattle.std.proofs.lemmas.Bool.{eq-eqb, eqb-true, ltb-true, leb-true, cases_Bool}
 use Rattle.ppm_strands.specs.Tree.{Words, Tree}
 use Rattle.ppm_cells.specs.Cells.{IsInPool, pool_at}
-use Rattle.ppm_cells.specs.Memory.{read}
-use Rattle.ppm_cells.specs.Restart.{restart_of}
 use Rattle.ppm_cells.specs.declared.cell.Cell.{Cell}
 use Rattle.ppm_cells.specs.declared.cell.Cell.TheVariants.{FinishWord, CarryWord, DeadWord, RestartWord, MessageWord, HolderWord, Top, RoomCounter, EntryWord, BlockWord, ArrayWord}
-use Rattle.ppm_cells.specs.declared.link.LinkKind.TheVariants.{Root}
-use Rattle.ppm_cells.specs.declared.restart.Restart.{Restart}
 use Rattle.ppm_cells.specs.declared.restart.RestartKind.{RestartKind}
-use Rattle.ppm_cells.specs.declared.restart.RestartKind.TheVariants.{Seek}
 use Rattle.ppm_cells.specs.declared.shape.Shape.{Shape}
 use Rattle.ppm_capsules.specs.Strand.{Frame}
 use Rattle.ppm_code.specs.Strands.{Point, Result}
@@ -26,14 +21,12 @@ use Rattle.ppm_step.specs.declared.row.Seat.{Seat}
 use Rattle.ppm_tickets.specs.Along.{IsPooled}
 use Rattle.ppm_tickets.specs.Homes.{Home}
 use Rattle.ppm_tickets.specs.Lawful.{Names}
-use Rattle.ppm_tickets.specs.Saw.{Carried, Sits, HasSeen, Sees, IsStrand, IsModest, Lawful}
+use Rattle.ppm_tickets.specs.Saw.{Carried, Sits, HasSeen, Sees}
 use Rattle.ppm_tickets.specs.View as spots
 use Rattle.ppm_tickets.specs.Words.{Word, Empty, Local, Job, Taken, Held, Number, Linked, Restarts, Unread, Spot, Holder}
-use Rattle.ppm_frames.specs.Views.{place_of, in_pool, is_cell, view}
-use Rattle.ppm_frames.proofs.ViewLemmas.{view_not}
+use Rattle.ppm_frames.specs.Views.{place_of, in_pool, is_cell}
 use Rattle.ppm_frames.specs.Skeletons.{Skeleton, Around, Top as Whole, AtCall, AtLeft, AtRight, plug}
-use Rattle.ppm_kept.specs.Running.{IsFair}
-use Rattle.ppm_kept.specs.Kept.{Image, Doing, Resting, InRow, InRest, State, Does, Head, start, end_of, owner, ceiling, IsKept}
+use Rattle.ppm_kept.specs.Kept.{Image, InRow, InRest, State, Does, Head, owner, IsKept}
 use Rattle.ppm_kept.specs.Moves.{doing_of}
 use Rattle.ppm_kept.specs.Places.{places_of, is_in, IsOf, Holds}
 use Rattle.ppm_runs.specs.Run.{image, AreHomed, IsRun}
@@ -151,8 +144,8 @@ module _ (s : Shape) (code : CodeParts) (root : Tree (Frame FrameWord Point) Res
   within c seat row e =
       let sees : Sees s m k b c (IsWithin seat row) = subst (Sees s m k b c) e (run.lawful.1.sees c) in
       let is : z.doing seat.place ≡ InRow row =
-          doing_own (stand_of state) c seat.place (ap (is_in seat.place) e ∙ eq-eqb seat.place seat.place refl) (alone c seat.place sees.0.carried) s.processors sees.0.carried.lives.there
-          ∙ ap doing_of e in
+      doing_own (stand_of state) c seat.place (ap (is_in seat.place) e ∙ eq-eqb seat.place seat.place refl) (alone c seat.place sees.0.carried) s.processors sees.0.carried.lives.there
+      ∙ ap doing_of e in
       let kind = kinds_same s state.words seat.place ∙ sees.0.at.kind in
       let does = subst (Does i z.words seat.place (z.kind seat.place)) is (law.does seat.place) in
       record {
@@ -179,8 +172,8 @@ module _ (s : Shape) (code : CodeParts) (root : Tree (Frame FrameWord Point) Res
   runs c seat rest e =
       let sees : Sees s m k b c (IsRunning seat rest) = subst (Sees s m k b c) e (run.lawful.1.sees c) in
       let is : z.doing seat.place ≡ InRest rest =
-          doing_own (stand_of state) c seat.place (ap (is_in seat.place) e ∙ eq-eqb seat.place seat.place refl) (alone c seat.place sees.0.carried) s.processors sees.0.carried.lives.there
-          ∙ ap doing_of e in
+      doing_own (stand_of state) c seat.place (ap (is_in seat.place) e ∙ eq-eqb seat.place seat.place refl) (alone c seat.place sees.0.carried) s.processors sees.0.carried.lives.there
+      ∙ ap doing_of e in
       record {
         here = sees.3;
         place = sees.0.carried.place;
