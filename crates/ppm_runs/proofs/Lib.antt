@@ -7,3 +7,4 @@ pub mod StandLemmas
 pub mod ShownLemmas
 pub mod OrderlyLemmas
 pub mod TakerLemmas
+pub mod GoingLemmas

@@ -1,14 +1,13 @@
 -- What a turn owes the tickets comes of the tree: each block word that it changes is one of a pool, a
 -- fork is a new one, and what is begun at a join was left to the strand of the left branch.
-use Rattle.std.proofs.Common.{◌≡◌, ◌⊎◌, ◌≤◌, ◌<◌, ℕ, zero, suc, ◌+◌, ◌==◌, Bool, true, false, if◌then◌else◌, List, [], ◌∷◌, inl, inr, refl, sym, ap, ◌∙◌, subst, subst₂, arith}
+use Rattle.std.proofs.Common.{◌≡◌, ◌⊎◌, ◌≤◌, ◌<◌, ℕ, zero, suc, ◌+◌, ◌==◌, Bool, true, false, List, inl, inr, refl, sym, ap, ◌∙◌, subst, arith}
 use Rattle.std.proofs.lemmas.Bool.{eqb-true, cases_Bool}
 use Rattle.ppm_strands.specs.Tree.{Words, Tree}
 use Rattle.ppm_cells.specs.Cells.{IsInPool}
 use Rattle.ppm_cells.specs.declared.cell.Cell.{Cell}
 use Rattle.ppm_cells.specs.declared.cell.Cell.TheVariants.{FinishWord, CarryWord, DeadWord, RestartWord, MessageWord, HolderWord, Top, RoomCounter, EntryWord, BlockWord, ArrayWord}
 use Rattle.ppm_cells.specs.declared.link.LinkKind.{LinkKind}
-use Rattle.ppm_cells.specs.declared.link.LinkKind.TheVariants.{Root, Call as Called, Branch, Fork as Forked}
-use Rattle.ppm_cells.specs.declared.restart.Restart.{Restart}
+use Rattle.ppm_cells.specs.declared.link.LinkKind.TheVariants.{Root, Branch}
 use Rattle.ppm_cells.specs.declared.restart.RestartKind.{RestartKind}
 use Rattle.ppm_cells.specs.declared.restart.RestartKind.TheVariants.{Run, Bump, Push1, Push2, Unwind, Arrive, Join, Pop1, Pop2, Seek, Steal, Check, Take, Take2}
 use Rattle.ppm_cells.specs.declared.shape.Shape.{Shape}
@@ -20,7 +19,7 @@ use Rattle.ppm_capsules.specs.Strand.{Frame}
 use Rattle.ppm_code.specs.Strands.{Point, Result}
 use Rattle.ppm_code.specs.declared.code.CodeParts.{CodeParts}
 use Rattle.ppm_code.specs.declared.location.FrameWord.{FrameWord}
-use Rattle.ppm_join.specs.Order.{first, both}
+use Rattle.ppm_join.specs.Order.{first}
 use Rattle.ppm_step.specs.Among.{IsActAmong}
 use Rattle.ppm_step.specs.Frames.{Rest, Loads, Stores, Full, Installs, Breaks}
 use Rattle.ppm_step.specs.Rows.{row_of, is_inline, is_last, joins, push_at, by_places}
@@ -34,34 +33,35 @@ use Rattle.ppm_step.specs.declared.row.Then.{Then}
 use Rattle.ppm_step.specs.declared.row.Then.TheVariants.{Load, Install, Fork, Begin, Move, Enter, Again, Broken}
 use Rattle.ppm_step.specs.declared.turn.Act.{Act}
 use Rattle.ppm_step.specs.declared.turn.Act.TheVariants.{Step, Soft, Hard, Quit}
-use Rattle.ppm_step.specs.declared.turn.Turn.{Turn}
-use Rattle.ppm_tickets.specs.Along.{IsPooled, IsJoined, IsInlined, IsOrderlyThen, IsOrderlyRow, IsOrderlyRest, IsOrderlyAt, IsOrderly}
+use Rattle.ppm_tickets.specs.Along.{IsPooled, IsJoined, IsInlined, IsOrderlyThen, IsOrderlyAt, IsOrderly}
 use Rattle.ppm_tickets.specs.Entries.{IsPooledAt}
 use Rattle.ppm_tickets.specs.Homes.{Home, Unborn, Pushing, Listed, Popping, Stolen, Inline, Begun}
 use Rattle.ppm_tickets.specs.Lawful.{Pushes, Carries}
 use Rattle.ppm_tickets.specs.Saw.{IsStrand, HasSeen, Strand, Looks}
 use Rattle.ppm_tickets.specs.View as spots
-use Rattle.ppm_tickets.specs.Words.{Word, Spot, Slot, has}
-use Rattle.ppm_frames.specs.Views.{is_cell}
-use Rattle.ppm_frames.specs.Skeletons.{Stand, Begins, Over, Arrives, Who, InPlace, Fresh, Waiting, Held, Came, Inlined, Skeleton, Leaf, Calling, Forking, hung, inside, count, Around, plug, hook_at}
+use Rattle.ppm_tickets.specs.Words.{Word, Slot, has}
+use Rattle.ppm_frames.specs.Skeletons.{Stand, Begins, Over, Arrives, InPlace, Fresh, Waiting, Held, Came, Inlined, Skeleton, Leaf, Calling, Forking, hung, inside, count, Around, plug, hook_at}
 use Rattle.ppm_frames.specs.Good.{IsPlain, mark, order_of, Match, Good}
 use Rattle.ppm_frames.proofs.SkeletonLemmas.{branch_from, inside_at}
 use Rattle.ppm_frames.proofs.SwapLemmas.{good_here}
-use Rattle.ppm_kept.specs.Running.{IsFair, MayStore}
+use Rattle.ppm_kept.specs.Running.{IsFair}
 use Rattle.ppm_kept.specs.Kept.{Image, seat_at, InRow, InRest, State, Reach, Reached, Does, Ordered, carried, IsKept}
 use Rattle.ppm_kept.proofs.NodeLemmas.{nodes_same}
 use Rattle.ppm_kept.proofs.PlaceLemmas.{Leafed, leaf, head_on}
-use Rattle.ppm_kept.proofs.JoiningLemmas.{Comes, joins as joins_leaf, inline_late}
+use Rattle.ppm_kept.proofs.JoiningLemmas.{joins as joins_leaf, inline_late}
 use Rattle.ppm_kept.proofs.Rows.{run_row_keeps}
 use Rattle.ppm_kept.proofs.UnwindRow.{unwind_row_keeps}
 use Rattle.ppm_kept.proofs.ArriveRow.{arrive_row_keeps}
 use Rattle.ppm_kept.proofs.JoinLastRow.{join_row_keeps}
 use Rattle.ppm_kept.proofs.TurnLemmas.{stores_are_cells}
-use Rattle.ppm_runs.specs.Run.{image, shown, IsAtLast, IsLeft, IsHomed, AreHomed, IsRun}
+use Rattle.ppm_kept.specs.Births.{floor}
+use Rattle.ppm_kept.specs.Places.{places_of}
+use Rattle.ppm_kept.proofs.OwnerLemmas.{owned}
+use Rattle.ppm_runs.specs.Run.{image, IsAtLast, IsLeft, IsHomed, AreHomed, IsRun}
 use Rattle.ppm_runs.specs.Laws.{Owes, TurnsAreOrderly}
-use Rattle.ppm_runs.proofs.TameLemmas.{May, TameRow, TameThen, rest_tame, reach_tame}
+use Rattle.ppm_runs.proofs.TameLemmas.{May, TameRow, rest_tame, reach_tame}
 use Rattle.ppm_runs.proofs.StandLemmas.{kinds_same}
-use Rattle.ppm_runs.proofs.ShownLemmas.{pool_is, cell_pooled, homed_here, Within, within, Runs, runs, head_pool}
+use Rattle.ppm_runs.proofs.ShownLemmas.{cell_pooled, homed_here, Within, within, Runs, runs, head_pool}
 
 -- rows that load, which rows of no other sort are
 abbrev IsLoad : Row → Type 0
@@ -128,7 +128,7 @@ module _ (s : Shape) (code : CodeParts) (places : s.takeover ≡ ByPlaces) (fair
   i = image s code
 
   abbrev z : State
-  z = shown s state
+  z = places_of s state
 
   abbrev law : IsKept i root input z t
   law = run.kept
@@ -195,10 +195,21 @@ module _ (s : Shape) (code : CodeParts) (places : s.takeover ≡ ByPlaces) (fair
     fork_of (Take v x) e d = absurd (looked no_forks c seat (Now (Fork block)) (Take v x) tt e (places_row s.takeover no_forks _ tt) w)
     fork_of (Take2 v) e d = absurd (looked no_forks c seat (Now (Fork block)) (Take2 v) tt e (places_row s.takeover no_forks _ tt) w)
 
+  -- a block that is built was not forked
+  not_born : (p r : ℕ) → z.kind p ≡ Bump r → has forked r ≡ false
+  not_born p r ke = elim (cases_Bool (has forked r)) [
+    | inr e ↦ e
+    | inl e ↦
+        let home = run.born.homes p r ke in
+        let own = owned i p r home.0 home.1 in
+        let below = subst (λ (q : ℕ). r < floor m q (z.kind q)) own (run.born.below r e) in
+        absurd (let low = subst (λ (a : RestartKind). r < floor m p a) ke below in omega (arith, low))
+  ]
+
   pub forks_new : (c : ℕ) (seat : Seat) (block : ℕ) → stand_of state c ≡ IsWithin seat (Now (Fork block)) → has forked block ≡ false
   forks_new c seat block e =
       let w = within s code root input state h forked taken t run c seat (Now (Fork block)) e in
-      run.born.unborn seat.place block (w.kind ∙ fork_of c seat block w seat.restart.kind refl w.does)
+      not_born seat.place block (w.kind ∙ fork_of c seat block w seat.restart.kind refl w.does)
 
   -- a branch that is begun at a join is that of the block, where the order word says so
   joined_by : (p r : ℕ) (d : Side) (block frame bottom : ℕ) → Reached i m p (Join r d) (Now (Begin block frame bottom)) → (block ≡ r) × (is_inline (m (BlockWord (r + 1))) d ≡ true)
@@ -291,7 +302,7 @@ module _ (s : Shape) (code : CodeParts) (places : s.takeover ≡ ByPlaces) (fair
       let left : 1 ≤ hung (hook_at Root c) (r + 2) + inside f (6 + n) (r + 2) = (let a = subst (λ (x : LinkKind). 1 ≤ hung x (r + 2)) (sym hook) one in omega (arith, a)) in
       let right : 1 ≤ hung (hook_at Root g.around) (r + 2) + inside g.frame (6 + g.slots) (r + 2) = (let a = subst (λ (x : LinkKind). 1 ≤ hung x (r + 2)) (sym g.hook) one in omega (arith, a)) in
       let same = nodes_same Root c (Leaf (InPlace p) Arrives f n) g.around (Leaf (InPlace g.place) (Begins g.copy) g.frame g.slots) (r + 2) (sym is ∙ g.is)
-          (subst (λ (x : Skeleton). count Root x (r + 2) ≤ 1) is (law.apart (r + 2))) left right in
+      (subst (λ (x : Skeleton). count Root x (r + 2) ≤ 1) is (law.apart (r + 2))) left right in
       subst IsArriving (ap stand_told same) tt
 
   inline_here : (p r : ℕ) (d : Side) → z.kind p ≡ Join r d → is_inline (m (BlockWord (r + 1))) d ≡ true → h r ≡ Inline

@@ -1,18 +1,13 @@
 -- What a processor does at its place is what the frames see there; addresses of pools; and where the
 -- homes of branches stand in the tree.
-use Rattle.std.proofs.Common.{◌≡◌, ◌≢◌, ◌⊎◌, ◌≤◌, ◌<◌, ℕ, ◌+◌, ◌-◌, ◌==◌, ◌&&◌, Bool, true, false, if◌then◌else◌, List, inl, inr, refl, sym, ap, ◌∙◌, subst, arith}
-use Rattle.std.specs.Prelude.{nat_lt, nat_le, slice_get}
-use Rattle.std.proofs.lemmas.Bool.{eq-eqb, eqb-true, ltb-true, leb-true, cases_lt, cases_Bool}
+use Rattle.std.proofs.Common.{◌≡◌, ◌≢◌, ◌<◌, ℕ, ◌+◌, ◌&&◌, Bool, true, false, List, inl, inr, refl, sym, ap, ◌∙◌, subst, arith}
+use Rattle.std.specs.Prelude.{nat_lt, nat_le}
+use Rattle.std.proofs.lemmas.Bool.{eq-eqb, eqb-true, ltb-true, leb-true, cases_Bool}
 use Rattle.ppm_strands.specs.Tree.{Words, Tree}
 use Rattle.ppm_cells.specs.Cells.{IsInPool, pool_at}
-use Rattle.ppm_cells.specs.Memory.{read}
-use Rattle.ppm_cells.specs.Restart.{restart_of}
 use Rattle.ppm_cells.specs.declared.cell.Cell.{Cell}
 use Rattle.ppm_cells.specs.declared.cell.Cell.TheVariants.{FinishWord, CarryWord, DeadWord, RestartWord, MessageWord, HolderWord, Top, RoomCounter, EntryWord, BlockWord, ArrayWord}
-use Rattle.ppm_cells.specs.declared.link.LinkKind.TheVariants.{Root}
-use Rattle.ppm_cells.specs.declared.restart.Restart.{Restart}
 use Rattle.ppm_cells.specs.declared.restart.RestartKind.{RestartKind}
-use Rattle.ppm_cells.specs.declared.restart.RestartKind.TheVariants.{Seek}
 use Rattle.ppm_cells.specs.declared.shape.Shape.{Shape}
 use Rattle.ppm_capsules.specs.Strand.{Frame}
 use Rattle.ppm_code.specs.Strands.{Point, Result}
@@ -26,18 +21,16 @@ use Rattle.ppm_step.specs.declared.row.Seat.{Seat}
 use Rattle.ppm_tickets.specs.Along.{IsPooled}
 use Rattle.ppm_tickets.specs.Homes.{Home}
 use Rattle.ppm_tickets.specs.Lawful.{Names}
-use Rattle.ppm_tickets.specs.Saw.{Carried, Sits, HasSeen, Sees, IsStrand, IsModest, Lawful}
+use Rattle.ppm_tickets.specs.Saw.{Carried, Sits, HasSeen, Sees}
 use Rattle.ppm_tickets.specs.View as spots
 use Rattle.ppm_tickets.specs.Words.{Word, Empty, Local, Job, Taken, Held, Number, Linked, Restarts, Unread, Spot, Holder}
-use Rattle.ppm_frames.specs.Views.{place_of, in_pool, is_cell, view}
-use Rattle.ppm_frames.proofs.ViewLemmas.{view_not}
+use Rattle.ppm_frames.specs.Views.{place_of, in_pool, is_cell}
 use Rattle.ppm_frames.specs.Skeletons.{Skeleton, Around, Top as Whole, AtCall, AtLeft, AtRight, plug}
-use Rattle.ppm_kept.specs.Running.{IsFair}
-use Rattle.ppm_kept.specs.Kept.{Image, Doing, Resting, InRow, InRest, State, Does, Head, start, end_of, owner, ceiling, IsKept}
+use Rattle.ppm_kept.specs.Kept.{Image, InRow, InRest, State, Does, Head, owner, IsKept}
 use Rattle.ppm_kept.specs.Moves.{doing_of}
-use Rattle.ppm_kept.specs.Places.{kind_or, kinds_of, is_in, IsOf, Holds}
-use Rattle.ppm_runs.specs.Run.{image, unbroken, at_work, shown, AreHomed, IsRun}
-use Rattle.ppm_runs.proofs.StandLemmas.{work_stand, kinds_same, doing_own}
+use Rattle.ppm_kept.specs.Places.{places_of, is_in, IsOf, Holds}
+use Rattle.ppm_runs.specs.Run.{image, AreHomed, IsRun}
+use Rattle.ppm_runs.proofs.StandLemmas.{kinds_same, doing_own}
 
 -- a holder word names one processor
 names_one : (w : Word) (c d : ℕ) → Names w c → Names w d → c ≡ d
@@ -88,21 +81,6 @@ cell_pooled s (RoomCounter p) e = tt
 cell_pooled s (EntryWord p i) e = tt
 cell_pooled s (ArrayWord x) e = tt
 
--- a place that is not there seeks
-pub absent_seeks : (s : Shape) (words : List ℕ) (p : ℕ) → s.processors ≤ p → kinds_of s words p ≡ Seek
-absent_seeks s words p far = by (nat_lt p s.processors) refl
-  where
-    by : (b : Bool) → nat_lt p s.processors ≡ b → (if b then kind_or (restart_of (read s words (RestartWord p))) else Seek) ≡ Seek
-    by true e = absurd (let lt = ltb-true p s.processors e in omega (arith, lt, far))
-    by false e = refl
-
--- and its pool is empty
-absent_counter : (s : Shape) (words : List ℕ) (p : ℕ) → s.processors ≤ p → view s words (RoomCounter p) ≡ pool_at s p
-absent_counter s words p far = elim (cases_Bool (nat_lt p s.processors)) [
-  | inl e ↦ absurd (let lt = ltb-true p s.processors e in omega (arith, lt, far))
-  | inr e ↦ view_not s words (RoomCounter p) e
-]
-
 -- the right branch of a fork is where its home says, deep in the tree
 pub homed_here : (last : ℕ → Type 0) (h : ℕ → Home) (c : Around) (u : Skeleton) → AreHomed last h (plug c u) → AreHomed last h u
 homed_here last h Whole u a = a
@@ -115,7 +93,7 @@ module _ (s : Shape) (code : CodeParts) (root : Tree (Frame FrameWord Point) Res
   i = image s code
 
   abbrev z : State
-  z = shown s state
+  z = places_of s state
 
   abbrev law : IsKept i root input z t
   law = run.kept
@@ -130,7 +108,7 @@ module _ (s : Shape) (code : CodeParts) (root : Tree (Frame FrameWord Point) Res
   b = spots.bottoms s state.words
 
   -- no two processors are in one place
-  in_one : (d p : ℕ) (x : Standing) → Sees s m k b d x → is_in p (unbroken x) ≡ true → Carried s m d p
+  in_one : (d p : ℕ) (x : Standing) → Sees s m k b d x → is_in p x ≡ true → Carried s m d p
   in_one d p (IsWithin seat row) sees e = subst (Carried s m d) (eqb-true seat.place p e) sees.0.carried
   in_one d p (IsRunning seat rest) sees e = subst (Carried s m d) (eqb-true seat.place p e) sees.0.carried
   in_one d p IsLost sees e = absurd (cc)
@@ -139,19 +117,16 @@ module _ (s : Shape) (code : CodeParts) (root : Tree (Frame FrameWord Point) Res
   in_one d p (IsBroken q) sees e = absurd (cc)
   in_one d p IsDone sees e = absurd (cc)
 
-  abbrev work : RunState
-  work = at_work state
-
-  pub alone : (c p : ℕ) → Carried s m c p → (d : ℕ) → d ≢ c → is_in p (stand_of work d) ≡ false
-  alone c p carried d ne = elim (cases_Bool (is_in p (stand_of work d))) [
+  pub alone : (c p : ℕ) → Carried s m c p → (d : ℕ) → d ≢ c → is_in p (stand_of state d) ≡ false
+  alone c p carried d ne = elim (cases_Bool (is_in p (stand_of state d))) [
     | inr out ↦ out
     | inl here ↦
-        let other = in_one d p (stand_of state d) (run.lawful.1.sees d) (ap (is_in p) (sym (work_stand state d)) ∙ here) in
+        let other = in_one d p (stand_of state d) (run.lawful.1.sees d) here in
         let held = run.lawful.1.holding.held in
         absurd (ne (names_one (m (Holder p)) d c (held d p other.lives.alive other.carry) (held c p carried.lives.alive carried.carry)))
   ]
 
-  pub holds : (c p : ℕ) → Carried s m c p → IsOf p (stand_of work c) → Holds s work c p
+  pub holds : (c p : ℕ) → Carried s m c p → IsOf p (stand_of state c) → Holds s state c p
   holds c p carried own = record { words = run.lawful.0; there = carried.lives.there; place = carried.place; own = own; others = alone c p carried }
 
   -- what a row's processor has seen, and what is under way at its place
@@ -161,18 +136,16 @@ module _ (s : Shape) (code : CodeParts) (root : Tree (Frame FrameWord Point) Res
     pub here : row_is_there s seat row ≡ true
     pub place : seat.place < s.processors
     pub kind : z.kind seat.place ≡ seat.restart.kind
-    pub stand : stand_of work c ≡ IsWithin seat row
     pub doing : z.doing seat.place ≡ InRow row
     pub does : Does i z.words seat.place seat.restart.kind (InRow row)
-    pub holds : Holds s work c seat.place
+    pub holds : Holds s state c seat.place
 
   pub within : (c : ℕ) (seat : Seat) (row : Row) → stand_of state c ≡ IsWithin seat row → Within c seat row
   within c seat row e =
       let sees : Sees s m k b c (IsWithin seat row) = subst (Sees s m k b c) e (run.lawful.1.sees c) in
-      let stand : stand_of work c ≡ IsWithin seat row = work_stand state c ∙ ap unbroken e in
       let is : z.doing seat.place ≡ InRow row =
-          doing_own (stand_of work) c seat.place (ap (is_in seat.place) stand ∙ eq-eqb seat.place seat.place refl) (alone c seat.place sees.0.carried) s.processors sees.0.carried.lives.there
-          ∙ ap doing_of stand in
+      doing_own (stand_of state) c seat.place (ap (is_in seat.place) e ∙ eq-eqb seat.place seat.place refl) (alone c seat.place sees.0.carried) s.processors sees.0.carried.lives.there
+      ∙ ap doing_of e in
       let kind = kinds_same s state.words seat.place ∙ sees.0.at.kind in
       let does = subst (Does i z.words seat.place (z.kind seat.place)) is (law.does seat.place) in
       record {
@@ -181,10 +154,9 @@ module _ (s : Shape) (code : CodeParts) (root : Tree (Frame FrameWord Point) Res
         here = sees.2;
         place = sees.0.carried.place;
         kind = kind;
-        stand = stand;
         doing = is;
         does = subst (λ (a : RestartKind). Does i z.words seat.place a (InRow row)) kind does;
-        holds = holds c seat.place sees.0.carried (subst (IsOf seat.place) (sym stand) refl);
+        holds = holds c seat.place sees.0.carried (subst (IsOf seat.place) (sym e) refl);
       }
 
   -- so of a capsule under way
@@ -192,40 +164,30 @@ module _ (s : Shape) (code : CodeParts) (root : Tree (Frame FrameWord Point) Res
     pub here : rest_is_there s seat rest ≡ true
     pub place : seat.place < s.processors
     pub kind : z.kind seat.place ≡ seat.restart.kind
-    pub stand : stand_of work c ≡ IsRunning seat rest
     pub doing : z.doing seat.place ≡ InRest rest
     pub does : Does i z.words seat.place (z.kind seat.place) (InRest rest)
-    pub holds : Holds s work c seat.place
+    pub holds : Holds s state c seat.place
 
   pub runs : (c : ℕ) (seat : Seat) (rest : Rest) → stand_of state c ≡ IsRunning seat rest → Runs c seat rest
   runs c seat rest e =
       let sees : Sees s m k b c (IsRunning seat rest) = subst (Sees s m k b c) e (run.lawful.1.sees c) in
-      let stand : stand_of work c ≡ IsRunning seat rest = work_stand state c ∙ ap unbroken e in
       let is : z.doing seat.place ≡ InRest rest =
-          doing_own (stand_of work) c seat.place (ap (is_in seat.place) stand ∙ eq-eqb seat.place seat.place refl) (alone c seat.place sees.0.carried) s.processors sees.0.carried.lives.there
-          ∙ ap doing_of stand in
+      doing_own (stand_of state) c seat.place (ap (is_in seat.place) e ∙ eq-eqb seat.place seat.place refl) (alone c seat.place sees.0.carried) s.processors sees.0.carried.lives.there
+      ∙ ap doing_of e in
       record {
         here = sees.3;
         place = sees.0.carried.place;
         kind = kinds_same s state.words seat.place ∙ sees.0.at.kind;
-        stand = stand;
         doing = is;
         does = subst (Does i z.words seat.place (z.kind seat.place)) is (law.does seat.place);
-        holds = holds c seat.place sees.0.carried (subst (IsOf seat.place) (sym stand) refl);
+        holds = holds c seat.place sees.0.carried (subst (IsOf seat.place) (sym e) refl);
       }
 
   -- an order word of the tree is one of a pool
   pub head_pool : (x : ℕ) → Head i z t x → IsInPool s x
-  head_pool x head = elim (cases_lt (owner i x) s.processors) [
-    | inl lt ↦ record {
-      place = owner i x;
-      is_place = lt;
-      begun = head.first;
-      ended = let r = (law.rooms (owner i x)).1 in let u = head.under in omega (arith, r, u);
-    }
-    | inr far ↦ absurd (
-        let seeks = absent_seeks s state.words (owner i x) far in
-        let empty = absent_counter s state.words (owner i x) far in
-        let under : x < ceiling i z.words (owner i x) Seek = subst (λ (a : RestartKind). x < ceiling i z.words (owner i x) a) seeks head.under in
-        let first = head.first in omega (arith, under, empty, first))
-  ]
+  head_pool x head = record {
+    place = owner i x;
+    is_place = head.there;
+    begun = head.first;
+    ended = let r = (law.rooms (owner i x)).1 in let u = head.under in omega (arith, r, u);
+  }

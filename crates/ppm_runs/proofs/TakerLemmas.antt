@@ -1,6 +1,6 @@
 -- Who is about to take a branch has it at its home: with takeover by places, a place that got it back
 -- or that stole it. So has a place that is still to push one.
-use Rattle.std.proofs.Common.{◌≡◌, ◌≢◌, ◌⊎◌, ◌≤◌, ◌<◌, ℕ, ◌+◌, ◌-◌, ◌==◌, Bool, true, false, if◌then◌else◌, List, [], ◌∷◌, inl, inr, refl, sym, ap, ◌∙◌, subst, arith}
+use Rattle.std.proofs.Common.{◌≡◌, ◌⊎◌, ℕ, ◌+◌, ◌-◌, ◌==◌, Bool, true, false, if◌then◌else◌, List, [], ◌∷◌, inl, inr, refl, sym, ap, ◌∙◌, subst, arith}
 use Rattle.std.specs.Prelude.{nat_lt, ◌^◌, ◌&&◌}
 use Rattle.std.proofs.lemmas.Bool.{cases_Bool, eqb-true}
 use Rattle.ppm_cells.specs.Cells.{word_count}
@@ -12,20 +12,17 @@ use Rattle.ppm_cells.specs.declared.shape.Shape.{Shape}
 use Rattle.ppm_cells.specs.declared.shape.Takeover.{Takeover}
 use Rattle.ppm_cells.specs.declared.shape.Takeover.TheVariants.{ByPlaces, ByEntries}
 use Rattle.ppm_code.specs.declared.code.CodeParts.{CodeParts}
-use Rattle.ppm_deque.specs.Change.{tag_of}
 use Rattle.ppm_step.specs.Rows.{row_of, raised, can_be_taken}
 use Rattle.ppm_step.specs.Standings.{IsWithin}
 use Rattle.ppm_step.specs.State.{State as RunState, stand_of}
-use Rattle.ppm_step.specs.declared.content.Content.TheVariants.{AnEntry}
 use Rattle.ppm_cells.specs.declared.cell.Cell.TheVariants.{EntryWord}
 use Rattle.ppm_step.specs.declared.row.Point.TheVariants.{PopAgain, PopAbove, Offset, TakenMessage, TakenEntry}
 use Rattle.ppm_step.specs.declared.row.Row.{Row}
-use Rattle.ppm_step.specs.declared.row.Row.TheVariants.{Now, Store, Exchange}
+use Rattle.ppm_step.specs.declared.row.Row.TheVariants.{Now}
 use Rattle.ppm_step.specs.declared.row.Seat.{Seat}
-use Rattle.ppm_step.specs.declared.row.Then.{Then}
-use Rattle.ppm_step.specs.declared.row.Then.TheVariants.{Load, Install, Fork, Begin, Move, Enter, Again, Broken}
-use Rattle.ppm_tickets.specs.Homes.{Home, Unborn, Pushing, Listed, Popping, Stolen, Inline, Begun}
-use Rattle.ppm_tickets.specs.Lawful.{IsDead, IsEmpty, IsLocal, IsJob, IsTaken, IsClaim, May, AtBottom, Pushes, Pops, Steals, Wins, Carries, IsCarrier, Closed, Estate}
+use Rattle.ppm_step.specs.declared.row.Then.TheVariants.{Load, Install, Begin, Broken}
+use Rattle.ppm_tickets.specs.Homes.{Home, Pushing, Popping, Stolen}
+use Rattle.ppm_tickets.specs.Lawful.{IsDead, IsEmpty, IsLocal, IsClaim, May, AtBottom, Pushes, Pops, Steals, Wins, Closed, Estate}
 use Rattle.ppm_tickets.specs.Saw.{IsStrand, HasSeen, Strand, Looks, Sees, Knows, OfClosed, Saw, rest_of}
 use Rattle.ppm_tickets.specs.Renewal.{IsLawful}
 use Rattle.ppm_tickets.specs.View as spots
@@ -102,10 +99,13 @@ module _ (s : Shape) (places : s.takeover ≡ ByPlaces) (seat : Seat) (v : ℕ) 
           → Has ((Unit {0} × May seat.own p (Slot p (B - 1)) (Local t0 x) (M (Slot p (B - 1)))) × May seat.own p (Slot p B) (Local y z) (M (Slot p B))) (raised (EntryWord p B) (entries.Local y z) (entries.Empty (y + 1)) (Load (Offset r (B - 1))) q) ws
           → (r ≡ r') × Popped
       by true [] t saw = absurd t
-      by true (w ∷ ws) t saw = let a = offset _ r (B - 1) ws t saw in (a.0, elim a.1.0 [
-        | inl made ↦ inr (subst IsEmpty (own_stays seat.own p B (Empty (y + 1)) (M (Slot p B)) (λ k. k) (subst (λ (k : Word). May seat.own p (Slot p B) k (M (Slot p B))) made a.1.1)) tt)
-        | inr missed ↦ inl (local_below t0 x missed.1.0.1)
-      ])
+      by true (w ∷ ws) t saw = let a = offset _ r (B - 1) ws t saw in (
+        a.0,
+        elim a.1.0 [
+          | inl made ↦ inr (subst IsEmpty (own_stays seat.own p B (Empty (y + 1)) (M (Slot p B)) (λ k. k) (subst (λ (k : Word). May seat.own p (Slot p B) k (M (Slot p B))) made a.1.1)) tt)
+          | inr missed ↦ inl (local_below t0 x missed.1.0.1)
+        ],
+      )
       by false ws t saw = absurd (broken_ends ws t)
   above r t0 x (Number n ∷ ws) t saw = absurd (broken_ends ws t)
   above r t0 x (Held n y ∷ ws) t saw = absurd (broken_ends ws t)

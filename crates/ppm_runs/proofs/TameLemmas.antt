@@ -4,7 +4,7 @@ use Rattle.std.proofs.Common.{◌≡◌, ◌+◌, ◌-◌, ◌==◌, ℕ, zero, 
 use Rattle.std.specs.Prelude.{nat_lt, ◌^◌, ◌&&◌}
 use Rattle.ppm_cells.specs.Cells.{word_count}
 use Rattle.ppm_cells.specs.declared.cell.Cell.{Cell}
-use Rattle.ppm_cells.specs.declared.cell.Cell.TheVariants.{BlockWord, Top, EntryWord, HolderWord}
+use Rattle.ppm_cells.specs.declared.cell.Cell.TheVariants.{BlockWord, EntryWord}
 use Rattle.ppm_cells.specs.declared.entry.Entry.{Entry}
 use Rattle.ppm_cells.specs.declared.entry.Entry.TheVariants.{Empty, Local, Job, Taken}
 use Rattle.ppm_cells.specs.declared.finish.Finish.{Finish}
@@ -23,7 +23,7 @@ use Rattle.ppm_join.specs.Order.{first, both}
 use Rattle.ppm_join.specs.Outcome.{outcome_of_both}
 use Rattle.ppm_step.specs.Contents.{content_of}
 use Rattle.ppm_step.specs.Points.{cell_at, reading_at}
-use Rattle.ppm_step.specs.Rows.{on_number, on_entry, on_holder, on_link, on_finish, on_outcome, with_kind, raised, tried, changed, bumped, unwind_by, back_to, unwound, after_value, target_found, joins, is_inline, is_last, join_by, join_outcome, get_back, got_back, seek_by, seek_held, bids, passes_by, local_by, seek_entry, taken_so, can_be_taken, took, goes_on_with, lowered, found_at}
+use Rattle.ppm_step.specs.Rows.{on_number, on_entry, on_holder, on_link, on_finish, on_outcome, raised, tried, changed, bumped, unwind_by, back_to, unwound, after_value, target_found, joins, is_inline, is_last, join_by, join_outcome, get_back, got_back, seek_by, seek_held, bids, passes_by, local_by, seek_entry, taken_so, can_be_taken, took, goes_on_with, lowered, found_at}
 use Rattle.ppm_step.specs.declared.content.Content.{Content}
 use Rattle.ppm_step.specs.declared.content.Content.TheVariants.{ANumber, AnEntry, AHolder, ALink, AFinish}
 use Rattle.ppm_step.specs.declared.row.Point.{Point}

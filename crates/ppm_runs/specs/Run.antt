@@ -1,51 +1,30 @@
--- A run's state: the words by cells as its frames have them, what each place is at and where its
--- processor stands, and the tree of its strands; and what joins the tree with where branches are.
-use Rattle.std.specs.Prelude.{◌≡◌, ◌⊎◌, ◌<◌, ℕ, ◌+◌, true, false, List, map}
+-- What holds of a run's state: of its words and processors, of where its branches are, and of the
+-- tree of its strands.
+use Rattle.std.specs.Prelude.{◌≡◌, ◌≤◌, ℕ, ◌+◌, true, List}
 use Rattle.ppm_strands.specs.Tree.{Words, Tree}
-use Rattle.ppm_cells.specs.declared.cell.Cell.{Cell}
-use Rattle.ppm_cells.specs.declared.cell.Cell.TheVariants.{RoomCounter, BlockWord}
-use Rattle.ppm_cells.specs.declared.restart.RestartKind.{RestartKind}
-use Rattle.ppm_cells.specs.declared.restart.RestartKind.TheVariants.{Run as RunFrame, Bump, Push1}
+use Rattle.ppm_cells.specs.declared.restart.RestartKind.TheVariants.{Run as RunFrame, Push1}
 use Rattle.ppm_cells.specs.declared.shape.Shape.{Shape}
 use Rattle.ppm_capsules.specs.Strand.{Frame}
 use Rattle.ppm_code.specs.Strands.{Point, Result}
 use Rattle.ppm_code.specs.declared.code.CodeParts.{CodeParts}
 use Rattle.ppm_code.specs.declared.location.FrameWord.{FrameWord}
-use Rattle.ppm_step.specs.Standings.{Standing, IsLost, IsPlaced, IsAt, IsWithin, IsRunning, IsBroken, IsDone}
-use Rattle.ppm_step.specs.State.{State as RunState}
+use Rattle.ppm_step.specs.Standings.{IsBroken}
+use Rattle.ppm_step.specs.State.{State as RunState, stand_of}
 use Rattle.ppm_step.specs.declared.row.Row.TheVariants.{Now}
 use Rattle.ppm_step.specs.declared.row.Then.TheVariants.{Install}
 use Rattle.ppm_tickets.specs.Homes.{Home, Unborn, Pushing, Listed, Popping, Stolen, Inline, Begun}
 use Rattle.ppm_tickets.specs.Renewal.{IsLawful}
 use Rattle.ppm_tickets.specs.View as spots
 use Rattle.ppm_tickets.specs.Words.{has}
-use Rattle.ppm_frames.specs.Views.{view}
 use Rattle.ppm_frames.specs.Skeletons.{Begins, Fresh, Waiting, Held, Skeleton, Leaf, Calling, Forking, holds, Around, plug}
-use Rattle.ppm_frames.specs.Good.{link_at}
-use Rattle.ppm_kept.specs.Kept.{Image, InRow, State, owner, IsKept}
-use Rattle.ppm_kept.specs.Places.{kinds_of, places_of}
+use Rattle.ppm_kept.specs.Kept.{Image, InRow, State, IsKept}
+use Rattle.ppm_kept.specs.Births.{Births}
+use Rattle.ppm_kept.specs.Places.{places_of}
+use Rattle.ppm_kept.specs.Takes.{IsWaiting}
 
 -- a shape with its code
 abbrev pub image : Shape → CodeParts → Image
 image s code = record { shape = s; code = code }
-
--- a processor that has met broken words does nothing any more
-abbrev pub unbroken : Standing → Standing
-unbroken IsLost = IsLost
-unbroken (IsPlaced place) = IsPlaced place
-unbroken (IsAt place restart) = IsAt place restart
-unbroken (IsWithin seat row) = IsWithin seat row
-unbroken (IsRunning seat rest) = IsRunning seat rest
-unbroken (IsBroken place) = IsDone
-unbroken IsDone = IsDone
-
--- so are all
-abbrev pub at_work : RunState → RunState
-at_work state = record { words = state.words; stand = map unbroken state.stand }
-
--- a machine's state as its frames have it
-abbrev pub shown : Shape → RunState → State
-shown s state = places_of s (at_work state)
 
 -- where a right branch may be: not pushed yet, left to the strand of the left one, to be taken, or
 -- begun
@@ -84,15 +63,6 @@ AreHomed last h (Leaf w st f n) = Unit {0}
 AreHomed last h (Calling f n y t) = AreHomed last h t
 AreHomed last h (Forking f n y r a b) = IsHomed last b (h r) × AreHomed last h a × AreHomed last h b
 
--- The block that a place builds is at the counter of its pool, or the counter has passed it, and it
--- was not forked; blocks that were forked are below the counters of their pools.
-pub record AreBorn (i : Image) (m : Cell → ℕ) (k : ℕ → RestartKind) (forked : List ℕ) : Type 0 where
-  pub below : (r : ℕ) → has forked r ≡ true → r < m (RoomCounter (owner i r))
-  pub unborn : (p r : ℕ) → k p ≡ Bump r → has forked r ≡ false
-  pub builds : (p r : ℕ) → k p ≡ Bump r → owner i r ≡ p
-  pub counter : (p r : ℕ) → k p ≡ Bump r
-      → (m (RoomCounter p) ≡ r) ⊎ (m (RoomCounter p) ≡ r + (link_at (m (BlockWord r))).size)
-
 -- a place at its last slot that is about to go on with the left branch has the right one held
 pub record IsReady (t : Skeleton) (p : ℕ) : Type 0 where
   pub around : Around
@@ -112,10 +82,13 @@ AreReady z t = (p r f y b : ℕ) → z.kind p ≡ Push1 r
     → z.doing p ≡ InRow (Now (Install (record { kind = RunFrame f y; bottom = b }))) → IsReady t p
 
 -- What holds of a run's state, with takeover by places: what the tickets say of the deques and of
--- each branch, what the frames say of the tree, and what joins the two.
+-- each branch, what the frames say of the tree, and what joins the two. In the tree each right branch
+-- is what its home says; one that may be taken waits there; blocks are forked upwards.
 pub record IsRun (s : Shape) (code : CodeParts) (root : Tree (Frame FrameWord Point) Result) (input : Words) (state : RunState) (h : ℕ → Home) (forked taken : List ℕ) (t : Skeleton) : Type 0 where
   pub lawful : IsLawful s code state h forked taken
-  pub kept : IsKept (image s code) root input (shown s state) t
+  pub kept : IsKept (image s code) root input (places_of s state) t
   pub homed : AreHomed (IsAtLast s state.words) h t
-  pub ready : AreReady (shown s state) t
-  pub born : AreBorn (image s code) (view s state.words) (kinds_of s state.words) forked
+  pub ready : AreReady (places_of s state) t
+  pub waiting : (r : ℕ) → IsToTake (h r) → IsWaiting t r
+  pub broken : (c p : ℕ) → stand_of state c ≡ IsBroken p → p ≤ 64
+  pub born : Births (image s code) (places_of s state) (has forked)

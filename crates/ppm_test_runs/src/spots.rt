@@ -17,10 +17,7 @@ fn word_at(machine: &Machine, at: u32) -> u64 {
 /// A word of a place, by its offset.
 fn place_word(machine: &Machine, place: u32, offset: u32) -> u64 {
     let shape = machine.shape();
-    let size = shape
-        .slots
-        .saturating_add(shape.room)
-        .saturating_add(5);
+    let size = shape.slots.saturating_add(shape.room).saturating_add(5);
     let first = shape.processors.saturating_mul(2).saturating_add(1);
     let at = place.saturating_mul(size).saturating_add(first);
     word_at(machine, at.saturating_add(offset))
@@ -82,10 +79,12 @@ fn spots_of(machine: &Machine, place: u32) -> u64 {
 /// Whether a place at a join finds that some branch has come.
 fn joins_late(machine: &Machine, place: u32) -> bool {
     match Restart::unpack(place_word(machine, place, 0)) {
-        Some(Restart {
-            kind: RestartKind::Join { block, .. },
-            ..
-        }) => word_at(machine, block.saturating_add(1)) != 0,
+        Some(
+            Restart {
+                kind: RestartKind::Join { block, .. },
+                ..
+            },
+        ) => word_at(machine, block.saturating_add(1)) != 0,
         _ => true,
     }
 }
