@@ -92,7 +92,7 @@ module _ {W : Type 0} (told : W → Option (List Event)) where
         subst (λ (l : Option (List Event)). AppendsList l (get_or (map told new) c None) (told_in plan limits c k.shape k.code (start k) d.turns))
         (sym (list_at old c w less))
         (subst (λ (l : Option (List Event)). AppendsList (told (slice_index_or old c w)) l
-            (told_in plan limits c k.shape k.code (start k) d.turns)) (sym (list_at new c w below)) (d.told_are c w there))
+        (told_in plan limits c k.shape k.code (start k) d.turns)) (sym (list_at new c w below)) (d.told_are c w there))
 
     same_list : (old new : List W) (w : W) (d : Driven told plan limits k words old new) (c : ℕ) → k.shape.processors ≤ c
         → c < length old → c < length new → KeepsList (get_or (map told old) c None) (get_or (map told new) c None)

@@ -3,8 +3,7 @@ ghost use Rattle.std.specs.Prelude.{◌≡◌, IfOk, []};
 
 use ppm_cells::{Ending, Finish, Shape};
 use ppm_choice::{
-    runs_finish, schedules_go_on, schedules_keep_order, schedules_skip_done,
-    unfinished_is_exact,
+    runs_finish, schedules_go_on, schedules_keep_order, schedules_skip_done, unfinished_is_exact,
 };
 use ppm_code::{Capsule, Code, CodeParts, End, Instr, Procedure};
 use ppm_core::Machine;

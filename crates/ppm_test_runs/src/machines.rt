@@ -6,9 +6,7 @@ ghost use Rattle.ppm_core.specs.Acts.{IsActAmong, IsTurnAmong};
 
 use ppm_cells::{Ending, Finish, Shape};
 use ppm_code::Code;
-use ppm_core::{
-    Act, Machine, Next, Told, Turn, Why, done_is_done, turns_follow_on, turns_tell_on,
-};
+use ppm_core::{Act, Machine, Next, Told, Turn, Why, done_is_done, turns_follow_on, turns_tell_on};
 use ppm_cut_code::{
     few_capsules, keeps_the_rules, lines_alone, names_have_slots, procedures_stand,
 };

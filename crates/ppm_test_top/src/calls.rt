@@ -723,7 +723,12 @@ fn watched(
 
 /// Words, texts and statuses, and of how many processors the watchers are told something.
 const WATCHED: [(&[&str], &str, Status, usize); 6] = [
-    (&["ppm", "run", "--processors", "1"], FIRST, Status::Ended, 1),
+    (
+        &["ppm", "run", "--processors", "1"],
+        FIRST,
+        Status::Ended,
+        1,
+    ),
     (
         &["ppm", "run", "--processors", "1", "--turns", "5"],
         FIRST,
