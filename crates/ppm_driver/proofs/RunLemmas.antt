@@ -12,6 +12,7 @@ use Rattle.ppm_cells.specs.declared.shape.Shape.{Shape}
 use Rattle.ppm_cells.specs.declared.ending.Ending.{Ending}
 use Rattle.ppm_cells.specs.declared.ending.Ending.TheVariants.{With}
 use Rattle.ppm_code.specs.Code.{IsCode}
+use Rattle.ppm_cells.specs.Ending.{ending_of}
 use Rattle.ppm_core.specs.Situation.{Situation, finish_in}
 use Rattle.ppm_plan.specs.declared.plan_item.PlanItem.{PlanItem}
 use Rattle.ppm_plan.specs.Forms.{plan_form}

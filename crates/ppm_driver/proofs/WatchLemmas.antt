@@ -1,6 +1,6 @@
 -- What watchers were told, as lists: behind a drive, and where there was none.
-use Rattle.std.proofs.Common.{◌≡◌, ◌<◌, ◌≤◌, ℕ, zero, suc, nat_lt, Bool, true, false, List, [], ◌∷◌, ◌++◌, length, map, get_or, slice_index_or, Option, Some, None, refl, sym, ap, ◌∙◌, subst, arith}
-use Rattle.std.proofs.lemmas.List.{append_nil}
+use Rattle.std.proofs.Common.{◌≡◌, ◌<◌, ◌≤◌, ℕ, zero, suc, nat_lt, Bool, true, false, List, [], ◌∷◌, ◌++◌, length, map, get_or, slice_index_or, Option, Some, None, refl, sym, ap, ◌∙◌, subst, arith, append-nil}
+use Rattle.std.proofs.lemmas.Bool.{ltb-true, ltb-false}
 use Rattle.ppm_words.specs.declared.event.Event.{Event}
 use Rattle.ppm_ports.specs.Outside.{ToldLists, KeepFronts}
 use Rattle.ppm_ports.specs.Told.{AppendsList, KeepsFront, KeepsList}
@@ -25,7 +25,7 @@ stays (Some l) = refl
 -- and so it keeps its front
 front_stays : (l : Option (List Event)) → KeepsFront l l
 front_stays None = tt
-front_stays (Some l) = ([], sym (append_nil l))
+front_stays (Some l) = ([], sym (append-nil l))
 
 pub fronts_stay : (lists : ToldLists) → KeepFronts lists lists
 fronts_stay [] = tt
@@ -107,8 +107,8 @@ module _ {W : Type 0} (told : W → Option (List Event)) where
         → length new ≡ length old → (less : Bool) → nat_lt c (length old) ≡ less
         → KeepsList (get_or (map told old) c None) (get_or (map told new) c None)
     kept_list old new w d c least same true e =
-        let less : c < length old = omega (arith, e) in same_list old new w d c least less (omega (arith, less, same))
-    kept_list old new w d c least same false e = far_list old new c (omega (arith, e))
+        let less = ltb-true c (length old) e in same_list old new w d c least less (omega (arith, less, same))
+    kept_list old new w d c least same false e = far_list old new c (ltb-false c (length old) e)
 
     -- so the watchers were told what belongs to these turns
     pub are_told : (old new : List W) (w : W) → length new ≡ length old → k.shape.processors ≤ length old → watching ≡ k.shape.processors

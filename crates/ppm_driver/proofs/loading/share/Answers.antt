@@ -11,4 +11,4 @@ use Rattle.ppm_driver.proofs.loading.share.Goals as goal
 pub returns-clause-opens : goal.returns-clause-opens
 returns-clause-opens c =
     subst (λ (m : Situation). Opens c.args.sizes (code_of (tree_of c.args.program.now)) (initial_arrays (tree_of c.args.program.now)) c.args.keeper m)
-    (table_opens _ _ _ c.in_ok-table.ensures.opens c.in_ok-table.ensures.arrays) c.in_ok-opening.ensures
+    (table_opens c.in_ok-table.table.0 _ _ c.in_ok-table.ensures.opens c.in_ok-table.ensures.arrays) c.in_ok-opening.ensures

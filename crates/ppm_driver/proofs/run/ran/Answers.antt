@@ -1,5 +1,4 @@
-use Rattle.std.proofs.Common.{◌≡◌, ◌≤◌, ◌∙◌, sym, ap, subst, arith, length}
-use Rattle.ppm_cells.specs.declared.shape.Shape.{Shape}
+use Rattle.std.proofs.Common.{◌≡◌, ◌<◌, ◌≤◌, ◌∙◌, sym, subst, arith, length}
 use Rattle.ppm_code.specs.Code.{IsCode}
 use Rattle.ppm_tree.specs.Tree.{tree_of}
 use Rattle.ppm_driver.proofs.ExactLemmas.{code_opened}
@@ -11,24 +10,26 @@ use Rattle.ppm_driver.proofs.run.ran.Goals as goal
 pub returns-clause-has : goal.returns-clause-has
 returns-clause-has g c =
     let t = tree_of c.args.program.now in
-    let n = c.args.watch.now.ok.0 in
     let some : 0 < length c.args.watch.now.items = omega (arith, c.requires.watchers) in
     let enough : c.args.options.processors ≤ length c.args.watch.now.items = omega (arith, c.requires.watchers, c.requires.options.0.1) in
-    program_has g.W.Watch.told c.args.options c.args.plan.now t _ _ _ _ _ _ _ (first_of c.args.watch.now.items some) _ _ c.sizes_of.ensures
+    program_has g.W.Watch.told c.args.options c.args.plan.now t _ _ _ c.in_ok-table.table.0 _ _ _ (first_of c.args.watch.now.items some) _ _ c.sizes_of.ensures
     c.limits_of.ensures c.requires.processors c.keeper.ensures.keeper c.in_ok-table.ensures.opens
-    (code_opened _ _ _ _ _ c.in_ok-table.ensures.opens (subst IsCode c.code.ensures c.parts.ensures.code))
-    c.in_ok-closed.ensures.kept.0 enough c.in_ok-closed.ensures.sizes.0 c.in_ok-closed.ensures.sizes.1 c.in_ok-closed.ensures.run
+    (code_opened _ _ _ _ _ c.in_ok-table.ensures.opens (subst IsCode (sym c.in_ok-table.table.0.told.1) c.parts.ensures.code))
+    (omega (arith, c.in_ok-closed.ensures.kept.0, c.args.watch.now.ok.0, c.drive.new.watch.ok.0)) enough (c.in_ok-closed.ensures.sizes.0 ∙ sym c.in_ok-table.table.0.told.0) c.in_ok-closed.ensures.sizes.1 c.in_ok-closed.ensures.run
     (c.arrays.ensures.value ∙ c.input.ensures.value) c.in_ok-answer.ensures
 
 -- each list keeps what it had in front
 pub returns-clause-kept : goal.returns-clause-kept
-returns-clause-kept g c = keep_fronts g.W.Watch.told _ _ c.in_ok-closed.ensures.kept.0 c.in_ok-closed.ensures.kept.1
+returns-clause-kept g c = keep_fronts g.W.Watch.told c.args.watch.now.items c.drive.new.watch.items
+    (omega (arith, c.in_ok-closed.ensures.kept.0, c.args.watch.now.ok.0, c.drive.new.watch.ok.0)) c.in_ok-closed.ensures.kept.1
 
 pub returns-in_err-table-clause-kept : goal.returns-in_err-table-clause-kept
 returns-in_err-table-clause-kept g c = fronts_stay _
 
 pub returns-in_err-closed-clause-kept : goal.returns-in_err-closed-clause-kept
-returns-in_err-closed-clause-kept g c = keep_fronts g.W.Watch.told _ _ c.in_err-closed.ensures.kept.0 c.in_err-closed.ensures.kept.1
+returns-in_err-closed-clause-kept g c = keep_fronts g.W.Watch.told c.args.watch.now.items c.drive.new.watch.items
+    (omega (arith, c.in_err-closed.ensures.kept.0, c.args.watch.now.ok.0, c.drive.new.watch.ok.0)) c.in_err-closed.ensures.kept.1
 
 pub returns-in_err-answer-clause-kept : goal.returns-in_err-answer-clause-kept
-returns-in_err-answer-clause-kept g c = keep_fronts g.W.Watch.told _ _ c.in_ok-closed.ensures.kept.0 c.in_ok-closed.ensures.kept.1
+returns-in_err-answer-clause-kept g c = keep_fronts g.W.Watch.told c.args.watch.now.items c.drive.new.watch.items
+    (omega (arith, c.in_ok-closed.ensures.kept.0, c.args.watch.now.ok.0, c.drive.new.watch.ok.0)) c.in_ok-closed.ensures.kept.1
