@@ -1,5 +1,5 @@
 -- How a capsule of a frame begins.
-use Rattle.std.proofs.Common.{◌≡◌, ◌≢◌, ◌∙◌, ℕ, zero, suc, true, false, Option, Some, None, sym, refl, ap}
+use Rattle.std.proofs.Common.{◌≡◌, ◌≢◌, ◌∙◌, ◌<◌, ◌+◌, ℕ, zero, suc, true, false, Option, Some, None, sym, refl, ap}
 use Rattle.ppm_cells.specs.declared.restart.Restart.{Restart}
 use Rattle.ppm_cells.specs.declared.restart.RestartKind.{RestartKind}
 use Rattle.ppm_cells.specs.declared.restart.RestartKind.TheVariants.{Run}
@@ -8,10 +8,18 @@ use Rattle.ppm_code.specs.declared.code.Capsule.{Capsule}
 use Rattle.ppm_code.specs.declared.code.CodeParts.{CodeParts}
 use Rattle.ppm_step.specs.declared.row.Seat.{Seat}
 use Rattle.ppm_step.specs.declared.turn.Next.TheVariants.{Work, Look, Seek}
-use Rattle.ppm_step.specs.Standings.{IsDone, enters, at_finish}
+use Rattle.ppm_step.specs.Standings.{IsAt, IsWithin, IsDone, enters, at_finish}
+use Rattle.ppm_step.specs.Locals.{IsHeaderOf}
 use Rattle.ppm_step.specs.State.{before_kind, step_of}
 use Rattle.ppm_step.specs.Told.{is_work_next}
-use Rattle.ppm_stretch.proofs.SteadyLemmas.{running_lives}
+use Rattle.ppm_step.specs.declared.ask.Want.TheVariants.{Loads}
+use Rattle.ppm_step.specs.declared.row.Point.TheVariants.{Header}
+use Rattle.ppm_step.specs.declared.row.Row.TheVariants.{Now}
+use Rattle.ppm_step.specs.declared.row.Then.TheVariants.{Load}
+use Rattle.ppm_table.specs.declared.view.Opening.{Opening}
+use Rattle.ppm_table.specs.Run.{stands_by, deeds_in, deed_by, seen, Mine, IsSeat}
+use Rattle.ppm_stretch.specs.Steady.{Goes}
+use Rattle.ppm_stretch.proofs.SteadyLemmas.{goes_one, running_lives}
 
 pub seeks_no : (kind : RestartKind) (frame copy : ℕ) → kind ≡ Run frame copy → before_kind kind ≢ Seek
 seeks_no kind frame copy is e = let x : Look ≡ Seek = sym (ap before_kind is) ∙ e in cc
@@ -36,3 +44,24 @@ enters_lives s code seat kind frame copy capsule is e = run_lives s code seat fr
 pub finish_is_over : (s : Shape) (code : CodeParts) (own place : ℕ) (restart : Option Restart) (n : ℕ) → n ≢ 0 → at_finish s code own place restart n ≡ IsDone
 finish_is_over s code own place restart zero h = absurd (h refl)
 finish_is_over s code own place restart (suc n) h = refl
+
+pub header_lives : (s : Shape) (code : CodeParts) (seat : Seat) (header found : ℕ) → IsHeaderOf s seat header → found ≡ 0
+    → at_finish s code seat.own seat.place (Some seat.restart) found ≢ IsDone
+header_lives s code seat header found h none e =
+    let x : IsWithin seat (Now (Load (Header h.frame h.copy))) ≡ IsDone =
+    sym (h.begins_with code) ∙ sym (ap (λ (n : ℕ). at_finish s code seat.own seat.place (Some seat.restart) n) none) ∙ e in cc
+
+-- the load of the finish word is a look
+pub finish_goes : (k : Opening) (seat : Seat) (frame copy : ℕ) (me me' : Mine) (found : ℕ) → seat.restart.kind ≡ Run frame copy → 0 < k.shape.processors
+    → IsAt seat.place (Some seat.restart) ≡ stands_by k seat.own (deeds_in me.0) → IsSeat seat.own me → me' ≡ (seen me.0 (deed_by (Loads 0) found), me.1) → Goes k seat.own me me' 1 0 1
+finish_goes k seat frame copy me me' found kind some at sits made =
+    goes_one k seat.own false me me' (Loads 0) found (IsAt seat.place (Some seat.restart)) at sits (λ e. cc) refl (seeks_no seat.restart.kind frame copy kind) some refl tt
+    (works_not k.shape k.code seat.restart.kind frame copy kind) made
+
+-- that of the header is work
+pub header_goes : (k : Opening) (seat : Seat) (frame copy header : ℕ) (me me' : Mine) (found : ℕ) → seat.restart.kind ≡ Run frame copy → header ≡ frame + 2 + copy → 0 < k.shape.processors
+    → IsWithin seat (Now (Load (Header frame copy))) ≡ stands_by k seat.own (deeds_in me.0) → IsSeat seat.own me → me' ≡ (seen me.0 (deed_by (Loads header) found), me.1)
+    → Goes k seat.own me me' 1 1 0
+header_goes k seat frame copy header me me' found kind is_at some at sits made =
+    goes_one k seat.own true me me' (Loads header) found (IsWithin seat (Now (Load (Header frame copy)))) at sits (λ e. cc) refl (works_on seat.restart.kind frame copy kind) some
+    (ap (λ (n : ℕ). Loads n) (sym is_at)) tt (works k.shape k.code seat.restart.kind frame copy kind) made

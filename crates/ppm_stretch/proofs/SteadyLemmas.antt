@@ -1,20 +1,21 @@
 -- Steps in a row.
-use Rattle.std.proofs.Common.{◌≡◌, ◌≢◌, ℕ, zero, suc, ◌+◌, ◌==◌, ◌<◌, ◌&&◌, Bool, Option, Some, ne_eqb, true, false, List, [], ◌∷◌, ◌++◌, length, sym, refl, ap, ◌∙◌, subst, arith, append_assoc, append-nil, if◌then◌else◌}
+use Rattle.std.proofs.Common.{◌≡◌, ◌≢◌, ℕ, zero, suc, ◌+◌, ◌==◌, ◌<◌, ◌≤◌, ◌&&◌, Bool, Option, Some, ne_eqb, true, false, List, [], ◌∷◌, ◌++◌, length, sym, refl, ap, ◌∙◌, subst, arith, append_assoc, append-nil, if◌then◌else◌}
 use Rattle.ppm_cells.specs.declared.shape.Shape.{Shape}
 use Rattle.ppm_code.specs.declared.code.CodeParts.{CodeParts}
 use Rattle.ppm_step.specs.declared.ask.Want.{Want}
+use Rattle.ppm_step.specs.declared.ask.Want.TheVariants.{Stores as WantsStore}
 use Rattle.ppm_step.specs.declared.row.Seat.{Seat}
 use Rattle.ppm_step.specs.declared.turn.Next.TheVariants.{Seek}
 use Rattle.ppm_step.specs.Frames.{Rest, Loads, Stores, Full, Installs, Breaks}
 use Rattle.ppm_words.specs.declared.event.Event.{Event}
-use Rattle.ppm_step.specs.Standings.{Standing, IsDone, IsRunning, running, running_if, rest_is_there, wanted, wanted_rest, went_rest}
+use Rattle.ppm_step.specs.Standings.{Standing, IsDone, IsBroken, IsRunning, running, running_if, rest_is_there, wanted, wanted_rest, went_rest}
 use Rattle.ppm_step.specs.State.{seeks_holder, next_of}
 use Rattle.ppm_step.specs.Told.{is_work_next}
 use Rattle.ppm_table.specs.declared.view.Deed.{Deed}
 use Rattle.ppm_table.specs.declared.view.Opening.{Opening}
 use Rattle.ppm_table.specs.Run.{behind, stood, stands_by, deeds_in, deed_by, seen, seated, Mine, IsSeat, IsAsked, IsFound}
-use Rattle.ppm_stretch.specs.Steady.{IsSteady, AreSteady, work_in, looks_in, looks_behind, Goes, Moves, Lives}
-use Rattle.ppm_table.specs.Telling.{shown, deeds_since, Shows}
+use Rattle.ppm_stretch.specs.Steady.{IsSteady, AreSteady, work_in, looks_in, looks_behind, Goes, Moves, Lives, Refuses}
+use Rattle.ppm_table.specs.Telling.{shown, deeds_since, Keeps, Shows}
 use Rattle.ppm_table.proofs.TellingLemmas.{shown_both, since_is}
 use Rattle.ppm_table.proofs.StandLemmas.{deeds_seen, stands_on, step_told}
 
@@ -174,13 +175,62 @@ module _ {W : Type 0} (told : W → Option (List Event)) where
     shows = shows_both told k own a b c w0 w1 w2 f.goes.deeds g.goes.deeds f.goes.more g.goes.more f.shows g.shows;
   }
 
+  -- the second of them are none
+  pub moves_idle : (k : Opening) (own : ℕ) (a b c : Mine) (w0 w1 w2 : W) (m n v w x y : ℕ) → n ≡ 0 → w ≤ n → y ≤ n
+      → Moves told k own a b w0 w1 m v x → Moves told k own b c w1 w2 n w y → Moves told k own a c w0 w2 m v x
+  moves_idle k own a b c w0 w1 w2 m n v w x y none few_work few_looks f g =
+      let count : m + n ≡ m = omega (arith, none) in
+      let no_work : w ≡ 0 = omega (arith, none, few_work) in
+      let works : v + w ≡ v = omega (arith, no_work) in
+      let looked : x + y ≡ x = omega (arith, none, few_looks) in
+      moves_then k own a b c w0 w1 w2 m n v w x y m v x count works (ap (λ (z : ℕ). looks_behind x z y) no_work ∙ looked) f g
+
   pub moves_none : (k : Opening) (own : ℕ) (me : Mine) (w : W) → IsSeat own me → Moves told k own me me w w 0 0 0
   moves_none k own me w sits = record { goes = goes_none k own me sits; shows = shows_none told k own me w }
+
+  -- nothing changed behind them
+  pub moves_same : (k : Opening) (own : ℕ) (a b c : Mine) (w0 w1 w2 : W) (m v x : ℕ) → Moves told k own a b w0 w1 m v x → c ≡ b → w2 ≡ w1 → Moves told k own a c w0 w2 m v x
+  moves_same k own a b c w0 w1 w2 m v x f same same_w =
+      subst (λ (w : W). Moves told k own a c w0 w m v x) (sym same_w) (subst (λ (z : Mine). Moves told k own a z w0 w1 m v x) (sym same) f)
 
   -- nothing changed
   pub moves_still : (k : Opening) (own : ℕ) (me me' : Mine) (w w' : W) → IsSeat own me → me' ≡ me → w' ≡ w → Moves told k own me me' w w' 0 0 0
   moves_still k own me me' w w' sits same same_w =
       subst (λ (v : W). Moves told k own me me' w v 0 0 0) (sym same_w) (subst (λ (m : Mine). Moves told k own me m w w 0 0 0) (sym same) (moves_none k own me w sits))
+
+  -- a step of which a watcher refused to be told
+  pub refuses_one : (k : Opening) (own : ℕ) (me me' : Mine) (w w' : W) (v x : ℕ) (lives : Bool) → IsSeat own me → Goes k own me me' 1 v x
+      → Keeps (told w) (told w') → Lives k own me' lives → Refuses told k own me me' w w' lives
+  refuses_one k own me me' w w' v x lives sits goes keeps stays = record {
+    before = me;
+    watch = w;
+    made = 0;
+    work = 0;
+    looks = 0;
+    moves = moves_none k own me w sits;
+    last_work = v;
+    last_looks = x;
+    last = goes;
+    keeps = keeps;
+    stays = stays;
+  }
+
+  -- behind others
+  pub refuses_then : (k : Opening) (own : ℕ) (a b c : Mine) (w0 w1 w2 : W) (m v x : ℕ) (lives : Bool) → Moves told k own a b w0 w1 m v x
+      → Refuses told k own b c w1 w2 lives → Refuses told k own a c w0 w2 lives
+  refuses_then k own a b c w0 w1 w2 m v x lives f r = record {
+    before = r.before;
+    watch = r.watch;
+    made = m + r.made;
+    work = v + r.work;
+    looks = looks_behind x r.work r.looks;
+    moves = moves_then k own a b r.before w0 w1 r.watch m r.made v r.work x r.looks (m + r.made) (v + r.work) (looks_behind x r.work r.looks) refl refl refl f r.moves;
+    last_work = r.last_work;
+    last_looks = r.last_looks;
+    last = r.last;
+    keeps = r.keeps;
+    stays = r.stays;
+  }
 
 -- no looks behind work
 pub no_looks : (n : ℕ) → looks_behind 0 n 0 ≡ 0
@@ -204,6 +254,17 @@ running_lives s seat rest = by (rest_is_there s seat rest)
     by : (b : Bool) → running_if seat rest b ≢ IsDone
     by true e = cc
     by false e = cc
+
+-- where it stands if what comes next is there, and if it isn't
+pub stands_there : (s : Shape) (seat : Seat) (st : Standing) (rest : Rest) → st ≡ running s seat rest → true ≡ rest_is_there s seat rest → st ≡ IsRunning seat rest
+stands_there s seat st rest stands there = stands ∙ sym (ap (λ (b : Bool). running_if seat rest b) there)
+
+pub stands_broken : (s : Shape) (seat : Seat) (st : Standing) (rest : Rest) → st ≡ running s seat rest → false ≡ rest_is_there s seat rest → st ≡ IsBroken seat.place
+stands_broken s seat st rest stands there = stands ∙ sym (ap (λ (b : Bool). running_if seat rest b) there)
+
+-- the store of a word at an address
+pub stores_same : (at at' word word' : ℕ) → at' ≡ at → word' ≡ word → WantsStore at word ≡ WantsStore at' word'
+stores_same at at' word word' e f = ap (λ (n : ℕ). WantsStore n word) (sym e) ∙ ap (λ (n : ℕ). WantsStore at' n) (sym f)
 
 pub went_lives : (s : Shape) (seat : Seat) (found : ℕ) (rest : Rest) → went_rest s seat found rest ≢ IsDone
 went_lives s seat found (Loads cell go) = running_lives s seat (go found)

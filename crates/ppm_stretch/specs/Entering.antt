@@ -20,7 +20,7 @@ use Rattle.ppm_stretch.specs.declared.way.Turned.TheVariants as turned
 use Rattle.ppm_stretch.specs.declared.way.Begun.{Begun}
 use Rattle.ppm_stretch.specs.declared.way.Begun.TheVariants as begun
 use Rattle.ppm_words.specs.declared.event.Event.{Event}
-use Rattle.ppm_stretch.specs.Steady.{Moves, Lives, LedTo, StandsAt, StandsReached}
+use Rattle.ppm_stretch.specs.Steady.{Moves, Refuses, LedTo, StandsAt, StandsReached}
 use Rattle.ppm_step.specs.Standings.{IsDone, IsBroken, enters, IsAt, IsWithin, IsRunning, wanted_rest}
 use Rattle.ppm_table.specs.declared.view.Opening.{Opening}
 use Rattle.ppm_table.specs.Run.{stands_by, deeds_in, Mine}
@@ -55,7 +55,7 @@ module _ {W : Type 0} (told : W → Option (List Event)) where
   HasBegun k s code seat frame copy me me' w w' (begun.Entered number) =
       Moves told k seat.own me me' w w' 2 1 0
       × (stands_by k seat.own (deeds_in me'.0) ≡ enters s code seat (Run frame copy) (slice_get code.capsules number))
-  HasBegun k s code seat frame copy me me' w w' (begun.Refused lives) = Lives k seat.own me' lives
+  HasBegun k s code seat frame copy me me' w w' (begun.Refused lives) = Refuses told k seat.own me me' w w' lives
 
   -- what came of the stores with which a frame goes round
   abbrev pub HasTurned : Opening → Shape → Seat → Home → Mine → Mine → W → W → Turned → Type 0
@@ -63,7 +63,7 @@ module _ {W : Type 0} (told : W → Option (List Event)) where
       (made ≤ 1) × Moves told k seat.own me me' w w' made made 0 × (stands_by k seat.own (deeds_in me'.0) ≡ IsBroken seat.place)
   HasTurned k s seat home me me' w w' turned.Round =
       Moves told k seat.own me me' w w' 2 2 0 × (stands_by k seat.own (deeds_in me'.0) ≡ IsAt seat.place (Some (goes_round seat home)))
-  HasTurned k s seat home me me' w w' turned.Refused = Lives k seat.own me' true
+  HasTurned k s seat home me me' w w' turned.Refused = Refuses told k seat.own me me' w w' true
 
   -- what came of the capsule with a number: there is none, or it was gone through so far
   abbrev pub WentAlong : Opening → Shape → CodeParts → Seat → Home → (number : ℕ) → List ℕ → Mine → Mine → W → W → Option Stretch → Type 0
@@ -86,4 +86,4 @@ module _ {W : Type 0} (told : W → Option (List Event)) where
   Circled k s code seat home registers me me' w w' made work (halts.Stopped number next what) =
       Moves told k seat.own me me' w w' made work 0
       × ((capsule : Capsule) × (slice_get code.capsules number ≡ Some capsule) × StandsReached k s code seat home capsule.instrs next what registers me')
-  Circled k s code seat home registers me me' w w' made work (halts.Refused lives) = Lives k seat.own me' lives
+  Circled k s code seat home registers me me' w w' made work (halts.Refused lives) = Refuses told k seat.own me me' w w' lives

@@ -1,3 +1,4 @@
 pub mod Steady
 pub mod Entering
 pub mod Rows
+pub mod Ending

@@ -1,5 +1,5 @@
 -- Steps in a row, whatever rows they are of.
-use Rattle.std.specs.Prelude.{◌≡◌, ℕ, false, List, Option}
+use Rattle.std.specs.Prelude.{◌≡◌, ℕ, Bool, true, false, List, [], ◌∷◌, ◌++◌, Option}
 use Rattle.ppm_code.specs.declared.work.Reached.{Reached}
 use Rattle.ppm_code.specs.declared.work.Reached.TheVariants.{Before, AtEnd}
 use Rattle.ppm_words.specs.declared.event.Event.{Event}
@@ -7,8 +7,10 @@ use Rattle.ppm_step.specs.declared.running.Stage.{Stage}
 use Rattle.ppm_step.specs.declared.running.Stage.TheVariants as stages
 use Rattle.ppm_table.specs.declared.view.Opening.{Opening}
 use Rattle.ppm_stretch.specs.declared.way.Steps.{Steps}
-use Rattle.ppm_table.specs.Run.{Mine}
-use Rattle.ppm_stretch.specs.Steady.{Moves}
+use Rattle.ppm_step.specs.declared.turn.Why.TheVariants.{Watch}
+use Rattle.ppm_table.specs.declared.view.Deed.TheVariants.{Quitted}
+use Rattle.ppm_table.specs.Run.{deeds_in, Mine}
+use Rattle.ppm_stretch.specs.Steady.{Moves, Refuses}
 
 -- the stage of what register work has come to
 abbrev pub stage_of : Reached → Stage
@@ -18,3 +20,20 @@ stage_of (AtEnd end) = stages.Ending end 0
 -- a watcher was told of these steps, where it refused none
 abbrev pub Makes : {W : Type 0} → (W → Option (List Event)) → Opening → (own : ℕ) → Mine → Mine → W → W → Steps → Type 0
 Makes told k own me me' w w' steps = steps.refused ≡ false → Moves told k own me me' w w' steps.made steps.work steps.looks
+
+-- a processor gives up, if it is still to take a step
+abbrev pub Quits : Mine → Mine → (lives : Bool) → Type 0
+Quits me me' true = deeds_in me'.0 ≡ deeds_in me.0 ++ Quitted Watch ∷ []
+Quits me me' false = me' ≡ me
+
+module _ {W : Type 0} (told : W → Option (List Event)) where
+  -- a watcher was told of all these steps but the last, which it refused; then the processor gave up, if it was still to take one
+  pub record GivesUp (k : Opening) (own : ℕ) (me me' : Mine) (w w' : W) : Type 0 where
+    pub lives : Bool
+    pub behind : Mine
+    pub refuses : Refuses told k own me behind w w' lives
+    pub quits : Quits behind me' lives
+
+  -- so it is where it refused one
+  abbrev pub Stops : Opening → (own : ℕ) → Mine → Mine → W → W → Steps → Type 0
+  Stops k own me me' w w' steps = steps.refused ≡ true → GivesUp k own me me' w w'

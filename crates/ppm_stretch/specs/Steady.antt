@@ -27,7 +27,7 @@ use Rattle.ppm_stretch.specs.declared.way.Load.{Load}
 use Rattle.ppm_stretch.specs.declared.way.Load.TheVariants as loads
 use Rattle.ppm_stretch.specs.declared.way.Store.{Store}
 use Rattle.ppm_stretch.specs.declared.way.Store.TheVariants as stores
-use Rattle.ppm_table.specs.Telling.{Shows}
+use Rattle.ppm_table.specs.Telling.{Keeps, Shows}
 use Rattle.ppm_table.specs.Run.{act_by, behind, stands_by, deeds_in, Mine, IsSeat}
 
 -- a step for which no victim is due, by a processor that neither is done nor would seek work
@@ -83,7 +83,7 @@ abbrev pub StandsReached : Opening → Shape → CodeParts → Seat → Home →
 StandsReached k s code seat home instrs next what registers me =
     HasReached s instrs next what registers × StandsIn k s code seat home (reached s.arrays instrs next what registers) me
 
--- a processor whose watcher has refused sits there, and is done or not
+-- a processor sits there that is still to take a step, or one that is done
 abbrev pub Lives : Opening → (own : ℕ) → Mine → Bool → Type 0
 Lives k own me true = IsSeat own me × (stands_by k own (deeds_in me.0) ≢ IsDone)
 Lives k own me false = IsSeat own me × (stands_by k own (deeds_in me.0) ≡ IsDone)
@@ -94,13 +94,27 @@ module _ {W : Type 0} (told : W → Option (List Event)) where
     pub goes : Goes k own me me' made work looks
     pub shows : Shows k own (told w) (told w') me me'
 
+  -- a watcher was told of all these steps but the last, which it refused; the processor is still to take a step, or is done
+  pub record Refuses (k : Opening) (own : ℕ) (me me' : Mine) (w w' : W) (lives : Bool) : Type 0 where
+    pub before : Mine
+    pub watch : W
+    pub made : ℕ
+    pub work : ℕ
+    pub looks : ℕ
+    pub moves : Moves k own me before w watch made work looks
+    pub last_work : ℕ
+    pub last_looks : ℕ
+    pub last : Goes k own before me' 1 last_work last_looks
+    pub keeps : Keeps (told watch) (told w')
+    pub stays : Lives k own me' lives
+
   -- what came of an instruction: a step was made, and another instruction follows; or none was, since the capsule ends here or asks for words, or
   -- has met broken words; or the watcher refused
   abbrev pub CameTo : Opening → Shape → CodeParts → Seat → Home → List Instr → List ℕ → Mine → Mine → W → W → Way → Type 0
   CameTo k s code seat home instrs registers me me' w w' (Made next) = Moves k seat.own me me' w w' 1 1 0 × StandsAt k s code seat home instrs next registers me'
   CameTo k s code seat home instrs registers me me' w w' (Stops next what) = (me' ≡ me) × (w' ≡ w) × StandsReached k s code seat home instrs next what registers me'
   CameTo k s code seat home instrs registers me me' w w' Breaks = (me' ≡ me) × (w' ≡ w) × (stands_by k seat.own (deeds_in me'.0) ≡ IsBroken seat.place)
-  CameTo k s code seat home instrs registers me me' w w' Refused = Lives k seat.own me' true
+  CameTo k s code seat home instrs registers me me' w w' Refused = Refuses k seat.own me me' w w' true
 
   -- what came of so many of them
   abbrev pub LedTo : Opening → Shape → CodeParts → Seat → Home → List Instr → List ℕ → Mine → Mine → W → W → (made : ℕ) → Way → Type 0
@@ -108,17 +122,17 @@ module _ {W : Type 0} (told : W → Option (List Event)) where
   LedTo k s code seat home instrs registers me me' w w' made (Stops next what) =
       Moves k seat.own me me' w w' made made 0 × StandsReached k s code seat home instrs next what registers me'
   LedTo k s code seat home instrs registers me me' w w' made Breaks = Moves k seat.own me me' w w' made made 0 × (stands_by k seat.own (deeds_in me'.0) ≡ IsBroken seat.place)
-  LedTo k s code seat home instrs registers me me' w w' made Refused = Lives k seat.own me' true
+  LedTo k s code seat home instrs registers me me' w w' made Refused = Refuses k seat.own me me' w w' true
 
   -- what came of the load of a location, by the word found, or of its store
   abbrev pub HasLoaded : Opening → Shape → Seat → (ℕ → Rest) → Mine → Mine → W → W → Load → Type 0
   HasLoaded k s seat go me me' w w' loads.Gone = (me' ≡ me) × (w' ≡ w) × (stands_by k seat.own (deeds_in me'.0) ≡ IsBroken seat.place)
-  HasLoaded k s seat go me me' w w' loads.Refused = Lives k seat.own me' true
+  HasLoaded k s seat go me me' w w' loads.Refused = Refuses k seat.own me me' w w' true
   HasLoaded k s seat go me me' w w' (loads.Found found) = Moves k seat.own me me' w w' 1 1 0 × (stands_by k seat.own (deeds_in me'.0) ≡ running s seat (go found))
 
   abbrev pub HasStored : Opening → Shape → Seat → Rest → Mine → Mine → W → W → Store → Type 0
   HasStored k s seat rest me me' w w' stores.Gone = (me' ≡ me) × (w' ≡ w) × (stands_by k seat.own (deeds_in me'.0) ≡ IsBroken seat.place)
-  HasStored k s seat rest me me' w w' stores.Refused = Lives k seat.own me' true
+  HasStored k s seat rest me me' w w' stores.Refused = Refuses k seat.own me me' w w' true
   HasStored k s seat rest me me' w w' stores.Stored = Moves k seat.own me me' w w' 1 1 0 × (stands_by k seat.own (deeds_in me'.0) ≡ running s seat rest)
 
 -- a processor is before the load of a cell, or before its store, if that is there

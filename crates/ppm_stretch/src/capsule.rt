@@ -1,4 +1,5 @@
-//! The steps that a processor makes in a row in a capsule of a frame, each an atomic step of the table.
+//! The steps that a processor makes in a row in a capsule of a frame, each an atomic step of the
+//! table.
 ghost use Rattle.std.specs.Prelude.{◌≡◌, ◌≤◌, ◌<◌, ℕ, true};
 ghost use Rattle.ppm_cells.specs.Cells.{address, word_count};
 ghost use Rattle.ppm_code.specs.Locations.{location_of};
@@ -213,7 +214,24 @@ pub(crate) fn go_along<W: Watch>(
                 at = next;
                 made += 1;
             }
-            way => return Stretch { made, way },
+            Way::Stops(next, what) => {
+                return Stretch {
+                    made,
+                    way: Way::Stops(next, what),
+                };
+            }
+            Way::Breaks => {
+                return Stretch {
+                    made,
+                    way: Way::Breaks,
+                };
+            }
+            Way::Refused => {
+                return Stretch {
+                    made,
+                    way: Way::Refused,
+                };
+            }
         }
     }
     Stretch {

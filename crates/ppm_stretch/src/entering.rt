@@ -1,4 +1,5 @@
-//! The steps with which a capsule of a frame begins and goes round, each an atomic step of the table.
+//! The steps with which a capsule of a frame begins and goes round, each an atomic step of the
+//! table.
 ghost use Rattle.std.specs.Prelude.{◌≡◌, ◌≤◌, ◌<◌, slice_get, IfSome, Some, true};
 ghost use Rattle.ppm_cells.specs.Cells.{word_count};
 ghost use Rattle.ppm_cells.specs.declared.restart.RestartKind.TheVariants.{Run};
@@ -7,12 +8,12 @@ ghost use Rattle.ppm_code.specs.declared.act.End.TheVariants.{Next};
 ghost use Rattle.ppm_step.specs.Facts.{IsHome, IsSeat as IsPlace};
 ghost use Rattle.ppm_step.specs.Frames.{Rest, ending};
 ghost use Rattle.ppm_step.specs.declared.ask.Want.TheVariants as wants;
-ghost use Rattle.ppm_step.specs.Standings.{at_finish, enters, running, went_rest, wanted_rest, IsRunning, IsBroken, IsAt};
+ghost use Rattle.ppm_step.specs.Standings.{at_finish, enters, running, went_rest, wanted_rest, IsRunning};
 ghost use Rattle.ppm_stretch.specs.Entering.{HasBegun, HasTurned, Circled, WentAlong, StandsBefore, StandsAtHeader, IsToStore};
 ghost use Rattle.ppm_table.specs.Telling.{Keeps};
 ghost use Rattle.ppm_stretch.specs.declared.way.Halt.TheVariants.{Refused, Round};
 ghost use Rattle.ppm_table.specs.Run.{stands_by, deeds_in, IsAtCode, IsAtTable, IsSeat};
-ghost use Rattle.ppm_stretch.specs.Steady.{Moves};
+ghost use Rattle.ppm_stretch.specs.Steady.{Goes, Moves};
 
 use crate::capsule::go_along;
 use crate::way::{Begun, Circuit, Halt, Stretch, Turned, Way};
@@ -42,6 +43,7 @@ pub(crate) fn load_finish<W: Watch>(
     ensures table { mine.new.table_id ≡ mine.old.table_id }
     ensures keeps { Keeps (W.told watch.old) (W.told watch.new) }
     ensures sits_on { IsSeat place.now.own mine.new.me }
+    ensures goes { Goes words.now.shared.key place.now.own mine.old.me mine.new.me 1 0 1 }
     ensures moves { result.fine ≡ true → Moves W.told words.now.shared.key place.now.own mine.old.me mine.new.me watch.old watch.new 1 0 1 }
     ensures stands { stands_by words.now.shared.key place.now.own (deeds_in mine.new.me.0)
         ≡ at_finish shape.now code.now place.now.own place.now.place (Some place.now.restart) result.word }
@@ -70,6 +72,7 @@ pub(crate) fn load_header<W: Watch>(
     ensures table { mine.new.table_id ≡ mine.old.table_id }
     ensures keeps { Keeps (W.told watch.old) (W.told watch.new) }
     ensures sits_on { IsSeat place.now.own mine.new.me }
+    ensures goes { Goes words.now.shared.key place.now.own mine.old.me mine.new.me 1 1 0 }
     ensures moves { result.fine ≡ true → Moves W.told words.now.shared.key place.now.own mine.old.me mine.new.me watch.old watch.new 1 1 0 }
     ensures stands { stands_by words.now.shared.key place.now.own (deeds_in mine.new.me.0)
         ≡ enters shape.now code.now place.now place.now.restart.kind (slice_get code.now.capsules result.word) }
@@ -81,7 +84,7 @@ pub(crate) fn load_header<W: Watch>(
 
 /// Makes the step of a capsule under way that is the store of a word at an address.
 #[inline(always)]
-fn store_next<W: Watch>(
+pub(crate) fn store_next<W: Watch>(
     words: &Words,
     shape: &Shape,
     mine: &mut Seat<(), View>,
@@ -99,7 +102,7 @@ fn store_next<W: Watch>(
     ensures keeps { Keeps (W.told watch.old) (W.told watch.new) }
     ensures made { (rest : Rest) → stands_by words.now.shared.key place.now.own (deeds_in mine.old.me.0) ≡ IsRunning place.now rest
         → wanted_rest shape.now place.now rest ≡ wants.Stores at word
-        → (stands_by words.now.shared.key place.now.own (deeds_in mine.new.me.0) ≡ went_rest shape.now place.now 0 rest) × IsSeat place.now.own mine.new.me
+        → (stands_by words.now.shared.key place.now.own (deeds_in mine.new.me.0) ≡ went_rest shape.now place.now 0 rest) × Goes words.now.shared.key place.now.own mine.old.me mine.new.me 1 1 0
         × (result ≡ true → Moves W.told words.now.shared.key place.now.own mine.old.me mine.new.me watch.old watch.new 1 1 0) }
 {
     let _ = shape.slots;
@@ -115,7 +118,8 @@ fn store_next<W: Watch>(
     .fine
 }
 
-/// Stores the number of the capsule with which the frame goes on, and the restart word with which it does, where both are there.
+/// Stores the number of the capsule with which the frame goes on, and the restart word with which
+/// it does, where both are there.
 #[inline(always)]
 pub(crate) fn go_round<W: Watch>(
     words: &Words,
@@ -207,7 +211,8 @@ pub(crate) fn begin<W: Watch>(
     }
 }
 
-/// Goes through the capsule with this number, from registers of 0, at most so many steps, up to its end; `None` where there is no such capsule.
+/// Goes through the capsule with this number, from registers of 0, at most so many steps, up to its
+/// end; `None` where there is no such capsule.
 #[inline(always)]
 pub(crate) fn capsule_along<W: Watch>(
     words: &Words,
@@ -254,7 +259,8 @@ pub(crate) fn capsule_along<W: Watch>(
     ))
 }
 
-/// Goes through the next capsule of a frame, at most so many steps, and on to the one behind it where it names one.
+/// Goes through the next capsule of a frame, at most so many steps, and on to the one behind it
+/// where it names one.
 #[inline(always)]
 pub(crate) fn round<W: Watch>(
     words: &Words,
@@ -353,7 +359,7 @@ pub(crate) fn round<W: Watch>(
     }
 }
 
-/// The watcher refused.
+/// The watcher refused; whether the processor is still to take a step.
 fn refused(lives: bool) -> Circuit
     ensures { result ≡ record { made = 0; work = 0; halt = Refused lives } }
 {

@@ -1,15 +1,18 @@
 //! Steps that a processor makes in a row on the words of a table.
 //! Model: the deeds that its seat keeps, all of them steps for which nothing is chosen
 //! (`specs/Steady`).
-//! Contract: `steps` makes so many such steps, and a watcher is told of each of them.
+//! Contract: `steps` makes so many such steps, and a watcher is told of each of them; behind one
+//! that it refuses the processor gives up.
 //! Stands on `ppm_table` and `ppm_step`; the driver of the threads stands on it.
 //! After the parallel persistent memory of Blelloch et al., SPAA 2018.
 #![tactic(auto)]
 
 mod capsule;
+mod ending;
 mod entering;
+mod frames;
+mod refusing;
 mod rows;
-
 mod there;
 mod waiting;
 mod way;

@@ -3,8 +3,8 @@ ghost use Rattle.std.specs.Prelude.{◌≡◌, ◌<◌, Some, slice_get};
 ghost use Rattle.ppm_cells.specs.Restart.{IsRestart};
 ghost use Rattle.ppm_code.specs.Capsules.{capsule_from, reached};
 ghost use Rattle.ppm_code.specs.declared.code.Capsule.{Capsule};
-ghost use Rattle.ppm_step.specs.Facts.{IsHome, IsSeat as IsPlace};
-ghost use Rattle.ppm_step.specs.Frames.{rest_of};
+ghost use Rattle.ppm_step.specs.Facts.{IsEnd, IsHome, IsSeat as IsPlace};
+ghost use Rattle.ppm_step.specs.Frames.{ending, rest_of};
 ghost use Rattle.ppm_step.specs.Locals.{IsLocal, standing_of};
 ghost use Rattle.ppm_step.specs.Standings.{IsAt, running, rest_is_there};
 ghost use Rattle.ppm_step.specs.Stages.{IsStage, rest_at};
@@ -16,7 +16,7 @@ ghost use Rattle.ppm_stretch.specs.Steady.{HasReached};
 use crate::capsule::is_there;
 use crate::there::put_is_there;
 use ppm_cells::{Restart, Shape};
-use ppm_code::{Code, Reached, Step};
+use ppm_code::{Code, End, Reached, Step};
 use ppm_step::{Home, Local, Running, Seat as Place, Stage, Stand};
 
 /// Stands before the capsule of a restart.
@@ -127,6 +127,42 @@ pub(crate) fn wait_stopped(
     let there = what_is_there(&running, shape, code, what, &local.registers);
     if there {
         local.stand = Stand::Runs(running);
+    } else {
+        local.stand = Stand::Broken { place: seat.place };
+    }
+}
+
+/// Stands before the n-th store of an end.
+#[inline(never)]
+pub(crate) fn wait_ending(
+    local: &mut Local,
+    shape: &Shape,
+    code: &Code,
+    seat: Place,
+    home: Home,
+    capsule: u32,
+    end: End,
+    n: usize,
+)
+    requires seat { IsPlace shape.now seat }
+    requires own { seat.own ≡ local.old.own }
+    requires home { IsHome home }
+    requires capsule { capsule < length code.now.capsules }
+    requires end { IsEnd end }
+    ensures stands { standing_of shape.now code.now local.new ≡ running shape.now seat (ending code.now home end n) }
+    ensures holds { IsLocal shape.now code.now local.new }
+    ensures own_stays { local.new.own ≡ local.old.own }
+{
+    let _ = code.parts().root;
+    let under_way = Running {
+        seat,
+        home,
+        capsule,
+        next: 0,
+        stage: Stage::Ending(end, n),
+    };
+    if put_is_there(&under_way, shape, code, end, n) {
+        local.stand = Stand::Runs(under_way);
     } else {
         local.stand = Stand::Broken { place: seat.place };
     }

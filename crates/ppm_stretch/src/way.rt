@@ -1,7 +1,11 @@
-//! What comes of the steps of a capsule.
+//! What comes of the steps of a capsule, and of steps in a row.
+ghost use Rattle.std.specs.Prelude.{◌≡◌, false};
+
+use ppm_cells::Restart;
 use ppm_code::Reached;
 
-/// What came of the load of a location: it isn't there, the watcher refused, or the word that was found.
+/// What came of the load of a location: it isn't there, the watcher refused, or the word that was
+/// found.
 #[derive(Clone, Copy, Debug, PartialEq, Eq)]
 pub enum Load {
     Gone,
@@ -59,6 +63,19 @@ pub enum Turned {
     Refused,
 }
 
+/// What came of a store of an end.
+#[derive(Clone, Copy, Debug, PartialEq, Eq)]
+pub enum EndStep {
+    /// It was made, and the next one comes.
+    Stored,
+    /// The restart word was stored: the place goes on with this.
+    Installed(Restart),
+    /// It isn't there.
+    Gone,
+    /// The watcher refused.
+    Refused,
+}
+
 /// Where a processor stands behind a round of a frame.
 #[derive(Clone, Copy, Debug, PartialEq, Eq)]
 pub enum Halt {
@@ -70,7 +87,8 @@ pub enum Halt {
     Round,
     /// Before this instruction of the capsule with this number.
     Midway(u64, usize),
-    /// In the capsule with this number, at an end or where it asks for words; behind that comes this instruction.
+    /// In the capsule with this number, at an end or where it asks for words; behind that comes
+    /// this instruction.
     Stopped(u64, usize, Reached),
     /// The watcher refused; whether the processor is still to take a step.
     Refused(bool),
@@ -97,4 +115,37 @@ pub struct Steps {
     pub exchanged: bool,
     /// The watcher refused one; then the numbers say nothing.
     pub refused: bool,
+}
+
+/// No steps.
+pub(crate) const NONE: Steps = Steps {
+    made: 0,
+    work: 0,
+    looks: 0,
+    exchanged: false,
+    refused: false,
+};
+
+/// The watcher refused one.
+pub(crate) const REFUSED: Steps = Steps {
+    made: 0,
+    work: 0,
+    looks: 0,
+    exchanged: false,
+    refused: true,
+};
+
+/// Steps of which none was refused.
+#[inline(always)]
+pub(crate) fn row(made: u64, work: u64, looks: u64, exchanged: bool) -> Steps
+    ensures { result
+        ≡ record { made = made; work = work; looks = looks; exchanged = exchanged; refused = false } }
+{
+    Steps {
+        made,
+        work,
+        looks,
+        exchanged,
+        refused: false,
+    }
 }

@@ -1,7 +1,10 @@
-use Rattle.std.proofs.Common.{◌≡◌, ◌+◌, refl, subst, arith}
+use Rattle.std.proofs.Common.{◌≡◌, ◌+◌, true, refl, sym, subst, arith}
+use Rattle.ppm_stretch.specs.declared.way.Circuit.{Circuit}
 use Rattle.ppm_stretch.specs.declared.way.Way.{Way}
+use Rattle.ppm_stretch.specs.Entering.{Circled}
 use Rattle.ppm_stretch.specs.Steady.{LedTo}
-use Rattle.ppm_stretch.proofs.SteadyLemmas.{moves_then, no_looks}
+use Rattle.ppm_stretch.proofs.SteadyLemmas.{moves_then, refuses_then, no_looks}
+use Rattle.ppm_table.proofs.TellingLemmas.{keeps_both}
 use Rattle.ppm_stretch.proofs.entering.round.Goals as goal
 
 pub returns-in-Breaks-clause-circled : goal.returns-in-Breaks-clause-circled
@@ -79,3 +82,39 @@ returns-in-Breaks-go_round-clause-circled g c =
           (made + 2) stored (made + 1) stored 0 0 (made + 2 + stored) (made + 1 + stored) 0 refl refl (no_looks stored) so_far turned.1,
       turned.2,
     )
+
+pub returns-in-Refused-way-clause-circled : goal.returns-in-Refused-way-clause-circled
+returns-in-Refused-way-clause-circled g c =
+    let k = c.args.words.now.shared.key in
+    let along = c.in-Some.ensures.along in
+    let led = subst (λ (way : Way). LedTo g.W.Watch.told k c.args.shape.now c.args.code.now c.args.place.now c.args.home.now along.0.instrs c.capsule_along.new.registers
+    c.begin.new.mine.me c.capsule_along.new.mine.me c.begin.new.watch c.capsule_along.new.watch c.in-Some.stretch.made way) c.in-Refused-way.is along.2 in
+    subst (λ (x : Circuit). Circled g.W.Watch.told k c.args.shape.now c.args.code.now c.args.place.now c.args.home.now c.capsule_along.new.registers
+    c.args.mine.now.me c.capsule_along.new.mine.me c.args.watch.now c.capsule_along.new.watch x.made x.work x.halt) (sym c.refused-in-Refused-way.ensures)
+    (refuses_then g.W.Watch.told k c.args.place.now.own c.args.mine.now.me c.begin.new.mine.me c.capsule_along.new.mine.me c.args.watch.now c.begin.new.watch c.capsule_along.new.watch
+    2 1 0 true c.in-Entered.ensures.begun.0 led)
+
+pub returns-in-Refused-go_round-clause-circled : goal.returns-in-Refused-go_round-clause-circled
+returns-in-Refused-go_round-clause-circled g c =
+    let k = c.args.words.now.shared.key in
+    let made = c.in-Some.stretch.made in
+    let along = c.in-Some.ensures.along in
+    let first : 2 + made ≡ made + 2 = omega arith in
+    let second : 1 + made ≡ made + 1 = omega arith in
+    let led = subst (λ (way : Way). LedTo g.W.Watch.told k c.args.shape.now c.args.code.now c.args.place.now c.args.home.now along.0.instrs c.capsule_along.new.registers
+    c.begin.new.mine.me c.capsule_along.new.mine.me c.begin.new.watch c.capsule_along.new.watch made way) c.in-Stops.is along.2 in
+    let so_far = moves_then g.W.Watch.told k c.args.place.now.own c.args.mine.now.me c.begin.new.mine.me c.capsule_along.new.mine.me c.args.watch.now c.begin.new.watch c.capsule_along.new.watch
+    2 made 1 made 0 0 (made + 2) (made + 1) 0 first second (no_looks made) c.in-Entered.ensures.begun.0 led.0 in
+    subst (λ (x : Circuit). Circled g.W.Watch.told k c.args.shape.now c.args.code.now c.args.place.now c.args.home.now c.capsule_along.new.registers
+    c.args.mine.now.me c.go_round.new.mine.me c.args.watch.now c.go_round.new.watch x.made x.work x.halt) (sym c.refused-in-Refused-go_round.ensures)
+    (refuses_then g.W.Watch.told k c.args.place.now.own c.args.mine.now.me c.capsule_along.new.mine.me c.go_round.new.mine.me c.args.watch.now c.capsule_along.new.watch c.go_round.new.watch
+    (made + 2) (made + 1) 0 true so_far c.in-Refused-go_round.ensures.turned)
+
+pub returns-in-Refused-clause-circled : goal.returns-in-Refused-clause-circled
+returns-in-Refused-clause-circled g c =
+    subst (λ (x : Circuit). Circled g.W.Watch.told c.args.words.now.shared.key c.args.shape.now c.args.code.now c.args.place.now c.args.home.now c.args.registers.now
+    c.args.mine.now.me c.begin.new.mine.me c.args.watch.now c.begin.new.watch x.made x.work x.halt) (sym c.refused.ensures) c.in-Refused.ensures.begun
+
+pub returns-in-Refused-go_round-clause-keeps : goal.returns-in-Refused-go_round-clause-keeps
+returns-in-Refused-go_round-clause-keeps g c =
+    keeps_both _ _ _ (keeps_both _ _ _ c.in-Entered.ensures.keeps c.in-Some.ensures.keeps) c.in-Refused-go_round.ensures.keeps

@@ -1,7 +1,9 @@
 use Rattle.std.proofs.Common.{◌∙◌, ℕ, ◌+◌, ◌==◌, ◌≤◌, Bool, true, false, if◌then◌else◌, sym, refl, ap, subst, arith}
 use Rattle.ppm_table.specs.Run.{stands_by, deeds_in, IsSeat}
+use Rattle.ppm_stretch.specs.declared.way.Steps.{Steps}
+use Rattle.ppm_stretch.specs.Rows.{GivesUp}
 use Rattle.ppm_stretch.specs.Steady.{Moves, looks_behind}
-use Rattle.ppm_stretch.proofs.SteadyLemmas.{moves_then}
+use Rattle.ppm_stretch.proofs.SteadyLemmas.{moves_then, moves_idle, refuses_then}
 use Rattle.ppm_table.proofs.TellingLemmas.{keeps_both}
 use Rattle.ppm_stretch.proofs.rows.steps_along.Goals as goal
 
@@ -35,3 +37,30 @@ loop-made-preserved g c =
       c.some_steps-more.ensures.holds,
       c.some_steps-more.ensures.own_stays ∙ i.9,
     )
+
+pub returns-then-more-clause-stops : goal.returns-then-more-clause-stops
+returns-then-more-clause-stops g c = λ refused.
+    let k = c.args.words.now.shared.key in
+    let i = c.loop-made.invariant in
+    let new = c.some_steps-more.new in
+    let stops = subst (λ (n : ℕ). GivesUp g.W.Watch.told k n c.loop-made.mine.me new.mine.me c.loop-made.watch new.watch) i.9 (c.some_steps-more.ensures.stops c.if-more.true) in
+    record {
+      lives = stops.lives;
+      behind = stops.behind;
+      refuses = refuses_then g.W.Watch.told k c.args.local.now.own c.args.mine.now.me c.loop-made.mine.me stops.behind c.args.watch.now c.loop-made.watch new.watch
+          c.loop-made.made c.loop-made.work c.loop-made.looks stops.lives i.5 stops.refuses;
+      quits = stops.quits;
+    }
+
+pub returns-then-more-eq0-clause-makes : goal.returns-then-more-eq0-clause-makes
+returns-then-more-eq0-clause-makes g c = λ fine.
+    let k = c.args.words.now.shared.key in
+    let i = c.loop-made.invariant in
+    let own = c.args.local.now.own in
+    let new = c.some_steps-more.new in
+    let more = c.some_steps-more.result in
+    let few = c.some_steps-more.ensures.few in
+    let moves = subst (λ (n : ℕ). Moves g.W.Watch.told k n c.loop-made.mine.me new.mine.me c.loop-made.watch new.watch more.made more.work more.looks) i.9 (c.some_steps-more.ensures.makes c.if-more.false) in
+    subst (λ (steps : Steps). Moves g.W.Watch.told k own c.args.mine.now.me new.mine.me c.args.watch.now new.watch steps.made steps.work steps.looks) (sym c.row.ensures)
+    (moves_idle g.W.Watch.told k own c.args.mine.now.me c.loop-made.mine.me new.mine.me c.args.watch.now c.loop-made.watch new.watch
+    c.loop-made.made more.made c.loop-made.work more.work c.loop-made.looks more.looks c.if-more-eq0.true few.1 few.2 i.5 moves)

@@ -4,7 +4,7 @@ use Rattle.ppm_step.specs.Standings.{IsAt}
 use Rattle.ppm_table.specs.Run.{stands_by, deeds_in}
 use Rattle.ppm_stretch.specs.Steady.{Moves}
 use Rattle.ppm_table.specs.Telling.{Keeps}
-use Rattle.ppm_stretch.proofs.rows.rounds.Given as goal
+use Rattle.ppm_stretch.proofs.frames.rounds.Given as goal
 
 abbrev pub invariant-loop-made : goal.invariant-loop-made
 invariant-loop-made g l = (l.made ≤ l.fn.most) × (l.work ≤ l.made) × (l.mine.table_id ≡ l.fn.mine.table_id) × Keeps (g.W.Watch.told l.fn.watch) (g.W.Watch.told l.watch)

@@ -1,4 +1,4 @@
-use Rattle.std.proofs.Common.{◌∙◌, ◌+◌, Some, sym, refl, ap, subst, arith}
+use Rattle.std.proofs.Common.{ℕ, ◌∙◌, ◌+◌, Some, sym, refl, ap, subst, arith}
 use Rattle.ppm_cells.specs.declared.restart.RestartKind.{RestartKind}
 use Rattle.ppm_step.specs.declared.frame.Home.{Home}
 use Rattle.ppm_step.specs.declared.row.Seat.{Seat}
@@ -6,11 +6,11 @@ use Rattle.ppm_step.specs.Standings.{IsAt}
 use Rattle.ppm_stretch.specs.declared.way.Halt.{Halt}
 use Rattle.ppm_stretch.specs.declared.way.Steps.{Steps}
 use Rattle.ppm_stretch.specs.Entering.{Circled}
-use Rattle.ppm_stretch.specs.Steady.{Moves}
-use Rattle.ppm_stretch.proofs.SteadyLemmas.{moves_then, from_none}
+use Rattle.ppm_stretch.specs.Steady.{Lives, Moves}
+use Rattle.ppm_stretch.proofs.SteadyLemmas.{moves_then, refuses_then, from_none}
 use Rattle.ppm_table.proofs.TellingLemmas.{keeps_both}
 use Rattle.ppm_stretch.proofs.WaitingLemmas.{goes_round_fits}
-use Rattle.ppm_stretch.proofs.rows.rounds.Goals as goal
+use Rattle.ppm_stretch.proofs.frames.rounds.Goals as goal
 
 pub loop-made-preserved : goal.loop-made-preserved
 loop-made-preserved g c =
@@ -98,3 +98,31 @@ returns-in-Stopped-clause-makes g c = λ fine.
     (sym c.row-in-Stopped.ensures)
     (moves_then g.W.Watch.told k c.args.local.now.own c.args.mine.now.me c.loop-made.mine.me c.round-circuit.new.mine.me c.args.watch.now c.loop-made.watch c.round-circuit.new.watch
     c.loop-made.made made c.loop-made.work work 0 0 (c.loop-made.made + made) (c.loop-made.work + work) 0 refl refl (from_none work 0) i.4 circled.0)
+
+pub withdraw-requires-clause-lives : goal.withdraw-requires-clause-lives
+withdraw-requires-clause-lives g c =
+    let k = c.args.words.now.shared.key in
+    let i = c.loop-made.invariant in
+    let seat : Seat = record { own = c.args.local.now.own; place = c.args.place; restart = c.loop-made.at } in
+    let home : Home = record { frame = c.in-Run.frame; copy = c.in-Run.copy; block = 0 } in
+    let circled = subst (λ (halt : Halt). Circled g.W.Watch.told k c.args.shape.now c.args.code.now seat home c.round-circuit.new.registers c.loop-made.mine.me c.round-circuit.new.mine.me
+    c.loop-made.watch c.round-circuit.new.watch c.round-circuit.result.made c.round-circuit.result.work halt) c.in-Refused.is c.round-circuit.ensures.circled in
+    subst (λ (n : ℕ). Lives k n c.round-circuit.new.mine.me c.in-Refused.lives) (sym i.7) circled.stays
+
+pub returns-in-Refused-clause-stops : goal.returns-in-Refused-clause-stops
+returns-in-Refused-clause-stops g c = λ refused.
+    let k = c.args.words.now.shared.key in
+    let i = c.loop-made.invariant in
+    let seat : Seat = record { own = c.args.local.now.own; place = c.args.place; restart = c.loop-made.at } in
+    let home : Home = record { frame = c.in-Run.frame; copy = c.in-Run.copy; block = 0 } in
+    let made = c.round-circuit.result.made in
+    let work = c.round-circuit.result.work in
+    let circled = subst (λ (halt : Halt). Circled g.W.Watch.told k c.args.shape.now c.args.code.now seat home c.round-circuit.new.registers c.loop-made.mine.me c.round-circuit.new.mine.me
+    c.loop-made.watch c.round-circuit.new.watch made work halt) c.in-Refused.is c.round-circuit.ensures.circled in
+    record {
+      lives = c.in-Refused.lives;
+      behind = c.round-circuit.new.mine.me;
+      refuses = refuses_then g.W.Watch.told k c.args.local.now.own c.args.mine.now.me c.loop-made.mine.me c.round-circuit.new.mine.me c.args.watch.now c.loop-made.watch c.round-circuit.new.watch
+          c.loop-made.made c.loop-made.work 0 c.in-Refused.lives i.4 circled;
+      quits = c.withdraw.ensures.quits;
+    }

@@ -1,0 +1,14 @@
+use Rattle.std.proofs.Common.{◌≤◌, arith}
+use Rattle.ppm_cells.specs.Cells.{word_count}
+use Rattle.ppm_step.proofs.ThereLemmas.{restart_fits}
+use Rattle.ppm_stretch.proofs.ending.word_there.Goals as goal
+
+pub pack-requires : goal.pack-requires
+pack-requires c =
+    let few : word_count c.args.shape.now ≤ 75497921 = omega (arith, c.word_count.ensures.value, c.word_count.ensures.bound) in
+    restart_fits c.args.shape.now few c.args.restart c.requires
+
+pub returns-clause-fits : goal.returns-clause-fits
+returns-clause-fits c =
+    let few : word_count c.args.shape.now ≤ 75497921 = omega (arith, c.word_count.ensures.value, c.word_count.ensures.bound) in
+    restart_fits c.args.shape.now few c.args.restart c.requires

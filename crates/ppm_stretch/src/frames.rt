@@ -1,0 +1,187 @@
+//! The steps that a processor makes in a row in capsules of a frame, one after the other.
+ghost use Rattle.std.specs.Prelude.{◌≡◌, ◌≤◌, ◌<◌, Some, length};
+ghost use Rattle.ppm_cells.specs.Restart.{IsRestart};
+ghost use Rattle.ppm_step.specs.Locals.{IsLocal, standing_of};
+ghost use Rattle.ppm_step.specs.Facts.{IsEnd, IsHome, IsSeat as IsPlace};
+ghost use Rattle.ppm_step.specs.Frames.{ending};
+ghost use Rattle.ppm_step.specs.Standings.{IsAt, running};
+ghost use Rattle.ppm_table.specs.Run.{stands_by, deeds_in, IsAtCode, IsSeat};
+ghost use Rattle.ppm_table.specs.Telling.{Keeps};
+ghost use Rattle.ppm_stretch.specs.Rows.{Makes, Stops};
+
+use crate::ending::end_at;
+use crate::entering::round;
+use crate::refusing::withdraw;
+use crate::waiting::{wait_at, wait_broken, wait_ending, wait_midway, wait_stopped};
+use crate::way::{EndStep, Halt, REFUSED, Steps, row};
+use atomic_table::Seat;
+use ppm_cells::{Restart, RestartKind, Shape};
+use ppm_code::{Code, End};
+use ppm_ports::Watch;
+use ppm_step::{Home, Local, Running, Seat as Place, Stand, header_of};
+use ppm_table::{View, Words};
+
+/// Goes through capsules of the frame that the place goes on with, each from its beginning, at most
+/// so many steps.
+pub(crate) fn rounds<W: Watch>(
+    local: &mut Local,
+    words: &Words,
+    mine: &mut Seat<(), View>,
+    watch: &mut W,
+    shape: &Shape,
+    code: &Code,
+    place: u32,
+    restart: Restart,
+    most: u64,
+) -> Steps
+    requires table { IsAtCode mine.old.table_id words.now.shared.table_id words.now.shared.key shape.now code.now }
+    requires own { local.old.own < shape.now.processors }
+    requires sits { IsSeat local.old.own mine.old.me }
+    requires place { place < shape.now.processors }
+    requires restart { IsRestart restart }
+    requires stands { stands_by words.now.shared.key local.old.own (deeds_in mine.old.me.0) ≡ IsAt place (Some restart) }
+    ensures table { mine.new.table_id ≡ mine.old.table_id }
+    ensures keeps { Keeps (W.told watch.old) (W.told watch.new) }
+    ensures few { (result.made ≤ most) × (result.work ≤ result.made) × (result.looks ≤ result.made) }
+    ensures makes { Makes W.told words.now.shared.key local.old.own mine.old.me mine.new.me watch.old watch.new result }
+    ensures stops { Stops W.told words.now.shared.key local.old.own mine.old.me mine.new.me watch.old watch.new result }
+    ensures sits_on { IsSeat local.old.own mine.new.me }
+    ensures stands_on { standing_of shape.now code.now local.new ≡ stands_by words.now.shared.key local.old.own (deeds_in mine.new.me.0) }
+    ensures holds { IsLocal shape.now code.now local.new }
+    ensures own_stays { local.new.own ≡ local.old.own }
+{
+    let own = local.own;
+    let mut at = restart;
+    let mut made = 0;
+    let mut work = 0;
+    while most - made >= 2 {
+        let seat = Place {
+            own,
+            place,
+            restart: at,
+        };
+        let RestartKind::Run { frame, copy } = at.kind else {
+            wait_at(local, shape, code, place, at);
+            return row(made, work, 0, false);
+        };
+        let Some(header) = header_of(shape, seat) else {
+            wait_at(local, shape, code, place, at);
+            return row(made, work, 0, false);
+        };
+        let home = Home {
+            frame,
+            copy,
+            block: 0,
+        };
+        let circuit = round(
+            words,
+            shape,
+            code,
+            mine,
+            watch,
+            &seat,
+            &home,
+            header,
+            &mut local.registers,
+            most - made,
+        );
+        match circuit.halt {
+            Halt::Round => {
+                at = Restart {
+                    kind: home.goes_round(),
+                    bottom: at.bottom,
+                };
+                made += circuit.made;
+                work += circuit.work;
+            }
+            Halt::Done => {
+                local.stand = Stand::Done;
+                return row(made + circuit.made, work + circuit.work, 1, false);
+            }
+            Halt::Broken => {
+                wait_broken(local, shape, code, place);
+                return row(made + circuit.made, work + circuit.work, 0, false);
+            }
+            Halt::Midway(number, instr) => {
+                wait_midway(local, shape, code, seat, home, number, instr);
+                return row(made + circuit.made, work + circuit.work, 0, false);
+            }
+            Halt::Stopped(number, next, what) => {
+                wait_stopped(local, shape, code, seat, home, number, next, what);
+                return row(made + circuit.made, work + circuit.work, 0, false);
+            }
+            Halt::Refused(lives) => {
+                withdraw(local, words, mine, shape, code, lives);
+                return REFUSED;
+            }
+        }
+    }
+    wait_at(local, shape, code, place, at);
+    row(made, work, 0, false)
+}
+
+/// Makes the stores of the end that a capsule of a frame has come to, from the n-th on, at most so
+/// many.
+#[inline(never)]
+pub(crate) fn ends<W: Watch>(
+    local: &mut Local,
+    words: &Words,
+    mine: &mut Seat<(), View>,
+    watch: &mut W,
+    shape: &Shape,
+    code: &Code,
+    under_way: Running,
+    end: End,
+    from: usize,
+    most: u64,
+) -> Steps
+    requires table { IsAtCode mine.old.table_id words.now.shared.table_id words.now.shared.key shape.now code.now }
+    requires own { under_way.seat.own ≡ local.old.own }
+    requires sits { IsSeat local.old.own mine.old.me }
+    requires seat { IsPlace shape.now under_way.seat }
+    requires home { IsHome under_way.home }
+    requires capsule { under_way.capsule < length code.now.capsules }
+    requires end { IsEnd end }
+    requires stands { stands_by words.now.shared.key local.old.own (deeds_in mine.old.me.0)
+        ≡ running shape.now under_way.seat (ending code.now under_way.home end from) }
+    ensures table { mine.new.table_id ≡ mine.old.table_id }
+    ensures keeps { Keeps (W.told watch.old) (W.told watch.new) }
+    ensures few { (result.made ≤ most) × (result.work ≤ result.made) × (result.looks ≤ result.made) }
+    ensures makes { Makes W.told words.now.shared.key local.old.own mine.old.me mine.new.me watch.old watch.new result }
+    ensures stops { Stops W.told words.now.shared.key local.old.own mine.old.me mine.new.me watch.old watch.new result }
+    ensures sits_on { IsSeat local.old.own mine.new.me }
+    ensures stands_on { standing_of shape.now code.now local.new ≡ stands_by words.now.shared.key local.old.own (deeds_in mine.new.me.0) }
+    ensures holds { IsLocal shape.now code.now local.new }
+    ensures own_stays { local.new.own ≡ local.old.own }
+{
+    let seat = Place {
+        own: local.own,
+        place: under_way.seat.place,
+        restart: under_way.seat.restart,
+    };
+    let home = under_way.home;
+    let mut n = from;
+    let mut made = 0;
+    while made < most {
+        match end_at(words, shape, code, mine, watch, &seat, &home, end, n) {
+            EndStep::Stored => {
+                n += 1;
+                made += 1;
+            }
+            EndStep::Installed(restart) => {
+                wait_at(local, shape, code, seat.place, restart);
+                return row(made + 1, made + 1, 0, false);
+            }
+            EndStep::Gone => {
+                wait_broken(local, shape, code, seat.place);
+                return row(made, made, 0, false);
+            }
+            EndStep::Refused => {
+                withdraw(local, words, mine, shape, code, true);
+                return REFUSED;
+            }
+        }
+    }
+    wait_ending(local, shape, code, seat, home, under_way.capsule, end, n);
+    row(made, made, 0, false)
+}
