@@ -33,6 +33,8 @@ use Rattle.ppm_threads.specs.declared.way.Way.{Way}
 use Rattle.ppm_table.specs.Shown.{IsOf, deeds_of_processor, opening_of}
 use Rattle.ppm_table.specs.Telling.{event_of_deed}
 use Rattle.ppm_table.proofs.TellingLemmas.{appended}
+use Rattle.ppm_stretch.specs.Rows.{GivesUp, Quits}
+use Rattle.ppm_stretch.specs.Steady.{Lives}
 use Rattle.ppm_threads.specs.Going.{Grows, KeepsMore, HasQuit, Obeying, Acting, told_so_far, told_of_deeds, GoesOn, way_of}
 use Rattle.ppm_threads.proofs.DrawnLemmas.{is_act_at}
 use Rattle.ppm_threads.proofs.GoingLemmas.{act_told, obeying_more, grows_more}
@@ -79,6 +81,14 @@ has_quit s p q told of same acted rested = by (done_or (standing_of s.shape s.co
     by (inl done) =
         inl (sym (of.stands ∙ ap (λ (c : ℕ). stands_by (opening_of s) c (deeds_of_processor q)) same) ∙ (rested done).stands ∙ done)
     by (inr lives) = inr (deeds_of_processor p, (acted lives).deed)
+
+-- one that has given up in a row of steps has quit
+pub gave_up : {W : Type 0} (told : W → Option (List Event)) (k : Opening) (own : ℕ) (me me' : Mine) (w w' : W) → GivesUp told k own me me' w w' → HasQuit k own (deeds_in me'.0)
+gave_up told k own me me' w w' g = by g.lives g.refuses.stays g.quits
+  where
+    by : (lives : Bool) → Lives k own g.behind lives → Quits g.behind me' lives → HasQuit k own (deeds_in me'.0)
+    by true stays quits = inr (deeds_in g.behind.0, quits)
+    by false stays quits = inl (ap (λ (m : Mine). stands_by k own (deeds_in m.0)) quits ∙ stays.1)
 
 -- the event of a turn is that of its deed
 step_says : (s : Shape) (own found : ℕ) (st : Standing) (want : Want) → event_found (place_of st) want found ≡ event_of_deed s own st (deed_by want found)

@@ -3,14 +3,15 @@ use Rattle.ppm_step.specs.State.{next_of, seeks_holder}
 use Rattle.ppm_choice.specs.Paces.{AreClear}
 use Rattle.ppm_table.specs.Run.{stands_by}
 use Rattle.ppm_table.specs.Shown.{deeds_of_processor, opening_of}
-use Rattle.ppm_threads.specs.Going.{HasQuit}
 use Rattle.ppm_threads.proofs.GoingLemmas.{obeying_along, grows_along, more_along, obeying_still}
+use Rattle.ppm_threads.proofs.ActLemmas.{gave_up}
 use Rattle.ppm_threads.proofs.going.go_ahead.Goals as goal
 
 -- the watcher refused one
 pub returns-then-row-clause-goes : goal.returns-then-row-clause-goes
 returns-then-row-clause-goes g c victims o =
-    subst (λ (n : ℕ). HasQuit (opening_of c.args.shared.now) n (deeds_of_processor c.give_way.new.processor)) c.steps-row.ensures.own c.give_way.ensures.quits
+    gave_up g.W.Watch.told (opening_of c.args.shared.now) c.args.processor.now.local.own c.args.processor.now.seat.me c.steps-row.new.processor.seat.me
+    c.args.watch.now c.steps-row.new.watch (c.steps-row.ensures.stops c.if-row.true)
 
 -- none was made
 pub returns-then-row-eq0-clause-goes : goal.returns-then-row-eq0-clause-goes
