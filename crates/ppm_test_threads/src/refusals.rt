@@ -63,7 +63,10 @@ fn one_is_refused_each_event(rt: HostRuntime) -> Result<(), Fail> {
         // What it took stays.
         let told = watch.first().ok_or("a watcher")?;
         assert_eq!(&rt; told.events.len(), left as usize);
-        assert!(&rt; all.events.as_slice().starts_with(told.events.as_slice()), "{left}");
+        assert!(&rt;
+            all.events.as_slice().starts_with(told.events.as_slice()),
+            "{left}"
+        );
         left = left.saturating_add(1);
     }
     assert!(&rt; left > 50);
@@ -78,7 +81,11 @@ fn one_of_three_is_refused(rt: HostRuntime) -> Result<(), Fail> {
     let alloc = rt.alloc();
     // The third event of one that parks is that it does.
     for idle in [Idle::Leave, Idle::Park] {
-        let limits = Limits { looks: 1, idle, ..WIDE };
+        let limits = Limits {
+            looks: 1,
+            idle,
+            ..WIDE
+        };
         for left in 0..3u32 {
             let mut watch = with_bounds(alloc, &[1_000_000, left, 1_000_000, 0])?;
             let answer = run(&rt, alloc, "none", limits, 3, &mut watch)?;

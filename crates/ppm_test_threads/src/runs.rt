@@ -3,9 +3,7 @@ ghost use Rattle.std.specs.Prelude.{◌↔◌, IsTrue};
 ghost use Rattle.ppm_core.specs.Acts.{IsActAmong};
 
 use crate::obeying::obeys;
-use crate::tables::{
-    WIDE, fork_code, fork_machine, fork_shape, is_right, plan_of, recorders, run,
-};
+use crate::tables::{WIDE, fork_code, fork_machine, fork_shape, is_right, plan_of, recorders, run};
 use ppm_choice::{Idle, Limits, Pace, is_over, next_act};
 use ppm_core::Machine;
 use ppm_plan::{Plan, Victims};
@@ -172,7 +170,12 @@ fn sixty_four_end(rt: HostRuntime) -> Result<(), Fail> {
     let keeper = watch.first().ok_or("a first")?;
     assert!(&rt; keeper.events().first().is_some_and(|e| e.step == 4));
     // Its last act finds the finish word set.
-    assert!(&rt; keeper.events().last().is_some_and(|e| e.step == 1 && e.word == 0 && e.value != 0));
+    assert!(&rt;
+        keeper
+            .events()
+            .last()
+            .is_some_and(|e| e.step == 1 && e.word == 0 && e.value != 0)
+    );
     Ok(())
 }
 
@@ -191,7 +194,10 @@ fn three_park(rt: HostRuntime) -> Result<(), Fail> {
         let limits = Limits { seed, ..SHORT };
         let watch = runs_right(&rt, alloc, "none", limits, 3)?;
         let keeper = watch.first().ok_or("a first")?;
-        assert!(&rt; !keeper.events().iter().any(|e| e.step == 7), "the keeper parks");
+        assert!(&rt;
+            !keeper.events().iter().any(|e| e.step == 7),
+            "the keeper parks"
+        );
         // A carry word, a restart word, and then it parks.
         for number in 1..3usize {
             let other = watch.get(number).ok_or("another")?;

@@ -215,9 +215,7 @@ fn rest_first<W: Watch, R: Wait>(
     let Some(act) = next_act(pace, victims, plan, Limits { looks: 1, ..limits }) else {
         unreachable!()
     };
-    way_of(make(
-        shared, unparkers, limits, processor, pace, watch, act,
-    ))
+    way_of(make(shared, unparkers, limits, processor, pace, watch, act))
 }
 
 /// Makes the next act, if there is one.
@@ -252,9 +250,7 @@ fn act<W: Watch, R: Wait>(
             rt, shared, unparkers, parker, plan, limits, processor, pace, victims, watch,
         );
     };
-    way_of(make(
-        shared, unparkers, limits, processor, pace, watch, act,
-    ))
+    way_of(make(shared, unparkers, limits, processor, pace, watch, act))
 }
 
 /// Some steps in a row that surely obey, or else the next act.
