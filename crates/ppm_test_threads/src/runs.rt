@@ -1,5 +1,6 @@
 //! Runs whose watchers refuse nothing: what they are told, and what the words are behind the run.
-ghost use Rattle.std.specs.Prelude.{◌≡◌};
+ghost use Rattle.std.specs.Prelude.{◌↔◌, IsTrue};
+ghost use Rattle.ppm_core.specs.Acts.{IsActAmong};
 
 use crate::obeying::obeys;
 use crate::tables::{WIDE, fork_code, fork_machine, fork_shape, is_right, plan_of, recorders, run};
@@ -7,7 +8,7 @@ use ppm_choice::{Idle, Limits, Pace, is_over, next_act};
 use ppm_core::Machine;
 use ppm_plan::{Plan, Victims};
 use ppm_ports::Recorder;
-use ppm_step::{Act, Turn};
+use ppm_step::{Act, Told, Turn};
 use ppm_table::Closed;
 use ppm_words::Event;
 use std::alloc::Global;
@@ -16,7 +17,28 @@ use std::sync::Wait;
 use std::test::Fail;
 use std::thread::Threads;
 
-/// Makes the next act of processor 0, if it is alone: its event. `None` where it makes none.
+/// Whether the victim of an act is there.
+fn is_among(processors: u32, act: Act) -> bool
+    ensures { IsTrue result ↔ IsActAmong processors act }
+{
+    match act {
+        Act::Step { victim } => victim < processors,
+        Act::Soft | Act::Hard | Act::Quit(_) => true,
+    }
+}
+
+/// An act of processor 0, if its victim is there: what is told of it, and whether a victim is due
+/// behind it.
+fn take_turn(machine: &mut Machine, act: Act) -> Option<(Told, bool)> {
+    let processors = machine.processors();
+    if processors < 1 || !is_among(processors, act) || machine.turns() > 100_000 {
+        return None;
+    }
+    let told = machine.turn(Turn { processor: 0, act });
+    Some((told, machine.seeks_holder(0)))
+}
+
+/// Makes the next act of processor 0: its event. `None` where it makes none.
 fn act_alone(
     machine: &mut Machine,
     pace: &mut Pace,
@@ -24,18 +46,11 @@ fn act_alone(
     plan: &Plan,
     limits: Limits,
 ) -> Option<Event> {
-    let many = machine.turns() > 100_000 || pace.work > 100_000;
-    if many || is_over(pace.next) || machine.processors() != 1 {
+    if is_over(pace.next) || pace.work > 100_000 {
         return None;
     }
     let act = next_act(pace, victims, plan, limits)?;
-    if let Act::Step { victim } = act {
-        if victim != 0 {
-            return None;
-        }
-    }
-    let told = machine.turn(Turn { processor: 0, act });
-    let due = machine.seeks_holder(0);
+    let (told, due) = take_turn(machine, act)?;
     pace.count(limits, told, due);
     told.event
 }

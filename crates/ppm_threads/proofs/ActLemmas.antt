@@ -33,13 +33,18 @@ use Rattle.ppm_threads.specs.declared.way.Way.{Way}
 use Rattle.ppm_table.specs.Shown.{IsOf, deeds_of_processor, opening_of}
 use Rattle.ppm_table.specs.Telling.{event_of_deed}
 use Rattle.ppm_table.proofs.TellingLemmas.{appended}
+use Rattle.ppm_stretch.specs.Rows.{GivesUp, Quits}
+use Rattle.ppm_stretch.specs.Steady.{Lives}
 use Rattle.ppm_threads.specs.Going.{Grows, KeepsMore, HasQuit, Obeying, Acting, told_so_far, told_of_deeds, GoesOn, way_of}
 use Rattle.ppm_threads.proofs.DrawnLemmas.{is_act_at}
-use Rattle.ppm_threads.proofs.GoingLemmas.{act_told, obeying_more, grows_more}
+use Rattle.ppm_threads.proofs.AlongLemmas.{act_told}
+use Rattle.ppm_threads.proofs.GoingLemmas.{obeying_more, grows_more}
 
 -- the next act of a processor on its way
-pub next_own : (plan : Planned) (limits : Limits) (k : Opening) (own : ℕ) (deeds : List Deed) (pace : Pace) (victims victims' : Drawing) (act : Option Act) → (o : Obeying plan limits k own deeds pace victims)
-    → ((past : Past) (stood : Standing) → IsPace plan limits past stood pace → HasDrawn plan limits pace.processor past victims → IsNext plan limits pace.processor past stood victims' act)
+pub next_own : (plan : Planned) (limits : Limits) (k : Opening) (own : ℕ) (deeds : List Deed) (pace : Pace) (victims victims' : Drawing)
+    (act : Option Act) → (o : Obeying plan limits k own deeds pace victims)
+    → ((past : Past) (stood : Standing) → IsPace plan limits past stood pace → HasDrawn plan limits pace.processor past victims
+    → IsNext plan limits pace.processor past stood victims' act)
     → IsNext plan limits own o.past (stands_by k own deeds) victims' act
 next_own plan limits k own deeds pace victims victims' act o next =
     subst (λ (c : ℕ). IsNext plan limits c o.past (stands_by k own deeds) victims' act) o.number
@@ -69,16 +74,27 @@ done_or (IsBroken place) = inr (λ e. cc)
 
 pub has_quit : (s : Shared) (p q : Processor) (told : Told) → IsOf s q → q.local.own ≡ p.local.own
     → (standing_of s.shape s.code p.local ≢ IsDone
-    → HasActed s.shape s.code p.local.own (Quit Watch) (standing_of s.shape s.code p.local) (standing_of s.shape s.code q.local) (deeds_of_processor p) (deeds_of_processor q) told)
+    → HasActed s.shape s.code p.local.own (Quit Watch) (standing_of s.shape s.code p.local) (standing_of s.shape s.code q.local) (deeds_of_processor p)
+    (deeds_of_processor q) told)
     → (standing_of s.shape s.code p.local ≡ IsDone
     → HasRested (standing_of s.shape s.code p.local) (standing_of s.shape s.code q.local) (deeds_of_processor p) (deeds_of_processor q) told)
     → HasQuit (opening_of s) p.local.own (deeds_of_processor q)
 has_quit s p q told of same acted rested = by (done_or (standing_of s.shape s.code p.local))
   where
-    by : (standing_of s.shape s.code p.local ≡ IsDone) ⊎ (standing_of s.shape s.code p.local ≢ IsDone) → HasQuit (opening_of s) p.local.own (deeds_of_processor q)
+    by : (standing_of s.shape s.code p.local ≡ IsDone) ⊎ (standing_of s.shape s.code p.local ≢ IsDone)
+        → HasQuit (opening_of s) p.local.own (deeds_of_processor q)
     by (inl done) =
         inl (sym (of.stands ∙ ap (λ (c : ℕ). stands_by (opening_of s) c (deeds_of_processor q)) same) ∙ (rested done).stands ∙ done)
     by (inr lives) = inr (deeds_of_processor p, (acted lives).deed)
+
+-- one that has given up in a row of steps has quit
+pub gave_up : {W : Type 0} (told : W → Option (List Event)) (k : Opening) (own : ℕ) (me me' : Mine) (w w' : W) → GivesUp told k own me me' w w'
+    → HasQuit k own (deeds_in me'.0)
+gave_up told k own me me' w w' g = by g.lives g.refuses.stays g.quits
+  where
+    by : (lives : Bool) → Lives k own g.behind lives → Quits g.behind me' lives → HasQuit k own (deeds_in me'.0)
+    by true stays quits = inr (deeds_in g.behind.0, quits)
+    by false stays quits = inl (ap (λ (m : Mine). stands_by k own (deeds_in m.0)) quits ∙ stays.1)
 
 -- the event of a turn is that of its deed
 step_says : (s : Shape) (own found : ℕ) (st : Standing) (want : Want) → event_found (place_of st) want found ≡ event_of_deed s own st (deed_by want found)
@@ -102,7 +118,8 @@ pub some_told : (e : Event) → Some e ≡ None → ⊥
 some_told e is = cc
 
 module _ (s : Shared) (p q : Processor) (act : Act) (told : Told) (of : IsOf s p) (of' : IsOf s q) (same : q.local.own ≡ p.local.own)
-    (acted : HasActed s.shape s.code p.local.own act (standing_of s.shape s.code p.local) (standing_of s.shape s.code q.local) (deeds_of_processor p) (deeds_of_processor q) told)
+    (acted : HasActed s.shape s.code p.local.own act (standing_of s.shape s.code p.local) (standing_of s.shape s.code q.local) (deeds_of_processor p)
+    (deeds_of_processor q) told)
     (lives : standing_of s.shape s.code p.local ≢ IsDone) (may : IsActAt s.shape (standing_of s.shape s.code p.local) act) where
   abbrev k : Opening
   k = opening_of s
@@ -127,7 +144,8 @@ module _ (s : Shared) (p q : Processor) (act : Act) (told : Told) (of : IsOf s p
   pub acts_obey : (plan : Planned) (limits : Limits) (past : Past) (pace pace' : Pace) (victims : Drawing) (due : Bool)
       → (a : Acting plan limits k own (deeds_of_processor p) past pace victims act)
       → pace'.processor ≡ pace.processor → due ≡ seeks_holder (standing_of s.shape s.code q.local)
-      → ((pl : Planned) (past : Past) (d : Acted) (stands : Standing) → IsPace pl limits past d.stood pace → told.work ≡ is_work_deed d → told.next ≡ next_of stands → due ≡ seeks_holder stands
+      → ((pl : Planned) (past : Past) (d : Acted) (stands : Standing) → IsPace pl limits past d.stood pace → told.work ≡ is_work_deed d
+      → told.next ≡ next_of stands → due ≡ seeks_holder stands
       → IsPace pl limits (past_behind past d) stands pace')
       → Obeying plan limits k own (deeds_of_processor q) pace' victims
   acts_obey plan limits past pace pace' victims due a number is_due counts =
@@ -148,12 +166,14 @@ module _ (s : Shared) (p q : Processor) (act : Act) (told : Told) (of : IsOf s p
   acts_grow plan limits past pace victims before now event a is heard =
       let event_is : event ≡ event_of_deed k.shape own (stands_by k own (deeds_of_processor p)) deed =
       some_event _ _ (sym is ∙ acted.event) ∙ act_says s.shape s.code own acted.found st act
-      ∙ ap (λ (x : Standing). event_of_deed s.shape own x deed) of.stands ∙ ap (λ (t : Shape). event_of_deed t own (stands_by k own (deeds_of_processor p)) deed) (sym s.told.0) in
+      ∙ ap (λ (x : Standing). event_of_deed s.shape own x deed) of.stands ∙ ap (λ (t : Shape). event_of_deed t own
+      (stands_by k own (deeds_of_processor p)) deed) (sym s.told.0) in
       grows_more plan limits k own (deeds_of_processor p) (deeds_of_processor q) deed act past pace victims a acted.deed tells before now
       (λ list e. appended before now event list heard e ∙ ap (λ (x : Event). Some (list ++ x ∷ [])) event_is)
 
 -- where a processor goes behind an act that its watcher took, or refused
-pub goes_by_act : (plan : Planned) (limits : Limits) (k : Opening) (own : ℕ) (before first now : Option (List Event)) (me me' : Mine) (past : Past) (pace' : Pace) (victims : Drawing)
+pub goes_by_act : (plan : Planned) (limits : Limits) (k : Opening) (own : ℕ) (before first now : Option (List Event)) (me me' : Mine) (past : Past)
+    (pace' : Pace) (victims : Drawing)
     → (taken : Bool) (way : Way) → way ≡ way_of taken
     → Grows before first (told_of_deeds plan limits k own (deeds_in me.0)) (told_so_far plan limits k own (deeds_in me.0) past)
     → (taken ≡ true → Obeying plan limits k own (deeds_in me'.0) pace' victims

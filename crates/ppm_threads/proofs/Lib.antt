@@ -1,7 +1,7 @@
 -- How the driver is shown. Of each processor one list is known, its deeds (`Obeying`): what it has
 -- done obeys so far, and whatever obeys behind it obeys from the beginning on (`Follows`). Steps in
--- a row and single acts add to it (`GoingLemmas`, `ActLemmas`), without a run, and so the loop of a
--- thread (`RunningLemmas`).
+-- a row and single acts add to it (`AlongLemmas`, `GoingLemmas`, `ActLemmas`; behind a park
+-- `ParkedLemmas`), without a run, and so does the loop of a thread (`RunningLemmas`).
 -- Threads work on halves of the processors (`HalvesLemmas`, recursions on four lists). When the
 -- table is closed, what the deeds say becomes what the run says (`ClosingLemmas`); that turns name
 -- processors of the machine is `AmongLemmas`, what the finish word says `FinishLemmas`.
@@ -9,7 +9,9 @@
 
 mod RestingLemmas
 mod DrawnLemmas
+mod AlongLemmas
 mod GoingLemmas
+mod ParkedLemmas
 mod ActLemmas
 mod RunningLemmas
 mod ClosingLemmas

@@ -37,7 +37,8 @@ module _ {W : Type 0} (told : W → Option (List Event)) (plan : Planned) (limit
   obeying_own q v pace victims r = subst (λ (c : ℕ). Obeying plan limits k c (deeds_of_processor q) pace victims) (sym r.own_is) r.obeying
 
   module _ (q : Processor) (v : W) (pace : Pace) (victims : Drawing) (r : Runs q v pace victims)
-      (q' : Processor) (v' : W) (pace' : Pace) (victims' : Drawing) (of : IsOf s q') (same : q'.local.own ≡ q.local.own) (keeps : Keeps (told v) (told v')) where
+      (q' : Processor) (v' : W) (pace' : Pace) (victims' : Drawing) (of : IsOf s q') (same : q'.local.own ≡ q.local.own)
+      (keeps : Keeps (told v) (told v')) where
     abbrev Goes : Way → Type 0
     Goes way = GoesOn plan limits k own (told v) (told v') q.seat.me q'.seat.me pace' victims' way
 
@@ -66,7 +67,8 @@ module _ {W : Type 0} (told : W → Option (List Event)) (plan : Planned) (limit
     }
 
     -- its watcher refuses
-    pub runs_refused : GoesOn plan limits k q.local.own (told v) (told v') q.seat.me q'.seat.me pace' victims' Refused → Ends told plan limits s false p w q' v'
+    pub runs_refused : GoesOn plan limits k q.local.own (told v) (told v') q.seat.me q'.seat.me pace' victims' Refused
+        → Ends told plan limits s false p w q' v'
     runs_refused g = let mine = goes_own Refused g in record {
       of = of;
       own = same ∙ r.own_is;

@@ -90,7 +90,7 @@ fn go_ahead<W: Watch>(
     let most = clear_steps(pace, plan, limits).min(most_at_once(limits));
     let row = steps(processor, shared, most, watch);
     if row.refused {
-        give_way(shared, unparkers, limits, processor);
+        wake(unparkers, limits);
         return None;
     }
     if row.made == 0 {

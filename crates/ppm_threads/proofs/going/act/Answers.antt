@@ -4,7 +4,8 @@ use Rattle.ppm_step.specs.Locals.{standing_of}
 use Rattle.ppm_step.specs.State.{next_of}
 use Rattle.ppm_table.specs.Run.{stands_by}
 use Rattle.ppm_table.specs.Shown.{deeds_of_processor, opening_of}
-use Rattle.ppm_threads.proofs.GoingLemmas.{over_is, obeys_all, lives_on, acting_next, grows_from}
+use Rattle.ppm_threads.proofs.AlongLemmas.{over_is, lives_on}
+use Rattle.ppm_threads.proofs.GoingLemmas.{obeys_all, acting_next, grows_from}
 use Rattle.ppm_threads.proofs.ActLemmas.{next_own, may_act, goes_by_act}
 use Rattle.ppm_threads.proofs.going.act.Goals as goal
 
@@ -25,7 +26,8 @@ rest_first-requires-clause-resting g c κs within =
     let k = opening_of c.args.shared.now in
     let p = c.args.processor.now in
     let o = c.requires.obeying in
-    let rests = next_own c.args.plan.now c.args.limits k p.local.own (deeds_of_processor p) c.args.pace.now c.args.victims.now c.next_act.new.victims None o c.in_default.ensures in
+    let rests = next_own c.args.plan.now c.args.limits k p.local.own (deeds_of_processor p) c.args.pace.now c.args.victims.now c.next_act.new.victims
+    None o c.in_default.ensures in
     record {
       obeying = record { past = o.past; number = o.number; pace_is = o.pace_is; drawn = rests.1; follows = o.follows };
       rests = rests.0;
@@ -43,7 +45,8 @@ make-requires-clause-may g c κs within =
     let shared = c.args.shared.now in
     let p = c.args.processor.now in
     let o = c.requires.obeying in
-    let next = next_own c.args.plan.now c.args.limits (opening_of shared) p.local.own (deeds_of_processor p) c.args.pace.now c.args.victims.now c.next_act.new.victims (Some c.in-Some.act) o c.in-Some.ensures in
+    let next = next_own c.args.plan.now c.args.limits (opening_of shared) p.local.own (deeds_of_processor p) c.args.pace.now c.args.victims.now
+    c.next_act.new.victims (Some c.in-Some.act) o c.in-Some.ensures in
     may_act shared p c.args.plan.now c.args.limits o.past c.in-Some.act c.requires.of c.requires.plan next.1
 
 pub returns-clause-goes : goal.returns-clause-goes
@@ -53,10 +56,14 @@ returns-clause-goes g c =
     let p = c.args.processor.now in
     let own = p.local.own in
     let o = c.requires.obeying in
-    let next = next_own c.args.plan.now c.args.limits k own (deeds_of_processor p) c.args.pace.now c.args.victims.now c.next_act.new.victims (Some c.in-Some.act) o c.in-Some.ensures in
-    let lives : stands_by k own (deeds_of_processor p) ≢ IsDone = lives_on c.args.pace.now.next (stands_by k own (deeds_of_processor p)) (sym c.is_over.ensures ∙ c.if-is_over.false) o.pace_is.next in
-    let a = acting_next c.args.plan.now c.args.limits k own (deeds_of_processor p) c.args.pace.now c.args.victims.now c.next_act.new.victims c.in-Some.act o lives next in
-    goes_by_act c.args.plan.now c.args.limits k own (g.W.Watch.told c.args.watch.now) (g.W.Watch.told c.args.watch.now) (g.W.Watch.told c.make.new.watch) p.seat.me c.make.new.processor.seat.me
+    let next = next_own c.args.plan.now c.args.limits k own (deeds_of_processor p) c.args.pace.now c.args.victims.now c.next_act.new.victims
+    (Some c.in-Some.act) o c.in-Some.ensures in
+    let lives : stands_by k own (deeds_of_processor p) ≢ IsDone = lives_on c.args.pace.now.next (stands_by k own (deeds_of_processor p))
+    (sym c.is_over.ensures ∙ c.if-is_over.false) o.pace_is.next in
+    let a = acting_next c.args.plan.now c.args.limits k own (deeds_of_processor p) c.args.pace.now c.args.victims.now c.next_act.new.victims
+    c.in-Some.act o lives next in
+    goes_by_act c.args.plan.now c.args.limits k own (g.W.Watch.told c.args.watch.now) (g.W.Watch.told c.args.watch.now)
+    (g.W.Watch.told c.make.new.watch) p.seat.me c.make.new.processor.seat.me
     o.past c.make.new.pace c.next_act.new.victims c.make.result c.way_of.result c.way_of.ensures
     (grows_from c.args.plan.now c.args.limits k own (deeds_of_processor p) o.past (g.W.Watch.told c.args.watch.now) next.0)
     (λ taken. c.make.ensures.obeys taken c.args.plan.now o.past c.next_act.new.victims a) c.make.ensures.quits

@@ -13,7 +13,8 @@ act-requires-clause-few g c κs within =
 
 pub act-requires-clause-obeying : goal.act-requires-clause-obeying
 act-requires-clause-obeying g c κs within =
-    subst (λ (n : ℕ). Obeying c.args.plan.now c.args.limits (opening_of c.args.shared.now) n (deeds_of_processor c.go_ahead.new.processor) c.go_ahead.new.pace c.args.victims.now)
+    subst (λ (n : ℕ). Obeying c.args.plan.now c.args.limits (opening_of c.args.shared.now) n (deeds_of_processor c.go_ahead.new.processor)
+    c.go_ahead.new.pace c.args.victims.now)
     (sym c.go_ahead.ensures.own) (c.in-Some.ensures.goes c.args.victims.now c.requires.obeying).0
 
 -- the watcher refused one
@@ -30,10 +31,12 @@ returns-then-made-eq0-clause-goes g c =
     let p = c.args.processor.now in
     let goes = c.in-Some.ensures.goes c.args.victims.now c.requires.obeying in
     let none = c.if-made-eq0.true in
-    goes_behind c.args.plan.now c.args.limits k p.local.own (g.W.Watch.told c.args.watch.now) (g.W.Watch.told c.go_ahead.new.watch) (g.W.Watch.told c.act.new.watch)
+    goes_behind c.args.plan.now c.args.limits k p.local.own (g.W.Watch.told c.args.watch.now) (g.W.Watch.told c.go_ahead.new.watch)
+    (g.W.Watch.told c.act.new.watch)
     p.seat.me c.go_ahead.new.processor.seat.me c.act.new.processor.seat.me c.act.new.pace c.act.new.victims c.act.result goes.1
     (let more = goes.2 in omega (arith, more, none))
-    (subst (λ (n : ℕ). GoesOn c.args.plan.now c.args.limits k n (g.W.Watch.told c.go_ahead.new.watch) (g.W.Watch.told c.act.new.watch) c.go_ahead.new.processor.seat.me c.act.new.processor.seat.me
+    (subst (λ (n : ℕ). GoesOn c.args.plan.now c.args.limits k n (g.W.Watch.told c.go_ahead.new.watch) (g.W.Watch.told c.act.new.watch)
+    c.go_ahead.new.processor.seat.me c.act.new.processor.seat.me
     c.act.new.pace c.act.new.victims c.act.result) c.go_ahead.ensures.own c.act.ensures.goes)
 
 -- some were

@@ -3,7 +3,8 @@ use Rattle.ppm_step.specs.Told.{place_of}
 use Rattle.ppm_table.specs.Run.{stands_by}
 use Rattle.ppm_table.specs.Shown.{deeds_of_processor, opening_of}
 use Rattle.ppm_table.proofs.TellingLemmas.{keeps_both}
-use Rattle.ppm_threads.proofs.GoingLemmas.{obeys_all, leaves_if, parks_if, rests_live, acting_rested, grows_parked, none_rests, next_rested}
+use Rattle.ppm_threads.proofs.GoingLemmas.{obeys_all}
+use Rattle.ppm_threads.proofs.ParkedLemmas.{leaves_if, parks_if, rests_live, acting_rested, grows_parked, none_rests, next_rested}
 use Rattle.ppm_threads.proofs.ActLemmas.{may_act, goes_by_act}
 use Rattle.ppm_threads.proofs.going.rest_first.Goals as goal
 
@@ -25,7 +26,8 @@ unreachable-requires g c =
     let p = c.args.processor.now in
     let r = c.requires.resting in
     let st = stands_by k p.local.own (deeds_of_processor p) in
-    let next = next_rested c.args.plan.now c.args.limits k p.local.own (deeds_of_processor p) c.args.pace.now c.rest.new.self c.args.victims.now c.next_act.new.victims None r
+    let next = next_rested c.args.plan.now c.args.limits k p.local.own (deeds_of_processor p) c.args.pace.now c.rest.new.self c.args.victims.now
+    c.next_act.new.victims None r
     c.rest.ensures.number (c.rest.ensures.pace c.args.plan.now c.args.limits r.obeying.past st r.obeying.pace_is) c.in_default.ensures in
     none_rests c.args.plan.now c.args.limits p.local.own r.obeying.past st next.0
 
@@ -51,7 +53,8 @@ make-requires-clause-may g c κs within =
     let p = c.args.processor.now in
     let r = c.requires.resting in
     let st = stands_by k p.local.own (deeds_of_processor p) in
-    let next = next_rested c.args.plan.now c.args.limits k p.local.own (deeds_of_processor p) c.args.pace.now c.rest.new.self c.args.victims.now c.next_act.new.victims (Some c.in-Some.act) r
+    let next = next_rested c.args.plan.now c.args.limits k p.local.own (deeds_of_processor p) c.args.pace.now c.rest.new.self c.args.victims.now
+    c.next_act.new.victims (Some c.in-Some.act) r
     c.rest.ensures.number (c.rest.ensures.pace c.args.plan.now c.args.limits r.obeying.past st r.obeying.pace_is) c.in-Some.ensures in
     may_act shared p c.args.plan.now c.args.limits r.obeying.past c.in-Some.act c.requires.of c.requires.plan next.1
 
@@ -68,13 +71,17 @@ returns-clause-goes g c =
     let st = stands_by k own (deeds_of_processor p) in
     let idle = parks_if c.args.limits.idle (sym c.is_park.ensures ∙ c.if-not-is_park.false) in
     let pace_is = c.rest.ensures.pace c.args.plan.now c.args.limits r.obeying.past st r.obeying.pace_is in
-    let next = next_rested c.args.plan.now c.args.limits k own (deeds_of_processor p) c.args.pace.now c.rest.new.self c.args.victims.now c.next_act.new.victims (Some c.in-Some.act) r
+    let next = next_rested c.args.plan.now c.args.limits k own (deeds_of_processor p) c.args.pace.now c.rest.new.self c.args.victims.now
+    c.next_act.new.victims (Some c.in-Some.act) r
     c.rest.ensures.number pace_is c.in-Some.ensures in
-    let a = acting_rested c.args.plan.now c.args.limits k own (deeds_of_processor p) c.args.pace.now c.rest.new.self c.args.victims.now c.next_act.new.victims c.in-Some.act r idle
+    let a = acting_rested c.args.plan.now c.args.limits k own (deeds_of_processor p) c.args.pace.now c.rest.new.self c.args.victims.now
+    c.next_act.new.victims c.in-Some.act r idle
     c.rest.ensures.number pace_is next in
     let event = c.parked_at.ensures st (c.place.ensures shared.shape shared.code ∙ ap place_of c.requires.of.stands) in
-    goes_by_act c.args.plan.now c.args.limits k own (g.W.Watch.told c.args.watch.now) (g.W.Watch.told c.hear.new.watch) (g.W.Watch.told c.make.new.watch) p.seat.me c.make.new.processor.seat.me
+    goes_by_act c.args.plan.now c.args.limits k own (g.W.Watch.told c.args.watch.now) (g.W.Watch.told c.hear.new.watch)
+    (g.W.Watch.told c.make.new.watch) p.seat.me c.make.new.processor.seat.me
     r.obeying.past c.make.new.pace c.next_act.new.victims c.make.result c.way_of.result c.way_of.ensures
-    (grows_parked c.args.plan.now c.args.limits k own (deeds_of_processor p) r.obeying.past (g.W.Watch.told c.args.watch.now) (g.W.Watch.told c.hear.new.watch) c.parked_at.result idle r.rests event
+    (grows_parked c.args.plan.now c.args.limits k own (deeds_of_processor p) r.obeying.past (g.W.Watch.told c.args.watch.now)
+    (g.W.Watch.told c.hear.new.watch) c.parked_at.result idle r.rests event
     (c.hear.ensures.heard c.if-not-hear.false))
     (λ taken. c.make.ensures.obeys taken c.args.plan.now r.obeying.past c.next_act.new.victims a) c.make.ensures.quits
