@@ -15,6 +15,7 @@ use Rattle.ppm_table.specs.declared.view.Deed.{Deed}
 use Rattle.ppm_table.specs.declared.view.Opening.{Opening}
 use Rattle.ppm_table.specs.Run.{behind, stood, stands_by, deeds_in, deed_by, seen, seated, Mine, IsSeat, IsAsked, IsFound}
 use Rattle.ppm_stretch.specs.Steady.{IsSteady, AreSteady, work_in, looks_in, looks_behind, Goes, Moves, Lives, Refuses}
+use Rattle.ppm_stretch.specs.Rows.{GivesUp}
 use Rattle.ppm_table.specs.Telling.{shown, deeds_since, Keeps, Shows}
 use Rattle.ppm_table.proofs.TellingLemmas.{shown_both, since_is}
 use Rattle.ppm_table.proofs.StandLemmas.{deeds_seen, stands_on, step_told}
@@ -164,6 +165,13 @@ shows_none told k own me w = λ list e.
     e ∙ ap (λ (l : List Event). Some l) (sym (append-nil list))
     ∙ ap (λ (l : List Deed). Some (list ++ shown k.shape k.code own st l)) (sym (since_is me me [] (sym (append-nil _))))
 
+pub from_none : (n looks : ℕ) → looks_behind 0 n looks ≡ looks
+from_none n looks = by (n == 0)
+  where
+    by : (b : Bool) → (if b then 0 + looks else looks) ≡ looks
+    by true = omega arith
+    by false = refl
+
 module _ {W : Type 0} (told : W → Option (List Event)) where
   -- the same with the sums by name, and with a watcher
   pub moves_then : (k : Opening) (own : ℕ) (a b c : Mine) (w0 w1 w2 : W) (m n v w x y made work looks : ℕ) → m + n ≡ made → v + w ≡ work → looks_behind x w y ≡ looks
@@ -187,6 +195,15 @@ module _ {W : Type 0} (told : W → Option (List Event)) where
 
   pub moves_none : (k : Opening) (own : ℕ) (me : Mine) (w : W) → IsSeat own me → Moves told k own me me w w 0 0 0
   moves_none k own me w sits = record { goes = goes_none k own me sits; shows = shows_none told k own me w }
+
+  -- the first of them are none
+  pub moves_behind : (k : Opening) (own : ℕ) (a b c : Mine) (w0 w1 w2 : W) (m n v w x y : ℕ) → m ≤ 0 → v ≤ m → x ≤ m
+      → Moves told k own a b w0 w1 m v x → Moves told k own b c w1 w2 n w y → Moves told k own a c w0 w2 n w y
+  moves_behind k own a b c w0 w1 w2 m n v w x y none few_work few_looks f g =
+      let count : m + n ≡ n = omega (arith, none) in
+      let works : v + w ≡ w = omega (arith, none, few_work) in
+      let no_looks_yet : x ≡ 0 = omega (arith, none, few_looks) in
+      moves_then k own a b c w0 w1 w2 m n v w x y n w y count works (ap (λ (z : ℕ). looks_behind z w y) no_looks_yet ∙ from_none w y) f g
 
   -- nothing changed behind them
   pub moves_same : (k : Opening) (own : ℕ) (a b c : Mine) (w0 w1 w2 : W) (m v x : ℕ) → Moves told k own a b w0 w1 m v x → c ≡ b → w2 ≡ w1 → Moves told k own a c w0 w2 m v x
@@ -232,19 +249,22 @@ module _ {W : Type 0} (told : W → Option (List Event)) where
     stays = r.stays;
   }
 
+  -- a processor that gives up behind steps that its watcher was told of
+  pub gives_up_behind : (k : Opening) (own : ℕ) (a b c : Mine) (w0 w1 w2 : W) (m v x : ℕ) → Moves told k own a b w0 w1 m v x
+      → GivesUp told k own b c w1 w2 → GivesUp told k own a c w0 w2
+  gives_up_behind k own a b c w0 w1 w2 m v x f g = record {
+    lives = g.lives;
+    behind = g.behind;
+    refuses = refuses_then k own a b g.behind w0 w1 w2 m v x g.lives f g.refuses;
+    quits = g.quits;
+  }
+
 -- no looks behind work
 pub no_looks : (n : ℕ) → looks_behind 0 n 0 ≡ 0
 no_looks n = by (n == 0)
   where
     by : (b : Bool) → (if b then 0 + 0 else 0) ≡ 0
     by true = refl
-    by false = refl
-
-pub from_none : (n looks : ℕ) → looks_behind 0 n looks ≡ looks
-from_none n looks = by (n == 0)
-  where
-    by : (b : Bool) → (if b then 0 + looks else looks) ≡ looks
-    by true = omega arith
     by false = refl
 
 -- a processor within a capsule isn't done

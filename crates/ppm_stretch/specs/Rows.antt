@@ -1,5 +1,5 @@
 -- Steps in a row, whatever rows they are of.
-use Rattle.std.specs.Prelude.{◌≡◌, ℕ, Bool, true, false, List, [], ◌∷◌, ◌++◌, Option}
+use Rattle.std.specs.Prelude.{◌≡◌, ◌⊎◌, ℕ, Bool, true, false, List, [], ◌∷◌, ◌++◌, Option}
 use Rattle.ppm_code.specs.declared.work.Reached.{Reached}
 use Rattle.ppm_code.specs.declared.work.Reached.TheVariants.{Before, AtEnd}
 use Rattle.ppm_words.specs.declared.event.Event.{Event}
@@ -7,6 +7,9 @@ use Rattle.ppm_step.specs.declared.running.Stage.{Stage}
 use Rattle.ppm_step.specs.declared.running.Stage.TheVariants as stages
 use Rattle.ppm_table.specs.declared.view.Opening.{Opening}
 use Rattle.ppm_stretch.specs.declared.way.Steps.{Steps}
+use Rattle.ppm_step.specs.Standings.{Standing}
+use Rattle.ppm_step.specs.State.{next_of, seeks_holder}
+use Rattle.ppm_step.specs.declared.turn.Next.TheVariants.{Seek, Done}
 use Rattle.ppm_step.specs.declared.turn.Why.TheVariants.{Watch}
 use Rattle.ppm_table.specs.declared.view.Deed.TheVariants.{Quitted}
 use Rattle.ppm_table.specs.Run.{deeds_in, Mine}
@@ -37,3 +40,7 @@ module _ {W : Type 0} (told : W → Option (List Event)) where
   -- so it is where it refused one
   abbrev pub Stops : Opening → (own : ℕ) → Mine → Mine → W → W → Steps → Type 0
   Stops k own me me' w w' steps = steps.refused ≡ true → GivesUp k own me me' w w'
+
+-- something is to be chosen for the coming step: a victim is due, or the processor would seek work; or it takes no step any more
+abbrev pub IsChoosing : Standing → Type 0
+IsChoosing standing = (seeks_holder standing ≡ true) ⊎ ((next_of standing ≡ Seek) ⊎ (next_of standing ≡ Done))

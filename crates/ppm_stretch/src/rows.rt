@@ -10,7 +10,7 @@ ghost use Rattle.ppm_step.specs.declared.turn.Next.TheVariants.{Seek};
 ghost use Rattle.ppm_table.specs.Run.{stands_by, deeds_in, IsAtCode, IsSeat};
 ghost use Rattle.ppm_table.specs.Shown.{IsOf, opening_of};
 ghost use Rattle.ppm_table.specs.Telling.{Keeps};
-ghost use Rattle.ppm_stretch.specs.Rows.{Makes, Stops};
+ghost use Rattle.ppm_stretch.specs.Rows.{IsChoosing, Makes, Stops};
 ghost use Rattle.ppm_stretch.specs.Steady.{Moves, Refuses, looks_behind};
 
 use crate::frames::{ends, rounds};
@@ -101,6 +101,7 @@ fn some_steps<W: Watch>(
     ensures few { (result.made ≤ most) × (result.work ≤ result.made) × (result.looks ≤ result.made) }
     ensures makes { Makes W.told words.now.shared.key local.old.own mine.old.me mine.new.me watch.old watch.new result }
     ensures stops { Stops W.told words.now.shared.key local.old.own mine.old.me mine.new.me watch.old watch.new result }
+    ensures on { result.refused ≡ false → result.made ≡ 0 → IsChoosing (standing_of shape.now code.now local.new) }
     ensures sits_on { IsSeat local.old.own mine.new.me }
     ensures stands_on { standing_of shape.now code.now local.new ≡ stands_by words.now.shared.key local.old.own (deeds_in mine.new.me.0) }
     ensures holds { IsLocal shape.now code.now local.new }
@@ -109,15 +110,29 @@ fn some_steps<W: Watch>(
     if let Stand::At { place, restart } = local.stand {
         if let Some(restart) = restart {
             if is_of_frame(restart.kind) && most >= 2 {
-                return rounds(local, words, mine, watch, shape, code, place, restart, most);
+                let circled = rounds(local, words, mine, watch, shape, code, place, restart, most);
+                if circled.refused {
+                    return circled;
+                }
+                if circled.made > 0 {
+                    return circled;
+                }
+                return other_step(local, words, mine, watch, shape, code);
             }
         }
     }
     if let Stand::Runs(under_way) = local.stand {
         if let Stage::Ending(end, n) = under_way.stage {
-            return ends(
+            let ended = ends(
                 local, words, mine, watch, shape, code, under_way, end, n, most,
             );
+            if ended.refused {
+                return ended;
+            }
+            if ended.made > 0 {
+                return ended;
+            }
+            return other_step(local, words, mine, watch, shape, code);
         }
     }
     other_step(local, words, mine, watch, shape, code)
@@ -160,6 +175,7 @@ fn other_step<W: Watch>(
     ensures few { (result.made ≤ 1) × (result.work ≤ result.made) × (result.looks ≤ result.made) }
     ensures makes { Makes W.told words.now.shared.key local.old.own mine.old.me mine.new.me watch.old watch.new result }
     ensures stops { Stops W.told words.now.shared.key local.old.own mine.old.me mine.new.me watch.old watch.new result }
+    ensures on { result.refused ≡ false → result.made ≡ 0 → IsChoosing (standing_of shape.now code.now local.new) }
     ensures sits_on { IsSeat local.old.own mine.new.me }
     ensures stands_on { standing_of shape.now code.now local.new ≡ stands_by words.now.shared.key local.old.own (deeds_in mine.new.me.0) }
     ensures holds { IsLocal shape.now code.now local.new }
@@ -183,7 +199,8 @@ fn other_step<W: Watch>(
             give_way(local, words, mine, shape, code);
             REFUSED
         },
-        Next::Seek | Next::Done => NONE,
+        Next::Seek => NONE,
+        Next::Done => NONE,
     }
 }
 
@@ -206,6 +223,7 @@ pub(crate) fn steps_along<W: Watch>(
     ensures few { (result.made ≤ most) × (result.work ≤ result.made) × (result.looks ≤ result.made) }
     ensures makes { Makes W.told words.now.shared.key local.old.own mine.old.me mine.new.me watch.old watch.new result }
     ensures stops { Stops W.told words.now.shared.key local.old.own mine.old.me mine.new.me watch.old watch.new result }
+    ensures on { result.refused ≡ false → result.made < most → IsChoosing (standing_of shape.now code.now local.new) }
     ensures sits_on { IsSeat local.old.own mine.new.me }
     ensures stands_on { standing_of shape.now code.now local.new ≡ stands_by words.now.shared.key local.old.own (deeds_in mine.new.me.0) }
     ensures holds { IsLocal shape.now code.now local.new }
@@ -264,6 +282,7 @@ pub fn steps<W: Watch>(
         watch.old watch.new result }
     ensures stops { Stops W.told (opening_of shared.now) processor.old.local.own processor.old.seat.me processor.new.seat.me
         watch.old watch.new result }
+    ensures on { result.refused ≡ false → result.made < most → IsChoosing (standing_of shared.now.shape shared.now.code processor.new.local) }
 {
     steps_along(
         &mut processor.local,

@@ -3,7 +3,7 @@ use Rattle.ppm_table.specs.Run.{stands_by, deeds_in, IsSeat}
 use Rattle.ppm_stretch.specs.declared.way.Steps.{Steps}
 use Rattle.ppm_stretch.specs.Rows.{GivesUp}
 use Rattle.ppm_stretch.specs.Steady.{Moves, looks_behind}
-use Rattle.ppm_stretch.proofs.SteadyLemmas.{moves_then, moves_idle, refuses_then}
+use Rattle.ppm_stretch.proofs.SteadyLemmas.{moves_then, moves_idle, gives_up_behind}
 use Rattle.ppm_table.proofs.TellingLemmas.{keeps_both}
 use Rattle.ppm_stretch.proofs.rows.steps_along.Goals as goal
 
@@ -43,14 +43,8 @@ returns-then-more-clause-stops g c = λ refused.
     let k = c.args.words.now.shared.key in
     let i = c.loop-made.invariant in
     let new = c.some_steps-more.new in
-    let stops = subst (λ (n : ℕ). GivesUp g.W.Watch.told k n c.loop-made.mine.me new.mine.me c.loop-made.watch new.watch) i.9 (c.some_steps-more.ensures.stops c.if-more.true) in
-    record {
-      lives = stops.lives;
-      behind = stops.behind;
-      refuses = refuses_then g.W.Watch.told k c.args.local.now.own c.args.mine.now.me c.loop-made.mine.me stops.behind c.args.watch.now c.loop-made.watch new.watch
-          c.loop-made.made c.loop-made.work c.loop-made.looks stops.lives i.5 stops.refuses;
-      quits = stops.quits;
-    }
+    gives_up_behind g.W.Watch.told k c.args.local.now.own c.args.mine.now.me c.loop-made.mine.me new.mine.me c.args.watch.now c.loop-made.watch new.watch c.loop-made.made c.loop-made.work c.loop-made.looks i.5
+    (subst (λ (n : ℕ). GivesUp g.W.Watch.told k n c.loop-made.mine.me new.mine.me c.loop-made.watch new.watch) i.9 (c.some_steps-more.ensures.stops c.if-more.true))
 
 pub returns-then-more-eq0-clause-makes : goal.returns-then-more-eq0-clause-makes
 returns-then-more-eq0-clause-makes g c = λ fine.
@@ -64,3 +58,6 @@ returns-then-more-eq0-clause-makes g c = λ fine.
     subst (λ (steps : Steps). Moves g.W.Watch.told k own c.args.mine.now.me new.mine.me c.args.watch.now new.watch steps.made steps.work steps.looks) (sym c.row.ensures)
     (moves_idle g.W.Watch.told k own c.args.mine.now.me c.loop-made.mine.me new.mine.me c.args.watch.now c.loop-made.watch new.watch
     c.loop-made.made more.made c.loop-made.work more.work c.loop-made.looks more.looks c.if-more-eq0.true few.1 few.2 i.5 moves)
+
+pub returns-then-more-eq0-clause-on : goal.returns-then-more-eq0-clause-on
+returns-then-more-eq0-clause-on g c = λ fine few. c.some_steps-more.ensures.on c.if-more.false c.if-more-eq0.true
