@@ -4,10 +4,10 @@ ghost use Rattle.std.specs.List.{All};
 ghost use Rattle.ppm_words.specs.Inputs.{value_count};
 ghost use Rattle.ppm_table.specs.Shown.{AreNewOf};
 
-use ppm_cells::{Finish, Shape};
+use ppm_cells::{Ending, Finish, Shape};
 use ppm_choice::{Idle, Limits};
 use ppm_code::Code;
-use ppm_core::{Ending, Machine};
+use ppm_core::Machine;
 use ppm_layout::{Image, image};
 use ppm_listing_reader::read_listing;
 use ppm_plan::{Plan, read_plan};

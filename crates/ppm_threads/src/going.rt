@@ -113,9 +113,10 @@ fn wake(unparkers: &[IdleUnparker], limits: Limits) {
 }
 
 /// Whether an act may be one for which others wait: a compare-and-modify, a hard fault or a quit, or
-/// the last of its processor.
+/// the last of its processor; or a soft fault, behind which the processor itself may park again
+/// without a look, though it was woken to see the end.
 fn wakes(event: Event, next: Next) -> bool {
-    event.step == 3 || event.step == 5 || event.step == 6 || matches!(next, Next::Done)
+    event.step >= 3 || matches!(next, Next::Done)
 }
 
 /// The processor gives up, since its watcher refused, if it is still to take a step.
