@@ -5,6 +5,7 @@ use Rattle.ppm_words.specs.declared.trap.Trap.{Trap}
 use Rattle.ppm_cells.specs.Finish.{finish_of}
 use Rattle.ppm_cells.specs.declared.finish.Finish.{Finish}
 use Rattle.ppm_cells.specs.declared.finish.Finish.TheVariants as finishes
+use Rattle.ppm_cells.specs.Ending.{ending_of}
 use Rattle.ppm_core.specs.Situation.{Situation, finish_in}
 use Rattle.ppm_plan.specs.declared.schedule_item.ScheduleItem.{ScheduleItem}
 use Rattle.ppm_code.specs.Code.{IsCode}
