@@ -18,3 +18,4 @@ pub mod Births
 pub mod Places
 pub mod Loads
 pub mod Steps
+pub mod Answers
