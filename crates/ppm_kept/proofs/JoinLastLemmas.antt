@@ -61,7 +61,7 @@ joined_else p k (Calling f n y t) z = ap (λ (s : Skeleton). Calling f n y s) (j
 joined_else p k (Forking f n y r a b) z = cond-false (holds p a) _ _ (holds_at p a (omega (arith, z))) ∙ cond-false (holds p b) _ _ (holds_at p b (omega (arith, z)))
     ∙ ap₂ (λ (s t : Skeleton). Forking f n y r s t) (joined_else p k a (omega (arith, z))) (joined_else p k b (omega (arith, z)))
 
-joined_plug : (m : Cell → ℕ) (p : ℕ) (o : Who) → ((q : ℕ) → is_at q o ≡ 0) → (k : ℕ → Stand) (r : ℕ) (d : Side) (g l y na nb : ℕ) (c : Around) → at_rim p c ≡ 0 → joined p k (plug c (joint m p o r d g l y na nb)) ≡ plug c (Leaf (InPlace p) (k y) g l)
+pub joined_plug : (m : Cell → ℕ) (p : ℕ) (o : Who) → ((q : ℕ) → is_at q o ≡ 0) → (k : ℕ → Stand) (r : ℕ) (d : Side) (g l y na nb : ℕ) (c : Around) → at_rim p c ≡ 0 → joined p k (plug c (joint m p o r d g l y na nb)) ≡ plug c (Leaf (InPlace p) (k y) g l)
 joined_plug m p o nobody k r d g l y na nb c z = by c z
   where
     here : (d : Side) → joined p k (joint m p o r d g l y na nb) ≡ Leaf (InPlace p) (k y) g l

@@ -20,7 +20,6 @@ use Rattle.ppm_cells.specs.declared.restart.Restart.{Restart}
 use Rattle.ppm_cells.specs.declared.restart.RestartKind.{RestartKind}
 use Rattle.ppm_cells.specs.declared.restart.RestartKind.TheVariants.{Run, Unwind, Join}
 use Rattle.ppm_cells.specs.declared.side.Side.{Side}
-use Rattle.ppm_cells.specs.declared.side.Side.TheVariants.{Left, Right}
 use Rattle.ppm_capsules.specs.Strand.{Frame}
 use Rattle.ppm_code.specs.Strands.{Point, Result}
 use Rattle.ppm_code.specs.Sizes.{slot_at}
@@ -56,13 +55,9 @@ use Rattle.ppm_kept.proofs.PlaceLemmas.{going}
 use Rattle.ppm_kept.proofs.JoiningLemmas.{Joining}
 use Rattle.ppm_kept.proofs.OtherLemmas.{others_keep}
 use Rattle.ppm_kept.proofs.SameRowLemmas.{waiting_of}
-use Rattle.ppm_kept.proofs.JoinRow.{early_join_row_keeps}
+use Rattle.ppm_kept.proofs.JoinRow.{first_is, early_join_row_keeps}
 use Rattle.ppm_kept.proofs.JoinLastLemmas as last
 use Rattle.ppm_kept.proofs.JoinLastLemmas.{LastStays, last_same, Traps}
-
-first_is : (d : Side) → first d ≡ side_code d
-first_is Left = refl
-first_is Right = refl
 
 -- the copy of a fork's link
 abbrev copy_of : LinkKind → ℕ

@@ -46,7 +46,7 @@ use Rattle.ppm_kept.proofs.BuildLemmas.{Turn, build}
 use Rattle.ppm_kept.proofs.PlaceLemmas.{going, kept_same, is_at_own, is_at_other}
 use Rattle.ppm_kept.proofs.JoiningLemmas.{Comes, joins as joins_leaf, inline_late}
 
-first_is : (d : Side) → first d ≡ side_code d
+pub first_is : (d : Side) → first d ≡ side_code d
 first_is Left = refl
 first_is Right = refl
 
@@ -55,7 +55,7 @@ pub record IsRight (b : Skeleton) : Type 0 where
   pub slots : ℕ
   pub is : b ≡ Leaf Held (Begins 0) frame slots
 
-held : (i : Image) (m : Cell → ℕ) (k : ℕ → RestartKind) (h : LinkKind) (b : Skeleton) → Good i.code m k h b → order_of IsPlain (mark b) ≡ 3 → IsRight b
+pub held : (i : Image) (m : Cell → ℕ) (k : ℕ → RestartKind) (h : LinkKind) (b : Skeleton) → Good i.code m k h b → order_of IsPlain (mark b) ≡ 3 → IsRight b
 held i m k h (Leaf Held st f n) good e = record { frame = f; slots = n; is = ap (λ a. Leaf Held a f n) good.2.0 }
 held i m k h (Leaf Came st f n) good e = absurd (omega (arith, e))
 held i m k h (Leaf Inlined st f n) good e = absurd (omega (arith, e))

@@ -51,6 +51,7 @@ pub mod LookLemmas
 pub mod TakeRow
 pub mod SteadyLemmas
 pub mod BirthLemmas
+pub mod UnrunLemmas
 pub mod StateLemmas
 pub mod BeginLemmas
 pub mod LoadLemmas

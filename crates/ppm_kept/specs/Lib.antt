@@ -15,6 +15,7 @@ pub mod JoinLast
 pub mod JoinValues
 pub mod Takes
 pub mod Births
+pub mod Unruns
 pub mod Places
 pub mod Loads
 pub mod Steps

@@ -17,6 +17,7 @@ ghost use Rattle.ppm_kept.specs.Returns.{ExchangesAreSeen, UnwindRowKeeps};
 ghost use Rattle.ppm_kept.specs.Steps.{TurnsKeep};
 ghost use Rattle.ppm_kept.specs.Takes.{TakeRowsKeep};
 ghost use Rattle.ppm_kept.specs.Turns.{StepsAreSeen, StoresAreCells};
+ghost use Rattle.ppm_kept.specs.Unruns.{AllUnrunsStay};
 
 /// A capsule of a frame under way, closed by the stores of its end: it goes on by its loads, its
 /// stores are steps of its strand, and its install is the step of the whole capsule.
@@ -158,6 +159,12 @@ pub fn forks_are_new()
     ensures stay { AllBirthsStay }
     ensures openings { OpeningsHaveNone }
     ensures steady { RowsAreSteady }
+{}
+
+/// The right branches that no place has run yet: each step's skeleton has the same ones, but for the
+/// one that it opens, pushes, takes, or goes on with.
+pub fn unruns_stay()
+    ensures law { AllUnrunsStay }
 {}
 
 /// The tree's half of a join where both branches ended: each store of a value into its slot is a

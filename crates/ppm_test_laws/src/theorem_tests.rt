@@ -9,7 +9,7 @@ use ppm_kept::{
     ends_as_meant, exchanges_are_seen, forks_are_new, frames_run, join_row_keeps,
     last_join_row_keeps, loads_show, openings_are_kept, others_keep, push1_row_keeps,
     push2_row_keeps, run_row_keeps, steps_are_seen, take_rows_keep, turns_keep, turns_show,
-    untaken_stays, unwind_row_keeps,
+    unruns_stay, untaken_stays, unwind_row_keeps,
 };
 use ppm_slots::{frames_stay_trim, writes_are_slots};
 use ppm_tickets::{
@@ -71,6 +71,7 @@ fn the_laws_of_rows_are_called() {
     join_row_keeps();
     take_rows_keep();
     forks_are_new();
+    unruns_stay();
     turns_show();
     loads_show();
     turns_keep();
