@@ -57,3 +57,4 @@ pub mod BeginLemmas
 pub mod LoadLemmas
 pub mod StepRows
 pub mod AnswerLemmas
+pub mod RoomLemmas
