@@ -58,3 +58,4 @@ pub mod StateLemmas
 pub mod BeginLemmas
 pub mod LoadLemmas
 pub mod StepRows
+pub mod AnswerLemmas

@@ -20,3 +20,4 @@ pub mod Fates
 pub mod Places
 pub mod Loads
 pub mod Steps
+pub mod Answers

@@ -1,5 +1,6 @@
 //! What each step of a place keeps, shown by calls that do nothing. The laws of rows are of tidy
 //! codes without conflicts.
+ghost use Rattle.ppm_kept.specs.Answers.{EndsAsMeant};
 ghost use Rattle.ppm_kept.specs.Arriving.{ArriveRowKeeps};
 ghost use Rattle.ppm_kept.specs.Births.{AllBirthsStay, OpeningsHaveNone, RowsAreSteady};
 ghost use Rattle.ppm_kept.specs.Copies.{AllCopiesStay, OpeningsHaveCopies};
@@ -144,6 +145,12 @@ pub fn loads_show()
 /// waits and that no other place is about to begin it.
 pub fn turns_keep()
     ensures law { TurnsKeep }
+{}
+
+/// From a state by places that is kept, with a finish word that says an outcome: the depth-first run of
+/// the root comes to an end with that outcome, and the arrays have the words of that end.
+pub fn ends_as_meant()
+    ensures law { EndsAsMeant }
 {}
 
 /// Blocks are opened upwards in each pool: those that were forked lie below what a place may still
