@@ -16,6 +16,7 @@ pub mod JoinValues
 pub mod Takes
 pub mod Births
 pub mod Unruns
+pub mod Fates
 pub mod Places
 pub mod Loads
 pub mod Steps

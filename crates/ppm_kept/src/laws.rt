@@ -4,6 +4,7 @@ ghost use Rattle.ppm_kept.specs.Answers.{EndsAsMeant};
 ghost use Rattle.ppm_kept.specs.Arriving.{ArriveRowKeeps};
 ghost use Rattle.ppm_kept.specs.Births.{AllBirthsStay, OpeningsHaveNone, RowsAreSteady};
 ghost use Rattle.ppm_kept.specs.Copies.{AllCopiesStay, OpeningsHaveCopies};
+ghost use Rattle.ppm_kept.specs.Fates.{AllFatesShow, AllFatesStay, NoneIsLeft};
 ghost use Rattle.ppm_kept.specs.JoinLast.{JoinRowKeeps, LastJoinRowKeeps};
 ghost use Rattle.ppm_kept.specs.JoinValues.{AllBranchValuesPass};
 ghost use Rattle.ppm_kept.specs.Joins.{EarlyJoinRowKeeps};
@@ -171,6 +172,15 @@ pub fn forks_are_new()
 /// one that it opens, pushes, takes, or goes on with.
 pub fn unruns_stay()
     ensures law { AllUnrunsStay }
+{}
+
+/// What has come of each right branch (`Fate`) and what the skeleton shows agree, both ways, after each
+/// step: so a branch that was offered waits in the tree, a held one that its join begins was left to
+/// it, and at the end of a run none is left that was forked and not begun.
+pub fn fates_agree()
+    ensures stay { AllFatesStay }
+    ensures show { AllFatesShow }
+    ensures ends { NoneIsLeft }
 {}
 
 /// The tree's half of a join where both branches ended: each store of a value into its slot is a
