@@ -87,27 +87,27 @@ IsLooking _ = ⊥
 
 -- all is allowed but forks
 abbrev no_forks : May
-no_forks = record { forks = λ r. ⊥; begins = λ r. Unit {0}; stores = λ a. Unit {0}; trades = λ a. Unit {0} }
+no_forks = record { forks = λ r. ⊥; begins = λ r. Unit {0}; stores = λ a. Unit {0}; trades = λ a. Unit {0}; counts = Unit {0} }
 
 -- no block word is changed but this one
 abbrev one_word : ℕ → May
-one_word w = record { forks = λ r. Unit {0}; begins = λ r. Unit {0}; stores = λ a. a ≡ w; trades = λ a. a ≡ w }
+one_word w = record { forks = λ r. Unit {0}; begins = λ r. Unit {0}; stores = λ a. a ≡ w; trades = λ a. a ≡ w; counts = Unit {0} }
 
 -- none is exchanged
 abbrev no_trades : May
-no_trades = record { forks = λ r. Unit {0}; begins = λ r. Unit {0}; stores = λ a. Unit {0}; trades = λ a. ⊥ }
+no_trades = record { forks = λ r. Unit {0}; begins = λ r. Unit {0}; stores = λ a. Unit {0}; trades = λ a. ⊥; counts = Unit {0} }
 
 -- no block word is changed
 abbrev no_words : May
-no_words = record { forks = λ r. Unit {0}; begins = λ r. Unit {0}; stores = λ a. ⊥; trades = λ a. ⊥ }
+no_words = record { forks = λ r. Unit {0}; begins = λ r. Unit {0}; stores = λ a. ⊥; trades = λ a. ⊥; counts = Unit {0} }
 
 -- one block alone is forked
 abbrev one_fork : ℕ → May
-one_fork b = record { forks = λ r. r ≡ b; begins = λ r. Unit {0}; stores = λ a. Unit {0}; trades = λ a. Unit {0} }
+one_fork b = record { forks = λ r. r ≡ b; begins = λ r. Unit {0}; stores = λ a. Unit {0}; trades = λ a. Unit {0}; counts = Unit {0} }
 
 -- one branch alone is begun, where that is so
 abbrev one_begin : ℕ → Type 0 → May
-one_begin b so = record { forks = λ r. Unit {0}; begins = λ r. (r ≡ b) × so; stores = λ a. Unit {0}; trades = λ a. Unit {0} }
+one_begin b so = record { forks = λ r. Unit {0}; begins = λ r. (r ≡ b) × so; stores = λ a. Unit {0}; trades = λ a. Unit {0}; counts = Unit {0} }
 
 -- what is stood at a fork, by two leaves that hang on one branch
 abbrev stand_told : Skeleton → Stand
@@ -178,7 +178,7 @@ module _ (s : Shape) (code : CodeParts) (places : s.takeover ≡ ByPlaces) (fair
   module _ (c : ℕ) (seat : Seat) (block : ℕ) (w : In c seat (Now (Fork block))) where
     fork_of : (k : RestartKind) → seat.restart.kind ≡ k → Does i m seat.place k (InRow (Now (Fork block))) → k ≡ Bump block
     fork_of (Run f y) e d = absurd (subst IsLoad (sym d) tt)
-    fork_of (Bump r) e d = ap Bump (sym (reached (one_fork r) (seat_at seat.place (Bump r) d.0) d.1 (row_of s (seat_at seat.place (Bump r) d.0) (Bump r)) (Now (Fork block)) refl d.2))
+    fork_of (Bump r) e d = ap Bump (sym (reached (one_fork r) (seat_at seat.place (Bump r) d.0) d.1 (row_of s (seat_at seat.place (Bump r) d.0) (Bump r)) (Now (Fork block)) (refl, tt) d.2))
     fork_of (Unwind f) e d = absurd (reached no_forks (seat_at seat.place (Unwind f) d.0) d.1 (row_of s (seat_at seat.place (Unwind f) d.0) (Unwind f)) (Now (Fork block)) (λ a. tt) d.2)
     fork_of (Arrive r x) e d = absurd (reached no_forks (seat_at seat.place (Arrive r x) d.0) d.1 (row_of s (seat_at seat.place (Arrive r x) d.0) (Arrive r x)) (Now (Fork block)) (tt, tt) d.2)
     fork_of (Join r x) e d = elim d [
@@ -414,7 +414,7 @@ module _ (s : Shape) (code : CodeParts) (places : s.takeover ≡ ByPlaces) (fair
 
     stored_by : (k : RestartKind) → seat.restart.kind ≡ k → Does i m seat.place k (InRow row) → IsPooled s cell
     stored_by (Run f y) e d = absurd (subst IsLoad (sym d) tt)
-    stored_by (Bump r) e d = none_stored cell content next (reached no_words (seat_at seat.place (Bump r) d.0) d.1 (row_of s (seat_at seat.place (Bump r) d.0) (Bump r)) row tt d.2)
+    stored_by (Bump r) e d = none_stored cell content next (reached no_words (seat_at seat.place (Bump r) d.0) d.1 (row_of s (seat_at seat.place (Bump r) d.0) (Bump r)) row (tt, tt) d.2)
     stored_by (Unwind f) e d = cell_pooled s cell ((unwind_row_keeps i fair root input z t law seat.place w.place f (w.kind ∙ e)).cells cell content next doing)
     stored_by (Arrive r x) e d = absurd ((arrive_row_keeps i fair root input z t law seat.place w.place r x (w.kind ∙ e)).stores_none cell content next doing)
     stored_by (Join r x) e d = cell_pooled s cell ((join_row_keeps i fair root input z t law seat.place w.place r x (w.kind ∙ e)).cells cell content next doing)
@@ -438,7 +438,7 @@ module _ (s : Shape) (code : CodeParts) (places : s.takeover ≡ ByPlaces) (fair
 
     traded_by : (k : RestartKind) → seat.restart.kind ≡ k → Does i m seat.place k (InRow trade) → IsPooled s cell
     traded_by (Run f y) e d = absurd (subst IsLoad (sym d) tt)
-    traded_by (Bump r) e d = none_traded no_words nothing cell old new next (reached no_words (seat_at seat.place (Bump r) d.0) d.1 (row_of s (seat_at seat.place (Bump r) d.0) (Bump r)) trade tt d.2)
+    traded_by (Bump r) e d = none_traded no_words nothing cell old new next (reached no_words (seat_at seat.place (Bump r) d.0) d.1 (row_of s (seat_at seat.place (Bump r) d.0) (Bump r)) trade (tt, tt) d.2)
     traded_by (Unwind f) e d = none_traded no_trades nothing cell old new next (reached no_trades (seat_at seat.place (Unwind f) d.0) d.1 (row_of s (seat_at seat.place (Unwind f) d.0) (Unwind f)) trade (λ a. tt) d.2)
     traded_by (Arrive r x) e d = one_traded (r + 1) cell old new next
         (head_pool s code root input state h forked taken t run (r + 1) (subst (Ordered i z t m) (w.kind ∙ e) (law.orders seat.place)))
