@@ -109,6 +109,15 @@ one_fork b = record { forks = λ r. r ≡ b; begins = λ r. Unit {0}; stores = �
 abbrev one_begin : ℕ → Type 0 → May
 one_begin b so = record { forks = λ r. Unit {0}; begins = λ r. (r ≡ b) × so; stores = λ a. Unit {0}; trades = λ a. Unit {0}; counts = Unit {0} }
 
+-- all is allowed, and counters where that is so
+abbrev pub any_row : Type 0 → May
+any_row so = record { forks = λ r. Unit {0}; begins = λ r. Unit {0}; stores = λ a. Unit {0}; trades = λ a. Unit {0}; counts = so }
+
+-- the kind in whose row a counter is stored
+abbrev pub IsBumping : RestartKind → Type 0
+IsBumping (Bump r) = Unit {0}
+IsBumping _ = ⊥
+
 -- what is stood at a fork, by two leaves that hang on one branch
 abbrev stand_told : Skeleton → Stand
 stand_told (Leaf w st f n) = st
@@ -194,6 +203,33 @@ module _ (s : Shape) (code : CodeParts) (places : s.takeover ≡ ByPlaces) (fair
     fork_of (Check v x) e d = absurd (looked no_forks c seat (Now (Fork block)) (Check v x) tt e (λ r. tt) w)
     fork_of (Take v x) e d = absurd (looked no_forks c seat (Now (Fork block)) (Take v x) tt e (places_row s.takeover no_forks _ tt) w)
     fork_of (Take2 v) e d = absurd (looked no_forks c seat (Now (Fork block)) (Take2 v) tt e (places_row s.takeover no_forks _ tt) w)
+
+  pub fork_kind : (c : ℕ) (seat : Seat) (block : ℕ) → In c seat (Now (Fork block)) → seat.restart.kind ≡ Bump block
+  fork_kind c seat block w = fork_of c seat block w seat.restart.kind refl w.does
+
+  -- rows store no restart word, and a counter in Bump alone
+  module _ (c : ℕ) (seat : Seat) (line : Row) (w : In c seat line) where
+    tame_at : (k : RestartKind) → seat.restart.kind ≡ k → Does i m seat.place k (InRow line) → TameRow (any_row (IsBumping k)) line
+    tame_at (Run f y) e d = subst (TameRow (any_row ⊥)) (sym d) tt
+    tame_at (Bump r) e d = reached (any_row (Unit {0})) (seat_at seat.place (Bump r) d.0) d.1 (row_of s (seat_at seat.place (Bump r) d.0) (Bump r)) line (tt, tt) d.2
+    tame_at (Unwind f) e d = reached (any_row ⊥) (seat_at seat.place (Unwind f) d.0) d.1 (row_of s (seat_at seat.place (Unwind f) d.0) (Unwind f)) line (λ a. tt) d.2
+    tame_at (Arrive r x) e d = reached (any_row ⊥) (seat_at seat.place (Arrive r x) d.0) d.1 (row_of s (seat_at seat.place (Arrive r x) d.0) (Arrive r x)) line (tt, tt) d.2
+    tame_at (Join r x) e d = elim d [
+      | inl d ↦ reached (any_row ⊥) (seat_at seat.place (Join r x) d.0) d.1 (row_of s (seat_at seat.place (Join r x) d.0) (Join r x)) line (tt, λ a. tt) d.2
+      | inr g ↦ subst (TameRow (any_row ⊥)) (sym g.is) tt
+    ]
+    tame_at (Push1 r) e d = looked (any_row ⊥) c seat line (Push1 r) tt e (push_row (any_row ⊥) seat r tt) w
+    tame_at (Push2 r) e d = looked (any_row ⊥) c seat line (Push2 r) tt e tt w
+    tame_at Pop1 e d = looked (any_row ⊥) c seat line Pop1 tt e tt w
+    tame_at (Pop2 r) e d = looked (any_row ⊥) c seat line (Pop2 r) tt e tt w
+    tame_at Seek e d = looked (any_row ⊥) c seat line Seek tt e tt w
+    tame_at (Steal v x) e d = looked (any_row ⊥) c seat line (Steal v x) tt e tt w
+    tame_at (Check v x) e d = looked (any_row ⊥) c seat line (Check v x) tt e (λ r. tt) w
+    tame_at (Take v x) e d = looked (any_row ⊥) c seat line (Take v x) tt e (places_row s.takeover (any_row ⊥) _ tt) w
+    tame_at (Take2 v) e d = looked (any_row ⊥) c seat line (Take2 v) tt e (places_row s.takeover (any_row ⊥) _ tt) w
+
+    pub tame_kind : TameRow (any_row (IsBumping seat.restart.kind)) line
+    tame_kind = tame_at seat.restart.kind refl w.does
 
   -- a block that is built was not forked
   not_born : (p r : ℕ) → z.kind p ≡ Bump r → has forked r ≡ false
