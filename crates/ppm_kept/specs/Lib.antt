@@ -16,6 +16,8 @@ pub mod JoinValues
 pub mod Takes
 pub mod Births
 pub mod Unruns
+pub mod Fates
 pub mod Places
 pub mod Loads
 pub mod Steps
+pub mod Answers
