@@ -9,3 +9,4 @@ pub mod OrderlyLemmas
 pub mod TakerLemmas
 pub mod GoingLemmas
 pub mod BornLemmas
+pub mod OpenLemmas
