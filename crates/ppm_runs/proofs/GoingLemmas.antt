@@ -38,7 +38,9 @@ use Rattle.ppm_kept.specs.Pushing.{Comes}
 use Rattle.ppm_kept.specs.Steps.{CameBy, TakesSo, IsKindIf, StandsSo, LeavesSo, ActsSo}
 use Rattle.ppm_kept.specs.Takes.{IsAlone}
 use Rattle.ppm_kept.proofs.StepRows.{turns_keep}
-use Rattle.ppm_runs.specs.Run.{image, IsToTake, IsRun}
+use Rattle.ppm_kept.specs.Fates.{Offered}
+use Rattle.ppm_kept.proofs.FateLemmas.{fates_show}
+use Rattle.ppm_runs.specs.Run.{image, fate_of, IsRun}
 use Rattle.ppm_runs.specs.Laws.{IsTakers, RunsGoOn, TurnsGoOn}
 use Rattle.ppm_runs.proofs.StandLemmas.{kinds_same}
 use Rattle.ppm_runs.proofs.ShownLemmas.{Within, within, runs, holds}
@@ -65,9 +67,9 @@ taker_place (Popping p) = p
 taker_place (Stolen p) = p
 taker_place _ = 0
 
-taker_of : (p : ℕ) (k : RestartKind) (x : Home) → is_taker k ≡ true → IsTakers p k x → IsToTake x × (taker_place x ≡ p)
-taker_of p (Pop2 r) x e a = (subst IsToTake (sym a) tt, ap taker_place a)
-taker_of p (Check v j) x e a = (subst IsToTake (sym a) tt, ap taker_place a)
+taker_of : (p : ℕ) (k : RestartKind) (x : Home) → is_taker k ≡ true → IsTakers p k x → (fate_of x ≡ Offered) × (taker_place x ≡ p)
+taker_of p (Pop2 r) x e a = (ap fate_of a, ap taker_place a)
+taker_of p (Check v j) x e a = (ap fate_of a, ap taker_place a)
 taker_of p (Run f y) x e a = absurd (cc)
 taker_of p (Bump r) x e a = absurd (cc)
 taker_of p (Push1 r) x e a = absurd (cc)
@@ -123,7 +125,7 @@ module _ (s : Shape) (code : CodeParts) (places : s.takeover ≡ ByPlaces) (fair
   abbrev In : ℕ → Seat → Row → Type 0
   In c seat row = Within s code root input state h forked taken t run c seat row
 
-  came_by : (c : ℕ) (seat : Seat) (row : Row) → In c seat row → CameBy s seat seat.restart.kind row
+  pub came_by : (c : ℕ) (seat : Seat) (row : Row) → In c seat row → CameBy s seat seat.restart.kind row
   came_by c seat row w = by seat.restart.kind refl w.seen
     where
       looked : (k : RestartKind) → seat.restart.kind ≡ k → (IsStrand k → ⊥) → HasSeen s (spots.with_restarts (spots.view s state.words) (spots.kinds s state.words) (spots.bottoms s state.words)) seat row
@@ -160,7 +162,7 @@ module _ (s : Shape) (code : CodeParts) (places : s.takeover ≡ ByPlaces) (fair
 
   takes_so : (c : ℕ) (seat : Seat) (row : Row) → stand_of state c ≡ IsWithin seat row → is_taker seat.restart.kind ≡ true → TakesSo i state t seat.place row
   takes_so c seat (Now (Load (Offset r b))) e taker =
-      run.waiting r (taker_of seat.place seat.restart.kind (h r) taker ((takers_have s code places state h forked taken run.lawful).offsets c seat r b e)).0
+      (fates_show i fair root input (places_of s state) t run.kept (λ x. fate_of (h x)) run.agrees).waits r (taker_of seat.place seat.restart.kind (h r) taker ((takers_have s code places state h forked taken run.lawful).offsets c seat r b e)).0
   takes_so c seat (Now (Begin r f b)) e taker = alone_in c seat r f b e taker
   takes_so c seat _ e taker = tt
 

@@ -8,3 +8,5 @@ pub mod ShownLemmas
 pub mod OrderlyLemmas
 pub mod TakerLemmas
 pub mod GoingLemmas
+pub mod BornLemmas
+pub mod OpenLemmas

@@ -26,6 +26,7 @@ use Rattle.ppm_tickets.specs.Words.{has}
 use Rattle.ppm_frames.specs.Skeletons.{Skeleton}
 use Rattle.ppm_kept.specs.Running.{IsFair}
 use Rattle.ppm_kept.specs.Kept.{IsKept}
+use Rattle.ppm_kept.specs.Births.{Births}
 use Rattle.ppm_kept.specs.Places.{places_of}
 use Rattle.ppm_kept.specs.Steps.{tree_after, IsStopped}
 use Rattle.ppm_runs.specs.Run.{image, IsRun}
@@ -89,3 +90,11 @@ TurnsGoOn = (s : Shape) (code : CodeParts) → s.takeover ≡ ByPlaces → IsFai
     → (root : Tree (Frame FrameWord Point) Result) (input : Words) (state : RunState) (h : ℕ → Home) (forked taken : List ℕ) (t : Skeleton)
     → IsRun s code root input state h forked taken t
     → RunsGoOn s code root input state h forked taken t
+
+-- after each turn blocks are forked upwards still, those of the turn among them
+abbrev pub BirthsFollow : Type 0
+BirthsFollow = (s : Shape) (code : CodeParts) → s.takeover ≡ ByPlaces → IsFair code
+    → (root : Tree (Frame FrameWord Point) Result) (input : Words) (state : RunState) (h : ℕ → Home) (forked taken : List ℕ) (t : Skeleton)
+    → IsRun s code root input state h forked taken t
+    → (turn : Turn) → IsTurnAmong s.processors turn
+    → Births (image s code) (places_of s (happens s code state turn)) (has (forks_of state turn ++ forked))

@@ -10,4 +10,4 @@
 
 mod laws;
 
-pub use laws::{takers_have, turns_are_orderly, turns_go_on};
+pub use laws::{births_follow, runs_open, takers_have, turns_are_orderly, turns_go_on};
