@@ -58,4 +58,5 @@ pub mod StateLemmas
 pub mod BeginLemmas
 pub mod LoadLemmas
 pub mod StepRows
+pub mod BearLemmas
 pub mod AnswerLemmas
