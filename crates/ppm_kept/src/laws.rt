@@ -2,6 +2,7 @@
 //! codes without conflicts.
 ghost use Rattle.ppm_kept.specs.Answers.{EndsAsMeant};
 ghost use Rattle.ppm_kept.specs.Arriving.{ArriveRowKeeps};
+ghost use Rattle.ppm_kept.specs.Bearing.{TurnsBear};
 ghost use Rattle.ppm_kept.specs.Births.{AllBirthsStay, OpeningsHaveNone, RowsAreSteady};
 ghost use Rattle.ppm_kept.specs.Copies.{AllCopiesStay, OpeningsHaveCopies};
 ghost use Rattle.ppm_kept.specs.Fates.{AllFatesShow, AllFatesStay, NoneIsLeft};
@@ -166,6 +167,11 @@ pub fn forks_are_new()
     ensures stay { AllBirthsStay }
     ensures openings { OpeningsHaveNone }
     ensures steady { RowsAreSteady }
+{}
+
+/// So it is over a whole turn, with takeover by places, of the blocks of `forks_of` and those before.
+pub fn turns_bear()
+    ensures law { TurnsBear }
 {}
 
 /// The right branches that no place has run yet: each step's skeleton has the same ones, but for the

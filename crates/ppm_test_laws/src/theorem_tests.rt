@@ -8,8 +8,8 @@ use ppm_kept::{
     arrive_row_keeps, branch_values_pass, bump_row_keeps, copies_stay, early_join_row_keeps,
     ends_as_meant, exchanges_are_seen, fates_agree, forks_are_new, frames_run, join_row_keeps,
     last_join_row_keeps, loads_show, openings_are_kept, others_keep, push1_row_keeps,
-    push2_row_keeps, room_is_bounded, run_row_keeps, steps_are_seen, take_rows_keep, turns_keep,
-    turns_show, unruns_stay, untaken_stays, unwind_row_keeps,
+    push2_row_keeps, room_is_bounded, run_row_keeps, steps_are_seen, take_rows_keep, turns_bear,
+    turns_keep, turns_show, unruns_stay, untaken_stays, unwind_row_keeps,
 };
 use ppm_runs::{
     births_follow, runs_end, runs_open, stops_stay, takers_have, turns_are_orderly, turns_go_on,
@@ -78,6 +78,7 @@ fn the_laws_of_rows_are_called() {
     fates_agree();
     turns_show();
     loads_show();
+    turns_bear();
     turns_keep();
     ends_as_meant();
     room_is_bounded();
