@@ -1,9 +1,9 @@
 -- After each turn of a run's state blocks are forked upwards still.
-use Rattle.std.proofs.Common.{◌≡◌, ◌≢◌, ◌⊎◌, ◌≤◌, ◌<◌, ℕ, zero, suc, ◌+◌, ◌==◌, Bool, true, false, if◌then◌else◌, List, [], ◌∷◌, ◌++◌, Option, Some, None, inl, inr, refl, sym, ap, ◌∙◌, subst, arith, slice_set, slice_index}
+use Rattle.std.proofs.Common.{◌≡◌, ◌≢◌, ◌<◌, ℕ, zero, suc, ◌==◌, Bool, true, false, if◌then◌else◌, List, ◌∷◌, ◌++◌, Option, Some, None, inl, inr, refl, sym, ap, ◌∙◌, subst, slice_index}
 use Rattle.std.specs.Prelude.{nat_lt, ◌&&◌}
 use Rattle.std.proofs.lemmas.Bool.{cases_Bool, ltb-true, lt-ltb}
 use Rattle.ppm_strands.specs.Tree.{Words, Tree}
-use Rattle.ppm_cells.specs.Cells.{IsCell, IsInPool}
+use Rattle.ppm_cells.specs.Cells.{IsCell}
 use Rattle.ppm_cells.specs.Finish.{finish_word}
 use Rattle.ppm_cells.specs.Link.{link_of}
 use Rattle.ppm_cells.specs.Memory.{read, write, AreWordsOf}
@@ -45,16 +45,16 @@ use Rattle.ppm_tickets.specs.Along.{IsPooled}
 use Rattle.ppm_tickets.specs.Entries.{IsPooledAt}
 use Rattle.ppm_tickets.specs.Homes.{Home}
 use Rattle.ppm_tickets.specs.Words.{has}
-use Rattle.ppm_frames.specs.Views.{is_cell, view, written}
+use Rattle.ppm_frames.specs.Views.{is_cell, view}
 use Rattle.ppm_frames.specs.Skeletons.{Skeleton}
 use Rattle.ppm_frames.proofs.ViewLemmas.{cells_are_viewed, others_are_unseen}
 use Rattle.ppm_frames.proofs.WriteLemmas.{write_else}
-use Rattle.ppm_kept.specs.Running.{IsFair, MayStore}
-use Rattle.ppm_kept.specs.Kept.{Image, seat_at, owner, InRow, InRest, State, Reach, Does, IsKept}
+use Rattle.ppm_kept.specs.Running.{IsFair}
+use Rattle.ppm_kept.specs.Kept.{Image, seat_at, owner, InRow, InRest, State, Reach, Does}
 use Rattle.ppm_kept.specs.Moves.{stores as move_stores, installs as move_installs}
 use Rattle.ppm_kept.specs.Laws.{Ends, kind_then}
-use Rattle.ppm_kept.specs.Births.{floor, Births, with_block, BirthsStay, IsSteady, SteadyRow, SteadyThen}
-use Rattle.ppm_kept.specs.Places.{kinds_of, places_of, acted}
+use Rattle.ppm_kept.specs.Births.{floor, Births, BirthsStay, IsSteady, SteadyRow, SteadyThen}
+use Rattle.ppm_kept.specs.Places.{places_of, acted}
 use Rattle.ppm_kept.specs.Pushing.{Comes}
 use Rattle.ppm_kept.specs.Steps.{CameBy}
 use Rattle.ppm_kept.proofs.BirthLemmas.{births_stay}
@@ -63,7 +63,7 @@ use Rattle.ppm_kept.proofs.StateLemmas.{kinds_stay, turns_show}
 use Rattle.ppm_kept.proofs.Rows.{run_row_keeps}
 use Rattle.ppm_runs.specs.Run.{image, IsRun}
 use Rattle.ppm_runs.specs.Laws.{BirthsFollow}
-use Rattle.ppm_runs.proofs.TameLemmas.{May, TameRow, TameStore, TameTrade}
+use Rattle.ppm_runs.proofs.TameLemmas.{TameStore, TameTrade}
 use Rattle.ppm_runs.proofs.ShownLemmas.{Within, within, Runs, runs}
 use Rattle.ppm_runs.proofs.OrderlyLemmas.{turns_are_orderly, IsBumping, any_row, fork_kind, tame_kind}
 use Rattle.ppm_runs.proofs.GoingLemmas.{came_by}
