@@ -60,3 +60,4 @@ pub mod LoadLemmas
 pub mod StepRows
 pub mod BearLemmas
 pub mod AnswerLemmas
+pub mod RoomLemmas

@@ -22,3 +22,4 @@ pub mod Loads
 pub mod Steps
 pub mod Bearing
 pub mod Answers
+pub mod Rooms

@@ -16,6 +16,7 @@ ghost use Rattle.ppm_kept.specs.Others.{OthersKeep};
 ghost use Rattle.ppm_kept.specs.Places.{MachinesOpen, TurnsShow};
 ghost use Rattle.ppm_kept.specs.Pushing.{AllUntakenStays, Push1RowKeeps, Push2RowKeeps};
 ghost use Rattle.ppm_kept.specs.Returns.{ExchangesAreSeen, UnwindRowKeeps};
+ghost use Rattle.ppm_kept.specs.Rooms.{RoomIsBounded};
 ghost use Rattle.ppm_kept.specs.Steps.{TurnsKeep};
 ghost use Rattle.ppm_kept.specs.Takes.{TakeRowsKeep};
 ghost use Rattle.ppm_kept.specs.Turns.{StepsAreSeen, StoresAreCells};
@@ -152,6 +153,11 @@ pub fn turns_keep()
 /// the root comes to an end with that outcome, and the arrays have the words of that end.
 pub fn ends_as_meant()
     ensures law { EndsAsMeant }
+{}
+
+/// Whatever places do, none gives out more of its pool than the depth-first run takes of all.
+pub fn room_is_bounded()
+    ensures law { RoomIsBounded }
 {}
 
 /// Blocks are opened upwards in each pool: those that were forked lie below what a place may still

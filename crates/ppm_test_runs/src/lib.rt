@@ -15,3 +15,5 @@ mod machines;
 mod replays;
 #[cfg(test)]
 mod runs;
+#[cfg(test)]
+mod spots;

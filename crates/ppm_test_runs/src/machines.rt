@@ -29,12 +29,12 @@ capsule 2 proc 1\nloadslot r0 0\nconst r1 0\nloadslot r2 1\nput r0 r1 r2 1\nend\
 
 /// A machine's sizes, and an act that comes in the place of a step: whose, at which turn, and what.
 #[derive(Clone, Copy)]
-struct Trial {
-    processors: u32,
-    by_entries: bool,
-    processor: u32,
-    at: u32,
-    act: Act,
+pub(crate) struct Trial {
+    pub(crate) processors: u32,
+    pub(crate) by_entries: bool,
+    pub(crate) processor: u32,
+    pub(crate) at: u32,
+    pub(crate) act: Act,
 }
 
 /// Whether a code's root names the first array alone.
@@ -72,7 +72,11 @@ fn three_words(alloc: Global) -> Result<Input, Fail>
 }
 
 /// A machine for the listing and this array, with four slots.
-fn fork_machine(alloc: Global, processors: u32, by_entries: bool) -> Result<Machine, Fail> {
+pub(crate) fn fork_machine(
+    alloc: Global,
+    processors: u32,
+    by_entries: bool,
+) -> Result<Machine, Fail> {
     let code = fork_code(alloc)?;
     let input = three_words(alloc)?;
     let mut shape = Shape::new(processors, 64, 4, 3).ok_or("within the limits")?;
@@ -94,7 +98,7 @@ fn is_among(processors: u32, act: Act) -> bool
 }
 
 /// One turn, if there are such processors.
-fn take_turn(machine: &mut Machine, processor: u32, act: Act) -> Option<Told> {
+pub(crate) fn take_turn(machine: &mut Machine, processor: u32, act: Act) -> Option<Told> {
     let processors = machine.processors();
     if processor >= processors || !is_among(processors, act) || machine.turns() > 100_000 {
         return None;

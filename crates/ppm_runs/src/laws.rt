@@ -1,0 +1,32 @@
+//! What turns owe, shown by calls that do nothing.
+ghost use Rattle.ppm_runs.specs.Laws.{BirthsFollow, TakersHave, TurnsAreOrderly, TurnsGoOn};
+ghost use Rattle.ppm_runs.specs.Openings.{RunsOpen};
+
+/// With takeover by places each turn is orderly in a state of a run: block words that it changes
+/// are those of pools, a block that it forks was not forked before, and a branch that it begins
+/// where the left one joins was left to that strand.
+pub fn turns_are_orderly()
+    ensures law { TurnsAreOrderly }
+{}
+
+/// With takeover by places a branch that a place is about to push or to take is at that place, so
+/// no other is about to take it.
+pub fn takers_have()
+    ensures law { TakersHave }
+{}
+
+/// With takeover by places each turn of a run's state leads to words that are lawful, and that show
+/// the tree after it, or the run was stopped by a finish that is no outcome.
+pub fn turns_go_on()
+    ensures law { TurnsGoOn }
+{}
+
+/// With takeover by places blocks are forked upwards still after each turn of a run's state.
+pub fn births_follow()
+    ensures law { BirthsFollow }
+{}
+
+/// A machine that opens an image of a sound code is in the state of a run.
+pub fn runs_open()
+    ensures law { RunsOpen }
+{}
