@@ -10,3 +10,4 @@ pub mod TakerLemmas
 pub mod GoingLemmas
 pub mod BornLemmas
 pub mod OpenLemmas
+pub mod BrokenLemmas

@@ -1,30 +1,16 @@
 -- A machine that opens an image is in the state of a run.
-use Rattle.std.proofs.Common.{◌≡◌, ◌⊎◌, ◌≤◌, ◌<◌, ℕ, Bool, true, false, List, [], inl, inr, refl, sym, ap, ◌∙◌, subst, arith}
-use Rattle.ppm_strands.specs.Calm.{Calm}
-use Rattle.ppm_words.specs.declared.named_array.NamedArray.{NamedArray}
+use Rattle.std.proofs.Common.{◌≡◌, ◌⊎◌, ℕ, false, [], inl, inr, sym, ap, ◌∙◌, subst}
 use Rattle.ppm_cells.specs.Cells.{pool_at}
-use Rattle.ppm_cells.specs.declared.shape.Shape.{Shape}
-use Rattle.ppm_code.specs.Sizes.{slots_of}
-use Rattle.ppm_code.specs.declared.code.CodeParts.{CodeParts}
-use Rattle.ppm_layout.specs.Correct.{Opens}
-use Rattle.ppm_layout.specs.Root.{root_strand}
-use Rattle.ppm_layout.specs.declared.images.Image.{Image as RealImage}
 use Rattle.ppm_step.specs.Standings.{Standing, IsLost, IsBroken, IsDone}
 use Rattle.ppm_step.specs.State.{State as RunState, stand_of, opening}
-use Rattle.ppm_tickets.specs.Homes.{Home, Unborn}
-use Rattle.ppm_tickets.specs.Words.{has}
 use Rattle.ppm_tickets.proofs.ImageLemmas.{images_open}
 use Rattle.ppm_tickets.proofs.Theorem.{lost_or, lawful_in_every_run}
 use Rattle.ppm_frames.specs.Views.{view}
-use Rattle.ppm_frames.specs.Seen.{arrays_at}
-use Rattle.ppm_frames.specs.Skeletons.{Begins, InPlace, Skeleton, Leaf}
-use Rattle.ppm_kept.specs.Running.{strands}
-use Rattle.ppm_kept.specs.Kept.{State, Doing}
+use Rattle.ppm_kept.specs.Kept.{State}
 use Rattle.ppm_kept.specs.Births.{Births}
-use Rattle.ppm_kept.specs.Places.{places_of}
 use Rattle.ppm_kept.proofs.BeginLemmas.{machines_open}
 use Rattle.ppm_kept.proofs.BirthLemmas.{openings_have_none}
-use Rattle.ppm_runs.specs.Run.{image, fate_of}
+use Rattle.ppm_runs.specs.Run.{image}
 use Rattle.ppm_runs.specs.Openings.{RunsOpen}
 
 -- a processor that is lost, or is not there, has met no broken words

@@ -1,20 +1,18 @@
 -- What a turn owes the tickets comes of the tree: each block word that it changes is one of a pool, a
 -- fork is a new one, and what is begun at a join was left to the strand of the left branch.
-use Rattle.std.proofs.Common.{◌≡◌, ◌⊎◌, ◌≤◌, ◌<◌, ℕ, zero, suc, ◌+◌, ◌==◌, Bool, true, false, List, inl, inr, refl, sym, ap, ◌∙◌, subst, arith}
-use Rattle.std.proofs.lemmas.Bool.{eqb-true, cases_Bool}
+use Rattle.std.proofs.Common.{◌≡◌, ◌⊎◌, ◌<◌, ℕ, ◌+◌, ◌==◌, Bool, true, false, List, inl, inr, refl, sym, ap, ◌∙◌, subst, arith}
+use Rattle.std.proofs.lemmas.Bool.{cases_Bool}
 use Rattle.ppm_strands.specs.Tree.{Words, Tree}
 use Rattle.ppm_cells.specs.Cells.{IsInPool}
 use Rattle.ppm_cells.specs.declared.cell.Cell.{Cell}
 use Rattle.ppm_cells.specs.declared.cell.Cell.TheVariants.{FinishWord, CarryWord, DeadWord, RestartWord, MessageWord, HolderWord, Top, RoomCounter, EntryWord, BlockWord, ArrayWord}
-use Rattle.ppm_cells.specs.declared.link.LinkKind.{LinkKind}
 use Rattle.ppm_cells.specs.declared.link.LinkKind.TheVariants.{Root, Branch}
 use Rattle.ppm_cells.specs.declared.restart.RestartKind.{RestartKind}
 use Rattle.ppm_cells.specs.declared.restart.RestartKind.TheVariants.{Run, Bump, Push1, Push2, Unwind, Arrive, Join, Pop1, Pop2, Seek, Steal, Check, Take, Take2}
 use Rattle.ppm_cells.specs.declared.shape.Shape.{Shape}
 use Rattle.ppm_cells.specs.declared.shape.Takeover.{Takeover}
 use Rattle.ppm_cells.specs.declared.shape.Takeover.TheVariants.{ByPlaces, ByEntries}
-use Rattle.ppm_cells.specs.declared.side.Side.{Side}
-use Rattle.ppm_cells.specs.declared.side.Side.TheVariants.{Left, Right}
+use Rattle.ppm_cells.specs.declared.side.Side.TheVariants.{Left}
 use Rattle.ppm_capsules.specs.Strand.{Frame}
 use Rattle.ppm_code.specs.Strands.{Point, Result}
 use Rattle.ppm_code.specs.declared.code.CodeParts.{CodeParts}
@@ -22,7 +20,7 @@ use Rattle.ppm_code.specs.declared.location.FrameWord.{FrameWord}
 use Rattle.ppm_join.specs.Order.{first}
 use Rattle.ppm_step.specs.Among.{IsActAmong}
 use Rattle.ppm_step.specs.Frames.{Rest, Loads, Stores, Full, Installs, Breaks}
-use Rattle.ppm_step.specs.Rows.{row_of, is_inline, is_last, joins, push_at, by_places}
+use Rattle.ppm_step.specs.Rows.{row_of, push_at, by_places}
 use Rattle.ppm_step.specs.Standings.{Standing, IsLost, IsPlaced, IsAt, IsWithin, IsRunning, IsBroken, IsDone}
 use Rattle.ppm_step.specs.State.{State as RunState, stand_of}
 use Rattle.ppm_step.specs.declared.content.Content.{Content}
@@ -40,15 +38,11 @@ use Rattle.ppm_tickets.specs.Lawful.{Pushes, Carries}
 use Rattle.ppm_tickets.specs.Saw.{IsStrand, HasSeen, Strand, Looks}
 use Rattle.ppm_tickets.specs.View as spots
 use Rattle.ppm_tickets.specs.Words.{Word, Slot, has}
-use Rattle.ppm_frames.specs.Skeletons.{Stand, Begins, Over, Arrives, InPlace, Fresh, Waiting, Held, Came, Inlined, Skeleton, Leaf, Calling, Forking, hung, inside, count, Around, plug, hook_at}
-use Rattle.ppm_frames.specs.Good.{IsPlain, mark, order_of, Match, Good}
-use Rattle.ppm_frames.proofs.SkeletonLemmas.{branch_from, inside_at}
-use Rattle.ppm_frames.proofs.SwapLemmas.{good_here}
+use Rattle.ppm_frames.specs.Skeletons.{Stand, Begins, Over, Arrives, InPlace, Skeleton, Leaf, Around, plug, hook_at}
+use Rattle.ppm_frames.specs.Good.{Match}
 use Rattle.ppm_kept.specs.Running.{IsFair}
-use Rattle.ppm_kept.specs.Kept.{Image, seat_at, InRow, InRest, State, Reach, Reached, Does, Ordered, carried, IsKept}
-use Rattle.ppm_kept.proofs.NodeLemmas.{nodes_same}
+use Rattle.ppm_kept.specs.Kept.{Image, seat_at, InRow, InRest, State, Reach, Does, Ordered, carried, IsKept}
 use Rattle.ppm_kept.proofs.PlaceLemmas.{Leafed, leaf, head_on}
-use Rattle.ppm_kept.proofs.JoiningLemmas.{joins as joins_leaf, inline_late}
 use Rattle.ppm_kept.proofs.Rows.{run_row_keeps}
 use Rattle.ppm_kept.proofs.UnwindRow.{unwind_row_keeps}
 use Rattle.ppm_kept.proofs.ArriveRow.{arrive_row_keeps}

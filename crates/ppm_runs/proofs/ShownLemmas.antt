@@ -25,7 +25,7 @@ use Rattle.ppm_tickets.specs.Saw.{Carried, Sits, HasSeen, Sees}
 use Rattle.ppm_tickets.specs.View as spots
 use Rattle.ppm_tickets.specs.Words.{Word, Empty, Local, Job, Taken, Held, Number, Linked, Restarts, Unread, Spot, Holder}
 use Rattle.ppm_frames.specs.Views.{place_of, in_pool, is_cell}
-use Rattle.ppm_frames.specs.Skeletons.{Skeleton, Around, Top as Whole, AtCall, AtLeft, AtRight, plug}
+use Rattle.ppm_frames.specs.Skeletons.{Skeleton}
 use Rattle.ppm_kept.specs.Kept.{Image, InRow, InRest, State, Does, Head, owner, IsKept}
 use Rattle.ppm_kept.specs.Moves.{doing_of}
 use Rattle.ppm_kept.specs.Places.{places_of, is_in, IsOf, Holds}
