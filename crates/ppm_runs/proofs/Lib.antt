@@ -10,5 +10,6 @@ pub mod TakerLemmas
 pub mod GoingLemmas
 pub mod BornLemmas
 pub mod OpenLemmas
+pub mod BrokenLemmas
 pub mod OutcomeLemmas
 pub mod WholeLemmas

@@ -1,5 +1,5 @@
 //! What turns owe, shown by calls that do nothing.
-ghost use Rattle.ppm_runs.specs.Laws.{BirthsFollow, TakersHave, TurnsAreOrderly, TurnsGoOn};
+ghost use Rattle.ppm_runs.specs.Laws.{BirthsFollow, BrokenFollow, TakersHave, TurnsAreOrderly, TurnsGoOn};
 ghost use Rattle.ppm_runs.specs.Openings.{RunsOpen};
 ghost use Rattle.ppm_runs.specs.Outcomes.{RunsEnd, StopsStay};
 ghost use Rattle.ppm_runs.specs.Whole.{RunsComeTo};
@@ -23,9 +23,11 @@ pub fn turns_go_on()
     ensures law { TurnsGoOn }
 {}
 
-/// With takeover by places blocks are forked upwards still after each turn of a run's state.
+/// With takeover by places blocks are forked upwards still after each turn of a run's state; and who
+/// has met broken words knows a place, or that it is at none.
 pub fn births_follow()
-    ensures law { BirthsFollow }
+    ensures births { BirthsFollow }
+    ensures broken { BrokenFollow }
 {}
 
 /// A machine that opens an image of a sound code is in the state of a run.
