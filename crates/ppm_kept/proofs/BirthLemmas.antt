@@ -59,7 +59,7 @@ steady_floor m p (Check v x) steady = refl
 steady_floor m p (Take v x) steady = refl
 steady_floor m p (Take2 v) steady = refl
 
-same_floor : (m n : Cell → ℕ) (q : ℕ) → n (RoomCounter q) ≡ m (RoomCounter q) → (k : RestartKind) → floor n q k ≡ floor m q k
+pub same_floor : (m n : Cell → ℕ) (q : ℕ) → n (RoomCounter q) ≡ m (RoomCounter q) → (k : RestartKind) → floor n q k ≡ floor m q k
 same_floor m n q e (Run f y) = e
 same_floor m n q e (Bump r) = refl
 same_floor m n q e (Push1 r) = e
@@ -75,7 +75,7 @@ same_floor m n q e (Check v x) = e
 same_floor m n q e (Take v x) = e
 same_floor m n q e (Take2 v) = e
 
-counter_same : (m : Cell → ℕ) (c : Cell) (w q : ℕ) → IsNoCounter c → write m c w (RoomCounter q) ≡ m (RoomCounter q)
+pub counter_same : (m : Cell → ℕ) (c : Cell) (w q : ℕ) → IsNoCounter c → write m c w (RoomCounter q) ≡ m (RoomCounter q)
 counter_same m c w q none = write_else m c w (RoomCounter q) (λ e. subst IsNoCounter (sym e) none)
 
 -- the block of a kind that opens one

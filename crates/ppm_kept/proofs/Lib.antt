@@ -58,4 +58,6 @@ pub mod StateLemmas
 pub mod BeginLemmas
 pub mod LoadLemmas
 pub mod StepRows
+pub mod BearLemmas
 pub mod AnswerLemmas
+pub mod RoomLemmas

@@ -20,4 +20,6 @@ pub mod Fates
 pub mod Places
 pub mod Loads
 pub mod Steps
+pub mod Bearing
 pub mod Answers
+pub mod Rooms

@@ -2,6 +2,7 @@
 //! codes without conflicts.
 ghost use Rattle.ppm_kept.specs.Answers.{EndsAsMeant};
 ghost use Rattle.ppm_kept.specs.Arriving.{ArriveRowKeeps};
+ghost use Rattle.ppm_kept.specs.Bearing.{TurnsBear};
 ghost use Rattle.ppm_kept.specs.Births.{AllBirthsStay, OpeningsHaveNone, RowsAreSteady};
 ghost use Rattle.ppm_kept.specs.Copies.{AllCopiesStay, OpeningsHaveCopies};
 ghost use Rattle.ppm_kept.specs.Fates.{AllFatesShow, AllFatesStay, NoneIsLeft};
@@ -15,6 +16,7 @@ ghost use Rattle.ppm_kept.specs.Others.{OthersKeep};
 ghost use Rattle.ppm_kept.specs.Places.{MachinesOpen, TurnsShow};
 ghost use Rattle.ppm_kept.specs.Pushing.{AllUntakenStays, Push1RowKeeps, Push2RowKeeps};
 ghost use Rattle.ppm_kept.specs.Returns.{ExchangesAreSeen, UnwindRowKeeps};
+ghost use Rattle.ppm_kept.specs.Rooms.{RoomIsBounded};
 ghost use Rattle.ppm_kept.specs.Steps.{TurnsKeep};
 ghost use Rattle.ppm_kept.specs.Takes.{TakeRowsKeep};
 ghost use Rattle.ppm_kept.specs.Turns.{StepsAreSeen, StoresAreCells};
@@ -153,6 +155,11 @@ pub fn ends_as_meant()
     ensures law { EndsAsMeant }
 {}
 
+/// Whatever places do, none gives out more of its pool than the depth-first run takes of all.
+pub fn room_is_bounded()
+    ensures law { RoomIsBounded }
+{}
+
 /// Blocks are opened upwards in each pool: those that were forked lie below what a place may still
 /// open, and so they do after each step, with the one that is forked then, which is new. Rows of
 /// other kinds than Bump store into no counter and install none.
@@ -160,6 +167,11 @@ pub fn forks_are_new()
     ensures stay { AllBirthsStay }
     ensures openings { OpeningsHaveNone }
     ensures steady { RowsAreSteady }
+{}
+
+/// So it is over a whole turn, with takeover by places, of the blocks of `forks_of` and those before.
+pub fn turns_bear()
+    ensures law { TurnsBear }
 {}
 
 /// The right branches that no place has run yet: each step's skeleton has the same ones, but for the

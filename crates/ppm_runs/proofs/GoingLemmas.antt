@@ -125,7 +125,7 @@ module _ (s : Shape) (code : CodeParts) (places : s.takeover ≡ ByPlaces) (fair
   abbrev In : ℕ → Seat → Row → Type 0
   In c seat row = Within s code root input state h forked taken t run c seat row
 
-  pub came_by : (c : ℕ) (seat : Seat) (row : Row) → In c seat row → CameBy s seat seat.restart.kind row
+  came_by : (c : ℕ) (seat : Seat) (row : Row) → In c seat row → CameBy s seat seat.restart.kind row
   came_by c seat row w = by seat.restart.kind refl w.seen
     where
       looked : (k : RestartKind) → seat.restart.kind ≡ k → (IsStrand k → ⊥) → HasSeen s (spots.with_restarts (spots.view s state.words) (spots.kinds s state.words) (spots.bottoms s state.words)) seat row
@@ -199,7 +199,7 @@ module _ (s : Shape) (code : CodeParts) (places : s.takeover ≡ ByPlaces) (fair
   leaves_so c (IsBroken p) e = tt
   leaves_so c IsDone e = tt
 
-  acts_so : (c : ℕ) (act : Act) → c < s.processors → ActsSo i state t c act (stand_of state c)
+  pub acts_so : (c : ℕ) (act : Act) → c < s.processors → ActsSo i state t c act (stand_of state c)
   acts_so c (Step victim) there = (record { words = run.lawful.0; there = there }, stands_so c (stand_of state c) refl)
   acts_so c Soft there = (record { words = run.lawful.0; there = there }, leaves_so c (stand_of state c) refl)
   acts_so c Hard there = (record { words = run.lawful.0; there = there }, leaves_so c (stand_of state c) refl)

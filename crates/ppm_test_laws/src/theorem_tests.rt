@@ -8,10 +8,12 @@ use ppm_kept::{
     arrive_row_keeps, branch_values_pass, bump_row_keeps, copies_stay, early_join_row_keeps,
     ends_as_meant, exchanges_are_seen, fates_agree, forks_are_new, frames_run, join_row_keeps,
     last_join_row_keeps, loads_show, openings_are_kept, others_keep, push1_row_keeps,
-    push2_row_keeps, run_row_keeps, steps_are_seen, take_rows_keep, turns_keep, turns_show,
-    unruns_stay, untaken_stays, unwind_row_keeps,
+    push2_row_keeps, room_is_bounded, run_row_keeps, steps_are_seen, take_rows_keep, turns_bear,
+    turns_keep, turns_show, unruns_stay, untaken_stays, unwind_row_keeps,
 };
-use ppm_runs::{births_follow, runs_open, takers_have, turns_are_orderly, turns_go_on};
+use ppm_runs::{
+    births_follow, runs_end, runs_open, stops_stay, takers_have, turns_are_orderly, turns_go_on,
+};
 use ppm_slots::{frames_stay_trim, writes_are_slots};
 use ppm_tickets::{
     entries_change_lawfully, images_open, in_every_run, in_every_run_by_entries, places_stay_home,
@@ -76,13 +78,17 @@ fn the_laws_of_rows_are_called() {
     fates_agree();
     turns_show();
     loads_show();
+    turns_bear();
     turns_keep();
     ends_as_meant();
+    room_is_bounded();
 }
 
 #[test]
 fn the_laws_of_runs_are_called() {
     runs_open();
+    runs_end();
+    stops_stay();
     takers_have();
     births_follow();
     turns_are_orderly();
