@@ -26,7 +26,10 @@ use Rattle.ppm_frames.specs.Skeletons.{Begins, InPlace, Skeleton, Leaf}
 use Rattle.ppm_kept.specs.Running.{IsFair}
 use Rattle.ppm_kept.specs.Steps.{tree_after, IsStop, IsStopped}
 use Rattle.ppm_runs.specs.Run.{image, IsRun}
-use Rattle.ppm_runs.specs.Whole.{TurnsLead, RunsComeTo}
+use Rattle.ppm_runs.specs.Whole.{TurnsLead, JoinsLead, RunsComeTo}
+use Rattle.ppm_runs.proofs.BearingLemmas.{births_follow}
+use Rattle.ppm_runs.proofs.BrokenLemmas.{broken_follow}
+use Rattle.ppm_runs.proofs.GoingLemmas.{turns_go_on}
 use Rattle.ppm_runs.proofs.OpenLemmas.{runs_open}
 use Rattle.ppm_runs.proofs.OutcomeLemmas.{runs_end, stops_stay, finish_in}
 
@@ -64,6 +67,22 @@ module _ (lead : TurnsLead) (s : Shape) (code : CodeParts) (places : s.takeover 
             (subst (λ (w : RunState). IsStopped s w.words) (in_two s code (opening words s.processors) (first ++ turn ∷ []) more)
             (stops_stay s code fair.code_is words (first ++ turn ∷ []) more (subst (λ (w : RunState). IsStopped s w.words) (sym e) stop))))
       ]
+
+pub joins_lead : JoinsLead
+joins_lead joins s code places fair root input state h forked taken t run turn among =
+    let on = turns_go_on s code places fair root input state h forked taken t run in
+    elim (on.kept turn among) [
+      | inl kept ↦ inl (let joined = joins s code places fair root input state h forked taken t run turn among kept in record {
+        lawful = on.lawful turn among;
+        kept = kept;
+        agrees = joined.agrees;
+        last = joined.last;
+        ready = joined.ready;
+        broken = broken_follow s code root input state h forked taken t run turn;
+        born = births_follow s code places fair root input state h forked taken t run turn among;
+      })
+      | inr stopped ↦ inr stopped
+    ]
 
 pub runs_come_to : RunsComeTo
 unfolding view

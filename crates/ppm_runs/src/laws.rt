@@ -2,7 +2,7 @@
 ghost use Rattle.ppm_runs.specs.Laws.{BirthsFollow, BrokenFollow, TakersHave, TurnsAreOrderly, TurnsGoOn};
 ghost use Rattle.ppm_runs.specs.Openings.{RunsOpen};
 ghost use Rattle.ppm_runs.specs.Outcomes.{RunsEnd, StopsStay};
-ghost use Rattle.ppm_runs.specs.Whole.{RunsComeTo};
+ghost use Rattle.ppm_runs.specs.Whole.{JoinsLead, RunsComeTo};
 
 /// With takeover by places each turn is orderly in a state of a run: block words that it changes
 /// are those of pools, a block that it forks was not forked before, and a branch that it begins
@@ -48,8 +48,10 @@ pub fn stops_stay()
 {}
 
 /// From an image of a sound code, whatever the turns: where the finish word says an outcome the
-/// depth-first run of the root ends so, and each branch that was forked was taken once. That each
-/// turn leads from one state of a run to the next is the one premise, which is still to be shown.
+/// depth-first run of the root ends so, and each branch that was forked was taken once, if each turn
+/// leads from one state of a run to the next. It does where what joins the two halves of such a
+/// state stays so, which is still to be shown.
 pub fn runs_come_to()
     ensures law { RunsComeTo }
+    ensures joins { JoinsLead }
 {}
