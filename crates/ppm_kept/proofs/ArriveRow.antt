@@ -200,6 +200,7 @@ module _ (i : Image) (fair : IsFair i.code) (root : Tree (Frame FrameWord Point)
       good = (come.framed, tt, subst (λ (k : RestartKind). Match i.code m k (hook_at Root come.around) Arrives come.frame) (sym (put_here s.kind p (Join r d))) come.hook);
       adds = λ x. inl (omega arith, omega arith);
       grows = omega (arith, roof);
+      pays = omega (arith, roof);
       bound = let b = (law.rooms p).1 in omega (arith, b, roof);
       places = is_at_own p ∙ sym (cond-false {A = ℕ} (o == side_code d) 0 1 late);
       placed = λ q ne. refl;
@@ -231,6 +232,7 @@ module _ (i : Image) (fair : IsFair i.code) (root : Tree (Frame FrameWord Point)
       good = good_same m m i.code s.kind (put s.kind p (Join r d)) Root t (λ x ne. refl) (λ q some. put_else s.kind p (Join r d) q (λ e. some (ap (λ (a : ℕ). at a t) e ∙ nobody))) law.good;
       adds = λ x. inl (omega arith, omega arith);
       grows = omega (arith, roof);
+      pays = omega (arith, roof);
       bound = let b = (law.rooms p).1 in omega (arith, b, roof);
       places = nobody ∙ sym (cond-true {A = ℕ} (o == side_code d) 0 1 came);
       placed = λ q ne. refl;

@@ -1,15 +1,13 @@
 -- The blocks that were forked stay below what a place may still open, and the one that it forks next
 -- is new.
-use Rattle.std.proofs.Common.{◌≡◌, ◌≤◌, ◌<◌, ℕ, zero, suc, ◌+◌, ◌==◌, cond, Bool, true, false, inl, inr, refl, sym, ap, ◌∙◌, subst, subst₂, arith, Option, Some, None}
+use Rattle.std.proofs.Common.{◌≡◌, ◌≤◌, ◌<◌, ℕ, ◌+◌, ◌==◌, cond, Bool, true, false, inl, inr, refl, sym, ap, ◌∙◌, subst, subst₂, arith}
 use Rattle.std.specs.Prelude.{if◌then◌else◌}
 use Rattle.std.proofs.lemmas.Bool.{cases_eq, cases_Bool, eqb-true}
 use Rattle.ppm_strands.specs.Tree.{Words, Tree}
 use Rattle.ppm_cells.specs.Finish.{finish_word}
-use Rattle.ppm_cells.specs.Link.{link_of}
 use Rattle.ppm_cells.specs.declared.cell.Cell.{Cell}
 use Rattle.ppm_cells.specs.declared.cell.Cell.TheVariants.{FinishWord, RoomCounter, BlockWord}
 use Rattle.ppm_cells.specs.declared.finish.Finish.TheVariants.{OutOfRoom}
-use Rattle.ppm_cells.specs.declared.link.Link.{Link}
 use Rattle.ppm_cells.specs.declared.link.LinkKind.{LinkKind}
 use Rattle.ppm_cells.specs.declared.link.LinkKind.TheVariants.{Root, Call as Called, Branch, Fork as Forked}
 use Rattle.ppm_cells.specs.declared.restart.RestartKind.{RestartKind}
@@ -23,27 +21,23 @@ use Rattle.ppm_code.specs.declared.act.End.{End}
 use Rattle.ppm_code.specs.declared.act.End.TheVariants.{Next, Finish as Finishing, Trap, Call, Fork as Forking_}
 use Rattle.ppm_code.specs.declared.location.FrameWord.{FrameWord}
 use Rattle.ppm_capsules.specs.Capsule.{Ends as EndsCapsule}
-use Rattle.ppm_step.specs.Contents.{read_so}
 use Rattle.ppm_step.specs.Frames.{Installs, installed}
-use Rattle.ppm_step.specs.Rows.{row_of, on_link, bumped}
-use Rattle.ppm_step.specs.declared.content.Content.TheVariants.{ALink}
 use Rattle.ppm_step.specs.declared.frame.Home.{Home}
-use Rattle.ppm_step.specs.declared.row.Row.{Row}
 use Rattle.ppm_step.specs.declared.row.Row.TheVariants.{Now}
-use Rattle.ppm_step.specs.declared.row.Seat.{Seat}
 use Rattle.ppm_step.specs.declared.row.Then.{Then}
 use Rattle.ppm_step.specs.declared.row.Then.TheVariants.{Fork}
 use Rattle.ppm_frames.specs.Views.{written as write}
 use Rattle.ppm_frames.specs.Skeletons.{Begins, InPlace, Skeleton, Leaf, Forking, count, Around, plug, hook_at}
-use Rattle.ppm_frames.specs.Good.{link_or, link_at, BumpsAt, Match}
+use Rattle.ppm_frames.specs.Good.{link_at, BumpsAt, Match}
 use Rattle.ppm_frames.proofs.WriteLemmas.{write_else, address}
 use Rattle.ppm_frames.proofs.SkeletonLemmas.{inside_at, branch_from}
 use Rattle.ppm_kept.specs.Running.{room_or, HasCome, IsFair, IsClean, Opens, home_at, number_at}
-use Rattle.ppm_kept.specs.Kept.{Image, start, end_of, owner, seat_at, Doing, Resting, InRow, InRest, State, put, ceiling, carried, Free, Reach, Under, Does, IsKept}
+use Rattle.ppm_kept.specs.Kept.{Image, start, end_of, owner, Doing, Resting, InRow, InRest, State, put, ceiling, carried, Free, Does, IsKept}
 use Rattle.ppm_kept.specs.Moves.{doing_of, installs}
 use Rattle.ppm_kept.specs.Laws.{Ends, kind_then}
 use Rattle.ppm_kept.specs.Births.{floor, Births, with_block, IsNoCounter, IsSteady, AllBirthsStay, OpeningsHaveNone}
 use Rattle.ppm_kept.proofs.BumpRow.{Bumps, bump_at}
+use Rattle.ppm_kept.proofs.BumpEndLemmas.{BumpEnd, bump_ended}
 use Rattle.ppm_kept.proofs.OwnerLemmas.{owned}
 use Rattle.ppm_kept.proofs.PlaceLemmas.{leaf, counted}
 use Rattle.ppm_kept.proofs.PutLemmas.{put_here, put_else}
@@ -65,7 +59,7 @@ steady_floor m p (Check v x) steady = refl
 steady_floor m p (Take v x) steady = refl
 steady_floor m p (Take2 v) steady = refl
 
-same_floor : (m n : Cell → ℕ) (q : ℕ) → n (RoomCounter q) ≡ m (RoomCounter q) → (k : RestartKind) → floor n q k ≡ floor m q k
+pub same_floor : (m n : Cell → ℕ) (q : ℕ) → n (RoomCounter q) ≡ m (RoomCounter q) → (k : RestartKind) → floor n q k ≡ floor m q k
 same_floor m n q e (Run f y) = e
 same_floor m n q e (Bump r) = refl
 same_floor m n q e (Push1 r) = e
@@ -81,17 +75,13 @@ same_floor m n q e (Check v x) = e
 same_floor m n q e (Take v x) = e
 same_floor m n q e (Take2 v) = e
 
-counter_same : (m : Cell → ℕ) (c : Cell) (w q : ℕ) → IsNoCounter c → write m c w (RoomCounter q) ≡ m (RoomCounter q)
+pub counter_same : (m : Cell → ℕ) (c : Cell) (w q : ℕ) → IsNoCounter c → write m c w (RoomCounter q) ≡ m (RoomCounter q)
 counter_same m c w q none = write_else m c w (RoomCounter q) (λ e. subst IsNoCounter (sym e) none)
 
 -- the block of a kind that opens one
 abbrev block_told : RestartKind → ℕ
 block_told (Bump r) = r
 block_told _ = 0
-
-abbrev fork_told : Row → ℕ
-fork_told (Now (Fork r)) = r
-fork_told _ = 0
 
 module _ (i : Image) (fair : IsFair i.code) (root : Tree (Frame FrameWord Point) Result) (input : Words) (s : State) (t : Skeleton) (law : IsKept i root input s t)
     (born : ℕ → Bool) (births : Births i s born) (p : ℕ) where
@@ -183,47 +173,11 @@ module _ (i : Image) (fair : IsFair i.code) (root : Tree (Frame FrameWord Point)
 
   -- the end of Bump
   module _ (q : ℕ) (ke : s.kind p ≡ Bump q) where
-    record BumpEnd (next : Then) : Type 0 where
-      pub size : ℕ
-      pub counter : m (RoomCounter p) ≡ q + size
-      pub steady : IsSteady (kind_then next)
-      pub link : (x : ℕ) → next ≡ Fork x → (q ≡ x) × ((link_at (m (BlockWord q))).size ≡ size)
+    abbrev Ending : Then → Type 0
+    Ending next = BumpEnd i s p q next
 
-    abbrev EndLaw : Row → Type 0
-    EndLaw (Now next) = Ends next → BumpEnd next
-    EndLaw row = Unit {0}
-
-    abbrev fork_then : Then → ℕ
-    fork_then (Fork x) = x
-    fork_then _ = 0
-
-    module _ (b : ℕ) where
-      abbrev seat : Seat
-      seat = seat_at p (Bump q) b
-
-      end_some : (k : LinkKind) (z n : ℕ) (next : Then) → link_of (m (BlockWord q)) ≡ Some (record { kind = k; size = z }) → Reach i m seat n (bumped seat q z k) (Now next) → EndLaw (Now next)
-      end_some (Called g y) z zero next e a = absurd (cc)
-      end_some (Called g y) z (suc zero) next e a = subst EndLaw a.1 (λ ends. record { size = z; counter = a.0; steady = tt; link = λ x w. absurd (let v = w in cc) })
-      end_some (Called g y) z (suc (suc n)) next e a = absurd a.1
-      end_some (Forked g y) z zero next e a = absurd (cc)
-      end_some (Forked g y) z (suc zero) next e a = subst EndLaw a.1 (λ ends. record { size = z; counter = a.0; steady = tt; link = λ x w. (ap fork_then w, ap (λ (o : Option Link). (link_or o).size) e) })
-      end_some (Forked g y) z (suc (suc n)) next e a = absurd a.1
-      end_some Root z zero next e a = subst EndLaw a (λ ends. absurd ends)
-      end_some Root z (suc n) next e a = absurd a
-      end_some (Branch d x) z zero next e a = subst EndLaw a (λ ends. absurd ends)
-      end_some (Branch d x) z (suc n) next e a = absurd a
-
-      end_by : (o : Option Link) → link_of (m (BlockWord q)) ≡ o → (n : ℕ) (next : Then) → Reach i m seat n (on_link (read_so ALink o) (λ (l : Link). bumped seat q l.size l.kind)) (Now next) → EndLaw (Now next)
-      end_by None e zero next a = subst EndLaw a (λ ends. absurd ends)
-      end_by None e (suc n) next a = absurd a
-      end_by (Some l) e n next a = end_some l.kind l.size n next e a
-
-      end_reached : (n : ℕ) (next : Then) → Reach i m seat n (row_of i.shape seat (Bump q)) (Now next) → EndLaw (Now next)
-      end_reached zero next a = subst EndLaw a (λ ends. absurd ends)
-      end_reached (suc n) next a = end_by (link_of (m (BlockWord q))) refl n next a
-
-    ended : (next : Then) → s.doing p ≡ InRow (Now next) → Ends next → BumpEnd next
-    ended next de ends = let u : Under i m p (Bump q) (Now next) = subst₂ (λ (k : RestartKind) (d : Doing). Does i m p k d) ke de (law.does p) in end_reached u.0 u.1 next u.2 ends
+    ended : (next : Then) → s.doing p ≡ InRow (Now next) → Ends next → Ending next
+    ended next de ends = bump_ended i root input s t law p q ke next de ends
 
     bump_end_birth : (next : Then) → s.doing p ≡ InRow (Now next) → Ends next → Births i (installs s p (kind_then next)) born
     bump_end_birth next de ends = let e = ended next de ends in install_birth (kind_then next)
@@ -264,7 +218,7 @@ module _ (i : Image) (fair : IsFair i.code) (root : Tree (Frame FrameWord Point)
     ]
 
     module _ (r : ℕ) (de : s.doing p ≡ InRow (Now (Fork r))) where
-      end : BumpEnd (Fork r)
+      end : Ending (Fork r)
       end = ended (Fork r) de tt
 
       same : q ≡ r

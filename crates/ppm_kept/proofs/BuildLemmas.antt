@@ -8,6 +8,7 @@ use Rattle.ppm_strands.proofs.ChainLemmas.{ahead_composes}
 use Rattle.ppm_capsules.proofs.StrandLemmas.{code_is_local}
 use Rattle.ppm_code.specs.Locations.{code_locations}
 use Rattle.ppm_code.specs.Strands.{table_of}
+use Rattle.ppm_code.specs.Sizes.{frame_size}
 use Rattle.ppm_strands.specs.Tree.{Words, Tree}
 use Rattle.ppm_cells.specs.declared.link.LinkKind.{LinkKind}
 use Rattle.ppm_cells.specs.declared.link.LinkKind.TheVariants.{Root}
@@ -31,6 +32,16 @@ use Rattle.ppm_kept.specs.Others.{KeptAt}
 use Rattle.ppm_kept.proofs.OwnerLemmas.{owned}
 use Rattle.ppm_kept.proofs.BranchLemmas.{Unrun, unpushed_less, waits_swap}
 
+-- a step of the part, or none
+abbrev pub Moved : Image → (s z : State) → Around → (u v : Skeleton) → Type 0
+Moved i s z c u v = ((k : Counts) × Step (strands i.shape i.code) k (tree_at s.words (hook_at Root c) u) (arrays_at s.words) (tree_at z.words (hook_at Root c) v) (arrays_at z.words))
+    ⊎ ((tree_at z.words (hook_at Root c) v ≡ tree_at s.words (hook_at Root c) u) × (arrays_at z.words ≡ arrays_at s.words))
+
+-- the block words that it counts
+abbrev pub words_of : (i : Image) (s z : State) (c : Around) (u v : Skeleton) → Moved i s z c u v → ℕ
+words_of i s z c u v (inl step) = step.0.block_words
+words_of i s z c u v (inr same) = 0
+
 pub record Turn (i : Image) (s : State) (t : Skeleton) (p : ℕ) (z : State) (c : Around) (u v : Skeleton) (k : RestartKind) (d : Doing) : Type 0 where
   pub is : t ≡ plug c u
   pub alone : at_rim p c ≡ 0
@@ -40,14 +51,14 @@ pub record Turn (i : Image) (s : State) (t : Skeleton) (p : ℕ) (z : State) (c 
   pub doing : z.doing p ≡ d
   pub doings : (q : ℕ) → q ≢ p → z.doing q ≡ s.doing q
   pub around : Same (rim Root c) s.words z.words
-  pub step : ((k : Counts) × Step (strands i.shape i.code) k (tree_at s.words (hook_at Root c) u) (arrays_at s.words) (tree_at z.words (hook_at Root c) v) (arrays_at z.words))
-      ⊎ ((tree_at z.words (hook_at Root c) v ≡ tree_at s.words (hook_at Root c) u) × (arrays_at z.words ≡ arrays_at s.words))
+  pub step : Moved i s z c u v
   pub swap : Swap s.words z.words (hook_at Root c) u v
   pub good : Good i.code z.words z.kind (hook_at Root c) v
   -- an address of the new part was one of the old, or is of the pool of p and was free
   pub adds : (x : ℕ) → ((count (hook_at Root c) v x ≤ count (hook_at Root c) u x) × (plain (hook_at Root c) v x ≤ plain (hook_at Root c) u x))
       ⊎ ((count (hook_at Root c) v x ≤ 1 + count (hook_at Root c) u x) × (ceiling i s.words p (s.kind p) ≤ x) × (x < ceiling i z.words p k))
   pub grows : ceiling i s.words p (s.kind p) ≤ ceiling i z.words p k
+  pub pays : ceiling i z.words p k ≤ ceiling i s.words p (s.kind p) + words_of i s z c u v step
   pub bound : ceiling i z.words p k ≤ end_of i p
   pub places : at p v ≡ carried z.words k
   pub placed : (q : ℕ) → q ≢ p → at q v ≡ at q u
@@ -138,21 +149,37 @@ module _ (i : Image) (fair : IsFair i.code) (root : Tree (Frame FrameWord Point)
     aims_then : (q r f b : ℕ) → is_taker (z.kind q) ≡ true → z.doing q ≡ InRow (Now (Begin r f b)) → Waits r f (plug c v)
     aims_then q r f b = each (λ q. is_taker (z.kind q) ≡ true → z.doing q ≡ InRow (Now (Begin r f b)) → Waits r f (plug c v)) (own_aim r f b) (λ q ne. other_aim q r f b ne) q
 
+    -- what is ahead then
+    abbrev counts_by : Moved i s z c u v → Counts
+    counts_by (inl st) = plus law.ahead.0 st.0
+    counts_by (inr same) = law.ahead.0
+
+    ahead_by : (step : Moved i s z c u v) → Ahead (strands i.shape i.code) (counts_by step) root input (tree_of z.words (plug c v)) (arrays_at z.words)
+    ahead_by (inl st) = let whole = step_in s.words z.words (strands i.shape i.code) st.0 (arrays_at s.words) (arrays_at z.words) Root c u v turn.around turn.swap.aim st.1 in
+        let whole' = subst (λ (w : Skeleton). Step (strands i.shape i.code) st.0 (tree_of s.words w) (arrays_at s.words) (tree_of z.words (plug c v)) (arrays_at z.words)) (sym turn.is) whole in
+        (ahead_composes (strands i.shape i.code)).both law.ahead.0 st.0 root (tree_of s.words t) (tree_of z.words (plug c v)) input (arrays_at s.words) (arrays_at z.words)
+        law.ahead.1 (step_ahead (strands i.shape i.code) (code_is_local code_locations (table_of i.code i.shape.arrays)) whole' law.ahead.1.calm)
+    ahead_by (inr same) = subst₂ (λ (w : Tree (Frame FrameWord Point) Result) (b : Words). Ahead (strands i.shape i.code) law.ahead.0 root input w b)
+        (sym (tree_in s.words z.words Root c u v turn.around turn.swap.aim same.0 ∙ ap (λ (w : Skeleton). tree_of s.words w) (sym turn.is))) (sym same.1) law.ahead.1
+
+    paid_by : (step : Moved i s z c u v) → ceiling i z.words p k ≤ ceiling i s.words p (s.kind p) + words_of i s z c u v step → (q : ℕ)
+        → ceiling i z.words q (z.kind q) ≤ start i q + (frame_size i.code i.code.root + (counts_by step).block_words)
+    paid_by step pays = each (λ q. ceiling i z.words q (z.kind q) ≤ start i q + (frame_size i.code i.code.root + (counts_by step).block_words))
+        (subst (λ (x : RestartKind). ceiling i z.words p x ≤ start i p + (frame_size i.code i.code.root + (counts_by step).block_words)) (sym turn.kind) (own step pays))
+        (λ q ne. subst (λ (x : RestartKind). ceiling i z.words q x ≤ start i q + (frame_size i.code i.code.root + (counts_by step).block_words)) (sym (turn.kinds q ne))
+        (subst (λ (x : ℕ). x ≤ start i q + (frame_size i.code i.code.root + (counts_by step).block_words)) (sym (turn.others q ne).roof) (more step q)))
+      where
+        more : (step : Moved i s z c u v) → (q : ℕ) → ceiling i s.words q (s.kind q) ≤ start i q + (frame_size i.code i.code.root + (counts_by step).block_words)
+        more (inl st) q = let a = law.paid q in omega (arith, a)
+        more (inr same) q = law.paid q
+
+        own : (step : Moved i s z c u v) → ceiling i z.words p k ≤ ceiling i s.words p (s.kind p) + words_of i s z c u v step → ceiling i z.words p k ≤ start i p + (frame_size i.code i.code.root + (counts_by step).block_words)
+        own (inl st) pays = let a = law.paid p in omega (arith, a, pays)
+        own (inr same) pays = let a = law.paid p in omega (arith, a, pays)
+
     pub build : IsKept i root input z (plug c v)
     build = record {
-      ahead = elim turn.step [
-        | inl st ↦ let whole = step_in s.words z.words (strands i.shape i.code) st.0 (arrays_at s.words) (arrays_at z.words) Root c u v turn.around turn.swap.aim st.1 in
-            let whole' = subst (λ (w : Skeleton). Step (strands i.shape i.code) st.0 (tree_of s.words w) (arrays_at s.words) (tree_of z.words (plug c v)) (arrays_at z.words)) (sym turn.is) whole in (
-              plus law.ahead.0 st.0,
-              (ahead_composes (strands i.shape i.code)).both law.ahead.0 st.0 root (tree_of s.words t) (tree_of z.words (plug c v)) input (arrays_at s.words) (arrays_at z.words)
-                  law.ahead.1 (step_ahead (strands i.shape i.code) (code_is_local code_locations (table_of i.code i.shape.arrays)) whole' law.ahead.1.calm),
-            )
-        | inr same ↦ (
-          law.ahead.0,
-          subst₂ (λ (w : Tree (Frame FrameWord Point) Result) (b : Words). Ahead (strands i.shape i.code) law.ahead.0 root input w b)
-              (sym (tree_in s.words z.words Root c u v turn.around turn.swap.aim same.0 ∙ ap (λ (w : Skeleton). tree_of s.words w) (sym turn.is))) (sym same.1) law.ahead.1,
-        )
-      ];
+      ahead = (counts_by turn.step, ahead_by turn.step);
       good = good_swap s.words z.words i.code s.kind z.kind Root c u v turn.around
           (λ q ne. elim (cases_eq q p) [ inl e ↦ absurd (ne (ap (λ (y : ℕ). at_rim y c) e ∙ turn.alone)) | inr other ↦ turn.kinds q other ]) turn.swap turn.good
           (subst (Good i.code s.words s.kind Root) turn.is law.good);
@@ -192,4 +219,5 @@ module _ (i : Image) (fair : IsFair i.code) (root : Tree (Frame FrameWord Point)
       copies = each (λ q. HasCopy (z.kind q)) (subst HasCopy (sym turn.kind) turn.unrun.copy) (λ q ne. subst HasCopy (sym (turn.kinds q ne)) (law.copies q));
       untaken = each (λ q. Unpushed q (plug c v) (z.kind q)) (subst (Unpushed p (plug c v)) (sym turn.kind) (turn.unrun.pushes apart_then)) unpushed_then;
       aims = aims_then;
+      paid = paid_by turn.step turn.pays;
     }

@@ -174,6 +174,7 @@ module _ (i : Image) (fair : IsFair i.code) (root : Tree (Frame FrameWord Point)
       good = good_same m m' i.code s.kind s.kind h u (λ x ne. pool x) (λ q ne. refl) (has_leaf.framed, has_leaf.sized, subst (λ (q : RestartKind). Match i.code m q h (Begins 0) f) (sym ke) (refl, has_leaf.at_, has_leaf.open_));
       adds = λ x. inl (omega arith, omega arith);
       grows = omega (arith, roof, top_is);
+      pays = omega (arith, roof, top_is);
       bound = let a = (law.rooms p).1 in omega (arith, a, roof, top_is);
       places = is_at_own p;
       placed = λ q ne. refl;
@@ -206,6 +207,7 @@ module _ (i : Image) (fair : IsFair i.code) (root : Tree (Frame FrameWord Point)
       good = (has_leaf.framed, has_leaf.sized, subst (λ (q : RestartKind). Match i.code m q h (Begins 0) f) (sym (put_here s.kind p k)) match);
       adds = λ x. inl (omega arith, omega arith);
       grows = omega (arith, roof, stored, top_is);
+      pays = omega (arith, roof, stored, top_is);
       bound = let a = (law.rooms p).1 in omega (arith, a, roof, stored, top_is);
       places = is_at_own p ∙ sym one;
       placed = λ q ne. refl;

@@ -242,6 +242,7 @@ module _ (i : Image) (fair : IsFair i.code) (root : Tree (Frame FrameWord Point)
         let e = left.plains (Branch Left r) x in let f = right.plains (Branch Right r) x in omega (arith, e, f),
       );
       grows = let e = roofs m' in omega (arith, roof, room_is, e);
+      pays = let e = roofs m' in omega (arith, roof, room_is, e);
       bound = let b = (law.rooms p).1 in let e = roofs m' in omega (arith, b, roof, room_is, e);
       places = sums;
       placed = λ q ne. let e = left.others q ne in let f = right.others q ne in omega (arith, e, f);

@@ -20,7 +20,7 @@ use Rattle.ppm_cells.specs.declared.shape.Shape.{Shape}
 use Rattle.ppm_cells.proofs.ExactLemmas.{pack-unpack}
 use Rattle.ppm_cells.proofs.FinishLemmas.{finishes_exact}
 use Rattle.ppm_capsules.specs.Strand.{Frame}
-use Rattle.ppm_code.specs.Sizes.{slots_of, slot_at, value_at, slots_at}
+use Rattle.ppm_code.specs.Sizes.{frame_size, slots_of, slot_at, value_at, slots_at}
 use Rattle.ppm_code.specs.Strands.{Point, Result, entry_of, at_capsule}
 use Rattle.ppm_code.specs.declared.code.CodeParts.{CodeParts}
 use Rattle.ppm_code.specs.declared.location.FrameWord.{FrameWord}
@@ -110,6 +110,12 @@ module _ (code : CodeParts) (input : List NamedArray) (s : Shape) (keeper : ℕ)
     | inr ne ↦ (let c = counter_other q ne in omega (arith, c), let c = counter_other q ne in omega (arith, c))
   ]
 
+  small : (q : ℕ) → m (RoomCounter q) ≤ start i q + frame_size code code.root
+  small q = elim (cases_eq q keeper) [
+    | inl e ↦ subst (λ (z : ℕ). m (RoomCounter z) ≤ start i z + frame_size code code.root) (sym e) (let c = counter_keeper in omega (arith, c))
+    | inr ne ↦ let c = counter_other q ne in omega (arith, c)
+  ]
+
   -- behind the root's frame all is 0
   past : (x : ℕ) → f + (6 + n) ≤ x ⊎ (x < f) → first_block s keeper (root_frame code input) x ≡ 0
   past x (inl le) = if_true (nat_le f x) _ _ (le-leb f x (omega (arith, le))) ∙ get_or_past (root_frame code input) (x - f) 0 (
@@ -161,6 +167,7 @@ module _ (code : CodeParts) (input : List NamedArray) (s : Shape) (keeper : ℕ)
           room = counter_keeper;
           finish = no_finish;
           rooms = rooms;
+          small = small;
           blank = λ q o lt. block (m (RoomCounter q) + o) (side q (m (RoomCounter q) + o) (omega arith) lt);
           calm = subst (λ (t : Tree (Frame FrameWord Point) Result). Calm (strands s code) t (arrays_at m)) (sym is) calm;
         },

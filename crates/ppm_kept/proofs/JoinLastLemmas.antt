@@ -298,6 +298,7 @@ module _ (i : Image) (fair : IsFair i.code) (root : Tree (Frame FrameWord Point)
         );
         adds = λ x. inl (omega arith, omega arith);
         grows = omega (arith, roof, room_is);
+        pays = omega (arith, roof, room_is);
         bound = let b = (law.rooms p).1 in omega (arith, b, roof, room_is);
         places = here_one ∙ sym (cond-false {A = ℕ} (m' (BlockWord (r + 1)) == side_code d) 0 1 (ap (λ (b : ℕ). b == side_code d) words_stay.order ∙ late));
         placed = λ q ne. refl;
@@ -336,6 +337,7 @@ module _ (i : Image) (fair : IsFair i.code) (root : Tree (Frame FrameWord Point)
       good = (forks.framed, sized, subst (λ (q : RestartKind). Match i.code m q h (back_to y) g) (sym (put_here s.kind p k)) match);
       adds = λ x. inl (omega arith, omega arith);
       grows = omega (arith, roof, top_is);
+      pays = omega (arith, roof, top_is);
       bound = let b = (law.rooms p).1 in omega (arith, b, roof, top_is);
       places = is_at_own p ∙ sym one;
       placed = λ q ne. is_at_other p q ne ∙ sym (only q ne);

@@ -163,6 +163,7 @@ module _ (i : Image) (fair : IsFair i.code) (root : Tree (Frame FrameWord Point)
       good = good_same m m i.code s.kind (put s.kind p Pop1) Root t (λ x ne. refl) (λ q some. put_else s.kind p Pop1 q (λ e. some (ap (λ (a : ℕ). at a t) e ∙ nobody))) law.good;
       adds = λ x. inl (omega arith, omega arith);
       grows = omega (arith, roof);
+      pays = omega (arith, roof);
       bound = let b = (law.rooms p).1 in omega (arith, b, roof);
       places = nobody;
       placed = λ q ne. refl;
@@ -237,6 +238,7 @@ module _ (i : Image) (fair : IsFair i.code) (root : Tree (Frame FrameWord Point)
         );
         adds = λ x. inl (omega arith, omega arith);
         grows = omega (arith, roof);
+        pays = omega (arith, roof);
         bound = let b = (law.rooms p).1 in omega (arith, b, roof);
         places = let a = is_at_own p in omega (arith, a);
         placed = λ q ne. let a = is_at_other p q ne in omega (arith, a);

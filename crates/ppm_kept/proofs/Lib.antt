@@ -50,9 +50,14 @@ pub mod JoinLastRow
 pub mod LookLemmas
 pub mod TakeRow
 pub mod SteadyLemmas
+pub mod BumpEndLemmas
 pub mod BirthLemmas
 pub mod UnrunLemmas
+pub mod FateLemmas
 pub mod StateLemmas
 pub mod BeginLemmas
 pub mod LoadLemmas
 pub mod StepRows
+pub mod BearLemmas
+pub mod AnswerLemmas
+pub mod RoomLemmas

@@ -10,6 +10,7 @@ use Rattle.ppm_cells.specs.declared.link.LinkKind.TheVariants.{Root}
 use Rattle.ppm_cells.specs.declared.restart.RestartKind.{RestartKind}
 use Rattle.ppm_cells.specs.declared.restart.RestartKind.TheVariants.{Run, Seek}
 use Rattle.ppm_code.specs.Locations.{code_locations}
+use Rattle.ppm_code.specs.Sizes.{frame_size}
 use Rattle.ppm_code.specs.Strands.{table_of}
 use Rattle.ppm_frames.specs.Seen.{arrays_at}
 use Rattle.ppm_frames.specs.Skeletons.{Begins, InPlace, Leaf, Skeleton, tree_of, at}
@@ -42,6 +43,7 @@ openings i m p f n o = record {
   copies = each (λ q k. HasCopy k) (omega arith) (λ q ne. tt);
   untaken = each (λ q k. Unpushed q t k) tt (λ q ne. tt);
   aims = λ q r g b taker about. absurd (cc);
+  paid = each (λ q k. ceiling i m q k ≤ start i q + (frame_size i.code i.code.root + 0)) (let a = o.small p in omega (arith, a)) (λ q ne. let a = o.small q in omega (arith, a));
 }
   where
     t : Skeleton

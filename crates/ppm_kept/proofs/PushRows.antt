@@ -265,6 +265,7 @@ module _ (i : Image) (fair : IsFair i.code) (root : Tree (Frame FrameWord Point)
       good = (pushes.framed, pushes.sized, subst (λ (q : RestartKind). Match i.code m q (hook_at Root pushes.around) (Begins 0) pushes.frame) (sym (put_here s.kind p next)) match);
       adds = λ x. inl (omega arith, omega arith);
       grows = omega (arith, roof, top_is);
+      pays = omega (arith, roof, top_is);
       bound = let b = (law.rooms p).1 in omega (arith, b, roof, top_is);
       places = is_at_own p ∙ sym one;
       placed = λ q ne. refl;
@@ -376,6 +377,7 @@ module _ (i : Image) (fair : IsFair i.code) (root : Tree (Frame FrameWord Point)
       );
       adds = λ x. inl (let e = soft'.counts (Branch Right r) x in omega (arith, e), let e = soft'.plains (Branch Right r) x in omega (arith, e));
       grows = let e = pushing.roofs m in omega (arith, roof, e);
+      pays = let e = pushing.roofs m in omega (arith, roof, e);
       bound = let a = (law.rooms p).1 in let e = pushing.roofs m in omega (arith, a, roof, e);
       places = let one = is_at_own p in let z = waiting_nobody p b nobody in let o = pushing.one m in omega (arith, one, z, o);
       placed = λ q ne. let e = soft'.others q ne in omega (arith, e);

@@ -1,5 +1,5 @@
 -- The steps of a place in a row of kind Run keep the invariant.
-use Rattle.std.proofs.Common.{◌≡◌, ◌≢◌, ◌⊎◌, ◌≤◌, ◌<◌, ℕ, ◌+◌, ◌^◌, ◌==◌, leb, ltb, Bool, true, false, inl, inr, refl, sym, ap, ap₂, ◌∙◌, subst, subst₂, arith, Option, Some, None}
+use Rattle.std.proofs.Common.{◌≡◌, ◌≢◌, ◌⊎◌, ◌≤◌, ◌<◌, ℕ, ◌+◌, ◌^◌, ◌==◌, leb, ltb, List, [], ◌∷◌, Bool, true, false, inl, inr, refl, sym, ap, ap₂, ◌∙◌, subst, subst₂, arith, Option, Some, None}
 use Rattle.std.specs.Prelude.{slice_get, IfSome}
 use Rattle.std.specs.Prelude.{cond}
 use Rattle.std.proofs.Math.Path.{fun_ext}
@@ -19,11 +19,13 @@ use Rattle.ppm_cells.specs.declared.link.LinkKind.TheVariants.{Root, Call as Cal
 use Rattle.ppm_cells.specs.declared.restart.RestartKind.{RestartKind}
 use Rattle.ppm_cells.specs.declared.restart.RestartKind.TheVariants.{Run, Bump, Unwind}
 use Rattle.ppm_cells.specs.declared.side.Side.TheVariants.{Left}
-use Rattle.ppm_capsules.specs.Capsule.{Capsule, Ends, Memory, In, ending, written}
+use Rattle.ppm_capsules.specs.Capsule.{Capsule, Ends, Memory, In, ending, written, asked}
 use Rattle.ppm_capsules.specs.Stopped.{Stands}
 use Rattle.ppm_capsules.specs.Strand.{Own, New, Shared, Frame}
 use Rattle.ppm_code.specs.Capsules.{capsule_of}
-use Rattle.ppm_code.specs.Code.{EndFits}
+use Rattle.ppm_code.specs.Code.{EndFits, room_of}
+use Rattle.ppm_code.specs.declared.instr.Instr.{Instr}
+use Rattle.ppm_code.specs.declared.instr.Instr.TheVariants.{Room}
 use Rattle.ppm_code.specs.Locations.{Where, code_locations}
 use Rattle.ppm_code.specs.Sizes.{slot_at, value_at, slots_of, right_at, procedure_at, slots_at}
 use Rattle.ppm_code.specs.Strands.{Point, Result, at_capsule, instrs_in, instrs_of, opens}
@@ -95,6 +97,12 @@ inside_split f a b x = elim (cases_lt x f) [
 
 pub split_at : (f a b c g x : ℕ) → c ≡ a + b → g ≡ f + a → inside f c x ≡ inside f a x + inside g b x
 split_at f a b c g x ce ge = ap (λ (z : ℕ). inside f z x) ce ∙ inside_split f a b x ∙ ap (λ (z : ℕ). inside f a x + inside z b x) (sym ge)
+
+-- a capsule that begins by asking for room asks for so much
+room_asked : (words : ℕ) (is : List Instr) (w : ℕ) → room_of is ≡ Some w → (n : Memory Where) → w ≤ asked code_locations (capsule_of words is) n
+room_asked words [] w e n = absurd (cc)
+room_asked words (Room x ∷ is) w e n = let same : x ≡ w = cc in omega (arith, same)
+room_asked words (i ∷ is) w e n = absurd (cc)
 
 module _ (i : Image) (fair : IsFair i.code) (root : Tree (Frame FrameWord Point) Result) (input : Words) (s : State) (t : Skeleton) (law : IsKept i root input s t) (p : ℕ)
     (there : p < i.shape.processors) (keeps : Keeps i s t p) (f y : ℕ) (low : y < 2) (ke : s.kind p ≡ Run f y) where
@@ -277,6 +285,7 @@ module _ (i : Image) (fair : IsFair i.code) (root : Tree (Frame FrameWord Point)
       );
       adds = λ x. inl (omega arith, omega arith);
       grows = let a = roof in let b = room_stays in omega (arith, a, b);
+      pays = let a = roof in let b = room_stays in omega (arith, a, b);
       bound = let a = (law.rooms p).1 in let b = roof in let d = room_stays in omega (arith, a, b, d);
       places = is_at_own p;
       placed = λ q ne. refl;
@@ -290,6 +299,10 @@ module _ (i : Image) (fair : IsFair i.code) (root : Tree (Frame FrameWord Point)
 
     pub rest_stores : Law stage t
     rest_stores = subst (Law stage) (sym is) (build i fair root input s t law p stage c u u (Run f y) (doing_of (running i.shape sits next)) turn)
+
+  -- what the capsule asks for is counted
+  asks_room : (w : ℕ) → room_of (instrs_of i.code k) ≡ Some w → w ≤ (of_capsule (strands i.shape i.code) (frame_of i.shape i.code m f n y) (arrays_at m)).block_words
+  asks_room w e = room_asked i.shape.arrays (instrs_of i.code k) w e _
 
   -- an install
   module _ (e : End) (stands : Stands code_locations (all_of i.shape i.code m p f y) (Ends e) (now i.shape i.code m p f y)) (room : HasRoom i.shape i.code m p f y)
@@ -315,9 +328,9 @@ module _ (i : Image) (fair : IsFair i.code) (root : Tree (Frame FrameWord Point)
         → Good i.code m (put s.kind p l) h v
         → ((x : ℕ) → ((count h v x ≤ count h u x) × (plain h v x ≤ plain h u x)) ⊎ ((count h v x ≤ 1 + count h u x) × (r ≤ x) × (x < ceiling i m p l)))
         → r ≤ ceiling i m p l → ceiling i m p l ≤ end_of i p → carried m l ≡ 1 → at p v ≡ 1 → ((q : ℕ) → q ≢ p → at q v ≡ 0) → Free i m p l → Ordered i s t m l
-        → HasCopy l → (((x : ℕ) → count Root (plug c v) x ≤ 1) → Unpushed p (plug c v) l) → ((q r : ℕ) → q ≢ p → Untaken q r v) → is_taker l ≡ false
+        → HasCopy l → (((x : ℕ) → count Root (plug c v) x ≤ 1) → Unpushed p (plug c v) l) → ((q r : ℕ) → q ≢ p → Untaken q r v) → is_taker l ≡ false → ceiling i m p l ≤ r + counts.block_words
         → Law (installs s p l) (plug c v)
-    ended_turn l v opens_it head arrived good adds grows bound one here others_none frees ordered copy own all no_taker = build i fair root input s t law p (installs s p l) c u v l Resting (record {
+    ended_turn l v opens_it head arrived good adds grows bound one here others_none frees ordered copy own all no_taker pays = build i fair root input s t law p (installs s p l) c u v l Resting (record {
       is = is;
       alone = has_leaf.alone;
       there = there;
@@ -335,6 +348,7 @@ module _ (i : Image) (fair : IsFair i.code) (root : Tree (Frame FrameWord Point)
       good = good;
       adds = λ x. subst (λ (b : ℕ). ((count h v x ≤ count h u x) × (plain h v x ≤ plain h u x)) ⊎ ((count h v x ≤ 1 + count h u x) × (b ≤ x) × (x < ceiling i m p l))) (sym roof) (adds x);
       grows = subst (λ (b : ℕ). b ≤ ceiling i m p l) (sym roof) grows;
+      pays = subst (λ (b : ℕ). ceiling i m p l ≤ b + counts.block_words) (sym roof) pays;
       bound = bound;
       places = here ∙ sym one;
       placed = λ q ne. others_none q ne ∙ sym (only q ne);
@@ -376,7 +390,7 @@ module _ (i : Image) (fair : IsFair i.code) (root : Tree (Frame FrameWord Point)
         (framed, sized_then d (procedure_is i.code (procedure_at i.code k) d fits) own.0, subst (λ (q : RestartKind). Match i.code m q h (Begins z) f) (sym (put_here s.kind p (Run f z))) (refl, refl))
         (λ x. inl (omega arith, omega arith)) (omega arith) room_low refl (is_at_own p) (λ q ne. is_at_other p q ne)
         (record { block = λ o lt out. all_blank (Next d) stands (λ o b. b) (λ o. tt) o lt; outcome = inl (blocks.still_open i.shape i.code fair m p f y low room clean (Next d) refl stands) }) tt
-        (omega arith) (λ most. tt) (λ q x ne. tt) refl in
+        (omega arith) (λ most. tt) (λ q x ne. tt) refl (omega arith) in
         subst (Law (installs s p (Run f z))) (sym (ap (grow p (λ st f n. Leaf (InPlace p) (Begins z) f n)) is ∙ grow_plug p (λ st f n. Leaf (InPlace p) (Begins z) f n) c (Begins y) f n has_leaf.alone)) got
 
     goes_over : (e : End) (stands : Stood e) (own : Owns e) (step : Opened e) → opens i.code e (own_at m f n) (λ o. now i.shape i.code m p f y (New o)) ≡ tree_at m h (Leaf (InPlace p) Over f n)
@@ -386,7 +400,7 @@ module _ (i : Image) (fair : IsFair i.code) (root : Tree (Frame FrameWord Point)
         let got = ended_turn e stands room own step (Unwind f) v tree refl refl
         (framed, tt, subst (λ (q : RestartKind). Match i.code m q h Over f) (sym (put_here s.kind p (Unwind f))) refl)
         (λ x. inl (omega arith, omega arith)) (omega arith) room_low refl (is_at_own p) (λ q ne. is_at_other p q ne)
-        (all_blank e stands none out) tt tt (λ most. tt) (λ q x ne. tt) refl in
+        (all_blank e stands none out) tt tt (λ most. tt) (λ q x ne. tt) refl (omega arith) in
         subst (Law (installs s p (Unwind f))) (sym (ap (grow p (λ st f n. Leaf (InPlace p) Over f n)) is ∙ grow_plug p (λ st f n. Leaf (InPlace p) Over f n) c (Begins y) f n has_leaf.alone)) got
 
     -- targets lie in the frame
@@ -444,7 +458,7 @@ module _ (i : Image) (fair : IsFair i.code) (root : Tree (Frame FrameWord Point)
           ∙ ap (λ (b : ℕ). plug c (Calling f n z (Leaf (InPlace p) (Begins 0) r b))) block.sized))
           (ended_turn (Call q d to) stands room own step (Bump r) callee block.tree refl refl call_good call_adds (omega (arith, call_top)) (let b = room in omega (arith, call_top, call_asked, b)) refl
           (is_at_own p) (λ b ne. is_at_other p b ne) call_frees tt
-          tt (λ most. opens_block p r Root c callee (most r) (let a = inside_at r (6 + nq) r 0 (omega arith) (omega arith) in omega (arith, a)) tt) (λ q x ne. tt) refl)
+          tt (λ most. opens_block p r Root c callee (most r) (let a = inside_at r (6 + nq) r 0 (omega arith) (omega arith) in omega (arith, a)) tt) (λ q x ne. tt) refl (let w = asks_room (6 + nq) call_fit.3 in omega (arith, call_top, w)))
 
     -- a fork: both frames stand in the block, and the right one is fresh
     module _ (a b d : ℕ) (lt rt : Option ℕ) (stands : Stood (Fork a b d lt rt)) (own : Owns (Fork a b d lt rt)) (step : Opened (Fork a b d lt rt)) where
@@ -532,7 +546,7 @@ module _ (i : Image) (fair : IsFair i.code) (root : Tree (Frame FrameWord Point)
           ∙ ap (λ (x : ℕ). plug c (Forking f n z r (Leaf (InPlace p) (Begins 0) (r + 5) n_left) (Leaf Fresh (Begins 0) (r + off) x))) split.right_sized))
           (ended_turn (Fork a b d lt rt) stands room own step (Bump r) both split.tree refl refl fork_good fork_adds (omega (arith, fork_top)) (let q = room in omega (arith, fork_top, fork_asked, q)) refl
           (let one = is_at_own p in omega (arith, one)) (λ q ne. let none_ = is_at_other p q ne in omega (arith, none_)) fork_frees tt
-          tt (λ most. opens_block p r Root c both (most r) (let a = inside_at r 1 r 0 (omega arith) (omega arith) in omega (arith, a)) (λ e one. tt, tt, tt)) (λ q x ne. (λ e one. tt, tt, tt)) refl)
+          tt (λ most. opens_block p r Root c both (most r) (let a = inside_at r 1 r 0 (omega arith) (omega arith) in omega (arith, a)) (λ e one. tt, tt, tt)) (λ q x ne. (λ e one. tt, tt, tt)) refl (let w = asks_room (5 + (6 + n_left) + (6 + n_right)) fork_fit.5 in omega (arith, fork_top, w)))
 
     run_law : (e : End) → Stood e → Owns e → Opened e → Law (installs s p (installed (home_at i.shape i.code m p f y) e)) (by_install i m p (Run f y) (installed (home_at i.shape i.code m p f y) e) t)
     run_law (Next d) stands own step = goes_next d stands own step
@@ -617,6 +631,7 @@ module _ (i : Image) (fair : IsFair i.code) (root : Tree (Frame FrameWord Point)
       );
       adds = λ x. inl (omega arith, omega arith);
       grows = let a = roof in let b = room_same in omega (arith, a, b);
+      pays = let a = roof in let b = room_same in omega (arith, a, b);
       bound = let a = (law.rooms p).1 in let b = roof in let d = room_same in omega (arith, a, b, d);
       places = is_at_own p;
       placed = λ q ne. refl;

@@ -38,11 +38,12 @@ use Rattle.ppm_step.specs.declared.row.Seat.{Seat}
 use Rattle.ppm_step.specs.declared.row.Then.{Then}
 use Rattle.ppm_step.specs.declared.row.Then.TheVariants.{Load, Install, Fork, Begin, Move, Enter, Again, Broken}
 use Rattle.ppm_kept.specs.Pushing.{Comes}
+use Rattle.ppm_kept.specs.Takes.{IsCheck}
 use Rattle.ppm_kept.specs.Births.{IsNoCounter, IsSteady, IsSteadyPoint, SteadyThen, SteadyRow, RowsAreSteady}
 
-module _ (s : Shape) (seat : Seat) where
+module _ (s : Shape) (seat : Seat) (F : Type 0) where
   abbrev R : Row → Type 0
-  R row = SteadyRow row
+  R row = SteadyRow F row
 
   entry_steady : (go : Entry → Row) → ((e : Entry) → R (go e)) → (w : Content) → R (on_entry w go)
   entry_steady go by (AnEntry e) = by e
@@ -107,15 +108,15 @@ module _ (s : Shape) (seat : Seat) where
   outcome_steady go by (ALink e) = tt
   outcome_steady go by Unreadable = tt
 
-  raised_steady : (cell : Cell) (old new : Entry) (next : Then) → IsNoCounter cell → SteadyThen next → (b : Bool) → R (raised cell old new next b)
+  raised_steady : (cell : Cell) (old new : Entry) (next : Then) → IsNoCounter cell → SteadyThen F next → (b : Bool) → R (raised cell old new next b)
   raised_steady cell old new next c l true = (c, l)
   raised_steady cell old new next c l false = tt
 
-  tried_steady : (cell : Cell) (old : Entry) (a : Option Entry) (next : Then) → IsNoCounter cell → SteadyThen next → R (tried cell old a next)
+  tried_steady : (cell : Cell) (old : Entry) (a : Option Entry) (next : Then) → IsNoCounter cell → SteadyThen F next → R (tried cell old a next)
   tried_steady cell old None next c l = l
   tried_steady cell old (Some new) next c l = raised_steady cell old new next c l (nat_lt (tag_of old + 1) (2 ^ 34))
 
-  changed_steady : (cell : Cell) (old : Entry) (a : Option Entry) (next : Then) → IsNoCounter cell → SteadyThen next → R (changed cell old a next)
+  changed_steady : (cell : Cell) (old : Entry) (a : Option Entry) (next : Then) → IsNoCounter cell → SteadyThen F next → R (changed cell old a next)
   changed_steady cell old None next c l = tt
   changed_steady cell old (Some new) next c l = tried_steady cell old (Some new) next c l
 
@@ -158,7 +159,7 @@ module _ (s : Shape) (seat : Seat) where
   unwound_steady f (Branch Right r) x = (tt, tt)
   unwound_steady f (Forked g y) x = tt
 
-  after_steady : (g y : ℕ) (right_of : Option ℕ) → SteadyThen (after_value seat g y right_of)
+  after_steady : (g y : ℕ) (right_of : Option ℕ) → SteadyThen F (after_value seat g y right_of)
   after_steady g y None = tt
   after_steady g y (Some r) = tt
 
@@ -229,27 +230,27 @@ module _ (s : Shape) (seat : Seat) where
   entry_is_steady v x (Job t r) = (tt, tt)
   entry_is_steady v x (Taken t q) = passes_steady v x s.takeover
 
-  goes_on_steady : (v x : ℕ) (e : Entry) → R (goes_on_with seat v x e)
-  goes_on_steady v x (Job t r) = tt
-  goes_on_steady v x (Local t r) = tt
-  goes_on_steady v x (Empty t) = tt
-  goes_on_steady v x (Taken t q) = tt
+  goes_on_steady : F → (v x : ℕ) (e : Entry) → R (goes_on_with seat v x e)
+  goes_on_steady l v x (Job t r) = tt
+  goes_on_steady l v x (Local t r) = l
+  goes_on_steady l v x (Empty t) = tt
+  goes_on_steady l v x (Taken t q) = tt
 
-  at_bottom_steady : (v : ℕ) (kind : RestartKind) → R (at_bottom seat v kind)
-  at_bottom_steady v (Run g y) = tt
-  at_bottom_steady v (Bump r) = tt
-  at_bottom_steady v (Push1 r) = tt
-  at_bottom_steady v (Push2 r) = tt
-  at_bottom_steady v (Unwind g) = tt
-  at_bottom_steady v (Arrive r d) = tt
-  at_bottom_steady v (Join r d) = tt
-  at_bottom_steady v Pop1 = tt
-  at_bottom_steady v (Pop2 r) = tt
-  at_bottom_steady v Seek = tt
-  at_bottom_steady v (Steal w x) = tt
-  at_bottom_steady v (Check w x) = tt
-  at_bottom_steady v (Take w x) = tt
-  at_bottom_steady v (Take2 w) = tt
+  at_bottom_steady : F → (v : ℕ) (kind : RestartKind) → R (at_bottom seat v kind)
+  at_bottom_steady l v (Run g y) = tt
+  at_bottom_steady l v (Bump r) = l
+  at_bottom_steady l v (Push1 r) = tt
+  at_bottom_steady l v (Push2 r) = tt
+  at_bottom_steady l v (Unwind g) = tt
+  at_bottom_steady l v (Arrive r d) = tt
+  at_bottom_steady l v (Join r d) = tt
+  at_bottom_steady l v Pop1 = tt
+  at_bottom_steady l v (Pop2 r) = tt
+  at_bottom_steady l v Seek = tt
+  at_bottom_steady l v (Steal w x) = l
+  at_bottom_steady l v (Check w x) = l
+  at_bottom_steady l v (Take w x) = tt
+  at_bottom_steady l v (Take2 w) = tt
 
   above_steady : (v b : ℕ) (kind : RestartKind) → R (above_bottom seat v b kind)
   above_steady v b (Run g y) = tt
@@ -283,19 +284,19 @@ module _ (s : Shape) (seat : Seat) where
   below_steady block (Take w x) = tt
   below_steady block (Take2 w) = tt
 
-  slot_steady : (v x block : ℕ) (closed : Restart) → R (by_slot seat v x block closed)
-  slot_steady v x block closed =
+  slot_steady : F → (v x block : ℕ) (closed : Restart) → R (by_slot seat v x block closed)
+  slot_steady l v x block closed =
       either (x == closed.bottom) (at_bottom seat v closed.kind) (if x == closed.bottom + 1 then above_bottom seat v closed.bottom closed.kind else (if x + 1 == closed.bottom then below_bottom seat block closed.kind else Now (with_kind seat Seek)))
-      (at_bottom_steady v closed.kind)
+      (at_bottom_steady l v closed.kind)
       (either (x == closed.bottom + 1) (above_bottom seat v closed.bottom closed.kind) (if x + 1 == closed.bottom then below_bottom seat block closed.kind else Now (with_kind seat Seek))
       (above_steady v closed.bottom closed.kind)
       (either (x + 1 == closed.bottom) (below_bottom seat block closed.kind) (Now (with_kind seat Seek)) (below_steady block closed.kind) tt))
 
-  link_is_steady : (block : ℕ) (kind : LinkKind) → R (closed_link seat block kind)
-  link_is_steady block (Called g y) = tt
-  link_is_steady block (Forked g y) = tt
-  link_is_steady block Root = tt
-  link_is_steady block (Branch d r) = tt
+  link_is_steady : F → (block : ℕ) (kind : LinkKind) → R (closed_link seat block kind)
+  link_is_steady l block (Called g y) = tt
+  link_is_steady l block (Forked g y) = l
+  link_is_steady l block Root = tt
+  link_is_steady l block (Branch d r) = tt
 
   bottom_steady : (block : ℕ) (e : Entry) → R (closed_bottom seat block e)
   bottom_steady block (Taken t q) = either (nat_lt q 64) (Now (left_begins block seat.restart.bottom)) (Now (with_kind seat Seek)) tt tt
@@ -307,7 +308,7 @@ module _ (s : Shape) (seat : Seat) where
   lowered_steady v d h zero = tt
   lowered_steady v d h (suc tag) = (tt, tt)
 
-  found_steady : (point : Point) → IsSteadyPoint point → (v : ℕ) (w : Content) → R (found_at s seat v point w)
+  found_steady : (point : Point) → IsSteadyPoint F point → (v : ℕ) (w : Content) → R (found_at s seat v point w)
   found_steady (Header f y) l v w = number_steady (λ capsule. Now (Enter capsule)) (λ capsule. tt) w
   found_steady (BumpLink r) l v w = absurd l
   found_steady (PushOrder r) l v w = number_steady (push_by_order seat r) (λ x. either (x == both) (Now (left_begins r seat.restart.bottom)) (Now (Load (PushAbove r))) tt tt) w
@@ -332,12 +333,12 @@ module _ (s : Shape) (seat : Seat) where
   found_steady (SeekEntry u x) l v w = entry_steady (seek_entry s seat u x) (entry_is_steady u x) w
   found_steady (SeekClosed u x e) l v w = number_steady (seek_closed seat u x e) (λ d. either (d == 1) _ (Now Again) (tt, tt) tt) w
   found_steady (StealMessage u x) l v w = entry_steady (steals s seat u x) (λ e. changed_steady (EntryWord u x) e (taken_so s.takeover seat.place e) (with_kind seat (Check u x)) tt tt) w
-  found_steady (TakenMessage by u x) l v w = entry_steady (taken_message s by u x) (λ e. either (can_be_taken s.takeover e) (Now (Load (TakenEntry by u x e))) (Now Broken) tt tt) w
+  found_steady (TakenMessage by u x) l v w = entry_steady (taken_message s by u x) (λ e. either (can_be_taken s.takeover e) (Now (Load (TakenEntry by u x e))) (Now Broken) l tt) w
   found_steady (TakenEntry by u x message) l v w = entry_steady (taken_entry seat by u x message)
-      (λ e. either (took by message e) (goes_on_with seat u x message) (Now (with_kind seat Seek)) (goes_on_steady u x message) tt) w
+      (λ e. either (took by message e) (goes_on_with seat u x message) (Now (with_kind seat Seek)) (goes_on_steady l u x message) tt) w
   found_steady (ClosedRestart u x block) l v w = restart_steady (follows s seat u x block)
-      (λ closed. either (restart_is_there s closed) (by_slot seat u x block closed) (Now Broken) (slot_steady u x block closed) tt) w
-  found_steady (ClosedLink block) l v w = link_steady (λ link. closed_link seat block link.kind) (λ link. link_is_steady block link.kind) w
+      (λ closed. either (restart_is_there s closed) (by_slot seat u x block closed) (Now Broken) (slot_steady l u x block closed) tt) w
+  found_steady (ClosedLink block) l v w = link_steady (λ link. closed_link seat block link.kind) (λ link. link_is_steady l block link.kind) w
   found_steady (ClosedBottom u x block) l v w = entry_steady (closed_bottom seat block) (bottom_steady block) w
   found_steady (BidMessage u d) l v w = holder_steady (makes_bid seat u d)
       (λ h. either (h.processor == seat.own) (lowered h.tag seat u d h) (Now (with_kind seat Seek)) (lowered_steady u d h h.tag) tt) w
@@ -346,8 +347,8 @@ module _ (s : Shape) (seat : Seat) where
       (λ h. either ((message.tag == h.tag) && (message.processor == h.processor)) (Now (Move u)) (Now (with_kind seat Seek)) tt tt) w
 
   -- whatever a row comes to is such a row
-  comes_steady : (n : ℕ) (row rest : Row) → SteadyRow row → Comes s seat n row rest → SteadyRow rest
-  comes_steady zero row rest l q = subst SteadyRow q l
+  comes_steady : (n : ℕ) (row rest : Row) → SteadyRow F row → Comes s seat n row rest → SteadyRow F rest
+  comes_steady zero row rest l q = subst (SteadyRow F) q l
   comes_steady (suc n) (Now (Load point)) rest l q = comes_steady n (found_at s seat q.0 point q.1) rest (found_steady point l q.0 q.1) q.2
   comes_steady (suc n) (Store c w next) rest l q = comes_steady n (Now next) rest l.1 q
   comes_steady (suc n) (Exchange c old new next) rest l q = comes_steady n (Now next) rest l.1 q
@@ -364,21 +365,21 @@ module _ (s : Shape) (seat : Seat) where
   bid_steady ByPlaces row a = a
   bid_steady ByEntries row a = tt
 
-  row_steady : (k : RestartKind) → IsSteady k → R (row_of s seat k)
-  row_steady (Run f y) l = tt
-  row_steady (Bump r) l = absurd l
-  row_steady (Push1 r) l = push_steady r s.takeover (seat.restart.bottom + 1 == s.slots)
-  row_steady (Push2 r) l = tt
-  row_steady (Unwind f) l = tt
-  row_steady (Arrive r d) l = (tt, tt)
-  row_steady (Join r d) l = tt
-  row_steady Pop1 l = tt
-  row_steady (Pop2 r) l = tt
-  row_steady Seek l = tt
-  row_steady (Steal v x) l = tt
-  row_steady (Check v x) l = tt
-  row_steady (Take v x) l = bid_steady s.takeover (Now (Load (BidMessage v x))) tt
-  row_steady (Take2 v) l = bid_steady s.takeover (Now (Load (BidAgain v))) tt
+  row_steady : (k : RestartKind) → IsSteady k → (IsCheck k → F) → R (row_of s seat k)
+  row_steady (Run f y) l may = tt
+  row_steady (Bump r) l may = absurd l
+  row_steady (Push1 r) l may = push_steady r s.takeover (seat.restart.bottom + 1 == s.slots)
+  row_steady (Push2 r) l may = tt
+  row_steady (Unwind f) l may = tt
+  row_steady (Arrive r d) l may = (tt, tt)
+  row_steady (Join r d) l may = tt
+  row_steady Pop1 l may = tt
+  row_steady (Pop2 r) l may = tt
+  row_steady Seek l may = tt
+  row_steady (Steal v x) l may = tt
+  row_steady (Check v x) l may = may tt
+  row_steady (Take v x) l may = bid_steady s.takeover (Now (Load (BidMessage v x))) tt
+  row_steady (Take2 v) l may = bid_steady s.takeover (Now (Load (BidAgain v))) tt
 
 pub rows_are_steady : RowsAreSteady
-rows_are_steady s seat n k rest steady q = comes_steady s seat n (row_of s seat k) rest (row_steady s seat k steady) q
+rows_are_steady s seat n k rest steady q = comes_steady s seat (IsCheck k) n (row_of s seat k) rest (row_steady s seat (IsCheck k) k steady (λ l. l)) q

@@ -85,7 +85,7 @@ both true b e = (refl, e)
 both false b e = absurd (cc)
 
 -- cells of places and deques
-look_cell : (s : Shape) (cell : Cell) → IsLookCell cell → is_there s cell ≡ true → IsUnseen s cell
+pub look_cell : (s : Shape) (cell : Cell) → IsLookCell cell → is_there s cell ≡ true → IsUnseen s cell
 look_cell s (MessageWord p) h e = record { there = ltb-true p s.processors e; no_frame = refl; no_restart = λ q z. cc }
 look_cell s (HolderWord v) h e = record { there = ltb-true v s.processors e; no_frame = refl; no_restart = λ q z. cc }
 look_cell s (TopWord v) h e = record { there = ltb-true v s.processors e; no_frame = refl; no_restart = λ q z. cc }
@@ -103,7 +103,7 @@ offset_or (Offset r b) = inl (record { block = r; bottom = b; is = refl })
 offset_or _ = inr (λ o. o)
 
 -- what rows of kinds without a strand make of the skeleton
-came_idle : (s : Shape) (seat : Seat) (k : RestartKind) (row : Row) → IsIdle k → CameBy s seat k row → (n : ℕ) × Comes s seat n (row_of s seat k) row
+pub came_idle : (s : Shape) (seat : Seat) (k : RestartKind) (row : Row) → IsIdle k → CameBy s seat k row → (n : ℕ) × Comes s seat n (row_of s seat k) row
 came_idle s seat Pop1 row h a = a
 came_idle s seat (Pop2 r) row h a = a
 came_idle s seat Seek row h a = a

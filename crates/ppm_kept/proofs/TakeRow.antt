@@ -285,6 +285,7 @@ module _ (i : Image) (fair : IsFair i.code) (root : Tree (Frame FrameWord Point)
     good = good_same m m i.code s.kind (put s.kind p l) Root t (λ x ne. refl) (λ q some. put_else s.kind p l q (λ e. some (ap (λ (a : ℕ). at a t) e ∙ nobody))) law.good;
     adds = λ x. inl (omega arith, omega arith);
     grows = let e = idle_roof i m p l h in omega (arith, roof, e);
+    pays = let e = idle_roof i m p l h in omega (arith, roof, e);
     bound = let b = (law.rooms p).1 in let e = idle_roof i m p l h in omega (arith, b, roof, e);
     places = nobody ∙ sym (idle_none m l h);
     placed = λ q ne. refl;
@@ -377,6 +378,7 @@ module _ (i : Image) (fair : IsFair i.code) (root : Tree (Frame FrameWord Point)
       );
       adds = λ x. inl (omega arith, omega arith);
       grows = omega (arith, roof);
+      pays = omega (arith, roof);
       bound = let b = (law.rooms p).1 in omega (arith, b, roof);
       places = let a = is_at_own p in let z = no_left in omega (arith, a, z);
       placed = λ q ne. let a = is_at_other p q ne in omega (arith, a);

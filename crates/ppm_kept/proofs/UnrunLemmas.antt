@@ -186,10 +186,10 @@ barren_same t s c u v is then_ none now = record {
 }
 
 -- a block is in the tree once
-head_in : (q r : ℕ) → q ≡ r → 1 ≤ inside q 1 r
+pub head_in : (q r : ℕ) → q ≡ r → 1 ≤ inside q 1 r
 head_in q r e = inside_at q 1 r 0 (omega (arith, e)) (omega arith)
 
-has_count : (w : Who) (r : ℕ) (h : LinkKind) (t : Skeleton) → HasUnrun w r t → 1 ≤ count h t r
+pub has_count : (w : Who) (r : ℕ) (h : LinkKind) (t : Skeleton) → HasUnrun w r t → 1 ≤ count h t r
 has_count w r h (Leaf v st f n) x = absurd x
 has_count w r h (Calling f n y t) x = let one = has_count w r (Called f y) t x in omega (arith, one)
 has_count w r h (Forking f n y q a b) (inl x) = let one = head_in q r x.0 in omega (arith, one)
@@ -216,7 +216,7 @@ module _ (w : Who) (r f n y : ℕ) (a b : Skeleton) where
   here_only h (AtRight g l z q d c) most (inr (inl x)) = absurd (let one = has_count w r (Branch Left q) d x in let two = fork_count (Branch Right q) c in omega (arith, most, one, two))
   here_only h (AtRight g l z q d c) most (inr (inr x)) = here_only (Branch Right q) c (omega (arith, most)) x
 
-  here_has : (c : Around) → IsLeafOf w b → HasUnrun w r (plug c fork)
+  pub here_has : (c : Around) → IsLeafOf w b → HasUnrun w r (plug c fork)
   here_has Top x = inl (refl, x)
   here_has (AtCall g l z c) x = here_has c x
   here_has (AtLeft g l z q c d) x = inr (inl (here_has c x))
@@ -502,7 +502,7 @@ module _ (i : Image) (fair : IsFair i.code) (root : Tree (Frame FrameWord Point)
   push2_hook r h Over f a = absurd a
   push2_hook r h Arrives f a = absurd a
 
-  shape : (r : ℕ) → (s.kind p ≡ Push1 r) ⊎ (s.kind p ≡ Push2 r) → PushShape t p r
+  pub shape : (r : ℕ) → (s.kind p ≡ Push1 r) ⊎ (s.kind p ≡ Push2 r) → PushShape t p r
   shape r (inl ke) = shape_by (Push1 r) ke refl r (push1_hook r)
   shape r (inr ke) = shape_by (Push2 r) ke refl r (push2_hook r)
 

@@ -290,6 +290,7 @@ module _ (i : Image) (fair : IsFair i.code) (root : Tree (Frame FrameWord Point)
           (has_over.framed, tt, subst (λ (k : RestartKind). Match i.code m k oh Over f) (sym ke) refl);
       adds = λ x. inl (omega arith, omega arith);
       grows = omega (arith, roof, room3);
+      pays = omega (arith, roof, room3);
       bound = let b = (law.rooms p).1 in omega (arith, b, roof, room3);
       places = is_at_own p;
       placed = λ q ne. refl;
@@ -436,6 +437,7 @@ module _ (i : Image) (fair : IsFair i.code) (root : Tree (Frame FrameWord Point)
           );
           adds = λ x. inl (omega arith, omega arith);
           grows = omega (arith, roof, room_is);
+          pays = omega (arith, roof, room_is);
           bound = let b = (law.rooms p).1 in omega (arith, b, roof, room_is);
           places = is_at_own p;
           placed = λ q ne. refl;
@@ -472,6 +474,7 @@ module _ (i : Image) (fair : IsFair i.code) (root : Tree (Frame FrameWord Point)
         good = (waiting.framed, sized, subst (λ (q : RestartKind). Match i.code m q h st g) (sym (put_here s.kind p k)) match);
         adds = λ x. inl (omega arith, omega arith);
         grows = omega (arith, roof, top_is);
+        pays = omega (arith, roof, top_is);
         bound = let b = (law.rooms p).1 in omega (arith, b, roof, top_is);
         places = is_at_own p ∙ sym one;
         placed = λ q ne. refl;
@@ -679,6 +682,7 @@ module _ (i : Image) (fair : IsFair i.code) (root : Tree (Frame FrameWord Point)
         good = (ap link_at frame4.link ∙ has_over.framed, tt, subst (λ (q : RestartKind). Match i.code m4 q oh Over f) (sym ke) refl);
         adds = λ b. inl (omega arith, omega arith);
         grows = omega (arith, roof, room4);
+        pays = omega (arith, roof, room4);
         bound = let b = (law.rooms p).1 in omega (arith, b, roof, room4);
         places = is_at_own p;
         placed = λ q ne. refl;
@@ -748,6 +752,7 @@ module _ (i : Image) (fair : IsFair i.code) (root : Tree (Frame FrameWord Point)
         good = (has_over.framed, tt, subst (λ (q : RestartKind). Match i.code m q oh Arrives f) (sym (put_here s.kind p (Arrive r d))) he);
         adds = λ b. inl (omega arith, omega arith);
         grows = omega (arith, roof);
+        pays = omega (arith, roof);
         bound = let b = (law.rooms p).1 in omega (arith, b, roof);
         places = is_at_own p ∙ sym (cond-false {A = ℕ} (m (BlockWord (r + 1)) == side_code d) 0 1 (not_came d he));
         placed = λ q ne. refl;

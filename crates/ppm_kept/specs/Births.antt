@@ -14,7 +14,7 @@ use Rattle.ppm_step.specs.Frames.{Installs}
 use Rattle.ppm_step.specs.Rows.{row_of}
 use Rattle.ppm_step.specs.Standings.{Standing}
 use Rattle.ppm_step.specs.declared.row.Point.{Point as RowPoint}
-use Rattle.ppm_step.specs.declared.row.Point.TheVariants.{BumpLink}
+use Rattle.ppm_step.specs.declared.row.Point.TheVariants.{BumpLink, TakenMessage, TakenEntry, ClosedRestart, ClosedLink}
 use Rattle.ppm_step.specs.declared.row.Row.{Row}
 use Rattle.ppm_step.specs.declared.row.Row.TheVariants.{Now, Store, Exchange}
 use Rattle.ppm_step.specs.declared.row.Seat.{Seat}
@@ -27,6 +27,7 @@ use Rattle.ppm_kept.specs.Moves.{goes, stores, exchanges, installs, fills}
 use Rattle.ppm_kept.specs.Laws.{Ends, kind_then}
 use Rattle.ppm_kept.specs.Openings.{opening_of}
 use Rattle.ppm_kept.specs.Pushing.{Comes}
+use Rattle.ppm_kept.specs.Takes.{IsCheck}
 
 -- from where on a place may still fork blocks in its pool: at the block that it is about to open, or
 -- at its counter
@@ -84,25 +85,32 @@ AllBirthsStay = (i : Image) → IsFair i.code
     → IsKept i root input s t → (born : ℕ → Bool) → Births i s born
     → (p : ℕ) → BirthsStay i s p born
 
--- a row reads no link to open a block by, stores into no counter, and what it installs opens no block
-abbrev pub IsSteadyPoint : RowPoint → Type 0
-IsSteadyPoint (BumpLink block) = ⊥
-IsSteadyPoint _ = Unit {0}
+-- A row reads no link to open a block by, stores into no counter, and what it installs opens no
+-- block; where it checks what it took it may, as F says,
+-- fork one that it inherits.
+abbrev pub IsSteadyPoint : (F : Type 0) → RowPoint → Type 0
+IsSteadyPoint F (BumpLink block) = ⊥
+IsSteadyPoint F (TakenMessage by victim slot) = F
+IsSteadyPoint F (TakenEntry by victim slot message) = F
+IsSteadyPoint F (ClosedRestart victim slot block) = F
+IsSteadyPoint F (ClosedLink block) = F
+IsSteadyPoint F _ = Unit {0}
 
-abbrev pub SteadyThen : Then → Type 0
-SteadyThen (Load point) = IsSteadyPoint point
-SteadyThen (Install restart) = IsSteady restart.kind
-SteadyThen _ = Unit {0}
+abbrev pub SteadyThen : (F : Type 0) → Then → Type 0
+SteadyThen F (Load point) = IsSteadyPoint F point
+SteadyThen F (Install restart) = IsSteady restart.kind
+SteadyThen F (Fork block) = F
+SteadyThen F _ = Unit {0}
 
-abbrev pub SteadyRow : Row → Type 0
-SteadyRow (Now next) = SteadyThen next
-SteadyRow (Store cell content next) = IsNoCounter cell × SteadyThen next
-SteadyRow (Exchange cell old new next) = IsNoCounter cell × SteadyThen next
+abbrev pub SteadyRow : (F : Type 0) → Row → Type 0
+SteadyRow F (Now next) = SteadyThen F next
+SteadyRow F (Store cell content next) = IsNoCounter cell × SteadyThen F next
+SteadyRow F (Exchange cell old new next) = IsNoCounter cell × SteadyThen F next
 
 -- so it is in the row of each kind that opens none, whatever its loads find
 abbrev pub RowsAreSteady : Type 0
 RowsAreSteady = (s : Shape) (seat : Seat) (n : ℕ) (k : RestartKind) (rest : Row) → IsSteady k
-    → Comes s seat n (row_of s seat k) rest → SteadyRow rest
+    → Comes s seat n (row_of s seat k) rest → SteadyRow (IsCheck k) rest
 
 -- where a run opens none was forked
 abbrev pub OpeningsHaveNone : Type 0

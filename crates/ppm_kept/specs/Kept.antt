@@ -16,7 +16,7 @@ use Rattle.ppm_cells.specs.declared.shape.Shape.{Shape}
 use Rattle.ppm_cells.specs.declared.side.Side.{Side}
 use Rattle.ppm_cells.specs.declared.side.Side.TheVariants.{Left, Right}
 use Rattle.ppm_capsules.specs.Strand.{Frame}
-use Rattle.ppm_code.specs.Sizes.{slot_at, value_at}
+use Rattle.ppm_code.specs.Sizes.{slot_at, value_at, frame_size}
 use Rattle.ppm_code.specs.Strands.{Point, Result}
 use Rattle.ppm_code.specs.declared.code.CodeParts.{CodeParts}
 use Rattle.ppm_code.specs.declared.location.FrameWord.{FrameWord}
@@ -204,7 +204,8 @@ module _ (i : Image) where
   -- blocks stand well, no address is two words of it, and each is one of a pool below its ceiling;
   -- a place has as many leaves as its kind has strands; words above ceilings are free; what is
   -- under way stands so; the finish word is true; frames run at their two headers; what is not
-  -- pushed is not taken, and what is about to be taken waits.
+  -- pushed is not taken, and what is about to be taken waits; and no place has given out more of its
+  -- pool than the root's frame and the block words that are counted so far.
   pub record IsKept (root : Tree (Frame FrameWord Point) Result) (input : Words) (s : State) (t : Skeleton) : Type 0 where
     pub ahead : (k : Counts)
         × Ahead (strands i.shape i.code) k root input (tree_of s.words t) (arrays_at s.words)
@@ -223,3 +224,5 @@ module _ (i : Image) where
     pub copies : HasCopies s
     pub untaken : (p : ℕ) → Unpushed p t (s.kind p)
     pub aims : AimsWell s t
+    pub paid : (p : ℕ) → ceiling s.words p (s.kind p)
+        ≤ start i p + (frame_size i.code i.code.root + ahead.0.block_words)

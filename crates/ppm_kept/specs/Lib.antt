@@ -16,6 +16,10 @@ pub mod JoinValues
 pub mod Takes
 pub mod Births
 pub mod Unruns
+pub mod Fates
 pub mod Places
 pub mod Loads
 pub mod Steps
+pub mod Bearing
+pub mod Answers
+pub mod Rooms

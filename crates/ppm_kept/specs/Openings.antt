@@ -8,7 +8,7 @@ use Rattle.ppm_cells.specs.declared.restart.RestartKind.TheVariants.{Run, Seek}
 use Rattle.ppm_words.specs.declared.named_array.NamedArray.{NamedArray}
 use Rattle.ppm_cells.specs.Cells.{pool_at}
 use Rattle.ppm_cells.specs.declared.shape.Shape.{Shape}
-use Rattle.ppm_code.specs.Sizes.{slots_of, slots_at}
+use Rattle.ppm_code.specs.Sizes.{slots_of, slots_at, frame_size}
 use Rattle.ppm_code.specs.declared.code.CodeParts.{CodeParts}
 use Rattle.ppm_layout.specs.Correct.{Opens}
 use Rattle.ppm_layout.specs.Root.{root_strand}
@@ -20,8 +20,8 @@ use Rattle.ppm_frames.specs.Good.{ended, link_at}
 use Rattle.ppm_kept.specs.Running.{strands}
 use Rattle.ppm_kept.specs.Kept.{Image, start, end_of, Resting, NoOutcome, State, put, IsKept}
 
--- the words m have the root's frame at f, in the pool of place p, with n slots; above the counters
--- they are 0; and the root's tree is calm
+-- the words m have a frame at f, in the pool of place p, with n slots, and no pool has given out more
+-- than the root's; above the counters they are 0; and the root's tree is calm
 pub record Opening (i : Image) (m : Cell → ℕ) (p f n : ℕ) : Type 0 where
   pub there : p < i.shape.processors
   pub link : link_at (m (BlockWord f)) ≡ record { size = 6 + n; kind = Root }
@@ -32,6 +32,7 @@ pub record Opening (i : Image) (m : Cell → ℕ) (p f n : ℕ) : Type 0 where
   pub room : m (RoomCounter p) ≡ f + (6 + n)
   pub finish : NoOutcome (m FinishWord)
   pub rooms : (q : ℕ) → (start i q ≤ m (RoomCounter q)) × (m (RoomCounter q) ≤ end_of i q)
+  pub small : (q : ℕ) → m (RoomCounter q) ≤ start i q + frame_size i.code i.code.root
   pub blank : (q o : ℕ) → m (RoomCounter q) + o < end_of i q
       → m (BlockWord (m (RoomCounter q) + o)) ≡ 0
   pub calm : Calm (strands i.shape i.code) (tree_of m (Leaf (InPlace p) (Begins 0) f n)) (arrays_at m)

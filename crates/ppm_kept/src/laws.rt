@@ -1,8 +1,11 @@
 //! What each step of a place keeps, shown by calls that do nothing. The laws of rows are of tidy
 //! codes without conflicts.
+ghost use Rattle.ppm_kept.specs.Answers.{EndsAsMeant};
 ghost use Rattle.ppm_kept.specs.Arriving.{ArriveRowKeeps};
+ghost use Rattle.ppm_kept.specs.Bearing.{TurnsBear};
 ghost use Rattle.ppm_kept.specs.Births.{AllBirthsStay, OpeningsHaveNone, RowsAreSteady};
 ghost use Rattle.ppm_kept.specs.Copies.{AllCopiesStay, OpeningsHaveCopies};
+ghost use Rattle.ppm_kept.specs.Fates.{AllFatesShow, AllFatesStay, NoneIsLeft};
 ghost use Rattle.ppm_kept.specs.JoinLast.{JoinRowKeeps, LastJoinRowKeeps};
 ghost use Rattle.ppm_kept.specs.JoinValues.{AllBranchValuesPass};
 ghost use Rattle.ppm_kept.specs.Joins.{EarlyJoinRowKeeps};
@@ -13,6 +16,7 @@ ghost use Rattle.ppm_kept.specs.Others.{OthersKeep};
 ghost use Rattle.ppm_kept.specs.Places.{MachinesOpen, TurnsShow};
 ghost use Rattle.ppm_kept.specs.Pushing.{AllUntakenStays, Push1RowKeeps, Push2RowKeeps};
 ghost use Rattle.ppm_kept.specs.Returns.{ExchangesAreSeen, UnwindRowKeeps};
+ghost use Rattle.ppm_kept.specs.Rooms.{RoomIsBounded};
 ghost use Rattle.ppm_kept.specs.Steps.{TurnsKeep};
 ghost use Rattle.ppm_kept.specs.Takes.{TakeRowsKeep};
 ghost use Rattle.ppm_kept.specs.Turns.{StepsAreSeen, StoresAreCells};
@@ -145,6 +149,17 @@ pub fn turns_keep()
     ensures law { TurnsKeep }
 {}
 
+/// From a state by places that is kept, with a finish word that says an outcome: the depth-first run of
+/// the root comes to an end with that outcome, and the arrays have the words of that end.
+pub fn ends_as_meant()
+    ensures law { EndsAsMeant }
+{}
+
+/// Whatever places do, none gives out more of its pool than the depth-first run takes of all.
+pub fn room_is_bounded()
+    ensures law { RoomIsBounded }
+{}
+
 /// Blocks are opened upwards in each pool: those that were forked lie below what a place may still
 /// open, and so they do after each step, with the one that is forked then, which is new. Rows of
 /// other kinds than Bump store into no counter and install none.
@@ -154,10 +169,24 @@ pub fn forks_are_new()
     ensures steady { RowsAreSteady }
 {}
 
+/// So it is over a whole turn, with takeover by places, of the blocks of `forks_of` and those before.
+pub fn turns_bear()
+    ensures law { TurnsBear }
+{}
+
 /// The right branches that no place has run yet: each step's skeleton has the same ones, but for the
 /// one that it opens, pushes, takes, or goes on with.
 pub fn unruns_stay()
     ensures law { AllUnrunsStay }
+{}
+
+/// What has come of each right branch (`Fate`) and what the skeleton shows agree, both ways, after each
+/// step: so a branch that was offered waits in the tree, a held one that its join begins was left to
+/// it, and at the end of a run none is left that was forked and not begun.
+pub fn fates_agree()
+    ensures stay { AllFatesStay }
+    ensures show { AllFatesShow }
+    ensures ends { NoneIsLeft }
 {}
 
 /// The tree's half of a join where both branches ended: each store of a value into its slot is a

@@ -38,7 +38,9 @@ use Rattle.ppm_kept.specs.Pushing.{Comes}
 use Rattle.ppm_kept.specs.Steps.{CameBy, TakesSo, IsKindIf, StandsSo, LeavesSo, ActsSo}
 use Rattle.ppm_kept.specs.Takes.{IsAlone}
 use Rattle.ppm_kept.proofs.StepRows.{turns_keep}
-use Rattle.ppm_runs.specs.Run.{image, IsToTake, IsRun}
+use Rattle.ppm_kept.specs.Fates.{Offered}
+use Rattle.ppm_kept.proofs.FateLemmas.{fates_show}
+use Rattle.ppm_runs.specs.Run.{image, fate_of, IsRun}
 use Rattle.ppm_runs.specs.Laws.{IsTakers, RunsGoOn, TurnsGoOn}
 use Rattle.ppm_runs.proofs.StandLemmas.{kinds_same}
 use Rattle.ppm_runs.proofs.ShownLemmas.{Within, within, runs, holds}
@@ -65,9 +67,9 @@ taker_place (Popping p) = p
 taker_place (Stolen p) = p
 taker_place _ = 0
 
-taker_of : (p : ℕ) (k : RestartKind) (x : Home) → is_taker k ≡ true → IsTakers p k x → IsToTake x × (taker_place x ≡ p)
-taker_of p (Pop2 r) x e a = (subst IsToTake (sym a) tt, ap taker_place a)
-taker_of p (Check v j) x e a = (subst IsToTake (sym a) tt, ap taker_place a)
+taker_of : (p : ℕ) (k : RestartKind) (x : Home) → is_taker k ≡ true → IsTakers p k x → (fate_of x ≡ Offered) × (taker_place x ≡ p)
+taker_of p (Pop2 r) x e a = (ap fate_of a, ap taker_place a)
+taker_of p (Check v j) x e a = (ap fate_of a, ap taker_place a)
 taker_of p (Run f y) x e a = absurd (cc)
 taker_of p (Bump r) x e a = absurd (cc)
 taker_of p (Push1 r) x e a = absurd (cc)
@@ -160,7 +162,7 @@ module _ (s : Shape) (code : CodeParts) (places : s.takeover ≡ ByPlaces) (fair
 
   takes_so : (c : ℕ) (seat : Seat) (row : Row) → stand_of state c ≡ IsWithin seat row → is_taker seat.restart.kind ≡ true → TakesSo i state t seat.place row
   takes_so c seat (Now (Load (Offset r b))) e taker =
-      run.waiting r (taker_of seat.place seat.restart.kind (h r) taker ((takers_have s code places state h forked taken run.lawful).offsets c seat r b e)).0
+      (fates_show i fair root input (places_of s state) t run.kept (λ x. fate_of (h x)) run.agrees).waits r (taker_of seat.place seat.restart.kind (h r) taker ((takers_have s code places state h forked taken run.lawful).offsets c seat r b e)).0
   takes_so c seat (Now (Begin r f b)) e taker = alone_in c seat r f b e taker
   takes_so c seat _ e taker = tt
 
@@ -197,7 +199,7 @@ module _ (s : Shape) (code : CodeParts) (places : s.takeover ≡ ByPlaces) (fair
   leaves_so c (IsBroken p) e = tt
   leaves_so c IsDone e = tt
 
-  acts_so : (c : ℕ) (act : Act) → c < s.processors → ActsSo i state t c act (stand_of state c)
+  pub acts_so : (c : ℕ) (act : Act) → c < s.processors → ActsSo i state t c act (stand_of state c)
   acts_so c (Step victim) there = (record { words = run.lawful.0; there = there }, stands_so c (stand_of state c) refl)
   acts_so c Soft there = (record { words = run.lawful.0; there = there }, leaves_so c (stand_of state c) refl)
   acts_so c Hard there = (record { words = run.lawful.0; there = there }, leaves_so c (stand_of state c) refl)

@@ -1,20 +1,18 @@
 -- What a turn owes the tickets comes of the tree: each block word that it changes is one of a pool, a
 -- fork is a new one, and what is begun at a join was left to the strand of the left branch.
-use Rattle.std.proofs.Common.{◌≡◌, ◌⊎◌, ◌≤◌, ◌<◌, ℕ, zero, suc, ◌+◌, ◌==◌, Bool, true, false, List, inl, inr, refl, sym, ap, ◌∙◌, subst, arith}
-use Rattle.std.proofs.lemmas.Bool.{eqb-true, cases_Bool}
+use Rattle.std.proofs.Common.{◌≡◌, ◌⊎◌, ◌<◌, ℕ, ◌+◌, ◌==◌, Bool, true, false, List, inl, inr, refl, sym, ap, ◌∙◌, subst, arith}
+use Rattle.std.proofs.lemmas.Bool.{cases_Bool}
 use Rattle.ppm_strands.specs.Tree.{Words, Tree}
 use Rattle.ppm_cells.specs.Cells.{IsInPool}
 use Rattle.ppm_cells.specs.declared.cell.Cell.{Cell}
 use Rattle.ppm_cells.specs.declared.cell.Cell.TheVariants.{FinishWord, CarryWord, DeadWord, RestartWord, MessageWord, HolderWord, Top, RoomCounter, EntryWord, BlockWord, ArrayWord}
-use Rattle.ppm_cells.specs.declared.link.LinkKind.{LinkKind}
 use Rattle.ppm_cells.specs.declared.link.LinkKind.TheVariants.{Root, Branch}
 use Rattle.ppm_cells.specs.declared.restart.RestartKind.{RestartKind}
 use Rattle.ppm_cells.specs.declared.restart.RestartKind.TheVariants.{Run, Bump, Push1, Push2, Unwind, Arrive, Join, Pop1, Pop2, Seek, Steal, Check, Take, Take2}
 use Rattle.ppm_cells.specs.declared.shape.Shape.{Shape}
 use Rattle.ppm_cells.specs.declared.shape.Takeover.{Takeover}
 use Rattle.ppm_cells.specs.declared.shape.Takeover.TheVariants.{ByPlaces, ByEntries}
-use Rattle.ppm_cells.specs.declared.side.Side.{Side}
-use Rattle.ppm_cells.specs.declared.side.Side.TheVariants.{Left, Right}
+use Rattle.ppm_cells.specs.declared.side.Side.TheVariants.{Left}
 use Rattle.ppm_capsules.specs.Strand.{Frame}
 use Rattle.ppm_code.specs.Strands.{Point, Result}
 use Rattle.ppm_code.specs.declared.code.CodeParts.{CodeParts}
@@ -22,7 +20,7 @@ use Rattle.ppm_code.specs.declared.location.FrameWord.{FrameWord}
 use Rattle.ppm_join.specs.Order.{first}
 use Rattle.ppm_step.specs.Among.{IsActAmong}
 use Rattle.ppm_step.specs.Frames.{Rest, Loads, Stores, Full, Installs, Breaks}
-use Rattle.ppm_step.specs.Rows.{row_of, is_inline, is_last, joins, push_at, by_places}
+use Rattle.ppm_step.specs.Rows.{row_of, push_at, by_places}
 use Rattle.ppm_step.specs.Standings.{Standing, IsLost, IsPlaced, IsAt, IsWithin, IsRunning, IsBroken, IsDone}
 use Rattle.ppm_step.specs.State.{State as RunState, stand_of}
 use Rattle.ppm_step.specs.declared.content.Content.{Content}
@@ -40,15 +38,11 @@ use Rattle.ppm_tickets.specs.Lawful.{Pushes, Carries}
 use Rattle.ppm_tickets.specs.Saw.{IsStrand, HasSeen, Strand, Looks}
 use Rattle.ppm_tickets.specs.View as spots
 use Rattle.ppm_tickets.specs.Words.{Word, Slot, has}
-use Rattle.ppm_frames.specs.Skeletons.{Stand, Begins, Over, Arrives, InPlace, Fresh, Waiting, Held, Came, Inlined, Skeleton, Leaf, Calling, Forking, hung, inside, count, Around, plug, hook_at}
-use Rattle.ppm_frames.specs.Good.{IsPlain, mark, order_of, Match, Good}
-use Rattle.ppm_frames.proofs.SkeletonLemmas.{branch_from, inside_at}
-use Rattle.ppm_frames.proofs.SwapLemmas.{good_here}
+use Rattle.ppm_frames.specs.Skeletons.{Stand, Begins, Over, Arrives, InPlace, Skeleton, Leaf, Around, plug, hook_at}
+use Rattle.ppm_frames.specs.Good.{Match}
 use Rattle.ppm_kept.specs.Running.{IsFair}
-use Rattle.ppm_kept.specs.Kept.{Image, seat_at, InRow, InRest, State, Reach, Reached, Does, Ordered, carried, IsKept}
-use Rattle.ppm_kept.proofs.NodeLemmas.{nodes_same}
+use Rattle.ppm_kept.specs.Kept.{Image, seat_at, InRow, InRest, State, Reach, Does, Ordered, carried, IsKept}
 use Rattle.ppm_kept.proofs.PlaceLemmas.{Leafed, leaf, head_on}
-use Rattle.ppm_kept.proofs.JoiningLemmas.{joins as joins_leaf, inline_late}
 use Rattle.ppm_kept.proofs.Rows.{run_row_keeps}
 use Rattle.ppm_kept.proofs.UnwindRow.{unwind_row_keeps}
 use Rattle.ppm_kept.proofs.ArriveRow.{arrive_row_keeps}
@@ -57,11 +51,14 @@ use Rattle.ppm_kept.proofs.TurnLemmas.{stores_are_cells}
 use Rattle.ppm_kept.specs.Births.{floor}
 use Rattle.ppm_kept.specs.Places.{places_of}
 use Rattle.ppm_kept.proofs.OwnerLemmas.{owned}
-use Rattle.ppm_runs.specs.Run.{image, IsAtLast, IsLeft, IsHomed, AreHomed, IsRun}
+use Rattle.ppm_kept.specs.Fates.{ToPush}
+use Rattle.ppm_kept.specs.Fates as fates
+use Rattle.ppm_kept.proofs.FateLemmas.{fates_show}
+use Rattle.ppm_runs.specs.Run.{image, fate_of, IsRun}
 use Rattle.ppm_runs.specs.Laws.{Owes, TurnsAreOrderly}
 use Rattle.ppm_runs.proofs.TameLemmas.{May, TameRow, rest_tame, reach_tame}
 use Rattle.ppm_runs.proofs.StandLemmas.{kinds_same}
-use Rattle.ppm_runs.proofs.ShownLemmas.{cell_pooled, homed_here, Within, within, Runs, runs, head_pool}
+use Rattle.ppm_runs.proofs.ShownLemmas.{cell_pooled, Within, within, Runs, runs, head_pool}
 
 -- rows that load, which rows of no other sort are
 abbrev IsLoad : Row → Type 0
@@ -87,36 +84,32 @@ IsLooking _ = ⊥
 
 -- all is allowed but forks
 abbrev no_forks : May
-no_forks = record { forks = λ r. ⊥; begins = λ r. Unit {0}; stores = λ a. Unit {0}; trades = λ a. Unit {0} }
+no_forks = record { forks = λ r. ⊥; begins = λ r. Unit {0}; stores = λ a. Unit {0}; trades = λ a. Unit {0}; counts = Unit {0} }
 
 -- no block word is changed but this one
 abbrev one_word : ℕ → May
-one_word w = record { forks = λ r. Unit {0}; begins = λ r. Unit {0}; stores = λ a. a ≡ w; trades = λ a. a ≡ w }
+one_word w = record { forks = λ r. Unit {0}; begins = λ r. Unit {0}; stores = λ a. a ≡ w; trades = λ a. a ≡ w; counts = Unit {0} }
 
 -- none is exchanged
 abbrev no_trades : May
-no_trades = record { forks = λ r. Unit {0}; begins = λ r. Unit {0}; stores = λ a. Unit {0}; trades = λ a. ⊥ }
+no_trades = record { forks = λ r. Unit {0}; begins = λ r. Unit {0}; stores = λ a. Unit {0}; trades = λ a. ⊥; counts = Unit {0} }
 
 -- no block word is changed
 abbrev no_words : May
-no_words = record { forks = λ r. Unit {0}; begins = λ r. Unit {0}; stores = λ a. ⊥; trades = λ a. ⊥ }
+no_words = record { forks = λ r. Unit {0}; begins = λ r. Unit {0}; stores = λ a. ⊥; trades = λ a. ⊥; counts = Unit {0} }
 
 -- one block alone is forked
 abbrev one_fork : ℕ → May
-one_fork b = record { forks = λ r. r ≡ b; begins = λ r. Unit {0}; stores = λ a. Unit {0}; trades = λ a. Unit {0} }
+one_fork b = record { forks = λ r. r ≡ b; begins = λ r. Unit {0}; stores = λ a. Unit {0}; trades = λ a. Unit {0}; counts = Unit {0} }
 
--- one branch alone is begun, where that is so
-abbrev one_begin : ℕ → Type 0 → May
-one_begin b so = record { forks = λ r. Unit {0}; begins = λ r. (r ≡ b) × so; stores = λ a. Unit {0}; trades = λ a. Unit {0} }
+-- all is allowed, and counters where that is so
+abbrev pub any_row : Type 0 → May
+any_row so = record { forks = λ r. Unit {0}; begins = λ r. Unit {0}; stores = λ a. Unit {0}; trades = λ a. Unit {0}; counts = so }
 
--- what is stood at a fork, by two leaves that hang on one branch
-abbrev stand_told : Skeleton → Stand
-stand_told (Leaf w st f n) = st
-stand_told _ = Over
-
-abbrev IsArriving : Stand → Type 0
-IsArriving Arrives = Unit {0}
-IsArriving _ = ⊥
+-- the kind in whose row a counter is stored
+abbrev pub IsBumping : RestartKind → Type 0
+IsBumping (Bump r) = Unit {0}
+IsBumping _ = ⊥
 
 -- by how the takeover is
 places_row : (how : Takeover) (may : May) (row : Row) → TameRow may row → TameRow may (by_places how row)
@@ -135,9 +128,6 @@ module _ (s : Shape) (code : CodeParts) (places : s.takeover ≡ ByPlaces) (fair
 
   abbrev m : Cell → ℕ
   m = z.words
-
-  abbrev last : ℕ → Type 0
-  last q = IsAtLast s state.words q
 
   abbrev In : ℕ → Seat → Row → Type 0
   In c seat row = Within s code root input state h forked taken t run c seat row
@@ -178,7 +168,7 @@ module _ (s : Shape) (code : CodeParts) (places : s.takeover ≡ ByPlaces) (fair
   module _ (c : ℕ) (seat : Seat) (block : ℕ) (w : In c seat (Now (Fork block))) where
     fork_of : (k : RestartKind) → seat.restart.kind ≡ k → Does i m seat.place k (InRow (Now (Fork block))) → k ≡ Bump block
     fork_of (Run f y) e d = absurd (subst IsLoad (sym d) tt)
-    fork_of (Bump r) e d = ap Bump (sym (reached (one_fork r) (seat_at seat.place (Bump r) d.0) d.1 (row_of s (seat_at seat.place (Bump r) d.0) (Bump r)) (Now (Fork block)) refl d.2))
+    fork_of (Bump r) e d = ap Bump (sym (reached (one_fork r) (seat_at seat.place (Bump r) d.0) d.1 (row_of s (seat_at seat.place (Bump r) d.0) (Bump r)) (Now (Fork block)) (refl, tt) d.2))
     fork_of (Unwind f) e d = absurd (reached no_forks (seat_at seat.place (Unwind f) d.0) d.1 (row_of s (seat_at seat.place (Unwind f) d.0) (Unwind f)) (Now (Fork block)) (λ a. tt) d.2)
     fork_of (Arrive r x) e d = absurd (reached no_forks (seat_at seat.place (Arrive r x) d.0) d.1 (row_of s (seat_at seat.place (Arrive r x) d.0) (Arrive r x)) (Now (Fork block)) (tt, tt) d.2)
     fork_of (Join r x) e d = elim d [
@@ -195,6 +185,33 @@ module _ (s : Shape) (code : CodeParts) (places : s.takeover ≡ ByPlaces) (fair
     fork_of (Take v x) e d = absurd (looked no_forks c seat (Now (Fork block)) (Take v x) tt e (places_row s.takeover no_forks _ tt) w)
     fork_of (Take2 v) e d = absurd (looked no_forks c seat (Now (Fork block)) (Take2 v) tt e (places_row s.takeover no_forks _ tt) w)
 
+  pub fork_kind : (c : ℕ) (seat : Seat) (block : ℕ) → In c seat (Now (Fork block)) → seat.restart.kind ≡ Bump block
+  fork_kind c seat block w = fork_of c seat block w seat.restart.kind refl w.does
+
+  -- rows store no restart word, and a counter in Bump alone
+  module _ (c : ℕ) (seat : Seat) (line : Row) (w : In c seat line) where
+    tame_at : (k : RestartKind) → seat.restart.kind ≡ k → Does i m seat.place k (InRow line) → TameRow (any_row (IsBumping k)) line
+    tame_at (Run f y) e d = subst (TameRow (any_row ⊥)) (sym d) tt
+    tame_at (Bump r) e d = reached (any_row (Unit {0})) (seat_at seat.place (Bump r) d.0) d.1 (row_of s (seat_at seat.place (Bump r) d.0) (Bump r)) line (tt, tt) d.2
+    tame_at (Unwind f) e d = reached (any_row ⊥) (seat_at seat.place (Unwind f) d.0) d.1 (row_of s (seat_at seat.place (Unwind f) d.0) (Unwind f)) line (λ a. tt) d.2
+    tame_at (Arrive r x) e d = reached (any_row ⊥) (seat_at seat.place (Arrive r x) d.0) d.1 (row_of s (seat_at seat.place (Arrive r x) d.0) (Arrive r x)) line (tt, tt) d.2
+    tame_at (Join r x) e d = elim d [
+      | inl d ↦ reached (any_row ⊥) (seat_at seat.place (Join r x) d.0) d.1 (row_of s (seat_at seat.place (Join r x) d.0) (Join r x)) line (tt, λ a. tt) d.2
+      | inr g ↦ subst (TameRow (any_row ⊥)) (sym g.is) tt
+    ]
+    tame_at (Push1 r) e d = looked (any_row ⊥) c seat line (Push1 r) tt e (push_row (any_row ⊥) seat r tt) w
+    tame_at (Push2 r) e d = looked (any_row ⊥) c seat line (Push2 r) tt e tt w
+    tame_at Pop1 e d = looked (any_row ⊥) c seat line Pop1 tt e tt w
+    tame_at (Pop2 r) e d = looked (any_row ⊥) c seat line (Pop2 r) tt e tt w
+    tame_at Seek e d = looked (any_row ⊥) c seat line Seek tt e tt w
+    tame_at (Steal v x) e d = looked (any_row ⊥) c seat line (Steal v x) tt e tt w
+    tame_at (Check v x) e d = looked (any_row ⊥) c seat line (Check v x) tt e (λ r. tt) w
+    tame_at (Take v x) e d = looked (any_row ⊥) c seat line (Take v x) tt e (places_row s.takeover (any_row ⊥) _ tt) w
+    tame_at (Take2 v) e d = looked (any_row ⊥) c seat line (Take2 v) tt e (places_row s.takeover (any_row ⊥) _ tt) w
+
+    pub tame_kind : TameRow (any_row (IsBumping seat.restart.kind)) line
+    tame_kind = tame_at seat.restart.kind refl w.does
+
   -- a block that is built was not forked
   not_born : (p r : ℕ) → z.kind p ≡ Bump r → has forked r ≡ false
   not_born p r ke = elim (cases_Bool (has forked r)) [
@@ -210,48 +227,6 @@ module _ (s : Shape) (code : CodeParts) (places : s.takeover ≡ ByPlaces) (fair
   forks_new c seat block e =
       let w = within s code root input state h forked taken t run c seat (Now (Fork block)) e in
       not_born seat.place block (w.kind ∙ fork_of c seat block w seat.restart.kind refl w.does)
-
-  -- a branch that is begun at a join is that of the block, where the order word says so
-  joined_by : (p r : ℕ) (d : Side) (block frame bottom : ℕ) → Reached i m p (Join r d) (Now (Begin block frame bottom)) → (block ≡ r) × (is_inline (m (BlockWord (r + 1))) d ≡ true)
-  joined_by p r d block frame bottom does = by does.1 does.2
-    where
-      start_row : (x y w : Bool) → is_inline (m (BlockWord (r + 1))) d ≡ y
-          → TameRow (one_begin r (is_inline (m (BlockWord (r + 1))) d ≡ true)) (joins (seat_at p (Join r d) does.0) r x y w)
-      start_row true y w e = tt
-      start_row false true w e = (refl, e)
-      start_row false false true e = λ a. tt
-      start_row false false false e = tt
-
-      by : (n : ℕ) → Reach i m (seat_at p (Join r d) does.0) n (row_of s (seat_at p (Join r d) does.0) (Join r d)) (Now (Begin block frame bottom))
-          → (block ≡ r) × (is_inline (m (BlockWord (r + 1))) d ≡ true)
-      by zero e = absurd (subst IsLoad e tt)
-      by (suc n) e = reached (one_begin r (is_inline (m (BlockWord (r + 1))) d ≡ true)) (seat_at p (Join r d) does.0) n
-          (joins (seat_at p (Join r d) does.0) r (m (BlockWord (r + 1)) == first d) (is_inline (m (BlockWord (r + 1))) d) (is_last (m (BlockWord (r + 1))) d))
-          (Now (Begin block frame bottom))
-          (start_row (m (BlockWord (r + 1)) == first d) (is_inline (m (BlockWord (r + 1))) d) (is_last (m (BlockWord (r + 1))) d) refl) e
-
-  joined_of : (p r : ℕ) (d : Side) (block frame bottom : ℕ) → Does i m p (Join r d) (InRow (Now (Begin block frame bottom))) → (block ≡ r) × (is_inline (m (BlockWord (r + 1))) d ≡ true)
-  joined_of p r d block frame bottom does = elim does [ inl a ↦ joined_by p r d block frame bottom a | inr g ↦ absurd (subst IsInstall (sym g.is) tt) ]
-
-  -- the home of a branch that is held
-  held_home : (b : Skeleton) (x : Home) → order_of IsPlain (mark b) ≡ 3 → IsHomed last b x → (x ≡ Inline) ⊎ ((q : ℕ) × (x ≡ Pushing q))
-  held_home (Leaf Held st f n) x e a = by x a
-    where
-      by : (x : Home) → IsLeft last x → (x ≡ Inline) ⊎ ((q : ℕ) × (x ≡ Pushing q))
-      by Inline a = inl refl
-      by (Pushing q) a = inr (q, refl)
-      by Unborn a = absurd a
-      by (Listed v j g) a = absurd a
-      by (Popping q) a = absurd a
-      by (Stolen q) a = absurd a
-      by Begun a = absurd a
-  held_home (Leaf (InPlace q) st f n) x e a = absurd (omega (arith, e))
-  held_home (Leaf Fresh st f n) x e a = absurd (omega (arith, e))
-  held_home (Leaf Waiting st f n) x e a = absurd (omega (arith, e))
-  held_home (Leaf Came st f n) x e a = absurd (omega (arith, e))
-  held_home (Leaf Inlined st f n) x e a = absurd (omega (arith, e))
-  held_home (Calling f n y u) x e a = absurd (omega (arith, e))
-  held_home (Forking f n y q u v) x e a = absurd (omega (arith, e))
 
   -- a place that pushes the fork of a block has the strand of its left branch
   record PushedBy (r : ℕ) : Type 0 where
@@ -294,46 +269,35 @@ module _ (s : Shape) (code : CodeParts) (places : s.takeover ≡ ByPlaces) (fair
       by (Push2 x) w a = inr (ap Push2 a.0)
       by _ w a = absurd a
 
-  -- no place pushes a fork whose left branch joins
-  not_pushed : (r p q : ℕ) (c : Around) (f n : ℕ) → t ≡ plug c (Leaf (InPlace p) Arrives f n) → hook_at Root c ≡ Branch Left r → h r ≡ Pushing q → ⊥
-  not_pushed r p q c f n is hook e =
-      let g = pushed_by r q (pushing_kind r q e) in
-      let one : 1 ≤ hung (Branch Left r) (r + 2) = (let a = inside_at (r + 2) 1 (r + 2) 0 (omega arith) (omega arith) in omega (arith, a)) in
-      let left : 1 ≤ hung (hook_at Root c) (r + 2) + inside f (6 + n) (r + 2) = (let a = subst (λ (x : LinkKind). 1 ≤ hung x (r + 2)) (sym hook) one in omega (arith, a)) in
-      let right : 1 ≤ hung (hook_at Root g.around) (r + 2) + inside g.frame (6 + g.slots) (r + 2) = (let a = subst (λ (x : LinkKind). 1 ≤ hung x (r + 2)) (sym g.hook) one in omega (arith, a)) in
-      let same = nodes_same Root c (Leaf (InPlace p) Arrives f n) g.around (Leaf (InPlace g.place) (Begins g.copy) g.frame g.slots) (r + 2) (sym is ∙ g.is)
-      (subst (λ (x : Skeleton). count Root x (r + 2) ≤ 1) is (law.apart (r + 2))) left right in
-      subst IsArriving (ap stand_told same) tt
+  -- of one that has still to be pushed, which place is to push it
+  to_push : (r : ℕ) (x : Home) → h r ≡ x → fate_of x ≡ ToPush → (o : ℕ) × ((z.kind o ≡ Push1 r) ⊎ (z.kind o ≡ Push2 r))
+  to_push r (Pushing q) e f = (q, pushing_kind r q e)
+  to_push r Unborn e f = absurd (cc)
+  to_push r (Listed v j g) e f = absurd (cc)
+  to_push r (Popping q) e f = absurd (cc)
+  to_push r (Stolen q) e f = absurd (cc)
+  to_push r Inline e f = absurd (cc)
+  to_push r Begun e f = absurd (cc)
 
-  inline_here : (p r : ℕ) (d : Side) → z.kind p ≡ Join r d → is_inline (m (BlockWord (r + 1))) d ≡ true → h r ≡ Inline
-  inline_here p r d ke inline =
-      let late = inline_late d (m (BlockWord (r + 1))) inline in
-      let come = joins_leaf i fair root input z t law p r d ke late in
-      by d come.around come.frame come.slots come.is come.hook inline
-    where
-      by : (e : Side) (c : Around) (f n : ℕ) → t ≡ plug c (Leaf (InPlace p) Arrives f n) → hook_at Root c ≡ Branch e r → is_inline (m (BlockWord (r + 1))) e ≡ true → h r ≡ Inline
-      by Right c f n is hook k = absurd (cc)
-      by Left c f n is hook k = elim (branch_from Root c r Left hook) [
-        | inl o ↦ absurd (let b = o.0 in cc)
-        | inr o ↦
-            let whole = is ∙ o.is (Leaf (InPlace p) Arrives f n) in
-            let good = good_here code m z.kind Root o.around _ (subst (Good code m z.kind Root) whole law.good) in
-            let homed = homed_here last h o.around _ (subst (AreHomed last h) whole run.homed) in
-            elim (held_home o.beside (h r) (sym good.0.order ∙ eqb-true (m (BlockWord (r + 1))) 3 k) homed.0) [
-              | inl e ↦ e
-              | inr g ↦ absurd (not_pushed r p g.0 c f n is hook g.1)
-            ]
-      ]
+  -- one that is left to the strand
+  left_home : (x : Home) → fate_of x ≡ fates.Inline → x ≡ Inline
+  left_home Inline f = refl
+  left_home Unborn f = absurd (cc)
+  left_home (Pushing q) f = absurd (cc)
+  left_home (Listed v j g) f = absurd (cc)
+  left_home (Popping q) f = absurd (cc)
+  left_home (Stolen q) f = absurd (cc)
+  left_home Begun f = absurd (cc)
 
   pub joins_inline : (c : ℕ) (seat : Seat) (block frame bottom : ℕ) → stand_of state c ≡ IsWithin seat (Now (Begin block frame bottom)) → IsJoined seat.restart.kind (h block)
   joins_inline c seat block frame bottom e =
       let w = within s code root input state h forked taken t run c seat (Now (Begin block frame bottom)) e in
-      by seat.restart.kind w.kind w.does
+      by seat.restart.kind w.kind w.doing
     where
-      by : (k : RestartKind) → z.kind seat.place ≡ k → Does i m seat.place k (InRow (Now (Begin block frame bottom))) → IsJoined k (h block)
+      by : (k : RestartKind) → z.kind seat.place ≡ k → z.doing seat.place ≡ InRow (Now (Begin block frame bottom)) → IsJoined k (h block)
       by (Join r d) ke does =
-          let a = joined_of seat.place r d block frame bottom does in
-          ap h a.0 ∙ inline_here seat.place r d ke a.1
+          let a = (fates_show i fair root input z t law (λ r. fate_of (h r)) run.agrees).joins seat.place r d block frame bottom ke does (to_push r (h r) refl) in
+          ap h a.0 ∙ left_home (h r) a.1
       by (Run f y) ke does = tt
       by (Bump r) ke does = tt
       by (Push1 r) ke does = tt
@@ -414,7 +378,7 @@ module _ (s : Shape) (code : CodeParts) (places : s.takeover ≡ ByPlaces) (fair
 
     stored_by : (k : RestartKind) → seat.restart.kind ≡ k → Does i m seat.place k (InRow row) → IsPooled s cell
     stored_by (Run f y) e d = absurd (subst IsLoad (sym d) tt)
-    stored_by (Bump r) e d = none_stored cell content next (reached no_words (seat_at seat.place (Bump r) d.0) d.1 (row_of s (seat_at seat.place (Bump r) d.0) (Bump r)) row tt d.2)
+    stored_by (Bump r) e d = none_stored cell content next (reached no_words (seat_at seat.place (Bump r) d.0) d.1 (row_of s (seat_at seat.place (Bump r) d.0) (Bump r)) row (tt, tt) d.2)
     stored_by (Unwind f) e d = cell_pooled s cell ((unwind_row_keeps i fair root input z t law seat.place w.place f (w.kind ∙ e)).cells cell content next doing)
     stored_by (Arrive r x) e d = absurd ((arrive_row_keeps i fair root input z t law seat.place w.place r x (w.kind ∙ e)).stores_none cell content next doing)
     stored_by (Join r x) e d = cell_pooled s cell ((join_row_keeps i fair root input z t law seat.place w.place r x (w.kind ∙ e)).cells cell content next doing)
@@ -438,7 +402,7 @@ module _ (s : Shape) (code : CodeParts) (places : s.takeover ≡ ByPlaces) (fair
 
     traded_by : (k : RestartKind) → seat.restart.kind ≡ k → Does i m seat.place k (InRow trade) → IsPooled s cell
     traded_by (Run f y) e d = absurd (subst IsLoad (sym d) tt)
-    traded_by (Bump r) e d = none_traded no_words nothing cell old new next (reached no_words (seat_at seat.place (Bump r) d.0) d.1 (row_of s (seat_at seat.place (Bump r) d.0) (Bump r)) trade tt d.2)
+    traded_by (Bump r) e d = none_traded no_words nothing cell old new next (reached no_words (seat_at seat.place (Bump r) d.0) d.1 (row_of s (seat_at seat.place (Bump r) d.0) (Bump r)) trade (tt, tt) d.2)
     traded_by (Unwind f) e d = none_traded no_trades nothing cell old new next (reached no_trades (seat_at seat.place (Unwind f) d.0) d.1 (row_of s (seat_at seat.place (Unwind f) d.0) (Unwind f)) trade (λ a. tt) d.2)
     traded_by (Arrive r x) e d = one_traded (r + 1) cell old new next
         (head_pool s code root input state h forked taken t run (r + 1) (subst (Ordered i z t m) (w.kind ∙ e) (law.orders seat.place)))

@@ -25,11 +25,11 @@ use Rattle.ppm_tickets.specs.Saw.{Carried, Sits, HasSeen, Sees}
 use Rattle.ppm_tickets.specs.View as spots
 use Rattle.ppm_tickets.specs.Words.{Word, Empty, Local, Job, Taken, Held, Number, Linked, Restarts, Unread, Spot, Holder}
 use Rattle.ppm_frames.specs.Views.{place_of, in_pool, is_cell}
-use Rattle.ppm_frames.specs.Skeletons.{Skeleton, Around, Top as Whole, AtCall, AtLeft, AtRight, plug}
+use Rattle.ppm_frames.specs.Skeletons.{Skeleton}
 use Rattle.ppm_kept.specs.Kept.{Image, InRow, InRest, State, Does, Head, owner, IsKept}
 use Rattle.ppm_kept.specs.Moves.{doing_of}
 use Rattle.ppm_kept.specs.Places.{places_of, is_in, IsOf, Holds}
-use Rattle.ppm_runs.specs.Run.{image, AreHomed, IsRun}
+use Rattle.ppm_runs.specs.Run.{image, IsRun}
 use Rattle.ppm_runs.proofs.StandLemmas.{kinds_same, doing_own}
 
 -- a holder word names one processor
@@ -80,13 +80,6 @@ cell_pooled s (Top p) e = tt
 cell_pooled s (RoomCounter p) e = tt
 cell_pooled s (EntryWord p i) e = tt
 cell_pooled s (ArrayWord x) e = tt
-
--- the right branch of a fork is where its home says, deep in the tree
-pub homed_here : (last : ℕ → Type 0) (h : ℕ → Home) (c : Around) (u : Skeleton) → AreHomed last h (plug c u) → AreHomed last h u
-homed_here last h Whole u a = a
-homed_here last h (AtCall f n y c) u a = homed_here last h c u a
-homed_here last h (AtLeft f n y r c b) u a = homed_here last h c u a.1
-homed_here last h (AtRight f n y r b c) u a = homed_here last h c u a.2
 
 module _ (s : Shape) (code : CodeParts) (root : Tree (Frame FrameWord Point) Result) (input : Words) (state : RunState) (h : ℕ → Home) (forked taken : List ℕ) (t : Skeleton) (run : IsRun s code root input state h forked taken t) where
   abbrev i : Image

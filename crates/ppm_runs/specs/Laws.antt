@@ -1,5 +1,5 @@
 -- What turns owe to the tickets, from the tree of strands.
-use Rattle.std.specs.Prelude.{◌≡◌, ◌⊎◌, ℕ, false, List, ◌++◌}
+use Rattle.std.specs.Prelude.{◌≡◌, ◌⊎◌, ◌≤◌, ℕ, false, List, ◌++◌}
 use Rattle.ppm_strands.specs.Tree.{Words, Tree}
 use Rattle.ppm_cells.specs.declared.shape.Shape.{Shape}
 use Rattle.ppm_cells.specs.declared.shape.Takeover.TheVariants.{ByPlaces}
@@ -8,7 +8,7 @@ use Rattle.ppm_code.specs.Strands.{Point, Result}
 use Rattle.ppm_code.specs.declared.code.CodeParts.{CodeParts}
 use Rattle.ppm_code.specs.declared.location.FrameWord.{FrameWord}
 use Rattle.ppm_step.specs.Among.{IsTurnAmong}
-use Rattle.ppm_step.specs.Standings.{IsWithin}
+use Rattle.ppm_step.specs.Standings.{IsWithin, IsBroken}
 use Rattle.ppm_step.specs.State.{State as RunState, stand_of, happens, forks_of, takes_of}
 use Rattle.ppm_step.specs.declared.row.Row.TheVariants.{Now}
 use Rattle.ppm_step.specs.declared.row.Seat.{Seat}
@@ -26,6 +26,7 @@ use Rattle.ppm_tickets.specs.Words.{has}
 use Rattle.ppm_frames.specs.Skeletons.{Skeleton}
 use Rattle.ppm_kept.specs.Running.{IsFair}
 use Rattle.ppm_kept.specs.Kept.{IsKept}
+use Rattle.ppm_kept.specs.Births.{Births}
 use Rattle.ppm_kept.specs.Places.{places_of}
 use Rattle.ppm_kept.specs.Steps.{tree_after, IsStopped}
 use Rattle.ppm_runs.specs.Run.{image, IsRun}
@@ -89,3 +90,17 @@ TurnsGoOn = (s : Shape) (code : CodeParts) → s.takeover ≡ ByPlaces → IsFai
     → (root : Tree (Frame FrameWord Point) Result) (input : Words) (state : RunState) (h : ℕ → Home) (forked taken : List ℕ) (t : Skeleton)
     → IsRun s code root input state h forked taken t
     → RunsGoOn s code root input state h forked taken t
+
+-- after each turn blocks are forked upwards still, those of the turn among them
+abbrev pub BirthsFollow : Type 0
+BirthsFollow = (s : Shape) (code : CodeParts) → s.takeover ≡ ByPlaces → IsFair code
+    → (root : Tree (Frame FrameWord Point) Result) (input : Words) (state : RunState) (h : ℕ → Home) (forked taken : List ℕ) (t : Skeleton)
+    → IsRun s code root input state h forked taken t
+    → (turn : Turn) → IsTurnAmong s.processors turn
+    → Births (image s code) (places_of s (happens s code state turn)) (has (forks_of state turn ++ forked))
+
+-- after each turn who has met broken words knows a place, or that it is at none
+abbrev pub BrokenFollow : Type 0
+BrokenFollow = (s : Shape) (code : CodeParts) (root : Tree (Frame FrameWord Point) Result) (input : Words) (state : RunState) (h : ℕ → Home) (forked taken : List ℕ) (t : Skeleton)
+    → IsRun s code root input state h forked taken t
+    → (turn : Turn) (c p : ℕ) → stand_of (happens s code state turn) c ≡ IsBroken p → p ≤ 64

@@ -1,2 +1,5 @@
 pub mod Run
 pub mod Laws
+pub mod Openings
+pub mod Outcomes
+pub mod Whole

@@ -1,5 +1,8 @@
 //! What turns owe, shown by calls that do nothing.
-ghost use Rattle.ppm_runs.specs.Laws.{TakersHave, TurnsAreOrderly, TurnsGoOn};
+ghost use Rattle.ppm_runs.specs.Laws.{BirthsFollow, BrokenFollow, TakersHave, TurnsAreOrderly, TurnsGoOn};
+ghost use Rattle.ppm_runs.specs.Openings.{RunsOpen};
+ghost use Rattle.ppm_runs.specs.Outcomes.{RunsEnd, StopsStay};
+ghost use Rattle.ppm_runs.specs.Whole.{JoinsLead, RunsComeTo};
 
 /// With takeover by places each turn is orderly in a state of a run: block words that it changes
 /// are those of pools, a block that it forks was not forked before, and a branch that it begins
@@ -18,4 +21,37 @@ pub fn takers_have()
 /// the tree after it, or the run was stopped by a finish that is no outcome.
 pub fn turns_go_on()
     ensures law { TurnsGoOn }
+{}
+
+/// With takeover by places blocks are forked upwards still after each turn of a run's state; and who
+/// has met broken words knows a place, or that it is at none.
+pub fn births_follow()
+    ensures births { BirthsFollow }
+    ensures broken { BrokenFollow }
+{}
+
+/// A machine that opens an image of a sound code is in the state of a run.
+pub fn runs_open()
+    ensures law { RunsOpen }
+{}
+
+/// Where the finish word says an outcome, the depth-first run of the root ends so, each right branch
+/// that was forked was taken, none twice, and no place has given out more of its pool than that run
+/// takes of all.
+pub fn runs_end()
+    ensures law { RunsEnd }
+{}
+
+/// A run that was stopped by a finish that is no outcome stays stopped, whatever turns are made.
+pub fn stops_stay()
+    ensures law { StopsStay }
+{}
+
+/// From an image of a sound code, whatever the turns: where the finish word says an outcome the
+/// depth-first run of the root ends so, and each branch that was forked was taken once, if each turn
+/// leads from one state of a run to the next. It does where what joins the two halves of such a
+/// state stays so, which is still to be shown.
+pub fn runs_come_to()
+    ensures law { RunsComeTo }
+    ensures joins { JoinsLead }
 {}

@@ -10,4 +10,7 @@
 
 mod laws;
 
-pub use laws::{takers_have, turns_are_orderly, turns_go_on};
+pub use laws::{
+    births_follow, runs_come_to, runs_end, runs_open, stops_stay, takers_have, turns_are_orderly,
+    turns_go_on,
+};

@@ -6,12 +6,15 @@ use ppm_ends::{
 use ppm_frames::{cells_are_viewed, parts_swap, steps_pass_up, stores_are_seen, values_pass};
 use ppm_kept::{
     arrive_row_keeps, branch_values_pass, bump_row_keeps, copies_stay, early_join_row_keeps,
-    exchanges_are_seen, forks_are_new, frames_run, join_row_keeps, last_join_row_keeps, loads_show,
-    openings_are_kept, others_keep, push1_row_keeps, push2_row_keeps, run_row_keeps,
-    steps_are_seen, take_rows_keep, turns_keep, turns_show, unruns_stay, untaken_stays,
-    unwind_row_keeps,
+    ends_as_meant, exchanges_are_seen, fates_agree, forks_are_new, frames_run, join_row_keeps,
+    last_join_row_keeps, loads_show, openings_are_kept, others_keep, push1_row_keeps,
+    push2_row_keeps, room_is_bounded, run_row_keeps, steps_are_seen, take_rows_keep, turns_bear,
+    turns_keep, turns_show, unruns_stay, untaken_stays, unwind_row_keeps,
 };
-use ppm_runs::{takers_have, turns_are_orderly, turns_go_on};
+use ppm_runs::{
+    births_follow, runs_come_to, runs_end, runs_open, stops_stay, takers_have, turns_are_orderly,
+    turns_go_on,
+};
 use ppm_slots::{frames_stay_trim, writes_are_slots};
 use ppm_tickets::{
     entries_change_lawfully, images_open, in_every_run, in_every_run_by_entries, places_stay_home,
@@ -73,14 +76,23 @@ fn the_laws_of_rows_are_called() {
     take_rows_keep();
     forks_are_new();
     unruns_stay();
+    fates_agree();
     turns_show();
     loads_show();
+    turns_bear();
     turns_keep();
+    ends_as_meant();
+    room_is_bounded();
 }
 
 #[test]
 fn the_laws_of_runs_are_called() {
+    runs_open();
+    runs_end();
+    runs_come_to();
+    stops_stay();
     takers_have();
+    births_follow();
     turns_are_orderly();
     turns_go_on();
 }
