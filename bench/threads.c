@@ -132,12 +132,18 @@ static void open_words(void) {
     for (uint32_t a = 0; a < 64; array += lengths[a++]) regions[a] = (uint64_t)array << 32 | lengths[a];
     for (uint32_t p = 0; p < processors; p++) {
         const uint32_t base = base_of(p), pool = base + 5 + slots, slots_of_root = procedures[root].slots;
-        words[1 + p] = p, words[base + 2] = p, words[base + 3] = 1, words[base + 4] = pool;
+        words[1 + p] = p;
         words[base] = (uint64_t)SEEK << 59 | 1ull << 32;
-        words[base + 5] = entry(TAKEN, 0, p), words[base + 6] = entry(LOCAL, 0, 0);
+        words[base + 2] = p;
+        words[base + 3] = 1;
+        words[base + 4] = pool;
+        words[base + 5] = entry(TAKEN, 0, p);
+        words[base + 6] = entry(LOCAL, 0, 0);
         if (p) continue;
-        words[base] = run_of(pool, 0) | 1ull << 32, words[base + 4] = pool + 6 + slots_of_root;
-        words[pool] = link(ROOT, 6 + slots_of_root, 0, 0), words[pool + 1] = ENDED;
+        words[base] = run_of(pool, 0) | 1ull << 32;
+        words[base + 4] = pool + 6 + slots_of_root;
+        words[pool] = link(ROOT, 6 + slots_of_root, 0, 0);
+        words[pool + 1] = ENDED;
         words[pool + 2] = procedures[root].entry;
         for (uint32_t k = 0; k < root_count; k++) words[pool + 6 + k] = regions[root_arrays[k]];
     }
@@ -330,10 +336,11 @@ static void *go(void *of) {
             }
             const uint64_t word = STEP(load(w, at));
             const uint32_t to = word & ((1u << 28) - 1);
-            steps += 2;
-            if (load(w, at + 2) != ENDED || load(w, at + 3) != ENDED) refuse("a trap");
+            const uint64_t left = STEP(load(w, at + 2)), right = STEP(load(w, at + 3));
+            if (left != ENDED || right != ENDED) refuse("a trap");
             steps += give_value(w, at + 5, to);
-            steps += give_value(w, at + STEP(load(w, at + 4)), to);
+            const uint64_t offset = STEP(load(w, at + 4));
+            steps += give_value(w, at + offset, to);
             next = run_of(to, word >> 28 & 1);
             break;
         }
