@@ -11,3 +11,4 @@ pub mod GoingLemmas
 pub mod BornLemmas
 pub mod OpenLemmas
 pub mod BrokenLemmas
+pub mod OutcomeLemmas

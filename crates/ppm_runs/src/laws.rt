@@ -1,6 +1,7 @@
 //! What turns owe, shown by calls that do nothing.
 ghost use Rattle.ppm_runs.specs.Laws.{BirthsFollow, BrokenFollow, TakersHave, TurnsAreOrderly, TurnsGoOn};
 ghost use Rattle.ppm_runs.specs.Openings.{RunsOpen};
+ghost use Rattle.ppm_runs.specs.Outcomes.{RunsEnd, StopsStay};
 
 /// With takeover by places each turn is orderly in a state of a run: block words that it changes
 /// are those of pools, a block that it forks was not forked before, and a branch that it begins
@@ -31,4 +32,16 @@ pub fn births_follow()
 /// A machine that opens an image of a sound code is in the state of a run.
 pub fn runs_open()
     ensures law { RunsOpen }
+{}
+
+/// Where the finish word says an outcome, the depth-first run of the root ends so, each right branch
+/// that was forked was taken, none twice, and no place has given out more of its pool than that run
+/// takes of all.
+pub fn runs_end()
+    ensures law { RunsEnd }
+{}
+
+/// A run that was stopped by a finish that is no outcome stays stopped, whatever turns are made.
+pub fn stops_stay()
+    ensures law { StopsStay }
 {}

@@ -10,4 +10,6 @@
 
 mod laws;
 
-pub use laws::{births_follow, runs_open, takers_have, turns_are_orderly, turns_go_on};
+pub use laws::{
+    births_follow, runs_end, runs_open, stops_stay, takers_have, turns_are_orderly, turns_go_on,
+};

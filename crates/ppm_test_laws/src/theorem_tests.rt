@@ -11,7 +11,9 @@ use ppm_kept::{
     push2_row_keeps, room_is_bounded, run_row_keeps, steps_are_seen, take_rows_keep, turns_bear,
     turns_keep, turns_show, unruns_stay, untaken_stays, unwind_row_keeps,
 };
-use ppm_runs::{births_follow, runs_open, takers_have, turns_are_orderly, turns_go_on};
+use ppm_runs::{
+    births_follow, runs_end, runs_open, stops_stay, takers_have, turns_are_orderly, turns_go_on,
+};
 use ppm_slots::{frames_stay_trim, writes_are_slots};
 use ppm_tickets::{
     entries_change_lawfully, images_open, in_every_run, in_every_run_by_entries, places_stay_home,
@@ -85,6 +87,8 @@ fn the_laws_of_rows_are_called() {
 #[test]
 fn the_laws_of_runs_are_called() {
     runs_open();
+    runs_end();
+    stops_stay();
     takers_have();
     births_follow();
     turns_are_orderly();

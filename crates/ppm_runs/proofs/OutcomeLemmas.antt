@@ -1,0 +1,102 @@
+-- At an outcome of the root all is as the depth-first run has it; and what was stopped stays so.
+use Rattle.std.proofs.Common.{◌≡◌, ◌≢◌, ◌⊎◌, ℕ, Bool, true, false, List, ◌++◌, Option, Some, None, inl, inr, refl, sym, ap, ◌∙◌, subst}
+use Rattle.ppm_strands.specs.Tree.{Words, Tree}
+use Rattle.ppm_cells.specs.Fields.{number_of}
+use Rattle.ppm_cells.specs.Finish.{finish_of, finish_word}
+use Rattle.ppm_cells.specs.Memory.{read}
+use Rattle.ppm_cells.specs.declared.cell.Cell.TheVariants.{FinishWord}
+use Rattle.ppm_cells.specs.declared.finish.Finish.{Finish}
+use Rattle.ppm_cells.specs.declared.finish.Finish.TheVariants.{Unset}
+use Rattle.ppm_cells.specs.declared.shape.Shape.{Shape}
+use Rattle.ppm_capsules.specs.Strand.{Frame}
+use Rattle.ppm_code.specs.Strands.{Point, Result}
+use Rattle.ppm_code.specs.declared.code.CodeParts.{CodeParts}
+use Rattle.ppm_code.specs.declared.location.FrameWord.{FrameWord}
+use Rattle.ppm_step.specs.Laws.{reached}
+use Rattle.ppm_step.proofs.FinishLemmas.{finish_stays}
+use Rattle.ppm_tickets.specs.Homes.{Home, Unborn, Pushing, Listed, Popping, Stolen, Inline, Begun}
+use Rattle.ppm_tickets.specs.Lawful.{Counts}
+use Rattle.ppm_tickets.specs.Words.{has}
+use Rattle.ppm_frames.specs.Views.{view}
+use Rattle.ppm_frames.specs.Skeletons.{Over, InPlace, Skeleton}
+use Rattle.ppm_kept.specs.Fates as fates
+use Rattle.ppm_kept.specs.Fates.{Fate, ToPush, Offered, Agrees}
+use Rattle.ppm_kept.specs.Places.{places_of}
+use Rattle.ppm_kept.specs.Steps.{IsStop}
+use Rattle.ppm_kept.proofs.AnswerLemmas.{ends_as_meant}
+use Rattle.ppm_kept.proofs.BlockLemmas.{finish_back}
+use Rattle.ppm_kept.proofs.FateLemmas.{none_is_left}
+use Rattle.ppm_kept.proofs.RoomLemmas.{room_is_bounded}
+use Rattle.ppm_runs.specs.Run.{image, fate_of}
+use Rattle.ppm_runs.specs.Outcomes.{RunsEnd, StopsStay}
+
+-- a branch of which nothing has come, or that was begun, is so in the deques too
+unborn_is : (x : Home) → fate_of x ≡ fates.Unborn → x ≡ Unborn
+unborn_is Unborn e = refl
+unborn_is (Pushing p) e = absurd (let z : ToPush ≡ fates.Unborn = e in cc)
+unborn_is (Listed v i t) e = absurd (let z : Offered ≡ fates.Unborn = e in cc)
+unborn_is (Popping p) e = absurd (let z : Offered ≡ fates.Unborn = e in cc)
+unborn_is (Stolen p) e = absurd (let z : Offered ≡ fates.Unborn = e in cc)
+unborn_is Inline e = absurd (let z : fates.Inline ≡ fates.Unborn = e in cc)
+unborn_is Begun e = absurd (let z : fates.Begun ≡ fates.Unborn = e in cc)
+
+begun_is : (x : Home) → fate_of x ≡ fates.Begun → x ≡ Begun
+begun_is Unborn e = absurd (let z : fates.Unborn ≡ fates.Begun = e in cc)
+begun_is (Pushing p) e = absurd (let z : ToPush ≡ fates.Begun = e in cc)
+begun_is (Listed v i t) e = absurd (let z : Offered ≡ fates.Begun = e in cc)
+begun_is (Popping p) e = absurd (let z : Offered ≡ fates.Begun = e in cc)
+begun_is (Stolen p) e = absurd (let z : Offered ≡ fates.Begun = e in cc)
+begun_is Inline e = absurd (let z : fates.Inline ≡ fates.Begun = e in cc)
+begun_is Begun e = refl
+
+none_true : (b : Bool) → (b ≡ true → ⊥) → b ≡ false
+none_true true never = absurd (never refl)
+none_true false never = refl
+
+-- so such a branch was forked where it was taken
+same_lists : (h : ℕ → Home) (forked taken : List ℕ) → Counts h forked taken → (r : ℕ) → (h r ≡ Unborn) ⊎ (h r ≡ Begun) → has forked r ≡ has taken r
+same_lists h forked taken counts r (inl e) =
+    none_true (has forked r) (λ f. counts.born r f e)
+    ∙ sym (none_true (has taken r) (λ k. let z : Unborn ≡ Begun = sym e ∙ counts.begun r k in cc))
+same_lists h forked taken counts r (inr e) =
+    counts.listed r (λ u. let z : Begun ≡ Unborn = sym e ∙ u in cc) ∙ sym (counts.counted r e)
+
+pub runs_end : RunsEnd
+runs_end s code root input state h forked taken t run finish says out =
+    let answer = ends_as_meant (image s code) root input state t run.kept finish says out in
+    let counts = run.lawful.1.counts in
+    let agrees = subst (λ (w : Skeleton). Agrees w (λ r. fate_of (h r))) answer.alone run.agrees in record {
+      answer = answer;
+      all = λ r. same_lists h forked taken counts r (elim (none_is_left (InPlace answer.place) Over answer.frame answer.slots (λ r. fate_of (h r)) agrees r) [
+        | inl e ↦ inl (unborn_is (h r) e)
+        | inr e ↦ inr (begun_is (h r) e)
+      ]);
+      forked_once = counts.forked_once;
+      taken_once = counts.once;
+      room = room_is_bounded (image s code) root input (places_of s state) t run.kept answer.end answer.ends;
+    }
+
+-- no finish word that says a stop is 0
+unset_is : finish_word Unset ≡ 0
+unfolding number_of
+unset_is = refl
+
+unset_stands : finish_of 0 ≡ Some Unset
+unset_stands = subst (λ (w : ℕ). finish_of w ≡ Some Unset) unset_is (finish_back Unset tt)
+
+abbrev finish_in : Finish → Option Finish → Finish
+finish_in v None = v
+finish_in v (Some w) = w
+
+stop_is_there : (w : ℕ) (v : Finish) → finish_of w ≡ Some v → IsStop v → w ≢ 0
+stop_is_there w v e stop none =
+    let same : Some v ≡ Some Unset = sym e ∙ ap finish_of none ∙ unset_stands in
+    absurd (subst IsStop {x = v} {y = Unset} (ap (finish_in v) same) stop)
+
+pub stops_stay : StopsStay
+unfolding view
+stops_stay s code is words first more stopped = (
+  stopped.0,
+  ap finish_of (finish_stays s code is words first more (stop_is_there (read s (reached s code words first).words FinishWord) stopped.0 stopped.1 stopped.2)) ∙ stopped.1,
+  stopped.2,
+)
