@@ -1,6 +1,8 @@
 -- How the laws are shown. Which rows fork, begin a branch and change block words is one walk over all
 -- loads (`TameLemmas`); what a processor does at its place is what the frames see there
--- (`ShownLemmas`); then what turns owe (`OrderlyLemmas`).
+-- (`ShownLemmas`); then what turns owe (`OrderlyLemmas`). Who takes a branch has it at its home
+-- (`TakerLemmas`), so a turn leads on (`GoingLemmas`, `BearingLemmas`, `BrokenLemmas`); a run's
+-- beginning (`OpenLemmas`) and its end (`OutcomeLemmas`).
 
 pub mod TameLemmas
 pub mod StandLemmas
@@ -8,7 +10,8 @@ pub mod ShownLemmas
 pub mod OrderlyLemmas
 pub mod TakerLemmas
 pub mod GoingLemmas
-pub mod BornLemmas
+pub mod BearingLemmas
 pub mod OpenLemmas
 pub mod BrokenLemmas
 pub mod OutcomeLemmas
+pub mod WholeLemmas

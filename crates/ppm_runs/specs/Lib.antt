@@ -2,3 +2,4 @@ pub mod Run
 pub mod Laws
 pub mod Openings
 pub mod Outcomes
+pub mod Whole

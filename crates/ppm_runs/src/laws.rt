@@ -2,6 +2,7 @@
 ghost use Rattle.ppm_runs.specs.Laws.{BirthsFollow, BrokenFollow, TakersHave, TurnsAreOrderly, TurnsGoOn};
 ghost use Rattle.ppm_runs.specs.Openings.{RunsOpen};
 ghost use Rattle.ppm_runs.specs.Outcomes.{RunsEnd, StopsStay};
+ghost use Rattle.ppm_runs.specs.Whole.{RunsComeTo};
 
 /// With takeover by places each turn is orderly in a state of a run: block words that it changes
 /// are those of pools, a block that it forks was not forked before, and a branch that it begins
@@ -44,4 +45,11 @@ pub fn runs_end()
 /// A run that was stopped by a finish that is no outcome stays stopped, whatever turns are made.
 pub fn stops_stay()
     ensures law { StopsStay }
+{}
+
+/// From an image of a sound code, whatever the turns: where the finish word says an outcome the
+/// depth-first run of the root ends so, and each branch that was forked was taken once. That each
+/// turn leads from one state of a run to the next is the one premise, which is still to be shown.
+pub fn runs_come_to()
+    ensures law { RunsComeTo }
 {}

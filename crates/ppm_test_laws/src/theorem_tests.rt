@@ -12,7 +12,8 @@ use ppm_kept::{
     turns_keep, turns_show, unruns_stay, untaken_stays, unwind_row_keeps,
 };
 use ppm_runs::{
-    births_follow, runs_end, runs_open, stops_stay, takers_have, turns_are_orderly, turns_go_on,
+    births_follow, runs_come_to, runs_end, runs_open, stops_stay, takers_have, turns_are_orderly,
+    turns_go_on,
 };
 use ppm_slots::{frames_stay_trim, writes_are_slots};
 use ppm_tickets::{
@@ -88,6 +89,7 @@ fn the_laws_of_rows_are_called() {
 fn the_laws_of_runs_are_called() {
     runs_open();
     runs_end();
+    runs_come_to();
     stops_stay();
     takers_have();
     births_follow();

@@ -1,4 +1,4 @@
-use Rattle.ppm_runs.proofs.BornLemmas.{births_follow}
+use Rattle.ppm_runs.proofs.BearingLemmas.{births_follow}
 use Rattle.ppm_runs.proofs.BrokenLemmas.{broken_follow}
 use Rattle.ppm_runs.proofs.laws.births_follow.Goals as goal
 

@@ -1,0 +1,57 @@
+-- Whole runs: what each of them comes to, once each turn leads from one state of a run to the next.
+use Rattle.std.specs.Prelude.{◌≡◌, ◌⊎◌, ℕ, List, [], ◌++◌, Some}
+use Rattle.std.specs.List.{AllByRecursion}
+use Rattle.ppm_strands.specs.Tree.{Words, Tree}
+use Rattle.ppm_strands.specs.Calm.{Calm}
+use Rattle.ppm_words.specs.declared.named_array.NamedArray.{NamedArray}
+use Rattle.ppm_cells.specs.Finish.{finish_of, IsOutcome}
+use Rattle.ppm_cells.specs.Memory.{read}
+use Rattle.ppm_cells.specs.declared.cell.Cell.TheVariants.{FinishWord}
+use Rattle.ppm_cells.specs.declared.finish.Finish.{Finish}
+use Rattle.ppm_cells.specs.declared.shape.Shape.{Shape}
+use Rattle.ppm_cells.specs.declared.shape.Takeover.TheVariants.{ByPlaces}
+use Rattle.ppm_capsules.specs.Strand.{Frame}
+use Rattle.ppm_code.specs.Strands.{Point, Result}
+use Rattle.ppm_code.specs.declared.code.CodeParts.{CodeParts}
+use Rattle.ppm_code.specs.declared.location.FrameWord.{FrameWord}
+use Rattle.ppm_layout.specs.Correct.{Opens}
+use Rattle.ppm_layout.specs.Root.{root_strand}
+use Rattle.ppm_layout.specs.declared.images.Image.{Image as RealImage}
+use Rattle.ppm_step.specs.Among.{IsTurnAmong}
+use Rattle.ppm_step.specs.Laws.{reached}
+use Rattle.ppm_step.specs.State.{State as RunState, stand_of, happens, opening, forks_of, takes_of}
+use Rattle.ppm_step.specs.declared.turn.Turn.{Turn}
+use Rattle.ppm_tickets.specs.Along.{by_act, forked as forked_in, taken as taken_in}
+use Rattle.ppm_tickets.specs.Homes.{Home}
+use Rattle.ppm_frames.specs.Views.{view}
+use Rattle.ppm_frames.specs.Seen.{arrays_at}
+use Rattle.ppm_frames.specs.Skeletons.{Skeleton}
+use Rattle.ppm_kept.specs.Running.{IsFair, strands}
+use Rattle.ppm_kept.specs.Steps.{tree_after, IsStopped}
+use Rattle.ppm_runs.specs.Run.{image, IsRun}
+use Rattle.ppm_runs.specs.Outcomes.{EndsWell}
+
+-- with takeover by places, each turn of a run's state leads to the next one, with the homes, the lists
+-- and the tree that the turn makes, or it stops the run
+abbrev pub TurnsLead : Type 0
+TurnsLead = (s : Shape) (code : CodeParts) → s.takeover ≡ ByPlaces → IsFair code
+    → (root : Tree (Frame FrameWord Point) Result) (input : Words) (state : RunState) (h : ℕ → Home) (forked taken : List ℕ) (t : Skeleton)
+    → IsRun s code root input state h forked taken t
+    → (turn : Turn) → IsTurnAmong s.processors turn
+    → IsRun s code root input (happens s code state turn) (by_act s state.words turn.act (stand_of state turn.processor) h) (forks_of state turn ++ forked) (takes_of state turn ++ taken) (tree_after (image s code) state turn t)
+    ⊎ IsStopped s (happens s code state turn).words
+
+-- From an image of a sound code, whatever the turns, faults among them: where the finish word says an
+-- outcome the depth-first run of the root ends so, and each branch that was forked was taken once. That
+-- turns lead on is still to be shown.
+abbrev pub RunsComeTo : Type 0
+RunsComeTo = TurnsLead
+    → (code : CodeParts) (input : List NamedArray) (s : Shape) (keeper : ℕ) (image : RealImage)
+    → s.takeover ≡ ByPlaces → IsFair code → Opens code input s keeper image
+    → Calm (strands s code) (root_strand code input) (arrays_at (view s image.words))
+    → (turns : List Turn) → AllByRecursion (IsTurnAmong s.processors) turns
+    → (finish : Finish) → finish_of (read s (reached s code image.words turns).words FinishWord) ≡ Some finish
+    → IsOutcome finish
+    → (t : Skeleton)
+    × EndsWell s code (root_strand code input) (arrays_at (view s image.words)) (reached s code image.words turns)
+    (forked_in s code (opening image.words s.processors) [] turns) (taken_in s code (opening image.words s.processors) [] turns) t finish
