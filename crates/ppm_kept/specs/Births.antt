@@ -86,8 +86,7 @@ AllBirthsStay = (i : Image) → IsFair i.code
     → (p : ℕ) → BirthsStay i s p born
 
 -- A row reads no link to open a block by, stores into no counter, and what it installs opens no
--- block; where it checks what it took it may, as F says,
--- fork one that it inherits.
+-- block; it forks one only where F says that it may, of a strand that it inherits.
 abbrev pub IsSteadyPoint : (F : Type 0) → RowPoint → Type 0
 IsSteadyPoint F (BumpLink block) = ⊥
 IsSteadyPoint F (TakenMessage by victim slot) = F

@@ -84,32 +84,23 @@ IsLooking _ = ⊥
 
 -- all is allowed but forks
 abbrev no_forks : May
-no_forks = record { forks = λ r. ⊥; begins = λ r. Unit {0}; stores = λ a. Unit {0}; trades = λ a. Unit {0}; counts = Unit {0} }
+no_forks = record { forks = λ r. ⊥; begins = λ r. Unit {0}; stores = λ a. Unit {0}; trades = λ a. Unit {0} }
 
 -- no block word is changed but this one
 abbrev one_word : ℕ → May
-one_word w = record { forks = λ r. Unit {0}; begins = λ r. Unit {0}; stores = λ a. a ≡ w; trades = λ a. a ≡ w; counts = Unit {0} }
+one_word w = record { forks = λ r. Unit {0}; begins = λ r. Unit {0}; stores = λ a. a ≡ w; trades = λ a. a ≡ w }
 
 -- none is exchanged
 abbrev no_trades : May
-no_trades = record { forks = λ r. Unit {0}; begins = λ r. Unit {0}; stores = λ a. Unit {0}; trades = λ a. ⊥; counts = Unit {0} }
+no_trades = record { forks = λ r. Unit {0}; begins = λ r. Unit {0}; stores = λ a. Unit {0}; trades = λ a. ⊥ }
 
 -- no block word is changed
 abbrev no_words : May
-no_words = record { forks = λ r. Unit {0}; begins = λ r. Unit {0}; stores = λ a. ⊥; trades = λ a. ⊥; counts = Unit {0} }
+no_words = record { forks = λ r. Unit {0}; begins = λ r. Unit {0}; stores = λ a. ⊥; trades = λ a. ⊥ }
 
 -- one block alone is forked
 abbrev one_fork : ℕ → May
-one_fork b = record { forks = λ r. r ≡ b; begins = λ r. Unit {0}; stores = λ a. Unit {0}; trades = λ a. Unit {0}; counts = Unit {0} }
-
--- all is allowed, and counters where that is so
-abbrev pub any_row : Type 0 → May
-any_row so = record { forks = λ r. Unit {0}; begins = λ r. Unit {0}; stores = λ a. Unit {0}; trades = λ a. Unit {0}; counts = so }
-
--- the kind in whose row a counter is stored
-abbrev pub IsBumping : RestartKind → Type 0
-IsBumping (Bump r) = Unit {0}
-IsBumping _ = ⊥
+one_fork b = record { forks = λ r. r ≡ b; begins = λ r. Unit {0}; stores = λ a. Unit {0}; trades = λ a. Unit {0} }
 
 -- by how the takeover is
 places_row : (how : Takeover) (may : May) (row : Row) → TameRow may row → TameRow may (by_places how row)
@@ -168,7 +159,7 @@ module _ (s : Shape) (code : CodeParts) (places : s.takeover ≡ ByPlaces) (fair
   module _ (c : ℕ) (seat : Seat) (block : ℕ) (w : In c seat (Now (Fork block))) where
     fork_of : (k : RestartKind) → seat.restart.kind ≡ k → Does i m seat.place k (InRow (Now (Fork block))) → k ≡ Bump block
     fork_of (Run f y) e d = absurd (subst IsLoad (sym d) tt)
-    fork_of (Bump r) e d = ap Bump (sym (reached (one_fork r) (seat_at seat.place (Bump r) d.0) d.1 (row_of s (seat_at seat.place (Bump r) d.0) (Bump r)) (Now (Fork block)) (refl, tt) d.2))
+    fork_of (Bump r) e d = ap Bump (sym (reached (one_fork r) (seat_at seat.place (Bump r) d.0) d.1 (row_of s (seat_at seat.place (Bump r) d.0) (Bump r)) (Now (Fork block)) refl d.2))
     fork_of (Unwind f) e d = absurd (reached no_forks (seat_at seat.place (Unwind f) d.0) d.1 (row_of s (seat_at seat.place (Unwind f) d.0) (Unwind f)) (Now (Fork block)) (λ a. tt) d.2)
     fork_of (Arrive r x) e d = absurd (reached no_forks (seat_at seat.place (Arrive r x) d.0) d.1 (row_of s (seat_at seat.place (Arrive r x) d.0) (Arrive r x)) (Now (Fork block)) (tt, tt) d.2)
     fork_of (Join r x) e d = elim d [
@@ -184,33 +175,6 @@ module _ (s : Shape) (code : CodeParts) (places : s.takeover ≡ ByPlaces) (fair
     fork_of (Check v x) e d = absurd (looked no_forks c seat (Now (Fork block)) (Check v x) tt e (λ r. tt) w)
     fork_of (Take v x) e d = absurd (looked no_forks c seat (Now (Fork block)) (Take v x) tt e (places_row s.takeover no_forks _ tt) w)
     fork_of (Take2 v) e d = absurd (looked no_forks c seat (Now (Fork block)) (Take2 v) tt e (places_row s.takeover no_forks _ tt) w)
-
-  pub fork_kind : (c : ℕ) (seat : Seat) (block : ℕ) → In c seat (Now (Fork block)) → seat.restart.kind ≡ Bump block
-  fork_kind c seat block w = fork_of c seat block w seat.restart.kind refl w.does
-
-  -- rows store no restart word, and a counter in Bump alone
-  module _ (c : ℕ) (seat : Seat) (line : Row) (w : In c seat line) where
-    tame_at : (k : RestartKind) → seat.restart.kind ≡ k → Does i m seat.place k (InRow line) → TameRow (any_row (IsBumping k)) line
-    tame_at (Run f y) e d = subst (TameRow (any_row ⊥)) (sym d) tt
-    tame_at (Bump r) e d = reached (any_row (Unit {0})) (seat_at seat.place (Bump r) d.0) d.1 (row_of s (seat_at seat.place (Bump r) d.0) (Bump r)) line (tt, tt) d.2
-    tame_at (Unwind f) e d = reached (any_row ⊥) (seat_at seat.place (Unwind f) d.0) d.1 (row_of s (seat_at seat.place (Unwind f) d.0) (Unwind f)) line (λ a. tt) d.2
-    tame_at (Arrive r x) e d = reached (any_row ⊥) (seat_at seat.place (Arrive r x) d.0) d.1 (row_of s (seat_at seat.place (Arrive r x) d.0) (Arrive r x)) line (tt, tt) d.2
-    tame_at (Join r x) e d = elim d [
-      | inl d ↦ reached (any_row ⊥) (seat_at seat.place (Join r x) d.0) d.1 (row_of s (seat_at seat.place (Join r x) d.0) (Join r x)) line (tt, λ a. tt) d.2
-      | inr g ↦ subst (TameRow (any_row ⊥)) (sym g.is) tt
-    ]
-    tame_at (Push1 r) e d = looked (any_row ⊥) c seat line (Push1 r) tt e (push_row (any_row ⊥) seat r tt) w
-    tame_at (Push2 r) e d = looked (any_row ⊥) c seat line (Push2 r) tt e tt w
-    tame_at Pop1 e d = looked (any_row ⊥) c seat line Pop1 tt e tt w
-    tame_at (Pop2 r) e d = looked (any_row ⊥) c seat line (Pop2 r) tt e tt w
-    tame_at Seek e d = looked (any_row ⊥) c seat line Seek tt e tt w
-    tame_at (Steal v x) e d = looked (any_row ⊥) c seat line (Steal v x) tt e tt w
-    tame_at (Check v x) e d = looked (any_row ⊥) c seat line (Check v x) tt e (λ r. tt) w
-    tame_at (Take v x) e d = looked (any_row ⊥) c seat line (Take v x) tt e (places_row s.takeover (any_row ⊥) _ tt) w
-    tame_at (Take2 v) e d = looked (any_row ⊥) c seat line (Take2 v) tt e (places_row s.takeover (any_row ⊥) _ tt) w
-
-    pub tame_kind : TameRow (any_row (IsBumping seat.restart.kind)) line
-    tame_kind = tame_at seat.restart.kind refl w.does
 
   -- a block that is built was not forked
   not_born : (p r : ℕ) → z.kind p ≡ Bump r → has forked r ≡ false
@@ -378,7 +342,7 @@ module _ (s : Shape) (code : CodeParts) (places : s.takeover ≡ ByPlaces) (fair
 
     stored_by : (k : RestartKind) → seat.restart.kind ≡ k → Does i m seat.place k (InRow row) → IsPooled s cell
     stored_by (Run f y) e d = absurd (subst IsLoad (sym d) tt)
-    stored_by (Bump r) e d = none_stored cell content next (reached no_words (seat_at seat.place (Bump r) d.0) d.1 (row_of s (seat_at seat.place (Bump r) d.0) (Bump r)) row (tt, tt) d.2)
+    stored_by (Bump r) e d = none_stored cell content next (reached no_words (seat_at seat.place (Bump r) d.0) d.1 (row_of s (seat_at seat.place (Bump r) d.0) (Bump r)) row tt d.2)
     stored_by (Unwind f) e d = cell_pooled s cell ((unwind_row_keeps i fair root input z t law seat.place w.place f (w.kind ∙ e)).cells cell content next doing)
     stored_by (Arrive r x) e d = absurd ((arrive_row_keeps i fair root input z t law seat.place w.place r x (w.kind ∙ e)).stores_none cell content next doing)
     stored_by (Join r x) e d = cell_pooled s cell ((join_row_keeps i fair root input z t law seat.place w.place r x (w.kind ∙ e)).cells cell content next doing)
@@ -402,7 +366,7 @@ module _ (s : Shape) (code : CodeParts) (places : s.takeover ≡ ByPlaces) (fair
 
     traded_by : (k : RestartKind) → seat.restart.kind ≡ k → Does i m seat.place k (InRow trade) → IsPooled s cell
     traded_by (Run f y) e d = absurd (subst IsLoad (sym d) tt)
-    traded_by (Bump r) e d = none_traded no_words nothing cell old new next (reached no_words (seat_at seat.place (Bump r) d.0) d.1 (row_of s (seat_at seat.place (Bump r) d.0) (Bump r)) trade (tt, tt) d.2)
+    traded_by (Bump r) e d = none_traded no_words nothing cell old new next (reached no_words (seat_at seat.place (Bump r) d.0) d.1 (row_of s (seat_at seat.place (Bump r) d.0) (Bump r)) trade tt d.2)
     traded_by (Unwind f) e d = none_traded no_trades nothing cell old new next (reached no_trades (seat_at seat.place (Unwind f) d.0) d.1 (row_of s (seat_at seat.place (Unwind f) d.0) (Unwind f)) trade (λ a. tt) d.2)
     traded_by (Arrive r x) e d = one_traded (r + 1) cell old new next
         (head_pool s code root input state h forked taken t run (r + 1) (subst (Ordered i z t m) (w.kind ∙ e) (law.orders seat.place)))

@@ -4,7 +4,7 @@ use Rattle.std.proofs.Common.{◌≡◌, ◌+◌, ◌-◌, ◌==◌, ℕ, zero, 
 use Rattle.std.specs.Prelude.{nat_lt, ◌^◌, ◌&&◌}
 use Rattle.ppm_cells.specs.Cells.{word_count}
 use Rattle.ppm_cells.specs.declared.cell.Cell.{Cell}
-use Rattle.ppm_cells.specs.declared.cell.Cell.TheVariants.{RestartWord, RoomCounter, BlockWord, EntryWord}
+use Rattle.ppm_cells.specs.declared.cell.Cell.TheVariants.{BlockWord, EntryWord}
 use Rattle.ppm_cells.specs.declared.entry.Entry.{Entry}
 use Rattle.ppm_cells.specs.declared.entry.Entry.TheVariants.{Empty, Local, Job, Taken}
 use Rattle.ppm_cells.specs.declared.finish.Finish.{Finish}
@@ -46,30 +46,25 @@ abbrev pub IsJobEntry : Entry → Type 0
 IsJobEntry (Job tag block) = Unit {0}
 IsJobEntry _ = ⊥
 
--- what a row may fork, begin, store and exchange of blocks, and whether it may store a counter
+-- what a row may fork, begin, store and exchange of blocks
 pub record May : Type 1 where
   pub forks : ℕ → Type 0
   pub begins : ℕ → Type 0
   pub stores : ℕ → Type 0
   pub trades : ℕ → Type 0
-  pub counts : Type 0
 
 module _ (may : May) where
   abbrev pub TameStore : Cell → Type 0
   TameStore (BlockWord at) = may.stores at
-  TameStore (RoomCounter place) = may.counts
-  TameStore (RestartWord place) = ⊥
   TameStore _ = Unit {0}
 
   abbrev pub TameTrade : Cell → Type 0
   TameTrade (BlockWord at) = may.trades at
-  TameTrade (RoomCounter place) = ⊥
-  TameTrade (RestartWord place) = ⊥
   TameTrade _ = Unit {0}
 
   -- what a load that comes next may come to
   abbrev pub TamePoint : Point → Type 0
-  TamePoint (BumpLink block) = may.forks block × may.counts
+  TamePoint (BumpLink block) = may.forks block
   TamePoint (UnwindLink frame) = (at : ℕ) → may.stores at
   TamePoint (UnwindOutcome frame link) = (at : ℕ) → may.stores at
   TamePoint (Target frame to copy right_of) = (at : ℕ) → may.stores at
@@ -149,9 +144,9 @@ module _ (s : Shape) (places : s.takeover ≡ ByPlaces) (seat : Seat) (may : May
   after_tame to copy None q = tt
   after_tame to copy (Some block) q = q
 
-  bumped_tame : (block size : ℕ) (kind : LinkKind) → may.forks block × may.counts → T (bumped seat block size kind)
-  bumped_tame block size (CallLink frame copy) q = (q.1, tt)
-  bumped_tame block size (ForkLink frame copy) q = (q.1, q.0)
+  bumped_tame : (block size : ℕ) (kind : LinkKind) → may.forks block → T (bumped seat block size kind)
+  bumped_tame block size (CallLink frame copy) q = (tt, tt)
+  bumped_tame block size (ForkLink frame copy) q = (tt, q)
   bumped_tame block size _ q = tt
 
   unwind_tame : (frame : ℕ) (kind : LinkKind) → ((at : ℕ) → may.stores at) → T (unwind_by frame kind)

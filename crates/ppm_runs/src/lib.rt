@@ -1,10 +1,12 @@
-//! Runs: the tickets' half and the frames' half joined; laws alone.
-//! Model: a machine's state as its frames have it (`specs/Run`, `shown`), with where each branch is
-//! and the tree of strands; what holds of them is `IsRun`.
-//! Contract: in each such state the next turn owes the tickets nothing that the frames don't show
-//! (`specs/Laws`, `Owes`), with takeover by places.
-//! Stands on `ppm_tickets` and `ppm_kept`. That turns lead from one such state to the next is still
-//! missing.
+//! Runs: the tickets' half and the frames' half joined, with takeover by places; laws alone.
+//! Model: a machine's state by places, where each branch is, and the tree of strands; what holds of
+//! them is `IsRun` (`specs/Run`).
+//! Contract: a machine that opens an image is in such a state (`specs/Openings`). In each the next
+//! turn owes the tickets nothing that the frames don't show, and words are lawful and kept after it,
+//! or the run was stopped (`specs/Laws`); at an outcome all is as the depth-first run has it
+//! (`specs/Outcomes`).
+//! Stands on `ppm_tickets` and `ppm_kept`. Of `IsRun` after a turn three clauses are still missing:
+//! that the fates of branches agree with the tree (`agrees`), and what is held (`last`, `ready`).
 //! After the scheduler of Blelloch et al., SPAA 2018.
 #![tactic(auto)]
 
