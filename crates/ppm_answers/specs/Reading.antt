@@ -70,7 +70,7 @@ abbrev pub TellsNothing : Answer → ToldLists → ToldLists → Type 0
 TellsNothing answer before now = now ≡ before
 
 -- That of a command whose run tells them its turns. What is refused, or can't be read, is so before the run, and nothing was told; memory
--- may be wanting before the run or behind it, and each list keeps what it had in front; with every other answer it is what the run says.
+-- may be wanting before the run, in it or behind it, and each list keeps what it had in front; with every other answer it is what the run says.
 abbrev pub TellsOfRun : (Answer → ToldLists → ToldLists → Type 0) → Answer → ToldLists → ToldLists → Type 0
 TellsOfRun Tells answers.NoMemory before now = KeepFronts before now
 TellsOfRun Tells answers.ReadFault before now = TellsNothing answers.ReadFault before now

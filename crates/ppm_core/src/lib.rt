@@ -2,8 +2,7 @@
 //! Model: a state of words and standings, along a list of turns (`specs/Situation`).
 //! Contract: a turn is one item of a run, and what it tells is that item's; a list of turns is the
 //! run of the list, and steps in a row are.
-//! Stands on `ppm_step` and `ppm_layout`; whoever follows a schedule, or shares the words among
-//! threads, stands on it.
+//! Stands on `ppm_step` and `ppm_layout`; whoever follows a schedule stands on it.
 //! After the parallel persistent memory of Blelloch et al., SPAA 2018.
 #![tactic(auto)]
 

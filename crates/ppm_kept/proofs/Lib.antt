@@ -5,7 +5,7 @@
 -- says what then stands.
 -- Rows go down `Reach` by the options that their loads find. One record says what a step has to
 -- show (`BuildLemmas`), and `PlaceLemmas` what a place has at its leaf; then `RunRow`, `BumpRow`,
--- `UnwindRow`, `PushRows`, `ArriveRow`, `JoinRow`, `JoinTrapRow`, `TakeRow`. Of branches that no
+-- `UnwindRow`, `PushRows`, `ArriveRow`, `JoinRow`, `JoinLastRow`, `TakeRow`. Of branches that no
 -- place runs it has to show `Unrun` (`BranchLemmas`).
 -- What the others keep: a step writes words of its own part, free words or an order word
 -- (`WroteLemmas`, `ClaimLemmas`), and all that another place has done is of other words

@@ -56,7 +56,7 @@ pub record EarlyJoinKeeps (i : Image) (root : Tree (Frame FrameWord Point) Resul
       → IsKept i root input (installs s p (kind_then next)) (by_join p next t)
   pub faults : IsKept i root input (goes s p IsLost) t
 
--- in each such row; nothing is asked of what the others keep, as nothing is stored
+-- in each such row, which stores nothing
 abbrev pub EarlyJoinRowKeeps : Type 0
 EarlyJoinRowKeeps = (i : Image) → IsFair i.code
     → (root : Tree (Frame FrameWord Point) Result) (input : Words) (s : State) (t : Skeleton)

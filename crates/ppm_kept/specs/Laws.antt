@@ -1,4 +1,4 @@
--- What is proved of capsules of frames under way.
+-- What is proved of capsules of frames under way, and of rows of the kinds Run and Bump.
 use Rattle.std.specs.Prelude.{◌≡◌, ◌<◌, ℕ, true}
 use Rattle.ppm_strands.specs.Tree.{Words, Tree}
 use Rattle.ppm_cells.specs.declared.cell.Cell.{Cell}
@@ -92,7 +92,7 @@ kind_then (Fork block) = Push1 block
 kind_then (Begin block frame bottom) = Run frame 0
 kind_then _ = Seek
 
--- likewise of a row of kind Bump, but for its store and install, by what it has reached
+-- the beginning of a row of kind Bump, and its faults
 pub record BumpKeeps (i : Image) (root : Tree (Frame FrameWord Point) Result) (input : Words) (s : State) (t : Skeleton) (p r : ℕ) : Type 0 where
   pub begins : (own bottom : ℕ)
       → IsKept i root input (begun i s p (bump_seat own p r bottom) (Bump r)) t

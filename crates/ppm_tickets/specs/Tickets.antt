@@ -1,4 +1,4 @@
--- The theorem: in every run each forked branch is at one place and is taken at most once, with
+-- In every run of orderly turns each forked branch is at one place and is taken at most once, with
 -- takeover by places and by entries.
 use Rattle.std.specs.Prelude.{◌+◌, Bool, ◌≡◌, ◌⊎◌, ◌<◌, ◌==◌, if◌then◌else◌, ℕ, true, false, List, [], ◌∷◌, ◌++◌}
 use Rattle.ppm_cells.specs.Cells.{IsCell, pool_at}
