@@ -722,7 +722,7 @@ fn watched(
 }
 
 /// Words, texts and statuses, and of how many processors the watchers are told something.
-const WATCHED: [(&[&str], &str, Status, usize); 6] = [
+const WATCHED: [(&[&str], &str, Status, u32); 6] = [
     (
         &["ppm", "run", "--processors", "1"],
         FIRST,
@@ -750,10 +750,10 @@ const WATCHED: [(&[&str], &str, Status, usize); 6] = [
 fn watchers_of_a_run_are_told(rt: HostRuntime) -> Result<(), Fail> {
     for (words, text, status, told) in WATCHED {
         let watch = watched(&rt, rt.alloc(), words, text, status)?;
-        let mut some = 0usize;
+        let mut some = 0u32;
         for recorder in &watch {
             if !recorder.events().is_empty() {
-                some += 1;
+                some = some.saturating_add(1);
             }
         }
         assert_eq!(&rt; some, told, "{words:?}");
