@@ -125,7 +125,7 @@ module _ (s : Shape) (code : CodeParts) (places : s.takeover ≡ ByPlaces) (fair
   abbrev In : ℕ → Seat → Row → Type 0
   In c seat row = Within s code root input state h forked taken t run c seat row
 
-  came_by : (c : ℕ) (seat : Seat) (row : Row) → In c seat row → CameBy s seat seat.restart.kind row
+  pub came_by : (c : ℕ) (seat : Seat) (row : Row) → In c seat row → CameBy s seat seat.restart.kind row
   came_by c seat row w = by seat.restart.kind refl w.seen
     where
       looked : (k : RestartKind) → seat.restart.kind ≡ k → (IsStrand k → ⊥) → HasSeen s (spots.with_restarts (spots.view s state.words) (spots.kinds s state.words) (spots.bottoms s state.words)) seat row

@@ -14,4 +14,5 @@ pub mod BearingLemmas
 pub mod OpenLemmas
 pub mod BrokenLemmas
 pub mod OutcomeLemmas
+pub mod AgreeLemmas
 pub mod WholeLemmas
