@@ -2,7 +2,7 @@
 use Rattle.std.proofs.Common.{◌≡◌, ◌≢◌, ◌⊎◌, ◌<◌, ◌≤◌, ℕ, zero, suc, ◌+◌, ◌-◌, ◌==◌, Bool, true, false, if◌then◌else◌, cond, List, [], ◌∷◌, ◌++◌, inl, inr, refl, sym, ap, ◌∙◌, subst, subst₂, arith}
 use Rattle.std.specs.Prelude.{nat_lt, ◌^◌}
 use Rattle.std.proofs.Math.Path.{fun_ext}
-use Rattle.std.proofs.lemmas.Bool.{cases_eq, cases_Bool, eqb-true}
+use Rattle.std.proofs.lemmas.Bool.{cases_eq, cases_Bool, eqb-true, eq-eqb}
 use Rattle.ppm_strands.specs.Tree.{Words, Tree}
 use Rattle.ppm_cells.specs.Entry.{IsEntry}
 use Rattle.ppm_cells.specs.Fields.{Fit}
@@ -19,7 +19,7 @@ use Rattle.ppm_cells.specs.declared.restart.RestartKind.{RestartKind}
 use Rattle.ppm_cells.specs.declared.restart.RestartKind.TheVariants.{Run, Bump, Push1, Push2, Unwind, Arrive, Join, Pop1, Pop2, Seek, Steal, Check, Take, Take2}
 use Rattle.ppm_cells.specs.declared.shape.Shape.{Shape}
 use Rattle.ppm_cells.specs.declared.shape.Takeover.{Takeover}
-use Rattle.ppm_cells.specs.declared.shape.Takeover.TheVariants.{ByPlaces}
+use Rattle.ppm_cells.specs.declared.shape.Takeover.TheVariants.{ByPlaces, ByEntries}
 use Rattle.ppm_cells.specs.declared.side.Side.{Side}
 use Rattle.ppm_capsules.specs.Strand.{Frame}
 use Rattle.ppm_code.specs.Strands.{Point, Result}
@@ -30,7 +30,7 @@ use Rattle.ppm_step.specs.There.{is_there}
 use Rattle.ppm_step.proofs.ThereLemmas.{restart_fits}
 use Rattle.ppm_step.specs.declared.content.Reading.{Reading}
 use Rattle.ppm_step.specs.declared.content.Reading.TheVariants.{AsNumber, AsRestart, AsEntry, AsHolder, AsLink, AsFinish}
-use Rattle.ppm_step.specs.Rows.{row_of, found_at, raised}
+use Rattle.ppm_step.specs.Rows.{row_of, found_at, raised, push_at}
 use Rattle.ppm_step.specs.Among.{IsTurnAmong}
 use Rattle.ppm_step.specs.Frames.{Rest, Loads, Stores, Full, Installs, Breaks}
 use Rattle.ppm_step.specs.Standings.{Standing, IsLost, IsPlaced, IsAt, IsWithin, IsRunning, IsBroken, IsDone}
@@ -40,7 +40,7 @@ use Rattle.ppm_step.specs.declared.turn.Act.TheVariants.{Step, Soft, Hard, Quit}
 use Rattle.ppm_step.specs.declared.turn.Turn.{Turn}
 use Rattle.ppm_step.specs.declared.content.Content.{Content}
 use Rattle.ppm_step.specs.declared.content.Content.TheVariants.{ANumber, ARestart, AnEntry, AHolder, ALink, AFinish, Unreadable}
-use Rattle.ppm_step.specs.declared.row.Point.TheVariants.{PushBottom}
+use Rattle.ppm_step.specs.declared.row.Point.TheVariants.{PushBottom, PushAbove}
 use Rattle.ppm_step.specs.declared.row.Row.{Row}
 use Rattle.ppm_step.specs.declared.row.Row.TheVariants.{Now, Store, Exchange}
 use Rattle.ppm_step.specs.declared.row.Seat.{Seat}
@@ -49,12 +49,12 @@ use Rattle.ppm_step.specs.declared.row.Then.TheVariants.{Load, Install, Fork, Be
 use Rattle.ppm_tickets.specs.Along.{by_words, by_row, by_install as home_install, by_act}
 use Rattle.ppm_tickets.specs.Homes.{Home, Unborn, Pushing, Listed, Popping, Stolen, Inline, Begun}
 use Rattle.ppm_tickets.specs.Lawful.{IsLocal, IsEmpty, Carries, Pushes, AtBottom}
-use Rattle.ppm_tickets.specs.Saw.{IsQuietCell, AreFit, HasSeen, Strand, Looks, IsStrand, rest_of}
+use Rattle.ppm_tickets.specs.Saw.{IsQuietCell, IsQuiet, IsStrandOrPop, AreFit, HasSeen, Strand, Looks, IsStrand, rest_of}
 use Rattle.ppm_tickets.specs.View as spots
 use Rattle.ppm_tickets.specs.View.{content_by}
 use Rattle.ppm_tickets.specs.Words.{has, Word, Empty, Local, Job, Taken, Held as HeldBy, Number, Linked, Restarts, Unread, Spot, Message, Bid, Top, Slot, Holder, Carry, Dead, Restart as RestartSpot, Other, put}
 use Rattle.ppm_tickets.proofs.EntryLemmas.{MayChange}
-use Rattle.ppm_tickets.proofs.QuietLemmas.{few_words}
+use Rattle.ppm_tickets.proofs.QuietLemmas.{few_words, begun_quiet, rest_quiet}
 use Rattle.ppm_tickets.proofs.ViewLemmas.{shows, again, shown_cell}
 use Rattle.ppm_tickets.proofs.WalkLemmas.{Walk, FairRow, found_fair, begun_fair}
 use Rattle.ppm_tickets.proofs.WriteLemmas.{put_here, put_else}
@@ -81,7 +81,7 @@ use Rattle.ppm_kept.specs.Laws.{kind_then}
 use Rattle.ppm_kept.specs.Returns.{by_unwind}
 use Rattle.ppm_kept.specs.Arriving.{by_arrive}
 use Rattle.ppm_kept.specs.Joins.{by_join}
-use Rattle.ppm_kept.specs.Unruns.{HasUnrun, SameUnruns, UnrunsStay}
+use Rattle.ppm_kept.specs.Unruns.{HasUnrun, SameUnruns, OneChanges, IsNone, Is, UnrunsStay}
 use Rattle.ppm_kept.proofs.PutLemmas as kept_puts
 use Rattle.ppm_kept.proofs.FateLemmas.{fates_stay, fates_show}
 use Rattle.ppm_kept.proofs.UnrunLemmas.{unruns_stay}
@@ -91,7 +91,7 @@ use Rattle.ppm_kept.proofs.JoinLastRow.{join_row_keeps}
 use Rattle.ppm_kept.proofs.LoadLemmas.{bump_exchanges_none}
 use Rattle.ppm_kept.proofs.LookLemmas.{LookRow, comes_look, look_begins}
 use Rattle.ppm_kept.proofs.StepRows.{came_idle}
-use Rattle.ppm_runs.specs.Run.{image, fate_of, IsRun}
+use Rattle.ppm_runs.specs.Run.{image, fate_of, IsAtLast, IsRun}
 use Rattle.ppm_runs.proofs.ShownLemmas.{Within, within, Runs, runs}
 use Rattle.ppm_runs.proofs.TameLemmas.{May, TameThen, TameTrade, TameRow}
 use Rattle.ppm_runs.proofs.OrderlyLemmas.{IsLoad, IsInstall, places_row, looked, reached, push_row, forks_new}
@@ -155,25 +155,37 @@ changed_fit : (how : Takeover) (v j : ℕ) (e : Entry) (new : Content) → MayCh
 changed_fit how v j e (AnEntry n) q = q.1
 changed_fit how v j e _ q = absurd q
 
-abbrev AnyPut : Cell → Content → Type 0
-AnyPut c x = Unit {0}
+-- no restart word
+abbrev pub IsNoRestart : Cell → Type 0
+IsNoRestart (RestartWord p) = ⊥
+IsNoRestart _ = Unit {0}
 
-any_walk : (how : Takeover) (seat : Seat) → Walk how AnyPut (MayChange how) seat
+pub quiet_restart : (cell : Cell) → IsQuietCell cell → IsNoRestart cell
+quiet_restart (RestartWord p) q = absurd q
+quiet_restart _ q = tt
+
+abbrev AnyPut : Cell → Content → Type 0
+AnyPut c x = IsNoRestart c
+
+abbrev Changing : Takeover → Cell → (old new : Content) → Type 0
+Changing how c old new = MayChange how c old new × IsNoRestart c
+
+any_walk : (how : Takeover) (seat : Seat) → Walk how AnyPut (Changing how) seat
 any_walk how seat = record {
   counter = λ x. tt;
   block = λ a x. tt;
   message = λ x. tt;
-  finish = λ x y. tt;
-  order = λ a x y. tt;
-  top = λ v x y. tt;
-  entry = λ v j a b law f g. (law, f, g);
-  holder = λ e v x y. tt;
+  finish = λ x y. (tt, tt);
+  order = λ a x y. (tt, tt);
+  top = λ v x y. (tt, tt);
+  entry = λ v j a b law f g. ((law, f, g), tt);
+  holder = λ e v x y. (tt, tt);
 }
 
 -- what a row that has seen these words exchanges
-rest_fair : (s : Shape) (seat : Seat) → seat.place < 64 → (v : ℕ) (row : Row) (ws : List Word) → AreFit ws → FairRow s.takeover AnyPut (MayChange s.takeover) row → FairRow s.takeover AnyPut (MayChange s.takeover) (rest_of s seat v row ws)
+rest_fair : (s : Shape) (seat : Seat) → seat.place < 64 → (v : ℕ) (row : Row) (ws : List Word) → AreFit ws → FairRow s.takeover AnyPut (Changing s.takeover) row → FairRow s.takeover AnyPut (Changing s.takeover) (rest_of s seat v row ws)
 rest_fair s seat small v row [] fit f = f
-rest_fair s seat small v (Now (Load point)) (w ∷ ws) fit f = rest_fair s seat small v (found_at s seat v point (content_by w)) ws fit.1 (found_fair s AnyPut (MayChange s.takeover) seat (any_walk s.takeover seat) small v point (content_by w) f fit.0)
+rest_fair s seat small v (Now (Load point)) (w ∷ ws) fit f = rest_fair s seat small v (found_at s seat v point (content_by w)) ws fit.1 (found_fair s AnyPut (Changing s.takeover) seat (any_walk s.takeover seat) small v point (content_by w) f fit.0)
 rest_fair s seat small v (Now (Install x)) (w ∷ ws) fit f = tt
 rest_fair s seat small v (Now (Fork x)) (w ∷ ws) fit f = tt
 rest_fair s seat small v (Now (Begin x y y')) (w ∷ ws) fit f = tt
@@ -183,6 +195,17 @@ rest_fair s seat small v (Now Again) (w ∷ ws) fit f = tt
 rest_fair s seat small v (Now Broken) (w ∷ ws) fit f = tt
 rest_fair s seat small v (Store c x next) (w ∷ ws) fit f = rest_fair s seat small v (Now next) ws fit.1 f.1
 rest_fair s seat small v (Exchange c old new next) (w ∷ ws) fit f = rest_fair s seat small v (Now next) ws fit.1 f.1
+
+-- a kind that pushes
+abbrev pub IsPush : RestartKind → Type 0
+IsPush (Push1 r) = Unit {0}
+IsPush (Push2 r) = Unit {0}
+IsPush _ = ⊥
+
+-- a kind that runs a frame
+abbrev pub IsRunKind : RestartKind → Type 0
+IsRunKind (Run f y) = Unit {0}
+IsRunKind _ = ⊥
 
 -- the exchange of Push2: the local entry at the bottom becomes the job
 record Offers (p b r : ℕ) (cell : Cell) (old new : Content) : Type 0 where
@@ -194,15 +217,16 @@ record Offers (p b r : ℕ) (cell : Cell) (old new : Content) : Type 0 where
 
 abbrev PushesSo : (p b r : ℕ) → Row → Type 0
 PushesSo p b r (Exchange cell old new next) = Offers p b r cell old new
+PushesSo p b r (Now (Install re)) = IsRunKind re.kind
 PushesSo p b r _ = Unit {0}
 
 module _ (s : Shape) (seat : Seat) (v r : ℕ) where
   abbrev So : Row → List Word → Type 0
   So row ws = PushesSo seat.place seat.restart.bottom r (rest_of s seat v row ws)
 
-  install_so : (re : Restart) (ws : List Word) → So (Now (Install re)) ws
-  install_so re [] = tt
-  install_so re (w ∷ ws) = tt
+  left_so : (low : ℕ) (ws : List Word) → So (Now (Install (record { kind = Run (r + 5) 0; bottom = low }))) ws
+  left_so low [] = tt
+  left_so low (w ∷ ws) = tt
 
   broken_is : (ws : List Word) → So (Now Broken) ws
   broken_is [] = tt
@@ -214,16 +238,73 @@ module _ (s : Shape) (seat : Seat) (v r : ℕ) where
     where
       by : (y : Bool) (ws : List Word) → So (raised (EntryWord seat.place seat.restart.bottom) (entries.Local t0 x) (entries.Job (t0 + 1) r) (Install (record { kind = Run (r + 5) 0; bottom = seat.restart.bottom + 1 })) y) ws
       by true [] = record { tag = t0; low = x; at = refl; was = refl; makes = refl }
-      by true (w ∷ ws) = install_so _ ws
+      by true (w ∷ ws) = left_so _ ws
       by false ws = broken_is ws
-  push2_so (Empty t0 ∷ ws) = install_so _ ws
-  push2_so (Job t0 x ∷ ws) = install_so _ ws
-  push2_so (Taken t0 x ∷ ws) = install_so _ ws
+  push2_so (Empty t0 ∷ ws) = left_so _ ws
+  push2_so (Job t0 x ∷ ws) = left_so _ ws
+  push2_so (Taken t0 x ∷ ws) = left_so _ ws
   push2_so (Number n ∷ ws) = broken_is ws
   push2_so (HeldBy n y ∷ ws) = broken_is ws
   push2_so (Linked n ∷ ws) = broken_is ws
   push2_so (Restarts n y ∷ ws) = broken_is ws
   push2_so (Unread ∷ ws) = broken_is ws
+
+pushing_place : {p q : ℕ} → Pushing p ≡ Pushing q → p ≡ q
+pushing_place e = ap place_told e
+  where
+    place_told : Home → ℕ
+    place_told (Pushing p) = p
+    place_told _ = 0
+
+-- the row of Push1 at the last slot, and at another
+abbrev pub LastSo : Row → Type 0
+LastSo (Now (Install re)) = IsRunKind re.kind
+LastSo (Now (Load x)) = ⊥
+LastSo (Exchange cell old new next) = ⊥
+LastSo _ = Unit {0}
+
+abbrev pub AboveThen : (b r : ℕ) → Then → Type 0
+AboveThen b r (Install re) = (re.kind ≡ Push2 r) × (re.bottom ≡ b)
+AboveThen b r _ = Unit {0}
+
+abbrev pub AboveSo : (b r : ℕ) → Row → Type 0
+AboveSo b r (Now next) = AboveThen b r next
+AboveSo b r (Exchange cell old new next) = AboveThen b r next
+AboveSo b r (Store cell content next) = ⊥
+
+module _ (s : Shape) (seat : Seat) (v r : ℕ) where
+  last_so : (ws : List Word) → LastSo (rest_of s seat v (push_at seat ByPlaces r true) ws)
+  last_so [] = tt
+  last_so (w ∷ []) = tt
+  last_so (w ∷ x ∷ ws) = tt
+
+  abbrev Ab : Row → List Word → Type 0
+  Ab row ws = AboveSo seat.restart.bottom r (rest_of s seat v row ws)
+
+  broken_ab : (ws : List Word) → Ab (Now Broken) ws
+  broken_ab [] = tt
+  broken_ab (w ∷ ws) = tt
+
+  push2_ab : (ws : List Word) → Ab (Now (Install (record { kind = Push2 r; bottom = seat.restart.bottom }))) ws
+  push2_ab [] = (refl, refl)
+  push2_ab (w ∷ ws) = tt
+
+  above_so : (ws : List Word) → Ab (Now (Load (PushAbove r))) ws
+  above_so [] = tt
+  above_so (Empty t0 ∷ ws) = by (nat_lt (t0 + 1) (2 ^ 34)) ws
+    where
+      by : (y : Bool) (ws : List Word) → Ab (raised (EntryWord seat.place (seat.restart.bottom + 1)) (entries.Empty t0) (entries.Local (t0 + 1) 0) (Install (record { kind = Push2 r; bottom = seat.restart.bottom })) y) ws
+      by true [] = (refl, refl)
+      by true (w ∷ ws) = push2_ab ws
+      by false ws = broken_ab ws
+  above_so (Local t0 x ∷ ws) = push2_ab ws
+  above_so (Job t0 x ∷ ws) = push2_ab ws
+  above_so (Taken t0 x ∷ ws) = push2_ab ws
+  above_so (Number n ∷ ws) = broken_ab ws
+  above_so (HeldBy n y ∷ ws) = broken_ab ws
+  above_so (Linked n ∷ ws) = broken_ab ws
+  above_so (Restarts n y ∷ ws) = broken_ab ws
+  above_so (Unread ∷ ws) = broken_ab ws
 
 -- a leaf that stays what it is
 stays_leaf : (p q : ℕ) (st : Stand) (f n : ℕ) → grow p (λ st f n. Leaf (InPlace p) st f n) (Leaf (InPlace q) st f n) ≡ Leaf (InPlace q) st f n
@@ -266,21 +347,32 @@ module _ (s : Shape) (code : CodeParts) (places : s.takeover ≡ ByPlaces) (fair
   abbrev fate : ℕ → Fate
   fate = λ r. fate_of (h r)
 
-  abbrev Agree : Skeleton → (ℕ → Home) → Type 0
-  Agree u g = Agrees u (λ r. fate_of (g r))
+  -- what a step is to show: the fates agree; one that is held and pushed is of a place at its last slot; and none
+  -- is new but an unborn one
+  pub record Agree (u : Skeleton) (g : ℕ → Home) : Type 0 where
+    pub agrees : Agrees u (λ r. fate_of (g r))
+    pub last : (r q : ℕ) → HasUnrun Held r u → g r ≡ Pushing q → IsAtLast s state.words q
+    pub fresh : (r : ℕ) → HasUnrun Fresh r u → HasUnrun Fresh r t ⊎ (g r ≡ Unborn)
+
+  pub here : Agree t h
+  here = record { agrees = run.agrees; last = run.last; fresh = λ r f. inl f }
 
   stay : (u : Skeleton) (r : ℕ) → FatesStay t u fate r
   stay u r = fates_stay t u fate r law.apart run.agrees
 
-  unruns : (p : ℕ) → UnrunsStay i z t p
+  pub unruns : (p : ℕ) → UnrunsStay i z t p
   unruns p = unruns_stay i fair root input z t law p
 
-  same : (u : Skeleton) → SameUnruns t u → Agree u h
-  same u e = (stay u 0).same e
+  pub same : (u : Skeleton) → SameUnruns t u → Agree u h
+  same u e = record {
+    agrees = (stay u 0).same e;
+    last = λ r q held home. run.last r q (e.back Held tt r held) home;
+    fresh = λ r f. inl (e.back Fresh tt r f);
+  }
 
   -- a home that is moved
-  moved : (u : Skeleton) (r : ℕ) (x : Home) → Agrees u (kept.put fate r (fate_of x)) → Agree u (put h r x)
-  moved u r x a = subst (Agrees u) (fun_ext each) a
+  fates_moved : (u : Skeleton) (r : ℕ) (x : Home) → Agrees u (kept.put fate r (fate_of x)) → Agrees u (λ q. fate_of (put h r x q))
+  fates_moved u r x a = subst (Agrees u) (fun_ext each) a
     where
       each : (q : ℕ) → kept.put fate r (fate_of x) q ≡ fate_of (put h r x q)
       each q = elim (cases_eq q r) [
@@ -288,9 +380,62 @@ module _ (s : Shape) (code : CodeParts) (places : s.takeover ≡ ByPlaces) (fair
         | inr ne ↦ kept_puts.put_else fate r (fate_of x) q ne ∙ sym (ap fate_of (put_else h r x q ne))
       ]
 
+  -- in the same tree
+  moved_here : (r : ℕ) (x : Home) → ((q : ℕ) → x ≡ Pushing q → HasUnrun Held r t → ⊥) → Agrees t (λ q. fate_of (put h r x q)) → Agree t (put h r x)
+  moved_here r x none a = record {
+    agrees = a;
+    last = λ y q held home. elim (cases_eq y r) [
+      | inl e ↦ absurd (none q (sym (ap (put h r x) e ∙ put_here h r x) ∙ home) (subst (λ (n : ℕ). HasUnrun Held n t) e held))
+      | inr ne ↦ run.last y q held (sym (put_else h r x y ne) ∙ home)
+    ];
+    fresh = λ y f. inl f;
+  }
+
+  -- and in one in which the branch has changed
+  moved : (u : Skeleton) (r : ℕ) (x : Home) (was now : Who → Type 0) → ((q : ℕ) → x ≢ Pushing q) → (now Fresh → ⊥) → OneChanges r was now t u → Agrees u (kept.put fate r (fate_of x)) → Agree u (put h r x)
+  moved u r x was now none old one a = record {
+    agrees = fates_moved u r x a;
+    last = λ y q held home. elim (cases_eq y r) [
+      | inl e ↦ absurd (none q (sym (ap (put h r x) e ∙ put_here h r x) ∙ home))
+      | inr ne ↦ run.last y q ((one.others Held tt y ne).1 held) (sym (put_else h r x y ne) ∙ home)
+    ];
+    fresh = λ y f. elim (cases_eq y r) [
+      | inl e ↦ absurd (old ((one.new Fresh tt).0 (subst (λ (n : ℕ). HasUnrun Fresh n u) e f)))
+      | inr ne ↦ inl ((one.others Fresh tt y ne).1 f)
+    ];
+  }
+
+  -- one is held now
+  held_now : (u : Skeleton) (r p : ℕ) → OneChanges r (Is Fresh) (Is Held) t u → h r ≡ Pushing p → IsAtLast s state.words p → Agree u h
+  held_now u r p one home at = record {
+    agrees = (stay u r).holds one (ap fate_of home);
+    last = λ y q held is. elim (cases_eq y r) [
+      | inl e ↦ let same_place : Pushing p ≡ Pushing q = sym home ∙ ap h (sym e) ∙ is in subst (IsAtLast s state.words) (pushing_place same_place) at
+      | inr ne ↦ run.last y q ((one.others Held tt y ne).1 held) is
+    ];
+    fresh = λ y f. elim (cases_eq y r) [
+      | inl e ↦ absurd (let k : Held ≡ Fresh = (one.new Fresh tt).0 (subst (λ (n : ℕ). HasUnrun Fresh n u) e f) in cc)
+      | inr ne ↦ inl ((one.others Fresh tt y ne).1 f)
+    ];
+  }
+
+  -- one is opened
+  opened_now : (u : Skeleton) (r : ℕ) → OneChanges r IsNone (Is Fresh) t u → h r ≡ Unborn → Agree u h
+  opened_now u r one home = record {
+    agrees = (stay u r).opens one (ap fate_of home);
+    last = λ y q held is. elim (cases_eq y r) [
+      | inl e ↦ absurd (let k : Unborn ≡ Pushing q = sym home ∙ ap h (sym e) ∙ is in cc)
+      | inr ne ↦ run.last y q ((one.others Held tt y ne).1 held) is
+    ];
+    fresh = λ y f. elim (cases_eq y r) [
+      | inl e ↦ inr (ap h e ∙ home)
+      | inr ne ↦ inl ((one.others Fresh tt y ne).1 f)
+    ];
+  }
+
   -- of which nothing new has come
-  still : (r : ℕ) (x : Home) → fate_of x ≡ fate r → Agree t (put h r x)
-  still r x e = subst (Agrees t) (fun_ext each) run.agrees
+  still : (r : ℕ) (x : Home) → ((q : ℕ) → x ≢ Pushing q) → fate_of x ≡ fate r → Agree t (put h r x)
+  still r x none e = moved_here r x (λ q k held. none q k) (subst (Agrees t) (fun_ext each) run.agrees)
     where
       each : (q : ℕ) → fate q ≡ fate_of (put h r x q)
       each q = elim (cases_eq q r) [
@@ -298,19 +443,33 @@ module _ (s : Shape) (code : CodeParts) (places : s.takeover ≡ ByPlaces) (fair
         | inr ne ↦ sym (ap fate_of (put_else h r x q ne))
       ]
 
-  -- what an exchange finds and makes
-  changes : (c : ℕ) (seat : Seat) (cell : Cell) (old new : Content) (next : Then) → Within s code root input state h forked taken t run c seat (Exchange cell old new next) → MayChange s.takeover cell old new
-  changes c seat cell old new next w = by w.seen
-    where
-      small : seat.place < 64
-      small = let lt = w.place in let few = s.within.processors_most in omega (arith, lt, few)
+  -- what rows that have seen words store and exchange
+  row_fair : (c : ℕ) (seat : Seat) (row : Row) → Within s code root input state h forked taken t run c seat row → (v : ℕ) (ws : List Word) → AreFit ws → rest_of s seat v (row_of s seat seat.restart.kind) ws ≡ row → FairRow s.takeover AnyPut (Changing s.takeover) row
+  row_fair c seat row w v ws fit is =
+      let small : seat.place < 64 = let lt = w.place in let few = s.within.processors_most in omega (arith, lt, few) in
+      let first = begun_fair s AnyPut (Changing s.takeover) seat (any_walk s.takeover seat) small seat.restart.kind
+          (λ block k. (subst (λ (x : RestartKind). Fit (address_fields x)) k (restart_fits s (few_words s) seat.restart w.sits.there).0).0) in
+      subst (FairRow s.takeover AnyPut (Changing s.takeover)) is (rest_fair s seat small v (row_of s seat seat.restart.kind) ws fit first)
 
-      by : HasSeen s (spots.with_restarts (spots.view s state.words) (spots.kinds s state.words) (spots.bottoms s state.words)) seat (Exchange cell old new next) → MayChange s.takeover cell old new
-      by (Strand is quiet) = quiet_change s.takeover cell old new quiet.0
-      by (Looks v ws fit is saw) =
-          let first = begun_fair s AnyPut (MayChange s.takeover) seat (any_walk s.takeover seat) small seat.restart.kind
-              (λ block k. (subst (λ (x : RestartKind). Fit (address_fields x)) k (restart_fits s (few_words s) seat.restart w.sits.there).0).0) in
-          (subst (FairRow s.takeover AnyPut (MayChange s.takeover)) is (rest_fair s seat small v (row_of s seat seat.restart.kind) ws fit first)).0
+  changing : (c : ℕ) (seat : Seat) (cell : Cell) (old new : Content) (next : Then) → Within s code root input state h forked taken t run c seat (Exchange cell old new next) → Changing s.takeover cell old new
+  changing c seat cell old new next w = by w.seen
+    where
+      by : HasSeen s (spots.with_restarts (spots.view s state.words) (spots.kinds s state.words) (spots.bottoms s state.words)) seat (Exchange cell old new next) → Changing s.takeover cell old new
+      by (Strand is quiet) = (quiet_change s.takeover cell old new quiet.0, quiet_restart cell quiet.0)
+      by (Looks v ws fit is saw) = (row_fair c seat (Exchange cell old new next) w v ws fit is).0
+
+  changes : (c : ℕ) (seat : Seat) (cell : Cell) (old new : Content) (next : Then) → Within s code root input state h forked taken t run c seat (Exchange cell old new next) → MayChange s.takeover cell old new
+  changes c seat cell old new next w = (changing c seat cell old new next w).0
+
+  pub exchanges_no_restart : (c : ℕ) (seat : Seat) (cell : Cell) (old new : Content) (next : Then) → Within s code root input state h forked taken t run c seat (Exchange cell old new next) → IsNoRestart cell
+  exchanges_no_restart c seat cell old new next w = (changing c seat cell old new next w).1
+
+  pub stores_no_restart : (c : ℕ) (seat : Seat) (cell : Cell) (x : Content) (next : Then) → Within s code root input state h forked taken t run c seat (Store cell x next) → IsNoRestart cell
+  stores_no_restart c seat cell x next w = by w.seen
+    where
+      by : HasSeen s (spots.with_restarts (spots.view s state.words) (spots.kinds s state.words) (spots.bottoms s state.words)) seat (Store cell x next) → IsNoRestart cell
+      by (Strand is quiet) = quiet_restart cell quiet.0
+      by (Looks v ws fit is saw) = (row_fair c seat (Store cell x next) w v ws fit is).0
 
   -- an entry of a deque, by its word
   entry_shown : (v j : ℕ) (e : Entry) → is_there s (EntryWord v j) ≡ true → IsEntry e → read s state.words (EntryWord v j) ≡ word_of (AnEntry e) → spots.view s state.words (Slot v j) ≡ spots.word_as (AnEntry e)
@@ -326,9 +485,9 @@ module _ (s : Shape) (code : CodeParts) (places : s.takeover ≡ ByPlaces) (fair
 
   entry_made : (may : May) (none : (x : ℕ) → may.jobs x → ⊥) (p v j : ℕ) (old new : Content) → Made (EntryWord v j) old → TameTrade may (EntryWord v j) new → Agree t (by_words p (spots.spot (spots.reading_by new) (EntryWord v j)) (spots.word_as old) (spots.word_as new) h)
   entry_made may none p v j old (AnEntry (entries.Job t0 x)) made nj = absurd (none x nj)
-  entry_made may none p v j (AnEntry (entries.Job t1 y)) (AnEntry (entries.Taken t0 x)) made nj = still y (Stolen p) (sym (made v j t1 y refl refl))
-  entry_made may none p v j (AnEntry (entries.Job t1 y)) (AnEntry (entries.Local t0 x)) made nj = still y (Popping p) (sym (made v j t1 y refl refl))
-  entry_made may none p v j _ _ made nj = run.agrees
+  entry_made may none p v j (AnEntry (entries.Job t1 y)) (AnEntry (entries.Taken t0 x)) made nj = still y (Stolen p) (λ q e. cc) (sym (made v j t1 y refl refl))
+  entry_made may none p v j (AnEntry (entries.Job t1 y)) (AnEntry (entries.Local t0 x)) made nj = still y (Popping p) (λ q e. cc) (sym (made v j t1 y refl refl))
+  entry_made may none p v j _ _ made nj = here
 
   entry_or : (c : Cell) → ((a : ℕ) × (j : ℕ) × (c ≡ EntryWord a j)) ⊎ IsNoEntry c
   entry_or (EntryWord a j) = inl (a, j, refl)
@@ -342,7 +501,7 @@ module _ (s : Shape) (code : CodeParts) (places : s.takeover ≡ ByPlaces) (fair
   trade_agree may none own p b k c cell old new next w nj = by (read s state.words cell == word_of old) refl
     where
       done : read s state.words cell ≡ word_of old → ((a : ℕ) × (j : ℕ) × (cell ≡ EntryWord a j)) ⊎ IsNoEntry cell → Agree t (by_words p (spots.spot (spots.reading_by new) cell) (spots.word_as old) (spots.word_as new) h)
-      done e (inr free) = subst (Agree t) (sym (unmoved p (spots.spot (spots.reading_by new) cell) (spots.word_as old) (spots.word_as new) h (no_slot (spots.reading_by new) cell free))) run.agrees
+      done e (inr free) = subst (Agree t) (sym (unmoved p (spots.spot (spots.reading_by new) cell) (spots.word_as old) (spots.word_as new) h (no_slot (spots.reading_by new) cell free))) here
       done e (inl at) =
           let change = subst (λ (x : Cell). MayChange s.takeover x old new) at.2 (changes c (kind_seat own p k b) cell old new next w) in
           let here = subst (λ (x : Cell). is_there s x ≡ true) at.2 w.here in
@@ -357,7 +516,7 @@ module _ (s : Shape) (code : CodeParts) (places : s.takeover ≡ ByPlaces) (fair
 
       by : (y : Bool) → (read s state.words cell == word_of old) ≡ y → Agree t (if y then by_words p (spots.spot (spots.reading_by new) cell) (spots.word_as old) (spots.word_as new) h else h)
       by true e = done (eqb-true (read s state.words cell) (word_of old) e) (entry_or cell)
-      by false e = run.agrees
+      by false e = here
 
   -- and of a cell that is no entry
   trade_same : (own p b : ℕ) (k : RestartKind) (cell : Cell) (old new : Content) (next : Then) → IsNoEntry cell → by_row s state.words (kind_seat own p k b) (Exchange cell old new next) h ≡ h
@@ -391,28 +550,35 @@ module _ (s : Shape) (code : CodeParts) (places : s.takeover ≡ ByPlaces) (fair
   with_homes u g e a = subst (Agree u) (sym e) a
 
   run_row : (own p b f y c : ℕ) (row : Row) → In own p b (Run f y) c row → Goal own p b (Run f y) row
-  run_row own p b f y c row w = subst (Goal own p b (Run f y)) (sym w.does) run.agrees
+  run_row own p b f y c row w = subst (Goal own p b (Run f y)) (sym w.does) here
 
   -- no fork was made before
-  unborn : (c : ℕ) (seat : Seat) (x : ℕ) → stand_of state c ≡ IsWithin seat (Now (Fork x)) → fate x ≡ fates.Unborn
+  unborn : (c : ℕ) (seat : Seat) (x : ℕ) → stand_of state c ≡ IsWithin seat (Now (Fork x)) → h x ≡ Unborn
   unborn c seat x e = elim (home_or (h x)) [
-    | inl is ↦ ap fate_of is
+    | inl is ↦ is
     | inr ne ↦ absurd (let a = sym (run.lawful.1.counts.listed x ne) ∙ forks_new s code places fair root input state h forked taken t run c seat x e in cc)
+  ]
+
+  unborn_held : (x : ℕ) → h x ≡ Unborn → HasUnrun Held x t → ⊥
+  unborn_held x e held = elim (run.agrees.held x held) [
+    | inl k ↦ let y : fates.Unborn ≡ fates.ToPush = sym (ap fate_of e) ∙ k in cc
+    | inr k ↦ let y : fates.Unborn ≡ fates.Inline = sym (ap fate_of e) ∙ k in cc
   ]
 
   bump_row : (own p b r c : ℕ) (row : Row) → At own p b (Bump r) c row → In own p b (Bump r) c row → Goal own p b (Bump r) row
   bump_row own p b r c row e w = by row e w (reached s code places fair root input state h forked taken t run (calm_forks r) (seat_at p (Bump r) w.does.0) w.does.1 (row_of s (seat_at p (Bump r) w.does.0) (Bump r)) row refl w.does.2)
     where
       by : (row : Row) → At own p b (Bump r) c row → In own p b (Bump r) c row → TameRow (calm_forks r) row → Goal own p b (Bump r) row
-      by (Now (Fork x)) e w q = moved t x (Pushing p) ((stay t x).forks ((fates_show i fair root input z t law fate run.agrees).forks p r x w.kind w.doing) (unborn c (kind_seat own p (Bump r) b) x e))
+      by (Now (Fork x)) e w q = moved_here x (Pushing p) (λ q k held. unborn_held x (unborn c (kind_seat own p (Bump r) b) x e) held)
+          (fates_moved t x (Pushing p) ((stay t x).forks ((fates_show i fair root input z t law fate run.agrees).forks p r x w.kind w.doing) (ap fate_of (unborn c (kind_seat own p (Bump r) b) x e))))
       by (Now (Begin x f y)) e w q = absurd q
-      by (Now (Load x)) e w q = run.agrees
-      by (Now (Install x)) e w q = run.agrees
-      by (Now (Move x)) e w q = run.agrees
-      by (Now (Enter x)) e w q = run.agrees
-      by (Now Again) e w q = run.agrees
-      by (Now Broken) e w q = run.agrees
-      by (Store cell content next) e w q = run.agrees
+      by (Now (Load x)) e w q = here
+      by (Now (Install x)) e w q = here
+      by (Now (Move x)) e w q = here
+      by (Now (Enter x)) e w q = here
+      by (Now Again) e w q = here
+      by (Now Broken) e w q = here
+      by (Store cell content next) e w q = here
       by (Exchange cell old new next) e w q = absurd (bump_exchanges_none i fair root input z t law p w.place r w.kind cell old new next w.doing)
 
   unwind_row : (own p b f c : ℕ) (row : Row) → In own p b (Unwind f) c row → Goal own p b (Unwind f) row
@@ -420,15 +586,15 @@ module _ (s : Shape) (code : CodeParts) (places : s.takeover ≡ ByPlaces) (fair
     where
       by : (row : Row) → In own p b (Unwind f) c row → TameRow calm row → Goal own p b (Unwind f) row
       by (Now next) w q = with_homes (by_unwind p (kind_then next) t) _ (end_same own p b (Unwind f) next (λ re. refl) q) (same (by_unwind p (kind_then next) t) ((unruns p).unwinds (kind_then next)))
-      by (Store cell content next) w q = run.agrees
-      by (Exchange cell old new next) w q = with_homes t _ (trade_same own p b (Unwind f) cell old new next (framed s cell ((unwind_row_keeps i fair root input z t law p w.place f w.kind).exchange_cells cell old new next w.doing))) run.agrees
+      by (Store cell content next) w q = here
+      by (Exchange cell old new next) w q = with_homes t _ (trade_same own p b (Unwind f) cell old new next (framed s cell ((unwind_row_keeps i fair root input z t law p w.place f w.kind).exchange_cells cell old new next w.doing))) here
 
   arrive_row : (own p b r : ℕ) (d : Side) (c : ℕ) (row : Row) → In own p b (Arrive r d) c row → Goal own p b (Arrive r d) row
   arrive_row own p b r d c row w = by row w (reached s code places fair root input state h forked taken t run calm (seat_at p (Arrive r d) w.does.0) w.does.1 (row_of s (seat_at p (Arrive r d) w.does.0) (Arrive r d)) row (tt, tt) w.does.2)
     where
       by : (row : Row) → In own p b (Arrive r d) c row → TameRow calm row → Goal own p b (Arrive r d) row
-      by (Now next) w q = with_homes t _ (end_same own p b (Arrive r d) next (λ re. refl) q) run.agrees
-      by (Store cell content next) w q = run.agrees
+      by (Now next) w q = with_homes t _ (end_same own p b (Arrive r d) next (λ re. refl) q) here
+      by (Store cell content next) w q = here
       by (Exchange cell old new next) w q = with_homes (by_arrive z.words p r t) _ (trade_same own p b (Arrive r d) cell old new next (framed s cell ((arrive_row_keeps i fair root input z t law p w.place r d w.kind).cells cell old new next w.doing))) (same (by_arrive z.words p r t) ((unruns p).arrives r))
 
   join_row : (own p b r : ℕ) (d : Side) (c : ℕ) (row : Row) → In own p b (Join r d) c row → Goal own p b (Join r d) row
@@ -442,14 +608,14 @@ module _ (s : Shape) (code : CodeParts) (places : s.takeover ≡ ByPlaces) (fair
       by (Now (Begin x f y)) w q =
           let a = (unruns p).begins r d x f y w.kind w.doing in
           let u = by_join p (Begin x f y) t in
-          moved u x Begun (subst (λ (n : ℕ). Agrees u (kept.put fate n fates.Begun)) (sym a.0) ((stay u r).goes_on a.2))
+          moved u x Begun (Is Held) IsNone (λ q e. cc) (λ e. e) (subst (λ (n : ℕ). OneChanges n (Is Held) IsNone t u) (sym a.0) a.2) (subst (λ (n : ℕ). Agrees u (kept.put fate n fates.Begun)) (sym a.0) ((stay u r).goes_on a.2))
       by (Now (Install re)) w q = same (by_join p (Install re) t) ((unruns p).joins r d re w.kind w.doing)
-      by (Now (Load x)) w q = run.agrees
-      by (Now (Move x)) w q = run.agrees
-      by (Now (Enter x)) w q = run.agrees
-      by (Now Again) w q = run.agrees
-      by (Now Broken) w q = run.agrees
-      by (Store cell content next) w q = run.agrees
+      by (Now (Load x)) w q = here
+      by (Now (Move x)) w q = here
+      by (Now (Enter x)) w q = here
+      by (Now Again) w q = here
+      by (Now Broken) w q = here
+      by (Store cell content next) w q = here
       by (Exchange cell old new next) w q = absurd ((join_row_keeps i fair root input z t law p w.place r d w.kind).exchanges_none cell old new next w.doing)
 
   -- a place that pushes has the branch
@@ -459,28 +625,52 @@ module _ (s : Shape) (code : CodeParts) (places : s.takeover ≡ ByPlaces) (fair
   pub not_both : (r : ℕ) → HasUnrun Fresh r t → HasUnrun Held r t → ⊥
   not_both r fresh held = let e = (fates_show i fair root input z t law fate run.agrees).once r Fresh Held fresh held in cc
 
+  -- how a row of Push1 has come about: at the last slot by its store, else by the load of the entry above
+  pub push1_shape : (own p b r : ℕ) (row : Row) (m : Spot → Word) → HasSeen s m (kind_seat own p (Push1 r) b) row → ((b + 1 ≡ s.slots) × LastSo row) ⊎ ((b + 1 ≢ s.slots) × AboveSo b r row)
+  push1_shape own p b r row m (Strand is quiet) = absurd is
+  push1_shape own p b r row m (Looks v ws fit is saw) = by (b + 1 == s.slots) refl s.takeover places is
+    where
+      by : (y : Bool) → (b + 1 == s.slots) ≡ y → (how : Takeover) → how ≡ ByPlaces → rest_of s (kind_seat own p (Push1 r) b) v (push_at (kind_seat own p (Push1 r) b) how r y) ws ≡ row → ((b + 1 ≡ s.slots) × LastSo row) ⊎ ((b + 1 ≢ s.slots) × AboveSo b r row)
+      by true e how k is = inl (eqb-true (b + 1) s.slots e, subst LastSo is (last_so s (kind_seat own p (Push1 r) b) v r ws))
+      by false e ByPlaces k is = inr ((λ same. let y = sym e ∙ eq-eqb (b + 1) s.slots same in cc), subst (AboveSo b r) is (above_so s (kind_seat own p (Push1 r) b) v r ws))
+      by false e ByEntries k is = absurd (cc)
+
+  store_last : (own p b r c : ℕ) (cell : Cell) (content : Content) (next : Then) → In own p b (Push1 r) c (Store cell content next) → IsAtLast s state.words p
+  store_last own p b r c cell content next w = elim (push1_shape own p b r (Store cell content next) _ w.seen) [
+    | inl a ↦ ap (λ (n : ℕ). n + 1) w.sits.at.bottom ∙ a.0
+    | inr a ↦ absurd a.1
+  ]
+
+  -- what Push2 installs runs a frame
+  push2_install : (own p b r c : ℕ) (re : Restart) → In own p b (Push2 r) c (Now (Install re)) → IsRunKind re.kind
+  push2_install own p b r c re w = by w.seen
+    where
+      by : HasSeen s (spots.with_restarts (spots.view s state.words) (spots.kinds s state.words) (spots.bottoms s state.words)) (kind_seat own p (Push2 r) b) (Now (Install re)) → IsRunKind re.kind
+      by (Strand is quiet) = absurd is
+      by (Looks v ws fit is saw) = subst (PushesSo p b r) is (push2_so s (kind_seat own p (Push2 r) b) v r ws)
+
   push1_row : (own p b r c : ℕ) (row : Row) → In own p b (Push1 r) c row → Goal own p b (Push1 r) row
   push1_row own p b r c row w = by row w (looked s code places fair root input state h forked taken t run calm c (kind_seat own p (Push1 r) b) row (Push1 r) tt refl (push_row s code places fair root input state h forked taken t run calm (kind_seat own p (Push1 r) b) r tt) w)
     where
       install : (k : RestartKind) (low : ℕ) → In own p b (Push1 r) c (Now (Install (record { kind = k; bottom = low }))) → Agree t (home_install p (Push1 r) k h)
-      install (Run f y) low w = moved t r Inline ((stay t r).leaves (run.ready p r f y low w.kind w.doing))
-      install _ low w = run.agrees
+      install (Run f y) low w = moved_here r Inline (λ q e held. cc) (fates_moved t r Inline ((stay t r).leaves (run.ready p r f y low w.kind w.doing)))
+      install _ low w = here
 
       by : (row : Row) → In own p b (Push1 r) c row → TameRow calm row → Goal own p b (Push1 r) row
       by (Now (Fork x)) w q = absurd q
       by (Now (Begin x f y)) w q = absurd q
       by (Now (Install re)) w q = install re.kind re.bottom w
-      by (Now (Load x)) w q = run.agrees
-      by (Now (Move x)) w q = run.agrees
-      by (Now (Enter x)) w q = run.agrees
-      by (Now Again) w q = run.agrees
-      by (Now Broken) w q = run.agrees
+      by (Now (Load x)) w q = here
+      by (Now (Move x)) w q = here
+      by (Now (Enter x)) w q = here
+      by (Now Again) w q = here
+      by (Now Broken) w q = here
       by (Store cell content next) w q =
           let home : fate r ≡ fates.ToPush = ap fate_of (pushing_home p r w.kind) in
           let u = over_left p (pushed Held) t in
           elim (run.agrees.to_push r home) [
-            | inl fresh ↦ (stay u r).holds ((unruns p).pushes r Held tt (inl w.kind) fresh) home
-            | inr held ↦ subst (λ (v : Skeleton). Agree v h) (sym ((unruns p).pushed_before r Held (inl w.kind) (λ fresh. not_both r fresh held))) run.agrees
+            | inl fresh ↦ held_now u r p ((unruns p).pushes r Held tt (inl w.kind) fresh) (pushing_home p r w.kind) (store_last own p b r c cell content next w)
+            | inr held ↦ subst (λ (v : Skeleton). Agree v h) (sym ((unruns p).pushed_before r Held (inl w.kind) (λ fresh. not_both r fresh held))) here
           ]
       by (Exchange cell old new next) w q = trade_agree calm absurd_job own p b (Push1 r) c cell old new next w q.0
 
@@ -525,11 +715,11 @@ module _ (s : Shape) (code : CodeParts) (places : s.takeover ≡ ByPlaces) (fair
           let same_homes : by_words p (spots.spot (spots.reading_by new) cell) (spots.word_as old) (spots.word_as new) h ≡ put h r (Listed p b (o.tag + 1)) =
               ap (λ (x : Content). by_words p (spots.spot (spots.reading_by x) cell) (spots.word_as old) (spots.word_as x) h) o.makes
               ∙ ap (λ (x : Cell). by_words p (spots.spot AsEntry x) (spots.word_as old) (Job (o.tag + 1) r) h) o.at in
-          subst (Agree (over_left p (pushed Waiting) t)) (sym same_homes) (moved (over_left p (pushed Waiting) t) r (Listed p b (o.tag + 1)) ((stay (over_left p (pushed Waiting) t) r).offers ((unruns p).pushes r Waiting tt (inr w.kind) fresh)))
+          subst (Agree (over_left p (pushed Waiting) t)) (sym same_homes) (moved (over_left p (pushed Waiting) t) r (Listed p b (o.tag + 1)) (Is Fresh) (Is Waiting) (λ q e. cc) (λ e. cc) ((unruns p).pushes r Waiting tt (inr w.kind) fresh) ((stay (over_left p (pushed Waiting) t) r).offers ((unruns p).pushes r Waiting tt (inr w.kind) fresh)))
 
       by : (y : Bool) → (read s state.words cell == word_of old) ≡ y → Agree (by_exchange z.words p (Push2 r) y t) (if y then by_words p (spots.spot (spots.reading_by new) cell) (spots.word_as old) (spots.word_as new) h else h)
       by true e = made (eqb-true (read s state.words cell) (word_of old) e) (offers_of own p b r c cell old new next w)
-      by false e = run.agrees
+      by false e = here
 
   push2_row : (own p b r c : ℕ) (row : Row) → In own p b (Push2 r) c row → Goal own p b (Push2 r) row
   push2_row own p b r c row w = by row w (looked s code places fair root input state h forked taken t run (calm_jobs r) c (kind_seat own p (Push2 r) b) row (Push2 r) tt refl refl w)
@@ -537,25 +727,25 @@ module _ (s : Shape) (code : CodeParts) (places : s.takeover ≡ ByPlaces) (fair
       by : (row : Row) → In own p b (Push2 r) c row → TameRow (calm_jobs r) row → Goal own p b (Push2 r) row
       by (Now (Fork x)) w q = absurd q
       by (Now (Begin x f y)) w q = absurd q
-      by (Now (Install re)) w q = run.agrees
-      by (Now (Load x)) w q = run.agrees
-      by (Now (Move x)) w q = run.agrees
-      by (Now (Enter x)) w q = run.agrees
-      by (Now Again) w q = run.agrees
-      by (Now Broken) w q = run.agrees
-      by (Store cell content next) w q = run.agrees
+      by (Now (Install re)) w q = here
+      by (Now (Load x)) w q = here
+      by (Now (Move x)) w q = here
+      by (Now (Enter x)) w q = here
+      by (Now Again) w q = here
+      by (Now Broken) w q = here
+      by (Store cell content next) w q = here
       by (Exchange cell old new next) w q = push2_trade own p b r c cell old new next w
 
   -- kinds that only look for work
   plain_row : (own p b : ℕ) (k : RestartKind) (c : ℕ) (row : Row) → In own p b k c row → TameRow calm row → by_store p k t ≡ t → ((y : Bool) → by_exchange z.words p k y t ≡ t) → ((next : Then) → by_end p k next t ≡ t) → ((re : Restart) → home_install p k re.kind h ≡ h)
       → Goal own p b k row
-  plain_row own p b k c (Now next) w q st ex en inst = subst (λ (u : Skeleton). Agree u (by_row s state.words (kind_seat own p k b) (Now next) h)) (sym (en next)) (with_homes t _ (end_same own p b k next inst q) run.agrees)
-  plain_row own p b k c (Store cell content next) w q st ex en inst = subst (λ (u : Skeleton). Agree u h) (sym st) run.agrees
+  plain_row own p b k c (Now next) w q st ex en inst = subst (λ (u : Skeleton). Agree u (by_row s state.words (kind_seat own p k b) (Now next) h)) (sym (en next)) (with_homes t _ (end_same own p b k next inst q) here)
+  plain_row own p b k c (Store cell content next) w q st ex en inst = subst (λ (u : Skeleton). Agree u h) (sym st) here
   plain_row own p b k c (Exchange cell old new next) w q st ex en inst =
       subst (λ (u : Skeleton). Agree u (by_row s state.words (kind_seat own p k b) (Exchange cell old new next) h)) (sym (ex (read s state.words cell == word_of old))) (trade_agree calm absurd_job own p b k c cell old new next w q.0)
 
   take_begin : (p r f y : ℕ) → is_taker (z.kind p) ≡ true → z.doing p ≡ InRow (Now (Begin r f y)) → Agree (take_in r p t) (put h r Begun)
-  take_begin p r f y taker doing = moved (take_in r p t) r Begun ((stay (take_in r p t) r).takes ((unruns p).takes r f (law.aims p r f y taker doing)))
+  take_begin p r f y taker doing = let one = (unruns p).takes r f (law.aims p r f y taker doing) in moved (take_in r p t) r Begun (Is Waiting) IsNone (λ q e. cc) (λ e. e) one ((stay (take_in r p t) r).takes one)
 
   pop2_row : (own p b q c : ℕ) (row : Row) → In own p b (Pop2 q) c row → Goal own p b (Pop2 q) row
   pop2_row own p b q c row w = by row w (looked s code places fair root input state h forked taken t run calm_begins c (kind_seat own p (Pop2 q) b) row (Pop2 q) tt refl tt w)
@@ -563,13 +753,13 @@ module _ (s : Shape) (code : CodeParts) (places : s.takeover ≡ ByPlaces) (fair
       by : (row : Row) → In own p b (Pop2 q) c row → TameRow calm_begins row → Goal own p b (Pop2 q) row
       by (Now (Fork x)) w l = absurd l
       by (Now (Begin x f y)) w l = take_begin p x f y (ap is_taker w.kind) w.doing
-      by (Now (Install re)) w l = run.agrees
-      by (Now (Load x)) w l = run.agrees
-      by (Now (Move x)) w l = run.agrees
-      by (Now (Enter x)) w l = run.agrees
-      by (Now Again) w l = run.agrees
-      by (Now Broken) w l = run.agrees
-      by (Store cell content next) w l = run.agrees
+      by (Now (Install re)) w l = here
+      by (Now (Load x)) w l = here
+      by (Now (Move x)) w l = here
+      by (Now (Enter x)) w l = here
+      by (Now Again) w l = here
+      by (Now Broken) w l = here
+      by (Store cell content next) w l = here
       by (Exchange cell old new next) w l = trade_agree calm_begins absurd_job own p b (Pop2 q) c cell old new next w l.0
 
   check_row : (own p b v y c : ℕ) (row : Row) → In own p b (Check v y) c row → Goal own p b (Check v y) row
@@ -587,18 +777,67 @@ module _ (s : Shape) (code : CodeParts) (places : s.takeover ≡ ByPlaces) (fair
       by (Now (Fork x)) w l = absurd l
       by (Now (Begin x f n)) w l = take_begin p x f n (ap is_taker w.kind) w.doing
       by (Now (Install re)) w l = elim (looks (Now (Install re)) w) [
-        | inl idle ↦ with_homes t _ (idle_install re.kind idle) run.agrees
+        | inl idle ↦ with_homes t _ (idle_install re.kind idle) here
         | inr follows ↦ absurd (let e = sym places ∙ follows.0 in cc)
       ]
-      by (Now (Load x)) w l = run.agrees
-      by (Now (Move x)) w l = run.agrees
-      by (Now (Enter x)) w l = run.agrees
-      by (Now Again) w l = run.agrees
-      by (Now Broken) w l = run.agrees
-      by (Store cell content next) w l = run.agrees
+      by (Now (Load x)) w l = here
+      by (Now (Move x)) w l = here
+      by (Now (Enter x)) w l = here
+      by (Now Again) w l = here
+      by (Now Broken) w l = here
+      by (Store cell content next) w l = here
       by (Exchange cell old new next) w l = trade_agree calm_begins absurd_job own p b (Check v y) c cell old new next w l.0
 
-  row_agree : (own p b : ℕ) (k : RestartKind) (c : ℕ) (row : Row) → At own p b k c row → In own p b k c row → Goal own p b k row
+  -- an install leaves the bottom, or is of a kind that does not push
+  abbrev pub Keeps : (b : ℕ) → Restart → Type 0
+  Keeps b re = (re.bottom ≡ b) ⊎ (IsPush re.kind → ⊥)
+
+  pub installs_low : (own p b : ℕ) (k : RestartKind) (c : ℕ) (re : Restart) → In own p b k c (Now (Install re)) → Keeps b re
+  installs_low own p b k c re w = by k w w.seen
+    where
+      run_only : (k : RestartKind) → IsRunKind k → IsPush k → ⊥
+      run_only (Run f y) a q = q
+      run_only _ a q = a
+
+      idle_only : (k : RestartKind) → IsIdle k → IsPush k → ⊥
+      idle_only (Push1 r) a q = a
+      idle_only (Push2 r) a q = a
+      idle_only _ a q = q
+
+      idle : (k : RestartKind) → IsIdle k → In own p b k c (Now (Install re)) → Keeps b re
+      idle k is w =
+          let came = came_idle s (kind_seat own p k b) k (Now (Install re)) is (came_by s code places fair root input state h forked taken t run c (kind_seat own p k b) (Now (Install re)) w) in
+          elim (comes_look s (kind_seat own p k b) k came.0 (row_of s (kind_seat own p k b) k) (Now (Install re)) (look_begins s (kind_seat own p k b) k is) came.1) [
+            | inl a ↦ inr (idle_only re.kind a)
+            | inr follows ↦ absurd (let e = sym places ∙ follows.0 in cc)
+          ]
+
+      quiet : (k : RestartKind) → IsStrand k → HasSeen s (spots.with_restarts (spots.view s state.words) (spots.kinds s state.words) (spots.bottoms s state.words)) (kind_seat own p k b) (Now (Install re)) → Keeps b re
+      quiet k strand (Strand is q) = inl q.1
+      quiet k strand (Looks v ws fit is saw) =
+          let all = subst (IsQuiet (kind_seat own p k b)) is (rest_quiet (kind_seat own p k b) s v (row_of s (kind_seat own p k b) k) ws (begun_quiet (kind_seat own p k b) s k refl strand)) in
+          inl all.1
+
+      by : (k : RestartKind) → In own p b k c (Now (Install re)) → HasSeen s (spots.with_restarts (spots.view s state.words) (spots.kinds s state.words) (spots.bottoms s state.words)) (kind_seat own p k b) (Now (Install re)) → Keeps b re
+      by (Push1 r) w seen = elim (push1_shape own p b r (Now (Install re)) _ seen) [
+        | inl a ↦ inr (run_only re.kind a.1)
+        | inr a ↦ inl a.1.1
+      ]
+      by (Push2 r) w seen = inr (run_only re.kind (push2_install own p b r c re w))
+      by Pop1 w seen = idle Pop1 tt w
+      by (Pop2 q) w seen = idle (Pop2 q) tt w
+      by Seek w seen = idle Seek tt w
+      by (Steal v x) w seen = idle (Steal v x) tt w
+      by (Check v x) w seen = idle (Check v x) tt w
+      by (Take v x) w seen = idle (Take v x) tt w
+      by (Take2 v) w seen = idle (Take2 v) tt w
+      by (Run f y) w seen = quiet (Run f y) tt seen
+      by (Bump r) w seen = quiet (Bump r) tt seen
+      by (Unwind f) w seen = quiet (Unwind f) tt seen
+      by (Arrive r d) w seen = quiet (Arrive r d) tt seen
+      by (Join r d) w seen = quiet (Join r d) tt seen
+
+  pub row_agree : (own p b : ℕ) (k : RestartKind) (c : ℕ) (row : Row) → At own p b k c row → In own p b k c row → Goal own p b k row
   row_agree own p b (Run f y) c row e w = run_row own p b f y c row w
   row_agree own p b (Bump r) c row e w = bump_row own p b r c row e w
   row_agree own p b (Push1 r) c row e w = push1_row own p b r c row w
@@ -623,9 +862,9 @@ module _ (s : Shape) (code : CodeParts) (places : s.takeover ≡ ByPlaces) (fair
     next_state = places_of s (happens s code state turn)
 
     -- a block that is opened was not forked
-    not_forked : (p r : ℕ) (x : Standing) → stand_of state c ≡ x → step_by (row_by fork_row) act x ≡ [] → next_state.kind p ≡ Bump r → fate r ≡ fates.Unborn
+    not_forked : (p r : ℕ) (x : Standing) → stand_of state c ≡ x → step_by (row_by fork_row) act x ≡ [] → next_state.kind p ≡ Bump r → h r ≡ Unborn
     not_forked p r x e none ke = elim (home_or (h r)) [
-      | inl is ↦ ap fate_of is
+      | inl is ↦ is
       | inr ne ↦
           let born : Births i next_state (has forked) = subst (λ (l : List ℕ). Births i next_state (has (l ++ forked))) (ap (step_by (row_by fork_row) act) e ∙ none) (births_follow s code places fair root input state h forked taken t run turn among) in
           let home = born.homes p r ke in
@@ -634,12 +873,12 @@ module _ (s : Shape) (code : CodeParts) (places : s.takeover ≡ ByPlaces) (fair
           absurd (let low = subst (λ (a : RestartKind). r < floor next_state.words p a) ke below in omega (arith, low))
     ]
 
-    opens_agree : (p f y r : ℕ) (k : LinkKind) → (link_at (z.words (BlockWord r))).kind ≡ k → z.kind p ≡ Run f y → next_state.kind p ≡ Bump r → (x : Standing) → stand_of state c ≡ x → step_by (row_by fork_row) act x ≡ []
+    pub opens_agree : (p f y r : ℕ) (k : LinkKind) → (link_at (z.words (BlockWord r))).kind ≡ k → z.kind p ≡ Run f y → next_state.kind p ≡ Bump r → (x : Standing) → stand_of state c ≡ x → step_by (row_by fork_row) act x ≡ []
         → tree_after i state turn t ≡ by_install i z.words p (Run f y) (Bump r) t → Agree (by_install i z.words p (Run f y) (Bump r) t) h
     opens_agree p f y r (Called g v) le ke be x e none te = same (by_install i z.words p (Run f y) (Bump r) t) ((unruns p).calls f y r g v le)
     opens_agree p f y r (Forked g v) le ke be x e none te =
         let once = subst (λ (u : Skeleton). (x : ℕ) → count Root u x ≤ 1) te after.apart in
-        (stay (by_install i z.words p (Run f y) (Bump r) t) r).opens ((unruns p).opens f y r g v ke le once) (not_forked p r x e none be)
-    opens_agree p f y r Root le ke be x e none te = subst (λ (u : Skeleton). Agree u h) (sym (ap (λ (k : LinkKind). grow p (opened i z.words p r k) t) le ∙ grow_none p t)) run.agrees
-    opens_agree p f y r (Branch d v) le ke be x e none te = subst (λ (u : Skeleton). Agree u h) (sym (ap (λ (k : LinkKind). grow p (opened i z.words p r k) t) le ∙ grow_none p t)) run.agrees
+        opened_now (by_install i z.words p (Run f y) (Bump r) t) r ((unruns p).opens f y r g v ke le once) (not_forked p r x e none be)
+    opens_agree p f y r Root le ke be x e none te = subst (λ (u : Skeleton). Agree u h) (sym (ap (λ (k : LinkKind). grow p (opened i z.words p r k) t) le ∙ grow_none p t)) here
+    opens_agree p f y r (Branch d v) le ke be x e none te = subst (λ (u : Skeleton). Agree u h) (sym (ap (λ (k : LinkKind). grow p (opened i z.words p r k) t) le ∙ grow_none p t)) here
 

@@ -15,4 +15,5 @@ pub mod OpenLemmas
 pub mod BrokenLemmas
 pub mod OutcomeLemmas
 pub mod AgreeLemmas
+pub mod JoinLemmas
 pub mod WholeLemmas
