@@ -84,7 +84,7 @@ taker_of p (Take v j) x e a = absurd (cc)
 taker_of p (Take2 v) x e a = absurd (cc)
 
 -- who does what is done in a row at a place
-record Doer (f : ℕ → Standing) (q : ℕ) (row : Row) : Type 0 where
+pub record Doer (f : ℕ → Standing) (q : ℕ) (row : Row) : Type 0 where
   pub processor : ℕ
   pub seat : Seat
   pub stand : f processor ≡ IsWithin seat row
@@ -94,7 +94,7 @@ abbrev row_told : Doing → Row → Row
 row_told (InRow row) d = row
 row_told _ d = d
 
-doer : (f : ℕ → Standing) (q : ℕ) (row : Row) (n : ℕ) → doing_in f n q ≡ InRow row → Doer f q row
+pub doer : (f : ℕ → Standing) (q : ℕ) (row : Row) (n : ℕ) → doing_in f n q ≡ InRow row → Doer f q row
 doer f q row zero e = absurd (cc)
 doer f q row (suc n) e = by (doer f q row n) (f n) refl e
   where

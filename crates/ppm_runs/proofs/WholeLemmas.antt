@@ -27,7 +27,7 @@ use Rattle.ppm_kept.specs.Running.{IsFair}
 use Rattle.ppm_kept.specs.Steps.{tree_after, IsStop, IsStopped}
 use Rattle.ppm_runs.specs.Run.{image, IsRun}
 use Rattle.ppm_runs.specs.Whole.{TurnsLead, JoinsLead, RunsComeTo}
-use Rattle.ppm_runs.proofs.JoinLemmas.{restart_not}
+use Rattle.ppm_runs.proofs.JoinLemmas.{joins_stay}
 use Rattle.ppm_runs.proofs.BearingLemmas.{births_follow}
 use Rattle.ppm_runs.proofs.BrokenLemmas.{broken_follow}
 use Rattle.ppm_runs.proofs.GoingLemmas.{turns_go_on}
