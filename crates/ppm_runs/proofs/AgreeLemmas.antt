@@ -2,7 +2,7 @@
 use Rattle.std.proofs.Common.{◌≡◌, ◌≢◌, ◌⊎◌, ◌<◌, ◌≤◌, ℕ, zero, suc, ◌+◌, ◌-◌, ◌==◌, Bool, true, false, if◌then◌else◌, cond, List, [], ◌∷◌, ◌++◌, inl, inr, refl, sym, ap, ◌∙◌, subst, subst₂, arith}
 use Rattle.std.specs.Prelude.{nat_lt, ◌^◌}
 use Rattle.std.proofs.Math.Path.{fun_ext}
-use Rattle.std.proofs.lemmas.Bool.{cases_eq, cases_Bool, eqb-true, eq-eqb}
+use Rattle.std.proofs.lemmas.Bool.{cases_eq, eqb-true, eq-eqb}
 use Rattle.ppm_strands.specs.Tree.{Words, Tree}
 use Rattle.ppm_cells.specs.Entry.{IsEntry}
 use Rattle.ppm_cells.specs.Fields.{Fit}
@@ -10,7 +10,7 @@ use Rattle.ppm_cells.specs.Memory.{read}
 use Rattle.ppm_cells.specs.Restart.{address_fields}
 use Rattle.ppm_cells.specs.declared.restart.Restart.{Restart}
 use Rattle.ppm_cells.specs.declared.cell.Cell.{Cell}
-use Rattle.ppm_cells.specs.declared.cell.Cell.TheVariants.{FinishWord, CarryWord, DeadWord, RestartWord, MessageWord, HolderWord, Top as TopWord, RoomCounter, EntryWord, BlockWord, ArrayWord}
+use Rattle.ppm_cells.specs.declared.cell.Cell.TheVariants.{FinishWord, RestartWord, RoomCounter, EntryWord, BlockWord, ArrayWord}
 use Rattle.ppm_cells.specs.declared.entry.Entry.{Entry}
 use Rattle.ppm_cells.specs.declared.entry.Entry.TheVariants as entries
 use Rattle.ppm_cells.specs.declared.link.LinkKind.{LinkKind}
@@ -32,34 +32,32 @@ use Rattle.ppm_step.specs.declared.content.Reading.{Reading}
 use Rattle.ppm_step.specs.declared.content.Reading.TheVariants.{AsNumber, AsRestart, AsEntry, AsHolder, AsLink, AsFinish}
 use Rattle.ppm_step.specs.Rows.{row_of, found_at, raised, push_at}
 use Rattle.ppm_step.specs.Among.{IsTurnAmong}
-use Rattle.ppm_step.specs.Frames.{Rest, Loads, Stores, Full, Installs, Breaks}
-use Rattle.ppm_step.specs.Standings.{Standing, IsLost, IsPlaced, IsAt, IsWithin, IsRunning, IsBroken, IsDone}
-use Rattle.ppm_step.specs.State.{State as RunState, stand_of, happens, forks_of, step_by, row_by, fork_row}
+use Rattle.ppm_step.specs.Standings.{Standing, IsWithin}
+use Rattle.ppm_step.specs.State.{State as RunState, stand_of, happens, step_by, row_by, fork_row}
 use Rattle.ppm_step.specs.declared.turn.Act.{Act}
-use Rattle.ppm_step.specs.declared.turn.Act.TheVariants.{Step, Soft, Hard, Quit}
 use Rattle.ppm_step.specs.declared.turn.Turn.{Turn}
 use Rattle.ppm_step.specs.declared.content.Content.{Content}
-use Rattle.ppm_step.specs.declared.content.Content.TheVariants.{ANumber, ARestart, AnEntry, AHolder, ALink, AFinish, Unreadable}
+use Rattle.ppm_step.specs.declared.content.Content.TheVariants.{AnEntry}
 use Rattle.ppm_step.specs.declared.row.Point.TheVariants.{PushBottom, PushAbove}
 use Rattle.ppm_step.specs.declared.row.Row.{Row}
 use Rattle.ppm_step.specs.declared.row.Row.TheVariants.{Now, Store, Exchange}
 use Rattle.ppm_step.specs.declared.row.Seat.{Seat}
 use Rattle.ppm_step.specs.declared.row.Then.{Then}
 use Rattle.ppm_step.specs.declared.row.Then.TheVariants.{Load, Install, Fork, Begin, Move, Enter, Again, Broken}
-use Rattle.ppm_tickets.specs.Along.{by_words, by_row, by_install as home_install, by_act}
+use Rattle.ppm_tickets.specs.Along.{by_words, by_row, by_install as home_install}
 use Rattle.ppm_tickets.specs.Homes.{Home, Unborn, Pushing, Listed, Popping, Stolen, Inline, Begun}
-use Rattle.ppm_tickets.specs.Lawful.{IsLocal, IsEmpty, Carries, Pushes, AtBottom}
-use Rattle.ppm_tickets.specs.Saw.{IsQuietCell, IsQuiet, IsStrandOrPop, AreFit, HasSeen, Strand, Looks, IsStrand, rest_of}
+use Rattle.ppm_tickets.specs.Lawful.{IsLocal, Pushes, AtBottom}
+use Rattle.ppm_tickets.specs.Saw.{IsQuietCell, IsQuiet, AreFit, HasSeen, Strand, Looks, IsStrand, rest_of}
 use Rattle.ppm_tickets.specs.View as spots
 use Rattle.ppm_tickets.specs.View.{content_by}
-use Rattle.ppm_tickets.specs.Words.{has, Word, Empty, Local, Job, Taken, Held as HeldBy, Number, Linked, Restarts, Unread, Spot, Message, Bid, Top, Slot, Holder, Carry, Dead, Restart as RestartSpot, Other, put}
+use Rattle.ppm_tickets.specs.Words.{has, Word, Empty, Local, Job, Taken, Held as HeldBy, Number, Linked, Restarts, Unread, Spot, Slot, put}
 use Rattle.ppm_tickets.proofs.EntryLemmas.{MayChange}
 use Rattle.ppm_tickets.proofs.QuietLemmas.{few_words, begun_quiet, rest_quiet}
 use Rattle.ppm_tickets.proofs.ViewLemmas.{shows, again, shown_cell}
 use Rattle.ppm_tickets.proofs.WalkLemmas.{Walk, FairRow, found_fair, begun_fair}
 use Rattle.ppm_tickets.proofs.WriteLemmas.{put_here, put_else}
 use Rattle.ppm_frames.specs.Views.{is_cell}
-use Rattle.ppm_frames.specs.Skeletons.{Stand, Who, InPlace, Fresh, Held, Waiting, Came, Inlined, Skeleton, Leaf, Calling, Forking, grow, pushed, over_left, take_in, inlined, count}
+use Rattle.ppm_frames.specs.Skeletons.{Stand, Who, InPlace, Fresh, Held, Waiting, Came, Inlined, Skeleton, Leaf, Calling, Forking, grow, pushed, over_left, take_in, count}
 use Rattle.ppm_kept.specs.Running.{IsFair}
 use Rattle.ppm_kept.specs.Kept.{Image, seat_at, InRow, State, Does, IsKept}
 use Rattle.ppm_kept.specs.Kept as kept
@@ -68,7 +66,6 @@ use Rattle.ppm_kept.specs.Births.{floor, Births}
 use Rattle.ppm_kept.specs.Moves.{by_install, opened}
 use Rattle.ppm_frames.specs.Good.{link_at}
 use Rattle.ppm_kept.proofs.OwnerLemmas.{owned}
-use Rattle.ppm_kept.proofs.StateLemmas.{turns_show}
 use Rattle.ppm_runs.proofs.BearingLemmas.{births_follow}
 use Rattle.ppm_kept.specs.Fates.{Fate, Agrees, FatesStay}
 use Rattle.ppm_kept.specs.Fates as fates
@@ -76,7 +73,7 @@ use Rattle.ppm_kept.specs.Branches.{is_taker}
 use Rattle.ppm_kept.specs.Others.{IsIdle}
 use Rattle.ppm_kept.specs.Places.{places_of}
 use Rattle.ppm_kept.specs.Pushing.{kind_seat}
-use Rattle.ppm_kept.specs.Steps.{tree_by, tree_after, by_act as tree_by_act, by_end, by_store, by_exchange}
+use Rattle.ppm_kept.specs.Steps.{tree_by, tree_after, by_end, by_store, by_exchange}
 use Rattle.ppm_kept.specs.Laws.{kind_then}
 use Rattle.ppm_kept.specs.Returns.{by_unwind}
 use Rattle.ppm_kept.specs.Arriving.{by_arrive}
@@ -92,9 +89,9 @@ use Rattle.ppm_kept.proofs.LoadLemmas.{bump_exchanges_none}
 use Rattle.ppm_kept.proofs.LookLemmas.{LookRow, comes_look, look_begins}
 use Rattle.ppm_kept.proofs.StepRows.{came_idle}
 use Rattle.ppm_runs.specs.Run.{image, fate_of, IsAtLast, IsRun}
-use Rattle.ppm_runs.proofs.ShownLemmas.{Within, within, Runs, runs}
+use Rattle.ppm_runs.proofs.ShownLemmas.{Within}
 use Rattle.ppm_runs.proofs.TameLemmas.{May, TameThen, TameTrade, TameRow}
-use Rattle.ppm_runs.proofs.OrderlyLemmas.{IsLoad, IsInstall, places_row, looked, reached, push_row, forks_new}
+use Rattle.ppm_runs.proofs.OrderlyLemmas.{places_row, looked, reached, push_row, forks_new}
 use Rattle.ppm_runs.proofs.StandLemmas.{kinds_same}
 use Rattle.ppm_runs.proofs.TakerLemmas.{takers_have, ghost_is, not_gone}
 use Rattle.ppm_runs.proofs.GoingLemmas.{came_by}

@@ -1,14 +1,13 @@
 -- What joins the halves of a run's state does so again behind a turn, with takeover by places.
-use Rattle.std.proofs.Common.{◌≡◌, ◌≢◌, ◌⊎◌, ◌<◌, ℕ, zero, suc, ◌+◌, ◌==◌, Bool, true, false, if◌then◌else◌, List, [], ◌∷◌, ◌++◌, Option, Some, None, inl, inr, refl, sym, ap, ◌∙◌, subst, subst₂, slice_set, arith}
+use Rattle.std.proofs.Common.{◌≡◌, ◌≢◌, ◌⊎◌, ◌<◌, ℕ, zero, suc, ◌+◌, ◌==◌, Bool, true, false, if◌then◌else◌, List, ◌++◌, Option, Some, None, inl, inr, refl, sym, ap, ◌∙◌, subst}
 use Rattle.std.specs.Prelude.{slice_index, slice_get, nat_lt}
-use Rattle.std.proofs.lemmas.Bool.{cases_eq, cases_Bool, eqb-true, eq-eqb, ltb-true}
+use Rattle.std.proofs.lemmas.Bool.{cases_eq}
 use Rattle.ppm_strands.specs.Tree.{Words, Tree}
-use Rattle.ppm_cells.specs.Finish.{finish_word}
 use Rattle.ppm_cells.specs.Cells.{IsCell}
 use Rattle.ppm_cells.specs.Memory.{read, write as store}
 use Rattle.ppm_cells.specs.Restart.{restart_word}
 use Rattle.ppm_cells.specs.declared.cell.Cell.{Cell}
-use Rattle.ppm_cells.specs.declared.cell.Cell.TheVariants.{FinishWord, CarryWord, DeadWord, RestartWord, MessageWord, HolderWord, Top, RoomCounter, EntryWord, BlockWord, ArrayWord}
+use Rattle.ppm_cells.specs.declared.cell.Cell.TheVariants.{FinishWord, CarryWord, DeadWord, RestartWord, BlockWord}
 use Rattle.ppm_cells.specs.declared.restart.Restart.{Restart}
 use Rattle.ppm_cells.specs.declared.restart.RestartKind.{RestartKind}
 use Rattle.ppm_cells.specs.declared.restart.RestartKind.TheVariants.{Run, Bump, Push1, Push2, Unwind, Arrive, Join, Pop1, Pop2, Seek, Steal, Check, Take, Take2}
@@ -28,9 +27,8 @@ use Rattle.ppm_step.specs.Rows.{row_of, push_at, found_at}
 use Rattle.ppm_code.specs.declared.code.Capsule.{Capsule as CodeCapsule}
 use Rattle.ppm_tickets.proofs.StepLemmas.{stand_own, stand_other}
 use Rattle.ppm_step.specs.State.{State as RunState, stand_of, happens, acts, want_of, words_after, stand_after, forks_of, takes_of}
-use Rattle.ppm_step.specs.There.{is_there, restart_is_there}
+use Rattle.ppm_step.specs.There.{restart_is_there}
 use Rattle.ppm_step.proofs.ThereLemmas.{restart_fits}
-use Rattle.ppm_step.specs.declared.content.Content.{Content}
 use Rattle.ppm_step.specs.declared.row.Row.{Row}
 use Rattle.ppm_step.specs.declared.row.Row.TheVariants.{Now, Store, Exchange}
 use Rattle.ppm_step.specs.declared.row.Seat.{Seat}
@@ -44,7 +42,7 @@ use Rattle.ppm_tickets.specs.Entries.{IsPooledAt}
 use Rattle.ppm_tickets.specs.Homes.{Home, Unborn, Pushing}
 use Rattle.ppm_tickets.specs.Lawful.{Pushes, Carries}
 use Rattle.ppm_tickets.specs.Renewal.{IsLawful}
-use Rattle.ppm_tickets.specs.Saw.{IsModest, HasSeen, Sees}
+use Rattle.ppm_tickets.specs.Saw.{HasSeen, Sees}
 use Rattle.ppm_tickets.specs.View as spots
 use Rattle.ppm_tickets.specs.Words.{Word, put}
 use Rattle.ppm_tickets.proofs.EntryLemmas.{cell_there}
@@ -53,7 +51,7 @@ use Rattle.ppm_tickets.proofs.ViewLemmas.{restarts_kept, kinds_put, bottoms_put}
 use Rattle.ppm_tickets.proofs.WriteLemmas.{put_here, put_else}
 use Rattle.ppm_frames.specs.Skeletons.{Fresh, Held, Skeleton}
 use Rattle.ppm_kept.specs.Running.{IsFair}
-use Rattle.ppm_kept.specs.Kept.{Image, State, IsKept}
+use Rattle.ppm_kept.specs.Kept.{State, IsKept}
 use Rattle.ppm_kept.specs.Places.{places_of}
 use Rattle.ppm_kept.specs.Steps.{tree_after, tree_by, by_store}
 use Rattle.ppm_kept.specs.Pushing.{kind_seat}
@@ -70,7 +68,7 @@ use Rattle.ppm_runs.proofs.TakerLemmas.{takers_have}
 use Rattle.ppm_runs.proofs.GoingLemmas.{Doer, doer, turns_go_on}
 use Rattle.ppm_runs.proofs.ShownLemmas.{Within, within, Runs, runs}
 use Rattle.ppm_runs.proofs.OrderlyLemmas.{turns_are_orderly}
-use Rattle.ppm_runs.proofs.AgreeLemmas.{Agree, LastSo, push1_shape, not_both, here, same, unruns, row_agree, opens_agree, IsPush, IsNoRestart, quiet_restart, Keeps, installs_low, exchanges_no_restart, stores_no_restart}
+use Rattle.ppm_runs.proofs.AgreeLemmas.{Agree, LastSo, push1_shape, not_both, here, same, unruns, row_agree, opens_agree, IsPush, IsNoRestart, quiet_restart, installs_low, exchanges_no_restart, stores_no_restart}
 
 pub restart_not : (cell : Cell) → IsNoRestart cell → (q : ℕ) → RestartWord q ≢ cell
 restart_not cell no_restart q e = subst IsNoRestart (sym e) no_restart
