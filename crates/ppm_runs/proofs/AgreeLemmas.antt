@@ -445,7 +445,7 @@ module _ (s : Shape) (code : CodeParts) (places : s.takeover ≡ ByPlaces) (fair
   row_fair c seat row w v ws fit is =
       let small : seat.place < 64 = let lt = w.place in let few = s.within.processors_most in omega (arith, lt, few) in
       let first = begun_fair s AnyPut (Changing s.takeover) seat (any_walk s.takeover seat) small seat.restart.kind
-          (λ block k. (subst (λ (x : RestartKind). Fit (address_fields x)) k (restart_fits s (few_words s) seat.restart w.sits.there).0).0) in
+      (λ block k. (subst (λ (x : RestartKind). Fit (address_fields x)) k (restart_fits s (few_words s) seat.restart w.sits.there).0).0) in
       subst (FairRow s.takeover AnyPut (Changing s.takeover)) is (rest_fair s seat small v (row_of s seat seat.restart.kind) ws fit first)
 
   changing : (c : ℕ) (seat : Seat) (cell : Cell) (old new : Content) (next : Then) → Within s code root input state h forked taken t run c seat (Exchange cell old new next) → Changing s.takeover cell old new
@@ -505,10 +505,10 @@ module _ (s : Shape) (code : CodeParts) (places : s.takeover ≡ ByPlaces) (fair
           let is = subst (λ (x : Cell). read s state.words x ≡ word_of old) at.2 e in
           subst (λ (x : Cell). Agree t (by_words p (spots.spot (spots.reading_by new) x) (spots.word_as old) (spots.word_as new) h)) (sym at.2)
           (entry_made may none p at.0 at.1 old new (λ v j t0 x ce oe.
-              let two : EntryWord at.0 at.1 ≡ EntryWord v j = ce in
-              job_offered v j t0 x (subst (λ (x : Cell). is_there s x ≡ true) two here)
-              (changed_fit s.takeover v j (entries.Job t0 x) new (subst₂ (λ (x : Cell) (y : Content). MayChange s.takeover x y new) two oe change))
-              (subst₂ (λ (x : Cell) (y : Content). read s state.words x ≡ word_of y) two oe is))
+          let two : EntryWord at.0 at.1 ≡ EntryWord v j = ce in
+          job_offered v j t0 x (subst (λ (x : Cell). is_there s x ≡ true) two here)
+          (changed_fit s.takeover v j (entries.Job t0 x) new (subst₂ (λ (x : Cell) (y : Content). MayChange s.takeover x y new) two oe change))
+          (subst₂ (λ (x : Cell) (y : Content). read s state.words x ≡ word_of y) two oe is))
           (subst (λ (x : Cell). TameTrade may x new) at.2 nj))
 
       by : (y : Bool) → (read s state.words cell == word_of old) ≡ y → Agree t (if y then by_words p (spots.spot (spots.reading_by new) cell) (spots.word_as old) (spots.word_as new) h else h)
@@ -704,14 +704,14 @@ module _ (s : Shape) (code : CodeParts) (places : s.takeover ≡ ByPlaces) (fair
           let low = spots.bottoms s state.words p in
           let local : IsLocal (run.lawful.1.board.ghost (Slot p low)) = subst IsLocal (sym (ghost_is s code places state h forked taken run.lawful p low ∙ ap (λ (n : ℕ). spots.view s state.words (Slot p n)) w.sits.at.bottom ∙ shown)) tt in
           let home : h r ≡ Pushing p = run.lawful.1.board.board.only (Pushing p) r tt (not_gone s code places state h forked taken run.lawful p)
-              (subst (λ (k : RestartKind). Pushes k (run.lawful.1.board.ghost (Slot p low)) r) (sym w.sits.at.kind) (refl, local)) in
+          (subst (λ (k : RestartKind). Pushes k (run.lawful.1.board.ghost (Slot p low)) r) (sym w.sits.at.kind) (refl, local)) in
           let fresh : HasUnrun Fresh r t = elim (run.agrees.to_push r (ap fate_of home)) [
             | inl f ↦ f
             | inr held ↦ absurd (not_last p r w.sits.at.kind (run.last r p held home))
           ] in
           let same_homes : by_words p (spots.spot (spots.reading_by new) cell) (spots.word_as old) (spots.word_as new) h ≡ put h r (Listed p b (o.tag + 1)) =
-              ap (λ (x : Content). by_words p (spots.spot (spots.reading_by x) cell) (spots.word_as old) (spots.word_as x) h) o.makes
-              ∙ ap (λ (x : Cell). by_words p (spots.spot AsEntry x) (spots.word_as old) (Job (o.tag + 1) r) h) o.at in
+          ap (λ (x : Content). by_words p (spots.spot (spots.reading_by x) cell) (spots.word_as old) (spots.word_as x) h) o.makes
+          ∙ ap (λ (x : Cell). by_words p (spots.spot AsEntry x) (spots.word_as old) (Job (o.tag + 1) r) h) o.at in
           subst (Agree (over_left p (pushed Waiting) t)) (sym same_homes) (moved (over_left p (pushed Waiting) t) r (Listed p b (o.tag + 1)) (Is Fresh) (Is Waiting) (λ q e. cc) (λ e. cc) ((unruns p).pushes r Waiting tt (inr w.kind) fresh) ((stay (over_left p (pushed Waiting) t) r).offers ((unruns p).pushes r Waiting tt (inr w.kind) fresh)))
 
       by : (y : Bool) → (read s state.words cell == word_of old) ≡ y → Agree (by_exchange z.words p (Push2 r) y t) (if y then by_words p (spots.spot (spots.reading_by new) cell) (spots.word_as old) (spots.word_as new) h else h)
@@ -878,4 +878,3 @@ module _ (s : Shape) (code : CodeParts) (places : s.takeover ≡ ByPlaces) (fair
         opened_now (by_install i z.words p (Run f y) (Bump r) t) r ((unruns p).opens f y r g v ke le once) (not_forked p r x e none be)
     opens_agree p f y r Root le ke be x e none te = subst (λ (u : Skeleton). Agree u h) (sym (ap (λ (k : LinkKind). grow p (opened i z.words p r k) t) le ∙ grow_none p t)) here
     opens_agree p f y r (Branch d v) le ke be x e none te = subst (λ (u : Skeleton). Agree u h) (sym (ap (λ (k : LinkKind). grow p (opened i z.words p r k) t) le ∙ grow_none p t)) here
-
