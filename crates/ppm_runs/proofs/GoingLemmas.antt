@@ -84,7 +84,7 @@ taker_of p (Take v j) x e a = absurd (cc)
 taker_of p (Take2 v) x e a = absurd (cc)
 
 -- who does what is done in a row at a place
-record Doer (f : ℕ → Standing) (q : ℕ) (row : Row) : Type 0 where
+pub record Doer (f : ℕ → Standing) (q : ℕ) (row : Row) : Type 0 where
   pub processor : ℕ
   pub seat : Seat
   pub stand : f processor ≡ IsWithin seat row
@@ -94,7 +94,7 @@ abbrev row_told : Doing → Row → Row
 row_told (InRow row) d = row
 row_told _ d = d
 
-doer : (f : ℕ → Standing) (q : ℕ) (row : Row) (n : ℕ) → doing_in f n q ≡ InRow row → Doer f q row
+pub doer : (f : ℕ → Standing) (q : ℕ) (row : Row) (n : ℕ) → doing_in f n q ≡ InRow row → Doer f q row
 doer f q row zero e = absurd (cc)
 doer f q row (suc n) e = by (doer f q row n) (f n) refl e
   where
@@ -125,7 +125,7 @@ module _ (s : Shape) (code : CodeParts) (places : s.takeover ≡ ByPlaces) (fair
   abbrev In : ℕ → Seat → Row → Type 0
   In c seat row = Within s code root input state h forked taken t run c seat row
 
-  came_by : (c : ℕ) (seat : Seat) (row : Row) → In c seat row → CameBy s seat seat.restart.kind row
+  pub came_by : (c : ℕ) (seat : Seat) (row : Row) → In c seat row → CameBy s seat seat.restart.kind row
   came_by c seat row w = by seat.restart.kind refl w.seen
     where
       looked : (k : RestartKind) → seat.restart.kind ≡ k → (IsStrand k → ⊥) → HasSeen s (spots.with_restarts (spots.view s state.words) (spots.kinds s state.words) (spots.bottoms s state.words)) seat row

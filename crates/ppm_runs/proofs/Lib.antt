@@ -2,7 +2,8 @@
 -- loads (`TameLemmas`); what a processor does at its place is what the frames see there
 -- (`ShownLemmas`); then what turns owe (`OrderlyLemmas`). Who takes a branch has it at its home
 -- (`TakerLemmas`), so a turn leads on (`GoingLemmas`, `BearingLemmas`, `BrokenLemmas`); a run's
--- beginning (`OpenLemmas`) and its end (`OutcomeLemmas`).
+-- beginning (`OpenLemmas`) and its end (`OutcomeLemmas`). What a row makes of the tree and of homes, kind by
+-- kind, is `AgreeLemmas`; that both halves join again is `JoinLemmas`, and whole runs are `WholeLemmas`.
 
 pub mod TameLemmas
 pub mod StandLemmas
@@ -14,4 +15,6 @@ pub mod BearingLemmas
 pub mod OpenLemmas
 pub mod BrokenLemmas
 pub mod OutcomeLemmas
+pub mod AgreeLemmas
+pub mod JoinLemmas
 pub mod WholeLemmas

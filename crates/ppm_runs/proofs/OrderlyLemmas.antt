@@ -61,16 +61,16 @@ use Rattle.ppm_runs.proofs.StandLemmas.{kinds_same}
 use Rattle.ppm_runs.proofs.ShownLemmas.{cell_pooled, Within, within, Runs, runs, head_pool}
 
 -- rows that load, which rows of no other sort are
-abbrev IsLoad : Row → Type 0
+abbrev pub IsLoad : Row → Type 0
 IsLoad (Now (Load point)) = Unit {0}
 IsLoad _ = ⊥
 
-abbrev IsInstall : Row → Type 0
+abbrev pub IsInstall : Row → Type 0
 IsInstall (Now (Install restart)) = Unit {0}
 IsInstall _ = ⊥
 
 -- kinds whose rows are looked at by what they have found
-abbrev IsLooking : RestartKind → Type 0
+abbrev pub IsLooking : RestartKind → Type 0
 IsLooking (Push1 r) = Unit {0}
 IsLooking (Push2 r) = Unit {0}
 IsLooking Pop1 = Unit {0}
@@ -84,26 +84,26 @@ IsLooking _ = ⊥
 
 -- all is allowed but forks
 abbrev no_forks : May
-no_forks = record { forks = λ r. ⊥; begins = λ r. Unit {0}; stores = λ a. Unit {0}; trades = λ a. Unit {0} }
+no_forks = record { forks = λ r. ⊥; begins = λ r. Unit {0}; stores = λ a. Unit {0}; trades = λ a. Unit {0}; jobs = λ r. Unit {0} }
 
 -- no block word is changed but this one
 abbrev one_word : ℕ → May
-one_word w = record { forks = λ r. Unit {0}; begins = λ r. Unit {0}; stores = λ a. a ≡ w; trades = λ a. a ≡ w }
+one_word w = record { forks = λ r. Unit {0}; begins = λ r. Unit {0}; stores = λ a. a ≡ w; trades = λ a. a ≡ w; jobs = λ r. Unit {0} }
 
 -- none is exchanged
 abbrev no_trades : May
-no_trades = record { forks = λ r. Unit {0}; begins = λ r. Unit {0}; stores = λ a. Unit {0}; trades = λ a. ⊥ }
+no_trades = record { forks = λ r. Unit {0}; begins = λ r. Unit {0}; stores = λ a. Unit {0}; trades = λ a. ⊥; jobs = λ r. Unit {0} }
 
 -- no block word is changed
 abbrev no_words : May
-no_words = record { forks = λ r. Unit {0}; begins = λ r. Unit {0}; stores = λ a. ⊥; trades = λ a. ⊥ }
+no_words = record { forks = λ r. Unit {0}; begins = λ r. Unit {0}; stores = λ a. ⊥; trades = λ a. ⊥; jobs = λ r. Unit {0} }
 
 -- one block alone is forked
 abbrev one_fork : ℕ → May
-one_fork b = record { forks = λ r. r ≡ b; begins = λ r. Unit {0}; stores = λ a. Unit {0}; trades = λ a. Unit {0} }
+one_fork b = record { forks = λ r. r ≡ b; begins = λ r. Unit {0}; stores = λ a. Unit {0}; trades = λ a. Unit {0}; jobs = λ r. Unit {0} }
 
 -- by how the takeover is
-places_row : (how : Takeover) (may : May) (row : Row) → TameRow may row → TameRow may (by_places how row)
+pub places_row : (how : Takeover) (may : May) (row : Row) → TameRow may row → TameRow may (by_places how row)
 places_row ByPlaces may row q = q
 places_row ByEntries may row q = tt
 
@@ -124,7 +124,7 @@ module _ (s : Shape) (code : CodeParts) (places : s.takeover ≡ ByPlaces) (fair
   In c seat row = Within s code root input state h forked taken t run c seat row
 
   -- what a row of a looking kind comes to
-  looked : (may : May) (c : ℕ) (seat : Seat) (row : Row) (k : RestartKind) → IsLooking k → seat.restart.kind ≡ k → TameRow may (row_of s seat k) → In c seat row → TameRow may row
+  pub looked : (may : May) (c : ℕ) (seat : Seat) (row : Row) (k : RestartKind) → IsLooking k → seat.restart.kind ≡ k → TameRow may (row_of s seat k) → In c seat row → TameRow may row
   looked may c seat row k look e q w = by w.seen
     where
       none : (k : RestartKind) → IsLooking k → IsStrand k → ⊥
@@ -144,10 +144,10 @@ module _ (s : Shape) (code : CodeParts) (places : s.takeover ≡ ByPlaces) (fair
       by (Looks v ws fit is saw) = subst (TameRow may) is (rest_tame s places seat may v (row_of s seat seat.restart.kind) ws (subst (λ (a : RestartKind). TameRow may (row_of s seat a)) (sym e) q))
 
   -- what a strand's row comes to
-  reached : (may : May) (seat : Seat) (n : ℕ) (first rest : Row) → TameRow may first → Reach i m seat n first rest → TameRow may rest
+  pub reached : (may : May) (seat : Seat) (n : ℕ) (first rest : Row) → TameRow may first → Reach i m seat n first rest → TameRow may rest
   reached may seat n first rest q e = reach_tame i places seat may m n first rest q e
 
-  push_row : (may : May) (seat : Seat) (r : ℕ) → may.stores (r + 1) → TameRow may (row_of s seat (Push1 r))
+  pub push_row : (may : May) (seat : Seat) (r : ℕ) → may.stores (r + 1) → TameRow may (row_of s seat (Push1 r))
   push_row may seat r q = by (seat.restart.bottom + 1 == s.slots) s.takeover
     where
       by : (last : Bool) (how : Takeover) → TameRow may (push_at seat how r last)
@@ -219,7 +219,7 @@ module _ (s : Shape) (code : CodeParts) (places : s.takeover ≡ ByPlaces) (fair
       pushed_at r q g g.stand refl (z.kind q) push g.match
 
   -- what the tickets say of one that is pushed
-  pushing_kind : (r q : ℕ) → h r ≡ Pushing q → (z.kind q ≡ Push1 r) ⊎ (z.kind q ≡ Push2 r)
+  pub pushing_kind : (r q : ℕ) → h r ≡ Pushing q → (z.kind q ≡ Push1 r) ⊎ (z.kind q ≡ Push2 r)
   pushing_kind r q e =
       let estate = run.lawful.1.board in
       let real = estate.board.real r in

@@ -177,17 +177,17 @@ module _ (s : Shape) (code : CodeParts) (places : s.takeover ≡ ByPlaces) (stat
   abbrev b : ℕ → ℕ
   b = spots.bottoms s state.words
 
-  abbrev estate : Estate (Closed s.takeover m) m k b h
+  abbrev pub estate : Estate (Closed s.takeover m) m k b h
   estate = lawful.1.board
 
   -- no entry was inherited, and no place was followed
   open_ : (u : ℕ) → Closed s.takeover m u → ⊥
   open_ u z = subst (λ (how : Takeover). Closed how m u) places z
 
-  ghost_is : (u x : ℕ) → estate.ghost (Slot u x) ≡ m (Slot u x)
+  pub ghost_is : (u x : ℕ) → estate.ghost (Slot u x) ≡ m (Slot u x)
   ghost_is u x = (as_open (estate.covers.slots u x) (open_ u)).0
 
-  not_gone : (u : ℕ) → estate.gone u ≡ false
+  pub not_gone : (u : ℕ) → estate.gone u ≡ false
   not_gone u = elim (cases_Bool (estate.gone u)) [
     | inr e ↦ e
     | inl e ↦

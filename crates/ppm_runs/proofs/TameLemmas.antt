@@ -46,25 +46,28 @@ abbrev pub IsJobEntry : Entry → Type 0
 IsJobEntry (Job tag block) = Unit {0}
 IsJobEntry _ = ⊥
 
--- what a row may fork, begin, store and exchange of blocks
+-- what a row may fork, begin, store and exchange of blocks, and of which it may make a job
 pub record May : Type 1 where
   pub forks : ℕ → Type 0
   pub begins : ℕ → Type 0
   pub stores : ℕ → Type 0
   pub trades : ℕ → Type 0
+  pub jobs : ℕ → Type 0
 
 module _ (may : May) where
   abbrev pub TameStore : Cell → Type 0
   TameStore (BlockWord at) = may.stores at
   TameStore _ = Unit {0}
 
-  abbrev pub TameTrade : Cell → Type 0
-  TameTrade (BlockWord at) = may.trades at
-  TameTrade _ = Unit {0}
+  abbrev pub TameTrade : Cell → (new : Content) → Type 0
+  TameTrade (BlockWord at) x = may.trades at
+  TameTrade (EntryWord v i) (AnEntry (Job tag block)) = may.jobs block
+  TameTrade _ x = Unit {0}
 
   -- what a load that comes next may come to
   abbrev pub TamePoint : Point → Type 0
   TamePoint (BumpLink block) = may.forks block
+  TamePoint (PushBottom block) = may.jobs block
   TamePoint (UnwindLink frame) = (at : ℕ) → may.stores at
   TamePoint (UnwindOutcome frame link) = (at : ℕ) → may.stores at
   TamePoint (Target frame to copy right_of) = (at : ℕ) → may.stores at
@@ -93,7 +96,7 @@ module _ (may : May) where
   abbrev pub TameRow : Row → Type 0
   TameRow (Now next) = TameThen next
   TameRow (Store c x next) = TameStore c × TameThen next
-  TameRow (Exchange c old new next) = TameTrade c × TameThen next
+  TameRow (Exchange c old new next) = TameTrade c new × TameThen next
 
 module _ (s : Shape) (places : s.takeover ≡ ByPlaces) (seat : Seat) (may : May) where
   abbrev T : Row → Type 0
@@ -128,17 +131,56 @@ module _ (s : Shape) (places : s.takeover ≡ ByPlaces) (seat : Seat) (may : May
   if_tame true a c f g = f
   if_tame false a c f g = g
 
-  tried_tame : (v i : ℕ) (old : Entry) (a : Option Entry) (next : Then) → TameThen may next → T (tried (EntryWord v i) old a next)
-  tried_tame v i old None next q = q
-  tried_tame v i old (Some new) next q = by (nat_lt (tag_of old + 1) (2 ^ 34))
+  -- an entry that is made is no job, or one that may be
+  abbrev Makes : Option Entry → Type 0
+  Makes (Some (Job t x)) = may.jobs x
+  Makes _ = Unit {0}
+
+  made : (v i : ℕ) (new : Entry) → Makes (Some new) → TameTrade may (EntryWord v i) (AnEntry new)
+  made v i (Job t x) k = k
+  made v i (Empty t) k = tt
+  made v i (Local t x) k = tt
+  made v i (Taken t x) k = tt
+
+  above_makes : (e : Entry) → Makes (pushed_above e)
+  above_makes (Empty t) = tt
+  above_makes (Local t x) = tt
+  above_makes (Job t x) = tt
+  above_makes (Taken t x) = tt
+
+  bottom_makes : (block : ℕ) → may.jobs block → (e : Entry) → Makes (pushed_job e block)
+  bottom_makes block q (Empty t) = tt
+  bottom_makes block q (Local t x) = q
+  bottom_makes block q (Job t x) = tt
+  bottom_makes block q (Taken t x) = tt
+
+  pop_makes : (e : Entry) → Makes (popped_above e)
+  pop_makes (Empty t) = tt
+  pop_makes (Local t x) = tt
+  pop_makes (Job t x) = tt
+  pop_makes (Taken t x) = tt
+
+  steal_makes : (how : Takeover) (p : ℕ) (e : Entry) → Makes (taken_so how p e)
+  steal_makes ByPlaces p (Empty t) = tt
+  steal_makes ByPlaces p (Local t x) = tt
+  steal_makes ByPlaces p (Job t x) = tt
+  steal_makes ByPlaces p (Taken t x) = tt
+  steal_makes ByEntries p (Empty t) = tt
+  steal_makes ByEntries p (Local t x) = tt
+  steal_makes ByEntries p (Job t x) = tt
+  steal_makes ByEntries p (Taken t x) = tt
+
+  tried_tame : (v i : ℕ) (old : Entry) (a : Option Entry) (next : Then) → Makes a → TameThen may next → T (tried (EntryWord v i) old a next)
+  tried_tame v i old None next k q = q
+  tried_tame v i old (Some new) next k q = by (nat_lt (tag_of old + 1) (2 ^ 34))
     where
       by : (y : Bool) → T (raised (EntryWord v i) old new next y)
-      by true = (tt, q)
+      by true = (made v i new k, q)
       by false = tt
 
-  changed_tame : (v i : ℕ) (old : Entry) (a : Option Entry) (next : Then) → TameThen may next → T (changed (EntryWord v i) old a next)
-  changed_tame v i old None next q = tt
-  changed_tame v i old (Some new) next q = tried_tame v i old (Some new) next q
+  changed_tame : (v i : ℕ) (old : Entry) (a : Option Entry) (next : Then) → Makes a → TameThen may next → T (changed (EntryWord v i) old a next)
+  changed_tame v i old None next k q = tt
+  changed_tame v i old (Some new) next k q = tried_tame v i old (Some new) next k q
 
   after_tame : (to copy : ℕ) (right_of : Option ℕ) → ((at : ℕ) → may.stores at) → TameThen may (after_value seat to copy right_of)
   after_tame to copy None q = tt
@@ -187,7 +229,7 @@ module _ (s : Shape) (places : s.takeover ≡ ByPlaces) (seat : Seat) (may : May
   get_back_tame : (entry : Entry) → T (get_back seat entry)
   get_back_tame (Empty t) = tt
   get_back_tame (Local t x) = tt
-  get_back_tame (Job t x) = tried_tame seat.place (seat.restart.bottom - 1) (Job t x) (Some (Local (t + 1) x)) _ tt
+  get_back_tame (Job t x) = tried_tame seat.place (seat.restart.bottom - 1) (Job t x) (Some (Local (t + 1) x)) _ tt tt
   get_back_tame (Taken t x) = tt
 
   got_back_tame : (block : ℕ) (entry : Entry) → may.begins block → T (got_back seat block entry)
@@ -245,8 +287,8 @@ module _ (s : Shape) (places : s.takeover ≡ ByPlaces) (seat : Seat) (may : May
   found_tame u (Header frame copy) w q = on_numbers w _ (λ n. tt)
   found_tame u (BumpLink block) w q = on_links w _ (λ l. bumped_tame block l.size l.kind q)
   found_tame u (PushOrder block) w q = on_numbers w _ (λ n. if_tame (n == both) _ _ tt tt)
-  found_tame u (PushAbove block) w q = on_entries w _ (λ e. tried_tame seat.place (seat.restart.bottom + 1) e (pushed_above e) _ tt)
-  found_tame u (PushBottom block) w q = on_entries w _ (λ e. tried_tame seat.place seat.restart.bottom e (pushed_job e block) _ tt)
+  found_tame u (PushAbove block) w q = on_entries w _ (λ e. tried_tame seat.place (seat.restart.bottom + 1) e (pushed_above e) _ (above_makes e) tt)
+  found_tame u (PushBottom block) w q = on_entries w _ (λ e. tried_tame seat.place seat.restart.bottom e (pushed_job e block) _ (bottom_makes block q e) tt)
   found_tame u (UnwindLink frame) w q = on_links w _ (λ l. unwind_tame frame l.kind q)
   found_tame u (UnwindOutcome frame link) w q = on_outcomes w _ (λ o. unwound_tame frame link o q)
   found_tame u (Target frame to copy right_of) w q = on_numbers w _ (λ n. target_tame frame to copy right_of n q)
@@ -259,13 +301,13 @@ module _ (s : Shape) (places : s.takeover ≡ ByPlaces) (seat : Seat) (may : May
   found_tame u (Offset block low) w q = on_numbers w _ (λ n. if_tame (nat_lt (block + n) (word_count s)) _ _ q tt)
   found_tame u PopBelow w q = on_entries w _ get_back_tame
   found_tame u (PopAgain block) w q = on_entries w _ (λ e. got_back_tame block e q)
-  found_tame u (PopAbove block) w q = on_entries w _ (λ e. tried_tame seat.place seat.restart.bottom e (popped_above e) _ q)
+  found_tame u (PopAbove block) w q = on_entries w _ (λ e. tried_tame seat.place seat.restart.bottom e (popped_above e) _ (pop_makes e) q)
   found_tame u SeekHolder w q = on_holders w _ (λ o. if_tame (u == seat.place) _ _ tt (by_tame u o s.takeover))
   found_tame u (SeekDead v holder) w q = on_numbers w _ (λ n. if_tame (n == 1) _ _ (bids_tame v holder (nat_lt (holder.tag + 1) (2 ^ 58))) tt)
   found_tame u (SeekTop v) w q = on_numbers w _ (λ n. if_tame (nat_lt n s.slots) _ _ tt tt)
   found_tame u (SeekEntry v i) w q = on_entries w _ (seek_entry_tame v i)
   found_tame u (SeekClosed v i entry) w q = on_numbers w _ (λ n. if_tame (n == 1) _ _ (tt, tt) tt)
-  found_tame u (StealMessage v i) w q = on_entries w _ (λ e. changed_tame v i e (taken_so s.takeover seat.place e) _ tt)
+  found_tame u (StealMessage v i) w q = on_entries w _ (λ e. changed_tame v i e (taken_so s.takeover seat.place e) _ (steal_makes s.takeover seat.place e) tt)
   found_tame u (TakenMessage by v i) w q = on_entries w _ (λ e. message_tame s.takeover places by v i e q)
   found_tame u (TakenEntry by v i message) w q = on_entries w _ (λ e. if_tame (took by message e) _ _ (goes_on_tame v i message q.0 q.1) tt)
   found_tame u (ClosedRestart v i block) w q = absurd q

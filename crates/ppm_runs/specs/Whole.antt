@@ -1,4 +1,4 @@
--- Whole runs: what each of them comes to, once each turn leads from one state of a run to the next.
+-- Whole runs: each turn leads from one state of a run to the next, and what all of them come to.
 use Rattle.std.specs.Prelude.{◌≡◌, ◌⊎◌, ℕ, List, [], ◌++◌, Some}
 use Rattle.std.specs.List.{AllByRecursion}
 use Rattle.ppm_strands.specs.Tree.{Words, Tree}
@@ -64,16 +64,10 @@ JoinsStay = (s : Shape) (code : CodeParts) → s.takeover ≡ ByPlaces → IsFai
     → IsKept (image s code) root input (places_of s (happens s code state turn)) (tree_after (image s code) state turn t)
     → AreJoined s (happens s code state turn) (by_act s state.words turn.act (stand_of state turn.processor) h) (tree_after (image s code) state turn t)
 
--- then turns lead on
-abbrev pub JoinsLead : Type 0
-JoinsLead = JoinsStay → TurnsLead
-
 -- From an image of a sound code, whatever the turns, faults among them: where the finish word says an
--- outcome the depth-first run of the root ends so, and each branch that was forked was taken once. That
--- turns lead on comes of `JoinsStay`, which is still to be shown.
+-- outcome the depth-first run of the root ends so, and each branch that was forked was taken once
 abbrev pub RunsComeTo : Type 0
-RunsComeTo = TurnsLead
-    → (code : CodeParts) (input : List NamedArray) (s : Shape) (keeper : ℕ) (image : RealImage)
+RunsComeTo = (code : CodeParts) (input : List NamedArray) (s : Shape) (keeper : ℕ) (image : RealImage)
     → s.takeover ≡ ByPlaces → IsFair code → Opens code input s keeper image
     → Calm (strands s code) (root_strand code input) (arrays_at (view s image.words))
     → (turns : List Turn) → AllByRecursion (IsTurnAmong s.processors) turns

@@ -2,7 +2,7 @@
 ghost use Rattle.ppm_runs.specs.Laws.{BirthsFollow, BrokenFollow, TakersHave, TurnsAreOrderly, TurnsGoOn};
 ghost use Rattle.ppm_runs.specs.Openings.{RunsOpen};
 ghost use Rattle.ppm_runs.specs.Outcomes.{RunsEnd, StopsStay};
-ghost use Rattle.ppm_runs.specs.Whole.{JoinsLead, RunsComeTo};
+ghost use Rattle.ppm_runs.specs.Whole.{JoinsStay, RunsComeTo, TurnsLead};
 
 /// With takeover by places each turn is orderly in a state of a run: block words that it changes
 /// are those of pools, a block that it forks was not forked before, and a branch that it begins
@@ -47,11 +47,12 @@ pub fn stops_stay()
     ensures law { StopsStay }
 {}
 
-/// From an image of a sound code, whatever the turns: where the finish word says an outcome the
-/// depth-first run of the root ends so, and each branch that was forked was taken once, if each turn
-/// leads from one state of a run to the next. It does where what joins the two halves of such a
-/// state stays so, which is still to be shown.
+/// With takeover by places, from an image of a sound code, whatever the turns: where the finish word
+/// says an outcome the depth-first run of the root ends so, and each branch that was forked was taken
+/// once. Each turn leads from one state of a run to the next, as what joins the two halves of such a
+/// state stays so.
 pub fn runs_come_to()
     ensures law { RunsComeTo }
-    ensures joins { JoinsLead }
+    ensures leads { TurnsLead }
+    ensures joins { JoinsStay }
 {}

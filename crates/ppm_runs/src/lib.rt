@@ -5,8 +5,8 @@
 //! turn owes the tickets nothing that the frames don't show, and words are lawful and kept after it,
 //! or the run was stopped (`specs/Laws`); at an outcome all is as the depth-first run has it
 //! (`specs/Outcomes`).
-//! Stands on `ppm_tickets` and `ppm_kept`. Of `IsRun` after a turn three clauses are still missing:
-//! that the fates of branches agree with the tree (`agrees`), and what is held (`last`, `ready`).
+//! So each turn leads from one such state to the next, and whole runs come to what the depth-first
+//! run does (`specs/Whole`). Stands on `ppm_tickets` and `ppm_kept`.
 //! After the scheduler of Blelloch et al., SPAA 2018.
 #![tactic(auto)]
 

@@ -1,0 +1,880 @@
+-- What has come of each right branch and the tree agree after each turn, with takeover by places.
+use Rattle.std.proofs.Common.{◌≡◌, ◌≢◌, ◌⊎◌, ◌<◌, ◌≤◌, ℕ, zero, suc, ◌+◌, ◌-◌, ◌==◌, Bool, true, false, if◌then◌else◌, cond, List, [], ◌∷◌, ◌++◌, inl, inr, refl, sym, ap, ◌∙◌, subst, subst₂, arith}
+use Rattle.std.specs.Prelude.{nat_lt, ◌^◌}
+use Rattle.std.proofs.Math.Path.{fun_ext}
+use Rattle.std.proofs.lemmas.Bool.{cases_eq, eqb-true, eq-eqb}
+use Rattle.ppm_strands.specs.Tree.{Words, Tree}
+use Rattle.ppm_cells.specs.Entry.{IsEntry}
+use Rattle.ppm_cells.specs.Fields.{Fit}
+use Rattle.ppm_cells.specs.Memory.{read}
+use Rattle.ppm_cells.specs.Restart.{address_fields}
+use Rattle.ppm_cells.specs.declared.restart.Restart.{Restart}
+use Rattle.ppm_cells.specs.declared.cell.Cell.{Cell}
+use Rattle.ppm_cells.specs.declared.cell.Cell.TheVariants.{FinishWord, RestartWord, RoomCounter, EntryWord, BlockWord, ArrayWord}
+use Rattle.ppm_cells.specs.declared.entry.Entry.{Entry}
+use Rattle.ppm_cells.specs.declared.entry.Entry.TheVariants as entries
+use Rattle.ppm_cells.specs.declared.link.LinkKind.{LinkKind}
+use Rattle.ppm_cells.specs.declared.link.LinkKind.TheVariants.{Root, Call as Called, Branch, Fork as Forked}
+use Rattle.ppm_cells.specs.declared.restart.RestartKind.{RestartKind}
+use Rattle.ppm_cells.specs.declared.restart.RestartKind.TheVariants.{Run, Bump, Push1, Push2, Unwind, Arrive, Join, Pop1, Pop2, Seek, Steal, Check, Take, Take2}
+use Rattle.ppm_cells.specs.declared.shape.Shape.{Shape}
+use Rattle.ppm_cells.specs.declared.shape.Takeover.{Takeover}
+use Rattle.ppm_cells.specs.declared.shape.Takeover.TheVariants.{ByPlaces, ByEntries}
+use Rattle.ppm_cells.specs.declared.side.Side.{Side}
+use Rattle.ppm_capsules.specs.Strand.{Frame}
+use Rattle.ppm_code.specs.Strands.{Point, Result}
+use Rattle.ppm_code.specs.declared.code.CodeParts.{CodeParts}
+use Rattle.ppm_code.specs.declared.location.FrameWord.{FrameWord}
+use Rattle.ppm_step.specs.Contents.{content_of, word_of}
+use Rattle.ppm_step.specs.There.{is_there}
+use Rattle.ppm_step.proofs.ThereLemmas.{restart_fits}
+use Rattle.ppm_step.specs.declared.content.Reading.{Reading}
+use Rattle.ppm_step.specs.declared.content.Reading.TheVariants.{AsNumber, AsRestart, AsEntry, AsHolder, AsLink, AsFinish}
+use Rattle.ppm_step.specs.Rows.{row_of, found_at, raised, push_at}
+use Rattle.ppm_step.specs.Among.{IsTurnAmong}
+use Rattle.ppm_step.specs.Standings.{Standing, IsWithin}
+use Rattle.ppm_step.specs.State.{State as RunState, stand_of, happens, step_by, row_by, fork_row}
+use Rattle.ppm_step.specs.declared.turn.Act.{Act}
+use Rattle.ppm_step.specs.declared.turn.Turn.{Turn}
+use Rattle.ppm_step.specs.declared.content.Content.{Content}
+use Rattle.ppm_step.specs.declared.content.Content.TheVariants.{AnEntry}
+use Rattle.ppm_step.specs.declared.row.Point.TheVariants.{PushBottom, PushAbove}
+use Rattle.ppm_step.specs.declared.row.Row.{Row}
+use Rattle.ppm_step.specs.declared.row.Row.TheVariants.{Now, Store, Exchange}
+use Rattle.ppm_step.specs.declared.row.Seat.{Seat}
+use Rattle.ppm_step.specs.declared.row.Then.{Then}
+use Rattle.ppm_step.specs.declared.row.Then.TheVariants.{Load, Install, Fork, Begin, Move, Enter, Again, Broken}
+use Rattle.ppm_tickets.specs.Along.{by_words, by_row, by_install as home_install}
+use Rattle.ppm_tickets.specs.Homes.{Home, Unborn, Pushing, Listed, Popping, Stolen, Inline, Begun}
+use Rattle.ppm_tickets.specs.Lawful.{IsLocal, Pushes, AtBottom}
+use Rattle.ppm_tickets.specs.Saw.{IsQuietCell, IsQuiet, AreFit, HasSeen, Strand, Looks, IsStrand, rest_of}
+use Rattle.ppm_tickets.specs.View as spots
+use Rattle.ppm_tickets.specs.View.{content_by}
+use Rattle.ppm_tickets.specs.Words.{has, Word, Empty, Local, Job, Taken, Held as HeldBy, Number, Linked, Restarts, Unread, Spot, Slot, put}
+use Rattle.ppm_tickets.proofs.EntryLemmas.{MayChange}
+use Rattle.ppm_tickets.proofs.QuietLemmas.{few_words, begun_quiet, rest_quiet}
+use Rattle.ppm_tickets.proofs.ViewLemmas.{shows, again, shown_cell}
+use Rattle.ppm_tickets.proofs.WalkLemmas.{Walk, FairRow, found_fair, begun_fair}
+use Rattle.ppm_tickets.proofs.WriteLemmas.{put_here, put_else}
+use Rattle.ppm_frames.specs.Views.{is_cell}
+use Rattle.ppm_frames.specs.Skeletons.{Stand, Who, InPlace, Fresh, Held, Waiting, Came, Inlined, Skeleton, Leaf, Calling, Forking, grow, pushed, over_left, take_in, count}
+use Rattle.ppm_kept.specs.Running.{IsFair}
+use Rattle.ppm_kept.specs.Kept.{Image, seat_at, InRow, State, Does, IsKept}
+use Rattle.ppm_kept.specs.Kept as kept
+use Rattle.ppm_kept.specs.Kept.{InRest}
+use Rattle.ppm_kept.specs.Births.{floor, Births}
+use Rattle.ppm_kept.specs.Moves.{by_install, opened}
+use Rattle.ppm_frames.specs.Good.{link_at}
+use Rattle.ppm_kept.proofs.OwnerLemmas.{owned}
+use Rattle.ppm_runs.proofs.BearingLemmas.{births_follow}
+use Rattle.ppm_kept.specs.Fates.{Fate, Agrees, FatesStay}
+use Rattle.ppm_kept.specs.Fates as fates
+use Rattle.ppm_kept.specs.Branches.{is_taker}
+use Rattle.ppm_kept.specs.Others.{IsIdle}
+use Rattle.ppm_kept.specs.Places.{places_of}
+use Rattle.ppm_kept.specs.Pushing.{kind_seat}
+use Rattle.ppm_kept.specs.Steps.{tree_by, tree_after, by_end, by_store, by_exchange}
+use Rattle.ppm_kept.specs.Laws.{kind_then}
+use Rattle.ppm_kept.specs.Returns.{by_unwind}
+use Rattle.ppm_kept.specs.Arriving.{by_arrive}
+use Rattle.ppm_kept.specs.Joins.{by_join}
+use Rattle.ppm_kept.specs.Unruns.{HasUnrun, SameUnruns, OneChanges, IsNone, Is, UnrunsStay}
+use Rattle.ppm_kept.proofs.PutLemmas as kept_puts
+use Rattle.ppm_kept.proofs.FateLemmas.{fates_stay, fates_show}
+use Rattle.ppm_kept.proofs.UnrunLemmas.{unruns_stay}
+use Rattle.ppm_kept.proofs.UnwindRow.{unwind_row_keeps}
+use Rattle.ppm_kept.proofs.ArriveRow.{arrive_row_keeps}
+use Rattle.ppm_kept.proofs.JoinLastRow.{join_row_keeps}
+use Rattle.ppm_kept.proofs.LoadLemmas.{bump_exchanges_none}
+use Rattle.ppm_kept.proofs.LookLemmas.{LookRow, comes_look, look_begins}
+use Rattle.ppm_kept.proofs.StepRows.{came_idle}
+use Rattle.ppm_runs.specs.Run.{image, fate_of, IsAtLast, IsRun}
+use Rattle.ppm_runs.proofs.ShownLemmas.{Within}
+use Rattle.ppm_runs.proofs.TameLemmas.{May, TameThen, TameTrade, TameRow}
+use Rattle.ppm_runs.proofs.OrderlyLemmas.{places_row, looked, reached, push_row, forks_new}
+use Rattle.ppm_runs.proofs.StandLemmas.{kinds_same}
+use Rattle.ppm_runs.proofs.TakerLemmas.{takers_have, ghost_is, not_gone}
+use Rattle.ppm_runs.proofs.GoingLemmas.{came_by}
+
+-- no fork, no begin and no job
+abbrev calm : May
+calm = record { forks = λ r. ⊥; begins = λ r. ⊥; stores = λ a. Unit {0}; trades = λ a. Unit {0}; jobs = λ r. ⊥ }
+
+-- and of those, begins alone, or one fork, or one job
+abbrev calm_begins : May
+calm_begins = record { forks = λ r. ⊥; begins = λ r. Unit {0}; stores = λ a. Unit {0}; trades = λ a. Unit {0}; jobs = λ r. ⊥ }
+
+abbrev calm_forks : ℕ → May
+calm_forks b = record { forks = λ r. r ≡ b; begins = λ r. ⊥; stores = λ a. Unit {0}; trades = λ a. Unit {0}; jobs = λ r. ⊥ }
+
+abbrev calm_jobs : ℕ → May
+calm_jobs b = record { forks = λ r. ⊥; begins = λ r. ⊥; stores = λ a. Unit {0}; trades = λ a. Unit {0}; jobs = λ r. r ≡ b }
+
+-- spots that are no entries leave all homes
+abbrev IsNoSlot : Spot → Type 0
+IsNoSlot (Slot v j) = ⊥
+IsNoSlot _ = Unit {0}
+
+abbrev IsNoEntry : Cell → Type 0
+IsNoEntry (EntryWord v j) = ⊥
+IsNoEntry _ = Unit {0}
+
+no_slot : (rd : Reading) (cell : Cell) → IsNoEntry cell → IsNoSlot (spots.spot rd cell)
+no_slot AsEntry (EntryWord v j) n = absurd n
+no_slot AsEntry _ n = tt
+no_slot AsNumber FinishWord n = tt
+no_slot AsNumber _ n = tt
+no_slot AsRestart FinishWord n = tt
+no_slot AsRestart _ n = tt
+no_slot AsHolder FinishWord n = tt
+no_slot AsHolder _ n = tt
+no_slot AsLink FinishWord n = tt
+no_slot AsLink _ n = tt
+no_slot AsFinish FinishWord n = tt
+no_slot AsFinish _ n = tt
+
+unmoved : (p : ℕ) (d : Spot) (old new : Word) (h : ℕ → Home) → IsNoSlot d → by_words p d old new h ≡ h
+unmoved p (Slot v j) old new h n = absurd n
+unmoved p _ old new h n = refl
+
+framed : (s : Shape) (cell : Cell) → is_cell s cell ≡ true → IsNoEntry cell
+framed s (EntryWord v j) e = absurd (cc)
+framed s _ e = tt
+
+quiet_change : (how : Takeover) (cell : Cell) (old new : Content) → IsQuietCell cell → MayChange how cell old new
+quiet_change how FinishWord old new q = tt
+quiet_change how (RoomCounter a) old new q = tt
+quiet_change how (BlockWord a) old new q = tt
+quiet_change how (ArrayWord a) old new q = tt
+quiet_change how _ old new q = absurd q
+
+changed_fit : (how : Takeover) (v j : ℕ) (e : Entry) (new : Content) → MayChange how (EntryWord v j) (AnEntry e) new → IsEntry e
+changed_fit how v j e (AnEntry n) q = q.1
+changed_fit how v j e _ q = absurd q
+
+-- no restart word
+abbrev pub IsNoRestart : Cell → Type 0
+IsNoRestart (RestartWord p) = ⊥
+IsNoRestart _ = Unit {0}
+
+pub quiet_restart : (cell : Cell) → IsQuietCell cell → IsNoRestart cell
+quiet_restart (RestartWord p) q = absurd q
+quiet_restart _ q = tt
+
+abbrev AnyPut : Cell → Content → Type 0
+AnyPut c x = IsNoRestart c
+
+abbrev Changing : Takeover → Cell → (old new : Content) → Type 0
+Changing how c old new = MayChange how c old new × IsNoRestart c
+
+any_walk : (how : Takeover) (seat : Seat) → Walk how AnyPut (Changing how) seat
+any_walk how seat = record {
+  counter = λ x. tt;
+  block = λ a x. tt;
+  message = λ x. tt;
+  finish = λ x y. (tt, tt);
+  order = λ a x y. (tt, tt);
+  top = λ v x y. (tt, tt);
+  entry = λ v j a b law f g. ((law, f, g), tt);
+  holder = λ e v x y. (tt, tt);
+}
+
+-- what a row that has seen these words exchanges
+rest_fair : (s : Shape) (seat : Seat) → seat.place < 64 → (v : ℕ) (row : Row) (ws : List Word) → AreFit ws → FairRow s.takeover AnyPut (Changing s.takeover) row → FairRow s.takeover AnyPut (Changing s.takeover) (rest_of s seat v row ws)
+rest_fair s seat small v row [] fit f = f
+rest_fair s seat small v (Now (Load point)) (w ∷ ws) fit f = rest_fair s seat small v (found_at s seat v point (content_by w)) ws fit.1 (found_fair s AnyPut (Changing s.takeover) seat (any_walk s.takeover seat) small v point (content_by w) f fit.0)
+rest_fair s seat small v (Now (Install x)) (w ∷ ws) fit f = tt
+rest_fair s seat small v (Now (Fork x)) (w ∷ ws) fit f = tt
+rest_fair s seat small v (Now (Begin x y y')) (w ∷ ws) fit f = tt
+rest_fair s seat small v (Now (Move x)) (w ∷ ws) fit f = tt
+rest_fair s seat small v (Now (Enter x)) (w ∷ ws) fit f = tt
+rest_fair s seat small v (Now Again) (w ∷ ws) fit f = tt
+rest_fair s seat small v (Now Broken) (w ∷ ws) fit f = tt
+rest_fair s seat small v (Store c x next) (w ∷ ws) fit f = rest_fair s seat small v (Now next) ws fit.1 f.1
+rest_fair s seat small v (Exchange c old new next) (w ∷ ws) fit f = rest_fair s seat small v (Now next) ws fit.1 f.1
+
+-- a kind that pushes
+abbrev pub IsPush : RestartKind → Type 0
+IsPush (Push1 r) = Unit {0}
+IsPush (Push2 r) = Unit {0}
+IsPush _ = ⊥
+
+-- a kind that runs a frame
+abbrev pub IsRunKind : RestartKind → Type 0
+IsRunKind (Run f y) = Unit {0}
+IsRunKind _ = ⊥
+
+-- the exchange of Push2: the local entry at the bottom becomes the job
+record Offers (p b r : ℕ) (cell : Cell) (old new : Content) : Type 0 where
+  pub tag : ℕ
+  pub low : ℕ
+  pub at : cell ≡ EntryWord p b
+  pub was : old ≡ AnEntry (entries.Local tag low)
+  pub makes : new ≡ AnEntry (entries.Job (tag + 1) r)
+
+abbrev PushesSo : (p b r : ℕ) → Row → Type 0
+PushesSo p b r (Exchange cell old new next) = Offers p b r cell old new
+PushesSo p b r (Now (Install re)) = IsRunKind re.kind
+PushesSo p b r _ = Unit {0}
+
+module _ (s : Shape) (seat : Seat) (v r : ℕ) where
+  abbrev So : Row → List Word → Type 0
+  So row ws = PushesSo seat.place seat.restart.bottom r (rest_of s seat v row ws)
+
+  left_so : (low : ℕ) (ws : List Word) → So (Now (Install (record { kind = Run (r + 5) 0; bottom = low }))) ws
+  left_so low [] = tt
+  left_so low (w ∷ ws) = tt
+
+  broken_is : (ws : List Word) → So (Now Broken) ws
+  broken_is [] = tt
+  broken_is (w ∷ ws) = tt
+
+  push2_so : (ws : List Word) → So (Now (Load (PushBottom r))) ws
+  push2_so [] = tt
+  push2_so (Local t0 x ∷ ws) = by (nat_lt (t0 + 1) (2 ^ 34)) ws
+    where
+      by : (y : Bool) (ws : List Word) → So (raised (EntryWord seat.place seat.restart.bottom) (entries.Local t0 x) (entries.Job (t0 + 1) r) (Install (record { kind = Run (r + 5) 0; bottom = seat.restart.bottom + 1 })) y) ws
+      by true [] = record { tag = t0; low = x; at = refl; was = refl; makes = refl }
+      by true (w ∷ ws) = left_so _ ws
+      by false ws = broken_is ws
+  push2_so (Empty t0 ∷ ws) = left_so _ ws
+  push2_so (Job t0 x ∷ ws) = left_so _ ws
+  push2_so (Taken t0 x ∷ ws) = left_so _ ws
+  push2_so (Number n ∷ ws) = broken_is ws
+  push2_so (HeldBy n y ∷ ws) = broken_is ws
+  push2_so (Linked n ∷ ws) = broken_is ws
+  push2_so (Restarts n y ∷ ws) = broken_is ws
+  push2_so (Unread ∷ ws) = broken_is ws
+
+pushing_place : {p q : ℕ} → Pushing p ≡ Pushing q → p ≡ q
+pushing_place e = ap place_told e
+  where
+    place_told : Home → ℕ
+    place_told (Pushing p) = p
+    place_told _ = 0
+
+-- the row of Push1 at the last slot, and at another
+abbrev pub LastSo : Row → Type 0
+LastSo (Now (Install re)) = IsRunKind re.kind
+LastSo (Now (Load x)) = ⊥
+LastSo (Exchange cell old new next) = ⊥
+LastSo _ = Unit {0}
+
+abbrev pub AboveThen : (b r : ℕ) → Then → Type 0
+AboveThen b r (Install re) = (re.kind ≡ Push2 r) × (re.bottom ≡ b)
+AboveThen b r _ = Unit {0}
+
+abbrev pub AboveSo : (b r : ℕ) → Row → Type 0
+AboveSo b r (Now next) = AboveThen b r next
+AboveSo b r (Exchange cell old new next) = AboveThen b r next
+AboveSo b r (Store cell content next) = ⊥
+
+module _ (s : Shape) (seat : Seat) (v r : ℕ) where
+  last_so : (ws : List Word) → LastSo (rest_of s seat v (push_at seat ByPlaces r true) ws)
+  last_so [] = tt
+  last_so (w ∷ []) = tt
+  last_so (w ∷ x ∷ ws) = tt
+
+  abbrev Ab : Row → List Word → Type 0
+  Ab row ws = AboveSo seat.restart.bottom r (rest_of s seat v row ws)
+
+  broken_ab : (ws : List Word) → Ab (Now Broken) ws
+  broken_ab [] = tt
+  broken_ab (w ∷ ws) = tt
+
+  push2_ab : (ws : List Word) → Ab (Now (Install (record { kind = Push2 r; bottom = seat.restart.bottom }))) ws
+  push2_ab [] = (refl, refl)
+  push2_ab (w ∷ ws) = tt
+
+  above_so : (ws : List Word) → Ab (Now (Load (PushAbove r))) ws
+  above_so [] = tt
+  above_so (Empty t0 ∷ ws) = by (nat_lt (t0 + 1) (2 ^ 34)) ws
+    where
+      by : (y : Bool) (ws : List Word) → Ab (raised (EntryWord seat.place (seat.restart.bottom + 1)) (entries.Empty t0) (entries.Local (t0 + 1) 0) (Install (record { kind = Push2 r; bottom = seat.restart.bottom })) y) ws
+      by true [] = (refl, refl)
+      by true (w ∷ ws) = push2_ab ws
+      by false ws = broken_ab ws
+  above_so (Local t0 x ∷ ws) = push2_ab ws
+  above_so (Job t0 x ∷ ws) = push2_ab ws
+  above_so (Taken t0 x ∷ ws) = push2_ab ws
+  above_so (Number n ∷ ws) = broken_ab ws
+  above_so (HeldBy n y ∷ ws) = broken_ab ws
+  above_so (Linked n ∷ ws) = broken_ab ws
+  above_so (Restarts n y ∷ ws) = broken_ab ws
+  above_so (Unread ∷ ws) = broken_ab ws
+
+-- a leaf that stays what it is
+stays_leaf : (p q : ℕ) (st : Stand) (f n : ℕ) → grow p (λ st f n. Leaf (InPlace p) st f n) (Leaf (InPlace q) st f n) ≡ Leaf (InPlace q) st f n
+stays_leaf p q st f n = by (q == p) refl
+  where
+    by : (y : Bool) → (q == p) ≡ y → cond y (Leaf (InPlace p) st f n) (Leaf (InPlace q) st f n) ≡ Leaf (InPlace q) st f n
+    by true e = ap (λ (x : ℕ). Leaf (InPlace x) st f n) (sym (eqb-true q p e))
+    by false e = refl
+
+grow_none : (p : ℕ) (t : Skeleton) → grow p (λ st f n. Leaf (InPlace p) st f n) t ≡ t
+grow_none p (Leaf (InPlace q) st f n) = stays_leaf p q st f n
+grow_none p (Leaf Fresh st f n) = refl
+grow_none p (Leaf Waiting st f n) = refl
+grow_none p (Leaf Held st f n) = refl
+grow_none p (Leaf Came st f n) = refl
+grow_none p (Leaf Inlined st f n) = refl
+grow_none p (Calling f n y t) = ap (Calling f n y) (grow_none p t)
+grow_none p (Forking f n y r a b) = (λ j. Forking f n y r (grow_none p a j) (grow_none p b j))
+
+-- above the first two slots what is not there is empty
+absent_high : (v n : ℕ) → 2 ≤ n → IsLocal (spots.absent (Slot v n)) → ⊥
+absent_high v zero low a = omega (arith, low)
+absent_high v (suc zero) low a = omega (arith, low)
+absent_high v (suc (suc n)) low a = a
+
+pub home_or : (x : Home) → (x ≡ Unborn) ⊎ (x ≢ Unborn)
+home_or Unborn = inl refl
+home_or _ = inr (λ e. cc)
+
+module _ (s : Shape) (code : CodeParts) (places : s.takeover ≡ ByPlaces) (fair : IsFair code) (root : Tree (Frame FrameWord Point) Result) (input : Words) (state : RunState) (h : ℕ → Home) (forked taken : List ℕ) (t : Skeleton) (run : IsRun s code root input state h forked taken t) where
+  abbrev i : Image
+  i = image s code
+
+  abbrev z : State
+  z = places_of s state
+
+  abbrev law : IsKept i root input z t
+  law = run.kept
+
+  abbrev fate : ℕ → Fate
+  fate = λ r. fate_of (h r)
+
+  -- what a step is to show: the fates agree; one that is held and pushed is of a place at its last slot; and none
+  -- is new but an unborn one
+  pub record Agree (u : Skeleton) (g : ℕ → Home) : Type 0 where
+    pub agrees : Agrees u (λ r. fate_of (g r))
+    pub last : (r q : ℕ) → HasUnrun Held r u → g r ≡ Pushing q → IsAtLast s state.words q
+    pub fresh : (r : ℕ) → HasUnrun Fresh r u → HasUnrun Fresh r t ⊎ (g r ≡ Unborn)
+
+  pub here : Agree t h
+  here = record { agrees = run.agrees; last = run.last; fresh = λ r f. inl f }
+
+  stay : (u : Skeleton) (r : ℕ) → FatesStay t u fate r
+  stay u r = fates_stay t u fate r law.apart run.agrees
+
+  pub unruns : (p : ℕ) → UnrunsStay i z t p
+  unruns p = unruns_stay i fair root input z t law p
+
+  pub same : (u : Skeleton) → SameUnruns t u → Agree u h
+  same u e = record {
+    agrees = (stay u 0).same e;
+    last = λ r q held home. run.last r q (e.back Held tt r held) home;
+    fresh = λ r f. inl (e.back Fresh tt r f);
+  }
+
+  -- a home that is moved
+  fates_moved : (u : Skeleton) (r : ℕ) (x : Home) → Agrees u (kept.put fate r (fate_of x)) → Agrees u (λ q. fate_of (put h r x q))
+  fates_moved u r x a = subst (Agrees u) (fun_ext each) a
+    where
+      each : (q : ℕ) → kept.put fate r (fate_of x) q ≡ fate_of (put h r x q)
+      each q = elim (cases_eq q r) [
+        | inl e ↦ ap (kept.put fate r (fate_of x)) e ∙ kept_puts.put_here fate r (fate_of x) ∙ sym (ap fate_of (ap (put h r x) e ∙ put_here h r x))
+        | inr ne ↦ kept_puts.put_else fate r (fate_of x) q ne ∙ sym (ap fate_of (put_else h r x q ne))
+      ]
+
+  -- in the same tree
+  moved_here : (r : ℕ) (x : Home) → ((q : ℕ) → x ≡ Pushing q → HasUnrun Held r t → ⊥) → Agrees t (λ q. fate_of (put h r x q)) → Agree t (put h r x)
+  moved_here r x none a = record {
+    agrees = a;
+    last = λ y q held home. elim (cases_eq y r) [
+      | inl e ↦ absurd (none q (sym (ap (put h r x) e ∙ put_here h r x) ∙ home) (subst (λ (n : ℕ). HasUnrun Held n t) e held))
+      | inr ne ↦ run.last y q held (sym (put_else h r x y ne) ∙ home)
+    ];
+    fresh = λ y f. inl f;
+  }
+
+  -- and in one in which the branch has changed
+  moved : (u : Skeleton) (r : ℕ) (x : Home) (was now : Who → Type 0) → ((q : ℕ) → x ≢ Pushing q) → (now Fresh → ⊥) → OneChanges r was now t u → Agrees u (kept.put fate r (fate_of x)) → Agree u (put h r x)
+  moved u r x was now none old one a = record {
+    agrees = fates_moved u r x a;
+    last = λ y q held home. elim (cases_eq y r) [
+      | inl e ↦ absurd (none q (sym (ap (put h r x) e ∙ put_here h r x) ∙ home))
+      | inr ne ↦ run.last y q ((one.others Held tt y ne).1 held) (sym (put_else h r x y ne) ∙ home)
+    ];
+    fresh = λ y f. elim (cases_eq y r) [
+      | inl e ↦ absurd (old ((one.new Fresh tt).0 (subst (λ (n : ℕ). HasUnrun Fresh n u) e f)))
+      | inr ne ↦ inl ((one.others Fresh tt y ne).1 f)
+    ];
+  }
+
+  -- one is held now
+  held_now : (u : Skeleton) (r p : ℕ) → OneChanges r (Is Fresh) (Is Held) t u → h r ≡ Pushing p → IsAtLast s state.words p → Agree u h
+  held_now u r p one home at = record {
+    agrees = (stay u r).holds one (ap fate_of home);
+    last = λ y q held is. elim (cases_eq y r) [
+      | inl e ↦ let same_place : Pushing p ≡ Pushing q = sym home ∙ ap h (sym e) ∙ is in subst (IsAtLast s state.words) (pushing_place same_place) at
+      | inr ne ↦ run.last y q ((one.others Held tt y ne).1 held) is
+    ];
+    fresh = λ y f. elim (cases_eq y r) [
+      | inl e ↦ absurd (let k : Held ≡ Fresh = (one.new Fresh tt).0 (subst (λ (n : ℕ). HasUnrun Fresh n u) e f) in cc)
+      | inr ne ↦ inl ((one.others Fresh tt y ne).1 f)
+    ];
+  }
+
+  -- one is opened
+  opened_now : (u : Skeleton) (r : ℕ) → OneChanges r IsNone (Is Fresh) t u → h r ≡ Unborn → Agree u h
+  opened_now u r one home = record {
+    agrees = (stay u r).opens one (ap fate_of home);
+    last = λ y q held is. elim (cases_eq y r) [
+      | inl e ↦ absurd (let k : Unborn ≡ Pushing q = sym home ∙ ap h (sym e) ∙ is in cc)
+      | inr ne ↦ run.last y q ((one.others Held tt y ne).1 held) is
+    ];
+    fresh = λ y f. elim (cases_eq y r) [
+      | inl e ↦ inr (ap h e ∙ home)
+      | inr ne ↦ inl ((one.others Fresh tt y ne).1 f)
+    ];
+  }
+
+  -- of which nothing new has come
+  still : (r : ℕ) (x : Home) → ((q : ℕ) → x ≢ Pushing q) → fate_of x ≡ fate r → Agree t (put h r x)
+  still r x none e = moved_here r x (λ q k held. none q k) (subst (Agrees t) (fun_ext each) run.agrees)
+    where
+      each : (q : ℕ) → fate q ≡ fate_of (put h r x q)
+      each q = elim (cases_eq q r) [
+        | inl k ↦ ap fate k ∙ sym e ∙ sym (ap fate_of (ap (put h r x) k ∙ put_here h r x))
+        | inr ne ↦ sym (ap fate_of (put_else h r x q ne))
+      ]
+
+  -- what rows that have seen words store and exchange
+  row_fair : (c : ℕ) (seat : Seat) (row : Row) → Within s code root input state h forked taken t run c seat row → (v : ℕ) (ws : List Word) → AreFit ws → rest_of s seat v (row_of s seat seat.restart.kind) ws ≡ row → FairRow s.takeover AnyPut (Changing s.takeover) row
+  row_fair c seat row w v ws fit is =
+      let small : seat.place < 64 = let lt = w.place in let few = s.within.processors_most in omega (arith, lt, few) in
+      let first = begun_fair s AnyPut (Changing s.takeover) seat (any_walk s.takeover seat) small seat.restart.kind
+      (λ block k. (subst (λ (x : RestartKind). Fit (address_fields x)) k (restart_fits s (few_words s) seat.restart w.sits.there).0).0) in
+      subst (FairRow s.takeover AnyPut (Changing s.takeover)) is (rest_fair s seat small v (row_of s seat seat.restart.kind) ws fit first)
+
+  changing : (c : ℕ) (seat : Seat) (cell : Cell) (old new : Content) (next : Then) → Within s code root input state h forked taken t run c seat (Exchange cell old new next) → Changing s.takeover cell old new
+  changing c seat cell old new next w = by w.seen
+    where
+      by : HasSeen s (spots.with_restarts (spots.view s state.words) (spots.kinds s state.words) (spots.bottoms s state.words)) seat (Exchange cell old new next) → Changing s.takeover cell old new
+      by (Strand is quiet) = (quiet_change s.takeover cell old new quiet.0, quiet_restart cell quiet.0)
+      by (Looks v ws fit is saw) = (row_fair c seat (Exchange cell old new next) w v ws fit is).0
+
+  changes : (c : ℕ) (seat : Seat) (cell : Cell) (old new : Content) (next : Then) → Within s code root input state h forked taken t run c seat (Exchange cell old new next) → MayChange s.takeover cell old new
+  changes c seat cell old new next w = (changing c seat cell old new next w).0
+
+  pub exchanges_no_restart : (c : ℕ) (seat : Seat) (cell : Cell) (old new : Content) (next : Then) → Within s code root input state h forked taken t run c seat (Exchange cell old new next) → IsNoRestart cell
+  exchanges_no_restart c seat cell old new next w = (changing c seat cell old new next w).1
+
+  pub stores_no_restart : (c : ℕ) (seat : Seat) (cell : Cell) (x : Content) (next : Then) → Within s code root input state h forked taken t run c seat (Store cell x next) → IsNoRestart cell
+  stores_no_restart c seat cell x next w = by w.seen
+    where
+      by : HasSeen s (spots.with_restarts (spots.view s state.words) (spots.kinds s state.words) (spots.bottoms s state.words)) seat (Store cell x next) → IsNoRestart cell
+      by (Strand is quiet) = quiet_restart cell quiet.0
+      by (Looks v ws fit is saw) = (row_fair c seat (Store cell x next) w v ws fit is).0
+
+  -- an entry of a deque, by its word
+  entry_shown : (v j : ℕ) (e : Entry) → is_there s (EntryWord v j) ≡ true → IsEntry e → read s state.words (EntryWord v j) ≡ word_of (AnEntry e) → spots.view s state.words (Slot v j) ≡ spots.word_as (AnEntry e)
+  entry_shown v j e there fit is = shows s state.words (Slot v j) there ∙ ap (λ (n : ℕ). spots.word_as (content_of AsEntry n)) is ∙ ap spots.word_as (again (AnEntry e) tt fit)
+
+  job_offered : (v j t0 x : ℕ) → is_there s (EntryWord v j) ≡ true → IsEntry (entries.Job t0 x) → read s state.words (EntryWord v j) ≡ word_of (AnEntry (entries.Job t0 x)) → fate x ≡ fates.Offered
+  job_offered v j t0 x there fit is =
+      ap fate_of (run.lawful.1.board.board.only (Listed v j t0) x tt tt (ghost_is s code places state h forked taken run.lawful v j ∙ entry_shown v j (entries.Job t0 x) there fit is))
+
+  -- an exchange of an entry that makes no job: a job stays offered
+  abbrev Made : Cell → Content → Type 0
+  Made cell old = (v j t0 x : ℕ) → cell ≡ EntryWord v j → old ≡ AnEntry (entries.Job t0 x) → fate x ≡ fates.Offered
+
+  entry_made : (may : May) (none : (x : ℕ) → may.jobs x → ⊥) (p v j : ℕ) (old new : Content) → Made (EntryWord v j) old → TameTrade may (EntryWord v j) new → Agree t (by_words p (spots.spot (spots.reading_by new) (EntryWord v j)) (spots.word_as old) (spots.word_as new) h)
+  entry_made may none p v j old (AnEntry (entries.Job t0 x)) made nj = absurd (none x nj)
+  entry_made may none p v j (AnEntry (entries.Job t1 y)) (AnEntry (entries.Taken t0 x)) made nj = still y (Stolen p) (λ q e. cc) (sym (made v j t1 y refl refl))
+  entry_made may none p v j (AnEntry (entries.Job t1 y)) (AnEntry (entries.Local t0 x)) made nj = still y (Popping p) (λ q e. cc) (sym (made v j t1 y refl refl))
+  entry_made may none p v j _ _ made nj = here
+
+  entry_or : (c : Cell) → ((a : ℕ) × (j : ℕ) × (c ≡ EntryWord a j)) ⊎ IsNoEntry c
+  entry_or (EntryWord a j) = inl (a, j, refl)
+  entry_or _ = inr tt
+
+  abbrev In : (own p b : ℕ) → RestartKind → ℕ → Row → Type 0
+  In own p b k c row = Within s code root input state h forked taken t run c (kind_seat own p k b) row
+
+  -- an exchange that makes no job
+  trade_agree : (may : May) (none : (x : ℕ) → may.jobs x → ⊥) (own p b : ℕ) (k : RestartKind) (c : ℕ) (cell : Cell) (old new : Content) (next : Then) → In own p b k c (Exchange cell old new next) → TameTrade may cell new → Agree t (by_row s state.words (kind_seat own p k b) (Exchange cell old new next) h)
+  trade_agree may none own p b k c cell old new next w nj = by (read s state.words cell == word_of old) refl
+    where
+      done : read s state.words cell ≡ word_of old → ((a : ℕ) × (j : ℕ) × (cell ≡ EntryWord a j)) ⊎ IsNoEntry cell → Agree t (by_words p (spots.spot (spots.reading_by new) cell) (spots.word_as old) (spots.word_as new) h)
+      done e (inr free) = subst (Agree t) (sym (unmoved p (spots.spot (spots.reading_by new) cell) (spots.word_as old) (spots.word_as new) h (no_slot (spots.reading_by new) cell free))) here
+      done e (inl at) =
+          let change = subst (λ (x : Cell). MayChange s.takeover x old new) at.2 (changes c (kind_seat own p k b) cell old new next w) in
+          let here = subst (λ (x : Cell). is_there s x ≡ true) at.2 w.here in
+          let is = subst (λ (x : Cell). read s state.words x ≡ word_of old) at.2 e in
+          subst (λ (x : Cell). Agree t (by_words p (spots.spot (spots.reading_by new) x) (spots.word_as old) (spots.word_as new) h)) (sym at.2)
+          (entry_made may none p at.0 at.1 old new (λ v j t0 x ce oe.
+          let two : EntryWord at.0 at.1 ≡ EntryWord v j = ce in
+          job_offered v j t0 x (subst (λ (x : Cell). is_there s x ≡ true) two here)
+          (changed_fit s.takeover v j (entries.Job t0 x) new (subst₂ (λ (x : Cell) (y : Content). MayChange s.takeover x y new) two oe change))
+          (subst₂ (λ (x : Cell) (y : Content). read s state.words x ≡ word_of y) two oe is))
+          (subst (λ (x : Cell). TameTrade may x new) at.2 nj))
+
+      by : (y : Bool) → (read s state.words cell == word_of old) ≡ y → Agree t (if y then by_words p (spots.spot (spots.reading_by new) cell) (spots.word_as old) (spots.word_as new) h else h)
+      by true e = done (eqb-true (read s state.words cell) (word_of old) e) (entry_or cell)
+      by false e = here
+
+  -- and of a cell that is no entry
+  trade_same : (own p b : ℕ) (k : RestartKind) (cell : Cell) (old new : Content) (next : Then) → IsNoEntry cell → by_row s state.words (kind_seat own p k b) (Exchange cell old new next) h ≡ h
+  trade_same own p b k cell old new next free = by (read s state.words cell == word_of old)
+    where
+      by : (y : Bool) → (if y then by_words p (spots.spot (spots.reading_by new) cell) (spots.word_as old) (spots.word_as new) h else h) ≡ h
+      by true = unmoved p (spots.spot (spots.reading_by new) cell) (spots.word_as old) (spots.word_as new) h (no_slot (spots.reading_by new) cell free)
+      by false = refl
+
+  absurd_job : (x : ℕ) → ⊥ → ⊥
+  absurd_job x e = e
+
+  -- where a row ends without a fork or a begin
+  end_same : (own p b : ℕ) (k : RestartKind) (next : Then) → ((re : Restart) → home_install p k re.kind h ≡ h) → TameThen calm next → by_row s state.words (kind_seat own p k b) (Now next) h ≡ h
+  end_same own p b k (Load x) f q = refl
+  end_same own p b k (Install re) f q = f re
+  end_same own p b k (Fork x) f q = absurd q
+  end_same own p b k (Begin x g y) f q = absurd q
+  end_same own p b k (Move x) f q = refl
+  end_same own p b k (Enter x) f q = refl
+  end_same own p b k Again f q = refl
+  end_same own p b k Broken f q = refl
+
+  abbrev Goal : (own p b : ℕ) → RestartKind → Row → Type 0
+  Goal own p b k row = Agree (tree_by i state.words (IsWithin (kind_seat own p k b) row) t) (by_row s state.words (kind_seat own p k b) row h)
+
+  abbrev At : (own p b : ℕ) → RestartKind → ℕ → Row → Type 0
+  At own p b k c row = stand_of state c ≡ IsWithin (kind_seat own p k b) row
+
+  with_homes : (u : Skeleton) (g : ℕ → Home) → g ≡ h → Agree u h → Agree u g
+  with_homes u g e a = subst (Agree u) (sym e) a
+
+  run_row : (own p b f y c : ℕ) (row : Row) → In own p b (Run f y) c row → Goal own p b (Run f y) row
+  run_row own p b f y c row w = subst (Goal own p b (Run f y)) (sym w.does) here
+
+  -- no fork was made before
+  unborn : (c : ℕ) (seat : Seat) (x : ℕ) → stand_of state c ≡ IsWithin seat (Now (Fork x)) → h x ≡ Unborn
+  unborn c seat x e = elim (home_or (h x)) [
+    | inl is ↦ is
+    | inr ne ↦ absurd (let a = sym (run.lawful.1.counts.listed x ne) ∙ forks_new s code places fair root input state h forked taken t run c seat x e in cc)
+  ]
+
+  unborn_held : (x : ℕ) → h x ≡ Unborn → HasUnrun Held x t → ⊥
+  unborn_held x e held = elim (run.agrees.held x held) [
+    | inl k ↦ let y : fates.Unborn ≡ fates.ToPush = sym (ap fate_of e) ∙ k in cc
+    | inr k ↦ let y : fates.Unborn ≡ fates.Inline = sym (ap fate_of e) ∙ k in cc
+  ]
+
+  bump_row : (own p b r c : ℕ) (row : Row) → At own p b (Bump r) c row → In own p b (Bump r) c row → Goal own p b (Bump r) row
+  bump_row own p b r c row e w = by row e w (reached s code places fair root input state h forked taken t run (calm_forks r) (seat_at p (Bump r) w.does.0) w.does.1 (row_of s (seat_at p (Bump r) w.does.0) (Bump r)) row refl w.does.2)
+    where
+      by : (row : Row) → At own p b (Bump r) c row → In own p b (Bump r) c row → TameRow (calm_forks r) row → Goal own p b (Bump r) row
+      by (Now (Fork x)) e w q = moved_here x (Pushing p) (λ q k held. unborn_held x (unborn c (kind_seat own p (Bump r) b) x e) held)
+          (fates_moved t x (Pushing p) ((stay t x).forks ((fates_show i fair root input z t law fate run.agrees).forks p r x w.kind w.doing) (ap fate_of (unborn c (kind_seat own p (Bump r) b) x e))))
+      by (Now (Begin x f y)) e w q = absurd q
+      by (Now (Load x)) e w q = here
+      by (Now (Install x)) e w q = here
+      by (Now (Move x)) e w q = here
+      by (Now (Enter x)) e w q = here
+      by (Now Again) e w q = here
+      by (Now Broken) e w q = here
+      by (Store cell content next) e w q = here
+      by (Exchange cell old new next) e w q = absurd (bump_exchanges_none i fair root input z t law p w.place r w.kind cell old new next w.doing)
+
+  unwind_row : (own p b f c : ℕ) (row : Row) → In own p b (Unwind f) c row → Goal own p b (Unwind f) row
+  unwind_row own p b f c row w = by row w (reached s code places fair root input state h forked taken t run calm (seat_at p (Unwind f) w.does.0) w.does.1 (row_of s (seat_at p (Unwind f) w.does.0) (Unwind f)) row (λ a. tt) w.does.2)
+    where
+      by : (row : Row) → In own p b (Unwind f) c row → TameRow calm row → Goal own p b (Unwind f) row
+      by (Now next) w q = with_homes (by_unwind p (kind_then next) t) _ (end_same own p b (Unwind f) next (λ re. refl) q) (same (by_unwind p (kind_then next) t) ((unruns p).unwinds (kind_then next)))
+      by (Store cell content next) w q = here
+      by (Exchange cell old new next) w q = with_homes t _ (trade_same own p b (Unwind f) cell old new next (framed s cell ((unwind_row_keeps i fair root input z t law p w.place f w.kind).exchange_cells cell old new next w.doing))) here
+
+  arrive_row : (own p b r : ℕ) (d : Side) (c : ℕ) (row : Row) → In own p b (Arrive r d) c row → Goal own p b (Arrive r d) row
+  arrive_row own p b r d c row w = by row w (reached s code places fair root input state h forked taken t run calm (seat_at p (Arrive r d) w.does.0) w.does.1 (row_of s (seat_at p (Arrive r d) w.does.0) (Arrive r d)) row (tt, tt) w.does.2)
+    where
+      by : (row : Row) → In own p b (Arrive r d) c row → TameRow calm row → Goal own p b (Arrive r d) row
+      by (Now next) w q = with_homes t _ (end_same own p b (Arrive r d) next (λ re. refl) q) here
+      by (Store cell content next) w q = here
+      by (Exchange cell old new next) w q = with_homes (by_arrive z.words p r t) _ (trade_same own p b (Arrive r d) cell old new next (framed s cell ((arrive_row_keeps i fair root input z t law p w.place r d w.kind).cells cell old new next w.doing))) (same (by_arrive z.words p r t) ((unruns p).arrives r))
+
+  join_row : (own p b r : ℕ) (d : Side) (c : ℕ) (row : Row) → In own p b (Join r d) c row → Goal own p b (Join r d) row
+  join_row own p b r d c row w = by row w (elim w.does [
+    | inl u ↦ reached s code places fair root input state h forked taken t run calm_begins (seat_at p (Join r d) u.0) u.1 (row_of s (seat_at p (Join r d) u.0) (Join r d)) row (tt, λ a. tt) u.2
+    | inr g ↦ subst (TameRow calm_begins) (sym g.is) tt
+  ])
+    where
+      by : (row : Row) → In own p b (Join r d) c row → TameRow calm_begins row → Goal own p b (Join r d) row
+      by (Now (Fork x)) w q = absurd q
+      by (Now (Begin x f y)) w q =
+          let a = (unruns p).begins r d x f y w.kind w.doing in
+          let u = by_join p (Begin x f y) t in
+          moved u x Begun (Is Held) IsNone (λ q e. cc) (λ e. e) (subst (λ (n : ℕ). OneChanges n (Is Held) IsNone t u) (sym a.0) a.2) (subst (λ (n : ℕ). Agrees u (kept.put fate n fates.Begun)) (sym a.0) ((stay u r).goes_on a.2))
+      by (Now (Install re)) w q = same (by_join p (Install re) t) ((unruns p).joins r d re w.kind w.doing)
+      by (Now (Load x)) w q = here
+      by (Now (Move x)) w q = here
+      by (Now (Enter x)) w q = here
+      by (Now Again) w q = here
+      by (Now Broken) w q = here
+      by (Store cell content next) w q = here
+      by (Exchange cell old new next) w q = absurd ((join_row_keeps i fair root input z t law p w.place r d w.kind).exchanges_none cell old new next w.doing)
+
+  -- a place that pushes has the branch
+  pub pushing_home : (p r : ℕ) → z.kind p ≡ Push1 r → h r ≡ Pushing p
+  pushing_home p r e = (takers_have s code places state h forked taken run.lawful).pushes p r (sym (kinds_same s state.words p) ∙ e)
+
+  pub not_both : (r : ℕ) → HasUnrun Fresh r t → HasUnrun Held r t → ⊥
+  not_both r fresh held = let e = (fates_show i fair root input z t law fate run.agrees).once r Fresh Held fresh held in cc
+
+  -- how a row of Push1 has come about: at the last slot by its store, else by the load of the entry above
+  pub push1_shape : (own p b r : ℕ) (row : Row) (m : Spot → Word) → HasSeen s m (kind_seat own p (Push1 r) b) row → ((b + 1 ≡ s.slots) × LastSo row) ⊎ ((b + 1 ≢ s.slots) × AboveSo b r row)
+  push1_shape own p b r row m (Strand is quiet) = absurd is
+  push1_shape own p b r row m (Looks v ws fit is saw) = by (b + 1 == s.slots) refl s.takeover places is
+    where
+      by : (y : Bool) → (b + 1 == s.slots) ≡ y → (how : Takeover) → how ≡ ByPlaces → rest_of s (kind_seat own p (Push1 r) b) v (push_at (kind_seat own p (Push1 r) b) how r y) ws ≡ row → ((b + 1 ≡ s.slots) × LastSo row) ⊎ ((b + 1 ≢ s.slots) × AboveSo b r row)
+      by true e how k is = inl (eqb-true (b + 1) s.slots e, subst LastSo is (last_so s (kind_seat own p (Push1 r) b) v r ws))
+      by false e ByPlaces k is = inr ((λ same. let y = sym e ∙ eq-eqb (b + 1) s.slots same in cc), subst (AboveSo b r) is (above_so s (kind_seat own p (Push1 r) b) v r ws))
+      by false e ByEntries k is = absurd (cc)
+
+  store_last : (own p b r c : ℕ) (cell : Cell) (content : Content) (next : Then) → In own p b (Push1 r) c (Store cell content next) → IsAtLast s state.words p
+  store_last own p b r c cell content next w = elim (push1_shape own p b r (Store cell content next) _ w.seen) [
+    | inl a ↦ ap (λ (n : ℕ). n + 1) w.sits.at.bottom ∙ a.0
+    | inr a ↦ absurd a.1
+  ]
+
+  -- what Push2 installs runs a frame
+  push2_install : (own p b r c : ℕ) (re : Restart) → In own p b (Push2 r) c (Now (Install re)) → IsRunKind re.kind
+  push2_install own p b r c re w = by w.seen
+    where
+      by : HasSeen s (spots.with_restarts (spots.view s state.words) (spots.kinds s state.words) (spots.bottoms s state.words)) (kind_seat own p (Push2 r) b) (Now (Install re)) → IsRunKind re.kind
+      by (Strand is quiet) = absurd is
+      by (Looks v ws fit is saw) = subst (PushesSo p b r) is (push2_so s (kind_seat own p (Push2 r) b) v r ws)
+
+  push1_row : (own p b r c : ℕ) (row : Row) → In own p b (Push1 r) c row → Goal own p b (Push1 r) row
+  push1_row own p b r c row w = by row w (looked s code places fair root input state h forked taken t run calm c (kind_seat own p (Push1 r) b) row (Push1 r) tt refl (push_row s code places fair root input state h forked taken t run calm (kind_seat own p (Push1 r) b) r tt) w)
+    where
+      install : (k : RestartKind) (low : ℕ) → In own p b (Push1 r) c (Now (Install (record { kind = k; bottom = low }))) → Agree t (home_install p (Push1 r) k h)
+      install (Run f y) low w = moved_here r Inline (λ q e held. cc) (fates_moved t r Inline ((stay t r).leaves (run.ready p r f y low w.kind w.doing)))
+      install _ low w = here
+
+      by : (row : Row) → In own p b (Push1 r) c row → TameRow calm row → Goal own p b (Push1 r) row
+      by (Now (Fork x)) w q = absurd q
+      by (Now (Begin x f y)) w q = absurd q
+      by (Now (Install re)) w q = install re.kind re.bottom w
+      by (Now (Load x)) w q = here
+      by (Now (Move x)) w q = here
+      by (Now (Enter x)) w q = here
+      by (Now Again) w q = here
+      by (Now Broken) w q = here
+      by (Store cell content next) w q =
+          let home : fate r ≡ fates.ToPush = ap fate_of (pushing_home p r w.kind) in
+          let u = over_left p (pushed Held) t in
+          elim (run.agrees.to_push r home) [
+            | inl fresh ↦ held_now u r p ((unruns p).pushes r Held tt (inl w.kind) fresh) (pushing_home p r w.kind) (store_last own p b r c cell content next w)
+            | inr held ↦ subst (λ (v : Skeleton). Agree v h) (sym ((unruns p).pushed_before r Held (inl w.kind) (λ fresh. not_both r fresh held))) here
+          ]
+      by (Exchange cell old new next) w q = trade_agree calm absurd_job own p b (Push1 r) c cell old new next w q.0
+
+  abbrev pub low_of : ℕ → ℕ
+  low_of p = spots.bottoms s state.words p
+
+  -- with a place at its last slot nobody pushes on
+  pub not_last : (p r : ℕ) → spots.kinds s state.words p ≡ Push2 r → spots.bottoms s state.words p + 1 ≡ s.slots → ⊥
+  not_last p r ke last =
+      let deque = run.lawful.1.board.board.deque p in
+      let high = (subst (λ (k : RestartKind). AtBottom k (run.lawful.1.board.ghost (Slot p ((low_of p) - 1))) (run.lawful.1.board.ghost (Slot p (low_of p))) (run.lawful.1.board.ghost (Slot p ((low_of p) + 1)))) ke deque.here).2 in
+      by (spots.is_shown s (Slot p ((low_of p) + 1))) refl (subst IsLocal (ghost_is s code places state h forked taken run.lawful p ((low_of p) + 1)) high)
+    where
+      by : (y : Bool) → spots.is_shown s (Slot p ((low_of p) + 1)) ≡ y → IsLocal (if y then spots.word_as (content_of AsEntry (read s state.words (EntryWord p ((low_of p) + 1)))) else spots.absent (Slot p ((low_of p) + 1))) → ⊥
+      by true e a = let lt = (shown_cell s (Slot p ((low_of p) + 1)) e).1 in omega (arith, lt, last)
+      by false e a = let start = (run.lawful.1.board.board.deque p).start in absent_high p ((low_of p) + 1) (omega (arith, start)) a
+
+  offers_of : (own p b r c : ℕ) (cell : Cell) (old new : Content) (next : Then) → In own p b (Push2 r) c (Exchange cell old new next) → Offers p b r cell old new
+  offers_of own p b r c cell old new next w = by w.seen
+    where
+      by : HasSeen s (spots.with_restarts (spots.view s state.words) (spots.kinds s state.words) (spots.bottoms s state.words)) (kind_seat own p (Push2 r) b) (Exchange cell old new next) → Offers p b r cell old new
+      by (Strand is quiet) = absurd is
+      by (Looks v ws fit is saw) = subst (PushesSo p b r) is (push2_so s (kind_seat own p (Push2 r) b) v r ws)
+
+  push2_trade : (own p b r c : ℕ) (cell : Cell) (old new : Content) (next : Then) → In own p b (Push2 r) c (Exchange cell old new next) → Goal own p b (Push2 r) (Exchange cell old new next)
+  push2_trade own p b r c cell old new next w = by (read s state.words cell == word_of old) refl
+    where
+      made : read s state.words cell ≡ word_of old → Offers p b r cell old new → Agree (over_left p (pushed Waiting) t) (by_words p (spots.spot (spots.reading_by new) cell) (spots.word_as old) (spots.word_as new) h)
+      made e o =
+          let change = subst₂ (λ (x : Cell) (y : Content). MayChange s.takeover x y new) o.at o.was (changes c (kind_seat own p (Push2 r) b) cell old new next w) in
+          let here = subst (λ (x : Cell). is_there s x ≡ true) o.at w.here in
+          let is = subst₂ (λ (x : Cell) (y : Content). read s state.words x ≡ word_of y) o.at o.was e in
+          let shown = entry_shown p b (entries.Local o.tag o.low) here (changed_fit s.takeover p b (entries.Local o.tag o.low) new change) is in
+          let low = spots.bottoms s state.words p in
+          let local : IsLocal (run.lawful.1.board.ghost (Slot p low)) = subst IsLocal (sym (ghost_is s code places state h forked taken run.lawful p low ∙ ap (λ (n : ℕ). spots.view s state.words (Slot p n)) w.sits.at.bottom ∙ shown)) tt in
+          let home : h r ≡ Pushing p = run.lawful.1.board.board.only (Pushing p) r tt (not_gone s code places state h forked taken run.lawful p)
+          (subst (λ (k : RestartKind). Pushes k (run.lawful.1.board.ghost (Slot p low)) r) (sym w.sits.at.kind) (refl, local)) in
+          let fresh : HasUnrun Fresh r t = elim (run.agrees.to_push r (ap fate_of home)) [
+            | inl f ↦ f
+            | inr held ↦ absurd (not_last p r w.sits.at.kind (run.last r p held home))
+          ] in
+          let same_homes : by_words p (spots.spot (spots.reading_by new) cell) (spots.word_as old) (spots.word_as new) h ≡ put h r (Listed p b (o.tag + 1)) =
+          ap (λ (x : Content). by_words p (spots.spot (spots.reading_by x) cell) (spots.word_as old) (spots.word_as x) h) o.makes
+          ∙ ap (λ (x : Cell). by_words p (spots.spot AsEntry x) (spots.word_as old) (Job (o.tag + 1) r) h) o.at in
+          subst (Agree (over_left p (pushed Waiting) t)) (sym same_homes) (moved (over_left p (pushed Waiting) t) r (Listed p b (o.tag + 1)) (Is Fresh) (Is Waiting) (λ q e. cc) (λ e. cc) ((unruns p).pushes r Waiting tt (inr w.kind) fresh) ((stay (over_left p (pushed Waiting) t) r).offers ((unruns p).pushes r Waiting tt (inr w.kind) fresh)))
+
+      by : (y : Bool) → (read s state.words cell == word_of old) ≡ y → Agree (by_exchange z.words p (Push2 r) y t) (if y then by_words p (spots.spot (spots.reading_by new) cell) (spots.word_as old) (spots.word_as new) h else h)
+      by true e = made (eqb-true (read s state.words cell) (word_of old) e) (offers_of own p b r c cell old new next w)
+      by false e = here
+
+  push2_row : (own p b r c : ℕ) (row : Row) → In own p b (Push2 r) c row → Goal own p b (Push2 r) row
+  push2_row own p b r c row w = by row w (looked s code places fair root input state h forked taken t run (calm_jobs r) c (kind_seat own p (Push2 r) b) row (Push2 r) tt refl refl w)
+    where
+      by : (row : Row) → In own p b (Push2 r) c row → TameRow (calm_jobs r) row → Goal own p b (Push2 r) row
+      by (Now (Fork x)) w q = absurd q
+      by (Now (Begin x f y)) w q = absurd q
+      by (Now (Install re)) w q = here
+      by (Now (Load x)) w q = here
+      by (Now (Move x)) w q = here
+      by (Now (Enter x)) w q = here
+      by (Now Again) w q = here
+      by (Now Broken) w q = here
+      by (Store cell content next) w q = here
+      by (Exchange cell old new next) w q = push2_trade own p b r c cell old new next w
+
+  -- kinds that only look for work
+  plain_row : (own p b : ℕ) (k : RestartKind) (c : ℕ) (row : Row) → In own p b k c row → TameRow calm row → by_store p k t ≡ t → ((y : Bool) → by_exchange z.words p k y t ≡ t) → ((next : Then) → by_end p k next t ≡ t) → ((re : Restart) → home_install p k re.kind h ≡ h)
+      → Goal own p b k row
+  plain_row own p b k c (Now next) w q st ex en inst = subst (λ (u : Skeleton). Agree u (by_row s state.words (kind_seat own p k b) (Now next) h)) (sym (en next)) (with_homes t _ (end_same own p b k next inst q) here)
+  plain_row own p b k c (Store cell content next) w q st ex en inst = subst (λ (u : Skeleton). Agree u h) (sym st) here
+  plain_row own p b k c (Exchange cell old new next) w q st ex en inst =
+      subst (λ (u : Skeleton). Agree u (by_row s state.words (kind_seat own p k b) (Exchange cell old new next) h)) (sym (ex (read s state.words cell == word_of old))) (trade_agree calm absurd_job own p b k c cell old new next w q.0)
+
+  take_begin : (p r f y : ℕ) → is_taker (z.kind p) ≡ true → z.doing p ≡ InRow (Now (Begin r f y)) → Agree (take_in r p t) (put h r Begun)
+  take_begin p r f y taker doing = let one = (unruns p).takes r f (law.aims p r f y taker doing) in moved (take_in r p t) r Begun (Is Waiting) IsNone (λ q e. cc) (λ e. e) one ((stay (take_in r p t) r).takes one)
+
+  pop2_row : (own p b q c : ℕ) (row : Row) → In own p b (Pop2 q) c row → Goal own p b (Pop2 q) row
+  pop2_row own p b q c row w = by row w (looked s code places fair root input state h forked taken t run calm_begins c (kind_seat own p (Pop2 q) b) row (Pop2 q) tt refl tt w)
+    where
+      by : (row : Row) → In own p b (Pop2 q) c row → TameRow calm_begins row → Goal own p b (Pop2 q) row
+      by (Now (Fork x)) w l = absurd l
+      by (Now (Begin x f y)) w l = take_begin p x f y (ap is_taker w.kind) w.doing
+      by (Now (Install re)) w l = here
+      by (Now (Load x)) w l = here
+      by (Now (Move x)) w l = here
+      by (Now (Enter x)) w l = here
+      by (Now Again) w l = here
+      by (Now Broken) w l = here
+      by (Store cell content next) w l = here
+      by (Exchange cell old new next) w l = trade_agree calm_begins absurd_job own p b (Pop2 q) c cell old new next w l.0
+
+  check_row : (own p b v y c : ℕ) (row : Row) → In own p b (Check v y) c row → Goal own p b (Check v y) row
+  check_row own p b v y c row w = by row w (looked s code places fair root input state h forked taken t run calm_begins c (kind_seat own p (Check v y) b) row (Check v y) tt refl (λ r. tt) w)
+    where
+      idle_install : (k : RestartKind) → IsIdle k → home_install p (Check v y) k h ≡ h
+      idle_install (Push1 r) idle = absurd idle
+      idle_install _ idle = refl
+
+      looks : (row : Row) → In own p b (Check v y) c row → LookRow s (Check v y) row
+      looks row w = let came = came_idle s (kind_seat own p (Check v y) b) (Check v y) row tt (came_by s code places fair root input state h forked taken t run c (kind_seat own p (Check v y) b) row w) in
+          comes_look s (kind_seat own p (Check v y) b) (Check v y) came.0 (row_of s (kind_seat own p (Check v y) b) (Check v y)) row (look_begins s (kind_seat own p (Check v y) b) (Check v y) tt) came.1
+
+      by : (row : Row) → In own p b (Check v y) c row → TameRow calm_begins row → Goal own p b (Check v y) row
+      by (Now (Fork x)) w l = absurd l
+      by (Now (Begin x f n)) w l = take_begin p x f n (ap is_taker w.kind) w.doing
+      by (Now (Install re)) w l = elim (looks (Now (Install re)) w) [
+        | inl idle ↦ with_homes t _ (idle_install re.kind idle) here
+        | inr follows ↦ absurd (let e = sym places ∙ follows.0 in cc)
+      ]
+      by (Now (Load x)) w l = here
+      by (Now (Move x)) w l = here
+      by (Now (Enter x)) w l = here
+      by (Now Again) w l = here
+      by (Now Broken) w l = here
+      by (Store cell content next) w l = here
+      by (Exchange cell old new next) w l = trade_agree calm_begins absurd_job own p b (Check v y) c cell old new next w l.0
+
+  -- an install leaves the bottom, or is of a kind that does not push
+  abbrev pub Keeps : (b : ℕ) → Restart → Type 0
+  Keeps b re = (re.bottom ≡ b) ⊎ (IsPush re.kind → ⊥)
+
+  pub installs_low : (own p b : ℕ) (k : RestartKind) (c : ℕ) (re : Restart) → In own p b k c (Now (Install re)) → Keeps b re
+  installs_low own p b k c re w = by k w w.seen
+    where
+      run_only : (k : RestartKind) → IsRunKind k → IsPush k → ⊥
+      run_only (Run f y) a q = q
+      run_only _ a q = a
+
+      idle_only : (k : RestartKind) → IsIdle k → IsPush k → ⊥
+      idle_only (Push1 r) a q = a
+      idle_only (Push2 r) a q = a
+      idle_only _ a q = q
+
+      idle : (k : RestartKind) → IsIdle k → In own p b k c (Now (Install re)) → Keeps b re
+      idle k is w =
+          let came = came_idle s (kind_seat own p k b) k (Now (Install re)) is (came_by s code places fair root input state h forked taken t run c (kind_seat own p k b) (Now (Install re)) w) in
+          elim (comes_look s (kind_seat own p k b) k came.0 (row_of s (kind_seat own p k b) k) (Now (Install re)) (look_begins s (kind_seat own p k b) k is) came.1) [
+            | inl a ↦ inr (idle_only re.kind a)
+            | inr follows ↦ absurd (let e = sym places ∙ follows.0 in cc)
+          ]
+
+      quiet : (k : RestartKind) → IsStrand k → HasSeen s (spots.with_restarts (spots.view s state.words) (spots.kinds s state.words) (spots.bottoms s state.words)) (kind_seat own p k b) (Now (Install re)) → Keeps b re
+      quiet k strand (Strand is q) = inl q.1
+      quiet k strand (Looks v ws fit is saw) =
+          let all = subst (IsQuiet (kind_seat own p k b)) is (rest_quiet (kind_seat own p k b) s v (row_of s (kind_seat own p k b) k) ws (begun_quiet (kind_seat own p k b) s k refl strand)) in
+          inl all.1
+
+      by : (k : RestartKind) → In own p b k c (Now (Install re)) → HasSeen s (spots.with_restarts (spots.view s state.words) (spots.kinds s state.words) (spots.bottoms s state.words)) (kind_seat own p k b) (Now (Install re)) → Keeps b re
+      by (Push1 r) w seen = elim (push1_shape own p b r (Now (Install re)) _ seen) [
+        | inl a ↦ inr (run_only re.kind a.1)
+        | inr a ↦ inl a.1.1
+      ]
+      by (Push2 r) w seen = inr (run_only re.kind (push2_install own p b r c re w))
+      by Pop1 w seen = idle Pop1 tt w
+      by (Pop2 q) w seen = idle (Pop2 q) tt w
+      by Seek w seen = idle Seek tt w
+      by (Steal v x) w seen = idle (Steal v x) tt w
+      by (Check v x) w seen = idle (Check v x) tt w
+      by (Take v x) w seen = idle (Take v x) tt w
+      by (Take2 v) w seen = idle (Take2 v) tt w
+      by (Run f y) w seen = quiet (Run f y) tt seen
+      by (Bump r) w seen = quiet (Bump r) tt seen
+      by (Unwind f) w seen = quiet (Unwind f) tt seen
+      by (Arrive r d) w seen = quiet (Arrive r d) tt seen
+      by (Join r d) w seen = quiet (Join r d) tt seen
+
+  pub row_agree : (own p b : ℕ) (k : RestartKind) (c : ℕ) (row : Row) → At own p b k c row → In own p b k c row → Goal own p b k row
+  row_agree own p b (Run f y) c row e w = run_row own p b f y c row w
+  row_agree own p b (Bump r) c row e w = bump_row own p b r c row e w
+  row_agree own p b (Push1 r) c row e w = push1_row own p b r c row w
+  row_agree own p b (Push2 r) c row e w = push2_row own p b r c row w
+  row_agree own p b (Unwind f) c row e w = unwind_row own p b f c row w
+  row_agree own p b (Arrive r d) c row e w = arrive_row own p b r d c row w
+  row_agree own p b (Join r d) c row e w = join_row own p b r d c row w
+  row_agree own p b Pop1 c row e w = plain_row own p b Pop1 c row w (looked s code places fair root input state h forked taken t run calm c (kind_seat own p Pop1 b) row Pop1 tt refl tt w) refl (λ y. refl) (λ n. refl) (λ re. refl)
+  row_agree own p b (Pop2 q) c row e w = pop2_row own p b q c row w
+  row_agree own p b Seek c row e w = plain_row own p b Seek c row w (looked s code places fair root input state h forked taken t run calm c (kind_seat own p Seek b) row Seek tt refl tt w) refl (λ y. refl) (λ n. refl) (λ re. refl)
+  row_agree own p b (Steal v x) c row e w = plain_row own p b (Steal v x) c row w (looked s code places fair root input state h forked taken t run calm c (kind_seat own p (Steal v x) b) row (Steal v x) tt refl tt w) refl (λ y. refl) (λ n. refl) (λ re. refl)
+  row_agree own p b (Check v x) c row e w = check_row own p b v x c row w
+  row_agree own p b (Take v x) c row e w = plain_row own p b (Take v x) c row w (looked s code places fair root input state h forked taken t run calm c (kind_seat own p (Take v x) b) row (Take v x) tt refl (places_row s.takeover calm _ tt) w) refl (λ y. refl) (λ n. refl) (λ re. refl)
+  row_agree own p b (Take2 v) c row e w = plain_row own p b (Take2 v) c row w (looked s code places fair root input state h forked taken t run calm c (kind_seat own p (Take2 v) b) row (Take2 v) tt refl (places_row s.takeover calm _ tt) w) refl (λ y. refl) (λ n. refl) (λ re. refl)
+
+  -- a turn, and what is kept behind it
+  module _ (c : ℕ) (act : Act) (among : IsTurnAmong s.processors (record { processor = c; act = act })) (after : IsKept i root input (places_of s (happens s code state (record { processor = c; act = act }))) (tree_after i state (record { processor = c; act = act }) t)) where
+    abbrev turn : Turn
+    turn = record { processor = c; act = act }
+
+    abbrev next_state : State
+    next_state = places_of s (happens s code state turn)
+
+    -- a block that is opened was not forked
+    not_forked : (p r : ℕ) (x : Standing) → stand_of state c ≡ x → step_by (row_by fork_row) act x ≡ [] → next_state.kind p ≡ Bump r → h r ≡ Unborn
+    not_forked p r x e none ke = elim (home_or (h r)) [
+      | inl is ↦ is
+      | inr ne ↦
+          let born : Births i next_state (has forked) = subst (λ (l : List ℕ). Births i next_state (has (l ++ forked))) (ap (step_by (row_by fork_row) act) e ∙ none) (births_follow s code places fair root input state h forked taken t run turn among) in
+          let home = born.homes p r ke in
+          let own = owned i p r home.0 home.1 in
+          let below = subst (λ (q : ℕ). r < floor next_state.words q (next_state.kind q)) own (born.below r (run.lawful.1.counts.listed r ne)) in
+          absurd (let low = subst (λ (a : RestartKind). r < floor next_state.words p a) ke below in omega (arith, low))
+    ]
+
+    pub opens_agree : (p f y r : ℕ) (k : LinkKind) → (link_at (z.words (BlockWord r))).kind ≡ k → z.kind p ≡ Run f y → next_state.kind p ≡ Bump r → (x : Standing) → stand_of state c ≡ x → step_by (row_by fork_row) act x ≡ []
+        → tree_after i state turn t ≡ by_install i z.words p (Run f y) (Bump r) t → Agree (by_install i z.words p (Run f y) (Bump r) t) h
+    opens_agree p f y r (Called g v) le ke be x e none te = same (by_install i z.words p (Run f y) (Bump r) t) ((unruns p).calls f y r g v le)
+    opens_agree p f y r (Forked g v) le ke be x e none te =
+        let once = subst (λ (u : Skeleton). (x : ℕ) → count Root u x ≤ 1) te after.apart in
+        opened_now (by_install i z.words p (Run f y) (Bump r) t) r ((unruns p).opens f y r g v ke le once) (not_forked p r x e none be)
+    opens_agree p f y r Root le ke be x e none te = subst (λ (u : Skeleton). Agree u h) (sym (ap (λ (k : LinkKind). grow p (opened i z.words p r k) t) le ∙ grow_none p t)) here
+    opens_agree p f y r (Branch d v) le ke be x e none te = subst (λ (u : Skeleton). Agree u h) (sym (ap (λ (k : LinkKind). grow p (opened i z.words p r k) t) le ∙ grow_none p t)) here
