@@ -3,3 +3,4 @@ pub mod Laws
 pub mod Openings
 pub mod Outcomes
 pub mod Whole
+pub mod Moments

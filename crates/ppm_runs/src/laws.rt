@@ -1,5 +1,6 @@
 //! What turns owe, shown by calls that do nothing.
 ghost use Rattle.ppm_runs.specs.Laws.{BirthsFollow, BrokenFollow, TakersHave, TurnsAreOrderly, TurnsGoOn};
+ghost use Rattle.ppm_runs.specs.Moments.{OnceAtEachMoment, RunsStay, TurnsLeadOn};
 ghost use Rattle.ppm_runs.specs.Openings.{RunsOpen};
 ghost use Rattle.ppm_runs.specs.Outcomes.{RunsEnd, StopsStay};
 ghost use Rattle.ppm_runs.specs.Whole.{JoinsStay, RunsComeTo, TurnsLead};
@@ -55,4 +56,13 @@ pub fn runs_come_to()
     ensures law { RunsComeTo }
     ensures leads { TurnsLead }
     ensures joins { JoinsStay }
+{}
+
+/// With takeover by places, from an image of a sound code, whatever the turns, a run's state is come to,
+/// also where a turn stops the run, and behind it; so at each moment no right branch was forked twice,
+/// and none was taken twice.
+pub fn runs_stay()
+    ensures leads { TurnsLeadOn }
+    ensures stay { RunsStay }
+    ensures once { OnceAtEachMoment }
 {}
