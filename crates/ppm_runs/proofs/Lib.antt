@@ -4,7 +4,7 @@
 -- (`TakerLemmas`), so a turn leads on (`GoingLemmas`, `BearingLemmas`, `BrokenLemmas`); a run's
 -- beginning (`OpenLemmas`) and its end (`OutcomeLemmas`). What a row makes of the tree and of homes, kind by
 -- kind, is `AgreeLemmas`; that both halves join again is `JoinLemmas`, and whole runs are `WholeLemmas`; each of their moments is
--- `MomentLemmas`.
+-- `MomentLemmas`, and a pool that was found full `SpentLemmas`.
 
 pub mod TameLemmas
 pub mod StandLemmas
@@ -20,3 +20,4 @@ pub mod AgreeLemmas
 pub mod JoinLemmas
 pub mod WholeLemmas
 pub mod MomentLemmas
+pub mod SpentLemmas

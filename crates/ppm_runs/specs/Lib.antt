@@ -4,3 +4,4 @@ pub mod Openings
 pub mod Outcomes
 pub mod Whole
 pub mod Moments
+pub mod Spent

@@ -3,6 +3,7 @@ ghost use Rattle.ppm_runs.specs.Laws.{BirthsFollow, BrokenFollow, TakersHave, Tu
 ghost use Rattle.ppm_runs.specs.Moments.{OnceAtEachMoment, RunsStay, TurnsLeadOn};
 ghost use Rattle.ppm_runs.specs.Openings.{RunsOpen};
 ghost use Rattle.ppm_runs.specs.Outcomes.{RunsEnd, StopsStay};
+ghost use Rattle.ppm_runs.specs.Spent.{RoomIsSpent};
 ghost use Rattle.ppm_runs.specs.Whole.{JoinsStay, RunsComeTo, TurnsLead};
 
 /// With takeover by places each turn is orderly in a state of a run: block words that it changes
@@ -65,4 +66,11 @@ pub fn runs_stay()
     ensures leads { TurnsLeadOn }
     ensures stay { RunsStay }
     ensures once { OnceAtEachMoment }
+{}
+
+/// With takeover by places, from an image of a sound code, whatever the turns: where the finish word says
+/// that a pool is full, and the depth-first run of the root comes to an end, that run takes more words
+/// than a pool has.
+pub fn room_is_spent()
+    ensures law { RoomIsSpent }
 {}
