@@ -4,7 +4,7 @@
 -- (`TakerLemmas`), so a turn leads on (`GoingLemmas`, `BearingLemmas`, `BrokenLemmas`); a run's
 -- beginning (`OpenLemmas`) and its end (`OutcomeLemmas`). What a row makes of the tree and of homes, kind by
 -- kind, is `AgreeLemmas`; that both halves join again is `JoinLemmas`, and whole runs are `WholeLemmas`; each of their moments is
--- `MomentLemmas`, and a pool that was found full `SpentLemmas`.
+-- `MomentLemmas`, a pool that was found full `SpentLemmas`, and words that come back `BackLemmas`.
 
 pub mod TameLemmas
 pub mod StandLemmas
@@ -21,3 +21,4 @@ pub mod JoinLemmas
 pub mod WholeLemmas
 pub mod MomentLemmas
 pub mod SpentLemmas
+pub mod BackLemmas

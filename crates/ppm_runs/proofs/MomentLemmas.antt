@@ -60,7 +60,7 @@ runs_stay code input s keeper im places fair opens calm turns all =
     (Leaf (InPlace keeper) (Begins 0) (pool_at s keeper) (slots_of code code.root)) turns all (runs_open code input s keeper im opens calm)
 
 -- what was taken was forked
-are_once : (h : ℕ → Home) (forked taken : List ℕ) → Counts h forked taken → AreOnce forked taken
+pub are_once : (h : ℕ → Home) (forked taken : List ℕ) → Counts h forked taken → AreOnce forked taken
 are_once h forked taken counts = record {
   forked_once = counts.forked_once;
   taken_once = counts.once;

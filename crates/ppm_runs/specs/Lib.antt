@@ -5,3 +5,4 @@ pub mod Outcomes
 pub mod Whole
 pub mod Moments
 pub mod Spent
+pub mod Renewals

@@ -3,6 +3,7 @@ ghost use Rattle.ppm_runs.specs.Laws.{BirthsFollow, BrokenFollow, TakersHave, Tu
 ghost use Rattle.ppm_runs.specs.Moments.{OnceAtEachMoment, RunsStay, TurnsLeadOn};
 ghost use Rattle.ppm_runs.specs.Openings.{RunsOpen};
 ghost use Rattle.ppm_runs.specs.Outcomes.{RunsEnd, StopsStay};
+ghost use Rattle.ppm_runs.specs.Renewals.{PartsComeTo, RunsComeBack};
 ghost use Rattle.ppm_runs.specs.Spent.{RoomIsSpent};
 ghost use Rattle.ppm_runs.specs.Whole.{JoinsStay, RunsComeTo, TurnsLead};
 
@@ -73,4 +74,12 @@ pub fn runs_stay()
 /// than a pool has.
 pub fn room_is_spent()
     ensures law { RoomIsSpent }
+{}
+
+/// With takeover by places, saved words of a run's state come back, and that is a run's state again. So
+/// in a run in parts, whatever the turns, no right branch is forked or taken twice over all of it, and an
+/// outcome is that of the depth-first run.
+pub fn runs_come_back()
+    ensures back { RunsComeBack }
+    ensures parts { PartsComeTo }
 {}
