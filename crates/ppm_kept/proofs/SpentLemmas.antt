@@ -1,7 +1,7 @@
 -- What a place asks for beyond its pool is still to be counted by the depth-first run.
-use Rattle.std.proofs.Common.{◌≡◌, ◌⊎◌, ◌≤◌, ◌<◌, ℕ, zero, suc, ◌+◌, Bool, true, false, List, [], ◌∷◌, Option, Some, None, inl, inr, refl, sym, ap, ◌∙◌, subst, subst₂, arith}
-use Rattle.std.specs.Prelude.{nat_lt, nat_le, if◌then◌else◌}
-use Rattle.std.proofs.lemmas.Bool.{cases_Bool, le-ltb, leb-false}
+use Rattle.std.proofs.Common.{◌≡◌, ◌≤◌, ◌<◌, ℕ, ◌+◌, Bool, true, false, Some, inl, inr, refl, sym, ap, ◌∙◌, subst, subst₂, arith}
+use Rattle.std.specs.Prelude.{nat_le, if◌then◌else◌}
+use Rattle.std.proofs.lemmas.Bool.{le-ltb, leb-false}
 use Rattle.ppm_strands.specs.Tree.{Words, Tree}
 use Rattle.ppm_strands.specs.Run.{End as RunEnd, Ends as RunEnds}
 use Rattle.ppm_strands.specs.ToCome.{asks_in}
@@ -15,7 +15,7 @@ use Rattle.ppm_cells.specs.declared.restart.RestartKind.{RestartKind}
 use Rattle.ppm_cells.specs.declared.restart.RestartKind.TheVariants.{Run}
 use Rattle.ppm_cells.specs.declared.shape.Shape.{Shape}
 use Rattle.ppm_cells.specs.declared.side.Side.TheVariants.{Left, Right}
-use Rattle.ppm_capsules.specs.Capsule.{Capsule, Reads, Writes, Asks, Ends, Memory}
+use Rattle.ppm_capsules.specs.Capsule.{Capsule, Reads, Writes, Asks, Ends}
 use Rattle.ppm_capsules.specs.Stopped.{Stands}
 use Rattle.ppm_capsules.specs.Strand.{Own, New, Shared, Frame}
 use Rattle.ppm_capsules.proofs.StrandLemmas.{code_is_local}
@@ -31,11 +31,10 @@ use Rattle.ppm_code.specs.declared.location.FrameWord.{FrameWord}
 use Rattle.ppm_code.specs.declared.location.FrameWord.TheVariants.{Slot, Value}
 use Rattle.ppm_step.specs.Frames.{Rest, Loads, Stores, Full, Installs, Breaks, cell_of, asks}
 use Rattle.ppm_step.specs.declared.frame.Home.{Home}
-use Rattle.ppm_step.proofs.PlainLemmas.{IsSimple, Plain, Asking}
 use Rattle.ppm_ends.specs.Ends.{block_stores, located}
 use Rattle.ppm_frames.specs.Seen.{arrays_at}
 use Rattle.ppm_frames.specs.Skeletons.{Begins, InPlace, Skeleton, Leaf, header, tree_at, tree_of, Around, Top, AtCall, AtLeft, AtRight, plug, hook_at}
-use Rattle.ppm_kept.specs.Running.{IsFair, IsOf, IsUnder, last_of, home_at, number_at, all_of, now, limit, HasCome, strands}
+use Rattle.ppm_kept.specs.Running.{IsFair, IsOf, IsUnder, last_of, home_at, number_at, all_of, now, HasCome, strands}
 use Rattle.ppm_kept.specs.Branches.{HasCopy}
 use Rattle.ppm_kept.specs.Kept.{Image, start, InRest, State, Doing, Does, carried, ceiling, IsKept}
 use Rattle.ppm_kept.specs.Spent.{FullPoolsAreSpent}

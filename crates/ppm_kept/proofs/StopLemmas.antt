@@ -32,16 +32,15 @@ use Rattle.ppm_step.specs.declared.row.Row.TheVariants.{Now}
 use Rattle.ppm_step.specs.declared.row.Seat.{Seat}
 use Rattle.ppm_step.specs.declared.row.Then.TheVariants.{Load, Fork, Begin, Again}
 use Rattle.ppm_frames.specs.Views.{written as write}
-use Rattle.ppm_frames.specs.Seen.{arrays_at}
-use Rattle.ppm_frames.specs.Skeletons.{Skeleton, tree_of, header, count}
+use Rattle.ppm_frames.specs.Skeletons.{Skeleton, header, count}
 use Rattle.ppm_frames.specs.Good.{link_or, link_at}
 use Rattle.ppm_frames.specs.Laws.{Same}
 use Rattle.ppm_frames.proofs.WriteLemmas.{write_here, write_else}
 use Rattle.ppm_frames.proofs.SkeletonLemmas.{SameFrame, tree_same}
 use Rattle.ppm_frames.proofs.SwapLemmas.{good_same}
-use Rattle.ppm_kept.specs.Running.{IsFair, number_at, limit, strands}
+use Rattle.ppm_kept.specs.Running.{IsFair, number_at, strands}
 use Rattle.ppm_kept.specs.Branches.{HasCopy}
-use Rattle.ppm_kept.specs.Kept.{Image, start, end_of, owner, seat_at, side_code, State, Doing, Resting, InRow, InRest, Blank, Collected, AimsWell, NoOutcome, ceiling, Free, Reach, Under, Going, Does, Head, Ordered, carried, IsKept}
+use Rattle.ppm_kept.specs.Kept.{Image, start, end_of, owner, seat_at, side_code, State, Doing, Resting, InRow, InRest, Blank, AimsWell, NoOutcome, ceiling, Free, Under, Going, Does, Head, Ordered, carried, IsKept}
 use Rattle.ppm_kept.specs.Steps.{IsStop}
 use Rattle.ppm_kept.specs.Stops.{WordsStay}
 use Rattle.ppm_kept.proofs.BlockLemmas.{finish_back}

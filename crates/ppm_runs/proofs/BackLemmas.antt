@@ -1,5 +1,5 @@
 -- Saved words of a run's state come back: with all processors lost, words are lawful and kept as before.
-use Rattle.std.proofs.Common.{◌≡◌, ◌≢◌, ◌⊎◌, ◌<◌, ℕ, zero, suc, ◌+◌, ◌==◌, cond, Bool, true, false, if◌then◌else◌, List, [], ◌∷◌, Option, inl, inr, refl, sym, ap, ◌∙◌, subst}
+use Rattle.std.proofs.Common.{◌≡◌, ◌≢◌, ◌⊎◌, ℕ, zero, suc, ◌+◌, Bool, true, false, if◌then◌else◌, List, [], ◌∷◌, inl, inr, refl, sym, ap, ◌∙◌, subst}
 use Rattle.std.specs.Prelude.{nat_lt}
 use Rattle.std.proofs.Math.Path.{fun_ext}
 use Rattle.std.proofs.lemmas.Bool.{cases_Bool, ltb-true}
@@ -9,7 +9,6 @@ use Rattle.ppm_cells.specs.Memory.{read}
 use Rattle.ppm_cells.specs.Restart.{restart_of}
 use Rattle.ppm_cells.specs.declared.cell.Cell.{Cell}
 use Rattle.ppm_cells.specs.declared.cell.Cell.TheVariants.{FinishWord, CarryWord, DeadWord, RestartWord, MessageWord, HolderWord, Top, RoomCounter, EntryWord, BlockWord, ArrayWord}
-use Rattle.ppm_cells.specs.declared.restart.Restart.{Restart}
 use Rattle.ppm_cells.specs.declared.restart.RestartKind.TheVariants.{Seek}
 use Rattle.ppm_cells.specs.declared.shape.Shape.{Shape}
 use Rattle.ppm_cells.specs.declared.shape.Takeover.TheVariants.{ByPlaces}
@@ -19,7 +18,7 @@ use Rattle.ppm_code.specs.Strands.{Point, Result}
 use Rattle.ppm_code.specs.declared.code.CodeParts.{CodeParts}
 use Rattle.ppm_code.specs.declared.location.FrameWord.{FrameWord}
 use Rattle.ppm_layout.specs.Root.{root_strand}
-use Rattle.ppm_step.specs.Standings.{Standing, IsLost, IsBroken, IsDone}
+use Rattle.ppm_step.specs.Standings.{Standing, IsLost, IsDone}
 use Rattle.ppm_step.specs.State.{State as RunState, stand_of, after, opening}
 use Rattle.ppm_tickets.specs.Along.{homes, forked as forked_in, taken as taken_in}
 use Rattle.ppm_tickets.specs.Homes.{Home, Unborn}
@@ -33,9 +32,9 @@ use Rattle.ppm_frames.specs.Seen.{arrays_at}
 use Rattle.ppm_frames.specs.Skeletons.{Begins, InPlace, Skeleton, Leaf}
 use Rattle.ppm_frames.proofs.ViewLemmas.{view_is, is_one}
 use Rattle.ppm_frames.proofs.WriteLemmas.{write_here, write_else}
-use Rattle.ppm_kept.specs.Births.{Births, floor}
+use Rattle.ppm_kept.specs.Births.{Births}
 use Rattle.ppm_kept.specs.Running.{IsFair}
-use Rattle.ppm_kept.specs.Kept.{Image, owner, Doing, Resting, State, NoOutcome, IsKept}
+use Rattle.ppm_kept.specs.Kept.{Resting, State, NoOutcome, IsKept}
 use Rattle.ppm_kept.specs.Moves.{doing_of}
 use Rattle.ppm_kept.specs.Places.{kind_or, kinds_of, is_in, doing_in, places_of}
 use Rattle.ppm_kept.proofs.BirthLemmas.{births_stay}
