@@ -57,7 +57,9 @@ pub mod FateLemmas
 pub mod StateLemmas
 pub mod BeginLemmas
 pub mod LoadLemmas
+pub mod StopLemmas
 pub mod StepRows
 pub mod BearLemmas
 pub mod AnswerLemmas
 pub mod RoomLemmas
+pub mod SpentLemmas

@@ -1,11 +1,10 @@
 -- A whole turn keeps what is kept, by places.
 use Rattle.std.proofs.Common.{◌≡◌, ◌⊎◌, ◌<◌, ℕ, zero, suc, ◌+◌, ◌==◌, Bool, true, false, List, inl, inr, refl, sym, ap, ◌∙◌, subst, subst₂, arith, Option, Some, None, slice_set}
 use Rattle.std.specs.Prelude.{nat_lt, ◌&&◌, slice_index, if◌then◌else◌}
-use Rattle.std.proofs.lemmas.Bool.{ltb-true}
+use Rattle.std.proofs.lemmas.Bool.{ltb-true, eqb-true}
 use Rattle.ppm_strands.specs.Tree.{Words, Tree}
-use Rattle.ppm_cells.specs.Finish.{finish_word, finish_of, IsFinish}
+use Rattle.ppm_cells.specs.Finish.{finish_word, IsFinish}
 use Rattle.ppm_cells.specs.Memory.{read, write}
-use Rattle.ppm_cells.proofs.MemoryLemmas.{read_back}
 use Rattle.ppm_cells.specs.declared.cell.Cell.{Cell}
 use Rattle.ppm_cells.specs.declared.cell.Cell.TheVariants.{FinishWord, DeadWord, MessageWord, HolderWord, Top as TopWord, EntryWord}
 use Rattle.ppm_cells.specs.declared.finish.Finish.{Finish}
@@ -41,7 +40,7 @@ use Rattle.ppm_step.specs.declared.turn.Why.TheVariants.{Turns, Watch}
 use Rattle.ppm_frames.specs.Views.{is_cell, view}
 use Rattle.ppm_frames.specs.Skeletons.{Waiting as WaitingLeaf, Skeleton, Leaf, Forking, pushed, over_left, take_in}
 use Rattle.ppm_frames.proofs.SkeletonLemmas.{inside_at}
-use Rattle.ppm_frames.proofs.ViewLemmas.{view_is, others_are_unseen}
+use Rattle.ppm_frames.proofs.ViewLemmas.{view_is, cells_are_viewed, others_are_unseen}
 use Rattle.ppm_kept.specs.Running.{IsFair}
 use Rattle.ppm_kept.specs.Branches.{is_taker}
 use Rattle.ppm_kept.specs.Kept.{Image, Doing, Resting, InRow, InRest, State, Does, IsKept}
@@ -55,9 +54,9 @@ use Rattle.ppm_kept.specs.Arriving.{ArriveKeeps}
 use Rattle.ppm_kept.specs.JoinLast.{JoinKeeps}
 use Rattle.ppm_kept.specs.Takes.{IsWaiting, TakeKeeps}
 use Rattle.ppm_kept.specs.Places.{kinds_of, places_of, IsOf, Holds, IsUnseen, IsNowhere, acted, RowShows}
-use Rattle.ppm_kept.specs.Steps.{by_end, by_store, by_exchange, tree_by, by_act, CameBy, InRowSo, InRestSo, IsKindIf, StandsSo, LeavesSo, IsPresent, ActsSo, IsStop, IsStopped, TurnsKeep}
+use Rattle.ppm_kept.specs.Steps.{by_end, by_store, by_exchange, tree_by, by_act, CameBy, InRowSo, InRestSo, IsKindIf, StandsSo, LeavesSo, IsPresent, ActsSo, IsStop, TurnsKeep}
+use Rattle.ppm_kept.specs.Stops.{TurnsKeepOn}
 use Rattle.ppm_kept.proofs.PlaceLemmas.{going_to}
-use Rattle.ppm_kept.proofs.BlockLemmas.{finish_back}
 use Rattle.ppm_kept.proofs.Rows.{run_row_keeps, bump_row_keeps}
 use Rattle.ppm_kept.proofs.UnwindRow.{unwind_row_keeps}
 use Rattle.ppm_kept.proofs.PushRows.{push1_row_keeps, push2_row_keeps}
@@ -67,6 +66,7 @@ use Rattle.ppm_kept.proofs.TakeRow.{find_wait, take_rows_keep}
 use Rattle.ppm_kept.proofs.LookLemmas.{LookRow, IsLookCell, IsOffset, comes_look, no_begin, look_begins, starts_none}
 use Rattle.ppm_kept.proofs.LoadLemmas.{all_loads_show, in_part, bump_links, bump_exchanges_none, arrive_loads}
 use Rattle.ppm_kept.proofs.StateLemmas.{doing_here, moved, bare, dead_unseen, kinds_stay, turns_show}
+use Rattle.ppm_kept.proofs.StopLemmas.{stop_kept, stop_says}
 use Rattle.ppm_kept.proofs.TurnLemmas.{stores_are_cells}
 
 -- no row, and no capsule
@@ -564,34 +564,36 @@ module _ (i : Image) (fair : IsFair i.code) (plain : i.shape.takeover ≡ ByPlac
   abbrev Proposed : (v : Finish) → Standing → Bool → Machine
   Proposed v y b = record { words = if b then slice_set words 0 (finish_word v) else words; stand = slice_set state.stand c y }
 
-  proposes : IsPresent i.shape state c → (x : Standing) → stand_of state c ≡ x → is_done_at x ≡ false → LeavesSo i.shape state c x → (v : Finish) → IsFinish v → IsStop v → (y : Standing) → IsNowhere y → (b : Bool)
-      → Kept (places_of i.shape (Proposed v y b)) t ⊎ IsStopped i.shape (Proposed v y b).words
-  proposes here x e live so v fit stop y out true = inr (
-    v,
-    ap finish_of (view_is i.shape (write i.shape words FinishWord (finish_word v)) FinishWord refl ∙ read_back i.shape words FinishWord (finish_word v) here.words tt) ∙ finish_back v fit,
-    stop,
-  )
-  proposes here x e live so v fit stop y out false = inl (leaves x e live so words y out refl refl)
+  proposes : IsPresent i.shape state c → (x : Standing) → stand_of state c ≡ x → is_done_at x ≡ false → LeavesSo i.shape state c x → (v : Finish) → IsFinish v → IsStop v → (y : Standing) → IsNowhere y
+      → (b : Bool) → (slice_index words 0 == 0) ≡ b → Kept (places_of i.shape (Proposed v y b)) t
+  proposes here x e live so v fit stop y out true be =
+      let left : Machine = record { words = words; stand = slice_set state.stand c y } in
+      let seen = sym (cells_are_viewed i.shape words FinishWord (finish_word v) here.words refl) in
+      let kinds = sym (kinds_stay i.shape words FinishWord (finish_word v) tt (λ q z. cc)) in
+      subst (λ (z : State). Kept z t) (λ k. record { words = seen k; kind = kinds k; doing = (places_of i.shape left).doing })
+      (stop_kept i fair root input (places_of i.shape left) t (leaves x e live so words y out refl refl) (finish_word v)
+      (view_is i.shape words FinishWord refl ∙ eqb-true (slice_index words 0) 0 be) (stop_says v fit stop))
+  proposes here x e live so v fit stop y out false be = leaves x e live so words y out refl refl
 
   -- an act, by where the processor stands
   abbrev GoalAt : Act → Standing → Type 0
-  GoalAt act x = Kept (places_of i.shape (acts i.shape i.code state c act x)) (by_act i words act x t) ⊎ IsStopped i.shape (acts i.shape i.code state c act x).words
+  GoalAt act x = Kept (places_of i.shape (acts i.shape i.code state c act x)) (by_act i words act x t)
 
   at_stand : (act : Act) (x : Standing) (v : Skeleton) → stand_of state c ≡ x → Kept (acted i.shape i.code state c act) v → Kept (places_of i.shape (acts i.shape i.code state c act x)) v
   at_stand act x v e kept = subst (λ (y : Standing). Kept (places_of i.shape (acts i.shape i.code state c act y)) v) e kept
 
   step_act : (victim : ℕ) (x : Standing) → stand_of state c ≡ x → IsPresent i.shape state c → StandsSo i state t c x → GoalAt (Step victim) x
-  step_act victim IsDone e here so = inl law
-  step_act victim IsLost e here so = inl (at_stand (Step victim) IsLost t e (arrives (Step victim) S t ((turns_show i.shape i.code state c).1.lost victim e) law))
-  step_act victim (IsPlaced p) e here so = inl (at_stand (Step victim) (IsPlaced p) t e (arrives (Step victim) S t ((turns_show i.shape i.code state c).1.placed victim p e) law))
+  step_act victim IsDone e here so = law
+  step_act victim IsLost e here so = at_stand (Step victim) IsLost t e (arrives (Step victim) S t ((turns_show i.shape i.code state c).1.lost victim e) law)
+  step_act victim (IsPlaced p) e here so = at_stand (Step victim) (IsPlaced p) t e (arrives (Step victim) S t ((turns_show i.shape i.code state c).1.placed victim p e) law)
   step_act victim (IsAt p r) e here so =
-      inl (at_stand (Step victim) (IsAt p r) t e (arrives (Step victim) (goes S p (at_finish i.shape i.code c p r (read i.shape words FinishWord))) t
-      ((turns_show i.shape i.code state c).1.begins victim p r e so.0) (begins_kept p so.0 r so.1 (read i.shape words FinishWord))))
+      at_stand (Step victim) (IsAt p r) t e (arrives (Step victim) (goes S p (at_finish i.shape i.code c p r (read i.shape words FinishWord))) t
+      ((turns_show i.shape i.code state c).1.begins victim p r e so.0) (begins_kept p so.0 r so.1 (read i.shape words FinishWord)))
   step_act victim (IsWithin chair row) e here so =
-      inl (at_stand (Step victim) (IsWithin chair row) (tree_by i words (IsWithin chair row) t) e (row_step chair.own chair.place chair.restart.bottom victim chair.restart.kind row (e, so)))
+      at_stand (Step victim) (IsWithin chair row) (tree_by i words (IsWithin chair row) t) e (row_step chair.own chair.place chair.restart.bottom victim chair.restart.kind row (e, so))
   step_act victim (IsRunning chair rest) e here so =
-      inl (at_stand (Step victim) (IsRunning chair rest) (tree_by i words (IsRunning chair rest) t) e (rest_step chair.own chair.place chair.restart.bottom victim chair.restart.kind rest (e, so)))
-  step_act victim (IsBroken p) e here so = proposes here (IsBroken p) e refl tt (BrokenAt p) so tt IsDone tt (slice_index words 0 == 0)
+      at_stand (Step victim) (IsRunning chair rest) (tree_by i words (IsRunning chair rest) t) e (rest_step chair.own chair.place chair.restart.bottom victim chair.restart.kind rest (e, so))
+  step_act victim (IsBroken p) e here so = proposes here (IsBroken p) e refl tt (BrokenAt p) so tt IsDone tt (slice_index words 0 == 0) refl
 
   soft_act : (x : Standing) → stand_of state c ≡ x → is_done_at x ≡ false → LeavesSo i.shape state c x → Kept (places_of i.shape (record { words = words; stand = slice_set state.stand c IsLost })) t
   soft_act x e live so = leaves x e live so words IsLost tt refl refl
@@ -605,27 +607,27 @@ module _ (i : Image) (fair : IsFair i.code) (plain : i.shape.takeover ≡ ByPlac
   quit_fits Watch lt = (tt, tt)
 
   quits : (why : Why) → IsPresent i.shape state c → (x : Standing) → stand_of state c ≡ x → is_done_at x ≡ false → LeavesSo i.shape state c x
-      → Kept (places_of i.shape (Proposed (quit_with c why) IsLost (slice_index words 0 == 0))) t ⊎ IsStopped i.shape (Proposed (quit_with c why) IsLost (slice_index words 0 == 0)).words
+      → Kept (places_of i.shape (Proposed (quit_with c why) IsLost (slice_index words 0 == 0))) t
   quits why here x e live so = let fit = quit_fits why here.there in
-      proposes here x e live so (quit_with c why) fit.0 fit.1 IsLost tt (slice_index words 0 == 0)
+      proposes here x e live so (quit_with c why) fit.0 fit.1 IsLost tt (slice_index words 0 == 0) refl
 
   act_step : (act : Act) (x : Standing) → stand_of state c ≡ x → ActsSo i state t c act x → GoalAt act x
   act_step (Step victim) x e so = step_act victim x e so.0 so.1
-  act_step Soft IsDone e so = inl law
-  act_step Soft IsLost e so = inl (soft_act IsLost e refl so.1)
-  act_step Soft (IsPlaced p) e so = inl (soft_act (IsPlaced p) e refl so.1)
-  act_step Soft (IsAt p r) e so = inl (soft_act (IsAt p r) e refl so.1)
-  act_step Soft (IsWithin chair row) e so = inl (soft_act (IsWithin chair row) e refl so.1)
-  act_step Soft (IsRunning chair rest) e so = inl (soft_act (IsRunning chair rest) e refl so.1)
-  act_step Soft (IsBroken p) e so = inl (soft_act (IsBroken p) e refl so.1)
-  act_step Hard IsDone e so = inl law
-  act_step Hard IsLost e so = inl (hard_act so.0 IsLost e refl so.1)
-  act_step Hard (IsPlaced p) e so = inl (hard_act so.0 (IsPlaced p) e refl so.1)
-  act_step Hard (IsAt p r) e so = inl (hard_act so.0 (IsAt p r) e refl so.1)
-  act_step Hard (IsWithin chair row) e so = inl (hard_act so.0 (IsWithin chair row) e refl so.1)
-  act_step Hard (IsRunning chair rest) e so = inl (hard_act so.0 (IsRunning chair rest) e refl so.1)
-  act_step Hard (IsBroken p) e so = inl (hard_act so.0 (IsBroken p) e refl so.1)
-  act_step (Quit why) IsDone e so = inl law
+  act_step Soft IsDone e so = law
+  act_step Soft IsLost e so = soft_act IsLost e refl so.1
+  act_step Soft (IsPlaced p) e so = soft_act (IsPlaced p) e refl so.1
+  act_step Soft (IsAt p r) e so = soft_act (IsAt p r) e refl so.1
+  act_step Soft (IsWithin chair row) e so = soft_act (IsWithin chair row) e refl so.1
+  act_step Soft (IsRunning chair rest) e so = soft_act (IsRunning chair rest) e refl so.1
+  act_step Soft (IsBroken p) e so = soft_act (IsBroken p) e refl so.1
+  act_step Hard IsDone e so = law
+  act_step Hard IsLost e so = hard_act so.0 IsLost e refl so.1
+  act_step Hard (IsPlaced p) e so = hard_act so.0 (IsPlaced p) e refl so.1
+  act_step Hard (IsAt p r) e so = hard_act so.0 (IsAt p r) e refl so.1
+  act_step Hard (IsWithin chair row) e so = hard_act so.0 (IsWithin chair row) e refl so.1
+  act_step Hard (IsRunning chair rest) e so = hard_act so.0 (IsRunning chair rest) e refl so.1
+  act_step Hard (IsBroken p) e so = hard_act so.0 (IsBroken p) e refl so.1
+  act_step (Quit why) IsDone e so = law
   act_step (Quit why) IsLost e so = quits why so.0 IsLost e refl so.1
   act_step (Quit why) (IsPlaced p) e so = quits why so.0 (IsPlaced p) e refl so.1
   act_step (Quit why) (IsAt p r) e so = quits why so.0 (IsAt p r) e refl so.1
@@ -633,5 +635,8 @@ module _ (i : Image) (fair : IsFair i.code) (plain : i.shape.takeover ≡ ByPlac
   act_step (Quit why) (IsRunning chair rest) e so = quits why so.0 (IsRunning chair rest) e refl so.1
   act_step (Quit why) (IsBroken p) e so = quits why so.0 (IsBroken p) e refl so.1
 
+pub turns_keep_on : TurnsKeepOn
+turns_keep_on i fair plain root input state t law turn so = act_step i fair plain root input state t law turn.processor turn.act (stand_of state turn.processor) refl so
+
 pub turns_keep : TurnsKeep
-turns_keep i fair plain root input state t law turn so = act_step i fair plain root input state t law turn.processor turn.act (stand_of state turn.processor) refl so
+turns_keep i fair plain root input state t law turn so = inl (turns_keep_on i fair plain root input state t law turn so)

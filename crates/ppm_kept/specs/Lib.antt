@@ -23,3 +23,5 @@ pub mod Steps
 pub mod Bearing
 pub mod Answers
 pub mod Rooms
+pub mod Stops
+pub mod Spent

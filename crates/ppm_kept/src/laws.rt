@@ -17,7 +17,9 @@ ghost use Rattle.ppm_kept.specs.Places.{MachinesOpen, TurnsShow};
 ghost use Rattle.ppm_kept.specs.Pushing.{AllUntakenStays, Push1RowKeeps, Push2RowKeeps};
 ghost use Rattle.ppm_kept.specs.Returns.{ExchangesAreSeen, UnwindRowKeeps};
 ghost use Rattle.ppm_kept.specs.Rooms.{RoomIsBounded};
+ghost use Rattle.ppm_kept.specs.Spent.{FullPoolsAreSpent};
 ghost use Rattle.ppm_kept.specs.Steps.{TurnsKeep};
+ghost use Rattle.ppm_kept.specs.Stops.{TurnsKeepOn, WordsStay};
 ghost use Rattle.ppm_kept.specs.Takes.{TakeRowsKeep};
 ghost use Rattle.ppm_kept.specs.Turns.{StepsAreSeen, StoresAreCells};
 ghost use Rattle.ppm_kept.specs.Unruns.{AllUnrunsStay};
@@ -145,8 +147,12 @@ pub fn loads_show()
 /// the turn stops the run with a finish that is no outcome. What it takes from the deque's half is
 /// `ActsSo`: the processor is alone in its place, how its row was come to, and of takes that the branch
 /// waits and that no other place is about to begin it.
+/// As the finish word then says no outcome, all is kept there too, and behind it (`all`); so it is where
+/// words come back that were saved, with all processors lost.
 pub fn turns_keep()
     ensures law { TurnsKeep }
+    ensures all { TurnsKeepOn }
+    ensures back { WordsStay }
 {}
 
 /// From a state by places that is kept, with a finish word that says an outcome: the depth-first run of
@@ -156,8 +162,10 @@ pub fn ends_as_meant()
 {}
 
 /// Whatever places do, none gives out more of its pool than the depth-first run takes of all.
+/// Where one finds its pool full, that run takes more words than a pool has.
 pub fn room_is_bounded()
     ensures law { RoomIsBounded }
+    ensures spent { FullPoolsAreSpent }
 {}
 
 /// Blocks are opened upwards in each pool: those that were forked lie below what a place may still

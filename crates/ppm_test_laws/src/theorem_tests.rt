@@ -12,8 +12,8 @@ use ppm_kept::{
     turns_keep, turns_show, unruns_stay, untaken_stays, unwind_row_keeps,
 };
 use ppm_runs::{
-    births_follow, runs_come_to, runs_end, runs_open, stops_stay, takers_have, turns_are_orderly,
-    turns_go_on,
+    births_follow, room_is_spent, runs_come_back, runs_come_to, runs_end, runs_open, runs_stay,
+    stops_stay, takers_have, turns_are_orderly, turns_go_on,
 };
 use ppm_slots::{frames_stay_trim, writes_are_slots};
 use ppm_tickets::{
@@ -90,6 +90,9 @@ fn the_laws_of_runs_are_called() {
     runs_open();
     runs_end();
     runs_come_to();
+    runs_stay();
+    runs_come_back();
+    room_is_spent();
     stops_stay();
     takers_have();
     births_follow();
