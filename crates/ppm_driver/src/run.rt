@@ -14,6 +14,7 @@ ghost use Rattle.ppm_driver.specs.RunRows.{RunRows};
 ghost use Rattle.ppm_driver.specs.Watchers.{watcher_count};
 
 use crate::loading::{Sizes, share};
+use crate::meant::runs_are_as_programs;
 use crate::one_run::answers_are_one;
 use crate::planned::refusal_answer;
 use crate::programs::read_program;
@@ -69,6 +70,7 @@ pub fn run_command<R: Threads + Wait + Sync, S: Source, K: Sink, E: Sink, W: Wat
     // The rows rest on these laws; the calls do nothing.
     answers_are_one();
     plans_have_one_answer();
+    runs_are_as_programs();
     let answer = read_answer(rt, alloc, options, faults, source, watch);
     deliver(alloc, &answer, out, err)
 }
