@@ -2,14 +2,16 @@
 //! codes without conflicts.
 ghost use Rattle.ppm_kept.specs.Answers.{EndsAsMeant};
 ghost use Rattle.ppm_kept.specs.Arriving.{ArriveRowKeeps};
-ghost use Rattle.ppm_kept.specs.Bearing.{TurnsBear};
+ghost use Rattle.ppm_kept.specs.Bearing.{HeirsBear, TurnsBear, TurnsBearLeft};
 ghost use Rattle.ppm_kept.specs.Births.{AllBirthsStay, OpeningsHaveNone, RowsAreSteady};
 ghost use Rattle.ppm_kept.specs.Copies.{AllCopiesStay, OpeningsHaveCopies};
 ghost use Rattle.ppm_kept.specs.Fates.{AllFatesShow, AllFatesStay, NoneIsLeft};
+ghost use Rattle.ppm_kept.specs.Heirs.{HeirsKeep};
 ghost use Rattle.ppm_kept.specs.JoinLast.{JoinRowKeeps, LastJoinRowKeeps};
 ghost use Rattle.ppm_kept.specs.JoinValues.{AllBranchValuesPass};
 ghost use Rattle.ppm_kept.specs.Joins.{EarlyJoinRowKeeps};
 ghost use Rattle.ppm_kept.specs.Laws.{BumpRowKeeps, FramesRun, RunRowKeeps};
+ghost use Rattle.ppm_kept.specs.Left.{TurnsKeepLeft};
 ghost use Rattle.ppm_kept.specs.Loads.{AllLoadsShow};
 ghost use Rattle.ppm_kept.specs.Openings.{ImagesOpen, OpeningsAreKept};
 ghost use Rattle.ppm_kept.specs.Others.{OthersKeep};
@@ -124,9 +126,17 @@ pub fn join_row_keeps()
 /// over. A right branch that it begins waited for a taker, at the frame that begins, and its strand
 /// is then the place's. Two things the deque's half has to say: that the branch waits when its
 /// offset is loaded (`IsWaiting`), and that no other place is about to begin it (`IsAlone`). Where a
-/// place goes on with what it inherited, with takeover by entries, nothing is said yet.
+/// place goes on with what it inherited, with takeover by entries, that is `heirs_keep`.
 pub fn take_rows_keep()
     ensures law { TakeRowsKeep }
+{}
+
+/// Where a place goes on with what it inherited, with takeover by entries: the strand of the closed
+/// place is then its own, and what that place had given out of its pool stays as it is. The closed
+/// place's counter counts as its ceiling, and its free words as none; blocks are forked upwards still.
+pub fn heirs_keep()
+    ensures law { HeirsKeep }
+    ensures births { HeirsBear }
 {}
 
 /// The state by places, from the words of a machine and from where its processors stand: each turn of
@@ -153,6 +163,14 @@ pub fn turns_keep()
     ensures law { TurnsKeep }
     ensures all { TurnsKeepOn }
     ensures back { WordsStay }
+{}
+
+/// With either takeover, of the state with the places left out that others have followed: a turn by which
+/// no place goes on with what it inherited keeps it. Where one does, that is `heirs_keep`; by places none
+/// was followed, and this is `turns_keep`. So of the blocks that are forked.
+pub fn turns_keep_left()
+    ensures law { TurnsKeepLeft }
+    ensures births { TurnsBearLeft }
 {}
 
 /// From a state by places that is kept, with a finish word that says an outcome: the depth-first run of
