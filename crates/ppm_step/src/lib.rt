@@ -40,5 +40,7 @@ pub use laws::{done_has_cause, finish_stays, records_lead, room_has_cause, turns
 pub use local::{Local, Stand};
 pub use row::{Point, Row, Seat, Then};
 pub use running::{Running, Stage};
+pub use stages::location_is_there;
 pub use standing::{entered, header_of};
+pub use there::{address, cell_is_there, restart_there, restart_word};
 pub use turn::{Act, Next, Told, Turn, Why};

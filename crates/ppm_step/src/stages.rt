@@ -78,7 +78,7 @@ impl Running {
 
     /// Whether the n-th store of its end, or what it installs, is there.
     #[inline(never)]
-    fn put_is_there(&self, shape: &Shape, code: &Code, end: End, n: usize) -> bool
+    pub fn put_is_there(&self, shape: &Shape, code: &Code, end: End, n: usize) -> bool
         requires home { IsHome self.now.home }
         requires end { IsEnd end }
         ensures { result
