@@ -17,25 +17,8 @@ use atomic_table::Seat;
 use ppm_cells::{Cell, Shape};
 use ppm_code::{Code, FrameWord, Instr, Location, Reached, Step, reach};
 use ppm_ports::Watch;
-use ppm_step::{Home, Seat as Place, Want};
+use ppm_step::{Home, Seat as Place, Want, location_is_there};
 use ppm_table::{View, Words, tell};
-
-/// Whether the word of a location is there.
-#[inline(always)]
-pub(crate) fn is_there(shape: &Shape, home: &Home, location: Location) -> bool
-    requires { IsHome home.now }
-    ensures { result ≡ is_there shape.now (cell_of home.now (location_of location)) }
-{
-    let words = u64::from(shape.word_count());
-    match location {
-        Location::Frame(FrameWord::Slot(slot)) => {
-            u64::from(home.frame) + 6 + u64::from(slot) < words
-        }
-        Location::Frame(FrameWord::Value) => u64::from(home.frame) + 4 < words,
-        Location::New(offset) => u64::from(home.block) + u64::from(offset) < words,
-        Location::Array(index) => index < u64::from(shape.arrays),
-    }
-}
 
 /// The address of a location that is there.
 #[inline(always)]
@@ -78,7 +61,7 @@ fn load_at<W: Watch>(
         ≡ running shape.now place.now (Loads (cell_of home.now (location_of location)) go)
         → HasLoaded W.told words.now.shared.key shape.now place.now go mine.old.me mine.new.me watch.old watch.new result }
 {
-    if !is_there(shape, home, location) {
+    if !location_is_there(shape, home, location) {
         return Load::Gone;
     }
     let at = address_of(shape, home, location);
@@ -113,7 +96,7 @@ fn store_at<W: Watch>(
         ≡ running shape.now place.now (Stores (cell_of home.now (location_of location)) (ANumber word) rest)
         → HasStored W.told words.now.shared.key shape.now place.now rest mine.old.me mine.new.me watch.old watch.new result }
 {
-    if !is_there(shape, home, location) {
+    if !location_is_there(shape, home, location) {
         return Store::Gone;
     }
     let at = address_of(shape, home, location);

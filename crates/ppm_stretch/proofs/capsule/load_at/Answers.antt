@@ -10,7 +10,7 @@ use Rattle.ppm_stretch.proofs.capsule.load_at.Goals as goal
 pub returns-then-found-clause-loaded : goal.returns-then-found-clause-loaded
 returns-then-found-clause-loaded g c = λ go stands.
     let rest = Loads (cell_of c.args.home.now (location_of c.args.location)) go in
-    let at = ap (λ (b : Bool). running_if c.args.place.now rest b) c.if-not-is_there.ensures ∙ sym stands in
+    let at = ap (λ (b : Bool). running_if c.args.place.now rest b) c.if-not-location_is_there.ensures ∙ sym stands in
     let came = runs_one c.args.words.now.shared.key c.args.shape.now c.requires.table.1 c.args.place.now rest c.args.mine.now.me c.tell-found.new.seat.me (Wants c.address_of-at.result) c.tell-found.result.word
     at c.requires.sits (omega (arith, c.requires.place))
     (ap (λ (n : ℕ). Wants n) (sym c.address_of-at.ensures.value)) tt tt c.tell-found.ensures.told in
@@ -19,7 +19,7 @@ returns-then-found-clause-loaded g c = λ go stands.
 pub returns-else-found-clause-loaded : goal.returns-else-found-clause-loaded
 returns-else-found-clause-loaded g c = λ go stands.
     let rest = Loads (cell_of c.args.home.now (location_of c.args.location)) go in
-    let at = ap (λ (b : Bool). running_if c.args.place.now rest b) c.if-not-is_there.ensures ∙ sym stands in
+    let at = ap (λ (b : Bool). running_if c.args.place.now rest b) c.if-not-location_is_there.ensures ∙ sym stands in
     let came = runs_one c.args.words.now.shared.key c.args.shape.now c.requires.table.1 c.args.place.now rest c.args.mine.now.me c.tell-found.new.seat.me (Wants c.address_of-at.result) c.tell-found.result.word
     at c.requires.sits (omega (arith, c.requires.place))
     (ap (λ (n : ℕ). Wants n) (sym c.address_of-at.ensures.value)) tt tt c.tell-found.ensures.told in

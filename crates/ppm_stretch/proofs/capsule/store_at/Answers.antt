@@ -11,7 +11,7 @@ use Rattle.ppm_stretch.proofs.capsule.store_at.Goals as goal
 pub returns-then-found-clause-stored : goal.returns-then-found-clause-stored
 returns-then-found-clause-stored g c = λ left stands.
     let rest = Stores (cell_of c.args.home.now (location_of c.args.location)) (ANumber c.args.word) left in
-    let at = ap (λ (b : Bool). running_if c.args.place.now rest b) c.if-not-is_there.ensures ∙ sym stands in
+    let at = ap (λ (b : Bool). running_if c.args.place.now rest b) c.if-not-location_is_there.ensures ∙ sym stands in
     let came = runs_one c.args.words.now.shared.key c.args.shape.now c.requires.table.1 c.args.place.now rest c.args.mine.now.me c.tell-found.new.seat.me (Wants c.address_of-at.result c.args.word) c.tell-found.result.word
     at c.requires.sits (omega (arith, c.requires.place))
     (ap (λ (n : ℕ). Wants n c.args.word) (sym c.address_of-at.ensures.value)) tt c.tell-found.ensures.found c.tell-found.ensures.told in
@@ -20,7 +20,7 @@ returns-then-found-clause-stored g c = λ left stands.
 pub returns-else-found-clause-stored : goal.returns-else-found-clause-stored
 returns-else-found-clause-stored g c = λ left stands.
     let rest = Stores (cell_of c.args.home.now (location_of c.args.location)) (ANumber c.args.word) left in
-    let at = ap (λ (b : Bool). running_if c.args.place.now rest b) c.if-not-is_there.ensures ∙ sym stands in
+    let at = ap (λ (b : Bool). running_if c.args.place.now rest b) c.if-not-location_is_there.ensures ∙ sym stands in
     let came = runs_one c.args.words.now.shared.key c.args.shape.now c.requires.table.1 c.args.place.now rest c.args.mine.now.me c.tell-found.new.seat.me (Wants c.address_of-at.result c.args.word) c.tell-found.result.word
     at c.requires.sits (omega (arith, c.requires.place))
     (ap (λ (n : ℕ). Wants n c.args.word) (sym c.address_of-at.ensures.value)) tt c.tell-found.ensures.found c.tell-found.ensures.told in
