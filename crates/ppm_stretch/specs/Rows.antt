@@ -22,7 +22,7 @@ stage_of (AtEnd end) = stages.Ending end 0
 
 -- a watcher was told of these steps, where it refused none
 abbrev pub Makes : {W : Type 0} → (W → Option (List Event)) → Opening → (own : ℕ) → Mine → Mine → W → W → Steps → Type 0
-Makes told k own me me' w w' steps = steps.refused ≡ false → Moves told k own me me' w w' steps.made steps.work steps.looks
+Makes told k own me me' w w' steps = steps.refused ≡ false → Moves told k own me me' w w' steps.made steps.work steps.looks steps.exchanged
 
 -- a processor gives up, if it is still to take a step
 abbrev pub Quits : Mine → Mine → (lives : Bool) → Type 0

@@ -45,8 +45,8 @@ pub(crate) fn load_finish<W: Watch>(
     ensures keeps { Keeps (W.told watch.old) (W.told watch.new) }
     ensures refused { result.fine ≡ false → KeepsList (W.told watch.old) (W.told watch.new) }
     ensures sits_on { IsSeat place.now.own mine.new.me }
-    ensures goes { Goes words.now.shared.key place.now.own mine.old.me mine.new.me 1 0 1 }
-    ensures moves { result.fine ≡ true → Moves W.told words.now.shared.key place.now.own mine.old.me mine.new.me watch.old watch.new 1 0 1 }
+    ensures goes { Goes words.now.shared.key place.now.own mine.old.me mine.new.me 1 0 1 false }
+    ensures moves { result.fine ≡ true → Moves W.told words.now.shared.key place.now.own mine.old.me mine.new.me watch.old watch.new 1 0 1 false }
     ensures stands { stands_by words.now.shared.key place.now.own (deeds_in mine.new.me.0)
         ≡ at_finish shape.now code.now place.now.own place.now.place (Some place.now.restart) result.word }
 {
@@ -75,8 +75,8 @@ pub(crate) fn load_header<W: Watch>(
     ensures keeps { Keeps (W.told watch.old) (W.told watch.new) }
     ensures refused { result.fine ≡ false → KeepsList (W.told watch.old) (W.told watch.new) }
     ensures sits_on { IsSeat place.now.own mine.new.me }
-    ensures goes { Goes words.now.shared.key place.now.own mine.old.me mine.new.me 1 1 0 }
-    ensures moves { result.fine ≡ true → Moves W.told words.now.shared.key place.now.own mine.old.me mine.new.me watch.old watch.new 1 1 0 }
+    ensures goes { Goes words.now.shared.key place.now.own mine.old.me mine.new.me 1 1 0 false }
+    ensures moves { result.fine ≡ true → Moves W.told words.now.shared.key place.now.own mine.old.me mine.new.me watch.old watch.new 1 1 0 false }
     ensures stands { stands_by words.now.shared.key place.now.own (deeds_in mine.new.me.0)
         ≡ enters shape.now code.now place.now place.now.restart.kind (slice_get code.now.capsules result.word) }
 {
@@ -106,8 +106,8 @@ pub(crate) fn store_next<W: Watch>(
     ensures refused { result ≡ false → KeepsList (W.told watch.old) (W.told watch.new) }
     ensures made { (rest : Rest) → stands_by words.now.shared.key place.now.own (deeds_in mine.old.me.0) ≡ IsRunning place.now rest
         → wanted_rest shape.now place.now rest ≡ wants.Stores at word
-        → (stands_by words.now.shared.key place.now.own (deeds_in mine.new.me.0) ≡ went_rest shape.now place.now 0 rest) × Goes words.now.shared.key place.now.own mine.old.me mine.new.me 1 1 0
-        × (result ≡ true → Moves W.told words.now.shared.key place.now.own mine.old.me mine.new.me watch.old watch.new 1 1 0) }
+        → (stands_by words.now.shared.key place.now.own (deeds_in mine.new.me.0) ≡ went_rest shape.now place.now 0 rest) × Goes words.now.shared.key place.now.own mine.old.me mine.new.me 1 1 0 false
+        × (result ≡ true → Moves W.told words.now.shared.key place.now.own mine.old.me mine.new.me watch.old watch.new 1 1 0 false) }
 {
     let _ = shape.slots;
     let _ = place.own;

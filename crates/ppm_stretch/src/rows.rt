@@ -1,5 +1,5 @@
 //! The steps that a processor makes in a row, up to one for which something is to be chosen.
-ghost use Rattle.std.specs.Prelude.{◌≡◌, ◌≢◌, ◌≤◌, ◌<◌, ◌+◌, ◌^◌, Bool, true, false, not, if◌then◌else◌};
+ghost use Rattle.std.specs.Prelude.{◌≡◌, ◌≢◌, ◌≤◌, ◌<◌, ◌+◌, ◌^◌, ◌||◌, ℕ, Bool, true, false, not, if◌then◌else◌};
 ghost use Rattle.ppm_cells.specs.declared.shape.Shape.{Shape};
 ghost use Rattle.ppm_code.specs.declared.code.CodeParts.{CodeParts};
 ghost use Rattle.ppm_step.specs.Locals.{IsLocal, standing_of};
@@ -7,20 +7,20 @@ ghost use Rattle.ppm_step.specs.Standings.{IsDone};
 ghost use Rattle.ppm_step.specs.State.{is_done_at, next_of, seeks_holder};
 ghost use Rattle.ppm_step.specs.Told.{is_work_next};
 ghost use Rattle.ppm_step.specs.declared.turn.Next.TheVariants.{Seek};
-ghost use Rattle.ppm_table.specs.Run.{stands_by, deeds_in, IsAtCode, IsSeat};
+ghost use Rattle.ppm_table.specs.Run.{stands_by, deed_by, deeds_in, IsAtCode, IsSeat};
 ghost use Rattle.ppm_table.specs.Shown.{IsOf, opening_of};
 ghost use Rattle.ppm_table.specs.Telling.{Keeps};
 ghost use Rattle.ppm_stretch.specs.Rows.{IsChoosing, Makes, Stops};
-ghost use Rattle.ppm_stretch.specs.Steady.{Moves, Refuses, looks_behind};
+ghost use Rattle.ppm_stretch.specs.Steady.{Moves, Refuses, is_exchange, looks_behind};
 
 use crate::frames::{ends, rounds};
 use crate::refusing::give_way;
-use crate::way::{NONE, REFUSED, Steps, row};
+use crate::way::{NONE, OneStep, REFUSED, Steps, row};
 use atomic_table::Seat;
 use ppm_cells::{RestartKind, Shape};
 use ppm_code::Code;
 use ppm_ports::Watch;
-use ppm_step::{Local, Next, Point, Row, Stage, Stand, Then};
+use ppm_step::{Local, Next, Point, Row, Stage, Stand, Then, Want};
 use ppm_table::{Processor, Shared, View, Words, tell};
 
 /// Whether a victim is due for the coming step.
@@ -43,8 +43,18 @@ pub fn is_due(local: &Local) -> bool
     }
 }
 
-/// Makes the step that comes next, whatever it is, for which no victim is due: whether the watcher
-/// took it.
+/// Whether a word step is a compare-and-modify.
+#[inline(always)]
+fn is_exchange(want: Want) -> bool
+    ensures { (found : ℕ) → result ≡ is_exchange (deed_by want found) }
+{
+    match want {
+        Want::Exchanges(..) => true,
+        Want::Loads(_) | Want::Stores(..) | Want::Nothing => false,
+    }
+}
+
+/// Makes the step that comes next, whatever it is, for which no victim is due.
 #[inline(never)]
 fn one<W: Watch>(
     local: &mut Local,
@@ -53,7 +63,7 @@ fn one<W: Watch>(
     watch: &mut W,
     shape: &Shape,
     code: &Code,
-) -> bool
+) -> OneStep
     requires table { IsAtCode mine.old.table_id words.now.shared.table_id words.now.shared.key shape.now code.now }
     requires local { IsLocal shape.now code.now local.old }
     requires sits { IsSeat local.old.own mine.old.me }
@@ -63,9 +73,9 @@ fn one<W: Watch>(
     requires seeks { next_of (standing_of shape.now code.now local.old) ≢ Seek }
     ensures table { mine.new.table_id ≡ mine.old.table_id }
     ensures keeps { Keeps (W.told watch.old) (W.told watch.new) }
-    ensures moves { result ≡ true → (b : Bool) → is_work_next shape.now code.now (next_of (standing_of shape.now code.now local.old)) ≡ b
-        → Moves W.told words.now.shared.key local.old.own mine.old.me mine.new.me watch.old watch.new 1 (if b then 1 else 0) (if b then 0 else 1) }
-    ensures refuses { result ≡ false → Refuses W.told words.now.shared.key local.old.own mine.old.me mine.new.me watch.old watch.new
+    ensures moves { result.fine ≡ true → (b : Bool) → is_work_next shape.now code.now (next_of (standing_of shape.now code.now local.old)) ≡ b
+        → Moves W.told words.now.shared.key local.old.own mine.old.me mine.new.me watch.old watch.new 1 (if b then 1 else 0) (if b then 0 else 1) result.exchanged }
+    ensures refuses { result.fine ≡ false → Refuses W.told words.now.shared.key local.old.own mine.old.me mine.new.me watch.old watch.new
         (not (is_done_at (standing_of shape.now code.now local.new))) 1 }
     ensures sits_on { IsSeat local.old.own mine.new.me }
     ensures stands_on { standing_of shape.now code.now local.new ≡ stands_by words.now.shared.key local.old.own (deeds_in mine.new.me.0) }
@@ -74,9 +84,13 @@ fn one<W: Watch>(
 {
     let place = local.place();
     let want = local.want(shape, code, 0);
+    let exchanged = is_exchange(want);
     let found = tell(words, shape, mine, watch, place, want);
     local.observe(shape, code, 0, found.word);
-    found.fine
+    OneStep {
+        fine: found.fine,
+        exchanged,
+    }
 }
 
 /// Goes on by the capsules of frames before which the processor stands, by the stores of an end, or
@@ -144,18 +158,6 @@ fn is_of_frame(kind: RestartKind) -> bool {
     matches!(kind, RestartKind::Run { .. })
 }
 
-/// Whether the coming step is a compare-and-modify of a row. A job is put into a deque by one.
-#[inline(always)]
-fn is_exchange(local: &Local) -> bool {
-    matches!(
-        local.stand,
-        Stand::Within {
-            row: Row::Exchange { .. },
-            ..
-        }
-    )
-}
-
 /// One step for which nothing is to be chosen, or none.
 #[inline(always)]
 fn other_step<W: Watch>(
@@ -185,20 +187,25 @@ fn other_step<W: Watch>(
     if is_due(local) {
         return NONE;
     }
-    let exchanges = is_exchange(local);
     match local.next() {
-        Next::Work => if one(local, words, mine, watch, shape, code) {
-            row(1, 1, 0, exchanges)
-        } else {
-            give_way(local, words, mine, shape, code);
-            REFUSED
-        },
-        Next::Look => if one(local, words, mine, watch, shape, code) {
-            row(1, 0, 1, exchanges)
-        } else {
-            give_way(local, words, mine, shape, code);
-            REFUSED
-        },
+        Next::Work => {
+            let step = one(local, words, mine, watch, shape, code);
+            if step.fine {
+                row(1, 1, 0, step.exchanged)
+            } else {
+                give_way(local, words, mine, shape, code);
+                REFUSED
+            }
+        }
+        Next::Look => {
+            let look = one(local, words, mine, watch, shape, code);
+            if look.fine {
+                row(1, 0, 1, look.exchanged)
+            } else {
+                give_way(local, words, mine, shape, code);
+                REFUSED
+            }
+        }
         Next::Seek => NONE,
         Next::Done => NONE,
     }
@@ -251,7 +258,9 @@ pub(crate) fn steps_along<W: Watch>(
 
 /// Whether one of them holds.
 #[inline(always)]
-fn one_of(first: bool, second: bool) -> bool {
+fn one_of(first: bool, second: bool) -> bool
+    ensures { result ≡ (first || second) }
+{
     first || second
 }
 

@@ -26,7 +26,7 @@ returns-then-number-clause-begun g c = (
 pub returns-else-finish-clause-begun : goal.returns-else-finish-clause-begun
 returns-else-finish-clause-begun g c =
     let place = c.args.place.now in
-    refuses_one g.W.Watch.told c.args.words.now.shared.key place.own c.args.mine.now.me c.load_finish-finish.new.mine.me c.args.watch.now c.load_finish-finish.new.watch 0 1 false 2 (omega arith)
+    refuses_one g.W.Watch.told c.args.words.now.shared.key place.own c.args.mine.now.me c.load_finish-finish.new.mine.me c.args.watch.now c.load_finish-finish.new.watch 0 1 false false 2 (omega arith)
     c.requires.sits c.load_finish-finish.ensures.goes (c.load_finish-finish.ensures.refused c.if-finish.false) (
       c.load_finish-finish.ensures.sits_on,
       c.load_finish-finish.ensures.stands ∙ finish_is_over c.args.shape.now c.args.code.now place.own place.place (Some place.restart) c.load_finish-finish.result.word c.if-finish-ne0.true,
@@ -35,7 +35,7 @@ returns-else-finish-clause-begun g c =
 pub returns-then-not-finish-clause-begun : goal.returns-then-not-finish-clause-begun
 returns-then-not-finish-clause-begun g c =
     let place = c.args.place.now in
-    refuses_one g.W.Watch.told c.args.words.now.shared.key place.own c.args.mine.now.me c.load_finish-finish.new.mine.me c.args.watch.now c.load_finish-finish.new.watch 0 1 true 2 (omega arith)
+    refuses_one g.W.Watch.told c.args.words.now.shared.key place.own c.args.mine.now.me c.load_finish-finish.new.mine.me c.args.watch.now c.load_finish-finish.new.watch 0 1 false true 2 (omega arith)
     c.requires.sits c.load_finish-finish.ensures.goes (c.load_finish-finish.ensures.refused (fine_not _ c.if-not-finish.true)) (
       c.load_finish-finish.ensures.sits_on,
       λ done. header_lives c.args.shape.now c.args.code.now place c.args.header c.load_finish-finish.result.word c.requires.header c.if-finish-ne0.false (sym c.load_finish-finish.ensures.stands ∙ done),

@@ -41,7 +41,7 @@ returns-in-Installed-clause-makes g c = λ fine.
     let k = c.args.words.now.shared.key in
     let i = c.loop-made.invariant in
     let made = c.loop-made.made in
-    subst (λ (steps : Steps). Moves g.W.Watch.told k c.args.local.now.own c.args.mine.now.me c.end_at.new.mine.me c.args.watch.now c.end_at.new.watch steps.made steps.work steps.looks)
+    subst (λ (steps : Steps). Moves g.W.Watch.told k c.args.local.now.own c.args.mine.now.me c.end_at.new.mine.me c.args.watch.now c.end_at.new.watch steps.made steps.work steps.looks steps.exchanged)
     (sym c.row.ensures)
     (moves_then g.W.Watch.told k c.args.local.now.own c.args.mine.now.me c.loop-made.mine.me c.end_at.new.mine.me c.args.watch.now c.loop-made.watch c.end_at.new.watch
     made 1 made 1 0 0 (made + 1) (made + 1) 0 refl refl refl i.3 c.in-Installed.ensures.ended.0)
@@ -53,7 +53,7 @@ returns-in-Gone-clause-makes g c = λ fine.
     let made = c.loop-made.made in
     let ended = c.in-Gone.ensures.ended in
     let none : made + 0 ≡ made = omega arith in
-    subst (λ (steps : Steps). Moves g.W.Watch.told k c.args.local.now.own c.args.mine.now.me c.end_at.new.mine.me c.args.watch.now c.end_at.new.watch steps.made steps.work steps.looks)
+    subst (λ (steps : Steps). Moves g.W.Watch.told k c.args.local.now.own c.args.mine.now.me c.end_at.new.mine.me c.args.watch.now c.end_at.new.watch steps.made steps.work steps.looks steps.exchanged)
     (sym c.row-in-Gone.ensures)
     (moves_then g.W.Watch.told k c.args.local.now.own c.args.mine.now.me c.loop-made.mine.me c.end_at.new.mine.me c.args.watch.now c.loop-made.watch c.end_at.new.watch
     made 0 made 0 0 0 made made 0 none none refl i.3

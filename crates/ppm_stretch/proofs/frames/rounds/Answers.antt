@@ -43,7 +43,7 @@ returns-in-Done-clause-makes g c = λ fine.
     let work = c.round-circuit.result.work in
     let circled = subst (λ (halt : Halt). Circled g.W.Watch.told k c.args.shape.now c.args.code.now seat home c.round-circuit.new.registers c.loop-made.mine.me c.round-circuit.new.mine.me
     c.loop-made.watch c.round-circuit.new.watch (c.args.most - c.loop-made.made) made work halt) c.in-Done.is c.round-circuit.ensures.circled in
-    subst (λ (steps : Steps). Moves g.W.Watch.told k c.args.local.now.own c.args.mine.now.me c.round-circuit.new.mine.me c.args.watch.now c.round-circuit.new.watch steps.made steps.work steps.looks)
+    subst (λ (steps : Steps). Moves g.W.Watch.told k c.args.local.now.own c.args.mine.now.me c.round-circuit.new.mine.me c.args.watch.now c.round-circuit.new.watch steps.made steps.work steps.looks steps.exchanged)
     (sym c.row-in-Done.ensures)
     (moves_then g.W.Watch.told k c.args.local.now.own c.args.mine.now.me c.loop-made.mine.me c.round-circuit.new.mine.me c.args.watch.now c.loop-made.watch c.round-circuit.new.watch
     c.loop-made.made made c.loop-made.work work 0 1 (c.loop-made.made + made) (c.loop-made.work + work) 1 refl refl (from_none work 1) i.4 circled.0)
@@ -58,7 +58,7 @@ returns-in-Broken-clause-makes g c = λ fine.
     let work = c.round-circuit.result.work in
     let circled = subst (λ (halt : Halt). Circled g.W.Watch.told k c.args.shape.now c.args.code.now seat home c.round-circuit.new.registers c.loop-made.mine.me c.round-circuit.new.mine.me
     c.loop-made.watch c.round-circuit.new.watch (c.args.most - c.loop-made.made) made work halt) c.in-Broken.is c.round-circuit.ensures.circled in
-    subst (λ (steps : Steps). Moves g.W.Watch.told k c.args.local.now.own c.args.mine.now.me c.round-circuit.new.mine.me c.args.watch.now c.round-circuit.new.watch steps.made steps.work steps.looks)
+    subst (λ (steps : Steps). Moves g.W.Watch.told k c.args.local.now.own c.args.mine.now.me c.round-circuit.new.mine.me c.args.watch.now c.round-circuit.new.watch steps.made steps.work steps.looks steps.exchanged)
     (sym c.row-in-Broken.ensures)
     (moves_then g.W.Watch.told k c.args.local.now.own c.args.mine.now.me c.loop-made.mine.me c.round-circuit.new.mine.me c.args.watch.now c.loop-made.watch c.round-circuit.new.watch
     c.loop-made.made made c.loop-made.work work 0 0 (c.loop-made.made + made) (c.loop-made.work + work) 0 refl refl (from_none work 0) i.4 circled.0)
@@ -76,7 +76,7 @@ returns-in-Midway-clause-makes g c = λ fine.
     let work = c.round-circuit.result.work in
     let circled = subst (λ (halt : Halt). Circled g.W.Watch.told k c.args.shape.now c.args.code.now seat home c.round-circuit.new.registers c.loop-made.mine.me c.round-circuit.new.mine.me
     c.loop-made.watch c.round-circuit.new.watch (c.args.most - c.loop-made.made) made work halt) c.in-Midway.is c.round-circuit.ensures.circled in
-    subst (λ (steps : Steps). Moves g.W.Watch.told k c.args.local.now.own c.args.mine.now.me c.round-circuit.new.mine.me c.args.watch.now c.round-circuit.new.watch steps.made steps.work steps.looks)
+    subst (λ (steps : Steps). Moves g.W.Watch.told k c.args.local.now.own c.args.mine.now.me c.round-circuit.new.mine.me c.args.watch.now c.round-circuit.new.watch steps.made steps.work steps.looks steps.exchanged)
     (sym c.row-in-Midway.ensures)
     (moves_then g.W.Watch.told k c.args.local.now.own c.args.mine.now.me c.loop-made.mine.me c.round-circuit.new.mine.me c.args.watch.now c.loop-made.watch c.round-circuit.new.watch
     c.loop-made.made made c.loop-made.work work 0 0 (c.loop-made.made + made) (c.loop-made.work + work) 0 refl refl (from_none work 0) i.4 circled.0)
@@ -94,7 +94,7 @@ returns-in-Stopped-clause-makes g c = λ fine.
     let work = c.round-circuit.result.work in
     let circled = subst (λ (halt : Halt). Circled g.W.Watch.told k c.args.shape.now c.args.code.now seat home c.round-circuit.new.registers c.loop-made.mine.me c.round-circuit.new.mine.me
     c.loop-made.watch c.round-circuit.new.watch (c.args.most - c.loop-made.made) made work halt) c.in-Stopped.is c.round-circuit.ensures.circled in
-    subst (λ (steps : Steps). Moves g.W.Watch.told k c.args.local.now.own c.args.mine.now.me c.round-circuit.new.mine.me c.args.watch.now c.round-circuit.new.watch steps.made steps.work steps.looks)
+    subst (λ (steps : Steps). Moves g.W.Watch.told k c.args.local.now.own c.args.mine.now.me c.round-circuit.new.mine.me c.args.watch.now c.round-circuit.new.watch steps.made steps.work steps.looks steps.exchanged)
     (sym c.row-in-Stopped.ensures)
     (moves_then g.W.Watch.told k c.args.local.now.own c.args.mine.now.me c.loop-made.mine.me c.round-circuit.new.mine.me c.args.watch.now c.loop-made.watch c.round-circuit.new.watch
     c.loop-made.made made c.loop-made.work work 0 0 (c.loop-made.made + made) (c.loop-made.work + work) 0 refl refl (from_none work 0) i.4 circled.0)

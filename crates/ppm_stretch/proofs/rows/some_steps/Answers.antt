@@ -37,9 +37,9 @@ returns-then-most-ge2-clause-makes g c = λ fine.
     let first = c.rounds-circled in
     let other = c.other_step in
     moves_behind g.W.Watch.told k own c.args.mine.now.me first.new.mine.me other.new.mine.me c.args.watch.now first.new.watch other.new.watch
-    first.result.made other.result.made first.result.work other.result.work first.result.looks other.result.looks c.if-circled-gt0.false first.ensures.few.1 first.ensures.few.2
+    first.result.made other.result.made first.result.work other.result.work first.result.looks other.result.looks first.result.exchanged other.result.exchanged c.if-circled-gt0.false first.ensures.few.1 first.ensures.few.2
     (first.ensures.makes c.if-circled.false)
-    (subst (λ (n : ℕ). Moves g.W.Watch.told k n first.new.mine.me other.new.mine.me first.new.watch other.new.watch other.result.made other.result.work other.result.looks) first.ensures.own_stays
+    (subst (λ (n : ℕ). Moves g.W.Watch.told k n first.new.mine.me other.new.mine.me first.new.watch other.new.watch other.result.made other.result.work other.result.looks other.result.exchanged) first.ensures.own_stays
     (other.ensures.makes fine))
 
 pub returns-then-most-ge2-clause-stops : goal.returns-then-most-ge2-clause-stops
@@ -49,7 +49,7 @@ returns-then-most-ge2-clause-stops g c = λ refused.
     let first = c.rounds-circled in
     let other = c.other_step in
     gives_up_behind g.W.Watch.told k own c.args.mine.now.me first.new.mine.me other.new.mine.me c.args.watch.now first.new.watch other.new.watch
-    first.result.made first.result.work first.result.looks 1 c.args.most (omega (arith, c.if-circled-gt0.false, c.requires.most))
+    first.result.made first.result.work first.result.looks first.result.exchanged 1 c.args.most (omega (arith, c.if-circled-gt0.false, c.requires.most))
     (first.ensures.makes c.if-circled.false)
     (subst (λ (n : ℕ). GivesUp g.W.Watch.told k n first.new.mine.me other.new.mine.me first.new.watch other.new.watch 1) first.ensures.own_stays (other.ensures.stops refused))
 
@@ -60,9 +60,9 @@ returns-in-Ending-clause-makes g c = λ fine.
     let first = c.ends-ended in
     let other = c.other_step-in-Ending in
     moves_behind g.W.Watch.told k own c.args.mine.now.me first.new.mine.me other.new.mine.me c.args.watch.now first.new.watch other.new.watch
-    first.result.made other.result.made first.result.work other.result.work first.result.looks other.result.looks c.if-ended-gt0.false first.ensures.few.1 first.ensures.few.2
+    first.result.made other.result.made first.result.work other.result.work first.result.looks other.result.looks first.result.exchanged other.result.exchanged c.if-ended-gt0.false first.ensures.few.1 first.ensures.few.2
     (first.ensures.makes c.if-ended.false)
-    (subst (λ (n : ℕ). Moves g.W.Watch.told k n first.new.mine.me other.new.mine.me first.new.watch other.new.watch other.result.made other.result.work other.result.looks) first.ensures.own_stays
+    (subst (λ (n : ℕ). Moves g.W.Watch.told k n first.new.mine.me other.new.mine.me first.new.watch other.new.watch other.result.made other.result.work other.result.looks other.result.exchanged) first.ensures.own_stays
     (other.ensures.makes fine))
 
 pub returns-in-Ending-clause-stops : goal.returns-in-Ending-clause-stops
@@ -72,7 +72,7 @@ returns-in-Ending-clause-stops g c = λ refused.
     let first = c.ends-ended in
     let other = c.other_step-in-Ending in
     gives_up_behind g.W.Watch.told k own c.args.mine.now.me first.new.mine.me other.new.mine.me c.args.watch.now first.new.watch other.new.watch
-    first.result.made first.result.work first.result.looks 1 c.args.most (omega (arith, c.if-ended-gt0.false, c.requires.most))
+    first.result.made first.result.work first.result.looks first.result.exchanged 1 c.args.most (omega (arith, c.if-ended-gt0.false, c.requires.most))
     (first.ensures.makes c.if-ended.false)
     (subst (λ (n : ℕ). GivesUp g.W.Watch.told k n first.new.mine.me other.new.mine.me first.new.watch other.new.watch 1) first.ensures.own_stays (other.ensures.stops refused))
 
