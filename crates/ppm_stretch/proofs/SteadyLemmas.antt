@@ -7,6 +7,7 @@ use Rattle.ppm_step.specs.declared.ask.Want.TheVariants.{Stores as WantsStore}
 use Rattle.ppm_step.specs.declared.row.Seat.{Seat}
 use Rattle.ppm_step.specs.declared.turn.Next.TheVariants.{Seek}
 use Rattle.ppm_step.specs.Frames.{Rest, Loads, Stores, Full, Installs, Breaks}
+use Rattle.ppm_ports.specs.Told.{KeepsList}
 use Rattle.ppm_words.specs.declared.event.Event.{Event}
 use Rattle.ppm_step.specs.Standings.{Standing, IsDone, IsBroken, IsRunning, running, running_if, rest_is_there, wanted, wanted_rest, went_rest}
 use Rattle.ppm_step.specs.State.{seeks_holder, next_of}
@@ -16,7 +17,7 @@ use Rattle.ppm_table.specs.declared.view.Opening.{Opening}
 use Rattle.ppm_table.specs.Run.{behind, stood, stands_by, deeds_in, deed_by, seen, seated, Mine, IsSeat, IsAsked, IsFound}
 use Rattle.ppm_stretch.specs.Steady.{IsSteady, AreSteady, work_in, looks_in, looks_behind, Goes, Moves, Lives, Refuses}
 use Rattle.ppm_stretch.specs.Rows.{GivesUp}
-use Rattle.ppm_table.specs.Telling.{shown, deeds_since, Keeps, Shows}
+use Rattle.ppm_table.specs.Telling.{shown, deeds_since, Shows}
 use Rattle.ppm_table.proofs.TellingLemmas.{shown_both, since_is}
 use Rattle.ppm_table.proofs.StandLemmas.{deeds_seen, stands_on, step_told}
 
@@ -216,14 +217,15 @@ module _ {W : Type 0} (told : W → Option (List Event)) where
       subst (λ (v : W). Moves told k own me me' w v 0 0 0) (sym same_w) (subst (λ (m : Mine). Moves told k own me m w w 0 0 0) (sym same) (moves_none k own me w sits))
 
   -- a step of which a watcher refused to be told
-  pub refuses_one : (k : Opening) (own : ℕ) (me me' : Mine) (w w' : W) (v x : ℕ) (lives : Bool) → IsSeat own me → Goes k own me me' 1 v x
-      → Keeps (told w) (told w') → Lives k own me' lives → Refuses told k own me me' w w' lives
-  refuses_one k own me me' w w' v x lives sits goes keeps stays = record {
+  pub refuses_one : (k : Opening) (own : ℕ) (me me' : Mine) (w w' : W) (v x : ℕ) (lives : Bool) (most : ℕ) → 0 < most → IsSeat own me → Goes k own me me' 1 v x
+      → KeepsList (told w) (told w') → Lives k own me' lives → Refuses told k own me me' w w' lives most
+  refuses_one k own me me' w w' v x lives most some sits goes keeps stays = record {
     before = me;
     watch = w;
     made = 0;
     work = 0;
     looks = 0;
+    few = some;
     moves = moves_none k own me w sits;
     last_work = v;
     last_looks = x;
@@ -233,14 +235,15 @@ module _ {W : Type 0} (told : W → Option (List Event)) where
   }
 
   -- behind others
-  pub refuses_then : (k : Opening) (own : ℕ) (a b c : Mine) (w0 w1 w2 : W) (m v x : ℕ) (lives : Bool) → Moves told k own a b w0 w1 m v x
-      → Refuses told k own b c w1 w2 lives → Refuses told k own a c w0 w2 lives
-  refuses_then k own a b c w0 w1 w2 m v x lives f r = record {
+  pub refuses_then : (k : Opening) (own : ℕ) (a b c : Mine) (w0 w1 w2 : W) (m v x : ℕ) (lives : Bool) (n most : ℕ) → m + n ≤ most
+      → Moves told k own a b w0 w1 m v x → Refuses told k own b c w1 w2 lives n → Refuses told k own a c w0 w2 lives most
+  refuses_then k own a b c w0 w1 w2 m v x lives n most within f r = record {
     before = r.before;
     watch = r.watch;
     made = m + r.made;
     work = v + r.work;
     looks = looks_behind x r.work r.looks;
+    few = (let few = r.few in omega (arith, few, within));
     moves = moves_then k own a b r.before w0 w1 r.watch m r.made v r.work x r.looks (m + r.made) (v + r.work) (looks_behind x r.work r.looks) refl refl refl f r.moves;
     last_work = r.last_work;
     last_looks = r.last_looks;
@@ -249,13 +252,40 @@ module _ {W : Type 0} (told : W → Option (List Event)) where
     stays = r.stays;
   }
 
-  -- a processor that gives up behind steps that its watcher was told of
-  pub gives_up_behind : (k : Opening) (own : ℕ) (a b c : Mine) (w0 w1 w2 : W) (m v x : ℕ) → Moves told k own a b w0 w1 m v x
-      → GivesUp told k own b c w1 w2 → GivesUp told k own a c w0 w2
-  gives_up_behind k own a b c w0 w1 w2 m v x f g = record {
+  -- within more steps
+  pub refuses_within : (k : Opening) (own : ℕ) (a b : Mine) (w0 w1 : W) (lives : Bool) (n most : ℕ) → n ≤ most → Refuses told k own a b w0 w1 lives n
+      → Refuses told k own a b w0 w1 lives most
+  refuses_within k own a b w0 w1 lives n most within r = record {
+    before = r.before;
+    watch = r.watch;
+    made = r.made;
+    work = r.work;
+    looks = r.looks;
+    few = (let few = r.few in omega (arith, few, within));
+    moves = r.moves;
+    last_work = r.last_work;
+    last_looks = r.last_looks;
+    last = r.last;
+    keeps = r.keeps;
+    stays = r.stays;
+  }
+
+  pub gives_up_within : (k : Opening) (own : ℕ) (a b : Mine) (w0 w1 : W) (n most : ℕ) → n ≤ most → GivesUp told k own a b w0 w1 n
+      → GivesUp told k own a b w0 w1 most
+  gives_up_within k own a b w0 w1 n most within g = record {
     lives = g.lives;
     behind = g.behind;
-    refuses = refuses_then k own a b g.behind w0 w1 w2 m v x g.lives f g.refuses;
+    refuses = refuses_within k own a g.behind w0 w1 g.lives n most within g.refuses;
+    quits = g.quits;
+  }
+
+  -- a processor that gives up behind steps that its watcher was told of
+  pub gives_up_behind : (k : Opening) (own : ℕ) (a b c : Mine) (w0 w1 w2 : W) (m v x n most : ℕ) → m + n ≤ most
+      → Moves told k own a b w0 w1 m v x → GivesUp told k own b c w1 w2 n → GivesUp told k own a c w0 w2 most
+  gives_up_behind k own a b c w0 w1 w2 m v x n most within f g = record {
+    lives = g.lives;
+    behind = g.behind;
+    refuses = refuses_then k own a b g.behind w0 w1 w2 m v x g.lives n most within f g.refuses;
     quits = g.quits;
   }
 

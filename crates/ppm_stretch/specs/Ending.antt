@@ -25,4 +25,4 @@ module _ {W : Type 0} (told : W → Option (List Event)) where
   HasEnded k s seat rest me me' w w' (steps.Installed restart) =
       Moves told k seat.own me me' w w' 1 1 0 × (stands_by k seat.own (deeds_in me'.0) ≡ IsAt seat.place (Some restart)) × IsRestart restart
   HasEnded k s seat rest me me' w w' steps.Gone = (me' ≡ me) × (w' ≡ w) × (stands_by k seat.own (deeds_in me'.0) ≡ IsBroken seat.place)
-  HasEnded k s seat rest me me' w w' steps.Refused = Refuses told k seat.own me me' w w' true
+  HasEnded k s seat rest me me' w w' steps.Refused = Refuses told k seat.own me me' w w' true 1

@@ -55,7 +55,7 @@ module _ {W : Type 0} (told : W → Option (List Event)) where
   HasBegun k s code seat frame copy me me' w w' (begun.Entered number) =
       Moves told k seat.own me me' w w' 2 1 0
       × (stands_by k seat.own (deeds_in me'.0) ≡ enters s code seat (Run frame copy) (slice_get code.capsules number))
-  HasBegun k s code seat frame copy me me' w w' (begun.Refused lives) = Refuses told k seat.own me me' w w' lives
+  HasBegun k s code seat frame copy me me' w w' (begun.Refused lives) = Refuses told k seat.own me me' w w' lives 2
 
   -- what came of the stores with which a frame goes round
   abbrev pub HasTurned : Opening → Shape → Seat → Home → Mine → Mine → W → W → Turned → Type 0
@@ -63,27 +63,27 @@ module _ {W : Type 0} (told : W → Option (List Event)) where
       (made ≤ 1) × Moves told k seat.own me me' w w' made made 0 × (stands_by k seat.own (deeds_in me'.0) ≡ IsBroken seat.place)
   HasTurned k s seat home me me' w w' turned.Round =
       Moves told k seat.own me me' w w' 2 2 0 × (stands_by k seat.own (deeds_in me'.0) ≡ IsAt seat.place (Some (goes_round seat home)))
-  HasTurned k s seat home me me' w w' turned.Refused = Refuses told k seat.own me me' w w' true
+  HasTurned k s seat home me me' w w' turned.Refused = Refuses told k seat.own me me' w w' true 2
 
-  -- what came of the capsule with a number: there is none, or it was gone through so far
-  abbrev pub WentAlong : Opening → Shape → CodeParts → Seat → Home → (number : ℕ) → List ℕ → Mine → Mine → W → W → Option Stretch → Type 0
-  WentAlong k s code seat home number registers me me' w w' None = (me' ≡ me) × (w' ≡ w) × (stands_by k seat.own (deeds_in me'.0) ≡ IsBroken seat.place)
-  WentAlong k s code seat home number registers me me' w w' (Some stretch) =
+  -- what came of the capsule with a number: there is none, or it was gone through so far, by at most so many steps
+  abbrev pub WentAlong : Opening → Shape → CodeParts → Seat → Home → (number : ℕ) → List ℕ → Mine → Mine → W → W → (most : ℕ) → Option Stretch → Type 0
+  WentAlong k s code seat home number registers me me' w w' most None = (me' ≡ me) × (w' ≡ w) × (stands_by k seat.own (deeds_in me'.0) ≡ IsBroken seat.place)
+  WentAlong k s code seat home number registers me me' w w' most (Some stretch) =
       (capsule : Capsule) × (slice_get code.capsules number ≡ Some capsule)
-      × LedTo told k s code seat home capsule.instrs registers me me' w w' stretch.made stretch.way
+      × LedTo told k s code seat home capsule.instrs registers me me' w w' most stretch.made stretch.way
 
-  -- where a processor stands behind a round
-  abbrev pub Circled : Opening → Shape → CodeParts → Seat → Home → List ℕ → Mine → Mine → W → W → (made work : ℕ) → Halt → Type 0
-  Circled k s code seat home registers me me' w w' made work halts.Done =
+  -- where a processor stands behind a round of at most so many steps
+  abbrev pub Circled : Opening → Shape → CodeParts → Seat → Home → List ℕ → Mine → Mine → W → W → (most made work : ℕ) → Halt → Type 0
+  Circled k s code seat home registers me me' w w' most made work halts.Done =
       Moves told k seat.own me me' w w' made work 1 × (stands_by k seat.own (deeds_in me'.0) ≡ IsDone)
-  Circled k s code seat home registers me me' w w' made work halts.Broken =
+  Circled k s code seat home registers me me' w w' most made work halts.Broken =
       Moves told k seat.own me me' w w' made work 0 × (stands_by k seat.own (deeds_in me'.0) ≡ IsBroken seat.place)
-  Circled k s code seat home registers me me' w w' made work halts.Round =
+  Circled k s code seat home registers me me' w w' most made work halts.Round =
       Moves told k seat.own me me' w w' made work 0 × (stands_by k seat.own (deeds_in me'.0) ≡ IsAt seat.place (Some (goes_round seat home)))
-  Circled k s code seat home registers me me' w w' made work (halts.Midway number at) =
+  Circled k s code seat home registers me me' w w' most made work (halts.Midway number at) =
       Moves told k seat.own me me' w w' made work 0
       × ((capsule : Capsule) × (slice_get code.capsules number ≡ Some capsule) × StandsAt k s code seat home capsule.instrs at registers me')
-  Circled k s code seat home registers me me' w w' made work (halts.Stopped number next what) =
+  Circled k s code seat home registers me me' w w' most made work (halts.Stopped number next what) =
       Moves told k seat.own me me' w w' made work 0
       × ((capsule : Capsule) × (slice_get code.capsules number ≡ Some capsule) × StandsReached k s code seat home capsule.instrs next what registers me')
-  Circled k s code seat home registers me me' w w' made work (halts.Refused lives) = Refuses told k seat.own me me' w w' lives
+  Circled k s code seat home registers me me' w w' most made work (halts.Refused lives) = Refuses told k seat.own me me' w w' lives most

@@ -30,16 +30,16 @@ Quits me me' true = deeds_in me'.0 ≡ deeds_in me.0 ++ Quitted Watch ∷ []
 Quits me me' false = me' ≡ me
 
 module _ {W : Type 0} (told : W → Option (List Event)) where
-  -- a watcher was told of all these steps but the last, which it refused; then the processor gave up, if it was still to take one
-  pub record GivesUp (k : Opening) (own : ℕ) (me me' : Mine) (w w' : W) : Type 0 where
+  -- a watcher was told of all these steps, at most so many, but the last, which it refused; then the processor gave up, if it was still to take one
+  pub record GivesUp (k : Opening) (own : ℕ) (me me' : Mine) (w w' : W) (most : ℕ) : Type 0 where
     pub lives : Bool
     pub behind : Mine
-    pub refuses : Refuses told k own me behind w w' lives
+    pub refuses : Refuses told k own me behind w w' lives most
     pub quits : Quits behind me' lives
 
-  -- so it is where it refused one
-  abbrev pub Stops : Opening → (own : ℕ) → Mine → Mine → W → W → Steps → Type 0
-  Stops k own me me' w w' steps = steps.refused ≡ true → GivesUp k own me me' w w'
+  -- so it is where it refused one of at most so many
+  abbrev pub Stops : Opening → (own : ℕ) → Mine → Mine → W → W → (most : ℕ) → Steps → Type 0
+  Stops k own me me' w w' most steps = steps.refused ≡ true → GivesUp k own me me' w w' most
 
 -- something is to be chosen for the coming step: a victim is due, or the processor would seek work; or it takes no step any more
 abbrev pub IsChoosing : Standing → Type 0

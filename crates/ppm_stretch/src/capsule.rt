@@ -202,7 +202,7 @@ pub(crate) fn go_along<W: Watch>(
     ensures table { mine.new.table_id ≡ mine.old.table_id }
     ensures keeps { Keeps (W.told watch.old) (W.told watch.new) }
     ensures few { result.made ≤ most }
-    ensures led { LedTo W.told words.now.shared.key shape.now code.now place.now home.now instrs.now registers.new mine.old.me mine.new.me watch.old watch.new result.made result.way }
+    ensures led { LedTo W.told words.now.shared.key shape.now code.now place.now home.now instrs.now registers.new mine.old.me mine.new.me watch.old watch.new most result.made result.way }
 {
     let mut at = from;
     let mut made = 0;

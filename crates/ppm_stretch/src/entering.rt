@@ -1,6 +1,6 @@
 //! The steps with which a capsule of a frame begins and goes round, each an atomic step of the
 //! table.
-ghost use Rattle.std.specs.Prelude.{◌≡◌, ◌≤◌, ◌<◌, slice_get, IfSome, Some, true};
+ghost use Rattle.std.specs.Prelude.{◌≡◌, ◌≤◌, ◌<◌, slice_get, IfSome, Some, true, false};
 ghost use Rattle.ppm_cells.specs.Cells.{word_count};
 ghost use Rattle.ppm_cells.specs.declared.restart.RestartKind.TheVariants.{Run};
 ghost use Rattle.ppm_step.specs.Locals.{IsHeaderOf};
@@ -10,6 +10,7 @@ ghost use Rattle.ppm_step.specs.Frames.{Rest, ending};
 ghost use Rattle.ppm_step.specs.declared.ask.Want.TheVariants as wants;
 ghost use Rattle.ppm_step.specs.Standings.{at_finish, enters, running, went_rest, wanted_rest, IsRunning};
 ghost use Rattle.ppm_stretch.specs.Entering.{HasBegun, HasTurned, Circled, WentAlong, StandsBefore, StandsAtHeader, IsToStore};
+ghost use Rattle.ppm_ports.specs.Told.{KeepsList};
 ghost use Rattle.ppm_table.specs.Telling.{Keeps};
 ghost use Rattle.ppm_stretch.specs.declared.way.Halt.TheVariants.{Refused, Round};
 ghost use Rattle.ppm_table.specs.Run.{stands_by, deeds_in, IsAtCode, IsAtTable, IsSeat};
@@ -42,6 +43,7 @@ pub(crate) fn load_finish<W: Watch>(
     requires stands { StandsBefore words.now.shared.key place.now mine.old.me }
     ensures table { mine.new.table_id ≡ mine.old.table_id }
     ensures keeps { Keeps (W.told watch.old) (W.told watch.new) }
+    ensures refused { result.fine ≡ false → KeepsList (W.told watch.old) (W.told watch.new) }
     ensures sits_on { IsSeat place.now.own mine.new.me }
     ensures goes { Goes words.now.shared.key place.now.own mine.old.me mine.new.me 1 0 1 }
     ensures moves { result.fine ≡ true → Moves W.told words.now.shared.key place.now.own mine.old.me mine.new.me watch.old watch.new 1 0 1 }
@@ -71,6 +73,7 @@ pub(crate) fn load_header<W: Watch>(
     requires stands { StandsAtHeader words.now.shared.key place.now header mine.old.me }
     ensures table { mine.new.table_id ≡ mine.old.table_id }
     ensures keeps { Keeps (W.told watch.old) (W.told watch.new) }
+    ensures refused { result.fine ≡ false → KeepsList (W.told watch.old) (W.told watch.new) }
     ensures sits_on { IsSeat place.now.own mine.new.me }
     ensures goes { Goes words.now.shared.key place.now.own mine.old.me mine.new.me 1 1 0 }
     ensures moves { result.fine ≡ true → Moves W.told words.now.shared.key place.now.own mine.old.me mine.new.me watch.old watch.new 1 1 0 }
@@ -100,6 +103,7 @@ pub(crate) fn store_next<W: Watch>(
     requires stores { IsToStore words.now.shared.key shape.now place.now at word mine.old.me }
     ensures table { mine.new.table_id ≡ mine.old.table_id }
     ensures keeps { Keeps (W.told watch.old) (W.told watch.new) }
+    ensures refused { result ≡ false → KeepsList (W.told watch.old) (W.told watch.new) }
     ensures made { (rest : Rest) → stands_by words.now.shared.key place.now.own (deeds_in mine.old.me.0) ≡ IsRunning place.now rest
         → wanted_rest shape.now place.now rest ≡ wants.Stores at word
         → (stands_by words.now.shared.key place.now.own (deeds_in mine.new.me.0) ≡ went_rest shape.now place.now 0 rest) × Goes words.now.shared.key place.now.own mine.old.me mine.new.me 1 1 0
@@ -236,7 +240,7 @@ pub(crate) fn capsule_along<W: Watch>(
     ensures table { mine.new.table_id ≡ mine.old.table_id }
     ensures keeps { Keeps (W.told watch.old) (W.told watch.new) }
     ensures few { IfSome result (λ stretch. stretch.made ≤ most) }
-    ensures along { WentAlong W.told words.now.shared.key shape.now code.now place.now home.now number registers.new mine.old.me mine.new.me watch.old watch.new result }
+    ensures along { WentAlong W.told words.now.shared.key shape.now code.now place.now home.now number registers.new mine.old.me mine.new.me watch.old watch.new most result }
 {
     if number >= code.parts().capsules.as_slice().len() as u64 {
         return None;
@@ -286,7 +290,7 @@ pub(crate) fn round<W: Watch>(
     ensures keeps { Keeps (W.told watch.old) (W.told watch.new) }
     ensures few { result.made ≤ most }
     ensures on { (result.work ≤ result.made) × (result.halt ≡ Round → 0 < result.made) }
-    ensures circled { Circled W.told words.now.shared.key shape.now code.now place.now home.now registers.new mine.old.me mine.new.me watch.old watch.new result.made result.work result.halt }
+    ensures circled { Circled W.told words.now.shared.key shape.now code.now place.now home.now registers.new mine.old.me mine.new.me watch.old watch.new most result.made result.work result.halt }
 {
     let number = match begin(
         words, shape, code, mine, watch, place, home.frame, home.copy, header,

@@ -34,4 +34,4 @@ returns-in-Breaks-clause-led g c =
 pub returns-in-Refused-clause-led : goal.returns-in-Refused-clause-led
 returns-in-Refused-clause-led g c =
     refuses_then g.W.Watch.told c.args.words.now.shared.key c.args.place.now.own c.args.mine.now.me c.loop-made.mine.me c.step_at.new.mine.me c.args.watch.now c.loop-made.watch c.step_at.new.watch
-    c.loop-made.made c.loop-made.made 0 true c.loop-made.invariant.3 c.in-Refused.ensures.came
+    c.loop-made.made c.loop-made.made 0 true 1 c.args.most (omega (arith, c.loop-made-test.true)) c.loop-made.invariant.3 c.in-Refused.ensures.came

@@ -24,5 +24,5 @@ returns-else-found-clause-stored g c = λ left stands.
     let came = runs_one c.args.words.now.shared.key c.args.shape.now c.requires.table.1 c.args.place.now rest c.args.mine.now.me c.tell-found.new.seat.me (Wants c.address_of-at.result c.args.word) c.tell-found.result.word
     at c.requires.sits (omega (arith, c.requires.place))
     (ap (λ (n : ℕ). Wants n c.args.word) (sym c.address_of-at.ensures.value)) tt c.tell-found.ensures.found c.tell-found.ensures.told in
-    refuses_one g.W.Watch.told c.args.words.now.shared.key c.args.place.now.own c.args.mine.now.me c.tell-found.new.seat.me c.args.watch.now c.tell-found.new.watch 1 0 true c.requires.sits came.0 c.tell-found.ensures.keeps
+    refuses_one g.W.Watch.told c.args.words.now.shared.key c.args.place.now.own c.args.mine.now.me c.tell-found.new.seat.me c.args.watch.now c.tell-found.new.watch 1 0 true 1 (omega arith) c.requires.sits came.0 (c.tell-found.ensures.refused c.if-found.false)
     (runs_lives c.args.words.now.shared.key c.args.shape.now c.args.place.now rest c.args.mine.now.me c.tell-found.new.seat.me c.tell-found.result.word came)

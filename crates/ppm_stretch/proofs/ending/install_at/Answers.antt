@@ -1,4 +1,4 @@
-use Rattle.std.proofs.Common.{true, ◌∙◌, sym, refl}
+use Rattle.std.proofs.Common.{true, ◌∙◌, sym, refl, arith}
 use Rattle.ppm_step.specs.Frames.{Installs}
 use Rattle.ppm_stretch.proofs.SteadyLemmas.{refuses_one, went_lives, stands_there, stands_broken, stores_same}
 use Rattle.ppm_stretch.proofs.ending.install_at.Goals as goal
@@ -31,5 +31,5 @@ returns-else-store_next-clause-ended g c = λ left.
     let at = stands_there c.args.shape.now c.args.place.now _ rest c.requires.stands c.if-not-restart_there.ensures in
     let wants = stores_same _ _ _ _ c.address-at.ensures.value c.word_there-word.ensures.value in
     let made = c.store_next.ensures.made rest at wants in
-    refuses_one g.W.Watch.told c.args.words.now.shared.key c.args.place.now.own c.args.mine.now.me c.store_next.new.mine.me c.args.watch.now c.store_next.new.watch 1 0 true c.requires.sits made.1
-    c.store_next.ensures.keeps (made.1.sits, λ done. went_lives c.args.shape.now c.args.place.now 0 rest (sym made.0 ∙ done))
+    refuses_one g.W.Watch.told c.args.words.now.shared.key c.args.place.now.own c.args.mine.now.me c.store_next.new.mine.me c.args.watch.now c.store_next.new.watch 1 0 true 1 (omega arith) c.requires.sits made.1
+    (c.store_next.ensures.refused c.if-store_next.false) (made.1.sits, λ done. went_lives c.args.shape.now c.args.place.now 0 rest (sym made.0 ∙ done))

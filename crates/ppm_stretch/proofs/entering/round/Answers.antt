@@ -1,9 +1,9 @@
-use Rattle.std.proofs.Common.{◌≡◌, ◌+◌, true, refl, sym, subst, arith}
+use Rattle.std.proofs.Common.{◌≡◌, ◌+◌, ◌-◌, true, refl, sym, subst, arith}
 use Rattle.ppm_stretch.specs.declared.way.Circuit.{Circuit}
 use Rattle.ppm_stretch.specs.declared.way.Way.{Way}
 use Rattle.ppm_stretch.specs.Entering.{Circled}
 use Rattle.ppm_stretch.specs.Steady.{LedTo}
-use Rattle.ppm_stretch.proofs.SteadyLemmas.{moves_then, refuses_then, no_looks}
+use Rattle.ppm_stretch.proofs.SteadyLemmas.{moves_then, refuses_then, refuses_within, no_looks}
 use Rattle.ppm_table.proofs.TellingLemmas.{keeps_both}
 use Rattle.ppm_stretch.proofs.entering.round.Goals as goal
 
@@ -15,7 +15,7 @@ returns-in-Breaks-clause-circled g c =
     let first : 2 + made ≡ made + 2 = omega arith in
     let second : 1 + made ≡ made + 1 = omega arith in
     let led = subst (λ (way : Way). LedTo g.W.Watch.told k c.args.shape.now c.args.code.now c.args.place.now c.args.home.now along.0.instrs c.capsule_along.new.registers
-    c.begin.new.mine.me c.capsule_along.new.mine.me c.begin.new.watch c.capsule_along.new.watch made way) c.in-Breaks.is along.2 in
+    c.begin.new.mine.me c.capsule_along.new.mine.me c.begin.new.watch c.capsule_along.new.watch (c.args.most - 2) made way) c.in-Breaks.is along.2 in
     let so_far = moves_then g.W.Watch.told k c.args.place.now.own c.args.mine.now.me c.begin.new.mine.me c.capsule_along.new.mine.me c.args.watch.now c.begin.new.watch c.capsule_along.new.watch
     2 made 1 made 0 0 (made + 2) (made + 1) 0 first second (no_looks made) c.in-Entered.ensures.begun.0 led.0 in
     (so_far, led.1)
@@ -28,7 +28,7 @@ returns-in-Made-clause-circled g c =
     let first : 2 + made ≡ made + 2 = omega arith in
     let second : 1 + made ≡ made + 1 = omega arith in
     let led = subst (λ (way : Way). LedTo g.W.Watch.told k c.args.shape.now c.args.code.now c.args.place.now c.args.home.now along.0.instrs c.capsule_along.new.registers
-    c.begin.new.mine.me c.capsule_along.new.mine.me c.begin.new.watch c.capsule_along.new.watch made way) c.in-Made.is along.2 in
+    c.begin.new.mine.me c.capsule_along.new.mine.me c.begin.new.watch c.capsule_along.new.watch (c.args.most - 2) made way) c.in-Made.is along.2 in
     let so_far = moves_then g.W.Watch.told k c.args.place.now.own c.args.mine.now.me c.begin.new.mine.me c.capsule_along.new.mine.me c.args.watch.now c.begin.new.watch c.capsule_along.new.watch
     2 made 1 made 0 0 (made + 2) (made + 1) 0 first second (no_looks made) c.in-Entered.ensures.begun.0 led.0 in
     (so_far, (along.0, along.1, led.1))
@@ -41,7 +41,7 @@ returns-after-most-made-ge4-clause-circled g c =
     let first : 2 + made ≡ made + 2 = omega arith in
     let second : 1 + made ≡ made + 1 = omega arith in
     let led = subst (λ (way : Way). LedTo g.W.Watch.told k c.args.shape.now c.args.code.now c.args.place.now c.args.home.now along.0.instrs c.capsule_along.new.registers
-    c.begin.new.mine.me c.capsule_along.new.mine.me c.begin.new.watch c.capsule_along.new.watch made way) c.in-Stops.is along.2 in
+    c.begin.new.mine.me c.capsule_along.new.mine.me c.begin.new.watch c.capsule_along.new.watch (c.args.most - 2) made way) c.in-Stops.is along.2 in
     let so_far = moves_then g.W.Watch.told k c.args.place.now.own c.args.mine.now.me c.begin.new.mine.me c.capsule_along.new.mine.me c.args.watch.now c.begin.new.watch c.capsule_along.new.watch
     2 made 1 made 0 0 (made + 2) (made + 1) 0 first second (no_looks made) c.in-Entered.ensures.begun.0 led.0 in
     (so_far, (along.0, along.1, led.1))
@@ -54,7 +54,7 @@ returns-in-Round-clause-circled g c =
     let first : 2 + made ≡ made + 2 = omega arith in
     let second : 1 + made ≡ made + 1 = omega arith in
     let led = subst (λ (way : Way). LedTo g.W.Watch.told k c.args.shape.now c.args.code.now c.args.place.now c.args.home.now along.0.instrs c.capsule_along.new.registers
-    c.begin.new.mine.me c.capsule_along.new.mine.me c.begin.new.watch c.capsule_along.new.watch made way) c.in-Stops.is along.2 in
+    c.begin.new.mine.me c.capsule_along.new.mine.me c.begin.new.watch c.capsule_along.new.watch (c.args.most - 2) made way) c.in-Stops.is along.2 in
     let so_far = moves_then g.W.Watch.told k c.args.place.now.own c.args.mine.now.me c.begin.new.mine.me c.capsule_along.new.mine.me c.args.watch.now c.begin.new.watch c.capsule_along.new.watch
     2 made 1 made 0 0 (made + 2) (made + 1) 0 first second (no_looks made) c.in-Entered.ensures.begun.0 led.0 in
     let third : made + 2 + 2 ≡ made + 4 = omega arith in
@@ -73,7 +73,7 @@ returns-in-Breaks-go_round-clause-circled g c =
     let first : 2 + made ≡ made + 2 = omega arith in
     let second : 1 + made ≡ made + 1 = omega arith in
     let led = subst (λ (way : Way). LedTo g.W.Watch.told k c.args.shape.now c.args.code.now c.args.place.now c.args.home.now along.0.instrs c.capsule_along.new.registers
-    c.begin.new.mine.me c.capsule_along.new.mine.me c.begin.new.watch c.capsule_along.new.watch made way) c.in-Stops.is along.2 in
+    c.begin.new.mine.me c.capsule_along.new.mine.me c.begin.new.watch c.capsule_along.new.watch (c.args.most - 2) made way) c.in-Stops.is along.2 in
     let so_far = moves_then g.W.Watch.told k c.args.place.now.own c.args.mine.now.me c.begin.new.mine.me c.capsule_along.new.mine.me c.args.watch.now c.begin.new.watch c.capsule_along.new.watch
     2 made 1 made 0 0 (made + 2) (made + 1) 0 first second (no_looks made) c.in-Entered.ensures.begun.0 led.0 in
     let stored = c.in-Breaks-go_round.stored in
@@ -88,11 +88,11 @@ returns-in-Refused-way-clause-circled g c =
     let k = c.args.words.now.shared.key in
     let along = c.in-Some.ensures.along in
     let led = subst (λ (way : Way). LedTo g.W.Watch.told k c.args.shape.now c.args.code.now c.args.place.now c.args.home.now along.0.instrs c.capsule_along.new.registers
-    c.begin.new.mine.me c.capsule_along.new.mine.me c.begin.new.watch c.capsule_along.new.watch c.in-Some.stretch.made way) c.in-Refused-way.is along.2 in
+    c.begin.new.mine.me c.capsule_along.new.mine.me c.begin.new.watch c.capsule_along.new.watch (c.args.most - 2) c.in-Some.stretch.made way) c.in-Refused-way.is along.2 in
     subst (λ (x : Circuit). Circled g.W.Watch.told k c.args.shape.now c.args.code.now c.args.place.now c.args.home.now c.capsule_along.new.registers
-    c.args.mine.now.me c.capsule_along.new.mine.me c.args.watch.now c.capsule_along.new.watch x.made x.work x.halt) (sym c.refused-in-Refused-way.ensures)
+    c.args.mine.now.me c.capsule_along.new.mine.me c.args.watch.now c.capsule_along.new.watch c.args.most x.made x.work x.halt) (sym c.refused-in-Refused-way.ensures)
     (refuses_then g.W.Watch.told k c.args.place.now.own c.args.mine.now.me c.begin.new.mine.me c.capsule_along.new.mine.me c.args.watch.now c.begin.new.watch c.capsule_along.new.watch
-    2 1 0 true c.in-Entered.ensures.begun.0 led)
+    2 1 0 true (c.args.most - 2) c.args.most (omega (arith, c.requires.most)) c.in-Entered.ensures.begun.0 led)
 
 pub returns-in-Refused-go_round-clause-circled : goal.returns-in-Refused-go_round-clause-circled
 returns-in-Refused-go_round-clause-circled g c =
@@ -102,18 +102,20 @@ returns-in-Refused-go_round-clause-circled g c =
     let first : 2 + made ≡ made + 2 = omega arith in
     let second : 1 + made ≡ made + 1 = omega arith in
     let led = subst (λ (way : Way). LedTo g.W.Watch.told k c.args.shape.now c.args.code.now c.args.place.now c.args.home.now along.0.instrs c.capsule_along.new.registers
-    c.begin.new.mine.me c.capsule_along.new.mine.me c.begin.new.watch c.capsule_along.new.watch made way) c.in-Stops.is along.2 in
+    c.begin.new.mine.me c.capsule_along.new.mine.me c.begin.new.watch c.capsule_along.new.watch (c.args.most - 2) made way) c.in-Stops.is along.2 in
     let so_far = moves_then g.W.Watch.told k c.args.place.now.own c.args.mine.now.me c.begin.new.mine.me c.capsule_along.new.mine.me c.args.watch.now c.begin.new.watch c.capsule_along.new.watch
     2 made 1 made 0 0 (made + 2) (made + 1) 0 first second (no_looks made) c.in-Entered.ensures.begun.0 led.0 in
     subst (λ (x : Circuit). Circled g.W.Watch.told k c.args.shape.now c.args.code.now c.args.place.now c.args.home.now c.capsule_along.new.registers
-    c.args.mine.now.me c.go_round.new.mine.me c.args.watch.now c.go_round.new.watch x.made x.work x.halt) (sym c.refused-in-Refused-go_round.ensures)
+    c.args.mine.now.me c.go_round.new.mine.me c.args.watch.now c.go_round.new.watch c.args.most x.made x.work x.halt) (sym c.refused-in-Refused-go_round.ensures)
     (refuses_then g.W.Watch.told k c.args.place.now.own c.args.mine.now.me c.capsule_along.new.mine.me c.go_round.new.mine.me c.args.watch.now c.capsule_along.new.watch c.go_round.new.watch
-    (made + 2) (made + 1) 0 true so_far c.in-Refused-go_round.ensures.turned)
+    (made + 2) (made + 1) 0 true 2 c.args.most (omega (arith, c.if-most-made-ge4.true)) so_far c.in-Refused-go_round.ensures.turned)
 
 pub returns-in-Refused-clause-circled : goal.returns-in-Refused-clause-circled
 returns-in-Refused-clause-circled g c =
     subst (λ (x : Circuit). Circled g.W.Watch.told c.args.words.now.shared.key c.args.shape.now c.args.code.now c.args.place.now c.args.home.now c.args.registers.now
-    c.args.mine.now.me c.begin.new.mine.me c.args.watch.now c.begin.new.watch x.made x.work x.halt) (sym c.refused.ensures) c.in-Refused.ensures.begun
+    c.args.mine.now.me c.begin.new.mine.me c.args.watch.now c.begin.new.watch c.args.most x.made x.work x.halt) (sym c.refused.ensures)
+    (refuses_within g.W.Watch.told c.args.words.now.shared.key c.args.place.now.own c.args.mine.now.me c.begin.new.mine.me c.args.watch.now c.begin.new.watch
+    c.in-Refused.lives 2 c.args.most c.requires.most c.in-Refused.ensures.begun)
 
 pub returns-in-Refused-go_round-clause-keeps : goal.returns-in-Refused-go_round-clause-keeps
 returns-in-Refused-go_round-clause-keeps g c =

@@ -70,6 +70,7 @@ returns-in-Refused-clause-stops g c = λ refused.
       lives = true;
       behind = c.end_at.new.mine.me;
       refuses = refuses_then g.W.Watch.told c.args.words.now.shared.key c.args.local.now.own c.args.mine.now.me c.loop-made.mine.me c.end_at.new.mine.me
-          c.args.watch.now c.loop-made.watch c.end_at.new.watch c.loop-made.made c.loop-made.made 0 true i.3 c.in-Refused.ensures.ended;
+          c.args.watch.now c.loop-made.watch c.end_at.new.watch c.loop-made.made c.loop-made.made 0 true 1 c.args.most (omega (arith, c.loop-made-test.true)) i.3
+          c.in-Refused.ensures.ended;
       quits = c.withdraw.ensures.quits;
     }

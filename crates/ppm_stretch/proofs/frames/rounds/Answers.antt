@@ -1,4 +1,4 @@
-use Rattle.std.proofs.Common.{ℕ, ◌∙◌, ◌+◌, Some, sym, refl, ap, subst, arith}
+use Rattle.std.proofs.Common.{ℕ, ◌∙◌, ◌+◌, ◌-◌, Some, sym, refl, ap, subst, arith}
 use Rattle.ppm_cells.specs.declared.restart.RestartKind.{RestartKind}
 use Rattle.ppm_step.specs.declared.frame.Home.{Home}
 use Rattle.ppm_step.specs.declared.row.Seat.{Seat}
@@ -21,7 +21,7 @@ loop-made-preserved g c =
     let made = c.round-circuit.result.made in
     let work = c.round-circuit.result.work in
     let circled = subst (λ (halt : Halt). Circled g.W.Watch.told k c.args.shape.now c.args.code.now seat home c.round-circuit.new.registers c.loop-made.mine.me c.round-circuit.new.mine.me
-    c.loop-made.watch c.round-circuit.new.watch made work halt) c.in-Round.is c.round-circuit.ensures.circled in (
+    c.loop-made.watch c.round-circuit.new.watch (c.args.most - c.loop-made.made) made work halt) c.in-Round.is c.round-circuit.ensures.circled in (
       omega (arith, i.0, c.round-circuit.ensures.few),
       omega (arith, i.1, c.round-circuit.ensures.on.0),
       c.round-circuit.ensures.table ∙ i.2,
@@ -42,7 +42,7 @@ returns-in-Done-clause-makes g c = λ fine.
     let made = c.round-circuit.result.made in
     let work = c.round-circuit.result.work in
     let circled = subst (λ (halt : Halt). Circled g.W.Watch.told k c.args.shape.now c.args.code.now seat home c.round-circuit.new.registers c.loop-made.mine.me c.round-circuit.new.mine.me
-    c.loop-made.watch c.round-circuit.new.watch made work halt) c.in-Done.is c.round-circuit.ensures.circled in
+    c.loop-made.watch c.round-circuit.new.watch (c.args.most - c.loop-made.made) made work halt) c.in-Done.is c.round-circuit.ensures.circled in
     subst (λ (steps : Steps). Moves g.W.Watch.told k c.args.local.now.own c.args.mine.now.me c.round-circuit.new.mine.me c.args.watch.now c.round-circuit.new.watch steps.made steps.work steps.looks)
     (sym c.row-in-Done.ensures)
     (moves_then g.W.Watch.told k c.args.local.now.own c.args.mine.now.me c.loop-made.mine.me c.round-circuit.new.mine.me c.args.watch.now c.loop-made.watch c.round-circuit.new.watch
@@ -57,7 +57,7 @@ returns-in-Broken-clause-makes g c = λ fine.
     let made = c.round-circuit.result.made in
     let work = c.round-circuit.result.work in
     let circled = subst (λ (halt : Halt). Circled g.W.Watch.told k c.args.shape.now c.args.code.now seat home c.round-circuit.new.registers c.loop-made.mine.me c.round-circuit.new.mine.me
-    c.loop-made.watch c.round-circuit.new.watch made work halt) c.in-Broken.is c.round-circuit.ensures.circled in
+    c.loop-made.watch c.round-circuit.new.watch (c.args.most - c.loop-made.made) made work halt) c.in-Broken.is c.round-circuit.ensures.circled in
     subst (λ (steps : Steps). Moves g.W.Watch.told k c.args.local.now.own c.args.mine.now.me c.round-circuit.new.mine.me c.args.watch.now c.round-circuit.new.watch steps.made steps.work steps.looks)
     (sym c.row-in-Broken.ensures)
     (moves_then g.W.Watch.told k c.args.local.now.own c.args.mine.now.me c.loop-made.mine.me c.round-circuit.new.mine.me c.args.watch.now c.loop-made.watch c.round-circuit.new.watch
@@ -75,7 +75,7 @@ returns-in-Midway-clause-makes g c = λ fine.
     let made = c.round-circuit.result.made in
     let work = c.round-circuit.result.work in
     let circled = subst (λ (halt : Halt). Circled g.W.Watch.told k c.args.shape.now c.args.code.now seat home c.round-circuit.new.registers c.loop-made.mine.me c.round-circuit.new.mine.me
-    c.loop-made.watch c.round-circuit.new.watch made work halt) c.in-Midway.is c.round-circuit.ensures.circled in
+    c.loop-made.watch c.round-circuit.new.watch (c.args.most - c.loop-made.made) made work halt) c.in-Midway.is c.round-circuit.ensures.circled in
     subst (λ (steps : Steps). Moves g.W.Watch.told k c.args.local.now.own c.args.mine.now.me c.round-circuit.new.mine.me c.args.watch.now c.round-circuit.new.watch steps.made steps.work steps.looks)
     (sym c.row-in-Midway.ensures)
     (moves_then g.W.Watch.told k c.args.local.now.own c.args.mine.now.me c.loop-made.mine.me c.round-circuit.new.mine.me c.args.watch.now c.loop-made.watch c.round-circuit.new.watch
@@ -93,7 +93,7 @@ returns-in-Stopped-clause-makes g c = λ fine.
     let made = c.round-circuit.result.made in
     let work = c.round-circuit.result.work in
     let circled = subst (λ (halt : Halt). Circled g.W.Watch.told k c.args.shape.now c.args.code.now seat home c.round-circuit.new.registers c.loop-made.mine.me c.round-circuit.new.mine.me
-    c.loop-made.watch c.round-circuit.new.watch made work halt) c.in-Stopped.is c.round-circuit.ensures.circled in
+    c.loop-made.watch c.round-circuit.new.watch (c.args.most - c.loop-made.made) made work halt) c.in-Stopped.is c.round-circuit.ensures.circled in
     subst (λ (steps : Steps). Moves g.W.Watch.told k c.args.local.now.own c.args.mine.now.me c.round-circuit.new.mine.me c.args.watch.now c.round-circuit.new.watch steps.made steps.work steps.looks)
     (sym c.row-in-Stopped.ensures)
     (moves_then g.W.Watch.told k c.args.local.now.own c.args.mine.now.me c.loop-made.mine.me c.round-circuit.new.mine.me c.args.watch.now c.loop-made.watch c.round-circuit.new.watch
@@ -106,7 +106,7 @@ withdraw-requires-clause-lives g c =
     let seat : Seat = record { own = c.args.local.now.own; place = c.args.place; restart = c.loop-made.at } in
     let home : Home = record { frame = c.in-Run.frame; copy = c.in-Run.copy; block = 0 } in
     let circled = subst (λ (halt : Halt). Circled g.W.Watch.told k c.args.shape.now c.args.code.now seat home c.round-circuit.new.registers c.loop-made.mine.me c.round-circuit.new.mine.me
-    c.loop-made.watch c.round-circuit.new.watch c.round-circuit.result.made c.round-circuit.result.work halt) c.in-Refused.is c.round-circuit.ensures.circled in
+    c.loop-made.watch c.round-circuit.new.watch (c.args.most - c.loop-made.made) c.round-circuit.result.made c.round-circuit.result.work halt) c.in-Refused.is c.round-circuit.ensures.circled in
     subst (λ (n : ℕ). Lives k n c.round-circuit.new.mine.me c.in-Refused.lives) (sym i.7) circled.stays
 
 pub returns-in-Refused-clause-stops : goal.returns-in-Refused-clause-stops
@@ -118,11 +118,11 @@ returns-in-Refused-clause-stops g c = λ refused.
     let made = c.round-circuit.result.made in
     let work = c.round-circuit.result.work in
     let circled = subst (λ (halt : Halt). Circled g.W.Watch.told k c.args.shape.now c.args.code.now seat home c.round-circuit.new.registers c.loop-made.mine.me c.round-circuit.new.mine.me
-    c.loop-made.watch c.round-circuit.new.watch made work halt) c.in-Refused.is c.round-circuit.ensures.circled in
+    c.loop-made.watch c.round-circuit.new.watch (c.args.most - c.loop-made.made) made work halt) c.in-Refused.is c.round-circuit.ensures.circled in
     record {
       lives = c.in-Refused.lives;
       behind = c.round-circuit.new.mine.me;
       refuses = refuses_then g.W.Watch.told k c.args.local.now.own c.args.mine.now.me c.loop-made.mine.me c.round-circuit.new.mine.me c.args.watch.now c.loop-made.watch c.round-circuit.new.watch
-          c.loop-made.made c.loop-made.work 0 c.in-Refused.lives i.4 circled;
+          c.loop-made.made c.loop-made.work 0 c.in-Refused.lives (c.args.most - c.loop-made.made) c.args.most (omega (arith, i.0)) i.4 circled;
       quits = c.withdraw.ensures.quits;
     }

@@ -53,6 +53,6 @@ returns-clause-refuses g c = λ refused.
     c.observe.ensures.stands
     ∙ stands_on k s code c.requires.table.1 c.requires.table.2 own 0 c.args.mine.now.me c.tell-found.new.seat.me c.want-want.result c.tell-found.result.word _ c.requires.stands c.requires.sits
     (some, λ _. refl) (sym c.want-want.ensures.value) asks c.tell-found.ensures.found c.tell-found.ensures.told in
-    refuses_one g.W.Watch.told k own c.args.mine.now.me c.tell-found.new.seat.me c.args.watch.now c.tell-found.new.watch _ _ (not (is_done_at (standing_of s code c.observe.new.self)))
-    c.requires.sits goes c.tell-found.ensures.keeps
+    refuses_one g.W.Watch.told k own c.args.mine.now.me c.tell-found.new.seat.me c.args.watch.now c.tell-found.new.watch _ _ (not (is_done_at (standing_of s code c.observe.new.self))) 1 (omega arith)
+    c.requires.sits goes (c.tell-found.ensures.refused refused)
     (lives_by k own c.tell-found.new.seat.me (standing_of s code c.observe.new.self) (not (is_done_at (standing_of s code c.observe.new.self))) goes.sits stands refl)

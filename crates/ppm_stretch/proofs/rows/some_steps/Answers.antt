@@ -1,7 +1,7 @@
-use Rattle.std.proofs.Common.{ℕ, ◌∙◌, sym, subst}
+use Rattle.std.proofs.Common.{ℕ, ◌∙◌, sym, subst, arith}
 use Rattle.ppm_stretch.specs.Rows.{GivesUp}
 use Rattle.ppm_stretch.specs.Steady.{Moves}
-use Rattle.ppm_stretch.proofs.SteadyLemmas.{moves_behind, gives_up_behind}
+use Rattle.ppm_stretch.proofs.SteadyLemmas.{moves_behind, gives_up_behind, gives_up_within}
 use Rattle.ppm_stretch.proofs.EndingLemmas.{under_way_of, end_of, stands_at_end}
 use Rattle.ppm_stretch.proofs.rows.some_steps.Goals as goal
 
@@ -49,8 +49,9 @@ returns-then-most-ge2-clause-stops g c = λ refused.
     let first = c.rounds-circled in
     let other = c.other_step in
     gives_up_behind g.W.Watch.told k own c.args.mine.now.me first.new.mine.me other.new.mine.me c.args.watch.now first.new.watch other.new.watch
-    first.result.made first.result.work first.result.looks (first.ensures.makes c.if-circled.false)
-    (subst (λ (n : ℕ). GivesUp g.W.Watch.told k n first.new.mine.me other.new.mine.me first.new.watch other.new.watch) first.ensures.own_stays (other.ensures.stops refused))
+    first.result.made first.result.work first.result.looks 1 c.args.most (omega (arith, c.if-circled-gt0.false, c.requires.most))
+    (first.ensures.makes c.if-circled.false)
+    (subst (λ (n : ℕ). GivesUp g.W.Watch.told k n first.new.mine.me other.new.mine.me first.new.watch other.new.watch 1) first.ensures.own_stays (other.ensures.stops refused))
 
 pub returns-in-Ending-clause-makes : goal.returns-in-Ending-clause-makes
 returns-in-Ending-clause-makes g c = λ fine.
@@ -71,5 +72,12 @@ returns-in-Ending-clause-stops g c = λ refused.
     let first = c.ends-ended in
     let other = c.other_step-in-Ending in
     gives_up_behind g.W.Watch.told k own c.args.mine.now.me first.new.mine.me other.new.mine.me c.args.watch.now first.new.watch other.new.watch
-    first.result.made first.result.work first.result.looks (first.ensures.makes c.if-ended.false)
-    (subst (λ (n : ℕ). GivesUp g.W.Watch.told k n first.new.mine.me other.new.mine.me first.new.watch other.new.watch) first.ensures.own_stays (other.ensures.stops refused))
+    first.result.made first.result.work first.result.looks 1 c.args.most (omega (arith, c.if-ended-gt0.false, c.requires.most))
+    (first.ensures.makes c.if-ended.false)
+    (subst (λ (n : ℕ). GivesUp g.W.Watch.told k n first.new.mine.me other.new.mine.me first.new.watch other.new.watch 1) first.ensures.own_stays (other.ensures.stops refused))
+
+-- no row of frames: one step
+pub returns-clause-stops : goal.returns-clause-stops
+returns-clause-stops g c = λ refused.
+    gives_up_within g.W.Watch.told c.args.words.now.shared.key c.args.local.now.own c.args.mine.now.me _ c.args.watch.now _ 1 c.args.most c.requires.most
+    (_ refused)

@@ -1,4 +1,4 @@
-use Rattle.std.proofs.Common.{◌∙◌, ℕ, ◌+◌, ◌==◌, ◌≤◌, Bool, true, false, if◌then◌else◌, sym, refl, ap, subst, arith}
+use Rattle.std.proofs.Common.{◌∙◌, ℕ, ◌+◌, ◌-◌, ◌==◌, ◌≤◌, Bool, true, false, if◌then◌else◌, sym, refl, ap, subst, arith}
 use Rattle.ppm_table.specs.Run.{stands_by, deeds_in, IsSeat}
 use Rattle.ppm_stretch.specs.declared.way.Steps.{Steps}
 use Rattle.ppm_stretch.specs.Rows.{GivesUp}
@@ -43,8 +43,9 @@ returns-then-more-clause-stops g c = λ refused.
     let k = c.args.words.now.shared.key in
     let i = c.loop-made.invariant in
     let new = c.some_steps-more.new in
-    gives_up_behind g.W.Watch.told k c.args.local.now.own c.args.mine.now.me c.loop-made.mine.me new.mine.me c.args.watch.now c.loop-made.watch new.watch c.loop-made.made c.loop-made.work c.loop-made.looks i.5
-    (subst (λ (n : ℕ). GivesUp g.W.Watch.told k n c.loop-made.mine.me new.mine.me c.loop-made.watch new.watch) i.9 (c.some_steps-more.ensures.stops c.if-more.true))
+    gives_up_behind g.W.Watch.told k c.args.local.now.own c.args.mine.now.me c.loop-made.mine.me new.mine.me c.args.watch.now c.loop-made.watch new.watch c.loop-made.made c.loop-made.work c.loop-made.looks
+    (c.args.most - c.loop-made.made) c.args.most (omega (arith, i.0)) i.5
+    (subst (λ (n : ℕ). GivesUp g.W.Watch.told k n c.loop-made.mine.me new.mine.me c.loop-made.watch new.watch (c.args.most - c.loop-made.made)) i.9 (c.some_steps-more.ensures.stops c.if-more.true))
 
 pub returns-then-more-eq0-clause-makes : goal.returns-then-more-eq0-clause-makes
 returns-then-more-eq0-clause-makes g c = λ fine.
