@@ -1,5 +1,5 @@
 -- The stores with which a capsule ends.
-use Rattle.std.specs.Prelude.{◌≡◌, List, Option, Some, true}
+use Rattle.std.specs.Prelude.{false, ◌≡◌, List, Option, Some, true}
 use Rattle.ppm_cells.specs.Restart.{IsRestart}
 use Rattle.ppm_cells.specs.declared.shape.Shape.{Shape}
 use Rattle.ppm_words.specs.declared.event.Event.{Event}

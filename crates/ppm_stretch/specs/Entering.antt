@@ -1,5 +1,5 @@
 -- The steps with which a capsule of a frame begins and goes round.
-use Rattle.std.specs.Prelude.{◌≡◌, ◌≤◌, true, ℕ, ◌+◌, List, Option, Some, None, slice_get}
+use Rattle.std.specs.Prelude.{false, ◌≡◌, ◌≤◌, true, ℕ, ◌+◌, List, Option, Some, None, slice_get}
 use Rattle.ppm_code.specs.declared.code.CodeParts.{CodeParts}
 use Rattle.ppm_cells.specs.declared.restart.RestartKind.TheVariants.{Run}
 use Rattle.ppm_cells.specs.declared.shape.Shape.{Shape}

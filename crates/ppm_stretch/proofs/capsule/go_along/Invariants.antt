@@ -1,4 +1,4 @@
-use Rattle.std.proofs.Common.{◌≡◌, ◌≤◌, ◌-◌}
+use Rattle.std.proofs.Common.{false, ◌≡◌, ◌≤◌, ◌-◌}
 use Rattle.ppm_stretch.specs.Steady.{Moves, StandsAt}
 use Rattle.ppm_table.specs.Telling.{Keeps}
 use Rattle.ppm_stretch.proofs.capsule.go_along.Given as goal

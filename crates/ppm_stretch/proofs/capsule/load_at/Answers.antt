@@ -1,4 +1,4 @@
-use Rattle.std.proofs.Common.{ℕ, Bool, true, ◌∙◌, sym, ap, arith}
+use Rattle.std.proofs.Common.{false, ℕ, Bool, true, ◌∙◌, sym, ap, arith}
 use Rattle.ppm_code.specs.Locations.{location_of}
 use Rattle.ppm_step.specs.declared.ask.Want.TheVariants.{Loads as Wants}
 use Rattle.ppm_step.specs.Frames.{Loads, cell_of}

@@ -1,4 +1,4 @@
-use Rattle.std.proofs.Common.{true, ◌∙◌, ◌≤◌, sym, refl, arith}
+use Rattle.std.proofs.Common.{false, true, ◌∙◌, ◌≤◌, sym, refl, arith}
 use Rattle.ppm_cells.specs.Cells.{word_count}
 use Rattle.ppm_step.specs.Frames.{Installs}
 use Rattle.ppm_step.proofs.ThereLemmas.{restart_fits}

@@ -1,4 +1,4 @@
-use Rattle.std.proofs.Common.{true, ◌∙◌, sym, refl, arith}
+use Rattle.std.proofs.Common.{false, true, ◌∙◌, sym, refl, arith}
 use Rattle.ppm_step.specs.Frames.{Stores}
 use Rattle.ppm_stretch.proofs.SteadyLemmas.{refuses_one, went_lives, stands_there, stands_broken, stores_same}
 use Rattle.ppm_stretch.proofs.ending.put_at.Goals as goal

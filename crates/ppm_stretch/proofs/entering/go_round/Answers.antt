@@ -1,4 +1,4 @@
-use Rattle.std.proofs.Common.{ℕ, true, ◌≡◌, ◌∙◌, sym, ap, arith, refl}
+use Rattle.std.proofs.Common.{false, ℕ, true, ◌≡◌, ◌∙◌, sym, ap, arith, refl}
 use Rattle.ppm_cells.specs.Restart.{restart_word}
 use Rattle.ppm_cells.specs.declared.cell.Cell.TheVariants.{BlockWord}
 use Rattle.ppm_cells.specs.declared.restart.Restart.{Restart}

@@ -1,4 +1,4 @@
-use Rattle.std.proofs.Common.{◌≡◌, ◌≤◌, ◌-◌}
+use Rattle.std.proofs.Common.{false, ◌≡◌, ◌≤◌, ◌-◌}
 use Rattle.ppm_step.specs.Frames.{ending}
 use Rattle.ppm_step.specs.Standings.{running}
 use Rattle.ppm_table.specs.Run.{stands_by, deeds_in}

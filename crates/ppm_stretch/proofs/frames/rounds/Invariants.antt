@@ -1,4 +1,4 @@
-use Rattle.std.proofs.Common.{◌≡◌, ◌≤◌, ◌-◌, Some}
+use Rattle.std.proofs.Common.{false, ◌≡◌, ◌≤◌, ◌-◌, Some}
 use Rattle.ppm_cells.specs.Restart.{IsRestart}
 use Rattle.ppm_step.specs.Standings.{IsAt}
 use Rattle.ppm_table.specs.Run.{stands_by, deeds_in}
