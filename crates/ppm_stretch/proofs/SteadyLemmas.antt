@@ -16,9 +16,10 @@ use Rattle.ppm_table.specs.declared.view.Deed.{Deed}
 use Rattle.ppm_table.specs.declared.view.Opening.{Opening}
 use Rattle.ppm_table.specs.Run.{behind, stood, stands_by, deeds_in, deed_by, seen, seated, Mine, IsSeat, IsAsked, IsFound}
 use Rattle.ppm_stretch.specs.Steady.{IsSteady, AreSteady, work_in, looks_in, looks_behind, is_exchange, exchanged_in, Goes, Moves, Lives, Refuses}
-use Rattle.ppm_stretch.specs.Rows.{GivesUp}
-use Rattle.ppm_table.specs.Telling.{shown, deeds_since, Shows}
-use Rattle.ppm_table.proofs.TellingLemmas.{shown_both, since_is}
+use Rattle.ppm_stretch.specs.declared.way.Steps.{Steps}
+use Rattle.ppm_stretch.specs.Rows.{GivesUp, Makes, Stops}
+use Rattle.ppm_table.specs.Telling.{shown, deeds_since, Keeps, Shows}
+use Rattle.ppm_table.proofs.TellingLemmas.{keeps_both, keeps_same, shown_both, since_is}
 use Rattle.ppm_table.proofs.StandLemmas.{deeds_seen, stands_on, step_told}
 
 -- the seat that keeps one more
@@ -333,6 +334,20 @@ module _ {W : Type 0} (told : W → Option (List Event)) where
     refuses = refuses_both k own a b g.behind w0 w1 w2 m v x p g.lives n most within f g.refuses;
     quits = g.quits;
   }
+
+  -- so a known list keeps what it had in front
+  moves_keep : (k : Opening) (own : ℕ) (me me' : Mine) (w w' : W) (m v x : ℕ) (p : Bool) → Moves told k own me me' w w' m v x p → Keeps (told w) (told w')
+  moves_keep k own me me' w w' m v x p f = λ list e. (shown k.shape k.code own (stands_by k own (deeds_in me.0)) (deeds_since me me'), f.shows list e)
+
+  pub steps_keep : (k : Opening) (own : ℕ) (me me' : Mine) (w w' : W) (most : ℕ) (steps : Steps) → Makes told k own me me' w w' steps → Stops told k own me me' w w' most steps
+      → Keeps (told w) (told w')
+  steps_keep k own me me' w w' most steps makes stops = by steps.refused refl
+    where
+      by : (b : Bool) → steps.refused ≡ b → Keeps (told w) (told w')
+      by false e = moves_keep k own me me' w w' steps.made steps.work steps.looks steps.exchanged (makes e)
+      by true e =
+          let r = (stops e).refuses in
+          keeps_both _ _ _ (moves_keep k own me r.before w r.watch r.made r.work r.looks r.exchanged r.moves) (keeps_same _ _ r.keeps)
 
 -- no looks behind work
 pub no_looks : (n : ℕ) → looks_behind 0 n 0 ≡ 0

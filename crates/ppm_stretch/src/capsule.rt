@@ -10,7 +10,6 @@ ghost use Rattle.ppm_step.specs.There.{is_there};
 ghost use Rattle.ppm_step.specs.declared.content.Content.TheVariants.{ANumber};
 ghost use Rattle.ppm_table.specs.Run.{stands_by, deeds_in, IsAtTable, IsSeat};
 ghost use Rattle.ppm_stretch.specs.Steady.{StandsAt, CameTo, LedTo, HasLoaded, HasStored, IsLoading, IsStoring};
-ghost use Rattle.ppm_table.specs.Telling.{Keeps};
 
 use crate::way::{Load, Store, Stretch, Way};
 use atomic_table::Seat;
@@ -56,7 +55,6 @@ fn load_at<W: Watch>(
     requires place { place.now.own < shape.now.processors }
     requires stands { IsLoading words.now.shared.key shape.now place.now (cell_of home.now (location_of location)) mine.old.me }
     ensures table { mine.new.table_id ≡ mine.old.table_id }
-    ensures keeps { Keeps (W.told watch.old) (W.told watch.new) }
     ensures loaded { (go : ℕ → Rest) → stands_by words.now.shared.key place.now.own (deeds_in mine.old.me.0)
         ≡ running shape.now place.now (Loads (cell_of home.now (location_of location)) go)
         → HasLoaded W.told words.now.shared.key shape.now place.now go mine.old.me mine.new.me watch.old watch.new result }
@@ -91,7 +89,6 @@ fn store_at<W: Watch>(
     requires place { place.now.own < shape.now.processors }
     requires stands { IsStoring words.now.shared.key shape.now place.now (cell_of home.now (location_of location)) word mine.old.me }
     ensures table { mine.new.table_id ≡ mine.old.table_id }
-    ensures keeps { Keeps (W.told watch.old) (W.told watch.new) }
     ensures stored { (rest : Rest) → stands_by words.now.shared.key place.now.own (deeds_in mine.old.me.0)
         ≡ running shape.now place.now (Stores (cell_of home.now (location_of location)) (ANumber word) rest)
         → HasStored W.told words.now.shared.key shape.now place.now rest mine.old.me mine.new.me watch.old watch.new result }
@@ -135,7 +132,6 @@ fn step_at<W: Watch>(
     requires place { place.now.own < shape.now.processors }
     requires stands { StandsAt words.now.shared.key shape.now code.now place.now home.now instrs.now at registers.old mine.old.me }
     ensures table { mine.new.table_id ≡ mine.old.table_id }
-    ensures keeps { Keeps (W.told watch.old) (W.told watch.new) }
     ensures came { CameTo W.told words.now.shared.key shape.now code.now place.now home.now instrs.now registers.new mine.old.me mine.new.me watch.old watch.new result }
 {
     let _ = code.parts().root;
@@ -183,7 +179,6 @@ pub(crate) fn go_along<W: Watch>(
     requires place { place.now.own < shape.now.processors }
     requires stands { StandsAt words.now.shared.key shape.now code.now place.now home.now instrs.now from registers.old mine.old.me }
     ensures table { mine.new.table_id ≡ mine.old.table_id }
-    ensures keeps { Keeps (W.told watch.old) (W.told watch.new) }
     ensures few { result.made ≤ most }
     ensures led { LedTo W.told words.now.shared.key shape.now code.now place.now home.now instrs.now registers.new mine.old.me mine.new.me watch.old watch.new most result.made result.way }
 {

@@ -5,7 +5,6 @@ ghost use Rattle.ppm_step.specs.Facts.{IsEnd, IsHome, IsSeat as IsPlace};
 ghost use Rattle.ppm_step.specs.Frames.{Rest, Stores, Installs, ending};
 ghost use Rattle.ppm_step.specs.Standings.{running};
 ghost use Rattle.ppm_table.specs.Run.{stands_by, deeds_in, IsAtTable, IsSeat};
-ghost use Rattle.ppm_table.specs.Telling.{Keeps};
 ghost use Rattle.ppm_stretch.specs.Ending.{HasEnded, IsPutting};
 ghost use Rattle.ppm_stretch.specs.declared.way.EndStep.TheVariants.{Stored};
 
@@ -34,7 +33,6 @@ fn put_at<W: Watch>(
     requires content { IsContent put.content }
     requires stands { IsPutting words.now.shared.key shape.now place.now put mine.old.me }
     ensures table { mine.new.table_id ≡ mine.old.table_id }
-    ensures keeps { Keeps (W.told watch.old) (W.told watch.new) }
     ensures ended { (rest : Rest) → stands_by words.now.shared.key place.now.own (deeds_in mine.old.me.0)
         ≡ running shape.now place.now (Stores put.cell put.content rest)
         → HasEnded W.told words.now.shared.key shape.now place.now rest mine.old.me mine.new.me watch.old watch.new result }
@@ -66,7 +64,6 @@ fn install_at<W: Watch>(
     requires stands { stands_by words.now.shared.key place.now.own (deeds_in mine.old.me.0)
         ≡ running shape.now place.now (Installs kind) }
     ensures table { mine.new.table_id ≡ mine.old.table_id }
-    ensures keeps { Keeps (W.told watch.old) (W.told watch.new) }
     ensures ended { (rest : Rest) → HasEnded W.told words.now.shared.key shape.now place.now rest
         mine.old.me mine.new.me watch.old watch.new result }
     ensures last { result ≢ Stored }
@@ -110,7 +107,6 @@ pub(crate) fn end_at<W: Watch>(
     requires stands { stands_by words.now.shared.key place.now.own (deeds_in mine.old.me.0)
         ≡ running shape.now place.now (ending code.now home.now end n) }
     ensures table { mine.new.table_id ≡ mine.old.table_id }
-    ensures keeps { Keeps (W.told watch.old) (W.told watch.new) }
     ensures few { result ≡ Stored → n < 11 }
     ensures ended { HasEnded W.told words.now.shared.key shape.now place.now (ending code.now home.now end (n + 1))
         mine.old.me mine.new.me watch.old watch.new result }

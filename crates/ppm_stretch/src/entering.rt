@@ -11,7 +11,6 @@ ghost use Rattle.ppm_step.specs.declared.ask.Want.TheVariants as wants;
 ghost use Rattle.ppm_step.specs.Standings.{at_finish, enters, running, went_rest, wanted_rest, IsRunning};
 ghost use Rattle.ppm_stretch.specs.Entering.{HasBegun, HasTurned, Circled, WentAlong, StandsBefore, StandsAtHeader, IsToStore};
 ghost use Rattle.ppm_ports.specs.Told.{KeepsList};
-ghost use Rattle.ppm_table.specs.Telling.{Keeps};
 ghost use Rattle.ppm_stretch.specs.declared.way.Halt.TheVariants.{Refused, Round};
 ghost use Rattle.ppm_table.specs.Run.{stands_by, deeds_in, IsAtCode, IsAtTable, IsSeat};
 ghost use Rattle.ppm_stretch.specs.Steady.{Goes, Moves};
@@ -42,7 +41,6 @@ pub(crate) fn load_finish<W: Watch>(
     requires header { IsHeaderOf shape.now place.now header }
     requires stands { StandsBefore words.now.shared.key place.now mine.old.me }
     ensures table { mine.new.table_id ≡ mine.old.table_id }
-    ensures keeps { Keeps (W.told watch.old) (W.told watch.new) }
     ensures refused { result.fine ≡ false → KeepsList (W.told watch.old) (W.told watch.new) }
     ensures sits_on { IsSeat place.now.own mine.new.me }
     ensures goes { Goes words.now.shared.key place.now.own mine.old.me mine.new.me 1 0 1 false }
@@ -72,7 +70,6 @@ pub(crate) fn load_header<W: Watch>(
     requires within { header < word_count shape.now }
     requires stands { StandsAtHeader words.now.shared.key place.now header mine.old.me }
     ensures table { mine.new.table_id ≡ mine.old.table_id }
-    ensures keeps { Keeps (W.told watch.old) (W.told watch.new) }
     ensures refused { result.fine ≡ false → KeepsList (W.told watch.old) (W.told watch.new) }
     ensures sits_on { IsSeat place.now.own mine.new.me }
     ensures goes { Goes words.now.shared.key place.now.own mine.old.me mine.new.me 1 1 0 false }
@@ -102,7 +99,6 @@ pub(crate) fn store_next<W: Watch>(
     requires within { at < word_count shape.now }
     requires stores { IsToStore words.now.shared.key shape.now place.now at word mine.old.me }
     ensures table { mine.new.table_id ≡ mine.old.table_id }
-    ensures keeps { Keeps (W.told watch.old) (W.told watch.new) }
     ensures refused { result ≡ false → KeepsList (W.told watch.old) (W.told watch.new) }
     ensures made { (rest : Rest) → stands_by words.now.shared.key place.now.own (deeds_in mine.old.me.0) ≡ IsRunning place.now rest
         → wanted_rest shape.now place.now rest ≡ wants.Stores at word
@@ -142,7 +138,6 @@ pub(crate) fn go_round<W: Watch>(
     requires stands { stands_by words.now.shared.key place.now.own (deeds_in mine.old.me.0)
         ≡ running shape.now place.now (ending code.now home.now (Next capsule) 0) }
     ensures table { mine.new.table_id ≡ mine.old.table_id }
-    ensures keeps { Keeps (W.told watch.old) (W.told watch.new) }
     ensures turned { HasTurned W.told words.now.shared.key shape.now place.now home.now mine.old.me mine.new.me watch.old watch.new result }
 {
     let _ = code.parts().root;
@@ -192,7 +187,6 @@ pub(crate) fn begin<W: Watch>(
     requires kind { place.now.restart.kind ≡ Run frame copy }
     requires stands { StandsBefore words.now.shared.key place.now mine.old.me }
     ensures table { mine.new.table_id ≡ mine.old.table_id }
-    ensures keeps { Keeps (W.told watch.old) (W.told watch.new) }
     ensures begun { HasBegun W.told words.now.shared.key shape.now code.now place.now frame copy mine.old.me mine.new.me watch.old watch.new result }
 {
     let _ = (frame, copy);
@@ -238,7 +232,6 @@ pub(crate) fn capsule_along<W: Watch>(
     requires stands { stands_by words.now.shared.key place.now.own (deeds_in mine.old.me.0)
         ≡ enters shape.now code.now place.now (Run home.now.frame home.now.copy) (slice_get code.now.capsules number) }
     ensures table { mine.new.table_id ≡ mine.old.table_id }
-    ensures keeps { Keeps (W.told watch.old) (W.told watch.new) }
     ensures few { IfSome result (λ stretch. stretch.made ≤ most) }
     ensures along { WentAlong W.told words.now.shared.key shape.now code.now place.now home.now number registers.new mine.old.me mine.new.me watch.old watch.new most result }
 {
@@ -287,7 +280,6 @@ pub(crate) fn round<W: Watch>(
     requires kind { place.now.restart.kind ≡ Run home.now.frame home.now.copy }
     requires stands { StandsBefore words.now.shared.key place.now mine.old.me }
     ensures table { mine.new.table_id ≡ mine.old.table_id }
-    ensures keeps { Keeps (W.told watch.old) (W.told watch.new) }
     ensures few { result.made ≤ most }
     ensures on { (result.work ≤ result.made) × (result.halt ≡ Round → 0 < result.made) }
     ensures circled { Circled W.told words.now.shared.key shape.now code.now place.now home.now registers.new mine.old.me mine.new.me watch.old watch.new most result.made result.work result.halt }

@@ -72,7 +72,6 @@ fn one<W: Watch>(
     requires due { seeks_holder (standing_of shape.now code.now local.old) ≡ false }
     requires seeks { next_of (standing_of shape.now code.now local.old) ≢ Seek }
     ensures table { mine.new.table_id ≡ mine.old.table_id }
-    ensures keeps { Keeps (W.told watch.old) (W.told watch.new) }
     ensures moves { result.fine ≡ true → (b : Bool) → is_work_next shape.now code.now (next_of (standing_of shape.now code.now local.old)) ≡ b
         → Moves W.told words.now.shared.key local.old.own mine.old.me mine.new.me watch.old watch.new 1 (if b then 1 else 0) (if b then 0 else 1) result.exchanged }
     ensures refuses { result.fine ≡ false → Refuses W.told words.now.shared.key local.old.own mine.old.me mine.new.me watch.old watch.new
@@ -111,7 +110,6 @@ fn some_steps<W: Watch>(
     requires sits { IsSeat local.old.own mine.old.me }
     requires stands { standing_of shape.now code.now local.old ≡ stands_by words.now.shared.key local.old.own (deeds_in mine.old.me.0) }
     ensures table { mine.new.table_id ≡ mine.old.table_id }
-    ensures keeps { Keeps (W.told watch.old) (W.told watch.new) }
     ensures few { (result.made ≤ most) × (result.work ≤ result.made) × (result.looks ≤ result.made) }
     ensures makes { Makes W.told words.now.shared.key local.old.own mine.old.me mine.new.me watch.old watch.new result }
     ensures stops { Stops W.told words.now.shared.key local.old.own mine.old.me mine.new.me watch.old watch.new most result }
@@ -173,7 +171,6 @@ fn other_step<W: Watch>(
     requires sits { IsSeat local.old.own mine.old.me }
     requires stands { standing_of shape.now code.now local.old ≡ stands_by words.now.shared.key local.old.own (deeds_in mine.old.me.0) }
     ensures table { mine.new.table_id ≡ mine.old.table_id }
-    ensures keeps { Keeps (W.told watch.old) (W.told watch.new) }
     ensures few { (result.made ≤ 1) × (result.work ≤ result.made) × (result.looks ≤ result.made) }
     ensures makes { Makes W.told words.now.shared.key local.old.own mine.old.me mine.new.me watch.old watch.new result }
     ensures stops { Stops W.told words.now.shared.key local.old.own mine.old.me mine.new.me watch.old watch.new 1 result }
@@ -226,7 +223,6 @@ pub(crate) fn steps_along<W: Watch>(
     requires sits { IsSeat local.old.own mine.old.me }
     requires stands { standing_of shape.now code.now local.old ≡ stands_by words.now.shared.key local.old.own (deeds_in mine.old.me.0) }
     ensures table { mine.new.table_id ≡ mine.old.table_id }
-    ensures keeps { Keeps (W.told watch.old) (W.told watch.new) }
     ensures few { (result.made ≤ most) × (result.work ≤ result.made) × (result.looks ≤ result.made) }
     ensures makes { Makes W.told words.now.shared.key local.old.own mine.old.me mine.new.me watch.old watch.new result }
     ensures stops { Stops W.told words.now.shared.key local.old.own mine.old.me mine.new.me watch.old watch.new most result }

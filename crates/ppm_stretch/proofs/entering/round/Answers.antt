@@ -4,7 +4,6 @@ use Rattle.ppm_stretch.specs.declared.way.Way.{Way}
 use Rattle.ppm_stretch.specs.Entering.{Circled}
 use Rattle.ppm_stretch.specs.Steady.{LedTo}
 use Rattle.ppm_stretch.proofs.SteadyLemmas.{moves_then, refuses_then, refuses_within, no_looks}
-use Rattle.ppm_table.proofs.TellingLemmas.{keeps_both}
 use Rattle.ppm_stretch.proofs.entering.round.Goals as goal
 
 pub returns-in-Breaks-clause-circled : goal.returns-in-Breaks-clause-circled
@@ -116,7 +115,3 @@ returns-in-Refused-clause-circled g c =
     c.args.mine.now.me c.begin.new.mine.me c.args.watch.now c.begin.new.watch c.args.most x.made x.work x.halt) (sym c.refused.ensures)
     (refuses_within g.W.Watch.told c.args.words.now.shared.key c.args.place.now.own c.args.mine.now.me c.begin.new.mine.me c.args.watch.now c.begin.new.watch
     c.in-Refused.lives 2 c.args.most c.requires.most c.in-Refused.ensures.begun)
-
-pub returns-in-Refused-go_round-clause-keeps : goal.returns-in-Refused-go_round-clause-keeps
-returns-in-Refused-go_round-clause-keeps g c =
-    keeps_both _ _ _ (keeps_both _ _ _ c.in-Entered.ensures.keeps c.in-Some.ensures.keeps) c.in-Refused-go_round.ensures.keeps
