@@ -7,5 +7,6 @@
 
 pub mod SteadyLemmas
 mod EnteringLemmas
+mod RoundLemmas
 mod EndingLemmas
 mod WaitingLemmas
