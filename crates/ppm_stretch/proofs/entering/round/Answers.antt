@@ -39,8 +39,8 @@ returns-in-Round-clause-circled g c =
       turned.1,
     )
 
-pub returns-in-Breaks-go_round-clause-circled : goal.returns-in-Breaks-go_round-clause-circled
-returns-in-Breaks-go_round-clause-circled g c =
+pub returns-in-Breaks-clause-circled : goal.returns-in-Breaks-clause-circled
+returns-in-Breaks-clause-circled g c =
     let k = c.args.words.now.shared.key in
     let made = c.in-Some.stretch.made in
     let along = c.in-Some.ensures.along in
@@ -48,8 +48,8 @@ returns-in-Breaks-go_round-clause-circled g c =
     c.begin.new.mine.me c.capsule_along.new.mine.me c.begin.new.watch c.capsule_along.new.watch (c.args.most - 2) made way) c.in-Stops.is along.2 in
     let so_far = begun_then g.W.Watch.told k c.args.place.now.own c.args.mine.now.me c.begin.new.mine.me c.capsule_along.new.mine.me c.args.watch.now c.begin.new.watch c.capsule_along.new.watch
     made c.in-Entered.ensures.begun.0 led.0 in
-    let stored = c.in-Breaks-go_round.stored in
-    let turned = c.in-Breaks-go_round.ensures.turned in (
+    let stored = c.in-Breaks.stored in
+    let turned = c.in-Breaks.ensures.turned in (
       moves_then g.W.Watch.told k c.args.place.now.own c.args.mine.now.me c.capsule_along.new.mine.me c.go_round.new.mine.me c.args.watch.now c.capsule_along.new.watch c.go_round.new.watch
           (made + 2) stored (made + 1) stored 0 0 (made + 2 + stored) (made + 1 + stored) 0 refl refl (no_looks stored) so_far turned.1,
       turned.2,
