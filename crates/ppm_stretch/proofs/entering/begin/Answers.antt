@@ -49,7 +49,7 @@ returns-else-number-clause-begun g c =
     let second = c.load_header-number.new in
     refuses_then g.W.Watch.told k place.own c.args.mine.now.me first.mine.me second.mine.me c.args.watch.now first.watch second.watch 1 0 1 true 1 2 (omega arith)
     (c.load_finish-finish.ensures.moves (fine_is _ c.if-not-finish.false))
-    (refuses_one g.W.Watch.told k place.own first.mine.me second.mine.me first.watch second.watch 1 0 true 1 (omega arith) c.load_finish-finish.ensures.sits_on c.load_header-number.ensures.goes
+    (refuses_one g.W.Watch.told k place.own first.mine.me second.mine.me first.watch second.watch 1 0 false true 1 (omega arith) c.load_finish-finish.ensures.sits_on c.load_header-number.ensures.goes
     (c.load_header-number.ensures.refused c.if-number.false) (
       c.load_header-number.ensures.sits_on,
       λ done. enters_lives c.args.shape.now c.args.code.now place place.restart.kind c.args.frame c.args.copy (slice_get c.args.code.now.capsules c.load_header-number.result.word) c.requires.kind
