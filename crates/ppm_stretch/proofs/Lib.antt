@@ -8,5 +8,6 @@
 pub mod SteadyLemmas
 mod EnteringLemmas
 mod RoundLemmas
+mod RowLemmas
 mod EndingLemmas
 mod WaitingLemmas
