@@ -53,7 +53,7 @@ header_lives s code seat header found h none e =
 
 -- the load of the finish word is a look
 pub finish_goes : (k : Opening) (seat : Seat) (frame copy : ℕ) (me me' : Mine) (found : ℕ) → seat.restart.kind ≡ Run frame copy → 0 < k.shape.processors
-    → IsAt seat.place (Some seat.restart) ≡ stands_by k seat.own (deeds_in me.0) → IsSeat seat.own me → me' ≡ (seen me.0 (deed_by (Loads 0) found), me.1) → Goes k seat.own me me' 1 0 1
+    → IsAt seat.place (Some seat.restart) ≡ stands_by k seat.own (deeds_in me.0) → IsSeat seat.own me → me' ≡ (seen me.0 (deed_by (Loads 0) found), me.1) → Goes k seat.own me me' 1 0 1 false
 finish_goes k seat frame copy me me' found kind some at sits made =
     goes_one k seat.own false me me' (Loads 0) found (IsAt seat.place (Some seat.restart)) at sits (λ e. cc) refl (seeks_no seat.restart.kind frame copy kind) some refl tt
     (works_not k.shape k.code seat.restart.kind frame copy kind) made
@@ -61,7 +61,7 @@ finish_goes k seat frame copy me me' found kind some at sits made =
 -- that of the header is work
 pub header_goes : (k : Opening) (seat : Seat) (frame copy header : ℕ) (me me' : Mine) (found : ℕ) → seat.restart.kind ≡ Run frame copy → header ≡ frame + 2 + copy → 0 < k.shape.processors
     → IsWithin seat (Now (Load (Header frame copy))) ≡ stands_by k seat.own (deeds_in me.0) → IsSeat seat.own me → me' ≡ (seen me.0 (deed_by (Loads header) found), me.1)
-    → Goes k seat.own me me' 1 1 0
+    → Goes k seat.own me me' 1 1 0 false
 header_goes k seat frame copy header me me' found kind is_at some at sits made =
     goes_one k seat.own true me me' (Loads header) found (IsWithin seat (Now (Load (Header frame copy)))) at sits (λ e. cc) refl (works_on seat.restart.kind frame copy kind) some
     (ap (λ (n : ℕ). Loads n) (sym is_at)) tt (works k.shape k.code seat.restart.kind frame copy kind) made

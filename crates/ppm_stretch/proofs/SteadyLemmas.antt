@@ -1,5 +1,5 @@
 -- Steps in a row.
-use Rattle.std.proofs.Common.{◌≡◌, ◌≢◌, ℕ, zero, suc, ◌+◌, ◌==◌, ◌<◌, ◌≤◌, ◌&&◌, Bool, Option, Some, ne_eqb, true, false, List, [], ◌∷◌, ◌++◌, length, sym, refl, ap, ◌∙◌, subst, arith, append_assoc, append-nil, if◌then◌else◌}
+use Rattle.std.proofs.Common.{◌≡◌, ◌≢◌, ℕ, zero, suc, ◌+◌, ◌==◌, ◌<◌, ◌≤◌, ◌&&◌, ◌||◌, Bool, Option, Some, ne_eqb, true, false, List, [], ◌∷◌, ◌++◌, length, sym, refl, ap, ◌∙◌, subst, arith, append_assoc, append-nil, if◌then◌else◌}
 use Rattle.ppm_cells.specs.declared.shape.Shape.{Shape}
 use Rattle.ppm_code.specs.declared.code.CodeParts.{CodeParts}
 use Rattle.ppm_step.specs.declared.ask.Want.{Want}
@@ -7,6 +7,7 @@ use Rattle.ppm_step.specs.declared.ask.Want.TheVariants.{Stores as WantsStore}
 use Rattle.ppm_step.specs.declared.row.Seat.{Seat}
 use Rattle.ppm_step.specs.declared.turn.Next.TheVariants.{Seek}
 use Rattle.ppm_step.specs.Frames.{Rest, Loads, Stores, Full, Installs, Breaks}
+use Rattle.ppm_ports.specs.Told.{KeepsList}
 use Rattle.ppm_words.specs.declared.event.Event.{Event}
 use Rattle.ppm_step.specs.Standings.{Standing, IsDone, IsBroken, IsRunning, running, running_if, rest_is_there, wanted, wanted_rest, went_rest}
 use Rattle.ppm_step.specs.State.{seeks_holder, next_of}
@@ -14,10 +15,11 @@ use Rattle.ppm_step.specs.Told.{is_work_next}
 use Rattle.ppm_table.specs.declared.view.Deed.{Deed}
 use Rattle.ppm_table.specs.declared.view.Opening.{Opening}
 use Rattle.ppm_table.specs.Run.{behind, stood, stands_by, deeds_in, deed_by, seen, seated, Mine, IsSeat, IsAsked, IsFound}
-use Rattle.ppm_stretch.specs.Steady.{IsSteady, AreSteady, work_in, looks_in, looks_behind, Goes, Moves, Lives, Refuses}
-use Rattle.ppm_stretch.specs.Rows.{GivesUp}
+use Rattle.ppm_stretch.specs.Steady.{IsSteady, AreSteady, work_in, looks_in, looks_behind, is_exchange, exchanged_in, Goes, Moves, Lives, Refuses}
+use Rattle.ppm_stretch.specs.declared.way.Steps.{Steps}
+use Rattle.ppm_stretch.specs.Rows.{GivesUp, Makes, Stops}
 use Rattle.ppm_table.specs.Telling.{shown, deeds_since, Keeps, Shows}
-use Rattle.ppm_table.proofs.TellingLemmas.{shown_both, since_is}
+use Rattle.ppm_table.proofs.TellingLemmas.{keeps_both, keeps_same, shown_both, since_is}
 use Rattle.ppm_table.proofs.StandLemmas.{deeds_seen, stands_on, step_told}
 
 -- the seat that keeps one more
@@ -34,11 +36,15 @@ looked_one : (b : Bool) (before : ℕ) → (if b then 0 else before + 1) ≡ loo
 looked_one true before = refl
 looked_one false before = refl
 
+none_more : (b : Bool) → (b || false) ≡ b
+none_more true = refl
+none_more false = refl
+
 -- a step for which no victim is due
 pub goes_one : (k : Opening) (own : ℕ) (b : Bool) (me me' : Mine) (want : Want) (found : ℕ) (standing : Standing)
     → standing ≡ stands_by k own (deeds_in me.0) → IsSeat own me → standing ≢ IsDone → seeks_holder standing ≡ false → next_of standing ≢ Seek → 0 < k.shape.processors
     → wanted k.shape own 0 standing ≡ want → IsAsked want → is_work_next k.shape k.code (next_of standing) ≡ b
-    → me' ≡ (seen me.0 (deed_by want found), me.1) → Goes k own me me' 1 (if b then 1 else 0) (if b then 0 else 1)
+    → me' ≡ (seen me.0 (deed_by want found), me.1) → Goes k own me me' 1 (if b then 1 else 0) (if b then 0 else 1) (is_exchange (deed_by want found))
 goes_one k own b me me' want found standing at sits lives due seeks some wants asked works made =
     let deed = deed_by want found in
     let is : is_work_next k.shape k.code (next_of (stands_by k own (deeds_in me.0))) ≡ b = sym (ap (λ (st : Standing). is_work_next k.shape k.code (next_of st)) at) ∙ works in
@@ -57,11 +63,12 @@ goes_one k own b me me' want found standing at sits lives due seeks some wants a
       );
       works = ap (λ (c : Bool). (if c then 1 else 0) + 0) is ∙ (let e : (if b then 1 else 0) + 0 ≡ (if b then 1 else 0) = omega arith in e);
       looked = λ before. ap (λ (c : Bool). if c then 0 else before + 1) is ∙ looked_one b before;
+      exchanges = none_more (is_exchange deed);
       sits = sits_more own me me' deed sits made;
     }
 
 -- none
-pub goes_none : (k : Opening) (own : ℕ) (me : Mine) → IsSeat own me → Goes k own me me 0 0 0
+pub goes_none : (k : Opening) (own : ℕ) (me : Mine) → IsSeat own me → Goes k own me me 0 0 0 false
 goes_none k own me sits = record {
   deeds = [];
   more = sym (append-nil _);
@@ -69,6 +76,7 @@ goes_none k own me sits = record {
   steady = tt;
   works = refl;
   looked = λ before. (let e : before ≡ before + 0 = omega arith in e);
+  exchanges = refl;
   sits = sits;
 }
 
@@ -114,8 +122,17 @@ sum_by false false before a b = refl
 looks_sum : (before v a w b : ℕ) → looks_behind (looks_behind before v a) w b ≡ looks_behind before (v + w) (looks_behind a w b)
 looks_sum before v a w b = sum_by (v == 0) (w == 0) before a b ∙ ap (λ (c : Bool). if c then before + looks_behind a w b else looks_behind a w b) (sym (sum_zero v w))
 
-pub goes_both : (k : Opening) (own : ℕ) (a b c : Mine) (m n v w x y : ℕ) → Goes k own a b m v x → Goes k own b c n w y → Goes k own a c (m + n) (v + w) (looks_behind x w y)
-goes_both k own a b c m n v w x y f g =
+exchanges_both : (ds es : List Deed) → exchanged_in (ds ++ es) ≡ (exchanged_in ds || exchanged_in es)
+exchanges_both [] es = refl
+exchanges_both (d ∷ ds) es = ap (λ (b : Bool). is_exchange d || b) (exchanges_both ds es) ∙ sym (or_assoc (is_exchange d) (exchanged_in ds) (exchanged_in es))
+  where
+    or_assoc : (a b c : Bool) → ((a || b) || c) ≡ (a || (b || c))
+    or_assoc true b c = refl
+    or_assoc false b c = refl
+
+pub goes_both : (k : Opening) (own : ℕ) (a b c : Mine) (m n v w x y : ℕ) (p q : Bool) → Goes k own a b m v x p → Goes k own b c n w y q
+    → Goes k own a c (m + n) (v + w) (looks_behind x w y) (p || q)
+goes_both k own a b c m n v w x y p q f g =
     let s = k.shape in
     let code = k.code in
     let st = stands_by k own (deeds_in a.0) in
@@ -135,6 +152,7 @@ goes_both k own a b c m n v w x y f g =
           ∙ ap (λ (z : Standing). looks_in s code own (looks_behind before v x) z g.deeds) (sym there)
           ∙ g.looked (looks_behind before v x)
           ∙ looks_sum before v x w y;
+      exchanges = exchanges_both f.deeds g.deeds ∙ ap (λ (b : Bool). b || exchanged_in g.deeds) f.exchanges ∙ ap (λ (b : Bool). p || b) g.exchanges;
       sits = g.sits;
     }
 
@@ -165,6 +183,14 @@ shows_none told k own me w = λ list e.
     e ∙ ap (λ (l : List Event). Some l) (sym (append-nil list))
     ∙ ap (λ (l : List Deed). Some (list ++ shown k.shape k.code own st l)) (sym (since_is me me [] (sym (append-nil _))))
 
+-- no steps, no compare-and-modify
+unexchanged : (k : Opening) (own : ℕ) (a b : Mine) (n w y : ℕ) (q : Bool) → n ≡ 0 → Goes k own a b n w y q → q ≡ false
+unexchanged k own a b n w y q none g = sym g.exchanges ∙ by g.deeds (g.count ∙ none)
+  where
+    by : (ds : List Deed) → length ds ≡ 0 → exchanged_in ds ≡ false
+    by [] e = refl
+    by (d ∷ ds) e = absurd (omega (arith, e))
+
 pub from_none : (n looks : ℕ) → looks_behind 0 n looks ≡ looks
 from_none n looks = by (n == 0)
   where
@@ -174,90 +200,158 @@ from_none n looks = by (n == 0)
 
 module _ {W : Type 0} (told : W → Option (List Event)) where
   -- the same with the sums by name, and with a watcher
-  pub moves_then : (k : Opening) (own : ℕ) (a b c : Mine) (w0 w1 w2 : W) (m n v w x y made work looks : ℕ) → m + n ≡ made → v + w ≡ work → looks_behind x w y ≡ looks
-      → Moves told k own a b w0 w1 m v x → Moves told k own b c w1 w2 n w y → Moves told k own a c w0 w2 made work looks
-  moves_then k own a b c w0 w1 w2 m n v w x y made work looks count works looked f g = record {
-    goes = subst (λ (l : ℕ). Goes k own a c made work l) looked
-        (subst (λ (z : ℕ). Goes k own a c made z (looks_behind x w y)) works
-        (subst (λ (z : ℕ). Goes k own a c z (v + w) (looks_behind x w y)) count (goes_both k own a b c m n v w x y f.goes g.goes)));
+  pub moves_both : (k : Opening) (own : ℕ) (a b c : Mine) (w0 w1 w2 : W) (m n v w x y made work looks : ℕ) (p q : Bool) → m + n ≡ made → v + w ≡ work → looks_behind x w y ≡ looks
+      → Moves told k own a b w0 w1 m v x p → Moves told k own b c w1 w2 n w y q → Moves told k own a c w0 w2 made work looks (p || q)
+  moves_both k own a b c w0 w1 w2 m n v w x y made work looks p q count works looked f g = record {
+    goes = subst (λ (l : ℕ). Goes k own a c made work l (p || q)) looked
+        (subst (λ (z : ℕ). Goes k own a c made z (looks_behind x w y) (p || q)) works
+        (subst (λ (z : ℕ). Goes k own a c z (v + w) (looks_behind x w y) (p || q)) count (goes_both k own a b c m n v w x y p q f.goes g.goes)));
     shows = shows_both told k own a b c w0 w1 w2 f.goes.deeds g.goes.deeds f.goes.more g.goes.more f.shows g.shows;
   }
 
+  -- of which none is a compare-and-modify
+  pub moves_then : (k : Opening) (own : ℕ) (a b c : Mine) (w0 w1 w2 : W) (m n v w x y made work looks : ℕ) → m + n ≡ made → v + w ≡ work → looks_behind x w y ≡ looks
+      → Moves told k own a b w0 w1 m v x false → Moves told k own b c w1 w2 n w y false → Moves told k own a c w0 w2 made work looks false
+  moves_then k own a b c w0 w1 w2 m n v w x y made work looks count works looked f g =
+      moves_both k own a b c w0 w1 w2 m n v w x y made work looks false false count works looked f g
+
   -- the second of them are none
-  pub moves_idle : (k : Opening) (own : ℕ) (a b c : Mine) (w0 w1 w2 : W) (m n v w x y : ℕ) → n ≡ 0 → w ≤ n → y ≤ n
-      → Moves told k own a b w0 w1 m v x → Moves told k own b c w1 w2 n w y → Moves told k own a c w0 w2 m v x
-  moves_idle k own a b c w0 w1 w2 m n v w x y none few_work few_looks f g =
+  pub moves_idle : (k : Opening) (own : ℕ) (a b c : Mine) (w0 w1 w2 : W) (m n v w x y : ℕ) (p q : Bool) → n ≡ 0 → w ≤ n → y ≤ n
+      → Moves told k own a b w0 w1 m v x p → Moves told k own b c w1 w2 n w y q → Moves told k own a c w0 w2 m v x p
+  moves_idle k own a b c w0 w1 w2 m n v w x y p q none few_work few_looks f g =
       let count : m + n ≡ m = omega (arith, none) in
       let no_work : w ≡ 0 = omega (arith, none, few_work) in
       let works : v + w ≡ v = omega (arith, no_work) in
       let looked : x + y ≡ x = omega (arith, none, few_looks) in
-      moves_then k own a b c w0 w1 w2 m n v w x y m v x count works (ap (λ (z : ℕ). looks_behind x z y) no_work ∙ looked) f g
+      let same : (p || q) ≡ p = ap (λ (b : Bool). p || b) (unexchanged k own b c n w y q none g.goes) ∙ none_more p in
+      subst (λ (b : Bool). Moves told k own a c w0 w2 m v x b) same
+      (moves_both k own a b c w0 w1 w2 m n v w x y m v x p q count works (ap (λ (z : ℕ). looks_behind x z y) no_work ∙ looked) f g)
 
-  pub moves_none : (k : Opening) (own : ℕ) (me : Mine) (w : W) → IsSeat own me → Moves told k own me me w w 0 0 0
+  pub moves_none : (k : Opening) (own : ℕ) (me : Mine) (w : W) → IsSeat own me → Moves told k own me me w w 0 0 0 false
   moves_none k own me w sits = record { goes = goes_none k own me sits; shows = shows_none told k own me w }
 
   -- the first of them are none
-  pub moves_behind : (k : Opening) (own : ℕ) (a b c : Mine) (w0 w1 w2 : W) (m n v w x y : ℕ) → m ≤ 0 → v ≤ m → x ≤ m
-      → Moves told k own a b w0 w1 m v x → Moves told k own b c w1 w2 n w y → Moves told k own a c w0 w2 n w y
-  moves_behind k own a b c w0 w1 w2 m n v w x y none few_work few_looks f g =
+  pub moves_behind : (k : Opening) (own : ℕ) (a b c : Mine) (w0 w1 w2 : W) (m n v w x y : ℕ) (p q : Bool) → m ≤ 0 → v ≤ m → x ≤ m
+      → Moves told k own a b w0 w1 m v x p → Moves told k own b c w1 w2 n w y q → Moves told k own a c w0 w2 n w y q
+  moves_behind k own a b c w0 w1 w2 m n v w x y p q none few_work few_looks f g =
       let count : m + n ≡ n = omega (arith, none) in
       let works : v + w ≡ w = omega (arith, none, few_work) in
       let no_looks_yet : x ≡ 0 = omega (arith, none, few_looks) in
-      moves_then k own a b c w0 w1 w2 m n v w x y n w y count works (ap (λ (z : ℕ). looks_behind z w y) no_looks_yet ∙ from_none w y) f g
+      let same : (p || q) ≡ q = ap (λ (b : Bool). b || q) (unexchanged k own a b m v x p (let e : m ≡ 0 = omega (arith, none) in e) f.goes) in
+      subst (λ (b : Bool). Moves told k own a c w0 w2 n w y b) same
+      (moves_both k own a b c w0 w1 w2 m n v w x y n w y p q count works (ap (λ (z : ℕ). looks_behind z w y) no_looks_yet ∙ from_none w y) f g)
 
   -- nothing changed behind them
-  pub moves_same : (k : Opening) (own : ℕ) (a b c : Mine) (w0 w1 w2 : W) (m v x : ℕ) → Moves told k own a b w0 w1 m v x → c ≡ b → w2 ≡ w1 → Moves told k own a c w0 w2 m v x
+  pub moves_same : (k : Opening) (own : ℕ) (a b c : Mine) (w0 w1 w2 : W) (m v x : ℕ) → Moves told k own a b w0 w1 m v x false → c ≡ b → w2 ≡ w1 → Moves told k own a c w0 w2 m v x false
   moves_same k own a b c w0 w1 w2 m v x f same same_w =
-      subst (λ (w : W). Moves told k own a c w0 w m v x) (sym same_w) (subst (λ (z : Mine). Moves told k own a z w0 w1 m v x) (sym same) f)
-
-  -- nothing changed
-  pub moves_still : (k : Opening) (own : ℕ) (me me' : Mine) (w w' : W) → IsSeat own me → me' ≡ me → w' ≡ w → Moves told k own me me' w w' 0 0 0
-  moves_still k own me me' w w' sits same same_w =
-      subst (λ (v : W). Moves told k own me me' w v 0 0 0) (sym same_w) (subst (λ (m : Mine). Moves told k own me m w w 0 0 0) (sym same) (moves_none k own me w sits))
+      subst (λ (w : W). Moves told k own a c w0 w m v x false) (sym same_w) (subst (λ (z : Mine). Moves told k own a z w0 w1 m v x false) (sym same) f)
 
   -- a step of which a watcher refused to be told
-  pub refuses_one : (k : Opening) (own : ℕ) (me me' : Mine) (w w' : W) (v x : ℕ) (lives : Bool) → IsSeat own me → Goes k own me me' 1 v x
-      → Keeps (told w) (told w') → Lives k own me' lives → Refuses told k own me me' w w' lives
-  refuses_one k own me me' w w' v x lives sits goes keeps stays = record {
+  pub refuses_one : (k : Opening) (own : ℕ) (me me' : Mine) (w w' : W) (v x : ℕ) (p : Bool) (lives : Bool) (most : ℕ) → 0 < most → IsSeat own me → Goes k own me me' 1 v x p
+      → KeepsList (told w) (told w') → Lives k own me' lives → Refuses told k own me me' w w' lives most
+  refuses_one k own me me' w w' v x p lives most some sits goes keeps stays = record {
     before = me;
     watch = w;
     made = 0;
     work = 0;
     looks = 0;
+    exchanged = false;
+    few = some;
     moves = moves_none k own me w sits;
     last_work = v;
     last_looks = x;
+    last_exchanged = p;
     last = goes;
     keeps = keeps;
     stays = stays;
   }
 
   -- behind others
-  pub refuses_then : (k : Opening) (own : ℕ) (a b c : Mine) (w0 w1 w2 : W) (m v x : ℕ) (lives : Bool) → Moves told k own a b w0 w1 m v x
-      → Refuses told k own b c w1 w2 lives → Refuses told k own a c w0 w2 lives
-  refuses_then k own a b c w0 w1 w2 m v x lives f r = record {
+  pub refuses_both : (k : Opening) (own : ℕ) (a b c : Mine) (w0 w1 w2 : W) (m v x : ℕ) (p : Bool) (lives : Bool) (n most : ℕ) → m + n ≤ most
+      → Moves told k own a b w0 w1 m v x p → Refuses told k own b c w1 w2 lives n → Refuses told k own a c w0 w2 lives most
+  refuses_both k own a b c w0 w1 w2 m v x p lives n most within f r = record {
     before = r.before;
     watch = r.watch;
     made = m + r.made;
     work = v + r.work;
     looks = looks_behind x r.work r.looks;
-    moves = moves_then k own a b r.before w0 w1 r.watch m r.made v r.work x r.looks (m + r.made) (v + r.work) (looks_behind x r.work r.looks) refl refl refl f r.moves;
+    exchanged = p || r.exchanged;
+    few = (let few = r.few in omega (arith, few, within));
+    moves = moves_both k own a b r.before w0 w1 r.watch m r.made v r.work x r.looks (m + r.made) (v + r.work) (looks_behind x r.work r.looks) p r.exchanged refl refl refl f r.moves;
     last_work = r.last_work;
     last_looks = r.last_looks;
+    last_exchanged = r.last_exchanged;
     last = r.last;
     keeps = r.keeps;
     stays = r.stays;
   }
 
-  -- a processor that gives up behind steps that its watcher was told of
-  pub gives_up_behind : (k : Opening) (own : ℕ) (a b c : Mine) (w0 w1 w2 : W) (m v x : ℕ) → Moves told k own a b w0 w1 m v x
-      → GivesUp told k own b c w1 w2 → GivesUp told k own a c w0 w2
-  gives_up_behind k own a b c w0 w1 w2 m v x f g = record {
+  -- of which none is a compare-and-modify
+  pub refuses_then : (k : Opening) (own : ℕ) (a b c : Mine) (w0 w1 w2 : W) (m v x : ℕ) (lives : Bool) (n most : ℕ) → m + n ≤ most
+      → Moves told k own a b w0 w1 m v x false → Refuses told k own b c w1 w2 lives n → Refuses told k own a c w0 w2 lives most
+  refuses_then k own a b c w0 w1 w2 m v x lives n most within f r = refuses_both k own a b c w0 w1 w2 m v x false lives n most within f r
+
+  -- within more steps
+  pub refuses_within : (k : Opening) (own : ℕ) (a b : Mine) (w0 w1 : W) (lives : Bool) (n most : ℕ) → n ≤ most → Refuses told k own a b w0 w1 lives n
+      → Refuses told k own a b w0 w1 lives most
+  refuses_within k own a b w0 w1 lives n most within r = record {
+    before = r.before;
+    watch = r.watch;
+    made = r.made;
+    work = r.work;
+    looks = r.looks;
+    exchanged = r.exchanged;
+    few = (let few = r.few in omega (arith, few, within));
+    moves = r.moves;
+    last_work = r.last_work;
+    last_looks = r.last_looks;
+    last_exchanged = r.last_exchanged;
+    last = r.last;
+    keeps = r.keeps;
+    stays = r.stays;
+  }
+
+  pub gives_up_within : (k : Opening) (own : ℕ) (a b : Mine) (w0 w1 : W) (n most : ℕ) → n ≤ most → GivesUp told k own a b w0 w1 n
+      → GivesUp told k own a b w0 w1 most
+  gives_up_within k own a b w0 w1 n most within g = record {
     lives = g.lives;
     behind = g.behind;
-    refuses = refuses_then k own a b g.behind w0 w1 w2 m v x g.lives f g.refuses;
+    refuses = refuses_within k own a g.behind w0 w1 g.lives n most within g.refuses;
     quits = g.quits;
   }
+
+  -- a processor that gives up behind steps that its watcher was told of
+  pub gives_up_behind : (k : Opening) (own : ℕ) (a b c : Mine) (w0 w1 w2 : W) (m v x : ℕ) (p : Bool) (n most : ℕ) → m + n ≤ most
+      → Moves told k own a b w0 w1 m v x p → GivesUp told k own b c w1 w2 n → GivesUp told k own a c w0 w2 most
+  gives_up_behind k own a b c w0 w1 w2 m v x p n most within f g = record {
+    lives = g.lives;
+    behind = g.behind;
+    refuses = refuses_both k own a b g.behind w0 w1 w2 m v x p g.lives n most within f g.refuses;
+    quits = g.quits;
+  }
+
+  -- steps of which none was refused, by their numbers
+  pub row_makes : (k : Opening) (own : ℕ) (a b : Mine) (w0 w1 : W) (m v x : ℕ) (p : Bool) (steps : Steps)
+      → steps ≡ record { made = m; work = v; looks = x; exchanged = p; refused = false } → Moves told k own a b w0 w1 m v x p → Makes told k own a b w0 w1 steps
+  row_makes k own a b w0 w1 m v x p steps is f = λ fine. subst (λ (s : Steps). Moves told k own a b w0 w1 s.made s.work s.looks s.exchanged) (sym is) f
+
+  pub row_stops : (k : Opening) (own : ℕ) (a b : Mine) (w0 w1 : W) (m v x : ℕ) (p : Bool) (most : ℕ) (steps : Steps)
+      → steps ≡ record { made = m; work = v; looks = x; exchanged = p; refused = false } → Stops told k own a b w0 w1 most steps
+  row_stops k own a b w0 w1 m v x p most steps is = λ refused. let e : true ≡ false = sym refused ∙ ap (λ (s : Steps). s.refused) is in absurd cc
+
+  -- so a known list keeps what it had in front
+  moves_keep : (k : Opening) (own : ℕ) (me me' : Mine) (w w' : W) (m v x : ℕ) (p : Bool) → Moves told k own me me' w w' m v x p → Keeps (told w) (told w')
+  moves_keep k own me me' w w' m v x p f = λ list e. (shown k.shape k.code own (stands_by k own (deeds_in me.0)) (deeds_since me me'), f.shows list e)
+
+  pub steps_keep : (k : Opening) (own : ℕ) (me me' : Mine) (w w' : W) (most : ℕ) (steps : Steps) → Makes told k own me me' w w' steps → Stops told k own me me' w w' most steps
+      → Keeps (told w) (told w')
+  steps_keep k own me me' w w' most steps makes stops = by steps.refused refl
+    where
+      by : (b : Bool) → steps.refused ≡ b → Keeps (told w) (told w')
+      by false e = moves_keep k own me me' w w' steps.made steps.work steps.looks steps.exchanged (makes e)
+      by true e =
+          let r = (stops e).refuses in
+          keeps_both _ _ _ (moves_keep k own me r.before w r.watch r.made r.work r.looks r.exchanged r.moves) (keeps_same _ _ r.keeps)
 
 -- no looks behind work
 pub no_looks : (n : ℕ) → looks_behind 0 n 0 ≡ 0
@@ -297,7 +391,7 @@ went_lives s seat found Breaks = λ e. cc
 pub runs_one : (k : Opening) (s : Shape) → k.shape ≡ s → (seat : Seat) (rest : Rest) (me me' : Mine) (want : Want) (found : ℕ)
     → IsRunning seat rest ≡ stands_by k seat.own (deeds_in me.0) → IsSeat seat.own me → 0 < s.processors → wanted_rest s seat rest ≡ want → IsAsked want → IsFound want found
     → me' ≡ (seen me.0 (deed_by want found), me.1)
-    → Goes k seat.own me me' 1 1 0 × (stands_by k seat.own (deeds_in me'.0) ≡ went_rest s seat found rest)
+    → Goes k seat.own me me' 1 1 0 (is_exchange (deed_by want found)) × (stands_by k seat.own (deeds_in me'.0) ≡ went_rest s seat found rest)
 runs_one k s shape seat rest me me' want found at sits some wants asked is_found made = (
   goes_one k seat.own true me me' want found (IsRunning seat rest) at sits (λ e. cc) refl (λ e. cc) (subst (λ (t : Shape). 0 < t.processors) (sym shape) some)
       (ap (λ (t : Shape). wanted_rest t seat rest) shape ∙ wants) asked refl made,
@@ -306,5 +400,5 @@ runs_one k s shape seat rest me me' want found at sits some wants asked is_found
 
 -- it sits there, and isn't done
 pub runs_lives : (k : Opening) (s : Shape) (seat : Seat) (rest : Rest) (me me' : Mine) (found : ℕ)
-    → Goes k seat.own me me' 1 1 0 × (stands_by k seat.own (deeds_in me'.0) ≡ went_rest s seat found rest) → Lives k seat.own me' true
+    → Goes k seat.own me me' 1 1 0 false × (stands_by k seat.own (deeds_in me'.0) ≡ went_rest s seat found rest) → Lives k seat.own me' true
 runs_lives k s seat rest me me' found (g, e) = (g.sits, λ done. went_lives s seat found rest (sym e ∙ done))

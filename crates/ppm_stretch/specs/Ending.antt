@@ -1,5 +1,5 @@
 -- The stores with which a capsule ends.
-use Rattle.std.specs.Prelude.{◌≡◌, List, Option, Some, true}
+use Rattle.std.specs.Prelude.{false, ◌≡◌, List, Option, Some, true}
 use Rattle.ppm_cells.specs.Restart.{IsRestart}
 use Rattle.ppm_cells.specs.declared.shape.Shape.{Shape}
 use Rattle.ppm_words.specs.declared.event.Event.{Event}
@@ -21,8 +21,8 @@ pub record IsPutting (k : Opening) (s : Shape) (seat : Seat) (put : Put) (me : M
 module _ {W : Type 0} (told : W → Option (List Event)) where
   -- what came of a store of an end behind which this is left, or of that of the restart word
   abbrev pub HasEnded : Opening → Shape → Seat → Rest → Mine → Mine → W → W → EndStep → Type 0
-  HasEnded k s seat rest me me' w w' steps.Stored = Moves told k seat.own me me' w w' 1 1 0 × (stands_by k seat.own (deeds_in me'.0) ≡ running s seat rest)
+  HasEnded k s seat rest me me' w w' steps.Stored = Moves told k seat.own me me' w w' 1 1 0 false × (stands_by k seat.own (deeds_in me'.0) ≡ running s seat rest)
   HasEnded k s seat rest me me' w w' (steps.Installed restart) =
-      Moves told k seat.own me me' w w' 1 1 0 × (stands_by k seat.own (deeds_in me'.0) ≡ IsAt seat.place (Some restart)) × IsRestart restart
+      Moves told k seat.own me me' w w' 1 1 0 false × (stands_by k seat.own (deeds_in me'.0) ≡ IsAt seat.place (Some restart)) × IsRestart restart
   HasEnded k s seat rest me me' w w' steps.Gone = (me' ≡ me) × (w' ≡ w) × (stands_by k seat.own (deeds_in me'.0) ≡ IsBroken seat.place)
-  HasEnded k s seat rest me me' w w' steps.Refused = Refuses told k seat.own me me' w w' true
+  HasEnded k s seat rest me me' w w' steps.Refused = Refuses told k seat.own me me' w w' true 1

@@ -1,5 +1,5 @@
 -- The steps with which a capsule of a frame begins and goes round.
-use Rattle.std.specs.Prelude.{◌≡◌, ◌≤◌, true, ℕ, ◌+◌, List, Option, Some, None, slice_get}
+use Rattle.std.specs.Prelude.{false, ◌≡◌, ◌≤◌, true, ℕ, ◌+◌, List, Option, Some, None, slice_get}
 use Rattle.ppm_code.specs.declared.code.CodeParts.{CodeParts}
 use Rattle.ppm_cells.specs.declared.restart.RestartKind.TheVariants.{Run}
 use Rattle.ppm_cells.specs.declared.shape.Shape.{Shape}
@@ -16,6 +16,8 @@ use Rattle.ppm_stretch.specs.declared.way.Stretch.{Stretch}
 use Rattle.ppm_stretch.specs.declared.way.Halt.{Halt}
 use Rattle.ppm_stretch.specs.declared.way.Halt.TheVariants as halts
 use Rattle.ppm_stretch.specs.declared.way.Turned.{Turned}
+use Rattle.ppm_stretch.specs.declared.way.Way.{Way}
+use Rattle.ppm_stretch.specs.declared.way.Way.TheVariants as ways
 use Rattle.ppm_stretch.specs.declared.way.Turned.TheVariants as turned
 use Rattle.ppm_stretch.specs.declared.way.Begun.{Begun}
 use Rattle.ppm_stretch.specs.declared.way.Begun.TheVariants as begun
@@ -43,6 +45,13 @@ pub record IsToStore (k : Opening) (s : Shape) (seat : Seat) (at word : ℕ) (me
   pub stands : stands_by k seat.own (deeds_in me.0) ≡ IsRunning seat rest
   pub wants : wanted_rest s seat rest ≡ WantsStore at word
 
+-- where a round halts in the capsule with a number, by what came of its instructions
+abbrev pub halt_behind : (number : ℕ) → Way → Halt
+halt_behind number (ways.Made at) = halts.Midway number at
+halt_behind number (ways.Stops next what) = halts.Stopped number next what
+halt_behind number ways.Breaks = halts.Broken
+halt_behind number ways.Refused = halts.Refused true
+
 -- the frame goes on with the other copy of its header
 abbrev pub goes_round : Seat → Home → Restart
 goes_round seat home = record { kind = Run home.frame (other_copy home.copy); bottom = seat.restart.bottom }
@@ -51,39 +60,39 @@ module _ {W : Type 0} (told : W → Option (List Event)) where
   -- what came of the beginning of a capsule of a frame: the finish word was set, or the capsule with a number is entered with registers of 0, if it
   -- is there; or the watcher refused
   abbrev pub HasBegun : Opening → Shape → CodeParts → Seat → (frame copy : ℕ) → Mine → Mine → W → W → Begun → Type 0
-  HasBegun k s code seat frame copy me me' w w' begun.Over = Moves told k seat.own me me' w w' 1 0 1 × (stands_by k seat.own (deeds_in me'.0) ≡ IsDone)
+  HasBegun k s code seat frame copy me me' w w' begun.Over = Moves told k seat.own me me' w w' 1 0 1 false × (stands_by k seat.own (deeds_in me'.0) ≡ IsDone)
   HasBegun k s code seat frame copy me me' w w' (begun.Entered number) =
-      Moves told k seat.own me me' w w' 2 1 0
+      Moves told k seat.own me me' w w' 2 1 0 false
       × (stands_by k seat.own (deeds_in me'.0) ≡ enters s code seat (Run frame copy) (slice_get code.capsules number))
-  HasBegun k s code seat frame copy me me' w w' (begun.Refused lives) = Refuses told k seat.own me me' w w' lives
+  HasBegun k s code seat frame copy me me' w w' (begun.Refused lives) = Refuses told k seat.own me me' w w' lives 2
 
   -- what came of the stores with which a frame goes round
   abbrev pub HasTurned : Opening → Shape → Seat → Home → Mine → Mine → W → W → Turned → Type 0
   HasTurned k s seat home me me' w w' (turned.Breaks made) =
-      (made ≤ 1) × Moves told k seat.own me me' w w' made made 0 × (stands_by k seat.own (deeds_in me'.0) ≡ IsBroken seat.place)
+      (made ≤ 1) × Moves told k seat.own me me' w w' made made 0 false × (stands_by k seat.own (deeds_in me'.0) ≡ IsBroken seat.place)
   HasTurned k s seat home me me' w w' turned.Round =
-      Moves told k seat.own me me' w w' 2 2 0 × (stands_by k seat.own (deeds_in me'.0) ≡ IsAt seat.place (Some (goes_round seat home)))
-  HasTurned k s seat home me me' w w' turned.Refused = Refuses told k seat.own me me' w w' true
+      Moves told k seat.own me me' w w' 2 2 0 false × (stands_by k seat.own (deeds_in me'.0) ≡ IsAt seat.place (Some (goes_round seat home)))
+  HasTurned k s seat home me me' w w' turned.Refused = Refuses told k seat.own me me' w w' true 2
 
-  -- what came of the capsule with a number: there is none, or it was gone through so far
-  abbrev pub WentAlong : Opening → Shape → CodeParts → Seat → Home → (number : ℕ) → List ℕ → Mine → Mine → W → W → Option Stretch → Type 0
-  WentAlong k s code seat home number registers me me' w w' None = (me' ≡ me) × (w' ≡ w) × (stands_by k seat.own (deeds_in me'.0) ≡ IsBroken seat.place)
-  WentAlong k s code seat home number registers me me' w w' (Some stretch) =
+  -- what came of the capsule with a number: there is none, or it was gone through so far, by at most so many steps
+  abbrev pub WentAlong : Opening → Shape → CodeParts → Seat → Home → (number : ℕ) → List ℕ → Mine → Mine → W → W → (most : ℕ) → Option Stretch → Type 0
+  WentAlong k s code seat home number registers me me' w w' most None = (me' ≡ me) × (w' ≡ w) × (stands_by k seat.own (deeds_in me'.0) ≡ IsBroken seat.place)
+  WentAlong k s code seat home number registers me me' w w' most (Some stretch) =
       (capsule : Capsule) × (slice_get code.capsules number ≡ Some capsule)
-      × LedTo told k s code seat home capsule.instrs registers me me' w w' stretch.made stretch.way
+      × LedTo told k s code seat home capsule.instrs registers me me' w w' most stretch.made stretch.way
 
-  -- where a processor stands behind a round
-  abbrev pub Circled : Opening → Shape → CodeParts → Seat → Home → List ℕ → Mine → Mine → W → W → (made work : ℕ) → Halt → Type 0
-  Circled k s code seat home registers me me' w w' made work halts.Done =
-      Moves told k seat.own me me' w w' made work 1 × (stands_by k seat.own (deeds_in me'.0) ≡ IsDone)
-  Circled k s code seat home registers me me' w w' made work halts.Broken =
-      Moves told k seat.own me me' w w' made work 0 × (stands_by k seat.own (deeds_in me'.0) ≡ IsBroken seat.place)
-  Circled k s code seat home registers me me' w w' made work halts.Round =
-      Moves told k seat.own me me' w w' made work 0 × (stands_by k seat.own (deeds_in me'.0) ≡ IsAt seat.place (Some (goes_round seat home)))
-  Circled k s code seat home registers me me' w w' made work (halts.Midway number at) =
-      Moves told k seat.own me me' w w' made work 0
+  -- where a processor stands behind a round of at most so many steps
+  abbrev pub Circled : Opening → Shape → CodeParts → Seat → Home → List ℕ → Mine → Mine → W → W → (most made work : ℕ) → Halt → Type 0
+  Circled k s code seat home registers me me' w w' most made work halts.Done =
+      Moves told k seat.own me me' w w' made work 1 false × (stands_by k seat.own (deeds_in me'.0) ≡ IsDone)
+  Circled k s code seat home registers me me' w w' most made work halts.Broken =
+      Moves told k seat.own me me' w w' made work 0 false × (stands_by k seat.own (deeds_in me'.0) ≡ IsBroken seat.place)
+  Circled k s code seat home registers me me' w w' most made work halts.Round =
+      Moves told k seat.own me me' w w' made work 0 false × (stands_by k seat.own (deeds_in me'.0) ≡ IsAt seat.place (Some (goes_round seat home)))
+  Circled k s code seat home registers me me' w w' most made work (halts.Midway number at) =
+      Moves told k seat.own me me' w w' made work 0 false
       × ((capsule : Capsule) × (slice_get code.capsules number ≡ Some capsule) × StandsAt k s code seat home capsule.instrs at registers me')
-  Circled k s code seat home registers me me' w w' made work (halts.Stopped number next what) =
-      Moves told k seat.own me me' w w' made work 0
+  Circled k s code seat home registers me me' w w' most made work (halts.Stopped number next what) =
+      Moves told k seat.own me me' w w' made work 0 false
       × ((capsule : Capsule) × (slice_get code.capsules number ≡ Some capsule) × StandsReached k s code seat home capsule.instrs next what registers me')
-  Circled k s code seat home registers me me' w w' made work (halts.Refused lives) = Refuses told k seat.own me me' w w' lives
+  Circled k s code seat home registers me me' w w' most made work (halts.Refused lives) = Refuses told k seat.own me me' w w' lives most

@@ -10,32 +10,14 @@ ghost use Rattle.ppm_step.specs.There.{is_there};
 ghost use Rattle.ppm_step.specs.declared.content.Content.TheVariants.{ANumber};
 ghost use Rattle.ppm_table.specs.Run.{stands_by, deeds_in, IsAtTable, IsSeat};
 ghost use Rattle.ppm_stretch.specs.Steady.{StandsAt, CameTo, LedTo, HasLoaded, HasStored, IsLoading, IsStoring};
-ghost use Rattle.ppm_table.specs.Telling.{Keeps};
 
 use crate::way::{Load, Store, Stretch, Way};
 use atomic_table::Seat;
 use ppm_cells::{Cell, Shape};
 use ppm_code::{Code, FrameWord, Instr, Location, Reached, Step, reach};
 use ppm_ports::Watch;
-use ppm_step::{Home, Seat as Place, Want};
+use ppm_step::{Home, Seat as Place, Want, location_is_there};
 use ppm_table::{View, Words, tell};
-
-/// Whether the word of a location is there.
-#[inline(always)]
-pub(crate) fn is_there(shape: &Shape, home: &Home, location: Location) -> bool
-    requires { IsHome home.now }
-    ensures { result ≡ is_there shape.now (cell_of home.now (location_of location)) }
-{
-    let words = u64::from(shape.word_count());
-    match location {
-        Location::Frame(FrameWord::Slot(slot)) => {
-            u64::from(home.frame) + 6 + u64::from(slot) < words
-        }
-        Location::Frame(FrameWord::Value) => u64::from(home.frame) + 4 < words,
-        Location::New(offset) => u64::from(home.block) + u64::from(offset) < words,
-        Location::Array(index) => index < u64::from(shape.arrays),
-    }
-}
 
 /// The address of a location that is there.
 #[inline(always)]
@@ -73,12 +55,11 @@ fn load_at<W: Watch>(
     requires place { place.now.own < shape.now.processors }
     requires stands { IsLoading words.now.shared.key shape.now place.now (cell_of home.now (location_of location)) mine.old.me }
     ensures table { mine.new.table_id ≡ mine.old.table_id }
-    ensures keeps { Keeps (W.told watch.old) (W.told watch.new) }
     ensures loaded { (go : ℕ → Rest) → stands_by words.now.shared.key place.now.own (deeds_in mine.old.me.0)
         ≡ running shape.now place.now (Loads (cell_of home.now (location_of location)) go)
         → HasLoaded W.told words.now.shared.key shape.now place.now go mine.old.me mine.new.me watch.old watch.new result }
 {
-    if !is_there(shape, home, location) {
+    if !location_is_there(shape, home, location) {
         return Load::Gone;
     }
     let at = address_of(shape, home, location);
@@ -108,12 +89,11 @@ fn store_at<W: Watch>(
     requires place { place.now.own < shape.now.processors }
     requires stands { IsStoring words.now.shared.key shape.now place.now (cell_of home.now (location_of location)) word mine.old.me }
     ensures table { mine.new.table_id ≡ mine.old.table_id }
-    ensures keeps { Keeps (W.told watch.old) (W.told watch.new) }
     ensures stored { (rest : Rest) → stands_by words.now.shared.key place.now.own (deeds_in mine.old.me.0)
         ≡ running shape.now place.now (Stores (cell_of home.now (location_of location)) (ANumber word) rest)
         → HasStored W.told words.now.shared.key shape.now place.now rest mine.old.me mine.new.me watch.old watch.new result }
 {
-    if !is_there(shape, home, location) {
+    if !location_is_there(shape, home, location) {
         return Store::Gone;
     }
     let at = address_of(shape, home, location);
@@ -152,7 +132,6 @@ fn step_at<W: Watch>(
     requires place { place.now.own < shape.now.processors }
     requires stands { StandsAt words.now.shared.key shape.now code.now place.now home.now instrs.now at registers.old mine.old.me }
     ensures table { mine.new.table_id ≡ mine.old.table_id }
-    ensures keeps { Keeps (W.told watch.old) (W.told watch.new) }
     ensures came { CameTo W.told words.now.shared.key shape.now code.now place.now home.now instrs.now registers.new mine.old.me mine.new.me watch.old watch.new result }
 {
     let _ = code.parts().root;
@@ -200,9 +179,8 @@ pub(crate) fn go_along<W: Watch>(
     requires place { place.now.own < shape.now.processors }
     requires stands { StandsAt words.now.shared.key shape.now code.now place.now home.now instrs.now from registers.old mine.old.me }
     ensures table { mine.new.table_id ≡ mine.old.table_id }
-    ensures keeps { Keeps (W.told watch.old) (W.told watch.new) }
     ensures few { result.made ≤ most }
-    ensures led { LedTo W.told words.now.shared.key shape.now code.now place.now home.now instrs.now registers.new mine.old.me mine.new.me watch.old watch.new result.made result.way }
+    ensures led { LedTo W.told words.now.shared.key shape.now code.now place.now home.now instrs.now registers.new mine.old.me mine.new.me watch.old watch.new most result.made result.way }
 {
     let mut at = from;
     let mut made = 0;

@@ -1,60 +1,21 @@
 //! The stores with which a capsule ends, each an atomic step of the table.
-ghost use Rattle.std.specs.Prelude.{◌≡◌, ◌≢◌, ◌<◌, ◌+◌, true};
-ghost use Rattle.ppm_cells.specs.Cells.{address, word_count};
-ghost use Rattle.ppm_cells.specs.Restart.{IsRestart, restart_word};
+ghost use Rattle.std.specs.Prelude.{◌≡◌, ◌≢◌, ◌<◌, ◌+◌};
 ghost use Rattle.ppm_step.specs.Contents.{IsContent};
 ghost use Rattle.ppm_step.specs.Facts.{IsEnd, IsHome, IsSeat as IsPlace};
 ghost use Rattle.ppm_step.specs.Frames.{Rest, Stores, Installs, ending};
 ghost use Rattle.ppm_step.specs.Standings.{running};
-ghost use Rattle.ppm_step.specs.There.{is_there, restart_is_there};
 ghost use Rattle.ppm_table.specs.Run.{stands_by, deeds_in, IsAtTable, IsSeat};
-ghost use Rattle.ppm_table.specs.Telling.{Keeps};
 ghost use Rattle.ppm_stretch.specs.Ending.{HasEnded, IsPutting};
 ghost use Rattle.ppm_stretch.specs.declared.way.EndStep.TheVariants.{Stored};
 
 use crate::entering::store_next;
-use crate::there::{cell_is_there, restart_there};
 use crate::way::EndStep;
 use atomic_table::Seat;
 use ppm_cells::{Cell, Restart, RestartKind, Shape};
 use ppm_code::{Code, End};
 use ppm_ports::Watch;
-use ppm_step::{Home, Put, Seat as Place};
+use ppm_step::{Home, Put, Seat as Place, address, cell_is_there, restart_there, restart_word};
 use ppm_table::{View, Words};
-
-/// The address of a cell that is there.
-#[inline(always)]
-fn address_there(shape: &Shape, cell: Cell) -> u32
-    requires { is_there shape.now cell ≡ true }
-    ensures value { result ≡ address shape.now cell }
-    ensures within { result < word_count shape.now }
-{
-    match cell {
-        Cell::BlockWord { address } => address,
-        Cell::FinishWord
-        | Cell::CarryWord { .. }
-        | Cell::DeadWord { .. }
-        | Cell::RestartWord { .. }
-        | Cell::MessageWord { .. }
-        | Cell::HolderWord { .. }
-        | Cell::Top { .. }
-        | Cell::RoomCounter { .. }
-        | Cell::EntryWord { .. }
-        | Cell::ArrayWord { .. } => shape.address(cell),
-    }
-}
-
-/// The word of a restart that names what is there.
-#[inline(always)]
-fn word_there(shape: &Shape, restart: Restart) -> u64
-    requires { restart_is_there shape.now restart ≡ true }
-    ensures value { result ≡ restart_word restart }
-    ensures fits { IsRestart restart }
-{
-    // The proof needs its limits.
-    let _ = shape.word_count();
-    restart.pack()
-}
 
 /// Makes a store of an end, whatever comes behind that.
 #[inline(always)]
@@ -72,7 +33,6 @@ fn put_at<W: Watch>(
     requires content { IsContent put.content }
     requires stands { IsPutting words.now.shared.key shape.now place.now put mine.old.me }
     ensures table { mine.new.table_id ≡ mine.old.table_id }
-    ensures keeps { Keeps (W.told watch.old) (W.told watch.new) }
     ensures ended { (rest : Rest) → stands_by words.now.shared.key place.now.own (deeds_in mine.old.me.0)
         ≡ running shape.now place.now (Stores put.cell put.content rest)
         → HasEnded W.told words.now.shared.key shape.now place.now rest mine.old.me mine.new.me watch.old watch.new result }
@@ -80,7 +40,7 @@ fn put_at<W: Watch>(
     if !cell_is_there(shape, put.cell) {
         return EndStep::Gone;
     }
-    let at = address_there(shape, put.cell);
+    let at = address(shape, put.cell);
     if store_next(words, shape, mine, watch, place, at, put.content.word()) {
         EndStep::Stored
     } else {
@@ -104,11 +64,12 @@ fn install_at<W: Watch>(
     requires stands { stands_by words.now.shared.key place.now.own (deeds_in mine.old.me.0)
         ≡ running shape.now place.now (Installs kind) }
     ensures table { mine.new.table_id ≡ mine.old.table_id }
-    ensures keeps { Keeps (W.told watch.old) (W.told watch.new) }
     ensures ended { (rest : Rest) → HasEnded W.told words.now.shared.key shape.now place.now rest
         mine.old.me mine.new.me watch.old watch.new result }
     ensures last { result ≢ Stored }
 {
+    // The proof needs its limits.
+    let _ = shape.word_count();
     let restart = Restart {
         kind,
         bottom: place.restart.bottom,
@@ -117,7 +78,7 @@ fn install_at<W: Watch>(
         return EndStep::Gone;
     }
     let at = shape.address(Cell::RestartWord { place: place.place });
-    let word = word_there(shape, restart);
+    let word = restart_word(shape, restart);
     if store_next(words, shape, mine, watch, place, at, word) {
         EndStep::Installed(restart)
     } else {
@@ -146,7 +107,6 @@ pub(crate) fn end_at<W: Watch>(
     requires stands { stands_by words.now.shared.key place.now.own (deeds_in mine.old.me.0)
         ≡ running shape.now place.now (ending code.now home.now end n) }
     ensures table { mine.new.table_id ≡ mine.old.table_id }
-    ensures keeps { Keeps (W.told watch.old) (W.told watch.new) }
     ensures few { result ≡ Stored → n < 11 }
     ensures ended { HasEnded W.told words.now.shared.key shape.now place.now (ending code.now home.now end (n + 1))
         mine.old.me mine.new.me watch.old watch.new result }

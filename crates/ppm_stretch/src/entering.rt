@@ -1,6 +1,6 @@
 //! The steps with which a capsule of a frame begins and goes round, each an atomic step of the
 //! table.
-ghost use Rattle.std.specs.Prelude.{◌≡◌, ◌≤◌, ◌<◌, slice_get, IfSome, Some, true};
+ghost use Rattle.std.specs.Prelude.{◌≡◌, ◌≤◌, ◌<◌, slice_get, IfSome, Some, true, false};
 ghost use Rattle.ppm_cells.specs.Cells.{word_count};
 ghost use Rattle.ppm_cells.specs.declared.restart.RestartKind.TheVariants.{Run};
 ghost use Rattle.ppm_step.specs.Locals.{IsHeaderOf};
@@ -9,8 +9,8 @@ ghost use Rattle.ppm_step.specs.Facts.{IsHome, IsSeat as IsPlace};
 ghost use Rattle.ppm_step.specs.Frames.{Rest, ending};
 ghost use Rattle.ppm_step.specs.declared.ask.Want.TheVariants as wants;
 ghost use Rattle.ppm_step.specs.Standings.{at_finish, enters, running, went_rest, wanted_rest, IsRunning};
-ghost use Rattle.ppm_stretch.specs.Entering.{HasBegun, HasTurned, Circled, WentAlong, StandsBefore, StandsAtHeader, IsToStore};
-ghost use Rattle.ppm_table.specs.Telling.{Keeps};
+ghost use Rattle.ppm_stretch.specs.Entering.{HasBegun, HasTurned, Circled, WentAlong, halt_behind, StandsBefore, StandsAtHeader, IsToStore};
+ghost use Rattle.ppm_ports.specs.Told.{KeepsList};
 ghost use Rattle.ppm_stretch.specs.declared.way.Halt.TheVariants.{Refused, Round};
 ghost use Rattle.ppm_table.specs.Run.{stands_by, deeds_in, IsAtCode, IsAtTable, IsSeat};
 ghost use Rattle.ppm_stretch.specs.Steady.{Goes, Moves};
@@ -41,10 +41,10 @@ pub(crate) fn load_finish<W: Watch>(
     requires header { IsHeaderOf shape.now place.now header }
     requires stands { StandsBefore words.now.shared.key place.now mine.old.me }
     ensures table { mine.new.table_id ≡ mine.old.table_id }
-    ensures keeps { Keeps (W.told watch.old) (W.told watch.new) }
+    ensures refused { result.fine ≡ false → KeepsList (W.told watch.old) (W.told watch.new) }
     ensures sits_on { IsSeat place.now.own mine.new.me }
-    ensures goes { Goes words.now.shared.key place.now.own mine.old.me mine.new.me 1 0 1 }
-    ensures moves { result.fine ≡ true → Moves W.told words.now.shared.key place.now.own mine.old.me mine.new.me watch.old watch.new 1 0 1 }
+    ensures goes { Goes words.now.shared.key place.now.own mine.old.me mine.new.me 1 0 1 false }
+    ensures moves { result.fine ≡ true → Moves W.told words.now.shared.key place.now.own mine.old.me mine.new.me watch.old watch.new 1 0 1 false }
     ensures stands { stands_by words.now.shared.key place.now.own (deeds_in mine.new.me.0)
         ≡ at_finish shape.now code.now place.now.own place.now.place (Some place.now.restart) result.word }
 {
@@ -70,10 +70,10 @@ pub(crate) fn load_header<W: Watch>(
     requires within { header < word_count shape.now }
     requires stands { StandsAtHeader words.now.shared.key place.now header mine.old.me }
     ensures table { mine.new.table_id ≡ mine.old.table_id }
-    ensures keeps { Keeps (W.told watch.old) (W.told watch.new) }
+    ensures refused { result.fine ≡ false → KeepsList (W.told watch.old) (W.told watch.new) }
     ensures sits_on { IsSeat place.now.own mine.new.me }
-    ensures goes { Goes words.now.shared.key place.now.own mine.old.me mine.new.me 1 1 0 }
-    ensures moves { result.fine ≡ true → Moves W.told words.now.shared.key place.now.own mine.old.me mine.new.me watch.old watch.new 1 1 0 }
+    ensures goes { Goes words.now.shared.key place.now.own mine.old.me mine.new.me 1 1 0 false }
+    ensures moves { result.fine ≡ true → Moves W.told words.now.shared.key place.now.own mine.old.me mine.new.me watch.old watch.new 1 1 0 false }
     ensures stands { stands_by words.now.shared.key place.now.own (deeds_in mine.new.me.0)
         ≡ enters shape.now code.now place.now place.now.restart.kind (slice_get code.now.capsules result.word) }
 {
@@ -99,11 +99,11 @@ pub(crate) fn store_next<W: Watch>(
     requires within { at < word_count shape.now }
     requires stores { IsToStore words.now.shared.key shape.now place.now at word mine.old.me }
     ensures table { mine.new.table_id ≡ mine.old.table_id }
-    ensures keeps { Keeps (W.told watch.old) (W.told watch.new) }
+    ensures refused { result ≡ false → KeepsList (W.told watch.old) (W.told watch.new) }
     ensures made { (rest : Rest) → stands_by words.now.shared.key place.now.own (deeds_in mine.old.me.0) ≡ IsRunning place.now rest
         → wanted_rest shape.now place.now rest ≡ wants.Stores at word
-        → (stands_by words.now.shared.key place.now.own (deeds_in mine.new.me.0) ≡ went_rest shape.now place.now 0 rest) × Goes words.now.shared.key place.now.own mine.old.me mine.new.me 1 1 0
-        × (result ≡ true → Moves W.told words.now.shared.key place.now.own mine.old.me mine.new.me watch.old watch.new 1 1 0) }
+        → (stands_by words.now.shared.key place.now.own (deeds_in mine.new.me.0) ≡ went_rest shape.now place.now 0 rest) × Goes words.now.shared.key place.now.own mine.old.me mine.new.me 1 1 0 false
+        × (result ≡ true → Moves W.told words.now.shared.key place.now.own mine.old.me mine.new.me watch.old watch.new 1 1 0 false) }
 {
     let _ = shape.slots;
     let _ = place.own;
@@ -138,7 +138,6 @@ pub(crate) fn go_round<W: Watch>(
     requires stands { stands_by words.now.shared.key place.now.own (deeds_in mine.old.me.0)
         ≡ running shape.now place.now (ending code.now home.now (Next capsule) 0) }
     ensures table { mine.new.table_id ≡ mine.old.table_id }
-    ensures keeps { Keeps (W.told watch.old) (W.told watch.new) }
     ensures turned { HasTurned W.told words.now.shared.key shape.now place.now home.now mine.old.me mine.new.me watch.old watch.new result }
 {
     let _ = code.parts().root;
@@ -188,7 +187,6 @@ pub(crate) fn begin<W: Watch>(
     requires kind { place.now.restart.kind ≡ Run frame copy }
     requires stands { StandsBefore words.now.shared.key place.now mine.old.me }
     ensures table { mine.new.table_id ≡ mine.old.table_id }
-    ensures keeps { Keeps (W.told watch.old) (W.told watch.new) }
     ensures begun { HasBegun W.told words.now.shared.key shape.now code.now place.now frame copy mine.old.me mine.new.me watch.old watch.new result }
 {
     let _ = (frame, copy);
@@ -234,9 +232,8 @@ pub(crate) fn capsule_along<W: Watch>(
     requires stands { stands_by words.now.shared.key place.now.own (deeds_in mine.old.me.0)
         ≡ enters shape.now code.now place.now (Run home.now.frame home.now.copy) (slice_get code.now.capsules number) }
     ensures table { mine.new.table_id ≡ mine.old.table_id }
-    ensures keeps { Keeps (W.told watch.old) (W.told watch.new) }
     ensures few { IfSome result (λ stretch. stretch.made ≤ most) }
-    ensures along { WentAlong W.told words.now.shared.key shape.now code.now place.now home.now number registers.new mine.old.me mine.new.me watch.old watch.new result }
+    ensures along { WentAlong W.told words.now.shared.key shape.now code.now place.now home.now number registers.new mine.old.me mine.new.me watch.old watch.new most result }
 {
     if number >= code.parts().capsules.as_slice().len() as u64 {
         return None;
@@ -283,10 +280,9 @@ pub(crate) fn round<W: Watch>(
     requires kind { place.now.restart.kind ≡ Run home.now.frame home.now.copy }
     requires stands { StandsBefore words.now.shared.key place.now mine.old.me }
     ensures table { mine.new.table_id ≡ mine.old.table_id }
-    ensures keeps { Keeps (W.told watch.old) (W.told watch.new) }
     ensures few { result.made ≤ most }
     ensures on { (result.work ≤ result.made) × (result.halt ≡ Round → 0 < result.made) }
-    ensures circled { Circled W.told words.now.shared.key shape.now code.now place.now home.now registers.new mine.old.me mine.new.me watch.old watch.new result.made result.work result.halt }
+    ensures circled { Circled W.told words.now.shared.key shape.now code.now place.now home.now registers.new mine.old.me mine.new.me watch.old watch.new most result.made result.work result.halt }
 {
     let number = match begin(
         words, shape, code, mine, watch, place, home.frame, home.copy, header,
@@ -320,42 +316,42 @@ pub(crate) fn round<W: Watch>(
         };
     };
     let made = stretch.made;
-    match stretch.way {
-        Way::Refused => refused(true),
-        Way::Breaks => Circuit {
-            made: made + 2,
-            work: made + 1,
-            halt: Halt::Broken,
-        },
-        Way::Made(at) => Circuit {
-            made: made + 2,
-            work: made + 1,
-            halt: Halt::Midway(number, at),
-        },
-        Way::Stops(next, what) => {
-            if most - made >= 4 {
-                if let Reached::AtEnd(End::Next { capsule }) = what {
-                    return match go_round(words, shape, code, mine, watch, place, home, capsule) {
-                        Turned::Round => Circuit {
-                            made: made + 4,
-                            work: made + 3,
-                            halt: Halt::Round,
-                        },
-                        Turned::Breaks(stored) => Circuit {
-                            made: made + 2 + stored,
-                            work: made + 1 + stored,
-                            halt: Halt::Broken,
-                        },
-                        Turned::Refused => refused(true),
-                    };
-                }
-            }
-            Circuit {
-                made: made + 2,
-                work: made + 1,
-                halt: Halt::Stopped(number, next, what),
+    if let Way::Stops(_, what) = stretch.way {
+        if most - made >= 4 {
+            if let Reached::AtEnd(End::Next { capsule }) = what {
+                return match go_round(words, shape, code, mine, watch, place, home, capsule) {
+                    Turned::Round => Circuit {
+                        made: made + 4,
+                        work: made + 3,
+                        halt: Halt::Round,
+                    },
+                    Turned::Breaks(stored) => Circuit {
+                        made: made + 2 + stored,
+                        work: made + 1 + stored,
+                        halt: Halt::Broken,
+                    },
+                    Turned::Refused => refused(true),
+                };
             }
         }
+    }
+    Circuit {
+        made: made + 2,
+        work: made + 1,
+        halt: halt_behind(number, stretch.way),
+    }
+}
+
+/// Where a round halts in the capsule with this number, by what came of its instructions.
+#[inline(always)]
+fn halt_behind(number: u64, way: Way) -> Halt
+    ensures { result ≡ halt_behind number way }
+{
+    match way {
+        Way::Made(at) => Halt::Midway(number, at),
+        Way::Stops(next, what) => Halt::Stopped(number, next, what),
+        Way::Breaks => Halt::Broken,
+        Way::Refused => Halt::Refused(true),
     }
 }
 

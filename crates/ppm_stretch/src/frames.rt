@@ -6,7 +6,6 @@ ghost use Rattle.ppm_step.specs.Facts.{IsEnd, IsHome, IsSeat as IsPlace};
 ghost use Rattle.ppm_step.specs.Frames.{ending};
 ghost use Rattle.ppm_step.specs.Standings.{IsAt, running};
 ghost use Rattle.ppm_table.specs.Run.{stands_by, deeds_in, IsAtCode, IsSeat};
-ghost use Rattle.ppm_table.specs.Telling.{Keeps};
 ghost use Rattle.ppm_stretch.specs.Rows.{Makes, Stops};
 
 use crate::ending::end_at;
@@ -41,10 +40,9 @@ pub(crate) fn rounds<W: Watch>(
     requires restart { IsRestart restart }
     requires stands { stands_by words.now.shared.key local.old.own (deeds_in mine.old.me.0) ≡ IsAt place (Some restart) }
     ensures table { mine.new.table_id ≡ mine.old.table_id }
-    ensures keeps { Keeps (W.told watch.old) (W.told watch.new) }
     ensures few { (result.made ≤ most) × (result.work ≤ result.made) × (result.looks ≤ result.made) }
     ensures makes { Makes W.told words.now.shared.key local.old.own mine.old.me mine.new.me watch.old watch.new result }
-    ensures stops { Stops W.told words.now.shared.key local.old.own mine.old.me mine.new.me watch.old watch.new result }
+    ensures stops { Stops W.told words.now.shared.key local.old.own mine.old.me mine.new.me watch.old watch.new most result }
     ensures sits_on { IsSeat local.old.own mine.new.me }
     ensures stands_on { standing_of shape.now code.now local.new ≡ stands_by words.now.shared.key local.old.own (deeds_in mine.new.me.0) }
     ensures holds { IsLocal shape.now code.now local.new }
@@ -145,10 +143,9 @@ pub(crate) fn ends<W: Watch>(
     requires stands { stands_by words.now.shared.key local.old.own (deeds_in mine.old.me.0)
         ≡ running shape.now under_way.seat (ending code.now under_way.home end from) }
     ensures table { mine.new.table_id ≡ mine.old.table_id }
-    ensures keeps { Keeps (W.told watch.old) (W.told watch.new) }
     ensures few { (result.made ≤ most) × (result.work ≤ result.made) × (result.looks ≤ result.made) }
     ensures makes { Makes W.told words.now.shared.key local.old.own mine.old.me mine.new.me watch.old watch.new result }
-    ensures stops { Stops W.told words.now.shared.key local.old.own mine.old.me mine.new.me watch.old watch.new result }
+    ensures stops { Stops W.told words.now.shared.key local.old.own mine.old.me mine.new.me watch.old watch.new most result }
     ensures sits_on { IsSeat local.old.own mine.new.me }
     ensures stands_on { standing_of shape.now code.now local.new ≡ stands_by words.now.shared.key local.old.own (deeds_in mine.new.me.0) }
     ensures holds { IsLocal shape.now code.now local.new }

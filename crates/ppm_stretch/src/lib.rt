@@ -13,7 +13,6 @@ mod entering;
 mod frames;
 mod refusing;
 mod rows;
-mod there;
 mod waiting;
 mod way;
 

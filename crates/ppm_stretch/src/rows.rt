@@ -1,5 +1,5 @@
 //! The steps that a processor makes in a row, up to one for which something is to be chosen.
-ghost use Rattle.std.specs.Prelude.{◌≡◌, ◌≢◌, ◌≤◌, ◌<◌, ◌+◌, ◌^◌, Bool, true, false, not, if◌then◌else◌};
+ghost use Rattle.std.specs.Prelude.{◌≡◌, ◌≢◌, ◌≤◌, ◌<◌, ◌+◌, ◌^◌, ◌||◌, ℕ, Bool, true, false, not, if◌then◌else◌};
 ghost use Rattle.ppm_cells.specs.declared.shape.Shape.{Shape};
 ghost use Rattle.ppm_code.specs.declared.code.CodeParts.{CodeParts};
 ghost use Rattle.ppm_step.specs.Locals.{IsLocal, standing_of};
@@ -7,20 +7,20 @@ ghost use Rattle.ppm_step.specs.Standings.{IsDone};
 ghost use Rattle.ppm_step.specs.State.{is_done_at, next_of, seeks_holder};
 ghost use Rattle.ppm_step.specs.Told.{is_work_next};
 ghost use Rattle.ppm_step.specs.declared.turn.Next.TheVariants.{Seek};
-ghost use Rattle.ppm_table.specs.Run.{stands_by, deeds_in, IsAtCode, IsSeat};
+ghost use Rattle.ppm_table.specs.Run.{stands_by, deed_by, deeds_in, IsAtCode, IsSeat};
 ghost use Rattle.ppm_table.specs.Shown.{IsOf, opening_of};
 ghost use Rattle.ppm_table.specs.Telling.{Keeps};
-ghost use Rattle.ppm_stretch.specs.Rows.{IsChoosing, Makes, Stops};
-ghost use Rattle.ppm_stretch.specs.Steady.{Moves, Refuses, looks_behind};
+ghost use Rattle.ppm_stretch.specs.Rows.{IsChoosing, IsFree, Makes, Stops};
+ghost use Rattle.ppm_stretch.specs.Steady.{Moves, Refuses, is_exchange, looks_behind};
 
 use crate::frames::{ends, rounds};
 use crate::refusing::give_way;
-use crate::way::{NONE, REFUSED, Steps, row};
+use crate::way::{NONE, OneStep, REFUSED, Steps, row};
 use atomic_table::Seat;
 use ppm_cells::{RestartKind, Shape};
 use ppm_code::Code;
 use ppm_ports::Watch;
-use ppm_step::{Local, Next, Point, Row, Stage, Stand, Then};
+use ppm_step::{Local, Next, Point, Row, Stage, Stand, Then, Want};
 use ppm_table::{Processor, Shared, View, Words, tell};
 
 /// Whether a victim is due for the coming step.
@@ -43,8 +43,18 @@ pub fn is_due(local: &Local) -> bool
     }
 }
 
-/// Makes the step that comes next, whatever it is, for which no victim is due: whether the watcher
-/// took it.
+/// Whether a word step is a compare-and-modify.
+#[inline(always)]
+fn is_exchange(want: Want) -> bool
+    ensures { (found : ℕ) → result ≡ is_exchange (deed_by want found) }
+{
+    match want {
+        Want::Exchanges(..) => true,
+        Want::Loads(_) | Want::Stores(..) | Want::Nothing => false,
+    }
+}
+
+/// Makes the step that comes next, whatever it is, for which no victim is due.
 #[inline(never)]
 fn one<W: Watch>(
     local: &mut Local,
@@ -53,7 +63,7 @@ fn one<W: Watch>(
     watch: &mut W,
     shape: &Shape,
     code: &Code,
-) -> bool
+) -> OneStep
     requires table { IsAtCode mine.old.table_id words.now.shared.table_id words.now.shared.key shape.now code.now }
     requires local { IsLocal shape.now code.now local.old }
     requires sits { IsSeat local.old.own mine.old.me }
@@ -62,11 +72,10 @@ fn one<W: Watch>(
     requires due { seeks_holder (standing_of shape.now code.now local.old) ≡ false }
     requires seeks { next_of (standing_of shape.now code.now local.old) ≢ Seek }
     ensures table { mine.new.table_id ≡ mine.old.table_id }
-    ensures keeps { Keeps (W.told watch.old) (W.told watch.new) }
-    ensures moves { result ≡ true → (b : Bool) → is_work_next shape.now code.now (next_of (standing_of shape.now code.now local.old)) ≡ b
-        → Moves W.told words.now.shared.key local.old.own mine.old.me mine.new.me watch.old watch.new 1 (if b then 1 else 0) (if b then 0 else 1) }
-    ensures refuses { result ≡ false → Refuses W.told words.now.shared.key local.old.own mine.old.me mine.new.me watch.old watch.new
-        (not (is_done_at (standing_of shape.now code.now local.new))) }
+    ensures moves { result.fine ≡ true → (b : Bool) → is_work_next shape.now code.now (next_of (standing_of shape.now code.now local.old)) ≡ b
+        → Moves W.told words.now.shared.key local.old.own mine.old.me mine.new.me watch.old watch.new 1 (if b then 1 else 0) (if b then 0 else 1) result.exchanged }
+    ensures refuses { result.fine ≡ false → Refuses W.told words.now.shared.key local.old.own mine.old.me mine.new.me watch.old watch.new
+        (not (is_done_at (standing_of shape.now code.now local.new))) 1 }
     ensures sits_on { IsSeat local.old.own mine.new.me }
     ensures stands_on { standing_of shape.now code.now local.new ≡ stands_by words.now.shared.key local.old.own (deeds_in mine.new.me.0) }
     ensures holds { IsLocal shape.now code.now local.new }
@@ -74,9 +83,69 @@ fn one<W: Watch>(
 {
     let place = local.place();
     let want = local.want(shape, code, 0);
+    let exchanged = is_exchange(want);
     let found = tell(words, shape, mine, watch, place, want);
     local.observe(shape, code, 0, found.word);
-    found.fine
+    OneStep {
+        fine: found.fine,
+        exchanged,
+    }
+}
+
+/// Goes on by the capsules of frames before which the processor stands, or by the stores of an end;
+/// where it stands elsewhere, by no step.
+#[inline(always)]
+fn frame_steps<W: Watch>(
+    local: &mut Local,
+    words: &Words,
+    mine: &mut Seat<(), View>,
+    watch: &mut W,
+    shape: &Shape,
+    code: &Code,
+    most: u64,
+) -> Steps
+    requires table { IsAtCode mine.old.table_id words.now.shared.table_id words.now.shared.key shape.now code.now }
+    requires most { 0 < most }
+    requires local { IsLocal shape.now code.now local.old }
+    requires sits { IsSeat local.old.own mine.old.me }
+    requires stands { standing_of shape.now code.now local.old ≡ stands_by words.now.shared.key local.old.own (deeds_in mine.old.me.0) }
+    ensures table { mine.new.table_id ≡ mine.old.table_id }
+    ensures few { (result.made ≤ most) × (result.work ≤ result.made) × (result.looks ≤ result.made) }
+    ensures makes { Makes W.told words.now.shared.key local.old.own mine.old.me mine.new.me watch.old watch.new result }
+    ensures stops { Stops W.told words.now.shared.key local.old.own mine.old.me mine.new.me watch.old watch.new most result }
+    ensures sits_on { IsSeat local.old.own mine.new.me }
+    ensures stands_on { standing_of shape.now code.now local.new ≡ stands_by words.now.shared.key local.old.own (deeds_in mine.new.me.0) }
+    ensures holds { IsLocal shape.now code.now local.new }
+    ensures own_stays { local.new.own ≡ local.old.own }
+{
+    let _ = code.parts().root;
+    if let Stand::At { place, restart } = local.stand {
+        if let Some(restart) = restart {
+            if is_of_frame(restart.kind) && most >= 2 {
+                return rounds(local, words, mine, watch, shape, code, place, restart, most);
+            }
+        }
+    }
+    if let Stand::Runs(under_way) = local.stand {
+        if let Stage::Ending(end, n) = under_way.stage {
+            return ends(
+                local, words, mine, watch, shape, code, under_way, end, n, most,
+            );
+        }
+    }
+    NONE
+}
+
+/// Whether there was any step, one that was refused among them.
+#[inline(always)]
+fn is_any(steps: Steps) -> bool
+    ensures some { result ≡ true → steps.refused ≡ false → 0 < steps.made }
+    ensures none { result ≡ false → (steps.refused ≡ false) × (steps.made ≡ 0) }
+{
+    if steps.refused {
+        return true;
+    }
+    steps.made > 0
 }
 
 /// Goes on by the capsules of frames before which the processor stands, by the stores of an end, or
@@ -97,43 +166,18 @@ fn some_steps<W: Watch>(
     requires sits { IsSeat local.old.own mine.old.me }
     requires stands { standing_of shape.now code.now local.old ≡ stands_by words.now.shared.key local.old.own (deeds_in mine.old.me.0) }
     ensures table { mine.new.table_id ≡ mine.old.table_id }
-    ensures keeps { Keeps (W.told watch.old) (W.told watch.new) }
     ensures few { (result.made ≤ most) × (result.work ≤ result.made) × (result.looks ≤ result.made) }
     ensures makes { Makes W.told words.now.shared.key local.old.own mine.old.me mine.new.me watch.old watch.new result }
-    ensures stops { Stops W.told words.now.shared.key local.old.own mine.old.me mine.new.me watch.old watch.new result }
+    ensures stops { Stops W.told words.now.shared.key local.old.own mine.old.me mine.new.me watch.old watch.new most result }
     ensures on { result.refused ≡ false → result.made ≡ 0 → IsChoosing (standing_of shape.now code.now local.new) }
     ensures sits_on { IsSeat local.old.own mine.new.me }
     ensures stands_on { standing_of shape.now code.now local.new ≡ stands_by words.now.shared.key local.old.own (deeds_in mine.new.me.0) }
     ensures holds { IsLocal shape.now code.now local.new }
     ensures own_stays { local.new.own ≡ local.old.own }
 {
-    if let Stand::At { place, restart } = local.stand {
-        if let Some(restart) = restart {
-            if is_of_frame(restart.kind) && most >= 2 {
-                let circled = rounds(local, words, mine, watch, shape, code, place, restart, most);
-                if circled.refused {
-                    return circled;
-                }
-                if circled.made > 0 {
-                    return circled;
-                }
-                return other_step(local, words, mine, watch, shape, code);
-            }
-        }
-    }
-    if let Stand::Runs(under_way) = local.stand {
-        if let Stage::Ending(end, n) = under_way.stage {
-            let ended = ends(
-                local, words, mine, watch, shape, code, under_way, end, n, most,
-            );
-            if ended.refused {
-                return ended;
-            }
-            if ended.made > 0 {
-                return ended;
-            }
-            return other_step(local, words, mine, watch, shape, code);
-        }
+    let framed = frame_steps(local, words, mine, watch, shape, code, most);
+    if is_any(framed) {
+        return framed;
     }
     other_step(local, words, mine, watch, shape, code)
 }
@@ -142,18 +186,6 @@ fn some_steps<W: Watch>(
 #[inline(always)]
 fn is_of_frame(kind: RestartKind) -> bool {
     matches!(kind, RestartKind::Run { .. })
-}
-
-/// Whether the coming step is a compare-and-modify of a row. A job is put into a deque by one.
-#[inline(always)]
-fn is_exchange(local: &Local) -> bool {
-    matches!(
-        local.stand,
-        Stand::Within {
-            row: Row::Exchange { .. },
-            ..
-        }
-    )
 }
 
 /// One step for which nothing is to be chosen, or none.
@@ -171,10 +203,9 @@ fn other_step<W: Watch>(
     requires sits { IsSeat local.old.own mine.old.me }
     requires stands { standing_of shape.now code.now local.old ≡ stands_by words.now.shared.key local.old.own (deeds_in mine.old.me.0) }
     ensures table { mine.new.table_id ≡ mine.old.table_id }
-    ensures keeps { Keeps (W.told watch.old) (W.told watch.new) }
     ensures few { (result.made ≤ 1) × (result.work ≤ result.made) × (result.looks ≤ result.made) }
     ensures makes { Makes W.told words.now.shared.key local.old.own mine.old.me mine.new.me watch.old watch.new result }
-    ensures stops { Stops W.told words.now.shared.key local.old.own mine.old.me mine.new.me watch.old watch.new result }
+    ensures stops { Stops W.told words.now.shared.key local.old.own mine.old.me mine.new.me watch.old watch.new 1 result }
     ensures on { result.refused ≡ false → result.made ≡ 0 → IsChoosing (standing_of shape.now code.now local.new) }
     ensures sits_on { IsSeat local.old.own mine.new.me }
     ensures stands_on { standing_of shape.now code.now local.new ≡ stands_by words.now.shared.key local.old.own (deeds_in mine.new.me.0) }
@@ -182,25 +213,59 @@ fn other_step<W: Watch>(
     ensures own_stays { local.new.own ≡ local.old.own }
 {
     let _ = code.parts().root;
-    if is_due(local) {
+    if is_choosing(local) {
         return NONE;
     }
-    let exchanges = is_exchange(local);
+    let works = is_work(local);
+    let step = one(local, words, mine, watch, shape, code);
+    if step.fine {
+        row_of_one(works, step.exchanged)
+    } else {
+        give_way(local, words, mine, shape, code);
+        REFUSED
+    }
+}
+
+/// One step, by whether it is work and whether it was a compare-and-modify.
+#[inline(always)]
+fn row_of_one(works: bool, exchanged: bool) -> Steps
+    ensures { result
+        ≡ record { made = 1; work = if works then 1 else 0; looks = if works then 0 else 1; exchanged = exchanged; refused = false } }
+{
+    if works {
+        row(1, 1, 0, exchanged)
+    } else {
+        row(1, 0, 1, exchanged)
+    }
+}
+
+/// Whether something is to be chosen for the coming step, or the processor takes none any more.
+#[inline(always)]
+fn is_choosing(local: &Local) -> bool
+    ensures choosing { result ≡ true → (s : Shape) (code : CodeParts) → IsChoosing (standing_of s code local.now) }
+    ensures free { result ≡ false → (s : Shape) (code : CodeParts) → IsFree (standing_of s code local.now) }
+{
+    if is_due(local) {
+        return true;
+    }
     match local.next() {
-        Next::Work => if one(local, words, mine, watch, shape, code) {
-            row(1, 1, 0, exchanges)
-        } else {
-            give_way(local, words, mine, shape, code);
-            REFUSED
-        },
-        Next::Look => if one(local, words, mine, watch, shape, code) {
-            row(1, 0, 1, exchanges)
-        } else {
-            give_way(local, words, mine, shape, code);
-            REFUSED
-        },
-        Next::Seek => NONE,
-        Next::Done => NONE,
+        Next::Work => false,
+        Next::Look => false,
+        Next::Seek => true,
+        Next::Done => true,
+    }
+}
+
+/// Whether the coming step is work.
+#[inline(always)]
+fn is_work(local: &Local) -> bool
+    ensures { (s : Shape) (code : CodeParts) → result ≡ is_work_next s code (next_of (standing_of s code local.now)) }
+{
+    match local.next() {
+        Next::Work => true,
+        Next::Look => false,
+        Next::Seek => false,
+        Next::Done => false,
     }
 }
 
@@ -219,10 +284,9 @@ pub(crate) fn steps_along<W: Watch>(
     requires sits { IsSeat local.old.own mine.old.me }
     requires stands { standing_of shape.now code.now local.old ≡ stands_by words.now.shared.key local.old.own (deeds_in mine.old.me.0) }
     ensures table { mine.new.table_id ≡ mine.old.table_id }
-    ensures keeps { Keeps (W.told watch.old) (W.told watch.new) }
     ensures few { (result.made ≤ most) × (result.work ≤ result.made) × (result.looks ≤ result.made) }
     ensures makes { Makes W.told words.now.shared.key local.old.own mine.old.me mine.new.me watch.old watch.new result }
-    ensures stops { Stops W.told words.now.shared.key local.old.own mine.old.me mine.new.me watch.old watch.new result }
+    ensures stops { Stops W.told words.now.shared.key local.old.own mine.old.me mine.new.me watch.old watch.new most result }
     ensures on { result.refused ≡ false → result.made < most → IsChoosing (standing_of shape.now code.now local.new) }
     ensures sits_on { IsSeat local.old.own mine.new.me }
     ensures stands_on { standing_of shape.now code.now local.new ≡ stands_by words.now.shared.key local.old.own (deeds_in mine.new.me.0) }
@@ -251,7 +315,9 @@ pub(crate) fn steps_along<W: Watch>(
 
 /// Whether one of them holds.
 #[inline(always)]
-fn one_of(first: bool, second: bool) -> bool {
+fn one_of(first: bool, second: bool) -> bool
+    ensures { result ≡ (first || second) }
+{
     first || second
 }
 
@@ -281,7 +347,7 @@ pub fn steps<W: Watch>(
     ensures makes { Makes W.told (opening_of shared.now) processor.old.local.own processor.old.seat.me processor.new.seat.me
         watch.old watch.new result }
     ensures stops { Stops W.told (opening_of shared.now) processor.old.local.own processor.old.seat.me processor.new.seat.me
-        watch.old watch.new result }
+        watch.old watch.new most result }
     ensures on { result.refused ≡ false → result.made < most → IsChoosing (standing_of shared.now.shape shared.now.code processor.new.local) }
 {
     steps_along(

@@ -13,11 +13,9 @@ ghost use Rattle.ppm_step.specs.Standings.{IsBroken};
 ghost use Rattle.ppm_stretch.specs.Rows.{stage_of};
 ghost use Rattle.ppm_stretch.specs.Steady.{HasReached};
 
-use crate::capsule::is_there;
-use crate::there::put_is_there;
 use ppm_cells::{Restart, Shape};
 use ppm_code::{Code, End, Reached, Step};
-use ppm_step::{Home, Local, Running, Seat as Place, Stage, Stand};
+use ppm_step::{Home, Local, Running, Seat as Place, Stage, Stand, location_is_there};
 
 /// Stands before the capsule of a restart.
 #[inline(never)]
@@ -161,7 +159,7 @@ pub(crate) fn wait_ending(
         next: 0,
         stage: Stage::Ending(end, n),
     };
-    if put_is_there(&under_way, shape, code, end, n) {
+    if under_way.put_is_there(shape, code, end, n) {
         local.stand = Stand::Runs(under_way);
     } else {
         local.stand = Stand::Broken { place: seat.place };
@@ -197,10 +195,10 @@ fn what_is_there(
     match what {
         Reached::Before(step) => match step {
             Step::Loads(location, _) | Step::Stores(location, _) => {
-                is_there(shape, &running.home, location)
+                location_is_there(shape, &running.home, location)
             }
             Step::Asks(_) => true,
         },
-        Reached::AtEnd(end) => put_is_there(running, shape, code, end, 0),
+        Reached::AtEnd(end) => running.put_is_there(shape, code, end, 0),
     }
 }

@@ -102,6 +102,15 @@ pub struct Circuit {
     pub halt: Halt,
 }
 
+/// What came of one step.
+#[derive(Clone, Copy, Debug, PartialEq, Eq)]
+pub struct OneStep {
+    /// The watcher took it.
+    pub fine: bool,
+    /// It was a compare-and-modify.
+    pub exchanged: bool,
+}
+
 /// Steps in a row.
 #[derive(Clone, Copy, Debug, PartialEq, Eq)]
 pub struct Steps {
@@ -111,7 +120,8 @@ pub struct Steps {
     pub work: u64,
     /// How many looks there were since the last of these, or in all.
     pub looks: u64,
-    /// Whether one of them was a compare-and-modify, as it is by which a deque gets a job.
+    /// Whether one of them was a compare-and-modify, as that is by which a deque gets a job or the
+    /// finish word is set.
     pub exchanged: bool,
     /// The watcher refused one; then the numbers say nothing.
     pub refused: bool,

@@ -8,8 +8,8 @@ ghost use Rattle.ppm_step.specs.declared.ask.Want.TheVariants as wants;
 ghost use Rattle.ppm_step.specs.declared.turn.Act.TheVariants.{Soft, Hard, Quit};
 ghost use Rattle.ppm_table.specs.declared.view.Deed.TheVariants.{Softened, Hardened, Quitted};
 ghost use Rattle.ppm_step.specs.Standings.{WantIsWithin};
-ghost use Rattle.std.specs.Prelude.{ℕ, true, ◌∷◌, []};
-ghost use Rattle.ppm_ports.specs.Told.{AppendsList};
+ghost use Rattle.std.specs.Prelude.{ℕ, true, false, ◌∷◌, []};
+ghost use Rattle.ppm_ports.specs.Told.{AppendsList, KeepsList};
 ghost use Rattle.ppm_step.specs.Told.{place_of};
 ghost use Rattle.ppm_table.specs.Run.{Does, Steps, IsFound, IsSeat, padding, seen, deed_by, stands_by};
 ghost use Rattle.ppm_table.specs.Run.{deeds_in};
@@ -85,6 +85,7 @@ pub fn tell<W: Watch>(
     ensures shows { result.fine ≡ true → (own : ℕ) → IsSeat own seat.old.me
         → place_of (stands_by words.now.shared.key own (deeds_in seat.old.me.0)) ≡ place
         → Shows words.now.shared.key own (W.told watch.old) (W.told watch.new) seat.old.me seat.new.me }
+    ensures refused { result.fine ≡ false → KeepsList (W.told watch.old) (W.told watch.new) }
 {
     let _ = shape.slots;
     let word = touch(words, shape, seat, want);
@@ -97,6 +98,7 @@ pub fn tell<W: Watch>(
 pub fn hear<W: Watch>(watch: &mut W, event: Event) -> bool
     ensures keeps { Keeps (W.told watch.old) (W.told watch.new) }
     ensures heard { result ≡ true → AppendsList (W.told watch.old) (W.told watch.new) (event ∷ []) }
+    ensures refused { result ≡ false → KeepsList (W.told watch.old) (W.told watch.new) }
 {
     match watch.turn(event) {
         Ok(()) => true,

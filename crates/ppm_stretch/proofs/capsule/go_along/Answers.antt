@@ -1,6 +1,5 @@
 use Rattle.std.proofs.Common.{◌∙◌, ◌+◌, arith, refl, true}
 use Rattle.ppm_stretch.proofs.SteadyLemmas.{moves_then, moves_same, refuses_then}
-use Rattle.ppm_table.proofs.TellingLemmas.{keeps_both}
 use Rattle.ppm_stretch.proofs.capsule.go_along.Goals as goal
 
 pub loop-made-preserved : goal.loop-made-preserved
@@ -9,9 +8,8 @@ loop-made-preserved g c =
     let came = c.in-Made.ensures.came in (
       omega (arith, c.loop-made-test.true),
       c.in-Made.ensures.table ∙ i.1,
-      keeps_both _ _ _ i.2 c.in-Made.ensures.keeps,
       moves_then g.W.Watch.told c.args.words.now.shared.key c.args.place.now.own c.args.mine.now.me c.loop-made.mine.me c.step_at.new.mine.me c.args.watch.now c.loop-made.watch c.step_at.new.watch
-          c.loop-made.made 1 c.loop-made.made 1 0 0 (c.loop-made.made + 1) (c.loop-made.made + 1) 0 refl refl refl i.3 came.0,
+          c.loop-made.made 1 c.loop-made.made 1 0 0 (c.loop-made.made + 1) (c.loop-made.made + 1) 0 refl refl refl i.2 came.0,
       came.1,
     )
 
@@ -19,7 +17,7 @@ pub returns-in-Stops-clause-led : goal.returns-in-Stops-clause-led
 returns-in-Stops-clause-led g c =
     let came = c.in-Stops.ensures.came in (
       moves_same g.W.Watch.told c.args.words.now.shared.key c.args.place.now.own c.args.mine.now.me c.loop-made.mine.me c.step_at.new.mine.me c.args.watch.now c.loop-made.watch c.step_at.new.watch
-          c.loop-made.made c.loop-made.made 0 c.loop-made.invariant.3 came.0 came.1,
+          c.loop-made.made c.loop-made.made 0 c.loop-made.invariant.2 came.0 came.1,
       came.2,
     )
 
@@ -27,11 +25,11 @@ pub returns-in-Breaks-clause-led : goal.returns-in-Breaks-clause-led
 returns-in-Breaks-clause-led g c =
     let came = c.in-Breaks.ensures.came in (
       moves_same g.W.Watch.told c.args.words.now.shared.key c.args.place.now.own c.args.mine.now.me c.loop-made.mine.me c.step_at.new.mine.me c.args.watch.now c.loop-made.watch c.step_at.new.watch
-          c.loop-made.made c.loop-made.made 0 c.loop-made.invariant.3 came.0 came.1,
+          c.loop-made.made c.loop-made.made 0 c.loop-made.invariant.2 came.0 came.1,
       came.2,
     )
 
 pub returns-in-Refused-clause-led : goal.returns-in-Refused-clause-led
 returns-in-Refused-clause-led g c =
     refuses_then g.W.Watch.told c.args.words.now.shared.key c.args.place.now.own c.args.mine.now.me c.loop-made.mine.me c.step_at.new.mine.me c.args.watch.now c.loop-made.watch c.step_at.new.watch
-    c.loop-made.made c.loop-made.made 0 true c.loop-made.invariant.3 c.in-Refused.ensures.came
+    c.loop-made.made c.loop-made.made 0 true 1 c.args.most (omega (arith, c.loop-made-test.true)) c.loop-made.invariant.2 c.in-Refused.ensures.came

@@ -1,4 +1,4 @@
-use Rattle.std.proofs.Common.{ℕ, Bool, true, ◌∙◌, sym, ap, arith}
+use Rattle.std.proofs.Common.{false, ℕ, Bool, true, ◌∙◌, sym, ap, arith}
 use Rattle.ppm_code.specs.Locations.{location_of}
 use Rattle.ppm_step.specs.declared.ask.Want.TheVariants.{Stores as Wants}
 use Rattle.ppm_step.specs.Frames.{Stores, cell_of}
@@ -11,7 +11,7 @@ use Rattle.ppm_stretch.proofs.capsule.store_at.Goals as goal
 pub returns-then-found-clause-stored : goal.returns-then-found-clause-stored
 returns-then-found-clause-stored g c = λ left stands.
     let rest = Stores (cell_of c.args.home.now (location_of c.args.location)) (ANumber c.args.word) left in
-    let at = ap (λ (b : Bool). running_if c.args.place.now rest b) c.if-not-is_there.ensures ∙ sym stands in
+    let at = ap (λ (b : Bool). running_if c.args.place.now rest b) c.if-not-location_is_there.ensures ∙ sym stands in
     let came = runs_one c.args.words.now.shared.key c.args.shape.now c.requires.table.1 c.args.place.now rest c.args.mine.now.me c.tell-found.new.seat.me (Wants c.address_of-at.result c.args.word) c.tell-found.result.word
     at c.requires.sits (omega (arith, c.requires.place))
     (ap (λ (n : ℕ). Wants n c.args.word) (sym c.address_of-at.ensures.value)) tt c.tell-found.ensures.found c.tell-found.ensures.told in
@@ -20,9 +20,9 @@ returns-then-found-clause-stored g c = λ left stands.
 pub returns-else-found-clause-stored : goal.returns-else-found-clause-stored
 returns-else-found-clause-stored g c = λ left stands.
     let rest = Stores (cell_of c.args.home.now (location_of c.args.location)) (ANumber c.args.word) left in
-    let at = ap (λ (b : Bool). running_if c.args.place.now rest b) c.if-not-is_there.ensures ∙ sym stands in
+    let at = ap (λ (b : Bool). running_if c.args.place.now rest b) c.if-not-location_is_there.ensures ∙ sym stands in
     let came = runs_one c.args.words.now.shared.key c.args.shape.now c.requires.table.1 c.args.place.now rest c.args.mine.now.me c.tell-found.new.seat.me (Wants c.address_of-at.result c.args.word) c.tell-found.result.word
     at c.requires.sits (omega (arith, c.requires.place))
     (ap (λ (n : ℕ). Wants n c.args.word) (sym c.address_of-at.ensures.value)) tt c.tell-found.ensures.found c.tell-found.ensures.told in
-    refuses_one g.W.Watch.told c.args.words.now.shared.key c.args.place.now.own c.args.mine.now.me c.tell-found.new.seat.me c.args.watch.now c.tell-found.new.watch 1 0 true c.requires.sits came.0 c.tell-found.ensures.keeps
+    refuses_one g.W.Watch.told c.args.words.now.shared.key c.args.place.now.own c.args.mine.now.me c.tell-found.new.seat.me c.args.watch.now c.tell-found.new.watch 1 0 false true 1 (omega arith) c.requires.sits came.0 (c.tell-found.ensures.refused c.if-found.false)
     (runs_lives c.args.words.now.shared.key c.args.shape.now c.args.place.now rest c.args.mine.now.me c.tell-found.new.seat.me c.tell-found.result.word came)

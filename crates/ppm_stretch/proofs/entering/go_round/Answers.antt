@@ -1,4 +1,4 @@
-use Rattle.std.proofs.Common.{ℕ, true, ◌≡◌, ◌∙◌, sym, ap, arith, refl}
+use Rattle.std.proofs.Common.{false, ℕ, true, ◌≡◌, ◌∙◌, sym, ap, arith, refl}
 use Rattle.ppm_cells.specs.Restart.{restart_word}
 use Rattle.ppm_cells.specs.declared.cell.Cell.TheVariants.{BlockWord}
 use Rattle.ppm_cells.specs.declared.restart.Restart.{Restart}
@@ -40,8 +40,8 @@ returns-then-not-store_next-clause-turned g c =
     let at = stands_there c.args.shape.now c.args.place.now _ rest c.requires.stands (c.if-not-next_is_there.ensures c.args.code.now c.args.capsule) in
     let wants = stores_same _ _ _ _ e c.from-number.ensures in
     let made = c.store_next.ensures.made rest at wants in
-    refuses_one g.W.Watch.told c.args.words.now.shared.key c.args.place.now.own c.args.mine.now.me c.store_next.new.mine.me c.args.watch.now c.store_next.new.watch 1 0 true c.requires.sits made.1
-    c.store_next.ensures.keeps (made.1.sits, λ done. went_lives c.args.shape.now c.args.place.now 0 rest (sym made.0 ∙ done))
+    refuses_one g.W.Watch.told c.args.words.now.shared.key c.args.place.now.own c.args.mine.now.me c.store_next.new.mine.me c.args.watch.now c.store_next.new.watch 1 0 false true 2 (omega arith) c.requires.sits made.1
+    (c.store_next.ensures.refused c.if-not-store_next.true) (made.1.sits, λ done. went_lives c.args.shape.now c.args.place.now 0 rest (sym made.0 ∙ done))
 
 pub returns-then-not-next_is_there-2-clause-turned : goal.returns-then-not-next_is_there-2-clause-turned
 returns-then-not-next_is_there-2-clause-turned g c =
@@ -109,6 +109,6 @@ returns-else-store_next-clause-turned g c =
     let wants_more = stores_same _ _ _ _ c.address-at.ensures.value (c.pack.ensures ∙ ap (λ (r : Restart). restart_word r) (sym is)) in
     let made_more = c.store_next-2.ensures.made more at_more wants_more in
     refuses_then g.W.Watch.told c.args.words.now.shared.key c.args.place.now.own c.args.mine.now.me c.store_next.new.mine.me c.store_next-2.new.mine.me
-    c.args.watch.now c.store_next.new.watch c.store_next-2.new.watch 1 1 0 true (made.2 c.if-not-store_next.false)
-    (refuses_one g.W.Watch.told c.args.words.now.shared.key c.args.place.now.own c.store_next.new.mine.me c.store_next-2.new.mine.me c.store_next.new.watch c.store_next-2.new.watch 1 0 true made.1.sits made_more.1
-    c.store_next-2.ensures.keeps (made_more.1.sits, λ done. went_lives c.args.shape.now c.args.place.now 0 more (sym made_more.0 ∙ done)))
+    c.args.watch.now c.store_next.new.watch c.store_next-2.new.watch 1 1 0 true 1 2 (omega arith) (made.2 c.if-not-store_next.false)
+    (refuses_one g.W.Watch.told c.args.words.now.shared.key c.args.place.now.own c.store_next.new.mine.me c.store_next-2.new.mine.me c.store_next.new.watch c.store_next-2.new.watch 1 0 false true 1 (omega arith) made.1.sits made_more.1
+    (c.store_next-2.ensures.refused c.if-store_next.false) (made_more.1.sits, λ done. went_lives c.args.shape.now c.args.place.now 0 more (sym made_more.0 ∙ done)))

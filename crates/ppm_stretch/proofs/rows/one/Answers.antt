@@ -1,4 +1,4 @@
-use Rattle.std.proofs.Common.{◌≡◌, ◌∙◌, ◌<◌, not, sym, refl, ap, subst, arith}
+use Rattle.std.proofs.Common.{◌≡◌, ◌∙◌, ◌<◌, Bool, if◌then◌else◌, not, sym, refl, ap, subst, arith}
 use Rattle.ppm_cells.specs.declared.shape.Shape.{Shape}
 use Rattle.ppm_code.specs.declared.code.CodeParts.{CodeParts}
 use Rattle.ppm_step.specs.Locals.{standing_of}
@@ -8,6 +8,7 @@ use Rattle.ppm_step.specs.Told.{place_of, is_work_next}
 use Rattle.ppm_table.specs.Run.{IsAsked, stands_by, deeds_in}
 use Rattle.ppm_table.proofs.AskedLemmas.{asked}
 use Rattle.ppm_table.proofs.StandLemmas.{stands_on}
+use Rattle.ppm_stretch.specs.Steady.{Goes}
 use Rattle.ppm_stretch.proofs.SteadyLemmas.{goes_one, refuses_one}
 use Rattle.ppm_stretch.proofs.WaitingLemmas.{lives_by}
 use Rattle.ppm_stretch.proofs.rows.one.Goals as goal
@@ -22,9 +23,11 @@ returns-clause-moves g c = λ fine b works.
     let asks : IsAsked c.want-want.result = subst IsAsked (sym c.want-want.ensures.value) (asked s code c.args.local.now 0 c.requires.local c.requires.lives) in
     let some : 0 < s.processors = omega (arith, c.requires.local.own) in
     record {
-      goes = goes_one k own b c.args.mine.now.me c.tell-found.new.seat.me c.want-want.result c.tell-found.result.word st c.requires.stands c.requires.sits c.requires.lives c.requires.due c.requires.seeks
+      goes = subst (λ (e : Bool). Goes k own c.args.mine.now.me c.tell-found.new.seat.me 1 (if b then 1 else 0) (if b then 0 else 1) e)
+          (sym (c.is_exchange-exchanged.ensures c.tell-found.result.word))
+          (goes_one k own b c.args.mine.now.me c.tell-found.new.seat.me c.want-want.result c.tell-found.result.word st c.requires.stands c.requires.sits c.requires.lives c.requires.due c.requires.seeks
           (subst (λ (t : Shape). 0 < t.processors) (sym c.requires.table.1) some) (ap (λ (t : Shape). wanted t own 0 st) c.requires.table.1 ∙ sym c.want-want.ensures.value) asks
-          (ap (λ (t : Shape). is_work_next t k.code (next_of st)) c.requires.table.1 ∙ ap (λ (x : CodeParts). is_work_next s x (next_of st)) c.requires.table.2 ∙ works) c.tell-found.ensures.told;
+          (ap (λ (t : Shape). is_work_next t k.code (next_of st)) c.requires.table.1 ∙ ap (λ (x : CodeParts). is_work_next s x (next_of st)) c.requires.table.2 ∙ works) c.tell-found.ensures.told);
       shows = c.tell-found.ensures.shows fine own c.requires.sits (ap place_of (sym c.requires.stands) ∙ sym (c.place-place.ensures s code));
     }
 
@@ -53,6 +56,6 @@ returns-clause-refuses g c = λ refused.
     c.observe.ensures.stands
     ∙ stands_on k s code c.requires.table.1 c.requires.table.2 own 0 c.args.mine.now.me c.tell-found.new.seat.me c.want-want.result c.tell-found.result.word _ c.requires.stands c.requires.sits
     (some, λ _. refl) (sym c.want-want.ensures.value) asks c.tell-found.ensures.found c.tell-found.ensures.told in
-    refuses_one g.W.Watch.told k own c.args.mine.now.me c.tell-found.new.seat.me c.args.watch.now c.tell-found.new.watch _ _ (not (is_done_at (standing_of s code c.observe.new.self)))
-    c.requires.sits goes c.tell-found.ensures.keeps
+    refuses_one g.W.Watch.told k own c.args.mine.now.me c.tell-found.new.seat.me c.args.watch.now c.tell-found.new.watch _ _ _ (not (is_done_at (standing_of s code c.observe.new.self))) 1 (omega arith)
+    c.requires.sits goes (c.tell-found.ensures.refused refused)
     (lives_by k own c.tell-found.new.seat.me (standing_of s code c.observe.new.self) (not (is_done_at (standing_of s code c.observe.new.self))) goes.sits stands refl)

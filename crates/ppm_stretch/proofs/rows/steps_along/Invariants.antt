@@ -2,12 +2,11 @@ use Rattle.std.proofs.Common.{◌≡◌, ◌≤◌, ◌-◌}
 use Rattle.ppm_step.specs.Locals.{IsLocal, standing_of}
 use Rattle.ppm_table.specs.Run.{stands_by, deeds_in, IsSeat}
 use Rattle.ppm_stretch.specs.Steady.{Moves}
-use Rattle.ppm_table.specs.Telling.{Keeps}
 use Rattle.ppm_stretch.proofs.rows.steps_along.Given as goal
 
 abbrev pub invariant-loop-made : goal.invariant-loop-made
-invariant-loop-made g l = (l.made ≤ l.fn.most) × (l.work ≤ l.made) × (l.looks ≤ l.made) × (l.mine.table_id ≡ l.fn.mine.table_id) × Keeps (g.W.Watch.told l.fn.watch) (g.W.Watch.told l.watch)
-    × Moves g.W.Watch.told l.words.shared.key l.fn.local.own l.fn.mine.me l.mine.me l.fn.watch l.watch l.made l.work l.looks
+invariant-loop-made g l = (l.made ≤ l.fn.most) × (l.work ≤ l.made) × (l.looks ≤ l.made) × (l.mine.table_id ≡ l.fn.mine.table_id)
+    × Moves g.W.Watch.told l.words.shared.key l.fn.local.own l.fn.mine.me l.mine.me l.fn.watch l.watch l.made l.work l.looks l.exchanged
     × IsSeat l.fn.local.own l.mine.me × (standing_of l.shape l.code l.local ≡ stands_by l.words.shared.key l.fn.local.own (deeds_in l.mine.me.0)) × IsLocal l.shape l.code l.local × (l.local.own ≡ l.fn.local.own)
 
 abbrev pub decreases-loop-made : goal.decreases-loop-made
