@@ -50,6 +50,28 @@ module _ (s : Shape) where
   pub place_end : (place : ℕ) → place < s.processors → place * place_size s + place_size s ≤ s.processors * place_size s
   place_end place h = let m : suc place * place_size s ≤ s.processors * place_size s = mul-le-mul_right (place_size s) (omega arith) in omega (arith, m)
 
+  -- all places together have no more words than 64 places with the most slots, and all their pools
+  places_low : s.processors * place_size s ≤ 71303488
+  places_low =
+      let slots : s.processors * (5 + s.slots) ≤ 64 * (5 + s.slots) = mul-le-mul_right (5 + s.slots) s.within.processors_most in
+      omega (arith, slots, s.within.slots_most, s.within.pools_most)
+
+  -- so a place begins
+  pub place_low : (place : ℕ) → place ≤ s.processors → place * place_size s ≤ 71303488
+  place_low place h =
+      let m : place * place_size s ≤ s.processors * place_size s = mul-le-mul_right (place_size s) h in
+      omega (arith, m, places_low)
+
+  -- the pool of one place is no larger than all of them
+  pub room_low : s.room ≤ 67108864
+  room_low =
+      let m : 1 * s.room ≤ s.processors * s.room = mul-le-mul_right s.room s.within.processors_least in
+      omega (arith, m, s.within.pools_most)
+
+  -- no shape has more words than that
+  pub few_words : word_count s ≤ 75497921
+  few_words = omega (arith, places_low, s.within.processors_most, s.within.arrays_most)
+
   -- past the finish, carry and dead words
   far_on : (far : ℕ) → cell_at s (1 + 2 * s.processors + far) ≡ behind s far (1 + 2 * s.processors + far)
   unfolding cell_at

@@ -1,6 +1,6 @@
 -- How large a machine may be.
-use Rattle.std.specs.Prelude.{ℕ, ◌≤◌}
-use Rattle.ppm_words.specs.Limits.{word_limit, processor_limit, room_limit, entry_limit}
+use Rattle.std.specs.Prelude.{ℕ, ◌≤◌, ◌*◌}
+use Rattle.ppm_words.specs.Limits.{word_limit, processor_limit, entry_limit}
 
 -- the processors of a machine, and so its places
 abbrev pub most_processors : ℕ
@@ -10,8 +10,9 @@ most_processors = processor_limit
 abbrev pub least_room : ℕ
 least_room = 64
 
-abbrev pub most_room : ℕ
-most_room = room_limit
+-- the words of all pools together
+abbrev pub most_pool_words : ℕ
+most_pool_words = 67108864
 
 -- the entries of a place's deque
 abbrev pub least_slots : ℕ
@@ -25,7 +26,7 @@ pub record IsWithinLimits (processors room slots arrays : ℕ) : Type 0 where
   pub processors_least : 1 ≤ processors
   pub processors_most : processors ≤ most_processors
   pub room_least : least_room ≤ room
-  pub room_most : room ≤ most_room
+  pub pools_most : processors * room ≤ most_pool_words
   pub slots_least : least_slots ≤ slots
   pub slots_most : slots ≤ most_slots
   pub arrays_most : arrays ≤ word_limit

@@ -32,5 +32,5 @@ pub use laws::{
 pub use link::{Link, LinkKind};
 pub use region::Region;
 pub use restart::{Restart, RestartKind};
-pub use shape::{LEAST_ROOM, LEAST_SLOTS, Shape, Takeover};
+pub use shape::{LEAST_ROOM, LEAST_SLOTS, POOL_WORD_LIMIT, Shape, Takeover, pools_fit};
 pub use side::Side;

@@ -1,11 +1,15 @@
 //! How many words a machine has, and where they lie.
-ghost use Rattle.ppm_cells.specs.Limits.{IsWithinLimits};
+ghost use Rattle.std.specs.Prelude.{◌≡◌, ◌*◌, nat_le};
+ghost use Rattle.ppm_cells.specs.Limits.{IsWithinLimits, most_pool_words};
 
 use crate::cell::Cell;
-use ppm_words::{ENTRY_LIMIT, PROCESSOR_LIMIT, ROOM_LIMIT, WORD_LIMIT};
+use ppm_words::{ENTRY_LIMIT, PROCESSOR_LIMIT, WORD_LIMIT};
 
 /// The least words of a place's pool.
 pub const LEAST_ROOM: u32 = 64;
+
+/// The words of all pools together, at most.
+pub const POOL_WORD_LIMIT: u32 = 67_108_864;
 
 /// The least entries of a place's deque.
 pub const LEAST_SLOTS: u32 = 2;
@@ -19,12 +23,19 @@ pub enum Takeover {
     ByEntries,
 }
 
+/// Whether so many processors may have pools of so many words.
+pub fn pools_fit(processors: u32, room: u32) -> bool
+    ensures { result ≡ nat_le (processors * room) most_pool_words }
+{
+    u64::from(processors) * u64::from(room) <= u64::from(POOL_WORD_LIMIT)
+}
+
 /// The sizes of a machine.
 #[derive(Clone, Copy, Debug, PartialEq, Eq)]
 pub struct Shape {
     /// How many processors there are, and as many places: 1 to 64.
     pub processors: u32,
-    /// The words of a place's pool: 64 to 1,048,576.
+    /// The words of a place's pool: 64 or more, with 67,108,864 at most in all pools together.
     pub room: u32,
     /// The entries of a place's deque: 2 to 65,536.
     pub slots: u32,
@@ -50,7 +61,7 @@ impl Shape {
         if processors < 1 || processors > PROCESSOR_LIMIT {
             return None;
         }
-        if room < LEAST_ROOM || room > ROOM_LIMIT {
+        if room < LEAST_ROOM || !pools_fit(processors, room) {
             return None;
         }
         if slots < LEAST_SLOTS || slots > ENTRY_LIMIT {

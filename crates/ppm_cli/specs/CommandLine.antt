@@ -2,7 +2,8 @@
 use Prim.Native.String.{String}
 use Rattle.std.specs.Prelude.{ℕ, Bool, true, false, List, [], ◌∷◌, codes, decimal, filter, not, nat_eq}
 use Rattle.clap.specs.Words.{Text}
-use Rattle.ppm_words.specs.Limits.{processor_limit, room_limit, entry_limit, turn_limit}
+use Rattle.ppm_words.specs.Limits.{processor_limit, entry_limit, turn_limit}
+use Rattle.ppm_cells.specs.Limits.{most_pool_words}
 
 -- what the value of an option is: a whole number from the least to the most, one of these words, or any text that does not begin with a hyphen
 pub data Form : Type 0 where
@@ -70,9 +71,9 @@ few_processors = number "processors" 1 16 4
 abbrev pub turns : OptionRule
 turns = number "turns" 1 turn_limit 16777216
 
--- the words of a place's pool of blocks
+-- the words of a place's pool of blocks; all pools together have no more than the most of one
 abbrev pub room : OptionRule
-room = number "room" 64 room_limit 65536
+room = number "room" 64 most_pool_words 65536
 
 -- the entries of a place's deque
 abbrev pub slots : OptionRule

@@ -1,11 +1,12 @@
 -- The command that the words of the command line give, as clap reads them.
-use Rattle.std.specs.Prelude.{◌≤◌, ℕ, List, [], ◌∷◌, Option, Some, None, codes, if◌then◌else◌, nat_le, ◌&&◌, option_and_then, option_map, ⊤}
+use Rattle.std.specs.Prelude.{◌≤◌, ◌*◌, ℕ, List, [], ◌∷◌, Option, Some, None, codes, if◌then◌else◌, nat_le, ◌&&◌, option_and_then, option_map, ⊤}
 use Rattle.std.specs.Str.{bytes_eq}
 use Rattle.std.specs.Str.Parse.{digits_value, without_leading_plus}
 use Rattle.clap.specs.Words.{Kinds, Row, Text, fault_of, first_of, one_of, subcommand_of}
 use Rattle.clap.specs.ValueTests.{is_unsigned_in}
 use Rattle.ppm_words.specs.declared.idle.Idle.{Idle}
 use Rattle.ppm_words.specs.declared.idle.Idle.TheVariants.{Leave, Park}
+use Rattle.ppm_cells.specs.Limits.{most_pool_words}
 use Rattle.ppm_cells.specs.declared.shape.Takeover.{Takeover}
 use Rattle.ppm_cells.specs.declared.shape.Takeover.TheVariants.{ByPlaces, ByEntries}
 use Rattle.ppm_cli.specs.Application.{ppm_application}
@@ -69,12 +70,20 @@ idle_given rows = choice_given idle (Leave ∷ Park ∷ []) rows
 abbrev pub and_then : {A B : Type 0} → Option A → (A → Option B) → Option B
 and_then value f = option_and_then f value
 
+-- the words, if so many processors may have pools of so many
+abbrev pub fitting_room : ℕ → ℕ → Option ℕ
+fitting_room processors words = if nat_le (processors * words) most_pool_words then Some words else None
+
+-- the words of the pool of each of so many places
+abbrev pub room_given : ℕ → List Row → Option ℕ
+room_given processors rows = and_then (number_given room rows) (fitting_room processors)
+
 -- the options of `run` but for its plan, if each has a value of its form
 abbrev pub run_options : List Row → Option RunOptions
 run_options rows =
     and_then (number_given processors rows) (λ p.
     and_then (number_given turns rows) (λ n.
-    and_then (number_given room rows) (λ w.
+    and_then (room_given p rows) (λ w.
     and_then (number_given slots rows) (λ e.
     and_then (number_given looks rows) (λ l.
     and_then (number_given seed rows) (λ s.
@@ -95,7 +104,7 @@ abbrev pub replay_options : List Row → Option ReplayOptions
 replay_options rows =
     and_then (number_given processors rows) (λ p.
     and_then (number_given turns rows) (λ n.
-    and_then (number_given room rows) (λ w.
+    and_then (room_given p rows) (λ w.
     and_then (number_given slots rows) (λ e.
     and_then (takeover_given rows) (λ t.
     Some (record { processors = p; turns = n; room = w; slots = e; takeover = t }))))))
@@ -132,17 +141,22 @@ abbrev pub IsOfForm : Form → ℕ → Type 0
 IsOfForm (Number low high) n = (low ≤ n) × (n ≤ high)
 IsOfForm _ n = ⊥
 
--- each option of a run is in its range
+-- so many processors may have pools of so many words
+abbrev pub DoPoolsFit : ℕ → ℕ → Type 0
+DoPoolsFit processors words = processors * words ≤ most_pool_words
+
+-- each option of a run is in its range, and the pools fit
 abbrev pub AreRun : RunOptions → Type 0
 AreRun options =
     IsOfForm processors.form options.processors × IsOfForm turns.form options.turns × IsOfForm room.form options.room
     × IsOfForm slots.form options.slots × IsOfForm looks.form options.looks × IsOfForm seed.form options.seed
+    × DoPoolsFit options.processors options.room
 
--- each option of a replay is in its range
+-- each option of a replay is in its range, and the pools fit
 abbrev pub AreReplayed : ReplayOptions → Type 0
 AreReplayed options =
     IsOfForm processors.form options.processors × IsOfForm turns.form options.turns × IsOfForm room.form options.room
-    × IsOfForm slots.form options.slots
+    × IsOfForm slots.form options.slots × DoPoolsFit options.processors options.room
 
 -- each option of the command is in its range
 abbrev pub IsInRange : Command → Type 0

@@ -13,6 +13,7 @@ mod getters;
 mod laws;
 mod line;
 mod replay;
+mod room;
 mod run;
 mod serial;
 mod table;

@@ -6,7 +6,8 @@ ghost use Rattle.ppm_cli.specs.Words.{replay_options as options_in};
 
 use crate::command::Command;
 use crate::getters::{bytes_of, number_of};
-use crate::table::{PROCESSORS, ROOM, SCHEDULE, SLOTS, TURNS};
+use crate::room::room_of;
+use crate::table::{PROCESSORS, SCHEDULE, SLOTS, TURNS};
 use crate::takeover::takeover_of;
 use clap::ArgMatches;
 use ppm_cells::Takeover;
@@ -20,7 +21,8 @@ pub struct ReplayOptions {
     /// How many acts there are at most, those of the schedule among them: from 1 to 268435456, and
     /// 16777216 by default.
     pub turns: u64,
-    /// How many words the pool of a place has: from 64 to 1048576, and 65536 by default.
+    /// How many words the pool of a place has: from 64 to 67108864, and 65536 by default. All pools
+    /// together have 67108864 at most.
     pub room: u32,
     /// How many entries the deque of a place has: from 2 to 65536, and 4096 by default.
     pub slots: u32,
@@ -52,7 +54,7 @@ fn replay_options(matches: &ArgMatches<'_>) -> Option<ReplayOptions>
 {
     let processors = number_of(matches, PROCESSORS)?;
     let turns = number_of(matches, TURNS)?;
-    let room = number_of(matches, ROOM)?;
+    let room = room_of(matches, processors)?;
     let slots = number_of(matches, SLOTS)?;
     let takeover = takeover_of(matches)?;
     Some(ReplayOptions {

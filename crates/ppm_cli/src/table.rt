@@ -1,5 +1,6 @@
 //! The commands and options that the words may give, as rows.
-use ppm_words::{ENTRY_LIMIT, PROCESSOR_LIMIT, ROOM_LIMIT, TURN_LIMIT};
+use ppm_cells::POOL_WORD_LIMIT;
+use ppm_words::{ENTRY_LIMIT, PROCESSOR_LIMIT, TURN_LIMIT};
 
 /// The most looks for work in a row.
 const MOST_LOOKS: u32 = 1_048_576;
@@ -73,11 +74,11 @@ pub(crate) const TURNS: NumberOption = NumberOption {
     default: "16777216",
 };
 
-/// How many words the pool of a place has.
+/// How many words the pool of a place has; all pools together have no more than the most of one.
 pub(crate) const ROOM: NumberOption = NumberOption {
     name: "room",
     low: 64,
-    high: ROOM_LIMIT,
+    high: POOL_WORD_LIMIT,
     default: "65536",
 };
 

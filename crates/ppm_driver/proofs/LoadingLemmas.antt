@@ -1,11 +1,11 @@
 -- The machine with which a run of a program begins: what is known of it, that there is one, and no other.
-use Rattle.std.proofs.Common.{◌≡◌, ℕ, zero, suc, ◌<◌, ◌≤◌, List, length, map, slice_get, replicate, arith, refl, sym, ap, ◌∙◌, subst}
+use Rattle.std.proofs.Common.{◌≡◌, ℕ, zero, suc, ◌*◌, ◌<◌, ◌≤◌, List, length, map, slice_get, replicate, arith, refl, sym, ap, ◌∙◌, subst}
 use Rattle.std.specs.Coded.{le_prop}
 use mathlib.Core.HLevel.{is_prop→PathP}
 use Rattle.ppm_words.specs.Limits.{word_limit}
 use Rattle.ppm_words.specs.Inputs.{IsInput, value_count}
 use Rattle.ppm_words.specs.declared.named_array.NamedArray.{NamedArray}
-use Rattle.ppm_cells.specs.Limits.{IsWithinLimits}
+use Rattle.ppm_cells.specs.Limits.{IsWithinLimits, most_pool_words}
 use Rattle.ppm_cells.specs.declared.shape.Shape.{Shape}
 use Rattle.ppm_code.specs.declared.code.CodeParts.{CodeParts}
 use Rattle.ppm_depth.specs.Start.{NamesArrays}
@@ -43,7 +43,7 @@ module _ (sizes : Sizes) where
     processors_least = are.processors_least;
     processors_most = are.processors_most;
     room_least = are.room_least;
-    room_most = are.room_most;
+    pools_most = are.pools_most;
     slots_least = are.slots_least;
     slots_most = are.slots_most;
     arrays_most = few;
@@ -67,7 +67,7 @@ module _ (sizes : Sizes) where
           processors_least = is_prop→PathP (λ j. 1 ≤ p j) (λ j. le_prop) s.within.processors_least u.within.processors_least i;
           processors_most = is_prop→PathP (λ j. p j ≤ 64) (λ j. le_prop) s.within.processors_most u.within.processors_most i;
           room_least = is_prop→PathP (λ j. 64 ≤ r j) (λ j. le_prop) s.within.room_least u.within.room_least i;
-          room_most = is_prop→PathP (λ j. r j ≤ 1048576) (λ j. le_prop) s.within.room_most u.within.room_most i;
+          pools_most = is_prop→PathP (λ j. p j * r j ≤ most_pool_words) (λ j. le_prop) s.within.pools_most u.within.pools_most i;
           slots_least = is_prop→PathP (λ j. 2 ≤ l j) (λ j. le_prop) s.within.slots_least u.within.slots_least i;
           slots_most = is_prop→PathP (λ j. l j ≤ 65536) (λ j. le_prop) s.within.slots_most u.within.slots_most i;
           arrays_most = is_prop→PathP (λ j. a j ≤ word_limit) (λ j. le_prop) s.within.arrays_most u.within.arrays_most i;

@@ -28,7 +28,7 @@ use std::alloc::Global;
 pub struct Sizes {
     /// How many processors there are, and as many places: 1 to 64.
     pub processors: u32,
-    /// The words of a place's pool: 64 to 1,048,576.
+    /// The words of a place's pool: 64 or more, with 67,108,864 at most in all pools together.
     pub room: u32,
     /// The entries of a place's deque: 2 to 65,536.
     pub slots: u32,

@@ -46,7 +46,7 @@ pub(crate) fn meaning_of(command: &str, option: &str) -> &'static str {
     match option {
         "processors" => "how many processors there are",
         "turns" => turns_of(command),
-        "room" => "words of a place's pool; blocks are not reused",
+        "room" => "words of a place's pool, not reused; 67108864 in all",
         "slots" => "entries of a place's deque",
         "looks" => "looks for work in a row until a processor rests",
         "seed" => "where the random victims begin",

@@ -1,10 +1,8 @@
 -- Whose pool an address is in.
 use Rattle.std.proofs.Common.{◌≡◌, ◌≤◌, ◌<◌, ℕ, ◌+◌, ◌-◌, ◌*◌, ◌/◌, ◌^◌, ap, ◌∙◌, arith}
 use Rattle.std.proofs.lemmas.Nat.{div-mul-add}
-use Rattle.std.proofs.Math.Nat.{mul-le-mul_right}
-use Rattle.ppm_cells.specs.Cells.{place_size, place_at, word_count}
-use Rattle.ppm_cells.specs.declared.shape.Shape.{Shape}
-use Rattle.ppm_cells.proofs.CellLemmas.{place_end}
+use Rattle.ppm_cells.specs.Cells.{place_size, place_at}
+use Rattle.ppm_cells.proofs.CellLemmas.{place_end, few_words}
 use Rattle.ppm_kept.specs.Kept.{Image, start, end_of, owner}
 
 pub owned : (i : Image) (p x : ℕ) → start i p ≤ x → x < end_of i p → owner i x ≡ p
@@ -13,11 +11,6 @@ owned i p x low high =
     let size : off < place_size i.shape = omega (arith, low, high) in
     let is : x - place_at i.shape 0 ≡ p * place_size i.shape + off = omega (arith, low) in
     ap (λ (z : ℕ). z / place_size i.shape) is ∙ div-mul-add p (place_size i.shape) off size
-
-pub few_words : (s : Shape) → word_count s ≤ 75497921
-few_words s =
-    let m : s.processors * place_size s ≤ 64 * place_size s = mul-le-mul_right (place_size s) s.within.processors_most in
-    omega (arith, m, s.within.processors_most, s.within.room_most, s.within.slots_most, s.within.arrays_most)
 
 -- pools lie below 2^28
 pub pool_low : (i : Image) (p : ℕ) → p < i.shape.processors → end_of i p ≤ 2 ^ 28

@@ -41,7 +41,7 @@ use Rattle.ppm_kept.specs.Moves.{doing_of, goes, stores, exchanges, installs, fi
 use Rattle.ppm_kept.specs.Laws.{Ends, kind_then}
 use Rattle.ppm_kept.specs.Places.{kind_or, kinds_of, is_in, doing_in, places_of, IsOf, Holds, IsUnseen, acted, IsNowhere, RowShows, RestShows, BareShows, FaultsShow, TurnsShow}
 use Rattle.ppm_kept.proofs.PutLemmas.{put_here, put_else}
-use Rattle.ppm_kept.proofs.OwnerLemmas.{few_words}
+use Rattle.ppm_cells.proofs.CellLemmas.{few_words}
 use Rattle.ppm_kept.proofs.TurnLemmas.{steps_are_seen}
 use Rattle.ppm_kept.proofs.ExchangeLemmas.{exchanges_are_seen}
 

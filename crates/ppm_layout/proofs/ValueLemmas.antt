@@ -1,17 +1,17 @@
 -- The words of an image stand for their values.
-use Rattle.std.proofs.Common.{◌≡◌, ℕ, ◌+◌, ◌*◌, ◌^◌, ◌<◌, ◌≤◌, List, Some, cond, eqb, refl, ap, ◌∙◌, arith, lit<, lit≤, suc}
-use Rattle.std.proofs.Math.Nat.{mul-le-mul_right}
+use Rattle.std.proofs.Common.{◌≡◌, ℕ, ◌+◌, ◌*◌, ◌^◌, ◌<◌, ◌≤◌, List, Some, cond, eqb, refl, ap, ◌∙◌, arith, lit<, lit≤}
 use Rattle.std.proofs.lemmas.Bool.{cond_both, eq-eqb, ne_eqb}
 use Rattle.ppm_words.specs.declared.named_array.NamedArray.{NamedArray}
 use Rattle.ppm_cells.specs.declared.shape.Shape.{Shape}
 use Rattle.ppm_cells.specs.declared.cell.Cell.TheVariants.{FinishWord, RestartWord, HolderWord, EntryWord}
 use Rattle.ppm_cells.specs.declared.finish.Finish.TheVariants.{Unset}
 use Rattle.ppm_cells.specs.declared.restart.RestartKind.TheVariants.{Run, Seek}
-use Rattle.ppm_cells.specs.Cells.{place_size, pool_at}
+use Rattle.ppm_cells.specs.Cells.{pool_at}
 use Rattle.ppm_cells.specs.Entry.{entry_word, IsEntry, entry_of}
 use Rattle.ppm_cells.specs.Finish.{finish_word, IsFinish, finish_of}
 use Rattle.ppm_cells.specs.Holder.{holder_word, IsHolder, holder_of}
 use Rattle.ppm_cells.specs.Restart.{restart_word, IsRestart, restart_of}
+use Rattle.ppm_cells.proofs.CellLemmas.{place_end, place_low}
 use Rattle.ppm_cells.proofs.ExactLemmas.{unpack-pack}
 use Rattle.ppm_cells.proofs.EntryLemmas.{entries_exact}
 use Rattle.ppm_cells.proofs.FinishLemmas.{finishes_exact}
@@ -25,9 +25,7 @@ use Rattle.ppm_layout.specs.Correct.{Opens, StandsFor}
 -- a pool, and what is in front of it, ends below 2^28
 pub pool_small : (s : Shape) (place : ℕ) → place < s.processors → pool_at s place + s.room < 71303618
 pool_small s place h =
-    let end : suc place * place_size s ≤ s.processors * place_size s = mul-le-mul_right (place_size s) (omega (arith, h)) in
-    let most : s.processors * place_size s ≤ 64 * place_size s = mul-le-mul_right (place_size s) s.within.processors_most in
-    omega (arith, end, most, s.within.processors_most, s.within.room_most, s.within.slots_most)
+    omega (arith, place_end s place h, place_low s s.processors (omega arith), s.within.processors_most)
 
 -- a restart at bottom 1
 run_fits : (frame : ℕ) → frame < 71303618 → IsRestart (record { kind = Run frame 0; bottom = 1 })

@@ -52,7 +52,8 @@ use Rattle.ppm_tickets.specs.View as spots
 use Rattle.ppm_tickets.specs.View.{content_by}
 use Rattle.ppm_tickets.specs.Words.{has, Word, Empty, Local, Job, Taken, Held as HeldBy, Number, Linked, Restarts, Unread, Spot, Slot, put}
 use Rattle.ppm_tickets.proofs.EntryLemmas.{MayChange}
-use Rattle.ppm_tickets.proofs.QuietLemmas.{few_words, begun_quiet, rest_quiet}
+use Rattle.ppm_cells.proofs.CellLemmas.{few_words}
+use Rattle.ppm_tickets.proofs.QuietLemmas.{begun_quiet, rest_quiet}
 use Rattle.ppm_tickets.proofs.ViewLemmas.{shows, again, shown_cell}
 use Rattle.ppm_tickets.proofs.WalkLemmas.{Walk, FairRow, found_fair, begun_fair}
 use Rattle.ppm_tickets.proofs.WriteLemmas.{put_here, put_else}

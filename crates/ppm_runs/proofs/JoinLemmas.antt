@@ -46,7 +46,7 @@ use Rattle.ppm_tickets.specs.Saw.{HasSeen, Sees}
 use Rattle.ppm_tickets.specs.View as spots
 use Rattle.ppm_tickets.specs.Words.{Word, put}
 use Rattle.ppm_tickets.proofs.EntryLemmas.{cell_there}
-use Rattle.ppm_tickets.proofs.QuietLemmas.{few_words}
+use Rattle.ppm_cells.proofs.CellLemmas.{few_words}
 use Rattle.ppm_tickets.proofs.ViewLemmas.{restarts_kept, kinds_put, bottoms_put}
 use Rattle.ppm_tickets.proofs.WriteLemmas.{put_here, put_else}
 use Rattle.ppm_frames.specs.Skeletons.{Fresh, Held, Skeleton}

@@ -135,7 +135,7 @@ fn words_give_a_run(rt: HostRuntime) -> Result<(), Fail> {
         takeover: Takeover::ByPlaces,
         idle: Idle::Leave,
     };
-    let cases: [(&[&str], RunOptions, &str); 17] = [
+    let cases: [(&[&str], RunOptions, &str); 18] = [
         (
             &["--processors", "2"],
             RunOptions {
@@ -147,6 +147,15 @@ fn words_give_a_run(rt: HostRuntime) -> Result<(), Fail> {
         (&["--processors=+004"], RUN, "none"),
         (&["--turns", "5"], RunOptions { turns: 5, ..RUN }, "none"),
         (&["--room", "64"], RunOptions { room: 64, ..RUN }, "none"),
+        (
+            &["--room", "67108864", "--processors", "1"],
+            RunOptions {
+                processors: 1,
+                room: 67_108_864,
+                ..RUN
+            },
+            "none",
+        ),
         (&["--slots", "64"], RunOptions { slots: 64, ..RUN }, "none"),
         (&["--looks", "64"], RunOptions { looks: 64, ..RUN }, "none"),
         (&["--seed", "64"], RunOptions { seed: 64, ..RUN }, "none"),
@@ -316,7 +325,7 @@ fn values_out_of_form_are_refused(rt: HostRuntime) -> Result<(), Fail> {
     let cases: [OptionCase; 15] = [
         ("run", "--processors", "1", &["0", "65", "one", "+", ""]),
         ("run", "--turns", "1", &["0", "268435457"]),
-        ("run", "--room", "64", &["63", "1048577"]),
+        ("run", "--room", "16777216", &["63", "16777217"]),
         ("run", "--slots", "2", &["1", "65537"]),
         ("run", "--looks", "1", &["0", "1048577"]),
         ("run", "--seed", "0", &["-1", "4294967296", "0x1", "1 "]),
@@ -325,7 +334,7 @@ fn values_out_of_form_are_refused(rt: HostRuntime) -> Result<(), Fail> {
         ("run", "--idle", "park", &["x", "place", "leav", "-"]),
         ("replay", "--processors", "1", &["0", "65", "two"]),
         ("replay", "--turns", "1", &["0", "268435457"]),
-        ("replay", "--room", "64", &["63", "1048577"]),
+        ("replay", "--room", "16777216", &["63", "16777217"]),
         ("replay", "--slots", "2", &["1", "65537"]),
         ("replay", "--takeover", "place", &["leave", "entries", ""]),
         ("replay", "--schedule", "0", &["-1", "--room"]),
@@ -344,7 +353,10 @@ fn values_out_of_form_are_refused(rt: HostRuntime) -> Result<(), Fail> {
 
 #[test]
 fn words_that_are_no_options_are_refused(rt: HostRuntime) -> Result<(), Fail> {
-    let cases: [(&str, &[&str]); 11] = [
+    let cases: [(&str, &[&str]); 14] = [
+        ("run", &["--processors", "2", "--room", "67108864"]),
+        ("run", &["--processors", "1", "--room", "67108865"]),
+        ("replay", &["--processors", "64", "--room", "1048577"]),
         ("run", &["--faults=-1"]),
         ("run", &["--faults=-"]),
         ("run", &["--seed=-1"]),

@@ -4,7 +4,7 @@ ghost use Rattle.std.specs.Prelude.{IsTrue};
 ghost use Rattle.ppm_cli.specs.Words.{AreReplayed};
 
 use ppm_answers::Status;
-use ppm_cells::Takeover;
+use ppm_cells::{Takeover, pools_fit};
 use ppm_cli::ReplayOptions;
 use ppm_driver::replay_command;
 use ppm_ports::{MemorySink, MemorySource};
@@ -54,7 +54,10 @@ fn are_replayed(options: ReplayOptions) -> bool
     if options.turns < 1 || options.turns > 268_435_456 {
         return false;
     }
-    if options.room < 64 || options.room > 1_048_576 {
+    if options.room < 64 || options.room > 67_108_864 {
+        return false;
+    }
+    if !pools_fit(options.processors, options.room) {
         return false;
     }
     options.slots >= 2 && options.slots <= 65_536

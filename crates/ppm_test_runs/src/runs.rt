@@ -1,6 +1,6 @@
 //! Sources that are run by one processor, over memory: what is written, and with which status.
 use ppm_answers::Status;
-use ppm_cells::Takeover;
+use ppm_cells::{Takeover, pools_fit};
 use ppm_cli::RunOptions;
 use ppm_driver::{WATCHERS, answers_are_one, run_command};
 use ppm_ports::{MemorySink, MemorySource, Silent};
@@ -53,8 +53,11 @@ fn run(
     if options.turns < 1 || options.turns > 268_435_456 {
         return Err(Fail::from("turns out of range"));
     }
-    if options.room < 64 || options.room > 1_048_576 {
+    if options.room < 64 || options.room > 67_108_864 {
         return Err(Fail::from("room out of range"));
+    }
+    if !pools_fit(options.processors, options.room) {
+        return Err(Fail::from("pools out of range"));
     }
     if options.slots < 2 || options.slots > 65_536 {
         return Err(Fail::from("slots out of range"));

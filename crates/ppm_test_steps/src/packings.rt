@@ -151,6 +151,12 @@ fn words_have_their_addresses(rt: HostRuntime) -> Result<(), Fail> {
     assert_eq!(rt; greatest.word_count(), 75497921);
     assert_eq!(rt; greatest.takeover, Takeover::ByPlaces);
     assert_eq!(rt; Shape::new(65, 64, 2, 0), None, "64 processors at most");
+    let one = Shape::new(1, 67108864, 2, 0).ok_or("one pool of all the words")?;
+    assert_eq!(rt; one.arrays_at(), 67108874);
+    for (processors, room) in [(1, 67108865), (2, 67108864), (64, 1048577)] {
+        let shape = Shape::new(processors, room, 2, 0);
+        assert_eq!(rt; shape, None, "{processors} pools of {room}");
+    }
     Ok(())
 }
 

@@ -47,7 +47,8 @@ use Rattle.ppm_tickets.proofs.WalkLemmas.{Walk, FairRow, found_fair, begun_fair}
 use Rattle.ppm_deque.specs.Change.{Changes}
 use Rattle.ppm_cells.specs.declared.shape.Takeover.{Takeover}
 use Rattle.ppm_tickets.proofs.StepLemmas.{stand_other, stand_own}
-use Rattle.ppm_tickets.proofs.QuietLemmas.{few_words, rest_modest}
+use Rattle.ppm_cells.proofs.CellLemmas.{few_words}
+use Rattle.ppm_tickets.proofs.QuietLemmas.{rest_modest}
 use Rattle.ppm_tickets.proofs.Theorem.{lost_or}
 
 abbrev pub IsNoEntry : Cell → Type 0

@@ -42,7 +42,8 @@ use Rattle.ppm_tickets.proofs.WalkLemmas.{Walk, FairRow, found_fair, begun_fair}
 use Rattle.ppm_cells.specs.declared.shape.Takeover.TheVariants.{ByPlaces, ByEntries}
 use Rattle.ppm_tickets.proofs.EntryLemmas.{cell_there}
 use Rattle.ppm_tickets.proofs.StepLemmas.{stand_other, stand_own}
-use Rattle.ppm_tickets.proofs.QuietLemmas.{few_words, rest_modest}
+use Rattle.ppm_cells.proofs.CellLemmas.{few_words}
+use Rattle.ppm_tickets.proofs.QuietLemmas.{rest_modest}
 use Rattle.ppm_tickets.proofs.Theorem.{lost_or}
 
 -- the cells that no other processor changes, and those that none does

@@ -47,7 +47,8 @@ use Rattle.ppm_tickets.specs.Words.{Word, Held, Number, Spot, Message, Bid, Top,
 use Rattle.ppm_tickets.proofs.WriteLemmas.{put_here, put_else, write_here, write_else, same_spot_or, may_same}
 use Rattle.ppm_tickets.proofs.SeenLemmas.{fit_more, seen_stays, load_rest, load_seen, exchange_rest, exchange_made, exchange_missed}
 use Rattle.ppm_tickets.proofs.ViewLemmas.{if_false, IsPlain, back_plain, again, packed_as, shown_cell, shows, shows_content, shows_fit, view_kept, view_written, IsLone, lone_slot, restarts_kept, kinds_put, bottoms_put}
-use Rattle.ppm_tickets.proofs.QuietLemmas.{few_words, spot_quiet, found_quiet, begun_quiet, rest_modest}
+use Rattle.ppm_cells.proofs.CellLemmas.{few_words}
+use Rattle.ppm_tickets.proofs.QuietLemmas.{spot_quiet, found_quiet, begun_quiet, rest_modest}
 use Rattle.ppm_tickets.proofs.OrderLemmas.{order_install, order_entry}
 use Rattle.ppm_tickets.proofs.HoldingLemmas.{holding_install, holding_other}
 use Rattle.ppm_tickets.proofs.CountLemmas.{counts_fork, counts_take}

@@ -28,7 +28,7 @@ pub const CAPSULE_LIMIT: u32 = 65_535;
 /// The processors of a machine, and so its places and its watchers, at most.
 pub const PROCESSOR_LIMIT: u32 = 64;
 
-/// The words of a place's pool, and those that one capsule may ask for, at most.
+/// The words that one capsule may ask for, at most.
 pub const ROOM_LIMIT: u32 = 1_048_576;
 
 /// The entries of a deque, at most.
