@@ -110,7 +110,7 @@ pub row_quits : {W : Type 0} (told : W → Option (List Event)) (plan : Planned)
 row_quits told plan limits k own me me' w w' most n pace victims o g within clear =
     let r = g.refuses in
     let first = r.moves.goes in
-    let all = goes_both k own me r.before g.behind r.made 1 r.work r.last_work r.looks r.last_looks first r.last in
+    let all = goes_both k own me r.before g.behind r.made 1 r.work r.last_work r.looks r.last_looks r.exchanged r.last_exchanged first r.last in
     let st = stands_by k own (deeds_in me.0) in
     let old = told_of_deeds plan limits k own (deeds_in me.0) in
     let mid = told_of_deeds plan limits k own (deeds_in r.before.0) in

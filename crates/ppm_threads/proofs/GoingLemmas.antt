@@ -1,5 +1,5 @@
 -- A processor on its way, some acts further.
-use Rattle.std.proofs.Common.{◌≡◌, ◌≢◌, ◌∙◌, ◌≤◌, ◌+◌, inl, inr, ℕ, Option, Some, List, [], ◌∷◌, ◌++◌, length, drop, arith, refl, sym, ap, subst, append_assoc, append-nil}
+use Rattle.std.proofs.Common.{◌≡◌, ◌≢◌, ◌∙◌, ◌≤◌, ◌+◌, inl, inr, ℕ, Bool, Option, Some, List, [], ◌∷◌, ◌++◌, length, drop, arith, refl, sym, ap, subst, append_assoc, append-nil}
 use Rattle.std.proofs.lemmas.List.{length-append}
 use Rattle.ppm_words.specs.declared.event.Event.{Event}
 use Rattle.ppm_plan.specs.Draws.{Drawing, victims_of, next_victims}
@@ -92,9 +92,9 @@ module _ (plan : Planned) (limits : Limits) (k : Opening) (own : ℕ) where
       ∙ sym (append_assoc (told_of_deeds plan limits k own deeds) up (quit ∷ []))
 
   -- behind steps in a row
-  pub follows_along : (me me' : Mine) (pace : Pace) (victims : Drawing) (made work looks n : ℕ)
+  pub follows_along : {exchanged : Bool} → (me me' : Mine) (pace : Pace) (victims : Drawing) (made work looks n : ℕ)
       → (o : Obeying plan limits k own (deeds_in me.0) pace victims)
-      → (g : Goes k own me me' made work looks) → made ≤ n → AreClear plan limits own o.past n
+      → (g : Goes k own me me' made work looks exchanged) → made ≤ n → AreClear plan limits own o.past n
       → Follows plan limits k own (deeds_in me'.0) (past_along k.shape k.code own o.past (stands_by k own (deeds_in me.0)) g.deeds)
   follows_along me me' pace victims made work looks n o g few clear =
       let st = stands_by k own (deeds_in me.0) in
@@ -105,8 +105,8 @@ module _ (plan : Planned) (limits : Limits) (k : Opening) (own : ℕ) where
       (λ rest stands obeys. steps_obey k.shape k.code own plan limits o.past st g.deeds n is_few clear g.steady rest stands obeys)
       (steps_tell k.shape k.code own plan limits o.past st g.deeds g.steady)
 
-  pub told_along : (me me' : Mine) (pace : Pace) (victims : Drawing) (made work looks : ℕ)
-      → (o : Obeying plan limits k own (deeds_in me.0) pace victims) → (g : Goes k own me me' made work looks)
+  pub told_along : {exchanged : Bool} → (me me' : Mine) (pace : Pace) (victims : Drawing) (made work looks : ℕ)
+      → (o : Obeying plan limits k own (deeds_in me.0) pace victims) → (g : Goes k own me me' made work looks exchanged)
       → told_of_deeds plan limits k own (deeds_in me'.0)
       ≡ told_of_deeds plan limits k own (deeds_in me.0) ++ shown k.shape k.code own (stands_by k own (deeds_in me.0)) g.deeds
   told_along me me' pace victims made work looks o g =
@@ -114,9 +114,9 @@ module _ (plan : Planned) (limits : Limits) (k : Opening) (own : ℕ) where
       told_there (deeds_in me.0) (deeds_in me'.0) g.deeds g.more o.past o.past o.follows (shown k.shape k.code own st g.deeds)
       (steps_told k.shape k.code own plan limits o.past st g.deeds g.steady)
 
-  pub obeying_along : (me me' : Mine) (pace pace' : Pace) (victims : Drawing) (made work looks n : ℕ)
+  pub obeying_along : {exchanged : Bool} → (me me' : Mine) (pace pace' : Pace) (victims : Drawing) (made work looks n : ℕ)
       → (o : Obeying plan limits k own (deeds_in me.0) pace victims)
-      → Goes k own me me' made work looks → made ≤ n → AreClear plan limits own o.past n → pace'.processor ≡ pace.processor
+      → Goes k own me me' made work looks exchanged → made ≤ n → AreClear plan limits own o.past n → pace'.processor ≡ pace.processor
       → ((past' : Past) → past'.acts ≡ o.past.acts + made → past'.work ≡ o.past.work + work → past'.looks ≡ looks_behind o.past.looks work looks
       → IsPace plan limits past' (stands_by k own (deeds_in me'.0)) pace')
       → Obeying plan limits k own (deeds_in me'.0) pace' victims
@@ -135,9 +135,9 @@ module _ (plan : Planned) (limits : Limits) (k : Opening) (own : ℕ) where
         follows = follows_along me me' pace victims made work looks n o g few clear;
       }
 
-  pub grows_along : (before now : Option (List Event)) (me me' : Mine) (pace : Pace) (victims : Drawing) (made work looks : ℕ)
+  pub grows_along : {exchanged : Bool} → (before now : Option (List Event)) (me me' : Mine) (pace : Pace) (victims : Drawing) (made work looks : ℕ)
       → (o : Obeying plan limits k own (deeds_in me.0) pace victims)
-      → Goes k own me me' made work looks → Shows k own before now me me'
+      → Goes k own me me' made work looks exchanged → Shows k own before now me me'
       → Grows before now (told_of_deeds plan limits k own (deeds_in me.0)) (told_of_deeds plan limits k own (deeds_in me'.0))
   grows_along before now me me' pace victims made work looks o g shows = λ list e.
       let st = stands_by k own (deeds_in me.0) in
@@ -147,7 +147,7 @@ module _ (plan : Planned) (limits : Limits) (k : Opening) (own : ℕ) where
       ∙ ap (λ (l : List Deed). Some ((list ++ told) ++ shown k.shape k.code own st l)) (since_is me me' g.deeds g.more)
       ∙ ap (λ (l : List Event). Some l) (append_assoc list told (shown k.shape k.code own st g.deeds) ∙ ap (λ (l : List Event). list ++ l) (sym more))
 
-  pub more_along : (me me' : Mine) (made work looks : ℕ) → Goes k own me me' made work looks → KeepsMore made me me'
+  pub more_along : {exchanged : Bool} → (me me' : Mine) (made work looks : ℕ) → Goes k own me me' made work looks exchanged → KeepsMore made me me'
   more_along me me' made work looks g =
       let all = ap (λ (l : List Deed). length l) g.more in
       let both = length-append (deeds_in me.0) g.deeds in
@@ -158,7 +158,7 @@ module _ (plan : Planned) (limits : Limits) (k : Opening) (own : ℕ) where
   no_deeds [] e = refl
   no_deeds (d ∷ ds) e = absurd (omega (arith, e))
 
-  pub obeying_still : (me me' : Mine) (pace : Pace) (victims : Drawing) (made work looks : ℕ) → Goes k own me me' made work looks → made ≡ 0
+  pub obeying_still : {exchanged : Bool} → (me me' : Mine) (pace : Pace) (victims : Drawing) (made work looks : ℕ) → Goes k own me me' made work looks exchanged → made ≡ 0
       → Obeying plan limits k own (deeds_in me.0) pace victims → Obeying plan limits k own (deeds_in me'.0) pace victims
   obeying_still me me' pace victims made work looks g none o =
       let same : deeds_in me'.0 ≡ deeds_in me.0 =
