@@ -1,5 +1,5 @@
 -- A processor behind a turn.
-use Rattle.std.proofs.Common.{◌≡◌, ◌≢◌, ◌∙◌, ◌⊎◌, inl, inr, ◌<◌, ◌≤◌, ◌+◌, ℕ, Bool, true, false, Option, Some, None, List, [], ◌∷◌, ◌++◌, length, arith, refl, sym, ap, subst, append_assoc}
+use Rattle.std.proofs.Common.{◌≡◌, ◌≢◌, ◌∙◌, ◌⊎◌, inl, inr, ◌<◌, ◌≤◌, ◌+◌, ℕ, Bool, true, false, Option, Some, None, List, [], ◌∷◌, ◌++◌, length, arith, refl, sym, ap, subst}
 use Rattle.std.proofs.lemmas.List.{length-append}
 use Rattle.ppm_cells.specs.declared.shape.Shape.{Shape}
 use Rattle.ppm_code.specs.declared.code.CodeParts.{CodeParts}
@@ -28,11 +28,11 @@ use Rattle.ppm_table.specs.declared.processor.Shared.{Shared}
 use Rattle.ppm_table.specs.declared.view.Deed.{Deed}
 use Rattle.ppm_table.specs.declared.view.Opening.{Opening}
 use Rattle.ppm_table.specs.Events.{event_found, act_found, HasActed, HasRested}
-use Rattle.ppm_table.specs.Run.{act_by, stood, stands_by, deeds_in, deed_by, deed_of, Mine, IsActAt}
+use Rattle.ppm_table.specs.Run.{act_by, stands_by, deeds_in, deed_by, deed_of, Mine, IsActAt}
 use Rattle.ppm_threads.specs.declared.way.Way.{Way}
 use Rattle.ppm_table.specs.Shown.{IsOf, deeds_of_processor, opening_of}
 use Rattle.ppm_table.specs.Telling.{event_of_deed, shown}
-use Rattle.ppm_table.proofs.TellingLemmas.{appended, shown_both}
+use Rattle.ppm_table.proofs.TellingLemmas.{appended}
 use Rattle.ppm_stretch.specs.Rows.{GivesUp, Quits}
 use Rattle.ppm_stretch.specs.Steady.{Lives}
 use Rattle.ppm_stretch.proofs.SteadyLemmas.{goes_both}
@@ -111,24 +111,20 @@ row_quits told plan limits k own me me' w w' most n pace victims o g within clea
     let r = g.refuses in
     let first = r.moves.goes in
     let all = goes_both k own me r.before g.behind r.made 1 r.work r.last_work r.looks r.last_looks r.exchanged r.last_exchanged first r.last in
-    let st = stands_by k own (deeds_in me.0) in
-    let old = told_of_deeds plan limits k own (deeds_in me.0) in
+    let few = r.few in
     let mid = told_of_deeds plan limits k own (deeds_in r.before.0) in
-    let one = one_shown k.shape k.code own (stood k.shape k.code own st first.deeds) r.last.deeds r.last.count in
-    let few : r.made + 1 ≤ n = let f = r.few in omega (arith, f, within) in
+    let one = one_shown k.shape k.code own (stands_by k own (deeds_in r.before.0)) r.last.deeds r.last.count in
     let grown = grows_along plan limits k own (told w) (told r.watch) me r.before pace victims r.made r.work r.looks o first r.moves.shows in
     record {
       obeyed = deeds_in g.behind.0;
       obeys = so_far plan limits k own (deeds_in g.behind.0) _
-          (follows_along plan limits k own me g.behind pace victims (r.made + 1) _ _ n o all few clear);
+          (follows_along plan limits k own me g.behind pace victims (r.made + 1) _ _ n o all (omega (arith, few, within)) clear);
       gave_up = by g.behind g.lives r.stays g.quits;
       told = mid;
       refused = one.0;
-      up_to = inl (told_along plan limits k own me g.behind pace victims (r.made + 1) _ _ o all
-          ∙ ap (λ (l : List Event). old ++ l) (shown_both k.shape k.code own st first.deeds r.last.deeds
-          ∙ ap (λ (l : List Event). shown k.shape k.code own st first.deeds ++ l) one.1)
-          ∙ sym (append_assoc old (shown k.shape k.code own st first.deeds) (one.0 ∷ []))
-          ∙ ap (λ (l : List Event). l ++ one.0 ∷ []) (sym (told_along plan limits k own me r.before pace victims r.made r.work r.looks o first)));
+      up_to = inl (told_along plan limits k own r.before g.behind _ 1 _ _
+          (follows_along plan limits k own me r.before pace victims r.made _ _ n o first (omega (arith, few, within)) clear) r.last
+          ∙ ap (λ (l : List Event). mid ++ l) one.1);
       grows = λ list e. kept_list (told r.watch) (told w') (list ++ mid) r.keeps (grown list e);
     }
   where

@@ -105,14 +105,14 @@ module _ (plan : Planned) (limits : Limits) (k : Opening) (own : ℕ) where
       (λ rest stands obeys. steps_obey k.shape k.code own plan limits o.past st g.deeds n is_few clear g.steady rest stands obeys)
       (steps_tell k.shape k.code own plan limits o.past st g.deeds g.steady)
 
-  pub told_along : {exchanged : Bool} → (me me' : Mine) (pace : Pace) (victims : Drawing) (made work looks : ℕ)
-      → (o : Obeying plan limits k own (deeds_in me.0) pace victims) → (g : Goes k own me me' made work looks exchanged)
+  pub told_along : {exchanged : Bool} → (me me' : Mine) (past : Past) (made work looks : ℕ)
+      → Follows plan limits k own (deeds_in me.0) past → (g : Goes k own me me' made work looks exchanged)
       → told_of_deeds plan limits k own (deeds_in me'.0)
       ≡ told_of_deeds plan limits k own (deeds_in me.0) ++ shown k.shape k.code own (stands_by k own (deeds_in me.0)) g.deeds
-  told_along me me' pace victims made work looks o g =
+  told_along me me' past made work looks f g =
       let st = stands_by k own (deeds_in me.0) in
-      told_there (deeds_in me.0) (deeds_in me'.0) g.deeds g.more o.past o.past o.follows (shown k.shape k.code own st g.deeds)
-      (steps_told k.shape k.code own plan limits o.past st g.deeds g.steady)
+      told_there (deeds_in me.0) (deeds_in me'.0) g.deeds g.more past past f (shown k.shape k.code own st g.deeds)
+      (steps_told k.shape k.code own plan limits past st g.deeds g.steady)
 
   pub obeying_along : {exchanged : Bool} → (me me' : Mine) (pace pace' : Pace) (victims : Drawing) (made work looks n : ℕ)
       → (o : Obeying plan limits k own (deeds_in me.0) pace victims)
@@ -142,7 +142,7 @@ module _ (plan : Planned) (limits : Limits) (k : Opening) (own : ℕ) where
   grows_along before now me me' pace victims made work looks o g shows = λ list e.
       let st = stands_by k own (deeds_in me.0) in
       let told = told_of_deeds plan limits k own (deeds_in me.0) in
-      let more = told_along me me' pace victims made work looks o g in
+      let more = told_along me me' o.past made work looks o.follows g in
       shows (list ++ told) e
       ∙ ap (λ (l : List Deed). Some ((list ++ told) ++ shown k.shape k.code own st l)) (since_is me me' g.deeds g.more)
       ∙ ap (λ (l : List Event). Some l) (append_assoc list told (shown k.shape k.code own st g.deeds) ∙ ap (λ (l : List Event). list ++ l) (sym more))
