@@ -145,7 +145,7 @@ module _ {W : Type 0} (told : W → Option (List Event)) (plan : Planned) (limit
     one_fares true h = inl (told_one h)
     one_fares false h = inr (quit_one h)
 
-  Fares : (turns : List Turn) (x : Bool) → ℕ → Option (List Event) → Option (List Event) → Type 0
+  abbrev Fares : (turns : List Turn) (x : Bool) → ℕ → Option (List Event) → Option (List Event) → Type 0
   Fares turns x c before now = (x ≡ true → Told turns c before now) × (Told turns c before now ⊎ Quit turns c before now)
 
   fares_first : (turns : List Turn) (c : ℕ) (p : Processor) (w : W) (q : Processor) (v : W) (x rest : Bool) → AllTold k.shape k.code (start k) turns
@@ -176,7 +176,7 @@ module _ {W : Type 0} (told : W → Option (List Event)) (plan : Planned) (limit
       (fares_at turns h.1 (suc c) ps ws qs vs all i.2 n.1 a.1 h.4 j d (omega (arith, lt)) (omega (arith, small)))))
 
   -- where one refused
-  Refuses : (turns : List Turn) (c : ℕ) (count : ℕ) → List W → List W → Type 0
+  abbrev Refuses : (turns : List Turn) (c : ℕ) (count : ℕ) → List W → List W → Type 0
   Refuses turns c count ws vs = (j : ℕ) × (j < count) × ((d : W) → Quit turns (c + j) (told (get_or ws j d)) (told (get_or vs j d)))
 
   refuses_later : (turns : List Turn) (c count : ℕ) (w v : W) (ws vs : List W) → Refuses turns (suc c) count ws vs → Refuses turns c (suc count) (w ∷ ws) (v ∷ vs)
@@ -187,6 +187,16 @@ module _ {W : Type 0} (told : W → Option (List Event)) (plan : Planned) (limit
         λ d. subst (λ (m : ℕ). Quit turns m (told (get_or ws r.0 d)) (told (get_or vs r.0 d))) e (r.2 d),
       )
 
+  refuses_first : (turns : List Turn) (c count : ℕ) (p : Processor) (w : W) (q : Processor) (v : W) (ws vs : List W) (first rest : Bool)
+      → AllTold k.shape k.code (start k) turns → p.local.own ≡ c → deeds_of_processor p ≡ [] → deeds_of_processor q ≡ deeds_in_run k q.local.own turns
+      → c < k.shape.processors → Ends told plan limits s first p w q v → (rest ≡ false → Refuses turns (suc c) count ws vs) → (first && rest) ≡ false
+      → Refuses turns c (suc count) (w ∷ ws) (v ∷ vs)
+  refuses_first turns c count p w q v ws vs true rest all i n a small h further none = refuses_later turns c count w v ws vs (further none)
+  refuses_first turns c count p w q v ws vs false rest all i n a small h further none =
+      let e : p.local.own ≡ c + 0 = omega (arith, i) in
+      let below : c + 0 < k.shape.processors = omega (arith, small) in
+      (0, omega arith, λ d. quit_one turns (c + 0) p w q v all e n a below h)
+
   refuses_at : (turns : List Turn) (x : Bool) (c : ℕ) (ps : List Processor) (ws : List W) (qs : List Processor) (vs : List W) → AllTold k.shape k.code (start k) turns → InOrder s c ps → AllBegin s ps → AllIn k turns qs
       → AllEnd told plan limits s x ps ws qs vs → c + length ps ≤ k.shape.processors → x ≡ false → Refuses turns c (length ps) ws vs
   refuses_at turns x c [] ws [] vs all i n a h small none = absurd (let e : true ≡ false = sym h.1 ∙ none in cc)
@@ -194,18 +204,11 @@ module _ {W : Type 0} (told : W → Option (List Event)) (plan : Planned) (limit
   refuses_at turns x c (p ∷ ps) ws [] vs all i n a h small none = absurd h
   refuses_at turns x c (p ∷ ps) [] (q ∷ qs) vs all i n a h small none = absurd h
   refuses_at turns x c (p ∷ ps) (w ∷ ws) (q ∷ qs) [] all i n a h small none = absurd h
-  refuses_at turns x c (p ∷ ps) (w ∷ ws) (q ∷ qs) (v ∷ vs) all i n a h small none = by h.0 h.3 (sym h.2 ∙ none)
-    where
-      by : (first : Bool) → Ends told plan limits s first p w q v → (first && h.1) ≡ false → Refuses turns c (suc (length ps)) (w ∷ ws) (v ∷ vs)
-      by true e rest = refuses_later turns c (length ps) w v ws vs
-          (refuses_at turns h.1 (suc c) ps ws qs vs all i.2 n.1 a.1 h.4 (omega (arith, small)) rest)
-      by false e rest = (
-        0,
-        omega arith,
-        λ d.
-            let z : p.local.own ≡ c + 0 = omega (arith, i.0) in
-            quit_one turns (c + 0) p w q v all z n.0.1 a.0 (omega (arith, small)) e,
-      )
+  refuses_at turns x c (p ∷ ps) (w ∷ ws) (q ∷ qs) (v ∷ vs) all i n a h small none =
+      let here : c < k.shape.processors = omega (arith, small) in
+      let behind : suc c + length ps ≤ k.shape.processors = omega (arith, small) in
+      refuses_first turns c (length ps) p w q v ws vs h.0 h.1 all i.0 n.0.1 a.0 here h.3
+      (λ rest. refuses_at turns h.1 (suc c) ps ws qs vs all i.2 n.1 a.1 h.4 behind rest) (sym h.2 ∙ none)
 
   pub rest_at : (x : Bool) (ps : List Processor) (ws : List W) (qs : List Processor) (vs : List W) → AllEnd told plan limits s x ps ws qs vs → (k : ℕ) (d : W) → length ps ≤ k → get_or vs k d ≡ get_or ws k d
   rest_at x [] ws [] vs h k d le = ap (λ (l : List W). get_or l k d) (sym h.0)
