@@ -1,8 +1,8 @@
 //! The threads.
-ghost use Rattle.std.specs.Prelude.{◌≡◌, ◌<◌, ◌≤◌, IfOk, vec_len, length};
+ghost use Rattle.std.specs.Prelude.{◌≡◌, ◌<◌, ◌≤◌, ◌⊎◌, ◌&&◌, ◌++◌, IfErr, IfOk, vec_len, length};
 ghost use Rattle.std.specs.Thread.{IsSync, IsSend};
 ghost use Rattle.ppm_table.specs.Shown.{AreNewOf, opening_of};
-ghost use Rattle.ppm_threads.specs.Driven.{Begins, AllBegin, EndsAmong, AllEnd, AllKeep, Driven, HasFinished};
+ghost use Rattle.ppm_threads.specs.Driven.{Begins, AllBegin, Ends, AllEnd, AllKeep, OthersStay, Driven, WasRefused, HasFinished};
 
 use crate::going::run;
 use crate::parking::{IdleParker, IdleUnparker, parkers, unparkers};
@@ -28,11 +28,18 @@ fn run_one<W: Watch, R: Wait>(
 ) -> bool
     requires begins { Begins shared.now processor.old }
     requires plan { plan.now.processors ≡ shared.now.shape.processors }
-    ensures { EndsAmong W.told plan.now limits shared.now result processor.old watch.old processor.new watch.new }
+    ensures { Ends W.told plan.now limits shared.now result processor.old watch.old processor.new watch.new }
 {
     run(
         rt, shared, unparkers, parker, plan, limits, processor, watch,
     )
+}
+
+/// Whether both hold.
+fn both(x: bool, y: bool) -> bool
+    ensures { result ≡ (x && y) }
+{
+    x && y
 }
 
 /// Runs each of these processors on a thread of its own: whether no watcher refused.
@@ -75,7 +82,8 @@ fn run_all<W: Watch, R: Threads + Wait + Sync>(
     both_halves(rt, shared, unparkers, plan, limits, a, p, u, b, q, v)
 }
 
-/// The same of two parts, side by side.
+/// The same of two parts, side by side. Where the system makes no thread, the keeper's part runs
+/// before the other one: it alone ends the run.
 #[cycle(halves)]
 fn both_halves<W: Watch, R: Threads + Wait + Sync>(
     rt: &R,
@@ -95,9 +103,9 @@ fn both_halves<W: Watch, R: Threads + Wait + Sync>(
     requires back { AllBegin shared.now b.old × (length b.old ≡ length v.old) × (length b.old ≡ length q.old)
         × (0 < length b.old) }
     requires plan { plan.now.processors ≡ shared.now.shape.processors }
-    ensures front { AllEnd W.told plan.now limits.now shared.now result a.old u.old a.new u.new }
-    ensures back { AllEnd W.told plan.now limits.now shared.now result b.old v.old b.new v.new }
+    ensures { AllEnd W.told plan.now limits.now shared.now result (a.old ++ b.old) (u.old ++ v.old) (a.new ++ b.new) (u.new ++ v.new) }
 {
+    let keeper_is_in_front = plan.keeper() < b[0].local.own;
     let mut front = || -> bool
         requires { IsSync R.row × IsSend W.row × AllBegin shared.now a.now × (length a.now ≡ length u.now)
             × (length a.now ≡ length p.now) × (plan.now.processors ≡ shared.now.shape.processors) }
@@ -110,8 +118,13 @@ fn both_halves<W: Watch, R: Threads + Wait + Sync>(
         ensures { AllEnd W.told plan.entry.now limits.entry.now shared.entry.now result b.entry.now v.entry.now
             b.exit.now v.exit.now }
     { run_all(rt, shared, unparkers, plan, limits, b, q, v) };
+    // The second of them begins at once, on this thread.
+    if keeper_is_in_front {
+        let (y, x) = join_mut(rt, &mut back, &mut front);
+        return both(x, y);
+    }
     let (x, y) = join_mut(rt, &mut front, &mut back);
-    x && y
+    both(x, y)
 }
 
 /// The same over vectors, of which that of the watchers may be longer.
@@ -164,18 +177,24 @@ pub fn drive<W: Watch, R: Threads + Wait + Sync>(
     requires plan { plan.now.processors ≡ shared.shape.processors }
     requires watchers { vec_len processors ≤ vec_len watch.old }
 
-    // Each list keeps what it had in front, whatever the answer is.
+    // Each list keeps what it had in front, and the watchers behind the last processor stay, whatever
+    // the answer is.
     ensures kept { (vec_len watch.new ≡ vec_len watch.old)
         × AllKeep W.told watch.old.items watch.new.items }
+    ensures others { OthersStay shared.shape.processors watch.old.items watch.new.items }
 
     ensures sizes { IfOk result (λ c. (c.shape ≡ shared.shape) × (c.array_lengths ≡ shared.lengths)) }
     ensures run { IfOk result (λ c. Driven W.told plan.now limits (opening_of shared) c.words watch.old.items watch.new.items) }
     ensures finish { IfOk result (λ c. HasFinished (opening_of shared) c.words) }
+
+    // Where memory was wanting, nobody was told anything; or a watcher refused.
+    ensures refused { IfErr result (λ _. (watch.new.items ≡ watch.old.items)
+        ⊎ WasRefused W.told plan.now limits (opening_of shared) watch.old.items watch.new.items) }
 {
     let _ = (shared.code.parts().root, plan.keeper());
     let mut rests = parkers(alloc, processors.len())?;
     let wakers = unparkers(alloc, &rests)?;
-    if !run_over(
+    let taken = run_over(
         rt,
         &shared,
         &wakers,
@@ -184,8 +203,10 @@ pub fn drive<W: Watch, R: Threads + Wait + Sync>(
         &mut processors,
         &mut rests,
         watch,
-    ) {
+    );
+    let closed = shared.close(processors);
+    if !taken {
         return Err(NoMemory);
     }
-    Ok(shared.close(processors))
+    Ok(closed)
 }

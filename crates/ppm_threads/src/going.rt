@@ -12,7 +12,7 @@ ghost use Rattle.ppm_table.specs.Shown.{IsOf, deeds_of_processor, opening_of};
 ghost use Rattle.ppm_table.specs.Telling.{Keeps};
 ghost use Rattle.ppm_threads.specs.Driven.{Begins, Ends};
 ghost use Rattle.ppm_threads.specs.Going.{Obeying, Resting, Acting, Grows, KeepsMore, GoesAhead, GoesOn};
-ghost use Rattle.ppm_threads.specs.Going.{HasQuit, told_of_deeds, told_so_far, way_of};
+ghost use Rattle.ppm_threads.specs.Going.{GaveUp, HasQuit, told_of_deeds, told_so_far, way_of};
 
 use crate::parking::{IdleParker, IdleUnparker, park, wake_all};
 use crate::way::Way;
@@ -124,7 +124,7 @@ fn give_way(shared: &Shared, unparkers: &[IdleUnparker], limits: Limits, process
     requires of { IsOf shared.now processor.old }
     ensures of { IsOf shared.now processor.new }
     ensures own { processor.new.local.own ≡ processor.old.local.own }
-    ensures quits { HasQuit (opening_of shared.now) processor.old.local.own (deeds_of_processor processor.new) }
+    ensures gave_up { GaveUp (opening_of shared.now) processor.old.local.own (deeds_of_processor processor.old) (deeds_of_processor processor.new) }
 {
     processor.turn(shared, Act::Quit(Why::Watch));
     wake(unparkers, limits);
@@ -154,7 +154,11 @@ fn make<W: Watch>(
         (told_so_far plan limits (opening_of shared.now) processor.old.local.own (deeds_of_processor processor.old) past)
         (told_of_deeds plan limits (opening_of shared.now) processor.old.local.own (deeds_of_processor processor.new))
         × KeepsMore 1 processor.old.seat.me processor.new.seat.me }
-    ensures quits { result ≡ false → HasQuit (opening_of shared.now) processor.old.local.own (deeds_of_processor processor.new) }
+    ensures quits { result ≡ false → (plan : Planned) (past : Past) (victims : Drawing)
+        → Acting plan limits (opening_of shared.now) processor.old.local.own (deeds_of_processor processor.old) past pace.old victims act
+        → HasQuit plan limits (opening_of shared.now) processor.old.local.own (W.told watch.old) (W.told watch.new)
+        (told_so_far plan limits (opening_of shared.now) processor.old.local.own (deeds_of_processor processor.old) past)
+        (deeds_of_processor processor.new) }
 {
     let told = processor.turn(shared, act);
     let due = is_due(&processor.local);

@@ -9,8 +9,9 @@ use Rattle.ppm_driver.proofs.run.run_command.Goals as goal
 -- the answer was delivered, or out of memory in its place
 pub returns-clause-answers : goal.returns-clause-answers
 returns-clause-answers g c =
-    planned_delivered plan_form c.args.faults.now c.args.options.processors (TextHas c.args.options c.args.options.processors _ _) text_limit RunTells
-    c.have_one_answer.ensures.law.plans _ _ _ c.read_answer-answer.ensures.told c.read_answer-answer.ensures.kept
+    planned_delivered plan_form c.args.faults.now c.args.options.processors (TextHas c.args.options c.args.options.processors _ _) text_limit (RunTells c.args.options.processors)
+    c.have_one_answer.ensures.law.plans _ _ _ c.read_answer-answer.ensures.told
+    (c.read_answer-answer.ensures.kept, c.read_answer-answer.ensures.told.1)
     c.read_answer-answer.ensures.may c.deliver.ensures
 
 -- and the rows follow from it

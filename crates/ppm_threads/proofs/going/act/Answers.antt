@@ -66,4 +66,5 @@ returns-clause-goes g c =
     (g.W.Watch.told c.make.new.watch) p.seat.me c.make.new.processor.seat.me
     o.past c.make.new.pace c.next_act.new.victims c.make.result c.way_of.result c.way_of.ensures
     (grows_from c.args.plan.now c.args.limits k own (deeds_of_processor p) o.past (g.W.Watch.told c.args.watch.now) next.0)
-    (λ taken. c.make.ensures.obeys taken c.args.plan.now o.past c.next_act.new.victims a) c.make.ensures.quits
+    (λ taken. c.make.ensures.obeys taken c.args.plan.now o.past c.next_act.new.victims a)
+    (λ refused. c.make.ensures.quits refused c.args.plan.now o.past c.next_act.new.victims a)

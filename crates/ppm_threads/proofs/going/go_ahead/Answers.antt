@@ -4,14 +4,19 @@ use Rattle.ppm_choice.specs.Paces.{AreClear}
 use Rattle.ppm_table.specs.Run.{stands_by}
 use Rattle.ppm_table.specs.Shown.{deeds_of_processor, opening_of}
 use Rattle.ppm_threads.proofs.GoingLemmas.{obeying_along, grows_along, more_along, obeying_still}
-use Rattle.ppm_threads.proofs.ActLemmas.{gave_up}
+use Rattle.ppm_threads.proofs.ActLemmas.{row_quits}
 use Rattle.ppm_threads.proofs.going.go_ahead.Goals as goal
 
 -- the watcher refused one
 pub returns-then-row-clause-goes : goal.returns-then-row-clause-goes
 returns-then-row-clause-goes g c victims o =
-    gave_up g.W.Watch.told (opening_of c.args.shared.now) c.args.processor.now.local.own c.args.processor.now.seat.me c.steps-row.new.processor.seat.me
-    c.args.watch.now c.steps-row.new.watch (c.steps-row.ensures.stops c.if-row.true)
+    let k = opening_of c.args.shared.now in
+    let p = c.args.processor.now in
+    let clear = subst (λ (n : ℕ). AreClear c.args.plan.now c.args.limits n o.past c.clear_steps.result) o.number
+    (c.clear_steps.ensures.clear o.past (stands_by k p.local.own (deeds_of_processor p)) o.pace_is) in
+    row_quits g.W.Watch.told c.args.plan.now c.args.limits k p.local.own p.seat.me c.steps-row.new.processor.seat.me
+    c.args.watch.now c.steps-row.new.watch c.min-most.result c.clear_steps.result c.args.pace.now victims o (c.steps-row.ensures.stops c.if-row.true)
+    (let m = c.min-most.ensures in omega (arith, m)) clear
 
 -- none was made
 pub returns-then-row-eq0-clause-goes : goal.returns-then-row-eq0-clause-goes

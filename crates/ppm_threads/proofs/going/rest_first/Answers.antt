@@ -4,7 +4,7 @@ use Rattle.ppm_table.specs.Run.{stands_by}
 use Rattle.ppm_table.specs.Shown.{deeds_of_processor, opening_of}
 use Rattle.ppm_table.proofs.TellingLemmas.{keeps_both}
 use Rattle.ppm_threads.proofs.GoingLemmas.{obeys_all}
-use Rattle.ppm_threads.proofs.ParkedLemmas.{leaves_if, parks_if, rests_live, acting_rested, grows_parked, none_rests, next_rested}
+use Rattle.ppm_threads.proofs.ParkedLemmas.{leaves_if, parks_if, rests_live, acting_rested, grows_parked, quits_parked, none_rests, next_rested}
 use Rattle.ppm_threads.proofs.ActLemmas.{may_act, goes_by_act}
 use Rattle.ppm_threads.proofs.going.rest_first.Goals as goal
 
@@ -18,6 +18,18 @@ returns-then-not-is_park-clause-goes g c =
           (inr (leaves_if c.args.limits.idle (sym c.is_park.ensures ∙ c.if-not-is_park.true), r.rests)),
       λ list e. e,
     )
+
+-- its watcher refuses to be told that it parks
+pub returns-then-not-hear-clause-goes : goal.returns-then-not-hear-clause-goes
+returns-then-not-hear-clause-goes g c =
+    let shared = c.args.shared.now in
+    let p = c.args.processor.now in
+    let idle = parks_if c.args.limits.idle (sym c.is_park.ensures ∙ c.if-not-is_park.false) in
+    quits_parked c.args.plan.now c.args.limits (opening_of shared) p.local.own (deeds_of_processor p) (deeds_of_processor c.give_way.new.processor)
+    c.args.pace.now c.args.victims.now (g.W.Watch.told c.args.watch.now) (g.W.Watch.told c.hear.new.watch) c.parked_at.result c.requires.resting idle
+    (c.parked_at.ensures (stands_by (opening_of shared) p.local.own (deeds_of_processor p))
+    (c.place.ensures shared.shape shared.code ∙ ap place_of c.requires.of.stands))
+    (c.hear.ensures.refused c.if-not-hear.true) c.give_way.ensures.gave_up
 
 -- it has parked, and doesn't rest again at once
 pub unreachable-requires : goal.unreachable-requires
@@ -84,4 +96,5 @@ returns-clause-goes g c =
     (grows_parked c.args.plan.now c.args.limits k own (deeds_of_processor p) r.obeying.past (g.W.Watch.told c.args.watch.now)
     (g.W.Watch.told c.hear.new.watch) c.parked_at.result idle r.rests event
     (c.hear.ensures.heard c.if-not-hear.false))
-    (λ taken. c.make.ensures.obeys taken c.args.plan.now r.obeying.past c.next_act.new.victims a) c.make.ensures.quits
+    (λ taken. c.make.ensures.obeys taken c.args.plan.now r.obeying.past c.next_act.new.victims a)
+    (λ refused. c.make.ensures.quits refused c.args.plan.now r.obeying.past c.next_act.new.victims a)
