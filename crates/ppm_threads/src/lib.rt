@@ -9,6 +9,7 @@
 //! are this project's.
 #![tactic(auto)]
 
+mod crew;
 mod driving;
 mod going;
 mod parking;
