@@ -173,15 +173,15 @@ pub fn drive<W: Watch, R: Threads + Wait + Sync>(
         ⊎ WasRefused W.told plan.now limits (opening_of shared) watch.old.items watch.new.items) }
 {
     let _ = (shared.code.parts().root, plan.keeper());
-    let mut rests = parkers(alloc, processors.len())?;
-    let wakers = unparkers(alloc, &rests)?;
+    let mut sleepers = parkers(alloc, processors.len())?;
+    let wakers = unparkers(alloc, &sleepers)?;
     let crew = Crew {
         shared,
         plan,
         limits,
         unparkers: wakers,
     };
-    let taken = run_over(rt, &crew, &mut processors, &mut rests, watch);
+    let taken = run_over(rt, &crew, &mut processors, &mut sleepers, watch);
     let Crew {
         shared,
         plan: _,

@@ -11,7 +11,7 @@ ghost use Rattle.ppm_table.specs.Run.{IsActAt};
 ghost use Rattle.ppm_table.specs.Shown.{IsOf, deeds_of_processor, opening_of};
 ghost use Rattle.ppm_table.specs.Telling.{Keeps};
 ghost use Rattle.ppm_threads.specs.Driven.{Begins, Ends};
-ghost use Rattle.ppm_threads.specs.Going.{Obeying, Resting, Acting, Grows, KeepsMore, GoesAhead, GoesOn};
+ghost use Rattle.ppm_threads.specs.Going.{Obeying, Resting, Acting, Grows, HasMoreDeeds, GoesAhead, GoesOn};
 ghost use Rattle.ppm_threads.specs.Going.{GaveUp, HasQuit, told_of_deeds, told_so_far, way_of};
 
 use crate::crew::Crew;
@@ -149,7 +149,7 @@ fn make<W: Watch>(
         × Grows (W.told watch.old) (W.told watch.new)
         (told_so_far plan crew.now.limits (opening_of crew.now.shared) processor.old.local.own (deeds_of_processor processor.old) past)
         (told_of_deeds plan crew.now.limits (opening_of crew.now.shared) processor.old.local.own (deeds_of_processor processor.new))
-        × KeepsMore 1 processor.old.seat.me processor.new.seat.me }
+        × HasMoreDeeds 1 processor.old.seat.me processor.new.seat.me }
     ensures quits { result ≡ false → (plan : Planned) (past : Past) (victims : Drawing)
         → Acting plan crew.now.limits (opening_of crew.now.shared) processor.old.local.own (deeds_of_processor processor.old) past pace.old victims act
         → HasQuit plan crew.now.limits (opening_of crew.now.shared) processor.old.local.own (W.told watch.old) (W.told watch.new)

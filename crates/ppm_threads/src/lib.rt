@@ -16,4 +16,4 @@ mod parking;
 mod way;
 
 pub use driving::drive;
-pub use parking::{Credit, Gave, IdleParker, IdlePass, IdleUnparker, Tokens, Took, rest};
+pub use parking::{Credit, Gave, IdleParker, IdlePass, IdleUnparker, Tokens, Took, sleep};
