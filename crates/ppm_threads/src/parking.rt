@@ -48,7 +48,7 @@ pub type IdleUnparker = RuledUnparker<Credit, Tokens>;
 /// What one of them knows of the tokens.
 pub type IdlePass = Pass<Credit>;
 
-/// Parks until there is a token, and takes it. The pass is one of this parker. It may never return,
+/// Sleeps until there is a token, and takes it. The pass is one of this parker. It may never return,
 /// and takes no memory.
 pub fn sleep<R: Wait>(rt: &R, parker: &IdleParker, mut pass: IdlePass) -> IdlePass
     requires { pass.table_id ≡ (arc_value parker.now.unparker.state).shared.table_id }
