@@ -27,7 +27,7 @@ use Rattle.ppm_table.specs.declared.processor.Processor.{Processor}
 use Rattle.ppm_table.specs.declared.processor.Shared.{Shared}
 use Rattle.ppm_table.specs.declared.view.Deed.{Deed}
 use Rattle.ppm_table.specs.declared.view.Opening.{Opening}
-use Rattle.ppm_table.specs.Events.{event_found, act_found, HasActed, HasRested}
+use Rattle.ppm_table.specs.Events.{event_found, act_found, HasActed, HasMadeNone}
 use Rattle.ppm_table.specs.Run.{act_by, stands_by, deeds_in, deed_by, deed_of, Mine, IsActAt}
 use Rattle.ppm_threads.specs.declared.way.Way.{Way}
 use Rattle.ppm_table.specs.Shown.{IsOf, deeds_of_processor, opening_of}
@@ -36,7 +36,7 @@ use Rattle.ppm_table.proofs.TellingLemmas.{appended}
 use Rattle.ppm_stretch.specs.Rows.{GivesUp, Quits}
 use Rattle.ppm_stretch.specs.Steady.{Lives}
 use Rattle.ppm_stretch.proofs.SteadyLemmas.{goes_both}
-use Rattle.ppm_threads.specs.Going.{Grows, KeepsMore, GaveUp, HasQuit, Obeying, Acting, told_so_far, told_of_deeds, GoesOn, way_of}
+use Rattle.ppm_threads.specs.Going.{Grows, HasMoreDeeds, GaveUp, HasQuit, Obeying, Acting, told_so_far, told_of_deeds, GoesOn, way_of}
 use Rattle.ppm_threads.proofs.DrawnLemmas.{is_act_at}
 use Rattle.ppm_threads.proofs.AlongLemmas.{act_told}
 use Rattle.ppm_threads.proofs.GoingLemmas.{obeying_more, grows_more, grows_along, told_along, told_more, follows_along, so_far, quit_behind}
@@ -78,13 +78,13 @@ pub gives_way : (s : Shared) (p q : Processor) (told : Told) → IsOf s p
     → HasActed s.shape s.code p.local.own (Quit Watch) (standing_of s.shape s.code p.local) (standing_of s.shape s.code q.local) (deeds_of_processor p)
     (deeds_of_processor q) told)
     → (standing_of s.shape s.code p.local ≡ IsDone
-    → HasRested (standing_of s.shape s.code p.local) (standing_of s.shape s.code q.local) (deeds_of_processor p) (deeds_of_processor q) told)
+    → HasMadeNone (standing_of s.shape s.code p.local) (standing_of s.shape s.code q.local) (deeds_of_processor p) (deeds_of_processor q) told)
     → GaveUp (opening_of s) p.local.own (deeds_of_processor p) (deeds_of_processor q)
-gives_way s p q told of acted rested = by (done_or (standing_of s.shape s.code p.local))
+gives_way s p q told of acted none = by (done_or (standing_of s.shape s.code p.local))
   where
     by : (standing_of s.shape s.code p.local ≡ IsDone) ⊎ (standing_of s.shape s.code p.local ≢ IsDone)
         → GaveUp (opening_of s) p.local.own (deeds_of_processor p) (deeds_of_processor q)
-    by (inl done) = inr (sym of.stands ∙ done, (rested done).deed)
+    by (inl done) = inr (sym of.stands ∙ done, (none done).deed)
     by (inr lives) = inl (λ done. lives (of.stands ∙ done), (acted lives).deed)
 
 -- a list that stays
@@ -192,7 +192,7 @@ module _ (s : Shared) (p q : Processor) (act : Act) (told : Told) (of : IsOf s p
       (acted.next ∙ ap next_of stands') (is_due ∙ ap seeks_holder stands'))
 
   -- it has made one act more
-  pub acts_more : KeepsMore 1 p.seat.me q.seat.me
+  pub acts_more : HasMoreDeeds 1 p.seat.me q.seat.me
   acts_more = ap (λ (l : List Deed). length l) acted.deed ∙ length-append (deeds_of_processor p) (deed ∷ [])
 
   -- and its watcher was told of it
@@ -235,14 +235,14 @@ pub goes_by_act : (plan : Planned) (limits : Limits) (k : Opening) (own : ℕ) (
     → (taken : Bool) (way : Way) → way ≡ way_of taken
     → Grows before first (told_of_deeds plan limits k own (deeds_in me.0)) (told_so_far plan limits k own (deeds_in me.0) past)
     → (taken ≡ true → Obeying plan limits k own (deeds_in me'.0) pace' victims
-    × Grows first now (told_so_far plan limits k own (deeds_in me.0) past) (told_of_deeds plan limits k own (deeds_in me'.0)) × KeepsMore 1 me me')
+    × Grows first now (told_so_far plan limits k own (deeds_in me.0) past) (told_of_deeds plan limits k own (deeds_in me'.0)) × HasMoreDeeds 1 me me')
     → (taken ≡ false → HasQuit plan limits k own first now (told_so_far plan limits k own (deeds_in me.0) past) (deeds_in me'.0))
     → GoesOn plan limits k own before now me me' pace' victims way
 goes_by_act plan limits k own before first now me me' past pace' victims taken way is grew obeys quits =
     subst (λ (w : Way). GoesOn plan limits k own before now me me' pace' victims w) (sym is) (by taken obeys quits)
   where
     by : (b : Bool) → (b ≡ true → Obeying plan limits k own (deeds_in me'.0) pace' victims
-        × Grows first now (told_so_far plan limits k own (deeds_in me.0) past) (told_of_deeds plan limits k own (deeds_in me'.0)) × KeepsMore 1 me me')
+        × Grows first now (told_so_far plan limits k own (deeds_in me.0) past) (told_of_deeds plan limits k own (deeds_in me'.0)) × HasMoreDeeds 1 me me')
         → (b ≡ false → HasQuit plan limits k own first now (told_so_far plan limits k own (deeds_in me.0) past) (deeds_in me'.0)) → GoesOn plan limits k own before now me me' pace' victims (way_of b)
     by true obeys quits = let o = obeys refl in let one = o.2 in (o.0, λ list e. o.1 list (grew list e), omega (arith, one))
     by false obeys quits =

@@ -24,7 +24,7 @@ use Rattle.ppm_table.proofs.TellingLemmas.{shown_both, since_is}
 use Rattle.ppm_stretch.specs.Steady.{looks_behind, Goes}
 use Rattle.ppm_threads.specs.declared.way.Way.{Way}
 use Rattle.ppm_threads.specs.declared.way.Way.TheVariants.{More, Over, Refused}
-use Rattle.ppm_threads.specs.Going.{acted, acts_of, Grows, KeepsMore, told_of_deeds, told_so_far, Follows, Obeying, Acting, OwnObeys, ObeysSoFar, HasQuit, GoesOn}
+use Rattle.ppm_threads.specs.Going.{acted, acts_of, Grows, HasMoreDeeds, told_of_deeds, told_so_far, Follows, Obeying, Acting, OwnObeys, ObeysSoFar, HasQuit, GoesOn}
 use Rattle.ppm_threads.proofs.AlongLemmas.{acts_both, past_along, along_acts, along_work, along_looks, along_drawn, steps_obey, not_parked, steps_tell, steps_told}
 
 module _ (plan : Planned) (limits : Limits) (k : Opening) (own : ℕ) where
@@ -147,7 +147,7 @@ module _ (plan : Planned) (limits : Limits) (k : Opening) (own : ℕ) where
       ∙ ap (λ (l : List Deed). Some ((list ++ told) ++ shown k.shape k.code own st l)) (since_is me me' g.deeds g.more)
       ∙ ap (λ (l : List Event). Some l) (append_assoc list told (shown k.shape k.code own st g.deeds) ∙ ap (λ (l : List Event). list ++ l) (sym more))
 
-  pub more_along : {exchanged : Bool} → (me me' : Mine) (made work looks : ℕ) → Goes k own me me' made work looks exchanged → KeepsMore made me me'
+  pub more_along : {exchanged : Bool} → (me me' : Mine) (made work looks : ℕ) → Goes k own me me' made work looks exchanged → HasMoreDeeds made me me'
   more_along me me' made work looks g =
       let all = ap (λ (l : List Deed). length l) g.more in
       let both = length-append (deeds_in me.0) g.deeds in
@@ -179,7 +179,7 @@ module _ (plan : Planned) (limits : Limits) (k : Opening) (own : ℕ) where
   }
 
   pub goes_behind : (before first now : Option (List Event)) (me me' me'' : Mine) (pace : Pace) (victims : Drawing) (way : Way)
-      → Grows before first (told_of_deeds plan limits k own (deeds_in me.0)) (told_of_deeds plan limits k own (deeds_in me'.0)) → KeepsMore 0 me me'
+      → Grows before first (told_of_deeds plan limits k own (deeds_in me.0)) (told_of_deeds plan limits k own (deeds_in me'.0)) → HasMoreDeeds 0 me me'
       → GoesOn plan limits k own first now me' me'' pace victims way → GoesOn plan limits k own before now me me'' pace victims way
   goes_behind before first now me me' me'' pace victims More grew none g = (
     g.0,

@@ -35,9 +35,9 @@ acts_of s code own standing (deed ∷ deeds) = acted s standing deed ∷ acts_of
 abbrev pub Grows : Option (List Event) → Option (List Event) → (old new : List Event) → Type 0
 Grows before now old new = (list : List Event) → before ≡ Some (list ++ old) → now ≡ Some (list ++ new)
 
--- a seat keeps so many deeds more
-abbrev pub KeepsMore : (made : ℕ) → Mine → Mine → Type 0
-KeepsMore made me me' = length (deeds_in me'.0) ≡ length (deeds_in me.0) + made
+-- a seat has so many deeds more
+abbrev pub HasMoreDeeds : (made : ℕ) → Mine → Mine → Type 0
+HasMoreDeeds made me me' = length (deeds_in me'.0) ≡ length (deeds_in me.0) + made
 
 -- behind these deeds a processor gives up, which is its last deed; or it is done, and makes none any more
 abbrev pub GaveUp : Opening → (own : ℕ) → (before deeds : List Deed) → Type 0
@@ -115,7 +115,7 @@ module _ (plan : Planned) (limits : Limits) where
   GoesAhead k own before now me me' pace victims (Some made) =
       Obeying k own (deeds_in me'.0) pace victims
       × Grows before now (told_of_deeds k own (deeds_in me.0)) (told_of_deeds k own (deeds_in me'.0))
-      × KeepsMore made me me'
+      × HasMoreDeeds made me me'
   GoesAhead k own before now me me' pace victims None = HasQuit k own before now (told_of_deeds k own (deeds_in me.0)) (deeds_in me'.0)
 
   -- behind its next acts: there was one, and it goes on; or its acts stop; or its watcher has refused

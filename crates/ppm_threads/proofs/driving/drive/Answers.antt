@@ -69,8 +69,8 @@ returns-clause-finish g c =
     c.requires.plan c.keeper.ensures.keeper d
 
 -- no memory was left for parkers: no watcher was told anything
-pub returns-in_err-rests-clause-kept : goal.returns-in_err-rests-clause-kept
-returns-in_err-rests-clause-kept g c = (refl, keep_still g.W.Watch.told c.args.plan.now c.args.limits c.args.shared c.args.watch.now.items)
+pub returns-in_err-sleepers-clause-kept : goal.returns-in_err-sleepers-clause-kept
+returns-in_err-sleepers-clause-kept g c = (refl, keep_still g.W.Watch.told c.args.plan.now c.args.limits c.args.shared c.args.watch.now.items)
 
 pub returns-in_err-wakers-clause-kept : goal.returns-in_err-wakers-clause-kept
 returns-in_err-wakers-clause-kept g c = (refl, keep_still g.W.Watch.told c.args.plan.now c.args.limits c.args.shared c.args.watch.now.items)

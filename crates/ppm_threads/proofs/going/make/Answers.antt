@@ -11,15 +11,15 @@ unreachable-requires g c = some_told _ (sym (c.turn-told.ensures.acted c.require
 -- the watcher was told of the act, which is the next one
 pub returns-then-hear-clause-obeys : goal.returns-then-hear-clause-obeys
 returns-then-hear-clause-obeys g c = λ taken plan past victims a.
-    let shared = c.args.shared.now in
+    let shared = c.args.crew.now.shared in
     let p = c.args.processor.now in
     let q = c.turn-told.new.self in
     let acted = c.turn-told.ensures.acted c.requires.lives in (
       acts_obey shared p q c.args.act c.turn-told.result c.requires.of c.turn-told.ensures.of c.turn-told.ensures.own acted c.requires.lives c.requires.may
-          plan c.args.limits past c.args.pace.now c.count.new.self victims c.is_due-due.result a c.count.ensures.number
+          plan c.args.crew.now.limits past c.args.pace.now c.count.new.self victims c.is_due-due.result a c.count.ensures.number
           (c.is_due-due.ensures shared.shape shared.code) c.count.ensures.pace,
       acts_grow shared p q c.args.act c.turn-told.result c.requires.of c.turn-told.ensures.of c.turn-told.ensures.own acted c.requires.lives c.requires.may
-          plan c.args.limits past c.args.pace.now victims (g.W.Watch.told c.args.watch.now) (g.W.Watch.told c.hear.new.watch)
+          plan c.args.crew.now.limits past c.args.pace.now victims (g.W.Watch.told c.args.watch.now) (g.W.Watch.told c.hear.new.watch)
           c.in-Some.event a c.in-Some.is (c.hear.ensures.heard c.if-hear.true),
       acts_more shared p q c.args.act c.turn-told.result c.requires.of c.turn-told.ensures.of c.turn-told.ensures.own acted c.requires.lives c.requires.may,
     )
@@ -27,12 +27,12 @@ returns-then-hear-clause-obeys g c = λ taken plan past victims a.
 -- or it refused, and the processor has quit
 pub returns-clause-quits : goal.returns-clause-quits
 returns-clause-quits g c = λ refused plan past victims a.
-    let shared = c.args.shared.now in
+    let shared = c.args.crew.now.shared in
     let p = c.args.processor.now in
     let q = c.turn-told.new.self in
     let acted = c.turn-told.ensures.acted c.requires.lives in
     acts_refused shared p q c.args.act c.turn-told.result c.requires.of c.turn-told.ensures.of c.turn-told.ensures.own acted c.requires.lives c.requires.may
-    plan c.args.limits past c.args.pace.now c.count.new.self victims c.is_due-due.result (g.W.Watch.told c.args.watch.now) (g.W.Watch.told c.hear.new.watch)
+    plan c.args.crew.now.limits past c.args.pace.now c.count.new.self victims c.is_due-due.result (g.W.Watch.told c.args.watch.now) (g.W.Watch.told c.hear.new.watch)
     (deeds_of_processor c.give_way.new.processor) a c.count.ensures.number (c.is_due-due.ensures shared.shape shared.code) c.count.ensures.pace
     (c.hear.ensures.refused c.if-hear.false)
     (subst (λ (n : ℕ). GaveUp (opening_of shared) n (deeds_of_processor q) (deeds_of_processor c.give_way.new.processor)) c.turn-told.ensures.own
