@@ -7,7 +7,5 @@
 
 pub mod SteadyLemmas
 mod EnteringLemmas
-mod RoundLemmas
-mod RowLemmas
 mod EndingLemmas
 mod WaitingLemmas

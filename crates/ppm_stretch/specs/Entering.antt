@@ -16,8 +16,6 @@ use Rattle.ppm_stretch.specs.declared.way.Stretch.{Stretch}
 use Rattle.ppm_stretch.specs.declared.way.Halt.{Halt}
 use Rattle.ppm_stretch.specs.declared.way.Halt.TheVariants as halts
 use Rattle.ppm_stretch.specs.declared.way.Turned.{Turned}
-use Rattle.ppm_stretch.specs.declared.way.Way.{Way}
-use Rattle.ppm_stretch.specs.declared.way.Way.TheVariants as ways
 use Rattle.ppm_stretch.specs.declared.way.Turned.TheVariants as turned
 use Rattle.ppm_stretch.specs.declared.way.Begun.{Begun}
 use Rattle.ppm_stretch.specs.declared.way.Begun.TheVariants as begun
@@ -44,13 +42,6 @@ pub record IsToStore (k : Opening) (s : Shape) (seat : Seat) (at word : ℕ) (me
   pub rest : Rest
   pub stands : stands_by k seat.own (deeds_in me.0) ≡ IsRunning seat rest
   pub wants : wanted_rest s seat rest ≡ WantsStore at word
-
--- where a round halts in the capsule with a number, by what came of its instructions
-abbrev pub halt_behind : (number : ℕ) → Way → Halt
-halt_behind number (ways.Made at) = halts.Midway number at
-halt_behind number (ways.Stops next what) = halts.Stopped number next what
-halt_behind number ways.Breaks = halts.Broken
-halt_behind number ways.Refused = halts.Refused true
 
 -- the frame goes on with the other copy of its header
 abbrev pub goes_round : Seat → Home → Restart

@@ -9,7 +9,7 @@ ghost use Rattle.ppm_step.specs.Facts.{IsHome, IsSeat as IsPlace};
 ghost use Rattle.ppm_step.specs.Frames.{Rest, ending};
 ghost use Rattle.ppm_step.specs.declared.ask.Want.TheVariants as wants;
 ghost use Rattle.ppm_step.specs.Standings.{at_finish, enters, running, went_rest, wanted_rest, IsRunning};
-ghost use Rattle.ppm_stretch.specs.Entering.{HasBegun, HasTurned, Circled, WentAlong, halt_behind, StandsBefore, StandsAtHeader, IsToStore};
+ghost use Rattle.ppm_stretch.specs.Entering.{HasBegun, HasTurned, Circled, WentAlong, StandsBefore, StandsAtHeader, IsToStore};
 ghost use Rattle.ppm_ports.specs.Told.{KeepsList};
 ghost use Rattle.ppm_stretch.specs.declared.way.Halt.TheVariants.{Refused, Round};
 ghost use Rattle.ppm_table.specs.Run.{stands_by, deeds_in, IsAtCode, IsAtTable, IsSeat};
@@ -316,42 +316,42 @@ pub(crate) fn round<W: Watch>(
         };
     };
     let made = stretch.made;
-    if let Way::Stops(_, what) = stretch.way {
-        if most - made >= 4 {
-            if let Reached::AtEnd(End::Next { capsule }) = what {
-                return match go_round(words, shape, code, mine, watch, place, home, capsule) {
-                    Turned::Round => Circuit {
-                        made: made + 4,
-                        work: made + 3,
-                        halt: Halt::Round,
-                    },
-                    Turned::Breaks(stored) => Circuit {
-                        made: made + 2 + stored,
-                        work: made + 1 + stored,
-                        halt: Halt::Broken,
-                    },
-                    Turned::Refused => refused(true),
-                };
+    match stretch.way {
+        Way::Refused => refused(true),
+        Way::Breaks => Circuit {
+            made: made + 2,
+            work: made + 1,
+            halt: Halt::Broken,
+        },
+        Way::Made(at) => Circuit {
+            made: made + 2,
+            work: made + 1,
+            halt: Halt::Midway(number, at),
+        },
+        Way::Stops(next, what) => {
+            if most - made >= 4 {
+                if let Reached::AtEnd(End::Next { capsule }) = what {
+                    return match go_round(words, shape, code, mine, watch, place, home, capsule) {
+                        Turned::Round => Circuit {
+                            made: made + 4,
+                            work: made + 3,
+                            halt: Halt::Round,
+                        },
+                        Turned::Breaks(stored) => Circuit {
+                            made: made + 2 + stored,
+                            work: made + 1 + stored,
+                            halt: Halt::Broken,
+                        },
+                        Turned::Refused => refused(true),
+                    };
+                }
+            }
+            Circuit {
+                made: made + 2,
+                work: made + 1,
+                halt: Halt::Stopped(number, next, what),
             }
         }
-    }
-    Circuit {
-        made: made + 2,
-        work: made + 1,
-        halt: halt_behind(number, stretch.way),
-    }
-}
-
-/// Where a round halts in the capsule with this number, by what came of its instructions.
-#[inline(always)]
-fn halt_behind(number: u64, way: Way) -> Halt
-    ensures { result ≡ halt_behind number way }
-{
-    match way {
-        Way::Made(at) => Halt::Midway(number, at),
-        Way::Stops(next, what) => Halt::Stopped(number, next, what),
-        Way::Breaks => Halt::Broken,
-        Way::Refused => Halt::Refused(true),
     }
 }
 
