@@ -4,10 +4,11 @@ use Rattle.std.specs.List.{range_with_len}
 use Rattle.std.proofs.Math.Nat.{mul-le-mul_right}
 use Rattle.std.proofs.lemmas.Bool.{cases_lt, cond-true, cond-false, le-leb, lt-leb, ne_eqb}
 use Rattle.std.proofs.lemmas.List.{append_assoc, get_or_past}
-use Rattle.ppm_cells.specs.declared.entry.Entry.TheVariants.{Taken, Local}
+use Rattle.ppm_cells.specs.declared.entry.Entry.TheVariants.{Empty, Taken, Local}
 use Rattle.ppm_cells.specs.declared.shape.Shape.{Shape}
 use Rattle.ppm_cells.specs.Cells.{place_size, pool_at}
 use Rattle.ppm_cells.specs.Entry.{entry_word}
+use Rattle.ppm_cells.specs.Fields.{number_of}
 use Rattle.ppm_layout.specs.Opening.{first_entry, first_block}
 use Rattle.ppm_layout.specs.Sequence.{entry_words, block_words}
 
@@ -31,6 +32,11 @@ words_first f (word ∷ words) a m h =
     ap (λ n. map f (range_with_len a n)) more
     ∙ ap₂ (λ x xs. x ∷ xs) (ap f first ∙ h 0) (words_first f words (a + 1) m (λ k. ap f (next k) ∙ h (suc k)))
 
+-- an empty entry with tag 0
+empty_is_zero : entry_word (Empty 0) ≡ 0
+unfolding number_of
+empty_is_zero = refl
+
 -- a deque: the entries from 2 on are empty
 entries_are : (slots : ℕ) → 2 ≤ slots → entry_words slots ≡ entry_word (Taken 0 0) ∷ entry_word (Local 0 0) ∷ replicate (slots - 2) 0
 entries_are zero h = absurd (omega (arith, h))
@@ -44,7 +50,7 @@ entries_are (suc (suc n)) h =
     empty k low =
         let not_0 : eqb k 0 ≡ false = ne_eqb k 0 (λ e. omega (arith, low, e)) in
         let not_1 : eqb k 1 ≡ false = ne_eqb k 1 (λ e. omega (arith, low, e)) in
-        rw (not_0, not_1) refl
+        rw (not_0, not_1) empty_is_zero
 
 -- its words, pushed behind others
 pub entries_pushed : (old one two new : List ℕ) (first second slots : ℕ) → one ≡ old ++ first ∷ [] → two ≡ one ++ second ∷ []
