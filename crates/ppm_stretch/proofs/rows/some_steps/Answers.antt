@@ -80,4 +80,4 @@ returns-in-Ending-clause-stops g c = λ refused.
 pub returns-clause-stops : goal.returns-clause-stops
 returns-clause-stops g c = λ refused.
     gives_up_within g.W.Watch.told c.args.words.now.shared.key c.args.local.now.own c.args.mine.now.me _ c.args.watch.now _ 1 c.args.most c.requires.most
-    (c.other_step-x.ensures.stops refused)
+    (c.other_step-2.ensures.stops refused)
