@@ -9,9 +9,11 @@ use Rattle.ppm_step.specs.declared.row.Seat.{Seat}
 use Rattle.ppm_table.specs.declared.view.Opening.{Opening}
 use Rattle.ppm_table.specs.Run.{Mine}
 use Rattle.ppm_words.specs.declared.event.Event.{Event}
+use Rattle.ppm_stretch.specs.declared.way.Halt.{Halt}
+use Rattle.ppm_stretch.specs.declared.way.Halt.TheVariants.{Done, Broken, Midway, Stopped}
 use Rattle.ppm_stretch.specs.declared.way.Way.{Way}
 use Rattle.ppm_stretch.specs.declared.way.Way.TheVariants.{Made, Stops, Breaks, Refused}
-use Rattle.ppm_stretch.specs.Entering.{Circled, halt_behind}
+use Rattle.ppm_stretch.specs.Entering.{Circled, halt_behind, looks_at}
 use Rattle.ppm_stretch.specs.Steady.{Moves, LedTo}
 use Rattle.ppm_stretch.proofs.SteadyLemmas.{moves_then, refuses_then, no_looks}
 
@@ -30,10 +32,17 @@ module _ {W : Type 0} (told : W → Option (List Event)) where
       → LedTo told k s code seat home capsule.instrs registers b c w1 w2 n made way
       → Circled told k s code seat home registers a c w0 w2 most (made + 2) (made + 1) (halt_behind number way)
   circled_along k s code seat home number capsule registers a b c w0 w1 w2 n most made (Made at) is within f led =
-      (begun_then k seat.own a b c w0 w1 w2 made f led.0, (capsule, is, led.1))
+      (omega arith, begun_then k seat.own a b c w0 w1 w2 made f led.0, (capsule, is, led.1))
   circled_along k s code seat home number capsule registers a b c w0 w1 w2 n most made (Stops next what) is within f led =
-      (begun_then k seat.own a b c w0 w1 w2 made f led.0, (capsule, is, led.1))
+      (omega arith, begun_then k seat.own a b c w0 w1 w2 made f led.0, (capsule, is, led.1))
   circled_along k s code seat home number capsule registers a b c w0 w1 w2 n most made Breaks is within f led =
-      (begun_then k seat.own a b c w0 w1 w2 made f led.0, led.1)
+      (omega arith, begun_then k seat.own a b c w0 w1 w2 made f led.0, led.1)
   circled_along k s code seat home number capsule registers a b c w0 w1 w2 n most made Refused is within f led =
       refuses_then told k seat.own a b c w0 w1 w2 2 1 0 true n most within f led
+
+-- at most one look
+pub looks_few : (halt : Halt) → looks_at halt ≤ 1
+looks_few Done = omega arith
+looks_few Broken = omega arith
+looks_few (Midway number at) = omega arith
+looks_few (Stopped number next what) = omega arith

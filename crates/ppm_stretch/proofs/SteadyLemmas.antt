@@ -339,6 +339,10 @@ module _ {W : Type 0} (told : W → Option (List Event)) where
       → steps ≡ record { made = m; work = v; looks = x; exchanged = p; refused = false } → Stops told k own a b w0 w1 most steps
   row_stops k own a b w0 w1 m v x p most steps is = λ refused. let e : true ≡ false = sym refused ∙ ap (λ (s : Steps). s.refused) is in absurd cc
 
+  pub row_few : (m v x : ℕ) (p : Bool) (most : ℕ) (steps : Steps) → steps ≡ record { made = m; work = v; looks = x; exchanged = p; refused = false }
+      → m ≤ most → v ≤ m → x ≤ m → (steps.made ≤ most) × (steps.work ≤ steps.made) × (steps.looks ≤ steps.made)
+  row_few m v x p most steps is few works looks = subst (λ (s : Steps). (s.made ≤ most) × (s.work ≤ s.made) × (s.looks ≤ s.made)) (sym is) (few, works, looks)
+
   -- so a known list keeps what it had in front
   moves_keep : (k : Opening) (own : ℕ) (me me' : Mine) (w w' : W) (m v x : ℕ) (p : Bool) → Moves told k own me me' w w' m v x p → Keeps (told w) (told w')
   moves_keep k own me me' w w' m v x p f = λ list e. (shown k.shape k.code own (stands_by k own (deeds_in me.0)) (deeds_since me me'), f.shows list e)
