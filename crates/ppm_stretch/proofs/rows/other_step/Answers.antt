@@ -1,4 +1,4 @@
-use Rattle.std.proofs.Common.{◌≡◌, ◌∙◌, if◌then◌else◌, not, sym, ap, arith}
+use Rattle.std.proofs.Common.{◌≡◌, ◌∙◌, if◌then◌else◌, not, refl, sym, ap, arith}
 use Rattle.ppm_step.specs.Locals.{standing_of}
 use Rattle.ppm_step.specs.State.{is_done_at}
 use Rattle.ppm_stretch.specs.declared.way.Steps.{Steps}
@@ -7,20 +7,20 @@ use Rattle.ppm_stretch.proofs.RowLemmas.{few_of_one}
 use Rattle.ppm_stretch.proofs.rows.other_step.Goals as goal
 
 pub one-step-requires-clause-lives : goal.one-step-requires-clause-lives
-one-step-requires-clause-lives g c κs within = (c.if-is_choosing.ensures.free c.if-is_choosing.false c.args.shape.now c.args.code.now).lives
+one-step-requires-clause-lives g c κs within = (c.if-is_choosing.ensures.free refl c.args.shape.now c.args.code.now).lives
 
 pub one-step-requires-clause-due : goal.one-step-requires-clause-due
-one-step-requires-clause-due g c κs within = (c.if-is_choosing.ensures.free c.if-is_choosing.false c.args.shape.now c.args.code.now).due
+one-step-requires-clause-due g c κs within = (c.if-is_choosing.ensures.free refl c.args.shape.now c.args.code.now).due
 
 pub one-step-requires-clause-seeks : goal.one-step-requires-clause-seeks
-one-step-requires-clause-seeks g c κs within = (c.if-is_choosing.ensures.free c.if-is_choosing.false c.args.shape.now c.args.code.now).seeks
+one-step-requires-clause-seeks g c κs within = (c.if-is_choosing.ensures.free refl c.args.shape.now c.args.code.now).seeks
 
 pub returns-then-is_choosing-clause-makes : goal.returns-then-is_choosing-clause-makes
 returns-then-is_choosing-clause-makes g c = λ fine.
     moves_none g.W.Watch.told c.args.words.now.shared.key c.args.local.now.own c.args.mine.now.me c.args.watch.now c.requires.sits
 
 pub returns-then-is_choosing-clause-on : goal.returns-then-is_choosing-clause-on
-returns-then-is_choosing-clause-on g c = λ fine none. c.if-is_choosing.ensures.choosing c.if-is_choosing.true c.args.shape.now c.args.code.now
+returns-then-is_choosing-clause-on g c = λ fine none. c.if-is_choosing.ensures.choosing refl c.args.shape.now c.args.code.now
 
 pub returns-then-step-clause-few : goal.returns-then-step-clause-few
 returns-then-step-clause-few g c = few_of_one c.row_of_one.result c.is_work-works.result c.one-step.result.exchanged c.row_of_one.ensures

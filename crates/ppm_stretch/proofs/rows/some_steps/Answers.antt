@@ -1,4 +1,4 @@
-use Rattle.std.proofs.Common.{ℕ, ◌≤◌, ◌<◌, sym, subst, arith}
+use Rattle.std.proofs.Common.{ℕ, ◌≤◌, ◌<◌, refl, sym, subst, arith}
 use Rattle.ppm_stretch.specs.Rows.{GivesUp}
 use Rattle.ppm_stretch.specs.Steady.{Moves}
 use Rattle.ppm_stretch.proofs.SteadyLemmas.{moves_behind, gives_up_behind}
@@ -6,7 +6,7 @@ use Rattle.ppm_stretch.proofs.rows.some_steps.Goals as goal
 
 pub returns-then-is_any-clause-on : goal.returns-then-is_any-clause-on
 returns-then-is_any-clause-on g c = λ fine none.
-    let some = c.if-is_any.ensures.some c.if-is_any.true fine in
+    let some = c.if-is_any.ensures.some refl fine in
     absurd (omega (arith, some, none))
 
 pub returns-clause-makes : goal.returns-clause-makes
@@ -15,7 +15,7 @@ returns-clause-makes g c = λ fine.
     let own = c.args.local.now.own in
     let first = c.frame_steps-framed in
     let other = c.other_step in
-    let none = c.if-is_any.ensures.none c.if-is_any.false in
+    let none = c.if-is_any.ensures.none refl in
     moves_behind g.W.Watch.told k own c.args.mine.now.me first.new.mine.me other.new.mine.me c.args.watch.now first.new.watch other.new.watch
     first.result.made other.result.made first.result.work other.result.work first.result.looks other.result.looks first.result.exchanged other.result.exchanged
     (omega (arith, none.1)) first.ensures.few.1 first.ensures.few.2 (first.ensures.makes none.0)
@@ -28,7 +28,7 @@ returns-clause-stops g c = λ refused.
     let own = c.args.local.now.own in
     let first = c.frame_steps-framed in
     let other = c.other_step in
-    let none = c.if-is_any.ensures.none c.if-is_any.false in
+    let none = c.if-is_any.ensures.none refl in
     gives_up_behind g.W.Watch.told k own c.args.mine.now.me first.new.mine.me other.new.mine.me c.args.watch.now first.new.watch other.new.watch
     first.result.made first.result.work first.result.looks first.result.exchanged 1 c.args.most (omega (arith, none.1, c.requires.most)) (first.ensures.makes none.0)
     (subst (λ (n : ℕ). GivesUp g.W.Watch.told k n first.new.mine.me other.new.mine.me first.new.watch other.new.watch 1) first.ensures.own_stays (other.ensures.stops refused))
