@@ -24,6 +24,11 @@ pub mod ReplayLemmas
 pub mod OneReplay
 pub mod OfReplay
 pub mod WatchLemmas
+pub mod ArrayLemmas
+pub mod TakenLemmas
+pub mod ScheduledLemmas
+pub mod MeantLemmas
+pub mod MeantRows
 pub mod RunLemmas
 pub mod OneRun
 pub mod OfRun

@@ -75,13 +75,17 @@ module _ (sizes : Sizes) where
       }
 
   module _ (code : CodeParts) (arrays : List NamedArray) (keeper : ℕ) where
-    -- its arrays are as long as those that the text gives, and it has as many processors as the sizes say, and no turn behind it
+    -- its arrays are as long as those that the text gives, and it has as many processors and as much room as the sizes say, and
+    -- no turn behind it
     pub opens_lengths : (m : Situation) → Opens sizes code arrays keeper m
         → m.array_lengths ≡ map (λ (a : NamedArray). length a.values) arrays
     opens_lengths m b = ap (λ (x : Situation). x.array_lengths) b.loads ∙ b.opens.lengths_are
 
     pub opens_processors : (m : Situation) → Opens sizes code arrays keeper m → m.shape.processors ≡ sizes.processors
     opens_processors m b = ap (λ (x : Situation). x.shape.processors) b.loads ∙ b.sized.processors
+
+    pub opens_room : (m : Situation) → Opens sizes code arrays keeper m → m.shape.room ≡ sizes.room
+    opens_room m b = ap (λ (x : Situation). x.shape.room) b.loads ∙ b.sized.room
 
     pub opens_turns : (m : Situation) → Opens sizes code arrays keeper m → m.turns ≡ 0
     opens_turns m b = ap (λ (x : Situation). x.turns) b.loads

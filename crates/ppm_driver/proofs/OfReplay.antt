@@ -16,13 +16,15 @@ use Rattle.ppm_answers.specs.Statuses.{status_of}
 use Rattle.ppm_answers.proofs.RowsLemmas as rows_lemmas
 use Rattle.ppm_cli.specs.declared.replay.ReplayOptions.{ReplayOptions}
 use Rattle.ppm_driver.specs.MachineRows.{RefusesPlan}
+use Rattle.ppm_driver.specs.Meant.{RunsAreAsPrograms}
 use Rattle.ppm_driver.specs.Planned.{IsRefusedBy, HasByItems}
 use Rattle.ppm_driver.specs.Replays.{TextHas, ReplayMay, HaveOneAnswer}
 use Rattle.ppm_driver.specs.ReplayRows.{HasRead, WritesUnfinished, ReplaySays, ReplayRows}
+use Rattle.ppm_driver.proofs.MeantRows.{replay_ends, replay_traps, replay_needs, replay_once}
 use Rattle.ppm_driver.proofs.PlannedLemmas as planned
 use Rattle.ppm_driver.proofs.ReplayLemmas.{of_program, filled_has}
 
-module _ (options : ReplayOptions) (schedule : List ℕ) (o : Ports) where
+module _ (law : RunsAreAsPrograms) (options : ReplayOptions) (schedule : List ℕ) (o : Ports) where
   abbrev Read : Port → Answer → Type 0
   Read source answer = ReadOrRefused (IsRefusedBy schedule_form schedule options.processors)
       (HasByItems schedule_form schedule options.processors (TextHas options)) text_limit source answer
@@ -37,14 +39,35 @@ module _ (options : ReplayOptions) (schedule : List ℕ) (o : Ports) where
   unfinished n e h w =
       subst (λ m. HasRead options schedule o (answers.Unfinished m)
       → IsWritten o.out o.err (answers.Unfinished m) (status_of (answers.Unfinished m)) → WritesUnfinished options schedule o) (sym e)
-      (λ read written. (read, written.err_takes.0)) h w
+      (λ read written. record {
+        read = read;
+        once = λ places.
+            replay_once law read.0 read.2.has.0 read.2.has.1 options places schedule read.2.items read.2.accepted (answers.Unfinished options.turns)
+            read.2.has.2;
+        gets = written.err_takes.0;
+      }) h w
 
   -- an answer that is written says the sentence of its status
   by : (answer : Answer) → Read o.source answer → IsWritten o.out o.err answer (status_of answer) → ReplaySays options schedule o (status_of answer)
   by (answers.PlanRefused number) h w = (record { number = number; refused = h.0; gets = w.err_takes.0 }, h.1)
   by (answers.SourceRefused r) h w = (r, h, w.err_takes.0)
-  by (answers.EndedWith arrays tally) h w = (arrays, tally, h, w.out_takes.0)
-  by (answers.TrappedWith t line tally) h w = (t, line, tally, h, w.out_takes.0)
+  by (answers.EndedWith arrays tally) h w = record {
+    arrays = arrays;
+    tally = tally;
+    read = h;
+    meant = λ places.
+        replay_ends law h.0 h.2.has.0 h.2.has.1 options places schedule h.2.items h.2.accepted arrays tally h.2.has.2;
+    gets = w.out_takes.0;
+  }
+  by (answers.TrappedWith t line tally) h w = record {
+    trap = t;
+    line = line;
+    tally = tally;
+    read = h;
+    meant = λ places.
+        replay_traps law h.0 h.2.has.0 h.2.has.1 options places schedule h.2.items h.2.accepted t line tally h.2.has.2;
+    gets = w.out_takes.0;
+  }
   by (answers.Unfinished n) h w = unfinished n (of_program options h.2.items h.2.has.0 (answers.Unfinished n) h.2.has.2) h w
   by (answers.OutOfRoom place) h w = record {
     place = place;
@@ -53,6 +76,9 @@ module _ (options : ReplayOptions) (schedule : List ℕ) (o : Ports) where
       of_program options h.2.items h.2.has.0 (answers.OutOfRoom place) h.2.has.2,
       filled_has options h.2.items h.2.has.0 place h.2.has.2,
     );
+    needs = λ places. replay_needs law h.0 h.2.has.0 h.2.has.1 options places schedule h.2.items h.2.accepted place h.2.has.2;
+    once = λ places.
+        replay_once law h.0 h.2.has.0 h.2.has.1 options places schedule h.2.items h.2.accepted (answers.OutOfRoom place) h.2.has.2;
     gets = w.err_takes.0;
   }
   by (answers.Broken place) h w = (place, of_program options h.2.items h.2.has.0 (answers.Broken place) h.2.has.2, h, w.err_takes.0)
@@ -71,14 +97,14 @@ module _ (options : ReplayOptions) (schedule : List ℕ) (o : Ports) where
     planned_rows : PlansHaveOneAnswer → HaveOneAnswer
         → PlannedRows (IsRefusedBy schedule_form schedule options.processors) (HasByItems schedule_form schedule options.processors (TextHas options))
         text_limit (ReplaySays options schedule o) o status
-    planned_rows plans law =
+    planned_rows plans one =
         planned.planned_rows schedule_form schedule options.processors (TextHas options) text_limit o status a plans.schedules
-        (law.front options schedule) (ReplaySays options schedule o) of_ports by
+        (one.front options schedule) (ReplaySays options schedule o) of_ports by
 
     pub replay_rows : PlansHaveOneAnswer → HaveOneAnswer → ReplayRows options schedule o status
-    replay_rows plans law = record {
-      rows = planned_rows plans law;
+    replay_rows plans one = record {
+      rows = planned_rows plans one;
       shown = λ all e well answer h.
-          let k = (planned_rows plans law).rows.known all e well in
-          subst (λ (x : Answer). IsWritten o.out o.err x status) (law.one options schedule all k.0 answer k.1 h) k.2;
+          let k = (planned_rows plans one).rows.known all e well in
+          subst (λ (x : Answer). IsWritten o.out o.err x status) (one.one options schedule all k.0 answer k.1 h) k.2;
     }

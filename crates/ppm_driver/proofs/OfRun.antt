@@ -17,13 +17,15 @@ use Rattle.ppm_answers.proofs.RowsLemmas.{SaysOfPorts}
 use Rattle.ppm_answers.proofs.RowsLemmas as rows_lemmas
 use Rattle.ppm_cli.specs.declared.run.RunOptions.{RunOptions}
 use Rattle.ppm_driver.specs.MachineRows.{RefusesPlan}
+use Rattle.ppm_driver.specs.Meant.{RunsAreAsPrograms}
 use Rattle.ppm_driver.specs.Planned.{IsRefusedBy, HasByItems}
 use Rattle.ppm_driver.specs.Runs.{RunHas, RunMay, AnswersAreOne, FrontsDecideAnswers}
 use Rattle.ppm_driver.specs.RunRows.{Has, RunSays, RunRows}
+use Rattle.ppm_driver.proofs.MeantRows.{run_ends, run_traps, run_needs, run_once}
 use Rattle.ppm_driver.proofs.PlannedLemmas as planned
 use Rattle.ppm_driver.proofs.RunLemmas.{of_program, spent_has, filled_has, run_forgets}
 
-module _ (options : RunOptions) (watching : ℕ) (plan : List ℕ) (o : Outside) where
+module _ (law : RunsAreAsPrograms) (options : RunOptions) (watching : ℕ) (plan : List ℕ) (o : Outside) where
   abbrev Read : Port → Answer → Type 0
   Read source answer = ReadOrRefused (IsRefusedBy plan_form plan options.processors)
       (HasByItems plan_form plan options.processors (Has options watching plan o)) text_limit source answer
@@ -36,12 +38,27 @@ module _ (options : RunOptions) (watching : ℕ) (plan : List ℕ) (o : Outside)
   by : (answer : Answer) → Read o.source answer → IsWritten o.out o.err answer (status_of answer) → RunSays options watching plan o (status_of answer)
   by (answers.PlanRefused number) h w = (record { number = number; refused = h.0; gets = w.err_takes.0 }, h.1)
   by (answers.SourceRefused r) h w = (r, h, w.err_takes.0)
-  by (answers.Ended arrays) h w = (arrays, h, w.out_takes.0)
-  by (answers.Trapped t line) h w = (t, line, h, w.out_takes.0)
+  by (answers.Ended arrays) h w = record {
+    arrays = arrays;
+    read = h;
+    meant = λ places.
+        run_ends law h.0 h.2.has.0 h.2.has.1 options places watching o.told_before o.told_now h.2.items arrays h.2.has.2;
+    gets = w.out_takes.0;
+  }
+  by (answers.Trapped t line) h w = record {
+    trap = t;
+    line = line;
+    read = h;
+    meant = λ places.
+        run_traps law h.0 h.2.has.0 h.2.has.1 options places watching o.told_before o.told_now h.2.items t line h.2.has.2;
+    gets = w.out_takes.0;
+  }
   by (answers.OutOfTurns processor) h w = record {
     processor = processor;
     read = h;
     spent = spent_has options watching o.told_before o.told_now h.2.items h.2.has.0 processor h.2.has.2;
+    once = λ places.
+        run_once law h.0 h.2.has.0 h.2.has.1 options places watching o.told_before o.told_now h.2.items (answers.OutOfTurns processor) h.2.has.2;
     gets = w.err_takes.0;
   }
   by (answers.OutOfRoom place) h w = record {
@@ -51,6 +68,9 @@ module _ (options : RunOptions) (watching : ℕ) (plan : List ℕ) (o : Outside)
       of_program options watching o.told_before o.told_now h.2.items h.2.has.0 (answers.OutOfRoom place) h.2.has.2,
       filled_has options watching o.told_before o.told_now h.2.items h.2.has.0 place h.2.has.2,
     );
+    needs = λ places. run_needs law h.0 h.2.has.0 h.2.has.1 options places watching o.told_before o.told_now h.2.items place h.2.has.2;
+    once = λ places.
+        run_once law h.0 h.2.has.0 h.2.has.1 options places watching o.told_before o.told_now h.2.items (answers.OutOfRoom place) h.2.has.2;
     gets = w.err_takes.0;
   }
   by (answers.Broken place) h w =

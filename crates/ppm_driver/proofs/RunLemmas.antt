@@ -39,10 +39,10 @@ use Rattle.ppm_driver.specs.Says.{IsTheOne, IsOfFinish, IsOfEnding}
 use Rattle.ppm_table.specs.Closed.{Closing}
 use Rattle.ppm_table.specs.Shown.{opening_of}
 use Rattle.ppm_table.specs.declared.processor.Shared.{Shared}
-use Rattle.ppm_threads.specs.Driven.{Driven}
+use Rattle.ppm_threads.specs.Driven.{Driven, OthersStay}
 use Rattle.ppm_driver.specs.Runs.{plan_of, limits_of, sizes_of, IsSaid, ProgramHas, RunTells, TextHas, RunHas}
 use Rattle.ppm_driver.specs.Planned.{PlannedHas, HasByItems}
-use Rattle.ppm_driver.specs.Watchers.{AreTold}
+use Rattle.ppm_driver.specs.Watchers.{AreTold, OthersKeep}
 use Rattle.ppm_driver.proofs.EndLemmas.{unset_opened, has_finished}
 use Rattle.ppm_driver.proofs.LoadingLemmas.{opens_processors}
 use Rattle.ppm_driver.proofs.ProgramLemmas.{AreKinds}
@@ -294,6 +294,13 @@ module _ (options : RunOptions) (items : List PlanItem) (t : ProgramTree) (befor
         };
       }
 
+-- a table has as many processors as the options say
+pub table_processors : (options : RunOptions) (t : ProgramTree) (sizes : Sizes) (keeper : ℕ) (shared : Shared) → sizes ≡ sizes_of options
+    → Opens sizes (code_of t) (initial_arrays t) keeper (opened_by shared) → shared.shape.processors ≡ options.processors
+table_processors options t sizes keeper shared are opens =
+    ap (λ (s : Shape). s.processors) (sym shared.told.0)
+    ∙ opens_processors sizes (code_of t) (initial_arrays t) keeper (opened_by shared) opens ∙ ap (λ (z : Sizes). z.processors) are
+
 -- what is said behind the run of a table, and told of it
 module _ {W : Type 0} (told : W → Option (List Event)) (options : RunOptions) (plan : Planned) (t : ProgramTree) where
   abbrev Told : Planned → Limits → Situation → List Turn → List W → List W → Type 0
@@ -305,10 +312,10 @@ module _ {W : Type 0} (told : W → Option (List Event)) (options : RunOptions) 
       → Opens sizes (code_of t) (initial_arrays t) keeper (opened_by shared) → IsCode (code_of t)
       → length new ≡ length old → options.processors ≤ length old
       → closed.shape ≡ (opening_of shared).shape → closed.array_lengths ≡ shared.lengths
-      → Driven told plan limits (opening_of shared) closed.words old new → arrays ≡ initial_arrays t
+      → OthersStay (opening_of shared).shape.processors old new → Driven told plan limits (opening_of shared) closed.words old new → arrays ≡ initial_arrays t
       → IsTheOne (IsSaid closed.shape closed.array_lengths arrays closed.words) a
       → ProgramHas options options.processors (map told old) (map told new) plan.items t a
-  program_has sizes limits keeper shared closed old new w arrays a sizes_are limits_are same spared opens is many enough shape lengths d arrays_are only =
+  program_has sizes limits keeper shared closed old new w arrays a sizes_are limits_are same spared opens is many enough shape lengths others d arrays_are only =
       let k = opening_of shared in
       let m = opened_by shared in
       let begins = subst (λ (z : Sizes). Opens z (code_of t) (initial_arrays t) keeper m) sizes_are opens in
@@ -317,7 +324,7 @@ module _ {W : Type 0} (told : W → Option (List Event)) (options : RunOptions) 
       let obey = subst (λ (p : Planned). ObeyAll p (limits_of options) m.shape m.code m.state d.turns) (same_plan options plan same)
       (subst (λ (l : Limits). ObeyAll plan l m.shape m.code m.state d.turns) limits_are d.obey) in
       let are = are_told told plan limits k closed.words shared.lengths options.processors old new w many
-      (omega (arith, enough, count)) (sym count) d in
+      (omega (arith, enough, count)) (sym count) others d in
       let lists = subst (λ (p : Planned). Told p (limits_of options) m d.turns old new) (same_plan options plan same)
       (subst (λ (l : Limits). Told plan l m d.turns old new) limits_are are) in
       let said = subst (λ (l : List NamedArray). IsTheOne (IsSaid m.shape m.array_lengths l (words_behind m d.turns)) a) arrays_are
@@ -327,10 +334,11 @@ module _ {W : Type 0} (told : W → Option (List Event)) (options : RunOptions) 
       has_run options plan.items t (map told old) (map told new) keeper m d.turns spared begins is obey lists a said
 
 -- an answer of a run is one of which watchers were told what its causes say
-pub run_tells : (processors : ℕ) (a : Answer) (before now : ToldLists) → IsOfProgram processors a → RunTells a before now
-run_tells processors (answers.Ended arrays) before now h = tt
-run_tells processors (answers.Trapped t line) before now h = tt
-run_tells processors (answers.OutOfTurns processor) before now h = tt
-run_tells processors (answers.OutOfRoom place) before now h = tt
-run_tells processors (answers.Broken place) before now h = tt
-run_tells processors a before now h = absurd h
+pub run_tells : (processors : ℕ) (a : Answer) (before now : ToldLists) → IsOfProgram processors a → OthersKeep processors before now
+    → RunTells processors a before now
+run_tells processors (answers.Ended arrays) before now h others = (tt, others)
+run_tells processors (answers.Trapped t line) before now h others = (tt, others)
+run_tells processors (answers.OutOfTurns processor) before now h others = (tt, others)
+run_tells processors (answers.OutOfRoom place) before now h others = (tt, others)
+run_tells processors (answers.Broken place) before now h others = (tt, others)
+run_tells processors a before now h others = absurd h

@@ -1,5 +1,5 @@
 -- The answer that a finish word says.
-use Rattle.std.proofs.Common.{◌≡◌, ◌≢◌, ℕ, zero, suc, List, Some, refl, sym, ap, ◌∙◌, subst}
+use Rattle.std.proofs.Common.{◌≡◌, ◌≢◌, ℕ, zero, suc, List, Option, Some, None, refl, sym, ap, ◌∙◌, subst}
 use Rattle.ppm_words.specs.declared.named_array.NamedArray.{NamedArray}
 use Rattle.ppm_words.specs.declared.trap.Trap.{Trap}
 use Rattle.ppm_cells.specs.Fields.{number_of}
@@ -92,3 +92,13 @@ module _ (ended : List NamedArray → Answer) (trapped : Trap → ℕ → Answer
   -- and the answer of a word that stands for it is its answer
   pub of_proposed : (processors word : ℕ) (w : IsProposedWord processors word) (a : Answer) → By (ending_of word) a → Of w.finish a
   of_proposed processors word w a = subst (λ (e : Ending). By e a) (proposed_ending processors word w)
+
+  -- what a word says, if it isn't that the run has no end, is of its finish
+  pub said_of_word : (word : ℕ) (a : Answer) → ¬ not_ended a → By (ending_of word) a
+      → (finish : Finish) × (finish_of word ≡ Some finish) × Of finish a
+  said_of_word zero a ends h = absurd (ends h)
+  said_of_word (suc word) a ends h = go (finish_of (suc word)) refl h
+    where
+      go : (o : Option Finish) → finish_of (suc word) ≡ o → By (ending_by o) a → (finish : Finish) × (finish_of (suc word) ≡ Some finish) × Of finish a
+      go None e k = absurd k
+      go (Some finish) e k = (finish, e, k)

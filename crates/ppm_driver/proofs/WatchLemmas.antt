@@ -11,11 +11,12 @@ use Rattle.ppm_choice.specs.Tells.{told_in}
 use Rattle.ppm_table.specs.declared.view.Opening.{Opening}
 use Rattle.ppm_table.specs.Run.{start}
 use Rattle.ppm_table.specs.Telling.{Keeps}
-use Rattle.ppm_threads.specs.Driven.{AllKeep, Driven}
+use Rattle.ppm_threads.specs.Driven.{AllKeep, OthersStay, Driven}
 use Rattle.ppm_answers.specs.declared.answer.Answer.{Answer}
 use Rattle.ppm_answers.specs.declared.answer.Answer.TheVariants as answers
+use Rattle.ppm_answers.specs.Reading.{TellsOfRun}
 use Rattle.ppm_driver.specs.Runs.{RunTells}
-use Rattle.ppm_driver.specs.Watchers.{AreTold}
+use Rattle.ppm_driver.specs.Watchers.{AreTold, OthersKeep}
 
 -- a list stays as it is
 pub stays : (l : Option (List Event)) → KeepsList l l
@@ -32,25 +33,31 @@ fronts_stay [] = tt
 fronts_stay (l ∷ ls) = (front_stays l, fronts_stay ls)
 
 -- where nobody was told anything, that belongs to each answer
-pub untold : (a : Answer) (lists : ToldLists) → RunTells a lists lists
-untold answers.NoMemory lists = fronts_stay lists
-untold answers.ReadFault lists = refl
-untold answers.WordsRefused lists = refl
-untold (answers.PlanRefused number) lists = refl
-untold (answers.SourceRefused r) lists = refl
-untold (answers.ListingRefused r) lists = refl
-untold (answers.Conflicting c) lists = refl
-untold (answers.Ended arrays) lists = tt
-untold (answers.Trapped t line) lists = tt
-untold (answers.EndedWith arrays tally) lists = tt
-untold (answers.TrappedWith t line tally) lists = tt
-untold (answers.Unfinished acts) lists = tt
-untold (answers.NotWithin turns) lists = tt
-untold (answers.OutOfTurns processor) lists = tt
-untold (answers.OutOfRoom place) lists = tt
-untold (answers.Broken place) lists = tt
-untold (answers.Listed listing) lists = tt
-untold answers.Accepted lists = tt
+told_none : (a : Answer) (lists : ToldLists) → TellsOfRun (λ answer before now. ⊤) a lists lists
+told_none answers.NoMemory lists = fronts_stay lists
+told_none answers.ReadFault lists = refl
+told_none answers.WordsRefused lists = refl
+told_none (answers.PlanRefused number) lists = refl
+told_none (answers.SourceRefused r) lists = refl
+told_none (answers.ListingRefused r) lists = refl
+told_none (answers.Conflicting c) lists = refl
+told_none (answers.Ended arrays) lists = tt
+told_none (answers.Trapped t line) lists = tt
+told_none (answers.EndedWith arrays tally) lists = tt
+told_none (answers.TrappedWith t line tally) lists = tt
+told_none (answers.Unfinished acts) lists = tt
+told_none (answers.NotWithin turns) lists = tt
+told_none (answers.OutOfTurns processor) lists = tt
+told_none (answers.OutOfRoom place) lists = tt
+told_none (answers.Broken place) lists = tt
+told_none (answers.Listed listing) lists = tt
+told_none answers.Accepted lists = tt
+
+pub others_still : (watching : ℕ) (lists : ToldLists) → OthersKeep watching lists lists
+others_still watching lists c least = stays (get_or lists c None)
+
+pub untold : (watching : ℕ) (a : Answer) (lists : ToldLists) → RunTells watching a lists lists
+untold watching a lists = (told_none a lists, others_still watching lists)
 
 -- the first watcher of some
 pub first_of : {W : Type 0} (ws : List W) → 0 < length ws → W
@@ -83,6 +90,20 @@ module _ {W : Type 0} (told : W → Option (List Event)) where
   keep_fronts (w ∷ ws) (v ∷ vs) e k =
       (known_front (told w) (told v) (k 0 w), keep_fronts ws vs (omega (arith, e)) (λ j d. k (suc j) d))
 
+  -- the watchers that stay are told nothing
+  pub others_keep : (count : ℕ) (old new : List W) (w : W) → length new ≡ length old → OthersStay count old new → OthersKeep count (map told old) (map told new)
+  others_keep count old new w same others c least = by (nat_lt c (length old)) refl
+    where
+      by : (less : Bool) → nat_lt c (length old) ≡ less → KeepsList (get_or (map told old) c None) (get_or (map told new) c None)
+      by true e =
+          let less = ltb-true c (length old) e in
+          subst (λ (l : Option (List Event)). KeepsList (get_or (map told old) c None) l)
+          (list_at old c w less ∙ ap told (sym (others c w least)) ∙ sym (list_at new c w (omega (arith, less, same))))
+          (stays (get_or (map told old) c None))
+      by false e =
+          let far = ltb-false c (length old) e in
+          subst (λ (l : Option (List Event)). KeepsList l (get_or (map told new) c None)) (sym (none_at old c far)) tt
+
   module _ (plan : Planned) (limits : Limits) (k : Opening) (words lengths : List ℕ) (watching : ℕ) where
     -- a list is told what is told of its processor, and those of no processor stay
     appends : (old new : List W) (w : W) (d : Driven told plan limits k words old new) (c : ℕ) → c < k.shape.processors
@@ -94,29 +115,13 @@ module _ {W : Type 0} (told : W → Option (List Event)) where
         (subst (λ (l : Option (List Event)). AppendsList (told (slice_index_or old c w)) l
         (told_in plan limits c k.shape k.code (start k) d.turns)) (sym (list_at new c w below)) (d.told_are c w there))
 
-    same_list : (old new : List W) (w : W) (d : Driven told plan limits k words old new) (c : ℕ) → k.shape.processors ≤ c
-        → c < length old → c < length new → KeepsList (get_or (map told old) c None) (get_or (map told new) c None)
-    same_list old new w d c least less below =
-        subst (λ (l : Option (List Event)). KeepsList (get_or (map told old) c None) l)
-        (list_at old c w less ∙ ap told (sym (d.others c w least)) ∙ sym (list_at new c w below)) (stays (get_or (map told old) c None))
-
-    far_list : (old new : List W) (c : ℕ) → length old ≤ c → KeepsList (get_or (map told old) c None) (get_or (map told new) c None)
-    far_list old new c far = subst (λ (l : Option (List Event)). KeepsList l (get_or (map told new) c None)) (sym (none_at old c far)) tt
-
-    kept_list : (old new : List W) (w : W) (d : Driven told plan limits k words old new) (c : ℕ) → k.shape.processors ≤ c
-        → length new ≡ length old → (less : Bool) → nat_lt c (length old) ≡ less
-        → KeepsList (get_or (map told old) c None) (get_or (map told new) c None)
-    kept_list old new w d c least same true e =
-        let less = ltb-true c (length old) e in same_list old new w d c least less (omega (arith, less, same))
-    kept_list old new w d c least same false e = far_list old new c (ltb-false c (length old) e)
-
     -- so the watchers were told what belongs to these turns
     pub are_told : (old new : List W) (w : W) → length new ≡ length old → k.shape.processors ≤ length old → watching ≡ k.shape.processors
-        → (d : Driven told plan limits k words old new)
+        → OthersStay k.shape.processors old new → (d : Driven told plan limits k words old new)
         → AreTold watching plan limits (map told old) (map told new) (loaded k.shape k.code lengths k.words) d.turns
-    are_told old new w same enough all d = record {
+    are_told old new w same enough all others d = record {
       records = λ c less.
           let there : c < k.shape.processors = omega (arith, less, all) in
           appends old new w d c there (omega (arith, there, enough)) (omega (arith, there, enough, same));
-      others = λ c least. kept_list old new w d c (omega (arith, least, all)) same (nat_lt c (length old)) refl;
+      others = subst (λ (n : ℕ). OthersKeep n (map told old) (map told new)) (sym all) (others_keep k.shape.processors old new w same others);
     }

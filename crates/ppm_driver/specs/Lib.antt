@@ -7,6 +7,7 @@ pub mod Programs
 pub mod MachineRows
 pub mod Watchers
 pub mod RunOf
+pub mod Meant
 pub mod Runs
 pub mod RunRows
 pub mod Replays

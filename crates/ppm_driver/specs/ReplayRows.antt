@@ -1,7 +1,9 @@
 -- What follows from each status of `replay`.
 use Rattle.std.specs.Prelude.{◌≡◌, ℕ, ◌<◌, List, ◌++◌}
 use Rattle.ppm_words.specs.declared.named_array.NamedArray.{NamedArray}
+use Rattle.ppm_words.specs.declared.outcome.Outcome.TheVariants as outcome
 use Rattle.ppm_words.specs.declared.trap.Trap.{Trap}
+use Rattle.ppm_cells.specs.declared.shape.Takeover.TheVariants.{ByPlaces}
 use Rattle.ppm_ports.specs.Ports.{Gets}
 use Rattle.ppm_ports.specs.Outside.{Ports}
 use Rattle.ppm_text.specs.Limits.{text_limit}
@@ -16,8 +18,12 @@ use Rattle.ppm_answers.specs.Reading.{IsUnread}
 use Rattle.ppm_answers.specs.Rows.{PortsSay, PlannedRows, IsShown, IsDone}
 use Rattle.ppm_cli.specs.declared.replay.ReplayOptions.{ReplayOptions}
 use Rattle.ppm_step.specs.Laws.{IsFilledBehind}
+use Rattle.ppm_step.specs.declared.turn.Turn.{Turn}
 use Rattle.ppm_choice.specs.Schedules.{schedule_turns}
 use Rattle.ppm_driver.specs.MachineRows as machine
+use Rattle.ppm_core.specs.Situation.{Situation}
+use Rattle.ppm_plan.specs.declared.schedule_item.ScheduleItem.{ScheduleItem}
+use Rattle.ppm_driver.specs.Meant.{NeedsMoreRoom, NoneIsTakenTwice, EndsAsProgram}
 use Rattle.ppm_driver.specs.Planned.{IsRefusedBy, HasByItems}
 use Rattle.ppm_driver.specs.Replays.{ReplayHas, ReplayMay, TextHas}
 
@@ -26,19 +32,50 @@ module _ (options : ReplayOptions) (schedule : List ℕ) (o : Ports) where
   abbrev pub HasRead : Answer → Type 0
   HasRead answer = machine.HasRead schedule_form schedule options.processors (TextHas options) o answer
 
-  -- the replay ends with arrays, and out got exactly their text, and the tally's
-  abbrev pub WritesArrays : Type 0
-  WritesArrays = (arrays : List NamedArray) × (tally : Tally) × HasRead (answers.EndedWith arrays tally)
-      × Gets o.out (arrays_text arrays ++ tally_text tally)
+  -- the turns that a schedule says, from this machine
+  abbrev pub turns_by : Situation → List ScheduleItem → List Turn
+  turns_by m items = schedule_turns m.shape m.code m.state items options.turns
 
-  -- the replay ends in a trap, and out got exactly its text, and the tally's
-  abbrev pub WritesTrap : Type 0
-  WritesTrap = (t : Trap) × (line : ℕ) × (tally : Tally) × HasRead (answers.TrappedWith t line tally)
-      × Gets o.out (trap_text t line ++ tally_text tally)
+  -- With takeover by places the replay of the text that was read ends as its program does, with these arrays, or in this trap; and the tally
+  -- counts as many takes as forks.
+  abbrev pub IsMeant : (arrays : List NamedArray) (tally : Tally) → HasRead (answers.EndedWith arrays tally) → Type 0
+  IsMeant arrays tally read =
+      let p = read.2.has in options.takeover ≡ ByPlaces
+      → EndsAsProgram p.2.start (turns_by p.2.start read.2.items) p.0 (outcome.Ended arrays)
+      × (tally.forks ≡ tally.takes)
+
+  abbrev pub IsMeantTrap : (t : Trap) (line : ℕ) (tally : Tally) → HasRead (answers.TrappedWith t line tally) → Type 0
+  IsMeantTrap t line tally read =
+      let p = read.2.has in options.takeover ≡ ByPlaces
+      → EndsAsProgram p.2.start (turns_by p.2.start read.2.items) p.0 (outcome.Trapped t line)
+      × (tally.forks ≡ tally.takes)
+
+  -- the replay ends with arrays, those with which the program ends serially, and out got exactly their text, and the tally's
+  pub record WritesArrays : Type 0 where
+    pub arrays : List NamedArray
+    pub tally : Tally
+    pub read : HasRead (answers.EndedWith arrays tally)
+    pub meant : IsMeant arrays tally read
+    pub gets : Gets o.out (arrays_text arrays ++ tally_text tally)
+
+  -- the replay ends in a trap, in which the program ends serially, and out got exactly its text, and the tally's
+  pub record WritesTrap : Type 0 where
+    pub trap : Trap
+    pub line : ℕ
+    pub tally : Tally
+    pub read : HasRead (answers.TrappedWith trap line tally)
+    pub meant : IsMeantTrap trap line tally read
+    pub gets : Gets o.out (trap_text trap line ++ tally_text tally)
+
+  -- with takeover by places no right branch was forked or taken twice in the turns of a schedule
+  abbrev pub IsOnce : Situation → List ScheduleItem → Type 0
+  IsOnce m items = options.takeover ≡ ByPlaces → NoneIsTakenTwice m (turns_by m items)
 
   -- the replay has not ended after exactly as many acts as may be made, and err got exactly the line that says so
-  abbrev pub WritesUnfinished : Type 0
-  WritesUnfinished = HasRead (answers.Unfinished options.turns) × Gets o.err (unfinished_text options.turns)
+  pub record WritesUnfinished : Type 0 where
+    pub read : HasRead (answers.Unfinished options.turns)
+    pub once : IsOnce read.2.has.2.start read.2.items
+    pub gets : Gets o.err (unfinished_text options.turns)
 
   -- a turn of that replay found the pool of a place full: it began the capsule that the header of the frame names, which asks for more words
   -- than are left
@@ -46,14 +83,16 @@ module _ (options : ReplayOptions) (schedule : List ℕ) (o : Ports) where
   IsFull place read =
       let p = read.2.has.2 in
       (place < options.processors)
-      × IsFilledBehind p.start.shape p.start.code place p.start.state.words
-      (schedule_turns p.start.shape p.start.code p.start.state read.2.items options.turns)
+      × IsFilledBehind p.start.shape p.start.code place p.start.state.words (turns_by p.start read.2.items)
 
-  -- so it is, and err got exactly the line that says so
+  -- So it is, and err got exactly the line that says so. With takeover by places the program takes more words than a pool has, or it has no
+  -- end.
   pub record WritesOutOfRoom : Type 0 where
     pub place : ℕ
     pub read : HasRead (answers.OutOfRoom place)
     pub full : IsFull place read
+    pub needs : options.takeover ≡ ByPlaces → NeedsMoreRoom read.2.has.0 options.room
+    pub once : IsOnce read.2.has.2.start read.2.items
     pub gets : Gets o.err (room_text place)
 
   -- what each status says

@@ -1,7 +1,9 @@
 -- What follows from each status of `run`.
 use Rattle.std.specs.Prelude.{◌≡◌, ℕ, ◌<◌, List}
 use Rattle.ppm_words.specs.declared.named_array.NamedArray.{NamedArray}
+use Rattle.ppm_words.specs.declared.outcome.Outcome.TheVariants as outcome
 use Rattle.ppm_words.specs.declared.trap.Trap.{Trap}
+use Rattle.ppm_cells.specs.declared.shape.Takeover.TheVariants.{ByPlaces}
 use Rattle.ppm_ports.specs.Ports.{Gets}
 use Rattle.ppm_ports.specs.Outside.{Outside, ports_of}
 use Rattle.ppm_text.specs.Limits.{text_limit}
@@ -18,6 +20,9 @@ use Rattle.ppm_cli.specs.declared.run.RunOptions.{RunOptions}
 use Rattle.ppm_step.specs.Laws.{IsFilledBehind}
 use Rattle.ppm_driver.specs.MachineRows as machine
 use Rattle.ppm_choice.specs.Deeds.{work_made}
+use Rattle.ppm_core.specs.Situation.{Situation}
+use Rattle.ppm_step.specs.declared.turn.Turn.{Turn}
+use Rattle.ppm_driver.specs.Meant.{NeedsMoreRoom, NoneIsTakenTwice, EndsAsProgram}
 use Rattle.ppm_driver.specs.Planned.{IsRefusedBy, HasByItems}
 use Rattle.ppm_driver.specs.Runs.{RunHas, TextHas}
 
@@ -30,13 +35,33 @@ module _ (options : RunOptions) (watching : ℕ) (plan : List ℕ) (o : Outside)
   abbrev pub HasRead : Answer → Type 0
   HasRead answer = machine.HasRead plan_form plan options.processors Has (ports_of o) answer
 
-  -- the run ends with arrays, and out got exactly their text
-  abbrev pub WritesArrays : Type 0
-  WritesArrays = (arrays : List NamedArray) × HasRead (answers.Ended arrays) × Gets o.out (arrays_text arrays)
+  -- with takeover by places the run of the text that was read ends as its program does, with these arrays, or in this trap
+  abbrev pub IsMeant : (arrays : List NamedArray) → HasRead (answers.Ended arrays) → Type 0
+  IsMeant arrays read =
+      let p = read.2.has in options.takeover ≡ ByPlaces → EndsAsProgram p.2.start p.2.run.turns p.0 (outcome.Ended arrays)
 
-  -- the run ends in a trap, and out got exactly its text
-  abbrev pub WritesTrap : Type 0
-  WritesTrap = (t : Trap) × (line : ℕ) × HasRead (answers.Trapped t line) × Gets o.out (trap_text t line)
+  abbrev pub IsMeantTrap : (t : Trap) (line : ℕ) → HasRead (answers.Trapped t line) → Type 0
+  IsMeantTrap t line read =
+      let p = read.2.has in options.takeover ≡ ByPlaces → EndsAsProgram p.2.start p.2.run.turns p.0 (outcome.Trapped t line)
+
+  -- the run ends with arrays, those with which the program ends serially, and out got exactly their text
+  pub record WritesArrays : Type 0 where
+    pub arrays : List NamedArray
+    pub read : HasRead (answers.Ended arrays)
+    pub meant : IsMeant arrays read
+    pub gets : Gets o.out (arrays_text arrays)
+
+  -- the run ends in a trap, in which the program ends serially, and out got exactly its text
+  pub record WritesTrap : Type 0 where
+    pub trap : Trap
+    pub line : ℕ
+    pub read : HasRead (answers.Trapped trap line)
+    pub meant : IsMeantTrap trap line read
+    pub gets : Gets o.out (trap_text trap line)
+
+  -- with takeover by places no right branch was forked or taken twice in these turns of a machine
+  abbrev pub IsOnce : Situation → List Turn → Type 0
+  IsOnce m turns = options.takeover ≡ ByPlaces → NoneIsTakenTwice m turns
 
   -- a processor has made exactly as many work turns as it may make, in the run of the text that was read
   abbrev pub IsSpent : (processor : ℕ) → HasRead (answers.OutOfTurns processor) → Type 0
@@ -50,6 +75,7 @@ module _ (options : RunOptions) (watching : ℕ) (plan : List ℕ) (o : Outside)
     pub processor : ℕ
     pub read : HasRead (answers.OutOfTurns processor)
     pub spent : IsSpent processor read
+    pub once : let p = read.2.has.2 in IsOnce p.start p.run.turns
     pub gets : Gets o.err (turns_text processor)
 
   -- a turn of that run found the pool of a place full: it began the capsule that the header of the frame names, which asks for more words
@@ -59,11 +85,14 @@ module _ (options : RunOptions) (watching : ℕ) (plan : List ℕ) (o : Outside)
       let p = read.2.has.2 in
       (place < options.processors) × IsFilledBehind p.start.shape p.start.code place p.start.state.words p.run.turns
 
-  -- so it is, and err got exactly the line that says so
+  -- So it is, and err got exactly the line that says so. With takeover by places the program takes more words than a pool has, or it has no
+  -- end.
   pub record WritesOutOfRoom : Type 0 where
     pub place : ℕ
     pub read : HasRead (answers.OutOfRoom place)
     pub full : IsFull place read
+    pub needs : options.takeover ≡ ByPlaces → NeedsMoreRoom read.2.has.0 options.room
+    pub once : let p = read.2.has.2 in IsOnce p.start p.run.turns
     pub gets : Gets o.err (room_text place)
 
   -- what each status says

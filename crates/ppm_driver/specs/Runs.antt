@@ -24,7 +24,7 @@ use Rattle.ppm_driver.specs.Planned.{PlannedHas, PlannedMay}
 use Rattle.ppm_driver.specs.Programs as programs
 use Rattle.ppm_driver.specs.RunOf.{RunOf}
 use Rattle.ppm_driver.specs.Says.{IsOfWords}
-use Rattle.ppm_driver.specs.Watchers.{AreTold}
+use Rattle.ppm_driver.specs.Watchers.{AreTold, OthersKeep}
 
 -- the machine's sizes and the limits, as the options say them
 abbrev pub sizes_of : RunOptions → Sizes
@@ -67,9 +67,9 @@ abbrev pub RunMay : RunOptions → (watching : ℕ) → (plan : List ℕ) → (b
 RunMay options watching plan before now source answer =
     PlannedMay plan_form plan options.processors (TextHas options watching before now) text_limit source answer
 
--- what watchers were told where an answer comes: the causes of an answer of a run say which turns
-abbrev pub RunTells : Answer → ToldLists → ToldLists → Type 0
-RunTells = TellsOfRun (λ answer before now. ⊤)
+-- what watchers were told where an answer comes: the causes of an answer of a run say which turns; those behind the first so many nothing
+abbrev pub RunTells : (watching : ℕ) → Answer → ToldLists → ToldLists → Type 0
+RunTells watching answer before now = TellsOfRun (λ answer before now. ⊤) answer before now × OthersKeep watching before now
 
 -- two answers of a text are one where there is one processor, with such options and all plans
 abbrev pub AnswersAreOne : Type 0

@@ -13,9 +13,13 @@ use Rattle.ppm_choice.specs.Tells.{told_in}
 abbrev pub watcher_count : ℕ
 watcher_count = processor_limit
 
+-- watchers from a number on were told nothing
+abbrev pub OthersKeep : (watching : ℕ) → (before now : ToldLists) → Type 0
+OthersKeep watching before now = (c : ℕ) → watching ≤ c → KeepsList (get_or before c None) (get_or now c None)
+
 -- the first watchers, as many as are watching, were told what is told of their processors in these turns, and the others nothing
 pub record AreTold (watching : ℕ) (plan : Planned) (limits : Limits) (before now : ToldLists) (start : Situation) (turns : List Turn)
     : Type 0 where
   pub records : (c : ℕ) → c < watching
       → AppendsList (get_or before c None) (get_or now c None) (told_in plan limits c start.shape start.code start.state turns)
-  pub others : (c : ℕ) → watching ≤ c → KeepsList (get_or before c None) (get_or now c None)
+  pub others : OthersKeep watching before now

@@ -13,6 +13,7 @@
 mod arrays;
 mod following;
 mod loading;
+mod meant;
 mod one_replay;
 mod one_run;
 mod planned;
@@ -23,6 +24,7 @@ mod saying;
 
 pub use following::follow;
 pub use loading::{Sizes, load};
+pub use meant::runs_are_as_programs;
 pub use one_replay::have_one_answer;
 pub use one_run::answers_are_one;
 pub use replay::replay_command;

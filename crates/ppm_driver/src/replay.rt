@@ -13,6 +13,7 @@ ghost use Rattle.ppm_driver.specs.ReplayRows.{IsReplayed};
 
 use crate::following::follow;
 use crate::loading::{Sizes, load};
+use crate::meant::runs_are_as_programs;
 use crate::one_replay::have_one_answer;
 use crate::planned::refusal_answer;
 use crate::programs::read_program;
@@ -45,6 +46,7 @@ pub fn replay_command<S: Source, K: Sink, E: Sink>(
     // The rows rest on these laws; the calls do nothing.
     have_one_answer();
     schedules_have_one_answer();
+    runs_are_as_programs();
     let answer = read_answer(alloc, options, schedule, source);
     deliver(alloc, &answer, out, err)
 }

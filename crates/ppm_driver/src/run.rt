@@ -11,9 +11,10 @@ ghost use Rattle.ppm_driver.specs.Programs.{ProgramMay};
 ghost use Rattle.ppm_driver.specs.Runs.{ProgramHas, RunMay, RunTells, TextHas, limits_of as limits_in};
 ghost use Rattle.ppm_driver.specs.Runs.{sizes_of as sizes_in};
 ghost use Rattle.ppm_driver.specs.RunRows.{RunRows};
-ghost use Rattle.ppm_driver.specs.Watchers.{watcher_count};
+ghost use Rattle.ppm_driver.specs.Watchers.{OthersKeep, watcher_count};
 
 use crate::loading::{Sizes, share};
+use crate::meant::runs_are_as_programs;
 use crate::one_run::answers_are_one;
 use crate::planned::refusal_answer;
 use crate::programs::read_program;
@@ -53,11 +54,11 @@ pub fn run_command<R: Threads + Wait + Sync, S: Source, K: Sink, E: Sink, W: Wat
 
     // An answer that the command's causes allow, and its texts. Behind a run each processor's
     // watcher was told its turns, and where it parked; where memory is wanting, or a watcher
-    // refused, each list keeps what it had in front.
+    // refused, each list keeps what it had in front. The other watchers are told nothing.
     ensures answers { let o = outside (port S.left S.fault_count source.old source.new)
         (port K.written K.fault_count out.old out.new) (port E.written E.fault_count err.old err.new)
         (map W.told watch.old.items) (map W.told watch.new.items)
-        in Answers (RunMay options options.processors faults.now o.told_before o.told_now o.source) RunTells o result }
+        in Answers (RunMay options options.processors faults.now o.told_before o.told_now o.source) (RunTells options.processors) o result }
 
     // What follows from each status.
     ensures rows { RunRows options options.processors faults.now (outside (port S.left S.fault_count source.old source.new)
@@ -69,6 +70,7 @@ pub fn run_command<R: Threads + Wait + Sync, S: Source, K: Sink, E: Sink, W: Wat
     // The rows rest on these laws; the calls do nothing.
     answers_are_one();
     plans_have_one_answer();
+    runs_are_as_programs();
     let answer = read_answer(rt, alloc, options, faults, source, watch);
     deliver(alloc, &answer, out, err)
 }
@@ -86,7 +88,7 @@ fn read_answer<R: Threads + Wait + Sync, S: Source, W: Watch>(
     requires watchers { length watch.old.items ≡ watcher_count }
     ensures may { RunMay options options.processors faults.now (map W.told watch.old.items) (map W.told watch.new.items)
         (port S.left S.fault_count source.old source.new) result }
-    ensures told { RunTells result (map W.told watch.old.items) (map W.told watch.new.items) }
+    ensures told { RunTells options.processors result (map W.told watch.old.items) (map W.told watch.new.items) }
     ensures kept { KeepFronts (map W.told watch.old.items) (map W.told watch.new.items) }
     ensures watchers { length watch.new.items ≡ watcher_count }
 {
@@ -113,7 +115,7 @@ fn planned_answer<R: Threads + Wait + Sync, S: Source, W: Watch>(
     ensures may { JudgingMay text_limit
         (TextHas options options.processors (map W.told watch.old.items) (map W.told watch.new.items) plan.now.items)
         (port S.left S.fault_count source.old source.new) result }
-    ensures told { RunTells result (map W.told watch.old.items) (map W.told watch.new.items) }
+    ensures told { RunTells options.processors result (map W.told watch.old.items) (map W.told watch.new.items) }
     ensures kept { KeepFronts (map W.told watch.old.items) (map W.told watch.new.items) }
     ensures watchers { length watch.new.items ≡ watcher_count }
 {
@@ -138,7 +140,7 @@ fn program_answer<R: Threads + Wait + Sync, W: Watch>(
     requires watchers { length watch.old.items ≡ watcher_count }
     ensures may { ProgramMay (ProgramHas options options.processors (map W.told watch.old.items) (map W.told watch.new.items)
         plan.now.items (tree_of program.now)) result }
-    ensures told { RunTells result (map W.told watch.old.items) (map W.told watch.new.items) }
+    ensures told { RunTells options.processors result (map W.told watch.old.items) (map W.told watch.new.items) }
     ensures kept { KeepFronts (map W.told watch.old.items) (map W.told watch.new.items) }
     ensures watchers { length watch.new.items ≡ watcher_count }
 {
@@ -164,6 +166,7 @@ fn ran<R: Threads + Wait + Sync, W: Watch>(
     ensures has { IfOk result (ProgramHas options options.processors (map W.told watch.old.items) (map W.told watch.new.items)
         plan.now.items (tree_of program.now)) }
     ensures kept { KeepFronts (map W.told watch.old.items) (map W.told watch.new.items) }
+    ensures others { OthersKeep options.processors (map W.told watch.old.items) (map W.told watch.new.items) }
     ensures watchers { length watch.new.items ≡ watcher_count }
 {
     let table = share(alloc, sizes_of(options), program, plan.keeper())?;

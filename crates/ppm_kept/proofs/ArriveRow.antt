@@ -19,6 +19,8 @@ use Rattle.ppm_join.specs.Order.{first}
 use Rattle.ppm_step.specs.Contents.{word_of}
 use Rattle.ppm_step.specs.Rows.{row_of}
 use Rattle.ppm_step.specs.Standings.{within_if, then_is_there, stands_then, went_row}
+use Rattle.ppm_step.specs.declared.content.Content.{Content}
+use Rattle.ppm_step.specs.declared.row.Then.{Then}
 use Rattle.ppm_step.specs.declared.content.Content.TheVariants.{ANumber}
 use Rattle.ppm_step.specs.declared.row.Row.{Row}
 use Rattle.ppm_step.specs.declared.row.Row.TheVariants.{Now, Store, Exchange}
@@ -266,10 +268,10 @@ module _ (i : Image) (fair : IsFair i.code) (root : Tree (Frame FrameWord Point)
   RowLaw (Store cell content next) = ⊥
   RowLaw (Exchange cell old new next) = ((own bottom found : ℕ)
       → Law (exchanges s p cell (word_of old) (word_of new) (went_row i.shape i.code (kind_seat own p (Arrive r d) bottom) found found (Exchange cell old new next))) (by_arrive m p r t))
-      × (is_cell i.shape cell ≡ true)
+      × (is_cell i.shape cell ≡ true) × (cell ≡ BlockWord (r + 1))
 
   exchange : (b : ℕ) → RowLaw (Exchange (BlockWord (r + 1)) (ANumber 0) (ANumber (first d)) (Install (join_then b)))
-  exchange b = (λ own bottom found. subst (λ (w : ℕ). Exchanged (o == 0) w own bottom b) (sym (first_is d)) (exchange_by (o == 0) refl own bottom b), head_cell i root input s t law (r + 1) head)
+  exchange b = (λ own bottom found. subst (λ (w : ℕ). Exchanged (o == 0) w own bottom b) (sym (first_is d)) (exchange_by (o == 0) refl own bottom b), head_cell i root input s t law (r + 1) head, refl)
 
   by_reach : (b j : ℕ) (rest : Row) → Reach i m (seat b) j (row_of i.shape (seat b) (Arrive r d)) rest → RowLaw rest
   by_reach b zero rest q = subst RowLaw q (exchange b)
@@ -278,6 +280,10 @@ module _ (i : Image) (fair : IsFair i.code) (root : Tree (Frame FrameWord Point)
 
   under_of : (rest : Row) → s.doing p ≡ InRow rest → RowLaw rest
   under_of rest e = let a : Under i m p (Arrive r d) rest = subst₂ (λ (q : RestartKind) (d : Doing). Does i m p q d) ke e (law.does p) in by_reach a.0 a.1 rest a.2
+
+  -- it exchanges the order word of its block alone
+  pub arrive_exchanges : (cell : Cell) (old new : Content) (next : Then) → s.doing p ≡ InRow (Exchange cell old new next) → cell ≡ BlockWord (r + 1)
+  arrive_exchanges cell old new next e = (under_of (Exchange cell old new next) e).2
 
   pub arrive_keeps : ArriveKeeps i root input s t p r d
   arrive_keeps = record {

@@ -204,14 +204,14 @@ module _ (i : Image) (fair : IsFair i.code) (root : Tree (Frame FrameWord Point)
     in_tree (Branch Right x) he at_ = absurd at_
     in_tree (Forked x y) he at_ = absurd at_
 
-    mine : owner i q ≡ p
+    pub mine : owner i q ≡ p
     mine = let h = births.homes p q ke in owned i p q h.0 h.1
 
     -- so it is longer than nothing
-    long : q < q + (link_at (m (BlockWord q))).size
+    pub long : q < q + (link_at (m (BlockWord q))).size
     long = subst (λ (k : RestartKind). q < ceiling i m p k) ke (subst (λ (a : ℕ). q < ceiling i m a (s.kind a)) mine (law.below q (in_tree (hook_at Root g.around) refl g.at_)).1)
 
-    new : born q ≡ false
+    pub new : born q ≡ false
     new = elim (cases_Bool (born q)) [
       | inl e ↦ absurd (let lt : q < q = subst (λ (k : RestartKind). q < floor m p k) ke (subst (λ (a : ℕ). q < floor m a (s.kind a)) mine (births.below q e)) in omega (arith, lt))
       | inr e ↦ e

@@ -145,8 +145,7 @@ module _ (i : Image) (fair : IsFair i.code) (root : Tree (Frame FrameWord Point)
       by (Some link) e = some link.kind link.size e
 
   -- the counter is stored
-  module _ (next : Then) (b : ℕ) (reaches : (n : Cell → ℕ) → n (BlockWord r) ≡ m (BlockWord r) → n (RoomCounter p) ≡ r + l.size
-      → Reach i n (seat_at p (Bump r) b) 2 (row_of i.shape (seat_at p (Bump r) b) (Bump r)) (Now next)) (d : Doing) (does_so : (n : Cell → ℕ) → Under i n p (Bump r) (Now next) → Does i n p (Bump r) d) where
+  module _ (d : Doing) (does_so : (n : Cell → ℕ) → n (BlockWord r) ≡ m (BlockWord r) → n (RoomCounter p) ≡ r + l.size → Does i n p (Bump r) d) where
     abbrev m' : Cell → ℕ
     m' = write m (RoomCounter p) (r + l.size)
 
@@ -179,14 +178,14 @@ module _ (i : Image) (fair : IsFair i.code) (root : Tree (Frame FrameWord Point)
       places = is_at_own p;
       placed = λ q ne. refl;
       free = λ o lt. ap (λ (b : ℕ). m' (BlockWord (b + o))) top_is ∙ pool (r + l.size + o) ∙ blank o (omega (arith, lt, top_is));
-      does = does_so m' (b, 2, reaches m' (pool r) (write_here m (RoomCounter p) (r + l.size)));
+      does = does_so m' (pool r) (write_here m (RoomCounter p) (r + l.size));
       orders = tt;
       others = keeps c u (RoomCounter p) (r + l.size) has_leaf.is has_leaf.alone only one_here (inl refl);
       unrun = same_part tt untaken refl;
       finishes = not_ended m m' t c u u has_leaf.is (write_else m (RoomCounter p) (r + l.size) FinishWord (λ e. cc)) refl;
     }
 
-    counter_stored : Law z
+    pub counter_stored : Law z
     counter_stored = subst (IsKept i root input z) (sym has_leaf.is) (build i fair root input s t law p z c u u (Bump r) d stored_turn)
 
   -- what comes next is installed
@@ -272,21 +271,25 @@ module _ (i : Image) (fair : IsFair i.code) (root : Tree (Frame FrameWord Point)
     store_some (Called g y) z e = (
       subst (λ (x : ℕ). Law (record { words = write m (RoomCounter p) (r + x); kind = s.kind; doing = put s.doing p (doing_of (stands_then i.shape i.code (sits own bottom) (with_kind (seat_at p (Bump r) b) (Run r 0)))) }))
           (size_is (Called g y) z e)
-          (counter_stored (with_kind (seat_at p (Bump r) b) (Run r 0)) b
-          (λ n pool room. subst (λ (o : Option Link). Reach i n (seat_at p (Bump r) b) 1 (link_row o b) (Now (with_kind (seat_at p (Bump r) b) (Run r 0)))) (sym (ap link_of pool ∙ e))
-          (room ∙ ap (λ (x : ℕ). r + x) (size_is (Called g y) z e), refl))
-          (doing_of (stands_then i.shape i.code (sits own bottom) (with_kind (seat_at p (Bump r) b) (Run r 0))))
-          (λ n under. if_there (with_kind (seat_at p (Bump r) b) (Run r 0)) (then_is_there i.shape (sits own bottom) (with_kind (seat_at p (Bump r) b) (Run r 0))) n under)),
+          (counter_stored (doing_of (stands_then i.shape i.code (sits own bottom) (with_kind (seat_at p (Bump r) b) (Run r 0))))
+          (λ n pool room. if_there (with_kind (seat_at p (Bump r) b) (Run r 0)) (then_is_there i.shape (sits own bottom) (with_kind (seat_at p (Bump r) b) (Run r 0))) n (
+            b,
+            2,
+            subst (λ (o : Option Link). Reach i n (seat_at p (Bump r) b) 1 (link_row o b) (Now (with_kind (seat_at p (Bump r) b) (Run r 0)))) (sym (ap link_of pool ∙ e))
+                (room ∙ ap (λ (x : ℕ). r + x) (size_is (Called g y) z e), refl),
+          ))),
       lt-ltb p i.shape.processors there,
     )
     store_some (Forked g y) z e = (
       subst (λ (x : ℕ). Law (record { words = write m (RoomCounter p) (r + x); kind = s.kind; doing = put s.doing p (doing_of (stands_then i.shape i.code (sits own bottom) (Fork r))) }))
           (size_is (Forked g y) z e)
-          (counter_stored (Fork r) b
-          (λ n pool room. subst (λ (o : Option Link). Reach i n (seat_at p (Bump r) b) 1 (link_row o b) (Now (Fork r))) (sym (ap link_of pool ∙ e))
-          (room ∙ ap (λ (x : ℕ). r + x) (size_is (Forked g y) z e), refl))
-          (doing_of (stands_then i.shape i.code (sits own bottom) (Fork r)))
-          (λ n under. if_there (Fork r) (then_is_there i.shape (sits own bottom) (Fork r)) n under)),
+          (counter_stored (doing_of (stands_then i.shape i.code (sits own bottom) (Fork r)))
+          (λ n pool room. if_there (Fork r) (then_is_there i.shape (sits own bottom) (Fork r)) n (
+            b,
+            2,
+            subst (λ (o : Option Link). Reach i n (seat_at p (Bump r) b) 1 (link_row o b) (Now (Fork r))) (sym (ap link_of pool ∙ e))
+                (room ∙ ap (λ (x : ℕ). r + x) (size_is (Forked g y) z e), refl),
+          ))),
       lt-ltb p i.shape.processors there,
     )
     store_some Root z e = tt

@@ -57,7 +57,15 @@ pub mod FateLemmas
 pub mod StateLemmas
 pub mod BeginLemmas
 pub mod LoadLemmas
+pub mod StopLemmas
+pub mod HandLemmas
+pub mod SettleLemmas
+pub mod HeirLemmas
+pub mod CounterLemmas
+pub mod LeftLemmas
 pub mod StepRows
 pub mod BearLemmas
+pub mod HeirBirths
 pub mod AnswerLemmas
 pub mod RoomLemmas
+pub mod SpentLemmas

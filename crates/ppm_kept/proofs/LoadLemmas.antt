@@ -1,4 +1,4 @@
--- What places load are cells that frames have.
+-- What places load are cells that frames have, and that no place has given up.
 use Rattle.std.proofs.Common.{◌≡◌, ◌⊎◌, ◌≤◌, ◌<◌, ℕ, zero, suc, ◌+◌, ◌==◌, Bool, true, false, inl, inr, refl, sym, ap, ◌∙◌, subst, subst₂, arith, Option, Some, None}
 use Rattle.std.specs.Prelude.{nat_lt, if◌then◌else◌}
 use Rattle.std.proofs.lemmas.Bool.{lt-ltb}
@@ -53,7 +53,7 @@ use Rattle.ppm_kept.specs.Running.{asked_of, IsFair, IsOf, last_of, home_at, num
 use Rattle.ppm_kept.specs.Branches.{HasCopy}
 use Rattle.ppm_kept.specs.Kept.{Image, start, end_of, owner, seat_at, side_code, Doing, InRow, InRest, State, ceiling, Reach, Under, Does, carried, Ordered, IsKept}
 use Rattle.ppm_kept.specs.Copies.{IsKnown}
-use Rattle.ppm_kept.specs.Loads.{LoadsShow, AllLoadsShow}
+use Rattle.ppm_kept.specs.Loads.{IsLoadable, LoadsShow, AllLoadsShow}
 use Rattle.ppm_kept.specs.Pushing.{kind_seat}
 use Rattle.ppm_kept.proofs.BlockLemmas.{header_is}
 use Rattle.ppm_kept.proofs.BumpRow.{Bumps, bump_at}
@@ -82,12 +82,12 @@ module _ (i : Image) (fair : IsFair i.code) (root : Tree (Frame FrameWord Point)
   m = s.words
 
   -- a word of the tree
-  in_tree : (x : ℕ) → (count Root t x ≡ 0 → ⊥) → is_cell i.shape (BlockWord x) ≡ true
+  in_tree : (x : ℕ) → (count Root t x ≡ 0 → ⊥) → IsLoadable i s p (BlockWord x)
   in_tree x some = let b = law.below x some in
-      pool_cell i x (law.there x some) b.0 (let under = b.1 in let top_ = (law.rooms (owner i x)).1 in omega (arith, under, top_))
+      record { cell_is = pool_cell i x (law.there x some) b.0 (let under = b.1 in let top_ = (law.rooms (owner i x)).1 in omega (arith, under, top_)); in_use = inl b.1 }
 
   -- of a part of it
-  pub in_part : (c : Around) (u : Skeleton) → t ≡ plug c u → (x : ℕ) → 1 ≤ count (hook_at Root c) u x → is_cell i.shape (BlockWord x) ≡ true
+  pub in_part : (c : Around) (u : Skeleton) → t ≡ plug c u → (x : ℕ) → 1 ≤ count (hook_at Root c) u x → IsLoadable i s p (BlockWord x)
   in_part c u is x one = in_tree x (λ z. let sum = counted i fair root input s t law p c u x is in omega (arith, z, sum, one))
 
   -- of a row under way
@@ -111,34 +111,34 @@ module _ (i : Image) (fair : IsFair i.code) (root : Tree (Frame FrameWord Point)
     at_leaf : t ≡ plug runs.around (Leaf (InPlace p) (Begins y) f n)
     at_leaf = runs.is ∙ ap (λ (z : ℕ). plug runs.around (Leaf (InPlace p) (Begins y) f (slots_at i.code z))) (ap m (sym (header_is f y low)))
 
-    in_leaf : (x j : ℕ) → x ≡ f + j → j < 6 + n → is_cell i.shape (BlockWord x) ≡ true
+    in_leaf : (x j : ℕ) → x ≡ f + j → j < 6 + n → IsLoadable i s p (BlockWord x)
     in_leaf x j e lt = in_part runs.around (Leaf (InPlace p) (Begins y) f n) at_leaf x (let a = inside_at f (6 + n) x j e lt in omega (arith, a))
 
-    header_cell : is_cell i.shape (header_word f y) ≡ true
+    header_cell : IsLoadable i s p (header_word f y)
     header_cell = in_leaf (f + 2 + y) (2 + y) (omega arith) (omega (arith, low))
 
-    block_cell : (o : ℕ) → m (RoomCounter p) + o < limit i.shape i.code p → is_cell i.shape (BlockWord (m (RoomCounter p) + o)) ≡ true
+    block_cell : (o : ℕ) → m (RoomCounter p) + o < limit i.shape i.code p → IsLoadable i s p (BlockWord (m (RoomCounter p) + o))
     block_cell o lt =
         let x : ℕ = m (RoomCounter p) + o in
         let roof : ceiling i m p (s.kind p) ≡ m (RoomCounter p) = ap (ceiling i m p) ke in
         let least : start i p ≤ x = (let a = (law.rooms p).0 in omega (arith, a, roof)) in
         let own = owned i p x least lt in
-        pool_cell i x (subst (λ (q : ℕ). q < i.shape.processors) (sym own) there) (subst (λ (q : ℕ). start i q ≤ x) (sym own) least) (subst (λ (q : ℕ). x < end_of i q) (sym own) lt)
+        record { cell_is = pool_cell i x (subst (λ (q : ℕ). q < i.shape.processors) (sym own) there) (subst (λ (q : ℕ). start i q ≤ x) (sym own) least) (subst (λ (q : ℕ). x < end_of i q) (sym own) lt); in_use = inr own }
 
-    location_cell : (l : Where) → IsIn n (asked_of i.code (number_at i.shape i.code m f y)) l → HasRoom i.shape i.code m p f y → is_there i.shape (cell_of home l) ≡ true → is_cell i.shape (cell_of home l) ≡ true
+    location_cell : (l : Where) → IsIn n (asked_of i.code (number_at i.shape i.code m f y)) l → HasRoom i.shape i.code m p f y → is_there i.shape (cell_of home l) ≡ true → IsLoadable i s p (cell_of home l)
     location_cell (Own (Slot j)) h room e = in_leaf (f + 6 + j) (6 + j) (omega arith) (omega (arith, h))
     location_cell (Own Value) h room e = in_leaf (f + 4) 4 refl (omega arith)
     location_cell (New o) h room e = block_cell o (omega (arith, h, room))
-    location_cell (Shared x) h room e = e
+    location_cell (Shared x) h room e = record { cell_is = e; in_use = tt }
 
     module _ (cell : Cell) (next : ℕ → Rest) (is : is_there i.shape cell ≡ true) where
       under_cell : (left : Capsule Where End) → IsOf i.shape i.code p home left (Loads cell next) → Stands code_locations (all_of i.shape i.code m p f y) left (now i.shape i.code m p f y) → IsRoomy i.shape i.code m p f y left
-          → is_cell i.shape cell ≡ true
+          → IsLoadable i s p cell
       under_cell (Reads l go) of stands room =
           let c_is : cell ≡ cell_of home l = ap (λ (z : Rest). cell_told z cell) of.1 in
-          subst (λ (c : Cell). is_cell i.shape c ≡ true) (sym c_is)
+          subst (λ (c : Cell). IsLoadable i s p c) (sym c_is)
           (location_cell l (fits i.shape i.code fair m p f y (Reads l go) stands).0 room (subst (λ (c : Cell). is_there i.shape c ≡ true) c_is is))
-      under_cell (Asks w go) of stands room = subst (λ (c : Cell). is_cell i.shape c ≡ true) (sym (ap (λ (z : Rest). cell_told z cell) of.2)) (lt-ltb p i.shape.processors there)
+      under_cell (Asks w go) of stands room = subst (λ (c : Cell). IsLoadable i s p c) (sym (ap (λ (z : Rest). cell_told z cell) of.2)) (record { cell_is = lt-ltb p i.shape.processors there; in_use = refl })
       under_cell (Writes l v go) of stands room = absurd (let e = ap told of.2 in omega (arith, e))
       under_cell (Ends e) of stands room = absurd (ends_load e of)
         where
@@ -149,12 +149,12 @@ module _ (i : Image) (fair : IsFair i.code) (root : Tree (Frame FrameWord Point)
           ends_load (Call g c to) q = let z = ap told q in omega (arith, z)
           ends_load (Fork b d c lt rt) q = let z = ap told q in omega (arith, z)
 
-      come_cell : HasCome i.shape i.code m p f y (Loads cell next) → is_cell i.shape cell ≡ true
+      come_cell : HasCome i.shape i.code m p f y (Loads cell next) → IsLoadable i s p cell
       come_cell (inl u) = under_cell u.left u.is_of u.stands u.roomy
       come_cell (inr (inl d)) = absurd (let z = ap told d.is in omega (arith, z))
       come_cell (inr (inr e)) = absurd (let z = ap told e in omega (arith, z))
 
-    capsule_cell : (cell : Cell) (next : ℕ → Rest) → s.doing p ≡ InRest (Loads cell next) → is_there i.shape cell ≡ true → is_cell i.shape cell ≡ true
+    capsule_cell : (cell : Cell) (next : ℕ → Rest) → s.doing p ≡ InRest (Loads cell next) → is_there i.shape cell ≡ true → IsLoadable i s p cell
     capsule_cell cell next de is = come_cell cell next is (subst₂ (λ (k : RestartKind) (d : Doing). Does i m p k d) ke de (law.does p))
 
   -- Bump loads the link of its block, and nothing else
@@ -163,7 +163,7 @@ module _ (i : Image) (fair : IsFair i.code) (root : Tree (Frame FrameWord Point)
     bumps = let g = leaf i fair root input s t law p (ap (carried m) ke) in
         bump_at i s t p r g.around g.stand g.frame g.slots g.is g.alone g.framed g.sized (subst (λ (k : RestartKind). Match i.code m k (hook_at Root g.around) g.stand g.frame) ke g.match)
 
-    bump_cell : (h : LinkKind) → hook_at Root bumps.around ≡ h → BumpsAt i.code m h r bumps.frame → is_cell i.shape (BlockWord r) ≡ true
+    bump_cell : (h : LinkKind) → hook_at Root bumps.around ≡ h → BumpsAt i.code m h r bumps.frame → IsLoadable i s p (BlockWord r)
     bump_cell (Called e y) he at_ = in_part bumps.around (Leaf (InPlace p) (Begins 0) bumps.frame bumps.slots) bumps.is r (let a = inside_at bumps.frame (6 + bumps.slots) r 0 (omega (arith, at_)) (omega arith) in omega (arith, a))
     bump_cell (Branch Left b) he at_ = elim (branch_from Root bumps.around b Left he) [
       | inl o ↦ absurd (let d = o.0 in cc)
@@ -201,11 +201,11 @@ module _ (i : Image) (fair : IsFair i.code) (root : Tree (Frame FrameWord Point)
     bump_row b zero rest q = subst IsBump q refl
     bump_row b (suc a) rest q = linked_row b a (link_of (m (BlockWord r))) rest q
 
-    bump_point : (own bottom victim : ℕ) (point : RowPoint) → IsBump (Now (Load point)) → is_cell i.shape (cell_at (kind_seat own p (Bump r) bottom) victim point) ≡ true
-    bump_point own bottom victim (BumpLink q) e = subst (λ (x : ℕ). is_cell i.shape (BlockWord x) ≡ true) (sym e) (bump_cell (hook_at Root bumps.around) refl bumps.at_)
+    bump_point : (own bottom victim : ℕ) (point : RowPoint) → IsBump (Now (Load point)) → IsLoadable i s p (cell_at (kind_seat own p (Bump r) bottom) victim point)
+    bump_point own bottom victim (BumpLink q) e = subst (λ (x : ℕ). IsLoadable i s p (BlockWord x)) (sym e) (bump_cell (hook_at Root bumps.around) refl bumps.at_)
     bump_point own bottom victim _ e = absurd e
 
-    bump_loads : (own bottom victim : ℕ) (point : RowPoint) → s.doing p ≡ InRow (Now (Load point)) → is_cell i.shape (cell_at (kind_seat own p (Bump r) bottom) victim point) ≡ true
+    bump_loads : (own bottom victim : ℕ) (point : RowPoint) → s.doing p ≡ InRow (Now (Load point)) → IsLoadable i s p (cell_at (kind_seat own p (Bump r) bottom) victim point)
     bump_loads own bottom victim point de = let u = under_at (Bump r) ke (Now (Load point)) de in bump_point own bottom victim point (bump_row u.0 u.1 (Now (Load point)) u.2)
 
     bump_point_is : (point : RowPoint) → IsBump (Now (Load point)) → point ≡ BumpLink r
@@ -227,7 +227,7 @@ module _ (i : Image) (fair : IsFair i.code) (root : Tree (Frame FrameWord Point)
     abbrev seat : ℕ → Seat
     seat b = seat_at p (Unwind f) b
 
-    over_cell : (x j : ℕ) → x ≡ f + j → j < 6 → is_cell i.shape (BlockWord x) ≡ true
+    over_cell : (x j : ℕ) → x ≡ f + j → j < 6 → IsLoadable i s p (BlockWord x)
     over_cell x j e lt = in_part overs.around (Leaf (InPlace p) Over f overs.slots) overs.is x (let a = inside_at f (6 + overs.slots) x j e (omega (arith, lt)) in omega (arith, a))
 
     abbrev IsUp : RowPoint → Type 0
@@ -297,14 +297,14 @@ module _ (i : Image) (fair : IsFair i.code) (root : Tree (Frame FrameWord Point)
     up_row b (suc a) (Exchange c v w next) rest up q = up_row b a (Now next) rest up q.1
     up_row b (suc a) (Now next) rest up q = absurd q
 
-    up_point : (own bottom victim : ℕ) (point : RowPoint) → IsUp point → is_cell i.shape (cell_at (kind_seat own p (Unwind f) bottom) victim point) ≡ true
+    up_point : (own bottom victim : ℕ) (point : RowPoint) → IsUp point → IsLoadable i s p (cell_at (kind_seat own p (Unwind f) bottom) victim point)
     up_point own bottom victim (UnwindLink g) e = over_cell g 0 (omega (arith, e)) (omega arith)
     up_point own bottom victim (UnwindOutcome g k) e = over_cell (g + 1) 1 (omega (arith, e)) (omega arith)
     up_point own bottom victim (Target g to y None) e = over_cell (g + 5) 5 (omega (arith, e)) (omega arith)
     up_point own bottom victim (GivenValue g to y target None) e = over_cell (g + 4) 4 (omega (arith, e)) (omega arith)
     up_point own bottom victim _ e = absurd e
 
-    unwind_loads : (own bottom victim : ℕ) (point : RowPoint) → s.doing p ≡ InRow (Now (Load point)) → is_cell i.shape (cell_at (kind_seat own p (Unwind f) bottom) victim point) ≡ true
+    unwind_loads : (own bottom victim : ℕ) (point : RowPoint) → s.doing p ≡ InRow (Now (Load point)) → IsLoadable i s p (cell_at (kind_seat own p (Unwind f) bottom) victim point)
     unwind_loads own bottom victim point de = let u = under_at (Unwind f) ke (Now (Load point)) de in
         up_point own bottom victim point (up_row u.0 u.1 (row_of i.shape (seat u.0) (Unwind f)) (Now (Load point)) refl u.2)
 
@@ -325,17 +325,17 @@ module _ (i : Image) (fair : IsFair i.code) (root : Tree (Frame FrameWord Point)
     abbrev IsLast : Type 0
     IsLast = IsLate × (is_inline o d ≡ false)
 
-    order_cell : is_cell i.shape (BlockWord (r + 1)) ≡ true
+    order_cell : IsLoadable i s p (BlockWord (r + 1))
     order_cell = let head = (subst (Ordered i s t m) ke (law.orders p)).0 in
-        pool_cell i (r + 1) head.there head.first (let under = head.under in let top_ = (law.rooms (owner i (r + 1))).1 in omega (arith, under, top_))
+        record { cell_is = pool_cell i (r + 1) head.there head.first (let under = head.under in let top_ = (law.rooms (owner i (r + 1))).1 in omega (arith, under, top_)); in_use = inl head.under }
 
-    offset_cell : IsLate → is_cell i.shape (BlockWord (r + 4)) ≡ true
+    offset_cell : IsLate → IsLoadable i s p (BlockWord (r + 4))
     offset_cell late = by d (joins_leaf i fair root input s t law p r d ke late)
       where
-        by : (e : Side) → JoinComes i s t p r e → is_cell i.shape (BlockWord (r + 4)) ≡ true
+        by : (e : Side) → JoinComes i s t p r e → IsLoadable i s p (BlockWord (r + 4))
         by e g = by_side e g.hook
           where
-            by_side : (e : Side) → hook_at Root g.around ≡ Branch e r → is_cell i.shape (BlockWord (r + 4)) ≡ true
+            by_side : (e : Side) → hook_at Root g.around ≡ Branch e r → IsLoadable i s p (BlockWord (r + 4))
             by_side Left he = elim (branch_from Root g.around r Left he) [
               | inl k ↦ absurd (let b = k.0 in cc)
               | inr a ↦ in_part a.around (Forking a.frame a.slots a.copy r (Leaf (InPlace p) Arrives g.frame g.slots) a.beside) (g.is ∙ a.is (Leaf (InPlace p) Arrives g.frame g.slots)) (r + 4)
@@ -354,19 +354,19 @@ module _ (i : Image) (fair : IsFair i.code) (root : Tree (Frame FrameWord Point)
       abbrev u : Skeleton
       u = Forking part.frame part.slots part.copy r (Leaf (first_who p part.other d) Arrives (r + 5) part.left_slots) (Leaf (second_who p part.other d) Arrives (r + far) part.right_slots)
 
-      fork_cell : (x : ℕ) → 1 ≤ count (hook_at Root part.around) u x → is_cell i.shape (BlockWord x) ≡ true
+      fork_cell : (x : ℕ) → 1 ≤ count (hook_at Root part.around) u x → IsLoadable i s p (BlockWord x)
       fork_cell x one = in_part part.around u part.is x one
 
-      link_cell : is_cell i.shape (BlockWord r) ≡ true
+      link_cell : IsLoadable i s p (BlockWord r)
       link_cell = fork_cell r (let one = inside_at r 1 r 0 (omega arith) (omega arith) in omega (arith, one))
 
-      left_cell : is_cell i.shape (BlockWord (r + 2)) ≡ true
+      left_cell : IsLoadable i s p (BlockWord (r + 2))
       left_cell = fork_cell (r + 2) (let one = inside_at (r + 2) 1 (r + 2) 0 (omega arith) (omega arith) in omega (arith, one))
 
-      right_cell : is_cell i.shape (BlockWord (r + 3)) ≡ true
+      right_cell : IsLoadable i s p (BlockWord (r + 3))
       right_cell = fork_cell (r + 3) (let one = inside_at (r + 3) 1 (r + 3) 0 (omega arith) (omega arith) in omega (arith, one))
 
-      branch_cell : (g j : ℕ) → (g ≡ r + 5) ⊎ (g ≡ r + far) → j < 6 → is_cell i.shape (BlockWord (g + j)) ≡ true
+      branch_cell : (g j : ℕ) → (g ≡ r + 5) ⊎ (g ≡ r + far) → j < 6 → IsLoadable i s p (BlockWord (g + j))
       branch_cell g j (inl e) lt = fork_cell (g + j) (let one = inside_at (r + 5) (6 + part.left_slots) (g + j) j (omega (arith, e)) (omega (arith, lt)) in omega (arith, one))
       branch_cell g j (inr e) lt = fork_cell (g + j) (let one = inside_at (r + far) (6 + part.right_slots) (g + j) j (omega (arith, e)) (omega (arith, lt)) in omega (arith, one))
 
@@ -456,23 +456,23 @@ module _ (i : Image) (fair : IsFair i.code) (root : Tree (Frame FrameWord Point)
     join_row b (suc a) (Exchange c v w next) rest up q = join_row b a (Now next) rest up q.1
     join_row b (suc a) (Now next) rest up q = absurd q
 
-    join_point : (own bottom victim : ℕ) (point : RowPoint) → IsJoin point → is_cell i.shape (cell_at (kind_seat own p (Join r d) bottom) victim point) ≡ true
-    join_point own bottom victim (JoinOrder q e) j = subst (λ (x : ℕ). is_cell i.shape (BlockWord (x + 1)) ≡ true) (sym j.0) order_cell
-    join_point own bottom victim (JoinLink q) j = subst (λ (x : ℕ). is_cell i.shape (BlockWord x) ≡ true) (sym j.0) (link_cell j.1)
-    join_point own bottom victim (JoinLeft q to y) j = subst (λ (x : ℕ). is_cell i.shape (BlockWord (x + 2)) ≡ true) (sym j.0) (left_cell j.1)
-    join_point own bottom victim (JoinRight q to y left) j = subst (λ (x : ℕ). is_cell i.shape (BlockWord (x + 3)) ≡ true) (sym j.0) (right_cell j.1)
-    join_point own bottom victim (RightFrame q to y) j = subst (λ (x : ℕ). is_cell i.shape (BlockWord (x + 4)) ≡ true) (sym j.0) (offset_cell j.1.0)
-    join_point own bottom victim (Offset q b) j = subst (λ (x : ℕ). is_cell i.shape (BlockWord (x + 4)) ≡ true) (sym j.0) (offset_cell j.1)
+    join_point : (own bottom victim : ℕ) (point : RowPoint) → IsJoin point → IsLoadable i s p (cell_at (kind_seat own p (Join r d) bottom) victim point)
+    join_point own bottom victim (JoinOrder q e) j = subst (λ (x : ℕ). IsLoadable i s p (BlockWord (x + 1))) (sym j.0) order_cell
+    join_point own bottom victim (JoinLink q) j = subst (λ (x : ℕ). IsLoadable i s p (BlockWord x)) (sym j.0) (link_cell j.1)
+    join_point own bottom victim (JoinLeft q to y) j = subst (λ (x : ℕ). IsLoadable i s p (BlockWord (x + 2))) (sym j.0) (left_cell j.1)
+    join_point own bottom victim (JoinRight q to y left) j = subst (λ (x : ℕ). IsLoadable i s p (BlockWord (x + 3))) (sym j.0) (right_cell j.1)
+    join_point own bottom victim (RightFrame q to y) j = subst (λ (x : ℕ). IsLoadable i s p (BlockWord (x + 4))) (sym j.0) (offset_cell j.1.0)
+    join_point own bottom victim (Offset q b) j = subst (λ (x : ℕ). IsLoadable i s p (BlockWord (x + 4))) (sym j.0) (offset_cell j.1)
     join_point own bottom victim (Target g to y None) j = branch_cell j.1 g 5 j.0 (omega arith)
     join_point own bottom victim (Target g to y (Some q)) j = branch_cell j.1 g 5 j.0 (omega arith)
     join_point own bottom victim (GivenValue g to y target None) j = branch_cell j.1 g 4 j.0 (omega arith)
     join_point own bottom victim (GivenValue g to y target (Some q)) j = branch_cell j.1 g 4 j.0 (omega arith)
     join_point own bottom victim _ j = absurd j
 
-    join_loads : (own bottom victim : ℕ) (point : RowPoint) → s.doing p ≡ InRow (Now (Load point)) → is_cell i.shape (cell_at (kind_seat own p (Join r d) bottom) victim point) ≡ true
+    join_loads : (own bottom victim : ℕ) (point : RowPoint) → s.doing p ≡ InRow (Now (Load point)) → IsLoadable i s p (cell_at (kind_seat own p (Join r d) bottom) victim point)
     join_loads own bottom victim point de = by (under_at (Join r d) ke (Now (Load point)) de)
       where
-        by : Under i m p (Join r d) (Now (Load point)) → is_cell i.shape (cell_at (kind_seat own p (Join r d) bottom) victim point) ≡ true
+        by : Under i m p (Join r d) (Now (Load point)) → IsLoadable i s p (cell_at (kind_seat own p (Join r d) bottom) victim point)
         by (inl u) = join_point own bottom victim point (join_row u.0 u.1 (row_of i.shape (sits u.0) (Join r d)) (Now (Load point)) (refl, refl) u.2)
         by (inr c) = absurd (let e = c.is in cc)
 
@@ -485,7 +485,7 @@ module _ (i : Image) (fair : IsFair i.code) (root : Tree (Frame FrameWord Point)
       by b (suc zero) q = let e = q.1 in cc
       by b (suc (suc a)) q = absurd q.1
 
-  row_loads : (k : RestartKind) → IsKnown k → s.kind p ≡ k → (own bottom victim : ℕ) (point : RowPoint) → s.doing p ≡ InRow (Now (Load point)) → is_cell i.shape (cell_at (kind_seat own p k bottom) victim point) ≡ true
+  row_loads : (k : RestartKind) → IsKnown k → s.kind p ≡ k → (own bottom victim : ℕ) (point : RowPoint) → s.doing p ≡ InRow (Now (Load point)) → IsLoadable i s p (cell_at (kind_seat own p k bottom) victim point)
   row_loads (Bump r) known ke own bottom victim point de = bump_loads r ke own bottom victim point de
   row_loads (Unwind f) known ke own bottom victim point de = unwind_loads f ke own bottom victim point de
   row_loads (Arrive r d) known ke own bottom victim point de = absurd (arrive_loads r d ke point de)

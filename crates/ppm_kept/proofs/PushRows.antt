@@ -39,7 +39,7 @@ use Rattle.ppm_frames.specs.Good.{ended, IsPlain, mark, order_of, Framed, IsSize
 use Rattle.ppm_frames.proofs.SkeletonLemmas.{branch_from, over_plug}
 use Rattle.ppm_frames.proofs.SwapLemmas.{swap_same, good_here}
 use Rattle.ppm_kept.specs.Running.{IsFair}
-use Rattle.ppm_kept.specs.Branches.{IsUntaken, Unpushed, is_taker, HasCopy}
+use Rattle.ppm_kept.specs.Branches.{IsUntaken, Untaken, Unpushed, is_taker, HasCopy}
 use Rattle.ppm_kept.specs.Kept.{Image, Doing, Resting, State, put, Blank, ceiling, Free, Does, Head, Ordered, carried, IsKept}
 use Rattle.ppm_kept.specs.Moves.{doing_of, goes, stores, installs}
 use Rattle.ppm_kept.specs.Laws.{Ends, kind_then}
@@ -249,7 +249,7 @@ module _ (i : Image) (fair : IsFair i.code) (root : Tree (Frame FrameWord Point)
 
   -- what is installed changes no word
   module _ (next : RestartKind) (match : Match i.code m next (hook_at Root pushes.around) (Begins 0) pushes.frame) (top_is : ceiling i m p next ≡ m (RoomCounter p)) (one : carried m next ≡ 1) (next_free : Free i m p next)
-      (next_ordered : Ordered i s t m next) (copy : HasCopy next) (own : (w : Skeleton) → Unpushed p w next) (no_taker : is_taker next ≡ false) where
+      (next_ordered : Ordered i s t m next) (copy : HasCopy next) (own : Unpushed p (plug pushes.around low) next) (no_taker : is_taker next ≡ false) where
     plain_turn : Turn i s t p (installs s p next) pushes.around low low next Resting
     plain_turn = record {
       is = pushes.is;
@@ -273,7 +273,7 @@ module _ (i : Image) (fair : IsFair i.code) (root : Tree (Frame FrameWord Point)
       does = tt;
       orders = next_ordered;
       others = λ q ne. kept_same i fair root input s t law p q;
-      unrun = same_part copy (own (plug pushes.around low)) no_taker;
+      unrun = same_part copy own no_taker;
       finishes = not_ended m m t pushes.around low low pushes.is refl refl;
     }
 
@@ -283,10 +283,14 @@ module _ (i : Image) (fair : IsFair i.code) (root : Tree (Frame FrameWord Point)
   pub run_installs : Law (installs s p (Run (r + 5) 0)) t
   run_installs = plain_install (Run (r + 5) 0) (sym pushes.at_, refl) refl refl
       (record { block = λ o lt out. blank o lt; outcome = inl (ap (λ (b : ℕ). m (BlockWord (b + 1))) (sym pushes.at_) ∙ pushes.open_) }) tt
-      (omega arith) (λ w. tt) refl
+      (omega arith) tt refl
 
   pub push2_installs : Law (installs s p (Push2 r)) t
-  push2_installs = plain_install (Push2 r) (refl, pushes.hook, pushes.at_, pushes.open_) refl refl blank tt tt (λ w. tt) refl
+  push2_installs = plain_install (Push2 r) (refl, pushes.hook, pushes.at_, pushes.open_) refl refl blank tt tt tt refl
+
+  -- a fork that is pushed anew, by who inherits it
+  pub push1_installs : Untaken p r t → Law (installs s p (Push1 r)) t
+  push1_installs own = plain_install (Push1 r) (refl, pushes.hook, pushes.at_, pushes.open_) refl refl blank tt tt (subst (Untaken p r) pushes.is own) refl
 
   -- the fork of the place
   module _ (own bottom : ℕ) (after : Row) (c : Around) (g l y : ℕ) (b : Skeleton) (is : t ≡ plug c (Forking g l y r low b)) (alone : at_rim p c ≡ 0) (nobody : at p b ≡ 0) where
@@ -518,6 +522,13 @@ module _ (i : Image) (fair : IsFair i.code) (root : Tree (Frame FrameWord Point)
   abbrev Law2 : State → Skeleton → Type 0
   Law2 z v = IsKept i root input z v
 
+  -- what it may be at next, whoever goes on with it
+  pub second_runs : Law2 (installs s p (Run (r + 5) 0)) t
+  second_runs = run_installs i fair root input s t law p there keeps r (Push2 r) ke second_pushing
+
+  pub second_again : Untaken p r t → Law2 (installs s p (Push1 r)) t
+  second_again = push1_installs i fair root input s t law p there keeps r (Push2 r) ke second_pushing
+
   second_loads : (own bottom : ℕ) (rest : Row) → Law2 (goes s p (stands i.shape i.code (kind_seat own p (Push2 r) bottom) rest)) t
   second_loads = goes_on i fair root input s t law p there keeps r (Push2 r) ke second_pushing
 
@@ -533,7 +544,7 @@ module _ (i : Image) (fair : IsFair i.code) (root : Tree (Frame FrameWord Point)
 
     bottom_rows : (e : Entry) (n : ℕ) (rest : Row) → Comes i.shape seat2 n (push_bottom seat2 r e) rest → P2 rest
     bottom_rows e n rest q = tried_rows i.shape seat2 P2 (EntryWord p bottom) e (record { kind = Run (r + 5) 0; bottom = bottom + 1 }) (λ ends. absurd ends)
-        (λ ends. run_installs i fair root input s t law p there keeps r (Push2 r) ke second_pushing)
+        (λ ends. second_runs)
         (λ new found. (refl, second_loads own bottom (Now (left_begins r (bottom + 1))), waits_now i fair root input s t law p there keeps r (Push2 r) ke second_pushing (λ w. tt) own bottom (Now (left_begins r (bottom + 1)))))
         (pushed_job e r) n rest q
 

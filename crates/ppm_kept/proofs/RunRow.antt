@@ -99,7 +99,7 @@ pub split_at : (f a b c g x : ℕ) → c ≡ a + b → g ≡ f + a → inside f 
 split_at f a b c g x ce ge = ap (λ (z : ℕ). inside f z x) ce ∙ inside_split f a b x ∙ ap (λ (z : ℕ). inside f a x + inside z b x) (sym ge)
 
 -- a capsule that begins by asking for room asks for so much
-room_asked : (words : ℕ) (is : List Instr) (w : ℕ) → room_of is ≡ Some w → (n : Memory Where) → w ≤ asked code_locations (capsule_of words is) n
+pub room_asked : (words : ℕ) (is : List Instr) (w : ℕ) → room_of is ≡ Some w → (n : Memory Where) → w ≤ asked code_locations (capsule_of words is) n
 room_asked words [] w e n = absurd (cc)
 room_asked words (Room x ∷ is) w e n = let same : x ≡ w = cc in omega (arith, same)
 room_asked words (i ∷ is) w e n = absurd (cc)

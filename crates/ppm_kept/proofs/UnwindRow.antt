@@ -220,7 +220,7 @@ module _ (i : Image) (fair : IsFair i.code) (root : Tree (Frame FrameWord Point)
       → Law (goes s p (stands i.shape i.code (sits own bottom) (found_at i.shape (sits own bottom) victim point (content_of (reading_at point) (m (cell_at (sits own bottom) victim point)))))) t
   RowLaw (Now next) = Ends next → Law (installs s p (kind_then next)) (by_unwind p (kind_then next) t)
   RowLaw (Store cell content next) = ((own bottom : ℕ) → Law (stores s p cell (word_of content) (stands_then i.shape i.code (sits own bottom) next)) t) × (is_cell i.shape cell ≡ true)
-  RowLaw (Exchange cell old new next) = ((own bottom : ℕ) → Law (exchanges s p cell (word_of old) (word_of new) (stands_then i.shape i.code (sits own bottom) next)) t) × (is_cell i.shape cell ≡ true)
+  RowLaw (Exchange cell old new next) = ((own bottom : ℕ) → Law (exchanges s p cell (word_of old) (word_of new) (stands_then i.shape i.code (sits own bottom) next)) t) × (cell ≡ FinishWord)
 
   -- the loads
   link_load : RowLaw (Now (Load (UnwindLink f)))
@@ -857,6 +857,10 @@ module _ (i : Image) (fair : IsFair i.code) (root : Tree (Frame FrameWord Point)
   installed_law Again a ends = absurd ends
   installed_law Broken a ends = absurd ends
 
+  -- it exchanges the finish word alone
+  pub exchange_is : (cell : Cell) (old new : Content) (next : Then) → s.doing p ≡ InRow (Exchange cell old new next) → cell ≡ FinishWord
+  exchange_is cell old new next e = (under_of (Exchange cell old new next) e).1
+
   pub unwind_keeps : UnwindKeeps i root input s t p f
   unwind_keeps = record {
     begins = λ own bottom. going i fair root input s t law p (ap is_taker ke) (InRow (Now (Load (UnwindLink f)))) (subst (λ (k : RestartKind). Under i m p k (Now (Load (UnwindLink f)))) (sym ke) (bottom, 0, refl));
@@ -864,7 +868,7 @@ module _ (i : Image) (fair : IsFair i.code) (root : Tree (Frame FrameWord Point)
     stores = λ own bottom found cell content next e. (under_of (Store cell content next) e).0 own bottom;
     cells = λ cell content next e. (under_of (Store cell content next) e).1;
     exchanges = λ own bottom found cell old new next e. (under_of (Exchange cell old new next) e).0 own bottom;
-    exchange_cells = λ cell old new next e. (under_of (Exchange cell old new next) e).1;
+    exchange_cells = λ cell old new next e. subst (λ (x : Cell). is_cell i.shape x ≡ true) (sym (exchange_is cell old new next e)) refl;
     installs = λ next e ends. installed_law next (under_of (Now next) e) ends;
     faults = going i fair root input s t law p (ap is_taker ke) Resting tt;
   }

@@ -23,3 +23,7 @@ pub mod Steps
 pub mod Bearing
 pub mod Answers
 pub mod Rooms
+pub mod Heirs
+pub mod Left
+pub mod Stops
+pub mod Spent

@@ -63,20 +63,26 @@ by_exchange m p (Arrive r d) made t = by_arrive m p r t
 by_exchange m p (Push2 r) true t = over_left p (pushed Waiting) t
 by_exchange m p k made t = t
 
--- the step of a processor that stands there
-abbrev pub tree_by : Image → List ℕ → Standing → Skeleton → Skeleton
-tree_by i words (IsWithin seat (Now next)) t = by_end seat.place seat.restart.kind next t
-tree_by i words (IsWithin seat (Store cell content next)) t = by_store seat.place seat.restart.kind t
-tree_by i words (IsWithin seat (Exchange cell old new next)) t =
-    by_exchange (view i.shape words) seat.place seat.restart.kind (read i.shape words cell == word_of old) t
-tree_by i words (IsRunning seat (Installs kind)) t =
-    by_install i (view i.shape words) seat.place seat.restart.kind kind t
-tree_by i words standing t = t
+-- the step of a processor that stands there, by what these words by cells show
+abbrev pub tree_with : Image → (Cell → ℕ) → List ℕ → Standing → Skeleton → Skeleton
+tree_with i m words (IsWithin seat (Now next)) t = by_end seat.place seat.restart.kind next t
+tree_with i m words (IsWithin seat (Store cell content next)) t = by_store seat.place seat.restart.kind t
+tree_with i m words (IsWithin seat (Exchange cell old new next)) t =
+    by_exchange m seat.place seat.restart.kind (read i.shape words cell == word_of old) t
+tree_with i m words (IsRunning seat (Installs kind)) t = by_install i m seat.place seat.restart.kind kind t
+tree_with i m words standing t = t
 
 -- its act; faults and quits change no tree
+abbrev pub act_with : Image → (Cell → ℕ) → List ℕ → Act → Standing → Skeleton → Skeleton
+act_with i m words (Step victim) standing t = tree_with i m words standing t
+act_with i m words act standing t = t
+
+-- by the machine's own words
+abbrev pub tree_by : Image → List ℕ → Standing → Skeleton → Skeleton
+tree_by i words standing t = tree_with i (view i.shape words) words standing t
+
 abbrev pub by_act : Image → List ℕ → Act → Standing → Skeleton → Skeleton
-by_act i words (Step victim) standing t = tree_by i words standing t
-by_act i words act standing t = t
+by_act i words act standing t = act_with i (view i.shape words) words act standing t
 
 -- the skeleton after a turn
 abbrev pub tree_after : Image → Machine → Turn → Skeleton → Skeleton

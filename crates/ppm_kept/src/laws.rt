@@ -2,14 +2,16 @@
 //! codes without conflicts.
 ghost use Rattle.ppm_kept.specs.Answers.{EndsAsMeant};
 ghost use Rattle.ppm_kept.specs.Arriving.{ArriveRowKeeps};
-ghost use Rattle.ppm_kept.specs.Bearing.{TurnsBear};
+ghost use Rattle.ppm_kept.specs.Bearing.{HeirsBear, TurnsBear, TurnsBearLeft};
 ghost use Rattle.ppm_kept.specs.Births.{AllBirthsStay, OpeningsHaveNone, RowsAreSteady};
 ghost use Rattle.ppm_kept.specs.Copies.{AllCopiesStay, OpeningsHaveCopies};
 ghost use Rattle.ppm_kept.specs.Fates.{AllFatesShow, AllFatesStay, NoneIsLeft};
+ghost use Rattle.ppm_kept.specs.Heirs.{HeirsKeep};
 ghost use Rattle.ppm_kept.specs.JoinLast.{JoinRowKeeps, LastJoinRowKeeps};
 ghost use Rattle.ppm_kept.specs.JoinValues.{AllBranchValuesPass};
 ghost use Rattle.ppm_kept.specs.Joins.{EarlyJoinRowKeeps};
 ghost use Rattle.ppm_kept.specs.Laws.{BumpRowKeeps, FramesRun, RunRowKeeps};
+ghost use Rattle.ppm_kept.specs.Left.{TurnsKeepLeft};
 ghost use Rattle.ppm_kept.specs.Loads.{AllLoadsShow};
 ghost use Rattle.ppm_kept.specs.Openings.{ImagesOpen, OpeningsAreKept};
 ghost use Rattle.ppm_kept.specs.Others.{OthersKeep};
@@ -17,7 +19,9 @@ ghost use Rattle.ppm_kept.specs.Places.{MachinesOpen, TurnsShow};
 ghost use Rattle.ppm_kept.specs.Pushing.{AllUntakenStays, Push1RowKeeps, Push2RowKeeps};
 ghost use Rattle.ppm_kept.specs.Returns.{ExchangesAreSeen, UnwindRowKeeps};
 ghost use Rattle.ppm_kept.specs.Rooms.{RoomIsBounded};
+ghost use Rattle.ppm_kept.specs.Spent.{FullPoolsAreSpent};
 ghost use Rattle.ppm_kept.specs.Steps.{TurnsKeep};
+ghost use Rattle.ppm_kept.specs.Stops.{TurnsKeepOn, WordsStay};
 ghost use Rattle.ppm_kept.specs.Takes.{TakeRowsKeep};
 ghost use Rattle.ppm_kept.specs.Turns.{StepsAreSeen, StoresAreCells};
 ghost use Rattle.ppm_kept.specs.Unruns.{AllUnrunsStay};
@@ -122,9 +126,17 @@ pub fn join_row_keeps()
 /// over. A right branch that it begins waited for a taker, at the frame that begins, and its strand
 /// is then the place's. Two things the deque's half has to say: that the branch waits when its
 /// offset is loaded (`IsWaiting`), and that no other place is about to begin it (`IsAlone`). Where a
-/// place goes on with what it inherited, with takeover by entries, nothing is said yet.
+/// place goes on with what it inherited, with takeover by entries, that is `heirs_keep`.
 pub fn take_rows_keep()
     ensures law { TakeRowsKeep }
+{}
+
+/// Where a place goes on with what it inherited, with takeover by entries: the strand of the closed
+/// place is then its own, and what that place had given out of its pool stays as it is. The closed
+/// place's counter counts as its ceiling, and its free words as none; blocks are forked upwards still.
+pub fn heirs_keep()
+    ensures law { HeirsKeep }
+    ensures births { HeirsBear }
 {}
 
 /// The state by places, from the words of a machine and from where its processors stand: each turn of
@@ -145,8 +157,20 @@ pub fn loads_show()
 /// the turn stops the run with a finish that is no outcome. What it takes from the deque's half is
 /// `ActsSo`: the processor is alone in its place, how its row was come to, and of takes that the branch
 /// waits and that no other place is about to begin it.
+/// As the finish word then says no outcome, all is kept there too, and behind it (`all`); so it is where
+/// words come back that were saved, with all processors lost.
 pub fn turns_keep()
     ensures law { TurnsKeep }
+    ensures all { TurnsKeepOn }
+    ensures back { WordsStay }
+{}
+
+/// With either takeover, of the state with the places left out that others have followed: a turn by which
+/// no place goes on with what it inherited keeps it. Where one does, that is `heirs_keep`; by places none
+/// was followed, and this is `turns_keep`. So of the blocks that are forked.
+pub fn turns_keep_left()
+    ensures law { TurnsKeepLeft }
+    ensures births { TurnsBearLeft }
 {}
 
 /// From a state by places that is kept, with a finish word that says an outcome: the depth-first run of
@@ -156,8 +180,10 @@ pub fn ends_as_meant()
 {}
 
 /// Whatever places do, none gives out more of its pool than the depth-first run takes of all.
+/// Where one finds its pool full, that run takes more words than a pool has.
 pub fn room_is_bounded()
     ensures law { RoomIsBounded }
+    ensures spent { FullPoolsAreSpent }
 {}
 
 /// Blocks are opened upwards in each pool: those that were forked lie below what a place may still

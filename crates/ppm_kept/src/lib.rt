@@ -3,8 +3,8 @@
 //! tree (`ppm_frames`); what always holds of them is `IsKept`.
 //! Contract: an opening is kept; each step of a place in the rows of its strand keeps it, with the
 //! tree's own steps; what other places have done stays meanwhile (`specs/Others`).
-//! Stands on `ppm_step`, `ppm_ends` and `ppm_frames`. Still missing are strands that are inherited,
-//! with takeover by entries.
+//! With takeover by entries a place also goes on with what a closed one was at (`specs/Heirs`).
+//! Stands on `ppm_step`, `ppm_ends` and `ppm_frames`.
 //! After the capsules and work stealing of Blelloch et al., SPAA 2018.
 #![tactic(auto)]
 
@@ -12,8 +12,9 @@ mod laws;
 
 pub use laws::{
     arrive_row_keeps, branch_values_pass, bump_row_keeps, copies_stay, early_join_row_keeps,
-    ends_as_meant, exchanges_are_seen, fates_agree, forks_are_new, frames_run, join_row_keeps,
-    last_join_row_keeps, loads_show, openings_are_kept, others_keep, push1_row_keeps,
-    push2_row_keeps, room_is_bounded, run_row_keeps, steps_are_seen, take_rows_keep, turns_bear,
-    turns_keep, turns_show, unruns_stay, untaken_stays, unwind_row_keeps,
+    ends_as_meant, exchanges_are_seen, fates_agree, forks_are_new, frames_run, heirs_keep,
+    join_row_keeps, last_join_row_keeps, loads_show, openings_are_kept, others_keep,
+    push1_row_keeps, push2_row_keeps, room_is_bounded, run_row_keeps, steps_are_seen,
+    take_rows_keep, turns_bear, turns_keep, turns_keep_left, turns_show, unruns_stay,
+    untaken_stays, unwind_row_keeps,
 };

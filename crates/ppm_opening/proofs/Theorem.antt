@@ -22,7 +22,7 @@ module _ (code : CodeParts) (input : List NamedArray) (named : NamesArrays code 
   own_same (Slot slot) = slots_same input code.arrays slot named
   own_same Value = refl
 
-  strand_same : strand_of_image code input ≡ root_strand code input
+  pub strand_same : strand_of_image code input ≡ root_strand code input
   strand_same = λ i. Strand (record { own = λ word. own_same word i; point = at_capsule (entry_of code code.root) })
 
 pub begin_the_run : (code : CodeParts) (input : List NamedArray) (s : Shape) (keeper : ℕ) (image : Image)

@@ -3,7 +3,8 @@
 -- (`ShownLemmas`); then what turns owe (`OrderlyLemmas`). Who takes a branch has it at its home
 -- (`TakerLemmas`), so a turn leads on (`GoingLemmas`, `BearingLemmas`, `BrokenLemmas`); a run's
 -- beginning (`OpenLemmas`) and its end (`OutcomeLemmas`). What a row makes of the tree and of homes, kind by
--- kind, is `AgreeLemmas`; that both halves join again is `JoinLemmas`, and whole runs are `WholeLemmas`.
+-- kind, is `AgreeLemmas`; that both halves join again is `JoinLemmas`, and whole runs are `WholeLemmas`; each of their moments is
+-- `MomentLemmas`, a pool that was found full `SpentLemmas`, and words that come back `BackLemmas`.
 
 pub mod TameLemmas
 pub mod StandLemmas
@@ -18,3 +19,6 @@ pub mod OutcomeLemmas
 pub mod AgreeLemmas
 pub mod JoinLemmas
 pub mod WholeLemmas
+pub mod MomentLemmas
+pub mod SpentLemmas
+pub mod BackLemmas

@@ -14,7 +14,7 @@ use Rattle.ppm_runs.specs.Run.{image}
 use Rattle.ppm_runs.specs.Openings.{RunsOpen}
 
 -- a processor that is lost, or is not there, has met no broken words
-not_broken : (x : Standing) (p : ℕ) → (x ≡ IsLost) ⊎ (x ≡ IsDone) → x ≡ IsBroken p → ⊥
+pub not_broken : (x : Standing) (p : ℕ) → (x ≡ IsLost) ⊎ (x ≡ IsDone) → x ≡ IsBroken p → ⊥
 not_broken x p is e = elim is [
   | inl l ↦ absurd (let z : IsLost ≡ IsBroken p = sym l ∙ e in cc)
   | inr l ↦ absurd (let z : IsDone ≡ IsBroken p = sym l ∙ e in cc)

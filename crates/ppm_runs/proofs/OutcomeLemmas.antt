@@ -71,7 +71,7 @@ runs_end s code root input state h forked taken t run finish says out =
     }
 
 -- no finish word that says a stop is 0
-unset_is : finish_word Unset ≡ 0
+pub unset_is : finish_word Unset ≡ 0
 unfolding number_of
 unset_is = refl
 

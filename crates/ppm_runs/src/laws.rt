@@ -1,7 +1,10 @@
 //! What turns owe, shown by calls that do nothing.
 ghost use Rattle.ppm_runs.specs.Laws.{BirthsFollow, BrokenFollow, TakersHave, TurnsAreOrderly, TurnsGoOn};
+ghost use Rattle.ppm_runs.specs.Moments.{OnceAtEachMoment, RunsStay, TurnsLeadOn};
 ghost use Rattle.ppm_runs.specs.Openings.{RunsOpen};
 ghost use Rattle.ppm_runs.specs.Outcomes.{RunsEnd, StopsStay};
+ghost use Rattle.ppm_runs.specs.Renewals.{PartsComeTo, RunsComeBack};
+ghost use Rattle.ppm_runs.specs.Spent.{RoomIsSpent};
 ghost use Rattle.ppm_runs.specs.Whole.{JoinsStay, RunsComeTo, TurnsLead};
 
 /// With takeover by places each turn is orderly in a state of a run: block words that it changes
@@ -55,4 +58,28 @@ pub fn runs_come_to()
     ensures law { RunsComeTo }
     ensures leads { TurnsLead }
     ensures joins { JoinsStay }
+{}
+
+/// With takeover by places, from an image of a sound code, whatever the turns, a run's state is come to,
+/// also where a turn stops the run, and behind it; so at each moment no right branch was forked twice,
+/// and none was taken twice.
+pub fn runs_stay()
+    ensures leads { TurnsLeadOn }
+    ensures stay { RunsStay }
+    ensures once { OnceAtEachMoment }
+{}
+
+/// With takeover by places, from an image of a sound code, whatever the turns: where the finish word says
+/// that a pool is full, and the depth-first run of the root comes to an end, that run takes more words
+/// than a pool has.
+pub fn room_is_spent()
+    ensures law { RoomIsSpent }
+{}
+
+/// With takeover by places, saved words of a run's state come back, and that is a run's state again. So
+/// in a run in parts, whatever the turns, no right branch is forked or taken twice over all of it, and an
+/// outcome is that of the depth-first run.
+pub fn runs_come_back()
+    ensures back { RunsComeBack }
+    ensures parts { PartsComeTo }
 {}

@@ -6,6 +6,7 @@
 -- What a run's turns say of a processor is what its deeds say (`SaidLemmas`).
 
 mod ListLemmas
+mod PaddedLemmas
 pub mod RunLemmas
 mod Kept
 mod Owed

@@ -40,7 +40,7 @@ pub record HasActed (s : Shape) (code : CodeParts) (own : ℕ) (act : Act) (old 
   pub next : told.next ≡ next_of new
 
 -- one that was done has made none
-pub record HasRested (old new : Standing) (deeds deeds' : List Deed) (told : Told) : Type 0 where
+pub record HasMadeNone (old new : Standing) (deeds deeds' : List Deed) (told : Told) : Type 0 where
   pub deed : deeds' ≡ deeds
   pub stands : new ≡ old
   pub tells : told ≡ record { event = None; work = false; next = Done }

@@ -1,3 +1,4 @@
+pub mod Padding
 pub mod Run
 pub mod Events
 pub mod Telling

@@ -17,6 +17,7 @@ use Rattle.ppm_step.specs.declared.turn.Why.TheVariants.{Turns, Watch}
 use Rattle.ppm_step.specs.Standings.{Standing, IsLost, IsDone}
 use Rattle.ppm_step.specs.State.{State, opening, stand_of, happens, after, along, want_of, stand_after, found_in, seeks_holder}
 use Rattle.ppm_step.specs.Stood.{holder_at}
+pub use Rattle.ppm_table.specs.Padding.{padding}
 use Rattle.ppm_table.specs.declared.view.Deed.{Deed}
 use Rattle.ppm_table.specs.declared.view.Deed.TheVariants.{Loaded, Stored, Exchanged, Softened, Hardened, Quitted}
 use Rattle.ppm_table.specs.declared.view.Opening.{Opening}
@@ -140,10 +141,6 @@ Below n (r ∷ rs) = (r.number < n) × Below n rs
 abbrev pub Numbered : List Record → ℕ → Type 0
 Numbered [] c = ⊥
 Numbered (r ∷ rs) c = (r.number ≡ c) ⊎ Numbered rs c
-
--- a table has words of no use in front of the run's, so that the finish word, which each capsule loads, lies in a cache line of its own
-abbrev pub padding : ℕ
-padding = 5
 
 -- the words behind the padding and the records in the views are those of one run
 pub record IsRun (k : Opening) (t : TableState (Unit {0}) View) : Type 0 where

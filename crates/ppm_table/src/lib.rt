@@ -10,12 +10,14 @@
 mod closed;
 mod closing;
 mod opening;
+mod padded;
 mod processor;
 mod touching;
 mod turning;
 mod view;
 
 pub use closed::Closed;
+pub use padded::Padded;
 pub use processor::{Processor, Shared};
 pub use touching::{Found, give_up, hear, step_event, tell, touch};
 pub use turning::is_done;

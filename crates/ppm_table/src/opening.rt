@@ -1,5 +1,5 @@
 //! How a table begins.
-ghost use Rattle.std.specs.Prelude.{◌≡◌, ◌<◌, ◌+◌, [], IfOk, drop};
+ghost use Rattle.std.specs.Prelude.{◌≡◌, ◌<◌, ◌+◌, []};
 ghost use Rattle.std.specs.List.{sum};
 ghost use Rattle.ppm_cells.specs.Cells.{word_count};
 ghost use Rattle.ppm_cells.specs.Memory.{AreWordsOf};
@@ -9,8 +9,8 @@ ghost use Rattle.ppm_step.specs.Locals.{IsLocal, standing_of};
 ghost use Rattle.ppm_step.specs.Standings.{IsLost};
 ghost use Rattle.ppm_table.specs.Run.{maker, padding, seated};
 
+use crate::padded::Padded;
 use crate::processor::{Processor, Shared};
-use crate::touching::PADDING;
 use crate::view::{Halves, Opening, View, Words};
 use atomic_table::{Seat, Table};
 use ppm_cells::Shape;
@@ -64,20 +64,6 @@ fn processor_at(own: u32, seat: Seat<(), View>) -> Processor
     }
 }
 
-/// The words behind the padding of a table.
-fn pad(alloc: Global, words: &[u64]) -> Result<Vec<u64>, NoMemory>
-    ensures { IfOk result (λ padded. drop padding padded.items ≡ words.now) }
-{
-    let mut padded = Vec::with_capacity(alloc, PADDING + words.len())?;
-    for _ in 0..PADDING {
-        padded.push(0)?;
-    }
-    for word in words {
-        padded.push(*word)?;
-    }
-    Ok(padded)
-}
-
 impl Shared {
     ghost use Rattle.std.specs.Prelude.{◌≡◌, IfOk};
     ghost use Rattle.ppm_table.specs.Shown.{AreNewOf, opening_of};
@@ -94,13 +80,12 @@ impl Shared {
         ensures arrays { IfOk result (λ r. r.0.lengths ≡ image.lengths) }
         ensures processors { IfOk result (λ r. AreNewOf r.0 r.1.items) }
     {
-        let padded = pad(alloc, image.words.as_slice())?;
         let about = Opening {
             shape: image.shape,
             code,
-            words: image.words,
+            words: Padded::behind(image.words.into_vec())?,
         };
-        let (table, mut maker) = Table::of_words(alloc, padded.as_slice(), &about)?;
+        let (table, mut maker) = Table::of_words(alloc, about.words.all(), &about)?;
         let Opening {
             shape,
             code,

@@ -8,7 +8,7 @@ ghost use Rattle.ppm_step.specs.Standings.{IsDone};
 ghost use Rattle.ppm_step.specs.declared.turn.Act.TheVariants.{Step, Soft, Hard, Quit};
 ghost use Rattle.ppm_table.specs.Run.{IsActAt};
 ghost use Rattle.ppm_table.specs.Shown.{IsOf, deeds_of_processor};
-ghost use Rattle.ppm_table.specs.Events.{HasActed, HasRested};
+ghost use Rattle.ppm_table.specs.Events.{HasActed, HasMadeNone};
 
 use crate::processor::{Processor, Shared};
 use crate::touching::{give_up, hard, soft, step_event, touch};
@@ -38,7 +38,7 @@ impl Processor {
     ghost use Rattle.ppm_step.specs.declared.turn.Act.TheVariants.{Step, Soft, Hard, Quit};
     ghost use Rattle.ppm_table.specs.Run.{IsActAt};
     ghost use Rattle.ppm_table.specs.Shown.{IsOf, deeds_of_processor};
-    ghost use Rattle.ppm_table.specs.Events.{HasActed, HasRested};
+    ghost use Rattle.ppm_table.specs.Events.{HasActed, HasMadeNone};
 
     /// Makes its coming step, where the turn names this victim.
     fn step(&mut self, shared: &Shared, victim: u32) -> Told
@@ -157,8 +157,8 @@ impl Processor {
             → HasActed shared.now.shape shared.now.code self.old.local.own act
             (standing_of shared.now.shape shared.now.code self.old.local) (standing_of shared.now.shape shared.now.code self.new.local)
             (deeds_of_processor self.old) (deeds_of_processor self.new) result }
-        ensures rested { standing_of shared.now.shape shared.now.code self.old.local ≡ IsDone
-            → HasRested (standing_of shared.now.shape shared.now.code self.old.local) (standing_of shared.now.shape shared.now.code self.new.local)
+        ensures made_none { standing_of shared.now.shape shared.now.code self.old.local ≡ IsDone
+            → HasMadeNone (standing_of shared.now.shape shared.now.code self.old.local) (standing_of shared.now.shape shared.now.code self.new.local)
             (deeds_of_processor self.old) (deeds_of_processor self.new) result }
     {
         let _ = (shared.shape.slots, shared.code.parts().root);

@@ -2,11 +2,11 @@
 ghost use Rattle.ppm_table.specs.Run.{IsRun, maker, spent, left_of, right_of, both_of};
 ghost use Rattle.ppm_table.specs.Run.{loads, stores, exchanges, softens, hardens, spends, refuses};
 
+use crate::padded::Padded;
 use atomic_table::{Join, Play, Split, Table, TableRule};
 use ppm_cells::Shape;
 use ppm_code::Code;
 use ppm_step::Why;
-use ppm_words::Items;
 use std::alloc::Global;
 
 /// What a processor did on the words, by addresses.
@@ -31,7 +31,7 @@ pub enum Deed {
 pub struct Opening {
     pub shape: Shape,
     pub code: Code,
-    pub words: Items<u64>,
+    pub words: Padded,
 }
 
 /// What a processor's seat knows. No value of it is made.

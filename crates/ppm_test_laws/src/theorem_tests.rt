@@ -6,25 +6,27 @@ use ppm_ends::{
 use ppm_frames::{cells_are_viewed, parts_swap, steps_pass_up, stores_are_seen, values_pass};
 use ppm_kept::{
     arrive_row_keeps, branch_values_pass, bump_row_keeps, copies_stay, early_join_row_keeps,
-    ends_as_meant, exchanges_are_seen, fates_agree, forks_are_new, frames_run, join_row_keeps,
-    last_join_row_keeps, loads_show, openings_are_kept, others_keep, push1_row_keeps,
-    push2_row_keeps, room_is_bounded, run_row_keeps, steps_are_seen, take_rows_keep, turns_bear,
-    turns_keep, turns_show, unruns_stay, untaken_stays, unwind_row_keeps,
+    ends_as_meant, exchanges_are_seen, fates_agree, forks_are_new, frames_run, heirs_keep,
+    join_row_keeps, last_join_row_keeps, loads_show, openings_are_kept, others_keep,
+    push1_row_keeps, push2_row_keeps, room_is_bounded, run_row_keeps, steps_are_seen,
+    take_rows_keep, turns_bear, turns_keep, turns_keep_left, turns_show, unruns_stay,
+    untaken_stays, unwind_row_keeps,
 };
 use ppm_runs::{
-    births_follow, runs_come_to, runs_end, runs_open, stops_stay, takers_have, turns_are_orderly,
-    turns_go_on,
+    births_follow, room_is_spent, runs_come_back, runs_come_to, runs_end, runs_open, runs_stay,
+    stops_stay, takers_have, turns_are_orderly, turns_go_on,
 };
 use ppm_slots::{frames_stay_trim, writes_are_slots};
 use ppm_tickets::{
-    entries_change_lawfully, images_open, in_every_run, in_every_run_by_entries, places_stay_home,
-    resumes, turns_follow,
+    entries_change_lawfully, heirs_see, images_open, in_every_run, in_every_run_by_entries,
+    places_stay_home, resumes, turns_follow,
 };
 
 #[test]
 fn the_laws_of_tickets_are_called() {
     in_every_run();
     in_every_run_by_entries();
+    heirs_see();
     turns_follow();
     resumes();
     images_open();
@@ -74,6 +76,7 @@ fn the_laws_of_rows_are_called() {
     last_join_row_keeps();
     join_row_keeps();
     take_rows_keep();
+    heirs_keep();
     forks_are_new();
     unruns_stay();
     fates_agree();
@@ -81,6 +84,7 @@ fn the_laws_of_rows_are_called() {
     loads_show();
     turns_bear();
     turns_keep();
+    turns_keep_left();
     ends_as_meant();
     room_is_bounded();
 }
@@ -90,6 +94,9 @@ fn the_laws_of_runs_are_called() {
     runs_open();
     runs_end();
     runs_come_to();
+    runs_stay();
+    runs_come_back();
+    room_is_spent();
     stops_stay();
     takers_have();
     births_follow();

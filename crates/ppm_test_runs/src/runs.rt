@@ -2,7 +2,7 @@
 use ppm_answers::Status;
 use ppm_cells::{Takeover, pools_fit};
 use ppm_cli::RunOptions;
-use ppm_driver::{WATCHERS, answers_are_one, run_command};
+use ppm_driver::{WATCHERS, answers_are_one, run_command, runs_are_as_programs};
 use ppm_ports::{MemorySink, MemorySource, Silent};
 use ppm_words::Idle;
 use std::alloc::Global;
@@ -323,6 +323,7 @@ fn sources_are_run(rt: HostRuntime) -> Result<(), Fail> {
         shows(&rt, rt.alloc(), options, "none", text, (answer, status))?;
     }
     answers_are_one();
+    runs_are_as_programs();
     Ok(())
 }
 

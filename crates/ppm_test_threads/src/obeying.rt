@@ -91,18 +91,18 @@ fn stops(pace: &Pace, plan: &Plan, limits: Limits) -> bool {
     matches!(limits.idle, Idle::Leave) && matches!(choose(pace, plan, limits), Choice::Leave)
 }
 
-/// Whether these events are what a processor is told that obeys, from its first act until its acts
-/// stop, whatever the others do.
-pub(crate) fn obeys(
+/// Goes by these events, as a processor that obeys from its first act on: its pace behind them.
+/// `None` where one of them is not what it is told.
+fn pace_behind(
     shape: &Shape,
     code: &Code,
     plan: &Plan,
     limits: Limits,
     own: u32,
     events: &[Event],
-) -> bool {
+) -> Option<Pace> {
     if own >= shape.processors || plan.processors() != shape.processors {
-        return false;
+        return None;
     }
     let mut local = Local::lost(own);
     let mut pace = Pace::first(plan, own);
@@ -118,8 +118,25 @@ pub(crate) fn obeys(
             limits,
             *event,
         ) {
-            return false;
+            return None;
         }
     }
-    stops(&pace, plan, limits)
+    Some(pace)
+}
+
+/// Whether these events are what a processor is told that obeys, from its first act until its acts
+/// stop, whatever the others do; or, where it was stopped before, a front of that.
+pub(crate) fn obeys(
+    shape: &Shape,
+    code: &Code,
+    plan: &Plan,
+    limits: Limits,
+    own: u32,
+    events: &[Event],
+    stopped: bool,
+) -> bool {
+    match pace_behind(shape, code, plan, limits, own, events) {
+        Some(pace) => stopped || stops(&pace, plan, limits),
+        None => false,
+    }
 }

@@ -1,11 +1,13 @@
 //! Watchers that refuse, at each of their turns in turn.
 ghost use Rattle.std.specs.Prelude.{Some};
 
-use crate::tables::{WIDE, is_right, run};
+use crate::obeying::obeys;
+use crate::tables::{WIDE, fork_code, fork_shape, is_right, plan_of, run};
 use ppm_choice::{Idle, Limits};
 use ppm_ports::Watch;
 use ppm_words::{Event, NoMemory};
 use std::alloc::Global;
+use std::process::Abort;
 use std::test::Fail;
 
 /// A watcher that keeps so many events, and refuses the next one.
@@ -46,6 +48,24 @@ fn kept(watch: &[Bounded], number: usize) -> Option<usize> {
         Some(one) => Some(one.events.len()),
         None => None,
     }
+}
+
+/// Fails unless each list is a front of what a processor is told that obeys.
+fn are_fronts<R: Abort>(
+    rt: &R,
+    alloc: Global,
+    limits: Limits,
+    watch: &[Bounded],
+) -> Result<(), Fail> {
+    let code = fork_code(alloc)?;
+    let shape = fork_shape(3)?;
+    let plan = plan_of(alloc, "none", 3)?;
+    for own in 0..3u32 {
+        let told = watch.get(own as usize).ok_or("a watcher")?;
+        let fine = obeys(&shape, &code, &plan, limits, own, told.events.as_slice(), true);
+        assert!(rt; fine, "processor {own}");
+    }
+    Ok(())
 }
 
 #[test]
@@ -94,12 +114,14 @@ fn one_of_three_is_refused(rt: HostRuntime) -> Result<(), Fail> {
             assert_eq!(&rt; answer.is_none(), refused, "{left}");
             assert_eq!(&rt; kept(&watch, 1), Some(left.min(2) as usize), "{left}");
             assert_eq!(&rt; kept(&watch, 3), Some(0), "{left}");
+            are_fronts(&rt, alloc, limits, &watch)?;
         }
         for left in 0..15u32 {
             let mut watch = with_bounds(alloc, &[left, 1_000_000, 1_000_000])?;
             let answer = run(&rt, alloc, "none", limits, 3, &mut watch)?;
             assert!(&rt; answer.is_none(), "{left}");
             assert_eq!(&rt; kept(&watch, 0), Some(left as usize), "{left}");
+            are_fronts(&rt, alloc, limits, &watch)?;
         }
     }
     Ok(())

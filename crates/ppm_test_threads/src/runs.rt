@@ -120,7 +120,7 @@ fn all_obey<R: Abort>(
     let plan = plan_of(alloc, faults, processors)?;
     let mut own = 0;
     for told in watch {
-        let fine = obeys(&shape, &code, &plan, limits, own, told.events());
+        let fine = obeys(&shape, &code, &plan, limits, own, told.events(), false);
         assert!(rt; fine, "{faults}, processor {own}");
         own = own.saturating_add(1);
     }

@@ -1,10 +1,11 @@
 -- A processor on its way, some acts further.
-use Rattle.std.proofs.Common.{◌≡◌, ◌≢◌, ◌∙◌, ◌≤◌, ◌+◌, inl, inr, ℕ, Option, Some, List, [], ◌∷◌, ◌++◌, length, drop, arith, refl, sym, ap, subst, append_assoc, append-nil}
+use Rattle.std.proofs.Common.{◌≡◌, ◌≢◌, ◌∙◌, ◌≤◌, ◌+◌, inl, inr, ℕ, Bool, Option, Some, List, [], ◌∷◌, ◌++◌, length, drop, arith, refl, sym, ap, subst, append_assoc, append-nil}
 use Rattle.std.proofs.lemmas.List.{length-append}
 use Rattle.ppm_words.specs.declared.event.Event.{Event}
 use Rattle.ppm_plan.specs.Draws.{Drawing, victims_of, next_victims}
 use Rattle.ppm_plan.specs.Schedules.{Planned}
 use Rattle.ppm_step.specs.declared.turn.Act.{Act}
+use Rattle.ppm_step.specs.declared.turn.Why.TheVariants.{Watch}
 use Rattle.ppm_step.specs.Standings.{Standing, IsLost, IsDone}
 use Rattle.ppm_choice.specs.declared.limits.Limits.{Limits}
 use Rattle.ppm_choice.specs.declared.pace.Pace.{Pace}
@@ -15,6 +16,7 @@ use Rattle.ppm_choice.specs.Paces.{IsPace, AreClear}
 use Rattle.ppm_choice.specs.Tells.{told_before, told_from}
 use Rattle.ppm_choice.proofs.ParkLemmas.{stays_awake}
 use Rattle.ppm_table.specs.declared.view.Deed.{Deed}
+use Rattle.ppm_table.specs.declared.view.Deed.TheVariants.{Quitted}
 use Rattle.ppm_table.specs.declared.view.Opening.{Opening}
 use Rattle.ppm_table.specs.Run.{act_by, behind, stood, stands_by, deeds_in, Mine}
 use Rattle.ppm_table.specs.Telling.{event_of_deed, shown, shown_by, Shows}
@@ -22,7 +24,7 @@ use Rattle.ppm_table.proofs.TellingLemmas.{shown_both, since_is}
 use Rattle.ppm_stretch.specs.Steady.{looks_behind, Goes}
 use Rattle.ppm_threads.specs.declared.way.Way.{Way}
 use Rattle.ppm_threads.specs.declared.way.Way.TheVariants.{More, Over, Refused}
-use Rattle.ppm_threads.specs.Going.{acted, acts_of, Grows, KeepsMore, told_of_deeds, told_so_far, Follows, Obeying, Acting, OwnObeys, GoesOn}
+use Rattle.ppm_threads.specs.Going.{acted, acts_of, Grows, HasMoreDeeds, told_of_deeds, told_so_far, Follows, Obeying, Acting, OwnObeys, ObeysSoFar, HasQuit, GoesOn}
 use Rattle.ppm_threads.proofs.AlongLemmas.{acts_both, past_along, along_acts, along_work, along_looks, along_drawn, steps_obey, not_parked, steps_tell, steps_told}
 
 module _ (plan : Planned) (limits : Limits) (k : Opening) (own : ℕ) where
@@ -75,10 +77,46 @@ module _ (plan : Planned) (limits : Limits) (k : Opening) (own : ℕ) where
           ∙ ap (λ (l : List Event). l ++ told_from plan limits own past' rest events) (sym (told_there is));
     }
 
+  -- whatever has such a past obeys so far
+  pub so_far : (deeds : List Deed) (past : Past) → Follows plan limits k own deeds past → ObeysSoFar plan limits k own deeds
+  so_far deeds past f = subst (λ (l : List Acted). Obeys plan limits own nothing_done l IsDone) (append-nil _) (f.back [] IsDone (inl refl))
+
+  -- a quit there, and where the processor was to park before it, event 7
+  pub told_quit : (deeds : List Deed) (past : Past) → Follows plan limits k own deeds past
+      → told_of_deeds plan limits k own (deeds ++ Quitted Watch ∷ [])
+      ≡ told_so_far plan limits k own deeds past ++ event_of_deed k.shape own (stands_by k own deeds) (Quitted Watch) ∷ []
+  told_quit deeds past f =
+      let quit = event_of_deed k.shape own (stands_by k own deeds) (Quitted Watch) in
+      let up = told_before plan limits own past (stands_by k own deeds) in
+      told_there deeds (deeds ++ Quitted Watch ∷ []) (Quitted Watch ∷ []) refl past past f (up ++ quit ∷ []) refl
+      ∙ sym (append_assoc (told_of_deeds plan limits k own deeds) up (quit ∷ []))
+
   -- behind steps in a row
-  pub obeying_along : (me me' : Mine) (pace pace' : Pace) (victims : Drawing) (made work looks n : ℕ)
+  pub follows_along : {exchanged : Bool} → (me me' : Mine) (pace : Pace) (victims : Drawing) (made work looks n : ℕ)
       → (o : Obeying plan limits k own (deeds_in me.0) pace victims)
-      → Goes k own me me' made work looks → made ≤ n → AreClear plan limits own o.past n → pace'.processor ≡ pace.processor
+      → (g : Goes k own me me' made work looks exchanged) → made ≤ n → AreClear plan limits own o.past n
+      → Follows plan limits k own (deeds_in me'.0) (past_along k.shape k.code own o.past (stands_by k own (deeds_in me.0)) g.deeds)
+  follows_along me me' pace victims made work looks n o g few clear =
+      let st = stands_by k own (deeds_in me.0) in
+      let is_few : length g.deeds ≤ n = omega (arith, few, g.count) in
+      follows_more (deeds_in me.0) (deeds_in me'.0) g.deeds g.more o.past (past_along k.shape k.code own o.past st g.deeds) o.follows
+      (shown k.shape k.code own st g.deeds)
+      (steps_told k.shape k.code own plan limits o.past st g.deeds g.steady)
+      (λ rest stands obeys. steps_obey k.shape k.code own plan limits o.past st g.deeds n is_few clear g.steady rest stands obeys)
+      (steps_tell k.shape k.code own plan limits o.past st g.deeds g.steady)
+
+  pub told_along : {exchanged : Bool} → (me me' : Mine) (past : Past) (made work looks : ℕ)
+      → Follows plan limits k own (deeds_in me.0) past → (g : Goes k own me me' made work looks exchanged)
+      → told_of_deeds plan limits k own (deeds_in me'.0)
+      ≡ told_of_deeds plan limits k own (deeds_in me.0) ++ shown k.shape k.code own (stands_by k own (deeds_in me.0)) g.deeds
+  told_along me me' past made work looks f g =
+      let st = stands_by k own (deeds_in me.0) in
+      told_there (deeds_in me.0) (deeds_in me'.0) g.deeds g.more past past f (shown k.shape k.code own st g.deeds)
+      (steps_told k.shape k.code own plan limits past st g.deeds g.steady)
+
+  pub obeying_along : {exchanged : Bool} → (me me' : Mine) (pace pace' : Pace) (victims : Drawing) (made work looks n : ℕ)
+      → (o : Obeying plan limits k own (deeds_in me.0) pace victims)
+      → Goes k own me me' made work looks exchanged → made ≤ n → AreClear plan limits own o.past n → pace'.processor ≡ pace.processor
       → ((past' : Past) → past'.acts ≡ o.past.acts + made → past'.work ≡ o.past.work + work → past'.looks ≡ looks_behind o.past.looks work looks
       → IsPace plan limits past' (stands_by k own (deeds_in me'.0)) pace')
       → Obeying plan limits k own (deeds_in me'.0) pace' victims
@@ -89,32 +127,27 @@ module _ (plan : Planned) (limits : Limits) (k : Opening) (own : ℕ) where
       let works : past'.work ≡ o.past.work + work = let e = along_work k.shape k.code own o.past st g.deeds in omega (arith, e, g.works) in
       let looked : past'.looks ≡ looks_behind o.past.looks work looks = along_looks k.shape k.code own o.past st g.deeds ∙ g.looked o.past.looks in
       let drawn : past'.drawn ≡ o.past.drawn = along_drawn k.shape k.code own o.past st g.deeds g.steady in
-      let is_few : length g.deeds ≤ n = omega (arith, few, g.count) in
       record {
         past = past';
         number = number ∙ o.number;
         pace_is = paces past' acts works looked;
         drawn = subst (λ (d : ℕ). (j : ℕ) → next_victims victims j ≡ drop d (victims_of limits.seed own plan.processors (d + j))) (sym drawn) o.drawn;
-        follows = follows_more (deeds_in me.0) (deeds_in me'.0) g.deeds g.more o.past past' o.follows (shown k.shape k.code own st g.deeds)
-            (steps_told k.shape k.code own plan limits o.past st g.deeds g.steady)
-            (λ rest stands obeys. steps_obey k.shape k.code own plan limits o.past st g.deeds n is_few clear g.steady rest stands obeys)
-            (steps_tell k.shape k.code own plan limits o.past st g.deeds g.steady);
+        follows = follows_along me me' pace victims made work looks n o g few clear;
       }
 
-  pub grows_along : (before now : Option (List Event)) (me me' : Mine) (pace : Pace) (victims : Drawing) (made work looks : ℕ)
+  pub grows_along : {exchanged : Bool} → (before now : Option (List Event)) (me me' : Mine) (pace : Pace) (victims : Drawing) (made work looks : ℕ)
       → (o : Obeying plan limits k own (deeds_in me.0) pace victims)
-      → Goes k own me me' made work looks → Shows k own before now me me'
+      → Goes k own me me' made work looks exchanged → Shows k own before now me me'
       → Grows before now (told_of_deeds plan limits k own (deeds_in me.0)) (told_of_deeds plan limits k own (deeds_in me'.0))
   grows_along before now me me' pace victims made work looks o g shows = λ list e.
       let st = stands_by k own (deeds_in me.0) in
       let told = told_of_deeds plan limits k own (deeds_in me.0) in
-      let more = told_there (deeds_in me.0) (deeds_in me'.0) g.deeds g.more o.past o.past o.follows (shown k.shape k.code own st g.deeds)
-      (steps_told k.shape k.code own plan limits o.past st g.deeds g.steady) in
+      let more = told_along me me' o.past made work looks o.follows g in
       shows (list ++ told) e
       ∙ ap (λ (l : List Deed). Some ((list ++ told) ++ shown k.shape k.code own st l)) (since_is me me' g.deeds g.more)
       ∙ ap (λ (l : List Event). Some l) (append_assoc list told (shown k.shape k.code own st g.deeds) ∙ ap (λ (l : List Event). list ++ l) (sym more))
 
-  pub more_along : (me me' : Mine) (made work looks : ℕ) → Goes k own me me' made work looks → KeepsMore made me me'
+  pub more_along : {exchanged : Bool} → (me me' : Mine) (made work looks : ℕ) → Goes k own me me' made work looks exchanged → HasMoreDeeds made me me'
   more_along me me' made work looks g =
       let all = ap (λ (l : List Deed). length l) g.more in
       let both = length-append (deeds_in me.0) g.deeds in
@@ -125,15 +158,28 @@ module _ (plan : Planned) (limits : Limits) (k : Opening) (own : ℕ) where
   no_deeds [] e = refl
   no_deeds (d ∷ ds) e = absurd (omega (arith, e))
 
-  pub obeying_still : (me me' : Mine) (pace : Pace) (victims : Drawing) (made work looks : ℕ) → Goes k own me me' made work looks → made ≡ 0
+  pub obeying_still : {exchanged : Bool} → (me me' : Mine) (pace : Pace) (victims : Drawing) (made work looks : ℕ) → Goes k own me me' made work looks exchanged → made ≡ 0
       → Obeying plan limits k own (deeds_in me.0) pace victims → Obeying plan limits k own (deeds_in me'.0) pace victims
   obeying_still me me' pace victims made work looks g none o =
       let same : deeds_in me'.0 ≡ deeds_in me.0 =
       g.more ∙ ap (λ (l : List Deed). deeds_in me.0 ++ l) (no_deeds g.deeds (g.count ∙ none)) ∙ append-nil (deeds_in me.0) in
       subst (λ (l : List Deed). Obeying plan limits k own l pace victims) (sym same) o
 
+  -- a processor that has quit, behind what was told before
+  pub quit_behind : (before first now : Option (List Event)) (old mid : List Event) (deeds : List Deed) → Grows before first old mid
+      → HasQuit plan limits k own first now mid deeds → HasQuit plan limits k own before now old deeds
+  quit_behind before first now old mid deeds grew h = record {
+    obeyed = h.obeyed;
+    obeys = h.obeys;
+    gave_up = h.gave_up;
+    told = h.told;
+    refused = h.refused;
+    up_to = h.up_to;
+    grows = λ list e. h.grows list (grew list e);
+  }
+
   pub goes_behind : (before first now : Option (List Event)) (me me' me'' : Mine) (pace : Pace) (victims : Drawing) (way : Way)
-      → Grows before first (told_of_deeds plan limits k own (deeds_in me.0)) (told_of_deeds plan limits k own (deeds_in me'.0)) → KeepsMore 0 me me'
+      → Grows before first (told_of_deeds plan limits k own (deeds_in me.0)) (told_of_deeds plan limits k own (deeds_in me'.0)) → HasMoreDeeds 0 me me'
       → GoesOn plan limits k own first now me' me'' pace victims way → GoesOn plan limits k own before now me me'' pace victims way
   goes_behind before first now me me' me'' pace victims More grew none g = (
     g.0,
@@ -141,7 +187,9 @@ module _ (plan : Planned) (limits : Limits) (k : Opening) (own : ℕ) where
     (let further = g.2 in omega (arith, none, further)),
   )
   goes_behind before first now me me' me'' pace victims Over grew none g = (g.0, λ list e. g.1 list (grew list e))
-  goes_behind before first now me me' me'' pace victims Refused grew none g = g
+  goes_behind before first now me me' me'' pace victims Refused grew none g =
+      quit_behind before first now (told_of_deeds plan limits k own (deeds_in me.0)) (told_of_deeds plan limits k own (deeds_in me'.0)) (deeds_in me''.0)
+      grew g
 
   -- it doesn't stop where a step is to come and it doesn't rest
   goes_further : (past : Past) (stood : Standing) → stood ≢ IsDone → ¬ Rests plan limits own past stood → ¬ Stops plan limits own past stood
@@ -211,17 +259,21 @@ module _ (plan : Planned) (limits : Limits) (k : Opening) (own : ℕ) where
           one_tells;
     }
 
+    -- its event is told behind what was told so far
+    pub told_more : told_of_deeds plan limits k own deeds' ≡ told_so_far plan limits k own deeds past ++ event_of_deed k.shape own st deed ∷ []
+    told_more =
+        let up = told_before plan limits own past st in
+        told_there deeds deeds' (deed ∷ []) more past past' r.follows (up ++ event_of_deed k.shape own st deed ∷ []) one_told
+        ∙ sym (append_assoc (told_of_deeds plan limits k own deeds) up (event_of_deed k.shape own st deed ∷ []))
+
     pub grows_more : (before now : Option (List Event)) → ((list : List Event) → before ≡ Some list
         → now ≡ Some (list ++ event_of_deed k.shape own st deed ∷ []))
         → Grows before now (told_so_far plan limits k own deeds past) (told_of_deeds plan limits k own deeds')
     grows_more before now heard = λ list e.
-        let told = told_of_deeds plan limits k own deeds in
-        let up = told_before plan limits own past st in
-        let all = told_there deeds deeds' (deed ∷ []) more past past' r.follows (up ++ event_of_deed k.shape own st deed ∷ []) one_told in
-        heard (list ++ (told ++ up)) e
+        let told = told_so_far plan limits k own deeds past in
+        heard (list ++ told) e
         ∙ ap (λ (l : List Event). Some l)
-        (append_assoc list (told ++ up) (event_of_deed k.shape own st deed ∷ [])
-        ∙ ap (λ (l : List Event). list ++ l) (append_assoc told up (event_of_deed k.shape own st deed ∷ []) ∙ sym all))
+        (append_assoc list told (event_of_deed k.shape own st deed ∷ []) ∙ ap (λ (l : List Event). list ++ l) (sym told_more))
 
   -- no act more
   pub obeys_all : (deeds : List Deed) (pace : Pace) (victims : Drawing) → (o : Obeying plan limits k own deeds pace victims)

@@ -1,12 +1,10 @@
 -- Processors in two halves.
-use Rattle.std.proofs.Common.{◌≡◌, ℕ, zero, suc, ◌+◌, ◌<◌, ◌≤◌, Bool, true, Option, Some, List, [], ◌∷◌, ◌++◌, length, take, drop, get_or, sym, refl, ap, ◌∙◌, subst, arith, append-nil}
+use Rattle.std.proofs.Common.{◌≡◌, ℕ, zero, suc, ◌+◌, ◌<◌, ◌≤◌, ◌⊎◌, inl, inr, ◌&&◌, Bool, true, false, Option, Some, List, [], ◌∷◌, ◌++◌, length, take, drop, get_or, sym, refl, ap, ◌∙◌, subst, arith, append-nil}
 use Rattle.ppm_plan.specs.Schedules.{Planned}
-use Rattle.ppm_ports.specs.Told.{AppendsList}
 use Rattle.ppm_words.specs.declared.event.Event.{Event}
 use Rattle.ppm_step.specs.declared.turn.Turn.{Turn}
 use Rattle.ppm_choice.specs.declared.limits.Limits.{Limits}
 use Rattle.ppm_choice.specs.Obeying.{nothing_done, ObeysIn}
-use Rattle.ppm_choice.specs.Tells.{told_in}
 use Rattle.ppm_table.specs.declared.processor.Processor.{Processor}
 use Rattle.ppm_table.specs.declared.processor.Shared.{Shared}
 use Rattle.ppm_table.specs.declared.view.Deed.{Deed}
@@ -16,8 +14,8 @@ use Rattle.ppm_table.specs.Shown.{InOrder, AllNew, AllIn, ClosedRun, deeds_of_pr
 use Rattle.ppm_table.specs.Telling.{Keeps}
 use Rattle.ppm_table.proofs.RunLemmas.{lost_length}
 use Rattle.ppm_table.proofs.TellingLemmas.{keeps_still}
-use Rattle.ppm_threads.specs.Going.{OwnObeys, told_of_deeds}
-use Rattle.ppm_threads.specs.Driven.{AllBegin, Ends, EndsAmong, AllEnd, AllKeep, Driven}
+use Rattle.ppm_threads.specs.Going.{OwnObeys, HasQuit, told_of_deeds}
+use Rattle.ppm_threads.specs.Driven.{AllBegin, Ends, AllEnd, AllKeep, IsToldOf, HasQuitIn, Driven, WasRefused}
 use Rattle.ppm_threads.proofs.AmongLemmas.{are_among}
 use Rattle.ppm_threads.proofs.ClosingLemmas.{obeys_in, tells_run}
 
@@ -33,53 +31,68 @@ pub in_order_begins : (s : Shared) (c : ℕ) (ps : List Processor) → InOrder s
 in_order_begins s c [] o n = tt
 in_order_begins s c (p ∷ ps) o n = ((o.1, n.0), in_order_begins s (suc c) ps o.2 n.1)
 
+and_true : (b : Bool) → b ≡ (b && true)
+and_true true = refl
+and_true false = refl
+
+and_both : (a b c : Bool) → ((a && b) && c) ≡ (a && (b && c))
+and_both true b c = refl
+and_both false b c = refl
+
+both_true : (a b : Bool) → true ≡ (a && b) → (a ≡ true) × (b ≡ true)
+both_true true b e = (refl, sym e)
+both_true false b e = absurd (let f : true ≡ false = e in cc)
+
 module _ {W : Type 0} (told : W → Option (List Event)) (plan : Planned) (limits : Limits) (s : Shared) where
   abbrev k : Opening
   k = opening_of s
 
-  abbrev TellsRun : List Turn → ℕ → Option (List Event) → Option (List Event) → Type 0
-  TellsRun turns c before now = ObeysIn plan limits c k.shape k.code (start k) turns × AppendsList before now (told_in plan limits c k.shape k.code (start k) turns)
+  abbrev Told : List Turn → ℕ → Option (List Event) → Option (List Event) → Type 0
+  Told turns c before now = IsToldOf told plan limits k turns c before now
 
-  -- one among those that were all taken where it was
-  pub ends_among : (x : Bool) (p : Processor) (w : W) (q : Processor) (v : W) → Ends told plan limits s x p w q v → EndsAmong told plan limits s x p w q v
-  ends_among x p w q v e = record { taken = x; ends = e; among = λ h. h }
+  abbrev Quit : List Turn → ℕ → Option (List Event) → Option (List Event) → Type 0
+  Quit turns c before now = HasQuitIn told plan limits k turns c before now
 
-  ends_weaken : (x y : Bool) → (y ≡ true → x ≡ true) → (p : Processor) (w : W) (q : Processor) (v : W) → EndsAmong told plan limits s x p w q v → EndsAmong told plan limits s y p w q v
-  ends_weaken x y f p w q v e = record { taken = e.taken; ends = e.ends; among = λ h. e.among (f h) }
-
-  pub weaken : (x y : Bool) → (y ≡ true → x ≡ true) → (ps : List Processor) (ws : List W) (qs : List Processor) (vs : List W) → AllEnd told plan limits s x ps ws qs vs → AllEnd told plan limits s y ps ws qs vs
-  weaken x y f [] ws [] vs h = h
-  weaken x y f [] ws (q ∷ qs) vs h = absurd h
-  weaken x y f (p ∷ ps) ws [] vs h = absurd h
-  weaken x y f (p ∷ ps) [] (q ∷ qs) vs h = absurd h
-  weaken x y f (p ∷ ps) (w ∷ ws) (q ∷ qs) [] h = absurd h
-  weaken x y f (p ∷ ps) (w ∷ ws) (q ∷ qs) (v ∷ vs) h = (ends_weaken x y f p w q v h.0, weaken x y f ps ws qs vs h.1)
+  -- one alone
+  pub end_one : (x : Bool) (p : Processor) (w : W) (q : Processor) (v : W) → Ends told plan limits s x p w q v
+      → AllEnd told plan limits s x (p ∷ []) (w ∷ []) (q ∷ []) (v ∷ [])
+  end_one x p w q v e = (x, true, and_true x, e, (refl, refl))
 
   -- two halves, the first of which has a watcher for each processor
-  pub end_append : (x : Bool) (ps : List Processor) (ws : List W) (qs : List Processor) (vs : List W) (ps' : List Processor) (ws' : List W) (qs' : List Processor) (vs' : List W)
-      → length ps ≡ length ws → AllEnd told plan limits s x ps ws qs vs → AllEnd told plan limits s x ps' ws' qs' vs' → AllEnd told plan limits s x (ps ++ ps') (ws ++ ws') (qs ++ qs') (vs ++ vs')
-  end_append x [] [] [] vs ps' ws' qs' vs' e h k = subst (λ (l : List W). AllEnd told plan limits s x ps' ws' qs' (l ++ vs')) h k
-  end_append x [] (w ∷ ws) [] vs ps' ws' qs' vs' e h k = absurd (omega arith)
-  end_append x [] ws (q ∷ qs) vs ps' ws' qs' vs' e h k = absurd h
-  end_append x (p ∷ ps) ws [] vs ps' ws' qs' vs' e h k = absurd h
-  end_append x (p ∷ ps) [] (q ∷ qs) vs ps' ws' qs' vs' e h k = absurd h
-  end_append x (p ∷ ps) (w ∷ ws) (q ∷ qs) [] ps' ws' qs' vs' e h k = absurd h
-  end_append x (p ∷ ps) (w ∷ ws) (q ∷ qs) (v ∷ vs) ps' ws' qs' vs' e h k = (h.0, end_append x ps ws qs vs ps' ws' qs' vs' (omega arith) h.1 k)
+  pub end_append : (x y : Bool) (ps : List Processor) (ws : List W) (qs : List Processor) (vs : List W) (ps' : List Processor) (ws' : List W) (qs' : List Processor) (vs' : List W)
+      → length ps ≡ length ws → AllEnd told plan limits s x ps ws qs vs → AllEnd told plan limits s y ps' ws' qs' vs'
+      → AllEnd told plan limits s (x && y) (ps ++ ps') (ws ++ ws') (qs ++ qs') (vs ++ vs')
+  end_append x y [] [] [] vs ps' ws' qs' vs' e h k =
+      subst (λ (l : List W). AllEnd told plan limits s (x && y) ps' ws' qs' (l ++ vs')) h.0
+      (subst (λ (b : Bool). AllEnd told plan limits s (b && y) ps' ws' qs' vs') (sym h.1) k)
+  end_append x y [] (w ∷ ws) [] vs ps' ws' qs' vs' e h k = absurd (omega (arith, e))
+  end_append x y [] ws (q ∷ qs) vs ps' ws' qs' vs' e h k = absurd h
+  end_append x y (p ∷ ps) ws [] vs ps' ws' qs' vs' e h k = absurd h
+  end_append x y (p ∷ ps) [] (q ∷ qs) vs ps' ws' qs' vs' e h k = absurd h
+  end_append x y (p ∷ ps) (w ∷ ws) (q ∷ qs) [] ps' ws' qs' vs' e h k = absurd h
+  end_append x y (p ∷ ps) (w ∷ ws) (q ∷ qs) (v ∷ vs) ps' ws' qs' vs' e h k = (
+    h.0,
+    h.1 && y,
+    ap (λ (b : Bool). b && y) h.2 ∙ and_both h.0 h.1 y,
+    h.3,
+    end_append h.1 y ps ws qs vs ps' ws' qs' vs' (omega (arith, e)) h.4 k,
+  )
 
   -- watchers behind the last processor stay
   pub end_rest : (x : Bool) (ps : List Processor) (ws : List W) (qs : List Processor) (vs rest : List W) → length ps ≡ length ws → AllEnd told plan limits s x ps ws qs vs → AllEnd told plan limits s x ps (ws ++ rest) qs (vs ++ rest)
   end_rest x ps ws qs vs rest e h =
       subst (λ (l : List Processor). AllEnd told plan limits s x l (ws ++ rest) qs (vs ++ rest)) (append-nil ps)
       (subst (λ (l : List Processor). AllEnd told plan limits s x (ps ++ []) (ws ++ rest) l (vs ++ rest)) (append-nil qs)
-      (end_append x ps ws qs vs [] rest [] rest e h refl))
+      (subst (λ (b : Bool). AllEnd told plan limits s b (ps ++ []) (ws ++ rest) (qs ++ []) (vs ++ rest)) (sym (and_true x))
+      (end_append x true ps ws qs vs [] rest [] rest e h (refl, refl))))
 
   pub end_lengths : (x : Bool) (ps : List Processor) (ws : List W) (qs : List Processor) (vs : List W) → AllEnd told plan limits s x ps ws qs vs → (length qs ≡ length ps) × (length vs ≡ length ws)
-  end_lengths x [] ws [] vs h = (refl, ap length (sym h))
+  end_lengths x [] ws [] vs h = (refl, ap length (sym h.0))
   end_lengths x [] ws (q ∷ qs) vs h = absurd h
   end_lengths x (p ∷ ps) ws [] vs h = absurd h
   end_lengths x (p ∷ ps) [] (q ∷ qs) vs h = absurd h
   end_lengths x (p ∷ ps) (w ∷ ws) (q ∷ qs) [] h = absurd h
-  end_lengths x (p ∷ ps) (w ∷ ws) (q ∷ qs) (v ∷ vs) h = let r = end_lengths x ps ws qs vs h.1 in (ap suc r.0, ap suc r.1)
+  end_lengths x (p ∷ ps) (w ∷ ws) (q ∷ qs) (v ∷ vs) h = let r = end_lengths h.1 ps ws qs vs h.4 in (ap suc r.0, ap suc r.1)
 
   pub end_order : (x : Bool) (c : ℕ) (ps : List Processor) (ws : List W) (qs : List Processor) (vs : List W) → InOrder s c ps → AllEnd told plan limits s x ps ws qs vs → InOrder s c qs
   end_order x c [] ws [] vs i h = tt
@@ -87,7 +100,7 @@ module _ {W : Type 0} (told : W → Option (List Event)) (plan : Planned) (limit
   end_order x c (p ∷ ps) ws [] vs i h = absurd h
   end_order x c (p ∷ ps) [] (q ∷ qs) vs i h = absurd h
   end_order x c (p ∷ ps) (w ∷ ws) (q ∷ qs) [] i h = absurd h
-  end_order x c (p ∷ ps) (w ∷ ws) (q ∷ qs) (v ∷ vs) i h = (h.0.ends.own ∙ i.0, h.0.ends.of, end_order x (suc c) ps ws qs vs i.2 h.1)
+  end_order x c (p ∷ ps) (w ∷ ws) (q ∷ qs) (v ∷ vs) i h = (h.3.own ∙ i.0, h.3.of, end_order h.1 (suc c) ps ws qs vs i.2 h.4)
 
   pub keep_still : (ws : List W) → AllKeep told ws ws
   keep_still ws j d = keeps_still told (get_or ws j d) (get_or ws j d) refl
@@ -97,64 +110,153 @@ module _ {W : Type 0} (told : W → Option (List Event)) (plan : Planned) (limit
   keep_at w v ws vs h r (suc j) d = r j d
 
   pub keep : (x : Bool) (ps : List Processor) (ws : List W) (qs : List Processor) (vs : List W) → AllEnd told plan limits s x ps ws qs vs → AllKeep told ws vs
-  keep x [] ws [] vs h = λ j d. keeps_still told (get_or ws j d) (get_or vs j d) (ap (λ (l : List W). get_or l j d) (sym h))
+  keep x [] ws [] vs h = λ j d. keeps_still told (get_or ws j d) (get_or vs j d) (ap (λ (l : List W). get_or l j d) (sym h.0))
   keep x [] ws (q ∷ qs) vs h = absurd h
   keep x (p ∷ ps) ws [] vs h = absurd h
   keep x (p ∷ ps) [] (q ∷ qs) vs h = absurd h
   keep x (p ∷ ps) (w ∷ ws) (q ∷ qs) [] h = absurd h
-  keep x (p ∷ ps) (w ∷ ws) (q ∷ qs) (v ∷ vs) h = keep_at w v ws vs h.0.ends.keeps (keep x ps ws qs vs h.1)
+  keep x (p ∷ ps) (w ∷ ws) (q ∷ qs) (v ∷ vs) h = keep_at w v ws vs h.3.keeps (keep h.1 ps ws qs vs h.4)
 
-  -- each processor obeys in the run, and its watcher was told its record
-  told_at : (turns : List Turn) (c : ℕ) (ps : List Processor) (ws : List W) (qs : List Processor) (vs : List W) → AllTold k.shape k.code (start k) turns → InOrder s c ps → AllBegin s ps → AllIn k turns qs
-      → AllEnd told plan limits s true ps ws qs vs → (j : ℕ) (d : W) → j < length ps → c + j < k.shape.processors → TellsRun turns (c + j) (told (get_or ws j d)) (told (get_or vs j d))
-  told_at turns c [] ws qs vs all i n a h j d lt small = absurd (omega arith)
-  told_at turns c (p ∷ ps) ws [] vs all i n a h j d lt small = absurd h
-  told_at turns c (p ∷ ps) [] (q ∷ qs) vs all i n a h j d lt small = absurd h
-  told_at turns c (p ∷ ps) (w ∷ ws) (q ∷ qs) [] all i n a h j d lt small = absurd h
-  told_at turns c (p ∷ ps) (w ∷ ws) (q ∷ qs) (v ∷ vs) all i n a h zero d lt small =
+  -- a processor whose watcher refused nothing obeys in the run, and it was told its record; one whose watcher refused has quit in it
+  module _ (turns : List Turn) (c : ℕ) (p : Processor) (w : W) (q : Processor) (v : W) (all : AllTold k.shape k.code (start k) turns)
+      (i : p.local.own ≡ c) (n : deeds_of_processor p ≡ []) (a : deeds_of_processor q ≡ deeds_in_run k q.local.own turns)
+      (small : c < k.shape.processors) where
+    deeds_are : (x : Bool) → Ends told plan limits s x p w q v → deeds_of_processor q ≡ deeds_in_run k c turns
+    deeds_are x h = a ∙ ap (λ (m : ℕ). deeds_in_run k m turns) (h.own ∙ i)
+
+    told_one : Ends told plan limits s true p w q v → Told turns c (told w) (told v)
+    told_one h =
+        let ds = deeds_are true h in (
+          obeys_in plan limits k c turns small all
+              (subst (λ (l : List Deed). OwnObeys plan limits k c l) ds (subst (λ (m : ℕ). OwnObeys plan limits k m (deeds_of_processor q)) i (h.obeys refl))),
+          tells_run plan limits k c turns small all (told w) (told v)
+              (λ list known.
+              h.grows refl list (known ∙ ap (λ (l : List Event). Some l) (sym (append-nil list)) ∙ ap (λ (l : List Deed). Some (list ++ told_of_deeds plan limits k p.local.own l)) (sym n))
+              ∙ ap (λ (m : ℕ). Some (list ++ told_of_deeds plan limits k m (deeds_of_processor q))) i ∙ ap (λ (l : List Deed). Some (list ++ told_of_deeds plan limits k c l)) ds),
+        )
+
+    quit_one : Ends told plan limits s false p w q v → Quit turns c (told w) (told v)
+    quit_one h =
+        subst (λ (l : List Deed). HasQuit plan limits k c (told w) (told v) [] l) (deeds_are false h)
+        (subst (λ (l : List Deed). HasQuit plan limits k c (told w) (told v) (told_of_deeds plan limits k c l) (deeds_of_processor q)) n
+        (subst (λ (m : ℕ). HasQuit plan limits k m (told w) (told v) (told_of_deeds plan limits k m (deeds_of_processor p)) (deeds_of_processor q)) i (h.quits refl)))
+
+    one_fares : (x : Bool) → Ends told plan limits s x p w q v → Told turns c (told w) (told v) ⊎ Quit turns c (told w) (told v)
+    one_fares true h = inl (told_one h)
+    one_fares false h = inr (quit_one h)
+
+  abbrev Fares : (turns : List Turn) (x : Bool) → ℕ → Option (List Event) → Option (List Event) → Type 0
+  Fares turns x c before now = (x ≡ true → Told turns c before now) × (Told turns c before now ⊎ Quit turns c before now)
+
+  fares_first : (turns : List Turn) (c : ℕ) (p : Processor) (w : W) (q : Processor) (v : W) (x rest : Bool) → AllTold k.shape k.code (start k) turns
+      → p.local.own ≡ c → deeds_of_processor p ≡ [] → deeds_of_processor q ≡ deeds_in_run k q.local.own turns → c < k.shape.processors
+      → Ends told plan limits s x p w q v → Fares turns (x && rest) c (told w) (told v)
+  fares_first turns c p w q v true rest all i n a small h = (λ _. told_one turns c p w q v all i n a small h, inl (told_one turns c p w q v all i n a small h))
+  fares_first turns c p w q v false rest all i n a small h = (λ e. absurd (let f : false ≡ true = e in cc), inr (quit_one turns c p w q v all i n a small h))
+
+  fares_further : (turns : List Turn) (c : ℕ) (before now : Option (List Event)) (first rest : Bool) → Fares turns rest c before now → Fares turns (first && rest) c before now
+  fares_further turns c before now true rest f = f
+  fares_further turns c before now false rest f = (λ e. absurd (let f : false ≡ true = e in cc), f.1)
+
+  fares_at : (turns : List Turn) (x : Bool) (c : ℕ) (ps : List Processor) (ws : List W) (qs : List Processor) (vs : List W) → AllTold k.shape k.code (start k) turns → InOrder s c ps → AllBegin s ps → AllIn k turns qs
+      → AllEnd told plan limits s x ps ws qs vs → (j : ℕ) (d : W) → j < length ps → c + j < k.shape.processors → Fares turns x (c + j) (told (get_or ws j d)) (told (get_or vs j d))
+  fares_at turns x c [] ws qs vs all i n a h j d lt small = absurd (omega (arith, lt))
+  fares_at turns x c (p ∷ ps) ws [] vs all i n a h j d lt small = absurd h
+  fares_at turns x c (p ∷ ps) [] (q ∷ qs) vs all i n a h j d lt small = absurd h
+  fares_at turns x c (p ∷ ps) (w ∷ ws) (q ∷ qs) [] all i n a h j d lt small = absurd h
+  fares_at turns x c (p ∷ ps) (w ∷ ws) (q ∷ qs) (v ∷ vs) all i n a h zero d lt small =
       let e : p.local.own ≡ c + 0 = omega (arith, i.0) in
-      let f : q.local.own ≡ c + 0 = h.0.ends.own ∙ e in
-      let taken = h.0.among refl in
-      let ds : deeds_of_processor q ≡ deeds_in_run k (c + 0) turns = a.0 ∙ ap (λ (m : ℕ). deeds_in_run k m turns) f in (
-        obeys_in plan limits k (c + 0) turns small all
-            (subst (λ (l : List Deed). OwnObeys plan limits k (c + 0) l) ds (subst (λ (m : ℕ). OwnObeys plan limits k m (deeds_of_processor q)) e (h.0.ends.obeys taken))),
-        tells_run plan limits k (c + 0) turns small all (told w) (told v)
-            (λ list known.
-            h.0.ends.grows taken list (known ∙ ap (λ (l : List Event). Some l) (sym (append-nil list)) ∙ ap (λ (l : List Deed). Some (list ++ told_of_deeds plan limits k p.local.own l)) (sym n.0.1))
-            ∙ ap (λ (m : ℕ). Some (list ++ told_of_deeds plan limits k m (deeds_of_processor q))) e ∙ ap (λ (l : List Deed). Some (list ++ told_of_deeds plan limits k (c + 0) l)) ds),
-      )
-  told_at turns c (p ∷ ps) (w ∷ ws) (q ∷ qs) (v ∷ vs) all i n a h (suc j) d lt small =
+      subst (λ (b : Bool). Fares turns b (c + 0) (told w) (told v)) (sym h.2)
+      (fares_first turns (c + 0) p w q v h.0 h.1 all e n.0.1 a.0 small h.3)
+  fares_at turns x c (p ∷ ps) (w ∷ ws) (q ∷ qs) (v ∷ vs) all i n a h (suc j) d lt small =
       let e : suc c + j ≡ c + suc j = omega arith in
-      subst (λ (m : ℕ). TellsRun turns m (told (get_or ws j d)) (told (get_or vs j d))) e
-      (told_at turns (suc c) ps ws qs vs all i.2 n.1 a.1 h.1 j d (omega (arith, lt)) (omega (arith, small)))
+      subst (λ (b : Bool). Fares turns b (c + suc j) (told (get_or ws j d)) (told (get_or vs j d))) (sym h.2)
+      (fares_further turns (c + suc j) (told (get_or ws j d)) (told (get_or vs j d)) h.0 h.1
+      (subst (λ (m : ℕ). Fares turns h.1 m (told (get_or ws j d)) (told (get_or vs j d))) e
+      (fares_at turns h.1 (suc c) ps ws qs vs all i.2 n.1 a.1 h.4 j d (omega (arith, lt)) (omega (arith, small)))))
+
+  -- where one refused
+  abbrev Refuses : (turns : List Turn) (c : ℕ) (count : ℕ) → List W → List W → Type 0
+  Refuses turns c count ws vs = (j : ℕ) × (j < count) × ((d : W) → Quit turns (c + j) (told (get_or ws j d)) (told (get_or vs j d)))
+
+  refuses_later : (turns : List Turn) (c count : ℕ) (w v : W) (ws vs : List W) → Refuses turns (suc c) count ws vs → Refuses turns c (suc count) (w ∷ ws) (v ∷ vs)
+  refuses_later turns c count w v ws vs r =
+      let e : suc c + r.0 ≡ c + suc r.0 = omega arith in (
+        suc r.0,
+        (let less = r.1 in omega (arith, less)),
+        λ d. subst (λ (m : ℕ). Quit turns m (told (get_or ws r.0 d)) (told (get_or vs r.0 d))) e (r.2 d),
+      )
+
+  refuses_first : (turns : List Turn) (c count : ℕ) (p : Processor) (w : W) (q : Processor) (v : W) (ws vs : List W) (first rest : Bool)
+      → AllTold k.shape k.code (start k) turns → p.local.own ≡ c → deeds_of_processor p ≡ [] → deeds_of_processor q ≡ deeds_in_run k q.local.own turns
+      → c < k.shape.processors → Ends told plan limits s first p w q v → (rest ≡ false → Refuses turns (suc c) count ws vs) → (first && rest) ≡ false
+      → Refuses turns c (suc count) (w ∷ ws) (v ∷ vs)
+  refuses_first turns c count p w q v ws vs true rest all i n a small h further none = refuses_later turns c count w v ws vs (further none)
+  refuses_first turns c count p w q v ws vs false rest all i n a small h further none =
+      let e : p.local.own ≡ c + 0 = omega (arith, i) in
+      let below : c + 0 < k.shape.processors = omega (arith, small) in
+      (0, omega arith, λ d. quit_one turns (c + 0) p w q v all e n a below h)
+
+  refuses_at : (turns : List Turn) (x : Bool) (c : ℕ) (ps : List Processor) (ws : List W) (qs : List Processor) (vs : List W) → AllTold k.shape k.code (start k) turns → InOrder s c ps → AllBegin s ps → AllIn k turns qs
+      → AllEnd told plan limits s x ps ws qs vs → c + length ps ≤ k.shape.processors → x ≡ false → Refuses turns c (length ps) ws vs
+  refuses_at turns x c [] ws [] vs all i n a h small none = absurd (let e : true ≡ false = sym h.1 ∙ none in cc)
+  refuses_at turns x c [] ws (q ∷ qs) vs all i n a h small none = absurd h
+  refuses_at turns x c (p ∷ ps) ws [] vs all i n a h small none = absurd h
+  refuses_at turns x c (p ∷ ps) [] (q ∷ qs) vs all i n a h small none = absurd h
+  refuses_at turns x c (p ∷ ps) (w ∷ ws) (q ∷ qs) [] all i n a h small none = absurd h
+  refuses_at turns x c (p ∷ ps) (w ∷ ws) (q ∷ qs) (v ∷ vs) all i n a h small none =
+      let here : c < k.shape.processors = omega (arith, small) in
+      let behind : suc c + length ps ≤ k.shape.processors = omega (arith, small) in
+      refuses_first turns c (length ps) p w q v ws vs h.0 h.1 all i.0 n.0.1 a.0 here h.3
+      (λ rest. refuses_at turns h.1 (suc c) ps ws qs vs all i.2 n.1 a.1 h.4 behind rest) (sym h.2 ∙ none)
 
   pub rest_at : (x : Bool) (ps : List Processor) (ws : List W) (qs : List Processor) (vs : List W) → AllEnd told plan limits s x ps ws qs vs → (k : ℕ) (d : W) → length ps ≤ k → get_or vs k d ≡ get_or ws k d
-  rest_at x [] ws [] vs h k d le = ap (λ (l : List W). get_or l k d) (sym h)
+  rest_at x [] ws [] vs h k d le = ap (λ (l : List W). get_or l k d) (sym h.0)
   rest_at x [] ws (q ∷ qs) vs h k d le = absurd h
   rest_at x (p ∷ ps) ws [] vs h k d le = absurd h
   rest_at x (p ∷ ps) [] (q ∷ qs) vs h k d le = absurd h
   rest_at x (p ∷ ps) (w ∷ ws) (q ∷ qs) [] h k d le = absurd h
-  rest_at x (p ∷ ps) (w ∷ ws) (q ∷ qs) (v ∷ vs) h zero d le = absurd (omega arith)
-  rest_at x (p ∷ ps) (w ∷ ws) (q ∷ qs) (v ∷ vs) h (suc k) d le = rest_at x ps ws qs vs h.1 k d (omega arith)
+  rest_at x (p ∷ ps) (w ∷ ws) (q ∷ qs) (v ∷ vs) h zero d le = absurd (omega (arith, le))
+  rest_at x (p ∷ ps) (w ∷ ws) (q ∷ qs) (v ∷ vs) h (suc k) d le = rest_at h.1 ps ws qs vs h.4 k d (omega (arith, le))
 
-  pub driven : (words : List ℕ) (ps : List Processor) (ws : List W) (qs : List Processor) (vs : List W) → plan.processors ≡ k.shape.processors → length ps ≡ k.shape.processors → InOrder s 0 ps → AllBegin s ps
-      → AllEnd told plan limits s true ps ws qs vs → ClosedRun k words qs → length ps ≤ length ws → Driven told plan limits k words ws vs
-  driven words ps ws qs vs same len i n h run enough =
-      let at : (c : ℕ) (d : W) → c < k.shape.processors → TellsRun run.turns c (told (get_or ws c d)) (told (get_or vs c d)) = λ c d less.
-      let e : 0 + c ≡ c = omega arith in
-      subst (λ (m : ℕ). TellsRun run.turns m (told (get_or ws c d)) (told (get_or vs c d))) e (told_at run.turns 0 ps ws qs vs run.told i n run.all h c d (omega (arith, len, less)) (omega (arith, less))) in
-      let obeys : (c : ℕ) → c < k.shape.processors → ObeysIn plan limits c k.shape k.code (start k) run.turns = λ c less. (at c (some_of ws (omega (arith, less, len, enough))) less).0 in
-      record {
-        turns = run.turns;
-        words_are = run.words_are;
-        obey = record {
-          among = are_among plan limits k.shape k.code same (start k) (behind_turns k run.turns) run.turns (lost_length k.shape.processors) run.told
-              (λ c less. (nothing_done, obeys c less));
-          obeys = obeys;
-        };
-        told_are = λ c d less. (at c d less).1;
-        others = λ j d le. rest_at true ps ws qs vs h j d (omega (arith, len, le));
-      }
+  -- all of them, behind a run
+  module _ (words : List ℕ) (ps : List Processor) (ws : List W) (qs : List Processor) (vs : List W) (len : length ps ≡ k.shape.processors)
+      (i : InOrder s 0 ps) (n : AllBegin s ps) (run : ClosedRun k words qs) where
+    fares : (x : Bool) → AllEnd told plan limits s x ps ws qs vs → (c : ℕ) (d : W) → c < k.shape.processors
+        → Fares run.turns x c (told (get_or ws c d)) (told (get_or vs c d))
+    fares x h c d less =
+        let e : 0 + c ≡ c = omega arith in
+        subst (λ (m : ℕ). Fares run.turns x m (told (get_or ws c d)) (told (get_or vs c d))) e
+        (fares_at run.turns x 0 ps ws qs vs run.told i n run.all h c d (omega (arith, len, less)) (omega (arith, less)))
+
+    pub driven : plan.processors ≡ k.shape.processors → AllEnd told plan limits s true ps ws qs vs → length ps ≤ length ws
+        → Driven told plan limits k words ws vs
+    driven same h enough =
+        let at : (c : ℕ) (d : W) → c < k.shape.processors → Told run.turns c (told (get_or ws c d)) (told (get_or vs c d)) = λ c d less. (fares true h c d less).0 refl in
+        let obeys : (c : ℕ) → c < k.shape.processors → ObeysIn plan limits c k.shape k.code (start k) run.turns = λ c less. (at c (some_of ws (omega (arith, less, len, enough))) less).0 in
+        record {
+          turns = run.turns;
+          words_are = run.words_are;
+          obey = record {
+            among = are_among plan limits k.shape k.code same (start k) (behind_turns k run.turns) run.turns (lost_length k.shape.processors) run.told
+                (λ c less. (nothing_done, obeys c less));
+            obeys = obeys;
+          };
+          told_are = λ c d less. (at c d less).1;
+        }
+
+    pub was_refused : AllEnd told plan limits s false ps ws qs vs → WasRefused told plan limits k ws vs
+    was_refused h =
+        let e : 0 + length ps ≤ k.shape.processors = omega (arith, len) in
+        let r = refuses_at run.turns false 0 ps ws qs vs run.told i n run.all h e refl in
+        let z : 0 + r.0 ≡ r.0 = omega arith in
+        record {
+          turns = run.turns;
+          each = λ c d less. (fares false h c d less).1;
+          refusing = r.0;
+          is_there = (let less = r.1 in omega (arith, less, len));
+          has_quit = λ d. subst (λ (m : ℕ). Quit run.turns m (told (get_or ws r.0 d)) (told (get_or vs r.0 d))) z (r.2 d);
+        }
 
 -- a vector whose slice was lent, once the loan ends
 pub whole : {A : Type 0} (n : ℕ) (new old : List A) → length new ≡ n → length old ≡ n → take n (new ++ drop (length new) old) ≡ new

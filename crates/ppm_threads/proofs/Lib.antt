@@ -5,9 +5,9 @@
 -- Threads work on halves of the processors (`HalvesLemmas`, recursions on four lists). When the
 -- table is closed, what the deeds say becomes what the run says (`ClosingLemmas`); that turns name
 -- processors of the machine is `AmongLemmas`, what the finish word says `FinishLemmas`.
--- Parking is apart: tokens are counted (`RestingLemmas`), and no clause says who wakes whom.
+-- Parking is apart: tokens are counted (`TokenLemmas`), and no clause says who wakes whom.
 
-mod RestingLemmas
+mod TokenLemmas
 mod DrawnLemmas
 mod AlongLemmas
 mod GoingLemmas

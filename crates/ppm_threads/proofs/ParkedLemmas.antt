@@ -3,11 +3,12 @@ use Rattle.std.proofs.Common.{◌≡◌, ◌≢◌, ◌∙◌, ◌≤◌, ◌+�
 use Rattle.ppm_words.specs.declared.event.Event.{Event}
 use Rattle.ppm_words.specs.declared.idle.Idle.{Idle}
 use Rattle.ppm_words.specs.declared.idle.Idle.TheVariants.{Leave, Park}
-use Rattle.ppm_ports.specs.Told.{AppendsList}
+use Rattle.ppm_ports.specs.Told.{AppendsList, KeepsList}
 use Rattle.ppm_plan.specs.Draws.{Drawing}
 use Rattle.ppm_plan.specs.Schedules.{Planned}
 use Rattle.ppm_step.specs.declared.turn.Act.{Act}
 use Rattle.ppm_step.specs.declared.turn.Next.TheVariants.{Seek, Done}
+use Rattle.ppm_step.specs.declared.turn.Why.TheVariants.{Watch}
 use Rattle.ppm_step.specs.Standings.{Standing, IsDone}
 use Rattle.ppm_step.specs.State.{next_of}
 use Rattle.ppm_choice.specs.declared.limits.Limits.{Limits}
@@ -18,10 +19,14 @@ use Rattle.ppm_choice.specs.Paces.{IsPace}
 use Rattle.ppm_choice.specs.Tells.{parked, told_before}
 use Rattle.ppm_choice.proofs.ParkLemmas.{parks_where_it_rests}
 use Rattle.ppm_table.specs.declared.view.Deed.{Deed}
+use Rattle.ppm_table.specs.declared.view.Deed.TheVariants.{Quitted}
 use Rattle.ppm_table.specs.declared.view.Opening.{Opening}
 use Rattle.ppm_table.specs.Run.{behind, stood, stands_by}
 use Rattle.ppm_table.proofs.TellingLemmas.{appended}
-use Rattle.ppm_threads.specs.Going.{Grows, told_of_deeds, told_so_far, Resting, Acting}
+use Rattle.ppm_table.specs.Telling.{event_of_deed}
+use Rattle.ppm_threads.specs.Going.{Grows, GaveUp, HasQuit, told_of_deeds, told_so_far, Resting, Acting}
+use Rattle.ppm_threads.proofs.ActLemmas.{grows_still}
+use Rattle.ppm_threads.proofs.GoingLemmas.{so_far, told_quit}
 
 -- with a limit of looks above none
 abbrev pub from_none : Limits → Limits
@@ -107,3 +112,24 @@ grows_parked plan limits k own deeds past before now event idle rests is heard =
     (append_assoc list told (event ∷ [])
     ∙ ap (λ (x : Event). list ++ (told ++ x ∷ [])) is
     ∙ ap (λ (l : List Event). list ++ (told ++ l)) (sym (parked_before plan limits k own past (stands_by k own deeds) idle rests)))
+
+-- where its watcher refuses that, it quits
+pub quits_parked : (plan : Planned) (limits : Limits) (k : Opening) (own : ℕ) (deeds deeds' : List Deed) (pace : Pace) (victims : Drawing)
+    (before now : Option (List Event)) (event : Event) → (r : Resting plan limits k own deeds pace victims)
+    → limits.idle ≡ Park → event ≡ parked (stands_by k own deeds) → KeepsList before now → GaveUp k own deeds deeds'
+    → HasQuit plan limits k own before now (told_of_deeds plan limits k own deeds) deeds'
+quits_parked plan limits k own deeds deeds' pace victims before now event r idle is kept gave_up =
+    let o = r.obeying in
+    let told = told_of_deeds plan limits k own deeds in
+    let quit = event_of_deed k.shape own (stands_by k own deeds) (Quitted Watch) in
+    record {
+      obeyed = deeds;
+      obeys = so_far plan limits k own deeds o.past o.follows;
+      gave_up = gave_up;
+      told = told;
+      refused = event;
+      up_to = inr (quit, told_quit plan limits k own deeds o.past o.follows
+          ∙ ap (λ (l : List Event). (told ++ l) ++ quit ∷ []) (parked_before plan limits k own o.past (stands_by k own deeds) idle r.rests
+          ∙ ap (λ (e : Event). e ∷ []) (sym is)));
+      grows = grows_still before now told kept;
+    }

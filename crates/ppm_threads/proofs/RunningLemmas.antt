@@ -15,6 +15,7 @@ use Rattle.ppm_threads.specs.declared.way.Way.{Way}
 use Rattle.ppm_threads.specs.declared.way.Way.TheVariants.{More, Over, Refused}
 use Rattle.ppm_threads.specs.Driven.{Ends}
 use Rattle.ppm_threads.specs.Going.{Grows, Obeying, GoesOn, told_of_deeds}
+use Rattle.ppm_threads.proofs.GoingLemmas.{quit_behind}
 
 module _ {W : Type 0} (told : W → Option (List Event)) (plan : Planned) (limits : Limits) (s : Shared) (p : Processor) (w : W) where
   abbrev k : Opening
@@ -75,5 +76,6 @@ module _ {W : Type 0} (told : W → Option (List Event)) (plan : Planned) (limit
       keeps = keeps_both (told w) (told v) (told v') r.keeps keeps;
       grows = λ e. absurd (cc);
       obeys = λ e. absurd (cc);
-      quits = λ _. mine;
+      quits = λ _. quit_behind plan limits k own (told w) (told v) (told v') (told_of_deeds plan limits k own (deeds_of_processor p))
+          (told_of_deeds plan limits k own (deeds_of_processor q)) (deeds_of_processor q') r.grows mine;
     }

@@ -1,5 +1,5 @@
 -- What is known after a drive.
-use Rattle.std.specs.Prelude.{◌≡◌, ◌≢◌, ℕ, ◌<◌, ◌≤◌, Bool, true, false, List, [], ◌∷◌, Option, Some, slice_index_or}
+use Rattle.std.specs.Prelude.{◌≡◌, ◌≢◌, ℕ, ◌<◌, ◌≤◌, ◌⊎◌, ◌&&◌, Bool, true, false, List, [], ◌∷◌, Option, Some, slice_index_or}
 use Rattle.ppm_cells.specs.Finish.{finish_of}
 use Rattle.ppm_cells.specs.Memory.{read}
 use Rattle.ppm_cells.specs.declared.cell.Cell.TheVariants.{FinishWord}
@@ -9,12 +9,12 @@ use Rattle.ppm_ports.specs.Told.{AppendsList}
 use Rattle.ppm_words.specs.declared.event.Event.{Event}
 use Rattle.ppm_step.specs.declared.turn.Turn.{Turn}
 use Rattle.ppm_choice.specs.declared.limits.Limits.{Limits}
-use Rattle.ppm_choice.specs.Obeying.{ObeyAll}
+use Rattle.ppm_choice.specs.Obeying.{ObeysIn, ObeyAll}
 use Rattle.ppm_choice.specs.Tells.{told_in}
 use Rattle.ppm_table.specs.declared.processor.Processor.{Processor}
 use Rattle.ppm_table.specs.declared.processor.Shared.{Shared}
 use Rattle.ppm_table.specs.declared.view.Opening.{Opening}
-use Rattle.ppm_table.specs.Run.{start, behind_turns}
+use Rattle.ppm_table.specs.Run.{start, behind_turns, deeds_in_run}
 use Rattle.ppm_table.specs.Shown.{IsOf, deeds_of_processor, opening_of}
 use Rattle.ppm_table.specs.Telling.{Keeps}
 use Rattle.ppm_threads.specs.Going.{Grows, HasQuit, OwnObeys, told_of_deeds}
@@ -42,32 +42,49 @@ module _ {W : Type 0} (told : W → Option (List Event)) (plan : Planned) (limit
     pub grows : taken ≡ true → Grows (told w) (told v) (told_of_deeds plan limits (opening_of s) p.local.own (deeds_of_processor p))
         (told_of_deeds plan limits (opening_of s) p.local.own (deeds_of_processor q))
     pub obeys : taken ≡ true → OwnObeys plan limits (opening_of s) p.local.own (deeds_of_processor q)
-    pub quits : taken ≡ false → HasQuit (opening_of s) p.local.own (deeds_of_processor q)
+    pub quits : taken ≡ false → HasQuit plan limits (opening_of s) p.local.own (told w) (told v)
+        (told_of_deeds plan limits (opening_of s) p.local.own (deeds_of_processor p)) (deeds_of_processor q)
 
-  -- the same of one among several, whose watchers refused nothing where all was taken
-  pub record EndsAmong (s : Shared) (all_taken : Bool) (p : Processor) (w : W) (q : Processor) (v : W) : Type 0 where
-    pub taken : Bool
-    pub ends : Ends s taken p w q v
-    pub among : all_taken ≡ true → taken ≡ true
-
-  -- and of each; watchers behind the last processor stay
-  abbrev pub AllEnd : Shared → Bool → List Processor → List W → List Processor → List W → Type 0
-  AllEnd s taken [] ws [] vs = ws ≡ vs
+  -- the same of each, where all watchers together refused nothing, or one did; those behind the last processor stay
+  abbrev pub AllEnd : Shared → (taken : Bool) → List Processor → List W → List Processor → List W → Type 0
+  AllEnd s taken [] ws [] vs = (ws ≡ vs) × (taken ≡ true)
   AllEnd s taken [] ws (q ∷ qs) vs = ⊥
   AllEnd s taken (p ∷ ps) ws [] vs = ⊥
   AllEnd s taken (p ∷ ps) [] (q ∷ qs) vs = ⊥
   AllEnd s taken (p ∷ ps) (w ∷ ws) (q ∷ qs) [] = ⊥
-  AllEnd s taken (p ∷ ps) (w ∷ ws) (q ∷ qs) (v ∷ vs) = EndsAmong s taken p w q v × AllEnd s taken ps ws qs vs
+  AllEnd s taken (p ∷ ps) (w ∷ ws) (q ∷ qs) (v ∷ vs) =
+      (first : Bool) × (rest : Bool) × (taken ≡ (first && rest)) × Ends s first p w q v × AllEnd s rest ps ws qs vs
 
-  -- There is one run, behind which the words are these. Each processor obeys in it, and behind the list of its watcher stands what is told of it
-  -- there: its record, and event 7 where it has parked. The other watchers stay.
+  -- a processor obeys in a run, and behind the list of its watcher stands what is told of it there: its record, and event 7 where it has parked
+  abbrev pub IsToldOf : Opening → List Turn → (processor : ℕ) → Option (List Event) → Option (List Event) → Type 0
+  IsToldOf k turns c before now =
+      ObeysIn plan limits c k.shape k.code (start k) turns × AppendsList before now (told_in plan limits c k.shape k.code (start k) turns)
+
+  -- its watcher refused an event, behind the list of those before, and what it does in the run is what it did until it has quit
+  abbrev pub HasQuitIn : Opening → List Turn → (processor : ℕ) → Option (List Event) → Option (List Event) → Type 0
+  HasQuitIn k turns c before now = HasQuit plan limits k c before now [] (deeds_in_run k c turns)
+
+  -- There is one run, behind which the words are these. Each processor obeys in it, and its watcher is told of that.
   pub record Driven (k : Opening) (words : List ℕ) (old new : List W) : Type 0 where
     pub turns : List Turn
     pub words_are : (behind_turns k turns).words ≡ words
     pub obey : ObeyAll plan limits k.shape k.code (start k) turns
     pub told_are : (c : ℕ) (d : W) → c < k.shape.processors
         → AppendsList (told (slice_index_or old c d)) (told (slice_index_or new c d)) (told_in plan limits c k.shape k.code (start k) turns)
-    pub others : (j : ℕ) (d : W) → k.shape.processors ≤ j → slice_index_or new j d ≡ slice_index_or old j d
+
+  -- There is one run, in which each processor obeys and its watcher is told of that, or its watcher refused and it has quit; so one did.
+  pub record WasRefused (k : Opening) (old new : List W) : Type 0 where
+    pub turns : List Turn
+    pub each : (c : ℕ) (d : W) → c < k.shape.processors
+        → IsToldOf k turns c (told (slice_index_or old c d)) (told (slice_index_or new c d))
+        ⊎ HasQuitIn k turns c (told (slice_index_or old c d)) (told (slice_index_or new c d))
+    pub refusing : ℕ
+    pub is_there : refusing < k.shape.processors
+    pub has_quit : (d : W) → HasQuitIn k turns refusing (told (slice_index_or old refusing d)) (told (slice_index_or new refusing d))
+
+-- watchers from a number on stay
+abbrev pub OthersStay : {W : Type 0} → (count : ℕ) → List W → List W → Type 0
+OthersStay {W = W} count old new = (j : ℕ) (d : W) → count ≤ j → slice_index_or new j d ≡ slice_index_or old j d
 
 -- the finish word is set; and where it was 0, it doesn't say that a watcher refused
 pub record HasFinished (k : Opening) (words : List ℕ) : Type 0 where

@@ -1,5 +1,5 @@
 -- A processor on its way: what it has done obeys so far, and its watcher was told of it.
-use Rattle.std.specs.Prelude.{◌≡◌, ◌<◌, ◌⊎◌, ℕ, ◌+◌, Bool, true, false, List, [], ◌∷◌, ◌++◌, length, Option, Some, None}
+use Rattle.std.specs.Prelude.{◌≡◌, ◌≢◌, ◌<◌, ◌⊎◌, ℕ, ◌+◌, Bool, true, false, List, [], ◌∷◌, ◌++◌, length, Option, Some, None}
 use Rattle.ppm_cells.specs.declared.shape.Shape.{Shape}
 use Rattle.ppm_code.specs.declared.code.CodeParts.{CodeParts}
 use Rattle.ppm_words.specs.declared.event.Event.{Event}
@@ -35,13 +35,14 @@ acts_of s code own standing (deed ∷ deeds) = acted s standing deed ∷ acts_of
 abbrev pub Grows : Option (List Event) → Option (List Event) → (old new : List Event) → Type 0
 Grows before now old new = (list : List Event) → before ≡ Some (list ++ old) → now ≡ Some (list ++ new)
 
--- a seat keeps so many deeds more
-abbrev pub KeepsMore : (made : ℕ) → Mine → Mine → Type 0
-KeepsMore made me me' = length (deeds_in me'.0) ≡ length (deeds_in me.0) + made
+-- a seat has so many deeds more
+abbrev pub HasMoreDeeds : (made : ℕ) → Mine → Mine → Type 0
+HasMoreDeeds made me me' = length (deeds_in me'.0) ≡ length (deeds_in me.0) + made
 
--- a processor whose watcher has refused has quit for that, and it was its last deed; or it was done, and quits no more
-abbrev pub HasQuit : Opening → (own : ℕ) → List Deed → Type 0
-HasQuit k own deeds = (stands_by k own deeds ≡ IsDone) ⊎ ((before : List Deed) × (deeds ≡ before ++ Quitted Watch ∷ []))
+-- behind these deeds a processor gives up, which is its last deed; or it is done, and makes none any more
+abbrev pub GaveUp : Opening → (own : ℕ) → (before deeds : List Deed) → Type 0
+GaveUp k own before deeds =
+    ((stands_by k own before ≢ IsDone) × (deeds ≡ before ++ Quitted Watch ∷ [])) ⊎ ((stands_by k own before ≡ IsDone) × (deeds ≡ before))
 
 module _ (plan : Planned) (limits : Limits) where
   -- what is told of a processor that has done this: the events of its acts, and event 7 before an act where it has parked
@@ -88,13 +89,34 @@ module _ (plan : Planned) (limits : Limits) where
   abbrev pub OwnObeys : Opening → (own : ℕ) → List Deed → Type 0
   OwnObeys k own deeds = Obeys plan limits own nothing_done (acts_of k.shape k.code own IsLost deeds) (stands_by k own deeds)
 
+  -- what it has done obeys so far: it obeys, were it done there
+  abbrev pub ObeysSoFar : Opening → (own : ℕ) → List Deed → Type 0
+  ObeysSoFar k own deeds = Obeys plan limits own nothing_done (acts_of k.shape k.code own IsLost deeds) IsDone
+
+  -- these are the events up to one that a watcher may refuse behind such deeds: that of the last of them, or event 7, where it is to park then; what
+  -- would be told of a quit there ends with them and the quit's
+  abbrev pub AreUpTo : Opening → (own : ℕ) → List Deed → List Event → Type 0
+  AreUpTo k own deeds events =
+      (told_of_deeds k own deeds ≡ events) ⊎ ((quit : Event) × (told_of_deeds k own (deeds ++ Quitted Watch ∷ []) ≡ events ++ quit ∷ []))
+
+  -- A processor has given up, since its watcher refused an event. Up to the act of that event it obeys, and of all up to that event its watcher was
+  -- told, behind which it had this at its end.
+  pub record HasQuit (k : Opening) (own : ℕ) (before now : Option (List Event)) (old : List Event) (deeds : List Deed) : Type 0 where
+    pub obeyed : List Deed
+    pub obeys : ObeysSoFar k own obeyed
+    pub gave_up : GaveUp k own obeyed deeds
+    pub told : List Event
+    pub refused : Event
+    pub up_to : AreUpTo k own obeyed (told ++ refused ∷ [])
+    pub grows : Grows before now old told
+
   -- behind so many acts, of which its watcher was told; or it refused one
   abbrev pub GoesAhead : Opening → (own : ℕ) → Option (List Event) → Option (List Event) → Mine → Mine → Pace → Drawing → (made : Option ℕ) → Type 0
   GoesAhead k own before now me me' pace victims (Some made) =
       Obeying k own (deeds_in me'.0) pace victims
       × Grows before now (told_of_deeds k own (deeds_in me.0)) (told_of_deeds k own (deeds_in me'.0))
-      × KeepsMore made me me'
-  GoesAhead k own before now me me' pace victims None = HasQuit k own (deeds_in me'.0)
+      × HasMoreDeeds made me me'
+  GoesAhead k own before now me me' pace victims None = HasQuit k own before now (told_of_deeds k own (deeds_in me.0)) (deeds_in me'.0)
 
   -- behind its next acts: there was one, and it goes on; or its acts stop; or its watcher has refused
   abbrev pub GoesOn : Opening → (own : ℕ) → Option (List Event) → Option (List Event) → Mine → Mine → Pace → Drawing → Way → Type 0
@@ -104,7 +126,7 @@ module _ (plan : Planned) (limits : Limits) where
       × (length (deeds_in me.0) < length (deeds_in me'.0))
   GoesOn k own before now me me' pace victims Over =
       OwnObeys k own (deeds_in me'.0) × Grows before now (told_of_deeds k own (deeds_in me.0)) (told_of_deeds k own (deeds_in me'.0))
-  GoesOn k own before now me me' pace victims Refused = HasQuit k own (deeds_in me'.0)
+  GoesOn k own before now me me' pace victims Refused = HasQuit k own before now (told_of_deeds k own (deeds_in me.0)) (deeds_in me'.0)
 
 -- where a processor goes behind an act that its watcher took, or refused
 abbrev pub way_of : (taken : Bool) → Way

@@ -1,3 +1,3 @@
-pub mod Resting
+pub mod Tokens
 pub mod Going
 pub mod Driven

@@ -1,11 +1,12 @@
 //! The threads.
-ghost use Rattle.std.specs.Prelude.{◌≡◌, ◌<◌, ◌≤◌, IfOk, vec_len, length};
+ghost use Rattle.std.specs.Prelude.{◌≡◌, ◌<◌, ◌≤◌, ◌⊎◌, ◌&&◌, ◌++◌, IfErr, IfOk, vec_len, length};
 ghost use Rattle.std.specs.Thread.{IsSync, IsSend};
 ghost use Rattle.ppm_table.specs.Shown.{AreNewOf, opening_of};
-ghost use Rattle.ppm_threads.specs.Driven.{Begins, AllBegin, EndsAmong, AllEnd, AllKeep, Driven, HasFinished};
+ghost use Rattle.ppm_threads.specs.Driven.{Begins, AllBegin, Ends, AllEnd, AllKeep, OthersStay, Driven, WasRefused, HasFinished};
 
+use crate::crew::Crew;
 use crate::going::run;
-use crate::parking::{IdleParker, IdleUnparker, parkers, unparkers};
+use crate::parking::{IdleParker, parkers, unparkers};
 use ppm_choice::Limits;
 use ppm_plan::Plan;
 use ppm_ports::Watch;
@@ -18,40 +19,39 @@ use std::thread::{Threads, join_mut};
 /// Lets one of several processors run: whether its watcher refused nothing.
 fn run_one<W: Watch, R: Wait>(
     rt: &R,
-    shared: &Shared,
-    unparkers: &[IdleUnparker],
-    plan: &Plan,
-    limits: Limits,
+    crew: &Crew,
     processor: &mut Processor,
     parker: &mut IdleParker,
     watch: &mut W,
 ) -> bool
-    requires begins { Begins shared.now processor.old }
-    requires plan { plan.now.processors ≡ shared.now.shape.processors }
-    ensures { EndsAmong W.told plan.now limits shared.now result processor.old watch.old processor.new watch.new }
+    requires begins { Begins crew.now.shared processor.old }
+    requires plan { crew.now.plan.now.processors ≡ crew.now.shared.shape.processors }
+    ensures { Ends W.told crew.now.plan.now crew.now.limits crew.now.shared result processor.old watch.old processor.new watch.new }
 {
-    run(
-        rt, shared, unparkers, parker, plan, limits, processor, watch,
-    )
+    run(rt, crew, parker, processor, watch)
+}
+
+/// Whether both hold.
+fn both(x: bool, y: bool) -> bool
+    ensures { result ≡ (x && y) }
+{
+    x && y
 }
 
 /// Runs each of these processors on a thread of its own: whether no watcher refused.
 #[cycle(halves)]
 fn run_all<W: Watch, R: Threads + Wait + Sync>(
     rt: &R,
-    shared: &Shared,
-    unparkers: &[IdleUnparker],
-    plan: &Plan,
-    limits: &Limits,
+    crew: &Crew,
     processors: &mut [Processor],
     parkers: &mut [IdleParker],
     watch: &mut [W],
 ) -> bool
-    requires begin { AllBegin shared.now processors.old }
+    requires begin { AllBegin crew.now.shared processors.old }
     requires same { (length processors.old ≡ length watch.old)
         × (length processors.old ≡ length parkers.old) }
-    requires plan { plan.now.processors ≡ shared.now.shape.processors }
-    ensures { AllEnd W.told plan.now limits.now shared.now result processors.old watch.old processors.new watch.new }
+    requires plan { crew.now.plan.now.processors ≡ crew.now.shared.shape.processors }
+    ensures { AllEnd W.told crew.now.plan.now crew.now.limits crew.now.shared result processors.old watch.old processors.new watch.new }
 {
     if processors.is_empty() {
         return true;
@@ -59,10 +59,7 @@ fn run_all<W: Watch, R: Threads + Wait + Sync>(
     if processors.len() == 1 {
         return run_one(
             rt,
-            shared,
-            unparkers,
-            plan,
-            *limits,
+            crew,
             &mut processors[0],
             &mut parkers[0],
             &mut watch[0],
@@ -72,17 +69,15 @@ fn run_all<W: Watch, R: Threads + Wait + Sync>(
     let (a, b) = processors.split_at_mut(half);
     let (p, q) = parkers.split_at_mut(half);
     let (u, v) = watch.split_at_mut(half);
-    both_halves(rt, shared, unparkers, plan, limits, a, p, u, b, q, v)
+    both_halves(rt, crew, a, p, u, b, q, v)
 }
 
-/// The same of two parts, side by side.
+/// The same of two parts, side by side. Where the system makes no thread, the keeper's part runs
+/// before the other one: it alone ends the run.
 #[cycle(halves)]
 fn both_halves<W: Watch, R: Threads + Wait + Sync>(
     rt: &R,
-    shared: &Shared,
-    unparkers: &[IdleUnparker],
-    plan: &Plan,
-    limits: &Limits,
+    crew: &Crew,
     a: &mut [Processor],
     p: &mut [IdleParker],
     u: &mut [W],
@@ -90,57 +85,56 @@ fn both_halves<W: Watch, R: Threads + Wait + Sync>(
     q: &mut [IdleParker],
     v: &mut [W],
 ) -> bool
-    requires front { AllBegin shared.now a.old × (length a.old ≡ length u.old) × (length a.old ≡ length p.old)
+    requires front { AllBegin crew.now.shared a.old × (length a.old ≡ length u.old) × (length a.old ≡ length p.old)
         × (0 < length a.old) }
-    requires back { AllBegin shared.now b.old × (length b.old ≡ length v.old) × (length b.old ≡ length q.old)
+    requires back { AllBegin crew.now.shared b.old × (length b.old ≡ length v.old) × (length b.old ≡ length q.old)
         × (0 < length b.old) }
-    requires plan { plan.now.processors ≡ shared.now.shape.processors }
-    ensures front { AllEnd W.told plan.now limits.now shared.now result a.old u.old a.new u.new }
-    ensures back { AllEnd W.told plan.now limits.now shared.now result b.old v.old b.new v.new }
+    requires plan { crew.now.plan.now.processors ≡ crew.now.shared.shape.processors }
+    ensures { AllEnd W.told crew.now.plan.now crew.now.limits crew.now.shared result (a.old ++ b.old) (u.old ++ v.old) (a.new ++ b.new) (u.new ++ v.new) }
 {
+    let keeper_is_in_front = crew.plan.keeper() < b[0].local.own;
     let mut front = || -> bool
-        requires { IsSync R.row × IsSend W.row × AllBegin shared.now a.now × (length a.now ≡ length u.now)
-            × (length a.now ≡ length p.now) × (plan.now.processors ≡ shared.now.shape.processors) }
-        ensures { AllEnd W.told plan.entry.now limits.entry.now shared.entry.now result a.entry.now u.entry.now
+        requires { IsSync R.row × IsSend W.row × AllBegin crew.now.shared a.now × (length a.now ≡ length u.now)
+            × (length a.now ≡ length p.now) × (crew.now.plan.now.processors ≡ crew.now.shared.shape.processors) }
+        ensures { AllEnd W.told crew.entry.now.plan.now crew.entry.now.limits crew.entry.now.shared result a.entry.now u.entry.now
             a.exit.now u.exit.now }
-    { run_all(rt, shared, unparkers, plan, limits, a, p, u) };
+    { run_all(rt, crew, a, p, u) };
     let mut back = || -> bool
-        requires { IsSync R.row × IsSend W.row × AllBegin shared.now b.now × (length b.now ≡ length v.now)
-            × (length b.now ≡ length q.now) × (plan.now.processors ≡ shared.now.shape.processors) }
-        ensures { AllEnd W.told plan.entry.now limits.entry.now shared.entry.now result b.entry.now v.entry.now
+        requires { IsSync R.row × IsSend W.row × AllBegin crew.now.shared b.now × (length b.now ≡ length v.now)
+            × (length b.now ≡ length q.now) × (crew.now.plan.now.processors ≡ crew.now.shared.shape.processors) }
+        ensures { AllEnd W.told crew.entry.now.plan.now crew.entry.now.limits crew.entry.now.shared result b.entry.now v.entry.now
             b.exit.now v.exit.now }
-    { run_all(rt, shared, unparkers, plan, limits, b, q, v) };
+    { run_all(rt, crew, b, q, v) };
+    // The second of them begins at once, on this thread.
+    if keeper_is_in_front {
+        let (y, x) = join_mut(rt, &mut back, &mut front);
+        return both(x, y);
+    }
     let (x, y) = join_mut(rt, &mut front, &mut back);
-    x && y
+    both(x, y)
 }
 
 /// The same over vectors, of which that of the watchers may be longer.
 fn run_over<W: Watch, R: Threads + Wait + Sync>(
     rt: &R,
-    shared: &Shared,
-    unparkers: &[IdleUnparker],
-    plan: &Plan,
-    limits: &Limits,
+    crew: &Crew,
     processors: &mut Vec<Processor>,
     parkers: &mut Vec<IdleParker>,
     watch: &mut Vec<W>,
 ) -> bool
-    requires begin { AllBegin shared.now processors.old.items }
+    requires begin { AllBegin crew.now.shared processors.old.items }
     requires parkers { vec_len processors.old ≡ vec_len parkers.old }
     requires watchers { vec_len processors.old ≤ vec_len watch.old }
-    requires plan { plan.now.processors ≡ shared.now.shape.processors }
+    requires plan { crew.now.plan.now.processors ≡ crew.now.shared.shape.processors }
     ensures lengths { (vec_len processors.new ≡ vec_len processors.old)
         × (vec_len watch.new ≡ vec_len watch.old) }
-    ensures ends { AllEnd W.told plan.now limits.now shared.now result processors.old.items watch.old.items
+    ensures ends { AllEnd W.told crew.now.plan.now crew.now.limits crew.now.shared result processors.old.items watch.old.items
         processors.new.items watch.new.items }
 {
     let (mine, _) = watch.as_mut_slice().split_at_mut(processors.len());
     run_all(
         rt,
-        shared,
-        unparkers,
-        plan,
-        limits,
+        crew,
         processors.as_mut_slice(),
         parkers.as_mut_slice(),
         mine,
@@ -164,28 +158,39 @@ pub fn drive<W: Watch, R: Threads + Wait + Sync>(
     requires plan { plan.now.processors ≡ shared.shape.processors }
     requires watchers { vec_len processors ≤ vec_len watch.old }
 
-    // Each list keeps what it had in front, whatever the answer is.
+    // Each list keeps what it had in front, and the watchers behind the last processor stay, whatever
+    // the answer is.
     ensures kept { (vec_len watch.new ≡ vec_len watch.old)
         × AllKeep W.told watch.old.items watch.new.items }
+    ensures others { OthersStay shared.shape.processors watch.old.items watch.new.items }
 
     ensures sizes { IfOk result (λ c. (c.shape ≡ shared.shape) × (c.array_lengths ≡ shared.lengths)) }
     ensures run { IfOk result (λ c. Driven W.told plan.now limits (opening_of shared) c.words watch.old.items watch.new.items) }
     ensures finish { IfOk result (λ c. HasFinished (opening_of shared) c.words) }
+
+    // Where memory was wanting, nobody was told anything; or a watcher refused.
+    ensures refused { IfErr result (λ _. (watch.new.items ≡ watch.old.items)
+        ⊎ WasRefused W.told plan.now limits (opening_of shared) watch.old.items watch.new.items) }
 {
     let _ = (shared.code.parts().root, plan.keeper());
-    let mut rests = parkers(alloc, processors.len())?;
-    let wakers = unparkers(alloc, &rests)?;
-    if !run_over(
-        rt,
-        &shared,
-        &wakers,
+    let mut sleepers = parkers(alloc, processors.len())?;
+    let wakers = unparkers(alloc, &sleepers)?;
+    let crew = Crew {
+        shared,
         plan,
-        &limits,
-        &mut processors,
-        &mut rests,
-        watch,
-    ) {
+        limits,
+        unparkers: wakers,
+    };
+    let taken = run_over(rt, &crew, &mut processors, &mut sleepers, watch);
+    let Crew {
+        shared,
+        plan: _,
+        limits: _,
+        unparkers: _,
+    } = crew;
+    let closed = shared.close(processors);
+    if !taken {
         return Err(NoMemory);
     }
-    Ok(shared.close(processors))
+    Ok(closed)
 }

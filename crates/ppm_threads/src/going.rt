@@ -11,18 +11,19 @@ ghost use Rattle.ppm_table.specs.Run.{IsActAt};
 ghost use Rattle.ppm_table.specs.Shown.{IsOf, deeds_of_processor, opening_of};
 ghost use Rattle.ppm_table.specs.Telling.{Keeps};
 ghost use Rattle.ppm_threads.specs.Driven.{Begins, Ends};
-ghost use Rattle.ppm_threads.specs.Going.{Obeying, Resting, Acting, Grows, KeepsMore, GoesAhead, GoesOn};
-ghost use Rattle.ppm_threads.specs.Going.{HasQuit, told_of_deeds, told_so_far, way_of};
+ghost use Rattle.ppm_threads.specs.Going.{Obeying, Resting, Acting, Grows, HasMoreDeeds, GoesAhead, GoesOn};
+ghost use Rattle.ppm_threads.specs.Going.{GaveUp, HasQuit, told_of_deeds, told_so_far, way_of};
 
-use crate::parking::{IdleParker, IdleUnparker, park, wake_all};
+use crate::crew::Crew;
+use crate::parking::{IdleParker, park, wake_all};
 use crate::way::Way;
 use crossbeam_utils::Backoff;
 use ppm_choice::{Idle, Limits, Pace, clear_steps, is_over, next_act};
-use ppm_plan::{Plan, Victims};
+use ppm_plan::Victims;
 use ppm_ports::Watch;
 use ppm_step::{Act, Next, Why};
 use ppm_stretch::{is_due, steps};
-use ppm_table::{Processor, Shared, hear};
+use ppm_table::{Processor, hear};
 use ppm_words::Event;
 use std::sync::Wait;
 
@@ -68,29 +69,26 @@ fn most_at_once(limits: Limits) -> u64
 
 /// Makes steps in a row, as many as surely obey: how many. `None` where the watcher refused one.
 fn go_ahead<W: Watch>(
-    shared: &Shared,
-    unparkers: &[IdleUnparker],
-    plan: &Plan,
-    limits: Limits,
+    crew: &Crew,
     processor: &mut Processor,
     pace: &mut Pace,
     watch: &mut W,
 ) -> Option<u64>
-    requires of { IsOf shared.now processor.old }
+    requires of { IsOf crew.now.shared processor.old }
     requires few { pace.old.work < 2 ^ 62 }
-    ensures of { IsOf shared.now processor.new }
+    ensures of { IsOf crew.now.shared processor.new }
     ensures own { processor.new.local.own ≡ processor.old.local.own }
     ensures keeps { Keeps (W.told watch.old) (W.told watch.new) }
     ensures goes { (victims : Drawing)
-        → Obeying plan.now limits (opening_of shared.now) processor.old.local.own (deeds_of_processor processor.old) pace.old victims
-        → GoesAhead plan.now limits (opening_of shared.now) processor.old.local.own (W.told watch.old) (W.told watch.new)
+        → Obeying crew.now.plan.now crew.now.limits (opening_of crew.now.shared) processor.old.local.own (deeds_of_processor processor.old) pace.old victims
+        → GoesAhead crew.now.plan.now crew.now.limits (opening_of crew.now.shared) processor.old.local.own (W.told watch.old) (W.told watch.new)
         processor.old.seat.me processor.new.seat.me pace.new victims result }
     ensures none { IfSome result (λ made. made ≡ 0 → pace.new ≡ pace.old) }
 {
-    let most = clear_steps(pace, plan, limits).min(most_at_once(limits));
-    let row = steps(processor, shared, most, watch);
+    let most = clear_steps(pace, crew.plan, crew.limits).min(most_at_once(crew.limits));
+    let row = steps(processor, &crew.shared, most, watch);
     if row.refused {
-        wake(unparkers, limits);
+        wake(crew);
         return None;
     }
     if row.made == 0 {
@@ -98,17 +96,17 @@ fn go_ahead<W: Watch>(
     }
     let next = processor.local.next();
     if row.exchanged || is_over(next) {
-        wake(unparkers, limits);
+        wake(crew);
     }
     let due = is_due(&processor.local);
-    pace.count_steps(limits, row.made, row.work, row.looks, next, due);
+    pace.count_steps(crew.limits, row.made, row.work, row.looks, next, due);
     Some(row.made)
 }
 
 /// Wakes those that have parked, where any may.
-fn wake(unparkers: &[IdleUnparker], limits: Limits) {
-    if is_park(limits.idle) {
-        wake_all(unparkers);
+fn wake(crew: &Crew) {
+    if is_park(crew.limits.idle) {
+        wake_all(crew.unparkers.as_slice());
     }
 }
 
@@ -120,55 +118,57 @@ fn wakes(event: Event, next: Next) -> bool {
 }
 
 /// The processor gives up, since its watcher refused, if it is still to take a step.
-fn give_way(shared: &Shared, unparkers: &[IdleUnparker], limits: Limits, processor: &mut Processor)
-    requires of { IsOf shared.now processor.old }
-    ensures of { IsOf shared.now processor.new }
+fn give_way(crew: &Crew, processor: &mut Processor)
+    requires of { IsOf crew.now.shared processor.old }
+    ensures of { IsOf crew.now.shared processor.new }
     ensures own { processor.new.local.own ≡ processor.old.local.own }
-    ensures quits { HasQuit (opening_of shared.now) processor.old.local.own (deeds_of_processor processor.new) }
+    ensures gave_up { GaveUp (opening_of crew.now.shared) processor.old.local.own (deeds_of_processor processor.old) (deeds_of_processor processor.new) }
 {
-    processor.turn(shared, Act::Quit(Why::Watch));
-    wake(unparkers, limits);
+    processor.turn(&crew.shared, Act::Quit(Why::Watch));
+    wake(crew);
 }
 
 /// Makes an act: whether the watcher took it. Where it didn't, the processor gives up.
 fn make<W: Watch>(
-    shared: &Shared,
-    unparkers: &[IdleUnparker],
-    limits: Limits,
+    crew: &Crew,
     processor: &mut Processor,
     pace: &mut Pace,
     watch: &mut W,
     act: Act,
 ) -> bool
-    requires of { IsOf shared.now processor.old }
+    requires of { IsOf crew.now.shared processor.old }
     requires few { pace.old.work < 2 ^ 62 }
-    requires lives { standing_of shared.now.shape shared.now.code processor.old.local ≢ IsDone }
-    requires may { IsActAt shared.now.shape (standing_of shared.now.shape shared.now.code processor.old.local) act }
-    ensures of { IsOf shared.now processor.new }
+    requires lives { standing_of crew.now.shared.shape crew.now.shared.code processor.old.local ≢ IsDone }
+    requires may { IsActAt crew.now.shared.shape (standing_of crew.now.shared.shape crew.now.shared.code processor.old.local) act }
+    ensures of { IsOf crew.now.shared processor.new }
     ensures own { processor.new.local.own ≡ processor.old.local.own }
     ensures keeps { Keeps (W.told watch.old) (W.told watch.new) }
     ensures obeys { result ≡ true → (plan : Planned) (past : Past) (victims : Drawing)
-        → Acting plan limits (opening_of shared.now) processor.old.local.own (deeds_of_processor processor.old) past pace.old victims act
-        → Obeying plan limits (opening_of shared.now) processor.old.local.own (deeds_of_processor processor.new) pace.new victims
+        → Acting plan crew.now.limits (opening_of crew.now.shared) processor.old.local.own (deeds_of_processor processor.old) past pace.old victims act
+        → Obeying plan crew.now.limits (opening_of crew.now.shared) processor.old.local.own (deeds_of_processor processor.new) pace.new victims
         × Grows (W.told watch.old) (W.told watch.new)
-        (told_so_far plan limits (opening_of shared.now) processor.old.local.own (deeds_of_processor processor.old) past)
-        (told_of_deeds plan limits (opening_of shared.now) processor.old.local.own (deeds_of_processor processor.new))
-        × KeepsMore 1 processor.old.seat.me processor.new.seat.me }
-    ensures quits { result ≡ false → HasQuit (opening_of shared.now) processor.old.local.own (deeds_of_processor processor.new) }
+        (told_so_far plan crew.now.limits (opening_of crew.now.shared) processor.old.local.own (deeds_of_processor processor.old) past)
+        (told_of_deeds plan crew.now.limits (opening_of crew.now.shared) processor.old.local.own (deeds_of_processor processor.new))
+        × HasMoreDeeds 1 processor.old.seat.me processor.new.seat.me }
+    ensures quits { result ≡ false → (plan : Planned) (past : Past) (victims : Drawing)
+        → Acting plan crew.now.limits (opening_of crew.now.shared) processor.old.local.own (deeds_of_processor processor.old) past pace.old victims act
+        → HasQuit plan crew.now.limits (opening_of crew.now.shared) processor.old.local.own (W.told watch.old) (W.told watch.new)
+        (told_so_far plan crew.now.limits (opening_of crew.now.shared) processor.old.local.own (deeds_of_processor processor.old) past)
+        (deeds_of_processor processor.new) }
 {
-    let told = processor.turn(shared, act);
+    let told = processor.turn(&crew.shared, act);
     let due = is_due(&processor.local);
-    pace.count(limits, told, due);
+    pace.count(crew.limits, told, due);
     let Some(event) = told.event else {
         unreachable!()
     };
     if wakes(event, told.next) {
-        wake(unparkers, limits);
+        wake(crew);
     }
     if hear(watch, event) {
         return true;
     }
-    give_way(shared, unparkers, limits, processor);
+    give_way(crew, processor);
     false
 }
 
@@ -182,108 +182,99 @@ fn way_of(taken: bool) -> Way
 /// A processor that rests leaves; or it parks, and makes its next act behind that.
 fn rest_first<W: Watch, R: Wait>(
     rt: &R,
-    shared: &Shared,
-    unparkers: &[IdleUnparker],
+    crew: &Crew,
     parker: &IdleParker,
-    plan: &Plan,
-    limits: Limits,
     processor: &mut Processor,
     pace: &mut Pace,
     victims: &mut Victims,
     watch: &mut W,
 ) -> Way
-    requires of { IsOf shared.now processor.old }
+    requires of { IsOf crew.now.shared processor.old }
     requires few { pace.old.work < 2 ^ 62 }
-    requires plan { plan.now.processors ≡ shared.now.shape.processors }
-    requires resting { Resting plan.now limits (opening_of shared.now) processor.old.local.own (deeds_of_processor processor.old)
+    requires plan { crew.now.plan.now.processors ≡ crew.now.shared.shape.processors }
+    requires resting { Resting crew.now.plan.now crew.now.limits (opening_of crew.now.shared) processor.old.local.own (deeds_of_processor processor.old)
         pace.old victims.old }
-    ensures of { IsOf shared.now processor.new }
+    ensures of { IsOf crew.now.shared processor.new }
     ensures own { processor.new.local.own ≡ processor.old.local.own }
     ensures keeps { Keeps (W.told watch.old) (W.told watch.new) }
-    ensures goes { GoesOn plan.now limits (opening_of shared.now) processor.old.local.own (W.told watch.old) (W.told watch.new)
+    ensures goes { GoesOn crew.now.plan.now crew.now.limits (opening_of crew.now.shared) processor.old.local.own (W.told watch.old) (W.told watch.new)
         processor.old.seat.me processor.new.seat.me pace.new victims.new result }
 {
-    if !is_park(limits.idle) {
+    if !is_park(crew.limits.idle) {
         return Way::Over;
     }
     if !hear(watch, parked_at(processor.local.place())) {
-        give_way(shared, unparkers, limits, processor);
+        give_way(crew, processor);
         return Way::Refused;
     }
     park(rt, parker);
     pace.rest();
     // Its looks count from 0 again, so with any limit above that it doesn't rest at once.
-    let Some(act) = next_act(pace, victims, plan, Limits { looks: 1, ..limits }) else {
+    let Some(act) = next_act(pace, victims, crew.plan, Limits { looks: 1, ..crew.limits }) else {
         unreachable!()
     };
-    way_of(make(shared, unparkers, limits, processor, pace, watch, act))
+    way_of(make(crew, processor, pace, watch, act))
 }
 
 /// Makes the next act, if there is one.
 fn act<W: Watch, R: Wait>(
     rt: &R,
-    shared: &Shared,
-    unparkers: &[IdleUnparker],
+    crew: &Crew,
     parker: &IdleParker,
-    plan: &Plan,
-    limits: Limits,
     processor: &mut Processor,
     pace: &mut Pace,
     victims: &mut Victims,
     watch: &mut W,
 ) -> Way
-    requires of { IsOf shared.now processor.old }
+    requires of { IsOf crew.now.shared processor.old }
     requires few { pace.old.work < 2 ^ 62 }
-    requires plan { plan.now.processors ≡ shared.now.shape.processors }
-    requires obeying { Obeying plan.now limits (opening_of shared.now) processor.old.local.own (deeds_of_processor processor.old)
+    requires plan { crew.now.plan.now.processors ≡ crew.now.shared.shape.processors }
+    requires obeying { Obeying crew.now.plan.now crew.now.limits (opening_of crew.now.shared) processor.old.local.own (deeds_of_processor processor.old)
         pace.old victims.old }
-    ensures of { IsOf shared.now processor.new }
+    ensures of { IsOf crew.now.shared processor.new }
     ensures own { processor.new.local.own ≡ processor.old.local.own }
     ensures keeps { Keeps (W.told watch.old) (W.told watch.new) }
-    ensures goes { GoesOn plan.now limits (opening_of shared.now) processor.old.local.own (W.told watch.old) (W.told watch.new)
+    ensures goes { GoesOn crew.now.plan.now crew.now.limits (opening_of crew.now.shared) processor.old.local.own (W.told watch.old) (W.told watch.new)
         processor.old.seat.me processor.new.seat.me pace.new victims.new result }
 {
     if is_over(pace.next) {
         return Way::Over;
     }
-    let Some(act) = next_act(pace, victims, plan, limits) else {
+    let Some(act) = next_act(pace, victims, crew.plan, crew.limits) else {
         return rest_first(
-            rt, shared, unparkers, parker, plan, limits, processor, pace, victims, watch,
+            rt, crew, parker, processor, pace, victims, watch,
         );
     };
-    way_of(make(shared, unparkers, limits, processor, pace, watch, act))
+    way_of(make(crew, processor, pace, watch, act))
 }
 
 /// Some steps in a row that surely obey, or else the next act.
 fn go_on<W: Watch, R: Wait>(
     rt: &R,
-    shared: &Shared,
-    unparkers: &[IdleUnparker],
+    crew: &Crew,
     parker: &IdleParker,
-    plan: &Plan,
-    limits: Limits,
     processor: &mut Processor,
     pace: &mut Pace,
     victims: &mut Victims,
     watch: &mut W,
 ) -> Way
-    requires of { IsOf shared.now processor.old }
+    requires of { IsOf crew.now.shared processor.old }
     requires few { pace.old.work < 2 ^ 62 }
-    requires plan { plan.now.processors ≡ shared.now.shape.processors }
-    requires obeying { Obeying plan.now limits (opening_of shared.now) processor.old.local.own (deeds_of_processor processor.old)
+    requires plan { crew.now.plan.now.processors ≡ crew.now.shared.shape.processors }
+    requires obeying { Obeying crew.now.plan.now crew.now.limits (opening_of crew.now.shared) processor.old.local.own (deeds_of_processor processor.old)
         pace.old victims.old }
-    ensures of { IsOf shared.now processor.new }
+    ensures of { IsOf crew.now.shared processor.new }
     ensures own { processor.new.local.own ≡ processor.old.local.own }
     ensures keeps { Keeps (W.told watch.old) (W.told watch.new) }
-    ensures goes { GoesOn plan.now limits (opening_of shared.now) processor.old.local.own (W.told watch.old) (W.told watch.new)
+    ensures goes { GoesOn crew.now.plan.now crew.now.limits (opening_of crew.now.shared) processor.old.local.own (W.told watch.old) (W.told watch.new)
         processor.old.seat.me processor.new.seat.me pace.new victims.new result }
 {
-    let Some(made) = go_ahead(shared, unparkers, plan, limits, processor, pace, watch) else {
+    let Some(made) = go_ahead(crew, processor, pace, watch) else {
         return Way::Refused;
     };
     if made == 0 {
         return act(
-            rt, shared, unparkers, parker, plan, limits, processor, pace, victims, watch,
+            rt, crew, parker, processor, pace, victims, watch,
         );
     }
     Way::More
@@ -292,21 +283,18 @@ fn go_on<W: Watch, R: Wait>(
 /// Lets a processor obey until its acts stop; whether its watcher refused none. It may never return.
 pub(crate) fn run<W: Watch, R: Wait>(
     rt: &R,
-    shared: &Shared,
-    unparkers: &[IdleUnparker],
+    crew: &Crew,
     parker: &mut IdleParker,
-    plan: &Plan,
-    limits: Limits,
     processor: &mut Processor,
     watch: &mut W,
 ) -> bool
-    requires begins { Begins shared.now processor.old }
-    requires plan { plan.now.processors ≡ shared.now.shape.processors }
-    ensures { Ends W.told plan.now limits shared.now result processor.old watch.old processor.new watch.new }
+    requires begins { Begins crew.now.shared processor.old }
+    requires plan { crew.now.plan.now.processors ≡ crew.now.shared.shape.processors }
+    ensures { Ends W.told crew.now.plan.now crew.now.limits crew.now.shared result processor.old watch.old processor.new watch.new }
 {
     let own = processor.local.own;
-    let mut pace = Pace::first(plan, own);
-    let mut victims = Victims::new(limits.seed, own, plan.processors());
+    let mut pace = Pace::first(crew.plan, own);
+    let mut victims = Victims::new(crew.limits.seed, own, crew.plan.processors());
     let backoff = Backoff::new();
     for _ in rt.forever() {
         if pace.work >= MOST_WORK {
@@ -314,11 +302,8 @@ pub(crate) fn run<W: Watch, R: Wait>(
         }
         match go_on(
             rt,
-            shared,
-            unparkers,
+            crew,
             parker,
-            plan,
-            limits,
             processor,
             &mut pace,
             &mut victims,

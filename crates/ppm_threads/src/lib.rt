@@ -9,10 +9,11 @@
 //! are this project's.
 #![tactic(auto)]
 
+mod crew;
 mod driving;
 mod going;
 mod parking;
 mod way;
 
 pub use driving::drive;
-pub use parking::{Credit, Gave, IdleParker, IdlePass, IdleUnparker, Tokens, Took, rest};
+pub use parking::{Credit, Gave, IdleParker, IdlePass, IdleUnparker, Tokens, Took, sleep};

@@ -1,8 +1,8 @@
-//! Where a processor waits that rests.
+//! Where a processor sleeps that has parked.
 ghost use Rattle.std.specs.Prelude.{◌≡◌, ◌+◌, IfOk, vec_len};
 ghost use Rattle.std.specs.Arc.{arc_value};
 ghost use Rattle.crossbeam_utils.specs.Token.{parker_view};
-ghost use Rattle.ppm_threads.specs.Resting.{Balanced, credit, gave, took};
+ghost use Rattle.ppm_threads.specs.Tokens.{Balanced, credit, gave, took};
 
 use crossbeam_utils::rule::{Outcome, Protocol};
 use crossbeam_utils::sync::parker::{Pass, RuledParker, RuledUnparker};
@@ -48,9 +48,9 @@ pub type IdleUnparker = RuledUnparker<Credit, Tokens>;
 /// What one of them knows of the tokens.
 pub type IdlePass = Pass<Credit>;
 
-/// Parks until there is a token, and takes it. The pass is one of this parker. It may never return,
+/// Sleeps until there is a token, and takes it. The pass is one of this parker. It may never return,
 /// and takes no memory.
-pub fn rest<R: Wait>(rt: &R, parker: &IdleParker, mut pass: IdlePass) -> IdlePass
+pub fn sleep<R: Wait>(rt: &R, parker: &IdleParker, mut pass: IdlePass) -> IdlePass
     requires { pass.table_id ≡ (arc_value parker.now.unparker.state).shared.table_id }
     ensures same { result.table_id ≡ pass.table_id }
     ensures taken { parker_view result
@@ -63,7 +63,7 @@ pub fn rest<R: Wait>(rt: &R, parker: &IdleParker, mut pass: IdlePass) -> IdlePas
 /// Parks with a pass of its own.
 pub(crate) fn park<R: Wait>(rt: &R, parker: &IdleParker) {
     let pass = parker.unparker().pass();
-    rest(rt, parker, pass);
+    sleep(rt, parker, pass);
 }
 
 /// Gives a parker a token.

@@ -27,6 +27,7 @@ pub mod StepLemmas
 pub mod OwnRows
 pub mod FollowRows
 pub mod ThiefRows
+pub mod HeirRows
 pub mod TakeRows
 pub mod EntryRows
 pub mod ActLemmas

@@ -2,6 +2,7 @@
 ghost use Rattle.ppm_cells.specs.declared.shape.Shape.{Shape};
 ghost use Rattle.ppm_code.specs.declared.code.CodeParts.{CodeParts};
 ghost use Rattle.ppm_tickets.specs.Entries.{EntriesChangeLawfully, PlacesStayHome};
+ghost use Rattle.ppm_tickets.specs.Heirs.{HeirsSee};
 ghost use Rattle.ppm_tickets.specs.Renewal.{ComesBack, GoesOn, LawfulInParts};
 ghost use Rattle.ppm_tickets.specs.Tickets.{ImagesOpen, InEveryRun, InEveryRunByEntries};
 ghost use Rattle.ppm_tickets.specs.Tickets.{LawfulInEveryRun, OneMoreTurn};
@@ -55,4 +56,11 @@ pub fn entries_change_lawfully()
 /// its processor alone, and by none once that is done.
 pub fn places_stay_home()
     ensures law { (s : Shape) (code : CodeParts) → PlacesStayHome s code }
+{}
+
+/// With takeover by entries, what a place that checks what it stole is about to go on with: a branch that
+/// it stole; or what a closed place was at, that none has followed and from which it inherits, through
+/// closed places that inherited one from another.
+pub fn heirs_see()
+    ensures law { HeirsSee }
 {}

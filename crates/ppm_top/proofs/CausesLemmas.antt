@@ -50,7 +50,7 @@ by_ports words o status command e tells told d =
 -- where nobody was told anything, that belongs to each answer
 pub told_nothing : (command : Option Command) (answer : Answer) (lists : ToldLists) → CommandTells command answer lists lists
 told_nothing None answer lists = refl
-told_nothing (Some (commands.Run options plan)) answer lists = untold answer lists
+told_nothing (Some (commands.Run options plan)) answer lists = untold options.processors answer lists
 told_nothing (Some (commands.Serial options)) answer lists = refl
 told_nothing (Some commands.Code) answer lists = refl
 told_nothing (Some commands.Check) answer lists = refl

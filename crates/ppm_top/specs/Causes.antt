@@ -32,7 +32,7 @@ CommandMay (Some (commands.Replay options schedule)) o answer = ReplayMay option
 -- what watchers are told with each answer of a command, or of none: a run tells them its turns
 abbrev pub CommandTells : Option Command → Answer → ToldLists → ToldLists → Type 0
 CommandTells None = TellsNothing
-CommandTells (Some (commands.Run options plan)) = RunTells
+CommandTells (Some (commands.Run options plan)) = RunTells options.processors
 CommandTells (Some (commands.Serial options)) = TellsNothing
 CommandTells (Some commands.Code) = TellsNothing
 CommandTells (Some commands.Check) = TellsNothing

@@ -1,9 +1,11 @@
-use Rattle.std.proofs.Common.{◌≡◌, ◌<◌, ◌≤◌, ◌∙◌, sym, subst, arith, length}
+use Rattle.std.proofs.Common.{ℕ, ◌≡◌, ◌<◌, ◌≤◌, ◌∙◌, sym, subst, arith, length}
+use Rattle.ppm_cells.specs.declared.shape.Shape.{Shape}
 use Rattle.ppm_code.specs.Code.{IsCode}
+use Rattle.ppm_threads.specs.Driven.{OthersStay}
 use Rattle.ppm_tree.specs.Tree.{tree_of}
 use Rattle.ppm_driver.proofs.ExactLemmas.{code_opened}
-use Rattle.ppm_driver.proofs.RunLemmas.{program_has}
-use Rattle.ppm_driver.proofs.WatchLemmas.{first_of, fronts_stay, keep_fronts}
+use Rattle.ppm_driver.proofs.RunLemmas.{program_has, table_processors}
+use Rattle.ppm_driver.proofs.WatchLemmas.{first_of, fronts_stay, keep_fronts, others_keep, others_still}
 use Rattle.ppm_driver.proofs.run.ran.Goals as goal
 
 -- what is said of the words behind the run, in which all processors obey, and what watchers were told of it
@@ -15,7 +17,9 @@ returns-clause-has g c =
     program_has g.W.Watch.told c.args.options c.args.plan.now t _ _ _ c.in_ok-table.table.0 _ _ _ (first_of c.args.watch.now.items some) _ _ c.sizes_of.ensures
     c.limits_of.ensures c.requires.processors c.keeper.ensures.keeper c.in_ok-table.ensures.opens
     (code_opened _ _ _ _ _ c.in_ok-table.ensures.opens (subst IsCode (sym c.in_ok-table.table.0.told.1) c.parts.ensures.code))
-    (omega (arith, c.in_ok-closed.ensures.kept.0, c.args.watch.now.ok.0, c.drive.new.watch.ok.0)) enough (c.in_ok-closed.ensures.sizes.0 ∙ sym c.in_ok-table.table.0.told.0) c.in_ok-closed.ensures.sizes.1 c.in_ok-closed.ensures.run
+    (omega (arith, c.in_ok-closed.ensures.kept.0, c.args.watch.now.ok.0, c.drive.new.watch.ok.0)) enough (c.in_ok-closed.ensures.sizes.0 ∙ sym c.in_ok-table.table.0.told.0) c.in_ok-closed.ensures.sizes.1
+    (subst (λ (s : Shape). OthersStay s.processors c.args.watch.now.items c.drive.new.watch.items) (sym c.in_ok-table.table.0.told.0) c.in_ok-closed.ensures.others)
+    c.in_ok-closed.ensures.run
     (c.arrays.ensures.value ∙ c.input.ensures.value) c.in_ok-answer.ensures
 
 -- each list keeps what it had in front
@@ -33,3 +37,34 @@ returns-in_err-closed-clause-kept g c = keep_fronts g.W.Watch.told c.args.watch.
 pub returns-in_err-answer-clause-kept : goal.returns-in_err-answer-clause-kept
 returns-in_err-answer-clause-kept g c = keep_fronts g.W.Watch.told c.args.watch.now.items c.drive.new.watch.items
     (omega (arith, c.in_ok-closed.ensures.kept.0, c.args.watch.now.ok.0, c.drive.new.watch.ok.0)) c.in_ok-closed.ensures.kept.1
+
+-- those of no processor are told nothing
+pub returns-clause-others : goal.returns-clause-others
+returns-clause-others g c =
+    let t = tree_of c.args.program.now in
+    let some : 0 < length c.args.watch.now.items = omega (arith, c.requires.watchers) in
+    let count = table_processors c.args.options t _ _ c.in_ok-table.table.0 c.sizes_of.ensures c.in_ok-table.ensures.opens in
+    others_keep g.W.Watch.told c.args.options.processors c.args.watch.now.items c.drive.new.watch.items (first_of c.args.watch.now.items some)
+    (omega (arith, c.in_ok-closed.ensures.kept.0, c.args.watch.now.ok.0, c.drive.new.watch.ok.0))
+    (subst (λ (n : ℕ). OthersStay n c.args.watch.now.items c.drive.new.watch.items) count c.in_ok-closed.ensures.others)
+
+pub returns-in_err-table-clause-others : goal.returns-in_err-table-clause-others
+returns-in_err-table-clause-others g c = others_still _ _
+
+pub returns-in_err-closed-clause-others : goal.returns-in_err-closed-clause-others
+returns-in_err-closed-clause-others g c =
+    let t = tree_of c.args.program.now in
+    let some : 0 < length c.args.watch.now.items = omega (arith, c.requires.watchers) in
+    let count = table_processors c.args.options t _ _ c.in_ok-table.table.0 c.sizes_of.ensures c.in_ok-table.ensures.opens in
+    others_keep g.W.Watch.told c.args.options.processors c.args.watch.now.items c.drive.new.watch.items (first_of c.args.watch.now.items some)
+    (omega (arith, c.in_err-closed.ensures.kept.0, c.args.watch.now.ok.0, c.drive.new.watch.ok.0))
+    (subst (λ (n : ℕ). OthersStay n c.args.watch.now.items c.drive.new.watch.items) count c.in_err-closed.ensures.others)
+
+pub returns-in_err-answer-clause-others : goal.returns-in_err-answer-clause-others
+returns-in_err-answer-clause-others g c =
+    let t = tree_of c.args.program.now in
+    let some : 0 < length c.args.watch.now.items = omega (arith, c.requires.watchers) in
+    let count = table_processors c.args.options t _ _ c.in_ok-table.table.0 c.sizes_of.ensures c.in_ok-table.ensures.opens in
+    others_keep g.W.Watch.told c.args.options.processors c.args.watch.now.items c.drive.new.watch.items (first_of c.args.watch.now.items some)
+    (omega (arith, c.in_ok-closed.ensures.kept.0, c.args.watch.now.ok.0, c.drive.new.watch.ok.0))
+    (subst (λ (n : ℕ). OthersStay n c.args.watch.now.items c.drive.new.watch.items) count c.in_ok-closed.ensures.others)

@@ -4,27 +4,32 @@ use Rattle.ppm_choice.specs.Paces.{AreClear}
 use Rattle.ppm_table.specs.Run.{stands_by}
 use Rattle.ppm_table.specs.Shown.{deeds_of_processor, opening_of}
 use Rattle.ppm_threads.proofs.GoingLemmas.{obeying_along, grows_along, more_along, obeying_still}
-use Rattle.ppm_threads.proofs.ActLemmas.{gave_up}
+use Rattle.ppm_threads.proofs.ActLemmas.{row_quits}
 use Rattle.ppm_threads.proofs.going.go_ahead.Goals as goal
 
 -- the watcher refused one
 pub returns-then-row-clause-goes : goal.returns-then-row-clause-goes
 returns-then-row-clause-goes g c victims o =
-    gave_up g.W.Watch.told (opening_of c.args.shared.now) c.args.processor.now.local.own c.args.processor.now.seat.me c.steps-row.new.processor.seat.me
-    c.args.watch.now c.steps-row.new.watch (c.steps-row.ensures.stops c.if-row.true)
+    let k = opening_of c.args.crew.now.shared in
+    let p = c.args.processor.now in
+    let clear = subst (λ (n : ℕ). AreClear c.args.crew.now.plan.now c.args.crew.now.limits n o.past c.clear_steps.result) o.number
+    (c.clear_steps.ensures.clear o.past (stands_by k p.local.own (deeds_of_processor p)) o.pace_is) in
+    row_quits g.W.Watch.told c.args.crew.now.plan.now c.args.crew.now.limits k p.local.own p.seat.me c.steps-row.new.processor.seat.me
+    c.args.watch.now c.steps-row.new.watch c.min-most.result c.clear_steps.result c.args.pace.now victims o (c.steps-row.ensures.stops c.if-row.true)
+    (let m = c.min-most.ensures in omega (arith, m)) clear
 
 -- none was made
 pub returns-then-row-eq0-clause-goes : goal.returns-then-row-eq0-clause-goes
 returns-then-row-eq0-clause-goes g c victims o =
-    let k = opening_of c.args.shared.now in
+    let k = opening_of c.args.crew.now.shared in
     let p = c.args.processor.now in
     let q = c.steps-row.new.processor in
     let row = c.steps-row.result in
     let moves = c.steps-row.ensures.makes c.if-row.false in
-    let more = more_along c.args.plan.now c.args.limits k p.local.own p.seat.me q.seat.me row.made row.work row.looks moves.goes in (
-      obeying_still c.args.plan.now c.args.limits k p.local.own p.seat.me q.seat.me c.args.pace.now victims row.made row.work row.looks moves.goes
+    let more = more_along c.args.crew.now.plan.now c.args.crew.now.limits k p.local.own p.seat.me q.seat.me row.made row.work row.looks moves.goes in (
+      obeying_still c.args.crew.now.plan.now c.args.crew.now.limits k p.local.own p.seat.me q.seat.me c.args.pace.now victims row.made row.work row.looks moves.goes
           c.if-row-eq0.true o,
-      grows_along c.args.plan.now c.args.limits k p.local.own (g.W.Watch.told c.args.watch.now) (g.W.Watch.told c.steps-row.new.watch) p.seat.me
+      grows_along c.args.crew.now.plan.now c.args.crew.now.limits k p.local.own (g.W.Watch.told c.args.watch.now) (g.W.Watch.told c.steps-row.new.watch) p.seat.me
           q.seat.me c.args.pace.now victims
           row.made row.work row.looks o moves.goes moves.shows,
       (let none = c.if-row-eq0.true in omega (arith, more, none)),
@@ -33,7 +38,7 @@ returns-then-row-eq0-clause-goes g c victims o =
 -- all of them are next acts, and the watcher was told of them
 pub returns-clause-goes : goal.returns-clause-goes
 returns-clause-goes g c victims o =
-    let shared = c.args.shared.now in
+    let shared = c.args.crew.now.shared in
     let k = opening_of shared in
     let p = c.args.processor.now in
     let own = p.local.own in
@@ -41,18 +46,18 @@ returns-clause-goes g c victims o =
     let row = c.steps-row.result in
     let moves = c.steps-row.ensures.makes c.if-row.false in
     let stands = c.steps-row.ensures.of.stands ∙ ap (λ (n : ℕ). stands_by k n (deeds_of_processor q)) c.steps-row.ensures.own in
-    let clear = subst (λ (n : ℕ). AreClear c.args.plan.now c.args.limits n o.past c.clear_steps.result) o.number
+    let clear = subst (λ (n : ℕ). AreClear c.args.crew.now.plan.now c.args.crew.now.limits n o.past c.clear_steps.result) o.number
     (c.clear_steps.ensures.clear o.past (stands_by k own (deeds_of_processor p)) o.pace_is) in
     let most : row.made ≤ c.clear_steps.result = let f = c.steps-row.ensures.few.0 in let m = c.min-most.ensures in omega (arith, f, m) in (
-      obeying_along c.args.plan.now c.args.limits k own p.seat.me q.seat.me c.args.pace.now c.count_steps.new.self victims row.made row.work row.looks
+      obeying_along c.args.crew.now.plan.now c.args.crew.now.limits k own p.seat.me q.seat.me c.args.pace.now c.count_steps.new.self victims row.made row.work row.looks
           c.clear_steps.result o
           moves.goes most clear c.count_steps.ensures.number
           (λ past' acts works looked.
-          c.count_steps.ensures.pace c.args.plan.now o.past past' (stands_by k own (deeds_of_processor p)) (stands_by k own (deeds_of_processor q))
+          c.count_steps.ensures.pace c.args.crew.now.plan.now o.past past' (stands_by k own (deeds_of_processor p)) (stands_by k own (deeds_of_processor q))
           o.pace_is acts works looked
           (c.next-next.ensures shared.shape shared.code ∙ ap next_of stands) (c.is_due-due.ensures shared.shape shared.code ∙ ap seeks_holder stands)),
-      grows_along c.args.plan.now c.args.limits k own (g.W.Watch.told c.args.watch.now) (g.W.Watch.told c.steps-row.new.watch) p.seat.me q.seat.me
+      grows_along c.args.crew.now.plan.now c.args.crew.now.limits k own (g.W.Watch.told c.args.watch.now) (g.W.Watch.told c.steps-row.new.watch) p.seat.me q.seat.me
           c.args.pace.now victims
           row.made row.work row.looks o moves.goes moves.shows,
-      more_along c.args.plan.now c.args.limits k own p.seat.me q.seat.me row.made row.work row.looks moves.goes,
+      more_along c.args.crew.now.plan.now c.args.crew.now.limits k own p.seat.me q.seat.me row.made row.work row.looks moves.goes,
     )

@@ -13,7 +13,7 @@ act-requires-clause-few g c κs within =
 
 pub act-requires-clause-obeying : goal.act-requires-clause-obeying
 act-requires-clause-obeying g c κs within =
-    subst (λ (n : ℕ). Obeying c.args.plan.now c.args.limits (opening_of c.args.shared.now) n (deeds_of_processor c.go_ahead.new.processor)
+    subst (λ (n : ℕ). Obeying c.args.crew.now.plan.now c.args.crew.now.limits (opening_of c.args.crew.now.shared) n (deeds_of_processor c.go_ahead.new.processor)
     c.go_ahead.new.pace c.args.victims.now)
     (sym c.go_ahead.ensures.own) (c.in-Some.ensures.goes c.args.victims.now c.requires.obeying).0
 
@@ -27,15 +27,15 @@ returns-then-made-eq0-clause-keeps g c = keeps_both _ _ _ c.go_ahead.ensures.kee
 
 pub returns-then-made-eq0-clause-goes : goal.returns-then-made-eq0-clause-goes
 returns-then-made-eq0-clause-goes g c =
-    let k = opening_of c.args.shared.now in
+    let k = opening_of c.args.crew.now.shared in
     let p = c.args.processor.now in
     let goes = c.in-Some.ensures.goes c.args.victims.now c.requires.obeying in
     let none = c.if-made-eq0.true in
-    goes_behind c.args.plan.now c.args.limits k p.local.own (g.W.Watch.told c.args.watch.now) (g.W.Watch.told c.go_ahead.new.watch)
+    goes_behind c.args.crew.now.plan.now c.args.crew.now.limits k p.local.own (g.W.Watch.told c.args.watch.now) (g.W.Watch.told c.go_ahead.new.watch)
     (g.W.Watch.told c.act.new.watch)
     p.seat.me c.go_ahead.new.processor.seat.me c.act.new.processor.seat.me c.act.new.pace c.act.new.victims c.act.result goes.1
     (let more = goes.2 in omega (arith, more, none))
-    (subst (λ (n : ℕ). GoesOn c.args.plan.now c.args.limits k n (g.W.Watch.told c.go_ahead.new.watch) (g.W.Watch.told c.act.new.watch)
+    (subst (λ (n : ℕ). GoesOn c.args.crew.now.plan.now c.args.crew.now.limits k n (g.W.Watch.told c.go_ahead.new.watch) (g.W.Watch.told c.act.new.watch)
     c.go_ahead.new.processor.seat.me c.act.new.processor.seat.me
     c.act.new.pace c.act.new.victims c.act.result) c.go_ahead.ensures.own c.act.ensures.goes)
 

@@ -1,5 +1,5 @@
 use Rattle.crossbeam_utils.specs.Token.{parker_view}
-use Rattle.ppm_threads.proofs.RestingLemmas.{admits, gives}
+use Rattle.ppm_threads.proofs.TokenLemmas.{admits, gives}
 use Rattle.ppm_threads.proofs.parking.wake.Goals as goal
 
 pub pass-pass-requires : goal.pass-pass-requires

@@ -9,8 +9,7 @@ use Rattle.ppm_table.proofs.processor.Shared.load.Goals as goal
 
 pub of_words-requires : goal.of_words-requires
 of_words-requires c =
-    kept.opens _ c.as_slice-2.result.now
-    (ap (λ (ws : List ℕ). drop padding ws) c.as_slice-2.ensures.value ∙ c.in_ok-padded.ensures ∙ c.as_slice.ensures)
+    kept.opens _ c.all.result.now c.all.ensures
 
 pub loop-own-preserved : goal.loop-own-preserved
 loop-own-preserved c =

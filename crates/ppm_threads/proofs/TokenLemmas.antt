@@ -4,7 +4,7 @@ use Rattle.crossbeam_utils.specs.Register.{Admits, TurnsAt, Turns}
 use mathlib.Core.Option.{some, some-injective, some-ne-none}
 use lib.ListN.{get_elem?}
 use Rattle.ppm_threads.specs.declared.parking.Credit.{Credit}
-use Rattle.ppm_threads.specs.Resting.{credit, given_in, taken_in, Balanced, gave, took}
+use Rattle.ppm_threads.specs.Tokens.{credit, given_in, taken_in, Balanced, gave, took}
 
 given_set : (cs : List Credit) (i : ℕ) (v w : Credit) → get_elem? cs i ≡ some v → given_in (set cs i w) + v.given ≡ given_in cs + w.given
 given_set [] i v w e = absurd (some-ne-none v (sym e))

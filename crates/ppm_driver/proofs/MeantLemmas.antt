@@ -1,0 +1,264 @@
+-- With takeover by places runs end as their programs do. What the machine begins with is what the depth-first run of the program's code does
+-- (`ShowsTheRun`), and that code is sound: so an outcome of the run is the depth-first run's, and that is the program's.
+use Rattle.std.proofs.Common.{◌≡◌, ℕ, ◌≤◌, List, [], ◌∷◌, length, map, Some, refl, sym, ap, ap₂, ◌∙◌, subst, arith}
+use Rattle.std.specs.List.{AllByRecursion, sum}
+use Rattle.ppm_strands.specs.Tree.{Words, Tree, Code}
+use Rattle.ppm_strands.specs.Calm.{Calm}
+use Rattle.ppm_strands.specs.Run.{End, Ends}
+use Rattle.ppm_capsules.specs.Strand.{Frame}
+use Rattle.ppm_words.specs.declared.named_array.NamedArray.{NamedArray}
+use Rattle.ppm_words.specs.declared.outcome.Outcome.{Outcome}
+use Rattle.ppm_words.specs.declared.outcome.Outcome.TheVariants as outcome
+use Rattle.ppm_words.specs.declared.trap.Trap.{Trap}
+use Rattle.ppm_cells.specs.Finish.{finish_of, IsOutcome}
+use Rattle.ppm_cells.specs.Memory.{read, AreWordsOf}
+use Rattle.ppm_cells.specs.declared.cell.Cell.TheVariants.{FinishWord}
+use Rattle.ppm_cells.specs.declared.finish.Finish.{Finish}
+use Rattle.ppm_cells.specs.declared.finish.Finish.TheVariants as finishes
+use Rattle.ppm_cells.specs.declared.shape.Shape.{Shape}
+use Rattle.ppm_cells.specs.declared.shape.Takeover.TheVariants.{ByPlaces}
+use Rattle.ppm_code.specs.Code.{IsCode}
+use Rattle.ppm_code.specs.Strands.{Point, Result, Gave, Trapped}
+use Rattle.ppm_code.specs.declared.code.CodeParts.{CodeParts}
+use Rattle.ppm_code.specs.declared.location.FrameWord.{FrameWord}
+use Rattle.ppm_tree.specs.Tree.{ProgramTree}
+use Rattle.ppm_tree.specs.Limits.{IsWithin}
+use Rattle.ppm_tree.specs.Program.{initial_arrays}
+use Rattle.ppm_rows.specs.Correct.{TreesAreWithin}
+use Rattle.ppm_regions.proofs.Inputs.{input_fits}
+use Rattle.ppm_program.specs.Programs.{HasProgram}
+use Rattle.ppm_program.proofs.WithinLemmas.{tree_within}
+use Rattle.ppm_depth.specs.Run.{arrays_at as arrays_by, said_of}
+use Rattle.ppm_depth.specs.Sound.{IsSound}
+use Rattle.ppm_layout.specs.Correct.{Opens as IsOpened}
+use Rattle.ppm_layout.specs.Root.{root_strand as strand_of_image}
+use Rattle.ppm_opening.specs.Correct.{ShowsTheRun, ImagesShowTheRun}
+use Rattle.ppm_cut_code.specs.Correct.{KeepsTheRules}
+use Rattle.ppm_cut_code.specs.Inputs.{IsInputOf}
+use Rattle.ppm_cut_code.specs.Routines.{code_of}
+use Rattle.ppm_cut_sound.specs.Correct.{CodeIsSound}
+use Rattle.ppm_cut_correct.specs.Beginning.{StartWithInput, NameArrays}
+use Rattle.ppm_cut_correct.specs.Correct.{EndAsMeant, EndsSerially}
+use Rattle.ppm_step.specs.Among.{IsTurnAmong}
+use Rattle.ppm_step.specs.Laws.{reached}
+use Rattle.ppm_step.specs.Standings.{Standing, IsLost, IsPlaced, IsAt, IsWithin as IsInRow, IsRunning, IsBroken, IsDone}
+use Rattle.ppm_step.specs.State.{State, stand_of, want_of, acts, happens, after, opening}
+use Rattle.ppm_step.specs.declared.turn.Act.{Act}
+use Rattle.ppm_step.specs.declared.turn.Turn.{Turn}
+use Rattle.ppm_step.proofs.WordLemmas.{length_stays}
+use Rattle.ppm_tickets.specs.Along.{forked, taken}
+use Rattle.ppm_frames.specs.Seen.{arrays_at}
+use Rattle.ppm_frames.specs.Skeletons.{Skeleton}
+use Rattle.ppm_frames.specs.Views.{view}
+use Rattle.ppm_kept.specs.Answers.{finish_by}
+use Rattle.ppm_kept.specs.Running.{IsFair, strands}
+use Rattle.ppm_runs.specs.Moments.{AreOnce, OnceAtEachMoment}
+use Rattle.ppm_runs.specs.Outcomes.{EndsWell}
+use Rattle.ppm_runs.specs.Run.{image}
+use Rattle.ppm_runs.specs.Spent.{RoomIsSpent}
+use Rattle.ppm_runs.specs.Whole.{RunsComeTo}
+use Rattle.ppm_core.specs.Situation.{Situation, loaded}
+use Rattle.ppm_driver.specs.declared.loading.Sizes.{Sizes}
+use Rattle.ppm_driver.specs.Loading.{Opens}
+use Rattle.ppm_driver.specs.Meant.{HasOutcome, NeedsMoreRoom, EachIsTakenOnce, EndsAsProgram, IsAsProgram, RunsAreAsPrograms}
+use Rattle.ppm_driver.specs.Says.{arrays_from}
+use Rattle.ppm_driver.proofs.ArrayLemmas.{same_arrays}
+use Rattle.ppm_driver.proofs.EndLemmas.{keeper_opened, words_opened}
+use Rattle.ppm_driver.proofs.TakenLemmas.{as_long}
+
+-- what the crates below show of every text, every code, every image and every run
+pub record Laws : Type 0 where
+  pub within : TreesAreWithin
+  pub rules : KeepsTheRules
+  pub sound : CodeIsSound
+  pub starts : StartWithInput
+  pub names : NameArrays
+  pub serially : EndsSerially
+  pub meant : EndAsMeant
+  pub shown : ImagesShowTheRun
+  pub runs : RunsComeTo
+  pub once : OnceAtEachMoment
+  pub room : RoomIsSpent
+
+-- a machine has as many words after turns as before them
+module _ (s : Shape) (code : CodeParts) where
+  act_length : (state : State) (p : ℕ) (act : Act) (standing : Standing) → length (acts s code state p act standing).words ≡ length state.words
+  act_length state p act IsLost = length_stays state.words (want_of s code p act IsLost)
+  act_length state p act (IsPlaced place) = length_stays state.words (want_of s code p act (IsPlaced place))
+  act_length state p act (IsAt place restart) = length_stays state.words (want_of s code p act (IsAt place restart))
+  act_length state p act (IsInRow seat row) = length_stays state.words (want_of s code p act (IsInRow seat row))
+  act_length state p act (IsRunning seat rest) = length_stays state.words (want_of s code p act (IsRunning seat rest))
+  act_length state p act (IsBroken place) = length_stays state.words (want_of s code p act (IsBroken place))
+  act_length state p act IsDone = refl
+
+  run_length : (state : State) (turns : List Turn) → length (after s code state turns).words ≡ length state.words
+  run_length state [] = refl
+  run_length state (turn ∷ turns) =
+      run_length (happens s code state turn) turns
+      ∙ act_length state turn.processor turn.act (stand_of state turn.processor)
+
+-- strands, a tree and words that are the same
+module _ {c d : Code (Frame FrameWord Point) Result} {t u : Tree (Frame FrameWord Point) Result} {a b : Words}
+    (strands_are : c ≡ d) (tree_is : t ≡ u) (words_are : a ≡ b) where
+  calm_as : Calm d u b → Calm c t a
+  calm_as h =
+      subst (λ (x : Code (Frame FrameWord Point) Result). Calm x t a) (sym strands_are)
+      (subst (λ (x : Tree (Frame FrameWord Point) Result). Calm d x a) (sym tree_is) (subst (λ (x : Words). Calm d u x) (sym words_are) h))
+
+  ends_as : (e : End Result) → Ends c t a e → Ends d u b e
+  ends_as e h =
+      subst (λ (x : Words). Ends d u x e) words_are
+      (subst (λ (x : Tree (Frame FrameWord Point) Result). Ends d x a e) tree_is
+      (subst (λ (x : Code (Frame FrameWord Point) Result). Ends x t a e) strands_are h))
+
+-- the outcome that a finish is
+module _ (input : List NamedArray) (w : Words) where
+  ended_said : (r : Result) → finishes.Ended ≡ finish_by r → said_of input w r ≡ outcome.Ended (arrays_by w 0 input)
+  ended_said (Gave value) e = refl
+  ended_said (Trapped trap line) e = absurd (different e)
+    where
+      different : finishes.Ended ≡ finishes.Trapped trap line → ⊥
+      different k = cc
+
+  trapped_said : (trap : Trap) (line : ℕ) (r : Result) → finishes.Trapped trap line ≡ finish_by r
+      → said_of input w r ≡ outcome.Trapped trap line
+  trapped_said trap line (Gave value) e = absurd (different e)
+    where
+      different : finishes.Trapped trap line ≡ finishes.Ended → ⊥
+      different k = cc
+  trapped_said trap line (Trapped other at) e =
+      let same_trap : other ≡ trap = cc in
+      let same_line : at ≡ line = cc in
+      ap₂ (λ (x : Trap) (n : ℕ). outcome.Trapped x n) same_trap same_line
+
+module _ (laws : Laws) (text : List ℕ) (t : ProgramTree) (has : HasProgram text t) where
+  abbrev code : CodeParts
+  code = code_of t
+
+  abbrev input : List NamedArray
+  input = initial_arrays t
+
+  inside : IsWithin t
+  inside = tree_within laws.within text t has.admitted.tree
+
+  is_code : IsCode code
+  is_code = laws.rules t inside has.admitted.admitted has.bounded
+
+  starts : IsInputOf t input
+  starts = laws.starts t inside has.admitted.admitted
+
+  is_sound : IsSound code input
+  is_sound = laws.sound t inside has.admitted.admitted has.bounded input starts
+
+  fair : IsFair code
+  fair = record { code_is = is_code; tidy = is_sound.tidy; free = is_sound.free }
+
+  module _ (sizes : Sizes) (keeper : ℕ) (m : Situation) (b : Opens sizes code input keeper m) (places : sizes.takeover ≡ ByPlaces) where
+    abbrev s : Shape
+    s = b.shape
+
+    abbrev words : List ℕ
+    words = b.image.words
+
+    abbrev start : Situation
+    start = loaded s code b.image.lengths words
+
+    opened : IsOpened code input s keeper b.image
+    opened = record {
+      code_is = is_code;
+      input_is = input_fits t inside has.admitted.admitted;
+      below = keeper_opened sizes code input keeper m b;
+      image_is = b.opens;
+    }
+
+    shown : ShowsTheRun code input s words
+    shown = laws.shown code input s keeper b.image opened (laws.names t has.admitted.admitted input starts)
+
+    calm : Calm (strands s code) (strand_of_image code input) (arrays_at (view s words))
+    calm = calm_as shown.strands shown.root shown.arrays is_sound.calm
+
+    module _ (turns : List Turn) (among : AllByRecursion (IsTurnAmong s.processors) turns) where
+      abbrev last : State
+      last = reached s code words turns
+
+      abbrev forks : List ℕ
+      forks = forked s code (opening words s.processors) [] turns
+
+      abbrev takes : List ℕ
+      takes = taken s code (opening words s.processors) [] turns
+
+      abbrev Says : Finish → Type 0
+      Says v = finish_of (read s last.words FinishWord) ≡ Some v
+
+      abbrev Well : Skeleton → Finish → Type 0
+      Well tree v = EndsWell s code (strand_of_image code input) (arrays_at (view s words)) last forks takes tree v
+
+      ends : (v : Finish) → Says v → IsOutcome v → (tree : Skeleton) × Well tree v
+      ends v says out = laws.runs code input s keeper b.image (b.sized.takeover ∙ places) fair opened calm turns among v says out
+
+      -- the arrays of the words then
+      fit : AreWordsOf s last.words
+      fit = run_length s code (opening words s.processors) turns ∙ words_opened sizes code input keeper m b
+
+      arrays_then : (tree : Skeleton) (v : Finish) (h : Well tree v)
+          → arrays_from s b.image.lengths last.words 0 input ≡ arrays_by h.answer.end.words 0 input
+      arrays_then tree v h =
+          let all : sum (map (λ (a : NamedArray). length a.values) input) ≤ s.arrays = omega (arith, b.sized.arrays) in
+          same_arrays s b.image.lengths last.words fit h.answer.end.words h.answer.arrays input b.opens.lengths_are all
+
+      -- the outcome is the program's
+      outcome_then : (tree : Skeleton) (v : Finish) (h : Well tree v) → HasOutcome t (said_of input h.answer.end.words h.answer.end.outcome)
+      outcome_then tree v h =
+          (laws.serially t inside has.admitted.admitted has.bounded).serially h.answer.end
+          (ends_as shown.strands shown.root shown.arrays h.answer.end h.answer.ends)
+
+      none_twice : AreOnce forks takes
+      none_twice = laws.once code input s keeper b.image (b.sized.takeover ∙ places) fair opened calm turns among
+
+      each : (tree : Skeleton) (v : Finish) → Well tree v → EachIsTakenOnce start turns
+      each tree v h = record {
+        once = none_twice;
+        all = h.all;
+        alike = as_long forks takes h.forked_once h.taken_once h.all;
+      }
+
+      -- a full pool is one that the program needs more of
+      needs_more : (place : ℕ) → Says (finishes.OutOfRoom place) → NeedsMoreRoom t s.room
+      needs_more place says k z means =
+          let e = (laws.meant t inside has.admitted.admitted has.bounded input starts).ends k z means in
+          let ends_here = ends_as (sym shown.strands) (sym shown.root) (sym shown.arrays) e.0 e.1 in
+          let less = laws.room code input s keeper b.image (b.sized.takeover ∙ places) fair opened calm turns among place says e.0 ends_here in
+          let words_are = e.2.pool_words in
+          omega (arith, less, words_are)
+
+      as_program : IsAsProgram start turns t
+      as_program = record { once = none_twice; ended = when_ended; trapped = when_trapped; full = needs_more }
+        where
+          when_ended : Says finishes.Ended → EndsAsProgram start turns t (outcome.Ended (arrays_from s b.image.lengths last.words 0 input))
+          when_ended says =
+              let r = ends finishes.Ended says tt in
+              let said = ended_said input r.1.answer.end.words r.1.answer.end.outcome r.1.answer.outcome
+              ∙ ap (λ (l : List NamedArray). outcome.Ended l) (sym (arrays_then r.0 finishes.Ended r.1)) in
+              record {
+                serially = subst (λ (o : Outcome). HasOutcome t o) said (outcome_then r.0 finishes.Ended r.1);
+                branches = each r.0 finishes.Ended r.1;
+              }
+
+          when_trapped : (trap : Trap) (line : ℕ) → Says (finishes.Trapped trap line) → EndsAsProgram start turns t (outcome.Trapped trap line)
+          when_trapped trap line says =
+              let r = ends (finishes.Trapped trap line) says tt in
+              record {
+                serially = subst (λ (o : Outcome). HasOutcome t o)
+                    (trapped_said input r.1.answer.end.words trap line r.1.answer.end.outcome r.1.answer.outcome)
+                    (outcome_then r.0 (finishes.Trapped trap line) r.1);
+                branches = each r.0 (finishes.Trapped trap line) r.1;
+              }
+
+    pub as_programs : (turns : List Turn) → AllByRecursion (IsTurnAmong m.shape.processors) turns → IsAsProgram m turns t
+    as_programs turns =
+        subst (λ (x : Situation). AllByRecursion (IsTurnAmong x.shape.processors) turns → IsAsProgram x turns t) (sym b.loads)
+        (λ among. as_program turns among)
+
+-- so it is with each text's program
+pub runs_are_as_programs : Laws → RunsAreAsPrograms
+runs_are_as_programs laws text t has sizes places keeper m b turns among = as_programs laws text t has sizes keeper m b places turns among

@@ -1,0 +1,74 @@
+-- What runs of a program's machine come to, in the words of the program's serial meaning.
+use Rattle.std.specs.Prelude.{◌≡◌, ◌<◌, ℕ, ℤ, List, [], Some, length}
+use Rattle.std.specs.List.{AllByRecursion}
+use Rattle.ppm_words.specs.declared.outcome.Outcome.{Outcome}
+use Rattle.ppm_words.specs.declared.outcome.Outcome.TheVariants as outcome
+use Rattle.ppm_words.specs.declared.trap.Trap.{Trap}
+use Rattle.ppm_cells.specs.Finish.{finish_of}
+use Rattle.ppm_cells.specs.declared.finish.Finish.TheVariants as finishes
+use Rattle.ppm_cells.specs.declared.shape.Takeover.TheVariants.{ByPlaces}
+use Rattle.ppm_tree.specs.Tree.{ProgramTree}
+use Rattle.ppm_tree.specs.Meaning.{Whole, Counts, End}
+use Rattle.ppm_tree.specs.Program.{initial_arrays, values_of, Means, Serial}
+use Rattle.ppm_program.specs.Programs.{HasProgram}
+use Rattle.ppm_cut_code.specs.Routines.{code_of}
+use Rattle.ppm_cut_correct.specs.Correct.{words_taken}
+use Rattle.ppm_step.specs.Among.{IsTurnAmong}
+use Rattle.ppm_step.specs.declared.turn.Turn.{Turn}
+use Rattle.ppm_tickets.specs.Along.{forked, taken}
+use Rattle.ppm_tickets.specs.Words.{has}
+use Rattle.ppm_runs.specs.Moments.{AreOnce}
+use Rattle.ppm_core.specs.Situation.{Situation}
+use Rattle.ppm_driver.specs.declared.loading.Sizes.{Sizes}
+use Rattle.ppm_driver.specs.Loading.{Opens}
+use Rattle.ppm_driver.specs.RunOf.{words_behind, finish_behind}
+use Rattle.ppm_driver.specs.Says.{arrays_from}
+
+-- within some number of turns this is the program's serial outcome
+abbrev pub HasOutcome : ProgramTree → Outcome → Type 0
+HasOutcome t o = (within : ℕ) × Serial t within o
+
+-- The program, both branches of each fork run whole, has no end, or it takes more words than so many: the frame of `main`, and those that its
+-- calls, its forks and each `each` ask for. Each pool of a machine has as many words as its room.
+abbrev pub NeedsMoreRoom : ProgramTree → (room : ℕ) → Type 0
+NeedsMoreRoom t room = (k : Counts) (z : End ℤ) → Means Whole t (values_of (initial_arrays t)) k z → room < words_taken t k
+
+module _ (m : Situation) (turns : List Turn) where
+  -- the blocks whose right branches are forked in these turns of a machine, and those whose right branches are taken, newest first
+  abbrev pub forked_in : List ℕ
+  forked_in = forked m.shape m.code m.state [] turns
+
+  abbrev pub taken_in : List ℕ
+  taken_in = taken m.shape m.code m.state [] turns
+
+  -- no right branch is forked twice, none is taken twice, and each that is taken was forked
+  abbrev pub NoneIsTakenTwice : Type 0
+  NoneIsTakenTwice = AreOnce forked_in taken_in
+
+  -- so it is, and each that is forked is taken: there are as many takes as forks
+  pub record EachIsTakenOnce : Type 0 where
+    pub once : NoneIsTakenTwice
+    pub all : (block : ℕ) → has forked_in block ≡ has taken_in block
+    pub alike : length forked_in ≡ length taken_in
+
+  -- a run of these turns ends as the program does: with its serial outcome, and with each branch that was forked taken once
+  pub record EndsAsProgram (t : ProgramTree) (o : Outcome) : Type 0 where
+    pub serially : HasOutcome t o
+    pub branches : EachIsTakenOnce
+
+  -- What holds behind these turns: no branch is taken twice; where the finish word says an outcome the run ends as the program does, with
+  -- the arrays of the words then, or this trap; and where it says that a pool is full, the program takes more words.
+  pub record IsAsProgram (t : ProgramTree) : Type 0 where
+    pub once : NoneIsTakenTwice
+    pub ended : finish_of (finish_behind m turns) ≡ Some finishes.Ended
+        → EndsAsProgram t (outcome.Ended (arrays_from m.shape m.array_lengths (words_behind m turns) 0 (initial_arrays t)))
+    pub trapped : (trap : Trap) (line : ℕ) → finish_of (finish_behind m turns) ≡ Some (finishes.Trapped trap line)
+        → EndsAsProgram t (outcome.Trapped trap line)
+    pub full : (place : ℕ) → finish_of (finish_behind m turns) ≡ Some (finishes.OutOfRoom place) → NeedsMoreRoom t m.shape.room
+
+-- With takeover by places, from the machine with which a run of a text's program begins, whatever the turns are that its processors make, and
+-- in whatever order, faults and quits among them.
+abbrev pub RunsAreAsPrograms : Type 0
+RunsAreAsPrograms = (text : List ℕ) (t : ProgramTree) → HasProgram text t → (sizes : Sizes) → sizes.takeover ≡ ByPlaces
+    → (keeper : ℕ) (m : Situation) → Opens sizes (code_of t) (initial_arrays t) keeper m
+    → (turns : List Turn) → AllByRecursion (IsTurnAmong m.shape.processors) turns → IsAsProgram m turns t
