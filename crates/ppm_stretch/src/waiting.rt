@@ -50,7 +50,7 @@ pub(crate) fn wait_broken(local: &mut Local, shape: &Shape, code: &Code, place: 
 }
 
 /// Stands before an instruction of the capsule with a number.
-#[inline(never)]
+#[inline(always)]
 fn wait_midway(
     local: &mut Local,
     shape: &Shape,
@@ -102,7 +102,7 @@ fn running_at(
 }
 
 /// Stands in the capsule with a number where register work has come to.
-#[inline(never)]
+#[inline(always)]
 fn wait_stopped(
     local: &mut Local,
     shape: &Shape,
