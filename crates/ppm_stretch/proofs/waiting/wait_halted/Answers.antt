@@ -12,7 +12,7 @@ wait_midway-requires-clause-is c =
 pub wait_stopped-requires-clause-is : goal.wait_stopped-requires-clause-is
 wait_stopped-requires-clause-is c =
     let at = subst (λ (halt : Halt). HaltsAt c.args.shape.now c.args.code.now c.args.seat c.args.home c.args.local.now.registers halt c.requires.halts.0) c.in-Stopped.is c.requires.halts.1 in
-    (at.0, at.1, at.2)
+    (at.0, at.1, at.2.0)
 
 pub returns-in-Done-clause-stands : goal.returns-in-Done-clause-stands
 returns-in-Done-clause-stands c = λ standing halts.
@@ -31,4 +31,4 @@ returns-in-Midway-clause-stands c = λ standing halts.
 pub returns-in-Stopped-clause-stands : goal.returns-in-Stopped-clause-stands
 returns-in-Stopped-clause-stands c = λ standing halts.
     let at = subst (λ (halt : Halt). HaltsAt c.args.shape.now c.args.code.now c.args.seat c.args.home c.args.local.now.registers halt standing) c.in-Stopped.is halts in
-    c.wait_stopped.ensures.stands at.0 at.1 ∙ sym at.3
+    c.wait_stopped.ensures.stands at.0 at.1 ∙ sym at.2.1
