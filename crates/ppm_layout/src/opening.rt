@@ -14,6 +14,9 @@ use ppm_code::{Code, push_arrays};
 use ppm_words::{Input, Items, NamedArray, NoMemory};
 use std::alloc::Global;
 
+/// How many words more the words of an image have room for: a table moves them behind a few.
+const SPARE: usize = 8;
+
 /// The lengths of arrays.
 fn lengths_of(alloc: Global, arrays: &[NamedArray]) -> Result<Vec<u32>, NoMemory>
     requires { IsInput arrays.now }
@@ -45,7 +48,7 @@ fn words_of(
         keeper,
         root,
     };
-    let mut words = Vec::with_capacity(alloc, shape.word_count() as usize)?;
+    let mut words = Vec::with_capacity(alloc, shape.word_count() as usize + SPARE)?;
     push_processors(&mut words, shape.processors)?;
     start.push_places(&mut words)?;
     push_arrays(&mut words, arrays)?;

@@ -60,6 +60,7 @@ pub(crate) fn root_of(alloc: Global, code: &Code, arrays: &[NamedArray]) -> Resu
     ensures size { IfOk result (λ root. root.size ≡ frame_size_of code.now code.now.root) }
     ensures frame { IfOk result (λ root. root.frame.items ≡ root_frame code.now arrays.now) }
     ensures fits { IfOk result (λ root. root.size ≤ 31) }
+    ensures short { IfOk result (λ root. length root.frame.items ≤ 31) }
 {
     let parts = code.parts();
     let size = frame_size(code, parts.root);

@@ -1,18 +1,16 @@
 //! The opening words one after the other, but for those that tell of the root.
-ghost use Rattle.std.specs.Prelude.{◌≡◌, ◌++◌, OnOk, replicate};
-ghost use Rattle.ppm_layout.specs.Opening.{first_entry};
+ghost use Rattle.std.specs.Prelude.{◌≡◌, ◌++◌, ◌≤◌, OnOk, replicate};
 ghost use Rattle.ppm_layout.specs.Sequence.{carries, processor_words, entry_words};
 
 use ppm_cells::{Entry, Finish};
 use ppm_words::NoMemory;
 
 /// Appends 0 so many times.
-fn push_zeros(words: &mut Vec<u64>, count: u32) -> Result<(), NoMemory>
+pub(crate) fn push_zeros(words: &mut Vec<u64>, count: u32) -> Result<(), NoMemory>
     ensures { OnOk result (words.new.items ≡ words.old.items ++ replicate count 0) }
 {
-    for _ in 0..count {
-        words.push(0)?;
-    }
+    let length = words.len() + count as usize;
+    words.resize(length, 0)?;
     Ok(())
 }
 
@@ -36,23 +34,13 @@ pub(crate) fn push_processors(words: &mut Vec<u64>, processors: u32) -> Result<(
     Ok(())
 }
 
-/// The entry in a slot of a deque, all of whose tags are 0.
-fn entry_in(slot: u32) -> Entry
-    ensures { result ≡ first_entry slot }
-{
-    match slot {
-        0 => Entry::Taken { tag: 0, taker: 0 },
-        1 => Entry::Local { tag: 0, block: 0 },
-        _ => Entry::Empty { tag: 0 },
-    }
-}
-
-/// Appends the entries of a deque.
+/// Appends the entries of a deque, all of whose tags are 0: one that is taken, one that is local,
+/// and empty ones, whose words are 0.
 pub(crate) fn push_entries(words: &mut Vec<u64>, slots: u32) -> Result<(), NoMemory>
+    requires { 2 ≤ slots }
     ensures { OnOk result (words.new.items ≡ words.old.items ++ entry_words slots) }
 {
-    for slot in 0..slots {
-        words.push(entry_in(slot).pack())?;
-    }
-    Ok(())
+    words.push(Entry::Taken { tag: 0, taker: 0 }.pack())?;
+    words.push(Entry::Local { tag: 0, block: 0 }.pack())?;
+    push_zeros(words, slots - 2)
 }

@@ -1,11 +1,11 @@
 //! Where a run begins: the places, and the root's frame in the pool of one of them.
-ghost use Rattle.std.specs.Prelude.{◌≡◌, ◌+◌, ◌++◌, ◌<◌, ◌≤◌, OnOk};
-ghost use Rattle.ppm_cells.specs.Cells.{arrays_at};
-ghost use Rattle.ppm_layout.specs.Opening.{first_restart, first_block, first_room};
+ghost use Rattle.std.specs.Prelude.{◌≡◌, ◌++◌, ◌<◌, ◌≤◌, OnOk, length};
+ghost use Rattle.ppm_cells.specs.Cells.{pool_at};
+ghost use Rattle.ppm_layout.specs.Opening.{first_restart, first_room};
 ghost use Rattle.ppm_layout.specs.Sequence.{place_head, block_words, place_words, places};
 
 use crate::root::Root;
-use crate::sequence::push_entries;
+use crate::sequence::{push_entries, push_zeros};
 use ppm_cells::{Holder, Restart, RestartKind, Shape};
 use ppm_words::NoMemory;
 
@@ -18,6 +18,7 @@ pub struct Start {
     pub root: Root,
     pub ghost keeper_below: { keeper < shape.processors },
     pub ghost root_fits: { root.size ≤ 31 },
+    pub ghost frame_fits: { length root.frame.items ≤ 31 },
 }
 
 impl Start {
@@ -48,19 +49,6 @@ impl Start {
         }
     }
 
-    /// The word at an address of the pools.
-    fn block_word(&self, at: u32) -> u64
-        ensures { result ≡ first_block self.now.shape self.now.keeper self.now.root.frame.items at }
-    {
-        let frame = self.shape.pool_at(self.keeper);
-        if frame <= at {
-            let offset = (at - frame) as usize;
-            self.root.frame.get(offset).copied().unwrap_or(0)
-        } else {
-            0
-        }
-    }
-
     /// Appends the five words with which a place begins: restart, message, holder, top and room
     /// counter.
     fn push_head(&self, words: &mut Vec<u64>, place: u32) -> Result<(), NoMemory>
@@ -80,16 +68,28 @@ impl Start {
         Ok(())
     }
 
-    /// Appends so many words of the pools, from an address on.
-    fn push_blocks(&self, words: &mut Vec<u64>, at: u32, count: u32) -> Result<(), NoMemory>
-        requires { at + count ≤ arrays_at self.now.shape }
+    /// Appends the pool of a place: the root's frame at the keeper's, and else zeros.
+    fn push_pool(&self, words: &mut Vec<u64>, place: u32) -> Result<(), NoMemory>
+        requires { place < self.now.shape.processors }
         ensures { OnOk result (words.new.items ≡ words.old.items
-            ++ block_words self.now.shape self.now.keeper self.now.root.frame.items at count) }
+            ++ block_words self.now.shape self.now.keeper self.now.root.frame.items
+            (pool_at self.now.shape place) self.now.shape.room) }
     {
-        for done in 0..count {
-            words.push(self.block_word(at + done))?;
+        if place == self.keeper {
+            self.push_keepers_pool(words)
+        } else {
+            push_zeros(words, self.shape.room)
         }
-        Ok(())
+    }
+
+    /// Appends the pool of the keeper's place.
+    fn push_keepers_pool(&self, words: &mut Vec<u64>) -> Result<(), NoMemory>
+        ensures { OnOk result (words.new.items ≡ words.old.items
+            ++ block_words self.now.shape self.now.keeper self.now.root.frame.items
+            (pool_at self.now.shape self.now.keeper) self.now.shape.room) }
+    {
+        words.extend_from_slice(self.root.frame.as_slice())?;
+        push_zeros(words, self.shape.room - self.root.frame.len() as u32)
     }
 
     /// Appends a place: its five words, its entries and its pool.
@@ -100,7 +100,7 @@ impl Start {
     {
         self.push_head(words, place)?;
         push_entries(words, self.shape.slots)?;
-        self.push_blocks(words, self.shape.pool_at(place), self.shape.room)?;
+        self.push_pool(words, place)?;
         Ok(())
     }
 

@@ -12,6 +12,7 @@ use ppm_kept::{
     take_rows_keep, turns_bear, turns_keep, turns_keep_left, turns_show, unruns_stay,
     untaken_stays, unwind_row_keeps,
 };
+use ppm_paces::{capsules_are_short, looks_are_free, rows_are_paid, rows_keep_pace};
 use ppm_runs::{
     births_follow, room_is_spent, runs_come_back, runs_come_to, runs_end, runs_open, runs_stay,
     stops_stay, takers_have, turns_are_orderly, turns_go_on,
@@ -87,6 +88,14 @@ fn the_laws_of_rows_are_called() {
     turns_keep_left();
     ends_as_meant();
     room_is_bounded();
+}
+
+#[test]
+fn the_laws_of_paces_are_called() {
+    rows_are_paid();
+    capsules_are_short();
+    looks_are_free();
+    rows_keep_pace();
 }
 
 #[test]

@@ -39,10 +39,6 @@ and_both : (a b c : Bool) → ((a && b) && c) ≡ (a && (b && c))
 and_both true b c = refl
 and_both false b c = refl
 
-both_true : (a b : Bool) → true ≡ (a && b) → (a ≡ true) × (b ≡ true)
-both_true true b e = (refl, sym e)
-both_true false b e = absurd (let f : true ≡ false = e in cc)
-
 module _ {W : Type 0} (told : W → Option (List Event)) (plan : Planned) (limits : Limits) (s : Shared) where
   abbrev k : Opening
   k = opening_of s
@@ -140,10 +136,6 @@ module _ {W : Type 0} (told : W → Option (List Event)) (plan : Planned) (limit
         subst (λ (l : List Deed). HasQuit plan limits k c (told w) (told v) [] l) (deeds_are false h)
         (subst (λ (l : List Deed). HasQuit plan limits k c (told w) (told v) (told_of_deeds plan limits k c l) (deeds_of_processor q)) n
         (subst (λ (m : ℕ). HasQuit plan limits k m (told w) (told v) (told_of_deeds plan limits k m (deeds_of_processor p)) (deeds_of_processor q)) i (h.quits refl)))
-
-    one_fares : (x : Bool) → Ends told plan limits s x p w q v → Told turns c (told w) (told v) ⊎ Quit turns c (told w) (told v)
-    one_fares true h = inl (told_one h)
-    one_fares false h = inr (quit_one h)
 
   abbrev Fares : (turns : List Turn) (x : Bool) → ℕ → Option (List Event) → Option (List Event) → Type 0
   Fares turns x c before now = (x ≡ true → Told turns c before now) × (Told turns c before now ⊎ Quit turns c before now)

@@ -1,8 +1,8 @@
 //! The threads.
-ghost use Rattle.std.specs.Prelude.{◌≡◌, ◌<◌, ◌≤◌, ◌⊎◌, ◌&&◌, ◌++◌, IfErr, IfOk, vec_len, length};
+ghost use Rattle.std.specs.Prelude.{◌≡◌, ◌<◌, ◌≤◌, ◌⊎◌, ◌&&◌, ◌∷◌, [], IfErr, IfOk, vec_len, length};
 ghost use Rattle.std.specs.Thread.{IsSync, IsSend};
 ghost use Rattle.ppm_table.specs.Shown.{AreNewOf, opening_of};
-ghost use Rattle.ppm_threads.specs.Driven.{Begins, AllBegin, Ends, AllEnd, AllKeep, OthersStay, Driven, WasRefused, HasFinished};
+ghost use Rattle.ppm_threads.specs.Driven.{Begins, AllBegin, AllEnd, AllKeep, OthersStay, Driven, WasRefused, HasFinished};
 
 use crate::crew::Crew;
 use crate::going::run;
@@ -26,7 +26,7 @@ fn run_one<W: Watch, R: Wait>(
 ) -> bool
     requires begins { Begins crew.now.shared processor.old }
     requires plan { crew.now.plan.now.processors ≡ crew.now.shared.shape.processors }
-    ensures { Ends W.told crew.now.plan.now crew.now.limits crew.now.shared result processor.old watch.old processor.new watch.new }
+    ensures { AllEnd W.told crew.now.plan.now crew.now.limits crew.now.shared result (processor.old ∷ []) (watch.old ∷ []) (processor.new ∷ []) (watch.new ∷ []) }
 {
     run(rt, crew, parker, processor, watch)
 }
@@ -69,10 +69,11 @@ fn run_all<W: Watch, R: Threads + Wait + Sync>(
     let (a, b) = processors.split_at_mut(half);
     let (p, q) = parkers.split_at_mut(half);
     let (u, v) = watch.split_at_mut(half);
-    both_halves(rt, crew, a, p, u, b, q, v)
+    let (x, y) = both_halves(rt, crew, a, p, u, b, q, v);
+    both(x, y)
 }
 
-/// The same of two parts, side by side. Where the system makes no thread, the keeper's part runs
+/// The same of two parts, side by side, each for itself. Where the system makes no thread, the keeper's part runs
 /// before the other one: it alone ends the run.
 #[cycle(halves)]
 fn both_halves<W: Watch, R: Threads + Wait + Sync>(
@@ -84,13 +85,14 @@ fn both_halves<W: Watch, R: Threads + Wait + Sync>(
     b: &mut [Processor],
     q: &mut [IdleParker],
     v: &mut [W],
-) -> bool
+) -> (bool, bool)
     requires front { AllBegin crew.now.shared a.old × (length a.old ≡ length u.old) × (length a.old ≡ length p.old)
         × (0 < length a.old) }
     requires back { AllBegin crew.now.shared b.old × (length b.old ≡ length v.old) × (length b.old ≡ length q.old)
         × (0 < length b.old) }
     requires plan { crew.now.plan.now.processors ≡ crew.now.shared.shape.processors }
-    ensures { AllEnd W.told crew.now.plan.now crew.now.limits crew.now.shared result (a.old ++ b.old) (u.old ++ v.old) (a.new ++ b.new) (u.new ++ v.new) }
+    ensures front { AllEnd W.told crew.now.plan.now crew.now.limits crew.now.shared result.0 a.old u.old a.new u.new }
+    ensures back { AllEnd W.told crew.now.plan.now crew.now.limits crew.now.shared result.1 b.old v.old b.new v.new }
 {
     let keeper_is_in_front = crew.plan.keeper() < b[0].local.own;
     let mut front = || -> bool
@@ -108,10 +110,9 @@ fn both_halves<W: Watch, R: Threads + Wait + Sync>(
     // The second of them begins at once, on this thread.
     if keeper_is_in_front {
         let (y, x) = join_mut(rt, &mut back, &mut front);
-        return both(x, y);
+        return (x, y);
     }
-    let (x, y) = join_mut(rt, &mut front, &mut back);
-    both(x, y)
+    join_mut(rt, &mut front, &mut back)
 }
 
 /// The same over vectors, of which that of the watchers may be longer.
