@@ -8,8 +8,8 @@ use Rattle.ppm_stretch.proofs.SteadyLemmas.{moves_then, moves_same, refuses_then
 use Rattle.ppm_stretch.proofs.RoundLemmas.{begun_then, circled_along}
 use Rattle.ppm_stretch.proofs.entering.round.Goals as goal
 
-pub returns-after-in-Stops-clause-circled : goal.returns-after-in-Stops-clause-circled
-returns-after-in-Stops-clause-circled g c =
+pub returns-clause-circled : goal.returns-clause-circled
+returns-clause-circled g c =
     let k = c.args.words.now.shared.key in
     let stretch = c.in-Some.stretch in
     let along = c.in-Some.ensures.along in
@@ -19,8 +19,8 @@ returns-after-in-Stops-clause-circled g c =
     c.args.mine.now.me c.begin.new.mine.me c.capsule_along.new.mine.me c.args.watch.now c.begin.new.watch c.capsule_along.new.watch
     (c.args.most - 2) c.args.most stretch.made stretch.way along.1 (omega (arith, c.requires.most)) c.in-Entered.ensures.begun.0 along.2)
 
-pub returns-after-in-Stops-clause-on : goal.returns-after-in-Stops-clause-on
-returns-after-in-Stops-clause-on g c = (omega arith, λ round. omega arith)
+pub returns-clause-on : goal.returns-clause-on
+returns-clause-on g c = (omega arith, λ round. omega arith)
 
 pub returns-in-Over-clause-circled : goal.returns-in-Over-clause-circled
 returns-in-Over-clause-circled g c = (omega arith, c.in-Over.ensures.begun.0, c.in-Over.ensures.begun.1)

@@ -1,5 +1,4 @@
 use Rattle.std.proofs.Common.{◌∙◌, sym}
-use Rattle.ppm_stretch.proofs.SteadyLemmas.{moves_none}
 use Rattle.ppm_stretch.proofs.EndingLemmas.{under_way_of, end_of, stands_at_end}
 use Rattle.ppm_stretch.proofs.rows.frame_steps.Goals as goal
 
@@ -27,7 +26,3 @@ pub ends-requires-clause-stands : goal.ends-requires-clause-stands
 ends-requires-clause-stands g c κs within =
     sym c.requires.stands
     ∙ stands_at_end c.args.shape.now c.args.code.now c.args.local.now c.in-Runs.under_way c.in-Ending.end c.in-Ending.n c.in-Runs.is c.in-Ending.is c.requires.local
-
-pub returns-clause-makes : goal.returns-clause-makes
-returns-clause-makes g c = λ fine.
-    moves_none g.W.Watch.told c.args.words.now.shared.key c.args.local.now.own c.args.mine.now.me c.args.watch.now c.requires.sits
