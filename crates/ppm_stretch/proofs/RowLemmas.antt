@@ -1,6 +1,6 @@
 -- One step for which nothing is to be chosen.
 use Rattle.std.proofs.Common.{◌≡◌, ◌≢◌, ◌≤◌, ◌∙◌, Bool, true, false, if◌then◌else◌, sym, ap, subst, arith}
-use Rattle.ppm_step.specs.Standings.{Standing, IsDone}
+use Rattle.ppm_step.specs.Standings.{Standing}
 use Rattle.ppm_step.specs.State.{next_of, seeks_holder}
 use Rattle.ppm_step.specs.declared.turn.Next.{Next}
 use Rattle.ppm_step.specs.declared.turn.Next.TheVariants.{Seek, Done}

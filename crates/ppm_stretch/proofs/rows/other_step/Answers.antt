@@ -1,4 +1,4 @@
-use Rattle.std.proofs.Common.{◌≡◌, ◌∙◌, if◌then◌else◌, not, refl, sym, ap, arith}
+use Rattle.std.proofs.Common.{◌≡◌, if◌then◌else◌, not, refl, sym, ap, arith}
 use Rattle.ppm_step.specs.Locals.{standing_of}
 use Rattle.ppm_step.specs.State.{is_done_at}
 use Rattle.ppm_stretch.specs.declared.way.Steps.{Steps}

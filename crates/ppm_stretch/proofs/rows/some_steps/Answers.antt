@@ -1,4 +1,4 @@
-use Rattle.std.proofs.Common.{ℕ, ◌≤◌, ◌<◌, refl, sym, subst, arith}
+use Rattle.std.proofs.Common.{ℕ, refl, subst, arith}
 use Rattle.ppm_stretch.specs.Rows.{GivesUp}
 use Rattle.ppm_stretch.specs.Steady.{Moves}
 use Rattle.ppm_stretch.proofs.SteadyLemmas.{moves_behind, gives_up_behind}

@@ -1,5 +1,4 @@
 use Rattle.std.proofs.Common.{◌∙◌, sym, subst}
-use Rattle.ppm_step.specs.Standings.{Standing}
 use Rattle.ppm_stretch.specs.declared.way.Halt.{Halt}
 use Rattle.ppm_stretch.specs.Entering.{HaltsAt}
 use Rattle.ppm_stretch.proofs.waiting.wait_halted.Goals as goal
