@@ -175,6 +175,7 @@ module _ (i : Image) (root : Tree (Frame FrameWord Point) Result) (input : Words
           (unpushed_less q (s.kind q) c u n (let e = hand.others q a b in omega (arith, e)) hand.swap.order (λ r. hand.untaken q r) (subst (λ (w : Skeleton). Unpushed q w (s.kind q)) hand.is (law.untaken q))));
       aims = aimed;
       paid = λ q. subst (λ (y : ℕ). y ≤ start i q + (frame_size i.code i.code.root + law.ahead.0.block_words)) (sym (roof q)) (law.paid q);
+      counted = law.counted;
     }
 
 -- where a place has no leaf nothing is handed over

@@ -22,3 +22,7 @@ pub mod WholeLemmas
 pub mod MomentLemmas
 pub mod SpentLemmas
 pub mod BackLemmas
+pub mod SumLemmas
+pub mod BegunLemmas
+pub mod WorkLemmas
+pub mod BoundLemmas
