@@ -1,5 +1,5 @@
 -- Capsules are counted: whatever count is asked for, a turn keeps it, since it keeps all whatever the count is.
-use Rattle.std.proofs.Common.{◌≡◌, ◌≤◌, ◌<◌, ℕ, zero, suc, ◌+◌, Bool, true, false, List, inl, inr, refl, sym, ap, ◌∙◌, subst, subst₂, arith, Option, Some, None}
+use Rattle.std.proofs.Common.{◌≡◌, ◌≤◌, ◌<◌, ℕ, zero, suc, ◌+◌, List, inl, inr, refl, sym, ap, subst, subst₂, arith, Option, Some, None}
 use Rattle.ppm_strands.specs.Tree.{Words, Tree}
 use Rattle.ppm_cells.specs.declared.cell.Cell.{Cell}
 use Rattle.ppm_cells.specs.declared.cell.Cell.TheVariants.{BlockWord}
@@ -8,12 +8,11 @@ use Rattle.ppm_cells.specs.declared.link.LinkKind.TheVariants.{Root, Call as Cal
 use Rattle.ppm_cells.specs.declared.restart.Restart.{Restart}
 use Rattle.ppm_cells.specs.declared.restart.RestartKind.{RestartKind}
 use Rattle.ppm_cells.specs.declared.restart.RestartKind.TheVariants.{Run, Bump, Push1, Push2, Unwind, Arrive, Join, Pop1, Pop2, Seek, Steal, Check, Take, Take2}
-use Rattle.ppm_cells.specs.declared.shape.Shape.{Shape}
 use Rattle.ppm_cells.specs.declared.shape.Takeover.TheVariants.{ByPlaces}
 use Rattle.ppm_capsules.specs.Strand.{Frame}
 use Rattle.ppm_code.specs.Strands.{Point, Result}
 use Rattle.ppm_code.specs.declared.location.FrameWord.{FrameWord}
-use Rattle.ppm_step.specs.Frames.{Rest, Loads, Stores, Full, Installs, Breaks}
+use Rattle.ppm_step.specs.Frames.{Loads, Stores, Full, Installs, Breaks}
 use Rattle.ppm_step.specs.Standings.{Standing, IsLost, IsPlaced, IsAt, IsWithin, IsRunning, IsBroken, IsDone}
 use Rattle.ppm_step.specs.State.{State as Machine, stand_of, happens}
 use Rattle.ppm_step.specs.declared.row.Point.TheVariants.{Offset}
@@ -27,12 +26,12 @@ use Rattle.ppm_step.specs.declared.turn.Turn.{Turn}
 use Rattle.ppm_frames.specs.Views.{view}
 use Rattle.ppm_frames.specs.Skeletons.{Stand, Skeleton, grow}
 use Rattle.ppm_frames.specs.Good.{link_at}
-use Rattle.ppm_kept.specs.Running.{IsFair, HasCome}
+use Rattle.ppm_kept.specs.Running.{IsFair}
 use Rattle.ppm_kept.specs.Branches.{HasCopy}
 use Rattle.ppm_kept.specs.Kept.{Image, start, end_of, Doing, Resting, InRow, InRest, State, ceiling, Free, Reach, Under, Does, Head, Ordered, IsKept}
-use Rattle.ppm_kept.specs.Moves.{doing_of, installs, opened, by_install}
-use Rattle.ppm_kept.specs.Places.{places_of, acted, Holds}
-use Rattle.ppm_kept.specs.Steps.{tree_by, by_act, TakesSo, InRowSo, InRestSo, IsKindIf, StandsSo, LeavesSo, ActsSo}
+use Rattle.ppm_kept.specs.Moves.{installs, opened, by_install}
+use Rattle.ppm_kept.specs.Places.{places_of}
+use Rattle.ppm_kept.specs.Steps.{tree_by, by_act, TakesSo, InRestSo, IsKindIf, StandsSo, ActsSo}
 use Rattle.ppm_kept.specs.Credit.{ended_by, by_step, CapsulesAreCounted}
 use Rattle.ppm_kept.proofs.OtherLemmas.{others_keep}
 use Rattle.ppm_kept.proofs.RunRow.{rest_counts}
@@ -138,24 +137,27 @@ module _ (i : Image) (n : ℕ) where
   -- what is kept with one count is kept with any that it reaches
   pub recount : (root : Tree (Frame FrameWord Point) Result) (input : Words) (s : State) (t : Skeleton) → (law : IsKept i root input s t) → n ≤ law.ahead.0.capsules
       → (kept : IsKept j root input s t) × (kept.ahead.0.capsules ≡ law.ahead.0.capsules)
-  recount root input s t law le = (record {
-    ahead = law.ahead;
-    good = law.good;
-    apart = law.apart;
-    below = λ x ne. let b = law.below x ne in (b.0, subst (λ (z : ℕ). x < z) (sym (roof s.words _ (s.kind _))) b.1);
-    there = law.there;
-    places = law.places;
-    rooms = λ p. subst (λ (z : ℕ). (start i p ≤ z) × (z ≤ end_of i p)) (sym (roof s.words p (s.kind p))) (law.rooms p);
-    free = λ p. frees s.words p (s.kind p) (law.free p);
-    does = λ p. does s.words p (s.kind p) (s.doing p) (law.does p);
-    orders = λ p. ordered s t s.words (s.kind p) (law.orders p);
-    finished = law.finished;
-    copies = law.copies;
-    untaken = law.untaken;
-    aims = law.aims;
-    paid = λ p. let e = roof s.words p (s.kind p) in let a = law.paid p in omega (arith, e, a);
-    counted = le;
-  }, refl)
+  recount root input s t law le = (
+    record {
+      ahead = law.ahead;
+      good = law.good;
+      apart = law.apart;
+      below = λ x ne. let b = law.below x ne in (b.0, subst (λ (z : ℕ). x < z) (sym (roof s.words _ (s.kind _))) b.1);
+      there = law.there;
+      places = law.places;
+      rooms = λ p. subst (λ (z : ℕ). (start i p ≤ z) × (z ≤ end_of i p)) (sym (roof s.words p (s.kind p))) (law.rooms p);
+      free = λ p. frees s.words p (s.kind p) (law.free p);
+      does = λ p. does s.words p (s.kind p) (s.doing p) (law.does p);
+      orders = λ p. ordered s t s.words (s.kind p) (law.orders p);
+      finished = law.finished;
+      copies = law.copies;
+      untaken = law.untaken;
+      aims = law.aims;
+      paid = λ p. let e = roof s.words p (s.kind p) in let a = law.paid p in omega (arith, e, a);
+      counted = le;
+    },
+    refl,
+  )
 
   -- the tree after a turn is the same
   opens_same : (m : Cell → ℕ) (p r : ℕ) (k : LinkKind) → opened j m p r k ≡ opened i m p r k
@@ -269,7 +271,7 @@ module _ (i : Image) (fair : IsFair i.code) (plain : i.shape.takeover ≡ ByPlac
       let after = turns_keep_on (counting k i) fair plain root input state t with_count turn (acts_more i k state t turn.processor turn.act (stand_of state turn.processor) so) in
       let n = after.counted in
       let back = recount (counting k i) i.counted root input (places_of i.shape (happens i.shape i.code state turn)) (by_act (counting k i) state.words turn.act (stand_of state turn.processor) t) after
-          (let a = law.counted in omega (arith, a, n)) in
+      (let a = law.counted in omega (arith, a, n)) in
       let same = back.1 in
       subst (λ (u : Skeleton). Counts i root input (places_of i.shape (happens i.shape i.code state turn)) u (k + 0)) (tree_same i k state.words turn.act (stand_of state turn.processor) t)
       (back.0, omega (arith, n, same))

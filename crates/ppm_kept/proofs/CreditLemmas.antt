@@ -1,11 +1,11 @@
 -- What trees owe, and what each change of a skeleton makes of it.
-use Rattle.std.proofs.Common.{◌≡◌, ◌⊎◌, ◌≤◌, ℕ, zero, suc, ◌+◌, ◌==◌, Bool, true, false, cond, inl, inr, refl, sym, ap, ap₂, ◌∙◌, subst, arith}
+use Rattle.std.proofs.Common.{◌≡◌, ◌⊎◌, ◌≤◌, ℕ, ◌+◌, ◌==◌, Bool, true, false, cond, inl, inr, refl, sym, ap, ◌∙◌, arith}
 use Rattle.std.proofs.lemmas.Bool.{cases_Bool, cond-true, cond-false}
 use Rattle.ppm_cells.specs.declared.link.LinkKind.{LinkKind}
 use Rattle.ppm_cells.specs.declared.link.LinkKind.TheVariants.{Call as Called, Branch}
 use Rattle.ppm_cells.specs.declared.side.Side.{Side}
 use Rattle.ppm_cells.specs.declared.side.Side.TheVariants.{Left, Right}
-use Rattle.ppm_frames.specs.Skeletons.{Stand, Begins, Over, Arrives, Who, InPlace, Fresh, Waiting, Held, Came, Inlined, Skeleton, Leaf, Calling, Forking, holds, grow_leaf, grow, back, joined, over_left, readied, pushed, passed, roused, inlined, awake, take_in, Around, Top, AtCall, AtLeft, AtRight, plug, hook_at}
+use Rattle.ppm_frames.specs.Skeletons.{Stand, Begins, Over, Who, InPlace, Fresh, Waiting, Held, Came, Inlined, Skeleton, Leaf, Calling, Forking, holds, grow_leaf, grow, back, joined, over_left, readied, pushed, passed, roused, inlined, awake, take_in, Around, Top, AtCall, AtLeft, AtRight, plug, hook_at}
 use Rattle.ppm_frames.proofs.SkeletonLemmas.{fork_with}
 use Rattle.ppm_kept.specs.Credit.{branch_due, stand_due, owed}
 

@@ -1,6 +1,6 @@
 -- Each turn pays what it takes off.
-use Rattle.std.proofs.Common.{◌≡◌, ◌⊎◌, ◌≤◌, ℕ, zero, suc, ◌+◌, ◌*◌, ◌==◌, nat_lt, if◌then◌else◌, Bool, true, false, cond, List, inl, inr, refl, sym, ap, ◌∙◌, subst, subst₂, arith, Option, Some, None}
-use Rattle.std.proofs.lemmas.Bool.{cases_Bool, cond-true, cond-false, eq-eqb}
+use Rattle.std.proofs.Common.{◌≡◌, ◌≤◌, ℕ, zero, suc, ◌+◌, ◌*◌, ◌==◌, nat_lt, if◌then◌else◌, Bool, true, false, cond, inl, inr, refl, sym, ap, ◌∙◌, subst, subst₂, arith, Option, Some, None}
+use Rattle.std.proofs.lemmas.Bool.{cases_Bool, cond-false, eq-eqb}
 use Rattle.ppm_strands.specs.Tree.{Words, Tree}
 use Rattle.ppm_cells.specs.Cells.{word_count}
 use Rattle.ppm_cells.specs.Link.{link_of}
@@ -24,15 +24,14 @@ use Rattle.ppm_code.specs.Sizes.{slots_at}
 use Rattle.ppm_code.specs.declared.location.FrameWord.{FrameWord}
 use Rattle.ppm_join.specs.Order.{first}
 use Rattle.ppm_step.specs.Contents.{read_so, content_of, word_of}
-use Rattle.ppm_step.specs.Frames.{Rest, Loads, Stores, Full, Installs, Breaks, installed}
+use Rattle.ppm_step.specs.Frames.{Loads, Stores, Full, Installs, Breaks}
 use Rattle.ppm_step.specs.Points.{cell_at, reading_at}
-use Rattle.ppm_step.specs.Rows.{on_number, on_link, on_outcome, on_finish, if_there, unwind_by, unwound, back_to, target_found, value_found, joins, is_inline, is_last, found_at, row_of}
+use Rattle.ppm_step.specs.Rows.{on_number, on_link, on_outcome, on_finish, unwind_by, unwound, back_to, target_found, value_found, joins, found_at, row_of}
 use Rattle.ppm_step.specs.Standings.{Standing, IsLost, IsPlaced, IsAt, IsWithin, IsRunning, IsBroken, IsDone}
 use Rattle.ppm_step.specs.State.{State as Machine, stand_of}
 use Rattle.ppm_step.specs.declared.content.Content.{Content}
 use Rattle.ppm_step.specs.declared.content.Content.TheVariants.{ANumber, ARestart, AnEntry, AHolder, ALink, AFinish, Unreadable}
-use Rattle.ppm_step.specs.declared.row.Point.{Point as RowPoint}
-use Rattle.ppm_step.specs.declared.row.Point.TheVariants.{UnwindOutcome, Target, GivenValue}
+use Rattle.ppm_step.specs.declared.row.Point.TheVariants.{Target, GivenValue}
 use Rattle.ppm_step.specs.declared.row.Row.{Row}
 use Rattle.ppm_step.specs.declared.row.Row.TheVariants.{Now, Store, Exchange}
 use Rattle.ppm_step.specs.declared.row.Seat.{Seat}
@@ -42,23 +41,20 @@ use Rattle.ppm_step.specs.declared.turn.Act.{Act}
 use Rattle.ppm_step.specs.declared.turn.Act.TheVariants.{Step, Soft, Hard, Quit}
 use Rattle.ppm_paces.specs.Costs.{weight, behind_unwind, behind_join}
 use Rattle.ppm_frames.specs.Views.{view}
-use Rattle.ppm_frames.specs.Skeletons.{Stand, Begins, Over, Arrives, InPlace, Fresh, Waiting, Held, Came, Skeleton, Leaf, Calling, Forking, header, holds, grow, back, joined, over_left, pushed, inlined, take_in, Around, plug, hook_at}
+use Rattle.ppm_frames.specs.Skeletons.{Stand, Begins, Over, Arrives, InPlace, Waiting, Held, Came, Skeleton, Leaf, Calling, header, holds, grow, pushed, inlined, take_in, hook_at}
 use Rattle.ppm_frames.specs.Good.{link_or, link_at, Match}
-use Rattle.ppm_frames.proofs.SkeletonLemmas.{grow_plug, CalledFrom, called_from, fork_with, BranchOf, branch_from}
-use Rattle.ppm_kept.specs.Running.{IsFair, HasCome, home_at}
-use Rattle.ppm_kept.specs.Branches.{HasCopy}
-use Rattle.ppm_kept.specs.Kept.{Image, Doing, InRow, InRest, State, side_code, carried, seat_at, Collected, Reach, Under, Does, IsKept}
+use Rattle.ppm_frames.proofs.SkeletonLemmas.{grow_plug, called_from, fork_with, branch_from}
+use Rattle.ppm_kept.specs.Running.{IsFair}
+use Rattle.ppm_kept.specs.Kept.{Image, Doing, InRow, State, side_code, carried, seat_at, Reach, Under, Does, IsKept}
 use Rattle.ppm_kept.specs.Moves.{doing_of, opened, by_install}
 use Rattle.ppm_kept.specs.Laws.{kind_then}
 use Rattle.ppm_kept.specs.Returns.{by_unwind}
-use Rattle.ppm_kept.specs.Arriving.{by_arrive}
 use Rattle.ppm_kept.specs.Joins.{joined_by, by_join}
 use Rattle.ppm_kept.specs.Places.{places_of, Holds, IsOf}
-use Rattle.ppm_kept.specs.Steps.{by_end, by_store, by_exchange, tree_by, by_act, InRowSo, InRestSo, StandsSo, ActsSo}
-use Rattle.ppm_kept.specs.Credit.{branch_due, stand_due, owed, paid_by, ended_by, by_step, CreditStays}
+use Rattle.ppm_kept.specs.Steps.{by_end, by_store, by_exchange, tree_by, by_act, StandsSo, ActsSo}
+use Rattle.ppm_kept.specs.Credit.{branch_due, owed, paid_by, ended_by, by_step, CreditStays}
 use Rattle.ppm_kept.proofs.StateLemmas.{doing_here}
-use Rattle.ppm_kept.proofs.RunLemmas.{by_installs}
-use Rattle.ppm_kept.proofs.PlaceLemmas.{Leafed, leaf, Runs, run_leaf}
+use Rattle.ppm_kept.proofs.PlaceLemmas.{leaf, Runs, run_leaf}
 use Rattle.ppm_kept.proofs.UnwindRow.{Overs, over_at}
 use Rattle.ppm_kept.proofs.CreditLemmas.{owed_plug, came_same, over_same, pushed_same, inlined_same, taken_same, back_less, joined_less, goes_on, WaitsFor, JoinsAt, back_pays, joined_pays, waits_plug, joins_plug, joins_here}
 

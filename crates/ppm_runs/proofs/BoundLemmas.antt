@@ -1,5 +1,5 @@
 -- The work of whole runs is bounded, turn by turn.
-use Rattle.std.proofs.Common.{◌≡◌, ◌≢◌, ◌⊎◌, ◌≤◌, ◌<◌, ℕ, zero, suc, ◌+◌, ◌*◌, ◌==◌, Bool, true, false, if◌then◌else◌, cond, List, [], ◌∷◌, ◌++◌, length, replicate, Option, Some, None, inl, inr, refl, sym, ap, ◌∙◌, subst, arith}
+use Rattle.std.proofs.Common.{◌≡◌, ◌≢◌, ◌⊎◌, ◌≤◌, ◌<◌, ℕ, zero, suc, ◌+◌, ◌*◌, Bool, true, false, if◌then◌else◌, List, [], ◌∷◌, ◌++◌, length, replicate, inl, inr, refl, sym, ap, ◌∙◌, subst, arith}
 use Rattle.std.specs.Prelude.{slice_get, slice_index, nat_lt}
 use Rattle.std.specs.List.{AllByRecursion}
 use Rattle.std.proofs.lemmas.Bool.{cases_eq, eq-eqb, ne_eqb}
@@ -7,10 +7,9 @@ use Rattle.ppm_strands.specs.Tree.{Words, Tree}
 use Rattle.ppm_strands.specs.Run.{End, Ends as EndsSo}
 use Rattle.ppm_strands.proofs.ToComeLemmas.{strands_are_counted}
 use Rattle.ppm_cells.specs.Cells.{address, place_size, pool_at}
-use Rattle.ppm_cells.specs.Memory.{read, AreWordsOf}
+use Rattle.ppm_cells.specs.Memory.{AreWordsOf}
 use Rattle.ppm_cells.specs.declared.cell.Cell.TheVariants.{FinishWord, CarryWord}
 use Rattle.ppm_cells.specs.declared.link.LinkKind.TheVariants.{Root}
-use Rattle.ppm_cells.specs.declared.restart.Restart.{Restart}
 use Rattle.ppm_cells.specs.declared.restart.RestartKind.{RestartKind}
 use Rattle.ppm_cells.specs.declared.restart.RestartKind.TheVariants.{Run, Seek}
 use Rattle.ppm_cells.specs.declared.shape.Shape.{Shape}
@@ -24,14 +23,13 @@ use Rattle.ppm_layout.specs.Root.{root_strand}
 use Rattle.ppm_step.specs.Among.{IsTurnAmong}
 use Rattle.ppm_step.specs.Laws.{finish_at, reached}
 use Rattle.ppm_step.specs.Frames.{Installs}
-use Rattle.ppm_step.specs.Standings.{Standing, IsLost, IsPlaced, IsAt, IsWithin, IsRunning, IsBroken, IsDone, unknown_place, placed, at_finish, went}
+use Rattle.ppm_step.specs.Standings.{Standing, IsLost, IsPlaced, IsAt, IsWithin, IsRunning, IsBroken, IsDone, unknown_place, at_finish, went}
 use Rattle.ppm_step.specs.declared.row.Row.TheVariants.{Now}
 use Rattle.ppm_step.specs.declared.row.Seat.{Seat}
 use Rattle.ppm_step.specs.declared.row.Then.TheVariants.{Install, Fork, Begin, Move}
-use Rattle.ppm_step.specs.State.{State as RunState, stand_in, stand_of, found_in, words_after, want_of, stand_after, acts, happens, after, along, opening, is_done_at, is_step, is_work_turn, forks_of, takes_of, work_of}
+use Rattle.ppm_step.specs.State.{State as RunState, stand_in, stand_of, found_in, words_after, want_of, stand_after, acts, happens, along, opening, is_done_at, is_step, is_work_turn, forks_of, takes_of, work_of}
 use Rattle.ppm_step.proofs.FinishLemmas.{finish_stays}
 use Rattle.ppm_step.proofs.WordLemmas.{exchanged_to}
-use Rattle.ppm_step.specs.declared.ask.Want.{Want}
 use Rattle.ppm_step.specs.declared.ask.Want.TheVariants.{Exchanges as WantsExchange}
 use Rattle.ppm_step.specs.declared.turn.Act.{Act}
 use Rattle.ppm_step.specs.declared.turn.Act.TheVariants.{Step, Soft, Hard, Quit}
@@ -62,7 +60,7 @@ use Rattle.ppm_kept.proofs.PutLemmas.{put_here as set_here, put_else as set_else
 use Rattle.ppm_runs.specs.Run.{image, IsRun}
 use Rattle.ppm_runs.specs.Work.{WorkIsBounded, WorkIsWithin256}
 use Rattle.ppm_runs.proofs.StandLemmas.{kinds_same}
-use Rattle.ppm_runs.proofs.SumLemmas.{sum, sum_same, sum_at, sum_le, sum_zero}
+use Rattle.ppm_runs.proofs.SumLemmas.{sum, sum_at, sum_le, sum_zero}
 use Rattle.ppm_runs.proofs.WorkLemmas.{Installed, step_kinds, act_kinds, Moves, act_carries, At, one_at, Claim, rows_within, few_capsules}
 use Rattle.ppm_runs.proofs.GoingLemmas.{turns_go_on, acts_so}
 use Rattle.ppm_runs.proofs.JoinLemmas.{joins_stay}
@@ -486,12 +484,12 @@ module _ (s : Shape) (code : CodeParts) (places : s.takeover ≡ ByPlaces) (fair
   all_bounded words first (turn ∷ more) state is h forked taken t work strikes made all stage =
       let next : happens s code state turn ≡ reached s code words (first ++ turn ∷ []) = ap (λ (z : RunState). happens s code z turn) is ∙ sym (in_two s code (opening words s.processors) first (turn ∷ [])) in
       let stays : finish_at s state ≢ 0 → finish_at s (happens s code state turn) ≢ 0 = λ some zero_.
-          (let was : finish_at s (reached s code words first) ≢ 0 = λ z. some (ap (finish_at s) is ∙ z) in
-          was (sym (finish_stays s code fair.code_is words first (turn ∷ []) was) ∙ sym (ap (finish_at s) next) ∙ zero_)) in
+      (let was : finish_at s (reached s code words first) ≢ 0 = λ z. some (ap (finish_at s) is ∙ z) in
+      was (sym (finish_stays s code fair.code_is words first (turn ∷ []) was) ∙ sym (ap (finish_at s) next) ∙ zero_)) in
       let rest = all_bounded words (first ++ turn ∷ []) more (happens s code state turn) next
-          (by_act s state.words turn.act (stand_of state turn.processor) h) (forks_of state turn ++ forked) (takes_of state turn ++ taken) (tree_after (image s code) state turn t)
-          (work + length (work_of state turn)) (strikes + length (strikes_of state turn)) (λ d. made_behind s code d (made d) state turn) all.1
-          (goes_on state h forked taken t work strikes made stage turn.processor turn.act all.0 stays) in
+      (by_act s state.words turn.act (stand_of state turn.processor) h) (forks_of state turn ++ forked) (takes_of state turn ++ taken) (tree_after (image s code) state turn t)
+      (work + length (work_of state turn)) (strikes + length (strikes_of state turn)) (λ d. made_behind s code d (made d) state turn) all.1
+      (goes_on state h forked taken t work strikes made stage turn.processor turn.act all.0 stays) in
       let a = length_both (work_of state turn) (along s code work_of (happens s code state turn) more) in
       let b = length_both (strikes_of state turn) (along s code strikes_of (happens s code state turn) more) in
       omega (arith, rest, a, b)
@@ -528,7 +526,7 @@ work_is_bounded code input s keeper im places fair opens calm turns all end ends
     let run = runs_open code input s keeper im opens calm in
     let opened = (machines_open code input s keeper im opens calm).0 in
     let free = sum_zero s.processors (λ p. due (spots.kinds s im.words p)) (λ p.
-        ap due (sym (kinds_same s im.words p) ∙ ap (λ (z : State). z.kind p) opened) ∙ opening_free keeper (pool_at s keeper) p) in
+    ap due (sym (kinds_same s im.words p) ∙ ap (λ (z : State). z.kind p) opened) ∙ opening_free keeper (pool_at s keeper) p) in
     let still = sum_zero s.processors (λ c. most 0 (stand_in (slice_get (replicate s.processors IsLost) c))) (lost_most s.processors) in
     let none = sum_zero s.processors (λ c. 0) (λ c. refl) in
     let le = all_bounded s code places fair root arrays end ends im.words [] turns (opening im.words s.processors) refl (λ r. Unborn) [] [] first 0 0 (λ c. 0) all (record {

@@ -1,5 +1,5 @@
 -- Sums over the first so many numbers.
-use Rattle.std.proofs.Common.{◌≡◌, ◌≢◌, ◌⊎◌, ◌≤◌, ◌<◌, ℕ, zero, suc, ◌+◌, ◌*◌, ◌==◌, Bool, true, false, if◌then◌else◌, inl, inr, refl, sym, ap, ap₂, subst, ◌∙◌, arith}
+use Rattle.std.proofs.Common.{◌≡◌, ◌≢◌, ◌⊎◌, ◌≤◌, ◌<◌, ℕ, zero, suc, ◌+◌, ◌*◌, ◌==◌, Bool, true, false, inl, inr, refl, sym, ap, subst, arith}
 use Rattle.std.proofs.lemmas.Bool.{cases_eq, eq-eqb, ne_eqb}
 
 abbrev pub sum : ℕ → (ℕ → ℕ) → ℕ
@@ -69,8 +69,13 @@ sum_there (suc n) m f g At each once = elim (each n (omega arith)) [
     taken go p lt here le =
         let rest = go (without p) (λ c less. elim (each c (omega (arith, less))) [
           | inl none ↦ inl none
-          | inr there ↦ inr (there.0, there.1, there.2, subst (λ (z : ℕ). f c ≤ z) (sym (at_others p there.0 (λ e.
-              let same = once p c n (subst (λ (q : ℕ). At q c) e there.2) here in omega (arith, same, less)))) there.3)
+          | inr there ↦ inr (
+            there.0,
+            there.1,
+            there.2,
+            subst (λ (z : ℕ). f c ≤ z) (sym (at_others p there.0 (λ e.
+                let same = once p c n (subst (λ (q : ℕ). At q c) e there.2) here in omega (arith, same, less)))) there.3,
+          )
         ]) in
         let one = sum_at m g (without p) p lt (at_others p) in
         let none = at_own p in

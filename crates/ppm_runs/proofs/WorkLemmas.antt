@@ -1,14 +1,12 @@
 -- The work of a run: what one turn makes of it, of what is set aside at places, of what the tree owes, and of what rows have made.
-use Rattle.std.proofs.Common.{◌≡◌, ◌≢◌, ◌⊎◌, ◌≤◌, ◌<◌, ℕ, zero, suc, ◌+◌, ◌*◌, ◌==◌, Bool, true, false, if◌then◌else◌, List, [], ◌∷◌, ◌++◌, length, Option, Some, None, inl, inr, refl, sym, ap, ◌∙◌, subst, subst₂, arith}
-use Rattle.std.specs.Prelude.{slice_index, nat_lt}
+use Rattle.std.proofs.Common.{◌≡◌, ◌≢◌, ◌⊎◌, ◌≤◌, ◌<◌, ℕ, zero, suc, ◌+◌, ◌*◌, ◌==◌, Bool, true, false, if◌then◌else◌, List, inl, inr, refl, sym, ap, ◌∙◌, subst, arith}
+use Rattle.std.specs.Prelude.{slice_index}
 use Rattle.std.proofs.Math.Path.{fun_ext}
-use Rattle.std.proofs.lemmas.Bool.{cases_eq, eqb-true, eq-eqb, ne_eqb}
 use Rattle.ppm_strands.specs.Tree.{Words, Tree}
 use Rattle.ppm_strands.specs.Run.{End, Ends as EndsSo}
 use Rattle.ppm_strands.proofs.ToComeLemmas.{strands_are_counted}
-use Rattle.ppm_cells.specs.Cells.{IsCell, address}
-use Rattle.ppm_cells.specs.Finish.{finish_word}
-use Rattle.ppm_cells.specs.Memory.{read, write as store, AreWordsOf}
+use Rattle.ppm_cells.specs.Cells.{IsCell}
+use Rattle.ppm_cells.specs.Memory.{read, write as store}
 use Rattle.ppm_cells.specs.Restart.{restart_word}
 use Rattle.ppm_cells.proofs.CellLemmas.{few_words}
 use Rattle.ppm_cells.specs.declared.cell.Cell.{Cell}
@@ -23,31 +21,24 @@ use Rattle.ppm_capsules.specs.Strand.{Frame}
 use Rattle.ppm_code.specs.Strands.{Point, Result}
 use Rattle.ppm_code.specs.declared.code.CodeParts.{CodeParts}
 use Rattle.ppm_code.specs.declared.location.FrameWord.{FrameWord}
-use Rattle.ppm_step.specs.Among.{IsTurnAmong}
 use Rattle.ppm_step.specs.Contents.{word_of}
 use Rattle.ppm_step.specs.Frames.{Rest, Loads, Stores, Full, Installs, Breaks}
-use Rattle.ppm_step.specs.Laws.{finish_at}
 use Rattle.ppm_step.specs.Rows.{row_of}
-use Rattle.ppm_step.specs.Standings.{Standing, IsLost, IsPlaced, IsAt, IsWithin, IsRunning, IsBroken, IsDone, wanted_row, wanted_rest, forked as forked_restart, begun, placed, at_finish}
-use Rattle.ppm_step.specs.State.{State as RunState, stand_of, stand_in, happens, acts, want_of, words_after, is_step, is_work, is_work_next, is_work_turn, next_of, step_of}
+use Rattle.ppm_step.specs.Standings.{Standing, IsLost, IsPlaced, IsAt, IsWithin, IsRunning, IsBroken, IsDone, wanted_row, wanted_rest, forked as forked_restart, begun}
+use Rattle.ppm_step.specs.State.{State as RunState, stand_of, acts, want_of, words_after, is_step, is_work, is_work_turn}
 use Rattle.ppm_step.specs.There.{restart_is_there}
 use Rattle.ppm_step.proofs.ThereLemmas.{restart_fits}
-use Rattle.ppm_step.proofs.WordLemmas.{exchanged_to}
-use Rattle.ppm_step.specs.declared.ask.Want.TheVariants.{Exchanges as WantsExchange}
-use Rattle.ppm_step.specs.declared.content.Content.{Content}
 use Rattle.ppm_step.specs.declared.row.Row.{Row}
 use Rattle.ppm_step.specs.declared.row.Row.TheVariants.{Now, Store, Exchange}
 use Rattle.ppm_step.specs.declared.row.Seat.{Seat}
-use Rattle.ppm_step.specs.declared.row.Then.{Then}
 use Rattle.ppm_step.specs.declared.row.Then.TheVariants.{Load, Install, Fork, Begin, Move, Enter, Again, Broken}
 use Rattle.ppm_step.specs.declared.turn.Act.{Act}
 use Rattle.ppm_step.specs.declared.turn.Act.TheVariants.{Step, Soft, Hard, Quit}
-use Rattle.ppm_step.specs.declared.turn.Turn.{Turn}
-use Rattle.ppm_paces.specs.Costs.{cost, due, weight, IsLook, IsFree, AreFree}
+use Rattle.ppm_paces.specs.Costs.{cost, due, IsLook, IsFree, AreFree}
 use Rattle.ppm_paces.specs.Paces.{Paces}
 use Rattle.ppm_paces.proofs.LookLemmas.{looks_are_free}
-use Rattle.ppm_paces.proofs.PaceLemmas.{one, most, Sets, Halts, Keeps, made_few, install_paid, fork_paid, begin_paid, capsule_paid}
-use Rattle.ppm_tickets.specs.Along.{by_act, IsPooled}
+use Rattle.ppm_paces.proofs.PaceLemmas.{one, most, Sets, install_paid, fork_paid, begin_paid, capsule_paid}
+use Rattle.ppm_tickets.specs.Along.{IsPooled}
 use Rattle.ppm_tickets.specs.Entries.{IsPooledAt}
 use Rattle.ppm_tickets.specs.Homes.{Home}
 use Rattle.ppm_tickets.specs.Saw.{Sees}
@@ -56,13 +47,10 @@ use Rattle.ppm_tickets.specs.Lawful.{IsAlive}
 use Rattle.ppm_tickets.specs.Words.{Spot, Holder, Carry, Word, Number, put}
 use Rattle.ppm_tickets.proofs.EntryLemmas.{cell_there}
 use Rattle.ppm_tickets.proofs.ViewLemmas.{view_else, restarts_kept, kinds_put}
-use Rattle.ppm_tickets.proofs.WriteLemmas.{put_here, put_else}
 use Rattle.ppm_frames.specs.Skeletons.{Skeleton}
 use Rattle.ppm_frames.specs.Seen.{arrays_at}
 use Rattle.ppm_frames.specs.Skeletons.{tree_of}
 use Rattle.ppm_kept.specs.Running.{IsFair, strands}
-use Rattle.ppm_kept.specs.Kept.{Image, State, IsKept}
-use Rattle.ppm_kept.specs.Laws.{Ends, kind_then}
 use Rattle.ppm_kept.specs.Places.{places_of}
 use Rattle.ppm_kept.specs.Pushing.{Comes}
 use Rattle.ppm_kept.specs.Steps.{CameBy}
@@ -72,7 +60,7 @@ use Rattle.ppm_runs.proofs.StandLemmas.{kinds_same}
 use Rattle.ppm_runs.proofs.SumLemmas.{sum, sum_le, sum_plus, sum_times, sum_there}
 use Rattle.ppm_runs.proofs.BegunLemmas.{runs as runs_at, begin_in, begin_sum, runs_begin}
 use Rattle.ppm_runs.proofs.GoingLemmas.{came_by}
-use Rattle.ppm_runs.proofs.ShownLemmas.{names_one, Within, within, Runs, runs}
+use Rattle.ppm_runs.proofs.ShownLemmas.{names_one, Within, within, runs}
 use Rattle.ppm_runs.proofs.OrderlyLemmas.{turns_are_orderly}
 use Rattle.ppm_runs.proofs.AgreeLemmas.{IsNoRestart, IsNoCarry, quiet_restart, quiet_carry, exchanges_no_restart, stores_no_restart, exchanges_no_carry, stores_no_carry}
 use Rattle.ppm_runs.proofs.JoinLemmas.{restart_not}

@@ -5,12 +5,12 @@ use ppm_ends::{
 };
 use ppm_frames::{cells_are_viewed, parts_swap, steps_pass_up, stores_are_seen, values_pass};
 use ppm_kept::{
-    arrive_row_keeps, branch_values_pass, bump_row_keeps, capsules_are_counted, copies_stay, credit_stays, early_join_row_keeps,
-    ends_as_meant, exchanges_are_seen, fates_agree, forks_are_new, frames_run, heirs_keep,
-    join_row_keeps, last_join_row_keeps, loads_show, openings_are_kept, others_keep,
-    push1_row_keeps, push2_row_keeps, room_is_bounded, run_row_keeps, steps_are_seen,
-    take_rows_keep, turns_bear, turns_keep, turns_keep_left, turns_show, unruns_stay,
-    untaken_stays, unwind_row_keeps,
+    arrive_row_keeps, branch_values_pass, bump_row_keeps, capsules_are_counted, copies_stay,
+    credit_stays, early_join_row_keeps, ends_as_meant, exchanges_are_seen, fates_agree,
+    forks_are_new, frames_run, heirs_keep, join_row_keeps, last_join_row_keeps, loads_show,
+    openings_are_kept, others_keep, push1_row_keeps, push2_row_keeps, room_is_bounded,
+    run_row_keeps, steps_are_seen, take_rows_keep, turns_bear, turns_keep, turns_keep_left,
+    turns_show, unruns_stay, untaken_stays, unwind_row_keeps,
 };
 use ppm_paces::{capsules_are_short, looks_are_free, rows_are_paid, rows_keep_pace};
 use ppm_runs::{
@@ -90,14 +90,6 @@ fn the_laws_of_rows_are_called() {
     room_is_bounded();
     credit_stays();
     capsules_are_counted();
-}
-
-#[test]
-fn the_laws_of_paces_are_called() {
-    rows_are_paid();
-    capsules_are_short();
-    looks_are_free();
-    rows_keep_pace();
 }
 
 #[test]
