@@ -1,17 +1,9 @@
-use Rattle.std.proofs.Common.{◌≡◌, ◌∙◌, ℕ, true, false, not, inl, inr, length, arith, ap, Bool, refl, subst, sym}
+use Rattle.std.proofs.Common.{◌∙◌, inr, arith, ap, Bool, refl, subst, sym}
 use Rattle.ppm_cells.specs.declared.shape.Shape.{Shape}
 use Rattle.ppm_threads.specs.Driven.{AllEnd}
 use Rattle.ppm_threads.proofs.HalvesLemmas.{end_order, in_order_begins, keep, keep_still, rest_at, driven, was_refused}
 use Rattle.ppm_threads.proofs.FinishLemmas.{has_finished}
 use Rattle.ppm_threads.proofs.driving.drive.Goals as goal
-
-taken_not : (b : Bool) → not b ≡ true → b ≡ false
-taken_not true e = cc
-taken_not false e = refl
-
-taken_is : (b : Bool) → not b ≡ false → b ≡ true
-taken_is true e = refl
-taken_is false e = cc
 
 pub run_over-taken-requires-clause-begin : goal.run_over-taken-requires-clause-begin
 run_over-taken-requires-clause-begin g c κs within = in_order_begins c.args.shared 0 c.args.processors.items c.requires.processors.order c.requires.processors.fresh
@@ -35,7 +27,7 @@ returns-then-not-taken-clause-others g c = λ j d least.
 pub returns-then-not-taken-clause-refused : goal.returns-then-not-taken-clause-refused
 returns-then-not-taken-clause-refused g c =
     let shape = ap (λ (t : Shape). t.processors) c.args.shared.told.0 in
-    let ends = subst (λ (x : Bool). AllEnd g.W.Watch.told c.args.plan.now c.args.limits c.args.shared x c.args.processors.items c.args.watch.now.items c.run_over-taken.new.processors.items c.run_over-taken.new.watch.items) (taken_not _ c.if-not-taken.true) c.run_over-taken.ensures.ends in
+    let ends = subst (λ (x : Bool). AllEnd g.W.Watch.told c.args.plan.now c.args.limits c.args.shared x c.args.processors.items c.args.watch.now.items c.run_over-taken.new.processors.items c.run_over-taken.new.watch.items) c.if-not-taken.true c.run_over-taken.ensures.ends in
     inr (was_refused g.W.Watch.told c.args.plan.now c.args.limits c.args.shared c.close-closed.result.words _ _ _ _ (c.requires.processors.count ∙ sym shape) c.requires.processors.order
     (in_order_begins c.args.shared 0 c.args.processors.items c.requires.processors.order c.requires.processors.fresh) c.close-closed.ensures.run ends)
 
@@ -52,7 +44,7 @@ pub returns-clause-run : goal.returns-clause-run
 returns-clause-run g c =
     let n = c.args.processors.ok.0 in
     let m = c.args.watch.now.ok.0 in
-    let ends = subst (λ (x : Bool). AllEnd g.W.Watch.told c.args.plan.now c.args.limits c.args.shared x c.args.processors.items c.args.watch.now.items c.run_over-taken.new.processors.items c.run_over-taken.new.watch.items) (taken_is _ c.if-not-taken.false) c.run_over-taken.ensures.ends in
+    let ends = subst (λ (x : Bool). AllEnd g.W.Watch.told c.args.plan.now c.args.limits c.args.shared x c.args.processors.items c.args.watch.now.items c.run_over-taken.new.processors.items c.run_over-taken.new.watch.items) c.if-not-taken.false c.run_over-taken.ensures.ends in
     let shape = ap (λ (t : Shape). t.processors) c.args.shared.told.0 in
     driven g.W.Watch.told c.args.plan.now c.args.limits c.args.shared c.close-closed.result.words _ _ _ _ (c.requires.processors.count ∙ sym shape) c.requires.processors.order
     (in_order_begins c.args.shared 0 c.args.processors.items c.requires.processors.order c.requires.processors.fresh) c.close-closed.ensures.run (c.requires.plan ∙ sym shape) ends (omega (arith, n, m, c.requires.watchers))
@@ -61,7 +53,7 @@ pub returns-clause-finish : goal.returns-clause-finish
 returns-clause-finish g c =
     let n = c.args.processors.ok.0 in
     let m = c.args.watch.now.ok.0 in
-    let ends = subst (λ (x : Bool). AllEnd g.W.Watch.told c.args.plan.now c.args.limits c.args.shared x c.args.processors.items c.args.watch.now.items c.run_over-taken.new.processors.items c.run_over-taken.new.watch.items) (taken_is _ c.if-not-taken.false) c.run_over-taken.ensures.ends in
+    let ends = subst (λ (x : Bool). AllEnd g.W.Watch.told c.args.plan.now c.args.limits c.args.shared x c.args.processors.items c.args.watch.now.items c.run_over-taken.new.processors.items c.run_over-taken.new.watch.items) c.if-not-taken.false c.run_over-taken.ensures.ends in
     let shape = ap (λ (t : Shape). t.processors) c.args.shared.told.0 in
     let d = driven g.W.Watch.told c.args.plan.now c.args.limits c.args.shared c.close-closed.result.words _ _ _ _ (c.requires.processors.count ∙ sym shape) c.requires.processors.order
     (in_order_begins c.args.shared 0 c.args.processors.items c.requires.processors.order c.requires.processors.fresh) c.close-closed.ensures.run (c.requires.plan ∙ sym shape) ends (omega (arith, n, m, c.requires.watchers)) in
