@@ -1,12 +1,12 @@
 -- What an act makes of the pace of its processor.
-use Rattle.std.proofs.Common.{◌≡◌, ◌≢◌, ◌≤◌, ◌⊎◌, ℕ, zero, suc, ◌+◌, ◌*◌, ◌&&◌, nat_lt, if◌then◌else◌, Bool, true, false, length, Option, Some, None, inl, inr, refl, sym, ap, ◌∙◌, subst, subst₂, arith}
+use Rattle.std.proofs.Common.{◌≡◌, ◌≢◌, ◌≤◌, ◌⊎◌, ℕ, zero, suc, ◌+◌, ◌*◌, ◌&&◌, ◌||◌, nat_lt, if◌then◌else◌, Bool, true, false, length, Option, Some, None, inl, inr, refl, sym, ap, subst, subst₂, arith}
 use Rattle.std.specs.Prelude.{slice_get}
 use Rattle.ppm_cells.specs.Cells.{address}
 use Rattle.ppm_cells.specs.Fields.{number_of}
 use Rattle.ppm_cells.specs.Finish.{finish_word}
 use Rattle.ppm_cells.specs.declared.cell.Cell.{Cell}
 use Rattle.ppm_cells.specs.declared.cell.Cell.TheVariants.{FinishWord}
-use Rattle.ppm_cells.specs.declared.finish.Finish.TheVariants.{OutOfRoom}
+use Rattle.ppm_cells.specs.declared.finish.Finish.TheVariants.{OutOfRoom, Broken as BrokenAt}
 use Rattle.ppm_cells.specs.declared.restart.Restart.{Restart}
 use Rattle.ppm_cells.specs.declared.restart.RestartKind.{RestartKind}
 use Rattle.ppm_cells.specs.declared.restart.RestartKind.TheVariants.{Run, Bump, Push1, Push2, Unwind, Arrive, Join, Pop1, Pop2, Seek, Steal, Check, Take, Take2}
@@ -36,7 +36,7 @@ use Rattle.ppm_step.specs.declared.turn.Next.TheVariants.{Work, Look}
 use Rattle.ppm_step.specs.declared.turn.Why.{Why}
 use Rattle.ppm_step.specs.declared.turn.Why.TheVariants.{Turns, Watch}
 use Rattle.ppm_paces.specs.Costs.{cost, due, weight, IsPaid, Leads, IsShortKind, IsShort}
-use Rattle.ppm_paces.specs.Paces.{RowPaces, OfFrame, OfWork, OfLook, CapsulePaces, Paces, is_in_row, made_then, is_broken_at, is_waste}
+use Rattle.ppm_paces.specs.Paces.{RowPaces, OfFrame, OfWork, OfLook, CapsulePaces, Paces, is_in_row, is_broken_at, keeps_row, made_then, is_strike}
 use Rattle.ppm_paces.proofs.CapsuleLemmas.{capsules_are_short}
 use Rattle.ppm_paces.proofs.RowLemmas.{rows_are_paid}
 
@@ -45,11 +45,12 @@ abbrev pub one : Bool → ℕ
 one true = 1
 one false = 0
 
--- the most word steps of the row in which a processor stands
-abbrev pub most : Standing → ℕ
-most (IsWithin seat row) = cost seat.restart.kind
-most (IsRunning seat rest) = cost seat.restart.kind
-most _ = 0
+-- the most word steps of the row in which a processor stands; one that met broken words makes no more of it
+abbrev pub most : (made : ℕ) → Standing → ℕ
+most made (IsWithin seat row) = cost seat.restart.kind
+most made (IsRunning seat rest) = cost seat.restart.kind
+most made (IsBroken place) = made
+most made _ = 0
 
 -- it is about to install a restart word
 abbrev pub Sets : Standing → Type 0
@@ -144,10 +145,6 @@ kinds_are (Check v i) = inr (inr refl)
 kinds_are (Take v d) = inr (inr refl)
 kinds_are (Take2 v) = inr (inr refl)
 
-both : (a b : Bool) → a ≡ true → b ≡ true → (a && b) ≡ true
-both true b e d = d
-both false b e d = absurd (cc)
-
 -- what has been made of a row, by whether the row goes on
 then_on : (w r : Bool) (made : ℕ) → w ≡ true → r ≡ true → (if w then (if r then made + 1 else 0) else 0) ≡ made + 1
 then_on true true made e d = refl
@@ -168,6 +165,10 @@ full_some : (p : ℕ) → finish_word (OutOfRoom p) ≢ 0
 unfolding number_of
 full_some p e = omega (arith, e)
 
+broken_some : (p : ℕ) → finish_word (BrokenAt p) ≢ 0
+unfolding number_of
+broken_some p e = omega (arith, e)
+
 quit_some : (p : ℕ) (why : Why) → finish_word (quit_with p why) ≢ 0
 unfolding number_of
 quit_some p Turns e = omega (arith, e)
@@ -180,46 +181,44 @@ module _ (s : Shape) (code : CodeParts) (is : IsCode code) (c : ℕ) where
 
   -- What an act leaves of the pace. The work turn, what the row may take then and what was made are no more than what the row might
   -- take and what is made then, unless a row begins. And where no word is installed, the work turn and what was made are made still,
-  -- or the finish word is set, or 171 are thrown away.
+  -- or the finish word is set, or a row is struck, of at most 171.
   pub record Keeps (made : ℕ) (act : Act) (x y : Standing) : Type 0 where
     pub pace : Paces s (made_then made act x y) y
-    pub spends : (is_in_row x ≡ false → is_in_row y ≡ false) → one (is_work_turn act x) + most y + made ≤ most x + made_then made act x y
-    pub pays : ((is_step act ≡ true) × Sets x) ⊎ (Halts act x ⊎ (one (is_work_turn act x) + made ≤ made_then made act x y + 171 * one (is_waste act x y)))
+    pub spends : (is_in_row x ≡ false → is_in_row y ≡ false)
+        → one (is_work_turn act x) + most (made_then made act x y) y + made ≤ most made x + made_then made act x y
+    pub pays : ((is_step act ≡ true) × Sets x) ⊎ (Halts act x ⊎ (one (is_work_turn act x) + made ≤ made_then made act x y + 171 * one (is_strike act x)))
 
-  keeps_on : (made : ℕ) (act : Act) (x y : Standing) → is_work_turn act x ≡ true → is_in_row y ≡ true → Paces s (made + 1) y → most y ≡ most x → Keeps made act x y
-  keeps_on made act x y work on paces same =
-      let e : made_then made act x y ≡ made + 1 = then_on (is_work_turn act x) (is_in_row y) made work on in
+  keeps_on : (made : ℕ) (act : Act) (x y : Standing) → is_work_turn act x ≡ true → keeps_row y ≡ true → Paces s (made + 1) y → most (made + 1) y ≤ most made x → Keeps made act x y
+  keeps_on made act x y work on paces le =
+      let e : made_then made act x y ≡ made + 1 = then_on (is_work_turn act x) (keeps_row y) made work on in
       let w : one (is_work_turn act x) ≡ 1 = ap one work in
+      let m : most (made_then made act x y) y ≡ most (made + 1) y = ap (λ (n : ℕ). most n y) e in
       record {
         pace = subst (λ (n : ℕ). Paces s n y) (sym e) paces;
-        spends = λ b. omega (arith, w, e, same);
+        spends = λ b. omega (arith, w, e, m, le);
         pays = inr (inr (omega (arith, w, e)));
       }
 
-  keeps_off : (made : ℕ) (act : Act) (x y : Standing) → is_work_turn act x ≡ true → is_in_row y ≡ false → Paces s 0 y → most y ≡ 0 → made + 1 ≤ most x
-      → ((is_step act ≡ true) × Sets x) ⊎ (Halts act x ⊎ ((is_waste act x y ≡ true) × (made + 1 ≤ 171))) → Keeps made act x y
+  keeps_off : (made : ℕ) (act : Act) (x y : Standing) → is_work_turn act x ≡ true → keeps_row y ≡ false → Paces s 0 y → most 0 y ≡ 0 → made + 1 ≤ most made x
+      → ((is_step act ≡ true) × Sets x) ⊎ Halts act x → Keeps made act x y
   keeps_off made act x y work off paces none le why =
-      let e : made_then made act x y ≡ 0 = then_off (is_work_turn act x) (is_in_row y) made off in
+      let e : made_then made act x y ≡ 0 = then_off (is_work_turn act x) (keeps_row y) made off in
       let w : one (is_work_turn act x) ≡ 1 = ap one work in
+      let m : most (made_then made act x y) y ≡ most 0 y = ap (λ (n : ℕ). most n y) e in
       record {
         pace = subst (λ (n : ℕ). Paces s n y) (sym e) paces;
-        spends = λ b. omega (arith, w, e, none, le);
-        pays = elim why [
-          | inl sets ↦ inl sets
-          | inr more ↦ elim more [
-            | inl halts ↦ inr (inl halts)
-            | inr waste ↦ inr (inr (let z : one (is_waste act x y) ≡ 1 = ap one waste.0 in let few = waste.1 in omega (arith, w, e, z, few)))
-          ]
-        ];
+        spends = λ b. omega (arith, w, e, m, none, le);
+        pays = elim why [ inl sets ↦ inl sets | inr halts ↦ inr (inl halts) ];
       }
 
-  keeps_look : (made : ℕ) (act : Act) (x y : Standing) → is_work_turn act x ≡ false → Paces s 0 y → made ≡ 0 → ((is_in_row x ≡ false → is_in_row y ≡ false) → most y ≤ most x) → Keeps made act x y
+  keeps_look : (made : ℕ) (act : Act) (x y : Standing) → is_work_turn act x ≡ false → Paces s 0 y → made ≡ 0 → ((is_in_row x ≡ false → is_in_row y ≡ false) → most 0 y ≤ most made x) → Keeps made act x y
   keeps_look made act x y look paces none le =
-      let e : made_then made act x y ≡ 0 = then_look (is_work_turn act x) (is_in_row y) made look in
+      let e : made_then made act x y ≡ 0 = then_look (is_work_turn act x) (keeps_row y) made look in
       let w : one (is_work_turn act x) ≡ 0 = ap one look in
+      let m : most (made_then made act x y) y ≡ most 0 y = ap (λ (n : ℕ). most n y) e in
       record {
         pace = subst (λ (n : ℕ). Paces s n y) (sym e) paces;
-        spends = λ b. let l = le b in omega (arith, w, e, l, none);
+        spends = λ b. let l = le b in omega (arith, w, e, m, l, none);
         pays = inr (inr (omega (arith, w, e, none)));
       }
 
@@ -228,38 +227,53 @@ module _ (s : Shape) (code : CodeParts) (is : IsCode code) (c : ℕ) where
 
   -- a row goes on with so many word steps made, or has met broken words
   abbrev Goes : Seat → ℕ → Standing → Type 0
-  Goes seat n y = ((is_in_row y ≡ true) × Paces s n y × (most y ≡ cost seat.restart.kind))
-      ⊎ ((is_in_row y ≡ false) × (is_broken_at y ≡ true) × Paces s 0 y × (most y ≡ 0))
+  Goes seat n y = (keeps_row y ≡ true) × Paces s n y × (most n y ≤ cost seat.restart.kind)
 
-  within_goes : (seat : Seat) (n : ℕ) (row : Row) (b : Bool) → (b ≡ true → RowPaces s seat n row) → Goes seat n (within_if seat row b)
-  within_goes seat n row true p = inl (refl, p refl, refl)
-  within_goes seat n row false p = inr (refl, refl, refl, refl)
+  within_goes : (seat : Seat) (n : ℕ) (row : Row) → n ≤ cost seat.restart.kind → n ≤ 171 → (b : Bool) → (b ≡ true → RowPaces s seat n row) → Goes seat n (within_if seat row b)
+  within_goes seat n row le few true p = (refl, p refl, omega arith)
+  within_goes seat n row le few false p = (refl, few, le)
 
-  work_goes : (seat : Seat) → IsShortKind seat.restart.kind → (n left : ℕ) → n + left ≡ cost seat.restart.kind → (row : Row) → Leads s seat seat.restart.kind left n row → Goes seat n (stands s code seat row)
-  work_goes seat short n left e (Now (Load x)) leads = within_goes seat n (Now (Load x)) (then_is_there s seat (Load x)) (λ there. OfWork short there left e leads)
-  work_goes seat short n left e (Now (Install x)) leads = within_goes seat n (Now (Install x)) (then_is_there s seat (Install x)) (λ there. OfWork short there left e leads)
-  work_goes seat short n left e (Now (Fork x)) leads = within_goes seat n (Now (Fork x)) (then_is_there s seat (Fork x)) (λ there. OfWork short there left e leads)
-  work_goes seat short n left e (Now (Begin x f b)) leads = within_goes seat n (Now (Begin x f b)) (then_is_there s seat (Begin x f b)) (λ there. OfWork short there left e leads)
-  work_goes seat short n left e (Now (Move x)) leads = within_goes seat n (Now (Move x)) (then_is_there s seat (Move x)) (λ there. OfWork short there left e leads)
-  work_goes seat short n left e (Now Broken) leads = inr (refl, refl, refl, refl)
-  work_goes seat short n zero e (Now (Enter x)) leads = absurd leads
-  work_goes seat short n (suc left) e (Now (Enter x)) leads = absurd leads
-  work_goes seat short n zero e (Now Again) leads = absurd leads
-  work_goes seat short n (suc left) e (Now Again) leads = absurd leads
-  work_goes seat short n left e (Store cell content next) leads = within_goes seat n (Store cell content next) (row_is_there s seat (Store cell content next)) (λ there. OfWork short there left e leads)
-  work_goes seat short n left e (Exchange cell old new next) leads = within_goes seat n (Exchange cell old new next) (row_is_there s seat (Exchange cell old new next)) (λ there. OfWork short there left e leads)
+  module _ (seat : Seat) (short : IsShortKind seat.restart.kind) (n left : ℕ) (e : n + left ≡ cost seat.restart.kind) where
+    le : n ≤ cost seat.restart.kind
+    le = omega (arith, e)
+
+    few_made : n ≤ 171
+    few_made = let few = short_few seat.restart.kind short in omega (arith, e, few)
+
+    work_goes : (row : Row) → Leads s seat seat.restart.kind left n row → Goes seat n (stands s code seat row)
+    work_goes (Now (Load x)) leads = within_goes seat n (Now (Load x)) le few_made (then_is_there s seat (Load x)) (λ there. OfWork short there left e leads)
+    work_goes (Now (Install x)) leads = within_goes seat n (Now (Install x)) le few_made (then_is_there s seat (Install x)) (λ there. OfWork short there left e leads)
+    work_goes (Now (Fork x)) leads = within_goes seat n (Now (Fork x)) le few_made (then_is_there s seat (Fork x)) (λ there. OfWork short there left e leads)
+    work_goes (Now (Begin x f b)) leads = within_goes seat n (Now (Begin x f b)) le few_made (then_is_there s seat (Begin x f b)) (λ there. OfWork short there left e leads)
+    work_goes (Now (Move x)) leads = within_goes seat n (Now (Move x)) le few_made (then_is_there s seat (Move x)) (λ there. OfWork short there left e leads)
+    work_goes (Now Broken) leads = (refl, few_made, le)
+    work_goes (Now (Enter x)) leads = absurd (enters_none left leads)
+      where
+        enters_none : (left : ℕ) → Leads s seat seat.restart.kind left n (Now (Enter x)) → ⊥
+        enters_none zero leads = leads
+        enters_none (suc left) leads = leads
+    work_goes (Now Again) leads = absurd (begins_none left leads)
+      where
+        begins_none : (left : ℕ) → Leads s seat seat.restart.kind left n (Now Again) → ⊥
+        begins_none zero leads = leads
+        begins_none (suc left) leads = leads
+    work_goes (Store cell content next) leads = within_goes seat n (Store cell content next) le few_made (row_is_there s seat (Store cell content next)) (λ there. OfWork short there left e leads)
+    work_goes (Exchange cell old new next) leads = within_goes seat n (Exchange cell old new next) le few_made (row_is_there s seat (Exchange cell old new next)) (λ there. OfWork short there left e leads)
+
+  at_least : (left : ℕ) (rest : Rest) → IsShort left rest → 1 ≤ left
+  at_least zero rest short = absurd short
+  at_least (suc left) rest short = omega arith
 
   running_goes : (seat : Seat) (f y : ℕ) → seat.restart.kind ≡ Run f y → (n left : ℕ) → n + left ≡ 172 → (rest : Rest) → IsShort left rest → Goes seat n (running s seat rest)
   running_goes seat f y ke n left e rest short = by (rest_is_there s seat rest) refl
     where
       by : (b : Bool) → rest_is_there s seat rest ≡ b → Goes seat n (running_if seat rest b)
-      by true there = inl (refl, record { frame = f; copy = y; kind = ke; left = left; most = e; short = short; there = there }, refl)
-      by false there = inr (refl, refl, refl, refl)
+      by true there = (refl, record { frame = f; copy = y; kind = ke; left = left; most = e; short = short; there = there }, omega arith)
+      by false there = (refl, (let some = at_least left rest short in omega (arith, e, some)), (let much : cost seat.restart.kind ≡ 172 = ap cost ke in omega (arith, e, much)))
 
   -- a step of work that goes on, or meets broken words
-  goes_keeps : (made v : ℕ) (seat : Seat) (x y : Standing) → is_work_next (next_of x) ≡ true → most x ≡ cost seat.restart.kind → Goes seat (made + 1) y → made + 1 ≤ most x → made + 1 ≤ 171 → Keeps made (Step v) x y
-  goes_keeps made v seat x y work same (inl on) le few = keeps_on made (Step v) x y work on.0 on.1 (on.2 ∙ sym same)
-  goes_keeps made v seat x y work same (inr off) le few = keeps_off made (Step v) x y work off.0 off.2 off.3 le (inr (inr (both _ _ work off.1, few)))
+  goes_keeps : (made v : ℕ) (seat : Seat) (x y : Standing) → is_work_next (next_of x) ≡ true → most made x ≡ cost seat.restart.kind → Goes seat (made + 1) y → Keeps made (Step v) x y
+  goes_keeps made v seat x y work same g = keeps_on made (Step v) x y work g.0 g.1 (let le = g.2 in omega (arith, le, same))
 
   -- a row of work
   module _ (v found : ℕ) (seat : Seat) (short : IsShortKind seat.restart.kind) (made : ℕ) where
@@ -272,12 +286,9 @@ module _ (s : Shape) (code : CodeParts) (is : IsCode code) (c : ℕ) where
     work : is_work_next (step_of seat.restart.kind) ≡ true
     work = step_work seat.restart.kind true (short_works seat.restart.kind short)
 
-    few : cost seat.restart.kind ≤ 12
-    few = short_few seat.restart.kind short
-
     goes_on : (left : ℕ) → made + suc left ≡ cost seat.restart.kind → (row rest : Row) → Leads s seat seat.restart.kind left (made + 1) rest → Y row ≡ stands s code seat rest → Keeps made (Step v) (X row) (Y row)
     goes_on left e row rest leads is = subst (Keeps made (Step v) (X row)) (sym is)
-        (goes_keeps made v seat (X row) (stands s code seat rest) work refl (work_goes seat short (made + 1) left (omega (arith, e)) rest leads) (omega (arith, e)) (omega (arith, e, few)))
+        (goes_keeps made v seat (X row) (stands s code seat rest) work refl (work_goes seat short (made + 1) left (omega (arith, e)) rest leads))
 
     work_row : (row : Row) → row_is_there s seat row ≡ true → (left : ℕ) → made + left ≡ cost seat.restart.kind → Leads s seat seat.restart.kind left made row → Keeps made (Step v) (X row) (Y row)
     work_row (Now (Load x)) there zero e leads = absurd leads
@@ -299,17 +310,17 @@ module _ (s : Shape) (code : CodeParts) (is : IsCode code) (c : ℕ) where
     work_row (Exchange cell old new next) there (suc left) e (inr leads) = goes_on left e (Exchange cell old new next) (Now next) leads refl
     work_row (Exchange cell old new next) there (suc left) e (inl ends) =
         let is : Y (Exchange cell old new next) ≡ IsAt seat.place (Some seat.restart) = ap (stands_then s code seat) ends.3 in
-        keeps_off made (Step v) (X (Exchange cell old new next)) (Y (Exchange cell old new next)) work (ap is_in_row is) (subst (Paces s 0) (sym is) refl) (ap most is) (omega (arith, e))
-        (inr (inl (refl, word_of new, ends.2, subst₂ (λ (a : Cell) (o : Content). WantsExchange (address s a) (word_of o) (word_of new) ≡ WantsExchange (address s FinishWord) 0 (word_of new)) (sym ends.0) (sym ends.1) refl)))
+        keeps_off made (Step v) (X (Exchange cell old new next)) (Y (Exchange cell old new next)) work (ap keeps_row is) (subst (Paces s 0) (sym is) refl) (ap (most 0) is) (omega (arith, e))
+        (inr (refl, word_of new, ends.2, subst₂ (λ (a : Cell) (o : Content). WantsExchange (address s a) (word_of o) (word_of new) ≡ WantsExchange (address s FinishWord) 0 (word_of new)) (sym ends.0) (sym ends.1) refl))
 
   -- a row that is no work
   module _ (seat : Seat) (look : is_work seat.restart.kind ≡ false) where
     abbrev Rests : Standing → Type 0
-    Rests y = Paces s 0 y × (most y ≤ cost seat.restart.kind)
+    Rests y = Paces s 0 y × (most 0 y ≤ cost seat.restart.kind)
 
     within_rests : (row : Row) (b : Bool) → Rests (within_if seat row b)
     within_rests row true = (OfLook look refl, omega arith)
-    within_rests row false = (refl, omega arith)
+    within_rests row false = (omega arith, omega arith)
 
     enters_rests : (k : RestartKind) → is_work k ≡ false → (o : Option Capsule) → Rests (enters s code seat k o)
     enters_rests (Run f y) e o = absurd (cc)
@@ -321,11 +332,11 @@ module _ (s : Shape) (code : CodeParts) (is : IsCode code) (c : ℕ) where
     enters_rests (Join r d) e o = absurd (cc)
     enters_rests Pop1 e o = absurd (cc)
     enters_rests (Pop2 r) e o = absurd (cc)
-    enters_rests Seek e o = (refl, omega arith)
-    enters_rests (Steal v i) e o = (refl, omega arith)
-    enters_rests (Check v i) e o = (refl, omega arith)
-    enters_rests (Take v d) e o = (refl, omega arith)
-    enters_rests (Take2 v) e o = (refl, omega arith)
+    enters_rests Seek e o = (omega arith, omega arith)
+    enters_rests (Steal v i) e o = (omega arith, omega arith)
+    enters_rests (Check v i) e o = (omega arith, omega arith)
+    enters_rests (Take v d) e o = (omega arith, omega arith)
+    enters_rests (Take2 v) e o = (omega arith, omega arith)
 
     then_rests : (next : Then) → Rests (stands_then s code seat next)
     then_rests (Load x) = within_rests (Now (Load x)) (then_is_there s seat (Load x))
@@ -335,7 +346,7 @@ module _ (s : Shape) (code : CodeParts) (is : IsCode code) (c : ℕ) where
     then_rests (Move x) = within_rests (Now (Move x)) (then_is_there s seat (Move x))
     then_rests (Enter x) = enters_rests seat.restart.kind look (slice_get code.capsules x)
     then_rests Again = (refl, omega arith)
-    then_rests Broken = (refl, omega arith)
+    then_rests Broken = (omega arith, omega arith)
 
     stands_rests : (row : Row) → Rests (stands s code seat row)
     stands_rests (Now next) = then_rests next
@@ -356,7 +367,7 @@ module _ (s : Shape) (code : CodeParts) (is : IsCode code) (c : ℕ) where
 
   -- the row of a frame enters its capsule
   enters_goes : (seat : Seat) (f y : ℕ) → seat.restart.kind ≡ Run f y → (o : Option Capsule) → ((one : Capsule) → o ≡ Some one → length one.instrs ≤ 160) → Goes seat 1 (enters s code seat (Run f y) o)
-  enters_goes seat f y ke None short = inr (refl, refl, refl, refl)
+  enters_goes seat f y ke None short = (refl, omega arith, (let much : cost seat.restart.kind ≡ 172 = ap cost ke in omega (arith, much)))
   enters_goes seat f y ke (Some one) short = running_goes seat f y ke 1 171 refl _
       (capsules_are_short s code seat.place (record { frame = f; copy = y; block = 0 }) s.arrays one.instrs (short one refl))
 
@@ -367,9 +378,8 @@ module _ (s : Shape) (code : CodeParts) (is : IsCode code) (c : ℕ) where
   frame_keeps v found made seat f y ke none row e = subst (λ (r : Row). Keeps made (Step v) (IsWithin seat r) (went_row s code seat v found r)) (sym e)
       (let goes : Goes seat 1 (enters s code seat seat.restart.kind (slice_get code.capsules found)) =
       subst (λ (k : RestartKind). Goes seat 1 (enters s code seat k (slice_get code.capsules found))) (sym ke) (enters_goes seat f y ke (slice_get code.capsules found) (short_at found)) in
-      let much : cost seat.restart.kind ≡ 172 = ap cost ke in
       goes_keeps made v seat (IsWithin seat (Now (Load (Header f y)))) _ (step_work seat.restart.kind true (ap is_work ke)) refl
-      (subst (λ (n : ℕ). Goes seat n (enters s code seat seat.restart.kind (slice_get code.capsules found))) {x = 1} (omega (arith, none)) goes) (omega (arith, none, much)) (omega (arith, none)))
+      (subst (λ (n : ℕ). Goes seat n (enters s code seat seat.restart.kind (slice_get code.capsules found))) {x = 1} (omega (arith, none)) goes))
 
   -- a capsule under way
   rest_keeps : (v found made : ℕ) (seat : Seat) (rest : Rest) → CapsulePaces s seat made rest → Keeps made (Step v) (IsRunning seat rest) (went_rest s seat found rest)
@@ -378,20 +388,15 @@ module _ (s : Shape) (code : CodeParts) (is : IsCode code) (c : ℕ) where
       much : cost seat.restart.kind ≡ 172
       much = ap cost p.kind
 
-      at_least : (left : ℕ) (rest : Rest) → IsShort left rest → 1 ≤ left
-      at_least zero rest short = absurd short
-      at_least (suc left) rest short = omega arith
-
       goes_on : (rest next : Rest) (left : ℕ) → made + suc left ≡ 172 → IsShort left next → went_rest s seat found rest ≡ running s seat next → Keeps made (Step v) (IsRunning seat rest) (went_rest s seat found rest)
       goes_on rest next left e short is = subst (Keeps made (Step v) (IsRunning seat rest)) (sym is)
-          (let some = at_least left next short in
-          goes_keeps made v seat (IsRunning seat rest) (running s seat next) refl refl (running_goes seat p.frame p.copy p.kind (made + 1) left (omega (arith, e)) next short) (omega (arith, e, much)) (omega (arith, e, some)))
+          (goes_keeps made v seat (IsRunning seat rest) (running s seat next) refl refl (running_goes seat p.frame p.copy p.kind (made + 1) left (omega (arith, e)) next short))
 
       by : (rest : Rest) (left : ℕ) → made + left ≡ 172 → IsShort left rest → rest_is_there s seat rest ≡ true → Keeps made (Step v) (IsRunning seat rest) (went_rest s seat found rest)
       by rest zero e short there = absurd short
       by (Loads cell go) (suc left) e short there = goes_on (Loads cell go) (go found) left e (short found) refl
       by (Stores cell content next) (suc left) e short there = goes_on (Stores cell content next) next left e short refl
-      by Full (suc left) e short there = keeps_off made (Step v) (IsRunning seat Full) _ refl refl refl refl (omega (arith, e, much)) (inr (inl (refl, finish_word (OutOfRoom seat.place), full_some seat.place, refl)))
+      by Full (suc left) e short there = keeps_off made (Step v) (IsRunning seat Full) _ refl refl refl refl (omega (arith, e, much)) (inr (refl, finish_word (OutOfRoom seat.place), full_some seat.place, refl))
       by (Installs kind) (suc left) e short there = keeps_off made (Step v) (IsRunning seat (Installs kind)) _ refl refl refl refl (omega (arith, e, much)) (inl (refl, tt))
       by Breaks (suc left) e short there = absurd (cc)
 
@@ -400,25 +405,25 @@ module _ (s : Shape) (code : CodeParts) (is : IsCode code) (c : ℕ) where
   seat_begins seat = elim (kinds_are seat.restart.kind) [
     | inl run ↦ subst (λ (r : Row). Paces s 0 (stands s code seat r)) (sym (ap (row_of s seat) run.2)) (header run.0 run.1 run.2 (then_is_there s seat (Load (Header run.0 run.1))))
     | inr more ↦ elim more [
-      | inl short ↦ elim (work_goes seat short 0 (cost seat.restart.kind) (omega arith) (row_of s seat seat.restart.kind) (rows_are_paid s seat seat.restart.kind short)) [ inl on ↦ on.1 | inr off ↦ off.2 ]
+      | inl short ↦ (work_goes seat short 0 (cost seat.restart.kind) (omega arith) (row_of s seat seat.restart.kind) (rows_are_paid s seat seat.restart.kind short)).1
       | inr look ↦ (stands_rests seat look (row_of s seat seat.restart.kind)).0
     ]
   ]
     where
       header : (f y : ℕ) → seat.restart.kind ≡ Run f y → (b : Bool) → Paces s 0 (within_if seat (Now (Load (Header f y))) b)
       header f y ke true = OfFrame f y ke refl refl
-      header f y ke false = refl
+      header f y ke false = omega arith
 
   begins_pace : (own place : ℕ) (restart : Option Restart) → Paces s 0 (begins s code own place restart)
-  begins_pace own place None = refl
+  begins_pace own place None = omega arith
   begins_pace own place (Some restart) = by (restart_is_there s restart)
     where
       by : (b : Bool) → Paces s 0 (begins_if s code (record { own = own; place = place; restart = restart }) b)
       by true = seat_begins (record { own = own; place = place; restart = restart })
-      by false = refl
+      by false = omega arith
 
   -- where no row begins, none may be made
-  none_most : (y : Standing) → is_in_row y ≡ false → most y ≡ 0
+  none_most : (y : Standing) → is_in_row y ≡ false → most 0 y ≡ 0
   none_most (IsWithin seat row) e = absurd (cc)
   none_most (IsRunning seat rest) e = absurd (cc)
   none_most _ e = refl
@@ -427,9 +432,9 @@ module _ (s : Shape) (code : CodeParts) (is : IsCode code) (c : ℕ) where
   pub step_keeps : (v found made : ℕ) (x : Standing) → Paces s made x → Keeps made (Step v) x (went s code c v found x)
   step_keeps v found made IsLost none = keeps_look made (Step v) IsLost (placed s found) refl (by (nat_lt found s.processors)).0 none (λ b. (by (nat_lt found s.processors)).1)
     where
-      by : (b : Bool) → Paces s 0 (if b then IsPlaced found else IsBroken unknown_place) × (most (if b then IsPlaced found else IsBroken unknown_place) ≤ 0)
+      by : (b : Bool) → Paces s 0 (if b then IsPlaced found else IsBroken unknown_place) × (most 0 (if b then IsPlaced found else IsBroken unknown_place) ≤ 0)
       by true = (refl, omega arith)
-      by false = (refl, omega arith)
+      by false = (omega arith, omega arith)
   step_keeps v found made (IsPlaced place) none = keeps_look made (Step v) (IsPlaced place) _ refl refl none (λ b. omega arith)
   step_keeps v (suc found) made (IsAt place restart) none = keeps_look made (Step v) (IsAt place restart) _ (before_none restart) refl none (λ b. omega arith)
   step_keeps v zero made (IsAt place restart) none = keeps_look made (Step v) (IsAt place restart) _ (before_none restart) (begins_pace c place restart) none
@@ -439,49 +444,52 @@ module _ (s : Shape) (code : CodeParts) (is : IsCode code) (c : ℕ) where
   step_keeps v found made (IsWithin seat row) (OfLook look none) = let r = row_rests seat look v found row in
       keeps_look made (Step v) (IsWithin seat row) _ (step_work seat.restart.kind false look) r.0 none (λ b. r.1)
   step_keeps v found made (IsRunning seat rest) p = rest_keeps v found made seat rest p
-  step_keeps v found made (IsBroken place) none = keeps_look made (Step v) (IsBroken place) _ refl refl none (λ b. omega arith)
+  step_keeps v found made (IsBroken place) few = record {
+    pace = refl;
+    spends = λ b. omega arith;
+    pays = inr (inl (refl, finish_word (BrokenAt place), broken_some place, refl));
+  }
   step_keeps v found made IsDone none = keeps_look made (Step v) IsDone _ refl refl none (λ b. omega arith)
 
-  -- what has been made of a row under way
-  pub made_few : (made : ℕ) (x : Standing) → Paces s made x → (made ≡ 0) ⊎ ((is_work_next (next_of x) ≡ true) × (made ≤ 171) × (made ≤ most x))
-  made_few made (IsWithin seat row) (OfFrame f y ke e none) = inl none
-  made_few made (IsWithin seat row) (OfWork short there left e leads) = inr (
-    step_work seat.restart.kind true (short_works seat.restart.kind short),
-    (let few = short_few seat.restart.kind short in omega (arith, e, few)),
+  -- what has been made of a row under way, or behind broken words
+  abbrev Struck : ℕ → Standing → Type 0
+  Struck made x = made ≤ 171 * one (is_work_next (next_of x) || is_broken_at x)
+
+  pub made_few : (made : ℕ) (x : Standing) → Paces s made x → (made ≤ most made x) × Struck made x
+  made_few made (IsWithin seat row) (OfFrame f y ke e none) = (omega (arith, none), omega (arith, none))
+  made_few made (IsWithin seat row) (OfWork short there left e leads) = (
     omega (arith, e),
+    (let few = short_few seat.restart.kind short in
+        let w : one (is_work_next (step_of seat.restart.kind) || false) ≡ 1 = ap (λ (b : Bool). one (b || false)) (step_work seat.restart.kind true (short_works seat.restart.kind short)) in omega (arith, e, few, w)),
   )
-  made_few made (IsWithin seat row) (OfLook look none) = inl none
-  made_few made (IsRunning seat rest) p = inr (refl, by p.left rest p.most p.short, (let e = p.most in let much : cost seat.restart.kind ≡ 172 = ap cost p.kind in omega (arith, e, much)))
-    where
-      by : (left : ℕ) (rest : Rest) → made + left ≡ 172 → IsShort left rest → made ≤ 171
-      by zero rest e short = absurd short
-      by (suc left) rest e short = omega (arith, e)
-  made_few made IsLost none = inl none
-  made_few made (IsPlaced p) none = inl none
-  made_few made (IsAt p r) none = inl none
-  made_few made (IsBroken p) none = inl none
-  made_few made IsDone none = inl none
+  made_few made (IsWithin seat row) (OfLook look none) = (omega (arith, none), omega (arith, none))
+  made_few made (IsRunning seat rest) p = (
+    (let e = p.most in let much : cost seat.restart.kind ≡ 172 = ap cost p.kind in omega (arith, e, much)),
+    (let some = at_least p.left rest p.short in let e = p.most in omega (arith, e, some)),
+  )
+  made_few made (IsBroken p) few = (omega arith, omega (arith, few))
+  made_few made IsLost none = (omega (arith, none), omega (arith, none))
+  made_few made (IsPlaced p) none = (omega (arith, none), omega (arith, none))
+  made_few made (IsAt p r) none = (omega (arith, none), omega (arith, none))
+  made_few made IsDone none = (omega (arith, none), omega (arith, none))
 
   -- an act that is no step leaves the row
   leaves_keeps : (made : ℕ) (act : Act) (x y : Standing) → is_step act ≡ false → is_in_row y ≡ false → Paces s 0 y → Paces s made x
-      → Halts act x ⊎ (is_waste act x y ≡ is_work_next (next_of x)) → Keeps made act x y
+      → Halts act x ⊎ (is_strike act x ≡ (is_work_next (next_of x) || is_broken_at x)) → Keeps made act x y
   leaves_keeps made act x y still off paces p why =
       let look : is_work_turn act x ≡ false = ap (λ (b : Bool). b && is_work_next (next_of x)) still in
-      let e : made_then made act x y ≡ 0 = then_look (is_work_turn act x) (is_in_row y) made look in
+      let e : made_then made act x y ≡ 0 = then_look (is_work_turn act x) (keeps_row y) made look in
       let w : one (is_work_turn act x) ≡ 0 = ap one look in
+      let m : most (made_then made act x y) y ≡ most 0 y = ap (λ (n : ℕ). most n y) e in
       let none = none_most y off in
+      let few = made_few made x p in
+      let le = few.0 in
       record {
         pace = subst (λ (n : ℕ). Paces s n y) (sym e) paces;
-        spends = λ b. elim (made_few made x p) [
-          | inl zero_ ↦ omega (arith, w, e, none, zero_)
-          | inr some ↦ let le = some.2 in omega (arith, w, e, none, le)
-        ];
+        spends = λ b. omega (arith, w, e, m, none, le);
         pays = elim why [
           | inl halts ↦ inr (inl halts)
-          | inr waste ↦ inr (inr (elim (made_few made x p) [
-            | inl zero_ ↦ omega (arith, w, zero_)
-            | inr some ↦ let le = some.1 in let z : one (is_waste act x y) ≡ 1 = ap one (waste ∙ some.0) in omega (arith, w, le, z)
-          ]))
+          | inr strike ↦ inr (inr (let z = ap one strike in let most_ = few.1 in omega (arith, w, e, z, most_)))
         ];
       }
 

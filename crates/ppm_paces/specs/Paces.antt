@@ -1,5 +1,5 @@
 -- The pace of a processor: what it has made of its row, and what it still may make.
-use Rattle.std.specs.Prelude.{◌≡◌, ◌<◌, ℕ, ◌+◌, ◌==◌, ◌&&◌, if◌then◌else◌, Bool, true, false, List, [], ◌∷◌}
+use Rattle.std.specs.Prelude.{◌≡◌, ◌≤◌, ◌<◌, ℕ, ◌+◌, ◌==◌, ◌||◌, if◌then◌else◌, Bool, true, false, List, [], ◌∷◌}
 use Rattle.ppm_cells.specs.declared.restart.RestartKind.TheVariants.{Run}
 use Rattle.ppm_cells.specs.declared.shape.Shape.{Shape}
 use Rattle.ppm_code.specs.Code.{IsCode}
@@ -35,32 +35,41 @@ pub record CapsulePaces (s : Shape) (seat : Seat) (made : ℕ) (rest : Rest) : T
   pub short : IsShort left rest
   pub there : rest_is_there s seat rest ≡ true
 
--- a processor that stands there has made so many word steps of its row of work; none where it is in no row
+-- a processor that stands there has made so many word steps of its row of work, or of the one in which it met broken words; none
+-- where it is in no row
 abbrev pub Paces : Shape → (made : ℕ) → Standing → Type 0
 Paces s made (IsWithin seat row) = RowPaces s seat made row
 Paces s made (IsRunning seat rest) = CapsulePaces s seat made rest
+Paces s made (IsBroken place) = made ≤ 171
 Paces s made _ = made ≡ 0
 
--- whether a processor stands in a row or a capsule
+-- whether a processor stands in a row or a capsule, or at broken words
 abbrev pub is_in_row : Standing → Bool
 is_in_row (IsWithin seat row) = true
 is_in_row (IsRunning seat rest) = true
 is_in_row _ = false
 
--- what it has made of its row behind an act: a word step of work is one more, if the row goes on
-abbrev pub made_then : (made : ℕ) → Act → (before behind : Standing) → ℕ
-made_then made act before behind = if is_work_turn act before then (if is_in_row behind then made + 1 else 0) else 0
-
--- whether an act throws a row of work away: a fault that finds it under way, or a step by which it meets broken words
 abbrev pub is_broken_at : Standing → Bool
 is_broken_at (IsBroken place) = true
 is_broken_at _ = false
 
-abbrev pub is_waste : Act → (before behind : Standing) → Bool
-is_waste (Step victim) before behind = is_work_next (next_of before) && is_broken_at behind
-is_waste Soft before behind = is_work_next (next_of before)
-is_waste Hard before behind = is_work_next (next_of before)
-is_waste (Quit why) before behind = false
+abbrev pub keeps_row : Standing → Bool
+keeps_row standing = is_in_row standing || is_broken_at standing
+
+-- what it has made of its row behind an act: a word step of work is one more, if the row goes on or has met broken words
+abbrev pub made_then : (made : ℕ) → Act → (before behind : Standing) → ℕ
+made_then made act before behind = if is_work_turn act before then (if keeps_row behind then made + 1 else 0) else 0
+
+-- whether an act strikes a row of work: it is a fault that finds one under way, or at the broken words that it has met
+abbrev pub is_strike : Act → Standing → Bool
+is_strike (Step victim) standing = false
+is_strike Soft standing = is_work_next (next_of standing) || is_broken_at standing
+is_strike Hard standing = is_work_next (next_of standing) || is_broken_at standing
+is_strike (Quit why) standing = false
+
+-- which turns strike a row, told as the processor whose row it is
+abbrev pub strikes_of : State → Turn → List ℕ
+strikes_of state turn = if is_strike turn.act (stand_of state turn.processor) then turn.processor ∷ [] else []
 
 module _ (s : Shape) (code : CodeParts) where
   -- of a processor, behind a turn and behind turns
@@ -73,11 +82,6 @@ module _ (s : Shape) (code : CodeParts) where
   abbrev pub made_in : (processor : ℕ) → (made : ℕ) → State → List Turn → ℕ
   made_in processor made state [] = made
   made_in processor made state (turn ∷ turns) = made_in processor (made_behind processor made state turn) (happens s code state turn) turns
-
-  -- which turns throw a row of work away, told as the processor that does it
-  abbrev pub wastes_of : State → Turn → List ℕ
-  wastes_of state turn =
-      if is_waste turn.act (stand_of state turn.processor) (stand_of (happens s code state turn) turn.processor) then turn.processor ∷ [] else []
 
 -- along each run of a code each processor keeps its pace
 abbrev pub RowsKeepPace : Type 0

@@ -5,6 +5,11 @@
 -- beginning (`OpenLemmas`) and its end (`OutcomeLemmas`). What a row makes of the tree and of homes, kind by
 -- kind, is `AgreeLemmas`; that both halves join again is `JoinLemmas`, and whole runs are `WholeLemmas`; each of their moments is
 -- `MomentLemmas`, a pool that was found full `SpentLemmas`, and words that come back `BackLemmas`.
+-- That nothing breaks has two halves. Of deques, places and processors: each load of a row
+-- (`SoundRows`), each write (`SoundLemmas`), each act (`SoundTurns`, `SoundJoin`). Of frames: headers are
+-- numbers of capsules and what is over has an outcome (`WellWords`), so rows and capsules of strands
+-- meet no broken words (`WellRows`, `ArrayLemmas`, `WellRuns`, `WellStands`), and that stays
+-- (`WellCapsules`, `WellTurns`). `UnbrokenLemmas` has both in whole runs.
 
 pub mod TameLemmas
 pub mod StandLemmas
@@ -22,3 +27,15 @@ pub mod WholeLemmas
 pub mod MomentLemmas
 pub mod SpentLemmas
 pub mod BackLemmas
+pub mod SoundRows
+pub mod SoundLemmas
+pub mod SoundTurns
+pub mod SoundJoin
+pub mod ArrayLemmas
+pub mod WellRows
+pub mod WellRuns
+pub mod WellStands
+pub mod WellWords
+pub mod WellCapsules
+pub mod WellTurns
+pub mod UnbrokenLemmas

@@ -6,3 +6,7 @@ pub mod Whole
 pub mod Moments
 pub mod Spent
 pub mod Renewals
+pub mod Sound
+pub mod Deques
+pub mod Well
+pub mod Unbroken

@@ -1,10 +1,12 @@
 //! What turns owe, shown by calls that do nothing.
+ghost use Rattle.ppm_runs.specs.Deques.{DequesAreSound};
 ghost use Rattle.ppm_runs.specs.Laws.{BirthsFollow, BrokenFollow, TakersHave, TurnsAreOrderly, TurnsGoOn};
 ghost use Rattle.ppm_runs.specs.Moments.{OnceAtEachMoment, RunsStay, TurnsLeadOn};
 ghost use Rattle.ppm_runs.specs.Openings.{RunsOpen};
 ghost use Rattle.ppm_runs.specs.Outcomes.{RunsEnd, StopsStay};
 ghost use Rattle.ppm_runs.specs.Renewals.{PartsComeTo, RunsComeBack};
 ghost use Rattle.ppm_runs.specs.Spent.{RoomIsSpent};
+ghost use Rattle.ppm_runs.specs.Unbroken.{NothingBreaks};
 ghost use Rattle.ppm_runs.specs.Whole.{JoinsStay, RunsComeTo, TurnsLead};
 
 /// With takeover by places each turn is orderly in a state of a run: block words that it changes
@@ -82,4 +84,12 @@ pub fn room_is_spent()
 pub fn runs_come_back()
     ensures back { RunsComeBack }
     ensures parts { PartsComeTo }
+{}
+
+/// With takeover by places, from an image of a sound code, whatever the turns, as long as fewer than
+/// 2^34 - 1 of them are work: no processor meets broken words, and the finish word says of none that one
+/// has. The deques' half is that a turn keeps what is sound of rows, entries, holders and restart words.
+pub fn nothing_breaks()
+    ensures deques { DequesAreSound }
+    ensures law { NothingBreaks }
 {}

@@ -7,5 +7,7 @@
 
 pub mod SteadyLemmas
 mod EnteringLemmas
+mod RoundLemmas
+mod RowLemmas
 mod EndingLemmas
 mod WaitingLemmas

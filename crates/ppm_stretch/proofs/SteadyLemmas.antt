@@ -246,11 +246,6 @@ module _ {W : Type 0} (told : W → Option (List Event)) where
   moves_same k own a b c w0 w1 w2 m v x f same same_w =
       subst (λ (w : W). Moves told k own a c w0 w m v x false) (sym same_w) (subst (λ (z : Mine). Moves told k own a z w0 w1 m v x false) (sym same) f)
 
-  -- nothing changed
-  pub moves_still : (k : Opening) (own : ℕ) (me me' : Mine) (w w' : W) → IsSeat own me → me' ≡ me → w' ≡ w → Moves told k own me me' w w' 0 0 0 false
-  moves_still k own me me' w w' sits same same_w =
-      subst (λ (v : W). Moves told k own me me' w v 0 0 0 false) (sym same_w) (subst (λ (m : Mine). Moves told k own me m w w 0 0 0 false) (sym same) (moves_none k own me w sits))
-
   -- a step of which a watcher refused to be told
   pub refuses_one : (k : Opening) (own : ℕ) (me me' : Mine) (w w' : W) (v x : ℕ) (p : Bool) (lives : Bool) (most : ℕ) → 0 < most → IsSeat own me → Goes k own me me' 1 v x p
       → KeepsList (told w) (told w') → Lives k own me' lives → Refuses told k own me me' w w' lives most
@@ -334,6 +329,19 @@ module _ {W : Type 0} (told : W → Option (List Event)) where
     refuses = refuses_both k own a b g.behind w0 w1 w2 m v x p g.lives n most within f g.refuses;
     quits = g.quits;
   }
+
+  -- steps of which none was refused, by their numbers
+  pub row_makes : (k : Opening) (own : ℕ) (a b : Mine) (w0 w1 : W) (m v x : ℕ) (p : Bool) (steps : Steps)
+      → steps ≡ record { made = m; work = v; looks = x; exchanged = p; refused = false } → Moves told k own a b w0 w1 m v x p → Makes told k own a b w0 w1 steps
+  row_makes k own a b w0 w1 m v x p steps is f = λ fine. subst (λ (s : Steps). Moves told k own a b w0 w1 s.made s.work s.looks s.exchanged) (sym is) f
+
+  pub row_stops : (k : Opening) (own : ℕ) (a b : Mine) (w0 w1 : W) (m v x : ℕ) (p : Bool) (most : ℕ) (steps : Steps)
+      → steps ≡ record { made = m; work = v; looks = x; exchanged = p; refused = false } → Stops told k own a b w0 w1 most steps
+  row_stops k own a b w0 w1 m v x p most steps is = λ refused. let e : true ≡ false = sym refused ∙ ap (λ (s : Steps). s.refused) is in absurd cc
+
+  pub row_few : (m v x : ℕ) (p : Bool) (most : ℕ) (steps : Steps) → steps ≡ record { made = m; work = v; looks = x; exchanged = p; refused = false }
+      → m ≤ most → v ≤ m → x ≤ m → (steps.made ≤ most) × (steps.work ≤ steps.made) × (steps.looks ≤ steps.made)
+  row_few m v x p most steps is few works looks = subst (λ (s : Steps). (s.made ≤ most) × (s.work ≤ s.made) × (s.looks ≤ s.made)) (sym is) (few, works, looks)
 
   -- so a known list keeps what it had in front
   moves_keep : (k : Opening) (own : ℕ) (me me' : Mine) (w w' : W) (m v x : ℕ) (p : Bool) → Moves told k own me me' w w' m v x p → Keeps (told w) (told w')

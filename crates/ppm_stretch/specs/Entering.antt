@@ -1,5 +1,5 @@
 -- The steps with which a capsule of a frame begins and goes round.
-use Rattle.std.specs.Prelude.{false, ◌≡◌, ◌≤◌, true, ℕ, ◌+◌, List, Option, Some, None, slice_get}
+use Rattle.std.specs.Prelude.{false, ◌≡◌, ◌≤◌, ◌<◌, true, ℕ, ◌+◌, List, Option, Some, None, slice_get}
 use Rattle.ppm_code.specs.declared.code.CodeParts.{CodeParts}
 use Rattle.ppm_cells.specs.declared.restart.RestartKind.TheVariants.{Run}
 use Rattle.ppm_cells.specs.declared.shape.Shape.{Shape}
@@ -10,18 +10,23 @@ use Rattle.ppm_step.specs.declared.row.Then.TheVariants.{Load}
 use Rattle.ppm_cells.specs.declared.restart.Restart.{Restart}
 use Rattle.ppm_step.specs.declared.ask.Want.TheVariants.{Stores as WantsStore}
 use Rattle.ppm_step.specs.declared.frame.Home.{Home}
-use Rattle.ppm_step.specs.Frames.{Rest, other_copy}
+use Rattle.ppm_step.specs.Frames.{Rest, other_copy, rest_of}
+use Rattle.ppm_code.specs.Capsules.{capsule_from, reached}
 use Rattle.ppm_code.specs.declared.code.Capsule.{Capsule}
 use Rattle.ppm_stretch.specs.declared.way.Stretch.{Stretch}
 use Rattle.ppm_stretch.specs.declared.way.Halt.{Halt}
 use Rattle.ppm_stretch.specs.declared.way.Halt.TheVariants as halts
+use Rattle.ppm_stretch.specs.declared.way.RoundEnd.{RoundEnd}
+use Rattle.ppm_stretch.specs.declared.way.RoundEnd.TheVariants as ends
 use Rattle.ppm_stretch.specs.declared.way.Turned.{Turned}
+use Rattle.ppm_stretch.specs.declared.way.Way.{Way}
+use Rattle.ppm_stretch.specs.declared.way.Way.TheVariants as ways
 use Rattle.ppm_stretch.specs.declared.way.Turned.TheVariants as turned
 use Rattle.ppm_stretch.specs.declared.way.Begun.{Begun}
 use Rattle.ppm_stretch.specs.declared.way.Begun.TheVariants as begun
 use Rattle.ppm_words.specs.declared.event.Event.{Event}
-use Rattle.ppm_stretch.specs.Steady.{Moves, Refuses, LedTo, StandsAt, StandsReached}
-use Rattle.ppm_step.specs.Standings.{IsDone, IsBroken, enters, IsAt, IsWithin, IsRunning, wanted_rest}
+use Rattle.ppm_stretch.specs.Steady.{Moves, Refuses, LedTo, HasReached}
+use Rattle.ppm_step.specs.Standings.{Standing, IsDone, IsBroken, enters, IsAt, IsWithin, IsRunning, running, wanted_rest}
 use Rattle.ppm_table.specs.declared.view.Opening.{Opening}
 use Rattle.ppm_table.specs.Run.{stands_by, deeds_in, Mine}
 
@@ -42,6 +47,32 @@ pub record IsToStore (k : Opening) (s : Shape) (seat : Seat) (at word : ℕ) (me
   pub rest : Rest
   pub stands : stands_by k seat.own (deeds_in me.0) ≡ IsRunning seat rest
   pub wants : wanted_rest s seat rest ≡ WantsStore at word
+
+-- where a round halts in the capsule with a number, by what came of its instructions
+abbrev pub halt_behind : (number : ℕ) → Way → RoundEnd
+halt_behind number (ways.Made at) = ends.Halts (halts.Midway number at)
+halt_behind number (ways.Stops next what) = ends.Halts (halts.Stopped number next what)
+halt_behind number ways.Breaks = ends.Halts halts.Broken
+halt_behind number ways.Refused = ends.Refused true
+
+-- the looks behind its last work where a processor halts: that at the finish word, by which it is done
+abbrev pub looks_at : Halt → ℕ
+looks_at halts.Done = 1
+looks_at halts.Broken = 0
+looks_at (halts.Midway number at) = 0
+looks_at (halts.Stopped number next what) = 0
+
+-- where it stands that halts there, with these registers
+abbrev pub HaltsAt : Shape → CodeParts → Seat → Home → List ℕ → Halt → Standing → Type 0
+HaltsAt s code seat home registers halts.Done standing = standing ≡ IsDone
+HaltsAt s code seat home registers halts.Broken standing = standing ≡ IsBroken seat.place
+HaltsAt s code seat home registers (halts.Midway number at) standing =
+    (capsule : Capsule) × (slice_get code.capsules number ≡ Some capsule)
+    × (standing ≡ running s seat (rest_of s code seat.place home (capsule_from s.arrays 0 at capsule.instrs registers)))
+HaltsAt s code seat home registers (halts.Stopped number next what) standing =
+    (capsule : Capsule) × (slice_get code.capsules number ≡ Some capsule)
+    × (HasReached s capsule.instrs next what registers
+    × (standing ≡ running s seat (rest_of s code seat.place home (reached s.arrays capsule.instrs next what registers))))
 
 -- the frame goes on with the other copy of its header
 abbrev pub goes_round : Seat → Home → Restart
@@ -72,18 +103,10 @@ module _ {W : Type 0} (told : W → Option (List Event)) where
       (capsule : Capsule) × (slice_get code.capsules number ≡ Some capsule)
       × LedTo told k s code seat home capsule.instrs registers me me' w w' most stretch.made stretch.way
 
-  -- where a processor stands behind a round of at most so many steps
-  abbrev pub Circled : Opening → Shape → CodeParts → Seat → Home → List ℕ → Mine → Mine → W → W → (most made work : ℕ) → Halt → Type 0
-  Circled k s code seat home registers me me' w w' most made work halts.Done =
-      Moves told k seat.own me me' w w' made work 1 false × (stands_by k seat.own (deeds_in me'.0) ≡ IsDone)
-  Circled k s code seat home registers me me' w w' most made work halts.Broken =
-      Moves told k seat.own me me' w w' made work 0 false × (stands_by k seat.own (deeds_in me'.0) ≡ IsBroken seat.place)
-  Circled k s code seat home registers me me' w w' most made work halts.Round =
+  -- what came of a round of at most so many steps
+  abbrev pub Circled : Opening → Shape → CodeParts → Seat → Home → List ℕ → Mine → Mine → W → W → (most made work : ℕ) → RoundEnd → Type 0
+  Circled k s code seat home registers me me' w w' most made work ends.Round =
       Moves told k seat.own me me' w w' made work 0 false × (stands_by k seat.own (deeds_in me'.0) ≡ IsAt seat.place (Some (goes_round seat home)))
-  Circled k s code seat home registers me me' w w' most made work (halts.Midway number at) =
-      Moves told k seat.own me me' w w' made work 0 false
-      × ((capsule : Capsule) × (slice_get code.capsules number ≡ Some capsule) × StandsAt k s code seat home capsule.instrs at registers me')
-  Circled k s code seat home registers me me' w w' most made work (halts.Stopped number next what) =
-      Moves told k seat.own me me' w w' made work 0 false
-      × ((capsule : Capsule) × (slice_get code.capsules number ≡ Some capsule) × StandsReached k s code seat home capsule.instrs next what registers me')
-  Circled k s code seat home registers me me' w w' most made work (halts.Refused lives) = Refuses told k seat.own me me' w w' lives most
+  Circled k s code seat home registers me me' w w' most made work (ends.Halts halt) =
+      (0 < made) × Moves told k seat.own me me' w w' made work (looks_at halt) false × HaltsAt s code seat home registers halt (stands_by k seat.own (deeds_in me'.0))
+  Circled k s code seat home registers me me' w w' most made work (ends.Refused lives) = Refuses told k seat.own me me' w w' lives most

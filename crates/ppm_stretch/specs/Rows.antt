@@ -1,5 +1,5 @@
 -- Steps in a row, whatever rows they are of.
-use Rattle.std.specs.Prelude.{◌≡◌, ◌⊎◌, ℕ, Bool, true, false, List, [], ◌∷◌, ◌++◌, Option}
+use Rattle.std.specs.Prelude.{◌≡◌, ◌≢◌, ◌⊎◌, ℕ, Bool, true, false, List, [], ◌∷◌, ◌++◌, Option}
 use Rattle.ppm_code.specs.declared.work.Reached.{Reached}
 use Rattle.ppm_code.specs.declared.work.Reached.TheVariants.{Before, AtEnd}
 use Rattle.ppm_words.specs.declared.event.Event.{Event}
@@ -7,7 +7,7 @@ use Rattle.ppm_step.specs.declared.running.Stage.{Stage}
 use Rattle.ppm_step.specs.declared.running.Stage.TheVariants as stages
 use Rattle.ppm_table.specs.declared.view.Opening.{Opening}
 use Rattle.ppm_stretch.specs.declared.way.Steps.{Steps}
-use Rattle.ppm_step.specs.Standings.{Standing}
+use Rattle.ppm_step.specs.Standings.{Standing, IsDone}
 use Rattle.ppm_step.specs.State.{next_of, seeks_holder}
 use Rattle.ppm_step.specs.declared.turn.Next.TheVariants.{Seek, Done}
 use Rattle.ppm_step.specs.declared.turn.Why.TheVariants.{Watch}
@@ -44,3 +44,9 @@ module _ {W : Type 0} (told : W → Option (List Event)) where
 -- something is to be chosen for the coming step: a victim is due, or the processor would seek work; or it takes no step any more
 abbrev pub IsChoosing : Standing → Type 0
 IsChoosing standing = (seeks_holder standing ≡ true) ⊎ ((next_of standing ≡ Seek) ⊎ (next_of standing ≡ Done))
+
+-- nothing is, and it takes one
+pub record IsFree (standing : Standing) : Type 0 where
+  pub lives : standing ≢ IsDone
+  pub due : seeks_holder standing ≡ false
+  pub seeks : next_of standing ≢ Seek

@@ -9,14 +9,14 @@ ghost use Rattle.ppm_step.specs.Facts.{IsHome, IsSeat as IsPlace};
 ghost use Rattle.ppm_step.specs.Frames.{Rest, ending};
 ghost use Rattle.ppm_step.specs.declared.ask.Want.TheVariants as wants;
 ghost use Rattle.ppm_step.specs.Standings.{at_finish, enters, running, went_rest, wanted_rest, IsRunning};
-ghost use Rattle.ppm_stretch.specs.Entering.{HasBegun, HasTurned, Circled, WentAlong, StandsBefore, StandsAtHeader, IsToStore};
+ghost use Rattle.ppm_stretch.specs.Entering.{HasBegun, HasTurned, Circled, WentAlong, halt_behind, StandsBefore, StandsAtHeader, IsToStore};
 ghost use Rattle.ppm_ports.specs.Told.{KeepsList};
-ghost use Rattle.ppm_stretch.specs.declared.way.Halt.TheVariants.{Refused, Round};
+ghost use Rattle.ppm_stretch.specs.declared.way.RoundEnd.TheVariants.{Refused, Round};
 ghost use Rattle.ppm_table.specs.Run.{stands_by, deeds_in, IsAtCode, IsAtTable, IsSeat};
 ghost use Rattle.ppm_stretch.specs.Steady.{Goes, Moves};
 
 use crate::capsule::go_along;
-use crate::way::{Begun, Circuit, Halt, Stretch, Turned, Way};
+use crate::way::{Begun, Circuit, Halt, RoundEnd, Stretch, Turned, Way};
 use atomic_table::Seat;
 use ppm_cells::{Cell, Shape};
 use ppm_code::{Code, End, Reached};
@@ -281,8 +281,8 @@ pub(crate) fn round<W: Watch>(
     requires stands { StandsBefore words.now.shared.key place.now mine.old.me }
     ensures table { mine.new.table_id ≡ mine.old.table_id }
     ensures few { result.made ≤ most }
-    ensures on { (result.work ≤ result.made) × (result.halt ≡ Round → 0 < result.made) }
-    ensures circled { Circled W.told words.now.shared.key shape.now code.now place.now home.now registers.new mine.old.me mine.new.me watch.old watch.new most result.made result.work result.halt }
+    ensures on { (result.work ≤ result.made) × (result.end ≡ Round → 0 < result.made) }
+    ensures circled { Circled W.told words.now.shared.key shape.now code.now place.now home.now registers.new mine.old.me mine.new.me watch.old watch.new most result.made result.work result.end }
 {
     let number = match begin(
         words, shape, code, mine, watch, place, home.frame, home.copy, header,
@@ -292,7 +292,7 @@ pub(crate) fn round<W: Watch>(
             return Circuit {
                 made: 1,
                 work: 0,
-                halt: Halt::Done,
+                end: RoundEnd::Halts(Halt::Done),
             };
         }
         Begun::Refused(lives) => return refused(lives),
@@ -312,56 +312,56 @@ pub(crate) fn round<W: Watch>(
         return Circuit {
             made: 2,
             work: 1,
-            halt: Halt::Broken,
+            end: RoundEnd::Halts(Halt::Broken),
         };
     };
     let made = stretch.made;
-    match stretch.way {
-        Way::Refused => refused(true),
-        Way::Breaks => Circuit {
-            made: made + 2,
-            work: made + 1,
-            halt: Halt::Broken,
-        },
-        Way::Made(at) => Circuit {
-            made: made + 2,
-            work: made + 1,
-            halt: Halt::Midway(number, at),
-        },
-        Way::Stops(next, what) => {
-            if most - made >= 4 {
-                if let Reached::AtEnd(End::Next { capsule }) = what {
-                    return match go_round(words, shape, code, mine, watch, place, home, capsule) {
-                        Turned::Round => Circuit {
-                            made: made + 4,
-                            work: made + 3,
-                            halt: Halt::Round,
-                        },
-                        Turned::Breaks(stored) => Circuit {
-                            made: made + 2 + stored,
-                            work: made + 1 + stored,
-                            halt: Halt::Broken,
-                        },
-                        Turned::Refused => refused(true),
-                    };
-                }
-            }
-            Circuit {
-                made: made + 2,
-                work: made + 1,
-                halt: Halt::Stopped(number, next, what),
+    if let Way::Stops(_, what) = stretch.way {
+        if most - made >= 4 {
+            if let Reached::AtEnd(End::Next { capsule }) = what {
+                return match go_round(words, shape, code, mine, watch, place, home, capsule) {
+                    Turned::Round => Circuit {
+                        made: made + 4,
+                        work: made + 3,
+                        end: RoundEnd::Round,
+                    },
+                    Turned::Breaks(stored) => Circuit {
+                        made: made + 2 + stored,
+                        work: made + 1 + stored,
+                        end: RoundEnd::Halts(Halt::Broken),
+                    },
+                    Turned::Refused => refused(true),
+                };
             }
         }
+    }
+    Circuit {
+        made: made + 2,
+        work: made + 1,
+        end: halt_behind(number, stretch.way),
+    }
+}
+
+/// Where a round halts in the capsule with this number, by what came of its instructions.
+#[inline(always)]
+fn halt_behind(number: u64, way: Way) -> RoundEnd
+    ensures { result ≡ halt_behind number way }
+{
+    match way {
+        Way::Made(at) => RoundEnd::Halts(Halt::Midway(number, at)),
+        Way::Stops(next, what) => RoundEnd::Halts(Halt::Stopped(number, next, what)),
+        Way::Breaks => RoundEnd::Halts(Halt::Broken),
+        Way::Refused => RoundEnd::Refused(true),
     }
 }
 
 /// The watcher refused; whether the processor is still to take a step.
 fn refused(lives: bool) -> Circuit
-    ensures { result ≡ record { made = 0; work = 0; halt = Refused lives } }
+    ensures { result ≡ record { made = 0; work = 0; end = Refused lives } }
 {
     Circuit {
         made: 0,
         work: 0,
-        halt: Halt::Refused(lives),
+        end: RoundEnd::Refused(lives),
     }
 }

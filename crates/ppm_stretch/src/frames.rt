@@ -6,18 +6,19 @@ ghost use Rattle.ppm_step.specs.Facts.{IsEnd, IsHome, IsSeat as IsPlace};
 ghost use Rattle.ppm_step.specs.Frames.{ending};
 ghost use Rattle.ppm_step.specs.Standings.{IsAt, running};
 ghost use Rattle.ppm_table.specs.Run.{stands_by, deeds_in, IsAtCode, IsSeat};
+ghost use Rattle.ppm_stretch.specs.Entering.{looks_at};
 ghost use Rattle.ppm_stretch.specs.Rows.{Makes, Stops};
 
 use crate::ending::end_at;
 use crate::entering::round;
 use crate::refusing::withdraw;
-use crate::waiting::{wait_at, wait_broken, wait_ending, wait_midway, wait_stopped};
-use crate::way::{EndStep, Halt, REFUSED, Steps, row};
+use crate::waiting::{wait_at, wait_broken, wait_ending, wait_halted};
+use crate::way::{EndStep, Halt, REFUSED, RoundEnd, Steps, row};
 use atomic_table::Seat;
 use ppm_cells::{Restart, RestartKind, Shape};
 use ppm_code::{Code, End};
 use ppm_ports::Watch;
-use ppm_step::{Home, Local, Running, Seat as Place, Stand, header_of};
+use ppm_step::{Home, Local, Running, Seat as Place, header_of};
 use ppm_table::{View, Words};
 
 /// Goes through capsules of the frame that the place goes on with, each from its beginning, at most
@@ -83,8 +84,8 @@ pub(crate) fn rounds<W: Watch>(
             &mut local.registers,
             most - made,
         );
-        match circuit.halt {
-            Halt::Round => {
+        match circuit.end {
+            RoundEnd::Round => {
                 at = Restart {
                     kind: home.goes_round(),
                     bottom: at.bottom,
@@ -92,23 +93,16 @@ pub(crate) fn rounds<W: Watch>(
                 made += circuit.made;
                 work += circuit.work;
             }
-            Halt::Done => {
-                local.stand = Stand::Done;
-                return row(made + circuit.made, work + circuit.work, 1, false);
+            RoundEnd::Halts(halt) => {
+                wait_halted(local, shape, code, seat, home, halt);
+                return row(
+                    made + circuit.made,
+                    work + circuit.work,
+                    looks_at(halt),
+                    false,
+                );
             }
-            Halt::Broken => {
-                wait_broken(local, shape, code, place);
-                return row(made + circuit.made, work + circuit.work, 0, false);
-            }
-            Halt::Midway(number, instr) => {
-                wait_midway(local, shape, code, seat, home, number, instr);
-                return row(made + circuit.made, work + circuit.work, 0, false);
-            }
-            Halt::Stopped(number, next, what) => {
-                wait_stopped(local, shape, code, seat, home, number, next, what);
-                return row(made + circuit.made, work + circuit.work, 0, false);
-            }
-            Halt::Refused(lives) => {
+            RoundEnd::Refused(lives) => {
                 withdraw(local, words, mine, shape, code, lives);
                 return REFUSED;
             }
@@ -116,6 +110,17 @@ pub(crate) fn rounds<W: Watch>(
     }
     wait_at(local, shape, code, place, at);
     row(made, work, 0, false)
+}
+
+/// The looks behind its last work where a processor halts.
+#[inline(always)]
+fn looks_at(halt: Halt) -> u64
+    ensures { result ≡ looks_at halt }
+{
+    match halt {
+        Halt::Done => 1,
+        Halt::Broken | Halt::Midway(..) | Halt::Stopped(..) => 0,
+    }
 }
 
 /// Makes the stores of the end that a capsule of a frame has come to, from the n-th on, at most so

@@ -10,7 +10,7 @@ ghost use Rattle.ppm_step.specs.declared.turn.Next.TheVariants.{Seek};
 ghost use Rattle.ppm_table.specs.Run.{stands_by, deed_by, deeds_in, IsAtCode, IsSeat};
 ghost use Rattle.ppm_table.specs.Shown.{IsOf, opening_of};
 ghost use Rattle.ppm_table.specs.Telling.{Keeps};
-ghost use Rattle.ppm_stretch.specs.Rows.{IsChoosing, Makes, Stops};
+ghost use Rattle.ppm_stretch.specs.Rows.{IsChoosing, IsFree, Makes, Stops};
 ghost use Rattle.ppm_stretch.specs.Steady.{Moves, Refuses, is_exchange, looks_behind};
 
 use crate::frames::{ends, rounds};
@@ -92,6 +92,62 @@ fn one<W: Watch>(
     }
 }
 
+/// Goes on by the capsules of frames before which the processor stands, or by the stores of an end;
+/// where it stands elsewhere, by no step.
+#[inline(always)]
+fn frame_steps<W: Watch>(
+    local: &mut Local,
+    words: &Words,
+    mine: &mut Seat<(), View>,
+    watch: &mut W,
+    shape: &Shape,
+    code: &Code,
+    most: u64,
+) -> Steps
+    requires table { IsAtCode mine.old.table_id words.now.shared.table_id words.now.shared.key shape.now code.now }
+    requires most { 0 < most }
+    requires local { IsLocal shape.now code.now local.old }
+    requires sits { IsSeat local.old.own mine.old.me }
+    requires stands { standing_of shape.now code.now local.old ≡ stands_by words.now.shared.key local.old.own (deeds_in mine.old.me.0) }
+    ensures table { mine.new.table_id ≡ mine.old.table_id }
+    ensures few { (result.made ≤ most) × (result.work ≤ result.made) × (result.looks ≤ result.made) }
+    ensures makes { Makes W.told words.now.shared.key local.old.own mine.old.me mine.new.me watch.old watch.new result }
+    ensures stops { Stops W.told words.now.shared.key local.old.own mine.old.me mine.new.me watch.old watch.new most result }
+    ensures sits_on { IsSeat local.old.own mine.new.me }
+    ensures stands_on { standing_of shape.now code.now local.new ≡ stands_by words.now.shared.key local.old.own (deeds_in mine.new.me.0) }
+    ensures holds { IsLocal shape.now code.now local.new }
+    ensures own_stays { local.new.own ≡ local.old.own }
+{
+    let _ = code.parts().root;
+    if let Stand::At { place, restart } = local.stand {
+        if let Some(restart) = restart {
+            if is_of_frame(restart.kind) && most >= 2 {
+                return rounds(local, words, mine, watch, shape, code, place, restart, most);
+            }
+        }
+    }
+    if let Stand::Runs(under_way) = local.stand {
+        if let Stage::Ending(end, n) = under_way.stage {
+            return ends(
+                local, words, mine, watch, shape, code, under_way, end, n, most,
+            );
+        }
+    }
+    NONE
+}
+
+/// Whether there was any step, one that was refused among them.
+#[inline(always)]
+fn is_any(steps: Steps) -> bool
+    ensures some { result ≡ true → steps.refused ≡ false → 0 < steps.made }
+    ensures none { result ≡ false → (steps.refused ≡ false) × (steps.made ≡ 0) }
+{
+    if steps.refused {
+        return true;
+    }
+    steps.made > 0
+}
+
 /// Goes on by the capsules of frames before which the processor stands, by the stores of an end, or
 /// by one step for which nothing is to be chosen; where it is to choose, by none.
 #[inline(always)]
@@ -119,33 +175,9 @@ fn some_steps<W: Watch>(
     ensures holds { IsLocal shape.now code.now local.new }
     ensures own_stays { local.new.own ≡ local.old.own }
 {
-    if let Stand::At { place, restart } = local.stand {
-        if let Some(restart) = restart {
-            if is_of_frame(restart.kind) && most >= 2 {
-                let circled = rounds(local, words, mine, watch, shape, code, place, restart, most);
-                if circled.refused {
-                    return circled;
-                }
-                if circled.made > 0 {
-                    return circled;
-                }
-                return other_step(local, words, mine, watch, shape, code);
-            }
-        }
-    }
-    if let Stand::Runs(under_way) = local.stand {
-        if let Stage::Ending(end, n) = under_way.stage {
-            let ended = ends(
-                local, words, mine, watch, shape, code, under_way, end, n, most,
-            );
-            if ended.refused {
-                return ended;
-            }
-            if ended.made > 0 {
-                return ended;
-            }
-            return other_step(local, words, mine, watch, shape, code);
-        }
+    let framed = frame_steps(local, words, mine, watch, shape, code, most);
+    if is_any(framed) {
+        return framed;
     }
     other_step(local, words, mine, watch, shape, code)
 }
@@ -181,30 +213,59 @@ fn other_step<W: Watch>(
     ensures own_stays { local.new.own ≡ local.old.own }
 {
     let _ = code.parts().root;
-    if is_due(local) {
+    if is_choosing(local) {
         return NONE;
     }
+    let works = is_work(local);
+    let step = one(local, words, mine, watch, shape, code);
+    if step.fine {
+        row_of_one(works, step.exchanged)
+    } else {
+        give_way(local, words, mine, shape, code);
+        REFUSED
+    }
+}
+
+/// One step, by whether it is work and whether it was a compare-and-modify.
+#[inline(always)]
+fn row_of_one(works: bool, exchanged: bool) -> Steps
+    ensures { result
+        ≡ record { made = 1; work = if works then 1 else 0; looks = if works then 0 else 1; exchanged = exchanged; refused = false } }
+{
+    if works {
+        row(1, 1, 0, exchanged)
+    } else {
+        row(1, 0, 1, exchanged)
+    }
+}
+
+/// Whether something is to be chosen for the coming step, or the processor takes none any more.
+#[inline(always)]
+fn is_choosing(local: &Local) -> bool
+    ensures choosing { result ≡ true → (s : Shape) (code : CodeParts) → IsChoosing (standing_of s code local.now) }
+    ensures free { result ≡ false → (s : Shape) (code : CodeParts) → IsFree (standing_of s code local.now) }
+{
+    if is_due(local) {
+        return true;
+    }
     match local.next() {
-        Next::Work => {
-            let step = one(local, words, mine, watch, shape, code);
-            if step.fine {
-                row(1, 1, 0, step.exchanged)
-            } else {
-                give_way(local, words, mine, shape, code);
-                REFUSED
-            }
-        }
-        Next::Look => {
-            let look = one(local, words, mine, watch, shape, code);
-            if look.fine {
-                row(1, 0, 1, look.exchanged)
-            } else {
-                give_way(local, words, mine, shape, code);
-                REFUSED
-            }
-        }
-        Next::Seek => NONE,
-        Next::Done => NONE,
+        Next::Work => false,
+        Next::Look => false,
+        Next::Seek => true,
+        Next::Done => true,
+    }
+}
+
+/// Whether the coming step is work.
+#[inline(always)]
+fn is_work(local: &Local) -> bool
+    ensures { (s : Shape) (code : CodeParts) → result ≡ is_work_next s code (next_of (standing_of s code local.now)) }
+{
+    match local.next() {
+        Next::Work => true,
+        Next::Look => false,
+        Next::Seek => false,
+        Next::Done => false,
     }
 }
 

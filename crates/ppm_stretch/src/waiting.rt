@@ -9,10 +9,12 @@ ghost use Rattle.ppm_step.specs.Locals.{IsLocal, standing_of};
 ghost use Rattle.ppm_step.specs.Standings.{IsAt, running, rest_is_there};
 ghost use Rattle.ppm_step.specs.Stages.{IsStage, rest_at};
 ghost use Rattle.std.specs.Prelude.{length};
-ghost use Rattle.ppm_step.specs.Standings.{IsBroken};
+ghost use Rattle.ppm_step.specs.Standings.{IsBroken, Standing};
+ghost use Rattle.ppm_stretch.specs.Entering.{HaltsAt};
 ghost use Rattle.ppm_stretch.specs.Rows.{stage_of};
 ghost use Rattle.ppm_stretch.specs.Steady.{HasReached};
 
+use crate::way::Halt;
 use ppm_cells::{Restart, Shape};
 use ppm_code::{Code, End, Reached, Step};
 use ppm_step::{Home, Local, Running, Seat as Place, Stage, Stand, location_is_there};
@@ -48,8 +50,8 @@ pub(crate) fn wait_broken(local: &mut Local, shape: &Shape, code: &Code, place: 
 }
 
 /// Stands before an instruction of the capsule with a number.
-#[inline(never)]
-pub(crate) fn wait_midway(
+#[inline(always)]
+fn wait_midway(
     local: &mut Local,
     shape: &Shape,
     code: &Code,
@@ -100,8 +102,8 @@ fn running_at(
 }
 
 /// Stands in the capsule with a number where register work has come to.
-#[inline(never)]
-pub(crate) fn wait_stopped(
+#[inline(always)]
+fn wait_stopped(
     local: &mut Local,
     shape: &Shape,
     code: &Code,
@@ -163,6 +165,36 @@ pub(crate) fn wait_ending(
         local.stand = Stand::Runs(under_way);
     } else {
         local.stand = Stand::Broken { place: seat.place };
+    }
+}
+
+/// Stands where a round of a frame has halted.
+#[inline(never)]
+pub(crate) fn wait_halted(
+    local: &mut Local,
+    shape: &Shape,
+    code: &Code,
+    seat: Place,
+    home: Home,
+    halt: Halt,
+)
+    requires seat { IsPlace shape.now seat }
+    requires own { seat.own ≡ local.old.own }
+    requires home { IsHome home }
+    requires halts { (standing : Standing) × HaltsAt shape.now code.now seat home local.old.registers halt standing }
+    ensures stands { (standing : Standing) → HaltsAt shape.now code.now seat home local.old.registers halt standing
+        → standing_of shape.now code.now local.new ≡ standing }
+    ensures holds { IsLocal shape.now code.now local.new }
+    ensures own_stays { local.new.own ≡ local.old.own }
+{
+    let _ = (shape.slots, code.parts().root);
+    match halt {
+        Halt::Done => local.stand = Stand::Done,
+        Halt::Broken => wait_broken(local, shape, code, seat.place),
+        Halt::Midway(number, at) => wait_midway(local, shape, code, seat, home, number, at),
+        Halt::Stopped(number, next, what) => {
+            wait_stopped(local, shape, code, seat, home, number, next, what);
+        }
     }
 }
 

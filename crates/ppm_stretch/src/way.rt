@@ -76,30 +76,37 @@ pub enum EndStep {
     Refused,
 }
 
-/// Where a processor stands behind a round of a frame.
+/// Where a processor stands that does not go round.
 #[derive(Clone, Copy, Debug, PartialEq, Eq)]
 pub enum Halt {
     /// It is done.
     Done,
     /// It has met broken words.
     Broken,
-    /// Before the next capsule of the frame.
-    Round,
     /// Before this instruction of the capsule with this number.
     Midway(u64, usize),
     /// In the capsule with this number, at an end or where it asks for words; behind that comes
     /// this instruction.
     Stopped(u64, usize, Reached),
+}
+
+/// How a round of a frame ended.
+#[derive(Clone, Copy, Debug, PartialEq, Eq)]
+pub enum RoundEnd {
+    /// Before the next capsule of the frame.
+    Round,
+    /// The processor stands there.
+    Halts(Halt),
     /// The watcher refused; whether the processor is still to take a step.
     Refused(bool),
 }
 
-/// A round of a frame: so many steps, of which so many were work, and where it ended.
+/// A round of a frame: so many steps, of which so many were work, and how it ended.
 #[derive(Clone, Copy, Debug, PartialEq, Eq)]
 pub struct Circuit {
     pub made: u64,
     pub work: u64,
-    pub halt: Halt,
+    pub end: RoundEnd,
 }
 
 /// What came of one step.

@@ -62,7 +62,15 @@ fn are_fronts<R: Abort>(
     let plan = plan_of(alloc, "none", 3)?;
     for own in 0..3u32 {
         let told = watch.get(own as usize).ok_or("a watcher")?;
-        let fine = obeys(&shape, &code, &plan, limits, own, told.events.as_slice(), true);
+        let fine = obeys(
+            &shape,
+            &code,
+            &plan,
+            limits,
+            own,
+            told.events.as_slice(),
+            true,
+        );
         assert!(rt; fine, "processor {own}");
     }
     Ok(())

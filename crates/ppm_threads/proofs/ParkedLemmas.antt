@@ -128,8 +128,11 @@ quits_parked plan limits k own deeds deeds' pace victims before now event r idle
       gave_up = gave_up;
       told = told;
       refused = event;
-      up_to = inr (quit, told_quit plan limits k own deeds o.past o.follows
-          ∙ ap (λ (l : List Event). (told ++ l) ++ quit ∷ []) (parked_before plan limits k own o.past (stands_by k own deeds) idle r.rests
-          ∙ ap (λ (e : Event). e ∷ []) (sym is)));
+      up_to = inr (
+        quit,
+        told_quit plan limits k own deeds o.past o.follows
+            ∙ ap (λ (l : List Event). (told ++ l) ++ quit ∷ []) (parked_before plan limits k own o.past (stands_by k own deeds) idle r.rests
+            ∙ ap (λ (e : Event). e ∷ []) (sym is)),
+      );
       grows = grows_still before now told kept;
     }

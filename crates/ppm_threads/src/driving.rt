@@ -57,13 +57,7 @@ fn run_all<W: Watch, R: Threads + Wait + Sync>(
         return true;
     }
     if processors.len() == 1 {
-        return run_one(
-            rt,
-            crew,
-            &mut processors[0],
-            &mut parkers[0],
-            &mut watch[0],
-        );
+        return run_one(rt, crew, &mut processors[0], &mut parkers[0], &mut watch[0]);
     }
     let half = processors.len() / 2;
     let (a, b) = processors.split_at_mut(half);

@@ -210,7 +210,15 @@ fn rest_first<W: Watch, R: Wait>(
     park(rt, parker);
     pace.rest();
     // Its looks count from 0 again, so with any limit above that it doesn't rest at once.
-    let Some(act) = next_act(pace, victims, crew.plan, Limits { looks: 1, ..crew.limits }) else {
+    let Some(act) = next_act(
+        pace,
+        victims,
+        crew.plan,
+        Limits {
+            looks: 1,
+            ..crew.limits
+        },
+    ) else {
         unreachable!()
     };
     way_of(make(crew, processor, pace, watch, act))
@@ -241,9 +249,7 @@ fn act<W: Watch, R: Wait>(
         return Way::Over;
     }
     let Some(act) = next_act(pace, victims, crew.plan, crew.limits) else {
-        return rest_first(
-            rt, crew, parker, processor, pace, victims, watch,
-        );
+        return rest_first(rt, crew, parker, processor, pace, victims, watch);
     };
     way_of(make(crew, processor, pace, watch, act))
 }
@@ -273,9 +279,7 @@ fn go_on<W: Watch, R: Wait>(
         return Way::Refused;
     };
     if made == 0 {
-        return act(
-            rt, crew, parker, processor, pace, victims, watch,
-        );
+        return act(rt, crew, parker, processor, pace, victims, watch);
     }
     Way::More
 }
@@ -300,15 +304,7 @@ pub(crate) fn run<W: Watch, R: Wait>(
         if pace.work >= MOST_WORK {
             continue;
         }
-        match go_on(
-            rt,
-            crew,
-            parker,
-            processor,
-            &mut pace,
-            &mut victims,
-            watch,
-        ) {
+        match go_on(rt, crew, parker, processor, &mut pace, &mut victims, watch) {
             Way::More => stand_back(&pace, &backoff),
             Way::Over => return true,
             Way::Refused => return false,

@@ -1,10 +1,9 @@
-use Rattle.std.proofs.Common.{ℕ, ◌≡◌, ◌∙◌, ◌+◌, true, refl, sym, ap, subst, arith}
+use Rattle.std.proofs.Common.{false, ℕ, ◌≡◌, ◌∙◌, ◌+◌, true, refl, sym, ap, subst, arith}
 use Rattle.ppm_step.specs.declared.row.Seat.{Seat}
 use Rattle.ppm_step.specs.Frames.{ending}
 use Rattle.ppm_step.specs.Standings.{running}
-use Rattle.ppm_stretch.specs.declared.way.Steps.{Steps}
-use Rattle.ppm_stretch.specs.Steady.{Lives, Moves}
-use Rattle.ppm_stretch.proofs.SteadyLemmas.{moves_then, moves_none, moves_still, refuses_then}
+use Rattle.ppm_stretch.specs.Steady.{Lives}
+use Rattle.ppm_stretch.proofs.SteadyLemmas.{moves_then, moves_none, moves_same, refuses_then, row_makes, row_stops}
 use Rattle.ppm_stretch.proofs.frames.ends.Goals as goal
 
 pub loop-made-init : goal.loop-made-init
@@ -34,27 +33,33 @@ loop-made-preserved g c =
     )
 
 pub returns-in-Installed-clause-makes : goal.returns-in-Installed-clause-makes
-returns-in-Installed-clause-makes g c = λ fine.
+returns-in-Installed-clause-makes g c =
     let k = c.args.words.now.shared.key in
     let i = c.loop-made.invariant in
     let made = c.loop-made.made in
-    subst (λ (steps : Steps). Moves g.W.Watch.told k c.args.local.now.own c.args.mine.now.me c.end_at.new.mine.me c.args.watch.now c.end_at.new.watch steps.made steps.work steps.looks steps.exchanged)
-    (sym c.row.ensures)
+    row_makes g.W.Watch.told k c.args.local.now.own c.args.mine.now.me c.end_at.new.mine.me c.args.watch.now c.end_at.new.watch (made + 1) (made + 1) 0 false c.row.result c.row.ensures
     (moves_then g.W.Watch.told k c.args.local.now.own c.args.mine.now.me c.loop-made.mine.me c.end_at.new.mine.me c.args.watch.now c.loop-made.watch c.end_at.new.watch
     made 1 made 1 0 0 (made + 1) (made + 1) 0 refl refl refl i.2 c.in-Installed.ensures.ended.0)
 
+pub returns-in-Installed-clause-stops : goal.returns-in-Installed-clause-stops
+returns-in-Installed-clause-stops g c =
+    row_stops g.W.Watch.told c.args.words.now.shared.key c.args.local.now.own c.args.mine.now.me c.end_at.new.mine.me c.args.watch.now c.end_at.new.watch
+    (c.loop-made.made + 1) (c.loop-made.made + 1) 0 false c.args.most c.row.result c.row.ensures
+
 pub returns-in-Gone-clause-makes : goal.returns-in-Gone-clause-makes
-returns-in-Gone-clause-makes g c = λ fine.
+returns-in-Gone-clause-makes g c =
     let k = c.args.words.now.shared.key in
     let i = c.loop-made.invariant in
     let made = c.loop-made.made in
     let ended = c.in-Gone.ensures.ended in
-    let none : made + 0 ≡ made = omega arith in
-    subst (λ (steps : Steps). Moves g.W.Watch.told k c.args.local.now.own c.args.mine.now.me c.end_at.new.mine.me c.args.watch.now c.end_at.new.watch steps.made steps.work steps.looks steps.exchanged)
-    (sym c.row-in-Gone.ensures)
-    (moves_then g.W.Watch.told k c.args.local.now.own c.args.mine.now.me c.loop-made.mine.me c.end_at.new.mine.me c.args.watch.now c.loop-made.watch c.end_at.new.watch
-    made 0 made 0 0 0 made made 0 none none refl i.2
-    (moves_still g.W.Watch.told k c.args.local.now.own c.loop-made.mine.me c.end_at.new.mine.me c.loop-made.watch c.end_at.new.watch i.2.goes.sits ended.0 ended.1))
+    row_makes g.W.Watch.told k c.args.local.now.own c.args.mine.now.me c.end_at.new.mine.me c.args.watch.now c.end_at.new.watch made made 0 false c.row-in-Gone.result c.row-in-Gone.ensures
+    (moves_same g.W.Watch.told k c.args.local.now.own c.args.mine.now.me c.loop-made.mine.me c.end_at.new.mine.me c.args.watch.now c.loop-made.watch c.end_at.new.watch made made 0
+    i.2 ended.0 ended.1)
+
+pub returns-in-Gone-clause-stops : goal.returns-in-Gone-clause-stops
+returns-in-Gone-clause-stops g c =
+    row_stops g.W.Watch.told c.args.words.now.shared.key c.args.local.now.own c.args.mine.now.me c.end_at.new.mine.me c.args.watch.now c.end_at.new.watch
+    c.loop-made.made c.loop-made.made 0 false c.args.most c.row-in-Gone.result c.row-in-Gone.ensures
 
 pub withdraw-requires-clause-lives : goal.withdraw-requires-clause-lives
 withdraw-requires-clause-lives g c =

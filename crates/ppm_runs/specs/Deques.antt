@@ -1,0 +1,66 @@
+-- By places, rows of the deques and of the places meet no broken words.
+use Rattle.std.specs.Prelude.{◌≡◌, ◌≢◌, ◌<◌, ℕ, ◌+◌, ◌^◌, Bool, true, false, Some, List}
+use Rattle.ppm_strands.specs.Tree.{Words, Tree}
+use Rattle.ppm_cells.specs.Memory.{read}
+use Rattle.ppm_cells.specs.declared.cell.Cell.{Cell}
+use Rattle.ppm_cells.specs.declared.cell.Cell.TheVariants.{FinishWord}
+use Rattle.ppm_cells.specs.declared.restart.Restart.{Restart}
+use Rattle.ppm_cells.specs.declared.shape.Shape.{Shape}
+use Rattle.ppm_cells.specs.declared.shape.Takeover.TheVariants.{ByPlaces}
+use Rattle.ppm_capsules.specs.Strand.{Frame}
+use Rattle.ppm_code.specs.Strands.{Point as StrandPoint, Result}
+use Rattle.ppm_code.specs.declared.code.CodeParts.{CodeParts}
+use Rattle.ppm_code.specs.declared.location.FrameWord.{FrameWord}
+use Rattle.ppm_step.specs.Among.{IsTurnAmong}
+use Rattle.ppm_step.specs.Contents.{content_of}
+use Rattle.ppm_step.specs.Frames.{Rest, Loads, Stores}
+use Rattle.ppm_step.specs.Points.{cell_at, reading_at}
+use Rattle.ppm_step.specs.Rows.{found_at, row_of}
+use Rattle.ppm_step.specs.Standings.{IsAt, IsWithin, IsRunning, rest_is_there}
+use Rattle.ppm_step.specs.State.{State as RunState, stand_of, happens, is_work_turn}
+use Rattle.ppm_step.specs.declared.content.Content.{Content}
+use Rattle.ppm_step.specs.declared.row.Point.{Point}
+use Rattle.ppm_step.specs.declared.row.Row.TheVariants.{Now}
+use Rattle.ppm_step.specs.declared.row.Seat.{Seat}
+use Rattle.ppm_step.specs.declared.row.Then.TheVariants.{Load}
+use Rattle.ppm_step.specs.declared.turn.Turn.{Turn}
+use Rattle.ppm_tickets.specs.Homes.{Home}
+use Rattle.ppm_tickets.specs.Saw.{IsStrand}
+use Rattle.ppm_tickets.specs.View.{view}
+use Rattle.ppm_frames.specs.Skeletons.{Skeleton}
+use Rattle.ppm_kept.specs.Running.{IsFair}
+use Rattle.ppm_runs.specs.Run.{IsRun}
+use Rattle.ppm_runs.specs.Sound.{IsSoundRow, IsSound}
+
+-- What the frames have to show of a processor at a strand: where a row begins, at each load of a row, and
+-- at each step of a capsule, no broken words are met.
+pub record StrandsAreSound (s : Shape) (code : CodeParts) (state : RunState) : Type 0 where
+  pub begins : (c p : ℕ) (r : Restart) → stand_of state c ≡ IsAt p (Some r) → IsStrand r.kind
+      → IsSoundRow s code (view s state.words) (record { own = c; place = p; restart = r }) (row_of s (record { own = c; place = p; restart = r }) r.kind)
+  pub loads : (c : ℕ) (seat : Seat) (point : Point) → stand_of state c ≡ IsWithin seat (Now (Load point)) → IsStrand seat.restart.kind → (u : ℕ)
+      → IsSoundRow s code (view s state.words) seat (found_at s seat u point (content_of (reading_at point) (read s state.words (cell_at seat u point))))
+  pub rests : (c : ℕ) (seat : Seat) (cell : Cell) (next : ℕ → Rest) → stand_of state c ≡ IsRunning seat (Loads cell next)
+      → rest_is_there s seat (next (read s state.words cell)) ≡ true
+  pub stored : (c : ℕ) (seat : Seat) (cell : Cell) (content : Content) (next : Rest) → stand_of state c ≡ IsRunning seat (Stores cell content next)
+      → rest_is_there s seat next ≡ true
+  pub spared : (c : ℕ) (seat : Seat) (cell : Cell) (content : Content) (next : Rest) → stand_of state c ≡ IsRunning seat (Stores cell content next)
+      → cell ≢ FinishWord
+
+-- one for a work turn
+abbrev pub one_if : Bool → ℕ
+one_if true = 1
+one_if false = 0
+
+-- so many work turns, with this one
+abbrev pub made_by : ℕ → RunState → Turn → ℕ
+made_by made state turn = made + one_if (is_work_turn turn.act (stand_of state turn.processor))
+
+-- With takeover by places, and below 2^34 work turns: from a run's state that is sound, a turn leads to
+-- one that is sound, if rows and capsules of strands meet no broken words in it
+abbrev pub DequesAreSound : Type 0
+DequesAreSound = (s : Shape) (code : CodeParts) → s.takeover ≡ ByPlaces → IsFair code
+    → (root : Tree (Frame FrameWord StrandPoint) Result) (input : Words) (state : RunState) (h : ℕ → Home) (forked taken : List ℕ) (t : Skeleton)
+    → IsRun s code root input state h forked taken t
+    → (made : ℕ) → made + 1 < 2 ^ 34 → IsSound s code made state → StrandsAreSound s code state
+    → (turn : Turn) → IsTurnAmong s.processors turn
+    → IsSound s code (made_by made state turn) (happens s code state turn)
