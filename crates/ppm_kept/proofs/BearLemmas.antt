@@ -1,17 +1,13 @@
 -- The blocks that were forked stay below what a place may still open, over each whole turn.
-use Rattle.std.proofs.Common.{◌≡◌, ◌⊎◌, ◌<◌, ℕ, zero, suc, ◌==◌, cond, Bool, true, false, List, [], inl, inr, refl, sym, ap, ◌∙◌, subst, subst₂, Option, Some, None, slice_set}
+use Rattle.std.proofs.Common.{◌≡◌, ◌⊎◌, ◌<◌, ℕ, ◌==◌, cond, Bool, true, false, List, [], inl, inr, refl, sym, ap, ◌∙◌, subst, subst₂, slice_set}
 use Rattle.std.specs.Prelude.{slice_index, if◌then◌else◌}
 use Rattle.ppm_strands.specs.Tree.{Words, Tree}
 use Rattle.ppm_cells.specs.Finish.{finish_word}
-use Rattle.ppm_cells.specs.Link.{link_of}
 use Rattle.ppm_cells.specs.Memory.{write}
 use Rattle.ppm_cells.specs.declared.cell.Cell.{Cell}
-use Rattle.ppm_cells.specs.declared.cell.Cell.TheVariants.{FinishWord, DeadWord, RoomCounter, BlockWord}
+use Rattle.ppm_cells.specs.declared.cell.Cell.TheVariants.{FinishWord, DeadWord, RoomCounter}
 use Rattle.ppm_cells.specs.declared.finish.Finish.{Finish}
 use Rattle.ppm_cells.specs.declared.finish.Finish.TheVariants.{OutOfRoom, Broken as BrokenAt}
-use Rattle.ppm_cells.specs.declared.link.Link.{Link}
-use Rattle.ppm_cells.specs.declared.link.LinkKind.{LinkKind}
-use Rattle.ppm_cells.specs.declared.link.LinkKind.TheVariants.{Root, Call as Called, Branch, Fork as Forked}
 use Rattle.ppm_cells.specs.declared.restart.RestartKind.{RestartKind}
 use Rattle.ppm_cells.specs.declared.restart.RestartKind.TheVariants.{Run, Bump, Push1, Push2, Unwind, Arrive, Join, Pop1, Pop2, Seek, Steal, Check, Take, Take2}
 use Rattle.ppm_cells.specs.declared.shape.Takeover.TheVariants.{ByPlaces}
@@ -19,14 +15,12 @@ use Rattle.ppm_cells.specs.declared.side.Side.{Side}
 use Rattle.ppm_capsules.specs.Strand.{Frame}
 use Rattle.ppm_code.specs.Strands.{Point, Result}
 use Rattle.ppm_code.specs.declared.location.FrameWord.{FrameWord}
-use Rattle.ppm_step.specs.Contents.{read_so, content_of, word_of}
+use Rattle.ppm_step.specs.Contents.{word_of}
 use Rattle.ppm_step.specs.Frames.{Rest, Loads, Stores, Full, Installs, Breaks}
-use Rattle.ppm_step.specs.Points.{cell_at, reading_at}
-use Rattle.ppm_step.specs.Rows.{row_of, on_link, bumped}
+use Rattle.ppm_step.specs.Rows.{row_of}
 use Rattle.ppm_step.specs.Standings.{Standing, IsLost, IsPlaced, IsAt, IsWithin, IsRunning, IsBroken, IsDone, went_row}
 use Rattle.ppm_step.specs.State.{State as Machine, stand_of, quit_with, acts, fork_row, row_by, step_by}
 use Rattle.ppm_step.specs.declared.content.Content.{Content}
-use Rattle.ppm_step.specs.declared.content.Content.TheVariants.{ALink}
 use Rattle.ppm_step.specs.declared.row.Point.{Point as RowPoint}
 use Rattle.ppm_step.specs.declared.row.Point.TheVariants.{Header}
 use Rattle.ppm_step.specs.declared.row.Row.{Row}
@@ -39,14 +33,14 @@ use Rattle.ppm_step.specs.declared.turn.Act.TheVariants.{Step, Soft, Hard, Quit}
 use Rattle.ppm_frames.specs.Views.{written as store, is_cell, view}
 use Rattle.ppm_frames.specs.Skeletons.{Skeleton}
 use Rattle.ppm_frames.proofs.ViewLemmas.{cells_are_viewed, others_are_unseen}
-use Rattle.ppm_kept.specs.Running.{IsFair, MayStore}
-use Rattle.ppm_kept.specs.Kept.{Image, owner, seat_at, Doing, InRow, InRest, State, Reach, Reached, Under, Does, IsKept}
+use Rattle.ppm_kept.specs.Running.{IsFair}
+use Rattle.ppm_kept.specs.Kept.{Image, owner, Doing, InRow, InRest, State, Under, Does, IsKept}
 use Rattle.ppm_kept.specs.Moves.{doing_of, goes, stores, installs}
 use Rattle.ppm_kept.specs.Laws.{Ends, kind_then}
 use Rattle.ppm_kept.specs.Others.{IsIdle}
 use Rattle.ppm_kept.specs.Pushing.{Comes, kind_seat}
 use Rattle.ppm_kept.specs.Takes.{IsCheck}
-use Rattle.ppm_kept.specs.Births.{floor, Births, IsNoCounter, IsSteady, SteadyThen, SteadyRow, BirthsStay}
+use Rattle.ppm_kept.specs.Births.{Births, IsNoCounter, IsSteady, SteadyThen, SteadyRow, BirthsStay}
 use Rattle.ppm_kept.specs.Places.{kinds_of, places_of, IsOf, Holds, IsUnseen, acted, RowShows}
 use Rattle.ppm_kept.specs.Steps.{InRowSo, InRestSo, IsPresent, StandsSo, ActsSo}
 use Rattle.ppm_kept.specs.Bearing.{with_blocks, TurnsBear, TurnsBearLeft}

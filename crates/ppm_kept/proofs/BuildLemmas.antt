@@ -1,5 +1,5 @@
 -- What one word step has to show, for the invariant to stand after it.
-use Rattle.std.proofs.Common.{◌≡◌, ◌≢◌, ◌⊎◌, ◌≤◌, ◌<◌, ℕ, ◌+◌, true, false, inl, inr, sym, ap, ◌∙◌, subst, subst₂, arith}
+use Rattle.std.proofs.Common.{◌≡◌, ◌≢◌, ◌⊎◌, ◌≤◌, ◌<◌, ℕ, ◌+◌, true, false, inl, inr, refl, sym, ap, ◌∙◌, subst, subst₂, arith}
 use Rattle.std.proofs.lemmas.Bool.{cases_eq}
 use Rattle.ppm_strands.specs.Run.{Counts, plus}
 use Rattle.ppm_strands.specs.Ahead.{Ahead, Step}
@@ -162,6 +162,10 @@ module _ (i : Image) (fair : IsFair i.code) (root : Tree (Frame FrameWord Point)
     ahead_by (inr same) = subst₂ (λ (w : Tree (Frame FrameWord Point) Result) (b : Words). Ahead (strands i.shape i.code) law.ahead.0 root input w b)
         (sym (tree_in s.words z.words Root c u v turn.around turn.swap.aim same.0 ∙ ap (λ (w : Skeleton). tree_of s.words w) (sym turn.is))) (sym same.1) law.ahead.1
 
+    counted_by : (step : Moved i s z c u v) → i.counted ≤ (counts_by step).capsules
+    counted_by (inl st) = let a = law.counted in omega (arith, a)
+    counted_by (inr same) = law.counted
+
     paid_by : (step : Moved i s z c u v) → ceiling i z.words p k ≤ ceiling i s.words p (s.kind p) + words_of i s z c u v step → (q : ℕ)
         → ceiling i z.words q (z.kind q) ≤ start i q + (frame_size i.code i.code.root + (counts_by step).block_words)
     paid_by step pays = each (λ q. ceiling i z.words q (z.kind q) ≤ start i q + (frame_size i.code i.code.root + (counts_by step).block_words))
@@ -220,4 +224,10 @@ module _ (i : Image) (fair : IsFair i.code) (root : Tree (Frame FrameWord Point)
       untaken = each (λ q. Unpushed q (plug c v) (z.kind q)) (subst (Unpushed p (plug c v)) (sym turn.kind) (turn.unrun.pushes apart_then)) unpushed_then;
       aims = aims_then;
       paid = paid_by turn.step turn.pays;
+      counted = counted_by turn.step;
     }
+
+    -- with what it counts
+    pub built : (kept : IsKept i root input z (plug c v)) × (kept.ahead.0.capsules ≡ (counts_by turn.step).capsules)
+    unfolding build
+    built = (build, refl)

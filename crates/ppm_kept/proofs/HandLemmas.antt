@@ -1,11 +1,11 @@
 -- The leaf of one place becomes another's: both trees are the same but for whose that leaf is, and so
 -- the words are kept.
-use Rattle.std.proofs.Common.{◌≡◌, ◌≢◌, ◌⊎◌, ◌≤◌, ◌<◌, ℕ, ◌+◌, ◌==◌, Bool, true, false, inl, inr, refl, sym, ap, ◌∙◌, subst, subst₂, arith}
-use Rattle.std.proofs.lemmas.Bool.{cases_eq, cases_Bool, cond-true, cond-false, eqb-true}
+use Rattle.std.proofs.Common.{◌≡◌, ◌≢◌, ◌⊎◌, ◌≤◌, ◌<◌, ℕ, ◌+◌, ◌==◌, true, false, inl, inr, refl, sym, ap, ◌∙◌, subst, subst₂, arith}
+use Rattle.std.proofs.lemmas.Bool.{cases_eq, cases_Bool, cond-true, cond-false}
 use Rattle.ppm_strands.specs.Tree.{Words, Tree}
 use Rattle.ppm_strands.specs.Ahead.{Ahead}
 use Rattle.ppm_cells.specs.declared.cell.Cell.{Cell}
-use Rattle.ppm_cells.specs.declared.cell.Cell.TheVariants.{RoomCounter, BlockWord}
+use Rattle.ppm_cells.specs.declared.cell.Cell.TheVariants.{RoomCounter}
 use Rattle.ppm_cells.specs.declared.link.LinkKind.{LinkKind}
 use Rattle.ppm_cells.specs.declared.link.LinkKind.TheVariants.{Root}
 use Rattle.ppm_cells.specs.declared.restart.RestartKind.{RestartKind}
@@ -17,11 +17,11 @@ use Rattle.ppm_code.specs.declared.location.FrameWord.{FrameWord}
 use Rattle.ppm_step.specs.declared.row.Row.TheVariants.{Now}
 use Rattle.ppm_step.specs.declared.row.Then.TheVariants.{Begin}
 use Rattle.ppm_frames.specs.Seen.{arrays_at}
-use Rattle.ppm_frames.specs.Skeletons.{Stand, Begins, Over, Arrives, Who, InPlace, Fresh, Waiting, Held, Came, Inlined, Skeleton, Leaf, Calling, Forking, tree_of, tree_at, grow, count, plain, at, Around, Top, AtCall, AtLeft, AtRight, plug, hook_at, rim, at_rim}
+use Rattle.ppm_frames.specs.Skeletons.{Stand, Begins, Over, Arrives, InPlace, Fresh, Waiting, Held, Came, Inlined, Skeleton, Leaf, Calling, Forking, tree_of, tree_at, count, plain, at, Around, Top, AtCall, AtLeft, AtRight, plug, hook_at, rim, at_rim}
 use Rattle.ppm_frames.specs.Good.{ended, given, is_over, Good, Match}
 use Rattle.ppm_frames.proofs.SkeletonLemmas.{tree_in, count_plug, plain_plug, at_plug, grow_plug}
 use Rattle.ppm_frames.proofs.SwapLemmas.{Swap, swap_same, good_same, good_swap}
-use Rattle.ppm_kept.specs.Running.{IsFair, strands}
+use Rattle.ppm_kept.specs.Running.{strands}
 use Rattle.ppm_kept.specs.Branches.{Untaken, Unpushed, IsWaitingAt, Waits, is_taker, HasCopy}
 use Rattle.ppm_kept.specs.Kept.{Image, start, end_of, owner, Doing, Resting, InRow, State, put, Blank, Ended, IsFinished, carried, ceiling, Free, Does, Head, Ordered, IsKept}
 use Rattle.ppm_kept.specs.Others.{IsIdle}
@@ -175,6 +175,7 @@ module _ (i : Image) (root : Tree (Frame FrameWord Point) Result) (input : Words
           (unpushed_less q (s.kind q) c u n (let e = hand.others q a b in omega (arith, e)) hand.swap.order (λ r. hand.untaken q r) (subst (λ (w : Skeleton). Unpushed q w (s.kind q)) hand.is (law.untaken q))));
       aims = aimed;
       paid = λ q. subst (λ (y : ℕ). y ≤ start i q + (frame_size i.code i.code.root + law.ahead.0.block_words)) (sym (roof q)) (law.paid q);
+      counted = law.counted;
     }
 
 -- where a place has no leaf nothing is handed over

@@ -27,8 +27,8 @@ use Rattle.ppm_kept.specs.Moves.{installs}
 use Rattle.ppm_kept.specs.Others.{IsIdle}
 use Rattle.ppm_kept.specs.Heirs.{handed, settled, OpensAs, GoesOnAs, inherits, HeirsKeep}
 use Rattle.ppm_kept.proofs.BumpRow.{counter_stored, call_installs, fork_installs}
-use Rattle.ppm_kept.proofs.HandLemmas.{Hand, kind_q, hands_keep, nothing_handed, none_untaken, untaken_moves, leaf_hand, none_hand, leaf_handed}
-use Rattle.ppm_kept.proofs.IdleLemmas.{idle_roof, idle_blank}
+use Rattle.ppm_kept.proofs.HandLemmas.{kind_q, hands_keep, nothing_handed, none_untaken, untaken_moves, leaf_hand, none_hand, leaf_handed}
+use Rattle.ppm_kept.proofs.IdleLemmas.{idle_blank}
 use Rattle.ppm_kept.proofs.OtherLemmas.{others_keep}
 use Rattle.ppm_kept.proofs.PlaceLemmas.{Leafed, leaf}
 use Rattle.ppm_kept.proofs.PushRows.{second_runs, second_again}

@@ -48,7 +48,7 @@ use Rattle.ppm_kept.proofs.TurnLemmas.{pool_cell}
 
 module _ (code : CodeParts) (input : List NamedArray) (s : Shape) (keeper : ℕ) (image : RealImage) (o : Opens code input s keeper image) where
   abbrev i : Image
-  i = record { shape = s; code = code }
+  i = record { shape = s; code = code; counted = 0 }
 
   abbrev m : Cell → ℕ
   m = view s image.words
@@ -159,6 +159,7 @@ module _ (code : CodeParts) (input : List NamedArray) (s : Shape) (keeper : ℕ)
       let is = shown ∙ root.strand in (
         record {
           there = o.below;
+          uncounted = refl;
           link = ap link_or (ap link_of (word_at f 0 (omega arith) (omega arith)) ∙ root.link);
           entry = ap (slots_at code) (word 2 (omega arith) ∙ entry_word) ∙ entry_slots;
           outcome = word 1 (omega arith) ∙ sym (pack-unpack finish_word IsFinish finish_of finishes_exact (read s image.words (BlockWord (f + 1))) Ended root.outcome);

@@ -1,6 +1,6 @@
 -- The state with the followed places left out: what it shows of the others is as it is, and a step of one
 -- of these is a step of it.
-use Rattle.std.proofs.Common.{◌≡◌, ◌≢◌, ◌⊎◌, ◌≤◌, ◌<◌, ℕ, ◌+◌, ◌-◌, ◌==◌, ◌&&◌, cond, Bool, true, false, List, [], ◌∷◌, inl, inr, refl, sym, ap, ap₂, ◌∙◌, subst, subst₂, arith}
+use Rattle.std.proofs.Common.{◌≡◌, ◌≢◌, ◌⊎◌, ◌≤◌, ◌<◌, ℕ, ◌+◌, ◌-◌, ◌==◌, ◌&&◌, cond, Bool, true, false, List, [], ◌∷◌, inl, inr, refl, sym, ap, ◌∙◌, subst, arith}
 use Rattle.std.specs.Prelude.{nat_lt, nat_le}
 use Rattle.std.proofs.Math.Path.{fun_ext}
 use Rattle.std.proofs.lemmas.Bool.{cases_eq, cases_Bool, cond-true, cond-false, ne_eqb, eq-eqb, ltb-true, leb-true}
@@ -18,12 +18,12 @@ use Rattle.ppm_step.specs.Standings.{Standing}
 use Rattle.ppm_frames.specs.Views.{same_cell, written as write}
 use Rattle.ppm_frames.specs.Skeletons.{Skeleton}
 use Rattle.ppm_frames.proofs.WriteLemmas.{same_self, same_is, write_here, write_else}
-use Rattle.ppm_kept.specs.Kept.{Image, start, end_of, owner, Doing, State, put, Blank, ceiling, Free, Head, IsKept}
+use Rattle.ppm_kept.specs.Kept.{Image, start, end_of, owner, State, put, Blank, ceiling, Free, IsKept}
 use Rattle.ppm_kept.specs.Births.{IsNoCounter}
 use Rattle.ppm_kept.specs.Heirs.{settled}
 use Rattle.ppm_kept.specs.Left.{Followed, left_words, left_kinds, left, IsAway, AreApart}
 use Rattle.ppm_kept.specs.Loads.{IsInUse}
-use Rattle.ppm_kept.specs.Moves.{doing_of, stores, exchanges, installs, fills}
+use Rattle.ppm_kept.specs.Moves.{stores, exchanges, installs, fills}
 use Rattle.ppm_kept.proofs.OwnerLemmas.{owned}
 use Rattle.ppm_kept.proofs.PutLemmas.{put_here, put_else}
 

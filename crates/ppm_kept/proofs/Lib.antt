@@ -69,3 +69,6 @@ pub mod HeirBirths
 pub mod AnswerLemmas
 pub mod RoomLemmas
 pub mod SpentLemmas
+pub mod CreditLemmas
+pub mod PayingLemmas
+pub mod CountLemmas

@@ -87,6 +87,7 @@ module _ (i : Image) (fair : IsFair i.code) (root : Tree (Frame FrameWord Point)
     copies = law.copies;
     untaken = law.untaken;
     paid = law.paid;
+    counted = law.counted;
     aims = λ q r f b taker about. elim (cases_eq q p) [
       | inl e ↦ aim r f b (ap (λ (x : ℕ). is_taker (s.kind x)) (sym e) ∙ taker) (sym (put_here s.doing p d) ∙ ap (put s.doing p d) (sym e) ∙ about)
       | inr ne ↦ law.aims q r f b taker (sym (put_else s.doing p d q ne) ∙ about)

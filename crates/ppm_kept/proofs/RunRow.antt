@@ -70,7 +70,7 @@ use Rattle.ppm_kept.proofs.BlockLemmas as blocks
 use Rattle.ppm_kept.proofs.BlockLemmas.{header_is}
 use Rattle.ppm_kept.proofs.UntakenLemmas.{opens as opens_block}
 use Rattle.ppm_kept.proofs.BranchLemmas.{same_part, barren}
-use Rattle.ppm_kept.proofs.BuildLemmas.{Turn, build}
+use Rattle.ppm_kept.proofs.BuildLemmas.{Turn, build, built}
 use Rattle.ppm_kept.proofs.PlaceLemmas.{leaf, going, kept_same, not_free, mine_around, Runs, run_leaf, is_at_own, is_at_other}
 
 pub inside_split : (f a b x : ℕ) → inside f (a + b) x ≡ inside f a x + inside (f + a) b x
@@ -304,7 +304,10 @@ module _ (i : Image) (fair : IsFair i.code) (root : Tree (Frame FrameWord Point)
   asks_room : (w : ℕ) → room_of (instrs_of i.code k) ≡ Some w → w ≤ (of_capsule (strands i.shape i.code) (frame_of i.shape i.code m f n y) (arrays_at m)).block_words
   asks_room w e = room_asked i.shape.arrays (instrs_of i.code k) w e _
 
-  -- an install
+  -- an install counts a capsule
+  abbrev Counted : State → Skeleton → Type 0
+  Counted z w = (kept : Law z w) × (kept.ahead.0.capsules ≡ law.ahead.0.capsules + 1)
+
   module _ (e : End) (stands : Stands code_locations (all_of i.shape i.code m p f y) (Ends e) (now i.shape i.code m p f y)) (room : HasRoom i.shape i.code m p f y)
       (own : AllStand m (own_stores i.code (home_at i.shape i.code m p f y) e))
       (step : Step (strands i.shape i.code) (of_capsule (strands i.shape i.code) (frame_of i.shape i.code m f n y) (arrays_at m)) (Strand (frame_of i.shape i.code m f n y)) (arrays_at m)
@@ -329,8 +332,8 @@ module _ (i : Image) (fair : IsFair i.code) (root : Tree (Frame FrameWord Point)
         → ((x : ℕ) → ((count h v x ≤ count h u x) × (plain h v x ≤ plain h u x)) ⊎ ((count h v x ≤ 1 + count h u x) × (r ≤ x) × (x < ceiling i m p l)))
         → r ≤ ceiling i m p l → ceiling i m p l ≤ end_of i p → carried m l ≡ 1 → at p v ≡ 1 → ((q : ℕ) → q ≢ p → at q v ≡ 0) → Free i m p l → Ordered i s t m l
         → HasCopy l → (((x : ℕ) → count Root (plug c v) x ≤ 1) → Unpushed p (plug c v) l) → ((q r : ℕ) → q ≢ p → Untaken q r v) → is_taker l ≡ false → ceiling i m p l ≤ r + counts.block_words
-        → Law (installs s p l) (plug c v)
-    ended_turn l v opens_it head arrived good adds grows bound one here others_none frees ordered copy own all no_taker pays = build i fair root input s t law p (installs s p l) c u v l Resting (record {
+        → Counted (installs s p l) (plug c v)
+    ended_turn l v opens_it head arrived good adds grows bound one here others_none frees ordered copy own all no_taker pays = built i fair root input s t law p (installs s p l) c u v l Resting (record {
       is = is;
       alone = has_leaf.alone;
       there = there;
@@ -382,7 +385,7 @@ module _ (i : Image) (fair : IsFair i.code) (root : Tree (Frame FrameWord Point)
     sized_then : (d : ℕ) → procedure_at i.code d ≡ procedure_at i.code k → m (header_word f z) ≡ d → slots_at i.code (m (BlockWord (header f z))) ≡ n
     sized_then d same own = ap (slots_at i.code) (blocks.header_then i.shape i.code fair m p f y low room clean d own) ∙ ap (slots_of i.code) same
 
-    goes_next : (d : ℕ) → Stood (Next d) → Owns (Next d) → Opened (Next d) → Law (installs s p (Run f z)) (by_install i m p (Run f y) (Run f z) t)
+    goes_next : (d : ℕ) → Stood (Next d) → Owns (Next d) → Opened (Next d) → Counted (installs s p (Run f z)) (by_install i m p (Run f y) (Run f z) t)
     goes_next d stands own step =
         let v = Leaf (InPlace p) (Begins z) f n in
         let fits = fit (Next d) stands room own step in
@@ -391,17 +394,17 @@ module _ (i : Image) (fair : IsFair i.code) (root : Tree (Frame FrameWord Point)
         (λ x. inl (omega arith, omega arith)) (omega arith) room_low refl (is_at_own p) (λ q ne. is_at_other p q ne)
         (record { block = λ o lt out. all_blank (Next d) stands (λ o b. b) (λ o. tt) o lt; outcome = inl (blocks.still_open i.shape i.code fair m p f y low room clean (Next d) refl stands) }) tt
         (omega arith) (λ most. tt) (λ q x ne. tt) refl (omega arith) in
-        subst (Law (installs s p (Run f z))) (sym (ap (grow p (λ st f n. Leaf (InPlace p) (Begins z) f n)) is ∙ grow_plug p (λ st f n. Leaf (InPlace p) (Begins z) f n) c (Begins y) f n has_leaf.alone)) got
+        subst (Counted (installs s p (Run f z))) (sym (ap (grow p (λ st f n. Leaf (InPlace p) (Begins z) f n)) is ∙ grow_plug p (λ st f n. Leaf (InPlace p) (Begins z) f n) c (Begins y) f n has_leaf.alone)) got
 
     goes_over : (e : End) (stands : Stood e) (own : Owns e) (step : Opened e) → opens i.code e (own_at m f n) (λ o. now i.shape i.code m p f y (New o)) ≡ tree_at m h (Leaf (InPlace p) Over f n)
-        → ((o : ℕ) → Builds i.code e o → ⊥) → ((o : ℕ) → AreElsewhere o (block_stores i.code (home_at i.shape i.code m p f y) e)) → Law (installs s p (Unwind f)) (by_install i m p (Run f y) (Unwind f) t)
+        → ((o : ℕ) → Builds i.code e o → ⊥) → ((o : ℕ) → AreElsewhere o (block_stores i.code (home_at i.shape i.code m p f y) e)) → Counted (installs s p (Unwind f)) (by_install i m p (Run f y) (Unwind f) t)
     goes_over e stands own step tree none out =
         let v = Leaf (InPlace p) Over f n in
         let got = ended_turn e stands room own step (Unwind f) v tree refl refl
         (framed, tt, subst (λ (q : RestartKind). Match i.code m q h Over f) (sym (put_here s.kind p (Unwind f))) refl)
         (λ x. inl (omega arith, omega arith)) (omega arith) room_low refl (is_at_own p) (λ q ne. is_at_other p q ne)
         (all_blank e stands none out) tt tt (λ most. tt) (λ q x ne. tt) refl (omega arith) in
-        subst (Law (installs s p (Unwind f))) (sym (ap (grow p (λ st f n. Leaf (InPlace p) Over f n)) is ∙ grow_plug p (λ st f n. Leaf (InPlace p) Over f n) c (Begins y) f n has_leaf.alone)) got
+        subst (Counted (installs s p (Unwind f))) (sym (ap (grow p (λ st f n. Leaf (InPlace p) Over f n)) is ∙ grow_plug p (λ st f n. Leaf (InPlace p) Over f n) c (Begins y) f n has_leaf.alone)) got
 
     -- targets lie in the frame
     target_fits : (to : Option ℕ) → IfSome to (λ slot. slot < slots_of i.code (procedure_at i.code k)) → target_of to ≤ n
@@ -450,8 +453,8 @@ module _ (i : Image) (fair : IsFair i.code) (root : Tree (Frame FrameWord Point)
         (block.link, block.sized, subst (λ (l : RestartKind). Match i.code m l (Called f z) (Begins 0) r) (sym (put_here s.kind p (Bump r))) (refl, refl, block.outcome)),
       )
 
-      goes_called : Law (installs s p (Bump r)) (by_install i m p (Run f y) (Bump r) t)
-      goes_called = subst (Law (installs s p (Bump r))) (sym (
+      goes_called : Counted (installs s p (Bump r)) (by_install i m p (Run f y) (Bump r) t)
+      goes_called = subst (Counted (installs s p (Bump r))) (sym (
           ap (grow p (opened i m p r (link_at (m (BlockWord r))).kind)) is
           ∙ grow_plug p (opened i m p r (link_at (m (BlockWord r))).kind) c (Begins y) f n has_leaf.alone
           ∙ ap (λ (l : Link). plug c (opened i m p r l.kind (Begins y) f n)) block.link
@@ -536,8 +539,8 @@ module _ (i : Image) (fair : IsFair i.code) (root : Tree (Frame FrameWord Point)
         ),
       )
 
-      goes_forked : Law (installs s p (Bump r)) (by_install i m p (Run f y) (Bump r) t)
-      goes_forked = subst (Law (installs s p (Bump r))) (sym (
+      goes_forked : Counted (installs s p (Bump r)) (by_install i m p (Run f y) (Bump r) t)
+      goes_forked = subst (Counted (installs s p (Bump r))) (sym (
           ap (grow p (opened i m p r (link_at (m (BlockWord r))).kind)) is
           ∙ grow_plug p (opened i m p r (link_at (m (BlockWord r))).kind) c (Begins y) f n has_leaf.alone
           ∙ ap (λ (l : Link). plug c (opened i m p r l.kind (Begins y) f n)) split.link
@@ -548,17 +551,17 @@ module _ (i : Image) (fair : IsFair i.code) (root : Tree (Frame FrameWord Point)
           (let one = is_at_own p in omega (arith, one)) (λ q ne. let none_ = is_at_other p q ne in omega (arith, none_)) fork_frees tt
           tt (λ most. opens_block p r Root c both (most r) (let a = inside_at r 1 r 0 (omega arith) (omega arith) in omega (arith, a)) (λ e one. tt, tt, tt)) (λ q x ne. (λ e one. tt, tt, tt)) refl (let w = asks_room (5 + (6 + n_left) + (6 + n_right)) fork_fit.5 in omega (arith, fork_top, w)))
 
-    run_law : (e : End) → Stood e → Owns e → Opened e → Law (installs s p (installed (home_at i.shape i.code m p f y) e)) (by_install i m p (Run f y) (installed (home_at i.shape i.code m p f y) e) t)
+    run_law : (e : End) → Stood e → Owns e → Opened e → Counted (installs s p (installed (home_at i.shape i.code m p f y) e)) (by_install i m p (Run f y) (installed (home_at i.shape i.code m p f y) e) t)
     run_law (Next d) stands own step = goes_next d stands own step
     run_law Finish stands own step = goes_over Finish stands own step (blocks.finish_tree i.shape i.code fair m p f y low room clean h stands) (λ o b. b) (λ o. tt)
     run_law (Trap trap line) stands own step = goes_over (Trap trap line) stands own step (blocks.trap_tree i.shape i.code fair m p f y low room clean h trap line stands own.0) (λ o b. b) (λ o. tt)
     run_law (Call q d to) stands own step = goes_called q d to stands own step
     run_law (Fork a b d lt rt) stands own step = goes_forked a b d lt rt stands own step
 
-  pub rest_installs : (kind : RestartKind) → Come (Installs kind) → Law (installs s p kind) (by_install i m p (Run f y) kind t)
-  rest_installs kind come =
+  pub rest_counts : (kind : RestartKind) → Come (Installs kind) → Counted (installs s p kind) (by_install i m p (Run f y) kind t)
+  rest_counts kind come =
       let op = by_installs i.shape i.code fair m p f y clean kind come in
-      subst (λ (q : RestartKind). Law (installs s p q) (by_install i m p (Run f y) q t)) (sym op.kind_is) (run_law op.room op.end op.stands op.own op.step)
+      subst (λ (q : RestartKind). Counted (installs s p q) (by_install i m p (Run f y) q t)) (sym op.kind_is) (run_law op.room op.end op.stands op.own op.step)
 
   -- the pool is full, and that is proposed as the finish
   module _ (none_yet : m FinishWord ≡ 0) where
@@ -663,7 +666,7 @@ module _ (i : Image) (fair : IsFair i.code) (root : Tree (Frame FrameWord Point)
     enters = λ own bottom victim. row_enters own bottom;
     loads = λ sits cell next e. rest_loads sits cell next (come_of (Loads cell next) e);
     stores = λ sits cell content next found e. rest_stores sits cell content next (come_of (Stores cell content next) e);
-    installs = λ kind e. rest_installs kind (come_of (Installs kind) e);
+    installs = λ kind e. (rest_counts kind (come_of (Installs kind) e)).0;
     full = rest_full;
     faults = going i fair root input s t law p (ap is_taker ke) Resting tt;
     cells = λ cell content next e. (by_stores i.shape i.code fair m p f y low apart cell content next (come_of (Stores cell content next) e)).spot;

@@ -1,9 +1,8 @@
 -- A place that another followed gives up its pool: free words that a capsule left there become 0, and
 -- what it did of its own frame stands for whoever begins that capsule again, in a block of its own.
-use Rattle.std.proofs.Common.{◌≡◌, ◌≢◌, ◌⊎◌, ◌≤◌, ◌<◌, ℕ, zero, suc, ◌+◌, ◌-◌, ◌==◌, ◌&&◌, cond, Bool, true, false, List, [], inl, inr, refl, sym, ap, ap₂, ◌∙◌, subst, subst₂, arith}
-use Rattle.std.specs.Prelude.{nat_lt, nat_le}
+use Rattle.std.proofs.Common.{◌≡◌, ◌≢◌, ◌⊎◌, ◌≤◌, ◌<◌, ℕ, zero, suc, ◌+◌, ◌-◌, List, inl, inr, refl, sym, ap, ap₂, ◌∙◌, subst, arith}
 use Rattle.std.proofs.Math.Path.{fun_ext}
-use Rattle.std.proofs.lemmas.Bool.{cases_eq, cases_lt}
+use Rattle.std.proofs.lemmas.Bool.{cases_eq}
 use Rattle.ppm_strands.specs.Tree.{Words, Tree}
 use Rattle.ppm_cells.specs.declared.cell.Cell.{Cell}
 use Rattle.ppm_cells.specs.declared.cell.Cell.TheVariants.{FinishWord, RoomCounter, BlockWord, ArrayWord}
@@ -23,7 +22,6 @@ use Rattle.ppm_code.specs.Strands.{Point, Result, instrs_of}
 use Rattle.ppm_code.specs.declared.act.End.{End}
 use Rattle.ppm_code.specs.declared.code.CodeParts.{CodeParts}
 use Rattle.ppm_code.specs.declared.location.FrameWord.{FrameWord}
-use Rattle.ppm_step.specs.Points.{header_word}
 use Rattle.ppm_ends.specs.Ends.{block_stores, located}
 use Rattle.ppm_frames.specs.Seen.{seen}
 use Rattle.ppm_frames.specs.Views.{written as write}
@@ -35,13 +33,13 @@ use Rattle.ppm_frames.proofs.SkeletonLemmas.{SameFrame, same_frame, own_same, tr
 use Rattle.ppm_frames.proofs.SwapLemmas.{swap_same, good_same}
 use Rattle.ppm_kept.specs.Running.{asked_of, IsFair, home_at, number_at, closed, now, all_of, limit, IsClean, outcome_by}
 use Rattle.ppm_kept.specs.Branches.{HasCopy}
-use Rattle.ppm_kept.specs.Kept.{Image, end_of, Resting, State, Blank, carried, ceiling, Free, IsKept}
+use Rattle.ppm_kept.specs.Kept.{Image, end_of, Resting, State, carried, ceiling, Free, IsKept}
 use Rattle.ppm_kept.proofs.BlockLemmas.{header_is}
 use Rattle.ppm_kept.proofs.BranchLemmas.{same_part}
 use Rattle.ppm_kept.proofs.BuildLemmas.{Turn, build}
 use Rattle.ppm_kept.proofs.EndingLemmas.{not_ended}
 use Rattle.ppm_kept.proofs.OtherLemmas.{others_keep}
-use Rattle.ppm_kept.proofs.PlaceLemmas.{Runs, leaf, run_leaf, mine_around, rim_zero, not_free, is_at_own, is_at_other}
+use Rattle.ppm_kept.proofs.PlaceLemmas.{Runs, leaf, run_leaf, mine_around, not_free, is_at_own, is_at_other}
 use Rattle.ppm_kept.proofs.RunLemmas.{again}
 
 -- A capsule comes to the same end in another place's pool, where its frame and the arrays are the same: it

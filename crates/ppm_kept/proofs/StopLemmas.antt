@@ -188,6 +188,7 @@ module _ (i : Image) (fair : IsFair i.code) (root : Tree (Frame FrameWord Point)
     untaken = law.untaken;
     aims = aims;
     paid = λ p. subst (λ (c : ℕ). c ≤ start i p + (frame_size i.code i.code.root + law.ahead.0.block_words)) (sym (roof p (s.kind p))) (law.paid p);
+    counted = law.counted;
   }
 
   -- with no place in a row

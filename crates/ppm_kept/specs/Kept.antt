@@ -36,10 +36,11 @@ use Rattle.ppm_frames.specs.Good.{link_at, Good}
 use Rattle.ppm_kept.specs.Running.{HasCome, IsClean, strands}
 use Rattle.ppm_kept.specs.Branches.{Unpushed, Waits, is_taker, HasCopy}
 
--- a shape and a code
+-- a shape and a code; and how many capsules are to be counted at least, 0 but where a turn is asked whether it counts one
 pub record Image : Type 0 where
   pub shape : Shape
   pub code : CodeParts
+  pub counted : ℕ
 
 -- where the pool of a place begins
 abbrev pub start : Image → ℕ → ℕ
@@ -204,8 +205,9 @@ module _ (i : Image) where
   -- blocks stand well, no address is two words of it, and each is one of a pool below its ceiling;
   -- a place has as many leaves as its kind has strands; words above ceilings are free; what is
   -- under way stands so; the finish word is true; frames run at their two headers; what is not
-  -- pushed is not taken, and what is about to be taken waits; and no place has given out more of its
-  -- pool than the root's frame and the block words that are counted so far.
+  -- pushed is not taken, and what is about to be taken waits; no place has given out more of its pool
+  -- than the root's frame and the block words that are counted so far; and as many capsules are counted
+  -- as are to be.
   pub record IsKept (root : Tree (Frame FrameWord Point) Result) (input : Words) (s : State) (t : Skeleton) : Type 0 where
     pub ahead : (k : Counts)
         × Ahead (strands i.shape i.code) k root input (tree_of s.words t) (arrays_at s.words)
@@ -226,3 +228,4 @@ module _ (i : Image) where
     pub aims : AimsWell s t
     pub paid : (p : ℕ) → ceiling s.words p (s.kind p)
         ≤ start i p + (frame_size i.code i.code.root + ahead.0.block_words)
+    pub counted : i.counted ≤ ahead.0.capsules

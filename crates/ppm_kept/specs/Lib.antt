@@ -22,6 +22,7 @@ pub mod Loads
 pub mod Steps
 pub mod Bearing
 pub mod Answers
+pub mod Credit
 pub mod Rooms
 pub mod Heirs
 pub mod Left

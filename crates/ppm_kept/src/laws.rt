@@ -4,6 +4,7 @@ ghost use Rattle.ppm_kept.specs.Answers.{EndsAsMeant};
 ghost use Rattle.ppm_kept.specs.Arriving.{ArriveRowKeeps};
 ghost use Rattle.ppm_kept.specs.Bearing.{HeirsBear, TurnsBear, TurnsBearLeft};
 ghost use Rattle.ppm_kept.specs.Births.{AllBirthsStay, OpeningsHaveNone, RowsAreSteady};
+ghost use Rattle.ppm_kept.specs.Credit.{CapsulesAreCounted, CreditStays};
 ghost use Rattle.ppm_kept.specs.Copies.{AllCopiesStay, OpeningsHaveCopies};
 ghost use Rattle.ppm_kept.specs.Fates.{AllFatesShow, AllFatesStay, NoneIsLeft};
 ghost use Rattle.ppm_kept.specs.Heirs.{HeirsKeep};
@@ -171,6 +172,18 @@ pub fn turns_keep()
 pub fn turns_keep_left()
     ensures law { TurnsKeepLeft }
     ensures births { TurnsBearLeft }
+{}
+
+/// What the tree owes for word steps still to come: a turn pays what it takes off, and takes on no more
+/// than 36, where a capsule ends.
+pub fn credit_stays()
+    ensures law { CreditStays }
+{}
+
+/// With takeover by places no turn counts fewer capsules than were counted before, and one by which a
+/// capsule ends counts one more.
+pub fn capsules_are_counted()
+    ensures law { CapsulesAreCounted }
 {}
 
 /// From a state by places that is kept, with a finish word that says an outcome: the depth-first run of

@@ -10,7 +10,7 @@ use Rattle.ppm_cells.specs.Memory.{read}
 use Rattle.ppm_cells.specs.Restart.{address_fields}
 use Rattle.ppm_cells.specs.declared.restart.Restart.{Restart}
 use Rattle.ppm_cells.specs.declared.cell.Cell.{Cell}
-use Rattle.ppm_cells.specs.declared.cell.Cell.TheVariants.{FinishWord, RestartWord, RoomCounter, EntryWord, BlockWord, ArrayWord}
+use Rattle.ppm_cells.specs.declared.cell.Cell.TheVariants.{FinishWord, CarryWord, RestartWord, RoomCounter, EntryWord, BlockWord, ArrayWord}
 use Rattle.ppm_cells.specs.declared.entry.Entry.{Entry}
 use Rattle.ppm_cells.specs.declared.entry.Entry.TheVariants as entries
 use Rattle.ppm_cells.specs.declared.link.LinkKind.{LinkKind}
@@ -162,22 +162,31 @@ pub quiet_restart : (cell : Cell) → IsQuietCell cell → IsNoRestart cell
 quiet_restart (RestartWord p) q = absurd q
 quiet_restart _ q = tt
 
+-- no carry word
+abbrev pub IsNoCarry : Cell → Type 0
+IsNoCarry (CarryWord c) = ⊥
+IsNoCarry _ = Unit {0}
+
+pub quiet_carry : (cell : Cell) → IsQuietCell cell → IsNoCarry cell
+quiet_carry (CarryWord c) q = absurd q
+quiet_carry _ q = tt
+
 abbrev AnyPut : Cell → Content → Type 0
-AnyPut c x = IsNoRestart c
+AnyPut c x = IsNoRestart c × IsNoCarry c
 
 abbrev Changing : Takeover → Cell → (old new : Content) → Type 0
-Changing how c old new = MayChange how c old new × IsNoRestart c
+Changing how c old new = MayChange how c old new × IsNoRestart c × IsNoCarry c
 
 any_walk : (how : Takeover) (seat : Seat) → Walk how AnyPut (Changing how) seat
 any_walk how seat = record {
-  counter = λ x. tt;
-  block = λ a x. tt;
-  message = λ x. tt;
-  finish = λ x y. (tt, tt);
-  order = λ a x y. (tt, tt);
-  top = λ v x y. (tt, tt);
-  entry = λ v j a b law f g. ((law, f, g), tt);
-  holder = λ e v x y. (tt, tt);
+  counter = λ x. (tt, tt);
+  block = λ a x. (tt, tt);
+  message = λ x. (tt, tt);
+  finish = λ x y. (tt, tt, tt);
+  order = λ a x y. (tt, tt, tt);
+  top = λ v x y. (tt, tt, tt);
+  entry = λ v j a b law f g. ((law, f, g), tt, tt);
+  holder = λ e v x y. (tt, tt, tt);
 }
 
 -- what a row that has seen these words exchanges
@@ -453,7 +462,7 @@ module _ (s : Shape) (code : CodeParts) (places : s.takeover ≡ ByPlaces) (fair
   changing c seat cell old new next w = by w.seen
     where
       by : HasSeen s (spots.with_restarts (spots.view s state.words) (spots.kinds s state.words) (spots.bottoms s state.words)) seat (Exchange cell old new next) → Changing s.takeover cell old new
-      by (Strand is quiet) = (quiet_change s.takeover cell old new quiet.0, quiet_restart cell quiet.0)
+      by (Strand is quiet) = (quiet_change s.takeover cell old new quiet.0, quiet_restart cell quiet.0, quiet_carry cell quiet.0)
       by (Looks v ws fit is saw) = (row_fair c seat (Exchange cell old new next) w v ws fit is).0
 
   changes : (c : ℕ) (seat : Seat) (cell : Cell) (old new : Content) (next : Then) → Within s code root input state h forked taken t run c seat (Exchange cell old new next) → MayChange s.takeover cell old new
@@ -467,7 +476,17 @@ module _ (s : Shape) (code : CodeParts) (places : s.takeover ≡ ByPlaces) (fair
     where
       by : HasSeen s (spots.with_restarts (spots.view s state.words) (spots.kinds s state.words) (spots.bottoms s state.words)) seat (Store cell x next) → IsNoRestart cell
       by (Strand is quiet) = quiet_restart cell quiet.0
-      by (Looks v ws fit is saw) = (row_fair c seat (Store cell x next) w v ws fit is).0
+      by (Looks v ws fit is saw) = (row_fair c seat (Store cell x next) w v ws fit is).0.0
+
+  pub exchanges_no_carry : (c : ℕ) (seat : Seat) (cell : Cell) (old new : Content) (next : Then) → Within s code root input state h forked taken t run c seat (Exchange cell old new next) → IsNoCarry cell
+  exchanges_no_carry c seat cell old new next w = (changing c seat cell old new next w).2
+
+  pub stores_no_carry : (c : ℕ) (seat : Seat) (cell : Cell) (x : Content) (next : Then) → Within s code root input state h forked taken t run c seat (Store cell x next) → IsNoCarry cell
+  stores_no_carry c seat cell x next w = by w.seen
+    where
+      by : HasSeen s (spots.with_restarts (spots.view s state.words) (spots.kinds s state.words) (spots.bottoms s state.words)) seat (Store cell x next) → IsNoCarry cell
+      by (Strand is quiet) = quiet_carry cell quiet.0
+      by (Looks v ws fit is saw) = (row_fair c seat (Store cell x next) w v ws fit is).0.1
 
   -- an entry of a deque, by its word
   entry_shown : (v j : ℕ) (e : Entry) → is_there s (EntryWord v j) ≡ true → IsEntry e → read s state.words (EntryWord v j) ≡ word_of (AnEntry e) → spots.view s state.words (Slot v j) ≡ spots.word_as (AnEntry e)

@@ -39,3 +39,7 @@ pub mod WellWords
 pub mod WellCapsules
 pub mod WellTurns
 pub mod UnbrokenLemmas
+pub mod SumLemmas
+pub mod BegunLemmas
+pub mod WorkLemmas
+pub mod BoundLemmas

@@ -33,7 +33,7 @@ use Rattle.ppm_runs.specs.Run.{image, IsRun}
 use Rattle.ppm_runs.proofs.StandLemmas.{kinds_same, doing_own}
 
 -- a holder word names one processor
-names_one : (w : Word) (c d : ℕ) → Names w c → Names w d → c ≡ d
+pub names_one : (w : Word) (c d : ℕ) → Names w c → Names w d → c ≡ d
 names_one (Held t x) c d a b = sym a ∙ b
 names_one (Empty t) c d a b = absurd a
 names_one (Local t x) c d a b = absurd a

@@ -34,7 +34,7 @@ use Rattle.ppm_runs.proofs.GoingLemmas.{turns_go_on}
 use Rattle.ppm_runs.proofs.OpenLemmas.{runs_open}
 use Rattle.ppm_runs.proofs.OutcomeLemmas.{runs_end, stops_stay, finish_in}
 
-in_two : (s : Shape) (code : CodeParts) (state : RunState) (first more : List Turn) → after s code state (first ++ more) ≡ after s code (after s code state first) more
+pub in_two : (s : Shape) (code : CodeParts) (state : RunState) (first more : List Turn) → after s code state (first ++ more) ≡ after s code (after s code state first) more
 in_two s code state [] more = refl
 in_two s code state (turn ∷ first) more = in_two s code (happens s code state turn) first more
 

@@ -10,3 +10,4 @@ pub mod Sound
 pub mod Deques
 pub mod Well
 pub mod Unbroken
+pub mod Work

@@ -26,7 +26,7 @@ use Rattle.ppm_kept.specs.Unruns.{HasUnrun}
 
 -- a shape with its code
 abbrev pub image : Shape → CodeParts → Image
-image s code = record { shape = s; code = code }
+image s code = record { shape = s; code = code; counted = 0 }
 
 -- what has come of a right branch, by where it is
 abbrev pub fate_of : Home → Fate

@@ -8,6 +8,7 @@ ghost use Rattle.ppm_runs.specs.Renewals.{PartsComeTo, RunsComeBack};
 ghost use Rattle.ppm_runs.specs.Spent.{RoomIsSpent};
 ghost use Rattle.ppm_runs.specs.Unbroken.{NothingBreaks};
 ghost use Rattle.ppm_runs.specs.Whole.{JoinsStay, RunsComeTo, TurnsLead};
+ghost use Rattle.ppm_runs.specs.Work.{WorkIsBounded, WorkIsWithin256};
 
 /// With takeover by places each turn is orderly in a state of a run: block words that it changes
 /// are those of pools, a block that it forks was not forked before, and a branch that it begins
@@ -92,4 +93,12 @@ pub fn runs_come_back()
 pub fn nothing_breaks()
     ensures deques { DequesAreSound }
     ensures law { NothingBreaks }
+{}
+
+/// From an image of a sound code, with takeover by places, whatever the turns: where the depth-first run
+/// of the root ends, all work turns together are no more than 218 for each of its capsules, 171 for each
+/// fault that strikes a row of work, and 6; so they are fewer than 256 for each.
+pub fn work_is_bounded()
+    ensures law { WorkIsBounded }
+    ensures within { WorkIsWithin256 }
 {}

@@ -5,17 +5,17 @@ use ppm_ends::{
 };
 use ppm_frames::{cells_are_viewed, parts_swap, steps_pass_up, stores_are_seen, values_pass};
 use ppm_kept::{
-    arrive_row_keeps, branch_values_pass, bump_row_keeps, copies_stay, early_join_row_keeps,
-    ends_as_meant, exchanges_are_seen, fates_agree, forks_are_new, frames_run, heirs_keep,
-    join_row_keeps, last_join_row_keeps, loads_show, openings_are_kept, others_keep,
-    push1_row_keeps, push2_row_keeps, room_is_bounded, run_row_keeps, steps_are_seen,
-    take_rows_keep, turns_bear, turns_keep, turns_keep_left, turns_show, unruns_stay,
-    untaken_stays, unwind_row_keeps,
+    arrive_row_keeps, branch_values_pass, bump_row_keeps, capsules_are_counted, copies_stay,
+    credit_stays, early_join_row_keeps, ends_as_meant, exchanges_are_seen, fates_agree,
+    forks_are_new, frames_run, heirs_keep, join_row_keeps, last_join_row_keeps, loads_show,
+    openings_are_kept, others_keep, push1_row_keeps, push2_row_keeps, room_is_bounded,
+    run_row_keeps, steps_are_seen, take_rows_keep, turns_bear, turns_keep, turns_keep_left,
+    turns_show, unruns_stay, untaken_stays, unwind_row_keeps,
 };
 use ppm_paces::{capsules_are_short, looks_are_free, rows_are_paid, rows_keep_pace};
 use ppm_runs::{
     births_follow, nothing_breaks, room_is_spent, runs_come_back, runs_come_to, runs_end,
-    runs_open, runs_stay, stops_stay, takers_have, turns_are_orderly, turns_go_on,
+    runs_open, runs_stay, stops_stay, takers_have, turns_are_orderly, turns_go_on, work_is_bounded,
 };
 use ppm_slots::{frames_stay_trim, writes_are_slots};
 use ppm_tickets::{
@@ -88,6 +88,8 @@ fn the_laws_of_rows_are_called() {
     turns_keep_left();
     ends_as_meant();
     room_is_bounded();
+    credit_stays();
+    capsules_are_counted();
 }
 
 #[test]
@@ -112,4 +114,5 @@ fn the_laws_of_runs_are_called() {
     births_follow();
     turns_are_orderly();
     turns_go_on();
+    work_is_bounded();
 }

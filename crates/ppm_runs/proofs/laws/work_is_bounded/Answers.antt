@@ -1,0 +1,5 @@
+use Rattle.ppm_runs.proofs.BoundLemmas.{work_is_bounded, work_is_within_256}
+use Rattle.ppm_runs.proofs.laws.work_is_bounded.Goals as goal
+
+pub returns : goal.returns
+returns c = record { law = work_is_bounded; within = work_is_within_256 }
