@@ -26,6 +26,7 @@ pub mod OfReplay
 pub mod WatchLemmas
 pub mod ArrayLemmas
 pub mod TakenLemmas
+pub mod WorkLemmas
 pub mod ScheduledLemmas
 pub mod MeantLemmas
 pub mod MeantRows

@@ -1,6 +1,7 @@
 -- With takeover by places runs end as their programs do. What the machine begins with is what the depth-first run of the program's code does
 -- (`ShowsTheRun`), and that code is sound: so an outcome of the run is the depth-first run's, and that is the program's.
-use Rattle.std.proofs.Common.{◌≡◌, ℕ, ◌≤◌, List, [], ◌∷◌, length, map, Some, refl, sym, ap, ap₂, ◌∙◌, subst, arith}
+use Rattle.std.proofs.Common.{◌≡◌, ℕ, ◌+◌, ◌^◌, ◌≤◌, List, [], ◌∷◌, length, map, Some, refl, sym, ap, ap₂, ◌∙◌, subst, arith, inl, inr}
+use Rattle.std.proofs.lemmas.Bool.{cases_lt}
 use Rattle.std.specs.List.{AllByRecursion, sum}
 use Rattle.ppm_strands.specs.Tree.{Words, Tree, Code}
 use Rattle.ppm_strands.specs.Calm.{Calm}
@@ -42,7 +43,7 @@ use Rattle.ppm_cut_correct.specs.Correct.{EndAsMeant, EndsSerially}
 use Rattle.ppm_step.specs.Among.{IsTurnAmong}
 use Rattle.ppm_step.specs.Laws.{reached}
 use Rattle.ppm_step.specs.Standings.{Standing, IsLost, IsPlaced, IsAt, IsWithin as IsInRow, IsRunning, IsBroken, IsDone}
-use Rattle.ppm_step.specs.State.{State, stand_of, want_of, acts, happens, after, opening}
+use Rattle.ppm_step.specs.State.{State, stand_of, want_of, acts, happens, after, along, opening, work_of}
 use Rattle.ppm_step.specs.declared.turn.Act.{Act}
 use Rattle.ppm_step.specs.declared.turn.Turn.{Turn}
 use Rattle.ppm_step.proofs.WordLemmas.{length_stays}
@@ -56,15 +57,18 @@ use Rattle.ppm_runs.specs.Moments.{AreOnce, OnceAtEachMoment}
 use Rattle.ppm_runs.specs.Outcomes.{EndsWell}
 use Rattle.ppm_runs.specs.Run.{image}
 use Rattle.ppm_runs.specs.Spent.{RoomIsSpent}
+use Rattle.ppm_runs.specs.Unbroken.{NothingBreaks}
 use Rattle.ppm_runs.specs.Whole.{RunsComeTo}
+use Rattle.ppm_runs.specs.Work.{WorkIsWithin256}
 use Rattle.ppm_core.specs.Situation.{Situation, loaded}
 use Rattle.ppm_driver.specs.declared.loading.Sizes.{Sizes}
 use Rattle.ppm_driver.specs.Loading.{Opens}
-use Rattle.ppm_driver.specs.Meant.{HasOutcome, NeedsMoreRoom, EachIsTakenOnce, EndsAsProgram, IsAsProgram, RunsAreAsPrograms}
+use Rattle.ppm_driver.specs.Meant.{HasOutcome, NeedsMoreRoom, NeedsMoreTurns, struck_in, EachIsTakenOnce, EndsAsProgram, IsAsProgram, RunsAreAsPrograms}
 use Rattle.ppm_driver.specs.Says.{arrays_from}
 use Rattle.ppm_driver.proofs.ArrayLemmas.{same_arrays}
 use Rattle.ppm_driver.proofs.EndLemmas.{keeper_opened, words_opened}
 use Rattle.ppm_driver.proofs.TakenLemmas.{as_long}
+use Rattle.ppm_driver.proofs.WorkLemmas.{works_are}
 
 -- what the crates below show of every text, every code, every image and every run
 pub record Laws : Type 0 where
@@ -79,6 +83,8 @@ pub record Laws : Type 0 where
   pub runs : RunsComeTo
   pub once : OnceAtEachMoment
   pub room : RoomIsSpent
+  pub work : WorkIsWithin256
+  pub whole : NothingBreaks
 
 -- a machine has as many words after turns as before them
 module _ (s : Shape) (code : CodeParts) where
@@ -231,8 +237,24 @@ module _ (laws : Laws) (text : List ℕ) (t : ProgramTree) (has : HasProgram tex
           let words_are = e.2.pool_words in
           omega (arith, less, words_are)
 
+      -- words are broken only behind more work turns than a tag counts
+      breaks : (place : ℕ) → Says (finishes.Broken place) → 2 ^ 34 ≤ length (along s code work_of (opening words s.processors) turns) + 1
+      breaks place says =
+          let count = works_are s code (opening words s.processors) turns in
+          elim (cases_lt (length (along s code work_of (opening words s.processors) turns) + 1) (2 ^ 34)) [
+            | inl few ↦ absurd ((laws.whole code input s keeper b.image (b.sized.takeover ∙ places) fair opened calm turns among
+                (omega (arith, few, count))).finish (finishes.Broken place) says)
+            | inr many ↦ many
+          ]
+
+      -- the work of all turns is within its bound
+      works : NeedsMoreTurns t (struck_in start turns) (length (along s code work_of (opening words s.processors) turns))
+      works e comes =
+          laws.work code input s keeper b.image (b.sized.takeover ∙ places) fair opened calm turns among e
+          (ends_as (sym shown.strands) (sym shown.root) (sym shown.arrays) e comes)
+
       as_program : IsAsProgram start turns t
-      as_program = record { once = none_twice; ended = when_ended; trapped = when_trapped; full = needs_more }
+      as_program = record { once = none_twice; ended = when_ended; trapped = when_trapped; unbroken = breaks; work = works; full = needs_more }
         where
           when_ended : Says finishes.Ended → EndsAsProgram start turns t (outcome.Ended (arrays_from s b.image.lengths last.words 0 input))
           when_ended says =

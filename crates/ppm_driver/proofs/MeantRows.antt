@@ -1,5 +1,5 @@
 -- What rows say of runs and replays that end: with takeover by places they end as their programs do.
-use Rattle.std.proofs.Common.{◌≡◌, ◌<◌, ◌+◌, ℕ, List, [], length, Some, refl, sym, ap, ◌∙◌, subst, arith}
+use Rattle.std.proofs.Common.{◌≡◌, ◌<◌, ◌≤◌, ◌+◌, ◌*◌, ◌^◌, ℕ, List, [], length, Some, refl, sym, ap, ◌∙◌, subst, arith}
 use Rattle.std.proofs.lemmas.List.Elements.{recursion_from_All}
 use Rattle.ppm_words.specs.declared.named_array.NamedArray.{NamedArray}
 use Rattle.ppm_words.specs.declared.outcome.Outcome.TheVariants as outcome
@@ -21,6 +21,7 @@ use Rattle.ppm_step.specs.Among.{IsTurnAmong}
 use Rattle.ppm_step.specs.State.{forks_of, takes_of, along}
 use Rattle.ppm_step.specs.declared.turn.Turn.{Turn}
 use Rattle.ppm_core.specs.Situation.{Situation, finish_in}
+use Rattle.ppm_choice.specs.Deeds.{work_made}
 use Rattle.ppm_choice.specs.Schedules.{schedule_turns}
 use Rattle.ppm_answers.specs.declared.answer.Answer.{Answer}
 use Rattle.ppm_answers.specs.declared.answer.Answer.TheVariants as answers
@@ -28,7 +29,7 @@ use Rattle.ppm_answers.specs.declared.tally.Tally.{Tally}
 use Rattle.ppm_cli.specs.declared.run.RunOptions.{RunOptions}
 use Rattle.ppm_cli.specs.declared.replay.ReplayOptions.{ReplayOptions}
 use Rattle.ppm_driver.specs.Followed.{followed}
-use Rattle.ppm_driver.specs.Meant.{NeedsMoreRoom, NoneIsTakenTwice, EachIsTakenOnce, EndsAsProgram, IsAsProgram, RunsAreAsPrograms}
+use Rattle.ppm_driver.specs.Meant.{NeedsMoreRoom, NeedsMoreTurns, struck_in, NoneIsTakenTwice, EachIsTakenOnce, EndsAsProgram, IsAsProgram, RunsAreAsPrograms}
 use Rattle.ppm_driver.specs.RunOf.{words_behind, finish_behind}
 use Rattle.ppm_driver.specs.Says.{arrays_from, IsOfFinish}
 use Rattle.ppm_driver.specs.Runs as runs
@@ -38,6 +39,7 @@ use Rattle.ppm_driver.proofs.LoadingLemmas.{opens_processors, opens_room}
 use Rattle.ppm_driver.proofs.SayLemmas.{said_of_word}
 use Rattle.ppm_driver.proofs.ScheduledLemmas.{scheduled_among}
 use Rattle.ppm_driver.proofs.TakenLemmas.{count_forked, count_taken}
+use Rattle.ppm_driver.proofs.WorkLemmas.{of_all, obeyed_work, scheduled_work}
 
 -- which finish the answers of runs that end are of
 module _ (s : Shape) (lengths words : List ℕ) (input : List NamedArray) where
@@ -75,6 +77,15 @@ module _ (s : Shape) (lengths words : List ℕ) (input : List NamedArray) where
   full_run (finishes.OutOfTurns processor) place h = cc
   full_run finishes.Stopped place h = absurd h
   full_run finishes.Unset place h = absurd h
+
+  broken_run : (finish : Finish) (place : ℕ) → OfRun finish (answers.Broken place) → finish ≡ finishes.Broken place
+  broken_run finishes.Ended place h = cc
+  broken_run (finishes.Trapped trap line) place h = cc
+  broken_run (finishes.OutOfRoom other) place h = cc
+  broken_run (finishes.Broken other) place h = cc
+  broken_run (finishes.OutOfTurns processor) place h = cc
+  broken_run finishes.Stopped place h = absurd h
+  broken_run finishes.Unset place h = absurd h
 
   -- and those of replays, with what they count
   module _ (turns : ℕ) (counts : Tally) where
@@ -114,14 +125,29 @@ module _ (s : Shape) (lengths words : List ℕ) (input : List NamedArray) where
     full_replay finishes.Stopped place h = absurd h
     full_replay finishes.Unset place h = absurd h
 
+    broken_replay : (finish : Finish) (place : ℕ) → OfReplay finish (answers.Broken place) → finish ≡ finishes.Broken place
+    broken_replay finishes.Ended place h = cc
+    broken_replay (finishes.Trapped trap line) place h = cc
+    broken_replay (finishes.OutOfRoom other) place h = cc
+    broken_replay (finishes.Broken other) place h = cc
+    broken_replay (finishes.OutOfTurns processor) place h = absurd h
+    broken_replay finishes.Stopped place h = absurd h
+    broken_replay finishes.Unset place h = absurd h
+
 no_other : (turns : ℕ) (arrays : List NamedArray) (tally : Tally) → answers.EndedWith arrays tally ≡ answers.Unfinished turns → ⊥
 no_other turns arrays tally e = cc
 
 no_other_trap : (turns : ℕ) (trap : Trap) (line : ℕ) (tally : Tally) → answers.TrappedWith trap line tally ≡ answers.Unfinished turns → ⊥
 no_other_trap turns trap line tally e = cc
 
+no_other_broken : (turns place : ℕ) → answers.Broken place ≡ answers.Unfinished turns → ⊥
+no_other_broken turns place e = cc
+
 no_other_room : (turns place : ℕ) → answers.OutOfRoom place ≡ answers.Unfinished turns → ⊥
 no_other_room turns place e = cc
+
+past_most : {some most : ℕ} → 2 ^ 34 ≤ some + 1 → some ≤ most → 2 ^ 34 ≤ most + 1
+past_most many few = omega (arith, many, few)
 
 module _ (law : RunsAreAsPrograms) (text : List ℕ) (t : ProgramTree) (has : HasProgram text t) where
   -- of `run`
@@ -160,6 +186,29 @@ module _ (law : RunsAreAsPrograms) (text : List ℕ) (t : ProgramTree) (has : Ha
         let e = full_run h.start.shape h.start.array_lengths w (initial_arrays t) k.0 place k.2 in
         subst (NeedsMoreRoom t) (opens_room (runs.sizes_of options) (code_of t) (initial_arrays t) h.keeper h.start h.opens)
         ((run_is (answers.OutOfRoom place) h).full place (k.1 ∙ ap (λ (f : Finish). Some f) e))
+
+    -- with so many work turns that tags could not count them
+    pub run_many : (place : ℕ) (h : Has (answers.Broken place)) → 2 ^ 34 ≤ options.processors * options.turns + 1
+    run_many place h =
+        let w = words_behind h.start h.run.turns in
+        let k = said_of_word answers.Ended answers.Trapped (λ processor x. x ≡ answers.OutOfTurns processor) (λ x. ⊥) h.start.shape
+        h.start.array_lengths w (initial_arrays t) (finish_behind h.start h.run.turns) (answers.Broken place) (λ none. none) h.run.says in
+        let e = broken_run h.start.shape h.start.array_lengths w (initial_arrays t) k.0 place k.2 in
+        let many = (run_is (answers.Broken place) h).unbroken place (k.1 ∙ ap (λ (f : Finish). Some f) e) in
+        let most = obeyed_work h.start.shape h.start.code (runs.plan_of options items) (runs.limits_of options) h.start.state h.run.turns h.run.obey
+        (recursion_from_All (IsTurnAmong h.start.shape.processors) h.run.turns h.run.obey.among) in
+        subst (λ (n : ℕ). 2 ^ 34 ≤ n * options.turns + 1)
+        (opens_processors (runs.sizes_of options) (code_of t) (initial_arrays t) h.keeper h.start h.opens)
+        (past_most many most)
+
+    -- what one processor made of its turns is within the work of all
+    pub run_needs_turns : (c : ℕ) (h : Has (answers.OutOfTurns c))
+        → work_made h.start.shape h.start.code c h.start.state h.run.turns ≡ options.turns
+        → NeedsMoreTurns t (struck_in h.start h.run.turns) options.turns
+    run_needs_turns c h made e comes =
+        let within = (run_is (answers.OutOfTurns c) h).work e comes in
+        let mine = of_all h.start.shape h.start.code c h.start.state h.run.turns in
+        omega (arith, within, mine, made)
 
     pub run_once : (a : Answer) (h : Has a) → NoneIsTakenTwice h.start h.run.turns
     run_once a h = (run_is a h).once
@@ -232,6 +281,16 @@ module _ (law : RunsAreAsPrograms) (text : List ℕ) (t : ProgramTree) (has : Ha
         let e = full_replay m.shape m.array_lengths m.state.words (initial_arrays t) options.turns (tally_of m) k.0 place k.2 in
         subst (NeedsMoreRoom t) (opens_room (replays.sizes_of options) (code_of t) (initial_arrays t) h.keeper h.start h.opens)
         ((replay_is (answers.OutOfRoom place) h).full place (k.1 ∙ ap (λ (f : Finish). Some f) e))
+
+    pub replay_many : (place : ℕ) (h : HasReplay (answers.Broken place)) → 2 ^ 34 ≤ options.turns + 1
+    replay_many place h =
+        let m = last h.start in
+        let k = said_of_word (λ values. answers.EndedWith values (tally_of m)) (λ trap line. answers.TrappedWith trap line (tally_of m))
+        (λ processor x. ⊥) (λ x. x ≡ answers.Unfinished options.turns) m.shape m.array_lengths m.state.words (initial_arrays t) (finish_in m)
+        (answers.Broken place) (no_other_broken options.turns place) h.says in
+        let e = broken_replay m.shape m.array_lengths m.state.words (initial_arrays t) options.turns (tally_of m) k.0 place k.2 in
+        let many = (replay_is (answers.Broken place) h).unbroken place (k.1 ∙ ap (λ (f : Finish). Some f) e) in
+        past_most many (scheduled_work h.start.shape h.start.code h.start.state items options.turns)
 
     pub replay_once : (a : Answer) (h : HasReplay a) → NoneIsTakenTwice h.start (turns_in h.start)
     replay_once a h = (replay_is a h).once

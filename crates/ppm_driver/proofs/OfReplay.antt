@@ -20,7 +20,7 @@ use Rattle.ppm_driver.specs.Meant.{RunsAreAsPrograms}
 use Rattle.ppm_driver.specs.Planned.{IsRefusedBy, HasByItems}
 use Rattle.ppm_driver.specs.Replays.{TextHas, ReplayMay, HaveOneAnswer}
 use Rattle.ppm_driver.specs.ReplayRows.{HasRead, WritesUnfinished, ReplaySays, ReplayRows}
-use Rattle.ppm_driver.proofs.MeantRows.{replay_ends, replay_traps, replay_needs, replay_once}
+use Rattle.ppm_driver.proofs.MeantRows.{replay_ends, replay_traps, replay_needs, replay_many, replay_once}
 use Rattle.ppm_driver.proofs.PlannedLemmas as planned
 use Rattle.ppm_driver.proofs.ReplayLemmas.{of_program, filled_has}
 
@@ -81,7 +81,10 @@ module _ (law : RunsAreAsPrograms) (options : ReplayOptions) (schedule : List â„
         replay_once law h.0 h.2.has.0 h.2.has.1 options places schedule h.2.items h.2.accepted (answers.OutOfRoom place) h.2.has.2;
     gets = w.err_takes.0;
   }
-  by (answers.Broken place) h w = (place, of_program options h.2.items h.2.has.0 (answers.Broken place) h.2.has.2, h, w.err_takes.0)
+  by (answers.Broken place) h w = record {
+    broken = (place, of_program options h.2.items h.2.has.0 (answers.Broken place) h.2.has.2, h, w.err_takes.0);
+    many = Î» places. replay_many law h.0 h.2.has.0 h.2.has.1 options places schedule h.2.items h.2.accepted place h.2.has.2;
+  }
   by answer h w = absurd (of_program options h.2.items h.2.has.0 answer h.2.has.2)
 
   module _ (status : Status) (a : DeliversAnswer (ReplayMay options schedule o.source) o status) where

@@ -21,7 +21,7 @@ use Rattle.ppm_driver.specs.Meant.{RunsAreAsPrograms}
 use Rattle.ppm_driver.specs.Planned.{IsRefusedBy, HasByItems}
 use Rattle.ppm_driver.specs.Runs.{RunHas, RunMay, AnswersAreOne, FrontsDecideAnswers}
 use Rattle.ppm_driver.specs.RunRows.{Has, RunSays, RunRows}
-use Rattle.ppm_driver.proofs.MeantRows.{run_ends, run_traps, run_needs, run_once}
+use Rattle.ppm_driver.proofs.MeantRows.{run_ends, run_traps, run_needs, run_needs_turns, run_many, run_once}
 use Rattle.ppm_driver.proofs.PlannedLemmas as planned
 use Rattle.ppm_driver.proofs.RunLemmas.{of_program, spent_has, filled_has, run_forgets}
 
@@ -57,6 +57,9 @@ module _ (law : RunsAreAsPrograms) (options : RunOptions) (watching : ℕ) (plan
     processor = processor;
     read = h;
     spent = spent_has options watching o.told_before o.told_now h.2.items h.2.has.0 processor h.2.has.2;
+    needs = λ places.
+        run_needs_turns law h.0 h.2.has.0 h.2.has.1 options places watching o.told_before o.told_now h.2.items processor h.2.has.2
+        (spent_has options watching o.told_before o.told_now h.2.items h.2.has.0 processor h.2.has.2).1;
     once = λ places.
         run_once law h.0 h.2.has.0 h.2.has.1 options places watching o.told_before o.told_now h.2.items (answers.OutOfTurns processor) h.2.has.2;
     gets = w.err_takes.0;
@@ -74,7 +77,15 @@ module _ (law : RunsAreAsPrograms) (options : RunOptions) (watching : ℕ) (plan
     gets = w.err_takes.0;
   }
   by (answers.Broken place) h w =
-      (place, of_program options watching o.told_before o.told_now h.2.items h.2.has.0 (answers.Broken place) h.2.has.2, h, w.err_takes.0)
+      record {
+        broken = (
+          place,
+          of_program options watching o.told_before o.told_now h.2.items h.2.has.0 (answers.Broken place) h.2.has.2,
+          h,
+          w.err_takes.0,
+        );
+        many = λ places. run_many law h.0 h.2.has.0 h.2.has.1 options places watching o.told_before o.told_now h.2.items place h.2.has.2;
+      }
   by answer h w = absurd (of_program options watching o.told_before o.told_now h.2.items h.2.has.0 answer h.2.has.2)
 
   module _ (status : Status) (d : DeliversAnswer (RunMay options watching plan o.told_before o.told_now o.source) (ports_of o) status) where

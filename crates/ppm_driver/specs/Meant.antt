@@ -1,12 +1,15 @@
 -- What runs of a program's machine come to, in the words of the program's serial meaning.
-use Rattle.std.specs.Prelude.{◌≡◌, ◌<◌, ℕ, ℤ, List, [], Some, length}
+use Rattle.std.specs.Prelude.{◌≡◌, ◌<◌, ◌≤◌, ℕ, ◌+◌, ◌*◌, ◌^◌, ℤ, List, [], Some, length}
 use Rattle.std.specs.List.{AllByRecursion}
+use Rattle.ppm_strands.specs.Run.{End as CapsuleEnd}
 use Rattle.ppm_words.specs.declared.outcome.Outcome.{Outcome}
 use Rattle.ppm_words.specs.declared.outcome.Outcome.TheVariants as outcome
 use Rattle.ppm_words.specs.declared.trap.Trap.{Trap}
 use Rattle.ppm_cells.specs.Finish.{finish_of}
 use Rattle.ppm_cells.specs.declared.finish.Finish.TheVariants as finishes
 use Rattle.ppm_cells.specs.declared.shape.Takeover.TheVariants.{ByPlaces}
+use Rattle.ppm_code.specs.Strands.{Result}
+use Rattle.ppm_depth.specs.Run.{ComesTo}
 use Rattle.ppm_tree.specs.Tree.{ProgramTree}
 use Rattle.ppm_tree.specs.Meaning.{Whole, Counts, End}
 use Rattle.ppm_tree.specs.Program.{initial_arrays, values_of, Means, Serial}
@@ -14,7 +17,9 @@ use Rattle.ppm_program.specs.Programs.{HasProgram}
 use Rattle.ppm_cut_code.specs.Routines.{code_of}
 use Rattle.ppm_cut_correct.specs.Correct.{words_taken}
 use Rattle.ppm_step.specs.Among.{IsTurnAmong}
+use Rattle.ppm_step.specs.State.{along, work_of}
 use Rattle.ppm_step.specs.declared.turn.Turn.{Turn}
+use Rattle.ppm_paces.specs.Paces.{strikes_of}
 use Rattle.ppm_tickets.specs.Along.{forked, taken}
 use Rattle.ppm_tickets.specs.Words.{has}
 use Rattle.ppm_runs.specs.Moments.{AreOnce}
@@ -32,6 +37,10 @@ HasOutcome t o = (within : ℕ) × Serial t within o
 -- calls, its forks and each `each` ask for. Each pool of a machine has as many words as its room.
 abbrev pub NeedsMoreRoom : ProgramTree → (room : ℕ) → Type 0
 NeedsMoreRoom t room = (k : Counts) (z : End ℤ) → Means Whole t (values_of (initial_arrays t)) k z → room < words_taken t k
+
+-- The code of the program, run depth first, has no end, or so many turns are fewer than 256 for each of its capsules and each of so many faults.
+abbrev pub NeedsMoreTurns : ProgramTree → (faults limit : ℕ) → Type 0
+NeedsMoreTurns t faults limit = (e : CapsuleEnd Result) → ComesTo (code_of t) (initial_arrays t) e → limit < 256 * (e.counts.capsules + faults)
 
 module _ (m : Situation) (turns : List Turn) where
   -- the blocks whose right branches are forked in these turns of a machine, and those whose right branches are taken, newest first
@@ -51,19 +60,28 @@ module _ (m : Situation) (turns : List Turn) where
     pub all : (block : ℕ) → has forked_in block ≡ has taken_in block
     pub alike : length forked_in ≡ length taken_in
 
+  -- how many faults of these turns strike a row of work: they find one under way, or at the broken words that it has met
+  abbrev pub struck_in : ℕ
+  struck_in = length (along m.shape m.code strikes_of m.state turns)
+
   -- a run of these turns ends as the program does: with its serial outcome, and with each branch that was forked taken once
   pub record EndsAsProgram (t : ProgramTree) (o : Outcome) : Type 0 where
     pub serially : HasOutcome t o
     pub branches : EachIsTakenOnce
 
-  -- What holds behind these turns: no branch is taken twice; where the finish word says an outcome the run ends as the program does, with
-  -- the arrays of the words then, or this trap; and where it says that a pool is full, the program takes more words.
+  -- What holds behind these turns. No branch is taken twice. Where the finish word says an outcome the run ends as the program does, with the
+  -- arrays of the words then, or this trap; where it says that a pool is full, the program takes more words; and that words are broken it
+  -- says only behind more work turns than a tag counts. All work turns are fewer than 256 for each capsule of the program's code and each
+  -- fault that strikes a row of work.
   pub record IsAsProgram (t : ProgramTree) : Type 0 where
     pub once : NoneIsTakenTwice
     pub ended : finish_of (finish_behind m turns) ≡ Some finishes.Ended
         → EndsAsProgram t (outcome.Ended (arrays_from m.shape m.array_lengths (words_behind m turns) 0 (initial_arrays t)))
     pub trapped : (trap : Trap) (line : ℕ) → finish_of (finish_behind m turns) ≡ Some (finishes.Trapped trap line)
         → EndsAsProgram t (outcome.Trapped trap line)
+    pub unbroken : (place : ℕ) → finish_of (finish_behind m turns) ≡ Some (finishes.Broken place)
+        → 2 ^ 34 ≤ length (along m.shape m.code work_of m.state turns) + 1
+    pub work : NeedsMoreTurns t struck_in (length (along m.shape m.code work_of m.state turns))
     pub full : (place : ℕ) → finish_of (finish_behind m turns) ≡ Some (finishes.OutOfRoom place) → NeedsMoreRoom t m.shape.room
 
 -- With takeover by places, from the machine with which a run of a text's program begins, whatever the turns are that its processors make, and

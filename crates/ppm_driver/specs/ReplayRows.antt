@@ -1,5 +1,5 @@
 -- What follows from each status of `replay`.
-use Rattle.std.specs.Prelude.{◌≡◌, ℕ, ◌<◌, List, ◌++◌}
+use Rattle.std.specs.Prelude.{◌≡◌, ℕ, ◌<◌, ◌≤◌, ◌+◌, ◌^◌, List, ◌++◌}
 use Rattle.ppm_words.specs.declared.named_array.NamedArray.{NamedArray}
 use Rattle.ppm_words.specs.declared.outcome.Outcome.TheVariants as outcome
 use Rattle.ppm_words.specs.declared.trap.Trap.{Trap}
@@ -95,6 +95,12 @@ module _ (options : ReplayOptions) (schedule : List ℕ) (o : Ports) where
     pub once : IsOnce read.2.has.2.start read.2.items
     pub gets : Gets o.err (room_text place)
 
+  -- the words are broken at a place, and err got exactly the line that says so; with takeover by places only where more acts may be made than
+  -- a tag counts
+  pub record WritesBroken : Type 0 where
+    pub broken : machine.WritesBroken schedule_form schedule options.processors (TextHas options) o
+    pub many : options.takeover ≡ ByPlaces → 2 ^ 34 ≤ options.turns + 1
+
   -- what each status says
   abbrev pub ReplaySays : Status → Type 0
   ReplaySays statuses.Ended = WritesArrays
@@ -103,7 +109,7 @@ module _ (options : ReplayOptions) (schedule : List ℕ) (o : Ports) where
   ReplaySays statuses.WordsRefused = machine.RefusesPlan schedule_form schedule options.processors o × IsUnread o.source
   ReplaySays statuses.OutOfTurns = WritesUnfinished
   ReplaySays statuses.OutOfRoom = WritesOutOfRoom
-  ReplaySays statuses.Broken = machine.WritesBroken schedule_form schedule options.processors (TextHas options) o
+  ReplaySays statuses.Broken = WritesBroken
   ReplaySays status = PortsSay o status
 
   -- The rows of `replay` with such options and such a schedule. The answer that a text has is written, whichever it is.

@@ -1,5 +1,5 @@
 -- What follows from each status of `run`.
-use Rattle.std.specs.Prelude.{◌≡◌, ℕ, ◌<◌, List}
+use Rattle.std.specs.Prelude.{◌≡◌, ℕ, ◌<◌, ◌≤◌, ◌+◌, ◌*◌, ◌^◌, List}
 use Rattle.ppm_words.specs.declared.named_array.NamedArray.{NamedArray}
 use Rattle.ppm_words.specs.declared.outcome.Outcome.TheVariants as outcome
 use Rattle.ppm_words.specs.declared.trap.Trap.{Trap}
@@ -22,7 +22,7 @@ use Rattle.ppm_driver.specs.MachineRows as machine
 use Rattle.ppm_choice.specs.Deeds.{work_made}
 use Rattle.ppm_core.specs.Situation.{Situation}
 use Rattle.ppm_step.specs.declared.turn.Turn.{Turn}
-use Rattle.ppm_driver.specs.Meant.{NeedsMoreRoom, NoneIsTakenTwice, EndsAsProgram}
+use Rattle.ppm_driver.specs.Meant.{NeedsMoreTurns, NeedsMoreRoom, struck_in, NoneIsTakenTwice, EndsAsProgram}
 use Rattle.ppm_driver.specs.Planned.{IsRefusedBy, HasByItems}
 use Rattle.ppm_driver.specs.Runs.{RunHas, TextHas}
 
@@ -70,11 +70,18 @@ module _ (options : RunOptions) (watching : ℕ) (plan : List ℕ) (o : Outside)
       (processor < options.processors)
       × (work_made p.start.shape p.start.code processor p.start.state p.run.turns ≡ options.turns)
 
-  -- so it is, and err got exactly the line that says so
+  -- with takeover by places they are too few
+  abbrev pub AreTooFew : (processor : ℕ) → HasRead (answers.OutOfTurns processor) → Type 0
+  AreTooFew processor read =
+      let p = read.2.has in options.takeover ≡ ByPlaces → NeedsMoreTurns p.0 (struck_in p.2.start p.2.run.turns) options.turns
+
+  -- So it is, and err got exactly the line that says so. With takeover by places so many turns are fewer than 256 for each capsule that the
+  -- program's code runs depth first and each fault that struck a row of work, or that run has no end.
   pub record WritesOutOfTurns : Type 0 where
     pub processor : ℕ
     pub read : HasRead (answers.OutOfTurns processor)
     pub spent : IsSpent processor read
+    pub needs : AreTooFew processor read
     pub once : let p = read.2.has.2 in IsOnce p.start p.run.turns
     pub gets : Gets o.err (turns_text processor)
 
@@ -95,6 +102,12 @@ module _ (options : RunOptions) (watching : ℕ) (plan : List ℕ) (o : Outside)
     pub once : let p = read.2.has.2 in IsOnce p.start p.run.turns
     pub gets : Gets o.err (room_text place)
 
+  -- the words are broken at a place, and err got exactly the line that says so; with takeover by places only where all processors together
+  -- may make more work turns than a tag counts
+  pub record WritesBroken : Type 0 where
+    pub broken : machine.WritesBroken plan_form plan options.processors Has (ports_of o)
+    pub many : options.takeover ≡ ByPlaces → 2 ^ 34 ≤ options.processors * options.turns + 1
+
   -- what each status says
   abbrev pub RunSays : Status → Type 0
   RunSays statuses.Ended = WritesArrays
@@ -103,7 +116,7 @@ module _ (options : RunOptions) (watching : ℕ) (plan : List ℕ) (o : Outside)
   RunSays statuses.WordsRefused = machine.RefusesPlan plan_form plan options.processors (ports_of o) × IsUnread o.source
   RunSays statuses.OutOfTurns = WritesOutOfTurns
   RunSays statuses.OutOfRoom = WritesOutOfRoom
-  RunSays statuses.Broken = machine.WritesBroken plan_form plan options.processors Has (ports_of o)
+  RunSays statuses.Broken = WritesBroken
   RunSays status = PortsSay (ports_of o) status
 
   -- The rows of `run` with such options and such a plan, where so many watchers are told what their processors do. Where there is one processor, the answer that a text has is written, whichever it

@@ -16,5 +16,7 @@ returns c = record {
     runs = c.runs_come_to.ensures.law;
     once = c.runs_stay.ensures.once;
     room = c.room_is_spent.ensures.law;
+    work = c.work_is_bounded.ensures.within;
+    whole = c.nothing_breaks.ensures.law;
   });
 }
