@@ -1,6 +1,6 @@
 -- The state with the followed places left out: what it shows of the others is as it is, and a step of one
 -- of these is a step of it.
-use Rattle.std.proofs.Common.{◌≡◌, ◌≢◌, ◌⊎◌, ◌≤◌, ◌<◌, ℕ, ◌+◌, ◌-◌, ◌==◌, ◌&&◌, cond, Bool, true, false, List, [], ◌∷◌, inl, inr, refl, sym, ap, ap₂, ◌∙◌, subst, subst₂, arith}
+use Rattle.std.proofs.Common.{◌≡◌, ◌≢◌, ◌⊎◌, ◌≤◌, ◌<◌, ℕ, ◌+◌, ◌-◌, ◌==◌, ◌&&◌, cond, Bool, true, false, List, [], ◌∷◌, inl, inr, refl, sym, ap, ◌∙◌, subst, arith}
 use Rattle.std.specs.Prelude.{nat_lt, nat_le}
 use Rattle.std.proofs.Math.Path.{fun_ext}
 use Rattle.std.proofs.lemmas.Bool.{cases_eq, cases_Bool, cond-true, cond-false, ne_eqb, eq-eqb, ltb-true, leb-true}
@@ -18,12 +18,12 @@ use Rattle.ppm_step.specs.Standings.{Standing}
 use Rattle.ppm_frames.specs.Views.{same_cell, written as write}
 use Rattle.ppm_frames.specs.Skeletons.{Skeleton}
 use Rattle.ppm_frames.proofs.WriteLemmas.{same_self, same_is, write_here, write_else}
-use Rattle.ppm_kept.specs.Kept.{Image, start, end_of, owner, Doing, State, put, Blank, ceiling, Free, Head, IsKept}
+use Rattle.ppm_kept.specs.Kept.{Image, start, end_of, owner, State, put, Blank, ceiling, Free, IsKept}
 use Rattle.ppm_kept.specs.Births.{IsNoCounter}
 use Rattle.ppm_kept.specs.Heirs.{settled}
 use Rattle.ppm_kept.specs.Left.{Followed, left_words, left_kinds, left, IsAway, AreApart}
 use Rattle.ppm_kept.specs.Loads.{IsInUse}
-use Rattle.ppm_kept.specs.Moves.{doing_of, stores, exchanges, installs, fills}
+use Rattle.ppm_kept.specs.Moves.{stores, exchanges, installs, fills}
 use Rattle.ppm_kept.proofs.OwnerLemmas.{owned}
 use Rattle.ppm_kept.proofs.PutLemmas.{put_here, put_else}
 
@@ -143,7 +143,7 @@ kind_in (w ∷ l) k v (inr h) = elim (cases_eq v.place w.place) [
   | inr ne ↦ put_else (left_kinds l k) w.place Seek v.place ne ∙ kind_in l k v h
 ]
 
-put_swap : (k : ℕ → RestartKind) (p q : ℕ) (a b : RestartKind) → p ≢ q → put (put k p a) q b ≡ put (put k q b) p a
+pub put_swap : (k : ℕ → RestartKind) (p q : ℕ) (a b : RestartKind) → p ≢ q → put (put k p a) q b ≡ put (put k q b) p a
 put_swap k p q a b ne = fun_ext (λ x. elim (cases_eq x p) [
   | inl e ↦ ap (put (put k p a) q b) e ∙ put_else (put k p a) q b p ne ∙ put_here k p a ∙ sym (ap (put (put k q b) p a) e ∙ put_here (put k q b) p a)
   | inr out ↦ elim (cases_eq x q) [
@@ -152,7 +152,7 @@ put_swap k p q a b ne = fun_ext (λ x. elim (cases_eq x p) [
   ]
 ])
 
-kinds_install : (l : List Followed) (k : ℕ → RestartKind) (p : ℕ) (a : RestartKind) → IsAway l p → left_kinds l (put k p a) ≡ put (left_kinds l k) p a
+pub kinds_install : (l : List Followed) (k : ℕ → RestartKind) (p : ℕ) (a : RestartKind) → IsAway l p → left_kinds l (put k p a) ≡ put (left_kinds l k) p a
 kinds_install [] k p a away = refl
 kinds_install (v ∷ l) k p a away = ap (λ (f : ℕ → RestartKind). put f v.place Seek) (kinds_install l k p a away.1) ∙ put_swap (left_kinds l k) p v.place a Seek away.0
 

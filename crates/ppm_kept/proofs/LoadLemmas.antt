@@ -44,7 +44,6 @@ use Rattle.ppm_step.specs.declared.row.Row.TheVariants.{Now, Store, Exchange}
 use Rattle.ppm_step.specs.declared.row.Seat.{Seat}
 use Rattle.ppm_step.specs.declared.row.Then.{Then}
 use Rattle.ppm_step.specs.declared.row.Then.TheVariants.{Load, Broken}
-use Rattle.ppm_frames.specs.Views.{is_cell}
 use Rattle.ppm_frames.specs.Seen.{IsIn}
 use Rattle.ppm_frames.specs.Skeletons.{Begins, Over, Arrives, InPlace, Skeleton, Leaf, Forking, count, Around, plug, hook_at}
 use Rattle.ppm_frames.specs.Good.{Match, BumpsAt}

@@ -1,5 +1,5 @@
 -- The blocks that were forked, over a whole turn, by places.
-use Rattle.std.specs.Prelude.{◌≡◌, ◌<◌, ℕ, Bool, false, List, [], ◌∷◌}
+use Rattle.std.specs.Prelude.{◌≡◌, ℕ, Bool, false, List, [], ◌∷◌}
 use Rattle.ppm_strands.specs.Tree.{Words, Tree}
 use Rattle.ppm_cells.specs.declared.shape.Takeover.TheVariants.{ByPlaces}
 use Rattle.ppm_capsules.specs.Strand.{Frame}

@@ -25,5 +25,6 @@ pub mod Answers
 pub mod Rooms
 pub mod Heirs
 pub mod Left
+pub mod HeirTurns
 pub mod Stops
 pub mod Spent

@@ -6,6 +6,7 @@ ghost use Rattle.ppm_kept.specs.Bearing.{HeirsBear, TurnsBear, TurnsBearLeft};
 ghost use Rattle.ppm_kept.specs.Births.{AllBirthsStay, OpeningsHaveNone, RowsAreSteady};
 ghost use Rattle.ppm_kept.specs.Copies.{AllCopiesStay, OpeningsHaveCopies};
 ghost use Rattle.ppm_kept.specs.Fates.{AllFatesShow, AllFatesStay, NoneIsLeft};
+ghost use Rattle.ppm_kept.specs.HeirTurns.{HandedSame, HeirTurnsBear, HeirTurnsKeep, UnrunsAreUntaken};
 ghost use Rattle.ppm_kept.specs.Heirs.{HeirsKeep};
 ghost use Rattle.ppm_kept.specs.JoinLast.{JoinRowKeeps, LastJoinRowKeeps};
 ghost use Rattle.ppm_kept.specs.JoinValues.{AllBranchValuesPass};
@@ -171,6 +172,15 @@ pub fn turns_keep()
 pub fn turns_keep_left()
     ensures law { TurnsKeepLeft }
     ensures births { TurnsBearLeft }
+{}
+
+/// A turn by which a place goes on with what it inherited keeps the state with that closed place left out
+/// too; and so of the blocks that are forked.
+pub fn heir_turns_keep()
+    ensures law { HeirTurnsKeep }
+    ensures births { HeirTurnsBear }
+    ensures untaken { UnrunsAreUntaken }
+    ensures unruns { HandedSame }
 {}
 
 /// From a state by places that is kept, with a finish word that says an outcome: the depth-first run of
