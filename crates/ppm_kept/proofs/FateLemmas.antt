@@ -233,11 +233,12 @@ module _ (i : Image) (fair : IsFair i.code) (root : Tree (Frame FrameWord Point)
   abbrev m : Cell → ℕ
   m = s.words
 
-  -- beside the strand that is about to make a fork its right branch is not pushed
-  module _ (p q r : ℕ) (ke : s.kind p ≡ Bump q) (de : s.doing p ≡ InRow (Now (Fork r))) where
-    link : (q ≡ r) × ((g : ℕ) × (y : ℕ) × ((link_at (m (BlockWord q))).kind ≡ Forked g y))
-    link = let e = (bump_ended i root input s t law p q ke (Fork r) de tt).link r refl in (e.0, e.2)
+  -- what the link of a block is for that is about to be forked
+  link_told : (p q r : ℕ) → s.kind p ≡ Bump q → s.doing p ≡ InRow (Now (Fork r)) → (q ≡ r) × ((g : ℕ) × (y : ℕ) × ((link_at (m (BlockWord q))).kind ≡ Forked g y))
+  link_told p q r ke de = let e = (bump_ended i root input s t law p q ke (Fork r) de tt).link r refl in (e.0, e.2)
 
+  -- beside the strand that is about to make a fork its right branch is not pushed
+  module _ (p q r : ℕ) (ke : s.kind p ≡ Bump q) (link : (q ≡ r) × ((g : ℕ) × (y : ℕ) × ((link_at (m (BlockWord q))).kind ≡ Forked g y))) where
     g : Bumps i s t p q
     g = let g = leaf i fair root input s t law p (ap (carried m) ke) in
         bump_at i s t p q g.around g.stand g.frame g.slots g.is g.alone g.framed g.sized (subst (λ (k : RestartKind). Match i.code m k (hook_at Root g.around) g.stand g.frame) ke g.match)
@@ -265,7 +266,7 @@ module _ (i : Image) (fair : IsFair i.code) (root : Tree (Frame FrameWord Point)
     fork_by (Branch Right x) he at_ = absurd at_
     fork_by (Forked x y) he at_ = absurd at_
 
-    fork_has : HasUnrun Fresh r t ⊎ HasUnrun Held r t
+    pub fork_has : HasUnrun Fresh r t ⊎ HasUnrun Held r t
     fork_has = fork_by (hook_at Root g.around) refl g.at_
 
   -- two places have not the left branch of one block
@@ -294,7 +295,7 @@ module _ (i : Image) (fair : IsFair i.code) (root : Tree (Frame FrameWord Point)
 pub fates_show : AllFatesShow
 fates_show i fair root input s t law fate a = record {
   waits = λ r e. has_waits r t (a.offered r e);
-  forks = λ p q r ke de. fork_has i fair root input s t law p q r ke de;
+  forks = λ p q r ke de. fork_has i fair root input s t law p q r ke (link_told i fair root input s t law p q r ke de);
   joins = λ p r d q f b ke de pusher.
       let u = (unruns_stay i fair root input s t law p).begins r d q f b ke de in (
         u.0,

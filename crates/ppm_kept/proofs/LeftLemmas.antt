@@ -143,7 +143,7 @@ kind_in (w ∷ l) k v (inr h) = elim (cases_eq v.place w.place) [
   | inr ne ↦ put_else (left_kinds l k) w.place Seek v.place ne ∙ kind_in l k v h
 ]
 
-put_swap : (k : ℕ → RestartKind) (p q : ℕ) (a b : RestartKind) → p ≢ q → put (put k p a) q b ≡ put (put k q b) p a
+pub put_swap : (k : ℕ → RestartKind) (p q : ℕ) (a b : RestartKind) → p ≢ q → put (put k p a) q b ≡ put (put k q b) p a
 put_swap k p q a b ne = fun_ext (λ x. elim (cases_eq x p) [
   | inl e ↦ ap (put (put k p a) q b) e ∙ put_else (put k p a) q b p ne ∙ put_here k p a ∙ sym (ap (put (put k q b) p a) e ∙ put_here (put k q b) p a)
   | inr out ↦ elim (cases_eq x q) [
@@ -152,7 +152,7 @@ put_swap k p q a b ne = fun_ext (λ x. elim (cases_eq x p) [
   ]
 ])
 
-kinds_install : (l : List Followed) (k : ℕ → RestartKind) (p : ℕ) (a : RestartKind) → IsAway l p → left_kinds l (put k p a) ≡ put (left_kinds l k) p a
+pub kinds_install : (l : List Followed) (k : ℕ → RestartKind) (p : ℕ) (a : RestartKind) → IsAway l p → left_kinds l (put k p a) ≡ put (left_kinds l k) p a
 kinds_install [] k p a away = refl
 kinds_install (v ∷ l) k p a away = ap (λ (f : ℕ → RestartKind). put f v.place Seek) (kinds_install l k p a away.1) ∙ put_swap (left_kinds l k) p v.place a Seek away.0
 

@@ -66,6 +66,8 @@ pub mod LeftLemmas
 pub mod StepRows
 pub mod BearLemmas
 pub mod HeirBirths
+pub mod HeirTurns
+pub mod UnrunUntaken
 pub mod AnswerLemmas
 pub mod RoomLemmas
 pub mod SpentLemmas

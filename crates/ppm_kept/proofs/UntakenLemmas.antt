@@ -30,10 +30,10 @@ swaps_less p r (AtRight f n y q b c) u v e k new old =
     (λ is one. subst IsUntaken (sym (marked c u v k)) (old.0 is one), old.1, swaps_less p r c u v e k new old.2)
 
 -- a fork of a block has its word
-block_one : (q r : ℕ) → q ≡ r → 1 ≤ inside q 1 r
+pub block_one : (q r : ℕ) → q ≡ r → 1 ≤ inside q 1 r
 block_one q r e = inside_at q 1 r 0 (omega (arith, e)) (omega arith)
 
-none : (p r : ℕ) (h : LinkKind) (t : Skeleton) → count h t r ≡ 0 → Untaken p r t
+pub none : (p r : ℕ) (h : LinkKind) (t : Skeleton) → count h t r ≡ 0 → Untaken p r t
 none p r h (Leaf w st f n) e = tt
 none p r h (Calling f n y t) e = none p r (Called f y) t (omega (arith, e))
 none p r h (Forking f n y q a b) e =

@@ -26,5 +26,6 @@ pub mod Credit
 pub mod Rooms
 pub mod Heirs
 pub mod Left
+pub mod HeirTurns
 pub mod Stops
 pub mod Spent

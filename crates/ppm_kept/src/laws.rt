@@ -7,6 +7,7 @@ ghost use Rattle.ppm_kept.specs.Births.{AllBirthsStay, OpeningsHaveNone, RowsAre
 ghost use Rattle.ppm_kept.specs.Credit.{CapsulesAreCounted, CreditStays};
 ghost use Rattle.ppm_kept.specs.Copies.{AllCopiesStay, OpeningsHaveCopies};
 ghost use Rattle.ppm_kept.specs.Fates.{AllFatesShow, AllFatesStay, NoneIsLeft};
+ghost use Rattle.ppm_kept.specs.HeirTurns.{HandedSame, HeirTurnsBear, HeirTurnsKeep, UnrunsAreUntaken};
 ghost use Rattle.ppm_kept.specs.Heirs.{HeirsKeep};
 ghost use Rattle.ppm_kept.specs.JoinLast.{JoinRowKeeps, LastJoinRowKeeps};
 ghost use Rattle.ppm_kept.specs.JoinValues.{AllBranchValuesPass};
@@ -184,6 +185,15 @@ pub fn credit_stays()
 /// capsule ends counts one more.
 pub fn capsules_are_counted()
     ensures law { CapsulesAreCounted }
+{}
+
+/// A turn by which a place goes on with what it inherited keeps the state with that closed place left out
+/// too; and so of the blocks that are forked.
+pub fn heir_turns_keep()
+    ensures law { HeirTurnsKeep }
+    ensures births { HeirTurnsBear }
+    ensures untaken { UnrunsAreUntaken }
+    ensures unruns { HandedSame }
 {}
 
 /// From a state by places that is kept, with a finish word that says an outcome: the depth-first run of

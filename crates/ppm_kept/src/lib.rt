@@ -13,8 +13,8 @@ mod laws;
 pub use laws::{
     arrive_row_keeps, branch_values_pass, bump_row_keeps, capsules_are_counted, copies_stay,
     credit_stays, early_join_row_keeps, ends_as_meant, exchanges_are_seen, fates_agree,
-    forks_are_new, frames_run, heirs_keep, join_row_keeps, last_join_row_keeps, loads_show,
-    openings_are_kept, others_keep, push1_row_keeps, push2_row_keeps, room_is_bounded,
+    forks_are_new, frames_run, heir_turns_keep, heirs_keep, join_row_keeps, last_join_row_keeps,
+    loads_show, openings_are_kept, others_keep, push1_row_keeps, push2_row_keeps, room_is_bounded,
     run_row_keeps, steps_are_seen, take_rows_keep, turns_bear, turns_keep, turns_keep_left,
     turns_show, unruns_stay, untaken_stays, unwind_row_keeps,
 };

@@ -7,8 +7,8 @@ use ppm_frames::{cells_are_viewed, parts_swap, steps_pass_up, stores_are_seen, v
 use ppm_kept::{
     arrive_row_keeps, branch_values_pass, bump_row_keeps, capsules_are_counted, copies_stay,
     credit_stays, early_join_row_keeps, ends_as_meant, exchanges_are_seen, fates_agree,
-    forks_are_new, frames_run, heirs_keep, join_row_keeps, last_join_row_keeps, loads_show,
-    openings_are_kept, others_keep, push1_row_keeps, push2_row_keeps, room_is_bounded,
+    forks_are_new, frames_run, heir_turns_keep, heirs_keep, join_row_keeps, last_join_row_keeps,
+    loads_show, openings_are_kept, others_keep, push1_row_keeps, push2_row_keeps, room_is_bounded,
     run_row_keeps, steps_are_seen, take_rows_keep, turns_bear, turns_keep, turns_keep_left,
     turns_show, unruns_stay, untaken_stays, unwind_row_keeps,
 };
@@ -19,8 +19,8 @@ use ppm_runs::{
 };
 use ppm_slots::{frames_stay_trim, writes_are_slots};
 use ppm_tickets::{
-    entries_change_lawfully, heirs_see, images_open, in_every_run, in_every_run_by_entries,
-    places_stay_home, resumes, turns_follow,
+    entries_change_lawfully, heirs_follow, heirs_see, images_open, in_every_run,
+    in_every_run_by_entries, places_stay_home, resumes, turns_follow,
 };
 
 #[test]
@@ -28,6 +28,7 @@ fn the_laws_of_tickets_are_called() {
     in_every_run();
     in_every_run_by_entries();
     heirs_see();
+    heirs_follow();
     turns_follow();
     resumes();
     images_open();
@@ -86,6 +87,7 @@ fn the_laws_of_rows_are_called() {
     turns_bear();
     turns_keep();
     turns_keep_left();
+    heir_turns_keep();
     ends_as_meant();
     room_is_bounded();
     credit_stays();

@@ -27,7 +27,7 @@ use Rattle.ppm_tickets.specs.Lawful.{Estate, Closed}
 use Rattle.ppm_tickets.specs.Saw.{IsStrand, IsModest, HasSeen, Lives, Carried, IsOfIf, Sits, Sees, Lawful}
 use Rattle.ppm_tickets.specs.View.{view, restart_or, restart_at, seeking, kinds, bottoms, with_restarts}
 use Rattle.ppm_tickets.specs.Words.{Word, Number, Spot, Carry, Dead, put, write}
-use Rattle.ppm_tickets.proofs.EstateLemmas.{closing, noted}
+use Rattle.ppm_tickets.proofs.EstateLemmas.{After, closing, noted}
 use Rattle.ppm_tickets.proofs.EffectLemmas.{plain_install, other_written}
 use Rattle.ppm_tickets.proofs.HoldingLemmas.{holding_die}
 use Rattle.ppm_tickets.proofs.OrderLemmas.{order_other}
@@ -42,8 +42,8 @@ module _ (s : Shape) (code : CodeParts) (rows : RowsKeep s code) where
   abbrev pub KeepsState : State → (ℕ → Home) → (forked taken : List ℕ) → Type 0
   KeepsState state h f tk = Keeps s code state.words state.stand h f tk
 
-  abbrev pub GoesState : (before : List ℕ) → State → (ℕ → Home) → (forked taken : List ℕ) → Type 0
-  GoesState before state h f tk = Goes s code before state.words state.stand h f tk
+  abbrev pub GoesState : (ℕ → Bool) → (before : List ℕ) → State → (ℕ → Home) → (forked taken : List ℕ) → Type 0
+  GoesState g before state h f tk = Goes s code g before state.words state.stand h f tk
 
   module _ (words : List ℕ) (stand : List Standing) (h : ℕ → Home) (f tk : List ℕ) (fit : AreWordsOf s words) where
     abbrev m : Spot → Word
@@ -68,19 +68,21 @@ module _ (s : Shape) (code : CodeParts) (rows : RowsKeep s code) where
     module _ (law : Lawful s m k b stand h f tk) (o : ℕ) where
       module _ (live : stand_in (slice_get stand o) ≢ IsDone) where
         -- the finish word
-        finishing : (w : ℕ) (x : Standing) → Sees s m k b o x → Goes s code words (if slice_index words 0 == 0 then slice_set words 0 w else words) (slice_set stand o x) h f tk
+        finishing : (w : ℕ) (x : Standing) → Sees s m k b o x → Goes s code law.board.gone words (if slice_index words 0 == 0 then slice_set words 0 w else words) (slice_set stand o x) h f tk
         finishing w x own = by (slice_index words 0 == 0)
           where
-            by : (y : Bool) → Goes s code words (if y then slice_set words 0 w else words) (slice_set stand o x) h f tk
+            by : (y : Bool) → Goes s code law.board.gone words (if y then slice_set words 0 w else words) (slice_set stand o x) h f tk
             by true = quieting s code words stand h f tk fit law o live cells.FinishWord w tt tt x own
             by false = waiting s code words stand h f tk fit law o live x own
 
-        loses : Lives s m o → Goes s code words words (slice_set stand o IsLost) h f tk
+        loses : Lives s m o → Goes s code law.board.gone words words (slice_set stand o IsLost) h f tk
         loses own = waiting s code words stand h f tk fit law o live IsLost own
 
-        dies : Lives s m o → Goes s code words (store s words (cells.DeadWord o) 1) (slice_set stand o IsDone) h f tk
+        dies : Lives s m o → Goes s code law.board.gone words (store s words (cells.DeadWord o) 1) (slice_set stand o IsDone) h f tk
         dies own = writing s code words stand h f tk fit law o live (Dead o) 1 (Number 1) (lt-ltb o s.processors own.there) (lone_dead s o) refl tt h f tk
-            (closing (noted law.board (Dead o) (Number 1) (λ v i e. cc) (λ q y i z th. cc) (other_written law.board.board (Dead o) (Number 1) (λ v i e. cc) (λ p e. cc))) (Closed s.takeover (write m (Dead o) (Number 1))) (closed_kept s.takeover m (Dead o) (Number 1) (λ q e. tt)))
+            (let note = noted law.board (Dead o) (Number 1) (λ v i e. cc) (λ q y i z th. cc) (other_written law.board.board (Dead o) (Number 1) (λ v i e. cc) (λ p e. cc)) in
+            let shutter = closing note.0 (Closed s.takeover (write m (Dead o) (Number 1))) (closed_kept s.takeover m (Dead o) (Number 1) (λ q e. tt)) in
+            (shutter.0, λ v x. shutter.1 v (note.1 v x)))
             (order_other law.order (Dead o) (Number 1) (λ v i e. cc) (λ v e. cc)) (holding_die law.holding o) (rooted_kept s.takeover m (Dead o) (Number 1) (λ q e. cc) law.rooted) law.counts (still_write s.takeover m k b (Dead o) (Number 1) (λ q d e. cc) (λ q e. tt))
             (λ d q ne lives at. ((λ same. absurd (ne (sym same))), λ z. tt)) IsDone tt
 
@@ -109,7 +111,7 @@ module _ (s : Shape) (code : CodeParts) (rows : RowsKeep s code) where
         -- a row, wherever it sits
         abbrev RowGoal : Seat → (u : ℕ) → Row → Type 0
         RowGoal seat u row = row_is_there s seat row ≡ true → IsOrderlyRow s words seat row h f
-            → Goes s code words (words_after words (wanted_row s seat u row)) (slice_set stand o (went_row s code seat u (found_in words (wanted_row s seat u row)) row))
+            → Goes s code law.board.gone words (words_after words (wanted_row s seat u row)) (slice_set stand o (went_row s code seat u (found_in words (wanted_row s seat u row)) row))
             (by_row s words seat row h) (fork_row row ++ f) (take_row row ++ tk)
 
         row_goal : (seat : Seat) → Sits s m k b o seat → (row : Row) → HasSeen s (with_restarts m k b) seat row → (u : ℕ) → u < s.processors → RowGoal seat u row
@@ -123,7 +125,7 @@ module _ (s : Shape) (code : CodeParts) (rows : RowsKeep s code) where
                 (λ there seen. rows words stand h f tk fit law o live seat.place sits.carried seat.restart.kind sits.at.kind there u nm row seen)
 
         rest_goal : (seat : Seat) → Sits s m k b o seat → IsStrand seat.restart.kind → (rest : Rest) → IsModest rest → rest_is_there s seat rest ≡ true → IsOrderlyRest s rest
-            → Goes s code words (words_after words (wanted_rest s seat rest)) (slice_set stand o (went_rest s seat (found_in words (wanted_rest s seat rest)) rest)) h f tk
+            → Goes s code law.board.gone words (words_after words (wanted_rest s seat rest)) (slice_set stand o (went_rest s seat (found_in words (wanted_rest s seat rest)) rest)) h f tk
         rest_goal seat sits strand (Loads cell go) modest there kept =
             let next : Rest = go (read s words cell) in
             waiting s code words stand h f tk fit law o live _ (running_sees s code m k b o seat sits next strand (modest (read s words cell)) (rest_is_there s seat next) refl)
@@ -136,13 +138,13 @@ module _ (s : Shape) (code : CodeParts) (rows : RowsKeep s code) where
             let next = strand_plain s code kind modest in
             let aims = strand_aims s code m seat.place kind modest in
             installing s code words stand h f tk fit law o live seat.place sits.carried (record { kind = kind; bottom = seat.restart.bottom }) there aims.0 aims.1 h f tk
-            (subst (λ (y : ℕ). Estate (Closed s.takeover m) m (put k seat.place kind) (put b seat.place y) h) sits.at.bottom
+            (subst (λ (y : ℕ). After law.board.gone (Closed s.takeover m) m (put k seat.place kind) (put b seat.place y) h) sits.at.bottom
             (own_goes s code words stand h f tk fit law o live seat.place sits.carried kind (b seat.place) (strand_free s code kind modest)
             (plain_install law.board.board seat.place seat.restart.kind kind sits.at.kind plain.0 next.0 (λ x z. absurd (plain.1 law.board.ghost seat.place x z)) (λ x z. absurd (next.1 law.board.ghost seat.place x z))))) law.counts
         rest_goal seat sits strand Breaks modest there kept = waiting s code words stand h f tk fit law o live (IsBroken seat.place) sits.carried.lives
 
         abbrev Act_ : Act → Standing → Type 0
-        Act_ act x = GoesState words (acts s code (record { words = words; stand = stand }) o act x) (by_act s words act x h) (step_by (row_by fork_row) act x ++ f) (step_by (row_by take_row) act x ++ tk)
+        Act_ act x = GoesState law.board.gone words (acts s code (record { words = words; stand = stand }) o act x) (by_act s words act x h) (step_by (row_by fork_row) act x ++ f) (step_by (row_by take_row) act x ++ tk)
 
         stepped : (x : Standing) → x ≢ IsDone → Sees s m k b o x → (u : ℕ) → IsOrderly s words (Step u) x h f → Act_ (Step u) x
         stepped IsLost ne a u orderly =
@@ -181,7 +183,7 @@ module _ (s : Shape) (code : CodeParts) (rows : RowsKeep s code) where
             by (IsBroken p) ne a = dies a
         live_act x ne a (Quit why) orderly = by x ne (lives_of o x ne a)
           where
-            quits : Lives s m o → Goes s code words (if slice_index words 0 == 0 then slice_set words 0 (finish_word (quit_with o why)) else words) (slice_set stand o IsLost) h f tk
+            quits : Lives s m o → Goes s code law.board.gone words (if slice_index words 0 == 0 then slice_set words 0 (finish_word (quit_with o why)) else words) (slice_set stand o IsLost) h f tk
             quits a = finishing (finish_word (quit_with o why)) IsLost a
 
             by : (x : Standing) → x ≢ IsDone → Lives s m o → Act_ (Quit why) x
@@ -193,11 +195,11 @@ module _ (s : Shape) (code : CodeParts) (rows : RowsKeep s code) where
             by (IsRunning seat rest) ne a = quits a
             by (IsBroken p) ne a = quits a
 
-      done_act : (act : Act) → GoesState words (acts s code (record { words = words; stand = stand }) o act IsDone) (by_act s words act IsDone h) (step_by (row_by fork_row) act IsDone ++ f) (step_by (row_by take_row) act IsDone ++ tk)
-      done_act (Step u) = ((fit, law), λ v i. inl refl)
-      done_act Soft = ((fit, law), λ v i. inl refl)
-      done_act Hard = ((fit, law), λ v i. inl refl)
-      done_act (Quit why) = ((fit, law), λ v i. inl refl)
+      done_act : (act : Act) → GoesState law.board.gone words (acts s code (record { words = words; stand = stand }) o act IsDone) (by_act s words act IsDone h) (step_by (row_by fork_row) act IsDone ++ f) (step_by (row_by take_row) act IsDone ++ tk)
+      done_act (Step u) = (((fit, law), λ v x. x), λ v i. inl refl)
+      done_act Soft = (((fit, law), λ v x. x), λ v i. inl refl)
+      done_act Hard = (((fit, law), λ v x. x), λ v i. inl refl)
+      done_act (Quit why) = (((fit, law), λ v x. x), λ v i. inl refl)
 
       done_or : (x : Standing) → (x ≡ IsDone) ⊎ (x ≢ IsDone)
       done_or IsDone = inl refl
@@ -205,10 +207,10 @@ module _ (s : Shape) (code : CodeParts) (rows : RowsKeep s code) where
 
       -- an act of any processor
       pub act_keeps : (act : Act) → IsOrderly s words act (stand_in (slice_get stand o)) h f
-          → GoesState words (acts s code (record { words = words; stand = stand }) o act (stand_in (slice_get stand o))) (by_act s words act (stand_in (slice_get stand o)) h)
+          → GoesState law.board.gone words (acts s code (record { words = words; stand = stand }) o act (stand_in (slice_get stand o))) (by_act s words act (stand_in (slice_get stand o)) h)
           (step_by (row_by fork_row) act (stand_in (slice_get stand o)) ++ f) (step_by (row_by take_row) act (stand_in (slice_get stand o)) ++ tk)
       act_keeps act orderly = elim (done_or (stand_in (slice_get stand o))) [
-        | inl e ↦ subst (λ (x : Standing). GoesState words (acts s code (record { words = words; stand = stand }) o act x) (by_act s words act x h) (step_by (row_by fork_row) act x ++ f) (step_by (row_by take_row) act x ++ tk)) (sym e) (done_act act)
+        | inl e ↦ subst (λ (x : Standing). GoesState law.board.gone words (acts s code (record { words = words; stand = stand }) o act x) (by_act s words act x h) (step_by (row_by fork_row) act x ++ f) (step_by (row_by take_row) act x ++ tk)) (sym e) (done_act act)
         | inr ne ↦ live_act ne (stand_in (slice_get stand o)) ne (law.sees o) act orderly
       ]
 
@@ -218,4 +220,4 @@ module _ (s : Shape) (code : CodeParts) (rows : RowsKeep s code) where
   run_keeps [] state h f tk law orderly = law
   run_keeps (turn ∷ turns) state h f tk law orderly =
       run_keeps turns (happens s code state turn) (by_act s state.words turn.act (stand_of state turn.processor) h) (step_by (row_by fork_row) turn.act (stand_of state turn.processor) ++ f)
-      (step_by (row_by take_row) turn.act (stand_of state turn.processor) ++ tk) (act_keeps state.words state.stand h f tk law.0 law.1 turn.processor turn.act orderly.0).0 orderly.1
+      (step_by (row_by take_row) turn.act (stand_of state turn.processor) ++ tk) (act_keeps state.words state.stand h f tk law.0 law.1 turn.processor turn.act orderly.0).0.0 orderly.1

@@ -28,6 +28,10 @@ active_same Pop1 b d w d' w' ed ew = rw ed
 active_same (Pop2 r) b d w d' w' ed ew = rw ed
 active_same _ b d w d' w' ed ew = refl
 
+-- an estate in which these places are followed
+abbrev pub After : (gone : ℕ → Bool) → (shut : ℕ → Type 0) → (Spot → Word) → (ℕ → RestartKind) → (ℕ → ℕ) → (ℕ → Home) → Type 0
+After gone shut m k b h = (e : Estate shut m k b h) × ((v : ℕ) → gone v ≡ true → e.gone v ≡ true)
+
 module _ {shut : ℕ → Type 0} {m : Spot → Word} {k : ℕ → RestartKind} {b : ℕ → ℕ} {h : ℕ → Home} (e : Estate shut m k b h) where
   -- a claim is of a closed place
   pub claims_shut : (v i : ℕ) → IsClaim (m (Slot v i)) → shut v
@@ -44,25 +48,28 @@ module _ {shut : ℕ → Type 0} {m : Spot → Word} {k : ℕ → RestartKind} {
   own p i open_ = (as_open (e.covers.slots p i) open_).0
 
   -- more is closed
-  pub closing : (shut' : ℕ → Type 0) → ((v : ℕ) → shut v → shut' v) → Estate shut' m k b h
-  closing shut' f = record {
-    ghost = e.ghost;
-    gone = e.gone;
-    covers = record {
-      others = e.covers.others;
-      slots = λ v i. elim (e.covers.slots v i) [ inl a ↦ inl a | inr z ↦ inr (record { is_shut = f v z.is_shut; local = z.local; claim = z.claim }) ];
-    };
-    board = e.board;
-    late = e.late;
-    told = e.told;
-    meant = λ q v i t x th is. f v (e.meant q v i t x th is);
-  }
+  pub closing : (shut' : ℕ → Type 0) → ((v : ℕ) → shut v → shut' v) → After e.gone shut' m k b h
+  closing shut' f = (
+    record {
+      ghost = e.ghost;
+      gone = e.gone;
+      covers = record {
+        others = e.covers.others;
+        slots = λ v i. elim (e.covers.slots v i) [ inl a ↦ inl a | inr z ↦ inr (record { is_shut = f v z.is_shut; local = z.local; claim = z.claim }) ];
+      };
+      board = e.board;
+      late = e.late;
+      told = e.told;
+      meant = λ q v i t x th is. f v (e.meant q v i t x th is);
+    },
+    λ v x. x,
+  )
 
   -- an entry that is no claim is written, at an open place, or by a word that is no more local than
   -- it was
   pub wrote : (v i : ℕ) (w : Word) {h' : ℕ → Home} → (IsClaim (m (Slot v i)) → ⊥) → (IsClaim w → ⊥) → (shut v → ⊥) ⊎ (is_local w ≡ is_local (m (Slot v i)))
-      → Board (write e.ghost (Slot v i) w) k b e.gone h' → Estate shut (write m (Slot v i) w) k b h'
-  wrote v i w free nor how board = record { ghost = G; gone = e.gone; covers = record { others = others; slots = slots }; board = board; late = late; told = told; meant = λ q x j t y th is. e.meant q x j t y th (sym (write_else m (Slot v i) w (Message q) (λ z. cc)) ∙ is) }
+      → Board (write e.ghost (Slot v i) w) k b e.gone h' → After e.gone shut (write m (Slot v i) w) k b h'
+  wrote v i w free nor how board = (record { ghost = G; gone = e.gone; covers = record { others = others; slots = slots }; board = board; late = late; told = told; meant = λ q x j t y th is. e.meant q x j t y th (sym (write_else m (Slot v i) w (Message q) (λ z. cc)) ∙ is) }, λ v x. x)
     where
       G : Spot → Word
       G = write e.ghost (Slot v i) w
@@ -121,24 +128,27 @@ module _ {shut : ℕ → Type 0} {m : Spot → Word} {k : ℕ → RestartKind} {
 
   -- a word of no deque is written, and no message of a thief
   pub noted : (d : Spot) (w : Word) {h' : ℕ → Home} → ((v i : ℕ) → Slot v i ≢ d) → ((q v i : ℕ) → Message q ≡ d → IsThief (k q) v i → ⊥)
-      → Board (write e.ghost d w) k b e.gone h' → Estate shut (write m d w) k b h'
-  noted d w entry idle board = record {
-    ghost = write e.ghost d w;
-    gone = e.gone;
-    covers = record {
-      others = λ x ne. elim (same_spot_or x d) [
-        | inl z ↦ ap (write e.ghost d w) z ∙ write_here e.ghost d w ∙ sym (ap (write m d w) z ∙ write_here m d w)
-        | inr z ↦ write_else e.ghost d w x z ∙ e.covers.others x ne ∙ sym (write_else m d w x z)
-      ];
-      slots = λ x j. subst₂ (λ (y z : Word). ((y ≡ z) × (IsClaim z → ⊥)) ⊎ Inherited (shut x) y z) (sym (gs x j)) (sym (ms x j)) (e.covers.slots x j);
-    };
-    board = board;
-    late = λ x g. let l = e.late x g in (l.0, l.1, subst (λ (a : ℕ). write m d w (Slot x a) ≡ Taken l.0 (l.1 + 64)) (sym (act x)) (ms x (active_at e.ghost k b x) ∙ l.2));
-    told = λ q x j t th is.
-        let a = e.told q x j t th (sym (ms x j) ∙ is) in
-        (write_else m d w (Message q) (λ z. idle q x j z th) ∙ a.0 ∙ sym (gs x j), λ g at_. a.1 g (at_ ∙ act x));
-    meant = λ q x j t y th is. e.meant q x j t y th (sym (write_else m d w (Message q) (λ z. idle q x j z th)) ∙ is);
-  }
+      → Board (write e.ghost d w) k b e.gone h' → After e.gone shut (write m d w) k b h'
+  noted d w entry idle board = (
+    record {
+      ghost = write e.ghost d w;
+      gone = e.gone;
+      covers = record {
+        others = λ x ne. elim (same_spot_or x d) [
+          | inl z ↦ ap (write e.ghost d w) z ∙ write_here e.ghost d w ∙ sym (ap (write m d w) z ∙ write_here m d w)
+          | inr z ↦ write_else e.ghost d w x z ∙ e.covers.others x ne ∙ sym (write_else m d w x z)
+        ];
+        slots = λ x j. subst₂ (λ (y z : Word). ((y ≡ z) × (IsClaim z → ⊥)) ⊎ Inherited (shut x) y z) (sym (gs x j)) (sym (ms x j)) (e.covers.slots x j);
+      };
+      board = board;
+      late = λ x g. let l = e.late x g in (l.0, l.1, subst (λ (a : ℕ). write m d w (Slot x a) ≡ Taken l.0 (l.1 + 64)) (sym (act x)) (ms x (active_at e.ghost k b x) ∙ l.2));
+      told = λ q x j t th is.
+          let a = e.told q x j t th (sym (ms x j) ∙ is) in
+          (write_else m d w (Message q) (λ z. idle q x j z th) ∙ a.0 ∙ sym (gs x j), λ g at_. a.1 g (at_ ∙ act x));
+      meant = λ q x j t y th is. e.meant q x j t y th (sym (write_else m d w (Message q) (λ z. idle q x j z th)) ∙ is);
+    },
+    λ v x. x,
+  )
     where
       gs : (x j : ℕ) → write e.ghost d w (Slot x j) ≡ e.ghost (Slot x j)
       gs x j = write_else e.ghost d w (Slot x j) (entry x j)
@@ -153,8 +163,8 @@ module _ {shut : ℕ → Type 0} {m : Spot → Word} {k : ℕ → RestartKind} {
   pub installed : (p : ℕ) (new : RestartKind) (low : ℕ) {h' : ℕ → Home} → (shut p → ⊥)
       → ((v i t : ℕ) → IsThief new v i → m (Slot v i) ≡ Taken t (p + 64) → (m (Message p) ≡ e.ghost (Slot v i)) × (i ≡ active_at e.ghost k b v → e.gone v ≡ false))
       → ((v i t x : ℕ) → IsThief new v i → m (Message p) ≡ Local t x → shut v)
-      → Board e.ghost (put k p new) (put b p low) e.gone h' → Estate shut m (put k p new) (put b p low) h'
-  installed p new low open_ thief means board = record { ghost = e.ghost; gone = e.gone; covers = e.covers; board = board; late = late; told = told; meant = meant }
+      → Board e.ghost (put k p new) (put b p low) e.gone h' → After e.gone shut m (put k p new) (put b p low) h'
+  installed p new low open_ thief means board = (record { ghost = e.ghost; gone = e.gone; covers = e.covers; board = board; late = late; told = told; meant = meant }, λ v x. x)
     where
       act : (x : ℕ) → shut x → active_at e.ghost (put k p new) (put b p low) x ≡ active_at e.ghost k b x
       act x closed =
@@ -187,8 +197,8 @@ module _ {shut : ℕ → Type 0} {m : Spot → Word} {k : ℕ → RestartKind} {
 
   -- an entry of a closed place is inherited
   pub claimed : (p v i t x : ℕ) → shut v → m (Slot v i) ≡ Local t x → IsThief (k p) v i → m (Message p) ≡ Local t x
-      → Estate shut (write m (Slot v i) (Taken (t + 1) (p + 64))) k b h
-  claimed p v i t x closed is thief says = record { ghost = e.ghost; gone = e.gone; covers = record { others = others; slots = slots }; board = e.board; late = late; told = told; meant = λ q y j u z th now. e.meant q y j u z th (sym (write_else m (Slot v i) (Taken (t + 1) (p + 64)) (Message q) (λ w. cc)) ∙ now) }
+      → After e.gone shut (write m (Slot v i) (Taken (t + 1) (p + 64))) k b h
+  claimed p v i t x closed is thief says = (record { ghost = e.ghost; gone = e.gone; covers = record { others = others; slots = slots }; board = e.board; late = late; told = told; meant = λ q y j u z th now. e.meant q y j u z th (sym (write_else m (Slot v i) (Taken (t + 1) (p + 64)) (Message q) (λ w. cc)) ∙ now) }, λ v x. x)
     where
       n : Spot → Word
       n = write m (Slot v i) (Taken (t + 1) (p + 64))
@@ -252,9 +262,9 @@ module _ {shut : ℕ → Type 0} {m : Spot → Word} {k : ℕ → RestartKind} {
 
 pub noted_both : {shut : ℕ → Type 0} {m : Spot → Word} {k : ℕ → RestartKind} {b : ℕ → ℕ} {h : ℕ → Home} (e : Estate shut m k b h) (d c : Spot) (w x : Word)
     → ((v i : ℕ) → Slot v i ≢ d) → ((v i : ℕ) → Slot v i ≢ c) → ((q v i : ℕ) → Message q ≡ d → IsThief (k q) v i → ⊥) → ((q v i : ℕ) → Message q ≡ c → IsThief (k q) v i → ⊥)
-    → Board (write e.ghost d w) k b e.gone h → Board (write (write e.ghost d w) c x) k b e.gone h → Estate shut (write (write m d w) c x) k b h
+    → Board (write e.ghost d w) k b e.gone h → Board (write (write e.ghost d w) c x) k b e.gone h → After e.gone shut (write (write m d w) c x) k b h
 unfolding noted
-noted_both e d c w x ed ec id ic first second = noted (noted e d w ed id first) c x ec ic second
+noted_both e d c w x ed ec id ic first second = ((noted (noted e d w ed id first).0 c x ec ic second).0, λ v y. y)
 
 -- where no place is closed
 module _ {shut : ℕ → Type 0} {m : Spot → Word} {k : ℕ → RestartKind} {b : ℕ → ℕ} {h : ℕ → Home} (e : Estate shut m k b h) (none : (v : ℕ) → shut v → ⊥) where

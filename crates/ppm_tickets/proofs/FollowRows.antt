@@ -33,16 +33,16 @@ use Rattle.ppm_step.specs.declared.row.Seat.{Seat}
 use Rattle.ppm_step.specs.declared.row.Then.TheVariants.{Load, Install, Fork, Begin, Broken}
 use Rattle.ppm_tickets.specs.Along.{by_install}
 use Rattle.ppm_tickets.specs.Homes.{Home, Unborn, Pushing, Popping, Stolen, Begun}
-use Rattle.ppm_tickets.specs.Lawful.{IsLocal, IsClaim, IsThief, IsDead, Gives, Pushes, Pops, Closed, Aims, Dooms, Steals, Counts, May, active, active_at, is_local, Estate}
+use Rattle.ppm_tickets.specs.Lawful.{IsLocal, IsClaim, IsThief, IsDead, Gives, Pushes, Pops, Closed, Aims, Dooms, Steals, Counts, May, active, active_at, is_local}
 use Rattle.ppm_tickets.specs.Saw.{rest_of, OfClosed, Knows, Saw, AreFit, HasSeen, Carried, Lawful}
 use Rattle.ppm_tickets.specs.View.{view, kinds, bottoms, seeking, restart_or, restart_at, with_restarts}
 use Rattle.ppm_tickets.specs.Words.{Word, Empty, Local, Job, Taken, Linked, Restarts, Unread, Spot, Message, Slot, Dead, Restart, put}
 use Rattle.ppm_tickets.proofs.WriteLemmas.{taken_stays}
 use Rattle.ppm_tickets.proofs.ViewLemmas.{if_false, if_true}
 use Rattle.ppm_tickets.proofs.EffectLemmas.{IsPlain, plain_install, deque_as, not_local_taken}
-use Rattle.ppm_tickets.proofs.EstateLemmas.{claims_shut, as_shown}
+use Rattle.ppm_tickets.proofs.EstateLemmas.{After, claims_shut, as_shown}
 use Rattle.ppm_tickets.proofs.CountLemmas.{counts_move, counts_take, counts_fork, has_or}
-use Rattle.ppm_tickets.proofs.HeirLemmas.{Bears, Bare, Bares, plain_bare, heir_bare, thief_bears, push1_bears, push2_bears, push2_bare, pop1_bears, pop2_bears, heir_of, Trail, strands_on, forks_on, pushes_on, begins_on, popped_left, stolen_left, not_followed}
+use Rattle.ppm_tickets.proofs.HeirLemmas.{Bears, Bare, Bares, plain_bare, heir_bare, thief_bears, push1_bears, push2_bears, push2_bare, pop1_bears, pop2_bears, heir_of, Trail, weaker, strands_on, forks_on, pushes_on, begins_on, popped_left, stolen_left, not_followed}
 use Rattle.ppm_tickets.proofs.StepLemmas.{open_, own_goes, loads, looks, installs, installing, ends, beginning, Goal, seat, restart, both_true, unborn_or}
 
 module _ (s : Shape) (code : CodeParts) where
@@ -126,32 +126,32 @@ module _ (s : Shape) (code : CodeParts) where
           strands : (w j z : ℕ) (l : List ℕ) → Node w j z l → (new : RestartKind) → ((c d : ℕ) → IsThief new c d → ⊥) → IsPlain new → ((q : ℕ) → Steals law.board.ghost p new q → ⊥) → Aims m new → Dooms m p new
               → by_install p (Check x i) new h ≡ h → j ≡ active_at law.board.ghost k b w → Bare law.board w → Going (Now (Install (record { kind = new; bottom = b p })))
           strands w j z l n new free plain none aims dooms same at bare = installs s code words stand h f tk fit law o live p carried (Check x i) e ta u nm (record { kind = new; bottom = b p }) aims dooms
-              (subst (λ (g : ℕ → Home). Estate (Closed s.takeover m) m (put k p new) (put b p (b p)) g) (sym same)
-              (strands_on law.board p (open_ s code words stand h f tk fit law o live p carried) x i t0 y0 e n.own new w l free plain none (heired w j z l n at) bare n.bares))
+              (subst (λ (g : ℕ → Home). After law.board.gone (Closed s.takeover m) m (put k p new) (put b p (b p)) g) (sym same)
+              (weaker law.board p (open_ s code words stand h f tk fit law o live p carried) (w ∷ l) (strands_on law.board p (open_ s code words stand h f tk fit law o live p carried) x i t0 y0 e n.own new w l free plain none (heired w j z l n at) bare n.bares)))
               (subst (λ (g : ℕ → Home). Counts g f tk) (sym same) law.counts)
 
           pushes : (w j z : ℕ) (l : List ℕ) (n : Node w j z l) (r : ℕ) → j ≡ active_at law.board.ghost k b w → Bears law.board w r → h r ≡ Pushing w → Going (Now (Install (record { kind = Push1 r; bottom = b p })))
           pushes w j z l n r at bears was = installs s code words stand h f tk fit law o live p carried (Check x i) e ta u nm (record { kind = Push1 r; bottom = b p }) tt tt
-              (pushes_on law.board p (open_ s code words stand h f tk fit law o live p carried) x i t0 y0 e n.own r w l (heired w j z l n at) was bears n.bares)
+              (weaker law.board p (open_ s code words stand h f tk fit law o live p carried) (w ∷ l) (pushes_on law.board p (open_ s code words stand h f tk fit law o live p carried) x i t0 y0 e n.own r w l (heired w j z l n at) was bears n.bares))
               (counts_move h f tk r (Pushing p) law.counts (λ c. let d : Pushing w ≡ Unborn = sym was ∙ c in cc) (λ c. let d : Pushing w ≡ Begun = sym was ∙ c in cc) (λ c. cc) (λ c. cc))
 
           fork : (w j z : ℕ) (l : List ℕ) (n : Node w j z l) (r : ℕ) → j ≡ active_at law.board.ghost k b w → Bare law.board w → Going (Now (Fork r))
           fork w j z l n r at bare there fresh =
               let new : h r ≡ Unborn = elim (unborn_or s code (h r)) [ inl c ↦ c | inr ne ↦ absurd (true≢false (sym (law.counts.listed r ne) ∙ fresh)) ] in
               installing s code words stand h f tk fit law o live p carried (record { kind = Push1 r; bottom = b p }) there tt tt (put h r (Pushing p)) (r ∷ f) tk
-              (forks_on law.board p (open_ s code words stand h f tk fit law o live p carried) x i t0 y0 e n.own r w l (heired w j z l n at) new bare n.bares)
+              (weaker law.board p (open_ s code words stand h f tk fit law o live p carried) (w ∷ l) (forks_on law.board p (open_ s code words stand h f tk fit law o live p carried) x i t0 y0 e n.own r w l (heired w j z l n at) new bare n.bares))
               (counts_fork h f tk r (Pushing p) law.counts new (λ c. cc) (λ c. cc))
 
           begin_popped : (w j z : ℕ) (l : List ℕ) (n : Node w j z l) (r frame : ℕ) → j ≡ active_at law.board.ghost k b w → Bears law.board w r → h r ≡ Popping w → Going (Now (Begin r frame (b p)))
           begin_popped w j z l n r frame at bears was there orderly =
               installing s code words stand h f tk fit law o live p carried (record { kind = Run frame 0; bottom = b p }) there tt tt (put h r Begun) f (r ∷ tk)
-              (begins_on law.board p (open_ s code words stand h f tk fit law o live p carried) x i t0 y0 e n.own r frame w l (Popping w) (heired w j z l n at) was (popped_left law.board p (open_ s code words stand h f tk fit law o live p carried) x i t0 y0 e n.own w l) bears n.bares)
+              (weaker law.board p (open_ s code words stand h f tk fit law o live p carried) (w ∷ l) (begins_on law.board p (open_ s code words stand h f tk fit law o live p carried) x i t0 y0 e n.own r frame w l (Popping w) (heired w j z l n at) was (popped_left law.board p (open_ s code words stand h f tk fit law o live p carried) x i t0 y0 e n.own w l) bears n.bares))
               (counts_take h f tk r law.counts (λ c. let d : Popping w ≡ Unborn = sym was ∙ c in cc) (λ c. let d : Popping w ≡ Begun = sym was ∙ c in cc))
 
           begin_stolen : (w j z : ℕ) (l : List ℕ) (n : Node w j z l) (r frame : ℕ) → j ≡ active_at law.board.ghost k b w → Bears law.board w r → h r ≡ Stolen w → Going (Now (Begin r frame (b p)))
           begin_stolen w j z l n r frame at bears was there orderly =
               installing s code words stand h f tk fit law o live p carried (record { kind = Run frame 0; bottom = b p }) there tt tt (put h r Begun) f (r ∷ tk)
-              (begins_on law.board p (open_ s code words stand h f tk fit law o live p carried) x i t0 y0 e n.own r frame w l (Stolen w) (heired w j z l n at) was (stolen_left law.board p (open_ s code words stand h f tk fit law o live p carried) x i t0 y0 e n.own w l) bears n.bares)
+              (weaker law.board p (open_ s code words stand h f tk fit law o live p carried) (w ∷ l) (begins_on law.board p (open_ s code words stand h f tk fit law o live p carried) x i t0 y0 e n.own r frame w l (Stolen w) (heired w j z l n at) was (stolen_left law.board p (open_ s code words stand h f tk fit law o live p carried) x i t0 y0 e n.own w l) bears n.bares))
               (counts_take h f tk r law.counts (λ c. let d : Stolen w ≡ Unborn = sym was ∙ c in cc) (λ c. let d : Stolen w ≡ Begun = sym was ∙ c in cc))
 
           -- what was found at a closed place still is

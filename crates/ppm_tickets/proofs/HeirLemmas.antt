@@ -9,7 +9,7 @@ use Rattle.ppm_tickets.specs.Lawful.{IsLocal, IsClaim, IsThief, IsTicket, IsEmpt
 use Rattle.ppm_tickets.proofs.WriteLemmas.{put_here, put_else}
 use Rattle.ppm_tickets.proofs.CarrierLemmas.{Is, None, handed, marking, install_change}
 use Rattle.ppm_tickets.proofs.EffectLemmas.{IsPlain, fork, plain_install, plain_pushes, plain_pops, deque_as, here_deque}
-use Rattle.ppm_tickets.proofs.EstateLemmas.{here, claims_shut}
+use Rattle.ppm_tickets.proofs.EstateLemmas.{After, here, claims_shut}
 use Rattle.ppm_tickets.proofs.CountLemmas.{has_here, has_more, has_or}
 
 module _ {shut : ℕ → Type 0} {m : Spot → Word} {k : ℕ → RestartKind} {b : ℕ → ℕ} {h : ℕ → Home} (e : Estate shut m k b h) where
@@ -142,6 +142,13 @@ module _ {shut : ℕ → Type 0} {m : Spot → Word} {k : ℕ → RestartKind} {
     marks_in : (l : List ℕ) (w : ℕ) → has l w ≡ true → marks l w ≡ true
     marks_in l w is = rw is
 
+    pub marks_more : (l : List ℕ) (w : ℕ) → e.gone w ≡ true → marks l w ≡ true
+    marks_more l w is = elim (cases_Bool (has l w)) [ inl z ↦ marks_in l w z | inr z ↦ (rw z is) ]
+
+    -- who was followed before
+    pub weaker : (l : List ℕ) {new : ℕ → RestartKind} {low : ℕ → ℕ} {h' : ℕ → Home} → After (marks l) shut m new low h' → After e.gone shut m new low h'
+    weaker l a = (a.0, λ v x. a.1 v (marks_more l v x))
+
     marks_out : (l : List ℕ) (w : ℕ) → (has l w ≡ true → ⊥) → e.gone w ≡ false → marks l w ≡ false
     marks_out l w out old = elim (cases_Bool (has l w)) [ inl z ↦ absurd (out z) | inr z ↦ (rw z old) ]
 
@@ -182,8 +189,8 @@ module _ {shut : ℕ → Type 0} {m : Spot → Word} {k : ℕ → RestartKind} {
     open_mark l tr = marks_out l p (λ is. let a = who l p tr is in open_ (claims_shut e p a.2.slot (subst IsClaim (sym a.2.taken) (omega arith)))) (here e p open_)
 
     -- the places on the trail are followed
-    followed : (new : RestartKind) (l : List ℕ) {h' : ℕ → Home} → ((v i : ℕ) → IsThief new v i → ⊥) → Trail l → Board e.ghost (put k p new) (put b p (b p)) (marks l) h' → Estate shut m (put k p new) (put b p (b p)) h'
-    followed new l free tr board = record { ghost = e.ghost; gone = marks l; covers = e.covers; board = board; late = late; told = told; meant = meant }
+    followed : (new : RestartKind) (l : List ℕ) {h' : ℕ → Home} → ((v i : ℕ) → IsThief new v i → ⊥) → Trail l → Board e.ghost (put k p new) (put b p (b p)) (marks l) h' → After (marks l) shut m (put k p new) (put b p (b p)) h'
+    followed new l free tr board = (record { ghost = e.ghost; gone = marks l; covers = e.covers; board = board; late = late; told = told; meant = meant }, λ v x. x)
       where
         act : (x : ℕ) → shut x → active_at e.ghost (put k p new) (put b p (b p)) x ≡ active_at e.ghost k b x
         act x closed =
@@ -236,12 +243,12 @@ module _ {shut : ℕ → Type 0} {m : Spot → Word} {k : ℕ → RestartKind} {
 
       -- a strand goes on
       pub strands_on : (new : RestartKind) (y : ℕ) (l : List ℕ) → ((v j : ℕ) → IsThief new v j → ⊥) → IsPlain new → ((q : ℕ) → Steals e.ghost p new q → ⊥) → Trail (y ∷ l) → Bare y → Bares l
-          → Estate shut m (put k p new) (put b p (b p)) h
+          → After (marks (y ∷ l)) shut m (put k p new) (put b p (b p)) h
       strands_on new y l free plain none tr bare bares = followed new (y ∷ l) free tr
           (marking (plain_install e.board p (Check x i) new is tt plain (λ q s. absurd (no_steals q s)) (λ q s. absurd (none q s))) (less (y ∷ l)) (λ q. stays_else y l q (bare q) bares))
 
       -- a block that was built is forked
-      pub forks_on : (r y : ℕ) (l : List ℕ) → Trail (y ∷ l) → h r ≡ Unborn → Bare y → Bares l → Estate shut m (put k p (Push1 r)) (put b p (b p)) (put h r (Pushing p))
+      pub forks_on : (r y : ℕ) (l : List ℕ) → Trail (y ∷ l) → h r ≡ Unborn → Bare y → Bares l → After (marks (y ∷ l)) shut m (put k p (Push1 r)) (put b p (b p)) (put h r (Pushing p))
       forks_on r y l tr new bare bares = followed (Push1 r) (y ∷ l) (λ v j th. elim th [ inl z ↦ absurd (cc) | inr z ↦ absurd (cc) ]) tr
           (marking (fork e.board p r (Check x i) (here e p open_) is tt no_steals new) (less (y ∷ l)) (λ q. elim (cases_eq q r) [
             | inl z ↦ subst (Stays (marks (y ∷ l))) (sym (ap (put h r (Pushing p)) z ∙ put_here h r (Pushing p))) (open_mark (y ∷ l) tr)
@@ -249,7 +256,7 @@ module _ {shut : ℕ → Type 0} {m : Spot → Word} {k : ℕ → RestartKind} {
           ]))
 
       -- one that pushes
-      pub pushes_on : (r y : ℕ) (l : List ℕ) → Trail (y ∷ l) → h r ≡ Pushing y → Bears y r → Bares l → Estate shut m (put k p (Push1 r)) (put b p (b p)) (put h r (Pushing p))
+      pub pushes_on : (r y : ℕ) (l : List ℕ) → Trail (y ∷ l) → h r ≡ Pushing y → Bears y r → Bares l → After (marks (y ∷ l)) shut m (put k p (Push1 r)) (put b p (b p)) (put h r (Pushing p))
       pushes_on r y l tr was bears bares = followed (Push1 r) (y ∷ l) (λ v j th. elim th [ inl z ↦ absurd (cc) | inr z ↦ absurd (cc) ]) tr
           (handed r (Pushing y) (Pushing p) e.board
           (install_change e.ghost k b p (Check x i) (Push1 r) (b p) is None (Is r (Pushing p)) record {
@@ -266,7 +273,7 @@ module _ {shut : ℕ → Type 0} {m : Spot → Word} {k : ℕ → RestartKind} {
           (here_deque e.board p (Check x i) (Push1 r) is (at_place.0, at_place.1, inl at_place.2)))
 
       -- a branch begins
-      pub begins_on : (r f y : ℕ) (l : List ℕ) (from : Home) → Trail (y ∷ l) → h r ≡ from → (Stays (marks (y ∷ l)) from → ⊥) → Bears y r → Bares l → Estate shut m (put k p (Run f 0)) (put b p (b p)) (put h r Begun)
+      pub begins_on : (r f y : ℕ) (l : List ℕ) (from : Home) → Trail (y ∷ l) → h r ≡ from → (Stays (marks (y ∷ l)) from → ⊥) → Bears y r → Bares l → After (marks (y ∷ l)) shut m (put k p (Run f 0)) (put b p (b p)) (put h r Begun)
       begins_on r f y l from tr was left bears bares = followed (Run f 0) (y ∷ l) (λ v j th. elim th [ inl z ↦ absurd (cc) | inr z ↦ absurd (cc) ]) tr
           (handed r from Begun e.board
           (install_change e.ghost k b p (Check x i) (Run f 0) (b p) is None (Is r Begun) record {

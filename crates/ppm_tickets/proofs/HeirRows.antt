@@ -1,7 +1,7 @@
 -- The row of a place that checks what it stole, with takeover by entries, link by link: what it has seen
 -- tells what it is about to go on with.
 use Rattle.std.proofs.Common.{◌≡◌, ◌⊎◌, ◌<◌, ◌≤◌, ◌-◌, ◌+◌, ◌==◌, if◌then◌else◌, ℕ, zero, suc, List, [], ◌∷◌, length, Bool, true, false, inl, inr, refl, sym, ap, ◌∙◌, subst, subst₂, arith, eqb-true, true≢false, le_refl}
-use Rattle.std.specs.Prelude.{nat_lt, slice_get, ◌&&◌}
+use Rattle.std.specs.Prelude.{nat_lt, ◌&&◌}
 use Rattle.std.proofs.lemmas.Bool.{ltb-true, cases_Bool}
 use Rattle.ppm_cells.specs.Cells.{word_count}
 use Rattle.ppm_cells.specs.declared.entry.Entry.{Entry as EntryOf}
@@ -16,23 +16,22 @@ use Rattle.ppm_cells.specs.declared.shape.Takeover.{Takeover}
 use Rattle.ppm_cells.specs.declared.shape.Takeover.TheVariants.{ByPlaces, ByEntries}
 use Rattle.ppm_step.specs.Rows.{row_of, at_bottom, above_bottom, below_bottom, by_slot, follows, closed_link, can_be_taken}
 use Rattle.ppm_step.specs.Standings.{Standing, IsWithin}
-use Rattle.ppm_step.specs.State.{State, stand_of}
 use Rattle.ppm_step.specs.There.{restart_is_there}
 use Rattle.ppm_step.specs.declared.row.Point.TheVariants.{Offset, TakenMessage, TakenEntry, ClosedRestart, ClosedLink, ClosedBottom}
 use Rattle.ppm_step.specs.declared.row.Row.{Row}
 use Rattle.ppm_step.specs.declared.row.Row.TheVariants.{Now}
 use Rattle.ppm_step.specs.declared.row.Seat.{Seat}
-use Rattle.ppm_step.specs.declared.row.Then.TheVariants.{Load, Install, Fork, Begin, Broken}
+use Rattle.ppm_step.specs.declared.row.Then.TheVariants.{Load, Install, Begin, Broken}
 use Rattle.ppm_tickets.specs.Heirs.{Inherits, GoesOnBy, MayBegin, ChecksSo, HeirsSee}
 use Rattle.ppm_tickets.specs.Homes.{Home, Pushing, Popping, Stolen}
-use Rattle.ppm_tickets.specs.Lawful.{IsLocal, IsClaim, IsThief, IsTrail, heir_from, IsDead, Gives, Pushes, Pops, Steals, Wins, Closed, May, active, active_at, is_local}
+use Rattle.ppm_tickets.specs.Lawful.{IsLocal, IsClaim, IsThief, IsTrail, heir_from, IsDead, Gives, Pushes, Pops, Steals, Closed, May, active, active_at, is_local}
 use Rattle.ppm_tickets.specs.Saw.{IsStrand, rest_of, OfClosed, Knows, Saw, HasSeen, Strand, Looks, Sees, Carried, Lawful}
 use Rattle.ppm_tickets.specs.View.{view, kinds, bottoms, seeking, with_restarts}
-use Rattle.ppm_tickets.specs.Words.{Word, Empty, Local, Job, Taken, Held, Number, Linked, Restarts, Unread, Spot, Message, Slot, Dead, Restart}
+use Rattle.ppm_tickets.specs.Words.{Word, Empty, Local, Job, Taken, Number, Linked, Restarts, Unread, Spot, Message, Slot, Dead, Restart}
 use Rattle.ppm_tickets.proofs.WriteLemmas.{taken_stays}
 use Rattle.ppm_tickets.proofs.ViewLemmas.{if_false}
 use Rattle.ppm_tickets.proofs.EffectLemmas.{deque_as, not_local_taken}
-use Rattle.ppm_tickets.proofs.EstateLemmas.{claims_shut, as_shown, own, here}
+use Rattle.ppm_tickets.proofs.EstateLemmas.{claims_shut, as_shown, here}
 use Rattle.ppm_tickets.proofs.CountLemmas.{has_here}
 use Rattle.ppm_tickets.proofs.HeirLemmas.{not_gone}
 use Rattle.ppm_tickets.proofs.StepLemmas.{shut_not}
@@ -180,7 +179,7 @@ module _ (s : Shape) (words : List ℕ) (stand : List Standing) (h : ℕ → Hom
     -- an end by which it goes on
     goes : (new : RestartKind) → (Now1 → j ≡ active_at law.board.ghost k b w) → (Now1 → GoesOnBy (Closed s.takeover m) m k b h law.board p w K new) → Steps c Now1 (Now (Install (record { kind = new; bottom = b p })))
     goes new at so = ending c Now1 (record { kind = new; bottom = b p })
-        (λ a. inr (inherits w j z l (node a.0) (at a), subst (λ (y : RestartKind). GoesOnBy (Closed s.takeover m) m k b h law.board p w y new) (sym (kind_is a)) (so a)))
+        (λ a. inr (inherits w j z l (node a.0) (at a), subst (λ (y : RestartKind). GoesOnBy (Closed s.takeover m) m k b h law.board p w y new) (sym (kind_is a)) (so a), refl))
 
     -- at the bottom
     module _ (here : (j == B) ≡ true) where
@@ -286,14 +285,14 @@ module _ (s : Shape) (words : List ℕ) (stand : List Standing) (h : ℕ → Hom
     alone K a at = (inherits w j z l (node a.0) at).stays
 
     links : (r : ℕ) → (j == B) ≡ true → Steps c (Now0 (Bump r)) (Now (Load (ClosedLink r)))
-    links r here [] le saw = tt
+    links r here [] le saw = (inherits w j z l (node saw.0) (at_active c more w j z l before node (Bump r) B here (λ d y. refl) saw), kind_of (Bump r) saw)
     links r here (Linked link ∷ us) le saw = by link.kind us saw
       where
         at_ : (a : Now0 (Bump r)) → j ≡ active_at law.board.ghost k b w
         at_ a = at_active c more w j z l before node (Bump r) B here (λ d y. refl) a
 
         by : (kind : LinkKind) (us : List Word) → Saw s SC v M (Now0 (Bump r) × Unit {0}) (closed_link SC r kind) us → Ends (rest_of s SC v (closed_link SC r kind) us)
-        by (Call frame copy) [] saw = inr (inherits w j z l (node saw.0.0) (at_ saw.0), subst (λ (y : RestartKind). GoesOnBy (Closed s.takeover m) m k b h law.board p w y (Run r 0)) (sym (kind_of (Bump r) saw.0)) refl)
+        by (Call frame copy) [] saw = inr (inherits w j z l (node saw.0.0) (at_ saw.0), subst (λ (y : RestartKind). GoesOnBy (Closed s.takeover m) m k b h law.board p w y (Run r 0)) (sym (kind_of (Bump r) saw.0)) refl, refl)
         by (Call frame copy) (y ∷ us) saw = absurd saw
         by (ForkLink frame copy) [] saw = (inherits w j z l (node saw.0.0) (at_ saw.0), kind_of (Bump r) saw.0)
         by (ForkLink frame copy) (y ∷ us) saw = absurd saw
@@ -360,7 +359,7 @@ module _ (s : Shape) (words : List ℕ) (stand : List Standing) (h : ℕ → Hom
         let less : q < 64 = ltb-true q 64 is in
         let shown : law.board.ghost (Slot w (b w)) ≡ Taken n q = as_shown (law.board.covers.slots w (b w)) (λ d. let far : 64 ≤ q = subst IsClaim now d in omega (arith, far, less)) ∙ now in
         let at : j ≡ active_at law.board.ghost k b w = eqb-true j (B + 1) up ∙ ap (λ (y : ℕ). y + 1) (sym low) ∙ sym (active_is w (Push2 r) kind ∙ ap (λ (y : Word). if is_local y then b w else b w + 1) shown) in
-        inr (inherits w j z l (node a.0.0) at, subst (λ (y : RestartKind). GoesOnBy (Closed s.takeover m) m k b h law.board p w y (Run (r + 5) 0)) (sym kind) (inr refl))))
+        inr (inherits w j z l (node a.0.0) at, subst (λ (y : RestartKind). GoesOnBy (Closed s.takeover m) m k b h law.board p w y (Run (r + 5) 0)) (sym kind) (inr (refl, λ d. subst IsLocal shown d)), refl)))
         (λ is. seek_end c (Now0 (Push2 r) × May o p (Slot w B) (Taken n q) (m (Slot w B))))
         us (omega (arith, le)) saw
     made r up (Empty n ∷ us) le saw = seek_end c (Now0 (Push2 r) × May o p (Slot w B) (Empty n) (m (Slot w B))) us (omega (arith, le)) saw

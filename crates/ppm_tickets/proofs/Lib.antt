@@ -28,11 +28,13 @@ pub mod OwnRows
 pub mod FollowRows
 pub mod ThiefRows
 pub mod HeirRows
+pub mod TakingRows
 pub mod TakeRows
 pub mod EntryRows
 pub mod ActLemmas
 pub mod ListLemmas
 pub mod Theorem
+pub mod FollowedLemmas
 pub mod RenewalLemmas
 pub mod ImageLemmas
 pub mod WalkLemmas

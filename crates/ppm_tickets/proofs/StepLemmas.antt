@@ -40,7 +40,7 @@ use Rattle.ppm_step.proofs.ThereLemmas.{restart_fits}
 use Rattle.ppm_step.proofs.WordLemmas.{length_stays}
 use Rattle.ppm_tickets.specs.Along.{by_words, by_install, by_row, IsPooled, IsJoined, IsOrderlyRow}
 use Rattle.ppm_tickets.specs.Homes.{Home, Unborn, Pushing, Inline, Begun}
-use Rattle.ppm_tickets.specs.Lawful.{IsEmpty, IsTaken, IsDead, IsClaim, IsThief, Names, tag, May, Frozen, Grows, Board, Estate, Closed, Rooted, IsHome, IsAlive, Dooms, Holding, Aims, Order, Counts, Steals, Changes}
+use Rattle.ppm_tickets.specs.Lawful.{IsEmpty, IsTaken, IsDead, IsClaim, IsThief, Names, tag, May, Frozen, Grows, Board, Closed, Rooted, IsHome, IsAlive, Dooms, Holding, Aims, Order, Counts, Steals, Changes}
 use Rattle.ppm_tickets.specs.Saw.{spot_at, rest_of, Knows, Saw, AreFit, IsStrand, IsStrandOrPop, IsJoining, IsQuietCell, IsQuiet, IsModest, HasSeen, Strand, Looks, Lives, Carried, IsOf, Sits, Sees, IsBidThere, Lawful}
 use Rattle.ppm_tickets.specs.View.{word_as, content_by, reading_by, cell_of, reading_of, spot, is_shown, absent, view, kinds, bottoms, with_restarts}
 use Rattle.ppm_tickets.specs.Words.{Word, Held, Number, Spot, Message, Bid, Top, Slot, Holder, Carry, Dead, Restart as RestartSpot, Restarts, Other, put, write}
@@ -52,7 +52,7 @@ use Rattle.ppm_tickets.proofs.QuietLemmas.{spot_quiet, found_quiet, begun_quiet,
 use Rattle.ppm_tickets.proofs.OrderLemmas.{order_install, order_entry}
 use Rattle.ppm_tickets.proofs.HoldingLemmas.{holding_install, holding_other}
 use Rattle.ppm_tickets.proofs.CountLemmas.{counts_fork, counts_take}
-use Rattle.ppm_tickets.proofs.EstateLemmas.{closing, wrote, installed, here, own, as_open}
+use Rattle.ppm_tickets.proofs.EstateLemmas.{After, closing, wrote, installed, here, own, as_open}
 use Rattle.ppm_tickets.proofs.EffectLemmas.{fork, plain_install, pop_begins, inline_begins, IsPlain as IsPlainKind}
 
 -- where processors stand once one has moved
@@ -223,14 +223,21 @@ module _ (s : Shape) (code : CodeParts) where
   abbrev pub Keeps : List ℕ → List Standing → (ℕ → Home) → (forked taken : List ℕ) → Type 0
   Keeps words stand h f tk = AreWordsOf s words × Lawful s (view s words) (kinds s words) (bottoms s words) stand h f tk
 
-  pub becoming : (words : List ℕ) (stand : List Standing) (h : ℕ → Home) (f tk : List ℕ) (n : Spot → Word) (l : ℕ → RestartKind) (c : ℕ → ℕ)
-      → view s words ≡ n → kinds s words ≡ l → bottoms s words ≡ c → AreWordsOf s words → Lawful s n l c stand h f tk → Keeps words stand h f tk
-  becoming words stand h f tk n l c en el ec fit law = (
-    fit,
-    subst (λ (x : Spot → Word). Lawful s x (kinds s words) (bottoms s words) stand h f tk) (sym en)
-        (subst (λ (x : ℕ → RestartKind). Lawful s n x (bottoms s words) stand h f tk) (sym el)
-        (subst (λ (x : ℕ → ℕ). Lawful s n l x stand h f tk) (sym ec) law)),
-  )
+  -- in which these places are followed
+  abbrev pub KeepsOn : (gone : ℕ → Bool) → List ℕ → List Standing → (ℕ → Home) → (forked taken : List ℕ) → Type 0
+  KeepsOn g words stand h f tk = (kept : Keeps words stand h f tk) × ((v : ℕ) → g v ≡ true → kept.1.board.gone v ≡ true)
+
+  abbrev pub LawfulOn : (gone : ℕ → Bool) → (Spot → Word) → (ℕ → RestartKind) → (ℕ → ℕ) → List Standing → (ℕ → Home) → (forked taken : List ℕ) → Type 0
+  LawfulOn g n l c stand h f tk = (law : Lawful s n l c stand h f tk) × ((v : ℕ) → g v ≡ true → law.board.gone v ≡ true)
+
+  pub becoming : (words : List ℕ) (stand : List Standing) (h : ℕ → Home) (f tk : List ℕ) (n : Spot → Word) (l : ℕ → RestartKind) (c : ℕ → ℕ) (g : ℕ → Bool)
+      → view s words ≡ n → kinds s words ≡ l → bottoms s words ≡ c → AreWordsOf s words → LawfulOn g n l c stand h f tk → KeepsOn g words stand h f tk
+  becoming words stand h f tk n l c g en el ec fit law =
+      let all : LawfulOn g (view s words) (kinds s words) (bottoms s words) stand h f tk =
+      subst (λ (x : Spot → Word). LawfulOn g x (kinds s words) (bottoms s words) stand h f tk) (sym en)
+      (subst (λ (x : ℕ → RestartKind). LawfulOn g n x (bottoms s words) stand h f tk) (sym el)
+      (subst (λ (x : ℕ → ℕ). LawfulOn g n l x stand h f tk) (sym ec) law)) in
+      ((fit, all.0), all.1)
 
   -- and with entries as they were, or lawfully changed
   abbrev pub MayGo : Spot → (old new : Word) → Type 0
@@ -240,8 +247,8 @@ module _ (s : Shape) (code : CodeParts) where
   abbrev pub Fair : (m n : Spot → Word) → Type 0
   Fair m n = (v i : ℕ) → (n (Slot v i) ≡ m (Slot v i)) ⊎ Changes s.takeover (m (Slot v i)) (n (Slot v i))
 
-  abbrev pub Goes : (before words : List ℕ) → List Standing → (ℕ → Home) → (forked taken : List ℕ) → Type 0
-  Goes before words stand h f tk = Keeps words stand h f tk × Fair (view s before) (view s words)
+  abbrev pub Goes : (gone : ℕ → Bool) → (before words : List ℕ) → List Standing → (ℕ → Home) → (forked taken : List ℕ) → Type 0
+  Goes g before words stand h f tk = KeepsOn g words stand h f tk × Fair (view s before) (view s words)
 
   fair_same : (m n : Spot → Word) → n ≡ m → Fair m n
   fair_same m n e = λ v i. inl (ap (λ (x : Spot → Word). x (Slot v i)) e)
@@ -396,52 +403,58 @@ module _ (s : Shape) (code : CodeParts) where
       ]
 
       -- no word changes
-      pub waiting : (x : Standing) → Sees s m k b o x → Goes words words (slice_set stand o x) h f tk
+      pub waiting : (x : Standing) → Sees s m k b o x → Goes law.board.gone words words (slice_set stand o x) h f tk
       waiting x own = (
         (
-          fit,
-          record {
-            board = law.board;
-            order = law.order;
-            holding = law.holding;
-            rooted = law.rooted;
-            bids = law.bids;
-            counts = law.counts;
-            sees = sees_all m k b x (still_same s.takeover m k b) (λ d q ne alive at. ((λ c. may_same d q c (m c)), refl, refl)) own;
-          },
+          (
+            fit,
+            record {
+              board = law.board;
+              order = law.order;
+              holding = law.holding;
+              rooted = law.rooted;
+              bids = law.bids;
+              counts = law.counts;
+              sees = sees_all m k b x (still_same s.takeover m k b) (λ d q ne alive at. ((λ c. may_same d q c (m c)), refl, refl)) own;
+            },
+          ),
+          λ v y. y,
         ),
         λ v i. inl refl,
       )
 
       -- one that no spot shows
-      pub quieting : (c : Cell) (raw : ℕ) → IsQuietCell c → IsCell s c → (x : Standing) → Sees s m k b o x → Goes words (store s words c raw) (slice_set stand o x) h f tk
+      pub quieting : (c : Cell) (raw : ℕ) → IsQuietCell c → IsCell s c → (x : Standing) → Sees s m k b o x → Goes law.board.gone words (store s words c raw) (slice_set stand o x) h f tk
       quieting c raw quiet is x own =
           let r = restarts_kept s words c raw is (λ q e. subst IsQuietCell (sym e) quiet) in
           let kept = view_kept s words c raw is (λ d shown. quiet_apart d c shown quiet) in (
-            becoming (store s words c raw) (slice_set stand o x) h f tk m k b kept
-                (λ i q. (r i q).kind) (λ i q. (r i q).bottom) (length_set words (address s c) raw fit) (waiting x own).0.1,
+            becoming (store s words c raw) (slice_set stand o x) h f tk m k b law.board.gone kept
+                (λ i q. (r i q).kind) (λ i q. (r i q).bottom) (length_set words (address s c) raw fit) ((waiting x own).0.0.1, (waiting x own).0.1),
             fair_same m (view s (store s words c raw)) kept,
           )
 
       -- that of a spot
       pub writing : (d : Spot) (raw : ℕ) (w : Word) → is_shown s d ≡ true → IsLone s d → word_as (content_of (reading_of d) raw) ≡ w → MayGo d (m d) w → (h' : ℕ → Home) (f' tk' : List ℕ)
-          → Estate (Closed s.takeover (write m d w)) (write m d w) k b h' → Order (write m d w) k → Holding (write m d w) k → Rooted s.takeover (write m d w) → Counts h' f' tk'
+          → After law.board.gone (Closed s.takeover (write m d w)) (write m d w) k b h' → Order (write m d w) k → Holding (write m d w) k → Rooted s.takeover (write m d w) → Counts h' f' tk'
           → Stills s.takeover m (write m d w) k k b b
           → ((x q : ℕ) → x ≢ o → Lives s m x → m (Carry x) ≡ Number q → May x q d (m d) w) → (x : Standing) → Sees s (write m d w) k b o x
-          → Goes words (store s words (cell_of d) raw) (slice_set stand o x) h' f' tk'
+          → Goes law.board.gone words (store s words (cell_of d) raw) (slice_set stand o x) h' f' tk'
       writing d raw w shown lone is may h' f' tk' bo or ho ro co still g x own =
           let r = restarts_kept s words (cell_of d) raw (shown_cell s d shown) (spot_apart d) in
           let now = view_written s words d raw fit shown lone ∙ ap (write m d) is in (
-            becoming (store s words (cell_of d) raw) (slice_set stand o x) h' f' tk' (write m d w) k b now
-                (λ i q. (r i q).kind) (λ i q. (r i q).bottom) (length_set words (address s (cell_of d)) raw fit) record {
-                  board = bo;
-                  order = or;
-                  holding = ho;
-                  rooted = ro;
-                  bids = law.bids;
-                  counts = co;
-                  sees = sees_all (write m d w) k b x still (λ y q ne alive at. (grows_each y q m d w (g y q ne alive at), refl, refl)) own;
-                },
+            becoming (store s words (cell_of d) raw) (slice_set stand o x) h' f' tk' (write m d w) k b law.board.gone now
+                (λ i q. (r i q).kind) (λ i q. (r i q).bottom) (length_set words (address s (cell_of d)) raw fit) (
+                  record {
+                    board = bo.0;
+                    order = or;
+                    holding = ho;
+                    rooted = ro;
+                    bids = law.bids;
+                    counts = co;
+                    sees = sees_all (write m d w) k b x still (λ y q ne alive at. (grows_each y q m d w (g y q ne alive at), refl, refl)) own;
+                  },
+                  bo.1,
+                ),
             fair_write m (view s (store s words (cell_of d) raw)) d w now may,
           )
 
@@ -468,36 +481,39 @@ module _ (s : Shape) (code : CodeParts) where
         own_is i = own law.board p i open_
 
         -- the restart word
-        pub installing : (r : Restart) → restart_is_there s r ≡ true → Aims m r.kind → Dooms m p r.kind → (h' : ℕ → Home) (f' tk' : List ℕ)
-            → Estate (Closed s.takeover m) m (put k p r.kind) (put b p r.bottom) h' → Counts h' f' tk'
-            → Goes words (store s words (cells.RestartWord p) (restart_word r)) (slice_set stand o (IsAt p (Some r))) h' f' tk'
-        installing r there aim doom h' f' tk' board co =
+        pub installing : {g : ℕ → Bool} (r : Restart) → restart_is_there s r ≡ true → Aims m r.kind → Dooms m p r.kind → (h' : ℕ → Home) (f' tk' : List ℕ)
+            → After g (Closed s.takeover m) m (put k p r.kind) (put b p r.bottom) h' → Counts h' f' tk'
+            → Goes g words (store s words (cells.RestartWord p) (restart_word r)) (slice_set stand o (IsAt p (Some r))) h' f' tk'
+        installing {g} r there aim doom h' f' tk' board co =
             let ok : IsRestart r = restart_fits s (few_words s) r there in
             let kept = view_kept s words (cells.RestartWord p) (restart_word r) carried.place (λ d shown. restart_apart d p shown) in (
-              becoming (store s words (cells.RestartWord p) (restart_word r)) (slice_set stand o (IsAt p (Some r))) h' f' tk' m (put k p r.kind) (put b p r.bottom)
+              becoming (store s words (cells.RestartWord p) (restart_word r)) (slice_set stand o (IsAt p (Some r))) h' f' tk' m (put k p r.kind) (put b p r.bottom) g
                   kept (kinds_put s words p r fit carried.place ok) (bottoms_put s words p r fit carried.place ok)
-                  (length_set words (address s (cells.RestartWord p)) (restart_word r) fit) record {
-                    board = board;
-                    order = order_install law.order p r.kind aim;
-                    holding = holding_install law.holding p r.kind doom;
-                    rooted = law.rooted;
-                    bids = λ q. elim (cases_eq q p) [
-                      | inl e ↦ subst (IsBidThere s) (sym (ap (put k p r.kind) e ∙ put_here k p r.kind)) (bid_there r.kind (both_true (bottom_is_there s r.bottom) (kind_is_there s r.kind) there).1)
-                      | inr ne ↦ subst (IsBidThere s) (sym (put_else k p r.kind q ne)) (law.bids q)
-                    ];
-                    counts = co;
-                    sees = sees_all m (put k p r.kind) (put b p r.bottom) (IsAt p (Some r)) (still_install s.takeover m k b p r.kind r.bottom open_)
-                        (λ d q ne lives at. let other = apart d q ne lives at in ((λ c. may_same d q c (m c)), put_else k p r.kind q other, put_else b p r.bottom q other))
-                        (carried, record { kind = put_here k p r.kind; bottom = put_here b p r.bottom });
-                  },
+                  (length_set words (address s (cells.RestartWord p)) (restart_word r) fit) (
+                    record {
+                      board = board.0;
+                      order = order_install law.order p r.kind aim;
+                      holding = holding_install law.holding p r.kind doom;
+                      rooted = law.rooted;
+                      bids = λ q. elim (cases_eq q p) [
+                        | inl e ↦ subst (IsBidThere s) (sym (ap (put k p r.kind) e ∙ put_here k p r.kind)) (bid_there r.kind (both_true (bottom_is_there s r.bottom) (kind_is_there s r.kind) there).1)
+                        | inr ne ↦ subst (IsBidThere s) (sym (put_else k p r.kind q ne)) (law.bids q)
+                      ];
+                      counts = co;
+                      sees = sees_all m (put k p r.kind) (put b p r.bottom) (IsAt p (Some r)) (still_install s.takeover m k b p r.kind r.bottom open_)
+                          (λ d q ne lives at. let other = apart d q ne lives at in ((λ c. may_same d q c (m c)), put_else k p r.kind q other, put_else b p r.bottom q other))
+                          (carried, record { kind = put_here k p r.kind; bottom = put_here b p r.bottom });
+                    },
+                    board.1,
+                  ),
               fair_same m (view s (store s words (cells.RestartWord p) (restart_word r))) kept,
             )
 
         -- an own entry, and the own restart word
-        pub own_wrote : (i : ℕ) (w : Word) {h' : ℕ → Home} → (IsClaim w → ⊥) → Board (write law.board.ghost (Slot p i) w) k b law.board.gone h' → Estate (Closed s.takeover m) (write m (Slot p i) w) k b h'
+        pub own_wrote : (i : ℕ) (w : Word) {h' : ℕ → Home} → (IsClaim w → ⊥) → Board (write law.board.ghost (Slot p i) w) k b law.board.gone h' → After law.board.gone (Closed s.takeover m) (write m (Slot p i) w) k b h'
         own_wrote i w nor board = wrote law.board p i w (as_open (law.board.covers.slots p i) open_).1 nor (inl open_) board
 
-        pub own_goes : (new : RestartKind) (low : ℕ) {h' : ℕ → Home} → IsFree new → Board law.board.ghost (put k p new) (put b p low) law.board.gone h' → Estate (Closed s.takeover m) m (put k p new) (put b p low) h'
+        pub own_goes : (new : RestartKind) (low : ℕ) {h' : ℕ → Home} → IsFree new → Board law.board.ghost (put k p new) (put b p low) law.board.gone h' → After law.board.gone (Closed s.takeover m) m (put k p new) (put b p low) h'
         own_goes new low is board = installed law.board p new low open_ (λ v i t th. absurd (free_thief new v i is th)) (λ v i t x th. absurd (free_thief new v i is th)) board
 
         -- the seat of a kind
@@ -514,10 +530,13 @@ module _ (s : Shape) (code : CodeParts) where
 
             -- what a step of a row is to keep, where the turn names the victim u
             module _ (u : ℕ) (names : u < s.processors) where
-              abbrev pub Goal : Row → Type 0
-              Goal row = row_is_there s seat row ≡ true → IsOrderlyRow s words seat row h f
-                  → Goes words (words_after words (wanted_row s seat u row)) (slice_set stand o (went_row s code seat u (found_in words (wanted_row s seat u row)) row))
+              abbrev pub GoalBy : (gone : ℕ → Bool) → Row → Type 0
+              GoalBy g row = row_is_there s seat row ≡ true → IsOrderlyRow s words seat row h f
+                  → Goes g words (words_after words (wanted_row s seat u row)) (slice_set stand o (went_row s code seat u (found_in words (wanted_row s seat u row)) row))
                   (by_row s words seat row h) (fork_row row ++ f) (take_row row ++ tk)
+
+              abbrev pub Goal : Row → Type 0
+              Goal row = GoalBy law.board.gone row
 
               pub not_there : {A : Type 0} → false ≡ true → A
               not_there e = absurd (cc)
@@ -556,7 +575,7 @@ module _ (s : Shape) (code : CodeParts) where
                     → MayGo (spot (reading_by new) c) (word_as old) (word_as new)
                     → ((x : ℕ) → Dead x ≢ spot (reading_by new) c) → ((x : ℕ) → Carry x ≢ spot (reading_by new) c)
                     → (m (spot (reading_by new) c) ≡ word_as old →
-                    Estate (Closed s.takeover m) (write m (spot (reading_by new) c) (word_as new)) k b (by_words p (spot (reading_by new) c) (word_as old) (word_as new) h)
+                    After law.board.gone (Closed s.takeover m) (write m (spot (reading_by new) c) (word_as new)) k b (by_words p (spot (reading_by new) c) (word_as old) (word_as new) h)
                     × Order (write m (spot (reading_by new) c) (word_as new)) k × Holding (write m (spot (reading_by new) c) (word_as new)) k
                     × Counts (by_words p (spot (reading_by new) c) (word_as old) (word_as new) h) f tk
                     × ((x q : ℕ) → x ≢ o → q ≢ p → Lives s m x → m (Carry x) ≡ Number q → May x q (spot (reading_by new) c) (word_as old) (word_as new)))
@@ -587,15 +606,16 @@ module _ (s : Shape) (code : CodeParts) where
                         let two : Bid q ≡ Message q = at ∙ sym z in cc
 
                     by : (x : Bool) → (read s words c == word_of old) ≡ x
-                        → Goes words (if x then store s words c (word_of new) else words) (slice_set stand o (stands_then s code seat next))
+                        → Goes law.board.gone words (if x then store s words c (word_of new) else words) (slice_set stand o (stands_then s code seat next))
                         (if x then by_words p (spot (reading_by new) c) (word_as old) (word_as new) h else h) f tk
                     by true q =
                         let same : (read s words c) ≡ word_of old = eqb-true (read s words c) (word_of old) q in
                         let is : m (spot (reading_by new) c) ≡ word_as old = found ∙ ap word_as (ap (content_of (reading_by old)) same ∙ again old po fo) in
                         let all = made is in
-                        subst (λ (x : Cell). Goes words (store s words x (word_of new)) (slice_set stand o (stands_then s code seat next)) (by_words p (spot (reading_by new) c) (word_as old) (word_as new) h) f tk) ec
+                        subst (λ (x : Cell). Goes law.board.gone words (store s words x (word_of new)) (slice_set stand o (stands_then s code seat next)) (by_words p (spot (reading_by new) c) (word_as old) (word_as new) h) f tk) ec
                         (writing (spot (reading_by new) c) (word_of new) (word_as new) (shown there) lone (ap word_as (ap (λ r. content_of r (word_of new)) rn ∙ again new pn fn)) (subst (λ (y : Word). MayGo (spot (reading_by new) c) y (word_as new)) (sym is) may) (by_words p (spot (reading_by new) c) (word_as old) (word_as new) h) f tk
-                        (closing all.0 (Closed s.takeover (write m (spot (reading_by new) c) (word_as new))) (closed_kept s.takeover m (spot (reading_by new) c) (word_as new) (λ x z. absurd (dead x z))))
+                        (let shutter = closing all.0.0 (Closed s.takeover (write m (spot (reading_by new) c) (word_as new))) (closed_kept s.takeover m (spot (reading_by new) c) (word_as new) (λ x z. absurd (dead x z))) in
+                        (shutter.0, λ v x. shutter.1 v (all.0.1 v x)))
                         all.1 all.2 (rooted_kept s.takeover m (spot (reading_by new) c) (word_as new) carry law.rooted) all.3
                         (still_write s.takeover m k b (spot (reading_by new) c) (word_as new) (λ x shut. no_message x) (λ x z. absurd (dead x z)))
                         (λ x q ne lives at. subst (λ (y : Word). May x q (spot (reading_by new) c) y (word_as new)) (sym is) (all.4 x q ne (apart x q ne lives at) lives at)) (stands_then s code seat next)
@@ -630,9 +650,9 @@ module _ (s : Shape) (code : CodeParts) where
                   own : Sees s m k b o (stands_then s code seat next)
                   own = settled m k b o seat sits (Now next) (Strand strand q.1)
 
-                  by : (x : Bool) → Goes words (if x then store s words c (word_of new) else words) (slice_set stand o (stands_then s code seat next))
+                  by : (x : Bool) → Goes law.board.gone words (if x then store s words c (word_of new) else words) (slice_set stand o (stands_then s code seat next))
                       (if x then by_words p (spot (reading_by new) c) (word_as old) (word_as new) h else h) f tk
-                  by true = subst (λ (x : ℕ → Home). Goes words (store s words c (word_of new)) (slice_set stand o (stands_then s code seat next)) x f tk) (sym home)
+                  by true = subst (λ (x : ℕ → Home). Goes law.board.gone words (store s words c (word_of new)) (slice_set stand o (stands_then s code seat next)) x f tk) (sym home)
                       (quieting c (word_of new) q.0 (quiet_there c q.0 there kept) (stands_then s code seat next) own)
                   by false = waiting (stands_then s code seat next) own
 
@@ -643,15 +663,15 @@ module _ (s : Shape) (code : CodeParts) where
                   (settled m k b o seat sits (found_at s seat u point found) (Strand strand (found_quiet seat s u point found q)))
               strand_goal (Now (Install r)) strand q there orderly =
                   let plain = strand_plain K strand in
-                  subst (λ (x : ℕ → Home). Goes words (store s words (cells.RestartWord p) (restart_word r)) (slice_set stand o (IsAt p (Some r))) x f tk) (sym (strand_install p K r.kind h strand))
+                  subst (λ (x : ℕ → Home). Goes law.board.gone words (store s words (cells.RestartWord p) (restart_word r)) (slice_set stand o (IsAt p (Some r))) x f tk) (sym (strand_install p K r.kind h strand))
                   (elim (pop_or r.kind q.0) [
                     | inl pop ↦ installing r there (subst (Aims m) (sym pop) tt) (subst (Dooms m p) (sym pop) tt) h f tk
-                        (subst₂ (λ (x : RestartKind) (y : ℕ). Estate (Closed s.takeover m) m (put k p x) (put b p y) h) (sym pop) (sym q.1) (own_goes Pop1 (b p) tt (pop_begins law.board.board p K e plain.0 (plain.1 law.board.ghost p)))) law.counts
+                        (subst₂ (λ (x : RestartKind) (y : ℕ). After law.board.gone (Closed s.takeover m) m (put k p x) (put b p y) h) (sym pop) (sym q.1) (own_goes Pop1 (b p) tt (pop_begins law.board.board p K e plain.0 (plain.1 law.board.ghost p)))) law.counts
                     | inr on ↦
                         let next = strand_plain r.kind on in
                         let aims = strand_aims m p r.kind on in
                         installing r there aims.0 aims.1 h f tk
-                        (subst (λ (y : ℕ). Estate (Closed s.takeover m) m (put k p r.kind) (put b p y) h) (sym q.1)
+                        (subst (λ (y : ℕ). After law.board.gone (Closed s.takeover m) m (put k p r.kind) (put b p y) h) (sym q.1)
                         (own_goes r.kind (b p) (strand_free r.kind on) (plain_install law.board.board p K r.kind e plain.0 next.0 (λ x z. absurd (plain.1 law.board.ghost p x z)) (λ x z. absurd (next.1 law.board.ghost p x z))))) law.counts
                   ])
               strand_goal (Now (Fork block)) strand q there fresh =
@@ -663,7 +683,7 @@ module _ (s : Shape) (code : CodeParts) where
                   let plain = strand_plain K strand in
                   let was : h block ≡ Inline = joined K (h block) q.0 inline in
                   installing (record { kind = Run frame 0; bottom = low }) there tt tt (put h block Begun) f (block ∷ tk)
-                  (subst (λ (y : ℕ). Estate (Closed s.takeover m) m (put k p (Run frame 0)) (put b p y) (put h block Begun)) (sym q.1) (own_goes (Run frame 0) (b p) tt (inline_begins law.board.board p block frame 0 K e plain.0 (plain.1 law.board.ghost p) was)))
+                  (subst (λ (y : ℕ). After law.board.gone (Closed s.takeover m) m (put k p (Run frame 0)) (put b p y) (put h block Begun)) (sym q.1) (own_goes (Run frame 0) (b p) tt (inline_begins law.board.board p block frame 0 K e plain.0 (plain.1 law.board.ghost p) was)))
                   (counts_take h f tk block law.counts (λ z. let x : Inline ≡ Unborn = sym was ∙ z in cc) (λ z. let x : Inline ≡ Begun = sym was ∙ z in cc))
               strand_goal (Now (Move place)) strand q there orderly = absurd q
               strand_goal (Now (Enter capsule)) strand q there orderly = not_there there
@@ -679,7 +699,7 @@ module _ (s : Shape) (code : CodeParts) where
                   → Saw s seat v n (before n) (raised (cells.EntryWord x i) old new next (nat_lt (tag_of old + 1) (2 ^ 34))) ws → HasSeen s n seat row)
                   → IsEntry old → (tag_of old + 1 < 2 ^ 34 → IsEntry new) → Changes s.takeover (word_as (AnEntry old)) (word_as (AnEntry new))
                   → (before M → m (Slot x i) ≡ word_as (AnEntry old) →
-                  Estate (Closed s.takeover m) (write m (Slot x i) (word_as (AnEntry new))) k b (by_words p (Slot x i) (word_as (AnEntry old)) (word_as (AnEntry new)) h)
+                  After law.board.gone (Closed s.takeover m) (write m (Slot x i) (word_as (AnEntry new))) k b (by_words p (Slot x i) (word_as (AnEntry old)) (word_as (AnEntry new)) h)
                   × Order (write m (Slot x i) (word_as (AnEntry new))) k
                   × Counts (by_words p (Slot x i) (word_as (AnEntry old)) (word_as (AnEntry new)) h) f tk
                   × ((d q : ℕ) → q ≢ p → Lives s m d → m (Carry d) ≡ Number q → May d q (Slot x i) (word_as (AnEntry old)) (word_as (AnEntry new))))
@@ -707,7 +727,7 @@ module _ (s : Shape) (code : CodeParts) where
                   by true is (w ∷ ws) af saw = done w (λ n us row af2 er saw. lift_by true is n (w ∷ us) row (af.0, af2) er saw) ws af.1 saw
 
               -- a restart word is stored
-              pub installs : (r : Restart) → Aims m r.kind → Dooms m p r.kind → Estate (Closed s.takeover m) m (put k p r.kind) (put b p r.bottom) (by_install p K r.kind h) → Counts (by_install p K r.kind h) f tk → Goal (Now (Install r))
+              pub installs : (r : Restart) → Aims m r.kind → Dooms m p r.kind → After law.board.gone (Closed s.takeover m) m (put k p r.kind) (put b p r.bottom) (by_install p K r.kind h) → Counts (by_install p K r.kind h) f tk → Goal (Now (Install r))
               installs r aim doom board co there orderly = installing r there aim doom (by_install p K r.kind h) f tk board co
 
               pub only_end : (v : ℕ) {X : Type 0} (r : Restart) → (X → Goal (Now (Install r))) → (ws : List Word) → Saw s seat v M X (Now (Install r)) ws → Goal (rest_of s seat v (Now (Install r)) ws)

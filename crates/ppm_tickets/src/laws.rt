@@ -2,7 +2,7 @@
 ghost use Rattle.ppm_cells.specs.declared.shape.Shape.{Shape};
 ghost use Rattle.ppm_code.specs.declared.code.CodeParts.{CodeParts};
 ghost use Rattle.ppm_tickets.specs.Entries.{EntriesChangeLawfully, PlacesStayHome};
-ghost use Rattle.ppm_tickets.specs.Heirs.{HeirsSee};
+ghost use Rattle.ppm_tickets.specs.Heirs.{HeirsFollow, HeirsSee, HeirsTake, NoneComesBack, OneInherits, OneTakes};
 ghost use Rattle.ppm_tickets.specs.Renewal.{ComesBack, GoesOn, LawfulInParts};
 ghost use Rattle.ppm_tickets.specs.Tickets.{ImagesOpen, InEveryRun, InEveryRunByEntries};
 ghost use Rattle.ppm_tickets.specs.Tickets.{LawfulInEveryRun, OneMoreTurn};
@@ -63,4 +63,14 @@ pub fn places_stay_home()
 /// closed places that inherited one from another.
 pub fn heirs_see()
     ensures law { HeirsSee }
+    ensures takes { (s : Shape) (code : CodeParts) → HeirsTake s code }
+    ensures one { (s : Shape) (code : CodeParts) → OneTakes s code }
+    ensures place { (s : Shape) (code : CodeParts) → OneInherits s code }
+{}
+
+/// The turn by which a place goes on with it leaves a lawful state in which that place is followed; and a
+/// place that was followed stays so.
+pub fn heirs_follow()
+    ensures law { (s : Shape) (code : CodeParts) → HeirsFollow s code }
+    ensures stays { (s : Shape) (code : CodeParts) → NoneComesBack s code }
 {}

@@ -12,6 +12,6 @@
 mod laws;
 
 pub use laws::{
-    entries_change_lawfully, heirs_see, images_open, in_every_run, in_every_run_by_entries,
-    places_stay_home, resumes, turns_follow,
+    entries_change_lawfully, heirs_follow, heirs_see, images_open, in_every_run,
+    in_every_run_by_entries, places_stay_home, resumes, turns_follow,
 };
