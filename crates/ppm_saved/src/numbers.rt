@@ -1,0 +1,31 @@
+//! Numbers in the lines of a saved text.
+ghost use Rattle.std.specs.Prelude.{◌≡◌, ◌++◌, OnOk, decimal};
+ghost use Rattle.ppm_saved.specs.Text.{numbers_text};
+
+use ppm_words::NoMemory;
+use std::alloc::Global;
+
+/// Appends a number in decimal.
+pub(crate) fn push_number(alloc: Global, text: &mut Vec<u8>, number: u64) -> Result<(), NoMemory>
+    ensures { OnOk result (text.new.items ≡ text.old.items ++ decimal number) }
+{
+    let digits = number.to_string(alloc)?;
+    text.extend_from_slice(digits.as_bytes())?;
+    Ok(())
+}
+
+/// Appends each of the numbers behind a space, and a line feed.
+pub(crate) fn push_numbers(
+    alloc: Global,
+    text: &mut Vec<u8>,
+    numbers: &[u64],
+) -> Result<(), NoMemory>
+    ensures { OnOk result (text.new.items ≡ text.old.items ++ numbers_text numbers.now) }
+{
+    for number in numbers {
+        text.push(b' ')?;
+        push_number(alloc, text, *number)?;
+    }
+    text.push(b'\n')?;
+    Ok(())
+}
