@@ -22,3 +22,5 @@ pub mod WholeLemmas
 pub mod MomentLemmas
 pub mod SpentLemmas
 pub mod BackLemmas
+pub mod FollowLemmas
+pub mod HalvesLemmas

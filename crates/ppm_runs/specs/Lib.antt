@@ -6,3 +6,4 @@ pub mod Whole
 pub mod Moments
 pub mod Spent
 pub mod Renewals
+pub mod Follow

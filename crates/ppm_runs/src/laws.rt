@@ -1,4 +1,5 @@
 //! What turns owe, shown by calls that do nothing.
+ghost use Rattle.ppm_runs.specs.Follow.{HalvesGoOn, HalvesOwe, HeirsLead};
 ghost use Rattle.ppm_runs.specs.Laws.{BirthsFollow, BrokenFollow, TakersHave, TurnsAreOrderly, TurnsGoOn};
 ghost use Rattle.ppm_runs.specs.Moments.{OnceAtEachMoment, RunsStay, TurnsLeadOn};
 ghost use Rattle.ppm_runs.specs.Openings.{RunsOpen};
@@ -82,4 +83,12 @@ pub fn room_is_spent()
 pub fn runs_come_back()
     ensures back { RunsComeBack }
     ensures parts { PartsComeTo }
+{}
+
+/// With takeover by entries, a turn by which a place goes on with what it inherited leads to words that are
+/// lawful, and that show the tree with that strand as its own, with the closed place left out.
+pub fn heirs_lead()
+    ensures law { HeirsLead }
+    ensures others { HalvesGoOn }
+    ensures owe { HalvesOwe }
 {}

@@ -13,6 +13,6 @@
 mod laws;
 
 pub use laws::{
-    births_follow, room_is_spent, runs_come_back, runs_come_to, runs_end, runs_open, runs_stay,
-    stops_stay, takers_have, turns_are_orderly, turns_go_on,
+    births_follow, heirs_lead, room_is_spent, runs_come_back, runs_come_to, runs_end, runs_open,
+    runs_stay, stops_stay, takers_have, turns_are_orderly, turns_go_on,
 };

@@ -49,18 +49,21 @@ module _ {shut : ℕ → Type 0} {m : Spot → Word} {k : ℕ → RestartKind} {
 
   -- more is closed
   pub closing : (shut' : ℕ → Type 0) → ((v : ℕ) → shut v → shut' v) → After e.gone shut' m k b h
-  closing shut' f = (record {
-    ghost = e.ghost;
-    gone = e.gone;
-    covers = record {
-      others = e.covers.others;
-      slots = λ v i. elim (e.covers.slots v i) [ inl a ↦ inl a | inr z ↦ inr (record { is_shut = f v z.is_shut; local = z.local; claim = z.claim }) ];
-    };
-    board = e.board;
-    late = e.late;
-    told = e.told;
-    meant = λ q v i t x th is. f v (e.meant q v i t x th is);
-  }, λ v x. x)
+  closing shut' f = (
+    record {
+      ghost = e.ghost;
+      gone = e.gone;
+      covers = record {
+        others = e.covers.others;
+        slots = λ v i. elim (e.covers.slots v i) [ inl a ↦ inl a | inr z ↦ inr (record { is_shut = f v z.is_shut; local = z.local; claim = z.claim }) ];
+      };
+      board = e.board;
+      late = e.late;
+      told = e.told;
+      meant = λ q v i t x th is. f v (e.meant q v i t x th is);
+    },
+    λ v x. x,
+  )
 
   -- an entry that is no claim is written, at an open place, or by a word that is no more local than
   -- it was
@@ -126,23 +129,26 @@ module _ {shut : ℕ → Type 0} {m : Spot → Word} {k : ℕ → RestartKind} {
   -- a word of no deque is written, and no message of a thief
   pub noted : (d : Spot) (w : Word) {h' : ℕ → Home} → ((v i : ℕ) → Slot v i ≢ d) → ((q v i : ℕ) → Message q ≡ d → IsThief (k q) v i → ⊥)
       → Board (write e.ghost d w) k b e.gone h' → After e.gone shut (write m d w) k b h'
-  noted d w entry idle board = (record {
-    ghost = write e.ghost d w;
-    gone = e.gone;
-    covers = record {
-      others = λ x ne. elim (same_spot_or x d) [
-        | inl z ↦ ap (write e.ghost d w) z ∙ write_here e.ghost d w ∙ sym (ap (write m d w) z ∙ write_here m d w)
-        | inr z ↦ write_else e.ghost d w x z ∙ e.covers.others x ne ∙ sym (write_else m d w x z)
-      ];
-      slots = λ x j. subst₂ (λ (y z : Word). ((y ≡ z) × (IsClaim z → ⊥)) ⊎ Inherited (shut x) y z) (sym (gs x j)) (sym (ms x j)) (e.covers.slots x j);
-    };
-    board = board;
-    late = λ x g. let l = e.late x g in (l.0, l.1, subst (λ (a : ℕ). write m d w (Slot x a) ≡ Taken l.0 (l.1 + 64)) (sym (act x)) (ms x (active_at e.ghost k b x) ∙ l.2));
-    told = λ q x j t th is.
-        let a = e.told q x j t th (sym (ms x j) ∙ is) in
-        (write_else m d w (Message q) (λ z. idle q x j z th) ∙ a.0 ∙ sym (gs x j), λ g at_. a.1 g (at_ ∙ act x));
-    meant = λ q x j t y th is. e.meant q x j t y th (sym (write_else m d w (Message q) (λ z. idle q x j z th)) ∙ is);
-  }, λ v x. x)
+  noted d w entry idle board = (
+    record {
+      ghost = write e.ghost d w;
+      gone = e.gone;
+      covers = record {
+        others = λ x ne. elim (same_spot_or x d) [
+          | inl z ↦ ap (write e.ghost d w) z ∙ write_here e.ghost d w ∙ sym (ap (write m d w) z ∙ write_here m d w)
+          | inr z ↦ write_else e.ghost d w x z ∙ e.covers.others x ne ∙ sym (write_else m d w x z)
+        ];
+        slots = λ x j. subst₂ (λ (y z : Word). ((y ≡ z) × (IsClaim z → ⊥)) ⊎ Inherited (shut x) y z) (sym (gs x j)) (sym (ms x j)) (e.covers.slots x j);
+      };
+      board = board;
+      late = λ x g. let l = e.late x g in (l.0, l.1, subst (λ (a : ℕ). write m d w (Slot x a) ≡ Taken l.0 (l.1 + 64)) (sym (act x)) (ms x (active_at e.ghost k b x) ∙ l.2));
+      told = λ q x j t th is.
+          let a = e.told q x j t th (sym (ms x j) ∙ is) in
+          (write_else m d w (Message q) (λ z. idle q x j z th) ∙ a.0 ∙ sym (gs x j), λ g at_. a.1 g (at_ ∙ act x));
+      meant = λ q x j t y th is. e.meant q x j t y th (sym (write_else m d w (Message q) (λ z. idle q x j z th)) ∙ is);
+    },
+    λ v x. x,
+  )
     where
       gs : (x j : ℕ) → write e.ghost d w (Slot x j) ≡ e.ghost (Slot x j)
       gs x j = write_else e.ghost d w (Slot x j) (entry x j)

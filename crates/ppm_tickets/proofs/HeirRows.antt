@@ -219,11 +219,14 @@ module _ (s : Shape) (words : List ℕ) (stand : List Standing) (h : ℕ → Hom
           let shown : law.board.ghost (Slot x2 i2) ≡ Taken (t + 1) w = as_shown (law.board.covers.slots x2 i2) (λ d. let far : 64 ≤ w = subst IsClaim now d in omega (arith, far, small, s.within.processors_most)) ∙ now in
           let says : law.board.ghost (Message w) ≡ Job t r = law.board.covers.others (Message w) (λ y d d2. cc) ∙ said_is (Job t r) a.0 in
           let it = inherits w j z l (node a.0.0.0) (at a.0.0) in
-          inr (it, inr (law.board.board.only (Stolen w) r tt it.stays
-          (elim th [
-            | inl d ↦ subst (λ (y : RestartKind). Steals law.board.ghost w y r) (sym d) (t, says, shown)
-            | inr d ↦ subst (λ (y : RestartKind). Steals law.board.ghost w y r) (sym d) (t, says, shown)
-          ])))))
+          inr (
+            it,
+            inr (law.board.board.only (Stolen w) r tt it.stays
+                (elim th [
+                  | inl d ↦ subst (λ (y : RestartKind). Steals law.board.ghost w y r) (sym d) (t, says, shown)
+                  | inr d ↦ subst (λ (y : RestartKind). Steals law.board.ghost w y r) (sym d) (t, says, shown)
+                ])),
+          )))
           (λ is. seek_end c (Now3 (Job t r) (Taken n q)))
           us (omega (arith, le)) saw
       jobs t r (Empty n ∷ us) le saw = seek_end c (Now3 (Job t r) (Empty n)) us (omega (arith, le)) saw
@@ -313,8 +316,11 @@ module _ (s : Shape) (words : List ℕ) (stand : List Standing) (h : ℕ → Hom
         (λ a. (refl, home_pushing (Push1 r) r a (at_active c more w j z l before node (Push1 r) B here (λ d y. refl) a) (subst (λ (y : RestartKind). Pushes y (law.board.ghost (Slot w (b w))) r) (sym (kind_of (Push1 r) a)) refl))) here
 
     push2_at : (r : ℕ) → (j == B) ≡ true → Steps c (Now0 (Push2 r)) (Now (Install (record { kind = Push1 r; bottom = b p })))
-    push2_at r here = goes c more w j z l before node (Push2 r) B (Push1 r) at_ (λ a. inl (refl, home_pushing (Push2 r) r a (at_ a)
-        (subst₂ (λ (y : RestartKind) (d : Word). Pushes y d r) (sym (kind_of (Push2 r) a)) (sym (low_local c more w j z l before node (Push2 r) B here a)) (refl, tt))))
+    push2_at r here = goes c more w j z l before node (Push2 r) B (Push1 r) at_ (λ a. inl (
+      refl,
+      home_pushing (Push2 r) r a (at_ a)
+          (subst₂ (λ (y : RestartKind) (d : Word). Pushes y d r) (sym (kind_of (Push2 r) a)) (sym (low_local c more w j z l before node (Push2 r) B here a)) (refl, tt)),
+    ))
       where
         at_ : (a : Now0 (Push2 r)) → j ≡ active_at law.board.ghost k b w
         at_ a = at_b c more w j z l before node (Push2 r) B here a ∙ sym (active_is w (Push2 r) (kind_of (Push2 r) a) ∙ ap (λ (y : Word). if is_local y then b w else b w + 1) (low_local c more w j z l before node (Push2 r) B here a))

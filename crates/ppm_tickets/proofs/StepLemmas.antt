@@ -405,18 +405,21 @@ module _ (s : Shape) (code : CodeParts) where
       -- no word changes
       pub waiting : (x : Standing) → Sees s m k b o x → Goes law.board.gone words words (slice_set stand o x) h f tk
       waiting x own = (
-        ((
-          fit,
-          record {
-            board = law.board;
-            order = law.order;
-            holding = law.holding;
-            rooted = law.rooted;
-            bids = law.bids;
-            counts = law.counts;
-            sees = sees_all m k b x (still_same s.takeover m k b) (λ d q ne alive at. ((λ c. may_same d q c (m c)), refl, refl)) own;
-          },
-        ), λ v y. y),
+        (
+          (
+            fit,
+            record {
+              board = law.board;
+              order = law.order;
+              holding = law.holding;
+              rooted = law.rooted;
+              bids = law.bids;
+              counts = law.counts;
+              sees = sees_all m k b x (still_same s.takeover m k b) (λ d q ne alive at. ((λ c. may_same d q c (m c)), refl, refl)) own;
+            },
+          ),
+          λ v y. y,
+        ),
         λ v i. inl refl,
       )
 
@@ -440,15 +443,18 @@ module _ (s : Shape) (code : CodeParts) where
           let r = restarts_kept s words (cell_of d) raw (shown_cell s d shown) (spot_apart d) in
           let now = view_written s words d raw fit shown lone ∙ ap (write m d) is in (
             becoming (store s words (cell_of d) raw) (slice_set stand o x) h' f' tk' (write m d w) k b law.board.gone now
-                (λ i q. (r i q).kind) (λ i q. (r i q).bottom) (length_set words (address s (cell_of d)) raw fit) (record {
-                  board = bo.0;
-                  order = or;
-                  holding = ho;
-                  rooted = ro;
-                  bids = law.bids;
-                  counts = co;
-                  sees = sees_all (write m d w) k b x still (λ y q ne alive at. (grows_each y q m d w (g y q ne alive at), refl, refl)) own;
-                }, bo.1),
+                (λ i q. (r i q).kind) (λ i q. (r i q).bottom) (length_set words (address s (cell_of d)) raw fit) (
+                  record {
+                    board = bo.0;
+                    order = or;
+                    holding = ho;
+                    rooted = ro;
+                    bids = law.bids;
+                    counts = co;
+                    sees = sees_all (write m d w) k b x still (λ y q ne alive at. (grows_each y q m d w (g y q ne alive at), refl, refl)) own;
+                  },
+                  bo.1,
+                ),
             fair_write m (view s (store s words (cell_of d) raw)) d w now may,
           )
 
@@ -483,20 +489,23 @@ module _ (s : Shape) (code : CodeParts) where
             let kept = view_kept s words (cells.RestartWord p) (restart_word r) carried.place (λ d shown. restart_apart d p shown) in (
               becoming (store s words (cells.RestartWord p) (restart_word r)) (slice_set stand o (IsAt p (Some r))) h' f' tk' m (put k p r.kind) (put b p r.bottom) g
                   kept (kinds_put s words p r fit carried.place ok) (bottoms_put s words p r fit carried.place ok)
-                  (length_set words (address s (cells.RestartWord p)) (restart_word r) fit) (record {
-                    board = board.0;
-                    order = order_install law.order p r.kind aim;
-                    holding = holding_install law.holding p r.kind doom;
-                    rooted = law.rooted;
-                    bids = λ q. elim (cases_eq q p) [
-                      | inl e ↦ subst (IsBidThere s) (sym (ap (put k p r.kind) e ∙ put_here k p r.kind)) (bid_there r.kind (both_true (bottom_is_there s r.bottom) (kind_is_there s r.kind) there).1)
-                      | inr ne ↦ subst (IsBidThere s) (sym (put_else k p r.kind q ne)) (law.bids q)
-                    ];
-                    counts = co;
-                    sees = sees_all m (put k p r.kind) (put b p r.bottom) (IsAt p (Some r)) (still_install s.takeover m k b p r.kind r.bottom open_)
-                        (λ d q ne lives at. let other = apart d q ne lives at in ((λ c. may_same d q c (m c)), put_else k p r.kind q other, put_else b p r.bottom q other))
-                        (carried, record { kind = put_here k p r.kind; bottom = put_here b p r.bottom });
-                  }, board.1),
+                  (length_set words (address s (cells.RestartWord p)) (restart_word r) fit) (
+                    record {
+                      board = board.0;
+                      order = order_install law.order p r.kind aim;
+                      holding = holding_install law.holding p r.kind doom;
+                      rooted = law.rooted;
+                      bids = λ q. elim (cases_eq q p) [
+                        | inl e ↦ subst (IsBidThere s) (sym (ap (put k p r.kind) e ∙ put_here k p r.kind)) (bid_there r.kind (both_true (bottom_is_there s r.bottom) (kind_is_there s r.kind) there).1)
+                        | inr ne ↦ subst (IsBidThere s) (sym (put_else k p r.kind q ne)) (law.bids q)
+                      ];
+                      counts = co;
+                      sees = sees_all m (put k p r.kind) (put b p r.bottom) (IsAt p (Some r)) (still_install s.takeover m k b p r.kind r.bottom open_)
+                          (λ d q ne lives at. let other = apart d q ne lives at in ((λ c. may_same d q c (m c)), put_else k p r.kind q other, put_else b p r.bottom q other))
+                          (carried, record { kind = put_here k p r.kind; bottom = put_here b p r.bottom });
+                    },
+                    board.1,
+                  ),
               fair_same m (view s (store s words (cells.RestartWord p) (restart_word r))) kept,
             )
 

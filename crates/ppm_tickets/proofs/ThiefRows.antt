@@ -309,36 +309,39 @@ module _ (s : Shape) (code : CodeParts) where
             let r = restarts_kept s words (cells.MessageWord p) (word_of x) carried.place (λ q z. cc) in
             let now = message_written s words p (word_of x) fit carried.place in
             let both = noted_both law.board (Message p) (Bid p) wa wb (λ y i z. cc) (λ y i z. cc)
-                (λ q y i z th. let is : q ≡ p = cc in free_thief s code (k q) y i (subst (IsFree s code) (sym (ap k is ∙ e)) tt) th) (λ q y i z th. cc)
-                (message_board law.board.board p wa e) (other_written (message_board law.board.board p wa e) (Bid p) wb (λ y i z. cc) (λ q z. cc)) in
+            (λ q y i z th. let is : q ≡ p = cc in free_thief s code (k q) y i (subst (IsFree s code) (sym (ap k is ∙ e)) tt) th) (λ q y i z th. cc)
+            (message_board law.board.board p wa e) (other_written (message_board law.board.board p wa e) (Bid p) wb (λ y i z. cc) (λ q z. cc)) in
             let shutter = closing both.0 (Closed s.takeover (noted x))
-                (λ y z. closed_kept s.takeover (write m (Message p) wa) (Bid p) wb (λ q same. cc) y (closed_kept s.takeover m (Message p) wa (λ q same. cc) y z)) in (
+            (λ y z. closed_kept s.takeover (write m (Message p) wa) (Bid p) wb (λ q same. cc) y (closed_kept s.takeover m (Message p) wa (λ q same. cc) y z)) in (
               becoming s code (store s words (cells.MessageWord p) (word_of x)) (slice_set stand o (stands_then s code (seat s code words stand h f tk fit law o live p carried Seek e) next)) h f tk (noted x) k b law.board.gone
-                  now (λ i q. (r i q).kind) (λ i q. (r i q).bottom) (length_set s code words (address s (cells.MessageWord p)) (word_of x) fit) (record {
-                    board = shutter.0;
-                    bids = law.bids;
-                    rooted = rooted_kept s.takeover (write m (Message p) wa) (Bid p) wb (λ q z. cc) (rooted_kept s.takeover m (Message p) wa (λ q z. cc) law.rooted);
-                    order = order_other (order_other law.order (Message p) wa (λ y i z. cc) (λ y z. cc)) (Bid p) wb (λ y i z. cc) (λ y z. cc);
-                    holding = holding_other (holding_other law.holding (Message p) wa (λ d z. cc) (λ d z. cc) (λ d z. cc) (λ q z. cc)) (Bid p) wb (λ d z. cc) (λ d z. cc) (λ d z. cc)
-                        (λ q same. let is : q ≡ p = cc in subst IsIdle (sym (ap k is ∙ e)) tt);
-                    counts = law.counts;
-                    sees = sees_all s code words stand h f tk fit law o live (noted x) k b (stands_then s code (seat s code words stand h f tk fit law o live p carried Seek e) next) (still_noted s.takeover x (open_ s code words stand h f tk fit law o live p carried)) (λ d q ne lives at. (
-                      λ c. may_on d q c (m c) (write m (Message p) wa c) (noted x c) (grows_each d q m (Message p) wa (λ same. absurd (apart s code words stand h f tk fit law o live p carried d q ne lives at (sym same))) c)
-                          (grows_each d q (write m (Message p) wa) (Bid p) wb (λ same. absurd (apart s code words stand h f tk fit law o live p carried d q ne lives at (sym same))) c),
-                      refl,
-                      refl,
-                    )) (settled s code (noted x) k b o (seat s code words stand h f tk fit law o live p carried Seek e) record {
-                      own = refl;
-                      carried = record {
-                        lives = record { alive = λ z. carried.lives.alive (subst IsDead (noted_else x (Dead o) (λ z. cc) (λ z. cc)) z); there = carried.lives.there };
-                        carry = noted_else x (Carry o) (λ z. cc) (λ z. cc) ∙ carried.carry;
-                        place = carried.place;
-                        home = carried.home;
-                      };
-                      at = record { kind = e; bottom = refl };
-                      there = ta;
-                    } (Now next) own);
-                  }, λ y z. shutter.1 y (both.1 y z)),
+                  now (λ i q. (r i q).kind) (λ i q. (r i q).bottom) (length_set s code words (address s (cells.MessageWord p)) (word_of x) fit) (
+                    record {
+                      board = shutter.0;
+                      bids = law.bids;
+                      rooted = rooted_kept s.takeover (write m (Message p) wa) (Bid p) wb (λ q z. cc) (rooted_kept s.takeover m (Message p) wa (λ q z. cc) law.rooted);
+                      order = order_other (order_other law.order (Message p) wa (λ y i z. cc) (λ y z. cc)) (Bid p) wb (λ y i z. cc) (λ y z. cc);
+                      holding = holding_other (holding_other law.holding (Message p) wa (λ d z. cc) (λ d z. cc) (λ d z. cc) (λ q z. cc)) (Bid p) wb (λ d z. cc) (λ d z. cc) (λ d z. cc)
+                          (λ q same. let is : q ≡ p = cc in subst IsIdle (sym (ap k is ∙ e)) tt);
+                      counts = law.counts;
+                      sees = sees_all s code words stand h f tk fit law o live (noted x) k b (stands_then s code (seat s code words stand h f tk fit law o live p carried Seek e) next) (still_noted s.takeover x (open_ s code words stand h f tk fit law o live p carried)) (λ d q ne lives at. (
+                        λ c. may_on d q c (m c) (write m (Message p) wa c) (noted x c) (grows_each d q m (Message p) wa (λ same. absurd (apart s code words stand h f tk fit law o live p carried d q ne lives at (sym same))) c)
+                            (grows_each d q (write m (Message p) wa) (Bid p) wb (λ same. absurd (apart s code words stand h f tk fit law o live p carried d q ne lives at (sym same))) c),
+                        refl,
+                        refl,
+                      )) (settled s code (noted x) k b o (seat s code words stand h f tk fit law o live p carried Seek e) record {
+                        own = refl;
+                        carried = record {
+                          lives = record { alive = λ z. carried.lives.alive (subst IsDead (noted_else x (Dead o) (λ z. cc) (λ z. cc)) z); there = carried.lives.there };
+                          carry = noted_else x (Carry o) (λ z. cc) (λ z. cc) ∙ carried.carry;
+                          place = carried.place;
+                          home = carried.home;
+                        };
+                        at = record { kind = e; bottom = refl };
+                        there = ta;
+                      } (Now next) own);
+                    },
+                    λ y z. shutter.1 y (both.1 y z),
+                  ),
               λ y i. inl (ap (λ (z : Spot → Word). z (Slot y i)) now ∙ noted_else x (Slot y i) (λ z. cc) (λ z. cc)),
             )
 
