@@ -43,3 +43,5 @@ pub mod SumLemmas
 pub mod BegunLemmas
 pub mod WorkLemmas
 pub mod BoundLemmas
+pub mod FollowLemmas
+pub mod HalvesLemmas
