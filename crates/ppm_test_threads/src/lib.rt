@@ -9,7 +9,6 @@
 
 #[cfg(test)]
 mod meetings;
-#[cfg(test)]
 mod obeying;
 #[cfg(test)]
 mod refusals;
@@ -17,3 +16,5 @@ mod refusals;
 mod runs;
 #[cfg(test)]
 mod tables;
+
+pub use obeying::obeys;

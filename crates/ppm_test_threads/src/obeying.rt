@@ -126,7 +126,7 @@ fn pace_behind(
 
 /// Whether these events are what a processor is told that obeys, from its first act until its acts
 /// stop, whatever the others do; or, where it was stopped before, a front of that.
-pub(crate) fn obeys(
+pub fn obeys(
     shape: &Shape,
     code: &Code,
     plan: &Plan,

@@ -1,9 +1,8 @@
 //! The top call over memory: what is written and answered for whole inputs, and where ports fail.
-ghost use Rattle.std.specs.Prelude.{◌≡◌, ◌<◌, IfOk, length};
-ghost use Rattle.ppm_driver.specs.Watchers.{watcher_count};
+ghost use Rattle.std.specs.Prelude.{◌<◌};
 
 use ppm_answers::Status;
-use ppm_ports::{MemorySink, MemorySource, Recorder, Silent, Source};
+use ppm_ports::{MemorySink, MemorySource, Recorder, Silent, Source, Watch};
 use ppm_top::{WATCHERS, ppm};
 use std::alloc::Global;
 use std::process::Abort;
@@ -23,7 +22,7 @@ const CALLS: &str =
     "array a[1]; proc f(mut a, int n) { if n > 0 { call f(a, n - 1); a[0] = a[0] + 1; } } proc main(mut a) { call f(a, 100); }";
 
 /// A sum by halves.
-const SUM: &str =
+pub(crate) const SUM: &str =
     "array a[4]; input a = 1, 2, 3, 4;\nproc sum(mut a) { if len a > 1 { split a at len a / 2 into l, r { fork sum(l) and sum(r); \
       l[0] = l[0] + r[0]; } } }\nproc main(mut a) { call sum(a); }";
 
@@ -51,7 +50,7 @@ const RUN: &[&str] = &["ppm", "run"];
 const SERIAL: &[&str] = &["ppm", "serial"];
 
 /// Words that ask for the code.
-const CODE: &[&str] = &["ppm", "code"];
+pub(crate) const CODE: &[&str] = &["ppm", "code"];
 
 /// Words that ask for a check.
 const CHECK: &[&str] = &["ppm", "check"];
@@ -64,10 +63,10 @@ const ONE_SLOT: &str = "ppm 1\nroot 0\nproc 0 slots 1 entry 0\ncapsule 0 proc 0\
 
 /// What a call wrote and answered, and how often its source failed.
 #[derive(Drop)]
-struct Shown {
-    status: Status,
-    out: Vec<u8>,
-    err: Vec<u8>,
+pub(crate) struct Shown {
+    pub(crate) status: Status,
+    pub(crate) out: Vec<u8>,
+    pub(crate) err: Vec<u8>,
     read_faults: u64,
 }
 
@@ -96,6 +95,25 @@ fn ppm_over_memory(
 ) -> Result<Shown, Fail>
     requires { 0 < most }
 {
+    let mut watch = vec![in alloc; Silent; WATCHERS]?;
+    watched_over_memory(rt, alloc, text, words, most, failing, &mut watch)
+}
+
+/// The same with these watchers.
+fn watched_over_memory<R: Threads + Wait + Sync, W: Watch>(
+    rt: &R,
+    alloc: Global,
+    text: &[u8],
+    words: &[&str],
+    most: usize,
+    failing: Failing,
+    watch: &mut Vec<W>,
+) -> Result<Shown, Fail>
+    requires { 0 < most }
+{
+    if watch.len() != WATCHERS {
+        return Err(Fail::from("a watcher for each processor"));
+    }
     let mut given = Vec::new(alloc);
     for word in words {
         given.push(String::from_str(alloc, word)?)?;
@@ -103,22 +121,24 @@ fn ppm_over_memory(
     let mut source = MemorySource::new(text.to_vec(alloc)?, most, failing.reads.to_vec(alloc)?);
     let mut out = sink(alloc, most, failing.outs)?;
     let mut err = sink(alloc, most, failing.errs)?;
-    let mut watch = vec![in alloc; Silent; WATCHERS]?;
-    let status = ppm(
-        rt,
-        alloc,
-        &given,
-        &mut source,
-        &mut out,
-        &mut err,
-        &mut watch,
-    );
+    let status = ppm(rt, alloc, &given, &mut source, &mut out, &mut err, watch);
     Ok(Shown {
         status,
         out: out.bytes().to_vec(alloc)?,
         err: err.bytes().to_vec(alloc)?,
         read_faults: source.faults(),
     })
+}
+
+/// A call over ports that never fail, with these watchers.
+pub(crate) fn call<R: Threads + Wait + Sync, W: Watch>(
+    rt: &R,
+    alloc: Global,
+    words: &[&str],
+    text: &str,
+    watch: &mut Vec<W>,
+) -> Result<Shown, Fail> {
+    watched_over_memory(rt, alloc, text.as_bytes(), words, 4096, NONE, watch)
 }
 
 /// Fails unless the check of a listing answers so: on out where it is accepted, else on err.
@@ -680,47 +700,6 @@ fn a_long_output_is_written_whole(rt: HostRuntime) -> Result<(), Fail> {
     Ok(())
 }
 
-/// A recorder for each processor that a run may have.
-fn recorders(alloc: Global) -> Result<Vec<Recorder>, Fail>
-    ensures { IfOk result (λ all. length all.items ≡ watcher_count) }
-{
-    let mut all = Vec::new(alloc);
-    for _ in 0..WATCHERS {
-        all.push(Recorder::new(alloc))?;
-    }
-    Ok(all)
-}
-
-/// The watchers behind a call of the program over a source, which ends with such a status.
-fn watched(
-    rt: &(impl Abort + Threads + Wait + Sync),
-    alloc: Global,
-    words: &[&str],
-    text: &str,
-    want: Status,
-) -> Result<Vec<Recorder>, Fail> {
-    let mut watch = recorders(alloc)?;
-    let mut given = Vec::new(alloc);
-    for word in words {
-        given.push(String::from_str(alloc, word)?)?;
-    }
-    let bytes = text.as_bytes().to_vec(alloc)?;
-    let mut source = MemorySource::new(bytes, 9, Vec::new(alloc));
-    let mut out = sink(alloc, 9, &[])?;
-    let mut err = sink(alloc, 9, &[])?;
-    let status = ppm(
-        rt,
-        alloc,
-        &given,
-        &mut source,
-        &mut out,
-        &mut err,
-        &mut watch,
-    );
-    assert_eq!(rt; status, want, "{text}");
-    Ok(watch)
-}
-
 /// Words, texts and statuses, and of how many processors the watchers are told something.
 const WATCHED: [(&[&str], &str, Status, u32); 6] = [
     (
@@ -748,8 +727,14 @@ const WATCHED: [(&[&str], &str, Status, u32); 6] = [
 
 #[test]
 fn watchers_of_a_run_are_told(rt: HostRuntime) -> Result<(), Fail> {
+    let alloc = rt.alloc();
     for (words, text, status, told) in WATCHED {
-        let watch = watched(&rt, rt.alloc(), words, text, status)?;
+        let mut watch = Vec::new(alloc);
+        for _ in 0..WATCHERS {
+            watch.push(Recorder::new(alloc))?;
+        }
+        let shown = call(&rt, alloc, words, text, &mut watch)?;
+        assert_eq!(&rt; shown.status, status, "{words:?}");
         let mut some = 0u32;
         for recorder in &watch {
             if !recorder.events().is_empty() {

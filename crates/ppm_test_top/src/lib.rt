@@ -21,3 +21,5 @@ mod meaning;
 mod programs;
 #[cfg(test)]
 mod stops;
+#[cfg(test)]
+mod watching;
