@@ -3,8 +3,9 @@ use Rattle.std.proofs.Common.{◌≡◌, ◌≢◌, ◌∙◌, ℕ, ◌+◌, ◌
 use Rattle.std.proofs.lemmas.Bool.{both_ways}
 use Rattle.ppm_code.specs.Free.{IsFree}
 use Rattle.ppm_code.specs.Tidy.{IsTidy}
+use Rattle.ppm_code.specs.declared.code.CodeParts.{CodeParts}
+use Rattle.ppm_listing.proofs.CodeLemmas.{listing_tells_code}
 use Rattle.ppm_listing_reader.specs.Correct.{IsListing}
-use Rattle.ppm_listing_reader.proofs.LawLemmas.{one_code}
 use Rattle.ppm_saved.specs.declared.names.NamedLength.{NamedLength}
 use Rattle.ppm_saved.specs.declared.run.Run.{Run}
 use Rattle.ppm_saved_reader.specs.declared.lines.Sizes.{Sizes}
@@ -34,6 +35,10 @@ first_part {A} {B} e = ap (λ (k : A × B). k.0) e
 second_part : {A B : Type 0} {a b : A × B} → a ≡ b → a.1 ≡ b.1
 second_part {A} {B} e = ap (λ (k : A × B). k.1) e
 
+-- a listing is that of one code
+one_code : (text : List ℕ) (c d : CodeParts) → IsListing text c → IsListing text d → c ≡ d
+one_code text c d f g = listing_tells_code c d f.fits g.fits (sym f.same ∙ g.same)
+
 -- the run of a word that is there
 abbrev run_of : Option ℕ × ℕ → Run
 run_of p = record { word = or_else 0 p.0; times = p.1 }
@@ -51,8 +56,7 @@ goes_one (Array e a b) (Coded n f s is named free tidy) = absurd (not_both n e)
 goes_one (Coded n f s is named free tidy) (Array e a b) = absurd (not_both n e)
 goes_one (Coded {z = z} {arrays = arrays} {code = c} n e s is named free tidy) (Coded {code = d} o f l other a b h) =
     let k = some_one e f in
-    let same = one_code _ c d is (subst (λ (k : ℕ × List ℕ). IsListing (take k.0 k.1) d) (sym k) other) in
-    (
+    let same = one_code _ c d is (subst (λ (k : ℕ × List ℕ). IsListing (take k.0 k.1) d) (sym k) other) in (
       ap (λ (k : ℕ × List ℕ). 1 + line_feeds (take k.0 k.1)) k,
       ap (λ code. AtWords z arrays code) same,
       ap (λ (k : ℕ × List ℕ). drop k.0 k.1) k,
@@ -72,14 +76,14 @@ bad_array_one (TooMany b c) (TooMany d e) = refl
 bad_code_one : {arrays : List NamedLength} {bytes : ℕ} {rest : List ℕ} {f g : Fault} → IsBadCode arrays bytes rest f → IsBadCode arrays bytes rest g
     → f ≡ g
 bad_code_one (Short a) (Short b) = refl
-bad_code_one (Short a) (NoListing b no) = absurd (omega (arith, a, b))
-bad_code_one (Short a) (Conflicting b is named no) = absurd (omega (arith, a, b))
-bad_code_one (NoListing a no) (Short b) = absurd (omega (arith, a, b))
-bad_code_one (NoListing a no) (NoListing b none) = refl
-bad_code_one (NoListing a no) (Conflicting {code = code} b is named none) = absurd (no code is named)
-bad_code_one (Conflicting a is named no) (Short b) = absurd (omega (arith, a, b))
-bad_code_one (Conflicting {code = code} a is named no) (NoListing b none) = absurd (none code is named)
-bad_code_one (Conflicting a is named no) (Conflicting b other these none) = refl
+bad_code_one (Short a) (NoListing b never) = absurd (omega (arith, a, b))
+bad_code_one (Short a) (Conflicting b is named never) = absurd (omega (arith, a, b))
+bad_code_one (NoListing a never) (Short b) = absurd (omega (arith, a, b))
+bad_code_one (NoListing a never) (NoListing b none) = refl
+bad_code_one (NoListing a never) (Conflicting {code = code} b is named none) = absurd (never code is named)
+bad_code_one (Conflicting a is named never) (Short b) = absurd (omega (arith, a, b))
+bad_code_one (Conflicting {code = code} a is named never) (NoListing b none) = absurd (none code is named)
+bad_code_one (Conflicting a is named never) (Conflicting b other these none) = refl
 
 -- a line is wrong in one way
 wrong_one : {p : Place} {t : List ℕ} {f g : Fault} → IsWrong p t f → IsWrong p t g → f ≡ g
@@ -108,9 +112,9 @@ wrong_one (NoRun a e) (Same f b) = absurd (not_both e f)
 wrong_one (NoRun a e) (NoWord f) = absurd (not_both e f)
 wrong_one (Same f b) (NoRun a e) = absurd (not_both e f)
 wrong_one (Same e a) (Same f b) = refl
-wrong_one (Same e a) (NoWord f) = absurd (not_both (sym (first_part (first_part (some_one e f)))) refl)
+wrong_one (Same e a) (NoWord f) = absurd (not_both (first_part (first_part (some_one e f))) refl)
 wrong_one (NoWord f) (NoRun a e) = absurd (not_both e f)
-wrong_one (NoWord f) (Same e a) = absurd (not_both (sym (first_part (first_part (some_one e f)))) refl)
+wrong_one (NoWord f) (Same e a) = absurd (not_both (first_part (first_part (some_one e f))) refl)
 wrong_one (NoWord e) (NoWord f) = refl
 
 -- and where it is wrong reading does not go on
@@ -129,11 +133,11 @@ goes_wrong (Coded n e s is named free tidy) (BadArray f x) = not_both n f
 goes_wrong (Coded n e s is named free tidy) (BadCode w f (Short x)) =
     let k = some_one e f in
     omega (arith, s, x, first_part k, ap (λ (l : List ℕ). length l) (second_part k))
-goes_wrong (Coded {code = code} n e s is named free tidy) (BadCode w f (NoListing x no)) =
-    no code (subst (λ (k : ℕ × List ℕ). IsListing (take k.0 k.1) code) (some_one e f) is) named
-goes_wrong (Coded {code = c} n e s is named free tidy) (BadCode w f (Conflicting {code = d} x other these no)) =
+goes_wrong (Coded {code = code} n e s is named free tidy) (BadCode w f (NoListing x never)) =
+    never code (subst (λ (k : ℕ × List ℕ). IsListing (take k.0 k.1) code) (some_one e f) is) named
+goes_wrong (Coded {code = c} n e s is named free tidy) (BadCode w f (Conflicting {code = d} x other these never)) =
     let same = one_code _ c d (subst (λ (k : ℕ × List ℕ). IsListing (take k.0 k.1) c) (some_one e f) is) other in
-    no (subst IsFree same free) (subst IsTidy same tidy)
+    never (subst IsFree same free) (subst IsTidy same tidy)
 goes_wrong (Counted e a b) (NoCount w) = not_both w e
 goes_wrong (Counted e a b) (OtherCount f x) =
     let k = some_one e f in
@@ -141,7 +145,7 @@ goes_wrong (Counted e a b) (OtherCount f x) =
 goes_wrong (Repeated e a) (NoRun some w) = not_both w e
 goes_wrong (Repeated {rs = rs} e a) (Same f b) =
     both_ways _ a (ap (λ (p : Option ℕ × ℕ). ends_with rs (or_else 0 p.0)) (first_part (some_one e f)) ∙ b)
-goes_wrong (Repeated e a) (NoWord f) = not_both (sym (first_part (first_part (some_one e f)))) refl
+goes_wrong (Repeated e a) (NoWord f) = not_both (first_part (first_part (some_one e f))) refl
 
 -- two ways from a place to wrong lines are one
 chain_one : {p q u : Place} {t r x : List ℕ} {n m : ℕ} {f g : Fault} → LeadsTo p t n q r → IsWrong q r f → LeadsTo p t m u x → IsWrong u x g
@@ -149,7 +153,7 @@ chain_one : {p q u : Place} {t r x : List ℕ} {n m : ℕ} {f g : Fault} → Lea
 chain_one Stays w Stays v = (refl, wrong_one w v)
 chain_one Stays w (Then a b) v = absurd (goes_wrong a w)
 chain_one (Then a b) w Stays v = absurd (goes_wrong a v)
-chain_one (Then {mid = mid} a b) w (Then {m = m} {last = last} {between = between} {rest = rest} c d) v =
+chain_one (Then {mid = mid} a b) w (Then {last = last} {m = m} {between = between} {rest = rest} c d) v =
     let k = goes_one a c in
     let there = subst (λ l. LeadsTo mid l m last rest) (sym k.2) (subst (λ place. LeadsTo place between m last rest) (sym k.1) d) in
     let left = chain_one b w there v in
