@@ -6,8 +6,7 @@
 //! a text gives are such an input (`start_with_input`), and the code's root names arrays of each
 //! (`name_arrays`).
 //! Stands on `ppm_cut_code`, `ppm_depth` and the chains in turn of `ppm_strands`; `ppm_driver`
-//! rests on the last two laws, `ppm_commands` on `end_as_meant`; `ends_serially` waits for the
-//! theorem on runs of the machine.
+//! rests on the last three laws, `ppm_commands` on `end_as_meant`.
 #![tactic(auto)]
 
 mod laws;
