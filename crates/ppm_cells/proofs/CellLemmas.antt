@@ -62,12 +62,6 @@ module _ (s : Shape) where
       let m : place * place_size s ≤ s.processors * place_size s = mul-le-mul_right (place_size s) h in
       omega (arith, m, places_low)
 
-  -- the pool of one place is no larger than all of them
-  pub room_low : s.room ≤ 67108864
-  room_low =
-      let m : 1 * s.room ≤ s.processors * s.room = mul-le-mul_right s.room s.within.processors_least in
-      omega (arith, m, s.within.pools_most)
-
   -- no shape has more words than that
   pub few_words : word_count s ≤ 75497921
   few_words = omega (arith, places_low, s.within.processors_most, s.within.arrays_most)

@@ -45,7 +45,7 @@ capsule_limit = 65535
 abbrev pub processor_limit : ℕ
 processor_limit = 64
 
--- the words of a place's pool, and those that one capsule may ask for
+-- the words that one capsule may ask for
 abbrev pub room_limit : ℕ
 room_limit = 1048576
 
