@@ -87,14 +87,13 @@ pub fn faults_do_not_show<S, N, K, E, O>()
 
 /// A capsule with the stores of its end written out before that end does what it does, and then
 /// these stores; it has no conflict where it had none and they go to no location that it has read.
-/// It waits for the theorem on runs of the machine.
 pub fn end_stores_come_last<L, E>()
     ensures { (eq : Equality L) (tail : E → List (L × ℕ)) (p : Capsule L E)
         → EndStoresComeLast eq tail p }
 {}
 
 /// Where the trees that ends open do not show these stores, a table of such capsules is the same
-/// code. It waits for the same theorem.
+/// code.
 pub fn end_stores_are_unseen<S, N, K, E, O>()
     ensures { (eq : Equality (Location S N)) (table : Table S N K E O) → TablesAreTheSame eq table }
 {}

@@ -18,9 +18,11 @@ mod text_error;
 mod token;
 mod token_list;
 
+pub use byte_class::is_letter_byte;
 pub use laws::have_one_reading;
 pub use literal::Literal;
 pub use scan::{TEXT_LIMIT, tokens};
+pub use spelling::keyword;
 pub use text_error::TextError;
 pub use token::{Keyword, Kind, Sign, Token};
 pub use token_list::Tokens;
