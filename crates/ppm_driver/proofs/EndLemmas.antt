@@ -19,10 +19,10 @@ use Rattle.ppm_choice.specs.declared.limits.Limits.{Limits}
 use Rattle.ppm_choice.specs.Finishes.{Finishes}
 use Rattle.ppm_choice.specs.Obeying.{ObeyAll}
 use Rattle.ppm_choice.proofs.EndLemmas.{runs_finish}
-use Rattle.ppm_driver.specs.declared.loading.Sizes.{Sizes}
-use Rattle.ppm_driver.specs.Loading.{Opens}
+use Rattle.ppm_loading.specs.declared.loading.Sizes.{Sizes}
+use Rattle.ppm_loading.specs.Loading.{Opens}
 use Rattle.ppm_driver.specs.RunOf.{finish_behind}
-use Rattle.ppm_driver.proofs.SayLemmas.{unset_is}
+use Rattle.ppm_loading.proofs.SayLemmas.{unset_is}
 
 module _ (sizes : Sizes) (code : CodeParts) (arrays : List NamedArray) (keeper : ℕ) where
   -- its words say nothing yet

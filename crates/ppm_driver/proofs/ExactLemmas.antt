@@ -9,12 +9,12 @@ use Rattle.ppm_plan.specs.Refusals.{IsKeeper}
 use Rattle.ppm_step.specs.Laws.{IsProposedWord}
 use Rattle.ppm_words.specs.declared.named_array.NamedArray.{NamedArray}
 use Rattle.ppm_code.specs.declared.code.CodeParts.{CodeParts}
-use Rattle.ppm_driver.specs.declared.loading.Sizes.{Sizes}
-use Rattle.ppm_driver.specs.Loading.{Opens}
-use Rattle.ppm_driver.specs.Followed.{followed}
+use Rattle.ppm_loading.specs.declared.loading.Sizes.{Sizes}
+use Rattle.ppm_loading.specs.Loading.{Opens}
+use Rattle.ppm_following.specs.Followed.{followed}
 use Rattle.ppm_choice.proofs.UnfinishedLemmas.{none_quits, unfinished_is_exact}
 use Rattle.ppm_driver.proofs.EndLemmas.{words_opened, keeper_opened}
-use Rattle.ppm_driver.proofs.SayLemmas.{unset_is}
+use Rattle.ppm_loading.proofs.SayLemmas.{unset_is}
 
 module _ (sizes : Sizes) (code : CodeParts) (arrays : List NamedArray) (keeper : ℕ) where
   -- its code is a code

@@ -61,11 +61,11 @@ use Rattle.ppm_runs.specs.Unbroken.{NothingBreaks}
 use Rattle.ppm_runs.specs.Whole.{RunsComeTo}
 use Rattle.ppm_runs.specs.Work.{WorkIsWithin256}
 use Rattle.ppm_core.specs.Situation.{Situation, loaded}
-use Rattle.ppm_driver.specs.declared.loading.Sizes.{Sizes}
-use Rattle.ppm_driver.specs.Loading.{Opens}
+use Rattle.ppm_loading.specs.declared.loading.Sizes.{Sizes}
+use Rattle.ppm_loading.specs.Loading.{Opens}
 use Rattle.ppm_driver.specs.Meant.{HasOutcome, NeedsMoreRoom, NeedsMoreTurns, struck_in, EachIsTakenOnce, EndsAsProgram, IsAsProgram, RunsAreAsPrograms}
-use Rattle.ppm_driver.specs.Says.{arrays_from}
-use Rattle.ppm_driver.proofs.ArrayLemmas.{same_arrays}
+use Rattle.ppm_loading.specs.Says.{arrays_from}
+use Rattle.ppm_loading.proofs.ArrayLemmas.{same_arrays}
 use Rattle.ppm_driver.proofs.EndLemmas.{keeper_opened, words_opened}
 use Rattle.ppm_driver.proofs.TakenLemmas.{as_long}
 use Rattle.ppm_driver.proofs.WorkLemmas.{works_are}

@@ -28,16 +28,16 @@ use Rattle.ppm_answers.specs.declared.answer.Answer.TheVariants as answers
 use Rattle.ppm_answers.specs.declared.tally.Tally.{Tally}
 use Rattle.ppm_cli.specs.declared.run.RunOptions.{RunOptions}
 use Rattle.ppm_cli.specs.declared.replay.ReplayOptions.{ReplayOptions}
-use Rattle.ppm_driver.specs.Followed.{followed}
+use Rattle.ppm_following.specs.Followed.{followed}
 use Rattle.ppm_driver.specs.Meant.{NeedsMoreRoom, NeedsMoreTurns, struck_in, NoneIsTakenTwice, EachIsTakenOnce, EndsAsProgram, IsAsProgram, RunsAreAsPrograms}
 use Rattle.ppm_driver.specs.RunOf.{words_behind, finish_behind}
-use Rattle.ppm_driver.specs.Says.{arrays_from, IsOfFinish}
+use Rattle.ppm_loading.specs.Says.{arrays_from, IsOfFinish}
 use Rattle.ppm_driver.specs.Runs as runs
 use Rattle.ppm_driver.specs.Replays as replays
 use Rattle.ppm_driver.specs.Replays.{tally_of}
-use Rattle.ppm_driver.proofs.LoadingLemmas.{opens_processors, opens_room}
-use Rattle.ppm_driver.proofs.SayLemmas.{said_of_word}
-use Rattle.ppm_driver.proofs.ScheduledLemmas.{scheduled_among}
+use Rattle.ppm_loading.proofs.LoadingLemmas.{opens_processors, opens_room}
+use Rattle.ppm_loading.proofs.SayLemmas.{said_of_word}
+use Rattle.ppm_following.proofs.ScheduledLemmas.{scheduled_among}
 use Rattle.ppm_driver.proofs.TakenLemmas.{count_forked, count_taken}
 use Rattle.ppm_driver.proofs.WorkLemmas.{of_all, obeyed_work, scheduled_work}
 

@@ -15,13 +15,13 @@ use Rattle.ppm_answers.specs.Rows.{PlannedRows, ReadOrRefused, HasOrRefused}
 use Rattle.ppm_answers.specs.Statuses.{status_of}
 use Rattle.ppm_answers.proofs.RowsLemmas as rows_lemmas
 use Rattle.ppm_cli.specs.declared.replay.ReplayOptions.{ReplayOptions}
-use Rattle.ppm_driver.specs.MachineRows.{RefusesPlan}
+use Rattle.ppm_loading.specs.MachineRows.{RefusesPlan}
 use Rattle.ppm_driver.specs.Meant.{RunsAreAsPrograms}
-use Rattle.ppm_driver.specs.Planned.{IsRefusedBy, HasByItems}
+use Rattle.ppm_loading.specs.Planned.{IsRefusedBy, HasByItems}
 use Rattle.ppm_driver.specs.Replays.{TextHas, ReplayMay, HaveOneAnswer}
 use Rattle.ppm_driver.specs.ReplayRows.{HasRead, WritesUnfinished, ReplaySays, ReplayRows}
 use Rattle.ppm_driver.proofs.MeantRows.{replay_ends, replay_traps, replay_needs, replay_many, replay_once}
-use Rattle.ppm_driver.proofs.PlannedLemmas as planned
+use Rattle.ppm_loading.proofs.PlannedLemmas as planned
 use Rattle.ppm_driver.proofs.ReplayLemmas.{of_program, filled_has}
 
 module _ (law : RunsAreAsPrograms) (options : ReplayOptions) (schedule : List ℕ) (o : Ports) where

@@ -16,13 +16,13 @@ use Rattle.ppm_answers.specs.Statuses.{status_of}
 use Rattle.ppm_answers.proofs.RowsLemmas.{SaysOfPorts}
 use Rattle.ppm_answers.proofs.RowsLemmas as rows_lemmas
 use Rattle.ppm_cli.specs.declared.run.RunOptions.{RunOptions}
-use Rattle.ppm_driver.specs.MachineRows.{RefusesPlan}
+use Rattle.ppm_loading.specs.MachineRows.{RefusesPlan}
 use Rattle.ppm_driver.specs.Meant.{RunsAreAsPrograms}
-use Rattle.ppm_driver.specs.Planned.{IsRefusedBy, HasByItems}
+use Rattle.ppm_loading.specs.Planned.{IsRefusedBy, HasByItems}
 use Rattle.ppm_driver.specs.Runs.{RunHas, RunMay, AnswersAreOne, FrontsDecideAnswers}
 use Rattle.ppm_driver.specs.RunRows.{Has, RunSays, RunRows}
 use Rattle.ppm_driver.proofs.MeantRows.{run_ends, run_traps, run_needs, run_needs_turns, run_many, run_once}
-use Rattle.ppm_driver.proofs.PlannedLemmas as planned
+use Rattle.ppm_loading.proofs.PlannedLemmas as planned
 use Rattle.ppm_driver.proofs.RunLemmas.{of_program, spent_has, filled_has, run_forgets}
 
 module _ (law : RunsAreAsPrograms) (options : RunOptions) (watching : ℕ) (plan : List ℕ) (o : Outside) where

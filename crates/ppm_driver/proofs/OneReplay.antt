@@ -24,12 +24,12 @@ use Rattle.ppm_answers.specs.declared.refusal.Refusal.{Refusal}
 use Rattle.ppm_answers.specs.declared.answer.Answer.{Answer}
 use Rattle.ppm_cli.specs.declared.replay.ReplayOptions.{ReplayOptions}
 use Rattle.ppm_cli.specs.Words.{AreReplayed}
-use Rattle.ppm_driver.specs.Loading.{Opens}
-use Rattle.ppm_driver.specs.Followed.{followed}
+use Rattle.ppm_loading.specs.Loading.{Opens}
+use Rattle.ppm_following.specs.Followed.{followed}
 use Rattle.ppm_driver.specs.Replays.{sizes_of, IsSaid, ProgramHas, TextHas, HaveOneAnswer}
-use Rattle.ppm_driver.proofs.LoadingLemmas.{one_opening, some_opening}
-use Rattle.ppm_driver.proofs.PlannedLemmas.{IsSteady, planned_one, planned_front, some_answer}
-use Rattle.ppm_driver.proofs.ProgramLemmas.{text_one, text_front, of_text, plain}
+use Rattle.ppm_loading.proofs.LoadingLemmas.{one_opening, some_opening}
+use Rattle.ppm_loading.proofs.PlannedLemmas.{IsSteady, planned_one, planned_front, some_answer}
+use Rattle.ppm_loading.proofs.ProgramLemmas.{text_one, text_front, of_text, plain}
 use Rattle.ppm_driver.proofs.ReplayLemmas.{replayed_sizes, kinds, of_program, one_said, some_has}
 
 -- what the crates below show of every text, every code, every image and every schedule

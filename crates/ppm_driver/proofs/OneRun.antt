@@ -18,15 +18,15 @@ use Rattle.ppm_program.specs.Correct.{HaveOneAnswer as TextsHaveOneProgram}
 use Rattle.ppm_ports.specs.Outside.{ToldLists}
 use Rattle.ppm_answers.specs.declared.answer.Answer.{Answer}
 use Rattle.ppm_cli.specs.declared.run.RunOptions.{RunOptions}
-use Rattle.ppm_driver.specs.Loading.{Opens}
+use Rattle.ppm_loading.specs.Loading.{Opens}
 use Rattle.ppm_choice.specs.Obeying.{ObeyAll}
 use Rattle.ppm_driver.specs.RunOf.{words_behind}
 use Rattle.ppm_driver.specs.Runs.{IsSaid, plan_of, limits_of, sizes_of, ProgramHas, TextHas, AnswersAreOne, FrontsDecideAnswers}
 use Rattle.ppm_driver.proofs.AllLemmas.{of_all}
-use Rattle.ppm_driver.proofs.LoadingLemmas.{one_opening, opens_processors}
+use Rattle.ppm_loading.proofs.LoadingLemmas.{one_opening, opens_processors}
 use Rattle.ppm_choice.proofs.KeeperLemmas.{one_keeper}
-use Rattle.ppm_driver.proofs.PlannedLemmas.{planned_one, planned_front}
-use Rattle.ppm_driver.proofs.ProgramLemmas.{text_one, text_front, plain}
+use Rattle.ppm_loading.proofs.PlannedLemmas.{planned_one, planned_front}
+use Rattle.ppm_loading.proofs.ProgramLemmas.{text_one, text_front, plain}
 use Rattle.ppm_driver.proofs.RunLemmas.{one_said, kinds, of_program}
 
 -- what the crates below show of every text, every image, every plan and every run of one processor

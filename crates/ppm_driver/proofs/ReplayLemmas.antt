@@ -20,16 +20,16 @@ use Rattle.ppm_cli.specs.declared.replay.ReplayOptions.{ReplayOptions}
 use Rattle.ppm_cli.specs.Words.{AreReplayed}
 use Rattle.ppm_plan.specs.Forms.{schedule_form}
 use Rattle.ppm_plan.specs.Refusals.{IsKeeper}
-use Rattle.ppm_driver.specs.declared.loading.Sizes.{Sizes}
-use Rattle.ppm_driver.specs.Loading.{AreSizes, Opens}
-use Rattle.ppm_driver.specs.Says.{IsTheOne, IsOfFinish, IsOfEnding}
+use Rattle.ppm_loading.specs.declared.loading.Sizes.{Sizes}
+use Rattle.ppm_loading.specs.Loading.{AreSizes, Opens}
+use Rattle.ppm_loading.specs.Says.{IsTheOne, IsOfFinish, IsOfEnding}
 use Rattle.ppm_choice.specs.Schedules.{schedule_turns}
-use Rattle.ppm_driver.specs.Followed.{followed}
+use Rattle.ppm_following.specs.Followed.{followed}
 use Rattle.ppm_driver.specs.Replays.{sizes_of, tally_of, IsSaid, ProgramHas}
 use Rattle.ppm_driver.proofs.ExactLemmas.{says_proposed, unfinished_exactly}
-use Rattle.ppm_driver.proofs.ProgramLemmas.{AreKinds}
+use Rattle.ppm_loading.proofs.ProgramLemmas.{AreKinds}
 use Rattle.ppm_driver.proofs.EndLemmas.{has_filled}
-use Rattle.ppm_driver.proofs.SayLemmas.{one_of_ending, some_of_proposed, of_proposed}
+use Rattle.ppm_loading.proofs.SayLemmas.{one_of_ending, some_of_proposed, of_proposed}
 
 -- options in their ranges say sizes that a machine may have
 pub replayed_sizes : (options : ReplayOptions) → AreReplayed options → AreSizes (sizes_of options)

@@ -30,24 +30,24 @@ use Rattle.ppm_answers.specs.declared.answer.Answer.{Answer}
 use Rattle.ppm_answers.specs.declared.answer.Answer.TheVariants as answers
 use Rattle.ppm_cli.specs.declared.run.RunOptions.{RunOptions}
 use Rattle.ppm_cli.specs.Words.{AreRun}
-use Rattle.ppm_driver.specs.declared.loading.Sizes.{Sizes}
-use Rattle.ppm_driver.specs.Loading.{AreSizes, Opens, opened_by}
+use Rattle.ppm_loading.specs.declared.loading.Sizes.{Sizes}
+use Rattle.ppm_loading.specs.Loading.{AreSizes, Opens, opened_by}
 use Rattle.ppm_choice.specs.Deeds.{work_made}
 use Rattle.ppm_choice.specs.Finishes.{Finishes, Proposed, Spent, Stood}
 use Rattle.ppm_driver.specs.RunOf.{words_behind, finish_behind}
-use Rattle.ppm_driver.specs.Says.{IsTheOne, IsOfFinish, IsOfEnding}
+use Rattle.ppm_loading.specs.Says.{IsTheOne, IsOfFinish, IsOfEnding}
 use Rattle.ppm_table.specs.Closed.{Closing}
 use Rattle.ppm_table.specs.Shown.{opening_of}
 use Rattle.ppm_table.specs.declared.processor.Shared.{Shared}
 use Rattle.ppm_threads.specs.Driven.{Driven, OthersStay}
 use Rattle.ppm_driver.specs.Runs.{plan_of, limits_of, sizes_of, IsSaid, ProgramHas, RunTells, TextHas, RunHas}
-use Rattle.ppm_driver.specs.Planned.{PlannedHas, HasByItems}
+use Rattle.ppm_loading.specs.Planned.{PlannedHas, HasByItems}
 use Rattle.ppm_driver.specs.Watchers.{AreTold, OthersKeep}
 use Rattle.ppm_driver.proofs.EndLemmas.{unset_opened, has_finished}
-use Rattle.ppm_driver.proofs.LoadingLemmas.{opens_processors}
-use Rattle.ppm_driver.proofs.ProgramLemmas.{AreKinds}
+use Rattle.ppm_loading.proofs.LoadingLemmas.{opens_processors}
+use Rattle.ppm_loading.proofs.ProgramLemmas.{AreKinds}
 use Rattle.ppm_driver.proofs.WatchLemmas.{are_told, stays}
-use Rattle.ppm_driver.proofs.SayLemmas.{ending_is, one_of_ending, some_of_proposed, of_proposed}
+use Rattle.ppm_loading.proofs.SayLemmas.{ending_is, one_of_ending, some_of_proposed, of_proposed}
 
 -- options in their ranges say sizes that a machine may have
 pub run_sizes : (options : RunOptions) → AreRun options → AreSizes (sizes_of options)

@@ -1,10 +1,3 @@
-pub mod Followed
-pub mod Following
-pub mod Says
-pub mod Loading
-pub mod Planned
-pub mod Programs
-pub mod MachineRows
 pub mod Watchers
 pub mod RunOf
 pub mod Meant

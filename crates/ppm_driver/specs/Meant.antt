@@ -24,10 +24,10 @@ use Rattle.ppm_tickets.specs.Along.{forked, taken}
 use Rattle.ppm_tickets.specs.Words.{has}
 use Rattle.ppm_runs.specs.Moments.{AreOnce}
 use Rattle.ppm_core.specs.Situation.{Situation}
-use Rattle.ppm_driver.specs.declared.loading.Sizes.{Sizes}
-use Rattle.ppm_driver.specs.Loading.{Opens}
+use Rattle.ppm_loading.specs.declared.loading.Sizes.{Sizes}
+use Rattle.ppm_loading.specs.Loading.{Opens}
 use Rattle.ppm_driver.specs.RunOf.{words_behind, finish_behind}
-use Rattle.ppm_driver.specs.Says.{arrays_from}
+use Rattle.ppm_loading.specs.Says.{arrays_from}
 
 -- within some number of turns this is the program's serial outcome
 abbrev pub HasOutcome : ProgramTree → Outcome → Type 0

@@ -20,11 +20,11 @@ use Rattle.ppm_cli.specs.declared.replay.ReplayOptions.{ReplayOptions}
 use Rattle.ppm_step.specs.Laws.{IsFilledBehind}
 use Rattle.ppm_step.specs.declared.turn.Turn.{Turn}
 use Rattle.ppm_choice.specs.Schedules.{schedule_turns}
-use Rattle.ppm_driver.specs.MachineRows as machine
+use Rattle.ppm_loading.specs.MachineRows as machine
 use Rattle.ppm_core.specs.Situation.{Situation}
 use Rattle.ppm_plan.specs.declared.schedule_item.ScheduleItem.{ScheduleItem}
 use Rattle.ppm_driver.specs.Meant.{NeedsMoreRoom, NoneIsTakenTwice, EndsAsProgram}
-use Rattle.ppm_driver.specs.Planned.{IsRefusedBy, HasByItems}
+use Rattle.ppm_loading.specs.Planned.{IsRefusedBy, HasByItems}
 use Rattle.ppm_driver.specs.Replays.{ReplayHas, ReplayMay, TextHas}
 
 module _ (options : ReplayOptions) (schedule : List ℕ) (o : Ports) where

@@ -17,14 +17,14 @@ use Rattle.ppm_answers.specs.declared.tally.Tally.{Tally}
 use Rattle.ppm_answers.specs.Reading.{AreOne, FrontsDecide}
 use Rattle.ppm_cli.specs.declared.replay.ReplayOptions.{ReplayOptions}
 use Rattle.ppm_cli.specs.Words.{AreReplayed}
-use Rattle.ppm_driver.specs.declared.loading.Sizes.{Sizes}
-use Rattle.ppm_driver.specs.Loading.{Opens}
-use Rattle.ppm_driver.specs.Planned.{PlannedHas, PlannedMay, HasSomeAnswer}
-use Rattle.ppm_driver.specs.Programs as programs
+use Rattle.ppm_loading.specs.declared.loading.Sizes.{Sizes}
+use Rattle.ppm_loading.specs.Loading.{Opens}
+use Rattle.ppm_loading.specs.Planned.{PlannedHas, PlannedMay, HasSomeAnswer}
+use Rattle.ppm_loading.specs.Programs as programs
 use Rattle.ppm_choice.specs.Finishes.{FilledIfSaid}
-use Rattle.ppm_driver.specs.Says.{IsOfWords}
+use Rattle.ppm_loading.specs.Says.{IsOfWords}
 use Rattle.ppm_choice.specs.Schedules.{schedule_turns}
-use Rattle.ppm_driver.specs.Followed.{followed}
+use Rattle.ppm_following.specs.Followed.{followed}
 
 -- the machine's sizes, as the options say them
 abbrev pub sizes_of : ReplayOptions → Sizes

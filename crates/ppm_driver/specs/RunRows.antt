@@ -18,12 +18,12 @@ use Rattle.ppm_answers.specs.Reading.{IsUnread}
 use Rattle.ppm_answers.specs.Rows.{PortsSay, PlannedRows, IsShown}
 use Rattle.ppm_cli.specs.declared.run.RunOptions.{RunOptions}
 use Rattle.ppm_step.specs.Laws.{IsFilledBehind}
-use Rattle.ppm_driver.specs.MachineRows as machine
+use Rattle.ppm_loading.specs.MachineRows as machine
 use Rattle.ppm_choice.specs.Deeds.{work_made}
 use Rattle.ppm_core.specs.Situation.{Situation}
 use Rattle.ppm_step.specs.declared.turn.Turn.{Turn}
 use Rattle.ppm_driver.specs.Meant.{NeedsMoreTurns, NeedsMoreRoom, struck_in, NoneIsTakenTwice, EndsAsProgram}
-use Rattle.ppm_driver.specs.Planned.{IsRefusedBy, HasByItems}
+use Rattle.ppm_loading.specs.Planned.{IsRefusedBy, HasByItems}
 use Rattle.ppm_driver.specs.Runs.{RunHas, TextHas}
 
 module _ (options : RunOptions) (watching : ℕ) (plan : List ℕ) (o : Outside) where

@@ -18,12 +18,12 @@ use Rattle.ppm_answers.specs.declared.answer.Answer.{Answer}
 use Rattle.ppm_answers.specs.declared.answer.Answer.TheVariants as answers
 use Rattle.ppm_answers.specs.Reading.{AreOne, FrontsDecide, TellsOfRun}
 use Rattle.ppm_cli.specs.declared.run.RunOptions.{RunOptions}
-use Rattle.ppm_driver.specs.declared.loading.Sizes.{Sizes}
-use Rattle.ppm_driver.specs.Loading.{Opens}
-use Rattle.ppm_driver.specs.Planned.{PlannedHas, PlannedMay}
-use Rattle.ppm_driver.specs.Programs as programs
+use Rattle.ppm_loading.specs.declared.loading.Sizes.{Sizes}
+use Rattle.ppm_loading.specs.Loading.{Opens}
+use Rattle.ppm_loading.specs.Planned.{PlannedHas, PlannedMay}
+use Rattle.ppm_loading.specs.Programs as programs
 use Rattle.ppm_driver.specs.RunOf.{RunOf}
-use Rattle.ppm_driver.specs.Says.{IsOfWords}
+use Rattle.ppm_loading.specs.Says.{IsOfWords}
 use Rattle.ppm_driver.specs.Watchers.{AreTold, OthersKeep}
 
 -- the machine's sizes and the limits, as the options say them

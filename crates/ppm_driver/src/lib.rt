@@ -1,29 +1,21 @@
 //! Commands that run a machine: `replay` follows a schedule, `run` lets processors, each a thread,
 //! obey a plan of faults and limits.
 //! Model: what a schedule says, and obedience, are those of `ppm_choice`.
-//! Contract: `follow` makes of a machine exactly what those turns make of it (`specs/Followed`);
-//! `replay_command` delivers the one answer of a text (`specs/Replays`); `run_command`, if it
-//! returns, one that it has: that of a run in which each processor obeys, of which its watcher was
+//! Contract: `replay_command` delivers the one answer of a text (`specs/Replays`); `run_command`, if
+//! it returns, one that it has: that of a run in which each processor obeys, of which its watcher was
 //! told (`specs/RunOf`, `specs/Runs`). What follows from each status: `specs/RunRows`,
 //! `specs/ReplayRows`.
-//! Stands on `ppm_threads`, `ppm_core`, `ppm_choice`, `ppm_plan`, `ppm_program`, `ppm_cut` and
-//! `ppm_answers`; `ppm_top` calls it. The schedules and limits and their rules are this project's.
+//! Stands on `ppm_threads`, `ppm_following`, `ppm_loading` and `ppm_answers`; `ppm_top` calls it. The
+//! schedules and limits and their rules are this project's.
 #![tactic(auto)]
 
-mod arrays;
-mod following;
-mod loading;
 mod meant;
 mod one_replay;
 mod one_run;
-mod planned;
-mod programs;
 mod replay;
 mod run;
 mod saying;
 
-pub use following::follow;
-pub use loading::{Sizes, load};
 pub use meant::runs_are_as_programs;
 pub use one_replay::have_one_answer;
 pub use one_run::answers_are_one;

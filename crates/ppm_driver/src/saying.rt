@@ -2,14 +2,14 @@
 //! why there are none. `Err` comes only where memory is refused.
 ghost use Rattle.std.specs.Prelude.{◌≡◌, IfOk, length, map};
 ghost use Rattle.ppm_core.specs.Machine.{seen};
-ghost use Rattle.ppm_driver.specs.Says.{IsTheOne};
+ghost use Rattle.ppm_loading.specs.Says.{IsTheOne};
 ghost use Rattle.ppm_driver.specs.Replays.{IsSaid as IsSaidOfReplay};
 ghost use Rattle.ppm_driver.specs.Runs.{IsSaid as IsSaidOfRun};
 
-use crate::arrays::{arrays_of, arrays_of_closed};
 use ppm_answers::{Answer, Tally};
 use ppm_cells::{Ending, Finish, UNKNOWN_PLACE};
 use ppm_core::Machine;
+use ppm_loading::{arrays_of, arrays_of_closed};
 use ppm_table::Closed;
 use ppm_words::{NamedArray, NoMemory};
 use std::alloc::Global;

@@ -7,7 +7,7 @@ use ppm_choice::{
 };
 use ppm_code::{Capsule, Code, CodeParts, End, Instr, Procedure};
 use ppm_core::Machine;
-use ppm_driver::follow;
+use ppm_following::follow;
 use ppm_layout::image;
 use ppm_plan::read_schedule;
 use ppm_step::{done_has_cause, finish_stays, records_lead, room_has_cause, turns_have_cause};

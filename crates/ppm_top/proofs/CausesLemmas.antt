@@ -19,7 +19,7 @@ use Rattle.ppm_top.specs.Causes.{CommandMay, CommandTells, IsAnswered}
 use Rattle.ppm_plan.specs.Forms.{plan_form, schedule_form}
 use Rattle.ppm_driver.specs.Replays.{TextHas as ReplayTextHas}
 use Rattle.ppm_driver.specs.Runs.{TextHas as RunTextHas}
-use Rattle.ppm_driver.proofs.PlannedLemmas as planned
+use Rattle.ppm_loading.proofs.PlannedLemmas as planned
 use Rattle.ppm_driver.proofs.WatchLemmas.{untold}
 
 -- where nothing was read, out of memory may be the answer, whatever the command is

@@ -25,14 +25,14 @@ use Rattle.ppm_commands.proofs.CodeRows.{code_rows}
 use Rattle.ppm_commands.proofs.SerialRows.{serial_rows}
 use Rattle.ppm_plan.specs.Correct.{HaveOneAnswer as PlansHaveOneAnswer}
 use Rattle.ppm_plan.specs.Forms.{Form, plan_form, schedule_form}
-use Rattle.ppm_driver.specs.Planned.{PlannedMay}
-use Rattle.ppm_driver.specs.MachineRows.{RefusesPlan}
+use Rattle.ppm_loading.specs.Planned.{PlannedMay}
+use Rattle.ppm_loading.specs.MachineRows.{RefusesPlan}
 use Rattle.ppm_driver.specs.Meant.{RunsAreAsPrograms}
 use Rattle.ppm_driver.specs.Replays.{TextHas as ReplayTextHas, HaveOneAnswer as ReplaysHaveOneAnswer}
 use Rattle.ppm_driver.specs.Runs.{TextHas as RunTextHas, AnswersAreOne, FrontsDecideAnswers}
 use Rattle.ppm_driver.proofs.OfReplay as of_replay
 use Rattle.ppm_driver.proofs.OfRun as of_run
-use Rattle.ppm_driver.proofs.PlannedLemmas as planned
+use Rattle.ppm_loading.proofs.PlannedLemmas as planned
 use Rattle.ppm_answers.specs.Reading.{IsUnread, JudgingMay, DeliversAnswer}
 use Rattle.ppm_answers.proofs.Delivered.{of_answers}
 use Rattle.ppm_answers.specs.Rows.{IsOneOf}

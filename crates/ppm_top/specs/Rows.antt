@@ -15,7 +15,7 @@ use Rattle.ppm_cli.specs.Words.{command_of, AreRun}
 use Rattle.ppm_commands.specs.Check.{CheckRows}
 use Rattle.ppm_commands.specs.Code.{CodeRows}
 use Rattle.ppm_commands.specs.Serial.{SerialRows}
-use Rattle.ppm_driver.specs.MachineRows.{RefusesPlan}
+use Rattle.ppm_loading.specs.MachineRows.{RefusesPlan}
 use Rattle.ppm_driver.specs.ReplayRows.{ReplayRows}
 use Rattle.ppm_driver.specs.RunRows.{RunRows}
 use Rattle.ppm_plan.specs.Forms.{plan_form, schedule_form}

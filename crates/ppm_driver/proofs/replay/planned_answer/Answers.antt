@@ -1,5 +1,5 @@
 use Rattle.ppm_driver.specs.Replays.{ProgramHas}
-use Rattle.ppm_driver.proofs.ProgramLemmas.{program_may, none_may}
+use Rattle.ppm_loading.proofs.ProgramLemmas.{program_may, none_may}
 use Rattle.ppm_driver.proofs.ReplayLemmas.{kinds, of_program}
 use Rattle.ppm_driver.proofs.replay.planned_answer.Goals as goal
 

@@ -1,6 +1,6 @@
 use Rattle.ppm_tree.specs.Tree.{tree_of}
 use Rattle.ppm_driver.specs.Replays.{ProgramHas}
-use Rattle.ppm_driver.proofs.ProgramLemmas.{has_may}
+use Rattle.ppm_loading.proofs.ProgramLemmas.{has_may}
 use Rattle.ppm_driver.proofs.ReplayLemmas.{kinds, of_program}
 use Rattle.ppm_driver.proofs.replay.program_answer.Goals as goal
 

@@ -4,7 +4,7 @@ use Rattle.ppm_text.specs.Limits.{text_limit}
 use Rattle.ppm_answers.proofs.Delivered.{left_alone}
 use Rattle.ppm_plan.specs.Forms.{schedule_form}
 use Rattle.ppm_driver.specs.Replays.{TextHas, ReplayMay}
-use Rattle.ppm_driver.proofs.PlannedLemmas.{by_items, refused_may}
+use Rattle.ppm_loading.proofs.PlannedLemmas.{by_items, refused_may}
 use Rattle.ppm_driver.proofs.OneReplay.{steady}
 use Rattle.ppm_driver.proofs.replay.read_answer.Goals as goal
 

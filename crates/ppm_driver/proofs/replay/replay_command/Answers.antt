@@ -1,7 +1,7 @@
 use Rattle.ppm_text.specs.Limits.{text_limit}
 use Rattle.ppm_plan.specs.Forms.{schedule_form}
 use Rattle.ppm_driver.specs.Replays.{TextHas}
-use Rattle.ppm_driver.proofs.PlannedLemmas.{planned_done}
+use Rattle.ppm_loading.proofs.PlannedLemmas.{planned_done}
 use Rattle.ppm_driver.proofs.OfReplay.{replay_rows}
 use Rattle.ppm_driver.proofs.replay.replay_command.Goals as goal
 

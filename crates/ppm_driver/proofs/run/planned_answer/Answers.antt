@@ -1,5 +1,5 @@
 use Rattle.ppm_driver.specs.Runs.{ProgramHas}
-use Rattle.ppm_driver.proofs.ProgramLemmas.{program_may, none_may}
+use Rattle.ppm_loading.proofs.ProgramLemmas.{program_may, none_may}
 use Rattle.ppm_driver.proofs.RunLemmas.{kinds, of_program}
 use Rattle.ppm_driver.proofs.WatchLemmas.{fronts_stay, untold}
 use Rattle.ppm_driver.proofs.run.planned_answer.Goals as goal

@@ -1,6 +1,6 @@
 use Rattle.ppm_tree.specs.Tree.{tree_of}
 use Rattle.ppm_driver.specs.Runs.{ProgramHas}
-use Rattle.ppm_driver.proofs.ProgramLemmas.{has_may}
+use Rattle.ppm_loading.proofs.ProgramLemmas.{has_may}
 use Rattle.ppm_driver.proofs.RunLemmas.{kinds, of_program, run_tells}
 use Rattle.ppm_driver.proofs.run.program_answer.Goals as goal
 

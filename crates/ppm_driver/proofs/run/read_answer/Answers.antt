@@ -4,8 +4,8 @@ use Rattle.ppm_text.specs.Limits.{text_limit}
 use Rattle.ppm_answers.proofs.Delivered.{left_alone}
 use Rattle.ppm_plan.specs.Forms.{plan_form}
 use Rattle.ppm_driver.specs.Runs.{ProgramHas, RunMay, TextHas}
-use Rattle.ppm_driver.proofs.PlannedLemmas.{by_items, refused_may}
-use Rattle.ppm_driver.proofs.ProgramLemmas.{plain}
+use Rattle.ppm_loading.proofs.PlannedLemmas.{by_items, refused_may}
+use Rattle.ppm_loading.proofs.ProgramLemmas.{plain}
 use Rattle.ppm_driver.proofs.RunLemmas.{kinds, of_program}
 use Rattle.ppm_driver.proofs.WatchLemmas.{fronts_stay, untold}
 use Rattle.ppm_driver.proofs.run.read_answer.Goals as goal

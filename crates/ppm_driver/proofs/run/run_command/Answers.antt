@@ -2,7 +2,7 @@ use Rattle.std.proofs.Common.{refl}
 use Rattle.ppm_text.specs.Limits.{text_limit}
 use Rattle.ppm_plan.specs.Forms.{plan_form}
 use Rattle.ppm_driver.specs.Runs.{RunTells, TextHas}
-use Rattle.ppm_driver.proofs.PlannedLemmas.{planned_done, planned_delivered}
+use Rattle.ppm_loading.proofs.PlannedLemmas.{planned_done, planned_delivered}
 use Rattle.ppm_driver.proofs.OfRun.{run_rows}
 use Rattle.ppm_driver.proofs.run.run_command.Goals as goal
 

@@ -1,0 +1,14 @@
+use Rattle.std.proofs.Common.{◌≡◌, ◌+◌, ◌++◌, length}
+use Rattle.ppm_loading.specs.Says.{arrays_from}
+use Rattle.ppm_loading.proofs.arrays.arrays_of_closed.Given as goal
+
+-- the arrays so far, and those that are left
+abbrev pub invariant-loop-left : goal.invariant-loop-left
+invariant-loop-left l =
+    let c = l.closed in
+    (l.named.items ++ arrays_from c.shape c.array_lengths c.words l.number l.left
+    ≡ arrays_from c.shape c.array_lengths c.words 0 l.arrays)
+    × (l.number + length l.left ≡ length l.arrays)
+
+abbrev pub decreases-loop-left : goal.decreases-loop-left
+decreases-loop-left l = length l.left

@@ -1,0 +1,5 @@
+pub mod Says
+pub mod Loading
+pub mod Planned
+pub mod Programs
+pub mod MachineRows
