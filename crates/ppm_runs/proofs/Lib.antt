@@ -9,7 +9,8 @@
 -- (`SoundRows`), each write (`SoundLemmas`), each act (`SoundTurns`, `SoundJoin`). Of frames: headers are
 -- numbers of capsules and what is over has an outcome (`WellWords`), so rows and capsules of strands
 -- meet no broken words (`WellRows`, `ArrayLemmas`, `WellRuns`, `WellStands`), and that stays
--- (`WellCapsules`, `WellTurns`). `UnbrokenLemmas` has both in whole runs.
+-- (`WellCapsules`, `WellTurns`). Half of the work turns at most raise a tag (`RaisedLemmas`), and
+-- `UnbrokenLemmas` has all of it in whole runs.
 
 pub mod TameLemmas
 pub mod StandLemmas
@@ -38,8 +39,9 @@ pub mod WellStands
 pub mod WellWords
 pub mod WellCapsules
 pub mod WellTurns
-pub mod UnbrokenLemmas
 pub mod SumLemmas
+pub mod RaisedLemmas
+pub mod UnbrokenLemmas
 pub mod BegunLemmas
 pub mod WorkLemmas
 pub mod BoundLemmas

@@ -39,7 +39,7 @@ use Rattle.ppm_kept.proofs.TakeRow.{find_wait}
 use Rattle.ppm_runs.specs.Run.{image, fate_of, IsRun}
 use Rattle.ppm_runs.specs.Laws.{IsTakers}
 use Rattle.ppm_runs.specs.Sound.{IsSound}
-use Rattle.ppm_runs.specs.Deques.{StrandsAreSound, made_by, DequesAreSound}
+use Rattle.ppm_runs.specs.Deques.{StrandsAreSound, raised_by, DequesAreSound}
 use Rattle.ppm_runs.proofs.OrderlyLemmas.{turns_are_orderly}
 use Rattle.ppm_runs.proofs.ShownLemmas.{within, pool_is}
 use Rattle.ppm_runs.proofs.SoundRows.{Blocks}
@@ -126,7 +126,7 @@ module _ (base : Shape) (code : CodeParts) (fair : IsFair code) (root : Tree (Fr
           (cell_low s (r + 4) at4, subst (λ (x : ℕ). x < word_count s) (right ∙ ap (λ (w : ℕ). r + w) (view_is s state.words (BlockWord (r + 4)) at4)) (cell_low s waits.0 low));
     }
 
-    sound_then : (made : ℕ) → made + 1 < 2 ^ 34 → IsSound s code made state → StrandsAreSound s code state → (turn : _) → IsTurnAmong s.processors turn → IsSound s code (made_by made state turn) (happens s code state turn)
+    sound_then : (made : ℕ) → made + 1 < 2 ^ 34 → IsSound s code made state → StrandsAreSound s code state → (turn : _) → IsTurnAmong s.processors turn → IsSound s code (raised_by made state turn) (happens s code state turn)
     sound_then made few sound strands turn among =
         turn_sound base code root input state h forked taken t run made few sound blocks strands (turns_are_orderly s code refl fair root input state h forked taken t run).pooled
         (λ c seat r low e taker. taken_fate seat.place seat.restart.kind (h r) taker ((takers_have s code refl state h forked taken run.lawful).offsets c seat r low e))
@@ -140,5 +140,5 @@ module _ (base : Shape) (code : CodeParts) (fair : IsFair code) (root : Tree (Fr
 pub deques_are_sound : DequesAreSound
 deques_are_sound s code places fair root input state h forked taken t =
     subst (λ (how : _). IsRun (record s { takeover = how }) code root input state h forked taken t → (made : ℕ) → made + 1 < 2 ^ 34 → IsSound (record s { takeover = how }) code made state → StrandsAreSound (record s { takeover = how }) code state
-    → (turn : _) → IsTurnAmong s.processors turn → IsSound (record s { takeover = how }) code (made_by made state turn) (happens (record s { takeover = how }) code state turn)) (sym places)
+    → (turn : _) → IsTurnAmong s.processors turn → IsSound (record s { takeover = how }) code (raised_by made state turn) (happens (record s { takeover = how }) code state turn)) (sym places)
     (sound_then s code fair root input state h forked taken t)

@@ -1,6 +1,6 @@
 -- By places, each turn of a run's state that is sound leads to a sound one, if rows and capsules of
 -- strands meet no broken words.
-use Rattle.std.proofs.Common.{◌≡◌, ◌≢◌, ◌⊎◌, ◌≤◌, ◌<◌, ℕ, zero, suc, ◌+◌, ◌==◌, Bool, true, false, if◌then◌else◌, List, Option, Some, None, inl, inr, refl, sym, ap, ◌∙◌, subst, arith, slice_set}
+use Rattle.std.proofs.Common.{◌≡◌, ◌≢◌, ◌⊎◌, ◌≤◌, ◌<◌, ℕ, zero, suc, ◌+◌, ◌==◌, ◌&&◌, Bool, true, false, if◌then◌else◌, List, Option, Some, None, inl, inr, refl, sym, ap, ap₂, ◌∙◌, subst, arith, slice_set}
 use Rattle.std.specs.Prelude.{nat_lt, slice_get, slice_index, ◌^◌}
 use Rattle.std.proofs.lemmas.Bool.{cases_lt, ltb-true, lt-ltb, le-ltb, eqb-true}
 use Rattle.ppm_strands.specs.Tree.{Words, Tree}
@@ -33,8 +33,7 @@ use Rattle.ppm_step.specs.Frames.{Rest, Loads, Stores, Full, Installs, Breaks}
 use Rattle.ppm_step.specs.Points.{cell_at, reading_at}
 use Rattle.ppm_step.specs.Rows.{found_at, row_of}
 use Rattle.ppm_step.specs.Standings.{Standing, IsLost, IsPlaced, IsAt, IsWithin, IsRunning, IsBroken, IsDone, begun, forked, point_is_there, rest_is_there, within_if, running_if, running, enters, stands_then, stands, begins_if, at_finish, placed}
-use Rattle.ppm_step.specs.State.{State as RunState, stand_of, happens, acts, quit_with, is_work, is_work_next, is_work_turn}
-use Rattle.ppm_step.specs.declared.turn.Next.TheVariants.{Work, Look}
+use Rattle.ppm_step.specs.State.{State as RunState, stand_of, happens, acts, quit_with, is_work, is_step}
 use Rattle.ppm_step.specs.There.{is_there, kind_is_there, bottom_is_there, restart_is_there}
 use Rattle.ppm_step.specs.declared.content.Content.{Content}
 use Rattle.ppm_step.specs.declared.content.Content.TheVariants.{AnEntry, AHolder, AFinish}
@@ -65,7 +64,7 @@ use Rattle.ppm_kept.specs.Fates.{Offered}
 use Rattle.ppm_kept.proofs.BlockLemmas.{finish_back}
 use Rattle.ppm_runs.specs.Run.{fate_of, IsRun}
 use Rattle.ppm_runs.specs.Sound.{IsJobEntry, IsRising, IsTakenEntry, Noted, NotedBy, IsNoted, IsNotedAt, IsLoadOf, GoesWell, IsSoundRow, IsSoundAt, IsUnbroken, TriesSo, RaisesEntry, RaisesHolder, SetsFinish, IsRestartThere, IsHolderSound, IsTagLow, IsNoBreak, SaysNoBreak, one_dead, IsSound}
-use Rattle.ppm_runs.specs.Deques.{StrandsAreSound, one_if, made_by}
+use Rattle.ppm_runs.specs.Deques.{StrandsAreSound, one_if, is_entry, tries_entry, raises, raised_by}
 use Rattle.ppm_runs.proofs.SoundRows.{Here, Blocks, IsDequeKind, seat_of, loads_sound, begins_sound, and_is, and_left, and_right}
 use Rattle.ppm_runs.proofs.SoundLemmas.{tells, waits, quiet_write, entry_write, message_write, holder_write, dead_write, restart_write, finish_write}
 
@@ -203,7 +202,7 @@ module _ (base : Shape) (code : CodeParts) (root : Tree (Frame FrameWord StrandP
       sound_at x e = subst (IsSoundAt s code m) e (sound.stands c)
 
       abbrev Goal : Act → Standing → Type 0
-      Goal act x = IsSound s code (made + one_if (is_work_turn act x)) (acts s code state c act x)
+      Goal act x = IsSound s code (made + one_if (is_step act && raises x)) (acts s code state c act x)
 
       module _ (seat : Seat) (row : Row) (e : stand_of state c ≡ IsWithin seat row) where
         sits : Sits s m (kinds s ws) (bottoms s ws) c seat
@@ -213,7 +212,7 @@ module _ (base : Shape) (code : CodeParts) (root : Tree (Frame FrameWord StrandP
         live z = let y : IsWithin seat row ≡ IsDone = sym e ∙ z in cc
 
         more : ℕ
-        more = made + one_if (is_work_turn (Step 0) (IsWithin seat row))
+        more = made + one_if (raises (IsWithin seat row))
 
         seat_is : seat_of base code ws c seat.place seat.restart.kind ≡ seat
         seat_is = λ i. record { own = sym sits.own i; place = seat.place; restart = record { kind = seat.restart.kind; bottom = sits.at.bottom i } }
@@ -237,10 +236,10 @@ module _ (base : Shape) (code : CodeParts) (root : Tree (Frame FrameWord StrandP
       ]
 
       abbrev More : Seat → Row → ℕ
-      More seat row = made + one_if (is_work_turn (Step 0) (IsWithin seat row))
+      More seat row = made + one_if (raises (IsWithin seat row))
 
       least : (seat : Seat) (row : Row) → made ≤ More seat row
-      least seat row = one_least made (is_work_turn (Step 0) (IsWithin seat row))
+      least seat row = one_least made (raises (IsWithin seat row))
 
       -- an install
       install : (seat : Seat) (next : Then) (e : stand_of state c ≡ IsWithin seat (Now next)) (r : Restart) → restart_is_there s r ≡ true → Noted s m seat.place r.kind
@@ -352,11 +351,11 @@ module _ (base : Shape) (code : CodeParts) (root : Tree (Frame FrameWord StrandP
             (subst SaysNoBreak (sym (read_back s ws cells.FinishWord (word_of new) run.lawful.0 tt ∙ ap word_of is)) (says_fine v a.1 (outcome_fine v a.0))) (stands_then s code seat next) goes
         finish_made _ is a = absurd a
 
-        worked : is_work seat.restart.kind ≡ true → More seat row ≡ made + 1
-        worked is = ap (λ (b : Bool). made + one_if (is_work_next (if b then Work else Look))) is
+        worked : is_entry cell ≡ true → is_work seat.restart.kind ≡ true → More seat row ≡ made + 1
+        worked which is = ap₂ (λ (a b : Bool). made + one_if (a && b)) which is
 
-        entry_made : (v i : ℕ) → v < s.processors → i < s.slots → (x y : Content) → old ≡ x → new ≡ y → read s ws (cells.EntryWord v i) ≡ word_of old → RaisesEntry s code m seat x y → Made (cells.EntryWord v i)
-        entry_made v i lv li (AnEntry o) (AnEntry n) is now was a =
+        entry_made : (v i : ℕ) → cell ≡ cells.EntryWord v i → v < s.processors → i < s.slots → (x y : Content) → old ≡ x → new ≡ y → read s ws (cells.EntryWord v i) ≡ word_of old → RaisesEntry s code m seat x y → Made (cells.EntryWord v i)
+        entry_made v i at_ lv li (AnEntry o) (AnEntry n) is now was a =
             let shown : is_shown s (Slot v i) ≡ true = and_is (nat_lt v s.processors) (nat_lt i s.slots) (lt-ltb v s.processors lv) (lt-ltb i s.slots li) in
             let before : m (Slot v i) ≡ word_as (AnEntry o) = shows s ws (Slot v i) shown ∙ ap (λ (w : ℕ). word_as (content_of AsEntry w)) (was ∙ ap word_of is) ∙ ap word_as (again (AnEntry o) tt a.2) in
             let after : view s (store s ws (cells.EntryWord v i) (word_of new)) (Slot v i) ≡ word_as (AnEntry n) =
@@ -372,14 +371,14 @@ module _ (base : Shape) (code : CodeParts) (root : Tree (Frame FrameWord StrandP
 
             high : (n : Entry) (b : ℕ) → tag_of n ≡ b + 1 → b ≤ made → (IsTakenEntry n ⊎ (is_work seat.restart.kind ≡ true)) → IsTagLow (More seat row) (word_as (AnEntry n))
             high (entries.Taken t x) b is le how = let all = least seat row in omega (arith, is, le, all)
-            high (entries.Empty t) b is le how = elim how [ inl z ↦ absurd z | inr w ↦ let one = worked w in omega (arith, is, le, one) ]
-            high (entries.Local t x) b is le how = elim how [ inl z ↦ absurd z | inr w ↦ let one = worked w in omega (arith, is, le, one) ]
-            high (entries.Job t x) b is le how = elim how [ inl z ↦ absurd z | inr w ↦ let one = worked w in omega (arith, is, le, one) ]
+            high (entries.Empty t) b is le how = elim how [ inl z ↦ absurd z | inr w ↦ let one = worked (ap is_entry at_) w in omega (arith, is, le, one) ]
+            high (entries.Local t x) b is le how = elim how [ inl z ↦ absurd z | inr w ↦ let one = worked (ap is_entry at_) w in omega (arith, is, le, one) ]
+            high (entries.Job t x) b is le how = elim how [ inl z ↦ absurd z | inr w ↦ let one = worked (ap is_entry at_) w in omega (arith, is, le, one) ]
 
             tag_goes : (o n : Entry) → (IsTakenEntry o → ⊥) → IsTagLow made (word_as (AnEntry o)) → tag_of n ≡ tag_of o + 1 → (IsTakenEntry n ⊎ (is_work seat.restart.kind ≡ true)) → IsTagLow (More seat row) (word_as (AnEntry n))
             tag_goes o n free a up how = high n (tag_of o) up (low o free a) how
-        entry_made v i lv li (AnEntry o) _ is now was a = absurd a
-        entry_made v i lv li _ y is now was a = absurd a
+        entry_made v i at_ lv li (AnEntry o) _ is now was a = absurd a
+        entry_made v i at_ lv li _ y is now was a = absurd a
 
         one_alive : (w : Word) → (IsDead w → ⊥) → one_dead w ≡ 0
         one_alive (Number zero) a = refl
@@ -424,7 +423,7 @@ module _ (base : Shape) (code : CodeParts) (root : Tree (Frame FrameWord StrandP
         made_so (cells.Top v) is was = quiet_made (cells.Top v) (ltb-true v s.processors (subst (λ (z : Cell). is_there s z ≡ true) is told.0)) refl
         made_so (cells.EntryWord v i) is was =
             let shown = subst (λ (z : Cell). is_there s z ≡ true) is told.0 in
-            entry_made v i (ltb-true v s.processors (and_left (nat_lt v s.processors) (nat_lt i s.slots) shown)) (ltb-true i s.slots (and_right (nat_lt v s.processors) (nat_lt i s.slots) shown)) old new refl refl was
+            entry_made v i is (ltb-true v s.processors (and_left (nat_lt v s.processors) (nat_lt i s.slots) shown)) (ltb-true i s.slots (and_right (nat_lt v s.processors) (nat_lt i s.slots) shown)) old new refl refl was
             (subst (λ (z : Cell). TriesSo s code m seat z old new) is told.1)
         made_so (cells.HolderWord v) is was = holder_made v (ltb-true v s.processors (subst (λ (z : Cell). is_there s z ≡ true) is told.0)) old new refl refl was (subst (λ (z : Cell). TriesSo s code m seat z old new) is told.1)
         made_so (cells.RoomCounter x) is was = absurd (subst (λ (z : Cell). TriesSo s code m seat z old new) is told.1)
@@ -455,28 +454,28 @@ module _ (base : Shape) (code : CodeParts) (root : Tree (Frame FrameWord StrandP
             run_on : (rest : Rest) → rest_is_there s seat rest ≡ true → IsSoundAt s code m (running s seat rest)
             run_on rest ok = subst (λ (b : Bool). IsSoundAt s code m (running_if seat rest b)) (sym ok) tt
 
-            up : made ≤ made + 1
+            up : made ≤ made + 0
             up = omega arith
 
             quiet_cell : (cell : Cell) → IsQuietCell cell → IsCell s cell → (w : ℕ) (y : Standing) → stand_of state c ≢ IsDone → IsSoundAt s code m y → (cell ≢ cells.FinishWord)
-                → IsSound s code (made + 1) (record { words = store s ws cell w; stand = slice_set state.stand c y })
-            quiet_cell cell quiet is w y alive_ here ne = quiet_write s code made state sound c alive_ (made + 1) up cell w is (quiet_tells cell quiet ne) y here
+                → IsSound s code (made + 0) (record { words = store s ws cell w; stand = slice_set state.stand c y })
+            quiet_cell cell quiet is w y alive_ here ne = quiet_write s code made state sound c alive_ (made + 0) up cell w is (quiet_tells cell quiet ne) y here
 
             by : (rest : Rest) (e : stand_of state c ≡ IsRunning seat rest) → Goal (Step u) (IsRunning seat rest)
-            by (Loads cell next) e = waits s code made state sound c (alive (Loads cell next) e) (made + 1) up (running s seat (next (read s ws cell))) (run_on (next (read s ws cell)) (strands.rests c seat cell next e))
+            by (Loads cell next) e = waits s code made state sound c (alive (Loads cell next) e) (made + 0) up (running s seat (next (read s ws cell))) (run_on (next (read s ws cell)) (strands.rests c seat cell next e))
             by (Stores cell content next) e =
                 let sees = sees_at (IsRunning seat (Stores cell content next)) e in
                 quiet_cell cell sees.2.0 (cell_is s cell sees.3 (subst (IsPooledAt s) e (pooled c))) (word_of content) (running s seat next) (alive (Stores cell content next) e) (run_on next (strands.stored c seat cell content next e)) (strands.spared c seat cell content next e)
             by Full e = full (slice_index ws 0 == 0)
               where
-                full : (b : Bool) → IsSound s code (made + 1) (record { words = if b then slice_set ws 0 (finish_word (OutOfRoom seat.place)) else ws; stand = slice_set state.stand c (IsAt seat.place (Some seat.restart)) })
-                full true = finish_write s code made state sound c (alive Full e) (made + 1) up (finish_word (OutOfRoom seat.place))
+                full : (b : Bool) → IsSound s code (made + 0) (record { words = if b then slice_set ws 0 (finish_word (OutOfRoom seat.place)) else ws; stand = slice_set state.stand c (IsAt seat.place (Some seat.restart)) })
+                full true = finish_write s code made state sound c (alive Full e) (made + 0) up (finish_word (OutOfRoom seat.place))
                     (subst SaysNoBreak (sym (read_back s ws cells.FinishWord (finish_word (OutOfRoom seat.place)) run.lawful.0 tt))
                     (says_fine (OutOfRoom seat.place) (let lt = (sits_in Full e).carried.place in let few = s.within.processors_most in omega (arith, lt, few)) tt)) (IsAt seat.place (Some seat.restart)) (sits_in Full e).there
-                full false = waits s code made state sound c (alive Full e) (made + 1) up (IsAt seat.place (Some seat.restart)) (sits_in Full e).there
+                full false = waits s code made state sound c (alive Full e) (made + 0) up (IsAt seat.place (Some seat.restart)) (sits_in Full e).there
             by (Installs kind) e =
                 let sees = sees_at (IsRunning seat (Installs kind)) e in
-                restart_write s code made state sound c (alive (Installs kind) e) (made + 1) up seat.place (record { kind = kind; bottom = seat.restart.bottom }) (sits_in (Installs kind) e).carried.place run.lawful.0 sees.3 (strand_noted s m seat.place kind sees.2)
+                restart_write s code made state sound c (alive (Installs kind) e) (made + 0) up seat.place (record { kind = kind; bottom = seat.restart.bottom }) (sits_in (Installs kind) e).carried.place run.lawful.0 sees.3 (strand_noted s m seat.place kind sees.2)
             by Breaks e = absurd (let z = (sees_at (IsRunning seat Breaks) e).3 in cc)
 
       -- the place that is carried is one
@@ -520,7 +519,7 @@ module _ (base : Shape) (code : CodeParts) (root : Tree (Frame FrameWord StrandP
       step_sound u lt (IsPlaced p) e = waits s code made state sound c (λ z. let y : IsPlaced p ≡ IsDone = sym e ∙ z in cc) (made + 0) still (IsAt p (restart_of (read s ws (cells.RestartWord p))))
           (restart_sound p (restart_of (read s ws (cells.RestartWord p))) (sound.restarts p (sees_at (IsPlaced p) e).place))
       step_sound u lt (IsAt p None) e = absurd (sound_at (IsAt p None) e)
-      step_sound u lt (IsAt p (Some r)) e = waits s code made state sound c (λ z. let y : IsAt p (Some r) ≡ IsDone = sym e ∙ z in cc) (made + one_if (is_work_turn (Step u) (IsAt p (Some r)))) (one_least made (is_work_turn (Step u) (IsAt p (Some r))))
+      step_sound u lt (IsAt p (Some r)) e = waits s code made state sound c (λ z. let y : IsAt p (Some r) ≡ IsDone = sym e ∙ z in cc) (made + 0) still
           (at_finish s code c p (Some r) (read s ws cells.FinishWord)) (begin_sound p r e (read s ws cells.FinishWord))
       step_sound u lt (IsWithin seat (Now next)) e = now_step seat next e u lt
       step_sound u lt (IsWithin seat (Store cell content next)) e = store_step seat cell content next e u
@@ -600,5 +599,5 @@ module _ (base : Shape) (code : CodeParts) (root : Tree (Frame FrameWord StrandP
       act_sound Hard among = other_sound Hard (stand_of state c) refl (λ u z. cc)
       act_sound (Quit why) among = other_sound (Quit why) (stand_of state c) refl (λ u z. cc)
 
-    pub turn_sound : (turn : Turn) → IsTurnAmong s.processors turn → IsSound s code (made_by made state turn) (happens s code state turn)
+    pub turn_sound : (turn : Turn) → IsTurnAmong s.processors turn → IsSound s code (raised_by made state turn) (happens s code state turn)
     turn_sound turn among = act_sound turn.processor among.processor turn.act among.act

@@ -1,5 +1,5 @@
 -- Images open soundly, and turns keep that; so nothing breaks.
-use Rattle.std.proofs.Common.{◌≡◌, ◌<◌, ℕ, zero, suc, ◌+◌, ◌==◌, ◌^◌, Bool, true, false, if◌then◌else◌, List, [], ◌∷◌, ◌++◌, length, Option, Some, inl, inr, refl, sym, ap, ◌∙◌, subst, arith}
+use Rattle.std.proofs.Common.{◌≡◌, ◌<◌, ◌≤◌, ℕ, zero, suc, ◌+◌, ◌*◌, ◌==◌, ◌^◌, Bool, true, false, if◌then◌else◌, List, [], ◌∷◌, ◌++◌, length, Option, Some, inl, inr, refl, sym, ap, ◌∙◌, subst, arith}
 use Rattle.std.specs.List.{AllByRecursion}
 use Rattle.std.specs.Prelude.{nat_lt, nat_le}
 use Rattle.std.proofs.lemmas.Bool.{cases_Bool, cases_eq, lt-ltb, ltb-true}
@@ -34,7 +34,7 @@ use Rattle.ppm_layout.specs.declared.images.Image.{Image as RealImage}
 use Rattle.ppm_layout.proofs.ValueLemmas.{stands_for}
 use Rattle.ppm_step.specs.Among.{IsTurnAmong}
 use Rattle.ppm_step.specs.Contents.{content_of, read_so}
-use Rattle.ppm_step.specs.State.{State as RunState, stand_of, happens, after, opening, forks_of, takes_of}
+use Rattle.ppm_step.specs.State.{State as RunState, stand_of, happens, after, opening, is_work_turn, forks_of, takes_of}
 use Rattle.ppm_step.specs.There.{bottom_is_there, kind_is_there}
 use Rattle.ppm_step.specs.declared.content.Content.TheVariants.{AnEntry, AHolder}
 use Rattle.ppm_step.specs.declared.turn.Turn.{Turn}
@@ -55,13 +55,14 @@ use Rattle.ppm_kept.specs.Steps.{tree_after}
 use Rattle.ppm_kept.proofs.BeginLemmas.{machines_open}
 use Rattle.ppm_kept.proofs.ImageLemmas.{images_open as frames_open}
 use Rattle.ppm_kept.proofs.PutLemmas.{put_here, put_else}
-use Rattle.ppm_runs.specs.Deques.{made_by}
+use Rattle.ppm_runs.specs.Deques.{one_if, raised_by}
 use Rattle.ppm_runs.specs.Run.{image, IsRun}
 use Rattle.ppm_runs.specs.Sound.{Noted, IsSoundAt, IsRestartThere, IsHolderSound, IsTagLow, IsNoBreak, SaysNoBreak, one_dead, IsSound}
 use Rattle.ppm_runs.specs.Unbroken.{works, IsWhole, NothingBreaks}
 use Rattle.ppm_runs.specs.Well.{IsWell}
 use Rattle.ppm_runs.proofs.MomentLemmas.{turns_lead_on}
 use Rattle.ppm_runs.proofs.OpenLemmas.{runs_open}
+use Rattle.ppm_runs.proofs.RaisedLemmas.{about, half_stays, half_opens}
 use Rattle.ppm_runs.proofs.SoundJoin.{deques_are_sound}
 use Rattle.ppm_runs.proofs.SoundRows.{and_is}
 use Rattle.ppm_runs.proofs.StandLemmas.{kinds_same}
@@ -180,20 +181,25 @@ whole_of s code made state sound = record {
 }
 
 module _ (s : Shape) (code : CodeParts) (places : s.takeover ≡ ByPlaces) (fair : IsFair code) (root : Tree (Frame FrameWord Point) Result) (input : Words) where
-  pub all_whole : (made : ℕ) (state : RunState) (h : ℕ → Home) (f tk : List ℕ) (t : Skeleton) (turns : List Turn) → AllByRecursion (IsTurnAmong s.processors) turns
-      → made + works s code state turns + 1 < 2 ^ 34
+  pub all_whole : (made work : ℕ) (state : RunState) (h : ℕ → Home) (f tk : List ℕ) (t : Skeleton) (turns : List Turn) → AllByRecursion (IsTurnAmong s.processors) turns
+      → 2 * made + about s code s.processors state ≤ work → work + works s code state turns ≤ 2 ^ 34
       → IsRun s code root input state h f tk t → IsSound s code made state → IsWell code (frames.view s state.words) Root t
       → IsWhole s (after s code state turns)
-  all_whole made state h f tk t [] all few run sound well = whole_of s code made state sound
-  all_whole made state h f tk t (turn ∷ more) all few run sound well =
-      all_whole (made_by made state turn) (happens s code state turn) (by_act s state.words turn.act (stand_of state turn.processor) h) (forks_of state turn ++ f) (takes_of state turn ++ tk) (tree_after (image s code) state turn t) more all.1
+  all_whole made work state h f tk t [] all half few run sound well = whole_of s code made state sound
+  all_whole made work state h f tk t (turn ∷ more) all half few run sound well =
+      all_whole (raised_by made state turn) (work + one_if (is_work_turn turn.act (stand_of state turn.processor))) (happens s code state turn) (by_act s state.words turn.act (stand_of state turn.processor) h) (forks_of state turn ++ f) (takes_of state turn ++ tk) (tree_after (image s code) state turn t) more all.1
+      (half_stays s code s.processors made work state turn fair.code_is all.0.processor half)
       (omega (arith, few))
       (turns_lead_on s code places fair root input state h f tk t run turn all.0)
-      (deques_are_sound s code places fair root input state h f tk t run made (omega (arith, few)) sound (strands_sound s code fair root input state h f tk t run made sound well) turn all.0)
+      (deques_are_sound s code places fair root input state h f tk t run made (rises made (about s code s.processors state) work (works s code state (turn ∷ more)) half few) sound (strands_sound s code fair root input state h f tk t run made sound well) turn all.0)
       (well_stays s code places fair root input state h f tk t run well turn all.0)
+    where
+      -- half of the work turns are fewer than a tag counts
+      rises : (made some work more : ℕ) → 2 * made + some ≤ work → work + more ≤ 2 ^ 34 → made + 1 < 2 ^ 34
+      rises made some work more half few = omega (arith, half, few)
 
 pub nothing_breaks : NothingBreaks
 nothing_breaks code input s keeper im places fair opens calm turns all few =
-    all_whole s code places fair (root_strand code input) (arrays_at (frames.view s im.words)) 0 (opening im.words s.processors) (λ r. Unborn) [] []
-    (Leaf (InPlace keeper) (Begins 0) (pool_at s keeper) (slots_of code code.root)) turns all (omega (arith, few)) (runs_open code input s keeper im opens calm)
+    all_whole s code places fair (root_strand code input) (arrays_at (frames.view s im.words)) 0 0 (opening im.words s.processors) (λ r. Unborn) [] []
+    (Leaf (InPlace keeper) (Begins 0) (pool_at s keeper) (slots_of code code.root)) turns all (half_opens s code im.words s.processors) (omega (arith, few)) (runs_open code input s keeper im opens calm)
     (opens_sound code input s keeper im fair opens calm) (opens_well code input s keeper im fair opens calm)

@@ -1,9 +1,9 @@
 -- By places, rows of the deques and of the places meet no broken words.
-use Rattle.std.specs.Prelude.{◌≡◌, ◌≢◌, ◌<◌, ℕ, ◌+◌, ◌^◌, Bool, true, false, Some, List}
+use Rattle.std.specs.Prelude.{◌≡◌, ◌≢◌, ◌<◌, ℕ, ◌+◌, ◌^◌, Bool, true, false, ◌&&◌, Some, List}
 use Rattle.ppm_strands.specs.Tree.{Words, Tree}
 use Rattle.ppm_cells.specs.Memory.{read}
 use Rattle.ppm_cells.specs.declared.cell.Cell.{Cell}
-use Rattle.ppm_cells.specs.declared.cell.Cell.TheVariants.{FinishWord}
+use Rattle.ppm_cells.specs.declared.cell.Cell.TheVariants.{FinishWord, EntryWord}
 use Rattle.ppm_cells.specs.declared.restart.Restart.{Restart}
 use Rattle.ppm_cells.specs.declared.shape.Shape.{Shape}
 use Rattle.ppm_cells.specs.declared.shape.Takeover.TheVariants.{ByPlaces}
@@ -16,11 +16,12 @@ use Rattle.ppm_step.specs.Contents.{content_of}
 use Rattle.ppm_step.specs.Frames.{Rest, Loads, Stores}
 use Rattle.ppm_step.specs.Points.{cell_at, reading_at}
 use Rattle.ppm_step.specs.Rows.{found_at, row_of}
-use Rattle.ppm_step.specs.Standings.{IsAt, IsWithin, IsRunning, rest_is_there}
-use Rattle.ppm_step.specs.State.{State as RunState, stand_of, happens, is_work_turn}
+use Rattle.ppm_step.specs.Standings.{Standing, IsAt, IsWithin, IsRunning, rest_is_there}
+use Rattle.ppm_step.specs.State.{State as RunState, stand_of, happens, is_work, is_step}
 use Rattle.ppm_step.specs.declared.content.Content.{Content}
 use Rattle.ppm_step.specs.declared.row.Point.{Point}
-use Rattle.ppm_step.specs.declared.row.Row.TheVariants.{Now}
+use Rattle.ppm_step.specs.declared.row.Row.{Row}
+use Rattle.ppm_step.specs.declared.row.Row.TheVariants.{Now, Exchange}
 use Rattle.ppm_step.specs.declared.row.Seat.{Seat}
 use Rattle.ppm_step.specs.declared.row.Then.TheVariants.{Load}
 use Rattle.ppm_step.specs.declared.turn.Turn.{Turn}
@@ -46,21 +47,34 @@ pub record StrandsAreSound (s : Shape) (code : CodeParts) (state : RunState) : T
   pub spared : (c : ℕ) (seat : Seat) (cell : Cell) (content : Content) (next : Rest) → stand_of state c ≡ IsRunning seat (Stores cell content next)
       → cell ≢ FinishWord
 
--- one for a work turn
 abbrev pub one_if : Bool → ℕ
 one_if true = 1
 one_if false = 0
 
--- so many work turns, with this one
-abbrev pub made_by : ℕ → RunState → Turn → ℕ
-made_by made state turn = made + one_if (is_work_turn turn.act (stand_of state turn.processor))
+-- whether what is left of a row is an exchange of an entry
+abbrev pub is_entry : Cell → Bool
+is_entry (EntryWord place slot) = true
+is_entry cell = false
 
--- With takeover by places, and below 2^34 work turns: from a run's state that is sound, a turn leads to
--- one that is sound, if rows and capsules of strands meet no broken words in it
+abbrev pub tries_entry : Row → Bool
+tries_entry (Exchange cell old new next) = is_entry cell
+tries_entry row = false
+
+-- whether a processor's coming step is one, in a row of work: it raises an entry's tag, or does nothing
+abbrev pub raises : Standing → Bool
+raises (IsWithin seat row) = tries_entry row && is_work seat.restart.kind
+raises standing = false
+
+-- so many of such steps were made, with this turn
+abbrev pub raised_by : ℕ → RunState → Turn → ℕ
+raised_by made state turn = made + one_if (is_step turn.act && raises (stand_of state turn.processor))
+
+-- With takeover by places, where tags can count such steps: from a run's state that is sound, a turn leads
+-- to one that is sound, if rows and capsules of strands meet no broken words in it
 abbrev pub DequesAreSound : Type 0
 DequesAreSound = (s : Shape) (code : CodeParts) → s.takeover ≡ ByPlaces → IsFair code
     → (root : Tree (Frame FrameWord StrandPoint) Result) (input : Words) (state : RunState) (h : ℕ → Home) (forked taken : List ℕ) (t : Skeleton)
     → IsRun s code root input state h forked taken t
     → (made : ℕ) → made + 1 < 2 ^ 34 → IsSound s code made state → StrandsAreSound s code state
     → (turn : Turn) → IsTurnAmong s.processors turn
-    → IsSound s code (made_by made state turn) (happens s code state turn)
+    → IsSound s code (raised_by made state turn) (happens s code state turn)

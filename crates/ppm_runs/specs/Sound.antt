@@ -247,9 +247,9 @@ IsNoBreak finish = Unit {0}
 abbrev pub SaysNoBreak : (word : ℕ) → Type 0
 SaysNoBreak word = (finish : Finish) → finish_of word ≡ Some finish → IsNoBreak finish
 
--- What is sound of a machine's state, beside what makes it a run's, where so many work turns were made:
--- nobody has met broken words or is about to, restart words and holders name what is there, messages
--- are as the places' kinds have them, and no tag is high.
+-- What is sound of a machine's state, beside what makes it a run's, where so many steps of rows of work
+-- were exchanges of entries: nobody has met broken words or is about to, restart words and holders name
+-- what is there, messages are as the places' kinds have them, and no tag is high.
 pub record IsSound (s : Shape) (code : CodeParts) (made : ℕ) (state : RunState) : Type 0 where
   pub stands : (c : ℕ) → IsSoundAt s code (view s state.words) (stand_of state c)
   pub restarts : (p : ℕ) → p < s.processors → IsRestartThere s (restart_of (read s state.words (RestartWord p)))

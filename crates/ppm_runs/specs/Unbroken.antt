@@ -1,5 +1,5 @@
--- In a run by places, of any number of work turns that tags can count, nobody meets broken words.
-use Rattle.std.specs.Prelude.{◌≡◌, ◌<◌, ℕ, ◌+◌, ◌^◌, List, [], ◌∷◌}
+-- In a run by places, of at most 2^34 work turns, nobody meets broken words.
+use Rattle.std.specs.Prelude.{◌≡◌, ◌≤◌, ℕ, ◌+◌, ◌^◌, List, [], ◌∷◌}
 use Rattle.std.specs.List.{AllByRecursion}
 use Rattle.ppm_strands.specs.Calm.{Calm}
 use Rattle.ppm_words.specs.declared.named_array.NamedArray.{NamedArray}
@@ -31,12 +31,12 @@ pub record IsWhole (s : Shape) (state : RunState) : Type 0 where
   pub stands : (c p : ℕ) → stand_of state c ≡ IsBroken p → ⊥
   pub finish : SaysNoBreak (read s state.words FinishWord)
 
--- with takeover by places, from an image of a sound code, whatever the turns, as long as fewer than
--- 2^34 - 1 of them are work
+-- with takeover by places, from an image of a sound code, whatever the turns, as long as at most 2^34 of
+-- them are work
 abbrev pub NothingBreaks : Type 0
 NothingBreaks = (code : CodeParts) (input : List NamedArray) (s : Shape) (keeper : ℕ) (image : RealImage)
     → s.takeover ≡ ByPlaces → IsFair code → Opens code input s keeper image
     → Calm (strands s code) (root_strand code input) (arrays_at (view s image.words))
     → (turns : List Turn) → AllByRecursion (IsTurnAmong s.processors) turns
-    → works s code (opening image.words s.processors) turns + 1 < 2 ^ 34
+    → works s code (opening image.words s.processors) turns ≤ 2 ^ 34
     → IsWhole s (after s code (opening image.words s.processors) turns)

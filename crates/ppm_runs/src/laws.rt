@@ -87,9 +87,9 @@ pub fn runs_come_back()
     ensures parts { PartsComeTo }
 {}
 
-/// With takeover by places, from an image of a sound code, whatever the turns, as long as fewer than
-/// 2^34 - 1 of them are work: no processor meets broken words, and the finish word says of none that one
-/// has. The deques' half is that a turn keeps what is sound of rows, entries, holders and restart words.
+/// With takeover by places, from an image of a sound code, whatever the turns, as long as at most 2^34 of
+/// them are work: no processor meets broken words, and the finish word says of none that one has. The
+/// deques' half is that a turn keeps what is sound of rows, entries, holders and restart words.
 pub fn nothing_breaks()
     ensures deques { DequesAreSound }
     ensures law { NothingBreaks }
