@@ -78,6 +78,7 @@ TellsOfRun Tells answers.WordsRefused before now = TellsNothing answers.WordsRef
 TellsOfRun Tells (answers.PlanRefused number) before now = TellsNothing (answers.PlanRefused number) before now
 TellsOfRun Tells (answers.SourceRefused r) before now = TellsNothing (answers.SourceRefused r) before now
 TellsOfRun Tells (answers.ListingRefused r) before now = TellsNothing (answers.ListingRefused r) before now
+TellsOfRun Tells (answers.SavedRefused r) before now = TellsNothing (answers.SavedRefused r) before now
 TellsOfRun Tells (answers.Conflicting c) before now = TellsNothing (answers.Conflicting c) before now
 TellsOfRun Tells (answers.Ended arrays) before now = Tells (answers.Ended arrays) before now
 TellsOfRun Tells (answers.Trapped t line) before now = Tells (answers.Trapped t line) before now
@@ -89,6 +90,7 @@ TellsOfRun Tells (answers.OutOfTurns processor) before now = Tells (answers.OutO
 TellsOfRun Tells (answers.OutOfRoom place) before now = Tells (answers.OutOfRoom place) before now
 TellsOfRun Tells (answers.Broken place) before now = Tells (answers.Broken place) before now
 TellsOfRun Tells (answers.Listed listing) before now = Tells (answers.Listed listing) before now
+TellsOfRun Tells (answers.Saved text) before now = Tells (answers.Saved text) before now
 TellsOfRun Tells answers.Accepted before now = Tells answers.Accepted before now
 
 -- an answer that may come was delivered, also where a port failed at its text; and watchers were told what belongs to it

@@ -8,6 +8,7 @@ use Rattle.ppm_words.specs.declared.trap.Trap.TheVariants as trap
 use Rattle.ppm_answers.specs.declared.refusal.Pass.{Pass}
 use Rattle.ppm_answers.specs.declared.refusal.Pass.TheVariants as pass
 use Rattle.ppm_answers.specs.declared.refusal.Refusal.{Refusal}
+use Rattle.ppm_answers.specs.declared.saved.SavedRefusal.{SavedRefusal}
 use Rattle.ppm_answers.specs.declared.conflict.Class.{Class}
 use Rattle.ppm_answers.specs.declared.conflict.Class.TheVariants as class
 use Rattle.ppm_answers.specs.declared.conflict.Conflict.{Conflict}
@@ -115,6 +116,10 @@ conflict_text c = ended_line (codes "conflict: capsule " ++ decimal c.capsule ++
 abbrev pub listing_text : ListingRefusal → List ℕ
 listing_text r = ended_line (codes "listing refused: " ++ decimal r.number ++ codes " line " ++ decimal r.line)
 
+-- a line with the fault of a text that is none of a saved state, and where that is
+abbrev pub saved_line : SavedRefusal → List ℕ
+saved_line r = ended_line (codes "saved refused: " ++ decimal r.number ++ codes " line " ++ decimal r.line)
+
 -- what is written on out
 abbrev pub out_text : Answer → List ℕ
 out_text (answers.Ended arrays) = arrays_text arrays
@@ -122,6 +127,7 @@ out_text (answers.Trapped t line) = trap_text t line
 out_text (answers.EndedWith arrays tally) = arrays_text arrays ++ tally_text tally
 out_text (answers.TrappedWith t line tally) = trap_text t line ++ tally_text tally
 out_text (answers.Listed listing) = listing
+out_text (answers.Saved text) = text
 out_text answers.Accepted = accepted_text
 out_text (answers.NotWithin turns) = []
 out_text (answers.OutOfTurns processor) = []
@@ -132,6 +138,7 @@ out_text (answers.PlanRefused number) = []
 out_text (answers.SourceRefused r) = []
 out_text (answers.Conflicting c) = []
 out_text (answers.ListingRefused r) = []
+out_text (answers.SavedRefused r) = []
 out_text answers.WordsRefused = []
 out_text answers.ReadFault = []
 out_text answers.NoMemory = []
@@ -147,6 +154,7 @@ err_text (answers.PlanRefused number) = plan_text number
 err_text (answers.SourceRefused r) = refusal_text r
 err_text (answers.Conflicting c) = conflict_text c
 err_text (answers.ListingRefused r) = listing_text r
+err_text (answers.SavedRefused r) = saved_line r
 err_text answers.WordsRefused = ended_line (codes "words refused")
 err_text answers.ReadFault = ended_line (codes "read fault")
 err_text answers.NoMemory = ended_line (codes "out of memory")
@@ -155,6 +163,7 @@ err_text (answers.Trapped t line) = []
 err_text (answers.EndedWith arrays tally) = []
 err_text (answers.TrappedWith t line tally) = []
 err_text (answers.Listed listing) = []
+err_text (answers.Saved text) = []
 err_text answers.Accepted = []
 
 -- what is written on err where out failed

@@ -1,6 +1,7 @@
 //! What a command answers.
 use crate::conflict::{Conflict, ListingRefusal};
 use crate::refusal::Refusal;
+use crate::saved::SavedRefusal;
 use crate::tally::Tally;
 use ppm_words::{Items, NamedArray, Trap};
 
@@ -26,10 +27,12 @@ pub enum Answer {
     /// The pool of this place has no room for a block that the run asks for; places count from 0.
     OutOfRoom(u32),
     /// The words of the run are broken at this place; places count from 0, and 64 is for a place
-    /// that isn't known.
+    /// that isn't known, or for a saved finish word that stands for nothing.
     Broken(u32),
     /// The program of the text is compiled to the code with this listing.
     Listed(Items<u8>),
+    /// The state in which the run of the program was stopped has this text.
+    Saved(Items<u8>),
     /// The text is refused for this reason.
     SourceRefused(Refusal),
     /// The text is the listing of a code without conflicts.
@@ -38,6 +41,8 @@ pub enum Answer {
     Conflicting(Conflict),
     /// The text is the listing of no code, for this fault.
     ListingRefused(ListingRefusal),
+    /// The text is that of no saved state, for this fault.
+    SavedRefused(SavedRefusal),
     /// The words give no command.
     WordsRefused,
     /// The plan or schedule among the words has the fault of this number, from 1 to 4.

@@ -28,6 +28,8 @@ pub enum Status {
     CodeRefused = 10,
     /// The serial run did not end within its turns.
     NotWithin = 11,
+    /// What `resume` has read is the text of no saved state.
+    SavedRefused = 12,
     /// The words of the run are broken.
     Broken = 13,
 }

@@ -7,13 +7,14 @@ ghost use Rattle.ppm_answers.specs.Texts.{IsFixed, out_text, err_text, refusal_t
 ghost use Rattle.ppm_answers.specs.Texts.{pass_name as name_of_pass, place_name as name_of_place};
 ghost use Rattle.ppm_answers.specs.Texts.{class_text, conflict_text, listing_text, not_within_text};
 ghost use Rattle.ppm_answers.specs.Texts.{turns_text, room_text};
-ghost use Rattle.ppm_answers.specs.Texts.{unfinished_text, broken_text, plan_text};
+ghost use Rattle.ppm_answers.specs.Texts.{unfinished_text, broken_text, plan_text, saved_line};
 ghost use Rattle.ppm_answers.specs.Texts.{arrays_text, array_text, value_text, trap_text};
 ghost use Rattle.ppm_answers.specs.Texts.{trap_name as name_of_trap};
 
 use crate::answer::Answer;
 use crate::conflict::{Class, Conflict, ListingRefusal};
 use crate::refusal::{Pass, Refusal};
+use crate::saved::SavedRefusal;
 use crate::tally::with_tally;
 use ppm_words::{NamedArray, Trap};
 use std::alloc::{AllocError, Global};
@@ -95,6 +96,10 @@ pub fn texts_of(alloc: Global, answer: &Answer) -> Result<(Text, Text), AllocErr
             CowSlice::Owned(listing.as_slice().to_vec(alloc)?),
             CowSlice::Borrowed(none),
         )),
+        Answer::Saved(text) => Ok((
+            CowSlice::Owned(text.as_slice().to_vec(alloc)?),
+            CowSlice::Borrowed(none),
+        )),
         Answer::Accepted => Ok((CowSlice::Borrowed(ACCEPTED), CowSlice::Borrowed(none))),
         Answer::Conflicting(conflict) => Ok((
             CowSlice::Borrowed(none),
@@ -103,6 +108,10 @@ pub fn texts_of(alloc: Global, answer: &Answer) -> Result<(Text, Text), AllocErr
         Answer::ListingRefused(refusal) => Ok((
             CowSlice::Borrowed(none),
             CowSlice::Owned(listing_text_of(alloc, *refusal)?),
+        )),
+        Answer::SavedRefused(refusal) => Ok((
+            CowSlice::Borrowed(none),
+            CowSlice::Owned(saved_line_of(alloc, *refusal)?),
         )),
         Answer::WordsRefused => Ok((CowSlice::Borrowed(none), CowSlice::Borrowed(WORDS_REFUSED))),
         Answer::ReadFault => Ok((CowSlice::Borrowed(none), CowSlice::Borrowed(READ_FAULT))),
@@ -146,6 +155,15 @@ fn listing_text_of(alloc: Global, refusal: ListingRefusal) -> Result<Vec<u8>, Al
 {
     let ListingRefusal { number, line } = refusal;
     let text = format!(in alloc; "listing refused: {number} line {line}\n")?;
+    Ok(text.into_bytes())
+}
+
+/// The line of a text that is none of a saved state.
+fn saved_line_of(alloc: Global, refusal: SavedRefusal) -> Result<Vec<u8>, AllocError>
+    ensures { IfOk result (λ text. text.items ≡ saved_line refusal) }
+{
+    let SavedRefusal { number, line } = refusal;
+    let text = format!(in alloc; "saved refused: {number} line {line}\n")?;
     Ok(text.into_bytes())
 }
 

@@ -41,6 +41,7 @@ told_none answers.WordsRefused lists = refl
 told_none (answers.PlanRefused number) lists = refl
 told_none (answers.SourceRefused r) lists = refl
 told_none (answers.ListingRefused r) lists = refl
+told_none (answers.SavedRefused r) lists = refl
 told_none (answers.Conflicting c) lists = refl
 told_none (answers.Ended arrays) lists = tt
 told_none (answers.Trapped t line) lists = tt
@@ -52,6 +53,7 @@ told_none (answers.OutOfTurns processor) lists = tt
 told_none (answers.OutOfRoom place) lists = tt
 told_none (answers.Broken place) lists = tt
 told_none (answers.Listed listing) lists = tt
+told_none (answers.Saved text) lists = tt
 told_none answers.Accepted lists = tt
 
 pub others_still : (watching : ℕ) (lists : ToldLists) → OthersKeep watching lists lists

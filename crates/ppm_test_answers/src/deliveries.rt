@@ -1,7 +1,9 @@
 //! Each answer's texts and status, and ports that fail.
 ghost use Rattle.std.specs.Prelude.{◌<◌};
 
-use ppm_answers::{Answer, Class, Conflict, ListingRefusal, Pass, Refusal, Status, Tally, deliver};
+use ppm_answers::{
+    Answer, Class, Conflict, ListingRefusal, Pass, Refusal, SavedRefusal, Status, Tally, deliver,
+};
 use ppm_ports::{MemorySink, Sink};
 use ppm_words::{Items, Name, NamedArray, Trap};
 use std::alloc::Global;
@@ -161,6 +163,12 @@ fn answers_have_texts_and_statuses(rt: HostRuntime) -> Result<(), Fail> {
             0,
         ),
         (
+            Answer::Saved(Items::from_vec(b"saved 1\n".to_vec(alloc)?)),
+            "saved 1\n",
+            "",
+            0,
+        ),
+        (
             Answer::NotWithin(268_435_456),
             "",
             "not within 268435456 turns\n",
@@ -202,6 +210,12 @@ fn answers_have_texts_and_statuses(rt: HostRuntime) -> Result<(), Fail> {
             "",
             "listing refused: 3 line 6\n",
             10,
+        ),
+        (
+            Answer::SavedRefused(SavedRefusal { number: 2, line: 5 }),
+            "",
+            "saved refused: 2 line 5\n",
+            12,
         ),
         (Answer::WordsRefused, "", "words refused\n", 3),
         (Answer::ReadFault, "", "read fault\n", 7),
