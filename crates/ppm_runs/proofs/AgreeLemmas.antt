@@ -90,7 +90,7 @@ use Rattle.ppm_kept.proofs.LoadLemmas.{bump_exchanges_none}
 use Rattle.ppm_kept.proofs.LookLemmas.{LookRow, comes_look, look_begins}
 use Rattle.ppm_kept.proofs.StepRows.{came_idle}
 use Rattle.ppm_runs.specs.Run.{image, fate_of, IsAtLast, IsRun}
-use Rattle.ppm_runs.proofs.ShownLemmas.{Within}
+use Rattle.ppm_runs.proofs.ShownLemmas.{halves, Within}
 use Rattle.ppm_runs.proofs.TameLemmas.{May, TameThen, TameTrade, TameRow}
 use Rattle.ppm_runs.proofs.OrderlyLemmas.{places_row, looked, reached, push_row, forks_new}
 use Rattle.ppm_runs.proofs.StandLemmas.{kinds_same}
@@ -451,37 +451,37 @@ module _ (s : Shape) (code : CodeParts) (places : s.takeover ≡ ByPlaces) (fair
       ]
 
   -- what rows that have seen words store and exchange
-  row_fair : (c : ℕ) (seat : Seat) (row : Row) → Within s code root input state h forked taken t run c seat row → (v : ℕ) (ws : List Word) → AreFit ws → rest_of s seat v (row_of s seat seat.restart.kind) ws ≡ row → FairRow s.takeover AnyPut (Changing s.takeover) row
+  row_fair : (c : ℕ) (seat : Seat) (row : Row) → Within s code root input state h forked taken [] t (halves run) c seat row → (v : ℕ) (ws : List Word) → AreFit ws → rest_of s seat v (row_of s seat seat.restart.kind) ws ≡ row → FairRow s.takeover AnyPut (Changing s.takeover) row
   row_fair c seat row w v ws fit is =
       let small : seat.place < 64 = let lt = w.place in let few = s.within.processors_most in omega (arith, lt, few) in
       let first = begun_fair s AnyPut (Changing s.takeover) seat (any_walk s.takeover seat) small seat.restart.kind
       (λ block k. (subst (λ (x : RestartKind). Fit (address_fields x)) k (restart_fits s (few_words s) seat.restart w.sits.there).0).0) in
       subst (FairRow s.takeover AnyPut (Changing s.takeover)) is (rest_fair s seat small v (row_of s seat seat.restart.kind) ws fit first)
 
-  changing : (c : ℕ) (seat : Seat) (cell : Cell) (old new : Content) (next : Then) → Within s code root input state h forked taken t run c seat (Exchange cell old new next) → Changing s.takeover cell old new
+  changing : (c : ℕ) (seat : Seat) (cell : Cell) (old new : Content) (next : Then) → Within s code root input state h forked taken [] t (halves run) c seat (Exchange cell old new next) → Changing s.takeover cell old new
   changing c seat cell old new next w = by w.seen
     where
       by : HasSeen s (spots.with_restarts (spots.view s state.words) (spots.kinds s state.words) (spots.bottoms s state.words)) seat (Exchange cell old new next) → Changing s.takeover cell old new
       by (Strand is quiet) = (quiet_change s.takeover cell old new quiet.0, quiet_restart cell quiet.0, quiet_carry cell quiet.0)
       by (Looks v ws fit is saw) = (row_fair c seat (Exchange cell old new next) w v ws fit is).0
 
-  changes : (c : ℕ) (seat : Seat) (cell : Cell) (old new : Content) (next : Then) → Within s code root input state h forked taken t run c seat (Exchange cell old new next) → MayChange s.takeover cell old new
+  changes : (c : ℕ) (seat : Seat) (cell : Cell) (old new : Content) (next : Then) → Within s code root input state h forked taken [] t (halves run) c seat (Exchange cell old new next) → MayChange s.takeover cell old new
   changes c seat cell old new next w = (changing c seat cell old new next w).0
 
-  pub exchanges_no_restart : (c : ℕ) (seat : Seat) (cell : Cell) (old new : Content) (next : Then) → Within s code root input state h forked taken t run c seat (Exchange cell old new next) → IsNoRestart cell
+  pub exchanges_no_restart : (c : ℕ) (seat : Seat) (cell : Cell) (old new : Content) (next : Then) → Within s code root input state h forked taken [] t (halves run) c seat (Exchange cell old new next) → IsNoRestart cell
   exchanges_no_restart c seat cell old new next w = (changing c seat cell old new next w).1
 
-  pub stores_no_restart : (c : ℕ) (seat : Seat) (cell : Cell) (x : Content) (next : Then) → Within s code root input state h forked taken t run c seat (Store cell x next) → IsNoRestart cell
+  pub stores_no_restart : (c : ℕ) (seat : Seat) (cell : Cell) (x : Content) (next : Then) → Within s code root input state h forked taken [] t (halves run) c seat (Store cell x next) → IsNoRestart cell
   stores_no_restart c seat cell x next w = by w.seen
     where
       by : HasSeen s (spots.with_restarts (spots.view s state.words) (spots.kinds s state.words) (spots.bottoms s state.words)) seat (Store cell x next) → IsNoRestart cell
       by (Strand is quiet) = quiet_restart cell quiet.0
       by (Looks v ws fit is saw) = (row_fair c seat (Store cell x next) w v ws fit is).0.0
 
-  pub exchanges_no_carry : (c : ℕ) (seat : Seat) (cell : Cell) (old new : Content) (next : Then) → Within s code root input state h forked taken t run c seat (Exchange cell old new next) → IsNoCarry cell
+  pub exchanges_no_carry : (c : ℕ) (seat : Seat) (cell : Cell) (old new : Content) (next : Then) → Within s code root input state h forked taken [] t (halves run) c seat (Exchange cell old new next) → IsNoCarry cell
   exchanges_no_carry c seat cell old new next w = (changing c seat cell old new next w).2
 
-  pub stores_no_carry : (c : ℕ) (seat : Seat) (cell : Cell) (x : Content) (next : Then) → Within s code root input state h forked taken t run c seat (Store cell x next) → IsNoCarry cell
+  pub stores_no_carry : (c : ℕ) (seat : Seat) (cell : Cell) (x : Content) (next : Then) → Within s code root input state h forked taken [] t (halves run) c seat (Store cell x next) → IsNoCarry cell
   stores_no_carry c seat cell x next w = by w.seen
     where
       by : HasSeen s (spots.with_restarts (spots.view s state.words) (spots.kinds s state.words) (spots.bottoms s state.words)) seat (Store cell x next) → IsNoCarry cell
@@ -500,7 +500,7 @@ module _ (s : Shape) (code : CodeParts) (places : s.takeover ≡ ByPlaces) (fair
   abbrev Made : Cell → Content → Type 0
   Made cell old = (v j t0 x : ℕ) → cell ≡ EntryWord v j → old ≡ AnEntry (entries.Job t0 x) → fate x ≡ fates.Offered
 
-  entry_made : (may : May) (none : (x : ℕ) → may.jobs x → ⊥) (p v j : ℕ) (old new : Content) → Made (EntryWord v j) old → TameTrade may (EntryWord v j) new → Agree t (by_words p (spots.spot (spots.reading_by new) (EntryWord v j)) (spots.word_as old) (spots.word_as new) h)
+  entry_made : (may : May) (none : (x : ℕ) → may.jobs x → ⊥) (p v j : ℕ) (old new : Content) → Made (EntryWord v j) old → TameTrade s.takeover may (EntryWord v j) new → Agree t (by_words p (spots.spot (spots.reading_by new) (EntryWord v j)) (spots.word_as old) (spots.word_as new) h)
   entry_made may none p v j old (AnEntry (entries.Job t0 x)) made nj = absurd (none x nj)
   entry_made may none p v j (AnEntry (entries.Job t1 y)) (AnEntry (entries.Taken t0 x)) made nj = still y (Stolen p) (λ q e. cc) (sym (made v j t1 y refl refl))
   entry_made may none p v j (AnEntry (entries.Job t1 y)) (AnEntry (entries.Local t0 x)) made nj = still y (Popping p) (λ q e. cc) (sym (made v j t1 y refl refl))
@@ -511,10 +511,10 @@ module _ (s : Shape) (code : CodeParts) (places : s.takeover ≡ ByPlaces) (fair
   entry_or _ = inr tt
 
   abbrev In : (own p b : ℕ) → RestartKind → ℕ → Row → Type 0
-  In own p b k c row = Within s code root input state h forked taken t run c (kind_seat own p k b) row
+  In own p b k c row = Within s code root input state h forked taken [] t (halves run) c (kind_seat own p k b) row
 
   -- an exchange that makes no job
-  trade_agree : (may : May) (none : (x : ℕ) → may.jobs x → ⊥) (own p b : ℕ) (k : RestartKind) (c : ℕ) (cell : Cell) (old new : Content) (next : Then) → In own p b k c (Exchange cell old new next) → TameTrade may cell new → Agree t (by_row s state.words (kind_seat own p k b) (Exchange cell old new next) h)
+  trade_agree : (may : May) (none : (x : ℕ) → may.jobs x → ⊥) (own p b : ℕ) (k : RestartKind) (c : ℕ) (cell : Cell) (old new : Content) (next : Then) → In own p b k c (Exchange cell old new next) → TameTrade s.takeover may cell new → Agree t (by_row s state.words (kind_seat own p k b) (Exchange cell old new next) h)
   trade_agree may none own p b k c cell old new next w nj = by (read s state.words cell == word_of old) refl
     where
       done : read s state.words cell ≡ word_of old → ((a : ℕ) × (j : ℕ) × (cell ≡ EntryWord a j)) ⊎ IsNoEntry cell → Agree t (by_words p (spots.spot (spots.reading_by new) cell) (spots.word_as old) (spots.word_as new) h)
@@ -529,7 +529,7 @@ module _ (s : Shape) (code : CodeParts) (places : s.takeover ≡ ByPlaces) (fair
           job_offered v j t0 x (subst (λ (x : Cell). is_there s x ≡ true) two here)
           (changed_fit s.takeover v j (entries.Job t0 x) new (subst₂ (λ (x : Cell) (y : Content). MayChange s.takeover x y new) two oe change))
           (subst₂ (λ (x : Cell) (y : Content). read s state.words x ≡ word_of y) two oe is))
-          (subst (λ (x : Cell). TameTrade may x new) at.2 nj))
+          (subst (λ (x : Cell). TameTrade s.takeover may x new) at.2 nj))
 
       by : (y : Bool) → (read s state.words cell == word_of old) ≡ y → Agree t (if y then by_words p (spots.spot (spots.reading_by new) cell) (spots.word_as old) (spots.word_as new) h else h)
       by true e = done (eqb-true (read s state.words cell) (word_of old) e) (entry_or cell)
@@ -547,7 +547,7 @@ module _ (s : Shape) (code : CodeParts) (places : s.takeover ≡ ByPlaces) (fair
   absurd_job x e = e
 
   -- where a row ends without a fork or a begin
-  end_same : (own p b : ℕ) (k : RestartKind) (next : Then) → ((re : Restart) → home_install p k re.kind h ≡ h) → TameThen calm next → by_row s state.words (kind_seat own p k b) (Now next) h ≡ h
+  end_same : (own p b : ℕ) (k : RestartKind) (next : Then) → ((re : Restart) → home_install p k re.kind h ≡ h) → TameThen s.takeover calm next → by_row s state.words (kind_seat own p k b) (Now next) h ≡ h
   end_same own p b k (Load x) f q = refl
   end_same own p b k (Install re) f q = f re
   end_same own p b k (Fork x) f q = absurd q
@@ -573,7 +573,7 @@ module _ (s : Shape) (code : CodeParts) (places : s.takeover ≡ ByPlaces) (fair
   unborn : (c : ℕ) (seat : Seat) (x : ℕ) → stand_of state c ≡ IsWithin seat (Now (Fork x)) → h x ≡ Unborn
   unborn c seat x e = elim (home_or (h x)) [
     | inl is ↦ is
-    | inr ne ↦ absurd (let a = sym (run.lawful.1.counts.listed x ne) ∙ forks_new s code places fair root input state h forked taken t run c seat x e in cc)
+    | inr ne ↦ absurd (let a = sym (run.lawful.1.counts.listed x ne) ∙ forks_new s code fair root input state h forked taken [] t (halves run) run.agrees c seat x e in cc)
   ]
 
   unborn_held : (x : ℕ) → h x ≡ Unborn → HasUnrun Held x t → ⊥
@@ -583,9 +583,9 @@ module _ (s : Shape) (code : CodeParts) (places : s.takeover ≡ ByPlaces) (fair
   ]
 
   bump_row : (own p b r c : ℕ) (row : Row) → At own p b (Bump r) c row → In own p b (Bump r) c row → Goal own p b (Bump r) row
-  bump_row own p b r c row e w = by row e w (reached s code places fair root input state h forked taken t run (calm_forks r) (seat_at p (Bump r) w.does.0) w.does.1 (row_of s (seat_at p (Bump r) w.does.0) (Bump r)) row refl w.does.2)
+  bump_row own p b r c row e w = by row e w (reached s code fair root input state h forked taken [] t (halves run) run.agrees (calm_forks r) (seat_at p (Bump r) w.does.0) w.does.1 (row_of s (seat_at p (Bump r) w.does.0) (Bump r)) row refl w.does.2)
     where
-      by : (row : Row) → At own p b (Bump r) c row → In own p b (Bump r) c row → TameRow (calm_forks r) row → Goal own p b (Bump r) row
+      by : (row : Row) → At own p b (Bump r) c row → In own p b (Bump r) c row → TameRow s.takeover (calm_forks r) row → Goal own p b (Bump r) row
       by (Now (Fork x)) e w q = moved_here x (Pushing p) (λ q k held. unborn_held x (unborn c (kind_seat own p (Bump r) b) x e) held)
           (fates_moved t x (Pushing p) ((stay t x).forks ((fates_show i fair root input z t law fate run.agrees).forks p r x w.kind w.doing) (ap fate_of (unborn c (kind_seat own p (Bump r) b) x e))))
       by (Now (Begin x f y)) e w q = absurd q
@@ -599,28 +599,28 @@ module _ (s : Shape) (code : CodeParts) (places : s.takeover ≡ ByPlaces) (fair
       by (Exchange cell old new next) e w q = absurd (bump_exchanges_none i fair root input z t law p w.place r w.kind cell old new next w.doing)
 
   unwind_row : (own p b f c : ℕ) (row : Row) → In own p b (Unwind f) c row → Goal own p b (Unwind f) row
-  unwind_row own p b f c row w = by row w (reached s code places fair root input state h forked taken t run calm (seat_at p (Unwind f) w.does.0) w.does.1 (row_of s (seat_at p (Unwind f) w.does.0) (Unwind f)) row (λ a. tt) w.does.2)
+  unwind_row own p b f c row w = by row w (reached s code fair root input state h forked taken [] t (halves run) run.agrees calm (seat_at p (Unwind f) w.does.0) w.does.1 (row_of s (seat_at p (Unwind f) w.does.0) (Unwind f)) row (λ a. tt) w.does.2)
     where
-      by : (row : Row) → In own p b (Unwind f) c row → TameRow calm row → Goal own p b (Unwind f) row
+      by : (row : Row) → In own p b (Unwind f) c row → TameRow s.takeover calm row → Goal own p b (Unwind f) row
       by (Now next) w q = with_homes (by_unwind p (kind_then next) t) _ (end_same own p b (Unwind f) next (λ re. refl) q) (same (by_unwind p (kind_then next) t) ((unruns p).unwinds (kind_then next)))
       by (Store cell content next) w q = here
       by (Exchange cell old new next) w q = with_homes t _ (trade_same own p b (Unwind f) cell old new next (framed s cell ((unwind_row_keeps i fair root input z t law p w.place f w.kind).exchange_cells cell old new next w.doing))) here
 
   arrive_row : (own p b r : ℕ) (d : Side) (c : ℕ) (row : Row) → In own p b (Arrive r d) c row → Goal own p b (Arrive r d) row
-  arrive_row own p b r d c row w = by row w (reached s code places fair root input state h forked taken t run calm (seat_at p (Arrive r d) w.does.0) w.does.1 (row_of s (seat_at p (Arrive r d) w.does.0) (Arrive r d)) row (tt, tt) w.does.2)
+  arrive_row own p b r d c row w = by row w (reached s code fair root input state h forked taken [] t (halves run) run.agrees calm (seat_at p (Arrive r d) w.does.0) w.does.1 (row_of s (seat_at p (Arrive r d) w.does.0) (Arrive r d)) row (tt, tt) w.does.2)
     where
-      by : (row : Row) → In own p b (Arrive r d) c row → TameRow calm row → Goal own p b (Arrive r d) row
+      by : (row : Row) → In own p b (Arrive r d) c row → TameRow s.takeover calm row → Goal own p b (Arrive r d) row
       by (Now next) w q = with_homes t _ (end_same own p b (Arrive r d) next (λ re. refl) q) here
       by (Store cell content next) w q = here
       by (Exchange cell old new next) w q = with_homes (by_arrive z.words p r t) _ (trade_same own p b (Arrive r d) cell old new next (framed s cell ((arrive_row_keeps i fair root input z t law p w.place r d w.kind).cells cell old new next w.doing))) (same (by_arrive z.words p r t) ((unruns p).arrives r))
 
   join_row : (own p b r : ℕ) (d : Side) (c : ℕ) (row : Row) → In own p b (Join r d) c row → Goal own p b (Join r d) row
   join_row own p b r d c row w = by row w (elim w.does [
-    | inl u ↦ reached s code places fair root input state h forked taken t run calm_begins (seat_at p (Join r d) u.0) u.1 (row_of s (seat_at p (Join r d) u.0) (Join r d)) row (tt, λ a. tt) u.2
-    | inr g ↦ subst (TameRow calm_begins) (sym g.is) tt
+    | inl u ↦ reached s code fair root input state h forked taken [] t (halves run) run.agrees calm_begins (seat_at p (Join r d) u.0) u.1 (row_of s (seat_at p (Join r d) u.0) (Join r d)) row (tt, λ a. tt) u.2
+    | inr g ↦ subst (TameRow s.takeover calm_begins) (sym g.is) tt
   ])
     where
-      by : (row : Row) → In own p b (Join r d) c row → TameRow calm_begins row → Goal own p b (Join r d) row
+      by : (row : Row) → In own p b (Join r d) c row → TameRow s.takeover calm_begins row → Goal own p b (Join r d) row
       by (Now (Fork x)) w q = absurd q
       by (Now (Begin x f y)) w q =
           let a = (unruns p).begins r d x f y w.kind w.doing in
@@ -667,13 +667,13 @@ module _ (s : Shape) (code : CodeParts) (places : s.takeover ≡ ByPlaces) (fair
       by (Looks v ws fit is saw) = subst (PushesSo p b r) is (push2_so s (kind_seat own p (Push2 r) b) v r ws)
 
   push1_row : (own p b r c : ℕ) (row : Row) → In own p b (Push1 r) c row → Goal own p b (Push1 r) row
-  push1_row own p b r c row w = by row w (looked s code places fair root input state h forked taken t run calm c (kind_seat own p (Push1 r) b) row (Push1 r) tt refl (push_row s code places fair root input state h forked taken t run calm (kind_seat own p (Push1 r) b) r tt) w)
+  push1_row own p b r c row w = by row w (looked s code fair root input state h forked taken [] t (halves run) run.agrees calm c (kind_seat own p (Push1 r) b) row (Push1 r) tt refl (push_row s code fair root input state h forked taken [] t (halves run) run.agrees calm (kind_seat own p (Push1 r) b) r tt) w)
     where
       install : (k : RestartKind) (low : ℕ) → In own p b (Push1 r) c (Now (Install (record { kind = k; bottom = low }))) → Agree t (home_install p (Push1 r) k h)
       install (Run f y) low w = moved_here r Inline (λ q e held. cc) (fates_moved t r Inline ((stay t r).leaves (run.ready p r f y low w.kind w.doing)))
       install _ low w = here
 
-      by : (row : Row) → In own p b (Push1 r) c row → TameRow calm row → Goal own p b (Push1 r) row
+      by : (row : Row) → In own p b (Push1 r) c row → TameRow s.takeover calm row → Goal own p b (Push1 r) row
       by (Now (Fork x)) w q = absurd q
       by (Now (Begin x f y)) w q = absurd q
       by (Now (Install re)) w q = install re.kind re.bottom w
@@ -739,9 +739,9 @@ module _ (s : Shape) (code : CodeParts) (places : s.takeover ≡ ByPlaces) (fair
       by false e = here
 
   push2_row : (own p b r c : ℕ) (row : Row) → In own p b (Push2 r) c row → Goal own p b (Push2 r) row
-  push2_row own p b r c row w = by row w (looked s code places fair root input state h forked taken t run (calm_jobs r) c (kind_seat own p (Push2 r) b) row (Push2 r) tt refl refl w)
+  push2_row own p b r c row w = by row w (looked s code fair root input state h forked taken [] t (halves run) run.agrees (calm_jobs r) c (kind_seat own p (Push2 r) b) row (Push2 r) tt refl refl w)
     where
-      by : (row : Row) → In own p b (Push2 r) c row → TameRow (calm_jobs r) row → Goal own p b (Push2 r) row
+      by : (row : Row) → In own p b (Push2 r) c row → TameRow s.takeover (calm_jobs r) row → Goal own p b (Push2 r) row
       by (Now (Fork x)) w q = absurd q
       by (Now (Begin x f y)) w q = absurd q
       by (Now (Install re)) w q = here
@@ -754,7 +754,7 @@ module _ (s : Shape) (code : CodeParts) (places : s.takeover ≡ ByPlaces) (fair
       by (Exchange cell old new next) w q = push2_trade own p b r c cell old new next w
 
   -- kinds that only look for work
-  plain_row : (own p b : ℕ) (k : RestartKind) (c : ℕ) (row : Row) → In own p b k c row → TameRow calm row → by_store p k t ≡ t → ((y : Bool) → by_exchange z.words p k y t ≡ t) → ((next : Then) → by_end p k next t ≡ t) → ((re : Restart) → home_install p k re.kind h ≡ h)
+  plain_row : (own p b : ℕ) (k : RestartKind) (c : ℕ) (row : Row) → In own p b k c row → TameRow s.takeover calm row → by_store p k t ≡ t → ((y : Bool) → by_exchange z.words p k y t ≡ t) → ((next : Then) → by_end p k next t ≡ t) → ((re : Restart) → home_install p k re.kind h ≡ h)
       → Goal own p b k row
   plain_row own p b k c (Now next) w q st ex en inst = subst (λ (u : Skeleton). Agree u (by_row s state.words (kind_seat own p k b) (Now next) h)) (sym (en next)) (with_homes t _ (end_same own p b k next inst q) here)
   plain_row own p b k c (Store cell content next) w q st ex en inst = subst (λ (u : Skeleton). Agree u h) (sym st) here
@@ -765,9 +765,9 @@ module _ (s : Shape) (code : CodeParts) (places : s.takeover ≡ ByPlaces) (fair
   take_begin p r f y taker doing = let one = (unruns p).takes r f (law.aims p r f y taker doing) in moved (take_in r p t) r Begun (Is Waiting) IsNone (λ q e. cc) (λ e. e) one ((stay (take_in r p t) r).takes one)
 
   pop2_row : (own p b q c : ℕ) (row : Row) → In own p b (Pop2 q) c row → Goal own p b (Pop2 q) row
-  pop2_row own p b q c row w = by row w (looked s code places fair root input state h forked taken t run calm_begins c (kind_seat own p (Pop2 q) b) row (Pop2 q) tt refl tt w)
+  pop2_row own p b q c row w = by row w (looked s code fair root input state h forked taken [] t (halves run) run.agrees calm_begins c (kind_seat own p (Pop2 q) b) row (Pop2 q) tt refl tt w)
     where
-      by : (row : Row) → In own p b (Pop2 q) c row → TameRow calm_begins row → Goal own p b (Pop2 q) row
+      by : (row : Row) → In own p b (Pop2 q) c row → TameRow s.takeover calm_begins row → Goal own p b (Pop2 q) row
       by (Now (Fork x)) w l = absurd l
       by (Now (Begin x f y)) w l = take_begin p x f y (ap is_taker w.kind) w.doing
       by (Now (Install re)) w l = here
@@ -780,7 +780,7 @@ module _ (s : Shape) (code : CodeParts) (places : s.takeover ≡ ByPlaces) (fair
       by (Exchange cell old new next) w l = trade_agree calm_begins absurd_job own p b (Pop2 q) c cell old new next w l.0
 
   check_row : (own p b v y c : ℕ) (row : Row) → In own p b (Check v y) c row → Goal own p b (Check v y) row
-  check_row own p b v y c row w = by row w (looked s code places fair root input state h forked taken t run calm_begins c (kind_seat own p (Check v y) b) row (Check v y) tt refl (λ r. tt) w)
+  check_row own p b v y c row w = by row w (looked s code fair root input state h forked taken [] t (halves run) run.agrees calm_begins c (kind_seat own p (Check v y) b) row (Check v y) tt refl (λ r. tt, inl places) w)
     where
       idle_install : (k : RestartKind) → IsIdle k → home_install p (Check v y) k h ≡ h
       idle_install (Push1 r) idle = absurd idle
@@ -790,7 +790,7 @@ module _ (s : Shape) (code : CodeParts) (places : s.takeover ≡ ByPlaces) (fair
       looks row w = let came = came_idle s (kind_seat own p (Check v y) b) (Check v y) row tt (came_by s code places fair root input state h forked taken t run c (kind_seat own p (Check v y) b) row w) in
           comes_look s (kind_seat own p (Check v y) b) (Check v y) came.0 (row_of s (kind_seat own p (Check v y) b) (Check v y)) row (look_begins s (kind_seat own p (Check v y) b) (Check v y) tt) came.1
 
-      by : (row : Row) → In own p b (Check v y) c row → TameRow calm_begins row → Goal own p b (Check v y) row
+      by : (row : Row) → In own p b (Check v y) c row → TameRow s.takeover calm_begins row → Goal own p b (Check v y) row
       by (Now (Fork x)) w l = absurd l
       by (Now (Begin x f n)) w l = take_begin p x f n (ap is_taker w.kind) w.doing
       by (Now (Install re)) w l = elim (looks (Now (Install re)) w) [
@@ -862,13 +862,13 @@ module _ (s : Shape) (code : CodeParts) (places : s.takeover ≡ ByPlaces) (fair
   row_agree own p b (Unwind f) c row e w = unwind_row own p b f c row w
   row_agree own p b (Arrive r d) c row e w = arrive_row own p b r d c row w
   row_agree own p b (Join r d) c row e w = join_row own p b r d c row w
-  row_agree own p b Pop1 c row e w = plain_row own p b Pop1 c row w (looked s code places fair root input state h forked taken t run calm c (kind_seat own p Pop1 b) row Pop1 tt refl tt w) refl (λ y. refl) (λ n. refl) (λ re. refl)
+  row_agree own p b Pop1 c row e w = plain_row own p b Pop1 c row w (looked s code fair root input state h forked taken [] t (halves run) run.agrees calm c (kind_seat own p Pop1 b) row Pop1 tt refl tt w) refl (λ y. refl) (λ n. refl) (λ re. refl)
   row_agree own p b (Pop2 q) c row e w = pop2_row own p b q c row w
-  row_agree own p b Seek c row e w = plain_row own p b Seek c row w (looked s code places fair root input state h forked taken t run calm c (kind_seat own p Seek b) row Seek tt refl tt w) refl (λ y. refl) (λ n. refl) (λ re. refl)
-  row_agree own p b (Steal v x) c row e w = plain_row own p b (Steal v x) c row w (looked s code places fair root input state h forked taken t run calm c (kind_seat own p (Steal v x) b) row (Steal v x) tt refl tt w) refl (λ y. refl) (λ n. refl) (λ re. refl)
+  row_agree own p b Seek c row e w = plain_row own p b Seek c row w (looked s code fair root input state h forked taken [] t (halves run) run.agrees calm c (kind_seat own p Seek b) row Seek tt refl tt w) refl (λ y. refl) (λ n. refl) (λ re. refl)
+  row_agree own p b (Steal v x) c row e w = plain_row own p b (Steal v x) c row w (looked s code fair root input state h forked taken [] t (halves run) run.agrees calm c (kind_seat own p (Steal v x) b) row (Steal v x) tt refl tt w) refl (λ y. refl) (λ n. refl) (λ re. refl)
   row_agree own p b (Check v x) c row e w = check_row own p b v x c row w
-  row_agree own p b (Take v x) c row e w = plain_row own p b (Take v x) c row w (looked s code places fair root input state h forked taken t run calm c (kind_seat own p (Take v x) b) row (Take v x) tt refl (places_row s.takeover calm _ tt) w) refl (λ y. refl) (λ n. refl) (λ re. refl)
-  row_agree own p b (Take2 v) c row e w = plain_row own p b (Take2 v) c row w (looked s code places fair root input state h forked taken t run calm c (kind_seat own p (Take2 v) b) row (Take2 v) tt refl (places_row s.takeover calm _ tt) w) refl (λ y. refl) (λ n. refl) (λ re. refl)
+  row_agree own p b (Take v x) c row e w = plain_row own p b (Take v x) c row w (looked s code fair root input state h forked taken [] t (halves run) run.agrees calm c (kind_seat own p (Take v x) b) row (Take v x) tt refl (places_row s.takeover s.takeover calm _ tt) w) refl (λ y. refl) (λ n. refl) (λ re. refl)
+  row_agree own p b (Take2 v) c row e w = plain_row own p b (Take2 v) c row w (looked s code fair root input state h forked taken [] t (halves run) run.agrees calm c (kind_seat own p (Take2 v) b) row (Take2 v) tt refl (places_row s.takeover s.takeover calm _ tt) w) refl (λ y. refl) (λ n. refl) (λ re. refl)
 
   -- a turn, and what is kept behind it
   module _ (c : ℕ) (act : Act) (among : IsTurnAmong s.processors (record { processor = c; act = act })) (after : IsKept i root input (places_of s (happens s code state (record { processor = c; act = act }))) (tree_after i state (record { processor = c; act = act }) t)) where

@@ -12,7 +12,7 @@ use Rattle.ppm_runs.specs.Laws.{BirthsFollow}
 use Rattle.ppm_runs.proofs.GoingLemmas.{acts_so}
 
 -- blocks that come to a list
-with_same : (l f : List ℕ) (x : ℕ) → with_blocks l (has f) x ≡ has (l ++ f) x
+pub with_same : (l f : List ℕ) (x : ℕ) → with_blocks l (has f) x ≡ has (l ++ f) x
 with_same [] f x = refl
 with_same (r ∷ l) f x = ap (λ (b : Bool). if r == x then true else b) (with_same l f x)
 

@@ -43,12 +43,12 @@ use Rattle.ppm_kept.proofs.FateLemmas.{fates_show}
 use Rattle.ppm_runs.specs.Run.{image, fate_of, IsRun}
 use Rattle.ppm_runs.specs.Laws.{IsTakers, RunsGoOn, TurnsGoOn}
 use Rattle.ppm_runs.proofs.StandLemmas.{kinds_same}
-use Rattle.ppm_runs.proofs.ShownLemmas.{Within, within, runs, holds}
+use Rattle.ppm_runs.proofs.ShownLemmas.{halves, Within, within, runs, holds}
 use Rattle.ppm_runs.proofs.OrderlyLemmas.{turns_are_orderly}
 use Rattle.ppm_runs.proofs.TakerLemmas.{takers_have}
 
 -- what is left of a row by the words that were found is what it has come to
-comes_of : (s : Shape) (seat : Seat) (v : ℕ) (row rest : Row) (ws : List Word) → row_is_there s seat rest ≡ true → rest_of s seat v row ws ≡ rest → Comes s seat (length ws) row rest
+pub comes_of : (s : Shape) (seat : Seat) (v : ℕ) (row rest : Row) (ws : List Word) → row_is_there s seat rest ≡ true → rest_of s seat v row ws ≡ rest → Comes s seat (length ws) row rest
 comes_of s seat v row rest [] there e = e
 comes_of s seat v (Now (Load point)) rest (w ∷ ws) there e = (v, content_by w, comes_of s seat v (found_at s seat v point (content_by w)) rest ws there e)
 comes_of s seat v (Now (Install re)) rest (w ∷ ws) there e = absurd (let z = ap (row_is_there s seat) e ∙ there in cc)
@@ -123,7 +123,7 @@ module _ (s : Shape) (code : CodeParts) (places : s.takeover ≡ ByPlaces) (fair
   i = image s code
 
   abbrev In : ℕ → Seat → Row → Type 0
-  In c seat row = Within s code root input state h forked taken t run c seat row
+  In c seat row = Within s code root input state h forked taken [] t (halves run) c seat row
 
   pub came_by : (c : ℕ) (seat : Seat) (row : Row) → In c seat row → CameBy s seat seat.restart.kind row
   came_by c seat row w = by seat.restart.kind refl w.seen
@@ -155,7 +155,7 @@ module _ (s : Shape) (code : CodeParts) (places : s.takeover ≡ ByPlaces) (fair
       let have = takers_have s code places state h forked taken run.lawful in
       let own = taker_of seat.place seat.restart.kind (h r) taker (have.begins c seat r f b e) in
       let d = doer (stand_of state) q (Now (Begin r f' b')) s.processors does in
-      let w = within s code root input state h forked taken t run d.processor d.seat (Now (Begin r f' b')) d.stand in
+      let w = within s code root input state h forked taken [] t (halves run) d.processor d.seat (Now (Begin r f' b')) d.stand in
       let kind : is_taker d.seat.restart.kind ≡ true = ap is_taker (sym w.kind) ∙ ap (λ (z : ℕ). is_taker ((places_of s state).kind z)) d.place ∙ other in
       let its = taker_of d.seat.place d.seat.restart.kind (h r) kind (have.begins d.processor d.seat r f' b' d.stand) in
       ne (sym d.place ∙ sym its.1 ∙ own.1)
@@ -171,13 +171,13 @@ module _ (s : Shape) (code : CodeParts) (places : s.takeover ≡ ByPlaces) (fair
   stands_so c (IsPlaced p) e = tt
   stands_so c (IsAt p restart) e =
       let sees = subst (Sees s (spots.view s state.words) (spots.kinds s state.words) (spots.bottoms s state.words) c) e (run.lawful.1.sees c) in
-      (holds s code root input state h forked taken t run c p sees.0 (subst (IsOf p) (sym e) tt), kind_if restart sees.1)
+      (holds s code root input state h forked taken [] t (halves run) c p sees.0 (subst (IsOf p) (sym e) tt), kind_if restart sees.1)
     where
       kind_if : (restart : Option Restart) → IsOfIf s (spots.view s state.words) (spots.kinds s state.words) (spots.bottoms s state.words) p restart → IsKindIf i state.words p restart
       kind_if None a = tt
       kind_if (Some r) a = kinds_same s state.words p ∙ a.kind
   stands_so c (IsWithin seat row) e =
-      let w = within s code root input state h forked taken t run c seat row e in
+      let w = within s code root input state h forked taken [] t (halves run) c seat row e in
       record {
         holds = w.holds;
         own = subst (λ (z : ℕ). z < s.processors) (sym w.sits.own) w.sits.carried.lives.there;
@@ -186,13 +186,13 @@ module _ (s : Shape) (code : CodeParts) (places : s.takeover ≡ ByPlaces) (fair
         came = came_by c seat row w;
         takes = takes_so c seat row e;
       }
-  stands_so c (IsRunning seat rest) e = let w = runs s code root input state h forked taken t run c seat rest e in record { holds = w.holds; kind = w.kind; there = w.here }
+  stands_so c (IsRunning seat rest) e = let w = runs s code root input state h forked taken [] t (halves run) c seat rest e in record { holds = w.holds; kind = w.kind; there = w.here }
   stands_so c (IsBroken p) e = run.broken c p e
   stands_so c IsDone e = tt
 
   leaves_so : (c : ℕ) (x : Standing) → stand_of state c ≡ x → LeavesSo s state c x
-  leaves_so c (IsWithin seat row) e = (within s code root input state h forked taken t run c seat row e).holds
-  leaves_so c (IsRunning seat rest) e = (runs s code root input state h forked taken t run c seat rest e).holds
+  leaves_so c (IsWithin seat row) e = (within s code root input state h forked taken [] t (halves run) c seat row e).holds
+  leaves_so c (IsRunning seat rest) e = (runs s code root input state h forked taken [] t (halves run) c seat rest e).holds
   leaves_so c IsLost e = tt
   leaves_so c (IsPlaced p) e = tt
   leaves_so c (IsAt p restart) e = tt

@@ -1,5 +1,5 @@
 -- What joins the halves of a run's state does so again behind a turn, with takeover by places.
-use Rattle.std.proofs.Common.{◌≡◌, ◌≢◌, ◌⊎◌, ◌<◌, ℕ, zero, suc, ◌+◌, ◌==◌, Bool, true, false, if◌then◌else◌, List, ◌++◌, Option, Some, None, inl, inr, refl, sym, ap, ◌∙◌, subst}
+use Rattle.std.proofs.Common.{◌≡◌, ◌≢◌, ◌⊎◌, ◌<◌, ℕ, zero, suc, ◌+◌, ◌==◌, Bool, true, false, if◌then◌else◌, List, [], ◌++◌, Option, Some, None, inl, inr, refl, sym, ap, ◌∙◌, subst}
 use Rattle.std.specs.Prelude.{slice_index, slice_get, nat_lt}
 use Rattle.std.proofs.lemmas.Bool.{cases_eq}
 use Rattle.ppm_strands.specs.Tree.{Words, Tree}
@@ -66,7 +66,7 @@ use Rattle.ppm_runs.specs.Whole.{AreJoined, JoinsStay}
 use Rattle.ppm_runs.proofs.StandLemmas.{kinds_same}
 use Rattle.ppm_runs.proofs.TakerLemmas.{takers_have}
 use Rattle.ppm_runs.proofs.GoingLemmas.{Doer, doer, turns_go_on}
-use Rattle.ppm_runs.proofs.ShownLemmas.{Within, within, Runs, runs}
+use Rattle.ppm_runs.proofs.ShownLemmas.{halves, Within, within, Runs, runs}
 use Rattle.ppm_runs.proofs.OrderlyLemmas.{turns_are_orderly}
 use Rattle.ppm_runs.proofs.AgreeLemmas.{Agree, LastSo, push1_shape, not_both, here, same, unruns, row_agree, opens_agree, IsPush, IsNoRestart, quiet_restart, installs_low, exchanges_no_restart, stores_no_restart}
 
@@ -196,7 +196,7 @@ module _ (s : Shape) (code : CodeParts) (places : s.takeover ≡ ByPlaces) (fair
         ]
       ]
 
-  row_lows : (c v : ℕ) (seat : Seat) (row : Row) → stand_of state c ≡ IsWithin seat row → Within s code root input state h forked taken t run c seat row → Lows (words_after state.words (wanted_row s seat v row))
+  row_lows : (c v : ℕ) (seat : Seat) (row : Row) → stand_of state c ≡ IsWithin seat row → Within s code root input state h forked taken [] t (halves run) c seat row → Lows (words_after state.words (wanted_row s seat v row))
   row_lows c v seat (Now (Load x)) e w = λ q push. refl
   row_lows c v seat (Now (Enter x)) e w = λ q push. refl
   row_lows c v seat (Now Again) e w = λ q push. refl
@@ -215,7 +215,7 @@ module _ (s : Shape) (code : CodeParts) (places : s.takeover ≡ ByPlaces) (fair
       let pooled : IsPooled s cell = subst (IsPooledAt s) e ((turns_are_orderly s code places fair root input state h forked taken t run).pooled c) in
       if_low (read s state.words cell == word_of old) cell (word_of new) (cell_there s code cell w.here pooled) (exchanges_no_restart s code places fair root input state h forked taken t run c seat cell old new next w)
 
-  rest_lows : (c v : ℕ) (seat : Seat) (rest : Rest) → stand_of state c ≡ IsRunning seat rest → Runs s code root input state h forked taken t run c seat rest → Lows (words_after state.words (wanted_rest s seat rest))
+  rest_lows : (c v : ℕ) (seat : Seat) (rest : Rest) → stand_of state c ≡ IsRunning seat rest → Runs s code root input state h forked taken [] t (halves run) c seat rest → Lows (words_after state.words (wanted_rest s seat rest))
   rest_lows c v seat (Loads cell go) e w = λ q push. refl
   rest_lows c v seat Breaks e w = λ q push. refl
   rest_lows c v seat Full e w = if_low (slice_index state.words 0 == 0) FinishWord _ tt tt
@@ -228,8 +228,8 @@ module _ (s : Shape) (code : CodeParts) (places : s.takeover ≡ ByPlaces) (fair
       elsewhere cell (word_of content) (cell_there s code cell w.here pooled) (quiet_restart cell sees.2.0)
 
   step_lows : (c v : ℕ) (x : Standing) → stand_of state c ≡ x → Lows (acts s code state c (Step v) x).words
-  step_lows c v (IsWithin seat row) e = row_lows c v seat row e (within s code root input state h forked taken t run c seat row e)
-  step_lows c v (IsRunning seat rest) e = rest_lows c v seat rest e (runs s code root input state h forked taken t run c seat rest e)
+  step_lows c v (IsWithin seat row) e = row_lows c v seat row e (within s code root input state h forked taken [] t (halves run) c seat row e)
+  step_lows c v (IsRunning seat rest) e = rest_lows c v seat rest e (runs s code root input state h forked taken [] t (halves run) c seat rest e)
   step_lows c v (IsBroken p) e = if_low (slice_index state.words 0 == 0) FinishWord _ tt tt
   step_lows c v IsLost e = λ q push. refl
   step_lows c v (IsPlaced p) e = λ q push. refl
@@ -259,7 +259,7 @@ module _ (s : Shape) (code : CodeParts) (places : s.takeover ≡ ByPlaces) (fair
     still_here : A t h
     still_here = here s code places fair root input state h forked taken t run
 
-    installs_agree : (seat : Seat) (kind k : RestartKind) → seat.restart.kind ≡ k → stand_of state c ≡ IsRunning seat (Installs kind) → Runs s code root input state h forked taken t run c seat (Installs kind)
+    installs_agree : (seat : Seat) (kind k : RestartKind) → seat.restart.kind ≡ k → stand_of state c ≡ IsRunning seat (Installs kind) → Runs s code root input state h forked taken [] t (halves run) c seat (Installs kind)
         → Does (image s code) (places_of s state).words seat.place k (InRest (Installs kind)) → A (by_install (image s code) (places_of s state).words seat.place k kind t) h
     installs_agree seat (Bump r) (Run f y) ke e w d =
         let shown = ((turns_show s code state c).0 seat w.holds).1.installs v (Bump r) e w.here in
@@ -282,9 +282,9 @@ module _ (s : Shape) (code : CodeParts) (places : s.takeover ≡ ByPlaces) (fair
     installs_agree seat kind _ ke e w d = absurd d
 
     step_agree : (x : Standing) → stand_of state c ≡ x → A (tree_by (image s code) state.words x t) (by_standing s state.words x h)
-    step_agree (IsWithin seat row) e = row_agree s code places fair root input state h forked taken t run seat.own seat.place seat.restart.bottom seat.restart.kind c row e (within s code root input state h forked taken t run c seat row e)
+    step_agree (IsWithin seat row) e = row_agree s code places fair root input state h forked taken t run seat.own seat.place seat.restart.bottom seat.restart.kind c row e (within s code root input state h forked taken [] t (halves run) c seat row e)
     step_agree (IsRunning seat (Installs kind)) e =
-        let w = runs s code root input state h forked taken t run c seat (Installs kind) e in
+        let w = runs s code root input state h forked taken [] t (halves run) c seat (Installs kind) e in
         installs_agree seat kind seat.restart.kind refl e w (subst (λ (k : RestartKind). Does (image s code) (places_of s state).words seat.place k (InRest (Installs kind))) w.kind w.does)
     step_agree (IsRunning seat (Loads cell go)) e = still_here
     step_agree (IsRunning seat (Stores cell content rest)) e = still_here
@@ -320,7 +320,7 @@ module _ (s : Shape) (code : CodeParts) (places : s.takeover ≡ ByPlaces) (fair
     other_ready : (p r f y b : ℕ) (d : Doer (stand_of n) p (Now (Install (record { kind = Run f y; bottom = b })))) → d.processor ≢ c → (places_of s n).kind p ≡ Push1 r → HasUnrun Held r t
     other_ready p r f y b d ne ke =
         let before = sym (stand_else s code state c d.processor act (stand_of state c) ne) ∙ d.stand in
-        let w = within s code root input state h forked taken t run d.processor d.seat (Now (Install (record { kind = Run f y; bottom = b }))) before in
+        let w = within s code root input state h forked taken [] t (halves run) d.processor d.seat (Now (Install (record { kind = Run f y; bottom = b }))) before in
         run.ready p r f y b (ap (places_of s state).kind (sym d.place) ∙ w.kind ∙ seat_kind p r _ d ke) (ap (places_of s state).doing (sym d.place) ∙ w.doing)
 
     last_slot : (seat : Seat) (r f y b : ℕ) → stand_of n c ≡ IsWithin seat (Now (Install (record { kind = Run f y; bottom = b }))) → seat.restart.kind ≡ Push1 r → seat.restart.bottom + 1 ≡ s.slots
@@ -381,7 +381,7 @@ module _ (s : Shape) (code : CodeParts) (places : s.takeover ≡ ByPlaces) (fair
 
     at_last : (seat : Seat) (first : Row) → stand_of state c ≡ IsWithin seat first → seat ≡ seat' → LastSo first
     at_last seat first e is =
-        let w = within s code root input state h forked taken t run c seat first e in
+        let w = within s code root input state h forked taken [] t (halves run) c seat first e in
         let kind : seat.restart.kind ≡ Push1 r = ap (λ (o : Seat). o.restart.kind) is ∙ ke in
         elim (push1_shape s code places fair root input state h forked taken t run seat.own seat.place seat.restart.bottom r first (spots.with_restarts (spots.view s state.words) (spots.kinds s state.words) (spots.bottoms s state.words))
         (subst (λ (k : RestartKind). HasSeen s (spots.with_restarts (spots.view s state.words) (spots.kinds s state.words) (spots.bottoms s state.words)) (kind_seat seat.own seat.place k seat.restart.bottom) first) kind w.seen)) [
@@ -397,11 +397,11 @@ module _ (s : Shape) (code : CodeParts) (places : s.takeover ≡ ByPlaces) (fair
     row_held seat found (Now (Fork x)) e to = absurd (out _ tt to)
     row_held seat found (Now (Begin x l m)) e to = absurd (out _ tt to)
     row_held seat found (Now (Move x)) e to = absurd (out _ tt to)
-    row_held seat found (Now (Enter x)) e to = absurd (let w = (within s code root input state h forked taken t run c seat (Now (Enter x)) e).here in cc)
-    row_held seat found (Now Again) e to = absurd (let w = (within s code root input state h forked taken t run c seat (Now Again) e).here in cc)
-    row_held seat found (Now Broken) e to = absurd (let w = (within s code root input state h forked taken t run c seat (Now Broken) e).here in cc)
+    row_held seat found (Now (Enter x)) e to = absurd (let w = (within s code root input state h forked taken [] t (halves run) c seat (Now (Enter x)) e).here in cc)
+    row_held seat found (Now Again) e to = absurd (let w = (within s code root input state h forked taken [] t (halves run) c seat (Now Again) e).here in cc)
+    row_held seat found (Now Broken) e to = absurd (let w = (within s code root input state h forked taken [] t (halves run) c seat (Now Broken) e).here in cc)
     row_held seat found (Store cell content next) e to =
-        let w = within s code root input state h forked taken t run c seat (Store cell content next) e in
+        let w = within s code root input state h forked taken [] t (halves run) c seat (Store cell content next) e in
         let q = subst (SameRow seat (Now next)) to (then_same s code seat next) in
         let kind : seat.restart.kind ≡ Push1 r = ap (λ (o : Seat). o.restart.kind) q.0 ∙ ke in
         subst (λ (k : RestartKind). HasUnrun Held r (by_store seat.place k t)) (sym kind)

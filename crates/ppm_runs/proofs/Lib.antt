@@ -45,3 +45,5 @@ pub mod UnbrokenLemmas
 pub mod BegunLemmas
 pub mod WorkLemmas
 pub mod BoundLemmas
+pub mod FollowLemmas
+pub mod HalvesLemmas

@@ -1,12 +1,13 @@
 -- What a turn owes the tickets comes of the tree: each block word that it changes is one of a pool, a
 -- fork is a new one, and what is begun at a join was left to the strand of the left branch.
-use Rattle.std.proofs.Common.{◌≡◌, ◌⊎◌, ◌<◌, ℕ, ◌+◌, ◌==◌, Bool, true, false, List, inl, inr, refl, sym, ap, ◌∙◌, subst, arith}
+use Rattle.std.proofs.Common.{◌≡◌, ◌⊎◌, ◌<◌, ℕ, ◌+◌, ◌==◌, Bool, true, false, List, [], inl, inr, refl, sym, ap, ◌∙◌, subst, arith}
 use Rattle.std.proofs.lemmas.Bool.{cases_Bool}
 use Rattle.ppm_strands.specs.Tree.{Words, Tree}
 use Rattle.ppm_cells.specs.Cells.{IsInPool}
 use Rattle.ppm_cells.specs.declared.cell.Cell.{Cell}
 use Rattle.ppm_cells.specs.declared.cell.Cell.TheVariants.{FinishWord, CarryWord, DeadWord, RestartWord, MessageWord, HolderWord, Top, RoomCounter, EntryWord, BlockWord, ArrayWord}
 use Rattle.ppm_cells.specs.declared.link.LinkKind.TheVariants.{Root, Branch}
+use Rattle.ppm_cells.specs.declared.restart.Restart.{Restart}
 use Rattle.ppm_cells.specs.declared.restart.RestartKind.{RestartKind}
 use Rattle.ppm_cells.specs.declared.restart.RestartKind.TheVariants.{Run, Bump, Push1, Push2, Unwind, Arrive, Join, Pop1, Pop2, Seek, Steal, Check, Take, Take2}
 use Rattle.ppm_cells.specs.declared.shape.Shape.{Shape}
@@ -34,7 +35,7 @@ use Rattle.ppm_step.specs.declared.turn.Act.TheVariants.{Step, Soft, Hard, Quit}
 use Rattle.ppm_tickets.specs.Along.{IsPooled, IsJoined, IsInlined, IsOrderlyThen, IsOrderlyAt, IsOrderly}
 use Rattle.ppm_tickets.specs.Entries.{IsPooledAt}
 use Rattle.ppm_tickets.specs.Homes.{Home, Unborn, Pushing, Listed, Popping, Stolen, Inline, Begun}
-use Rattle.ppm_tickets.specs.Lawful.{Pushes, Carries}
+use Rattle.ppm_tickets.specs.Lawful.{Pushes, Carries, Stays}
 use Rattle.ppm_tickets.specs.Saw.{IsStrand, HasSeen, Strand, Looks}
 use Rattle.ppm_tickets.specs.View as spots
 use Rattle.ppm_tickets.specs.Words.{Word, Slot, has}
@@ -54,11 +55,16 @@ use Rattle.ppm_kept.proofs.OwnerLemmas.{owned}
 use Rattle.ppm_kept.specs.Fates.{ToPush}
 use Rattle.ppm_kept.specs.Fates as fates
 use Rattle.ppm_kept.proofs.FateLemmas.{fates_show}
-use Rattle.ppm_runs.specs.Run.{image, fate_of, IsRun}
+use Rattle.ppm_tickets.proofs.HeirRows.{heirs_see}
+use Rattle.ppm_kept.specs.Fates.{Agrees}
+use Rattle.ppm_kept.specs.Left.{Followed, left}
+use Rattle.ppm_kept.proofs.LeftLemmas.{kind_away}
+use Rattle.ppm_runs.specs.Run.{image, fate_of}
+use Rattle.ppm_runs.specs.Follow.{IsHalves, HalvesOwe}
 use Rattle.ppm_runs.specs.Laws.{Owes, TurnsAreOrderly}
 use Rattle.ppm_runs.proofs.TameLemmas.{May, TameRow, rest_tame, reach_tame}
 use Rattle.ppm_runs.proofs.StandLemmas.{kinds_same}
-use Rattle.ppm_runs.proofs.ShownLemmas.{cell_pooled, Within, within, Runs, runs, head_pool}
+use Rattle.ppm_runs.proofs.ShownLemmas.{cell_pooled, away, halves, Within, within, Runs, runs, head_pool}
 
 -- rows that load, which rows of no other sort are
 abbrev pub IsLoad : Row → Type 0
@@ -103,16 +109,22 @@ abbrev one_fork : ℕ → May
 one_fork b = record { forks = λ r. r ≡ b; begins = λ r. Unit {0}; stores = λ a. Unit {0}; trades = λ a. Unit {0}; jobs = λ r. Unit {0} }
 
 -- by how the takeover is
-pub places_row : (how : Takeover) (may : May) (row : Row) → TameRow may row → TameRow may (by_places how row)
-places_row ByPlaces may row q = q
-places_row ByEntries may row q = tt
+pub places_row : (t how : Takeover) (may : May) (row : Row) → TameRow t may row → TameRow t may (by_places how row)
+places_row t ByPlaces may row q = q
+places_row t ByEntries may row q = tt
 
-module _ (s : Shape) (code : CodeParts) (places : s.takeover ≡ ByPlaces) (fair : IsFair code) (root : Tree (Frame FrameWord Point) Result) (input : Words) (state : RunState) (h : ℕ → Home) (forked taken : List ℕ) (t : Skeleton) (run : IsRun s code root input state h forked taken t) where
+-- one of both
+how_or : (how : Takeover) → (how ≡ ByPlaces) ⊎ (how ≡ ByEntries)
+how_or ByPlaces = inl refl
+how_or ByEntries = inr refl
+
+module _ (s : Shape) (code : CodeParts) (fair : IsFair code) (root : Tree (Frame FrameWord Point) Result) (input : Words) (state : RunState) (h : ℕ → Home) (forked taken : List ℕ) (l : List Followed) (t : Skeleton)
+    (run : IsHalves s code root input state h forked taken l t) (agrees : Agrees t (λ r. fate_of (h r))) where
   abbrev i : Image
   i = image s code
 
   abbrev z : State
-  z = places_of s state
+  z = left i l (places_of s state)
 
   abbrev law : IsKept i root input z t
   law = run.kept
@@ -121,10 +133,10 @@ module _ (s : Shape) (code : CodeParts) (places : s.takeover ≡ ByPlaces) (fair
   m = z.words
 
   abbrev In : ℕ → Seat → Row → Type 0
-  In c seat row = Within s code root input state h forked taken t run c seat row
+  In c seat row = Within s code root input state h forked taken l t run c seat row
 
   -- what a row of a looking kind comes to
-  pub looked : (may : May) (c : ℕ) (seat : Seat) (row : Row) (k : RestartKind) → IsLooking k → seat.restart.kind ≡ k → TameRow may (row_of s seat k) → In c seat row → TameRow may row
+  pub looked : (may : May) (c : ℕ) (seat : Seat) (row : Row) (k : RestartKind) → IsLooking k → seat.restart.kind ≡ k → TameRow s.takeover may (row_of s seat k) → In c seat row → TameRow s.takeover may row
   looked may c seat row k look e q w = by w.seen
     where
       none : (k : RestartKind) → IsLooking k → IsStrand k → ⊥
@@ -139,27 +151,27 @@ module _ (s : Shape) (code : CodeParts) (places : s.takeover ≡ ByPlaces) (fair
       none (Take2 v) a x = x
       none _ a x = absurd a
 
-      by : HasSeen s (spots.with_restarts (spots.view s state.words) (spots.kinds s state.words) (spots.bottoms s state.words)) seat row → TameRow may row
+      by : HasSeen s (spots.with_restarts (spots.view s state.words) (spots.kinds s state.words) (spots.bottoms s state.words)) seat row → TameRow s.takeover may row
       by (Strand is quiet) = absurd (none k look (subst IsStrand e is))
-      by (Looks v ws fit is saw) = subst (TameRow may) is (rest_tame s places seat may v (row_of s seat seat.restart.kind) ws (subst (λ (a : RestartKind). TameRow may (row_of s seat a)) (sym e) q))
+      by (Looks v ws fit is saw) = subst (TameRow s.takeover may) is (rest_tame s seat may v (row_of s seat seat.restart.kind) ws (subst (λ (a : RestartKind). TameRow s.takeover may (row_of s seat a)) (sym e) q))
 
   -- what a strand's row comes to
-  pub reached : (may : May) (seat : Seat) (n : ℕ) (first rest : Row) → TameRow may first → Reach i m seat n first rest → TameRow may rest
-  reached may seat n first rest q e = reach_tame i places seat may m n first rest q e
+  pub reached : (may : May) (seat : Seat) (n : ℕ) (first rest : Row) → TameRow s.takeover may first → Reach i m seat n first rest → TameRow s.takeover may rest
+  reached may seat n first rest q e = reach_tame i seat may m n first rest q e
 
-  pub push_row : (may : May) (seat : Seat) (r : ℕ) → may.stores (r + 1) → TameRow may (row_of s seat (Push1 r))
+  pub push_row : (may : May) (seat : Seat) (r : ℕ) → may.stores (r + 1) → TameRow s.takeover may (row_of s seat (Push1 r))
   push_row may seat r q = by (seat.restart.bottom + 1 == s.slots) s.takeover
     where
-      by : (last : Bool) (how : Takeover) → TameRow may (push_at seat how r last)
+      by : (last : Bool) (how : Takeover) → TameRow s.takeover may (push_at seat how r last)
       by true how = (q, tt)
       by false ByPlaces = tt
       by false ByEntries = tt
 
   -- no row forks but Bump's, and that its own block
   module _ (c : ℕ) (seat : Seat) (block : ℕ) (w : In c seat (Now (Fork block))) where
-    fork_of : (k : RestartKind) → seat.restart.kind ≡ k → Does i m seat.place k (InRow (Now (Fork block))) → k ≡ Bump block
+    fork_of : (k : RestartKind) → seat.restart.kind ≡ k → Does i m seat.place k (InRow (Now (Fork block))) → (k ≡ Bump block) ⊎ ((v : ℕ) × (x : ℕ) × (s.takeover ≡ ByEntries) × (seat.restart.kind ≡ Check v x))
     fork_of (Run f y) e d = absurd (subst IsLoad (sym d) tt)
-    fork_of (Bump r) e d = ap Bump (sym (reached (one_fork r) (seat_at seat.place (Bump r) d.0) d.1 (row_of s (seat_at seat.place (Bump r) d.0) (Bump r)) (Now (Fork block)) refl d.2))
+    fork_of (Bump r) e d = inl (ap Bump (sym (reached (one_fork r) (seat_at seat.place (Bump r) d.0) d.1 (row_of s (seat_at seat.place (Bump r) d.0) (Bump r)) (Now (Fork block)) refl d.2)))
     fork_of (Unwind f) e d = absurd (reached no_forks (seat_at seat.place (Unwind f) d.0) d.1 (row_of s (seat_at seat.place (Unwind f) d.0) (Unwind f)) (Now (Fork block)) (λ a. tt) d.2)
     fork_of (Arrive r x) e d = absurd (reached no_forks (seat_at seat.place (Arrive r x) d.0) d.1 (row_of s (seat_at seat.place (Arrive r x) d.0) (Arrive r x)) (Now (Fork block)) (tt, tt) d.2)
     fork_of (Join r x) e d = elim d [
@@ -172,9 +184,12 @@ module _ (s : Shape) (code : CodeParts) (places : s.takeover ≡ ByPlaces) (fair
     fork_of (Pop2 r) e d = absurd (looked no_forks c seat (Now (Fork block)) (Pop2 r) tt e tt w)
     fork_of Seek e d = absurd (looked no_forks c seat (Now (Fork block)) Seek tt e tt w)
     fork_of (Steal v x) e d = absurd (looked no_forks c seat (Now (Fork block)) (Steal v x) tt e tt w)
-    fork_of (Check v x) e d = absurd (looked no_forks c seat (Now (Fork block)) (Check v x) tt e (λ r. tt) w)
-    fork_of (Take v x) e d = absurd (looked no_forks c seat (Now (Fork block)) (Take v x) tt e (places_row s.takeover no_forks _ tt) w)
-    fork_of (Take2 v) e d = absurd (looked no_forks c seat (Now (Fork block)) (Take2 v) tt e (places_row s.takeover no_forks _ tt) w)
+    fork_of (Check v x) e d = elim (how_or s.takeover) [
+      | inl places ↦ absurd (looked no_forks c seat (Now (Fork block)) (Check v x) tt e (λ r. tt, inl places) w)
+      | inr entries ↦ inr (v, x, entries, e)
+    ]
+    fork_of (Take v x) e d = absurd (looked no_forks c seat (Now (Fork block)) (Take v x) tt e (places_row s.takeover s.takeover no_forks _ tt) w)
+    fork_of (Take2 v) e d = absurd (looked no_forks c seat (Now (Fork block)) (Take2 v) tt e (places_row s.takeover s.takeover no_forks _ tt) w)
 
   -- a block that is built was not forked
   not_born : (p r : ℕ) → z.kind p ≡ Bump r → has forked r ≡ false
@@ -189,8 +204,13 @@ module _ (s : Shape) (code : CodeParts) (places : s.takeover ≡ ByPlaces) (fair
 
   pub forks_new : (c : ℕ) (seat : Seat) (block : ℕ) → stand_of state c ≡ IsWithin seat (Now (Fork block)) → has forked block ≡ false
   forks_new c seat block e =
-      let w = within s code root input state h forked taken t run c seat (Now (Fork block)) e in
-      not_born seat.place block (w.kind ∙ fork_of c seat block w seat.restart.kind refl w.does)
+      let w = within s code root input state h forked taken l t run c seat (Now (Fork block)) e in
+      elim (fork_of c seat block w seat.restart.kind refl w.does) [
+        | inl is ↦ not_born seat.place block (w.kind ∙ is)
+        | inr a ↦
+            let it = heirs_see s code a.2 state h forked taken run.lawful c seat (Now (Fork block)) a.0 a.1 e a.3 in
+            not_born it.0.place block (kind_away l (places_of s state).kind it.0.place (away l run.lawful.1.board.gone it.0.place run.gone it.0.stays) ∙ kinds_same s state.words it.0.place ∙ it.1)
+      ]
 
   -- a place that pushes the fork of a block has the strand of its left branch
   record PushedBy (r : ℕ) : Type 0 where
@@ -223,9 +243,11 @@ module _ (s : Shape) (code : CodeParts) (places : s.takeover ≡ ByPlaces) (fair
   pushing_kind r q e =
       let estate = run.lawful.1.board in
       let real = estate.board.real r in
+      let stays : estate.gone q ≡ false = subst (Stays estate.gone) e (estate.board.stays r) in
+      let same : z.kind q ≡ spots.kinds s state.words q = kind_away l (places_of s state).kind q (away l estate.gone q run.gone stays) ∙ kinds_same s state.words q in
       elim (by (spots.kinds s state.words q) (estate.ghost (Slot q (spots.bottoms s state.words q))) (subst (λ (x : Home). Carries estate.ghost (spots.kinds s state.words) (spots.bottoms s state.words) x r) e real)) [
-        | inl a ↦ inl (kinds_same s state.words q ∙ a)
-        | inr a ↦ inr (kinds_same s state.words q ∙ a)
+        | inl a ↦ inl (same ∙ a)
+        | inr a ↦ inr (same ∙ a)
       ]
     where
       by : (k : RestartKind) (w : Word) → Pushes k w r → (k ≡ Push1 r) ⊎ (k ≡ Push2 r)
@@ -255,12 +277,12 @@ module _ (s : Shape) (code : CodeParts) (places : s.takeover ≡ ByPlaces) (fair
 
   pub joins_inline : (c : ℕ) (seat : Seat) (block frame bottom : ℕ) → stand_of state c ≡ IsWithin seat (Now (Begin block frame bottom)) → IsJoined seat.restart.kind (h block)
   joins_inline c seat block frame bottom e =
-      let w = within s code root input state h forked taken t run c seat (Now (Begin block frame bottom)) e in
+      let w = within s code root input state h forked taken l t run c seat (Now (Begin block frame bottom)) e in
       by seat.restart.kind w.kind w.doing
     where
       by : (k : RestartKind) → z.kind seat.place ≡ k → z.doing seat.place ≡ InRow (Now (Begin block frame bottom)) → IsJoined k (h block)
       by (Join r d) ke does =
-          let a = (fates_show i fair root input z t law (λ r. fate_of (h r)) run.agrees).joins seat.place r d block frame bottom ke does (to_push r (h r) refl) in
+          let a = (fates_show i fair root input z t law (λ r. fate_of (h r)) agrees).joins seat.place r d block frame bottom ke does (to_push r (h r) refl) in
           ap h a.0 ∙ left_home (h r) a.1
       by (Run f y) ke does = tt
       by (Bump r) ke does = tt
@@ -280,10 +302,10 @@ module _ (s : Shape) (code : CodeParts) (places : s.takeover ≡ ByPlaces) (fair
   order_pool : (r q : ℕ) → (z.kind q ≡ Push1 r) ⊎ (z.kind q ≡ Push2 r) → IsInPool s (r + 1)
   order_pool r q push =
       let g = pushed_by r q push in
-      head_pool s code root input state h forked taken t run (r + 1) (head_on i fair root input z t law g.place g.around (Leaf (InPlace g.place) (Begins g.copy) g.frame g.slots) r Left g.is g.hook)
+      head_pool s code root input state h forked taken l t run (r + 1) (head_on i fair root input z t law g.place g.around (Leaf (InPlace g.place) (Begins g.copy) g.frame g.slots) r Left g.is g.hook)
 
   -- of a row that changes one word, or none
-  one_stored : (at : ℕ) (cell : Cell) (content : Content) (next : Then) → IsInPool s at → TameRow (one_word at) (Store cell content next) → IsPooled s cell
+  one_stored : (at : ℕ) (cell : Cell) (content : Content) (next : Then) → IsInPool s at → TameRow s.takeover (one_word at) (Store cell content next) → IsPooled s cell
   one_stored at (BlockWord x) content next pool q = subst (IsInPool s) (sym q.0) pool
   one_stored at FinishWord content next pool q = tt
   one_stored at (CarryWord x) content next pool q = tt
@@ -296,7 +318,7 @@ module _ (s : Shape) (code : CodeParts) (places : s.takeover ≡ ByPlaces) (fair
   one_stored at (EntryWord x j) content next pool q = tt
   one_stored at (ArrayWord x) content next pool q = tt
 
-  one_traded : (at : ℕ) (cell : Cell) (old new : Content) (next : Then) → IsInPool s at → TameRow (one_word at) (Exchange cell old new next) → IsPooled s cell
+  one_traded : (at : ℕ) (cell : Cell) (old new : Content) (next : Then) → IsInPool s at → TameRow s.takeover (one_word at) (Exchange cell old new next) → IsPooled s cell
   one_traded at (BlockWord x) old new next pool q = subst (IsInPool s) (sym q.0) pool
   one_traded at FinishWord old new next pool q = tt
   one_traded at (CarryWord x) old new next pool q = tt
@@ -309,7 +331,7 @@ module _ (s : Shape) (code : CodeParts) (places : s.takeover ≡ ByPlaces) (fair
   one_traded at (EntryWord x j) old new next pool q = tt
   one_traded at (ArrayWord x) old new next pool q = tt
 
-  none_stored : (cell : Cell) (content : Content) (next : Then) → TameRow no_words (Store cell content next) → IsPooled s cell
+  none_stored : (cell : Cell) (content : Content) (next : Then) → TameRow s.takeover no_words (Store cell content next) → IsPooled s cell
   none_stored (BlockWord x) content next q = absurd q.0
   none_stored FinishWord content next q = tt
   none_stored (CarryWord x) content next q = tt
@@ -322,7 +344,7 @@ module _ (s : Shape) (code : CodeParts) (places : s.takeover ≡ ByPlaces) (fair
   none_stored (EntryWord x j) content next q = tt
   none_stored (ArrayWord x) content next q = tt
 
-  none_traded : (may : May) → ((x : ℕ) → may.trades x → ⊥) → (cell : Cell) (old new : Content) (next : Then) → TameRow may (Exchange cell old new next) → IsPooled s cell
+  none_traded : (may : May) → ((x : ℕ) → may.trades x → ⊥) → (cell : Cell) (old new : Content) (next : Then) → TameRow s.takeover may (Exchange cell old new next) → IsPooled s cell
   none_traded may none (BlockWord x) old new next q = absurd (none x q.0)
   none_traded may none FinishWord old new next q = tt
   none_traded may none (CarryWord x) old new next q = tt
@@ -352,9 +374,9 @@ module _ (s : Shape) (code : CodeParts) (places : s.takeover ≡ ByPlaces) (fair
     stored_by (Pop2 r) e d = none_stored cell content next (looked no_words c seat row (Pop2 r) tt e tt w)
     stored_by Seek e d = none_stored cell content next (looked no_words c seat row Seek tt e tt w)
     stored_by (Steal v x) e d = none_stored cell content next (looked no_words c seat row (Steal v x) tt e tt w)
-    stored_by (Check v x) e d = none_stored cell content next (looked no_words c seat row (Check v x) tt e (λ r. tt) w)
-    stored_by (Take v x) e d = none_stored cell content next (looked no_words c seat row (Take v x) tt e (places_row s.takeover no_words _ tt) w)
-    stored_by (Take2 v) e d = none_stored cell content next (looked no_words c seat row (Take2 v) tt e (places_row s.takeover no_words _ tt) w)
+    stored_by (Check v x) e d = none_stored cell content next (looked no_words c seat row (Check v x) tt e (λ r. tt, inr (λ r. tt)) w)
+    stored_by (Take v x) e d = none_stored cell content next (looked no_words c seat row (Take v x) tt e (places_row s.takeover s.takeover no_words _ tt) w)
+    stored_by (Take2 v) e d = none_stored cell content next (looked no_words c seat row (Take2 v) tt e (places_row s.takeover s.takeover no_words _ tt) w)
 
   -- an exchange of a row
   module _ (c : ℕ) (seat : Seat) (cell : Cell) (old new : Content) (next : Then) (w : In c seat (Exchange cell old new next)) where
@@ -369,7 +391,7 @@ module _ (s : Shape) (code : CodeParts) (places : s.takeover ≡ ByPlaces) (fair
     traded_by (Bump r) e d = none_traded no_words nothing cell old new next (reached no_words (seat_at seat.place (Bump r) d.0) d.1 (row_of s (seat_at seat.place (Bump r) d.0) (Bump r)) trade tt d.2)
     traded_by (Unwind f) e d = none_traded no_trades nothing cell old new next (reached no_trades (seat_at seat.place (Unwind f) d.0) d.1 (row_of s (seat_at seat.place (Unwind f) d.0) (Unwind f)) trade (λ a. tt) d.2)
     traded_by (Arrive r x) e d = one_traded (r + 1) cell old new next
-        (head_pool s code root input state h forked taken t run (r + 1) (subst (Ordered i z t m) (w.kind ∙ e) (law.orders seat.place)))
+        (head_pool s code root input state h forked taken l t run (r + 1) (subst (Ordered i z t m) (w.kind ∙ e) (law.orders seat.place)))
         (reached (one_word (r + 1)) (seat_at seat.place (Arrive r x) d.0) d.1 (row_of s (seat_at seat.place (Arrive r x) d.0) (Arrive r x)) trade (refl, tt) d.2)
     traded_by (Join r x) e d = elim d [
       | inl d ↦ none_traded no_trades nothing cell old new next (reached no_trades (seat_at seat.place (Join r x) d.0) d.1 (row_of s (seat_at seat.place (Join r x) d.0) (Join r x)) trade (tt, λ a. tt) d.2)
@@ -381,17 +403,17 @@ module _ (s : Shape) (code : CodeParts) (places : s.takeover ≡ ByPlaces) (fair
     traded_by (Pop2 r) e d = none_traded no_words nothing cell old new next (looked no_words c seat trade (Pop2 r) tt e tt w)
     traded_by Seek e d = none_traded no_words nothing cell old new next (looked no_words c seat trade Seek tt e tt w)
     traded_by (Steal v x) e d = none_traded no_words nothing cell old new next (looked no_words c seat trade (Steal v x) tt e tt w)
-    traded_by (Check v x) e d = none_traded no_words nothing cell old new next (looked no_words c seat trade (Check v x) tt e (λ r. tt) w)
-    traded_by (Take v x) e d = none_traded no_words nothing cell old new next (looked no_words c seat trade (Take v x) tt e (places_row s.takeover no_words _ tt) w)
-    traded_by (Take2 v) e d = none_traded no_words nothing cell old new next (looked no_words c seat trade (Take2 v) tt e (places_row s.takeover no_words _ tt) w)
+    traded_by (Check v x) e d = none_traded no_words nothing cell old new next (looked no_words c seat trade (Check v x) tt e (λ r. tt, inr (λ r. tt)) w)
+    traded_by (Take v x) e d = none_traded no_words nothing cell old new next (looked no_words c seat trade (Take v x) tt e (places_row s.takeover s.takeover no_words _ tt) w)
+    traded_by (Take2 v) e d = none_traded no_words nothing cell old new next (looked no_words c seat trade (Take2 v) tt e (places_row s.takeover s.takeover no_words _ tt) w)
 
   -- a store of a capsule
   run_stored : (c : ℕ) (seat : Seat) (cell : Cell) (content : Content) (rest : Rest) → stand_of state c ≡ IsRunning seat (Stores cell content rest) → IsPooled s cell
   run_stored c seat cell content rest e =
-      let w = runs s code root input state h forked taken t run c seat (Stores cell content rest) e in
+      let w = runs s code root input state h forked taken l t run c seat (Stores cell content rest) e in
       by (z.kind seat.place) refl w.does w
     where
-      by : (k : RestartKind) → z.kind seat.place ≡ k → Does i m seat.place k (InRest (Stores cell content rest)) → Runs s code root input state h forked taken t run c seat (Stores cell content rest) → IsPooled s cell
+      by : (k : RestartKind) → z.kind seat.place ≡ k → Does i m seat.place k (InRest (Stores cell content rest)) → Runs s code root input state h forked taken l t run c seat (Stores cell content rest) → IsPooled s cell
       by (Run f y) ke d w =
           let keeps = run_row_keeps i fair root input z t law seat.place w.place f y ke in
           cell_pooled s cell (stores_are_cells i fair root input z t law seat.place w.place f y ke cell (keeps.cells cell content rest w.doing) w.here)
@@ -411,12 +433,12 @@ module _ (s : Shape) (code : CodeParts) (places : s.takeover ≡ ByPlaces) (fair
 
   stored : (c : ℕ) (seat : Seat) (cell : Cell) (content : Content) (next : Then) → stand_of state c ≡ IsWithin seat (Store cell content next) → IsPooled s cell
   stored c seat cell content next e =
-      let w = within s code root input state h forked taken t run c seat (Store cell content next) e in
+      let w = within s code root input state h forked taken l t run c seat (Store cell content next) e in
       stored_by c seat cell content next w w.doing seat.restart.kind refl w.does
 
   traded : (c : ℕ) (seat : Seat) (cell : Cell) (old new : Content) (next : Then) → stand_of state c ≡ IsWithin seat (Exchange cell old new next) → IsPooled s cell
   traded c seat cell old new next e =
-      let w = within s code root input state h forked taken t run c seat (Exchange cell old new next) e in
+      let w = within s code root input state h forked taken l t run c seat (Exchange cell old new next) e in
       traded_by c seat cell old new next w seat.restart.kind refl w.does
 
   pub pooled : (c : ℕ) → IsPooledAt s (stand_of state c)
@@ -437,52 +459,58 @@ module _ (s : Shape) (code : CodeParts) (places : s.takeover ≡ ByPlaces) (fair
       by (IsBroken p) e = tt
       by IsDone e = tt
 
-  -- what a standing owes
-  owed : (c : ℕ) → IsOrderlyAt s state.words (stand_of state c) h forked
-  owed c = by (stand_of state c) refl
-    where
-      inlined : (how : Takeover) → how ≡ ByPlaces → (seat : Seat) (old new : RestartKind) → IsInlined how s state.words seat old new
-      inlined ByPlaces e seat old new = tt
-      inlined ByEntries e seat old new = absurd (cc)
+  -- what a standing owes, where by entries what is left to a strand is so
+  module _ (inlined : (c : ℕ) (seat : Seat) (restart : Restart) → stand_of state c ≡ IsWithin seat (Now (Install restart)) → IsInlined s.takeover s state.words seat seat.restart.kind restart.kind) where
+    owed : (c : ℕ) → IsOrderlyAt s state.words (stand_of state c) h forked
+    owed c = by (stand_of state c) refl
+      where
+        ends : (seat : Seat) (next : Then) → stand_of state c ≡ IsWithin seat (Now next) → IsOrderlyThen s state.words seat next h forked
+        ends seat (Install restart) e = inlined c seat restart e
+        ends seat (Fork block) e = forks_new c seat block e
+        ends seat (Begin block frame bottom) e = joins_inline c seat block frame bottom e
+        ends seat (Load point) e = tt
+        ends seat (Move place) e = tt
+        ends seat (Enter capsule) e = tt
+        ends seat Again e = tt
+        ends seat Broken e = tt
 
-      ends : (seat : Seat) (next : Then) → stand_of state c ≡ IsWithin seat (Now next) → IsOrderlyThen s state.words seat next h forked
-      ends seat (Install restart) e = inlined s.takeover places seat seat.restart.kind restart.kind
-      ends seat (Fork block) e = forks_new c seat block e
-      ends seat (Begin block frame bottom) e = joins_inline c seat block frame bottom e
-      ends seat (Load point) e = tt
-      ends seat (Move place) e = tt
-      ends seat (Enter capsule) e = tt
-      ends seat Again e = tt
-      ends seat Broken e = tt
+        by : (x : Standing) → stand_of state c ≡ x → IsOrderlyAt s state.words x h forked
+        by (IsWithin seat (Now next)) e = ends seat next e
+        by (IsWithin seat (Store cell content next)) e = stored c seat cell content next e
+        by (IsWithin seat (Exchange cell old new next)) e = traded c seat cell old new next e
+        by (IsRunning seat (Stores cell content rest)) e = run_stored c seat cell content rest e
+        by (IsRunning seat (Loads cell go)) e = tt
+        by (IsRunning seat Full) e = tt
+        by (IsRunning seat (Installs kind)) e = tt
+        by (IsRunning seat Breaks) e = tt
+        by IsLost e = tt
+        by (IsPlaced p) e = tt
+        by (IsAt p restart) e = tt
+        by (IsBroken p) e = tt
+        by IsDone e = tt
 
-      by : (x : Standing) → stand_of state c ≡ x → IsOrderlyAt s state.words x h forked
-      by (IsWithin seat (Now next)) e = ends seat next e
-      by (IsWithin seat (Store cell content next)) e = stored c seat cell content next e
-      by (IsWithin seat (Exchange cell old new next)) e = traded c seat cell old new next e
-      by (IsRunning seat (Stores cell content rest)) e = run_stored c seat cell content rest e
-      by (IsRunning seat (Loads cell go)) e = tt
-      by (IsRunning seat Full) e = tt
-      by (IsRunning seat (Installs kind)) e = tt
-      by (IsRunning seat Breaks) e = tt
-      by IsLost e = tt
-      by (IsPlaced p) e = tt
-      by (IsAt p restart) e = tt
-      by (IsBroken p) e = tt
-      by IsDone e = tt
+    orderly : (c : ℕ) (act : Act) → IsActAmong s.processors act → IsOrderly s state.words act (stand_of state c) h forked
+    orderly c (Step victim) among = (among, owed c)
+    orderly c Soft among = tt
+    orderly c Hard among = tt
+    orderly c (Quit why) among = tt
 
-  orderly : (c : ℕ) (act : Act) → IsActAmong s.processors act → IsOrderly s state.words act (stand_of state c) h forked
-  orderly c (Step victim) among = (among, owed c)
-  orderly c Soft among = tt
-  orderly c Hard among = tt
-  orderly c (Quit why) among = tt
+    pub owes : Owes s code root input state h forked taken t
+    owes = record {
+      pooled = pooled;
+      forks = forks_new;
+      joins = joins_inline;
+      orderly = λ turn among. orderly turn.processor turn.act among.act;
+    }
 
-  pub owes : Owes s code root input state h forked taken t
-  owes = record {
-    pooled = pooled;
-    forks = forks_new;
-    joins = joins_inline;
-    orderly = λ turn among. orderly turn.processor turn.act among.act;
-  }
+-- by places nothing more is owed
+inlined_by : (how : Takeover) → how ≡ ByPlaces → (s : Shape) (words : List ℕ) (seat : Seat) (old new : RestartKind) → IsInlined how s words seat old new
+inlined_by ByPlaces e s words seat old new = tt
+inlined_by ByEntries e s words seat old new = absurd (cc)
+
+pub halves_owe : HalvesOwe
+halves_owe s code fair root input state h forked taken l t run agrees inlined = owes s code fair root input state h forked taken l t run agrees inlined
 
 pub turns_are_orderly : TurnsAreOrderly
-turns_are_orderly s code places fair root input state h forked taken t run = owes s code places fair root input state h forked taken t run
+turns_are_orderly s code places fair root input state h forked taken t run =
+    owes s code fair root input state h forked taken [] t (halves run) run.agrees (λ c seat restart e. inlined_by s.takeover places s state.words seat seat.restart.kind restart.kind)

@@ -1,6 +1,6 @@
 -- What a processor does at its place is what the frames see there; addresses of pools; and where the
 -- homes of branches stand in the tree.
-use Rattle.std.proofs.Common.{◌≡◌, ◌≢◌, ◌<◌, ℕ, ◌+◌, ◌&&◌, Bool, true, false, List, inl, inr, refl, sym, ap, ◌∙◌, subst, arith}
+use Rattle.std.proofs.Common.{◌≡◌, ◌≢◌, ◌<◌, ℕ, ◌+◌, ◌&&◌, Bool, true, false, List, [], ◌∷◌, inl, inr, refl, sym, ap, ◌∙◌, subst, arith, true≢false}
 use Rattle.std.specs.Prelude.{nat_lt, nat_le}
 use Rattle.std.proofs.lemmas.Bool.{eq-eqb, eqb-true, ltb-true, leb-true, cases_Bool}
 use Rattle.ppm_strands.specs.Tree.{Words, Tree}
@@ -29,7 +29,12 @@ use Rattle.ppm_frames.specs.Skeletons.{Skeleton}
 use Rattle.ppm_kept.specs.Kept.{Image, InRow, InRest, State, Does, Head, owner, IsKept}
 use Rattle.ppm_kept.specs.Moves.{doing_of}
 use Rattle.ppm_kept.specs.Places.{places_of, is_in, IsOf, Holds}
+use Rattle.ppm_tickets.proofs.EstateLemmas.{here}
+use Rattle.ppm_tickets.proofs.StepLemmas.{shut_not}
+use Rattle.ppm_kept.specs.Left.{Followed, left, IsAway}
+use Rattle.ppm_kept.proofs.LeftLemmas.{kind_away}
 use Rattle.ppm_runs.specs.Run.{image, IsRun}
+use Rattle.ppm_runs.specs.Follow.{AreGone, IsHalves}
 use Rattle.ppm_runs.proofs.StandLemmas.{kinds_same, doing_own}
 
 -- a holder word names one processor
@@ -81,12 +86,22 @@ cell_pooled s (RoomCounter p) e = tt
 cell_pooled s (EntryWord p i) e = tt
 cell_pooled s (ArrayWord x) e = tt
 
-module _ (s : Shape) (code : CodeParts) (root : Tree (Frame FrameWord Point) Result) (input : Words) (state : RunState) (h : ℕ → Home) (forked taken : List ℕ) (t : Skeleton) (run : IsRun s code root input state h forked taken t) where
+-- a place that none has followed is away
+pub away : (l : List Followed) (g : ℕ → Bool) (q : ℕ) → AreGone g l → g q ≡ false → IsAway l q
+away [] g q a f = tt
+away (v ∷ l) g q a f = (λ e. true≢false (sym a.0 ∙ ap g (sym e) ∙ f), away l g q a.1 f)
+
+-- by places none is left out
+pub halves : {s : Shape} {code : CodeParts} {root : Tree (Frame FrameWord Point) Result} {input : Words} {state : RunState} {h : ℕ → Home} {forked taken : List ℕ} {t : Skeleton}
+    → IsRun s code root input state h forked taken t → IsHalves s code root input state h forked taken [] t
+halves run = record { lawful = run.lawful; apart = tt; gone = tt; kept = run.kept; born = run.born }
+
+module _ (s : Shape) (code : CodeParts) (root : Tree (Frame FrameWord Point) Result) (input : Words) (state : RunState) (h : ℕ → Home) (forked taken : List ℕ) (l : List Followed) (t : Skeleton) (run : IsHalves s code root input state h forked taken l t) where
   abbrev i : Image
   i = image s code
 
   abbrev z : State
-  z = places_of s state
+  z = left i l (places_of s state)
 
   abbrev law : IsKept i root input z t
   law = run.kept
@@ -122,6 +137,13 @@ module _ (s : Shape) (code : CodeParts) (root : Tree (Frame FrameWord Point) Res
   pub holds : (c p : ℕ) → Carried s m c p → IsOf p (stand_of state c) → Holds s state c p
   holds c p carried own = record { words = run.lawful.0; there = carried.lives.there; place = carried.place; own = own; others = alone c p carried }
 
+  -- a place that a processor carries was followed by none
+  pub carried_away : (c p : ℕ) → Carried s m c p → IsAway l p
+  carried_away c p carried = away l run.lawful.1.board.gone p run.gone (here run.lawful.1.board p (shut_not s.takeover m c p carried.home carried.lives.alive))
+
+  pub carried_kind : (c p : ℕ) → Carried s m c p → z.kind p ≡ k p
+  carried_kind c p carried = kind_away l (places_of s state).kind p (carried_away c p carried) ∙ kinds_same s state.words p
+
   -- what a row's processor has seen, and what is under way at its place
   pub record Within (c : ℕ) (seat : Seat) (row : Row) : Type 0 where
     pub sits : Sits s m k b c seat
@@ -139,7 +161,7 @@ module _ (s : Shape) (code : CodeParts) (root : Tree (Frame FrameWord Point) Res
       let is : z.doing seat.place ≡ InRow row =
       doing_own (stand_of state) c seat.place (ap (is_in seat.place) e ∙ eq-eqb seat.place seat.place refl) (alone c seat.place sees.0.carried) s.processors sees.0.carried.lives.there
       ∙ ap doing_of e in
-      let kind = kinds_same s state.words seat.place ∙ sees.0.at.kind in
+      let kind = carried_kind c seat.place sees.0.carried ∙ sees.0.at.kind in
       let does = subst (Does i z.words seat.place (z.kind seat.place)) is (law.does seat.place) in
       record {
         sits = sees.0;
@@ -170,7 +192,7 @@ module _ (s : Shape) (code : CodeParts) (root : Tree (Frame FrameWord Point) Res
       record {
         here = sees.3;
         place = sees.0.carried.place;
-        kind = kinds_same s state.words seat.place ∙ sees.0.at.kind;
+        kind = carried_kind c seat.place sees.0.carried ∙ sees.0.at.kind;
         doing = is;
         does = subst (Does i z.words seat.place (z.kind seat.place)) is (law.does seat.place);
         holds = holds c seat.place sees.0.carried (subst (IsOf seat.place) (sym e) refl);

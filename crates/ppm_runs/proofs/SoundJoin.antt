@@ -1,5 +1,5 @@
 -- What the deques' rows ask of the frames, from a run's state.
-use Rattle.std.proofs.Common.{◌≡◌, ◌≢◌, ◌<◌, ℕ, ◌+◌, ◌==◌, true, false, List, inl, inr, refl, sym, ap, ◌∙◌, subst, arith}
+use Rattle.std.proofs.Common.{◌≡◌, ◌≢◌, ◌<◌, ℕ, ◌+◌, ◌==◌, true, false, List, inl, inr, refl, sym, ap, ◌∙◌, subst, arith, []}
 use Rattle.std.specs.Prelude.{nat_lt, ◌^◌}
 use Rattle.std.proofs.lemmas.Bool.{cases_lt, le-ltb, eq-eqb}
 use Rattle.ppm_strands.specs.Tree.{Words, Tree}
@@ -41,7 +41,7 @@ use Rattle.ppm_runs.specs.Laws.{IsTakers}
 use Rattle.ppm_runs.specs.Sound.{IsSound}
 use Rattle.ppm_runs.specs.Deques.{StrandsAreSound, raised_by, DequesAreSound}
 use Rattle.ppm_runs.proofs.OrderlyLemmas.{turns_are_orderly}
-use Rattle.ppm_runs.proofs.ShownLemmas.{within, pool_is}
+use Rattle.ppm_runs.proofs.ShownLemmas.{halves, within, pool_is}
 use Rattle.ppm_runs.proofs.SoundRows.{Blocks}
 use Rattle.ppm_runs.proofs.SoundTurns.{turn_sound}
 use Rattle.ppm_runs.proofs.StandLemmas.{kinds_same}
@@ -131,7 +131,7 @@ module _ (base : Shape) (code : CodeParts) (fair : IsFair code) (root : Tree (Fr
         turn_sound base code root input state h forked taken t run made few sound blocks strands (turns_are_orderly s code refl fair root input state h forked taken t run).pooled
         (λ c seat r low e taker. taken_fate seat.place seat.restart.kind (h r) taker ((takers_have s code refl state h forked taken run.lawful).offsets c seat r low e))
         (λ c d seat other row rest e ne f same.
-        let w = within s code root input state h forked taken t run c seat row e in
+        let w = within s code root input state h forked taken [] t (halves run) c seat row e in
         let out : (other.place == seat.place) ≡ false = ap (is_in seat.place) (sym f) ∙ w.holds.others d ne in
         absurd (let z : true ≡ false = sym (eq-eqb other.place seat.place same) ∙ out in cc))
         turn among

@@ -40,7 +40,7 @@ use Rattle.ppm_kept.specs.Places.{places_of}
 use Rattle.ppm_kept.proofs.SpentLemmas.{full_pools_are_spent}
 use Rattle.ppm_runs.specs.Run.{image, IsRun}
 use Rattle.ppm_runs.specs.Spent.{RoomIsSpent}
-use Rattle.ppm_runs.proofs.ShownLemmas.{Runs, runs}
+use Rattle.ppm_runs.proofs.ShownLemmas.{halves, Runs, runs}
 use Rattle.ppm_runs.proofs.OutcomeLemmas.{unset_is}
 use Rattle.ppm_runs.proofs.MomentLemmas.{runs_stay}
 
@@ -81,7 +81,7 @@ module _ (s : Shape) (code : CodeParts) (fair : IsFair code) (root : Tree (Frame
   rest = rest_of s code place finds.home (capsule_of s.arrays finds.capsule.instrs)
 
   here : Runs s code root input state h fk tk t run turn.processor finds.seat rest
-  here = runs s code root input state h fk tk t run turn.processor finds.seat rest finds.begins
+  here = runs s code root input state h fk tk [] t (halves run) turn.processor finds.seat rest finds.begins
 
   counts : LoadsCounter s place finds.words rest
   counts = loads_counter s code place finds.home finds.capsule.instrs finds.words finds.asks

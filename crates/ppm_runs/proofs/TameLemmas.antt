@@ -1,6 +1,6 @@
--- Which rows fork, begin a branch, or change block words: one walk over all loads, with takeover by
--- places, for any predicates of the blocks and addresses.
-use Rattle.std.proofs.Common.{◌≡◌, ◌+◌, ◌-◌, ◌==◌, ℕ, zero, suc, Bool, true, false, if◌then◌else◌, List, [], ◌∷◌, Option, Some, None, subst}
+-- Which rows fork, begin a branch, or change block words: one walk over all loads, for any predicates of the
+-- blocks and addresses. With takeover by entries a Check goes on through closed places.
+use Rattle.std.proofs.Common.{◌≡◌, ◌⊎◌, ◌+◌, ◌-◌, ◌==◌, ℕ, zero, suc, Bool, true, false, if◌then◌else◌, List, [], ◌∷◌, Option, Some, None, inl, inr, refl, ◌∙◌, subst}
 use Rattle.std.specs.Prelude.{nat_lt, ◌^◌, ◌&&◌}
 use Rattle.ppm_cells.specs.Cells.{word_count}
 use Rattle.ppm_cells.specs.declared.cell.Cell.{Cell}
@@ -13,6 +13,9 @@ use Rattle.ppm_cells.specs.declared.holder.Holder.{Holder}
 use Rattle.ppm_cells.specs.declared.link.Link.{Link}
 use Rattle.ppm_cells.specs.declared.link.LinkKind.{LinkKind}
 use Rattle.ppm_cells.specs.declared.link.LinkKind.TheVariants.{Root, Call as CallLink, Branch, Fork as ForkLink}
+use Rattle.ppm_cells.specs.declared.restart.Restart.{Restart}
+use Rattle.ppm_cells.specs.declared.restart.RestartKind.{RestartKind}
+use Rattle.ppm_cells.specs.declared.restart.RestartKind.TheVariants.{Run, Bump, Push1, Push2, Unwind, Arrive, Join, Pop1, Pop2, Steal, Check}
 use Rattle.ppm_cells.specs.declared.shape.Shape.{Shape}
 use Rattle.ppm_cells.specs.declared.shape.Takeover.{Takeover}
 use Rattle.ppm_cells.specs.declared.shape.Takeover.TheVariants.{ByPlaces, ByEntries}
@@ -23,9 +26,10 @@ use Rattle.ppm_join.specs.Order.{first, both}
 use Rattle.ppm_join.specs.Outcome.{outcome_of_both}
 use Rattle.ppm_step.specs.Contents.{content_of}
 use Rattle.ppm_step.specs.Points.{cell_at, reading_at}
-use Rattle.ppm_step.specs.Rows.{on_number, on_entry, on_holder, on_link, on_finish, on_outcome, raised, tried, changed, bumped, unwind_by, back_to, unwound, after_value, target_found, joins, is_inline, is_last, join_by, join_outcome, get_back, got_back, seek_by, seek_held, bids, passes_by, local_by, seek_entry, taken_so, can_be_taken, took, goes_on_with, lowered, found_at}
+use Rattle.ppm_step.specs.Rows.{on_number, on_entry, on_holder, on_link, on_finish, on_outcome, raised, tried, changed, bumped, unwind_by, back_to, unwound, after_value, target_found, joins, is_inline, is_last, join_by, join_outcome, get_back, got_back, seek_by, seek_held, bids, passes_by, local_by, seek_entry, taken_so, can_be_taken, took, goes_on_with, lowered, found_at, on_restart, at_bottom, above_bottom, below_bottom, follows, closed_link, closed_bottom}
+use Rattle.ppm_step.specs.There.{restart_is_there}
 use Rattle.ppm_step.specs.declared.content.Content.{Content}
-use Rattle.ppm_step.specs.declared.content.Content.TheVariants.{ANumber, AnEntry, AHolder, ALink, AFinish}
+use Rattle.ppm_step.specs.declared.content.Content.TheVariants.{ANumber, ARestart, AnEntry, AHolder, ALink, AFinish}
 use Rattle.ppm_step.specs.declared.row.Point.{Point}
 use Rattle.ppm_step.specs.declared.row.Point.TheVariants.{Header, BumpLink, PushOrder, PushAbove, PushBottom, UnwindLink, UnwindOutcome, Target, GivenValue}
 use Rattle.ppm_step.specs.declared.row.Point.TheVariants.{JoinOrder, JoinLink, JoinLeft, JoinRight, RightFrame, Offset, PopBelow, PopAgain, PopAbove}
@@ -54,7 +58,7 @@ pub record May : Type 1 where
   pub trades : ℕ → Type 0
   pub jobs : ℕ → Type 0
 
-module _ (may : May) where
+module _ (how : Takeover) (may : May) where
   abbrev pub TameStore : Cell → Type 0
   TameStore (BlockWord at) = may.stores at
   TameStore _ = Unit {0}
@@ -80,11 +84,10 @@ module _ (may : May) where
   TamePoint (Offset block bottom) = may.begins block
   TamePoint (PopAgain block) = may.begins block
   TamePoint (PopAbove block) = may.begins block
-  TamePoint (TakenMessage by v slot) = (block : ℕ) → may.begins block
-  TamePoint (TakenEntry by v slot message) = ((block : ℕ) → may.begins block) × IsJobEntry message
-  TamePoint (ClosedRestart v slot block) = ⊥
-  TamePoint (ClosedLink block) = ⊥
-  TamePoint (ClosedBottom v slot block) = ⊥
+  TamePoint (TakenMessage by v slot) = ((block : ℕ) → may.begins block) × ((how ≡ ByPlaces) ⊎ ((block : ℕ) → may.forks block))
+  TamePoint (TakenEntry by v slot message) = ((block : ℕ) → may.begins block) × (IsJobEntry message ⊎ ((block : ℕ) → may.forks block))
+  TamePoint (ClosedRestart v slot block) = ((block : ℕ) → may.begins block) × ((block : ℕ) → may.forks block)
+  TamePoint (ClosedLink block) = may.forks block
   TamePoint _ = Unit {0}
 
   abbrev pub TameThen : Then → Type 0
@@ -98,9 +101,13 @@ module _ (may : May) where
   TameRow (Store c x next) = TameStore c × TameThen next
   TameRow (Exchange c old new next) = TameTrade c new × TameThen next
 
-module _ (s : Shape) (places : s.takeover ≡ ByPlaces) (seat : Seat) (may : May) where
+module _ (s : Shape) (seat : Seat) (may : May) where
   abbrev T : Row → Type 0
-  T row = TameRow may row
+  T row = TameRow s.takeover may row
+
+  on_restarts : (w : Content) (go : Restart → Row) → ((n : Restart) → T (go n)) → T (on_restart w go)
+  on_restarts (ARestart n) go f = f n
+  on_restarts _ go f = tt
 
   on_numbers : (w : Content) (go : ℕ → Row) → ((n : ℕ) → T (go n)) → T (on_number w go)
   on_numbers (ANumber n) go f = f n
@@ -136,7 +143,7 @@ module _ (s : Shape) (places : s.takeover ≡ ByPlaces) (seat : Seat) (may : May
   Makes (Some (Job t x)) = may.jobs x
   Makes _ = Unit {0}
 
-  made : (v i : ℕ) (new : Entry) → Makes (Some new) → TameTrade may (EntryWord v i) (AnEntry new)
+  made : (v i : ℕ) (new : Entry) → Makes (Some new) → TameTrade s.takeover may (EntryWord v i) (AnEntry new)
   made v i (Job t x) k = k
   made v i (Empty t) k = tt
   made v i (Local t x) k = tt
@@ -170,7 +177,7 @@ module _ (s : Shape) (places : s.takeover ≡ ByPlaces) (seat : Seat) (may : May
   steal_makes ByEntries p (Job t x) = tt
   steal_makes ByEntries p (Taken t x) = tt
 
-  tried_tame : (v i : ℕ) (old : Entry) (a : Option Entry) (next : Then) → Makes a → TameThen may next → T (tried (EntryWord v i) old a next)
+  tried_tame : (v i : ℕ) (old : Entry) (a : Option Entry) (next : Then) → Makes a → TameThen s.takeover may next → T (tried (EntryWord v i) old a next)
   tried_tame v i old None next k q = q
   tried_tame v i old (Some new) next k q = by (nat_lt (tag_of old + 1) (2 ^ 34))
     where
@@ -178,11 +185,11 @@ module _ (s : Shape) (places : s.takeover ≡ ByPlaces) (seat : Seat) (may : May
       by true = (made v i new k, q)
       by false = tt
 
-  changed_tame : (v i : ℕ) (old : Entry) (a : Option Entry) (next : Then) → Makes a → TameThen may next → T (changed (EntryWord v i) old a next)
+  changed_tame : (v i : ℕ) (old : Entry) (a : Option Entry) (next : Then) → Makes a → TameThen s.takeover may next → T (changed (EntryWord v i) old a next)
   changed_tame v i old None next k q = tt
   changed_tame v i old (Some new) next k q = tried_tame v i old (Some new) next k q
 
-  after_tame : (to copy : ℕ) (right_of : Option ℕ) → ((at : ℕ) → may.stores at) → TameThen may (after_value seat to copy right_of)
+  after_tame : (to copy : ℕ) (right_of : Option ℕ) → ((at : ℕ) → may.stores at) → TameThen s.takeover may (after_value seat to copy right_of)
   after_tame to copy None q = tt
   after_tame to copy (Some block) q = q
 
@@ -265,25 +272,71 @@ module _ (s : Shape) (places : s.takeover ≡ ByPlaces) (seat : Seat) (may : May
   seek_entry_tame v i (Taken t x) = passes_tame v i s.takeover
 
   -- by places only a job is taken
-  message_tame : (how : Takeover) → how ≡ ByPlaces → (by v i : ℕ) (entry : Entry) → ((block : ℕ) → may.begins block)
+  message_tame : (how : Takeover) → how ≡ s.takeover → (by v i : ℕ) (entry : Entry) → ((block : ℕ) → may.begins block) → (s.takeover ≡ ByPlaces) ⊎ ((block : ℕ) → may.forks block)
       → T (if can_be_taken how entry then Now (Load (TakenEntry by v i entry)) else Now Broken)
-  message_tame ByPlaces e by v i (Job t x) q = (q, tt)
-  message_tame ByPlaces e by v i (Local t x) q = tt
-  message_tame ByPlaces e by v i (Empty t) q = tt
-  message_tame ByPlaces e by v i (Taken t x) q = tt
-  message_tame ByEntries e by v i entry q = absurd (cc)
+  message_tame ByPlaces e by v i (Job t x) q f = (q, inl tt)
+  message_tame ByEntries e by v i (Job t x) q f = (q, inl tt)
+  message_tame ByPlaces e by v i (Local t x) q f = tt
+  message_tame ByEntries e by v i (Local t x) q f = elim f [
+    | inl places ↦ absurd (let z : ByEntries ≡ ByPlaces = e ∙ places in cc)
+    | inr forks ↦ (q, inr forks)
+  ]
+  message_tame ByPlaces e by v i (Empty t) q f = tt
+  message_tame ByEntries e by v i (Empty t) q f = tt
+  message_tame ByPlaces e by v i (Taken t x) q f = tt
+  message_tame ByEntries e by v i (Taken t x) q f = tt
 
-  goes_on_tame : (v i : ℕ) (entry : Entry) → ((block : ℕ) → may.begins block) → IsJobEntry entry → T (goes_on_with seat v i entry)
-  goes_on_tame v i (Job t x) q is = q x
-  goes_on_tame v i (Local t x) q is = absurd is
-  goes_on_tame v i (Empty t) q is = absurd is
-  goes_on_tame v i (Taken t x) q is = absurd is
+  goes_on_tame : (v i : ℕ) (entry : Entry) → ((block : ℕ) → may.begins block) → IsJobEntry entry ⊎ ((block : ℕ) → may.forks block) → T (goes_on_with seat v i entry)
+  goes_on_tame v i (Job t x) q f = q x
+  goes_on_tame v i (Local t x) q (inl is) = absurd is
+  goes_on_tame v i (Local t x) q (inr f) = (q, f)
+  goes_on_tame v i (Empty t) q f = tt
+  goes_on_tame v i (Taken t x) q f = tt
+
+  -- through closed places
+  bottom_tame : (v : ℕ) (k : RestartKind) → ((block : ℕ) → may.begins block) → ((block : ℕ) → may.forks block) → T (at_bottom seat v k)
+  bottom_tame v (Bump r) q f = f r
+  bottom_tame v (Steal x j) q f = (q, inr f)
+  bottom_tame v (Check x j) q f = (q, inr f)
+  bottom_tame v (Run x y) q f = tt
+  bottom_tame v (Push1 r) q f = tt
+  bottom_tame v (Push2 r) q f = tt
+  bottom_tame v (Unwind x) q f = tt
+  bottom_tame v (Arrive r d) q f = tt
+  bottom_tame v (Join r d) q f = tt
+  bottom_tame v _ q f = tt
+
+  above_tame : (v low : ℕ) (k : RestartKind) → T (above_bottom seat v low k)
+  above_tame v low (Push2 r) = tt
+  above_tame v low _ = tt
+
+  below_tame : (block : ℕ) (k : RestartKind) → ((block : ℕ) → may.begins block) → T (below_bottom seat block k)
+  below_tame block Pop1 q = q block
+  below_tame block (Pop2 r) q = q block
+  below_tame block _ q = tt
+
+  follows_tame : (v i block : ℕ) (closed : Restart) → ((block : ℕ) → may.begins block) → ((block : ℕ) → may.forks block) → T (follows s seat v i block closed)
+  follows_tame v i block closed q f = if_tame (restart_is_there s closed) _ _
+      (if_tame (i == closed.bottom) _ _ (bottom_tame v closed.kind q f)
+      (if_tame (i == closed.bottom + 1) _ _ (above_tame v closed.bottom closed.kind)
+      (if_tame (i + 1 == closed.bottom) _ _ (below_tame block closed.kind q) tt))) tt
+
+  closed_link_tame : (block : ℕ) (kind : LinkKind) → may.forks block → T (closed_link seat block kind)
+  closed_link_tame block (CallLink frame copy) f = tt
+  closed_link_tame block (ForkLink frame copy) f = f
+  closed_link_tame block _ f = tt
+
+  closed_bottom_tame : (block : ℕ) (entry : Entry) → T (closed_bottom seat block entry)
+  closed_bottom_tame block (Taken t x) = if_tame (nat_lt x 64) _ _ tt tt
+  closed_bottom_tame block (Empty t) = tt
+  closed_bottom_tame block (Local t x) = tt
+  closed_bottom_tame block (Job t x) = tt
 
   lowered_tame : (tag : ℕ) (v d : ℕ) (message : Holder) → T (lowered tag seat v d message)
   lowered_tame zero v d message = tt
   lowered_tame (suc tag) v d message = (tt, tt)
 
-  pub found_tame : (u : ℕ) (point : Point) (w : Content) → TamePoint may point → T (found_at s seat u point w)
+  pub found_tame : (u : ℕ) (point : Point) (w : Content) → TamePoint s.takeover may point → T (found_at s seat u point w)
   found_tame u (Header frame copy) w q = on_numbers w _ (λ n. tt)
   found_tame u (BumpLink block) w q = on_links w _ (λ l. bumped_tame block l.size l.kind q)
   found_tame u (PushOrder block) w q = on_numbers w _ (λ n. if_tame (n == both) _ _ tt tt)
@@ -308,11 +361,11 @@ module _ (s : Shape) (places : s.takeover ≡ ByPlaces) (seat : Seat) (may : May
   found_tame u (SeekEntry v i) w q = on_entries w _ (seek_entry_tame v i)
   found_tame u (SeekClosed v i entry) w q = on_numbers w _ (λ n. if_tame (n == 1) _ _ (tt, tt) tt)
   found_tame u (StealMessage v i) w q = on_entries w _ (λ e. changed_tame v i e (taken_so s.takeover seat.place e) _ (steal_makes s.takeover seat.place e) tt)
-  found_tame u (TakenMessage by v i) w q = on_entries w _ (λ e. message_tame s.takeover places by v i e q)
+  found_tame u (TakenMessage by v i) w q = on_entries w _ (λ e. message_tame s.takeover refl by v i e q.0 q.1)
   found_tame u (TakenEntry by v i message) w q = on_entries w _ (λ e. if_tame (took by message e) _ _ (goes_on_tame v i message q.0 q.1) tt)
-  found_tame u (ClosedRestart v i block) w q = absurd q
-  found_tame u (ClosedLink block) w q = absurd q
-  found_tame u (ClosedBottom v i block) w q = absurd q
+  found_tame u (ClosedRestart v i block) w q = on_restarts w _ (λ r. follows_tame v i block r q.0 q.1)
+  found_tame u (ClosedLink block) w q = on_links w _ (λ l. closed_link_tame block l.kind q)
+  found_tame u (ClosedBottom v i block) w q = on_entries w _ (λ e. closed_bottom_tame block e)
   found_tame u (BidMessage v d) w q = on_holders w _ (λ o. if_tame (o.processor == seat.own) _ _ (lowered_tame o.tag v d o) tt)
   found_tame u (BidAgain v) w q = on_holders w _ (λ o. if_tame (o.processor == seat.own) _ _ tt tt)
   found_tame u (BidHolder v message) w q = on_holders w _ (λ o. if_tame ((message.tag == o.tag) && (message.processor == o.processor)) _ _ tt tt)
@@ -332,11 +385,11 @@ module _ (s : Shape) (places : s.takeover ≡ ByPlaces) (seat : Seat) (may : May
   rest_tame v (Exchange c old new next) (w ∷ ws) q = rest_tame v (Now next) ws q.1
 
 -- and by the words as they are
-pub reach_tame : (i : Image) (places : i.shape.takeover ≡ ByPlaces) (seat : Seat) (may : May) (m : Cell → ℕ) (n : ℕ) (row rest : Row) → TameRow may row → Reach i m seat n row rest → TameRow may rest
-reach_tame i places seat may m zero row rest q e = subst (TameRow may) e q
-reach_tame i places seat may m (suc n) (Now (Load point)) rest q e =
-    reach_tame i places seat may m n (found_at i.shape seat 0 point (content_of (reading_at point) (m (cell_at seat 0 point)))) rest
-    (found_tame i.shape places seat may 0 point (content_of (reading_at point) (m (cell_at seat 0 point))) q) e
-reach_tame i places seat may m (suc n) (Now next) rest q e = absurd e
-reach_tame i places seat may m (suc n) (Store c x next) rest q e = reach_tame i places seat may m n (Now next) rest q.1 e.1
-reach_tame i places seat may m (suc n) (Exchange c old new next) rest q e = reach_tame i places seat may m n (Now next) rest q.1 e.1
+pub reach_tame : (i : Image) (seat : Seat) (may : May) (m : Cell → ℕ) (n : ℕ) (row rest : Row) → TameRow i.shape.takeover may row → Reach i m seat n row rest → TameRow i.shape.takeover may rest
+reach_tame i seat may m zero row rest q e = subst (TameRow i.shape.takeover may) e q
+reach_tame i seat may m (suc n) (Now (Load point)) rest q e =
+    reach_tame i seat may m n (found_at i.shape seat 0 point (content_of (reading_at point) (m (cell_at seat 0 point)))) rest
+    (found_tame i.shape seat may 0 point (content_of (reading_at point) (m (cell_at seat 0 point))) q) e
+reach_tame i seat may m (suc n) (Now next) rest q e = absurd e
+reach_tame i seat may m (suc n) (Store c x next) rest q e = reach_tame i seat may m n (Now next) rest q.1 e.1
+reach_tame i seat may m (suc n) (Exchange c old new next) rest q e = reach_tame i seat may m n (Now next) rest q.1 e.1

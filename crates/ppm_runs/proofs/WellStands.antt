@@ -55,7 +55,7 @@ use Rattle.ppm_runs.specs.Deques.{StrandsAreSound}
 use Rattle.ppm_runs.specs.Run.{image, IsRun}
 use Rattle.ppm_runs.specs.Sound.{IsSoundRow, IsSoundAt, IsUnbroken, IsSound}
 use Rattle.ppm_runs.specs.Well.{IsWell}
-use Rattle.ppm_runs.proofs.ShownLemmas.{Within, within, Runs, runs}
+use Rattle.ppm_runs.proofs.ShownLemmas.{halves, Within, within, Runs, runs}
 use Rattle.ppm_runs.proofs.SoundRows.{and_left}
 use Rattle.ppm_runs.proofs.StandLemmas.{kinds_same}
 use Rattle.ppm_runs.proofs.WellRows.{strand_walk, strand_sound, UpAt, up_found, up_there, NoneAt, arrive_row, BumpAt, bump_found, bump_there, JoinAt, join_found, join_there, part_well}
@@ -130,8 +130,8 @@ module _ (s : Shape) (code : CodeParts) (fair : IsFair code) (root : Tree (Frame
       → IsSoundRow s code spotted seat (found_at s seat u point (content_of (reading_at point) (read s state.words (cell_at seat u point))))
   load_row c seat point e k ke is u = by k ke is
     where
-      w : Within s code root input state h forked taken t run c seat (Now (Load point))
-      w = within s code root input state h forked taken t run c seat (Now (Load point)) e
+      w : Within s code root input state h forked taken [] t (halves run) c seat (Now (Load point))
+      w = within s code root input state h forked taken [] t (halves run) c seat (Now (Load point)) e
 
       there : restart_is_there s seat.restart ≡ true
       there = w.sits.there
@@ -203,8 +203,8 @@ module _ (s : Shape) (code : CodeParts) (fair : IsFair code) (root : Tree (Frame
 
   -- a capsule under way
   module _ (c : ℕ) (seat : Seat) (rest : Rest) (e : stand_of state c ≡ IsRunning seat rest) where
-    w_ : Runs s code root input state h forked taken t run c seat rest
-    w_ = runs s code root input state h forked taken t run c seat rest e
+    w_ : Runs s code root input state h forked taken [] t (halves run) c seat rest
+    w_ = runs s code root input state h forked taken [] t (halves run) c seat rest e
 
     restart_there : restart_is_there s seat.restart ≡ true
     restart_there = (subst (Sees s spotted (spots.kinds s state.words) (spots.bottoms s state.words) c) e (run.lawful.1.sees c)).0.there

@@ -1,5 +1,5 @@
 -- The work of a run: what one turn makes of it, of what is set aside at places, of what the tree owes, and of what rows have made.
-use Rattle.std.proofs.Common.{◌≡◌, ◌≢◌, ◌⊎◌, ◌≤◌, ◌<◌, ℕ, zero, suc, ◌+◌, ◌*◌, ◌==◌, Bool, true, false, if◌then◌else◌, List, inl, inr, refl, sym, ap, ◌∙◌, subst, arith}
+use Rattle.std.proofs.Common.{◌≡◌, ◌≢◌, ◌⊎◌, ◌≤◌, ◌<◌, ℕ, zero, suc, ◌+◌, ◌*◌, ◌==◌, Bool, true, false, if◌then◌else◌, List, inl, inr, refl, sym, ap, ◌∙◌, subst, arith, []}
 use Rattle.std.specs.Prelude.{slice_index}
 use Rattle.std.proofs.Math.Path.{fun_ext}
 use Rattle.ppm_strands.specs.Tree.{Words, Tree}
@@ -60,7 +60,7 @@ use Rattle.ppm_runs.proofs.StandLemmas.{kinds_same}
 use Rattle.ppm_runs.proofs.SumLemmas.{sum, sum_le, sum_plus, sum_times, sum_there}
 use Rattle.ppm_runs.proofs.BegunLemmas.{runs as runs_at, begin_in, begin_sum, runs_begin}
 use Rattle.ppm_runs.proofs.GoingLemmas.{came_by}
-use Rattle.ppm_runs.proofs.ShownLemmas.{names_one, Within, within, runs}
+use Rattle.ppm_runs.proofs.ShownLemmas.{halves, names_one, Within, within, runs}
 use Rattle.ppm_runs.proofs.OrderlyLemmas.{turns_are_orderly}
 use Rattle.ppm_runs.proofs.AgreeLemmas.{IsNoRestart, IsNoCarry, quiet_restart, quiet_carry, exchanges_no_restart, stores_no_restart, exchanges_no_carry, stores_no_carry}
 use Rattle.ppm_runs.proofs.JoinLemmas.{restart_not}
@@ -163,7 +163,7 @@ module _ (s : Shape) (code : CodeParts) (places : s.takeover ≡ ByPlaces) (fair
   kinds_then p re there here = kinds_put s state.words p re run.lawful.0 there (restart_fits s (few_words s) re here)
 
   -- nothing has to be set aside for what a row without work installs
-  free : (c : ℕ) (seat : Seat) (row : Row) → Within s code root input state h forked taken t run c seat row → is_work seat.restart.kind ≡ false → IsFree row
+  free : (c : ℕ) (seat : Seat) (row : Row) → Within s code root input state h forked taken [] t (halves run) c seat row → is_work seat.restart.kind ≡ false → IsFree row
   free c seat row w look = look_free s places seat seat.restart.kind row (look_kind seat.restart.kind look) (came_by s code places fair root input state h forked taken t run c seat row w)
 
   own_kind : (p : ℕ) (k : RestartKind) → (places_of s state).kind p ≡ k → due (K p) ≡ due k
@@ -173,17 +173,17 @@ module _ (s : Shape) (code : CodeParts) (places : s.takeover ≡ ByPlaces) (fair
   row_kinds : (c v made : ℕ) (seat : Seat) (row : Row) → stand_of state c ≡ IsWithin seat row → Paces s made (IsWithin seat row)
       → (Still (acts s code state c (Step v) (IsWithin seat row)).words × (Sets (IsWithin seat row) → ⊥)) ⊎ Installed c v made (IsWithin seat row)
   row_kinds c v made seat (Now (Install re)) e paces =
-      let w = within s code root input state h forked taken t run c seat (Now (Install re)) e in
+      let w = within s code root input state h forked taken [] t (halves run) c seat (Now (Install re)) e in
       let paid = install_paid s seat made re paces (free c seat (Now (Install re)) w) in
       let own = own_kind seat.place seat.restart.kind w.kind in
       inr (record { place = seat.place; kind = re.kind; there = w.place; kinds = kinds_then seat.place re w.place w.here; sets = tt; alive = w.sits.carried.lives.alive; carry = w.sits.carried.carry; paid = omega (arith, paid, own) })
   row_kinds c v made seat (Now (Fork r)) e paces =
-      let w = within s code root input state h forked taken t run c seat (Now (Fork r)) e in
+      let w = within s code root input state h forked taken [] t (halves run) c seat (Now (Fork r)) e in
       let paid = fork_paid s seat made r paces (free c seat (Now (Fork r)) w) in
       let own = own_kind seat.place seat.restart.kind w.kind in
       inr (record { place = seat.place; kind = Push1 r; there = w.place; kinds = kinds_then seat.place (forked_restart seat r) w.place w.here; sets = tt; alive = w.sits.carried.lives.alive; carry = w.sits.carried.carry; paid = omega (arith, paid, own) })
   row_kinds c v made seat (Now (Begin r f b)) e paces =
-      let w = within s code root input state h forked taken t run c seat (Now (Begin r f b)) e in
+      let w = within s code root input state h forked taken [] t (halves run) c seat (Now (Begin r f b)) e in
       let paid = begin_paid s seat made r f b paces in
       let own = own_kind seat.place seat.restart.kind w.kind in
       inr (record { place = seat.place; kind = Run f 0; there = w.place; kinds = kinds_then seat.place (begun f b) w.place w.here; sets = tt; alive = w.sits.carried.lives.alive; carry = w.sits.carried.carry; paid = omega (arith, paid, own) })
@@ -192,14 +192,14 @@ module _ (s : Shape) (code : CodeParts) (places : s.takeover ≡ ByPlaces) (fair
   row_kinds c v made seat (Now Again) e paces = inl (refl, λ z. z)
   row_kinds c v made seat (Now Broken) e paces = inl (refl, λ z. z)
   row_kinds c v made seat (Now (Move x)) e paces =
-      let w = within s code root input state h forked taken t run c seat (Now (Move x)) e in
+      let w = within s code root input state h forked taken [] t (halves run) c seat (Now (Move x)) e in
       inl (elsewhere (CarryWord seat.own) x (subst (λ (n : ℕ). n < s.processors) (sym w.sits.own) w.sits.carried.lives.there) tt, λ z. z)
   row_kinds c v made seat (Store cell content next) e paces =
-      let w = within s code root input state h forked taken t run c seat (Store cell content next) e in
+      let w = within s code root input state h forked taken [] t (halves run) c seat (Store cell content next) e in
       let pooled : IsPooled s cell = subst (IsPooledAt s) e ((turns_are_orderly s code places fair root input state h forked taken t run).pooled c) in
       inl (elsewhere cell (word_of content) (cell_there s code cell w.here pooled) (stores_no_restart s code places fair root input state h forked taken t run c seat cell content next w), λ z. z)
   row_kinds c v made seat (Exchange cell old new next) e paces =
-      let w = within s code root input state h forked taken t run c seat (Exchange cell old new next) e in
+      let w = within s code root input state h forked taken [] t (halves run) c seat (Exchange cell old new next) e in
       let pooled : IsPooled s cell = subst (IsPooledAt s) e ((turns_are_orderly s code places fair root input state h forked taken t run).pooled c) in
       inl (if_still (read s state.words cell == word_of old) cell (word_of new) (cell_there s code cell w.here pooled) (exchanges_no_restart s code places fair root input state h forked taken t run c seat cell old new next w), λ z. z)
 
@@ -210,12 +210,12 @@ module _ (s : Shape) (code : CodeParts) (places : s.takeover ≡ ByPlaces) (fair
   rest_kinds c v made seat Breaks e paces = inl (refl, λ z. z)
   rest_kinds c v made seat Full e paces = inl (if_still (slice_index state.words 0 == 0) FinishWord _ tt tt, λ z. z)
   rest_kinds c v made seat (Installs kind) e paces =
-      let w = runs s code root input state h forked taken t run c seat (Installs kind) e in
+      let w = runs s code root input state h forked taken [] t (halves run) c seat (Installs kind) e in
       let paid = capsule_paid s seat made kind paces in
       let sees = subst (Sees s (spots.view s state.words) (spots.kinds s state.words) (spots.bottoms s state.words) c) e (run.lawful.1.sees c) in
       inr (record { place = seat.place; kind = kind; there = w.place; kinds = kinds_then seat.place (record { kind = kind; bottom = seat.restart.bottom }) w.place w.here; sets = tt; alive = sees.0.carried.lives.alive; carry = sees.0.carried.carry; paid = omega (arith, paid) })
   rest_kinds c v made seat (Stores cell content rest) e paces =
-      let w = runs s code root input state h forked taken t run c seat (Stores cell content rest) e in
+      let w = runs s code root input state h forked taken [] t (halves run) c seat (Stores cell content rest) e in
       let sees = subst (Sees s (spots.view s state.words) (spots.kinds s state.words) (spots.bottoms s state.words) c) e (run.lawful.1.sees c) in
       let pooled : IsPooled s cell = subst (IsPooledAt s) e ((turns_are_orderly s code places fair root input state h forked taken t run).pooled c) in
       inl (elsewhere cell (word_of content) (cell_there s code cell w.here pooled) (quiet_restart cell sees.2.0), λ z. z)
@@ -259,16 +259,16 @@ module _ (s : Shape) (code : CodeParts) (places : s.takeover ≡ ByPlaces) (fair
   carry_if d false cell w is none = refl
 
   row_carries : (c v : ℕ) (seat : Seat) (row : Row) → stand_of state c ≡ IsWithin seat row → (d : ℕ) → d ≢ c ⊎ (IsMove row → ⊥) → Carries d (words_after state.words (wanted_row s seat v row))
-  row_carries c v seat (Now (Install re)) e d out = let w = within s code root input state h forked taken t run c seat (Now (Install re)) e in carry_else d (RestartWord seat.place) (restart_word re) w.place tt
-  row_carries c v seat (Now (Fork r)) e d out = let w = within s code root input state h forked taken t run c seat (Now (Fork r)) e in carry_else d (RestartWord seat.place) (restart_word (forked_restart seat r)) w.place tt
-  row_carries c v seat (Now (Begin r f b)) e d out = let w = within s code root input state h forked taken t run c seat (Now (Begin r f b)) e in carry_else d (RestartWord seat.place) (restart_word (begun f b)) w.place tt
+  row_carries c v seat (Now (Install re)) e d out = let w = within s code root input state h forked taken [] t (halves run) c seat (Now (Install re)) e in carry_else d (RestartWord seat.place) (restart_word re) w.place tt
+  row_carries c v seat (Now (Fork r)) e d out = let w = within s code root input state h forked taken [] t (halves run) c seat (Now (Fork r)) e in carry_else d (RestartWord seat.place) (restart_word (forked_restart seat r)) w.place tt
+  row_carries c v seat (Now (Begin r f b)) e d out = let w = within s code root input state h forked taken [] t (halves run) c seat (Now (Begin r f b)) e in carry_else d (RestartWord seat.place) (restart_word (begun f b)) w.place tt
   row_carries c v seat (Now (Load x)) e d out = refl
   row_carries c v seat (Now (Enter x)) e d out = refl
   row_carries c v seat (Now Again) e d out = refl
   row_carries c v seat (Now Broken) e d out = refl
   row_carries c v seat (Now (Move x)) e d (inr still) = absurd (still tt)
   row_carries c v seat (Now (Move x)) e d (inl ne) =
-      let w = within s code root input state h forked taken t run c seat (Now (Move x)) e in
+      let w = within s code root input state h forked taken [] t (halves run) c seat (Now (Move x)) e in
       view_else s state.words (CarryWord seat.own) x (Carry d) (subst (λ (n : ℕ). n < s.processors) (sym w.sits.own) w.sits.carried.lives.there)
       (λ shown same. ne (carried_by same ∙ w.sits.own))
     where
@@ -279,11 +279,11 @@ module _ (s : Shape) (code : CodeParts) (places : s.takeover ≡ ByPlaces) (fair
       carried_by : CarryWord d ≡ CarryWord seat.own → d ≡ seat.own
       carried_by same = ap carrier same
   row_carries c v seat (Store cell content next) e d out =
-      let w = within s code root input state h forked taken t run c seat (Store cell content next) e in
+      let w = within s code root input state h forked taken [] t (halves run) c seat (Store cell content next) e in
       let pooled : IsPooled s cell = subst (IsPooledAt s) e ((turns_are_orderly s code places fair root input state h forked taken t run).pooled c) in
       carry_else d cell (word_of content) (cell_there s code cell w.here pooled) (stores_no_carry s code places fair root input state h forked taken t run c seat cell content next w)
   row_carries c v seat (Exchange cell old new next) e d out =
-      let w = within s code root input state h forked taken t run c seat (Exchange cell old new next) e in
+      let w = within s code root input state h forked taken [] t (halves run) c seat (Exchange cell old new next) e in
       let pooled : IsPooled s cell = subst (IsPooledAt s) e ((turns_are_orderly s code places fair root input state h forked taken t run).pooled c) in
       carry_if d (read s state.words cell == word_of old) cell (word_of new) (cell_there s code cell w.here pooled) (exchanges_no_carry s code places fair root input state h forked taken t run c seat cell old new next w)
 
@@ -291,9 +291,9 @@ module _ (s : Shape) (code : CodeParts) (places : s.takeover ≡ ByPlaces) (fair
   rest_carries c seat (Loads cell go) e d = refl
   rest_carries c seat Breaks e d = refl
   rest_carries c seat Full e d = carry_if d (slice_index state.words 0 == 0) FinishWord _ tt tt
-  rest_carries c seat (Installs kind) e d = let w = runs s code root input state h forked taken t run c seat (Installs kind) e in carry_else d (RestartWord seat.place) _ w.place tt
+  rest_carries c seat (Installs kind) e d = let w = runs s code root input state h forked taken [] t (halves run) c seat (Installs kind) e in carry_else d (RestartWord seat.place) _ w.place tt
   rest_carries c seat (Stores cell content rest) e d =
-      let w = runs s code root input state h forked taken t run c seat (Stores cell content rest) e in
+      let w = runs s code root input state h forked taken [] t (halves run) c seat (Stores cell content rest) e in
       let sees = subst (Sees s (spots.view s state.words) (spots.kinds s state.words) (spots.bottoms s state.words) c) e (run.lawful.1.sees c) in
       let pooled : IsPooled s cell = subst (IsPooledAt s) e ((turns_are_orderly s code places fair root input state h forked taken t run).pooled c) in
       carry_else d cell (word_of content) (cell_there s code cell w.here pooled) (quiet_carry cell sees.2.0)
@@ -346,10 +346,10 @@ module _ (s : Shape) (code : CodeParts) (places : s.takeover ≡ ByPlaces) (fair
     own_most p k e = subst (λ (q : RestartKind). cost k ≤ due q + 172 * runs_at q) {x = k} (sym (sym (kinds_same s state.words p) ∙ e)) (cost_due k)
 
     most_there : (c : ℕ) (x : Standing) → stand_of state c ≡ x → Claim c (made c) x → There c x
-    most_there c (IsWithin seat row) e claim = let w = within s code root input state h forked taken t run c seat row e in
+    most_there c (IsWithin seat row) e claim = let w = within s code root input state h forked taken [] t (halves run) c seat row e in
         inr (seat.place, w.place, (w.sits.carried.lives.alive, w.sits.carried.carry), own_most seat.place seat.restart.kind w.kind)
     most_there c (IsRunning seat rest) e claim =
-        let w = runs s code root input state h forked taken t run c seat rest e in
+        let w = runs s code root input state h forked taken [] t (halves run) c seat rest e in
         let sees = subst (Sees s (spots.view s state.words) (spots.kinds s state.words) (spots.bottoms s state.words) c) e (run.lawful.1.sees c) in
         inr (seat.place, w.place, (sees.0.carried.lives.alive, sees.0.carried.carry), own_most seat.place seat.restart.kind w.kind)
     most_there c (IsBroken p) e (inl none) = inl none

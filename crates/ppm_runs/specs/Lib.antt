@@ -11,3 +11,4 @@ pub mod Deques
 pub mod Well
 pub mod Unbroken
 pub mod Work
+pub mod Follow

@@ -1,5 +1,6 @@
 //! What turns owe, shown by calls that do nothing.
 ghost use Rattle.ppm_runs.specs.Deques.{DequesAreSound};
+ghost use Rattle.ppm_runs.specs.Follow.{HalvesGoOn, HalvesOwe, HeirsLead};
 ghost use Rattle.ppm_runs.specs.Laws.{BirthsFollow, BrokenFollow, TakersHave, TurnsAreOrderly, TurnsGoOn};
 ghost use Rattle.ppm_runs.specs.Moments.{OnceAtEachMoment, RunsStay, TurnsLeadOn};
 ghost use Rattle.ppm_runs.specs.Openings.{RunsOpen};
@@ -101,4 +102,12 @@ pub fn nothing_breaks()
 pub fn work_is_bounded()
     ensures law { WorkIsBounded }
     ensures within { WorkIsWithin256 }
+{}
+
+/// With takeover by entries, a turn by which a place goes on with what it inherited leads to words that are
+/// lawful, and that show the tree with that strand as its own, with the closed place left out.
+pub fn heirs_lead()
+    ensures law { HeirsLead }
+    ensures others { HalvesGoOn }
+    ensures owe { HalvesOwe }
 {}

@@ -13,6 +13,7 @@
 mod laws;
 
 pub use laws::{
-    births_follow, nothing_breaks, room_is_spent, runs_come_back, runs_come_to, runs_end,
-    runs_open, runs_stay, stops_stay, takers_have, turns_are_orderly, turns_go_on, work_is_bounded,
+    births_follow, heirs_lead, nothing_breaks, room_is_spent, runs_come_back, runs_come_to,
+    runs_end, runs_open, runs_stay, stops_stay, takers_have, turns_are_orderly, turns_go_on,
+    work_is_bounded,
 };
