@@ -80,7 +80,7 @@ module _ (s : Shape) (code : CodeParts) (fair : IsFair code) (root : Tree (Frame
   abbrev rest : Rest
   rest = rest_of s code place finds.home (capsule_of s.arrays finds.capsule.instrs)
 
-  here : Runs s code root input state h fk tk t run turn.processor finds.seat rest
+  here : Runs s code root input state h fk tk [] t (halves run) turn.processor finds.seat rest
   here = runs s code root input state h fk tk [] t (halves run) turn.processor finds.seat rest finds.begins
 
   counts : LoadsCounter s place finds.words rest
