@@ -1,5 +1,5 @@
 -- At an outcome the tree is the root's leaf, over; so the depth-first run ends as it says.
-use Rattle.std.proofs.Common.{◌≡◌, ℕ, zero, suc, ◌+◌, inl, inr, refl, sym, ap, ◌∙◌, subst, Option, Some}
+use Rattle.std.proofs.Common.{◌≡◌, ℕ, zero, suc, ◌+◌, inl, inr, List, [], refl, sym, ap, ◌∙◌, subst, Option, Some}
 use Rattle.std.proofs.lemmas.Bool.{lt-ltb}
 use Rattle.ppm_strands.specs.Tree.{Words, Tree}
 use Rattle.ppm_strands.specs.Tree as tree
@@ -21,8 +21,10 @@ use Rattle.ppm_frames.specs.Skeletons.{Skeleton, result_by, result_at, tree_of}
 use Rattle.ppm_frames.proofs.ViewLemmas.{view_is}
 use Rattle.ppm_kept.specs.Running.{strands}
 use Rattle.ppm_kept.specs.Kept.{Image, Ended, IsKept}
+use Rattle.ppm_kept.specs.Left.{Followed, left_words, left}
 use Rattle.ppm_kept.specs.Places.{places_of}
 use Rattle.ppm_kept.specs.Answers.{finish_by, AnswersSo, EndsAsMeant}
+use Rattle.ppm_kept.proofs.LeftLemmas.{left_same}
 
 -- an outcome says what the root came to
 outcome_is : (value : ℕ) (v : Finish) → IsOutcome v → v ≡ finish_by (result_by value (Some v))
@@ -30,13 +32,13 @@ outcome_is value EndedSo out = refl
 outcome_is value (TrappedBy trap line) out = refl
 outcome_is value _ out = absurd out
 
-module _ (i : Image) (root : Tree (Frame FrameWord Point) Result) (input : Words) (state : Machine) (t : Skeleton) (law : IsKept i root input (places_of i.shape state) t) (v : Finish)
+module _ (i : Image) (root : Tree (Frame FrameWord Point) Result) (input : Words) (state : Machine) (l : List Followed) (t : Skeleton) (law : IsKept i root input (left i l (places_of i.shape state)) t) (v : Finish)
     (said : finish_of (read i.shape state.words FinishWord) ≡ Some v) (out : IsOutcome v) where
   abbrev m : Cell → ℕ
-  m = view i.shape state.words
+  m = left_words i l (view i.shape state.words)
 
   finish_is : finish_of (m FinishWord) ≡ Some v
-  finish_is = ap finish_of (view_is i.shape state.words FinishWord refl) ∙ said
+  finish_is = ap finish_of (left_same i l (view i.shape state.words) FinishWord (λ u h. tt) ∙ view_is i.shape state.words FinishWord refl) ∙ said
 
   module _ (e : Ended m t) where
     abbrev last : Result
@@ -45,19 +47,19 @@ module _ (i : Image) (root : Tree (Frame FrameWord Point) Result) (input : Words
     over : tree_of m t ≡ tree.Over last
     over = ap (tree_of m) e.is
 
-    abbrev left : End Result
-    left = record { outcome = last; words = arrays_at m; counts = none }
+    abbrev rest : End Result
+    rest = record { outcome = last; words = arrays_at m; counts = none }
 
-    left_ends : Ends (strands i.shape i.code) (tree_of m t) (arrays_at m) left
-    left_ends = subst (λ (w : Tree (Frame FrameWord Point) Result). Ends (strands i.shape i.code) w (arrays_at m) left) (sym over) (suc zero, refl)
+    left_ends : Ends (strands i.shape i.code) (tree_of m t) (arrays_at m) rest
+    left_ends = subst (λ (w : Tree (Frame FrameWord Point) Result). Ends (strands i.shape i.code) w (arrays_at m) rest) (sym over) (suc zero, refl)
 
     answers : AnswersSo i root input state t v
     answers = record {
-      end = with_counts law.ahead.0 left;
-      ends = (law.ahead.1.ends (with_counts law.ahead.0 left)).1 (left, left_ends, refl);
+      end = with_counts law.ahead.0 rest;
+      ends = (law.ahead.1.ends (with_counts law.ahead.0 rest)).1 (rest, left_ends, refl);
       outcome = outcome_is (m (BlockWord (e.frame + value_at))) v out
           ∙ ap (λ (o : Option Finish). finish_by (result_by (m (BlockWord (e.frame + value_at))) o)) (sym (ap finish_of (sym e.gave) ∙ finish_is));
-      arrays = λ x lt. sym (view_is i.shape state.words (ArrayWord x) (lt-ltb x i.shape.arrays lt));
+      arrays = λ x lt. sym (left_same i l (view i.shape state.words) (ArrayWord x) (λ u h. tt) ∙ view_is i.shape state.words (ArrayWord x) (lt-ltb x i.shape.arrays lt));
       place = e.place;
       frame = e.frame;
       slots = e.slots;
@@ -68,4 +70,9 @@ module _ (i : Image) (root : Tree (Frame FrameWord Point) Result) (input : Words
   ends_so = elim law.finished [ inl no_outcome ↦ absurd (no_outcome v finish_is out) | inr e ↦ answers e ]
 
 pub ends_as_meant : EndsAsMeant
-ends_as_meant i root input state t law v said out = ends_so i root input state t law v said out
+ends_as_meant i root input state t law v said out = ends_so i root input state [] t law v said out
+
+-- so it is with those places left out that were followed
+pub left_ends_as_meant : (i : Image) (root : Tree (Frame FrameWord Point) Result) (input : Words) (state : Machine) (l : List Followed) (t : Skeleton) → IsKept i root input (left i l (places_of i.shape state)) t
+    → (v : Finish) → finish_of (read i.shape state.words FinishWord) ≡ Some v → IsOutcome v → AnswersSo i root input state t v
+left_ends_as_meant i root input state l t law v said out = ends_so i root input state l t law v said out

@@ -57,6 +57,8 @@ pub mod FateLemmas
 pub mod StateLemmas
 pub mod BeginLemmas
 pub mod LoadLemmas
+pub mod OrderLemmas
+pub mod LinkLemmas
 pub mod StopLemmas
 pub mod HandLemmas
 pub mod SettleLemmas

@@ -28,6 +28,7 @@ use Rattle.ppm_step.specs.declared.turn.Act.{Act}
 use Rattle.ppm_step.specs.declared.turn.Act.TheVariants.{Step, Soft, Hard, Quit}
 use Rattle.ppm_step.specs.declared.turn.Turn.{Turn}
 use Rattle.ppm_tickets.specs.Homes.{Home}
+use Rattle.ppm_tickets.specs.Renewal.{IsLawful}
 use Rattle.ppm_tickets.specs.Saw.{Sees}
 use Rattle.ppm_tickets.specs.View as spots
 use Rattle.ppm_tickets.proofs.StepLemmas.{stand_own, stand_other}
@@ -106,7 +107,7 @@ module _ (s : Shape) (code : CodeParts) where
   rest_low seat found (Installs k) low = tt
   rest_low seat found Breaks low = low
 
-module _ (s : Shape) (code : CodeParts) (root : Tree (Frame FrameWord Point) Result) (input : Words) (state : RunState) (h : ℕ → Home) (forked taken : List ℕ) (t : Skeleton) (run : IsRun s code root input state h forked taken t) where
+module _ (s : Shape) (code : CodeParts) (state : RunState) (h : ℕ → Home) (forked taken : List ℕ) (lawful : IsLawful s code state h forked taken) (broken : (c p : ℕ) → stand_of state c ≡ IsBroken p → p ≤ 64) where
   -- wherever a processor stands, its place is one
   abbrev LowAt : Standing → Type 0
   LowAt (IsAt p r) = p ≤ 64
@@ -137,7 +138,7 @@ module _ (s : Shape) (code : CodeParts) (root : Tree (Frame FrameWord Point) Res
   all_low d = by (stand_of state d) refl
     where
       by : (x : Standing) → stand_of state d ≡ x → Low x
-      by (IsBroken p) e = run.broken d p e
+      by (IsBroken p) e = broken d p e
       by IsLost e = tt
       by (IsPlaced p) e = tt
       by (IsAt p r) e = tt
@@ -182,8 +183,8 @@ module _ (s : Shape) (code : CodeParts) (root : Tree (Frame FrameWord Point) Res
   acts_low c (Quit why) (IsRunning seat rest) e low d = moved_low c IsLost (λ z. let y : IsRunning seat rest ≡ IsDone = sym e ∙ z in cc) tt d
   acts_low c (Quit why) (IsBroken p) e low d = moved_low c IsLost (λ z. let y : IsBroken p ≡ IsDone = sym e ∙ z in cc) tt d
 
-  follow : (turn : Turn) (c p : ℕ) → stand_of (happens s code state turn) c ≡ IsBroken p → p ≤ 64
-  follow turn c p e = subst Low e (acts_low turn.processor turn.act (stand_of state turn.processor) refl (low_at turn.processor (stand_of state turn.processor) (run.lawful.1.sees turn.processor)) c)
+  pub broken_stays : (turn : Turn) (c p : ℕ) → stand_of (happens s code state turn) c ≡ IsBroken p → p ≤ 64
+  broken_stays turn c p e = subst Low e (acts_low turn.processor turn.act (stand_of state turn.processor) refl (low_at turn.processor (stand_of state turn.processor) (lawful.1.sees turn.processor)) c)
 
 pub broken_follow : BrokenFollow
-broken_follow s code root input state h forked taken t run = follow s code root input state h forked taken t run
+broken_follow s code root input state h forked taken t run = broken_stays s code state h forked taken run.lawful run.broken

@@ -61,7 +61,7 @@ use Rattle.ppm_kept.proofs.LeftLemmas.{kind_away}
 use Rattle.ppm_kept.proofs.PutLemmas as kept_puts
 use Rattle.ppm_kept.proofs.UnrunUntaken.{unruns_are_untaken, handed_same}
 use Rattle.ppm_runs.specs.Run.{image, fate_of}
-use Rattle.ppm_runs.specs.Follow.{AreGone, IsHalves, GoesOn, OpensSo, HeirsLead}
+use Rattle.ppm_runs.specs.Follow.{AreGone, IsHalves, GoesOn, Opens, HeirsLead}
 use Rattle.ppm_runs.proofs.AgreeLemmas.{home_or}
 use Rattle.ppm_runs.proofs.BearingLemmas.{with_same}
 use Rattle.ppm_runs.proofs.ShownLemmas.{away, alone, holds}
@@ -136,7 +136,7 @@ module _ (s : Shape) (code : CodeParts) (ih : s.takeover ≡ ByEntries) (fair : 
     held : Holds s state c p
     held = holds s code root input state h forked taken l t run c p sees.0.carried (subst (IsOf p) (sym at) refl)
 
-    module _ (it : InheritsAt s code state h forked taken run.lawful p) (opens : OpensSo s code state l it.place next) where
+    module _ (it : InheritsAt s code state h forked taken run.lawful p) (opens : (r : ℕ) → kinds_of s state.words it.place ≡ Bump r → Opens r next → OpensAs r (link_at (S.words (BlockWord r))).kind (kind_then next)) where
       abbrev w : ℕ
       w = it.place
 
@@ -145,7 +145,7 @@ module _ (s : Shape) (code : CodeParts) (ih : s.takeover ≡ ByEntries) (fair : 
 
       goes_as : (K : RestartKind) → kinds_of s state.words w ≡ K → GoesOnBy (Closed s.takeover m) m k b h run.lawful.1.board p w K (kind_then next) → GoesOnAs S t w K (kind_then next)
       goes_as (Run f y) is g = g
-      goes_as (Bump r) is g = opens r is
+      goes_as (Bump r) is g = opens r is (inl g)
       goes_as (Push1 r) is g = g.0
       goes_as (Push2 r) is (inl g) = inr (g.0, unruns_are_untaken t run.kept.apart r (agrees.to_push r (ap fate_of g.1)) w)
       goes_as (Push2 r) is (inr g) = inl g.0
@@ -243,7 +243,7 @@ module _ (s : Shape) (code : CodeParts) (ih : s.takeover ≡ ByEntries) (fair : 
 
   -- by how the row ends
   leads : (c victim : ℕ) (seat : Seat) (next : Then) (v slot : ℕ) → stand_of state c ≡ IsWithin seat (Now next) → seat.restart.kind ≡ Check v slot → GoesOn next
-      → ((it : InheritsAt s code state h forked taken run.lawful seat.place) → OpensSo s code state l it.place next)
+      → ((it : InheritsAt s code state h forked taken run.lawful seat.place) → (r : ℕ) → kinds_of s state.words it.place ≡ Bump r → Opens r next → OpensAs r (link_at (S.words (BlockWord r))).kind (kind_then next))
       → (w : ℕ) × Agrees (handed w seat.place t) (λ r. fate_of (by_row s state.words seat (Now next) h r)) × IsHalves s code root input (happens s code state (record { processor = c; act = Step victim })) (by_row s state.words seat (Now next) h) (fork_row (Now next) ++ forked) (take_row (Now next) ++ taken)
       (and_followed i l P w) (handed w seat.place t)
   leads c victim seat (Install restart) v slot at ke on opens = elim (heirs_see s code ih state h forked taken run.lawful c seat (Now (Install restart)) v slot at ke) [
@@ -268,10 +268,10 @@ module _ (s : Shape) (code : CodeParts) (ih : s.takeover ≡ ByEntries) (fair : 
       let w = a.0.place in
       let is : kinds_of s state.words w ≡ Bump r = kinds_same s state.words w ∙ a.1 in
       let heir = heired c victim seat (Fork r) v slot at ke a.0 (opens a.0) (λ e. let two : Bump r ≡ Seek = sym a.1 ∙ e in cc) is
-      (subst (λ (K : RestartKind). GoesOnAs S t w K (Push1 r)) (sym is) (opens a.0 r is)) in
+      (subst (λ (K : RestartKind). GoesOnAs S t w K (Push1 r)) (sym is) (opens a.0 r is (inr refl))) in
       let fresh : has forked r ≡ false = heir_turns_new i fair root input state l run.apart t run.kept c victim seat (Fork r) w at heir (has forked) run.born r is in (
         w,
-        agrees_fork c victim seat (Fork r) v slot at ke a.0 (opens a.0) r is (opens a.0 r is) fresh,
+        agrees_fork c victim seat (Fork r) v slot at ke a.0 (opens a.0) r is (opens a.0 r is (inr refl)) fresh,
         halves c victim seat (Fork r) v slot at ke a.0 (opens a.0) (by_row s state.words seat (Now (Fork r)) h) (r ∷ forked) taken
             (heirs_follow s code state h forked taken run.lawful c victim seat (Now (Fork r)) v slot at ke a.0 a.1 fresh)
             (ap (λ (x : Standing). with_blocks (step_by (row_by fork_row) (Step victim) x) (has forked)) at ∙ fun_ext (with_same (r ∷ []) forked))
@@ -280,4 +280,5 @@ module _ (s : Shape) (code : CodeParts) (ih : s.takeover ≡ ByEntries) (fair : 
   leads c victim seat _ v slot at ke on opens = absurd on
 
 pub heirs_lead : HeirsLead
-heirs_lead s code ih fair root input state h forked taken l t run agrees c victim seat next v slot at ke on opens = leads s code ih fair root input state h forked taken l t run agrees c victim seat next v slot at ke on opens
+heirs_lead s code ih fair root input state h forked taken l t run agrees c victim seat next v slot at ke on rightly = leads s code ih fair root input state h forked taken l t run agrees c victim seat next v slot at ke on
+    (λ it r is by. rightly c seat next v slot at ke on it.place r (claims_shut run.lawful.1.board it.place it.way.0.slot (subst IsClaim (sym it.way.0.taken) (omega arith))) (away l run.lawful.1.board.gone it.place run.gone it.stays) is by)

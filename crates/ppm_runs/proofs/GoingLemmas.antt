@@ -46,20 +46,7 @@ use Rattle.ppm_runs.proofs.StandLemmas.{kinds_same}
 use Rattle.ppm_runs.proofs.ShownLemmas.{halves, Within, within, runs, holds}
 use Rattle.ppm_runs.proofs.OrderlyLemmas.{turns_are_orderly}
 use Rattle.ppm_runs.proofs.TakerLemmas.{takers_have}
-
--- what is left of a row by the words that were found is what it has come to
-pub comes_of : (s : Shape) (seat : Seat) (v : ℕ) (row rest : Row) (ws : List Word) → row_is_there s seat rest ≡ true → rest_of s seat v row ws ≡ rest → Comes s seat (length ws) row rest
-comes_of s seat v row rest [] there e = e
-comes_of s seat v (Now (Load point)) rest (w ∷ ws) there e = (v, content_by w, comes_of s seat v (found_at s seat v point (content_by w)) rest ws there e)
-comes_of s seat v (Now (Install re)) rest (w ∷ ws) there e = absurd (let z = ap (row_is_there s seat) e ∙ there in cc)
-comes_of s seat v (Now (Fork r)) rest (w ∷ ws) there e = absurd (let z = ap (row_is_there s seat) e ∙ there in cc)
-comes_of s seat v (Now (Begin r f b)) rest (w ∷ ws) there e = absurd (let z = ap (row_is_there s seat) e ∙ there in cc)
-comes_of s seat v (Now (Move q)) rest (w ∷ ws) there e = absurd (let z = ap (row_is_there s seat) e ∙ there in cc)
-comes_of s seat v (Now (Enter x)) rest (w ∷ ws) there e = absurd (let z = ap (row_is_there s seat) e ∙ there in cc)
-comes_of s seat v (Now Again) rest (w ∷ ws) there e = absurd (let z = ap (row_is_there s seat) e ∙ there in cc)
-comes_of s seat v (Now Broken) rest (w ∷ ws) there e = absurd (let z = ap (row_is_there s seat) e ∙ there in cc)
-comes_of s seat v (Store c x next) rest (w ∷ ws) there e = comes_of s seat v (Now next) rest ws there e
-comes_of s seat v (Exchange c old new next) rest (w ∷ ws) there e = comes_of s seat v (Now next) rest ws there e
+use Rattle.ppm_runs.proofs.CameLemmas.{came_from}
 
 -- the place of a home that takes
 abbrev taker_place : Home → ℕ
@@ -125,30 +112,6 @@ module _ (s : Shape) (code : CodeParts) (places : s.takeover ≡ ByPlaces) (fair
   abbrev In : ℕ → Seat → Row → Type 0
   In c seat row = Within s code root input state h forked taken [] t (halves run) c seat row
 
-  pub came_by : (c : ℕ) (seat : Seat) (row : Row) → In c seat row → CameBy s seat seat.restart.kind row
-  came_by c seat row w = by seat.restart.kind refl w.seen
-    where
-      looked : (k : RestartKind) → seat.restart.kind ≡ k → (IsStrand k → ⊥) → HasSeen s (spots.with_restarts (spots.view s state.words) (spots.kinds s state.words) (spots.bottoms s state.words)) seat row
-          → (n : ℕ) × Comes s seat n (row_of s seat k) row
-      looked k e none (Strand is quiet) = absurd (none (subst IsStrand e is))
-      looked k e none (Looks v ws fit is saw) = (length ws, subst (λ (a : RestartKind). Comes s seat (length ws) (row_of s seat a) row) e (comes_of s seat v (row_of s seat seat.restart.kind) row ws w.here is))
-
-      by : (k : RestartKind) → seat.restart.kind ≡ k → HasSeen s (spots.with_restarts (spots.view s state.words) (spots.kinds s state.words) (spots.bottoms s state.words)) seat row → CameBy s seat k row
-      by (Run f y) e seen = tt
-      by (Bump r) e seen = tt
-      by (Unwind f) e seen = tt
-      by (Arrive r d) e seen = tt
-      by (Join r d) e seen = tt
-      by (Push1 r) e seen = looked (Push1 r) e (λ z. z) seen
-      by (Push2 r) e seen = looked (Push2 r) e (λ z. z) seen
-      by Pop1 e seen = looked Pop1 e (λ z. z) seen
-      by (Pop2 r) e seen = looked (Pop2 r) e (λ z. z) seen
-      by Seek e seen = looked Seek e (λ z. z) seen
-      by (Steal v j) e seen = looked (Steal v j) e (λ z. z) seen
-      by (Check v j) e seen = looked (Check v j) e (λ z. z) seen
-      by (Take v j) e seen = looked (Take v j) e (λ z. z) seen
-      by (Take2 v) e seen = looked (Take2 v) e (λ z. z) seen
-
   -- no other place is about to begin the branch
   alone_in : (c : ℕ) (seat : Seat) (r f b : ℕ) → stand_of state c ≡ IsWithin seat (Now (Begin r f b)) → is_taker seat.restart.kind ≡ true → IsAlone (places_of s state) seat.place r
   alone_in c seat r f b e taker q f' b' ne other does =
@@ -183,7 +146,7 @@ module _ (s : Shape) (code : CodeParts) (places : s.takeover ≡ ByPlaces) (fair
         own = subst (λ (z : ℕ). z < s.processors) (sym w.sits.own) w.sits.carried.lives.there;
         kind = w.kind;
         there = w.here;
-        came = came_by c seat row w;
+        came = came_from s seat row (spots.with_restarts (spots.view s state.words) (spots.kinds s state.words) (spots.bottoms s state.words)) w.here w.seen;
         takes = takes_so c seat row e;
       }
   stands_so c (IsRunning seat rest) e = let w = runs s code root input state h forked taken [] t (halves run) c seat rest e in record { holds = w.holds; kind = w.kind; there = w.here }

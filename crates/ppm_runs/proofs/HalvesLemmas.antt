@@ -53,7 +53,8 @@ use Rattle.ppm_runs.specs.Follow.{IsHalves, LooksOnly, HalvesGoOn}
 use Rattle.ppm_runs.proofs.BearingLemmas.{with_same}
 use Rattle.ppm_runs.proofs.FollowLemmas.{stays_gone}
 use Rattle.ppm_runs.proofs.ShownLemmas.{holds, carried_away}
-use Rattle.ppm_runs.proofs.GoingLemmas.{comes_of, Doer, doer}
+use Rattle.ppm_runs.proofs.CameLemmas.{came_from}
+use Rattle.ppm_runs.proofs.GoingLemmas.{Doer, doer}
 use Rattle.ppm_runs.proofs.StandLemmas.{kinds_same}
 
 taker_is : (k : RestartKind) → is_taker k ≡ true → IsTaker k
@@ -98,29 +99,6 @@ module _ (s : Shape) (code : CodeParts) (ih : s.takeover ≡ ByEntries) (fair : 
   is_away : (c p : ℕ) → Carried s m c p → IsAway l p
   is_away c p carried = carried_away s code root input state h forked taken l t run c p carried
 
-  came_by : (seat : Seat) (row : Row) → row_is_there s seat row ≡ true → HasSeen s (spots.with_restarts m k b) seat row → CameBy s seat seat.restart.kind row
-  came_by seat row there seen = by seat.restart.kind refl seen
-    where
-      looked : (k' : RestartKind) → seat.restart.kind ≡ k' → (IsStrand k' → ⊥) → HasSeen s (spots.with_restarts m k b) seat row → (n : ℕ) × Comes s seat n (row_of s seat k') row
-      looked k' e none (Strand is quiet) = absurd (none (subst IsStrand e is))
-      looked k' e none (Looks v ws fit is saw) = (length ws, subst (λ (a : RestartKind). Comes s seat (length ws) (row_of s seat a) row) e (comes_of s seat v (row_of s seat seat.restart.kind) row ws there is))
-
-      by : (k' : RestartKind) → seat.restart.kind ≡ k' → HasSeen s (spots.with_restarts m k b) seat row → CameBy s seat k' row
-      by (Run f y) e seen = tt
-      by (Bump r) e seen = tt
-      by (Unwind f) e seen = tt
-      by (Arrive r d) e seen = tt
-      by (Join r d) e seen = tt
-      by (Push1 r) e seen = looked (Push1 r) e (λ z. z) seen
-      by (Push2 r) e seen = looked (Push2 r) e (λ z. z) seen
-      by Pop1 e seen = looked Pop1 e (λ z. z) seen
-      by (Pop2 r) e seen = looked (Pop2 r) e (λ z. z) seen
-      by Seek e seen = looked Seek e (λ z. z) seen
-      by (Steal v j) e seen = looked (Steal v j) e (λ z. z) seen
-      by (Check v j) e seen = looked (Check v j) e (λ z. z) seen
-      by (Take v j) e seen = looked (Take v j) e (λ z. z) seen
-      by (Take2 v) e seen = looked (Take2 v) e (λ z. z) seen
-
   -- a branch that is about to be begun is offered
   offered : (p r : ℕ) → MayTake (Closed s.takeover m) m k b h run.lawful.1.board p r → fate_of (h r) ≡ Offered
   offered p r (inl is) = ap fate_of is
@@ -158,7 +136,7 @@ module _ (s : Shape) (code : CodeParts) (ih : s.takeover ≡ ByEntries) (fair : 
         own = subst (λ (z : ℕ). z < s.processors) (sym sees.0.own) sees.0.carried.lives.there;
         kind = kinds_same s state.words seat.place ∙ sees.0.at.kind;
         there = sees.2;
-        came = came_by seat row sees.2 sees.1;
+        came = came_from s seat row (spots.with_restarts m k b) sees.2 sees.1;
         takes = takes_so c seat row e;
       }
   stands_so c (IsRunning seat rest) e =

@@ -17,12 +17,14 @@ pub mod StandLemmas
 pub mod ShownLemmas
 pub mod OrderlyLemmas
 pub mod TakerLemmas
+pub mod CameLemmas
 pub mod GoingLemmas
 pub mod BearingLemmas
 pub mod OpenLemmas
 pub mod BrokenLemmas
 pub mod OutcomeLemmas
 pub mod AgreeLemmas
+pub mod OpenedLemmas
 pub mod JoinLemmas
 pub mod WholeLemmas
 pub mod MomentLemmas
@@ -47,3 +49,5 @@ pub mod WorkLemmas
 pub mod BoundLemmas
 pub mod FollowLemmas
 pub mod HalvesLemmas
+pub mod HeirJoinLemmas
+pub mod HeiredLemmas

@@ -90,23 +90,23 @@ IsLooking _ = ⊥
 
 -- all is allowed but forks
 abbrev no_forks : May
-no_forks = record { forks = λ r. ⊥; begins = λ r. Unit {0}; stores = λ a. Unit {0}; trades = λ a. Unit {0}; jobs = λ r. Unit {0} }
+no_forks = record { forks = λ r. ⊥; begins = λ r. Unit {0}; stores = λ a. Unit {0}; trades = λ a. Unit {0}; jobs = λ r. Unit {0}; fills = Unit {0} }
 
 -- no block word is changed but this one
 abbrev one_word : ℕ → May
-one_word w = record { forks = λ r. Unit {0}; begins = λ r. Unit {0}; stores = λ a. a ≡ w; trades = λ a. a ≡ w; jobs = λ r. Unit {0} }
+one_word w = record { forks = λ r. Unit {0}; begins = λ r. Unit {0}; stores = λ a. a ≡ w; trades = λ a. a ≡ w; jobs = λ r. Unit {0}; fills = Unit {0} }
 
 -- none is exchanged
 abbrev no_trades : May
-no_trades = record { forks = λ r. Unit {0}; begins = λ r. Unit {0}; stores = λ a. Unit {0}; trades = λ a. ⊥; jobs = λ r. Unit {0} }
+no_trades = record { forks = λ r. Unit {0}; begins = λ r. Unit {0}; stores = λ a. Unit {0}; trades = λ a. ⊥; jobs = λ r. Unit {0}; fills = Unit {0} }
 
 -- no block word is changed
 abbrev no_words : May
-no_words = record { forks = λ r. Unit {0}; begins = λ r. Unit {0}; stores = λ a. ⊥; trades = λ a. ⊥; jobs = λ r. Unit {0} }
+no_words = record { forks = λ r. Unit {0}; begins = λ r. Unit {0}; stores = λ a. ⊥; trades = λ a. ⊥; jobs = λ r. Unit {0}; fills = Unit {0} }
 
 -- one block alone is forked
 abbrev one_fork : ℕ → May
-one_fork b = record { forks = λ r. r ≡ b; begins = λ r. Unit {0}; stores = λ a. Unit {0}; trades = λ a. Unit {0}; jobs = λ r. Unit {0} }
+one_fork b = record { forks = λ r. r ≡ b; begins = λ r. Unit {0}; stores = λ a. Unit {0}; trades = λ a. Unit {0}; jobs = λ r. Unit {0}; fills = Unit {0} }
 
 -- by how the takeover is
 pub places_row : (t how : Takeover) (may : May) (row : Row) → TameRow t may row → TameRow t may (by_places how row)
@@ -114,7 +114,7 @@ places_row t ByPlaces may row q = q
 places_row t ByEntries may row q = tt
 
 -- one of both
-how_or : (how : Takeover) → (how ≡ ByPlaces) ⊎ (how ≡ ByEntries)
+pub how_or : (how : Takeover) → (how ≡ ByPlaces) ⊎ (how ≡ ByEntries)
 how_or ByPlaces = inl refl
 how_or ByEntries = inr refl
 
@@ -159,13 +159,13 @@ module _ (s : Shape) (code : CodeParts) (fair : IsFair code) (root : Tree (Frame
   pub reached : (may : May) (seat : Seat) (n : ℕ) (first rest : Row) → TameRow s.takeover may first → Reach i m seat n first rest → TameRow s.takeover may rest
   reached may seat n first rest q e = reach_tame i seat may m n first rest q e
 
-  pub push_row : (may : May) (seat : Seat) (r : ℕ) → may.stores (r + 1) → TameRow s.takeover may (row_of s seat (Push1 r))
-  push_row may seat r q = by (seat.restart.bottom + 1 == s.slots) s.takeover
+  pub push_row : (may : May) (seat : Seat) (r : ℕ) → may.stores (r + 1) → may.fills → TameRow s.takeover may (row_of s seat (Push1 r))
+  push_row may seat r q f = by (seat.restart.bottom + 1 == s.slots) s.takeover
     where
       by : (last : Bool) (how : Takeover) → TameRow s.takeover may (push_at seat how r last)
       by true how = (q, tt)
-      by false ByPlaces = tt
-      by false ByEntries = tt
+      by false ByPlaces = f
+      by false ByEntries = f
 
   -- no row forks but Bump's, and that its own block
   module _ (c : ℕ) (seat : Seat) (block : ℕ) (w : In c seat (Now (Fork block))) where
@@ -173,12 +173,12 @@ module _ (s : Shape) (code : CodeParts) (fair : IsFair code) (root : Tree (Frame
     fork_of (Run f y) e d = absurd (subst IsLoad (sym d) tt)
     fork_of (Bump r) e d = inl (ap Bump (sym (reached (one_fork r) (seat_at seat.place (Bump r) d.0) d.1 (row_of s (seat_at seat.place (Bump r) d.0) (Bump r)) (Now (Fork block)) refl d.2)))
     fork_of (Unwind f) e d = absurd (reached no_forks (seat_at seat.place (Unwind f) d.0) d.1 (row_of s (seat_at seat.place (Unwind f) d.0) (Unwind f)) (Now (Fork block)) (λ a. tt) d.2)
-    fork_of (Arrive r x) e d = absurd (reached no_forks (seat_at seat.place (Arrive r x) d.0) d.1 (row_of s (seat_at seat.place (Arrive r x) d.0) (Arrive r x)) (Now (Fork block)) (tt, tt) d.2)
+    fork_of (Arrive r x) e d = absurd (reached no_forks (seat_at seat.place (Arrive r x) d.0) d.1 (row_of s (seat_at seat.place (Arrive r x) d.0) (Arrive r x)) (Now (Fork block)) (tt, tt, tt) d.2)
     fork_of (Join r x) e d = elim d [
       | inl d ↦ absurd (reached no_forks (seat_at seat.place (Join r x) d.0) d.1 (row_of s (seat_at seat.place (Join r x) d.0) (Join r x)) (Now (Fork block)) (tt, λ a. tt) d.2)
       | inr g ↦ absurd (subst IsInstall (sym g.is) tt)
     ]
-    fork_of (Push1 r) e d = absurd (looked no_forks c seat (Now (Fork block)) (Push1 r) tt e (push_row no_forks seat r tt) w)
+    fork_of (Push1 r) e d = absurd (looked no_forks c seat (Now (Fork block)) (Push1 r) tt e (push_row no_forks seat r tt tt) w)
     fork_of (Push2 r) e d = absurd (looked no_forks c seat (Now (Fork block)) (Push2 r) tt e tt w)
     fork_of Pop1 e d = absurd (looked no_forks c seat (Now (Fork block)) Pop1 tt e tt w)
     fork_of (Pop2 r) e d = absurd (looked no_forks c seat (Now (Fork block)) (Pop2 r) tt e tt w)
@@ -192,7 +192,7 @@ module _ (s : Shape) (code : CodeParts) (fair : IsFair code) (root : Tree (Frame
     fork_of (Take2 v) e d = absurd (looked no_forks c seat (Now (Fork block)) (Take2 v) tt e (places_row s.takeover s.takeover no_forks _ tt) w)
 
   -- a block that is built was not forked
-  not_born : (p r : ℕ) → z.kind p ≡ Bump r → has forked r ≡ false
+  pub not_born : (p r : ℕ) → z.kind p ≡ Bump r → has forked r ≡ false
   not_born p r ke = elim (cases_Bool (has forked r)) [
     | inr e ↦ e
     | inl e ↦
@@ -368,7 +368,7 @@ module _ (s : Shape) (code : CodeParts) (fair : IsFair code) (root : Tree (Frame
     stored_by (Unwind f) e d = cell_pooled s cell ((unwind_row_keeps i fair root input z t law seat.place w.place f (w.kind ∙ e)).cells cell content next doing)
     stored_by (Arrive r x) e d = absurd ((arrive_row_keeps i fair root input z t law seat.place w.place r x (w.kind ∙ e)).stores_none cell content next doing)
     stored_by (Join r x) e d = cell_pooled s cell ((join_row_keeps i fair root input z t law seat.place w.place r x (w.kind ∙ e)).cells cell content next doing)
-    stored_by (Push1 r) e d = one_stored (r + 1) cell content next (order_pool r seat.place (inl (w.kind ∙ e))) (looked (one_word (r + 1)) c seat row (Push1 r) tt e (push_row (one_word (r + 1)) seat r refl) w)
+    stored_by (Push1 r) e d = one_stored (r + 1) cell content next (order_pool r seat.place (inl (w.kind ∙ e))) (looked (one_word (r + 1)) c seat row (Push1 r) tt e (push_row (one_word (r + 1)) seat r refl tt) w)
     stored_by (Push2 r) e d = none_stored cell content next (looked no_words c seat row (Push2 r) tt e tt w)
     stored_by Pop1 e d = none_stored cell content next (looked no_words c seat row Pop1 tt e tt w)
     stored_by (Pop2 r) e d = none_stored cell content next (looked no_words c seat row (Pop2 r) tt e tt w)
@@ -392,12 +392,12 @@ module _ (s : Shape) (code : CodeParts) (fair : IsFair code) (root : Tree (Frame
     traded_by (Unwind f) e d = none_traded no_trades nothing cell old new next (reached no_trades (seat_at seat.place (Unwind f) d.0) d.1 (row_of s (seat_at seat.place (Unwind f) d.0) (Unwind f)) trade (λ a. tt) d.2)
     traded_by (Arrive r x) e d = one_traded (r + 1) cell old new next
         (head_pool s code root input state h forked taken l t run (r + 1) (subst (Ordered i z t m) (w.kind ∙ e) (law.orders seat.place)))
-        (reached (one_word (r + 1)) (seat_at seat.place (Arrive r x) d.0) d.1 (row_of s (seat_at seat.place (Arrive r x) d.0) (Arrive r x)) trade (refl, tt) d.2)
+        (reached (one_word (r + 1)) (seat_at seat.place (Arrive r x) d.0) d.1 (row_of s (seat_at seat.place (Arrive r x) d.0) (Arrive r x)) trade (refl, tt, tt) d.2)
     traded_by (Join r x) e d = elim d [
       | inl d ↦ none_traded no_trades nothing cell old new next (reached no_trades (seat_at seat.place (Join r x) d.0) d.1 (row_of s (seat_at seat.place (Join r x) d.0) (Join r x)) trade (tt, λ a. tt) d.2)
       | inr g ↦ absurd (subst IsInstall (sym g.is) tt)
     ]
-    traded_by (Push1 r) e d = one_traded (r + 1) cell old new next (order_pool r seat.place (inl (w.kind ∙ e))) (looked (one_word (r + 1)) c seat trade (Push1 r) tt e (push_row (one_word (r + 1)) seat r refl) w)
+    traded_by (Push1 r) e d = one_traded (r + 1) cell old new next (order_pool r seat.place (inl (w.kind ∙ e))) (looked (one_word (r + 1)) c seat trade (Push1 r) tt e (push_row (one_word (r + 1)) seat r refl tt) w)
     traded_by (Push2 r) e d = none_traded no_words nothing cell old new next (looked no_words c seat trade (Push2 r) tt e tt w)
     traded_by Pop1 e d = none_traded no_words nothing cell old new next (looked no_words c seat trade Pop1 tt e tt w)
     traded_by (Pop2 r) e d = none_traded no_words nothing cell old new next (looked no_words c seat trade (Pop2 r) tt e tt w)

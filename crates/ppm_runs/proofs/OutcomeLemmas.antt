@@ -25,7 +25,7 @@ use Rattle.ppm_runs.specs.Run.{image, fate_of}
 use Rattle.ppm_runs.specs.Outcomes.{RunsEnd, StopsStay}
 
 -- a branch of which nothing has come, or that was begun, is so in the deques too
-unborn_is : (x : Home) → fate_of x ≡ fates.Unborn → x ≡ Unborn
+pub unborn_is : (x : Home) → fate_of x ≡ fates.Unborn → x ≡ Unborn
 unborn_is Unborn e = refl
 unborn_is (Pushing p) e = absurd (let z : ToPush ≡ fates.Unborn = e in cc)
 unborn_is (Listed v i t) e = absurd (let z : Offered ≡ fates.Unborn = e in cc)
@@ -34,7 +34,7 @@ unborn_is (Stolen p) e = absurd (let z : Offered ≡ fates.Unborn = e in cc)
 unborn_is Inline e = absurd (let z : fates.Inline ≡ fates.Unborn = e in cc)
 unborn_is Begun e = absurd (let z : fates.Begun ≡ fates.Unborn = e in cc)
 
-begun_is : (x : Home) → fate_of x ≡ fates.Begun → x ≡ Begun
+pub begun_is : (x : Home) → fate_of x ≡ fates.Begun → x ≡ Begun
 begun_is Unborn e = absurd (let z : fates.Unborn ≡ fates.Begun = e in cc)
 begun_is (Pushing p) e = absurd (let z : ToPush ≡ fates.Begun = e in cc)
 begun_is (Listed v i t) e = absurd (let z : Offered ≡ fates.Begun = e in cc)
@@ -48,7 +48,7 @@ none_true true never = absurd (never refl)
 none_true false never = refl
 
 -- so such a branch was forked where it was taken
-same_lists : (h : ℕ → Home) (forked taken : List ℕ) → Counts h forked taken → (r : ℕ) → (h r ≡ Unborn) ⊎ (h r ≡ Begun) → has forked r ≡ has taken r
+pub same_lists : (h : ℕ → Home) (forked taken : List ℕ) → Counts h forked taken → (r : ℕ) → (h r ≡ Unborn) ⊎ (h r ≡ Begun) → has forked r ≡ has taken r
 same_lists h forked taken counts r (inl e) =
     none_true (has forked r) (λ f. counts.born r f e)
     ∙ sym (none_true (has taken r) (λ k. let z : Unborn ≡ Begun = sym e ∙ counts.begun r k in cc))

@@ -50,13 +50,15 @@ abbrev pub IsJobEntry : Entry → Type 0
 IsJobEntry (Job tag block) = Unit {0}
 IsJobEntry _ = ⊥
 
--- what a row may fork, begin, store and exchange of blocks, and of which it may make a job
+-- what a row may fork, begin, store and exchange of blocks, of which it may make a job, and whether it may
+-- fill an empty entry
 pub record May : Type 1 where
   pub forks : ℕ → Type 0
   pub begins : ℕ → Type 0
   pub stores : ℕ → Type 0
   pub trades : ℕ → Type 0
   pub jobs : ℕ → Type 0
+  pub fills : Type 0
 
 module _ (how : Takeover) (may : May) where
   abbrev pub TameStore : Cell → Type 0
@@ -68,9 +70,15 @@ module _ (how : Takeover) (may : May) where
   TameTrade (EntryWord v i) (AnEntry (Job tag block)) = may.jobs block
   TameTrade _ x = Unit {0}
 
+  abbrev pub TameOld : (old : Content) → Type 0
+  TameOld (AnEntry (Empty tag)) = may.fills
+  TameOld x = Unit {0}
+
   -- what a load that comes next may come to
   abbrev pub TamePoint : Point → Type 0
   TamePoint (BumpLink block) = may.forks block
+  TamePoint (PushOrder block) = may.fills
+  TamePoint (PushAbove block) = may.fills
   TamePoint (PushBottom block) = may.jobs block
   TamePoint (UnwindLink frame) = (at : ℕ) → may.stores at
   TamePoint (UnwindOutcome frame link) = (at : ℕ) → may.stores at
@@ -99,7 +107,7 @@ module _ (how : Takeover) (may : May) where
   abbrev pub TameRow : Row → Type 0
   TameRow (Now next) = TameThen next
   TameRow (Store c x next) = TameStore c × TameThen next
-  TameRow (Exchange c old new next) = TameTrade c new × TameThen next
+  TameRow (Exchange c old new next) = TameTrade c new × TameThen next × TameOld old
 
 module _ (s : Shape) (seat : Seat) (may : May) where
   abbrev T : Row → Type 0
@@ -149,6 +157,45 @@ module _ (s : Shape) (seat : Seat) (may : May) where
   made v i (Local t x) k = tt
   made v i (Taken t x) k = tt
 
+  -- an empty entry is changed by who may
+  abbrev Fills : Entry → Option Entry → Type 0
+  Fills (Empty t) (Some new) = may.fills
+  Fills e new = Unit {0}
+
+  filled : (e new : Entry) → Fills e (Some new) → TameOld s.takeover may (AnEntry e)
+  filled (Empty t) new f = f
+  filled (Local t x) new f = tt
+  filled (Job t x) new f = tt
+  filled (Taken t x) new f = tt
+
+  above_fills : may.fills → (e : Entry) → Fills e (pushed_above e)
+  above_fills f (Empty t) = f
+  above_fills f (Local t x) = tt
+  above_fills f (Job t x) = tt
+  above_fills f (Taken t x) = tt
+
+  bottom_fills : (block : ℕ) (e : Entry) → Fills e (pushed_job e block)
+  bottom_fills block (Empty t) = tt
+  bottom_fills block (Local t x) = tt
+  bottom_fills block (Job t x) = tt
+  bottom_fills block (Taken t x) = tt
+
+  pop_fills : (e : Entry) → Fills e (popped_above e)
+  pop_fills (Empty t) = tt
+  pop_fills (Local t x) = tt
+  pop_fills (Job t x) = tt
+  pop_fills (Taken t x) = tt
+
+  steal_fills : (how : Takeover) (p : ℕ) (e : Entry) → Fills e (taken_so how p e)
+  steal_fills ByPlaces p (Empty t) = tt
+  steal_fills ByPlaces p (Local t x) = tt
+  steal_fills ByPlaces p (Job t x) = tt
+  steal_fills ByPlaces p (Taken t x) = tt
+  steal_fills ByEntries p (Empty t) = tt
+  steal_fills ByEntries p (Local t x) = tt
+  steal_fills ByEntries p (Job t x) = tt
+  steal_fills ByEntries p (Taken t x) = tt
+
   above_makes : (e : Entry) → Makes (pushed_above e)
   above_makes (Empty t) = tt
   above_makes (Local t x) = tt
@@ -177,17 +224,17 @@ module _ (s : Shape) (seat : Seat) (may : May) where
   steal_makes ByEntries p (Job t x) = tt
   steal_makes ByEntries p (Taken t x) = tt
 
-  tried_tame : (v i : ℕ) (old : Entry) (a : Option Entry) (next : Then) → Makes a → TameThen s.takeover may next → T (tried (EntryWord v i) old a next)
-  tried_tame v i old None next k q = q
-  tried_tame v i old (Some new) next k q = by (nat_lt (tag_of old + 1) (2 ^ 34))
+  tried_tame : (v i : ℕ) (old : Entry) (a : Option Entry) (next : Then) → Makes a → Fills old a → TameThen s.takeover may next → T (tried (EntryWord v i) old a next)
+  tried_tame v i old None next k f q = q
+  tried_tame v i old (Some new) next k f q = by (nat_lt (tag_of old + 1) (2 ^ 34))
     where
       by : (y : Bool) → T (raised (EntryWord v i) old new next y)
-      by true = (made v i new k, q)
+      by true = (made v i new k, q, filled old new f)
       by false = tt
 
-  changed_tame : (v i : ℕ) (old : Entry) (a : Option Entry) (next : Then) → Makes a → TameThen s.takeover may next → T (changed (EntryWord v i) old a next)
-  changed_tame v i old None next k q = tt
-  changed_tame v i old (Some new) next k q = tried_tame v i old (Some new) next k q
+  changed_tame : (v i : ℕ) (old : Entry) (a : Option Entry) (next : Then) → Makes a → Fills old a → TameThen s.takeover may next → T (changed (EntryWord v i) old a next)
+  changed_tame v i old None next k f q = tt
+  changed_tame v i old (Some new) next k f q = tried_tame v i old (Some new) next k f q
 
   after_tame : (to copy : ℕ) (right_of : Option ℕ) → ((at : ℕ) → may.stores at) → TameThen s.takeover may (after_value seat to copy right_of)
   after_tame to copy None q = tt
@@ -209,7 +256,7 @@ module _ (s : Shape) (seat : Seat) (may : May) where
   back_tame frame to copy _ q = (q _, tt)
 
   unwound_tame : (frame : ℕ) (kind : LinkKind) (o : Finish) → ((at : ℕ) → may.stores at) → T (unwound seat frame kind o)
-  unwound_tame frame Root o q = (tt, tt)
+  unwound_tame frame Root o q = (tt, tt, tt)
   unwound_tame frame (CallLink to copy) o q = back_tame frame to copy o q
   unwound_tame frame (Branch Left block) o q = (q _, tt)
   unwound_tame frame (Branch Right block) o q = (q _, tt)
@@ -236,7 +283,7 @@ module _ (s : Shape) (seat : Seat) (may : May) where
   get_back_tame : (entry : Entry) → T (get_back seat entry)
   get_back_tame (Empty t) = tt
   get_back_tame (Local t x) = tt
-  get_back_tame (Job t x) = tried_tame seat.place (seat.restart.bottom - 1) (Job t x) (Some (Local (t + 1) x)) _ tt tt
+  get_back_tame (Job t x) = tried_tame seat.place (seat.restart.bottom - 1) (Job t x) (Some (Local (t + 1) x)) _ tt tt tt
   get_back_tame (Taken t x) = tt
 
   got_back_tame : (block : ℕ) (entry : Entry) → may.begins block → T (got_back seat block entry)
@@ -258,8 +305,8 @@ module _ (s : Shape) (seat : Seat) (may : May) where
   bids_tame v holder false = tt
 
   passes_tame : (v i : ℕ) (t : Takeover) → T (passes_by s v i t)
-  passes_tame v i ByPlaces = (tt, tt)
-  passes_tame v i ByEntries = if_tame (nat_lt (i + 1) s.slots) _ _ (tt, tt) tt
+  passes_tame v i ByPlaces = (tt, tt, tt)
+  passes_tame v i ByEntries = if_tame (nat_lt (i + 1) s.slots) _ _ (tt, tt, tt) tt
 
   local_tame : (v i : ℕ) (entry : Entry) (t : Takeover) → T (local_by v i entry t)
   local_tame v i entry ByPlaces = tt
@@ -334,14 +381,14 @@ module _ (s : Shape) (seat : Seat) (may : May) where
 
   lowered_tame : (tag : ℕ) (v d : ℕ) (message : Holder) → T (lowered tag seat v d message)
   lowered_tame zero v d message = tt
-  lowered_tame (suc tag) v d message = (tt, tt)
+  lowered_tame (suc tag) v d message = (tt, tt, tt)
 
   pub found_tame : (u : ℕ) (point : Point) (w : Content) → TamePoint s.takeover may point → T (found_at s seat u point w)
   found_tame u (Header frame copy) w q = on_numbers w _ (λ n. tt)
   found_tame u (BumpLink block) w q = on_links w _ (λ l. bumped_tame block l.size l.kind q)
-  found_tame u (PushOrder block) w q = on_numbers w _ (λ n. if_tame (n == both) _ _ tt tt)
-  found_tame u (PushAbove block) w q = on_entries w _ (λ e. tried_tame seat.place (seat.restart.bottom + 1) e (pushed_above e) _ (above_makes e) tt)
-  found_tame u (PushBottom block) w q = on_entries w _ (λ e. tried_tame seat.place seat.restart.bottom e (pushed_job e block) _ (bottom_makes block q e) tt)
+  found_tame u (PushOrder block) w q = on_numbers w _ (λ n. if_tame (n == both) _ _ tt q)
+  found_tame u (PushAbove block) w q = on_entries w _ (λ e. tried_tame seat.place (seat.restart.bottom + 1) e (pushed_above e) _ (above_makes e) (above_fills q e) tt)
+  found_tame u (PushBottom block) w q = on_entries w _ (λ e. tried_tame seat.place seat.restart.bottom e (pushed_job e block) _ (bottom_makes block q e) (bottom_fills block e) tt)
   found_tame u (UnwindLink frame) w q = on_links w _ (λ l. unwind_tame frame l.kind q)
   found_tame u (UnwindOutcome frame link) w q = on_outcomes w _ (λ o. unwound_tame frame link o q)
   found_tame u (Target frame to copy right_of) w q = on_numbers w _ (λ n. target_tame frame to copy right_of n q)
@@ -354,13 +401,13 @@ module _ (s : Shape) (seat : Seat) (may : May) where
   found_tame u (Offset block low) w q = on_numbers w _ (λ n. if_tame (nat_lt (block + n) (word_count s)) _ _ q tt)
   found_tame u PopBelow w q = on_entries w _ get_back_tame
   found_tame u (PopAgain block) w q = on_entries w _ (λ e. got_back_tame block e q)
-  found_tame u (PopAbove block) w q = on_entries w _ (λ e. tried_tame seat.place seat.restart.bottom e (popped_above e) _ (pop_makes e) q)
+  found_tame u (PopAbove block) w q = on_entries w _ (λ e. tried_tame seat.place seat.restart.bottom e (popped_above e) _ (pop_makes e) (pop_fills e) q)
   found_tame u SeekHolder w q = on_holders w _ (λ o. if_tame (u == seat.place) _ _ tt (by_tame u o s.takeover))
   found_tame u (SeekDead v holder) w q = on_numbers w _ (λ n. if_tame (n == 1) _ _ (bids_tame v holder (nat_lt (holder.tag + 1) (2 ^ 58))) tt)
   found_tame u (SeekTop v) w q = on_numbers w _ (λ n. if_tame (nat_lt n s.slots) _ _ tt tt)
   found_tame u (SeekEntry v i) w q = on_entries w _ (seek_entry_tame v i)
   found_tame u (SeekClosed v i entry) w q = on_numbers w _ (λ n. if_tame (n == 1) _ _ (tt, tt) tt)
-  found_tame u (StealMessage v i) w q = on_entries w _ (λ e. changed_tame v i e (taken_so s.takeover seat.place e) _ (steal_makes s.takeover seat.place e) tt)
+  found_tame u (StealMessage v i) w q = on_entries w _ (λ e. changed_tame v i e (taken_so s.takeover seat.place e) _ (steal_makes s.takeover seat.place e) (steal_fills s.takeover seat.place e) tt)
   found_tame u (TakenMessage by v i) w q = on_entries w _ (λ e. message_tame s.takeover refl by v i e q.0 q.1)
   found_tame u (TakenEntry by v i message) w q = on_entries w _ (λ e. if_tame (took by message e) _ _ (goes_on_tame v i message q.0 q.1) tt)
   found_tame u (ClosedRestart v i block) w q = on_restarts w _ (λ r. follows_tame v i block r q.0 q.1)

@@ -197,11 +197,11 @@ module _ (s : Shape) (code : CodeParts) (places : s.takeover ≡ ByPlaces) (fair
   row_kinds c v made seat (Store cell content next) e paces =
       let w = within s code root input state h forked taken [] t (halves run) c seat (Store cell content next) e in
       let pooled : IsPooled s cell = subst (IsPooledAt s) e ((turns_are_orderly s code places fair root input state h forked taken t run).pooled c) in
-      inl (elsewhere cell (word_of content) (cell_there s code cell w.here pooled) (stores_no_restart s code places fair root input state h forked taken t run c seat cell content next w), λ z. z)
+      inl (elsewhere cell (word_of content) (cell_there s code cell w.here pooled) (stores_no_restart s code root input state h forked taken [] t (halves run) c seat cell content next w), λ z. z)
   row_kinds c v made seat (Exchange cell old new next) e paces =
       let w = within s code root input state h forked taken [] t (halves run) c seat (Exchange cell old new next) e in
       let pooled : IsPooled s cell = subst (IsPooledAt s) e ((turns_are_orderly s code places fair root input state h forked taken t run).pooled c) in
-      inl (if_still (read s state.words cell == word_of old) cell (word_of new) (cell_there s code cell w.here pooled) (exchanges_no_restart s code places fair root input state h forked taken t run c seat cell old new next w), λ z. z)
+      inl (if_still (read s state.words cell == word_of old) cell (word_of new) (cell_there s code cell w.here pooled) (exchanges_no_restart s code root input state h forked taken [] t (halves run) c seat cell old new next w), λ z. z)
 
   -- in a capsule
   rest_kinds : (c v made : ℕ) (seat : Seat) (rest : Rest) → stand_of state c ≡ IsRunning seat rest → Paces s made (IsRunning seat rest)
@@ -281,11 +281,11 @@ module _ (s : Shape) (code : CodeParts) (places : s.takeover ≡ ByPlaces) (fair
   row_carries c v seat (Store cell content next) e d out =
       let w = within s code root input state h forked taken [] t (halves run) c seat (Store cell content next) e in
       let pooled : IsPooled s cell = subst (IsPooledAt s) e ((turns_are_orderly s code places fair root input state h forked taken t run).pooled c) in
-      carry_else d cell (word_of content) (cell_there s code cell w.here pooled) (stores_no_carry s code places fair root input state h forked taken t run c seat cell content next w)
+      carry_else d cell (word_of content) (cell_there s code cell w.here pooled) (stores_no_carry s code root input state h forked taken [] t (halves run) c seat cell content next w)
   row_carries c v seat (Exchange cell old new next) e d out =
       let w = within s code root input state h forked taken [] t (halves run) c seat (Exchange cell old new next) e in
       let pooled : IsPooled s cell = subst (IsPooledAt s) e ((turns_are_orderly s code places fair root input state h forked taken t run).pooled c) in
-      carry_if d (read s state.words cell == word_of old) cell (word_of new) (cell_there s code cell w.here pooled) (exchanges_no_carry s code places fair root input state h forked taken t run c seat cell old new next w)
+      carry_if d (read s state.words cell == word_of old) cell (word_of new) (cell_there s code cell w.here pooled) (exchanges_no_carry s code root input state h forked taken [] t (halves run) c seat cell old new next w)
 
   rest_carries : (c : ℕ) (seat : Seat) (rest : Rest) → stand_of state c ≡ IsRunning seat rest → (d : ℕ) → Carries d (words_after state.words (wanted_rest s seat rest))
   rest_carries c seat (Loads cell go) e d = refl

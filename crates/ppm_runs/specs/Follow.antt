@@ -1,10 +1,10 @@
 -- A turn by which a place goes on with what it inherited, with takeover by entries: both halves hold behind
 -- it, with the closed place left out of the frames' half.
-use Rattle.std.specs.Prelude.{◌≡◌, ◌≢◌, ◌≤◌, ◌<◌, ℕ, Bool, true, List, [], ◌∷◌, ◌++◌}
+use Rattle.std.specs.Prelude.{◌≡◌, ◌≢◌, ◌⊎◌, ◌≤◌, ◌<◌, ℕ, Bool, true, List, [], ◌∷◌, ◌++◌}
 use Rattle.ppm_strands.specs.Tree.{Words, Tree}
 use Rattle.ppm_cells.specs.declared.cell.Cell.TheVariants.{BlockWord}
 use Rattle.ppm_cells.specs.declared.restart.RestartKind.{RestartKind}
-use Rattle.ppm_cells.specs.declared.restart.RestartKind.TheVariants.{Bump, Seek, Check}
+use Rattle.ppm_cells.specs.declared.restart.RestartKind.TheVariants.{Run, Bump, Seek, Check}
 use Rattle.ppm_cells.specs.declared.shape.Shape.{Shape}
 use Rattle.ppm_cells.specs.declared.shape.Takeover.TheVariants.{ByEntries}
 use Rattle.ppm_capsules.specs.Strand.{Frame}
@@ -22,7 +22,8 @@ use Rattle.ppm_step.specs.declared.turn.Act.TheVariants.{Step}
 use Rattle.ppm_step.specs.declared.turn.Turn.{Turn}
 use Rattle.ppm_tickets.specs.Along.{by_row, by_act, IsInlined, IsOrderly}
 use Rattle.ppm_tickets.specs.Homes.{Home}
-use Rattle.ppm_tickets.specs.Heirs.{InheritsAt}
+use Rattle.ppm_tickets.specs.Lawful.{Closed}
+use Rattle.ppm_tickets.specs.View.{view}
 use Rattle.ppm_tickets.specs.Renewal.{IsLawful}
 use Rattle.ppm_tickets.specs.Words.{has}
 use Rattle.ppm_frames.specs.Skeletons.{Skeleton}
@@ -34,7 +35,7 @@ use Rattle.ppm_kept.specs.Fates.{Agrees}
 use Rattle.ppm_kept.specs.Heirs.{handed, OpensAs}
 use Rattle.ppm_kept.specs.HeirTurns.{and_followed}
 use Rattle.ppm_kept.specs.Laws.{kind_then}
-use Rattle.ppm_kept.specs.Left.{Followed, left, AreApart, LooksOn}
+use Rattle.ppm_kept.specs.Left.{Followed, left, IsAway, AreApart, LooksOn}
 use Rattle.ppm_kept.specs.Places.{kinds_of, places_of}
 use Rattle.ppm_kept.specs.Steps.{act_with}
 use Rattle.ppm_cells.specs.declared.restart.Restart.{Restart}
@@ -60,19 +61,25 @@ GoesOn (Install restart) = restart.kind ≢ Seek
 GoesOn (Fork block) = Unit {0}
 GoesOn next = ⊥
 
--- that a block that the closed place was about to open is opened by its link
-abbrev pub OpensSo : (s : Shape) (code : CodeParts) → RunState → List Followed → (place : ℕ) → Then → Type 0
-OpensSo s code state l w next = (r : ℕ) → kinds_of s state.words w ≡ Bump r
+-- it opens the block: its callee runs, or its fork is made
+abbrev pub Opens : (block : ℕ) → Then → Type 0
+Opens r next = (kind_then next ≡ Run r 0) ⊎ (next ≡ Fork r)
+
+-- a place that is about to open a closed place's block, which none has followed, opens it by its link
+abbrev pub OpenRightly : (s : Shape) (code : CodeParts) → RunState → List Followed → Type 0
+OpenRightly s code state l = (c : ℕ) (seat : Seat) (next : Then) (v slot : ℕ) → stand_of state c ≡ IsWithin seat (Now next)
+    → seat.restart.kind ≡ Check v slot → GoesOn next
+    → (w r : ℕ) → Closed s.takeover (view s state.words) w → IsAway l w → kinds_of s state.words w ≡ Bump r → Opens r next
     → OpensAs r (link_at ((left (image s code) l (places_of s state)).words (BlockWord r))).kind (kind_then next)
 
 abbrev pub HeirsLead : Type 0
 HeirsLead = (s : Shape) (code : CodeParts) → s.takeover ≡ ByEntries → IsFair code
     → (root : Tree (Frame FrameWord Point) Result) (input : Words) (state : RunState) (h : ℕ → Home) (forked taken : List ℕ) (l : List Followed) (t : Skeleton)
-    → (halves : IsHalves s code root input state h forked taken l t)
+    → IsHalves s code root input state h forked taken l t
     → Agrees t (λ r. fate_of (h r))
     → (c victim : ℕ) (seat : Seat) (next : Then) (v slot : ℕ) → stand_of state c ≡ IsWithin seat (Now next)
     → seat.restart.kind ≡ Check v slot → GoesOn next
-    → ((i : InheritsAt s code state h forked taken halves.lawful seat.place) → OpensSo s code state l i.place next)
+    → OpenRightly s code state l
     → (w : ℕ)
     × Agrees (handed w seat.place t) (λ r. fate_of (by_row s state.words seat (Now next) h r))
     × IsHalves s code root input (happens s code state (record { processor = c; act = Step victim })) (by_row s state.words seat (Now next) h) (fork_row (Now next) ++ forked) (take_row (Now next) ++ taken)

@@ -12,3 +12,5 @@ pub mod Well
 pub mod Unbroken
 pub mod Work
 pub mod Follow
+pub mod Joint
+pub mod Entries

@@ -1,6 +1,8 @@
 //! What turns owe, shown by calls that do nothing.
 ghost use Rattle.ppm_runs.specs.Deques.{DequesAreSound};
+ghost use Rattle.ppm_runs.specs.Entries.{HeirsLeadOn, OnceByEntries, OnceInEachRun, RunsEndByEntries, RunsEndSo, RunsStayHeired};
 ghost use Rattle.ppm_runs.specs.Follow.{HalvesGoOn, HalvesOwe, HeirsLead};
+ghost use Rattle.ppm_runs.specs.Joint.{JointsStay};
 ghost use Rattle.ppm_runs.specs.Laws.{BirthsFollow, BrokenFollow, TakersHave, TurnsAreOrderly, TurnsGoOn};
 ghost use Rattle.ppm_runs.specs.Moments.{OnceAtEachMoment, RunsStay, TurnsLeadOn};
 ghost use Rattle.ppm_runs.specs.Openings.{RunsOpen};
@@ -110,4 +112,30 @@ pub fn heirs_lead()
     ensures law { HeirsLead }
     ensures others { HalvesGoOn }
     ensures owe { HalvesOwe }
+{}
+
+/// With either takeover what joins the halves of a run's state does so again behind each turn by which
+/// no place goes on with what it inherited.
+pub fn joints_stay()
+    ensures law { JointsStay }
+{}
+
+/// With takeover by entries, from an image of a sound code, whatever the turns, a run's state is come to,
+/// with some places left out that others have followed; so at each moment no right branch was forked
+/// twice, and none was taken twice. Where the finish word says an outcome the depth-first run of the root
+/// ends so, with the words of the arrays as they are, and each branch that was forked was taken once.
+pub fn runs_stay_heired()
+    ensures leads { HeirsLeadOn }
+    ensures stay { RunsStayHeired }
+    ensures once { OnceByEntries }
+    ensures ends { RunsEndByEntries }
+{}
+
+/// Whatever the takeover, from an image of a sound code, whatever the turns: at each moment no right
+/// branch was forked twice, and none was taken twice; where the finish word says an outcome the
+/// depth-first run of the root ends so, with the words of the arrays as they are, and each branch that
+/// was forked was taken.
+pub fn runs_end_so()
+    ensures once { OnceInEachRun }
+    ensures ends { RunsEndSo }
 {}

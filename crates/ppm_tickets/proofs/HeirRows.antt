@@ -349,7 +349,15 @@ module _ (s : Shape) (words : List ℕ) (stand : List Standing) (h : ℕ → Hom
 
     -- the job of Push2 was made and taken
     made : (r : ℕ) → (j == B + 1) ≡ true → Steps c (Now0 (Push2 r)) (Now (Load (ClosedBottom w B r)))
-    made r up [] le saw = tt
+    made r up [] le saw =
+        let kind : k w ≡ Push2 r = kind_of (Push2 r) saw in
+        let low : b w ≡ B = bottom_is c more w j z l before node (Push2 r) B saw in (
+          kind,
+          λ none.
+              let at : j ≡ active_at law.board.ghost k b w = eqb-true j (B + 1) up ∙ ap (λ (y : ℕ). y + 1) (sym low) ∙ sym (active_is w (Push2 r) kind ∙ ap (λ (y : Bool). if y then b w else b w + 1) none) in
+              (inherits w j z l (node saw.0) at, refl),
+          sym low,
+        )
     made r up (Taken n q ∷ us) le saw =
         either c (Now0 (Push2 r) × May o p (Slot w B) (Taken n q) (m (Slot w B))) (nat_lt q 64) (Now (Install (record { kind = Run (r + 5) 0; bottom = b p }))) (Now (Install (record { kind = Seek; bottom = b p })))
         (λ is. ending c (Now0 (Push2 r) × May o p (Slot w B) (Taken n q) (m (Slot w B))) (record { kind = Run (r + 5) 0; bottom = b p }) (λ a.
@@ -431,7 +439,7 @@ module _ (s : Shape) (words : List ℕ) (stand : List Standing) (h : ℕ → Hom
 
   -- all links
   follow : (c w j z : ℕ) (l : List ℕ) (before : Type 0) → (before → Node w j z l) → Steps c before (Now (Load (ClosedRestart w j z)))
-  follow c w j z l before node [] le saw = tt
+  follow c w j z l before node [] le saw = λ at. (inherits w j z l (node saw) at, refl)
   follow zero w j z l before node (y ∷ us) le saw = absurd (omega (arith, le))
   follow (suc c) w j z l before node (Restarts K B ∷ us) le saw =
       link_step c (λ w2 j2 z2 l2 before2 node2. follow c w2 j2 z2 l2 before2 node2) w j z l before node B K us (omega (arith, le)) saw

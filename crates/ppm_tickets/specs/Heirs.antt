@@ -9,16 +9,16 @@ use Rattle.ppm_cells.specs.declared.shape.Takeover.TheVariants.{ByEntries}
 use Rattle.ppm_code.specs.declared.code.CodeParts.{CodeParts}
 use Rattle.ppm_step.specs.Standings.{IsWithin}
 use Rattle.ppm_step.specs.State.{State, stand_of, happens, fork_row, take_row, row_by, step_by}
-use Rattle.ppm_step.specs.declared.row.Point.TheVariants.{Offset, ClosedLink}
+use Rattle.ppm_step.specs.declared.row.Point.TheVariants.{Offset, TakenMessage, TakenEntry, ClosedRestart, ClosedLink, ClosedBottom}
 use Rattle.ppm_step.specs.declared.row.Row.{Row}
-use Rattle.ppm_step.specs.declared.row.Row.TheVariants.{Now}
+use Rattle.ppm_step.specs.declared.row.Row.TheVariants.{Now, Store, Exchange}
 use Rattle.ppm_step.specs.declared.row.Seat.{Seat}
 use Rattle.ppm_step.specs.declared.row.Then.TheVariants.{Load, Install, Fork, Begin}
 use Rattle.ppm_step.specs.declared.turn.Act.TheVariants.{Step}
 use Rattle.ppm_step.specs.declared.turn.Turn.{Turn}
 use Rattle.ppm_tickets.specs.Along.{by_install, by_act, IsOrderly}
 use Rattle.ppm_tickets.specs.Homes.{Home, Pushing, Popping, Stolen}
-use Rattle.ppm_tickets.specs.Lawful.{IsLocal, IsThief, IsDead, IsTrail, Closed, Estate}
+use Rattle.ppm_tickets.specs.Lawful.{IsLocal, IsThief, IsDead, IsTrail, Closed, Estate, active_at, is_local}
 use Rattle.ppm_tickets.specs.Renewal.{IsLawful}
 use Rattle.ppm_tickets.specs.View.{view, kinds, bottoms}
 use Rattle.ppm_tickets.specs.Words.{Word, Spot, Slot, Dead, put, has}
@@ -52,7 +52,11 @@ module _ (shut : ℕ → Type 0) (m : Spot → Word) (k : ℕ → RestartKind) (
   abbrev pub MayTake : (block : ℕ) → Type 0
   MayTake r = (h r ≡ Popping p) ⊎ MayBegin r
 
-  -- how the row of such a place ends, or what it loads last
+  -- from this place
+  abbrev pub InheritsFrom : (place : ℕ) → Type 0
+  InheritsFrom w = (i : Inherits) × (i.place ≡ w)
+
+  -- how the row of such a place ends, or what it loads next
   abbrev pub ChecksSo : Row → Type 0
   ChecksSo (Now (Install restart)) = (restart.kind ≡ Seek)
       ⊎ ((i : Inherits) × GoesOnBy i.place (k i.place) restart.kind × (restart.bottom ≡ b p))
@@ -60,6 +64,14 @@ module _ (shut : ℕ → Type 0) (m : Spot → Word) (k : ℕ → RestartKind) (
   ChecksSo (Now (Begin r frame bottom)) = MayBegin r
   ChecksSo (Now (Load (Offset r bottom))) = MayBegin r
   ChecksSo (Now (Load (ClosedLink r))) = (i : Inherits) × (k i.place ≡ Bump r)
+  ChecksSo (Now (Load (ClosedRestart w j block))) = j ≡ active_at e.ghost k b w → InheritsFrom w
+  ChecksSo (Now (Load (ClosedBottom w j r))) = (k w ≡ Push2 r) × (is_local (e.ghost (Slot w (b w))) ≡ false → InheritsFrom w)
+      × (j ≡ b w)
+  ChecksSo (Now (Load (TakenMessage by w j))) = Unit {0}
+  ChecksSo (Now (Load (TakenEntry by w j message))) = Unit {0}
+  ChecksSo (Now (Load point)) = ⊥
+  ChecksSo (Store cell content next) = ⊥
+  ChecksSo (Exchange cell old new next) = ⊥
   ChecksSo row = Unit {0}
 
 -- so it is in each lawful state

@@ -1,0 +1,5 @@
+use Rattle.ppm_runs.proofs.HeiredLemmas.{once_in_each_run, runs_end_so}
+use Rattle.ppm_runs.proofs.laws.runs_end_so.Goals as goal
+
+pub returns : goal.returns
+returns c = record { once = once_in_each_run; ends = runs_end_so }
