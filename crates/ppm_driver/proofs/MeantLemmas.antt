@@ -53,17 +53,16 @@ use Rattle.ppm_frames.specs.Skeletons.{Skeleton}
 use Rattle.ppm_frames.specs.Views.{view}
 use Rattle.ppm_kept.specs.Answers.{finish_by}
 use Rattle.ppm_kept.specs.Running.{IsFair, strands}
-use Rattle.ppm_runs.specs.Moments.{AreOnce, OnceAtEachMoment}
-use Rattle.ppm_runs.specs.Outcomes.{EndsWell}
+use Rattle.ppm_runs.specs.Entries.{EndsAsRun, OnceInEachRun, RunsEndSo}
+use Rattle.ppm_runs.specs.Moments.{AreOnce}
 use Rattle.ppm_runs.specs.Run.{image}
 use Rattle.ppm_runs.specs.Spent.{RoomIsSpent}
 use Rattle.ppm_runs.specs.Unbroken.{NothingBreaks}
-use Rattle.ppm_runs.specs.Whole.{RunsComeTo}
 use Rattle.ppm_runs.specs.Work.{WorkIsWithin256}
 use Rattle.ppm_core.specs.Situation.{Situation, loaded}
 use Rattle.ppm_loading.specs.declared.loading.Sizes.{Sizes}
 use Rattle.ppm_loading.specs.Loading.{Opens}
-use Rattle.ppm_driver.specs.Meant.{HasOutcome, NeedsMoreRoom, NeedsMoreTurns, struck_in, EachIsTakenOnce, EndsAsProgram, IsAsProgram, RunsAreAsPrograms}
+use Rattle.ppm_driver.specs.Meant.{HasOutcome, NeedsMoreRoom, NeedsMoreTurns, struck_in, EachIsTakenOnce, EndsAsProgram, IsAsProgram, IsWithinProgram, RunsAreAsPrograms}
 use Rattle.ppm_loading.specs.Says.{arrays_from}
 use Rattle.ppm_loading.proofs.ArrayLemmas.{same_arrays}
 use Rattle.ppm_driver.proofs.EndLemmas.{keeper_opened, words_opened}
@@ -80,8 +79,8 @@ pub record Laws : Type 0 where
   pub serially : EndsSerially
   pub meant : EndAsMeant
   pub shown : ImagesShowTheRun
-  pub runs : RunsComeTo
-  pub once : OnceAtEachMoment
+  pub runs : RunsEndSo
+  pub once : OnceInEachRun
   pub room : RoomIsSpent
   pub work : WorkIsWithin256
   pub whole : NothingBreaks
@@ -159,7 +158,7 @@ module _ (laws : Laws) (text : List ℕ) (t : ProgramTree) (has : HasProgram tex
   fair : IsFair code
   fair = record { code_is = is_code; tidy = is_sound.tidy; free = is_sound.free }
 
-  module _ (sizes : Sizes) (keeper : ℕ) (m : Situation) (b : Opens sizes code input keeper m) (places : sizes.takeover ≡ ByPlaces) where
+  module _ (sizes : Sizes) (keeper : ℕ) (m : Situation) (b : Opens sizes code input keeper m) where
     abbrev s : Shape
     s = b.shape
 
@@ -197,10 +196,10 @@ module _ (laws : Laws) (text : List ℕ) (t : ProgramTree) (has : HasProgram tex
       Says v = finish_of (read s last.words FinishWord) ≡ Some v
 
       abbrev Well : Skeleton → Finish → Type 0
-      Well tree v = EndsWell s code (strand_of_image code input) (arrays_at (view s words)) last forks takes tree v
+      Well tree v = EndsAsRun s code (strand_of_image code input) (arrays_at (view s words)) last forks takes tree v
 
       ends : (v : Finish) → Says v → IsOutcome v → (tree : Skeleton) × Well tree v
-      ends v says out = laws.runs code input s keeper b.image (b.sized.takeover ∙ places) fair opened calm turns among v says out
+      ends v says out = laws.runs code input s keeper b.image fair opened calm turns among v says out
 
       -- the arrays of the words then
       fit : AreWordsOf s last.words
@@ -219,7 +218,7 @@ module _ (laws : Laws) (text : List ℕ) (t : ProgramTree) (has : HasProgram tex
           (ends_as shown.strands shown.root shown.arrays h.answer.end h.answer.ends)
 
       none_twice : AreOnce forks takes
-      none_twice = laws.once code input s keeper b.image (b.sized.takeover ∙ places) fair opened calm turns among
+      none_twice = laws.once code input s keeper b.image fair opened calm turns among
 
       each : (tree : Skeleton) (v : Finish) → Well tree v → EachIsTakenOnce start turns
       each tree v h = record {
@@ -229,8 +228,8 @@ module _ (laws : Laws) (text : List ℕ) (t : ProgramTree) (has : HasProgram tex
       }
 
       -- a full pool is one that the program needs more of
-      needs_more : (place : ℕ) → Says (finishes.OutOfRoom place) → NeedsMoreRoom t s.room
-      needs_more place says k z means =
+      needs_more : sizes.takeover ≡ ByPlaces → (place : ℕ) → Says (finishes.OutOfRoom place) → NeedsMoreRoom t s.room
+      needs_more places place says k z means =
           let e = (laws.meant t inside has.admitted.admitted has.bounded input starts).ends k z means in
           let ends_here = ends_as (sym shown.strands) (sym shown.root) (sym shown.arrays) e.0 e.1 in
           let less = laws.room code input s keeper b.image (b.sized.takeover ∙ places) fair opened calm turns among place says e.0 ends_here in
@@ -238,8 +237,8 @@ module _ (laws : Laws) (text : List ℕ) (t : ProgramTree) (has : HasProgram tex
           omega (arith, less, words_are)
 
       -- words are broken only behind more work turns than a tag counts
-      breaks : (place : ℕ) → Says (finishes.Broken place) → 2 ^ 34 ≤ length (along s code work_of (opening words s.processors) turns) + 1
-      breaks place says =
+      breaks : sizes.takeover ≡ ByPlaces → (place : ℕ) → Says (finishes.Broken place) → 2 ^ 34 ≤ length (along s code work_of (opening words s.processors) turns) + 1
+      breaks places place says =
           let count = works_are s code (opening words s.processors) turns in
           elim (cases_lt (length (along s code work_of (opening words s.processors) turns) + 1) (2 ^ 34)) [
             | inl few ↦ absurd ((laws.whole code input s keeper b.image (b.sized.takeover ∙ places) fair opened calm turns among
@@ -248,13 +247,13 @@ module _ (laws : Laws) (text : List ℕ) (t : ProgramTree) (has : HasProgram tex
           ]
 
       -- the work of all turns is within its bound
-      works : NeedsMoreTurns t (struck_in start turns) (length (along s code work_of (opening words s.processors) turns))
-      works e comes =
+      works : sizes.takeover ≡ ByPlaces → NeedsMoreTurns t (struck_in start turns) (length (along s code work_of (opening words s.processors) turns))
+      works places e comes =
           laws.work code input s keeper b.image (b.sized.takeover ∙ places) fair opened calm turns among e
           (ends_as (sym shown.strands) (sym shown.root) (sym shown.arrays) e comes)
 
       as_program : IsAsProgram start turns t
-      as_program = record { once = none_twice; ended = when_ended; trapped = when_trapped; unbroken = breaks; work = works; full = needs_more }
+      as_program = record { once = none_twice; ended = when_ended; trapped = when_trapped }
         where
           when_ended : Says finishes.Ended → EndsAsProgram start turns t (outcome.Ended (arrays_from s b.image.lengths last.words 0 input))
           when_ended says =
@@ -276,11 +275,11 @@ module _ (laws : Laws) (text : List ℕ) (t : ProgramTree) (has : HasProgram tex
                 branches = each r.0 (finishes.Trapped trap line) r.1;
               }
 
-    pub as_programs : (turns : List Turn) → AllByRecursion (IsTurnAmong m.shape.processors) turns → IsAsProgram m turns t
+    pub as_programs : (turns : List Turn) → AllByRecursion (IsTurnAmong m.shape.processors) turns → IsAsProgram m turns t × (sizes.takeover ≡ ByPlaces → IsWithinProgram m turns t)
     as_programs turns =
-        subst (λ (x : Situation). AllByRecursion (IsTurnAmong x.shape.processors) turns → IsAsProgram x turns t) (sym b.loads)
-        (λ among. as_program turns among)
+        subst (λ (x : Situation). AllByRecursion (IsTurnAmong x.shape.processors) turns → IsAsProgram x turns t × (sizes.takeover ≡ ByPlaces → IsWithinProgram x turns t)) (sym b.loads)
+        (λ among. (as_program turns among, λ places. record { unbroken = breaks turns among places; work = works turns among places; full = needs_more turns among places }))
 
 -- so it is with each text's program
 pub runs_are_as_programs : Laws → RunsAreAsPrograms
-runs_are_as_programs laws text t has sizes places keeper m b turns among = as_programs laws text t has sizes keeper m b places turns among
+runs_are_as_programs laws text t has sizes keeper m b turns among = as_programs laws text t has sizes keeper m b turns among

@@ -29,7 +29,7 @@ use Rattle.ppm_answers.specs.declared.tally.Tally.{Tally}
 use Rattle.ppm_cli.specs.declared.run.RunOptions.{RunOptions}
 use Rattle.ppm_cli.specs.declared.replay.ReplayOptions.{ReplayOptions}
 use Rattle.ppm_following.specs.Followed.{followed}
-use Rattle.ppm_driver.specs.Meant.{NeedsMoreRoom, NeedsMoreTurns, struck_in, NoneIsTakenTwice, EachIsTakenOnce, EndsAsProgram, IsAsProgram, RunsAreAsPrograms}
+use Rattle.ppm_driver.specs.Meant.{NeedsMoreRoom, NeedsMoreTurns, struck_in, NoneIsTakenTwice, EachIsTakenOnce, EndsAsProgram, IsAsProgram, IsWithinProgram, RunsAreAsPrograms}
 use Rattle.ppm_driver.specs.RunOf.{words_behind, finish_behind}
 use Rattle.ppm_loading.specs.Says.{arrays_from, IsOfFinish}
 use Rattle.ppm_driver.specs.Runs as runs
@@ -151,13 +151,13 @@ past_most many few = omega (arith, many, few)
 
 module _ (law : RunsAreAsPrograms) (text : List ℕ) (t : ProgramTree) (has : HasProgram text t) where
   -- of `run`
-  module _ (options : RunOptions) (places : options.takeover ≡ ByPlaces) (watching : ℕ) (before now : ToldLists) (items : List PlanItem) where
+  module _ (options : RunOptions) (watching : ℕ) (before now : ToldLists) (items : List PlanItem) where
     abbrev Has : Answer → Type 0
     Has a = runs.ProgramHas options watching before now items t a
 
-    run_is : (a : Answer) (h : Has a) → IsAsProgram h.start h.run.turns t
+    run_is : (a : Answer) (h : Has a) → IsAsProgram h.start h.run.turns t × (options.takeover ≡ ByPlaces → IsWithinProgram h.start h.run.turns t)
     run_is a h =
-        law text t has (runs.sizes_of options) places h.keeper h.start h.opens h.run.turns
+        law text t has (runs.sizes_of options) h.keeper h.start h.opens h.run.turns
         (recursion_from_All (IsTurnAmong h.start.shape.processors) h.run.turns h.run.obey.among)
 
     pub run_ends : (arrays : List NamedArray) (h : Has (answers.Ended arrays)) → EndsAsProgram h.start h.run.turns t (outcome.Ended arrays)
@@ -167,7 +167,7 @@ module _ (law : RunsAreAsPrograms) (text : List ℕ) (t : ProgramTree) (has : Ha
         h.start.array_lengths w (initial_arrays t) (finish_behind h.start h.run.turns) (answers.Ended arrays) (λ none. none) h.run.says in
         let e = ended_run h.start.shape h.start.array_lengths w (initial_arrays t) k.0 arrays k.2 in
         subst (λ (l : List NamedArray). EndsAsProgram h.start h.run.turns t (outcome.Ended l)) (sym e.1)
-        ((run_is (answers.Ended arrays) h).ended (k.1 ∙ ap (λ (f : Finish). Some f) e.0))
+        ((run_is (answers.Ended arrays) h).0.ended (k.1 ∙ ap (λ (f : Finish). Some f) e.0))
 
     pub run_traps : (trap : Trap) (line : ℕ) (h : Has (answers.Trapped trap line))
         → EndsAsProgram h.start h.run.turns t (outcome.Trapped trap line)
@@ -176,25 +176,25 @@ module _ (law : RunsAreAsPrograms) (text : List ℕ) (t : ProgramTree) (has : Ha
         let k = said_of_word answers.Ended answers.Trapped (λ processor x. x ≡ answers.OutOfTurns processor) (λ x. ⊥) h.start.shape
         h.start.array_lengths w (initial_arrays t) (finish_behind h.start h.run.turns) (answers.Trapped trap line) (λ none. none) h.run.says in
         let e = trapped_run h.start.shape h.start.array_lengths w (initial_arrays t) k.0 trap line k.2 in
-        (run_is (answers.Trapped trap line) h).trapped trap line (k.1 ∙ ap (λ (f : Finish). Some f) e)
+        (run_is (answers.Trapped trap line) h).0.trapped trap line (k.1 ∙ ap (λ (f : Finish). Some f) e)
 
-    pub run_needs : (place : ℕ) (h : Has (answers.OutOfRoom place)) → NeedsMoreRoom t options.room
-    run_needs place h =
+    pub run_needs : options.takeover ≡ ByPlaces → (place : ℕ) (h : Has (answers.OutOfRoom place)) → NeedsMoreRoom t options.room
+    run_needs places place h =
         let w = words_behind h.start h.run.turns in
         let k = said_of_word answers.Ended answers.Trapped (λ processor x. x ≡ answers.OutOfTurns processor) (λ x. ⊥) h.start.shape
         h.start.array_lengths w (initial_arrays t) (finish_behind h.start h.run.turns) (answers.OutOfRoom place) (λ none. none) h.run.says in
         let e = full_run h.start.shape h.start.array_lengths w (initial_arrays t) k.0 place k.2 in
         subst (NeedsMoreRoom t) (opens_room (runs.sizes_of options) (code_of t) (initial_arrays t) h.keeper h.start h.opens)
-        ((run_is (answers.OutOfRoom place) h).full place (k.1 ∙ ap (λ (f : Finish). Some f) e))
+        (((run_is (answers.OutOfRoom place) h).1 places).full place (k.1 ∙ ap (λ (f : Finish). Some f) e))
 
     -- with so many work turns that tags could not count them
-    pub run_many : (place : ℕ) (h : Has (answers.Broken place)) → 2 ^ 34 ≤ options.processors * options.turns + 1
-    run_many place h =
+    pub run_many : options.takeover ≡ ByPlaces → (place : ℕ) (h : Has (answers.Broken place)) → 2 ^ 34 ≤ options.processors * options.turns + 1
+    run_many places place h =
         let w = words_behind h.start h.run.turns in
         let k = said_of_word answers.Ended answers.Trapped (λ processor x. x ≡ answers.OutOfTurns processor) (λ x. ⊥) h.start.shape
         h.start.array_lengths w (initial_arrays t) (finish_behind h.start h.run.turns) (answers.Broken place) (λ none. none) h.run.says in
         let e = broken_run h.start.shape h.start.array_lengths w (initial_arrays t) k.0 place k.2 in
-        let many = (run_is (answers.Broken place) h).unbroken place (k.1 ∙ ap (λ (f : Finish). Some f) e) in
+        let many = ((run_is (answers.Broken place) h).1 places).unbroken place (k.1 ∙ ap (λ (f : Finish). Some f) e) in
         let most = obeyed_work h.start.shape h.start.code (runs.plan_of options items) (runs.limits_of options) h.start.state h.run.turns h.run.obey
         (recursion_from_All (IsTurnAmong h.start.shape.processors) h.run.turns h.run.obey.among) in
         subst (λ (n : ℕ). 2 ^ 34 ≤ n * options.turns + 1)
@@ -202,19 +202,19 @@ module _ (law : RunsAreAsPrograms) (text : List ℕ) (t : ProgramTree) (has : Ha
         (past_most many most)
 
     -- what one processor made of its turns is within the work of all
-    pub run_needs_turns : (c : ℕ) (h : Has (answers.OutOfTurns c))
+    pub run_needs_turns : options.takeover ≡ ByPlaces → (c : ℕ) (h : Has (answers.OutOfTurns c))
         → work_made h.start.shape h.start.code c h.start.state h.run.turns ≡ options.turns
         → NeedsMoreTurns t (struck_in h.start h.run.turns) options.turns
-    run_needs_turns c h made e comes =
-        let within = (run_is (answers.OutOfTurns c) h).work e comes in
+    run_needs_turns places c h made e comes =
+        let within = ((run_is (answers.OutOfTurns c) h).1 places).work e comes in
         let mine = of_all h.start.shape h.start.code c h.start.state h.run.turns in
         omega (arith, within, mine, made)
 
     pub run_once : (a : Answer) (h : Has a) → NoneIsTakenTwice h.start h.run.turns
-    run_once a h = (run_is a h).once
+    run_once a h = (run_is a h).0.once
 
   -- of `replay`, whose schedule is accepted
-  module _ (options : ReplayOptions) (places : options.takeover ≡ ByPlaces) (schedule : List ℕ) (items : List ScheduleItem)
+  module _ (options : ReplayOptions) (schedule : List ℕ) (items : List ScheduleItem)
       (accepted : IsAccepted schedule_form schedule options.processors items) where
     abbrev HasReplay : Answer → Type 0
     HasReplay a = replays.ProgramHas options items t a
@@ -222,9 +222,9 @@ module _ (law : RunsAreAsPrograms) (text : List ℕ) (t : ProgramTree) (has : Ha
     abbrev turns_in : Situation → List Turn
     turns_in m = schedule_turns m.shape m.code m.state items options.turns
 
-    replay_is : (a : Answer) (h : HasReplay a) → IsAsProgram h.start (turns_in h.start) t
+    replay_is : (a : Answer) (h : HasReplay a) → IsAsProgram h.start (turns_in h.start) t × (options.takeover ≡ ByPlaces → IsWithinProgram h.start (turns_in h.start) t)
     replay_is a h =
-        law text t has (replays.sizes_of options) places h.keeper h.start h.opens (turns_in h.start)
+        law text t has (replays.sizes_of options) h.keeper h.start h.opens (turns_in h.start)
         (scheduled_among h.start.shape h.start.code (some h) schedule options.processors items (count h) accepted h.start.state options.turns)
       where
         count : (h : HasReplay a) → h.start.shape.processors ≡ options.processors
@@ -254,7 +254,7 @@ module _ (law : RunsAreAsPrograms) (text : List ℕ) (t : ProgramTree) (has : Ha
         (λ processor x. ⊥) (λ x. x ≡ answers.Unfinished options.turns) m.shape m.array_lengths m.state.words (initial_arrays t) (finish_in m)
         (answers.EndedWith arrays tally) (no_other options.turns arrays tally) h.says in
         let e = ended_replay m.shape m.array_lengths m.state.words (initial_arrays t) options.turns (tally_of m) k.0 arrays tally k.2 in
-        let ends = (replay_is (answers.EndedWith arrays tally) h).ended (k.1 ∙ ap (λ (f : Finish). Some f) e.0) in (
+        let ends = (replay_is (answers.EndedWith arrays tally) h).0.ended (k.1 ∙ ap (λ (f : Finish). Some f) e.0) in (
           subst (λ (l : List NamedArray). EndsAsProgram h.start (turns_in h.start) t (outcome.Ended l)) (sym e.1) ends,
           alike h.start (ap (λ (x : Situation). x.forks) h.opens.loads) (ap (λ (x : Situation). x.takes) h.opens.loads) ends.branches tally e.2,
         )
@@ -267,30 +267,30 @@ module _ (law : RunsAreAsPrograms) (text : List ℕ) (t : ProgramTree) (has : Ha
         (λ processor x. ⊥) (λ x. x ≡ answers.Unfinished options.turns) m.shape m.array_lengths m.state.words (initial_arrays t) (finish_in m)
         (answers.TrappedWith trap line tally) (no_other_trap options.turns trap line tally) h.says in
         let e = trapped_replay m.shape m.array_lengths m.state.words (initial_arrays t) options.turns (tally_of m) k.0 trap line tally k.2 in
-        let ends = (replay_is (answers.TrappedWith trap line tally) h).trapped trap line (k.1 ∙ ap (λ (f : Finish). Some f) e.0) in (
+        let ends = (replay_is (answers.TrappedWith trap line tally) h).0.trapped trap line (k.1 ∙ ap (λ (f : Finish). Some f) e.0) in (
           ends,
           alike h.start (ap (λ (x : Situation). x.forks) h.opens.loads) (ap (λ (x : Situation). x.takes) h.opens.loads) ends.branches tally e.1,
         )
 
-    pub replay_needs : (place : ℕ) (h : HasReplay (answers.OutOfRoom place)) → NeedsMoreRoom t options.room
-    replay_needs place h =
+    pub replay_needs : options.takeover ≡ ByPlaces → (place : ℕ) (h : HasReplay (answers.OutOfRoom place)) → NeedsMoreRoom t options.room
+    replay_needs places place h =
         let m = last h.start in
         let k = said_of_word (λ values. answers.EndedWith values (tally_of m)) (λ x n. answers.TrappedWith x n (tally_of m))
         (λ processor x. ⊥) (λ x. x ≡ answers.Unfinished options.turns) m.shape m.array_lengths m.state.words (initial_arrays t) (finish_in m)
         (answers.OutOfRoom place) (no_other_room options.turns place) h.says in
         let e = full_replay m.shape m.array_lengths m.state.words (initial_arrays t) options.turns (tally_of m) k.0 place k.2 in
         subst (NeedsMoreRoom t) (opens_room (replays.sizes_of options) (code_of t) (initial_arrays t) h.keeper h.start h.opens)
-        ((replay_is (answers.OutOfRoom place) h).full place (k.1 ∙ ap (λ (f : Finish). Some f) e))
+        (((replay_is (answers.OutOfRoom place) h).1 places).full place (k.1 ∙ ap (λ (f : Finish). Some f) e))
 
-    pub replay_many : (place : ℕ) (h : HasReplay (answers.Broken place)) → 2 ^ 34 ≤ options.turns + 1
-    replay_many place h =
+    pub replay_many : options.takeover ≡ ByPlaces → (place : ℕ) (h : HasReplay (answers.Broken place)) → 2 ^ 34 ≤ options.turns + 1
+    replay_many places place h =
         let m = last h.start in
         let k = said_of_word (λ values. answers.EndedWith values (tally_of m)) (λ trap line. answers.TrappedWith trap line (tally_of m))
         (λ processor x. ⊥) (λ x. x ≡ answers.Unfinished options.turns) m.shape m.array_lengths m.state.words (initial_arrays t) (finish_in m)
         (answers.Broken place) (no_other_broken options.turns place) h.says in
         let e = broken_replay m.shape m.array_lengths m.state.words (initial_arrays t) options.turns (tally_of m) k.0 place k.2 in
-        let many = (replay_is (answers.Broken place) h).unbroken place (k.1 ∙ ap (λ (f : Finish). Some f) e) in
+        let many = ((replay_is (answers.Broken place) h).1 places).unbroken place (k.1 ∙ ap (λ (f : Finish). Some f) e) in
         past_most many (scheduled_work h.start.shape h.start.code h.start.state items options.turns)
 
     pub replay_once : (a : Answer) (h : HasReplay a) → NoneIsTakenTwice h.start (turns_in h.start)
-    replay_once a h = (replay_is a h).once
+    replay_once a h = (replay_is a h).0.once

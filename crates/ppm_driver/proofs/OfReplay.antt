@@ -41,8 +41,8 @@ module _ (law : RunsAreAsPrograms) (options : ReplayOptions) (schedule : List �
       → IsWritten o.out o.err (answers.Unfinished m) (status_of (answers.Unfinished m)) → WritesUnfinished options schedule o) (sym e)
       (λ read written. record {
         read = read;
-        once = λ places.
-            replay_once law read.0 read.2.has.0 read.2.has.1 options places schedule read.2.items read.2.accepted (answers.Unfinished options.turns)
+        once =
+            replay_once law read.0 read.2.has.0 read.2.has.1 options schedule read.2.items read.2.accepted (answers.Unfinished options.turns)
             read.2.has.2;
         gets = written.err_takes.0;
       }) h w
@@ -55,8 +55,8 @@ module _ (law : RunsAreAsPrograms) (options : ReplayOptions) (schedule : List �
     arrays = arrays;
     tally = tally;
     read = h;
-    meant = λ places.
-        replay_ends law h.0 h.2.has.0 h.2.has.1 options places schedule h.2.items h.2.accepted arrays tally h.2.has.2;
+    meant =
+        replay_ends law h.0 h.2.has.0 h.2.has.1 options schedule h.2.items h.2.accepted arrays tally h.2.has.2;
     gets = w.out_takes.0;
   }
   by (answers.TrappedWith t line tally) h w = record {
@@ -64,8 +64,8 @@ module _ (law : RunsAreAsPrograms) (options : ReplayOptions) (schedule : List �
     line = line;
     tally = tally;
     read = h;
-    meant = λ places.
-        replay_traps law h.0 h.2.has.0 h.2.has.1 options places schedule h.2.items h.2.accepted t line tally h.2.has.2;
+    meant =
+        replay_traps law h.0 h.2.has.0 h.2.has.1 options schedule h.2.items h.2.accepted t line tally h.2.has.2;
     gets = w.out_takes.0;
   }
   by (answers.Unfinished n) h w = unfinished n (of_program options h.2.items h.2.has.0 (answers.Unfinished n) h.2.has.2) h w
@@ -76,14 +76,14 @@ module _ (law : RunsAreAsPrograms) (options : ReplayOptions) (schedule : List �
       of_program options h.2.items h.2.has.0 (answers.OutOfRoom place) h.2.has.2,
       filled_has options h.2.items h.2.has.0 place h.2.has.2,
     );
-    needs = λ places. replay_needs law h.0 h.2.has.0 h.2.has.1 options places schedule h.2.items h.2.accepted place h.2.has.2;
-    once = λ places.
-        replay_once law h.0 h.2.has.0 h.2.has.1 options places schedule h.2.items h.2.accepted (answers.OutOfRoom place) h.2.has.2;
+    needs = λ places. replay_needs law h.0 h.2.has.0 h.2.has.1 options schedule h.2.items h.2.accepted places place h.2.has.2;
+    once =
+        replay_once law h.0 h.2.has.0 h.2.has.1 options schedule h.2.items h.2.accepted (answers.OutOfRoom place) h.2.has.2;
     gets = w.err_takes.0;
   }
   by (answers.Broken place) h w = record {
     broken = (place, of_program options h.2.items h.2.has.0 (answers.Broken place) h.2.has.2, h, w.err_takes.0);
-    many = λ places. replay_many law h.0 h.2.has.0 h.2.has.1 options places schedule h.2.items h.2.accepted place h.2.has.2;
+    many = λ places. replay_many law h.0 h.2.has.0 h.2.has.1 options schedule h.2.items h.2.accepted places place h.2.has.2;
   }
   by answer h w = absurd (of_program options h.2.items h.2.has.0 answer h.2.has.2)
 

@@ -41,16 +41,16 @@ module _ (law : RunsAreAsPrograms) (options : RunOptions) (watching : ℕ) (plan
   by (answers.Ended arrays) h w = record {
     arrays = arrays;
     read = h;
-    meant = λ places.
-        run_ends law h.0 h.2.has.0 h.2.has.1 options places watching o.told_before o.told_now h.2.items arrays h.2.has.2;
+    meant =
+        run_ends law h.0 h.2.has.0 h.2.has.1 options watching o.told_before o.told_now h.2.items arrays h.2.has.2;
     gets = w.out_takes.0;
   }
   by (answers.Trapped t line) h w = record {
     trap = t;
     line = line;
     read = h;
-    meant = λ places.
-        run_traps law h.0 h.2.has.0 h.2.has.1 options places watching o.told_before o.told_now h.2.items t line h.2.has.2;
+    meant =
+        run_traps law h.0 h.2.has.0 h.2.has.1 options watching o.told_before o.told_now h.2.items t line h.2.has.2;
     gets = w.out_takes.0;
   }
   by (answers.OutOfTurns processor) h w = record {
@@ -58,10 +58,10 @@ module _ (law : RunsAreAsPrograms) (options : RunOptions) (watching : ℕ) (plan
     read = h;
     spent = spent_has options watching o.told_before o.told_now h.2.items h.2.has.0 processor h.2.has.2;
     needs = λ places.
-        run_needs_turns law h.0 h.2.has.0 h.2.has.1 options places watching o.told_before o.told_now h.2.items processor h.2.has.2
+        run_needs_turns law h.0 h.2.has.0 h.2.has.1 options watching o.told_before o.told_now h.2.items places processor h.2.has.2
         (spent_has options watching o.told_before o.told_now h.2.items h.2.has.0 processor h.2.has.2).1;
-    once = λ places.
-        run_once law h.0 h.2.has.0 h.2.has.1 options places watching o.told_before o.told_now h.2.items (answers.OutOfTurns processor) h.2.has.2;
+    once =
+        run_once law h.0 h.2.has.0 h.2.has.1 options watching o.told_before o.told_now h.2.items (answers.OutOfTurns processor) h.2.has.2;
     gets = w.err_takes.0;
   }
   by (answers.OutOfRoom place) h w = record {
@@ -71,9 +71,9 @@ module _ (law : RunsAreAsPrograms) (options : RunOptions) (watching : ℕ) (plan
       of_program options watching o.told_before o.told_now h.2.items h.2.has.0 (answers.OutOfRoom place) h.2.has.2,
       filled_has options watching o.told_before o.told_now h.2.items h.2.has.0 place h.2.has.2,
     );
-    needs = λ places. run_needs law h.0 h.2.has.0 h.2.has.1 options places watching o.told_before o.told_now h.2.items place h.2.has.2;
-    once = λ places.
-        run_once law h.0 h.2.has.0 h.2.has.1 options places watching o.told_before o.told_now h.2.items (answers.OutOfRoom place) h.2.has.2;
+    needs = λ places. run_needs law h.0 h.2.has.0 h.2.has.1 options watching o.told_before o.told_now h.2.items places place h.2.has.2;
+    once =
+        run_once law h.0 h.2.has.0 h.2.has.1 options watching o.told_before o.told_now h.2.items (answers.OutOfRoom place) h.2.has.2;
     gets = w.err_takes.0;
   }
   by (answers.Broken place) h w =
@@ -84,7 +84,7 @@ module _ (law : RunsAreAsPrograms) (options : RunOptions) (watching : ℕ) (plan
           h,
           w.err_takes.0,
         );
-        many = λ places. run_many law h.0 h.2.has.0 h.2.has.1 options places watching o.told_before o.told_now h.2.items place h.2.has.2;
+        many = λ places. run_many law h.0 h.2.has.0 h.2.has.1 options watching o.told_before o.told_now h.2.items places place h.2.has.2;
       }
   by answer h w = absurd (of_program options watching o.told_before o.told_now h.2.items h.2.has.0 answer h.2.has.2)
 

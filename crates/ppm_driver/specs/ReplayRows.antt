@@ -36,18 +36,16 @@ module _ (options : ReplayOptions) (schedule : List ℕ) (o : Ports) where
   abbrev pub turns_by : Situation → List ScheduleItem → List Turn
   turns_by m items = schedule_turns m.shape m.code m.state items options.turns
 
-  -- With takeover by places the replay of the text that was read ends as its program does, with these arrays, or in this trap; and the tally
+  -- The replay of the text that was read ends as its program does, with these arrays, or in this trap; and the tally
   -- counts as many takes as forks.
   abbrev pub IsMeant : (arrays : List NamedArray) (tally : Tally) → HasRead (answers.EndedWith arrays tally) → Type 0
   IsMeant arrays tally read =
-      let p = read.2.has in options.takeover ≡ ByPlaces
-      → EndsAsProgram p.2.start (turns_by p.2.start read.2.items) p.0 (outcome.Ended arrays)
+      let p = read.2.has in EndsAsProgram p.2.start (turns_by p.2.start read.2.items) p.0 (outcome.Ended arrays)
       × (tally.forks ≡ tally.takes)
 
   abbrev pub IsMeantTrap : (t : Trap) (line : ℕ) (tally : Tally) → HasRead (answers.TrappedWith t line tally) → Type 0
   IsMeantTrap t line tally read =
-      let p = read.2.has in options.takeover ≡ ByPlaces
-      → EndsAsProgram p.2.start (turns_by p.2.start read.2.items) p.0 (outcome.Trapped t line)
+      let p = read.2.has in EndsAsProgram p.2.start (turns_by p.2.start read.2.items) p.0 (outcome.Trapped t line)
       × (tally.forks ≡ tally.takes)
 
   -- the replay ends with arrays, those with which the program ends serially, and out got exactly their text, and the tally's
@@ -67,9 +65,9 @@ module _ (options : ReplayOptions) (schedule : List ℕ) (o : Ports) where
     pub meant : IsMeantTrap trap line tally read
     pub gets : Gets o.out (trap_text trap line ++ tally_text tally)
 
-  -- with takeover by places no right branch was forked or taken twice in the turns of a schedule
+  -- no right branch was forked or taken twice in the turns of a schedule
   abbrev pub IsOnce : Situation → List ScheduleItem → Type 0
-  IsOnce m items = options.takeover ≡ ByPlaces → NoneIsTakenTwice m (turns_by m items)
+  IsOnce m items = NoneIsTakenTwice m (turns_by m items)
 
   -- the replay has not ended after exactly as many acts as may be made, and err got exactly the line that says so
   pub record WritesUnfinished : Type 0 where

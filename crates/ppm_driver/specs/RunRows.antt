@@ -35,14 +35,14 @@ module _ (options : RunOptions) (watching : ℕ) (plan : List ℕ) (o : Outside)
   abbrev pub HasRead : Answer → Type 0
   HasRead answer = machine.HasRead plan_form plan options.processors Has (ports_of o) answer
 
-  -- with takeover by places the run of the text that was read ends as its program does, with these arrays, or in this trap
+  -- the run of the text that was read ends as its program does, with these arrays, or in this trap
   abbrev pub IsMeant : (arrays : List NamedArray) → HasRead (answers.Ended arrays) → Type 0
   IsMeant arrays read =
-      let p = read.2.has in options.takeover ≡ ByPlaces → EndsAsProgram p.2.start p.2.run.turns p.0 (outcome.Ended arrays)
+      let p = read.2.has in EndsAsProgram p.2.start p.2.run.turns p.0 (outcome.Ended arrays)
 
   abbrev pub IsMeantTrap : (t : Trap) (line : ℕ) → HasRead (answers.Trapped t line) → Type 0
   IsMeantTrap t line read =
-      let p = read.2.has in options.takeover ≡ ByPlaces → EndsAsProgram p.2.start p.2.run.turns p.0 (outcome.Trapped t line)
+      let p = read.2.has in EndsAsProgram p.2.start p.2.run.turns p.0 (outcome.Trapped t line)
 
   -- the run ends with arrays, those with which the program ends serially, and out got exactly their text
   pub record WritesArrays : Type 0 where
@@ -59,9 +59,9 @@ module _ (options : RunOptions) (watching : ℕ) (plan : List ℕ) (o : Outside)
     pub meant : IsMeantTrap trap line read
     pub gets : Gets o.out (trap_text trap line)
 
-  -- with takeover by places no right branch was forked or taken twice in these turns of a machine
+  -- no right branch was forked or taken twice in these turns of a machine
   abbrev pub IsOnce : Situation → List Turn → Type 0
-  IsOnce m turns = options.takeover ≡ ByPlaces → NoneIsTakenTwice m turns
+  IsOnce m turns = NoneIsTakenTwice m turns
 
   -- a processor has made exactly as many work turns as it may make, in the run of the text that was read
   abbrev pub IsSpent : (processor : ℕ) → HasRead (answers.OutOfTurns processor) → Type 0

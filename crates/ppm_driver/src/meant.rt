@@ -6,15 +6,15 @@ use ppm_cut_correct::{end_as_meant, ends_serially, name_arrays, start_with_input
 use ppm_cut_sound::code_is_sound;
 use ppm_opening::images_begin_the_depth_first_run;
 use ppm_rows::trees_are_within;
-use ppm_runs::{nothing_breaks, room_is_spent, runs_come_to, runs_stay, work_is_bounded};
+use ppm_runs::{nothing_breaks, room_is_spent, runs_end_so, work_is_bounded};
 
-/// With takeover by places, from the machine with which a run of a text's program begins, whatever
-/// the turns are that its processors make: no right branch is forked or taken twice. Where the
-/// finish word says an outcome, it is the program's serial outcome, with the arrays of the words
-/// then, or its trap; and each right branch that was forked was taken. Where it says that a pool is
-/// full, the program, run whole, takes more words than a pool has, or has no end. That words are
-/// broken it says only behind more work turns than a tag counts. All work turns are fewer than 256
-/// for each capsule that its code runs depth first and each fault that strikes a row of work.
+/// From the machine with which a run of a text's program begins, whatever the turns are that its
+/// processors make: no right branch is forked or taken twice. Where the finish word says an
+/// outcome, it is the program's serial outcome, with the arrays of the words then, or its trap; and
+/// each right branch that was forked was taken. With takeover by places, where it says that a pool
+/// is full, the program, run whole, takes more words than a pool has, or has no end; that words are
+/// broken it says only behind more work turns than a tag counts; and all work turns are fewer than
+/// 256 for each capsule that its code runs depth first and each fault that strikes a row of work.
 pub fn runs_are_as_programs()
     ensures law { RunsAreAsPrograms }
 {
@@ -27,8 +27,7 @@ pub fn runs_are_as_programs()
     ends_serially();
     end_as_meant();
     images_begin_the_depth_first_run();
-    runs_come_to();
-    runs_stay();
+    runs_end_so();
     room_is_spent();
     work_is_bounded();
     nothing_breaks();
