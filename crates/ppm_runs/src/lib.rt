@@ -1,19 +1,19 @@
-//! Runs: the tickets' half and the frames' half joined, with takeover by places; laws alone.
+//! Runs: the tickets' half and the frames' half joined; laws alone.
 //! Model: a machine's state by places, where each branch is, and the tree of strands; what holds of
-//! them is `IsRun` (`specs/Run`).
+//! them is `IsRun` (`specs/Run`), and with takeover by entries `IsHeired` (`specs/Entries`).
 //! Contract: a machine that opens an image is in such a state (`specs/Openings`). In each the next
 //! turn owes the tickets nothing that the frames don't show, and words are lawful and kept after it,
 //! or the run was stopped (`specs/Laws`); at an outcome all is as the depth-first run has it
 //! (`specs/Outcomes`).
 //! So each turn leads from one such state to the next, and whole runs come to what the depth-first
-//! run does (`specs/Whole`). Stands on `ppm_tickets` and `ppm_kept`.
+//! run does (`specs/Whole`, `specs/Entries`). Stands on `ppm_tickets` and `ppm_kept`.
 //! After the scheduler of Blelloch et al., SPAA 2018.
 #![tactic(auto)]
 
 mod laws;
 
 pub use laws::{
-    births_follow, heirs_lead, joints_stay, nothing_breaks, room_is_spent, runs_come_back, runs_come_to,
-    runs_end, runs_end_so, runs_open, runs_stay, runs_stay_heired, stops_stay, takers_have, turns_are_orderly, turns_go_on,
-    work_is_bounded,
+    births_follow, heirs_lead, joints_stay, nothing_breaks, room_is_spent, runs_come_back,
+    runs_come_to, runs_end, runs_end_so, runs_open, runs_stay, runs_stay_heired, stops_stay,
+    takers_have, turns_are_orderly, turns_go_on, work_is_bounded,
 };
