@@ -56,7 +56,7 @@ use Rattle.ppm_kept.specs.Running.{IsFair, strands}
 use Rattle.ppm_runs.specs.Entries.{EndsAsRun, OnceInEachRun, RunsEndSo}
 use Rattle.ppm_runs.specs.Moments.{AreOnce}
 use Rattle.ppm_runs.specs.Run.{image}
-use Rattle.ppm_runs.specs.Spent.{RoomIsSpent}
+use Rattle.ppm_runs.specs.Spent.{RoomIsSpentSo}
 use Rattle.ppm_runs.specs.Unbroken.{NothingBreaks}
 use Rattle.ppm_runs.specs.Work.{WorkIsWithin256}
 use Rattle.ppm_core.specs.Situation.{Situation, loaded}
@@ -81,7 +81,7 @@ pub record Laws : Type 0 where
   pub shown : ImagesShowTheRun
   pub runs : RunsEndSo
   pub once : OnceInEachRun
-  pub room : RoomIsSpent
+  pub room : RoomIsSpentSo
   pub work : WorkIsWithin256
   pub whole : NothingBreaks
 
@@ -228,11 +228,11 @@ module _ (laws : Laws) (text : List ℕ) (t : ProgramTree) (has : HasProgram tex
       }
 
       -- a full pool is one that the program needs more of
-      needs_more : sizes.takeover ≡ ByPlaces → (place : ℕ) → Says (finishes.OutOfRoom place) → NeedsMoreRoom t s.room
-      needs_more places place says k z means =
+      needs_more : (place : ℕ) → Says (finishes.OutOfRoom place) → NeedsMoreRoom t s.room
+      needs_more place says k z means =
           let e = (laws.meant t inside has.admitted.admitted has.bounded input starts).ends k z means in
           let ends_here = ends_as (sym shown.strands) (sym shown.root) (sym shown.arrays) e.0 e.1 in
-          let less = laws.room code input s keeper b.image (b.sized.takeover ∙ places) fair opened calm turns among place says e.0 ends_here in
+          let less = laws.room code input s keeper b.image fair opened calm turns among place says e.0 ends_here in
           let words_are = e.2.pool_words in
           omega (arith, less, words_are)
 
@@ -253,7 +253,7 @@ module _ (laws : Laws) (text : List ℕ) (t : ProgramTree) (has : HasProgram tex
           (ends_as (sym shown.strands) (sym shown.root) (sym shown.arrays) e comes)
 
       as_program : IsAsProgram start turns t
-      as_program = record { once = none_twice; ended = when_ended; trapped = when_trapped }
+      as_program = record { once = none_twice; ended = when_ended; trapped = when_trapped; full = needs_more }
         where
           when_ended : Says finishes.Ended → EndsAsProgram start turns t (outcome.Ended (arrays_from s b.image.lengths last.words 0 input))
           when_ended says =
@@ -278,7 +278,7 @@ module _ (laws : Laws) (text : List ℕ) (t : ProgramTree) (has : HasProgram tex
     pub as_programs : (turns : List Turn) → AllByRecursion (IsTurnAmong m.shape.processors) turns → IsAsProgram m turns t × (sizes.takeover ≡ ByPlaces → IsWithinProgram m turns t)
     as_programs turns =
         subst (λ (x : Situation). AllByRecursion (IsTurnAmong x.shape.processors) turns → IsAsProgram x turns t × (sizes.takeover ≡ ByPlaces → IsWithinProgram x turns t)) (sym b.loads)
-        (λ among. (as_program turns among, λ places. record { unbroken = breaks turns among places; work = works turns among places; full = needs_more turns among places }))
+        (λ among. (as_program turns among, λ places. record { unbroken = breaks turns among places; work = works turns among places }))
 
 -- so it is with each text's program
 pub runs_are_as_programs : Laws → RunsAreAsPrograms

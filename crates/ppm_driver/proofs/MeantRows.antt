@@ -178,14 +178,14 @@ module _ (law : RunsAreAsPrograms) (text : List ℕ) (t : ProgramTree) (has : Ha
         let e = trapped_run h.start.shape h.start.array_lengths w (initial_arrays t) k.0 trap line k.2 in
         (run_is (answers.Trapped trap line) h).0.trapped trap line (k.1 ∙ ap (λ (f : Finish). Some f) e)
 
-    pub run_needs : options.takeover ≡ ByPlaces → (place : ℕ) (h : Has (answers.OutOfRoom place)) → NeedsMoreRoom t options.room
-    run_needs places place h =
+    pub run_needs : (place : ℕ) (h : Has (answers.OutOfRoom place)) → NeedsMoreRoom t options.room
+    run_needs place h =
         let w = words_behind h.start h.run.turns in
         let k = said_of_word answers.Ended answers.Trapped (λ processor x. x ≡ answers.OutOfTurns processor) (λ x. ⊥) h.start.shape
         h.start.array_lengths w (initial_arrays t) (finish_behind h.start h.run.turns) (answers.OutOfRoom place) (λ none. none) h.run.says in
         let e = full_run h.start.shape h.start.array_lengths w (initial_arrays t) k.0 place k.2 in
         subst (NeedsMoreRoom t) (opens_room (runs.sizes_of options) (code_of t) (initial_arrays t) h.keeper h.start h.opens)
-        (((run_is (answers.OutOfRoom place) h).1 places).full place (k.1 ∙ ap (λ (f : Finish). Some f) e))
+        ((run_is (answers.OutOfRoom place) h).0.full place (k.1 ∙ ap (λ (f : Finish). Some f) e))
 
     -- with so many work turns that tags could not count them
     pub run_many : options.takeover ≡ ByPlaces → (place : ℕ) (h : Has (answers.Broken place)) → 2 ^ 34 ≤ options.processors * options.turns + 1
@@ -272,15 +272,15 @@ module _ (law : RunsAreAsPrograms) (text : List ℕ) (t : ProgramTree) (has : Ha
           alike h.start (ap (λ (x : Situation). x.forks) h.opens.loads) (ap (λ (x : Situation). x.takes) h.opens.loads) ends.branches tally e.1,
         )
 
-    pub replay_needs : options.takeover ≡ ByPlaces → (place : ℕ) (h : HasReplay (answers.OutOfRoom place)) → NeedsMoreRoom t options.room
-    replay_needs places place h =
+    pub replay_needs : (place : ℕ) (h : HasReplay (answers.OutOfRoom place)) → NeedsMoreRoom t options.room
+    replay_needs place h =
         let m = last h.start in
         let k = said_of_word (λ values. answers.EndedWith values (tally_of m)) (λ x n. answers.TrappedWith x n (tally_of m))
         (λ processor x. ⊥) (λ x. x ≡ answers.Unfinished options.turns) m.shape m.array_lengths m.state.words (initial_arrays t) (finish_in m)
         (answers.OutOfRoom place) (no_other_room options.turns place) h.says in
         let e = full_replay m.shape m.array_lengths m.state.words (initial_arrays t) options.turns (tally_of m) k.0 place k.2 in
         subst (NeedsMoreRoom t) (opens_room (replays.sizes_of options) (code_of t) (initial_arrays t) h.keeper h.start h.opens)
-        (((replay_is (answers.OutOfRoom place) h).1 places).full place (k.1 ∙ ap (λ (f : Finish). Some f) e))
+        ((replay_is (answers.OutOfRoom place) h).0.full place (k.1 ∙ ap (λ (f : Finish). Some f) e))
 
     pub replay_many : options.takeover ≡ ByPlaces → (place : ℕ) (h : HasReplay (answers.Broken place)) → 2 ^ 34 ≤ options.turns + 1
     replay_many places place h =

@@ -76,7 +76,7 @@ module _ (law : RunsAreAsPrograms) (options : ReplayOptions) (schedule : List â„
       of_program options h.2.items h.2.has.0 (answers.OutOfRoom place) h.2.has.2,
       filled_has options h.2.items h.2.has.0 place h.2.has.2,
     );
-    needs = Î» places. replay_needs law h.0 h.2.has.0 h.2.has.1 options schedule h.2.items h.2.accepted places place h.2.has.2;
+    needs = replay_needs law h.0 h.2.has.0 h.2.has.1 options schedule h.2.items h.2.accepted place h.2.has.2;
     once =
         replay_once law h.0 h.2.has.0 h.2.has.1 options schedule h.2.items h.2.accepted (answers.OutOfRoom place) h.2.has.2;
     gets = w.err_takes.0;

@@ -71,7 +71,7 @@ module _ (law : RunsAreAsPrograms) (options : RunOptions) (watching : ℕ) (plan
       of_program options watching o.told_before o.told_now h.2.items h.2.has.0 (answers.OutOfRoom place) h.2.has.2,
       filled_has options watching o.told_before o.told_now h.2.items h.2.has.0 place h.2.has.2,
     );
-    needs = λ places. run_needs law h.0 h.2.has.0 h.2.has.1 options watching o.told_before o.told_now h.2.items places place h.2.has.2;
+    needs = run_needs law h.0 h.2.has.0 h.2.has.1 options watching o.told_before o.told_now h.2.items place h.2.has.2;
     once =
         run_once law h.0 h.2.has.0 h.2.has.1 options watching o.told_before o.told_now h.2.items (answers.OutOfRoom place) h.2.has.2;
     gets = w.err_takes.0;

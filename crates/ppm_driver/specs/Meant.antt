@@ -70,25 +70,24 @@ module _ (m : Situation) (turns : List Turn) where
     pub branches : EachIsTakenOnce
 
   -- What holds behind these turns. No branch is taken twice. Where the finish word says an outcome the run ends as the program does, with the
-  -- arrays of the words then, or this trap.
+  -- arrays of the words then, or this trap; where it says that a pool is full, the program takes more words.
   pub record IsAsProgram (t : ProgramTree) : Type 0 where
     pub once : NoneIsTakenTwice
     pub ended : finish_of (finish_behind m turns) ≡ Some finishes.Ended
         → EndsAsProgram t (outcome.Ended (arrays_from m.shape m.array_lengths (words_behind m turns) 0 (initial_arrays t)))
     pub trapped : (trap : Trap) (line : ℕ) → finish_of (finish_behind m turns) ≡ Some (finishes.Trapped trap line)
         → EndsAsProgram t (outcome.Trapped trap line)
+    pub full : (place : ℕ) → finish_of (finish_behind m turns) ≡ Some (finishes.OutOfRoom place) → NeedsMoreRoom t m.shape.room
 
-  -- What a run takes. Where the finish word says that a pool is full, the program takes more words; and that words are broken it says only
-  -- behind more work turns than a tag counts. All work turns are fewer than 256 for each capsule of the program's code and each fault that
-  -- strikes a row of work.
+  -- How much work a run takes. That words are broken the finish word says only behind more work turns than a tag counts. All work turns are
+  -- fewer than 256 for each capsule of the program's code and each fault that strikes a row of work.
   pub record IsWithinProgram (t : ProgramTree) : Type 0 where
     pub unbroken : (place : ℕ) → finish_of (finish_behind m turns) ≡ Some (finishes.Broken place)
         → 2 ^ 34 ≤ length (along m.shape m.code work_of m.state turns) + 1
     pub work : NeedsMoreTurns t struck_in (length (along m.shape m.code work_of m.state turns))
-    pub full : (place : ℕ) → finish_of (finish_behind m turns) ≡ Some (finishes.OutOfRoom place) → NeedsMoreRoom t m.shape.room
 
 -- From the machine with which a run of a text's program begins, whatever the turns are that its processors make, and in whatever order, faults
--- and quits among them; with takeover by places what it takes is bounded.
+-- and quits among them; with takeover by places its work is bounded.
 abbrev pub RunsAreAsPrograms : Type 0
 RunsAreAsPrograms = (text : List ℕ) (t : ProgramTree) → HasProgram text t → (sizes : Sizes)
     → (keeper : ℕ) (m : Situation) → Opens sizes (code_of t) (initial_arrays t) keeper m

@@ -83,13 +83,12 @@ module _ (options : ReplayOptions) (schedule : List ℕ) (o : Ports) where
       (place < options.processors)
       × IsFilledBehind p.start.shape p.start.code place p.start.state.words (turns_by p.start read.2.items)
 
-  -- So it is, and err got exactly the line that says so. With takeover by places the program takes more words than a pool has, or it has no
-  -- end.
+  -- So it is, and err got exactly the line that says so. The program takes more words than a pool has, or it has no end.
   pub record WritesOutOfRoom : Type 0 where
     pub place : ℕ
     pub read : HasRead (answers.OutOfRoom place)
     pub full : IsFull place read
-    pub needs : options.takeover ≡ ByPlaces → NeedsMoreRoom read.2.has.0 options.room
+    pub needs : NeedsMoreRoom read.2.has.0 options.room
     pub once : IsOnce read.2.has.2.start read.2.items
     pub gets : Gets o.err (room_text place)
 

@@ -92,13 +92,12 @@ module _ (options : RunOptions) (watching : ℕ) (plan : List ℕ) (o : Outside)
       let p = read.2.has.2 in
       (place < options.processors) × IsFilledBehind p.start.shape p.start.code place p.start.state.words p.run.turns
 
-  -- So it is, and err got exactly the line that says so. With takeover by places the program takes more words than a pool has, or it has no
-  -- end.
+  -- So it is, and err got exactly the line that says so. The program takes more words than a pool has, or it has no end.
   pub record WritesOutOfRoom : Type 0 where
     pub place : ℕ
     pub read : HasRead (answers.OutOfRoom place)
     pub full : IsFull place read
-    pub needs : options.takeover ≡ ByPlaces → NeedsMoreRoom read.2.has.0 options.room
+    pub needs : NeedsMoreRoom read.2.has.0 options.room
     pub once : let p = read.2.has.2 in IsOnce p.start p.run.turns
     pub gets : Gets o.err (room_text place)
 

@@ -52,7 +52,7 @@ use Rattle.ppm_kept.proofs.FateLemmas.{none_is_left}
 use Rattle.ppm_runs.specs.Run.{image, fate_of}
 use Rattle.ppm_runs.specs.Follow.{GoesOn, LooksOnly}
 use Rattle.ppm_runs.specs.Joint.{IsCapped, StepsAlone}
-use Rattle.ppm_runs.specs.Entries.{IsHeired, HeirsLeadOn, RunsStayHeired, OnceByEntries, RunsEndByEntries, OnceInEachRun, RunsEndSo}
+use Rattle.ppm_runs.specs.Entries.{IsHeired, HeirsLeadOn, RunsStayHeired, OnceByEntries, RunsEndByEntries, HalvesStay, OnceInEachRun, RunsEndSo}
 use Rattle.ppm_runs.proofs.ShownLemmas.{halves, within}
 use Rattle.ppm_runs.proofs.OrderlyLemmas.{halves_owe, how_or}
 use Rattle.ppm_runs.proofs.OpenLemmas.{runs_open}
@@ -60,7 +60,7 @@ use Rattle.ppm_runs.proofs.BrokenLemmas.{broken_stays}
 use Rattle.ppm_runs.proofs.OutcomeLemmas.{unborn_is, begun_is, same_lists}
 use Rattle.ppm_runs.proofs.AgreeLemmas.{pushing_home, not_followed}
 use Rattle.ppm_runs.proofs.JoinLemmas.{joints_stay}
-use Rattle.ppm_runs.proofs.MomentLemmas.{are_once, once_at_each_moment}
+use Rattle.ppm_runs.proofs.MomentLemmas.{are_once, once_at_each_moment, runs_stay}
 use Rattle.ppm_runs.proofs.WholeLemmas.{runs_come_to}
 use Rattle.ppm_runs.proofs.FollowLemmas.{heirs_lead}
 use Rattle.ppm_runs.proofs.HalvesLemmas.{halves_go_on}
@@ -272,6 +272,12 @@ runs_end_by_entries code input s keeper im ih fair opens calm turns all finish s
     )
 
 -- whatever the takeover
+pub halves_stay : HalvesStay
+halves_stay code input s keeper im fair opens calm turns all = elim (how_or s.takeover) [
+  | inl places ↦ let a = runs_stay code input s keeper im places fair opens calm turns all in ([], a.0, halves a.1)
+  | inr ih ↦ let a = runs_stay_heired code input s keeper im ih fair opens calm turns all in (a.0, a.1, a.2.halves)
+]
+
 pub once_in_each_run : OnceInEachRun
 once_in_each_run code input s keeper im fair opens calm turns all = elim (how_or s.takeover) [
   | inl places ↦ once_at_each_moment code input s keeper im places fair opens calm turns all

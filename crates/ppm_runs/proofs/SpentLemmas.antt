@@ -30,19 +30,24 @@ use Rattle.ppm_step.specs.declared.turn.Turn.{Turn}
 use Rattle.ppm_step.proofs.RoomLemmas.{room_has_cause}
 use Rattle.ppm_tickets.specs.Along.{homes, forked as forked_in, taken as taken_in}
 use Rattle.ppm_tickets.specs.Homes.{Home as BranchHome, Unborn}
+use Rattle.ppm_tickets.specs.Saw.{Sees}
+use Rattle.ppm_tickets.specs.View as spots
 use Rattle.ppm_frames.specs.Views.{view}
 use Rattle.ppm_frames.specs.Seen.{arrays_at}
 use Rattle.ppm_frames.specs.Skeletons.{Skeleton}
 use Rattle.ppm_frames.proofs.ViewLemmas.{view_is}
 use Rattle.ppm_kept.specs.Running.{IsFair, strands}
 use Rattle.ppm_kept.specs.Kept.{start, InRest, State, Going, ceiling}
+use Rattle.ppm_kept.specs.Left.{Followed, left}
 use Rattle.ppm_kept.specs.Places.{places_of}
+use Rattle.ppm_kept.proofs.LeftLemmas.{shown}
 use Rattle.ppm_kept.proofs.SpentLemmas.{full_pools_are_spent}
-use Rattle.ppm_runs.specs.Run.{image, IsRun}
-use Rattle.ppm_runs.specs.Spent.{RoomIsSpent}
-use Rattle.ppm_runs.proofs.ShownLemmas.{halves, Runs, runs}
+use Rattle.ppm_runs.specs.Run.{image}
+use Rattle.ppm_runs.specs.Follow.{IsHalves}
+use Rattle.ppm_runs.specs.Spent.{RoomIsSpent, RoomIsSpentSo}
+use Rattle.ppm_runs.proofs.ShownLemmas.{carried_away, Runs, runs}
 use Rattle.ppm_runs.proofs.OutcomeLemmas.{unset_is}
-use Rattle.ppm_runs.proofs.MomentLemmas.{runs_stay}
+use Rattle.ppm_runs.proofs.HeiredLemmas.{halves_stay}
 
 -- the first of the turns
 pub front : (P : Turn → Type 0) (first more : List Turn) → AllByRecursion P (first ++ more) → AllByRecursion P first
@@ -72,16 +77,23 @@ loads_counter s code place home (Room x ∷ instrs) words e = record {
 }
 loads_counter s code place home (i ∷ instrs) words e = absurd (cc)
 
-module _ (s : Shape) (code : CodeParts) (fair : IsFair code) (root : Tree (Frame FrameWord Point) Result) (input : Words) (state : RunState) (h : ℕ → BranchHome) (fk tk : List ℕ) (t : Skeleton) (run : IsRun s code root input state h fk tk t)
+module _ (s : Shape) (code : CodeParts) (fair : IsFair code) (root : Tree (Frame FrameWord Point) Result) (input : Words) (state : RunState) (h : ℕ → BranchHome) (fk tk : List ℕ) (l : List Followed) (t : Skeleton) (run : IsHalves s code root input state h fk tk l t)
     (place : ℕ) (turn : Turn) (finds : FindsFull s code place state turn) (end : End Result) (ends : Ends (strands s code) root input end) where
   abbrev z : State
-  z = places_of s state
+  z = left (image s code) l (places_of s state)
 
   abbrev rest : Rest
   rest = rest_of s code place finds.home (capsule_of s.arrays finds.capsule.instrs)
 
-  here : Runs s code root input state h fk tk [] t (halves run) turn.processor finds.seat rest
-  here = runs s code root input state h fk tk [] t (halves run) turn.processor finds.seat rest finds.begins
+  here : Runs s code root input state h fk tk l t run turn.processor finds.seat rest
+  here = runs s code root input state h fk tk l t run turn.processor finds.seat rest finds.begins
+
+  -- the counter of its place, which none has followed
+  counter_is : z.words (RoomCounter finds.seat.place) ≡ view s state.words (RoomCounter finds.seat.place)
+  counter_is =
+      let sees = subst (Sees s (spots.view s state.words) (spots.kinds s state.words) (spots.bottoms s state.words) turn.processor) finds.begins (run.lawful.1.sees turn.processor) in
+      let away = carried_away s code root input state h fk tk l t run turn.processor finds.seat.place sees.0.carried in
+      shown (image s code) root input (places_of s state) l run.apart t run.kept finds.seat.place away (RoomCounter finds.seat.place) refl
 
   counts : LoadsCounter s place finds.words rest
   counts = loads_counter s code place finds.home finds.capsule.instrs finds.words finds.asks
@@ -94,7 +106,7 @@ module _ (s : Shape) (code : CodeParts) (fair : IsFair code) (root : Tree (Frame
 
   of_run : (f y : ℕ) → z.kind place ≡ Run f y → s.room < frame_size code code.root + end.counts.block_words
   of_run f y ke =
-      let seen : read s state.words (RoomCounter place) ≡ z.words (RoomCounter place) = sym (view_is s state.words (RoomCounter place) (lt-ltb place s.processors there)) in
+      let seen : read s state.words (RoomCounter place) ≡ z.words (RoomCounter place) = sym (subst (λ (p : ℕ). z.words (RoomCounter p) ≡ view s state.words (RoomCounter p)) finds.at_place counter_is ∙ view_is s state.words (RoomCounter place) (lt-ltb place s.processors there)) in
       let low : pool_at s place ≤ z.words (RoomCounter place) = subst (λ (k : RestartKind). start (image s code) place ≤ ceiling (image s code) z.words place k) ke (run.kept.rooms place).0 in
       let passes : pool_at s place + s.room < z.words (RoomCounter place) + finds.words = subst (λ (c : ℕ). pool_at s place + s.room < c + finds.words) seen finds.passes in
       full_pools_are_spent (image s code) fair root input z t run.kept place f y ke (next_of rest) doing_is (counts.full (z.words (RoomCounter place)) low passes) end ends
@@ -121,11 +133,14 @@ module _ (s : Shape) (code : CodeParts) (fair : IsFair code) (root : Tree (Frame
   spent_at : s.room < frame_size code code.root + end.counts.block_words
   spent_at = by_kind (z.kind place) refl going
 
-pub room_is_spent : RoomIsSpent
-room_is_spent code input s keeper im places fair opens calm turns all place says end ends =
+pub room_is_spent_so : RoomIsSpentSo
+room_is_spent_so code input s keeper im fair opens calm turns all place says end ends =
     let cause = room_has_cause s code opens.code_is im.words turns place (opens.image_is.opened FinishWord tt ∙ unset_is) says in
     let among = front (IsTurnAmong s.processors) cause.first (cause.turn ∷ cause.more) (subst (AllByRecursion (IsTurnAmong s.processors)) cause.turns_are all) in
-    let run = runs_stay code input s keeper im places fair opens calm cause.first among in
+    let run = halves_stay code input s keeper im fair opens calm cause.first among in
     spent_at s code fair (root_strand code input) (arrays_at (view s im.words)) (reached s code im.words cause.first)
     (homes s code (opening im.words s.processors) (λ r. Unborn) cause.first) (forked_in s code (opening im.words s.processors) [] cause.first) (taken_in s code (opening im.words s.processors) [] cause.first)
-    run.0 run.1 place cause.turn cause.finds end ends
+    run.0 run.1 run.2 place cause.turn cause.finds end ends
+
+pub room_is_spent : RoomIsSpent
+room_is_spent code input s keeper im places fair opens calm turns all place says end ends = room_is_spent_so code input s keeper im fair opens calm turns all place says end ends

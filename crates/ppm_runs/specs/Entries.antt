@@ -91,6 +91,17 @@ RunsEndByEntries = (code : CodeParts) (input : List NamedArray) (s : Shape) (kee
     × EndsAsRun s code (root_strand code input) (arrays_at (view s image.words)) (reached s code image.words turns)
     (forked_in s code (opening image.words s.processors) [] turns) (taken_in s code (opening image.words s.processors) [] turns) t finish
 
+-- whatever the takeover, both halves hold at each moment of a run
+abbrev pub HalvesStay : Type 0
+HalvesStay = (code : CodeParts) (input : List NamedArray) (s : Shape) (keeper : ℕ) (image : RealImage)
+    → IsFair code → Opens code input s keeper image
+    → Calm (strands s code) (root_strand code input) (arrays_at (view s image.words))
+    → (turns : List Turn) → AllByRecursion (IsTurnAmong s.processors) turns
+    → (l : List Followed) × (t : Skeleton)
+    × IsHalves s code (root_strand code input) (arrays_at (view s image.words)) (reached s code image.words turns)
+    (homes s code (opening image.words s.processors) (λ r. Unborn) turns)
+    (forked_in s code (opening image.words s.processors) [] turns) (taken_in s code (opening image.words s.processors) [] turns) l t
+
 -- so at each moment of a run, whatever the takeover
 abbrev pub OnceInEachRun : Type 0
 OnceInEachRun = (code : CodeParts) (input : List NamedArray) (s : Shape) (keeper : ℕ) (image : RealImage)

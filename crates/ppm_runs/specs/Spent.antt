@@ -34,3 +34,13 @@ RoomIsSpent = (code : CodeParts) (input : List NamedArray) (s : Shape) (keeper :
     → (place : ℕ) → finish_of (read s (reached s code image.words turns).words FinishWord) ≡ Some (OutOfRoom place)
     → (end : End Result) → Ends (strands s code) (root_strand code input) (arrays_at (view s image.words)) end
     → s.room < frame_size code code.root + end.counts.block_words
+
+-- so it is whatever the takeover
+abbrev pub RoomIsSpentSo : Type 0
+RoomIsSpentSo = (code : CodeParts) (input : List NamedArray) (s : Shape) (keeper : ℕ) (image : RealImage)
+    → IsFair code → Opens code input s keeper image
+    → Calm (strands s code) (root_strand code input) (arrays_at (view s image.words))
+    → (turns : List Turn) → AllByRecursion (IsTurnAmong s.processors) turns
+    → (place : ℕ) → finish_of (read s (reached s code image.words turns).words FinishWord) ≡ Some (OutOfRoom place)
+    → (end : End Result) → Ends (strands s code) (root_strand code input) (arrays_at (view s image.words)) end
+    → s.room < frame_size code code.root + end.counts.block_words

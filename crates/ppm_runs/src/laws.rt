@@ -8,7 +8,7 @@ ghost use Rattle.ppm_runs.specs.Moments.{OnceAtEachMoment, RunsStay, TurnsLeadOn
 ghost use Rattle.ppm_runs.specs.Openings.{RunsOpen};
 ghost use Rattle.ppm_runs.specs.Outcomes.{RunsEnd, StopsStay};
 ghost use Rattle.ppm_runs.specs.Renewals.{PartsComeTo, RunsComeBack};
-ghost use Rattle.ppm_runs.specs.Spent.{RoomIsSpent};
+ghost use Rattle.ppm_runs.specs.Spent.{RoomIsSpent, RoomIsSpentSo};
 ghost use Rattle.ppm_runs.specs.Unbroken.{NothingBreaks};
 ghost use Rattle.ppm_runs.specs.Whole.{JoinsStay, RunsComeTo, TurnsLead};
 ghost use Rattle.ppm_runs.specs.Work.{WorkIsBounded, WorkIsWithin256};
@@ -75,11 +75,12 @@ pub fn runs_stay()
     ensures once { OnceAtEachMoment }
 {}
 
-/// With takeover by places, from an image of a sound code, whatever the turns: where the finish word says
+/// From an image of a sound code, whatever the takeover, and whatever the turns: where the finish word says
 /// that a pool is full, and the depth-first run of the root comes to an end, that run takes more words
 /// than a pool has.
 pub fn room_is_spent()
     ensures law { RoomIsSpent }
+    ensures so { RoomIsSpentSo }
 {}
 
 /// With takeover by places, saved words of a run's state come back, and that is a run's state again. So

@@ -15,7 +15,7 @@ returns c = record {
     shown = c.images_begin_the_depth_first_run.ensures.shown;
     runs = c.runs_end_so.ensures.ends;
     once = c.runs_end_so.ensures.once;
-    room = c.room_is_spent.ensures.law;
+    room = c.room_is_spent.ensures.so;
     work = c.work_is_bounded.ensures.within;
     whole = c.nothing_breaks.ensures.law;
   });

@@ -1,5 +1,5 @@
-use Rattle.ppm_runs.proofs.SpentLemmas.{room_is_spent}
+use Rattle.ppm_runs.proofs.SpentLemmas.{room_is_spent, room_is_spent_so}
 use Rattle.ppm_runs.proofs.laws.room_is_spent.Goals as goal
 
 pub returns : goal.returns
-returns c = record { law = room_is_spent }
+returns c = record { law = room_is_spent; so = room_is_spent_so }
