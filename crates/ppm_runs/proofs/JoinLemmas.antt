@@ -531,7 +531,7 @@ module _ (s : Shape) (code : CodeParts) (fair : IsFair code) (root : Tree (Frame
                       kind = push.1;
                       above = high.0;
                       stays = ap (λ (f : ℕ → Restart). (f q).kind) (restarts_kept s state.words cell (word_of new) is (restart_not cell (subst IsNoRestart (sym at) tt)))
-                      ∙ sym (ap (spots.kinds s state.words) place) ∙ w.sits.at.kind ∙ push.1;
+                          ∙ sym (ap (spots.kinds s state.words) place) ∙ w.sits.at.kind ∙ push.1;
                     }
               ]
           | inr (inl quiet) ↦ absurd (subst IsQuietCell at quiet)

@@ -188,7 +188,7 @@ module _ (s : Shape) (code : CodeParts) (fair : IsFair code) (root : Tree (Frame
       | inl seeks ↦ absurd (on seeks)
       | inr a ↦ elim by [
         | inl k ↦ closed_at seat.place a.0 (heir_run seat.place a.0 (spots.kinds s state.words a.0.place) refl
-          (subst (GoesOnBy (Closed s.takeover m) m (spots.kinds s state.words) (spots.bottoms s state.words) h run.lawful.1.board seat.place a.0.place (spots.kinds s state.words a.0.place)) k a.1))
+            (subst (GoesOnBy (Closed s.takeover m) m (spots.kinds s state.words) (spots.bottoms s state.words) h run.lawful.1.board seat.place a.0.place (spots.kinds s state.words a.0.place)) k a.1))
         | inr k ↦ absurd (let x : Install re ≡ Fork r = k in cc)
       ]
     ]
