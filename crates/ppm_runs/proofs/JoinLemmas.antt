@@ -28,7 +28,7 @@ use Rattle.ppm_step.specs.Among.{IsTurnAmong}
 use Rattle.ppm_step.specs.Contents.{content_of, word_of}
 use Rattle.ppm_step.specs.Points.{cell_at, reading_at}
 use Rattle.ppm_step.specs.Frames.{Rest, Loads, Stores, Full, Installs, Breaks}
-use Rattle.ppm_step.specs.Standings.{Standing, IsLost, IsPlaced, IsAt, IsWithin, IsRunning, IsBroken, IsDone, wanted, wanted_row, wanted_rest, forked as forked_restart, begun, within_if, running_if, running, row_is_there, then_is_there, rest_is_there, enters, stands_then, stands, begins_if, at_finish, placed, went_row, went_rest, went}
+use Rattle.ppm_step.specs.Standings.{Standing, IsLost, IsPlaced, IsAt, IsWithin, IsRunning, IsBroken, IsDone, wanted, wanted_row, wanted_rest, forked as forked_restart, begun, within_if, running_if, running, row_is_there, then_is_there, rest_is_there, enters, stands_then, stands, begins_if, at_finish, placed, went_rest, went}
 use Rattle.ppm_step.specs.Rows.{row_of, push_at, found_at, on_entry, push_above, push_by_order, raised}
 use Rattle.ppm_code.specs.declared.code.Capsule.{Capsule as CodeCapsule}
 use Rattle.ppm_tickets.proofs.StepLemmas.{stand_own, stand_other}
@@ -531,7 +531,7 @@ module _ (s : Shape) (code : CodeParts) (fair : IsFair code) (root : Tree (Frame
                       kind = push.1;
                       above = high.0;
                       stays = ap (λ (f : ℕ → Restart). (f q).kind) (restarts_kept s state.words cell (word_of new) is (restart_not cell (subst IsNoRestart (sym at) tt)))
-                      ∙ sym (ap (spots.kinds s state.words) place) ∙ w.sits.at.kind ∙ push.1;
+                          ∙ sym (ap (spots.kinds s state.words) place) ∙ w.sits.at.kind ∙ push.1;
                     }
               ]
           | inr (inl quiet) ↦ absurd (subst IsQuietCell at quiet)
