@@ -11,7 +11,7 @@ use Rattle.ppm_answers.specs.declared.status.Status.{Status}
 use Rattle.ppm_answers.specs.declared.status.Status.TheVariants as statuses
 use Rattle.ppm_answers.specs.Delivery.{IsWritten}
 use Rattle.ppm_answers.specs.Reading.{DeliversAnswer}
-use Rattle.ppm_answers.specs.Rows.{PlannedRows, ReadOrRefused, HasOrRefused}
+use Rattle.ppm_answers.specs.Rows.{PlannedRows, ReadOrRefused}
 use Rattle.ppm_answers.specs.Statuses.{status_of}
 use Rattle.ppm_answers.proofs.RowsLemmas as rows_lemmas
 use Rattle.ppm_cli.specs.declared.replay.ReplayOptions.{ReplayOptions}

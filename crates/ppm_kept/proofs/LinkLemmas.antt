@@ -13,7 +13,7 @@ use Rattle.ppm_cells.specs.declared.side.Side.TheVariants.{Left, Right}
 use Rattle.ppm_capsules.specs.Strand.{Frame}
 use Rattle.ppm_code.specs.Strands.{Point, Result}
 use Rattle.ppm_code.specs.declared.location.FrameWord.{FrameWord}
-use Rattle.ppm_frames.specs.Skeletons.{Stand, Begins, Over, Arrives, Who, InPlace, Skeleton, Leaf, Calling, Forking, count, plug, hook_at}
+use Rattle.ppm_frames.specs.Skeletons.{Stand, Begins, Over, Arrives, Who, InPlace, Skeleton, Leaf, Calling, Forking, count, hook_at}
 use Rattle.ppm_frames.specs.Good.{link_at, Good, BumpsAt, Match}
 use Rattle.ppm_frames.proofs.SkeletonLemmas.{inside_at, branch_from}
 use Rattle.ppm_frames.proofs.SwapLemmas.{good_here}

@@ -8,7 +8,7 @@ use Rattle.ppm_capsules.specs.Strand.{Frame}
 use Rattle.ppm_code.specs.Strands.{Point, Result}
 use Rattle.ppm_code.specs.declared.location.FrameWord.{FrameWord}
 use Rattle.ppm_frames.specs.Skeletons.{InPlace, Fresh, Waiting, Held, Came, Inlined, Skeleton, Leaf, Calling, Forking, plug, hook_at}
-use Rattle.ppm_frames.specs.Good.{IsPlain, mark, order_of, Forks, Good}
+use Rattle.ppm_frames.specs.Good.{IsPlain, mark, order_of, Good}
 use Rattle.ppm_frames.proofs.SkeletonLemmas.{inside_at}
 use Rattle.ppm_frames.proofs.SwapLemmas.{good_here}
 use Rattle.ppm_kept.specs.Running.{IsFair}

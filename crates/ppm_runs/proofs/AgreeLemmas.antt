@@ -1,6 +1,6 @@
 -- What has come of each right branch and the tree agree after each turn by which no place goes on with what it
 -- inherited.
-use Rattle.std.proofs.Common.{◌≡◌, ◌≢◌, ◌⊎◌, ◌<◌, ◌≤◌, ℕ, zero, suc, ◌+◌, ◌-◌, ◌==◌, Bool, true, false, if◌then◌else◌, cond, List, [], ◌∷◌, ◌++◌, inl, inr, refl, sym, ap, ◌∙◌, subst, subst₂, arith}
+use Rattle.std.proofs.Common.{◌≡◌, ◌≢◌, ◌⊎◌, ◌<◌, ◌≤◌, ℕ, ◌+◌, ◌-◌, ◌==◌, Bool, true, false, if◌then◌else◌, cond, List, [], ◌∷◌, ◌++◌, inl, inr, refl, sym, ap, ◌∙◌, subst, subst₂, arith}
 use Rattle.std.specs.Prelude.{nat_lt, ◌^◌}
 use Rattle.std.proofs.Math.Path.{fun_ext}
 use Rattle.std.proofs.lemmas.Bool.{cases_eq, eqb-true, eq-eqb}
@@ -63,9 +63,8 @@ use Rattle.ppm_tickets.proofs.WriteLemmas.{put_here, put_else}
 use Rattle.ppm_frames.specs.Views.{is_cell}
 use Rattle.ppm_frames.specs.Skeletons.{Stand, Who, InPlace, Fresh, Held, Waiting, Came, Inlined, Skeleton, Leaf, Calling, Forking, grow, pushed, over_left, take_in, count}
 use Rattle.ppm_kept.specs.Running.{IsFair}
-use Rattle.ppm_kept.specs.Kept.{Image, seat_at, owner, InRow, State, Does, IsKept}
+use Rattle.ppm_kept.specs.Kept.{Image, seat_at, owner, InRow, State, IsKept}
 use Rattle.ppm_kept.specs.Kept as kept
-use Rattle.ppm_kept.specs.Kept.{InRest}
 use Rattle.ppm_kept.specs.Births.{floor, Births}
 use Rattle.ppm_kept.specs.Moves.{by_install, opened}
 use Rattle.ppm_frames.specs.Good.{link_at}

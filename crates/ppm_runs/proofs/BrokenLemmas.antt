@@ -2,16 +2,12 @@
 use Rattle.std.proofs.Common.{◌≡◌, ◌≢◌, ◌≤◌, ℕ, zero, suc, Bool, true, false, if◌then◌else◌, List, Option, Some, None, inl, inr, refl, sym, ◌∙◌, subst, arith, slice_set}
 use Rattle.std.specs.Prelude.{nat_lt, slice_get}
 use Rattle.std.proofs.lemmas.Bool.{cases_eq}
-use Rattle.ppm_strands.specs.Tree.{Words, Tree}
 use Rattle.ppm_cells.specs.declared.restart.Restart.{Restart}
 use Rattle.ppm_cells.specs.declared.restart.RestartKind.{RestartKind}
 use Rattle.ppm_cells.specs.declared.restart.RestartKind.TheVariants.{Run}
 use Rattle.ppm_cells.specs.declared.shape.Shape.{Shape}
-use Rattle.ppm_capsules.specs.Strand.{Frame}
 use Rattle.ppm_code.specs.declared.code.Capsule.{Capsule as CodeCapsule}
-use Rattle.ppm_code.specs.Strands.{Point, Result}
 use Rattle.ppm_code.specs.declared.code.CodeParts.{CodeParts}
-use Rattle.ppm_code.specs.declared.location.FrameWord.{FrameWord}
 use Rattle.ppm_step.specs.Frames.{Rest, Loads, Stores, Full, Installs, Breaks}
 use Rattle.ppm_step.specs.Points.{reading_at}
 use Rattle.ppm_step.specs.Contents.{content_of}
@@ -32,8 +28,6 @@ use Rattle.ppm_tickets.specs.Renewal.{IsLawful}
 use Rattle.ppm_tickets.specs.Saw.{Sees}
 use Rattle.ppm_tickets.specs.View as spots
 use Rattle.ppm_tickets.proofs.StepLemmas.{stand_own, stand_other}
-use Rattle.ppm_frames.specs.Skeletons.{Skeleton}
-use Rattle.ppm_runs.specs.Run.{IsRun}
 use Rattle.ppm_runs.specs.Laws.{BrokenFollow}
 
 -- where broken words were met, if they were: at most so far

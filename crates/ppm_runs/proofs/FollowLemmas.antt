@@ -1,5 +1,5 @@
 -- What the deque's half says of a place that goes on with what it inherited is what the frames' half asks.
-use Rattle.std.proofs.Common.{◌≡◌, ◌≢◌, ◌⊎◌, ◌<◌, ◌+◌, ◌==◌, ℕ, zero, suc, Bool, true, false, if◌then◌else◌, List, [], ◌∷◌, ◌++◌, inl, inr, refl, sym, ap, ◌∙◌, subst, arith, true≢false}
+use Rattle.std.proofs.Common.{◌≡◌, ◌≢◌, ◌<◌, ◌+◌, ℕ, zero, suc, Bool, true, false, if◌then◌else◌, List, [], ◌∷◌, ◌++◌, inl, inr, refl, sym, ap, ◌∙◌, subst, arith, true≢false}
 use Rattle.std.specs.Prelude.{nat_lt}
 use Rattle.std.proofs.Math.Path.{fun_ext}
 use Rattle.std.proofs.lemmas.Bool.{eqb-true, ltb-true, cases_eq, cases_Bool}
@@ -24,12 +24,12 @@ use Rattle.ppm_step.specs.declared.row.Then.{Then}
 use Rattle.ppm_step.specs.declared.row.Then.TheVariants.{Install, Fork}
 use Rattle.ppm_step.specs.declared.turn.Act.TheVariants.{Step}
 use Rattle.ppm_tickets.specs.Along.{by_row, by_install}
-use Rattle.ppm_tickets.specs.Heirs.{Inherits, GoesOnBy, ChecksSo, InheritsAt, IsLawfulOn, followed_too}
+use Rattle.ppm_tickets.specs.Heirs.{GoesOnBy, InheritsAt, IsLawfulOn, followed_too}
 use Rattle.ppm_tickets.specs.Homes.{Home, Unborn, Pushing}
-use Rattle.ppm_tickets.specs.Lawful.{Names, IsClaim, Closed}
+use Rattle.ppm_tickets.specs.Lawful.{IsClaim, Closed}
 use Rattle.ppm_tickets.specs.Saw.{Carried, Sees}
 use Rattle.ppm_tickets.specs.View as spots
-use Rattle.ppm_tickets.specs.Words.{Word, Empty, Local, Job, Taken, Held, Number, Linked, Restarts, Unread, Spot, Holder, put, has}
+use Rattle.ppm_tickets.specs.Words.{Word, Spot, put, has}
 use Rattle.ppm_tickets.proofs.CountLemmas.{has_here}
 use Rattle.ppm_tickets.proofs.EstateLemmas.{claims_shut, here}
 use Rattle.ppm_tickets.proofs.FollowedLemmas.{heirs_follow}
@@ -40,7 +40,7 @@ use Rattle.ppm_tickets.proofs.WriteLemmas.{put_here, put_else}
 use Rattle.ppm_frames.specs.Skeletons.{Skeleton}
 use Rattle.ppm_frames.specs.Good.{link_at}
 use Rattle.ppm_kept.specs.Running.{IsFair}
-use Rattle.ppm_kept.specs.Kept.{Image, Doing, Resting, State, IsKept}
+use Rattle.ppm_kept.specs.Kept.{Image, Resting, State}
 use Rattle.ppm_kept.specs.Bearing.{with_blocks}
 use Rattle.ppm_kept.specs.Births.{Births}
 use Rattle.ppm_kept.specs.Fates.{Agrees}
@@ -50,11 +50,10 @@ use Rattle.ppm_kept.specs.Heirs.{handed, OpensAs, GoesOnAs}
 use Rattle.ppm_kept.specs.HeirTurns.{Heired, and_followed}
 use Rattle.ppm_kept.specs.HeirTurns as turns
 use Rattle.ppm_kept.specs.Laws.{kind_then}
-use Rattle.ppm_kept.specs.Left.{Followed, left, IsAway, AreApart}
+use Rattle.ppm_kept.specs.Left.{Followed, left}
 use Rattle.ppm_kept.specs.Moves.{doing_of}
 use Rattle.ppm_kept.specs.Others.{IsIdle}
 use Rattle.ppm_kept.specs.Places.{kinds_of, places_of, is_in, doing_in, IsOf, Holds}
-use Rattle.ppm_kept.proofs.HeirBirths.{heirs_bear}
 use Rattle.ppm_kept.proofs.HeirTurns.{heir_turns_keep, heir_turns_bear, heir_turns_new}
 use Rattle.ppm_kept.proofs.FateLemmas.{fates_stay, fork_has}
 use Rattle.ppm_kept.proofs.LeftLemmas.{kind_away}
@@ -64,7 +63,7 @@ use Rattle.ppm_runs.specs.Run.{image, fate_of}
 use Rattle.ppm_runs.specs.Follow.{AreGone, IsHalves, GoesOn, Opens, HeirsLead}
 use Rattle.ppm_runs.proofs.AgreeLemmas.{home_or}
 use Rattle.ppm_runs.proofs.BearingLemmas.{with_same}
-use Rattle.ppm_runs.proofs.ShownLemmas.{away, alone, holds}
+use Rattle.ppm_runs.proofs.ShownLemmas.{away, holds}
 use Rattle.ppm_runs.proofs.StandLemmas.{kinds_same}
 
 -- who was followed stays so

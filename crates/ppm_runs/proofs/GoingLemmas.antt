@@ -1,6 +1,6 @@
 -- What the tickets say of a processor is what the frames ask of its turn; so a turn leads from the
 -- state of a run to words that are lawful and kept.
-use Rattle.std.proofs.Common.{◌≡◌, ◌<◌, ℕ, zero, suc, ◌==◌, Bool, true, false, if◌then◌else◌, List, [], ◌∷◌, length, Option, Some, None, inl, inr, refl, sym, ap, ◌∙◌, subst}
+use Rattle.std.proofs.Common.{◌≡◌, ◌<◌, ℕ, zero, suc, ◌==◌, Bool, true, false, if◌then◌else◌, List, [], ◌∷◌, Option, Some, None, inl, inr, refl, sym, ap, ◌∙◌, subst}
 use Rattle.std.proofs.lemmas.Bool.{cases_Bool, eqb-true}
 use Rattle.ppm_strands.specs.Tree.{Words, Tree}
 use Rattle.ppm_cells.specs.declared.restart.Restart.{Restart}
@@ -12,21 +12,18 @@ use Rattle.ppm_capsules.specs.Strand.{Frame}
 use Rattle.ppm_code.specs.Strands.{Point, Result}
 use Rattle.ppm_code.specs.declared.code.CodeParts.{CodeParts}
 use Rattle.ppm_code.specs.declared.location.FrameWord.{FrameWord}
-use Rattle.ppm_step.specs.Rows.{row_of, found_at}
-use Rattle.ppm_step.specs.Standings.{Standing, IsLost, IsPlaced, IsAt, IsWithin, IsRunning, IsBroken, IsDone, row_is_there}
+use Rattle.ppm_step.specs.Standings.{Standing, IsLost, IsPlaced, IsAt, IsWithin, IsRunning, IsBroken, IsDone}
 use Rattle.ppm_step.specs.State.{State as RunState, stand_of}
 use Rattle.ppm_step.specs.declared.row.Point.TheVariants.{Offset}
 use Rattle.ppm_step.specs.declared.row.Row.{Row}
-use Rattle.ppm_step.specs.declared.row.Row.TheVariants.{Now, Store, Exchange}
+use Rattle.ppm_step.specs.declared.row.Row.TheVariants.{Now}
 use Rattle.ppm_step.specs.declared.row.Seat.{Seat}
-use Rattle.ppm_step.specs.declared.row.Then.TheVariants.{Load, Install, Fork, Begin, Move, Enter, Again, Broken}
+use Rattle.ppm_step.specs.declared.row.Then.TheVariants.{Load, Begin}
 use Rattle.ppm_step.specs.declared.turn.Act.{Act}
 use Rattle.ppm_step.specs.declared.turn.Act.TheVariants.{Step, Soft, Hard, Quit}
 use Rattle.ppm_tickets.specs.Homes.{Home, Popping, Stolen}
-use Rattle.ppm_tickets.specs.Saw.{Sees, IsOfIf, HasSeen, Strand, Looks, IsStrand, rest_of}
+use Rattle.ppm_tickets.specs.Saw.{Sees, IsOfIf}
 use Rattle.ppm_tickets.specs.View as spots
-use Rattle.ppm_tickets.specs.View.{content_by}
-use Rattle.ppm_tickets.specs.Words.{Word}
 use Rattle.ppm_tickets.proofs.RenewalLemmas.{goes_on as tickets_go_on}
 use Rattle.ppm_frames.specs.Skeletons.{Skeleton}
 use Rattle.ppm_kept.specs.Branches.{is_taker}
@@ -34,8 +31,7 @@ use Rattle.ppm_kept.specs.Running.{IsFair}
 use Rattle.ppm_kept.specs.Kept.{Image, Doing, InRow}
 use Rattle.ppm_kept.specs.Moves.{doing_of}
 use Rattle.ppm_kept.specs.Places.{places_of, is_in, doing_in, IsOf}
-use Rattle.ppm_kept.specs.Pushing.{Comes}
-use Rattle.ppm_kept.specs.Steps.{CameBy, TakesSo, IsKindIf, StandsSo, LeavesSo, ActsSo}
+use Rattle.ppm_kept.specs.Steps.{TakesSo, IsKindIf, StandsSo, LeavesSo, ActsSo}
 use Rattle.ppm_kept.specs.Takes.{IsAlone}
 use Rattle.ppm_kept.proofs.StepRows.{turns_keep}
 use Rattle.ppm_kept.specs.Fates.{Offered}

@@ -1,6 +1,6 @@
 -- With takeover by entries: what the tickets say of a processor is what the frames ask of its turn, where it goes
 -- on with nothing that it inherited.
-use Rattle.std.proofs.Common.{◌≡◌, ◌≢◌, ◌⊎◌, ◌<◌, ◌≤◌, ℕ, Bool, true, false, List, [], ◌∷◌, ◌++◌, length, Option, Some, None, inl, inr, refl, sym, ap, ◌∙◌, subst}
+use Rattle.std.proofs.Common.{◌≡◌, ◌<◌, ◌≤◌, ℕ, true, List, Option, Some, None, inl, inr, refl, sym, ap, ◌∙◌, subst}
 use Rattle.std.proofs.Math.Path.{fun_ext}
 use Rattle.ppm_strands.specs.Tree.{Words, Tree}
 use Rattle.ppm_cells.specs.declared.restart.Restart.{Restart}
@@ -12,9 +12,8 @@ use Rattle.ppm_capsules.specs.Strand.{Frame}
 use Rattle.ppm_code.specs.Strands.{Point, Result}
 use Rattle.ppm_code.specs.declared.code.CodeParts.{CodeParts}
 use Rattle.ppm_code.specs.declared.location.FrameWord.{FrameWord}
-use Rattle.ppm_step.specs.Rows.{row_of}
-use Rattle.ppm_step.specs.Standings.{Standing, IsLost, IsPlaced, IsAt, IsWithin, IsRunning, IsBroken, IsDone, row_is_there}
-use Rattle.ppm_step.specs.State.{State as RunState, stand_of, happens, forks_of, takes_of}
+use Rattle.ppm_step.specs.Standings.{Standing, IsLost, IsPlaced, IsAt, IsWithin, IsRunning, IsBroken, IsDone}
+use Rattle.ppm_step.specs.State.{State as RunState, stand_of, happens, forks_of}
 use Rattle.ppm_step.specs.declared.row.Point.TheVariants.{Offset}
 use Rattle.ppm_step.specs.declared.row.Row.{Row}
 use Rattle.ppm_step.specs.declared.row.Row.TheVariants.{Now}
@@ -22,28 +21,23 @@ use Rattle.ppm_step.specs.declared.row.Seat.{Seat}
 use Rattle.ppm_step.specs.declared.row.Then.TheVariants.{Load, Begin}
 use Rattle.ppm_step.specs.declared.turn.Act.{Act}
 use Rattle.ppm_step.specs.declared.turn.Act.TheVariants.{Step, Soft, Hard, Quit}
-use Rattle.ppm_step.specs.declared.turn.Turn.{Turn}
-use Rattle.ppm_tickets.specs.Along.{by_act, IsOrderly}
-use Rattle.ppm_tickets.specs.Heirs.{Begins, IsTaker, MayTake}
+use Rattle.ppm_tickets.specs.Heirs.{IsTaker, MayTake}
 use Rattle.ppm_tickets.specs.Homes.{Home}
 use Rattle.ppm_tickets.specs.Lawful.{Closed}
-use Rattle.ppm_tickets.specs.Saw.{Carried, Sees, IsOfIf, HasSeen, Strand, Looks, IsStrand, rest_of}
+use Rattle.ppm_tickets.specs.Saw.{Carried, Sees, IsOfIf}
 use Rattle.ppm_tickets.specs.View as spots
 use Rattle.ppm_tickets.specs.Words.{Word, Spot, has}
-use Rattle.ppm_tickets.proofs.EstateLemmas.{here}
 use Rattle.ppm_tickets.proofs.FollowedLemmas.{none_comes_back}
-use Rattle.ppm_tickets.proofs.StepLemmas.{shut_not}
 use Rattle.ppm_tickets.proofs.TakingRows.{heirs_take, one_takes}
 use Rattle.ppm_frames.specs.Skeletons.{Skeleton}
 use Rattle.ppm_kept.specs.Branches.{is_taker}
 use Rattle.ppm_kept.specs.Running.{IsFair}
-use Rattle.ppm_kept.specs.Kept.{Image, InRow, State}
+use Rattle.ppm_kept.specs.Kept.{Image, State}
 use Rattle.ppm_kept.specs.Births.{Births}
 use Rattle.ppm_kept.specs.Fates.{Offered, Agrees}
 use Rattle.ppm_kept.specs.Left.{Followed, left, IsAway, StandsAway, InheritsNone, StepsAway}
 use Rattle.ppm_kept.specs.Places.{places_of, IsOf, Holds}
-use Rattle.ppm_kept.specs.Pushing.{Comes}
-use Rattle.ppm_kept.specs.Steps.{CameBy, TakesSo, IsKindIf, StandsSo, LeavesSo, ActsSo}
+use Rattle.ppm_kept.specs.Steps.{TakesSo, IsKindIf, StandsSo, LeavesSo, ActsSo}
 use Rattle.ppm_kept.specs.Takes.{IsAlone}
 use Rattle.ppm_kept.proofs.BearLemmas.{turns_bear_left}
 use Rattle.ppm_kept.proofs.FateLemmas.{fates_show}
@@ -54,7 +48,7 @@ use Rattle.ppm_runs.proofs.BearingLemmas.{with_same}
 use Rattle.ppm_runs.proofs.FollowLemmas.{stays_gone}
 use Rattle.ppm_runs.proofs.ShownLemmas.{holds, carried_away}
 use Rattle.ppm_runs.proofs.CameLemmas.{came_from}
-use Rattle.ppm_runs.proofs.GoingLemmas.{Doer, doer}
+use Rattle.ppm_runs.proofs.GoingLemmas.{doer}
 use Rattle.ppm_runs.proofs.StandLemmas.{kinds_same}
 
 taker_is : (k : RestartKind) → is_taker k ≡ true → IsTaker k

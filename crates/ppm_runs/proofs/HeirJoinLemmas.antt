@@ -1,5 +1,5 @@
 -- What joins the halves does so behind the turn by which a place goes on with what it inherited.
-use Rattle.std.proofs.Common.{◌≡◌, ◌≢◌, ◌⊎◌, ◌<◌, ◌-◌, ◌+◌, ℕ, Bool, true, List, ◌∷◌, ◌++◌, Some, inl, inr, refl, sym, ap, ◌∙◌, subst}
+use Rattle.std.proofs.Common.{◌≡◌, ◌≢◌, ◌-◌, ◌+◌, ℕ, true, List, ◌++◌, Some, inl, inr, refl, sym, ap, ◌∙◌, subst}
 use Rattle.std.proofs.lemmas.Bool.{cases_eq}
 use Rattle.ppm_strands.specs.Tree.{Words, Tree}
 use Rattle.ppm_cells.specs.Memory.{write as store}
@@ -7,7 +7,7 @@ use Rattle.ppm_cells.specs.Restart.{restart_word}
 use Rattle.ppm_cells.specs.declared.cell.Cell.TheVariants.{RestartWord, BlockWord}
 use Rattle.ppm_cells.specs.declared.restart.Restart.{Restart}
 use Rattle.ppm_cells.specs.declared.restart.RestartKind.{RestartKind}
-use Rattle.ppm_cells.specs.declared.restart.RestartKind.TheVariants.{Run, Bump, Push1, Seek, Check}
+use Rattle.ppm_cells.specs.declared.restart.RestartKind.TheVariants.{Run, Bump, Push1, Check}
 use Rattle.ppm_cells.specs.declared.shape.Shape.{Shape}
 use Rattle.ppm_cells.specs.declared.shape.Takeover.{Takeover}
 use Rattle.ppm_cells.specs.declared.shape.Takeover.TheVariants.{ByEntries}
@@ -46,19 +46,19 @@ use Rattle.ppm_kept.specs.HeirTurns.{and_followed}
 use Rattle.ppm_kept.specs.Laws.{kind_then}
 use Rattle.ppm_kept.specs.Left.{Followed, left, IsAway}
 use Rattle.ppm_kept.specs.Places.{kinds_of, places_of}
-use Rattle.ppm_kept.specs.Unruns.{HasUnrun, SameUnruns}
+use Rattle.ppm_kept.specs.Unruns.{SameUnruns}
 use Rattle.ppm_kept.proofs.LeftLemmas.{kind_away}
 use Rattle.ppm_kept.proofs.LinkLemmas.{unrun_linked, called_or}
 use Rattle.ppm_kept.proofs.UnrunUntaken.{handed_same}
 use Rattle.ppm_runs.specs.Run.{image, fate_of}
 use Rattle.ppm_runs.specs.Follow.{IsHalves, GoesOn, Opens}
-use Rattle.ppm_runs.specs.Joint.{IsCapped, PushesOn, AreJoint}
+use Rattle.ppm_runs.specs.Joint.{IsCapped, AreJoint}
 use Rattle.ppm_runs.proofs.StandLemmas.{kinds_same}
 use Rattle.ppm_runs.proofs.ShownLemmas.{carried_away, Within, within}
 use Rattle.ppm_runs.proofs.GoingLemmas.{Doer, doer}
 use Rattle.ppm_runs.proofs.AgreeLemmas.{open_, pushing_place}
-use Rattle.ppm_runs.proofs.OpenedLemmas.{opens_same, unborn, fork_fresh, closed_before}
-use Rattle.ppm_runs.proofs.JoinLemmas.{stand_else, entries_by, Installing, step_kinds, installs_at}
+use Rattle.ppm_runs.proofs.OpenedLemmas.{opens_same, fork_fresh, closed_before}
+use Rattle.ppm_runs.proofs.JoinLemmas.{stand_else, Installing, step_kinds, installs_at}
 
 -- the restart that it installs
 abbrev restart_then : Seat → Then → Restart

@@ -28,7 +28,7 @@ use Rattle.ppm_step.specs.Among.{IsTurnAmong}
 use Rattle.ppm_step.specs.Contents.{content_of, word_of}
 use Rattle.ppm_step.specs.Points.{cell_at, reading_at}
 use Rattle.ppm_step.specs.Frames.{Rest, Loads, Stores, Full, Installs, Breaks}
-use Rattle.ppm_step.specs.Standings.{Standing, IsLost, IsPlaced, IsAt, IsWithin, IsRunning, IsBroken, IsDone, wanted, wanted_row, wanted_rest, forked as forked_restart, begun, within_if, running_if, running, row_is_there, then_is_there, rest_is_there, enters, stands_then, stands, begins_if, at_finish, placed, went_row, went_rest, went}
+use Rattle.ppm_step.specs.Standings.{Standing, IsLost, IsPlaced, IsAt, IsWithin, IsRunning, IsBroken, IsDone, wanted, wanted_row, wanted_rest, forked as forked_restart, begun, within_if, running_if, running, row_is_there, then_is_there, rest_is_there, enters, stands_then, stands, begins_if, at_finish, placed, went_rest, went}
 use Rattle.ppm_step.specs.Rows.{row_of, push_at, found_at, on_entry, push_above, push_by_order, raised}
 use Rattle.ppm_code.specs.declared.code.Capsule.{Capsule as CodeCapsule}
 use Rattle.ppm_tickets.proofs.StepLemmas.{stand_own, stand_other}
@@ -975,7 +975,7 @@ module _ (s : Shape) (code : CodeParts) (fair : IsFair code) (root : Tree (Frame
     Comes x = went s code c v (found_in state.words (wanted s c v x)) x ≡ IsWithin seat' (Now next)
 
     -- it does by a load of its row
-    record Loads_ : Type 0 where
+    record ByLoad : Type 0 where
       pub point : RowPoint
       pub stand : stand_of state c ≡ IsWithin seat' (Now (Load point))
       pub is : found_at s seat' v point (content_of (reading_at point) (read s state.words (cell_at seat' v point))) ≡ Now next
@@ -983,13 +983,10 @@ module _ (s : Shape) (code : CodeParts) (fair : IsFair code) (root : Tree (Frame
     gone_out : (x : Standing) → NotWithin x → x ≡ IsWithin seat' (Now next) → ⊥
     gone_out x none e = subst NotWithin e none
 
-    no_other : (x : Row) → ((row : Row) → stand_of state c ≡ IsWithin seat' row → row ≡ x → ⊥) → (seat : Seat) → stand_of state c ≡ IsWithin seat x → seat ≡ seat' → ⊥
-    no_other x none seat e is = none x (e ∙ ap (λ (o : Seat). IsWithin o x) is) refl
-
     checks : (ih : s.takeover ≡ ByEntries) (row : Row) → stand_of state c ≡ IsWithin seat' row → ChecksSo (Closed s.takeover (spots.view s state.words)) (spots.view s state.words) (spots.kinds s state.words) (spots.bottoms s state.words) h run.lawful.1.board seat'.place row
     checks ih row e = heirs_see s code ih state h forked taken run.lawful c seat' row v' slot e ke
 
-    row_loads : (ih : s.takeover ≡ ByEntries) (seat : Seat) (first : Row) → stand_of state c ≡ IsWithin seat first → Comes (IsWithin seat first) → Loads_
+    row_loads : (ih : s.takeover ≡ ByEntries) (seat : Seat) (first : Row) → stand_of state c ≡ IsWithin seat first → Comes (IsWithin seat first) → ByLoad
     row_loads ih seat (Now (Load point)) e to =
         let q = subst (SameRow seat (found_at s seat v point (content_of (reading_at point) (read s state.words (cell_at seat v point))))) to (stands_same s code seat (found_at s seat v point (content_of (reading_at point) (read s state.words (cell_at seat v point))))) in
         record { point = point; stand = e ∙ ap (λ (o : Seat). IsWithin o (Now (Load point))) q.0; is = subst (λ (o : Seat). found_at s o v point (content_of (reading_at point) (read s state.words (cell_at o v point))) ≡ Now next) q.0 q.1 }
@@ -1007,7 +1004,7 @@ module _ (s : Shape) (code : CodeParts) (fair : IsFair code) (root : Tree (Frame
         let q = subst (SameRow seat (Now after)) to (then_same s code seat after) in
         absurd (checks ih (Exchange cell old new after) (e ∙ ap (λ (o : Seat). IsWithin o (Exchange cell old new after)) q.0))
 
-    went_loads : (ih : s.takeover ≡ ByEntries) (x : Standing) → stand_of state c ≡ x → Comes x → Loads_
+    went_loads : (ih : s.takeover ≡ ByEntries) (x : Standing) → stand_of state c ≡ x → Comes x → ByLoad
     went_loads ih IsLost e to = absurd (gone_out _ (placed_out s code (found_in state.words (wanted s c v IsLost))) to)
     went_loads ih (IsPlaced p) e to = absurd (gone_out _ tt to)
     went_loads ih (IsAt p re) e to = absurd (subst GoesFirst (subst (λ (k : RestartKind). row_of s seat' k ≡ Now next) ke (subst (IsBegun s) to (begins_begun s code c p re (found_in state.words (wanted s c v (IsAt p re)))))) (λ a b. b) tt on)

@@ -1,16 +1,14 @@
 -- With takeover by entries: a place that is about to open the block of a closed one has loaded that block's link,
 -- and the link stays what it is.
-use Rattle.std.proofs.Common.{◌≡◌, ◌≢◌, ◌⊎◌, ◌<◌, ◌≤◌, ℕ, zero, suc, ◌+◌, ◌-◌, ◌==◌, Bool, true, false, if◌then◌else◌, List, ◌∷◌, ◌++◌, Option, Some, None, inl, inr, refl, sym, ap, ◌∙◌, subst, arith}
-use Rattle.std.specs.Prelude.{nat_lt, slice_index}
-use Rattle.std.proofs.lemmas.Bool.{cases_eq, eqb-true, ltb-true}
+use Rattle.std.proofs.Common.{◌≡◌, ◌⊎◌, ◌<◌, ◌≤◌, ℕ, ◌+◌, ◌-◌, ◌==◌, Bool, true, false, if◌then◌else◌, List, Option, Some, None, inl, inr, refl, sym, ap, ◌∙◌, subst, arith}
+use Rattle.std.specs.Prelude.{nat_lt}
+use Rattle.std.proofs.lemmas.Bool.{eqb-true, ltb-true}
 use Rattle.ppm_strands.specs.Tree.{Words, Tree}
-use Rattle.ppm_cells.specs.Cells.{IsCell}
 use Rattle.ppm_cells.specs.Entry.{entry_of}
 use Rattle.ppm_cells.specs.Link.{link_of}
-use Rattle.ppm_cells.specs.Memory.{read, write as store}
-use Rattle.ppm_cells.specs.Restart.{restart_of, restart_word}
-use Rattle.ppm_cells.specs.declared.cell.Cell.{Cell}
-use Rattle.ppm_cells.specs.declared.cell.Cell.TheVariants.{FinishWord, CarryWord, DeadWord, RestartWord, EntryWord, BlockWord}
+use Rattle.ppm_cells.specs.Memory.{read}
+use Rattle.ppm_cells.specs.Restart.{restart_of}
+use Rattle.ppm_cells.specs.declared.cell.Cell.TheVariants.{RestartWord, EntryWord, BlockWord}
 use Rattle.ppm_cells.specs.declared.entry.Entry.{Entry}
 use Rattle.ppm_cells.specs.declared.entry.Entry.TheVariants as entries
 use Rattle.ppm_cells.specs.declared.link.Link.{Link}
@@ -20,47 +18,34 @@ use Rattle.ppm_cells.specs.declared.restart.Restart.{Restart}
 use Rattle.ppm_cells.specs.declared.restart.RestartKind.{RestartKind}
 use Rattle.ppm_cells.specs.declared.restart.RestartKind.TheVariants.{Run, Bump, Push1, Push2, Unwind, Arrive, Join, Pop1, Pop2, Seek, Steal, Check, Take, Take2}
 use Rattle.ppm_cells.specs.declared.shape.Shape.{Shape}
-use Rattle.ppm_cells.specs.declared.shape.Takeover.{Takeover}
 use Rattle.ppm_cells.specs.declared.shape.Takeover.TheVariants.{ByEntries}
 use Rattle.ppm_capsules.specs.Strand.{Frame}
 use Rattle.ppm_code.specs.Strands.{Point, Result}
 use Rattle.ppm_code.specs.declared.code.CodeParts.{CodeParts}
 use Rattle.ppm_code.specs.declared.location.FrameWord.{FrameWord}
-use Rattle.ppm_step.specs.Contents.{content_of, read_so, word_of}
-use Rattle.ppm_step.specs.Frames.{Rest, Loads, Stores, Full, Installs, Breaks}
+use Rattle.ppm_step.specs.Contents.{content_of, read_so}
 use Rattle.ppm_step.specs.Points.{cell_at, reading_at}
-use Rattle.ppm_step.specs.Rows.{found_at, on_number, on_entry, on_link, on_restart, taken_message, taken_entry, goes_on_with, can_be_taken, took, follows, by_slot, at_bottom, above_bottom, below_bottom, closed_link, closed_bottom, right_begins}
-use Rattle.ppm_step.specs.Standings.{Standing, IsLost, IsPlaced, IsAt, IsWithin, IsRunning, IsBroken, IsDone, wanted_row, wanted_rest, forked as forked_restart, begun}
-use Rattle.ppm_step.specs.State.{State as RunState, stand_of, happens, acts, want_of, words_after}
+use Rattle.ppm_step.specs.Rows.{found_at, on_entry, on_link, on_restart, taken_message, taken_entry, goes_on_with, can_be_taken, took, follows, by_slot, at_bottom, above_bottom, below_bottom, closed_link, closed_bottom}
+use Rattle.ppm_step.specs.Standings.{IsWithin}
+use Rattle.ppm_step.specs.State.{State as RunState, stand_of}
 use Rattle.ppm_step.specs.There.{restart_is_there}
-use Rattle.ppm_step.proofs.ThereLemmas.{restart_fits}
 use Rattle.ppm_step.specs.declared.content.Content.{Content}
-use Rattle.ppm_step.specs.declared.content.Content.TheVariants.{ANumber, ARestart, AnEntry, AHolder, ALink, AFinish}
-use Rattle.ppm_step.specs.declared.content.Reading.TheVariants.{AsEntry}
+use Rattle.ppm_step.specs.declared.content.Content.TheVariants.{ARestart, AnEntry, ALink}
 use Rattle.ppm_step.specs.declared.row.Point.{Point as RowPoint}
 use Rattle.ppm_step.specs.declared.row.Point.TheVariants.{Offset, TakenMessage, TakenEntry, ClosedRestart, ClosedLink, ClosedBottom}
 use Rattle.ppm_step.specs.declared.row.Row.{Row}
-use Rattle.ppm_step.specs.declared.row.Row.TheVariants.{Now, Store, Exchange}
+use Rattle.ppm_step.specs.declared.row.Row.TheVariants.{Now}
 use Rattle.ppm_step.specs.declared.row.Seat.{Seat}
 use Rattle.ppm_step.specs.declared.row.Then.{Then}
-use Rattle.ppm_step.specs.declared.row.Then.TheVariants.{Load, Install, Fork, Begin, Move, Enter, Again, Broken}
-use Rattle.ppm_step.specs.declared.turn.Act.{Act}
-use Rattle.ppm_step.specs.declared.turn.Act.TheVariants.{Step, Soft, Hard, Quit}
-use Rattle.ppm_tickets.specs.Along.{IsPooled}
-use Rattle.ppm_tickets.specs.Entries.{IsPooledAt}
-use Rattle.ppm_tickets.specs.Heirs.{Inherits, InheritsAt, GoesOnBy, ChecksSo}
+use Rattle.ppm_step.specs.declared.row.Then.TheVariants.{Load, Install, Fork, Begin, Broken}
+use Rattle.ppm_tickets.specs.Heirs.{InheritsAt, GoesOnBy, ChecksSo}
 use Rattle.ppm_tickets.specs.Homes.{Home, Unborn}
 use Rattle.ppm_tickets.specs.Lawful.{IsClaim, Closed, active, active_at, is_local}
-use Rattle.ppm_tickets.specs.Saw.{Sees}
 use Rattle.ppm_tickets.specs.View as spots
-use Rattle.ppm_tickets.specs.Words.{Word, Taken, Spot, Slot, has}
-use Rattle.ppm_cells.proofs.CellLemmas.{few_words}
-use Rattle.ppm_tickets.proofs.EntryLemmas.{cell_there}
+use Rattle.ppm_tickets.specs.Words.{Word, Taken, Spot, Slot}
 use Rattle.ppm_tickets.proofs.EstateLemmas.{as_shown, claims_shut}
 use Rattle.ppm_tickets.proofs.HeirRows.{heirs_see}
-use Rattle.ppm_tickets.proofs.StepLemmas.{stand_own}
-use Rattle.ppm_tickets.proofs.ViewLemmas.{shows, restarts_kept, kinds_put}
-use Rattle.ppm_tickets.proofs.WriteLemmas.{put_else}
+use Rattle.ppm_tickets.proofs.ViewLemmas.{shows}
 use Rattle.ppm_frames.specs.Skeletons.{Fresh, Held, Skeleton}
 use Rattle.ppm_frames.specs.Good.{link_or, link_at}
 use Rattle.ppm_frames.proofs.ViewLemmas.{view_is}
@@ -71,7 +56,7 @@ use Rattle.ppm_kept.specs.Fates as fates
 use Rattle.ppm_kept.specs.Heirs.{OpensAs}
 use Rattle.ppm_kept.specs.Laws.{kind_then}
 use Rattle.ppm_kept.specs.Left.{Followed, left, IsAway}
-use Rattle.ppm_kept.specs.Places.{kinds_of, places_of}
+use Rattle.ppm_kept.specs.Places.{places_of}
 use Rattle.ppm_kept.specs.Unruns.{HasUnrun}
 use Rattle.ppm_kept.proofs.FateLemmas.{fork_has}
 use Rattle.ppm_kept.proofs.LeftLemmas.{kind_away, shown}
@@ -80,9 +65,9 @@ use Rattle.ppm_kept.proofs.OwnerLemmas.{owned}
 use Rattle.ppm_runs.specs.Run.{image, fate_of}
 use Rattle.ppm_runs.specs.Follow.{IsHalves, GoesOn, Opens}
 use Rattle.ppm_runs.proofs.StandLemmas.{kinds_same}
-use Rattle.ppm_runs.proofs.ShownLemmas.{away, Within, within, Runs, runs}
-use Rattle.ppm_runs.proofs.OrderlyLemmas.{pooled, not_born}
-use Rattle.ppm_runs.proofs.AgreeLemmas.{home_or, IsNoRestart, quiet_restart, open_, exchanges_no_restart, stores_no_restart}
+use Rattle.ppm_runs.proofs.ShownLemmas.{away, Within}
+use Rattle.ppm_runs.proofs.OrderlyLemmas.{not_born}
+use Rattle.ppm_runs.proofs.AgreeLemmas.{home_or}
 
 -- a link of a call, or of a fork
 abbrev pub IsCall : LinkKind → Type 0

@@ -14,7 +14,7 @@ use Rattle.ppm_tickets.specs.Words.{has}
 use Rattle.ppm_frames.specs.Views.{view}
 use Rattle.ppm_frames.specs.Skeletons.{Over, InPlace, Skeleton}
 use Rattle.ppm_kept.specs.Fates as fates
-use Rattle.ppm_kept.specs.Fates.{Fate, ToPush, Offered, Agrees}
+use Rattle.ppm_kept.specs.Fates.{ToPush, Offered, Agrees}
 use Rattle.ppm_kept.specs.Places.{places_of}
 use Rattle.ppm_kept.specs.Steps.{IsStop}
 use Rattle.ppm_kept.proofs.AnswerLemmas.{ends_as_meant}

@@ -59,7 +59,7 @@ use Rattle.ppm_runs.specs.Run.{image, IsRun}
 use Rattle.ppm_runs.proofs.StandLemmas.{kinds_same}
 use Rattle.ppm_runs.proofs.SumLemmas.{sum, sum_le, sum_plus, sum_times, sum_there}
 use Rattle.ppm_runs.proofs.BegunLemmas.{runs as runs_at, begin_in, begin_sum, runs_begin}
-use Rattle.ppm_runs.proofs.GoingLemmas.{came_by}
+use Rattle.ppm_runs.proofs.CameLemmas.{came_from}
 use Rattle.ppm_runs.proofs.ShownLemmas.{halves, names_one, Within, within, runs}
 use Rattle.ppm_runs.proofs.OrderlyLemmas.{turns_are_orderly}
 use Rattle.ppm_runs.proofs.AgreeLemmas.{IsNoRestart, IsNoCarry, quiet_restart, quiet_carry, exchanges_no_restart, stores_no_restart, exchanges_no_carry, stores_no_carry}
@@ -164,7 +164,7 @@ module _ (s : Shape) (code : CodeParts) (places : s.takeover ≡ ByPlaces) (fair
 
   -- nothing has to be set aside for what a row without work installs
   free : (c : ℕ) (seat : Seat) (row : Row) → Within s code root input state h forked taken [] t (halves run) c seat row → is_work seat.restart.kind ≡ false → IsFree row
-  free c seat row w look = look_free s places seat seat.restart.kind row (look_kind seat.restart.kind look) (came_by s code places fair root input state h forked taken t run c seat row w)
+  free c seat row w look = look_free s places seat seat.restart.kind row (look_kind seat.restart.kind look) (came_from s seat row (spots.with_restarts (spots.view s state.words) (spots.kinds s state.words) (spots.bottoms s state.words)) w.here w.seen)
 
   own_kind : (p : ℕ) (k : RestartKind) → (places_of s state).kind p ≡ k → due (K p) ≡ due k
   own_kind p k e = ap due (sym (kinds_same s state.words p) ∙ e)

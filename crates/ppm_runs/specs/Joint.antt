@@ -1,10 +1,8 @@
 -- Both halves of a run's state and what joins them, with either takeover: by entries with those places left
 -- out that others have followed. By places none is, and this is what `IsRun` says.
-use Rattle.std.specs.Prelude.{◌≡◌, ◌≢◌, ◌⊎◌, ◌≤◌, ◌<◌, ℕ, ◌+◌, List, ◌++◌}
+use Rattle.std.specs.Prelude.{◌≡◌, ℕ, ◌+◌, List, ◌++◌}
 use Rattle.ppm_strands.specs.Tree.{Words, Tree}
-use Rattle.ppm_cells.specs.declared.cell.Cell.TheVariants.{BlockWord}
-use Rattle.ppm_cells.specs.declared.restart.RestartKind.{RestartKind}
-use Rattle.ppm_cells.specs.declared.restart.RestartKind.TheVariants.{Run as RunFrame, Bump, Push1, Check}
+use Rattle.ppm_cells.specs.declared.restart.RestartKind.TheVariants.{Run as RunFrame, Push1}
 use Rattle.ppm_cells.specs.declared.shape.Shape.{Shape}
 use Rattle.ppm_cells.specs.declared.shape.Takeover.{Takeover}
 use Rattle.ppm_cells.specs.declared.shape.Takeover.TheVariants.{ByPlaces, ByEntries}
@@ -13,11 +11,11 @@ use Rattle.ppm_code.specs.Strands.{Point, Result}
 use Rattle.ppm_code.specs.declared.code.CodeParts.{CodeParts}
 use Rattle.ppm_code.specs.declared.location.FrameWord.{FrameWord}
 use Rattle.ppm_step.specs.Among.{IsTurnAmong}
-use Rattle.ppm_step.specs.Standings.{Standing, IsWithin, IsBroken}
+use Rattle.ppm_step.specs.Standings.{Standing}
 use Rattle.ppm_step.specs.State.{State as RunState, stand_of, happens, forks_of, takes_of}
 use Rattle.ppm_step.specs.declared.row.Point.TheVariants.{PushAbove}
 use Rattle.ppm_step.specs.declared.row.Row.{Row}
-use Rattle.ppm_step.specs.declared.row.Row.TheVariants.{Now, Store, Exchange}
+use Rattle.ppm_step.specs.declared.row.Row.TheVariants.{Now, Exchange}
 use Rattle.ppm_step.specs.declared.row.Then.TheVariants.{Load, Install}
 use Rattle.ppm_step.specs.declared.turn.Act.{Act}
 use Rattle.ppm_step.specs.declared.turn.Act.TheVariants.{Step}
@@ -29,7 +27,7 @@ use Rattle.ppm_tickets.specs.View as spots
 use Rattle.ppm_tickets.specs.Words.{Slot}
 use Rattle.ppm_frames.specs.Skeletons.{Held, Skeleton}
 use Rattle.ppm_kept.specs.Running.{IsFair}
-use Rattle.ppm_kept.specs.Kept.{InRow, State}
+use Rattle.ppm_kept.specs.Kept.{InRow}
 use Rattle.ppm_kept.specs.Fates.{Agrees}
 use Rattle.ppm_kept.specs.Left.{Followed, left, InheritsNone}
 use Rattle.ppm_kept.specs.Places.{places_of}
